@@ -1,0 +1,15 @@
+//! What every other crate stands on: spans, texts and lists that contracts see as plain data, the faults, and
+//! the ends of the program, where bytes come from and go to.
+#![tactic(auto)]
+
+mod fault;
+mod list;
+mod out_of_memory;
+mod span;
+mod text;
+
+pub use fault::Fault;
+pub use list::List;
+pub use out_of_memory::OutOfMemory;
+pub use span::{GetSpan, Span};
+pub use text::Text;
