@@ -1,0 +1,3 @@
+pub mod ClassTree
+pub mod Forget
+pub mod Tree
