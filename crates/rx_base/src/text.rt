@@ -44,7 +44,6 @@ impl Text {
         ensures ok { OnOk result (self.new ≡ self.old ++ c ∷ []) }
         ensures err { OnErr result (self.new ≡ self.old) }
     {
-        let _ = self.inner.as_str();
         self.inner.push(c)?;
         Ok(())
     }
@@ -54,7 +53,6 @@ impl Text {
         ensures ok { OnOk result (self.new ≡ self.old ++ chars s.now) }
         ensures err { OnErr result (self.new ≡ self.old) }
     {
-        let _ = self.inner.as_str();
         self.inner.push_str(s)?;
         Ok(())
     }
