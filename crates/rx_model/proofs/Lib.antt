@@ -1,3 +1,5 @@
+pub mod Builds
 pub mod Fronts
 pub mod Joins
 pub mod OneRow
+pub mod Runs
