@@ -10,7 +10,7 @@ use Rattle.rx_model.specs.declared.mode.Mode.{Mode}
 use Rattle.rx_model.specs.Token.{Token, Opener, boundary, character, dot, class_escape, property, class, indexed, named, opener, closer, bar, quantifier, capturing, ignoring, looking, opener_of, leaf_token}
 use Rattle.rx_model.specs.Events.{Events, node_events, nodes_events, alternatives_events, barred_events, tokens}
 use Rattle.rx_model.specs.Shapes.{IsNode, AreNodes, HasAlternatives, AreAlternatives, IsWellMade}
-use Rattle.rx_model.proofs.Runs.{before, before-append, before_leaf, before_quantified, before_group, before_alternative, tokens_are}
+use Rattle.rx_model.proofs.Flat.{before, before-append, before_leaf, before_quantified, before_group, before_alternative, tokens_are}
 
 -- the first in turned order, in front of the second
 abbrev onto : Nodes → Nodes → Nodes
@@ -159,10 +159,10 @@ module _ (mode : Mode) where
              ∙ ap (λ ls. build (before (nodes_events ms) (before (barred_events more) ts)) (at waiting (alternative nowhere ls others) no_node)) (turned_twice ns)
              ∙ nodes_build ms w.0 (before (barred_events more) ts) waiting (alternative nowhere ns others) no_node ∙ h.3 ts)
 
-abbrev built : List Token → Alternatives
+abbrev pub built : List Token → Alternatives
 built ts = let s = build ts (at [] no_alternative no_node) in ended s.alternatives s.nodes
 
-pattern_built : (mode : Mode) (p : Pattern) → IsWellMade mode p → built (tokens p) ≡ unspanned p
+pub pattern_built : (mode : Mode) (p : Pattern) → IsWellMade mode p → built (tokens p) ≡ unspanned p
 pattern_built mode p w =
     let h = alternatives_build mode (mirror_disjunction p.body).1 w [] in
     ap built (tokens_are p) ∙ ap (λ s. ended s.alternatives s.nodes) (h.3 []) ∙ h.2

@@ -1,19 +1,10 @@
--- Rows join and part, and a row of events is one of its tokens.
+-- Rows join and part, and a row of events is a row of its tokens.
 use Rattle.std.proofs.Common.{◌≡◌, refl, ap, sym, subst, ℕ, ◌+◌, Some, List, [], ◌∷◌, ◌++◌, length}
-use Rattle.rx_ast.specs.Forget.{forget_class, same_kind}
 use Rattle.rx_units.specs.declared.code_point.CodePoint.{CodePoint}
 use Rattle.rx_model.specs.Environment.{Environment}
 use Rattle.rx_model.specs.Events.{Events, enter, leave, token, inside, modified, tokens_of}
-use Rattle.rx_model.specs.Token.{Token, class, opener, ignoring, letter_bits}
+use Rattle.rx_model.specs.Token.{Token}
 use Rattle.rx_model.specs.Rows.{TokenRow, Row}
-
-pub tokens_of-append : (es fs : Events) → tokens_of (es ++ fs) ≡ tokens_of es ++ tokens_of fs
-tokens_of-append [] fs = refl
-tokens_of-append ((enter n) ∷ es) fs = tokens_of-append es fs
-tokens_of-append ((leave n) ∷ es) fs = tokens_of-append es fs
-tokens_of-append ((token t) ∷ es) fs = ap (λ ts. t ∷ ts) (tokens_of-append es fs)
-tokens_of-append ((inside c) ∷ es) fs = ap (λ ts. class (forget_class same_kind c) ∷ ts) (tokens_of-append es fs)
-tokens_of-append ((modified m) ∷ es) fs = ap (λ ts. opener (ignoring (Some (letter_bits m))) ∷ ts) (tokens_of-append es fs)
 
 module _ (e : Environment) where
   pub token_row_append : (ts ss : List Token) (us more rest : List CodePoint) → TokenRow e ts us more → TokenRow e ss more rest → TokenRow e (ts ++ ss) us rest

@@ -1,4 +1,5 @@
 pub mod Builds
+pub mod Flat
 pub mod Fronts
 pub mod Joins
 pub mod OneRow
