@@ -1,1 +1,3 @@
+pub mod EventEquations
+pub mod Flats
 pub mod NotYets

@@ -1,6 +1,8 @@
 //! What callers use: reading a pattern to its tree and canonical text.
 #![tactic(auto)]
 
+mod flat;
+mod level;
 mod reading;
 mod options;
 mod outcome;
