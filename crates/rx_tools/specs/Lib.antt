@@ -1,0 +1,2 @@
+pub mod NotYet
+pub mod Texts
