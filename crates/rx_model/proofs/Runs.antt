@@ -22,7 +22,7 @@ module _ (mode : Mode) where
   leaf_runs (tree.named r) ts open_groups ready = refl
 
   -- After these tokens the same groups are open.
-  abbrev Passes : Events → List Opener → Bool → Type 0
+  abbrev pub Passes : Events → List Opener → Bool → Type 0
   Passes es open_groups ready = (after : Bool) × ((ts : List Token) → run mode (before es ts) open_groups ready ≡ run mode ts open_groups after)
 
   alternative_passes : (s : Span) (es fs : Events) (open_groups : List Opener) (ready : Bool) →
