@@ -1,6 +1,5 @@
 -- The tokens of a well made tree tell the tree but for spans: a stack machine builds it from them.
-use Rattle.std.proofs.Common.{◌≡◌, refl, ap, sym, ◌∙◌, ℕ, Bool, Option, Some, None, List, [], ◌∷◌, ◌++◌}
-use Rattle.rx_base.specs.declared.span.Span.{Span}
+use Rattle.std.proofs.Common.{◌≡◌, refl, ap, sym, ◌∙◌, ℕ, Bool, Option, Some, None, List, [], ◌∷◌}
 use Rattle.rx_ast.specs.declared.leaf.Modifiers.{Modifiers}
 use Rattle.rx_ast.specs.declared.term.Pattern.{Pattern}
 use Rattle.rx_ast.specs.Forget.{nowhere, forget_leaf, forget_opener, forget_node, forget_nodes, forget_alternatives, same_kind, unspanned}
@@ -100,7 +99,7 @@ build [] s = s
 build (t ∷ ts) s = build ts (step t s)
 
 leaf_step : (l : Leaf) (waiting : List Waiting) (more : Alternatives) (ns : Nodes) →
-  step (leaf_token l) (at waiting more ns) ≡ at waiting more (node (leaf (forget_leaf same_kind l)) ns)
+    step (leaf_token l) (at waiting more ns) ≡ at waiting more (node (leaf (forget_leaf same_kind l)) ns)
 leaf_step (tree.boundary b) waiting more ns = refl
 leaf_step (tree.character c) waiting more ns = refl
 leaf_step (tree.dot d) waiting more ns = refl
@@ -118,7 +117,7 @@ Leads es waiting more ns all =
 module _ (mode : Mode) where
   mutual
     node_builds : (n : Node) → IsNode mode n → (ts : List Token) (waiting : List Waiting) (more : Alternatives) (ns : Nodes) →
-      build (before (node_events n) ts) (at waiting more ns) ≡ build ts (at waiting more (node (forget_node same_kind n) ns))
+        build (before (node_events n) ts) (at waiting more ns) ≡ build ts (at waiting more (node (forget_node same_kind n) ns))
     node_builds (leaf l) w ts waiting more ns = ap (λ ss. build ss (at waiting more ns)) (before_leaf l _ ts) ∙ ap (build ts) (leaf_step l waiting more ns)
     node_builds (quantified s min max greedy n) w ts waiting more ns =
         ap (λ ss. build ss (at waiting more ns)) (before_quantified s (node_events n) (quantifier min max greedy) ts)
@@ -131,7 +130,7 @@ module _ (mode : Mode) where
         ∙ ap (λ it. build ts (at waiting more (node (group nowhere it nowhere (forget_alternatives same_kind inner)) ns))) (opener_tree_of o)
 
     nodes_build : (ns : Nodes) → AreNodes mode ns → (ts : List Token) (waiting : List Waiting) (more : Alternatives) (ms : Nodes) →
-      build (before (nodes_events ns) ts) (at waiting more ms) ≡ build ts (at waiting more (onto (forget_nodes same_kind ns) ms))
+        build (before (nodes_events ns) ts) (at waiting more ms) ≡ build ts (at waiting more (onto (forget_nodes same_kind ns) ms))
     nodes_build no_node w ts waiting more ms = refl
     nodes_build (node n ns) w ts waiting more ms =
         ap (λ ss. build ss (at waiting more ms)) (before-append (node_events n) (nodes_events ns) ts)
@@ -139,25 +138,31 @@ module _ (mode : Mode) where
         ∙ nodes_build ns w.1 ts waiting more (node (forget_node same_kind n) ms)
 
     alternatives_build : (more : Alternatives) → HasAlternatives mode more → (waiting : List Waiting) →
-      Leads (alternatives_events more) waiting no_alternative no_node (forget_alternatives same_kind more)
+        Leads (alternatives_events more) waiting no_alternative no_node (forget_alternatives same_kind more)
     alternatives_build no_alternative w waiting = absurd w
     alternatives_build (alternative s ns more) w waiting =
-        let h = barred_build more w.1 waiting no_alternative (forget_nodes same_kind ns) in
-        (h.0, h.1, h.2,
-         λ ts. ap (λ ss. build ss (at waiting no_alternative no_node)) (before_alternative s (nodes_events ns) (barred_events more) ts)
-             ∙ nodes_build ns w.0 (before (barred_events more) ts) waiting no_alternative no_node ∙ h.3 ts)
+        let h = barred_build more w.1 waiting no_alternative (forget_nodes same_kind ns) in (
+          h.0,
+          h.1,
+          h.2,
+          λ ts. ap (λ ss. build ss (at waiting no_alternative no_node)) (before_alternative s (nodes_events ns) (barred_events more) ts)
+              ∙ nodes_build ns w.0 (before (barred_events more) ts) waiting no_alternative no_node ∙ h.3 ts,
+        )
 
     -- behind an alternative with these nodes, which the others stand before
     barred_build : (more : Alternatives) → AreAlternatives mode more → (waiting : List Waiting) (others : Alternatives) (ns : Nodes) →
-      Leads (barred_events more) waiting others (onto ns no_node) (alternatives_onto others (alternative nowhere ns (forget_alternatives same_kind more)))
+        Leads (barred_events more) waiting others (onto ns no_node) (alternatives_onto others (alternative nowhere ns (forget_alternatives same_kind more)))
     barred_build no_alternative w waiting others ns =
         (others, onto ns no_node, ap (λ ms. alternatives_onto others (alternative nowhere ms no_alternative)) (turned_twice ns), λ ts. refl)
     barred_build (alternative s ms more) w waiting others ns =
-        let h = barred_build more w.1 waiting (alternative nowhere ns others) (forget_nodes same_kind ms) in
-        (h.0, h.1, h.2,
-         λ ts. ap (λ ss. build (bar ∷ ss) (at waiting others (onto ns no_node))) (before_alternative s (nodes_events ms) (barred_events more) ts)
-             ∙ ap (λ ls. build (before (nodes_events ms) (before (barred_events more) ts)) (at waiting (alternative nowhere ls others) no_node)) (turned_twice ns)
-             ∙ nodes_build ms w.0 (before (barred_events more) ts) waiting (alternative nowhere ns others) no_node ∙ h.3 ts)
+        let h = barred_build more w.1 waiting (alternative nowhere ns others) (forget_nodes same_kind ms) in (
+          h.0,
+          h.1,
+          h.2,
+          λ ts. ap (λ ss. build (bar ∷ ss) (at waiting others (onto ns no_node))) (before_alternative s (nodes_events ms) (barred_events more) ts)
+              ∙ ap (λ ls. build (before (nodes_events ms) (before (barred_events more) ts)) (at waiting (alternative nowhere ls others) no_node)) (turned_twice ns)
+              ∙ nodes_build ms w.0 (before (barred_events more) ts) waiting (alternative nowhere ns others) no_node ∙ h.3 ts,
+        )
 
 abbrev pub built : List Token → Alternatives
 built ts = let s = build ts (at [] no_alternative no_node) in ended s.alternatives s.nodes

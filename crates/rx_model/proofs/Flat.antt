@@ -47,7 +47,7 @@ pub before_quantified : (s : Span) (es : Events) (t : Token) (ts : List Token) �
 before_quantified s es t ts = before_within s (es ++ (token t ∷ [])) ts ∙ before-append es (token t ∷ []) ts
 
 pub before_group : (s d : Span) (o : tree.Opener) (es : Events) (ts : List Token) →
-  before (within s (opener_event o ∷ (within d es ++ (token closer ∷ [])))) ts ≡ opener (opener_of o) ∷ before es (closer ∷ ts)
+    before (within s (opener_event o ∷ (within d es ++ (token closer ∷ [])))) ts ≡ opener (opener_of o) ∷ before es (closer ∷ ts)
 before_group s d o es ts =
     before_within s (opener_event o ∷ (within d es ++ (token closer ∷ []))) ts
     ∙ before_opener o (within d es ++ (token closer ∷ [])) ts

@@ -1,5 +1,6 @@
 -- At most one token is at the front of a text, since reading it is a function.
 use Rattle.std.proofs.Common.{◌≡◌, refl, ap, ℕ, ◌<◌, true, false, not, ◌==◌, if◌then◌else◌, Option, Some, None, List, [], ◌∷◌, ◌++◌, length, arith}
+use Rattle.rx_ast.specs.declared.leaf.CharacterKind.{CharacterKind}
 use Rattle.rx_units.specs.declared.code_point.CodePoint.{CodePoint}
 use Rattle.rx_units.specs.Units.{values}
 use Rattle.rx_model.specs.declared.mode.Mode.{Mode}
@@ -35,13 +36,13 @@ one_unit c (u ∷ v ∷ w) e = cc
 
 -- a token that is one syntax character
 syntax_at_front : (mode : Mode) (c : ℕ) (t : Token) (w rest : List CodePoint) →
-  is_syntax_character c ≡ true → syntax_front c ≡ Some (t, 1) → values w ≡ c ∷ [] → front mode (w ++ rest) ≡ Some (t, length w)
+    is_syntax_character c ≡ true → syntax_front c ≡ Some (t, 1) → values w ≡ c ∷ [] → front mode (w ++ rest) ≡ Some (t, length w)
 unfolding front
 syntax_at_front mode c t w rest s f e =
     let h = one_unit c w e in
     rw (h.alone, h.value_is, syntax_not_raw mode c s) f
 
-raw_at_front : (e : Environment) (kind : _) (value : ℕ) (w rest : List CodePoint) → IsRaw e kind value w → front e.mode (w ++ rest) ≡ Some (character kind value, length w)
+raw_at_front : (e : Environment) (kind : CharacterKind) (value : ℕ) (w rest : List CodePoint) → IsRaw e kind value w → front e.mode (w ++ rest) ≡ Some (character kind value, length w)
 unfolding front
 raw_at_front e kind value w rest r = rw (r.alone, r.kind_is, r.value_is, r.allowed) refl
 

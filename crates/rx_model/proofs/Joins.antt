@@ -1,5 +1,5 @@
 -- Rows join and part, and a row of events is a row of its tokens.
-use Rattle.std.proofs.Common.{◌≡◌, refl, ap, sym, subst, ℕ, ◌+◌, Some, List, [], ◌∷◌, ◌++◌, length}
+use Rattle.std.proofs.Common.{refl, sym, subst, ℕ, ◌+◌, List, [], ◌∷◌, ◌++◌, length}
 use Rattle.rx_units.specs.declared.code_point.CodePoint.{CodePoint}
 use Rattle.rx_model.specs.Environment.{Environment}
 use Rattle.rx_model.specs.Events.{Events, enter, leave, token, inside, modified, tokens_of}
@@ -25,7 +25,7 @@ module _ (e : Environment) where
     row_tokens ((modified m) ∷ es) i us j rest r = absurd r
 
     pub row_append : (es fs : Events) (i : ℕ) (us : List CodePoint) (j : ℕ) (more : List CodePoint) (k : ℕ) (rest : List CodePoint) →
-      Row e o es i us j more → Row e o fs j more k rest → Row e o (es ++ fs) i us k rest
+        Row e o es i us j more → Row e o fs j more k rest → Row e o (es ++ fs) i us k rest
     row_append [] fs i us j more k rest r s = subst (λ v. Row e o fs v us k rest) (sym r.0) (subst (λ v. Row e o fs j v k rest) (sym r.1) s)
     row_append ((enter n) ∷ es) fs i us j more k rest r s = (r.0, row_append es fs i us j more k rest r.1 s)
     row_append ((leave n) ∷ es) fs i us j more k rest r s = (r.0, row_append es fs i us j more k rest r.1 s)
@@ -35,7 +35,7 @@ module _ (e : Environment) where
 
     -- the place and the units between
     pub row_split : (es fs : Events) (i : ℕ) (us : List CodePoint) (k : ℕ) (rest : List CodePoint) →
-      Row e o (es ++ fs) i us k rest → (j : ℕ) × (more : List CodePoint) × Row e o es i us j more × Row e o fs j more k rest
+        Row e o (es ++ fs) i us k rest → (j : ℕ) × (more : List CodePoint) × Row e o es i us j more × Row e o fs j more k rest
     row_split [] fs i us k rest r = (i, us, (refl, refl), r)
     row_split ((enter n) ∷ es) fs i us k rest r = let s = row_split es fs i us k rest r.1 in (s.0, s.1, (r.0, s.2), s.3)
     row_split ((leave n) ∷ es) fs i us k rest r = let s = row_split es fs i us k rest r.1 in (s.0, s.1, (r.0, s.2), s.3)

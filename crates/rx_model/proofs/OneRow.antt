@@ -37,7 +37,7 @@ behind w more us e = sym (ap (drop (length w)) e ∙ drop-append_seam w more)
 module _ (e : Environment) where
   -- Two tokens that one text begins with are one.
   first_token : (t s : Token) (us : List CodePoint) (w more v rest : List CodePoint) →
-    us ≡ w ++ more → Spells e t w more → us ≡ v ++ rest → Spells e s v rest → (t ≡ s) × (more ≡ rest)
+      us ≡ w ++ more → Spells e t w more → us ≡ v ++ rest → Spells e s v rest → (t ≡ s) × (more ≡ rest)
   first_token t s us w more v rest p a q b =
       let m : front e.mode us ≡ Some (t, length w) = ap (front e.mode) p ∙ spelled_front e t w more a in
       let n : front e.mode us ≡ Some (s, length v) = ap (front e.mode) q ∙ spelled_front e s v rest b in

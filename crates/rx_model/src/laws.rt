@@ -13,11 +13,9 @@ ghost use Rattle.rx_model.specs.Token.{Token};
 /// Two patterns that one text reads as are equal but for spans.
 pub fn unique_reading()
     ensures { (mode : Mode) (p q : Pattern) (us : List CodePoint) → Reads mode p us → Reads mode q us → unspanned p ≡ unspanned q }
-{
-}
+{}
 
 /// The tokens that a text begins with are the first of all its tokens, and the others follow them.
 pub fn one_row()
     ensures { (e : Environment) (ts ss : List Token) (us rest : List CodePoint) → TokenRow e ts us rest → TokenRow e ss us [] → (more : List Token) × (ss ≡ ts ++ more) × TokenRow e more rest [] }
-{
-}
+{}
