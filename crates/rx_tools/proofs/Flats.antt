@@ -7,7 +7,7 @@ use Rattle.rx_model.specs.Rows.{unit_kind}
 use Rattle.rx_model.specs.Token.{Token, dot, character, bar}
 use Rattle.rx_tools.specs.Flat.{leaf_of, unit_events, flat_events, bar_events, leaf_events}
 
-differs : (a b : ℕ) → (a ≡ b → ⊥) → nat_eq a b ≡ false
+pub differs : (a b : ℕ) → (a ≡ b → ⊥) → nat_eq a b ≡ false
 differs a b h = elim (eqb_tells a b) [ inl p ↦ absurd (h p.1) | inr p ↦ p.0 ]
 
 pub leaf_dot : (u : CodePoint) → u.value ≡ 46 → leaf_of u ≡ dot

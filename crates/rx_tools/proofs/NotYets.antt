@@ -9,7 +9,7 @@ use lib.Utf8.{encodes}
 use Rattle.std.specs.List.{list_any}
 use Rattle.rx_tools.specs.NotYet.{is_u, is_unread, holds_unread}
 
-only : (xs : List ℕ) → pointwise nat_eq xs (117 ∷ []) ≡ true → xs ≡ 117 ∷ []
+pub only : (xs : List ℕ) → pointwise nat_eq xs (117 ∷ []) ≡ true → xs ≡ 117 ∷ []
 only [] h = cc
 only (x ∷ []) h = ap (λ y. y ∷ []) (eqb-true x 117 (sym (and-true (nat_eq x 117)) ∙ h))
 only (x ∷ y ∷ xs) h = absurd (let no : ⊥ = grind (arith, h) in no)

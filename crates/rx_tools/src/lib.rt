@@ -1,6 +1,7 @@
 //! What callers use: reading a pattern to its tree and canonical text.
 #![tactic(auto)]
 
+mod canonical_text;
 mod flat;
 mod level;
 mod reading;

@@ -1,4 +1,4 @@
-ghost use Rattle.std.specs.Prelude.{◌≡◌, ◌≢◌, ◌+◌, ◌<◌, ◌^◌, ◌↔◌, ◌⊎◌, max, length, IsTrue, IsOk, IfOk, IfErr, OnOk};
+ghost use Rattle.std.specs.Prelude.{◌≡◌, ◌≢◌, ◌+◌, ◌<◌, ◌^◌, ◌↔◌, ◌⊎◌, max, false, length, IsTrue, IsOk, IfOk, IfErr, OnOk};
 ghost use Rattle.std.specs.List.{list_any};
 ghost use Rattle.std.specs.Str.{chars};
 ghost use Rattle.rx_ast.specs.Forget.{bare};
@@ -9,9 +9,13 @@ ghost use Rattle.rx_tools.specs.Texts.{flags_chars, flags_length, stand_in_lengt
 ghost use Rattle.rx_tools.specs.NotYet.{is_not_yet, is_u, is_only_u, is_unread, holds_unread};
 ghost use Rattle.rx_model.specs.Rows.{is_syntax_character};
 
+use crate::canonical_text::spell as canonical_text;
+use crate::flat::read_flat;
 use crate::{Canonical, Options};
-use rx_base::Fault;
-use rx_model::Form;
+use rx_ast::Pattern;
+use rx_base::{Fault, OutOfMemory};
+use rx_model::{Form, Mode};
+use rx_units::parse_regexp_literal;
 use std::alloc::Global;
 
 fn is_u(flags: &str) -> bool
@@ -65,6 +69,17 @@ fn is_not_yet(form: Form, pattern_text: &str, flags_text: Option<&str>) -> bool
     }
 }
 
+/// The tree of a text that is read already.
+fn read(alloc: Global, pattern_text: &str, span_offset: u32) -> Result<Pattern, OutOfMemory>
+    requires flat { holds_unread (chars pattern_text.now) ≡ false }
+    requires fits { span_offset + length pattern_text.now < 2 ^ 32 }
+    ensures reads { IfOk result (λ it. Reads Mode.Unicode it (units_of Mode.Unicode (chars pattern_text.now))) }
+    ensures spanned { IfOk result (λ it. IsSpanned Mode.Unicode it (units_of Mode.Unicode (chars pattern_text.now)) 0 span_offset) }
+{
+    let units = parse_regexp_literal(alloc, pattern_text, 0, true)?;
+    read_flat(alloc, units.as_slice(), span_offset)
+}
+
 /// Reads a pattern and spells it canonically. The flags text is absent where there are no flags.
 pub fn canonical(
     alloc: Global,
@@ -93,5 +108,11 @@ pub fn canonical(
     if is_not_yet(form, pattern_text, flags_text) {
         return Err(Fault::NotYet);
     }
-    Err(Fault::OutOfMemory)
+    let pattern = read(alloc, pattern_text, options.pattern_span_offset)?;
+    let text = canonical_text(alloc, &pattern, Mode::Unicode)?;
+    Ok(Canonical {
+        pattern,
+        mode: Mode::Unicode,
+        text,
+    })
 }
