@@ -22,7 +22,7 @@ unit_kind escape.None = Symbol
 unit_kind escape.Unicode = UnicodeEscape
 unit_kind escape.Hexadecimal = HexadecimalEscape
 
--- whether a value may stand for itself outside classes (PatternCharacter, 22.2.1); with neither `u` nor `v` no pattern is read yet
+-- whether a value may stand for itself outside classes (PatternCharacter, 22.2.1); with neither `u` nor `v` no character is read yet
 abbrev pub stands_raw : Mode → ℕ → Bool
 stands_raw Legacy c = false
 stands_raw Unicode c = not (is_syntax_character c)

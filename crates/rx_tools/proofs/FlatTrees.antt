@@ -5,11 +5,12 @@ use Rattle.std.specs.Prelude.{All, Contains, length}
 use Rattle.rx_base.specs.declared.span.Span.{Span}
 use Rattle.rx_ast.specs.declared.term.Pattern.{Pattern}
 use Rattle.rx_ast.specs.Tree.{Node, Nodes, Alternatives, leaf, quantified, group, no_node, node, no_alternative, alternative, mirror_disjunction}
+use Rattle.rx_ast.specs.Spans.{leaf_span}
 use Rattle.rx_ast.specs.Tree as tree
 use Rattle.rx_model.specs.declared.mode.Mode.{Mode}
 use Rattle.rx_model.specs.declared.mode.Mode.TheVariants.{Unicode}
 use Rattle.rx_model.specs.Early.{IsEarly, Obeys, most_groups}
-use Rattle.rx_model.specs.Events.{node_events, nodes_events, alternatives_events, barred_events, leaf_event, leaf_span, tokens}
+use Rattle.rx_model.specs.Events.{node_events, nodes_events, alternatives_events, barred_events, leaf_event, tokens}
 use Rattle.rx_model.specs.Names.{groups, names, node_groups, nodes_groups, alternatives_groups, node_names, nodes_names, alternatives_names, AreApart, IsNodeApart, AreNodesApart, AreAlternativesApart}
 use Rattle.rx_model.specs.Shapes.{IsNode, AreNodes, AreAlternatives, HasAlternatives}
 use Rattle.rx_model.specs.Token.{Token, boundary, character, dot, class_escape, property, class, indexed, named, opener, closer, bar, quantifier, leaf_token}
