@@ -1,0 +1,6 @@
+pub mod Builds
+pub mod Flat
+pub mod Fronts
+pub mod Joins
+pub mod OneRow
+pub mod Runs

@@ -1,0 +1,85 @@
+-- How a character is spelled canonically.
+use Rattle.std.specs.Prelude.{ℕ, zero, suc, ◌+◌, ◌/◌, ◌%◌, Bool, false, ◌==◌, ◌&&◌, ◌||◌, List, [], ◌∷◌, ◌++◌, nat_lt, nat_le, if◌then◌else◌}
+use Rattle.rx_model.specs.declared.mode.Mode.{Mode}
+use Rattle.rx_model.specs.declared.mode.Mode.TheVariants.{Legacy, Unicode, Sets}
+use Rattle.rx_model.specs.Rows.{is_syntax_character}
+
+-- from the first to the last
+abbrev pub is_within : ℕ → ℕ → ℕ → Bool
+is_within low high c = nat_le low c && nat_le c high
+
+abbrev pub is_decimal_digit : ℕ → Bool
+is_decimal_digit c = is_within 48 57 c
+
+-- ClassSetReservedPunctuator (22.2.1): one of & - ! # % , : ; < = > @ ` ~
+abbrev pub is_reserved_punctuator : ℕ → Bool
+is_reserved_punctuator c = c == 38 || c == 45 || c == 33 || c == 35 || c == 37 || c == 44 || c == 58 || c == 59 || c == 60 || c == 61 || c == 62 || c == 64 || c == 96 || c == 126
+
+-- t n v f r, for 9 to D
+abbrev pub control_letter : ℕ → ℕ
+control_letter c = if c == 9 then 116 else (if c == 10 then 110 else (if c == 11 then 118 else (if c == 12 then 102 else 114)))
+
+-- upper case
+abbrev pub hex_digit : ℕ → ℕ
+hex_digit d = if nat_lt d 10 then 48 + d else 55 + d
+
+-- \xHH
+unfoldable pub two_digits : ℕ → List ℕ
+two_digits c = 92 ∷ 120 ∷ hex_digit (c / 16 % 16) ∷ hex_digit (c % 16) ∷ []
+
+-- \uXXXX
+unfoldable pub four_digits : ℕ → List ℕ
+four_digits c = 92 ∷ 117 ∷ hex_digit (c / 4096 % 16) ∷ hex_digit (c / 256 % 16) ∷ hex_digit (c / 16 % 16) ∷ hex_digit (c % 16) ∷ []
+
+-- the last k hexadecimal digits at most, without leading zeros
+abbrev pub hex : ℕ → ℕ → List ℕ
+hex zero n = []
+hex (suc k) n = (if nat_lt n 16 then [] else hex k (n / 16)) ++ (hex_digit (n % 16) ∷ [])
+
+-- \u{H..}
+unfoldable pub braced : ℕ → List ℕ
+braced c = 92 ∷ 117 ∷ 123 ∷ (hex 8 c ++ (125 ∷ []))
+
+-- a surrogate alone
+abbrev pub surrogate_text : Mode → ℕ → List ℕ
+surrogate_text Legacy c = four_digits c
+surrogate_text Unicode c = braced c
+surrogate_text Sets c = braced c
+
+-- the greatest value that the mode reads raw
+abbrev pub greatest_raw : Mode → ℕ
+greatest_raw Legacy = 0xFFFF
+greatest_raw Unicode = 0x10FFFF
+greatest_raw Sets = 0x10FFFF
+
+-- Where a character stands: outside classes, where the flag says whether an unquantified indexed reference stands right before it; or in a class.
+pub data Place : Type 0 where
+  outside : Bool → Place
+  in_class : Place
+
+-- whether a backslash stands before a character: a SyntaxCharacter or `/`; in a class also `-`; in a class in sets mode also a reserved punctuator
+abbrev pub is_reserved_in_class : Mode → ℕ → Bool
+is_reserved_in_class Legacy c = c == 45
+is_reserved_in_class Unicode c = c == 45
+is_reserved_in_class Sets c = is_reserved_punctuator c
+
+abbrev pub is_escaped : Mode → Place → ℕ → Bool
+is_escaped mode (outside after_reference) c = is_syntax_character c || c == 47
+is_escaped mode in_class c = is_syntax_character c || c == 47 || is_reserved_in_class mode c
+
+-- whether it would go on with the digits of the reference right before it
+abbrev pub goes_on : Place → ℕ → Bool
+goes_on (outside after_reference) c = after_reference && is_decimal_digit c
+goes_on in_class c = false
+
+-- the first row that fits
+unfoldable pub character_text : Mode → Place → ℕ → List ℕ
+character_text mode place c =
+    if is_within 9 13 c then 92 ∷ control_letter c ∷ []
+    else (if nat_lt c 32 || is_within 127 159 c then two_digits c
+    else (if c == 0x2028 || c == 0x2029 then four_digits c
+    else (if is_within 0xD800 0xDFFF c then surrogate_text mode c
+    else (if nat_lt (greatest_raw mode) c then braced c
+    else (if is_escaped mode place c then 92 ∷ c ∷ []
+    else (if goes_on place c then 92 ∷ 120 ∷ 51 ∷ c ∷ []
+    else c ∷ []))))))

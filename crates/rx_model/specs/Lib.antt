@@ -1,0 +1,12 @@
+pub mod CharacterText
+pub mod ClassText
+pub mod Early
+pub mod Environment
+pub mod Events
+pub mod Flags
+pub mod Names
+pub mod Reading
+pub mod Rows
+pub mod Shapes
+pub mod Spelling
+pub mod Token

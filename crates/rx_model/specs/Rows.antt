@@ -1,0 +1,69 @@
+-- What each token spells, and rows of tokens. A relation `.. w rest` says that the units w spell a thing before all that follows them, rest.
+use Rattle.std.specs.Prelude.{◌≡◌, ℕ, ◌+◌, Bool, true, false, not, ◌==◌, ◌||◌, List, [], ◌∷◌, ◌++◌, length}
+use Rattle.rx_ast.specs.declared.leaf.CharacterKind.{CharacterKind}
+use Rattle.rx_ast.specs.declared.leaf.CharacterKind.TheVariants.{Symbol, UnicodeEscape, HexadecimalEscape}
+use Rattle.rx_units.specs.declared.code_point.CodePoint.{CodePoint}
+use Rattle.rx_units.specs.declared.code_point.EscapeKind.{EscapeKind}
+use Rattle.rx_units.specs.declared.code_point.EscapeKind.TheVariants as escape
+use Rattle.rx_units.specs.Units.{values}
+use Rattle.rx_model.specs.declared.mode.Mode.{Mode}
+use Rattle.rx_model.specs.declared.mode.Mode.TheVariants.{Legacy, Unicode, Sets}
+use Rattle.rx_model.specs.Environment.{Environment}
+use Rattle.rx_model.specs.Events.{Events, enter, leave, token, inside, modified}
+use Rattle.rx_model.specs.Token.{Token, boundary, character, dot, class_escape, property, class, indexed, named, opener, closer, bar, quantifier}
+
+-- SyntaxCharacter (22.2.1): one of ^ $ \ . * + ? ( ) [ ] { } |
+abbrev pub is_syntax_character : ℕ → Bool
+is_syntax_character c = c == 94 || c == 36 || c == 92 || c == 46 || c == 42 || c == 43 || c == 63 || c == 40 || c == 41 || c == 91 || c == 93 || c == 123 || c == 125 || c == 124
+
+-- the kind of a character that is one unit, by how the unit was written
+abbrev pub unit_kind : EscapeKind → CharacterKind
+unit_kind escape.None = Symbol
+unit_kind escape.Unicode = UnicodeEscape
+unit_kind escape.Hexadecimal = HexadecimalEscape
+
+-- whether a value may stand for itself outside classes (PatternCharacter, 22.2.1); with neither `u` nor `v` no character is read yet
+abbrev pub stands_raw : Mode → ℕ → Bool
+stands_raw Legacy c = false
+stands_raw Unicode c = not (is_syntax_character c)
+stands_raw Sets c = not (is_syntax_character c)
+
+-- One unit stands for itself.
+pub record IsRaw (e : Environment) (kind : CharacterKind) (value : ℕ) (w : List CodePoint) : Type 0 where
+  pub unit : CodePoint
+  pub alone : w ≡ unit ∷ []
+  pub kind_is : kind ≡ unit_kind unit.escape_kind
+  pub value_is : value ≡ unit.value
+  pub allowed : stands_raw e.mode unit.value ≡ true
+
+-- The units w spell the token before rest. No other token is read yet.
+abbrev pub Spells : Environment → Token → List CodePoint → List CodePoint → Type 0
+Spells e (character kind value) w rest = IsRaw e kind value w
+Spells e dot w rest = values w ≡ 46 ∷ []
+Spells e bar w rest = values w ≡ 124 ∷ []
+Spells e (boundary kind) w rest = ⊥
+Spells e (class_escape kind) w rest = ⊥
+Spells e (property negative strings name value) w rest = ⊥
+Spells e (class c) w rest = ⊥
+Spells e (indexed n) w rest = ⊥
+Spells e (named name) w rest = ⊥
+Spells e (opener o) w rest = ⊥
+Spells e closer w rest = ⊥
+Spells e (quantifier min max greedy) w rest = ⊥
+
+-- The tokens lead from these units to the rest, each spelled before all that follows it.
+abbrev pub TokenRow : Environment → List Token → List CodePoint → List CodePoint → Type 0
+TokenRow e [] us rest = us ≡ rest
+TokenRow e (t ∷ ts) us rest =
+    (w : List CodePoint) × (more : List CodePoint) × (us ≡ w ++ more) × Spells e t w more × TokenRow e ts more rest
+
+-- The events lead from place i, with these units left, to place j with the rest left, where o gives the offset of a place: each node
+-- begins and ends at the offset of its place.
+abbrev pub Row : Environment → (ℕ → ℕ) → Events → ℕ → List CodePoint → ℕ → List CodePoint → Type 0
+Row e o [] i us j rest = (i ≡ j) × (us ≡ rest)
+Row e o ((enter n) ∷ es) i us j rest = (n ≡ o i) × Row e o es i us j rest
+Row e o ((leave n) ∷ es) i us j rest = (n ≡ o i) × Row e o es i us j rest
+Row e o ((token t) ∷ es) i us j rest =
+    (w : List CodePoint) × (more : List CodePoint) × (us ≡ w ++ more) × Spells e t w more × Row e o es (i + length w) more j rest
+Row e o ((inside c) ∷ es) i us j rest = ⊥
+Row e o ((modified m) ∷ es) i us j rest = ⊥

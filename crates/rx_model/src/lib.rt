@@ -1,0 +1,9 @@
+//! What a pattern is, what it spells, and what it is spelled as: the definitions that every contract cites, and their laws.
+#![tactic(auto)]
+
+mod form;
+pub mod laws;
+mod mode;
+
+pub use form::Form;
+pub use mode::Mode;

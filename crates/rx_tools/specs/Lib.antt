@@ -1,0 +1,4 @@
+pub mod Flat
+pub mod Levels
+pub mod NotYet
+pub mod Texts

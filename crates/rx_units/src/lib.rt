@@ -1,0 +1,8 @@
+//! The units of a text.
+#![tactic(auto)]
+
+mod code_point;
+mod literal;
+
+pub use code_point::{CodePoint, EscapeKind};
+pub use literal::{handle_code_point, parse_regexp_literal};

@@ -1,0 +1,72 @@
+ghost use Rattle.std.specs.Prelude.{◌≡◌, ◌+◌, ◌<◌, ◌≤◌, ◌^◌, ◌++◌, length, OnOk, OnErr, IfOk};
+ghost use Rattle.std.specs.Str.{chars};
+ghost use Rattle.rx_units.specs.Units.{character_units, literal_units};
+
+use crate::{CodePoint, EscapeKind};
+use rx_base::{List, OutOfMemory, Span};
+use std::alloc::Global;
+
+/// Adds a code point, of which the first two numbers are its start and its end in bytes, before the offset: one unit,
+/// or without joining a lead and a trail that share the span. A refusal leaves the list as before.
+pub fn handle_code_point(
+    body: &mut List<CodePoint>,
+    code_point: ((u32, u32), u32, EscapeKind),
+    span_offset: u32,
+    combine_surrogate_pair: bool,
+) -> Result<(), OutOfMemory>
+    requires value { code_point.1 ≤ 0x10ffff }
+    requires order { code_point.0.0 ≤ code_point.0.1 }
+    requires offset { span_offset + code_point.0.1 < 2 ^ 32 }
+    ensures ok { OnOk result (body.new ≡ body.old ++ character_units combine_surrogate_pair
+        (span_offset + code_point.0.0) (span_offset + code_point.0.1) code_point.1 code_point.2) }
+    ensures err { OnErr result (body.new ≡ body.old) }
+{
+    let (bounds, value, escape_kind) = code_point;
+    let span = Span::new(span_offset + bounds.0, span_offset + bounds.1);
+    if combine_surrogate_pair || value < 0x10000 {
+        return body.push(CodePoint {
+            span,
+            value,
+            escape_kind,
+        });
+    }
+    let past = value - 0x10000;
+    body.push(CodePoint {
+        span,
+        value: 0xd800 + past / 0x400,
+        escape_kind,
+    })?;
+    let trail = CodePoint {
+        span,
+        value: 0xdc00 + past % 0x400,
+        escape_kind,
+    };
+    match body.push(trail) {
+        Ok(()) => Ok(()),
+        Err(refused) => {
+            let _ = body.pop();
+            Err(refused)
+        }
+    }
+}
+
+/// The units of a literal.
+pub fn parse_regexp_literal(
+    alloc: Global,
+    source_text: &str,
+    span_offset: u32,
+    combine_surrogate_pair: bool,
+) -> Result<List<CodePoint>, OutOfMemory>
+    requires { span_offset + length source_text.now < 2 ^ 32 }
+    ensures { IfOk result (λ body. body ≡ literal_units combine_surrogate_pair span_offset (chars source_text.now)) }
+{
+    let mut body = List::new(alloc);
+    let mut at = 0;
+    for c in source_text.chars() {
+        let end = at + c.len_utf8() as u32;
+        let code_point = ((at, end), c as u32, EscapeKind::None);
+        handle_code_point(&mut body, code_point, span_offset, combine_surrogate_pair)?;
+        at = end;
+    }
+    Ok(body)
+}
