@@ -1,18 +1,12 @@
 -- What a tree is but for spans, and the bare tree. A span that does not count is put to 0..0, a kind that does
 -- not count to `Symbol`, and of modifiers only the three bits count.
-use Rattle.std.specs.Prelude.{ℕ, ◌%◌, Option, Some, None, List, map}
+use Rattle.std.specs.Prelude.{◌%◌, map}
 use Rattle.std.specs.Option.{option_map}
 use Rattle.rx_base.specs.declared.span.Span.{Span}
-use Rattle.rx_ast.specs.declared.leaf.BoundaryAssertion.{BoundaryAssertion}
 use Rattle.rx_ast.specs.declared.leaf.Character.{Character}
-use Rattle.rx_ast.specs.declared.leaf.CharacterClassEscape.{CharacterClassEscape}
 use Rattle.rx_ast.specs.declared.leaf.CharacterKind.{CharacterKind}
 use Rattle.rx_ast.specs.declared.leaf.CharacterKind.TheVariants.{Symbol}
-use Rattle.rx_ast.specs.declared.leaf.Dot.{Dot}
-use Rattle.rx_ast.specs.declared.leaf.IndexedReference.{IndexedReference}
 use Rattle.rx_ast.specs.declared.leaf.Modifiers.{Modifiers}
-use Rattle.rx_ast.specs.declared.leaf.NamedReference.{NamedReference}
-use Rattle.rx_ast.specs.declared.leaf.UnicodePropertyEscape.{UnicodePropertyEscape}
 use Rattle.rx_ast.specs.declared.class.CharacterClassRange.{CharacterClassRange}
 use Rattle.rx_ast.specs.declared.class.ClassString.{ClassString}
 use Rattle.rx_ast.specs.declared.class.ClassStringDisjunction.{ClassStringDisjunction}
