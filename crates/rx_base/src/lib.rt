@@ -2,14 +2,21 @@
 //! the ends of the program, where bytes come from and go to.
 #![tactic(auto)]
 
+mod clean;
+mod ends;
 mod fault;
+mod fill;
 mod list;
+mod memory;
 mod out_of_memory;
 mod span;
 mod text;
 
+pub use clean::{CleanSink, CleanSource};
+pub use ends::{Failed, Sink, Source};
 pub use fault::Fault;
 pub use list::List;
+pub use memory::{MemorySink, MemorySource};
 pub use out_of_memory::OutOfMemory;
 pub use span::{GetSpan, Span};
 pub use text::Text;
