@@ -1,6 +1,5 @@
 -- What the reading of a token depends on besides the text.
-use Rattle.std.specs.Prelude.{ℕ, Bool, true, ◌||◌, not, is_none}
-use Rattle.std.specs.List.{is_empty}
+use Rattle.std.specs.Prelude.{ℕ, Bool, true, false, ◌||◌, List, [], ◌∷◌}
 use Rattle.rx_ast.specs.declared.term.Pattern.{Pattern}
 use Rattle.rx_model.specs.declared.mode.Mode.{Mode}
 use Rattle.rx_model.specs.declared.mode.Mode.TheVariants.{Legacy, Unicode, Sets}
@@ -11,6 +10,10 @@ abbrev pub is_unicode : Mode → Bool
 is_unicode Legacy = false
 is_unicode Unicode = true
 is_unicode Sets = true
+
+abbrev pub has_some : List (List ℕ) → Bool
+has_some [] = false
+has_some (name ∷ names) = true
 
 -- The mode, the number of capturing groups in the whole pattern, whether `\k` is a reference (the parameter NamedCaptureGroups:
 -- in the unicode modes, or where some group has a name), and whether the buffer boundaries `\A`, `\z`, `\Z` are read.
@@ -25,6 +28,6 @@ abbrev pub environment : Mode → Pattern → Environment
 environment mode p = record {
   mode = mode;
   groups = groups p;
-  named = is_unicode mode || not (is_empty (names p));
+  named = is_unicode mode || has_some (names p);
   buffer_boundaries = true;
 }
