@@ -11,6 +11,7 @@ mod memory;
 mod out_of_memory;
 mod span;
 mod text;
+mod write;
 
 pub use clean::{CleanSink, CleanSource};
 pub use ends::{Failed, Sink, Source};
@@ -20,3 +21,4 @@ pub use memory::{MemorySink, MemorySource};
 pub use out_of_memory::OutOfMemory;
 pub use span::{GetSpan, Span};
 pub use text::Text;
+pub use write::write_all;

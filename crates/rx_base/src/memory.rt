@@ -1,6 +1,5 @@
 ghost use Rattle.std.specs.Prelude.{◌≡◌, ◌≤◌, ◌<◌, ◌+◌, ◌-◌, ◌↔◌, ◌⊎◌, ◌++◌, ◌∷◌, [], min, length, take, drop, Some, Contains, IfOk, OnErr, IsErr, IsTrue, MatchResult};
-ghost use Rattle.std.specs.Io.{ReadsAtMost, WritesAtMost};
-ghost use Rattle.std.specs.Io.KnownBytes.{ReadConsumes, WriteAppends};
+ghost use Rattle.std.specs.Io.KnownBytes.{ReadConsumes};
 ghost use Rattle.rx_base.specs.Causes.{HasCause};
 ghost use Rattle.rx_base.specs.Memory.{next_number};
 
@@ -97,15 +96,11 @@ impl Source for MemorySource {
     ghost faults = { λ s. s.faults };
 
     fn read(&mut self, buf: &mut [u8]) -> Result<usize, Failed>
-        ensures bound { ReadsAtMost result buf.new }
         ensures bytes { ReadConsumes (Some self.old.left) (Some self.new.left) result buf.new }
-        ensures count { MatchResult result (λ count. self.new.drawn ≡ self.old.drawn + count) (λ _. self.new.drawn ≡ self.old.drawn) }
-        ensures kept { OnErr result (Some self.new.left ≡ Some self.old.left) }
         ensures cause { HasCause self.old.faults self.new.faults result }
-
         ensures fails { IsErr result ↔ Contains self.old.fails (next_number self.old.calls) }
         ensures moved { IfOk result (λ count. count ≡ min self.old.step (min (length buf.old) (length self.old.left))) }
-        ensures filled { IfOk result (λ count. buf.new ≡ take count self.old.left ++ drop count buf.old) }
+        ensures filled { MatchResult result (λ count. buf.new ≡ take count self.old.left ++ drop count buf.old) (λ _. buf.new ≡ buf.old) }
         ensures changed { MatchResult result
             (λ count. self.new ≡ record self.old { left = drop count self.old.left; drawn = self.old.drawn + count; calls = next_number self.old.calls })
             (λ _. self.new ≡ record self.old { calls = next_number self.old.calls; faults = next_number self.old.faults }) }
@@ -186,13 +181,8 @@ impl Sink for MemorySink {
     ghost faults = { λ s. s.faults };
 
     fn write(&mut self, piece: &[u8]) -> Result<usize, Failed>
-        ensures bound { WritesAtMost result piece.now }
         ensures moves { 0 < length piece.now → IfOk result (λ count. 0 < count) }
-        ensures bytes { WriteAppends (Some self.old.taken) (Some self.new.taken) result piece.now }
-        ensures kept { OnErr result (Some self.new.taken ≡ Some self.old.taken) }
-        ensures fixed { self.new.room ∷ self.new.fails ≡ self.old.room ∷ self.old.fails }
         ensures cause { HasCause self.old.faults self.new.faults result }
-
         ensures fails { IsErr result ↔ (Contains self.old.fails (next_number self.old.calls)
             ⊎ ((0 < length piece.now) × (length self.old.taken ≡ self.old.room))) }
         ensures moved { IfOk result (λ count. count ≡ min self.old.step (min (length piece.now) (self.old.room - length self.old.taken))) }

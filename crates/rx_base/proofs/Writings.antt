@@ -1,0 +1,117 @@
+-- How writes compose: nothing, one after the other, and a fault in the first or in the second.
+use Rattle.std.proofs.Common.{◌≡◌, ap, sym, ◌∙◌, ℕ, ◌<◌, ◌≤◌, arith, List, [], ◌++◌, append_assoc, append-nil, length, length-append, Option, Result, Ok, Err, take, drop, refl, inl, inr}
+use Rattle.std.proofs.lemmas.List.{take-append-drop}
+use Rattle.std.proofs.KnownBytes.{Appends-nil, Appends-trans, Appends-kept}
+use Rattle.std.specs.Io.KnownBytes.{Appends, Keeps}
+use Rattle.rx_base.specs.Causes.{HasCause, Rose}
+use Rattle.rx_base.specs.Writing.{Written, AppendsFront}
+
+-- a front of the second bytes, behind the whole of the first
+front_behind : (o m n : Option (List ℕ)) (first second : List ℕ) → Appends o m first → AppendsFront m n second → AppendsFront o n (first ++ second)
+front_behind o m n first second a b = record {
+  front = first ++ b.front;
+  back = b.back;
+  cut = ap (λ xs. first ++ xs) b.cut ∙ sym (append_assoc first b.front b.back);
+  missing = b.missing;
+  appended = Appends-trans o m n first b.front a b.appended;
+}
+
+-- a front of the first bytes is one of both
+front_before : (o n : Option (List ℕ)) (first second : List ℕ) → AppendsFront o n first → AppendsFront o n (first ++ second)
+front_before o n first second b = record {
+  front = b.front;
+  back = b.back ++ second;
+  cut = ap (λ xs. xs ++ second) b.cut ∙ append_assoc b.front b.back second;
+  missing = let some : 0 < length b.back = b.missing in omega (arith, length-append b.back second);
+  appended = b.appended;
+}
+
+rose_later : (f g h : ℕ) → f ≤ g → Rose g h → Rose f h
+rose_later f g h later rose = elim rose [ inl higher ↦ inl (omega arith) | inr last ↦ inr last ]
+
+cause_behind : {T E : Type 0} (f g h : ℕ) (result : Result T E) → f ≤ g → HasCause g h result → HasCause f h result
+cause_behind f g h (Ok x) later cause = record { later = let more : g ≤ h = cause.later in omega arith; failed = tt }
+cause_behind f g h (Err e) later cause = record { later = let more : g ≤ h = cause.later in omega arith; failed = rose_later f g h later cause.failed }
+
+-- nothing was to be written
+pub written_none : {K T E : Type 0} (taken : K → Option (List ℕ)) (fixed : K → List ℕ) (faults : K → ℕ) (s : K) (x : T) → Written {E = E} taken fixed faults s s (Ok x) []
+written_none taken fixed faults s x = record { whole = Appends-nil (taken s); part = tt; kept = refl; cause = record { later = omega arith; failed = tt } }
+
+-- the whole of the first bytes, and then the second
+pub written_then : {K T U E F : Type 0} {taken : K → Option (List ℕ)} {fixed : K → List ℕ} {faults : K → ℕ} {s t u : K} {x : T} {result : Result U F} {first second : List ℕ} →
+    Written {E = E} taken fixed faults s t (Ok x) first → Written taken fixed faults t u result second → Written taken fixed faults s u result (first ++ second)
+written_then {taken} {faults} {s} {t} {u} {result = Ok y} {first} {second} a b = record {
+  whole = Appends-trans (taken s) (taken t) (taken u) first second a.whole b.whole;
+  part = tt;
+  kept = b.kept ∙ a.kept;
+  cause = cause_behind (faults s) (faults t) (faults u) (Ok y) a.cause.later b.cause;
+}
+written_then {taken} {faults} {s} {t} {u} {result = Err e} {first} {second} a b = record {
+  whole = tt;
+  part = front_behind (taken s) (taken t) (taken u) first second a.whole b.part;
+  kept = b.kept ∙ a.kept;
+  cause = cause_behind (faults s) (faults t) (faults u) (Err e) a.cause.later b.cause;
+}
+
+-- a fault in the first bytes, after which the second were not tried
+pub written_stop : {K T U E F : Type 0} {taken : K → Option (List ℕ)} {fixed : K → List ℕ} {faults : K → ℕ} {s t : K} {e : E} (d : F) {first : List ℕ} (second : List ℕ) →
+    Written {T = T} taken fixed faults s t (Err e) first → Written {T = U} taken fixed faults s t (Err d) (first ++ second)
+written_stop {taken} {s} {t} d {first} second a = record {
+  whole = tt;
+  part = front_before (taken s) (taken t) first second a.part;
+  kept = a.kept;
+  cause = record { later = a.cause.later; failed = a.cause.failed };
+}
+
+-- Of the whole so much was written, and the rest is left.
+pub record Left {K : Type 0} (taken : K → Option (List ℕ)) (fixed : K → List ℕ) (faults : K → ℕ) (old new : K) (whole rest : List ℕ) : Type 0 where
+  pub front : List ℕ
+  pub cut : whole ≡ front ++ rest
+  pub appended : Appends (taken old) (taken new) front
+  pub kept : fixed new ≡ fixed old
+  pub later : faults old ≤ faults new
+
+pub left_all : {K : Type 0} (taken : K → Option (List ℕ)) (fixed : K → List ℕ) (faults : K → ℕ) (s : K) (whole : List ℕ) → Left taken fixed faults s s whole whole
+left_all taken fixed faults s whole = record { front = []; cut = refl; appended = Appends-nil (taken s); kept = refl; later = omega arith }
+
+-- the next bytes of the rest were written
+pub left_then : {K T E : Type 0} {taken : K → Option (List ℕ)} {fixed : K → List ℕ} {faults : K → ℕ} {s t u : K} {x : T} {whole rest next : List ℕ} (after : List ℕ) →
+    Left taken fixed faults s t whole rest → rest ≡ next ++ after → Written {E = E} taken fixed faults t u (Ok x) next → Left taken fixed faults s u whole after
+left_then {taken} {faults} {s} {t} {u} {next} after left cut written = record {
+  front = left.front ++ next;
+  cut = left.cut ∙ ap (λ xs. left.front ++ xs) cut ∙ sym (append_assoc left.front next after);
+  appended = Appends-trans (taken s) (taken t) (taken u) left.front next left.appended written.whole;
+  kept = written.kept ∙ left.kept;
+  later = let first : faults s ≤ faults t = left.later in let second : faults t ≤ faults u = written.cause.later in omega arith;
+}
+
+-- a fault in the next bytes of the rest
+pub left_stop : {K T U E F : Type 0} {taken : K → Option (List ℕ)} {fixed : K → List ℕ} {faults : K → ℕ} {s t u : K} {e : E} (d : F) {whole rest next : List ℕ} (after : List ℕ) →
+    Left taken fixed faults s t whole rest → rest ≡ next ++ after → Written {T = T} taken fixed faults t u (Err e) next → Written {T = U} taken fixed faults s u (Err d) whole
+left_stop {taken} {faults} {s} {t} {u} d {next} after left cut written = record {
+  whole = tt;
+  part = rw (left.cut, cut) (front_behind (taken s) (taken t) (taken u) left.front (next ++ after) left.appended (front_before (taken t) (taken u) next after written.part));
+  kept = written.kept ∙ left.kept;
+  cause = cause_behind (faults s) (faults t) (faults u) (Err d) left.later (record { later = written.cause.later; failed = written.cause.failed });
+}
+
+-- nothing is left
+pub left_none : {K T E : Type 0} {taken : K → Option (List ℕ)} {fixed : K → List ℕ} {faults : K → ℕ} {s t : K} (x : T) {whole rest : List ℕ} →
+    Left taken fixed faults s t whole rest → rest ≡ [] → Written {E = E} taken fixed faults s t (Ok x) whole
+left_none x left none = record {
+  whole = rw (left.cut, none, append-nil left.front) left.appended;
+  part = tt;
+  kept = left.kept;
+  cause = record { later = left.later; failed = tt };
+}
+
+-- one write took the front of the rest
+pub left_write : {K : Type 0} {taken : K → Option (List ℕ)} {fixed : K → List ℕ} {faults : K → ℕ} {s t u : K} {whole rest : List ℕ} (count : ℕ) →
+    Left taken fixed faults s t whole rest → Appends (taken t) (taken u) (take count rest) → fixed u ≡ fixed t → faults t ≤ faults u → Left taken fixed faults s u whole (drop count rest)
+left_write {taken} {faults} {s} {t} {u} {rest} count left appended kept later = record {
+  front = left.front ++ take count rest;
+  cut = left.cut ∙ ap (λ xs. left.front ++ xs) (sym (take-append-drop count rest)) ∙ sym (append_assoc left.front (take count rest) (drop count rest));
+  appended = Appends-trans (taken s) (taken t) (taken u) left.front (take count rest) left.appended appended;
+  kept = kept ∙ left.kept;
+  later = let first : faults s ≤ faults t = left.later in omega arith;
+}
