@@ -1,0 +1,4 @@
+//! The tools on patterns: the canonical text.
+#![tactic(auto)]
+
+mod write;
