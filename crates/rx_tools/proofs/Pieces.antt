@@ -1,13 +1,56 @@
--- The bytes of a list of pieces or of characters, from an index on.
-use Rattle.std.proofs.Common.{◌≡◌, refl, ap, sym, ◌∙◌, ℕ, suc, ◌+◌, ◌<◌, List, ◌∷◌, ◌++◌, Bor, length, drop, get_or, add-one}
+-- The bytes of pieces and of characters.
+use Rattle.std.proofs.Common.{◌≡◌, refl, ap, sym, ◌∙◌, ℕ, suc, ◌+◌, ◌<◌, ◌≤◌, List, [], ◌∷◌, ◌++◌, Bor, Option, Result, length, drop, get_or, arith, nat_lt, true, add-one, append-nil, append_assoc}
 use Rattle.std.proofs.Math.Seq.{drop-cons}
-use Rattle.std.proofs.lemmas.Str.{encodes-append}
+use Rattle.std.proofs.lemmas.Bool.Decides.{nat_tests}
+use Rattle.std.proofs.lemmas.List.{drop_all}
+use Rattle.std.proofs.lemmas.Str.{encodes-append, encodes-chars, chars-nil}
 use Rattle.std.specs.Char.{encode_utf8}
 use Rattle.std.specs.List.{flat_map}
-use Rattle.std.specs.Str.{chars, encode_utf8_all}
+use Rattle.std.specs.Str.{chars, IsUtf8}
+use Rattle.rx_base.specs.Writing.{Written}
+use Rattle.rx_tools.specs.Utf8.{utf8}
 
-pub pieces_next : (ps : List (Bor (List ℕ))) (i : ℕ) (d : Bor (List ℕ)) → i < length ps → encode_utf8_all (flat_map (λ p. chars p.now) (drop i ps)) ≡ encode_utf8_all (chars (get_or ps i d).now) ++ encode_utf8_all (flat_map (λ p. chars p.now) (drop (i + 1) ps))
-pieces_next ps i d h = rw (add-one, drop-cons ps i d) (encodes-append (chars (get_or ps i d).now) (flat_map (λ p. chars p.now) (drop (suc i) ps)))
+pub utf8-nil : utf8 [] ≡ []
+unfolding utf8
+utf8-nil = refl
 
-pub characters_next : (cs bs : List ℕ) (i c : ℕ) → i < length cs → c ≡ get_or cs i c → bs ≡ encode_utf8 c → encode_utf8_all (drop i cs) ≡ bs ++ encode_utf8_all (drop (i + 1) cs)
-characters_next cs bs i c h e k = rw (add-one, drop-cons cs i c, ← e, k) refl
+pub utf8-append : (first second : List ℕ) → utf8 (first ++ second) ≡ utf8 first ++ utf8 second
+unfolding utf8
+utf8-append first second = encodes-append first second
+
+pub utf8-chars : (bytes : List ℕ) → IsUtf8 bytes → utf8 (chars bytes) ≡ bytes
+unfolding utf8
+utf8-chars bytes text = encodes-chars bytes text
+
+pub utf8-cons : (c : ℕ) (cs : List ℕ) → utf8 (c ∷ cs) ≡ encode_utf8 c ++ utf8 cs
+unfolding utf8
+utf8-cons c cs = refl
+
+-- the pieces from an index on
+pub pieces_next : (ps : List (Bor (List ℕ))) (i : ℕ) (d : Bor (List ℕ)) → i < length ps →
+    utf8 (flat_map (λ p. chars p.now) (drop i ps)) ≡ utf8 (chars (get_or ps i d).now) ++ utf8 (flat_map (λ p. chars p.now) (drop (i + 1) ps))
+pieces_next ps i d h = rw (add-one, drop-cons ps i d) (utf8-append (chars (get_or ps i d).now) (flat_map (λ p. chars p.now) (drop (suc i) ps)))
+
+pub pieces_none : (ps : List (Bor (List ℕ))) (i : ℕ) → length ps ≤ i → utf8 (flat_map (λ p. chars p.now) (drop i ps)) ≡ []
+pieces_none ps i h = rw (drop_all i ps) utf8-nil
+
+-- the characters from an index on, of which the first has these bytes
+pub characters_next : (cs bytes : List ℕ) (i c : ℕ) → i < length cs → c ≡ get_or cs i c → bytes ≡ encode_utf8 c → utf8 (drop i cs) ≡ bytes ++ utf8 (drop (i + 1) cs)
+characters_next cs bytes i c h e k = rw (add-one, drop-cons cs i c, ← e, k) (utf8-cons c (drop (suc i) cs))
+
+-- the same text, spelled in another way
+pub same_text : {K T E : Type 0} {taken : K → Option (List ℕ)} {fixed : K → List ℕ} {faults : K → ℕ} {old new : K} {result : Result T E} {text wanted : List ℕ} →
+    wanted ≡ text → Written taken fixed faults old new result (utf8 text) → Written taken fixed faults old new result (utf8 wanted)
+same_text e written = rw e written
+
+is_plain : (b : ℕ) → b < 128 → nat_lt b 128 ≡ true
+is_plain b h = grind (arith, nat_tests)
+
+-- an ASCII character is its own byte
+pub chars-plain : (b : ℕ) (bs : List ℕ) → b < 128 → chars (b ∷ bs) ≡ b ∷ chars bs
+unfolding chars
+chars-plain b [] h = rw (is_plain b h) refl
+chars-plain b (c ∷ bs) h = rw (is_plain b h) refl
+
+-- for a text that was written in pieces
+pub ruleset in_pieces = (same_text, append-nil, append_assoc, chars-plain, chars-nil)

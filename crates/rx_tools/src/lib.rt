@@ -1,4 +1,6 @@
 //! The tools on patterns: the canonical text.
 #![tactic(auto)]
 
+mod character;
+mod quantifier;
 mod write;
