@@ -21,12 +21,12 @@ form_text Escaped c = 92 ∷ c ∷ []
 form_text Digit c = 92 ∷ 120 ∷ 51 ∷ c ∷ []
 form_text Raw c = c ∷ []
 
--- what stands for itself in a text is a character
-abbrev pub IsSpelled : CharacterForm → ℕ → Type 0
-IsSpelled Control c = Unit {0}
-IsSpelled TwoDigits c = Unit {0}
-IsSpelled FourDigits c = Unit {0}
-IsSpelled Braced c = Unit {0}
-IsSpelled Escaped c = IsScalar c
-IsSpelled Digit c = IsScalar c
-IsSpelled Raw c = IsScalar c
+-- a form that holds the value itself holds a character
+abbrev pub IsWritable : CharacterForm → ℕ → Type 0
+IsWritable Control c = Unit {0}
+IsWritable TwoDigits c = Unit {0}
+IsWritable FourDigits c = Unit {0}
+IsWritable Braced c = Unit {0}
+IsWritable Escaped c = IsScalar c
+IsWritable Digit c = IsScalar c
+IsWritable Raw c = IsScalar c
