@@ -1,9 +1,11 @@
 -- How writes compose: nothing, one after the other, and a fault in the first or in the second.
 use Rattle.std.proofs.Common.{◌≡◌, ap, sym, ◌∙◌, ℕ, ◌<◌, ◌≤◌, arith, List, [], ◌++◌, append_assoc, append-nil, length, length-append, Option, Result, Ok, Err, take, drop, refl, inl, inr}
+use Rattle.std.proofs.lemmas.Bool.{false≢true}
 use Rattle.std.proofs.lemmas.List.{take-append-drop}
-use Rattle.std.proofs.KnownBytes.{Appends-nil, Appends-trans, Appends-kept}
-use Rattle.std.specs.Io.KnownBytes.{Appends, Keeps}
+use Rattle.std.proofs.KnownBytes.{Appends-nil, Appends-trans}
+use Rattle.std.specs.Io.KnownBytes.{Appends}
 use Rattle.rx_base.specs.Causes.{HasCause, Rose}
+use Rattle.std.specs.Result.{IsErr}
 use Rattle.rx_base.specs.Writing.{Written, AppendsFront}
 
 -- a front of the second bytes, behind the whole of the first
@@ -54,9 +56,10 @@ written_then {taken} {faults} {s} {t} {u} {result = Err e} {first} {second} a b 
 }
 
 -- a fault in the first bytes, after which the second were not tried
-pub written_stop : {K T U E F : Type 0} {taken : K → Option (List ℕ)} {fixed : K → List ℕ} {faults : K → ℕ} {s t : K} {e : E} (d : F) {first : List ℕ} (second : List ℕ) →
-    Written {T = T} taken fixed faults s t (Err e) first → Written {T = U} taken fixed faults s t (Err d) (first ++ second)
-written_stop {taken} {s} {t} d {first} second a = record {
+pub written_stop : {K T U E F : Type 0} {taken : K → Option (List ℕ)} {fixed : K → List ℕ} {faults : K → ℕ} {s t : K} {e : E} {result : Result U F} {first : List ℕ} (second : List ℕ) →
+    Written {T = T} taken fixed faults s t (Err e) first → IsErr result → Written taken fixed faults s t result (first ++ second)
+written_stop {result = Ok x} second a failed = absurd (false≢true failed)
+written_stop {taken} {s} {t} {result = Err d} {first} second a failed = record {
   whole = tt;
   part = front_before (taken s) (taken t) first second a.part;
   kept = a.kept;
@@ -86,9 +89,10 @@ left_then {taken} {faults} {s} {t} {u} {next} after left cut written = record {
 }
 
 -- a fault in the next bytes of the rest
-pub left_stop : {K T U E F : Type 0} {taken : K → Option (List ℕ)} {fixed : K → List ℕ} {faults : K → ℕ} {s t u : K} {e : E} (d : F) {whole rest next : List ℕ} (after : List ℕ) →
-    Left taken fixed faults s t whole rest → rest ≡ next ++ after → Written {T = T} taken fixed faults t u (Err e) next → Written {T = U} taken fixed faults s u (Err d) whole
-left_stop {taken} {faults} {s} {t} {u} d {next} after left cut written = record {
+pub left_stop : {K T U E F : Type 0} {taken : K → Option (List ℕ)} {fixed : K → List ℕ} {faults : K → ℕ} {s t u : K} {e : E} {result : Result U F} {whole rest next : List ℕ} (after : List ℕ) →
+    Left taken fixed faults s t whole rest → rest ≡ next ++ after → Written {T = T} taken fixed faults t u (Err e) next → IsErr result → Written taken fixed faults s u result whole
+left_stop {result = Ok x} after left cut written failed = absurd (false≢true failed)
+left_stop {taken} {faults} {s} {t} {u} {result = Err d} {next} after left cut written failed = record {
   whole = tt;
   part = rw (left.cut, cut) (front_behind (taken s) (taken t) (taken u) left.front (next ++ after) left.appended (front_before (taken t) (taken u) next after written.part));
   kept = written.kept ∙ left.kept;

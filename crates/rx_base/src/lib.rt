@@ -10,6 +10,8 @@ mod list;
 mod memory;
 mod out_of_memory;
 mod span;
+#[cfg(test)]
+mod tests;
 mod text;
 mod write;
 

@@ -61,12 +61,12 @@ impl Model for MemorySource {
     ghost Value = { MemoryInput };
 
     ghost view = { λ s. record {
-        left = drop s.at s.bytes;
-        drawn = s.at;
-        step = s.step;
-        fails = s.plan.fails;
-        calls = s.plan.calls;
-        faults = s.plan.faults
+      left = drop s.at s.bytes;
+      drawn = s.at;
+      step = s.step;
+      fails = s.plan.fails;
+      calls = s.plan.calls;
+      faults = s.plan.faults;
     } };
 
     ghost invariant = { λ s. (s.at ≤ length s.bytes) × (0 < s.step) };
@@ -131,12 +131,12 @@ impl Model for MemorySink {
     ghost Value = { MemoryOutput };
 
     ghost view = { λ s. record {
-        taken = take s.len s.room.items;
-        room = vec_len s.room;
-        step = s.step;
-        fails = s.plan.fails;
-        calls = s.plan.calls;
-        faults = s.plan.faults
+      taken = take s.len s.room.items;
+      room = vec_len s.room;
+      step = s.step;
+      fails = s.plan.fails;
+      calls = s.plan.calls;
+      faults = s.plan.faults;
     } };
 
     ghost invariant = { λ s. (s.len ≤ vec_len s.room) × (0 < s.step) × (s.plan.fails ≡ [] → 0 < s.plan.faults → s.len ≡ vec_len s.room) };

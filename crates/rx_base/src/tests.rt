@@ -1,0 +1,112 @@
+use crate::{
+    CleanSink, CleanSource, Failed, List, MemorySink, MemorySource, OutOfMemory, Sink, Source,
+    Text, write_all,
+};
+use std::alloc::Global;
+use std::test::Fail;
+
+fn list_of(alloc: Global, bytes: &[u8]) -> Result<List<u8>, OutOfMemory> {
+    let mut list = List::new(alloc);
+    list.extend_from_slice(bytes)?;
+    Ok(list)
+}
+
+fn numbers(alloc: Global, number: u64) -> Result<List<u64>, OutOfMemory> {
+    let mut list = List::new(alloc);
+    list.push(number)?;
+    Ok(list)
+}
+
+#[test]
+fn list_keeps_what_was_pushed(rt: HostRuntime) -> Result<(), Fail> {
+    let mut list = List::new(rt.alloc());
+    assert!(rt; list.is_empty());
+    list.push('a')?;
+    list.push('b')?;
+    assert_eq!(rt; list.try_push('c'), Ok(()));
+    assert_eq!(rt; list.len(), 3);
+    assert_eq!(rt; list.get(1), Some(&'b'));
+    assert_eq!(rt; list.get(3), None);
+    assert_eq!(rt; list.as_slice(), ['a', 'b', 'c'].as_slice());
+    assert_eq!(rt; list.pop(), Some('c'));
+    assert_eq!(rt; list.len(), 2);
+    let other: List<char> = List::new(list.allocator());
+    other.destroy_empty();
+    let mut bytes = list_of(rt.alloc(), b"ab")?;
+    bytes.extend_from_slice(b"cd")?;
+    assert_eq!(rt; bytes.as_slice(), b"abcd".as_slice());
+    bytes.clear();
+    assert_eq!(rt; bytes.len(), 0);
+    Ok(())
+}
+
+#[test]
+fn text_grows(rt: HostRuntime) -> Result<(), Fail> {
+    let mut text = Text::from_str(rt.alloc(), "a")?;
+    text.push('\u{1f600}')?;
+    text.push_str("bc")?;
+    assert_eq!(rt; text.as_str(), "a\u{1f600}bc");
+    assert_eq!(rt; text.clone(rt.alloc())?.as_str(), "a\u{1f600}bc");
+    Ok(())
+}
+
+#[test]
+fn memory_source_moves_steps(rt: HostRuntime) -> Result<(), Fail> {
+    let bytes = list_of(rt.alloc(), b"abcdefg")?;
+    let mut source = MemorySource::new(bytes, numbers(rt.alloc(), 2)?, 3);
+    let mut buffer = [0u8; 5];
+    for (want, front) in [
+        (Ok(3), "abc"),
+        (Err(Failed), ""),
+        (Ok(3), "def"),
+        (Ok(1), "g"),
+        (Ok(0), ""),
+    ] {
+        let got = source.read(&mut buffer);
+        assert_eq!(rt; got, want, "before {front}");
+        assert!(rt;
+            buffer.as_slice().starts_with(front.as_bytes()),
+            "at {front}"
+        );
+    }
+    Ok(())
+}
+
+#[test]
+fn memory_sink_fills_its_room(rt: HostRuntime) -> Result<(), Fail> {
+    let mut sink = MemorySink::new(rt.alloc(), 4, numbers(rt.alloc(), 1)?, 3)?;
+    for (piece, want, taken) in [
+        ("hello", Err(Failed), ""),
+        ("hello", Ok(3), "hel"),
+        ("lo", Ok(1), "hell"),
+        ("o", Err(Failed), "hell"),
+        ("", Ok(0), "hell"),
+    ] {
+        let got = sink.write(piece.as_bytes());
+        assert_eq!(rt; got, want, "at {piece}");
+        assert_eq!(rt; sink.bytes(), taken.as_bytes(), "after {piece}");
+    }
+    Ok(())
+}
+
+#[test]
+fn pieces_are_written_whole(rt: HostRuntime) -> Result<(), Fail> {
+    let none = List::new(rt.alloc());
+    let mut sink = MemorySink::new(rt.alloc(), 7, none, 2)?;
+    assert_eq!(rt; write_all(&mut sink, b"hello"), Ok(()));
+    assert_eq!(rt; write_all(&mut sink, b"you"), Err(Failed));
+    assert_eq!(rt; sink.bytes(), b"helloyo".as_slice());
+    assert_eq!(rt; write_all(&mut CleanSink::new(), b"hello"), Ok(()));
+    Ok(())
+}
+
+#[test]
+fn clean_source_gives_all(rt: HostRuntime) -> Result<(), Fail> {
+    let mut source = CleanSource::new(b"abc");
+    let mut buffer = [0u8; 2];
+    assert_eq!(rt; source.read(&mut buffer), Ok(2));
+    assert_eq!(rt; buffer.as_slice(), b"ab".as_slice());
+    assert_eq!(rt; source.read(&mut buffer), Ok(1));
+    assert_eq!(rt; source.read(&mut buffer), Ok(0));
+    Ok(())
+}
