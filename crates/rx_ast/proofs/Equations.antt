@@ -121,3 +121,6 @@ tree_of_capturing g = capturing_term_is g ∙ capturing_is g.value
 
 pub tree_of_ignore : (g : Box IgnoreGroup Global) → let h = out-IgnoreGroup g.value in let c = mirror_disjunction h.body in mirror_term (term.IgnoreGroup g) ≡ tree.group h.span (tree.ignoring h.modifiers) c.0 c.1
 tree_of_ignore g = ignore_term_is g ∙ ignore_is g.value
+
+pub tree_of_look : (g : Box LookAroundAssertion Global) → let h = out-LookAroundAssertion g.value in let c = mirror_disjunction h.body in mirror_term (term.LookAroundAssertion g) ≡ tree.group h.span (tree.looking h.kind) c.0 c.1
+tree_of_look g = look_term_is g ∙ look_is g.value

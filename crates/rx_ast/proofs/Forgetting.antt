@@ -1,11 +1,9 @@
 -- Forgetting twice is forgetting once.
-use Rattle.std.proofs.Common.{◌≡◌, refl, ap, sym, ◌∙◌, ℕ, ◌%◌, Option, Some, None, List, [], ◌∷◌, map}
+use Rattle.std.proofs.Common.{◌≡◌, refl, ap, sym, ◌∙◌, ℕ, ◌%◌, Some, None, List, [], ◌∷◌, map}
 use Rattle.std.proofs.Math.Nat.{mod-mod}
-use Rattle.std.specs.Option.{option_map}
 use Rattle.rx_ast.specs.declared.leaf.Character.{Character}
 use Rattle.rx_ast.specs.declared.leaf.CharacterKind.{CharacterKind}
 use Rattle.rx_ast.specs.declared.leaf.Modifiers.{Modifiers}
-use Rattle.rx_ast.specs.declared.class.CharacterClassRange.{CharacterClassRange}
 use Rattle.rx_ast.specs.declared.class.ClassString.{ClassString}
 use Rattle.rx_ast.specs.declared.class.ClassStringDisjunction.{ClassStringDisjunction}
 use Rattle.rx_ast.specs.declared.term.Pattern.{Pattern}
@@ -13,7 +11,7 @@ use Rattle.rx_ast.specs.ClassTree as in_class
 use Rattle.rx_ast.specs.ClassTree.{Member, Members, Class, no_member, member}
 use Rattle.rx_ast.specs.Tree as tree
 use Rattle.rx_ast.specs.Tree.{Leaf, Opener, Node, Nodes, Alternatives, leaf, quantified, group, no_node, node, no_alternative, alternative, mirror_disjunction}
-use Rattle.rx_ast.specs.Forget.{nowhere, three_bits, forget_character, forget_range, forget_string, forget_strings, forget_member, forget_members, forget_class, forget_leaf, forget_opener, forget_node, forget_nodes, forget_alternatives, same_kind, no_kind, unspanned, bare}
+use Rattle.rx_ast.specs.Forget.{nowhere, three_bits, forget_character, forget_string, forget_strings, forget_member, forget_members, forget_class, forget_leaf, forget_opener, forget_node, forget_nodes, forget_alternatives, same_kind, no_kind, unspanned, bare}
 
 pub three_bits_twice : (m : Modifiers) → three_bits (three_bits m) ≡ three_bits m
 three_bits_twice m =

@@ -1,3 +1,5 @@
 pub mod ClassTree
 pub mod Forget
+pub mod Size
+pub mod Spans
 pub mod Tree

@@ -1,5 +1,5 @@
 use Rattle.std.proofs.Common.{◌≡◌, take}
 use Rattle.rx_ast.proofs.class.ClassString.clone.Given as goal
 
-abbrev pub invariant-loop-item : goal.invariant-loop-item
-invariant-loop-item l = l.body ≡ take l.item-index l.items
+abbrev pub invariant-loop-character : goal.invariant-loop-character
+invariant-loop-character l = l.body ≡ take l.character-index l.characters

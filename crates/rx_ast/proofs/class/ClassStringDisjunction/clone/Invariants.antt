@@ -1,5 +1,5 @@
 use Rattle.std.proofs.Common.{◌≡◌, take}
 use Rattle.rx_ast.proofs.class.ClassStringDisjunction.clone.Given as goal
 
-abbrev pub invariant-loop-item : goal.invariant-loop-item
-invariant-loop-item l = l.body ≡ take l.item-index l.items
+abbrev pub invariant-loop-string : goal.invariant-loop-string
+invariant-loop-string l = l.body ≡ take l.string-index l.strings

@@ -1,0 +1,64 @@
+-- Sizes, node by node.
+use Rattle.std.proofs.Common.{◌≡◌, refl, ap, ◌+◌, ◌<◌, List, [], ◌∷◌, ◌++◌, arith}
+use Rattle.std.specs.declared.alloc.Global.{Global}
+use Rattle.std.specs.declared.boxed.Box.{Box}
+use Rattle.rx_ast.specs.declared.term.Alternative.{Alternative}
+use Rattle.rx_ast.specs.declared.term.CapturingGroup.{CapturingGroup, out-CapturingGroup}
+use Rattle.rx_ast.specs.declared.term.Disjunction.{Disjunction, out-Disjunction}
+use Rattle.rx_ast.specs.declared.term.IgnoreGroup.{IgnoreGroup, out-IgnoreGroup}
+use Rattle.rx_ast.specs.declared.term.LookAroundAssertion.{LookAroundAssertion, out-LookAroundAssertion}
+use Rattle.rx_ast.specs.declared.term.Quantifier.{Quantifier}
+use Rattle.rx_ast.specs.declared.term.Term.{Term}
+use Rattle.rx_ast.specs.declared.term.Term.TheVariants as term
+use Rattle.rx_ast.specs.Size.{node_size, alternatives_size, term_size, terms_size, disjunction_size, all_alternatives_size}
+use Rattle.rx_ast.specs.Tree.{Node, leaf, quantified, group, alternatives, mirror_term}
+use Rattle.rx_ast.proofs.Equations.{tree_of_quantifier, tree_of_capturing, tree_of_ignore, tree_of_look, disjunction_is, alternative_is}
+
+pub size_of_quantifier : (q : Box Quantifier Global) → term_size (term.Quantifier q) ≡ 1 + term_size q.value.body
+unfolding term_size
+size_of_quantifier q = ap node_size (tree_of_quantifier q)
+
+pub size_of_capturing : (g : Box CapturingGroup Global) → term_size (term.CapturingGroup g) ≡ 1 + disjunction_size (out-CapturingGroup g.value).body
+unfolding term_size disjunction_size
+size_of_capturing g = ap node_size (tree_of_capturing g)
+
+pub size_of_ignore : (g : Box IgnoreGroup Global) → term_size (term.IgnoreGroup g) ≡ 1 + disjunction_size (out-IgnoreGroup g.value).body
+unfolding term_size disjunction_size
+size_of_ignore g = ap node_size (tree_of_ignore g)
+
+pub size_of_look : (g : Box LookAroundAssertion Global) → term_size (term.LookAroundAssertion g) ≡ 1 + disjunction_size (out-LookAroundAssertion g.value).body
+unfolding term_size disjunction_size
+size_of_look g = ap node_size (tree_of_look g)
+
+pub size_of_disjunction : (d : Disjunction) → disjunction_size d ≡ all_alternatives_size (out-Disjunction d).body
+unfolding disjunction_size all_alternatives_size
+size_of_disjunction d = ap (λ m. alternatives_size m.1) (disjunction_is d)
+
+pub no_terms : terms_size [] ≡ 0
+unfolding terms_size
+no_terms = refl
+
+pub no_alternatives : all_alternatives_size [] ≡ 0
+unfolding all_alternatives_size
+no_alternatives = refl
+
+pub terms_last : (ts : List Term) (t : Term) → terms_size (ts ++ (t ∷ [])) ≡ terms_size ts + term_size t
+unfolding terms_size term_size
+terms_last [] t = omega arith
+terms_last (s ∷ ts) t = let h = terms_last ts t in omega arith
+
+pub alternatives_last : (as' : List Alternative) (a : Alternative) → all_alternatives_size (as' ++ (a ∷ [])) ≡ all_alternatives_size as' + (1 + terms_size a.body)
+unfolding terms_size all_alternatives_size
+alternatives_last [] a = let e = ap (λ m. alternatives_size (alternatives (m ∷ []))) (alternative_is a) in omega arith
+alternatives_last (b ∷ as') a = let h = alternatives_last as' a in omega arith
+
+node_positive : (n : Node) → 0 < node_size n
+node_positive (leaf l) = omega arith
+node_positive (quantified s min max greedy n) = omega arith
+node_positive (group s o d more) = omega arith
+
+pub term_positive : (t : Term) → 0 < term_size t
+unfolding term_size
+term_positive t = node_positive (mirror_term t)
+
+pub ruleset sizes = (term_positive, size_of_quantifier, size_of_capturing, size_of_ignore, size_of_look, size_of_disjunction, no_terms, no_alternatives, terms_last, alternatives_last)
