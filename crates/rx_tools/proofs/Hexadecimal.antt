@@ -3,21 +3,18 @@ use Rattle.std.proofs.Common.{◌≡◌, refl, ap, sym, ◌∙◌, ℕ, zero, su
 use Rattle.std.proofs.lemmas.Bool.Decides.{nat_tests}
 use Rattle.rx_model.specs.CharacterText.{hex, hex_digit}
 use Rattle.rx_tools.specs.Utf8.{utf8}
-use Rattle.rx_tools.proofs.Pieces.{utf8-nil, utf8-append}
+use Rattle.rx_tools.proofs.Pieces.{utf8-nil}
 
 pub hex_none : (places n : ℕ) → places ≡ 0 → utf8 (hex places n) ≡ []
 hex_none places n none = rw none utf8-nil
 
-more : (places n : ℕ) → ¬ (places ≡ 0) → 16 ≤ n → hex places n ≡ hex (places - 1) (n / 16) ++ (hex_digit (n % 16) ∷ [])
-more zero n some large = absurd (some refl)
-more (suc places) n some large =
+-- the digits before the last, and the last
+pub hex_more : (places n : ℕ) → ¬ (places ≡ 0) → 16 ≤ n → hex places n ≡ hex (places - 1) (n / 16) ++ (hex_digit (n % 16) ∷ [])
+hex_more zero n some large = absurd (some refl)
+hex_more (suc places) n some large =
     let test : nat_lt n 16 ≡ false = grind (arith, nat_tests) in
     let before : suc places - 1 ≡ places = omega arith in
     rw (test, before) refl
-
--- the digits before the last, and the last
-pub hex_more : (places n : ℕ) → ¬ (places ≡ 0) → 16 ≤ n → utf8 (hex places n) ≡ utf8 (hex (places - 1) (n / 16)) ++ utf8 (hex_digit (n % 16) ∷ [])
-hex_more places n some large = ap utf8 (more places n some large) ∙ utf8-append (hex (places - 1) (n / 16)) (hex_digit (n % 16) ∷ [])
 
 pub hex_one : (places n : ℕ) → ¬ (places ≡ 0) → n < 16 → hex places n ≡ hex_digit (n % 16) ∷ []
 hex_one zero n some small = absurd (some refl)

@@ -1,5 +1,5 @@
 -- The bytes of pieces and of characters.
-use Rattle.std.proofs.Common.{◌≡◌, refl, ap, sym, ◌∙◌, ℕ, suc, ◌+◌, ◌<◌, ◌≤◌, List, [], ◌∷◌, ◌++◌, Bor, Option, Result, length, drop, get_or, arith, nat_lt, true, add-one, append-nil, append_assoc}
+use Rattle.std.proofs.Common.{◌≡◌, refl, ap, sym, ◌∙◌, ℕ, suc, ◌+◌, ◌<◌, ◌≤◌, List, [], ◌∷◌, ◌++◌, Bor, Option, Result, Ok, Err, length, drop, get_or, arith, nat_lt, true, add-one, append-nil, append_assoc}
 use Rattle.std.proofs.Math.Seq.{drop-cons}
 use Rattle.std.proofs.lemmas.Bool.Decides.{nat_tests}
 use Rattle.std.proofs.lemmas.List.{drop_all}
@@ -7,7 +7,9 @@ use Rattle.std.proofs.lemmas.Str.{encodes-append, encodes-chars, chars-nil}
 use Rattle.std.specs.Char.{encode_utf8}
 use Rattle.std.specs.List.{flat_map}
 use Rattle.std.specs.Str.{chars, IsUtf8}
+use Rattle.std.specs.Result.{IsErr, IsErrAnd}
 use Rattle.rx_base.specs.Writing.{Written}
+use Rattle.rx_base.proofs.Writings.{written_then, written_stop}
 use Rattle.rx_tools.specs.Utf8.{utf8}
 
 pub utf8-nil : utf8 [] ≡ []
@@ -38,6 +40,10 @@ pieces_none ps i h = rw (drop_all i ps) utf8-nil
 pub characters_next : (cs bytes : List ℕ) (i c : ℕ) → i < length cs → c ≡ get_or cs i c → bytes ≡ encode_utf8 c → utf8 (drop i cs) ≡ bytes ++ utf8 (drop (i + 1) cs)
 characters_next cs bytes i c h e k = rw (add-one, drop-cons cs i c, ← e, k) (utf8-cons c (drop (suc i) cs))
 
+pub failed_from : {T E : Type 0} (result : Result T E) (P : E → Type 0) → IsErrAnd result P → IsErr result
+failed_from (Ok x) P cause = absurd cause
+failed_from (Err e) P cause = refl
+
 -- the same text, spelled in another way
 pub same_text : {K T E : Type 0} {taken : K → Option (List ℕ)} {fixed : K → List ℕ} {faults : K → ℕ} {old new : K} {result : Result T E} {text wanted : List ℕ} →
     wanted ≡ text → Written taken fixed faults old new result (utf8 text) → Written taken fixed faults old new result (utf8 wanted)
@@ -51,6 +57,16 @@ pub chars-plain : (b : ℕ) (bs : List ℕ) → b < 128 → chars (b ∷ bs) ≡
 unfolding chars
 chars-plain b [] h = rw (is_plain b h) refl
 chars-plain b (c ∷ bs) h = rw (is_plain b h) refl
+
+-- the whole of one text, and then another
+pub text_then : {K T U E F : Type 0} {taken : K → Option (List ℕ)} {fixed : K → List ℕ} {faults : K → ℕ} {old between new : K} {x : T} {result : Result U F} (first second : List ℕ) →
+    Written {E = E} taken fixed faults old between (Ok x) (utf8 first) → Written taken fixed faults between new result (utf8 second) → Written taken fixed faults old new result (utf8 (first ++ second))
+text_then first second a b = rw (utf8-append first second) (written_then a b)
+
+-- a fault in the first text, after which the second was not tried
+pub text_stop : {K T U E F : Type 0} {taken : K → Option (List ℕ)} {fixed : K → List ℕ} {faults : K → ℕ} {old new : K} {e : E} {result : Result U F} (first second : List ℕ) →
+    Written {T = T} taken fixed faults old new (Err e) (utf8 first) → IsErr result → Written taken fixed faults old new result (utf8 (first ++ second))
+text_stop first second a failed = rw (utf8-append first second) (written_stop (utf8 second) a failed)
 
 -- for a text that was written in pieces
 pub ruleset in_pieces = (same_text, append-nil, append_assoc, chars-plain, chars-nil)

@@ -220,11 +220,7 @@ fn character(c: u32) -> char
 }
 
 /// Writes what an escape begins with, and the characters behind it.
-fn write_escape<K: Sink>(
-    sink: &mut K,
-    opener: &str,
-    characters: &[char],
-) -> Result<(), Failed>
+fn write_escape<K: Sink>(sink: &mut K, opener: &str, characters: &[char]) -> Result<(), Failed>
     ensures { Written K.taken K.fixed K.faults sink.old sink.new result (utf8 (chars opener.now ++ characters.now)) }
 {
     write_str(sink, opener)?;
@@ -232,14 +228,7 @@ fn write_escape<K: Sink>(
 }
 
 /// Writes a character as the first row that fits spells it.
-#[tactic(
-    auto,
-    using(crate::proofs::Pieces::in_pieces),
-    unfolding(
-        rx_model::specs::CharacterText::two_digits,
-        rx_model::specs::CharacterText::four_digits
-    )
-)]
+#[tactic(auto, using(crate::proofs::Pieces::in_pieces), unfolding(rx_model::specs::CharacterText::two_digits, rx_model::specs::CharacterText::four_digits))]
 pub fn write_character<K: Sink>(
     sink: &mut K,
     mode: Mode,

@@ -2,5 +2,6 @@
 #![tactic(auto)]
 
 mod character;
+mod property;
 mod quantifier;
 mod write;
