@@ -35,8 +35,8 @@ same_chars text bytes plain spelled is_text own_bytes own_chars = elim (either (
   | inl h ↦ let same : text ≡ plain = sym spelled ∙ ap chars (same_true bytes plain h) ∙ own_chars in h ∙ sym (ap (λ us. are_same us plain) same ∙ same_self plain)
   | inr h ↦ elim (either (are_same text plain)) [
     | inl k ↦
-      let same : bytes ≡ plain = sym (encodes-chars bytes is_text) ∙ ap encode_utf8_all (spelled ∙ same_true text plain k) ∙ own_bytes in
-      absurd (false≢true (sym h ∙ ap (λ us. are_same us plain) same ∙ same_self plain))
+        let same : bytes ≡ plain = sym (encodes-chars bytes is_text) ∙ ap encode_utf8_all (spelled ∙ same_true text plain k) ∙ own_bytes in
+        absurd (false≢true (sym h ∙ ap (λ us. are_same us plain) same ∙ same_self plain))
     | inr k ↦ h ∙ sym k
   ]
 ]

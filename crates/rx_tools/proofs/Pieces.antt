@@ -58,6 +58,9 @@ unfolding chars
 chars-plain b [] h = rw (is_plain b h) refl
 chars-plain b (c ∷ bs) h = rw (is_plain b h) refl
 
+pub text_next : (rest next after : List ℕ) → rest ≡ next ++ after → utf8 rest ≡ utf8 next ++ utf8 after
+text_next rest next after cut = ap utf8 cut ∙ utf8-append next after
+
 -- the whole of one text, and then another
 pub text_then : {K T U E F : Type 0} {taken : K → Option (List ℕ)} {fixed : K → List ℕ} {faults : K → ℕ} {old between new : K} {x : T} {result : Result U F} (first second : List ℕ) →
     Written {E = E} taken fixed faults old between (Ok x) (utf8 first) → Written taken fixed faults between new result (utf8 second) → Written taken fixed faults old new result (utf8 (first ++ second))

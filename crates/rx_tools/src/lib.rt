@@ -2,6 +2,7 @@
 #![tactic(auto)]
 
 mod character;
+mod class;
 mod property;
 mod quantifier;
 mod write;
