@@ -98,13 +98,7 @@ fn write_string_disjunction<K: Sink>(
 }
 
 /// Writes one of a class's contents, of a class in it what it begins with.
-#[tactic(
-    auto,
-    using(
-        crate::proofs::Pieces::in_pieces,
-        rx_ast::proofs::ClassEquations::class_mirrors
-    )
-)]
+#[tactic(auto, using(crate::proofs::Pieces::in_pieces, rx_ast::proofs::ClassEquations::class_mirrors))]
 pub fn write_contents_front<K: Sink>(
     sink: &mut K,
     mode: Mode,

@@ -5,4 +5,5 @@ mod character;
 mod class;
 mod property;
 mod quantifier;
+mod term;
 mod write;
