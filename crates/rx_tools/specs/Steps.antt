@@ -1,4 +1,4 @@
--- A tree in the pieces in which a loop writes it: what a node begins with, and the pieces that follow.
+-- A tree in the pieces in which a loop writes it: what it begins with, its front, and the pieces that follow, its rest.
 use Rattle.std.specs.Prelude.{ℕ, Bool, true, false, List, [], ◌∷◌, ◌++◌, codes}
 use Rattle.rx_ast.specs.ClassTree as in_class
 use Rattle.rx_ast.specs.ClassTree.{Member, Members, Class, no_member, member}
@@ -8,11 +8,15 @@ use Rattle.rx_model.specs.declared.mode.Mode.{Mode}
 use Rattle.rx_model.specs.ClassText.{class_opener, operator_text, member_text}
 use Rattle.rx_model.specs.Spelling.{leaf_text, opener_text, quantifier_text, refers}
 
--- what a class begins with
+-- one behind the other
+abbrev pub joined : List (List ℕ) → List ℕ
+joined [] = []
+joined (piece ∷ pieces) = piece ++ joined pieces
+
 abbrev pub class_front : Class → List ℕ
 class_front (in_class.class s negative may kind ms) = class_opener negative
 
--- what one of a class's contents begins with: all of it, unless it is a class
+-- all of it, unless it is a class
 abbrev pub member_front : Mode → Member → List ℕ
 member_front mode (in_class.range r) = member_text mode (in_class.range r)
 member_front mode (in_class.escape e) = member_text mode (in_class.escape e)
@@ -21,8 +25,12 @@ member_front mode (in_class.character c) = member_text mode (in_class.character 
 member_front mode (in_class.nested c) = class_front c
 member_front mode (in_class.strings d) = member_text mode (in_class.strings d)
 
+-- the operator, if there is something behind it
+abbrev pub operator_front : List ℕ → Members → List ℕ
+operator_front operator no_member = []
+operator_front operator (member m ms) = operator
+
 abbrev mutual
-  -- the pieces behind the front
   pub member_rest : Mode → Member → List (List ℕ)
   member_rest mode (in_class.range r) = []
   member_rest mode (in_class.escape e) = []
@@ -32,18 +40,14 @@ abbrev mutual
   member_rest mode (in_class.strings d) = []
 
   pub class_rest : Mode → Class → List (List ℕ)
-  class_rest mode (in_class.class s negative may kind ms) = members_pieces mode (operator_text kind) ms ++ (codes "]" ∷ [])
+  class_rest mode (in_class.class s negative may kind ms) = members_rest mode (operator_text kind) ms ++ (codes "]" ∷ [])
 
-  pub members_pieces : Mode → List ℕ → Members → List (List ℕ)
-  members_pieces mode operator no_member = []
-  members_pieces mode operator (member m ms) = (member_front mode m ∷ member_rest mode m) ++ more_members_pieces mode operator ms
+  -- behind the operator
+  pub members_rest : Mode → List ℕ → Members → List (List ℕ)
+  members_rest mode operator no_member = []
+  members_rest mode operator (member m ms) = (member_front mode m ∷ member_rest mode m) ++ (operator_front operator ms ∷ members_rest mode operator ms)
 
-  -- each after the operator
-  pub more_members_pieces : Mode → List ℕ → Members → List (List ℕ)
-  more_members_pieces mode operator no_member = [] ∷ []
-  more_members_pieces mode operator (member m ms) = operator ∷ ((member_front mode m ∷ member_rest mode m) ++ more_members_pieces mode operator ms)
-
--- what a node begins with: all of it, unless others are in it
+-- all of it, unless it is a class
 abbrev pub leaf_front : Mode → Bool → Leaf → List ℕ
 leaf_front mode after_reference (tree.boundary b) = leaf_text mode after_reference (tree.boundary b)
 leaf_front mode after_reference (tree.character c) = leaf_text mode after_reference (tree.character c)
@@ -69,22 +73,23 @@ node_front mode after_reference (leaf l) = leaf_front mode after_reference l
 node_front mode after_reference (quantified s min max greedy n) = []
 node_front mode after_reference (group s o d more) = opener_text o
 
+-- the bar, if there is something behind it
+abbrev pub bar_front : Alternatives → List ℕ
+bar_front no_alternative = []
+bar_front (alternative s ns more) = codes "|"
+
+-- Nodes have an empty front.
 abbrev mutual
-  -- the pieces behind the front
   pub node_rest : Mode → Bool → Node → List (List ℕ)
   node_rest mode after_reference (leaf l) = leaf_rest mode l
   node_rest mode after_reference (quantified s min max greedy n) = (node_front mode after_reference n ∷ node_rest mode after_reference n) ++ (quantifier_text min max greedy ∷ [])
-  node_rest mode after_reference (group s o d more) = alternatives_pieces mode more ++ (codes ")" ∷ [])
+  node_rest mode after_reference (group s o d more) = alternatives_rest mode more ++ (codes ")" ∷ [])
 
-  pub nodes_pieces : Mode → Bool → Nodes → List (List ℕ)
-  nodes_pieces mode after_reference no_node = [] ∷ []
-  nodes_pieces mode after_reference (node n ns) = [] ∷ ((node_front mode after_reference n ∷ node_rest mode after_reference n) ++ nodes_pieces mode (refers n) ns)
+  pub nodes_rest : Mode → Bool → Nodes → List (List ℕ)
+  nodes_rest mode after_reference no_node = []
+  nodes_rest mode after_reference (node n ns) = (node_front mode after_reference n ∷ node_rest mode after_reference n) ++ ([] ∷ nodes_rest mode (refers n) ns)
 
-  pub alternatives_pieces : Mode → Alternatives → List (List ℕ)
-  alternatives_pieces mode no_alternative = []
-  alternatives_pieces mode (alternative s ns more) = nodes_pieces mode false ns ++ barred_pieces mode more
-
-  -- each after a bar
-  pub barred_pieces : Mode → Alternatives → List (List ℕ)
-  barred_pieces mode no_alternative = [] ∷ []
-  barred_pieces mode (alternative s ns more) = codes "|" ∷ (nodes_pieces mode false ns ++ barred_pieces mode more)
+  -- behind the bar
+  pub alternatives_rest : Mode → Alternatives → List (List ℕ)
+  alternatives_rest mode no_alternative = []
+  alternatives_rest mode (alternative s ns more) = ([] ∷ nodes_rest mode false ns) ++ (bar_front more ∷ alternatives_rest mode more)

@@ -5,5 +5,6 @@ mod character;
 mod class;
 mod property;
 mod quantifier;
+mod task;
 mod term;
 mod write;
