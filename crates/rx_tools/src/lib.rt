@@ -5,6 +5,7 @@ mod character;
 mod class;
 mod property;
 mod quantifier;
+mod stack;
 mod task;
 mod term;
 mod write;
