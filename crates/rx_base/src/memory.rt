@@ -73,7 +73,8 @@ impl Model for MemorySource {
 }
 
 impl MemorySource {
-    /// `fails` holds the numbers of the calls that are to fail, and `step` is the most bytes that one call gives.
+    /// `fails` holds the numbers of the calls that are to fail, from 1 on, and `step`, at least 1, is the most bytes that one call
+    /// gives.
     pub fn new(bytes: List<u8>, fails: List<u64>, step: usize) -> MemorySource
         requires { 0 < step }
         ensures { result ≡ record { left = bytes; drawn = 0; step = step; fails = fails; calls = 0; faults = 0 } }
@@ -143,8 +144,8 @@ impl Model for MemorySink {
 }
 
 impl MemorySink {
-    /// Takes the memory for `room` bytes: no write takes any. `fails` holds the numbers of the calls that are to fail, and `step` is
-    /// the most bytes that one call takes.
+    /// Takes the memory for `room` bytes: no write takes any. `fails` holds the numbers of the calls that are to fail, from 1 on, and
+    /// `step`, at least 1, is the most bytes that one call takes.
     pub fn new(
         alloc: Global,
         room: usize,
