@@ -1,1 +1,7 @@
+pub mod Builds
+pub mod Flat
+pub mod Fronts
+pub mod Joins
+pub mod OneRow
+pub mod Runs
 pub mod Spellings

@@ -7,8 +7,8 @@ use Rattle.rx_ast.specs.declared.term.Disjunction.{Disjunction}
 use Rattle.rx_ast.specs.declared.term.Pattern.{Pattern}
 use Rattle.rx_ast.specs.declared.term.Term.{Term}
 use Rattle.rx_ast.specs.ClassTree.{Class}
-use Rattle.rx_ast.specs.ClassTree as class_tree
 use Rattle.rx_ast.specs.Forget.{forget_class, same_kind}
+use Rattle.rx_ast.specs.Spans.{leaf_span}
 use Rattle.rx_ast.specs.Tree as tree
 use Rattle.rx_ast.specs.Tree.{Leaf, Node, Nodes, Alternatives, leaf, quantified, group, no_node, node, no_alternative, alternative, mirror_term, mirror_alternative, mirror_disjunction}
 use Rattle.rx_model.specs.Token.{Token, opener, closer, bar, quantifier, ignoring, opener_of, leaf_token, letter_bits}
@@ -32,19 +32,6 @@ tokens_of ((leave n) ∷ es) = tokens_of es
 tokens_of ((token t) ∷ es) = t ∷ tokens_of es
 tokens_of ((inside c) ∷ es) = kind.class (forget_class same_kind c) ∷ tokens_of es
 tokens_of ((modified m) ∷ es) = opener (ignoring (Some (letter_bits m))) ∷ tokens_of es
-
-abbrev pub class_span : Class → Span
-class_span (class_tree.class s negative strings kind ms) = s
-
-abbrev pub leaf_span : Leaf → Span
-leaf_span (tree.boundary b) = b.span
-leaf_span (tree.character c) = c.span
-leaf_span (tree.dot d) = d.span
-leaf_span (tree.class_escape e) = e.span
-leaf_span (tree.property p) = p.span
-leaf_span (tree.class c) = class_span c
-leaf_span (tree.indexed r) = r.span
-leaf_span (tree.named r) = r.span
 
 -- a node with this span, and what is in it
 abbrev pub within : Span → Events → Events

@@ -1,5 +1,5 @@
 -- The groups of a tree and their names.
-use Rattle.std.specs.Prelude.{ℕ, ◌+◌, Option, Some, None, List, [], ◌∷◌, ◌++◌, Contains, Bool, true, false, if◌then◌else◌, eqb}
+use Rattle.std.specs.Prelude.{ℕ, ◌+◌, Some, None, List, [], ◌∷◌, ◌++◌, Contains, Bool, if◌then◌else◌, eqb}
 use Rattle.std.specs.List.{list_any}
 use lib.Pointwise.{pointwise}
 use Rattle.rx_ast.specs.declared.term.Pattern.{Pattern}

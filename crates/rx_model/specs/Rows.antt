@@ -1,5 +1,5 @@
 -- What each token spells, and rows of tokens. A relation `.. w rest` says that the units w spell a thing before all that follows them, rest.
-use Rattle.std.specs.Prelude.{◌≡◌, ℕ, ◌+◌, Bool, true, false, not, ◌==◌, ◌||◌, List, [], ◌∷◌, ◌++◌, length, IsTrue}
+use Rattle.std.specs.Prelude.{◌≡◌, ℕ, ◌+◌, Bool, true, false, not, ◌==◌, ◌||◌, List, [], ◌∷◌, ◌++◌, length}
 use Rattle.rx_ast.specs.declared.leaf.CharacterKind.{CharacterKind}
 use Rattle.rx_ast.specs.declared.leaf.CharacterKind.TheVariants.{Symbol, UnicodeEscape, HexadecimalEscape}
 use Rattle.rx_units.specs.declared.code_point.CodePoint.{CodePoint}
@@ -9,8 +9,8 @@ use Rattle.rx_units.specs.Units.{values}
 use Rattle.rx_model.specs.declared.mode.Mode.{Mode}
 use Rattle.rx_model.specs.declared.mode.Mode.TheVariants.{Legacy, Unicode, Sets}
 use Rattle.rx_model.specs.Environment.{Environment}
-use Rattle.rx_model.specs.Events.{Event, Events, enter, leave, token, inside, modified}
-use Rattle.rx_model.specs.Token.{Token, Opener, boundary, character, dot, class_escape, property, class, indexed, named, opener, closer, bar, quantifier}
+use Rattle.rx_model.specs.Events.{Events, enter, leave, token, inside, modified}
+use Rattle.rx_model.specs.Token.{Token, boundary, character, dot, class_escape, property, class, indexed, named, opener, closer, bar, quantifier}
 
 -- SyntaxCharacter (22.2.1): one of ^ $ \ . * + ? ( ) [ ] { } |
 abbrev pub is_syntax_character : ℕ → Bool
@@ -22,7 +22,7 @@ unit_kind escape.None = Symbol
 unit_kind escape.Unicode = UnicodeEscape
 unit_kind escape.Hexadecimal = HexadecimalEscape
 
--- whether a value may stand for itself outside classes (PatternCharacter, 22.2.1); with neither `u` nor `v` no pattern is read yet
+-- whether a value may stand for itself outside classes (PatternCharacter, 22.2.1); with neither `u` nor `v` no character is read yet
 abbrev pub stands_raw : Mode → ℕ → Bool
 stands_raw Legacy c = false
 stands_raw Unicode c = not (is_syntax_character c)

@@ -2,6 +2,7 @@
 #![tactic(auto)]
 
 mod form;
+pub mod laws;
 mod mode;
 
 pub use form::Form;

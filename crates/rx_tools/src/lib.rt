@@ -1,15 +1,23 @@
-//! The tools on patterns: the canonical text.
+//! What callers use: reading a pattern to its tree and canonical text, and the canonical text of any tree.
 #![tactic(auto)]
 
 mod character;
 mod class;
+mod flat;
+mod level;
+mod options;
+mod outcome;
 mod printing;
 mod property;
 mod quantifier;
+mod reading;
 mod stack;
 mod task;
 mod term;
 mod write;
 
+pub use options::Options;
+pub use outcome::Canonical;
 pub use printing::canonical_text;
+pub use reading::canonical;
 pub use rx_model::{Form, Mode};

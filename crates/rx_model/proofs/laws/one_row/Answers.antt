@@ -1,0 +1,5 @@
+use Rattle.rx_model.proofs.OneRow.{row_prefix}
+use Rattle.rx_model.proofs.laws.one_row.Goals as goal
+
+pub returns : goal.returns
+returns c = row_prefix

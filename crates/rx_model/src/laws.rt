@@ -1,0 +1,21 @@
+//! Laws of the definitions. The functions do nothing: each contract is a law.
+
+ghost use Rattle.std.specs.Prelude.{◌≡◌, List, [], ◌++◌};
+ghost use Rattle.rx_ast.specs.Forget.{unspanned};
+ghost use Rattle.rx_ast.specs.declared.term.Pattern.{Pattern};
+ghost use Rattle.rx_units.specs.declared.code_point.CodePoint.{CodePoint};
+ghost use Rattle.rx_model.specs.declared.mode.Mode.{Mode};
+ghost use Rattle.rx_model.specs.Environment.{Environment};
+ghost use Rattle.rx_model.specs.Reading.{Reads};
+ghost use Rattle.rx_model.specs.Rows.{TokenRow};
+ghost use Rattle.rx_model.specs.Token.{Token};
+
+/// Two patterns that one text reads as are equal but for spans.
+pub fn unique_reading()
+    ensures { (mode : Mode) (p q : Pattern) (us : List CodePoint) → Reads mode p us → Reads mode q us → unspanned p ≡ unspanned q }
+{}
+
+/// The tokens that a text begins with are the first of all its tokens, and the others follow them.
+pub fn one_row()
+    ensures { (e : Environment) (ts ss : List Token) (us rest : List CodePoint) → TokenRow e ts us rest → TokenRow e ss us [] → (more : List Token) × (ss ≡ ts ++ more) × TokenRow e more rest [] }
+{}
