@@ -4,3 +4,4 @@ pub mod Fronts
 pub mod Joins
 pub mod OneRow
 pub mod Runs
+pub mod Spellings

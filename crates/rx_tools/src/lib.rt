@@ -1,14 +1,23 @@
-//! What callers use: reading a pattern to its tree and canonical text.
+//! What callers use: reading a pattern to its tree and canonical text, and the canonical text of any tree.
 #![tactic(auto)]
 
-mod canonical_text;
+mod character;
+mod class;
 mod flat;
 mod level;
-mod reading;
 mod options;
 mod outcome;
+mod printing;
+mod property;
+mod quantifier;
+mod reading;
+mod stack;
+mod task;
+mod term;
+mod write;
 
-pub use reading::canonical;
 pub use options::Options;
 pub use outcome::Canonical;
+pub use printing::canonical_text;
+pub use reading::canonical;
 pub use rx_model::{Form, Mode};

@@ -9,7 +9,7 @@ ghost use Rattle.rx_tools.specs.Texts.{flags_chars, flags_length, stand_in_lengt
 ghost use Rattle.rx_tools.specs.NotYet.{is_not_yet, is_u, is_only_u, is_unread, holds_unread};
 ghost use Rattle.rx_model.specs.Rows.{is_syntax_character};
 
-use crate::canonical_text::spell as canonical_text;
+use crate::printing::canonical_text;
 use crate::flat::read_flat;
 use crate::{Canonical, Options};
 use rx_ast::Pattern;

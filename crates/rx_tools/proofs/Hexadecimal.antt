@@ -1,0 +1,23 @@
+-- The bytes of a number in hexadecimal.
+use Rattle.std.proofs.Common.{◌≡◌, refl, ap, sym, ◌∙◌, ℕ, zero, suc, ◌/◌, ◌%◌, ◌-◌, ◌<◌, ◌≤◌, arith, true, false, List, [], ◌∷◌, ◌++◌, nat_lt}
+use Rattle.std.proofs.lemmas.Bool.Decides.{nat_tests}
+use Rattle.rx_model.specs.CharacterText.{hex, hex_digit}
+use Rattle.rx_tools.specs.Utf8.{utf8}
+use Rattle.rx_tools.proofs.Pieces.{utf8-nil}
+
+pub hex_none : (places n : ℕ) → places ≡ 0 → utf8 (hex places n) ≡ []
+hex_none places n none = rw none utf8-nil
+
+-- the digits before the last, and the last
+pub hex_more : (places n : ℕ) → ¬ (places ≡ 0) → 16 ≤ n → hex places n ≡ hex (places - 1) (n / 16) ++ (hex_digit (n % 16) ∷ [])
+hex_more zero n some large = absurd (some refl)
+hex_more (suc places) n some large =
+    let test : nat_lt n 16 ≡ false = grind (arith, nat_tests) in
+    let before : suc places - 1 ≡ places = omega arith in
+    rw (test, before) refl
+
+pub hex_one : (places n : ℕ) → ¬ (places ≡ 0) → n < 16 → hex places n ≡ hex_digit (n % 16) ∷ []
+hex_one zero n some small = absurd (some refl)
+hex_one (suc places) n some small =
+    let test : nat_lt n 16 ≡ true = grind (arith, nat_tests) in
+    rw test refl

@@ -1,0 +1,81 @@
+-- The bytes of pieces and of characters.
+use Rattle.std.proofs.Common.{◌≡◌, refl, ap, sym, ◌∙◌, ℕ, suc, ◌+◌, ◌<◌, ◌≤◌, List, [], ◌∷◌, ◌++◌, Bor, Option, Result, Ok, Err, length, drop, get_or, arith, nat_lt, true, add-one, append-nil, append_assoc}
+use Rattle.std.proofs.Math.Seq.{drop-cons}
+use Rattle.std.proofs.lemmas.Bool.Decides.{nat_tests}
+use Rattle.std.proofs.lemmas.List.{drop_all}
+use Rattle.std.proofs.lemmas.Str.{encodes-append, encodes-chars, encodes_same, chars-encodes, chars-nil}
+use Rattle.std.specs.Char.{encode_utf8}
+use Rattle.std.specs.List.{flat_map}
+use Rattle.std.specs.Str.{chars, IsUtf8}
+use Rattle.std.specs.Result.{IsErr, IsErrAnd}
+use Rattle.rx_base.specs.Writing.{Written}
+use Rattle.rx_base.proofs.Writings.{written_then, written_stop}
+use Rattle.rx_tools.specs.Utf8.{utf8}
+
+pub utf8-nil : utf8 [] ≡ []
+unfolding utf8
+utf8-nil = refl
+
+pub utf8-append : (first second : List ℕ) → utf8 (first ++ second) ≡ utf8 first ++ utf8 second
+unfolding utf8
+utf8-append first second = encodes-append first second
+
+pub utf8-chars : (bytes : List ℕ) → IsUtf8 bytes → utf8 (chars bytes) ≡ bytes
+unfolding utf8
+utf8-chars bytes text = encodes-chars bytes text
+
+pub chars-utf8 : (bytes text : List ℕ) → IsUtf8 bytes → bytes ≡ utf8 text → chars bytes ≡ text
+unfolding utf8
+chars-utf8 bytes text spelled written =
+    let same : spelled.0 ≡ text = encodes_same spelled.0 text (spelled.1.1 ∙ written) in
+    ap chars (sym spelled.1.1) ∙ chars-encodes spelled.0 spelled.1.0 ∙ same
+
+pub utf8-cons : (c : ℕ) (cs : List ℕ) → utf8 (c ∷ cs) ≡ encode_utf8 c ++ utf8 cs
+unfolding utf8
+utf8-cons c cs = refl
+
+-- the pieces from an index on
+pub pieces_next : (ps : List (Bor (List ℕ))) (i : ℕ) (d : Bor (List ℕ)) → i < length ps →
+    utf8 (flat_map (λ p. chars p.now) (drop i ps)) ≡ utf8 (chars (get_or ps i d).now) ++ utf8 (flat_map (λ p. chars p.now) (drop (i + 1) ps))
+pieces_next ps i d h = rw (add-one, drop-cons ps i d) (utf8-append (chars (get_or ps i d).now) (flat_map (λ p. chars p.now) (drop (suc i) ps)))
+
+pub pieces_none : (ps : List (Bor (List ℕ))) (i : ℕ) → length ps ≤ i → utf8 (flat_map (λ p. chars p.now) (drop i ps)) ≡ []
+pieces_none ps i h = rw (drop_all i ps) utf8-nil
+
+-- the characters from an index on, of which the first has these bytes
+pub characters_next : (cs bytes : List ℕ) (i c : ℕ) → i < length cs → c ≡ get_or cs i c → bytes ≡ encode_utf8 c → utf8 (drop i cs) ≡ bytes ++ utf8 (drop (i + 1) cs)
+characters_next cs bytes i c h e k = rw (add-one, drop-cons cs i c, ← e, k) (utf8-cons c (drop (suc i) cs))
+
+pub failed_from : {T E : Type 0} (result : Result T E) (P : E → Type 0) → IsErrAnd result P → IsErr result
+failed_from (Ok x) P cause = absurd cause
+failed_from (Err e) P cause = refl
+
+-- the same text, spelled in another way
+pub same_text : {K T E : Type 0} {taken : K → Option (List ℕ)} {fixed : K → List ℕ} {faults : K → ℕ} {old new : K} {result : Result T E} {text wanted : List ℕ} →
+    wanted ≡ text → Written taken fixed faults old new result (utf8 text) → Written taken fixed faults old new result (utf8 wanted)
+same_text e written = rw e written
+
+is_plain : (b : ℕ) → b < 128 → nat_lt b 128 ≡ true
+is_plain b h = grind (arith, nat_tests)
+
+-- an ASCII character is its own byte
+pub chars-plain : (b : ℕ) (bs : List ℕ) → b < 128 → chars (b ∷ bs) ≡ b ∷ chars bs
+unfolding chars
+chars-plain b [] h = rw (is_plain b h) refl
+chars-plain b (c ∷ bs) h = rw (is_plain b h) refl
+
+pub text_next : (rest next after : List ℕ) → rest ≡ next ++ after → utf8 rest ≡ utf8 next ++ utf8 after
+text_next rest next after cut = ap utf8 cut ∙ utf8-append next after
+
+-- the whole of one text, and then another
+pub text_then : {K T U E F : Type 0} {taken : K → Option (List ℕ)} {fixed : K → List ℕ} {faults : K → ℕ} {old between new : K} {x : T} {result : Result U F} (first second : List ℕ) →
+    Written {E = E} taken fixed faults old between (Ok x) (utf8 first) → Written taken fixed faults between new result (utf8 second) → Written taken fixed faults old new result (utf8 (first ++ second))
+text_then first second a b = rw (utf8-append first second) (written_then a b)
+
+-- a fault in the first text, after which the second was not tried
+pub text_stop : {K T U E F : Type 0} {taken : K → Option (List ℕ)} {fixed : K → List ℕ} {faults : K → ℕ} {old new : K} {e : E} {result : Result U F} (first second : List ℕ) →
+    Written {T = T} taken fixed faults old new (Err e) (utf8 first) → IsErr result → Written taken fixed faults old new result (utf8 (first ++ second))
+text_stop first second a failed = rw (utf8-append first second) (written_stop (utf8 second) a failed)
+
+-- for a text that was written in pieces
+pub ruleset in_pieces = (same_text, append-nil, append_assoc, chars-plain, chars-nil)

@@ -1,0 +1,10 @@
+use Rattle.std.proofs.Common.{drop}
+use Rattle.std.specs.List.{flat_map}
+use Rattle.std.specs.Str.{chars}
+use Rattle.rx_tools.specs.Utf8.{utf8}
+use Rattle.rx_base.proofs.Writings.{Left}
+use Rattle.rx_tools.proofs.write.write_pieces.Given as goal
+
+abbrev pub invariant-loop-piece : goal.invariant-loop-piece
+invariant-loop-piece g l =
+    Left g.K.Sink.taken g.K.Sink.fixed g.K.Sink.faults l.fn.sink l.sink (utf8 (flat_map (λ p. chars p.now) l.pieces)) (utf8 (flat_map (λ p. chars p.now) (drop l.piece-index l.pieces)))

@@ -1,0 +1,32 @@
+-- How a character is spelled, by its form.
+use Rattle.std.specs.Prelude.{ℕ, ◌∷◌, List, []}
+use Rattle.std.specs.Char.{IsScalar}
+use Rattle.rx_model.specs.CharacterText as text
+use Rattle.rx_model.specs.CharacterText.{control_letter, two_digits, four_digits, braced}
+use Rattle.rx_tools.specs.declared.character.Place.{Place}
+use Rattle.rx_tools.specs.declared.character.Place.TheVariants.{Outside, InClass}
+use Rattle.rx_tools.specs.declared.character.CharacterForm.{CharacterForm}
+use Rattle.rx_tools.specs.declared.character.CharacterForm.TheVariants.{Control, TwoDigits, FourDigits, Braced, Escaped, Digit, Raw}
+
+abbrev pub place_of : Place → text.Place
+place_of (Outside after_reference) = text.outside after_reference
+place_of InClass = text.in_class
+
+abbrev pub form_text : CharacterForm → ℕ → List ℕ
+form_text Control c = 92 ∷ control_letter c ∷ []
+form_text TwoDigits c = two_digits c
+form_text FourDigits c = four_digits c
+form_text Braced c = braced c
+form_text Escaped c = 92 ∷ c ∷ []
+form_text Digit c = 92 ∷ 120 ∷ 51 ∷ c ∷ []
+form_text Raw c = c ∷ []
+
+-- a form that holds the value itself holds a character
+abbrev pub IsWritable : CharacterForm → ℕ → Type 0
+IsWritable Control c = Unit {0}
+IsWritable TwoDigits c = Unit {0}
+IsWritable FourDigits c = Unit {0}
+IsWritable Braced c = Unit {0}
+IsWritable Escaped c = IsScalar c
+IsWritable Digit c = IsScalar c
+IsWritable Raw c = IsScalar c

@@ -1,0 +1,260 @@
+ghost use Rattle.std.specs.Prelude.{◌≡◌, ◌++◌, ◌<◌, ◌≤◌, ℕ};
+ghost use Rattle.std.specs.Char.{IsScalar};
+ghost use Rattle.std.specs.Str.{chars};
+ghost use Rattle.rx_base.specs.Writing.{Written};
+ghost use Rattle.rx_model.specs.Rows.{is_syntax_character as syntax};
+ghost use Rattle.rx_model.specs.CharacterText.{is_reserved_punctuator as reserved_punctuator, is_reserved_in_class as reserved_in_class, is_escaped as escaped, goes_on as going, greatest_raw as greatest, control_letter as letter, hex_digit as hex, hex as hexadecimal, braced, surrogate_text, character_text};
+ghost use Rattle.rx_tools.specs.Characters.{place_of, form_text, IsWritable};
+ghost use Rattle.rx_tools.specs.Utf8.{utf8};
+
+use crate::write::{write_chars, write_str};
+use rx_base::{Failed, Sink};
+use rx_model::Mode;
+
+/// Where a character stands.
+#[derive(Clone, Copy)]
+pub enum Place {
+    /// Outside classes, where the flag says whether an unquantified indexed reference stands right before it.
+    Outside(bool),
+    InClass,
+}
+
+/// How a character is spelled.
+#[derive(Clone, Copy)]
+enum CharacterForm {
+    /// A backslash and a letter.
+    Control,
+
+    /// `\x` and two hexadecimal digits.
+    TwoDigits,
+
+    /// `\u` and four hexadecimal digits.
+    FourDigits,
+
+    /// `\u{`, hexadecimal digits and `}`.
+    Braced,
+
+    /// A backslash and the character.
+    Escaped,
+
+    /// `\x3` and the digit.
+    Digit,
+
+    /// The character itself.
+    Raw,
+}
+
+/// SyntaxCharacter of ECMA-262, 22.2.1.
+fn is_syntax_character(c: u32) -> bool
+    ensures { result ≡ syntax c }
+{
+    c == '^' as u32
+        || c == '$' as u32
+        || c == '\\' as u32
+        || c == '.' as u32
+        || c == '*' as u32
+        || c == '+' as u32
+        || c == '?' as u32
+        || c == '(' as u32
+        || c == ')' as u32
+        || c == '[' as u32
+        || c == ']' as u32
+        || c == '{' as u32
+        || c == '}' as u32
+        || c == '|' as u32
+}
+
+/// ClassSetReservedPunctuator of ECMA-262, 22.2.1.
+fn is_reserved_punctuator(c: u32) -> bool
+    ensures { result ≡ reserved_punctuator c }
+{
+    c == '&' as u32
+        || c == '-' as u32
+        || c == '!' as u32
+        || c == '#' as u32
+        || c == '%' as u32
+        || c == ',' as u32
+        || c == ':' as u32
+        || c == ';' as u32
+        || c == '<' as u32
+        || c == '=' as u32
+        || c == '>' as u32
+        || c == '@' as u32
+        || c == '`' as u32
+        || c == '~' as u32
+}
+
+fn is_reserved_in_class(mode: Mode, c: u32) -> bool
+    ensures { result ≡ reserved_in_class mode c }
+{
+    match mode {
+        Mode::Legacy => c == '-' as u32,
+        Mode::Unicode => c == '-' as u32,
+        Mode::Sets => is_reserved_punctuator(c),
+    }
+}
+
+/// Whether a backslash stands before the character.
+fn is_escaped(mode: Mode, place: Place, c: u32) -> bool
+    ensures { result ≡ escaped mode (place_of place) c }
+{
+    match place {
+        Place::Outside(_) => is_syntax_character(c) || c == '/' as u32,
+        Place::InClass => {
+            is_syntax_character(c) || c == '/' as u32 || is_reserved_in_class(mode, c)
+        }
+    }
+}
+
+/// Whether the character would go on with the digits of the reference right before it.
+fn goes_on(place: Place, c: u32) -> bool
+    ensures { result ≡ going (place_of place) c }
+{
+    match place {
+        Place::Outside(after_reference) => after_reference && ('0' as u32 <= c && c <= '9' as u32),
+        Place::InClass => false,
+    }
+}
+
+/// The greatest value that the mode reads raw.
+fn greatest_raw(mode: Mode) -> u32
+    ensures { result ≡ greatest mode }
+{
+    match mode {
+        Mode::Legacy => 0xFFFF,
+        Mode::Unicode => 0x10FFFF,
+        Mode::Sets => 0x10FFFF,
+    }
+}
+
+/// The form of a surrogate alone.
+fn surrogate_form(mode: Mode) -> CharacterForm
+    ensures text { (c : ℕ) → form_text result c ≡ surrogate_text mode c }
+    ensures writable { (c : ℕ) → IsWritable result c }
+{
+    match mode {
+        Mode::Legacy => CharacterForm::FourDigits,
+        Mode::Unicode => CharacterForm::Braced,
+        Mode::Sets => CharacterForm::Braced,
+    }
+}
+
+/// The form of the first row that fits.
+#[tactic(auto, unfolding(rx_model::specs::CharacterText::character_text))]
+fn form(mode: Mode, place: Place, c: u32) -> CharacterForm
+    ensures text { form_text result c ≡ character_text mode (place_of place) c }
+    ensures writable { IsWritable result c }
+{
+    if 9 <= c && c <= 13 {
+        CharacterForm::Control
+    } else if c < 32 || 127 <= c && c <= 159 {
+        CharacterForm::TwoDigits
+    } else if c == 0x2028 || c == 0x2029 {
+        CharacterForm::FourDigits
+    } else if 0xD800 <= c && c <= 0xDFFF {
+        surrogate_form(mode)
+    } else if greatest_raw(mode) < c {
+        CharacterForm::Braced
+    } else if is_escaped(mode, place, c) {
+        CharacterForm::Escaped
+    } else if goes_on(place, c) {
+        CharacterForm::Digit
+    } else {
+        CharacterForm::Raw
+    }
+}
+
+/// The letter of a control escape.
+fn control_letter(c: u32) -> char
+    ensures { result ≡ letter c }
+{
+    match c {
+        9 => 't',
+        10 => 'n',
+        11 => 'v',
+        12 => 'f',
+        _ => 'r',
+    }
+}
+
+/// A hexadecimal digit in upper case.
+fn hex_digit(digit: u32) -> char
+    requires { digit < 16 }
+    ensures { result ≡ hex digit }
+{
+    let digit = digit as u8;
+    if digit < 10 {
+        char::from(b'0' + digit)
+    } else {
+        char::from(b'A' - 10 + digit)
+    }
+}
+
+/// Writes at most so many hexadecimal digits, without leading zeros.
+fn write_hex<K: Sink>(sink: &mut K, places: u32, n: u32) -> Result<(), Failed>
+    ensures { Written K.taken K.fixed K.faults sink.old sink.new result (utf8 (hexadecimal places n)) }
+{
+    if places == 0 {
+        return Ok(());
+    }
+    if 16 <= n {
+        write_hex(sink, places - 1, n / 16)?;
+    }
+    write_chars(sink, &[hex_digit(n % 16)])
+}
+
+fn write_braced<K: Sink>(sink: &mut K, c: u32) -> Result<(), Failed>
+    ensures { Written K.taken K.fixed K.faults sink.old sink.new result (utf8 (braced c)) }
+{
+    write_str(sink, "\\u{")?;
+    write_hex(sink, 8, c)?;
+    write_str(sink, "}")
+}
+
+/// The character of a value that is one.
+fn character(c: u32) -> char
+    requires { IsScalar c }
+    ensures { result ≡ c }
+{
+    char::from_u32(c).unwrap()
+}
+
+/// Writes what an escape begins with, and the characters behind it.
+fn write_escape<K: Sink>(sink: &mut K, opener: &str, characters: &[char]) -> Result<(), Failed>
+    ensures { Written K.taken K.fixed K.faults sink.old sink.new result (utf8 (chars opener.now ++ characters.now)) }
+{
+    write_str(sink, opener)?;
+    write_chars(sink, characters)
+}
+
+/// Writes a character as the first row that fits spells it.
+#[tactic(auto, using(crate::proofs::Pieces::in_pieces), unfolding(rx_model::specs::CharacterText::two_digits, rx_model::specs::CharacterText::four_digits))]
+pub fn write_character<K: Sink>(
+    sink: &mut K,
+    mode: Mode,
+    place: Place,
+    c: u32,
+) -> Result<(), Failed>
+    ensures { Written K.taken K.fixed K.faults sink.old sink.new result (utf8 (character_text mode (place_of place) c)) }
+{
+    match form(mode, place, c) {
+        CharacterForm::Control => write_escape(sink, "\\", &[control_letter(c)]),
+        CharacterForm::TwoDigits => {
+            write_escape(sink, "\\x", &[hex_digit(c / 16 % 16), hex_digit(c % 16)])
+        }
+        CharacterForm::FourDigits => write_escape(
+            sink,
+            "\\u",
+            &[
+                hex_digit(c / 4096 % 16),
+                hex_digit(c / 256 % 16),
+                hex_digit(c / 16 % 16),
+                hex_digit(c % 16),
+            ],
+        ),
+        CharacterForm::Braced => write_braced(sink, c),
+        CharacterForm::Escaped => write_escape(sink, "\\", &[character(c)]),
+        CharacterForm::Digit => write_escape(sink, "\\x3", &[character(c)]),
+        CharacterForm::Raw => write_chars(sink, &[character(c)]),
+    }
+}
