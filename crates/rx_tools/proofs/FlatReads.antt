@@ -44,12 +44,12 @@ leaf_spelled e u rest m h not_bar =
     elim (eqb_tells u.value 46) [
       | inl p ↦ subst (λ t. Spells e t (u ∷ []) rest) (sym (leaf_dot u p.1)) (ap (λ v. v ∷ []) p.1)
       | inr p ↦ subst (λ t. Spells e t (u ∷ []) rest) (sym (leaf_character u p.1)) record {
-          unit = u;
-          alone = refl;
-          kind_is = refl;
-          value_is = refl;
-          allowed = rw m (ap not (stands u.value h p.1 not_bar));
-        }
+        unit = u;
+        alone = refl;
+        kind_is = refl;
+        value_is = refl;
+        allowed = rw m (ap not (stands u.value h p.1 not_bar));
+      }
     ]
 
 module _ (e : Environment) (o : ℕ → ℕ) (added : ℕ) (m : e.mode ≡ Unicode) where
@@ -60,7 +60,7 @@ module _ (e : Environment) (o : ℕ → ℕ) (added : ℕ) (m : e.mode ≡ Unico
       let after : ℕ = u.span.end + added in
       let next : o (i + 1) ≡ after = f.0 in
       let rest : Row e o (flat_events added after us) (i + 1) us (i + 1 + length us) [] =
-          flat_row us (i + 1) after (All-tail (λ x. is_unread x.value ≡ false) u us flat) (sym next) f.1 in
+      flat_row us (i + 1) after (All-tail (λ x. is_unread x.value ≡ false) u us flat) (sym next) f.1 in
       let more : i + 1 + length us ≡ i + length (u ∷ us) = omega arith in
       let ended : Row e o (flat_events added after us) (i + 1) us (i + length (u ∷ us)) [] = subst (λ k. Row e o (flat_events added after us) (i + 1) us k []) more rest in
       elim (eqb_tells u.value 124) [

@@ -36,8 +36,8 @@ some_text (c ∷ cs) h = refl
 pub unread_by_bytes : (bytes : List ℕ) → IsUtf8 bytes → nat_eq (length bytes) 0 ≡ false → list_any is_unread (chars bytes) ≡ holds_unread (chars bytes)
 unread_by_bytes bytes h some =
     some_text (chars bytes) (λ e.
-        let none : nat_eq (length bytes) 0 ≡ true = ap (λ (b : List ℕ). nat_eq (length b) 0) (sym (encodes-chars bytes h) ∙ ap encodes e) in
-        let no : ⊥ = cc in no)
+    let none : nat_eq (length bytes) 0 ≡ true = ap (λ (b : List ℕ). nat_eq (length b) 0) (sym (encodes-chars bytes h) ∙ ap encodes e) in
+    let no : ⊥ = cc in no)
 
 -- the empty text stands for `(?:)`
 pub unread_empty : (bytes : List ℕ) → nat_eq (length bytes) 0 ≡ true → true ≡ holds_unread (chars bytes)

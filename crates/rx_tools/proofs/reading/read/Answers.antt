@@ -22,7 +22,7 @@ returns-clause-reads c =
     let are : c.as_slice.result.now ≡ us = c.as_slice.ensures ∙ c.in_ok-units.ensures in
     IfOk-weaker c.read_flat.result _ _
     (λ p h. subst (λ cs. Reads Unicode p (literal_units true 0 cs)) (sym (text_stands text c.requires.flat))
-        (flat_reads p c.args.span_offset us (text_flat text c.requires.flat) (text_small text c.utf8.pattern_text) (rw are at h)))
+    (flat_reads p c.args.span_offset us (text_flat text c.requires.flat) (text_small text c.utf8.pattern_text) (rw are at h)))
     c.read_flat.ensures
 
 pub returns-clause-spanned : goal.returns-clause-spanned
@@ -32,5 +32,5 @@ returns-clause-spanned c =
     let are : c.as_slice.result.now ≡ us = c.as_slice.ensures ∙ c.in_ok-units.ensures in
     IfOk-weaker c.read_flat.result _ _
     (λ p h. subst (λ cs. IsSpanned Unicode p (literal_units true 0 cs) 0 c.args.span_offset) (sym (text_stands text c.requires.flat))
-        (flat_is_spanned p c.args.span_offset us (text_flat text c.requires.flat) (rw are at h)))
+    (flat_is_spanned p c.args.span_offset us (text_flat text c.requires.flat) (rw are at h)))
     c.read_flat.ensures

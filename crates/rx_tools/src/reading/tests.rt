@@ -1,0 +1,97 @@
+use super::canonical;
+use crate::{Canonical, Form, Mode, Options, canonical_text};
+use rx_ast::Term;
+use rx_base::{Fault, GetSpan, Span};
+use std::alloc::Global;
+use std::test::Fail;
+
+/// Reads a short pattern at an offset that leaves room for it.
+fn read(alloc: Global, pattern: &str, offset: u32) -> Result<Canonical, Fault> {
+    let options = Options {
+        pattern_span_offset: offset.min(1000),
+        flags_span_offset: 0,
+    };
+    if pattern.len() > 1000 {
+        return Err(Fault::OutOfMemory);
+    }
+    canonical(alloc, Form::Literal, pattern, Some("u"), options)
+}
+
+#[test]
+fn texts(rt: HostRuntime) -> Result<(), Fail> {
+    let rows = [
+        ("a.b|c", "a.b|c"),
+        ("a/b", "a\\/b"),
+        ("a||b", "a||b"),
+        ("|", "|"),
+        (".", "."),
+        ("-", "-"),
+        ("a\tb\nc\rd", "a\\tb\\nc\\rd"),
+        ("\u{0}\u{1f}\u{7f}\u{9f}", "\\x00\\x1F\\x7F\\x9F"),
+        ("\u{2028}\u{2029}", "\\u2028\\u2029"),
+        ("é漢\u{1F600}", "é漢\u{1F600}"),
+    ];
+    for (pattern, text) in rows {
+        let it = read(rt.alloc(), pattern, 7).ok().ok_or("refused")?;
+        assert_eq!(rt; it.text.as_str(), text);
+        assert_eq!(rt; it.mode, Mode::Unicode);
+        let again = canonical_text(rt.alloc(), &it.pattern, it.mode)
+            .ok()
+            .ok_or("memory")?;
+        assert_eq!(rt; again.as_str(), text);
+    }
+    Ok(())
+}
+
+#[test]
+fn spans(rt: HostRuntime) -> Result<(), Fail> {
+    for (pattern, offset) in [("a.b|c", 0), ("a.b|c", 10)] {
+        let it = read(rt.alloc(), pattern, offset).ok().ok_or("refused")?;
+        assert_eq!(rt;
+            it.pattern.span,
+            Span::new(offset, offset.saturating_add(5))
+        );
+        let alternatives = it.pattern.body.body.as_slice();
+        assert_eq!(rt; alternatives.len(), 2);
+        let first = &alternatives[0];
+        let second = &alternatives[1];
+        assert_eq!(rt; first.span, Span::new(offset, offset.saturating_add(3)));
+        assert_eq!(rt;
+            second.span,
+            Span::new(offset.saturating_add(4), offset.saturating_add(5))
+        );
+        let terms = first.body.as_slice();
+        assert_eq!(rt; terms.len(), 3);
+        assert_eq!(rt;
+            terms[1].span(),
+            Span::new(offset.saturating_add(1), offset.saturating_add(2))
+        );
+        assert!(rt; matches!(&terms[1], Term::Dot(_)));
+    }
+    Ok(())
+}
+
+#[test]
+fn not_yet(rt: HostRuntime) -> Result<(), Fail> {
+    let rows = [
+        (Form::Literal, "", Some("u")),
+        (Form::Literal, "(a)", Some("u")),
+        (Form::Literal, "a*", Some("u")),
+        (Form::Literal, "\\", Some("u")),
+        (Form::Literal, "a", None),
+        (Form::Literal, "a", Some("")),
+        (Form::Literal, "a", Some("ui")),
+        (Form::Literal, "a", Some("v")),
+        (Form::Constructor, "\"a\"", Some("u")),
+    ];
+    for (form, pattern, flags) in rows {
+        let answer = canonical(rt.alloc(), form, pattern, flags, Options::default());
+        assert!(rt; matches!(&answer, Err(Fault::NotYet)), "{pattern}");
+    }
+    let options = Options::default();
+    assert_eq!(rt;
+        (options.pattern_span_offset, options.flags_span_offset),
+        (0, 0)
+    );
+    Ok(())
+}
