@@ -23,9 +23,8 @@ cut_once byte (x ∷ a) b [] d h g e = absurd (differs byte a (let P : ℕ → T
 cut_once byte (x ∷ a) b (y ∷ c) d h g e =
     let head : x ≡ y = cc in
     let tail : a ++ byte ∷ b ≡ c ++ byte ∷ d = cc in
-    let rest : (a ≡ c) × (b ≡ d) = cut_once byte a b c d (and_parts _ _ h).1 (and_parts _ _ g).1 tail in
-    let same : a ≡ c = rest.0 in
-    (cc, rest.1)
+    let rest = cut_once byte a b c d (and_parts _ _ h).1 (and_parts _ _ g).1 tail in
+    (ap (λ (z : ℕ). z ∷ a) head ∙ ap (λ (z : List ℕ). y ∷ z) rest.0, rest.1)
 
 -- no TAB
 pub no_tab : (line : List ℕ) → lacks 9 line ≡ true → (request : Request) → ¬ IsRequest line request

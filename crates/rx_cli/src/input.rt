@@ -1,4 +1,4 @@
-ghost use Rattle.std.specs.Prelude.{◌≡◌, ◌≤◌, ◌<◌, ◌+◌, ℕ, List as Sequence, [], take, length, vec_len, IfOk, IsErrOf};
+ghost use Rattle.std.specs.Prelude.{◌≡◌, ◌≤◌, ◌<◌, ◌+◌, ℕ, List as Sequence, take, vec_len, IfOk, OnErr, IsErrOf};
 ghost use Rattle.std.specs.Io.KnownBytes.{IsAtEnd};
 ghost use Rattle.rx_base.specs.Causes.{Rose};
 ghost use Rattle.rx_cli.specs.Outcome.{Reads};
@@ -58,12 +58,10 @@ impl Input {
             × (self.new.total ≡ self.old.total + count)
             × (S.drawn source.new ≡ S.drawn source.old + count)) }
         ensures end { IfOk result (λ count. count ≡ 0 → IsAtEnd (S.left source.new)) }
-        ensures read { IsErrOf result InputFault.Read
-            → Reads (S.left source.old) (S.left source.new) (S.drawn source.old) (S.drawn source.new) []
-            × Rose (S.faults source.old) (S.faults source.new) }
-        ensures too_much { IsErrOf result InputFault.TooMuch → (bytes : Sequence ℕ)
-            × Reads (S.left source.old) (S.left source.new) (S.drawn source.old) (S.drawn source.new) bytes
-            × (67108864 < self.old.total + length bytes) }
+        ensures err { OnErr result ((bytes : Sequence ℕ)
+            × Reads (S.left source.old) (S.left source.new) (S.drawn source.old) (S.drawn source.new) bytes) }
+        ensures read { IsErrOf result InputFault.Read → (S.drawn source.new ≡ S.drawn source.old) × Rose (S.faults source.old) (S.faults source.new) }
+        ensures too_much { IsErrOf result InputFault.TooMuch → S.drawn source.old + 67108864 < self.old.total + S.drawn source.new }
         ensures later { S.faults source.old ≤ S.faults source.new }
     {
         let count = source.read(self.buffer.as_mut_slice())?;

@@ -1,10 +1,11 @@
 //! Reads lines that each hold a pattern, and writes for each line the pattern's canonical spelling, or why there is none.
 #![tactic(auto)]
 
-mod answer;
 mod input;
+mod line;
 pub mod over_memory;
 mod pieces;
+mod replies;
 mod request;
 mod run;
 mod server;
