@@ -29,6 +29,7 @@ pub fn replies(
     ensures some_refused { IfOk result (λ p. p.0 ≡ Status.SomeRefused → IsAnswered input.now p.1.taken false) }
     ensures usage { IfOk result (λ p. p.0 ≢ Status.Usage) }
     ensures read_fault { IfOk result (λ p. p.0 ≢ Status.ReadFault) }
+    ensures too_much { IfOk result (λ p. p.0 ≡ Status.TooMuch → 67108864 < length input.now) }
 
     // The replies to the first lines take more than the room.
     ensures write_fault { IfOk result (λ p. p.0 ≡ Status.WriteFault → (read left : Sequence ℕ) × (lines later replies : Sequence (Sequence ℕ))
@@ -38,5 +39,8 @@ pub fn replies(
     let mut source = CleanSource::new(input);
     let mut sink = MemorySink::new(alloc, room, List::new(alloc), 4096)?;
     let status = run(alloc, words.as_slice(), &mut source, &mut sink);
+
+    // Its contract says that a fault comes only where all room is taken.
+    let _ = sink.bytes();
     Ok((status, sink))
 }
