@@ -10,6 +10,8 @@ mod request;
 mod run;
 mod server;
 mod standard;
+#[cfg(test)]
+mod tests;
 mod words;
 
 use run::run;
