@@ -1,0 +1,38 @@
+use Rattle.std.proofs.Common.{◌≡◌, ◌∙◌, refl, sym, ap, Ok, Err, true, false}
+use Rattle.std.specs.Str.{chars}
+use Rattle.std.proofs.lemmas.Bool.{false_from_ne_true, and_right}
+use Rattle.std.proofs.lemmas.Result.{on_ok_weaker}
+use Rattle.std.proofs.Math.Bool.{and-true}
+use Rattle.rx_tools.specs.NotYet.{is_not_yet}
+use Rattle.rx_tools.specs.Texts.{flags_chars}
+use Rattle.rx_cli.specs.Request.{Request}
+use Rattle.rx_cli.specs.Reply.{bad, later, bad_reply, later_reply, ok_reply}
+use Rattle.rx_cli.proofs.Answering.{ok_reply_is}
+use Rattle.rx_cli.proofs.replies.Replies.add.Goals as goal
+
+pub returns-in_default : goal.returns-in_default
+returns-in_default c =
+    on_ok_weaker c.extend_from_slice.result (λ added. (bad_reply, bad c.in_default.ensures.asked, added, sym (and_right c.args.self.now.all_ok false refl)))
+    c.extend_from_slice.ensures.ok
+
+pub returns-in-Ok : goal.returns-in-Ok
+returns-in-Ok c =
+    let request : Request = record { form = c.in-Some.request.form; flags = flags_chars c.in-Some.request.flags; text = chars c.in-Some.request.text.now } in
+    let it = c.in-Ok.it in
+    let read : is_not_yet request.form request.text request.flags ≡ false = false_from_ne_true _ (λ h. let e = c.in-Ok.ensures.not_yet.1 h in cc) in
+    on_ok_weaker c.add_ok.result
+    (λ added. (
+      ok_reply it.mode it.text,
+      ok_reply_is c.args.line.now it.text request it.pattern it.mode c.in-Some.ensures.asked read c.in-Ok.ensures.mode c.in-Ok.ensures.valid.flags_are c.in-Ok.ensures.reads c.in-Ok.ensures.text,
+      added,
+      c.add_ok.ensures.all_ok ∙ sym (and-true c.args.self.now.all_ok),
+    ))
+    c.add_ok.ensures.bytes
+
+pub returns-in-Err-NotYet : goal.returns-in-Err-NotYet
+returns-in-Err-NotYet c =
+    let request : Request = record { form = c.in-Some.request.form; flags = flags_chars c.in-Some.request.flags; text = chars c.in-Some.request.text.now } in
+    let not_yet : is_not_yet request.form request.text request.flags ≡ true = c.in-Err-NotYet.ensures.not_yet.0 (ap Err c.in-Err-NotYet.field-0-is) in
+    on_ok_weaker c.extend_from_slice-in-Err-NotYet.result
+    (λ added. (later_reply, later request c.in-Some.ensures.asked not_yet, added, sym (and_right c.args.self.now.all_ok false refl)))
+    c.extend_from_slice-in-Err-NotYet.ensures.ok

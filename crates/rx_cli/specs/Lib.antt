@@ -1,0 +1,7 @@
+pub mod Lines
+pub mod Request
+pub mod Reply
+pub mod Serving
+pub mod Outcome
+pub mod Status
+pub mod Stop

@@ -1,0 +1,78 @@
+ghost use Rattle.std.specs.Prelude.{◌≡◌, ◌++◌, ◌&&◌, ℕ, List as Sequence, [], true, OnOk, codes};
+ghost use Rattle.rx_base.specs.Writing.{Written};
+ghost use Rattle.rx_cli.specs.Reply.{IsReply, begins_ok, mode_name, ok_reply};
+
+use crate::request::Request;
+use rx_base::{Failed, Fault, List, OutOfMemory, Sink, write_all};
+use rx_tools::{Canonical, Mode, Options, canonical};
+use std::alloc::Global;
+
+/// The replies that are to be written next, and whether all replies so far begin with `ok`. The memory is used again after a write.
+#[derive(Drop)]
+pub struct Replies {
+    pub bytes: List<u8>,
+    pub all_ok: bool,
+}
+
+impl Replies {
+    /// Takes no memory.
+    pub fn new(alloc: Global) -> Replies
+        ensures { result ≡ record { bytes = []; all_ok = true } }
+    {
+        Replies {
+            bytes: List::new(alloc),
+            all_ok: true,
+        }
+    }
+
+    /// Adds the reply to a line. After a refusal a part of the reply may stand at the end.
+    pub fn add(&mut self, alloc: Global, line: &[u8]) -> Result<(), OutOfMemory>
+        ensures { OnOk result ((reply : Sequence ℕ) × IsReply line.now reply
+            × (self.new.bytes ≡ self.old.bytes ++ reply) × (self.new.all_ok ≡ (self.old.all_ok && begins_ok reply))) }
+    {
+        let Some(request) = Request::parse(line) else {
+            self.all_ok = false;
+            return self.bytes.extend_from_slice(b"bad\n");
+        };
+        let options = Options::default();
+        match canonical(alloc, request.form, request.text, request.flags, options) {
+            Ok(it) => self.add_ok(&it),
+            Err(Fault::NotYet) => {
+                self.all_ok = false;
+                self.bytes.extend_from_slice(b"later\n")
+            }
+            Err(Fault::OutOfMemory) => Err(OutOfMemory),
+        }
+    }
+
+    fn add_ok(&mut self, it: &Canonical) -> Result<(), OutOfMemory>
+        ensures bytes { OnOk result (self.new.bytes ≡ self.old.bytes ++ ok_reply it.now.mode it.now.text) }
+        ensures all_ok { self.new.all_ok ≡ self.old.all_ok }
+    {
+        self.bytes.extend_from_slice(ok_front(it.mode).as_bytes())?;
+        self.bytes.extend_from_slice(it.text.as_str().as_bytes())?;
+        self.bytes.extend_from_slice(b"\n")
+    }
+
+    /// Writes the replies that were added since the last write.
+    pub fn write<K: Sink>(&mut self, sink: &mut K) -> Result<(), Failed>
+        ensures written { Written K.taken K.fixed K.faults sink.old sink.new result self.old.bytes }
+        ensures all_ok { self.new.all_ok ≡ self.old.all_ok }
+        ensures bytes { self.new.bytes ≡ [] }
+    {
+        let result = write_all(sink, self.bytes.as_slice());
+        self.bytes.clear();
+        result
+    }
+}
+
+/// What an `ok` reply begins with.
+fn ok_front(mode: Mode) -> &'static str
+    ensures { result.now ≡ codes "ok\t" ++ mode_name mode ++ codes "\t" }
+{
+    match mode {
+        Mode::Legacy => "ok\tlegacy\t",
+        Mode::Unicode => "ok\tunicode\t",
+        Mode::Sets => "ok\tsets\t",
+    }
+}
