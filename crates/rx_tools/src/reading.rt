@@ -9,8 +9,8 @@ ghost use Rattle.rx_tools.specs.Texts.{flags_chars, flags_length, stand_in_lengt
 ghost use Rattle.rx_tools.specs.NotYet.{is_not_yet, is_u, is_only_u, is_unread, holds_unread};
 ghost use Rattle.rx_model.specs.Rows.{is_syntax_character};
 
-use crate::printing::canonical_text;
 use crate::flat::read_flat;
+use crate::printing::canonical_text;
 use crate::{Canonical, Options};
 use rx_ast::Pattern;
 use rx_base::{Fault, OutOfMemory};
