@@ -12,6 +12,9 @@ use rx_model::Mode;
 use std::alloc::Global;
 use std::str;
 
+#[cfg(test)]
+mod tests;
+
 /// A sink that keeps its bytes, and fails where there is not enough memory.
 #[derive(Drop)]
 struct Buffer {
