@@ -1,4 +1,4 @@
-ghost use Rattle.std.specs.Prelude.{◌≡◌, ◌++◌, ◌&&◌, ℕ, List as Sequence, [], true, OnOk, codes};
+ghost use Rattle.std.specs.Prelude.{◌≡◌, ◌++◌, ◌&&◌, ℕ, List as Sequence, [], true, false, OnOk, codes};
 ghost use Rattle.rx_base.specs.Writing.{Written};
 ghost use Rattle.rx_cli.specs.Reply.{IsReply, begins_ok, mode_name, ok_reply};
 
@@ -31,20 +31,26 @@ impl Replies {
             × (self.new.bytes ≡ self.old.bytes ++ reply) × (self.new.all_ok ≡ (self.old.all_ok && begins_ok reply))) }
     {
         let Some(request) = Request::parse(line) else {
-            self.all_ok = false;
-            return self.bytes.extend_from_slice(b"bad\n");
+            return self.add_refusal(b"bad\n");
         };
         let options = Options::default();
         match canonical(alloc, request.form, request.text, request.flags, options) {
             Ok(it) => self.add_ok(&it),
-            Err(Fault::NotYet) => {
-                self.all_ok = false;
-                self.bytes.extend_from_slice(b"later\n")
-            }
+            Err(Fault::NotYet) => self.add_refusal(b"later\n"),
             Err(Fault::OutOfMemory) => Err(OutOfMemory),
         }
     }
 
+    /// Adds a reply that does not begin with `ok`.
+    fn add_refusal(&mut self, reply: &[u8]) -> Result<(), OutOfMemory>
+        ensures bytes { OnOk result (self.new.bytes ≡ self.old.bytes ++ reply.now) }
+        ensures all_ok { self.new.all_ok ≡ false }
+    {
+        self.all_ok = false;
+        self.bytes.extend_from_slice(reply)
+    }
+
+    /// Adds the reply with this mode and spelling.
     fn add_ok(&mut self, it: &Canonical) -> Result<(), OutOfMemory>
         ensures bytes { OnOk result (self.new.bytes ≡ self.old.bytes ++ ok_reply it.now.mode it.now.text) }
         ensures all_ok { self.new.all_ok ≡ self.old.all_ok }

@@ -1,4 +1,4 @@
-use Rattle.std.proofs.Common.{◌≡◌, ◌∙◌, refl, sym, ap, Ok, Err, true, false}
+use Rattle.std.proofs.Common.{◌≡◌, ◌∙◌, refl, sym, ap, Ok, Err, Bool, true, false, ◌&&◌}
 use Rattle.std.specs.Str.{chars}
 use Rattle.std.proofs.lemmas.Bool.{false_from_ne_true, and_right}
 use Rattle.std.proofs.lemmas.Result.{on_ok_weaker}
@@ -10,10 +10,14 @@ use Rattle.rx_cli.specs.Reply.{bad, later, bad_reply, later_reply, ok_reply}
 use Rattle.rx_cli.proofs.Answering.{ok_reply_is}
 use Rattle.rx_cli.proofs.replies.Replies.add.Goals as goal
 
+-- a refusal turns the flag
+turned : (new old : Bool) → new ≡ false → new ≡ (old && false)
+turned new old e = e ∙ sym (and_right old false refl)
+
 pub returns-in_default : goal.returns-in_default
 returns-in_default c =
-    on_ok_weaker c.extend_from_slice.result (λ added. (bad_reply, bad c.in_default.ensures.asked, added, sym (and_right c.args.self.now.all_ok false refl)))
-    c.extend_from_slice.ensures.ok
+    let add = c.add_refusal in
+    on_ok_weaker add.result (λ added. (bad_reply, bad c.in_default.ensures.asked, added, turned add.new.self.all_ok c.args.self.now.all_ok add.ensures.all_ok)) add.ensures.bytes
 
 pub returns-in-Ok : goal.returns-in-Ok
 returns-in-Ok c =
@@ -33,6 +37,5 @@ pub returns-in-Err-NotYet : goal.returns-in-Err-NotYet
 returns-in-Err-NotYet c =
     let request : Request = record { form = c.in-Some.request.form; flags = flags_chars c.in-Some.request.flags; text = chars c.in-Some.request.text.now } in
     let not_yet : is_not_yet request.form request.text request.flags ≡ true = c.in-Err-NotYet.ensures.not_yet.0 (ap Err c.in-Err-NotYet.field-0-is) in
-    on_ok_weaker c.extend_from_slice-in-Err-NotYet.result
-    (λ added. (later_reply, later request c.in-Some.ensures.asked not_yet, added, sym (and_right c.args.self.now.all_ok false refl)))
-    c.extend_from_slice-in-Err-NotYet.ensures.ok
+    let add = c.add_refusal-in-Err-NotYet in
+    on_ok_weaker add.result (λ added. (later_reply, later request c.in-Some.ensures.asked not_yet, added, turned add.new.self.all_ok c.args.self.now.all_ok add.ensures.all_ok)) add.ensures.bytes
