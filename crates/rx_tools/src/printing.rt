@@ -1,7 +1,7 @@
 ghost use Rattle.std.specs.Prelude.{◌≡◌, ◌++◌, ℕ, List as Sequence, OnOk, IfOk};
 ghost use Rattle.rx_ast.specs.Forget.{bare};
 ghost use Rattle.rx_model.specs.Spelling.{spelling};
-ghost use Rattle.rx_tools.specs.Tasks.{task_front, task_rest, pending};
+ghost use Rattle.rx_tools.specs.Tasks.{task_front};
 ghost use Rattle.rx_tools.specs.Utf8.{utf8};
 
 use crate::stack::{push_alternatives, push_rest};
@@ -26,6 +26,7 @@ impl Sink for Buffer {
 
     ghost taken = { λ s. Some s.bytes };
 
+    // At its last value a count allows a fault at any time.
     ghost faults = { λ _. 2 ^ 64 - 1 };
 
     fn write(&mut self, piece: &[u8]) -> Result<usize, Failed> {
@@ -57,7 +58,8 @@ fn text_of(alloc: Global, bytes: &[u8]) -> Result<Text, OutOfMemory>
     }
 }
 
-/// The canonical spelling of any tree: the text that is written of those that spell it. Deep trees take memory and no stack.
+/// The canonical spelling of a tree in a mode, also of a tree that no text spells. However deep it is, it takes no deep stack.
+/// Fails only where there is not enough memory.
 pub fn canonical_text(alloc: Global, pattern: &Pattern, mode: Mode) -> Result<Text, OutOfMemory>
     ensures { IfOk result (λ t. t ≡ spelling (bare pattern.now) mode) }
 {

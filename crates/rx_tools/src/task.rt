@@ -1,22 +1,19 @@
-ghost use Rattle.std.specs.Prelude.{◌≡◌, ◌++◌, ℕ, OnOk, map};
+ghost use Rattle.std.specs.Prelude.{◌≡◌, map};
 ghost use Rattle.std.specs.Str.{chars};
-ghost use Rattle.rx_ast.specs.ClassTree.{members, mirror_contents, mirror_class};
-ghost use Rattle.rx_ast.specs.Tree.{nodes, alternatives as alternatives_of, mirror_term, mirror_alternative};
+ghost use Rattle.rx_ast.specs.ClassTree.{members, mirror_contents};
+ghost use Rattle.rx_ast.specs.Tree.{alternatives as alternatives_of, mirror_alternative};
 ghost use Rattle.rx_base.specs.Writing.{Written};
-ghost use Rattle.rx_model.specs.declared.mode.Mode.{Mode as Way};
 ghost use Rattle.rx_model.specs.ClassText.{operator_text as operator};
-ghost use Rattle.rx_tools.specs.Steps.{bar_front, operator_front, alternatives_rest, nodes_rest, node_rest, members_rest, member_rest, class_rest};
-ghost use Rattle.rx_tools.specs.Tasks.{task_front, task_rest, pending};
+ghost use Rattle.rx_tools.specs.Steps.{bar_front, operator_front};
+ghost use Rattle.rx_tools.specs.Tasks.{task_front};
 ghost use Rattle.rx_tools.specs.Utf8.{utf8};
 
 use crate::class::{operator_text, write_contents_front};
 use crate::quantifier::write_quantifier;
-use crate::term::{refers, write_term_front};
+use crate::term::{write_term_front};
 use crate::write::write_str;
-use rx_ast::{
-    Alternative, CharacterClass, CharacterClassContents, CharacterClassContentsKind, Term,
-};
-use rx_base::{Failed, List, OutOfMemory, Sink};
+use rx_ast::{Alternative, CharacterClassContents, CharacterClassContentsKind, Term};
+use rx_base::{Failed, Sink};
 use rx_model::Mode;
 
 /// What is still to be written.

@@ -1,4 +1,4 @@
-ghost use Rattle.std.specs.Prelude.{◌≡◌, codes};
+ghost use Rattle.std.specs.Prelude.{◌≡◌};
 ghost use Rattle.std.specs.Str.{chars};
 ghost use Rattle.rx_ast.specs.Tree.{mirror_term, capturing, ignoring};
 ghost use Rattle.rx_base.specs.Writing.{Written};
