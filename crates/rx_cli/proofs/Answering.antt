@@ -1,5 +1,5 @@
 -- What an `ok` reply is made of, and the replies to lines past the limit.
-use Rattle.std.proofs.Common.{◌≡◌, ◌<◌, ◌≤◌, refl, sym, ap, ◌∙◌, subst, inl, inr, ℕ, true, false, List, ◌++◌, append_assoc, codes, encode_utf8_all, length, take, arith}
+use Rattle.std.proofs.Common.{◌≡◌, ◌<◌, ◌≤◌, refl, sym, ap, ◌∙◌, subst, inl, inr, ℕ, true, false, List, ◌++◌, append_assoc, codes, encode_utf8_all, length, arith}
 use Rattle.std.specs.Str.{chars, IsUtf8}
 use Rattle.std.proofs.lemmas.Bool.{cases_lt}
 use Rattle.std.proofs.lemmas.List.{take_all, length-take-le}

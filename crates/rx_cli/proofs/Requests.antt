@@ -1,5 +1,5 @@
 -- Lines in which no request is.
-use Rattle.std.proofs.Common.{◌≡◌, ◌∙◌, sym, ap, refl, subst, ℕ, true, not, ◌==◌, arith, List, [], ◌∷◌, ◌++◌}
+use Rattle.std.proofs.Common.{◌≡◌, ◌∙◌, sym, ap, refl, subst, ℕ, true, ◌==◌, List, [], ◌∷◌, ◌++◌}
 use Rattle.std.proofs.lemmas.Bool.{and_parts, eq-eqb, false≢true, not-true}
 use Rattle.rx_model.specs.declared.form.Form.{Form}
 use Rattle.rx_cli.specs.Lines.{lacks}

@@ -1,5 +1,5 @@
 -- How `Serves`, `Halts` and `Ends` follow from one another.
-use Rattle.std.proofs.Common.{◌≡◌, ◌∙◌, sym, ap, refl, subst, ℕ, ◌<◌, ◌≤◌, Bool, true, false, ◌&&◌, List, [], ◌∷◌, ◌++◌, append-nil, append_assoc, length, take, map, Result, Ok, Err, OnOk, arith}
+use Rattle.std.proofs.Common.{◌≡◌, ◌∙◌, sym, ap, refl, subst, ℕ, ◌<◌, Bool, true, false, ◌&&◌, List, [], ◌∷◌, ◌++◌, append-nil, append_assoc, length, take, map, Result, Ok, Err, OnOk, arith}
 use Rattle.std.specs.List.{AllZip, list_all, concat}
 use Rattle.std.proofs.lemmas.List.Folds.{concat-append, list_all-append}
 use Rattle.rx_cli.specs.Lines.{lines_of, lacks}
@@ -8,7 +8,7 @@ use Rattle.rx_cli.specs.Outcome.{IsAnswered, IsBegun}
 use Rattle.rx_cli.specs.Serving.{kept, kept_lines, Serves, Halts, Ends}
 use Rattle.rx_cli.proofs.Lacking.{lacks-append, lacks-take}
 use Rattle.rx_cli.proofs.Lines.{lines_of-front, lines_of-line, lines_of-last, begin_all-capped}
-use Rattle.rx_cli.proofs.Answering.{kept-short, IsReply-kept, IsReply-of_kept}
+use Rattle.rx_cli.proofs.Answering.{IsReply-kept, IsReply-of_kept}
 
 and_assoc : (a b c : Bool) → ((a && b) && c) ≡ (a && (b && c))
 and_assoc true b c = refl
@@ -241,6 +241,10 @@ serves_halts {l = l} {l' = l'} {b = b} {b' = b'} {w = w} {w' = w'} s t = record 
 
 -- ---- what answers the lines as far as they are kept answers the lines
 
+answered-more : (x reply : List ℕ) (lines replies : List (List ℕ)) → IsReply x reply → ((front later : List (List ℕ)) × (lines ≡ front ++ later) × AllZip IsReply front replies)
+    → (front later : List (List ℕ)) × (x ∷ lines ≡ front ++ later) × AllZip IsReply front (reply ∷ replies)
+answered-more x reply lines replies is r = (x ∷ r.0, r.1, ap (λ (y : List (List ℕ)). x ∷ y) r.2, (is, r.3))
+
 answered-front : (lines front later replies : List (List ℕ)) → map kept lines ≡ front ++ later → AllZip IsReply front replies
     → (front' later' : List (List ℕ)) × (lines ≡ front' ++ later') × AllZip IsReply front' replies
 answered-front lines [] later [] e h = ([], lines, refl, tt)
@@ -250,9 +254,8 @@ answered-front [] (line ∷ front) later (reply ∷ replies) e h = cc
 answered-front (x ∷ lines) (line ∷ front) later (reply ∷ replies) e h =
     let head : kept x ≡ line = cc in
     let tail : map kept lines ≡ front ++ later = cc in
-    let r = answered-front lines front later replies tail h.1 in
     let P : List ℕ → Type 0 = λ y. IsReply y reply in
-    (x ∷ r.0, r.1, ap (λ (y : List (List ℕ)). x ∷ y) r.2, (IsReply-kept x reply (subst P (sym head) h.0), r.3))
+    answered-more x reply lines replies (IsReply-kept x reply (subst P (sym head) h.0)) (answered-front lines front later replies tail h.1)
 
 answered-all : (lines replies : List (List ℕ)) → AllZip IsReply (map kept lines) replies → AllZip IsReply lines replies
 answered-all [] [] h = tt

@@ -1,4 +1,4 @@
-use Rattle.std.proofs.Common.{◌≡◌, ◌<◌, ◌++◌, ◌∷◌, true, subst, ℕ, List, Some, None, length, get_or, take, drop, ◌+◌, arith}
+use Rattle.std.proofs.Common.{◌≡◌, ◌<◌, subst, ℕ, List, Some, None, length, get_or, arith}
 use Rattle.std.proofs.lemmas.Bool.{eqb-true}
 use Rattle.std.proofs.Math.Nat.{sub-zero}
 use Rattle.std.proofs.lemmas.Str.{IsCharBoundary-after_ascii}

@@ -1,4 +1,4 @@
-use Rattle.std.proofs.Common.{◌≡◌, ◌∙◌, ◌∷◌, ◌++◌, sym}
+use Rattle.std.proofs.Common.{◌∙◌, sym}
 use Rattle.rx_cli.proofs.Requests.{no_tab, no_form, one_tab}
 use Rattle.rx_cli.proofs.request.Request.parse.Goals as goal
 
