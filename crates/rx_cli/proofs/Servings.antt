@@ -110,7 +110,7 @@ serves_end line piece line1 reply line2 ok ok1 ok2 h g l1 o1 is l2 o2 =
     let R : Bool → Type 0 = λ b. Serves line ok (piece ++ 10 ∷ []) reply [] b in
     let both : lacks 10 (line ++ piece) ≡ true = lacks-append 10 line piece h g in
     subst Q (sym l2) (subst R (sym whole) (serves_then (serves_piece line piece ok h g)
-        (serves_line (kept (line ++ piece)) reply ok (lacks-kept (line ++ piece) both) (subst P l1 is))))
+    (serves_line (kept (line ++ piece)) reply ok (lacks-kept (line ++ piece) both) (subst P l1 is))))
 
 -- a whole line and its LF
 pub serves_whole : (line piece reply : List ℕ) (ok ok' : Bool) → line ≡ [] → lacks 10 piece ≡ true → IsReply piece reply → ok' ≡ (ok && begins_ok reply) → Serves line ok (piece ++ 10 ∷ []) reply line ok'

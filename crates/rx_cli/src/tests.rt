@@ -128,12 +128,7 @@ fn other_words_read_and_write_nothing(rt: HostRuntime) -> Result<(), Fail> {
 }
 
 /// So many lines of so many letters.
-fn letters(
-    alloc: Global,
-    lines: usize,
-    letter: u8,
-    count: usize,
-) -> Result<List<u8>, OutOfMemory> {
+fn letters(alloc: Global, lines: usize, letter: u8, count: usize) -> Result<List<u8>, OutOfMemory> {
     let line = vec![in alloc; letter; count]?;
     let mut input = List::new(alloc);
     for _ in 0..lines {

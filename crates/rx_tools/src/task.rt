@@ -10,7 +10,7 @@ ghost use Rattle.rx_tools.specs.Utf8.{utf8};
 
 use crate::class::{operator_text, write_contents_front};
 use crate::quantifier::write_quantifier;
-use crate::term::{write_term_front};
+use crate::term::write_term_front;
 use crate::write::write_str;
 use rx_ast::{Alternative, CharacterClassContents, CharacterClassContentsKind, Term};
 use rx_base::{Failed, Sink};

@@ -67,4 +67,4 @@ pub returns-in_err-feed-clause-content : goal.returns-in_err-feed-clause-content
 returns-in_err-feed-clause-content g c =
     let p = err_from_is_err_and c.from_residual-in_err-feed.result c.from_residual-in_err-feed.ensures.1 in
     rw (p.1, p.2) (progress_halts (g.K.Sink.taken c.feed.new.sink) c.chunks.invariant.content c.bytes.result.now _
-        (rw c.bytes.ensures c.in_ok-count.ensures.ok.1) c.in_err-feed.ensures.err)
+    (rw c.bytes.ensures c.in_ok-count.ensures.ok.1) c.in_err-feed.ensures.err)
