@@ -18,7 +18,8 @@ any_now : (words : List (Bor (List ℕ))) (text : List ℕ) → list_any (λ w. 
 any_now [] text = refl
 any_now (word ∷ words) text = ap (λ r. bytes_eq word.now text || r) (any_now words text)
 
-word_decides : (words : List (List ℕ)) (text : List ℕ) → Decides (list_any (λ w. bytes_eq w text) words) (Contains words text)
+-- the test whether a text is one of some words
+pub word_decides : (words : List (List ℕ)) (text : List ℕ) → Decides (list_any (λ w. bytes_eq w text) words) (Contains words text)
 word_decides words text = Decides-contains words text _ (Decides-by_or (λ w. bytes_eq w text) (λ w. w ≡ text) (list_any (λ w. bytes_eq w text)) (λ w. bytes_eq-Decides w text) refl (λ _ _. refl) words)
 
 small : (b : ℕ) → nat_lt b 128 ≡ true → b < 128
@@ -31,7 +32,7 @@ IsAscii-from_test word passes =
 words_are_ascii : (words : List (Bor (List ℕ))) → list_all (λ w. is_ascii w.now) words ≡ true → All IsAscii (map (λ w. w.now) words)
 words_are_ascii words passes =
     All-map IsAscii (λ w. w.now) words
-      (All-weaker (λ w. is_ascii w.now ≡ true) (λ w. IsAscii w.now) (λ w. IsAscii-from_test w.now) words (AllPass-from_list_all (λ w. is_ascii w.now) words passes))
+    (All-weaker (λ w. is_ascii w.now ≡ true) (λ w. IsAscii w.now) (λ w. IsAscii-from_test w.now) words (AllPass-from_list_all (λ w. is_ascii w.now) words passes))
 
 -- a text is one of some words of ASCII by its bytes exactly if it is by its characters
 by_characters : (words : List (List ℕ)) (text : List ℕ) → All IsAscii words → IsUtf8 text → Contains words text → Contains words (chars text)

@@ -10,4 +10,4 @@ returns c =
     let text = c.args.text.now in
     let words = c.args.words.now in
     search_decides words text c.any.result c.requires c.utf8.text
-      (any_from_yields_List (λ w. bytes_eq w.now text) _ _ c.any.result c.any.ensures.ran (YieldsList-from_slice words cc) (λ x b q k. search (rules, tests)))
+    (any_from_yields_List (λ w. bytes_eq w.now text) _ _ c.any.result c.any.ensures.ran (YieldsList-from_slice words cc) (λ x b q k. search (rules, tests)))
