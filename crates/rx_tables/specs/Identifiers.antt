@@ -1,6 +1,6 @@
 -- The characters of identifiers (ECMA-262, 12.7). What is no character, as a surrogate, is none of them.
 use Rattle.std.specs.Prelude.{ℕ, Bool, ◌==◌, ◌&&◌, ◌||◌, nat_lt, if◌then◌else◌}
-use Rattle.ucd_derived.specs.Binary.{is_id_start, is_id_continue}
+use Rattle.unicode.specs.Binary.{is_id_start, is_id_continue}
 use Rattle.rx_tables.specs.Characters.{is_character, is_ascii_letter, is_decimal_digit}
 
 -- UnicodeIDStart (12.7): of ASCII the letters, else what has the property ID_Start
