@@ -1,0 +1,133 @@
+ghost use Rattle.std.specs.Prelude.{◌≡◌};
+ghost use Rattle.rx_tables.specs.Characters as set;
+
+/// Whether a value is one of `^ $ \ . * + ? ( ) [ ] { } |`.
+pub fn is_syntax_character(cp: u32) -> bool
+    ensures { result ≡ set.is_syntax_character cp }
+{
+    char::from_u32(cp).is_some_and(|ch| {
+        matches!(
+            ch,
+            '^' | '$' | '\\' | '.' | '*' | '+' | '?' | '(' | ')' | '[' | ']' | '{' | '}' | '|'
+        )
+    })
+}
+
+/// Whether a value is one of `( ) [ ] { } / - \ |`.
+pub fn is_class_set_syntax_character(cp: u32) -> bool
+    ensures { result ≡ set.is_class_set_syntax_character cp }
+{
+    char::from_u32(cp).is_some_and(|ch| {
+        matches!(
+            ch,
+            '(' | ')' | '[' | ']' | '{' | '}' | '/' | '-' | '\\' | '|'
+        )
+    })
+}
+
+/// Whether two values are twice one of ``& ! # $ % * + , . : ; < = > ? @ ^ ` ~``.
+pub fn is_class_set_reserved_double_punctuator(cp1: u32, cp2: u32) -> bool
+    ensures { result ≡ set.is_class_set_reserved_double_punctuator cp1 cp2 }
+{
+    cp1 == cp2
+        && char::from_u32(cp1).is_some_and(|ch| {
+            matches!(
+                ch,
+                '&' | '!'
+                    | '#'
+                    | '$'
+                    | '%'
+                    | '*'
+                    | '+'
+                    | ','
+                    | '.'
+                    | ':'
+                    | ';'
+                    | '<'
+                    | '='
+                    | '>'
+                    | '?'
+                    | '@'
+                    | '^'
+                    | '`'
+                    | '~'
+            )
+        })
+}
+
+/// Whether a value is one of ``& - ! # % , : ; < = > @ ` ~``.
+pub fn is_class_set_reserved_punctuator(cp: u32) -> bool
+    ensures { result ≡ set.is_reserved_punctuator cp }
+{
+    char::from_u32(cp).is_some_and(|ch| {
+        matches!(
+            ch,
+            '&' | '-' | '!' | '#' | '%' | ',' | ':' | ';' | '<' | '=' | '>' | '@' | '`' | '~'
+        )
+    })
+}
+
+/// Whether a value is one of `0` to `9`.
+pub fn is_decimal_digit(cp: u32) -> bool
+    ensures { result ≡ set.is_decimal_digit cp }
+{
+    char::from_u32(cp).is_some_and(|ch| ch.is_ascii_digit())
+}
+
+/// Whether a value is one of `0` to `7`.
+pub fn is_octal_digit(cp: u32) -> bool
+    ensures { result ≡ set.is_octal_digit cp }
+{
+    char::from_u32(cp).is_some_and(|ch| matches!(ch, '0'..='7'))
+}
+
+/// Whether a value is a code point, surrogates too.
+pub fn is_valid_unicode(cp: u32) -> bool
+    ensures { result ≡ set.is_code_point cp }
+{
+    cp <= 0x10ffff
+}
+
+/// Whether a value may stand in the name of a property: an ASCII letter or `_`.
+pub fn is_unicode_property_name_character(cp: u32) -> bool
+    ensures { result ≡ set.is_unicode_property_name_character cp }
+{
+    char::from_u32(cp).is_some_and(|ch| ch.is_ascii_alphabetic() || ch == '_')
+}
+
+/// Whether a value may stand in the value of a property: an ASCII letter, a digit or `_`.
+pub fn is_unicode_property_value_character(cp: u32) -> bool
+    ensures { result ≡ set.is_unicode_property_value_character cp }
+{
+    char::from_u32(cp).is_some_and(|ch| ch.is_ascii_alphanumeric() || ch == '_')
+}
+
+/// What `\f`, `\n`, `\r`, `\t` or `\v` stands for, by the value behind the backslash.
+pub fn map_control_escape(cp: u32) -> Option<u32>
+    ensures { result ≡ set.control_escape_value cp }
+{
+    match char::from_u32(cp) {
+        Some('f') => Some(0x0c),
+        Some('n') => Some(0x0a),
+        Some('r') => Some(0x0d),
+        Some('t') => Some(0x09),
+        Some('v') => Some(0x0b),
+        _ => None,
+    }
+}
+
+/// What `\c` and an ASCII letter stand for, by the letter.
+pub fn map_c_ascii_letter(cp: u32) -> Option<u32>
+    ensures { result ≡ set.control_letter_value cp }
+{
+    char::from_u32(cp)
+        .filter(char::is_ascii_alphabetic)
+        .map(|_| cp % 32)
+}
+
+/// The number of a hexadecimal digit of either case.
+pub fn map_hex_digit(cp: u32) -> Option<u32>
+    ensures { result ≡ set.hex_digit_value cp }
+{
+    char::from_u32(cp).and_then(|ch| ch.to_digit(16))
+}
