@@ -37,17 +37,28 @@ def make(path, low, high):
     return written
 
 
+def peak_of(pid):
+    """The most memory that the program has had so far, in KiB."""
+    try:
+        with open(f"/proc/{pid}/status") as it:
+            return max([int(row.split()[1]) for row in it if row.startswith("VmHWM")], default=0)
+    except OSError:
+        return 0
+
+
 def measure(program, path, size, name):
     best, peak = None, 0
     for _ in range(3):
         with open(path, "rb") as given, open(os.devnull, "wb") as out:
             began = time.perf_counter()
             child = subprocess.Popen([program], stdin=given, stdout=out)
-            _, status, used = os.wait4(child.pid, 0)
+            while child.poll() is None:
+                peak = max(peak, peak_of(child.pid))
+                time.sleep(0.005)
             took = time.perf_counter() - began
-        if os.waitstatus_to_exitcode(status) != 0:
-            sys.exit(f"{name}: status {os.waitstatus_to_exitcode(status)}")
-        best, peak = min(best or took, took), max(peak, used.ru_maxrss)
+        if child.returncode != 0:
+            sys.exit(f"{name}: status {child.returncode}")
+        best = min(best or took, took)
     print(f"{name}: {size / 1e6:.1f} MB in {best:.2f} s, {size / 1e6 / best:.1f} MB/s, peak memory {peak / 1024:.1f} MiB")
 
 
