@@ -1,13 +1,16 @@
-use crate::OutOfMemory;
+use crate::{Diagnostic, OutOfMemory};
 
 /// Why a pattern was not read.
-#[derive(Clone, Copy, Debug, PartialEq, Eq)]
+#[derive(Debug, Drop)]
 pub enum Fault {
     /// There was not enough memory.
     OutOfMemory,
 
     /// The pattern holds what is not read yet, so it is neither read nor refused.
     NotYet,
+
+    /// The pattern is refused.
+    Diagnostic(Diagnostic),
 }
 
 impl From<OutOfMemory> for Fault {
@@ -18,5 +21,16 @@ impl From<OutOfMemory> for Fault {
 
     fn from(_: OutOfMemory) -> Fault {
         Fault::OutOfMemory
+    }
+}
+
+impl From<Diagnostic> for Fault {
+    ghost use Rattle.std.specs.Prelude.{◌≡◌};
+    ghost use Rattle.rx_base.specs.declared.fault.Fault.TheVariants as fault;
+
+    ghost from_gives = { λ diagnostic e. e ≡ fault.Diagnostic diagnostic };
+
+    fn from(diagnostic: Diagnostic) -> Fault {
+        Fault::Diagnostic(diagnostic)
     }
 }

@@ -3,6 +3,7 @@
 #![tactic(auto)]
 
 mod clean;
+mod diagnostic;
 mod ends;
 mod fault;
 mod fill;
@@ -16,6 +17,7 @@ mod text;
 mod write;
 
 pub use clean::{CleanSink, CleanSource};
+pub use diagnostic::{Diagnostic, DigitsKind, PropertyPart, RangeKind, SetOperator, Unterminated};
 pub use ends::{Failed, Sink, Source};
 pub use fault::Fault;
 pub use list::List;
