@@ -3,6 +3,7 @@ pub mod ClassText
 pub mod Early
 pub mod Environment
 pub mod Events
+pub mod FlagCauses
 pub mod Flags
 pub mod Names
 pub mod Reading

@@ -1,0 +1,8 @@
+//! Reading what stands before a pattern's tree: flags, and the spans that answers carry.
+#![tactic(auto)]
+
+mod flags_parser;
+mod span_factory;
+
+pub use flags_parser::FlagsParser;
+pub use span_factory::SpanFactory;
