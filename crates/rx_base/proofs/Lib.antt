@@ -1,3 +1,4 @@
+pub mod Messages
 pub mod Moves
 pub mod Texts
 pub mod Writings

@@ -4,6 +4,8 @@ ghost use Rattle.rx_base.specs.Diagnostic.{name_of, first_span_of, second_span_o
 use crate::{List, Span, Text};
 
 mod kinds;
+mod message;
+mod reason;
 
 pub use kinds::{DigitsKind, PropertyPart, RangeKind, SetOperator, Unterminated};
 

@@ -11,6 +11,7 @@ mod list;
 mod memory;
 mod out_of_memory;
 mod span;
+mod surrogate_pair;
 #[cfg(test)]
 mod tests;
 mod text;
@@ -24,5 +25,6 @@ pub use list::List;
 pub use memory::{MemorySink, MemorySource};
 pub use out_of_memory::OutOfMemory;
 pub use span::{GetSpan, Span};
+pub use surrogate_pair::{combine_surrogate_pair, is_lead_surrogate, is_trail_surrogate};
 pub use text::Text;
 pub use write::write_all;
