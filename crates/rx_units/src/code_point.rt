@@ -1,8 +1,9 @@
 use rx_base::Span;
 
 /// How a unit was written.
-#[derive(Clone, Copy, Debug, PartialEq, Eq)]
+#[derive(Clone, Copy, Debug, Default, PartialEq, Eq)]
 pub enum EscapeKind {
+    #[default]
     None,
     Unicode,
     Hexadecimal,

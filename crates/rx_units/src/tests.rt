@@ -1,5 +1,11 @@
-use crate::{CodePoint, EscapeKind, handle_code_point, parse_regexp_literal};
-use rx_base::List;
+ghost use Rattle.std.specs.Prelude.{◌<◌, ◌^◌, length};
+
+use crate::{
+    CR, CodePoint, EscapeKind, LF, LS, PS, Reader, handle_code_point, is_line_terminator,
+    is_non_escape_character, is_single_escape_character, parse_regexp_literal,
+};
+use rx_base::{List, Text};
+use std::alloc::Global;
 use std::test::Fail;
 
 fn shown(unit: &CodePoint) -> (u32, u32, u32, EscapeKind) {
@@ -43,4 +49,125 @@ fn a_pair_apart(rt: HostRuntime) -> Result<(), Fail> {
     assert_eq!(rt; shown(&units[0]), (10, 14, 0xD83D, EscapeKind::Unicode));
     assert_eq!(rt; shown(&units[1]), (10, 14, 0xDE00, EscapeKind::Unicode));
     Ok(())
+}
+
+#[test]
+fn what_is_next(rt: HostRuntime) -> Result<(), Fail> {
+    let mut reader = Reader::initialize(rt.alloc(), "ab", false, false)?;
+    assert_eq!(rt; reader.checkpoint(), (0, 0));
+    assert_eq!(rt; reader.peek(), Some(0x61));
+    assert_eq!(rt; reader.peek2(), Some(0x62));
+    assert_eq!(rt; reader.peek_escape_kind(), EscapeKind::None);
+    assert_eq!(rt; reader.remaining_code_points().len(), 2);
+    reader.skip(3);
+    assert_eq!(rt; reader.checkpoint(), (2, 2));
+    assert_eq!(rt; reader.peek(), None);
+    assert_eq!(rt; reader.peek_escape_kind(), EscapeKind::None);
+    assert!(rt; reader.contains('a'));
+    assert!(rt; !reader.contains('c'));
+    Ok(())
+}
+
+#[test]
+fn one_by_one(rt: HostRuntime) -> Result<(), Fail> {
+    let mut reader = Reader::initialize(rt.alloc(), "ab", false, false)?;
+    assert!(rt; reader.eat('a'));
+    assert_eq!(rt; reader.offset(), 1);
+    assert!(rt; !reader.eat('a'));
+    assert_eq!(rt; reader.peek2(), None);
+    assert!(rt; reader.eat('b'));
+    reader.advance();
+    assert_eq!(rt; reader.checkpoint(), (2, 2));
+    Ok(())
+}
+
+#[test]
+fn back_to_a_checkpoint(rt: HostRuntime) -> Result<(), Fail> {
+    let mut reader = Reader::initialize(rt.alloc(), "ab", false, false)?;
+    let start = reader.checkpoint();
+    reader.advance();
+    assert_eq!(rt; reader.code_points_since(start).len(), 1);
+    reader.rewind(start);
+    assert!(rt; !reader.eat2('a', 'a'));
+    assert!(rt; reader.eat2('a', 'b'));
+    Ok(())
+}
+
+#[test]
+fn runs_are_eaten_whole(rt: HostRuntime) -> Result<(), Fail> {
+    let mut reader = Reader::initialize(rt.alloc(), "abcabcd", true, false)?;
+    assert!(rt; !reader.eat3('a', 'b', 'd'));
+    assert!(rt; reader.eat3('a', 'b', 'c'));
+    assert_eq!(rt; reader.offset(), 3);
+    assert!(rt; !reader.eat4('a', 'b', 'c', 'e'));
+    assert!(rt; reader.eat4('a', 'b', 'c', 'd'));
+    assert_eq!(rt; reader.offset(), 7);
+    Ok(())
+}
+
+/// The source text before a place.
+fn text_before(alloc: Global, source_text: &str, place: usize) -> Result<Text, Fail>
+    requires { length source_text.now < 2 ^ 32 }
+{
+    let mut reader = Reader::initialize(alloc, source_text, false, false)?;
+    let start = reader.offset();
+    reader.skip(place);
+    Ok(reader.str(alloc, start, reader.offset())?)
+}
+
+#[test]
+fn texts_between_offsets(rt: HostRuntime) -> Result<(), Fail> {
+    for (text, place, wanted) in [
+        ("ab", 0, ""),
+        ("ab", 2, "ab"),
+        ("é\u{20AC}\u{1F600}", 2, "é\u{20AC}"),
+        ("é\u{20AC}\u{1F600}", 4, "é\u{20AC}\u{1F600}"),
+    ] {
+        let before = text_before(rt.alloc(), text, place)?;
+        assert_eq!(rt; before.as_str(), wanted, "{place} of {text}");
+    }
+    Ok(())
+}
+
+#[test]
+fn places_of_wide_characters(rt: HostRuntime) -> Result<(), Fail> {
+    let joined: &[(u32, u32)] = &[(0xE9, 2), (0x20AC, 5), (0x1F600, 9)];
+    let parted: &[(u32, u32)] = &[(0xE9, 2), (0x20AC, 5), (0xD83D, 9), (0xDE00, 9)];
+    for (unicode_mode, wanted) in [(true, joined), (false, parted)] {
+        let mut reader = Reader::initialize(rt.alloc(), "é\u{20AC}\u{1F600}", unicode_mode, false)?;
+        for (value, end) in wanted {
+            assert_eq!(rt; reader.peek(), Some(*value));
+            reader.advance();
+            assert_eq!(rt; reader.offset(), *end);
+        }
+        assert_eq!(rt; reader.peek(), None);
+    }
+    Ok(())
+}
+
+#[test]
+fn characters_of_string_literals(rt: HostRuntime) {
+    for (characters, line_terminator, single_escape, non_escape) in [
+        ("\n\r\u{2028}\u{2029}", true, false, false),
+        ("\"'\\bfnrtv", false, true, false),
+        ("0189ux", false, false, false),
+        (
+            "\0\t\u{B}\u{C}\u{E} !#&(/:[]acegmoqswyBFNRTUVX\u{85}\u{2027}\u{202A}\u{10FFFF}",
+            false,
+            false,
+            true,
+        ),
+    ] {
+        for ch in characters.chars() {
+            let code = ch as u32;
+            assert_eq!(rt; is_line_terminator(ch), line_terminator, "at {code}");
+            assert_eq!(rt; is_single_escape_character(ch), single_escape, "at {code}");
+            assert_eq!(rt; is_non_escape_character(ch), non_escape, "at {code}");
+        }
+    }
+    assert_eq!(rt;
+        [LF, CR, LS, PS],
+        ['\u{A}', '\u{D}', '\u{2028}', '\u{2029}']
+    );
+    assert_eq!(rt; EscapeKind::default(), EscapeKind::None);
 }

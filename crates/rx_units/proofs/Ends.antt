@@ -1,0 +1,51 @@
+-- Where the units of a literal end, and what that says of offsets.
+use Rattle.std.proofs.Common.{◌≡◌, ℕ, zero, suc, ◌+◌, ◌≤◌, Bool, true, false, ◌&&◌, ◌||◌, cond, nat_lt, List, [], ◌∷◌, ◌++◌, length, take, refl, sym, ◌∙◌, arith, append_assoc, length-append}
+use Rattle.std.proofs.lemmas.Str.{length-encode, IsCharBoundary-at_seam, scalars-chars, encodes-chars}
+use Rattle.std.specs.Char.{len_utf8}
+use Rattle.std.specs.Str.{IsCharBoundary, IsUtf8, chars}
+use lib.Utf8.{encode, encodes, scalar, scalars}
+use Rattle.rx_units.specs.declared.code_point.CodePoint.{CodePoint}
+use Rattle.rx_units.specs.declared.code_point.EscapeKind.TheVariants as kind
+use Rattle.rx_units.specs.Reading.{AreEnds}
+use Rattle.rx_units.specs.Units.{character_units, end_of, lead_of, literal_units, offset_at, trail_of, unit}
+
+both_true : (a b : Bool) → (a && b) ≡ true → (a ≡ true) × (b ≡ true)
+both_true true b h = (refl, h)
+both_true false b h = absurd (let k : ⊥ = cc h in k)
+
+-- the units of one character before others
+AreEnds-character : (text : List ℕ) (joined : Bool) (start end c : ℕ) (us : List CodePoint) → start ≤ end → IsCharBoundary text end → AreEnds text end us → AreEnds text start (character_units joined start end c kind.None ++ us)
+AreEnds-character text joined start end c us order cut more =
+    let e : end ≤ end = omega arith in
+    elim (joined || nat_lt c 0x10000) as (λ b. AreEnds text start (cond b (unit start end c kind.None ∷ []) (unit start end (lead_of c) kind.None ∷ unit start end (trail_of c) kind.None ∷ []) ++ us)) [ true ↦ (order, cut, more) | false ↦ (order, cut, (e, cut, more)) ]
+
+AreEnds-literal : (text behind cs : List ℕ) (joined : Bool) (at : ℕ) → at ≡ length behind → scalars cs ≡ true → text ≡ behind ++ encodes cs → AreEnds text at (literal_units joined at cs)
+AreEnds-literal text behind [] joined at is s h = tt
+AreEnds-literal text behind (c ∷ cs) joined at is s h =
+    let more = both_true (scalar c) (scalars cs) s in
+    let e : at + len_utf8 c ≡ length (behind ++ encode c) = omega (arith, length-append behind (encode c), length-encode c) in
+    let t = h ∙ sym (append_assoc behind (encode c) (encodes cs)) in
+    AreEnds-character text joined at (at + len_utf8 c) c _ (omega arith)
+    (rw e (IsCharBoundary-at_seam text (behind ++ encode c) (encodes cs) t (cs, (more.1, refl))))
+    (AreEnds-literal text (behind ++ encode c) cs joined (at + len_utf8 c) e more.1 t)
+
+pub literal_ends : (text : List ℕ) (joined : Bool) → IsUtf8 text → AreEnds text 0 (literal_units joined 0 (chars text))
+literal_ends text joined h = AreEnds-literal text [] (chars text) joined 0 refl (scalars-chars text h) (sym (encodes-chars text h))
+
+-- at each offset the text may be cut
+pub offset_is_cut : (text : List ℕ) (first : ℕ) (us : List CodePoint) (place : ℕ) → IsCharBoundary text first → AreEnds text first us → IsCharBoundary text (offset_at first us place)
+offset_is_cut text first us zero start ends = start
+offset_is_cut text first [] (suc place) start ends = start
+offset_is_cut text first (u ∷ us) (suc place) start ends = offset_is_cut text u.span.end us place ends.1 ends.2
+
+first_le-offset_at : (text : List ℕ) (first : ℕ) (us : List CodePoint) (place : ℕ) → AreEnds text first us → first ≤ offset_at first us place
+first_le-offset_at text first us zero ends = omega arith
+first_le-offset_at text first [] (suc place) ends = omega arith
+first_le-offset_at text first (u ∷ us) (suc place) ends = omega (arith, ends.0, first_le-offset_at text u.span.end us place ends.2)
+
+-- offsets do not fall
+pub offset_at_le : (text : List ℕ) (first : ℕ) (us : List CodePoint) (i j : ℕ) → i ≤ j → AreEnds text first us → offset_at first us i ≤ offset_at first us j
+offset_at_le text first us zero j order ends = first_le-offset_at text first us j ends
+offset_at_le text first us (suc i) zero order ends = absurd (omega arith)
+offset_at_le text first [] (suc i) (suc j) order ends = omega arith
+offset_at_le text first (u ∷ us) (suc i) (suc j) order ends = offset_at_le text u.span.end us i j (omega arith) ends.2
