@@ -23,6 +23,10 @@ flags_ok fs = are_distinct_flags fs && not (holds fs 117 && holds fs 118)
 abbrev pub mode_of : List ℕ → Mode
 mode_of fs = if holds fs 118 then Sets else (if holds fs 117 then Unicode else Legacy)
 
+-- whether the flags ask for a unicode mode, and for sets mode
+abbrev pub modes_of : List ℕ → Bool × Bool
+modes_of fs = (holds fs 118 || holds fs 117, holds fs 118)
+
 -- no flags text is no flags
 abbrev pub flags_of : Option (List ℕ) → List ℕ
 flags_of None = []
