@@ -5,6 +5,7 @@ pub mod Environment
 pub mod Events
 pub mod FlagCauses
 pub mod Flags
+pub mod Modes
 pub mod Names
 pub mod Reading
 pub mod Rows

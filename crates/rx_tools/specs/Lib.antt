@@ -1,4 +1,5 @@
 pub mod Characters
+pub mod Faults
 pub mod Flat
 pub mod Levels
 pub mod NotYet
