@@ -1,4 +1,4 @@
--- A test of a flags text, by its bytes.
+-- What a text holds, by its bytes.
 use Rattle.std.proofs.Common.{◌≡◌, refl, ap, sym, ◌∙◌, ℕ, Bool, true, false, ◌&&◌, List, [], ◌∷◌, nat_eq, arith, length}
 use Rattle.std.specs.Str.{chars, IsUtf8}
 use Rattle.std.proofs.lemmas.Str.{encodes-chars}
@@ -7,26 +7,7 @@ use Rattle.std.proofs.Math.Bool.{and-true}
 use lib.Pointwise.{pointwise}
 use lib.Utf8.{encodes}
 use Rattle.std.specs.List.{list_any}
-use Rattle.rx_tools.specs.NotYet.{is_u, is_unread, holds_unread}
-
-pub only : (xs : List ℕ) → pointwise nat_eq xs (117 ∷ []) ≡ true → xs ≡ 117 ∷ []
-only [] h = cc
-only (x ∷ []) h = ap (λ y. y ∷ []) (eqb-true x 117 (sym (and-true (nat_eq x 117)) ∙ h))
-only (x ∷ y ∷ xs) h = absurd (let no : ⊥ = grind (arith, h) in no)
-
-both : (a b : Bool) → (a ≡ true → b ≡ true) → (b ≡ true → a ≡ true) → a ≡ b
-both true true f g = refl
-both true false f g = sym (f refl)
-both false true f g = g refl
-both false false f g = refl
-
--- the bytes are `u` exactly where the characters are
-pub u_by_bytes : (bytes : List ℕ) → IsUtf8 bytes → pointwise nat_eq bytes (117 ∷ []) ≡ is_u (chars bytes)
-unfolding chars lib.Utf8.encode
-u_by_bytes bytes h =
-    both (pointwise nat_eq bytes (117 ∷ [])) (is_u (chars bytes))
-    (λ e. ap (λ b. is_u (chars b)) (only bytes e))
-    (λ e. ap (λ b. pointwise nat_eq b (117 ∷ [])) (sym (encodes-chars bytes h) ∙ ap encodes (only (chars bytes) e)))
+use Rattle.rx_tools.specs.NotYet.{is_unread, holds_unread}
 
 some_text : (cs : List ℕ) → (cs ≡ [] → ⊥) → list_any is_unread cs ≡ holds_unread cs
 some_text [] h = absurd (h refl)

@@ -23,6 +23,7 @@ fn texts(rt: HostRuntime) -> Result<(), Fail> {
         ("a.b|c", "a.b|c"),
         ("a/b", "a\\/b"),
         ("a||b", "a||b"),
+        ("a|.", "a|."),
         ("|", "|"),
         (".", "."),
         ("-", "-"),
@@ -35,7 +36,8 @@ fn texts(rt: HostRuntime) -> Result<(), Fail> {
         let it = read(rt.alloc(), pattern, 7).ok().ok_or("refused")?;
         assert_eq!(rt; it.text.as_str(), text);
         assert_eq!(rt; it.mode, Mode::Unicode);
-        let again = canonical_text(rt.alloc(), &it.pattern, it.mode)
+        let copy = it.pattern.clone(rt.alloc()).ok().ok_or("memory")?;
+        let again = canonical_text(rt.alloc(), &copy, it.mode)
             .ok()
             .ok_or("memory")?;
         assert_eq!(rt; again.as_str(), text);
@@ -76,22 +78,51 @@ fn not_yet(rt: HostRuntime) -> Result<(), Fail> {
     let rows = [
         (Form::Literal, "", Some("u")),
         (Form::Literal, "(a)", Some("u")),
-        (Form::Literal, "a*", Some("u")),
+        (Form::Literal, "a*", Some("iu")),
         (Form::Literal, "\\", Some("u")),
         (Form::Literal, "a", None),
         (Form::Literal, "a", Some("")),
-        (Form::Literal, "a", Some("ui")),
+        (Form::Literal, "a", Some("gi")),
         (Form::Literal, "a", Some("v")),
         (Form::Constructor, "\"a\"", Some("u")),
+        (Form::Constructor, "\"a\"", Some("\"gg\"")),
     ];
     for (form, pattern, flags) in rows {
         let answer = canonical(rt.alloc(), form, pattern, flags, Options::default());
         assert!(rt; matches!(&answer, Err(Fault::NotYet)), "{pattern}");
     }
     let options = Options::default();
-    assert_eq!(rt;
-        (options.pattern_span_offset, options.flags_span_offset),
-        (0, 0)
-    );
+    assert_eq!(rt; (options.pattern_span_offset, options.flags_span_offset), (0, 0));
+    Ok(())
+}
+
+#[test]
+fn flags(rt: HostRuntime) -> Result<(), Fail> {
+    for flags in ["u", "ui", "su", "dgimsuy"] {
+        let answer = canonical(rt.alloc(), Form::Literal, "a", Some(flags), Options::default());
+        let it = answer.ok().ok_or("refused")?;
+        assert_eq!(rt; it.mode, Mode::Unicode);
+    }
+    let rows = [
+        ("gg", "duplicated_flags", 1, 2),
+        ("ux", "unknown_flag", 1, 2),
+        ("uv", "invalid_unicode_flags", 1, 2),
+        ("vu", "invalid_unicode_flags", 1, 2),
+        ("é", "unknown_flag", 0, 2),
+    ];
+    let options = Options {
+        pattern_span_offset: 0,
+        flags_span_offset: 7,
+    };
+    for (flags, name, start, end) in rows {
+        match canonical(rt.alloc(), Form::Literal, "(", Some(flags), options) {
+            Err(Fault::Diagnostic(cause)) => {
+                assert_eq!(rt; cause.name(), name);
+                assert_eq!(rt; cause.first_span(), Span::new(7 + start, 7 + end));
+                assert_eq!(rt; cause.second_span(), None);
+            }
+            _ => assert!(rt; false, "{flags}"),
+        }
+    }
     Ok(())
 }

@@ -8,7 +8,7 @@ use Rattle.rx_model.specs.declared.mode.Mode.TheVariants.{Unicode}
 use Rattle.rx_tools.specs.Flat.{Fit}
 use Rattle.rx_tools.proofs.FlatReads.{flat_reads, flat_is_spanned}
 use Rattle.rx_tools.proofs.FlatTexts.{text_fits, text_flat, text_small, text_stands}
-use Rattle.rx_tools.proofs.reading.read.Goals as goal
+use Rattle.rx_tools.proofs.reading.read_text.Goals as goal
 
 pub read_flat-requires : goal.read_flat-requires
 read_flat-requires c =
