@@ -1,5 +1,5 @@
 -- The bytes of a message.
-use Rattle.std.proofs.Common.{◌≡◌, ap, refl, subst, sym, ◌∙◌, ℕ, ◌<◌, ◌^◌, arith, List, [], ◌∷◌, ◌++◌, append_assoc, append-nil, codes, Option, Some, cond, true, ◌||◌, nat_lt}
+use Rattle.std.proofs.Common.{◌≡◌, ap, refl, subst, sym, ◌∙◌, ℕ, ◌<◌, ◌^◌, arith, List, [], ◌∷◌, ◌++◌, append_assoc, append-nil, codes, Option, Some, true, ◌||◌, nat_lt}
 use Rattle.std.specs.Char.{digit_value, encode_utf8, OutOfScalarRange}
 use Rattle.std.specs.Fmt.{digits, WritesText, ◌++?◌}
 use Rattle.std.specs.Fmt.InlineText.{inline_text, AppendsIfIntact, IsIntact}

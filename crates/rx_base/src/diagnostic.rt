@@ -6,6 +6,8 @@ use crate::{List, Span, Text};
 mod kinds;
 mod message;
 mod reason;
+#[cfg(test)]
+mod tests;
 
 pub use kinds::{DigitsKind, PropertyPart, RangeKind, SetOperator, Unterminated};
 

@@ -1,6 +1,6 @@
 use crate::{
     CleanSink, CleanSource, Failed, List, MemorySink, MemorySource, OutOfMemory, Sink, Source,
-    Text, write_all,
+    Text, combine_surrogate_pair, is_lead_surrogate, is_trail_surrogate, write_all,
 };
 use std::alloc::Global;
 use std::test::Fail;
@@ -109,4 +109,22 @@ fn clean_source_gives_all(rt: HostRuntime) -> Result<(), Fail> {
     assert_eq!(rt; source.read(&mut buffer), Ok(1));
     assert_eq!(rt; source.read(&mut buffer), Ok(0));
     Ok(())
+}
+
+#[test]
+fn surrogates_at_their_edges(rt: HostRuntime) {
+    for (code_point, lead, trail) in [
+        (0xD7FF, false, false),
+        (0xD800, true, false),
+        (0xDBFF, true, false),
+        (0xDC00, false, true),
+        (0xDFFF, false, true),
+        (0xE000, false, false),
+    ] {
+        assert_eq!(rt; is_lead_surrogate(code_point), lead, "at {code_point:X}");
+        assert_eq!(rt; is_trail_surrogate(code_point), trail, "at {code_point:X}");
+    }
+    assert_eq!(rt; combine_surrogate_pair(0xD800, 0xDC00), 0x10000);
+    assert_eq!(rt; combine_surrogate_pair(0xD83D, 0xDE00), 0x1F600);
+    assert_eq!(rt; combine_surrogate_pair(0xDBFF, 0xDFFF), 0x10FFFF);
 }

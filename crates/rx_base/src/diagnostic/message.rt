@@ -14,35 +14,81 @@ impl Diagnostic {
     {
         match self {
             Diagnostic::InvalidInput { .. } => Reason::Text("Invalid input string literal"),
-            Diagnostic::UnknownFlag { flag, .. } => Reason::Flag("Unknown flag: `", *flag, "` found"),
-            Diagnostic::DuplicatedFlags { flag, .. } => Reason::Flag("Duplicated flag: `", *flag, "` found"),
-            Diagnostic::InvalidUnicodeFlags { .. } => Reason::Text("Invalid unicode flags combination `u` and `v`"),
-            Diagnostic::DuplicatedCapturingGroupNames { .. } => Reason::Text("Duplicated capturing group names"),
+            Diagnostic::UnknownFlag { flag, .. } => Reason::Flag(
+                "Unknown flag: `",
+                *flag,
+                "` found",
+            ),
+            Diagnostic::DuplicatedFlags { flag, .. } => Reason::Flag(
+                "Duplicated flag: `",
+                *flag,
+                "` found",
+            ),
+            Diagnostic::InvalidUnicodeFlags { .. } => Reason::Text(
+                "Invalid unicode flags combination `u` and `v`",
+            ),
+            Diagnostic::DuplicatedCapturingGroupNames { .. } => Reason::Text(
+                "Duplicated capturing group names",
+            ),
             Diagnostic::TooMayCapturingGroups { .. } => Reason::Text("Too many capturing groups"),
-            Diagnostic::ParsePatternIncomplete { .. } => Reason::Text("Could not parse the entire pattern"),
-            Diagnostic::LoneQuantifier { .. } => Reason::Text("Lone quantifier found, expected with `Atom`"),
+            Diagnostic::ParsePatternIncomplete { .. } => Reason::Text(
+                "Could not parse the entire pattern",
+            ),
+            Diagnostic::LoneQuantifier { .. } => Reason::Text(
+                "Lone quantifier found, expected with `Atom`",
+            ),
             Diagnostic::UnterminatedPattern { what, .. } => Reason::Text(what.reason()),
-            Diagnostic::InvalidExtendedAtomEscape { .. } => Reason::Text("Invalid extended atom escape"),
+            Diagnostic::InvalidExtendedAtomEscape { .. } => Reason::Text(
+                "Invalid extended atom escape",
+            ),
             Diagnostic::InvalidBracedQuantifier { .. } => Reason::Text("Invalid braced quantifier"),
             Diagnostic::InvalidIndexedReference { .. } => Reason::Text("Invalid indexed reference"),
             Diagnostic::EmptyGroupSpecifier { .. } => Reason::Text("Group specifier is empty"),
             Diagnostic::InvalidNamedReference { .. } => Reason::Text("Invalid named reference"),
-            Diagnostic::InvalidUnicodePropertyNameNegativeStrings { name, .. } => Reason::Name("Property name `", name.as_str(), "` is not allowed here"),
-            Diagnostic::InvalidCharacterClass { .. } => Reason::Text("Invalid character class with strings unicode property"),
+            Diagnostic::InvalidUnicodePropertyNameNegativeStrings { name, .. } => Reason::Name(
+                "Property name `",
+                name.as_str(),
+                "` is not allowed here",
+            ),
+            Diagnostic::InvalidCharacterClass { .. } => Reason::Text(
+                "Invalid character class with strings unicode property",
+            ),
             Diagnostic::CharacterClassRangeOutOfOrder { what, .. } => Reason::Text(what.reason()),
-            Diagnostic::CharacterClassRangeDashNotSubtraction { .. } => Reason::Text("Character class range out of order"),
-            Diagnostic::CharacterClassRangeInvalidAtom { .. } => Reason::Text("Character class range with invalid atom"),
+            Diagnostic::CharacterClassRangeDashNotSubtraction { .. } => Reason::Text(
+                "Character class range out of order",
+            ),
+            Diagnostic::CharacterClassRangeInvalidAtom { .. } => Reason::Text(
+                "Character class range with invalid atom",
+            ),
             Diagnostic::InvalidClassAtom { .. } => Reason::Text("Invalid class atom"),
-            Diagnostic::EmptyClassSetExpression { .. } => Reason::Text("Expected nonempty class set expression"),
-            Diagnostic::ClassIntersectionUnexpectedAmpersand { .. } => Reason::Text("Unexpected `&` inside of class intersection"),
-            Diagnostic::ClassSetExpressionInvalidCharacter { what, .. } => Reason::Text(what.reason()),
-            Diagnostic::CharacterClassContentsInvalidOperands { .. } => Reason::Text("Invalid class operands inside of character class contents"),
-            Diagnostic::TooLargeNumberInBracedQuantifier { .. } => Reason::Text("Number is too large in braced quantifier"),
-            Diagnostic::BracedQuantifierOutOfOrder { .. } => Reason::Text("Numbers out of order in braced quantifier"),
+            Diagnostic::EmptyClassSetExpression { .. } => Reason::Text(
+                "Expected nonempty class set expression",
+            ),
+            Diagnostic::ClassIntersectionUnexpectedAmpersand { .. } => Reason::Text(
+                "Unexpected `&` inside of class intersection",
+            ),
+            Diagnostic::ClassSetExpressionInvalidCharacter { what, .. } => Reason::Text(
+                what.reason(),
+            ),
+            Diagnostic::CharacterClassContentsInvalidOperands { .. } => Reason::Text(
+                "Invalid class operands inside of character class contents",
+            ),
+            Diagnostic::TooLargeNumberInBracedQuantifier { .. } => Reason::Text(
+                "Number is too large in braced quantifier",
+            ),
+            Diagnostic::BracedQuantifierOutOfOrder { .. } => Reason::Text(
+                "Numbers out of order in braced quantifier",
+            ),
             Diagnostic::TooLargeNumberDigits { what, .. } => Reason::Text(what.reason()),
             Diagnostic::InvalidUnicodeProperty { what, .. } => Reason::Text(what.reason()),
-            Diagnostic::InvalidUnicodePropertyOfStrings { name, .. } => Reason::Name("Invalid unicode property `", name.as_str(), "`"),
-            Diagnostic::InvalidUnicodeEscapeSequence { .. } => Reason::Text("Invalid unicode escape sequence"),
+            Diagnostic::InvalidUnicodePropertyOfStrings { name, .. } => Reason::Name(
+                "Invalid unicode property `",
+                name.as_str(),
+                "`",
+            ),
+            Diagnostic::InvalidUnicodeEscapeSequence { .. } => Reason::Text(
+                "Invalid unicode escape sequence",
+            ),
             Diagnostic::InvalidSurrogatePair { .. } => Reason::Text("Invalid surrogate pair"),
             Diagnostic::DuplicatedModifiers { .. } => Reason::Text("Duplicated modifier"),
             Diagnostic::InvalidModifiers { .. } => Reason::Text("Invalid modifiers"),

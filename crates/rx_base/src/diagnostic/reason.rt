@@ -22,13 +22,23 @@ impl Reason<'_> {
     {
         match self {
             Reason::Text(text) => f.write_str(text),
-            Reason::Flag(before, flag, after) => write_between(f, before, shown_flag(flag)?.as_str(), after),
+            Reason::Flag(before, flag, after) => write_between(
+                f,
+                before,
+                shown_flag(flag)?.as_str(),
+                after,
+            ),
             Reason::Name(before, name, after) => write_between(f, before, name, after),
         }
     }
 }
 
-fn write_between<W: fmt::Write>(f: &mut fmt::Formatter<W>, before: &str, quoted: &str, after: &str) -> fmt::Result
+fn write_between<W: fmt::Write>(
+    f: &mut fmt::Formatter<W>,
+    before: &str,
+    quoted: &str,
+    after: &str,
+) -> fmt::Result
     ensures plain { WritesOnOk W.write_str_gives f.old result (before.now ++ (quoted.now ++ after.now)) f.new }
     ensures styled { WritesStyledOnOk W.write_str_gives f.old result (before.now ++ (quoted.now ++ after.now)) f.new }
 {
