@@ -1,5 +1,5 @@
 -- Where the units of a literal end, and what that says of offsets.
-use Rattle.std.proofs.Common.{◌≡◌, ℕ, zero, suc, ◌+◌, ◌≤◌, Bool, true, false, ◌&&◌, ◌||◌, cond, nat_lt, List, [], ◌∷◌, ◌++◌, length, take, refl, sym, ◌∙◌, arith, append_assoc, length-append}
+use Rattle.std.proofs.Common.{◌≡◌, ℕ, zero, suc, ◌+◌, ◌≤◌, Bool, true, false, ◌&&◌, ◌||◌, cond, nat_lt, List, [], ◌∷◌, ◌++◌, length, refl, sym, ◌∙◌, arith, append_assoc, length-append}
 use Rattle.std.proofs.lemmas.Str.{length-encode, IsCharBoundary-at_seam, scalars-chars, encodes-chars}
 use Rattle.std.specs.Char.{len_utf8}
 use Rattle.std.specs.Str.{IsCharBoundary, IsUtf8, chars}
@@ -7,7 +7,7 @@ use lib.Utf8.{encode, encodes, scalar, scalars}
 use Rattle.rx_units.specs.declared.code_point.CodePoint.{CodePoint}
 use Rattle.rx_units.specs.declared.code_point.EscapeKind.TheVariants as kind
 use Rattle.rx_units.specs.Reading.{AreEnds}
-use Rattle.rx_units.specs.Units.{character_units, end_of, lead_of, literal_units, offset_at, trail_of, unit}
+use Rattle.rx_units.specs.Units.{character_units, lead_of, literal_units, offset_at, trail_of, unit}
 
 both_true : (a b : Bool) → (a && b) ≡ true → (a ≡ true) × (b ≡ true)
 both_true true b h = (refl, h)

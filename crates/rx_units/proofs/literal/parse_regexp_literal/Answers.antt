@@ -1,4 +1,4 @@
-use Rattle.std.proofs.Common.{◌≡◌, ℕ, ◌+◌, ◌<◌, ◌++◌, length, get_or, refl, ap, sym, ◌∙◌, arith, append-nil, add-zero, add_assoc}
+use Rattle.std.proofs.Common.{ℕ, ◌+◌, ◌++◌, length, refl, ap, sym, ◌∙◌, arith, append-nil, add-zero}
 use Rattle.std.proofs.lemmas.Iterator.{YieldsList-from_chars}
 use Rattle.std.proofs.lemmas.Iterator.Consumers.{YieldsList-turn, YieldsList-end}
 use Rattle.std.proofs.lemmas.List.{at_drop_all, length_push}

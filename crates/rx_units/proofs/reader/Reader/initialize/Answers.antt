@@ -8,5 +8,5 @@ invariant_of-result c = record {
   within = omega arith;
   offset_is = refl;
   start = IsCharBoundary-start c.args.source_text.now c.utf8.source_text;
-  ends = rw c.in_ok-units.ensures (literal_ends c.args.source_text.now c.args.unicode_mode c.utf8.source_text);
+  ends = rw c.in_ok-units.ensures (literal_ends c.args.source_text.now _ c.utf8.source_text);
 }
