@@ -1,10 +1,10 @@
-ghost use Rattle.std.specs.Prelude.{◌≡◌, ◌+◌, ◌<◌, ◌^◌, true, All, IfOk, IfErr};
+ghost use Rattle.std.specs.Prelude.{◌≡◌, ℕ, ◌+◌, ◌<◌, ◌^◌, true, All, IfOk, IfErr, MatchOption, length, take};
 ghost use Rattle.rx_units.specs.Units.{values};
-ghost use Rattle.rx_model.specs.FlagCauses.{IsFlagCause};
+ghost use Rattle.rx_model.specs.FlagCauses.{IsFlagCause, unit_span};
 ghost use Rattle.rx_model.specs.Flags.{flags_ok, holds, is_flag, modes_of};
 
 use crate::SpanFactory;
-use rx_base::Diagnostic;
+use rx_base::{Diagnostic, Span};
 use rx_units::{CodePoint, Reader};
 
 /// Reads flags.
@@ -16,7 +16,7 @@ pub struct FlagsParser<'a> {
 
 impl<'a> FlagsParser<'a> {
     pub fn new(reader: Reader<'a>, span_offset: u32) -> FlagsParser<'a>
-        ensures reader { result.reader ≡ reader }
+        ensures reader { result.reader ≡ reader.entry }
         ensures offset { result.spans ≡ span_offset }
     {
         FlagsParser {
@@ -30,13 +30,77 @@ impl<'a> FlagsParser<'a> {
         requires start { self.reader.place ≡ 0 }
         requires first { self.reader.first + self.spans < 2 ^ 32 }
         requires fits { All (λ unit. unit.span.end + self.spans < 2 ^ 32) self.reader.units }
-        ensures passed { IfOk result (λ modes. flags_ok (values self.reader.units) ≡ true) }
-        ensures modes { IfOk result (λ modes. modes ≡ modes_of (values self.reader.units)) }
-        ensures refused { IfErr result (λ cause. IsFlagCause self.reader.units self.reader.first self.spans cause) }
+        ensures passed { IfOk result (λ modes. flags_ok (values self.entry.reader.units) ≡ true) }
+        ensures modes { IfOk result (λ modes. modes ≡ modes_of (values self.entry.reader.units)) }
+        ensures refused { IfErr result (λ cause. IsFlagCause self.entry.reader.units self.entry.reader.first self.entry.spans cause) }
     {
         let units = self.reader.remaining_code_points();
         check(units, self.reader.offset(), self.spans)?;
         let sets = holds(units, 'v');
         Ok((sets || holds(units, 'u'), sets))
     }
+}
+
+/// Refuses the first unit with which the units are no flags any more. `first` is the offset before the first unit.
+fn check(units: &[CodePoint], first: u32, spans: SpanFactory) -> Result<(), Diagnostic>
+    requires first { first + spans < 2 ^ 32 }
+    requires fits { All (λ unit. unit.span.end + spans < 2 ^ 32) units.now }
+    ensures passed { IfOk result (λ done. flags_ok (values units.now) ≡ true) }
+    ensures refused { IfErr result (λ cause. IsFlagCause units.now first spans cause) }
+{
+    let mut start = first;
+    for (place, unit) in units.iter().enumerate() {
+        let span = spans.create(start, unit.span.end);
+        if let Some(cause) = refusal(units, place, span) {
+            return Err(cause);
+        }
+        start = unit.span.end;
+    }
+    Ok(())
+}
+
+/// Why the unit at the place, whose span this is, cannot follow the flags before it.
+fn refusal(units: &[CodePoint], place: usize, span: Span) -> Option<Diagnostic>
+    requires within { place < length units.now }
+    requires passed { flags_ok (values (take place units.now)) ≡ true }
+    ensures { MatchOption result (flags_ok (values (take (place + 1) units.now)) ≡ true)
+        (λ cause. (first added : ℕ) → span ≡ unit_span units.now first added place → IsFlagCause units.now first added cause) }
+{
+    let flag = units[place].value;
+    if !is_flag(flag) {
+        return Some(Diagnostic::UnknownFlag { span, flag });
+    }
+    if contains(&units[..place], flag) {
+        return Some(Diagnostic::DuplicatedFlags { span, flag });
+    }
+    let flags = &units[..place + 1];
+    if holds(flags, 'u') && holds(flags, 'v') {
+        return Some(Diagnostic::InvalidUnicodeFlags { span });
+    }
+    None
+}
+
+fn is_flag(value: u32) -> bool
+    ensures { result ≡ is_flag value }
+{
+    value == 'd' as u32
+        || value == 'g' as u32
+        || value == 'i' as u32
+        || value == 'm' as u32
+        || value == 's' as u32
+        || value == 'u' as u32
+        || value == 'v' as u32
+        || value == 'y' as u32
+}
+
+fn holds(units: &[CodePoint], flag: char) -> bool
+    ensures { result ≡ holds (values units.now) flag }
+{
+    contains(units, flag as u32)
+}
+
+fn contains(units: &[CodePoint], value: u32) -> bool
+    ensures { result ≡ holds (values units.now) value }
+{
+    units.iter().any(|unit| unit.value == value)
 }

@@ -1,0 +1,66 @@
+-- Flags, one by one.
+use Rattle.std.proofs.Common.{◌≡◌, refl, ap, sym, ◌∙◌, ℕ, arith, Bool, true, false, not, ◌==◌, ◌&&◌, ◌||◌, List, [], ◌∷◌, ◌++◌, append_assoc, append-nil}
+use Rattle.std.proofs.lemmas.Bool.{and_parts, false≢true}
+use Rattle.std.proofs.lemmas.Bool.Decides.{nat_tests}
+use Rattle.std.proofs.lemmas.List.Folds.{list_any-append}
+use Rattle.std.specs.List.{list_any}
+use Rattle.rx_units.specs.declared.code_point.CodePoint.{CodePoint}
+use Rattle.rx_units.specs.Units.{values}
+use Rattle.rx_model.specs.Flags.{flags_ok, are_distinct_flags, holds, is_flag}
+
+pub holds_values : (us : List CodePoint) (v : ℕ) → list_any (λ unit. unit.value == v) us ≡ holds (values us) v
+holds_values [] v = refl
+holds_values (u ∷ us) v = ap (λ b. u.value == v || b) (holds_values us v)
+
+or_none : (b c : Bool) → (b || (c || false)) ≡ (b || c)
+or_none true c = refl
+or_none false true = refl
+or_none false false = refl
+
+pub holds_push : (vs : List ℕ) (f g : ℕ) → holds (vs ++ (f ∷ [])) g ≡ (holds vs g || f == g)
+holds_push vs f g = list_any-append (λ v. v == g) vs (f ∷ []) ∙ or_none (holds vs g) (f == g)
+
+equal_sym : (f g : ℕ) → (f == g) ≡ (g == f)
+equal_sym f g = grind (arith, nat_tests)
+
+flag_alone : (b : Bool) → ((b && true) && true) ≡ (b && true)
+flag_alone true = refl
+flag_alone false = refl
+
+regroup : (a h e d b k : Bool) → ((a && not (h || e)) && (d && (b && not k))) ≡ (((a && not h) && d) && (b && not (e || k)))
+regroup false h e d b k = refl
+regroup true true e d b k = refl
+regroup true false true false b k = refl
+regroup true false true true false k = refl
+regroup true false true true true k = refl
+regroup true false false d b k = refl
+
+pub distinct_push : (vs : List ℕ) (f : ℕ) → are_distinct_flags (vs ++ (f ∷ [])) ≡ (are_distinct_flags vs && (is_flag f && not (holds vs f)))
+distinct_push [] f = flag_alone (is_flag f)
+distinct_push (g ∷ vs) f =
+    rw (holds_push vs f g, distinct_push vs f, equal_sym f g)
+    (regroup (is_flag g) (holds vs g) (g == f) (are_distinct_flags vs) (is_flag f) (holds vs f))
+
+-- flags with one more
+pub flags_push : (vs : List ℕ) (f : ℕ) → flags_ok vs ≡ true →
+    flags_ok (vs ++ (f ∷ [])) ≡ ((is_flag f && not (holds vs f)) && not (holds (vs ++ (f ∷ [])) 117 && holds (vs ++ (f ∷ [])) 118))
+flags_push vs f passed =
+    let distinct = (and_parts (are_distinct_flags vs) (not (holds vs 117 && holds vs 118)) passed).0 in
+    rw (distinct_push vs f, distinct) refl
+
+stay_refused : (d x p q e g : Bool) → (d && not (p && q)) ≡ false → ((d && x) && not ((p || e) && (q || g))) ≡ false
+stay_refused false x p q e g refused = refl
+stay_refused true true true true e g refused = refl
+stay_refused true false true true e g refused = refl
+stay_refused true x true false e g refused = absurd (false≢true (sym refused))
+stay_refused true x false q e g refused = absurd (false≢true (sym refused))
+
+refused_push : (vs : List ℕ) (f : ℕ) → flags_ok vs ≡ false → flags_ok (vs ++ (f ∷ [])) ≡ false
+refused_push vs f refused =
+    rw (distinct_push vs f, holds_push vs f 117, holds_push vs f 118)
+    (stay_refused (are_distinct_flags vs) (is_flag f && not (holds vs f)) (holds vs 117) (holds vs 118) (f == 117) (f == 118) refused)
+
+-- what is refused stays so, whatever follows
+pub refused_append : (vs ws : List ℕ) → flags_ok vs ≡ false → flags_ok (vs ++ ws) ≡ false
+refused_append vs [] refused = simp append-nil refused
+refused_append vs (w ∷ ws) refused = rw (← append_assoc vs (w ∷ []) ws) (refused_append (vs ++ (w ∷ [])) ws (refused_push vs w refused))

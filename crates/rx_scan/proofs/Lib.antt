@@ -1,0 +1,3 @@
+pub mod FlagRows
+pub mod FlagPlaces
+pub mod Modes
