@@ -152,7 +152,10 @@ pub fn canonical(
         Form::Literal => {}
     }
     let flags = text_of_flags(flags_text);
-    let mode = read_mode(alloc, pattern_text, flags, options.flags_span_offset)?;
+    let mode = match read_mode(alloc, pattern_text, flags, options.flags_span_offset) {
+        Ok(mode) => mode,
+        Err(fault) => return Err(fault),
+    };
     let pattern = read_text(alloc, pattern_text, options.pattern_span_offset)?;
     let text = canonical_text(alloc, &pattern, mode)?;
     Ok(Canonical {
