@@ -1,5 +1,5 @@
 -- Why flags are refused at a place.
-use Rattle.std.proofs.Common.{◌≡◌, refl, ap, sym, ◌∙◌, subst, ℕ, suc, ◌+◌, ◌-◌, ◌<◌, arith, add-one, Bool, true, false, not, ◌&&◌, List, [], ◌∷◌, ◌++◌, length, map, get_or, take, drop, append_assoc}
+use Rattle.std.proofs.Common.{◌≡◌, refl, ap, sym, ◌∙◌, subst, ℕ, suc, ◌+◌, ◌-◌, ◌<◌, arith, add-one, Bool, true, false, not, ◌&&◌, List, [], ◌∷◌, ◌++◌, length, get_or, take, drop, append_assoc}
 use Rattle.std.proofs.Math.Seq.{take-suc, drop-cons}
 use Rattle.std.proofs.lemmas.List.{length-take-le, map-append, take-append-drop}
 use Rattle.rx_base.specs.declared.span.Span.{Span}
@@ -76,7 +76,7 @@ module _ (us : List CodePoint) (place : ℕ) (d : CodePoint) (within : place < l
   passes_at passed flag new one_mode =
       ap flags_ok values_next ∙ flags_push (values (take place us)) (get_or us place d).value passed
       ∙ well (is_flag (get_or us place d).value) (holds (values (take place us)) (get_or us place d).value)
-          (holds (values (take place us) ++ ((get_or us place d).value ∷ [])) 117) (holds (values (take place us) ++ ((get_or us place d).value ∷ [])) 118) flag new (ap (λ vs. holds vs 117 && holds vs 118) (sym values_next) ∙ one_mode)
+      (holds (values (take place us) ++ ((get_or us place d).value ∷ [])) 117) (holds (values (take place us) ++ ((get_or us place d).value ∷ [])) 118) flag new (ap (λ vs. holds vs 117 && holds vs 118) (sym values_next) ∙ one_mode)
 
 offence_refuses : (us before : List CodePoint) (unit : CodePoint) → IsFirstOffence us before unit → flags_ok (values us) ≡ false
 offence_refuses us before unit offence =

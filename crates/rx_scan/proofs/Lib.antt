@@ -1,3 +1,4 @@
 pub mod FlagRows
 pub mod FlagPlaces
 pub mod Modes
+pub mod Fits

@@ -1,6 +1,5 @@
 -- The modes that flags ask for.
-use Rattle.std.proofs.Common.{◌≡◌, refl, ap, sym, ◌∙◌, Bool, true, false, ◌||◌, List, ℕ, if◌then◌else◌}
-use Rattle.rx_model.specs.declared.mode.Mode.{Mode}
+use Rattle.std.proofs.Common.{◌≡◌, refl, Bool, true, false, ◌||◌, List, ℕ, if◌then◌else◌}
 use Rattle.rx_model.specs.declared.mode.Mode.TheVariants.{Legacy, Unicode, Sets}
 use Rattle.rx_model.specs.Environment.{is_unicode}
 use Rattle.rx_model.specs.Flags.{holds, mode_of, modes_of}

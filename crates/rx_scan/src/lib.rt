@@ -3,6 +3,8 @@
 
 mod flags_parser;
 mod span_factory;
+#[cfg(test)]
+mod tests;
 
 pub use flags_parser::FlagsParser;
 pub use span_factory::SpanFactory;

@@ -1,5 +1,4 @@
 use Rattle.std.proofs.Common.{rules, sym}
-use Rattle.std.proofs.lemmas.Grind.{common_steps}
 use Rattle.rx_scan.proofs.FlagPlaces.{offset_next, span_at}
 use Rattle.rx_scan.proofs.flags_parser.check.Goals as goal
 

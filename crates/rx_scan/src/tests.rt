@@ -1,0 +1,63 @@
+ghost use Rattle.std.specs.Prelude.{◌+◌, ◌<◌, ◌^◌, length};
+
+use crate::FlagsParser;
+use rx_base::Diagnostic;
+use rx_units::Reader;
+use std::alloc::Global;
+use std::test::Fail;
+
+fn parse(
+    alloc: Global,
+    text: &str,
+    span_offset: u32,
+) -> Result<Result<(bool, bool), Diagnostic>, Fail>
+    requires { span_offset + length text.now < 2 ^ 32 }
+{
+    let reader = Reader::initialize(alloc, text, true, false)?;
+    Ok(FlagsParser::new(reader, span_offset).parse())
+}
+
+fn flag_of(cause: &Diagnostic) -> Option<u32> {
+    match cause {
+        Diagnostic::UnknownFlag { flag, .. } | Diagnostic::DuplicatedFlags { flag, .. } => {
+            Some(*flag)
+        }
+        _ => None,
+    }
+}
+
+#[test]
+fn flags_that_are_read(rt: HostRuntime) -> Result<(), Fail> {
+    for (text, modes) in [
+        ("", (false, false)),
+        ("gimsyd", (false, false)),
+        ("u", (true, false)),
+        ("ui", (true, false)),
+        ("v", (true, true)),
+    ] {
+        let found = parse(rt.alloc(), text, 10)?.ok().ok_or("refused")?;
+        assert_eq!(rt; found, modes, "{text}");
+    }
+    Ok(())
+}
+
+#[test]
+fn flags_that_are_refused(rt: HostRuntime) -> Result<(), Fail> {
+    for (text, span_offset, name, span, flag) in [
+        ("gg", 0, "duplicated_flags", (1, 2), Some(103)),
+        ("ux", 0, "unknown_flag", (1, 2), Some(120)),
+        ("uv", 0, "invalid_unicode_flags", (1, 2), None),
+        ("vu", 0, "invalid_unicode_flags", (1, 2), None),
+        ("uxv", 0, "unknown_flag", (1, 2), Some(120)),
+        ("uvv", 0, "invalid_unicode_flags", (1, 2), None),
+        ("ié", 0, "unknown_flag", (1, 3), Some(0xE9)),
+        ("gg", 10, "duplicated_flags", (11, 12), Some(103)),
+    ] {
+        let cause = parse(rt.alloc(), text, span_offset)?.err().ok_or("read")?;
+        let found = cause.first_span();
+        assert_eq!(rt; cause.name(), name, "{text}");
+        assert_eq!(rt; (found.start, found.end), span, "{text}");
+        assert_eq!(rt; flag_of(&cause), flag, "{text}");
+    }
+    Ok(())
+}
