@@ -1,6 +1,6 @@
 -- When flags are refused (22.2.3.3, RegExpInitialize): at the first unit with which they are no flags any more, by the first that holds of: it is no
 -- flag, it was seen before, it completes `u` and `v`.
-use Rattle.std.specs.Prelude.{◌≡◌, ℕ, ◌+◌, Bool, true, false, List, [], ◌∷◌, ◌++◌, length}
+use Rattle.std.specs.Prelude.{◌≡◌, ℕ, ◌+◌, true, false, List, [], ◌∷◌, ◌++◌, length}
 use Rattle.rx_base.specs.declared.span.Span.{Span}
 use Rattle.rx_base.specs.declared.diagnostic.Diagnostic.{Diagnostic}
 use Rattle.rx_base.specs.declared.diagnostic.Diagnostic.TheVariants.{UnknownFlag, DuplicatedFlags, InvalidUnicodeFlags}

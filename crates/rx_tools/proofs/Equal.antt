@@ -3,7 +3,6 @@ use Rattle.std.proofs.Common.{◌≡◌, refl, ap, sym, ◌∙◌, ℕ, arith, B
 use Rattle.std.proofs.lemmas.Bool.{false≢true}
 use Rattle.std.proofs.lemmas.Bool.Decides.{nat_tests}
 use Rattle.std.proofs.lemmas.Str.{encodes-chars, encode_ascii}
-use Rattle.std.specs.Prelude.{eqb}
 use Rattle.std.specs.List.{list_all}
 use Rattle.std.specs.Str.{encode_utf8_all, chars, IsUtf8}
 use Rattle.rx_model.specs.ClassText.{are_same}

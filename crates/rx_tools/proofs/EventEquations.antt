@@ -11,7 +11,7 @@ use Rattle.rx_ast.specs.declared.term.Disjunction.{Disjunction, out-Disjunction}
 use Rattle.rx_ast.specs.Tree.{nodes, alternatives, mirror_term, mirror_alternative}
 use Rattle.rx_ast.proofs.Equations as mirror
 use Rattle.rx_model.specs.Events.{Event, Events, enter, leave, token, within, node_events, nodes_events, alternatives_events, barred_events, term_events, alternative_events, disjunction_events}
-use Rattle.rx_model.specs.Token.{Token, bar, dot, character}
+use Rattle.rx_model.specs.Token.{bar, dot, character}
 use Rattle.rx_tools.specs.declared.level.Level.{Level}
 use Rattle.rx_tools.specs.Levels.{strung, barred, level_events}
 

@@ -1,24 +1,22 @@
 -- What the units of a flat pattern spell.
-use Rattle.std.proofs.Common.{◌≡◌, refl, ap, sym, ◌∙◌, subst, ℕ, zero, suc, ◌+◌, ◌-◌, ◌<◌, ◌≤◌, ◌^◌, arith, Bool, true, false, not, ◌&&◌, ◌||◌, nat_eq, cond, List, [], ◌∷◌, ◌++◌, length, take, append_assoc, inl, inr, ◌⊎◌, add-zero, zero-add}
+use Rattle.std.proofs.Common.{◌≡◌, refl, ap, sym, ◌∙◌, subst, ℕ, suc, ◌+◌, ◌≤◌, arith, Bool, true, false, not, ◌&&◌, ◌||◌, nat_eq, List, [], ◌∷◌, ◌++◌, length, take, inl, inr, add-zero, zero-add}
 use Rattle.std.specs.Prelude.{All}
 use Rattle.std.proofs.lemmas.Bool.Decides.{eqb_tells}
 use Rattle.std.proofs.lemmas.List.Elements.{All-head, All-tail}
 use Rattle.rx_ast.specs.declared.term.Pattern.{Pattern}
-use Rattle.rx_ast.specs.Forget.{unspanned}
-use Rattle.rx_ast.specs.Tree.{Alternatives, no_alternative, alternative, mirror_disjunction}
+use Rattle.rx_ast.specs.Tree.{no_alternative, mirror_disjunction}
 use Rattle.rx_units.specs.declared.code_point.CodePoint.{CodePoint}
 use Rattle.rx_units.specs.Units.{end_of, offset_at}
 use Rattle.rx_model.specs.declared.mode.Mode.{Mode}
 use Rattle.rx_model.specs.declared.mode.Mode.TheVariants.{Unicode}
 use Rattle.rx_model.specs.Environment.{Environment, environment}
-use Rattle.rx_model.specs.Events.{Event, Events, enter, leave, token, tokens_of, within, alternatives_events, disjunction_events, events, tokens}
-use Rattle.rx_model.specs.Reading.{Reads, IsSpanned, IsOnly, IsSpelled}
-use Rattle.rx_model.specs.Rows.{Row, TokenRow, Spells, IsRaw, is_syntax_character, unit_kind}
-use Rattle.rx_model.specs.Token.{Token, character, dot, bar}
+use Rattle.rx_model.specs.Events.{Events, enter, tokens_of, within, alternatives_events, disjunction_events, events, tokens}
+use Rattle.rx_model.specs.Reading.{Reads, IsSpanned, IsOnly}
+use Rattle.rx_model.specs.Rows.{Row, Spells, is_syntax_character}
 use Rattle.rx_model.proofs.Builds.{one_tree}
 use Rattle.rx_model.proofs.Joins.{row_tokens}
 use Rattle.rx_model.proofs.OneRow.{one_row_by_mode}
-use Rattle.rx_tools.specs.Flat.{AreFlat, flat_events, unit_events, bar_events, leaf_events, leaf_of}
+use Rattle.rx_tools.specs.Flat.{AreFlat, flat_events, leaf_of}
 use Rattle.rx_tools.specs.NotYet.{is_unread}
 use Rattle.rx_tools.proofs.Flats.{differs, events_bar, events_leaf, leaf_dot, leaf_character}
 use Rattle.rx_tools.proofs.FlatTrees.{AreFlatTokens, IsFlatToken, flat_pattern, flat_early}

@@ -1,19 +1,17 @@
 -- A tree whose tokens are characters, `.` and bars alone holds no group, no name and no quantifier.
-use Rattle.std.proofs.Common.{◌≡◌, refl, ap, sym, ◌∙◌, subst, ℕ, ◌≤◌, ◌+◌, arith, List, [], ◌∷◌, ◌++◌}
+use Rattle.std.proofs.Common.{◌≡◌, refl, ap, sym, ◌∙◌, subst, ℕ, ◌≤◌, arith, List, [], ◌∷◌, ◌++◌}
 use Rattle.std.proofs.lemmas.List.Elements.{All-cons, All-nil}
-use Rattle.std.specs.Prelude.{All, Contains, length}
-use Rattle.rx_base.specs.declared.span.Span.{Span}
+use Rattle.std.specs.Prelude.{All}
 use Rattle.rx_ast.specs.declared.term.Pattern.{Pattern}
 use Rattle.rx_ast.specs.Tree.{Node, Nodes, Alternatives, leaf, quantified, group, no_node, node, no_alternative, alternative, mirror_disjunction}
 use Rattle.rx_ast.specs.Spans.{leaf_span}
-use Rattle.rx_ast.specs.Tree as tree
 use Rattle.rx_model.specs.declared.mode.Mode.{Mode}
 use Rattle.rx_model.specs.declared.mode.Mode.TheVariants.{Unicode}
-use Rattle.rx_model.specs.Early.{IsEarly, Obeys, most_groups}
+use Rattle.rx_model.specs.Early.{IsEarly, Obeys}
 use Rattle.rx_model.specs.Events.{node_events, nodes_events, alternatives_events, barred_events, leaf_event, tokens}
 use Rattle.rx_model.specs.Names.{groups, names, node_groups, nodes_groups, alternatives_groups, node_names, nodes_names, alternatives_names, AreApart, IsNodeApart, AreNodesApart, AreAlternativesApart}
 use Rattle.rx_model.specs.Shapes.{IsNode, AreNodes, AreAlternatives, HasAlternatives}
-use Rattle.rx_model.specs.Token.{Token, boundary, character, dot, class_escape, property, class, indexed, named, opener, closer, bar, quantifier, leaf_token}
+use Rattle.rx_model.specs.Token.{Token, boundary, character, dot, class_escape, property, class, indexed, named, opener, closer, bar, quantifier}
 use Rattle.rx_model.proofs.Flat.{before, before-append, before_leaf, before_within, before_quantified, before_group, before_alternative, tokens_are}
 
 -- a token of a flat pattern, free of early errors

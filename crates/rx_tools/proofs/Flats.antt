@@ -1,10 +1,10 @@
 -- The events of a flat pattern, unit by unit.
-use Rattle.std.proofs.Common.{◌≡◌, refl, ap, sym, ◌∙◌, ℕ, ◌+◌, ◌<◌, Bool, true, false, cond, nat_eq, List, [], ◌∷◌, ◌++◌, append_assoc, inl, inr, ◌⊎◌}
+use Rattle.std.proofs.Common.{◌≡◌, ap, sym, ◌∙◌, ℕ, ◌+◌, Bool, false, cond, nat_eq, List, ◌∷◌, ◌++◌, append_assoc, inl, inr}
 use Rattle.std.proofs.lemmas.Bool.Decides.{eqb_tells}
 use Rattle.rx_units.specs.declared.code_point.CodePoint.{CodePoint}
-use Rattle.rx_model.specs.Events.{Events, enter, leave, token}
+use Rattle.rx_model.specs.Events.{Events}
 use Rattle.rx_model.specs.Rows.{unit_kind}
-use Rattle.rx_model.specs.Token.{Token, dot, character, bar}
+use Rattle.rx_model.specs.Token.{dot, character}
 use Rattle.rx_tools.specs.Flat.{leaf_of, unit_events, flat_events, bar_events, leaf_events}
 
 pub differs : (a b : ℕ) → (a ≡ b → ⊥) → nat_eq a b ≡ false

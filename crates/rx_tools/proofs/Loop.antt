@@ -1,5 +1,5 @@
 -- What the loop keeps: what is written, and what is pending.
-use Rattle.std.proofs.Common.{◌≡◌, refl, ap, sym, ◌∙◌, ℕ, ◌<◌, suc, arith, List, [], ◌∷◌, ◌++◌, append_assoc, append-nil, length, map}
+use Rattle.std.proofs.Common.{◌≡◌, ap, sym, ◌∙◌, ℕ, ◌<◌, suc, arith, List, [], ◌∷◌, ◌++◌, append_assoc, append-nil, length, map}
 use Rattle.rx_ast.specs.declared.term.Alternative.{Alternative}
 use Rattle.rx_ast.specs.declared.term.Disjunction.{out-Disjunction}
 use Rattle.rx_ast.specs.declared.term.Pattern.{Pattern}

@@ -1,10 +1,7 @@
 -- What a text holds, by its bytes.
-use Rattle.std.proofs.Common.{◌≡◌, refl, ap, sym, ◌∙◌, ℕ, Bool, true, false, ◌&&◌, List, [], ◌∷◌, nat_eq, arith, length}
+use Rattle.std.proofs.Common.{◌≡◌, refl, ap, sym, ◌∙◌, ℕ, true, false, List, [], ◌∷◌, nat_eq, arith, length}
 use Rattle.std.specs.Str.{chars, IsUtf8}
 use Rattle.std.proofs.lemmas.Str.{encodes-chars}
-use Rattle.std.proofs.lemmas.Bool.{eqb-true}
-use Rattle.std.proofs.Math.Bool.{and-true}
-use lib.Pointwise.{pointwise}
 use lib.Utf8.{encodes}
 use Rattle.std.specs.List.{list_any}
 use Rattle.rx_tools.specs.NotYet.{is_unread, holds_unread}

@@ -1,5 +1,5 @@
 -- What tasks are to write.
-use Rattle.std.proofs.Common.{◌≡◌, refl, ap, sym, ◌∙◌, ℕ, ◌+◌, ◌<◌, ◌≤◌, suc, arith, List, [], ◌∷◌, ◌++◌, append_assoc, append-nil, length, map, codes}
+use Rattle.std.proofs.Common.{◌≡◌, refl, ap, sym, ◌∙◌, ℕ, ◌<◌, ◌≤◌, arith, List, [], ◌∷◌, ◌++◌, append_assoc, append-nil, length, map, codes}
 use Rattle.rx_ast.specs.declared.class.CharacterClassContents.{CharacterClassContents}
 use Rattle.rx_ast.specs.declared.term.Alternative.{Alternative}
 use Rattle.rx_ast.specs.ClassTree.{members, mirror_contents}

@@ -1,5 +1,5 @@
 -- Why a pattern is not read.
-use Rattle.std.specs.Prelude.{◌≡◌, ℕ, Bool, true, List, Option}
+use Rattle.std.specs.Prelude.{◌≡◌, ℕ, true, List, Option}
 use Rattle.rx_base.specs.declared.fault.Fault.{Fault}
 use Rattle.rx_base.specs.declared.fault.Fault.TheVariants.{OutOfMemory, NotYet, Diagnostic}
 use Rattle.rx_model.specs.declared.form.Form.TheVariants.{Literal}

@@ -1,7 +1,7 @@
 -- The events of a flat pattern: characters, `.` and bars.
-use Rattle.std.specs.Prelude.{◌≡◌, ℕ, ◌+◌, ◌<◌, ◌^◌, Bool, false, ◌==◌, List, [], ◌∷◌, ◌++◌, All, if◌then◌else◌}
+use Rattle.std.specs.Prelude.{◌≡◌, ℕ, ◌+◌, ◌<◌, ◌^◌, false, ◌==◌, List, [], ◌∷◌, ◌++◌, All, if◌then◌else◌}
 use Rattle.rx_units.specs.declared.code_point.CodePoint.{CodePoint}
-use Rattle.rx_model.specs.Events.{Event, Events, enter, leave, token}
+use Rattle.rx_model.specs.Events.{Events, enter, leave, token}
 use Rattle.rx_model.specs.Rows.{unit_kind}
 use Rattle.rx_model.specs.Token.{Token, character, dot, bar}
 use Rattle.rx_tools.specs.NotYet.{is_unread}

@@ -1,5 +1,5 @@
 -- A tree in the pieces in which a loop writes it: what it begins with, its front, and the pieces that follow, its rest.
-use Rattle.std.specs.Prelude.{ℕ, Bool, true, false, List, [], ◌∷◌, ◌++◌, codes}
+use Rattle.std.specs.Prelude.{ℕ, Bool, false, List, [], ◌∷◌, ◌++◌, codes}
 use Rattle.rx_ast.specs.ClassTree as in_class
 use Rattle.rx_ast.specs.ClassTree.{Member, Members, Class, no_member, member}
 use Rattle.rx_ast.specs.Tree as tree

@@ -15,98 +15,64 @@ const DEEP: u32 = 500_000;
 #[test]
 fn characters_have_the_first_spelling_that_fits(rt: HostRuntime) -> Result<(), OutOfMemory> {
     let alloc = rt.alloc();
-    // The value, and how it is spelled outside classes and in a class, whatever the mode.
-    let alike = [
-        (0x0, "\\x00", "\\x00"),
-        (0x8, "\\x08", "\\x08"),
-        (0x9, "\\t", "\\t"),
-        (0xA, "\\n", "\\n"),
-        (0xB, "\\v", "\\v"),
-        (0xC, "\\f", "\\f"),
-        (0xD, "\\r", "\\r"),
-        (0xE, "\\x0E", "\\x0E"),
-        (0x1F, "\\x1F", "\\x1F"),
-        (0x20, " ", " "),
-        (0x24, "\\$", "\\$"),
-        (0x28, "\\(", "\\("),
-        (0x29, "\\)", "\\)"),
-        (0x2A, "\\*", "\\*"),
-        (0x2B, "\\+", "\\+"),
-        (0x2D, "-", "\\-"),
-        (0x2E, "\\.", "\\."),
-        (0x2F, "\\/", "\\/"),
-        (0x39, "9", "9"),
-        (0x3F, "\\?", "\\?"),
-        (0x5B, "\\[", "\\["),
-        (0x5C, "\\\\", "\\\\"),
-        (0x5D, "\\]", "\\]"),
-        (0x5E, "\\^", "\\^"),
-        (0x7B, "\\{", "\\{"),
-        (0x7C, "\\|", "\\|"),
-        (0x7D, "\\}", "\\}"),
-        (0x7F, "\\x7F", "\\x7F"),
-        (0x9F, "\\x9F", "\\x9F"),
-        (0xA0, "\u{A0}", "\u{A0}"),
-        (0x2027, "\u{2027}", "\u{2027}"),
-        (0x2028, "\\u2028", "\\u2028"),
-        (0x2029, "\\u2029", "\\u2029"),
-        (0xE000, "\u{E000}", "\u{E000}"),
-        (0x110000, "\\u{110000}", "\\u{110000}"),
-        (0xFFFFFFFF, "\\u{FFFFFFFF}", "\\u{FFFFFFFF}"),
+    let values = [
+        0x0, 0x8, 0x9, 0xA, 0xB, 0xC, 0xD, 0xE, 0x1F, 0x20, 0x21, 0x26, 0x2D, 0x2F, 0x39, 0x61,
+        0x7E, 0x7F, 0x9F, 0xA0, 0x2027, 0x2028, 0x2029, 0xD7FF, 0xD800, 0xDFFF, 0xE000, 0xFFFF,
+        0x10000, 0x10FFFF, 0x110000,
     ];
-    for mode in [Mode::Legacy, Mode::Unicode, Mode::Sets] {
-        for (value, outside, inside) in alike {
-            let text = spelled(alloc, mode, character(alloc, value)?)?;
-            assert_eq!(rt; text.as_str(), outside, "{value} in {mode:?}");
-            let text = character_in_class(alloc, mode, value)?;
-            assert_eq!(rt; text.as_str(), inside, "{value} in a class in {mode:?}");
-        }
+    let rows = [
+        (
+            Mode::Legacy,
+            "\\x00\\x08\\t\\n\\v\\f\\r\\x0E\\x1F !&-\\/9a~\\x7F\\x9F\u{A0}\u{2027}\\u2028\\u2029\u{D7FF}\\uD800\\uDFFF\u{E000}\u{FFFF}\\u{10000}\\u{10FFFF}\\u{110000}",
+            "[\\x00\\x08\\t\\n\\v\\f\\r\\x0E\\x1F !&\\-\\/9a~\\x7F\\x9F\u{A0}\u{2027}\\u2028\\u2029\u{D7FF}\\uD800\\uDFFF\u{E000}\u{FFFF}\\u{10000}\\u{10FFFF}\\u{110000}]",
+        ),
+        (
+            Mode::Unicode,
+            "\\x00\\x08\\t\\n\\v\\f\\r\\x0E\\x1F !&-\\/9a~\\x7F\\x9F\u{A0}\u{2027}\\u2028\\u2029\u{D7FF}\\u{D800}\\u{DFFF}\u{E000}\u{FFFF}\u{10000}\u{10FFFF}\\u{110000}",
+            "[\\x00\\x08\\t\\n\\v\\f\\r\\x0E\\x1F !&\\-\\/9a~\\x7F\\x9F\u{A0}\u{2027}\\u2028\\u2029\u{D7FF}\\u{D800}\\u{DFFF}\u{E000}\u{FFFF}\u{10000}\u{10FFFF}\\u{110000}]",
+        ),
+        (
+            Mode::Sets,
+            "\\x00\\x08\\t\\n\\v\\f\\r\\x0E\\x1F !&-\\/9a~\\x7F\\x9F\u{A0}\u{2027}\\u2028\\u2029\u{D7FF}\\u{D800}\\u{DFFF}\u{E000}\u{FFFF}\u{10000}\u{10FFFF}\\u{110000}",
+            "[\\x00\\x08\\t\\n\\v\\f\\r\\x0E\\x1F \\!\\&\\-\\/9a\\~\\x7F\\x9F\u{A0}\u{2027}\\u2028\\u2029\u{D7FF}\\u{D800}\\u{DFFF}\u{E000}\u{FFFF}\u{10000}\u{10FFFF}\\u{110000}]",
+        ),
+    ];
+    for (mode, outside, inside) in rows {
+        let text = characters_outside(alloc, mode, &values)?;
+        assert_eq!(rt; text.as_str(), outside);
+        let text = characters_inside(alloc, mode, &values)?;
+        assert_eq!(rt; text.as_str(), inside);
     }
     Ok(())
 }
 
 #[test]
-fn some_characters_are_spelled_by_the_mode(rt: HostRuntime) -> Result<(), OutOfMemory> {
+fn punctuation_has_a_backslash_where_it_means_something(
+    rt: HostRuntime,
+) -> Result<(), OutOfMemory> {
     let alloc = rt.alloc();
-    // The value, how it is spelled outside classes in legacy mode and in the others, and in a class in each mode.
-    let apart = [
-        (0x21, ["!", "!"], ["!", "!", "\\!"]),
-        (0x26, ["&", "&"], ["&", "&", "\\&"]),
-        (0x60, ["`", "`"], ["`", "`", "\\`"]),
-        (0x7E, ["~", "~"], ["~", "~", "\\~"]),
+    let values = "^$\\.*+?()[]{}|/&-!#%,:;<=>@`~\"'_";
+    let rows = [
         (
-            0xD800,
-            ["\\uD800", "\\u{D800}"],
-            ["\\uD800", "\\u{D800}", "\\u{D800}"],
+            Mode::Legacy,
+            "\\^\\$\\\\\\.\\*\\+\\?\\(\\)\\[\\]\\{\\}\\|\\/&-!#%,:;<=>@`~\"'_",
+            "[\\^\\$\\\\\\.\\*\\+\\?\\(\\)\\[\\]\\{\\}\\|\\/&\\-!#%,:;<=>@`~\"'_]",
         ),
         (
-            0xDFFF,
-            ["\\uDFFF", "\\u{DFFF}"],
-            ["\\uDFFF", "\\u{DFFF}", "\\u{DFFF}"],
-        ),
-        (
-            0x10000,
-            ["\\u{10000}", "\u{10000}"],
-            ["\\u{10000}", "\u{10000}", "\u{10000}"],
-        ),
-        (
-            0x10ABCD,
-            ["\\u{10ABCD}", "\u{10ABCD}"],
-            ["\\u{10ABCD}", "\u{10ABCD}", "\u{10ABCD}"],
+            Mode::Sets,
+            "\\^\\$\\\\\\.\\*\\+\\?\\(\\)\\[\\]\\{\\}\\|\\/&-!#%,:;<=>@`~\"'_",
+            "[\\^\\$\\\\\\.\\*\\+\\?\\(\\)\\[\\]\\{\\}\\|\\/\\&\\-\\!\\#\\%\\,\\:\\;\\<\\=\\>\\@\\`\\~\"'_]",
         ),
     ];
-    for (value, [legacy, other], [legacy_class, unicode_class, sets_class]) in apart {
-        let rows = [
-            (Mode::Legacy, legacy, legacy_class),
-            (Mode::Unicode, other, unicode_class),
-            (Mode::Sets, other, sets_class),
-        ];
-        for (mode, outside, inside) in rows {
-            let text = spelled(alloc, mode, character(alloc, value)?)?;
-            assert_eq!(rt; text.as_str(), outside, "{value} in {mode:?}");
-            let text = character_in_class(alloc, mode, value)?;
-            assert_eq!(rt; text.as_str(), inside, "{value} in a class in {mode:?}");
-        }
+    let mut codes = Vec::new(alloc);
+    for c in values.chars() {
+        codes.push(c as u32)?;
+    }
+    for (mode, outside, inside) in rows {
+        let text = characters_outside(alloc, mode, &codes)?;
+        assert_eq!(rt; text.as_str(), outside);
+        let text = characters_inside(alloc, mode, &codes)?;
+        assert_eq!(rt; text.as_str(), inside);
     }
     Ok(())
 }
@@ -114,31 +80,21 @@ fn some_characters_are_spelled_by_the_mode(rt: HostRuntime) -> Result<(), OutOfM
 #[test]
 fn a_digit_does_not_go_on_with_a_reference(rt: HostRuntime) -> Result<(), OutOfMemory> {
     let alloc = rt.alloc();
-    let text = spelled_all(
-        alloc,
-        vec![in alloc; indexed(alloc, 1)?, digit(alloc)?, digit(alloc)?]?,
-    )?;
-    assert_eq!(rt; text.as_str(), "\\1\\x399");
-    let many = quantified(alloc, 0, None, true, digit(alloc)?)?;
-    let text = spelled_all(alloc, vec![in alloc; indexed(alloc, 12)?, many]?)?;
-    assert_eq!(rt; text.as_str(), "\\12\\x39*");
-    let many = quantified(alloc, 0, None, true, indexed(alloc, 1)?)?;
-    let text = spelled_all(alloc, vec![in alloc; many, digit(alloc)?]?)?;
-    assert_eq!(rt; text.as_str(), "\\1*9");
-    let class = class_of(alloc, vec![in alloc; contents(alloc, 0x39)?]?)?;
-    let text = spelled_all(
-        alloc,
-        vec![in alloc; indexed(alloc, 1)?, in_term(alloc, class)?]?,
-    )?;
-    assert_eq!(rt; text.as_str(), "\\1[9]");
-    let text = spelled_all(alloc, vec![in alloc; named(alloc)?, digit(alloc)?]?)?;
-    assert_eq!(rt; text.as_str(), "\\k<n>9");
-    let group = group_of(alloc, indexed(alloc, 1)?)?;
-    let text = spelled_all(alloc, vec![in alloc; group, digit(alloc)?]?)?;
-    assert_eq!(rt; text.as_str(), "(\\1)9");
-    let group = group_of(alloc, digit(alloc)?)?;
-    let text = spelled_all(alloc, vec![in alloc; indexed(alloc, 1)?, group]?)?;
-    assert_eq!(rt; text.as_str(), "\\1(9)");
+    let rows = [
+        ("199", "\\1\\x399"),
+        ("119", "\\1\\1\\x39"),
+        ("1.9", "\\1.9"),
+        ("1m", "\\1\\x39*"),
+        ("q9", "\\1*9"),
+        ("1c", "\\1[9]"),
+        ("n9", "\\k<n>9"),
+        ("h9", "(\\1)9"),
+        ("1g", "\\1(9)"),
+    ];
+    for (signs, want) in rows {
+        let text = spelled(alloc, Mode::Legacy, terms_of(alloc, signs)?)?;
+        assert_eq!(rt; text.as_str(), want);
+    }
     Ok(())
 }
 
@@ -146,149 +102,114 @@ fn a_digit_does_not_go_on_with_a_reference(rt: HostRuntime) -> Result<(), OutOfM
 fn quantifiers_are_short(rt: HostRuntime) -> Result<(), OutOfMemory> {
     let alloc = rt.alloc();
     let rows = [
-        (0, None, true, ".*"),
-        (1, None, true, ".+"),
-        (0, Some(1), true, ".?"),
-        (2, Some(2), true, ".{2}"),
-        (2, Some(3), true, ".{2,3}"),
-        (2, None, true, ".{2,}"),
-        (0, Some(0), true, ".{0}"),
-        (1, Some(1), true, ".{1}"),
-        (0, Some(2), true, ".{0,2}"),
-        (3, Some(2), true, ".{3,2}"),
-        (0, None, false, ".*?"),
-        (0, Some(1), false, ".??"),
-        (
-            10,
-            Some(18446744073709551615),
-            false,
-            ".{10,18446744073709551615}?",
-        ),
+        (0, None, true),
+        (1, None, true),
+        (0, Some(1), true),
+        (2, Some(2), true),
+        (2, Some(3), true),
+        (2, None, true),
+        (0, Some(0), true),
+        (1, Some(1), true),
+        (3, Some(2), true),
+        (0, None, false),
+        (0, Some(1), false),
+        (10, Some(18446744073709551615), false),
     ];
-    for (min, max, greedy, want) in rows {
-        let term = quantified(alloc, min, max, greedy, dot())?;
-        let text = spelled(alloc, Mode::Unicode, term)?;
-        assert_eq!(rt; text.as_str(), want);
+    let mut terms = List::new(alloc);
+    for (min, max, greedy) in rows {
+        terms.push(quantified(alloc, min, max, greedy, dot())?)?;
     }
+    let text = spelled(alloc, Mode::Unicode, terms)?;
+    let want = ".*.+.?.{2}.{2,3}.{2,}.{0}.{1}.{3,2}.*?.??.{10,18446744073709551615}?";
+    assert_eq!(rt; text.as_str(), want);
     Ok(())
 }
 
 #[test]
 fn groups_begin_with_what_they_are(rt: HostRuntime) -> Result<(), OutOfMemory> {
     let alloc = rt.alloc();
-    let group = CapturingGroup {
-        span: nowhere(),
-        name: Some(Text::from_str(alloc, "größe")?),
-        body: disjunction_of(alloc, dot())?,
-    };
-    let text = spelled(
-        alloc,
-        Mode::Unicode,
-        Term::CapturingGroup(Box::new(alloc, group)?),
-    )?;
-    assert_eq!(rt; text.as_str(), "(?<größe>.)");
-    let text = spelled(alloc, Mode::Unicode, ignoring(alloc, None)?)?;
-    assert_eq!(rt; text.as_str(), "(?:.)");
-    let rows = [
-        (0b001, 0b110, "(?i-ms:.)"),
-        (0b000, 0b100, "(?-s:.)"),
-        (0b111, 0b000, "(?ims:.)"),
-        (0b101, 0b010, "(?is-m:.)"),
-        (0b1011, 0b1000, "(?im:.)"),
-        (0b000, 0b000, "(?:.)"),
-    ];
-    for (enabling, disabling, want) in rows {
+    let mut terms = List::new(alloc);
+    terms.push(group_of(alloc, None, dot())?)?;
+    terms.push(group_of(alloc, Some(Text::from_str(alloc, "größe")?), dot())?)?;
+    terms.push(ignoring(alloc, None)?)?;
+    let rows = [(1, 6), (0, 4), (7, 0), (5, 2), (11, 8), (0, 0)];
+    for (enabling, disabling) in rows {
         let modifiers = Modifiers {
             span: nowhere(),
             enabling: Modifier::from_bits_retain(enabling),
             disabling: Modifier::from_bits_retain(disabling),
         };
-        let text = spelled(alloc, Mode::Unicode, ignoring(alloc, Some(modifiers))?)?;
-        assert_eq!(rt; text.as_str(), want);
+        terms.push(ignoring(alloc, Some(modifiers))?)?;
     }
-    let rows = [
-        (LookAroundAssertionKind::Lookahead, "(?=.)"),
-        (LookAroundAssertionKind::NegativeLookahead, "(?!.)"),
-        (LookAroundAssertionKind::Lookbehind, "(?<=.)"),
-        (LookAroundAssertionKind::NegativeLookbehind, "(?<!.)"),
-    ];
-    for (kind, want) in rows {
-        let look = LookAroundAssertion {
-            span: nowhere(),
-            kind,
-            body: disjunction_of(alloc, dot())?,
-        };
-        let text = spelled(
-            alloc,
-            Mode::Unicode,
-            Term::LookAroundAssertion(Box::new(alloc, look)?),
-        )?;
-        assert_eq!(rt; text.as_str(), want);
-    }
+    let text = spelled(alloc, Mode::Unicode, terms)?;
+    let want = "(.)(?<größe>.)(?:.)(?i-ms:.)(?-s:.)(?ims:.)(?is-m:.)(?im:.)(?:.)";
+    assert_eq!(rt; text.as_str(), want);
     Ok(())
 }
 
 #[test]
-fn assertions_escapes_and_properties(rt: HostRuntime) -> Result<(), OutOfMemory> {
+fn assertions_and_escapes(rt: HostRuntime) -> Result<(), OutOfMemory> {
+    let alloc = rt.alloc();
+    let span = nowhere();
+    let mut terms = List::new(alloc);
+    for kind in [
+        BoundaryAssertionKind::Start,
+        BoundaryAssertionKind::End,
+        BoundaryAssertionKind::Boundary,
+        BoundaryAssertionKind::NegativeBoundary,
+        BoundaryAssertionKind::StartBuffer,
+        BoundaryAssertionKind::EndBuffer,
+        BoundaryAssertionKind::EndBufferOptionalNewline,
+    ] {
+        let it = BoundaryAssertion { span, kind };
+        terms.push(Term::BoundaryAssertion(Box::new(alloc, it)?))?;
+    }
+    for kind in [
+        CharacterClassEscapeKind::D,
+        CharacterClassEscapeKind::NegativeD,
+        CharacterClassEscapeKind::S,
+        CharacterClassEscapeKind::NegativeS,
+        CharacterClassEscapeKind::W,
+        CharacterClassEscapeKind::NegativeW,
+    ] {
+        let it = CharacterClassEscape { span, kind };
+        terms.push(Term::CharacterClassEscape(Box::new(alloc, it)?))?;
+    }
+    for kind in [
+        LookAroundAssertionKind::Lookahead,
+        LookAroundAssertionKind::NegativeLookahead,
+        LookAroundAssertionKind::Lookbehind,
+        LookAroundAssertionKind::NegativeLookbehind,
+    ] {
+        let body = disjunction_of(alloc, dot())?;
+        let it = LookAroundAssertion { span, kind, body };
+        terms.push(Term::LookAroundAssertion(Box::new(alloc, it)?))?;
+    }
+    let text = spelled(alloc, Mode::Legacy, terms)?;
+    let want = "^$\\b\\B\\A\\z\\Z\\d\\D\\s\\S\\w\\W(?=.)(?!.)(?<=.)(?<!.)";
+    assert_eq!(rt; text.as_str(), want);
+    Ok(())
+}
+
+#[test]
+fn a_general_category_stands_alone(rt: HostRuntime) -> Result<(), OutOfMemory> {
     let alloc = rt.alloc();
     let rows = [
-        (BoundaryAssertionKind::Start, "^"),
-        (BoundaryAssertionKind::End, "$"),
-        (BoundaryAssertionKind::Boundary, "\\b"),
-        (BoundaryAssertionKind::NegativeBoundary, "\\B"),
-        (BoundaryAssertionKind::StartBuffer, "\\A"),
-        (BoundaryAssertionKind::EndBuffer, "\\z"),
-        (BoundaryAssertionKind::EndBufferOptionalNewline, "\\Z"),
+        (false, "L", None),
+        (true, "Script", Some("Greek")),
+        (false, "General_Category", Some("Lu")),
+        (true, "General_Category", Some("Lu")),
+        (false, "General_Category", None),
+        (false, "gc", Some("Lu")),
     ];
-    for (kind, want) in rows {
-        let it = BoundaryAssertion {
-            span: nowhere(),
-            kind,
-        };
-        let text = spelled(
-            alloc,
-            Mode::Legacy,
-            Term::BoundaryAssertion(Box::new(alloc, it)?),
-        )?;
-        assert_eq!(rt; text.as_str(), want);
-    }
-    let rows = [
-        (CharacterClassEscapeKind::D, "\\d"),
-        (CharacterClassEscapeKind::NegativeD, "\\D"),
-        (CharacterClassEscapeKind::S, "\\s"),
-        (CharacterClassEscapeKind::NegativeS, "\\S"),
-        (CharacterClassEscapeKind::W, "\\w"),
-        (CharacterClassEscapeKind::NegativeW, "\\W"),
-    ];
-    for (kind, want) in rows {
-        let it = CharacterClassEscape {
-            span: nowhere(),
-            kind,
-        };
-        let text = spelled(
-            alloc,
-            Mode::Legacy,
-            Term::CharacterClassEscape(Box::new(alloc, it)?),
-        )?;
-        assert_eq!(rt; text.as_str(), want);
-    }
-    let rows = [
-        (false, "L", None, "\\p{L}"),
-        (true, "Script", Some("Greek"), "\\P{Script=Greek}"),
-        (false, "General_Category", Some("Lu"), "\\p{Lu}"),
-        (true, "General_Category", Some("Lu"), "\\P{Lu}"),
-        (false, "General_Category", None, "\\p{General_Category}"),
-        (false, "gc", Some("Lu"), "\\p{gc=Lu}"),
-    ];
-    for (negative, name, value, want) in rows {
+    let mut terms = List::new(alloc);
+    for (negative, name, value) in rows {
         let it = property(alloc, negative, name, value)?;
-        let text = spelled(
-            alloc,
-            Mode::Sets,
-            Term::UnicodePropertyEscape(Box::new(alloc, it)?),
-        )?;
-        assert_eq!(rt; text.as_str(), want);
+        terms.push(Term::UnicodePropertyEscape(Box::new(alloc, it)?))?;
     }
+    let text = spelled(alloc, Mode::Sets, terms)?;
+    let want = "\\p{L}\\P{Script=Greek}\\p{Lu}\\P{Lu}\\p{General_Category}\\p{gc=Lu}";
+    assert_eq!(rt; text.as_str(), want);
     Ok(())
 }
 
@@ -298,35 +219,28 @@ fn classes_hold_their_contents_in_order(rt: HostRuntime) -> Result<(), OutOfMemo
     let rows = [
         (
             CharacterClassContentsKind::Union,
-            false,
-            "[a-z\\d\\p{L}\\-[^]]",
+            "[^a-z\\d\\p{L}\\-[]\\q{a|bc|}]",
         ),
         (
             CharacterClassContentsKind::Intersection,
-            false,
-            "[a-z&&\\d&&\\p{L}&&\\-&&[^]]",
+            "[^a-z&&\\d&&\\p{L}&&\\-&&[]&&\\q{a|bc|}]",
         ),
         (
             CharacterClassContentsKind::Subtraction,
-            true,
-            "[^a-z--\\d--\\p{L}--\\---[^]]",
+            "[^a-z--\\d--\\p{L}--\\---[]--\\q{a|bc|}]",
         ),
     ];
-    for (kind, negative, want) in rows {
-        let class = class_by_hand(alloc, kind, negative)?;
-        let text = spelled(alloc, Mode::Sets, in_term(alloc, class)?)?;
-        assert_eq!(rt; text.as_str(), want);
-    }
-    let rows = [
-        (["a", "bc", ""], "[\\q{a|bc|}]"),
-        (["", "", "-|"], "[\\q{||\\-\\|}]"),
-    ];
-    for ([first, second, third], want) in rows {
-        let class = class_of(
-            alloc,
-            vec![in alloc; strings(alloc, first, second, third)?]?,
-        )?;
-        let text = spelled(alloc, Mode::Sets, in_term(alloc, class)?)?;
+    for (kind, want) in rows {
+        let class = CharacterClass {
+            span: nowhere(),
+            negative: true,
+            strings: false,
+            kind,
+            body: contents_by_hand(alloc)?,
+        };
+        let mut terms = List::new(alloc);
+        terms.push(Term::CharacterClass(Box::new(alloc, class)?))?;
+        let text = spelled(alloc, Mode::Sets, terms)?;
         assert_eq!(rt; text.as_str(), want);
     }
     Ok(())
@@ -335,47 +249,60 @@ fn classes_hold_their_contents_in_order(rt: HostRuntime) -> Result<(), OutOfMemo
 #[test]
 fn alternatives_stand_between_bars(rt: HostRuntime) -> Result<(), OutOfMemory> {
     let alloc = rt.alloc();
-    let none = Disjunction {
-        span: nowhere(),
-        body: List::new(alloc),
-    };
-    let text = spelled_disjunction(alloc, Mode::Unicode, none)?;
-    assert_eq!(rt; text.as_str(), "");
-    let mut body = List::new(alloc);
-    body.push(alternative(alloc, vec![in alloc; indexed(alloc, 1)?]?)?)?;
-    body.push(alternative(alloc, vec![in alloc; digit(alloc)?]?)?)?;
-    body.push(alternative(alloc, Vec::new(alloc))?)?;
-    body.push(alternative(alloc, Vec::new(alloc))?)?;
-    let four = Disjunction {
-        span: nowhere(),
-        body,
-    };
-    let text = spelled_disjunction(alloc, Mode::Unicode, four)?;
-    assert_eq!(rt; text.as_str(), "\\1|9||");
+    let none = spelled_disjunction(alloc, Mode::Unicode, List::new(alloc))?;
+    assert_eq!(rt; none.as_str(), "");
+    let mut alternatives = List::new(alloc);
+    for signs in ["1", "9", "", ""] {
+        let body = terms_of(alloc, signs)?;
+        let span = nowhere();
+        alternatives.push(Alternative { span, body })?;
+    }
+    let four = spelled_disjunction(alloc, Mode::Unicode, alternatives)?;
+    assert_eq!(rt; four.as_str(), "\\1|9||");
     Ok(())
 }
 
 #[test]
-fn deep_trees_need_no_deep_stack(rt: HostRuntime) -> Result<(), OutOfMemory> {
+fn deep_groups_need_no_deep_stack(rt: HostRuntime) -> Result<(), OutOfMemory> {
     let alloc = rt.alloc();
     let mut term = dot();
     for _ in 0..DEEP {
-        term = group_of(alloc, term)?;
+        term = group_of(alloc, None, term)?;
     }
-    let text = spelled(alloc, Mode::Unicode, term)?;
+    let mut terms = List::new(alloc);
+    terms.push(term)?;
+    let text = spelled(alloc, Mode::Unicode, terms)?;
     assert_eq!(rt; text.as_str().len(), 1_000_001);
+    Ok(())
+}
+
+#[test]
+fn deep_quantifiers_need_no_deep_stack(rt: HostRuntime) -> Result<(), OutOfMemory> {
+    let alloc = rt.alloc();
     let mut term = dot();
     for _ in 0..DEEP {
         term = quantified(alloc, 0, None, true, term)?;
     }
-    let text = spelled(alloc, Mode::Unicode, term)?;
+    let mut terms = List::new(alloc);
+    terms.push(term)?;
+    let text = spelled(alloc, Mode::Unicode, terms)?;
     assert_eq!(rt; text.as_str().len(), 500_001);
-    let mut class = class_of(alloc, Vec::new(alloc))?;
+    Ok(())
+}
+
+#[test]
+fn deep_classes_need_no_deep_stack(rt: HostRuntime) -> Result<(), OutOfMemory> {
+    let alloc = rt.alloc();
+    let mut class = union(List::new(alloc));
     for _ in 1..DEEP {
         let inner = CharacterClassContents::NestedCharacterClass(Box::new(alloc, class)?);
-        class = class_of(alloc, vec![in alloc; inner]?)?;
+        let mut body = List::new(alloc);
+        body.push(inner)?;
+        class = union(body);
     }
-    let text = spelled(alloc, Mode::Sets, in_term(alloc, class)?)?;
+    let mut terms = List::new(alloc);
+    terms.push(Term::CharacterClass(Box::new(alloc, class)?))?;
+    let text = spelled(alloc, Mode::Sets, terms)?;
     assert_eq!(rt; text.as_str().len(), 1_000_000);
     Ok(())
 }
@@ -384,57 +311,74 @@ fn nowhere() -> Span {
     Span::empty(0)
 }
 
-fn list<T: Drop>(alloc: Global, items: Vec<T>) -> Result<List<T>, OutOfMemory> {
-    let mut list = List::new(alloc);
-    for item in items {
-        list.push(item)?;
-    }
-    Ok(list)
-}
-
-fn spelled_disjunction(alloc: Global, mode: Mode, body: Disjunction) -> Result<Text, OutOfMemory> {
+fn spelled_disjunction(
+    alloc: Global,
+    mode: Mode,
+    body: List<Alternative>,
+) -> Result<Text, OutOfMemory> {
+    let span = nowhere();
     let pattern = Pattern {
-        span: nowhere(),
-        body,
+        span,
+        body: Disjunction { span, body },
     };
     canonical_text(alloc, &pattern, mode)
 }
 
-fn spelled(alloc: Global, mode: Mode, term: Term) -> Result<Text, OutOfMemory> {
-    spelled_disjunction(alloc, mode, disjunction_of(alloc, term)?)
-}
-
-fn spelled_all(alloc: Global, terms: Vec<Term>) -> Result<Text, OutOfMemory> {
-    let mut body = List::new(alloc);
-    body.push(alternative(alloc, terms)?)?;
+fn spelled(alloc: Global, mode: Mode, body: List<Term>) -> Result<Text, OutOfMemory> {
     let span = nowhere();
-    spelled_disjunction(alloc, Mode::Legacy, Disjunction { span, body })
+    let mut alternatives = List::new(alloc);
+    alternatives.push(Alternative { span, body })?;
+    spelled_disjunction(alloc, mode, alternatives)
 }
 
-fn character_in_class(alloc: Global, mode: Mode, value: u32) -> Result<Text, OutOfMemory> {
-    let class = class_of(alloc, vec![in alloc; contents(alloc, value)?]?)?;
-    let text = spelled(alloc, mode, in_term(alloc, class)?)?;
-    let inside = text
-        .as_str()
-        .strip_prefix("[")
-        .and_then(|rest| rest.strip_suffix("]"));
-    Text::from_str(alloc, inside.unwrap_or("not in brackets"))
+fn characters_outside(alloc: Global, mode: Mode, values: &[u32]) -> Result<Text, OutOfMemory> {
+    let mut terms = List::new(alloc);
+    for value in values {
+        terms.push(character(alloc, *value)?)?;
+    }
+    spelled(alloc, mode, terms)
 }
 
-fn alternative(alloc: Global, terms: Vec<Term>) -> Result<Alternative, OutOfMemory> {
-    Ok(Alternative {
-        span: nowhere(),
-        body: list(alloc, terms)?,
-    })
+fn characters_inside(alloc: Global, mode: Mode, values: &[u32]) -> Result<Text, OutOfMemory> {
+    let mut body = List::new(alloc);
+    for value in values {
+        body.push(in_class(alloc, *value)?)?;
+    }
+    let mut terms = List::new(alloc);
+    terms.push(Term::CharacterClass(Box::new(alloc, union(body))?))?;
+    spelled(alloc, mode, terms)
+}
+
+/// One term for each sign.
+fn terms_of(alloc: Global, signs: &str) -> Result<List<Term>, OutOfMemory> {
+    let mut terms = List::new(alloc);
+    for sign in signs.chars() {
+        terms.push(term_of(alloc, sign)?)?;
+    }
+    Ok(terms)
+}
+
+fn term_of(alloc: Global, sign: char) -> Result<Term, OutOfMemory> {
+    match sign {
+        '1' => reference(alloc),
+        '9' => character(alloc, 0x39),
+        'q' => quantified(alloc, 0, None, true, reference(alloc)?),
+        'm' => quantified(alloc, 0, None, true, character(alloc, 0x39)?),
+        'c' => digit_class(alloc),
+        'g' => group_of(alloc, None, character(alloc, 0x39)?),
+        'h' => group_of(alloc, None, reference(alloc)?),
+        'n' => named(alloc),
+        _ => Ok(dot()),
+    }
 }
 
 fn disjunction_of(alloc: Global, term: Term) -> Result<Disjunction, OutOfMemory> {
+    let mut terms = List::new(alloc);
+    terms.push(term)?;
+    let span = nowhere();
     let mut body = List::new(alloc);
-    body.push(alternative(alloc, vec![in alloc; term]?)?)?;
-    Ok(Disjunction {
-        span: nowhere(),
-        body,
-    })
+    body.push(Alternative { span, body: terms })?;
+    Ok(Disjunction { span, body })
 }
 
 fn symbol(value: u32) -> Character {
@@ -453,19 +397,20 @@ fn character(alloc: Global, value: u32) -> Result<Term, OutOfMemory> {
     Ok(Term::Character(Box::new(alloc, symbol(value))?))
 }
 
-fn digit(alloc: Global) -> Result<Term, OutOfMemory> {
-    character(alloc, 0x39)
-}
-
-fn indexed(alloc: Global, index: u32) -> Result<Term, OutOfMemory> {
-    let span = nowhere();
-    Ok(Term::IndexedReference(Box::new(alloc, IndexedReference { span, index })?))
+fn reference(alloc: Global) -> Result<Term, OutOfMemory> {
+    let it = IndexedReference {
+        span: nowhere(),
+        index: 1,
+    };
+    Ok(Term::IndexedReference(Box::new(alloc, it)?))
 }
 
 fn named(alloc: Global) -> Result<Term, OutOfMemory> {
-    let name = Text::from_str(alloc, "n")?;
-    let span = nowhere();
-    Ok(Term::NamedReference(Box::new(alloc, NamedReference { span, name })?))
+    let it = NamedReference {
+        span: nowhere(),
+        name: Text::from_str(alloc, "n")?,
+    };
+    Ok(Term::NamedReference(Box::new(alloc, it)?))
 }
 
 fn quantified(
@@ -485,10 +430,10 @@ fn quantified(
     Ok(Term::Quantifier(Box::new(alloc, quantifier)?))
 }
 
-fn group_of(alloc: Global, term: Term) -> Result<Term, OutOfMemory> {
+fn group_of(alloc: Global, name: Option<Text>, term: Term) -> Result<Term, OutOfMemory> {
     let group = CapturingGroup {
         span: nowhere(),
-        name: None,
+        name,
         body: disjunction_of(alloc, term)?,
     };
     Ok(Term::CapturingGroup(Box::new(alloc, group)?))
@@ -522,33 +467,29 @@ fn property(
     })
 }
 
-fn in_term(alloc: Global, class: CharacterClass) -> Result<Term, OutOfMemory> {
-    Ok(Term::CharacterClass(Box::new(alloc, class)?))
+fn in_class(alloc: Global, value: u32) -> Result<CharacterClassContents, OutOfMemory> {
+    let it = Box::new(alloc, symbol(value))?;
+    Ok(CharacterClassContents::Character(it))
 }
 
-fn contents(alloc: Global, value: u32) -> Result<CharacterClassContents, OutOfMemory> {
-    Ok(CharacterClassContents::Character(Box::new(alloc, symbol(value))?))
-}
-
-fn class_of(
-    alloc: Global,
-    contents: Vec<CharacterClassContents>,
-) -> Result<CharacterClass, OutOfMemory> {
-    Ok(CharacterClass {
+fn union(body: List<CharacterClassContents>) -> CharacterClass {
+    CharacterClass {
         span: nowhere(),
         negative: false,
         strings: false,
         kind: CharacterClassContentsKind::Union,
-        body: list(alloc, contents)?,
-    })
+        body,
+    }
 }
 
-/// A range, an escape, a property, a character and an empty class in it.
-fn class_by_hand(
-    alloc: Global,
-    kind: CharacterClassContentsKind,
-    negative: bool,
-) -> Result<CharacterClass, OutOfMemory> {
+fn digit_class(alloc: Global) -> Result<Term, OutOfMemory> {
+    let mut body = List::new(alloc);
+    body.push(in_class(alloc, 0x39)?)?;
+    Ok(Term::CharacterClass(Box::new(alloc, union(body))?))
+}
+
+/// A range, an escape, a property, a character, a class and strings.
+fn contents_by_hand(alloc: Global) -> Result<List<CharacterClassContents>, OutOfMemory> {
     let span = nowhere();
     let range = CharacterClassRange {
         span,
@@ -560,39 +501,28 @@ fn class_by_hand(
         kind: CharacterClassEscapeKind::D,
     };
     let property = property(alloc, false, "L", None)?;
-    let mut inner = class_of(alloc, Vec::new(alloc))?;
-    inner.negative = true;
-    let mut class = class_of(
-        alloc,
-        vec![in alloc;
-            CharacterClassContents::CharacterClassRange(Box::new(alloc, range)?),
-            CharacterClassContents::CharacterClassEscape(Box::new(alloc, escape)?),
-            CharacterClassContents::UnicodePropertyEscape(Box::new(alloc, property)?),
-            contents(alloc, 0x2D)?,
-            CharacterClassContents::NestedCharacterClass(Box::new(alloc, inner)?),
-        ]?,
-    )?;
-    class.kind = kind;
-    class.negative = negative;
-    Ok(class)
+    let class = union(List::new(alloc));
+    let strings = three_strings(alloc)?;
+    let mut body = List::new(alloc);
+    body.push(CharacterClassContents::CharacterClassRange(Box::new(alloc, range)?))?;
+    body.push(CharacterClassContents::CharacterClassEscape(Box::new(alloc, escape)?))?;
+    body.push(CharacterClassContents::UnicodePropertyEscape(Box::new(alloc, property)?))?;
+    body.push(in_class(alloc, 0x2D)?)?;
+    body.push(CharacterClassContents::NestedCharacterClass(Box::new(alloc, class)?))?;
+    body.push(CharacterClassContents::ClassStringDisjunction(Box::new(alloc, strings)?))?;
+    Ok(body)
 }
 
-fn strings(
-    alloc: Global,
-    first: &str,
-    second: &str,
-    third: &str,
-) -> Result<CharacterClassContents, OutOfMemory> {
+fn three_strings(alloc: Global) -> Result<ClassStringDisjunction, OutOfMemory> {
     let mut body = List::new(alloc);
-    body.push(string(alloc, first)?)?;
-    body.push(string(alloc, second)?)?;
-    body.push(string(alloc, third)?)?;
-    let disjunction = ClassStringDisjunction {
+    for text in ["a", "bc", ""] {
+        body.push(string(alloc, text)?)?;
+    }
+    Ok(ClassStringDisjunction {
         span: nowhere(),
         strings: true,
         body,
-    };
-    Ok(CharacterClassContents::ClassStringDisjunction(Box::new(alloc, disjunction)?))
+    })
 }
 
 fn string(alloc: Global, text: &str) -> Result<ClassString, OutOfMemory> {

@@ -92,14 +92,23 @@ fn not_yet(rt: HostRuntime) -> Result<(), Fail> {
         assert!(rt; matches!(&answer, Err(Fault::NotYet)), "{pattern}");
     }
     let options = Options::default();
-    assert_eq!(rt; (options.pattern_span_offset, options.flags_span_offset), (0, 0));
+    assert_eq!(rt;
+        (options.pattern_span_offset, options.flags_span_offset),
+        (0, 0)
+    );
     Ok(())
 }
 
 #[test]
 fn flags(rt: HostRuntime) -> Result<(), Fail> {
     for flags in ["u", "ui", "su", "dgimsuy"] {
-        let answer = canonical(rt.alloc(), Form::Literal, "a", Some(flags), Options::default());
+        let answer = canonical(
+            rt.alloc(),
+            Form::Literal,
+            "a",
+            Some(flags),
+            Options::default(),
+        );
         let it = answer.ok().ok_or("refused")?;
         assert_eq!(rt; it.mode, Mode::Unicode);
     }

@@ -1,4 +1,4 @@
-use Rattle.std.proofs.Common.{◌≡◌, ap, sym, ◌∙◌, ◌++◌, ◌+◌, drop, refl}
+use Rattle.std.proofs.Common.{refl}
 use Rattle.std.proofs.lemmas.List.{drop_more}
 use Rattle.rx_tools.specs.Levels.{level_events}
 use Rattle.rx_tools.proofs.Flats.{flat_more}

@@ -1,4 +1,4 @@
-use Rattle.std.proofs.Common.{◌≡◌, ◌++◌, ℕ, ap, sym, ◌∙◌, List}
+use Rattle.std.proofs.Common.{◌++◌, ap, sym, ◌∙◌, List}
 use Rattle.std.proofs.lemmas.Result.{on_ok_weaker}
 use Rattle.rx_base.specs.declared.span.Span.{Span}
 use Rattle.rx_model.specs.Events.{Event}

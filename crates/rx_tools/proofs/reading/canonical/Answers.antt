@@ -1,8 +1,7 @@
-use Rattle.std.proofs.Common.{◌≡◌, ◌∙◌, ◌⊎◌, ap, sym, refl, subst, inl, inr, Some, Err, true}
+use Rattle.std.proofs.Common.{◌≡◌, ◌∙◌, ap, sym, subst, inl, inr, Some, Err, true}
 use Rattle.std.specs.Str.{chars}
-use Rattle.rx_model.specs.Flags.{flags_ok, flags_of, mode_of}
+use Rattle.rx_model.specs.Flags.{flags_ok, mode_of}
 use Rattle.rx_model.specs.Reading.{IsOnly, units_of}
-use Rattle.rx_model.specs.declared.form.Form.TheVariants.{Literal}
 use Rattle.rx_model.specs.declared.mode.Mode.TheVariants.{Unicode}
 use Rattle.rx_tools.specs.NotYet.{is_not_yet}
 use Rattle.rx_tools.specs.Texts.{flags_chars}
@@ -19,8 +18,8 @@ returns-in-Err-clause-complete c =
 pub returns-in-Err-clause-later : goal.returns-in-Err-clause-later
 returns-in-Err-clause-later c = λ later.
     elim (fault_of_later (chars c.args.pattern_text.now) (Some (chars c.text_of_flags-flags.result.now)) (flags_chars c.args.flags_text) c.args.options.flags_span_offset c.in-Err.fault
-        c.text_of_flags-flags.ensures.flags c.in-Err.ensures.refused
-        (subst (λ form. is_not_yet form (chars c.args.pattern_text.now) (flags_chars c.args.flags_text) ≡ true) c.in-Literal.is later)) [
+    c.text_of_flags-flags.ensures.flags c.in-Err.ensures.refused
+    (subst (λ form. is_not_yet form (chars c.args.pattern_text.now) (flags_chars c.args.flags_text) ≡ true) c.in-Literal.is later)) [
       | inl e ↦ inl (ap Err e)
       | inr e ↦ inr (ap Err e)
     ]

@@ -4,7 +4,7 @@ use Rattle.std.specs.Str.{chars}
 use Rattle.rx_units.specs.declared.code_point.CodePoint.{CodePoint}
 use Rattle.rx_units.specs.Reading.{rest}
 use Rattle.rx_units.specs.Units.{literal_units}
-use Rattle.rx_model.specs.Reading.{Reads, IsSpanned, units_of}
+use Rattle.rx_model.specs.Reading.{Reads, IsSpanned}
 use Rattle.rx_model.specs.declared.mode.Mode.TheVariants.{Unicode}
 use Rattle.rx_tools.specs.Flat.{Fit}
 use Rattle.rx_tools.proofs.FlatReads.{flat_reads, flat_is_spanned}
