@@ -15,12 +15,12 @@ pub use kinds::{DigitsKind, PropertyPart, RangeKind, SetOperator, Unterminated};
 #[derive(Debug, Drop)]
 pub enum Diagnostic {
     InvalidInput { span: Span },
-    /// No flag is written so: a code point.
+    /// `flag` is the code point that names no flag.
     UnknownFlag { span: Span, flag: u32 },
-    /// The flag stood before: a code point.
+    /// `flag` is the code point that stands twice.
     DuplicatedFlags { span: Span, flag: u32 },
     InvalidUnicodeFlags { span: Span },
-    /// Two groups that can both take part in one match have the same name.
+    /// Where two groups have the same name and can take part in one match.
     DuplicatedCapturingGroupNames { first: Span, second: Span },
     TooMayCapturingGroups { span: Span },
     ParsePatternIncomplete { span: Span },
@@ -28,10 +28,10 @@ pub enum Diagnostic {
     UnterminatedPattern { span: Span, what: Unterminated },
     InvalidExtendedAtomEscape { span: Span },
     InvalidBracedQuantifier { span: Span },
-    /// The number is larger than `max`, the count of capturing groups.
+    /// `max` is the count of capturing groups, which the number is larger than.
     InvalidIndexedReference { span: Span, max: u32 },
     EmptyGroupSpecifier { span: Span },
-    /// No group is named so. `names` are those that groups have.
+    /// `names` are those that groups have.
     InvalidNamedReference { span: Span, names: List<Text> },
     InvalidUnicodePropertyNameNegativeStrings { span: Span, name: Text },
     InvalidCharacterClass { span: Span },
@@ -62,50 +62,47 @@ impl Diagnostic {
         ensures { result.now ≡ name_of self.now }
     {
         match self {
-            Diagnostic::InvalidInput { .. } => "invalid_input",
-            Diagnostic::UnknownFlag { .. } => "unknown_flag",
-            Diagnostic::DuplicatedFlags { .. } => "duplicated_flags",
-            Diagnostic::InvalidUnicodeFlags { .. } => "invalid_unicode_flags",
-            Diagnostic::DuplicatedCapturingGroupNames { .. } => "duplicated_capturing_group_names",
-            Diagnostic::TooMayCapturingGroups { .. } => "too_may_capturing_groups",
-            Diagnostic::ParsePatternIncomplete { .. } => "parse_pattern_incomplete",
-            Diagnostic::LoneQuantifier { .. } => "lone_quantifier",
-            Diagnostic::UnterminatedPattern { .. } => "unterminated_pattern",
-            Diagnostic::InvalidExtendedAtomEscape { .. } => "invalid_extended_atom_escape",
-            Diagnostic::InvalidBracedQuantifier { .. } => "invalid_braced_quantifier",
-            Diagnostic::InvalidIndexedReference { .. } => "invalid_indexed_reference",
-            Diagnostic::EmptyGroupSpecifier { .. } => "empty_group_specifier",
-            Diagnostic::InvalidNamedReference { .. } => "invalid_named_reference",
-            Diagnostic::InvalidUnicodePropertyNameNegativeStrings { .. } =>
+            Self::InvalidInput { .. } => "invalid_input",
+            Self::UnknownFlag { .. } => "unknown_flag",
+            Self::DuplicatedFlags { .. } => "duplicated_flags",
+            Self::InvalidUnicodeFlags { .. } => "invalid_unicode_flags",
+            Self::DuplicatedCapturingGroupNames { .. } => "duplicated_capturing_group_names",
+            Self::TooMayCapturingGroups { .. } => "too_may_capturing_groups",
+            Self::ParsePatternIncomplete { .. } => "parse_pattern_incomplete",
+            Self::LoneQuantifier { .. } => "lone_quantifier",
+            Self::UnterminatedPattern { .. } => "unterminated_pattern",
+            Self::InvalidExtendedAtomEscape { .. } => "invalid_extended_atom_escape",
+            Self::InvalidBracedQuantifier { .. } => "invalid_braced_quantifier",
+            Self::InvalidIndexedReference { .. } => "invalid_indexed_reference",
+            Self::EmptyGroupSpecifier { .. } => "empty_group_specifier",
+            Self::InvalidNamedReference { .. } => "invalid_named_reference",
+            Self::InvalidUnicodePropertyNameNegativeStrings { .. } =>
                 "invalid_unicode_property_name_negative_strings",
-            Diagnostic::InvalidCharacterClass { .. } => "invalid_character_class",
-            Diagnostic::CharacterClassRangeOutOfOrder { .. } =>
-                "character_class_range_out_of_order",
-            Diagnostic::CharacterClassRangeDashNotSubtraction { .. } =>
+            Self::InvalidCharacterClass { .. } => "invalid_character_class",
+            Self::CharacterClassRangeOutOfOrder { .. } => "character_class_range_out_of_order",
+            Self::CharacterClassRangeDashNotSubtraction { .. } =>
                 "character_class_range_dash_not_subtraction",
-            Diagnostic::CharacterClassRangeInvalidAtom { .. } =>
-                "character_class_range_invalid_atom",
-            Diagnostic::InvalidClassAtom { .. } => "invalid_class_atom",
-            Diagnostic::EmptyClassSetExpression { .. } => "empty_class_set_expression",
-            Diagnostic::ClassIntersectionUnexpectedAmpersand { .. } =>
+            Self::CharacterClassRangeInvalidAtom { .. } => "character_class_range_invalid_atom",
+            Self::InvalidClassAtom { .. } => "invalid_class_atom",
+            Self::EmptyClassSetExpression { .. } => "empty_class_set_expression",
+            Self::ClassIntersectionUnexpectedAmpersand { .. } =>
                 "class_intersection_unexpected_ampersand",
-            Diagnostic::ClassSetExpressionInvalidCharacter { .. } =>
+            Self::ClassSetExpressionInvalidCharacter { .. } =>
                 "class_set_expression_invalid_character",
-            Diagnostic::CharacterClassContentsInvalidOperands { .. } =>
+            Self::CharacterClassContentsInvalidOperands { .. } =>
                 "character_class_contents_invalid_operands",
-            Diagnostic::TooLargeNumberInBracedQuantifier { .. } =>
+            Self::TooLargeNumberInBracedQuantifier { .. } =>
                 "too_large_number_in_braced_quantifier",
-            Diagnostic::BracedQuantifierOutOfOrder { .. } => "braced_quantifier_out_of_order",
-            Diagnostic::TooLargeNumberDigits { .. } => "too_large_number_digits",
-            Diagnostic::InvalidUnicodeProperty { .. } => "invalid_unicode_property",
-            Diagnostic::InvalidUnicodePropertyOfStrings { .. } =>
-                "invalid_unicode_property_of_strings",
-            Diagnostic::InvalidUnicodeEscapeSequence { .. } => "invalid_unicode_escape_sequence",
-            Diagnostic::InvalidSurrogatePair { .. } => "invalid_surrogate_pair",
-            Diagnostic::DuplicatedModifiers { .. } => "duplicated_modifiers",
-            Diagnostic::InvalidModifiers { .. } => "invalid_modifiers",
-            Diagnostic::EmptyModifiers { .. } => "empty_modifiers",
-            Diagnostic::UnknownModifiers { .. } => "unknown_modifiers",
+            Self::BracedQuantifierOutOfOrder { .. } => "braced_quantifier_out_of_order",
+            Self::TooLargeNumberDigits { .. } => "too_large_number_digits",
+            Self::InvalidUnicodeProperty { .. } => "invalid_unicode_property",
+            Self::InvalidUnicodePropertyOfStrings { .. } => "invalid_unicode_property_of_strings",
+            Self::InvalidUnicodeEscapeSequence { .. } => "invalid_unicode_escape_sequence",
+            Self::InvalidSurrogatePair { .. } => "invalid_surrogate_pair",
+            Self::DuplicatedModifiers { .. } => "duplicated_modifiers",
+            Self::InvalidModifiers { .. } => "invalid_modifiers",
+            Self::EmptyModifiers { .. } => "empty_modifiers",
+            Self::UnknownModifiers { .. } => "unknown_modifiers",
         }
     }
 
@@ -114,41 +111,41 @@ impl Diagnostic {
         ensures { result ≡ first_span_of self.now }
     {
         match self {
-            Diagnostic::DuplicatedCapturingGroupNames { first, .. } => *first,
-            Diagnostic::InvalidInput { span }
-            | Diagnostic::UnknownFlag { span, .. }
-            | Diagnostic::DuplicatedFlags { span, .. }
-            | Diagnostic::InvalidUnicodeFlags { span }
-            | Diagnostic::TooMayCapturingGroups { span }
-            | Diagnostic::ParsePatternIncomplete { span }
-            | Diagnostic::LoneQuantifier { span }
-            | Diagnostic::UnterminatedPattern { span, .. }
-            | Diagnostic::InvalidExtendedAtomEscape { span }
-            | Diagnostic::InvalidBracedQuantifier { span }
-            | Diagnostic::InvalidIndexedReference { span, .. }
-            | Diagnostic::EmptyGroupSpecifier { span }
-            | Diagnostic::InvalidNamedReference { span, .. }
-            | Diagnostic::InvalidUnicodePropertyNameNegativeStrings { span, .. }
-            | Diagnostic::InvalidCharacterClass { span }
-            | Diagnostic::CharacterClassRangeOutOfOrder { span, .. }
-            | Diagnostic::CharacterClassRangeDashNotSubtraction { span }
-            | Diagnostic::CharacterClassRangeInvalidAtom { span }
-            | Diagnostic::InvalidClassAtom { span }
-            | Diagnostic::EmptyClassSetExpression { span }
-            | Diagnostic::ClassIntersectionUnexpectedAmpersand { span }
-            | Diagnostic::ClassSetExpressionInvalidCharacter { span, .. }
-            | Diagnostic::CharacterClassContentsInvalidOperands { span }
-            | Diagnostic::TooLargeNumberInBracedQuantifier { span }
-            | Diagnostic::BracedQuantifierOutOfOrder { span }
-            | Diagnostic::TooLargeNumberDigits { span, .. }
-            | Diagnostic::InvalidUnicodeProperty { span, .. }
-            | Diagnostic::InvalidUnicodePropertyOfStrings { span, .. }
-            | Diagnostic::InvalidUnicodeEscapeSequence { span }
-            | Diagnostic::InvalidSurrogatePair { span }
-            | Diagnostic::DuplicatedModifiers { span }
-            | Diagnostic::InvalidModifiers { span }
-            | Diagnostic::EmptyModifiers { span }
-            | Diagnostic::UnknownModifiers { span } => *span,
+            Self::DuplicatedCapturingGroupNames { first, .. } => *first,
+            Self::InvalidInput { span }
+            | Self::UnknownFlag { span, .. }
+            | Self::DuplicatedFlags { span, .. }
+            | Self::InvalidUnicodeFlags { span }
+            | Self::TooMayCapturingGroups { span }
+            | Self::ParsePatternIncomplete { span }
+            | Self::LoneQuantifier { span }
+            | Self::UnterminatedPattern { span, .. }
+            | Self::InvalidExtendedAtomEscape { span }
+            | Self::InvalidBracedQuantifier { span }
+            | Self::InvalidIndexedReference { span, .. }
+            | Self::EmptyGroupSpecifier { span }
+            | Self::InvalidNamedReference { span, .. }
+            | Self::InvalidUnicodePropertyNameNegativeStrings { span, .. }
+            | Self::InvalidCharacterClass { span }
+            | Self::CharacterClassRangeOutOfOrder { span, .. }
+            | Self::CharacterClassRangeDashNotSubtraction { span }
+            | Self::CharacterClassRangeInvalidAtom { span }
+            | Self::InvalidClassAtom { span }
+            | Self::EmptyClassSetExpression { span }
+            | Self::ClassIntersectionUnexpectedAmpersand { span }
+            | Self::ClassSetExpressionInvalidCharacter { span, .. }
+            | Self::CharacterClassContentsInvalidOperands { span }
+            | Self::TooLargeNumberInBracedQuantifier { span }
+            | Self::BracedQuantifierOutOfOrder { span }
+            | Self::TooLargeNumberDigits { span, .. }
+            | Self::InvalidUnicodeProperty { span, .. }
+            | Self::InvalidUnicodePropertyOfStrings { span, .. }
+            | Self::InvalidUnicodeEscapeSequence { span }
+            | Self::InvalidSurrogatePair { span }
+            | Self::DuplicatedModifiers { span }
+            | Self::InvalidModifiers { span }
+            | Self::EmptyModifiers { span }
+            | Self::UnknownModifiers { span } => *span,
         }
     }
 
@@ -157,7 +154,7 @@ impl Diagnostic {
         ensures { result ≡ second_span_of self.now }
     {
         match self {
-            Diagnostic::DuplicatedCapturingGroupNames { second, .. } => Some(*second),
+            Self::DuplicatedCapturingGroupNames { second, .. } => Some(*second),
             _ => None,
         }
     }

@@ -20,14 +20,14 @@ impl Unterminated {
         ensures { result.now ≡ encode_utf8_all (unterminated_reason self) }
     {
         match self {
-            Unterminated::LookAround => "Unterminated lookaround assertion",
-            Unterminated::CapturingGroup => "Unterminated capturing group",
-            Unterminated::IgnoreGroup => "Unterminated ignore group",
-            Unterminated::GroupName => "Unterminated capturing group name",
-            Unterminated::PropertyEscape => "Unterminated unicode property escape",
-            Unterminated::CharacterClass => "Unterminated character class",
-            Unterminated::NestedClass => "Unterminated nested class",
-            Unterminated::ClassStringDisjunction => "Unterminated class string disjunction",
+            Self::LookAround => "Unterminated lookaround assertion",
+            Self::CapturingGroup => "Unterminated capturing group",
+            Self::IgnoreGroup => "Unterminated ignore group",
+            Self::GroupName => "Unterminated capturing group name",
+            Self::PropertyEscape => "Unterminated unicode property escape",
+            Self::CharacterClass => "Unterminated character class",
+            Self::NestedClass => "Unterminated nested class",
+            Self::ClassStringDisjunction => "Unterminated class string disjunction",
         }
     }
 }
@@ -44,8 +44,8 @@ impl RangeKind {
         ensures { result.now ≡ encode_utf8_all (range_reason self) }
     {
         match self {
-            RangeKind::ClassAtom => "Character class atom range out of order",
-            RangeKind::ClassSet => "Character class set range out of order",
+            Self::ClassAtom => "Character class atom range out of order",
+            Self::ClassSet => "Character class set range out of order",
         }
     }
 }
@@ -62,8 +62,8 @@ impl SetOperator {
         ensures { result.now ≡ encode_utf8_all (operator_reason self) }
     {
         match self {
-            SetOperator::Intersection => "Unexpected character inside of class intersection",
-            SetOperator::Subtraction => "Unexpected character inside of class subtraction",
+            Self::Intersection => "Unexpected character inside of class intersection",
+            Self::Subtraction => "Unexpected character inside of class subtraction",
         }
     }
 }
@@ -80,8 +80,8 @@ impl DigitsKind {
         ensures { result.now ≡ encode_utf8_all (digits_reason self) }
     {
         match self {
-            DigitsKind::Decimal => "Number is too large in decimal digits",
-            DigitsKind::Hex => "Number is too large in hex digits",
+            Self::Decimal => "Number is too large in decimal digits",
+            Self::Hex => "Number is too large in hex digits",
         }
     }
 }
@@ -98,8 +98,8 @@ impl PropertyPart {
         ensures { result.now ≡ encode_utf8_all (property_reason self) }
     {
         match self {
-            PropertyPart::Name => "Invalid unicode property name",
-            PropertyPart::NameOrValue => "Invalid unicode property name and/or value",
+            Self::Name => "Invalid unicode property name",
+            Self::NameOrValue => "Invalid unicode property name and/or value",
         }
     }
 }

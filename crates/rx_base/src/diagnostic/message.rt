@@ -5,6 +5,7 @@ ghost use Rattle.rx_base.specs.Reason.{reason_bytes};
 
 use super::Diagnostic;
 use super::reason::Reason;
+use super::reason::Reason::{Fixed, Flag, Name};
 use std::error::Error;
 use std::fmt;
 
@@ -13,87 +14,65 @@ impl Diagnostic {
         ensures { reason_bytes result ≡ encode_utf8_all (reason_of self.now) }
     {
         match self {
-            Diagnostic::InvalidInput { .. } => Reason::Text("Invalid input string literal"),
-            Diagnostic::UnknownFlag { flag, .. } => Reason::Flag(
-                "Unknown flag: `",
-                *flag,
-                "` found",
-            ),
-            Diagnostic::DuplicatedFlags { flag, .. } => Reason::Flag(
-                "Duplicated flag: `",
-                *flag,
-                "` found",
-            ),
-            Diagnostic::InvalidUnicodeFlags { .. } => Reason::Text(
+            Self::InvalidInput { .. } => Fixed("Invalid input string literal"),
+            Self::UnknownFlag { flag, .. } => Flag("Unknown flag: `", *flag, "` found"),
+            Self::DuplicatedFlags { flag, .. } => Flag("Duplicated flag: `", *flag, "` found"),
+            Self::InvalidUnicodeFlags { .. } => Fixed(
                 "Invalid unicode flags combination `u` and `v`",
             ),
-            Diagnostic::DuplicatedCapturingGroupNames { .. } => Reason::Text(
-                "Duplicated capturing group names",
-            ),
-            Diagnostic::TooMayCapturingGroups { .. } => Reason::Text("Too many capturing groups"),
-            Diagnostic::ParsePatternIncomplete { .. } => Reason::Text(
-                "Could not parse the entire pattern",
-            ),
-            Diagnostic::LoneQuantifier { .. } => Reason::Text(
-                "Lone quantifier found, expected with `Atom`",
-            ),
-            Diagnostic::UnterminatedPattern { what, .. } => Reason::Text(what.reason()),
-            Diagnostic::InvalidExtendedAtomEscape { .. } => Reason::Text(
-                "Invalid extended atom escape",
-            ),
-            Diagnostic::InvalidBracedQuantifier { .. } => Reason::Text("Invalid braced quantifier"),
-            Diagnostic::InvalidIndexedReference { .. } => Reason::Text("Invalid indexed reference"),
-            Diagnostic::EmptyGroupSpecifier { .. } => Reason::Text("Group specifier is empty"),
-            Diagnostic::InvalidNamedReference { .. } => Reason::Text("Invalid named reference"),
-            Diagnostic::InvalidUnicodePropertyNameNegativeStrings { name, .. } => Reason::Name(
+            Self::DuplicatedCapturingGroupNames { .. } => Fixed("Duplicated capturing group names"),
+            Self::TooMayCapturingGroups { .. } => Fixed("Too many capturing groups"),
+            Self::ParsePatternIncomplete { .. } => Fixed("Could not parse the entire pattern"),
+            Self::LoneQuantifier { .. } => Fixed("Lone quantifier found, expected with `Atom`"),
+            Self::UnterminatedPattern { what, .. } => Fixed(what.reason()),
+            Self::InvalidExtendedAtomEscape { .. } => Fixed("Invalid extended atom escape"),
+            Self::InvalidBracedQuantifier { .. } => Fixed("Invalid braced quantifier"),
+            Self::InvalidIndexedReference { .. } => Fixed("Invalid indexed reference"),
+            Self::EmptyGroupSpecifier { .. } => Fixed("Group specifier is empty"),
+            Self::InvalidNamedReference { .. } => Fixed("Invalid named reference"),
+            Self::InvalidUnicodePropertyNameNegativeStrings { name, .. } => Name(
                 "Property name `",
                 name.as_str(),
                 "` is not allowed here",
             ),
-            Diagnostic::InvalidCharacterClass { .. } => Reason::Text(
+            Self::InvalidCharacterClass { .. } => Fixed(
                 "Invalid character class with strings unicode property",
             ),
-            Diagnostic::CharacterClassRangeOutOfOrder { what, .. } => Reason::Text(what.reason()),
-            Diagnostic::CharacterClassRangeDashNotSubtraction { .. } => Reason::Text(
+            Self::CharacterClassRangeOutOfOrder { what, .. } => Fixed(what.reason()),
+            Self::CharacterClassRangeDashNotSubtraction { .. } => Fixed(
                 "Character class range out of order",
             ),
-            Diagnostic::CharacterClassRangeInvalidAtom { .. } => Reason::Text(
+            Self::CharacterClassRangeInvalidAtom { .. } => Fixed(
                 "Character class range with invalid atom",
             ),
-            Diagnostic::InvalidClassAtom { .. } => Reason::Text("Invalid class atom"),
-            Diagnostic::EmptyClassSetExpression { .. } => Reason::Text(
-                "Expected nonempty class set expression",
-            ),
-            Diagnostic::ClassIntersectionUnexpectedAmpersand { .. } => Reason::Text(
+            Self::InvalidClassAtom { .. } => Fixed("Invalid class atom"),
+            Self::EmptyClassSetExpression { .. } => Fixed("Expected nonempty class set expression"),
+            Self::ClassIntersectionUnexpectedAmpersand { .. } => Fixed(
                 "Unexpected `&` inside of class intersection",
             ),
-            Diagnostic::ClassSetExpressionInvalidCharacter { what, .. } => Reason::Text(
-                what.reason(),
-            ),
-            Diagnostic::CharacterClassContentsInvalidOperands { .. } => Reason::Text(
+            Self::ClassSetExpressionInvalidCharacter { what, .. } => Fixed(what.reason()),
+            Self::CharacterClassContentsInvalidOperands { .. } => Fixed(
                 "Invalid class operands inside of character class contents",
             ),
-            Diagnostic::TooLargeNumberInBracedQuantifier { .. } => Reason::Text(
+            Self::TooLargeNumberInBracedQuantifier { .. } => Fixed(
                 "Number is too large in braced quantifier",
             ),
-            Diagnostic::BracedQuantifierOutOfOrder { .. } => Reason::Text(
+            Self::BracedQuantifierOutOfOrder { .. } => Fixed(
                 "Numbers out of order in braced quantifier",
             ),
-            Diagnostic::TooLargeNumberDigits { what, .. } => Reason::Text(what.reason()),
-            Diagnostic::InvalidUnicodeProperty { what, .. } => Reason::Text(what.reason()),
-            Diagnostic::InvalidUnicodePropertyOfStrings { name, .. } => Reason::Name(
+            Self::TooLargeNumberDigits { what, .. } => Fixed(what.reason()),
+            Self::InvalidUnicodeProperty { what, .. } => Fixed(what.reason()),
+            Self::InvalidUnicodePropertyOfStrings { name, .. } => Name(
                 "Invalid unicode property `",
                 name.as_str(),
                 "`",
             ),
-            Diagnostic::InvalidUnicodeEscapeSequence { .. } => Reason::Text(
-                "Invalid unicode escape sequence",
-            ),
-            Diagnostic::InvalidSurrogatePair { .. } => Reason::Text("Invalid surrogate pair"),
-            Diagnostic::DuplicatedModifiers { .. } => Reason::Text("Duplicated modifier"),
-            Diagnostic::InvalidModifiers { .. } => Reason::Text("Invalid modifiers"),
-            Diagnostic::EmptyModifiers { .. } => Reason::Text("Empty modifiers"),
-            Diagnostic::UnknownModifiers { .. } => Reason::Text("Unknown modifiers"),
+            Self::InvalidUnicodeEscapeSequence { .. } => Fixed("Invalid unicode escape sequence"),
+            Self::InvalidSurrogatePair { .. } => Fixed("Invalid surrogate pair"),
+            Self::DuplicatedModifiers { .. } => Fixed("Duplicated modifier"),
+            Self::InvalidModifiers { .. } => Fixed("Invalid modifiers"),
+            Self::EmptyModifiers { .. } => Fixed("Empty modifiers"),
+            Self::UnknownModifiers { .. } => Fixed("Unknown modifiers"),
         }
     }
 }

@@ -8,9 +8,9 @@ ghost use Rattle.rx_base.specs.Reason.{reason_bytes};
 use std::fmt;
 use std::fmt::{InlineText, Write};
 
-/// What a message says behind its beginning: a text alone, or a flag or a name between two texts.
+/// What a message says behind its beginning: a fixed text, or a flag or a name between two texts.
 pub(super) enum Reason<'a> {
-    Text(&'static str),
+    Fixed(&'static str),
     Flag(&'static str, u32, &'static str),
     Name(&'static str, &'a str, &'static str),
 }
@@ -21,7 +21,7 @@ impl Reason<'_> {
         ensures styled { WritesStyledOnOk W.write_str_gives f.old result (reason_bytes self.entry) f.new }
     {
         match self {
-            Reason::Text(text) => f.write_str(text),
+            Reason::Fixed(text) => f.write_str(text),
             Reason::Flag(before, flag, after) => write_between(
                 f,
                 before,
