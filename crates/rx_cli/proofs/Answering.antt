@@ -1,7 +1,7 @@
 -- What an `ok` reply is made of, and the replies to lines past the limit.
-use Rattle.std.proofs.Common.{◌≡◌, ◌<◌, ◌≤◌, refl, sym, ap, ◌∙◌, subst, inl, inr, ℕ, true, false, List, ◌++◌, append_assoc, codes, encode_utf8_all, length, arith}
+use Rattle.std.proofs.Common.{◌≡◌, ◌<◌, ◌≤◌, refl, sym, ap, ◌∙◌, subst, inl, inr, ◌⊎◌, ℕ, Bool, true, false, Result, List, ◌++◌, append_assoc, codes, encode_utf8_all, length, arith}
 use Rattle.std.specs.Str.{chars, IsUtf8}
-use Rattle.std.proofs.lemmas.Bool.{cases_lt}
+use Rattle.std.proofs.lemmas.Bool.{cases_lt, false_from_ne_true}
 use Rattle.std.proofs.lemmas.List.{take_all, length-take-le}
 use Rattle.std.proofs.lemmas.Str.{encodes-chars}
 use Rattle.rx_ast.specs.declared.term.Pattern.{Pattern}
@@ -12,7 +12,7 @@ use Rattle.rx_model.specs.Reading.{Reads, units_of}
 use Rattle.rx_model.specs.Spelling.{spelling}
 use Rattle.rx_tools.specs.NotYet.{is_not_yet}
 use Rattle.rx_cli.specs.Request.{Request, IsRequest}
-use Rattle.rx_cli.specs.Reply.{IsReply, bad, later, ok, bad_reply, mode_name, ok_reply, mode_asked}
+use Rattle.rx_cli.specs.Reply.{IsReply, bad, later, ok, err, bad_reply, mode_name, ok_reply, mode_asked}
 use Rattle.rx_cli.specs.Serving.{kept}
 
 -- the parts of an `ok` reply, added behind one another
@@ -35,6 +35,12 @@ ok_reply_is line text request pattern mode asked read is flags_are reads spelled
     let Q : List ℕ → Type 0 = λ r. IsReply line r in
     subst Q (sym reply) (ok request pattern asked read (record { flags_are = flags_are; reads = subst P is reads }))
 
+-- An answer that is neither of the two never comes where those alone may come.
+pub read_already : {T E : Type 0} (result not_yet no_memory : Result T E) (waits : Bool) → (waits ≡ true → (result ≡ not_yet) ⊎ (result ≡ no_memory))
+    → ¬ (result ≡ not_yet) → ¬ (result ≡ no_memory) → waits ≡ false
+read_already result not_yet no_memory waits alone is_read is_held =
+    false_from_ne_true waits (λ h. elim (alone h) [ inl e ↦ is_read e | inr e ↦ is_held e ])
+
 -- a line past the limit has exactly the reply `bad`
 long_is_bad : (line : List ℕ) → 1048576 < length line → IsReply line bad_reply
 long_is_bad line long = bad (λ request is. let short : length line ≤ 1048576 = is.within in omega arith)
@@ -43,6 +49,7 @@ bad_if_long : (line reply : List ℕ) → 1048576 < length line → IsReply line
 bad_if_long line reply long (bad none) = refl
 bad_if_long line reply long (later request asked not_yet) = absurd (let short : length line ≤ 1048576 = asked.within in omega arith)
 bad_if_long line reply long (ok request pattern asked read is_read) = absurd (let short : length line ≤ 1048576 = asked.within in omega arith)
+bad_if_long line reply long (err request cause asked read is_cause) = absurd (let short : length line ≤ 1048576 = asked.within in omega arith)
 
 long_alike : (line line' reply : List ℕ) → 1048576 < length line → 1048576 < length line' → IsReply line reply → IsReply line' reply
 long_alike line line' reply long long' is =

@@ -1,5 +1,6 @@
 pub mod Lines
 pub mod Request
+pub mod Spans
 pub mod Reply
 pub mod Serving
 pub mod Outcome

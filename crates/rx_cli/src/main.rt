@@ -9,6 +9,7 @@ mod replies;
 mod request;
 mod run;
 mod server;
+mod spans;
 mod standard;
 #[cfg(test)]
 mod tests;

@@ -1,9 +1,10 @@
 ghost use Rattle.std.specs.Prelude.{◌≡◌, ◌++◌, ◌&&◌, ℕ, List as Sequence, [], true, false, OnOk, codes};
 ghost use Rattle.rx_base.specs.Writing.{Written};
-ghost use Rattle.rx_cli.specs.Reply.{IsReply, begins_ok, mode_name, ok_reply};
+ghost use Rattle.rx_cli.specs.Reply.{IsReply, begins_ok, err_reply, mode_name, ok_reply};
 
 use crate::request::Request;
-use rx_base::{Failed, Fault, List, OutOfMemory, Sink, write_all};
+use crate::spans::add_spans;
+use rx_base::{Diagnostic, Failed, Fault, List, OutOfMemory, Sink, write_all};
 use rx_tools::{Canonical, Mode, Options, canonical};
 use std::alloc::Global;
 
@@ -36,12 +37,13 @@ impl Replies {
         let options = Options::default();
         match canonical(alloc, request.form, request.text, request.flags, options) {
             Ok(it) => self.add_ok(&it),
+            Err(Fault::Diagnostic(cause)) => self.add_err(&cause),
             Err(Fault::NotYet) => self.add_refusal(b"later\n"),
             Err(Fault::OutOfMemory) => Err(OutOfMemory),
         }
     }
 
-    /// Adds a reply that does not begin with `ok`.
+    /// Adds a reply that does not begin with `ok`, or the front of one.
     fn add_refusal(&mut self, reply: &[u8]) -> Result<(), OutOfMemory>
         ensures bytes { OnOk result (self.new.bytes ≡ self.old.bytes ++ reply.now) }
         ensures all_ok { self.new.all_ok ≡ false }
@@ -57,6 +59,18 @@ impl Replies {
     {
         self.bytes.extend_from_slice(ok_front(it.mode).as_bytes())?;
         self.bytes.extend_from_slice(it.text.as_str().as_bytes())?;
+        self.bytes.extend_from_slice(b"\n")
+    }
+
+    /// Adds the reply with the name and the spans of a refusal.
+    fn add_err(&mut self, cause: &Diagnostic) -> Result<(), OutOfMemory>
+        ensures bytes { OnOk result (self.new.bytes ≡ self.old.bytes ++ err_reply cause.now) }
+        ensures all_ok { self.new.all_ok ≡ false }
+    {
+        self.add_refusal(b"err\t")?;
+        self.bytes.extend_from_slice(cause.name().as_bytes())?;
+        self.bytes.extend_from_slice(b"\t")?;
+        add_spans(&mut self.bytes, cause)?;
         self.bytes.extend_from_slice(b"\n")
     }
 

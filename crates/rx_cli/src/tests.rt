@@ -42,16 +42,25 @@ fn run_in_steps(
     Ok((status, sink))
 }
 
-const LINES: [(&[u8], &[u8]); 15] = [
+const LINES: [(&[u8], &[u8]); 24] = [
     (b"L\tu\ta.b|c", b"ok\tunicode\ta.b|c\n"),
     (b"L\tu\ta/b", b"ok\tunicode\ta\\/b\n"),
     (b"L\tu\ta||b", b"ok\tunicode\ta||b\n"),
     (b"L\tu\ta\r", b"ok\tunicode\ta\\r\n"),
+    (b"L\tui\ta.b|c", b"ok\tunicode\ta.b|c\n"),
+    (b"L\tsu\ta.b|c", b"ok\tunicode\ta.b|c\n"),
+    (b"L\tdgimsuy\ta.b|c", b"ok\tunicode\ta.b|c\n"),
+    (b"L\tgg\ta", b"err\tduplicated_flags\t1..2\n"),
+    (b"L\tgg\t(a)", b"err\tduplicated_flags\t1..2\n"),
+    (b"L\tux\ta", b"err\tunknown_flag\t1..2\n"),
+    (b"L\tuv\ta", b"err\tinvalid_unicode_flags\t1..2\n"),
     (b"L\tu\t(a)", b"later\n"),
     (b"L\tu\t", b"later\n"),
     (b"C\tu\t\"a\"", b"later\n"),
+    (b"C\tgg\t\"a\"", b"later\n"),
     (b"L\t\ta", b"later\n"),
     (b"L\tg\ta", b"later\n"),
+    (b"L\tv\ta", b"later\n"),
     (b"X", b"bad\n"),
     (b"Lu\ta", b"bad\n"),
     (b"L\tu", b"bad\n"),

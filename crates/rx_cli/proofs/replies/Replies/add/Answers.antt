@@ -1,13 +1,16 @@
-use Rattle.std.proofs.Common.{◌≡◌, ◌∙◌, refl, sym, ap, Err, Bool, true, false, ◌&&◌}
+use Rattle.std.proofs.Common.{◌≡◌, ◌∙◌, refl, sym, ap, subst, ℕ, Err, Bool, true, false, ◌&&◌, rules}
 use Rattle.std.specs.Str.{chars}
-use Rattle.std.proofs.lemmas.Bool.{false_from_ne_true, and_right}
+use Rattle.std.proofs.lemmas.Bool.{and_right}
 use Rattle.std.proofs.lemmas.Result.{on_ok_weaker}
 use Rattle.std.proofs.Math.Bool.{and-true}
+use Rattle.rx_base.specs.declared.fault.Fault.TheVariants as fault
+use Rattle.rx_model.specs.FlagCauses.{IsFlagCause}
+use Rattle.rx_model.specs.Flags.{flags_of, flag_units}
 use Rattle.rx_tools.specs.NotYet.{is_not_yet}
 use Rattle.rx_tools.specs.Texts.{flags_chars}
 use Rattle.rx_cli.specs.Request.{Request}
-use Rattle.rx_cli.specs.Reply.{bad, later, bad_reply, later_reply, ok_reply}
-use Rattle.rx_cli.proofs.Answering.{ok_reply_is}
+use Rattle.rx_cli.specs.Reply.{bad, later, err, bad_reply, later_reply, ok_reply, err_reply}
+use Rattle.rx_cli.proofs.Answering.{ok_reply_is, read_already}
 use Rattle.rx_cli.proofs.replies.Replies.add.Goals as goal
 
 -- a refusal turns the flag
@@ -23,7 +26,8 @@ pub returns-in-Ok : goal.returns-in-Ok
 returns-in-Ok c =
     let request : Request = record { form = c.in-Some.request.form; flags = flags_chars c.in-Some.request.flags; text = chars c.in-Some.request.text.now } in
     let it = c.in-Ok.it in
-    let read : is_not_yet request.form request.text request.flags ≡ false = false_from_ne_true _ (λ h. let e = c.in-Ok.ensures.not_yet.1 h in cc) in
+    let read : is_not_yet request.form request.text request.flags ≡ false =
+    read_already _ _ _ _ c.in-Ok.ensures.later (λ e. cc) (λ e. cc) in
     on_ok_weaker c.add_ok.result
     (λ added. (
       ok_reply it.mode it.text,
@@ -33,9 +37,21 @@ returns-in-Ok c =
     ))
     c.add_ok.ensures.bytes
 
+pub returns-in-Err-Diagnostic : goal.returns-in-Err-Diagnostic
+returns-in-Err-Diagnostic c =
+    let request : Request = record { form = c.in-Some.request.form; flags = flags_chars c.in-Some.request.flags; text = chars c.in-Some.request.text.now } in
+    let cause = c.in-Err-Diagnostic.cause in
+    let is : c.canonical.result ≡ Err (fault.Diagnostic cause) = c.in-Err-Diagnostic.is ∙ ap Err c.in-Err-Diagnostic.field-0-is in
+    let read : is_not_yet request.form request.text request.flags ≡ false =
+    read_already _ _ _ _ c.canonical.ensures.later (λ e. let e' = sym is ∙ e in cc) (λ e. let e' = sym is ∙ e in cc) in
+    let P : ℕ → Type 0 = λ n. IsFlagCause (flag_units (flags_of request.flags)) 0 n cause in
+    let refused : P 0 = subst P (search rules) (c.canonical.ensures.refused cause is) in
+    let add = c.add_err in
+    on_ok_weaker add.result (λ added. (err_reply cause, err request cause c.in-Some.ensures.asked read refused, added, turned add.new.self.all_ok c.args.self.now.all_ok add.ensures.all_ok)) add.ensures.bytes
+
 pub returns-in-Err-NotYet : goal.returns-in-Err-NotYet
 returns-in-Err-NotYet c =
     let request : Request = record { form = c.in-Some.request.form; flags = flags_chars c.in-Some.request.flags; text = chars c.in-Some.request.text.now } in
-    let not_yet : is_not_yet request.form request.text request.flags ≡ true = c.in-Err-NotYet.ensures.not_yet.0 (ap Err c.in-Err-NotYet.field-0-is) in
+    let not_yet : is_not_yet request.form request.text request.flags ≡ true = c.in-Err-NotYet.ensures.not_yet (ap Err c.in-Err-NotYet.field-0-is) in
     let add = c.add_refusal-in-Err-NotYet in
     on_ok_weaker add.result (λ added. (later_reply, later request c.in-Some.ensures.asked not_yet, added, turned add.new.self.all_ok c.args.self.now.all_ok add.ensures.all_ok)) add.ensures.bytes
