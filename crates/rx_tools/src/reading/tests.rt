@@ -1,7 +1,7 @@
 use super::canonical;
 use crate::{Canonical, Form, Mode, Options, canonical_text};
 use rx_ast::Term;
-use rx_base::{Fault, GetSpan, Span};
+use rx_base::{Diagnostic, Fault, GetSpan, Span};
 use std::alloc::Global;
 use std::test::Fail;
 
@@ -99,6 +99,14 @@ fn not_yet(rt: HostRuntime) -> Result<(), Fail> {
     Ok(())
 }
 
+/// The refusal that an answer carries.
+fn refusal(answer: Result<Canonical, Fault>) -> Option<Diagnostic> {
+    match answer {
+        Err(Fault::Diagnostic(cause)) => Some(cause),
+        _ => None,
+    }
+}
+
 #[test]
 fn flags(rt: HostRuntime) -> Result<(), Fail> {
     for flags in ["u", "ui", "su", "dgimsuy"] {
@@ -113,25 +121,22 @@ fn flags(rt: HostRuntime) -> Result<(), Fail> {
         assert_eq!(rt; it.mode, Mode::Unicode);
     }
     let rows = [
-        ("gg", "duplicated_flags", 1, 2),
-        ("ux", "unknown_flag", 1, 2),
-        ("uv", "invalid_unicode_flags", 1, 2),
-        ("vu", "invalid_unicode_flags", 1, 2),
-        ("é", "unknown_flag", 0, 2),
+        ("gg", "duplicated_flags", 8, 9),
+        ("ux", "unknown_flag", 8, 9),
+        ("uv", "invalid_unicode_flags", 8, 9),
+        ("vu", "invalid_unicode_flags", 8, 9),
+        ("é", "unknown_flag", 7, 9),
     ];
     let options = Options {
         pattern_span_offset: 0,
         flags_span_offset: 7,
     };
     for (flags, name, start, end) in rows {
-        match canonical(rt.alloc(), Form::Literal, "(", Some(flags), options) {
-            Err(Fault::Diagnostic(cause)) => {
-                assert_eq!(rt; cause.name(), name);
-                assert_eq!(rt; cause.first_span(), Span::new(7 + start, 7 + end));
-                assert_eq!(rt; cause.second_span(), None);
-            }
-            _ => assert!(rt; false, "{flags}"),
-        }
+        let answer = canonical(rt.alloc(), Form::Literal, "(", Some(flags), options);
+        let cause = refusal(answer).ok_or("read")?;
+        assert_eq!(rt; cause.name(), name);
+        assert_eq!(rt; cause.first_span(), Span::new(start, end));
+        assert_eq!(rt; cause.second_span(), None);
     }
     Ok(())
 }
