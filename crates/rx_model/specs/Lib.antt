@@ -1,5 +1,6 @@
 pub mod CharacterText
 pub mod ClassText
+pub mod Decoding
 pub mod Early
 pub mod Environment
 pub mod Events
@@ -12,3 +13,4 @@ pub mod Rows
 pub mod Shapes
 pub mod Spelling
 pub mod Token
+pub mod UnicodeEscapes

@@ -1,0 +1,62 @@
+-- What stands behind the backslash of a unicode escape (RegExpUnicodeEscapeSequence, 22.2.1).
+use Rattle.std.specs.Prelude.{◌≡◌, ℕ, ◌+◌, ◌*◌, ◌^◌, ◌<◌, ◌≤◌, Bool, true, false, List, [], ◌∷◌, ◌++◌, length, Option, Some, option_and_then}
+use Rattle.rx_base.specs.Surrogates.{IsLeadSurrogate, IsTrailSurrogate, surrogate_pair}
+use Rattle.rx_tables.specs.Characters.{hex_digit_value}
+
+-- the number that hexadecimal digits spell behind a number, or none where one is no digit
+abbrev pub hex_behind : ℕ → List ℕ → Option ℕ
+hex_behind n [] = Some n
+hex_behind n (c ∷ cs) = option_and_then (λ d. hex_behind (16 * n + d) cs) (hex_digit_value c)
+
+abbrev pub hex_number : List ℕ → Option ℕ
+hex_number = hex_behind 0
+
+-- `u` and four hexadecimal digits
+abbrev pub four : ℕ → ℕ → ℕ → ℕ → List ℕ
+four a b c d = 117 ∷ a ∷ b ∷ c ∷ d ∷ []
+
+-- A trail surrogate stands next as an escape: a backslash, `u` and its four digits.
+pub record BeginsWithTrail (w : List ℕ) : Type 0 where
+  pub a : ℕ
+  pub b : ℕ
+  pub c : ℕ
+  pub d : ℕ
+  pub rest : List ℕ
+  pub trail : ℕ
+  pub number : hex_number (a ∷ b ∷ c ∷ d ∷ []) ≡ Some trail
+  pub is_trail : IsTrailSurrogate trail
+  pub whole : w ≡ 92 ∷ four a b c d ++ rest
+
+-- In a unicode mode or not, a code point is spelled by these characters before rest.
+pub data SpellsUnicode : Bool → ℕ → List ℕ → List ℕ → Type 0 where
+  -- with neither `u` nor `v`, four digits alone
+  code_unit : {a b c d v : ℕ} {rest : List ℕ} → hex_number (a ∷ b ∷ c ∷ d ∷ []) ≡ Some v → SpellsUnicode false v (four a b c d) rest
+  -- four digits, and not a lead before a trail
+  alone : {a b c d v : ℕ} {rest : List ℕ} → hex_number (a ∷ b ∷ c ∷ d ∷ []) ≡ Some v → (IsLeadSurrogate v → BeginsWithTrail rest → ⊥) → SpellsUnicode true v (four a b c d) rest
+  -- a lead and a trail, joined
+  pair : {a b c d e f g h lead trail : ℕ} {rest : List ℕ} → hex_number (a ∷ b ∷ c ∷ d ∷ []) ≡ Some lead → hex_number (e ∷ f ∷ g ∷ h ∷ []) ≡ Some trail
+      → IsLeadSurrogate lead → IsTrailSurrogate trail → SpellsUnicode true (surrogate_pair lead trail) (four a b c d ++ 92 ∷ four e f g h) rest
+  -- one or more digits in braces
+  braced : {v : ℕ} {rest : List ℕ} (x : ℕ) (xs : List ℕ) → hex_number (x ∷ xs) ≡ Some v → v ≤ 0x10FFFF → SpellsUnicode true v (117 ∷ 123 ∷ x ∷ (xs ++ 125 ∷ [])) rest
+
+-- At the front a code point is spelled by so many characters.
+pub record Decodes (unicode_mode : Bool) (w : List ℕ) (v n : ℕ) : Type 0 where
+  pub spelled : List ℕ
+  pub rest : List ℕ
+  pub spells : SpellsUnicode unicode_mode v spelled rest
+  pub whole : w ≡ spelled ++ rest
+  pub count : length spelled ≡ n
+
+-- The digits behind `u{` pass 32 bits, after so many that do not.
+pub record PassesHex (w : List ℕ) (count : ℕ) : Type 0 where
+  pub digits : List ℕ
+  pub next : ℕ
+  pub rest : List ℕ
+  pub number : ℕ
+  pub digit : ℕ
+  pub whole : w ≡ 117 ∷ 123 ∷ (digits ++ next ∷ rest)
+  pub count_is : length digits ≡ count
+  pub number_is : hex_number digits ≡ Some number
+  pub digit_is : hex_digit_value next ≡ Some digit
+  pub fits : number < 2 ^ 32
+  pub passes : 2 ^ 32 ≤ 16 * number + digit
