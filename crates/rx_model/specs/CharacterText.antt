@@ -2,26 +2,11 @@
 use Rattle.std.specs.Prelude.{ℕ, zero, suc, ◌+◌, ◌/◌, ◌%◌, Bool, false, ◌==◌, ◌&&◌, ◌||◌, List, [], ◌∷◌, ◌++◌, nat_lt, nat_le, if◌then◌else◌}
 use Rattle.rx_model.specs.declared.mode.Mode.{Mode}
 use Rattle.rx_model.specs.declared.mode.Mode.TheVariants.{Legacy, Unicode, Sets}
-use Rattle.rx_model.specs.Rows.{is_syntax_character}
-
--- from the first to the last
-abbrev pub is_within : ℕ → ℕ → ℕ → Bool
-is_within low high c = nat_le low c && nat_le c high
-
-abbrev pub is_decimal_digit : ℕ → Bool
-is_decimal_digit c = is_within 48 57 c
-
--- ClassSetReservedPunctuator (22.2.1): one of & - ! # % , : ; < = > @ ` ~
-abbrev pub is_reserved_punctuator : ℕ → Bool
-is_reserved_punctuator c = c == 38 || c == 45 || c == 33 || c == 35 || c == 37 || c == 44 || c == 58 || c == 59 || c == 60 || c == 61 || c == 62 || c == 64 || c == 96 || c == 126
+use Rattle.rx_tables.specs.Characters.{is_within, is_decimal_digit, is_reserved_punctuator, is_syntax_character, hex_digit}
 
 -- t n v f r, for 9 to D
 abbrev pub control_letter : ℕ → ℕ
 control_letter c = if c == 9 then 116 else (if c == 10 then 110 else (if c == 11 then 118 else (if c == 12 then 102 else 114)))
-
--- upper case
-abbrev pub hex_digit : ℕ → ℕ
-hex_digit d = if nat_lt d 10 then 48 + d else 55 + d
 
 -- \xHH
 unfoldable pub two_digits : ℕ → List ℕ

@@ -1,5 +1,7 @@
 -- What each token spells, and rows of tokens. A relation `.. w rest` says that the units w spell a thing before all that follows them, rest.
-use Rattle.std.specs.Prelude.{◌≡◌, ℕ, ◌+◌, Bool, true, false, not, ◌==◌, ◌||◌, List, [], ◌∷◌, ◌++◌, length}
+use Rattle.std.specs.Prelude.{◌≡◌, ℕ, ◌+◌, Bool, true, false, not, ◌⊎◌, List, [], ◌∷◌, ◌++◌, length}
+use Rattle.rx_tables.specs.Characters.{is_syntax_character}
+use Rattle.rx_ast.specs.declared.leaf.BoundaryAssertionKind.{BoundaryAssertionKind}
 use Rattle.rx_ast.specs.declared.leaf.CharacterKind.{CharacterKind}
 use Rattle.rx_ast.specs.declared.leaf.CharacterKind.TheVariants.{Symbol, UnicodeEscape, HexadecimalEscape}
 use Rattle.rx_units.specs.declared.code_point.CodePoint.{CodePoint}
@@ -8,13 +10,13 @@ use Rattle.rx_units.specs.declared.code_point.EscapeKind.TheVariants as escape
 use Rattle.rx_units.specs.Units.{values}
 use Rattle.rx_model.specs.declared.mode.Mode.{Mode}
 use Rattle.rx_model.specs.declared.mode.Mode.TheVariants.{Legacy, Unicode, Sets}
+use Rattle.rx_model.specs.Boundaries.{boundary_text, has_boundary}
+use Rattle.rx_model.specs.ClassText.{class_escape_text}
 use Rattle.rx_model.specs.Environment.{Environment}
+use Rattle.rx_model.specs.Escapes.{SpellsEscape}
 use Rattle.rx_model.specs.Events.{Events, enter, leave, token, inside, modified}
+use Rattle.rx_model.specs.Quantifiers.{IsQuantifier}
 use Rattle.rx_model.specs.Token.{Token, boundary, character, dot, class_escape, property, class, indexed, named, opener, closer, bar, quantifier}
-
--- SyntaxCharacter (22.2.1): one of ^ $ \ . * + ? ( ) [ ] { } |
-abbrev pub is_syntax_character : ℕ → Bool
-is_syntax_character c = c == 94 || c == 36 || c == 92 || c == 46 || c == 42 || c == 43 || c == 63 || c == 40 || c == 41 || c == 91 || c == 93 || c == 123 || c == 125 || c == 124
 
 -- the kind of a character that is one unit, by how the unit was written
 abbrev pub unit_kind : EscapeKind → CharacterKind
@@ -36,20 +38,33 @@ pub record IsRaw (e : Environment) (kind : CharacterKind) (value : ℕ) (w : Lis
   pub value_is : value ≡ unit.value
   pub allowed : stands_raw e.mode unit.value ≡ true
 
+-- A backslash and a character escape stand for one character.
+pub record IsEscaped (e : Environment) (kind : CharacterKind) (value : ℕ) (w rest : List CodePoint) : Type 0 where
+  pub backslash : CodePoint
+  pub behind : List CodePoint
+  pub whole : w ≡ backslash ∷ behind
+  pub backslash_is : backslash.value ≡ 92
+  pub spelled : SpellsEscape e kind value (values behind) (values rest)
+
+-- One of the boundaries that there are.
+pub record IsBoundary (e : Environment) (kind : BoundaryAssertionKind) (w : List CodePoint) : Type 0 where
+  pub text : values w ≡ boundary_text kind
+  pub there : has_boundary e kind ≡ true
+
 -- The units w spell the token before rest. No other token is read yet.
 abbrev pub Spells : Environment → Token → List CodePoint → List CodePoint → Type 0
-Spells e (character kind value) w rest = IsRaw e kind value w
+Spells e (character kind value) w rest = IsRaw e kind value w ⊎ IsEscaped e kind value w rest
 Spells e dot w rest = values w ≡ 46 ∷ []
 Spells e bar w rest = values w ≡ 124 ∷ []
-Spells e (boundary kind) w rest = ⊥
-Spells e (class_escape kind) w rest = ⊥
+Spells e (boundary kind) w rest = IsBoundary e kind w
+Spells e (class_escape kind) w rest = values w ≡ class_escape_text kind
 Spells e (property negative strings name value) w rest = ⊥
 Spells e (class c) w rest = ⊥
 Spells e (indexed n) w rest = ⊥
 Spells e (named name) w rest = ⊥
 Spells e (opener o) w rest = ⊥
 Spells e closer w rest = ⊥
-Spells e (quantifier min max greedy) w rest = ⊥
+Spells e (quantifier min max greedy) w rest = IsQuantifier min max greedy w rest
 
 -- The tokens lead from these units to the rest, each spelled before all that follows it.
 abbrev pub TokenRow : Environment → List Token → List CodePoint → List CodePoint → Type 0

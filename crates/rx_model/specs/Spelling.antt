@@ -1,25 +1,15 @@
 -- The canonical spelling of a tree: of the values that one text can spell, the one text that is written. It looks at no span and at no character kind.
 use Rattle.std.specs.Prelude.{ℕ, ◌%◌, Bool, true, false, ◌==◌, ◌&&◌, List, [], ◌++◌, Option, Some, None, codes, if◌then◌else◌}
 use Rattle.std.specs.Fmt.{decimal}
-use Rattle.rx_ast.specs.declared.leaf.BoundaryAssertionKind.{BoundaryAssertionKind}
-use Rattle.rx_ast.specs.declared.leaf.BoundaryAssertionKind.TheVariants as boundary
 use Rattle.rx_ast.specs.declared.leaf.LookAroundAssertionKind.{LookAroundAssertionKind}
 use Rattle.rx_ast.specs.declared.leaf.LookAroundAssertionKind.TheVariants as look
 use Rattle.rx_ast.specs.declared.leaf.Modifiers.{Modifiers}
 use Rattle.rx_ast.specs.Tree as tree
 use Rattle.rx_ast.specs.Tree.{Leaf, Opener, Node, Nodes, Alternatives, leaf, quantified, group, no_node, node, no_alternative, alternative}
 use Rattle.rx_model.specs.declared.mode.Mode.{Mode}
+use Rattle.rx_model.specs.Boundaries.{boundary_text}
 use Rattle.rx_model.specs.CharacterText.{outside, character_text}
 use Rattle.rx_model.specs.ClassText.{class_escape_text, property_text, class_text}
-
-abbrev pub boundary_text : BoundaryAssertionKind → List ℕ
-boundary_text boundary.Start = codes "^"
-boundary_text boundary.End = codes "$"
-boundary_text boundary.Boundary = codes "\\b"
-boundary_text boundary.NegativeBoundary = codes "\\B"
-boundary_text boundary.StartBuffer = codes "\\A"
-boundary_text boundary.EndBuffer = codes "\\z"
-boundary_text boundary.EndBufferOptionalNewline = codes "\\Z"
 
 abbrev pub look_text : LookAroundAssertionKind → List ℕ
 look_text look.Lookahead = codes "(?="
