@@ -1,0 +1,2 @@
+pub mod CountsFound
+pub mod NotYet
