@@ -1,6 +1,6 @@
 -- How a unicode escape is read: the order in which the readers try its forms. What it means stands in UnicodeEscapes.
 use Rattle.std.specs.Prelude.{ℕ, Bool, ◌+◌, ◌*◌, ◌^◌, ◌==◌, ◌&&◌, List, [], ◌∷◌, Option, option_map, Some, None, option_and_then, nat_lt, nat_le, if◌then◌else◌}
-use Rattle.rx_base.specs.Surrogates.{surrogate_pair}
+use Rattle.rx_base.specs.SurrogatePair.{surrogate_pair}
 use Rattle.rx_tables.specs.Characters.{hex_digit_value, is_within}
 use Rattle.rx_model.specs.UnicodeEscapes.{hex_number}
 

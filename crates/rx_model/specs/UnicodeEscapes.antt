@@ -1,6 +1,6 @@
 -- What stands behind the backslash of a unicode escape (RegExpUnicodeEscapeSequence, 22.2.1).
 use Rattle.std.specs.Prelude.{◌≡◌, ℕ, ◌+◌, ◌*◌, ◌^◌, ◌<◌, ◌≤◌, Bool, true, false, List, [], ◌∷◌, ◌++◌, length, Option, Some, option_and_then}
-use Rattle.rx_base.specs.Surrogates.{IsLeadSurrogate, IsTrailSurrogate, surrogate_pair}
+use Rattle.rx_base.specs.SurrogatePair.{IsLeadSurrogate, IsTrailSurrogate, surrogate_pair}
 use Rattle.rx_tables.specs.Characters.{hex_digit_value}
 
 -- the number that hexadecimal digits spell behind a number, or none where one is no digit
