@@ -1,5 +1,6 @@
 pub mod Builds
 pub mod Decodings
+pub mod Escapes
 pub mod Flat
 pub mod Fronts
 pub mod Joins
