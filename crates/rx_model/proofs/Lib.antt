@@ -5,5 +5,6 @@ pub mod Flat
 pub mod Fronts
 pub mod Joins
 pub mod OneRow
+pub mod Quantifiers
 pub mod Runs
 pub mod Spellings
