@@ -30,7 +30,7 @@ others c h = record {
   no_u = grind (arith, nat_tests);
 }
 
-begins_with_u : {m : Bool} {v : ℕ} {w rest : List ℕ} → SpellsUnicode m v w rest → (t : List ℕ) × (w ≡ 117 ∷ t)
+pub begins_with_u : {m : Bool} {v : ℕ} {w rest : List ℕ} → SpellsUnicode m v w rest → (t : List ℕ) × (w ≡ 117 ∷ t)
 begins_with_u (code_unit h) = (_, refl)
 begins_with_u (alone h k) = (_, refl)
 begins_with_u (pair h k l m) = (_, refl)

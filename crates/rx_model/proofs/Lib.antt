@@ -1,3 +1,4 @@
+pub mod Backslashes
 pub mod Builds
 pub mod Decodings
 pub mod Escapes
@@ -8,3 +9,4 @@ pub mod OneRow
 pub mod Quantifiers
 pub mod Runs
 pub mod Spellings
+pub mod Splits
