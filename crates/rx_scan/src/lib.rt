@@ -3,10 +3,12 @@
 
 mod flags_parser;
 mod span_factory;
+mod state;
 #[cfg(test)]
 mod tests;
 mod unicode_escape;
 
 pub use flags_parser::FlagsParser;
 pub use span_factory::SpanFactory;
+pub use state::State;
 pub use unicode_escape::{UnicodeEscape, decode};
