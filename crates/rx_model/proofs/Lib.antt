@@ -1,4 +1,5 @@
 pub mod Builds
+pub mod Decodings
 pub mod Flat
 pub mod Fronts
 pub mod Joins
