@@ -1,80 +1,291 @@
--- At most one token is at the front of a text, since reading it is a function.
-use Rattle.std.proofs.Common.{◌≡◌, refl, ap, ℕ, ◌<◌, true, false, not, ◌==◌, if◌then◌else◌, Option, Some, None, List, [], ◌∷◌, ◌++◌, length, arith}
+-- At most one token is at the front of a text, since reading it is a function: what is spelled is read, and what is read is spelled.
+use Rattle.std.proofs.Common.{◌≡◌, refl, ap, sym, ◌∙◌, subst, ℕ, ◌+◌, ◌<◌, Bool, true, false, cond, not, ◌==◌, Option, Some, None, List, [], ◌∷◌, ◌++◌, length, drop, arith, ◌⊎◌, inl, inr, append_assoc, length-append}
+use Rattle.std.proofs.Math.Seq.{drop-append_seam}
+use Rattle.std.proofs.lemmas.Bool.{eqb-true, cond-true, cond-false}
+use Rattle.std.proofs.lemmas.List.{append-nil, length-map, map-append}
+use Rattle.rx_tables.specs.Characters.{is_syntax_character}
+use Rattle.rx_ast.specs.declared.leaf.BoundaryAssertionKind.{BoundaryAssertionKind}
+use Rattle.rx_ast.specs.declared.leaf.BoundaryAssertionKind.TheVariants as boundaries
+use Rattle.rx_ast.specs.declared.leaf.CharacterClassEscapeKind.{CharacterClassEscapeKind}
+use Rattle.rx_ast.specs.declared.leaf.CharacterClassEscapeKind.TheVariants as classes
 use Rattle.rx_ast.specs.declared.leaf.CharacterKind.{CharacterKind}
 use Rattle.rx_units.specs.declared.code_point.CodePoint.{CodePoint}
 use Rattle.rx_units.specs.Units.{values}
 use Rattle.rx_model.specs.declared.mode.Mode.{Mode}
 use Rattle.rx_model.specs.declared.mode.Mode.TheVariants.{Legacy, Unicode, Sets}
-use Rattle.rx_model.specs.Environment.{Environment}
+use Rattle.rx_model.specs.Boundaries.{has_boundary, boundary_text}
+use Rattle.rx_model.specs.ClassText.{class_escape_text}
+use Rattle.rx_model.specs.Environment.{Environment, is_unicode}
+use Rattle.rx_model.specs.Escapes.{front_is, SpellsEscape}
+use Rattle.rx_model.specs.Fronts.{EscapeRead, escaped, nothing, too_many, no_unicode, escape_at, boundary_at, class_escape_at, escaped_token, backslash_token, backslash_front, Counts, counts, no_counts, counts_at, quantifier_token, syntax_front, front}
+use Rattle.rx_model.specs.Quantifiers.{SpellsCounts, SpellsBraces, star, plus, optional, braces, exactly, at_least, between, lazy_mark, is_question, IsQuantifier}
+use Rattle.rx_model.specs.Rows.{unit_kind, stands_raw, IsRaw, IsEscaped, IsBoundary, Spells}
 use Rattle.rx_model.specs.Token.{Token, boundary, character, dot, class_escape, property, class, indexed, named, opener, closer, bar, quantifier}
-use Rattle.rx_model.specs.Rows.{is_syntax_character, unit_kind, stands_raw, IsRaw, Spells}
-
--- the token that begins with this value, which does not stand for itself, and how many units it takes
-abbrev syntax_front : ℕ → Option (Token × ℕ)
-syntax_front c = if c == 46 then Some (dot, 1) else (if c == 124 then Some (bar, 1) else None)
-
--- the token at the front, and how many units it takes
-unfoldable pub front : Mode → List CodePoint → Option (Token × ℕ)
-front mode [] = None
-front mode (u ∷ us) = if stands_raw mode u.value then Some (character (unit_kind u.escape_kind) u.value, 1) else syntax_front u.value
+use Rattle.rx_model.proofs.Backslashes.{escape_token, boundary_found, class_found, buffer_token, class_token}
+use Rattle.rx_model.proofs.Decodings.{chosen}
+use Rattle.rx_model.proofs.Escapes.{escape_spelled}
+use Rattle.rx_model.proofs.Quantifiers.{spelled_counts, counts_spelled}
+use Rattle.rx_model.proofs.Splits.{split_values}
 
 syntax_not_raw : (mode : Mode) (c : ℕ) → is_syntax_character c ≡ true → stands_raw mode c ≡ false
 syntax_not_raw Legacy c e = refl
 syntax_not_raw Unicode c e = ap not e
 syntax_not_raw Sets c e = ap not e
 
--- one unit of this value, and no other
-record IsUnit (c : ℕ) (w : List CodePoint) : Type 0 where
-  it : CodePoint
-  alone : w ≡ it ∷ []
-  value_is : it.value ≡ c
+-- the token at the front, where its first character does not stand for itself
+abbrev front_of_values : Environment → List ℕ → Option (Token × ℕ)
+front_of_values e [] = None
+front_of_values e (c ∷ w) = cond (c == 92) (backslash_front e w) (syntax_front c w)
 
-one_unit : (c : ℕ) (w : List CodePoint) → values w ≡ c ∷ [] → IsUnit c w
-one_unit c [] e = cc
-one_unit c (u ∷ []) e = record { it = u; alone = refl; value_is = cc }
-one_unit c (u ∷ v ∷ w) e = cc
-
--- a token that is one syntax character
-syntax_at_front : (mode : Mode) (c : ℕ) (t : Token) (w rest : List CodePoint) →
-    is_syntax_character c ≡ true → syntax_front c ≡ Some (t, 1) → values w ≡ c ∷ [] → front mode (w ++ rest) ≡ Some (t, length w)
+pub front_by_values : (e : Environment) (us : List CodePoint) (c : ℕ) (w : List ℕ) → is_syntax_character c ≡ true → values us ≡ c ∷ w → front e us ≡ front_of_values e (c ∷ w)
 unfolding front
-syntax_at_front mode c t w rest s f e =
-    let h = one_unit c w e in
-    rw (h.alone, h.value_is, syntax_not_raw mode c s) f
+front_by_values e [] c w s h = absurd (let k : ⊥ = cc h in k)
+front_by_values e (u ∷ us) c w s h =
+    let same : u.value ≡ c = cc h in
+    let equal : values us ≡ w = cc h in
+    cond-false (stands_raw e.mode u.value) _ _ (ap (stands_raw e.mode) same ∙ syntax_not_raw e.mode c s)
+    ∙ ap (λ c. front_of_values e (c ∷ values us)) same
+    ∙ ap (λ w. front_of_values e (c ∷ w)) equal
 
-raw_at_front : (e : Environment) (kind : CharacterKind) (value : ℕ) (w rest : List CodePoint) → IsRaw e kind value w → front e.mode (w ++ rest) ≡ Some (character kind value, length w)
-unfolding front
-raw_at_front e kind value w rest r = rw (r.alone, r.kind_is, r.value_is, r.allowed) refl
+question_there : (w : List ℕ) → front_is is_question w ≡ true → (rest : List ℕ) × (w ≡ 63 ∷ rest)
+question_there [] h = absurd (let k : ⊥ = cc h in k)
+question_there (c ∷ w) h = (w, ap (λ c. c ∷ w) (eqb-true c 63 h))
 
-pub spelled_front : (e : Environment) (t : Token) (w rest : List CodePoint) → Spells e t w rest → front e.mode (w ++ rest) ≡ Some (t, length w)
-spelled_front e (character kind value) w rest s = raw_at_front e kind value w rest s
-spelled_front e dot w rest s = syntax_at_front e.mode 46 dot w rest refl refl s
-spelled_front e bar w rest s = syntax_at_front e.mode 124 bar w rest refl refl s
-spelled_front e (boundary kind) w rest s = absurd s
-spelled_front e (class_escape kind) w rest s = absurd s
-spelled_front e (property negative strings name value) w rest s = absurd s
-spelled_front e (class c) w rest s = absurd s
-spelled_front e (indexed n) w rest s = absurd s
-spelled_front e (named name) w rest s = absurd s
-spelled_front e (opener o) w rest s = absurd s
-spelled_front e closer w rest s = absurd s
-spelled_front e (quantifier min max greedy) w rest s = absurd s
+module _ (e : Environment) where
+  -- a token whose spelling begins with a syntax character
+  by_text : (t : Token) (c : ℕ) (text : List ℕ) (w rest : List CodePoint) → is_syntax_character c ≡ true → values w ≡ c ∷ text →
+      front_of_values e (c ∷ (text ++ values rest)) ≡ Some (t, length (c ∷ text)) → front e (w ++ rest) ≡ Some (t, length w)
+  by_text t c text w rest s h f =
+      front_by_values e (w ++ rest) c (text ++ values rest) s (map-append (λ u. u.value) w rest ∙ ap (λ v. v ++ values rest) h)
+      ∙ f
+      ∙ ap (λ n. Some (t, n)) (sym (ap length h) ∙ length-map w (λ u. u.value))
 
--- No token is spelled by no units.
-spelled_none : (e : Environment) (t : Token) (rest : List CodePoint) → Spells e t [] rest → ⊥
-spelled_none e (character kind value) rest s = let h = s.alone in cc
-spelled_none e dot rest s = cc
-spelled_none e bar rest s = cc
-spelled_none e (boundary kind) rest s = s
-spelled_none e (class_escape kind) rest s = s
-spelled_none e (property negative strings name value) rest s = s
-spelled_none e (class c) rest s = s
-spelled_none e (indexed n) rest s = s
-spelled_none e (named name) rest s = s
-spelled_none e (opener o) rest s = s
-spelled_none e closer rest s = s
-spelled_none e (quantifier min max greedy) rest s = s
+  raw_front : (kind : CharacterKind) (value : ℕ) (w rest : List CodePoint) → IsRaw e kind value w → front e (w ++ rest) ≡ Some (character kind value, length w)
+  unfolding front
+  raw_front kind value w rest r = rw (r.alone, r.kind_is, r.value_is, r.allowed) refl
 
-pub spelled_some : (e : Environment) (t : Token) (w rest : List CodePoint) → Spells e t w rest → 0 < length w
-spelled_some e t [] rest s = absurd (spelled_none e t rest s)
-spelled_some e t (u ∷ w) rest s = omega arith
+  escaped_front : (kind : CharacterKind) (value : ℕ) (w rest : List CodePoint) → IsEscaped e kind value w rest → front e (w ++ rest) ≡ Some (character kind value, length w)
+  escaped_front kind value w rest r =
+      by_text (character kind value) 92 (values r.behind) w rest refl (ap values r.whole ∙ ap (λ c. c ∷ values r.behind) r.backslash_is)
+      (escape_token e kind value (values r.behind) (values rest) r.spelled ∙ ap (λ n. Some (character kind value, n)) (omega arith))
+
+  boundary_front : (kind : BoundaryAssertionKind) (w rest : List CodePoint) → IsBoundary e kind w → front e (w ++ rest) ≡ Some (boundary kind, length w)
+  unfolding backslash_front
+  boundary_front boundaries.Start w rest s = by_text (boundary boundaries.Start) 94 [] w rest refl s.text refl
+  boundary_front boundaries.End w rest s = by_text (boundary boundaries.End) 36 [] w rest refl s.text refl
+  boundary_front boundaries.Boundary w rest s = by_text (boundary boundaries.Boundary) 92 (98 ∷ []) w rest refl s.text refl
+  boundary_front boundaries.NegativeBoundary w rest s = by_text (boundary boundaries.NegativeBoundary) 92 (66 ∷ []) w rest refl s.text refl
+  boundary_front boundaries.StartBuffer w rest s = by_text (boundary boundaries.StartBuffer) 92 (65 ∷ []) w rest refl s.text (buffer_token e 65 (values rest) s.there refl refl)
+  boundary_front boundaries.EndBuffer w rest s = by_text (boundary boundaries.EndBuffer) 92 (122 ∷ []) w rest refl s.text (buffer_token e 122 (values rest) s.there refl refl)
+  boundary_front boundaries.EndBufferOptionalNewline w rest s = by_text (boundary boundaries.EndBufferOptionalNewline) 92 (90 ∷ []) w rest refl s.text (buffer_token e 90 (values rest) s.there refl refl)
+
+  class_front : (kind : CharacterClassEscapeKind) (w rest : List CodePoint) → values w ≡ class_escape_text kind → front e (w ++ rest) ≡ Some (class_escape kind, length w)
+  class_front classes.D w rest s = by_text (class_escape classes.D) 92 (100 ∷ []) w rest refl s (class_token e classes.D 100 (values rest) refl refl refl refl)
+  class_front classes.NegativeD w rest s = by_text (class_escape classes.NegativeD) 92 (68 ∷ []) w rest refl s (class_token e classes.NegativeD 68 (values rest) refl refl refl refl)
+  class_front classes.S w rest s = by_text (class_escape classes.S) 92 (115 ∷ []) w rest refl s (class_token e classes.S 115 (values rest) refl refl refl refl)
+  class_front classes.NegativeS w rest s = by_text (class_escape classes.NegativeS) 92 (83 ∷ []) w rest refl s (class_token e classes.NegativeS 83 (values rest) refl refl refl refl)
+  class_front classes.W w rest s = by_text (class_escape classes.W) 92 (119 ∷ []) w rest refl s (class_token e classes.W 119 (values rest) refl refl refl refl)
+  class_front classes.NegativeW w rest s = by_text (class_escape classes.NegativeW) 92 (87 ∷ []) w rest refl s (class_token e classes.NegativeW 87 (values rest) refl refl refl refl)
+
+  -- what the prefix of a quantifier begins with
+  record Beginning (prefix : List ℕ) : Type 0 where
+    first : ℕ
+    more : List ℕ
+    whole : prefix ≡ first ∷ more
+    is_syntax : is_syntax_character first ≡ true
+    read_so : (w : List ℕ) → front_of_values e (first ∷ w) ≡ quantifier_token (counts_at (first ∷ w)) (first ∷ w)
+
+  braces_beginning : (min : ℕ) (max : Option ℕ) (prefix : List ℕ) → SpellsBraces min max prefix → Beginning prefix
+  braces_beginning _ _ _ (exactly ds a) = record { first = 123; more = _; whole = refl; is_syntax = refl; read_so = λ w. refl }
+  braces_beginning _ _ _ (at_least ds a) = record { first = 123; more = _; whole = refl; is_syntax = refl; read_so = λ w. refl }
+  braces_beginning _ _ _ (between ds es a b) = record { first = 123; more = _; whole = refl; is_syntax = refl; read_so = λ w. refl }
+
+  beginning : (min : ℕ) (max : Option ℕ) (prefix : List ℕ) → SpellsCounts min max prefix → Beginning prefix
+  beginning _ _ _ star = record { first = 42; more = []; whole = refl; is_syntax = refl; read_so = λ w. refl }
+  beginning _ _ _ plus = record { first = 43; more = []; whole = refl; is_syntax = refl; read_so = λ w. refl }
+  beginning _ _ _ optional = record { first = 63; more = []; whole = refl; is_syntax = refl; read_so = λ w. refl }
+  beginning min max prefix (braces s) = braces_beginning min max prefix s
+
+  -- counts, and a `?` or none, before the rest
+  quantifier_read : (min : ℕ) (max : Option ℕ) (greedy : Bool) (prefix rest : List ℕ) → SpellsCounts min max prefix → (greedy ≡ true → front_is is_question rest ≡ false) →
+      quantifier_token (counts_at (prefix ++ (lazy_mark greedy ++ rest))) (prefix ++ (lazy_mark greedy ++ rest)) ≡ Some (quantifier min max greedy, length (prefix ++ lazy_mark greedy))
+  quantifier_read min max true prefix rest s alone =
+      ap (λ c. quantifier_token c (prefix ++ rest)) (spelled_counts min max prefix rest s)
+      ∙ cond-false (front_is is_question (drop (length prefix) (prefix ++ rest))) _ _ (ap (front_is is_question) (drop-append_seam prefix rest) ∙ alone refl)
+      ∙ ap (λ w. Some (quantifier min max true, length w)) (sym (append-nil prefix))
+  quantifier_read min max false prefix rest s alone =
+      ap (λ c. quantifier_token c (prefix ++ (63 ∷ rest))) (spelled_counts min max prefix (63 ∷ rest) s)
+      ∙ cond-true (front_is is_question (drop (length prefix) (prefix ++ (63 ∷ rest)))) _ _ (ap (front_is is_question) (drop-append_seam prefix (63 ∷ rest)))
+      ∙ ap (λ n. Some (quantifier min max false, n)) (omega (arith, length-append prefix (63 ∷ [])))
+
+  quantifier_front : (min : ℕ) (max : Option ℕ) (greedy : Bool) (w rest : List CodePoint) → IsQuantifier min max greedy w rest → front e (w ++ rest) ≡ Some (quantifier min max greedy, length w)
+  quantifier_front min max greedy w rest q =
+      let b = beginning min max q.prefix q.counts in
+      let more = b.more ++ lazy_mark greedy in
+      let text : q.prefix ++ lazy_mark greedy ≡ b.first ∷ more = ap (λ v. v ++ lazy_mark greedy) b.whole in
+      let all : b.first ∷ (more ++ values rest) ≡ q.prefix ++ (lazy_mark greedy ++ values rest) = ap (λ v. v ++ values rest) (sym text) ∙ append_assoc q.prefix (lazy_mark greedy) (values rest) in
+      by_text (quantifier min max greedy) b.first more w rest b.is_syntax (q.whole ∙ text)
+      (b.read_so (more ++ values rest)
+      ∙ ap (λ v. quantifier_token (counts_at v) v) all
+      ∙ quantifier_read min max greedy q.prefix (values rest) q.counts q.alone
+      ∙ ap (λ v. Some (quantifier min max greedy, length v)) text)
+
+  -- spelled → read
+  pub spelled_front : (t : Token) (w rest : List CodePoint) → Spells e t w rest → front e (w ++ rest) ≡ Some (t, length w)
+  spelled_front (character kind value) w rest s = elim s [ inl r ↦ raw_front kind value w rest r | inr r ↦ escaped_front kind value w rest r ]
+  spelled_front dot w rest s = by_text dot 46 [] w rest refl s refl
+  spelled_front bar w rest s = by_text bar 124 [] w rest refl s refl
+  spelled_front (boundary kind) w rest s = boundary_front kind w rest s
+  spelled_front (class_escape kind) w rest s = class_front kind w rest s
+  spelled_front (property negative strings name value) w rest s = absurd s
+  spelled_front (class c) w rest s = absurd s
+  spelled_front (indexed n) w rest s = absurd s
+  spelled_front (named name) w rest s = absurd s
+  spelled_front (opener o) w rest s = absurd s
+  spelled_front closer w rest s = absurd s
+  spelled_front (quantifier min max greedy) w rest s = quantifier_front min max greedy w rest s
+
+  -- No token is spelled by no units.
+  boundary_some : (kind : BoundaryAssertionKind) → values [] ≡ boundary_text kind → ⊥
+  boundary_some boundaries.Start s = cc
+  boundary_some boundaries.End s = cc
+  boundary_some boundaries.Boundary s = cc
+  boundary_some boundaries.NegativeBoundary s = cc
+  boundary_some boundaries.StartBuffer s = cc
+  boundary_some boundaries.EndBuffer s = cc
+  boundary_some boundaries.EndBufferOptionalNewline s = cc
+
+  class_some : (kind : CharacterClassEscapeKind) → values [] ≡ class_escape_text kind → ⊥
+  class_some classes.D s = cc
+  class_some classes.NegativeD s = cc
+  class_some classes.S s = cc
+  class_some classes.NegativeS s = cc
+  class_some classes.W s = cc
+  class_some classes.NegativeW s = cc
+
+  spelled_none : (t : Token) (rest : List CodePoint) → Spells e t [] rest → ⊥
+  spelled_none (character kind value) rest s = elim s [ inl r ↦ let h = r.alone in cc | inr r ↦ let h = r.whole in cc ]
+  spelled_none dot rest s = cc
+  spelled_none bar rest s = cc
+  spelled_none (boundary kind) rest s = boundary_some kind s.text
+  spelled_none (class_escape kind) rest s = class_some kind s
+  spelled_none (property negative strings name value) rest s = s
+  spelled_none (class c) rest s = s
+  spelled_none (indexed n) rest s = s
+  spelled_none (named name) rest s = s
+  spelled_none (opener o) rest s = s
+  spelled_none closer rest s = s
+  spelled_none (quantifier min max greedy) rest s =
+      let b = beginning min max s.prefix s.counts in
+      let h : [] ≡ b.first ∷ (b.more ++ lazy_mark greedy) = s.whole ∙ ap (λ v. v ++ lazy_mark greedy) b.whole in
+      cc h
+
+  pub spelled_some : (t : Token) (w rest : List CodePoint) → Spells e t w rest → 0 < length w
+  spelled_some t [] rest s = absurd (spelled_none t rest s)
+  spelled_some t (u ∷ w) rest s = omega arith
+
+  -- a token that stands at the front
+  pub record Front (t : Token) (n : ℕ) (us : List CodePoint) : Type 0 where
+    pub w : List CodePoint
+    pub rest : List CodePoint
+    pub whole : us ≡ w ++ rest
+    pub count : length w ≡ n
+    pub spells : Spells e t w rest
+
+  abbrev FrontOf : List CodePoint → Token × ℕ → Type 0
+  FrontOf us p = Front p.0 p.1 us
+
+  Some-inj : {A : Type 0} {x y : A} → Some x ≡ Some y → x ≡ y
+  Some-inj h = cc
+
+  front_of : {p : Token × ℕ} (t : Token) (n : ℕ) (us w rest : List CodePoint) → us ≡ w ++ rest → length w ≡ n → Spells e t w rest → Some (t, n) ≡ Some p → FrontOf us p
+  front_of t n us w rest h l s k = subst (FrontOf us) (Some-inj k) (record { w = w; rest = rest; whole = h; count = l; spells = s })
+
+  -- one unit of this value
+  one_unit : (u : CodePoint) (c : ℕ) → (u.value == c) ≡ true → values (u ∷ []) ≡ c ∷ []
+  one_unit u c h = ap (λ v. v ∷ []) (eqb-true u.value c h)
+
+  quantifier_at : (us : List CodePoint) (p : Token × ℕ) (c : Counts) → counts_at (values us) ≡ c → quantifier_token c (values us) ≡ Some p → FrontOf us p
+  quantifier_at us p no_counts h k = absurd (let f : ⊥ = cc k in f)
+  quantifier_at us p (counts min max n) h k =
+      let f = counts_spelled min max n (values us) h in
+      let seam : drop n (values us) ≡ f.rest = ap (drop n) f.whole ∙ ap (λ n. drop n (f.prefix ++ f.rest)) (sym f.count) ∙ drop-append_seam f.prefix f.rest in
+      elim (chosen (front_is is_question (drop n (values us))) k) [
+        | inl q ↦
+            let r = question_there f.rest (ap (front_is is_question) (sym seam) ∙ q.0) in
+            let s = split_values us (f.prefix ++ (63 ∷ [])) r.0 (f.whole ∙ ap (λ v. f.prefix ++ v) r.1 ∙ sym (append_assoc f.prefix (63 ∷ []) r.0)) in
+            front_of (quantifier min max false) (n + 1) us s.front s.back s.whole
+            (omega (arith, f.count, ap length s.front_is, length-map s.front (λ (u : CodePoint). u.value), length-append f.prefix (63 ∷ [])))
+            (record { prefix = f.prefix; counts = f.spelled; whole = s.front_is; alone = λ h. absurd (let k : ⊥ = cc h in k) }) q.1
+        | inr q ↦
+            let s = split_values us f.prefix f.rest f.whole in
+            front_of (quantifier min max true) n us s.front s.back s.whole
+            (omega (arith, f.count, ap length s.front_is, length-map s.front (λ (u : CodePoint). u.value)))
+            (record { prefix = f.prefix; counts = f.spelled; whole = s.front_is ∙ sym (append-nil f.prefix); alone = λ _. ap (front_is is_question) (s.back_is ∙ sym seam) ∙ q.0 }) q.1
+      ]
+
+  syntax_found : (u : CodePoint) (us : List CodePoint) (p : Token × ℕ) → syntax_front u.value (values us) ≡ Some p → FrontOf (u ∷ us) p
+  syntax_found u us p h = elim (chosen (u.value == 46) h) [
+    | inl q ↦ front_of dot 1 (u ∷ us) (u ∷ []) us refl refl (one_unit u 46 q.0) q.1
+    | inr q ↦ elim (chosen (u.value == 124) q.1) [
+      | inl q ↦ front_of bar 1 (u ∷ us) (u ∷ []) us refl refl (one_unit u 124 q.0) q.1
+      | inr q ↦ elim (chosen (u.value == 94) q.1) [
+        | inl q ↦ front_of (boundary boundaries.Start) 1 (u ∷ us) (u ∷ []) us refl refl (record { text = one_unit u 94 q.0; there = refl }) q.1
+        | inr q ↦ elim (chosen (u.value == 36) q.1) [
+          | inl q ↦ front_of (boundary boundaries.End) 1 (u ∷ us) (u ∷ []) us refl refl (record { text = one_unit u 36 q.0; there = refl }) q.1
+          | inr q ↦ quantifier_at (u ∷ us) p (counts_at (values (u ∷ us))) refl q.1
+        ]
+      ]
+    ]
+  ]
+
+  escape_at_front : (u : CodePoint) (us : List CodePoint) (p : Token × ℕ) → u.value ≡ 92 → (r : EscapeRead) → escape_at (is_unicode e.mode) (values us) ≡ r → escaped_token r ≡ Some p → FrontOf (u ∷ us) p
+  escape_at_front u us p h (escaped k v n) f q =
+      let r = escape_spelled e k v n (values us) f in
+      let s = split_values us r.spelled r.rest r.whole in
+      front_of (character k v) (n + 1) (u ∷ us) (u ∷ s.front) s.back (ap (λ w. u ∷ w) s.whole)
+      (omega (arith, r.count, ap length s.front_is, length-map s.front (λ (u : CodePoint). u.value)))
+      (inr (record {
+        backslash = u;
+        behind = s.front;
+        whole = refl;
+        backslash_is = h;
+        spelled = subst (λ b. SpellsEscape e k v (values s.front) b) (sym s.back_is) (subst (λ a. SpellsEscape e k v a r.rest) (sym s.front_is) r.spells);
+      })) q
+  escape_at_front u us p h nothing f q = absurd (let k : ⊥ = cc q in k)
+  escape_at_front u us p h (too_many n) f q = absurd (let k : ⊥ = cc q in k)
+  escape_at_front u us p h no_unicode f q = absurd (let k : ⊥ = cc q in k)
+
+  two_units : (u v : CodePoint) (text : List ℕ) → u.value ≡ 92 → 92 ∷ v.value ∷ [] ≡ text → values (u ∷ v ∷ []) ≡ text
+  two_units u v text h k = ap (λ c. c ∷ v.value ∷ []) h ∙ k
+
+  backslash_at : (u v : CodePoint) (us : List CodePoint) (p : Token × ℕ) → u.value ≡ 92 →
+      (b : Option BoundaryAssertionKind) → boundary_at e v.value ≡ b → (c : Option CharacterClassEscapeKind) → class_escape_at v.value ≡ c →
+      backslash_token b c (escape_at (is_unicode e.mode) (values (v ∷ us))) ≡ Some p → FrontOf (u ∷ v ∷ us) p
+  backslash_at u v us p h (Some k) f c g q =
+      let b = boundary_found e k v.value f in
+      front_of (boundary k) 2 (u ∷ v ∷ us) (u ∷ v ∷ []) us refl refl (record { text = two_units u v (boundary_text k) h b.text; there = b.there }) q
+  backslash_at u v us p h None f (Some k) g q = front_of (class_escape k) 2 (u ∷ v ∷ us) (u ∷ v ∷ []) us refl refl (two_units u v (class_escape_text k) h (class_found k v.value g)) q
+  backslash_at u v us p h None f None g q = escape_at_front u (v ∷ us) p h (escape_at (is_unicode e.mode) (values (v ∷ us))) refl q
+
+  backslash_found : (u : CodePoint) (us : List CodePoint) (p : Token × ℕ) → u.value ≡ 92 → backslash_front e (values us) ≡ Some p → FrontOf (u ∷ us) p
+  unfolding backslash_front
+  backslash_found u [] p h q = absurd (let k : ⊥ = cc q in k)
+  backslash_found u (v ∷ us) p h q = backslash_at u v us p h (boundary_at e v.value) refl (class_escape_at v.value) refl q
+
+  unit_found : (u : CodePoint) (us : List CodePoint) (p : Token × ℕ) → front e (u ∷ us) ≡ Some p → FrontOf (u ∷ us) p
+  unfolding front
+  unit_found u us p h = elim (chosen (stands_raw e.mode u.value) h) [
+    | inl q ↦ front_of (character (unit_kind u.escape_kind) u.value) 1 (u ∷ us) (u ∷ []) us refl refl
+        (inl (record { unit = u; alone = refl; kind_is = refl; value_is = refl; allowed = q.0 })) q.1
+    | inr q ↦ elim (chosen (u.value == 92) q.1) [
+      | inl q ↦ backslash_found u us p (eqb-true u.value 92 q.0) q.1
+      | inr q ↦ syntax_found u us p q.1
+    ]
+  ]
+
+  -- read → spelled
+  pub front_spelled : (us : List CodePoint) (t : Token) (n : ℕ) → front e us ≡ Some (t, n) → Front t n us
+  unfolding front
+  front_spelled [] t n h = absurd (let k : ⊥ = cc h in k)
+  front_spelled (u ∷ us) t n h = unit_found u us (t, n) h

@@ -1,7 +1,13 @@
+pub mod Backslashes
 pub mod Builds
+pub mod Decodings
+pub mod Escapes
 pub mod Flat
 pub mod Fronts
 pub mod Joins
 pub mod OneRow
+pub mod Quantifiers
 pub mod Runs
 pub mod Spellings
+pub mod Splits
+pub mod Stops

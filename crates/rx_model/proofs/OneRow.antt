@@ -1,32 +1,71 @@
 -- The rows of tokens that one text begins with are prefixes of its whole row.
-use Rattle.std.proofs.Common.{◌≡◌, refl, ap, sym, ◌∙◌, subst, Some, List, [], ◌∷◌, ◌++◌, length, drop}
+use Rattle.std.proofs.Common.{◌≡◌, ℕ, refl, ap, sym, ◌∙◌, subst, true, ◌&&◌, Some, List, [], ◌∷◌, ◌++◌, length, drop, inl, inr}
 use Rattle.std.proofs.Math.Seq.{drop-append_seam}
 use Rattle.std.proofs.lemmas.List.{append-nil}
+use Rattle.rx_ast.specs.declared.leaf.BoundaryAssertionKind.{BoundaryAssertionKind}
+use Rattle.rx_ast.specs.declared.leaf.BoundaryAssertionKind.TheVariants as boundaries
+use Rattle.rx_ast.specs.declared.leaf.CharacterKind.{CharacterKind}
 use Rattle.rx_units.specs.declared.code_point.CodePoint.{CodePoint}
-use Rattle.rx_model.specs.Environment.{Environment}
+use Rattle.rx_units.specs.Units.{values}
+use Rattle.rx_model.specs.Boundaries.{has_buffers, has_boundary}
+use Rattle.rx_model.specs.Environment.{Environment, is_unicode}
+use Rattle.rx_model.specs.Escapes.{SpellsEscape, control, letter, null, hexadecimal, unicode, identity}
+use Rattle.rx_model.specs.Fronts.{front}
+use Rattle.rx_model.specs.Rows.{IsRaw, IsEscaped, Spells, TokenRow}
 use Rattle.rx_model.specs.Token.{Token, boundary, character, dot, class_escape, property, class, indexed, named, opener, closer, bar, quantifier}
-use Rattle.rx_model.specs.Rows.{Spells, TokenRow}
-use Rattle.rx_model.proofs.Fronts.{front, spelled_front}
+use Rattle.rx_model.specs.UnicodeEscapes.{SpellsUnicode}
+use Rattle.rx_model.proofs.Fronts.{spelled_front}
 
--- Of the environment a token's spelling depends on the mode alone.
-pub Spells-mode : (e d : Environment) (t : Token) (w rest : List CodePoint) → e.mode ≡ d.mode → Spells e t w rest → Spells d t w rest
-Spells-mode e d (character kind value) w rest m s =
-    record { unit = s.unit; alone = s.alone; kind_is = s.kind_is; value_is = s.value_is; allowed = rw m at s.allowed }
-Spells-mode e d dot w rest m s = s
-Spells-mode e d bar w rest m s = s
-Spells-mode e d (boundary kind) w rest m s = s
-Spells-mode e d (class_escape kind) w rest m s = s
-Spells-mode e d (property negative strings name value) w rest m s = s
-Spells-mode e d (class c) w rest m s = s
-Spells-mode e d (indexed n) w rest m s = s
-Spells-mode e d (named name) w rest m s = s
-Spells-mode e d (opener o) w rest m s = s
-Spells-mode e d closer w rest m s = s
-Spells-mode e d (quantifier min max greedy) w rest m s = s
+buffers_same : (e d : Environment) → e.mode ≡ d.mode → e.buffer_boundaries ≡ d.buffer_boundaries → has_buffers e ≡ has_buffers d
+buffers_same e d m b = ap (λ mode. is_unicode mode && e.buffer_boundaries) m ∙ ap (λ buffers. is_unicode d.mode && buffers) b
 
-pub TokenRow-mode : (e d : Environment) (ts : List Token) (us rest : List CodePoint) → e.mode ≡ d.mode → TokenRow e ts us rest → TokenRow d ts us rest
-TokenRow-mode e d [] us rest m r = r
-TokenRow-mode e d (t ∷ ts) us rest m r = (r.0, r.1, r.2, Spells-mode e d t r.0 r.1 m r.3, TokenRow-mode e d ts r.1 rest m r.4)
+boundary_same : (e d : Environment) (kind : BoundaryAssertionKind) → e.mode ≡ d.mode → e.buffer_boundaries ≡ d.buffer_boundaries → has_boundary e kind ≡ has_boundary d kind
+boundary_same e d boundaries.Start m b = refl
+boundary_same e d boundaries.End m b = refl
+boundary_same e d boundaries.Boundary m b = refl
+boundary_same e d boundaries.NegativeBoundary m b = refl
+boundary_same e d boundaries.StartBuffer m b = buffers_same e d m b
+boundary_same e d boundaries.EndBuffer m b = buffers_same e d m b
+boundary_same e d boundaries.EndBufferOptionalNewline m b = buffers_same e d m b
+
+escape_same : (e d : Environment) (kind : CharacterKind) (v : ℕ) (w rest : List ℕ) → e.mode ≡ d.mode → SpellsEscape e kind v w rest → SpellsEscape d kind v w rest
+escape_same e d _ v _ rest m (control h) = control h
+escape_same e d _ v _ rest m (letter h) = letter h
+escape_same e d _ _ _ rest m (null h) = null h
+escape_same e d _ v _ rest m (hexadecimal h) = hexadecimal h
+escape_same e d _ v w rest m (unicode s) = unicode (subst (λ mode. SpellsUnicode (is_unicode mode) v w rest) m s)
+escape_same e d _ _ _ rest m (identity u h) = identity (subst (λ mode. is_unicode mode ≡ true) m u) h
+
+raw_same : (e d : Environment) (kind : CharacterKind) (value : ℕ) (w : List CodePoint) → e.mode ≡ d.mode → IsRaw e kind value w → IsRaw d kind value w
+raw_same e d kind value w m s = record { unit = s.unit; alone = s.alone; kind_is = s.kind_is; value_is = s.value_is; allowed = rw m at s.allowed }
+
+escaped_same : (e d : Environment) (kind : CharacterKind) (value : ℕ) (w rest : List CodePoint) → e.mode ≡ d.mode → IsEscaped e kind value w rest → IsEscaped d kind value w rest
+escaped_same e d kind value w rest m s = record {
+  backslash = s.backslash;
+  behind = s.behind;
+  whole = s.whole;
+  backslash_is = s.backslash_is;
+  spelled = escape_same e d kind value (values s.behind) (values rest) m s.spelled;
+}
+
+-- Of the environment a token's spelling depends on the mode, and on whether there are buffer boundaries.
+pub Spells-mode : (e d : Environment) (t : Token) (w rest : List CodePoint) → e.mode ≡ d.mode → e.buffer_boundaries ≡ d.buffer_boundaries → Spells e t w rest → Spells d t w rest
+Spells-mode e d (character kind value) w rest m b s = elim s [ inl r ↦ inl (raw_same e d kind value w m r) | inr r ↦ inr (escaped_same e d kind value w rest m r) ]
+Spells-mode e d dot w rest m b s = s
+Spells-mode e d bar w rest m b s = s
+Spells-mode e d (boundary kind) w rest m b s = record { text = s.text; there = sym (boundary_same e d kind m b) ∙ s.there }
+Spells-mode e d (class_escape kind) w rest m b s = s
+Spells-mode e d (property negative strings name value) w rest m b s = s
+Spells-mode e d (class c) w rest m b s = s
+Spells-mode e d (indexed n) w rest m b s = s
+Spells-mode e d (named name) w rest m b s = s
+Spells-mode e d (opener o) w rest m b s = s
+Spells-mode e d closer w rest m b s = s
+Spells-mode e d (quantifier min max greedy) w rest m b s = s
+
+pub TokenRow-mode : (e d : Environment) (ts : List Token) (us rest : List CodePoint) → e.mode ≡ d.mode → e.buffer_boundaries ≡ d.buffer_boundaries → TokenRow e ts us rest → TokenRow d ts us rest
+TokenRow-mode e d [] us rest m b r = r
+TokenRow-mode e d (t ∷ ts) us rest m b r = (r.0, r.1, r.2, Spells-mode e d t r.0 r.1 m b r.3, TokenRow-mode e d ts r.1 rest m b r.4)
 
 Some-inj : {A : Type 0} {x y : A} → Some x ≡ Some y → x ≡ y
 Some-inj e = cc
@@ -39,14 +78,14 @@ module _ (e : Environment) where
   first_token : (t s : Token) (us : List CodePoint) (w more v rest : List CodePoint) →
       us ≡ w ++ more → Spells e t w more → us ≡ v ++ rest → Spells e s v rest → (t ≡ s) × (more ≡ rest)
   first_token t s us w more v rest p a q b =
-      let m : front e.mode us ≡ Some (t, length w) = ap (front e.mode) p ∙ spelled_front e t w more a in
-      let n : front e.mode us ≡ Some (s, length v) = ap (front e.mode) q ∙ spelled_front e s v rest b in
+      let m : front e us ≡ Some (t, length w) = ap (front e) p ∙ spelled_front e t w more a in
+      let n : front e us ≡ Some (s, length v) = ap (front e) q ∙ spelled_front e s v rest b in
       let k : (t, length w) ≡ (s, length v) = Some-inj (sym m ∙ n) in
       (ap (λ x. x.0) k, behind w more us p ∙ ap (λ x. drop x.1 us) k ∙ sym (behind v rest us q))
 
   pub nothing_spelled : (t : Token) (ts : List Token) (rest : List CodePoint) → TokenRow e (t ∷ ts) [] rest → ⊥
   unfolding front
-  nothing_spelled t ts rest r = let m : front e.mode [] ≡ Some (t, length r.0) = ap (front e.mode) r.2 ∙ spelled_front e t r.0 r.1 r.3 in cc
+  nothing_spelled t ts rest r = let m : front e [] ≡ Some (t, length r.0) = ap (front e) r.2 ∙ spelled_front e t r.0 r.1 r.3 in cc
 
   pub row_prefix : (ts ss : List Token) (us rest : List CodePoint) → TokenRow e ts us rest → TokenRow e ss us [] → (xs : List Token) × (ss ≡ ts ++ xs) × TokenRow e xs rest []
   row_prefix [] ss us rest r s = (ss, refl, subst (λ v. TokenRow e ss v []) r s)
@@ -63,6 +102,6 @@ module _ (e : Environment) where
   pub one_row : (ts ss : List Token) (us : List CodePoint) → TokenRow e ts us [] → TokenRow e ss us [] → ts ≡ ss
   one_row ts ss us r s = let x = row_prefix ts ss us [] r s in sym (x.1 ∙ ap (λ xs. ts ++ xs) (none_left x.0 x.2) ∙ append-nil ts)
 
--- also in two environments of one mode
-pub one_row_by_mode : (e d : Environment) (ts ss : List Token) (us : List CodePoint) → e.mode ≡ d.mode → TokenRow e ts us [] → TokenRow d ss us [] → ts ≡ ss
-one_row_by_mode e d ts ss us m r s = one_row d ts ss us (TokenRow-mode e d ts us [] m r) s
+-- also in two environments of one mode, with buffer boundaries or without
+pub one_row_by_mode : (e d : Environment) (ts ss : List Token) (us : List CodePoint) → e.mode ≡ d.mode → e.buffer_boundaries ≡ d.buffer_boundaries → TokenRow e ts us [] → TokenRow d ss us [] → ts ≡ ss
+one_row_by_mode e d ts ss us m b r s = one_row d ts ss us (TokenRow-mode e d ts us [] m b r) s

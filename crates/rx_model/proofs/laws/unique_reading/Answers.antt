@@ -8,4 +8,4 @@ use Rattle.rx_model.proofs.laws.unique_reading.Goals as goal
 pub returns : goal.returns
 returns c mode p q us r s =
     one_tree mode mode p q r.spelled.shape s.spelled.shape
-    (one_row_by_mode (environment mode p) (environment mode q) (tokens p) (tokens q) us refl r.spelled.row s.spelled.row)
+    (one_row_by_mode (environment mode p) (environment mode q) (tokens p) (tokens q) us refl refl r.spelled.row s.spelled.row)

@@ -1,0 +1,101 @@
+-- What is read behind a backslash is what is answered.
+use Rattle.std.proofs.Common.{◌≡◌, ℕ, ◌+◌, ◌==◌, ◌≤◌, Bool, true, false, List, [], ◌∷◌, ◌++◌, length, drop, min, Option, Some, None, Ok, Err, arith, sym, ap, ◌∙◌, refl, subst, length-drop}
+use Rattle.std.proofs.lemmas.List.{length-map}
+use Rattle.rx_base.specs.declared.diagnostic.Diagnostic.TheVariants.{TooLargeNumberDigits, InvalidUnicodeEscapeSequence}
+use Rattle.rx_base.specs.declared.diagnostic.kinds.DigitsKind.TheVariants.{Hex}
+use Rattle.rx_base.specs.declared.span.Span.{Span}
+use Rattle.rx_ast.specs.declared.leaf.Character.{Character}
+use Rattle.rx_ast.specs.declared.leaf.CharacterKind.{CharacterKind}
+use Rattle.rx_units.specs.declared.code_point.CodePoint.{CodePoint}
+use Rattle.rx_units.specs.Reading.{Reading, moved, offset_of, rest}
+use Rattle.rx_units.specs.Units.{values}
+use Rattle.rx_model.specs.Environment.{Environment, is_unicode}
+use Rattle.rx_model.specs.Escapes.{SpellsEscape, front_is}
+use Rattle.rx_model.specs.Fronts.{EscapeRead, escape_at, escaped, nothing, no_unicode}
+use Rattle.rx_model.specs.Fronts as fronts
+use Rattle.rx_model.specs.Modes.{mode_by}
+use Rattle.rx_model.specs.Reached.{span_between}
+use Rattle.rx_model.proofs.Escapes.{escape_no_unicode, escape_nothing, escape_small, escape_spelled, escape_too_many, spelled_escape}
+use Rattle.rx_class.specs.Answers.{BeginsNoEscape, GivesCharacter, some, none, too_many, invalid, span_to}
+
+-- units whose values are two lists, one after the other
+pub record Split (us : List CodePoint) (a b : List ℕ) : Type 0 where
+  pub front : List CodePoint
+  pub back : List CodePoint
+  pub whole : us ≡ front ++ back
+  pub front_is : values front ≡ a
+  pub back_is : values back ≡ b
+
+pub split_values : (us : List CodePoint) (a b : List ℕ) → values us ≡ a ++ b → Split us a b
+split_values us [] b h = record {
+  front = [];
+  back = us;
+  whole = refl;
+  front_is = refl;
+  back_is = h;
+}
+split_values [] (x ∷ a) b h = absurd (let no : ⊥ = cc h in no)
+split_values (u ∷ us) (x ∷ a) b h =
+    let s = split_values us a b (let k : values us ≡ a ++ b = cc h in k) in
+    record {
+      front = u ∷ s.front;
+      back = s.back;
+      whole = ap (λ us. u ∷ us) s.whole;
+      front_is = ap (λ xs. u.value ∷ xs) s.front_is ∙ ap (λ x. x ∷ a) (let k : u.value ≡ x = cc h in k);
+      back_is = s.back_is;
+    }
+
+-- some places on, where so many units are left
+moved_within : (n : ℕ) (r : Reading) → 1 ≤ n → n ≤ length (rest r) → min (r.place + n) (length r.units) ≡ r.place + n
+moved_within n r one within = let left = length-drop r.place r.units in grind arith
+
+module _ (e : Environment) (unicode : is_unicode e.mode ≡ true) (added start : ℕ) (old : Reading) where
+  pub character_gives : (it : Character) (n : ℕ) (new : Reading) → escape_at true (values (rest old)) ≡ escaped it.kind it.value n
+      → new ≡ moved n old → it.span ≡ span_to added start new → GivesCharacter e added start old new (Ok (Some it))
+  character_gives it n new read is span =
+      let here = ap (λ m. escape_at m (values (rest old))) unicode ∙ read in
+      let found = escape_spelled e it.kind it.value n (values (rest old)) here in
+      let split = split_values (rest old) found.spelled found.rest found.whole in
+      let count : n ≡ length split.front = omega (arith, found.count, ap length split.front_is, length-map split.front (λ (u : CodePoint). u.value)) in
+      let spells = subst (λ w. SpellsEscape e it.kind it.value w (values split.back)) (sym split.front_is)
+          (subst (λ w. SpellsEscape e it.kind it.value found.spelled w) (sym split.back_is) found.spells) in
+      some split.front split.back split.whole spells (escape_small e it.kind it.value n (values (rest old)) here) span (is ∙ ap (λ n. moved n old) count)
+
+  begins_no_escape : escape_at true (values (rest old)) ≡ nothing → BeginsNoEscape e (values (rest old))
+  begins_no_escape read kind v w more whole spells =
+      let f = spelled_escape e kind v w more spells in
+      let g = ap (λ m. escape_at m (w ++ more)) unicode in
+      let h = ap (escape_at true) whole in
+      let no : nothing ≡ escaped kind v (length w) = sym read ∙ h ∙ sym g ∙ f in
+      cc no
+
+  pub nothing_gives : escape_at true (values (rest old)) ≡ nothing → GivesCharacter e added start old old (Ok None)
+  nothing_gives read = none refl (begins_no_escape read) (escape_nothing (values (rest old)) read)
+
+  pub too_many_gives : (count : ℕ) (behind new : Reading) (span : Span) → escape_at true (values (rest old)) ≡ fronts.too_many count → count + 2 ≤ length (rest old)
+      → behind ≡ moved 2 old → span ≡ span_between behind.units behind.first added behind.place (behind.place + count)
+      → GivesCharacter e added start old new (Err (TooLargeNumberDigits span Hex))
+  too_many_gives count behind new span read within is covers =
+      let on = ap (λ (r : Reading). span_between r.units r.first added r.place (r.place + count)) is in
+      let place = ap (λ place. span_between old.units old.first added place (place + count)) (moved_within 2 old (omega arith) (omega arith)) in
+      too_many count (escape_too_many (values (rest old)) count read) (covers ∙ on ∙ place)
+
+  pub invalid_gives : (new : Reading) (span : Span) → escape_at true (values (rest old)) ≡ no_unicode
+      → span ≡ span_between old.units old.first added old.place (old.place + 1) → GivesCharacter e added start old new (Err (InvalidUnicodeEscapeSequence span))
+  invalid_gives new span read covers =
+      let no = escape_no_unicode (values (rest old)) read in
+      invalid (ap (front_is (λ c. c == 117)) no.whole) no.no_value no.no_limit covers
+
+-- flag `v` goes with unicode mode
+pub unicode_by : (u v : Bool) → u ≡ true → is_unicode (mode_by u v) ≡ true
+unicode_by true true h = refl
+unicode_by true false h = refl
+unicode_by false v h = absurd (let no : ⊥ = cc h in no)
+
+-- how it is read in unicode mode
+pub read_in_unicode_mode : (u : Bool) (us vs : List CodePoint) (read : EscapeRead) → u ≡ true → us ≡ vs → read ≡ escape_at u (values us) → escape_at true (values vs) ≡ read
+read_in_unicode_mode u us vs read is_unicode same here = sym (here ∙ ap (λ m. escape_at m (values us)) is_unicode ∙ ap (λ us. escape_at true (values us)) same)
+
+-- a span that ends at the reader's offset
+pub ends_there : (added start offset : ℕ) (r : Reading) (span : Span) → span ≡ record { start = start + added; end = offset + added } → offset ≡ offset_of r → span ≡ span_to added start r
+ends_there added start offset r span is there = rw (is, there) refl

@@ -1,0 +1,67 @@
+-- What the readers of escapes answer behind a backslash, and where they leave the reader. A span has an offset added to both its ends.
+use Rattle.std.specs.Prelude.{◌≡◌, ℕ, ◌+◌, ◌-◌, ◌≤◌, true, false, ◌==◌, Option, Some, None, Result, Ok, Err, List, ◌∷◌, ◌++◌, length, drop}
+use Rattle.rx_base.specs.declared.diagnostic.Diagnostic.{Diagnostic}
+use Rattle.rx_base.specs.declared.diagnostic.Diagnostic.TheVariants.{TooLargeNumberDigits, InvalidUnicodeEscapeSequence}
+use Rattle.rx_base.specs.declared.diagnostic.kinds.DigitsKind.TheVariants.{Hex}
+use Rattle.rx_base.specs.declared.span.Span.{Span}
+use Rattle.rx_units.specs.declared.code_point.CodePoint.{CodePoint}
+use Rattle.rx_units.specs.Reading.{Reading, front, moved, offset_of, rest}
+use Rattle.rx_units.specs.Units.{offset_at, values}
+use Rattle.rx_ast.specs.declared.leaf.Character.{Character}
+use Rattle.rx_ast.specs.declared.leaf.CharacterClassEscape.{CharacterClassEscape}
+use Rattle.rx_ast.specs.declared.leaf.CharacterClassEscapeKind.{CharacterClassEscapeKind}
+use Rattle.rx_ast.specs.declared.leaf.CharacterKind.{CharacterKind}
+use Rattle.rx_model.specs.ClassText.{class_escape_text}
+use Rattle.rx_model.specs.Environment.{Environment}
+use Rattle.rx_model.specs.Escapes.{SpellsEscape, front_is}
+use Rattle.rx_model.specs.Modes.{mode_by}
+use Rattle.rx_model.specs.Reached.{span_between}
+use Rattle.rx_model.specs.UnicodeEscapes.{Decodes, PassesHex}
+use Rattle.rx_scan.specs.declared.state.State.{State}
+
+-- What a state says of the environment. No group is read yet, so it has none.
+abbrev pub environment_of : State → Environment
+environment_of state = record {
+  mode = mode_by state.unicode_mode state.unicode_sets_mode;
+  groups = 0;
+  named = state.unicode_mode;
+  buffer_boundaries = true;
+}
+
+-- The reader stands behind a backslash, and the span begins before it.
+pub record IsBehindBackslash (r : Reading) (span_start : ℕ) : Type 0 where
+  pub behind : 1 ≤ r.place
+  pub backslash : front (drop (r.place - 1) r.units) ≡ Some 92
+  pub start : span_start ≡ offset_at r.first r.units (r.place - 1)
+
+-- no character escape stands at the front
+abbrev pub BeginsNoEscape : Environment → List ℕ → Type 0
+BeginsNoEscape e us = (kind : CharacterKind) (value : ℕ) (w more : List ℕ) → us ≡ w ++ more → SpellsEscape e kind value w more → ⊥
+
+-- the span from before the backslash to where the reader stands
+abbrev pub span_to : ℕ → ℕ → Reading → Span
+span_to added start r = record { start = start + added; end = offset_of r + added }
+
+-- What stands at the reader's place is answered as a character escape (CharacterEscape, 22.2.1).
+pub data GivesCharacter (e : Environment) (added start : ℕ) (old new : Reading) : Result (Option Character) Diagnostic → Type 0 where
+  -- one is spelled, and the reader moves over it
+  some : {it : Character} (w more : List CodePoint) → rest old ≡ w ++ more → SpellsEscape e it.kind it.value (values w) (values more) → it.value ≤ 0x10FFFF
+      → it.span ≡ span_to added start new → new ≡ moved (length w) old → GivesCharacter e added start old new (Ok (Some it))
+  -- none stands, nor the `u` of one, and the reader stays
+  none : new ≡ old → BeginsNoEscape e (values (rest old)) → front_is (λ c. c == 117) (values (rest old)) ≡ false → GivesCharacter e added start old new (Ok None)
+  -- digits in braces pass 32 bits: the span is that of those that do not
+  too_many : {span : Span} (count : ℕ) → PassesHex (values (rest old)) count → span ≡ span_between old.units old.first added (old.place + 2) (old.place + 2 + count)
+      → GivesCharacter e added start old new (Err (TooLargeNumberDigits span Hex))
+  -- `u` begins no unicode escape: the span is that of the `u`
+  invalid : {span : Span} → front_is (λ c. c == 117) (values (rest old)) ≡ true → ((value count : ℕ) → Decodes true (values (rest old)) value count → ⊥)
+      → ((count : ℕ) → PassesHex (values (rest old)) count → ⊥) → span ≡ span_between old.units old.first added old.place (old.place + 1)
+      → GivesCharacter e added start old new (Err (InvalidUnicodeEscapeSequence span))
+
+-- What stands at the reader's place is answered as a class escape (CharacterClassEscape, 22.2.1) that names no property.
+pub data GivesClassEscape (added start : ℕ) (old new : Reading) : Option CharacterClassEscape → Type 0 where
+  -- one is spelled, its backslash before it, and the reader moves over it
+  some : {it : CharacterClassEscape} (w more : List CodePoint) → 92 ∷ values w ≡ class_escape_text it.kind → rest old ≡ w ++ more
+      → it.span ≡ span_to added start new → new ≡ moved 1 old → GivesClassEscape added start old new (Some it)
+  -- none stands, and the reader stays
+  none : new ≡ old → ((kind : CharacterClassEscapeKind) (w more : List ℕ) → 92 ∷ w ≡ class_escape_text kind → values (rest old) ≡ w ++ more → ⊥)
+      → GivesClassEscape added start old new None

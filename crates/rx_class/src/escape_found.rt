@@ -1,0 +1,152 @@
+ghost use Rattle.std.specs.Prelude.{◌≡◌, length, if◌then◌else◌};
+ghost use Rattle.rx_units.specs.Units.{values};
+ghost use Rattle.rx_tables.specs.Characters.{is_decimal_digit};
+ghost use Rattle.rx_model.specs.Decoding.{decoded};
+ghost use Rattle.rx_model.specs.Escapes.{front_is, is_identity_escape};
+ghost use Rattle.rx_model.specs.Fronts.{escape_at, escaped, escaped_if, letter_at, nothing, two_at, unicode_read};
+ghost use Rattle.rx_class.specs.Found.{IsWithin, class_escape_front, seen_escape};
+
+use rx_ast::{CharacterClassEscapeKind, CharacterKind};
+use rx_scan::{UnicodeEscape, decode};
+use rx_tables::{
+    is_decimal_digit, is_syntax_character, map_c_ascii_letter, map_control_escape, map_hex_digit,
+};
+use rx_units::CodePoint;
+
+/// What stands behind a backslash, in units.
+#[derive(Clone, Copy, Debug)]
+pub enum EscapeFound {
+    /// A character of a kind, and how many units spell it behind the backslash.
+    Character {
+        kind: CharacterKind,
+        value: u32,
+        length: usize,
+    },
+    /// No character escape.
+    Nothing,
+    /// The digits behind `u{` pass 32 bits, after so many that do not.
+    TooMany { digits: usize },
+    /// `u` begins no unicode escape.
+    Invalid,
+}
+
+/// The character escape (CharacterEscape of ECMA-262, 22.2.1) that the units behind a backslash begin with. It never fails: what is
+/// no escape is an answer too.
+#[tactic(auto, using(crate::proofs::Bounds::read_within))]
+pub fn character_escape_at(units: &[CodePoint], unicode_mode: bool) -> EscapeFound
+    ensures read { seen_escape result ≡ escape_at unicode_mode (values units.now) }
+    ensures within { IsWithin (length units.now) result }
+{
+    first_escape(units, unicode_mode)
+}
+
+#[tactic(auto, unfolding(rx_model::specs::Fronts::escape_at))]
+fn first_escape(units: &[CodePoint], unicode_mode: bool) -> EscapeFound
+    ensures { seen_escape result ≡ escape_at unicode_mode (values units.now) }
+{
+    let [first, rest @ ..] = units else {
+        return EscapeFound::Nothing;
+    };
+    let cp = first.value;
+    if let Some(value) = map_control_escape(cp) {
+        return character(CharacterKind::SingleEscape, value, 1);
+    }
+    match char::from_u32(cp) {
+        Some('c') => control_letter(rest),
+        Some('0') => null(rest),
+        Some('x') => hexadecimal(rest),
+        Some('u') => unicode(units, unicode_mode),
+        _ if unicode_mode && is_identity_escape(cp) => character(CharacterKind::Identifier, cp, 1),
+        _ => EscapeFound::Nothing,
+    }
+}
+
+fn character(kind: CharacterKind, value: u32, length: usize) -> EscapeFound
+    ensures { result ≡ EscapeFound.Character kind value length }
+{
+    EscapeFound::Character {
+        kind,
+        value,
+        length,
+    }
+}
+
+/// `c`, by the units behind it.
+fn control_letter(units: &[CodePoint]) -> EscapeFound
+    ensures { seen_escape result ≡ escaped_if CharacterKind.ControlLetter 2 (letter_at (values units.now)) }
+{
+    match units {
+        [letter, ..] => match map_c_ascii_letter(letter.value) {
+            Some(value) => character(CharacterKind::ControlLetter, value, 2),
+            None => EscapeFound::Nothing,
+        },
+        [] => EscapeFound::Nothing,
+    }
+}
+
+/// `0`, by the units behind it: a digit there would be of the same number.
+fn null(units: &[CodePoint]) -> EscapeFound
+    ensures { seen_escape result ≡ (if front_is is_decimal_digit (values units.now) then nothing else escaped CharacterKind.Null 0 1) }
+{
+    match units {
+        [digit, ..] if is_decimal_digit(digit.value) => EscapeFound::Nothing,
+        _ => character(CharacterKind::Null, 0, 1),
+    }
+}
+
+/// `x`, by the units behind it.
+fn hexadecimal(units: &[CodePoint]) -> EscapeFound
+    ensures { seen_escape result ≡ escaped_if CharacterKind.HexadecimalEscape 3 (two_at (values units.now)) }
+{
+    match two_hex_digits(units) {
+        Some(value) => character(CharacterKind::HexadecimalEscape, value, 3),
+        None => EscapeFound::Nothing,
+    }
+}
+
+fn two_hex_digits(units: &[CodePoint]) -> Option<u32>
+    ensures { result ≡ two_at (values units.now) }
+{
+    match units {
+        [a, b, ..] => {
+            let a = map_hex_digit(a.value)?;
+            let b = map_hex_digit(b.value)?;
+            Some(16 * a + b)
+        }
+        _ => None,
+    }
+}
+
+/// `u`, which the units begin with.
+fn unicode(units: &[CodePoint], unicode_mode: bool) -> EscapeFound
+    ensures { seen_escape result ≡ unicode_read (decoded unicode_mode (values units.now)) }
+{
+    match decode(units, unicode_mode) {
+        UnicodeEscape::Value { code_point, length } => {
+            character(CharacterKind::UnicodeEscape, code_point, length)
+        }
+        UnicodeEscape::Overflow { digits } => EscapeFound::TooMany { digits },
+        UnicodeEscape::Invalid => EscapeFound::Invalid,
+    }
+}
+
+fn is_identity_escape(cp: u32) -> bool
+    ensures { result ≡ is_identity_escape cp }
+{
+    is_syntax_character(cp) || cp == '/' as u32
+}
+
+/// The class escape (CharacterClassEscape of ECMA-262, 22.2.1) that the unit behind a backslash is, if it names no property.
+pub fn class_escape_at(units: &[CodePoint]) -> Option<CharacterClassEscapeKind>
+    ensures { result ≡ class_escape_front (values units.now) }
+{
+    match char::from_u32(units.first()?.value) {
+        Some('d') => Some(CharacterClassEscapeKind::D),
+        Some('D') => Some(CharacterClassEscapeKind::NegativeD),
+        Some('s') => Some(CharacterClassEscapeKind::S),
+        Some('S') => Some(CharacterClassEscapeKind::NegativeS),
+        Some('w') => Some(CharacterClassEscapeKind::W),
+        Some('W') => Some(CharacterClassEscapeKind::NegativeW),
+        _ => None,
+    }
+}

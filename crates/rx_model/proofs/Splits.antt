@@ -1,0 +1,30 @@
+-- Units whose values are two lists, one after the other.
+use Rattle.std.proofs.Common.{◌≡◌, refl, ap, ◌∙◌, ℕ, List, [], ◌∷◌, ◌++◌}
+use Rattle.rx_units.specs.declared.code_point.CodePoint.{CodePoint}
+use Rattle.rx_units.specs.Units.{values}
+
+pub record Split (us : List CodePoint) (a b : List ℕ) : Type 0 where
+  pub front : List CodePoint
+  pub back : List CodePoint
+  pub whole : us ≡ front ++ back
+  pub front_is : values front ≡ a
+  pub back_is : values back ≡ b
+
+pub split_values : (us : List CodePoint) (a b : List ℕ) → values us ≡ a ++ b → Split us a b
+split_values us [] b h = record {
+  front = [];
+  back = us;
+  whole = refl;
+  front_is = refl;
+  back_is = h;
+}
+split_values [] (x ∷ a) b h = absurd (let k : ⊥ = cc h in k)
+split_values (u ∷ us) (x ∷ a) b h =
+    let s = split_values us a b (let k : values us ≡ a ++ b = cc h in k) in
+    record {
+      front = u ∷ s.front;
+      back = s.back;
+      whole = ap (λ us. u ∷ us) s.whole;
+      front_is = ap (λ xs. u.value ∷ xs) s.front_is ∙ ap (λ x. x ∷ a) (let k : u.value ≡ x = cc h in k);
+      back_is = s.back_is;
+    }
