@@ -1,0 +1,4 @@
+pub mod Frames
+pub mod Good
+pub mod Levels
+pub mod Progress
