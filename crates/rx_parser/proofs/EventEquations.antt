@@ -133,10 +133,10 @@ level_repeat l ts us t q min max greedy after e f g front =
     let head : Events = level_events (record l { terms = ts }) in
     let old : level_events l ≡ head ++ (enter start ∷ begun.0) = level_push (record l { terms = ts }) l.terms t e ∙ ap (λ z. head ++ z) begun.1 in
     let new : level_events (record l { terms = us }) ≡ head ++ (enter start ∷ enter start ∷ (begun.0 ++ (times ∷ leave after ∷ []))) =
-        level_push (record l { terms = ts }) us (variant.Quantifier q) f
-        ∙ ap (λ z. head ++ z) (quantifier_events q ∙ ap made g
-        ∙ ap (λ z. within (record { start = start; end = after }) (z ++ (times ∷ []))) begun.1
-        ∙ ap (λ z. enter start ∷ enter start ∷ z) (append_assoc begun.0 (times ∷ []) (leave after ∷ []))) in
+    level_push (record l { terms = ts }) us (variant.Quantifier q) f
+    ∙ ap (λ z. head ++ z) (quantifier_events q ∙ ap made g
+    ∙ ap (λ z. within (record { start = start; end = after }) (z ++ (times ∷ []))) begun.1
+    ∙ ap (λ z. enter start ∷ enter start ∷ z) (append_assoc begun.0 (times ∷ []) (leave after ∷ []))) in
     (front ++ head, start, begun.0, ap (λ z. front ++ z) old ∙ sym (append_assoc front head _), ap (λ z. front ++ z) new ∙ sym (append_assoc front head _))
 
 last_push : (mode : Mode) (ts : List Term) (t : Term) → last_takes mode (ts ++ (t ∷ [])) ≡ takes mode (mirror_term t)

@@ -83,7 +83,7 @@ builder_close b fs f d t l at after e h g k =
     let o : Event = opener_event (opener_tree f.opening) in
     let s : Span = record { start = f.start; end = after } in
     let made : level_events l ≡ level_events f.outer ++ (enter f.start ∷ o ∷ (((level_events b.level ++ (leave at ∷ leave at ∷ [])) ++ (token closer ∷ [])) ++ (leave after ∷ []))) =
-        k ∙ ap (λ w. level_events f.outer ++ w) (group_events t s (opener_tree f.opening) d g ∙ ap (λ w. within s (o ∷ (w ++ (token closer ∷ [])))) h) in
+    k ∙ ap (λ w. level_events f.outer ++ w) (group_events t s (opener_tree f.opening) d g ∙ ap (λ w. within s (o ∷ (w ++ (token closer ∷ [])))) h) in
     ap (λ w. enter b.start ∷ (frames_events fs ++ w)) made
     ∙ ap (λ w. enter b.start ∷ w) (close_shape (frames_events fs) (level_events f.outer) (level_events b.level) (enter f.start) o (leave at) (leave at) (token closer) (leave after))
     ∙ ap (λ w. enter b.start ∷ ((w ++ level_events b.level) ++ (leave at ∷ leave at ∷ token closer ∷ leave after ∷ []))) (sym (ap frames_events e ∙ frames_push fs f))

@@ -72,7 +72,7 @@ module _ (mode : Mode) where
   good_repeat l ts us t q e f b k h =
       let s = terms_split ts t (subst (AreGoodTerms mode) e h.1) in
       let body : IsGoodTerm mode (variant.Quantifier q) =
-          subst (IsNode mode) (sym (mirror.tree_of_quantifier q)) (ap (λ z. takes mode (mirror_term z)) b ∙ k, subst (IsGoodTerm mode) (sym b) s.1) in
+      subst (IsNode mode) (sym (mirror.tree_of_quantifier q)) (ap (λ z. takes mode (mirror_term z)) b ∙ k, subst (IsGoodTerm mode) (sym b) s.1) in
       (h.0, subst (AreGoodTerms mode) (sym f) (terms_push ts (variant.Quantifier q) s.0 body))
 
   pub good_group : (t : Term) (s : Span) (o : tree.Opener) (d : Disjunction) → mirror_term t ≡ tree.group s o (mirror_disjunction d).0 (mirror_disjunction d).1 → IsGoodDisjunction mode d → IsGoodTerm mode t

@@ -39,6 +39,16 @@ module _ (e : Environment) where
     mode = d ∙ h.mode;
   }
 
+  -- nothing has been read
+  pub begun : (o : ℕ → ℕ) (b : Builder) (us : List CodePoint) (start : ℕ) → start ≡ o 0 → builder_events b ≡ enter start ∷ enter start ∷ enter start ∷ [] → openers b ≡ [] → ready b ≡ false
+      → IsGood b → b.mode ≡ e.mode → IsAt e o b us 0 us
+  begun o b us start a m q r g d = record {
+    row = subst (λ z. Row e o z 0 us 0 us) (sym m) (a, (a, (a, (refl, refl))));
+    good = g;
+    state = ap (λ z. run e.mode (tokens_of z) [] false) m ∙ same_state [] (openers b) false (ready b) (sym q) (sym r);
+    mode = d;
+  }
+
   pub leaf_advances : (b c : Builder) (term : Term) (t : Token) (at after : ℕ) → IsLeafOf term t at after → builder_events c ≡ builder_events b ++ term_events term → openers c ≡ openers b
       → ready c ≡ takes b.mode (mirror_term term) → (IsGoodTerm b.mode term → IsGood b → IsGood c) → c.mode ≡ b.mode → Advances e b c t at after
   leaf_advances b c term t at after l m q r g d o i j us w more a z s k h =
@@ -87,9 +97,9 @@ module _ (e : Environment) where
       let tail : Row e o ending i (w ++ more) j more = (w, more, refl, s, (z ∙ ap o k, (sym k, refl))) in
       let grown : Row e o (back ++ ending) sp.0 sp.1 j more = row_append e o back ending sp.0 sp.1 i (w ++ more) j more sp.3.1 tail in
       let same : tokens_of (builder_events c) ≡ tokens_of (builder_events b) ++ (t ∷ []) =
-          ap tokens_of rep.4 ∙ tokens_of-append head (enter rep.1 ∷ enter rep.1 ∷ (back ++ ending))
-          ∙ ap (λ x. tokens_of head ++ x) (tokens_of-append back ending) ∙ sym (append_assoc (tokens_of head) (tokens_of back) (t ∷ []))
-          ∙ ap (λ x. x ++ (t ∷ [])) (sym (tokens_of-append head (enter rep.1 ∷ back)) ∙ ap tokens_of (sym rep.3)) in
+      ap tokens_of rep.4 ∙ tokens_of-append head (enter rep.1 ∷ enter rep.1 ∷ (back ++ ending))
+      ∙ ap (λ x. tokens_of head ++ x) (tokens_of-append back ending) ∙ sym (append_assoc (tokens_of head) (tokens_of back) (t ∷ []))
+      ∙ ap (λ x. x ++ (t ∷ [])) (sym (tokens_of-append head (enter rep.1 ∷ back)) ∙ ap tokens_of (sym rep.3)) in
       record {
         row = subst (λ x. Row e o x 0 us j more) (sym rep.4) (row_append e o head (enter rep.1 ∷ enter rep.1 ∷ (back ++ ending)) 0 us sp.0 sp.1 j more sp.2 (sp.3.0, (sp.3.0, grown)));
         good = g h.good;
@@ -101,9 +111,11 @@ module _ (e : Environment) where
   -- all has been read
   pub finished : (o : ℕ → ℕ) (b : Builder) (us : List CodePoint) (at : ℕ) (p : Pattern) → at ≡ o (length us) → IsAt e o b us (length us) []
       → events p ≡ builder_events b ++ (leave at ∷ leave at ∷ leave at ∷ []) → (IsGood b → IsWellMade b.mode p) → Row e o (events p) 0 us (length us) [] × IsWellMade e.mode p
-  finished o b us at p a h m g =
-      (subst (λ z. Row e o z 0 us (length us) []) (sym m)
-      (row_append e o (builder_events b) (leave at ∷ leave at ∷ leave at ∷ []) 0 us (length us) [] (length us) [] h.row (a, (a, (a, (refl, refl))))), subst (λ x. IsWellMade x p) h.mode (g h.good))
+  finished o b us at p a h m g = (
+    subst (λ z. Row e o z 0 us (length us) []) (sym m)
+        (row_append e o (builder_events b) (leave at ∷ leave at ∷ leave at ∷ []) 0 us (length us) [] (length us) [] h.row (a, (a, (a, (refl, refl))))),
+    subst (λ x. IsWellMade x p) h.mode (g h.good),
+  )
 
   -- What a whole row of tokens that is accepted says of what is left: its tokens are those that have been read, and others that are accepted behind them.
   abbrev pub IsAhead : Builder → List CodePoint → List Token → Bool → Type 0

@@ -4,6 +4,8 @@
 mod builder;
 mod frame;
 mod level;
+#[cfg(test)]
+mod tests;
 
 pub use builder::Builder;
 pub use frame::{Frame, Opening};

@@ -29,7 +29,7 @@ returns-clause-openers c =
       opener_of opener,
       opened_after c.pop.new.self c.args.self.now.frames c.in-Some.frame c.in-Some.ensures,
       last_after mode c.replace-inner.new.dest.terms c.push.new.self.terms c.in_ok-term.term _ c.in_ok-push.ensures.terms
-        (group_takes_is mode c.in_ok-term.term c.new.result opener c.in_ok-body.body c.in_ok-term.ensures),
+          (group_takes_is mode c.in_ok-term.term c.new.result opener c.in_ok-body.body c.in_ok-term.ensures),
     )
 
 pub returns-clause-good : goal.returns-clause-good
@@ -38,5 +38,5 @@ returns-clause-good c =
     let term = c.in_ok-term.term in
     λ _. good_close c.args.self.now c.pop.new.self c.in-Some.frame c.push.new.self c.in-Some.ensures
     (λ inner outer. c.in_ok-push.ensures.good mode (subst (IsGoodLevel mode) (sym c.replace-inner.ensures.after) outer)
-      (good_group mode term c.new.result (opener_tree c.in-Some.frame.opening) c.in_ok-body.body c.in_ok-term.ensures
-      (c.in_ok-body.ensures.good mode (subst (IsGoodLevel mode) (sym c.replace-inner.ensures.value) inner))))
+    (good_group mode term c.new.result (opener_tree c.in-Some.frame.opening) c.in_ok-body.body c.in_ok-term.ensures
+    (c.in_ok-body.ensures.good mode (subst (IsGoodLevel mode) (sym c.replace-inner.ensures.value) inner))))
