@@ -1,0 +1,5 @@
+pub mod EventEquations
+pub mod FrameEvents
+pub mod Goods
+pub mod Leaves
+pub mod Steps

@@ -1,6 +1,8 @@
 -- Which texts are not read yet: those with a piece of a construct that no reader takes.
-use Rattle.std.specs.Prelude.{ℕ, Bool, true, false, ◌==◌, ◌&&◌, ◌||◌, not, List, [], ◌∷◌, if◌then◌else◌}
+use Rattle.std.specs.Prelude.{ℕ, Bool, true, false, not, ◌==◌, ◌||◌, List, [], ◌∷◌, if◌then◌else◌}
 use Rattle.rx_tables.specs.Characters.{is_within}
+use Rattle.rx_model.specs.declared.mode.Mode.{Mode}
+use Rattle.rx_model.specs.declared.mode.Mode.TheVariants.{Legacy, Unicode, Sets}
 
 -- `(` and `[`
 abbrev pub is_unread : ℕ → Bool
@@ -20,3 +22,13 @@ abbrev mutual
   pub holds_unread_behind : List ℕ → Bool
   holds_unread_behind [] = false
   holds_unread_behind (c ∷ cs) = is_unread_escape c || holds_unread cs
+
+-- the modes that are read
+abbrev pub is_read : Mode → Bool
+is_read Legacy = false
+is_read Unicode = true
+is_read Sets = false
+
+-- whether a text is not read yet in this mode
+abbrev pub is_unread_text : Mode → List ℕ → Bool
+is_unread_text mode cs = not (is_read mode) || holds_unread cs

@@ -1,5 +1,20 @@
-//! Reads a pattern to its tree, without recursion.
+//! Reads a pattern to its tree. Open groups are kept on the heap, so nothing calls itself.
 #![tactic(auto)]
 
+mod builder;
 mod counts;
+mod frame;
+mod front;
+mod level;
+mod options;
+mod pattern_parser;
+#[cfg(test)]
+mod tests;
+mod turn;
 mod unread;
+
+pub use builder::Builder;
+pub use frame::{Frame, Opening};
+pub use level::Level;
+pub use options::Options;
+pub use pattern_parser::PatternParser;

@@ -1,0 +1,40 @@
+-- All that has been built is well made.
+use Rattle.std.specs.Prelude.{List, [], ◌∷◌}
+use Rattle.rx_ast.specs.declared.term.Alternative.{Alternative}
+use Rattle.rx_ast.specs.declared.term.Disjunction.{Disjunction}
+use Rattle.rx_ast.specs.declared.term.Term.{Term}
+use Rattle.rx_ast.specs.Tree.{mirror_term, mirror_alternative, mirror_disjunction}
+use Rattle.rx_model.specs.declared.mode.Mode.{Mode}
+use Rattle.rx_model.specs.Shapes.{IsNode, AreNodes, HasAlternatives}
+use Rattle.rx_parser.specs.declared.builder.Builder.{Builder}
+use Rattle.rx_parser.specs.declared.frame.Frame.{Frame}
+use Rattle.rx_parser.specs.declared.level.Level.{Level}
+
+-- The quantifiers of a term have bodies that they may have (Term, 22.2.1), and each disjunction in it has an alternative.
+abbrev pub IsGoodTerm : Mode → Term → Type 0
+IsGoodTerm mode t = IsNode mode (mirror_term t)
+
+-- It has an alternative, and the terms of each are well made.
+abbrev pub IsGoodDisjunction : Mode → Disjunction → Type 0
+IsGoodDisjunction mode d = HasAlternatives mode (mirror_disjunction d).1
+
+abbrev pub AreGoodTerms : Mode → List Term → Type 0
+AreGoodTerms mode [] = Unit {0}
+AreGoodTerms mode (t ∷ ts) = IsGoodTerm mode t × AreGoodTerms mode ts
+
+abbrev pub AreGoodAlternatives : Mode → List Alternative → Type 0
+AreGoodAlternatives mode [] = Unit {0}
+AreGoodAlternatives mode (a ∷ more) = AreNodes mode (mirror_alternative a).1 × AreGoodAlternatives mode more
+
+-- of a disjunction that is not yet at its end
+unfoldable pub IsGoodLevel : Mode → Level → Type 0
+IsGoodLevel mode l = AreGoodAlternatives mode l.alternatives × AreGoodTerms mode l.terms
+
+-- of what stands before each open group
+abbrev pub AreGoodFrames : Mode → List Frame → Type 0
+AreGoodFrames mode [] = Unit {0}
+AreGoodFrames mode (f ∷ fs) = IsGoodLevel mode f.outer × AreGoodFrames mode fs
+
+-- of all that has been read, in the builder's mode
+unfoldable pub IsGood : Builder → Type 0
+IsGood b = AreGoodFrames b.mode b.frames × IsGoodLevel b.mode b.level

@@ -1,0 +1,64 @@
+ghost use Rattle.std.specs.Prelude.{◌≡◌, IfOk};
+ghost use Rattle.rx_ast.specs.Tree.{group, mirror_disjunction, mirror_term};
+ghost use Rattle.rx_parser.specs.Frames.{opener_tree};
+
+use crate::Level;
+use rx_ast::{
+    CapturingGroup, Disjunction, IgnoreGroup, LookAroundAssertion, LookAroundAssertionKind,
+    Modifiers, Term,
+};
+use rx_base::{OutOfMemory, Span, Text};
+use std::alloc::Global;
+
+/// What an open group or look-around began with (Atom and Assertion of ECMA-262, 22.2.1).
+#[derive(Drop)]
+pub enum Opening {
+    /// `(`, or `(?<`, a name and `>`.
+    Capturing(Option<Text>),
+
+    /// `(?:`, or `(?`, modifiers and `:`.
+    Ignoring(Option<Modifiers>),
+
+    /// `(?=`, `(?!`, `(?<=` or `(?<!`.
+    LookAround(LookAroundAssertionKind),
+}
+
+impl Opening {
+    /// The term that began with this and has ended.
+    #[tactic(auto, using(rx_ast::proofs::Equations::mirrors))]
+    pub fn into_term(
+        self,
+        alloc: Global,
+        span: Span,
+        body: Disjunction,
+    ) -> Result<Term, OutOfMemory>
+        ensures { IfOk result (λ it. mirror_term it ≡ group span (opener_tree self) (mirror_disjunction body).0 (mirror_disjunction body).1) }
+    {
+        match self {
+            Opening::Capturing(name) => {
+                let it = CapturingGroup { span, name, body };
+                Ok(Term::CapturingGroup(Box::new(alloc, it)?))
+            }
+            Opening::Ignoring(modifiers) => {
+                let it = IgnoreGroup {
+                    span,
+                    modifiers,
+                    body,
+                };
+                Ok(Term::IgnoreGroup(Box::new(alloc, it)?))
+            }
+            Opening::LookAround(kind) => {
+                let it = LookAroundAssertion { span, kind, body };
+                Ok(Term::LookAroundAssertion(Box::new(alloc, it)?))
+            }
+        }
+    }
+}
+
+/// An open group or look-around: what it stands in, and where and how it opens. Offsets are in bytes.
+#[derive(Drop)]
+pub struct Frame {
+    pub outer: Level,
+    pub start: u32,
+    pub opening: Opening,
+}

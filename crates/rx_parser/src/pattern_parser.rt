@@ -1,0 +1,88 @@
+use crate::builder::Builder;
+use crate::turn::{here, turn};
+use crate::unread::holds_unread;
+use rx_ast::Pattern;
+use rx_base::Fault;
+use rx_model::Mode;
+use rx_scan::{SpanFactory, State};
+use rx_units::Reader;
+use std::alloc::Global;
+
+/// Reads a pattern from the units of a reader.
+#[derive(Drop)]
+pub struct PatternParser<'a> {
+    pub alloc: Global,
+    pub reader: Reader<'a>,
+    pub state: State,
+    pub spans: SpanFactory,
+}
+
+impl<'a> PatternParser<'a> {
+    /// A parser of what the reader holds. The modes are whether it is a unicode mode and whether it is sets mode; `span_offset` is added to each offset
+    /// of an answer, in bytes.
+    pub fn new(
+        alloc: Global,
+        reader: Reader<'a>,
+        modes: (bool, bool),
+        span_offset: u32,
+    ) -> PatternParser<'a>
+        ensures reader { result.reader ≡ reader.entry }
+        ensures modes { (result.state.unicode_mode, result.state.unicode_sets_mode) ≡ modes }
+        ensures offset { result.spans ≡ span_offset }
+    {
+        let (unicode_mode, unicode_sets_mode) = modes;
+        PatternParser {
+            alloc,
+            reader,
+            state: State::new(alloc, unicode_mode, unicode_sets_mode),
+            spans: SpanFactory::new(span_offset),
+        }
+    }
+
+    /// The tree of the pattern (Pattern, 22.2.1). Over no units it has one empty alternative.
+    pub fn parse(self) -> Result<Pattern, Fault>
+        requires start { self.reader.place ≡ 0 }
+        requires modes { self.state.unicode_sets_mode ≡ true → self.state.unicode_mode ≡ true }
+        requires first { self.reader.first + self.spans < 2 ^ 32 }
+        requires fits { All (λ unit. unit.span.end + self.spans < 2 ^ 32) self.reader.units }
+
+        // The tree is spelled by the units and the only one but for spans, and each of its nodes has the span of what it spells.
+        ensures reads { IfOk result (λ it. Reads (mode_of_state self.entry.state) it self.entry.reader.units) }
+        ensures only { IfOk result (λ it. IsOnly (mode_of_state self.entry.state) it self.entry.reader.units) }
+        ensures spanned { IfOk result (λ it. IsSpanned (mode_of_state self.entry.state) it self.entry.reader.units self.entry.reader.first self.entry.spans) }
+
+        // A refusal has its cause. On what some tree reads the answer is Ok, or memory is wanting, or it is not read yet.
+        ensures refused { (cause : Refusal) → result ≡ Err (Fault.Diagnostic cause)
+            → IsCause (mode_of_state self.entry.state) self.entry.reader.units self.entry.reader.first self.entry.spans cause }
+        ensures complete { (p : Pattern) → Reads (mode_of_state self.entry.state) p self.entry.reader.units
+            → IfErr result (λ fault. (fault ≡ Fault.OutOfMemory) ⊎ (fault ≡ Fault.NotYet)) }
+        ensures not_yet { result ≡ Err Fault.NotYet → IsTrue (is_unread_text (mode_of_state self.entry.state) (values self.entry.reader.units)) }
+        ensures later { IsTrue (is_unread_text (mode_of_state self.entry.state) (values self.entry.reader.units)) → result ≡ Err Fault.NotYet }
+    {
+        let PatternParser {
+            alloc,
+            mut reader,
+            state,
+            spans,
+        } = self;
+        let mode = Mode::of(state.unicode_mode, state.unicode_sets_mode);
+        if mode != Mode::Unicode || holds_unread(reader.remaining_code_points()) {
+            return Err(Fault::NotYet);
+        }
+        read_pattern(alloc, &mut reader, &spans, mode)
+    }
+}
+
+/// The tree of a text that is read already.
+fn read_pattern(
+    alloc: Global,
+    reader: &mut Reader<'_>,
+    spans: &SpanFactory,
+    mode: Mode,
+) -> Result<Pattern, Fault> {
+    let mut builder = Builder::new(alloc, mode, here(reader, spans));
+    while !reader.remaining_code_points().is_empty() {
+        turn(alloc, reader, spans, &mut builder)?;
+    }
+    Ok(builder.finish(here(reader, spans))?)
+}

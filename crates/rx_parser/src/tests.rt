@@ -1,0 +1,129 @@
+ghost use Rattle.std.specs.Prelude.{◌<◌, ◌^◌};
+
+use crate::{Builder, Opening};
+use rx_ast::{
+    BoundaryAssertion, BoundaryAssertionKind, Disjunction, Dot, LookAroundAssertionKind, Term,
+};
+use rx_base::{GetSpan, OutOfMemory, Span, Text};
+use rx_model::Mode;
+use std::alloc::Global;
+
+const DEEP: u32 = 100_000;
+
+/// `(?<n>.|.){2,3}?` at byte 10
+#[test]
+fn a_quantified_group_begins_where_it_opens(rt: HostRuntime) -> Result<(), OutOfMemory> {
+    let alloc = rt.alloc();
+    let mut builder = Builder::new(alloc, Mode::Unicode, 10);
+    let name = Text::from_str(alloc, "n")?;
+    builder.open(alloc, Opening::Capturing(Some(name)), 10, 15)?;
+    builder.leaf(dot(15))?;
+    builder.bar(alloc, 16, 17)?;
+    builder.leaf(dot(17))?;
+    assert!(rt; !builder.is_whole());
+    assert!(rt; builder.close(alloc, 18, 19)?);
+    assert!(rt; builder.is_ready());
+    assert!(rt; builder.quantify(alloc, 2, Some(3), false, 25)?);
+    assert!(rt; builder.is_whole());
+    let pattern = builder.finish(25)?;
+    assert_eq!(rt; pattern.span, Span::new(10, 25));
+    let Some(Term::Quantifier(quantifier)) = first_term(&pattern.body) else {
+        panic!(rt; "the quantifier is lost");
+    };
+    assert_eq!(rt; quantifier.span, Span::new(10, 25));
+    assert_eq!(rt;
+        (quantifier.min, quantifier.max, quantifier.greedy),
+        (2, Some(3), false)
+    );
+    let Term::CapturingGroup(group) = &quantifier.body else {
+        panic!(rt; "the group is lost");
+    };
+    assert_eq!(rt; group.span, Span::new(10, 19));
+    assert_eq!(rt; group.body.span, Span::new(15, 18));
+    assert_eq!(rt; group.body.body.len(), 2);
+    Ok(())
+}
+
+#[test]
+fn what_may_not_follow_is_refused(rt: HostRuntime) -> Result<(), OutOfMemory> {
+    let alloc = rt.alloc();
+    let mut builder = Builder::new(alloc, Mode::Legacy, 0);
+    assert!(rt; !builder.close(alloc, 0, 1)?);
+    assert!(rt; !builder.quantify(alloc, 0, None, true, 1)?);
+    let start = BoundaryAssertion {
+        span: Span::new(0, 1),
+        kind: BoundaryAssertionKind::Start,
+    };
+    builder.leaf(Term::BoundaryAssertion(Box::new(alloc, start)?))?;
+    assert!(rt; !builder.quantify(alloc, 0, None, true, 2)?);
+    builder.leaf(dot(1))?;
+    assert!(rt; builder.quantify(alloc, 0, None, true, 3)?);
+    assert!(rt; !builder.quantify(alloc, 0, None, true, 4)?);
+    Ok(())
+}
+
+/// `(?=)*` and the other three
+#[test]
+fn a_quantifier_follows_a_lookahead_in_legacy_mode_alone(
+    rt: HostRuntime,
+) -> Result<(), OutOfMemory> {
+    let rows = [
+        (Mode::Legacy, LookAroundAssertionKind::Lookahead, true),
+        (
+            Mode::Legacy,
+            LookAroundAssertionKind::NegativeLookahead,
+            true,
+        ),
+        (Mode::Legacy, LookAroundAssertionKind::Lookbehind, false),
+        (
+            Mode::Legacy,
+            LookAroundAssertionKind::NegativeLookbehind,
+            false,
+        ),
+        (Mode::Unicode, LookAroundAssertionKind::Lookahead, false),
+        (
+            Mode::Sets,
+            LookAroundAssertionKind::NegativeLookahead,
+            false,
+        ),
+    ];
+    let alloc = rt.alloc();
+    for (mode, kind, takes) in rows {
+        let mut builder = Builder::new(alloc, mode, 0);
+        builder.open(alloc, Opening::LookAround(kind), 0, 3)?;
+        assert!(rt; builder.close(alloc, 3, 4)?);
+        assert_eq!(rt; builder.quantify(alloc, 0, None, true, 5)?, takes);
+    }
+    Ok(())
+}
+
+#[test]
+fn deep_groups_need_no_deep_stack(rt: HostRuntime) -> Result<(), OutOfMemory> {
+    let alloc = rt.alloc();
+    let mut builder = Builder::new(alloc, Mode::Legacy, 0);
+    for at in 0..DEEP {
+        builder.open(alloc, Opening::Ignoring(None), at, at + 1)?;
+    }
+    for at in DEEP..2 * DEEP {
+        assert!(rt; builder.close(alloc, at, at + 1)?);
+    }
+    assert!(rt; builder.is_whole());
+    let pattern = builder.finish(2 * DEEP)?;
+    assert_eq!(rt;
+        first_term(&pattern.body).map(|term| term.span()),
+        Some(Span::new(0, 2 * DEEP))
+    );
+    Ok(())
+}
+
+fn dot(at: u32) -> Term
+    requires { at < 2 ^ 31 }
+{
+    Term::Dot(Dot {
+        span: Span::sized(at, 1),
+    })
+}
+
+fn first_term(disjunction: &Disjunction) -> Option<&Term> {
+    disjunction.body.get(0)?.body.get(0)
+}
