@@ -1,5 +1,5 @@
 -- What is found at the front of a text.
-use Rattle.std.specs.Prelude.{◌≡◌, ℕ, ◌≤◌, Option, Some, None, true, List, [], ◌∷◌, length}
+use Rattle.std.specs.Prelude.{◌≡◌, ℕ, ◌+◌, ◌≤◌, Option, Some, None, true, List, [], ◌∷◌, length}
 use Rattle.rx_units.specs.declared.code_point.CodePoint.{CodePoint}
 use Rattle.rx_units.specs.Units.{values}
 use Rattle.rx_model.specs.declared.mode.Mode.{Mode}
@@ -38,8 +38,8 @@ abbrev pub IsHalt : Mode → List CodePoint → Halt → Type 0
 IsHalt mode us (halt.Stop behind) = (front (text_environment mode) us ≡ None) × IsStop (text_environment mode) us behind
 IsHalt mode us (halt.OutOfOrder n) = StandBraces IsOutOfOrder n us
 IsHalt mode us (halt.TooLarge n) = StandBraces (λ min max. (IsOutOfOrder min max → ⊥) × IsTooLarge min max) n us
-IsHalt mode us (halt.TooManyDigits start count) = PassesLimit (values us) start count
-IsHalt mode us (halt.TooManyHexDigits count) = (behind : List ℕ) × (values us ≡ 92 ∷ behind) × PassesHex behind count
+IsHalt mode us (halt.TooManyDigits start count) = PassesLimit (values us) start count × (start + count ≤ length us)
+IsHalt mode us (halt.TooManyHexDigits count) = (behind : List ℕ) × (values us ≡ 92 ∷ behind) × PassesHex behind count × (count + 3 ≤ length us)
 IsHalt mode us halt.InvalidEscape =
     (behind : List ℕ) × (values us ≡ 92 ∷ 117 ∷ behind) × ((v n : ℕ) → Decodes true (117 ∷ behind) v n → ⊥) × ((count : ℕ) → PassesHex (117 ∷ behind) count → ⊥)
 IsHalt mode us halt.Unread = holds_unread (values us) ≡ true

@@ -53,3 +53,13 @@ halt_fault us first added place (halt.TooManyDigits start count) = Diagnostic (T
 halt_fault us first added place (halt.TooManyHexDigits count) = Diagnostic (TooLargeNumberDigits (span_between us first added (place + 3) (place + 3 + count)) Hex)
 halt_fault us first added place halt.InvalidEscape = Diagnostic (InvalidUnicodeEscapeSequence (span_between us first added (place + 1) (place + 2)))
 halt_fault us first added place halt.Unread = NotYet
+
+-- the places that a halt names are numbers of the machine
+abbrev pub IsSmall : Halt → Type 0
+IsSmall (halt.Stop behind) = Unit {0}
+IsSmall (halt.OutOfOrder n) = Unit {0}
+IsSmall (halt.TooLarge n) = Unit {0}
+IsSmall (halt.TooManyDigits start count) = start + count < 2 ^ 64
+IsSmall (halt.TooManyHexDigits count) = count + 3 < 2 ^ 64
+IsSmall halt.InvalidEscape = Unit {0}
+IsSmall halt.Unread = Unit {0}

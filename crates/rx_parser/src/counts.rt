@@ -1,4 +1,4 @@
-ghost use Rattle.std.specs.Prelude.{◌≡◌, ◌≤◌, ◌∷◌, length, drop};
+ghost use Rattle.std.specs.Prelude.{◌≡◌, ◌+◌, ◌^◌, ◌<◌, ◌≤◌, length, drop};
 ghost use Rattle.rx_units.specs.Units.{values};
 ghost use Rattle.rx_parser.specs.CountsFound.{IsDigitsFound, IsCountsFound, IsInBraces, IsBehindLeast, IsBehindComma};
 
@@ -56,6 +56,7 @@ fn tail(units: &[CodePoint], count: usize) -> &[CodePoint]
 
 /// The counts behind `{`, a number of so many digits and `,`.
 fn behind_comma(min: u64, count: usize, units: &[CodePoint]) -> CountsFound
+    requires { count + 2 + length units.now < 2 ^ 64 }
     ensures { IsBehindComma min count units.now result }
 {
     let (value, more) = match digits_at(units) {
@@ -79,6 +80,7 @@ fn behind_comma(min: u64, count: usize, units: &[CodePoint]) -> CountsFound
 
 /// The counts behind `{` and a number of so many digits.
 fn behind_least(min: u64, count: usize, units: &[CodePoint]) -> CountsFound
+    requires { count + 1 + length units.now < 2 ^ 64 }
     ensures { IsBehindLeast min count units.now result }
 {
     if count == 0 {
@@ -97,6 +99,7 @@ fn behind_least(min: u64, count: usize, units: &[CodePoint]) -> CountsFound
 
 /// The counts behind `{`.
 fn in_braces(units: &[CodePoint]) -> CountsFound
+    requires { 1 + length units.now < 2 ^ 64 }
     ensures { IsInBraces units.now result }
 {
     match digits_at(units) {

@@ -3,7 +3,7 @@ ghost use Rattle.rx_units.specs.Reading.{offset_of, moved};
 ghost use Rattle.rx_model.specs.declared.mode.Mode.TheVariants.{Unicode};
 ghost use Rattle.rx_model.specs.Reached.{span_between};
 ghost use Rattle.rx_parser.specs.Found.{leaf_token};
-ghost use Rattle.rx_parser.specs.Parsing.{AreFitting, IsParsing, IsRefused, halt_fault};
+ghost use Rattle.rx_parser.specs.Parsing.{AreFitting, IsParsing, IsRefused, IsSmall, halt_fault};
 ghost use Rattle.rx_parser.specs.Progress.{IsLeafOf};
 
 use crate::builder::Builder;
