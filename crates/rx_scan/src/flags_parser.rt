@@ -15,6 +15,7 @@ pub struct FlagsParser<'a> {
 }
 
 impl<'a> FlagsParser<'a> {
+    /// Reads the flags from the reader's place on. The offset, in bytes, is added to both ends of the span in a refusal.
     pub fn new(reader: Reader<'a>, span_offset: u32) -> FlagsParser<'a>
         ensures reader { result.reader ≡ reader.entry }
         ensures offset { result.spans ≡ span_offset }

@@ -20,6 +20,7 @@ impl Model for SpanFactory {
 }
 
 impl SpanFactory {
+    /// Makes spans with this offset, in bytes.
     pub fn new(span_offset: u32) -> SpanFactory
         ensures { result ≡ span_offset }
     {
