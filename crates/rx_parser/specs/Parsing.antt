@@ -13,7 +13,9 @@ use Rattle.rx_model.specs.Causes.{IsCause}
 use Rattle.rx_model.specs.Early.{Obeys}
 use Rattle.rx_model.specs.Events.{tokens_of}
 use Rattle.rx_model.specs.Reached.{text_environment, span_between}
+use Rattle.rx_model.specs.Modes.{mode_by}
 use Rattle.rx_model.specs.Reading.{Reads}
+use Rattle.rx_scan.specs.declared.state.State.{State}
 use Rattle.rx_parser.specs.Frames.{builder_events, openers}
 use Rattle.rx_parser.specs.NotYet.{holds_unread}
 use Rattle.rx_parser.specs.Progress.{IsAt}
@@ -63,3 +65,7 @@ IsSmall (halt.TooManyDigits start count) = start + count < 2 ^ 64
 IsSmall (halt.TooManyHexDigits count) = count + 3 < 2 ^ 64
 IsSmall halt.InvalidEscape = Unit {0}
 IsSmall halt.Unread = Unit {0}
+
+-- the mode that a state stands for
+abbrev pub mode_of_state : State → Mode
+mode_of_state state = mode_by state.unicode_mode state.unicode_sets_mode

@@ -1,4 +1,4 @@
-ghost use Rattle.std.specs.Prelude.{◌≡◌, ◌≤◌, ◌∷◌, true, false, Some, All, drop, length};
+ghost use Rattle.std.specs.Prelude.{◌≡◌, ◌==◌, ◌≤◌, ◌∷◌, true, false, Some, All, drop, length};
 ghost use Rattle.rx_units.specs.declared.code_point.CodePoint.{CodePoint};
 ghost use Rattle.rx_units.specs.Reading.{front};
 ghost use Rattle.rx_units.specs.Units.{values};
@@ -136,8 +136,6 @@ fn backslash_at(behind: &[CodePoint], mode: Mode) -> Found
 /// What a backslash and the units behind it, which are neither a boundary nor a class escape, begin with.
 fn character_at(behind: &[CodePoint], mode: Mode) -> Found
     requires unicode { is_unicode mode ≡ true }
-    requires boundary { backslash_front (text_environment mode) (values behind.now) ≡ escaped_token (escape_at true (values behind.now)) }
-    requires read { holds_unread_behind_front (values behind.now) ≡ false }
     ensures { (backslash : CodePoint) → backslash.value ≡ 92 → IsFound mode (backslash ∷ behind.now) result }
 {
     match character_escape_at(behind, true) {
@@ -157,7 +155,7 @@ fn character_at(behind: &[CodePoint], mode: Mode) -> Found
 
 /// What the units begin with, whose first is a SyntaxCharacter other than a backslash.
 fn syntax_at(first: u32, units: &[CodePoint]) -> Found
-    requires front { front (values units.now) ≡ Some first }
+    requires front { front units.now ≡ Some first }
     requires syntax { is_syntax_character first ≡ true }
     requires other { (first == 92) ≡ false }
     ensures { (mode : Mode) → is_unicode mode ≡ true → IsFound mode units.now result }

@@ -1,3 +1,14 @@
+ghost use Rattle.std.specs.Prelude.{◌≡◌, ℕ, ◌+◌, ◌<◌, ◌^◌, ◌⊎◌, ◌≢◌, true, false, All, IfErr, IfOk, IsTrue, length};
+ghost use Rattle.rx_base.specs.declared.diagnostic.Diagnostic.{Diagnostic as Refusal};
+ghost use Rattle.rx_ast.specs.declared.term.Pattern.{Pattern};
+ghost use Rattle.rx_units.specs.Units.{values};
+ghost use Rattle.rx_model.specs.Causes.{IsCause};
+ghost use Rattle.rx_model.specs.Modes.{mode_by};
+ghost use Rattle.rx_model.specs.Reading.{IsOnly, IsSpanned, Reads};
+ghost use Rattle.rx_model.specs.declared.mode.Mode.TheVariants.{Unicode};
+ghost use Rattle.rx_parser.specs.NotYet.{holds_unread, is_unread_text};
+ghost use Rattle.rx_parser.specs.Parsing.{AreFitting, IsRefused, mode_of_state};
+
 use crate::builder::Builder;
 use crate::turn::{here, turn};
 use crate::unread::holds_unread;
@@ -79,7 +90,15 @@ fn read_pattern(
     reader: &mut Reader<'_>,
     spans: &SpanFactory,
     mode: Mode,
-) -> Result<Pattern, Fault> {
+) -> Result<Pattern, Fault>
+    requires mode { mode ≡ Unicode }
+    requires start { reader.old.place ≡ 0 }
+    requires fits { AreFitting spans.now reader.old }
+    requires read { holds_unread (values reader.old.units) ≡ false }
+    ensures reads { IfOk result (λ it. Reads Unicode it reader.old.units) }
+    ensures spanned { IfOk result (λ it. IsSpanned Unicode it reader.old.units reader.old.first spans.now) }
+    ensures refused { IfErr result (λ fault. IsRefused Unicode reader.old.units reader.old.first spans.now fault) }
+{
     let mut builder = Builder::new(alloc, mode, here(reader, spans));
     while !reader.remaining_code_points().is_empty() {
         turn(alloc, reader, spans, &mut builder)?;
