@@ -1,5 +1,5 @@
 -- Where terms end no token is spelled.
-use Rattle.std.proofs.Common.{◌≡◌, ℕ, ◌+◌, ◌*◌, ◌==◌, Bool, true, false, cond, not, is_some, ◌||◌, ◌&&◌, Option, Some, None, List, [], ◌∷◌, ◌++◌, length, refl, sym, ap, ◌∙◌, subst, codes, arith, inl, inr}
+use Rattle.std.proofs.Common.{◌≡◌, ℕ, ◌+◌, ◌*◌, ◌==◌, true, false, not, is_some, ◌||◌, ◌&&◌, Option, Some, None, List, [], ◌∷◌, ◌++◌, length, refl, sym, ap, ◌∙◌, subst, codes, arith, inl, inr}
 use Rattle.std.proofs.lemmas.Bool.{eqb-true, or_cases, or_parts, or_from, not-true, true≢false, false_from_ne_true, both_ways}
 use Rattle.std.proofs.lemmas.Bool.Decides.{nat_tests}
 use Rattle.std.proofs.lemmas.Option.{option_and_then_some}
@@ -113,13 +113,13 @@ module _ (e : Environment) where
       let none = parts_none (boundary_at e c) (class_escape_at c) (escape_at (is_unicode e.mode) (c ∷ w)) h in
       let no_control_letter = no_control c w h in
       or_from _ _ (or_from _ _ (or_from _ _ (or_from _ _ (or_from _ _ (or_from _ _
-        (no_letter_begins e c free.0 none.0 none.1 no_control_letter)
-        (false_from_ne_true _ (λ t. no_escape kinds.Identifier c (c ∷ []) w h (identity u t))))
-        free.1)
-        (no_buffer e c none.0))
-        (false_from_ne_true _ (λ t. let p = both (c == 99) (front_is is_letter w) t in no_letter w (at_character c 99 w p.0 h) p.1)))
-        (false_from_ne_true _ (λ t. let p = both (c == 48) (not (front_is is_decimal_digit w)) t in no_escape kinds.Null 0 (48 ∷ []) w (at_character c 48 w p.0 h) (null (not-true _ p.1)))))
-        (false_from_ne_true _ (λ t. let p = both (c == 120) (two_hex_digits w) t in no_digits w (at_character c 120 w p.0 h) p.1))
+      (no_letter_begins e c free.0 none.0 none.1 no_control_letter)
+      (false_from_ne_true _ (λ t. no_escape kinds.Identifier c (c ∷ []) w h (identity u t))))
+      free.1)
+      (no_buffer e c none.0))
+      (false_from_ne_true _ (λ t. let p = both (c == 99) (front_is is_letter w) t in no_letter w (at_character c 99 w p.0 h) p.1)))
+      (false_from_ne_true _ (λ t. let p = both (c == 48) (not (front_is is_decimal_digit w)) t in no_escape kinds.Null 0 (48 ∷ []) w (at_character c 48 w p.0 h) (null (not-true _ p.1)))))
+      (false_from_ne_true _ (λ t. let p = both (c == 120) (two_hex_digits w) t in no_digits w (at_character c 120 w p.0 h) p.1))
 
   -- what does not stand behind a backslash that begins no escape
   record NoBeginning (c : ℕ) (w : List ℕ) : Type 0 where
