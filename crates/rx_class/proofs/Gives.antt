@@ -58,7 +58,7 @@ module _ (e : Environment) (unicode : is_unicode e.mode ≡ true) (added start :
       let split = split_values (rest old) found.spelled found.rest found.whole in
       let count : n ≡ length split.front = omega (arith, found.count, ap length split.front_is, length-map split.front (λ (u : CodePoint). u.value)) in
       let spells = subst (λ w. SpellsEscape e it.kind it.value w (values split.back)) (sym split.front_is)
-          (subst (λ w. SpellsEscape e it.kind it.value found.spelled w) (sym split.back_is) found.spells) in
+      (subst (λ w. SpellsEscape e it.kind it.value found.spelled w) (sym split.back_is) found.spells) in
       some split.front split.back split.whole spells (escape_small e it.kind it.value n (values (rest old)) here) span (is ∙ ap (λ n. moved n old) count)
 
   begins_no_escape : escape_at true (values (rest old)) ≡ nothing → BeginsNoEscape e (values (rest old))

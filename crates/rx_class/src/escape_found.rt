@@ -25,7 +25,9 @@ pub enum EscapeFound {
     /// No character escape.
     Nothing,
     /// The digits behind `u{` pass 32 bits, after so many that do not.
-    TooMany { digits: usize },
+    TooMany {
+        digits: usize,
+    },
     /// `u` begins no unicode escape.
     Invalid,
 }

@@ -12,7 +12,8 @@ use Rattle.rx_model.specs.declared.mode.Mode.TheVariants.{Unicode}
 use Rattle.rx_model.specs.Environment.{Environment, environment}
 use Rattle.rx_model.specs.Events.{Events, enter, tokens_of, within, alternatives_events, disjunction_events, events, tokens}
 use Rattle.rx_model.specs.Reading.{Reads, IsSpanned, IsOnly}
-use Rattle.rx_model.specs.Rows.{Row, Spells, is_syntax_character}
+use Rattle.rx_tables.specs.Characters.{is_syntax_character}
+use Rattle.rx_model.specs.Rows.{Row, Spells}
 use Rattle.rx_model.proofs.Builds.{one_tree}
 use Rattle.rx_model.proofs.Joins.{row_tokens}
 use Rattle.rx_model.proofs.OneRow.{one_row_by_mode}
@@ -41,13 +42,13 @@ leaf_spelled : (e : Environment) (u : CodePoint) (rest : List CodePoint) → e.m
 leaf_spelled e u rest m h not_bar =
     elim (eqb_tells u.value 46) [
       | inl p ↦ subst (λ t. Spells e t (u ∷ []) rest) (sym (leaf_dot u p.1)) (ap (λ v. v ∷ []) p.1)
-      | inr p ↦ subst (λ t. Spells e t (u ∷ []) rest) (sym (leaf_character u p.1)) record {
+      | inr p ↦ subst (λ t. Spells e t (u ∷ []) rest) (sym (leaf_character u p.1)) (inl (record {
         unit = u;
         alone = refl;
         kind_is = refl;
         value_is = refl;
         allowed = rw m (ap not (stands u.value h p.1 not_bar));
-      }
+      }))
     ]
 
 module _ (e : Environment) (o : ℕ → ℕ) (added : ℕ) (m : e.mode ≡ Unicode) where
@@ -134,4 +135,4 @@ flat_reads p added us flat small h =
 pub reads_only : (mode : Mode) (p : Pattern) (us : List CodePoint) → Reads mode p us → IsOnly mode p us
 reads_only mode p us r q s =
     one_tree mode mode q p s.spelled.shape r.spelled.shape
-    (one_row_by_mode (environment mode q) (environment mode p) (tokens q) (tokens p) us refl s.spelled.row r.spelled.row)
+    (one_row_by_mode (environment mode q) (environment mode p) (tokens q) (tokens p) us refl refl s.spelled.row r.spelled.row)

@@ -7,7 +7,7 @@ use Rattle.rx_model.specs.declared.mode.Mode.{Mode}
 use Rattle.rx_model.specs.declared.mode.Mode.TheVariants.{Legacy, Unicode, Sets}
 use Rattle.rx_model.specs.Flags.{flags_ok, flags_of, mode_of}
 use Rattle.rx_model.specs.Reading.{literal_text}
-use Rattle.rx_model.specs.Rows.{is_syntax_character}
+use Rattle.rx_tables.specs.Characters.{is_syntax_character}
 
 -- a SyntaxCharacter other than `.` and `|`
 abbrev pub is_unread : ℕ → Bool

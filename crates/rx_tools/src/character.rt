@@ -2,14 +2,15 @@ ghost use Rattle.std.specs.Prelude.{◌≡◌, ◌++◌, ◌<◌, ℕ};
 ghost use Rattle.std.specs.Char.{IsScalar};
 ghost use Rattle.std.specs.Str.{chars};
 ghost use Rattle.rx_base.specs.Writing.{Written};
-ghost use Rattle.rx_model.specs.Rows.{is_syntax_character as syntax};
-ghost use Rattle.rx_model.specs.CharacterText.{is_reserved_punctuator as reserved_punctuator, is_reserved_in_class as reserved_in_class, is_escaped as escaped, goes_on as going, greatest_raw as greatest, control_letter as letter, hex_digit as hex, hex as hexadecimal, braced, surrogate_text, character_text};
+ghost use Rattle.rx_tables.specs.Characters.{hex_digit as hex};
+ghost use Rattle.rx_model.specs.CharacterText.{is_reserved_in_class as reserved_in_class, is_escaped as escaped, goes_on as going, greatest_raw as greatest, control_letter as letter, hex as hexadecimal, braced, surrogate_text, character_text};
 ghost use Rattle.rx_tools.specs.Characters.{place_of, form_text, IsWritable};
 ghost use Rattle.rx_tools.specs.Utf8.{utf8};
 
 use crate::write::{write_chars, write_str};
 use rx_base::{Failed, Sink};
 use rx_model::Mode;
+use rx_tables::{is_class_set_reserved_punctuator, is_syntax_character};
 
 /// Where a character stands.
 #[derive(Clone, Copy)]
@@ -44,53 +45,13 @@ enum CharacterForm {
     Raw,
 }
 
-/// SyntaxCharacter of ECMA-262, 22.2.1.
-fn is_syntax_character(c: u32) -> bool
-    ensures { result ≡ syntax c }
-{
-    c == '^' as u32
-        || c == '$' as u32
-        || c == '\\' as u32
-        || c == '.' as u32
-        || c == '*' as u32
-        || c == '+' as u32
-        || c == '?' as u32
-        || c == '(' as u32
-        || c == ')' as u32
-        || c == '[' as u32
-        || c == ']' as u32
-        || c == '{' as u32
-        || c == '}' as u32
-        || c == '|' as u32
-}
-
-/// ClassSetReservedPunctuator of ECMA-262, 22.2.1.
-fn is_reserved_punctuator(c: u32) -> bool
-    ensures { result ≡ reserved_punctuator c }
-{
-    c == '&' as u32
-        || c == '-' as u32
-        || c == '!' as u32
-        || c == '#' as u32
-        || c == '%' as u32
-        || c == ',' as u32
-        || c == ':' as u32
-        || c == ';' as u32
-        || c == '<' as u32
-        || c == '=' as u32
-        || c == '>' as u32
-        || c == '@' as u32
-        || c == '`' as u32
-        || c == '~' as u32
-}
-
 fn is_reserved_in_class(mode: Mode, c: u32) -> bool
     ensures { result ≡ reserved_in_class mode c }
 {
     match mode {
         Mode::Legacy => c == '-' as u32,
         Mode::Unicode => c == '-' as u32,
-        Mode::Sets => is_reserved_punctuator(c),
+        Mode::Sets => is_class_set_reserved_punctuator(c),
     }
 }
 

@@ -11,7 +11,6 @@ ghost use Rattle.rx_units.specs.Units.{literal_units};
 ghost use Rattle.rx_model.specs.FlagCauses.{IsFlagCause};
 ghost use Rattle.rx_tools.specs.Faults.{IsFlagFault, IsLiteralFault};
 ghost use Rattle.rx_tools.specs.NotYet.{is_not_yet, is_unread, holds_unread};
-ghost use Rattle.rx_model.specs.Rows.{is_syntax_character};
 
 use crate::flat::read_flat;
 use crate::printing::canonical_text;
@@ -20,22 +19,14 @@ use rx_ast::Pattern;
 use rx_base::{Fault, OutOfMemory};
 use rx_model::{Form, Mode};
 use rx_scan::FlagsParser;
+use rx_tables::is_syntax_character;
 use rx_units::{Reader, ReaderFault};
 use std::alloc::Global;
 
 fn is_unread(c: char) -> bool
     ensures { result ≡ is_unread c }
 {
-    is_syntax_character(c) && !(c == '.' || c == '|')
-}
-
-fn is_syntax_character(c: char) -> bool
-    ensures { result ≡ is_syntax_character c }
-{
-    match c {
-        '^' | '$' | '\\' | '.' | '*' | '+' | '?' | '(' | ')' | '[' | ']' | '{' | '}' | '|' => true,
-        _ => false,
-    }
+    is_syntax_character(c as u32) && !(c == '.' || c == '|')
 }
 
 fn any_unread(text: &str) -> bool

@@ -2,7 +2,8 @@ ghost use Rattle.std.specs.Prelude.{◌≡◌};
 ghost use Rattle.std.specs.Str.{chars};
 ghost use Rattle.rx_ast.specs.Tree.{mirror_term, capturing, ignoring};
 ghost use Rattle.rx_base.specs.Writing.{Written};
-ghost use Rattle.rx_model.specs.Spelling.{boundary_text as boundary, look_text as look, letters as letters_of, dash as dash_of, opener_text, indexed_text, named_text, refers as reference};
+ghost use Rattle.rx_model.specs.Boundaries.{boundary_text as boundary};
+ghost use Rattle.rx_model.specs.Spelling.{look_text as look, letters as letters_of, dash as dash_of, opener_text, indexed_text, named_text, refers as reference};
 ghost use Rattle.rx_tools.specs.Steps.{node_front};
 ghost use Rattle.rx_tools.specs.Utf8.{utf8};
 
