@@ -1,5 +1,5 @@
 -- Which texts are not read yet: those with a piece of a construct that no reader takes.
-use Rattle.std.specs.Prelude.{ℕ, Bool, true, false, ◌==◌, ◌&&◌, ◌||◌, not, List, [], ◌∷◌, if◌then◌else◌}
+use Rattle.std.specs.Prelude.{ℕ, Bool, false, ◌==◌, ◌||◌, List, [], ◌∷◌, if◌then◌else◌}
 use Rattle.rx_tables.specs.Characters.{is_within}
 
 -- `(` and `[`

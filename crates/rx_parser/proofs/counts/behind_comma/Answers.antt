@@ -1,4 +1,4 @@
-use Rattle.std.proofs.Common.{◌≡◌, ◌+◌, length, ◌∙◌, ap, sym, arith, rules}
+use Rattle.std.proofs.Common.{◌+◌, length, ◌∙◌, ap, sym, arith, rules}
 use Rattle.std.proofs.lemmas.List.{length-drop}
 use Rattle.rx_units.specs.Units.{values}
 use Rattle.rx_model.specs.Fronts.{digits, digits_behind, counts}
