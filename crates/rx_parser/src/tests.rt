@@ -91,9 +91,7 @@ fn a_quantifier_follows_a_lookahead_in_legacy_mode_alone(
 fn deep_groups_need_no_deep_stack(rt: HostRuntime) -> Result<(), OutOfMemory> {
     let alloc = rt.alloc();
     let mut builder = Builder::new(alloc, Mode::Legacy, 0);
-    for at in 0..DEEP {
-        builder.open(alloc, Opening::Ignoring(None), at, at + 1)?;
-    }
+    open_groups(&mut builder, alloc, DEEP)?;
     for at in DEEP..2 * DEEP {
         assert!(rt; builder.close(alloc, at, at + 1)?);
     }
@@ -123,6 +121,13 @@ fn add_quantified_group(builder: &mut Builder, alloc: Global) -> Result<bool, Ou
     builder.bar(alloc, 16, 17)?;
     builder.leaf(dot(17))?;
     Ok(builder.close(alloc, 18, 19)? && builder.quantify(alloc, 2, Some(3), false, 25)?)
+}
+
+fn open_groups(builder: &mut Builder, alloc: Global, count: u32) -> Result<(), OutOfMemory> {
+    for at in 0..count {
+        builder.open(alloc, Opening::Ignoring(None), at, at + 1)?;
+    }
+    Ok(())
 }
 
 fn dot(at: u32) -> Term
