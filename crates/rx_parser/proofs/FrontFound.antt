@@ -1,5 +1,5 @@
 -- What stands at the front of a text, by what its readers find.
-use Rattle.std.proofs.Common.{◌≡◌, refl, sym, ap, ◌∙◌, subst, ℕ, zero, suc, ◌+◌, ◌-◌, ◌<◌, ◌≤◌, Bool, true, false, not, ◌==◌, ◌||◌, ◌⊎◌, Option, Some, None, List, [], ◌∷◌, ◌++◌, length, take, drop, get_or, codes, arith, inl, inr}
+use Rattle.std.proofs.Common.{◌≡◌, refl, sym, ap, ◌∙◌, subst, ℕ, zero, suc, ◌+◌, ◌-◌, ◌<◌, ◌≤◌, Bool, true, false, not, ◌==◌, ◌&&◌, ◌||◌, ◌⊎◌, Option, Some, None, List, [], ◌∷◌, ◌++◌, length, take, drop, get_or, codes, arith, inl, inr}
 use Rattle.std.proofs.lemmas.Bool.{eqb-true, cond-true, cond-false, cases_Bool, true≢false, false_from_ne_true}
 use Rattle.std.proofs.lemmas.Bool.Decides.{nat_tests}
 use Rattle.std.proofs.lemmas.List.{drop-map, take_all}
@@ -14,6 +14,7 @@ use Rattle.rx_units.specs.Units.{values}
 use Rattle.rx_class.specs.Found.{class_escape_front}
 use Rattle.rx_model.specs.declared.mode.Mode.{Mode}
 use Rattle.rx_model.specs.declared.mode.Mode.TheVariants.{Legacy, Unicode, Sets}
+use Rattle.rx_model.specs.Boundaries.{has_buffers}
 use Rattle.rx_model.specs.Causes.{HasBraces, IsOutOfOrder, IsTooLarge}
 use Rattle.rx_model.specs.Early.{Obeys, greatest_count}
 use Rattle.rx_model.specs.Environment.{Environment, is_unicode}
@@ -34,6 +35,9 @@ use Rattle.rx_parser.specs.Found.{Stands, StandBraces, IsHalt, boundary_front, c
 use Rattle.rx_parser.specs.NotYet.{holds_unread, is_unread, is_unread_escape}
 use Rattle.rx_parser.specs.declared.front.Halt.TheVariants as halt
 use Rattle.rx_parser.proofs.Digits.{chosen}
+
+pub buffers_there : (mode : Mode) → is_unicode mode ≡ true → has_buffers (text_environment mode) ≡ true
+buffers_there mode h = ap (λ b. b && true) h
 
 -- What is in a set that another is not in is another.
 differs : (P : ℕ → Bool) (c d : ℕ) → P d ≡ false → P c ≡ true → (c == d) ≡ false
