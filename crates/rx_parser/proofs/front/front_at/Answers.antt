@@ -1,30 +1,24 @@
-use Rattle.std.proofs.Common.{rules, ◌≡◌, ◌==◌, ◌≤◌, ◌<◌, ◌^◌, ◌+◌, ◌↔◌, ◌∷◌, true, false, Some, None, All, IsTrue, drop, length, ℕ, ◌-◌, ◌*◌, ◌/◌, ◌%◌, Bool, nat_eq, nat_lt, List, [], ◌++◌, slice_index_or, slice_set, bit_and, bit_or, Fits, w8, w32, w64, Bor, MutBor}
-use Rattle.rx_units.specs.declared.code_point.CodePoint.{CodePoint}
-use Rattle.rx_units.specs.Reading.{front}
-use Rattle.rx_units.specs.Units.{values}
-use Rattle.rx_tables.specs.Characters.{is_syntax_character}
-use Rattle.rx_class.specs.Found.{class_escape_front}
-use Rattle.rx_model.specs.declared.mode.Mode.{Mode}
-use Rattle.rx_model.specs.Boundaries.{has_buffers}
-use Rattle.rx_model.specs.Causes.{IsOutOfOrder, IsTooLarge}
-use Rattle.rx_model.specs.Environment.{Environment, is_unicode}
-use Rattle.rx_model.specs.Escapes.{front_is}
-use Rattle.rx_model.specs.Quantifiers.{is_question}
+use Rattle.std.proofs.Common.{◌≡◌, ◌∙◌, sym, ap, subst, get_or, arith}
+use Rattle.rx_units.specs.Units.{unit}
+use Rattle.rx_units.specs.declared.code_point.EscapeKind.TheVariants as kind
 use Rattle.rx_model.specs.Reached.{text_environment}
-use Rattle.rx_model.specs.Rows.{unit_kind}
-use Rattle.rx_parser.specs.CountsFound.{IsCountsFound}
-use Rattle.rx_parser.specs.Found.{IsFound, boundary_front, closes_or_repeats}
-use Rattle.rx_parser.specs.NotYet.{is_unread_escape}
+use Rattle.rx_model.specs.Token.{character}
+use Rattle.rx_parser.specs.Found.{IsFound, Stands}
+use Rattle.rx_parser.proofs.FrontFound.{behind_first, ended, raw_there}
 use Rattle.rx_parser.proofs.front.front_at.Goals as goal
 
--- src/front.rt:76:9
 pub returns-in_default : goal.returns-in_default
-returns-in_default c = ?
+returns-in_default c = ended (text_environment c.args.mode) c.args.units.now c.in_default.len_below
 
--- src/front.rt:79:9
 pub returns-then-not-is_syntax_character : goal.returns-then-not-is_syntax_character
-returns-then-not-is_syntax_character c = ?
+returns-then-not-is_syntax_character c =
+    let first = get_or c.args.units.now 0 (unit 0 0 0 kind.None) in
+    let raw = sym c.is_syntax_character.ensures ∙ c.if-not-is_syntax_character.true in
+    let small = c.requires.code_points 0 (unit 0 0 0 kind.None) (omega (arith, c.in-len1-up.len_at_least)) in
+    subst (λ k. Stands c.args.mode c.args.units.now (character k first.value) 1) (sym c.unit_kind.ensures)
+    (raw_there c.args.mode c.args.units.now (unit 0 0 0 kind.None) c.in-len1-up.len_at_least c.requires.unicode raw small)
 
--- src/front.rt:88:9
 pub returns-then-first : goal.returns-then-first
-returns-then-first c = ?
+returns-then-first c =
+    behind_first (λ us. IsFound c.args.mode us c.backslash_at.result) c.args.units.now (unit 0 0 0 kind.None) c.in-len1-up.len_at_least
+    (c.backslash_at.ensures (get_or c.args.units.now 0 (unit 0 0 0 kind.None)) c.if-first.true)
