@@ -1,5 +1,5 @@
 -- Decimal digits as they are read, and the limit of 64 bits on their number.
-use Rattle.std.proofs.Common.{◌≡◌, ℕ, suc, ◌+◌, ◌-◌, ◌*◌, ◌^◌, ◌<◌, ◌≤◌, ◌⊎◌, inl, inr, Bool, true, false, cond, List, [], ◌∷◌, ◌++◌, length, take, drop, get_or, Option, Some, None, option_and_then, refl, sym, ap, ◌∙◌, subst, add-one, arith}
+use Rattle.std.proofs.Common.{◌≡◌, ℕ, ◌+◌, ◌-◌, ◌*◌, ◌^◌, ◌<◌, ◌≤◌, ◌⊎◌, inl, inr, Bool, true, false, cond, List, [], ◌∷◌, ◌++◌, length, take, drop, get_or, Some, option_and_then, refl, sym, ap, ◌∙◌, subst, add-one, arith}
 use Rattle.std.proofs.Math.Seq.{drop-cons}
 use Rattle.std.proofs.lemmas.Bool.{cond-true, cond-false}
 use Rattle.std.proofs.lemmas.List.{map_more, map-append, length-map, length-take, take-append-drop}
@@ -8,7 +8,7 @@ use Rattle.rx_tables.specs.Characters.{is_decimal_digit}
 use Rattle.rx_units.specs.declared.code_point.CodePoint.{CodePoint}
 use Rattle.rx_units.specs.Units.{values}
 use Rattle.rx_model.specs.Fronts.{Digits, digits, digits_behind}
-use Rattle.rx_model.specs.Quantifiers.{decimal_digit_value, decimal_behind, AreDigits, PassesDecimal, PassesLimit, first, second}
+use Rattle.rx_model.specs.Quantifiers.{decimal_digit_value, decimal_behind, AreDigits, PassesLimit, first, second}
 use Rattle.rx_parser.specs.CountsFound.{PassesAt, NonePass, NoSecond, SecondPasses, IsInLimit}
 
 -- which way a choice went
