@@ -1,11 +1,13 @@
 -- What is found at the front of a text.
-use Rattle.std.specs.Prelude.{◌≡◌, ℕ, ◌+◌, ◌≤◌, Option, Some, None, true, List, [], ◌∷◌, length}
+use Rattle.std.specs.Prelude.{◌≡◌, ℕ, ◌+◌, ◌≤◌, Bool, ◌==◌, ◌||◌, Option, Some, None, true, List, [], ◌∷◌, length}
+use Rattle.rx_ast.specs.declared.leaf.BoundaryAssertionKind.{BoundaryAssertionKind}
 use Rattle.rx_units.specs.declared.code_point.CodePoint.{CodePoint}
 use Rattle.rx_units.specs.Units.{values}
 use Rattle.rx_model.specs.declared.mode.Mode.{Mode}
 use Rattle.rx_model.specs.Causes.{HasBraces, IsOutOfOrder, IsTooLarge}
 use Rattle.rx_model.specs.Early.{Obeys}
-use Rattle.rx_model.specs.Fronts.{front}
+use Rattle.rx_model.specs.Environment.{Environment}
+use Rattle.rx_model.specs.Fronts.{boundary_at, front}
 use Rattle.rx_model.specs.Quantifiers.{PassesLimit}
 use Rattle.rx_model.specs.Reached.{text_environment}
 use Rattle.rx_model.specs.Stops.{IsStop}
@@ -19,11 +21,21 @@ use Rattle.rx_parser.specs.declared.front.Halt.TheVariants as halt
 use Rattle.rx_parser.specs.declared.front.Found.{Found}
 use Rattle.rx_parser.specs.declared.front.Found.TheVariants as found
 
+-- the token that a leaf is
 abbrev pub leaf_token : Leaf → Token
 leaf_token (leaf.Boundary kind) = boundary kind
 leaf_token (leaf.Character kind value) = character kind value
 leaf_token leaf.Dot = dot
 leaf_token (leaf.ClassEscape kind) = class_escape kind
+
+-- a closer, or what a quantifier begins with (Quantifier, 22.2.1): one of ) ] } * + ? {
+abbrev pub closes_or_repeats : ℕ → Bool
+closes_or_repeats c = c == 41 || c == 93 || c == 125 || c == 42 || c == 43 || c == 63 || c == 123
+
+-- the boundary that the first of these characters is behind a backslash (Assertion, 22.2.1)
+abbrev pub boundary_front : Environment → List ℕ → Option BoundaryAssertionKind
+boundary_front e [] = None
+boundary_front e (c ∷ cs) = boundary_at e c
 
 -- a token of so many units stands next
 abbrev pub Stands : Mode → List CodePoint → Token → ℕ → Type 0

@@ -1,14 +1,20 @@
-ghost use Rattle.std.specs.Prelude.{◌≡◌, ◌==◌, ◌≤◌, ◌∷◌, true, false, Some, All, drop, length};
+ghost use Rattle.std.specs.Prelude.{◌≡◌, ◌==◌, ◌≤◌, ◌<◌, ◌↔◌, ◌∷◌, true, false, Some, None, All, IsTrue, drop, length};
 ghost use Rattle.rx_units.specs.declared.code_point.CodePoint.{CodePoint};
 ghost use Rattle.rx_units.specs.Reading.{front};
 ghost use Rattle.rx_units.specs.Units.{values};
 ghost use Rattle.rx_tables.specs.Characters.{is_syntax_character};
+ghost use Rattle.rx_class.specs.Found.{class_escape_front};
 ghost use Rattle.rx_model.specs.declared.mode.Mode.{Mode};
 ghost use Rattle.rx_model.specs.Boundaries.{has_buffers};
+ghost use Rattle.rx_model.specs.Causes.{IsOutOfOrder, IsTooLarge};
 ghost use Rattle.rx_model.specs.Environment.{Environment, is_unicode};
-ghost use Rattle.rx_model.specs.Fronts.{boundary_at};
+ghost use Rattle.rx_model.specs.Escapes.{front_is};
+ghost use Rattle.rx_model.specs.Quantifiers.{is_question};
+ghost use Rattle.rx_model.specs.Reached.{text_environment};
 ghost use Rattle.rx_model.specs.Rows.{unit_kind};
-ghost use Rattle.rx_parser.specs.Found.{IsFound};
+ghost use Rattle.rx_parser.specs.CountsFound.{IsCountsFound};
+ghost use Rattle.rx_parser.specs.Found.{IsFound, boundary_front, closes_or_repeats};
+ghost use Rattle.rx_parser.specs.NotYet.{is_unread_escape};
 
 use crate::counts::{CountsFound, counts_at};
 use crate::unread::is_unread_escape;
@@ -49,7 +55,10 @@ pub enum Halt {
 /// What the units begin with.
 #[derive(Clone, Copy, Debug)]
 pub enum Found {
-    Leaf { leaf: Leaf, length: usize },
+    Leaf {
+        leaf: Leaf,
+        length: usize,
+    },
     Bar,
     Quantifier {
         min: u64,
@@ -94,16 +103,26 @@ fn unit_kind(escape_kind: EscapeKind) -> CharacterKind
     }
 }
 
-fn boundary_at(value: u32) -> Option<BoundaryAssertionKind>
-    ensures { (e : Environment) → has_buffers e ≡ true → result ≡ boundary_at e value }
+/// The boundary that the unit behind a backslash is.
+fn boundary_at(behind: &[CodePoint]) -> Option<BoundaryAssertionKind>
+    ensures { (e : Environment) → has_buffers e ≡ true → result ≡ boundary_front e (values behind.now) }
 {
-    match char::from_u32(value) {
+    match char::from_u32(behind.first()?.value) {
         Some('b') => Some(BoundaryAssertionKind::Boundary),
         Some('B') => Some(BoundaryAssertionKind::NegativeBoundary),
         Some('A') => Some(BoundaryAssertionKind::StartBuffer),
         Some('z') => Some(BoundaryAssertionKind::EndBuffer),
         Some('Z') => Some(BoundaryAssertionKind::EndBufferOptionalNewline),
         _ => None,
+    }
+}
+
+fn is_unicode(mode: Mode) -> bool
+    ensures { result ≡ is_unicode mode }
+{
+    match mode {
+        Mode::Legacy => false,
+        Mode::Unicode | Mode::Sets => true,
     }
 }
 
@@ -118,7 +137,7 @@ fn backslash_at(behind: &[CodePoint], mode: Mode) -> Found
     if is_unread_escape(first.value) {
         return Found::Halt(Halt::Unread);
     }
-    if let Some(kind) = boundary_at(first.value) {
+    if let Some(kind) = boundary_at(behind) {
         return Found::Leaf {
             leaf: Leaf::Boundary(kind),
             length: 2,
@@ -136,9 +155,12 @@ fn backslash_at(behind: &[CodePoint], mode: Mode) -> Found
 /// What a backslash and the units behind it, which are neither a boundary nor a class escape, begin with.
 fn character_at(behind: &[CodePoint], mode: Mode) -> Found
     requires unicode { is_unicode mode ≡ true }
+    requires no_boundary { boundary_front (text_environment mode) (values behind.now) ≡ None }
+    requires no_class { class_escape_front (values behind.now) ≡ None }
+    requires read { front_is is_unread_escape (values behind.now) ≡ false }
     ensures { (backslash : CodePoint) → backslash.value ≡ 92 → IsFound mode (backslash ∷ behind.now) result }
 {
-    match character_escape_at(behind, true) {
+    match character_escape_at(behind, is_unicode(mode)) {
         EscapeFound::Character {
             kind,
             value,
@@ -180,11 +202,12 @@ fn syntax_at(first: u32, units: &[CodePoint]) -> Found
 }
 
 /// The quantifier that the units begin with, whose first is a closer or begins one.
-fn quantifier_at(units: &[CodePoint]) -> Found {
+fn quantifier_at(units: &[CodePoint]) -> Found
+    requires front { front_is closes_or_repeats (values units.now) ≡ true }
+    ensures { (mode : Mode) → is_unicode mode ≡ true → IsFound mode units.now result }
+{
     match counts_at(units) {
-        CountsFound::Counts { min, max, length } => {
-            quantifier(min, max, length, &units[length..])
-        }
+        CountsFound::Counts { min, max, length } => quantifier(units, min, max, length),
         CountsFound::Nothing => Found::Halt(Halt::Stop { behind: 0 }),
         CountsFound::TooMany { start, digits } => {
             Found::Halt(Halt::TooManyDigits { start, digits })
@@ -192,29 +215,55 @@ fn quantifier_at(units: &[CodePoint]) -> Found {
     }
 }
 
-/// The quantifier with these counts, before these units; or why they may not stand in braces.
-fn quantifier(min: u64, max: Option<u64>, length: usize, behind: &[CodePoint]) -> Found {
-    if max.is_some_and(|max| max < min) {
+/// The quantifier of these counts, in so many units; or why they may not stand in braces.
+fn quantifier(units: &[CodePoint], min: u64, max: Option<u64>, length: usize) -> Found
+    requires front { front_is closes_or_repeats (values units.now) ≡ true }
+    requires counts { IsCountsFound units.now (CountsFound.Counts min max length) }
+    ensures { (mode : Mode) → IsFound mode units.now result }
+{
+    if is_out_of_order(min, max) {
         return Found::Halt(Halt::OutOfOrder { length });
     }
-    if min > GREATEST_COUNT || max.is_some_and(|max| max > GREATEST_COUNT) {
+    if is_too_large(min, max) {
         return Found::Halt(Halt::TooLarge { length });
     }
-    match behind {
-        [mark, ..] if mark.value == '?' as u32 => Found::Quantifier {
+    if is_question_at(units, length) {
+        return Found::Quantifier {
             min,
             max,
             greedy: false,
             length: length + 1,
-        },
-        _ => Found::Quantifier {
-            min,
-            max,
-            greedy: true,
-            length,
-        },
+        };
     }
+    Found::Quantifier {
+        min,
+        max,
+        greedy: true,
+        length,
+    }
+}
+
+fn is_out_of_order(min: u64, max: Option<u64>) -> bool
+    ensures { IsTrue result ↔ IsOutOfOrder min max }
+{
+    max.is_some_and(|max| max < min)
 }
 
 /// The greatest number of a quantifier in braces.
 const GREATEST_COUNT: u64 = (1 << 53) - 1;
+
+fn is_too_large(min: u64, max: Option<u64>) -> bool
+    ensures { IsTrue result ↔ IsTooLarge min max }
+{
+    min > GREATEST_COUNT || max.is_some_and(|max| max > GREATEST_COUNT)
+}
+
+/// Whether a `?` stands at this place.
+fn is_question_at(units: &[CodePoint], place: usize) -> bool
+    ensures question { result ≡ front_is is_question (values (drop place units.now)) }
+    ensures within { IsTrue result → place < length units.now }
+{
+    units
+        .get(place)
+        .is_some_and(|unit| unit.value == '?' as u32)
+}

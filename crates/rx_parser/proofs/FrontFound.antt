@@ -1,0 +1,259 @@
+-- What stands at the front of a text, by what its readers find.
+use Rattle.std.proofs.Common.{◌≡◌, refl, sym, ap, ◌∙◌, subst, ℕ, ◌+◌, ◌-◌, ◌<◌, ◌≤◌, Bool, true, false, not, ◌==◌, ◌&&◌, ◌||◌, ◌⊎◌, Option, Some, None, List, [], ◌∷◌, length, take, drop, get_or, codes, arith, inl, inr}
+use Rattle.std.proofs.lemmas.Bool.{eqb-true, cond-true, cond-false, cases_Bool, true≢false, false_from_ne_true}
+use Rattle.std.proofs.lemmas.Bool.Decides.{nat_tests}
+use Rattle.std.proofs.lemmas.List.{drop-map, take_all}
+use Rattle.rx_tables.specs.Characters.{is_within, is_syntax_character}
+use Rattle.rx_ast.specs.declared.leaf.BoundaryAssertionKind.{BoundaryAssertionKind}
+use Rattle.rx_ast.specs.declared.leaf.CharacterClassEscapeKind.{CharacterClassEscapeKind}
+use Rattle.rx_units.specs.declared.code_point.CodePoint.{CodePoint}
+use Rattle.rx_units.specs.Reading as reading
+use Rattle.rx_units.specs.Units.{values}
+use Rattle.rx_class.specs.Found.{class_escape_front}
+use Rattle.rx_model.specs.declared.mode.Mode.{Mode}
+use Rattle.rx_model.specs.declared.mode.Mode.TheVariants.{Legacy, Unicode, Sets}
+use Rattle.rx_model.specs.Boundaries.{has_buffers}
+use Rattle.rx_model.specs.Causes.{HasBraces, IsOutOfOrder, IsTooLarge}
+use Rattle.rx_model.specs.Early.{Obeys, greatest_count}
+use Rattle.rx_model.specs.Environment.{Environment, is_unicode}
+use Rattle.rx_model.specs.Escapes.{front_is}
+use Rattle.rx_model.specs.Fronts.{front, escape_at, nothing, too_many, no_unicode, escaped_token, backslash_token, backslash_front, class_escape_at, counts, no_counts, counts_at, quantifier_token, syntax_front}
+use Rattle.rx_model.specs.Quantifiers.{SpellsCounts, SpellsBraces, star, plus, optional, braces, is_question}
+use Rattle.rx_model.specs.Reached.{text_environment}
+use Rattle.rx_model.specs.Rows.{stands_raw, unit_kind}
+use Rattle.rx_model.specs.Stops.{IsStop, at_end, at_closer, at_bracket, at_brace, behind_backslash, is_one_of}
+use Rattle.rx_model.specs.Token.{Token, boundary, character, class_escape, quantifier}
+use Rattle.rx_model.specs.UnicodeEscapes.{Decodes, PassesHex}
+use Rattle.rx_model.proofs.Escapes.{escape_nothing, escape_too_many, escape_no_unicode}
+use Rattle.rx_model.proofs.Fronts.{front_by_values}
+use Rattle.rx_model.proofs.Quantifiers.{counts_spelled, no_braces}
+use Rattle.rx_model.proofs.Stops.{stop_backslash}
+use Rattle.rx_parser.specs.CountsFound.{IsInLimit}
+use Rattle.rx_parser.specs.Found.{Stands, IsHalt, boundary_front, closes_or_repeats}
+use Rattle.rx_parser.specs.NotYet.{holds_unread, is_unread, is_unread_escape}
+use Rattle.rx_parser.specs.declared.front.Halt.TheVariants as halt
+use Rattle.rx_parser.proofs.Digits.{chosen}
+
+pub buffers_there : (mode : Mode) → is_unicode mode ≡ true → has_buffers (text_environment mode) ≡ true
+buffers_there mode h = ap (λ b. b && true) h
+
+-- What is in a set that another is not in is another.
+differs : (P : ℕ → Bool) (c d : ℕ) → P d ≡ false → P c ≡ true → (c == d) ≡ false
+differs P c d out in_set = false_from_ne_true (c == d) (λ same. true≢false (sym in_set ∙ ap P (eqb-true c d same) ∙ out))
+
+not_above : (n m : ℕ) → (m < n → ⊥) → n ≤ m
+not_above n m h = grind arith
+
+-- What a test does not find is not so.
+pub unless : {P : Type 0} (b : Bool) → (P → b ≡ true) → b ≡ false → P → ⊥
+unless b finds h p = true≢false (sym (finds p) ∙ h)
+
+-- a property of the first value
+pub first_has : (P : ℕ → Bool) (us : List CodePoint) (d : CodePoint) (b : Bool) → 1 ≤ length us → P (get_or us 0 d).value ≡ b → front_is P (values us) ≡ b
+first_has P [] d b l h = absurd (omega arith)
+first_has P (u ∷ us) d b l h = h
+
+syntax_of : (c : ℕ) → closes_or_repeats c ≡ true → is_syntax_character c ≡ true
+syntax_of c h = grind (arith, nat_tests)
+
+by_counts : (c : ℕ) (w : List ℕ) → closes_or_repeats c ≡ true → syntax_front c w ≡ quantifier_token (counts_at (c ∷ w)) (c ∷ w)
+by_counts c w h =
+    cond-false (c == 46) _ _ (differs closes_or_repeats c 46 refl h)
+    ∙ cond-false (c == 124) _ _ (differs closes_or_repeats c 124 refl h)
+    ∙ cond-false (c == 94) _ _ (differs closes_or_repeats c 94 refl h)
+    ∙ cond-false (c == 36) _ _ (differs closes_or_repeats c 36 refl h)
+
+-- counts that are out of order or too large stand in braces
+spelled_in_braces : (min : ℕ) (max : Option ℕ) (prefix : List ℕ) → SpellsCounts min max prefix → IsOutOfOrder min max ⊎ IsTooLarge min max → SpellsBraces min max prefix
+spelled_in_braces _ _ _ star bad = absurd (elim bad [ inl k ↦ k | inr k ↦ omega (arith, k) ])
+spelled_in_braces _ _ _ plus bad = absurd (elim bad [ inl k ↦ k | inr k ↦ omega (arith, k) ])
+spelled_in_braces _ _ _ optional bad = absurd (elim bad [
+  | inl k ↦ omega (arith, k)
+  | inr k ↦ elim k [ inl l ↦ omega (arith, l) | inr l ↦ omega (arith, l) ]
+])
+spelled_in_braces min max prefix (braces s) bad = s
+
+pub braces_there : (us : List CodePoint) (min : ℕ) (max : Option ℕ) (n : ℕ) → counts_at (values us) ≡ counts min max n → IsInLimit (values us) → IsOutOfOrder min max ⊎ IsTooLarge min max → HasBraces min max n us
+braces_there us min max n h limit bad =
+    let f = counts_spelled min max n (values us) h in record {
+      prefix = f.prefix;
+      behind = f.rest;
+      spelled = spelled_in_braces min max f.prefix f.spelled bad;
+      whole = f.whole;
+      count_is = sym f.count;
+      in_limit = limit;
+    }
+
+pub counts_obey : (min : ℕ) (max : Option ℕ) (greedy : Bool) → (IsOutOfOrder min max → ⊥) → (IsTooLarge min max → ⊥) → Obeys 0 [] (quantifier min max greedy)
+counts_obey min None greedy order large = (not_above min greatest_count large, tt)
+counts_obey min (Some max) greedy order large = (
+  not_above min greatest_count (λ k. large (inl k)),
+  (not_above min max order, not_above max greatest_count (λ k. large (inr k))),
+)
+
+-- No closer begins a quantifier, nor do braces that hold no counts.
+no_repeat : (c : ℕ) (w : List ℕ) → closes_or_repeats c ≡ true → counts_at (c ∷ w) ≡ no_counts → (c == 41) ≡ false → (c == 93 || c == 125) ≡ false → (c == 123) ≡ false → ⊥
+unfolding counts_at
+no_repeat c w h k closer bracket brace = elim (chosen (c == 42) k) [
+  | inl p ↦ (let no : ⊥ = cc p.1 in no)
+  | inr p ↦ elim (chosen (c == 43) p.1) [
+    | inl q ↦ (let no : ⊥ = cc q.1 in no)
+    | inr q ↦ elim (chosen (c == 63) q.1) [
+      | inl r ↦ (let no : ⊥ = cc r.1 in no)
+      | inr r ↦ let none : closes_or_repeats c ≡ false = rest c closer bracket brace p.0 q.0 r.0 in true≢false (sym h ∙ none)
+    ]
+  ]
+]
+  where
+    rest : (c : ℕ) → (c == 41) ≡ false → (c == 93 || c == 125) ≡ false → (c == 123) ≡ false → (c == 42) ≡ false → (c == 43) ≡ false → (c == 63) ≡ false → closes_or_repeats c ≡ false
+    rest c closer bracket brace no_star no_plus no_question = grind (arith, nat_tests)
+
+module _ (e : Environment) where
+  counts_front : (us : List CodePoint) → front_is closes_or_repeats (values us) ≡ true → front e us ≡ quantifier_token (counts_at (values us)) (values us)
+  counts_front [] h = absurd (let no : ⊥ = cc h in no)
+  counts_front (u ∷ us) h =
+      front_by_values e (u ∷ us) u.value (values us) (syntax_of u.value h) refl
+      ∙ cond-false (u.value == 92) _ _ (differs closes_or_repeats u.value 92 refl h)
+      ∙ by_counts u.value (values us) h
+
+  pub greedy_front : (us : List CodePoint) (min : ℕ) (max : Option ℕ) (n : ℕ) → front_is closes_or_repeats (values us) ≡ true → counts_at (values us) ≡ counts min max n
+      → front_is is_question (values (drop n us)) ≡ false → front e us ≡ Some (quantifier min max true, n)
+  greedy_front us min max n h k q =
+      counts_front us h ∙ ap (λ c. quantifier_token c (values us)) k ∙ cond-false (front_is is_question (drop n (values us))) _ _ (ap (front_is is_question) (drop-map (λ u. u.value) n us) ∙ q)
+
+  pub lazy_front : (us : List CodePoint) (min : ℕ) (max : Option ℕ) (n : ℕ) → front_is closes_or_repeats (values us) ≡ true → counts_at (values us) ≡ counts min max n
+      → front_is is_question (values (drop n us)) ≡ true → front e us ≡ Some (quantifier min max false, n + 1)
+  lazy_front us min max n h k q =
+      counts_front us h ∙ ap (λ c. quantifier_token c (values us)) k ∙ cond-true (front_is is_question (drop n (values us))) _ _ (ap (front_is is_question) (drop-map (λ u. u.value) n us) ∙ q)
+
+  ends_at : (u : CodePoint) (us : List CodePoint) → is_unicode e.mode ≡ true → closes_or_repeats u.value ≡ true → counts_at (values (u ∷ us)) ≡ no_counts → IsInLimit (values (u ∷ us)) → IsStop e (u ∷ us) 0
+  ends_at u us m h k limit = elim (cases_Bool (u.value == 41)) [
+    | inl p ↦ at_closer (eqb-true u.value 41 p)
+    | inr p ↦ elim (cases_Bool (u.value == 93 || u.value == 125)) [
+      | inl q ↦ at_bracket m q
+      | inr q ↦ elim (cases_Bool (u.value == 123)) [
+        | inl r ↦ at_brace m (eqb-true u.value 123 r) (no_braces (values (u ∷ us)) k) limit
+        | inr r ↦ absurd (no_repeat u.value (values us) h k p q r)
+      ]
+    ]
+  ]
+
+  pub stop_there : (us : List CodePoint) → is_unicode e.mode ≡ true → front_is closes_or_repeats (values us) ≡ true → counts_at (values us) ≡ no_counts → IsInLimit (values us) → (front e us ≡ None) × IsStop e us 0
+  stop_there [] m h k limit = absurd (let no : ⊥ = cc h in no)
+  stop_there (u ∷ us) m h k limit = (counts_front (u ∷ us) h ∙ ap (λ c. quantifier_token c (values (u ∷ us))) k, ends_at u us m h k limit)
+
+  -- behind a backslash
+  backslash_unit : (u : CodePoint) (us : List CodePoint) → u.value ≡ 92 → front e (u ∷ us) ≡ backslash_front e (values us)
+  backslash_unit u us h = front_by_values e (u ∷ us) 92 (values us) refl (ap (λ c. c ∷ values us) h)
+
+  pub boundary_there : (u : CodePoint) (us : List CodePoint) (kind : BoundaryAssertionKind) → u.value ≡ 92 → boundary_front e (values us) ≡ Some kind
+      → (front e (u ∷ us) ≡ Some (boundary kind, 2)) × (2 ≤ length (u ∷ us))
+  unfolding backslash_front
+  boundary_there u [] kind h k = absurd (let no : ⊥ = cc k in no)
+  boundary_there u (v ∷ us) kind h k = (backslash_unit u (v ∷ us) h ∙ ap (λ b. backslash_token b (class_escape_at v.value) (escape_at (is_unicode e.mode) (values (v ∷ us)))) k, omega arith)
+
+  pub class_there : (u : CodePoint) (us : List CodePoint) (kind : CharacterClassEscapeKind) → u.value ≡ 92 → boundary_front e (values us) ≡ None → class_escape_front (values us) ≡ Some kind
+      → (front e (u ∷ us) ≡ Some (class_escape kind, 2)) × (2 ≤ length (u ∷ us))
+  unfolding backslash_front
+  class_there u [] kind h b k = absurd (let no : ⊥ = cc k in no)
+  class_there u (v ∷ us) kind h b k = (
+    backslash_unit u (v ∷ us) h
+        ∙ ap (λ b. backslash_token b (class_escape_at v.value) (escape_at (is_unicode e.mode) (values (v ∷ us)))) b
+        ∙ ap (λ c. backslash_token None c (escape_at (is_unicode e.mode) (values (v ∷ us)))) k,
+    omega arith,
+  )
+
+  pub escape_front : (u : CodePoint) (us : List CodePoint) → u.value ≡ 92 → boundary_front e (values us) ≡ None → class_escape_front (values us) ≡ None
+      → front e (u ∷ us) ≡ escaped_token (escape_at (is_unicode e.mode) (values us))
+  unfolding backslash_front escape_at
+  escape_front u [] h b c = backslash_unit u [] h
+  escape_front u (v ∷ us) h b c =
+      backslash_unit u (v ∷ us) h
+      ∙ ap (λ b. backslash_token b (class_escape_at v.value) (escape_at (is_unicode e.mode) (values (v ∷ us)))) b
+      ∙ ap (λ c. backslash_token None c (escape_at (is_unicode e.mode) (values (v ∷ us)))) c
+
+  pub ended_backslash : (u : CodePoint) (us : List CodePoint) → is_unicode e.mode ≡ true → u.value ≡ 92 → length us < 1 → (front e (u ∷ us) ≡ None) × IsStop e (u ∷ us) 1
+  unfolding backslash_front
+  ended_backslash u [] m h l = (backslash_unit u [] h, behind_backslash m h refl)
+  ended_backslash u (v ∷ us) m h l = absurd (omega arith)
+
+  pub nothing_there : (u : CodePoint) (us : List CodePoint) → is_unicode e.mode ≡ true → u.value ≡ 92 → boundary_front e (values us) ≡ None → class_escape_front (values us) ≡ None
+      → front_is is_unread_escape (values us) ≡ false → escape_at (is_unicode e.mode) (values us) ≡ nothing → (front e (u ∷ us) ≡ None) × IsStop e (u ∷ us) 1
+  nothing_there u us m h b c read k =
+      let none = escape_front u us h b c ∙ ap escaped_token k in
+      let no_u = escape_nothing (values us) (ap (λ m. escape_at m (values us)) (sym m) ∙ k) in
+      (none, behind_backslash m h (stop_backslash e (values us) m (sym (backslash_unit u us h) ∙ none) (no_beginning (values us) read no_u)))
+    where
+      of_none : (c : ℕ) → is_unread_escape c ≡ false → (c == 117) ≡ false → (is_one_of (codes "upPk") c || is_within 49 57 c) ≡ false
+      of_none c h k = grind (arith, nat_tests)
+
+      no_beginning : (w : List ℕ) → front_is is_unread_escape w ≡ false → front_is (λ c. c == 117) w ≡ false → front_is (λ c. is_one_of (codes "upPk") c || is_within 49 57 c) w ≡ false
+      no_beginning [] h k = refl
+      no_beginning (c ∷ w) h k = of_none c h k
+
+-- A piece behind a backslash is not read yet.
+pub unread_behind : (u : CodePoint) (us : List CodePoint) → u.value ≡ 92 → front_is is_unread_escape (values us) ≡ true → holds_unread (values (u ∷ us)) ≡ true
+unread_behind u [] h k = absurd (let no : ⊥ = cc k in no)
+unread_behind u (v ∷ us) h k = ap (λ c. holds_unread (c ∷ values (v ∷ us))) h ∙ ap (λ b. b || holds_unread (values us)) k
+
+-- `u` without a unicode escape
+pub invalid_there : (mode : Mode) (u : CodePoint) (us : List CodePoint) → u.value ≡ 92 → escape_at true (values us) ≡ no_unicode → IsHalt mode (u ∷ us) halt.InvalidEscape
+invalid_there mode u us h k =
+    let no = escape_no_unicode (values us) k in (
+      no.behind,
+      ap (λ c. c ∷ values us) h ∙ ap (λ w. 92 ∷ w) no.whole,
+      λ v n d. no.no_value v n (subst (λ w. Decodes true w v n) (sym no.whole) d),
+      λ count p. no.no_limit count (subst (λ w. PassesHex w count) (sym no.whole) p),
+    )
+
+pub too_many_there : (mode : Mode) (u : CodePoint) (us : List CodePoint) (count : ℕ) → u.value ≡ 92 → count + 2 ≤ length us → escape_at true (values us) ≡ too_many count → IsHalt mode (u ∷ us) (halt.TooManyHexDigits count)
+too_many_there mode u us count h l k = (values us, ap (λ c. c ∷ values us) h, escape_too_many (values us) count k, omega (arith, l))
+
+-- a token of one unit, which is a SyntaxCharacter other than a backslash
+pub one_there : (mode : Mode) (us : List CodePoint) (c d : ℕ) (t : Token) → reading.front us ≡ Some c → c ≡ d → is_syntax_character d ≡ true → (d == 92) ≡ false
+    → ((w : List ℕ) → syntax_front d w ≡ Some (t, 1)) → Obeys 0 [] t → Stands mode us t 1
+one_there mode [] c d t h same s o k obeys = absurd (let no : ⊥ = cc h in no)
+one_there mode (u ∷ us) c d t h same s o k obeys =
+    let is : u.value ≡ d = (let first : u.value ≡ c = cc h in first) ∙ same in
+    (front_by_values (text_environment mode) (u ∷ us) d (values us) s (ap (λ c. c ∷ values us) is) ∙ cond-false (d == 92) _ _ o ∙ k (values us), omega arith, obeys)
+
+pub unread_there : (us : List CodePoint) (c : ℕ) → reading.front us ≡ Some c → is_unread c ≡ true → holds_unread (values us) ≡ true
+unread_there [] c h k = absurd (let no : ⊥ = cc h in no)
+unread_there (u ∷ us) c h k =
+    let first : u.value ≡ c = cc h in
+    ap (λ c. holds_unread (c ∷ values us)) first
+    ∙ cond-false (c == 92) _ _ (differs is_unread c 92 refl k)
+    ∙ ap (λ b. b || holds_unread (values us)) k
+
+-- a SyntaxCharacter that is none of those of one unit nor begins what is not read yet
+pub closer_there : (us : List CodePoint) (c : ℕ) → reading.front us ≡ Some c → is_syntax_character c ≡ true → (c == 92) ≡ false → (c ≡ 46 → ⊥) → (c ≡ 124 → ⊥) → (c ≡ 94 → ⊥) → (c ≡ 36 → ⊥) → (c ≡ 40 → ⊥) → (c ≡ 91 → ⊥)
+    → front_is closes_or_repeats (values us) ≡ true
+closer_there [] c h s o no_dot no_bar no_start no_end no_group no_class = absurd (let no : ⊥ = cc h in no)
+closer_there (u ∷ us) c h s o no_dot no_bar no_start no_end no_group no_class =
+    let first : u.value ≡ c = cc h in
+    ap closes_or_repeats first ∙ rest c s o no_dot no_bar no_start no_end no_group no_class
+  where
+    rest : (c : ℕ) → is_syntax_character c ≡ true → (c == 92) ≡ false → (c ≡ 46 → ⊥) → (c ≡ 124 → ⊥) → (c ≡ 94 → ⊥) → (c ≡ 36 → ⊥) → (c ≡ 40 → ⊥) → (c ≡ 91 → ⊥) → closes_or_repeats c ≡ true
+    rest c s o no_dot no_bar no_start no_end no_group no_class = grind (arith, nat_tests)
+
+raw_stands : (mode : Mode) (c : ℕ) → is_unicode mode ≡ true → is_syntax_character c ≡ false → stands_raw mode c ≡ true
+raw_stands Legacy c m h = absurd (let no : ⊥ = cc m in no)
+raw_stands Unicode c m h = ap not h
+raw_stands Sets c m h = ap not h
+
+-- a unit that stands for itself
+pub raw_there : (mode : Mode) (us : List CodePoint) (d : CodePoint) → 1 ≤ length us → is_unicode mode ≡ true → is_syntax_character (get_or us 0 d).value ≡ false → (get_or us 0 d).value ≤ 0x10FFFF
+    → Stands mode us (character (unit_kind (get_or us 0 d).escape_kind) (get_or us 0 d).value) 1
+unfolding front
+raw_there mode [] d l m h k = absurd (omega arith)
+raw_there mode (u ∷ us) d l m h k = (cond-true (stands_raw mode u.value) _ _ (raw_stands mode u.value m h), omega arith, k)
+
+pub ended : (e : Environment) (us : List CodePoint) → length us < 1 → (front e us ≡ None) × IsStop e us 0
+unfolding front
+ended e [] l = (refl, at_end)
+ended e (u ∷ us) l = absurd (omega arith)
+
+-- what stands behind the first unit
+pub behind_first : (P : List CodePoint → Type 0) (us : List CodePoint) (d : CodePoint) → 1 ≤ length us → P (get_or us 0 d ∷ take (length us - 1) (drop 1 us)) → P us
+behind_first P [] d l h = absurd (omega arith)
+behind_first P (u ∷ us) d l h = subst (λ w. P (u ∷ w)) (take_all (length (u ∷ us) - 1) us (omega arith)) h
