@@ -2,6 +2,10 @@ pub mod Digits
 pub mod EventEquations
 pub mod FrameEvents
 pub mod Goods
+pub mod Halts
 pub mod Leaves
+pub mod Pieces
 pub mod Prefixes
+pub mod Reachings
 pub mod Steps
+pub mod Turns
