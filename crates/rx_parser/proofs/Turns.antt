@@ -11,6 +11,7 @@ use Rattle.rx_ast.specs.declared.term.Term.{Term}
 use Rattle.rx_ast.specs.Tree.{mirror_term}
 use Rattle.rx_units.specs.declared.code_point.CodePoint.{CodePoint}
 use Rattle.rx_units.specs.Units.{end_of, offset_at, values}
+use Rattle.rx_model.specs.declared.mode.Mode.{Mode}
 use Rattle.rx_model.specs.declared.mode.Mode.TheVariants.{Unicode}
 use Rattle.rx_model.specs.Causes.{IsCause, lone}
 use Rattle.rx_model.specs.Early.{Obeys}
@@ -21,9 +22,10 @@ use Rattle.rx_model.specs.Rows.{TokenRow}
 use Rattle.rx_model.specs.Shapes.{run, takes}
 use Rattle.rx_model.specs.Token.{Token, Opener, bar, quantifier}
 use Rattle.rx_model.proofs.Flat.{tokens_of-append}
-use Rattle.rx_model.proofs.Fronts.{front_spelled, spelled_front}
+use Rattle.rx_model.proofs.Fronts.{front_spelled, spelled_front, spelled_some}
 use Rattle.rx_parser.specs.declared.builder.Builder.{Builder}
-use Rattle.rx_parser.specs.Found.{Stands}
+use Rattle.rx_parser.specs.declared.front.Halt.{Halt}
+use Rattle.rx_parser.specs.Found.{IsHalt, Stands}
 use Rattle.rx_parser.specs.Frames.{builder_events, openers, ready}
 use Rattle.rx_parser.specs.Good.{IsGood, IsGoodTerm}
 use Rattle.rx_parser.specs.Levels.{Repeats}
@@ -48,6 +50,19 @@ offset_fits added first us place f a = end_fits added first us place f a
 -- so many places on are within the text
 pub place_on : (us : List CodePoint) (place n : ℕ) → place ≤ length us → n ≤ length (drop place us) → min (place + n) (length us) ≡ place + n
 place_on us place n l k = omega (arith, l, k, length-drop place us)
+
+-- What stands next, said of the mode and the units that are.
+pub stands_here : (mode : Mode) (us vs : List CodePoint) (t : Token) (n : ℕ) → mode ≡ Unicode → us ≡ vs → Stands mode us t n → Stands Unicode vs t n
+stands_here mode us vs t n m e s = subst (λ ws. Stands Unicode ws t n) e (subst (λ k. Stands k us t n) m s)
+
+pub halts_here : (mode : Mode) (us vs : List CodePoint) (it : Halt) → mode ≡ Unicode → us ≡ vs → IsHalt mode us it → IsHalt Unicode vs it
+halts_here mode us vs it m e s = subst (λ ws. IsHalt Unicode ws it) e (subst (λ k. IsHalt k us it) m s)
+
+-- A token has a unit.
+pub place_moves : (us : List CodePoint) (place n : ℕ) (t : Token) → place ≤ length us → Stands Unicode (drop place us) t n → place < min (place + n) (length us)
+place_moves us place n t l s =
+    let f = front_spelled text (drop place us) t n s.0 in
+    omega (arith, place_on us place n l s.1, f.count, spelled_some text t f.w f.rest f.spells)
 
 one_more : (old new es : Events) (t : Token) → new ≡ old ++ es → tokens_of es ≡ t ∷ [] → tokens_of new ≡ tokens_of old ++ (t ∷ [])
 one_more old new es t e k = ap tokens_of e ∙ tokens_of-append old es ∙ ap (λ ts. tokens_of old ++ ts) k
