@@ -1,4 +1,5 @@
 pub mod Digits
+pub mod Endings
 pub mod EventEquations
 pub mod FrameEvents
 pub mod Goods
@@ -9,3 +10,4 @@ pub mod Prefixes
 pub mod Reachings
 pub mod Steps
 pub mod Turns
+pub mod Ungrouped
