@@ -38,7 +38,11 @@ loop-alloc-preserved c =
     }
 
 pub returns-in_err-turn-clause-refused : goal.returns-in_err-turn-clause-refused
-returns-in_err-turn-clause-refused c = ?
+returns-in_err-turn-clause-refused c =
+    let r = c.args.reader.now in
+    let refused : IsRefused Unicode r.units r.first c.args.spans.now c.in_err-turn.field-0.0 =
+        subst (λ (r : Reading). IsRefused Unicode r.units r.first c.args.spans.now c.in_err-turn.field-0.0) c.loop-alloc.invariant.same c.in_err-turn.ensures.refused in
+    search rules
 
 pub here-requires-2 : goal.here-requires-2
 here-requires-2 c =
