@@ -25,7 +25,7 @@ use Rattle.rx_parser.specs.Good.{IsGood}
 use Rattle.rx_parser.specs.NotYet.{holds_unread}
 use Rattle.rx_parser.specs.Parsing.{IsParsing}
 use Rattle.rx_parser.specs.Progress.{IsAt}
-use Rattle.rx_parser.proofs.Reachings.{text}
+use Rattle.rx_parser.proofs.Places.{text}
 use Rattle.rx_parser.proofs.Steps.{begun, finished}
 use Rattle.rx_parser.proofs.Ungrouped.{HasNoGroup, row_ungrouped, ungrouped}
 

@@ -25,7 +25,7 @@ use Rattle.rx_parser.specs.Found.{IsHalt}
 use Rattle.rx_parser.specs.Frames.{ready}
 use Rattle.rx_parser.specs.Parsing.{IsParsing, IsInvalid, IsRefused, IsSmall, halt_fault}
 use Rattle.rx_parser.proofs.Digits.{digit_there, digits_past, digits_le}
-use Rattle.rx_parser.proofs.Reachings.{text, IsDead, reached, dead_end, some_left}
+use Rattle.rx_parser.proofs.Places.{text, IsDead, reached, dead_end, some_left}
 
 -- The counts of a quantifier that stands next do not obey.
 abbrev DoNotObey : ℕ → Option ℕ → Type 0
@@ -237,13 +237,3 @@ module _ (us : List CodePoint) (first added : ℕ) (b : Builder) (place : ℕ) (
   halt_refused halt.InvalidEscape s =
       (invalid_escape place left s.0 here refl s.1 s.2 s.3, dead (dead_escape left s.0 s.1 s.2 s.3))
   halt_refused halt.Unread s = absurd (true≢false (sym s ∙ h.read))
-
--- The places that a halt names are within the text.
-pub halt_small : (us : List CodePoint) (it : Halt) → IsHalt Unicode us it → length us < 2 ^ 64 → IsSmall it
-halt_small us (halt.Stop behind) s l = tt
-halt_small us (halt.OutOfOrder n) s l = tt
-halt_small us (halt.TooLarge n) s l = tt
-halt_small us (halt.TooManyDigits start count) s l = omega (arith, s.1, l)
-halt_small us (halt.TooManyHexDigits count) s l = omega (arith, s.3, l)
-halt_small us halt.InvalidEscape s l = tt
-halt_small us halt.Unread s l = tt

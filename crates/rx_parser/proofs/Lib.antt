@@ -6,8 +6,8 @@ pub mod Goods
 pub mod Halts
 pub mod Leaves
 pub mod Pieces
+pub mod Places
 pub mod Prefixes
-pub mod Reachings
 pub mod Steps
 pub mod Turns
 pub mod Ungrouped

@@ -34,7 +34,7 @@ use Rattle.rx_parser.specs.Parsing.{IsParsing, IsInvalid, IsRefused}
 use Rattle.rx_parser.specs.Progress.{IsAt, IsLeafOf, Advances}
 use Rattle.rx_parser.proofs.Halts.{same_token}
 use Rattle.rx_parser.proofs.Pieces.{unread_behind}
-use Rattle.rx_parser.proofs.Reachings.{text, reached, read_ahead}
+use Rattle.rx_parser.proofs.Places.{text, reached, read_ahead}
 use Rattle.rx_parser.proofs.Steps.{leaf_advances, bar_advances, quantify_advances, quantify_refuses}
 
 end_fits : (added first : ℕ) (us : List CodePoint) (n : ℕ) → first + added < 2 ^ 32 → All (λ unit. unit.span.end + added < 2 ^ 32) us → end_of first (take n us) + added < 2 ^ 32
@@ -79,14 +79,11 @@ repeats_more old new min max greedy after rep =
     ∙ ap (λ x. x ++ (t ∷ [])) (sym (tokens_of-append head (enter rep.1 ∷ back)) ∙ ap tokens_of (sym rep.3))
 
 module _ (us : List CodePoint) (first added : ℕ) (b : Builder) (place : ℕ) (h : IsParsing Unicode us first added b place) where
-  -- the offset of a place
-  offset : ℕ → ℕ
-  offset i = offset_at first us i + added
-
   -- the place behind so many units
   abbrev next : ℕ → ℕ
   next n = min (place + n) (length us)
 
+  -- a token that the builder takes
   pub moves_on : (c : Builder) (t : Token) (n at after : ℕ) → Stands Unicode (drop place us) t n → at ≡ offset_at first us place + added → after ≡ offset_at first us (next n) + added
       → Advances text b c t at after → openers c ≡ openers b → tokens_of (builder_events c) ≡ tokens_of (builder_events b) ++ (t ∷ []) → IsParsing Unicode us first added c (next n)
   moves_on c t n at after s a z adv o more =
@@ -105,6 +102,7 @@ module _ (us : List CodePoint) (first added : ℕ) (b : Builder) (place : ℕ) (
             (unread_behind text t f.w f.rest f.spells (subst (λ w. holds_unread (values w) ≡ false) f.whole h.read));
       }
 
+  -- a term of one token, a bar, a quantifier
   pub leaf_moves : (c : Builder) (term : Term) (t : Token) (n at after : ℕ) → Stands Unicode (drop place us) t n → IsLeafOf term t at after → at ≡ offset_at first us place + added
       → after ≡ offset_at first us (next n) + added → builder_events c ≡ builder_events b ++ term_events term → openers c ≡ openers b → ready c ≡ takes b.mode (mirror_term term)
       → (IsGoodTerm b.mode term → IsGood b → IsGood c) → c.mode ≡ b.mode → IsParsing Unicode us first added c (next n)

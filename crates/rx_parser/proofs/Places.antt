@@ -24,6 +24,7 @@ use Rattle.rx_parser.specs.Frames.{builder_events, openers, ready}
 use Rattle.rx_parser.specs.Parsing.{IsParsing, IsInvalid}
 use Rattle.rx_parser.proofs.Steps.{IsAhead, pattern_ahead}
 
+-- the environment of a text that is read
 abbrev pub text : Environment
 text = text_environment Unicode
 
