@@ -36,7 +36,7 @@ decimal_more m (x ∷ ds) c n d h e =
     ap (option_and_then (λ y. decimal_behind (10 * m + y) (ds ++ c ∷ []))) f ∙ decimal_more (10 * m + y) ds c n d g e)
 
 -- digits only add to a number
-digits_le : (m count : ℕ) (w : List ℕ) (n end : ℕ) (rest : List ℕ) → digits_behind m count w ≡ digits n end rest → m ≤ n
+pub digits_le : (m count : ℕ) (w : List ℕ) (n end : ℕ) (rest : List ℕ) → digits_behind m count w ≡ digits n end rest → m ≤ n
 digits_le m count [] n end rest h = let e : m ≡ n = cc h in omega arith
 digits_le m count (c ∷ w) n end rest h = elim (chosen (is_decimal_digit c) h) [
   | inl p ↦ let k = digits_le (10 * m + (c - 48)) (count + 1) w n end rest p.1 in omega (arith, k)
@@ -44,7 +44,7 @@ digits_le m count (c ∷ w) n end rest h = elim (chosen (is_decimal_digit c) h) 
 ]
 
 -- reading goes on behind digits
-digits_past : (m count : ℕ) (ds rest : List ℕ) (n : ℕ) → decimal_behind m ds ≡ Some n → digits_behind m count (ds ++ rest) ≡ digits_behind n (count + length ds) rest
+pub digits_past : (m count : ℕ) (ds rest : List ℕ) (n : ℕ) → decimal_behind m ds ≡ Some n → digits_behind m count (ds ++ rest) ≡ digits_behind n (count + length ds) rest
 digits_past m count [] rest n h =
     let same : m ≡ n = cc h in
     ap (λ m. digits_behind m count rest) same ∙ ap (λ k. digits_behind n k rest) (omega arith)
