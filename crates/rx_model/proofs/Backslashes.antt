@@ -1,5 +1,5 @@
 -- What a backslash begins: a boundary, a class escape or a character escape, read as it is spelled.
-use Rattle.std.proofs.Common.{◌≡◌, ℕ, ◌+◌, ◌==◌, Bool, true, false, cond, ◌&&◌, List, [], ◌∷◌, ◌++◌, length, Option, Some, None, refl, sym, ap, ◌∙◌, subst, arith, ◌⊎◌, inl, inr}
+use Rattle.std.proofs.Common.{◌≡◌, ℕ, ◌+◌, ◌==◌, Bool, true, false, cond, List, [], ◌∷◌, ◌++◌, length, Some, None, refl, sym, ap, ◌∙◌, arith, inl, inr}
 use Rattle.std.proofs.lemmas.Bool.{eqb-true}
 use Rattle.std.proofs.lemmas.Bool.Decides.{nat_tests}
 use Rattle.rx_ast.specs.declared.leaf.BoundaryAssertionKind.{BoundaryAssertionKind}
@@ -11,8 +11,8 @@ use Rattle.rx_model.specs.Boundaries.{boundary_text, has_buffers, has_boundary}
 use Rattle.rx_model.specs.ClassText.{class_escape_text}
 use Rattle.rx_model.specs.Environment.{Environment, is_unicode}
 use Rattle.rx_model.specs.Escapes.{SpellsEscape, control, letter, null, hexadecimal, unicode, identity}
-use Rattle.rx_model.specs.Fronts.{escaped, escape_at, buffer_at, boundary_at, class_escape_at, escaped_token, backslash_token, backslash_front}
-use Rattle.rx_model.specs.Token.{Token, character, class_escape}
+use Rattle.rx_model.specs.Fronts.{escape_at, buffer_at, boundary_at, class_escape_at, escaped_token, backslash_token, backslash_front}
+use Rattle.rx_model.specs.Token.{character, class_escape}
 use Rattle.rx_model.proofs.Decodings.{chosen}
 use Rattle.rx_model.proofs.Escapes.{begins_with_u, spelled_escape}
 

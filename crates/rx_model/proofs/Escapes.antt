@@ -1,9 +1,9 @@
 -- Character escapes: what is spelled is read, and what is read is spelled.
-use Rattle.std.proofs.Common.{◌≡◌, ℕ, ◌+◌, ◌*◌, ◌==◌, ◌<◌, ◌≤◌, Bool, true, false, cond, ◌||◌, ◌&&◌, List, [], ◌∷◌, ◌++◌, length, Option, Some, None, refl, sym, ap, ◌∙◌, subst, arith, ◌⊎◌, inl, inr}
+use Rattle.std.proofs.Common.{◌≡◌, ℕ, ◌+◌, ◌*◌, ◌==◌, ◌<◌, ◌≤◌, Bool, true, false, cond, ◌&&◌, List, [], ◌∷◌, ◌++◌, length, Option, Some, None, refl, sym, ap, ◌∙◌, subst, arith, ◌⊎◌, inl, inr}
 use Rattle.std.proofs.lemmas.Bool.{eqb-true, cond-true, cond-false, cond_both, cases_Bool, and_from}
 use Rattle.std.proofs.lemmas.Bool.Decides.{nat_tests}
 use Rattle.std.proofs.lemmas.Option.{option_and_then_some}
-use Rattle.rx_tables.specs.Characters.{control_escape_value, control_letter_value, hex_digit_value, is_decimal_digit, is_syntax_character}
+use Rattle.rx_tables.specs.Characters.{control_escape_value, control_letter_value, hex_digit_value, is_decimal_digit}
 use Rattle.rx_ast.specs.declared.leaf.CharacterKind.{CharacterKind}
 use Rattle.rx_ast.specs.declared.leaf.CharacterKind.TheVariants as kinds
 use Rattle.rx_model.specs.Decoding.{Decoded, value, invalid, overflow, decoded}
@@ -164,7 +164,6 @@ module _ (e : Environment) where
 
   pub escape_positive : (kind : CharacterKind) (v n : ℕ) (w : List ℕ) → escape_at (is_unicode e.mode) w ≡ escaped kind v n → 0 < n
   escape_positive kind v n w h = let f = escape_spelled kind v n w h in omega (arith, f.count, escape_some kind v f.spelled f.rest f.spells)
-
 
 -- whether it is a character or nothing
 abbrev is_plain : EscapeRead → Bool

@@ -10,3 +10,4 @@ pub mod Quantifiers
 pub mod Runs
 pub mod Spellings
 pub mod Splits
+pub mod Stops

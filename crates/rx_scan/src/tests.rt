@@ -1,6 +1,6 @@
 ghost use Rattle.std.specs.Prelude.{◌+◌, ◌<◌, ◌^◌, length};
 
-use crate::FlagsParser;
+use crate::{FlagsParser, UnicodeEscape, decode};
 use rx_base::Diagnostic;
 use rx_units::Reader;
 use std::alloc::Global;
@@ -58,6 +58,61 @@ fn flags_that_are_refused(rt: HostRuntime) -> Result<(), Fail> {
         assert_eq!(rt; cause.name(), name, "{text}");
         assert_eq!(rt; (found.start, found.end), span, "{text}");
         assert_eq!(rt; flag_of(&cause), flag, "{text}");
+    }
+    Ok(())
+}
+
+fn decoded(alloc: Global, text: &str, unicode_mode: bool) -> Result<UnicodeEscape, Fail>
+    requires { length text.now < 2 ^ 32 }
+{
+    let reader = Reader::initialize(alloc, text, unicode_mode, false)?;
+    Ok(decode(reader.remaining_code_points(), unicode_mode))
+}
+
+#[test]
+fn escapes_of_code_points(rt: HostRuntime) -> Result<(), Fail> {
+    for (text, unicode_mode, code_point, length) in [
+        ("u0041", false, 0x41, 5),
+        ("u00e9z", true, 0xE9, 5),
+        ("uD83D\\uDE00", true, 0x1F600, 11),
+        ("uD83D\\uDE00", false, 0xD83D, 5),
+        ("uD83D\\u{DE00}", true, 0xD83D, 5),
+        ("uD83D\\u0041", true, 0xD83D, 5),
+        ("u{10FFFF}", true, 0x10FFFF, 9),
+    ] {
+        let found = decoded(rt.alloc(), text, unicode_mode)?;
+        let wanted = UnicodeEscape::Value { code_point, length };
+        assert_eq!(rt; found, wanted, "{text}");
+    }
+    Ok(())
+}
+
+#[test]
+fn no_escapes(rt: HostRuntime) -> Result<(), Fail> {
+    for (text, unicode_mode) in [
+        ("u{110000}", true),
+        ("u{}", true),
+        ("u{41", true),
+        ("u004", true),
+        ("u{41}", false),
+        ("x41", true),
+        ("", true),
+    ] {
+        let found = decoded(rt.alloc(), text, unicode_mode)?;
+        assert_eq!(rt; found, UnicodeEscape::Invalid, "{text}");
+    }
+    Ok(())
+}
+
+#[test]
+fn escapes_past_32_bits(rt: HostRuntime) -> Result<(), Fail> {
+    for (text, digits) in [
+        ("u{100000000}", 8),
+        ("u{FFFFFFFFF}", 8),
+        ("u{0000100000000}", 12),
+    ] {
+        let found = decoded(rt.alloc(), text, true)?;
+        assert_eq!(rt; found, UnicodeEscape::Overflow { digits }, "{text}");
     }
     Ok(())
 }
