@@ -9,7 +9,7 @@ use Rattle.rx_units.specs.declared.code_point.EscapeKind.TheVariants as kind
 use Rattle.rx_units.specs.Reading.{AreEnds}
 use Rattle.rx_units.specs.Units.{character_units, lead_of, literal_units, offset_at, trail_of, unit}
 
-both_true : (a b : Bool) → (a && b) ≡ true → (a ≡ true) × (b ≡ true)
+pub both_true : (a b : Bool) → (a && b) ≡ true → (a ≡ true) × (b ≡ true)
 both_true true b h = (refl, h)
 both_true false b h = absurd (let k : ⊥ = cc h in k)
 

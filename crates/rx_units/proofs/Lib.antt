@@ -1,3 +1,4 @@
 pub mod Literals
 pub mod Offsets
 pub mod Ends
+pub mod CodePoints

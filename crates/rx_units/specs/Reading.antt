@@ -1,5 +1,5 @@
 -- Where a reader stands in its units, and what it sees from there.
-use Rattle.std.specs.Prelude.{◌≡◌, ℕ, ◌+◌, ◌≤◌, Bool, true, false, ◌==◌, ◌&&◌, List, [], ◌∷◌, length, drop, min, Option, Some, None}
+use Rattle.std.specs.Prelude.{◌≡◌, ℕ, ◌+◌, ◌≤◌, Bool, true, false, ◌==◌, ◌&&◌, List, [], ◌∷◌, All, length, drop, min, Option, Some, None}
 use Rattle.std.specs.Str.{IsCharBoundary}
 use Rattle.rx_units.specs.declared.code_point.CodePoint.{CodePoint}
 use Rattle.rx_units.specs.declared.code_point.EscapeKind.{EscapeKind}
@@ -62,3 +62,5 @@ pub record IsSound (units : List CodePoint) (place offset first : ℕ) (text : L
   pub offset_is : offset ≡ offset_at first units place
   pub start : IsCharBoundary text first
   pub ends : AreEnds text first units
+  -- each unit is a code point (6.1.4), a surrogate too
+  pub code_points : All (λ unit. unit.value ≤ 0x10FFFF) units

@@ -1,4 +1,4 @@
-ghost use Rattle.std.specs.Prelude.{◌≡◌, ℕ, ◌∷◌, [], ◌<◌, ◌≤◌, ◌^◌, ◌↔◌, length, IfOk, IsFalse, IsTrue, Any, if◌then◌else◌, slice_range};
+ghost use Rattle.std.specs.Prelude.{◌≡◌, ℕ, ◌∷◌, [], ◌<◌, ◌≤◌, ◌^◌, ◌↔◌, length, IfOk, IsFalse, IsTrue, All, Any, if◌then◌else◌, slice_range};
 ghost use Rattle.std.specs.Str.{chars};
 ghost use Rattle.rx_units.specs.Reading.{IsOffset, begins, front, front_kind, moved, offset_of, rest, second};
 ghost use Rattle.rx_units.specs.Units.{literal_units, offset_at};
@@ -225,8 +225,10 @@ impl<'a> Reader<'a> {
     }
 
     /// The units from the place to the end.
+    #[tactic(auto, using(crate::proofs::CodePoints::code_points_from))]
     pub fn remaining_code_points(&self) -> &[CodePoint]
-        ensures { result.now ≡ rest self.now }
+        ensures units { result.now ≡ rest self.now }
+        ensures code_points { All (λ unit. unit.value ≤ 0x10FFFF) result.now }
     {
         &self.units.as_slice()[self.index..]
     }
