@@ -1,5 +1,4 @@
-use Rattle.std.proofs.Common.{◌≡◌, ◌∙◌, sym, ap, None, subst}
-use Rattle.rx_units.specs.Reading.{rest}
+use Rattle.std.proofs.Common.{◌∙◌, sym, ap, subst}
 use Rattle.rx_units.specs.Units.{values}
 use Rattle.rx_class.specs.Answers.{GivesClassEscape}
 use Rattle.rx_class.specs.Found.{class_escape_front}
