@@ -11,3 +11,4 @@ pub mod Runs
 pub mod Spellings
 pub mod Splits
 pub mod Stops
+pub mod TokenTexts

@@ -12,6 +12,7 @@ pub mod Flags
 pub mod Fronts
 pub mod Modes
 pub mod Names
+pub mod OneLine
 pub mod Quantifiers
 pub mod Reached
 pub mod Reading
