@@ -1,10 +1,12 @@
 pub mod Backslashes
 pub mod Builds
+pub mod Choices
 pub mod Decodings
 pub mod Escapes
 pub mod Flat
 pub mod Fronts
 pub mod Joins
+pub mod OneLines
 pub mod OneRow
 pub mod Quantifiers
 pub mod Runs
