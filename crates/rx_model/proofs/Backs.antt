@@ -31,12 +31,12 @@ use Rattle.rx_model.specs.UnicodeEscapes.{hex_behind, hex_number, SpellsUnicode,
 use Rattle.rx_model.specs.UnicodeEscapes as in_escape
 use Rattle.rx_model.proofs.Choices.{choose_both}
 
-values_literal : (at : ℕ) (text : List ℕ) → values (literal_units true at text) ≡ text
+pub values_literal : (at : ℕ) (text : List ℕ) → values (literal_units true at text) ≡ text
 values_literal at [] = refl
 values_literal at (c ∷ text) = ap (λ rest. c ∷ rest) (values_literal (at + len_utf8 c) text)
 
 -- The units of two texts, one behind the other.
-units-append : (at : ℕ) (u v : List ℕ) → (between : ℕ) × (literal_units true at (u ++ v) ≡ literal_units true at u ++ literal_units true between v)
+pub units-append : (at : ℕ) (u v : List ℕ) → (between : ℕ) × (literal_units true at (u ++ v) ≡ literal_units true at u ++ literal_units true between v)
 units-append at [] v = (at, refl)
 units-append at (c ∷ u) v =
     let h = units-append (at + len_utf8 c) u v in
@@ -178,6 +178,6 @@ digits_read_back n (d ∷ ds) h =
     ap (option_and_then (λ i. decimal_behind (10 * n + i) ds)) (digit_there d h.0)
     ∙ ap (λ k. decimal_behind k ds) (omega arith) ∙ digits_read_back (n * 10 + digit_value d) ds h.1
 
-are_digits : (n : ℕ) (ds : List ℕ) → AllDigits 10 ds → ds ≢ [] → digits_value_after 10 0 ds ≡ n → AreDigits n ds
+pub are_digits : (n : ℕ) (ds : List ℕ) → AllDigits 10 ds → ds ≢ [] → digits_value_after 10 0 ds ≡ n → AreDigits n ds
 are_digits n [] h some v = absurd (some refl)
 are_digits n (d ∷ ds) h some v = record { first = d; more = ds; some = refl; number = digits_read_back 0 (d ∷ ds) h ∙ ap Some v }

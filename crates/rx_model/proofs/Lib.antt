@@ -1,3 +1,4 @@
+pub mod BackRows
 pub mod Backs
 pub mod Backslashes
 pub mod Builds

@@ -234,7 +234,7 @@ module _ (e : Environment) (count : ℕ) (names : List (List ℕ)) where
   token_stays bar k h = refl
   token_stays (quantifier min max greedy) k h = quantifier_stays min max greedy h.0 h.1
 
-  no_reference : (t : Token) → Known e t → token_refers t ≡ false
+  pub no_reference : (t : Token) → Known e t → token_refers t ≡ false
   no_reference (boundary kind) k = refl
   no_reference (character kind value) k = refl
   no_reference dot k = refl
