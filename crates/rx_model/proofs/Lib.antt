@@ -1,3 +1,4 @@
+pub mod Again
 pub mod BackRows
 pub mod Backs
 pub mod Backslashes
