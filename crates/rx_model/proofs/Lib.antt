@@ -1,4 +1,5 @@
 pub mod Again
+pub mod AgainTrees
 pub mod BackRows
 pub mod Backs
 pub mod Backslashes
