@@ -144,18 +144,16 @@ module _ (s d : Span) (o : tree.Opener) (more new : Alternatives) (make : (membe
       moved h.span (tree.looking h.kind) (cc e) (cc e) (look_made b d new (inside h.body (cc e)))
   group_made x e = absurd (let f : ⊥ = cc e in f)
 
+quantifier_made : (b : Box Quantifier Global) (s : Span) (min : ℕ) (max : Option ℕ) (greedy : Bool) (n : Node) → Made n → Made (quantified s min max greedy n)
+quantifier_made b s min max greedy n made =
+    let x = roll-Quantifier (record { span = s; min = min; max = max; greedy = greedy; body = made.0 }) in
+    let box = record b { value = x } in
+    (term.Quantifier box, equations.tree_of_quantifier box ∙ ap (λ m. quantified s min max greedy m) made.1)
+
 -- What is made of the body of a quantifier is made of the quantifier.
 module _ (s : Span) (min : ℕ) (max : Option ℕ) (greedy : Bool) (n new : Node) (make : (t : Term) → mirror_term t ≡ n → Made new) where
-  requantified : (b : Box Quantifier Global) → quantified b.value.span b.value.min b.value.max b.value.greedy (mirror_term b.value.body) ≡ quantified s min max greedy n →
-      Made (quantified s min max greedy new)
-  requantified b e =
-      let made = make b.value.body (cc e) in
-      let x = roll-Quantifier (record { span = s; min = min; max = max; greedy = greedy; body = made.0 }) in
-      let box = record b { value = x } in
-      (term.Quantifier box, equations.tree_of_quantifier box ∙ ap (λ m. quantified s min max greedy m) made.1)
-
   quantified_made : (x : Layer) → shape x ≡ quantified s min max greedy n → Made (quantified s min max greedy new)
-  quantified_made (layer.Quantifier b) e = requantified b e
+  quantified_made (layer.Quantifier b) e = quantifier_made b s min max greedy new (make b.value.body (let f : mirror_term b.value.body ≡ n = cc e in f))
   quantified_made x e = absurd (let f : ⊥ = cc e in f)
 
 alternative_made : (s : Span) (ns : Nodes) (more : Alternatives) → MadeTerms ns → MadeAlternatives more → MadeAlternatives (alternative s ns more)

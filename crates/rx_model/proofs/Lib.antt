@@ -13,6 +13,7 @@ pub mod Joins
 pub mod OneLines
 pub mod OneRow
 pub mod Quantifiers
+pub mod ReadBacks
 pub mod Runs
 pub mod Spellings
 pub mod Splits

@@ -269,7 +269,7 @@ module _ (e : Environment) (count : ℕ) (names : List (List ℕ)) where
   some_token bar k = some 124 []
   some_token (quantifier min max greedy) k = some-append (counts_text min max) (lazy_text greedy) (some_counts min max)
 
-  some_tokens : (ts : List Token) → AreKnown e ts → ts ≢ [] → tokens_text Unicode false ts ≢ []
+  pub some_tokens : (ts : List Token) → AreKnown e ts → ts ≢ [] → tokens_text Unicode false ts ≢ []
   some_tokens [] k h = absurd (h refl)
   some_tokens (t ∷ ts) k h = some-append (token_text Unicode false t) (tokens_text Unicode (token_refers t) ts) (some_token t k.0)
 
@@ -279,7 +279,7 @@ all_stay [] h = All-nil (λ c. ends_column c ≡ false)
 all_stay (c ∷ text) h = let k = both (stays c) (list_all stays text) h in All-cons (λ c. ends_column c ≡ false) c text (no_end (ends_column c) k.0) (all_stay text k.1)
 
 -- the pattern of some units has tokens
-has_tokens : (e : Environment) (ts : List Token) (us : List CodePoint) → TokenRow e ts us [] → us ≢ [] → ts ≢ []
+pub has_tokens : (e : Environment) (ts : List Token) (us : List CodePoint) → TokenRow e ts us [] → us ≢ [] → ts ≢ []
 has_tokens e [] us r h = absurd (h r)
 has_tokens e (t ∷ ts) us r h = λ k. cc
 

@@ -15,6 +15,7 @@ pub mod Names
 pub mod OneLine
 pub mod Quantifiers
 pub mod Reached
+pub mod ReadBack
 pub mod Reading
 pub mod Rows
 pub mod Shapes

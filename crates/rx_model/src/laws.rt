@@ -8,6 +8,7 @@ ghost use Rattle.rx_model.specs.declared.mode.Mode.{Mode};
 ghost use Rattle.rx_model.specs.Environment.{Environment};
 ghost use Rattle.rx_model.specs.declared.mode.Mode.TheVariants.{Unicode};
 ghost use Rattle.rx_model.specs.OneLine.{IsOneLine};
+ghost use Rattle.rx_model.specs.ReadBack.{IsReadBack};
 ghost use Rattle.rx_model.specs.Reading.{Reads};
 ghost use Rattle.rx_model.specs.Rows.{TokenRow};
 ghost use Rattle.rx_model.specs.Spelling.{spelling};
@@ -26,4 +27,9 @@ pub fn one_row()
 /// The canonical spelling of a pattern, with `u`, is one line: not empty, and with no tab and no LineTerminator (ECMA-262, 12.3) in it.
 pub fn one_line()
     ensures { (p : Pattern) (us : List CodePoint) → Reads Unicode p us → us ≢ [] → IsOneLine (spelling (bare p) Unicode) }
+{}
+
+/// The canonical spelling of a pattern, with `u`, reads as a pattern that is equal but for spans and character kinds.
+pub fn read_back()
+    ensures { (p : Pattern) (us : List CodePoint) → Reads Unicode p us → us ≢ [] → IsReadBack Unicode p }
 {}
