@@ -1,5 +1,5 @@
--- The pattern whose mirror is the tree that the canonical text is read members: made of the pattern's own boxes.
-use Rattle.std.proofs.Common.{◌≡◌, ℕ, Bool, Option, refl, ap, sym, ◌∙◌, subst, List, [], ◌∷◌, map}
+-- The pattern whose mirror is the tree that the canonical text is read as: made of the pattern's own boxes.
+use Rattle.std.proofs.Common.{◌≡◌, ℕ, Bool, Option, refl, ap, sym, ◌∙◌, List, [], ◌∷◌, map}
 use Rattle.std.specs.declared.alloc.Global.{Global}
 use Rattle.std.specs.declared.boxed.Box.{Box}
 use Rattle.rx_base.specs.declared.span.Span.{Span}
@@ -9,7 +9,6 @@ use Rattle.rx_ast.specs.declared.term.CapturingGroup.{CapturingGroup, out-Captur
 use Rattle.rx_ast.specs.declared.term.Disjunction.{Disjunction, out-Disjunction, roll-Disjunction}
 use Rattle.rx_ast.specs.declared.term.IgnoreGroup.{IgnoreGroup, out-IgnoreGroup, roll-IgnoreGroup}
 use Rattle.rx_ast.specs.declared.term.LookAroundAssertion.{LookAroundAssertion, out-LookAroundAssertion, roll-LookAroundAssertion}
-use Rattle.rx_ast.specs.declared.term.Pattern.{Pattern}
 use Rattle.rx_ast.specs.declared.term.Quantifier.{Quantifier, roll-Quantifier}
 use Rattle.rx_ast.specs.declared.term.Term.{Term, out-Term, roll-Term, roll-out-Term}
 use Rattle.rx_ast.specs.declared.term.Term.TheVariants as term
@@ -66,7 +65,7 @@ Made n = (t : Term) × (mirror_term t ≡ n)
 shape_out : (t : Term) → shape (out-Term t) ≡ mirror_term t
 shape_out t = sym (shape_is (out-Term t)) ∙ ap mirror_term (roll-out-Term t)
 
--- a leaf other than a character stays members it is
+-- a leaf other than a character stays as it is
 kept : (x : Layer) (n : Node) → shape x ≡ n → Made n
 kept x n e = (roll-Term x, shape_is x ∙ e)
 
@@ -95,7 +94,7 @@ abbrev MadeTerms : Nodes → Type 0
 MadeTerms ns = (ts : List Term) × (nodes (map mirror_term ts) ≡ ns)
 
 abbrev MadeAlternatives : Alternatives → Type 0
-MadeAlternatives more = (members : List Alternative) × (alternatives (map mirror_alternative members) ≡ more)
+MadeAlternatives more = (parts : List Alternative) × (alternatives (map mirror_alternative parts) ≡ more)
 
 body_made : (d : Span) (more : Alternatives) → MadeAlternatives more → MadeBody d more
 body_made d more made = (roll-Disjunction (record { span = d; body = made.0 }), equations.disjunction_roll _ ∙ ap (λ rest. (d, rest)) made.1)
@@ -125,7 +124,7 @@ look_made b d more made =
     (term.LookAroundAssertion box, equations.look_term_is box ∙ equations.look_roll x ∙ ap (λ c. group h.span (tree.looking h.kind) c.0 c.1) made.1)
 
 -- What is made of the alternatives in a group is made of the group.
-module _ (s d : Span) (o : tree.Opener) (more new : Alternatives) (make : (members : List Alternative) → alternatives (map mirror_alternative members) ≡ more → MadeAlternatives new) where
+module _ (s d : Span) (o : tree.Opener) (more new : Alternatives) (make : (parts : List Alternative) → alternatives (map mirror_alternative parts) ≡ more → MadeAlternatives new) where
   inside : (body : Disjunction) → (mirror_disjunction body).1 ≡ more → MadeBody d new
   inside body e = body_made d new (make (out-Disjunction body).body (sym (ap (λ c. c.1) (equations.disjunction_is body)) ∙ e))
 
@@ -161,7 +160,7 @@ alternative_made s ns more made rest =
     let a = roll-Alternative (record { span = s; body = made.0 }) in (
       a ∷ rest.0,
       ap (λ it. alternative it.0 it.1 (alternatives (map mirror_alternative rest.0))) (equations.alternative_roll _ ∙ ap (λ ns. (s, ns)) made.1)
-      ∙ ap (λ more. alternative s ns more) rest.1,
+          ∙ ap (λ more. alternative s ns more) rest.1,
     )
 
 term_made : (n : Node) (ns : Nodes) → Made n → MadeTerms ns → MadeTerms (node n ns)
@@ -176,7 +175,7 @@ mutual
   node_made : (n : Node) (t : Term) → mirror_term t ≡ n → Made (again_node n)
   node_made (leaf l) t e = leaf_made (out-Term t) l (shape_out t ∙ e)
   node_made (quantified s min max greedy n) t e = quantified_made s min max greedy n (again_node n) (λ t e. node_made n t e) (out-Term t) (shape_out t ∙ e)
-  node_made (group s o d more) t e = group_made s d o more (again_alternatives more) (λ members e. alternatives_made more members e) (out-Term t) (shape_out t ∙ e)
+  node_made (group s o d more) t e = group_made s d o more (again_alternatives more) (λ parts e. alternatives_made more parts e) (out-Term t) (shape_out t ∙ e)
 
   nodes_made : (ns : Nodes) (ts : List Term) → nodes (map mirror_term ts) ≡ ns → MadeTerms (again_nodes ns)
   nodes_made no_node ts e = ([], refl)
@@ -184,13 +183,13 @@ mutual
   nodes_made (node n ns) (t ∷ ts) e =
       term_made (again_node n) (again_nodes ns) (node_made n t (let f : mirror_term t ≡ n = cc e in f)) (nodes_made ns ts (let f : nodes (map mirror_term ts) ≡ ns = cc e in f))
 
-  alternatives_made : (more : Alternatives) (members : List Alternative) → alternatives (map mirror_alternative members) ≡ more → MadeAlternatives (again_alternatives more)
-  alternatives_made no_alternative members e = ([], refl)
+  alternatives_made : (more : Alternatives) (parts : List Alternative) → alternatives (map mirror_alternative parts) ≡ more → MadeAlternatives (again_alternatives more)
+  alternatives_made no_alternative parts e = ([], refl)
   alternatives_made (alternative s ns more) [] e = absurd (let f : ⊥ = cc e in f)
-  alternatives_made (alternative s ns more) (a ∷ members) e =
+  alternatives_made (alternative s ns more) (a ∷ parts) e =
       alternative_made s (again_nodes ns) (again_alternatives more)
-      (nodes_made ns a.body (its_terms a s ns more (alternatives (map mirror_alternative members)) e))
-      (alternatives_made more members (let f : alternatives (map mirror_alternative members) ≡ more = cc e in f))
+      (nodes_made ns a.body (its_terms a s ns more (alternatives (map mirror_alternative parts)) e))
+      (alternatives_made more parts (let f : alternatives (map mirror_alternative parts) ≡ more = cc e in f))
 
 -- a disjunction with the alternatives of another, read again
 pub disjunction_made : (d : Disjunction) → (again : Disjunction) × (mirror_disjunction again ≡ ((mirror_disjunction d).0, again_alternatives (mirror_disjunction d).1))

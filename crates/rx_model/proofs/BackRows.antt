@@ -1,6 +1,5 @@
 -- The canonical text of the known tokens of a pattern is a row of them, but for the kinds of characters.
-use Rattle.std.proofs.Common.{◌≡◌, ◌≢◌, ℕ, ◌^◌, ◌<◌, ◌≤◌, Bool, true, false, ◌==◌, ◌&&◌, ◌||◌, nat_lt, Option, Some, None, List, [], ◌∷◌, ◌++◌, map, length, refl, sym, ap, ◌∙◌, subst, arith, append_assoc}
-use Rattle.std.proofs.lemmas.List.{append-nil}
+use Rattle.std.proofs.Common.{◌≡◌, ◌≢◌, ℕ, ◌<◌, ◌≤◌, Bool, true, false, ◌==◌, ◌&&◌, ◌||◌, nat_lt, Option, Some, None, List, [], ◌∷◌, ◌++◌, map, length, refl, sym, ap, ◌∙◌, subst, arith}
 use Rattle.std.specs.List.{All}
 use Rattle.std.specs.Fmt.{decimal}
 use Rattle.std.proofs.lemmas.Bool.{cond_both, eqb-true}
@@ -12,8 +11,7 @@ use Rattle.rx_ast.specs.declared.leaf.BoundaryAssertionKind.TheVariants as bound
 use Rattle.rx_ast.specs.declared.leaf.CharacterClassEscapeKind.{CharacterClassEscapeKind}
 use Rattle.rx_ast.specs.declared.leaf.CharacterClassEscapeKind.TheVariants.{D, NegativeD, S, NegativeS, W, NegativeW}
 use Rattle.rx_tables.specs.Characters.{is_within, is_syntax_character}
-use Rattle.rx_units.specs.declared.code_point.CodePoint.{CodePoint}
-use Rattle.rx_units.specs.Units.{literal_units, values}
+use Rattle.rx_units.specs.Units.{literal_units}
 use Rattle.rx_model.specs.declared.mode.Mode.TheVariants.{Unicode}
 use Rattle.rx_model.specs.Boundaries.{boundary_text}
 use Rattle.rx_model.specs.CharacterText.{two_digits, four_digits, braced, outside, character_text}
@@ -28,8 +26,8 @@ use Rattle.rx_model.specs.Spelling.{counts_text, lazy_text}
 use Rattle.rx_model.specs.Token.{Token, Opener, boundary, character, dot, class_escape, property, class, indexed, named, opener, closer, bar, quantifier}
 use Rattle.rx_model.proofs.Backs.{spelled_kind, values_literal, units-append, character_spelled, are_digits}
 use Rattle.rx_model.proofs.Decodings.{both}
-use Rattle.rx_model.proofs.OneLines.{Known, AreKnown, no_reference}
-use Rattle.rx_model.proofs.TokenTexts.{token_text, token_refers, tokens_text}
+use Rattle.rx_model.proofs.Known.{Known, AreKnown, no_reference}
+use Rattle.rx_model.proofs.TokenTexts.{token_text, tokens_text}
 
 -- the token that the canonical text is read as
 abbrev pub again_token : Token → Token
@@ -63,7 +61,7 @@ counts_spelled min (Some max) h k =
     let P : List ℕ → Type 0 = SpellsCounts min (Some max) in
     cond_both (min == 0 && max == 1) _ _ P
     (λ e. let p = both (min == 0) (max == 1) e in
-        subst (λ n. SpellsCounts n (Some max) (63 ∷ [])) (sym (eqb-true min 0 p.0)) (subst (λ n. SpellsCounts 0 (Some n) (63 ∷ [])) (sym (eqb-true max 1 p.1)) optional))
+    subst (λ n. SpellsCounts n (Some max) (63 ∷ [])) (sym (eqb-true min 0 p.0)) (subst (λ n. SpellsCounts 0 (Some n) (63 ∷ [])) (sym (eqb-true max 1 p.1)) optional))
     (λ _. cond_both (min == max) _ _ P
     (λ e. subst (λ n. SpellsCounts min (Some n) (123 ∷ (decimal min ++ (125 ∷ [])))) (eqb-true min max e) (braces (exactly (decimal min) (decimal_digits min h))))
     (λ _. braces (between (decimal min) (decimal max) (decimal_digits min h) (decimal_digits max k.1))))
@@ -180,7 +178,7 @@ module _ (e : Environment) (m : e.mode ≡ Unicode) (count : ℕ) (names : List 
       let more = tokens_text Unicode false ts in
       let u = units-append at text more in
       let whole : literal_units true at (tokens_text Unicode false (t ∷ ts)) ≡ literal_units true at text ++ literal_units true u.0 more =
-          ap (λ flag. literal_units true at (text ++ tokens_text Unicode flag ts)) (no_reference e count names t k) ∙ u.1 in
+      ap (λ flag. literal_units true at (text ++ tokens_text Unicode flag ts)) (no_reference e t k) ∙ u.1 in
       (literal_units true at text, literal_units true u.0 more, whole, token_again t k h more f at u.0, again u.0)
 
   pub tokens_again : (ts : List Token) (open_groups : List Opener) (ready : Bool) (end : List Opener × Bool) → run Unicode ts open_groups ready ≡ Some end →

@@ -1,23 +1,18 @@
 -- The canonical text of known tokens is a row of them, but for the kinds of characters.
-use Rattle.std.proofs.Common.{◌≡◌, ◌≢◌, ℕ, suc, zero, ◌+◌, ◌*◌, ◌-◌, ◌/◌, ◌%◌, ◌<◌, ◌≤◌, Bool, true, false, not, ◌==◌, ◌&&◌, ◌||◌, nat_lt, cond, Option, Some, None, option_and_then, List, [], ◌∷◌, ◌++◌, map, refl, sym, ap, ◌∙◌, subst, arith, inl, inr}
-use Rattle.std.specs.List.{All}
+use Rattle.std.proofs.Common.{◌≡◌, ◌≢◌, ℕ, suc, zero, ◌+◌, ◌*◌, ◌-◌, ◌/◌, ◌%◌, ◌<◌, ◌≤◌, Bool, true, false, not, ◌==◌, ◌||◌, nat_lt, cond, Some, None, option_and_then, List, [], ◌∷◌, ◌++◌, refl, sym, ap, ◌∙◌, subst, arith, inl, inr}
 use Rattle.std.specs.Char.{digit_value, len_utf8}
-use Rattle.std.specs.Fmt.{decimal}
 use Rattle.std.specs.Int.{IsInRange}
 use Rattle.std.specs.Str.Parse.{AllDigits, digits_value_after}
-use Rattle.std.proofs.lemmas.Bool.{cond_both, cond-true, eqb-true}
+use Rattle.std.proofs.lemmas.Bool.{cond_both, cond-true}
 use Rattle.std.proofs.lemmas.Bool.Decides.{nat_tests}
-use Rattle.std.proofs.lemmas.Fmt.{decimal_is_IsNumeral, decimal_nonempty}
 use Rattle.std.proofs.lemmas.Option.{option_and_then_some}
 use Rattle.std.proofs.lemmas.Str.{digit_value_digit}
 use Rattle.std.proofs.lemmas.Str.Parse.{digit_from_value}
-use Rattle.std.proofs.lemmas.List.Elements.{All-head, All-tail}
 use Rattle.rx_base.specs.SurrogatePair.{IsLeadSurrogate}
 use Rattle.rx_ast.specs.declared.leaf.CharacterKind.{CharacterKind}
 use Rattle.rx_ast.specs.declared.leaf.CharacterKind.TheVariants as kinds
 use Rattle.rx_tables.specs.Characters.{is_within, is_syntax_character, is_decimal_digit, hex_digit, hex_digit_value, control_escape_value}
 use Rattle.rx_tables.proofs.Digits.{hex_digit_value-hex_digit}
-use Rattle.rx_units.specs.declared.code_point.CodePoint.{CodePoint}
 use Rattle.rx_units.specs.declared.code_point.EscapeKind.TheVariants as escape
 use Rattle.rx_units.specs.Units.{unit, literal_units, values}
 use Rattle.rx_model.specs.declared.mode.Mode.TheVariants.{Unicode}
@@ -26,7 +21,7 @@ use Rattle.rx_model.specs.Environment.{Environment, is_unicode}
 use Rattle.rx_model.specs.Escapes.{SpellsEscape, control, hexadecimal, unicode, identity}
 use Rattle.rx_model.specs.Quantifiers.{decimal_digit_value, decimal_behind, AreDigits}
 use Rattle.rx_model.specs.Rows.{Spells, stands_raw}
-use Rattle.rx_model.specs.Token.{Token, character}
+use Rattle.rx_model.specs.Token.{character}
 use Rattle.rx_model.specs.UnicodeEscapes.{hex_behind, hex_number, SpellsUnicode, alone, BeginsWithTrail}
 use Rattle.rx_model.specs.UnicodeEscapes as in_escape
 use Rattle.rx_model.proofs.Choices.{choose_both}

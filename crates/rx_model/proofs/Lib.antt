@@ -10,6 +10,7 @@ pub mod Escapes
 pub mod Flat
 pub mod Fronts
 pub mod Joins
+pub mod Known
 pub mod OneLines
 pub mod OneRow
 pub mod Quantifiers

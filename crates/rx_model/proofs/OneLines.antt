@@ -1,5 +1,5 @@
 -- The canonical spelling stands in one line.
-use Rattle.std.proofs.Common.{◌≡◌, ◌≢◌, subst, ℕ, suc, zero, ◌+◌, ◌/◌, ◌%◌, ◌<◌, ◌≤◌, Bool, true, false, not, ◌==◌, ◌&&◌, ◌||◌, nat_lt, cond, Option, Some, None, List, [], ◌∷◌, ◌++◌, length, refl, sym, ap, ◌∙◌, arith, codes}
+use Rattle.std.proofs.Common.{◌≡◌, ◌≢◌, subst, ℕ, suc, zero, ◌/◌, ◌%◌, ◌<◌, ◌≤◌, Bool, true, false, not, ◌==◌, ◌&&◌, ◌||◌, nat_lt, cond, Option, Some, None, List, [], ◌∷◌, ◌++◌, refl, sym, ◌∙◌, arith}
 use Rattle.std.specs.List.{list_all, All}
 use Rattle.std.specs.Char.{digit_value}
 use Rattle.std.specs.Fmt.{decimal}
@@ -19,7 +19,7 @@ use Rattle.rx_ast.specs.Forget.{bare}
 use Rattle.rx_tables.specs.Characters.{is_within, is_syntax_character, hex_digit}
 use Rattle.rx_units.specs.declared.code_point.CodePoint.{CodePoint}
 use Rattle.rx_model.specs.declared.mode.Mode.TheVariants.{Unicode}
-use Rattle.rx_model.specs.Boundaries.{boundary_text, has_boundary}
+use Rattle.rx_model.specs.Boundaries.{boundary_text}
 use Rattle.rx_model.specs.CharacterText.{control_letter, two_digits, four_digits, hex, braced, outside, character_text}
 use Rattle.rx_model.specs.ClassText.{class_escape_text}
 use Rattle.rx_model.specs.Early.{Obeys, greatest_count, IsGreatest}
@@ -28,11 +28,11 @@ use Rattle.rx_model.specs.Events.{tokens}
 use Rattle.rx_model.specs.Names.{groups, names}
 use Rattle.rx_model.specs.OneLine.{ends_column, IsOneLine}
 use Rattle.rx_model.specs.Reading.{Reads}
-use Rattle.rx_model.specs.Rows.{Spells, TokenRow}
 use Rattle.rx_model.specs.Spelling.{counts_text, lazy_text, quantifier_text, spelling}
 use Rattle.rx_model.specs.Token.{Token, boundary, character, dot, class_escape, property, class, indexed, named, opener, closer, bar, quantifier}
 use Rattle.rx_model.proofs.TokenTexts.{token_text, token_refers, tokens_text, spelled_by_tokens}
 use Rattle.rx_model.proofs.Decodings.{both}
+use Rattle.rx_model.proofs.Known.{Known, AreKnown, are_known, no_reference, has_tokens}
 
 abbrev stays : ℕ → Bool
 stays c = not (ends_column c)
@@ -182,43 +182,6 @@ no_end : (b : Bool) → not b ≡ true → b ≡ false
 no_end true h = absurd (let k : ⊥ = cc h in k)
 no_end false h = refl
 
--- What is known of a token that some units spell in an environment: it is one that is read today.
-abbrev pub Known : Environment → Token → Type 0
-Known e (boundary kind) = has_boundary e kind ≡ true
-Known e (character kind value) = Unit {0}
-Known e dot = Unit {0}
-Known e (class_escape kind) = Unit {0}
-Known e (property negative strings name value) = ⊥
-Known e (class c) = ⊥
-Known e (indexed n) = ⊥
-Known e (named name) = ⊥
-Known e (opener o) = ⊥
-Known e closer = ⊥
-Known e bar = Unit {0}
-Known e (quantifier min max greedy) = Unit {0}
-
-abbrev pub AreKnown : Environment → List Token → Type 0
-AreKnown e [] = Unit {0}
-AreKnown e (t ∷ ts) = Known e t × AreKnown e ts
-
-known : (e : Environment) (t : Token) (w rest : List CodePoint) → Spells e t w rest → Known e t
-known e (boundary kind) w rest s = s.there
-known e (character kind value) w rest s = tt
-known e dot w rest s = tt
-known e (class_escape kind) w rest s = tt
-known e (property negative strings name value) w rest s = s
-known e (class c) w rest s = s
-known e (indexed n) w rest s = s
-known e (named name) w rest s = s
-known e (opener o) w rest s = s
-known e closer w rest s = s
-known e bar w rest s = tt
-known e (quantifier min max greedy) w rest s = tt
-
-pub are_known : (e : Environment) (ts : List Token) (us rest : List CodePoint) → TokenRow e ts us rest → AreKnown e ts
-are_known e [] us rest r = tt
-are_known e (t ∷ ts) us rest r = (known e t r.0 r.1 r.3, are_known e ts r.1 rest r.4)
-
 module _ (e : Environment) (count : ℕ) (names : List (List ℕ)) where
   token_stays : (t : Token) → Known e t → Obeys count names t → Stays (token_text Unicode false t)
   token_stays (boundary kind) k h = boundary_stays kind
@@ -234,24 +197,10 @@ module _ (e : Environment) (count : ℕ) (names : List (List ℕ)) where
   token_stays bar k h = refl
   token_stays (quantifier min max greedy) k h = quantifier_stays min max greedy h.0 h.1
 
-  pub no_reference : (t : Token) → Known e t → token_refers t ≡ false
-  no_reference (boundary kind) k = refl
-  no_reference (character kind value) k = refl
-  no_reference dot k = refl
-  no_reference (class_escape kind) k = refl
-  no_reference (property negative strings name value) k = refl
-  no_reference (class c) k = refl
-  no_reference (indexed n) k = absurd k
-  no_reference (named name) k = refl
-  no_reference (opener o) k = refl
-  no_reference closer k = refl
-  no_reference bar k = refl
-  no_reference (quantifier min max greedy) k = refl
-
   tokens_stay : (ts : List Token) → AreKnown e ts → All (Obeys count names) ts → Stays (tokens_text Unicode false ts)
   tokens_stay [] k h = refl
   tokens_stay (t ∷ ts) k h =
-      rw (no_reference t k.0)
+      rw (no_reference e t k.0)
       (stays-append (token_text Unicode false t) (tokens_text Unicode false ts)
       (token_stays t k.0 (All-head (Obeys count names) t ts h)) (tokens_stay ts k.1 (All-tail (Obeys count names) t ts h)))
 
@@ -277,11 +226,6 @@ module _ (e : Environment) (count : ℕ) (names : List (List ℕ)) where
 all_stay : (text : List ℕ) → Stays text → All (λ c. ends_column c ≡ false) text
 all_stay [] h = All-nil (λ c. ends_column c ≡ false)
 all_stay (c ∷ text) h = let k = both (stays c) (list_all stays text) h in All-cons (λ c. ends_column c ≡ false) c text (no_end (ends_column c) k.0) (all_stay text k.1)
-
--- the pattern of some units has tokens
-pub has_tokens : (e : Environment) (ts : List Token) (us : List CodePoint) → TokenRow e ts us [] → us ≢ [] → ts ≢ []
-has_tokens e [] us r h = absurd (h r)
-has_tokens e (t ∷ ts) us r h = λ k. cc
 
 pub spelled_in_one_line : (p : Pattern) (us : List CodePoint) → Reads Unicode p us → us ≢ [] → IsOneLine (spelling (bare p) Unicode)
 spelled_in_one_line p us r h =

@@ -2,10 +2,9 @@
 use Rattle.std.proofs.Common.{◌≡◌, ◌≢◌, ℕ, ◌≤◌, true, false, refl, ap, sym, ◌∙◌, subst, List, [], ◌∷◌, map}
 use Rattle.std.specs.List.{All}
 use Rattle.std.proofs.lemmas.List.Elements.{All-map, All-weaker}
-use Rattle.rx_base.specs.declared.span.Span.{Span}
 use Rattle.rx_ast.specs.declared.term.Pattern.{Pattern}
 use Rattle.rx_ast.specs.Forget.{forget_alternatives, no_kind, bare}
-use Rattle.rx_ast.specs.Tree.{SpannedAlternatives, mirror_disjunction}
+use Rattle.rx_ast.specs.Tree.{mirror_disjunction}
 use Rattle.rx_units.specs.declared.code_point.CodePoint.{CodePoint}
 use Rattle.rx_units.specs.Units.{literal_units}
 use Rattle.rx_model.specs.declared.mode.Mode.TheVariants.{Unicode}
@@ -14,7 +13,7 @@ use Rattle.rx_model.specs.Environment.{environment}
 use Rattle.rx_model.specs.Events.{tokens, alternatives_events}
 use Rattle.rx_model.specs.Names.{groups, names, alternatives_groups, alternatives_names, once_behind, AreAlternativesApart}
 use Rattle.rx_model.specs.ReadBack.{IsReadBack}
-use Rattle.rx_model.specs.Reading.{Reads, IsSpelled, literal_text, units_of}
+use Rattle.rx_model.specs.Reading.{Reads, literal_text, units_of}
 use Rattle.rx_model.specs.Rows.{TokenRow}
 use Rattle.rx_model.specs.Shapes.{HasAlternatives, IsWellMade}
 use Rattle.rx_model.specs.Spelling.{spelling}
@@ -23,7 +22,8 @@ use Rattle.rx_model.proofs.Again.{again_alternatives, bare_alternatives, alterna
 use Rattle.rx_model.proofs.AgainTrees.{disjunction_made}
 use Rattle.rx_model.proofs.BackRows.{again_token, tokens_again}
 use Rattle.rx_model.proofs.Flat.{before, tokens_are}
-use Rattle.rx_model.proofs.OneLines.{are_known, has_tokens, some_tokens}
+use Rattle.rx_model.proofs.Known.{are_known, has_tokens}
+use Rattle.rx_model.proofs.OneLines.{some_tokens}
 use Rattle.rx_model.proofs.OneRow.{TokenRow-mode}
 use Rattle.rx_model.proofs.Runs.{pattern_runs}
 use Rattle.rx_model.proofs.TokenTexts.{tokens_text, spelled_by_tokens}
@@ -99,7 +99,7 @@ spelled_is_read_back p us r h =
     let e = environment Unicode p in
     let some = some_tokens e (groups p) (names p) (tokens p) (are_known e (tokens p) us [] r.spelled.row) (has_tokens e (tokens p) us r.spelled.row h) in
     let units : literal_units true 0 (tokens_text Unicode false (tokens p)) ≡ units_of Unicode (spelling (bare p) Unicode) =
-        ap (literal_units true 0) (sym (literal_text_same (tokens_text Unicode false (tokens p)) some)) ∙ ap (units_of Unicode) (sym (spelled_by_tokens Unicode p)) in
+    ap (literal_units true 0) (sym (literal_text_same (tokens_text Unicode false (tokens p)) some)) ∙ ap (units_of Unicode) (sym (spelled_by_tokens Unicode p)) in
     record {
       again = again p;
       same = its_bare p;
