@@ -41,6 +41,15 @@ pub read_already : {T E : Type 0} (result not_yet no_memory : Result T E) (waits
 read_already result not_yet no_memory waits alone is_read is_held =
     false_from_ne_true waits (λ h. elim (alone h) [ inl e ↦ is_read e | inr e ↦ is_held e ])
 
+-- A text that is refused is no text that is read.
+pub refused_not_read : {T : Type 0} (result : Result T Fault) (cause : Diagnostic) → result ≡ Err (fault.Diagnostic cause)
+    → IfErr result (λ other. (other ≡ fault.OutOfMemory) ⊎ (other ≡ fault.NotYet)) → ⊥
+refused_not_read result cause is alone =
+    elim (subst (λ answer. IfErr answer (λ other. (other ≡ fault.OutOfMemory) ⊎ (other ≡ fault.NotYet))) is alone) [
+      | inl e ↦ cc e
+      | inr e ↦ cc e
+    ]
+
 -- a line past the limit has exactly the reply `bad`
 long_is_bad : (line : List ℕ) → 1048576 < length line → IsReply line bad_reply
 long_is_bad line long = bad (λ request is. let short : length line ≤ 1048576 = is.within in omega arith)

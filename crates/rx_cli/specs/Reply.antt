@@ -7,7 +7,7 @@ use Rattle.rx_ast.specs.declared.term.Pattern.{Pattern}
 use Rattle.rx_ast.specs.Forget.{bare}
 use Rattle.rx_model.specs.declared.mode.Mode.{Mode}
 use Rattle.rx_model.specs.declared.mode.Mode.TheVariants.{Legacy, Unicode, Sets}
-use Rattle.rx_model.specs.FlagCauses.{IsFlagCause}
+use Rattle.rx_parser.specs.Literals.{IsLiteralCause}
 use Rattle.rx_model.specs.Flags.{flags_of, flags_ok, flag_units, mode_of}
 use Rattle.rx_model.specs.Reading.{Reads, units_of}
 use Rattle.rx_model.specs.Spelling.{spelling}
@@ -43,14 +43,15 @@ pub record IsReadAs (request : Request) (pattern : Pattern) : Type 0 where
   pub flags_are : flags_ok (flags_of request.flags) ≡ true
   pub reads : Reads (mode_asked request) pattern (units_of (mode_asked request) request.text)
 
--- The reply to a line: there is no request in it, or one that is not read yet, or one that is read, or one whose flags are refused.
+-- The reply to a line: there is no request in it, or one that is not read yet, or one that is read, or one that is refused for its flags or its text and
+-- that no pattern is read from.
 pub data IsReply (line : List ℕ) : List ℕ → Type 0 where
   bad : ((request : Request) → ¬ IsRequest line request) → IsReply line bad_reply
   later : (request : Request) → IsRequest line request → is_not_yet request.form request.text request.flags ≡ true → IsReply line later_reply
   ok : (request : Request) (pattern : Pattern) → IsRequest line request → is_not_yet request.form request.text request.flags ≡ false
       → IsReadAs request pattern → IsReply line (ok_reply (mode_asked request) (spelling (bare pattern) (mode_asked request)))
   err : (request : Request) (cause : Diagnostic) → IsRequest line request → is_not_yet request.form request.text request.flags ≡ false
-      → IsFlagCause (flag_units (flags_of request.flags)) 0 0 cause → IsReply line (err_reply cause)
+      → ((pattern : Pattern) → IsReadAs request pattern → ⊥) → IsLiteralCause request.text (flags_of request.flags) 0 0 cause → IsReply line (err_reply cause)
 
 -- a reply that says `ok`
 abbrev pub begins_ok : List ℕ → Bool

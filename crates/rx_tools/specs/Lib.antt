@@ -1,7 +1,4 @@
 pub mod Characters
-pub mod Faults
-pub mod Flat
-pub mod Levels
 pub mod NotYet
 pub mod Steps
 pub mod Tasks

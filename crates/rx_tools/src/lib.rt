@@ -3,9 +3,6 @@
 
 mod character;
 mod class;
-mod flat;
-mod level;
-mod options;
 mod outcome;
 mod printing;
 mod property;
@@ -16,8 +13,8 @@ mod task;
 mod term;
 mod write;
 
-pub use options::Options;
 pub use outcome::Canonical;
 pub use printing::canonical_text;
 pub use reading::canonical;
 pub use rx_model::{Form, Mode};
+pub use rx_parser::Options;

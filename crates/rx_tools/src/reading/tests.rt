@@ -1,6 +1,6 @@
 use super::canonical;
 use crate::{Canonical, Form, Mode, Options, canonical_text};
-use rx_ast::Term;
+use rx_ast::{CharacterKind, Term};
 use rx_base::{Diagnostic, Fault, GetSpan, Span};
 use std::alloc::Global;
 use std::test::Fail;
@@ -22,15 +22,9 @@ fn texts(rt: HostRuntime) -> Result<(), Fail> {
     let rows = [
         ("a.b|c", "a.b|c"),
         ("a/b", "a\\/b"),
-        ("a||b", "a||b"),
-        ("a|.", "a|."),
-        ("|", "|"),
-        (".", "."),
-        ("-", "-"),
-        ("a\tb\nc\rd", "a\\tb\\nc\\rd"),
-        ("\u{0}\u{1f}\u{7f}\u{9f}", "\\x00\\x1F\\x7F\\x9F"),
-        ("\u{2028}\u{2029}", "\\u2028\\u2029"),
-        ("é漢\u{1F600}", "é漢\u{1F600}"),
+        ("\\x41B", "AB"),
+        ("\\uD83D\\uDE00", "\u{1F600}"),
+        ("a{0,1}", "a?"),
     ];
     for (pattern, text) in rows {
         let it = read(rt.alloc(), pattern, 7).ok().ok_or("refused")?;
@@ -74,12 +68,45 @@ fn spans(rt: HostRuntime) -> Result<(), Fail> {
 }
 
 #[test]
+fn escapes(rt: HostRuntime) -> Result<(), Fail> {
+    let rows = [
+        ("\\x41B", CharacterKind::HexadecimalEscape, 0x41, 4),
+        ("B", CharacterKind::Symbol, 0x42, 1),
+        ("\\uD83D\\uDE00", CharacterKind::UnicodeEscape, 0x1F600, 12),
+        (
+            "\\u{D83D}\\u{DE00}",
+            CharacterKind::UnicodeEscape,
+            0xD83D,
+            8,
+        ),
+        ("\\0", CharacterKind::Null, 0, 2),
+        ("\\cA", CharacterKind::ControlLetter, 1, 3),
+        ("\\/", CharacterKind::Identifier, 0x2F, 2),
+        ("\\n", CharacterKind::SingleEscape, 0xA, 2),
+    ];
+    for (pattern, kind, value, end) in rows {
+        let it = read(rt.alloc(), pattern, 0).ok().ok_or("refused")?;
+        match it.pattern.body.body.as_slice() {
+            [alternative] => match alternative.body.as_slice() {
+                [Term::Character(it), ..] => {
+                    assert_eq!(rt; (it.kind, it.value), (kind, value), "{pattern}");
+                    assert_eq!(rt; it.span, Span::new(0, end), "{pattern}");
+                }
+                _ => return Err(Fail::from("no character")),
+            },
+            _ => return Err(Fail::from("bars")),
+        }
+    }
+    Ok(())
+}
+
+#[test]
 fn not_yet(rt: HostRuntime) -> Result<(), Fail> {
     let rows = [
         (Form::Literal, "", Some("u")),
         (Form::Literal, "(a)", Some("u")),
-        (Form::Literal, "a*", Some("iu")),
-        (Form::Literal, "\\", Some("u")),
+        (Form::Literal, "[a]", Some("iu")),
+        (Form::Literal, "\\1", Some("u")),
         (Form::Literal, "a", None),
         (Form::Literal, "a", Some("")),
         (Form::Literal, "a", Some("gi")),

@@ -4,13 +4,13 @@ use Rattle.std.proofs.lemmas.Bool.{and_right}
 use Rattle.std.proofs.lemmas.Result.{on_ok_weaker}
 use Rattle.std.proofs.Math.Bool.{and-true}
 use Rattle.rx_base.specs.declared.fault.Fault.TheVariants as fault
-use Rattle.rx_model.specs.FlagCauses.{IsFlagCause}
-use Rattle.rx_model.specs.Flags.{flags_of, flag_units}
+use Rattle.rx_ast.specs.declared.term.Pattern.{Pattern}
+use Rattle.rx_model.specs.Flags.{flags_of}
 use Rattle.rx_tools.specs.NotYet.{is_not_yet}
-use Rattle.rx_tools.specs.Texts.{flags_chars}
+use Rattle.rx_parser.specs.Literals.{IsLiteralCause, flags_chars}
 use Rattle.rx_cli.specs.Request.{Request}
-use Rattle.rx_cli.specs.Reply.{bad, later, err, bad_reply, later_reply, ok_reply, err_reply}
-use Rattle.rx_cli.proofs.Answering.{ok_reply_is, read_already}
+use Rattle.rx_cli.specs.Reply.{IsReadAs, bad, later, err, bad_reply, later_reply, ok_reply, err_reply}
+use Rattle.rx_cli.proofs.Answering.{ok_reply_is, read_already, refused_not_read}
 use Rattle.rx_cli.proofs.replies.Replies.add.Goals as goal
 
 -- a refusal turns the flag
@@ -44,10 +44,12 @@ returns-in-Err-Diagnostic c =
     let is : c.canonical.result ≡ Err (fault.Diagnostic cause) = c.in-Err-Diagnostic.is ∙ ap Err c.in-Err-Diagnostic.field-0-is in
     let read : is_not_yet request.form request.text request.flags ≡ false =
     read_already _ _ _ _ c.canonical.ensures.later (λ e. let e' = sym is ∙ e in cc) (λ e. let e' = sym is ∙ e in cc) in
-    let P : ℕ → Type 0 = λ n. IsFlagCause (flag_units (flags_of request.flags)) 0 n cause in
-    let refused : P 0 = subst P (search rules) (c.canonical.ensures.refused cause is) in
+    let P : ℕ → ℕ → Type 0 = λ m n. IsLiteralCause request.text (flags_of request.flags) m n cause in
+    let refused : P 0 0 = c.canonical.ensures.refused cause is in
+    let none : (pattern : Pattern) → IsReadAs request pattern → ⊥ = λ pattern r.
+    refused_not_read _ cause is (c.canonical.ensures.complete (record { flags_are = r.flags_are; pattern = pattern; reads = r.reads })) in
     let add = c.add_err in
-    on_ok_weaker add.result (λ added. (err_reply cause, err request cause c.in-Some.ensures.asked read refused, added, turned add.new.self.all_ok c.args.self.now.all_ok add.ensures.all_ok)) add.ensures.bytes
+    on_ok_weaker add.result (λ added. (err_reply cause, err request cause c.in-Some.ensures.asked read none refused, added, turned add.new.self.all_ok c.args.self.now.all_ok add.ensures.all_ok)) add.ensures.bytes
 
 pub returns-in-Err-NotYet : goal.returns-in-Err-NotYet
 returns-in-Err-NotYet c =
