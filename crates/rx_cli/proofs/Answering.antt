@@ -1,9 +1,12 @@
 -- What an `ok` reply is made of, and the replies to lines past the limit.
-use Rattle.std.proofs.Common.{◌≡◌, ◌<◌, ◌≤◌, refl, sym, ap, ◌∙◌, subst, inl, inr, ◌⊎◌, ℕ, Bool, true, false, Result, List, ◌++◌, append_assoc, codes, encode_utf8_all, length, arith}
+use Rattle.std.proofs.Common.{◌≡◌, ◌<◌, ◌≤◌, refl, sym, ap, ◌∙◌, subst, inl, inr, ◌⊎◌, ℕ, Bool, true, false, Result, Err, IfErr, List, ◌++◌, append_assoc, codes, encode_utf8_all, length, arith}
 use Rattle.std.specs.Str.{chars, IsUtf8}
 use Rattle.std.proofs.lemmas.Bool.{cases_lt, false_from_ne_true}
 use Rattle.std.proofs.lemmas.List.{take_all, length-take-le}
 use Rattle.std.proofs.lemmas.Str.{encodes-chars}
+use Rattle.rx_base.specs.declared.diagnostic.Diagnostic.{Diagnostic}
+use Rattle.rx_base.specs.declared.fault.Fault.{Fault}
+use Rattle.rx_base.specs.declared.fault.Fault.TheVariants as fault
 use Rattle.rx_ast.specs.declared.term.Pattern.{Pattern}
 use Rattle.rx_ast.specs.Forget.{bare}
 use Rattle.rx_model.specs.declared.mode.Mode.{Mode}
@@ -58,7 +61,7 @@ bad_if_long : (line reply : List ℕ) → 1048576 < length line → IsReply line
 bad_if_long line reply long (bad none) = refl
 bad_if_long line reply long (later request asked not_yet) = absurd (let short : length line ≤ 1048576 = asked.within in omega arith)
 bad_if_long line reply long (ok request pattern asked read is_read) = absurd (let short : length line ≤ 1048576 = asked.within in omega arith)
-bad_if_long line reply long (err request cause asked read is_cause) = absurd (let short : length line ≤ 1048576 = asked.within in omega arith)
+bad_if_long line reply long (err request cause asked read none is_cause) = absurd (let short : length line ≤ 1048576 = asked.within in omega arith)
 
 long_alike : (line line' reply : List ℕ) → 1048576 < length line → 1048576 < length line' → IsReply line reply → IsReply line' reply
 long_alike line line' reply long long' is =

@@ -7,10 +7,10 @@ use Rattle.rx_ast.specs.declared.term.Pattern.{Pattern}
 use Rattle.rx_ast.specs.Forget.{bare}
 use Rattle.rx_model.specs.declared.mode.Mode.{Mode}
 use Rattle.rx_model.specs.declared.mode.Mode.TheVariants.{Legacy, Unicode, Sets}
-use Rattle.rx_parser.specs.Literals.{IsLiteralCause}
-use Rattle.rx_model.specs.Flags.{flags_of, flags_ok, flag_units, mode_of}
+use Rattle.rx_model.specs.Flags.{flags_of, flags_ok, mode_of}
 use Rattle.rx_model.specs.Reading.{Reads, units_of}
 use Rattle.rx_model.specs.Spelling.{spelling}
+use Rattle.rx_parser.specs.Literals.{IsLiteralCause}
 use Rattle.rx_tools.specs.NotYet.{is_not_yet}
 use Rattle.rx_cli.specs.Request.{Request, IsRequest}
 use Rattle.rx_cli.specs.Spans.{spans_text}
