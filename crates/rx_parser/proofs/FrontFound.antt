@@ -1,13 +1,11 @@
 -- What stands at the front of a text, by what its readers find.
-use Rattle.std.proofs.Common.{◌≡◌, refl, sym, ap, ◌∙◌, subst, ℕ, zero, suc, ◌+◌, ◌-◌, ◌<◌, ◌≤◌, Bool, true, false, not, ◌==◌, ◌&&◌, ◌||◌, ◌⊎◌, Option, Some, None, List, [], ◌∷◌, ◌++◌, length, take, drop, get_or, codes, arith, inl, inr}
+use Rattle.std.proofs.Common.{◌≡◌, refl, sym, ap, ◌∙◌, subst, ℕ, ◌+◌, ◌-◌, ◌<◌, ◌≤◌, Bool, true, false, not, ◌==◌, ◌&&◌, ◌||◌, ◌⊎◌, Option, Some, None, List, [], ◌∷◌, length, take, drop, get_or, codes, arith, inl, inr}
 use Rattle.std.proofs.lemmas.Bool.{eqb-true, cond-true, cond-false, cases_Bool, true≢false, false_from_ne_true}
 use Rattle.std.proofs.lemmas.Bool.Decides.{nat_tests}
 use Rattle.std.proofs.lemmas.List.{drop-map, take_all}
 use Rattle.rx_tables.specs.Characters.{is_within, is_syntax_character}
 use Rattle.rx_ast.specs.declared.leaf.BoundaryAssertionKind.{BoundaryAssertionKind}
-use Rattle.rx_ast.specs.declared.leaf.BoundaryAssertionKind.TheVariants as boundaries
 use Rattle.rx_ast.specs.declared.leaf.CharacterClassEscapeKind.{CharacterClassEscapeKind}
-use Rattle.rx_ast.specs.declared.leaf.CharacterKind.{CharacterKind}
 use Rattle.rx_units.specs.declared.code_point.CodePoint.{CodePoint}
 use Rattle.rx_units.specs.Reading as reading
 use Rattle.rx_units.specs.Units.{values}
@@ -19,19 +17,19 @@ use Rattle.rx_model.specs.Causes.{HasBraces, IsOutOfOrder, IsTooLarge}
 use Rattle.rx_model.specs.Early.{Obeys, greatest_count}
 use Rattle.rx_model.specs.Environment.{Environment, is_unicode}
 use Rattle.rx_model.specs.Escapes.{front_is}
-use Rattle.rx_model.specs.Fronts.{front, escape_at, escaped, nothing, too_many, no_unicode, escaped_token, backslash_token, backslash_front, class_escape_at, Counts, counts, no_counts, counts_at, quantifier_token, syntax_front}
-use Rattle.rx_model.specs.Quantifiers.{SpellsCounts, SpellsBraces, star, plus, optional, braces, is_question, PassesLimit}
+use Rattle.rx_model.specs.Fronts.{front, escape_at, nothing, too_many, no_unicode, escaped_token, backslash_token, backslash_front, class_escape_at, counts, no_counts, counts_at, quantifier_token, syntax_front}
+use Rattle.rx_model.specs.Quantifiers.{SpellsCounts, SpellsBraces, star, plus, optional, braces, is_question}
 use Rattle.rx_model.specs.Reached.{text_environment}
 use Rattle.rx_model.specs.Rows.{stands_raw, unit_kind}
 use Rattle.rx_model.specs.Stops.{IsStop, at_end, at_closer, at_bracket, at_brace, behind_backslash, is_one_of}
+use Rattle.rx_model.specs.Token.{Token, boundary, character, class_escape, quantifier}
 use Rattle.rx_model.specs.UnicodeEscapes.{Decodes, PassesHex}
-use Rattle.rx_model.specs.Token.{Token, boundary, character, dot, class_escape, bar, quantifier}
 use Rattle.rx_model.proofs.Escapes.{escape_nothing, escape_too_many, escape_no_unicode}
 use Rattle.rx_model.proofs.Fronts.{front_by_values}
 use Rattle.rx_model.proofs.Quantifiers.{counts_spelled, no_braces}
 use Rattle.rx_model.proofs.Stops.{stop_backslash}
 use Rattle.rx_parser.specs.CountsFound.{IsInLimit}
-use Rattle.rx_parser.specs.Found.{Stands, StandBraces, IsHalt, boundary_front, closes_or_repeats}
+use Rattle.rx_parser.specs.Found.{Stands, IsHalt, boundary_front, closes_or_repeats}
 use Rattle.rx_parser.specs.NotYet.{holds_unread, is_unread, is_unread_escape}
 use Rattle.rx_parser.specs.declared.front.Halt.TheVariants as halt
 use Rattle.rx_parser.proofs.Digits.{chosen}
@@ -58,8 +56,8 @@ first_has P (u ∷ us) d b l h = h
 syntax_of : (c : ℕ) → closes_or_repeats c ≡ true → is_syntax_character c ≡ true
 syntax_of c h = grind (arith, nat_tests)
 
-by_counts : (e : Environment) (c : ℕ) (w : List ℕ) → closes_or_repeats c ≡ true → syntax_front c w ≡ quantifier_token (counts_at (c ∷ w)) (c ∷ w)
-by_counts e c w h =
+by_counts : (c : ℕ) (w : List ℕ) → closes_or_repeats c ≡ true → syntax_front c w ≡ quantifier_token (counts_at (c ∷ w)) (c ∷ w)
+by_counts c w h =
     cond-false (c == 46) _ _ (differs closes_or_repeats c 46 refl h)
     ∙ cond-false (c == 124) _ _ (differs closes_or_repeats c 124 refl h)
     ∙ cond-false (c == 94) _ _ (differs closes_or_repeats c 94 refl h)
@@ -116,7 +114,7 @@ module _ (e : Environment) where
   counts_front (u ∷ us) h =
       front_by_values e (u ∷ us) u.value (values us) (syntax_of u.value h) refl
       ∙ cond-false (u.value == 92) _ _ (differs closes_or_repeats u.value 92 refl h)
-      ∙ by_counts e u.value (values us) h
+      ∙ by_counts u.value (values us) h
 
   pub greedy_front : (us : List CodePoint) (min : ℕ) (max : Option ℕ) (n : ℕ) → front_is closes_or_repeats (values us) ≡ true → counts_at (values us) ≡ counts min max n
       → front_is is_question (values (drop n us)) ≡ false → front e us ≡ Some (quantifier min max true, n)
@@ -160,8 +158,8 @@ module _ (e : Environment) where
   class_there u [] kind h b k = absurd (let no : ⊥ = cc k in no)
   class_there u (v ∷ us) kind h b k = (
     backslash_unit u (v ∷ us) h
-    ∙ ap (λ b. backslash_token b (class_escape_at v.value) (escape_at (is_unicode e.mode) (values (v ∷ us)))) b
-    ∙ ap (λ c. backslash_token None c (escape_at (is_unicode e.mode) (values (v ∷ us)))) k,
+        ∙ ap (λ b. backslash_token b (class_escape_at v.value) (escape_at (is_unicode e.mode) (values (v ∷ us)))) b
+        ∙ ap (λ c. backslash_token None c (escape_at (is_unicode e.mode) (values (v ∷ us)))) k,
     omega arith,
   )
 

@@ -1,8 +1,8 @@
 -- What is found at the front of a text.
 use Rattle.std.specs.Prelude.{◌≡◌, ℕ, ◌+◌, ◌≤◌, Bool, ◌==◌, ◌||◌, Option, Some, None, true, List, [], ◌∷◌, length}
+use Rattle.rx_ast.specs.declared.leaf.BoundaryAssertionKind.{BoundaryAssertionKind}
 use Rattle.rx_units.specs.declared.code_point.CodePoint.{CodePoint}
 use Rattle.rx_units.specs.Units.{values}
-use Rattle.rx_ast.specs.declared.leaf.BoundaryAssertionKind.{BoundaryAssertionKind}
 use Rattle.rx_model.specs.declared.mode.Mode.{Mode}
 use Rattle.rx_model.specs.Causes.{HasBraces, IsOutOfOrder, IsTooLarge}
 use Rattle.rx_model.specs.Early.{Obeys}
@@ -21,6 +21,7 @@ use Rattle.rx_parser.specs.declared.front.Halt.TheVariants as halt
 use Rattle.rx_parser.specs.declared.front.Found.{Found}
 use Rattle.rx_parser.specs.declared.front.Found.TheVariants as found
 
+-- the token that a leaf is
 abbrev pub leaf_token : Leaf → Token
 leaf_token (leaf.Boundary kind) = boundary kind
 leaf_token (leaf.Character kind value) = character kind value

@@ -1,4 +1,4 @@
-ghost use Rattle.std.specs.Prelude.{◌≡◌, ◌==◌, ◌≤◌, ◌<◌, ◌^◌, ◌+◌, ◌↔◌, ◌∷◌, true, false, Some, None, All, IsTrue, drop, length};
+ghost use Rattle.std.specs.Prelude.{◌≡◌, ◌==◌, ◌≤◌, ◌<◌, ◌↔◌, ◌∷◌, true, false, Some, None, All, IsTrue, drop, length};
 ghost use Rattle.rx_units.specs.declared.code_point.CodePoint.{CodePoint};
 ghost use Rattle.rx_units.specs.Reading.{front};
 ghost use Rattle.rx_units.specs.Units.{values};
@@ -55,7 +55,10 @@ pub enum Halt {
 /// What the units begin with.
 #[derive(Clone, Copy, Debug)]
 pub enum Found {
-    Leaf { leaf: Leaf, length: usize },
+    Leaf {
+        leaf: Leaf,
+        length: usize,
+    },
     Bar,
     Quantifier {
         min: u64,

@@ -1,4 +1,4 @@
-use Rattle.std.proofs.Common.{◌≡◌, ◌∙◌, sym}
+use Rattle.std.proofs.Common.{◌∙◌, sym}
 use Rattle.rx_model.specs.Reached.{text_environment}
 use Rattle.rx_parser.proofs.FrontFound.{boundary_there, buffers_there, class_there, ended_backslash}
 use Rattle.rx_parser.proofs.front.backslash_at.Goals as goal

@@ -1,4 +1,4 @@
-use Rattle.std.proofs.Common.{◌≡◌, ◌∙◌, ap, sym, arith}
+use Rattle.std.proofs.Common.{◌∙◌, ap, sym, arith}
 use Rattle.rx_units.specs.Units.{values}
 use Rattle.rx_model.specs.Fronts.{escape_at, escaped_token}
 use Rattle.rx_model.specs.Reached.{text_environment}
