@@ -1,5 +1,5 @@
 -- How many units an escape takes, and which values it has.
-use Rattle.std.proofs.Common.{◌≡◌, ℕ, ◌+◌, ◌==◌, ◌<◌, ◌≤◌, ◌&&◌, Bool, true, false, List, [], ◌∷◌, ◌++◌, length, if◌then◌else◌, Option, Some, None, arith, inl, inr, sym, ap, ◌∙◌, refl, subst, length-append}
+use Rattle.std.proofs.Common.{◌≡◌, ℕ, ◌+◌, ◌==◌, ◌≤◌, ◌&&◌, Bool, true, false, List, [], ◌∷◌, ◌++◌, length, if◌then◌else◌, Option, Some, None, arith, inl, inr, sym, ap, ◌∙◌, refl, length-append}
 use Rattle.std.proofs.lemmas.List.{length-map}
 use Rattle.rx_tables.specs.Characters.{control_escape_value, is_decimal_digit}
 use Rattle.rx_ast.specs.declared.leaf.CharacterKind.{CharacterKind}
@@ -10,7 +10,7 @@ use Rattle.rx_model.specs.declared.mode.Mode.TheVariants.{Legacy, Unicode}
 use Rattle.rx_model.specs.Environment.{Environment, is_unicode}
 use Rattle.rx_model.specs.Decoding.{Decoded, value, invalid, overflow, decoded}
 use Rattle.rx_model.specs.Escapes.{front_is, is_identity_escape}
-use Rattle.rx_model.specs.Fronts.{escape_at, escape_behind, escaped, escaped_if, letter_at, no_unicode, nothing, too_many, two_at, unicode_read}
+use Rattle.rx_model.specs.Fronts.{escape_at, escape_behind, escaped, escaped_if, letter_at, no_unicode, too_many, two_at, unicode_read}
 use Rattle.rx_model.proofs.Decodings.{chosen, overflow_within}
 use Rattle.rx_model.proofs.Escapes.{escape_positive, escape_small, escape_spelled}
 use Rattle.rx_class.specs.Found.{IsWithin, seen_escape}

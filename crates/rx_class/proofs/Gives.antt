@@ -1,11 +1,10 @@
 -- What is read behind a backslash is what is answered.
-use Rattle.std.proofs.Common.{◌≡◌, ℕ, ◌+◌, ◌==◌, ◌≤◌, Bool, true, false, List, [], ◌∷◌, ◌++◌, length, drop, min, Option, Some, None, Ok, Err, arith, sym, ap, ◌∙◌, refl, subst, length-drop}
+use Rattle.std.proofs.Common.{◌≡◌, ℕ, ◌+◌, ◌==◌, ◌≤◌, Bool, true, false, List, [], ◌∷◌, ◌++◌, length, min, Some, None, Ok, Err, arith, sym, ap, ◌∙◌, refl, subst, length-drop}
 use Rattle.std.proofs.lemmas.List.{length-map}
 use Rattle.rx_base.specs.declared.diagnostic.Diagnostic.TheVariants.{TooLargeNumberDigits, InvalidUnicodeEscapeSequence}
 use Rattle.rx_base.specs.declared.diagnostic.kinds.DigitsKind.TheVariants.{Hex}
 use Rattle.rx_base.specs.declared.span.Span.{Span}
 use Rattle.rx_ast.specs.declared.leaf.Character.{Character}
-use Rattle.rx_ast.specs.declared.leaf.CharacterKind.{CharacterKind}
 use Rattle.rx_units.specs.declared.code_point.CodePoint.{CodePoint}
 use Rattle.rx_units.specs.Reading.{Reading, moved, offset_of, rest}
 use Rattle.rx_units.specs.Units.{values}

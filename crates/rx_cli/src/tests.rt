@@ -273,3 +273,5 @@ fn words_are_taken(rt: HostRuntime) -> Result<(), Fail> {
     assert!(rt; matches!(refused, Err(Status::Usage)));
     Ok(())
 }
+
+mod patterns;

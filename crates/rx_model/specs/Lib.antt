@@ -12,8 +12,10 @@ pub mod Flags
 pub mod Fronts
 pub mod Modes
 pub mod Names
+pub mod OneLine
 pub mod Quantifiers
 pub mod Reached
+pub mod ReadBack
 pub mod Reading
 pub mod Rows
 pub mod Shapes

@@ -1,13 +1,17 @@
 //! Laws of the definitions. The functions do nothing: each contract is a law.
 
-ghost use Rattle.std.specs.Prelude.{◌≡◌, List, [], ◌++◌};
-ghost use Rattle.rx_ast.specs.Forget.{unspanned};
+ghost use Rattle.std.specs.Prelude.{◌≡◌, ◌≢◌, List, [], ◌++◌};
+ghost use Rattle.rx_ast.specs.Forget.{bare, unspanned};
 ghost use Rattle.rx_ast.specs.declared.term.Pattern.{Pattern};
 ghost use Rattle.rx_units.specs.declared.code_point.CodePoint.{CodePoint};
 ghost use Rattle.rx_model.specs.declared.mode.Mode.{Mode};
 ghost use Rattle.rx_model.specs.Environment.{Environment};
+ghost use Rattle.rx_model.specs.declared.mode.Mode.TheVariants.{Unicode};
+ghost use Rattle.rx_model.specs.OneLine.{IsOneLine};
+ghost use Rattle.rx_model.specs.ReadBack.{IsReadBack};
 ghost use Rattle.rx_model.specs.Reading.{Reads};
 ghost use Rattle.rx_model.specs.Rows.{TokenRow};
+ghost use Rattle.rx_model.specs.Spelling.{spelling};
 ghost use Rattle.rx_model.specs.Token.{Token};
 
 /// Two patterns that one text reads as are equal but for spans.
@@ -18,4 +22,14 @@ pub fn unique_reading()
 /// The tokens that a text begins with are the first of all its tokens, and the others follow them.
 pub fn one_row()
     ensures { (e : Environment) (ts ss : List Token) (us rest : List CodePoint) → TokenRow e ts us rest → TokenRow e ss us [] → (more : List Token) × (ss ≡ ts ++ more) × TokenRow e more rest [] }
+{}
+
+/// The canonical spelling of a pattern, with `u`, is one line: not empty, and with no tab and no LineTerminator (ECMA-262, 12.3) in it.
+pub fn one_line()
+    ensures { (p : Pattern) (us : List CodePoint) → Reads Unicode p us → us ≢ [] → IsOneLine (spelling (bare p) Unicode) }
+{}
+
+/// The canonical spelling of a pattern, with `u`, reads as a pattern that is equal but for spans and character kinds.
+pub fn read_back()
+    ensures { (p : Pattern) (us : List CodePoint) → Reads Unicode p us → us ≢ [] → IsReadBack Unicode p }
 {}

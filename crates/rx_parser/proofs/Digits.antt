@@ -1,5 +1,5 @@
 -- Decimal digits as they are read, and the limit of 64 bits on their number.
-use Rattle.std.proofs.Common.{◌≡◌, ℕ, suc, ◌+◌, ◌-◌, ◌*◌, ◌^◌, ◌<◌, ◌≤◌, ◌⊎◌, inl, inr, Bool, true, false, cond, List, [], ◌∷◌, ◌++◌, length, take, drop, get_or, Option, Some, None, option_and_then, refl, sym, ap, ◌∙◌, subst, add-one, arith}
+use Rattle.std.proofs.Common.{◌≡◌, ℕ, ◌+◌, ◌-◌, ◌*◌, ◌^◌, ◌<◌, ◌≤◌, ◌⊎◌, inl, inr, Bool, true, false, cond, List, [], ◌∷◌, ◌++◌, length, take, drop, get_or, Some, option_and_then, refl, sym, ap, ◌∙◌, subst, add-one, arith}
 use Rattle.std.proofs.Math.Seq.{drop-cons}
 use Rattle.std.proofs.lemmas.Bool.{cond-true, cond-false}
 use Rattle.std.proofs.lemmas.List.{map_more, map-append, length-map, length-take, take-append-drop}
@@ -8,7 +8,7 @@ use Rattle.rx_tables.specs.Characters.{is_decimal_digit}
 use Rattle.rx_units.specs.declared.code_point.CodePoint.{CodePoint}
 use Rattle.rx_units.specs.Units.{values}
 use Rattle.rx_model.specs.Fronts.{Digits, digits, digits_behind}
-use Rattle.rx_model.specs.Quantifiers.{decimal_digit_value, decimal_behind, AreDigits, PassesDecimal, PassesLimit, first, second}
+use Rattle.rx_model.specs.Quantifiers.{decimal_digit_value, decimal_behind, AreDigits, PassesLimit, first, second}
 use Rattle.rx_parser.specs.CountsFound.{PassesAt, NonePass, NoSecond, SecondPasses, IsInLimit}
 
 -- which way a choice went
@@ -36,7 +36,7 @@ decimal_more m (x ∷ ds) c n d h e =
     ap (option_and_then (λ y. decimal_behind (10 * m + y) (ds ++ c ∷ []))) f ∙ decimal_more (10 * m + y) ds c n d g e)
 
 -- digits only add to a number
-digits_le : (m count : ℕ) (w : List ℕ) (n end : ℕ) (rest : List ℕ) → digits_behind m count w ≡ digits n end rest → m ≤ n
+pub digits_le : (m count : ℕ) (w : List ℕ) (n end : ℕ) (rest : List ℕ) → digits_behind m count w ≡ digits n end rest → m ≤ n
 digits_le m count [] n end rest h = let e : m ≡ n = cc h in omega arith
 digits_le m count (c ∷ w) n end rest h = elim (chosen (is_decimal_digit c) h) [
   | inl p ↦ let k = digits_le (10 * m + (c - 48)) (count + 1) w n end rest p.1 in omega (arith, k)
@@ -44,7 +44,7 @@ digits_le m count (c ∷ w) n end rest h = elim (chosen (is_decimal_digit c) h) 
 ]
 
 -- reading goes on behind digits
-digits_past : (m count : ℕ) (ds rest : List ℕ) (n : ℕ) → decimal_behind m ds ≡ Some n → digits_behind m count (ds ++ rest) ≡ digits_behind n (count + length ds) rest
+pub digits_past : (m count : ℕ) (ds rest : List ℕ) (n : ℕ) → decimal_behind m ds ≡ Some n → digits_behind m count (ds ++ rest) ≡ digits_behind n (count + length ds) rest
 digits_past m count [] rest n h =
     let same : m ≡ n = cc h in
     ap (λ m. digits_behind m count rest) same ∙ ap (λ k. digits_behind n k rest) (omega arith)
@@ -64,10 +64,10 @@ pub none_pass : (w : List ℕ) (n end : ℕ) (rest : List ℕ) → digits_behind
 none_pass w n end rest h small count p =
     let t = digit_there p.next p.passes.digit p.passes.digit_is in
     let e : digits_behind (10 * p.passes.number + (p.next - 48)) (0 + length p.ahead + 1) p.behind ≡ digits n end rest =
-        sym (cond-true (is_decimal_digit p.next) (digits_behind (10 * p.passes.number + (p.next - 48)) (0 + length p.ahead + 1) p.behind) (digits p.passes.number (0 + length p.ahead) (p.next ∷ p.behind)) t.0)
-        ∙ sym (digits_past 0 0 p.ahead (p.next ∷ p.behind) p.passes.number p.passes.number_is)
-        ∙ ap (digits_behind 0 0) (sym p.whole)
-        ∙ h in
+    sym (cond-true (is_decimal_digit p.next) (digits_behind (10 * p.passes.number + (p.next - 48)) (0 + length p.ahead + 1) p.behind) (digits p.passes.number (0 + length p.ahead) (p.next ∷ p.behind)) t.0)
+    ∙ sym (digits_past 0 0 p.ahead (p.next ∷ p.behind) p.passes.number p.passes.number_is)
+    ∙ ap (digits_behind 0 0) (sym p.whole)
+    ∙ h in
     let k = digits_le (10 * p.passes.number + (p.next - 48)) (0 + length p.ahead + 1) p.behind n end rest e in
     let passes = p.passes.passes in
     let digit_is = t.1 in
@@ -156,7 +156,7 @@ in_limit v n end rest h small k start count p = elim (limit_cases (123 ∷ v) st
   | inl q ↦ none_pass v n end rest h small count q
   | inr s ↦
       let e : digits s.n (0 + length s.ds) (44 ∷ s.more) ≡ digits n end rest =
-          sym (digits_past 0 0 s.ds (44 ∷ s.more) s.n s.are.number) ∙ ap (digits_behind 0 0) (sym s.whole) ∙ h in
+      sym (digits_past 0 0 s.ds (44 ∷ s.more) s.n s.are.number) ∙ ap (digits_behind 0 0) (sym s.whole) ∙ h in
       let l : 0 + length s.ds ≡ end = cc e in
       let r : 44 ∷ s.more ≡ rest = cc e in
       k (omega (arith, l, some_digits s.n s.ds s.are)) s.more (sym r) count s.passes
@@ -173,7 +173,7 @@ second_passes v n end rest count h small some s =
     let r = digits_found 0 0 v n end rest h in
     let p = s.passes in
     let whole : v ≡ r.run ++ (44 ∷ (p.ahead ++ (p.next ∷ p.behind))) =
-        r.whole ∙ ap (λ w. r.run ++ w) (s.whole ∙ ap (λ w. 44 ∷ w) p.whole) in
+    r.whole ∙ ap (λ w. r.run ++ w) (s.whole ∙ ap (λ w. 44 ∷ w) p.whole) in
     let end_is : length r.run ≡ end = omega (arith, r.count_is) in
     subst (λ w. PassesLimit (123 ∷ w) (end + 2) count) (sym whole)
     (subst (λ l. PassesLimit (123 ∷ (r.run ++ (44 ∷ (p.ahead ++ (p.next ∷ p.behind))))) (l + 2) count) end_is

@@ -1,5 +1,5 @@
 -- What is built stays well made.
-use Rattle.std.proofs.Common.{◌≡◌, ap, sym, ◌∙◌, subst, Bool, true, List, [], ◌∷◌, ◌++◌, map}
+use Rattle.std.proofs.Common.{◌≡◌, ap, sym, ◌∙◌, subst, true, List, [], ◌∷◌, ◌++◌, map}
 use Rattle.std.specs.declared.boxed.Box.{Box}
 use Rattle.std.specs.declared.alloc.Global.{Global}
 use Rattle.rx_base.specs.declared.span.Span.{Span}

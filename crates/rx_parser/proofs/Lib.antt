@@ -1,8 +1,14 @@
 pub mod Digits
+pub mod Endings
 pub mod EventEquations
 pub mod FrameEvents
 pub mod FrontFound
 pub mod Goods
+pub mod Halts
 pub mod Leaves
+pub mod Pieces
+pub mod Places
 pub mod Prefixes
 pub mod Steps
+pub mod Turns
+pub mod Ungrouped

@@ -1,5 +1,5 @@
 -- The counts of a quantifier, from what its readers find step by step.
-use Rattle.std.proofs.Common.{◌≡◌, ℕ, zero, suc, ◌+◌, ◌-◌, ◌^◌, ◌<◌, ◌≤◌, ◌==◌, List, [], ◌∷◌, ◌++◌, length, take, drop, get_or, Option, Some, None, refl, sym, ap, ◌∙◌, subst, arith}
+use Rattle.std.proofs.Common.{◌≡◌, ℕ, zero, suc, ◌+◌, ◌-◌, ◌^◌, ◌<◌, ◌≤◌, List, [], ◌∷◌, ◌++◌, length, take, drop, get_or, Some, None, refl, sym, ap, ◌∙◌, subst, arith}
 use Rattle.std.specs.Bool.{then_some}
 use Rattle.std.proofs.lemmas.Bool.{lt-ltb}
 use Rattle.std.proofs.lemmas.Bool.Decides.{nat_tests}
@@ -11,7 +11,7 @@ use Rattle.rx_model.specs.Fronts.{Digits, digits, digits_behind, counts, no_coun
 use Rattle.rx_model.specs.Quantifiers.{PassesLimit, first, second}
 use Rattle.rx_parser.specs.declared.counts.CountsFound.{CountsFound}
 use Rattle.rx_parser.specs.declared.counts.CountsFound.TheVariants as found
-use Rattle.rx_parser.specs.CountsFound.{PassesAt, NonePass, NoSecond, SecondPasses, IsInLimit, IsBehindComma, IsBehindLeast, IsInBraces, IsCountsFound}
+use Rattle.rx_parser.specs.CountsFound.{NonePass, NoSecond, IsInLimit, IsBehindComma, IsBehindLeast, IsInBraces, IsCountsFound}
 use Rattle.rx_parser.proofs.Digits.{in_limit, second_passes}
 
 -- A greatest number is there where it has digits.

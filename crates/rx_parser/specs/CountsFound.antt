@@ -1,5 +1,5 @@
 -- What the readers of counts answer.
-use Rattle.std.specs.Prelude.{◌≡◌, ℕ, ◌+◌, ◌<◌, ◌≤◌, Option, List, [], ◌∷◌, ◌++◌, length, drop}
+use Rattle.std.specs.Prelude.{◌≡◌, ℕ, ◌+◌, ◌<◌, ◌≤◌, List, ◌∷◌, ◌++◌, length, drop}
 use Rattle.rx_units.specs.declared.code_point.CodePoint.{CodePoint}
 use Rattle.rx_units.specs.Units.{values}
 use Rattle.rx_model.specs.Fronts.{digits, digits_behind, counts, no_counts, counts_at, counts_in_braces, counts_behind_comma}
@@ -18,6 +18,7 @@ pub record PassesAt (w : List ℕ) (count : ℕ) : Type 0 where
   pub count_is : count ≡ length ahead
   pub passes : PassesDecimal ahead next
 
+-- the digits that stand next, or where they pass 64 bits
 abbrev pub IsDigitsFound : List CodePoint → DigitsFound → Type 0
 IsDigitsFound us (digits_found.Digits value count) = (digits_behind 0 0 (values us) ≡ digits value count (values (drop count us))) × (count ≤ length us)
 IsDigitsFound us (digits_found.TooMany count) = PassesAt (values us) count × (count ≤ length us)
@@ -26,6 +27,7 @@ IsDigitsFound us (digits_found.TooMany count) = PassesAt (values us) count × (c
 abbrev pub IsInLimit : List ℕ → Type 0
 IsInLimit w = (start count : ℕ) → PassesLimit w start count → ⊥
 
+-- The prefix that the units begin with (QuantifierPrefix, 22.2.1), or none, or where the digits of a number in it pass 64 bits.
 abbrev pub IsCountsFound : List CodePoint → CountsFound → Type 0
 IsCountsFound us (found.Counts min max n) = (counts_at (values us) ≡ counts min max n) × IsInLimit (values us) × (n ≤ length us)
 IsCountsFound us found.Nothing = (counts_at (values us) ≡ no_counts) × IsInLimit (values us)
@@ -37,6 +39,7 @@ IsInBraces us (found.Counts min max n) = (counts_in_braces (digits_behind 0 0 (v
 IsInBraces us found.Nothing = (counts_in_braces (digits_behind 0 0 (values us)) ≡ no_counts) × IsInLimit (123 ∷ values us)
 IsInBraces us (found.TooMany start count) = PassesLimit (123 ∷ values us) start count × (start + count ≤ length us + 1)
 
+-- the digits that stand next do not pass 64 bits
 abbrev pub NonePass : List ℕ → Type 0
 NonePass w = (count : ℕ) → PassesAt w count → ⊥
 

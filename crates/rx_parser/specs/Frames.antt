@@ -9,7 +9,7 @@ use Rattle.rx_parser.specs.declared.frame.Opening.{Opening}
 use Rattle.rx_parser.specs.declared.frame.Opening.TheVariants.{Capturing, Ignoring, LookAround}
 use Rattle.rx_parser.specs.Levels.{strung, level_events, last_takes}
 
--- what the mirror of the group will begin with
+-- what the mirror of the group or look-around will begin with (Atom and Assertion, 22.2.1)
 abbrev pub opener_tree : Opening → tree.Opener
 opener_tree (Capturing name) = tree.capturing name
 opener_tree (Ignoring modifiers) = tree.ignoring modifiers
@@ -19,6 +19,7 @@ opener_tree (LookAround kind) = tree.looking kind
 abbrev pub frame_events : Frame → Events
 frame_events f = level_events f.outer ++ (enter f.start ∷ opener_event (opener_tree f.opening) ∷ [])
 
+-- of all open groups, the outermost first
 abbrev pub frames_events : List Frame → Events
 frames_events fs = strung (map frame_events fs)
 

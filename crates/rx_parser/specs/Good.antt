@@ -14,19 +14,21 @@ use Rattle.rx_parser.specs.declared.level.Level.{Level}
 abbrev pub IsGoodTerm : Mode → Term → Type 0
 IsGoodTerm mode t = IsNode mode (mirror_term t)
 
--- It has an alternative, and the terms of each are well made.
+-- A disjunction has an alternative, and the terms of each are well made (Disjunction, 22.2.1).
 abbrev pub IsGoodDisjunction : Mode → Disjunction → Type 0
 IsGoodDisjunction mode d = HasAlternatives mode (mirror_disjunction d).1
 
+-- of each of these terms
 abbrev pub AreGoodTerms : Mode → List Term → Type 0
 AreGoodTerms mode [] = Unit {0}
 AreGoodTerms mode (t ∷ ts) = IsGoodTerm mode t × AreGoodTerms mode ts
 
+-- of the terms of each of these alternatives (Alternative, 22.2.1)
 abbrev pub AreGoodAlternatives : Mode → List Alternative → Type 0
 AreGoodAlternatives mode [] = Unit {0}
 AreGoodAlternatives mode (a ∷ more) = AreNodes mode (mirror_alternative a).1 × AreGoodAlternatives mode more
 
--- of a disjunction that is not yet at its end
+-- of a disjunction that is not yet at its end (Disjunction, 22.2.1)
 unfoldable pub IsGoodLevel : Mode → Level → Type 0
 IsGoodLevel mode l = AreGoodAlternatives mode l.alternatives × AreGoodTerms mode l.terms
 

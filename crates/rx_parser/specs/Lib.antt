@@ -3,6 +3,7 @@ pub mod Found
 pub mod Frames
 pub mod Good
 pub mod Levels
+pub mod Literals
 pub mod NotYet
 pub mod Parsing
 pub mod Progress

@@ -1,6 +1,8 @@
 -- Which texts are not read yet: those with a piece of a construct that no reader takes.
-use Rattle.std.specs.Prelude.{ℕ, Bool, true, false, not, ◌==◌, ◌||◌, List, [], ◌∷◌, if◌then◌else◌}
+use Rattle.std.specs.Prelude.{ℕ, Bool, true, false, not, ◌==◌, ◌&&◌, ◌||◌, List, [], ◌∷◌, Option, if◌then◌else◌}
 use Rattle.rx_tables.specs.Characters.{is_within}
+use Rattle.rx_model.specs.Flags.{flags_of, flags_ok, mode_of}
+use Rattle.rx_model.specs.Reading.{literal_text}
 use Rattle.rx_model.specs.declared.mode.Mode.{Mode}
 use Rattle.rx_model.specs.declared.mode.Mode.TheVariants.{Legacy, Unicode, Sets}
 
@@ -32,3 +34,7 @@ is_read Sets = false
 -- whether a text is not read yet in this mode
 abbrev pub is_unread_text : Mode → List ℕ → Bool
 is_unread_text mode cs = not (is_read mode) || holds_unread cs
+
+-- whether a literal is not read yet: the flags are no fault, and under their mode the text is not
+abbrev pub is_unread_literal : List ℕ → Option (List ℕ) → Bool
+is_unread_literal text flags = flags_ok (flags_of flags) && is_unread_text (mode_of (flags_of flags)) (literal_text text)

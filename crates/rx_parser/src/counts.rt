@@ -24,7 +24,10 @@ pub enum CountsFound {
     },
     Nothing,
     /// The digits of a number behind `{`, from `start` on, pass 64 bits behind so many.
-    TooMany { start: usize, digits: usize },
+    TooMany {
+        start: usize,
+        digits: usize,
+    },
 }
 
 fn digits_at(units: &[CodePoint]) -> DigitsFound
@@ -36,7 +39,10 @@ fn digits_at(units: &[CodePoint]) -> DigitsFound
             return DigitsFound::Digits { value, count };
         }
         let digit = (unit.value - '0' as u32) as u64;
-        match value.checked_mul(10).and_then(|tens| tens.checked_add(digit)) {
+        match value
+            .checked_mul(10)
+            .and_then(|tens| tens.checked_add(digit))
+        {
             Some(next) => value = next,
             None => return DigitsFound::TooMany { digits: count },
         }

@@ -6,6 +6,7 @@ mod counts;
 mod frame;
 mod front;
 mod level;
+mod literal_parser;
 mod options;
 mod pattern_parser;
 #[cfg(test)]
@@ -16,5 +17,6 @@ mod unread;
 pub use builder::Builder;
 pub use frame::{Frame, Opening};
 pub use level::Level;
+pub use literal_parser::LiteralParser;
 pub use options::Options;
 pub use pattern_parser::PatternParser;

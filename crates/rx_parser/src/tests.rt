@@ -2,7 +2,8 @@ ghost use Rattle.std.specs.Prelude.{◌<◌, ◌^◌};
 
 use crate::{Builder, Opening};
 use rx_ast::{
-    BoundaryAssertion, BoundaryAssertionKind, Disjunction, Dot, LookAroundAssertionKind, Term,
+    BoundaryAssertion, BoundaryAssertionKind, Disjunction, Dot, LookAroundAssertionKind, Pattern,
+    Term,
 };
 use rx_base::{GetSpan, OutOfMemory, Span, Text};
 use rx_model::Mode;
@@ -10,22 +11,11 @@ use std::alloc::Global;
 
 const DEEP: u32 = 100_000;
 
-/// `(?<n>.|.){2,3}?` at byte 10
 #[test]
 fn a_quantified_group_begins_where_it_opens(rt: HostRuntime) -> Result<(), OutOfMemory> {
-    let alloc = rt.alloc();
-    let mut builder = Builder::new(alloc, Mode::Unicode, 10);
-    let name = Text::from_str(alloc, "n")?;
-    builder.open(alloc, Opening::Capturing(Some(name)), 10, 15)?;
-    builder.leaf(dot(15))?;
-    builder.bar(alloc, 16, 17)?;
-    builder.leaf(dot(17))?;
-    assert!(rt; !builder.is_whole());
-    assert!(rt; builder.close(alloc, 18, 19)?);
-    assert!(rt; builder.is_ready());
-    assert!(rt; builder.quantify(alloc, 2, Some(3), false, 25)?);
-    assert!(rt; builder.is_whole());
-    let pattern = builder.finish(25)?;
+    let Some(pattern) = quantified_group(rt.alloc())? else {
+        panic!(rt; "the pattern was not taken");
+    };
     assert_eq!(rt; pattern.span, Span::new(10, 25));
     let Some(Term::Quantifier(quantifier)) = first_term(&pattern.body) else {
         panic!(rt; "the quantifier is lost");
@@ -101,9 +91,7 @@ fn a_quantifier_follows_a_lookahead_in_legacy_mode_alone(
 fn deep_groups_need_no_deep_stack(rt: HostRuntime) -> Result<(), OutOfMemory> {
     let alloc = rt.alloc();
     let mut builder = Builder::new(alloc, Mode::Legacy, 0);
-    for at in 0..DEEP {
-        builder.open(alloc, Opening::Ignoring(None), at, at + 1)?;
-    }
+    open_groups(&mut builder, alloc, DEEP)?;
     for at in DEEP..2 * DEEP {
         assert!(rt; builder.close(alloc, at, at + 1)?);
     }
@@ -113,6 +101,32 @@ fn deep_groups_need_no_deep_stack(rt: HostRuntime) -> Result<(), OutOfMemory> {
         first_term(&pattern.body).map(|term| term.span()),
         Some(Span::new(0, 2 * DEEP))
     );
+    Ok(())
+}
+
+/// `(?<n>.|.){2,3}?` at byte 10, if all of it is taken
+fn quantified_group(alloc: Global) -> Result<Option<Pattern>, OutOfMemory> {
+    let mut builder = Builder::new(alloc, Mode::Unicode, 10);
+    let taken = add_quantified_group(&mut builder, alloc)?;
+    if !taken || !builder.is_whole() {
+        return Ok(None);
+    }
+    Ok(Some(builder.finish(25)?))
+}
+
+fn add_quantified_group(builder: &mut Builder, alloc: Global) -> Result<bool, OutOfMemory> {
+    let name = Text::from_str(alloc, "n")?;
+    builder.open(alloc, Opening::Capturing(Some(name)), 10, 15)?;
+    builder.leaf(dot(15))?;
+    builder.bar(alloc, 16, 17)?;
+    builder.leaf(dot(17))?;
+    Ok(builder.close(alloc, 18, 19)? && builder.quantify(alloc, 2, Some(3), false, 25)?)
+}
+
+fn open_groups(builder: &mut Builder, alloc: Global, count: u32) -> Result<(), OutOfMemory> {
+    for at in 0..count {
+        builder.open(alloc, Opening::Ignoring(None), at, at + 1)?;
+    }
     Ok(())
 }
 

@@ -105,7 +105,7 @@ pub fn turn(
     ensures parsing { OnOk result (IsParsing Unicode reader.new.units reader.new.first spans.now builder.new reader.new.place) }
     ensures mode { builder.new.mode ≡ builder.old.mode }
     ensures moved { OnOk result (reader.old.place < reader.new.place) }
-    ensures same { reader.new ≡ record reader.old { place = reader.new.place } }
+    ensures same { OnOk result (reader.new ≡ record reader.old { place = reader.new.place }) }
     ensures refused { IfErr result (λ fault. IsRefused Unicode reader.old.units reader.old.first spans.now fault) }
 {
     let at = here(reader, spans);

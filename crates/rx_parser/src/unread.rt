@@ -4,12 +4,14 @@ ghost use Rattle.rx_parser.specs.NotYet.{is_unread, is_unread_escape, holds_unre
 
 use rx_units::CodePoint;
 
+/// Whether a value begins a construct that is not read yet.
 fn is_unread(value: u32) -> bool
     ensures { result ≡ is_unread value }
 {
     value == '(' as u32 || value == '[' as u32
 }
 
+/// Whether a value begins, behind a backslash, a construct that is not read yet: `p`, `P`, `k` and `1` to `9`.
 pub fn is_unread_escape(value: u32) -> bool
     ensures { result ≡ is_unread_escape value }
 {

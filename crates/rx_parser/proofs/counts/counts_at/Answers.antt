@@ -1,7 +1,6 @@
-use Rattle.std.proofs.Common.{◌≡◌, get_or, rules, sym, subst, Some, None}
+use Rattle.std.proofs.Common.{rules, sym, subst}
 use Rattle.rx_units.specs.Units.{unit}
 use Rattle.rx_units.specs.declared.code_point.EscapeKind.TheVariants as kind
-use Rattle.rx_parser.specs.declared.counts.CountsFound.TheVariants as found
 use Rattle.rx_parser.specs.CountsFound.{IsCountsFound}
 use Rattle.rx_parser.proofs.Prefixes.{counts_ended, counts_other, counts_star, counts_plus, counts_question, counts_braced}
 use Rattle.rx_parser.proofs.counts.counts_at.Goals as goal

@@ -1,4 +1,4 @@
-use Rattle.std.proofs.Common.{◌≡◌, Bool, true, false, ℕ, List, drop, cond}
+use Rattle.std.proofs.Common.{◌≡◌, drop, cond}
 use Rattle.rx_units.specs.Units.{values}
 use Rattle.rx_parser.specs.NotYet.{holds_unread, holds_unread_behind}
 use Rattle.rx_parser.proofs.unread.holds_unread.Given as goal

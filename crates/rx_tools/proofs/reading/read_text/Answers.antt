@@ -13,14 +13,14 @@ use Rattle.rx_tools.proofs.reading.read_text.Goals as goal
 
 pub read_flat-requires : goal.read_flat-requires
 read_flat-requires c =
-    subst (Fit c.args.span_offset) (sym (c.remaining_code_points.ensures ∙ ap rest c.in_ok-reader.ensures))
+    subst (Fit c.args.span_offset) (sym (c.remaining_code_points.ensures.units ∙ ap rest c.in_ok-reader.ensures))
     (text_fits c.args.pattern_text.now c.args.span_offset c.utf8.pattern_text c.requires.fits)
 
 pub returns-clause-reads : goal.returns-clause-reads
 returns-clause-reads c =
     let text = c.args.pattern_text.now in
     let us : List CodePoint = literal_units true 0 (chars text) in
-    let are : c.remaining_code_points.result.now ≡ us = c.remaining_code_points.ensures ∙ ap rest c.in_ok-reader.ensures in
+    let are : c.remaining_code_points.result.now ≡ us = c.remaining_code_points.ensures.units ∙ ap rest c.in_ok-reader.ensures in
     IfOk-weaker c.read_flat.result _ _
     (λ p h. subst (λ cs. Reads Unicode p (literal_units true 0 cs)) (sym (text_stands text c.requires.flat))
     (flat_reads p c.args.span_offset us (text_flat text c.requires.flat) (text_small text c.utf8.pattern_text) (rw are at h)))
@@ -30,7 +30,7 @@ pub returns-clause-spanned : goal.returns-clause-spanned
 returns-clause-spanned c =
     let text = c.args.pattern_text.now in
     let us : List CodePoint = literal_units true 0 (chars text) in
-    let are : c.remaining_code_points.result.now ≡ us = c.remaining_code_points.ensures ∙ ap rest c.in_ok-reader.ensures in
+    let are : c.remaining_code_points.result.now ≡ us = c.remaining_code_points.ensures.units ∙ ap rest c.in_ok-reader.ensures in
     IfOk-weaker c.read_flat.result _ _
     (λ p h. subst (λ cs. IsSpanned Unicode p (literal_units true 0 cs) 0 c.args.span_offset) (sym (text_stands text c.requires.flat))
     (flat_is_spanned p c.args.span_offset us (text_flat text c.requires.flat) (rw are at h)))

@@ -1,6 +1,6 @@
-use Rattle.std.proofs.Common.{◌≡◌, refl, ap, ◌∙◌, sym, subst, ◌++◌}
+use Rattle.std.proofs.Common.{ap, ◌∙◌, sym, subst, ◌++◌}
 use Rattle.rx_base.specs.declared.span.Span.{Span}
-use Rattle.rx_ast.specs.Tree.{Node, group, mirror_disjunction, mirror_term}
+use Rattle.rx_ast.specs.Tree.{Node, group, mirror_disjunction}
 use Rattle.rx_model.specs.Events.{term_events}
 use Rattle.rx_model.specs.Token.{opener_of}
 use Rattle.rx_parser.specs.Frames.{opener_tree}

@@ -1,0 +1,90 @@
+#!/usr/bin/env python3
+"""Measures the program on generated flat patterns under `u`: nanoseconds a pattern, MB/s, and the cost at 1, 2, 4 and 8 times the length of one pattern.
+
+    bench/flat_patterns.py [PROGRAM]
+
+PROGRAM is crates/rx_cli/out/rx_cli where it is not given; `./regexp </dev/null` builds it. Where valgrind is there, the share of reading the pattern
+(LiteralParser::parse) in the instructions of the program is told too. Nothing here is a test: times depend on the machine.
+"""
+import os
+import random
+import re
+import shutil
+import subprocess
+import sys
+import tempfile
+import time
+
+HERE = os.path.dirname(os.path.abspath(__file__))
+COUNT = 100_000
+ATOMS = ["a", "Z", "7", "-", "é", "漢", "😀", ".", r"\d", r"\W", r"\s", r"\n", r"\cJ", r"\0", r"\x41", r"\u0041", r"\uD83D\uDE00", r"\u{1F600}", r"\/", r"\.", r"\|"]
+BOUNDARIES = ["^", "$", r"\b", r"\B"]
+QUANTIFIERS = ["*", "+", "?", "*?", "{2}", "{2,}", "{0,1}?", "{12,34}"]
+
+
+def pattern(source, pieces):
+    made = []
+    for _ in range(pieces):
+        pick = source.random()
+        if pick < 0.05:
+            made.append("|")
+        elif pick < 0.12:
+            made.append(source.choice(BOUNDARIES))
+        elif pick < 0.32:
+            made.append(source.choice(ATOMS[:-1]) + source.choice(QUANTIFIERS))
+        else:
+            made.append(source.choice(ATOMS) if made[-1:] != [r"\0"] else "a")
+    return re.sub(r"\\0(?=\d)", r"\\0a", "".join(made))
+
+
+def seconds(program, lines):
+    """The least of three runs, and whether each reply was `ok`."""
+    with tempfile.NamedTemporaryFile() as it:
+        it.write(lines)
+        it.flush()
+        best, good = None, True
+        for _ in range(3):
+            with open(it.name, "rb") as given, open(os.devnull, "wb") as out:
+                began = time.perf_counter()
+                status = subprocess.run([program], stdin=given, stdout=out).returncode
+                took = time.perf_counter() - began
+            good = good and status == 0
+            best = took if best is None else min(best, took)
+        return best, good
+
+
+def share(program, lines):
+    """The part of all instructions that LiteralParser::parse takes, with all that it calls."""
+    with tempfile.TemporaryDirectory() as folder:
+        given = os.path.join(folder, "lines")
+        out = os.path.join(folder, "calls")
+        with open(given, "wb") as it:
+            it.write(lines)
+        with open(given, "rb") as it:
+            subprocess.run(["valgrind", "--tool=callgrind", f"--callgrind-out-file={out}", program], stdin=it, stdout=subprocess.DEVNULL, stderr=subprocess.DEVNULL, check=True)
+        told = subprocess.run(["callgrind_annotate", "--inclusive=yes", "--threshold=100", out], capture_output=True, text=True, check=True).stdout
+    found = [row for row in told.splitlines() if "LiteralParser" in row and "parse" in row]
+    match = re.search(r"\(\s*([0-9.]+)%\)", found[0]) if found else None
+    return float(match.group(1)) / 100 if match else None
+
+
+def main():
+    program = sys.argv[1] if len(sys.argv) > 1 else os.path.join(HERE, "..", "crates", "rx_cli", "out", "rx_cli")
+    source = random.Random(2026)
+    lines = b"".join(f"L\tu\t{pattern(source, source.randint(1, 24))}\n".encode() for _ in range(COUNT))
+    took, good = seconds(program, lines)
+    print(f"{COUNT} patterns, {len(lines) / COUNT:.1f} bytes a line, all ok: {good}: {took / COUNT * 1e9:.0f} ns a pattern, {len(lines) / took / 1e6:.1f} MB/s")
+    if shutil.which("valgrind"):
+        part = share(program, lines[: lines.index(b"\n", 200_000) + 1])
+        if part is not None:
+            print(f"of it LiteralParser::parse {part:.0%} of the instructions: about {took * part / COUNT * 1e9:.0f} ns a pattern, {len(lines) / (took * part) / 1e6:.1f} MB/s")
+    one = pattern(random.Random(7), 400)
+    for times in (1, 2, 4, 8):
+        line = f"L\tu\t{one * times}\n".encode()
+        many = 4000 // times
+        took, good = seconds(program, line * many)
+        print(f"one pattern of {len(line) - 5} bytes, ok: {good}: {took / many * 1e6:.1f} us, {took / many / len(line) * 1e9:.0f} ns a byte")
+
+
+if __name__ == "__main__":
+    main()

@@ -1,0 +1,237 @@
+-- The canonical spelling stands in one line.
+use Rattle.std.proofs.Common.{◌≡◌, ◌≢◌, subst, ℕ, suc, zero, ◌/◌, ◌%◌, ◌<◌, ◌≤◌, Bool, true, false, not, ◌==◌, ◌&&◌, ◌||◌, nat_lt, cond, Option, Some, None, List, [], ◌∷◌, ◌++◌, refl, sym, ◌∙◌, arith}
+use Rattle.std.specs.List.{list_all, All}
+use Rattle.std.specs.Char.{digit_value}
+use Rattle.std.specs.Fmt.{decimal}
+use Rattle.std.specs.Str.Parse.{AllDigits}
+use Rattle.std.proofs.lemmas.Bool.{and_from, cond_both}
+use Rattle.std.proofs.lemmas.Bool.Decides.{nat_tests}
+use Rattle.std.proofs.lemmas.Fmt.{decimal_is_IsNumeral}
+use Rattle.std.proofs.lemmas.List.Elements.{All-nil, All-cons, All-head, All-tail}
+use Rattle.std.proofs.lemmas.List.Folds.{list_all-append}
+use Rattle.std.proofs.lemmas.Str.Parse.{digit_from_value}
+use Rattle.rx_ast.specs.declared.leaf.BoundaryAssertionKind.{BoundaryAssertionKind}
+use Rattle.rx_ast.specs.declared.leaf.BoundaryAssertionKind.TheVariants as boundaries
+use Rattle.rx_ast.specs.declared.leaf.CharacterClassEscapeKind.{CharacterClassEscapeKind}
+use Rattle.rx_ast.specs.declared.leaf.CharacterClassEscapeKind.TheVariants.{D, NegativeD, S, NegativeS, W, NegativeW}
+use Rattle.rx_ast.specs.declared.term.Pattern.{Pattern}
+use Rattle.rx_ast.specs.Forget.{bare}
+use Rattle.rx_tables.specs.Characters.{is_within, is_syntax_character, hex_digit}
+use Rattle.rx_units.specs.declared.code_point.CodePoint.{CodePoint}
+use Rattle.rx_model.specs.declared.mode.Mode.TheVariants.{Unicode}
+use Rattle.rx_model.specs.Boundaries.{boundary_text}
+use Rattle.rx_model.specs.CharacterText.{control_letter, two_digits, four_digits, hex, braced, outside, character_text}
+use Rattle.rx_model.specs.ClassText.{class_escape_text}
+use Rattle.rx_model.specs.Early.{Obeys, greatest_count, IsGreatest}
+use Rattle.rx_model.specs.Environment.{Environment, environment}
+use Rattle.rx_model.specs.Events.{tokens}
+use Rattle.rx_model.specs.Names.{groups, names}
+use Rattle.rx_model.specs.OneLine.{ends_column, IsOneLine}
+use Rattle.rx_model.specs.Reading.{Reads}
+use Rattle.rx_model.specs.Spelling.{counts_text, lazy_text, quantifier_text, spelling}
+use Rattle.rx_model.specs.Token.{Token, boundary, character, dot, class_escape, property, class, indexed, named, opener, closer, bar, quantifier}
+use Rattle.rx_model.proofs.TokenTexts.{token_text, token_refers, tokens_text, spelled_by_tokens}
+use Rattle.rx_model.proofs.Decodings.{both}
+use Rattle.rx_model.proofs.Known.{Known, AreKnown, are_known, no_reference, has_tokens}
+
+abbrev stays : ℕ → Bool
+stays c = not (ends_column c)
+
+abbrev pub Stays : List ℕ → Type 0
+Stays text = list_all stays text ≡ true
+
+pub stays-append : (u v : List ℕ) → Stays u → Stays v → Stays (u ++ v)
+stays-append u v p q = list_all-append stays u v ∙ and_from _ _ p q
+
+stays_cons : (c : ℕ) (text : List ℕ) → stays c ≡ true → Stays text → Stays (c ∷ text)
+stays_cons c text p q = and_from _ _ p q
+
+digit_stays : (d : ℕ) → d < 16 → stays (hex_digit d) ≡ true
+digit_stays d h = grind (arith, nat_tests)
+
+rest_stays : (n : ℕ) → stays (hex_digit (n % 16)) ≡ true
+rest_stays n = digit_stays (n % 16) (omega arith)
+
+letter_stays : (c : ℕ) → stays (control_letter c) ≡ true
+letter_stays c =
+    let P : ℕ → Type 0 = λ letter. stays letter ≡ true in
+    cond_both (c == 9) _ _ P (λ _. refl) (λ _. cond_both (c == 10) _ _ P (λ _. refl) (λ _. cond_both (c == 11) _ _ P (λ _. refl) (λ _. cond_both (c == 12) _ _ P (λ _. refl) (λ _. refl))))
+
+hex_stays : (k n : ℕ) → Stays (hex k n)
+hex_stays zero n = refl
+hex_stays (suc k) n =
+    stays-append (cond (nat_lt n 16) [] (hex k (n / 16))) (hex_digit (n % 16) ∷ []) (cond_both (nat_lt n 16) _ _ Stays (λ _. refl) (λ _. hex_stays k (n / 16)))
+    (stays_cons (hex_digit (n % 16)) [] (rest_stays n) refl)
+
+two_stays : (c : ℕ) → Stays (two_digits c)
+unfolding two_digits
+two_stays c = stays_cons (hex_digit (c / 16 % 16)) (hex_digit (c % 16) ∷ []) (rest_stays (c / 16)) (stays_cons (hex_digit (c % 16)) [] (rest_stays c) refl)
+
+four_stays : (c : ℕ) → Stays (four_digits c)
+unfolding four_digits
+four_stays c =
+    stays_cons (hex_digit (c / 4096 % 16)) (hex_digit (c / 256 % 16) ∷ hex_digit (c / 16 % 16) ∷ hex_digit (c % 16) ∷ []) (rest_stays (c / 4096)) (stays_cons (hex_digit (c / 256 % 16)) (hex_digit (c / 16 % 16) ∷ hex_digit (c % 16) ∷ []) (rest_stays (c / 256))
+    (stays_cons (hex_digit (c / 16 % 16)) (hex_digit (c % 16) ∷ []) (rest_stays (c / 16)) (stays_cons (hex_digit (c % 16)) [] (rest_stays c) refl)))
+
+braced_stays : (c : ℕ) → Stays (braced c)
+unfolding braced
+braced_stays c = stays-append (hex 8 c) (125 ∷ []) (hex_stays 8 c) refl
+
+syntax_stays : (c : ℕ) → (is_syntax_character c || c == 47) ≡ true → stays c ≡ true
+syntax_stays c h = grind (arith, nat_tests)
+
+raw_stays : (c : ℕ) → is_within 9 13 c ≡ false → (c == 0x2028 || c == 0x2029) ≡ false → stays c ≡ true
+raw_stays c h k = grind (arith, nat_tests)
+
+pub character_stays : (c : ℕ) → Stays (character_text Unicode (outside false) c)
+unfolding character_text
+character_stays c =
+    cond_both (is_within 9 13 c) _ _ Stays (λ _. stays_cons (control_letter c) [] (letter_stays c) refl)
+    (λ within. cond_both (nat_lt c 32 || is_within 127 159 c) _ _ Stays (λ _. two_stays c)
+    (λ _. cond_both (c == 0x2028 || c == 0x2029) _ _ Stays (λ _. four_stays c)
+    (λ separators. cond_both (is_within 0xD800 0xDFFF c) _ _ Stays (λ _. braced_stays c)
+    (λ _. cond_both (nat_lt 0x10FFFF c) _ _ Stays (λ _. braced_stays c)
+    (λ _. cond_both (is_syntax_character c || c == 47) _ _ Stays (λ syntax. stays_cons c [] (syntax_stays c syntax) refl)
+    (λ _. stays_cons c [] (raw_stays c within separators) refl))))))
+
+decimal_digit_stays : (c : ℕ) → digit_value c < 10 → stays c ≡ true
+decimal_digit_stays c h = let r = digit_from_value c h in grind (arith, nat_tests, r)
+
+digits_stay : (ds : List ℕ) → AllDigits 10 ds → Stays ds
+digits_stay [] h = refl
+digits_stay (d ∷ ds) h = stays_cons d ds (decimal_digit_stays d h.0) (digits_stay ds h.1)
+
+decimal_stays : (n : ℕ) → n ≤ greatest_count → Stays (decimal n)
+decimal_stays n h = digits_stay (decimal n) (decimal_is_IsNumeral n (omega (arith, h))).0.1
+
+-- digits between texts
+numbered : (n : ℕ) (text : List ℕ) → n ≤ greatest_count → Stays text → Stays (decimal n ++ text)
+numbered n text h p = stays-append (decimal n) text (decimal_stays n h) p
+
+counts_stay : (min : ℕ) (max : Option ℕ) → min ≤ greatest_count → IsGreatest min max → Stays (counts_text min max)
+counts_stay min None h k = cond_both (min == 0) _ _ Stays (λ _. refl) (λ _. cond_both (min == 1) _ _ Stays (λ _. refl) (λ _. numbered min (44 ∷ 125 ∷ []) h refl))
+counts_stay min (Some max) h k =
+    cond_both (min == 0 && max == 1) _ _ Stays (λ _. refl) (λ _. cond_both (min == max) _ _ Stays (λ _. numbered min (125 ∷ []) h refl)
+    (λ _. numbered min (44 ∷ (decimal max ++ (125 ∷ []))) h (numbered max (125 ∷ []) k.1 refl)))
+
+lazy_stays : (greedy : Bool) → Stays (lazy_text greedy)
+lazy_stays true = refl
+lazy_stays false = refl
+
+pub quantifier_stays : (min : ℕ) (max : Option ℕ) (greedy : Bool) → min ≤ greatest_count → IsGreatest min max → Stays (quantifier_text min max greedy)
+quantifier_stays min max greedy h k = stays-append (counts_text min max) (lazy_text greedy) (counts_stay min max h k) (lazy_stays greedy)
+
+pub boundary_stays : (kind : BoundaryAssertionKind) → Stays (boundary_text kind)
+boundary_stays boundaries.Start = refl
+boundary_stays boundaries.End = refl
+boundary_stays boundaries.Boundary = refl
+boundary_stays boundaries.NegativeBoundary = refl
+boundary_stays boundaries.StartBuffer = refl
+boundary_stays boundaries.EndBuffer = refl
+boundary_stays boundaries.EndBufferOptionalNewline = refl
+
+pub class_escape_stays : (kind : CharacterClassEscapeKind) → Stays (class_escape_text kind)
+class_escape_stays D = refl
+class_escape_stays NegativeD = refl
+class_escape_stays S = refl
+class_escape_stays NegativeS = refl
+class_escape_stays W = refl
+class_escape_stays NegativeW = refl
+
+some : (c : ℕ) (text : List ℕ) → c ∷ text ≢ []
+some c text e = cc
+
+some-append : (u v : List ℕ) → u ≢ [] → u ++ v ≢ []
+some-append [] v h = absurd (h refl)
+some-append (c ∷ u) v h = some c (u ++ v)
+
+some_character : (c : ℕ) → character_text Unicode (outside false) c ≢ []
+unfolding character_text two_digits four_digits braced
+some_character c =
+    let P : List ℕ → Type 0 = λ text. text ≢ [] in
+    cond_both (is_within 9 13 c) _ _ P (λ _. some 92 _) (λ _. cond_both (nat_lt c 32 || is_within 127 159 c) _ _ P (λ _. some 92 _)
+    (λ _. cond_both (c == 0x2028 || c == 0x2029) _ _ P (λ _. some 92 _) (λ _. cond_both (is_within 0xD800 0xDFFF c) _ _ P (λ _. some 92 _)
+    (λ _. cond_both (nat_lt 0x10FFFF c) _ _ P (λ _. some 92 _) (λ _. cond_both (is_syntax_character c || c == 47) _ _ P (λ _. some 92 _) (λ _. some c []))))))
+
+some_counts : (min : ℕ) (max : Option ℕ) → counts_text min max ≢ []
+some_counts min None =
+    let P : List ℕ → Type 0 = λ text. text ≢ [] in
+    cond_both (min == 0) _ _ P (λ _. some 42 _) (λ _. cond_both (min == 1) _ _ P (λ _. some 43 _) (λ _. some 123 _))
+some_counts min (Some max) =
+    let P : List ℕ → Type 0 = λ text. text ≢ [] in
+    cond_both (min == 0 && max == 1) _ _ P (λ _. some 63 _) (λ _. cond_both (min == max) _ _ P (λ _. some 123 _) (λ _. some 123 _))
+
+some_boundary : (kind : BoundaryAssertionKind) → boundary_text kind ≢ []
+some_boundary boundaries.Start = some 94 _
+some_boundary boundaries.End = some 36 _
+some_boundary boundaries.Boundary = some 92 _
+some_boundary boundaries.NegativeBoundary = some 92 _
+some_boundary boundaries.StartBuffer = some 92 _
+some_boundary boundaries.EndBuffer = some 92 _
+some_boundary boundaries.EndBufferOptionalNewline = some 92 _
+
+some_class_escape : (kind : CharacterClassEscapeKind) → class_escape_text kind ≢ []
+some_class_escape D = some 92 _
+some_class_escape NegativeD = some 92 _
+some_class_escape S = some 92 _
+some_class_escape NegativeS = some 92 _
+some_class_escape W = some 92 _
+some_class_escape NegativeW = some 92 _
+
+no_end : (b : Bool) → not b ≡ true → b ≡ false
+no_end true h = absurd (let k : ⊥ = cc h in k)
+no_end false h = refl
+
+module _ (e : Environment) (count : ℕ) (names : List (List ℕ)) where
+  token_stays : (t : Token) → Known e t → Obeys count names t → Stays (token_text Unicode false t)
+  token_stays (boundary kind) k h = boundary_stays kind
+  token_stays (character kind value) k h = character_stays value
+  token_stays dot k h = refl
+  token_stays (class_escape kind) k h = class_escape_stays kind
+  token_stays (property negative strings name value) k h = absurd k
+  token_stays (class c) k h = absurd k
+  token_stays (indexed n) k h = absurd k
+  token_stays (named name) k h = absurd k
+  token_stays (opener o) k h = absurd k
+  token_stays closer k h = absurd k
+  token_stays bar k h = refl
+  token_stays (quantifier min max greedy) k h = quantifier_stays min max greedy h.0 h.1
+
+  tokens_stay : (ts : List Token) → AreKnown e ts → All (Obeys count names) ts → Stays (tokens_text Unicode false ts)
+  tokens_stay [] k h = refl
+  tokens_stay (t ∷ ts) k h =
+      rw (no_reference e t k.0)
+      (stays-append (token_text Unicode false t) (tokens_text Unicode false ts)
+      (token_stays t k.0 (All-head (Obeys count names) t ts h)) (tokens_stay ts k.1 (All-tail (Obeys count names) t ts h)))
+
+  some_token : (t : Token) → Known e t → token_text Unicode false t ≢ []
+  some_token (boundary kind) k = some_boundary kind
+  some_token (character kind value) k = some_character value
+  some_token dot k = some 46 []
+  some_token (class_escape kind) k = some_class_escape kind
+  some_token (property negative strings name value) k = absurd k
+  some_token (class c) k = absurd k
+  some_token (indexed n) k = absurd k
+  some_token (named name) k = absurd k
+  some_token (opener o) k = absurd k
+  some_token closer k = absurd k
+  some_token bar k = some 124 []
+  some_token (quantifier min max greedy) k = some-append (counts_text min max) (lazy_text greedy) (some_counts min max)
+
+  pub some_tokens : (ts : List Token) → AreKnown e ts → ts ≢ [] → tokens_text Unicode false ts ≢ []
+  some_tokens [] k h = absurd (h refl)
+  some_tokens (t ∷ ts) k h = some-append (token_text Unicode false t) (tokens_text Unicode (token_refers t) ts) (some_token t k.0)
+
+-- each by itself
+all_stay : (text : List ℕ) → Stays text → All (λ c. ends_column c ≡ false) text
+all_stay [] h = All-nil (λ c. ends_column c ≡ false)
+all_stay (c ∷ text) h = let k = both (stays c) (list_all stays text) h in All-cons (λ c. ends_column c ≡ false) c text (no_end (ends_column c) k.0) (all_stay text k.1)
+
+pub spelled_in_one_line : (p : Pattern) (us : List CodePoint) → Reads Unicode p us → us ≢ [] → IsOneLine (spelling (bare p) Unicode)
+spelled_in_one_line p us r h =
+    let e = environment Unicode p in
+    let k = are_known e (tokens p) us [] r.spelled.row in
+    subst IsOneLine (sym (spelled_by_tokens Unicode p)) (record {
+      some = some_tokens e (groups p) (names p) (tokens p) k (has_tokens e (tokens p) us r.spelled.row h);
+      stays = all_stay (tokens_text Unicode false (tokens p)) (tokens_stay e (groups p) (names p) (tokens p) k r.early.tokens_obey);
+    })

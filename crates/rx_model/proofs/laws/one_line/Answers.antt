@@ -1,0 +1,5 @@
+use Rattle.rx_model.proofs.OneLines.{spelled_in_one_line}
+use Rattle.rx_model.proofs.laws.one_line.Goals as goal
+
+pub returns : goal.returns
+returns c = spelled_in_one_line

@@ -1,0 +1,71 @@
+use Rattle.std.proofs.Common.{◌≡◌, ◌+◌, ◌<◌, ◌≤◌, ◌^◌, refl, ap, sym, ◌∙◌, subst, length, drop, arith, length-drop, rules}
+use Rattle.rx_units.specs.Reading.{Reading, offset_of}
+use Rattle.rx_model.specs.declared.mode.Mode.TheVariants.{Unicode}
+use Rattle.rx_model.specs.Reading.{IsSpanned, Reads}
+use Rattle.rx_parser.specs.Parsing.{AreFitting, IsParsing, IsRefused}
+use Rattle.rx_parser.proofs.Endings.{IsWhole, parsing_begun, parsing_ended}
+use Rattle.rx_parser.proofs.Turns.{offset_fits}
+use Rattle.rx_parser.proofs.pattern_parser.read_pattern.Goals as goal
+
+pub loop-alloc-init : goal.loop-alloc-init
+loop-alloc-init c =
+    let r = c.args.reader.now in
+    let b = c.new-builder in
+    record {
+      parsing = subst (IsParsing Unicode r.units r.first c.args.spans.now b.result) (sym c.requires.start)
+          (parsing_begun r.units r.first c.args.spans.now c.here.result b.result (c.here.ensures ∙ ap (λ k. offset_of (record r { place = k }) + c.args.spans.now) c.requires.start)
+          b.ensures.events b.ensures.openers b.ensures.ready b.ensures.good (b.ensures.mode ∙ c.requires.mode) c.requires.read);
+      same = refl;
+      mode = b.ensures.mode ∙ c.requires.mode;
+    }
+
+pub turn-requires-clause-fits : goal.turn-requires-clause-fits
+turn-requires-clause-fits c =
+    subst (AreFitting c.args.spans.now) (sym c.loop-alloc.invariant.same) (record { first = c.requires.fits.first; ends = c.requires.fits.ends })
+
+pub loop-alloc-smaller : goal.loop-alloc-smaller
+loop-alloc-smaller c =
+    let it = c.in_ok-turn.ensures in
+    omega (arith, it.moved, it.parsing.within, ap (λ (r : Reading). length r.units) it.same)
+
+pub loop-alloc-preserved : goal.loop-alloc-preserved
+loop-alloc-preserved c =
+    let it = c.in_ok-turn.ensures in
+    record {
+      parsing = it.parsing;
+      same = it.same ∙ ap (λ (r : Reading). record r { place = c.turn.new.reader.place }) c.loop-alloc.invariant.same;
+      mode = it.mode ∙ c.loop-alloc.invariant.mode;
+    }
+
+pub returns-in_err-turn-clause-refused : goal.returns-in_err-turn-clause-refused
+returns-in_err-turn-clause-refused c =
+    let r = c.args.reader.now in
+    let refused : IsRefused Unicode r.units r.first c.args.spans.now c.in_err-turn.field-0.0 =
+        subst (λ (r : Reading). IsRefused Unicode r.units r.first c.args.spans.now c.in_err-turn.field-0.0) c.loop-alloc.invariant.same c.in_err-turn.ensures.refused in
+    search rules
+
+pub here-requires-2 : goal.here-requires-2
+here-requires-2 c =
+    let r = c.args.reader.now in
+    record { fits = subst (λ (r : Reading). offset_of r + c.args.spans.now < 2 ^ 32) (sym c.loop-alloc.invariant.same) (offset_fits c.args.spans.now r.first r.units _ c.requires.fits.first c.requires.fits.ends) }
+
+pub finish-requires : goal.finish-requires
+finish-requires c = c.loop-alloc.invariant.parsing.closed
+
+pub returns-clause-reads : goal.returns-clause-reads
+returns-clause-reads c =
+    let r = c.loop-alloc.reader in
+    let it = c.in_ok-finish in
+    let left : length (drop r.place r.units) ≡ 0 = search rules in
+    let whole = parsing_ended r.units r.first c.args.spans.now it.field-0 c.loop-alloc.builder r.place c.here-2.result c.loop-alloc.invariant.parsing (omega (arith, left, length-drop r.place r.units))
+        c.here-2.ensures it.ensures.events it.ensures.good in
+    subst (λ (r : Reading). Reads Unicode it.field-0 r.units) c.loop-alloc.invariant.same whole.reads
+
+pub returns-clause-spanned : goal.returns-clause-spanned
+returns-clause-spanned c =
+    let r = c.loop-alloc.reader in
+    let it = c.in_ok-finish in
+    let left : length (drop r.place r.units) ≡ 0 = search rules in
+    let whole = parsing_ended r.units r.first c.args.spans.now it.field-0 c.loop-alloc.builder r.place c.here-2.result c.loop-alloc.invariant.parsing (omega (arith, left, length-drop r.place r.units))
+        c.here-2.ensures it.ensures.events it.ensures.good in
+    subst (λ (r : Reading). IsSpanned Unicode it.field-0 r.units r.first c.args.spans.now) c.loop-alloc.invariant.same whole.spanned
