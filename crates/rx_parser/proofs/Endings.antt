@@ -80,7 +80,7 @@ module _ (us : List CodePoint) (first added : ℕ) (p : Pattern) where
       let end : place ≡ length us = omega (arith, l, h.within) in
       let nothing : drop place us ≡ [] = drop_all place us l in
       let there : IsAt text (λ i. offset_at first us i + added) b us (length us) [] =
-          subst (λ k. IsAt text (λ i. offset_at first us i + added) b us k []) end (subst (IsAt text (λ i. offset_at first us i + added) b us place) nothing h.at) in
+      subst (λ k. IsAt text (λ i. offset_at first us i + added) b us k []) end (subst (IsAt text (λ i. offset_at first us i + added) b us place) nothing h.at) in
       let f = finished text (λ i. offset_at first us i + added) b us at p (a ∙ ap (λ i. offset_at first us i + added) end) there m g in
       whole f.0 f.1 (subst (All (Obeys 0 [])) (sym (ap tokens_of m ∙ tokens_of-append (builder_events b) (leave at ∷ leave at ∷ leave at ∷ []) ∙ append-nil (tokens_of (builder_events b)))) h.obey)
 

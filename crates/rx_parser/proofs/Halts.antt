@@ -1,20 +1,19 @@
 -- Where the reading halts no token that obeys stands next, and the halt is the cause of a refusal.
-use Rattle.std.proofs.Common.{◌≡◌, ◌≢◌, refl, ap, sym, ◌∙◌, subst, ℕ, zero, suc, ◌+◌, ◌-◌, ◌*◌, ◌^◌, ◌<◌, ◌≤◌, ◌⊎◌, inl, inr, Bool, true, false, Option, Some, None, List, [], ◌∷◌, ◌++◌, ◌==◌, length, drop, arith}
+use Rattle.std.proofs.Common.{◌≡◌, refl, ap, sym, ◌∙◌, subst, ℕ, zero, suc, ◌+◌, ◌-◌, ◌*◌, ◌^◌, ◌<◌, ◌≤◌, inl, inr, Bool, true, false, Option, Some, None, List, [], ◌∷◌, ◌++◌, ◌==◌, length, drop, arith}
 use Rattle.std.proofs.lemmas.Bool.{cond-true, true≢false}
-use Rattle.std.proofs.lemmas.List.{length-map}
 use Rattle.rx_units.specs.declared.code_point.CodePoint.{CodePoint}
 use Rattle.rx_units.specs.Units.{values}
 use Rattle.rx_tables.specs.Characters.{is_decimal_digit}
 use Rattle.rx_model.specs.declared.mode.Mode.TheVariants.{Unicode}
-use Rattle.rx_model.specs.Causes.{IsPlace, HasBraces, IsOutOfOrder, IsTooLarge, IsCause, incomplete, lone, out_of_order, too_large, too_many_digits, too_many_hex_digits, invalid_escape}
+use Rattle.rx_model.specs.Causes.{IsPlace, HasBraces, IsOutOfOrder, IsTooLarge, incomplete, out_of_order, too_large, too_many_digits, too_many_hex_digits, invalid_escape}
 use Rattle.rx_model.specs.Decoding.{Decoded, value, invalid, overflow, decoded}
-use Rattle.rx_model.specs.Early.{Obeys, greatest_count}
+use Rattle.rx_model.specs.Early.{Obeys}
 use Rattle.rx_model.specs.Escapes.{front_is}
-use Rattle.rx_model.specs.Fronts.{EscapeRead, too_many, escape_at, escaped_token, unicode_read, backslash_front, Digits, digits, digits_behind, Counts, counts, no_counts, counts_at, counts_in_braces, counts_behind_comma, greatest_of, quantifier_token, front}
-use Rattle.rx_model.specs.Quantifiers.{SpellsBraces, exactly, at_least, between, braces, decimal_behind, decimal_digit_value, AreDigits, PassesDecimal, PassesLimit, first, second, is_question}
+use Rattle.rx_model.specs.Fronts.{escape_at, escaped_token, unicode_read, backslash_front, Digits, digits, digits_behind, Counts, counts, no_counts, counts_at, counts_in_braces, counts_behind_comma, greatest_of, quantifier_token, front}
+use Rattle.rx_model.specs.Quantifiers.{SpellsBraces, exactly, at_least, between, braces, AreDigits, PassesDecimal, PassesLimit, first, second, is_question}
 use Rattle.rx_model.specs.Token.{Token, quantifier}
 use Rattle.rx_model.specs.UnicodeEscapes.{Decodes, PassesHex}
-use Rattle.rx_model.proofs.Decodings.{chosen, value_law, read_overflow}
+use Rattle.rx_model.proofs.Decodings.{chosen, value_law}
 use Rattle.rx_model.proofs.Escapes.{too_many_escape}
 use Rattle.rx_model.proofs.Fronts.{front_by_values}
 use Rattle.rx_model.proofs.Quantifiers.{spelled_counts, digits_read}
@@ -23,7 +22,7 @@ use Rattle.rx_parser.specs.declared.front.Halt.{Halt}
 use Rattle.rx_parser.specs.declared.front.Halt.TheVariants as halt
 use Rattle.rx_parser.specs.Found.{IsHalt}
 use Rattle.rx_parser.specs.Frames.{ready}
-use Rattle.rx_parser.specs.Parsing.{IsParsing, IsInvalid, IsRefused, IsSmall, halt_fault}
+use Rattle.rx_parser.specs.Parsing.{IsParsing, IsInvalid, IsRefused, halt_fault}
 use Rattle.rx_parser.proofs.Digits.{digit_there, digits_past, digits_le}
 use Rattle.rx_parser.proofs.Places.{text, IsDead, reached, dead_end, some_left}
 
@@ -75,7 +74,7 @@ dead_numbers us min max n h not =
     let b = brace_first min max h.prefix h.spelled in
     let whole : values us ≡ 123 ∷ (b.0 ++ h.behind) = h.whole ∙ ap (λ w. w ++ h.behind) b.1 in
     let read : counts_at (123 ∷ (b.0 ++ h.behind)) ≡ counts min max (length h.prefix) =
-        ap counts_at (sym (ap (λ w. w ++ h.behind) b.1)) ∙ spelled_counts min max h.prefix h.behind (braces h.spelled) in
+    ap counts_at (sym (ap (λ w. w ++ h.behind) b.1)) ∙ spelled_counts min max h.prefix h.behind (braces h.spelled) in
     dead_braces us (b.0 ++ h.behind) whole (λ low high k e.
     let same : counts min max (length h.prefix) ≡ counts low high k = sym read ∙ e in
     let low_is : min ≡ low = cc same in
@@ -96,8 +95,8 @@ passed : (ds : List ℕ) (next : ℕ) (rest : List ℕ) (n end : ℕ) (behind : 
 passed ds next rest n end behind p h =
     let t = digit_there next p.digit p.digit_is in
     let e : digits_behind (10 * p.number + (next - 48)) (0 + length ds + 1) rest ≡ digits n end behind =
-        sym (cond-true (is_decimal_digit next) (digits_behind (10 * p.number + (next - 48)) (0 + length ds + 1) rest) (digits p.number (0 + length ds) (next ∷ rest)) t.0)
-        ∙ sym (digits_past 0 0 ds (next ∷ rest) p.number p.number_is) ∙ h in
+    sym (cond-true (is_decimal_digit next) (digits_behind (10 * p.number + (next - 48)) (0 + length ds + 1) rest) (digits p.number (0 + length ds) (next ∷ rest)) t.0)
+    ∙ sym (digits_past 0 0 ds (next ∷ rest) p.number p.number_is) ∙ h in
     let k = digits_le (10 * p.number + (next - 48)) (0 + length ds + 1) rest n end behind e in
     omega (arith, k, p.passes, t.1)
 
@@ -150,8 +149,8 @@ some_passed : (ds : List ℕ) (next : ℕ) (rest : List ℕ) (n end : ℕ) (behi
 some_passed ds next rest n end behind p h =
     let t = digit_there next p.digit p.digit_is in
     let e : digits_behind (10 * p.number + (next - 48)) (0 + length ds + 1) rest ≡ digits n end behind =
-        sym (cond-true (is_decimal_digit next) (digits_behind (10 * p.number + (next - 48)) (0 + length ds + 1) rest) (digits p.number (0 + length ds) (next ∷ rest)) t.0)
-        ∙ sym (digits_past 0 0 ds (next ∷ rest) p.number p.number_is) ∙ h in
+    sym (cond-true (is_decimal_digit next) (digits_behind (10 * p.number + (next - 48)) (0 + length ds + 1) rest) (digits p.number (0 + length ds) (next ∷ rest)) t.0)
+    ∙ sym (digits_past 0 0 ds (next ∷ rest) p.number p.number_is) ∙ h in
     let k = digits_more (10 * p.number + (next - 48)) (0 + length ds + 1) rest n end behind e in
     omega (arith, k)
 
@@ -175,7 +174,7 @@ passing _ _ _ (second {n} ds es next rest a small p) =
     let l = some_count n ds a in
     let more : List ℕ = es ++ (next ∷ rest) in
     let read : counts_at (123 ∷ (ds ++ (44 ∷ more))) ≡ counts_behind_comma n (suc l.0) (digits_behind 0 0 more) =
-        ap counts_in_braces (digits_read 0 0 ds (44 ∷ more) n a.number refl ∙ ap (λ c. digits n c (44 ∷ more)) (let z : 0 + length ds ≡ suc l.0 = omega (arith, l.1) in z)) in
+    ap counts_in_braces (digits_read 0 0 ds (44 ∷ more) n a.number refl ∙ ap (λ c. digits n c (44 ∷ more)) (let z : 0 + length ds ≡ suc l.0 = omega (arith, l.1) in z)) in
     record {
       behind = ds ++ (44 ∷ more);
       whole = refl;

@@ -1,5 +1,5 @@
 -- What a place that a parse has reached says of the whole text.
-use Rattle.std.proofs.Common.{◌≡◌, refl, ap, sym, ◌∙◌, subst, ℕ, ◌+◌, ◌<◌, Bool, Option, Some, None, List, [], ◌∷◌, ◌++◌, length, drop, arith, length-drop}
+use Rattle.std.proofs.Common.{◌≡◌, refl, ap, ◌∙◌, subst, ℕ, ◌+◌, ◌<◌, Bool, Option, Some, List, [], ◌∷◌, ◌++◌, length, drop, arith, length-drop}
 use Rattle.std.specs.Prelude.{All}
 use Rattle.std.proofs.lemmas.List.Elements.{All-head, All-tail}
 use Rattle.rx_ast.specs.declared.term.Pattern.{Pattern}
@@ -14,13 +14,12 @@ use Rattle.rx_model.specs.Names.{groups, names}
 use Rattle.rx_model.specs.Reached.{IsReached, text_environment}
 use Rattle.rx_model.specs.Reading.{Reads}
 use Rattle.rx_model.specs.Rows.{Spells, TokenRow}
-use Rattle.rx_model.specs.Shapes.{run}
 use Rattle.rx_model.specs.Token.{Token, Opener, boundary, character, dot, class_escape, property, class, indexed, named, opener, closer, bar, quantifier}
 use Rattle.rx_model.proofs.Fronts.{spelled_front}
 use Rattle.rx_model.proofs.Joins.{row_tokens}
 use Rattle.rx_model.proofs.OneRow.{TokenRow-mode}
 use Rattle.rx_parser.specs.declared.builder.Builder.{Builder}
-use Rattle.rx_parser.specs.Frames.{builder_events, openers, ready}
+use Rattle.rx_parser.specs.Frames.{builder_events, ready}
 use Rattle.rx_parser.specs.Parsing.{IsParsing, IsInvalid}
 use Rattle.rx_parser.proofs.Steps.{IsAhead, pattern_ahead}
 

@@ -6,7 +6,6 @@ use Rattle.std.proofs.lemmas.List.{drop-drop}
 use Rattle.std.proofs.lemmas.List.Elements.{All-append, All-cons, All-head, All-nil, All-tail}
 use Rattle.rx_base.specs.declared.fault.Fault.TheVariants.{Diagnostic}
 use Rattle.rx_base.specs.declared.diagnostic.Diagnostic.TheVariants.{LoneQuantifier}
-use Rattle.rx_ast.specs.declared.term.Pattern.{Pattern}
 use Rattle.rx_ast.specs.declared.term.Term.{Term}
 use Rattle.rx_ast.specs.Tree.{mirror_term}
 use Rattle.rx_units.specs.declared.code_point.CodePoint.{CodePoint}
@@ -17,10 +16,10 @@ use Rattle.rx_model.specs.Causes.{IsCause, lone}
 use Rattle.rx_model.specs.Early.{Obeys}
 use Rattle.rx_model.specs.Events.{Events, enter, leave, token, term_events, tokens_of}
 use Rattle.rx_model.specs.Fronts.{front}
-use Rattle.rx_model.specs.Reached.{IsReached, span_between}
+use Rattle.rx_model.specs.Reached.{IsReached}
 use Rattle.rx_model.specs.Rows.{TokenRow}
 use Rattle.rx_model.specs.Shapes.{run, takes}
-use Rattle.rx_model.specs.Token.{Token, Opener, bar, quantifier}
+use Rattle.rx_model.specs.Token.{Token, bar, quantifier}
 use Rattle.rx_model.proofs.Flat.{tokens_of-append}
 use Rattle.rx_model.proofs.Fronts.{front_spelled, spelled_front, spelled_some}
 use Rattle.rx_parser.specs.declared.builder.Builder.{Builder}
@@ -30,7 +29,7 @@ use Rattle.rx_parser.specs.Frames.{builder_events, openers, ready}
 use Rattle.rx_parser.specs.Good.{IsGood, IsGoodTerm}
 use Rattle.rx_parser.specs.Levels.{Repeats}
 use Rattle.rx_parser.specs.NotYet.{holds_unread}
-use Rattle.rx_parser.specs.Parsing.{IsParsing, IsInvalid, IsRefused}
+use Rattle.rx_parser.specs.Parsing.{IsParsing, IsRefused}
 use Rattle.rx_parser.specs.Progress.{IsAt, IsLeafOf, Advances}
 use Rattle.rx_parser.proofs.Halts.{same_token}
 use Rattle.rx_parser.proofs.Pieces.{unread_behind}
@@ -90,7 +89,7 @@ module _ (us : List CodePoint) (first added : ℕ) (b : Builder) (place : ℕ) (
       let f = front_spelled text (drop place us) t n s.0 in
       let on : next n ≡ place + n = place_on us place n h.within s.1 in
       let rest : drop (next n) us ≡ f.rest =
-          ap (λ k. drop k us) on ∙ sym (drop-drop n place us) ∙ ap (drop n) f.whole ∙ ap (λ k. drop k (f.w ++ f.rest)) (sym f.count) ∙ drop-append_seam f.w f.rest in
+      ap (λ k. drop k us) on ∙ sym (drop-drop n place us) ∙ ap (drop n) f.whole ∙ ap (λ k. drop k (f.w ++ f.rest)) (sym f.count) ∙ drop-append_seam f.w f.rest in
       record {
         at = subst (IsAt text (λ i. offset_at first us i + added) c us (next n)) (sym rest)
             (adv (λ i. offset_at first us i + added) place (next n) us f.w f.rest a z f.spells (on ∙ ap (λ k. place + k) (sym f.count))
@@ -142,8 +141,7 @@ module _ (us : List CodePoint) (first added : ℕ) (b : Builder) (place : ℕ) (
   lone_refused min max greedy n at after s a z q =
       let f = front_spelled text (drop place us) (quantifier min max greedy) n s.0 in
       let on : next n ≡ place + length f.w = place_on us place n h.within s.1 ∙ ap (λ k. place + k) (sym f.count) in
-      let here : IsReached Unicode us place [] false (f.w ++ f.rest) = subst (IsReached Unicode us place [] false) f.whole (subst (λ r. IsReached Unicode us place [] r (drop place us)) q (reached us first added b place h)) in
-      (
+      let here : IsReached Unicode us place [] false (f.w ++ f.rest) = subst (IsReached Unicode us place [] false) f.whole (subst (λ r. IsReached Unicode us place [] r (drop place us)) q (reached us first added b place h)) in (
         subst (λ x. IsCause Unicode us first added (LoneQuantifier (record { start = at; end = x }))) (sym (z ∙ ap (λ k. offset_at first us k + added) on))
             (subst (λ x. IsCause Unicode us first added (LoneQuantifier (record { start = x; end = offset_at first us (place + length f.w) + added }))) (sym a)
             (lone place min max greedy [] f.w f.rest here refl f.spells s.2)),

@@ -8,7 +8,6 @@ use Rattle.rx_model.specs.Environment.{Environment}
 use Rattle.rx_model.specs.Events.{node_events, nodes_events, alternatives_events, barred_events, leaf_event, tokens}
 use Rattle.rx_model.specs.Names.{groups, names, node_groups, nodes_groups, alternatives_groups, node_names, nodes_names, alternatives_names, once_behind, AreApart, IsNodeApart, AreNodesApart, AreAlternativesApart}
 use Rattle.rx_model.specs.Rows.{TokenRow, Spells}
-use Rattle.rx_model.specs.Shapes.{HasAlternatives}
 use Rattle.rx_model.specs.Token.{Token, boundary, character, dot, class_escape, property, class, indexed, named, opener, closer, bar, quantifier}
 use Rattle.rx_model.proofs.Flat.{before, before-append, before_leaf, before_within, before_quantified, before_group, before_alternative, tokens_are}
 

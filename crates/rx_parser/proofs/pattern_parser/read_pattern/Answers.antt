@@ -1,9 +1,9 @@
-use Rattle.std.proofs.Common.{◌≡◌, ◌+◌, ◌<◌, ◌≤◌, ◌^◌, refl, ap, sym, ◌∙◌, subst, length, drop, arith, length-drop, rules}
+use Rattle.std.proofs.Common.{◌≡◌, ◌+◌, ◌<◌, ◌^◌, refl, ap, sym, ◌∙◌, subst, length, drop, arith, length-drop, rules}
 use Rattle.rx_units.specs.Reading.{Reading, offset_of}
 use Rattle.rx_model.specs.declared.mode.Mode.TheVariants.{Unicode}
 use Rattle.rx_model.specs.Reading.{IsSpanned, Reads}
 use Rattle.rx_parser.specs.Parsing.{AreFitting, IsParsing, IsRefused}
-use Rattle.rx_parser.proofs.Endings.{IsWhole, parsing_begun, parsing_ended}
+use Rattle.rx_parser.proofs.Endings.{parsing_begun, parsing_ended}
 use Rattle.rx_parser.proofs.Turns.{offset_fits}
 use Rattle.rx_parser.proofs.pattern_parser.read_pattern.Goals as goal
 
@@ -41,7 +41,7 @@ pub returns-in_err-turn-clause-refused : goal.returns-in_err-turn-clause-refused
 returns-in_err-turn-clause-refused c =
     let r = c.args.reader.now in
     let refused : IsRefused Unicode r.units r.first c.args.spans.now c.in_err-turn.field-0.0 =
-        subst (λ (r : Reading). IsRefused Unicode r.units r.first c.args.spans.now c.in_err-turn.field-0.0) c.loop-alloc.invariant.same c.in_err-turn.ensures.refused in
+    subst (λ (r : Reading). IsRefused Unicode r.units r.first c.args.spans.now c.in_err-turn.field-0.0) c.loop-alloc.invariant.same c.in_err-turn.ensures.refused in
     search rules
 
 pub here-requires-2 : goal.here-requires-2
@@ -58,7 +58,7 @@ returns-clause-reads c =
     let it = c.in_ok-finish in
     let left : length (drop r.place r.units) ≡ 0 = search rules in
     let whole = parsing_ended r.units r.first c.args.spans.now it.field-0 c.loop-alloc.builder r.place c.here-2.result c.loop-alloc.invariant.parsing (omega (arith, left, length-drop r.place r.units))
-        c.here-2.ensures it.ensures.events it.ensures.good in
+    c.here-2.ensures it.ensures.events it.ensures.good in
     subst (λ (r : Reading). Reads Unicode it.field-0 r.units) c.loop-alloc.invariant.same whole.reads
 
 pub returns-clause-spanned : goal.returns-clause-spanned
@@ -67,5 +67,5 @@ returns-clause-spanned c =
     let it = c.in_ok-finish in
     let left : length (drop r.place r.units) ≡ 0 = search rules in
     let whole = parsing_ended r.units r.first c.args.spans.now it.field-0 c.loop-alloc.builder r.place c.here-2.result c.loop-alloc.invariant.parsing (omega (arith, left, length-drop r.place r.units))
-        c.here-2.ensures it.ensures.events it.ensures.good in
+    c.here-2.ensures it.ensures.events it.ensures.good in
     subst (λ (r : Reading). IsSpanned Unicode it.field-0 r.units r.first c.args.spans.now) c.loop-alloc.invariant.same whole.spanned

@@ -1,4 +1,4 @@
-use Rattle.std.proofs.Common.{◌≡◌, ◌+◌, ◌^◌, ◌<◌, ap, sym, ◌∙◌, subst}
+use Rattle.std.proofs.Common.{◌+◌, ◌^◌, ◌<◌, ap, sym, ◌∙◌, subst}
 use Rattle.rx_units.specs.Reading.{offset_of, moved}
 use Rattle.rx_parser.proofs.Turns.{offset_fits}
 use Rattle.rx_parser.proofs.turn.span_ahead.Goals as goal

@@ -1,4 +1,4 @@
-use Rattle.std.proofs.Common.{◌≡◌, IfOk, rules}
+use Rattle.std.proofs.Common.{IfOk, rules}
 use Rattle.std.proofs.lemmas.Result.{IfOk-weaker}
 use Rattle.rx_model.specs.Reading.{Reads}
 use Rattle.rx_parser.specs.Parsing.{mode_of_state}
