@@ -44,8 +44,9 @@ returns-in-Err-Diagnostic c =
     let is : c.canonical.result ≡ Err (fault.Diagnostic cause) = c.in-Err-Diagnostic.is ∙ ap Err c.in-Err-Diagnostic.field-0-is in
     let read : is_not_yet request.form request.text request.flags ≡ false =
     read_already _ _ _ _ c.canonical.ensures.later (λ e. let e' = sym is ∙ e in cc) (λ e. let e' = sym is ∙ e in cc) in
-    let P : ℕ → ℕ → Type 0 = λ m n. IsLiteralCause request.text (flags_of request.flags) m n cause in
-    let refused : P 0 0 = c.canonical.ensures.refused cause is in
+    let P : ℕ → Type 0 = λ n. IsLiteralCause request.text (flags_of request.flags) n c.default-options.result.flags_span_offset cause in
+    let Q : ℕ → Type 0 = λ n. IsLiteralCause request.text (flags_of request.flags) 0 n cause in
+    let refused : Q 0 = subst Q (search rules) (subst P (search rules) (c.canonical.ensures.refused cause is)) in
     let none : (pattern : Pattern) → IsReadAs request pattern → ⊥ = λ pattern r.
     refused_not_read _ cause is (c.canonical.ensures.complete (record { flags_are = r.flags_are; pattern = pattern; reads = r.reads })) in
     let add = c.add_err in
