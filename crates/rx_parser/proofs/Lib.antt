@@ -2,14 +2,17 @@ pub mod Agains
 pub mod Digits
 pub mod Endings
 pub mod EventEquations
+pub mod FlagTexts
 pub mod FrameEvents
 pub mod FrontFound
 pub mod Goods
 pub mod Halts
 pub mod Leaves
+pub mod Literals
 pub mod Pieces
 pub mod Places
 pub mod Prefixes
 pub mod Steps
+pub mod TextUnits
 pub mod Turns
 pub mod Ungrouped

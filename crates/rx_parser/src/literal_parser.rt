@@ -49,23 +49,23 @@ impl<'a> LiteralParser<'a> {
         requires flags { self.options.flags_span_offset + flags_length self.flags_text < 2 ^ 32 }
 
         // The tree is spelled by the text under the mode of the flags and the only one but for spans, and each of its nodes has the span of what it spells.
-        ensures reads { IfOk result (λ it. Reads (mode_of (flags_of (flags_chars self.flags_text.entry))) it
-            (units_of (mode_of (flags_of (flags_chars self.flags_text.entry))) (chars self.pattern_text.now))) }
-        ensures only { IfOk result (λ it. IsOnly (mode_of (flags_of (flags_chars self.flags_text.entry))) it
-            (units_of (mode_of (flags_of (flags_chars self.flags_text.entry))) (chars self.pattern_text.now))) }
-        ensures spanned { IfOk result (λ it. IsSpanned (mode_of (flags_of (flags_chars self.flags_text.entry))) it
-            (units_of (mode_of (flags_of (flags_chars self.flags_text.entry))) (chars self.pattern_text.now)) 0 self.entry.options.pattern_span_offset) }
+        ensures reads { IfOk result (λ it. Reads (mode_of (flags_of (flags_chars self.entry.flags_text))) it
+            (units_of (mode_of (flags_of (flags_chars self.entry.flags_text))) (chars self.entry.pattern_text.now))) }
+        ensures only { IfOk result (λ it. IsOnly (mode_of (flags_of (flags_chars self.entry.flags_text))) it
+            (units_of (mode_of (flags_of (flags_chars self.entry.flags_text))) (chars self.entry.pattern_text.now))) }
+        ensures spanned { IfOk result (λ it. IsSpanned (mode_of (flags_of (flags_chars self.entry.flags_text))) it
+            (units_of (mode_of (flags_of (flags_chars self.entry.flags_text))) (chars self.entry.pattern_text.now)) 0 self.entry.options.pattern_span_offset) }
 
         // Ok comes on valid input alone. On valid input the answer is Ok, or memory is wanting, or it is not read yet.
-        ensures valid { OnOk result (IsValid (chars self.pattern_text.now) (flags_chars self.flags_text.entry)) }
-        ensures complete { IsValid (chars self.pattern_text.now) (flags_chars self.flags_text.entry)
+        ensures valid { OnOk result (IsValid (chars self.entry.pattern_text.now) (flags_chars self.entry.flags_text)) }
+        ensures complete { IsValid (chars self.entry.pattern_text.now) (flags_chars self.entry.flags_text)
             → IfErr result (λ fault. (fault ≡ Fault.OutOfMemory) ⊎ (fault ≡ Fault.NotYet)) }
 
         // A refusal has its cause: that of the flags, or where they are right that of the text.
         ensures refused { (cause : Refusal) → result ≡ Err (Fault.Diagnostic cause)
-            → IsLiteralCause (chars self.pattern_text.now) (flags_of (flags_chars self.flags_text.entry)) self.entry.options.pattern_span_offset self.entry.options.flags_span_offset cause }
-        ensures not_yet { result ≡ Err Fault.NotYet → IsTrue (is_unread_literal (chars self.pattern_text.now) (flags_chars self.flags_text.entry)) }
-        ensures later { IsTrue (is_unread_literal (chars self.pattern_text.now) (flags_chars self.flags_text.entry))
+            → IsLiteralCause (chars self.entry.pattern_text.now) (flags_of (flags_chars self.entry.flags_text)) self.entry.options.pattern_span_offset self.entry.options.flags_span_offset cause }
+        ensures not_yet { result ≡ Err Fault.NotYet → IsTrue (is_unread_literal (chars self.entry.pattern_text.now) (flags_chars self.entry.flags_text)) }
+        ensures later { IsTrue (is_unread_literal (chars self.entry.pattern_text.now) (flags_chars self.entry.flags_text))
             → (result ≡ Err Fault.NotYet) ⊎ (result ≡ Err Fault.OutOfMemory) }
     {
         let LiteralParser {

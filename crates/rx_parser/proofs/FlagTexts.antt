@@ -1,0 +1,50 @@
+-- What the units of a flags text say of it.
+use Rattle.std.proofs.Common.{◌≡◌, refl, ap, sym, ◌∙◌, ℕ, ◌+◌, Bool, true, false, ◌||◌, List, [], ◌∷◌}
+use Rattle.std.specs.Prelude.{if◌then◌else◌}
+use Rattle.std.specs.Char.{len_utf8}
+use Rattle.rx_base.specs.declared.diagnostic.Diagnostic.{Diagnostic}
+use Rattle.rx_units.specs.Units.{literal_units, values}
+use Rattle.rx_model.specs.declared.mode.Mode.TheVariants.{Legacy, Unicode, Sets}
+use Rattle.rx_model.specs.Environment.{is_unicode}
+use Rattle.rx_model.specs.FlagCauses.{IsFlagCause}
+use Rattle.rx_model.specs.Flags.{flag_units, flags_ok, holds, mode_of, modes_of}
+use Rattle.rx_model.specs.Modes.{mode_by}
+use Rattle.rx_scan.proofs.FlagPlaces.{flag_cause_refuses}
+
+-- each character is one unit of its value
+pub values_of_units : (at : ℕ) (cs : List ℕ) → values (literal_units true at cs) ≡ cs
+values_of_units at [] = refl
+values_of_units at (c ∷ cs) = ap (λ xs. c ∷ xs) (values_of_units (at + len_utf8 c) cs)
+
+-- refused flags are no flags
+pub refused_flags : (flags : List ℕ) (added : ℕ) (cause : Diagnostic) → IsFlagCause (flag_units flags) 0 added cause → flags_ok flags ≡ false
+refused_flags flags added cause h = ap flags_ok (sym (values_of_units 0 flags)) ∙ flag_cause_refuses (flag_units flags) 0 added cause h
+
+modes_give : (sets unicode : Bool) → mode_by (sets || unicode) sets ≡ (if sets then Sets else (if unicode then Unicode else Legacy))
+modes_give true unicode = refl
+modes_give false true = refl
+modes_give false false = refl
+
+-- the mode of the two truth values that the flags give
+pub mode_of_modes : (flags : List ℕ) (modes : Bool × Bool) → modes ≡ modes_of flags → mode_by modes.0 modes.1 ≡ mode_of flags
+mode_of_modes flags modes h =
+    ap (λ (p : Bool × Bool). mode_by p.0 p.1) h ∙ modes_give (holds flags 118) (holds flags 117)
+
+unicode_is : (sets unicode : Bool) → is_unicode (mode_by (sets || unicode) sets) ≡ (sets || unicode)
+unicode_is true unicode = refl
+unicode_is false true = refl
+unicode_is false false = refl
+
+-- the first of them is whether that is a unicode mode
+pub unicode_of_modes : (flags : List ℕ) (modes : Bool × Bool) → modes ≡ modes_of flags → modes.0 ≡ is_unicode (mode_of flags)
+unicode_of_modes flags modes h =
+    ap (λ (p : Bool × Bool). p.0) h ∙ sym (unicode_is (holds flags 118) (holds flags 117)) ∙ ap is_unicode (modes_give (holds flags 118) (holds flags 117))
+
+sets_or : (sets unicode : Bool) → sets ≡ true → (sets || unicode) ≡ true
+sets_or true unicode h = refl
+sets_or false unicode h = absurd (let no : ⊥ = cc in no)
+
+-- the second asks for the first
+pub sets_in_unicode : (flags : List ℕ) (modes : Bool × Bool) → modes ≡ modes_of flags → modes.1 ≡ true → modes.0 ≡ true
+sets_in_unicode flags modes h sets =
+    ap (λ (p : Bool × Bool). p.0) h ∙ sets_or (holds flags 118) (holds flags 117) (sym (ap (λ (p : Bool × Bool). p.1) h) ∙ sets)
