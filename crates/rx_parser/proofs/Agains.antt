@@ -76,3 +76,14 @@ module _ (text : List ℕ) (flags : Option (List ℕ)) (p : Pattern) (it : IsAga
     | inl memory ↦ memory
     | inr unread ↦ not_unread (not_yet (ap Err unread))
   ]
+
+-- What a parse says of a canonical spelling, by what it says of every text.
+pub read_again : (text : List ℕ) (flags : Option (List ℕ)) (r : Result Pattern Fault)
+    → IfOk r (λ q. IsOnly (mode_of (flags_of flags)) q (units_of (mode_of (flags_of flags)) text))
+    → (IsValid text flags → IfErr r (λ fault. (fault ≡ OutOfMemory) ⊎ (fault ≡ NotYet)))
+    → (r ≡ Err NotYet → IsTrue (is_unread_literal text flags))
+    → (p : Pattern) (us : List CodePoint) → Reads Unicode p us → us ≢ [] → text ≡ spelling (bare p) Unicode → flags_ok (flags_of flags) ≡ true → mode_of (flags_of flags) ≡ Unicode
+    → IfOk r (λ q. bare q ≡ bare p) × IfErr r (λ fault. fault ≡ OutOfMemory)
+read_again text flags r only complete not_yet p us reads some e ok m =
+    let it = again p us text reads some e in
+    (tree_again text flags p it ok m r only, fault_again text flags p it ok m r complete not_yet)
