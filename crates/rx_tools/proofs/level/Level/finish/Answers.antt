@@ -1,7 +1,0 @@
-use Rattle.std.proofs.Common.{refl, ap, ◌∙◌}
-use Rattle.rx_ast.specs.declared.term.Disjunction.{out-roll-Disjunction}
-use Rattle.rx_tools.proofs.EventEquations.{level_finish}
-use Rattle.rx_tools.proofs.level.Level.finish.Goals as goal
-
-pub returns : goal.returns
-returns c = level_finish c.args.self _ _ c.args.at (ap (λ d. d.body) (out-roll-Disjunction _) ∙ c.in_ok-push.ensures.ok) (ap (λ d. d.span.start) (out-roll-Disjunction _) ∙ ap (λ s. s.start) c.new-2.ensures) (ap (λ d. d.span.end) (out-roll-Disjunction _) ∙ ap (λ s. s.end) c.new-2.ensures) (ap (λ s. s.start) c.new.ensures) (ap (λ s. s.end) c.new.ensures) refl
