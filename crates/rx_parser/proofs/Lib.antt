@@ -1,3 +1,4 @@
+pub mod Agains
 pub mod Digits
 pub mod Endings
 pub mod EventEquations

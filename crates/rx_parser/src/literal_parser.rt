@@ -1,9 +1,14 @@
-ghost use Rattle.std.specs.Prelude.{◌≡◌, ℕ, ◌+◌, ◌<◌, ◌≤◌, ◌^◌, ◌⊎◌, max, true, IfErr, IfOk, IsTrue, OnOk, length};
+ghost use Rattle.std.specs.Prelude.{◌≡◌, ℕ, ◌+◌, ◌<◌, ◌≤◌, ◌^◌, ◌⊎◌, ◌≢◌, max, true, List, [], IfErr, IfOk, IsTrue, OnOk, length};
 ghost use Rattle.std.specs.Str.{chars};
 ghost use Rattle.rx_base.specs.declared.diagnostic.Diagnostic.{Diagnostic as Refusal};
+ghost use Rattle.rx_ast.specs.declared.term.Pattern.{Pattern};
+ghost use Rattle.rx_ast.specs.Forget.{bare};
+ghost use Rattle.rx_units.specs.declared.code_point.CodePoint.{CodePoint};
 ghost use Rattle.rx_units.specs.Units.{literal_units};
+ghost use Rattle.rx_model.specs.declared.mode.Mode.TheVariants.{Unicode};
 ghost use Rattle.rx_model.specs.Flags.{flags_of, flags_ok, mode_of, modes_of};
 ghost use Rattle.rx_model.specs.Reading.{IsOnly, IsSpanned, IsValid, Reads, literal_text, units_of};
+ghost use Rattle.rx_model.specs.Spelling.{spelling};
 ghost use Rattle.rx_parser.specs.Literals.{IsFlagFault, IsLiteralCause, flags_chars, flags_length};
 ghost use Rattle.rx_parser.specs.NotYet.{is_unread_literal};
 
@@ -67,6 +72,12 @@ impl<'a> LiteralParser<'a> {
         ensures not_yet { result ≡ Err Fault.NotYet → IsTrue (is_unread_literal (chars self.entry.pattern_text.now) (flags_chars self.entry.flags_text)) }
         ensures later { IsTrue (is_unread_literal (chars self.entry.pattern_text.now) (flags_chars self.entry.flags_text))
             → (result ≡ Err Fault.NotYet) ⊎ (result ≡ Err Fault.OutOfMemory) }
+
+        // Reading a canonical spelling gives the tree that was spelled, but for spans and character kinds, or memory is wanting.
+        ensures again { (p : Pattern) (us : List CodePoint) → Reads Unicode p us → us ≢ []
+            → chars self.entry.pattern_text.now ≡ spelling (bare p) Unicode → flags_ok (flags_of (flags_chars self.entry.flags_text)) ≡ true
+            → mode_of (flags_of (flags_chars self.entry.flags_text)) ≡ Unicode
+            → IfOk result (λ it. bare it ≡ bare p) × IfErr result (λ fault. fault ≡ Fault.OutOfMemory) }
     {
         let LiteralParser {
             alloc,

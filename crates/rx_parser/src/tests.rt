@@ -1,12 +1,13 @@
-ghost use Rattle.std.specs.Prelude.{◌<◌, ◌^◌};
+ghost use Rattle.std.specs.Prelude.{◌+◌, ◌<◌, ◌^◌, length};
 
-use crate::{Builder, Opening};
+use crate::{Builder, LiteralParser, Opening, Options, PatternParser};
 use rx_ast::{
     BoundaryAssertion, BoundaryAssertionKind, Disjunction, Dot, LookAroundAssertionKind, Pattern,
     Term,
 };
-use rx_base::{GetSpan, OutOfMemory, Span, Text};
+use rx_base::{Fault, GetSpan, OutOfMemory, Span, Text};
 use rx_model::Mode;
+use rx_units::{Reader, ReaderFault};
 use std::alloc::Global;
 
 const DEEP: u32 = 100_000;
@@ -102,6 +103,40 @@ fn deep_groups_need_no_deep_stack(rt: HostRuntime) -> Result<(), OutOfMemory> {
         Some(Span::new(0, 2 * DEEP))
     );
     Ok(())
+}
+
+#[test]
+fn a_literal_and_its_units_are_read_alike(rt: HostRuntime) -> Result<(), Fault> {
+    let options = Options {
+        pattern_span_offset: 10,
+        flags_span_offset: 20,
+    };
+    let literal = LiteralParser::new(rt.alloc(), "a.b|c", Some("u"), options).parse()?;
+    let pattern = read_units(rt.alloc(), "a.b|c", 10)?;
+    for it in [&literal, &pattern] {
+        assert_eq!(rt; it.span, Span::new(10, 15));
+        assert_eq!(rt; it.body.body.len(), 2);
+        assert_eq!(rt;
+            first_term(&it.body).map(|term| term.span()),
+            Some(Span::new(10, 11))
+        );
+        assert_eq!(rt;
+            it.body.body.get(1).map(|alternative| alternative.span),
+            Some(Span::new(14, 15))
+        );
+    }
+    Ok(())
+}
+
+/// The tree of a short text under `u`.
+fn read_units(alloc: Global, text: &str, span_offset: u32) -> Result<Pattern, Fault>
+    requires { length text.now + span_offset < 2 ^ 32 }
+{
+    let reader = match Reader::initialize(alloc, text, true, false) {
+        Ok(reader) => reader,
+        Err(ReaderFault::OutOfMemory) => return Err(Fault::OutOfMemory),
+    };
+    PatternParser::new(alloc, reader, (true, false), span_offset).parse()
 }
 
 /// `(?<n>.|.){2,3}?` at byte 10, if all of it is taken

@@ -1,4 +1,4 @@
-use Rattle.std.proofs.Common.{◌≡◌, ap, sym, ◌∙◌, subst, ℕ, ◌+◌, ◌<◌, ◌^◌, ◌⊎◌, true, inl, inr, List, Err, IfErr, length, arith}
+use Rattle.std.proofs.Common.{◌≡◌, ap, sym, ◌∙◌, subst, ℕ, ◌+◌, ◌<◌, ◌^◌, ◌⊎◌, true, inl, inr, List, Err, IfErr, IfOk, IsTrue, length, arith, rules}
 use Rattle.std.specs.Prelude.{All}
 use Rattle.std.specs.Str.{chars}
 use Rattle.rx_base.specs.declared.fault.Fault.TheVariants.{OutOfMemory, NotYet}
@@ -6,10 +6,11 @@ use Rattle.rx_units.specs.declared.code_point.CodePoint.{CodePoint}
 use Rattle.rx_units.specs.Reading.{Reading}
 use Rattle.rx_units.specs.Units.{literal_units, values}
 use Rattle.rx_model.specs.Flags.{flags_of, flags_ok, mode_of}
-use Rattle.rx_model.specs.Reading.{literal_text, units_of}
+use Rattle.rx_model.specs.Reading.{IsOnly, IsValid, literal_text, units_of}
 use Rattle.rx_parser.specs.Literals.{flags_chars}
-use Rattle.rx_parser.specs.NotYet.{is_unread_text}
+use Rattle.rx_parser.specs.NotYet.{is_unread_text, is_unread_literal}
 use Rattle.rx_parser.specs.Parsing.{mode_of_state}
+use Rattle.rx_parser.proofs.Agains.{read_again}
 use Rattle.rx_parser.proofs.Literals.{fault_of_valid, fault_of_unread, passed_on, mode_is, units_are, only_by, reads_by, valid_by, unread_is, unread_of_text, text_of_unread}
 use Rattle.rx_parser.proofs.TextUnits.{text_fits}
 use Rattle.rx_parser.proofs.literal_parser.LiteralParser.parse.Goals as goal
@@ -73,3 +74,18 @@ returns-clause-not_yet c = λ e.
 pub returns-clause-later : goal.returns-clause-later
 returns-clause-later c = λ unread.
     inl (c.parse.ensures.later (unread_holds c ∙ text_of_unread (chars c.args.self.pattern_text.now) (flags_chars c.args.self.flags_text) unread))
+
+pub returns-in_err-modes-clause-again : goal.returns-in_err-modes-clause-again
+returns-in_err-modes-clause-again c =
+    let text = chars c.args.self.pattern_text.now in
+    let flags = flags_chars c.args.self.flags_text in
+    let only : IfOk c.from_residual.result (λ it. IsOnly (mode_of (flags_of flags)) it (units_of (mode_of (flags_of flags)) text)) = search rules in
+    let not_yet : c.from_residual.result ≡ Err NotYet → IsTrue (is_unread_literal text flags) = search rules in
+    read_again text flags c.from_residual.result only (returns-in_err-modes-clause-complete c) not_yet
+
+pub returns-clause-again : goal.returns-clause-again
+returns-clause-again c =
+    let text = chars c.args.self.pattern_text.now in
+    let flags = flags_chars c.args.self.flags_text in
+    let complete : IsValid text flags → IfErr c.parse.result (λ fault. (fault ≡ OutOfMemory) ⊎ (fault ≡ NotYet)) = search rules in
+    read_again text flags c.parse.result (returns-clause-only c) complete (returns-clause-not_yet c)
