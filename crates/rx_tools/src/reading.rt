@@ -1,8 +1,10 @@
-ghost use Rattle.std.specs.Prelude.{◌≡◌, ◌+◌, ◌<◌, ◌^◌, ◌⊎◌, max, length, Some, IsTrue, IsOk, IfOk, IfErr, OnOk};
+ghost use Rattle.std.specs.Prelude.{◌≡◌, ◌≢◌, ◌+◌, ◌<◌, ◌^◌, ◌⊎◌, List, [], max, true, length, Some, IsTrue, IsOk, IfOk, IfErr, OnOk};
 ghost use Rattle.std.specs.Str.{chars};
 ghost use Rattle.rx_ast.specs.Forget.{bare};
+ghost use Rattle.rx_ast.specs.declared.term.Pattern.{Pattern};
+ghost use Rattle.rx_units.specs.declared.code_point.CodePoint.{CodePoint};
 ghost use Rattle.rx_base.specs.declared.diagnostic.Diagnostic.{Diagnostic as Refusal};
-ghost use Rattle.rx_model.specs.Flags.{flags_of, holds, mode_of};
+ghost use Rattle.rx_model.specs.Flags.{flags_of, flags_ok, holds, mode_of};
 ghost use Rattle.rx_model.specs.Reading.{Reads, IsOnly, IsSpanned, IsValid, units_of};
 ghost use Rattle.rx_model.specs.Spelling.{spelling};
 ghost use Rattle.rx_parser.specs.Literals.{IsLiteralCause, flags_chars, flags_length};
@@ -62,6 +64,11 @@ pub fn canonical(
     ensures not_yet { result ≡ Err Fault.NotYet → IsTrue (is_not_yet form (chars pattern_text.now) (flags_chars flags_text.entry)) }
     ensures later { IsTrue (is_not_yet form (chars pattern_text.now) (flags_chars flags_text.entry))
         → (result ≡ Err Fault.NotYet) ⊎ (result ≡ Err Fault.OutOfMemory) }
+
+    // A canonical spelling, read again, gives the tree that was spelled, but for spans and character kinds, or memory is wanting.
+    ensures again { (p : Pattern) (us : List CodePoint) → Reads Mode.Unicode p us → us ≢ [] → chars pattern_text.now ≡ spelling (bare p) Mode.Unicode
+        → form ≡ Form.Literal → flags_ok (flags_of (flags_chars flags_text.entry)) ≡ true → mode_of (flags_of (flags_chars flags_text.entry)) ≡ Mode.Unicode
+        → IfOk result (λ it. bare it.pattern ≡ bare p) × IfErr result (λ fault. fault ≡ Fault.OutOfMemory) }
 {
     match form {
         Form::Constructor => return Err(Fault::NotYet),
