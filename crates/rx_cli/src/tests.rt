@@ -42,8 +42,13 @@ fn run_in_steps(
     Ok((status, sink))
 }
 
-const LINES: [(&[u8], &[u8]); 24] = [
+const LINES: [(&[u8], &[u8]); 26] = [
     (b"L\tu\ta.b|c", b"ok\tunicode\ta.b|c\n"),
+    (b"L\tu\t\\x41B", b"ok\tunicode\tAB\n"),
+    (
+        b"L\tiu\ta{2,1}",
+        b"err\tbraced_quantifier_out_of_order\t1..6\n",
+    ),
     (b"L\tu\ta/b", b"ok\tunicode\ta\\/b\n"),
     (b"L\tu\ta||b", b"ok\tunicode\ta||b\n"),
     (b"L\tu\ta\r", b"ok\tunicode\ta\\r\n"),

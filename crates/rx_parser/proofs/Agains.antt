@@ -1,14 +1,12 @@
 -- What the canonical spelling of a pattern is, as the text of a literal: it is read, as a tree that is equal but for spans and character kinds.
-use Rattle.std.proofs.Common.{◌≡◌, ◌≢◌, ℕ, Bool, true, false, ◌&&◌, ◌||◌, ◌⊎◌, inl, inr, not, refl, ap, sym, ◌∙◌, subst, List, [], Option, Result, Ok, Err, IfOk, IfErr, IsTrue}
+use Rattle.std.proofs.Common.{◌≡◌, ◌≢◌, ℕ, true, false, ◌&&◌, ◌⊎◌, inl, inr, ap, sym, ◌∙◌, subst, List, [], Option, Result, Ok, Err, IfOk, IfErr, IsTrue}
 use Rattle.std.proofs.lemmas.Result.{IfOk-weaker}
 use Rattle.rx_base.specs.declared.fault.Fault.{Fault}
 use Rattle.rx_base.specs.declared.fault.Fault.TheVariants.{OutOfMemory, NotYet}
-use Rattle.rx_base.specs.declared.fault.Fault.TheVariants as fault
 use Rattle.rx_ast.specs.declared.term.Pattern.{Pattern}
-use Rattle.rx_ast.specs.Forget.{bare, unspanned}
+use Rattle.rx_ast.specs.Forget.{bare}
 use Rattle.rx_ast.proofs.Forgetting.{unspanned_bare}
 use Rattle.rx_units.specs.declared.code_point.CodePoint.{CodePoint}
-use Rattle.rx_units.specs.Units.{values}
 use Rattle.rx_model.specs.declared.mode.Mode.{Mode}
 use Rattle.rx_model.specs.declared.mode.Mode.TheVariants.{Unicode}
 use Rattle.rx_model.specs.Environment.{environment}

@@ -1,6 +1,6 @@
 use super::canonical;
 use crate::{Canonical, Form, Mode, Options, canonical_text};
-use rx_ast::{CharacterKind, Term};
+use rx_ast::{Character, CharacterKind, Term};
 use rx_base::{Diagnostic, Fault, GetSpan, Span};
 use std::alloc::Global;
 use std::test::Fail;
@@ -67,35 +67,56 @@ fn spans(rt: HostRuntime) -> Result<(), Fail> {
     Ok(())
 }
 
+/// The term at a place of the only alternative, if it is a character.
+fn character_at(it: &Canonical, place: usize) -> Option<Character> {
+    let [alternative] = it.pattern.body.body.as_slice() else {
+        return None;
+    };
+    match alternative.body.get(place)? {
+        Term::Character(it) => Some(**it),
+        _ => None,
+    }
+}
+
 #[test]
-fn escapes(rt: HostRuntime) -> Result<(), Fail> {
+fn characters(rt: HostRuntime) -> Result<(), Fail> {
     let rows = [
-        ("\\x41B", CharacterKind::HexadecimalEscape, 0x41, 4),
-        ("B", CharacterKind::Symbol, 0x42, 1),
-        ("\\uD83D\\uDE00", CharacterKind::UnicodeEscape, 0x1F600, 12),
+        ("\\x41B", 0, CharacterKind::HexadecimalEscape, 0x41, 0, 4),
+        ("\\x41B", 1, CharacterKind::Symbol, 0x42, 4, 5),
+        (
+            "\\uD83D\\uDE00",
+            0,
+            CharacterKind::UnicodeEscape,
+            0x1F600,
+            0,
+            12,
+        ),
         (
             "\\u{D83D}\\u{DE00}",
+            0,
             CharacterKind::UnicodeEscape,
             0xD83D,
+            0,
             8,
         ),
-        ("\\0", CharacterKind::Null, 0, 2),
-        ("\\cA", CharacterKind::ControlLetter, 1, 3),
-        ("\\/", CharacterKind::Identifier, 0x2F, 2),
-        ("\\n", CharacterKind::SingleEscape, 0xA, 2),
+        (
+            "\\u{D83D}\\u{DE00}",
+            1,
+            CharacterKind::UnicodeEscape,
+            0xDE00,
+            8,
+            16,
+        ),
+        ("é\\0", 1, CharacterKind::Null, 0, 2, 4),
+        ("\\cA", 0, CharacterKind::ControlLetter, 1, 0, 3),
+        ("\\/", 0, CharacterKind::Identifier, 0x2F, 0, 2),
+        ("\\n", 0, CharacterKind::SingleEscape, 0xA, 0, 2),
     ];
-    for (pattern, kind, value, end) in rows {
+    for (pattern, place, kind, value, start, end) in rows {
         let it = read(rt.alloc(), pattern, 0).ok().ok_or("refused")?;
-        match it.pattern.body.body.as_slice() {
-            [alternative] => match alternative.body.as_slice() {
-                [Term::Character(it), ..] => {
-                    assert_eq!(rt; (it.kind, it.value), (kind, value), "{pattern}");
-                    assert_eq!(rt; it.span, Span::new(0, end), "{pattern}");
-                }
-                _ => return Err(Fail::from("no character")),
-            },
-            _ => return Err(Fail::from("bars")),
-        }
+        let found = character_at(&it, place).ok_or("no character")?;
+        assert_eq!(rt; (found.kind, found.value), (kind, value), "{pattern}");
+        assert_eq!(rt; found.span, Span::new(start, end), "{pattern}");
     }
     Ok(())
 }

@@ -1,4 +1,4 @@
-use Rattle.std.proofs.Common.{◌≡◌, ◌∙◌, ◌<◌, ◌≤◌, ◌++◌, ap, sym, subst, inl, inr, ℕ, List, [], Some, length, length-append, arith}
+use Rattle.std.proofs.Common.{◌≡◌, ◌∙◌, ◌<◌, ◌≤◌, ◌++◌, ap, subst, inl, inr, ℕ, List, [], Some, length, length-append, arith}
 use Rattle.std.specs.List.{AllZip, concat}
 use Rattle.rx_base.specs.Causes.{Rose}
 use Rattle.rx_cli.specs.declared.run.Status.{Status}

@@ -1,7 +1,6 @@
-use Rattle.std.proofs.Common.{[], ℕ, true, take, ap, subst, Err, arith, refl, ◌∙◌}
+use Rattle.std.proofs.Common.{[], ℕ, true, take, ap, subst, arith, refl, ◌∙◌}
 use Rattle.std.proofs.lemmas.Result.{err_from_is_err_and}
 use Rattle.rx_cli.specs.Outcome.{Reads}
-use Rattle.rx_cli.specs.Stop.{least_missing}
 use Rattle.rx_cli.proofs.Progresses.{progress_start, progress_more, progress_halts, progress_stops, progress_ends, reads_nothing}
 use Rattle.rx_cli.proofs.run.serve.Goals as goal
 
