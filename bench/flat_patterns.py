@@ -3,13 +3,12 @@
 
     bench/flat_patterns.py [PROGRAM]
 
-PROGRAM is crates/rx_cli/out/rx_cli where it is not given; `./regexp </dev/null` builds it. Where valgrind is there, the share of reading the pattern
-(LiteralParser::parse) in the instructions of the program is told too. Nothing here is a test: times depend on the machine.
+PROGRAM is crates/rx_cli/out/rx_cli where it is not given; `./regexp </dev/null` builds it. `canonical` is measured by the patterns as they are; LiteralParser::parse
+by the same patterns with a `)` behind them, at which each is refused, so that all is read and nothing is spelled. Nothing here is a test: times depend on the machine.
 """
 import os
 import random
 import re
-import shutil
 import subprocess
 import sys
 import tempfile
@@ -38,52 +37,34 @@ def pattern(source, pieces):
 
 
 def seconds(program, lines):
-    """The least of three runs, and whether each reply was `ok`."""
+    """The least of three runs, and the status."""
     with tempfile.NamedTemporaryFile() as it:
         it.write(lines)
         it.flush()
-        best, good = None, True
+        best, status = None, 0
         for _ in range(3):
             with open(it.name, "rb") as given, open(os.devnull, "wb") as out:
                 began = time.perf_counter()
                 status = subprocess.run([program], stdin=given, stdout=out).returncode
                 took = time.perf_counter() - began
-            good = good and status == 0
             best = took if best is None else min(best, took)
-        return best, good
-
-
-def share(program, lines):
-    """The part of all instructions that LiteralParser::parse takes, with all that it calls."""
-    with tempfile.TemporaryDirectory() as folder:
-        given = os.path.join(folder, "lines")
-        out = os.path.join(folder, "calls")
-        with open(given, "wb") as it:
-            it.write(lines)
-        with open(given, "rb") as it:
-            subprocess.run(["valgrind", "--tool=callgrind", f"--callgrind-out-file={out}", program], stdin=it, stdout=subprocess.DEVNULL, stderr=subprocess.DEVNULL, check=True)
-        told = subprocess.run(["callgrind_annotate", "--inclusive=yes", "--threshold=100", out], capture_output=True, text=True, check=True).stdout
-    found = [row for row in told.splitlines() if "LiteralParser" in row and "parse" in row]
-    match = re.search(r"\(\s*([0-9.]+)%\)", found[0]) if found else None
-    return float(match.group(1)) / 100 if match else None
+        return best, status
 
 
 def main():
     program = sys.argv[1] if len(sys.argv) > 1 else os.path.join(HERE, "..", "crates", "rx_cli", "out", "rx_cli")
     source = random.Random(2026)
-    lines = b"".join(f"L\tu\t{pattern(source, source.randint(1, 24))}\n".encode() for _ in range(COUNT))
-    took, good = seconds(program, lines)
-    print(f"{COUNT} patterns, {len(lines) / COUNT:.1f} bytes a line, all ok: {good}: {took / COUNT * 1e9:.0f} ns a pattern, {len(lines) / took / 1e6:.1f} MB/s")
-    if shutil.which("valgrind"):
-        part = share(program, lines[: lines.index(b"\n", 200_000) + 1])
-        if part is not None:
-            print(f"of it LiteralParser::parse {part:.0%} of the instructions: about {took * part / COUNT * 1e9:.0f} ns a pattern, {len(lines) / (took * part) / 1e6:.1f} MB/s")
+    texts = [pattern(source, source.randint(1, 24)) for _ in range(COUNT)]
+    for name, behind in (("canonical", ""), ("LiteralParser::parse", ")")):
+        lines = "".join(f"L\tu\t{text}{behind}\n" for text in texts).encode()
+        took, status = seconds(program, lines)
+        print(f"{name}: {COUNT} patterns, {len(lines) / COUNT:.1f} bytes a line, status {status}: {took / COUNT * 1e9:.0f} ns a pattern, {len(lines) / took / 1e6:.1f} MB/s")
     one = pattern(random.Random(7), 400)
     for times in (1, 2, 4, 8):
         line = f"L\tu\t{one * times}\n".encode()
         many = 4000 // times
-        took, good = seconds(program, line * many)
-        print(f"one pattern of {len(line) - 5} bytes, ok: {good}: {took / many * 1e6:.1f} us, {took / many / len(line) * 1e9:.0f} ns a byte")
+        took, status = seconds(program, line * many)
+        print(f"one pattern of {len(line) - 5} bytes, status {status}: {took / many * 1e6:.1f} us, {took / many / len(line) * 1e9:.0f} ns a byte")
 
 
 if __name__ == "__main__":
