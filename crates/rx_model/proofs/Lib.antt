@@ -9,10 +9,13 @@ pub mod Decodings
 pub mod Escapes
 pub mod Flat
 pub mod Fronts
+pub mod GroupNames
 pub mod Joins
 pub mod Known
 pub mod OneLines
 pub mod OneRow
+pub mod OpenMarks
+pub mod PartedMarks
 pub mod Quantifiers
 pub mod ReadBacks
 pub mod Runs

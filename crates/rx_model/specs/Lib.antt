@@ -9,7 +9,11 @@ pub mod Escapes
 pub mod Events
 pub mod FlagCauses
 pub mod Flags
+pub mod Frames
 pub mod Fronts
+pub mod GroupNameReading
+pub mod GroupNames
+pub mod Marks
 pub mod Modes
 pub mod Names
 pub mod OneLine

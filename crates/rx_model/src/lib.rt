@@ -3,6 +3,7 @@
 
 mod form;
 pub mod laws;
+pub mod mark_laws;
 mod mode;
 
 pub use form::Form;

@@ -1,5 +1,12 @@
 pub mod FlagRows
 pub mod FlagPlaces
+pub mod GroupNames
 pub mod Modes
 pub mod Fits
 pub mod Steps
+pub mod MarkSteps
+pub mod GroupSteps
+pub mod KnownNames
+pub mod Passes
+pub mod Captures
+pub mod Offsets

@@ -1,14 +1,24 @@
-//! Reading what stands before a pattern's tree: flags, unicode escapes, and the spans that answers carry.
+//! Reading what stands before a pattern's tree: flags, the groups and their names, unicode escapes, and the spans that answers carry.
 #![tactic(auto)]
 
+mod first_pass;
 mod flags_parser;
+mod group_name;
+mod last_openings;
+mod mark;
+mod names;
+mod open_groups;
 mod span_factory;
 mod state;
+#[cfg(test)]
+mod state_tests;
 #[cfg(test)]
 mod tests;
 mod unicode_escape;
 
 pub use flags_parser::FlagsParser;
+pub use group_name::capturing_group_name;
+pub use names::Names;
 pub use span_factory::SpanFactory;
-pub use state::State;
+pub use state::{State, StateFault};
 pub use unicode_escape::{UnicodeEscape, decode};

@@ -1,5 +1,12 @@
-ghost use Rattle.std.specs.Prelude.{◌≡◌};
+ghost use Rattle.std.specs.Prelude.{◌≡◌, ◌-◌, ◌^◌, ◌||◌, [], ℕ, false, true, min, IfErr, OnErr, OnOk};
+ghost use Rattle.rx_units.specs.Units.{offset_at, values};
+ghost use Rattle.rx_model.specs.Environment.{has_some};
+ghost use Rattle.rx_model.specs.Marks.{Clash, count, marks, seen};
+ghost use Rattle.rx_scan.specs.StateFaults.{IsStateFault};
 
+use crate::Names;
+use crate::first_pass::{FirstPass, PassFault};
+use rx_units::{CodePoint, Reader};
 use std::alloc::Global;
 
 /// What a pattern is read under.
@@ -9,17 +16,111 @@ pub struct State {
     pub unicode_mode: bool,
     /// Whether classes are read as sets: with flag `v` (ECMA-262, 22.2.3.4).
     pub unicode_sets_mode: bool,
+    /// Whether `\k` is always a reference (the parameter NamedCaptureGroups of ECMA-262, 22.2.1): in unicode mode, or where some
+    /// group has a name.
+    pub named_capture_groups: bool,
+    /// How many groups capture (CountLeftCapturingParensWithin of ECMA-262, 22.2.1.2). It stands still at 4294967295.
+    pub num_of_capturing_groups: u32,
+    /// The names of the groups (GroupSpecifier of ECMA-262, 22.2.1).
+    pub capturing_group_names: Names,
+}
+
+/// Why the groups of a pattern were not counted.
+#[derive(Clone, Copy, Debug, PartialEq, Eq)]
+pub enum StateFault {
+    /// There was not enough memory.
+    OutOfMemory,
+    /// Two groups of one name might both take part (ECMA-262, 22.2.1.1). Each pair is the offsets, in bytes, before and after a
+    /// name, between its `<` and its `>`.
+    Duplicated {
+        first: (u32, u32),
+        second: (u32, u32),
+    },
 }
 
 impl State {
-    /// The state before the pattern is read. The allocator is for the names that the pattern holds.
-    pub fn new(_alloc: Global, unicode_mode: bool, unicode_sets_mode: bool) -> State
+    /// The state before the pattern is read: no groups are counted. Takes no memory; the allocator is for the names that the
+    /// pattern holds.
+    pub fn new(alloc: Global, unicode_mode: bool, unicode_sets_mode: bool) -> State
         ensures unicode_mode { result.unicode_mode ≡ unicode_mode }
         ensures unicode_sets_mode { result.unicode_sets_mode ≡ unicode_sets_mode }
+        ensures named { result.named_capture_groups ≡ false }
+        ensures groups { result.num_of_capturing_groups ≡ 0 }
+        ensures names { result.capturing_group_names ≡ [] }
     {
         State {
             unicode_mode,
             unicode_sets_mode,
+            named_capture_groups: false,
+            num_of_capturing_groups: 0,
+            capturing_group_names: Names::new(alloc),
         }
+    }
+
+    /// Goes over the whole pattern once, and counts its groups (CountLeftCapturingParensWithin of ECMA-262, 22.2.1.2) and lists their
+    /// names, or refuses the first two equal names that might both take part (22.2.1.1). The reader stays at place 0. A refusal
+    /// leaves the state as it was.
+    pub fn initialize_with_parsing(&mut self, reader: &mut Reader<'_>) -> Result<(), StateFault>
+        requires start { reader.old.place ≡ 0 }
+        requires modes { self.old.unicode_sets_mode ≡ true → self.old.unicode_mode ≡ true }
+        requires no_sets { self.old.unicode_sets_mode ≡ false }
+        ensures reader { reader.new ≡ reader.old }
+        ensures unicode_mode { self.new.unicode_mode ≡ self.old.unicode_mode }
+        ensures unicode_sets_mode { self.new.unicode_sets_mode ≡ self.old.unicode_sets_mode }
+        ensures groups { OnOk result (self.new.num_of_capturing_groups ≡ min (count (marks (values reader.old.units))) (2 ^ 32 - 1)) }
+        ensures names { OnOk result (self.new.capturing_group_names ≡ seen self.old.unicode_mode (marks (values reader.old.units))) }
+        ensures named { OnOk result (self.new.named_capture_groups ≡ (self.old.unicode_mode || has_some (seen self.old.unicode_mode (marks (values reader.old.units))))) }
+        ensures apart { OnOk result ((a b : ℕ) → Clash self.old.unicode_mode (marks (values reader.old.units)) a b → ⊥) }
+        ensures refused { IfErr result (IsStateFault self.old.unicode_mode reader.old) }
+        ensures unchanged { OnErr result (self.new ≡ self.old) }
+    {
+        let alloc = self.capturing_group_names.allocator();
+        let units = reader.remaining_code_points();
+        let start = reader.offset();
+        match FirstPass::over(alloc, units, self.unicode_mode) {
+            Ok(pass) => {
+                self.keep(pass);
+                Ok(())
+            }
+            Err(PassFault::OutOfMemory) => Err(StateFault::OutOfMemory),
+            Err(PassFault::Duplicated { first, second }) => Err(StateFault::Duplicated {
+                first: offsets_at(units, start, first),
+                second: offsets_at(units, start, second),
+            }),
+        }
+    }
+
+    /// Takes over what a first pass has found.
+    fn keep(&mut self, pass: FirstPass)
+        ensures unicode_mode { self.new.unicode_mode ≡ self.old.unicode_mode }
+        ensures unicode_sets_mode { self.new.unicode_sets_mode ≡ self.old.unicode_sets_mode }
+        ensures groups { self.new.num_of_capturing_groups ≡ min pass.count (2 ^ 32 - 1) }
+        ensures names { self.new.capturing_group_names ≡ pass.names }
+        ensures named { self.new.named_capture_groups ≡ (self.old.unicode_mode || has_some pass.names) }
+    {
+        self.named_capture_groups = self.unicode_mode || !pass.names.is_empty();
+        self.num_of_capturing_groups = u32::try_from(pass.count).unwrap_or(u32::MAX);
+        self.capturing_group_names = pass.names;
+    }
+}
+
+/// The offsets at two places of the units, where `start` is the offset before the first unit.
+fn offsets_at(units: &[CodePoint], start: u32, places: (usize, usize)) -> (u32, u32)
+    ensures { result ≡ (offset_at start units.now places.0, offset_at start units.now places.1) }
+{
+    let (first, second) = places;
+    (
+        offset_at(units, start, first),
+        offset_at(units, start, second),
+    )
+}
+
+fn offset_at(units: &[CodePoint], start: u32, place: usize) -> u32
+    ensures { result ≡ offset_at start units.now place }
+{
+    let place = place.min(units.len());
+    match &units[..place] {
+        [.., last] => last.span.end,
+        [] => start,
     }
 }

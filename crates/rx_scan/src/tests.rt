@@ -1,7 +1,7 @@
 ghost use Rattle.std.specs.Prelude.{◌+◌, ◌<◌, ◌^◌, length};
 
-use crate::{FlagsParser, UnicodeEscape, decode};
-use rx_base::Diagnostic;
+use crate::{FlagsParser, UnicodeEscape, capturing_group_name, decode};
+use rx_base::{Diagnostic, Text};
 use rx_units::Reader;
 use std::alloc::Global;
 use std::test::Fail;
@@ -114,5 +114,87 @@ fn escapes_past_32_bits(rt: HostRuntime) -> Result<(), Fail> {
         let found = decoded(rt.alloc(), text, true)?;
         assert_eq!(rt; found, UnicodeEscape::Overflow { digits }, "{text}");
     }
+    Ok(())
+}
+
+/// The name that a text is, which is read by code points or by code units.
+fn group_name(
+    alloc: Global,
+    text: &str,
+    by_code_points: bool,
+    unicode_mode: bool,
+) -> Result<Option<Text>, Fail>
+    requires { length text.now < 2 ^ 32 }
+{
+    let reader = Reader::initialize(alloc, text, by_code_points, false)?;
+    Ok(capturing_group_name(alloc, reader.remaining_code_points(), unicode_mode)?)
+}
+
+#[test]
+fn names_of_groups(rt: HostRuntime) -> Result<(), Fail> {
+    for (text, wanted) in [
+        ("a", "a"),
+        ("Zz09_", "Zz09_"),
+        ("$_", "$_"),
+        ("_$", "_$"),
+        ("\\u0061", "a"),
+        ("\\u{61}", "a"),
+        ("\\u{00000061}b", "ab"),
+        ("a\\u{31}", "a1"),
+        ("a\\u0031", "a1"),
+        ("\\uD835\\uDC9C", "\u{1D49C}"),
+        ("\\u{1D49C}", "\u{1D49C}"),
+        ("\u{1D49C}", "\u{1D49C}"),
+        ("a\u{1D49C}b", "a\u{1D49C}b"),
+        ("\u{3C0}", "\u{3C0}"),
+        ("a\u{200D}b", "a\u{200D}b"),
+    ] {
+        for unicode_mode in [false, true] {
+            let found = group_name(rt.alloc(), text, unicode_mode, unicode_mode)?;
+            let name = found.ok_or("no name")?;
+            assert_eq!(rt; name.as_str(), wanted, "{text}");
+        }
+    }
+    Ok(())
+}
+
+#[test]
+fn no_names_of_groups(rt: HostRuntime) -> Result<(), Fail> {
+    for text in [
+        "",
+        "1a",
+        "a-",
+        "-",
+        "a b",
+        "a>",
+        "\u{200D}",
+        "\u{1F600}",
+        "\\",
+        "a\\",
+        "\\u",
+        "\\u0031a",
+        "\\u{31}a",
+        "\\u{}",
+        "\\u{110000}",
+        "\\u{100000000}",
+        "\\x61",
+        "\\uD835",
+        "\\uD835\\u{DC9C}",
+        "\\u{D835}\\u{DC9C}",
+    ] {
+        for unicode_mode in [false, true] {
+            let found = group_name(rt.alloc(), text, unicode_mode, unicode_mode)?;
+            assert!(rt; found.is_none(), "{text}");
+        }
+    }
+    Ok(())
+}
+
+#[test]
+fn surrogates_in_names(rt: HostRuntime) -> Result<(), Fail> {
+    let raw = "\u{1D49C}";
+    assert!(rt; group_name(rt.alloc(), raw, false, false)?.is_some());
+    assert!(rt; group_name(rt.alloc(), raw, false, true)?.is_none());
+    assert!(rt; group_name(rt.alloc(), raw, true, true)?.is_some());
     Ok(())
 }

@@ -1,0 +1,84 @@
+-- The steps of the reader of a group's name.
+use Rattle.std.proofs.Common.{◌≡◌, ◌↔◌, ℕ, suc, ◌+◌, ◌-◌, ◌<◌, ◌≤◌, ◌==◌, Bool, true, false, cond, List, [], ◌∷◌, ◌++◌, drop, take, le_of_eq, length, Option, Some, None, refl, sym, ap, ap₂, ◌∙◌, subst, arith, add-one, length-append}
+use Rattle.std.proofs.lemmas.Bool.{ne_eqb, eq-eqb}
+use Rattle.std.proofs.lemmas.List.{append-nil, length-map, drop-drop, length-drop, drop_all, take_all}
+use Rattle.std.specs.List.{drop-map}
+use Rattle.rx_units.specs.declared.code_point.CodePoint.{CodePoint}
+use Rattle.rx_units.specs.Units.{values}
+use Rattle.rx_model.specs.Decoding.{Decoded, value}
+use Rattle.rx_model.specs.GroupNames.{IsGroupName, is_in_name}
+use Rattle.rx_model.specs.GroupNameReading.{NameCharacter, character, no_character, name_character_at, row_behind, row_after, name_at, all_of, name_of, tested, escape_in_name}
+use Rattle.rx_model.proofs.GroupNames.{character_spelled, name_of_law, read_some, row_behind_none, row_behind_twice, row_steps, row_stops}
+
+-- a character of a name is some units, and no more than there are
+pub character_some : (unicode_mode first : Bool) (us : List ℕ) (c n : ℕ) → character c n ≡ name_character_at unicode_mode first us → 0 < n
+character_some unicode_mode first us c n h = read_some unicode_mode first us c n (sym h)
+
+pub character_within : (unicode_mode first : Bool) (us : List CodePoint) (place c n : ℕ) → place ≤ length us → character c n ≡ name_character_at unicode_mode first (values (drop place us)) → place + n ≤ length us
+character_within unicode_mode first us place c n within h =
+    let f = character_spelled unicode_mode first (values (drop place us)) c n (sym h) in
+    omega (arith, f.count, ap length f.whole, length-append f.spelled f.rest, length-map (drop place us) (λ (u : CodePoint). u.value), length-drop place us)
+
+-- the units from a place on
+pub at_place : (unicode_mode : Bool) (us : List CodePoint) (place : ℕ) (o : NameCharacter) → o ≡ name_character_at unicode_mode (place == 0) (values (take (length us - place) (drop place us))) →
+    o ≡ name_character_at unicode_mode (place == 0) (values (drop place us))
+at_place unicode_mode us place o h =
+    h ∙ ap (λ (ws : List CodePoint). name_character_at unicode_mode (place == 0) (values ws)) (take_all (length us - place) (drop place us) (le_of_eq (length-drop place us)))
+
+-- before the first character no name is read
+pub no_name_yet : (unicode_mode : Bool) (us : List CodePoint) (name : List ℕ) → name ≡ [] → name_at unicode_mode (values us) ≡ row_behind name 0 (row_after unicode_mode true 0 (values us))
+no_name_yet unicode_mode us name none = sym (row_behind_none (name_at unicode_mode (values us))) ∙ ap (λ cs. row_behind cs 0 (name_at unicode_mode (values us))) (sym none)
+
+name_of_row : (unicode_mode : Bool) (us : List CodePoint) → 0 < length us → name_of unicode_mode (values us) ≡ all_of (length us) (name_at unicode_mode (values us))
+name_of_row unicode_mode [] some = absurd (omega arith)
+name_of_row unicode_mode (u ∷ us) some = ap (λ n. all_of n (name_at unicode_mode (values (u ∷ us)))) (length-map (u ∷ us) (λ (u : CodePoint). u.value))
+
+-- an escape of a character that is in names, and of one that is not
+pub escape_passes : (first : Bool) (v n c : ℕ) (read : Decoded) → value v n ≡ read → Some c ≡ cond (is_in_name first v) (Some v) None → character c (n + 1) ≡ escape_in_name first read
+escape_passes first v n c read is passes = subst (λ read. character c (n + 1) ≡ escape_in_name first read) is (go (is_in_name first v) passes)
+  where
+    go : (b : Bool) → Some c ≡ cond b (Some v) None → character c (n + 1) ≡ tested b v (suc n)
+    go true e = let same : c ≡ v = cc e in ap₂ character same (add-one n)
+    go false e = absurd (let no : ⊥ = cc e in no)
+
+pub escape_fails : (first : Bool) (v n : ℕ) (read : Decoded) → value v n ≡ read → None ≡ cond (is_in_name first v) (Some v) None → no_character ≡ escape_in_name first read
+escape_fails first v n read is fails = subst (λ read. no_character ≡ escape_in_name first read) is (go (is_in_name first v) fails)
+  where
+    go : (b : Bool) → None ≡ cond b (Some v) None → no_character ≡ tested b v (suc n)
+    go true e = absurd (let no : ⊥ = cc e in no)
+    go false e = refl
+
+module _ (unicode_mode : Bool) (us : List CodePoint) (name : List ℕ) (place : ℕ) (within : place ≤ length us)
+    (read : name_at unicode_mode (values us) ≡ row_behind name place (row_after unicode_mode (place == 0) 0 (values (drop place us)))) where
+  -- the name goes on with a character that is read
+  pub goes_on : (c n : ℕ) → character c n ≡ name_character_at unicode_mode (place == 0) (values (drop place us)) →
+      name_at unicode_mode (values us) ≡ row_behind (name ++ (c ∷ [])) (place + n) (row_after unicode_mode (place + n == 0) 0 (values (drop (place + n) us)))
+  goes_on c n h =
+      let some = character_some unicode_mode (place == 0) (values (drop place us)) c n h in
+      let behind : drop n (values (drop place us)) ≡ values (drop (place + n) us) = drop-map (λ (u : CodePoint). u.value) n (drop place us) ∙ ap values (drop-drop n place us) in
+      let later : false ≡ (place + n == 0) = sym (ne_eqb (place + n) 0 (λ e. let no : ⊥ = omega (arith, e, some) in no)) in
+      read
+      ∙ ap (row_behind name place) (row_steps unicode_mode (place == 0) (values (drop place us)) c n (sym h) some)
+      ∙ row_behind_twice name (c ∷ []) place n (row_after unicode_mode false 0 (drop n (values (drop place us))))
+      ∙ ap₂ (λ first ws. row_behind (name ++ (c ∷ [])) (place + n) (row_after unicode_mode first 0 ws)) later behind
+
+  -- a character that is none refuses the name
+  pub ends_early : place < length us → no_character ≡ name_character_at unicode_mode (place == 0) (values (drop place us)) → None ≡ name_of unicode_mode (values us)
+  ends_early more h =
+      let short : (place + 0 == length us) ≡ false = ne_eqb (place + 0) (length us) (λ e. let no : ⊥ = omega (arith, e, more) in no) in
+      let row_is = read ∙ ap (row_behind name place) (row_stops unicode_mode (place == 0) (values (drop place us)) (sym h)) in
+      sym (name_of_row unicode_mode us (omega (arith, more)) ∙ ap (all_of (length us)) row_is ∙ ap (λ b. cond b (Some (name ++ [])) None) short)
+
+  -- at the end of the text the name is whole
+  pub ends_whole : 0 < length us → length us ≤ place → Some name ≡ name_of unicode_mode (values us)
+  ends_whole some all =
+      let whole : (place + 0 == length us) ≡ true = eq-eqb (place + 0) (length us) (omega (arith, within, all)) in
+      let nothing = ap (λ (ws : List CodePoint). row_after unicode_mode (place == 0) 0 (values ws)) (drop_all place us all) in
+      let row_is = read ∙ ap (row_behind name place) nothing in
+      ap Some (sym (append-nil name)) ∙ sym (name_of_row unicode_mode us some ∙ ap (all_of (length us)) row_is ∙ ap (λ b. cond b (Some (name ++ [])) None) whole)
+
+-- what was read, in the words of the names
+pub read_names : (unicode_mode : Bool) (us : List ℕ) (found : Option (List ℕ)) → found ≡ name_of unicode_mode us → (name : List ℕ) → (found ≡ Some name) ↔ IsGroupName unicode_mode us name
+read_names unicode_mode us found read name =
+    let law = name_of_law unicode_mode us name in
+    (λ h. law.0 (sym read ∙ h), λ h. read ∙ law.1 h)

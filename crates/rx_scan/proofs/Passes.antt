@@ -1,0 +1,490 @@
+-- One more mark of the first pass.
+use Rattle.std.proofs.Common.{◌≡◌, refl, ap, sym, ◌∙◌, subst, ℕ, zero, suc, ◌+◌, ◌<◌, ◌≤◌, Bool, true, false, cond, not, ◌&&◌, ◌||◌, Option, Some, None, List, [], ◌∷◌, ◌++◌, append_assoc, append-nil, drop, drop-cons, add-one, get_or, length, arith, ◌⊎◌, inl, inr, map}
+use Rattle.std.specs.Prelude.{nat_le, nat_lt, option_map}
+use Rattle.std.specs.BTreeMap.{get_by_text}
+use Rattle.std.specs.Str.{IsUtf8, bytes_eq, chars}
+use Rattle.std.proofs.lemmas.Bool.{cases_lt, false≢true, ltb-true, lt-ltb, leb-true, le-leb}
+use Rattle.std.proofs.lemmas.List.Folds.{list_any-append}
+use Rattle.std.proofs.Math.Seq.{drop-length}
+use Rattle.rx_model.specs.Frames.{Frame, Hides, Nests, frames, step}
+use Rattle.rx_model.specs.Marks.{Mark, Clash, IsFirstClash, other, bar, closer, quiet, capturing, count, listed, mark_at, mark_count, mark_front, mark_name, marks, marks_behind, name_length, name_places, names, mark_place, places, places_behind}
+use Rattle.rx_model.specs.Names.{is_among, once_behind}
+use Rattle.rx_model.proofs.PartedMarks.{hidden_parted, parted_hidden, last_seen, nests}
+use Rattle.rx_scan.specs.MarkReading.{front}
+use Rattle.rx_scan.specs.OpenGroups.{frames_of, hides, hides_one}
+use Rattle.rx_scan.specs.FirstPass.{Entry, IsPassFault, IsStart, KnowsLast, LastTells, Refuses, Steps, entries, entry_at, entry_for, entry_of, first_clash, last_named, last_or, named, same_name, span_of, with_name, with_names}
+use Rattle.rx_scan.specs.Walked.{IsAt}
+use Rattle.rx_scan.specs.declared.first_pass.FirstPass.{FirstPass}
+use Rattle.rx_scan.specs.declared.first_pass.PassFault.{PassFault}
+use Rattle.rx_scan.specs.declared.first_pass.PassFault.TheVariants.{OutOfMemory, Duplicated}
+use Rattle.rx_scan.specs.declared.last_openings.LastOpenings.{LastOpenings}
+use Rattle.rx_scan.proofs.KnownNames.{same_name_Decides, same_text}
+
+unit_at : (us : List ℕ) (i : ℕ) → i < length us → drop i us ≡ get_or us i 0 ∷ drop (i + 1) us
+unit_at us i h = rw (add-one, drop-cons us i 0) refl
+
+behind_drop : (n : ℕ) (us : List ℕ) → marks_behind n us ≡ marks (drop n us)
+behind_drop zero us = refl
+behind_drop (suc n) [] = refl
+behind_drop (suc n) (u ∷ us) = behind_drop n us
+
+places_drop : (at n : ℕ) (us : List ℕ) → places_behind at n us ≡ places_behind (at + n) 0 (drop n us)
+places_drop at zero us = ap (λ k. places_behind k 0 us) (omega arith)
+places_drop at (suc n) [] = refl
+places_drop at (suc n) (u ∷ us) = let e : (at + 1) + n ≡ at + suc n = omega arith in places_drop (at + 1) n us ∙ ap (λ k. places_behind k 0 (drop n us)) e
+
+drop_none : (n : ℕ) → drop n (let e : List ℕ = [] in e) ≡ []
+drop_none zero = refl
+drop_none (suc n) = refl
+
+drop_more : (k n : ℕ) (us : List ℕ) → drop n (drop k us) ≡ drop (k + n) us
+drop_more zero n us = let e : n ≡ 0 + n = omega arith in ap (λ j. drop j us) e
+drop_more (suc k) n [] = drop_none n ∙ sym (drop_none (suc k + n))
+drop_more (suc k) n (u ∷ us) = let e : suc (k + n) ≡ suc k + n = omega arith in drop_more k n us ∙ ap (λ j. drop j (u ∷ us)) e
+
+bool_is : (b : Bool) → (b ≡ true) ⊎ (b ≡ false)
+bool_is true = inl refl
+bool_is false = inr refl
+
+both_true : (a b : Bool) → (a && b) ≡ true → (a ≡ true) × (b ≡ true)
+both_true true b e = (refl, e)
+both_true false b e = absurd (false≢true e)
+
+either_true : (a b : Bool) → (a || b) ≡ true → (a ≡ true) ⊎ (b ≡ true)
+either_true true b e = inl refl
+either_true false b e = inr e
+
+or_true : (a : Bool) → (a || true) ≡ true
+or_true true = refl
+or_true false = refl
+
+Some-inj : {A : Type 0} {x y : A} → Some x ≡ Some y → x ≡ y
+Some-inj e = cc
+
+-- the mark that stands at a place, and what follows it
+record Turn (us : List ℕ) (at : ℕ) (m : Mark) (taken : ℕ) : Type 0 where
+  marks_are : marks (drop at us) ≡ m ∷ marks (drop (at + taken) us)
+  places_are : places_behind at 0 (drop at us) ≡ at ∷ places_behind (at + taken) 0 (drop (at + taken) us)
+
+turn_at : (us : List ℕ) (at u : ℕ) (more : List ℕ) (p : Mark × ℕ) → drop at us ≡ u ∷ more → p ≡ ((mark_front u more).0, (mark_front u more).1 + 1) → Turn us at p.0 p.1
+turn_at us at u more p d e =
+    let m = p.0 in
+    let taken = p.1 in
+    let n = (mark_front u more).1 in
+    let em : m ≡ (mark_front u more).0 = ap (λ q. q.0) e in
+    let et : taken ≡ n + 1 = ap (λ q. q.1) e in
+    let s : suc n ≡ taken = omega arith in
+    let t : at + 1 + n ≡ at + taken = omega arith in
+    let f : drop n more ≡ drop (at + taken) us = ap (drop (suc n)) (sym d) ∙ drop_more at (suc n) us ∙ ap (λ j. drop (at + j) us) s in
+    record {
+      marks_are = ap marks d ∙ ap (λ z. (mark_front u more).0 ∷ z) (behind_drop n more ∙ ap marks f) ∙ ap (λ z. z ∷ marks (drop (at + taken) us)) (sym em);
+      places_are = ap (places_behind at 0) d ∙ ap (λ z. at ∷ z) (places_drop (at + 1) n more ∙ ap (λ j. places_behind j 0 (drop n more)) t ∙ ap (places_behind (at + taken) 0) f);
+    }
+
+turn : (us : List ℕ) (at : ℕ) (p : Mark × ℕ) → at < length us → p ≡ front (drop at us) → Turn us at p.0 p.1
+unfolding front
+turn us at p lt e = turn_at us at (get_or us at 0) (drop (at + 1) us) p (unit_at us at lt) (e ∙ ap front (unit_at us at lt))
+
+drop_next : {A : Type 0} (xs : List A) (k : ℕ) (y : A) (ys : List A) → drop k xs ≡ y ∷ ys → drop (k + 1) xs ≡ ys
+drop_next xs zero y ys e = ap (drop 1) e
+drop_next [] (suc k) y ys e = cc
+drop_next (x ∷ xs) (suc k) y ys e = let s : suc k + 1 ≡ suc (k + 1) = omega arith in ap (λ j. drop j (x ∷ xs)) s ∙ drop_next xs k y ys e
+
+mark_here : (xs : List Mark) (k : ℕ) (y : Mark) (ys : List Mark) → drop k xs ≡ y ∷ ys → mark_at xs k ≡ y
+mark_here [] zero y ys e = cc
+mark_here [] (suc k) y ys e = cc
+mark_here (x ∷ xs) zero y ys e = cc
+mark_here (x ∷ xs) (suc k) y ys e = mark_here xs k y ys e
+
+place_here : (xs : List ℕ) (k : ℕ) (y : ℕ) (ys : List ℕ) → drop k xs ≡ y ∷ ys → get_or xs k 0 ≡ y
+place_here [] zero y ys e = cc
+place_here [] (suc k) y ys e = cc
+place_here (x ∷ xs) zero y ys e = cc
+place_here (x ∷ xs) (suc k) y ys e = place_here xs k y ys e
+
+same_is : (xs ys : List ℕ) → same_name xs ys ≡ true → xs ≡ ys
+same_is xs ys e = (same_name_Decides xs ys).0 e
+
+same_self : (xs : List ℕ) → same_name xs xs ≡ true
+same_self xs = (same_name_Decides xs xs).1 refl
+
+one_true : (a : ℕ) (f : Frame) → hides_one a f ≡ true → (f.0 ≤ a) × (a < f.1)
+one_true a f e = let h = both_true (nat_le f.0 a) (nat_lt a f.1) e in (leb-true f.0 a h.0, ltb-true a f.1 h.1)
+
+one_is : (a : ℕ) (f : Frame) → f.0 ≤ a → a < f.1 → hides_one a f ≡ true
+one_is a f l g = ap (λ b. b && nat_lt a f.1) (le-leb f.0 a l) ∙ lt-ltb a f.1 g
+
+hides_true : (a : ℕ) (fs : List Frame) → hides a fs ≡ true → Hides a fs
+hides_true a [] e = absurd (false≢true e)
+hides_true a (f ∷ fs) e = elim (either_true (hides_one a f) (hides a fs) e) [ inl h ↦ inl (one_true a f h) | inr h ↦ inr (hides_true a fs h) ]
+
+hides_is : (a : ℕ) (fs : List Frame) → Hides a fs → hides a fs ≡ true
+hides_is a [] h = absurd h
+hides_is a (f ∷ fs) (inl h) = ap (λ b. b || hides a fs) (one_is a f h.0 h.1)
+hides_is a (f ∷ fs) (inr h) = ap (λ b. hides_one a f || b) (hides_is a fs h) ∙ or_true (hides_one a f)
+
+abbrev test : List Frame → List ℕ → Entry → Bool
+test fs n e = same_name e.name n && not (hides e.index fs)
+
+none_both : (fs : List Frame) (n : List ℕ) (xs ys : List Entry) → first_clash fs n (xs ++ ys) ≡ None → (first_clash fs n xs ≡ None) × (first_clash fs n ys ≡ None)
+none_both fs n [] ys h = (refl, h)
+none_both fs n (e ∷ xs) ys h = elim (bool_is (test fs n e)) [
+  | inl t ↦ let g : Some e ≡ None = sym (ap (λ b. cond b (Some e) (first_clash fs n (xs ++ ys))) t) ∙ h in cc
+  | inr f ↦ let g : first_clash fs n (xs ++ ys) ≡ None = sym (ap (λ b. cond b (Some e) (first_clash fs n (xs ++ ys))) f) ∙ h in
+      let i = none_both fs n xs ys g in (ap (λ b. cond b (Some e) (first_clash fs n xs)) f ∙ i.0, i.1)
+]
+
+some_either : (fs : List Frame) (n : List ℕ) (xs ys : List Entry) (x : Entry) → first_clash fs n (xs ++ ys) ≡ Some x → (first_clash fs n xs ≡ Some x) ⊎ ((first_clash fs n xs ≡ None) × (first_clash fs n ys ≡ Some x))
+some_either fs n [] ys x h = inr (refl, h)
+some_either fs n (e ∷ xs) ys x h = elim (bool_is (test fs n e)) [
+  | inl t ↦ let g : Some e ≡ Some x = sym (ap (λ b. cond b (Some e) (first_clash fs n (xs ++ ys))) t) ∙ h in inl (ap (λ b. cond b (Some e) (first_clash fs n xs)) t ∙ g)
+  | inr f ↦ let g : first_clash fs n (xs ++ ys) ≡ Some x = sym (ap (λ b. cond b (Some e) (first_clash fs n (xs ++ ys))) f) ∙ h in
+      let back = ap (λ b. cond b (Some e) (first_clash fs n xs)) f in
+      elim (some_either fs n xs ys x g) [ inl i ↦ inl (back ∙ i) | inr i ↦ inr (back ∙ i.0, i.1) ]
+]
+
+-- each earlier opening of this name is in an alternative that has ended
+abbrev AllHidden : Bool → List ℕ → List Frame → List ℕ → ℕ → Type 0
+AllHidden um us fs n k = (a : ℕ) → a < k → mark_name um (mark_at (marks us) a) ≡ Some n → hides a fs ≡ true
+
+entry_hidden : (fs : List Frame) (n : List ℕ) (k from to : ℕ) (o : Option (List ℕ)) → o ≡ Some n → first_clash fs n (entry_for k from to o) ≡ None → hides k fs ≡ true
+entry_hidden fs n k from to o e h = elim (bool_is (hides k fs)) [
+  | inl t ↦ t
+  | inr f ↦
+      let x : Entry = record { index = k; name = n; from = from; to = to } in
+      let t : test fs n x ≡ true = ap (λ b. b && not (hides k fs)) (same_self n) ∙ ap not f in
+      let g : first_clash fs n (entry_for k from to o) ≡ Some x = ap (λ z. first_clash fs n (entry_for k from to z)) e ∙ ap (λ b. cond b (Some x) None) t in
+      cc
+]
+
+abbrev name_at : Bool → List ℕ → ℕ → Option (List ℕ)
+name_at um us k = mark_name um (mark_at (marks us) k)
+
+abbrev start_of : List ℕ → ℕ → ℕ
+start_of us k = mark_place us k + 3
+
+abbrev end_of : List ℕ → ℕ → ℕ
+end_of us k = mark_place us k + 3 + name_length (mark_at (marks us) k)
+
+none_all : (um : Bool) (us : List ℕ) (fs : List Frame) (n : List ℕ) (k : ℕ) → first_clash fs n (named um us k) ≡ None → AllHidden um us fs n k
+none_all um us fs n zero h a lt e = absurd (omega arith)
+none_all um us fs n (suc k) h a lt e =
+    let i = none_both fs n (named um us k) (entry_at um (mark_place us k) k (mark_at (marks us) k)) h in
+    elim (cases_lt a k) [
+      | inl l ↦ none_all um us fs n k i.0 a l e
+      | inr g ↦ let s : a ≡ k = omega arith in
+          ap (λ j. hides j fs) s ∙ entry_hidden fs n k (start_of us k) (end_of us k) (name_at um us k) (sym (ap (name_at um us) s) ∙ e) i.1
+    ]
+
+record Found (um : Bool) (us : List ℕ) (fs : List Frame) (n : List ℕ) (k : ℕ) (e : Entry) : Type 0 where
+  before : e.index < k
+  is : name_at um us e.index ≡ Some n
+  seen_there : hides e.index fs ≡ false
+  places_are : span_of e ≡ name_places us e.index
+  first : AllHidden um us fs n e.index
+
+not_true : (b : Bool) → not b ≡ true → b ≡ false
+not_true true e = absurd (false≢true e)
+not_true false e = refl
+
+found_last : (um : Bool) (us : List ℕ) (fs : List Frame) (n : List ℕ) (k : ℕ) (e : Entry) (o : Option (List ℕ)) → name_at um us k ≡ o → AllHidden um us fs n k → first_clash fs n (entry_for k (start_of us k) (end_of us k) o) ≡ Some e → Found um us fs n (suc k) e
+found_last um us fs n k e None m all h = cc
+found_last um us fs n k e (Some v) m all h =
+    let x : Entry = record { index = k; name = v; from = start_of us k; to = end_of us k } in
+    elim (bool_is (test fs n x)) [
+      | inl t ↦
+          let same : x ≡ e = Some-inj (sym (ap (λ b. cond b (Some x) None) t) ∙ h) in
+          let b = both_true (same_name v n) (not (hides k fs)) t in
+          let q : v ≡ n = same_is v n b.0 in
+          subst (Found um us fs n (suc k)) same
+          (record { before = omega arith; is = m ∙ ap Some q; seen_there = not_true (hides k fs) b.1; places_are = refl; first = all })
+      | inr f ↦ let g : None ≡ Some e = sym (ap (λ b. cond b (Some x) None) f) ∙ h in cc
+    ]
+
+found_more : (um : Bool) (us : List ℕ) (fs : List Frame) (n : List ℕ) (k : ℕ) (e : Entry) → Found um us fs n k e → Found um us fs n (suc k) e
+found_more um us fs n k e f = let b = f.before in record { before = omega arith; is = f.is; seen_there = f.seen_there; places_are = f.places_are; first = f.first }
+
+some_found : (um : Bool) (us : List ℕ) (fs : List Frame) (n : List ℕ) (k : ℕ) (e : Entry) → first_clash fs n (named um us k) ≡ Some e → Found um us fs n k e
+some_found um us fs n zero e h = cc
+some_found um us fs n (suc k) e h =
+    elim (some_either fs n (named um us k) (entry_at um (mark_place us k) k (mark_at (marks us) k)) e h) [
+      | inl i ↦ found_more um us fs n k e (some_found um us fs n k e i)
+      | inr i ↦ found_last um us fs n k e (name_at um us k) refl (none_all um us fs n k i.0) i.1
+    ]
+
+with_names_append : (xs s ys : List (List ℕ)) → with_names s (xs ++ ys) ≡ with_names (with_names s xs) ys
+with_names_append [] s ys = refl
+with_names_append (x ∷ xs) s ys = with_names_append xs (with_name s x) ys
+
+or_turn : (a b : Bool) → (a || (b || false)) ≡ (b || a)
+or_turn true true = refl
+or_turn true false = refl
+or_turn false true = refl
+or_turn false false = refl
+
+-- what is at hand in order, and what came before in any order, have the same names
+abbrev SameNames : List (List ℕ) → List (List ℕ) → Type 0
+SameNames xs ys = (n : List ℕ) → is_among xs n ≡ is_among ys n
+
+same_more : (xs ys : List (List ℕ)) (n : List ℕ) → SameNames xs ys → SameNames (xs ++ n ∷ []) (n ∷ ys)
+same_more xs ys n s m =
+    list_any-append (λ z. same_name z m) xs (n ∷ []) ∙ or_turn (is_among xs m) (same_name n m) ∙ ap (λ b. same_name n m || b) (s m)
+
+pub once_in_order : (ns xs ys : List (List ℕ)) → SameNames xs ys → with_names xs ns ≡ xs ++ once_behind ys ns
+once_in_order [] xs ys s = sym (append-nil xs)
+once_in_order (n ∷ ns) xs ys s = elim (bool_is (is_among xs n)) [
+  | inl t ↦
+      ap (λ b. with_names (cond b xs (xs ++ n ∷ [])) ns) t ∙ once_in_order ns xs ys s
+      ∙ ap (λ b. xs ++ cond b (once_behind ys ns) (n ∷ once_behind (n ∷ ys) ns)) (sym (sym (s n) ∙ t))
+  | inr f ↦
+      ap (λ b. with_names (cond b xs (xs ++ n ∷ [])) ns) f ∙ once_in_order ns (xs ++ n ∷ []) (n ∷ ys) (same_more xs ys n s)
+      ∙ append_assoc xs (n ∷ []) (once_behind (n ∷ ys) ns)
+      ∙ ap (λ b. xs ++ cond b (once_behind ys ns) (n ∷ once_behind (n ∷ ys) ns)) (sym (sym (s n) ∙ f))
+]
+
+count_one : (m : Mark) → mark_count m ≤ 1
+count_one other = omega arith
+count_one bar = omega arith
+count_one closer = omega arith
+count_one quiet = omega arith
+count_one (capturing units) = omega arith
+
+-- what the mark at index k clashes with is in no alternative that has ended
+clash_seen : (um : Bool) (ms : List Mark) (a k : ℕ) → Clash um ms a k → hides a (frames ms k) ≡ true → ⊥
+clash_seen um ms a k c h = c.together (hidden_parted ms a k (hides_true a (frames ms k) h))
+
+pub start_at : (um : Bool) (us : List ℕ) (s : FirstPass) → IsStart um s → IsAt um us 0 0 s
+start_at um us s w = record {
+  mode = w.mode;
+  within = omega arith;
+  few = omega arith;
+  fewer = (let c = w.counted in omega arith);
+  rest = refl;
+  places = refl;
+  opened = w.opened;
+  listed_are = ap (map entry_of) w.listed_are;
+  knows = subst (λ es. KnowsLast es s.last_openings) (sym (ap (map entry_of) w.listed_are)) w.knows;
+  counted = (let c = w.counted in omega arith);
+  named_by = ap (λ z. with_names z (names um (marks us))) w.named_by ∙ once_in_order (names um (marks us)) [] [] (λ n. refl);
+  clean = λ a b l c. absurd (omega arith);
+}
+
+pub advanced : (um : Bool) (us : List ℕ) (at k : ℕ) (x : Mark × ℕ) (old new : FirstPass) → at < length us → at + x.1 ≤ length us → 0 < x.1 → x ≡ front (drop at us) → Steps old new x.0 at k → IsAt um us at k old → IsAt um us (at + x.1) (k + 1) new
+advanced um us at k x old new lt le pos e s w =
+    let ms = marks us in
+    let m = x.0 in
+    let taken = x.1 in
+    let t = turn us at x lt e in
+    let r : drop k ms ≡ m ∷ marks (drop (at + taken) us) = w.rest ∙ t.marks_are in
+    let p : drop k (places us) ≡ at ∷ places_behind (at + taken) 0 (drop (at + taken) us) = w.places ∙ t.places_are in
+    let here : mark_at ms k ≡ m = mark_here ms k m (marks (drop (at + taken) us)) r in
+    let place_is : mark_place us k ≡ at = place_here (places us) k at (places_behind (at + taken) 0 (drop (at + taken) us)) p in
+    let next : suc k ≡ k + 1 = omega arith in
+    let few = w.few in let fewer = w.fewer in let one = count_one m in let counted = s.counted in
+    record {
+      mode = s.mode ∙ w.mode;
+      within = le;
+      few = omega arith;
+      fewer = omega arith;
+      rest = drop_next ms k m (marks (drop (at + taken) us)) r;
+      places = drop_next (places us) k at (places_behind (at + taken) 0 (drop (at + taken) us)) p;
+      opened = s.opened ∙ ap (step k m) w.opened ∙ ap (λ z. step k z (frames ms k)) (sym here) ∙ ap (frames ms) next;
+      listed_are = s.listed_are ∙ ap (λ z. z ++ entry_at old.unicode_mode at k m) w.listed_are ∙ ap (λ z. named um us k ++ entry_at z at k m) w.mode ∙ ap (λ z. named um us k ++ entry_at um z k m) (sym place_is) ∙ ap (λ z. named um us k ++ entry_at um (mark_place us k) k z) (sym here) ∙ ap (named um us) next;
+      knows = s.knows;
+      counted = (let c = w.counted in let d : count (marks (drop at us)) ≡ mark_count m + count (marks (drop (at + taken) us)) = ap count t.marks_are in omega arith);
+      named_by = ap (λ z. with_names z (names um (marks (drop (at + taken) us)))) (s.named_by ∙ ap (λ z. with_names old.names (listed (mark_name z m))) w.mode) ∙ sym (with_names_append (listed (mark_name um m)) old.names (names um (marks (drop (at + taken) us)))) ∙ ap (λ z. with_names old.names (names um z)) (sym t.marks_are) ∙ w.named_by;
+      clean = λ a b l c. elim (cases_lt b k) [
+        | inl h ↦ w.clean a b h c
+        | inr g ↦
+            let q : b ≡ k = omega arith in
+            let d : Clash um ms a k = subst (Clash um ms a) q c in
+            let f = s.fresh d.name (ap (λ z. mark_name z m) w.mode ∙ ap (mark_name um) (sym here) ∙ d.second) in
+            let h = none_all um us (frames ms k) d.name k (ap (λ z. first_clash (frames ms k) d.name z) (sym w.listed_are) ∙ ap (λ z. first_clash z d.name (entries old)) (sym w.opened) ∙ f) in
+            clash_seen um ms a k d (h a d.in_order d.first)
+      ];
+    }
+
+places_at : (us : List ℕ) (at k : ℕ) (m : Mark) → mark_place us k ≡ at → mark_at (marks us) k ≡ m → (at + 3, at + 3 + name_length m) ≡ name_places us k
+places_at us at k m pl here = ap (λ z. (z + 3, z + 3 + name_length m)) (sym pl) ∙ ap (λ z. (mark_place us k + 3, mark_place us k + 3 + name_length z)) (sym here)
+
+duplicated : (um : Bool) (us : List ℕ) (at k : ℕ) (m : Mark) (old : FirstPass) (f g : ℕ × ℕ) → mark_place us k ≡ at → mark_at (marks us) k ≡ m → Refuses old m at (Duplicated f g) → IsAt um us at k old → IsPassFault um us (Duplicated f g)
+duplicated um us at k m old f g pl here r w =
+    let ms = marks us in
+    let n = r.0 in
+    let e = r.2.0 in
+    let d = some_found um us (frames ms k) n k e (ap (λ z. first_clash (frames ms k) n z) (sym w.listed_are) ∙ ap (λ z. first_clash z n (entries old)) (sym w.opened) ∙ r.2.1) in
+    let name_is : name_at um us k ≡ Some n = ap (mark_name um) here ∙ ap (λ z. mark_name z m) (sym w.mode) ∙ r.1 in
+    let clash : Clash um ms e.index k = record {
+      in_order = d.before;
+      name = n;
+      first = d.is;
+      second = name_is;
+      together = λ p. false≢true (sym d.seen_there ∙ hides_is e.index (frames ms k) (parted_hidden ms e.index k p));
+    } in
+    let first : IsFirstClash um ms e.index k = record {
+      clash = clash;
+      second_least = λ x y c. elim (cases_lt y k) [ inl l ↦ absurd (w.clean x y l c) | inr l ↦ l ];
+      first_least = λ x c. elim (cases_lt x e.index) [
+        | inl l ↦
+            let q : c.name ≡ n = Some-inj (sym c.second ∙ name_is) in
+            absurd (clash_seen um ms x k c (d.first x l (c.first ∙ ap Some q)))
+        | inr l ↦ l
+      ];
+    } in
+    (e.index, k, first, r.2.2 ∙ d.places_are, r.2.3 ∙ places_at us at k m pl here)
+
+pub refused : (um : Bool) (us : List ℕ) (at k : ℕ) (x : Mark × ℕ) (old : FirstPass) (f : PassFault) → at < length us → x ≡ front (drop at us) → Refuses old x.0 at f → IsAt um us at k old → IsPassFault um us f
+refused um us at k x old OutOfMemory lt e r w = tt
+refused um us at k x old (Duplicated f g) lt e r w =
+    let m = x.0 in
+    let taken = x.1 in
+    let t = turn us at x lt e in
+    duplicated um us at k m old f g
+    (place_here (places us) k at (places_behind (at + taken) 0 (drop (at + taken) us)) (w.places ∙ t.places_are))
+    (mark_here (marks us) k m (marks (drop (at + taken) us)) (w.rest ∙ t.marks_are)) r w
+
+nothing_at : (ms : List Mark) (k : ℕ) → drop k ms ≡ [] → (b : ℕ) → k ≤ b → mark_at ms b ≡ other
+nothing_at [] k e b l = refl
+nothing_at (m ∷ ms) zero e b l = cc
+nothing_at (m ∷ ms) (suc k) e zero l = absurd (omega arith)
+nothing_at (m ∷ ms) (suc k) e (suc b) l = nothing_at ms k e b (omega arith)
+
+at_end : (um : Bool) (us : List ℕ) (at k : ℕ) (s : FirstPass) → length us ≤ at → IsAt um us at k s → drop at us ≡ []
+at_end um us at k s le w = let h = w.within in let e : at ≡ length us = omega arith in ap (λ j. drop j us) e ∙ drop-length us
+
+pub all_clean : (um : Bool) (us : List ℕ) (at k : ℕ) (s : FirstPass) → length us ≤ at → IsAt um us at k s → (a b : ℕ) → Clash um (marks us) a b → ⊥
+all_clean um us at k s le w a b c = elim (cases_lt b k) [
+  | inl l ↦ w.clean a b l c
+  | inr l ↦
+      let d : drop k (marks us) ≡ [] = w.rest ∙ ap marks (at_end um us at k s le w) in
+      let m = nothing_at (marks us) k d b l in let q : None ≡ Some c.name = sym (ap (mark_name um) m) ∙ c.second in cc
+]
+
+last_or_none : (x y : Option Entry) → last_or x y ≡ None → (x ≡ None) × (y ≡ None)
+last_or_none None y e = (refl, e)
+last_or_none (Some x) y e = cc
+
+none_last : (fs : List Frame) (n : List ℕ) (es : List Entry) → last_named n es ≡ None → first_clash fs n es ≡ None
+none_last fs n [] h = refl
+none_last fs n (e ∷ es) h =
+    let g = last_or_none (last_named n es) (cond (same_name e.name n) (Some e) None) h in
+    elim (bool_is (same_name e.name n)) [
+      | inl t ↦ let k : Some e ≡ None = sym (ap (λ b. cond b (Some e) None) t) ∙ g.1 in cc
+      | inr f ↦ ap (λ b. cond (b && not (hides e.index fs)) (Some e) (first_clash fs n es)) f ∙ none_last fs n es g.0
+    ]
+
+last_or_nothing : (x : Option Entry) → last_or x None ≡ x
+last_or_nothing None = refl
+last_or_nothing (Some x) = refl
+
+last_or_turn : (x y z : Option Entry) → last_or (last_or x y) z ≡ last_or x (last_or y z)
+last_or_turn None y z = refl
+last_or_turn (Some x) y z = refl
+
+pub last_append : (n : List ℕ) (xs ys : List Entry) → last_named n (xs ++ ys) ≡ last_or (last_named n ys) (last_named n xs)
+last_append n [] ys = sym (last_or_nothing (last_named n ys))
+last_append n (e ∷ xs) ys = ap (λ z. last_or z (cond (same_name e.name n) (Some e) None)) (last_append n xs ys) ∙ last_or_turn (last_named n ys) (last_named n xs) (cond (same_name e.name n) (Some e) None)
+
+last_either : (x y : Option Entry) (e : Entry) → last_or x y ≡ Some e → (x ≡ Some e) ⊎ ((x ≡ None) × (y ≡ Some e))
+last_either None y e h = inr (refl, h)
+last_either (Some x) y e h = inl h
+
+record Last (um : Bool) (us : List ℕ) (n : List ℕ) (k : ℕ) (e : Entry) : Type 0 where
+  before : e.index < k
+  is : name_at um us e.index ≡ Some n
+  last : (a : ℕ) → a < k → name_at um us a ≡ Some n → a ≤ e.index
+
+entry_last : (n : List ℕ) (k from to : ℕ) (o : Option (List ℕ)) (e : Entry) → last_named n (entry_for k from to o) ≡ Some e → (e.index ≡ k) × (o ≡ Some n)
+entry_last n k from to None e h = cc
+entry_last n k from to (Some v) e h =
+    let x : Entry = record { index = k; name = v; from = from; to = to } in
+    elim (bool_is (same_name v n)) [
+      | inl t ↦ let q : x ≡ e = Some-inj (sym (ap (λ b. cond b (Some x) None) t) ∙ h) in (sym (ap (λ z. z.index) q), ap Some (same_is v n t))
+      | inr f ↦ let g : None ≡ Some e = sym (ap (λ b. cond b (Some x) None) f) ∙ h in cc
+    ]
+
+entry_not : (n : List ℕ) (k from to : ℕ) (o : Option (List ℕ)) → last_named n (entry_for k from to o) ≡ None → o ≡ Some n → ⊥
+entry_not n k from to o h e =
+    let x : Entry = record { index = k; name = n; from = from; to = to } in
+    let g : last_named n (entry_for k from to o) ≡ Some x = ap (λ z. last_named n (entry_for k from to z)) e ∙ ap (λ b. cond b (Some x) None) (same_self n) in cc
+
+last_found : (um : Bool) (us : List ℕ) (n : List ℕ) (k : ℕ) (e : Entry) → last_named n (named um us k) ≡ Some e → Last um us n k e
+last_found um us n zero e h = cc
+last_found um us n (suc k) e h =
+    let o = name_at um us k in
+    let new = entry_for k (start_of us k) (end_of us k) o in
+    elim (last_either (last_named n new) (last_named n (named um us k)) e (sym (last_append n (named um us k) new) ∙ h)) [
+      | inl i ↦ let g = entry_last n k (start_of us k) (end_of us k) o e i in let q = g.0 in
+          record { before = omega arith; is = ap (name_at um us) q ∙ g.1; last = λ a l m. omega arith }
+      | inr i ↦ let g = last_found um us n k e i.1 in let b = g.before in
+          record {
+            before = omega arith;
+            is = g.is;
+            last = λ a l m. elim (cases_lt a k) [
+              | inl lt ↦ g.last a lt m
+              | inr ge ↦ let q : a ≡ k = omega arith in absurd (entry_not n k (start_of us k) (end_of us k) o i.0 (sym (ap (name_at um us) q) ∙ m))
+            ];
+          }
+    ]
+
+tells_case : (um : Bool) (us : List ℕ) (n : List ℕ) (k : ℕ) (e : Entry) → ((a b : ℕ) → b < k → Clash um (marks us) a b → ⊥) → Last um us n k e → hides e.index (frames (marks us) k) ≡ true → (o : Option Entry) → first_clash (frames (marks us) k) n (named um us k) ≡ o → o ≡ None
+tells_case um us n k e clean l h None s = refl
+tells_case um us n k e clean l h (Some x) s =
+    let ms = marks us in
+    let f = some_found um us (frames ms k) n k x s in
+    let le = l.last x.index f.before f.is in
+    absurd (elim (cases_lt x.index e.index) [
+      | inl lt ↦ clean x.index e.index l.before (record {
+        in_order = lt;
+        name = n;
+        first = f.is;
+        second = l.is;
+        together = λ p. last_seen ms x.index e.index k lt l.before (hides_true e.index (frames ms k) h) (λ z. false≢true (sym f.seen_there ∙ hides_is x.index (frames ms k) z)) p;
+      })
+      | inr ge ↦ let q : x.index ≡ e.index = omega arith in false≢true (sym f.seen_there ∙ ap (λ j. hides j (frames ms k)) q ∙ h)
+    ])
+
+pub tells : (um : Bool) (us : List ℕ) (at k : ℕ) (s : FirstPass) → IsAt um us at k s → (n : List ℕ) → LastTells (frames_of s.groups) n (entries s)
+tells um us at k s w n e h y =
+    let fs = frames (marks us) k in
+    let l = last_found um us n k e (ap (last_named n) (sym w.listed_are) ∙ h) in
+    ap (λ z. first_clash z n (entries s)) w.opened ∙ ap (first_clash fs n) w.listed_are ∙ tells_case um us n k e w.clean l (ap (hides e.index) (sym w.opened) ∙ y) (first_clash fs n (named um us k)) refl
+
+pub nests_at : (um : Bool) (us : List ℕ) (at k : ℕ) (s : FirstPass) → IsAt um us at k s → Nests (frames_of s.groups)
+nests_at um us at k s w = subst Nests (sym w.opened) (nests (marks us) k)
+
+no_index : (o : Option Entry) → None ≡ option_map (λ (e : Entry). e.index) o → o ≡ None
+no_index None h = refl
+no_index (Some x) h = cc
+
+pub clash_none : (fs : List Frame) (n : List ℕ) (es : List Entry) → None ≡ option_map (λ (e : Entry). e.index) (last_named n es) → None ≡ option_map span_of (first_clash fs n es)
+clash_none fs n es h = ap (option_map span_of) (sym (none_last fs n es (no_index (last_named n es) h)))
+
+span_none : (o : Option Entry) → None ≡ option_map span_of o → o ≡ None
+span_none None h = refl
+span_none (Some e) h = cc
+
+pub clash_not : (fs : List Frame) (n : List ℕ) (es : List Entry) → None ≡ option_map span_of (first_clash fs n es) → first_clash fs n es ≡ None
+clash_not fs n es h = span_none (first_clash fs n es) h
+
+abbrev last_number : Option ℕ → Option ℕ → Option ℕ
+last_number None y = y
+last_number (Some x) y = Some x
+
+index_case : (x y : Option Entry) → option_map (λ (e : Entry). e.index) (last_or x y) ≡ last_number (option_map (λ (e : Entry). e.index) x) (option_map (λ (e : Entry). e.index) y)
+index_case None y = refl
+index_case (Some x) y = refl
+
+new_case : (b : Bool) (e : Entry) (o : Option ℕ) → last_number (option_map (λ (e : Entry). e.index) (last_or None (cond b (Some e) None))) o ≡ cond b (Some e.index) o
+new_case true e o = refl
+new_case false e o = refl
+
+-- one more opening
+pub knows_more : (es : List Entry) (e : Entry) (old new : LastOpenings) (bytes : List ℕ) → KnowsLast es old → ((cs : List ℕ) → get_by_text new.marks cs ≡ cond (bytes_eq bytes cs) (Some e.index) (get_by_text old.marks cs)) → IsUtf8 bytes → chars bytes ≡ e.name → KnowsLast (es ++ e ∷ []) new
+knows_more es e old new bytes knows sets text is cs valid =
+    let n = chars cs in
+    let same = same_text bytes cs text valid ∙ ap (λ z. same_name z n) is in
+    sets cs ∙ ap (λ b. cond b (Some e.index) (get_by_text old.marks cs)) same ∙ ap (cond (same_name e.name n) (Some e.index)) (knows cs valid)
+    ∙ sym (new_case (same_name e.name n) e (option_map (λ (e : Entry). e.index) (last_named n es)))
+    ∙ sym (index_case (last_named n (e ∷ [])) (last_named n es))
+    ∙ ap (option_map (λ (e : Entry). e.index)) (sym (last_append n es (e ∷ [])))

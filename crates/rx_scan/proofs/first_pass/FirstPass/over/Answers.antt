@@ -1,0 +1,43 @@
+use Rattle.std.proofs.Common.{◌≡◌, ap, subst, sym, ◌∙◌, ◌+◌, ◌-◌, ◌<◌, ◌≤◌, length, length-drop, arith}
+use Rattle.rx_units.specs.Units.{values}
+use Rattle.rx_scan.specs.MarkReading.{seen_front, front}
+use Rattle.rx_scan.proofs.Passes.{start_at, advanced, nests_at, tells, refused, all_clean}
+use Rattle.rx_scan.proofs.MarkSteps.{values_drop, values_length}
+use Rattle.rx_scan.proofs.first_pass.FirstPass.over.Goals as goal
+
+pub loop-place-init : goal.loop-place-init
+loop-place-init c = start_at c.args.unicode_mode (values c.args.units.now) c.new-pass.result c.new-pass.ensures
+
+pub step-requires-clause-tells : goal.step-requires-clause-tells
+step-requires-clause-tells c = tells c.args.unicode_mode (values c.args.units.now) c.loop-place.place c.loop-place.index c.loop-place.pass c.loop-place.invariant
+
+pub step-requires-clause-nests : goal.step-requires-clause-nests
+step-requires-clause-nests c = nests_at c.args.unicode_mode (values c.args.units.now) c.loop-place.place c.loop-place.index c.loop-place.pass c.loop-place.invariant
+
+pub returns-in-Err-clause-fault : goal.returns-in-Err-clause-fault
+returns-in-Err-clause-fault c =
+    let us = c.args.units.now in
+    let at = c.loop-place.place in
+    refused c.args.unicode_mode (values us) at c.loop-place.index (seen_front c.read_mark-taken.result) c.loop-place.pass c.in-Err.fault
+    (subst (λ n. at < n) (sym (values_length us)) c.loop-place-test.true)
+    (c.read_mark-taken.ensures.value ∙ ap (λ ws. front (values ws)) c.tail.ensures ∙ ap front (values_drop at us)) c.in-Err.ensures.err c.loop-place.invariant
+
+pub loop-place-preserved : goal.loop-place-preserved
+loop-place-preserved c =
+    let us = c.args.units.now in
+    let at = c.loop-place.place in
+    let n = values_length us in
+    let l : length c.tail.result.now ≡ length us - at = ap length c.tail.ensures ∙ length-drop at us in
+    let w = c.read_mark-taken.ensures.within in
+    let p = c.read_mark-taken.ensures.moves in
+    let t = c.loop-place-test.true in
+    let i = c.loop-place.invariant.within in
+    let le : at + c.read_mark-taken.result.1 ≤ length (values us) = omega arith in
+    advanced c.args.unicode_mode (values us) at c.loop-place.index (seen_front c.read_mark-taken.result) c.loop-place.pass c.step.new.self
+    (subst (λ n. at < n) (sym n) t) le p
+    (c.read_mark-taken.ensures.value ∙ ap (λ ws. front (values ws)) c.tail.ensures ∙ ap front (values_drop at us)) c.in-Ok.ensures.ok c.loop-place.invariant
+
+pub returns-clause-clean : goal.returns-clause-clean
+returns-clause-clean c =
+    all_clean c.args.unicode_mode (values c.args.units.now) c.loop-place.place c.loop-place.index c.loop-place.pass
+    (subst (λ n. n ≤ c.loop-place.place) (sym (values_length c.args.units.now)) c.loop-place-test.false) c.loop-place.invariant

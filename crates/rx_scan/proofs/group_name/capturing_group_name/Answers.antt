@@ -1,0 +1,54 @@
+use Rattle.std.proofs.Common.{◌≡◌, ◌<◌, ◌≤◌, ◌+◌, ◌==◌, ap, sym, ◌∙◌, None, Some, rules, arith, drop, length}
+use Rattle.std.proofs.lemmas.Bool.{eqb-false}
+use Rattle.std.proofs.lemmas.Str.{chars-nil}
+use Rattle.rx_units.specs.Units.{values}
+use Rattle.rx_model.specs.GroupNameReading.{character, no_character, name_character_at, row_after, row_behind}
+use Rattle.rx_scan.proofs.GroupNames.{at_place, character_some, character_within, no_name_yet, goes_on, ends_early, ends_whole, read_names}
+use Rattle.rx_scan.proofs.group_name.capturing_group_name.Goals as goal
+
+pub loop-place-init : goal.loop-place-init
+loop-place-init c = record {
+  within = omega arith;
+  read = no_name_yet c.args.unicode_mode c.args.units.now c.in_ok-name.name (c.in_ok-name.ensures ∙ chars-nil);
+}
+
+-- the character that was read at the place
+read_here : (c : goal.In_ok-push-in-Some) → character c.in-Some.character c.in-Some.length ≡ name_character_at c.args.unicode_mode (c.loop-place.place == 0) (values (drop c.loop-place.place c.args.units.now))
+read_here c = at_place c.args.unicode_mode c.args.units.now c.loop-place.place (character c.in-Some.character c.in-Some.length) c.in-Some.ensures
+
+within_here : (c : goal.In_ok-push-in-Some) → c.loop-place.place + c.in-Some.length ≤ length c.args.units.now
+within_here c = character_within c.args.unicode_mode (c.loop-place.place == 0) c.args.units.now c.loop-place.place c.in-Some.character c.in-Some.length c.loop-place.invariant.within (read_here c)
+
+pub overflow_add-place : goal.overflow_add-place
+overflow_add-place c = let within = within_here c in search (rules, within)
+
+pub loop-place-smaller : goal.loop-place-smaller
+loop-place-smaller c =
+    let some = character_some c.args.unicode_mode (c.loop-place.place == 0) (values (drop c.loop-place.place c.args.units.now)) c.in-Some.character c.in-Some.length (read_here c) in
+    let more = c.loop-place-test.true in
+    omega (arith, some, more)
+
+pub loop-place-preserved : goal.loop-place-preserved
+loop-place-preserved c = record {
+  within = within_here c;
+  read = goes_on c.args.unicode_mode c.args.units.now c.loop-place.name c.loop-place.place c.loop-place.invariant.within c.loop-place.invariant.read c.in-Some.character c.in-Some.length (read_here c)
+      ∙ ap (λ name. row_behind name (c.loop-place.place + c.in-Some.length) (row_after c.args.unicode_mode (c.loop-place.place + c.in-Some.length == 0) 0 (values (drop (c.loop-place.place + c.in-Some.length) c.args.units.now)))) (sym c.in_ok-push-in-Some.ensures.ok);
+}
+
+pub returns-in-None-clause-read : goal.returns-in-None-clause-read
+returns-in-None-clause-read c =
+    ends_early c.args.unicode_mode c.args.units.now c.loop-place.name c.loop-place.place c.loop-place.invariant.within c.loop-place.invariant.read c.loop-place-test.true
+    (at_place c.args.unicode_mode c.args.units.now c.loop-place.place no_character c.in-None.ensures)
+
+pub returns-in-None-clause-name : goal.returns-in-None-clause-name
+returns-in-None-clause-name c = read_names c.args.unicode_mode (values c.args.units.now) None (returns-in-None-clause-read c)
+
+some_units : (c : goal.After-loop-place) → 0 < length c.args.units.now
+some_units c = let no = eqb-false (length c.args.units.now) 0 (sym c.is_empty.ensures ∙ c.if-is_empty.false) in omega (arith, no)
+
+pub returns-clause-read : goal.returns-clause-read
+returns-clause-read c =
+    ends_whole c.args.unicode_mode c.args.units.now c.loop-place.name c.loop-place.place c.loop-place.invariant.within c.loop-place.invariant.read (some_units c) c.loop-place-test.false
+
+pub returns-clause-name : goal.returns-clause-name
+returns-clause-name c = read_names c.args.unicode_mode (values c.args.units.now) (Some c.loop-place.name) (returns-clause-read c)

@@ -1,0 +1,15 @@
+use Rattle.std.proofs.Common.{◌≡◌, subst, sym, ap, ◌∙◌, true, string_bytes}
+use Rattle.std.specs.Str.{IsUtf8, chars}
+use Rattle.std.proofs.lemmas.Map.Text.{btree_set_updates_text}
+use Rattle.std.proofs.lemmas.Result.{IfOk-at_ok}
+use Rattle.rx_scan.specs.KnownNames.{KnowsAll}
+use Rattle.rx_scan.proofs.KnownNames.{known_more}
+use Rattle.rx_scan.proofs.names.Names.push.Goals as goal
+
+pub invariant_of-self-in-Ok : goal.invariant_of-self-in-Ok
+invariant_of-self-in-Ok c =
+    let key = string_bytes c.in_ok-key.key in
+    let key_is = IfOk-at_ok (λ s. string_bytes s ≡ c.as_str.result.now) c.in_ok-key.was c.from_str.ensures.ok in
+    let sets = btree_set_updates_text key c.self.inside.known c.insert.new.self true c.in-Ok.ensures.updates in
+    subst (λ names. KnowsAll names c.insert.new.self) (sym c.in_ok-push.ensures.ok)
+    (known_more c.self.inside.list c.self.inside.known c.insert.new.self key _ c.self.invariant sets (subst IsUtf8 (sym key_is) c.as_str.utf8) (ap chars key_is ∙ c.as_str.ensures))

@@ -1,0 +1,35 @@
+-- What the reader of marks answers, as marks of the text.
+use Rattle.std.specs.Prelude.{ℕ, ◌+◌, Option, Some, None, List, [], ◌∷◌, if◌then◌else◌}
+use Rattle.std.specs.Borrow.{Bor}
+use Rattle.rx_units.specs.declared.code_point.CodePoint.{CodePoint}
+use Rattle.rx_units.specs.Units.{values}
+use Rattle.rx_model.specs.Marks as model
+use Rattle.rx_model.specs.Marks.{before_close, has_close, mark_front}
+use Rattle.rx_scan.specs.declared.mark.Mark.{Mark}
+use Rattle.rx_scan.specs.declared.mark.Mark.TheVariants as mark
+
+-- the units before the next `>`, where one stands
+abbrev pub closed_part : List ℕ → Option (List ℕ)
+closed_part us = if has_close us then Some (before_close us) else None
+
+-- a capturing opening that was read
+abbrev pub seen_capturing : Option (Bor (List CodePoint)) → model.Mark
+seen_capturing None = model.capturing None
+seen_capturing (Some units) = model.capturing (Some (values units.now))
+
+-- the mark that was read
+abbrev pub seen_mark : Mark → model.Mark
+seen_mark mark.Other = model.other
+seen_mark mark.Bar = model.bar
+seen_mark mark.Closer = model.closer
+seen_mark mark.Quiet = model.quiet
+seen_mark (mark.Capturing units) = seen_capturing units
+
+-- with how many units it takes
+abbrev pub seen_front : Mark × ℕ → model.Mark × ℕ
+seen_front front = (seen_mark front.0, front.1)
+
+-- the mark with which the units begin, and how many of them it takes
+unfoldable pub front : List ℕ → model.Mark × ℕ
+front [] = (model.other, 0)
+front (u ∷ us) = ((mark_front u us).0, (mark_front u us).1 + 1)

@@ -1,0 +1,41 @@
+-- The open groups that the first pass keeps, as the frames of a text's marks.
+use Rattle.std.specs.Prelude.{ℕ, ◌-◌, ◌<◌, ◌≤◌, Bool, false, nat_le, nat_lt, ◌&&◌, ◌||◌, List, [], ◌∷◌, length, get_or}
+use Rattle.rx_model.specs.Frames.{Frame}
+use Rattle.rx_scan.specs.declared.open_groups.OpenGroup.{OpenGroup}
+use Rattle.rx_scan.specs.declared.open_groups.OpenGroups.{OpenGroups}
+
+-- an open group as a frame
+abbrev pub pair : OpenGroup → Frame
+pair group = (group.start, group.bar)
+
+-- groups with the outermost first, turned onto others
+abbrev pub onto : List OpenGroup → List Frame → List Frame
+onto [] fs = fs
+onto (group ∷ groups) fs = onto groups (pair group ∷ fs)
+
+-- the innermost first
+abbrev pub frames_of : OpenGroups → List Frame
+frames_of groups = pair groups.innermost ∷ onto groups.outer []
+
+-- whether what stands at index a is in an alternative of this frame that has ended
+abbrev pub hides_one : ℕ → Frame → Bool
+hides_one a f = nat_le f.0 a && nat_lt a f.1
+
+-- whether what stands at index a is in an alternative that has ended, of a group that has not
+abbrev pub hides : ℕ → List Frame → Bool
+hides a [] = false
+hides a (f ∷ fs) = hides_one a f || hides a fs
+
+-- the same of groups with the outermost first
+abbrev pub any_hides : ℕ → List OpenGroup → Bool
+any_hides a [] = false
+any_hides a (group ∷ groups) = hides_one a (pair group) || any_hides a groups
+
+-- what stands for a group past the last
+abbrev pub no_group : OpenGroup
+no_group = record { start = 0; bar = 0 }
+
+-- The last of the first n groups begins at index a or before it, and the next does not.
+abbrev pub Splits : ℕ → List OpenGroup → ℕ → Type 0
+Splits a groups n =
+    (n ≤ length groups) × (0 < n → (get_or groups (n - 1) no_group).start ≤ a) × (n < length groups → a < (get_or groups n no_group).start)

@@ -1,0 +1,255 @@
+ghost use Rattle.std.specs.Prelude.{◌≡◌, ◌+◌, ◌<◌, ◌≤◌, ◌^◌, ℕ, List, None, Some, IfOk, IfErr, OnOk, drop, length, map, option_map};
+ghost use Rattle.std.specs.Str.{chars};
+ghost use Rattle.rx_units.specs.Units.{values};
+ghost use Rattle.rx_model.specs.Frames.{Nests};
+ghost use Rattle.rx_model.specs.Marks.{Clash, count, marks, name_length, seen};
+ghost use Rattle.rx_scan.specs.MarkReading.{seen_mark, seen_capturing};
+ghost use Rattle.rx_scan.specs.OpenGroups.{frames_of};
+ghost use Rattle.rx_scan.specs.FirstPass.{Captures, ClashesWith, IsPassFault, IsStart, KnowsLast, LastTells, Refuses, Steps, entries, entry_of, first_clash, same_name, span_of, with_name};
+
+use crate::last_openings::LastOpenings;
+use crate::mark::{Mark, read_mark};
+use crate::open_groups::OpenGroups;
+use crate::{Names, capturing_group_name};
+use rx_base::{List, OutOfMemory, Text};
+use rx_units::CodePoint;
+use std::alloc::Global;
+
+/// A named opening: its index among the marks, its name, and the places before and after the units of the name.
+#[derive(Debug, Drop)]
+pub struct Opening {
+    pub mark: usize,
+    pub start: usize,
+    pub end: usize,
+    pub name: Text,
+}
+
+/// Why a first pass stopped.
+#[derive(Clone, Copy, Debug, PartialEq, Eq)]
+pub enum PassFault {
+    OutOfMemory,
+    /// The places before and after the units of two equal names.
+    Duplicated {
+        first: (usize, usize),
+        second: (usize, usize),
+    },
+}
+
+impl From<OutOfMemory> for PassFault {
+    ghost use Rattle.std.specs.Prelude.{◌≡◌};
+    ghost use Rattle.rx_scan.specs.declared.first_pass.PassFault.TheVariants as fault;
+
+    ghost from_gives = { λ _ e. e ≡ fault.OutOfMemory };
+
+    fn from(_: OutOfMemory) -> PassFault {
+        PassFault::OutOfMemory
+    }
+}
+
+/// What a first pass has found so far.
+#[derive(Debug, Drop)]
+pub struct FirstPass {
+    pub unicode_mode: bool,
+    /// How many groups capture.
+    pub count: usize,
+    pub names: Names,
+    pub openings: List<Opening>,
+    pub last_openings: LastOpenings,
+    pub groups: OpenGroups,
+}
+
+fn tail(units: &[CodePoint], place: usize) -> &[CodePoint]
+    requires { place ≤ length units.now }
+    ensures { result.now ≡ drop place units.now }
+{
+    &units[place..]
+}
+
+impl FirstPass {
+    /// Counts the groups of a text and lists their names (CountLeftCapturingParensWithin of ECMA-262, 22.2.1.2), or finds the first
+    /// two equal names of which no bar parts the one from the other (22.2.1.1).
+    pub fn over(
+        alloc: Global,
+        units: &[CodePoint],
+        unicode_mode: bool,
+    ) -> Result<FirstPass, PassFault>
+        ensures count { IfOk result (λ pass. pass.count ≡ count (marks (values units.now))) }
+        ensures names { IfOk result (λ pass. pass.names ≡ seen unicode_mode (marks (values units.now))) }
+        ensures clean { IfOk result (λ pass. (a b : ℕ) → Clash unicode_mode (marks (values units.now)) a b → ⊥) }
+        ensures fault { IfErr result (IsPassFault unicode_mode (values units.now)) }
+    {
+        let mut pass = FirstPass::new(alloc, unicode_mode);
+        let mut place = 0usize;
+        let mut index = 0usize;
+        while place < units.len() {
+            let (mark, taken) = read_mark(tail(units, place));
+            match pass.step(alloc, mark, place, index) {
+                Ok(()) => {}
+                Err(fault) => return Err(fault),
+            }
+            place += taken;
+            index += 1;
+        }
+        Ok(pass)
+    }
+
+    fn new(alloc: Global, unicode_mode: bool) -> FirstPass
+        ensures { IsStart unicode_mode result }
+    {
+        FirstPass {
+            unicode_mode,
+            count: 0,
+            names: Names::new(alloc),
+            openings: List::new(alloc),
+            last_openings: LastOpenings::new(alloc),
+            groups: OpenGroups::new(alloc),
+        }
+    }
+
+    /// Goes over the mark with this index, which begins at this place.
+    fn step(
+        &mut self,
+        alloc: Global,
+        mark: Mark<'_>,
+        place: usize,
+        index: usize,
+    ) -> Result<(), PassFault>
+        requires few { self.old.count + 1 < 2 ^ 64 }
+        requires room { place + 3 + name_length (seen_mark mark) < 2 ^ 64 }
+        requires after { index + 1 < 2 ^ 64 }
+        requires tells { (name : List ℕ) → LastTells (frames_of self.old.groups) name (entries self.old) }
+        requires nests { Nests (frames_of self.old.groups) }
+        requires knows { KnowsLast (entries self.old) self.old.last_openings }
+        ensures ok { OnOk result (Steps self.old self.new (seen_mark mark.entry) place index) }
+        ensures err { IfErr result (Refuses self.old (seen_mark mark.entry) place) }
+    {
+        match mark {
+            Mark::Other => {}
+            Mark::Bar => self.groups.bar(index),
+            Mark::Closer => self.groups.close(),
+            Mark::Quiet => self.groups.open(index + 1)?,
+            Mark::Capturing(units) => self.capture(alloc, units, place, index)?,
+        }
+        Ok(())
+    }
+
+    /// A group opens that captures.
+    fn capture(
+        &mut self,
+        alloc: Global,
+        units: Option<&[CodePoint]>,
+        place: usize,
+        index: usize,
+    ) -> Result<(), PassFault>
+        requires few { self.old.count + 1 < 2 ^ 64 }
+        requires room { place + 3 + name_length (seen_capturing units) < 2 ^ 64 }
+        requires after { index + 1 < 2 ^ 64 }
+        requires tells { (name : List ℕ) → LastTells (frames_of self.old.groups) name (entries self.old) }
+        requires nests { Nests (frames_of self.old.groups) }
+        requires knows { KnowsLast (entries self.old) self.old.last_openings }
+        ensures ok { OnOk result (Steps self.old self.new (seen_capturing units.entry) place index) }
+        ensures err { IfErr result (Refuses self.old (seen_capturing units.entry) place) }
+    {
+        let Some(units) = units else {
+            return self.capture_unnamed(index);
+        };
+        let start = place + 3;
+        let end = start + units.len();
+        match capturing_group_name(alloc, units, self.unicode_mode)? {
+            None => self.capture_unnamed(index),
+            Some(name) => {
+                let opening = Opening {
+                    mark: index,
+                    start,
+                    end,
+                    name,
+                };
+                self.capture_named(alloc, opening)
+            }
+        }
+    }
+
+    fn capture_unnamed(&mut self, index: usize) -> Result<(), PassFault>
+        requires few { self.old.count + 1 < 2 ^ 64 }
+        requires after { index + 1 < 2 ^ 64 }
+        requires knows { KnowsLast (entries self.old) self.old.last_openings }
+        ensures ok { OnOk result ((from to : ℕ) → Captures self.old self.new None from to index) }
+        ensures err { IfErr result (λ fault. fault ≡ PassFault.OutOfMemory) }
+    {
+        self.groups.open(index + 1)?;
+        self.count += 1;
+        Ok(())
+    }
+
+    fn capture_named(&mut self, alloc: Global, opening: Opening) -> Result<(), PassFault>
+        requires few { self.old.count + 1 < 2 ^ 64 }
+        requires after { opening.mark + 1 < 2 ^ 64 }
+        requires tells { LastTells (frames_of self.old.groups) opening.name (entries self.old) }
+        requires nests { Nests (frames_of self.old.groups) }
+        requires knows { KnowsLast (entries self.old) self.old.last_openings }
+        ensures ok { OnOk result (Captures self.old self.new (Some opening.name) opening.start opening.end opening.mark) }
+        ensures err { IfErr result (ClashesWith self.old opening.name opening.start opening.end) }
+    {
+        if let Some(first) = self.clash(opening.name.as_str()) {
+            return Err(PassFault::Duplicated {
+                first,
+                second: (opening.start, opening.end),
+            });
+        }
+        let index = opening.mark;
+        self.add_name(alloc, opening.name.as_str())?;
+        self.last_openings.set(alloc, opening.name.as_str(), index)?;
+        self.openings.push(opening)?;
+        self.groups.open(index + 1)?;
+        self.count += 1;
+        Ok(())
+    }
+
+    fn add_name(&mut self, alloc: Global, name: &str) -> Result<(), OutOfMemory>
+        ensures { OnOk result (self.new ≡ record self.old { names = with_name self.old.names (chars name.now) }) }
+    {
+        if !self.names.contains(name) {
+            self.names.push(Text::from_str(alloc, name)?)?;
+        }
+        Ok(())
+    }
+
+    /// Where the name of the first opening stands with which a new one of this name clashes, where none clashed before. All openings
+    /// are looked at only where some clash.
+    fn clash(&self, name: &str) -> Option<(usize, usize)>
+        requires tells { LastTells (frames_of self.now.groups) (chars name.now) (entries self.now) }
+        requires nests { Nests (frames_of self.now.groups) }
+        requires knows { KnowsLast (entries self.now) self.now.last_openings }
+        ensures { result ≡ option_map span_of (first_clash (frames_of self.now.groups) (chars name.now) (entries self.now)) }
+    {
+        match self.last_openings.get(name) {
+            None => None,
+            Some(last) => {
+                if self.groups.hides(last) {
+                    None
+                } else {
+                    first_clash(self.openings.as_slice(), &self.groups, name)
+                }
+            }
+        }
+    }
+}
+
+/// Where the name of the first opening of this name stands that is in no alternative that has ended.
+fn first_clash(openings: &[Opening], groups: &OpenGroups, name: &str) -> Option<(usize, usize)>
+    requires { Nests (frames_of groups.now) }
+    ensures { result ≡ option_map span_of (first_clash (frames_of groups.now) (chars name.now) (map entry_of openings.now)) }
+{
+    for opening in openings {
+        if is_named(opening, name) && !groups.hides(opening.mark) {
+            return Some((opening.start, opening.end));
+        }
+    }
+    None
+}
+
+fn is_named(opening: &Opening, name: &str) -> bool
+    ensures { result ≡ same_name opening.now.name (chars name.now) }
+{
+    opening.name.as_str() == name
+}

@@ -1,0 +1,163 @@
+ghost use Rattle.std.specs.Prelude.{◌≡◌, ◌≤◌, ◌<◌, ◌+◌, length, false, option_map, IfSome};
+ghost use Rattle.rx_units.specs.Units.{values};
+ghost use Rattle.rx_model.specs.Marks.{behind_angle, class_rest, escape_rest, mark_front, name_length, open_front, question_front, specifier_front, starts};
+ghost use Rattle.rx_scan.specs.MarkReading.{closed_part, front, seen_front, seen_mark};
+
+use rx_units::CodePoint;
+
+/// What counting groups sees of a text (CountLeftCapturingParensWithin of ECMA-262, 22.2.1.2).
+#[derive(Clone, Copy, Debug)]
+pub enum Mark<'a> {
+    /// A unit, an escape or a class that opens and closes nothing.
+    Other,
+    Bar,
+    Closer,
+    /// An opening that does not capture.
+    Quiet,
+    /// An opening that captures, with the units between its `<` and its `>` where both are there.
+    Capturing(Option<&'a [CodePoint]>),
+}
+
+/// The mark with which the units begin, and how many of them it takes.
+#[tactic(auto, unfolding(crate::specs::MarkReading::front))]
+pub fn read_mark(units: &[CodePoint]) -> (Mark<'_>, usize)
+    requires { 0 < length units.now }
+    ensures value { seen_front result ≡ front (values units.now) }
+    ensures within { result.1 ≤ length units.now }
+    ensures moves { 0 < result.1 }
+    ensures name { name_length (seen_mark result.0) ≤ result.1 }
+{
+    match units {
+        [unit, rest @ ..] => {
+            let (mark, count) = behind(unit.value, rest);
+            (mark, count + 1)
+        }
+        _ => (Mark::Other, 0),
+    }
+}
+
+/// The mark that begins with a unit, and how many of the units behind it are the mark's.
+#[tactic(auto, unfolding(rx_model::specs::Marks::mark_front))]
+fn behind(unit: u32, units: &[CodePoint]) -> (Mark<'_>, usize)
+    ensures value { seen_front result ≡ mark_front unit (values units.now) }
+    ensures within { result.1 ≤ length units.now }
+    ensures name { name_length (seen_mark result.0) ≤ result.1 }
+{
+    if unit == '\\' as u32 {
+        (Mark::Other, escape_rest(units))
+    } else if unit == '[' as u32 {
+        (Mark::Other, class_rest(units))
+    } else if unit == '(' as u32 {
+        behind_parenthesis(units)
+    } else if unit == ')' as u32 {
+        (Mark::Closer, 0)
+    } else if unit == '|' as u32 {
+        (Mark::Bar, 0)
+    } else {
+        (Mark::Other, 0)
+    }
+}
+
+fn escape_rest(units: &[CodePoint]) -> usize
+    ensures value { result ≡ escape_rest (values units.now) }
+    ensures within { result ≤ length units.now }
+{
+    match units {
+        [_, ..] => 1,
+        _ => 0,
+    }
+}
+
+/// How many units a class has behind its `[`.
+fn class_rest(units: &[CodePoint]) -> usize
+    ensures value { result ≡ class_rest false (values units.now) }
+    ensures within { result ≤ length units.now }
+{
+    let mut escaped = false;
+    for (place, unit) in units.iter().enumerate() {
+        if escaped {
+            escaped = false;
+        } else if unit.value == ']' as u32 {
+            return place + 1;
+        } else {
+            escaped = unit.value == '\\' as u32;
+        }
+    }
+    units.len()
+}
+
+fn behind_parenthesis(units: &[CodePoint]) -> (Mark<'_>, usize)
+    ensures value { seen_front result ≡ open_front (values units.now) }
+    ensures within { result.1 ≤ length units.now }
+    ensures name { name_length (seen_mark result.0) ≤ result.1 }
+{
+    match units {
+        [unit, rest @ ..] if unit.value == '?' as u32 => behind_question(rest),
+        _ => (Mark::Capturing(None), 0),
+    }
+}
+
+/// What stands behind `(?`.
+fn behind_question(units: &[CodePoint]) -> (Mark<'_>, usize)
+    ensures value { seen_front result ≡ question_front (values units.now) }
+    ensures within { result.1 ≤ length units.now + 1 }
+    ensures name { name_length (seen_mark result.0) ≤ result.1 }
+{
+    match units {
+        [unit, rest @ ..] if unit.value == '<' as u32 => behind_angle(rest),
+        _ => {
+            if starts(units, ':') || starts(units, '=') || starts(units, '!') {
+                (Mark::Quiet, 2)
+            } else {
+                (Mark::Quiet, 1)
+            }
+        }
+    }
+}
+
+/// What stands behind `(?<`.
+fn behind_angle(units: &[CodePoint]) -> (Mark<'_>, usize)
+    ensures value { seen_front result ≡ behind_angle (values units.now) }
+    ensures within { result.1 ≤ length units.now + 2 }
+    ensures name { name_length (seen_mark result.0) ≤ result.1 }
+{
+    if starts(units, '=') || starts(units, '!') {
+        (Mark::Quiet, 3)
+    } else {
+        group_specifier(units)
+    }
+}
+
+/// A capturing opening whose name, if it has one, begins here.
+fn group_specifier(units: &[CodePoint]) -> (Mark<'_>, usize)
+    ensures value { seen_front result ≡ specifier_front (values units.now) }
+    ensures within { result.1 ≤ length units.now + 2 }
+    ensures name { name_length (seen_mark result.0) ≤ result.1 }
+{
+    match closed_part(units) {
+        Some(name) => (Mark::Capturing(Some(name)), name.len() + 3),
+        None => (Mark::Capturing(None), units.len() + 2),
+    }
+}
+
+/// The units before the next `>`, where one stands.
+fn closed_part(units: &[CodePoint]) -> Option<&[CodePoint]>
+    ensures value { option_map (λ part. values part.now) result ≡ closed_part (values units.now) }
+    ensures within { IfSome result (λ part. length part.now < length units.now) }
+{
+    for (place, unit) in units.iter().enumerate() {
+        if unit.value == '>' as u32 {
+            return Some(&units[..place]);
+        }
+    }
+    None
+}
+
+fn starts(units: &[CodePoint], character: char) -> bool
+    ensures { result ≡ starts character (values units.now) }
+{
+    match units {
+        [unit, ..] => unit.value == character as u32,
+        _ => false,
+    }
+}
