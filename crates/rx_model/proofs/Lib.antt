@@ -1,10 +1,12 @@
 pub mod Again
+pub mod Apart
 pub mod AgainTrees
 pub mod BackRows
 pub mod Backs
 pub mod Backslashes
 pub mod Builds
 pub mod Choices
+pub mod Cuts
 pub mod Decodings
 pub mod Escapes
 pub mod Flat
@@ -15,6 +17,7 @@ pub mod Known
 pub mod OneLines
 pub mod OneRow
 pub mod OpenMarks
+pub mod OwnGroups
 pub mod PartedMarks
 pub mod Quantifiers
 pub mod ReadBacks

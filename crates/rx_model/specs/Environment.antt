@@ -23,11 +23,15 @@ pub record Environment : Type 0 where
   pub named : Bool
   pub buffer_boundaries : Bool
 
--- the environment in which a whole pattern is spelled: by its own groups and names
-abbrev pub environment : Mode → Pattern → Environment
-environment mode p = record {
+-- with so many groups, of which some have names or none has
+abbrev pub environment_with : Mode → ℕ → Bool → Environment
+environment_with mode groups has_names = record {
   mode = mode;
-  groups = groups p;
-  named = is_unicode mode || has_some (names p);
+  groups = groups;
+  named = is_unicode mode || has_names;
   buffer_boundaries = true;
 }
+
+-- the environment in which a whole pattern is spelled: by its own groups and names
+abbrev pub environment : Mode → Pattern → Environment
+environment mode p = environment_with mode (groups p) (has_some (names p))

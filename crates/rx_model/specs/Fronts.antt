@@ -1,6 +1,6 @@
 -- How the token at the front of a text is read: by its first characters, in the order in which the readers look. What the tokens mean stands in Rows.
 use Rattle.std.specs.Prelude.{ℕ, zero, suc, ◌+◌, ◌-◌, ◌*◌, Bool, true, false, ◌==◌, ◌&&◌, Option, Some, None, List, [], ◌∷◌, drop, if◌then◌else◌}
-use Rattle.rx_tables.specs.Characters.{control_escape_value, control_letter_value, is_decimal_digit}
+use Rattle.rx_tables.specs.Characters.{control_escape_value, control_letter_value, is_decimal_digit, is_within}
 use Rattle.rx_ast.specs.declared.leaf.BoundaryAssertionKind.{BoundaryAssertionKind}
 use Rattle.rx_ast.specs.declared.leaf.BoundaryAssertionKind.TheVariants as boundary_kind
 use Rattle.rx_ast.specs.declared.leaf.CharacterClassEscapeKind.{CharacterClassEscapeKind}
@@ -13,9 +13,10 @@ use Rattle.rx_model.specs.Boundaries.{has_buffers}
 use Rattle.rx_model.specs.Decoding.{Decoded, value, invalid, overflow, decoded}
 use Rattle.rx_model.specs.Environment.{Environment, is_unicode}
 use Rattle.rx_model.specs.Escapes.{front_is, is_identity_escape}
+use Rattle.rx_model.specs.GroupFronts.{group_front, reference_front}
 use Rattle.rx_model.specs.Quantifiers.{is_question}
 use Rattle.rx_model.specs.Rows.{stands_raw, unit_kind}
-use Rattle.rx_model.specs.Token.{Token, boundary, character, dot, class_escape, bar, quantifier}
+use Rattle.rx_model.specs.Token.{Token, Opener, boundary, character, dot, class_escape, indexed, named, opener, closer, bar, quantifier}
 use Rattle.rx_model.specs.UnicodeEscapes.{hex_number}
 
 -- what stands behind a backslash: a character of a kind, by so many characters; nothing; digits that pass 32 bits; `u` without a unicode escape
@@ -93,11 +94,6 @@ backslash_token (Some k) c r = Some (boundary k, 2)
 backslash_token None (Some k) r = Some (class_escape k, 2)
 backslash_token None None r = escaped_token r
 
--- the token of a backslash and what stands behind it
-unfoldable pub backslash_front : Environment → List ℕ → Option (Token × ℕ)
-backslash_front e [] = None
-backslash_front e (c ∷ w) = backslash_token (boundary_at e c) (class_escape_at c) (escape_at (is_unicode e.mode) (c ∷ w))
-
 -- digits: their number, how many they are, what stands behind them
 pub data Digits : Type 0 where
   digits : ℕ → ℕ → List ℕ → Digits
@@ -106,6 +102,22 @@ pub data Digits : Type 0 where
 abbrev pub digits_behind : ℕ → ℕ → List ℕ → Digits
 digits_behind n count [] = digits n count []
 digits_behind n count (c ∷ w) = if is_decimal_digit c then digits_behind (10 * n + (c - 48)) (count + 1) w else digits n count (c ∷ w)
+
+abbrev pub indexed_token : Digits → Option (Token × ℕ)
+indexed_token (digits n count w) = Some (indexed n, count + 1)
+
+-- `\k<`, a name and `>`
+abbrev pub named_token : Option (List ℕ × ℕ) → Option (Token × ℕ)
+named_token None = None
+named_token (Some n) = Some (named n.0, n.1 + 3)
+
+-- the token of a backslash and what stands behind it
+unfoldable pub backslash_front : Environment → List ℕ → Option (Token × ℕ)
+backslash_front e [] = None
+backslash_front e (c ∷ w) =
+    if is_within 49 57 c && is_unicode e.mode then indexed_token (digits_behind 0 0 (c ∷ w))
+    else (if c == 107 && e.named then named_token (reference_front (is_unicode e.mode) w)
+    else backslash_token (boundary_at e c) (class_escape_at c) (escape_at (is_unicode e.mode) (c ∷ w)))
 
 -- the counts of a quantifier, by so many characters, or none
 pub data Counts : Type 0 where
@@ -143,18 +155,24 @@ quantifier_token (counts min max n) w =
     if front_is is_question (drop n w) then Some (quantifier min max false, n + 1) else Some (quantifier min max true, n)
 quantifier_token no_counts w = None
 
+abbrev pub opener_token : Option (Opener × ℕ) → Option (Token × ℕ)
+opener_token None = None
+opener_token (Some o) = Some (opener o.0, o.1)
+
 -- the token that begins with this character, which is neither a backslash nor stands for itself
-abbrev pub syntax_front : ℕ → List ℕ → Option (Token × ℕ)
-syntax_front c w =
+abbrev pub syntax_front : Environment → ℕ → List ℕ → Option (Token × ℕ)
+syntax_front e c w =
     if c == 46 then Some (dot, 1)
+    else (if c == 40 then opener_token (group_front (is_unicode e.mode) w)
+    else (if c == 41 then Some (closer, 1)
     else (if c == 124 then Some (bar, 1)
     else (if c == 94 then Some (boundary boundary_kind.Start, 1)
     else (if c == 36 then Some (boundary boundary_kind.End, 1)
-    else quantifier_token (counts_at (c ∷ w)) (c ∷ w))))
+    else quantifier_token (counts_at (c ∷ w)) (c ∷ w))))))
 
 -- the token at the front, and how many units it takes
 unfoldable pub front : Environment → List CodePoint → Option (Token × ℕ)
 front e [] = None
 front e (u ∷ us) =
     if stands_raw e.mode u.value then Some (character (unit_kind u.escape_kind) u.value, 1)
-    else (if u.value == 92 then backslash_front e (values us) else syntax_front u.value (values us))
+    else (if u.value == 92 then backslash_front e (values us) else syntax_front e u.value (values us))

@@ -46,3 +46,8 @@ pub record BeginsWithName (unicode_mode : Bool) (us name : List ℕ) (count : �
   pub whole : us ≡ spelled ++ rest
   pub count_is : length spelled ≡ count
   pub ends : (c : ℕ) (w more : List ℕ) → SpellsNameCharacter unicode_mode false c w more → rest ≡ w ++ more → ⊥
+
+-- The longest row of characters of a name at the front of a text is so many units; where no name stands there, none.
+pub data IsNameRow (unicode_mode : Bool) (us : List ℕ) : ℕ → Type 0 where
+  no_name : ((c : ℕ) (w more : List ℕ) → SpellsNameCharacter unicode_mode true c w more → us ≡ w ++ more → ⊥) → IsNameRow unicode_mode us 0
+  some_name : {name : List ℕ} {count : ℕ} → BeginsWithName unicode_mode us name count → IsNameRow unicode_mode us count

@@ -2,6 +2,7 @@ pub mod Boundaries
 pub mod Causes
 pub mod CharacterText
 pub mod ClassText
+pub mod Cuts
 pub mod Decoding
 pub mod Early
 pub mod Environment
@@ -11,10 +12,13 @@ pub mod FlagCauses
 pub mod Flags
 pub mod Frames
 pub mod Fronts
+pub mod GroupFronts
 pub mod GroupNameReading
 pub mod GroupNames
+pub mod Groups
 pub mod Marks
 pub mod Modes
+pub mod Modifiers
 pub mod Names
 pub mod OneLine
 pub mod Quantifiers

@@ -16,6 +16,7 @@ use Rattle.rx_model.specs.Environment.{Environment}
 use Rattle.rx_model.specs.Escapes.{SpellsEscape}
 use Rattle.rx_model.specs.Events.{Events, enter, leave, token, inside, modified}
 use Rattle.rx_model.specs.Quantifiers.{IsQuantifier}
+use Rattle.rx_model.specs.Groups.{IsIndexed, IsNamed, IsModifying, SpellsOpener}
 use Rattle.rx_model.specs.Token.{Token, boundary, character, dot, class_escape, property, class, indexed, named, opener, closer, bar, quantifier}
 
 -- the kind of a character that is one unit, by how the unit was written
@@ -51,7 +52,7 @@ pub record IsBoundary (e : Environment) (kind : BoundaryAssertionKind) (w : List
   pub text : values w ≡ boundary_text kind
   pub there : has_boundary e kind ≡ true
 
--- The units w spell the token before rest. No other token is read yet.
+-- The units w spell the token before rest. Classes and property escapes are not read yet.
 abbrev pub Spells : Environment → Token → List CodePoint → List CodePoint → Type 0
 Spells e (character kind value) w rest = IsRaw e kind value w ⊎ IsEscaped e kind value w rest
 Spells e dot w rest = values w ≡ 46 ∷ []
@@ -60,10 +61,10 @@ Spells e (boundary kind) w rest = IsBoundary e kind w
 Spells e (class_escape kind) w rest = values w ≡ class_escape_text kind
 Spells e (property negative strings name value) w rest = ⊥
 Spells e (class c) w rest = ⊥
-Spells e (indexed n) w rest = ⊥
-Spells e (named name) w rest = ⊥
-Spells e (opener o) w rest = ⊥
-Spells e closer w rest = ⊥
+Spells e (indexed n) w rest = IsIndexed e n w rest
+Spells e (named name) w rest = IsNamed e name w rest
+Spells e (opener o) w rest = SpellsOpener e o w rest
+Spells e closer w rest = values w ≡ 41 ∷ []
 Spells e (quantifier min max greedy) w rest = IsQuantifier min max greedy w rest
 
 -- The tokens lead from these units to the rest, each spelled before all that follows it.
@@ -73,7 +74,7 @@ TokenRow e (t ∷ ts) us rest =
     (w : List CodePoint) × (more : List CodePoint) × (us ≡ w ++ more) × Spells e t w more × TokenRow e ts more rest
 
 -- The events lead from place i, with these units left, to place j with the rest left, where o gives the offset of a place: each node
--- begins and ends at the offset of its place.
+-- begins and ends at the offset of its place, modifiers too.
 abbrev pub Row : Environment → (ℕ → ℕ) → Events → ℕ → List CodePoint → ℕ → List CodePoint → Type 0
 Row e o [] i us j rest = (i ≡ j) × (us ≡ rest)
 Row e o ((enter n) ∷ es) i us j rest = (n ≡ o i) × Row e o es i us j rest
@@ -81,4 +82,5 @@ Row e o ((leave n) ∷ es) i us j rest = (n ≡ o i) × Row e o es i us j rest
 Row e o ((token t) ∷ es) i us j rest =
     (w : List CodePoint) × (more : List CodePoint) × (us ≡ w ++ more) × Spells e t w more × Row e o es (i + length w) more j rest
 Row e o ((inside c) ∷ es) i us j rest = ⊥
-Row e o ((modified m) ∷ es) i us j rest = ⊥
+Row e o ((modified m) ∷ es) i us j rest =
+    (w : List CodePoint) × (more : List CodePoint) × (us ≡ w ++ more) × IsModifying o i m w × Row e o es (i + length w) more j rest

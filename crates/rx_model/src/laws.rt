@@ -5,12 +5,13 @@ ghost use Rattle.rx_ast.specs.Forget.{bare, unspanned};
 ghost use Rattle.rx_ast.specs.declared.term.Pattern.{Pattern};
 ghost use Rattle.rx_units.specs.declared.code_point.CodePoint.{CodePoint};
 ghost use Rattle.rx_model.specs.declared.mode.Mode.{Mode};
-ghost use Rattle.rx_model.specs.Environment.{Environment};
+ghost use Rattle.rx_model.specs.Cuts.{IsCut, TellsApart, TellsGroups};
+ghost use Rattle.rx_model.specs.Environment.{Environment, is_unicode};
 ghost use Rattle.rx_model.specs.declared.mode.Mode.TheVariants.{Unicode};
 ghost use Rattle.rx_model.specs.OneLine.{IsOneLine};
 ghost use Rattle.rx_model.specs.ReadBack.{IsReadBack};
-ghost use Rattle.rx_model.specs.Reading.{Reads};
-ghost use Rattle.rx_model.specs.Rows.{TokenRow};
+ghost use Rattle.rx_model.specs.Reading.{IsSpelled, Reads};
+ghost use Rattle.rx_model.specs.Rows.{Spells, TokenRow};
 ghost use Rattle.rx_model.specs.Spelling.{spelling};
 ghost use Rattle.rx_model.specs.Token.{Token};
 
@@ -22,6 +23,22 @@ pub fn unique_reading()
 /// The tokens that a text begins with are the first of all its tokens, and the others follow them.
 pub fn one_row()
     ensures { (e : Environment) (ts ss : List Token) (us rest : List CodePoint) → TokenRow e ts us rest → TokenRow e ss us [] → (more : List Token) × (ss ≡ ts ++ more) × TokenRow e more rest [] }
+{}
+
+/// Each token is a whole row of marks, whatever the environment, so that the first pass of a text (CountLeftCapturingParensWithin of ECMA-262, 22.2.1.2)
+/// sees the groups that its tokens open and close.
+pub fn cut()
+    ensures { (e : Environment) (t : Token) (w rest : List CodePoint) → Spells e t w rest → IsCut (is_unicode e.mode) t w rest }
+{}
+
+/// The number of groups and the names that the first pass of a text finds are those of any tree that it spells.
+pub fn own_groups()
+    ensures { (mode : Mode) (p : Pattern) (us : List CodePoint) → IsSpelled mode p us → TellsGroups mode p us }
+{}
+
+/// The first pass finds no two groups of one name that might both take part exactly where the tree holds none (ECMA-262, 22.2.1.1).
+pub fn names_apart()
+    ensures { (mode : Mode) (p : Pattern) (us : List CodePoint) → IsSpelled mode p us → TellsApart mode p us }
 {}
 
 /// The canonical spelling of a pattern, with `u`, is one line: not empty, and with no tab and no LineTerminator (ECMA-262, 12.3) in it.

@@ -1,0 +1,5 @@
+use Rattle.rx_model.proofs.Cuts.{token_cut}
+use Rattle.rx_model.proofs.laws.cut.Goals as goal
+
+pub returns : goal.returns
+returns c = token_cut
