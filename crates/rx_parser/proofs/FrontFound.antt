@@ -31,7 +31,7 @@ use Rattle.rx_model.proofs.Stops.{stop_backslash}
 use Rattle.rx_parser.specs.CountsFound.{IsInLimit}
 use Rattle.rx_parser.specs.Found.{Stands, IsHalt, boundary_front, closes_or_repeats}
 use Rattle.rx_parser.specs.NotYet.{holds_unread, is_unread, is_unread_escape}
-use Rattle.rx_parser.specs.declared.front.Halt.TheVariants as halt
+use Rattle.rx_parser.specs.declared.found.Halt.TheVariants as halt
 use Rattle.rx_parser.proofs.Digits.{chosen}
 
 pub buffers_there : (mode : Mode) → is_unicode mode ≡ true → has_buffers (text_environment mode) ≡ true

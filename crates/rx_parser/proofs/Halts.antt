@@ -18,8 +18,8 @@ use Rattle.rx_model.proofs.Escapes.{too_many_escape}
 use Rattle.rx_model.proofs.Fronts.{front_by_values}
 use Rattle.rx_model.proofs.Quantifiers.{spelled_counts, digits_read}
 use Rattle.rx_parser.specs.declared.builder.Builder.{Builder}
-use Rattle.rx_parser.specs.declared.front.Halt.{Halt}
-use Rattle.rx_parser.specs.declared.front.Halt.TheVariants as halt
+use Rattle.rx_parser.specs.declared.found.Halt.{Halt}
+use Rattle.rx_parser.specs.declared.found.Halt.TheVariants as halt
 use Rattle.rx_parser.specs.Found.{IsHalt}
 use Rattle.rx_parser.specs.Frames.{ready}
 use Rattle.rx_parser.specs.Parsing.{IsParsing, IsInvalid, IsRefused, halt_fault}

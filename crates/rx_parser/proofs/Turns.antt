@@ -23,7 +23,7 @@ use Rattle.rx_model.specs.Token.{Token, bar, quantifier}
 use Rattle.rx_model.proofs.Flat.{tokens_of-append}
 use Rattle.rx_model.proofs.Fronts.{front_spelled, spelled_front, spelled_some}
 use Rattle.rx_parser.specs.declared.builder.Builder.{Builder}
-use Rattle.rx_parser.specs.declared.front.Halt.{Halt}
+use Rattle.rx_parser.specs.declared.found.Halt.{Halt}
 use Rattle.rx_parser.specs.Found.{IsHalt, Stands}
 use Rattle.rx_parser.specs.Frames.{builder_events, openers, ready}
 use Rattle.rx_parser.specs.Good.{IsGood, IsGoodTerm}

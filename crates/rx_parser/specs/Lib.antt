@@ -1,9 +1,14 @@
 pub mod CountsFound
+pub mod Faults
 pub mod Found
 pub mod Frames
 pub mod Good
+pub mod HaltPlaces
 pub mod Levels
 pub mod Literals
+pub mod Modifiers
+pub mod Names
 pub mod NotYet
+pub mod Openings
 pub mod Parsing
 pub mod Progress

@@ -1,18 +1,17 @@
 -- Which texts are not read yet: those with a piece of a construct that no reader takes.
 use Rattle.std.specs.Prelude.{ℕ, Bool, true, false, not, ◌==◌, ◌&&◌, ◌||◌, List, [], ◌∷◌, Option, if◌then◌else◌}
-use Rattle.rx_tables.specs.Characters.{is_within}
 use Rattle.rx_model.specs.Flags.{flags_of, flags_ok, mode_of}
 use Rattle.rx_model.specs.Reading.{literal_text}
 use Rattle.rx_model.specs.declared.mode.Mode.{Mode}
 use Rattle.rx_model.specs.declared.mode.Mode.TheVariants.{Legacy, Unicode, Sets}
 
--- `(` and `[`
+-- `[`
 abbrev pub is_unread : ℕ → Bool
-is_unread c = c == 40 || c == 91
+is_unread c = c == 91
 
--- behind a backslash `p`, `P`, `k` and a digit from 1 on
+-- behind a backslash `p` and `P`
 abbrev pub is_unread_escape : ℕ → Bool
-is_unread_escape c = c == 112 || c == 80 || c == 107 || is_within 49 57 c
+is_unread_escape c = c == 112 || c == 80
 
 -- Whether a text holds such a piece. A piece is a backslash with the character behind it, or another character, cut from the left.
 abbrev mutual

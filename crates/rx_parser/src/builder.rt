@@ -1,8 +1,9 @@
-ghost use Rattle.std.specs.Prelude.{◌≡◌, ◌++◌, ◌∷◌, [], IfOk, OnOk, IsTrue, ◌↔◌, false};
+ghost use Rattle.std.specs.Prelude.{◌≡◌, ◌++◌, ◌∷◌, [], List, None, IfOk, IfSome, OnOk, IsTrue, ◌↔◌, false};
 ghost use Rattle.rx_ast.specs.Tree.{mirror_term};
 ghost use Rattle.rx_model.specs.Events.{enter, leave, token, events, opener_event, term_events};
 ghost use Rattle.rx_model.specs.Shapes.{group_takes, takes, IsWellMade};
 ghost use Rattle.rx_model.specs.Token.{bar, closer, opener_of, Opener};
+ghost use Rattle.rx_parser.specs.declared.frame.Frame.{Frame};
 ghost use Rattle.rx_parser.specs.Frames.{builder_events, opener_tree, openers, ready};
 ghost use Rattle.rx_parser.specs.Good.{IsGood, IsGoodTerm};
 ghost use Rattle.rx_parser.specs.Levels.{Repeats};
@@ -134,6 +135,14 @@ impl Builder {
     {
         self.level
             .quantify(alloc, self.mode, min, max, greedy, after)
+    }
+
+    /// The innermost open group.
+    pub fn innermost(&self) -> Option<&Frame>
+        ensures some { IfSome result (λ it. (outer : List Frame) × (self.now.frames ≡ outer ++ it.now ∷ [])) }
+        ensures none { result ≡ None → openers self.now ≡ [] }
+    {
+        self.frames.as_slice().last()
     }
 
     /// Whether no group is open.

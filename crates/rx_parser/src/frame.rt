@@ -1,5 +1,7 @@
 ghost use Rattle.std.specs.Prelude.{◌≡◌, IfOk};
 ghost use Rattle.rx_ast.specs.Tree.{group, mirror_disjunction, mirror_term};
+ghost use Rattle.rx_model.specs.Causes.{unterminated};
+ghost use Rattle.rx_model.specs.Token.{opener_of};
 ghost use Rattle.rx_parser.specs.Frames.{opener_tree};
 
 use crate::Level;
@@ -7,7 +9,7 @@ use rx_ast::{
     CapturingGroup, Disjunction, IgnoreGroup, LookAroundAssertion, LookAroundAssertionKind,
     Modifiers, Term,
 };
-use rx_base::{OutOfMemory, Span, Text};
+use rx_base::{OutOfMemory, Span, Text, Unterminated};
 use std::alloc::Global;
 
 /// What an open group or look-around began with (Atom and Assertion of ECMA-262, 22.2.1).
@@ -24,6 +26,17 @@ pub enum Opening {
 }
 
 impl Opening {
+    /// What is said where it does not end.
+    pub fn unterminated(&self) -> Unterminated
+        ensures { result ≡ unterminated (opener_of (opener_tree self.now)) }
+    {
+        match self {
+            Opening::Capturing(_) => Unterminated::CapturingGroup,
+            Opening::Ignoring(_) => Unterminated::IgnoreGroup,
+            Opening::LookAround(_) => Unterminated::LookAround,
+        }
+    }
+
     /// The term that began with this and has ended.
     #[tactic(auto, using(rx_ast::proofs::Equations::mirrors))]
     pub fn into_term(

@@ -1,4 +1,4 @@
-ghost use Rattle.std.specs.Prelude.{◌≡◌, ◌==◌, ◌≤◌, ◌<◌, ◌↔◌, ◌∷◌, true, false, Some, None, All, IsTrue, drop, length};
+ghost use Rattle.std.specs.Prelude.{◌≡◌, ◌==◌, ◌-◌, ◌^◌, ◌≤◌, ◌<◌, ◌↔◌, ◌∷◌, Bool, true, false, Some, None, All, IsTrue, drop, length};
 ghost use Rattle.rx_units.specs.declared.code_point.CodePoint.{CodePoint};
 ghost use Rattle.rx_units.specs.Reading.{front};
 ghost use Rattle.rx_units.specs.Units.{values};
@@ -7,73 +7,31 @@ ghost use Rattle.rx_class.specs.Found.{class_escape_front};
 ghost use Rattle.rx_model.specs.declared.mode.Mode.{Mode};
 ghost use Rattle.rx_model.specs.Boundaries.{has_buffers};
 ghost use Rattle.rx_model.specs.Causes.{IsOutOfOrder, IsTooLarge};
-ghost use Rattle.rx_model.specs.Environment.{Environment, is_unicode};
+ghost use Rattle.rx_model.specs.Environment.{Environment, environment_with, is_unicode};
 ghost use Rattle.rx_model.specs.Escapes.{front_is};
 ghost use Rattle.rx_model.specs.Quantifiers.{is_question};
-ghost use Rattle.rx_model.specs.Reached.{text_environment};
 ghost use Rattle.rx_model.specs.Rows.{unit_kind};
 ghost use Rattle.rx_parser.specs.CountsFound.{IsCountsFound};
-ghost use Rattle.rx_parser.specs.Found.{IsFound, boundary_front, closes_or_repeats};
+ghost use Rattle.rx_parser.specs.Found.{IsFound, begins_reference, boundary_front, closes_or_repeats, is_first_digit};
 ghost use Rattle.rx_parser.specs.NotYet.{is_unread_escape};
 
 use crate::counts::{CountsFound, counts_at};
+use crate::found::{Found, Halt, Leaf};
+use crate::group::group_at;
+use crate::reference::{indexed_at, named_at};
 use crate::unread::is_unread_escape;
-use rx_ast::{BoundaryAssertionKind, CharacterClassEscapeKind, CharacterKind};
+use rx_ast::{BoundaryAssertionKind, CharacterKind};
 use rx_class::{EscapeFound, character_escape_at, class_escape_at};
 use rx_model::Mode;
-use rx_tables::is_syntax_character;
+use rx_tables::{is_decimal_digit, is_syntax_character};
 use rx_units::{CodePoint, EscapeKind};
 
-/// A term that is one token.
-#[derive(Clone, Copy, Debug)]
-pub enum Leaf {
-    Boundary(BoundaryAssertionKind),
-    Character { kind: CharacterKind, value: u32 },
-    Dot,
-    ClassEscape(CharacterClassEscapeKind),
-}
-
-/// Why no token is read. Lengths and places are in units, from the place on.
-#[derive(Clone, Copy, Debug)]
-pub enum Halt {
-    /// Terms end here, and reading stands so many units on.
-    Stop { behind: usize },
-    /// The numbers of the braces of this length are out of order.
-    OutOfOrder { length: usize },
-    /// A number of the braces of this length is above 2^53 - 1.
-    TooLarge { length: usize },
-    /// The digits of a number from `start` on pass 64 bits behind so many.
-    TooManyDigits { start: usize, digits: usize },
-    /// The digits of a unicode escape pass 32 bits behind so many.
-    TooManyHexDigits { digits: usize },
-    /// A backslash and `u` begin no unicode escape.
-    InvalidEscape,
-    /// What stands here is not read yet.
-    Unread,
-}
-
-/// What the units begin with.
-#[derive(Clone, Copy, Debug)]
-pub enum Found {
-    Leaf {
-        leaf: Leaf,
-        length: usize,
-    },
-    Bar,
-    Quantifier {
-        min: u64,
-        max: Option<u64>,
-        greedy: bool,
-        length: usize,
-    },
-    Halt(Halt),
-}
-
-/// What the units begin with, outside classes, with `u` or `v`.
-pub fn front_at(units: &[CodePoint], mode: Mode) -> Found
+/// What the units begin with, outside classes, with `u` or `v`, in a pattern with so many groups.
+pub fn front_at(units: &[CodePoint], mode: Mode, groups: u32) -> Found
     requires unicode { is_unicode mode ≡ true }
+    requires few { groups < 2 ^ 32 - 1 }
     requires code_points { All (λ unit. unit.value ≤ 0x10FFFF) units.now }
-    ensures { IsFound mode units.now result }
+    ensures { (has_names : Bool) → IsFound (environment_with mode groups has_names) units.now result }
 {
     let [first, behind @ ..] = units else {
         return Found::Halt(Halt::Stop { behind: 0 });
@@ -88,7 +46,10 @@ pub fn front_at(units: &[CodePoint], mode: Mode) -> Found
         };
     }
     if first.value == '\\' as u32 {
-        return backslash_at(behind, mode);
+        return backslash_at(behind, mode, groups);
+    }
+    if first.value == '(' as u32 {
+        return group_at(behind, true);
     }
     syntax_at(first.value, units)
 }
@@ -127,16 +88,41 @@ fn is_unicode(mode: Mode) -> bool
 }
 
 /// What a backslash and the units behind it begin with.
-fn backslash_at(behind: &[CodePoint], mode: Mode) -> Found
+fn backslash_at(behind: &[CodePoint], mode: Mode, groups: u32) -> Found
     requires unicode { is_unicode mode ≡ true }
-    ensures { (backslash : CodePoint) → backslash.value ≡ 92 → IsFound mode (backslash ∷ behind.now) result }
+    requires few { groups < 2 ^ 32 - 1 }
+    ensures { (has_names : Bool) (backslash : CodePoint) → backslash.value ≡ 92
+        → IsFound (environment_with mode groups has_names) (backslash ∷ behind.now) result }
 {
-    let [first, ..] = behind else {
+    let [first, more @ ..] = behind else {
         return Found::Halt(Halt::Stop { behind: 1 });
     };
     if is_unread_escape(first.value) {
         return Found::Halt(Halt::Unread);
     }
+    if is_first_digit(first.value) {
+        return indexed_at(behind, groups);
+    }
+    if first.value == 'k' as u32 {
+        return named_at(more, true);
+    }
+    escape_at(behind, mode)
+}
+
+/// Whether a value is a digit from 1 to 9.
+fn is_first_digit(value: u32) -> bool
+    ensures { result ≡ is_first_digit value }
+{
+    is_decimal_digit(value) && value != '0' as u32
+}
+
+/// What a backslash and the units behind it, which are no reference, begin with.
+fn escape_at(behind: &[CodePoint], mode: Mode) -> Found
+    requires unicode { is_unicode mode ≡ true }
+    requires no_reference { front_is begins_reference (values behind.now) ≡ false }
+    requires read { front_is is_unread_escape (values behind.now) ≡ false }
+    ensures { (e : Environment) (backslash : CodePoint) → e.mode ≡ mode → has_buffers e ≡ true → backslash.value ≡ 92 → IsFound e (backslash ∷ behind.now) result }
+{
     if let Some(kind) = boundary_at(behind) {
         return Found::Leaf {
             leaf: Leaf::Boundary(kind),
@@ -155,10 +141,11 @@ fn backslash_at(behind: &[CodePoint], mode: Mode) -> Found
 /// What a backslash and the units behind it, which are neither a boundary nor a class escape, begin with.
 fn character_at(behind: &[CodePoint], mode: Mode) -> Found
     requires unicode { is_unicode mode ≡ true }
-    requires no_boundary { boundary_front (text_environment mode) (values behind.now) ≡ None }
+    requires no_boundary { (e : Environment) → has_buffers e ≡ true → boundary_front e (values behind.now) ≡ None }
     requires no_class { class_escape_front (values behind.now) ≡ None }
+    requires no_reference { front_is begins_reference (values behind.now) ≡ false }
     requires read { front_is is_unread_escape (values behind.now) ≡ false }
-    ensures { (backslash : CodePoint) → backslash.value ≡ 92 → IsFound mode (backslash ∷ behind.now) result }
+    ensures { (e : Environment) (backslash : CodePoint) → e.mode ≡ mode → has_buffers e ≡ true → backslash.value ≡ 92 → IsFound e (backslash ∷ behind.now) result }
 {
     match character_escape_at(behind, is_unicode(mode)) {
         EscapeFound::Character {
@@ -170,23 +157,27 @@ fn character_at(behind: &[CodePoint], mode: Mode) -> Found
             length: length + 1,
         },
         EscapeFound::Nothing => Found::Halt(Halt::Stop { behind: 1 }),
-        EscapeFound::TooMany { digits } => Found::Halt(Halt::TooManyHexDigits { digits }),
-        EscapeFound::Invalid => Found::Halt(Halt::InvalidEscape),
+        EscapeFound::TooMany { digits } => {
+            Found::Halt(Halt::TooManyHexDigits { start: 3, digits })
+        }
+        EscapeFound::Invalid => Found::Halt(Halt::InvalidEscape { start: 1, length: 1 }),
     }
 }
 
-/// What the units begin with, whose first is a SyntaxCharacter other than a backslash.
+/// What the units begin with, whose first is a SyntaxCharacter other than a backslash and `(`.
 fn syntax_at(first: u32, units: &[CodePoint]) -> Found
     requires front { front units.now ≡ Some first }
     requires syntax { is_syntax_character first ≡ true }
-    requires other { (first == 92) ≡ false }
-    ensures { (mode : Mode) → is_unicode mode ≡ true → IsFound mode units.now result }
+    requires no_backslash { (first == 92) ≡ false }
+    requires no_group { (first == 40) ≡ false }
+    ensures { (e : Environment) → is_unicode e.mode ≡ true → IsFound e units.now result }
 {
     match char::from_u32(first) {
         Some('.') => Found::Leaf {
             leaf: Leaf::Dot,
             length: 1,
         },
+        Some(')') => Found::Close,
         Some('|') => Found::Bar,
         Some('^') => Found::Leaf {
             leaf: Leaf::Boundary(BoundaryAssertionKind::Start),
@@ -196,15 +187,15 @@ fn syntax_at(first: u32, units: &[CodePoint]) -> Found
             leaf: Leaf::Boundary(BoundaryAssertionKind::End),
             length: 1,
         },
-        Some('(' | '[') => Found::Halt(Halt::Unread),
+        Some('[') => Found::Halt(Halt::Unread),
         _ => quantifier_at(units),
     }
 }
 
-/// The quantifier that the units begin with, whose first is a closer or begins one.
+/// The quantifier that the units begin with, whose first is a brace or bracket that closes, or begins one.
 fn quantifier_at(units: &[CodePoint]) -> Found
     requires front { front_is closes_or_repeats (values units.now) ≡ true }
-    ensures { (mode : Mode) → is_unicode mode ≡ true → IsFound mode units.now result }
+    ensures { (e : Environment) → is_unicode e.mode ≡ true → IsFound e units.now result }
 {
     match counts_at(units) {
         CountsFound::Counts { min, max, length } => quantifier(units, min, max, length),
@@ -219,7 +210,7 @@ fn quantifier_at(units: &[CodePoint]) -> Found
 fn quantifier(units: &[CodePoint], min: u64, max: Option<u64>, length: usize) -> Found
     requires front { front_is closes_or_repeats (values units.now) ≡ true }
     requires counts { IsCountsFound units.now (CountsFound.Counts min max length) }
-    ensures { (mode : Mode) → IsFound mode units.now result }
+    ensures { (e : Environment) → is_unicode e.mode ≡ true → IsFound e units.now result }
 {
     if is_out_of_order(min, max) {
         return Found::Halt(Halt::OutOfOrder { length });

@@ -3,14 +3,21 @@
 
 mod builder;
 mod counts;
+mod fault;
+mod found;
 mod frame;
 mod front;
+mod group;
 mod level;
 mod literal_parser;
+mod modifiers;
+mod name;
 mod options;
 mod pattern_parser;
+mod reference;
 #[cfg(test)]
 mod tests;
+mod term;
 mod turn;
 mod unread;
 

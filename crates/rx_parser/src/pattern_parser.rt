@@ -1,4 +1,4 @@
-ghost use Rattle.std.specs.Prelude.{◌≡◌, ℕ, ◌+◌, ◌<◌, ◌^◌, ◌⊎◌, ◌≢◌, true, false, All, IfErr, IfOk, IsTrue, length};
+ghost use Rattle.std.specs.Prelude.{◌≡◌, ℕ, ◌+◌, ◌<◌, ◌^◌, ◌⊎◌, ◌≢◌, true, false, All, IfErr, IfOk, IsTrue, OnOk, length};
 ghost use Rattle.rx_base.specs.declared.diagnostic.Diagnostic.{Diagnostic as Refusal};
 ghost use Rattle.rx_ast.specs.declared.term.Pattern.{Pattern};
 ghost use Rattle.rx_units.specs.Units.{values};
@@ -7,15 +7,16 @@ ghost use Rattle.rx_model.specs.Modes.{mode_by};
 ghost use Rattle.rx_model.specs.Reading.{IsOnly, IsSpanned, Reads};
 ghost use Rattle.rx_model.specs.declared.mode.Mode.TheVariants.{Unicode};
 ghost use Rattle.rx_parser.specs.NotYet.{holds_unread, is_unread_text};
-ghost use Rattle.rx_parser.specs.Parsing.{AreFitting, IsRefused, mode_of_state};
+ghost use Rattle.rx_parser.specs.Parsing.{AreFitting, HoldsPass, IsRefused, mode_of_state};
 
 use crate::builder::Builder;
-use crate::turn::{here, turn};
+use crate::fault::{ended, here};
+use crate::turn::turn;
 use crate::unread::holds_unread;
 use rx_ast::Pattern;
-use rx_base::Fault;
+use rx_base::{Diagnostic, Fault};
 use rx_model::Mode;
-use rx_scan::{SpanFactory, State};
+use rx_scan::{SpanFactory, State, StateFault};
 use rx_units::Reader;
 use std::alloc::Global;
 
@@ -73,27 +74,59 @@ impl<'a> PatternParser<'a> {
         let PatternParser {
             alloc,
             mut reader,
-            state,
+            mut state,
             spans,
         } = self;
         let mode = Mode::of(state.unicode_mode, state.unicode_sets_mode);
         if mode != Mode::Unicode || holds_unread(reader.remaining_code_points()) {
             return Err(Fault::NotYet);
         }
-        read_pattern(alloc, &mut reader, &spans, mode)
+        first_pass(&mut state, &mut reader, &spans)?;
+        read_pattern(alloc, &mut reader, &state, &spans, mode)
     }
 }
 
-/// The tree of a text that is read already.
+/// Counts the groups of the text and lists their names, or tells why the text is refused for them.
+fn first_pass(
+    state: &mut State,
+    reader: &mut Reader<'_>,
+    spans: &SpanFactory,
+) -> Result<(), Fault>
+    requires mode { mode_of_state state.old ≡ Unicode }
+    requires start { reader.old.place ≡ 0 }
+    requires fits { AreFitting spans.now reader.old }
+    ensures reader { reader.new ≡ reader.old }
+    ensures pass { OnOk result (HoldsPass Unicode reader.old.units state.new) }
+    ensures refused { IfErr result (λ fault. IsRefused Unicode reader.old.units reader.old.first spans.now fault) }
+{
+    match state.initialize_with_parsing(reader) {
+        Ok(()) if state.num_of_capturing_groups < u32::MAX => Ok(()),
+        Ok(()) => {
+            let span = spans.create(0, 0);
+            Err(Fault::Diagnostic(Diagnostic::TooMayCapturingGroups { span }))
+        }
+        Err(StateFault::OutOfMemory) => Err(Fault::OutOfMemory),
+        Err(StateFault::Duplicated { first, second }) => {
+            Err(Fault::Diagnostic(Diagnostic::DuplicatedCapturingGroupNames {
+                first: spans.create(first.0, first.1),
+                second: spans.create(second.0, second.1),
+            }))
+        }
+    }
+}
+
+/// The tree of a text that is read already, and whose groups are counted.
 fn read_pattern(
     alloc: Global,
     reader: &mut Reader<'_>,
+    state: &State,
     spans: &SpanFactory,
     mode: Mode,
 ) -> Result<Pattern, Fault>
     requires mode { mode ≡ Unicode }
     requires start { reader.old.place ≡ 0 }
     requires fits { AreFitting spans.now reader.old }
+    requires pass { HoldsPass Unicode reader.old.units state.now }
     requires read { holds_unread (values reader.old.units) ≡ false }
     ensures reads { IfOk result (λ it. Reads Unicode it reader.old.units) }
     ensures spanned { IfOk result (λ it. IsSpanned Unicode it reader.old.units reader.old.first spans.now) }
@@ -101,7 +134,10 @@ fn read_pattern(
 {
     let mut builder = Builder::new(alloc, mode, here(reader, spans));
     while !reader.remaining_code_points().is_empty() {
-        turn(alloc, reader, spans, &mut builder)?;
+        turn(alloc, reader, state, spans, &mut builder)?;
+    }
+    if !builder.is_whole() {
+        return Err(ended(reader, spans, &builder));
     }
     Ok(builder.finish(here(reader, spans))?)
 }

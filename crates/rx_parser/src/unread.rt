@@ -8,17 +8,14 @@ use rx_units::CodePoint;
 fn is_unread(value: u32) -> bool
     ensures { result ≡ is_unread value }
 {
-    value == '(' as u32 || value == '[' as u32
+    value == '[' as u32
 }
 
-/// Whether a value begins, behind a backslash, a construct that is not read yet: `p`, `P`, `k` and `1` to `9`.
+/// Whether a value begins, behind a backslash, a construct that is not read yet: `p` and `P`.
 pub fn is_unread_escape(value: u32) -> bool
     ensures { result ≡ is_unread_escape value }
 {
-    value == 'p' as u32
-        || value == 'P' as u32
-        || value == 'k' as u32
-        || ('1' as u32 <= value && value <= '9' as u32)
+    value == 'p' as u32 || value == 'P' as u32
 }
 
 /// Whether a text holds a piece of a construct that is not read yet.

@@ -1,9 +1,9 @@
-ghost use Rattle.std.specs.Prelude.{◌≡◌, ◌↔◌, ℕ, true, List, Some, None, IfOk, if◌then◌else◌};
+ghost use Rattle.std.specs.Prelude.{◌≡◌, ◌↔◌, ◌≤◌, ℕ, true, List, Some, None, IfOk, length, if◌then◌else◌};
 ghost use Rattle.rx_base.specs.SurrogatePair.{surrogate_pair};
 ghost use Rattle.rx_units.specs.Units.{values};
 ghost use Rattle.rx_model.specs.Decoding.{decoded};
-ghost use Rattle.rx_model.specs.GroupNameReading.{escape_in_name, name_character_at, name_of, pair_at, raw_at};
-ghost use Rattle.rx_model.specs.GroupNames.{IsGroupName, is_in_name, is_pair_in_name};
+ghost use Rattle.rx_model.specs.GroupNameReading.{escape_in_name, name_at, name_character_at, name_of, pair_at, raw_at, row};
+ghost use Rattle.rx_model.specs.GroupNames.{IsGroupName, IsNameRow, is_in_name, is_pair_in_name};
 ghost use Rattle.rx_scan.specs.GroupNames.{seen_character};
 
 use crate::{UnicodeEscape, decode};
@@ -39,6 +39,23 @@ pub fn capturing_group_name(
         }
     }
     Ok(Some(name))
+}
+
+/// How many units the longest row of a name's characters (RegExpIdentifierName of ECMA-262, 22.2.1) takes at the front of the units: none where no
+/// name stands there. The units are code points in unicode mode, else UTF-16 code units.
+pub fn group_name_length(units: &[CodePoint], unicode_mode: bool) -> usize
+    ensures within { result ≤ length units.now }
+    ensures read { (name : List ℕ) × (name_at unicode_mode (values units.now) ≡ row name result) }
+    ensures longest { IsNameRow unicode_mode (values units.now) result }
+{
+    let mut place = 0;
+    while place < units.len() {
+        match name_character(&units[place..], unicode_mode, place == 0) {
+            Some((_, length)) => place += length,
+            None => return place,
+        }
+    }
+    place
 }
 
 /// The character of a name that the units begin with, and how many units spell it.

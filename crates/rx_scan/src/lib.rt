@@ -17,7 +17,7 @@ mod tests;
 mod unicode_escape;
 
 pub use flags_parser::FlagsParser;
-pub use group_name::capturing_group_name;
+pub use group_name::{capturing_group_name, group_name_length};
 pub use names::Names;
 pub use span_factory::SpanFactory;
 pub use state::{State, StateFault};

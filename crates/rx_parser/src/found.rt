@@ -1,0 +1,98 @@
+use rx_ast::{
+    BoundaryAssertionKind, CharacterClassEscapeKind, CharacterKind, LookAroundAssertionKind,
+    Modifier,
+};
+
+/// A term that is one token, but for a reference by name.
+#[derive(Clone, Copy, Debug)]
+pub enum Leaf {
+    Boundary(BoundaryAssertionKind),
+    Character { kind: CharacterKind, value: u32 },
+    Dot,
+    ClassEscape(CharacterClassEscapeKind),
+    IndexedReference(u32),
+}
+
+/// What a group or a look-around begins with.
+#[derive(Clone, Copy, Debug)]
+pub enum OpenerFound {
+    /// `(`
+    Capturing,
+    /// `(?<`, a name and `>`
+    Named,
+    /// `(?:`
+    Ignoring,
+    /// `(?`, modifiers and `:`
+    Modified {
+        enabling: Modifier,
+        disabling: Modifier,
+    },
+    LookAround(LookAroundAssertionKind),
+}
+
+/// What is wrong with the modifiers of a group.
+#[derive(Clone, Copy, Debug)]
+pub enum ModifiersFault {
+    /// Behind them stands what is neither a modifier, nor a first `-`, nor `:`.
+    Unknown,
+    /// A letter is there twice on one side.
+    Duplicated,
+    /// There is no letter.
+    Empty,
+    /// A letter is on both sides.
+    Invalid,
+}
+
+/// Why no token is read. Lengths and places are in units, from the place on.
+#[derive(Clone, Copy, Debug)]
+pub enum Halt {
+    /// Terms end here, and not by a `)`; reading stands so many units on.
+    Stop { behind: usize },
+    /// The numbers of the braces of this length are out of order.
+    OutOfOrder { length: usize },
+    /// A number of the braces of this length is above 2^53 - 1.
+    TooLarge { length: usize },
+    /// The digits of a number from `start` on pass 64 bits behind so many.
+    TooManyDigits { start: usize, digits: usize },
+    /// The digits of a unicode escape from `start` on pass 32 bits behind so many.
+    TooManyHexDigits { start: usize, digits: usize },
+    /// A backslash begins no unicode escape where one has to stand, or in a name one of what may not stand there: the span is so many units from
+    /// `start` on.
+    InvalidEscape { start: usize, length: usize },
+    /// Behind `<`, at the second unit from here, and so many units of a name's characters neither a name ends nor an escape begins.
+    UnterminatedName { length: usize },
+    /// `\k` is a reference, and no `<` follows.
+    NoGroupName,
+    /// The reference of this length has a number above that of the groups.
+    NoSuchGroup { length: usize },
+    /// Modifiers of this length, behind `(?`, may not stand there.
+    Modifiers { fault: ModifiersFault, length: usize },
+    /// What stands here is not read yet.
+    Unread,
+}
+
+/// What the units begin with.
+#[derive(Clone, Copy, Debug)]
+pub enum Found {
+    Leaf {
+        leaf: Leaf,
+        length: usize,
+    },
+    /// `\k<`, a name and `>`
+    NamedReference {
+        length: usize,
+    },
+    Open {
+        opener: OpenerFound,
+        length: usize,
+    },
+    Close,
+    Bar,
+    Quantifier {
+        min: u64,
+        max: Option<u64>,
+        greedy: bool,
+        length: usize,
+    },
+    Halt(Halt),
+}

@@ -1,0 +1,131 @@
+ghost use Rattle.std.specs.Prelude.{◌≡◌, ◌+◌, ◌^◌, ◌<◌, ◌≤◌, ◌∷◌, true, false, drop, length, option_map};
+ghost use Rattle.std.specs.List.{list_all};
+ghost use Rattle.rx_units.specs.declared.code_point.CodePoint.{CodePoint};
+ghost use Rattle.rx_units.specs.Units.{values};
+ghost use Rattle.rx_model.specs.Environment.{Environment};
+ghost use Rattle.rx_model.specs.Escapes.{front_is};
+ghost use Rattle.rx_model.specs.GroupFronts.{letters_at, sides_at};
+ghost use Rattle.rx_model.specs.Groups.{is_mark};
+ghost use Rattle.rx_model.specs.Marks.{starts};
+ghost use Rattle.rx_model.specs.Modifiers.{is_modifier};
+ghost use Rattle.rx_parser.specs.Found.{IsFound};
+ghost use Rattle.rx_parser.specs.Modifiers.{are_bits, modifier_bit, seen_sides};
+
+use crate::found::{Found, Halt, ModifiersFault, OpenerFound};
+use rx_ast::Modifier;
+use rx_units::CodePoint;
+
+/// The two sides of modifiers (RegularExpressionModifiers of ECMA-262, 22.2.1) that stand next, and how many units both are, a `-` among them.
+#[derive(Clone, Copy)]
+struct Sides<'a> {
+    enabling: &'a [CodePoint],
+    disabling: &'a [CodePoint],
+    length: usize,
+}
+
+/// The group that `(?` and what stands behind it, neither `:`, `=`, `!` nor `<`, begin; or why its modifiers may not stand there.
+pub fn modifiers_at(units: &[CodePoint]) -> Found
+    requires other { front_is is_mark (values units.now) ≡ false }
+    requires small { length units.now + 2 < 2 ^ 64 }
+    ensures { (e : Environment) (paren question : CodePoint) → paren.value ≡ 40 → question.value ≡ 63 → IsFound e (paren ∷ question ∷ units.now) result }
+{
+    let sides = sides_at(units);
+    let length = sides.length;
+    if !is_colon_at(units, length) {
+        return halt(ModifiersFault::Unknown, length);
+    }
+    let (Some(enabling), Some(disabling)) = (bits_of(sides.enabling), bits_of(sides.disabling)) else {
+        return halt(ModifiersFault::Duplicated, length);
+    };
+    if enabling.is_empty() && disabling.is_empty() {
+        return halt(ModifiersFault::Empty, length);
+    }
+    if enabling.intersects(disabling) {
+        return halt(ModifiersFault::Invalid, length);
+    }
+    Found::Open {
+        opener: OpenerFound::Modified {
+            enabling,
+            disabling,
+        },
+        length: length + 3,
+    }
+}
+
+fn halt(fault: ModifiersFault, length: usize) -> Found
+    ensures { result ≡ Found.Halt (Halt.Modifiers fault length) }
+{
+    Found::Halt(Halt::Modifiers { fault, length })
+}
+
+/// The modifiers that the units begin with.
+fn sides_at(units: &[CodePoint]) -> Sides<'_>
+    ensures sides { seen_sides result ≡ sides_at (values units.now) }
+    ensures within { result.length ≤ length units.now }
+{
+    let count = letters_at(units);
+    match &units[count..] {
+        [dash, behind @ ..] if dash.value == '-' as u32 => {
+            let more = letters_at(behind);
+            Sides {
+                enabling: &units[..count],
+                disabling: &behind[..more],
+                length: count + 1 + more,
+            }
+        }
+        _ => Sides {
+            enabling: &units[..count],
+            disabling: &[],
+            length: count,
+        },
+    }
+}
+
+/// How many letters of modifiers the units begin with.
+fn letters_at(units: &[CodePoint]) -> usize
+    ensures letters { result ≡ letters_at (values units.now) }
+    ensures within { result ≤ length units.now }
+{
+    for (count, unit) in units.iter().enumerate() {
+        if modifier_of(unit.value).is_none() {
+            return count;
+        }
+    }
+    units.len()
+}
+
+/// The bits of letters, or none where one is there twice.
+fn bits_of(letters: &[CodePoint]) -> Option<Modifier>
+    requires { list_all is_modifier (values letters.now) ≡ true }
+    ensures { option_map (λ it. it.0) result ≡ are_bits (values letters.now) }
+{
+    let mut bits = Modifier::empty();
+    for letter in letters {
+        let bit = modifier_of(letter.value)?;
+        if bits.contains(bit) {
+            return None;
+        }
+        bits.insert(bit);
+    }
+    Some(bits)
+}
+
+/// The modifier of a letter (RegularExpressionModifier of ECMA-262, 22.2.1): `i`, `m` or `s`.
+fn modifier_of(value: u32) -> Option<Modifier>
+    ensures { option_map (λ it. it.0) result ≡ modifier_bit value }
+{
+    match char::from_u32(value) {
+        Some('i') => Some(Modifier::I),
+        Some('m') => Some(Modifier::M),
+        Some('s') => Some(Modifier::S),
+        _ => None,
+    }
+}
+
+fn is_colon_at(units: &[CodePoint], place: usize) -> bool
+    ensures { result ≡ starts 58 (values (drop place units.now)) }
+{
+    units
+        .get(place)
+        .is_some_and(|unit| unit.value == ':' as u32)
+}

@@ -1,0 +1,64 @@
+ghost use Rattle.std.specs.Prelude.{◌≡◌, ℕ, ◌+◌, ◌^◌, ◌<◌, ◌≤◌, List, length};
+ghost use Rattle.rx_units.specs.Units.{values};
+ghost use Rattle.rx_model.specs.Marks.{starts};
+ghost use Rattle.rx_parser.specs.HaltPlaces.{halt_end};
+ghost use Rattle.rx_parser.specs.Names.{EscapeBehind, IsHaltInName, IsNameFound};
+
+use crate::found::Halt;
+use rx_scan::{UnicodeEscape, decode, group_name_length};
+use rx_units::CodePoint;
+
+/// What stands behind `(?<` or `\k<`.
+#[derive(Clone, Copy, Debug)]
+pub enum NameFound {
+    /// A name of so many units, and `>`.
+    Name { length: usize },
+    /// Neither. The places of the halt count the three units before the name.
+    Halt(Halt),
+}
+
+/// The name behind `(?<` or `\k<` (GroupName of ECMA-262, 22.2.1), or why there is none.
+pub fn name_at(units: &[CodePoint], unicode_mode: bool) -> NameFound
+    ensures { IsNameFound unicode_mode units.now result }
+{
+    let length = group_name_length(units, unicode_mode);
+    match &units[length..] {
+        [end, ..] if length > 0 && end.value == '>' as u32 => NameFound::Name { length },
+        [backslash, behind @ ..] if backslash.value == '\\' as u32 => {
+            NameFound::Halt(escape_in_name(length, behind, unicode_mode))
+        }
+        _ => NameFound::Halt(Halt::UnterminatedName { length }),
+    }
+}
+
+/// Why what stands behind so many units of a name and a backslash is none of the name's characters.
+fn escape_in_name(count: usize, behind: &[CodePoint], unicode_mode: bool) -> Halt
+    requires { count + 6 + length behind.now < 2 ^ 64 }
+    ensures halts { (w : List ℕ) → EscapeBehind unicode_mode w count (values behind.now) → IsHaltInName unicode_mode w result }
+    ensures within { halt_end result ≤ count + 4 + length behind.now }
+{
+    match decode(behind, true) {
+        UnicodeEscape::Value { length: escape, .. } => Halt::InvalidEscape {
+            start: count + 3,
+            length: escape + 1,
+        },
+        UnicodeEscape::Overflow { digits } => Halt::TooManyHexDigits {
+            start: count + 6,
+            digits,
+        },
+        UnicodeEscape::Invalid if unicode_mode && begins_with_u(behind) => Halt::InvalidEscape {
+            start: count + 4,
+            length: 1,
+        },
+        UnicodeEscape::Invalid => Halt::InvalidEscape {
+            start: count + 3,
+            length: 1,
+        },
+    }
+}
+
+fn begins_with_u(units: &[CodePoint]) -> bool
+    ensures { result ≡ starts 117 (values units.now) }
+{
+    units.first().is_some_and(|unit| unit.value == 'u' as u32)
+}

@@ -1,0 +1,60 @@
+ghost use Rattle.std.specs.Prelude.{◌≡◌, ℕ, ◌+◌, ◌-◌, ◌^◌, ◌<◌, ◌≤◌, ◌∷◌, true, drop, length, min};
+ghost use Rattle.rx_units.specs.declared.code_point.CodePoint.{CodePoint};
+ghost use Rattle.rx_units.specs.Units.{values};
+ghost use Rattle.rx_model.specs.Environment.{Environment, is_unicode};
+ghost use Rattle.rx_model.specs.Escapes.{front_is};
+ghost use Rattle.rx_model.specs.Fronts.{digits, digits_behind};
+ghost use Rattle.rx_parser.specs.Found.{IsFound, is_first_digit};
+
+use crate::found::{Found, Halt, Leaf};
+use crate::name::{NameFound, name_at};
+use rx_tables::is_decimal_digit;
+use rx_units::CodePoint;
+
+/// The reference behind a backslash, whose number begins with a digit that is not 0 (DecimalEscape of ECMA-262, 22.2.1), in a pattern with so many groups.
+pub fn indexed_at(behind: &[CodePoint], groups: u32) -> Found
+    requires digit { front_is is_first_digit (values behind.now) ≡ true }
+    requires few { groups < 2 ^ 32 - 1 }
+    requires small { length behind.now + 1 < 2 ^ 64 }
+    ensures { (e : Environment) (backslash : CodePoint) → is_unicode e.mode ≡ true → e.groups ≡ groups → backslash.value ≡ 92 → IsFound e (backslash ∷ behind.now) result }
+{
+    let (index, count) = index_at(behind);
+    let length = count + 1;
+    if index > groups {
+        return Found::Halt(Halt::NoSuchGroup { length });
+    }
+    Found::Leaf {
+        leaf: Leaf::IndexedReference(index),
+        length,
+    }
+}
+
+/// The number of the digits that the units begin with, which stands still at 4294967295, and how many digits they are.
+fn index_at(units: &[CodePoint]) -> (u32, usize)
+    ensures index { (n : ℕ) × (result.0 ≡ min n (2 ^ 32 - 1)) × (digits_behind 0 0 (values units.now) ≡ digits n result.1 (values (drop result.1 units.now))) }
+    ensures within { result.1 ≤ length units.now }
+{
+    let mut index = 0u32;
+    for (count, unit) in units.iter().enumerate() {
+        if !is_decimal_digit(unit.value) {
+            return (index, count);
+        }
+        let digit = unit.value - '0' as u32;
+        index = index.saturating_mul(10).saturating_add(digit);
+    }
+    (index, units.len())
+}
+
+/// The reference by name behind `\k` (AtomEscape of ECMA-262, 22.2.1).
+pub fn named_at(behind: &[CodePoint], unicode_mode: bool) -> Found
+    ensures { (e : Environment) (backslash k : CodePoint) → is_unicode e.mode ≡ unicode_mode → e.named ≡ true → backslash.value ≡ 92 → k.value ≡ 107
+        → IsFound e (backslash ∷ k ∷ behind.now) result }
+{
+    match behind {
+        [angle, name @ ..] if angle.value == '<' as u32 => match name_at(name, unicode_mode) {
+            NameFound::Name { length } => Found::NamedReference { length: length + 4 },
+            NameFound::Halt(halt) => Found::Halt(halt),
+        },
+        _ => Found::Halt(Halt::NoGroupName),
+    }
+}

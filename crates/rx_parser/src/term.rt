@@ -1,0 +1,98 @@
+ghost use Rattle.std.specs.Prelude.{◌≡◌, ℕ, IfOk, List};
+ghost use Rattle.rx_units.specs.Reading.{rest};
+ghost use Rattle.rx_model.specs.Token.{named};
+ghost use Rattle.rx_parser.specs.Found.{HoldsName, HoldsOpener, leaf_token};
+ghost use Rattle.rx_parser.specs.Openings.{IsOpeningOf};
+ghost use Rattle.rx_parser.specs.Parsing.{AreFitting};
+ghost use Rattle.rx_parser.specs.Progress.{IsLeafOf};
+
+use crate::fault::span_ahead;
+use crate::found::{Leaf, OpenerFound};
+use crate::frame::Opening;
+use rx_ast::{
+    BoundaryAssertion, Character, CharacterClassEscape, Dot, IndexedReference, Modifiers,
+    NamedReference, Term,
+};
+use rx_base::{OutOfMemory, Span, Text};
+use rx_scan::{SpanFactory, capturing_group_name};
+use rx_units::{CodePoint, Reader};
+use std::alloc::Global;
+
+/// The term that a leaf is.
+pub fn term(alloc: Global, leaf: Leaf, span: Span) -> Result<Term, OutOfMemory>
+    ensures { IfOk result (λ it. IsLeafOf it (leaf_token leaf) span.start span.end) }
+{
+    match leaf {
+        Leaf::Boundary(kind) => {
+            let boundary = BoundaryAssertion { span, kind };
+            Ok(Term::BoundaryAssertion(Box::new(alloc, boundary)?))
+        }
+        Leaf::Character { kind, value } => {
+            let character = Character { span, kind, value };
+            Ok(Term::Character(Box::new(alloc, character)?))
+        }
+        Leaf::Dot => Ok(Term::Dot(Dot { span })),
+        Leaf::ClassEscape(kind) => {
+            let escape = CharacterClassEscape { span, kind };
+            Ok(Term::CharacterClassEscape(Box::new(alloc, escape)?))
+        }
+        Leaf::IndexedReference(index) => {
+            let reference = IndexedReference { span, index };
+            Ok(Term::IndexedReference(Box::new(alloc, reference)?))
+        }
+    }
+}
+
+/// The reference by this name.
+pub fn named_term(alloc: Global, name: Text, span: Span) -> Result<Term, OutOfMemory>
+    ensures { IfOk result (λ it. IsLeafOf it (named name) span.start span.end) }
+{
+    let reference = NamedReference { span, name };
+    Ok(Term::NamedReference(Box::new(alloc, reference)?))
+}
+
+/// The name in what so many units are, a group's beginning or a reference: it stands between the third unit and the `>` at their end.
+pub fn name_in(alloc: Global, units: &[CodePoint], length: usize) -> Result<Text, OutOfMemory>
+    requires { (name : List ℕ) × HoldsName true units.now name length }
+    ensures { IfOk result (λ it. HoldsName true units.now it length) }
+{
+    match capturing_group_name(alloc, &units[3..length - 1], true)? {
+        Some(name) => Ok(name),
+        None => unreachable!(),
+    }
+}
+
+/// What a group or look-around of so many units, which stands next, begins with. The reader stays where it stands.
+pub fn opening(
+    alloc: Global,
+    reader: &mut Reader<'_>,
+    spans: &SpanFactory,
+    opener: OpenerFound,
+    length: usize,
+) -> Result<Opening, OutOfMemory>
+    requires fits { AreFitting spans.now reader.old }
+    requires found { HoldsOpener (rest reader.old) length opener }
+    ensures opening { IfOk result (IsOpeningOf reader.old spans.now length opener) }
+    ensures reader { reader.new ≡ reader.old }
+{
+    match opener {
+        OpenerFound::Capturing => Ok(Opening::Capturing(None)),
+        OpenerFound::Named => {
+            let name = name_in(alloc, reader.remaining_code_points(), length)?;
+            Ok(Opening::Capturing(Some(name)))
+        }
+        OpenerFound::Ignoring => Ok(Opening::Ignoring(None)),
+        OpenerFound::Modified {
+            enabling,
+            disabling,
+        } => {
+            let span = span_ahead(reader, spans, 2, length - 1);
+            Ok(Opening::Ignoring(Some(Modifiers {
+                span,
+                enabling,
+                disabling,
+            })))
+        }
+        OpenerFound::LookAround(kind) => Ok(Opening::LookAround(kind)),
+    }
+}
