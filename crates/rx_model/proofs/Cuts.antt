@@ -1,8 +1,7 @@
 -- Each token is a whole row of marks.
-use Rattle.std.proofs.Common.{◌≡◌, ℕ, Bool, true, false, not, is_some, Option, Some, None, List, [], ◌∷◌, ◌++◌, refl, sym, ap, ◌∙◌, subst, inl, inr, codes}
-use Rattle.std.specs.List.{list_all}
+use Rattle.std.proofs.Common.{◌≡◌, ℕ, Bool, true, false, not, is_some, Some, None, List, [], ◌∷◌, ◌++◌, refl, sym, ap, ◌∙◌, subst, inl, inr, codes}
 use Rattle.std.proofs.lemmas.List.Elements.{All-nil}
-use Rattle.rx_tables.specs.Characters.{control_escape_value, control_letter_value, is_syntax_character}
+use Rattle.rx_tables.specs.Characters.{control_letter_value, is_syntax_character}
 use Rattle.rx_ast.specs.declared.leaf.BoundaryAssertionKind.{BoundaryAssertionKind}
 use Rattle.rx_ast.specs.declared.leaf.BoundaryAssertionKind.TheVariants as boundaries
 use Rattle.rx_ast.specs.declared.leaf.CharacterClassEscapeKind.{CharacterClassEscapeKind}
@@ -20,7 +19,6 @@ use Rattle.rx_model.specs.Cuts.{AreMarksOf, AreOthers, IsCut, IsOpening}
 use Rattle.rx_model.specs.Environment.{Environment, is_unicode}
 use Rattle.rx_model.specs.Escapes.{front_is, SpellsEscape, control, letter, null, hexadecimal, unicode, identity}
 use Rattle.rx_model.specs.Groups.{IsIndexed, IsModified, IsNamed, IsNaming, SpellsOpener}
-use Rattle.rx_model.specs.GroupNameReading.{name_of}
 use Rattle.rx_model.specs.Marks as mark
 use Rattle.rx_model.specs.Marks.{Mark, mark_front, marks}
 use Rattle.rx_model.specs.Quantifiers.{is_question, lazy_mark}

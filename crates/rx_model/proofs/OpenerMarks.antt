@@ -1,5 +1,5 @@
 -- Openers: each is one opening, with the name that it spells, and others behind it.
-use Rattle.std.proofs.Common.{◌≡◌, ◌≢◌, ℕ, ◌+◌, ◌*◌, ◌==◌, ◌≤◌, Bool, true, false, cond, is_some, ◌||◌, List, [], ◌∷◌, ◌++◌, append_assoc, length, length-append, Option, Some, None, refl, sym, ap, ◌∙◌, subst, arith, inl, inr}
+use Rattle.std.proofs.Common.{◌≡◌, ◌≢◌, ℕ, ◌+◌, ◌*◌, ◌==◌, ◌≤◌, Bool, true, false, is_some, ◌||◌, List, [], ◌∷◌, ◌++◌, append_assoc, length, length-append, Some, refl, ap, ◌∙◌, arith, inl, inr}
 use Rattle.std.specs.List.{list_all}
 use Rattle.std.proofs.lemmas.Bool.{cond-false}
 use Rattle.std.proofs.lemmas.Bool.Decides.{nat_tests}
@@ -7,7 +7,7 @@ use Rattle.std.proofs.lemmas.List.Folds.{list_all-append}
 use Rattle.std.proofs.lemmas.Option.{option_and_then_some}
 use Rattle.rx_tables.specs.Characters.{hex_digit_value}
 use Rattle.rx_model.specs.GroupNames.{is_in_name, SpellsNameCharacter, one_unit, by_escape, raw_pair, SpellsNameParts, no_part, part, SpellsName, whole_name}
-use Rattle.rx_model.specs.Marks.{Mark, other, quiet, capturing, starts, before_close, has_close, mark_front, marks, marks_behind}
+use Rattle.rx_model.specs.Marks.{quiet, capturing, starts, before_close, has_close, mark_front, marks, marks_behind}
 use Rattle.rx_model.specs.Modifiers.{is_modifier, AreSides, one_side, two_sides}
 use Rattle.rx_model.specs.UnicodeEscapes.{hex_behind, SpellsUnicode, alone, pair, braced}
 use Rattle.rx_model.proofs.Decodings.{chosen, both}
