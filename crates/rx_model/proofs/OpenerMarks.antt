@@ -12,13 +12,14 @@ use Rattle.rx_model.specs.Modifiers.{is_modifier, AreSides, one_side, two_sides}
 use Rattle.rx_model.specs.UnicodeEscapes.{hex_behind, SpellsUnicode, alone, pair, braced}
 use Rattle.rx_model.proofs.Decodings.{chosen, both}
 use Rattle.rx_model.proofs.GroupNames.{differs}
-use Rattle.rx_model.proofs.OtherMarks.{is_plain, plain_in, AreQuiet, all_plain_quiet, append_quiet}
+use Rattle.rx_model.proofs.OtherMarks.{is_plain, plain_in, GiveOthers, all_plain_others, append_others}
 
 -- the marks behind some units are those of what follows them
-pub marks_after : (w rest : List ℕ) → marks_behind (length w) (w ++ rest) ≡ marks rest
+marks_after : (w rest : List ℕ) → marks_behind (length w) (w ++ rest) ≡ marks rest
 marks_after [] rest = refl
 marks_after (u ∷ w) rest = marks_after w rest
 
+-- no `>` is among some units
 no_close_before : (u : ℕ) (w : List ℕ) → (u == 62) ≡ false → has_close w ≡ false → has_close (u ∷ w) ≡ false
 no_close_before u w h k = cond-false (u == 62) true (has_close w) h ∙ k
 
@@ -29,7 +30,7 @@ no_close_append : (w v : List ℕ) → has_close w ≡ false → has_close v ≡
 no_close_append [] v h k = k
 no_close_append (u ∷ w) v h k = let p = no_close_behind u w h in no_close_before u (w ++ v) p.0 (no_close_append w v p.1 k)
 
--- the units before the first `>`
+-- the first `>`, and the units before it
 close_found : (w rest : List ℕ) → has_close w ≡ false → has_close (w ++ (62 ∷ rest)) ≡ true
 close_found [] rest h = refl
 close_found (u ∷ w) rest h = let p = no_close_behind u w h in cond-false (u == 62) true (has_close (w ++ (62 ∷ rest))) p.0 ∙ close_found w rest p.1
@@ -46,7 +47,7 @@ hex_no_close n (c ∷ ds) v h =
     option_and_then_some (λ d. hex_behind (16 * n + d) ds) (hex_digit_value c) v h (λ d digit more.
     no_close_before c ds (differs (λ c. is_some (hex_digit_value c)) c 62 refl (ap is_some digit)) (hex_no_close (16 * n + d) ds v more))
 
--- nor in a unicode escape
+-- nor among those of a unicode escape
 unicode_no_close : (v : ℕ) (w rest : List ℕ) → SpellsUnicode true v w rest → has_close w ≡ false
 unicode_no_close v _ rest (alone {a} {b} {c} {d} h k) = hex_no_close 0 (a ∷ b ∷ c ∷ d ∷ []) v h
 unicode_no_close _ _ rest (pair {a} {b} {c} {d} {e} {f} {g} {h} {lead} {trail} first second is_lead is_trail) =
@@ -71,7 +72,7 @@ surrogate_no_look : (c : ℕ) (us : List ℕ) → 0xD800 ≤ c → begins_look (
 surrogate_no_look c us h = grind (arith, nat_tests)
 
 module _ (unicode_mode : Bool) where
-  -- nor in a name
+  -- nor among those of a name
   character_no_close : (first : Bool) (c : ℕ) (w rest : List ℕ) → SpellsNameCharacter unicode_mode first c w rest → has_close w ≡ false
   character_no_close first c _ rest (one_unit h) = no_close_before c [] (in_name_no_close first c h) refl
   character_no_close first c _ rest (by_escape {w} spells h) = unicode_no_close c w rest spells
@@ -143,7 +144,7 @@ modifying_front c us h =
 
 -- the letters and the `:` of modifiers
 pub record ModifierMarks (text : List ℕ) : Type 0 where
-  pub behind : AreQuiet (text ++ (58 ∷ []))
+  pub behind : GiveOthers (text ++ (58 ∷ []))
   pub whole : (us : List ℕ) → marks (40 ∷ 63 ∷ ((text ++ (58 ∷ [])) ++ us)) ≡ quiet ∷ marks ((text ++ (58 ∷ [])) ++ us)
 
 -- `(?`, modifiers and `:` are an opening and others
@@ -151,7 +152,7 @@ pub modifier_marks : (enabled disabled text : List ℕ) → AreSides enabled dis
 modifier_marks enabled disabled text sides some =
     let within = sides_in_modifiers enabled disabled text sides in
     record {
-      behind = append_quiet text (58 ∷ []) (all_plain_quiet text (all_in_modifiers_plain text within)) (all_plain_quiet (58 ∷ []) refl);
+      behind = append_others text (58 ∷ []) (all_plain_others text (all_in_modifiers_plain text within)) (all_plain_others (58 ∷ []) refl);
       whole = go text some within;
     }
   where

@@ -89,13 +89,13 @@ module _ (unicode_mode : Bool) where
 
   counted_append : (ms rest : List Mark) (n m : ℕ) (found more : List (List ℕ)) → AreCounted ms n found → AreCounted rest m more → AreCounted (ms ++ rest) (n + m) (found ++ more)
   counted_append ms rest n m found more c d = record {
-    count_is = go ms ∙ ap₂ (λ n m. n + m) c.count_is d.count_is;
+    count_is = count_of ms ∙ ap₂ (λ n m. n + m) c.count_is d.count_is;
     names_are = names_of ms ∙ ap₂ (λ found more. found ++ more) c.names_are d.names_are;
   }
     where
-      go : (ms : List Mark) → count (ms ++ rest) ≡ count ms + count rest
-      go [] = omega arith
-      go (m ∷ ms) = omega (arith, go ms)
+      count_of : (ms : List Mark) → count (ms ++ rest) ≡ count ms + count rest
+      count_of [] = omega arith
+      count_of (m ∷ ms) = omega (arith, count_of ms)
 
       names_of : (ms : List Mark) → mark.names unicode_mode (ms ++ rest) ≡ mark.names unicode_mode ms ++ mark.names unicode_mode rest
       names_of [] = refl
