@@ -1,10 +1,163 @@
 -- Each token is a whole row of marks.
-use Rattle.std.proofs.Common.{List}
+use Rattle.std.proofs.Common.{◌≡◌, ℕ, Bool, true, false, not, is_some, Some, None, List, [], ◌∷◌, ◌++◌, refl, sym, ap, ◌∙◌, subst, inl, inr, codes}
+use Rattle.std.proofs.lemmas.List.Elements.{All-nil}
+use Rattle.rx_tables.specs.Characters.{control_letter_value, is_syntax_character}
+use Rattle.rx_ast.specs.declared.leaf.BoundaryAssertionKind.{BoundaryAssertionKind}
+use Rattle.rx_ast.specs.declared.leaf.BoundaryAssertionKind.TheVariants as boundaries
+use Rattle.rx_ast.specs.declared.leaf.CharacterClassEscapeKind.{CharacterClassEscapeKind}
+use Rattle.rx_ast.specs.declared.leaf.CharacterClassEscapeKind.TheVariants.{D, NegativeD, S, NegativeS, W, NegativeW}
+use Rattle.rx_ast.specs.declared.leaf.CharacterKind.{CharacterKind}
+use Rattle.rx_ast.specs.declared.leaf.LookAroundAssertionKind.{LookAroundAssertionKind}
+use Rattle.rx_ast.specs.declared.leaf.LookAroundAssertionKind.TheVariants.{Lookahead, NegativeLookahead, Lookbehind, NegativeLookbehind}
 use Rattle.rx_units.specs.declared.code_point.CodePoint.{CodePoint}
-use Rattle.rx_model.specs.Cuts.{IsCut}
+use Rattle.rx_units.specs.Units.{values}
+use Rattle.rx_model.specs.declared.mode.Mode.{Mode}
+use Rattle.rx_model.specs.declared.mode.Mode.TheVariants.{Legacy, Unicode, Sets}
+use Rattle.rx_model.specs.Boundaries.{boundary_text}
+use Rattle.rx_model.specs.ClassText.{class_escape_text}
+use Rattle.rx_model.specs.Cuts.{AreMarksOf, AreOthers, IsCut, IsOpening}
 use Rattle.rx_model.specs.Environment.{Environment, is_unicode}
-use Rattle.rx_model.specs.Rows.{Spells}
-use Rattle.rx_model.specs.Token.{Token}
+use Rattle.rx_model.specs.Escapes.{front_is, SpellsEscape, control, letter, null, hexadecimal, unicode, identity}
+use Rattle.rx_model.specs.Groups.{IsIndexed, IsModified, IsNamed, IsNaming, SpellsOpener}
+use Rattle.rx_model.specs.Marks as mark
+use Rattle.rx_model.specs.Marks.{Mark, mark_front, marks}
+use Rattle.rx_model.specs.Quantifiers.{is_question, lazy_mark}
+use Rattle.rx_model.specs.Rows.{IsEscaped, IsRaw, Spells, stands_raw}
+use Rattle.rx_model.specs.Spelling.{look_text}
+use Rattle.rx_model.specs.Token.{Token, Opener, boundary, character, dot, class_escape, property, class, indexed, named, opener, closer, bar, quantifier, capturing, ignoring, looking}
+use Rattle.rx_model.proofs.GroupNames.{group_name_read, name_anywhere}
+use Rattle.rx_model.proofs.OpenerMarks.{modifier_marks, naming_marks}
+use Rattle.rx_model.proofs.OtherMarks.{is_plain, plain_in, GiveOthers, nothing_others, plain_others, escape_others, append_others, all_plain_others, hex_others, escaped_digits_others, unicode_others, name_others, counts_others, lazy_others}
+
+module _ (e : Environment) where
+  -- behind a backslash a character escape opens and closes nothing
+  spelled_escape_others : (kind : CharacterKind) (v : ℕ) (w rest : List ℕ) → SpellsEscape e kind v w rest → GiveOthers (92 ∷ w)
+  spelled_escape_others _ v _ rest (control {c} h) = escape_others c [] nothing_others
+  spelled_escape_others _ v _ rest (letter {c} h) =
+      escape_others 99 (c ∷ []) (plain_others c [] (plain_in (λ c. is_some (control_letter_value c)) c refl (ap is_some h)) nothing_others)
+  spelled_escape_others _ _ _ rest (null h) = escape_others 48 [] nothing_others
+  spelled_escape_others _ v _ rest (hexadecimal {a} {b} h) = escape_others 120 (a ∷ b ∷ []) (hex_others 0 (a ∷ b ∷ []) v h)
+  spelled_escape_others _ v w rest (unicode s) = unicode_others (is_unicode e.mode) v w rest s
+  spelled_escape_others _ _ _ rest (identity {c} u h) = escape_others c [] nothing_others
+
+-- a character that stands for itself, or is escaped
+raw_plain : (mode : Mode) (u : ℕ) → stands_raw mode u ≡ true → is_plain u ≡ true
+raw_plain Legacy u h = absurd (let no : ⊥ = cc h in no)
+raw_plain Unicode u h = plain_in (λ c. not (is_syntax_character c)) u refl h
+raw_plain Sets u h = plain_in (λ c. not (is_syntax_character c)) u refl h
+
+raw_others : (e : Environment) (kind : CharacterKind) (v : ℕ) (w : List CodePoint) → IsRaw e kind v w → GiveOthers (values w)
+raw_others e kind v w r = subst (λ w. GiveOthers (values w)) (sym r.alone) (plain_others r.unit.value [] (raw_plain e.mode r.unit.value r.allowed) nothing_others)
+
+escaped_others : (e : Environment) (kind : CharacterKind) (v : ℕ) (w rest : List CodePoint) → IsEscaped e kind v w rest → GiveOthers (values w)
+escaped_others e kind v w rest r =
+    subst GiveOthers (sym (ap values r.whole ∙ ap (λ c. c ∷ values r.behind) r.backslash_is)) (spelled_escape_others e kind v (values r.behind) (values rest) r.spelled)
+
+boundary_others : (kind : BoundaryAssertionKind) → GiveOthers (boundary_text kind)
+boundary_others boundaries.Start = all_plain_others (codes "^") refl
+boundary_others boundaries.End = all_plain_others (codes "$") refl
+boundary_others boundaries.Boundary = escape_others 98 [] nothing_others
+boundary_others boundaries.NegativeBoundary = escape_others 66 [] nothing_others
+boundary_others boundaries.StartBuffer = escape_others 65 [] nothing_others
+boundary_others boundaries.EndBuffer = escape_others 122 [] nothing_others
+boundary_others boundaries.EndBufferOptionalNewline = escape_others 90 [] nothing_others
+
+class_escape_others : (kind : CharacterClassEscapeKind) → GiveOthers (class_escape_text kind)
+class_escape_others D = escape_others 100 [] nothing_others
+class_escape_others NegativeD = escape_others 68 [] nothing_others
+class_escape_others S = escape_others 115 [] nothing_others
+class_escape_others NegativeS = escape_others 83 [] nothing_others
+class_escape_others W = escape_others 119 [] nothing_others
+class_escape_others NegativeW = escape_others 87 [] nothing_others
+
+module _ (unicode_mode : Bool) (t : Token) (w rest : List CodePoint) where
+  -- a token that opens and closes nothing
+  others_cut : GiveOthers (values w) → ((ms : List Mark) → AreOthers ms → AreMarksOf unicode_mode t ms) → IsCut unicode_mode t w rest
+  others_cut q are = record { cut = q.cut; whole = q.whole (values rest); are = are q.cut q.others }
+
+  -- a token that is one mark
+  one_cut : (text : List ℕ) (m : Mark) → values w ≡ text → marks (text ++ values rest) ≡ m ∷ marks (values rest) → AreMarksOf unicode_mode t (m ∷ []) → IsCut unicode_mode t w rest
+  one_cut text m e whole are = record { cut = m ∷ []; whole = ap (λ v. marks (v ++ values rest)) e ∙ whole; are = are }
+
+-- an opener that is one mark
+opening_cut : (unicode_mode : Bool) (o : Opener) (w rest : List CodePoint) (text : List ℕ) (m : Mark) →
+    values w ≡ text → marks (text ++ values rest) ≡ m ∷ marks (values rest) → IsOpening unicode_mode o m → IsCut unicode_mode (opener o) w rest
+opening_cut unicode_mode o w rest text m e whole opens =
+    one_cut unicode_mode (opener o) w rest text m e whole (m, [], refl, opens, All-nil (λ m. m ≡ mark.other))
+
+-- each opener without a name or modifiers is one mark
+look_marks : (kind : LookAroundAssertionKind) (us : List ℕ) → marks (look_text kind ++ us) ≡ mark.quiet ∷ marks us
+unfolding mark_front
+look_marks Lookahead us = refl
+look_marks NegativeLookahead us = refl
+look_marks Lookbehind us = refl
+look_marks NegativeLookbehind us = refl
+
+unnamed_marks : (us : List ℕ) → front_is is_question us ≡ false → marks (40 ∷ us) ≡ mark.capturing None ∷ marks us
+unfolding mark_front
+unnamed_marks [] h = refl
+unnamed_marks (u ∷ us) h = rw h refl
+
+ignoring_marks : (us : List ℕ) → marks (40 ∷ 63 ∷ 58 ∷ us) ≡ mark.quiet ∷ marks us
+unfolding mark_front
+ignoring_marks us = refl
+
+naming_cut : (e : Environment) (name : List ℕ) (w rest : List CodePoint) → IsNaming e name w rest → IsCut (is_unicode e.mode) (opener (capturing (Some name))) w rest
+naming_cut e name w rest s =
+    let mode = is_unicode e.mode in
+    opening_cut mode (capturing (Some name)) w rest (40 ∷ 63 ∷ 60 ∷ (s.spelled ++ (62 ∷ []))) (mark.capturing (Some s.spelled)) s.whole
+    (naming_marks mode name s.spelled (62 ∷ values rest) (values rest) s.spells)
+    (s.spelled, refl, group_name_read mode s.spelled name (name_anywhere mode name s.spelled (62 ∷ values rest) [] s.spells))
+
+modified_cut : (unicode_mode : Bool) (bits : ℕ × ℕ) (w rest : List CodePoint) → IsModified bits w → IsCut unicode_mode (opener (ignoring (Some bits))) w rest
+modified_cut unicode_mode bits w rest s =
+    let m = modifier_marks s.spelled.enabled s.spelled.disabled s.text s.spelled.sides s.spelled.some in
+    record {
+      cut = mark.quiet ∷ m.behind.cut;
+      whole = ap (λ v. marks (v ++ values rest)) s.whole ∙ m.whole (values rest) ∙ ap (λ ms. mark.quiet ∷ ms) (m.behind.whole (values rest));
+      are = (mark.quiet, m.behind.cut, refl, refl, m.behind.others);
+    }
+
+opener_cut : (e : Environment) (o : Opener) (w rest : List CodePoint) → SpellsOpener e o w rest → IsCut (is_unicode e.mode) (opener o) w rest
+opener_cut e (capturing None) w rest s =
+    opening_cut (is_unicode e.mode) (capturing None) w rest (40 ∷ []) (mark.capturing None) s.0 (unnamed_marks (values rest) s.1) refl
+opener_cut e (capturing (Some name)) w rest s = naming_cut e name w rest s
+opener_cut e (ignoring None) w rest s =
+    opening_cut (is_unicode e.mode) (ignoring None) w rest (40 ∷ 63 ∷ 58 ∷ []) mark.quiet s (ignoring_marks (values rest)) refl
+opener_cut e (ignoring (Some bits)) w rest s = modified_cut (is_unicode e.mode) bits w rest s
+opener_cut e (looking kind) w rest s =
+    opening_cut (is_unicode e.mode) (looking kind) w rest (look_text kind) mark.quiet s (look_marks kind (values rest)) refl
+
+-- references
+indexed_others : (e : Environment) (n : ℕ) (w rest : List CodePoint) → IsIndexed e n w rest → GiveOthers (values w)
+indexed_others e n w rest s = subst GiveOthers (sym s.whole) (escaped_digits_others s.number)
+
+named_others : (e : Environment) (name : List ℕ) (w rest : List CodePoint) → IsNamed e name w rest → GiveOthers (values w)
+named_others e name w rest s =
+    subst GiveOthers (sym s.whole) (escape_others 107 (60 ∷ (s.spelled ++ (62 ∷ []))) (plain_others 60 (s.spelled ++ (62 ∷ [])) refl
+    (append_others s.spelled (62 ∷ []) (name_others (is_unicode e.mode) name s.spelled (62 ∷ values rest) s.spells) (all_plain_others (62 ∷ []) refl))))
+
+closing_marks : (us : List ℕ) → marks (41 ∷ us) ≡ mark.closer ∷ marks us
+unfolding mark_front
+closing_marks us = refl
+
+bar_marks : (us : List ℕ) → marks (124 ∷ us) ≡ mark.bar ∷ marks us
+unfolding mark_front
+bar_marks us = refl
 
 pub token_cut : (e : Environment) (t : Token) (w rest : List CodePoint) → Spells e t w rest → IsCut (is_unicode e.mode) t w rest
-token_cut = ?
+token_cut e (boundary kind) w rest s = others_cut (is_unicode e.mode) (boundary kind) w rest (subst GiveOthers (sym s.text) (boundary_others kind)) (λ ms h. h)
+token_cut e (character kind v) w rest s =
+    others_cut (is_unicode e.mode) (character kind v) w rest (elim s [ inl r ↦ raw_others e kind v w r | inr r ↦ escaped_others e kind v w rest r ]) (λ ms h. h)
+token_cut e dot w rest s = others_cut (is_unicode e.mode) dot w rest (subst GiveOthers (sym s) (all_plain_others (46 ∷ []) refl)) (λ ms h. h)
+token_cut e (class_escape kind) w rest s = others_cut (is_unicode e.mode) (class_escape kind) w rest (subst GiveOthers (sym s) (class_escape_others kind)) (λ ms h. h)
+token_cut e (property negative strings name value) w rest s = absurd s
+token_cut e (class c) w rest s = absurd s
+token_cut e (indexed n) w rest s = others_cut (is_unicode e.mode) (indexed n) w rest (indexed_others e n w rest s) (λ ms h. h)
+token_cut e (named name) w rest s = others_cut (is_unicode e.mode) (named name) w rest (named_others e name w rest s) (λ ms h. h)
+token_cut e (opener o) w rest s = opener_cut e o w rest s
+token_cut e closer w rest s = one_cut (is_unicode e.mode) closer w rest (41 ∷ []) mark.closer s (closing_marks (values rest)) refl
+token_cut e bar w rest s = one_cut (is_unicode e.mode) bar w rest (124 ∷ []) mark.bar s (bar_marks (values rest)) refl
+token_cut e (quantifier min max greedy) w rest s =
+    others_cut (is_unicode e.mode) (quantifier min max greedy) w rest
+    (subst GiveOthers (sym s.whole) (append_others s.prefix (lazy_mark greedy) (counts_others s.counts) (lazy_others greedy))) (λ ms h. h)

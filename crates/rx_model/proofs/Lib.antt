@@ -16,6 +16,8 @@ pub mod Joins
 pub mod Known
 pub mod OneLines
 pub mod OneRow
+pub mod OtherMarks
+pub mod OpenerMarks
 pub mod OpenMarks
 pub mod OwnGroups
 pub mod PartedMarks

@@ -1,11 +1,14 @@
-use Rattle.std.proofs.Common.{refl}
+use Rattle.std.proofs.Common.{sym, ◌∙◌, subst, []}
 use Rattle.rx_model.specs.Environment.{environment}
 use Rattle.rx_model.specs.Events.{tokens}
+use Rattle.rx_model.specs.Rows.{TokenRow}
 use Rattle.rx_model.proofs.Builds.{one_tree}
-use Rattle.rx_model.proofs.OneRow.{one_row_by_mode}
+use Rattle.rx_model.proofs.OneRow.{one_row}
+use Rattle.rx_model.proofs.OwnGroups.{own_environment}
 use Rattle.rx_model.proofs.laws.unique_reading.Goals as goal
 
 pub returns : goal.returns
 returns c mode p q us r s =
+    let same = sym (own_environment mode p us r.spelled) ∙ own_environment mode q us s.spelled in
     one_tree mode mode p q r.spelled.shape s.spelled.shape
-    (one_row_by_mode (environment mode p) (environment mode q) (tokens p) (tokens q) us refl refl r.spelled.row s.spelled.row)
+    (one_row (environment mode q) (tokens p) (tokens q) us (subst (λ e. TokenRow e (tokens p) us []) same r.spelled.row) s.spelled.row)
