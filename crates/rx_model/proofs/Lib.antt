@@ -12,8 +12,10 @@ pub mod Escapes
 pub mod Flat
 pub mod Fronts
 pub mod GroupNames
+pub mod GroupStretches
 pub mod Joins
 pub mod Known
+pub mod MarkRows
 pub mod OneLines
 pub mod OneRow
 pub mod OtherMarks
@@ -27,4 +29,5 @@ pub mod Runs
 pub mod Spellings
 pub mod Splits
 pub mod Stops
+pub mod Stretches
 pub mod TokenTexts
