@@ -14,6 +14,8 @@ pub mod Fronts
 pub mod GroupNames
 pub mod Joins
 pub mod Known
+pub mod ModifierTexts
+pub mod NameTexts
 pub mod OneLines
 pub mod OneRow
 pub mod OpenMarks
@@ -23,6 +25,7 @@ pub mod Quantifiers
 pub mod ReadBacks
 pub mod Runs
 pub mod Spellings
+pub mod SomeTexts
 pub mod Splits
 pub mod Stops
 pub mod TokenTexts
