@@ -84,14 +84,14 @@ not_question : (c : ℕ) → (is_syntax_character c || c == 47) ≡ false → is
 not_question c h = grind (arith, nat_tests)
 
 -- no character's text begins with a question mark
-character_no_question : (after_reference : Bool) (c : ℕ) (more : List ℕ) → front_is is_question (character_text Unicode (outside after_reference) c ++ more) ≡ false
+character_no_question : (c : ℕ) (more : List ℕ) → front_is is_question (character_text Unicode (outside false) c ++ more) ≡ false
 unfolding character_text two_digits four_digits braced
-character_no_question after_reference c more =
+character_no_question c more =
     let P : List ℕ → Type 0 = λ text. front_is is_question (text ++ more) ≡ false in
     cond_both (is_within 9 13 c) _ _ P (λ _. refl) (λ _. cond_both (nat_lt c 32 || is_within 127 159 c) _ _ P (λ _. refl)
     (λ _. cond_both (c == 0x2028 || c == 0x2029) _ _ P (λ _. refl) (λ _. cond_both (is_within 0xD800 0xDFFF c) _ _ P (λ _. refl)
     (λ _. cond_both (nat_lt 0x10FFFF c) _ _ P (λ _. refl) (λ _. cond_both (is_syntax_character c || c == 47) _ _ P (λ _. refl)
-    (λ raw. cond_both (after_reference && is_decimal_digit c) _ _ P (λ _. refl) (λ _. not_question c raw)))))))
+    (λ raw. not_question c raw))))))
 
 -- right behind a reference no character's text begins with a digit
 character_no_digit : (c : ℕ) (more : List ℕ) → front_is is_decimal_digit (character_text Unicode (outside true) c ++ more) ≡ false
@@ -181,21 +181,21 @@ no_zero n some low = first_no_zero (decimal n) (first_decimal n some (omega (ari
 
 module _ (e : Environment) (m : e.mode ≡ Unicode) (count : ℕ) (in_limit : count ≤ most_groups) (names : List (List ℕ)) where
   -- no question mark comes where no quantifier may follow
-  no_question : (after_reference : Bool) (ts : List Token) (open_groups : List Opener) (end : List Opener × Bool) → run Unicode ts open_groups false ≡ Some end → AreKnown e ts →
-      front_is is_question (tokens_text Unicode after_reference ts) ≡ false
-  no_question after_reference [] open_groups end r k = refl
-  no_question after_reference ((boundary kind) ∷ ts) open_groups end r k = boundary_outside is_question refl refl refl refl kind (tokens_text Unicode false ts)
-  no_question after_reference ((character kind value) ∷ ts) open_groups end r k = character_no_question after_reference value (tokens_text Unicode false ts)
-  no_question after_reference (dot ∷ ts) open_groups end r k = refl
-  no_question after_reference ((class_escape kind) ∷ ts) open_groups end r k = class_escape_outside is_question refl refl refl refl kind (tokens_text Unicode false ts)
-  no_question after_reference ((property negative strings name value) ∷ ts) open_groups end r k = absurd k.0
-  no_question after_reference ((class c) ∷ ts) open_groups end r k = absurd k.0
-  no_question after_reference ((indexed n) ∷ ts) open_groups end r k = refl
-  no_question after_reference ((named name) ∷ ts) open_groups end r k = refl
-  no_question after_reference ((opener o) ∷ ts) open_groups end r k = opened_outside is_question refl refl refl refl o (tokens_text Unicode false ts)
-  no_question after_reference (closer ∷ ts) open_groups end r k = refl
-  no_question after_reference (bar ∷ ts) open_groups end r k = refl
-  no_question after_reference ((quantifier min max greedy) ∷ ts) open_groups end r k = absurd (let f : ⊥ = cc r in f)
+  no_question : (ts : List Token) (open_groups : List Opener) (end : List Opener × Bool) → run Unicode ts open_groups false ≡ Some end → AreKnown e ts →
+      front_is is_question (tokens_text Unicode false ts) ≡ false
+  no_question [] open_groups end r k = refl
+  no_question ((boundary kind) ∷ ts) open_groups end r k = boundary_outside is_question refl refl refl refl kind (tokens_text Unicode false ts)
+  no_question ((character kind value) ∷ ts) open_groups end r k = character_no_question value (tokens_text Unicode false ts)
+  no_question (dot ∷ ts) open_groups end r k = refl
+  no_question ((class_escape kind) ∷ ts) open_groups end r k = class_escape_outside is_question refl refl refl refl kind (tokens_text Unicode false ts)
+  no_question ((property negative strings name value) ∷ ts) open_groups end r k = absurd k.0
+  no_question ((class c) ∷ ts) open_groups end r k = absurd k.0
+  no_question ((indexed n) ∷ ts) open_groups end r k = refl
+  no_question ((named name) ∷ ts) open_groups end r k = refl
+  no_question ((opener o) ∷ ts) open_groups end r k = opened_outside is_question refl refl refl refl o (tokens_text Unicode false ts)
+  no_question (closer ∷ ts) open_groups end r k = refl
+  no_question (bar ∷ ts) open_groups end r k = refl
+  no_question ((quantifier min max greedy) ∷ ts) open_groups end r k = absurd (let f : ⊥ = cc r in f)
 
   -- no digit comes right behind a reference
   no_digit : (ts : List Token) → AreKnown e ts → front_is is_decimal_digit (tokens_text Unicode true ts) ≡ false
@@ -234,7 +234,7 @@ module _ (e : Environment) (m : e.mode ≡ Unicode) (count : ℕ) (in_limit : co
     open_after = o ∷ open_groups;
     ready_after = false;
     run_after = r;
-    follows = follows_opener o (tokens_text Unicode false ts) (no_question false ts (o ∷ open_groups) end r k.1);
+    follows = follows_opener o (tokens_text Unicode false ts) (no_question ts (o ∷ open_groups) end r k.1);
   }
   next closer ts [] ready end r k = absurd (let f : ⊥ = cc r in f)
   next closer ts (o ∷ open_groups) ready end r k = record { open_after = open_groups; ready_after = group_takes Unicode o; run_after = r; follows = tt }
@@ -244,7 +244,7 @@ module _ (e : Environment) (m : e.mode ≡ Unicode) (count : ℕ) (in_limit : co
     open_after = open_groups;
     ready_after = false;
     run_after = r;
-    follows = no_question false ts open_groups end r k.1;
+    follows = no_question ts open_groups end r k.1;
   }
 
   -- the units of an opener's canonical text spell it again

@@ -1,5 +1,5 @@
 -- What is known of tokens that some units spell.
-use Rattle.std.proofs.Common.{◌≡◌, ◌≢◌, true, ℕ, Some, None, List, [], ◌∷◌}
+use Rattle.std.proofs.Common.{◌≡◌, ◌≢◌, true, Some, None, List, [], ◌∷◌}
 use Rattle.rx_units.specs.declared.code_point.CodePoint.{CodePoint}
 use Rattle.rx_units.specs.Units.{values}
 use Rattle.rx_model.specs.Boundaries.{has_boundary}

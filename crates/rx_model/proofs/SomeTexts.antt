@@ -1,5 +1,5 @@
 -- Texts that are not empty.
-use Rattle.std.proofs.Common.{◌≡◌, ◌≢◌, refl, ℕ, List, [], ◌∷◌, ◌++◌}
+use Rattle.std.proofs.Common.{◌≢◌, refl, ℕ, List, [], ◌∷◌, ◌++◌}
 
 pub some : (c : ℕ) (text : List ℕ) → c ∷ text ≢ []
 some c text e = cc
