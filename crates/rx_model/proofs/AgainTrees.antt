@@ -1,5 +1,5 @@
 -- The pattern whose mirror is the tree that the canonical text is read as: made of the pattern's own boxes.
-use Rattle.std.proofs.Common.{◌≡◌, ℕ, Bool, Option, refl, ap, sym, ◌∙◌, List, [], ◌∷◌, map}
+use Rattle.std.proofs.Common.{◌≡◌, ℕ, Bool, false, Option, refl, ap, sym, ◌∙◌, List, [], ◌∷◌, map}
 use Rattle.std.specs.declared.alloc.Global.{Global}
 use Rattle.std.specs.declared.boxed.Box.{Box}
 use Rattle.rx_base.specs.declared.span.Span.{Span}
@@ -19,6 +19,7 @@ use Rattle.rx_ast.specs.ClassTree.{mirror_class}
 use Rattle.rx_ast.specs.Tree as tree
 use Rattle.rx_ast.specs.Tree.{Leaf, Node, Nodes, Alternatives, leaf, quantified, group, no_node, node, no_alternative, alternative, nodes, alternatives, mirror_term, mirror_alternative, mirror_disjunction}
 use Rattle.rx_ast.proofs.Equations as equations
+use Rattle.rx_model.specs.Spelling.{refers}
 use Rattle.rx_model.proofs.Again.{again_character, again_leaf, again_node, again_nodes, again_alternatives}
 
 -- one level of a term
@@ -69,22 +70,22 @@ shape_out t = sym (shape_is (out-Term t)) ∙ ap mirror_term (roll-out-Term t)
 kept : (x : Layer) (n : Node) → shape x ≡ n → Made n
 kept x n e = (roll-Term x, shape_is x ∙ e)
 
-character_made : (x : Layer) (c : Character) → shape x ≡ leaf (tree.character c) → Made (leaf (tree.character (again_character c)))
-character_made (layer.Character b) c e =
+character_made : (r : Bool) (x : Layer) (c : Character) → shape x ≡ leaf (tree.character c) → Made (leaf (tree.character (again_character r c)))
+character_made r (layer.Character b) c e =
     let same : b.value ≡ c = cc e in
-    let box = record b { value = again_character b.value } in
-    (term.Character box, equations.character_is box ∙ ap (λ c. leaf (tree.character (again_character c))) same)
-character_made x c e = absurd (let f : ⊥ = cc e in f)
+    let box = record b { value = again_character r b.value } in
+    (term.Character box, equations.character_is box ∙ ap (λ c. leaf (tree.character (again_character r c))) same)
+character_made r x c e = absurd (let f : ⊥ = cc e in f)
 
-leaf_made : (x : Layer) (l : Leaf) → shape x ≡ leaf l → Made (leaf (again_leaf l))
-leaf_made x (tree.character c) e = character_made x c e
-leaf_made x (tree.boundary b) e = kept x (leaf (tree.boundary b)) e
-leaf_made x (tree.dot d) e = kept x (leaf (tree.dot d)) e
-leaf_made x (tree.class_escape k) e = kept x (leaf (tree.class_escape k)) e
-leaf_made x (tree.property p) e = kept x (leaf (tree.property p)) e
-leaf_made x (tree.class c) e = kept x (leaf (tree.class c)) e
-leaf_made x (tree.indexed r) e = kept x (leaf (tree.indexed r)) e
-leaf_made x (tree.named r) e = kept x (leaf (tree.named r)) e
+leaf_made : (r : Bool) (x : Layer) (l : Leaf) → shape x ≡ leaf l → Made (leaf (again_leaf r l))
+leaf_made r x (tree.character c) e = character_made r x c e
+leaf_made r x (tree.boundary b) e = kept x (leaf (tree.boundary b)) e
+leaf_made r x (tree.dot d) e = kept x (leaf (tree.dot d)) e
+leaf_made r x (tree.class_escape k) e = kept x (leaf (tree.class_escape k)) e
+leaf_made r x (tree.property p) e = kept x (leaf (tree.property p)) e
+leaf_made r x (tree.class c) e = kept x (leaf (tree.class c)) e
+leaf_made r x (tree.indexed i) e = kept x (leaf (tree.indexed i)) e
+leaf_made r x (tree.named n) e = kept x (leaf (tree.named n)) e
 
 -- a disjunction whose mirror is this, terms whose mirrors are these nodes, and alternatives
 abbrev MadeBody : Span → Alternatives → Type 0
@@ -172,23 +173,24 @@ its_terms : (a : Alternative) (s : Span) (ns : Nodes) (more rest : Alternatives)
 its_terms a s ns more rest e = sym (ap (λ it. it.1) (equations.alternative_is a)) ∙ (let f : (mirror_alternative a).1 ≡ ns = cc e in f)
 
 mutual
-  node_made : (n : Node) (t : Term) → mirror_term t ≡ n → Made (again_node n)
-  node_made (leaf l) t e = leaf_made (out-Term t) l (shape_out t ∙ e)
-  node_made (quantified s min max greedy n) t e = quantified_made s min max greedy n (again_node n) (λ t e. node_made n t e) (out-Term t) (shape_out t ∙ e)
-  node_made (group s o d more) t e = group_made s d o more (again_alternatives more) (λ parts e. alternatives_made more parts e) (out-Term t) (shape_out t ∙ e)
+  node_made : (r : Bool) (n : Node) (t : Term) → mirror_term t ≡ n → Made (again_node r n)
+  node_made r (leaf l) t e = leaf_made r (out-Term t) l (shape_out t ∙ e)
+  node_made r (quantified s min max greedy n) t e = quantified_made s min max greedy n (again_node r n) (λ t e. node_made r n t e) (out-Term t) (shape_out t ∙ e)
+  node_made r (group s o d more) t e = group_made s d o more (again_alternatives more) (λ parts e. alternatives_made more parts e) (out-Term t) (shape_out t ∙ e)
 
-  nodes_made : (ns : Nodes) (ts : List Term) → nodes (map mirror_term ts) ≡ ns → MadeTerms (again_nodes ns)
-  nodes_made no_node ts e = ([], refl)
-  nodes_made (node n ns) [] e = absurd (let f : ⊥ = cc e in f)
-  nodes_made (node n ns) (t ∷ ts) e =
-      term_made (again_node n) (again_nodes ns) (node_made n t (let f : mirror_term t ≡ n = cc e in f)) (nodes_made ns ts (let f : nodes (map mirror_term ts) ≡ ns = cc e in f))
+  nodes_made : (r : Bool) (ns : Nodes) (ts : List Term) → nodes (map mirror_term ts) ≡ ns → MadeTerms (again_nodes r ns)
+  nodes_made r no_node ts e = ([], refl)
+  nodes_made r (node n ns) [] e = absurd (let f : ⊥ = cc e in f)
+  nodes_made r (node n ns) (t ∷ ts) e =
+      term_made (again_node r n) (again_nodes (refers n) ns) (node_made r n t (let f : mirror_term t ≡ n = cc e in f))
+      (nodes_made (refers n) ns ts (let f : nodes (map mirror_term ts) ≡ ns = cc e in f))
 
   alternatives_made : (more : Alternatives) (parts : List Alternative) → alternatives (map mirror_alternative parts) ≡ more → MadeAlternatives (again_alternatives more)
   alternatives_made no_alternative parts e = ([], refl)
   alternatives_made (alternative s ns more) [] e = absurd (let f : ⊥ = cc e in f)
   alternatives_made (alternative s ns more) (a ∷ parts) e =
-      alternative_made s (again_nodes ns) (again_alternatives more)
-      (nodes_made ns a.body (its_terms a s ns more (alternatives (map mirror_alternative parts)) e))
+      alternative_made s (again_nodes false ns) (again_alternatives more)
+      (nodes_made false ns a.body (its_terms a s ns more (alternatives (map mirror_alternative parts)) e))
       (alternatives_made more parts (let f : alternatives (map mirror_alternative parts) ≡ more = cc e in f))
 
 -- a disjunction with the alternatives of another, read again

@@ -1,5 +1,5 @@
 -- The canonical text of known tokens is a row of them, but for the kinds of characters.
-use Rattle.std.proofs.Common.{◌≡◌, ◌≢◌, ℕ, suc, zero, ◌+◌, ◌*◌, ◌-◌, ◌/◌, ◌%◌, ◌<◌, ◌≤◌, Bool, true, false, not, ◌==◌, ◌||◌, nat_lt, cond, Some, None, option_and_then, List, [], ◌∷◌, ◌++◌, refl, sym, ap, ◌∙◌, subst, arith, inl, inr}
+use Rattle.std.proofs.Common.{◌≡◌, ◌≢◌, ℕ, suc, zero, ◌+◌, ◌*◌, ◌-◌, ◌/◌, ◌%◌, ◌<◌, ◌≤◌, Bool, true, false, not, ◌==◌, ◌&&◌, ◌||◌, nat_lt, cond, Some, None, option_and_then, List, [], ◌∷◌, ◌++◌, refl, sym, ap, ◌∙◌, subst, arith, inl, inr}
 use Rattle.std.specs.Char.{digit_value, len_utf8}
 use Rattle.std.specs.Int.{IsInRange}
 use Rattle.std.specs.Str.Parse.{AllDigits, digits_value_after}
@@ -25,6 +25,8 @@ use Rattle.rx_model.specs.Token.{character}
 use Rattle.rx_model.specs.UnicodeEscapes.{hex_behind, hex_number, SpellsUnicode, alone, BeginsWithTrail}
 use Rattle.rx_model.specs.UnicodeEscapes as in_escape
 use Rattle.rx_model.proofs.Choices.{choose_both}
+use Rattle.rx_model.proofs.Decodings.{both}
+use Rattle.rx_model.proofs.SomeTexts.{some_behind}
 
 pub values_literal : (at : ℕ) (text : List ℕ) → values (literal_units true at text) ≡ text
 values_literal at [] = refl
@@ -59,10 +61,6 @@ hex_read (suc k) n h =
     (λ small. hex_last n 0 [] refl (let s : n < 16 = grind (arith, nat_tests) in omega (arith, s)))
     (λ _. hex_last n (n / 16) (hex k (n / 16)) (hex_read k (n / 16) (omega (arith, h))) (omega arith))
 
-some_pushed : (xs : List ℕ) (c : ℕ) → xs ++ (c ∷ []) ≢ []
-some_pushed [] c e = cc
-some_pushed (x ∷ xs) c e = cc
-
 braced_from : (v : ℕ) (ds rest : List ℕ) → ds ≢ [] → hex_number ds ≡ Some v → v ≤ 0x10FFFF → SpellsUnicode true v (117 ∷ 123 ∷ (ds ++ (125 ∷ []))) rest
 braced_from v [] rest some h low = absurd (some refl)
 braced_from v (x ∷ xs) rest some h low = in_escape.braced x xs h low
@@ -91,19 +89,26 @@ four_read c h =
     (hex_push 0 [] 0 (c / 4096 % 16) refl (omega arith) ∙ ap Some (omega (arith, low))) (omega arith) ∙ ap Some (omega arith)) (omega arith) ∙ ap Some (omega arith)) (omega arith)
     ∙ ap Some (omega arith)
 
+-- `3` and a decimal digit are the hexadecimal digits of that digit's own value
+digit_read : (c : ℕ) → is_decimal_digit c ≡ true → hex_number (51 ∷ c ∷ []) ≡ Some c
+digit_read c h =
+    let low : 48 ≤ c = grind (arith, nat_tests) in
+    ap (option_and_then (λ d. hex_behind (48 + d) [])) (cond-true (is_decimal_digit c) (Some (c - 48)) _ h) ∙ ap Some (omega (arith, low))
+
 first_false : (a b : Bool) → (a || b) ≡ false → not a ≡ true
 first_false true b h = absurd (let k : ⊥ = cc h in k)
 first_false false b h = refl
 
--- the kind that the canonical spelling gives a character outside classes, by its value
-unfoldable pub spelled_kind : ℕ → CharacterKind
-spelled_kind c =
+-- the kind that the canonical spelling gives a character outside classes, by its value; the flag says whether an unquantified indexed reference stands right before
+unfoldable pub spelled_kind : Bool → ℕ → CharacterKind
+spelled_kind after_reference c =
     cond (is_within 9 13 c) kinds.SingleEscape
     (cond (nat_lt c 32 || is_within 127 159 c) kinds.HexadecimalEscape
     (cond (c == 0x2028 || c == 0x2029) kinds.UnicodeEscape
     (cond (is_within 0xD800 0xDFFF c) kinds.UnicodeEscape
     (cond (nat_lt 0x10FFFF c) kinds.UnicodeEscape
-    (cond (is_syntax_character c || c == 47) kinds.Identifier kinds.Symbol)))))
+    (cond (is_syntax_character c || c == 47) kinds.Identifier
+    (cond (after_reference && is_decimal_digit c) kinds.HexadecimalEscape kinds.Symbol))))))
 
 module _ (e : Environment) (m : e.mode ≡ Unicode) where
   -- The text spells a character of this kind before anything.
@@ -137,7 +142,7 @@ module _ (e : Environment) (m : e.mode ≡ Unicode) where
   unfolding braced
   braced_spelled c low =
       unicode_escape c (117 ∷ 123 ∷ (hex 8 c ++ (125 ∷ [])))
-      (λ rest. braced_from c (hex 8 c) rest (some_pushed (cond (nat_lt c 16) [] (hex 7 (c / 16))) (hex_digit (c % 16))) (hex_read 8 c (omega (arith, low))) low)
+      (λ rest. braced_from c (hex 8 c) rest (some_behind (cond (nat_lt c 16) [] (hex 7 (c / 16))) (hex_digit (c % 16)) []) (hex_read 8 c (omega (arith, low))) low)
 
   two_spelled : (c : ℕ) → c < 256 → SpellsCharacter c kinds.HexadecimalEscape (two_digits c)
   unfolding two_digits
@@ -149,9 +154,10 @@ module _ (e : Environment) (m : e.mode ≡ Unicode) where
       unicode_escape c (117 ∷ hex_digit (c / 4096 % 16) ∷ hex_digit (c / 256 % 16) ∷ hex_digit (c / 16 % 16) ∷ hex_digit (c % 16) ∷ [])
       (λ rest. alone (four_read c h) (λ lead _. not_lead c h lead))
 
-  pub character_spelled : (c : ℕ) → c ≤ 0x10FFFF → SpellsCharacter c (spelled_kind c) (character_text Unicode (outside false) c)
+  pub character_spelled : (after_reference : Bool) (c : ℕ) → c ≤ 0x10FFFF →
+      SpellsCharacter c (spelled_kind after_reference c) (character_text Unicode (outside after_reference) c)
   unfolding spelled_kind character_text
-  character_spelled c low =
+  character_spelled after_reference c low =
       let P : CharacterKind → List ℕ → Type 0 = SpellsCharacter c in
       choose_both P (is_within 9 13 c) _ _ _ _ (λ within. backslash c kinds.SingleEscape (control_letter c ∷ []) (λ rest. control (control_read c within)))
       (λ _. choose_both P (nat_lt c 32 || is_within 127 159 c) _ _ _ _ (λ small. two_spelled c (two_small c small))
@@ -159,7 +165,9 @@ module _ (e : Environment) (m : e.mode ≡ Unicode) where
       (λ _. choose_both P (is_within 0xD800 0xDFFF c) _ _ _ _ (λ _. braced_spelled c low)
       (λ _. choose_both P (nat_lt 0x10FFFF c) _ _ _ _ (λ _. braced_spelled c low)
       (λ _. choose_both P (is_syntax_character c || c == 47) _ _ _ _ (λ syntax. backslash c kinds.Identifier (c ∷ []) (λ rest. identity (ap is_unicode m) syntax))
-      (λ raw. raw_spelled c raw))))))
+      (λ raw. choose_both P (after_reference && is_decimal_digit c) _ _ _ _
+      (λ digit. backslash c kinds.HexadecimalEscape (120 ∷ 51 ∷ c ∷ []) (λ rest. hexadecimal (digit_read c (both after_reference (is_decimal_digit c) digit).1)))
+      (λ _. raw_spelled c raw)))))))
 
 digit_there : (c : ℕ) → digit_value c < 10 → decimal_digit_value c ≡ Some (digit_value c)
 digit_there c h =

@@ -1,11 +1,22 @@
 -- What is known of tokens that some units spell.
-use Rattle.std.proofs.Common.{◌≡◌, ◌≢◌, true, false, refl, List, [], ◌∷◌}
+use Rattle.std.proofs.Common.{◌≡◌, ◌≢◌, true, Some, None, List, [], ◌∷◌}
 use Rattle.rx_units.specs.declared.code_point.CodePoint.{CodePoint}
+use Rattle.rx_units.specs.Units.{values}
 use Rattle.rx_model.specs.Boundaries.{has_boundary}
-use Rattle.rx_model.specs.Environment.{Environment}
+use Rattle.rx_model.specs.Environment.{Environment, is_unicode}
+use Rattle.rx_model.specs.Groups.{SpellsOpener}
 use Rattle.rx_model.specs.Rows.{Spells, TokenRow}
-use Rattle.rx_model.specs.Token.{Token, boundary, character, dot, class_escape, property, class, indexed, named, opener, closer, bar, quantifier}
-use Rattle.rx_model.proofs.TokenTexts.{token_refers}
+use Rattle.rx_model.specs.Token.{Token, Opener, boundary, character, dot, class_escape, property, class, indexed, named, opener, closer, bar, quantifier, capturing, ignoring, looking}
+use Rattle.rx_model.proofs.ModifierTexts.{AreThreeBits, modifiers_known}
+use Rattle.rx_model.proofs.NameTexts.{IsName, name_known}
+
+-- What is known of an opener: its name is one, and its modifiers have three bits a side.
+abbrev pub IsKnownOpener : Opener → Type 0
+IsKnownOpener (capturing None) = Unit {0}
+IsKnownOpener (capturing (Some name)) = IsName name
+IsKnownOpener (ignoring None) = Unit {0}
+IsKnownOpener (ignoring (Some bits)) = AreThreeBits bits
+IsKnownOpener (looking kind) = Unit {0}
 
 -- The token is one that is read today in this environment.
 abbrev pub Known : Environment → Token → Type 0
@@ -15,16 +26,23 @@ Known e dot = Unit {0}
 Known e (class_escape kind) = Unit {0}
 Known e (property negative strings name value) = ⊥
 Known e (class c) = ⊥
-Known e (indexed n) = ⊥
-Known e (named name) = ⊥
-Known e (opener o) = ⊥
-Known e closer = ⊥
+Known e (indexed n) = Unit {0}
+Known e (named name) = IsName name × (e.named ≡ true)
+Known e (opener o) = IsKnownOpener o
+Known e closer = Unit {0}
 Known e bar = Unit {0}
 Known e (quantifier min max greedy) = Unit {0}
 
 abbrev pub AreKnown : Environment → List Token → Type 0
 AreKnown e [] = Unit {0}
 AreKnown e (t ∷ ts) = Known e t × AreKnown e ts
+
+opener_known : (e : Environment) (o : Opener) (w rest : List CodePoint) → SpellsOpener e o w rest → IsKnownOpener o
+opener_known e (capturing None) w rest s = tt
+opener_known e (capturing (Some name)) w rest s = name_known (is_unicode e.mode) name s.spelled (62 ∷ values rest) s.spells
+opener_known e (ignoring None) w rest s = tt
+opener_known e (ignoring (Some bits)) w rest s = modifiers_known bits.0 bits.1 s.text s.spelled
+opener_known e (looking kind) w rest s = tt
 
 known : (e : Environment) (t : Token) (w rest : List CodePoint) → Spells e t w rest → Known e t
 known e (boundary kind) w rest s = s.there
@@ -33,31 +51,16 @@ known e dot w rest s = tt
 known e (class_escape kind) w rest s = tt
 known e (property negative strings name value) w rest s = s
 known e (class c) w rest s = s
-known e (indexed n) w rest s = s
-known e (named name) w rest s = s
-known e (opener o) w rest s = s
-known e closer w rest s = s
+known e (indexed n) w rest s = tt
+known e (named name) w rest s = (name_known (is_unicode e.mode) name s.spelled (62 ∷ values rest) s.spells, s.there)
+known e (opener o) w rest s = opener_known e o w rest s
+known e closer w rest s = tt
 known e bar w rest s = tt
 known e (quantifier min max greedy) w rest s = tt
 
 pub are_known : (e : Environment) (ts : List Token) (us rest : List CodePoint) → TokenRow e ts us rest → AreKnown e ts
 are_known e [] us rest r = tt
 are_known e (t ∷ ts) us rest r = (known e t r.0 r.1 r.3, are_known e ts r.1 rest r.4)
-
--- no reference is read yet
-pub no_reference : (e : Environment) (t : Token) → Known e t → token_refers t ≡ false
-no_reference e (boundary kind) k = refl
-no_reference e (character kind value) k = refl
-no_reference e dot k = refl
-no_reference e (class_escape kind) k = refl
-no_reference e (property negative strings name value) k = refl
-no_reference e (class c) k = refl
-no_reference e (indexed n) k = absurd k
-no_reference e (named name) k = refl
-no_reference e (opener o) k = refl
-no_reference e closer k = refl
-no_reference e bar k = refl
-no_reference e (quantifier min max greedy) k = refl
 
 -- the pattern of some units has tokens
 pub has_tokens : (e : Environment) (ts : List Token) (us : List CodePoint) → TokenRow e ts us [] → us ≢ [] → ts ≢ []

@@ -14,25 +14,32 @@ use Rattle.rx_ast.specs.declared.leaf.BoundaryAssertionKind.{BoundaryAssertionKi
 use Rattle.rx_ast.specs.declared.leaf.BoundaryAssertionKind.TheVariants as boundaries
 use Rattle.rx_ast.specs.declared.leaf.CharacterClassEscapeKind.{CharacterClassEscapeKind}
 use Rattle.rx_ast.specs.declared.leaf.CharacterClassEscapeKind.TheVariants.{D, NegativeD, S, NegativeS, W, NegativeW}
+use Rattle.rx_ast.specs.declared.leaf.LookAroundAssertionKind.{LookAroundAssertionKind}
+use Rattle.rx_ast.specs.declared.leaf.LookAroundAssertionKind.TheVariants as look
 use Rattle.rx_ast.specs.declared.term.Pattern.{Pattern}
 use Rattle.rx_ast.specs.Forget.{bare}
-use Rattle.rx_tables.specs.Characters.{is_within, is_syntax_character, hex_digit}
+use Rattle.rx_tables.specs.Characters.{is_within, is_decimal_digit, is_syntax_character, hex_digit}
+use Rattle.rx_tables.proofs.Separators.{line_separator_starts_none, line_separator_in_none, paragraph_separator_starts_none, paragraph_separator_in_none}
 use Rattle.rx_units.specs.declared.code_point.CodePoint.{CodePoint}
 use Rattle.rx_model.specs.declared.mode.Mode.TheVariants.{Unicode}
 use Rattle.rx_model.specs.Boundaries.{boundary_text}
 use Rattle.rx_model.specs.CharacterText.{control_letter, two_digits, four_digits, hex, braced, outside, character_text}
 use Rattle.rx_model.specs.ClassText.{class_escape_text}
-use Rattle.rx_model.specs.Early.{Obeys, greatest_count, IsGreatest}
+use Rattle.rx_model.specs.Early.{Obeys, greatest_count, most_groups, IsGreatest}
 use Rattle.rx_model.specs.Environment.{Environment, environment}
 use Rattle.rx_model.specs.Events.{tokens}
 use Rattle.rx_model.specs.Names.{groups, names}
 use Rattle.rx_model.specs.OneLine.{ends_column, IsOneLine}
 use Rattle.rx_model.specs.Reading.{Reads}
-use Rattle.rx_model.specs.Spelling.{counts_text, lazy_text, quantifier_text, spelling}
-use Rattle.rx_model.specs.Token.{Token, boundary, character, dot, class_escape, property, class, indexed, named, opener, closer, bar, quantifier}
-use Rattle.rx_model.proofs.TokenTexts.{token_text, token_refers, tokens_text, spelled_by_tokens}
+use Rattle.rx_model.specs.GroupNames.{is_in_name}
+use Rattle.rx_model.specs.Spelling.{letters, dash, look_text, counts_text, lazy_text, quantifier_text, spelling}
+use Rattle.rx_model.specs.Token.{Token, Opener, boundary, character, dot, class_escape, property, class, indexed, named, opener, closer, bar, quantifier, capturing, ignoring, looking}
+use Rattle.rx_model.proofs.TokenTexts.{opened_text, token_text, token_refers, tokens_text, spelled_by_tokens}
 use Rattle.rx_model.proofs.Decodings.{both}
-use Rattle.rx_model.proofs.Known.{Known, AreKnown, are_known, no_reference, has_tokens}
+use Rattle.rx_model.proofs.GroupNames.{differs}
+use Rattle.rx_model.proofs.Known.{IsKnownOpener, Known, AreKnown, are_known, has_tokens}
+use Rattle.rx_model.proofs.NameTexts.{IsName}
+use Rattle.rx_model.proofs.SomeTexts.{some, some-append}
 
 abbrev stays : ℕ → Bool
 stays c = not (ends_column c)
@@ -83,16 +90,17 @@ syntax_stays c h = grind (arith, nat_tests)
 raw_stays : (c : ℕ) → is_within 9 13 c ≡ false → (c == 0x2028 || c == 0x2029) ≡ false → stays c ≡ true
 raw_stays c h k = grind (arith, nat_tests)
 
-pub character_stays : (c : ℕ) → Stays (character_text Unicode (outside false) c)
+pub character_stays : (after_reference : Bool) (c : ℕ) → Stays (character_text Unicode (outside after_reference) c)
 unfolding character_text
-character_stays c =
+character_stays after_reference c =
     cond_both (is_within 9 13 c) _ _ Stays (λ _. stays_cons (control_letter c) [] (letter_stays c) refl)
     (λ within. cond_both (nat_lt c 32 || is_within 127 159 c) _ _ Stays (λ _. two_stays c)
     (λ _. cond_both (c == 0x2028 || c == 0x2029) _ _ Stays (λ _. four_stays c)
     (λ separators. cond_both (is_within 0xD800 0xDFFF c) _ _ Stays (λ _. braced_stays c)
     (λ _. cond_both (nat_lt 0x10FFFF c) _ _ Stays (λ _. braced_stays c)
     (λ _. cond_both (is_syntax_character c || c == 47) _ _ Stays (λ syntax. stays_cons c [] (syntax_stays c syntax) refl)
-    (λ _. stays_cons c [] (raw_stays c within separators) refl))))))
+    (λ _. let stays : stays c ≡ true = raw_stays c within separators in
+    cond_both (after_reference && is_decimal_digit c) _ _ Stays (λ _. stays_cons c [] stays refl) (λ _. stays_cons c [] stays refl)))))))
 
 decimal_digit_stays : (c : ℕ) → digit_value c < 10 → stays c ≡ true
 decimal_digit_stays c h = let r = digit_from_value c h in grind (arith, nat_tests, r)
@@ -138,20 +146,14 @@ class_escape_stays NegativeS = refl
 class_escape_stays W = refl
 class_escape_stays NegativeW = refl
 
-some : (c : ℕ) (text : List ℕ) → c ∷ text ≢ []
-some c text e = cc
-
-some-append : (u v : List ℕ) → u ≢ [] → u ++ v ≢ []
-some-append [] v h = absurd (h refl)
-some-append (c ∷ u) v h = some c (u ++ v)
-
-some_character : (c : ℕ) → character_text Unicode (outside false) c ≢ []
+some_character : (after_reference : Bool) (c : ℕ) → character_text Unicode (outside after_reference) c ≢ []
 unfolding character_text two_digits four_digits braced
-some_character c =
+some_character after_reference c =
     let P : List ℕ → Type 0 = λ text. text ≢ [] in
     cond_both (is_within 9 13 c) _ _ P (λ _. some 92 _) (λ _. cond_both (nat_lt c 32 || is_within 127 159 c) _ _ P (λ _. some 92 _)
     (λ _. cond_both (c == 0x2028 || c == 0x2029) _ _ P (λ _. some 92 _) (λ _. cond_both (is_within 0xD800 0xDFFF c) _ _ P (λ _. some 92 _)
-    (λ _. cond_both (nat_lt 0x10FFFF c) _ _ P (λ _. some 92 _) (λ _. cond_both (is_syntax_character c || c == 47) _ _ P (λ _. some 92 _) (λ _. some c []))))))
+    (λ _. cond_both (nat_lt 0x10FFFF c) _ _ P (λ _. some 92 _) (λ _. cond_both (is_syntax_character c || c == 47) _ _ P (λ _. some 92 _)
+    (λ _. cond_both (after_reference && is_decimal_digit c) _ _ P (λ _. some 92 _) (λ _. some c [])))))))
 
 some_counts : (min : ℕ) (max : Option ℕ) → counts_text min max ≢ []
 some_counts min None =
@@ -182,45 +184,101 @@ no_end : (b : Bool) → not b ≡ true → b ≡ false
 no_end true h = absurd (let k : ⊥ = cc h in k)
 no_end false h = refl
 
-module _ (e : Environment) (count : ℕ) (names : List (List ℕ)) where
-  token_stays : (t : Token) → Known e t → Obeys count names t → Stays (token_text Unicode false t)
-  token_stays (boundary kind) k h = boundary_stays kind
-  token_stays (character kind value) k h = character_stays value
-  token_stays dot k h = refl
-  token_stays (class_escape kind) k h = class_escape_stays kind
-  token_stays (property negative strings name value) k h = absurd k
-  token_stays (class c) k h = absurd k
-  token_stays (indexed n) k h = absurd k
-  token_stays (named name) k h = absurd k
-  token_stays (opener o) k h = absurd k
-  token_stays closer k h = absurd k
-  token_stays bar k h = refl
-  token_stays (quantifier min max greedy) k h = quantifier_stays min max greedy h.0 h.1
+look_stays : (kind : LookAroundAssertionKind) → Stays (look_text kind)
+look_stays look.Lookahead = refl
+look_stays look.NegativeLookahead = refl
+look_stays look.Lookbehind = refl
+look_stays look.NegativeLookbehind = refl
 
-  tokens_stay : (ts : List Token) → AreKnown e ts → All (Obeys count names) ts → Stays (tokens_text Unicode false ts)
-  tokens_stay [] k h = refl
-  tokens_stay (t ∷ ts) k h =
-      rw (no_reference e t k.0)
-      (stays-append (token_text Unicode false t) (tokens_text Unicode false ts)
-      (token_stays t k.0 (All-head (Obeys count names) t ts h)) (tokens_stay ts k.1 (All-tail (Obeys count names) t ts h)))
+-- what no set holds that ends a column stays
+stays_in : (set : ℕ → Bool) (c : ℕ) → set 9 ≡ false → set 10 ≡ false → set 13 ≡ false → set 0x2028 ≡ false → set 0x2029 ≡ false → set c ≡ true → stays c ≡ true
+stays_in set c tab feed return line paragraph h =
+    rw (differs set c 9 tab h, differs set c 10 feed h, differs set c 13 return h, differs set c 0x2028 line h, differs set c 0x2029 paragraph h) refl
 
-  some_token : (t : Token) → Known e t → token_text Unicode false t ≢ []
-  some_token (boundary kind) k = some_boundary kind
-  some_token (character kind value) k = some_character value
-  some_token dot k = some 46 []
-  some_token (class_escape kind) k = some_class_escape kind
-  some_token (property negative strings name value) k = absurd k
-  some_token (class c) k = absurd k
-  some_token (indexed n) k = absurd k
-  some_token (named name) k = absurd k
-  some_token (opener o) k = absurd k
-  some_token closer k = absurd k
-  some_token bar k = some 124 []
-  some_token (quantifier min max greedy) k = some-append (counts_text min max) (lazy_text greedy) (some_counts min max)
+in_name_stays : (first : Bool) (c : ℕ) → is_in_name first c ≡ true → stays c ≡ true
+in_name_stays true c h = stays_in (is_in_name true) c refl refl refl line_separator_starts_none paragraph_separator_starts_none h
+in_name_stays false c h = stays_in (is_in_name false) c refl refl refl line_separator_in_none paragraph_separator_in_none h
 
-  pub some_tokens : (ts : List Token) → AreKnown e ts → ts ≢ [] → tokens_text Unicode false ts ≢ []
-  some_tokens [] k h = absurd (h refl)
-  some_tokens (t ∷ ts) k h = some-append (token_text Unicode false t) (tokens_text Unicode (token_refers t) ts) (some_token t k.0)
+parts_stay : (cs : List ℕ) → list_all (is_in_name false) cs ≡ true → Stays cs
+parts_stay [] h = refl
+parts_stay (c ∷ cs) h = let p = both (is_in_name false c) (list_all (is_in_name false) cs) h in stays_cons c cs (in_name_stays false c p.0) (parts_stay cs p.1)
+
+name_stays : (name : List ℕ) → IsName name → Stays name
+name_stays [] h = absurd h
+name_stays (c ∷ cs) h = stays_cons c cs (in_name_stays true c h.0) (parts_stay cs h.1)
+
+letters_stay : (bits : ℕ) → Stays (letters bits)
+unfolding letters
+letters_stay bits =
+    let n = bits % 8 in
+    cond_both (n == 0) _ _ Stays (λ _. refl) (λ _. cond_both (n == 1) _ _ Stays (λ _. refl) (λ _. cond_both (n == 2) _ _ Stays (λ _. refl)
+    (λ _. cond_both (n == 3) _ _ Stays (λ _. refl) (λ _. cond_both (n == 4) _ _ Stays (λ _. refl) (λ _. cond_both (n == 5) _ _ Stays (λ _. refl)
+    (λ _. cond_both (n == 6) _ _ Stays (λ _. refl) (λ _. refl)))))))
+
+dash_stays : (bits : ℕ) → Stays (dash bits)
+dash_stays bits = cond_both (bits % 8 == 0) _ _ Stays (λ _. refl) (λ _. refl)
+
+opened_stays : (o : Opener) → IsKnownOpener o → Stays (opened_text o)
+opened_stays (capturing None) k = refl
+opened_stays (capturing (Some name)) k = stays-append name (62 ∷ []) (name_stays name k) refl
+opened_stays (ignoring None) k = refl
+opened_stays (ignoring (Some bits)) k =
+    stays-append (letters bits.0 ++ (dash bits.1 ++ letters bits.1)) (58 ∷ [])
+    (stays-append (letters bits.0) (dash bits.1 ++ letters bits.1) (letters_stay bits.0) (stays-append (dash bits.1) (letters bits.1) (dash_stays bits.1) (letters_stay bits.1))) refl
+opened_stays (looking kind) k = look_stays kind
+
+some_look : (kind : LookAroundAssertionKind) → look_text kind ≢ []
+some_look look.Lookahead = some 40 _
+some_look look.NegativeLookahead = some 40 _
+some_look look.Lookbehind = some 40 _
+some_look look.NegativeLookbehind = some 40 _
+
+some_opened : (o : Opener) → opened_text o ≢ []
+some_opened (capturing None) = some 40 _
+some_opened (capturing (Some name)) = some 40 _
+some_opened (ignoring None) = some 40 _
+some_opened (ignoring (Some bits)) = some 40 _
+some_opened (looking kind) = some_look kind
+
+module _ (e : Environment) (count : ℕ) (in_limit : count ≤ most_groups) (names : List (List ℕ)) where
+  token_stays : (after_reference : Bool) (t : Token) → Known e t → Obeys count names t → Stays (token_text Unicode after_reference t)
+  token_stays after_reference (boundary kind) k h = boundary_stays kind
+  token_stays after_reference (character kind value) k h = character_stays after_reference value
+  token_stays after_reference dot k h = refl
+  token_stays after_reference (class_escape kind) k h = class_escape_stays kind
+  token_stays after_reference (property negative strings name value) k h = absurd k
+  token_stays after_reference (class c) k h = absurd k
+  token_stays after_reference (indexed n) k h = decimal_stays n (omega (arith, h.1, in_limit))
+  token_stays after_reference (named name) k h = stays-append name (62 ∷ []) (name_stays name k.0) refl
+  token_stays after_reference (opener o) k h = opened_stays o k
+  token_stays after_reference closer k h = refl
+  token_stays after_reference bar k h = refl
+  token_stays after_reference (quantifier min max greedy) k h = quantifier_stays min max greedy h.0 h.1
+
+  tokens_stay : (after_reference : Bool) (ts : List Token) → AreKnown e ts → All (Obeys count names) ts → Stays (tokens_text Unicode after_reference ts)
+  tokens_stay after_reference [] k h = refl
+  tokens_stay after_reference (t ∷ ts) k h =
+      stays-append (token_text Unicode after_reference t) (tokens_text Unicode (token_refers t) ts)
+      (token_stays after_reference t k.0 (All-head (Obeys count names) t ts h)) (tokens_stay (token_refers t) ts k.1 (All-tail (Obeys count names) t ts h))
+
+module _ (e : Environment) where
+  some_token : (after_reference : Bool) (t : Token) → Known e t → token_text Unicode after_reference t ≢ []
+  some_token after_reference (boundary kind) k = some_boundary kind
+  some_token after_reference (character kind value) k = some_character after_reference value
+  some_token after_reference dot k = some 46 []
+  some_token after_reference (class_escape kind) k = some_class_escape kind
+  some_token after_reference (property negative strings name value) k = absurd k
+  some_token after_reference (class c) k = absurd k
+  some_token after_reference (indexed n) k = some 92 _
+  some_token after_reference (named name) k = some 92 _
+  some_token after_reference (opener o) k = some_opened o
+  some_token after_reference closer k = some 41 []
+  some_token after_reference bar k = some 124 []
+  some_token after_reference (quantifier min max greedy) k = some-append (counts_text min max) (lazy_text greedy) (some_counts min max)
+
+  pub some_tokens : (after_reference : Bool) (ts : List Token) → AreKnown e ts → ts ≢ [] → tokens_text Unicode after_reference ts ≢ []
+  some_tokens after_reference [] k h = absurd (h refl)
+  some_tokens after_reference (t ∷ ts) k h = some-append (token_text Unicode after_reference t) (tokens_text Unicode (token_refers t) ts) (some_token after_reference t k.0)
 
 -- each by itself
 all_stay : (text : List ℕ) → Stays text → All (λ c. ends_column c ≡ false) text
@@ -232,6 +290,6 @@ spelled_in_one_line p us r h =
     let e = environment Unicode p in
     let k = are_known e (tokens p) us [] r.spelled.row in
     subst IsOneLine (sym (spelled_by_tokens Unicode p)) (record {
-      some = some_tokens e (groups p) (names p) (tokens p) k (has_tokens e (tokens p) us r.spelled.row h);
-      stays = all_stay (tokens_text Unicode false (tokens p)) (tokens_stay e (groups p) (names p) (tokens p) k r.early.tokens_obey);
+      some = some_tokens e false (tokens p) k (has_tokens e (tokens p) us r.spelled.row h);
+      stays = all_stay (tokens_text Unicode false (tokens p)) (tokens_stay e (groups p) r.early.in_limit (names p) false (tokens p) k r.early.tokens_obey);
     })

@@ -1,7 +1,7 @@
 -- The canonical spelling of a pattern is read back.
-use Rattle.std.proofs.Common.{◌≡◌, ◌≢◌, ℕ, ◌≤◌, true, false, refl, ap, sym, ◌∙◌, subst, List, [], ◌∷◌, map}
+use Rattle.std.proofs.Common.{◌≡◌, ◌≢◌, ℕ, ◌≤◌, Bool, true, false, refl, ap, sym, ◌∙◌, subst, List, [], ◌∷◌}
 use Rattle.std.specs.List.{All}
-use Rattle.std.proofs.lemmas.List.Elements.{All-map, All-weaker}
+use Rattle.std.proofs.lemmas.List.Elements.{All-nil, All-cons, All-head, All-tail}
 use Rattle.rx_ast.specs.declared.term.Pattern.{Pattern}
 use Rattle.rx_ast.specs.Forget.{forget_alternatives, no_kind, bare}
 use Rattle.rx_ast.specs.Tree.{mirror_disjunction}
@@ -9,7 +9,7 @@ use Rattle.rx_units.specs.declared.code_point.CodePoint.{CodePoint}
 use Rattle.rx_units.specs.Units.{literal_units}
 use Rattle.rx_model.specs.declared.mode.Mode.TheVariants.{Unicode}
 use Rattle.rx_model.specs.Early.{Obeys, IsEarly, most_groups}
-use Rattle.rx_model.specs.Environment.{environment}
+use Rattle.rx_model.specs.Environment.{environment, environment_with, has_some}
 use Rattle.rx_model.specs.Events.{tokens, alternatives_events}
 use Rattle.rx_model.specs.Names.{groups, names, alternatives_groups, alternatives_names, once_behind, AreAlternativesApart}
 use Rattle.rx_model.specs.ReadBack.{IsReadBack}
@@ -20,13 +20,12 @@ use Rattle.rx_model.specs.Spelling.{spelling}
 use Rattle.rx_model.specs.Token.{Token, boundary, character, dot, class_escape, property, class, indexed, named, opener, closer, bar, quantifier}
 use Rattle.rx_model.proofs.Again.{again_alternatives, bare_alternatives, alternatives_again, made_alternatives, same_groups, same_names, apart_alternatives}
 use Rattle.rx_model.proofs.AgainTrees.{disjunction_made}
-use Rattle.rx_model.proofs.BackRows.{again_token, tokens_again}
+use Rattle.rx_model.proofs.BackRows.{again_token, again_tokens, tokens_again}
 use Rattle.rx_model.proofs.Flat.{before, tokens_are}
 use Rattle.rx_model.proofs.Known.{are_known, has_tokens}
 use Rattle.rx_model.proofs.OneLines.{some_tokens}
-use Rattle.rx_model.proofs.OneRow.{TokenRow-mode}
 use Rattle.rx_model.proofs.Runs.{pattern_runs}
-use Rattle.rx_model.proofs.TokenTexts.{tokens_text, spelled_by_tokens}
+use Rattle.rx_model.proofs.TokenTexts.{token_refers, tokens_text, spelled_by_tokens}
 
 -- a text that is not empty is the text of a literal
 literal_text_same : (text : List ℕ) → text ≢ [] → literal_text text ≡ text
@@ -34,19 +33,26 @@ literal_text_same [] h = absurd (h refl)
 literal_text_same (c ∷ text) h = refl
 
 -- a token obeys whatever its kind
-obeys_again : (count : ℕ) (names : List (List ℕ)) (t : Token) → Obeys count names t → Obeys count names (again_token t)
-obeys_again count names (boundary kind) h = h
-obeys_again count names (character kind value) h = h
-obeys_again count names dot h = h
-obeys_again count names (class_escape kind) h = h
-obeys_again count names (property negative strings name value) h = h
-obeys_again count names (class c) h = h
-obeys_again count names (indexed n) h = h
-obeys_again count names (named name) h = h
-obeys_again count names (opener o) h = h
-obeys_again count names closer h = h
-obeys_again count names bar h = h
-obeys_again count names (quantifier min max greedy) h = h
+module _ (count : ℕ) (names : List (List ℕ)) where
+  token_obeys : (r : Bool) (t : Token) → Obeys count names t → Obeys count names (again_token r t)
+  token_obeys r (boundary kind) h = h
+  token_obeys r (character kind value) h = h
+  token_obeys r dot h = h
+  token_obeys r (class_escape kind) h = h
+  token_obeys r (property negative strings name value) h = h
+  token_obeys r (class c) h = h
+  token_obeys r (indexed n) h = h
+  token_obeys r (named name) h = h
+  token_obeys r (opener o) h = h
+  token_obeys r closer h = h
+  token_obeys r bar h = h
+  token_obeys r (quantifier min max greedy) h = h
+
+  tokens_obey : (r : Bool) (ts : List Token) → All (Obeys count names) ts → All (Obeys count names) (again_tokens r ts)
+  tokens_obey r [] h = All-nil (Obeys count names)
+  tokens_obey r (t ∷ ts) h =
+      All-cons (Obeys count names) (again_token r t) (again_tokens (token_refers t) ts) (token_obeys r t (All-head (Obeys count names) t ts h))
+      (tokens_obey (token_refers t) ts (All-tail (Obeys count names) t ts h))
 
 module _ (p : Pattern) where
   again : Pattern
@@ -59,10 +65,10 @@ module _ (p : Pattern) where
   its_bare : bare again ≡ bare p
   its_bare = ap (forget_alternatives no_kind) its_tree ∙ bare_alternatives (mirror_disjunction p.body).1
 
-  its_tokens : tokens again ≡ map again_token (tokens p)
+  its_tokens : tokens again ≡ again_tokens false (tokens p)
   its_tokens =
       tokens_are again ∙ ap (λ more. before (alternatives_events more) []) its_tree
-      ∙ alternatives_again (mirror_disjunction p.body).1 [] ∙ sym (ap (map again_token) (tokens_are p))
+      ∙ (alternatives_again (mirror_disjunction p.body).1).1 [] ∙ sym (ap (again_tokens false) (tokens_are p))
 
   its_groups : groups again ≡ groups p
   its_groups = ap (λ more. alternatives_groups more) its_tree ∙ same_groups (mirror_disjunction p.body).1
@@ -70,14 +76,17 @@ module _ (p : Pattern) where
   its_names : names again ≡ names p
   its_names = ap (λ more. once_behind [] (alternatives_names more)) its_tree ∙ ap (once_behind []) (same_names (mirror_disjunction p.body).1)
 
+  its_environment : environment Unicode again ≡ environment Unicode p
+  its_environment =
+      ap (λ k. environment_with Unicode k (has_some (names again))) its_groups ∙ ap (λ ns. environment_with Unicode (groups p) (has_some ns)) its_names
+
   its_early : IsEarly p → IsEarly again
   its_early h = record {
     tokens_obey =
         subst (λ ts. All (Obeys (groups again) (names again)) ts) (sym its_tokens)
-        (subst (λ k. All (Obeys k (names again)) (map again_token (tokens p))) (sym its_groups)
-        (subst (λ ns. All (Obeys (groups p) ns) (map again_token (tokens p))) (sym its_names)
-        (All-map (Obeys (groups p) (names p)) again_token (tokens p)
-        (All-weaker (Obeys (groups p) (names p)) (λ t. Obeys (groups p) (names p) (again_token t)) (obeys_again (groups p) (names p)) (tokens p) h.tokens_obey))));
+        (subst (λ k. All (Obeys k (names again)) (again_tokens false (tokens p))) (sym its_groups)
+        (subst (λ ns. All (Obeys (groups p) ns) (again_tokens false (tokens p))) (sym its_names)
+        (tokens_obey (groups p) (names p) false (tokens p) h.tokens_obey)));
     apart = subst AreAlternativesApart (sym its_tree) (apart_alternatives (mirror_disjunction p.body).1 h.apart);
     in_limit = subst (λ k. k ≤ most_groups) (sym its_groups) h.in_limit;
   }
@@ -90,14 +99,14 @@ module _ (p : Pattern) where
       let e = environment Unicode p in
       let text = tokens_text Unicode false (tokens p) in
       let end = pattern_runs Unicode p r.spelled.shape in
-      TokenRow-mode e (environment Unicode again) (tokens again) (literal_units true 0 text) [] refl refl
+      subst (λ d. TokenRow d (tokens again) (literal_units true 0 text) []) (sym its_environment)
       (subst (λ ts. TokenRow e ts (literal_units true 0 text) []) (sym its_tokens)
-      (tokens_again e refl (groups p) (names p) (tokens p) [] false ([], end.0) end.1 (are_known e (tokens p) us [] r.spelled.row) r.early.tokens_obey 0))
+      (tokens_again e refl (groups p) r.early.in_limit (names p) false (tokens p) [] false ([], end.0) end.1 (are_known e (tokens p) us [] r.spelled.row) r.early.tokens_obey 0))
 
 pub spelled_is_read_back : (p : Pattern) (us : List CodePoint) → Reads Unicode p us → us ≢ [] → IsReadBack Unicode p
 spelled_is_read_back p us r h =
     let e = environment Unicode p in
-    let some = some_tokens e (groups p) (names p) (tokens p) (are_known e (tokens p) us [] r.spelled.row) (has_tokens e (tokens p) us r.spelled.row h) in
+    let some = some_tokens e false (tokens p) (are_known e (tokens p) us [] r.spelled.row) (has_tokens e (tokens p) us r.spelled.row h) in
     let units : literal_units true 0 (tokens_text Unicode false (tokens p)) ≡ units_of Unicode (spelling (bare p) Unicode) =
     ap (literal_units true 0) (sym (literal_text_same (tokens_text Unicode false (tokens p)) some)) ∙ ap (units_of Unicode) (sym (spelled_by_tokens Unicode p)) in
     record {

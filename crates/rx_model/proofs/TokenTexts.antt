@@ -16,7 +16,8 @@ use Rattle.rx_model.specs.Token.{Token, Opener, boundary, character, dot, class_
 use Rattle.rx_model.proofs.Flat.{before, before-append, before_leaf, before_quantified, before_group, before_alternative, tokens_are}
 use Rattle.rx_model.proofs.Spellings.{letters_forget, dash_forget, class_text_forget, spelling_bare}
 
-abbrev opened_text : Opener → List ℕ
+-- the text of an opener
+abbrev pub opened_text : Opener → List ℕ
 opened_text (capturing None) = codes "("
 opened_text (capturing (Some name)) = codes "(?<" ++ (name ++ codes ">")
 opened_text (ignoring None) = codes "(?:"
