@@ -11,7 +11,7 @@ use Rattle.rx_model.specs.UnicodeEscapes.{SpellsUnicode, alone, pair, braced}
 use Rattle.rx_model.proofs.Decodings.{chosen, both, spelled_read, read_spelled}
 
 -- what one set of characters holds is none of what it does not
-differs : (set : ℕ → Bool) (c d : ℕ) → set d ≡ false → set c ≡ true → (c == d) ≡ false
+pub differs : (set : ℕ → Bool) (c d : ℕ) → set d ≡ false → set c ≡ true → (c == d) ≡ false
 differs set c d without within = false_from_ne_true (c == d) (λ e. let same : c ≡ d = eqb-true c d e in let no : ⊥ = cc (ap set same, without, within) in no)
 
 no_backslash : (first : Bool) (c : ℕ) → is_in_name first c ≡ true → (c == 92) ≡ false

@@ -11,9 +11,11 @@ pub mod Decodings
 pub mod Escapes
 pub mod Flat
 pub mod Fronts
+pub mod GroupFronts
 pub mod GroupNames
 pub mod Joins
 pub mod Known
+pub mod Modifiers
 pub mod OneLines
 pub mod OneRow
 pub mod OpenMarks
