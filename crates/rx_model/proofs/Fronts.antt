@@ -23,7 +23,7 @@ use Rattle.rx_model.specs.Quantifiers.{SpellsCounts, SpellsBraces, star, plus, o
 use Rattle.rx_model.specs.Rows.{unit_kind, stands_raw, IsRaw, IsEscaped, IsBoundary, Spells}
 use Rattle.rx_model.specs.Token.{Token, Opener, boundary, character, dot, class_escape, property, class, indexed, named, opener, closer, bar, quantifier}
 use Rattle.rx_model.proofs.Backslashes.{escape_token, boundary_found, class_found, buffer_token, class_token, indexed_front, indexed_spelled}
-use Rattle.rx_model.proofs.Decodings.{chosen, both}
+use Rattle.rx_model.proofs.Decodings.{chosen, Some-inj, both}
 use Rattle.rx_model.proofs.Escapes.{escape_spelled}
 use Rattle.rx_model.proofs.GroupFronts.{opener_read, opener_spelled, named_read, named_spelled}
 use Rattle.rx_model.proofs.Quantifiers.{spelled_counts, counts_spelled}
@@ -196,9 +196,6 @@ module _ (e : Environment) where
 
   abbrev FrontOf : List CodePoint → Token × ℕ → Type 0
   FrontOf us p = Front p.0 p.1 us
-
-  Some-inj : {A : Type 0} {x y : A} → Some x ≡ Some y → x ≡ y
-  Some-inj h = cc
 
   front_of : {p : Token × ℕ} (t : Token) (n : ℕ) (us w rest : List CodePoint) → us ≡ w ++ rest → length w ≡ n → Spells e t w rest → Some (t, n) ≡ Some p → FrontOf us p
   front_of t n us w rest h l s k = subst (FrontOf us) (Some-inj k) (record { w = w; rest = rest; whole = h; count = l; spells = s })

@@ -16,6 +16,7 @@ use Rattle.rx_model.specs.Groups.{IsIndexed, IsNamed, IsNaming, SpellsOpener}
 use Rattle.rx_model.specs.Rows.{IsRaw, IsEscaped, Spells, TokenRow}
 use Rattle.rx_model.specs.Token.{Token, Opener, capturing, ignoring, looking, boundary, character, dot, class_escape, property, class, indexed, named, opener, closer, bar, quantifier}
 use Rattle.rx_model.specs.UnicodeEscapes.{SpellsUnicode}
+use Rattle.rx_model.proofs.Decodings.{Some-inj}
 use Rattle.rx_model.proofs.Fronts.{spelled_front}
 
 buffers_same : (e d : Environment) → e.mode ≡ d.mode → e.buffer_boundaries ≡ d.buffer_boundaries → has_buffers e ≡ has_buffers d
@@ -105,9 +106,6 @@ pub TokenRow-mode : (e d : Environment) (ts : List Token) (us rest : List CodePo
     TokenRow e ts us rest → TokenRow d ts us rest
 TokenRow-mode e d [] us rest m b n r = r
 TokenRow-mode e d (t ∷ ts) us rest m b n r = (r.0, r.1, r.2, Spells-mode e d t r.0 r.1 m b n r.3, TokenRow-mode e d ts r.1 rest m b n r.4)
-
-Some-inj : {A : Type 0} {x y : A} → Some x ≡ Some y → x ≡ y
-Some-inj e = cc
 
 behind : (w more us : List CodePoint) → us ≡ w ++ more → more ≡ drop (length w) us
 behind w more us e = sym (ap (drop (length w)) e ∙ drop-append_seam w more)

@@ -90,7 +90,7 @@ module _ (p : Pattern) where
       let e = environment Unicode p in
       let text = tokens_text Unicode false (tokens p) in
       let end = pattern_runs Unicode p r.spelled.shape in
-      TokenRow-mode e (environment Unicode again) (tokens again) (literal_units true 0 text) [] refl refl
+      TokenRow-mode e (environment Unicode again) (tokens again) (literal_units true 0 text) [] refl refl refl
       (subst (λ ts. TokenRow e ts (literal_units true 0 text) []) (sym its_tokens)
       (tokens_again e refl (groups p) (names p) (tokens p) [] false ([], end.0) end.1 (are_known e (tokens p) us [] r.spelled.row) r.early.tokens_obey 0))
 
