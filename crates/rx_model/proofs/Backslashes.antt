@@ -1,7 +1,9 @@
 -- What a backslash begins: a boundary, a class escape or a character escape, read as it is spelled.
-use Rattle.std.proofs.Common.{◌≡◌, ℕ, ◌+◌, ◌==◌, Bool, true, false, cond, List, [], ◌∷◌, ◌++◌, length, Some, None, refl, sym, ap, ◌∙◌, arith, inl, inr}
-use Rattle.std.proofs.lemmas.Bool.{eqb-true}
+use Rattle.std.proofs.Common.{◌≡◌, ℕ, ◌+◌, ◌*◌, ◌==◌, Bool, true, false, cond, ◌&&◌, List, [], ◌∷◌, ◌++◌, length, Some, None, refl, sym, ap, ◌∙◌, arith, inl, inr}
+use Rattle.std.proofs.lemmas.Bool.{eqb-true, cond-true, cond-false, and_left, and_from}
 use Rattle.std.proofs.lemmas.Bool.Decides.{nat_tests}
+use Rattle.std.proofs.lemmas.Option.{option_and_then_some}
+use Rattle.rx_tables.specs.Characters.{is_decimal_digit, is_within}
 use Rattle.rx_ast.specs.declared.leaf.BoundaryAssertionKind.{BoundaryAssertionKind}
 use Rattle.rx_ast.specs.declared.leaf.BoundaryAssertionKind.TheVariants as boundaries
 use Rattle.rx_ast.specs.declared.leaf.CharacterClassEscapeKind.{CharacterClassEscapeKind}
@@ -10,17 +12,24 @@ use Rattle.rx_ast.specs.declared.leaf.CharacterKind.{CharacterKind}
 use Rattle.rx_model.specs.Boundaries.{boundary_text, has_buffers, has_boundary}
 use Rattle.rx_model.specs.ClassText.{class_escape_text}
 use Rattle.rx_model.specs.Environment.{Environment, is_unicode}
-use Rattle.rx_model.specs.Escapes.{SpellsEscape, control, letter, null, hexadecimal, unicode, identity}
-use Rattle.rx_model.specs.Fronts.{escape_at, buffer_at, boundary_at, class_escape_at, escaped_token, backslash_token, backslash_front}
-use Rattle.rx_model.specs.Token.{character, class_escape}
+use Rattle.rx_model.specs.Escapes.{front_is, SpellsEscape, control, letter, null, hexadecimal, unicode, identity}
+use Rattle.rx_model.specs.Fronts.{escape_at, buffer_at, boundary_at, class_escape_at, escaped_token, backslash_token, digits, digits_behind, indexed_token, backslash_front}
+use Rattle.rx_model.specs.Groups.{IsIndexed}
+use Rattle.rx_model.specs.Marks.{starts}
+use Rattle.rx_model.specs.Quantifiers.{decimal_digit_value, decimal_behind, AreDigits}
+use Rattle.rx_model.specs.Token.{character, class_escape, indexed}
 use Rattle.rx_model.proofs.Decodings.{chosen}
 use Rattle.rx_model.proofs.Escapes.{begins_with_u, spelled_escape}
+use Rattle.rx_model.proofs.Quantifiers.{digits_read, digits_found}
+use Rattle.rx_model.proofs.Splits.{TextFront}
 
--- the character begins neither a boundary nor a class escape
+-- the character begins neither a reference nor a boundary nor a class escape
 record BeginsEscape (e : Environment) (w : List ℕ) : Type 0 where
   first : ℕ
   behind : List ℕ
   whole : w ≡ first ∷ behind
+  no_digit : is_within 49 57 first ≡ false
+  no_k : (first == 107) ≡ false
   no_boundary : boundary_at e first ≡ None
   no_class : class_escape_at first ≡ None
 
@@ -31,11 +40,21 @@ same_both false x = refl
 no_boundary_at : (e : Environment) (c : ℕ) → (c == 98) ≡ false → (c == 66) ≡ false → buffer_at c ≡ None → boundary_at e c ≡ None
 no_boundary_at e c h k l = rw (h, k, l) (same_both (has_buffers e) None)
 
+-- what is behind a backslash where no reference begins
+pub unreferred : (e : Environment) (c : ℕ) (w : List ℕ) → is_within 49 57 c ≡ false → (c == 107) ≡ false →
+    backslash_front e (c ∷ w) ≡ backslash_token (boundary_at e c) (class_escape_at c) (escape_at (is_unicode e.mode) (c ∷ w))
+unfolding backslash_front
+unreferred e c w h k =
+    cond-false (is_within 49 57 c && is_unicode e.mode) _ _ (and_left _ (is_unicode e.mode) h)
+    ∙ cond-false (c == 107 && e.named) _ _ (and_left _ e.named k)
+
 begins : (e : Environment) (kind : CharacterKind) (v : ℕ) (w rest : List ℕ) → SpellsEscape e kind v w rest → BeginsEscape e w
 begins e _ v _ rest (control {c} h) = record {
   first = c;
   behind = [];
   whole = refl;
+  no_digit = grind (arith, nat_tests);
+  no_k = grind (arith, nat_tests);
   no_boundary = no_boundary_at e c (grind (arith, nat_tests)) (grind (arith, nat_tests)) (grind (arith, nat_tests));
   no_class = grind (arith, nat_tests);
 }
@@ -43,6 +62,8 @@ begins e _ v _ rest (letter {c} h) = record {
   first = 99;
   behind = c ∷ [];
   whole = refl;
+  no_digit = refl;
+  no_k = refl;
   no_boundary = no_boundary_at e 99 refl refl refl;
   no_class = refl;
 }
@@ -50,6 +71,8 @@ begins e _ _ _ rest (null h) = record {
   first = 48;
   behind = [];
   whole = refl;
+  no_digit = refl;
+  no_k = refl;
   no_boundary = no_boundary_at e 48 refl refl refl;
   no_class = refl;
 }
@@ -57,6 +80,8 @@ begins e _ v _ rest (hexadecimal {a} {b} h) = record {
   first = 120;
   behind = a ∷ b ∷ [];
   whole = refl;
+  no_digit = refl;
+  no_k = refl;
   no_boundary = no_boundary_at e 120 refl refl refl;
   no_class = refl;
 }
@@ -64,6 +89,8 @@ begins e _ v w rest (unicode s) = let u = begins_with_u s in record {
   first = 117;
   behind = u.0;
   whole = u.1;
+  no_digit = refl;
+  no_k = refl;
   no_boundary = no_boundary_at e 117 refl refl refl;
   no_class = refl;
 }
@@ -71,15 +98,17 @@ begins e _ _ _ rest (identity {c} u h) = record {
   first = c;
   behind = [];
   whole = refl;
+  no_digit = grind (arith, nat_tests);
+  no_k = grind (arith, nat_tests);
   no_boundary = no_boundary_at e c (grind (arith, nat_tests)) (grind (arith, nat_tests)) (grind (arith, nat_tests));
   no_class = grind (arith, nat_tests);
 }
 
 pub escape_token : (e : Environment) (kind : CharacterKind) (v : ℕ) (w rest : List ℕ) → SpellsEscape e kind v w rest → backslash_front e (w ++ rest) ≡ Some (character kind v, length w + 1)
-unfolding backslash_front
 escape_token e kind v w rest s =
     let b = begins e kind v w rest s in
     ap (λ w. backslash_front e (w ++ rest)) b.whole
+    ∙ unreferred e b.first (b.behind ++ rest) b.no_digit b.no_k
     ∙ ap (λ x. backslash_token x (class_escape_at b.first) (escape_at (is_unicode e.mode) (b.first ∷ b.behind ++ rest))) b.no_boundary
     ∙ ap (λ x. backslash_token None x (escape_at (is_unicode e.mode) (b.first ∷ b.behind ++ rest))) b.no_class
     ∙ ap (λ w. escaped_token (escape_at (is_unicode e.mode) (w ++ rest))) (sym b.whole)
@@ -145,12 +174,66 @@ class_found kind c h = elim (chosen (c == 100) h) [
 ]
 
 -- The boundaries of the buffer, as they are read.
-pub buffer_token : (e : Environment) (c : ℕ) (rest : List ℕ) → has_buffers e ≡ true → (c == 98) ≡ false → (c == 66) ≡ false →
+pub buffer_token : (e : Environment) (c : ℕ) (rest : List ℕ) → has_buffers e ≡ true → is_within 49 57 c ≡ false → (c == 107) ≡ false → (c == 98) ≡ false → (c == 66) ≡ false →
     backslash_front e (c ∷ rest) ≡ backslash_token (buffer_at c) (class_escape_at c) (escape_at (is_unicode e.mode) (c ∷ rest))
-unfolding backslash_front
-buffer_token e c rest b h k = rw (h, k, b) refl
+buffer_token e c rest b d n h k = unreferred e c rest d n ∙ rw (h, k, b) refl
 
-pub class_token : (e : Environment) (kind : CharacterClassEscapeKind) (c : ℕ) (rest : List ℕ) → (c == 98) ≡ false → (c == 66) ≡ false → buffer_at c ≡ None →
-    class_escape_at c ≡ Some kind → backslash_front e (c ∷ rest) ≡ Some (class_escape kind, 2)
+pub class_token : (e : Environment) (kind : CharacterClassEscapeKind) (c : ℕ) (rest : List ℕ) → is_within 49 57 c ≡ false → (c == 107) ≡ false → (c == 98) ≡ false → (c == 66) ≡ false →
+    buffer_at c ≡ None → class_escape_at c ≡ Some kind → backslash_front e (c ∷ rest) ≡ Some (class_escape kind, 2)
+class_token e kind c rest d n h k l f = unreferred e c rest d n ∙ rw (no_boundary_at e c h k l, f) refl
+
+-- a digit that is not 0
+from_one : (c d : ℕ) → decimal_digit_value c ≡ Some d → (c == 48) ≡ false → is_within 49 57 c ≡ true
+from_one c d h k = grind (arith, nat_tests)
+
+digits_from_one : (n m : ℕ) (ds : List ℕ) → decimal_behind m ds ≡ Some n → starts 48 ds ≡ false → (c : ℕ) (more : List ℕ) → ds ≡ c ∷ more → is_within 49 57 c ≡ true
+digits_from_one n m [] h k c more e = absurd (let no : ⊥ = cc e in no)
+digits_from_one n m (x ∷ ds) h k c more e =
+    let same : x ≡ c = cc e in
+    option_and_then_some (λ d. decimal_behind (10 * m + d) ds) (decimal_digit_value x) n h (λ d at_x _. from_one c d (ap decimal_digit_value (sym same) ∙ at_x) (ap (λ c. c == 48) (sym same) ∙ k))
+
+-- An indexed reference, as it is read.
+pub indexed_front : (e : Environment) (n : ℕ) (ds rest : List ℕ) → is_unicode e.mode ≡ true → AreDigits n ds → starts 48 ds ≡ false → front_is is_decimal_digit rest ≡ false →
+    backslash_front e (ds ++ rest) ≡ Some (indexed n, length ds + 1)
 unfolding backslash_front
-class_token e kind c rest h k l f = rw (no_boundary_at e c h k l, f) refl
+indexed_front e n ds rest u a h k =
+    ap (λ ds. backslash_front e (ds ++ rest)) a.some
+    ∙ cond-true (is_within 49 57 a.first && is_unicode e.mode) _ _ (and_from _ (is_unicode e.mode) (digits_from_one n 0 ds a.number h a.first a.more a.some) u)
+    ∙ ap (λ ds. indexed_token (digits_behind 0 0 (ds ++ rest))) (sym a.some)
+    ∙ ap indexed_token (digits_read 0 0 ds rest n a.number k)
+    ∙ ap (λ k. Some (indexed n, k)) (omega arith)
+
+not_zero : (c : ℕ) → is_within 49 57 c ≡ true → (c == 48) ≡ false
+not_zero c h = grind (arith, nat_tests)
+
+is_digit : (c : ℕ) → is_within 49 57 c ≡ true → is_decimal_digit c ≡ false → ⊥
+is_digit c h k = grind (arith, nat_tests)
+
+-- All digits at the front, the first of which is not 0.
+run_found : (n c : ℕ) (w run rest : List ℕ) → is_within 49 57 c ≡ true → c ∷ w ≡ run ++ rest → decimal_behind 0 run ≡ Some n → front_is is_decimal_digit rest ≡ false →
+    AreDigits n run × (starts 48 run ≡ false)
+run_found n c w [] rest h e f k = absurd (is_digit c h (ap (front_is is_decimal_digit) e ∙ k))
+run_found n c w (x ∷ run) rest h e f k =
+    let same : x ≡ c = cc e in
+    (record { first = x; more = run; some = refl; number = f }, ap (λ c. c == 48) same ∙ not_zero c h)
+
+-- An indexed reference that is read is spelled.
+pub indexed_spelled : (e : Environment) (n count c : ℕ) (w rest : List ℕ) → is_within 49 57 c ≡ true → is_unicode e.mode ≡ true → digits_behind 0 0 (c ∷ w) ≡ digits n count rest →
+    TextFront (IsIndexed e n) (count + 1) (92 ∷ c ∷ w)
+indexed_spelled e n count c w rest h u f =
+    let r = digits_found 0 0 (c ∷ w) n count rest f in
+    let d = run_found n c w r.run rest h r.whole r.number r.ended in
+    record {
+      text = 92 ∷ r.run;
+      back = rest;
+      whole = ap (λ w. 92 ∷ w) r.whole;
+      count = omega (arith, r.count_is);
+      spells = λ v back a b. record {
+        digits = r.run;
+        whole = a;
+        number = d.0;
+        not_zero = d.1;
+        all = ap (front_is is_decimal_digit) b ∙ r.ended;
+        unicode = u;
+      };
+    }

@@ -16,6 +16,9 @@ pub chosen : {A : Type 0} {x y z : A} (b : Bool) → cond b x y ≡ z → ((b �
 chosen true h = inl (refl, h)
 chosen false h = inr (refl, h)
 
+pub Some-inj : {A : Type 0} {x y : A} → Some x ≡ Some y → x ≡ y
+Some-inj h = cc
+
 pub both : (a b : Bool) → (a && b) ≡ true → (a ≡ true) × (b ≡ true)
 both true b h = (refl, h)
 both false b h = absurd (let k : ⊥ = cc in k)

@@ -1,9 +1,9 @@
 -- At most one token is at the front of a text, since reading it is a function: what is spelled is read, and what is read is spelled.
-use Rattle.std.proofs.Common.{◌≡◌, refl, ap, sym, ◌∙◌, subst, ℕ, ◌+◌, ◌<◌, Bool, true, false, cond, not, ◌==◌, Option, Some, None, List, [], ◌∷◌, ◌++◌, length, drop, arith, inl, inr, append_assoc, length-append}
+use Rattle.std.proofs.Common.{◌≡◌, refl, ap, ap₂, sym, ◌∙◌, subst, ℕ, ◌+◌, ◌<◌, Bool, true, false, cond, not, ◌&&◌, ◌==◌, Option, Some, None, List, [], ◌∷◌, ◌++◌, length, drop, arith, inl, inr, append_assoc, length-append}
 use Rattle.std.proofs.Math.Seq.{drop-append_seam}
 use Rattle.std.proofs.lemmas.Bool.{eqb-true, cond-true, cond-false}
 use Rattle.std.proofs.lemmas.List.{append-nil, length-map, map-append}
-use Rattle.rx_tables.specs.Characters.{is_syntax_character}
+use Rattle.rx_tables.specs.Characters.{is_syntax_character, is_within}
 use Rattle.rx_ast.specs.declared.leaf.BoundaryAssertionKind.{BoundaryAssertionKind}
 use Rattle.rx_ast.specs.declared.leaf.BoundaryAssertionKind.TheVariants as boundaries
 use Rattle.rx_ast.specs.declared.leaf.CharacterClassEscapeKind.{CharacterClassEscapeKind}
@@ -17,15 +17,17 @@ use Rattle.rx_model.specs.Boundaries.{boundary_text}
 use Rattle.rx_model.specs.ClassText.{class_escape_text}
 use Rattle.rx_model.specs.Environment.{Environment, is_unicode}
 use Rattle.rx_model.specs.Escapes.{front_is, SpellsEscape}
-use Rattle.rx_model.specs.Fronts.{EscapeRead, escaped, nothing, too_many, no_unicode, escape_at, boundary_at, class_escape_at, escaped_token, backslash_token, backslash_front, Counts, counts, no_counts, counts_at, quantifier_token, syntax_front, front}
+use Rattle.rx_model.specs.Fronts.{EscapeRead, escaped, nothing, too_many, no_unicode, escape_at, boundary_at, class_escape_at, escaped_token, backslash_token, backslash_front, Counts, counts, no_counts, counts_at, quantifier_token, opener_token, Digits, digits, digits_behind, indexed_token, named_token, syntax_front, front}
+use Rattle.rx_model.specs.GroupFronts.{group_front, reference_front}
 use Rattle.rx_model.specs.Quantifiers.{SpellsCounts, SpellsBraces, star, plus, optional, braces, exactly, at_least, between, lazy_mark, is_question, IsQuantifier}
 use Rattle.rx_model.specs.Rows.{unit_kind, stands_raw, IsRaw, IsEscaped, IsBoundary, Spells}
-use Rattle.rx_model.specs.Token.{Token, boundary, character, dot, class_escape, property, class, indexed, named, opener, closer, bar, quantifier}
-use Rattle.rx_model.proofs.Backslashes.{escape_token, boundary_found, class_found, buffer_token, class_token}
-use Rattle.rx_model.proofs.Decodings.{chosen}
+use Rattle.rx_model.specs.Token.{Token, Opener, boundary, character, dot, class_escape, property, class, indexed, named, opener, closer, bar, quantifier}
+use Rattle.rx_model.proofs.Backslashes.{escape_token, boundary_found, class_found, buffer_token, class_token, indexed_front, indexed_spelled}
+use Rattle.rx_model.proofs.Decodings.{chosen, Some-inj, both}
 use Rattle.rx_model.proofs.Escapes.{escape_spelled}
+use Rattle.rx_model.proofs.GroupFronts.{opener_read, opener_spelled, named_read, named_spelled}
 use Rattle.rx_model.proofs.Quantifiers.{spelled_counts, counts_spelled}
-use Rattle.rx_model.proofs.Splits.{split_values}
+use Rattle.rx_model.proofs.Splits.{split_values, TextFront}
 
 syntax_not_raw : (mode : Mode) (c : ℕ) → is_syntax_character c ≡ true → stands_raw mode c ≡ false
 syntax_not_raw Legacy c e = refl
@@ -35,7 +37,7 @@ syntax_not_raw Sets c e = ap not e
 -- the token at the front, where its first character does not stand for itself
 abbrev front_of_values : Environment → List ℕ → Option (Token × ℕ)
 front_of_values e [] = None
-front_of_values e (c ∷ w) = cond (c == 92) (backslash_front e w) (syntax_front c w)
+front_of_values e (c ∷ w) = cond (c == 92) (backslash_front e w) (syntax_front e c w)
 
 pub front_by_values : (e : Environment) (us : List CodePoint) (c : ℕ) (w : List ℕ) → is_syntax_character c ≡ true → values us ≡ c ∷ w → front e us ≡ front_of_values e (c ∷ w)
 unfolding front
@@ -75,17 +77,17 @@ module _ (e : Environment) where
   boundary_front boundaries.End w rest s = by_text (boundary boundaries.End) 36 [] w rest refl s.text refl
   boundary_front boundaries.Boundary w rest s = by_text (boundary boundaries.Boundary) 92 (98 ∷ []) w rest refl s.text refl
   boundary_front boundaries.NegativeBoundary w rest s = by_text (boundary boundaries.NegativeBoundary) 92 (66 ∷ []) w rest refl s.text refl
-  boundary_front boundaries.StartBuffer w rest s = by_text (boundary boundaries.StartBuffer) 92 (65 ∷ []) w rest refl s.text (buffer_token e 65 (values rest) s.there refl refl)
-  boundary_front boundaries.EndBuffer w rest s = by_text (boundary boundaries.EndBuffer) 92 (122 ∷ []) w rest refl s.text (buffer_token e 122 (values rest) s.there refl refl)
-  boundary_front boundaries.EndBufferOptionalNewline w rest s = by_text (boundary boundaries.EndBufferOptionalNewline) 92 (90 ∷ []) w rest refl s.text (buffer_token e 90 (values rest) s.there refl refl)
+  boundary_front boundaries.StartBuffer w rest s = by_text (boundary boundaries.StartBuffer) 92 (65 ∷ []) w rest refl s.text (buffer_token e 65 (values rest) s.there refl refl refl refl)
+  boundary_front boundaries.EndBuffer w rest s = by_text (boundary boundaries.EndBuffer) 92 (122 ∷ []) w rest refl s.text (buffer_token e 122 (values rest) s.there refl refl refl refl)
+  boundary_front boundaries.EndBufferOptionalNewline w rest s = by_text (boundary boundaries.EndBufferOptionalNewline) 92 (90 ∷ []) w rest refl s.text (buffer_token e 90 (values rest) s.there refl refl refl refl)
 
   class_front : (kind : CharacterClassEscapeKind) (w rest : List CodePoint) → values w ≡ class_escape_text kind → front e (w ++ rest) ≡ Some (class_escape kind, length w)
-  class_front classes.D w rest s = by_text (class_escape classes.D) 92 (100 ∷ []) w rest refl s (class_token e classes.D 100 (values rest) refl refl refl refl)
-  class_front classes.NegativeD w rest s = by_text (class_escape classes.NegativeD) 92 (68 ∷ []) w rest refl s (class_token e classes.NegativeD 68 (values rest) refl refl refl refl)
-  class_front classes.S w rest s = by_text (class_escape classes.S) 92 (115 ∷ []) w rest refl s (class_token e classes.S 115 (values rest) refl refl refl refl)
-  class_front classes.NegativeS w rest s = by_text (class_escape classes.NegativeS) 92 (83 ∷ []) w rest refl s (class_token e classes.NegativeS 83 (values rest) refl refl refl refl)
-  class_front classes.W w rest s = by_text (class_escape classes.W) 92 (119 ∷ []) w rest refl s (class_token e classes.W 119 (values rest) refl refl refl refl)
-  class_front classes.NegativeW w rest s = by_text (class_escape classes.NegativeW) 92 (87 ∷ []) w rest refl s (class_token e classes.NegativeW 87 (values rest) refl refl refl refl)
+  class_front classes.D w rest s = by_text (class_escape classes.D) 92 (100 ∷ []) w rest refl s (class_token e classes.D 100 (values rest) refl refl refl refl refl refl)
+  class_front classes.NegativeD w rest s = by_text (class_escape classes.NegativeD) 92 (68 ∷ []) w rest refl s (class_token e classes.NegativeD 68 (values rest) refl refl refl refl refl refl)
+  class_front classes.S w rest s = by_text (class_escape classes.S) 92 (115 ∷ []) w rest refl s (class_token e classes.S 115 (values rest) refl refl refl refl refl refl)
+  class_front classes.NegativeS w rest s = by_text (class_escape classes.NegativeS) 92 (83 ∷ []) w rest refl s (class_token e classes.NegativeS 83 (values rest) refl refl refl refl refl refl)
+  class_front classes.W w rest s = by_text (class_escape classes.W) 92 (119 ∷ []) w rest refl s (class_token e classes.W 119 (values rest) refl refl refl refl refl refl)
+  class_front classes.NegativeW w rest s = by_text (class_escape classes.NegativeW) 92 (87 ∷ []) w rest refl s (class_token e classes.NegativeW 87 (values rest) refl refl refl refl refl refl)
 
   -- what the prefix of a quantifier begins with
   record Beginning (prefix : List ℕ) : Type 0 where
@@ -139,10 +141,10 @@ module _ (e : Environment) where
   spelled_front (class_escape kind) w rest s = class_front kind w rest s
   spelled_front (property negative strings name value) w rest s = absurd s
   spelled_front (class c) w rest s = absurd s
-  spelled_front (indexed n) w rest s = absurd s
-  spelled_front (named name) w rest s = absurd s
-  spelled_front (opener o) w rest s = absurd s
-  spelled_front closer w rest s = absurd s
+  spelled_front (indexed n) w rest s = by_text (indexed n) 92 s.digits w rest refl s.whole (indexed_front e n s.digits (values rest) s.unicode s.number s.not_zero s.all ∙ ap (λ k. Some (indexed n, k)) (omega arith))
+  spelled_front (named name) w rest s = let r = named_read e name w rest s in by_text (named name) 92 r.0 w rest refl r.1 r.2
+  spelled_front (opener o) w rest s = let r = opener_read e o w rest s in by_text (opener o) 40 r.behind w rest refl r.whole (ap opener_token r.read)
+  spelled_front closer w rest s = by_text closer 41 [] w rest refl s refl
   spelled_front (quantifier min max greedy) w rest s = quantifier_front min max greedy w rest s
 
   -- No token is spelled by no units.
@@ -171,10 +173,10 @@ module _ (e : Environment) where
   spelled_none (class_escape kind) rest s = class_some kind s
   spelled_none (property negative strings name value) rest s = s
   spelled_none (class c) rest s = s
-  spelled_none (indexed n) rest s = s
-  spelled_none (named name) rest s = s
-  spelled_none (opener o) rest s = s
-  spelled_none closer rest s = s
+  spelled_none (indexed n) rest s = let h = s.whole in cc
+  spelled_none (named name) rest s = let h = s.whole in cc
+  spelled_none (opener o) rest s = let h = (opener_read e o [] rest s).whole in cc
+  spelled_none closer rest s = cc
   spelled_none (quantifier min max greedy) rest s =
       let b = beginning min max s.prefix s.counts in
       let h : [] ≡ b.first ∷ (b.more ++ lazy_mark greedy) = s.whole ∙ ap (λ v. v ++ lazy_mark greedy) b.whole in
@@ -194,9 +196,6 @@ module _ (e : Environment) where
 
   abbrev FrontOf : List CodePoint → Token × ℕ → Type 0
   FrontOf us p = Front p.0 p.1 us
-
-  Some-inj : {A : Type 0} {x y : A} → Some x ≡ Some y → x ≡ y
-  Some-inj h = cc
 
   front_of : {p : Token × ℕ} (t : Token) (n : ℕ) (us w rest : List CodePoint) → us ≡ w ++ rest → length w ≡ n → Spells e t w rest → Some (t, n) ≡ Some p → FrontOf us p
   front_of t n us w rest h l s k = subst (FrontOf us) (Some-inj k) (record { w = w; rest = rest; whole = h; count = l; spells = s })
@@ -224,16 +223,33 @@ module _ (e : Environment) where
             (record { prefix = f.prefix; counts = f.spelled; whole = s.front_is ∙ sym (append-nil f.prefix); alone = λ _. ap (front_is is_question) (s.back_is ∙ sym seam) ∙ q.0 }) q.1
       ]
 
-  syntax_found : (u : CodePoint) (us : List CodePoint) (p : Token × ℕ) → syntax_front u.value (values us) ≡ Some p → FrontOf (u ∷ us) p
+  -- a token that the values of these units begin with
+  text_at : {p : Token × ℕ} (t : Token) (n : ℕ) (us : List CodePoint) (v : List ℕ) → values us ≡ v → TextFront (Spells e t) n v → Some (t, n) ≡ Some p → FrontOf us p
+  text_at t n us v h f q =
+      let s = split_values us f.text f.back (h ∙ f.whole) in
+      front_of t n us s.front s.back s.whole (sym (length-map s.front (λ u. u.value)) ∙ ap length s.front_is ∙ f.count) (f.spells s.front s.back s.front_is s.back_is) q
+
+  opener_at : (u : CodePoint) (us : List CodePoint) (p : Token × ℕ) → u.value ≡ 40 → (r : Option (Opener × ℕ)) → group_front (is_unicode e.mode) (values us) ≡ r → opener_token r ≡ Some p → FrontOf (u ∷ us) p
+  opener_at u us p h None f q = absurd (let k : ⊥ = cc q in k)
+  opener_at u us p h (Some o) f q =
+      text_at (opener o.0) o.1 (u ∷ us) (40 ∷ values us) (ap (λ c. c ∷ values us) h) (opener_spelled e (values us) o f) q
+
+  syntax_found : (u : CodePoint) (us : List CodePoint) (p : Token × ℕ) → syntax_front e u.value (values us) ≡ Some p → FrontOf (u ∷ us) p
   syntax_found u us p h = elim (chosen (u.value == 46) h) [
     | inl q ↦ front_of dot 1 (u ∷ us) (u ∷ []) us refl refl (one_unit u 46 q.0) q.1
-    | inr q ↦ elim (chosen (u.value == 124) q.1) [
-      | inl q ↦ front_of bar 1 (u ∷ us) (u ∷ []) us refl refl (one_unit u 124 q.0) q.1
-      | inr q ↦ elim (chosen (u.value == 94) q.1) [
-        | inl q ↦ front_of (boundary boundaries.Start) 1 (u ∷ us) (u ∷ []) us refl refl (record { text = one_unit u 94 q.0; there = refl }) q.1
-        | inr q ↦ elim (chosen (u.value == 36) q.1) [
-          | inl q ↦ front_of (boundary boundaries.End) 1 (u ∷ us) (u ∷ []) us refl refl (record { text = one_unit u 36 q.0; there = refl }) q.1
-          | inr q ↦ quantifier_at (u ∷ us) p (counts_at (values (u ∷ us))) refl q.1
+    | inr q ↦ elim (chosen (u.value == 40) q.1) [
+      | inl q ↦ opener_at u us p (eqb-true u.value 40 q.0) (group_front (is_unicode e.mode) (values us)) refl q.1
+      | inr q ↦ elim (chosen (u.value == 41) q.1) [
+        | inl q ↦ front_of closer 1 (u ∷ us) (u ∷ []) us refl refl (one_unit u 41 q.0) q.1
+        | inr q ↦ elim (chosen (u.value == 124) q.1) [
+          | inl q ↦ front_of bar 1 (u ∷ us) (u ∷ []) us refl refl (one_unit u 124 q.0) q.1
+          | inr q ↦ elim (chosen (u.value == 94) q.1) [
+            | inl q ↦ front_of (boundary boundaries.Start) 1 (u ∷ us) (u ∷ []) us refl refl (record { text = one_unit u 94 q.0; there = refl }) q.1
+            | inr q ↦ elim (chosen (u.value == 36) q.1) [
+              | inl q ↦ front_of (boundary boundaries.End) 1 (u ∷ us) (u ∷ []) us refl refl (record { text = one_unit u 36 q.0; there = refl }) q.1
+              | inr q ↦ quantifier_at (u ∷ us) p (counts_at (values (u ∷ us))) refl q.1
+            ]
+          ]
         ]
       ]
     ]
@@ -268,10 +284,31 @@ module _ (e : Environment) where
   backslash_at u v us p h None f (Some k) g q = front_of (class_escape k) 2 (u ∷ v ∷ us) (u ∷ v ∷ []) us refl refl (two_units u v (class_escape_text k) h (class_found k v.value g)) q
   backslash_at u v us p h None f None g q = escape_at_front u (v ∷ us) p h (escape_at (is_unicode e.mode) (values (v ∷ us))) refl q
 
+  named_at : (u v : CodePoint) (us : List CodePoint) (p : Token × ℕ) → u.value ≡ 92 → v.value ≡ 107 → e.named ≡ true → (r : Option (List ℕ × ℕ)) → reference_front (is_unicode e.mode) (values us) ≡ r →
+      named_token r ≡ Some p → FrontOf (u ∷ v ∷ us) p
+  named_at u v us p h k there None f q = absurd (let k : ⊥ = cc q in k)
+  named_at u v us p h k there (Some n) f q =
+      text_at (named n.0) (n.1 + 3) (u ∷ v ∷ us) (92 ∷ 107 ∷ values us) (ap₂ (λ c d. c ∷ d ∷ values us) h k) (named_spelled e (values us) n there f) q
+
+  indexed_at : (u v : CodePoint) (us : List CodePoint) (p : Token × ℕ) → u.value ≡ 92 → is_within 49 57 v.value ≡ true → is_unicode e.mode ≡ true → (d : Digits) → digits_behind 0 0 (values (v ∷ us)) ≡ d →
+      indexed_token d ≡ Some p → FrontOf (u ∷ v ∷ us) p
+  indexed_at u v us p h k m (digits n count w) f q =
+      text_at (indexed n) (count + 1) (u ∷ v ∷ us) (92 ∷ values (v ∷ us)) (ap (λ c. c ∷ values (v ∷ us)) h) (indexed_spelled e n count v.value (values us) w k m f) q
+
   backslash_found : (u : CodePoint) (us : List CodePoint) (p : Token × ℕ) → u.value ≡ 92 → backslash_front e (values us) ≡ Some p → FrontOf (u ∷ us) p
   unfolding backslash_front
   backslash_found u [] p h q = absurd (let k : ⊥ = cc q in k)
-  backslash_found u (v ∷ us) p h q = backslash_at u v us p h (boundary_at e v.value) refl (class_escape_at v.value) refl q
+  backslash_found u (v ∷ us) p h q = elim (chosen (is_within 49 57 v.value && is_unicode e.mode) q) [
+    | inl r ↦
+        let b = both (is_within 49 57 v.value) (is_unicode e.mode) r.0 in
+        indexed_at u v us p h b.0 b.1 (digits_behind 0 0 (values (v ∷ us))) refl r.1
+    | inr r ↦ elim (chosen (v.value == 107 && e.named) r.1) [
+      | inl s ↦
+          let b = both (v.value == 107) e.named s.0 in
+          named_at u v us p h (eqb-true v.value 107 b.0) b.1 (reference_front (is_unicode e.mode) (values us)) refl s.1
+      | inr s ↦ backslash_at u v us p h (boundary_at e v.value) refl (class_escape_at v.value) refl s.1
+    ]
+  ]
 
   unit_found : (u : CodePoint) (us : List CodePoint) (p : Token × ℕ) → front e (u ∷ us) ≡ Some p → FrontOf (u ∷ us) p
   unfolding front

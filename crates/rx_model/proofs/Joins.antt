@@ -22,7 +22,7 @@ module _ (e : Environment) where
     row_tokens ((leave n) ∷ es) i us j rest r = row_tokens es i us j rest r.1
     row_tokens ((token t) ∷ es) i us j rest r = (r.0, r.1, r.2, r.3, row_tokens es (i + length r.0) r.1 j rest r.4)
     row_tokens ((inside c) ∷ es) i us j rest r = absurd r
-    row_tokens ((modified m) ∷ es) i us j rest r = absurd r
+    row_tokens ((modified m) ∷ es) i us j rest r = (r.0, r.1, r.2, r.3.modified, row_tokens es (i + length r.0) r.1 j rest r.4)
 
     pub row_append : (es fs : Events) (i : ℕ) (us : List CodePoint) (j : ℕ) (more : List CodePoint) (k : ℕ) (rest : List CodePoint) →
         Row e o es i us j more → Row e o fs j more k rest → Row e o (es ++ fs) i us k rest
@@ -31,7 +31,7 @@ module _ (e : Environment) where
     row_append ((leave n) ∷ es) fs i us j more k rest r s = (r.0, row_append es fs i us j more k rest r.1 s)
     row_append ((token t) ∷ es) fs i us j more k rest r s = (r.0, r.1, r.2, r.3, row_append es fs (i + length r.0) r.1 j more k rest r.4 s)
     row_append ((inside c) ∷ es) fs i us j more k rest r s = absurd r
-    row_append ((modified m) ∷ es) fs i us j more k rest r s = absurd r
+    row_append ((modified m) ∷ es) fs i us j more k rest r s = (r.0, r.1, r.2, r.3, row_append es fs (i + length r.0) r.1 j more k rest r.4 s)
 
     -- the place and the units between
     pub row_split : (es fs : Events) (i : ℕ) (us : List CodePoint) (k : ℕ) (rest : List CodePoint) →
@@ -41,4 +41,4 @@ module _ (e : Environment) where
     row_split ((leave n) ∷ es) fs i us k rest r = let s = row_split es fs i us k rest r.1 in (s.0, s.1, (r.0, s.2), s.3)
     row_split ((token t) ∷ es) fs i us k rest r = let s = row_split es fs (i + length r.0) r.1 k rest r.4 in (s.0, s.1, (r.0, r.1, r.2, r.3, s.2), s.3)
     row_split ((inside c) ∷ es) fs i us k rest r = absurd r
-    row_split ((modified m) ∷ es) fs i us k rest r = absurd r
+    row_split ((modified m) ∷ es) fs i us k rest r = let s = row_split es fs (i + length r.0) r.1 k rest r.4 in (s.0, s.1, (r.0, r.1, r.2, r.3, s.2), s.3)

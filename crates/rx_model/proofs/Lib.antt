@@ -11,11 +11,13 @@ pub mod Decodings
 pub mod Escapes
 pub mod Flat
 pub mod Fronts
+pub mod GroupFronts
 pub mod GroupNames
 pub mod GroupStretches
 pub mod Joins
 pub mod Known
 pub mod MarkRows
+pub mod Modifiers
 pub mod ModifierTexts
 pub mod NameTexts
 pub mod OneLines

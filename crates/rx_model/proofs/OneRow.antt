@@ -1,5 +1,5 @@
 -- The rows of tokens that one text begins with are prefixes of its whole row.
-use Rattle.std.proofs.Common.{◌≡◌, ℕ, refl, ap, sym, ◌∙◌, subst, true, ◌&&◌, Some, List, [], ◌∷◌, ◌++◌, length, drop, inl, inr}
+use Rattle.std.proofs.Common.{◌≡◌, ℕ, refl, ap, sym, ◌∙◌, subst, true, ◌&&◌, Some, None, List, [], ◌∷◌, ◌++◌, length, drop, inl, inr}
 use Rattle.std.proofs.Math.Seq.{drop-append_seam}
 use Rattle.std.proofs.lemmas.List.{append-nil}
 use Rattle.rx_ast.specs.declared.leaf.BoundaryAssertionKind.{BoundaryAssertionKind}
@@ -11,9 +11,12 @@ use Rattle.rx_model.specs.Boundaries.{has_buffers, has_boundary}
 use Rattle.rx_model.specs.Environment.{Environment, is_unicode}
 use Rattle.rx_model.specs.Escapes.{SpellsEscape, control, letter, null, hexadecimal, unicode, identity}
 use Rattle.rx_model.specs.Fronts.{front}
+use Rattle.rx_model.specs.GroupNames.{SpellsName}
+use Rattle.rx_model.specs.Groups.{IsIndexed, IsNamed, IsNaming, SpellsOpener}
 use Rattle.rx_model.specs.Rows.{IsRaw, IsEscaped, Spells, TokenRow}
-use Rattle.rx_model.specs.Token.{Token, boundary, character, dot, class_escape, property, class, indexed, named, opener, closer, bar, quantifier}
+use Rattle.rx_model.specs.Token.{Token, Opener, capturing, ignoring, looking, boundary, character, dot, class_escape, property, class, indexed, named, opener, closer, bar, quantifier}
 use Rattle.rx_model.specs.UnicodeEscapes.{SpellsUnicode}
+use Rattle.rx_model.proofs.Decodings.{Some-inj}
 use Rattle.rx_model.proofs.Fronts.{spelled_front}
 
 buffers_same : (e d : Environment) → e.mode ≡ d.mode → e.buffer_boundaries ≡ d.buffer_boundaries → has_buffers e ≡ has_buffers d
@@ -48,27 +51,61 @@ escaped_same e d kind value w rest m s = record {
   spelled = escape_same e d kind value (values s.behind) (values rest) m s.spelled;
 }
 
--- Of the environment a token's spelling depends on the mode, and on whether there are buffer boundaries.
-pub Spells-mode : (e d : Environment) (t : Token) (w rest : List CodePoint) → e.mode ≡ d.mode → e.buffer_boundaries ≡ d.buffer_boundaries → Spells e t w rest → Spells d t w rest
-Spells-mode e d (character kind value) w rest m b s = elim s [ inl r ↦ inl (raw_same e d kind value w m r) | inr r ↦ inr (escaped_same e d kind value w rest m r) ]
-Spells-mode e d dot w rest m b s = s
-Spells-mode e d bar w rest m b s = s
-Spells-mode e d (boundary kind) w rest m b s = record { text = s.text; there = sym (boundary_same e d kind m b) ∙ s.there }
-Spells-mode e d (class_escape kind) w rest m b s = s
-Spells-mode e d (property negative strings name value) w rest m b s = s
-Spells-mode e d (class c) w rest m b s = s
-Spells-mode e d (indexed n) w rest m b s = s
-Spells-mode e d (named name) w rest m b s = s
-Spells-mode e d (opener o) w rest m b s = s
-Spells-mode e d closer w rest m b s = s
-Spells-mode e d (quantifier min max greedy) w rest m b s = s
+indexed_same : (e d : Environment) (n : ℕ) (w rest : List CodePoint) → e.mode ≡ d.mode → IsIndexed e n w rest → IsIndexed d n w rest
+indexed_same e d n w rest m s = record {
+  digits = s.digits;
+  whole = s.whole;
+  number = s.number;
+  not_zero = s.not_zero;
+  all = s.all;
+  unicode = ap is_unicode (sym m) ∙ s.unicode;
+}
 
-pub TokenRow-mode : (e d : Environment) (ts : List Token) (us rest : List CodePoint) → e.mode ≡ d.mode → e.buffer_boundaries ≡ d.buffer_boundaries → TokenRow e ts us rest → TokenRow d ts us rest
-TokenRow-mode e d [] us rest m b r = r
-TokenRow-mode e d (t ∷ ts) us rest m b r = (r.0, r.1, r.2, Spells-mode e d t r.0 r.1 m b r.3, TokenRow-mode e d ts r.1 rest m b r.4)
+name_same : (e d : Environment) (name w rest : List ℕ) → e.mode ≡ d.mode → SpellsName (is_unicode e.mode) name w rest → SpellsName (is_unicode d.mode) name w rest
+name_same e d name w rest m s = subst (λ mode. SpellsName (is_unicode mode) name w rest) m s
 
-Some-inj : {A : Type 0} {x y : A} → Some x ≡ Some y → x ≡ y
-Some-inj e = cc
+named_same : (e d : Environment) (name : List ℕ) (w rest : List CodePoint) → e.mode ≡ d.mode → e.named ≡ d.named → IsNamed e name w rest → IsNamed d name w rest
+named_same e d name w rest m n s = record {
+  spelled = s.spelled;
+  whole = s.whole;
+  spells = name_same e d name s.spelled (62 ∷ values rest) m s.spells;
+  there = sym n ∙ s.there;
+}
+
+naming_same : (e d : Environment) (name : List ℕ) (w rest : List CodePoint) → e.mode ≡ d.mode → IsNaming e name w rest → IsNaming d name w rest
+naming_same e d name w rest m s = record {
+  spelled = s.spelled;
+  whole = s.whole;
+  spells = name_same e d name s.spelled (62 ∷ values rest) m s.spells;
+}
+
+opener_same : (e d : Environment) (o : Opener) (w rest : List CodePoint) → e.mode ≡ d.mode → SpellsOpener e o w rest → SpellsOpener d o w rest
+opener_same e d (capturing None) w rest m s = s
+opener_same e d (capturing (Some name)) w rest m s = naming_same e d name w rest m s
+opener_same e d (ignoring None) w rest m s = s
+opener_same e d (ignoring (Some bits)) w rest m s = s
+opener_same e d (looking kind) w rest m s = s
+
+-- Of the environment a token's spelling depends on the mode, on whether there are buffer boundaries, and on whether `\k` is a reference.
+pub Spells-mode : (e d : Environment) (t : Token) (w rest : List CodePoint) → e.mode ≡ d.mode → e.buffer_boundaries ≡ d.buffer_boundaries → e.named ≡ d.named →
+    Spells e t w rest → Spells d t w rest
+Spells-mode e d (character kind value) w rest m b n s = elim s [ inl r ↦ inl (raw_same e d kind value w m r) | inr r ↦ inr (escaped_same e d kind value w rest m r) ]
+Spells-mode e d dot w rest m b n s = s
+Spells-mode e d bar w rest m b n s = s
+Spells-mode e d (boundary kind) w rest m b n s = record { text = s.text; there = sym (boundary_same e d kind m b) ∙ s.there }
+Spells-mode e d (class_escape kind) w rest m b n s = s
+Spells-mode e d (property negative strings name value) w rest m b n s = s
+Spells-mode e d (class c) w rest m b n s = s
+Spells-mode e d (indexed index) w rest m b n s = indexed_same e d index w rest m s
+Spells-mode e d (named name) w rest m b n s = named_same e d name w rest m n s
+Spells-mode e d (opener o) w rest m b n s = opener_same e d o w rest m s
+Spells-mode e d closer w rest m b n s = s
+Spells-mode e d (quantifier min max greedy) w rest m b n s = s
+
+pub TokenRow-mode : (e d : Environment) (ts : List Token) (us rest : List CodePoint) → e.mode ≡ d.mode → e.buffer_boundaries ≡ d.buffer_boundaries → e.named ≡ d.named →
+    TokenRow e ts us rest → TokenRow d ts us rest
+TokenRow-mode e d [] us rest m b n r = r
+TokenRow-mode e d (t ∷ ts) us rest m b n r = (r.0, r.1, r.2, Spells-mode e d t r.0 r.1 m b n r.3, TokenRow-mode e d ts r.1 rest m b n r.4)
 
 behind : (w more us : List CodePoint) → us ≡ w ++ more → more ≡ drop (length w) us
 behind w more us e = sym (ap (drop (length w)) e ∙ drop-append_seam w more)
@@ -102,6 +139,7 @@ module _ (e : Environment) where
   pub one_row : (ts ss : List Token) (us : List CodePoint) → TokenRow e ts us [] → TokenRow e ss us [] → ts ≡ ss
   one_row ts ss us r s = let x = row_prefix ts ss us [] r s in sym (x.1 ∙ ap (λ xs. ts ++ xs) (none_left x.0 x.2) ∙ append-nil ts)
 
--- also in two environments of one mode, with buffer boundaries or without
-pub one_row_by_mode : (e d : Environment) (ts ss : List Token) (us : List CodePoint) → e.mode ≡ d.mode → e.buffer_boundaries ≡ d.buffer_boundaries → TokenRow e ts us [] → TokenRow d ss us [] → ts ≡ ss
-one_row_by_mode e d ts ss us m b r s = one_row d ts ss us (TokenRow-mode e d ts us [] m b r) s
+-- also in two environments of one mode that agree on buffer boundaries and on references
+pub one_row_by_mode : (e d : Environment) (ts ss : List Token) (us : List CodePoint) → e.mode ≡ d.mode → e.buffer_boundaries ≡ d.buffer_boundaries → e.named ≡ d.named →
+    TokenRow e ts us [] → TokenRow d ss us [] → ts ≡ ss
+one_row_by_mode e d ts ss us m b n r s = one_row d ts ss us (TokenRow-mode e d ts us [] m b n r) s

@@ -1,5 +1,5 @@
 -- Units whose values are two lists, one after the other.
-use Rattle.std.proofs.Common.{◌≡◌, refl, ap, ◌∙◌, ℕ, List, [], ◌∷◌, ◌++◌}
+use Rattle.std.proofs.Common.{◌≡◌, refl, ap, ◌∙◌, ℕ, List, [], ◌∷◌, ◌++◌, length}
 use Rattle.rx_units.specs.declared.code_point.CodePoint.{CodePoint}
 use Rattle.rx_units.specs.Units.{values}
 
@@ -28,3 +28,11 @@ split_values (u ∷ us) (x ∷ a) b h =
       front_is = ap (λ xs. u.value ∷ xs) s.front_is ∙ ap (λ x. x ∷ a) (let k : u.value ≡ x = cc h in k);
       back_is = s.back_is;
     }
+
+-- at the front of a text so many characters are what units with their values are
+pub record TextFront (S : List CodePoint → List CodePoint → Type 0) (n : ℕ) (v : List ℕ) : Type 0 where
+  pub text : List ℕ
+  pub back : List ℕ
+  pub whole : v ≡ text ++ back
+  pub count : length text ≡ n
+  pub spells : (w rest : List CodePoint) → values w ≡ text → values rest ≡ back → S w rest

@@ -14,15 +14,17 @@ use Rattle.rx_model.specs.Boundaries.{has_buffers}
 use Rattle.rx_model.specs.Environment.{Environment, is_unicode}
 use Rattle.rx_model.specs.Escapes.{front_is, is_identity_escape, SpellsEscape, control, letter, null, hexadecimal, unicode, identity}
 use Rattle.rx_model.specs.Fronts.{EscapeRead, escaped, nothing, too_many, no_unicode, escape_at, boundary_at, class_escape_at, escaped_token, backslash_token, backslash_front, Counts, counts, no_counts, counts_at, quantifier_token, front}
+use Rattle.rx_model.specs.Marks.{starts}
 use Rattle.rx_model.specs.Quantifiers.{SpellsCounts, star, plus, optional, braces, BeginsWithBraces}
 use Rattle.rx_model.specs.Rows.{Spells}
 use Rattle.rx_model.specs.Stops.{is_one_of, is_letter, is_hex_digit, two_hex_digits, begins_escape, IsStop, at_end, at_closer, at_bracket, at_brace, behind_backslash}
-use Rattle.rx_model.specs.Token.{Token, character}
+use Rattle.rx_model.specs.Token.{Token, character, closer}
 use Rattle.rx_model.specs.UnicodeEscapes.{hex_number}
-use Rattle.rx_model.proofs.Backslashes.{escape_token}
+use Rattle.rx_model.proofs.Backslashes.{unreferred, escape_token}
 use Rattle.rx_model.proofs.Decodings.{both}
 use Rattle.rx_model.proofs.Escapes.{begins_with_u, escape_spelled}
 use Rattle.rx_model.proofs.Fronts.{front_by_values, spelled_front}
+use Rattle.rx_model.proofs.Modifiers.{starts_there}
 use Rattle.rx_model.proofs.Quantifiers.{counts_spelled}
 
 some_there : (o : Option ℕ) → is_some o ≡ true → (v : ℕ) × (o ≡ Some v)
@@ -44,7 +46,13 @@ no_letter_begins e c a b d f = grind (arith, nat_tests)
 no_buffer : (e : Environment) (c : ℕ) → boundary_at e c ≡ None → (has_buffers e && is_one_of (codes "AzZ") c) ≡ false
 no_buffer e c h = grind (arith, nat_tests)
 
+no_letter_k : (c : ℕ) → is_one_of (codes "upPk") c ≡ false → (c == 107) ≡ false
+no_letter_k c h = grind (arith, nat_tests)
+
 -- the other way
+no_k : (c : ℕ) → is_one_of (codes "upPkbBdDsSwWfnrtv") c ≡ false → (c == 107) ≡ false
+no_k c h = grind (arith, nat_tests)
+
 no_boundary : (e : Environment) (c : ℕ) → is_one_of (codes "upPkbBdDsSwWfnrtv") c ≡ false → (has_buffers e && is_one_of (codes "AzZ") c) ≡ false → boundary_at e c ≡ None
 no_boundary e c h k = grind (arith, nat_tests)
 
@@ -106,11 +114,10 @@ module _ (e : Environment) where
   at_character c d w f h = subst (λ c. backslash_front e (c ∷ w) ≡ None) (eqb-true c d f) h
 
   pub stop_backslash : (w : List ℕ) → is_unicode e.mode ≡ true → backslash_front e w ≡ None → front_is (λ c. is_one_of (codes "upPk") c || is_within 49 57 c) w ≡ false → begins_escape e w ≡ false
-  unfolding backslash_front
   stop_backslash [] u h k = refl
   stop_backslash (c ∷ w) u h k =
       let free = or_parts (is_one_of (codes "upPk") c) (is_within 49 57 c) k in
-      let none = parts_none (boundary_at e c) (class_escape_at c) (escape_at (is_unicode e.mode) (c ∷ w)) h in
+      let none = parts_none (boundary_at e c) (class_escape_at c) (escape_at (is_unicode e.mode) (c ∷ w)) (sym (unreferred e c w free.1 (no_letter_k c free.0)) ∙ h) in
       let no_control_letter = no_control c w h in
       or_from _ _ (or_from _ _ (or_from _ _ (or_from _ _ (or_from _ _ (or_from _ _
       (no_letter_begins e c free.0 none.0 none.1 no_control_letter)
@@ -125,6 +132,7 @@ module _ (e : Environment) where
   record NoBeginning (c : ℕ) (w : List ℕ) : Type 0 where
     no_letters : is_one_of (codes "upPkbBdDsSwWfnrtv") c ≡ false
     no_identity : is_identity_escape c ≡ false
+    no_digit : is_within 49 57 c ≡ false
     no_buffers : (has_buffers e && is_one_of (codes "AzZ") c) ≡ false
     no_c : (c == 99 && front_is is_letter w) ≡ false
     no_null : (c == 48 && not (front_is is_decimal_digit w)) ≡ false
@@ -141,6 +149,7 @@ module _ (e : Environment) where
       record {
         no_letters = second.0;
         no_identity = second.1;
+        no_digit = third.1;
         no_buffers = fourth.1;
         no_c = fifth.1;
         no_null = sixth.1;
@@ -167,7 +176,8 @@ module _ (e : Environment) where
   backslash_stop [] h = refl
   backslash_stop (c ∷ w) h =
       let b = no_beginning c w h in
-      rw (no_boundary e c b.no_letters b.no_buffers, no_class c b.no_letters) (nothing_read (c ∷ w) (escape_at (is_unicode e.mode) (c ∷ w)) h refl)
+      unreferred e c w b.no_digit (no_k c b.no_letters)
+      ∙ rw (no_boundary e c b.no_letters b.no_buffers, no_class c b.no_letters) (nothing_read (c ∷ w) (escape_at (is_unicode e.mode) (c ∷ w)) h refl)
 
   brace_stop : (w : List ℕ) (r : Counts) → counts_at (123 ∷ w) ≡ r → (BeginsWithBraces (123 ∷ w) → ⊥) → quantifier_token r (123 ∷ w) ≡ None
   brace_stop w no_counts h k = refl
@@ -175,18 +185,23 @@ module _ (e : Environment) where
       let f = counts_spelled min max n (123 ∷ w) h in
       absurd (only_braces min max f.prefix f.rest w f.spelled f.whole k)
 
-  stop_front : (us : List CodePoint) (i : ℕ) → IsStop e us i → front e us ≡ None
+  -- A stop that is not at `)` begins no token.
+  pub stop_front : (us : List CodePoint) (i : ℕ) → IsStop e us i → starts 41 (values us) ≡ false → front e us ≡ None
   unfolding front
-  stop_front _ _ at_end = refl
-  stop_front _ _ (at_closer {u} {us} h) = front_by_values e (u ∷ us) 41 (values us) refl (ap (λ c. c ∷ values us) h) ∙ no_quantifier 41 (values us) refl refl refl refl
-  stop_front _ _ (at_bracket {u} {us} m h) = elim (or_cases (u.value == 93) (u.value == 125) h) [
+  stop_front _ _ at_end other = refl
+  stop_front _ _ (at_closer {u} {us} h) other = absurd (true≢false (ap (λ c. c == 41) (sym h) ∙ other))
+  stop_front _ _ (at_bracket {u} {us} m h) other = elim (or_cases (u.value == 93) (u.value == 125) h) [
     | inl p ↦ front_by_values e (u ∷ us) 93 (values us) refl (ap (λ c. c ∷ values us) (eqb-true u.value 93 p)) ∙ no_quantifier 93 (values us) refl refl refl refl
     | inr p ↦ front_by_values e (u ∷ us) 125 (values us) refl (ap (λ c. c ∷ values us) (eqb-true u.value 125 p)) ∙ no_quantifier 125 (values us) refl refl refl refl
   ]
-  stop_front _ _ (at_brace {u} {us} m h none limit) =
+  stop_front _ _ (at_brace {u} {us} m h none limit) other =
       let text : values (u ∷ us) ≡ 123 ∷ values us = ap (λ c. c ∷ values us) h in
       front_by_values e (u ∷ us) 123 (values us) refl text ∙ brace_stop (values us) (counts_at (123 ∷ values us)) refl (λ b. none (subst BeginsWithBraces (sym text) b))
-  stop_front _ _ (behind_backslash {u} {us} m h none) = front_by_values e (u ∷ us) 92 (values us) refl (ap (λ c. c ∷ values us) h) ∙ backslash_stop (values us) none
+  stop_front _ _ (behind_backslash {u} {us} m h none) other = front_by_values e (u ∷ us) 92 (values us) refl (ap (λ c. c ∷ values us) h) ∙ backslash_stop (values us) none
 
-  pub stopped : (us : List CodePoint) (i : ℕ) → IsStop e us i → (t : Token) (w rest : List CodePoint) → us ≡ w ++ rest → Spells e t w rest → ⊥
-  stopped us i s t w rest h spelled = let k : Some (t, length w) ≡ None = sym (spelled_front e t w rest spelled) ∙ ap (front e) (sym h) ∙ stop_front us i s in cc k
+  pub stopped : (us : List CodePoint) (i : ℕ) → IsStop e us i → starts 41 (values us) ≡ false → (t : Token) (w rest : List CodePoint) → us ≡ w ++ rest → Spells e t w rest → ⊥
+  stopped us i s other t w rest h spelled = let k : Some (t, length w) ≡ None = sym (spelled_front e t w rest spelled) ∙ ap (front e) (sym h) ∙ stop_front us i s other in cc k
+
+  -- At `)` a closer is read.
+  pub closer_front : (us : List CodePoint) → starts 41 (values us) ≡ true → front e us ≡ Some (closer, 1)
+  closer_front us h = let s = starts_there 41 (values us) h in front_by_values e us 41 s.0 refl s.1
