@@ -22,8 +22,8 @@ use Rattle.rx_model.specs.Spelling.{look_text}
 use Rattle.rx_model.specs.Token.{Opener, capturing, ignoring, looking, named}
 use Rattle.rx_model.proofs.Decodings.{chosen, Some-inj}
 use Rattle.rx_model.proofs.GroupNames.{differs, name_at_law, name_before_closer}
-use Rattle.rx_model.proofs.Modifiers.{starts_there, no_mark, modified_read, ModifiersFront, modified_spelled}
-use Rattle.rx_model.proofs.Splits.{TextFront}
+use Rattle.rx_model.proofs.Modifiers.{no_mark, modified_read, ModifiersFront, modified_spelled}
+use Rattle.rx_model.proofs.Splits.{starts_there, TextFront}
 
 module _ (unicode_mode : Bool) where
   name_some : (name w rest : List ℕ) → SpellsName unicode_mode name w rest → (c : ℕ) × (cs : List ℕ) × (name ≡ c ∷ cs)

@@ -1,7 +1,7 @@
 -- The modifiers of a group: what is spelled is read, and what is read is spelled.
 use Rattle.std.proofs.Common.{◌≡◌, ◌≢◌, ℕ, suc, ◌+◌, ◌==◌, Bool, true, false, not, ◌&&◌, ◌||◌, List, [], ◌∷◌, ◌++◌, take, drop, length, Some, refl, sym, ap, ap₂, ◌∙◌, subst, arith, inl, inr, append_assoc, length-append}
 use Rattle.std.proofs.Math.Seq.{drop-append_seam, drop-append-add, take-append_seam}
-use Rattle.std.proofs.lemmas.Bool.{eqb-true, cond-true, cond-false, and_from, or_left, cases_Bool, not-true, true≢false}
+use Rattle.std.proofs.lemmas.Bool.{cond-true, cond-false, and_from, or_left, cases_Bool, not-true, true≢false}
 use Rattle.std.proofs.lemmas.Bool.Decides.{nat_tests}
 use Rattle.std.specs.List.{list_all}
 use Rattle.rx_model.specs.Escapes.{front_is}
@@ -11,10 +11,7 @@ use Rattle.rx_model.specs.Marks.{starts}
 use Rattle.rx_model.specs.Modifiers.{is_modifier, has_twice, letters_bits, AreSides, one_side, two_sides, SpellsModifiers}
 use Rattle.rx_model.specs.Token.{Opener, ignoring}
 use Rattle.rx_model.proofs.Decodings.{chosen, both}
-
-pub starts_there : (c : ℕ) (w : List ℕ) → starts c w ≡ true → (rest : List ℕ) × (w ≡ c ∷ rest)
-starts_there c [] h = absurd (let no : ⊥ = cc h in no)
-starts_there c (x ∷ w) h = (w, ap (λ x. x ∷ w) (eqb-true x c h))
+use Rattle.rx_model.proofs.Splits.{starts_there}
 
 -- letters are read to their end
 letters_read : (w rest : List ℕ) → list_all is_modifier w ≡ true → front_is is_modifier rest ≡ false → letters_at (w ++ rest) ≡ length w

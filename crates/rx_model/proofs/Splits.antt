@@ -1,7 +1,9 @@
--- Units whose values are two lists, one after the other.
-use Rattle.std.proofs.Common.{◌≡◌, refl, ap, ◌∙◌, ℕ, List, [], ◌∷◌, ◌++◌, length}
+-- What a text begins with, and units whose values are two lists, one after the other.
+use Rattle.std.proofs.Common.{◌≡◌, refl, ap, ◌∙◌, ℕ, true, List, [], ◌∷◌, ◌++◌, length}
+use Rattle.std.proofs.lemmas.Bool.{eqb-true}
 use Rattle.rx_units.specs.declared.code_point.CodePoint.{CodePoint}
 use Rattle.rx_units.specs.Units.{values}
+use Rattle.rx_model.specs.Marks.{starts}
 
 pub record Split (us : List CodePoint) (a b : List ℕ) : Type 0 where
   pub front : List CodePoint
@@ -36,3 +38,8 @@ pub record TextFront (S : List CodePoint → List CodePoint → Type 0) (n : ℕ
   pub whole : v ≡ text ++ back
   pub count : length text ≡ n
   pub spells : (w rest : List CodePoint) → values w ≡ text → values rest ≡ back → S w rest
+
+-- a text that starts with this character
+pub starts_there : (c : ℕ) (w : List ℕ) → starts c w ≡ true → (rest : List ℕ) × (w ≡ c ∷ rest)
+starts_there c [] h = absurd (let no : ⊥ = cc h in no)
+starts_there c (x ∷ w) h = (w, ap (λ x. x ∷ w) (eqb-true x c h))

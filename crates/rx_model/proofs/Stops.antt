@@ -1,4 +1,4 @@
--- Where terms end no token is spelled.
+-- Where terms end no token is spelled, but for a closer at `)`.
 use Rattle.std.proofs.Common.{◌≡◌, ℕ, ◌+◌, ◌*◌, ◌==◌, true, false, not, is_some, ◌||◌, ◌&&◌, Option, Some, None, List, [], ◌∷◌, ◌++◌, length, refl, sym, ap, ◌∙◌, subst, codes, arith, inl, inr}
 use Rattle.std.proofs.lemmas.Bool.{eqb-true, or_cases, or_parts, or_from, not-true, true≢false, false_from_ne_true, both_ways}
 use Rattle.std.proofs.lemmas.Bool.Decides.{nat_tests}
@@ -24,8 +24,8 @@ use Rattle.rx_model.proofs.Backslashes.{unreferred, escape_token}
 use Rattle.rx_model.proofs.Decodings.{both}
 use Rattle.rx_model.proofs.Escapes.{begins_with_u, escape_spelled}
 use Rattle.rx_model.proofs.Fronts.{front_by_values, spelled_front}
-use Rattle.rx_model.proofs.Modifiers.{starts_there}
 use Rattle.rx_model.proofs.Quantifiers.{counts_spelled}
+use Rattle.rx_model.proofs.Splits.{starts_there}
 
 some_there : (o : Option ℕ) → is_some o ≡ true → (v : ℕ) × (o ≡ Some v)
 some_there None h = absurd (let k : ⊥ = cc h in k)
