@@ -5,7 +5,7 @@ use Rattle.std.proofs.lemmas.Bool.Decides.{nat_tests}
 use Rattle.std.proofs.lemmas.List.{append-nil}
 use Rattle.rx_base.specs.SurrogatePair.{IsLeadSurrogate, IsTrailSurrogate, surrogate_pair}
 use Rattle.rx_model.specs.Decoding.{Decoded, value, invalid, overflow, decoded, is_lead, is_trail}
-use Rattle.rx_model.specs.GroupNames.{is_in_name, is_pair_in_name, SpellsNameCharacter, one_unit, by_escape, raw_pair, SpellsNameParts, no_part, part, SpellsName, whole_name, IsGroupName, BeginsWithName}
+use Rattle.rx_model.specs.GroupNames.{is_in_name, is_pair_in_name, IsNameRow, no_name, some_name, SpellsNameCharacter, one_unit, by_escape, raw_pair, SpellsNameParts, no_part, part, SpellsName, whole_name, IsGroupName, BeginsWithName}
 use Rattle.rx_model.specs.GroupNameReading.{NameCharacter, character, no_character, NameRow, row, tested, escape_in_name, pair_at, name_character_at, row_behind, row_from, row_after, name_at, all_of, name_of}
 use Rattle.rx_model.specs.UnicodeEscapes.{SpellsUnicode, alone, pair, braced}
 use Rattle.rx_model.proofs.Decodings.{chosen, both, spelled_read, read_spelled}
@@ -292,6 +292,25 @@ module _ (unicode_mode : Bool) where
   -- a text begins with a name of so many units, and with no longer one, exactly where that is read
   pub name_at_law : (us : List ℕ) (c : ℕ) (cs : List ℕ) (n : ℕ) → (name_at unicode_mode us ≡ row (c ∷ cs) n) ↔ BeginsWithName unicode_mode us (c ∷ cs) n
   name_at_law us c cs n = (read_name us c cs n, name_read us (c ∷ cs) n)
+
+  -- what is read is the longest row, which may be none
+  pub name_row_law : (us cs : List ℕ) (n : ℕ) → name_at unicode_mode us ≡ row cs n → IsNameRow unicode_mode us n
+  name_row_law us cs n h = go (name_character_at unicode_mode true us) refl
+    where
+      count_of : (ds : List ℕ) (m : ℕ) → row ds m ≡ row cs n → m ≡ n
+      count_of ds m e = cc e
+
+      some_of : (r : NameRow) (c k : ℕ) → row_behind (c ∷ []) k r ≡ row cs n → (ds : List ℕ) × (cs ≡ c ∷ ds)
+      some_of (row ds m) c k e = (ds, cc e)
+
+      none : name_character_at unicode_mode true us ≡ no_character → (c : ℕ) (w more : List ℕ) → SpellsNameCharacter unicode_mode true c w more → us ≡ w ++ more → ⊥
+      none e c w more spells whole = let read = sym e ∙ ap (name_character_at unicode_mode true) whole ∙ spelled_character true c w more spells in cc read
+
+      go : (o : NameCharacter) → name_character_at unicode_mode true us ≡ o → IsNameRow unicode_mode us n
+      go no_character e = subst (IsNameRow unicode_mode us) (count_of [] 0 (sym (row_stops true us e) ∙ h)) (no_name (none e))
+      go (character c k) e =
+          let some = some_of (row_after unicode_mode false 0 (drop k us)) c k (sym (row_steps true us c k e (read_some true us c k e)) ∙ h) in
+          some_name ((name_at_law us c some.0 n).0 (h ∙ ap (λ ds. row ds n) some.1))
 
   nothing_more : (w rest : List ℕ) → length w ≡ length (w ++ rest) → rest ≡ []
   nothing_more w [] h = refl

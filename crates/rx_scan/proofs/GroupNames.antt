@@ -6,9 +6,9 @@ use Rattle.std.specs.List.{drop-map}
 use Rattle.rx_units.specs.declared.code_point.CodePoint.{CodePoint}
 use Rattle.rx_units.specs.Units.{values}
 use Rattle.rx_model.specs.Decoding.{Decoded, value}
-use Rattle.rx_model.specs.GroupNames.{IsGroupName, is_in_name}
-use Rattle.rx_model.specs.GroupNameReading.{NameCharacter, character, no_character, name_character_at, row_behind, row_after, name_at, all_of, name_of, tested, escape_in_name}
-use Rattle.rx_model.proofs.GroupNames.{character_spelled, name_of_law, read_some, row_behind_none, row_behind_twice, row_steps, row_stops}
+use Rattle.rx_model.specs.GroupNames.{IsGroupName, IsNameRow, is_in_name}
+use Rattle.rx_model.specs.GroupNameReading.{NameCharacter, character, no_character, name_character_at, row, row_behind, row_after, name_at, all_of, name_of, tested, escape_in_name}
+use Rattle.rx_model.proofs.GroupNames.{character_spelled, name_of_law, read_some, row_behind_none, row_behind_twice, row_steps, row_stops, name_row_law}
 
 -- a character of a name is some units, and no more than there are
 pub character_some : (unicode_mode first : Bool) (us : List ℕ) (c n : ℕ) → character c n ≡ name_character_at unicode_mode first us → 0 < n
@@ -82,3 +82,31 @@ pub read_names : (unicode_mode : Bool) (us : List ℕ) (found : Option (List ℕ
 read_names unicode_mode us found read name =
     let law = name_of_law unicode_mode us name in
     (λ h. law.0 (sym read ∙ h), λ h. read ∙ law.1 h)
+
+-- Some code points of a name are read before the place.
+abbrev pub IsRowBefore : Bool → List CodePoint → ℕ → Type 0
+IsRowBefore unicode_mode us place =
+    (name : List ℕ) × (name_at unicode_mode (values us) ≡ row_behind name place (row_after unicode_mode (place == 0) 0 (values (drop place us))))
+
+-- The longest row of a name's characters ends at the place.
+abbrev pub IsRow : Bool → List CodePoint → ℕ → Type 0
+IsRow unicode_mode us place = (name : List ℕ) × (name_at unicode_mode (values us) ≡ row name place)
+
+pub none_before : (unicode_mode : Bool) (us : List CodePoint) → IsRowBefore unicode_mode us 0
+none_before unicode_mode us = ([], sym (row_behind_none (name_at unicode_mode (values us))))
+
+ends_there : (unicode_mode : Bool) (us : List CodePoint) (place : ℕ) → IsRowBefore unicode_mode us place → row_after unicode_mode (place == 0) 0 (values (drop place us)) ≡ row [] 0 → IsRow unicode_mode us place
+ends_there unicode_mode us place before e =
+    (before.0, before.1 ∙ ap (row_behind before.0 place) e ∙ ap₂ row (append-nil before.0) (omega arith))
+
+-- behind the place stands no character of a name, or nothing
+pub row_ended : (unicode_mode : Bool) (us : List CodePoint) (place : ℕ) → IsRowBefore unicode_mode us place → no_character ≡ name_character_at unicode_mode (place == 0) (values (drop place us)) →
+    IsRow unicode_mode us place
+row_ended unicode_mode us place before h = ends_there unicode_mode us place before (row_stops unicode_mode (place == 0) (values (drop place us)) (sym h))
+
+pub row_whole : (unicode_mode : Bool) (us : List CodePoint) (place : ℕ) → IsRowBefore unicode_mode us place → length us ≤ place → IsRow unicode_mode us place
+row_whole unicode_mode us place before all =
+    ends_there unicode_mode us place before (ap (λ (ws : List CodePoint). row_after unicode_mode (place == 0) 0 (values ws)) (drop_all place us all))
+
+pub is_longest : (unicode_mode : Bool) (us : List CodePoint) (place : ℕ) → IsRow unicode_mode us place → IsNameRow unicode_mode (values us) place
+is_longest unicode_mode us place r = name_row_law unicode_mode (values us) r.0 place r.1

@@ -48,14 +48,14 @@ pub fn group_name_length(units: &[CodePoint], unicode_mode: bool) -> usize
     ensures read { (name : List ℕ) × (name_at unicode_mode (values units.now) ≡ row name result) }
     ensures longest { IsNameRow unicode_mode (values units.now) result }
 {
-    let mut place = 0;
-    while place < units.len() {
-        match name_character(&units[place..], unicode_mode, place == 0) {
-            Some((_, length)) => place += length,
-            None => return place,
+    let mut length = 0;
+    while length < units.len() {
+        match name_character(&units[length..], unicode_mode, length == 0) {
+            Some((_, count)) => length += count,
+            None => return length,
         }
     }
-    place
+    length
 }
 
 /// The character of a name that the units begin with, and how many units spell it.

@@ -1,0 +1,49 @@
+use Rattle.std.proofs.Common.{◌+◌, ◌≤◌, ◌==◌, ◌≡◌, rules, arith, drop, length}
+use Rattle.rx_units.specs.Units.{values}
+use Rattle.rx_model.specs.GroupNameReading.{character, no_character, name_character_at}
+use Rattle.rx_scan.proofs.GroupNames.{at_place, character_some, character_within, none_before, goes_on, row_ended, row_whole, is_longest}
+use Rattle.rx_scan.proofs.group_name.group_name_length.Goals as goal
+
+pub loop-length-init : goal.loop-length-init
+loop-length-init c = record {
+  within = omega arith;
+  read = none_before c.args.unicode_mode c.args.units.now;
+}
+
+-- the character that was read at the place
+read_here : (c : goal.In-Some) → character c.in-Some.field-0-0 c.in-Some.count ≡ name_character_at c.args.unicode_mode (c.loop-length.length == 0) (values (drop c.loop-length.length c.args.units.now))
+read_here c = at_place c.args.unicode_mode c.args.units.now c.loop-length.length (character c.in-Some.field-0-0 c.in-Some.count) c.in-Some.ensures
+
+within_here : (c : goal.In-Some) → c.loop-length.length + c.in-Some.count ≤ length c.args.units.now
+within_here c = character_within c.args.unicode_mode (c.loop-length.length == 0) c.args.units.now c.loop-length.length c.in-Some.field-0-0 c.in-Some.count c.loop-length.invariant.within (read_here c)
+
+pub overflow_add-length : goal.overflow_add-length
+overflow_add-length c = let within = within_here c in search (rules, within)
+
+pub loop-length-smaller : goal.loop-length-smaller
+loop-length-smaller c =
+    let some = character_some c.args.unicode_mode (c.loop-length.length == 0) (values (drop c.loop-length.length c.args.units.now)) c.in-Some.field-0-0 c.in-Some.count (read_here c) in
+    let more = c.loop-length-test.true in
+    omega (arith, some, more)
+
+pub loop-length-preserved : goal.loop-length-preserved
+loop-length-preserved c = record {
+  within = within_here c;
+  read =
+      let before = c.loop-length.invariant.read in
+      (_, goes_on c.args.unicode_mode c.args.units.now before.0 c.loop-length.length c.loop-length.invariant.within before.1 c.in-Some.field-0-0 c.in-Some.count (read_here c));
+}
+
+pub returns-in-None-clause-read : goal.returns-in-None-clause-read
+returns-in-None-clause-read c =
+    row_ended c.args.unicode_mode c.args.units.now c.loop-length.length c.loop-length.invariant.read
+    (at_place c.args.unicode_mode c.args.units.now c.loop-length.length no_character c.in-None.ensures)
+
+pub returns-in-None-clause-longest : goal.returns-in-None-clause-longest
+returns-in-None-clause-longest c = is_longest c.args.unicode_mode c.args.units.now c.loop-length.length (returns-in-None-clause-read c)
+
+pub returns-clause-read : goal.returns-clause-read
+returns-clause-read c = row_whole c.args.unicode_mode c.args.units.now c.loop-length.length c.loop-length.invariant.read c.loop-length-test.false
+
+pub returns-clause-longest : goal.returns-clause-longest
+returns-clause-longest c = is_longest c.args.unicode_mode c.args.units.now c.loop-length.length (returns-clause-read c)
