@@ -7,6 +7,7 @@ pub mod FrameEvents
 pub mod FrontFound
 pub mod Goods
 pub mod Halts
+pub mod Insides
 pub mod Leaves
 pub mod Literals
 pub mod Pieces
