@@ -1,4 +1,6 @@
 pub mod Agains
+pub mod DeadCounts
+pub mod DeadFronts
 pub mod Digits
 pub mod Endings
 pub mod EventEquations

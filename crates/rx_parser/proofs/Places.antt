@@ -1,5 +1,5 @@
 -- What a place that a parse has reached says of the whole text.
-use Rattle.std.proofs.Common.{◌≡◌, refl, ap, ap₂, sym, ◌∙◌, subst, ℕ, ◌+◌, ◌<◌, Bool, Option, Some, List, [], ◌∷◌, ◌++◌, length, drop, arith, length-drop}
+use Rattle.std.proofs.Common.{◌≡◌, ap, sym, ◌∙◌, subst, ℕ, ◌+◌, ◌<◌, Bool, Option, Some, None, List, [], ◌∷◌, ◌++◌, length, drop, arith, length-drop}
 use Rattle.std.specs.Prelude.{All}
 use Rattle.std.proofs.lemmas.List.Elements.{All-head, All-tail}
 use Rattle.rx_ast.specs.declared.term.Pattern.{Pattern}
@@ -7,7 +7,7 @@ use Rattle.rx_units.specs.declared.code_point.CodePoint.{CodePoint}
 use Rattle.rx_units.specs.Units.{offset_at}
 use Rattle.rx_model.specs.declared.mode.Mode.TheVariants.{Unicode}
 use Rattle.rx_model.specs.Early.{Obeys}
-use Rattle.rx_model.specs.Environment.{Environment, environment}
+use Rattle.rx_model.specs.Environment.{environment}
 use Rattle.rx_model.specs.Events.{tokens, tokens_of}
 use Rattle.rx_model.specs.Fronts.{front}
 use Rattle.rx_model.specs.Names.{groups, names}
@@ -26,6 +26,22 @@ use Rattle.rx_parser.proofs.Steps.{IsAhead, pattern_ahead}
 -- No token that obeys stands next.
 abbrev pub IsDead : List CodePoint → List CodePoint → Type 0
 IsDead us rest = (t : Token) (n : ℕ) → front (text_environment Unicode us) rest ≡ Some (t, n) → Obeys (text_groups us) (text_names Unicode us) t → ⊥
+
+abbrev pub next : Token → ℕ → Option (Token × ℕ)
+next t n = Some (t, n)
+
+one_of : {A : Type 0} {x y : A} → Some x ≡ Some y → x ≡ y
+one_of h = cc
+
+-- one token stands next
+pub same_token : (s t : Token) (n k : ℕ) → next s n ≡ next t k → s ≡ t
+same_token s t n k h = ap (λ x. x.0) (one_of h)
+
+pub dead_none : (us rest : List CodePoint) → front (text_environment Unicode us) rest ≡ None → IsDead us rest
+dead_none us rest e t n f o = let no : ⊥ = cc (e, f) in no
+
+pub dead_token : (us rest : List CodePoint) (t : Token) (n : ℕ) → front (text_environment Unicode us) rest ≡ Some (t, n) → (Obeys (text_groups us) (text_names Unicode us) t → ⊥) → IsDead us rest
+dead_token us rest t n e not s k f o = not (subst (Obeys (text_groups us) (text_names Unicode us)) (sym (same_token t s n k (sym e ∙ f))) o)
 
 none_goes_on : (us rest : List CodePoint) → (rest ≡ [] → ⊥) → IsDead us rest → (xs : List Token) → TokenRow (text_environment Unicode us) xs rest [] → AreObeying Unicode us xs → ⊥
 none_goes_on us rest some dead [] r o = some r
