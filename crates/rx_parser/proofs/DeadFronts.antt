@@ -1,10 +1,10 @@
 -- No token that obeys stands where an escape, a name, a reference or modifiers are wrong.
-use Rattle.std.proofs.Common.{◌≡◌, ◌≢◌, refl, ap, sym, ◌∙◌, subst, ℕ, ◌+◌, ◌<◌, Bool, true, false, ◌||◌, ◌&&◌, Some, None, List, [], ◌∷◌, ◌++◌, ◌==◌, length, drop, inl, inr, cond, arith, append_assoc, length-append}
+use Rattle.std.proofs.Common.{◌≡◌, ◌≢◌, refl, ap, sym, ◌∙◌, subst, ℕ, ◌+◌, ◌<◌, Bool, true, false, ◌||◌, Some, None, List, [], ◌∷◌, ◌++◌, ◌==◌, length, drop, inl, inr, cond, arith, append_assoc, length-append}
 use Rattle.std.specs.Int.{bit_at}
 use Rattle.std.specs.Int.RustNames.{bit_and}
 use Rattle.std.specs.List.{list_all}
 use Rattle.std.proofs.Math.Seq.{drop-append_seam, drop-append-add, take-append_seam}
-use Rattle.std.proofs.lemmas.Bool.{and_left, cond-false, cond-true, eqb-true, eq-eqb, false_from_ne_true, or_cases, or_from, or_left, or_right}
+use Rattle.std.proofs.lemmas.Bool.{cond-false, eqb-true, eq-eqb, false_from_ne_true, or_cases, or_from, or_left, or_right}
 use Rattle.std.proofs.lemmas.Nat.Bits.{bit_at_and, bit_at-zero}
 use Rattle.rx_units.specs.declared.code_point.CodePoint.{CodePoint}
 use Rattle.rx_units.specs.Units.{values}
@@ -169,7 +169,6 @@ sides_letters : (w v text : List ℕ) → AreSides w v text → list_all is_modi
 sides_letters w _ _ (one_side h) = h
 sides_letters _ _ _ (two_sides w v h k) = h
 
--- in a text
 module _ (us : List CodePoint) where
   abbrev here : Environment
   here = text_environment Unicode us

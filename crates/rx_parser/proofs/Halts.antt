@@ -1,11 +1,11 @@
 -- Where the reading halts the text is refused with its cause, and no tree reads it.
-use Rattle.std.proofs.Common.{◌≡◌, refl, ap, sym, ◌∙◌, subst, ℕ, ◌+◌, ◌<◌, ◌≤◌, inl, inr, Bool, true, false, Option, Some, None, List, [], ◌∷◌, ◌++◌, length, drop, arith, length-append}
+use Rattle.std.proofs.Common.{◌≡◌, refl, ap, sym, ◌∙◌, subst, ℕ, ◌+◌, ◌<◌, ◌≤◌, inl, inr, Bool, true, false, Option, Some, List, [], ◌∷◌, ◌++◌, length, drop, arith, length-append}
 use Rattle.std.proofs.lemmas.Bool.{true≢false}
 use Rattle.std.proofs.lemmas.List.{drop_all}
 use Rattle.rx_base.specs.declared.fault.Fault.{Fault}
 use Rattle.rx_base.specs.declared.fault.Fault.TheVariants.{Diagnostic}
 use Rattle.rx_base.specs.declared.diagnostic.Diagnostic.{Diagnostic as Refusal}
-use Rattle.rx_base.specs.declared.diagnostic.Diagnostic.TheVariants.{ParsePatternIncomplete, UnterminatedPattern, InvalidIndexedReference, BracedQuantifierOutOfOrder, TooLargeNumberInBracedQuantifier, TooLargeNumberDigits, InvalidUnicodeEscapeSequence, EmptyGroupSpecifier, DuplicatedModifiers, InvalidModifiers, EmptyModifiers, UnknownModifiers}
+use Rattle.rx_base.specs.declared.diagnostic.Diagnostic.TheVariants.{ParsePatternIncomplete, UnterminatedPattern, InvalidIndexedReference, BracedQuantifierOutOfOrder, TooLargeNumberInBracedQuantifier, TooLargeNumberDigits, InvalidUnicodeEscapeSequence, EmptyGroupSpecifier, DuplicatedModifiers, InvalidModifiers, UnknownModifiers}
 use Rattle.rx_base.specs.declared.diagnostic.kinds.DigitsKind.TheVariants.{Decimal, Hex}
 use Rattle.rx_base.specs.declared.diagnostic.kinds.Unterminated.TheVariants.{GroupName}
 use Rattle.rx_base.specs.declared.span.Span.{Span}
@@ -238,7 +238,8 @@ module _ (us : List CodePoint) (first added : ℕ) (b : Builder) (place : ℕ) (
     pub ended_refused : place ≡ length us → (openers b ≡ [] → ⊥) → (fault : Fault) → IsEndedFault us first added place b fault → IsRefused Unicode us first added fault
     ended_refused e some fault f =
         let none = nothing_left e in
-        let c = ended_cause 0 place fault (subst (λ rest. IsStop here rest 0) (sym none) at_end) (ap (λ rest. starts 41 (values rest)) none) (λ frames _. some (ap (λ fs. opened fs []) frames)) (omega arith) f in
+        let stop : IsStop here left 0 = subst (λ rest. IsStop here rest 0) (sym none) at_end in
+        let c = ended_cause 0 place fault stop (ap (λ rest. starts 41 (values rest)) none) (λ frames _. some (ap (λ fs. opened fs []) frames)) (omega arith) f in
         refused c.0 c.2 (λ p r. let a = read_ahead us first added b place h p r in none_closed a.1.0 a.0 (subst (λ rest. TokenRow here a.1.0 rest []) none a.1.1) a.1.2) fault c.1
       where
         same_open : (os ps : List Opener) (q r : Bool) → state os q ≡ state ps r → os ≡ ps
@@ -267,4 +268,5 @@ module _ (us : List CodePoint) (first added : ℕ) (b : Builder) (place : ℕ) (
         not_accepted some [] after r k = some r
         not_accepted some (t ∷ xs) after r k =
             let same : closer ≡ t = same_token closer t 1 (length r.0) (sym s.0 ∙ ap (front here) r.2 ∙ spelled_front here t r.0 r.1 r.3) in
-            let closed : run Unicode (closer ∷ xs) [] (ready b) ≡ Some ([], after) = subst (λ os. run Unicode (closer ∷ xs) os (ready b) ≡ Some ([], after)) none (subst (λ t. run Unicode (t ∷ xs) (openers b) (ready b) ≡ Some ([], after)) (sym same) k) in cc closed
+            let closed : run Unicode (closer ∷ xs) [] (ready b) ≡ Some ([], after) =
+            subst (λ os. run Unicode (closer ∷ xs) os (ready b) ≡ Some ([], after)) none (subst (λ t. run Unicode (t ∷ xs) (openers b) (ready b) ≡ Some ([], after)) (sym same) k) in cc closed

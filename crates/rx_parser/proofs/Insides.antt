@@ -14,7 +14,7 @@ use Rattle.rx_model.specs.declared.mode.Mode.TheVariants.{Unicode}
 use Rattle.rx_model.specs.Early.{Obeys}
 use Rattle.rx_model.specs.Environment.{Environment}
 use Rattle.rx_model.specs.Events as event
-use Rattle.rx_model.specs.Events.{Event, Events, enter, leave, token, modified, nodes_events, opener_event, term_events, alternative_events, tokens_of}
+use Rattle.rx_model.specs.Events.{Events, enter, leave, token, modified, nodes_events, opener_event, term_events, alternative_events, tokens_of}
 use Rattle.rx_model.specs.Reached.{AreObeying, IsInside, IsReached, text_environment, text_groups, text_names}
 use Rattle.rx_model.specs.Rows.{Row, TokenRow}
 use Rattle.rx_model.specs.Shapes.{run, takes}

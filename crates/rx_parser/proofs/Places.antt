@@ -7,10 +7,9 @@ use Rattle.rx_units.specs.declared.code_point.CodePoint.{CodePoint}
 use Rattle.rx_units.specs.Units.{offset_at}
 use Rattle.rx_model.specs.declared.mode.Mode.TheVariants.{Unicode}
 use Rattle.rx_model.specs.Early.{Obeys}
-use Rattle.rx_model.specs.Environment.{environment}
 use Rattle.rx_model.specs.Events.{tokens, tokens_of}
 use Rattle.rx_model.specs.Fronts.{front}
-use Rattle.rx_model.specs.Names.{groups, names}
+use Rattle.rx_model.specs.Names.{groups}
 use Rattle.rx_model.specs.Reached.{IsReached, AreObeying, text_environment, text_groups, text_names}
 use Rattle.rx_model.specs.Reading.{Reads}
 use Rattle.rx_model.specs.Rows.{TokenRow}
