@@ -83,11 +83,11 @@ module _ (unicode_mode : Bool) where
   name_no_look _ _ _ more (whole_name {c} w v rest spells parts) = ap (front_is looks) (append_assoc w v more) ∙ character_no_look c w (v ++ rest) (v ++ more) spells
 
   -- a group that neither looks behind nor lacks a name
-  angle_named : (v : List ℕ) → front_is looks v ≡ false → angle_group unicode_mode v ≡ named_group (name_front unicode_mode v)
+  pub angle_named : (v : List ℕ) → front_is looks v ≡ false → angle_group unicode_mode v ≡ named_group (name_front unicode_mode v)
   angle_named [] h = refl
   angle_named (c ∷ w) h = let p = or_parts (c == 61) (c == 33) h in cond-false (c == 61) _ _ p.0 ∙ cond-false (c == 33) _ _ p.1
 
-  question_modified : (c : ℕ) (w : List ℕ) → is_mark c ≡ false → question_group unicode_mode (c ∷ w) ≡ modified_group (sides_at (c ∷ w)) (c ∷ w)
+  pub question_modified : (c : ℕ) (w : List ℕ) → is_mark c ≡ false → question_group unicode_mode (c ∷ w) ≡ modified_group (sides_at (c ∷ w)) (c ∷ w)
   question_modified c w h =
       let third = or_parts (c == 58 || c == 61 || c == 33) (c == 60) h in
       let second = or_parts (c == 58 || c == 61) (c == 33) third.0 in

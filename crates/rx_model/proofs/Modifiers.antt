@@ -14,7 +14,7 @@ use Rattle.rx_model.proofs.Decodings.{chosen, both}
 use Rattle.rx_model.proofs.Splits.{starts_there}
 
 -- letters are read to their end
-letters_read : (w rest : List ℕ) → list_all is_modifier w ≡ true → front_is is_modifier rest ≡ false → letters_at (w ++ rest) ≡ length w
+pub letters_read : (w rest : List ℕ) → list_all is_modifier w ≡ true → front_is is_modifier rest ≡ false → letters_at (w ++ rest) ≡ length w
 letters_read [] [] h k = refl
 letters_read [] (c ∷ rest) h k = cond-false (is_modifier c) _ _ k
 letters_read (c ∷ w) rest h k =
@@ -50,16 +50,16 @@ modified_read enabling disabling text rest s =
     ∙ ap₂ (λ a b. Some (ignoring (Some (a, b)), length text + 3)) (sym s.enabling_is) (sym s.disabling_is)
 
 -- a letter, or the `-`
-abbrev begins_modifiers : ℕ → Bool
+abbrev pub begins_modifiers : ℕ → Bool
 begins_modifiers c = is_modifier c || c == 45
 
-modifiers_begin : (w v text : List ℕ) → AreSides w v text → text ≢ [] → front_is begins_modifiers text ≡ true
+pub modifiers_begin : (w v text : List ℕ) → AreSides w v text → text ≢ [] → front_is begins_modifiers text ≡ true
 modifiers_begin [] _ _ (one_side h) some = absurd (some refl)
 modifiers_begin (c ∷ w) _ _ (one_side h) some = or_left (is_modifier c) (c == 45) (both (is_modifier c) (list_all is_modifier w) h).0
 modifiers_begin _ _ _ (two_sides [] v h k) some = refl
 modifiers_begin _ _ _ (two_sides (c ∷ w) v h k) some = or_left (is_modifier c) (c == 45) (both (is_modifier c) (list_all is_modifier w) h).0
 
-not_mark : (c : ℕ) → begins_modifiers c ≡ true → is_mark c ≡ false
+pub not_mark : (c : ℕ) → begins_modifiers c ≡ true → is_mark c ≡ false
 not_mark c h = grind (arith, nat_tests)
 
 -- Modifiers begin with none of : = ! <

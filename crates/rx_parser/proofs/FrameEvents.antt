@@ -18,7 +18,7 @@ use Rattle.rx_parser.specs.declared.level.Level.{Level}
 use Rattle.rx_parser.specs.Frames.{opener_tree, frame_events, frames_events, builder_events, opened}
 use Rattle.rx_parser.specs.Levels.{level_events}
 
-frames_push : (fs : List Frame) (f : Frame) → frames_events (fs ++ (f ∷ [])) ≡ frames_events fs ++ frame_events f
+pub frames_push : (fs : List Frame) (f : Frame) → frames_events (fs ++ (f ∷ [])) ≡ frames_events fs ++ frame_events f
 frames_push [] f = append-nil (frame_events f)
 frames_push (g ∷ fs) f = ap (λ z. frame_events g ++ z) (frames_push fs f) ∙ sym (append_assoc (frame_events g) (frames_events fs) (frame_events f))
 

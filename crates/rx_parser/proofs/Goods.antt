@@ -82,7 +82,7 @@ module _ (mode : Mode) where
   frames_push [] f h g = (g, tt)
   frames_push (x ∷ fs) f h g = (h.0, frames_push fs f h.1 g)
 
-  frames_split : (fs : List Frame) (f : Frame) → AreGoodFrames mode (fs ++ (f ∷ [])) → AreGoodFrames mode fs × IsGoodLevel mode f.outer
+  pub frames_split : (fs : List Frame) (f : Frame) → AreGoodFrames mode (fs ++ (f ∷ [])) → AreGoodFrames mode fs × IsGoodLevel mode f.outer
   frames_split [] f h = (tt, h.0)
   frames_split (x ∷ fs) f h = let s = frames_split fs f h.1 in ((h.0, s.0), s.1)
 

@@ -1,238 +1,272 @@
--- Where the reading halts no token that obeys stands next, and the halt is the cause of a refusal.
-use Rattle.std.proofs.Common.{◌≡◌, refl, ap, sym, ◌∙◌, subst, ℕ, zero, suc, ◌+◌, ◌-◌, ◌*◌, ◌^◌, ◌<◌, ◌≤◌, inl, inr, Bool, true, false, Option, Some, None, List, [], ◌∷◌, ◌++◌, ◌==◌, length, drop, arith}
-use Rattle.std.proofs.lemmas.Bool.{cond-true, true≢false}
+-- Where the reading halts the text is refused with its cause, and no tree reads it.
+use Rattle.std.proofs.Common.{◌≡◌, refl, ap, sym, ◌∙◌, subst, ℕ, ◌+◌, ◌<◌, ◌≤◌, inl, inr, Bool, true, false, Option, Some, List, [], ◌∷◌, ◌++◌, length, drop, arith, length-append}
+use Rattle.std.proofs.lemmas.Bool.{true≢false}
+use Rattle.std.proofs.lemmas.List.{drop_all}
+use Rattle.rx_base.specs.declared.fault.Fault.{Fault}
+use Rattle.rx_base.specs.declared.fault.Fault.TheVariants.{Diagnostic}
+use Rattle.rx_base.specs.declared.diagnostic.Diagnostic.{Diagnostic as Refusal}
+use Rattle.rx_base.specs.declared.diagnostic.Diagnostic.TheVariants.{ParsePatternIncomplete, UnterminatedPattern, InvalidIndexedReference, BracedQuantifierOutOfOrder, TooLargeNumberInBracedQuantifier, TooLargeNumberDigits, InvalidUnicodeEscapeSequence, EmptyGroupSpecifier, DuplicatedModifiers, InvalidModifiers, UnknownModifiers}
+use Rattle.rx_base.specs.declared.diagnostic.kinds.DigitsKind.TheVariants.{Decimal, Hex}
+use Rattle.rx_base.specs.declared.diagnostic.kinds.Unterminated.TheVariants.{GroupName}
+use Rattle.rx_base.specs.declared.span.Span.{Span}
 use Rattle.rx_units.specs.declared.code_point.CodePoint.{CodePoint}
-use Rattle.rx_units.specs.Units.{values}
-use Rattle.rx_tables.specs.Characters.{is_decimal_digit}
+use Rattle.rx_units.specs.Units.{offset_at, values}
 use Rattle.rx_model.specs.declared.mode.Mode.TheVariants.{Unicode}
-use Rattle.rx_model.specs.Causes.{IsPlace, HasBraces, IsOutOfOrder, IsTooLarge, incomplete, out_of_order, too_large, too_many_digits, too_many_hex_digits, invalid_escape}
-use Rattle.rx_model.specs.Decoding.{Decoded, value, invalid, overflow, decoded}
-use Rattle.rx_model.specs.Early.{Obeys}
-use Rattle.rx_model.specs.Escapes.{front_is}
-use Rattle.rx_model.specs.Fronts.{escape_at, escaped_token, unicode_read, backslash_front, Digits, digits, digits_behind, Counts, counts, no_counts, counts_at, counts_in_braces, counts_behind_comma, greatest_of, quantifier_token, front}
-use Rattle.rx_model.specs.Quantifiers.{SpellsBraces, exactly, at_least, between, braces, AreDigits, PassesDecimal, PassesLimit, first, second, is_question}
-use Rattle.rx_model.specs.Token.{Token, quantifier}
+use Rattle.rx_model.specs.Causes.{IsCauseAtPlace, IsPlace, at_place, unterminated, incomplete, out_of_order, too_large, too_many_digits, too_many_hex_digits, invalid_escape, unterminated_group, unterminated_name, too_many_digits_in_name, misplaced_in_name, invalid_in_name, invalid_u_in_name, no_such_group, no_group_name, unknown_modifiers, duplicated_modifiers, empty_modifiers, invalid_modifiers}
+use Rattle.rx_model.specs.Early.{most_groups}
+use Rattle.rx_model.specs.Environment.{Environment}
+use Rattle.rx_model.specs.Fronts.{front}
+use Rattle.rx_model.specs.GroupNames.{IsNameRow}
+use Rattle.rx_model.specs.Groups.{BeginsName, EndsName}
+use Rattle.rx_model.specs.Marks.{starts}
+use Rattle.rx_model.specs.Reached.{HasNoClash, IsReached, span_between, text_environment, text_groups}
+use Rattle.rx_model.specs.Rows.{TokenRow}
+use Rattle.rx_model.specs.Shapes.{run}
+use Rattle.rx_model.specs.Stops.{IsStop, at_closer, at_end}
+use Rattle.rx_model.specs.Token.{Opener, Token, closer, indexed, opener_of}
 use Rattle.rx_model.specs.UnicodeEscapes.{Decodes, PassesHex}
-use Rattle.rx_model.proofs.Decodings.{chosen, value_law}
-use Rattle.rx_model.proofs.Escapes.{too_many_escape}
-use Rattle.rx_model.proofs.Fronts.{front_by_values}
-use Rattle.rx_model.proofs.Quantifiers.{spelled_counts, digits_read}
+use Rattle.rx_model.proofs.Decodings.{Some-inj}
+use Rattle.rx_model.proofs.Fronts.{front_spelled, spelled_front}
+use Rattle.rx_model.proofs.OneRow.{nothing_spelled}
 use Rattle.rx_parser.specs.declared.builder.Builder.{Builder}
 use Rattle.rx_parser.specs.declared.found.Halt.{Halt}
 use Rattle.rx_parser.specs.declared.found.Halt.TheVariants as halt
-use Rattle.rx_parser.specs.Found.{IsHalt}
-use Rattle.rx_parser.specs.Frames.{ready}
-use Rattle.rx_parser.specs.Parsing.{IsParsing, IsInvalid, IsRefused, halt_fault}
-use Rattle.rx_parser.proofs.Digits.{digit_there, digits_past, digits_le}
-use Rattle.rx_parser.proofs.Places.{text, IsDead, reached, dead_end, some_left}
+use Rattle.rx_parser.specs.declared.found.ModifiersFault.{ModifiersFault}
+use Rattle.rx_parser.specs.declared.frame.Frame.{Frame}
+use Rattle.rx_parser.specs.Faults.{IsEndedFault, IsHaltFault, modifiers_refusal}
+use Rattle.rx_parser.specs.Found.{HaltsInName, IsHalt, IsModifiersFault, unknown, duplicated, empty, invalid, Stands}
+use Rattle.rx_parser.specs.Frames.{opened, openers, opener_tree, ready}
+use Rattle.rx_parser.specs.Names.{EscapeBehind, IsBadEscape, misplaced, no_escape, no_escape_of_u}
+use Rattle.rx_parser.specs.Parsing.{IsParsing, IsInvalid, IsRefused}
+use Rattle.rx_parser.proofs.DeadCounts.{dead_limit, dead_numbers, not_in_order, not_small}
+use Rattle.rx_parser.proofs.DeadFronts.{dead_duplicated, dead_empty, dead_escape, dead_hex, dead_index, dead_name, dead_reference, dead_shared, dead_unknown}
+use Rattle.rx_parser.proofs.Insides.{inside}
+use Rattle.rx_parser.proofs.Places.{IsDead, dead_none, reached, read_ahead, dead_end, same_token, some_left}
 
--- The counts of a quantifier that stands next do not obey.
-abbrev DoNotObey : ℕ → Option ℕ → Type 0
-DoNotObey min max = (greedy : Bool) → Obeys 0 [] (quantifier min max greedy) → ⊥
-
-abbrev next : Token → ℕ → Option (Token × ℕ)
-next t n = Some (t, n)
-
-one_of : {A : Type 0} {x y : A} → Some x ≡ Some y → x ≡ y
-one_of h = cc
-
--- one token stands next
-pub same_token : (s t : Token) (n k : ℕ) → next s n ≡ next t k → s ≡ t
-same_token s t n k h = ap (λ x. x.0) (one_of h)
-
-dead_none : (us : List CodePoint) → front text us ≡ None → IsDead us
-dead_none us e t n f o = let k : ⊥ = cc (e, f) in k
-
-token_dead : (min : ℕ) (max : Option ℕ) (n : ℕ) (w : List ℕ) → DoNotObey min max → (t : Token) (k : ℕ) → quantifier_token (counts min max n) w ≡ Some (t, k) → Obeys 0 [] t → ⊥
-token_dead min max n w not t k h o = elim (chosen {x = next (quantifier min max false) (n + 1)} {y = next (quantifier min max true) n} (front_is is_question (drop n w)) h) [
-  | inl p ↦ not false (subst (Obeys 0 []) (sym (same_token (quantifier min max false) t (n + 1) k p.1)) o)
-  | inr p ↦ not true (subst (Obeys 0 []) (sym (same_token (quantifier min max true) t n k p.1)) o)
-]
-
-front_braces : (us : List CodePoint) (v : List ℕ) → values us ≡ 123 ∷ v → front text us ≡ quantifier_token (counts_at (123 ∷ v)) (123 ∷ v)
-front_braces us v e = front_by_values text us 123 v refl e
-
--- whatever the counts, they do not obey
-abbrev AreDead : Counts → Type 0
-AreDead c = (min : ℕ) (max : Option ℕ) (n : ℕ) → c ≡ counts min max n → DoNotObey min max
-
-dead_counts : (c : Counts) (w : List ℕ) → AreDead c → (t : Token) (k : ℕ) → quantifier_token c w ≡ Some (t, k) → Obeys 0 [] t → ⊥
-dead_counts no_counts w d t k h o = let f : ⊥ = cc h in f
-dead_counts (counts min max n) w d t k h o = token_dead min max n w (d min max n refl) t k h o
-
-dead_braces : (us : List CodePoint) (v : List ℕ) → values us ≡ 123 ∷ v → AreDead (counts_at (123 ∷ v)) → IsDead us
-dead_braces us v e d t n f o = dead_counts (counts_at (123 ∷ v)) (123 ∷ v) d t n (sym (front_braces us v e) ∙ f) o
-
-brace_first : (min : ℕ) (max : Option ℕ) (prefix : List ℕ) → SpellsBraces min max prefix → (v : List ℕ) × (prefix ≡ 123 ∷ v)
-brace_first _ _ _ (exactly ds a) = (_, refl)
-brace_first _ _ _ (at_least ds a) = (_, refl)
-brace_first _ _ _ (between ds es a b) = (_, refl)
-
--- Braces whose numbers do not obey stand next.
-pub dead_numbers : (us : List CodePoint) (min : ℕ) (max : Option ℕ) (n : ℕ) → HasBraces min max n us → DoNotObey min max → IsDead us
-dead_numbers us min max n h not =
-    let b = brace_first min max h.prefix h.spelled in
-    let whole : values us ≡ 123 ∷ (b.0 ++ h.behind) = h.whole ∙ ap (λ w. w ++ h.behind) b.1 in
-    let read : counts_at (123 ∷ (b.0 ++ h.behind)) ≡ counts min max (length h.prefix) =
-    ap counts_at (sym (ap (λ w. w ++ h.behind) b.1)) ∙ spelled_counts min max h.prefix h.behind (braces h.spelled) in
-    dead_braces us (b.0 ++ h.behind) whole (λ low high k e.
-    let same : counts min max (length h.prefix) ≡ counts low high k = sym read ∙ e in
-    let low_is : min ≡ low = cc same in
-    let high_is : max ≡ high = cc same in
-    subst (DoNotObey low) high_is (subst (λ m. DoNotObey m max) low_is not))
-
--- numbers out of order, or too large
-not_in_order : (min : ℕ) (max : Option ℕ) → IsOutOfOrder min max → DoNotObey min max
-not_in_order min None out greedy o = out
-not_in_order min (Some max) out greedy o = omega (arith, out, o.1.0)
-
-not_small : (min : ℕ) (max : Option ℕ) → IsTooLarge min max → DoNotObey min max
-not_small min None large greedy o = omega (arith, large, o.0)
-not_small min (Some max) large greedy o = elim large [ inl l ↦ omega (arith, l, o.0) | inr l ↦ omega (arith, l, o.1.1) ]
-
--- Where digits pass 64 bits their number is not below.
-passed : (ds : List ℕ) (next : ℕ) (rest : List ℕ) (n end : ℕ) (behind : List ℕ) → PassesDecimal ds next → digits_behind 0 0 (ds ++ next ∷ rest) ≡ digits n end behind → 2 ^ 64 ≤ n
-passed ds next rest n end behind p h =
-    let t = digit_there next p.digit p.digit_is in
-    let e : digits_behind (10 * p.number + (next - 48)) (0 + length ds + 1) rest ≡ digits n end behind =
-    sym (cond-true (is_decimal_digit next) (digits_behind (10 * p.number + (next - 48)) (0 + length ds + 1) rest) (digits p.number (0 + length ds) (next ∷ rest)) t.0)
-    ∙ sym (digits_past 0 0 ds (next ∷ rest) p.number p.number_is) ∙ h in
-    let k = digits_le (10 * p.number + (next - 48)) (0 + length ds + 1) rest n end behind e in
-    omega (arith, k, p.passes, t.1)
-
-large_least : (min : ℕ) (max : Option ℕ) → 2 ^ 64 ≤ min → DoNotObey min max
-large_least min max l greedy o = omega (arith, l, o.0)
-
-large_greatest : (min m : ℕ) → 2 ^ 64 ≤ m → DoNotObey min (Some m)
-large_greatest min m l greedy o = omega (arith, l, o.1.1)
-
-least_of_comma : (n count : ℕ) (d : Digits) (min : ℕ) (max : Option ℕ) (k : ℕ) → counts_behind_comma n count d ≡ counts min max k → n ≡ min
-least_of_comma n count (digits m more []) min max k h = absurd (let f : ⊥ = cc h in f)
-least_of_comma n count (digits m more (c ∷ w)) min max k h = elim (chosen {x = counts n (greatest_of more m) (count + more + 3)} {y = no_counts} (c == 125) h) [
-  | inl p ↦ let e : n ≡ min = cc p.1 in e
-  | inr p ↦ absurd (let f : ⊥ = cc p.1 in f)
-]
-
--- the least number is the one behind the brace
-least_is : (n count : ℕ) (w : List ℕ) (min : ℕ) (max : Option ℕ) (k : ℕ) → counts_in_braces (digits n count w) ≡ counts min max k → n ≡ min
-least_is n zero w min max k h = absurd (let f : ⊥ = cc h in f)
-least_is n (suc count) [] min max k h = absurd (let f : ⊥ = cc h in f)
-least_is n (suc count) (c ∷ w) min max k h = elim (chosen {x = counts n (Some n) (suc count + 2)} (c == 125) h) [
-  | inl p ↦ let e : n ≡ min = cc p.1 in e
-  | inr p ↦ elim (chosen {x = counts_behind_comma n (suc count) (digits_behind 0 0 w)} {y = no_counts} (c == 44) p.1) [
-    | inl q ↦ least_of_comma n (suc count) (digits_behind 0 0 w) min max k q.1
-    | inr q ↦ absurd (let f : ⊥ = cc q.1 in f)
-  ]
-]
-
-dead_first : (d : Digits) → ((n end : ℕ) (behind : List ℕ) → d ≡ digits n end behind → 2 ^ 64 ≤ n) → AreDead (counts_in_braces d)
-dead_first (digits n end behind) large min max k h = large_least min max (subst (λ m. 2 ^ 64 ≤ m) (least_is n end behind min max k h) (large n end behind refl))
-
--- A number behind a comma that is not small, if it is there.
-dead_second : (n count : ℕ) (d : Digits) → ((m more : ℕ) (behind : List ℕ) → d ≡ digits m more behind → (2 ^ 64 ≤ m) × (0 < more)) → AreDead (counts_behind_comma n count d)
-dead_second n count (digits m more []) large min max k h = absurd (let f : ⊥ = cc h in f)
-dead_second n count (digits m zero (c ∷ w)) large min max k h = absurd (let l = (large m zero (c ∷ w) refl).1 in omega (arith, l))
-dead_second n count (digits m (suc more) (c ∷ w)) large min max k h = elim (chosen {x = counts n (Some m) (count + suc more + 3)} {y = no_counts} (c == 125) h) [
-  | inl p ↦ let e : Some m ≡ max = cc p.1 in subst (DoNotObey min) e (large_greatest min m (large m (suc more) (c ∷ w) refl).0)
-  | inr p ↦ absurd (let f : ⊥ = cc p.1 in f)
-]
-
--- more digits are read than were
-digits_more : (m count : ℕ) (w : List ℕ) (n end : ℕ) (rest : List ℕ) → digits_behind m count w ≡ digits n end rest → count ≤ end
-digits_more m count [] n end rest h = let e : count ≡ end = cc h in omega arith
-digits_more m count (c ∷ w) n end rest h = elim (chosen (is_decimal_digit c) h) [
-  | inl p ↦ let k = digits_more (10 * m + (c - 48)) (count + 1) w n end rest p.1 in omega (arith, k)
-  | inr p ↦ let e : count ≡ end = cc p.1 in omega arith
-]
-
-some_passed : (ds : List ℕ) (next : ℕ) (rest : List ℕ) (n end : ℕ) (behind : List ℕ) → PassesDecimal ds next → digits_behind 0 0 (ds ++ next ∷ rest) ≡ digits n end behind → 0 < end
-some_passed ds next rest n end behind p h =
-    let t = digit_there next p.digit p.digit_is in
-    let e : digits_behind (10 * p.number + (next - 48)) (0 + length ds + 1) rest ≡ digits n end behind =
-    sym (cond-true (is_decimal_digit next) (digits_behind (10 * p.number + (next - 48)) (0 + length ds + 1) rest) (digits p.number (0 + length ds) (next ∷ rest)) t.0)
-    ∙ sym (digits_past 0 0 ds (next ∷ rest) p.number p.number_is) ∙ h in
-    let k = digits_more (10 * p.number + (next - 48)) (0 + length ds + 1) rest n end behind e in
-    omega (arith, k)
-
-some_count : (n : ℕ) (ds : List ℕ) → AreDigits n ds → (k : ℕ) × (length ds ≡ suc k)
-some_count n ds a = (length a.more, ap length a.some)
-
--- what is read behind `{` where digits pass
-record Passing (w : List ℕ) : Type 0 where
-  behind : List ℕ
-  whole : w ≡ 123 ∷ behind
-  dead : AreDead (counts_at (123 ∷ behind))
-
-passing : (w : List ℕ) (start count : ℕ) → PassesLimit w start count → Passing w
-unfolding counts_at
-passing _ _ _ (first ds next rest p) = record {
-  behind = ds ++ next ∷ rest;
-  whole = refl;
-  dead = dead_first (digits_behind 0 0 (ds ++ next ∷ rest)) (λ n end behind h. passed ds next rest n end behind p h);
-}
-passing _ _ _ (second {n} ds es next rest a small p) =
-    let l = some_count n ds a in
-    let more : List ℕ = es ++ (next ∷ rest) in
-    let read : counts_at (123 ∷ (ds ++ (44 ∷ more))) ≡ counts_behind_comma n (suc l.0) (digits_behind 0 0 more) =
-    ap counts_in_braces (digits_read 0 0 ds (44 ∷ more) n a.number refl ∙ ap (λ c. digits n c (44 ∷ more)) (let z : 0 + length ds ≡ suc l.0 = omega (arith, l.1) in z)) in
-    record {
-      behind = ds ++ (44 ∷ more);
-      whole = refl;
-      dead = subst AreDead (sym read) (dead_second n (suc l.0) (digits_behind 0 0 more) (λ m end behind h. (passed es next rest m end behind p h, some_passed es next rest m end behind p h)));
-    }
-
-pub dead_limit : (us : List CodePoint) (start count : ℕ) → PassesLimit (values us) start count → IsDead us
-dead_limit us start count p = let k = passing (values us) start count p in dead_braces us k.behind k.whole k.dead
-
--- behind a backslash, `u` without a unicode escape, or with digits that pass 32 bits
-front_backslash : (us : List CodePoint) (v : List ℕ) → values us ≡ 92 ∷ v → front text us ≡ backslash_front text v
-front_backslash us v e = front_by_values text us 92 v refl e
-
-backslash_u : (v : List ℕ) → backslash_front text (117 ∷ v) ≡ escaped_token (escape_at true (117 ∷ v))
-unfolding backslash_front
-backslash_u v = refl
-
-pub dead_hex : (us : List CodePoint) (behind : List ℕ) (count : ℕ) → values us ≡ 92 ∷ behind → PassesHex behind count → IsDead us
-dead_hex us behind count e p =
-    let more : List ℕ = 123 ∷ (p.digits ++ p.next ∷ p.rest) in
-    dead_none us (front_backslash us behind e ∙ ap (backslash_front text) p.whole ∙ backslash_u more
-    ∙ ap (λ w. escaped_token (escape_at true w)) (sym p.whole) ∙ ap escaped_token (too_many_escape behind count p))
-
-no_unicode_token : (w : List ℕ) → ((v n : ℕ) → Decodes true w v n → ⊥) → ((count : ℕ) → PassesHex w count → ⊥) → (d : Decoded) → decoded true w ≡ d → escaped_token (unicode_read d) ≡ None
-no_unicode_token w no_value no_limit (value v n) h = absurd (no_value v n ((value_law true w v n).0 h))
-no_unicode_token w no_value no_limit invalid h = refl
-no_unicode_token w no_value no_limit (overflow n) h = refl
-
-escape_u : (v : List ℕ) → escape_at true (117 ∷ v) ≡ unicode_read (decoded true (117 ∷ v))
-unfolding escape_at
-escape_u v = refl
-
-pub dead_escape : (us : List CodePoint) (behind : List ℕ) → values us ≡ 92 ∷ 117 ∷ behind → ((v n : ℕ) → Decodes true (117 ∷ behind) v n → ⊥) → ((count : ℕ) → PassesHex (117 ∷ behind) count → ⊥) → IsDead us
-dead_escape us behind e no_value no_limit =
-    dead_none us (front_backslash us (117 ∷ behind) e ∙ backslash_u behind ∙ ap escaped_token (escape_u behind)
-    ∙ no_unicode_token (117 ∷ behind) no_value no_limit (decoded true (117 ∷ behind)) refl)
-
-module _ (us : List CodePoint) (first added : ℕ) (b : Builder) (place : ℕ) (h : IsParsing Unicode us first added b place) (l : place < length us) where
+module _ (us : List CodePoint) (first added : ℕ) (b : Builder) (place : ℕ) (h : IsParsing Unicode us first added b place) where
   abbrev left : List CodePoint
   left = drop place us
 
-  here : IsPlace Unicode us place left
-  here = record { open_groups = []; ready = ready b; reached = reached us first added b place h }
+  abbrev here : Environment
+  here = text_environment Unicode us
 
-  dead : IsDead left → IsInvalid Unicode us
-  dead d = dead_end us first added b place h l d
+  at_left : IsPlace Unicode us place left
+  at_left = record { open_groups = openers b; ready = ready b; reached = reached us first added b place h }
 
-  -- why the text is refused where the reading halts
-  pub halt_refused : (it : Halt) → IsHalt Unicode left it → IsRefused Unicode us first added (halt_fault us first added place it)
-  halt_refused (halt.Stop behind) s =
-      (incomplete place behind (ready b) left (reached us first added b place h) s.1 (some_left us place l), dead (dead_none left s.0))
-  halt_refused (halt.OutOfOrder n) s =
-      (out_of_order place n s.0 s.1 left here s.2 s.3, dead (dead_numbers left s.0 s.1 n s.2 (not_in_order s.0 s.1 s.3)))
-  halt_refused (halt.TooLarge n) s =
-      (too_large place n s.0 s.1 left here s.2 s.3.0 s.3.1, dead (dead_numbers left s.0 s.1 n s.2 (not_small s.0 s.1 s.3.1)))
-  halt_refused (halt.TooManyDigits start count) s = (too_many_digits place start count left here s.0, dead (dead_limit left start count s.0))
-  halt_refused (halt.TooManyHexDigits count) s =
-      (too_many_hex_digits place count left s.0 here refl s.1 s.2, dead (dead_hex left s.0 count s.1 s.2))
-  halt_refused halt.InvalidEscape s =
-      (invalid_escape place left s.0 here refl s.1 s.2 s.3, dead (dead_escape left s.0 s.1 s.2 s.3))
-  halt_refused halt.Unread s = absurd (true≢false (sym s ∙ h.read))
+  abbrev state : List Opener → Bool → Option (List Opener × Bool)
+  state open_groups ready = Some (open_groups, ready)
+
+  abbrev Causes : Refusal → Type 0
+  Causes cause = IsCauseAtPlace Unicode us first added cause
+
+  abbrev between : ℕ → ℕ → Span
+  between from to = span_between us first added from to
+
+  -- the same span, its places said otherwise
+  placed : (make : Span → Refusal) (i j from to : ℕ) → i ≡ from → j ≡ to → Causes (make (between i j)) → Causes (make (between from to))
+  placed make i j from to e f c = subst (λ k. Causes (make (between from k))) f (subst (λ k. Causes (make (between k j))) e c)
+
+  -- there is this cause here, and no token that obeys stands next
+  abbrev HasCause : Refusal → Type 0
+  HasCause cause = Causes cause × IsDead us left
+
+  -- the numbers of a quantifier
+  limit_cause : (start many : ℕ) → IsHalt here left (halt.TooManyDigits start many) → HasCause (TooLargeNumberDigits (between (place + start) (place + (start + many))) Decimal)
+  limit_cause start many s = (
+    placed (λ span. TooLargeNumberDigits span Decimal) (place + start) (place + start + many) (place + start) (place + (start + many)) refl (omega arith)
+        (too_many_digits place start many left at_left s),
+    dead_limit us left start many s,
+  )
+
+  -- a name that is to stand here, and its longest row
+  ends_name : (behind : List ℕ) → BeginsName here (values left) behind → (count : ℕ) → IsNameRow true behind count → (rest : List ℕ) → rest ≡ drop count behind → EndsName here (values left) count rest
+  ends_name behind begins count longest rest e = record { behind = behind; begins = begins; longest = longest; rest_is = e }
+
+  -- behind the row an escape
+  ends_escape : (behind : List ℕ) → BeginsName here (values left) behind → (count : ℕ) (escape : List ℕ) → EscapeBehind true behind count escape → EndsName here (values left) count (92 ∷ escape)
+  ends_escape behind begins count escape r = ends_name behind begins count r.row (92 ∷ escape) (sym r.there)
+
+  dead_in_name : (behind : List ℕ) → BeginsName here (values left) behind → (count : ℕ) (escape : List ℕ) → EscapeBehind true behind count escape → IsDead us left
+  dead_in_name behind begins count escape r =
+      dead_name us left (values left) behind count refl begins r.row (λ t. let no : starts 62 (92 ∷ escape) ≡ true = ap (starts 62) (sym r.there) ∙ t in cc)
+
+  unterminated_cause : (n : ℕ) → HaltsInName here left (halt.UnterminatedName n) → HasCause (UnterminatedPattern (between (place + 2) (place + (n + 3))) GroupName)
+  unterminated_cause n s =
+      let behind : List ℕ = s.0 in
+      let ends = ends_name behind s.1 n s.2.0 (drop n behind) refl in (
+        placed (λ span. UnterminatedPattern span GroupName) (place + 2) (place + 3 + n) (place + 2) (place + (n + 3)) refl (omega arith)
+            (unterminated_name place n left (drop n behind) at_left refl ends s.2.1 s.2.2),
+        dead_name us left (values left) behind n refl s.1 s.2.0 s.2.2,
+      )
+
+  -- too many digits in a unicode escape, of a character or in a name
+  abbrev HasHexCause : ℕ → ℕ → Type 0
+  HasHexCause start many = HasCause (TooLargeNumberDigits (between (place + start) (place + (start + many))) Hex)
+
+  hex_cause : (start many : ℕ) → IsHalt here left (halt.TooManyHexDigits start many) → HasHexCause start many
+  hex_cause start many s = elim s [ inl p ↦ escape p.0 p.1 p.2 p.3 | inr p ↦ in_name p.0 p.1 p.2.0 p.2.1 p.2.2 p.2.3 p.2.4 ]
+    where
+      escape : (behind : List ℕ) → start ≡ 3 → values left ≡ 92 ∷ behind → PassesHex behind many → HasHexCause start many
+      escape behind e whole passes = (
+        placed (λ span. TooLargeNumberDigits span Hex) (place + 3) (place + 3 + many) (place + start) (place + (start + many)) (omega (arith, e)) (omega (arith, e))
+            (too_many_hex_digits place many left behind at_left refl whole passes),
+        dead_hex us left behind many whole passes,
+      )
+
+      in_name : (behind : List ℕ) → BeginsName here (values left) behind → (count : ℕ) (back : List ℕ) → EscapeBehind true behind count back → start ≡ count + 6 → PassesHex back many → HasHexCause start many
+      in_name behind begins count back r e passes = (
+        placed (λ span. TooLargeNumberDigits span Hex) (place + 6 + count) (place + 6 + count + many) (place + start) (place + (start + many)) (omega (arith, e)) (omega (arith, e))
+            (too_many_digits_in_name place count many left back at_left (ends_escape behind begins count back r) passes),
+        dead_in_name behind begins count back r,
+      )
+
+  bad_escape_cause : (count : ℕ) (behind back : List ℕ) (start n : ℕ) → BeginsName here (values left) behind → EscapeBehind true behind count back → IsBadEscape true count back start n
+      → HasCause (InvalidUnicodeEscapeSequence (between (place + start) (place + (start + n))))
+  bad_escape_cause count behind back _ _ begins r (misplaced {v} {n} decodes) = (
+    placed InvalidUnicodeEscapeSequence (place + 3 + count) (place + 4 + count + n) (place + (count + 3)) (place + (count + 3 + (n + 1))) (omega arith) (omega arith)
+        (misplaced_in_name place count v n left back at_left (ends_escape behind begins count back r) decodes),
+    dead_in_name behind begins count back r,
+  )
+  bad_escape_cause count behind back _ _ begins r (no_escape no_value no_limit no_u) = (
+    placed InvalidUnicodeEscapeSequence (place + 3 + count) (place + 4 + count) (place + (count + 3)) (place + (count + 3 + 1)) (omega arith) (omega arith)
+        (invalid_in_name place count left back at_left (ends_escape behind begins count back r) no_value no_limit no_u),
+    dead_in_name behind begins count back r,
+  )
+  bad_escape_cause count behind back _ _ begins r (no_escape_of_u no_value no_limit a_u) = (
+    placed InvalidUnicodeEscapeSequence (place + 4 + count) (place + 5 + count) (place + (count + 4)) (place + (count + 4 + 1)) (omega arith) (omega arith)
+        (invalid_u_in_name place count left back at_left (ends_escape behind begins count back r) no_value no_limit a_u),
+    dead_in_name behind begins count back r,
+  )
+
+  escape_cause : (start n : ℕ) → IsHalt here left (halt.InvalidEscape start n) → HasCause (InvalidUnicodeEscapeSequence (between (place + start) (place + (start + n))))
+  escape_cause start n s = elim s [ inl p ↦ escape p.0 p.1 p.2 p.3 p.4 p.5 | inr p ↦ bad_escape_cause p.2.0 p.0 p.2.1 start n p.1 p.2.2 p.2.3 ]
+    where
+      escape : (behind : List ℕ) → start ≡ 1 → n ≡ 1 → values left ≡ 92 ∷ 117 ∷ behind → ((v k : ℕ) → Decodes true (117 ∷ behind) v k → ⊥) → ((many : ℕ) → PassesHex (117 ∷ behind) many → ⊥)
+          → HasCause (InvalidUnicodeEscapeSequence (between (place + start) (place + (start + n))))
+      escape behind e f whole no_value no_limit = (
+        placed InvalidUnicodeEscapeSequence (place + 1) (place + 2) (place + start) (place + (start + n)) (omega (arith, e)) (omega (arith, e, f))
+            (invalid_escape place left behind at_left refl whole no_value no_limit),
+        dead_escape us left behind whole no_value no_limit,
+      )
+
+  index_cause : (n k : ℕ) → front here left ≡ Some (indexed k, n) → text_groups us < k → HasCause (InvalidIndexedReference (between place (place + n)) (text_groups us))
+  index_cause n k e large =
+      let f = front_spelled here left (indexed k) n e in (
+        placed (λ span. InvalidIndexedReference span (text_groups us)) place (place + length f.w) place (place + n) refl (ap (λ n. place + n) f.count)
+            (no_such_group place k f.w f.rest (subst (IsPlace Unicode us place) f.whole at_left) f.spells large),
+        dead_index us left k n e large,
+      )
+
+  modifiers_cause : (it : ModifiersFault) (n : ℕ) (behind : List ℕ) → values left ≡ 40 ∷ 63 ∷ behind → IsModifiersFault behind n it → HasCause (modifiers_refusal it (between (place + 2) (place + (n + 2))))
+  modifiers_cause _ _ _ whole (unknown text behind l) = (
+    placed UnknownModifiers (place + 2) (place + 2 + length text) (place + 2) (place + (length text + 2)) refl (omega arith) (unknown_modifiers place left text behind at_left whole l),
+    dead_unknown us left text behind whole l,
+  )
+  modifiers_cause _ _ _ whole (duplicated {enabled} {disabled} text behind sides twice) = (
+    placed DuplicatedModifiers (place + 2) (place + 2 + length text) (place + 2) (place + (length text + 2)) refl (omega arith)
+        (duplicated_modifiers place left enabled disabled text behind at_left whole sides twice),
+    dead_duplicated us left enabled disabled text behind whole sides twice,
+  )
+  modifiers_cause _ _ _ whole (empty {behind}) = (empty_modifiers place left behind at_left whole, dead_empty us left behind whole)
+  modifiers_cause _ _ _ whole (invalid {enabled} {disabled} text behind sides once both) = (
+    placed InvalidModifiers (place + 2) (place + 2 + length text) (place + 2) (place + (length text + 2)) refl (omega arith)
+        (invalid_modifiers place left enabled disabled text behind at_left whole sides once both),
+    dead_shared us left enabled disabled text behind whole sides once both,
+  )
+
+  -- the fault is some cause
+  abbrev IsOfCause : Fault → Type 0
+  IsOfCause fault = (cause : Refusal) × (fault ≡ Diagnostic cause) × Causes cause
+
+  -- Terms end, and so many units on reading stands: outside groups, or in the innermost one.
+  ended_cause : (behind at : ℕ) (fault : Fault) → IsStop here left behind → starts 41 (values left) ≡ false → (b.frames ≡ [] → left ≡ [] → ⊥) → at ≡ place + behind → IsEndedFault us first added at b fault
+      → IsOfCause fault
+  ended_cause behind at fault stop not_closed some e f = elim f [ inl p ↦ pattern p.0 p.1 | inr p ↦ group p.0 p.1 p.2 p.3 ]
+    where
+      pattern : b.frames ≡ [] → fault ≡ Diagnostic (ParsePatternIncomplete (between at at)) → IsOfCause fault
+      pattern none is =
+          let r : IsReached Unicode us place [] (ready b) left = subst (λ fs. IsReached Unicode us place (opened fs []) (ready b) left) none (reached us first added b place h) in (
+            ParsePatternIncomplete (between at at),
+            is,
+            placed ParsePatternIncomplete (place + behind) (place + behind) at at (sym e) (sym e) (incomplete place behind (ready b) left r stop (some none)),
+          )
+
+      group : (outer : List Frame) (it : Frame) → b.frames ≡ outer ++ (it ∷ [])
+          → fault ≡ Diagnostic (UnterminatedPattern (record { start = it.start; end = offset_at first us at + added }) (unterminated (opener_of (opener_tree it.opening)))) → IsOfCause fault
+      group outer it frames is =
+          let what = unterminated (opener_of (opener_tree it.opening)) in
+          let i = inside us first added b place h outer it frames in
+          let made : ℕ → Refusal = λ start. UnterminatedPattern (record { start = start; end = offset_at first us at + added }) what in (
+            made it.start,
+            is,
+            subst (λ start. Causes (made start)) (sym i.2)
+                (placed (λ span. UnterminatedPattern span what) i.0 (place + behind) i.0 at refl (sym e)
+                (unterminated_group i.0 place behind (opener_of (opener_tree it.opening)) left i.1 stop not_closed)),
+          )
+
+  module _ (no_clash : HasNoClash Unicode us) (limit : text_groups us ≤ most_groups) where
+    refused : (cause : Refusal) → Causes cause → IsInvalid Unicode us → (fault : Fault) → fault ≡ Diagnostic cause → IsRefused Unicode us first added fault
+    refused cause c none fault e = subst (IsRefused Unicode us first added) (sym e) (at_place no_clash limit c, none)
+
+    halted : place < length us → (cause : Refusal) → HasCause cause → (fault : Fault) → fault ≡ Diagnostic cause → IsRefused Unicode us first added fault
+    halted l cause c fault e = refused cause c.0 (dead_end us first added b place h l c.1) fault e
+
+    -- why the text is refused where the reading halts
+    pub halt_refused : place < length us → (fault : Fault) (it : Halt) → IsHalt here left it → IsHaltFault us first added place b (text_groups us) it fault → IsRefused Unicode us first added fault
+    halt_refused l fault (halt.Stop behind) s f =
+        let c = ended_cause behind (place + behind) fault s.1 s.2 (λ none. some_left us place l) refl f in
+        refused c.0 c.2 (dead_end us first added b place h l (dead_none us left s.0)) fault c.1
+    halt_refused l fault (halt.OutOfOrder n) s f =
+        halted l (BracedQuantifierOutOfOrder (between place (place + n))) (out_of_order place n s.0 s.1 left at_left s.2 s.3, dead_numbers us left s.0 s.1 n s.2 (not_in_order s.0 s.1 s.3)) fault f
+    halt_refused l fault (halt.TooLarge n) s f =
+        halted l (TooLargeNumberInBracedQuantifier (between place (place + n)))
+        (too_large place n s.0 s.1 left at_left s.2 s.3.0 s.3.1, dead_numbers us left s.0 s.1 n s.2 (not_small s.0 s.1 s.3.1)) fault f
+    halt_refused l fault (halt.TooManyDigits start many) s f = halted l (TooLargeNumberDigits (between (place + start) (place + (start + many))) Decimal) (limit_cause start many s) fault f
+    halt_refused l fault (halt.TooManyHexDigits start many) s f = halted l (TooLargeNumberDigits (between (place + start) (place + (start + many))) Hex) (hex_cause start many s) fault f
+    halt_refused l fault (halt.InvalidEscape start n) s f = halted l (InvalidUnicodeEscapeSequence (between (place + start) (place + (start + n)))) (escape_cause start n s) fault f
+    halt_refused l fault (halt.UnterminatedName n) s f = halted l (UnterminatedPattern (between (place + 2) (place + (n + 3))) GroupName) (unterminated_cause n s) fault f
+    halt_refused l fault halt.NoGroupName s f =
+        halted l (EmptyGroupSpecifier (between place (place + 2))) (no_group_name place left s.0 at_left refl s.1 s.2, dead_reference us left s.0 s.1 s.2) fault f
+    halt_refused l fault (halt.NoSuchGroup n) s f = halted l (InvalidIndexedReference (between place (place + n)) (text_groups us)) (index_cause n s.0 s.1 s.2) fault f
+    halt_refused l fault (halt.Modifiers it n) s f = halted l (modifiers_refusal it (between (place + 2) (place + (n + 2)))) (modifiers_cause it n s.0 s.1 s.2) fault f
+    halt_refused l fault halt.Unread s f = absurd (true≢false (sym s ∙ h.read))
+
+    nothing_left : place ≡ length us → left ≡ []
+    nothing_left e = drop_all place us (omega (arith, e))
+
+    -- a group is open at the end of the text
+    pub ended_refused : place ≡ length us → (openers b ≡ [] → ⊥) → (fault : Fault) → IsEndedFault us first added place b fault → IsRefused Unicode us first added fault
+    ended_refused e some fault f =
+        let none = nothing_left e in
+        let stop : IsStop here left 0 = subst (λ rest. IsStop here rest 0) (sym none) at_end in
+        let c = ended_cause 0 place fault stop (ap (λ rest. starts 41 (values rest)) none) (λ frames _. some (ap (λ fs. opened fs []) frames)) (omega arith) f in
+        refused c.0 c.2 (λ p r. let a = read_ahead us first added b place h p r in none_closed a.1.0 a.0 (subst (λ rest. TokenRow here a.1.0 rest []) none a.1.1) a.1.2) fault c.1
+      where
+        same_open : (os ps : List Opener) (q r : Bool) → state os q ≡ state ps r → os ≡ ps
+        same_open os ps q r k = ap (λ x. x.0) (Some-inj k)
+
+        none_closed : (xs : List Token) (after : Bool) → TokenRow here xs [] [] → run Unicode xs (openers b) (ready b) ≡ Some ([], after) → ⊥
+        none_closed [] after r k = some (same_open (openers b) [] (ready b) after k)
+        none_closed (t ∷ xs) after r k = nothing_spelled here t xs [] r
+
+    -- a `)` where no group is open
+    pub closer_refused : Stands here left closer 1 → openers b ≡ [] → IsRefused Unicode us first added (Diagnostic (ParsePatternIncomplete (between place place)))
+    closer_refused s none =
+        let f = front_spelled here left closer 1 s.0 in
+        let stop : IsStop here left 0 = subst (λ rest. IsStop here rest 0) (sym f.whole) (closer_stops f.w f.rest f.spells) in
+        let some : left ≡ [] → ⊥ = λ e. omega (arith, ap length e, ap length f.whole, length-append f.w f.rest, f.count) in
+        let r : IsReached Unicode us place [] (ready b) left = subst (λ os. IsReached Unicode us place os (ready b) left) none (reached us first added b place h) in
+        let here_is : place + 0 ≡ place = omega arith in
+        refused (ParsePatternIncomplete (between place place)) (placed ParsePatternIncomplete (place + 0) (place + 0) place place here_is here_is (incomplete place 0 (ready b) left r stop some))
+        (λ p q. let a = read_ahead us first added b place h p q in not_accepted some a.1.0 a.0 a.1.1 a.1.2) (Diagnostic (ParsePatternIncomplete (between place place))) refl
+      where
+        closer_stops : (w rest : List CodePoint) → values w ≡ 41 ∷ [] → IsStop here (w ++ rest) 0
+        closer_stops [] rest e = absurd (let no : ⊥ = cc e in no)
+        closer_stops (u ∷ w) rest e = at_closer (let is : u.value ≡ 41 = cc e in is)
+
+        not_accepted : (left ≡ [] → ⊥) → (xs : List Token) (after : Bool) → TokenRow here xs left [] → run Unicode xs (openers b) (ready b) ≡ Some ([], after) → ⊥
+        not_accepted some [] after r k = some r
+        not_accepted some (t ∷ xs) after r k =
+            let same : closer ≡ t = same_token closer t 1 (length r.0) (sym s.0 ∙ ap (front here) r.2 ∙ spelled_front here t r.0 r.1 r.3) in
+            let closed : run Unicode (closer ∷ xs) [] (ready b) ≡ Some ([], after) =
+            subst (λ os. run Unicode (closer ∷ xs) os (ready b) ≡ Some ([], after)) none (subst (λ t. run Unicode (t ∷ xs) (openers b) (ready b) ≡ Some ([], after)) (sym same) k) in cc closed

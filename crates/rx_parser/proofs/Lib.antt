@@ -1,4 +1,6 @@
 pub mod Agains
+pub mod DeadCounts
+pub mod DeadFronts
 pub mod Digits
 pub mod Endings
 pub mod EventEquations
@@ -7,6 +9,7 @@ pub mod FrameEvents
 pub mod FrontFound
 pub mod Goods
 pub mod Halts
+pub mod Insides
 pub mod Leaves
 pub mod Literals
 pub mod Pieces

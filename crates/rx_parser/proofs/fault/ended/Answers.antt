@@ -1,0 +1,20 @@
+use Rattle.std.proofs.Common.{ap, ◌∙◌, ℕ, inl}
+use Rattle.rx_base.specs.declared.diagnostic.Diagnostic.TheVariants.{ParsePatternIncomplete}
+use Rattle.rx_base.specs.declared.fault.Fault.TheVariants.{Diagnostic}
+use Rattle.rx_base.specs.declared.span.Span.{Span}
+use Rattle.rx_parser.proofs.FrameEvents.{frames_none}
+use Rattle.rx_parser.proofs.Turns.{offset_fits}
+use Rattle.rx_parser.proofs.fault.ended.Goals as goal
+
+pub here-end-requires : goal.here-end-requires
+here-end-requires c =
+    let r = c.args.reader.now in
+    record { fits = offset_fits c.args.spans.now r.first r.units r.place c.requires.fits.first c.requires.fits.ends }
+
+pub returns-in-None : goal.returns-in-None
+returns-in-None c =
+    let point : ℕ → Span = λ n. record { start = n; end = n } in
+    inl (
+      frames_none c.args.builder.now.frames (c.innermost.ensures.none c.in-None.is),
+      ap (λ s. Diagnostic (ParsePatternIncomplete s)) (c.empty-span.ensures ∙ ap point c.here-end.ensures),
+    )
