@@ -12,7 +12,7 @@ pub mod Literals
 pub mod Pieces
 pub mod Places
 pub mod Prefixes
+pub mod Refusing
 pub mod Steps
 pub mod TextUnits
 pub mod Turns
-pub mod Ungrouped

@@ -87,11 +87,11 @@ StandBraces P n us = (min : ℕ) × (max : Option ℕ) × HasBraces min max n us
 
 -- behind `(?` stand modifiers of so many units, which are wrong in this way
 pub data IsModifiersFault : List ℕ → ℕ → ModifiersFault → Type 0 where
-  unknown : {text behind : List ℕ} → LeadNowhere text behind → IsModifiersFault (text ++ behind) (length text) fault.Unknown
-  duplicated : {enabled disabled text behind : List ℕ} → AreSides enabled disabled text → (has_twice enabled || has_twice disabled) ≡ true
+  unknown : (text behind : List ℕ) → LeadNowhere text behind → IsModifiersFault (text ++ behind) (length text) fault.Unknown
+  duplicated : {enabled disabled : List ℕ} (text behind : List ℕ) → AreSides enabled disabled text → (has_twice enabled || has_twice disabled) ≡ true
       → IsModifiersFault (text ++ (58 ∷ behind)) (length text) fault.Duplicated
   empty : {behind : List ℕ} → IsModifiersFault (45 ∷ 58 ∷ behind) 1 fault.Empty
-  invalid : {enabled disabled text behind : List ℕ} → AreSides enabled disabled text → (has_twice enabled || has_twice disabled) ≡ false → share_some enabled disabled ≡ true
+  invalid : {enabled disabled : List ℕ} (text behind : List ℕ) → AreSides enabled disabled text → (has_twice enabled || has_twice disabled) ≡ false → share_some enabled disabled ≡ true
       → IsModifiersFault (text ++ (58 ∷ behind)) (length text) fault.Invalid
 
 -- a name is to stand next, and halts so

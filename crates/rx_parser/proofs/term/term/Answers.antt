@@ -3,7 +3,7 @@ use Rattle.rx_ast.specs.declared.term.Term.TheVariants as variant
 use Rattle.rx_parser.specs.Found.{leaf_token}
 use Rattle.rx_parser.specs.Progress.{IsLeafOf}
 use Rattle.rx_parser.proofs.Leaves.{boundary_is_leaf, character_is_leaf, class_escape_is_leaf, dot_is_leaf}
-use Rattle.rx_parser.proofs.turn.term.Goals as goal
+use Rattle.rx_parser.proofs.term.term.Goals as goal
 
 pub returns-in_ok-new-in-Boundary : goal.returns-in_ok-new-in-Boundary
 returns-in_ok-new-in-Boundary c =
