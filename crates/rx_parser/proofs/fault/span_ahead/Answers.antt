@@ -12,5 +12,5 @@ create-requires-clause-start c =
 pub create-requires-clause-end : goal.create-requires-clause-end
 create-requires-clause-end c =
     let r = c.args.reader.now in
-    let is = c.offset.ensures.value ∙ ap offset_of (c.skip-2.ensures ∙ ap (moved _) c.skip.ensures) in
+    let is = c.offset-end.ensures.value ∙ ap offset_of (c.skip-2.ensures ∙ ap (moved _) c.skip.ensures) in
     subst (λ n. n + c.args.spans.now < 2 ^ 32) (sym is) (offset_fits c.args.spans.now r.first r.units _ c.requires.fits.first c.requires.fits.ends)
