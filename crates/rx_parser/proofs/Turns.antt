@@ -3,6 +3,7 @@ use Rattle.std.proofs.Common.{◌≡◌, refl, ap, sym, ◌∙◌, subst, ℕ, z
 use Rattle.std.specs.Prelude.{All, eqb, min}
 use lib.Pointwise.{pointwise}
 use Rattle.std.proofs.Math.Seq.{drop-append_seam}
+use Rattle.std.proofs.lemmas.Bool.{true≢false}
 use Rattle.std.proofs.lemmas.List.{drop-drop, map-append, length-map}
 use Rattle.std.proofs.lemmas.List.Elements.{All-append, All-cons, All-head, All-nil, All-tail}
 use Rattle.std.proofs.lemmas.List.Folds.{Any-from_list_any, list_any_at}
@@ -26,7 +27,7 @@ use Rattle.rx_model.specs.Fronts.{front}
 use Rattle.rx_model.specs.GroupNameReading.{name_of}
 use Rattle.rx_model.specs.Groups.{IsModified, IsModifying}
 use Rattle.rx_model.specs.Names.{is_among}
-use Rattle.rx_model.specs.Reached.{HasNoClash, IsReached, text_environment, text_groups, text_names}
+use Rattle.rx_model.specs.Reached.{HasNoClash, IsReached, span_between, text_environment, text_groups, text_names}
 use Rattle.rx_model.specs.Rows.{Spells, TokenRow}
 use Rattle.rx_model.specs.Shapes.{run, takes, group_takes}
 use Rattle.rx_model.specs.Token.{Token, Opener, bar, capturing, closer, ignoring, letter_bits, looking, named, opener, opener_of, quantifier}
@@ -120,6 +121,42 @@ opener_more (tree.ignoring None) = refl
 opener_more (tree.ignoring (Some m)) = refl
 opener_more (tree.looking kind) = refl
 
+abbrev between : ℕ → ℕ → Span
+between start end = record { start = start; end = end }
+
+between_same : (at after start end : ℕ) → at ≡ start → after ≡ end → between at after ≡ between start end
+between_same at after start end a z = ap (λ x. between x after) a ∙ ap (between start) z
+
+-- What a group begins with is a token among the events.
+abbrev HasToken : Opening → Type 0
+HasToken begun = opener_event (opener_tree begun) ≡ token (opener (opener_of (opener_tree begun)))
+
+-- one name stands in a group's beginning
+one_name : (unicode_mode : Bool) (us : List CodePoint) (name other : List ℕ) (n : ℕ) → HoldsName unicode_mode us name n → HoldsName unicode_mode us other n → name ≡ other
+one_name unicode_mode us name other n h k = one_of (sym h.name_is ∙ k.name_is)
+
+-- A builder has begun a group.
+pub record Opens (b c : Builder) (begun : Opening) (at after : ℕ) : Type 0 where
+  pub events : builder_events c ≡ builder_events b ++ (enter at ∷ opener_event (opener_tree begun) ∷ enter after ∷ enter after ∷ [])
+  pub openers_are : openers c ≡ opener_of (opener_tree begun) ∷ openers b
+  pub ready_is : ready c ≡ false
+  pub good : IsGood b → IsGood c
+  pub mode : c.mode ≡ b.mode
+
+-- the units of `(?`, modifiers and `:`
+modified_length : (bits : ℕ × ℕ) (w : List CodePoint) (m : IsModified bits w) → length w ≡ length m.text + 3
+modified_length bits w m = omega (arith, ap length m.whole, length-map w (λ (u : CodePoint). u.value), length-append m.text (58 ∷ []))
+
+-- a name among others
+pub among_contains : (names : List (List ℕ)) (name : List ℕ) → is_among names name ≡ true → Contains names name
+among_contains names name h =
+    let a = Any-from_list_any (λ other. pointwise eqb other name) names h in
+    (a.0, a.2, subst (λ other. get_or names a.0 other ≡ other) ((same_name_Decides a.1 name).0 a.4) a.3)
+
+pub contains_among : (names : List (List ℕ)) (name : List ℕ) → Contains names name → is_among names name ≡ true
+contains_among names name h =
+    list_any_at (λ other. pointwise eqb other name) names h.0 name h.1 ((same_name_Decides (get_or names h.0 name) name).1 h.2)
+
 module _ (us : List CodePoint) (first added : ℕ) (b : Builder) (place : ℕ) (h : IsParsing Unicode us first added b place) where
   -- the environment of the text
   abbrev text : Environment
@@ -183,3 +220,88 @@ module _ (us : List CodePoint) (first added : ℕ) (b : Builder) (place : ℕ) (
   close_moves c at after s a z m o g d =
       moves_on c closer 1 s (λ w more count spells on. close_advances text b c at after m o g d offset place (next 1) us w more a z spells on)
       (one_more (builder_events b) (builder_events c) (leave at ∷ leave at ∷ token closer ∷ leave after ∷ []) closer m refl)
+
+  -- a group that begins with a token
+  plain_moves : (c : Builder) (begun : Opening) (o : Opener) (n at after : ℕ) → IsNext us place (opener o) n → HasToken begun → opener_of (opener_tree begun) ≡ o
+      → at ≡ offset place → after ≡ offset (next n) → Opens b c begun at after → IsParsing Unicode us first added c (next n)
+  plain_moves c begun o n at after s t e a z k =
+      let it : Opener = opener_of (opener_tree begun) in
+      moves_on c (opener it) n (subst (λ x. IsNext us place (opener x) n) (sym e) s)
+      (λ w more count spells on. open_advances text b c begun at after t k.events k.openers_are k.ready_is k.good k.mode offset place (next n) us w more a z spells on)
+      (one_more (builder_events b) (builder_events c) (enter at ∷ opener_event (opener_tree begun) ∷ enter after ∷ enter after ∷ []) (opener it) k.events
+      (ap (λ x. tokens_of (x ∷ enter after ∷ enter after ∷ [])) t))
+
+  -- a group with modifiers, which have the span of their text
+  modified_moves : (c : Builder) (m : Modifiers) (n at after : ℕ) → IsNext us place (opener (ignoring (Some (letter_bits m)))) n → m.span ≡ span_between us first added (place + 2) (place + (n - 1))
+      → at ≡ offset place → after ≡ offset (next n) → Opens b c (Ignoring (Some m)) at after → IsParsing Unicode us first added c (next n)
+  modified_moves c m n at after s e a z k =
+      moves_on c (opener (ignoring (Some (letter_bits m)))) n s
+      (λ w more count spells on.
+      let ends : place + (n - 1) ≡ place + 2 + length spells.text = omega (arith, count, modified_length (letter_bits m) w spells) in
+      let it : IsModifying offset place m w = record { modified = spells; start = ap (λ x. x.start) e; end = ap (λ x. x.end) e ∙ ap offset ends } in
+      modified_advances text b c m at after k.events k.openers_are k.ready_is k.good k.mode offset place (next n) us w more a z it on)
+      (one_more (builder_events b) (builder_events c) (enter at ∷ modified m ∷ enter after ∷ enter after ∷ []) (opener (ignoring (Some (letter_bits m)))) k.events refl)
+
+  -- a group, or a look-around
+  pub open_moves : (c : Builder) (found : OpenerFound) (begun : Opening) (o : Opener) (n at after : ℕ) (source : List ℕ)
+      → Stands text (drop place us) (opener o) n → IsOpenerFound text (drop place us) n o found → IsOpeningOf (record { units = us; place = place; first = first; text = source }) added n found begun
+      → at ≡ offset place → after ≡ offset (next n) → Opens b c begun at after → IsParsing Unicode us first added c (next n)
+  open_moves c opening.Capturing begun o n at after source s f g a z k =
+      plain_moves c begun o n at after (is_next us place (opener o) n s) (subst HasToken (sym g) refl) (ap (λ x. opener_of (opener_tree x)) g ∙ sym f) a z k
+  open_moves c opening.Named begun o n at after source s f g a z k =
+      plain_moves c begun o n at after (is_next us place (opener o) n s) (subst HasToken (sym g.2) refl)
+      (ap (λ x. opener_of (opener_tree x)) g.2 ∙ ap (λ x. capturing (Some x)) (one_name true (drop place us) g.0 f.0 n g.1 f.2) ∙ sym f.1) a z k
+  open_moves c opening.Ignoring begun o n at after source s f g a z k =
+      plain_moves c begun o n at after (is_next us place (opener o) n s) (subst HasToken (sym g) refl) (ap (λ x. opener_of (opener_tree x)) g ∙ sym f) a z k
+  open_moves c (opening.Modified enabling disabling) begun o n at after source s f g a z k =
+      let m : Modifiers = record { span = span_between us first added (place + 2) (place + (n - 1)); enabling = enabling; disabling = disabling } in
+      modified_moves c m n at after (subst (λ x. IsNext us place (opener x) n) f.0 (is_next us place (opener o) n s)) refl a z (subst (λ x. Opens b c x at after) g k)
+  open_moves c (opening.LookAround kind) begun o n at after source s f g a z k =
+      plain_moves c begun o n at after (is_next us place (opener o) n s) (subst HasToken (sym g) refl) (ap (λ x. opener_of (opener_tree x)) g ∙ sym f) a z k
+
+  -- A token that may not follow stands next: no tree reads the text.
+  refuses : (t : Token) (n : ℕ) → front text (drop place us) ≡ Some (t, n) → ((ts : List Token) → run Unicode (t ∷ ts) (openers b) (ready b) ≡ None)
+      → (xs : List Token) (after : Bool) → TokenRow text xs (drop place us) [] → run Unicode xs (openers b) (ready b) ≡ Some ([], after) → ⊥
+  unfolding front
+  refuses t n f bad [] after r x = let m : front text (drop place us) ≡ None = ap (front text) r in let k : ⊥ = cc (m, f) in k
+  refuses t n f bad (y ∷ xs) after r x =
+      let m : front text (drop place us) ≡ Some (y, length r.0) = ap (front text) r.2 ∙ spelled_front text y r.0 r.1 r.3 in
+      let same : t ≡ y = same_token text (drop place us) t y n (length r.0) f m in
+      let none : run Unicode (y ∷ xs) (openers b) (ready b) ≡ None = subst (λ z. run Unicode (z ∷ xs) (openers b) (ready b) ≡ None) same (bad xs) in
+      let k : ⊥ = cc (none, x) in k
+
+  module _ (no_clash : HasNoClash Unicode us) (limit : text_groups us ≤ most_groups) where
+    -- A quantifier stands where none may follow.
+    pub lone_refused : (min : ℕ) (max : Option ℕ) (greedy : Bool) (n at after : ℕ) → IsNext us place (quantifier min max greedy) n → at ≡ offset place → after ≡ offset (next n) → ready b ≡ false
+        → IsRefused Unicode us first added (Diagnostic (LoneQuantifier (record { start = at; end = after })))
+    lone_refused min max greedy n at after s a z q =
+        let t : Token = quantifier min max greedy in
+        let f = front_spelled text (drop place us) t n s.read in
+        let on : next n ≡ place + length f.w = place_on us place n h.within s.within ∙ ap (λ k. place + k) (sym f.count) in
+        let here : IsReached Unicode us place (openers b) false (f.w ++ f.rest) =
+        subst (λ r. IsReached Unicode us place (openers b) r (f.w ++ f.rest)) q (subst (IsReached Unicode us place (openers b) (ready b)) f.whole (reached us first added b place h)) in
+        let obeying : Token → Type 0 = Obeys (text_groups us) (text_names Unicode us) in
+        let span : between at after ≡ span_between us first added place (place + length f.w) = between_same at after (offset place) (offset (place + length f.w)) a (z ∙ ap offset on) in (
+          at_place no_clash limit (subst (λ k. IsCauseAtPlace Unicode us first added (LoneQuantifier k)) (sym span)
+          (lone place min max greedy (openers b) f.w f.rest here refl f.spells (All-cons obeying t [] s.obeys (All-nil obeying)))),
+          λ p r. let x = read_ahead us first added b place h p r in refuses t n s.read (quantify_refuses text b min max greedy q) x.1.0 x.0 x.1.1 x.1.2,
+        )
+
+    -- A reference has a name that no group has.
+    pub name_refused : (name : List ℕ) (n at after : ℕ) (held : List (List ℕ)) → front text (drop place us) ≡ Some (named name, n) → n ≤ length (drop place us) → place < length us
+        → at ≡ offset place → after ≡ offset (next n) → held ≡ text_names Unicode us → is_among held name ≡ false
+        → IsRefused Unicode us first added (Diagnostic (InvalidNamedReference (record { start = at; end = after }) held))
+    name_refused name n at after held s w l a z e none =
+        let t : Token = named name in
+        let f = front_spelled text (drop place us) t n s in
+        let on : next n ≡ place + length f.w = place_on us place n h.within w ∙ ap (λ k. place + k) (sym f.count) in
+        let unknown : Contains (text_names Unicode us) name → ⊥ = λ c. true≢false (sym (contains_among (text_names Unicode us) name c) ∙ ap (λ others. is_among others name) (sym e) ∙ none) in
+        let here : IsPlace Unicode us place (f.w ++ f.rest) =
+        record { open_groups = openers b; ready = ready b; reached = subst (IsReached Unicode us place (openers b) (ready b)) f.whole (reached us first added b place h) } in
+        let span : between at after ≡ span_between us first added place (place + length f.w) = between_same at after (offset place) (offset (place + length f.w)) a (z ∙ ap offset on) in (
+          at_place no_clash limit (subst (λ k. IsCauseAtPlace Unicode us first added (InvalidNamedReference k held)) (sym span)
+          (subst (λ others. IsCauseAtPlace Unicode us first added (InvalidNamedReference (span_between us first added place (place + length f.w)) others)) (sym e)
+          (no_such_name place name f.w f.rest here f.spells unknown))),
+          dead_end us first added b place h l
+          (λ u k g o. unknown (subst (Obeys (text_groups us) (text_names Unicode us)) (same_token text (drop place us) u t k n g s) o)),
+        )
