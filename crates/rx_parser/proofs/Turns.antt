@@ -16,12 +16,13 @@ use Rattle.rx_ast.specs.declared.term.Term.{Term}
 use Rattle.rx_ast.specs.Tree.{mirror_term}
 use Rattle.rx_ast.specs.Tree as tree
 use Rattle.rx_units.specs.declared.code_point.CodePoint.{CodePoint}
+use Rattle.rx_units.specs.Reading.{Reading, moved, offset_of}
 use Rattle.rx_units.specs.Units.{end_of, offset_at, values}
 use Rattle.rx_model.specs.declared.mode.Mode.{Mode}
 use Rattle.rx_model.specs.declared.mode.Mode.TheVariants.{Unicode}
 use Rattle.rx_model.specs.Causes.{IsCauseAtPlace, IsPlace, at_place, lone, no_such_name}
 use Rattle.rx_model.specs.Early.{Obeys, most_groups}
-use Rattle.rx_model.specs.Environment.{Environment, environment_with, has_some}
+use Rattle.rx_model.specs.Environment.{Environment, environment_with, has_some, is_unicode}
 use Rattle.rx_model.specs.Events.{Events, enter, leave, modified, token, opener_event, term_events, tokens_of}
 use Rattle.rx_model.specs.Fronts.{front}
 use Rattle.rx_model.specs.GroupNameReading.{name_of}
@@ -46,7 +47,7 @@ use Rattle.rx_parser.specs.Good.{IsGood, IsGoodTerm}
 use Rattle.rx_parser.specs.Levels.{Repeats}
 use Rattle.rx_parser.specs.NotYet.{holds_unread}
 use Rattle.rx_parser.specs.Openings.{IsOpeningOf}
-use Rattle.rx_parser.specs.Parsing.{IsParsing, IsRefused}
+use Rattle.rx_parser.specs.Parsing.{AreFitting, IsParsing, IsRefused}
 use Rattle.rx_parser.specs.Progress.{IsAt, IsLeafOf}
 use Rattle.rx_parser.proofs.Pieces.{unread_behind}
 use Rattle.rx_parser.proofs.Refusing.{dead_end, reached, read_ahead}
@@ -61,6 +62,17 @@ end_fits added first (u ∷ us) (suc n) f a =
 -- The offset of each place fits.
 pub offset_fits : (added first : ℕ) (us : List CodePoint) (place : ℕ) → first + added < 2 ^ 32 → All (λ unit. unit.span.end + added < 2 ^ 32) us → offset_at first us place + added < 2 ^ 32
 offset_fits added first us place f a = end_fits added first us place f a
+
+-- of each place of a reader, at which it stands or to which it moves
+pub here_fits : (added : ℕ) (r : Reading) → AreFitting added r → offset_of r + added < 2 ^ 32
+here_fits added r f = offset_fits added r.first r.units r.place f.first f.ends
+
+pub moved_fits : (added n : ℕ) (r s : Reading) → AreFitting added r → s ≡ moved n r → offset_of s + added < 2 ^ 32
+moved_fits added n r s f e = subst (λ k. offset_of k + added < 2 ^ 32) (sym e) (offset_fits added r.first r.units (moved n r).place f.first f.ends)
+
+-- the offset of a reader that has moved
+pub moved_offset : (at added n : ℕ) (r s : Reading) → at ≡ offset_of s + added → s ≡ moved n r → at ≡ offset_at r.first r.units (min (r.place + n) (length r.units)) + added
+moved_offset at added n r s a e = a ∙ ap (λ k. offset_of k + added) e
 
 -- so many places on are within the text
 pub place_on : (us : List CodePoint) (place n : ℕ) → place ≤ length us → n ≤ length (drop place us) → min (place + n) (length us) ≡ place + n
@@ -124,6 +136,9 @@ opener_more (tree.looking kind) = refl
 abbrev between : ℕ → ℕ → Span
 between start end = record { start = start; end = end }
 
+abbrev pub empty_at : ℕ → Span
+empty_at at = between at at
+
 between_same : (at after start end : ℕ) → at ≡ start → after ≡ end → between at after ≡ between start end
 between_same at after start end a z = ap (λ x. between x after) a ∙ ap (between start) z
 
@@ -131,9 +146,16 @@ between_same at after start end a z = ap (λ x. between x after) a ∙ ap (betwe
 abbrev HasToken : Opening → Type 0
 HasToken begun = opener_event (opener_tree begun) ≡ token (opener (opener_of (opener_tree begun)))
 
--- one name stands in a group's beginning
-one_name : (unicode_mode : Bool) (us : List CodePoint) (name other : List ℕ) (n : ℕ) → HoldsName unicode_mode us name n → HoldsName unicode_mode us other n → name ≡ other
+-- one name stands in a group's beginning, or in a reference
+pub one_name : (unicode_mode : Bool) (us : List CodePoint) (name other : List ℕ) (n : ℕ) → HoldsName unicode_mode us name n → HoldsName unicode_mode us other n → name ≡ other
 one_name unicode_mode us name other n h k = one_of (sym h.name_is ∙ k.name_is)
+
+pub holds_opener : (e : Environment) (us : List CodePoint) (n : ℕ) (o : Opener) (it : OpenerFound) → is_unicode e.mode ≡ true → IsOpenerFound e us n o it → HoldsOpener us n it
+holds_opener e us n o opening.Capturing u f = tt
+holds_opener e us n o opening.Named u f = (f.0, subst (λ unicode_mode. HoldsName unicode_mode us f.0 n) u f.2)
+holds_opener e us n o opening.Ignoring u f = tt
+holds_opener e us n o (opening.Modified enabling disabling) u f = f.1
+holds_opener e us n o (opening.LookAround kind) u f = tt
 
 -- A builder has begun a group.
 pub record Opens (b c : Builder) (begun : Opening) (at after : ℕ) : Type 0 where
