@@ -9,8 +9,11 @@ use Rattle.rx_model.specs.Reached.{text_environment}
 use Rattle.rx_model.specs.Token.{named}
 use Rattle.rx_parser.specs.Found.{HoldsName}
 use Rattle.rx_parser.specs.Parsing.{IsParsing, IsRefused}
-use Rattle.rx_parser.proofs.Turns.{IsNext, among_contains, leaf_moves, moved_fits, moved_offset, name_refused, one_name}
+use Rattle.rx_parser.proofs.Turns.{IsNext, among_contains, leaf_moves, here_fits, moved_fits, moved_offset, name_refused, one_name}
 use Rattle.rx_parser.proofs.turn.named_reference.Goals as goal
+
+pub here-at-requires : goal.here-at-requires
+here-at-requires c = record { fits = here_fits c.args.spans.now c.args.reader.now c.requires.fits }
 
 pub here-requires : goal.here-requires
 here-requires c = record { fits = moved_fits c.args.spans.now c.args.size c.args.reader.now c.skip.new.self c.requires.fits c.skip.ensures }

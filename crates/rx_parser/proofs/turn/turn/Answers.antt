@@ -10,8 +10,11 @@ use Rattle.rx_parser.specs.Faults.{IsHaltFault}
 use Rattle.rx_parser.specs.Found.{leaf_token}
 use Rattle.rx_parser.specs.Parsing.{IsParsing, IsRefused}
 use Rattle.rx_parser.proofs.Refusing.{closer_refused, halt_refused}
-use Rattle.rx_parser.proofs.Turns.{bar_moves, close_moves, empty_at, found_here, holds_opener, is_next, leaf_moves, lone_refused, moved_fits, moved_offset, open_moves, place_moves, quantifier_moves}
+use Rattle.rx_parser.proofs.Turns.{bar_moves, close_moves, empty_at, found_here, here_fits, holds_opener, is_next, leaf_moves, lone_refused, moved_fits, moved_offset, open_moves, place_moves, quantifier_moves}
 use Rattle.rx_parser.proofs.turn.turn.Goals as goal
+
+pub here-at-requires : goal.here-at-requires
+here-at-requires c = record { fits = here_fits c.args.spans.now c.args.reader.now c.requires.fits }
 
 pub here-requires : goal.here-requires
 here-requires c = record { fits = moved_fits c.args.spans.now c.in-Leaf.length c.args.reader.now c.skip.new.self c.requires.fits c.skip.ensures }
