@@ -1,5 +1,5 @@
 -- What has been read at the end of the text is its tree.
-use Rattle.std.proofs.Common.{◌≡◌, refl, ap, sym, ◌∙◌, subst, ℕ, ◌+◌, ◌≤◌, true, false, List, [], ◌∷◌, ◌++◌, length, drop, arith}
+use Rattle.std.proofs.Common.{◌≡◌, refl, ap, sym, ◌∙◌, subst, ℕ, ◌+◌, ◌≤◌, false, List, [], ◌∷◌, ◌++◌, length, drop, arith}
 use Rattle.std.specs.Prelude.{All}
 use Rattle.std.proofs.lemmas.List.{append-nil, drop_all}
 use Rattle.std.proofs.lemmas.List.Elements.{All-nil}
@@ -12,7 +12,7 @@ use Rattle.rx_model.specs.Cuts.{TellsGroups}
 use Rattle.rx_model.specs.Early.{Obeys, most_groups}
 use Rattle.rx_model.specs.Environment.{Environment, environment}
 use Rattle.rx_model.specs.Events.{enter, leave, events, tokens, tokens_of}
-use Rattle.rx_model.specs.Names.{groups, names}
+use Rattle.rx_model.specs.Names.{groups}
 use Rattle.rx_model.specs.Reached.{AreObeying, HasNoClash, text_environment, text_groups, text_names}
 use Rattle.rx_model.specs.Reading.{Reads, IsSpelled, IsSpanned, IsOnly}
 use Rattle.rx_model.specs.Rows.{Row, TokenRow}

@@ -4,17 +4,15 @@ use Rattle.std.specs.Prelude.{All, eqb, min}
 use lib.Pointwise.{pointwise}
 use Rattle.std.proofs.Math.Seq.{drop-append_seam}
 use Rattle.std.proofs.lemmas.Bool.{true≢false}
-use Rattle.std.proofs.lemmas.List.{drop-drop, map-append, length-map}
+use Rattle.std.proofs.lemmas.List.{drop-drop, length-map}
 use Rattle.std.proofs.lemmas.List.Elements.{All-append, All-cons, All-head, All-nil, All-tail}
 use Rattle.std.proofs.lemmas.List.Folds.{Any-from_list_any, list_any_at}
 use Rattle.rx_base.specs.declared.fault.Fault.TheVariants.{Diagnostic}
-use Rattle.rx_base.specs.declared.diagnostic.Diagnostic.{Diagnostic as Refusal}
 use Rattle.rx_base.specs.declared.diagnostic.Diagnostic.TheVariants.{InvalidNamedReference, LoneQuantifier}
 use Rattle.rx_base.specs.declared.span.Span.{Span}
 use Rattle.rx_ast.specs.declared.leaf.Modifiers.{Modifiers}
 use Rattle.rx_ast.specs.declared.term.Term.{Term}
 use Rattle.rx_ast.specs.Tree.{mirror_term}
-use Rattle.rx_ast.specs.Tree as tree
 use Rattle.rx_units.specs.declared.code_point.CodePoint.{CodePoint}
 use Rattle.rx_units.specs.Reading.{Reading, moved, offset_of}
 use Rattle.rx_units.specs.Units.{end_of, offset_at, values}
@@ -25,13 +23,12 @@ use Rattle.rx_model.specs.Early.{Obeys, most_groups}
 use Rattle.rx_model.specs.Environment.{Environment, environment_with, has_some, is_unicode}
 use Rattle.rx_model.specs.Events.{Events, enter, leave, modified, token, opener_event, term_events, tokens_of}
 use Rattle.rx_model.specs.Fronts.{front}
-use Rattle.rx_model.specs.GroupNameReading.{name_of}
 use Rattle.rx_model.specs.Groups.{IsModified, IsModifying}
 use Rattle.rx_model.specs.Names.{is_among}
 use Rattle.rx_model.specs.Reached.{HasNoClash, IsReached, span_between, text_environment, text_groups, text_names}
 use Rattle.rx_model.specs.Rows.{Spells, TokenRow}
 use Rattle.rx_model.specs.Shapes.{run, takes, group_takes}
-use Rattle.rx_model.specs.Token.{Token, Opener, bar, capturing, closer, ignoring, letter_bits, looking, named, opener, opener_of, quantifier}
+use Rattle.rx_model.specs.Token.{Token, Opener, bar, capturing, closer, ignoring, letter_bits, named, opener, opener_of, quantifier}
 use Rattle.rx_model.proofs.Flat.{tokens_of-append}
 use Rattle.rx_model.proofs.Fronts.{front_spelled, spelled_front, spelled_some}
 use Rattle.rx_scan.proofs.KnownNames.{same_name_Decides}
@@ -75,7 +72,7 @@ pub moved_offset : (at added n : ℕ) (r s : Reading) → at ≡ offset_of s + a
 moved_offset at added n r s a e = a ∙ ap (λ k. offset_of k + added) e
 
 -- so many places on are within the text
-pub place_on : (us : List CodePoint) (place n : ℕ) → place ≤ length us → n ≤ length (drop place us) → min (place + n) (length us) ≡ place + n
+place_on : (us : List CodePoint) (place n : ℕ) → place ≤ length us → n ≤ length (drop place us) → min (place + n) (length us) ≡ place + n
 place_on us place n l k = omega (arith, l, k, length-drop place us)
 
 -- What is found in a mode, with so many groups, stands in the environment of the text.
@@ -92,6 +89,7 @@ pub record IsNext (us : List CodePoint) (place : ℕ) (t : Token) (n : ℕ) : Ty
   pub within : n ≤ length (drop place us)
   pub obeys : Obeys (text_groups us) (text_names Unicode us) t
 
+-- What stands next, and owes nothing to names, obeys.
 pub is_next : (us : List CodePoint) (place : ℕ) (t : Token) (n : ℕ) → Stands (text_environment Unicode us) (drop place us) t n → IsNext us place t n
 is_next us place t n s = record { read = s.0; within = s.1; obeys = s.2 (text_names Unicode us) }
 
@@ -102,9 +100,7 @@ place_moves us place n t l s =
     let f = front_spelled text (drop place us) t n s.read in
     omega (arith, place_on us place n l s.within, f.count, spelled_some text t f.w f.rest f.spells)
 
-some_pair : (t : Token) (n : ℕ) → Token × ℕ
-some_pair t n = (t, n)
-
+-- what is there is one
 one_of : {A : Type 0} {x y : A} → Some x ≡ Some y → x ≡ y
 one_of h = cc
 
@@ -112,6 +108,7 @@ one_of h = cc
 same_token : (e : Environment) (us : List CodePoint) (s t : Token) (n k : ℕ) → front e us ≡ Some (s, n) → front e us ≡ Some (t, k) → s ≡ t
 same_token e us s t n k f g = ap (λ x. x.0) (one_of (sym f ∙ g))
 
+-- events with one token add it
 one_more : (old new es : Events) (t : Token) → new ≡ old ++ es → tokens_of es ≡ t ∷ [] → tokens_of new ≡ tokens_of old ++ (t ∷ [])
 one_more old new es t e k = ap tokens_of e ∙ tokens_of-append old es ∙ ap (λ ts. tokens_of old ++ ts) k
 
@@ -126,19 +123,15 @@ repeats_more old new min max greedy after rep =
     ∙ ap (λ x. tokens_of head ++ x) (tokens_of-append back ending) ∙ sym (append_assoc (tokens_of head) (tokens_of back) (t ∷ []))
     ∙ ap (λ x. x ++ (t ∷ [])) (sym (tokens_of-append head (enter rep.1 ∷ back)) ∙ ap tokens_of (sym rep.3))
 
--- What an opener adds is its token.
-opener_more : (o : tree.Opener) → tokens_of (opener_event o ∷ []) ≡ opener (opener_of o) ∷ []
-opener_more (tree.capturing name) = refl
-opener_more (tree.ignoring None) = refl
-opener_more (tree.ignoring (Some m)) = refl
-opener_more (tree.looking kind) = refl
-
+-- the span between two offsets
 abbrev between : ℕ → ℕ → Span
 between start end = record { start = start; end = end }
 
+-- the empty span at an offset
 abbrev pub empty_at : ℕ → Span
 empty_at at = between at at
 
+-- equal offsets have equal spans between them
 between_same : (at after start end : ℕ) → at ≡ start → after ≡ end → between at after ≡ between start end
 between_same at after start end a z = ap (λ x. between x after) a ∙ ap (between start) z
 
@@ -150,6 +143,7 @@ HasToken begun = opener_event (opener_tree begun) ≡ token (opener (opener_of (
 pub one_name : (unicode_mode : Bool) (us : List CodePoint) (name other : List ℕ) (n : ℕ) → HoldsName unicode_mode us name n → HoldsName unicode_mode us other n → name ≡ other
 one_name unicode_mode us name other n h k = one_of (sym h.name_is ∙ k.name_is)
 
+-- What is found of a group is there with `u` or `v`.
 pub holds_opener : (e : Environment) (us : List CodePoint) (n : ℕ) (o : Opener) (it : OpenerFound) → is_unicode e.mode ≡ true → IsOpenerFound e us n o it → HoldsOpener us n it
 holds_opener e us n o opening.Capturing u f = tt
 holds_opener e us n o opening.Named u f = (f.0, subst (λ unicode_mode. HoldsName unicode_mode us f.0 n) u f.2)
@@ -169,13 +163,13 @@ pub record Opens (b c : Builder) (begun : Opening) (at after : ℕ) : Type 0 whe
 modified_length : (bits : ℕ × ℕ) (w : List CodePoint) (m : IsModified bits w) → length w ≡ length m.text + 3
 modified_length bits w m = omega (arith, ap length m.whole, length-map w (λ (u : CodePoint). u.value), length-append m.text (58 ∷ []))
 
--- a name among others
+-- a name that a search finds among others, and one that is among them
 pub among_contains : (names : List (List ℕ)) (name : List ℕ) → is_among names name ≡ true → Contains names name
 among_contains names name h =
     let a = Any-from_list_any (λ other. pointwise eqb other name) names h in
     (a.0, a.2, subst (λ other. get_or names a.0 other ≡ other) ((same_name_Decides a.1 name).0 a.4) a.3)
 
-pub contains_among : (names : List (List ℕ)) (name : List ℕ) → Contains names name → is_among names name ≡ true
+contains_among : (names : List (List ℕ)) (name : List ℕ) → Contains names name → is_among names name ≡ true
 contains_among names name h =
     list_any_at (λ other. pointwise eqb other name) names h.0 name h.1 ((same_name_Decides (get_or names h.0 name) name).1 h.2)
 
@@ -221,6 +215,7 @@ module _ (us : List CodePoint) (first added : ℕ) (b : Builder) (place : ℕ) (
       moves_on c t n s (λ w more count spells on. leaf_advances text b c term t at after l m o r g d offset place (next n) us w more a z spells on)
       (one_more (builder_events b) (builder_events c) (term_events term) t m (ap tokens_of l.events_are))
 
+  -- a bar
   pub bar_moves : (c : Builder) (at after : ℕ) → IsNext us place bar 1 → at ≡ offset place → after ≡ offset (next 1)
       → builder_events c ≡ builder_events b ++ (leave at ∷ token bar ∷ enter after ∷ []) → openers c ≡ openers b → ready c ≡ false → (IsGood b → IsGood c) → c.mode ≡ b.mode
       → IsParsing Unicode us first added c (next 1)
@@ -228,6 +223,7 @@ module _ (us : List CodePoint) (first added : ℕ) (b : Builder) (place : ℕ) (
       moves_on c bar 1 s (λ w more count spells on. bar_advances text b c at after m o r g d offset place (next 1) us w more a z spells on)
       (one_more (builder_events b) (builder_events c) (leave at ∷ token bar ∷ enter after ∷ []) bar m refl)
 
+  -- a quantifier behind what may have one
   pub quantifier_moves : (c : Builder) (min : ℕ) (max : Option ℕ) (greedy : Bool) (n after : ℕ) → IsNext us place (quantifier min max greedy) n → after ≡ offset (next n)
       → Repeats (builder_events b) (builder_events c) min max greedy after → ready b ≡ true → openers c ≡ openers b → ready c ≡ false
       → (IsGood b → IsGood c) → c.mode ≡ b.mode → IsParsing Unicode us first added c (next n)
@@ -236,6 +232,7 @@ module _ (us : List CodePoint) (first added : ℕ) (b : Builder) (place : ℕ) (
       (λ w more count spells on. quantify_advances text b c min max greedy (offset place) after rep q o r g d offset place (next n) us w more refl z spells on)
       (repeats_more (builder_events b) (builder_events c) min max greedy after rep)
 
+  -- the end of a group
   pub close_moves : (c : Builder) (at after : ℕ) → IsNext us place closer 1 → at ≡ offset place → after ≡ offset (next 1)
       → builder_events c ≡ builder_events b ++ (leave at ∷ leave at ∷ token closer ∷ leave after ∷ []) → (it : Opener) × (openers b ≡ it ∷ openers c) × (ready c ≡ group_takes b.mode it)
       → (IsGood b → IsGood c) → c.mode ≡ b.mode → IsParsing Unicode us first added c (next 1)
@@ -305,7 +302,7 @@ module _ (us : List CodePoint) (first added : ℕ) (b : Builder) (place : ℕ) (
         let obeying : Token → Type 0 = Obeys (text_groups us) (text_names Unicode us) in
         let span : between at after ≡ span_between us first added place (place + length f.w) = between_same at after (offset place) (offset (place + length f.w)) a (z ∙ ap offset on) in (
           at_place no_clash limit (subst (λ k. IsCauseAtPlace Unicode us first added (LoneQuantifier k)) (sym span)
-          (lone place min max greedy (openers b) f.w f.rest here refl f.spells (All-cons obeying t [] s.obeys (All-nil obeying)))),
+              (lone place min max greedy (openers b) f.w f.rest here refl f.spells (All-cons obeying t [] s.obeys (All-nil obeying)))),
           λ p r. let x = read_ahead us first added b place h p r in refuses t n s.read (quantify_refuses text b min max greedy q) x.1.0 x.0 x.1.1 x.1.2,
         )
 
@@ -322,8 +319,8 @@ module _ (us : List CodePoint) (first added : ℕ) (b : Builder) (place : ℕ) (
         record { open_groups = openers b; ready = ready b; reached = subst (IsReached Unicode us place (openers b) (ready b)) f.whole (reached us first added b place h) } in
         let span : between at after ≡ span_between us first added place (place + length f.w) = between_same at after (offset place) (offset (place + length f.w)) a (z ∙ ap offset on) in (
           at_place no_clash limit (subst (λ k. IsCauseAtPlace Unicode us first added (InvalidNamedReference k held)) (sym span)
-          (subst (λ others. IsCauseAtPlace Unicode us first added (InvalidNamedReference (span_between us first added place (place + length f.w)) others)) (sym e)
-          (no_such_name place name f.w f.rest here f.spells unknown))),
+              (subst (λ others. IsCauseAtPlace Unicode us first added (InvalidNamedReference (span_between us first added place (place + length f.w)) others)) (sym e)
+              (no_such_name place name f.w f.rest here f.spells unknown))),
           dead_end us first added b place h l
-          (λ u k g o. unknown (subst (Obeys (text_groups us) (text_names Unicode us)) (same_token text (drop place us) u t k n g s) o)),
+              (λ u k g o. unknown (subst (Obeys (text_groups us) (text_names Unicode us)) (same_token text (drop place us) u t k n g s) o)),
         )

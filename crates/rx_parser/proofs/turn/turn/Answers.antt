@@ -1,4 +1,4 @@
-use Rattle.std.proofs.Common.{◌≡◌, ◌+◌, ◌<◌, ◌^◌, true, false, refl, ap, sym, ◌∙◌, subst, length, arith, rules}
+use Rattle.std.proofs.Common.{◌≡◌, ◌<◌, ◌^◌, true, false, refl, ap, sym, ◌∙◌, subst, length, arith, rules}
 use Rattle.rx_base.specs.declared.fault.Fault.TheVariants.{Diagnostic}
 use Rattle.rx_base.specs.declared.diagnostic.Diagnostic.TheVariants.{LoneQuantifier, ParsePatternIncomplete}
 use Rattle.rx_units.specs.Reading.{moved, rest}
