@@ -9,6 +9,8 @@ use Rattle.rx_ast.specs.declared.leaf.CharacterClassEscape.{CharacterClassEscape
 use Rattle.rx_ast.specs.declared.leaf.CharacterClassEscapeKind.{CharacterClassEscapeKind}
 use Rattle.rx_ast.specs.declared.leaf.CharacterKind.{CharacterKind}
 use Rattle.rx_ast.specs.declared.leaf.Dot.{Dot}
+use Rattle.rx_ast.specs.declared.leaf.IndexedReference.{IndexedReference}
+use Rattle.rx_ast.specs.declared.leaf.NamedReference.{NamedReference}
 use Rattle.rx_ast.specs.declared.term.Term.{Term}
 use Rattle.rx_ast.specs.declared.term.Term.TheVariants as variant
 use Rattle.rx_ast.specs.Spans.{leaf_span}
@@ -18,7 +20,7 @@ use Rattle.rx_ast.proofs.Equations as mirror
 use Rattle.rx_model.specs.declared.mode.Mode.{Mode}
 use Rattle.rx_model.specs.Events.{enter, leave, token, node_events, term_events, leaf_event}
 use Rattle.rx_model.specs.Shapes.{run, takes, leaf_takes, IsNode}
-use Rattle.rx_model.specs.Token.{Token, Opener, boundary, character, dot, class_escape, leaf_token}
+use Rattle.rx_model.specs.Token.{Token, Opener, boundary, character, dot, class_escape, indexed, named, leaf_token}
 use Rattle.rx_parser.specs.Progress.{IsLeafOf}
 
 leaf_runs : (mode : Mode) (l : Leaf) (ts : List Token) (open_groups : List Opener) (ready : Bool) → run mode (leaf_token l ∷ ts) open_groups ready ≡ run mode ts open_groups (leaf_takes l)
@@ -61,3 +63,11 @@ pub class_escape_is_leaf : (b : Box CharacterClassEscape Global) (kind : Charact
     → IsLeafOf (variant.CharacterClassEscape b) (class_escape kind) at after
 class_escape_is_leaf b kind at after e =
     leaf_is (variant.CharacterClassEscape b) (tree.class_escape b.value) (class_escape kind) at after (mirror.escape_is b) (ap (λ x. token (class_escape x.kind)) e) (ap (λ x. class_escape x.kind) e) (ap (λ x. x.span) e)
+
+pub indexed_is_leaf : (b : Box IndexedReference Global) (n at after : ℕ) → b.value ≡ record { span = record { start = at; end = after }; index = n } → IsLeafOf (variant.IndexedReference b) (indexed n) at after
+indexed_is_leaf b n at after e =
+    leaf_is (variant.IndexedReference b) (tree.indexed b.value) (indexed n) at after (mirror.indexed_is b) (ap (λ x. token (indexed x.index)) e) (ap (λ x. indexed x.index) e) (ap (λ x. x.span) e)
+
+pub named_is_leaf : (b : Box NamedReference Global) (name : List ℕ) (at after : ℕ) → b.value ≡ record { span = record { start = at; end = after }; name = name } → IsLeafOf (variant.NamedReference b) (named name) at after
+named_is_leaf b name at after e =
+    leaf_is (variant.NamedReference b) (tree.named b.value) (named name) at after (mirror.named_is b) (ap (λ x. token (named x.name)) e) (ap (λ x. named x.name) e) (ap (λ x. x.span) e)

@@ -12,10 +12,11 @@ pub mod Halts
 pub mod Insides
 pub mod Leaves
 pub mod Literals
+pub mod Passes
 pub mod Pieces
 pub mod Places
 pub mod Prefixes
+pub mod Refusing
 pub mod Steps
 pub mod TextUnits
 pub mod Turns
-pub mod Ungrouped

@@ -1,14 +1,16 @@
 -- Each token moves the reading on, or may not follow.
 use Rattle.std.proofs.Common.{◌≡◌, refl, ap, sym, ◌∙◌, subst, ℕ, ◌+◌, Bool, true, false, Option, Some, List, [], ◌∷◌, ◌++◌, length, append_assoc}
 use Rattle.rx_units.specs.declared.code_point.CodePoint.{CodePoint}
+use Rattle.rx_ast.specs.declared.leaf.Modifiers.{Modifiers}
 use Rattle.rx_ast.specs.declared.term.Pattern.{Pattern}
 use Rattle.rx_ast.specs.declared.term.Term.{Term}
 use Rattle.rx_ast.specs.Tree.{mirror_term}
 use Rattle.rx_model.specs.Environment.{Environment}
-use Rattle.rx_model.specs.Events.{Events, enter, leave, token, events, opener_event, term_events, tokens, tokens_of}
+use Rattle.rx_model.specs.Events.{Events, enter, leave, modified, token, events, opener_event, term_events, tokens, tokens_of}
+use Rattle.rx_model.specs.Groups.{IsModifying}
 use Rattle.rx_model.specs.Rows.{Row, TokenRow}
 use Rattle.rx_model.specs.Shapes.{run, takes, group_takes, IsWellMade}
-use Rattle.rx_model.specs.Token.{Token, Opener, bar, closer, opener, opener_of, quantifier}
+use Rattle.rx_model.specs.Token.{Token, Opener, bar, closer, ignoring, letter_bits, opener, opener_of, quantifier}
 use Rattle.rx_model.proofs.Flat.{tokens_of-append}
 use Rattle.rx_model.proofs.Joins.{row_append, row_split, row_tokens}
 use Rattle.rx_model.proofs.OneRow.{row_prefix}
@@ -62,7 +64,7 @@ module _ (e : Environment) where
       moves o b c (leave at ∷ token bar ∷ enter after ∷ []) us i j (w ++ more) more m (a, (w, more, refl, s, (z ∙ ap o k, (sym k, refl))))
       (same_state (openers b) (openers c) false (ready c) (sym q) (sym r)) g d h
 
-  -- for each opening but one with modifiers
+  -- an opening with a name, or with neither a name nor modifiers
   pub open_advances : (b c : Builder) (opening : Opening) (at after : ℕ) → opener_event (opener_tree opening) ≡ token (opener (opener_of (opener_tree opening)))
       → builder_events c ≡ builder_events b ++ (enter at ∷ opener_event (opener_tree opening) ∷ enter after ∷ enter after ∷ []) → openers c ≡ opener_of (opener_tree opening) ∷ openers b → ready c ≡ false
       → (IsGood b → IsGood c) → c.mode ≡ b.mode → Advances e b c (opener (opener_of (opener_tree opening))) at after
@@ -72,6 +74,16 @@ module _ (e : Environment) where
       moves o b c (enter at ∷ token (opener it) ∷ enter after ∷ enter after ∷ []) us i j (w ++ more) more (m ∙ ap (λ x. builder_events b ++ (enter at ∷ x ∷ enter after ∷ enter after ∷ [])) n)
       (a, (w, more, refl, s, (y, (y, (sym k, refl)))))
       (same_state (it ∷ openers b) (openers c) false (ready c) (sym q) (sym r)) g d h
+
+  -- an opening with modifiers, which have the span of their text
+  pub modified_advances : (b c : Builder) (m : Modifiers) (at after : ℕ) → builder_events c ≡ builder_events b ++ (enter at ∷ modified m ∷ enter after ∷ enter after ∷ [])
+      → openers c ≡ ignoring (Some (letter_bits m)) ∷ openers b → ready c ≡ false → (IsGood b → IsGood c) → c.mode ≡ b.mode
+      → (o : ℕ → ℕ) (i j : ℕ) (us w more : List CodePoint) → at ≡ o i → after ≡ o j → IsModifying o i m w → j ≡ i + length w → IsAt e o b us i (w ++ more) → IsAt e o c us j more
+  modified_advances b c m at after n q r g d o i j us w more a z s k h =
+      let y : after ≡ o (i + length w) = z ∙ ap o k in
+      moves o b c (enter at ∷ modified m ∷ enter after ∷ enter after ∷ []) us i j (w ++ more) more n
+      (a, (w, more, refl, s, (y, (y, (sym k, refl)))))
+      (same_state (ignoring (Some (letter_bits m)) ∷ openers b) (openers c) false (ready c) (sym q) (sym r)) g d h
 
   pub close_advances : (b c : Builder) (at after : ℕ) → builder_events c ≡ builder_events b ++ (leave at ∷ leave at ∷ token closer ∷ leave after ∷ [])
       → (it : Opener) × (openers b ≡ it ∷ openers c) × (ready c ≡ group_takes b.mode it) → (IsGood b → IsGood c) → c.mode ≡ b.mode → Advances e b c closer at after

@@ -1,40 +1,54 @@
 -- A token that stands next moves a parse on, or refuses the text.
-use Rattle.std.proofs.Common.{◌≡◌, refl, ap, sym, ◌∙◌, subst, ℕ, zero, suc, ◌+◌, ◌^◌, ◌<◌, ◌≤◌, Bool, true, false, Option, Some, None, List, [], ◌∷◌, ◌++◌, length, drop, take, arith, append_assoc, length-drop}
-use Rattle.std.specs.Prelude.{All, min}
+use Rattle.std.proofs.Common.{◌≡◌, refl, ap, sym, ◌∙◌, subst, ℕ, zero, suc, ◌+◌, ◌-◌, ◌^◌, ◌<◌, ◌≤◌, Bool, true, false, Option, Some, None, List, [], ◌∷◌, ◌++◌, length, drop, take, get_or, arith, append_assoc, length-append, length-drop, Contains}
+use Rattle.std.specs.Prelude.{All, eqb, min}
+use lib.Pointwise.{pointwise}
 use Rattle.std.proofs.Math.Seq.{drop-append_seam}
-use Rattle.std.proofs.lemmas.List.{drop-drop}
+use Rattle.std.proofs.lemmas.Bool.{true≢false}
+use Rattle.std.proofs.lemmas.List.{drop-drop, length-map}
 use Rattle.std.proofs.lemmas.List.Elements.{All-append, All-cons, All-head, All-nil, All-tail}
+use Rattle.std.proofs.lemmas.List.Folds.{Any-from_list_any, list_any_at}
 use Rattle.rx_base.specs.declared.fault.Fault.TheVariants.{Diagnostic}
-use Rattle.rx_base.specs.declared.diagnostic.Diagnostic.TheVariants.{LoneQuantifier}
+use Rattle.rx_base.specs.declared.diagnostic.Diagnostic.TheVariants.{InvalidNamedReference, LoneQuantifier}
+use Rattle.rx_base.specs.declared.span.Span.{Span}
+use Rattle.rx_ast.specs.declared.leaf.Modifiers.{Modifiers}
 use Rattle.rx_ast.specs.declared.term.Term.{Term}
 use Rattle.rx_ast.specs.Tree.{mirror_term}
 use Rattle.rx_units.specs.declared.code_point.CodePoint.{CodePoint}
+use Rattle.rx_units.specs.Reading.{Reading, moved, offset_of}
 use Rattle.rx_units.specs.Units.{end_of, offset_at, values}
 use Rattle.rx_model.specs.declared.mode.Mode.{Mode}
 use Rattle.rx_model.specs.declared.mode.Mode.TheVariants.{Unicode}
-use Rattle.rx_model.specs.Causes.{IsCause, lone}
-use Rattle.rx_model.specs.Early.{Obeys}
-use Rattle.rx_model.specs.Events.{Events, enter, leave, token, term_events, tokens_of}
+use Rattle.rx_model.specs.Causes.{IsCauseAtPlace, IsPlace, at_place, lone, no_such_name}
+use Rattle.rx_model.specs.Early.{Obeys, most_groups}
+use Rattle.rx_model.specs.Environment.{Environment, environment_with, has_some, is_unicode}
+use Rattle.rx_model.specs.Events.{Events, enter, leave, modified, token, opener_event, term_events, tokens_of}
 use Rattle.rx_model.specs.Fronts.{front}
-use Rattle.rx_model.specs.Reached.{IsReached}
-use Rattle.rx_model.specs.Rows.{TokenRow}
-use Rattle.rx_model.specs.Shapes.{run, takes}
-use Rattle.rx_model.specs.Token.{Token, bar, quantifier}
+use Rattle.rx_model.specs.Groups.{IsModified, IsModifying}
+use Rattle.rx_model.specs.Names.{is_among}
+use Rattle.rx_model.specs.Reached.{HasNoClash, IsReached, span_between, text_environment, text_groups, text_names}
+use Rattle.rx_model.specs.Rows.{Spells, TokenRow}
+use Rattle.rx_model.specs.Shapes.{run, takes, group_takes}
+use Rattle.rx_model.specs.Token.{Token, Opener, bar, capturing, closer, ignoring, letter_bits, named, opener, opener_of, quantifier}
 use Rattle.rx_model.proofs.Flat.{tokens_of-append}
 use Rattle.rx_model.proofs.Fronts.{front_spelled, spelled_front, spelled_some}
+use Rattle.rx_scan.proofs.KnownNames.{same_name_Decides}
 use Rattle.rx_parser.specs.declared.builder.Builder.{Builder}
-use Rattle.rx_parser.specs.declared.found.Halt.{Halt}
-use Rattle.rx_parser.specs.Found.{IsHalt, Stands}
-use Rattle.rx_parser.specs.Frames.{builder_events, openers, ready}
+use Rattle.rx_parser.specs.declared.found.Found.{Found}
+use Rattle.rx_parser.specs.declared.found.OpenerFound.{OpenerFound}
+use Rattle.rx_parser.specs.declared.found.OpenerFound.TheVariants as opening
+use Rattle.rx_parser.specs.declared.frame.Opening.{Opening}
+use Rattle.rx_parser.specs.declared.frame.Opening.TheVariants.{Capturing, Ignoring, LookAround}
+use Rattle.rx_parser.specs.Found.{HoldsName, HoldsOpener, IsFound, IsOpenerFound, Stands}
+use Rattle.rx_parser.specs.Frames.{builder_events, opener_tree, openers, ready}
 use Rattle.rx_parser.specs.Good.{IsGood, IsGoodTerm}
 use Rattle.rx_parser.specs.Levels.{Repeats}
 use Rattle.rx_parser.specs.NotYet.{holds_unread}
-use Rattle.rx_parser.specs.Parsing.{IsParsing, IsRefused}
-use Rattle.rx_parser.specs.Progress.{IsAt, IsLeafOf, Advances}
-use Rattle.rx_parser.proofs.Halts.{same_token}
+use Rattle.rx_parser.specs.Openings.{IsOpeningOf}
+use Rattle.rx_parser.specs.Parsing.{AreFitting, IsParsing, IsRefused}
+use Rattle.rx_parser.specs.Progress.{IsAt, IsLeafOf}
 use Rattle.rx_parser.proofs.Pieces.{unread_behind}
-use Rattle.rx_parser.proofs.Places.{text, reached, read_ahead}
-use Rattle.rx_parser.proofs.Steps.{leaf_advances, bar_advances, quantify_advances, quantify_refuses}
+use Rattle.rx_parser.proofs.Refusing.{dead_end, reached, read_ahead}
+use Rattle.rx_parser.proofs.Steps.{leaf_advances, bar_advances, close_advances, modified_advances, open_advances, quantify_advances, quantify_refuses}
 
 end_fits : (added first : ℕ) (us : List CodePoint) (n : ℕ) → first + added < 2 ^ 32 → All (λ unit. unit.span.end + added < 2 ^ 32) us → end_of first (take n us) + added < 2 ^ 32
 end_fits added first us zero f a = f
@@ -46,23 +60,55 @@ end_fits added first (u ∷ us) (suc n) f a =
 pub offset_fits : (added first : ℕ) (us : List CodePoint) (place : ℕ) → first + added < 2 ^ 32 → All (λ unit. unit.span.end + added < 2 ^ 32) us → offset_at first us place + added < 2 ^ 32
 offset_fits added first us place f a = end_fits added first us place f a
 
+-- of each place of a reader, at which it stands or to which it moves
+pub here_fits : (added : ℕ) (r : Reading) → AreFitting added r → offset_of r + added < 2 ^ 32
+here_fits added r f = offset_fits added r.first r.units r.place f.first f.ends
+
+pub moved_fits : (added n : ℕ) (r s : Reading) → AreFitting added r → s ≡ moved n r → offset_of s + added < 2 ^ 32
+moved_fits added n r s f e = subst (λ k. offset_of k + added < 2 ^ 32) (sym e) (offset_fits added r.first r.units (moved n r).place f.first f.ends)
+
+-- the offset of a reader that has moved
+pub moved_offset : (at added n : ℕ) (r s : Reading) → at ≡ offset_of s + added → s ≡ moved n r → at ≡ offset_at r.first r.units (min (r.place + n) (length r.units)) + added
+moved_offset at added n r s a e = a ∙ ap (λ k. offset_of k + added) e
+
 -- so many places on are within the text
-pub place_on : (us : List CodePoint) (place n : ℕ) → place ≤ length us → n ≤ length (drop place us) → min (place + n) (length us) ≡ place + n
+place_on : (us : List CodePoint) (place n : ℕ) → place ≤ length us → n ≤ length (drop place us) → min (place + n) (length us) ≡ place + n
 place_on us place n l k = omega (arith, l, k, length-drop place us)
 
--- What stands next, said of the mode and the units that are.
-pub stands_here : (mode : Mode) (us vs : List CodePoint) (t : Token) (n : ℕ) → mode ≡ Unicode → us ≡ vs → Stands mode us t n → Stands Unicode vs t n
-stands_here mode us vs t n m e s = subst (λ ws. Stands Unicode ws t n) e (subst (λ k. Stands k us t n) m s)
+-- What is found in a mode, with so many groups, stands in the environment of the text.
+pub found_here : (mode : Mode) (groups : ℕ) (us vs rest : List CodePoint) (it : Found) → mode ≡ Unicode → groups ≡ text_groups us → vs ≡ rest
+    → ((has_names : Bool) → IsFound (environment_with mode groups has_names) vs it) → IsFound (text_environment Unicode us) rest it
+found_here mode groups us vs rest it m g e f =
+    let names : Bool = has_some (text_names Unicode us) in
+    subst (λ ws. IsFound (text_environment Unicode us) ws it) e
+    (subst (λ n. IsFound (environment_with Unicode n names) vs it) g (subst (λ k. IsFound (environment_with k groups names) vs it) m (f names)))
 
-pub halts_here : (mode : Mode) (us vs : List CodePoint) (it : Halt) → mode ≡ Unicode → us ≡ vs → IsHalt mode us it → IsHalt Unicode vs it
-halts_here mode us vs it m e s = subst (λ ws. IsHalt Unicode ws it) e (subst (λ k. IsHalt k us it) m s)
+-- A token of so many units stands at this place of a text, and obeys.
+pub record IsNext (us : List CodePoint) (place : ℕ) (t : Token) (n : ℕ) : Type 0 where
+  pub read : front (text_environment Unicode us) (drop place us) ≡ Some (t, n)
+  pub within : n ≤ length (drop place us)
+  pub obeys : Obeys (text_groups us) (text_names Unicode us) t
+
+-- What stands next, and owes nothing to names, obeys.
+pub is_next : (us : List CodePoint) (place : ℕ) (t : Token) (n : ℕ) → Stands (text_environment Unicode us) (drop place us) t n → IsNext us place t n
+is_next us place t n s = record { read = s.0; within = s.1; obeys = s.2 (text_names Unicode us) }
 
 -- A token has a unit.
-pub place_moves : (us : List CodePoint) (place n : ℕ) (t : Token) → place ≤ length us → Stands Unicode (drop place us) t n → place < min (place + n) (length us)
+pub place_moves : (us : List CodePoint) (place n : ℕ) (t : Token) → place ≤ length us → IsNext us place t n → place < min (place + n) (length us)
 place_moves us place n t l s =
-    let f = front_spelled text (drop place us) t n s.0 in
-    omega (arith, place_on us place n l s.1, f.count, spelled_some text t f.w f.rest f.spells)
+    let text : Environment = text_environment Unicode us in
+    let f = front_spelled text (drop place us) t n s.read in
+    omega (arith, place_on us place n l s.within, f.count, spelled_some text t f.w f.rest f.spells)
 
+-- what is there is one
+one_of : {A : Type 0} {x y : A} → Some x ≡ Some y → x ≡ y
+one_of h = cc
+
+-- one token stands next
+same_token : (e : Environment) (us : List CodePoint) (s t : Token) (n k : ℕ) → front e us ≡ Some (s, n) → front e us ≡ Some (t, k) → s ≡ t
+same_token e us s t n k f g = ap (λ x. x.0) (one_of (sym f ∙ g))
+
+-- events with one token add it
 one_more : (old new es : Events) (t : Token) → new ≡ old ++ es → tokens_of es ≡ t ∷ [] → tokens_of new ≡ tokens_of old ++ (t ∷ [])
 one_more old new es t e k = ap tokens_of e ∙ tokens_of-append old es ∙ ap (λ ts. tokens_of old ++ ts) k
 
@@ -77,52 +123,160 @@ repeats_more old new min max greedy after rep =
     ∙ ap (λ x. tokens_of head ++ x) (tokens_of-append back ending) ∙ sym (append_assoc (tokens_of head) (tokens_of back) (t ∷ []))
     ∙ ap (λ x. x ++ (t ∷ [])) (sym (tokens_of-append head (enter rep.1 ∷ back)) ∙ ap tokens_of (sym rep.3))
 
+-- the span between two offsets
+abbrev between : ℕ → ℕ → Span
+between start end = record { start = start; end = end }
+
+-- the empty span at an offset
+abbrev pub empty_at : ℕ → Span
+empty_at at = between at at
+
+-- equal offsets have equal spans between them
+between_same : (at after start end : ℕ) → at ≡ start → after ≡ end → between at after ≡ between start end
+between_same at after start end a z = ap (λ x. between x after) a ∙ ap (between start) z
+
+-- What a group begins with is a token among the events.
+abbrev HasToken : Opening → Type 0
+HasToken begun = opener_event (opener_tree begun) ≡ token (opener (opener_of (opener_tree begun)))
+
+-- one name stands in a group's beginning, or in a reference
+pub one_name : (unicode_mode : Bool) (us : List CodePoint) (name other : List ℕ) (n : ℕ) → HoldsName unicode_mode us name n → HoldsName unicode_mode us other n → name ≡ other
+one_name unicode_mode us name other n h k = one_of (sym h.name_is ∙ k.name_is)
+
+-- What is found of a group is there with `u` or `v`.
+pub holds_opener : (e : Environment) (us : List CodePoint) (n : ℕ) (o : Opener) (it : OpenerFound) → is_unicode e.mode ≡ true → IsOpenerFound e us n o it → HoldsOpener us n it
+holds_opener e us n o opening.Capturing u f = tt
+holds_opener e us n o opening.Named u f = (f.0, subst (λ unicode_mode. HoldsName unicode_mode us f.0 n) u f.2)
+holds_opener e us n o opening.Ignoring u f = tt
+holds_opener e us n o (opening.Modified enabling disabling) u f = f.1
+holds_opener e us n o (opening.LookAround kind) u f = tt
+
+-- A builder has begun a group.
+pub record Opens (b c : Builder) (begun : Opening) (at after : ℕ) : Type 0 where
+  pub events : builder_events c ≡ builder_events b ++ (enter at ∷ opener_event (opener_tree begun) ∷ enter after ∷ enter after ∷ [])
+  pub openers_are : openers c ≡ opener_of (opener_tree begun) ∷ openers b
+  pub ready_is : ready c ≡ false
+  pub good : IsGood b → IsGood c
+  pub mode : c.mode ≡ b.mode
+
+-- the units of `(?`, modifiers and `:`
+modified_length : (bits : ℕ × ℕ) (w : List CodePoint) (m : IsModified bits w) → length w ≡ length m.text + 3
+modified_length bits w m = omega (arith, ap length m.whole, length-map w (λ (u : CodePoint). u.value), length-append m.text (58 ∷ []))
+
+-- a name that a search finds among others, and one that is among them
+pub among_contains : (names : List (List ℕ)) (name : List ℕ) → is_among names name ≡ true → Contains names name
+among_contains names name h =
+    let a = Any-from_list_any (λ other. pointwise eqb other name) names h in
+    (a.0, a.2, subst (λ other. get_or names a.0 other ≡ other) ((same_name_Decides a.1 name).0 a.4) a.3)
+
+contains_among : (names : List (List ℕ)) (name : List ℕ) → Contains names name → is_among names name ≡ true
+contains_among names name h =
+    list_any_at (λ other. pointwise eqb other name) names h.0 name h.1 ((same_name_Decides (get_or names h.0 name) name).1 h.2)
+
 module _ (us : List CodePoint) (first added : ℕ) (b : Builder) (place : ℕ) (h : IsParsing Unicode us first added b place) where
+  -- the environment of the text
+  abbrev text : Environment
+  text = text_environment Unicode us
+
+  -- the offset of a place
+  abbrev offset : ℕ → ℕ
+  offset i = offset_at first us i + added
+
   -- the place behind so many units
   abbrev next : ℕ → ℕ
   next n = min (place + n) (length us)
 
+  -- The builder takes what so many units spell.
+  abbrev Takes : Builder → Token → ℕ → Type 0
+  Takes c t n = (w more : List CodePoint) → length w ≡ n → Spells text t w more → next n ≡ place + length w → IsAt text offset b us place (w ++ more) → IsAt text offset c us (next n) more
+
   -- a token that the builder takes
-  pub moves_on : (c : Builder) (t : Token) (n at after : ℕ) → Stands Unicode (drop place us) t n → at ≡ offset_at first us place + added → after ≡ offset_at first us (next n) + added
-      → Advances text b c t at after → openers c ≡ openers b → tokens_of (builder_events c) ≡ tokens_of (builder_events b) ++ (t ∷ []) → IsParsing Unicode us first added c (next n)
-  moves_on c t n at after s a z adv o more =
-      let f = front_spelled text (drop place us) t n s.0 in
-      let on : next n ≡ place + n = place_on us place n h.within s.1 in
+  moves_on : (c : Builder) (t : Token) (n : ℕ) → IsNext us place t n → Takes c t n → tokens_of (builder_events c) ≡ tokens_of (builder_events b) ++ (t ∷ []) → IsParsing Unicode us first added c (next n)
+  moves_on c t n s takes more =
+      let f = front_spelled text (drop place us) t n s.read in
+      let on : next n ≡ place + n = place_on us place n h.within s.within in
       let rest : drop (next n) us ≡ f.rest =
       ap (λ k. drop k us) on ∙ sym (drop-drop n place us) ∙ ap (drop n) f.whole ∙ ap (λ k. drop k (f.w ++ f.rest)) (sym f.count) ∙ drop-append_seam f.w f.rest in
+      let obeying : Token → Type 0 = Obeys (text_groups us) (text_names Unicode us) in
       record {
-        at = subst (IsAt text (λ i. offset_at first us i + added) c us (next n)) (sym rest)
-            (adv (λ i. offset_at first us i + added) place (next n) us f.w f.rest a z f.spells (on ∙ ap (λ k. place + k) (sym f.count))
-            (subst (IsAt text (λ i. offset_at first us i + added) b us place) f.whole h.at));
-        within = omega (arith, on, s.1, h.within, length-drop place us);
-        obey = subst (All (Obeys 0 [])) (sym more) (All-append (Obeys 0 []) (tokens_of (builder_events b)) (t ∷ []) h.obey (All-cons (Obeys 0 []) t [] s.2 (All-nil (Obeys 0 []))));
-        closed = o ∙ h.closed;
+        at = subst (IsAt text offset c us (next n)) (sym rest)
+            (takes f.w f.rest f.count f.spells (on ∙ ap (λ k. place + k) (sym f.count)) (subst (IsAt text offset b us place) f.whole h.at));
+        within = omega (arith, on, s.within, h.within, length-drop place us);
+        obey = subst (All obeying) (sym more) (All-append obeying (tokens_of (builder_events b)) (t ∷ []) h.obey (All-cons obeying t [] s.obeys (All-nil obeying)));
         read = subst (λ w. holds_unread (values w) ≡ false) (sym rest)
             (unread_behind text t f.w f.rest f.spells (subst (λ w. holds_unread (values w) ≡ false) f.whole h.read));
       }
 
-  -- a term of one token, a bar, a quantifier
-  pub leaf_moves : (c : Builder) (term : Term) (t : Token) (n at after : ℕ) → Stands Unicode (drop place us) t n → IsLeafOf term t at after → at ≡ offset_at first us place + added
-      → after ≡ offset_at first us (next n) + added → builder_events c ≡ builder_events b ++ term_events term → openers c ≡ openers b → ready c ≡ takes b.mode (mirror_term term)
+  -- a term of one token
+  pub leaf_moves : (c : Builder) (term : Term) (t : Token) (n at after : ℕ) → IsNext us place t n → IsLeafOf term t at after → at ≡ offset place → after ≡ offset (next n)
+      → builder_events c ≡ builder_events b ++ term_events term → openers c ≡ openers b → ready c ≡ takes b.mode (mirror_term term)
       → (IsGoodTerm b.mode term → IsGood b → IsGood c) → c.mode ≡ b.mode → IsParsing Unicode us first added c (next n)
   leaf_moves c term t n at after s l a z m o r g d =
-      moves_on c t n at after s a z (leaf_advances text b c term t at after l m o r g d) o
+      moves_on c t n s (λ w more count spells on. leaf_advances text b c term t at after l m o r g d offset place (next n) us w more a z spells on)
       (one_more (builder_events b) (builder_events c) (term_events term) t m (ap tokens_of l.events_are))
 
-  pub bar_moves : (c : Builder) (at after : ℕ) → Stands Unicode (drop place us) bar 1 → at ≡ offset_at first us place + added → after ≡ offset_at first us (next 1) + added
+  -- a bar
+  pub bar_moves : (c : Builder) (at after : ℕ) → IsNext us place bar 1 → at ≡ offset place → after ≡ offset (next 1)
       → builder_events c ≡ builder_events b ++ (leave at ∷ token bar ∷ enter after ∷ []) → openers c ≡ openers b → ready c ≡ false → (IsGood b → IsGood c) → c.mode ≡ b.mode
       → IsParsing Unicode us first added c (next 1)
   bar_moves c at after s a z m o r g d =
-      moves_on c bar 1 at after s a z (bar_advances text b c at after m o r g d) o
+      moves_on c bar 1 s (λ w more count spells on. bar_advances text b c at after m o r g d offset place (next 1) us w more a z spells on)
       (one_more (builder_events b) (builder_events c) (leave at ∷ token bar ∷ enter after ∷ []) bar m refl)
 
-  pub quantifier_moves : (c : Builder) (min : ℕ) (max : Option ℕ) (greedy : Bool) (n after : ℕ) → Stands Unicode (drop place us) (quantifier min max greedy) n
-      → after ≡ offset_at first us (next n) + added → Repeats (builder_events b) (builder_events c) min max greedy after → ready b ≡ true → openers c ≡ openers b → ready c ≡ false
+  -- a quantifier behind what may have one
+  pub quantifier_moves : (c : Builder) (min : ℕ) (max : Option ℕ) (greedy : Bool) (n after : ℕ) → IsNext us place (quantifier min max greedy) n → after ≡ offset (next n)
+      → Repeats (builder_events b) (builder_events c) min max greedy after → ready b ≡ true → openers c ≡ openers b → ready c ≡ false
       → (IsGood b → IsGood c) → c.mode ≡ b.mode → IsParsing Unicode us first added c (next n)
   quantifier_moves c min max greedy n after s z rep q o r g d =
-      moves_on c (quantifier min max greedy) n (offset_at first us place + added) after s refl z
-      (quantify_advances text b c min max greedy (offset_at first us place + added) after rep q o r g d) o
+      moves_on c (quantifier min max greedy) n s
+      (λ w more count spells on. quantify_advances text b c min max greedy (offset place) after rep q o r g d offset place (next n) us w more refl z spells on)
       (repeats_more (builder_events b) (builder_events c) min max greedy after rep)
+
+  -- the end of a group
+  pub close_moves : (c : Builder) (at after : ℕ) → IsNext us place closer 1 → at ≡ offset place → after ≡ offset (next 1)
+      → builder_events c ≡ builder_events b ++ (leave at ∷ leave at ∷ token closer ∷ leave after ∷ []) → (it : Opener) × (openers b ≡ it ∷ openers c) × (ready c ≡ group_takes b.mode it)
+      → (IsGood b → IsGood c) → c.mode ≡ b.mode → IsParsing Unicode us first added c (next 1)
+  close_moves c at after s a z m o g d =
+      moves_on c closer 1 s (λ w more count spells on. close_advances text b c at after m o g d offset place (next 1) us w more a z spells on)
+      (one_more (builder_events b) (builder_events c) (leave at ∷ leave at ∷ token closer ∷ leave after ∷ []) closer m refl)
+
+  -- a group that begins with a token
+  plain_moves : (c : Builder) (begun : Opening) (o : Opener) (n at after : ℕ) → IsNext us place (opener o) n → HasToken begun → opener_of (opener_tree begun) ≡ o
+      → at ≡ offset place → after ≡ offset (next n) → Opens b c begun at after → IsParsing Unicode us first added c (next n)
+  plain_moves c begun o n at after s t e a z k =
+      let it : Opener = opener_of (opener_tree begun) in
+      moves_on c (opener it) n (subst (λ x. IsNext us place (opener x) n) (sym e) s)
+      (λ w more count spells on. open_advances text b c begun at after t k.events k.openers_are k.ready_is k.good k.mode offset place (next n) us w more a z spells on)
+      (one_more (builder_events b) (builder_events c) (enter at ∷ opener_event (opener_tree begun) ∷ enter after ∷ enter after ∷ []) (opener it) k.events
+      (ap (λ x. tokens_of (x ∷ enter after ∷ enter after ∷ [])) t))
+
+  -- a group with modifiers, which have the span of their text
+  modified_moves : (c : Builder) (m : Modifiers) (n at after : ℕ) → IsNext us place (opener (ignoring (Some (letter_bits m)))) n → m.span ≡ span_between us first added (place + 2) (place + (n - 1))
+      → at ≡ offset place → after ≡ offset (next n) → Opens b c (Ignoring (Some m)) at after → IsParsing Unicode us first added c (next n)
+  modified_moves c m n at after s e a z k =
+      moves_on c (opener (ignoring (Some (letter_bits m)))) n s
+      (λ w more count spells on.
+      let ends : place + (n - 1) ≡ place + 2 + length spells.text = omega (arith, count, modified_length (letter_bits m) w spells) in
+      let it : IsModifying offset place m w = record { modified = spells; start = ap (λ x. x.start) e; end = ap (λ x. x.end) e ∙ ap offset ends } in
+      modified_advances text b c m at after k.events k.openers_are k.ready_is k.good k.mode offset place (next n) us w more a z it on)
+      (one_more (builder_events b) (builder_events c) (enter at ∷ modified m ∷ enter after ∷ enter after ∷ []) (opener (ignoring (Some (letter_bits m)))) k.events refl)
+
+  -- a group, or a look-around
+  pub open_moves : (c : Builder) (found : OpenerFound) (begun : Opening) (o : Opener) (n at after : ℕ) (source : List ℕ)
+      → Stands text (drop place us) (opener o) n → IsOpenerFound text (drop place us) n o found → IsOpeningOf (record { units = us; place = place; first = first; text = source }) added n found begun
+      → at ≡ offset place → after ≡ offset (next n) → Opens b c begun at after → IsParsing Unicode us first added c (next n)
+  open_moves c opening.Capturing begun o n at after source s f g a z k =
+      plain_moves c begun o n at after (is_next us place (opener o) n s) (subst HasToken (sym g) refl) (ap (λ x. opener_of (opener_tree x)) g ∙ sym f) a z k
+  open_moves c opening.Named begun o n at after source s f g a z k =
+      plain_moves c begun o n at after (is_next us place (opener o) n s) (subst HasToken (sym g.2) refl)
+      (ap (λ x. opener_of (opener_tree x)) g.2 ∙ ap (λ x. capturing (Some x)) (one_name true (drop place us) g.0 f.0 n g.1 f.2) ∙ sym f.1) a z k
+  open_moves c opening.Ignoring begun o n at after source s f g a z k =
+      plain_moves c begun o n at after (is_next us place (opener o) n s) (subst HasToken (sym g) refl) (ap (λ x. opener_of (opener_tree x)) g ∙ sym f) a z k
+  open_moves c (opening.Modified enabling disabling) begun o n at after source s f g a z k =
+      let m : Modifiers = record { span = span_between us first added (place + 2) (place + (n - 1)); enabling = enabling; disabling = disabling } in
+      modified_moves c m n at after (subst (λ x. IsNext us place (opener x) n) f.0 (is_next us place (opener o) n s)) refl a z (subst (λ x. Opens b c x at after) g k)
+  open_moves c (opening.LookAround kind) begun o n at after source s f g a z k =
+      plain_moves c begun o n at after (is_next us place (opener o) n s) (subst HasToken (sym g) refl) (ap (λ x. opener_of (opener_tree x)) g ∙ sym f) a z k
 
   -- A token that may not follow stands next: no tree reads the text.
   refuses : (t : Token) (n : ℕ) → front text (drop place us) ≡ Some (t, n) → ((ts : List Token) → run Unicode (t ∷ ts) (openers b) (ready b) ≡ None)
@@ -131,20 +285,42 @@ module _ (us : List CodePoint) (first added : ℕ) (b : Builder) (place : ℕ) (
   refuses t n f bad [] after r x = let m : front text (drop place us) ≡ None = ap (front text) r in let k : ⊥ = cc (m, f) in k
   refuses t n f bad (y ∷ xs) after r x =
       let m : front text (drop place us) ≡ Some (y, length r.0) = ap (front text) r.2 ∙ spelled_front text y r.0 r.1 r.3 in
-      let same : t ≡ y = same_token t y n (length r.0) (sym f ∙ m) in
+      let same : t ≡ y = same_token text (drop place us) t y n (length r.0) f m in
       let none : run Unicode (y ∷ xs) (openers b) (ready b) ≡ None = subst (λ z. run Unicode (z ∷ xs) (openers b) (ready b) ≡ None) same (bad xs) in
       let k : ⊥ = cc (none, x) in k
 
-  -- A quantifier stands where none may follow.
-  pub lone_refused : (min : ℕ) (max : Option ℕ) (greedy : Bool) (n at after : ℕ) → Stands Unicode (drop place us) (quantifier min max greedy) n → at ≡ offset_at first us place + added
-      → after ≡ offset_at first us (next n) + added → ready b ≡ false → IsRefused Unicode us first added (Diagnostic (LoneQuantifier (record { start = at; end = after })))
-  lone_refused min max greedy n at after s a z q =
-      let f = front_spelled text (drop place us) (quantifier min max greedy) n s.0 in
-      let on : next n ≡ place + length f.w = place_on us place n h.within s.1 ∙ ap (λ k. place + k) (sym f.count) in
-      let here : IsReached Unicode us place [] false (f.w ++ f.rest) = subst (IsReached Unicode us place [] false) f.whole (subst (λ r. IsReached Unicode us place [] r (drop place us)) q (reached us first added b place h)) in (
-        subst (λ x. IsCause Unicode us first added (LoneQuantifier (record { start = at; end = x }))) (sym (z ∙ ap (λ k. offset_at first us k + added) on))
-            (subst (λ x. IsCause Unicode us first added (LoneQuantifier (record { start = x; end = offset_at first us (place + length f.w) + added }))) (sym a)
-            (lone place min max greedy [] f.w f.rest here refl f.spells s.2)),
-        λ p r. let x = read_ahead us first added b place h p r in
-            refuses (quantifier min max greedy) n s.0 (quantify_refuses text b min max greedy q) x.1.0 x.0 x.1.1 x.1.2,
-      )
+  module _ (no_clash : HasNoClash Unicode us) (limit : text_groups us ≤ most_groups) where
+    -- A quantifier stands where none may follow.
+    pub lone_refused : (min : ℕ) (max : Option ℕ) (greedy : Bool) (n at after : ℕ) → IsNext us place (quantifier min max greedy) n → at ≡ offset place → after ≡ offset (next n) → ready b ≡ false
+        → IsRefused Unicode us first added (Diagnostic (LoneQuantifier (record { start = at; end = after })))
+    lone_refused min max greedy n at after s a z q =
+        let t : Token = quantifier min max greedy in
+        let f = front_spelled text (drop place us) t n s.read in
+        let on : next n ≡ place + length f.w = place_on us place n h.within s.within ∙ ap (λ k. place + k) (sym f.count) in
+        let here : IsReached Unicode us place (openers b) false (f.w ++ f.rest) =
+        subst (λ r. IsReached Unicode us place (openers b) r (f.w ++ f.rest)) q (subst (IsReached Unicode us place (openers b) (ready b)) f.whole (reached us first added b place h)) in
+        let obeying : Token → Type 0 = Obeys (text_groups us) (text_names Unicode us) in
+        let span : between at after ≡ span_between us first added place (place + length f.w) = between_same at after (offset place) (offset (place + length f.w)) a (z ∙ ap offset on) in (
+          at_place no_clash limit (subst (λ k. IsCauseAtPlace Unicode us first added (LoneQuantifier k)) (sym span)
+              (lone place min max greedy (openers b) f.w f.rest here refl f.spells (All-cons obeying t [] s.obeys (All-nil obeying)))),
+          λ p r. let x = read_ahead us first added b place h p r in refuses t n s.read (quantify_refuses text b min max greedy q) x.1.0 x.0 x.1.1 x.1.2,
+        )
+
+    -- A reference has a name that no group has.
+    pub name_refused : (name : List ℕ) (n at after : ℕ) (held : List (List ℕ)) → front text (drop place us) ≡ Some (named name, n) → n ≤ length (drop place us) → place < length us
+        → at ≡ offset place → after ≡ offset (next n) → held ≡ text_names Unicode us → is_among held name ≡ false
+        → IsRefused Unicode us first added (Diagnostic (InvalidNamedReference (record { start = at; end = after }) held))
+    name_refused name n at after held s w l a z e none =
+        let t : Token = named name in
+        let f = front_spelled text (drop place us) t n s in
+        let on : next n ≡ place + length f.w = place_on us place n h.within w ∙ ap (λ k. place + k) (sym f.count) in
+        let unknown : Contains (text_names Unicode us) name → ⊥ = λ c. true≢false (sym (contains_among (text_names Unicode us) name c) ∙ ap (λ others. is_among others name) (sym e) ∙ none) in
+        let here : IsPlace Unicode us place (f.w ++ f.rest) =
+        record { open_groups = openers b; ready = ready b; reached = subst (IsReached Unicode us place (openers b) (ready b)) f.whole (reached us first added b place h) } in
+        let span : between at after ≡ span_between us first added place (place + length f.w) = between_same at after (offset place) (offset (place + length f.w)) a (z ∙ ap offset on) in (
+          at_place no_clash limit (subst (λ k. IsCauseAtPlace Unicode us first added (InvalidNamedReference k held)) (sym span)
+              (subst (λ others. IsCauseAtPlace Unicode us first added (InvalidNamedReference (span_between us first added place (place + length f.w)) others)) (sym e)
+              (no_such_name place name f.w f.rest here f.spells unknown))),
+          dead_end us first added b place h l
+              (λ u k g o. unknown (subst (Obeys (text_groups us) (text_names Unicode us)) (same_token text (drop place us) u t k n g s) o)),
+        )

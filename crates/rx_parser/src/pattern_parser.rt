@@ -87,11 +87,7 @@ impl<'a> PatternParser<'a> {
 }
 
 /// Counts the groups of the text and lists their names, or tells why the text is refused for them.
-fn first_pass(
-    state: &mut State,
-    reader: &mut Reader<'_>,
-    spans: &SpanFactory,
-) -> Result<(), Fault>
+fn first_pass(state: &mut State, reader: &mut Reader<'_>, spans: &SpanFactory) -> Result<(), Fault>
     requires mode { mode_of_state state.old ≡ Unicode }
     requires start { reader.old.place ≡ 0 }
     requires fits { AreFitting spans.now reader.old }

@@ -1,4 +1,4 @@
-ghost use Rattle.std.specs.Prelude.{◌≡◌, ℕ, IfOk, List};
+ghost use Rattle.std.specs.Prelude.{◌≡◌, ℕ, true, IfOk, List};
 ghost use Rattle.rx_units.specs.Reading.{rest};
 ghost use Rattle.rx_model.specs.Token.{named};
 ghost use Rattle.rx_parser.specs.Found.{HoldsName, HoldsOpener, leaf_token};

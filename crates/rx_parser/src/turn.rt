@@ -110,10 +110,7 @@ fn named_reference(
     let span = Span::new(at, here(reader, spans));
     if !state.capturing_group_names.contains(name.as_str()) {
         let names = copy(alloc, state.capturing_group_names.as_slice())?;
-        return Err(Fault::Diagnostic(Diagnostic::InvalidNamedReference {
-            span,
-            names,
-        }));
+        return Err(Fault::Diagnostic(Diagnostic::InvalidNamedReference { span, names }));
     }
     builder.leaf(named_term(alloc, name, span)?)?;
     Ok(())

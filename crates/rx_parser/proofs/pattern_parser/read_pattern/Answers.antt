@@ -1,9 +1,11 @@
-use Rattle.std.proofs.Common.{◌≡◌, ◌+◌, ◌<◌, ◌^◌, refl, ap, sym, ◌∙◌, subst, length, drop, arith, length-drop, rules}
+use Rattle.std.proofs.Common.{◌≡◌, ◌+◌, ◌<◌, ◌^◌, [], refl, ap, sym, ◌∙◌, subst, length, drop, arith, length-drop, rules}
 use Rattle.rx_units.specs.Reading.{Reading, offset_of}
 use Rattle.rx_model.specs.declared.mode.Mode.TheVariants.{Unicode}
-use Rattle.rx_model.specs.Reading.{IsSpanned, Reads}
+use Rattle.rx_parser.specs.Faults.{IsEndedFault}
+use Rattle.rx_parser.specs.Frames.{openers}
 use Rattle.rx_parser.specs.Parsing.{AreFitting, IsParsing, IsRefused}
 use Rattle.rx_parser.proofs.Endings.{parsing_begun, parsing_ended}
+use Rattle.rx_parser.proofs.Refusing.{ended_refused}
 use Rattle.rx_parser.proofs.Turns.{offset_fits}
 use Rattle.rx_parser.proofs.pattern_parser.read_pattern.Goals as goal
 
@@ -49,23 +51,41 @@ here-requires-2 c =
     let r = c.args.reader.now in
     record { fits = subst (λ (r : Reading). offset_of r + c.args.spans.now < 2 ^ 32) (sym c.loop-alloc.invariant.same) (offset_fits c.args.spans.now r.first r.units _ c.requires.fits.first c.requires.fits.ends) }
 
-pub finish-requires : goal.finish-requires
-finish-requires c = c.loop-alloc.invariant.parsing.closed
+pub returns-then-not-is_whole-clause-refused : goal.returns-then-not-is_whole-clause-refused
+returns-then-not-is_whole-clause-refused c =
+    let r = c.args.reader.now in
+    let l = c.loop-alloc.reader in
+    let b = c.loop-alloc.builder in
+    let left : length (drop l.place l.units) ≡ 0 = search rules in
+    let some : openers b ≡ [] → ⊥ = search rules in
+    let parsing : IsParsing Unicode r.units r.first c.args.spans.now b l.place =
+    subst (λ (k : Reading). IsParsing Unicode k.units k.first c.args.spans.now b l.place) c.loop-alloc.invariant.same c.loop-alloc.invariant.parsing in
+    let end : l.place ≡ length r.units = omega (arith, left, length-drop l.place l.units, parsing.within, ap (λ (k : Reading). length k.units) c.loop-alloc.invariant.same) in
+    ended_refused r.units r.first c.args.spans.now b l.place parsing c.requires.pass.no_clash c.requires.pass.in_limit end some c.ended.result
+    (subst (λ (k : Reading). IsEndedFault k.units k.first c.args.spans.now l.place b c.ended.result) c.loop-alloc.invariant.same c.ended.ensures)
 
 pub returns-clause-reads : goal.returns-clause-reads
 returns-clause-reads c =
-    let r = c.loop-alloc.reader in
+    let r = c.args.reader.now in
+    let l = c.loop-alloc.reader in
     let it = c.in_ok-finish in
-    let left : length (drop r.place r.units) ≡ 0 = search rules in
-    let whole = parsing_ended r.units r.first c.args.spans.now it.field-0 c.loop-alloc.builder r.place c.here-2.result c.loop-alloc.invariant.parsing (omega (arith, left, length-drop r.place r.units))
-    c.here-2.ensures it.ensures.events it.ensures.good in
-    subst (λ (r : Reading). Reads Unicode it.field-0 r.units) c.loop-alloc.invariant.same whole.reads
+    let left : length (drop l.place l.units) ≡ 0 = search rules in
+    let same = c.loop-alloc.invariant.same in
+    let whole = parsing_ended r.units r.first c.args.spans.now it.field-0 c.requires.pass.no_clash c.requires.pass.in_limit c.loop-alloc.builder l.place c.here-2.result
+    (subst (λ (k : Reading). IsParsing Unicode k.units k.first c.args.spans.now c.loop-alloc.builder l.place) same c.loop-alloc.invariant.parsing)
+    (omega (arith, left, length-drop l.place l.units, ap (λ (k : Reading). length k.units) same))
+    (c.here-2.ensures ∙ ap (λ k. offset_of k + c.args.spans.now) same) it.ensures.events it.ensures.good in
+    whole.reads
 
 pub returns-clause-spanned : goal.returns-clause-spanned
 returns-clause-spanned c =
-    let r = c.loop-alloc.reader in
+    let r = c.args.reader.now in
+    let l = c.loop-alloc.reader in
     let it = c.in_ok-finish in
-    let left : length (drop r.place r.units) ≡ 0 = search rules in
-    let whole = parsing_ended r.units r.first c.args.spans.now it.field-0 c.loop-alloc.builder r.place c.here-2.result c.loop-alloc.invariant.parsing (omega (arith, left, length-drop r.place r.units))
-    c.here-2.ensures it.ensures.events it.ensures.good in
-    subst (λ (r : Reading). IsSpanned Unicode it.field-0 r.units r.first c.args.spans.now) c.loop-alloc.invariant.same whole.spanned
+    let left : length (drop l.place l.units) ≡ 0 = search rules in
+    let same = c.loop-alloc.invariant.same in
+    let whole = parsing_ended r.units r.first c.args.spans.now it.field-0 c.requires.pass.no_clash c.requires.pass.in_limit c.loop-alloc.builder l.place c.here-2.result
+    (subst (λ (k : Reading). IsParsing Unicode k.units k.first c.args.spans.now c.loop-alloc.builder l.place) same c.loop-alloc.invariant.parsing)
+    (omega (arith, left, length-drop l.place l.units, ap (λ (k : Reading). length k.units) same))
+    (c.here-2.ensures ∙ ap (λ k. offset_of k + c.args.spans.now) same) it.ensures.events it.ensures.good in
+    whole.spanned

@@ -2,8 +2,8 @@ use Rattle.std.proofs.Common.{refl, sym, subst}
 use Rattle.rx_ast.specs.declared.term.Term.TheVariants as variant
 use Rattle.rx_parser.specs.Found.{leaf_token}
 use Rattle.rx_parser.specs.Progress.{IsLeafOf}
-use Rattle.rx_parser.proofs.Leaves.{boundary_is_leaf, character_is_leaf, class_escape_is_leaf, dot_is_leaf}
-use Rattle.rx_parser.proofs.turn.term.Goals as goal
+use Rattle.rx_parser.proofs.Leaves.{boundary_is_leaf, character_is_leaf, class_escape_is_leaf, dot_is_leaf, indexed_is_leaf}
+use Rattle.rx_parser.proofs.term.term.Goals as goal
 
 pub returns-in_ok-new-in-Boundary : goal.returns-in_ok-new-in-Boundary
 returns-in_ok-new-in-Boundary c =
@@ -30,3 +30,10 @@ returns-in_ok-new-in-ClassEscape c =
     let s = c.args.span in
     subst (λ l. IsLeafOf (variant.CharacterClassEscape b) (leaf_token l) s.start s.end) (sym c.in-ClassEscape.is)
     (class_escape_is_leaf b c.in-ClassEscape.kind s.start s.end c.in_ok-new-in-ClassEscape.ensures.ok)
+
+pub returns-in_ok-new-in-IndexedReference : goal.returns-in_ok-new-in-IndexedReference
+returns-in_ok-new-in-IndexedReference c =
+    let b = c.in_ok-new-in-IndexedReference.field-0 in
+    let s = c.args.span in
+    subst (λ l. IsLeafOf (variant.IndexedReference b) (leaf_token l) s.start s.end) (sym c.in-IndexedReference.is)
+    (indexed_is_leaf b c.in-IndexedReference.index s.start s.end c.in_ok-new-in-IndexedReference.ensures.ok)
