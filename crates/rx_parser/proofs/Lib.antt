@@ -9,6 +9,7 @@ pub mod Goods
 pub mod Halts
 pub mod Leaves
 pub mod Literals
+pub mod NameFound
 pub mod Pieces
 pub mod Places
 pub mod Prefixes
