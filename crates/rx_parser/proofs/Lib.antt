@@ -6,6 +6,7 @@ pub mod FlagTexts
 pub mod FrameEvents
 pub mod FrontFound
 pub mod Goods
+pub mod GroupFound
 pub mod Halts
 pub mod Leaves
 pub mod Literals
@@ -13,6 +14,7 @@ pub mod NameFound
 pub mod Pieces
 pub mod Places
 pub mod Prefixes
+pub mod ReferenceFound
 pub mod Steps
 pub mod TextUnits
 pub mod Turns

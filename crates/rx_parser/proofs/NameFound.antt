@@ -1,17 +1,22 @@
 -- What stands behind `(?<` and `\k<`, by what its readers find.
-use Rattle.std.proofs.Common.{◌≡◌, refl, sym, ap, ap₂, ◌∙◌, subst, ℕ, zero, suc, ◌+◌, ◌-◌, ◌<◌, ◌≤◌, ◌==◌, Bool, true, false, Option, Some, None, List, [], ◌∷◌, ◌++◌, length, take, drop, get_or, arith}
+use Rattle.std.proofs.Common.{◌≡◌, sym, ap, ◌∙◌, ℕ, ◌+◌, ◌-◌, ◌<◌, ◌≤◌, ◌==◌, Bool, true, false, Some, List, [], ◌∷◌, ◌++◌, length, take, drop, get_or, inr, arith}
 use Rattle.std.proofs.Math.Seq.{take-append_seam}
 use Rattle.std.proofs.lemmas.Bool.{cond-true, eqb-true, false_from_ne_true}
 use Rattle.std.proofs.lemmas.List.{drop-map, length-drop, take-map, take_all}
 use Rattle.rx_units.specs.declared.code_point.CodePoint.{CodePoint}
 use Rattle.rx_units.specs.Units.{values}
+use Rattle.rx_model.specs.Environment.{Environment, is_unicode}
 use Rattle.rx_model.specs.GroupFronts.{closed_name, name_front}
 use Rattle.rx_model.specs.GroupNameReading.{name_of, row}
 use Rattle.rx_model.specs.GroupNames.{BeginsWithName, IsNameRow, no_name, some_name, SpellsName, whole_name}
+use Rattle.rx_model.specs.Groups.{BeginsName}
 use Rattle.rx_model.specs.Marks.{starts}
-use Rattle.rx_parser.specs.Names.{IsNameFound}
+use Rattle.rx_model.proofs.GroupNames.{group_name_read, name_anywhere, name_read}
+use Rattle.rx_parser.specs.Found.{HoldsName, IsHalt}
+use Rattle.rx_parser.specs.Names.{IsHaltInName, IsNameFound}
+use Rattle.rx_parser.specs.declared.found.Halt.{Halt}
+use Rattle.rx_parser.specs.declared.found.Halt.TheVariants as halt
 use Rattle.rx_parser.specs.declared.name.NameFound.TheVariants as found
-use Rattle.rx_model.proofs.GroupNames.{name_read, group_name_read, name_anywhere}
 
 -- the slice from a place on is what stands there
 pub slice_from : (us : List CodePoint) (n : ℕ) → take (length us - n) (drop n us) ≡ drop n us
@@ -79,3 +84,27 @@ pub name_found : (unicode_mode : Bool) (us : List CodePoint) (n : ℕ) → IsNam
     → IsNameFound unicode_mode us (found.Name n)
 name_found unicode_mode us _ (no_name none) some h l = absurd (omega arith)
 name_found unicode_mode us n (some_name {name} b) some h l = (name, name_closed unicode_mode (values us) name n b h, name_whole unicode_mode us name n b, l)
+
+-- the name between `(?<` or `\k<` and its `>`
+pub holds_name : (unicode_mode : Bool) (a b c : CodePoint) (us : List CodePoint) (name : List ℕ) (n : ℕ) → name_of unicode_mode (values (take n us)) ≡ Some name → n + 1 ≤ length us
+    → HoldsName unicode_mode (a ∷ b ∷ c ∷ us) name (n + 4)
+holds_name unicode_mode a b c us name n h l =
+    let count : n + 4 - 4 ≡ n = omega arith in record {
+      long = omega arith;
+      within = omega arith;
+      name_is = ap (λ n. name_of unicode_mode (values (take n us))) count ∙ h;
+    }
+
+-- a halt where a name is to stand
+pub halts_in_name : (e : Environment) (us : List CodePoint) (behind : List ℕ) (it : Halt) → BeginsName e (values us) behind → IsHaltInName (is_unicode e.mode) behind it → IsHalt e us it
+halts_in_name e us behind (halt.UnterminatedName n) b h = (behind, b, h)
+halts_in_name e us behind (halt.TooManyHexDigits start many) b h = inr (behind, b, h)
+halts_in_name e us behind (halt.InvalidEscape start n) b h = inr (behind, b, h)
+halts_in_name e us behind (halt.Stop n) b h = absurd h
+halts_in_name e us behind (halt.OutOfOrder n) b h = absurd h
+halts_in_name e us behind (halt.TooLarge n) b h = absurd h
+halts_in_name e us behind (halt.TooManyDigits start many) b h = absurd h
+halts_in_name e us behind halt.NoGroupName b h = absurd h
+halts_in_name e us behind (halt.NoSuchGroup n) b h = absurd h
+halts_in_name e us behind (halt.Modifiers fault n) b h = absurd h
+halts_in_name e us behind halt.Unread b h = absurd h
