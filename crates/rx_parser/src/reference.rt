@@ -15,7 +15,6 @@ use rx_units::CodePoint;
 pub fn indexed_at(behind: &[CodePoint], groups: u32) -> Found
     requires digit { front_is is_first_digit (values behind.now) ≡ true }
     requires few { groups < 2 ^ 32 - 1 }
-    requires small { length behind.now + 1 < 2 ^ 64 }
     ensures { (e : Environment) (backslash : CodePoint) → is_unicode e.mode ≡ true → e.groups ≡ groups → backslash.value ≡ 92 → IsFound e (backslash ∷ behind.now) result }
 {
     let (index, count) = index_at(behind);
