@@ -42,7 +42,7 @@ fn run_in_steps(
     Ok((status, sink))
 }
 
-const LINES: [(&[u8], &[u8]); 26] = [
+const LINES: [(&[u8], &[u8]); 27] = [
     (b"L\tu\ta.b|c", b"ok\tunicode\ta.b|c\n"),
     (b"L\tu\t\\x41B", b"ok\tunicode\tAB\n"),
     (
@@ -59,8 +59,9 @@ const LINES: [(&[u8], &[u8]); 26] = [
     (b"L\tgg\t(a)", b"err\tduplicated_flags\t1..2\n"),
     (b"L\tux\ta", b"err\tunknown_flag\t1..2\n"),
     (b"L\tuv\ta", b"err\tinvalid_unicode_flags\t1..2\n"),
-    (b"L\tu\t(a)", b"later\n"),
-    (b"L\tu\t", b"later\n"),
+    (b"L\tu\t(a)", b"ok\tunicode\t(a)\n"),
+    (b"L\tu\t", b"ok\tunicode\t(?:)\n"),
+    (b"L\tu\t[a]", b"later\n"),
     (b"C\tu\t\"a\"", b"later\n"),
     (b"C\tgg\t\"a\"", b"later\n"),
     (b"L\t\ta", b"later\n"),

@@ -11,7 +11,7 @@ use Rattle.rx_model.specs.declared.mode.Mode.{Mode}
 use Rattle.rx_model.specs.Environment.{is_unicode}
 use Rattle.rx_model.specs.Flags.{flags_of, flags_ok, mode_of, modes_of}
 use Rattle.rx_model.specs.Modes.{mode_by}
-use Rattle.rx_model.specs.Reading.{IsOnly, IsValid, Reads, literal_text, units_of}
+use Rattle.rx_model.specs.Reading.{IsOnly, IsSpanned, IsValid, Reads, literal_text, units_of}
 use Rattle.rx_parser.specs.Literals.{IsFlagFault}
 use Rattle.rx_parser.specs.NotYet.{is_unread_text, is_unread_literal}
 use Rattle.rx_parser.proofs.FlagTexts.{mode_of_modes, refused_flags, unicode_of_modes}
@@ -69,6 +69,14 @@ module _ (r : Result Pattern Fault) (m n : Mode) (us vs : List CodePoint) (mode 
   -- and reads them
   pub reads_by : IfOk r (λ it. Reads m it us) → IfOk r (λ it. Reads n it vs)
   reads_by h = subst (λ x. IfOk r (λ it. Reads x it vs)) mode (subst (λ xs. IfOk r (λ it. Reads m it xs)) are h)
+
+  -- and each of its nodes has the span of what it spells
+  pub spanned_by : (first start added offset : ℕ) → first ≡ start → added ≡ offset → IfOk r (λ it. IsSpanned m it us first added) → IfOk r (λ it. IsSpanned n it vs start offset)
+  spanned_by first start added offset starts adds h =
+      subst (λ x. IfOk r (λ it. IsSpanned n it vs start x)) adds
+      (subst (λ x. IfOk r (λ it. IsSpanned n it vs x added)) starts
+      (subst (λ x. IfOk r (λ it. IsSpanned x it vs first added)) mode
+      (subst (λ xs. IfOk r (λ it. IsSpanned m it xs first added)) are h)))
 
 -- a text that a tree reads under flags that are no fault is valid
 pub valid_by : (r : Result Pattern Fault) (text : List ℕ) (flags : Option (List ℕ)) → flags_ok (flags_of flags) ≡ true

@@ -1,6 +1,6 @@
 use super::canonical;
 use crate::{Canonical, Form, Mode, Options, canonical_text};
-use rx_ast::{Character, CharacterKind, Term};
+use rx_ast::{Character, CharacterKind, Modifier, Term};
 use rx_base::{Diagnostic, Fault, GetSpan, Span};
 use std::alloc::Global;
 use std::test::Fail;
@@ -25,6 +25,9 @@ fn texts(rt: HostRuntime) -> Result<(), Fail> {
         ("\\x41B", "AB"),
         ("\\uD83D\\uDE00", "\u{1F600}"),
         ("a{0,1}", "a?"),
+        ("", "(?:)"),
+        ("(?mi-:a)|(?!b)", "(?im:a)|(?!b)"),
+        ("(?<\\u0061>.)\\k<a>\\1\\x32", "(?<a>.)\\k<a>\\1\\x32"),
     ];
     for (pattern, text) in rows {
         let it = read(rt.alloc(), pattern, 7).ok().ok_or("refused")?;
@@ -67,12 +70,48 @@ fn spans(rt: HostRuntime) -> Result<(), Fail> {
     Ok(())
 }
 
+/// The only alternative's terms.
+fn terms(it: &Canonical) -> &[Term] {
+    match it.pattern.body.body.as_slice() {
+        [alternative] => alternative.body.as_slice(),
+        _ => &[],
+    }
+}
+
+#[test]
+fn groups(rt: HostRuntime) -> Result<(), Fail> {
+    let it = read(rt.alloc(), "(?<é>a)(?i-m:b)\\1\\k<é>", 0)
+        .ok()
+        .ok_or("refused")?;
+    let [
+        Term::CapturingGroup(group),
+        Term::IgnoreGroup(ignoring),
+        Term::IndexedReference(indexed),
+        Term::NamedReference(named),
+    ] = terms(&it)
+    else {
+        return Err(Fail::new("other terms"));
+    };
+    assert_eq!(rt; group.span, Span::new(0, 8));
+    assert_eq!(rt; group.body.span, Span::new(6, 7));
+    let name = group.name.as_ref().ok_or("no name")?;
+    assert_eq!(rt; name.as_str(), "é");
+    assert_eq!(rt; ignoring.span, Span::new(8, 16));
+    let modifiers = ignoring.modifiers.as_ref().ok_or("no modifiers")?;
+    assert_eq!(rt; modifiers.span, Span::new(10, 13));
+    assert_eq!(rt;
+        (modifiers.enabling, modifiers.disabling),
+        (Modifier::I, Modifier::M)
+    );
+    assert_eq!(rt; (indexed.span, indexed.index), (Span::new(16, 18), 1));
+    assert_eq!(rt; named.span, Span::new(18, 24));
+    assert_eq!(rt; named.name.as_str(), "é");
+    Ok(())
+}
+
 /// The term at a place of the only alternative, if it is a character.
 fn character_at(it: &Canonical, place: usize) -> Option<Character> {
-    let [alternative] = it.pattern.body.body.as_slice() else {
-        return None;
-    };
-    match alternative.body.get(place)? {
+    match terms(it).get(place)? {
         Term::Character(it) => Some(**it),
         _ => None,
     }
@@ -124,10 +163,10 @@ fn characters(rt: HostRuntime) -> Result<(), Fail> {
 #[test]
 fn not_yet(rt: HostRuntime) -> Result<(), Fail> {
     let rows = [
-        (Form::Literal, "", Some("u")),
-        (Form::Literal, "(a)", Some("u")),
         (Form::Literal, "[a]", Some("iu")),
-        (Form::Literal, "\\1", Some("u")),
+        (Form::Literal, "(a[b])", Some("u")),
+        (Form::Literal, "\\p{L}", Some("u")),
+        (Form::Literal, "", None),
         (Form::Literal, "a", None),
         (Form::Literal, "a", Some("")),
         (Form::Literal, "a", Some("gi")),

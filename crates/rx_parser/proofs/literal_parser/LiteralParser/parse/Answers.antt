@@ -11,7 +11,7 @@ use Rattle.rx_parser.specs.Literals.{flags_chars}
 use Rattle.rx_parser.specs.NotYet.{is_unread_text, is_unread_literal}
 use Rattle.rx_parser.specs.Parsing.{mode_of_state}
 use Rattle.rx_parser.proofs.Agains.{read_again}
-use Rattle.rx_parser.proofs.Literals.{fault_of_valid, fault_of_unread, passed_on, mode_is, units_are, only_by, reads_by, valid_by, unread_is, unread_of_text, text_of_unread}
+use Rattle.rx_parser.proofs.Literals.{fault_of_valid, fault_of_unread, passed_on, mode_is, units_are, only_by, reads_by, spanned_by, valid_by, unread_is, unread_of_text, text_of_unread}
 use Rattle.rx_parser.proofs.TextUnits.{text_fits}
 use Rattle.rx_parser.proofs.literal_parser.LiteralParser.parse.Goals as goal
 
@@ -61,6 +61,11 @@ unread_holds c =
 
 pub returns-clause-only : goal.returns-clause-only
 returns-clause-only c = only_by c.parse.result _ _ _ _ (mode_holds c) (units_hold c) c.parse.ensures.only
+
+pub returns-clause-spanned : goal.returns-clause-spanned
+returns-clause-spanned c =
+    spanned_by c.parse.result _ _ _ _ (mode_holds c) (units_hold c) _ 0 _ _ (ap (λ (r : Reading). r.first) (c.new.ensures.reader ∙ c.in_ok-reader.ensures)) c.new.ensures.offset
+    c.parse.ensures.spanned
 
 pub returns-clause-valid : goal.returns-clause-valid
 returns-clause-valid c =
