@@ -42,7 +42,7 @@ fn run_in_steps(
     Ok((status, sink))
 }
 
-const LINES: [(&[u8], &[u8]); 26] = [
+const LINES: [(&[u8], &[u8]); 27] = [
     (b"L\tu\ta.b|c", b"ok\tunicode\ta.b|c\n"),
     (b"L\tu\t\\x41B", b"ok\tunicode\tAB\n"),
     (
@@ -59,8 +59,9 @@ const LINES: [(&[u8], &[u8]); 26] = [
     (b"L\tgg\t(a)", b"err\tduplicated_flags\t1..2\n"),
     (b"L\tux\ta", b"err\tunknown_flag\t1..2\n"),
     (b"L\tuv\ta", b"err\tinvalid_unicode_flags\t1..2\n"),
-    (b"L\tu\t(a)", b"later\n"),
-    (b"L\tu\t", b"later\n"),
+    (b"L\tu\t(a)", b"ok\tunicode\t(a)\n"),
+    (b"L\tu\t", b"ok\tunicode\t(?:)\n"),
+    (b"L\tu\t[a]", b"later\n"),
     (b"C\tu\t\"a\"", b"later\n"),
     (b"C\tgg\t\"a\"", b"later\n"),
     (b"L\t\ta", b"later\n"),
@@ -114,6 +115,14 @@ fn replies_come_in_order(rt: HostRuntime) -> Result<(), Fail> {
     assert!(rt; are_in_order(rt.alloc(), 1, 1)?);
     assert!(rt; are_in_order(rt.alloc(), 3, 2)?);
     assert!(rt; are_in_order(rt.alloc(), 65536, 65536)?);
+    Ok(())
+}
+
+#[test]
+fn an_empty_text_is_an_empty_group(rt: HostRuntime) -> Result<(), Fail> {
+    let (status, sink) = over_memory::replies(rt.alloc(), b"L\tu\t", 99)?;
+    assert_eq!(rt; sink.bytes(), b"ok\tunicode\t(?:)\n".as_slice());
+    assert_eq!(rt; status, Status::AllOk);
     Ok(())
 }
 
@@ -279,4 +288,20 @@ fn words_are_taken(rt: HostRuntime) -> Result<(), Fail> {
     Ok(())
 }
 
+/// Whether each pattern has its reply under `u`.
+fn are_replied(alloc: Global, rows: &[(&str, &str)]) -> Result<bool, OutOfMemory> {
+    let mut input = List::new(alloc);
+    let mut output = List::new(alloc);
+    for (pattern, reply) in rows {
+        input.extend_from_slice(b"L\tu\t")?;
+        input.extend_from_slice(pattern.as_bytes())?;
+        input.extend_from_slice(b"\n")?;
+        output.extend_from_slice(reply.as_bytes())?;
+        output.extend_from_slice(b"\n")?;
+    }
+    let (status, sink) = run_in_steps(alloc, input, 4096, 4096)?;
+    Ok(status.number() <= 1 && sink.bytes() == output.as_slice())
+}
+
+mod groups;
 mod patterns;

@@ -1,7 +1,5 @@
 //! Patterns under `u`, each with its reply, by the rules of ECMA-262, 22.2.1.
-use super::run_in_steps;
-use rx_base::{List, OutOfMemory};
-use std::alloc::Global;
+use super::are_replied;
 use std::test::Fail;
 
 /// Characters that stand for themselves, `.` and `|`.
@@ -121,7 +119,7 @@ const UNICODE: [(&str, &str); 34] = [
     ("a\\u{fffffffff}", "err\ttoo_large_number_digits\t4..12"),
 ];
 
-/// Identity escapes, class escapes, backslashes that begin nothing, and what is not read yet.
+/// Identity escapes, class escapes, backslashes that begin nothing, groups and references that do not stand, and what is not read yet.
 const ESCAPES: [(&str, &str); 38] = [
     ("\\^", "ok\tunicode\t\\^"),
     ("\\$", "ok\tunicode\t\\$"),
@@ -149,18 +147,18 @@ const ESCAPES: [(&str, &str); 38] = [
     ("\\\u{E9}", "err\tparse_pattern_incomplete\t1..1"),
     ("\\e", "err\tparse_pattern_incomplete\t1..1"),
     ("\u{E9}\\y", "err\tparse_pattern_incomplete\t3..3"),
-    ("\\1", "later"),
-    ("\\9a", "later"),
-    ("\\k<a>", "later"),
+    ("\\1", "err\tinvalid_indexed_reference\t0..2"),
+    ("\\9a", "err\tinvalid_indexed_reference\t0..2"),
+    ("\\k<a>", "err\tinvalid_named_reference\t0..5"),
     ("\\p{L}", "later"),
     ("\\P", "later"),
-    ("a\\2", "later"),
-    ("\\\\\\1", "later"),
-    ("(", "later"),
+    ("a\\2", "err\tinvalid_indexed_reference\t1..3"),
+    ("\\\\\\1", "err\tinvalid_indexed_reference\t2..4"),
+    ("(", "err\tunterminated_pattern\t0..1"),
     ("[", "later"),
-    ("(?:)", "later"),
-    ("a*(", "later"),
-    ("\\u(", "later"),
+    ("(?:)", "ok\tunicode\t(?:)"),
+    ("a*(", "err\tunterminated_pattern\t2..3"),
+    ("\\u(", "err\tinvalid_unicode_escape_sequence\t1..2"),
 ];
 
 /// Boundaries.
@@ -334,21 +332,6 @@ const LONE: [(&str, &str); 23] = [
     ("\\d+*", "err\tlone_quantifier\t3..4"),
     ("*{2,1}", "err\tlone_quantifier\t0..1"),
 ];
-
-/// Whether each pattern has its reply.
-fn are_replied(alloc: Global, rows: &[(&str, &str)]) -> Result<bool, OutOfMemory> {
-    let mut input = List::new(alloc);
-    let mut output = List::new(alloc);
-    for (pattern, reply) in rows {
-        input.extend_from_slice(b"L\tu\t")?;
-        input.extend_from_slice(pattern.as_bytes())?;
-        input.extend_from_slice(b"\n")?;
-        output.extend_from_slice(reply.as_bytes())?;
-        output.extend_from_slice(b"\n")?;
-    }
-    let (status, sink) = run_in_steps(alloc, input, 4096, 4096)?;
-    Ok(status.number() <= 1 && sink.bytes() == output.as_slice())
-}
 
 #[test]
 fn raw(rt: HostRuntime) -> Result<(), Fail> {

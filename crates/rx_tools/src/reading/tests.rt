@@ -124,10 +124,10 @@ fn characters(rt: HostRuntime) -> Result<(), Fail> {
 #[test]
 fn not_yet(rt: HostRuntime) -> Result<(), Fail> {
     let rows = [
-        (Form::Literal, "", Some("u")),
-        (Form::Literal, "(a)", Some("u")),
         (Form::Literal, "[a]", Some("iu")),
-        (Form::Literal, "\\1", Some("u")),
+        (Form::Literal, "([a])", Some("u")),
+        (Form::Literal, "\\p{L}", Some("u")),
+        (Form::Literal, "(\\P", Some("u")),
         (Form::Literal, "a", None),
         (Form::Literal, "a", Some("")),
         (Form::Literal, "a", Some("gi")),
