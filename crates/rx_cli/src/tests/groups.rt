@@ -984,16 +984,25 @@ fn add_times(bytes: &mut List<u8>, text: &str, times: usize) -> Result<(), OutOf
     Ok(())
 }
 
+/// Adds groups with this opener, each in the one before it, behind a text.
+fn add_deep(
+    bytes: &mut List<u8>,
+    front: &str,
+    opener: &str,
+    depth: usize,
+) -> Result<(), OutOfMemory> {
+    add_times(bytes, front, 1)?;
+    add_times(bytes, opener, depth)?;
+    add_times(bytes, ")", depth)?;
+    add_times(bytes, "\n", 1)
+}
+
 /// Whether groups with this opener, each in the one before it, are read.
 fn is_read_deep(alloc: Global, opener: &str, depth: usize) -> Result<bool, OutOfMemory> {
     let mut input = List::new(alloc);
     let mut output = List::new(alloc);
-    for (bytes, front) in [(&mut input, "L\tu\t"), (&mut output, "ok\tunicode\t")] {
-        add_times(bytes, front, 1)?;
-        add_times(bytes, opener, depth)?;
-        add_times(bytes, ")", depth)?;
-        add_times(bytes, "\n", 1)?;
-    }
+    add_deep(&mut input, "L\tu\t", opener, depth)?;
+    add_deep(&mut output, "ok\tunicode\t", opener, depth)?;
     is_answered(alloc, input, &output)
 }
 
