@@ -119,6 +119,14 @@ fn replies_come_in_order(rt: HostRuntime) -> Result<(), Fail> {
 }
 
 #[test]
+fn an_empty_text_is_an_empty_group(rt: HostRuntime) -> Result<(), Fail> {
+    let (status, sink) = over_memory::replies(rt.alloc(), b"L\tu\t", 99)?;
+    assert_eq!(rt; sink.bytes(), b"ok\tunicode\t(?:)\n".as_slice());
+    assert_eq!(rt; status, Status::AllOk);
+    Ok(())
+}
+
+#[test]
 fn no_input_has_no_replies(rt: HostRuntime) -> Result<(), Fail> {
     let (status, sink) = over_memory::replies(rt.alloc(), b"", 9)?;
     assert_eq!(rt; sink.bytes(), b"".as_slice());
@@ -280,4 +288,20 @@ fn words_are_taken(rt: HostRuntime) -> Result<(), Fail> {
     Ok(())
 }
 
+/// Whether each pattern has its reply under `u`.
+fn are_replied(alloc: Global, rows: &[(&str, &str)]) -> Result<bool, OutOfMemory> {
+    let mut input = List::new(alloc);
+    let mut output = List::new(alloc);
+    for (pattern, reply) in rows {
+        input.extend_from_slice(b"L\tu\t")?;
+        input.extend_from_slice(pattern.as_bytes())?;
+        input.extend_from_slice(b"\n")?;
+        output.extend_from_slice(reply.as_bytes())?;
+        output.extend_from_slice(b"\n")?;
+    }
+    let (status, sink) = run_in_steps(alloc, input, 4096, 4096)?;
+    Ok(status.number() <= 1 && sink.bytes() == output.as_slice())
+}
+
+mod groups;
 mod patterns;

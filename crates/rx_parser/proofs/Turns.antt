@@ -47,7 +47,7 @@ use Rattle.rx_parser.specs.Openings.{IsOpeningOf}
 use Rattle.rx_parser.specs.Parsing.{AreFitting, IsParsing, IsRefused}
 use Rattle.rx_parser.specs.Progress.{IsAt, IsLeafOf}
 use Rattle.rx_parser.proofs.Pieces.{unread_behind}
-use Rattle.rx_parser.proofs.Refusing.{dead_end, reached, read_ahead}
+use Rattle.rx_parser.proofs.Places.{dead_end, reached, read_ahead}
 use Rattle.rx_parser.proofs.Steps.{leaf_advances, bar_advances, close_advances, modified_advances, open_advances, quantify_advances, quantify_refuses}
 
 end_fits : (added first : ℕ) (us : List CodePoint) (n : ℕ) → first + added < 2 ^ 32 → All (λ unit. unit.span.end + added < 2 ^ 32) us → end_of first (take n us) + added < 2 ^ 32

@@ -1,7 +1,5 @@
 //! Patterns under `u`, each with its reply, by the rules of ECMA-262, 22.2.1.
-use super::run_in_steps;
-use rx_base::{List, OutOfMemory};
-use std::alloc::Global;
+use super::are_replied;
 use std::test::Fail;
 
 /// Characters that stand for themselves, `.` and `|`.
@@ -121,8 +119,13 @@ const UNICODE: [(&str, &str); 34] = [
     ("a\\u{fffffffff}", "err\ttoo_large_number_digits\t4..12"),
 ];
 
+<<<<<<< HEAD
 /// Identity escapes, class escapes, backslashes that begin nothing, and what is not read yet.
 const ESCAPES: [(&str, &str); 37] = [
+=======
+/// Identity escapes, class escapes, backslashes that begin nothing, groups and references that do not stand, and what is not read yet.
+const ESCAPES: [(&str, &str); 38] = [
+>>>>>>> 5f636a2b18aa9f7084b0fae01a0fd608a9292de5
     ("\\^", "ok\tunicode\t\\^"),
     ("\\$", "ok\tunicode\t\\$"),
     ("\\\\", "ok\tunicode\t\\\\"),
@@ -151,15 +154,27 @@ const ESCAPES: [(&str, &str); 37] = [
     ("\u{E9}\\y", "err\tparse_pattern_incomplete\t3..3"),
     ("\\1", "err\tinvalid_indexed_reference\t0..2"),
     ("\\9a", "err\tinvalid_indexed_reference\t0..2"),
+<<<<<<< HEAD
+=======
+    ("\\k<a>", "err\tinvalid_named_reference\t0..5"),
+>>>>>>> 5f636a2b18aa9f7084b0fae01a0fd608a9292de5
     ("\\p{L}", "later"),
     ("\\P", "later"),
     ("a\\2", "err\tinvalid_indexed_reference\t1..3"),
     ("\\\\\\1", "err\tinvalid_indexed_reference\t2..4"),
+<<<<<<< HEAD
     ("\\p", "later"),
     ("[", "later"),
     ("(?:[a])", "later"),
     ("a*([", "later"),
     ("\\u[", "later"),
+=======
+    ("(", "err\tunterminated_pattern\t0..1"),
+    ("[", "later"),
+    ("(?:)", "ok\tunicode\t(?:)"),
+    ("a*(", "err\tunterminated_pattern\t2..3"),
+    ("\\u(", "err\tinvalid_unicode_escape_sequence\t1..2"),
+>>>>>>> 5f636a2b18aa9f7084b0fae01a0fd608a9292de5
 ];
 
 /// Boundaries.
@@ -334,6 +349,7 @@ const LONE: [(&str, &str); 23] = [
     ("*{2,1}", "err\tlone_quantifier\t0..1"),
 ];
 
+<<<<<<< HEAD
 /// Groups and look-arounds, and where they do not end.
 const GROUPS: [(&str, &str); 26] = [
     ("", "ok\tunicode\t(?:)"),
@@ -503,6 +519,8 @@ fn are_replied(alloc: Global, rows: &[(&str, &str)]) -> Result<bool, OutOfMemory
     Ok(status.number() <= 1 && sink.bytes() == output.as_slice())
 }
 
+=======
+>>>>>>> 5f636a2b18aa9f7084b0fae01a0fd608a9292de5
 #[test]
 fn raw(rt: HostRuntime) -> Result<(), Fail> {
     assert!(rt; are_replied(rt.alloc(), &RAW)?);

@@ -5,7 +5,7 @@ use Rattle.rx_parser.specs.Faults.{IsEndedFault}
 use Rattle.rx_parser.specs.Frames.{openers}
 use Rattle.rx_parser.specs.Parsing.{AreFitting, IsParsing, IsRefused}
 use Rattle.rx_parser.proofs.Endings.{parsing_begun, parsing_ended}
-use Rattle.rx_parser.proofs.Refusing.{ended_refused}
+use Rattle.rx_parser.proofs.Halts.{ended_refused}
 use Rattle.rx_parser.proofs.Turns.{offset_fits}
 use Rattle.rx_parser.proofs.pattern_parser.read_pattern.Goals as goal
 

@@ -9,7 +9,7 @@ use Rattle.rx_parser.specs.declared.found.Found.TheVariants as found
 use Rattle.rx_parser.specs.Faults.{IsHaltFault}
 use Rattle.rx_parser.specs.Found.{leaf_token}
 use Rattle.rx_parser.specs.Parsing.{IsParsing, IsRefused}
-use Rattle.rx_parser.proofs.Refusing.{closer_refused, halt_refused}
+use Rattle.rx_parser.proofs.Halts.{closer_refused, halt_refused}
 use Rattle.rx_parser.proofs.Turns.{bar_moves, close_moves, empty_at, found_here, here_fits, holds_opener, is_next, leaf_moves, lone_refused, moved_fits, moved_offset, open_moves, place_moves, quantifier_moves}
 use Rattle.rx_parser.proofs.turn.turn.Goals as goal
 
