@@ -119,13 +119,8 @@ const UNICODE: [(&str, &str); 34] = [
     ("a\\u{fffffffff}", "err\ttoo_large_number_digits\t4..12"),
 ];
 
-<<<<<<< HEAD
-/// Identity escapes, class escapes, backslashes that begin nothing, and what is not read yet.
-const ESCAPES: [(&str, &str); 37] = [
-=======
 /// Identity escapes, class escapes, backslashes that begin nothing, groups and references that do not stand, and what is not read yet.
 const ESCAPES: [(&str, &str); 38] = [
->>>>>>> 5f636a2b18aa9f7084b0fae01a0fd608a9292de5
     ("\\^", "ok\tunicode\t\\^"),
     ("\\$", "ok\tunicode\t\\$"),
     ("\\\\", "ok\tunicode\t\\\\"),
@@ -154,27 +149,16 @@ const ESCAPES: [(&str, &str); 38] = [
     ("\u{E9}\\y", "err\tparse_pattern_incomplete\t3..3"),
     ("\\1", "err\tinvalid_indexed_reference\t0..2"),
     ("\\9a", "err\tinvalid_indexed_reference\t0..2"),
-<<<<<<< HEAD
-=======
     ("\\k<a>", "err\tinvalid_named_reference\t0..5"),
->>>>>>> 5f636a2b18aa9f7084b0fae01a0fd608a9292de5
     ("\\p{L}", "later"),
     ("\\P", "later"),
     ("a\\2", "err\tinvalid_indexed_reference\t1..3"),
     ("\\\\\\1", "err\tinvalid_indexed_reference\t2..4"),
-<<<<<<< HEAD
-    ("\\p", "later"),
-    ("[", "later"),
-    ("(?:[a])", "later"),
-    ("a*([", "later"),
-    ("\\u[", "later"),
-=======
     ("(", "err\tunterminated_pattern\t0..1"),
     ("[", "later"),
     ("(?:)", "ok\tunicode\t(?:)"),
     ("a*(", "err\tunterminated_pattern\t2..3"),
     ("\\u(", "err\tinvalid_unicode_escape_sequence\t1..2"),
->>>>>>> 5f636a2b18aa9f7084b0fae01a0fd608a9292de5
 ];
 
 /// Boundaries.
@@ -349,178 +333,6 @@ const LONE: [(&str, &str); 23] = [
     ("*{2,1}", "err\tlone_quantifier\t0..1"),
 ];
 
-<<<<<<< HEAD
-/// Groups and look-arounds, and where they do not end.
-const GROUPS: [(&str, &str); 26] = [
-    ("", "ok\tunicode\t(?:)"),
-    ("(a)", "ok\tunicode\t(a)"),
-    ("()", "ok\tunicode\t()"),
-    ("(|)", "ok\tunicode\t(|)"),
-    ("((a)|b)*", "ok\tunicode\t((a)|b)*"),
-    ("(?:a|b){2}", "ok\tunicode\t(?:a|b){2}"),
-    (
-        "(?=a)(?!b)(?<=c)(?<!d)",
-        "ok\tunicode\t(?=a)(?!b)(?<=c)(?<!d)",
-    ),
-    (
-        "(?<!\\$)\\b\\d+(?:\\.\\d{2})?\\b",
-        "ok\tunicode\t(?<!\\$)\\b\\d+(?:\\.\\d{2})?\\b",
-    ),
-    ("(", "err\tunterminated_pattern\t0..1"),
-    ("(a", "err\tunterminated_pattern\t0..2"),
-    ("(?:a", "err\tunterminated_pattern\t0..4"),
-    ("(?=a", "err\tunterminated_pattern\t0..4"),
-    ("(?<!a|b", "err\tunterminated_pattern\t0..7"),
-    ("((a)", "err\tunterminated_pattern\t0..4"),
-    ("(a(b", "err\tunterminated_pattern\t2..4"),
-    ("(a(?:b)", "err\tunterminated_pattern\t0..7"),
-    ("\u{E9}(\u{E9}", "err\tunterminated_pattern\t2..5"),
-    ("(\\a)", "err\tunterminated_pattern\t0..2"),
-    ("(a]", "err\tunterminated_pattern\t0..2"),
-    ("a(b))", "err\tparse_pattern_incomplete\t4..4"),
-    ("()]", "err\tparse_pattern_incomplete\t2..2"),
-    ("(?=a)*", "err\tlone_quantifier\t5..6"),
-    ("(?<=a)+", "err\tlone_quantifier\t6..7"),
-    ("(*a)", "err\tlone_quantifier\t1..2"),
-    ("(a|{2})", "err\tlone_quantifier\t3..6"),
-    ("(a{2,1}", "err\tbraced_quantifier_out_of_order\t2..7"),
-];
-
-/// Modifiers of groups.
-const MODIFIERS: [(&str, &str); 23] = [
-    ("(?i:a)", "ok\tunicode\t(?i:a)"),
-    ("(?sim:a)", "ok\tunicode\t(?ims:a)"),
-    ("(?i-m:a)", "ok\tunicode\t(?i-m:a)"),
-    ("(?-s:a)", "ok\tunicode\t(?-s:a)"),
-    ("(?i-:a)", "ok\tunicode\t(?i:a)"),
-    ("(?m-si:a)", "ok\tunicode\t(?m-is:a)"),
-    ("(?i:(?-i:a))*", "ok\tunicode\t(?i:(?-i:a))*"),
-    ("(?-:a)", "err\tempty_modifiers\t2..3"),
-    ("(?i-i:a)", "err\tinvalid_modifiers\t2..5"),
-    ("(?ii:a)", "err\tduplicated_modifiers\t2..4"),
-    ("(?ix:a)", "err\tunknown_modifiers\t2..3"),
-    ("(?i-mm:a)", "err\tduplicated_modifiers\t2..6"),
-    ("(?ii-i:a)", "err\tduplicated_modifiers\t2..6"),
-    ("(?ii-x:a)", "err\tunknown_modifiers\t2..5"),
-    ("(?i--m:a)", "err\tunknown_modifiers\t2..4"),
-    ("(?", "err\tunknown_modifiers\t2..2"),
-    ("(?a)", "err\tunknown_modifiers\t2..2"),
-    ("\u{E9}(?\u{E9})", "err\tunknown_modifiers\t4..4"),
-    ("(?i", "err\tunknown_modifiers\t2..3"),
-    ("(?i-", "err\tunknown_modifiers\t2..4"),
-    ("(?i)", "err\tunknown_modifiers\t2..3"),
-    ("(?i:a", "err\tunterminated_pattern\t0..5"),
-    ("(?i:a)\\1", "err\tinvalid_indexed_reference\t6..8"),
-];
-
-/// References by number and by name.
-const REFERENCES: [(&str, &str); 24] = [
-    ("(a)\\1", "ok\tunicode\t(a)\\1"),
-    ("\\1(a)", "ok\tunicode\t\\1(a)"),
-    ("(a)\\1\\x32*", "ok\tunicode\t(a)\\1\\x32*"),
-    ("(a)\\1(?:2)", "ok\tunicode\t(a)\\1(?:2)"),
-    ("(a)\\1+2", "ok\tunicode\t(a)\\1+2"),
-    ("(a)\\1{2}", "ok\tunicode\t(a)\\1{2}"),
-    ("(a)\\2", "err\tinvalid_indexed_reference\t3..5"),
-    ("(a)\\12", "err\tinvalid_indexed_reference\t3..6"),
-    ("(a)\\4294967297", "err\tinvalid_indexed_reference\t3..14"),
-    (
-        "(a)\\18446744073709551617",
-        "err\tinvalid_indexed_reference\t3..24",
-    ),
-    ("(a)\\01", "err\tparse_pattern_incomplete\t4..4"),
-    ("(a\\2)", "err\tinvalid_indexed_reference\t2..4"),
-    ("((a))\\2", "ok\tunicode\t((a))\\2"),
-    ("\\k<a>(?<b>)", "err\tinvalid_named_reference\t0..5"),
-    ("\\k<a>", "err\tinvalid_named_reference\t0..5"),
-    ("(?<a>)\\k<b>", "err\tinvalid_named_reference\t6..11"),
-    ("\\k", "err\tempty_group_specifier\t0..2"),
-    ("a\\ka", "err\tempty_group_specifier\t1..3"),
-    ("\\k<", "err\tunterminated_pattern\t2..3"),
-    ("\\k<a", "err\tunterminated_pattern\t2..4"),
-    ("\\k<>", "err\tunterminated_pattern\t2..3"),
-    ("\\k<1>", "err\tunterminated_pattern\t2..3"),
-    ("\\k<a\\u>", "err\tinvalid_unicode_escape_sequence\t5..6"),
-    ("\\k<\\u{100000000", "err\ttoo_large_number_digits\t6..14"),
-];
-
-/// Names of groups, and equal ones.
-const NAMES: [(&str, &str); 26] = [
-    ("(?<n>a)\\k<n>", "ok\tunicode\t(?<n>a)\\k<n>"),
-    ("\\k<n>(?<n>a)", "ok\tunicode\t\\k<n>(?<n>a)"),
-    ("(?<\\u0061>a)\\k<\\u{61}>", "ok\tunicode\t(?<a>a)\\k<a>"),
-    ("(?<$_1>a)", "ok\tunicode\t(?<$_1>a)"),
-    ("(?<\u{E9}>a)", "ok\tunicode\t(?<\u{E9}>a)"),
-    ("(?<year>\\d{4})-\\1", "ok\tunicode\t(?<year>\\d{4})-\\1"),
-    ("(?<a>x)|(?<a>y)", "ok\tunicode\t(?<a>x)|(?<a>y)"),
-    (
-        "(?:(?<a>x)|(?<a>y))\\k<a>",
-        "ok\tunicode\t(?:(?<a>x)|(?<a>y))\\k<a>",
-    ),
-    (
-        "(?<a>x)(?<\\u0061>y)",
-        "err\tduplicated_capturing_group_names\t3..4,10..16",
-    ),
-    (
-        "(?<a>x)(?<a>y)",
-        "err\tduplicated_capturing_group_names\t3..4,10..11",
-    ),
-    (
-        "(?:(?<a>x)|b)(?:c|(?<a>y))",
-        "err\tduplicated_capturing_group_names\t6..7,21..22",
-    ),
-    (
-        "(?<a>x|(?<a>y))",
-        "err\tduplicated_capturing_group_names\t3..4,10..11",
-    ),
-    (
-        "\\1(?<a>)(?<a>)(",
-        "err\tduplicated_capturing_group_names\t5..6,11..12",
-    ),
-    ("(?<a>x)(?<a", "err\tunterminated_pattern\t9..11"),
-    ("(?<>a)", "err\tunterminated_pattern\t2..3"),
-    ("(?<1>a)", "err\tunterminated_pattern\t2..3"),
-    ("(?<a", "err\tunterminated_pattern\t2..4"),
-    ("(?<a b>c)", "err\tunterminated_pattern\t2..4"),
-    ("(?<\u{1F600}>x)", "err\tunterminated_pattern\t2..3"),
-    ("(?<a>x", "err\tunterminated_pattern\t0..6"),
-    (
-        "(?<\\u{1F600}>x)",
-        "err\tinvalid_unicode_escape_sequence\t3..12",
-    ),
-    (
-        "(?<\\u0031>x)",
-        "err\tinvalid_unicode_escape_sequence\t3..9",
-    ),
-    (
-        "(?<a\\u0020>x)",
-        "err\tinvalid_unicode_escape_sequence\t4..10",
-    ),
-    ("(?<a\\u>x)", "err\tinvalid_unicode_escape_sequence\t5..6"),
-    ("(?<a\\x>x)", "err\tinvalid_unicode_escape_sequence\t4..5"),
-    (
-        "(?<a\\u{100000000}>x)",
-        "err\ttoo_large_number_digits\t7..15",
-    ),
-];
-
-/// Whether each pattern has its reply.
-fn are_replied(alloc: Global, rows: &[(&str, &str)]) -> Result<bool, OutOfMemory> {
-    let mut input = List::new(alloc);
-    let mut output = List::new(alloc);
-    for (pattern, reply) in rows {
-        input.extend_from_slice(b"L\tu\t")?;
-        input.extend_from_slice(pattern.as_bytes())?;
-        input.extend_from_slice(b"\n")?;
-        output.extend_from_slice(reply.as_bytes())?;
-        output.extend_from_slice(b"\n")?;
-    }
-    let (status, sink) = run_in_steps(alloc, input, 4096, 4096)?;
-    Ok(status.number() <= 1 && sink.bytes() == output.as_slice())
-}
-
-=======
->>>>>>> 5f636a2b18aa9f7084b0fae01a0fd608a9292de5
 #[test]
 fn raw(rt: HostRuntime) -> Result<(), Fail> {
     assert!(rt; are_replied(rt.alloc(), &RAW)?);
@@ -578,29 +390,5 @@ fn stops(rt: HostRuntime) -> Result<(), Fail> {
 #[test]
 fn lone(rt: HostRuntime) -> Result<(), Fail> {
     assert!(rt; are_replied(rt.alloc(), &LONE)?);
-    Ok(())
-}
-
-#[test]
-fn groups(rt: HostRuntime) -> Result<(), Fail> {
-    assert!(rt; are_replied(rt.alloc(), &GROUPS)?);
-    Ok(())
-}
-
-#[test]
-fn modifiers(rt: HostRuntime) -> Result<(), Fail> {
-    assert!(rt; are_replied(rt.alloc(), &MODIFIERS)?);
-    Ok(())
-}
-
-#[test]
-fn references(rt: HostRuntime) -> Result<(), Fail> {
-    assert!(rt; are_replied(rt.alloc(), &REFERENCES)?);
-    Ok(())
-}
-
-#[test]
-fn names(rt: HostRuntime) -> Result<(), Fail> {
-    assert!(rt; are_replied(rt.alloc(), &NAMES)?);
     Ok(())
 }

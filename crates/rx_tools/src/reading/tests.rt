@@ -164,15 +164,9 @@ fn characters(rt: HostRuntime) -> Result<(), Fail> {
 fn not_yet(rt: HostRuntime) -> Result<(), Fail> {
     let rows = [
         (Form::Literal, "[a]", Some("iu")),
-<<<<<<< HEAD
         (Form::Literal, "(a[b])", Some("u")),
         (Form::Literal, "\\p{L}", Some("u")),
         (Form::Literal, "", None),
-=======
-        (Form::Literal, "([a])", Some("u")),
-        (Form::Literal, "\\p{L}", Some("u")),
-        (Form::Literal, "(\\P", Some("u")),
->>>>>>> 5f636a2b18aa9f7084b0fae01a0fd608a9292de5
         (Form::Literal, "a", None),
         (Form::Literal, "a", Some("")),
         (Form::Literal, "a", Some("gi")),
