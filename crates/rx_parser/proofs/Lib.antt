@@ -9,6 +9,8 @@ pub mod Goods
 pub mod Halts
 pub mod Leaves
 pub mod Literals
+pub mod ModifierBits
+pub mod ModifiersFound
 pub mod Pieces
 pub mod Places
 pub mod Prefixes
