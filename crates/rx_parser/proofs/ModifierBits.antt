@@ -1,11 +1,12 @@
 -- The bits of letters of modifiers.
-use Rattle.std.proofs.Common.{◌≡◌, refl, sym, ap, ap₂, ◌∙◌, subst, ℕ, ◌+◌, ◌*◌, ◌^◌, ◌<◌, Bool, true, false, cond, ◌==◌, ◌&&◌, ◌||◌, ◌⊎◌, Option, Some, None, List, [], ◌∷◌, ◌++◌, length, take, drop, get_or, bit_and, bit_or, arith, inl, inr}
+use Rattle.std.proofs.Common.{◌≡◌, refl, sym, ap, ap₂, ◌∙◌, subst, ℕ, ◌+◌, ◌*◌, ◌^◌, ◌<◌, Bool, true, false, cond, ◌==◌, ◌&&◌, ◌||◌, ◌⊎◌, Option, Some, None, option_map, List, [], ◌∷◌, ◌++◌, length, take, drop, get_or, bit_and, bit_or, arith, inl, inr}
 use Rattle.std.specs.List.{list_all, list_any}
-use Rattle.std.proofs.lemmas.Bool.{cases_Bool, eqb-true, cond-true, cond-false, or_parts, or_from, or_left, or_right, or_cases, eq-eqb, false_from_ne_true, true≢false}
+use Rattle.std.proofs.lemmas.Bool.{cases_Bool, eqb-true, cond-true, cond-false, or_parts, or_from, or_left, or_right, or_cases, and_parts, eq-eqb, false_from_ne_true, true_from_ne_false, true≢false}
 use Rattle.std.proofs.lemmas.Bool.Decides.{nat_tests}
 use Rattle.std.proofs.lemmas.List.{map-append, take-append-drop}
 use Rattle.std.proofs.lemmas.List.Folds.{list_all-map, list_all_at, list_any-append}
 use Rattle.std.proofs.lemmas.Nat.{and_block, or_block, and_comm}
+use Rattle.rx_ast.specs.declared.modifier.Modifier.{Modifier}
 use Rattle.rx_units.specs.declared.code_point.CodePoint.{CodePoint}
 use Rattle.rx_units.specs.Units.{values}
 use Rattle.rx_model.specs.Modifiers.{is_modifier, occurs, has_twice, share_some, letters_bits}
@@ -178,3 +179,72 @@ module _ (us : List CodePoint) (i : ℕ) (d : CodePoint) (within : i < length us
 -- the bits of all letters
 pub bits_whole : (w : List ℕ) → has_twice w ≡ false → Some (letters_bits w) ≡ are_bits w
 bits_whole w h = sym (cond-false (has_twice w) None (Some (letters_bits w)) h)
+
+pub twice_of : (w : List ℕ) → None ≡ are_bits w → has_twice w ≡ true
+twice_of w h = elim (chosen {x = None} {y = Some (letters_bits w)} (has_twice w) (sym h)) [
+  | inl p ↦ p.0
+  | inr p ↦ absurd (let no : ⊥ = cc p.1 in no)
+]
+
+pub none_of : (w : List ℕ) (r : Option Modifier) → r ≡ None → option_map (λ it. it.0) r ≡ are_bits w → has_twice w ≡ true
+none_of w r h k = twice_of w (sym (ap (option_map (λ it. it.0)) h) ∙ k)
+
+pub once_of : (w : List ℕ) (bits : ℕ) → Some bits ≡ are_bits w → (has_twice w ≡ false) × (bits ≡ letters_bits w)
+once_of w bits h = elim (chosen {x = None} {y = Some (letters_bits w)} (has_twice w) (sym h)) [
+  | inl p ↦ absurd (let no : ⊥ = cc p.1 in no)
+  | inr p ↦ (p.0, let same : bits ≡ letters_bits w = cc p.1 in same)
+]
+
+three_zero : (i m s : Bool) → three i m s ≡ 0 → (i ≡ false) × (m ≡ false) × (s ≡ false)
+three_zero true true true h = absurd (omega (arith, h))
+three_zero true true false h = absurd (omega (arith, h))
+three_zero true false true h = absurd (omega (arith, h))
+three_zero true false false h = absurd (omega (arith, h))
+three_zero false true true h = absurd (omega (arith, h))
+three_zero false true false h = absurd (omega (arith, h))
+three_zero false false true h = absurd (omega (arith, h))
+three_zero false false false h = (refl, refl, refl)
+
+three_small : (i m s : Bool) → three i m s < 8
+three_small true true true = omega arith
+three_small true true false = omega arith
+three_small true false true = omega arith
+three_small true false false = omega arith
+three_small false true true = omega arith
+three_small false true false = omega arith
+three_small false false true = omega arith
+three_small false false false = omega arith
+
+pub bits_small : (w : List ℕ) → letters_bits w < 8
+bits_small w = three_small (occurs 105 w) (occurs 109 w) (occurs 115 w)
+
+-- Letters without bits are none.
+pub no_letters : (w : List ℕ) → list_all is_modifier w ≡ true → letters_bits w ≡ 0 → w ≡ []
+no_letters [] h k = refl
+no_letters (c ∷ w) h k =
+    let none = three_zero (occurs 105 (c ∷ w)) (occurs 109 (c ∷ w)) (occurs 115 (c ∷ w)) k in
+    let i = or_parts (c == 105) (occurs 105 w) none.0 in
+    let m = or_parts (c == 109) (occurs 109 w) none.1 in
+    let s = or_parts (c == 115) (occurs 115 w) none.2 in
+    absurd (true≢false (sym (and_parts (is_modifier c) (list_all is_modifier w) h).0 ∙ or_from (c == 105 || c == 109) (c == 115) (or_from (c == 105) (c == 109) i.0 m.0) s.0))
+
+-- a letter on both sides
+shared : (d : ℕ) (w v : List ℕ) → occurs d w ≡ true → occurs d v ≡ true → share_some w v ≡ true
+shared d [] v h k = absurd (true≢false (sym h))
+shared d (c ∷ w) v h k = elim (or_cases (c == d) (occurs d w) h) [
+  | inl same ↦ or_left (occurs c v) (share_some w v) (ap (λ c. occurs c v) (eqb-true c d same) ∙ k)
+  | inr there ↦ or_right (occurs c v) (share_some w v) (shared d w v there k)
+]
+
+unshared : (d : ℕ) (w v : List ℕ) → share_some w v ≡ false → (occurs d w && occurs d v) ≡ false
+unshared d w v h = false_from_ne_true (occurs d w && occurs d v) (λ both. let p = and_parts (occurs d w) (occurs d v) both in true≢false (sym (shared d w v p.0 p.1) ∙ h))
+
+apart : (w v : List ℕ) → share_some w v ≡ false → bit_and (letters_bits w) (letters_bits v) ≡ 0
+apart w v h =
+    and_three (occurs 105 w) (occurs 109 w) (occurs 115 w) (occurs 105 v) (occurs 109 v) (occurs 115 v)
+    ∙ ap (λ i. three i (occurs 109 w && occurs 109 v) (occurs 115 w && occurs 115 v)) (unshared 105 w v h)
+    ∙ ap₂ (three false) (unshared 109 w v h) (unshared 115 w v h)
+
+-- Where bits are common a letter is.
+pub share : (w v : List ℕ) → (bit_and (letters_bits w) (letters_bits v) ≡ 0 → ⊥) → share_some w v ≡ true
+share w v h = true_from_ne_false (share_some w v) (λ none. h (apart w v none))
