@@ -1,6 +1,6 @@
 -- What stands at the front of a text, by what its readers find.
 use Rattle.std.proofs.Common.{◌≡◌, refl, sym, ap, ◌∙◌, subst, ℕ, ◌+◌, ◌-◌, ◌<◌, ◌≤◌, Bool, true, false, not, ◌==◌, ◌&&◌, ◌||◌, ◌⊎◌, Option, Some, None, List, [], ◌∷◌, length, take, drop, get_or, codes, arith, inl, inr}
-use Rattle.std.proofs.lemmas.Bool.{eqb-true, cond-true, cond-false, cases_Bool, true≢false, false_from_ne_true}
+use Rattle.std.proofs.lemmas.Bool.{eqb-true, eq-eqb, or_parts, cond-true, cond-false, cases_Bool, true≢false, false_from_ne_true}
 use Rattle.std.proofs.lemmas.Bool.Decides.{nat_tests}
 use Rattle.std.proofs.lemmas.List.{drop-map, take_all}
 use Rattle.rx_tables.specs.Characters.{is_within, is_syntax_character}
@@ -15,27 +15,31 @@ use Rattle.rx_model.specs.declared.mode.Mode.TheVariants.{Legacy, Unicode, Sets}
 use Rattle.rx_model.specs.Boundaries.{has_buffers}
 use Rattle.rx_model.specs.Causes.{HasBraces, IsOutOfOrder, IsTooLarge}
 use Rattle.rx_model.specs.Early.{Obeys, greatest_count}
-use Rattle.rx_model.specs.Environment.{Environment, is_unicode}
+use Rattle.rx_model.specs.Environment.{Environment, environment_with, is_unicode}
 use Rattle.rx_model.specs.Escapes.{front_is}
-use Rattle.rx_model.specs.Fronts.{front, escape_at, nothing, too_many, no_unicode, escaped_token, backslash_token, backslash_front, class_escape_at, counts, no_counts, counts_at, quantifier_token, syntax_front}
+use Rattle.rx_model.specs.Fronts.{front, boundary_at, escape_at, nothing, too_many, no_unicode, escaped_token, backslash_token, backslash_front, class_escape_at, counts, no_counts, counts_at, quantifier_token, syntax_front}
 use Rattle.rx_model.specs.Quantifiers.{SpellsCounts, SpellsBraces, star, plus, optional, braces, is_question}
-use Rattle.rx_model.specs.Reached.{text_environment}
 use Rattle.rx_model.specs.Rows.{stands_raw, unit_kind}
-use Rattle.rx_model.specs.Stops.{IsStop, at_end, at_closer, at_bracket, at_brace, behind_backslash, is_one_of}
+use Rattle.rx_model.specs.Stops.{IsStop, at_end, at_bracket, at_brace, behind_backslash, is_one_of}
 use Rattle.rx_model.specs.Token.{Token, boundary, character, class_escape, quantifier}
 use Rattle.rx_model.specs.UnicodeEscapes.{Decodes, PassesHex}
+use Rattle.rx_model.proofs.Backslashes.{unreferred}
 use Rattle.rx_model.proofs.Escapes.{escape_nothing, escape_too_many, escape_no_unicode}
 use Rattle.rx_model.proofs.Fronts.{front_by_values}
 use Rattle.rx_model.proofs.Quantifiers.{counts_spelled, no_braces}
 use Rattle.rx_model.proofs.Stops.{stop_backslash}
 use Rattle.rx_parser.specs.CountsFound.{IsInLimit}
-use Rattle.rx_parser.specs.Found.{Stands, IsHalt, boundary_front, closes_or_repeats}
+use Rattle.rx_parser.specs.Found.{Stands, IsFound, boundary_front, begins_reference, closes_or_repeats}
 use Rattle.rx_parser.specs.NotYet.{holds_unread, is_unread, is_unread_escape}
+use Rattle.rx_parser.specs.declared.found.Found.TheVariants as found
 use Rattle.rx_parser.specs.declared.found.Halt.TheVariants as halt
 use Rattle.rx_parser.proofs.Digits.{chosen}
 
-pub buffers_there : (mode : Mode) → is_unicode mode ≡ true → has_buffers (text_environment mode) ≡ true
-buffers_there mode h = ap (λ b. b && true) h
+pub buffers_there : (mode : Mode) (groups : ℕ) (has_names : Bool) → is_unicode mode ≡ true → has_buffers (environment_with mode groups has_names) ≡ true
+buffers_there mode groups has_names h = ap (λ b. b && true) h
+
+pub named_there : (mode : Mode) (groups : ℕ) (has_names : Bool) → is_unicode mode ≡ true → (environment_with mode groups has_names).named ≡ true
+named_there mode groups has_names h = ap (λ b. b || has_names) h
 
 -- What is in a set that another is not in is another.
 differs : (P : ℕ → Bool) (c d : ℕ) → P d ≡ false → P c ≡ true → (c == d) ≡ false
@@ -43,10 +47,6 @@ differs P c d out in_set = false_from_ne_true (c == d) (λ same. true≢false (s
 
 not_above : (n m : ℕ) → (m < n → ⊥) → n ≤ m
 not_above n m h = grind arith
-
--- What a test does not find is not so.
-pub unless : {P : Type 0} (b : Bool) → (P → b ≡ true) → b ≡ false → P → ⊥
-unless b finds h p = true≢false (sym (finds p) ∙ h)
 
 -- a property of the first value
 pub first_has : (P : ℕ → Bool) (us : List CodePoint) (d : CodePoint) (b : Bool) → 1 ≤ length us → P (get_or us 0 d).value ≡ b → front_is P (values us) ≡ b
@@ -56,9 +56,11 @@ first_has P (u ∷ us) d b l h = h
 syntax_of : (c : ℕ) → closes_or_repeats c ≡ true → is_syntax_character c ≡ true
 syntax_of c h = grind (arith, nat_tests)
 
-by_counts : (c : ℕ) (w : List ℕ) → closes_or_repeats c ≡ true → syntax_front c w ≡ quantifier_token (counts_at (c ∷ w)) (c ∷ w)
-by_counts c w h =
+by_counts : (e : Environment) (c : ℕ) (w : List ℕ) → closes_or_repeats c ≡ true → syntax_front e c w ≡ quantifier_token (counts_at (c ∷ w)) (c ∷ w)
+by_counts e c w h =
     cond-false (c == 46) _ _ (differs closes_or_repeats c 46 refl h)
+    ∙ cond-false (c == 40) _ _ (differs closes_or_repeats c 40 refl h)
+    ∙ cond-false (c == 41) _ _ (differs closes_or_repeats c 41 refl h)
     ∙ cond-false (c == 124) _ _ (differs closes_or_repeats c 124 refl h)
     ∙ cond-false (c == 94) _ _ (differs closes_or_repeats c 94 refl h)
     ∙ cond-false (c == 36) _ _ (differs closes_or_repeats c 36 refl h)
@@ -84,29 +86,34 @@ braces_there us min max n h limit bad =
       in_limit = limit;
     }
 
-pub counts_obey : (min : ℕ) (max : Option ℕ) (greedy : Bool) → (IsOutOfOrder min max → ⊥) → (IsTooLarge min max → ⊥) → Obeys 0 [] (quantifier min max greedy)
-counts_obey min None greedy order large = (not_above min greatest_count large, tt)
-counts_obey min (Some max) greedy order large = (
+pub counts_obey : (count : ℕ) (names : List (List ℕ)) (min : ℕ) (max : Option ℕ) (greedy : Bool) → (IsOutOfOrder min max → ⊥) → (IsTooLarge min max → ⊥) → Obeys count names (quantifier min max greedy)
+counts_obey count names min None greedy order large = (not_above min greatest_count large, tt)
+counts_obey count names min (Some max) greedy order large = (
   not_above min greatest_count (λ k. large (inl k)),
   (not_above min max order, not_above max greatest_count (λ k. large (inr k))),
 )
 
--- No closer begins a quantifier, nor do braces that hold no counts.
-no_repeat : (c : ℕ) (w : List ℕ) → closes_or_repeats c ≡ true → counts_at (c ∷ w) ≡ no_counts → (c == 41) ≡ false → (c == 93 || c == 125) ≡ false → (c == 123) ≡ false → ⊥
+-- No bracket that closes begins a quantifier, nor do braces that hold no counts.
+no_repeat : (c : ℕ) (w : List ℕ) → closes_or_repeats c ≡ true → counts_at (c ∷ w) ≡ no_counts → (c == 93 || c == 125) ≡ false → (c == 123) ≡ false → ⊥
 unfolding counts_at
-no_repeat c w h k closer bracket brace = elim (chosen (c == 42) k) [
+no_repeat c w h k bracket brace = elim (chosen (c == 42) k) [
   | inl p ↦ (let no : ⊥ = cc p.1 in no)
   | inr p ↦ elim (chosen (c == 43) p.1) [
     | inl q ↦ (let no : ⊥ = cc q.1 in no)
     | inr q ↦ elim (chosen (c == 63) q.1) [
       | inl r ↦ (let no : ⊥ = cc r.1 in no)
-      | inr r ↦ let none : closes_or_repeats c ≡ false = rest c closer bracket brace p.0 q.0 r.0 in true≢false (sym h ∙ none)
+      | inr r ↦ let none : closes_or_repeats c ≡ false = rest c bracket brace p.0 q.0 r.0 in true≢false (sym h ∙ none)
     ]
   ]
 ]
   where
-    rest : (c : ℕ) → (c == 41) ≡ false → (c == 93 || c == 125) ≡ false → (c == 123) ≡ false → (c == 42) ≡ false → (c == 43) ≡ false → (c == 63) ≡ false → closes_or_repeats c ≡ false
-    rest c closer bracket brace no_star no_plus no_question = grind (arith, nat_tests)
+    rest : (c : ℕ) → (c == 93 || c == 125) ≡ false → (c == 123) ≡ false → (c == 42) ≡ false → (c == 43) ≡ false → (c == 63) ≡ false → closes_or_repeats c ≡ false
+    rest c bracket brace no_star no_plus no_question = grind (arith, nat_tests)
+
+raw_stands : (mode : Mode) (c : ℕ) → is_unicode mode ≡ true → is_syntax_character c ≡ false → stands_raw mode c ≡ true
+raw_stands Legacy c m h = absurd (let no : ⊥ = cc m in no)
+raw_stands Unicode c m h = ap not h
+raw_stands Sets c m h = ap not h
 
 module _ (e : Environment) where
   counts_front : (us : List CodePoint) → front_is closes_or_repeats (values us) ≡ true → front e us ≡ quantifier_token (counts_at (values us)) (values us)
@@ -114,7 +121,7 @@ module _ (e : Environment) where
   counts_front (u ∷ us) h =
       front_by_values e (u ∷ us) u.value (values us) (syntax_of u.value h) refl
       ∙ cond-false (u.value == 92) _ _ (differs closes_or_repeats u.value 92 refl h)
-      ∙ by_counts u.value (values us) h
+      ∙ by_counts e u.value (values us) h
 
   pub greedy_front : (us : List CodePoint) (min : ℕ) (max : Option ℕ) (n : ℕ) → front_is closes_or_repeats (values us) ≡ true → counts_at (values us) ≡ counts min max n
       → front_is is_question (values (drop n us)) ≡ false → front e us ≡ Some (quantifier min max true, n)
@@ -127,131 +134,154 @@ module _ (e : Environment) where
       counts_front us h ∙ ap (λ c. quantifier_token c (values us)) k ∙ cond-true (front_is is_question (drop n (values us))) _ _ (ap (front_is is_question) (drop-map (λ u. u.value) n us) ∙ q)
 
   ends_at : (u : CodePoint) (us : List CodePoint) → is_unicode e.mode ≡ true → closes_or_repeats u.value ≡ true → counts_at (values (u ∷ us)) ≡ no_counts → IsInLimit (values (u ∷ us)) → IsStop e (u ∷ us) 0
-  ends_at u us m h k limit = elim (cases_Bool (u.value == 41)) [
-    | inl p ↦ at_closer (eqb-true u.value 41 p)
-    | inr p ↦ elim (cases_Bool (u.value == 93 || u.value == 125)) [
-      | inl q ↦ at_bracket m q
-      | inr q ↦ elim (cases_Bool (u.value == 123)) [
-        | inl r ↦ at_brace m (eqb-true u.value 123 r) (no_braces (values (u ∷ us)) k) limit
-        | inr r ↦ absurd (no_repeat u.value (values us) h k p q r)
-      ]
+  ends_at u us m h k limit = elim (cases_Bool (u.value == 93 || u.value == 125)) [
+    | inl q ↦ at_bracket m q
+    | inr q ↦ elim (cases_Bool (u.value == 123)) [
+      | inl r ↦ at_brace m (eqb-true u.value 123 r) (no_braces (values (u ∷ us)) k) limit
+      | inr r ↦ absurd (no_repeat u.value (values us) h k q r)
     ]
   ]
 
-  pub stop_there : (us : List CodePoint) → is_unicode e.mode ≡ true → front_is closes_or_repeats (values us) ≡ true → counts_at (values us) ≡ no_counts → IsInLimit (values us) → (front e us ≡ None) × IsStop e us 0
+  -- no quantifier, nor a `)`
+  pub stop_there : (us : List CodePoint) → is_unicode e.mode ≡ true → front_is closes_or_repeats (values us) ≡ true → counts_at (values us) ≡ no_counts → IsInLimit (values us) → IsFound e us (found.Halt (halt.Stop 0))
   stop_there [] m h k limit = absurd (let no : ⊥ = cc h in no)
-  stop_there (u ∷ us) m h k limit = (counts_front (u ∷ us) h ∙ ap (λ c. quantifier_token c (values (u ∷ us))) k, ends_at u us m h k limit)
+  stop_there (u ∷ us) m h k limit = (
+    (counts_front (u ∷ us) h ∙ ap (λ c. quantifier_token c (values (u ∷ us))) k, ends_at u us m h k limit, differs closes_or_repeats u.value 41 refl h),
+    omega arith,
+  )
 
   -- behind a backslash
   backslash_unit : (u : CodePoint) (us : List CodePoint) → u.value ≡ 92 → front e (u ∷ us) ≡ backslash_front e (values us)
   backslash_unit u us h = front_by_values e (u ∷ us) 92 (values us) refl (ap (λ c. c ∷ values us) h)
 
-  pub boundary_there : (u : CodePoint) (us : List CodePoint) (kind : BoundaryAssertionKind) → u.value ≡ 92 → boundary_front e (values us) ≡ Some kind
-      → (front e (u ∷ us) ≡ Some (boundary kind, 2)) × (2 ≤ length (u ∷ us))
-  unfolding backslash_front
-  boundary_there u [] kind h k = absurd (let no : ⊥ = cc k in no)
-  boundary_there u (v ∷ us) kind h k = (backslash_unit u (v ∷ us) h ∙ ap (λ b. backslash_token b (class_escape_at v.value) (escape_at (is_unicode e.mode) (values (v ∷ us)))) k, omega arith)
+  -- where no reference begins
+  unreferred_unit : (u v : CodePoint) (us : List CodePoint) → u.value ≡ 92 → begins_reference v.value ≡ false
+      → front e (u ∷ v ∷ us) ≡ backslash_token (boundary_at e v.value) (class_escape_at v.value) (escape_at (is_unicode e.mode) (values (v ∷ us)))
+  unreferred_unit u v us h free =
+      let p = or_parts (is_within 49 57 v.value) (v.value == 107) free in
+      backslash_unit u (v ∷ us) h ∙ unreferred e v.value (values us) p.0 p.1
 
-  pub class_there : (u : CodePoint) (us : List CodePoint) (kind : CharacterClassEscapeKind) → u.value ≡ 92 → boundary_front e (values us) ≡ None → class_escape_front (values us) ≡ Some kind
-      → (front e (u ∷ us) ≡ Some (class_escape kind, 2)) × (2 ≤ length (u ∷ us))
-  unfolding backslash_front
-  class_there u [] kind h b k = absurd (let no : ⊥ = cc k in no)
-  class_there u (v ∷ us) kind h b k = (
-    backslash_unit u (v ∷ us) h
+  pub boundary_there : (u : CodePoint) (us : List CodePoint) (kind : BoundaryAssertionKind) → u.value ≡ 92 → front_is begins_reference (values us) ≡ false → boundary_front e (values us) ≡ Some kind
+      → Stands e (u ∷ us) (boundary kind) 2
+  boundary_there u [] kind h free k = absurd (let no : ⊥ = cc k in no)
+  boundary_there u (v ∷ us) kind h free k = (
+    unreferred_unit u v us h free ∙ ap (λ b. backslash_token b (class_escape_at v.value) (escape_at (is_unicode e.mode) (values (v ∷ us)))) k,
+    omega arith,
+    λ _. tt,
+  )
+
+  pub class_there : (u : CodePoint) (us : List CodePoint) (kind : CharacterClassEscapeKind) → u.value ≡ 92 → front_is begins_reference (values us) ≡ false → boundary_front e (values us) ≡ None
+      → class_escape_front (values us) ≡ Some kind → Stands e (u ∷ us) (class_escape kind) 2
+  class_there u [] kind h free b k = absurd (let no : ⊥ = cc k in no)
+  class_there u (v ∷ us) kind h free b k = (
+    unreferred_unit u v us h free
         ∙ ap (λ b. backslash_token b (class_escape_at v.value) (escape_at (is_unicode e.mode) (values (v ∷ us)))) b
         ∙ ap (λ c. backslash_token None c (escape_at (is_unicode e.mode) (values (v ∷ us)))) k,
     omega arith,
+    λ _. tt,
   )
 
-  pub escape_front : (u : CodePoint) (us : List CodePoint) → u.value ≡ 92 → boundary_front e (values us) ≡ None → class_escape_front (values us) ≡ None
+  pub escape_front : (u : CodePoint) (us : List CodePoint) → u.value ≡ 92 → front_is begins_reference (values us) ≡ false → boundary_front e (values us) ≡ None → class_escape_front (values us) ≡ None
       → front e (u ∷ us) ≡ escaped_token (escape_at (is_unicode e.mode) (values us))
   unfolding backslash_front escape_at
-  escape_front u [] h b c = backslash_unit u [] h
-  escape_front u (v ∷ us) h b c =
-      backslash_unit u (v ∷ us) h
+  escape_front u [] h free b c = backslash_unit u [] h
+  escape_front u (v ∷ us) h free b c =
+      unreferred_unit u v us h free
       ∙ ap (λ b. backslash_token b (class_escape_at v.value) (escape_at (is_unicode e.mode) (values (v ∷ us)))) b
       ∙ ap (λ c. backslash_token None c (escape_at (is_unicode e.mode) (values (v ∷ us)))) c
 
-  pub ended_backslash : (u : CodePoint) (us : List CodePoint) → is_unicode e.mode ≡ true → u.value ≡ 92 → length us < 1 → (front e (u ∷ us) ≡ None) × IsStop e (u ∷ us) 1
+  -- a backslash that ends the text
+  pub ended_backslash : (u : CodePoint) (us : List CodePoint) → is_unicode e.mode ≡ true → u.value ≡ 92 → length us < 1 → IsFound e (u ∷ us) (found.Halt (halt.Stop 1))
   unfolding backslash_front
-  ended_backslash u [] m h l = (backslash_unit u [] h, behind_backslash m h refl)
+  ended_backslash u [] m h l = ((backslash_unit u [] h, behind_backslash m h refl, differs (λ c. c == 92) u.value 41 refl (eq-eqb u.value 92 h)), omega arith)
   ended_backslash u (v ∷ us) m h l = absurd (omega arith)
 
-  pub nothing_there : (u : CodePoint) (us : List CodePoint) → is_unicode e.mode ≡ true → u.value ≡ 92 → boundary_front e (values us) ≡ None → class_escape_front (values us) ≡ None
-      → front_is is_unread_escape (values us) ≡ false → escape_at (is_unicode e.mode) (values us) ≡ nothing → (front e (u ∷ us) ≡ None) × IsStop e (u ∷ us) 1
-  nothing_there u us m h b c read k =
-      let none = escape_front u us h b c ∙ ap escaped_token k in
-      let no_u = escape_nothing (values us) (ap (λ m. escape_at m (values us)) (sym m) ∙ k) in
-      (none, behind_backslash m h (stop_backslash e (values us) m (sym (backslash_unit u us h) ∙ none) (no_beginning (values us) read no_u)))
+  -- a backslash that begins nothing
+  pub nothing_there : (u : CodePoint) (us : List CodePoint) → is_unicode e.mode ≡ true → u.value ≡ 92 → front_is begins_reference (values us) ≡ false → boundary_front e (values us) ≡ None
+      → class_escape_front (values us) ≡ None → front_is is_unread_escape (values us) ≡ false → escape_at true (values us) ≡ nothing → IsFound e (u ∷ us) (found.Halt (halt.Stop 1))
+  nothing_there u us m h free b c read k =
+      let none = escape_front u us h free b c ∙ ap (λ m. escaped_token (escape_at m (values us))) m ∙ ap escaped_token k in (
+        (
+          none,
+          behind_backslash m h (stop_backslash e (values us) m (sym (backslash_unit u us h) ∙ none) (no_beginning (values us) free read (escape_nothing (values us) k))),
+          differs (λ c. c == 92) u.value 41 refl (eq-eqb u.value 92 h),
+        ),
+        omega arith,
+      )
     where
-      of_none : (c : ℕ) → is_unread_escape c ≡ false → (c == 117) ≡ false → (is_one_of (codes "upPk") c || is_within 49 57 c) ≡ false
-      of_none c h k = grind (arith, nat_tests)
+      of_none : (c : ℕ) → begins_reference c ≡ false → is_unread_escape c ≡ false → (c == 117) ≡ false → (is_one_of (codes "upPk") c || is_within 49 57 c) ≡ false
+      of_none c free h k = grind (arith, nat_tests)
 
-      no_beginning : (w : List ℕ) → front_is is_unread_escape w ≡ false → front_is (λ c. c == 117) w ≡ false → front_is (λ c. is_one_of (codes "upPk") c || is_within 49 57 c) w ≡ false
-      no_beginning [] h k = refl
-      no_beginning (c ∷ w) h k = of_none c h k
+      no_beginning : (w : List ℕ) → front_is begins_reference w ≡ false → front_is is_unread_escape w ≡ false → front_is (λ c. c == 117) w ≡ false → front_is (λ c. is_one_of (codes "upPk") c || is_within 49 57 c) w ≡ false
+      no_beginning [] free h k = refl
+      no_beginning (c ∷ w) free h k = of_none c free h k
 
--- A piece behind a backslash is not read yet.
-pub unread_behind : (u : CodePoint) (us : List CodePoint) → u.value ≡ 92 → front_is is_unread_escape (values us) ≡ true → holds_unread (values (u ∷ us)) ≡ true
-unread_behind u [] h k = absurd (let no : ⊥ = cc k in no)
-unread_behind u (v ∷ us) h k = ap (λ c. holds_unread (c ∷ values (v ∷ us))) h ∙ ap (λ b. b || holds_unread (values us)) k
+  -- `u` without a unicode escape
+  pub invalid_there : (u : CodePoint) (us : List CodePoint) → u.value ≡ 92 → escape_at true (values us) ≡ no_unicode → IsFound e (u ∷ us) (found.Halt (halt.InvalidEscape 1 1))
+  invalid_there u us h k =
+      let no = escape_no_unicode (values us) k in (
+        inl (
+          no.behind,
+          refl,
+          refl,
+          ap (λ c. c ∷ values us) h ∙ ap (λ w. 92 ∷ w) no.whole,
+          λ v n d. no.no_value v n (subst (λ w. Decodes true w v n) (sym no.whole) d),
+          λ count p. no.no_limit count (subst (λ w. PassesHex w count) (sym no.whole) p),
+        ),
+        some_behind us no.behind no.whole,
+      )
+    where
+      some_behind : (us : List CodePoint) (w : List ℕ) → values us ≡ 117 ∷ w → 1 + 1 ≤ length (u ∷ us)
+      some_behind [] w h = absurd (let no : ⊥ = cc h in no)
+      some_behind (v ∷ us) w h = omega arith
 
--- `u` without a unicode escape
-pub invalid_there : (mode : Mode) (u : CodePoint) (us : List CodePoint) → u.value ≡ 92 → escape_at true (values us) ≡ no_unicode → IsHalt mode (u ∷ us) halt.InvalidEscape
-invalid_there mode u us h k =
-    let no = escape_no_unicode (values us) k in (
-      no.behind,
-      ap (λ c. c ∷ values us) h ∙ ap (λ w. 92 ∷ w) no.whole,
-      λ v n d. no.no_value v n (subst (λ w. Decodes true w v n) (sym no.whole) d),
-      λ count p. no.no_limit count (subst (λ w. PassesHex w count) (sym no.whole) p),
-    )
+  pub too_many_there : (u : CodePoint) (us : List CodePoint) (count : ℕ) → u.value ≡ 92 → count + 2 ≤ length us → escape_at true (values us) ≡ too_many count → IsFound e (u ∷ us) (found.Halt (halt.TooManyHexDigits 3 count))
+  too_many_there u us count h l k = (inl (values us, refl, ap (λ c. c ∷ values us) h, escape_too_many (values us) count k), omega (arith, l))
 
-pub too_many_there : (mode : Mode) (u : CodePoint) (us : List CodePoint) (count : ℕ) → u.value ≡ 92 → count + 2 ≤ length us → escape_at true (values us) ≡ too_many count → IsHalt mode (u ∷ us) (halt.TooManyHexDigits count)
-too_many_there mode u us count h l k = (values us, ap (λ c. c ∷ values us) h, escape_too_many (values us) count k, omega (arith, l))
+  -- A piece behind a backslash is not read yet.
+  pub unread_behind : (u : CodePoint) (us : List CodePoint) → u.value ≡ 92 → front_is is_unread_escape (values us) ≡ true → IsFound e (u ∷ us) (found.Halt halt.Unread)
+  unread_behind u [] h k = absurd (let no : ⊥ = cc k in no)
+  unread_behind u (v ∷ us) h k = (ap (λ c. holds_unread (c ∷ values (v ∷ us))) h ∙ ap (λ b. b || holds_unread (values us)) k, omega arith)
 
--- a token of one unit, which is a SyntaxCharacter other than a backslash
-pub one_there : (mode : Mode) (us : List CodePoint) (c d : ℕ) (t : Token) → reading.front us ≡ Some c → c ≡ d → is_syntax_character d ≡ true → (d == 92) ≡ false
-    → ((w : List ℕ) → syntax_front d w ≡ Some (t, 1)) → Obeys 0 [] t → Stands mode us t 1
-one_there mode [] c d t h same s o k obeys = absurd (let no : ⊥ = cc h in no)
-one_there mode (u ∷ us) c d t h same s o k obeys =
-    let is : u.value ≡ d = (let first : u.value ≡ c = cc h in first) ∙ same in
-    (front_by_values (text_environment mode) (u ∷ us) d (values us) s (ap (λ c. c ∷ values us) is) ∙ cond-false (d == 92) _ _ o ∙ k (values us), omega arith, obeys)
+  -- a token of one unit, which is a SyntaxCharacter other than a backslash
+  pub one_there : (us : List CodePoint) (c d : ℕ) (t : Token) → reading.front us ≡ Some c → c ≡ d → is_syntax_character d ≡ true → (d == 92) ≡ false
+      → ((w : List ℕ) → syntax_front e d w ≡ Some (t, 1)) → ((names : List (List ℕ)) → Obeys e.groups names t) → Stands e us t 1
+  one_there [] c d t h same s o k obeys = absurd (let no : ⊥ = cc h in no)
+  one_there (u ∷ us) c d t h same s o k obeys =
+      let is : u.value ≡ d = (let first : u.value ≡ c = cc h in first) ∙ same in
+      (front_by_values e (u ∷ us) d (values us) s (ap (λ c. c ∷ values us) is) ∙ cond-false (d == 92) _ _ o ∙ k (values us), omega arith, obeys)
 
-pub unread_there : (us : List CodePoint) (c : ℕ) → reading.front us ≡ Some c → is_unread c ≡ true → holds_unread (values us) ≡ true
-unread_there [] c h k = absurd (let no : ⊥ = cc h in no)
-unread_there (u ∷ us) c h k =
+  pub unread_there : (us : List CodePoint) (c : ℕ) → reading.front us ≡ Some c → is_unread c ≡ true → IsFound e us (found.Halt halt.Unread)
+  unread_there [] c h k = absurd (let no : ⊥ = cc h in no)
+  unread_there (u ∷ us) c h k = (
+    (let first : u.value ≡ c = cc h in ap (λ c. holds_unread (c ∷ values us)) first)
+        ∙ cond-false (c == 92) _ _ (differs is_unread c 92 refl k)
+        ∙ ap (λ b. b || holds_unread (values us)) k,
+    omega arith,
+  )
+
+  -- a unit that stands for itself
+  pub raw_there : (us : List CodePoint) (d : CodePoint) → 1 ≤ length us → is_unicode e.mode ≡ true → is_syntax_character (get_or us 0 d).value ≡ false → (get_or us 0 d).value ≤ 0x10FFFF
+      → Stands e us (character (unit_kind (get_or us 0 d).escape_kind) (get_or us 0 d).value) 1
+  unfolding front
+  raw_there [] d l m h k = absurd (omega arith)
+  raw_there (u ∷ us) d l m h k = (cond-true (stands_raw e.mode u.value) _ _ (raw_stands e.mode u.value m h), omega arith, λ _. k)
+
+  pub ended : (us : List CodePoint) → length us < 1 → IsFound e us (found.Halt (halt.Stop 0))
+  unfolding front
+  ended [] l = ((refl, at_end, refl), omega arith)
+  ended (u ∷ us) l = absurd (omega arith)
+
+-- a SyntaxCharacter that is none of those of one unit nor begins a group or what is not read yet
+pub closer_there : (us : List CodePoint) (c : ℕ) → reading.front us ≡ Some c → is_syntax_character c ≡ true → (c == 92) ≡ false → (c == 40) ≡ false → (c ≡ 46 → ⊥) → (c ≡ 41 → ⊥) → (c ≡ 124 → ⊥)
+    → (c ≡ 94 → ⊥) → (c ≡ 36 → ⊥) → (c ≡ 91 → ⊥) → front_is closes_or_repeats (values us) ≡ true
+closer_there [] c h s o no_group no_dot no_closer no_bar no_start no_end no_class = absurd (let no : ⊥ = cc h in no)
+closer_there (u ∷ us) c h s o no_group no_dot no_closer no_bar no_start no_end no_class =
     let first : u.value ≡ c = cc h in
-    ap (λ c. holds_unread (c ∷ values us)) first
-    ∙ cond-false (c == 92) _ _ (differs is_unread c 92 refl k)
-    ∙ ap (λ b. b || holds_unread (values us)) k
-
--- a SyntaxCharacter that is none of those of one unit nor begins what is not read yet
-pub closer_there : (us : List CodePoint) (c : ℕ) → reading.front us ≡ Some c → is_syntax_character c ≡ true → (c == 92) ≡ false → (c ≡ 46 → ⊥) → (c ≡ 124 → ⊥) → (c ≡ 94 → ⊥) → (c ≡ 36 → ⊥) → (c ≡ 40 → ⊥) → (c ≡ 91 → ⊥)
-    → front_is closes_or_repeats (values us) ≡ true
-closer_there [] c h s o no_dot no_bar no_start no_end no_group no_class = absurd (let no : ⊥ = cc h in no)
-closer_there (u ∷ us) c h s o no_dot no_bar no_start no_end no_group no_class =
-    let first : u.value ≡ c = cc h in
-    ap closes_or_repeats first ∙ rest c s o no_dot no_bar no_start no_end no_group no_class
+    ap closes_or_repeats first ∙ rest c s o no_group no_dot no_closer no_bar no_start no_end no_class
   where
-    rest : (c : ℕ) → is_syntax_character c ≡ true → (c == 92) ≡ false → (c ≡ 46 → ⊥) → (c ≡ 124 → ⊥) → (c ≡ 94 → ⊥) → (c ≡ 36 → ⊥) → (c ≡ 40 → ⊥) → (c ≡ 91 → ⊥) → closes_or_repeats c ≡ true
-    rest c s o no_dot no_bar no_start no_end no_group no_class = grind (arith, nat_tests)
-
-raw_stands : (mode : Mode) (c : ℕ) → is_unicode mode ≡ true → is_syntax_character c ≡ false → stands_raw mode c ≡ true
-raw_stands Legacy c m h = absurd (let no : ⊥ = cc m in no)
-raw_stands Unicode c m h = ap not h
-raw_stands Sets c m h = ap not h
-
--- a unit that stands for itself
-pub raw_there : (mode : Mode) (us : List CodePoint) (d : CodePoint) → 1 ≤ length us → is_unicode mode ≡ true → is_syntax_character (get_or us 0 d).value ≡ false → (get_or us 0 d).value ≤ 0x10FFFF
-    → Stands mode us (character (unit_kind (get_or us 0 d).escape_kind) (get_or us 0 d).value) 1
-unfolding front
-raw_there mode [] d l m h k = absurd (omega arith)
-raw_there mode (u ∷ us) d l m h k = (cond-true (stands_raw mode u.value) _ _ (raw_stands mode u.value m h), omega arith, k)
-
-pub ended : (e : Environment) (us : List CodePoint) → length us < 1 → (front e us ≡ None) × IsStop e us 0
-unfolding front
-ended e [] l = (refl, at_end)
-ended e (u ∷ us) l = absurd (omega arith)
+    rest : (c : ℕ) → is_syntax_character c ≡ true → (c == 92) ≡ false → (c == 40) ≡ false → (c ≡ 46 → ⊥) → (c ≡ 41 → ⊥) → (c ≡ 124 → ⊥) → (c ≡ 94 → ⊥) → (c ≡ 36 → ⊥) → (c ≡ 91 → ⊥) → closes_or_repeats c ≡ true
+    rest c s o no_group no_dot no_closer no_bar no_start no_end no_class = grind (arith, nat_tests)
 
 -- what stands behind the first unit
 pub behind_first : (P : List CodePoint → Type 0) (us : List CodePoint) (d : CodePoint) → 1 ≤ length us → P (get_or us 0 d ∷ take (length us - 1) (drop 1 us)) → P us

@@ -13,6 +13,8 @@ pub mod Halts
 pub mod Insides
 pub mod Leaves
 pub mod Literals
+pub mod ModifierBits
+pub mod ModifiersFound
 pub mod NameFound
 pub mod Passes
 pub mod Pieces

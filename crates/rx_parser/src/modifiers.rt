@@ -1,4 +1,4 @@
-ghost use Rattle.std.specs.Prelude.{◌≡◌, ◌+◌, ◌^◌, ◌<◌, ◌≤◌, ◌∷◌, true, false, drop, length, option_map};
+ghost use Rattle.std.specs.Prelude.{◌≡◌, ◌≤◌, ◌∷◌, true, false, drop, length, option_map};
 ghost use Rattle.std.specs.List.{list_all};
 ghost use Rattle.rx_units.specs.declared.code_point.CodePoint.{CodePoint};
 ghost use Rattle.rx_units.specs.Units.{values};
@@ -26,7 +26,6 @@ struct Sides<'a> {
 /// The group that `(?` and what stands behind it, neither `:`, `=`, `!` nor `<`, begin; or why its modifiers may not stand there.
 pub fn modifiers_at(units: &[CodePoint]) -> Found
     requires other { front_is is_mark (values units.now) ≡ false }
-    requires small { length units.now + 2 < 2 ^ 64 }
     ensures { (e : Environment) (paren question : CodePoint) → paren.value ≡ 40 → question.value ≡ 63 → IsFound e (paren ∷ question ∷ units.now) result }
 {
     let sides = sides_at(units);

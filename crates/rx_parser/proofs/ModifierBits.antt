@@ -1,0 +1,250 @@
+-- The bits of letters of modifiers.
+use Rattle.std.proofs.Common.{◌≡◌, refl, sym, ap, ap₂, ◌∙◌, subst, ℕ, ◌+◌, ◌*◌, ◌^◌, ◌<◌, Bool, true, false, cond, ◌==◌, ◌&&◌, ◌||◌, ◌⊎◌, Option, Some, None, option_map, List, [], ◌∷◌, ◌++◌, length, take, drop, get_or, bit_and, bit_or, arith, inl, inr}
+use Rattle.std.specs.List.{list_all, list_any}
+use Rattle.std.proofs.lemmas.Bool.{cases_Bool, eqb-true, cond-true, cond-false, or_parts, or_from, or_left, or_right, or_cases, and_parts, eq-eqb, false_from_ne_true, true_from_ne_false, true≢false}
+use Rattle.std.proofs.lemmas.Bool.Decides.{nat_tests}
+use Rattle.std.proofs.lemmas.List.{map-append, take-append-drop}
+use Rattle.std.proofs.lemmas.List.Folds.{list_all-map, list_all_at, list_any-append}
+use Rattle.std.proofs.lemmas.Nat.{and_block, or_block, and_comm}
+use Rattle.rx_ast.specs.declared.modifier.Modifier.{Modifier}
+use Rattle.rx_units.specs.declared.code_point.CodePoint.{CodePoint}
+use Rattle.rx_units.specs.Units.{values}
+use Rattle.rx_model.specs.Modifiers.{is_modifier, occurs, has_twice, share_some, letters_bits}
+use Rattle.rx_parser.specs.Modifiers.{are_bits, modifier_bit}
+use Rattle.rx_parser.proofs.Digits.{chosen, values_front, values_more}
+
+-- the number of three bits
+abbrev pub three : Bool → Bool → Bool → ℕ
+three i m s = cond i 1 0 + cond m 2 0 + cond s 4 0
+
+abbrev one : Bool → ℕ
+one b = cond b 1 0
+
+one_small : (b : Bool) → one b < 2 ^ 1
+one_small true = omega arith
+one_small false = omega arith
+
+one_and : (a b : Bool) → bit_and (one a) (one b) ≡ one (a && b)
+one_and true true = refl
+one_and true false = refl
+one_and false true = refl
+one_and false false = refl
+
+one_or : (a b : Bool) → bit_or (one a) (one b) ≡ one (a || b)
+one_or true true = refl
+one_or true false = refl
+one_or false true = refl
+one_or false false = refl
+
+packed : (i m s : Bool) → three i m s ≡ (one s * 2 ^ 1 + one m) * 2 ^ 1 + one i
+packed true true true = refl
+packed true true false = refl
+packed true false true = refl
+packed true false false = refl
+packed false true true = refl
+packed false true false = refl
+packed false false true = refl
+packed false false false = refl
+
+-- bit by bit
+and_three : (i m s j n t : Bool) → bit_and (three i m s) (three j n t) ≡ three (i && j) (m && n) (s && t)
+and_three i m s j n t =
+    ap₂ bit_and (packed i m s) (packed j n t)
+    ∙ and_block 1 (one s * 2 ^ 1 + one m) (one t * 2 ^ 1 + one n) (one i) (one j) (one_small i) (one_small j)
+    ∙ ap₂ (λ a b. a * 2 ^ 1 + b) (and_block 1 (one s) (one t) (one m) (one n) (one_small m) (one_small n) ∙ ap₂ (λ a b. a * 2 ^ 1 + b) (one_and s t) (one_and m n)) (one_and i j)
+    ∙ sym (packed (i && j) (m && n) (s && t))
+
+or_three : (i m s j n t : Bool) → bit_or (three i m s) (three j n t) ≡ three (i || j) (m || n) (s || t)
+or_three i m s j n t =
+    ap₂ bit_or (packed i m s) (packed j n t)
+    ∙ or_block 1 (one s * 2 ^ 1 + one m) (one t * 2 ^ 1 + one n) (one i) (one j) (one_small i) (one_small j)
+    ∙ ap₂ (λ a b. a * 2 ^ 1 + b) (or_block 1 (one s) (one t) (one m) (one n) (one_small m) (one_small n) ∙ ap₂ (λ a b. a * 2 ^ 1 + b) (one_or s t) (one_or m n)) (one_or i j)
+    ∙ sym (packed (i || j) (m || n) (s || t))
+
+-- What holds of each letter and its bit.
+by_letter : (P : ℕ → ℕ → Type 0) (c bit : ℕ) → P 105 1 → P 109 2 → P 115 4 → modifier_bit c ≡ Some bit → P c bit
+by_letter P c bit i m s h = elim (chosen {x = Some 1} (c == 105) h) [
+  | inl p ↦ at 105 1 p.0 p.1 i
+  | inr p ↦ elim (chosen {x = Some 2} (c == 109) p.1) [
+    | inl q ↦ at 109 2 q.0 q.1 m
+    | inr q ↦ elim (chosen {x = Some 4} {y = None} (c == 115) q.1) [
+      | inl r ↦ at 115 4 r.0 r.1 s
+      | inr r ↦ absurd (let no : ⊥ = cc r.1 in no)
+    ]
+  ]
+]
+  where
+    at : (d n : ℕ) → (c == d) ≡ true → Some n ≡ Some bit → P d n → P c bit
+    at d n same is p = subst (P c) (let k : n ≡ bit = cc is in k) (subst (λ c. P c n) (sym (eqb-true c d same)) p)
+
+-- one more letter
+occurs_more : (d c : ℕ) (w : List ℕ) → occurs d (w ++ (c ∷ [])) ≡ (occurs d w || ((c == d) || false))
+occurs_more d c w = list_any-append (λ x. x == d) w (c ∷ [])
+
+bits_more : (c : ℕ) (w : List ℕ) → letters_bits (w ++ (c ∷ [])) ≡ three (occurs 105 w || ((c == 105) || false)) (occurs 109 w || ((c == 109) || false)) (occurs 115 w || ((c == 115) || false))
+bits_more c w =
+    ap (λ i. three i (occurs 109 (w ++ (c ∷ []))) (occurs 115 (w ++ (c ∷ [])))) (occurs_more 105 c w)
+    ∙ ap₂ (three (occurs 105 w || ((c == 105) || false))) (occurs_more 109 c w) (occurs_more 115 c w)
+
+-- The bit of a letter is set behind it.
+bit_inserted : (c bit : ℕ) (w : List ℕ) → modifier_bit c ≡ Some bit → bit_or (letters_bits w) bit ≡ letters_bits (w ++ (c ∷ []))
+bit_inserted c bit w h =
+    by_letter (λ c bit. bit_or (letters_bits w) bit ≡ letters_bits (w ++ (c ∷ []))) c bit
+    (or_three (occurs 105 w) (occurs 109 w) (occurs 115 w) true false false ∙ sym (bits_more 105 w))
+    (or_three (occurs 105 w) (occurs 109 w) (occurs 115 w) false true false ∙ sym (bits_more 109 w))
+    (or_three (occurs 105 w) (occurs 109 w) (occurs 115 w) false false true ∙ sym (bits_more 115 w))
+    h
+
+-- the bit of a letter is set where the letter occurs
+bit_contained : (c bit : ℕ) (w : List ℕ) → modifier_bit c ≡ Some bit → bit_and (letters_bits w) bit ≡ cond (occurs c w) bit 0
+bit_contained c bit w h =
+    by_letter (λ c bit. bit_and (letters_bits w) bit ≡ cond (occurs c w) bit 0) c bit
+    (and_comm (letters_bits w) 1 ∙ and_three true false false (occurs 105 w) (occurs 109 w) (occurs 115 w) ∙ omega arith)
+    (and_comm (letters_bits w) 2 ∙ and_three false true false (occurs 105 w) (occurs 109 w) (occurs 115 w) ∙ omega arith)
+    (and_comm (letters_bits w) 4 ∙ and_three false false true (occurs 105 w) (occurs 109 w) (occurs 115 w) ∙ omega arith)
+    h
+
+bit_some : (c bit : ℕ) → modifier_bit c ≡ Some bit → 0 < bit
+bit_some c bit h = by_letter (λ c bit. 0 < bit) c bit (omega arith) (omega arith) (omega arith) h
+
+occurs_there : (c bit : ℕ) (w : List ℕ) → modifier_bit c ≡ Some bit → bit_and (letters_bits w) bit ≡ bit → occurs c w ≡ true
+occurs_there c bit w h k = elim (cases_Bool (occurs c w)) [
+  | inl there ↦ there
+  | inr none ↦
+      let zero : bit_and (letters_bits w) bit ≡ 0 = bit_contained c bit w h ∙ cond-false (occurs c w) bit 0 none in
+      absurd (omega (arith, zero, k, bit_some c bit h))
+]
+
+occurs_nowhere : (c bit : ℕ) (w : List ℕ) → modifier_bit c ≡ Some bit → (bit_and (letters_bits w) bit ≡ bit → ⊥) → occurs c w ≡ false
+occurs_nowhere c bit w h not = false_from_ne_true (occurs c w) (λ there. not (bit_contained c bit w h ∙ cond-true (occurs c w) bit 0 there))
+
+bit_none : (c : ℕ) → is_modifier c ≡ true → modifier_bit c ≡ None → ⊥
+bit_none c h k = grind (arith, nat_tests)
+
+same_turned : (c d : ℕ) → (c == d) ≡ false → (d == c) ≡ false
+same_turned c d h = false_from_ne_true (d == c) (λ same. true≢false (sym (eq-eqb c d (sym (eqb-true d c same))) ∙ h))
+
+-- A letter that occurs before is there twice.
+twice_there : (c : ℕ) (w v : List ℕ) → occurs c w ≡ true → has_twice (w ++ (c ∷ v)) ≡ true
+twice_there c [] v h = absurd (true≢false (sym h))
+twice_there c (d ∷ w) v h = elim (or_cases (d == c) (occurs c w) h) [
+  | inl same ↦ or_left (occurs d (w ++ (c ∷ v))) (has_twice (w ++ (c ∷ v)))
+      (list_any-append (λ x. x == d) w (c ∷ v) ∙ or_right (occurs d w) ((c == d) || occurs d v) (or_left (c == d) (occurs d v) (eq-eqb c d (sym (eqb-true d c same)))))
+  | inr there ↦ or_right (occurs d (w ++ (c ∷ v))) (has_twice (w ++ (c ∷ v))) (twice_there c w v there)
+]
+
+-- A letter that does not occur before is there once.
+once_more : (c : ℕ) (w : List ℕ) → has_twice w ≡ false → occurs c w ≡ false → has_twice (w ++ (c ∷ [])) ≡ false
+once_more c [] h k = refl
+once_more c (d ∷ w) h k =
+    let twice = or_parts (occurs d w) (has_twice w) h in
+    let other = or_parts (d == c) (occurs c w) k in
+    or_from (occurs d (w ++ (c ∷ []))) (has_twice (w ++ (c ∷ [])))
+    (occurs_more d c w ∙ or_from (occurs d w) ((c == d) || false) twice.0 (or_from (c == d) false (same_turned d c other.0) refl))
+    (once_more c w twice.1 other.1)
+
+module _ (us : List CodePoint) (i : ℕ) (d : CodePoint) (within : i < length us) where
+  abbrev letter : ℕ
+  letter = (get_or us i d).value
+
+  letter_is : list_all is_modifier (values us) ≡ true → is_modifier letter ≡ true
+  letter_is h = elim (cases_Bool (is_modifier letter)) [
+    | inl there ↦ there
+    | inr none ↦ absurd (true≢false (sym h ∙ list_all-map is_modifier (λ (u : CodePoint). u.value) us ∙ list_all_at (λ (u : CodePoint). is_modifier u.value) us i d within none))
+  ]
+
+  -- a letter has a bit
+  pub some_bit : list_all is_modifier (values us) ≡ true → None ≡ modifier_bit letter → ⊥
+  some_bit h k = bit_none letter (letter_is h) (sym k)
+
+  parted : values us ≡ values (take i us) ++ (letter ∷ values (drop (i + 1) us))
+  parted =
+      ap values (sym (take-append-drop i us))
+      ∙ map-append (λ (u : CodePoint). u.value) (take i us) (drop i us)
+      ∙ ap (λ w. values (take i us) ++ w) (values_front us i d within)
+
+  -- a letter whose bit is set already
+  pub no_bits_twice : (bit : ℕ) → Some bit ≡ modifier_bit letter → bit_and (letters_bits (values (take i us))) bit ≡ bit → None ≡ are_bits (values us)
+  no_bits_twice bit h k =
+      sym (cond-true (has_twice (values us)) None (Some (letters_bits (values us)))
+      (ap has_twice parted ∙ twice_there letter (values (take i us)) (values (drop (i + 1) us)) (occurs_there letter bit (values (take i us)) (sym h) k)))
+
+  pub once_next : (bit : ℕ) → Some bit ≡ modifier_bit letter → (bit_and (letters_bits (values (take i us))) bit ≡ bit → ⊥) → has_twice (values (take i us)) ≡ false
+      → has_twice (values (take (i + 1) us)) ≡ false
+  once_next bit h k once = ap has_twice (values_more us i d within) ∙ once_more letter (values (take i us)) once (occurs_nowhere letter bit (values (take i us)) (sym h) k)
+
+  pub bits_next : (bit : ℕ) → Some bit ≡ modifier_bit letter → bit_or (letters_bits (values (take i us))) bit ≡ letters_bits (values (take (i + 1) us))
+  bits_next bit h = bit_inserted letter bit (values (take i us)) (sym h) ∙ ap letters_bits (sym (values_more us i d within))
+
+-- the bits of all letters
+pub bits_whole : (w : List ℕ) → has_twice w ≡ false → Some (letters_bits w) ≡ are_bits w
+bits_whole w h = sym (cond-false (has_twice w) None (Some (letters_bits w)) h)
+
+pub twice_of : (w : List ℕ) → None ≡ are_bits w → has_twice w ≡ true
+twice_of w h = elim (chosen {x = None} {y = Some (letters_bits w)} (has_twice w) (sym h)) [
+  | inl p ↦ p.0
+  | inr p ↦ absurd (let no : ⊥ = cc p.1 in no)
+]
+
+pub none_of : (w : List ℕ) (r : Option Modifier) → r ≡ None → option_map (λ it. it.0) r ≡ are_bits w → has_twice w ≡ true
+none_of w r h k = twice_of w (sym (ap (option_map (λ it. it.0)) h) ∙ k)
+
+pub once_of : (w : List ℕ) (bits : ℕ) → Some bits ≡ are_bits w → (has_twice w ≡ false) × (bits ≡ letters_bits w)
+once_of w bits h = elim (chosen {x = None} {y = Some (letters_bits w)} (has_twice w) (sym h)) [
+  | inl p ↦ absurd (let no : ⊥ = cc p.1 in no)
+  | inr p ↦ (p.0, let same : bits ≡ letters_bits w = cc p.1 in same)
+]
+
+three_zero : (i m s : Bool) → three i m s ≡ 0 → (i ≡ false) × (m ≡ false) × (s ≡ false)
+three_zero true true true h = absurd (omega (arith, h))
+three_zero true true false h = absurd (omega (arith, h))
+three_zero true false true h = absurd (omega (arith, h))
+three_zero true false false h = absurd (omega (arith, h))
+three_zero false true true h = absurd (omega (arith, h))
+three_zero false true false h = absurd (omega (arith, h))
+three_zero false false true h = absurd (omega (arith, h))
+three_zero false false false h = (refl, refl, refl)
+
+three_small : (i m s : Bool) → three i m s < 8
+three_small true true true = omega arith
+three_small true true false = omega arith
+three_small true false true = omega arith
+three_small true false false = omega arith
+three_small false true true = omega arith
+three_small false true false = omega arith
+three_small false false true = omega arith
+three_small false false false = omega arith
+
+pub bits_small : (w : List ℕ) → letters_bits w < 8
+bits_small w = three_small (occurs 105 w) (occurs 109 w) (occurs 115 w)
+
+-- Letters without bits are none.
+pub no_letters : (w : List ℕ) → list_all is_modifier w ≡ true → letters_bits w ≡ 0 → w ≡ []
+no_letters [] h k = refl
+no_letters (c ∷ w) h k =
+    let none = three_zero (occurs 105 (c ∷ w)) (occurs 109 (c ∷ w)) (occurs 115 (c ∷ w)) k in
+    let i = or_parts (c == 105) (occurs 105 w) none.0 in
+    let m = or_parts (c == 109) (occurs 109 w) none.1 in
+    let s = or_parts (c == 115) (occurs 115 w) none.2 in
+    absurd (true≢false (sym (and_parts (is_modifier c) (list_all is_modifier w) h).0 ∙ or_from (c == 105 || c == 109) (c == 115) (or_from (c == 105) (c == 109) i.0 m.0) s.0))
+
+-- a letter on both sides
+shared : (d : ℕ) (w v : List ℕ) → occurs d w ≡ true → occurs d v ≡ true → share_some w v ≡ true
+shared d [] v h k = absurd (true≢false (sym h))
+shared d (c ∷ w) v h k = elim (or_cases (c == d) (occurs d w) h) [
+  | inl same ↦ or_left (occurs c v) (share_some w v) (ap (λ c. occurs c v) (eqb-true c d same) ∙ k)
+  | inr there ↦ or_right (occurs c v) (share_some w v) (shared d w v there k)
+]
+
+unshared : (d : ℕ) (w v : List ℕ) → share_some w v ≡ false → (occurs d w && occurs d v) ≡ false
+unshared d w v h = false_from_ne_true (occurs d w && occurs d v) (λ both. let p = and_parts (occurs d w) (occurs d v) both in true≢false (sym (shared d w v p.0 p.1) ∙ h))
+
+apart : (w v : List ℕ) → share_some w v ≡ false → bit_and (letters_bits w) (letters_bits v) ≡ 0
+apart w v h =
+    and_three (occurs 105 w) (occurs 109 w) (occurs 115 w) (occurs 105 v) (occurs 109 v) (occurs 115 v)
+    ∙ ap (λ i. three i (occurs 109 w && occurs 109 v) (occurs 115 w && occurs 115 v)) (unshared 105 w v h)
+    ∙ ap₂ (three false) (unshared 109 w v h) (unshared 115 w v h)
+
+-- Where bits are common a letter is.
+pub share : (w v : List ℕ) → (bit_and (letters_bits w) (letters_bits v) ≡ 0 → ⊥) → share_some w v ≡ true
+share w v h = true_from_ne_false (share_some w v) (λ none. h (apart w v none))

@@ -1,0 +1,23 @@
+use Rattle.std.proofs.Common.{◌≡◌, ◌∙◌, ap, sym, ◌<◌, length, bit_and, bit_or, arith}
+use Rattle.std.proofs.lemmas.Bool.{iff_false}
+use Rattle.rx_units.specs.Units.{unit}
+use Rattle.rx_units.specs.declared.code_point.EscapeKind.TheVariants as kind
+use Rattle.rx_parser.proofs.ModifierBits.{some_bit, no_bits_twice, once_next, bits_next}
+use Rattle.rx_parser.proofs.modifiers.bits_of.Goals as goal
+
+pub returns-in_err-bit : goal.returns-in_err-bit
+returns-in_err-bit c = absurd (some_bit c.args.letters.now c.loop-letter.letter-index (unit 0 0 0 kind.None) (omega arith) c.requires c.in_err-bit.ensures)
+
+pub returns-then-contains : goal.returns-then-contains
+returns-then-contains c =
+    let bit = c.in_ok-bit.bit.0 in
+    no_bits_twice c.args.letters.now c.loop-letter.letter-index (unit 0 0 0 kind.None) (omega arith) bit c.in_ok-bit.ensures
+    (ap (λ b. bit_and b bit) (sym c.loop-letter.invariant.bits) ∙ c.contains.ensures.0 c.if-contains.true)
+
+pub loop-letter-preserved : goal.loop-letter-preserved
+loop-letter-preserved c =
+    let bit = c.in_ok-bit.bit.0 in record {
+      once = once_next c.args.letters.now c.loop-letter.letter-index (unit 0 0 0 kind.None) (omega arith) bit c.in_ok-bit.ensures
+          (λ h. iff_false c.contains.ensures c.if-contains.false (ap (λ b. bit_and b bit) c.loop-letter.invariant.bits ∙ h)) c.loop-letter.invariant.once;
+      bits = c.insert.ensures ∙ ap (λ b. bit_or b bit) c.loop-letter.invariant.bits ∙ bits_next c.args.letters.now c.loop-letter.letter-index (unit 0 0 0 kind.None) (omega arith) bit c.in_ok-bit.ensures;
+    }

@@ -1,0 +1,7 @@
+use Rattle.std.proofs.Common.{◌≡◌, ◌+◌, drop}
+use Rattle.rx_units.specs.Units.{values}
+use Rattle.rx_model.specs.GroupFronts.{letters_at}
+use Rattle.rx_parser.proofs.modifiers.letters_at.Given as goal
+
+abbrev pub invariant-loop-count : goal.invariant-loop-count
+invariant-loop-count l = letters_at (values l.units) ≡ l.count + letters_at (values (drop l.count l.units))
