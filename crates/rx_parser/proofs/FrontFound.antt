@@ -1,6 +1,6 @@
 -- What stands at the front of a text, by what its readers find.
 use Rattle.std.proofs.Common.{◌≡◌, refl, sym, ap, ◌∙◌, subst, ℕ, ◌+◌, ◌-◌, ◌<◌, ◌≤◌, Bool, true, false, not, ◌==◌, ◌&&◌, ◌||◌, ◌⊎◌, Option, Some, None, List, [], ◌∷◌, length, take, drop, get_or, codes, arith, inl, inr}
-use Rattle.std.proofs.lemmas.Bool.{eqb-true, eq-eqb, or_parts, cond-true, cond-false, cases_Bool, true≢false, false_from_ne_true}
+use Rattle.std.proofs.lemmas.Bool.{eqb-true, eq-eqb, or_parts, cond-true, cond-false, cases_Bool, true≢false}
 use Rattle.std.proofs.lemmas.Bool.Decides.{nat_tests}
 use Rattle.std.proofs.lemmas.List.{drop-map, take_all}
 use Rattle.rx_tables.specs.Characters.{is_within, is_syntax_character}
@@ -26,11 +26,12 @@ use Rattle.rx_model.specs.UnicodeEscapes.{Decodes, PassesHex}
 use Rattle.rx_model.proofs.Backslashes.{unreferred}
 use Rattle.rx_model.proofs.Escapes.{escape_nothing, escape_too_many, escape_no_unicode}
 use Rattle.rx_model.proofs.Fronts.{front_by_values}
+use Rattle.rx_model.proofs.GroupNames.{differs}
 use Rattle.rx_model.proofs.Quantifiers.{counts_spelled, no_braces}
 use Rattle.rx_model.proofs.Stops.{stop_backslash}
 use Rattle.rx_parser.specs.CountsFound.{IsInLimit}
 use Rattle.rx_parser.specs.Found.{Stands, IsFound, boundary_front, begins_reference, closes_or_repeats}
-use Rattle.rx_parser.specs.NotYet.{holds_unread, is_unread, is_unread_escape}
+use Rattle.rx_parser.specs.NotYet.{is_unread_escape}
 use Rattle.rx_parser.specs.declared.found.Found.TheVariants as found
 use Rattle.rx_parser.specs.declared.found.Halt.TheVariants as halt
 use Rattle.rx_parser.proofs.Digits.{chosen}
@@ -41,17 +42,8 @@ buffers_there mode groups has_names h = ap (λ b. b && true) h
 pub named_there : (mode : Mode) (groups : ℕ) (has_names : Bool) → is_unicode mode ≡ true → (environment_with mode groups has_names).named ≡ true
 named_there mode groups has_names h = ap (λ b. b || has_names) h
 
--- What is in a set that another is not in is another.
-differs : (P : ℕ → Bool) (c d : ℕ) → P d ≡ false → P c ≡ true → (c == d) ≡ false
-differs P c d out in_set = false_from_ne_true (c == d) (λ same. true≢false (sym in_set ∙ ap P (eqb-true c d same) ∙ out))
-
 not_above : (n m : ℕ) → (m < n → ⊥) → n ≤ m
 not_above n m h = grind arith
-
--- a property of the first value
-pub first_has : (P : ℕ → Bool) (us : List CodePoint) (d : CodePoint) (b : Bool) → 1 ≤ length us → P (get_or us 0 d).value ≡ b → front_is P (values us) ≡ b
-first_has P [] d b l h = absurd (omega arith)
-first_has P (u ∷ us) d b l h = h
 
 syntax_of : (c : ℕ) → closes_or_repeats c ≡ true → is_syntax_character c ≡ true
 syntax_of c h = grind (arith, nat_tests)
@@ -238,11 +230,6 @@ module _ (e : Environment) where
   pub too_many_there : (u : CodePoint) (us : List CodePoint) (count : ℕ) → u.value ≡ 92 → count + 2 ≤ length us → escape_at true (values us) ≡ too_many count → IsFound e (u ∷ us) (found.Halt (halt.TooManyHexDigits 3 count))
   too_many_there u us count h l k = (inl (values us, refl, ap (λ c. c ∷ values us) h, escape_too_many (values us) count k), omega (arith, l))
 
-  -- A piece behind a backslash is not read yet.
-  pub unread_behind : (u : CodePoint) (us : List CodePoint) → u.value ≡ 92 → front_is is_unread_escape (values us) ≡ true → IsFound e (u ∷ us) (found.Halt halt.Unread)
-  unread_behind u [] h k = absurd (let no : ⊥ = cc k in no)
-  unread_behind u (v ∷ us) h k = (ap (λ c. holds_unread (c ∷ values (v ∷ us))) h ∙ ap (λ b. b || holds_unread (values us)) k, omega arith)
-
   -- a token of one unit, which is a SyntaxCharacter other than a backslash
   pub one_there : (us : List CodePoint) (c d : ℕ) (t : Token) → reading.front us ≡ Some c → c ≡ d → is_syntax_character d ≡ true → (d == 92) ≡ false
       → ((w : List ℕ) → syntax_front e d w ≡ Some (t, 1)) → ((names : List (List ℕ)) → Obeys e.groups names t) → Stands e us t 1
@@ -250,15 +237,6 @@ module _ (e : Environment) where
   one_there (u ∷ us) c d t h same s o k obeys =
       let is : u.value ≡ d = (let first : u.value ≡ c = cc h in first) ∙ same in
       (front_by_values e (u ∷ us) d (values us) s (ap (λ c. c ∷ values us) is) ∙ cond-false (d == 92) _ _ o ∙ k (values us), omega arith, obeys)
-
-  pub unread_there : (us : List CodePoint) (c : ℕ) → reading.front us ≡ Some c → is_unread c ≡ true → IsFound e us (found.Halt halt.Unread)
-  unread_there [] c h k = absurd (let no : ⊥ = cc h in no)
-  unread_there (u ∷ us) c h k = (
-    (let first : u.value ≡ c = cc h in ap (λ c. holds_unread (c ∷ values us)) first)
-        ∙ cond-false (c == 92) _ _ (differs is_unread c 92 refl k)
-        ∙ ap (λ b. b || holds_unread (values us)) k,
-    omega arith,
-  )
 
   -- a unit that stands for itself
   pub raw_there : (us : List CodePoint) (d : CodePoint) → 1 ≤ length us → is_unicode e.mode ≡ true → is_syntax_character (get_or us 0 d).value ≡ false → (get_or us 0 d).value ≤ 0x10FFFF
@@ -271,17 +249,6 @@ module _ (e : Environment) where
   unfolding front
   ended [] l = ((refl, at_end, refl), omega arith)
   ended (u ∷ us) l = absurd (omega arith)
-
--- a SyntaxCharacter that is none of those of one unit nor begins a group or what is not read yet
-pub closer_there : (us : List CodePoint) (c : ℕ) → reading.front us ≡ Some c → is_syntax_character c ≡ true → (c == 92) ≡ false → (c == 40) ≡ false → (c ≡ 46 → ⊥) → (c ≡ 41 → ⊥) → (c ≡ 124 → ⊥)
-    → (c ≡ 94 → ⊥) → (c ≡ 36 → ⊥) → (c ≡ 91 → ⊥) → front_is closes_or_repeats (values us) ≡ true
-closer_there [] c h s o no_group no_dot no_closer no_bar no_start no_end no_class = absurd (let no : ⊥ = cc h in no)
-closer_there (u ∷ us) c h s o no_group no_dot no_closer no_bar no_start no_end no_class =
-    let first : u.value ≡ c = cc h in
-    ap closes_or_repeats first ∙ rest c s o no_group no_dot no_closer no_bar no_start no_end no_class
-  where
-    rest : (c : ℕ) → is_syntax_character c ≡ true → (c == 92) ≡ false → (c == 40) ≡ false → (c ≡ 46 → ⊥) → (c ≡ 41 → ⊥) → (c ≡ 124 → ⊥) → (c ≡ 94 → ⊥) → (c ≡ 36 → ⊥) → (c ≡ 91 → ⊥) → closes_or_repeats c ≡ true
-    rest c s o no_group no_dot no_closer no_bar no_start no_end no_class = grind (arith, nat_tests)
 
 -- what stands behind the first unit
 pub behind_first : (P : List CodePoint → Type 0) (us : List CodePoint) (d : CodePoint) → 1 ≤ length us → P (get_or us 0 d ∷ take (length us - 1) (drop 1 us)) → P us

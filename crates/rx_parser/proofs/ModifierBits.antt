@@ -1,5 +1,5 @@
 -- The bits of letters of modifiers.
-use Rattle.std.proofs.Common.{◌≡◌, refl, sym, ap, ap₂, ◌∙◌, subst, ℕ, ◌+◌, ◌*◌, ◌^◌, ◌<◌, Bool, true, false, cond, ◌==◌, ◌&&◌, ◌||◌, ◌⊎◌, Option, Some, None, option_map, List, [], ◌∷◌, ◌++◌, length, take, drop, get_or, bit_and, bit_or, arith, inl, inr}
+use Rattle.std.proofs.Common.{◌≡◌, refl, sym, ap, ap₂, ◌∙◌, subst, ℕ, ◌+◌, ◌*◌, ◌^◌, ◌<◌, Bool, true, false, cond, ◌==◌, ◌&&◌, ◌||◌, Option, Some, None, option_map, List, [], ◌∷◌, ◌++◌, length, take, drop, get_or, bit_and, bit_or, arith, inl, inr}
 use Rattle.std.specs.List.{list_all, list_any}
 use Rattle.std.proofs.lemmas.Bool.{cases_Bool, eqb-true, cond-true, cond-false, or_parts, or_from, or_left, or_right, or_cases, and_parts, eq-eqb, false_from_ne_true, true_from_ne_false, true≢false}
 use Rattle.std.proofs.lemmas.Bool.Decides.{nat_tests}
@@ -14,7 +14,7 @@ use Rattle.rx_parser.specs.Modifiers.{are_bits, modifier_bit}
 use Rattle.rx_parser.proofs.Digits.{chosen, values_front, values_more}
 
 -- the number of three bits
-abbrev pub three : Bool → Bool → Bool → ℕ
+abbrev three : Bool → Bool → Bool → ℕ
 three i m s = cond i 1 0 + cond m 2 0 + cond s 4 0
 
 abbrev one : Bool → ℕ
@@ -175,10 +175,6 @@ module _ (us : List CodePoint) (i : ℕ) (d : CodePoint) (within : i < length us
 
   pub bits_next : (bit : ℕ) → Some bit ≡ modifier_bit letter → bit_or (letters_bits (values (take i us))) bit ≡ letters_bits (values (take (i + 1) us))
   bits_next bit h = bit_inserted letter bit (values (take i us)) (sym h) ∙ ap letters_bits (sym (values_more us i d within))
-
--- the bits of all letters
-pub bits_whole : (w : List ℕ) → has_twice w ≡ false → Some (letters_bits w) ≡ are_bits w
-bits_whole w h = sym (cond-false (has_twice w) None (Some (letters_bits w)) h)
 
 pub twice_of : (w : List ℕ) → None ≡ are_bits w → has_twice w ≡ true
 twice_of w h = elim (chosen {x = None} {y = Some (letters_bits w)} (has_twice w) (sym h)) [

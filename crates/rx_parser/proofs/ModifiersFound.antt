@@ -1,5 +1,5 @@
 -- The modifiers behind `(?`, by what their readers find.
-use Rattle.std.proofs.Common.{◌≡◌, ◌≢◌, refl, sym, ap, ap₂, ◌∙◌, subst, ℕ, suc, ◌+◌, ◌-◌, ◌<◌, ◌≤◌, Bool, true, false, not, ◌==◌, ◌&&◌, ◌||◌, ◌⊎◌, Option, Some, None, List, [], ◌∷◌, ◌++◌, length, take, drop, get_or, bit_and, arith, inl, inr, length-drop}
+use Rattle.std.proofs.Common.{◌≡◌, ◌≢◌, refl, sym, ap, ap₂, ◌∙◌, subst, ℕ, suc, ◌+◌, ◌-◌, ◌<◌, ◌≤◌, Bool, true, false, not, ◌==◌, ◌&&◌, ◌||◌, ◌⊎◌, Some, List, [], ◌∷◌, ◌++◌, length, take, drop, get_or, bit_and, arith, inl, inr, length-drop}
 use Rattle.std.specs.List.{list_all}
 use Rattle.std.proofs.Math.Seq.{drop-drop, drop-append_seam, take-append_seam, take-add}
 use Rattle.std.proofs.lemmas.Bool.{cases_Bool, cond-true, cond-false, eq-eqb, ne_eqb, cases_lt, or_parts, or_from, or_right, and_from, not_from_false, true≢false}
@@ -11,7 +11,7 @@ use Rattle.rx_units.specs.Units.{values}
 use Rattle.rx_model.specs.Environment.{Environment, is_unicode}
 use Rattle.rx_model.specs.Escapes.{front_is}
 use Rattle.rx_model.specs.Fronts.{front, opener_token}
-use Rattle.rx_model.specs.GroupFronts.{letters_at, SidesRead, sides, second_side, sides_at, modified_group, question_group, group_front}
+use Rattle.rx_model.specs.GroupFronts.{letters_at, sides, second_side, sides_at, modified_group, question_group, group_front}
 use Rattle.rx_model.specs.Groups.{is_mark}
 use Rattle.rx_model.specs.Marks.{starts}
 use Rattle.rx_model.specs.Modifiers.{is_modifier, occurs, has_twice, share_some, letters_bits, AreSides, one_side, two_sides}
@@ -208,7 +208,7 @@ module _ (us : List CodePoint) (w v : List ℕ) (n : ℕ) (read : sides w v n �
         ∙ cond-true (starts 58 (drop n all) && not (has_twice w || has_twice v)) _ _
         (and_from (starts 58 (drop n all)) (not (has_twice w || has_twice v)) (ap (starts 58) after ∙ colon true there) (not_from_false (has_twice w || has_twice v) once))
 
-    pub opener_there : (e : Environment) (paren question : CodePoint) → paren.value ≡ 40 → question.value ≡ 63 → front_is is_mark all ≡ false → (has_twice w || has_twice v) ≡ false
+    opener_there : (e : Environment) (paren question : CodePoint) → paren.value ≡ 40 → question.value ≡ 63 → front_is is_mark all ≡ false → (has_twice w || has_twice v) ≡ false
         → front e (paren ∷ question ∷ us) ≡ Some (opener (ignoring (Some (letters_bits w, letters_bits v))), n + 3)
     opener_there e paren question p q other once =
         front_by_values e (paren ∷ question ∷ us) 40 (63 ∷ all) refl (ap₂ (λ a b. a ∷ b ∷ all) p q) ∙ ap opener_token (group_there (is_unicode e.mode) other once)
@@ -222,8 +222,7 @@ module _ (us : List CodePoint) (w v : List ℕ) (n : ℕ) (read : sides w v n �
         let b = once_of v disabling.0 k in
         let l = within 58 us n there in
         let enabling_small = bits_small w in
-        let disabling_small = bits_small v in
-        (
+        let disabling_small = bits_small v in (
           ignoring (Some (enabling.0, disabling.0)),
           (
             opener_there e paren question p q other (or_from (has_twice w) (has_twice v) a.0 b.0) ∙ ap₂ (λ a b. Some (opener (ignoring (Some (a, b))), n + 3)) (sym a.1) (sym b.1),

@@ -160,7 +160,10 @@ fn character_at(behind: &[CodePoint], mode: Mode) -> Found
         EscapeFound::TooMany { digits } => {
             Found::Halt(Halt::TooManyHexDigits { start: 3, digits })
         }
-        EscapeFound::Invalid => Found::Halt(Halt::InvalidEscape { start: 1, length: 1 }),
+        EscapeFound::Invalid => Found::Halt(Halt::InvalidEscape {
+            start: 1,
+            length: 1,
+        }),
     }
 }
 

@@ -33,7 +33,8 @@ pub fn modifiers_at(units: &[CodePoint]) -> Found
     if !is_colon_at(units, length) {
         return halt(ModifiersFault::Unknown, length);
     }
-    let (Some(enabling), Some(disabling)) = (bits_of(sides.enabling), bits_of(sides.disabling)) else {
+    let (Some(enabling), Some(disabling)) = (bits_of(sides.enabling), bits_of(sides.disabling))
+    else {
         return halt(ModifiersFault::Duplicated, length);
     };
     if enabling.is_empty() && disabling.is_empty() {

@@ -1,22 +1,23 @@
-use Rattle.std.proofs.Common.{◌∙◌, sym}
-use Rattle.rx_model.specs.Reached.{text_environment}
-use Rattle.rx_parser.proofs.FrontFound.{boundary_there, buffers_there, class_there, ended_backslash}
+use Rattle.std.proofs.Common.{get_or, ◌∷◌, refl}
+use Rattle.rx_units.specs.Units.{unit}
+use Rattle.rx_units.specs.declared.code_point.EscapeKind.TheVariants as kind
+use Rattle.rx_model.specs.Environment.{environment_with}
+use Rattle.rx_parser.specs.Found.{IsFound}
+use Rattle.rx_parser.proofs.FrontFound.{behind_first, buffers_there, ended_backslash, named_there}
 use Rattle.rx_parser.proofs.front.backslash_at.Goals as goal
 
 pub returns-in_default : goal.returns-in_default
-returns-in_default c backslash is = ended_backslash (text_environment c.args.mode) backslash c.args.behind.now c.requires.unicode is c.in_default.len_below
+returns-in_default c has_names backslash is = ended_backslash (environment_with c.args.mode c.args.groups has_names) backslash c.args.behind.now c.requires.unicode is c.in_default.len_below
 
-pub returns-in-Some : goal.returns-in-Some
-returns-in-Some c backslash is =
-    let e = text_environment c.args.mode in
-    let read = sym (c.boundary_at.ensures e (buffers_there c.args.mode c.requires.unicode)) ∙ c.in-Some.is in
-    let there = boundary_there e backslash c.args.behind.now c.in-Some.kind is read in
-    (there.0, there.1, tt)
+pub returns-then-is_first_digit : goal.returns-then-is_first_digit
+returns-then-is_first_digit c has_names backslash is = c.indexed_at.ensures (environment_with c.args.mode c.args.groups has_names) backslash c.requires.unicode refl is
 
-pub returns-in-Some-class_escape_at : goal.returns-in-Some-class_escape_at
-returns-in-Some-class_escape_at c backslash is =
-    let e = text_environment c.args.mode in
-    let no_boundary = sym (c.boundary_at.ensures e (buffers_there c.args.mode c.requires.unicode)) ∙ c.in_default-boundary_at.is in
-    let read = sym c.class_escape_at.ensures ∙ c.in-Some-class_escape_at.is in
-    let there = class_there e backslash c.args.behind.now c.in-Some-class_escape_at.kind is no_boundary read in
-    (there.0, there.1, tt)
+pub returns-then-first : goal.returns-then-first
+returns-then-first c has_names backslash is =
+    let e = environment_with c.args.mode c.args.groups has_names in
+    behind_first (λ us. IsFound e (backslash ∷ us) c.named_at.result) c.args.behind.now (unit 0 0 0 kind.None) c.in-len1-up.len_at_least
+    (c.named_at.ensures e backslash (get_or c.args.behind.now 0 (unit 0 0 0 kind.None)) c.requires.unicode (named_there c.args.mode c.args.groups has_names c.requires.unicode) is c.if-first.true)
+
+pub returns : goal.returns
+returns c has_names backslash is =
+    c.escape_at.ensures (environment_with c.args.mode c.args.groups has_names) backslash refl (buffers_there c.args.mode c.args.groups has_names c.requires.unicode) is

@@ -1,30 +1,30 @@
 use Rattle.std.proofs.Common.{◌∙◌, ap, sym, arith}
 use Rattle.rx_units.specs.Units.{values}
+use Rattle.rx_model.specs.Environment.{is_unicode}
 use Rattle.rx_model.specs.Fronts.{escape_at, escaped_token}
-use Rattle.rx_model.specs.Reached.{text_environment}
 use Rattle.rx_parser.proofs.FrontFound.{escape_front, invalid_there, nothing_there, too_many_there}
 use Rattle.rx_parser.proofs.front.character_at.Goals as goal
 
 pub returns-in-Character : goal.returns-in-Character
-returns-in-Character c backslash is =
-    let read = ap (λ u. escape_at u (values c.args.behind.now)) (sym c.is_unicode.ensures) ∙ sym c.in-Character.ensures.read in
+returns-in-Character c e backslash same buffers is =
+    let read = ap (λ u. escape_at u (values c.args.behind.now)) (ap is_unicode same ∙ sym c.is_unicode.ensures) ∙ sym c.in-Character.ensures.read in
     let within = c.in-Character.ensures.within.1 in (
-      escape_front (text_environment c.args.mode) backslash c.args.behind.now is c.requires.no_boundary c.requires.no_class ∙ ap escaped_token read,
+      escape_front e backslash c.args.behind.now is c.requires.no_reference (c.requires.no_boundary e buffers) c.requires.no_class ∙ ap escaped_token read,
       omega (arith, within),
-      c.in-Character.ensures.within.2,
+      λ _. c.in-Character.ensures.within.2,
     )
 
 pub returns-in-Nothing : goal.returns-in-Nothing
-returns-in-Nothing c backslash is =
-    let read = ap (λ u. escape_at u (values c.args.behind.now)) (sym c.is_unicode.ensures) ∙ sym c.in-Nothing.ensures.read in
-    nothing_there (text_environment c.args.mode) backslash c.args.behind.now c.requires.unicode is c.requires.no_boundary c.requires.no_class c.requires.read read
+returns-in-Nothing c e backslash same buffers is =
+    let read = ap (λ u. escape_at u (values c.args.behind.now)) (sym (c.is_unicode.ensures ∙ c.requires.unicode)) ∙ sym c.in-Nothing.ensures.read in
+    nothing_there e backslash c.args.behind.now (ap is_unicode same ∙ c.requires.unicode) is c.requires.no_reference (c.requires.no_boundary e buffers) c.requires.no_class c.requires.read read
 
 pub returns-in-TooMany : goal.returns-in-TooMany
-returns-in-TooMany c backslash is =
+returns-in-TooMany c e backslash same buffers is =
     let read = ap (λ u. escape_at u (values c.args.behind.now)) (sym (c.is_unicode.ensures ∙ c.requires.unicode)) ∙ sym c.in-TooMany.ensures.read in
-    too_many_there c.args.mode backslash c.args.behind.now c.in-TooMany.digits is c.in-TooMany.ensures.within read
+    too_many_there e backslash c.args.behind.now c.in-TooMany.digits is c.in-TooMany.ensures.within read
 
 pub returns-in-Invalid : goal.returns-in-Invalid
-returns-in-Invalid c backslash is =
+returns-in-Invalid c e backslash same buffers is =
     let read = ap (λ u. escape_at u (values c.args.behind.now)) (sym (c.is_unicode.ensures ∙ c.requires.unicode)) ∙ sym c.in-Invalid.ensures.read in
-    invalid_there c.args.mode backslash c.args.behind.now is read
+    invalid_there e backslash c.args.behind.now is read

@@ -1,4 +1,4 @@
-use Rattle.std.proofs.Common.{◌≡◌, ◌∙◌, ap, sym, ◌<◌, length, bit_and, bit_or, arith}
+use Rattle.std.proofs.Common.{◌∙◌, ap, sym, bit_and, bit_or, arith}
 use Rattle.std.proofs.lemmas.Bool.{iff_false}
 use Rattle.rx_units.specs.Units.{unit}
 use Rattle.rx_units.specs.declared.code_point.EscapeKind.TheVariants as kind

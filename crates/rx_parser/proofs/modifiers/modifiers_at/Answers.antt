@@ -1,4 +1,4 @@
-use Rattle.std.proofs.Common.{◌≡◌, ◌≢◌, ◌∙◌, ap, ap₂, sym, ◌+◌, bit_and, arith, inl, inr}
+use Rattle.std.proofs.Common.{◌∙◌, ap₂, sym, bit_and, arith, inl, inr}
 use Rattle.std.proofs.lemmas.Bool.{cases_eq, iff_false, or_from, or_left, or_right}
 use Rattle.rx_units.specs.Units.{values}
 use Rattle.rx_model.specs.Modifiers.{has_twice}

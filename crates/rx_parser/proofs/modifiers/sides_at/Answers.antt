@@ -1,4 +1,4 @@
-use Rattle.std.proofs.Common.{arith, rules}
+use Rattle.std.proofs.Common.{rules}
 use Rattle.rx_units.specs.Units.{unit}
 use Rattle.rx_units.specs.declared.code_point.EscapeKind.TheVariants as kind
 use Rattle.rx_parser.proofs.ModifiersFound.{from, one_side_seen, starts_nothing, starts_other, two_sides_seen}
