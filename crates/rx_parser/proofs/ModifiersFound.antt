@@ -165,7 +165,7 @@ module _ (us : List CodePoint) (w v : List ℕ) (n : ℕ) (read : sides w v n �
   pub unknown_there : front_is is_mark all ≡ false → false ≡ starts 58 (values (drop n us)) → IsModifiersFault all n fault.Unknown
   unknown_there other none =
       let end = sides_end all w v n (sym read) in
-      fault_of fault.Unknown (unknown (record {
+      fault_of fault.Unknown (unknown at_front.text at_front.rest (record {
         enabled = w;
         disabled = v;
         sides = at_front.spelled;
@@ -184,7 +184,7 @@ module _ (us : List CodePoint) (w v : List ℕ) (n : ℕ) (read : sides w v n �
 
     -- a letter twice on one side
     pub duplicated_there : (has_twice w || has_twice v) ≡ true → IsModifiersFault all n fault.Duplicated
-    duplicated_there twice = closed_fault fault.Duplicated (duplicated closed.0 at_front.spelled twice)
+    duplicated_there twice = closed_fault fault.Duplicated (duplicated at_front.text closed.0 at_front.spelled twice)
 
     -- no letter
     pub empty_there : front_is is_mark all ≡ false → letters_bits w ≡ 0 → letters_bits v ≡ 0 → IsModifiersFault all n fault.Empty
@@ -197,7 +197,7 @@ module _ (us : List CodePoint) (w v : List ℕ) (n : ℕ) (read : sides w v n �
 
     -- a letter on both sides
     pub invalid_there : (has_twice w || has_twice v) ≡ false → share_some w v ≡ true → IsModifiersFault all n fault.Invalid
-    invalid_there once both = closed_fault fault.Invalid (invalid closed.0 at_front.spelled once both)
+    invalid_there once both = closed_fault fault.Invalid (invalid at_front.text closed.0 at_front.spelled once both)
 
     -- modifiers that are read
     group_there : (unicode_mode : Bool) → front_is is_mark all ≡ false → (has_twice w || has_twice v) ≡ false → group_front unicode_mode (63 ∷ all) ≡ Some (ignoring (Some (letters_bits w, letters_bits v)), n + 3)

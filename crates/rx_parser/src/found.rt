@@ -47,26 +47,48 @@ pub enum ModifiersFault {
 #[derive(Clone, Copy, Debug)]
 pub enum Halt {
     /// Terms end here, and not by a `)`; reading stands so many units on.
-    Stop { behind: usize },
+    Stop {
+        behind: usize,
+    },
     /// The numbers of the braces of this length are out of order.
-    OutOfOrder { length: usize },
+    OutOfOrder {
+        length: usize,
+    },
     /// A number of the braces of this length is above 2^53 - 1.
-    TooLarge { length: usize },
+    TooLarge {
+        length: usize,
+    },
     /// The digits of a number from `start` on pass 64 bits behind so many.
-    TooManyDigits { start: usize, digits: usize },
+    TooManyDigits {
+        start: usize,
+        digits: usize,
+    },
     /// The digits of a unicode escape from `start` on pass 32 bits behind so many.
-    TooManyHexDigits { start: usize, digits: usize },
+    TooManyHexDigits {
+        start: usize,
+        digits: usize,
+    },
     /// A backslash begins no unicode escape where one has to stand, or in a name one of what may not stand there: the span is so many units from
     /// `start` on.
-    InvalidEscape { start: usize, length: usize },
+    InvalidEscape {
+        start: usize,
+        length: usize,
+    },
     /// Behind `<`, at the second unit from here, and so many units of a name's characters neither a name ends nor an escape begins.
-    UnterminatedName { length: usize },
+    UnterminatedName {
+        length: usize,
+    },
     /// `\k` is a reference, and no `<` follows.
     NoGroupName,
     /// The reference of this length has a number above that of the groups.
-    NoSuchGroup { length: usize },
+    NoSuchGroup {
+        length: usize,
+    },
     /// Modifiers of this length, behind `(?`, may not stand there.
-    Modifiers { fault: ModifiersFault, length: usize },
+    Modifiers {
+        fault: ModifiersFault,
+        length: usize,
+    },
     /// What stands here is not read yet.
     Unread,
 }

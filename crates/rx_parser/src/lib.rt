@@ -15,9 +15,9 @@ mod name;
 mod options;
 mod pattern_parser;
 mod reference;
+mod term;
 #[cfg(test)]
 mod tests;
-mod term;
 mod turn;
 mod unread;
 
