@@ -1,6 +1,6 @@
 -- The cut of a text into marks is that of its tokens: each token is a whole row of marks, whatever the environment. So the marks tell the groups and
 -- their names before any token is read.
-use Rattle.std.specs.Prelude.{◌≡◌, Bool, ℕ, Option, Some, None, List, [], ◌∷◌, ◌++◌, All}
+use Rattle.std.specs.Prelude.{◌≡◌, Bool, ℕ, Some, None, List, [], ◌∷◌, ◌++◌, All}
 use Rattle.rx_ast.specs.declared.term.Pattern.{Pattern}
 use Rattle.rx_ast.specs.Tree.{mirror_disjunction}
 use Rattle.rx_units.specs.declared.code_point.CodePoint.{CodePoint}

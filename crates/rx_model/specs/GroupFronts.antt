@@ -1,5 +1,5 @@
 -- How the front of a group and how references are read: by their first characters, in the order in which the readers look. What they mean stands in Groups.
-use Rattle.std.specs.Prelude.{ℕ, zero, suc, ◌+◌, Bool, true, false, not, ◌==◌, ◌&&◌, ◌||◌, Option, Some, None, List, [], ◌∷◌, drop, take, if◌then◌else◌}
+use Rattle.std.specs.Prelude.{ℕ, suc, ◌+◌, Bool, not, ◌==◌, ◌&&◌, ◌||◌, Option, Some, None, List, [], ◌∷◌, drop, take, if◌then◌else◌}
 use Rattle.rx_ast.specs.declared.leaf.LookAroundAssertionKind.TheVariants as look
 use Rattle.rx_model.specs.GroupNameReading.{NameRow, row, name_at}
 use Rattle.rx_model.specs.Marks.{starts}

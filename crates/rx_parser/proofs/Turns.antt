@@ -37,7 +37,7 @@ use Rattle.rx_parser.specs.declared.found.Found.{Found}
 use Rattle.rx_parser.specs.declared.found.OpenerFound.{OpenerFound}
 use Rattle.rx_parser.specs.declared.found.OpenerFound.TheVariants as opening
 use Rattle.rx_parser.specs.declared.frame.Opening.{Opening}
-use Rattle.rx_parser.specs.declared.frame.Opening.TheVariants.{Capturing, Ignoring, LookAround}
+use Rattle.rx_parser.specs.declared.frame.Opening.TheVariants.{Ignoring}
 use Rattle.rx_parser.specs.Found.{HoldsName, HoldsOpener, IsFound, IsOpenerFound, Stands}
 use Rattle.rx_parser.specs.Frames.{builder_events, opener_tree, openers, ready}
 use Rattle.rx_parser.specs.Good.{IsGood, IsGoodTerm}

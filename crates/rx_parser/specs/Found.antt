@@ -1,5 +1,5 @@
 -- What is found at the front of a text.
-use Rattle.std.specs.Prelude.{◌≡◌, ℕ, ◌+◌, ◌-◌, ◌%◌, ◌<◌, ◌≤◌, Bool, ◌==◌, ◌||◌, Option, Some, None, true, false, List, [], ◌∷◌, ◌++◌, ◌⊎◌, length, drop, take}
+use Rattle.std.specs.Prelude.{◌≡◌, ℕ, ◌-◌, ◌%◌, ◌<◌, ◌≤◌, Bool, ◌==◌, ◌||◌, Option, Some, None, true, false, List, [], ◌∷◌, ◌++◌, ◌⊎◌, length, drop, take}
 use Rattle.rx_tables.specs.Characters.{is_within}
 use Rattle.rx_ast.specs.declared.leaf.BoundaryAssertionKind.{BoundaryAssertionKind}
 use Rattle.rx_units.specs.declared.code_point.CodePoint.{CodePoint}

@@ -1,4 +1,4 @@
-use Rattle.std.proofs.Common.{◌∙◌, sym, subst, get_or, refl, arith}
+use Rattle.std.proofs.Common.{◌∙◌, sym, subst, get_or, arith}
 use Rattle.rx_units.specs.Units.{unit}
 use Rattle.rx_units.specs.declared.code_point.EscapeKind.TheVariants as kind
 use Rattle.rx_model.specs.Environment.{environment_with}

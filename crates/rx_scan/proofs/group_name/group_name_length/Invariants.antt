@@ -1,5 +1,4 @@
-use Rattle.std.proofs.Common.{◌-◌, ◌≤◌, ◌==◌, drop, length}
-use Rattle.rx_units.specs.Units.{values}
+use Rattle.std.proofs.Common.{◌-◌, ◌≤◌, length}
 use Rattle.rx_scan.proofs.GroupNames.{IsRowBefore}
 use Rattle.rx_scan.proofs.group_name.group_name_length.Given as goal
 
