@@ -6,6 +6,7 @@ ghost use Rattle.rx_ast.specs.Forget.{bare};
 ghost use Rattle.rx_units.specs.declared.code_point.CodePoint.{CodePoint};
 ghost use Rattle.rx_units.specs.Units.{literal_units};
 ghost use Rattle.rx_model.specs.declared.mode.Mode.TheVariants.{Unicode};
+ghost use Rattle.rx_model.specs.Cuts.{TellsGroups};
 ghost use Rattle.rx_model.specs.Flags.{flags_of, flags_ok, mode_of, modes_of};
 ghost use Rattle.rx_model.specs.Reading.{IsOnly, IsSpanned, IsValid, Reads, literal_text, units_of};
 ghost use Rattle.rx_model.specs.Spelling.{spelling};
@@ -60,6 +61,10 @@ impl<'a> LiteralParser<'a> {
             (units_of (mode_of (flags_of (flags_chars self.entry.flags_text))) (chars self.entry.pattern_text.now))) }
         ensures spanned { IfOk result (λ it. IsSpanned (mode_of (flags_of (flags_chars self.entry.flags_text))) it
             (units_of (mode_of (flags_of (flags_chars self.entry.flags_text))) (chars self.entry.pattern_text.now)) 0 self.entry.options.pattern_span_offset) }
+
+        // The groups and the names that the first pass of the text finds are the tree's.
+        ensures groups { IfOk result (λ it. TellsGroups (mode_of (flags_of (flags_chars self.entry.flags_text))) it
+            (units_of (mode_of (flags_of (flags_chars self.entry.flags_text))) (chars self.entry.pattern_text.now))) }
 
         // Ok comes on valid input alone. On valid input the answer is Ok, or memory is wanting, or it is not read yet.
         ensures valid { OnOk result (IsValid (chars self.entry.pattern_text.now) (flags_chars self.entry.flags_text)) }

@@ -3,6 +3,7 @@ ghost use Rattle.rx_base.specs.declared.diagnostic.Diagnostic.{Diagnostic as Ref
 ghost use Rattle.rx_ast.specs.declared.term.Pattern.{Pattern};
 ghost use Rattle.rx_units.specs.Units.{values};
 ghost use Rattle.rx_model.specs.Causes.{IsCause};
+ghost use Rattle.rx_model.specs.Cuts.{TellsGroups};
 ghost use Rattle.rx_model.specs.Modes.{mode_by};
 ghost use Rattle.rx_model.specs.Reading.{IsOnly, IsSpanned, Reads};
 ghost use Rattle.rx_model.specs.declared.mode.Mode.TheVariants.{Unicode};
@@ -62,6 +63,9 @@ impl<'a> PatternParser<'a> {
         ensures reads { IfOk result (λ it. Reads (mode_of_state self.entry.state) it self.entry.reader.units) }
         ensures only { IfOk result (λ it. IsOnly (mode_of_state self.entry.state) it self.entry.reader.units) }
         ensures spanned { IfOk result (λ it. IsSpanned (mode_of_state self.entry.state) it self.entry.reader.units self.entry.reader.first self.entry.spans) }
+
+        // The groups and the names that the first pass of the units finds are the tree's.
+        ensures groups { IfOk result (λ it. TellsGroups (mode_of_state self.entry.state) it self.entry.reader.units) }
 
         // A refusal has its cause. On what some tree reads the answer is Ok, or memory is wanting, or it is not read yet.
         ensures refused { (cause : Refusal) → result ≡ Err (Fault.Diagnostic cause)

@@ -4,6 +4,7 @@ ghost use Rattle.rx_ast.specs.Forget.{bare};
 ghost use Rattle.rx_ast.specs.declared.term.Pattern.{Pattern};
 ghost use Rattle.rx_units.specs.declared.code_point.CodePoint.{CodePoint};
 ghost use Rattle.rx_base.specs.declared.diagnostic.Diagnostic.{Diagnostic as Refusal};
+ghost use Rattle.rx_model.specs.Cuts.{TellsGroups};
 ghost use Rattle.rx_model.specs.Flags.{flags_of, flags_ok, holds, mode_of};
 ghost use Rattle.rx_model.specs.Reading.{Reads, IsOnly, IsSpanned, IsValid, units_of};
 ghost use Rattle.rx_model.specs.Spelling.{spelling};
@@ -52,6 +53,9 @@ pub fn canonical(
     ensures only { IfOk result (λ it. IsOnly it.mode it.pattern (units_of it.mode (chars pattern_text.now))) }
     ensures spanned { IfOk result (λ it. IsSpanned it.mode it.pattern (units_of it.mode (chars pattern_text.now)) 0 options.pattern_span_offset) }
     ensures text { IfOk result (λ it. it.text ≡ spelling (bare it.pattern) it.mode) }
+
+    // The groups and the names that the first pass of the text finds are the tree's.
+    ensures groups { IfOk result (λ it. TellsGroups it.mode it.pattern (units_of it.mode (chars pattern_text.now))) }
 
     // Ok comes on valid input alone. On valid input the answer is Ok, or memory is wanting, or it is not read yet.
     ensures valid { OnOk result (IsValid (chars pattern_text.now) (flags_chars flags_text.entry)) }

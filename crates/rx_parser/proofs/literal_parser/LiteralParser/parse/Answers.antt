@@ -1,5 +1,6 @@
 use Rattle.std.proofs.Common.{◌≡◌, ap, sym, ◌∙◌, subst, ℕ, ◌+◌, ◌<◌, ◌^◌, ◌⊎◌, true, inl, inr, List, Err, IfErr, IfOk, IsTrue, length, arith, rules}
 use Rattle.std.specs.Prelude.{All}
+use Rattle.std.proofs.lemmas.Result.{IfOk-weaker}
 use Rattle.std.specs.Str.{chars}
 use Rattle.rx_base.specs.declared.fault.Fault.TheVariants.{OutOfMemory, NotYet}
 use Rattle.rx_units.specs.declared.code_point.CodePoint.{CodePoint}
@@ -7,6 +8,7 @@ use Rattle.rx_units.specs.Reading.{Reading}
 use Rattle.rx_units.specs.Units.{literal_units, values}
 use Rattle.rx_model.specs.Flags.{flags_of, flags_ok, mode_of}
 use Rattle.rx_model.specs.Reading.{IsOnly, IsValid, literal_text, units_of}
+use Rattle.rx_model.proofs.OwnGroups.{tells_groups}
 use Rattle.rx_parser.specs.Literals.{flags_chars}
 use Rattle.rx_parser.specs.NotYet.{is_unread_text, is_unread_literal}
 use Rattle.rx_parser.specs.Parsing.{mode_of_state}
@@ -66,6 +68,11 @@ pub returns-clause-spanned : goal.returns-clause-spanned
 returns-clause-spanned c =
     spanned_by c.parse.result _ _ _ _ (mode_holds c) (units_hold c) _ 0 _ _ (ap (λ (r : Reading). r.first) (c.new.ensures.reader ∙ c.in_ok-reader.ensures)) c.new.ensures.offset
     c.parse.ensures.spanned
+
+pub returns-clause-groups : goal.returns-clause-groups
+returns-clause-groups c =
+    IfOk-weaker c.parse.result _ _ (λ it r. tells_groups (mode_of (flags_of (flags_chars c.args.self.flags_text))) it _ r.spelled)
+    (reads_by c.parse.result _ _ _ _ (mode_holds c) (units_hold c) c.parse.ensures.reads)
 
 pub returns-clause-valid : goal.returns-clause-valid
 returns-clause-valid c =
