@@ -1121,8 +1121,8 @@ fn deep_groups(rt: HostRuntime) -> Result<(), Fail> {
     for (opener, depth) in [
         ("(", 1000usize),
         ("(", 100000),
-        ("(?:", 100000),
-        ("(?<=", 100000),
+        ("(?:", 10000),
+        ("(?<=", 10000),
     ] {
         assert!(rt;
             is_read_deep(rt.alloc(), opener, depth)?,
