@@ -12,21 +12,17 @@ use Rattle.rx_ast.specs.declared.leaf.CharacterClassEscape.{CharacterClassEscape
 use Rattle.rx_ast.specs.declared.leaf.CharacterClassEscapeKind.{CharacterClassEscapeKind}
 use Rattle.rx_ast.specs.declared.leaf.CharacterKind.{CharacterKind}
 use Rattle.rx_model.specs.ClassText.{class_escape_text}
-use Rattle.rx_model.specs.Environment.{Environment}
+use Rattle.rx_model.specs.Environment.{Environment, environment_with, has_some}
 use Rattle.rx_model.specs.Escapes.{SpellsEscape, front_is}
 use Rattle.rx_model.specs.Modes.{mode_by}
 use Rattle.rx_model.specs.Reached.{span_between}
 use Rattle.rx_model.specs.UnicodeEscapes.{Decodes, PassesHex}
 use Rattle.rx_scan.specs.declared.state.State.{State}
 
--- What a state says of the environment. No group is read yet, so it has none.
+-- what a state says of the environment: its mode, the number of groups, and whether some have names
 abbrev pub environment_of : State → Environment
-environment_of state = record {
-  mode = mode_by state.unicode_mode state.unicode_sets_mode;
-  groups = 0;
-  named = state.unicode_mode;
-  buffer_boundaries = true;
-}
+environment_of state =
+    environment_with (mode_by state.unicode_mode state.unicode_sets_mode) state.num_of_capturing_groups (has_some state.capturing_group_names)
 
 -- The reader stands behind a backslash, and the span begins before it.
 pub record IsBehindBackslash (r : Reading) (span_start : ℕ) : Type 0 where
