@@ -11,9 +11,10 @@ use Rattle.rx_model.specs.Events.{Events, within, node_events, nodes_events, alt
 use Rattle.rx_model.specs.Names.{opener_groups, opener_names, node_groups, nodes_groups, alternatives_groups, node_names, nodes_names, alternatives_names, AreApart, IsNodeApart, AreNodesApart, AreAlternativesApart}
 use Rattle.rx_model.specs.Shapes.{leaf_takes, takes, IsNode, AreNodes, HasAlternatives, AreAlternatives}
 use Rattle.rx_model.specs.Spelling.{leaf_refers, refers}
-use Rattle.rx_model.specs.Token.{Token, opener, closer, bar, quantifier, opener_of, leaf_token}
+use Rattle.rx_model.specs.Token.{Token, class, opener, closer, bar, quantifier, opener_of, leaf_token}
 use Rattle.rx_model.proofs.Backs.{spelled_kind}
 use Rattle.rx_model.proofs.BackRows.{again_tokens}
+use Rattle.rx_model.proofs.ClassAgain.{again_class, bare_class, unspanned_class}
 use Rattle.rx_model.proofs.Flat.{before, before-append, before_leaf, before_quantified, before_group, before_alternative}
 
 abbrev pub again_character : Bool → Character → Character
@@ -25,7 +26,7 @@ again_leaf after_reference (tree.character c) = tree.character (again_character 
 again_leaf after_reference (tree.dot d) = tree.dot d
 again_leaf after_reference (tree.class_escape e) = tree.class_escape e
 again_leaf after_reference (tree.property p) = tree.property p
-again_leaf after_reference (tree.class c) = tree.class c
+again_leaf after_reference (tree.class c) = tree.class (again_class c)
 again_leaf after_reference (tree.indexed r) = tree.indexed r
 again_leaf after_reference (tree.named r) = tree.named r
 
@@ -51,7 +52,7 @@ bare_leaf r (tree.character c) = refl
 bare_leaf r (tree.dot d) = refl
 bare_leaf r (tree.class_escape e) = refl
 bare_leaf r (tree.property p) = refl
-bare_leaf r (tree.class c) = refl
+bare_leaf r (tree.class c) = ap tree.class (bare_class c)
 bare_leaf r (tree.indexed i) = refl
 bare_leaf r (tree.named n) = refl
 
@@ -80,7 +81,7 @@ leaf_again r (tree.character c) ts = refl
 leaf_again r (tree.dot d) ts = refl
 leaf_again r (tree.class_escape e) ts = refl
 leaf_again r (tree.property p) ts = refl
-leaf_again r (tree.class c) ts = refl
+leaf_again r (tree.class c) ts = ap (λ c. class c ∷ again_tokens false ts) (unspanned_class c)
 leaf_again r (tree.indexed i) ts = refl
 leaf_again r (tree.named n) ts = refl
 

@@ -15,11 +15,13 @@ use Rattle.rx_ast.specs.declared.term.Term.TheVariants as term
 use Rattle.rx_ast.specs.declared.term.Term.TheViews as views
 use Rattle.rx_ast.specs.declared.term.Term.TheOpen as layer
 use Rattle.rx_ast.specs.declared.term.Term.TheOpen.{Term-F}
-use Rattle.rx_ast.specs.ClassTree.{mirror_class}
+use Rattle.rx_ast.specs.ClassTree.{Class, mirror_class}
 use Rattle.rx_ast.specs.Tree as tree
 use Rattle.rx_ast.specs.Tree.{Leaf, Node, Nodes, Alternatives, leaf, quantified, group, no_node, node, no_alternative, alternative, nodes, alternatives, mirror_term, mirror_alternative, mirror_disjunction}
 use Rattle.rx_ast.proofs.Equations as equations
 use Rattle.rx_model.specs.Spelling.{refers}
+use Rattle.rx_model.proofs.ClassAgain.{again_class}
+use Rattle.rx_model.proofs.ClassTrees.{class_made}
 use Rattle.rx_model.proofs.Again.{again_character, again_leaf, again_node, again_nodes, again_alternatives}
 
 -- one level of a term
@@ -66,7 +68,7 @@ Made n = (t : Term) × (mirror_term t ≡ n)
 shape_out : (t : Term) → shape (out-Term t) ≡ mirror_term t
 shape_out t = sym (shape_is (out-Term t)) ∙ ap mirror_term (roll-out-Term t)
 
--- a leaf other than a character stays as it is
+-- a leaf other than a character and a class stays as it is
 kept : (x : Layer) (n : Node) → shape x ≡ n → Made n
 kept x n e = (roll-Term x, shape_is x ∙ e)
 
@@ -77,13 +79,21 @@ character_made r (layer.Character b) c e =
     (term.Character box, equations.character_is box ∙ ap (λ c. leaf (tree.character (again_character r c))) same)
 character_made r x c e = absurd (let f : ⊥ = cc e in f)
 
+class_leaf_made : (x : Layer) (c : Class) → shape x ≡ leaf (tree.class c) → Made (leaf (tree.class (again_class c)))
+class_leaf_made (layer.CharacterClass b) c e =
+    let same : mirror_class b.value ≡ c = cc e in
+    let made = class_made b.value in
+    let box = record b { value = made.0 } in
+    (term.CharacterClass box, equations.class_is box ∙ ap (λ c. leaf (tree.class c)) (made.1 ∙ ap again_class same))
+class_leaf_made x c e = absurd (let f : ⊥ = cc e in f)
+
 leaf_made : (r : Bool) (x : Layer) (l : Leaf) → shape x ≡ leaf l → Made (leaf (again_leaf r l))
 leaf_made r x (tree.character c) e = character_made r x c e
 leaf_made r x (tree.boundary b) e = kept x (leaf (tree.boundary b)) e
 leaf_made r x (tree.dot d) e = kept x (leaf (tree.dot d)) e
 leaf_made r x (tree.class_escape k) e = kept x (leaf (tree.class_escape k)) e
 leaf_made r x (tree.property p) e = kept x (leaf (tree.property p)) e
-leaf_made r x (tree.class c) e = kept x (leaf (tree.class c)) e
+leaf_made r x (tree.class c) e = class_leaf_made x c e
 leaf_made r x (tree.indexed i) e = kept x (leaf (tree.indexed i)) e
 leaf_made r x (tree.named n) e = kept x (leaf (tree.named n)) e
 

@@ -8,8 +8,6 @@ use Rattle.std.proofs.lemmas.Fmt.{decimal_is_IsNumeral, first_decimal}
 use Rattle.std.proofs.lemmas.List.Elements.{All-head, All-tail}
 use Rattle.rx_ast.specs.declared.leaf.BoundaryAssertionKind.{BoundaryAssertionKind}
 use Rattle.rx_ast.specs.declared.leaf.BoundaryAssertionKind.TheVariants as boundaries
-use Rattle.rx_ast.specs.declared.leaf.CharacterClassEscapeKind.{CharacterClassEscapeKind}
-use Rattle.rx_ast.specs.declared.leaf.CharacterClassEscapeKind.TheVariants.{D, NegativeD, S, NegativeS, W, NegativeW}
 use Rattle.rx_ast.specs.declared.leaf.LookAroundAssertionKind.{LookAroundAssertionKind}
 use Rattle.rx_ast.specs.declared.leaf.LookAroundAssertionKind.TheVariants as look
 use Rattle.rx_tables.specs.Characters.{is_within, is_decimal_digit, is_syntax_character}
@@ -29,6 +27,8 @@ use Rattle.rx_model.specs.Shapes.{run, group_takes}
 use Rattle.rx_model.specs.Spelling.{letters, dash, look_text, indexed_text, named_text, counts_text, lazy_text, quantifier_text}
 use Rattle.rx_model.specs.Token.{Token, Opener, boundary, character, dot, class_escape, property, class, indexed, named, opener, closer, bar, quantifier, capturing, ignoring, looking}
 use Rattle.rx_model.proofs.Backs.{spelled_kind, values_literal, units-append, character_spelled, are_digits}
+use Rattle.rx_model.proofs.ClassAgain.{again_class}
+use Rattle.rx_model.proofs.ClassBacks.{BeginsOutside, class_escape_outside, property_outside, class_outside, property_spelled, class_spelled_again}
 use Rattle.rx_model.proofs.Decodings.{both}
 use Rattle.rx_model.proofs.Known.{IsKnownOpener, Known, AreKnown}
 use Rattle.rx_model.proofs.ModifierTexts.{modifiers_spelled}
@@ -42,7 +42,7 @@ again_token after_reference (boundary kind) = boundary kind
 again_token after_reference dot = dot
 again_token after_reference (class_escape kind) = class_escape kind
 again_token after_reference (property negative strings name value) = property negative strings name value
-again_token after_reference (class c) = class c
+again_token after_reference (class c) = class (again_class c)
 again_token after_reference (indexed n) = indexed n
 again_token after_reference (named name) = named name
 again_token after_reference (opener o) = opener o
@@ -103,10 +103,6 @@ character_no_digit c more =
     (λ _. cond_both (nat_lt 0x10FFFF c) _ _ P (λ _. refl) (λ _. cond_both (is_syntax_character c || c == 47) _ _ P (λ _. refl)
     (λ _. cond_both (is_decimal_digit c) _ _ P (λ _. refl) (λ other. other)))))))
 
--- Some set holds no character that this text begins with.
-abbrev BeginsOutside : (ℕ → Bool) → List ℕ → Type 0
-BeginsOutside set text = (more : List ℕ) → front_is set (text ++ more) ≡ false
-
 -- the set holds none of these: $ ( \ ^
 module _ (set : ℕ → Bool) (dollar : set 36 ≡ false) (parenthesis : set 40 ≡ false) (backslash : set 92 ≡ false) (caret : set 94 ≡ false) where
   boundary_outside : (kind : BoundaryAssertionKind) → BeginsOutside set (boundary_text kind)
@@ -117,14 +113,6 @@ module _ (set : ℕ → Bool) (dollar : set 36 ≡ false) (parenthesis : set 40 
   boundary_outside boundaries.StartBuffer more = backslash
   boundary_outside boundaries.EndBuffer more = backslash
   boundary_outside boundaries.EndBufferOptionalNewline more = backslash
-
-  class_escape_outside : (kind : CharacterClassEscapeKind) → BeginsOutside set (class_escape_text kind)
-  class_escape_outside D more = backslash
-  class_escape_outside NegativeD more = backslash
-  class_escape_outside S more = backslash
-  class_escape_outside NegativeS more = backslash
-  class_escape_outside W more = backslash
-  class_escape_outside NegativeW more = backslash
 
   look_outside : (kind : LookAroundAssertionKind) → BeginsOutside set (look_text kind)
   look_outside look.Lookahead more = parenthesis
@@ -187,9 +175,9 @@ module _ (e : Environment) (m : e.mode ≡ Unicode) (count : ℕ) (in_limit : co
   no_question ((boundary kind) ∷ ts) open_groups end r k = boundary_outside is_question refl refl refl refl kind (tokens_text Unicode false ts)
   no_question ((character kind value) ∷ ts) open_groups end r k = character_no_question value (tokens_text Unicode false ts)
   no_question (dot ∷ ts) open_groups end r k = refl
-  no_question ((class_escape kind) ∷ ts) open_groups end r k = class_escape_outside is_question refl refl refl refl kind (tokens_text Unicode false ts)
-  no_question ((property negative strings name value) ∷ ts) open_groups end r k = absurd k.0
-  no_question ((class c) ∷ ts) open_groups end r k = absurd k.0
+  no_question ((class_escape kind) ∷ ts) open_groups end r k = class_escape_outside is_question refl kind (tokens_text Unicode false ts)
+  no_question ((property negative strings name value) ∷ ts) open_groups end r k = property_outside is_question refl negative name value (tokens_text Unicode false ts)
+  no_question ((class c) ∷ ts) open_groups end r k = class_outside is_question refl c (tokens_text Unicode false ts)
   no_question ((indexed n) ∷ ts) open_groups end r k = refl
   no_question ((named name) ∷ ts) open_groups end r k = refl
   no_question ((opener o) ∷ ts) open_groups end r k = opened_outside is_question refl refl refl refl o (tokens_text Unicode false ts)
@@ -203,9 +191,9 @@ module _ (e : Environment) (m : e.mode ≡ Unicode) (count : ℕ) (in_limit : co
   no_digit ((boundary kind) ∷ ts) k = boundary_outside is_decimal_digit refl refl refl refl kind (tokens_text Unicode false ts)
   no_digit ((character kind value) ∷ ts) k = character_no_digit value (tokens_text Unicode false ts)
   no_digit (dot ∷ ts) k = refl
-  no_digit ((class_escape kind) ∷ ts) k = class_escape_outside is_decimal_digit refl refl refl refl kind (tokens_text Unicode false ts)
-  no_digit ((property negative strings name value) ∷ ts) k = absurd k.0
-  no_digit ((class c) ∷ ts) k = absurd k.0
+  no_digit ((class_escape kind) ∷ ts) k = class_escape_outside is_decimal_digit refl kind (tokens_text Unicode false ts)
+  no_digit ((property negative strings name value) ∷ ts) k = property_outside is_decimal_digit refl negative name value (tokens_text Unicode false ts)
+  no_digit ((class c) ∷ ts) k = class_outside is_decimal_digit refl c (tokens_text Unicode false ts)
   no_digit ((indexed n) ∷ ts) k = refl
   no_digit ((named name) ∷ ts) k = refl
   no_digit ((opener o) ∷ ts) k = opened_outside is_decimal_digit refl refl refl refl o (tokens_text Unicode false ts)
@@ -226,8 +214,8 @@ module _ (e : Environment) (m : e.mode ≡ Unicode) (count : ℕ) (in_limit : co
   next (character kind value) ts open_groups ready end r k = record { open_after = open_groups; ready_after = true; run_after = r; follows = tt }
   next dot ts open_groups ready end r k = record { open_after = open_groups; ready_after = true; run_after = r; follows = tt }
   next (class_escape kind) ts open_groups ready end r k = record { open_after = open_groups; ready_after = true; run_after = r; follows = tt }
-  next (property negative strings name value) ts open_groups ready end r k = absurd k.0
-  next (class c) ts open_groups ready end r k = absurd k.0
+  next (property negative strings name value) ts open_groups ready end r k = record { open_after = open_groups; ready_after = true; run_after = r; follows = tt }
+  next (class c) ts open_groups ready end r k = record { open_after = open_groups; ready_after = true; run_after = r; follows = tt }
   next (indexed n) ts open_groups ready end r k = record { open_after = open_groups; ready_after = true; run_after = r; follows = no_digit ts k.1 }
   next (named name) ts open_groups ready end r k = record { open_after = open_groups; ready_after = true; run_after = r; follows = tt }
   next (opener o) ts open_groups ready end r k = record {
@@ -271,8 +259,8 @@ module _ (e : Environment) (m : e.mode ≡ Unicode) (count : ℕ) (in_limit : co
   token_again after_reference (character kind value) k h more f at behind = character_spelled e m after_reference value h at behind more
   token_again after_reference dot k h more f at behind = refl
   token_again after_reference (class_escape kind) k h more f at behind = values_literal at (class_escape_text kind)
-  token_again after_reference (property negative strings name value) k h more f at behind = absurd k
-  token_again after_reference (class c) k h more f at behind = absurd k
+  token_again after_reference (property negative strings name value) k h more f at behind = property_spelled e m negative strings name value k at
+  token_again after_reference (class c) k h more f at behind = class_spelled_again e m c k h at (literal_units true behind more)
   token_again after_reference (indexed n) k h more f at behind = record {
     digits = decimal n;
     whole = values_literal at (indexed_text n);

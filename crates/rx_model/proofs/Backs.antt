@@ -54,33 +54,33 @@ hex_bound (suc k) = 16 * hex_bound k
 hex_last : (n m : ℕ) (xs : List ℕ) → hex_number xs ≡ Some m → 16 * m + n % 16 ≡ n → hex_number (xs ++ (hex_digit (n % 16) ∷ [])) ≡ Some n
 hex_last n m xs h e = hex_push 0 xs m (n % 16) h (omega arith) ∙ ap Some e
 
-hex_read : (k n : ℕ) → n < hex_bound k → hex_number (hex k n) ≡ Some n
+pub hex_read : (k n : ℕ) → n < hex_bound k → hex_number (hex k n) ≡ Some n
 hex_read zero n h = ap Some (omega (arith, h))
 hex_read (suc k) n h =
     cond_both (nat_lt n 16) [] (hex k (n / 16)) (λ text. hex_number (text ++ (hex_digit (n % 16) ∷ [])) ≡ Some n)
     (λ small. hex_last n 0 [] refl (let s : n < 16 = grind (arith, nat_tests) in omega (arith, s)))
     (λ _. hex_last n (n / 16) (hex k (n / 16)) (hex_read k (n / 16) (omega (arith, h))) (omega arith))
 
-braced_from : (v : ℕ) (ds rest : List ℕ) → ds ≢ [] → hex_number ds ≡ Some v → v ≤ 0x10FFFF → SpellsUnicode true v (117 ∷ 123 ∷ (ds ++ (125 ∷ []))) rest
+pub braced_from : (v : ℕ) (ds rest : List ℕ) → ds ≢ [] → hex_number ds ≡ Some v → v ≤ 0x10FFFF → SpellsUnicode true v (117 ∷ 123 ∷ (ds ++ (125 ∷ []))) rest
 braced_from v [] rest some h low = absurd (some refl)
 braced_from v (x ∷ xs) rest some h low = in_escape.braced x xs h low
 
-two_read : (c : ℕ) → c < 256 → hex_number (hex_digit (c / 16 % 16) ∷ hex_digit (c % 16) ∷ []) ≡ Some c
+pub two_read : (c : ℕ) → c < 256 → hex_number (hex_digit (c / 16 % 16) ∷ hex_digit (c % 16) ∷ []) ≡ Some c
 two_read c h =
     hex_push 0 (hex_digit (c / 16 % 16) ∷ []) (c / 16) (c % 16)
     (hex_push 0 [] 0 (c / 16 % 16) refl (omega arith) ∙ ap Some (omega (arith, h))) (omega arith)
     ∙ ap Some (omega arith)
 
-two_small : (c : ℕ) → (nat_lt c 32 || is_within 127 159 c) ≡ true → c < 256
+pub two_small : (c : ℕ) → (nat_lt c 32 || is_within 127 159 c) ≡ true → c < 256
 two_small c h = grind (arith, nat_tests)
 
-control_read : (c : ℕ) → is_within 9 13 c ≡ true → control_escape_value (control_letter c) ≡ Some c
+pub control_read : (c : ℕ) → is_within 9 13 c ≡ true → control_escape_value (control_letter c) ≡ Some c
 control_read c h = grind (arith, nat_tests)
 
-not_lead : (c : ℕ) → (c == 0x2028 || c == 0x2029) ≡ true → IsLeadSurrogate c → ⊥
+pub not_lead : (c : ℕ) → (c == 0x2028 || c == 0x2029) ≡ true → IsLeadSurrogate c → ⊥
 not_lead c h l = grind (arith, nat_tests, l)
 
-four_read : (c : ℕ) → (c == 0x2028 || c == 0x2029) ≡ true → hex_number (hex_digit (c / 4096 % 16) ∷ hex_digit (c / 256 % 16) ∷ hex_digit (c / 16 % 16) ∷ hex_digit (c % 16) ∷ []) ≡ Some c
+pub four_read : (c : ℕ) → (c == 0x2028 || c == 0x2029) ≡ true → hex_number (hex_digit (c / 4096 % 16) ∷ hex_digit (c / 256 % 16) ∷ hex_digit (c / 16 % 16) ∷ hex_digit (c % 16) ∷ []) ≡ Some c
 four_read c h =
     let low : c < 65536 = grind (arith, nat_tests) in
     hex_push 0 (hex_digit (c / 4096 % 16) ∷ hex_digit (c / 256 % 16) ∷ hex_digit (c / 16 % 16) ∷ []) (c / 16) (c % 16)

@@ -1,4 +1,4 @@
--- What a backslash begins: a boundary, a class escape or a character escape, read as it is spelled.
+-- What a backslash begins: a boundary, a class escape, a property escape or a character escape, read as it is spelled.
 use Rattle.std.proofs.Common.{◌≡◌, ℕ, ◌+◌, ◌*◌, ◌==◌, Bool, true, false, cond, ◌&&◌, List, [], ◌∷◌, ◌++◌, length, Some, None, refl, sym, ap, ◌∙◌, arith, inl, inr}
 use Rattle.std.proofs.lemmas.Bool.{eqb-true, cond-true, cond-false, and_left, and_from}
 use Rattle.std.proofs.lemmas.Bool.Decides.{nat_tests}
@@ -13,25 +13,30 @@ use Rattle.rx_model.specs.Boundaries.{boundary_text, has_buffers, has_boundary}
 use Rattle.rx_model.specs.ClassText.{class_escape_text}
 use Rattle.rx_model.specs.Environment.{Environment, is_unicode}
 use Rattle.rx_model.specs.Escapes.{front_is, SpellsEscape, control, letter, null, hexadecimal, unicode, identity}
-use Rattle.rx_model.specs.Fronts.{escape_at, buffer_at, boundary_at, class_escape_at, escaped_token, backslash_token, digits, digits_behind, indexed_token, backslash_front}
+use Rattle.rx_model.specs.Fronts.{escape_at, buffer_at, boundary_at, class_escape_at, escaped_token, backslash_token, digits, digits_behind, indexed_token, property_token, backslash_front}
 use Rattle.rx_model.specs.Groups.{IsIndexed}
+use Rattle.rx_model.specs.PropertyFronts.{property_front}
 use Rattle.rx_model.specs.Marks.{starts}
 use Rattle.rx_model.specs.Quantifiers.{decimal_digit_value, decimal_behind, AreDigits}
 use Rattle.rx_model.specs.Token.{character, class_escape, indexed}
+use Rattle.rx_model.specs.PropertyForms.{begins_property}
 use Rattle.rx_model.proofs.Decodings.{chosen}
 use Rattle.rx_model.proofs.Escapes.{begins_with_u, spelled_escape}
 use Rattle.rx_model.proofs.Quantifiers.{digits_read, digits_found}
 use Rattle.rx_model.proofs.Splits.{TextFront}
 
--- the character begins neither a reference nor a boundary nor a class escape
-record BeginsEscape (e : Environment) (w : List ℕ) : Type 0 where
-  first : ℕ
-  behind : List ℕ
-  whole : w ≡ first ∷ behind
+-- the character begins neither a reference nor a boundary nor a class escape nor a property escape, and is not `-`
+pub record BeginsEscape (e : Environment) (w : List ℕ) : Type 0 where
+  pub first : ℕ
+  pub behind : List ℕ
+  pub whole : w ≡ first ∷ behind
   no_digit : is_within 49 57 first ≡ false
   no_k : (first == 107) ≡ false
   no_boundary : boundary_at e first ≡ None
-  no_class : class_escape_at first ≡ None
+  pub no_property : begins_property first ≡ false
+  pub no_class : class_escape_at first ≡ None
+  pub no_b : (first == 98) ≡ false
+  pub no_hyphen : (first == 45) ≡ false
 
 same_both : {A : Type 0} (b : Bool) (x : A) → cond b x x ≡ x
 same_both true x = refl
@@ -40,15 +45,16 @@ same_both false x = refl
 no_boundary_at : (e : Environment) (c : ℕ) → (c == 98) ≡ false → (c == 66) ≡ false → buffer_at c ≡ None → boundary_at e c ≡ None
 no_boundary_at e c h k l = rw (h, k, l) (same_both (has_buffers e) None)
 
--- what is behind a backslash where no reference begins
-pub unreferred : (e : Environment) (c : ℕ) (w : List ℕ) → is_within 49 57 c ≡ false → (c == 107) ≡ false →
+-- what is behind a backslash where neither a reference nor a property escape begins
+pub unreferred : (e : Environment) (c : ℕ) (w : List ℕ) → is_within 49 57 c ≡ false → (c == 107) ≡ false → begins_property c ≡ false →
     backslash_front e (c ∷ w) ≡ backslash_token (boundary_at e c) (class_escape_at c) (escape_at (is_unicode e.mode) (c ∷ w))
 unfolding backslash_front
-unreferred e c w h k =
+unreferred e c w h k l =
     cond-false (is_within 49 57 c && is_unicode e.mode) _ _ (and_left _ (is_unicode e.mode) h)
     ∙ cond-false (c == 107 && e.named) _ _ (and_left _ e.named k)
+    ∙ cond-false (begins_property c && is_unicode e.mode) _ _ (and_left _ (is_unicode e.mode) l)
 
-begins : (e : Environment) (kind : CharacterKind) (v : ℕ) (w rest : List ℕ) → SpellsEscape e kind v w rest → BeginsEscape e w
+pub begins : (e : Environment) (kind : CharacterKind) (v : ℕ) (w rest : List ℕ) → SpellsEscape e kind v w rest → BeginsEscape e w
 begins e _ v _ rest (control {c} h) = record {
   first = c;
   behind = [];
@@ -56,7 +62,10 @@ begins e _ v _ rest (control {c} h) = record {
   no_digit = grind (arith, nat_tests);
   no_k = grind (arith, nat_tests);
   no_boundary = no_boundary_at e c (grind (arith, nat_tests)) (grind (arith, nat_tests)) (grind (arith, nat_tests));
+  no_property = grind (arith, nat_tests);
   no_class = grind (arith, nat_tests);
+  no_b = grind (arith, nat_tests);
+  no_hyphen = grind (arith, nat_tests);
 }
 begins e _ v _ rest (letter {c} h) = record {
   first = 99;
@@ -65,7 +74,10 @@ begins e _ v _ rest (letter {c} h) = record {
   no_digit = refl;
   no_k = refl;
   no_boundary = no_boundary_at e 99 refl refl refl;
+  no_property = refl;
   no_class = refl;
+  no_b = refl;
+  no_hyphen = refl;
 }
 begins e _ _ _ rest (null h) = record {
   first = 48;
@@ -74,7 +86,10 @@ begins e _ _ _ rest (null h) = record {
   no_digit = refl;
   no_k = refl;
   no_boundary = no_boundary_at e 48 refl refl refl;
+  no_property = refl;
   no_class = refl;
+  no_b = refl;
+  no_hyphen = refl;
 }
 begins e _ v _ rest (hexadecimal {a} {b} h) = record {
   first = 120;
@@ -83,7 +98,10 @@ begins e _ v _ rest (hexadecimal {a} {b} h) = record {
   no_digit = refl;
   no_k = refl;
   no_boundary = no_boundary_at e 120 refl refl refl;
+  no_property = refl;
   no_class = refl;
+  no_b = refl;
+  no_hyphen = refl;
 }
 begins e _ v w rest (unicode s) = let u = begins_with_u s in record {
   first = 117;
@@ -92,7 +110,10 @@ begins e _ v w rest (unicode s) = let u = begins_with_u s in record {
   no_digit = refl;
   no_k = refl;
   no_boundary = no_boundary_at e 117 refl refl refl;
+  no_property = refl;
   no_class = refl;
+  no_b = refl;
+  no_hyphen = refl;
 }
 begins e _ _ _ rest (identity {c} u h) = record {
   first = c;
@@ -101,14 +122,17 @@ begins e _ _ _ rest (identity {c} u h) = record {
   no_digit = grind (arith, nat_tests);
   no_k = grind (arith, nat_tests);
   no_boundary = no_boundary_at e c (grind (arith, nat_tests)) (grind (arith, nat_tests)) (grind (arith, nat_tests));
+  no_property = grind (arith, nat_tests);
   no_class = grind (arith, nat_tests);
+  no_b = grind (arith, nat_tests);
+  no_hyphen = grind (arith, nat_tests);
 }
 
 pub escape_token : (e : Environment) (kind : CharacterKind) (v : ℕ) (w rest : List ℕ) → SpellsEscape e kind v w rest → backslash_front e (w ++ rest) ≡ Some (character kind v, length w + 1)
 escape_token e kind v w rest s =
     let b = begins e kind v w rest s in
     ap (λ w. backslash_front e (w ++ rest)) b.whole
-    ∙ unreferred e b.first (b.behind ++ rest) b.no_digit b.no_k
+    ∙ unreferred e b.first (b.behind ++ rest) b.no_digit b.no_k b.no_property
     ∙ ap (λ x. backslash_token x (class_escape_at b.first) (escape_at (is_unicode e.mode) (b.first ∷ b.behind ++ rest))) b.no_boundary
     ∙ ap (λ x. backslash_token None x (escape_at (is_unicode e.mode) (b.first ∷ b.behind ++ rest))) b.no_class
     ∙ ap (λ w. escaped_token (escape_at (is_unicode e.mode) (w ++ rest))) (sym b.whole)
@@ -174,13 +198,13 @@ class_found kind c h = elim (chosen (c == 100) h) [
 ]
 
 -- The boundaries of the buffer, as they are read.
-pub buffer_token : (e : Environment) (c : ℕ) (rest : List ℕ) → has_buffers e ≡ true → is_within 49 57 c ≡ false → (c == 107) ≡ false → (c == 98) ≡ false → (c == 66) ≡ false →
+pub buffer_token : (e : Environment) (c : ℕ) (rest : List ℕ) → has_buffers e ≡ true → is_within 49 57 c ≡ false → (c == 107) ≡ false → begins_property c ≡ false → (c == 98) ≡ false → (c == 66) ≡ false →
     backslash_front e (c ∷ rest) ≡ backslash_token (buffer_at c) (class_escape_at c) (escape_at (is_unicode e.mode) (c ∷ rest))
-buffer_token e c rest b d n h k = unreferred e c rest d n ∙ rw (h, k, b) refl
+buffer_token e c rest b d n p h k = unreferred e c rest d n p ∙ rw (h, k, b) refl
 
-pub class_token : (e : Environment) (kind : CharacterClassEscapeKind) (c : ℕ) (rest : List ℕ) → is_within 49 57 c ≡ false → (c == 107) ≡ false → (c == 98) ≡ false → (c == 66) ≡ false →
+pub class_token : (e : Environment) (kind : CharacterClassEscapeKind) (c : ℕ) (rest : List ℕ) → is_within 49 57 c ≡ false → (c == 107) ≡ false → begins_property c ≡ false → (c == 98) ≡ false → (c == 66) ≡ false →
     buffer_at c ≡ None → class_escape_at c ≡ Some kind → backslash_front e (c ∷ rest) ≡ Some (class_escape kind, 2)
-class_token e kind c rest d n h k l f = unreferred e c rest d n ∙ rw (no_boundary_at e c h k l, f) refl
+class_token e kind c rest d n p h k l f = unreferred e c rest d n p ∙ rw (no_boundary_at e c h k l, f) refl
 
 -- a digit that is not 0
 from_one : (c d : ℕ) → decimal_digit_value c ≡ Some d → (c == 48) ≡ false → is_within 49 57 c ≡ true
@@ -237,3 +261,18 @@ indexed_spelled e n count c w rest h u f =
         unicode = u;
       };
     }
+
+letter_no_digit : (c : ℕ) → begins_property c ≡ true → is_within 49 57 c ≡ false
+letter_no_digit c h = grind (arith, nat_tests)
+
+letter_no_k : (c : ℕ) → begins_property c ≡ true → (c == 107) ≡ false
+letter_no_k c h = grind (arith, nat_tests)
+
+-- A property escape, as it is read.
+pub property_front_token : (e : Environment) (c : ℕ) (w : List ℕ) → is_unicode e.mode ≡ true → begins_property c ≡ true →
+    backslash_front e (c ∷ w) ≡ property_token (property_front e.mode (c ∷ w))
+unfolding backslash_front
+property_front_token e c w u h =
+    cond-false (is_within 49 57 c && is_unicode e.mode) _ _ (and_left _ (is_unicode e.mode) (letter_no_digit c h))
+    ∙ cond-false (c == 107 && e.named) _ _ (and_left _ e.named (letter_no_k c h))
+    ∙ cond-true (begins_property c && is_unicode e.mode) _ _ (and_from _ _ h u)

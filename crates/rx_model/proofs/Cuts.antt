@@ -1,7 +1,9 @@
 -- Each token is a whole row of marks.
-use Rattle.std.proofs.Common.{◌≡◌, ℕ, Bool, true, false, not, is_some, Some, None, List, [], ◌∷◌, ◌++◌, refl, sym, ap, ◌∙◌, subst, inl, inr, codes}
-use Rattle.std.proofs.lemmas.List.Elements.{All-nil}
+use Rattle.std.proofs.Common.{◌≡◌, ℕ, Bool, true, false, not, is_some, Option, Some, None, List, [], ◌∷◌, ◌++◌, refl, sym, ap, ◌∙◌, subst, inl, inr, codes}
+use Rattle.std.specs.List.{list_all}
+use Rattle.std.proofs.lemmas.List.Elements.{All-nil, All-cons}
 use Rattle.rx_tables.specs.Characters.{control_letter_value, is_syntax_character}
+use Rattle.rx_ast.specs.ClassTree.{Class}
 use Rattle.rx_ast.specs.declared.leaf.BoundaryAssertionKind.{BoundaryAssertionKind}
 use Rattle.rx_ast.specs.declared.leaf.BoundaryAssertionKind.TheVariants as boundaries
 use Rattle.rx_ast.specs.declared.leaf.CharacterClassEscapeKind.{CharacterClassEscapeKind}
@@ -14,20 +16,25 @@ use Rattle.rx_units.specs.Units.{values}
 use Rattle.rx_model.specs.declared.mode.Mode.{Mode}
 use Rattle.rx_model.specs.declared.mode.Mode.TheVariants.{Legacy, Unicode, Sets}
 use Rattle.rx_model.specs.Boundaries.{boundary_text}
-use Rattle.rx_model.specs.ClassText.{class_escape_text}
+use Rattle.rx_model.specs.ClassRows.{IsClass}
+use Rattle.rx_model.specs.ClassText.{class_escape_text, property_opener}
 use Rattle.rx_model.specs.Cuts.{AreMarksOf, AreOthers, IsCut, IsOpening}
 use Rattle.rx_model.specs.Environment.{Environment, is_unicode}
 use Rattle.rx_model.specs.Escapes.{front_is, SpellsEscape, control, letter, null, hexadecimal, unicode, identity}
 use Rattle.rx_model.specs.Groups.{IsIndexed, IsModified, IsNamed, IsNaming, SpellsOpener}
 use Rattle.rx_model.specs.Marks as mark
 use Rattle.rx_model.specs.Marks.{Mark, mark_front, marks}
+use Rattle.rx_model.specs.PropertyEscapes.{IsProperty}
 use Rattle.rx_model.specs.Quantifiers.{is_question, lazy_mark}
 use Rattle.rx_model.specs.Rows.{IsEscaped, IsRaw, Spells, stands_raw}
 use Rattle.rx_model.specs.Spelling.{look_text}
 use Rattle.rx_model.specs.Token.{Token, Opener, boundary, character, dot, class_escape, property, class, indexed, named, opener, closer, bar, quantifier, capturing, ignoring, looking}
+use Rattle.rx_model.proofs.ClassMarks.{class_marks}
+use Rattle.rx_model.proofs.Decodings.{both}
 use Rattle.rx_model.proofs.GroupNames.{group_name_read, name_anywhere}
 use Rattle.rx_model.proofs.OpenerMarks.{modifier_marks, naming_marks}
 use Rattle.rx_model.proofs.OtherMarks.{is_plain, plain_in, GiveOthers, nothing_others, plain_others, escape_others, append_others, all_plain_others, hex_others, escaped_digits_others, unicode_others, name_others, counts_others, lazy_others}
+use Rattle.rx_model.proofs.PropertyWords.{is_property_unit, property_units}
 
 module _ (e : Environment) where
   -- behind a backslash a character escape opens and closes nothing
@@ -137,6 +144,30 @@ named_others e name w rest s =
     subst GiveOthers (sym s.whole) (escape_others 107 (60 ∷ (s.spelled ++ (62 ∷ []))) (plain_others 60 (s.spelled ++ (62 ∷ [])) refl
     (append_others s.spelled (62 ∷ []) (name_others (is_unicode e.mode) name s.spelled (62 ∷ values rest) s.spells) (all_plain_others (62 ∷ []) refl))))
 
+-- property escapes and classes
+property_units_others : (text : List ℕ) → list_all is_property_unit text ≡ true → GiveOthers text
+property_units_others [] h = nothing_others
+property_units_others (u ∷ text) h =
+    let p = both (is_property_unit u) (list_all is_property_unit text) h in
+    plain_others u text (plain_in is_property_unit u refl p.0) (property_units_others text p.1)
+
+property_opener_others : (negative : Bool) (w : List ℕ) → GiveOthers w → GiveOthers (property_opener negative ++ w)
+property_opener_others true w q = escape_others 80 (123 ∷ w) (plain_others 123 w refl q)
+property_opener_others false w q = escape_others 112 (123 ∷ w) (plain_others 123 w refl q)
+
+property_others : (e : Environment) (negative strings : Bool) (name : List ℕ) (value : Option (List ℕ)) (w : List CodePoint) → IsProperty e negative strings name value w →
+    GiveOthers (values w)
+property_others e negative strings name value w s =
+    subst GiveOthers (sym s.whole) (property_opener_others negative (s.text ++ (125 ∷ []))
+    (append_others s.text (125 ∷ []) (property_units_others s.text (property_units e.mode strings name value s.text s.spelled)) (all_plain_others (125 ∷ []) refl)))
+
+class_cut : (e : Environment) (c : Class) (w rest : List CodePoint) → IsClass e c w rest → IsCut (is_unicode e.mode) (class c) w rest
+class_cut e c w rest s = record {
+  cut = mark.other ∷ [];
+  whole = class_marks e c w rest s;
+  are = All-cons (λ m. m ≡ mark.other) mark.other [] refl (All-nil (λ m. m ≡ mark.other));
+}
+
 closing_marks : (us : List ℕ) → marks (41 ∷ us) ≡ mark.closer ∷ marks us
 unfolding mark_front
 closing_marks us = refl
@@ -151,8 +182,9 @@ token_cut e (character kind v) w rest s =
     others_cut (is_unicode e.mode) (character kind v) w rest (elim s [ inl r ↦ raw_others e kind v w r | inr r ↦ escaped_others e kind v w rest r ]) (λ ms h. h)
 token_cut e dot w rest s = others_cut (is_unicode e.mode) dot w rest (subst GiveOthers (sym s) (all_plain_others (46 ∷ []) refl)) (λ ms h. h)
 token_cut e (class_escape kind) w rest s = others_cut (is_unicode e.mode) (class_escape kind) w rest (subst GiveOthers (sym s) (class_escape_others kind)) (λ ms h. h)
-token_cut e (property negative strings name value) w rest s = absurd s
-token_cut e (class c) w rest s = absurd s
+token_cut e (property negative strings name value) w rest s =
+    others_cut (is_unicode e.mode) (property negative strings name value) w rest (property_others e negative strings name value w s) (λ ms h. h)
+token_cut e (class c) w rest s = class_cut e c w rest s
 token_cut e (indexed n) w rest s = others_cut (is_unicode e.mode) (indexed n) w rest (indexed_others e n w rest s) (λ ms h. h)
 token_cut e (named name) w rest s = others_cut (is_unicode e.mode) (named name) w rest (named_others e name w rest s) (λ ms h. h)
 token_cut e (opener o) w rest s = opener_cut e o w rest s

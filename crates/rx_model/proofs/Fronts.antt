@@ -1,7 +1,7 @@
 -- At most one token is at the front of a text, since reading it is a function: what is spelled is read, and what is read is spelled.
 use Rattle.std.proofs.Common.{◌≡◌, refl, ap, ap₂, sym, ◌∙◌, subst, ℕ, ◌+◌, ◌<◌, Bool, true, false, cond, not, ◌&&◌, ◌==◌, Option, Some, None, List, [], ◌∷◌, ◌++◌, length, drop, arith, inl, inr, append_assoc, length-append}
 use Rattle.std.proofs.Math.Seq.{drop-append_seam}
-use Rattle.std.proofs.lemmas.Bool.{eqb-true, cond-true, cond-false}
+use Rattle.std.proofs.lemmas.Bool.{eqb-true, cond-true, cond-false, not-true}
 use Rattle.std.proofs.lemmas.List.{append-nil, length-map, map-append}
 use Rattle.rx_tables.specs.Characters.{is_syntax_character, is_within}
 use Rattle.rx_ast.specs.declared.leaf.BoundaryAssertionKind.{BoundaryAssertionKind}
@@ -9,23 +9,31 @@ use Rattle.rx_ast.specs.declared.leaf.BoundaryAssertionKind.TheVariants as bound
 use Rattle.rx_ast.specs.declared.leaf.CharacterClassEscapeKind.{CharacterClassEscapeKind}
 use Rattle.rx_ast.specs.declared.leaf.CharacterClassEscapeKind.TheVariants as classes
 use Rattle.rx_ast.specs.declared.leaf.CharacterKind.{CharacterKind}
+use Rattle.rx_ast.specs.ClassTree.{Class}
 use Rattle.rx_units.specs.declared.code_point.CodePoint.{CodePoint}
 use Rattle.rx_units.specs.Units.{values}
 use Rattle.rx_model.specs.declared.mode.Mode.{Mode}
 use Rattle.rx_model.specs.declared.mode.Mode.TheVariants.{Legacy, Unicode, Sets}
 use Rattle.rx_model.specs.Boundaries.{boundary_text}
 use Rattle.rx_model.specs.ClassText.{class_escape_text}
+use Rattle.rx_model.specs.ClassFronts.{class_front}
+use Rattle.rx_model.specs.ClassRows.{IsClass}
 use Rattle.rx_model.specs.Environment.{Environment, is_unicode}
 use Rattle.rx_model.specs.Escapes.{front_is, SpellsEscape}
-use Rattle.rx_model.specs.Fronts.{EscapeRead, escaped, nothing, too_many, no_unicode, escape_at, boundary_at, class_escape_at, escaped_token, backslash_token, backslash_front, Counts, counts, no_counts, counts_at, quantifier_token, opener_token, Digits, digits, digits_behind, indexed_token, named_token, syntax_front, front}
+use Rattle.rx_model.specs.Fronts.{EscapeRead, escaped, nothing, too_many, no_unicode, escape_at, boundary_at, class_escape_at, escaped_token, backslash_token, backslash_front, Counts, counts, no_counts, counts_at, quantifier_token, opener_token, bracket_token, property_token, Digits, digits, digits_behind, indexed_token, named_token, syntax_front, front}
 use Rattle.rx_model.specs.GroupFronts.{group_front, reference_front}
+use Rattle.rx_model.specs.PropertyFronts.{PropertyRead, property_read, no_property, property_front}
 use Rattle.rx_model.specs.Quantifiers.{SpellsCounts, SpellsBraces, star, plus, optional, braces, exactly, at_least, between, lazy_mark, is_question, IsQuantifier}
-use Rattle.rx_model.specs.Rows.{unit_kind, stands_raw, IsRaw, IsEscaped, IsBoundary, Spells}
+use Rattle.rx_model.specs.UnitKinds.{unit_kind}
+use Rattle.rx_model.specs.Rows.{stands_raw, IsRaw, IsEscaped, IsBoundary, Spells}
 use Rattle.rx_model.specs.Token.{Token, Opener, boundary, character, dot, class_escape, property, class, indexed, named, opener, closer, bar, quantifier}
-use Rattle.rx_model.proofs.Backslashes.{escape_token, boundary_found, class_found, buffer_token, class_token, indexed_front, indexed_spelled}
+use Rattle.rx_model.specs.PropertyForms.{begins_property}
+use Rattle.rx_model.proofs.Backslashes.{escape_token, boundary_found, class_found, buffer_token, class_token, indexed_front, indexed_spelled, property_front_token}
+use Rattle.rx_model.proofs.ClassFronts.{class_read, class_spelled}
 use Rattle.rx_model.proofs.Decodings.{chosen, Some-inj, both}
 use Rattle.rx_model.proofs.Escapes.{escape_spelled}
 use Rattle.rx_model.proofs.GroupFronts.{opener_read, opener_spelled, named_read, named_spelled}
+use Rattle.rx_model.proofs.PropertyFronts.{property_row, property_text}
 use Rattle.rx_model.proofs.Quantifiers.{spelled_counts, counts_spelled}
 use Rattle.rx_model.proofs.Splits.{split_values, TextFront}
 
@@ -34,18 +42,20 @@ syntax_not_raw Legacy c e = refl
 syntax_not_raw Unicode c e = ap not e
 syntax_not_raw Sets c e = ap not e
 
--- the token at the front, where its first character does not stand for itself
+-- the token at the front, where its first character is no `[` and does not stand for itself
 abbrev front_of_values : Environment → List ℕ → Option (Token × ℕ)
 front_of_values e [] = None
 front_of_values e (c ∷ w) = cond (c == 92) (backslash_front e w) (syntax_front e c w)
 
-pub front_by_values : (e : Environment) (us : List CodePoint) (c : ℕ) (w : List ℕ) → is_syntax_character c ≡ true → values us ≡ c ∷ w → front e us ≡ front_of_values e (c ∷ w)
+pub front_by_values : (e : Environment) (us : List CodePoint) (c : ℕ) (w : List ℕ) → (is_syntax_character c && not (c == 91)) ≡ true → values us ≡ c ∷ w → front e us ≡ front_of_values e (c ∷ w)
 unfolding front
 front_by_values e [] c w s h = absurd (let k : ⊥ = cc h in k)
 front_by_values e (u ∷ us) c w s h =
     let same : u.value ≡ c = cc h in
     let equal : values us ≡ w = cc h in
-    cond-false (stands_raw e.mode u.value) _ _ (ap (stands_raw e.mode) same ∙ syntax_not_raw e.mode c s)
+    let b = both (is_syntax_character c) (not (c == 91)) s in
+    cond-false (stands_raw e.mode u.value) _ _ (ap (stands_raw e.mode) same ∙ syntax_not_raw e.mode c b.0)
+    ∙ ap (cond (u.value == 92) (backslash_front e (values us))) (cond-false (u.value == 91) _ _ (ap (λ c. c == 91) same ∙ not-true (c == 91) b.1))
     ∙ ap (λ c. front_of_values e (c ∷ values us)) same
     ∙ ap (λ w. front_of_values e (c ∷ w)) equal
 
@@ -54,8 +64,8 @@ question_there [] h = absurd (let k : ⊥ = cc h in k)
 question_there (c ∷ w) h = (w, ap (λ c. c ∷ w) (eqb-true c 63 h))
 
 module _ (e : Environment) where
-  -- a token whose spelling begins with a syntax character
-  by_text : (t : Token) (c : ℕ) (text : List ℕ) (w rest : List CodePoint) → is_syntax_character c ≡ true → values w ≡ c ∷ text →
+  -- a token whose spelling begins with a syntax character other than `[`
+  by_text : (t : Token) (c : ℕ) (text : List ℕ) (w rest : List CodePoint) → (is_syntax_character c && not (c == 91)) ≡ true → values w ≡ c ∷ text →
       front_of_values e (c ∷ (text ++ values rest)) ≡ Some (t, length (c ∷ text)) → front e (w ++ rest) ≡ Some (t, length w)
   by_text t c text w rest s h f =
       front_by_values e (w ++ rest) c (text ++ values rest) s (map-append (λ u. u.value) w rest ∙ ap (λ v. v ++ values rest) h)
@@ -77,24 +87,24 @@ module _ (e : Environment) where
   boundary_front boundaries.End w rest s = by_text (boundary boundaries.End) 36 [] w rest refl s.text refl
   boundary_front boundaries.Boundary w rest s = by_text (boundary boundaries.Boundary) 92 (98 ∷ []) w rest refl s.text refl
   boundary_front boundaries.NegativeBoundary w rest s = by_text (boundary boundaries.NegativeBoundary) 92 (66 ∷ []) w rest refl s.text refl
-  boundary_front boundaries.StartBuffer w rest s = by_text (boundary boundaries.StartBuffer) 92 (65 ∷ []) w rest refl s.text (buffer_token e 65 (values rest) s.there refl refl refl refl)
-  boundary_front boundaries.EndBuffer w rest s = by_text (boundary boundaries.EndBuffer) 92 (122 ∷ []) w rest refl s.text (buffer_token e 122 (values rest) s.there refl refl refl refl)
-  boundary_front boundaries.EndBufferOptionalNewline w rest s = by_text (boundary boundaries.EndBufferOptionalNewline) 92 (90 ∷ []) w rest refl s.text (buffer_token e 90 (values rest) s.there refl refl refl refl)
+  boundary_front boundaries.StartBuffer w rest s = by_text (boundary boundaries.StartBuffer) 92 (65 ∷ []) w rest refl s.text (buffer_token e 65 (values rest) s.there refl refl refl refl refl)
+  boundary_front boundaries.EndBuffer w rest s = by_text (boundary boundaries.EndBuffer) 92 (122 ∷ []) w rest refl s.text (buffer_token e 122 (values rest) s.there refl refl refl refl refl)
+  boundary_front boundaries.EndBufferOptionalNewline w rest s = by_text (boundary boundaries.EndBufferOptionalNewline) 92 (90 ∷ []) w rest refl s.text (buffer_token e 90 (values rest) s.there refl refl refl refl refl)
 
-  class_front : (kind : CharacterClassEscapeKind) (w rest : List CodePoint) → values w ≡ class_escape_text kind → front e (w ++ rest) ≡ Some (class_escape kind, length w)
-  class_front classes.D w rest s = by_text (class_escape classes.D) 92 (100 ∷ []) w rest refl s (class_token e classes.D 100 (values rest) refl refl refl refl refl refl)
-  class_front classes.NegativeD w rest s = by_text (class_escape classes.NegativeD) 92 (68 ∷ []) w rest refl s (class_token e classes.NegativeD 68 (values rest) refl refl refl refl refl refl)
-  class_front classes.S w rest s = by_text (class_escape classes.S) 92 (115 ∷ []) w rest refl s (class_token e classes.S 115 (values rest) refl refl refl refl refl refl)
-  class_front classes.NegativeS w rest s = by_text (class_escape classes.NegativeS) 92 (83 ∷ []) w rest refl s (class_token e classes.NegativeS 83 (values rest) refl refl refl refl refl refl)
-  class_front classes.W w rest s = by_text (class_escape classes.W) 92 (119 ∷ []) w rest refl s (class_token e classes.W 119 (values rest) refl refl refl refl refl refl)
-  class_front classes.NegativeW w rest s = by_text (class_escape classes.NegativeW) 92 (87 ∷ []) w rest refl s (class_token e classes.NegativeW 87 (values rest) refl refl refl refl refl refl)
+  class_escape_front : (kind : CharacterClassEscapeKind) (w rest : List CodePoint) → values w ≡ class_escape_text kind → front e (w ++ rest) ≡ Some (class_escape kind, length w)
+  class_escape_front classes.D w rest s = by_text (class_escape classes.D) 92 (100 ∷ []) w rest refl s (class_token e classes.D 100 (values rest) refl refl refl refl refl refl refl)
+  class_escape_front classes.NegativeD w rest s = by_text (class_escape classes.NegativeD) 92 (68 ∷ []) w rest refl s (class_token e classes.NegativeD 68 (values rest) refl refl refl refl refl refl refl)
+  class_escape_front classes.S w rest s = by_text (class_escape classes.S) 92 (115 ∷ []) w rest refl s (class_token e classes.S 115 (values rest) refl refl refl refl refl refl refl)
+  class_escape_front classes.NegativeS w rest s = by_text (class_escape classes.NegativeS) 92 (83 ∷ []) w rest refl s (class_token e classes.NegativeS 83 (values rest) refl refl refl refl refl refl refl)
+  class_escape_front classes.W w rest s = by_text (class_escape classes.W) 92 (119 ∷ []) w rest refl s (class_token e classes.W 119 (values rest) refl refl refl refl refl refl refl)
+  class_escape_front classes.NegativeW w rest s = by_text (class_escape classes.NegativeW) 92 (87 ∷ []) w rest refl s (class_token e classes.NegativeW 87 (values rest) refl refl refl refl refl refl refl)
 
   -- what the prefix of a quantifier begins with
   record Beginning (prefix : List ℕ) : Type 0 where
     first : ℕ
     more : List ℕ
     whole : prefix ≡ first ∷ more
-    is_syntax : is_syntax_character first ≡ true
+    is_syntax : (is_syntax_character first && not (first == 91)) ≡ true
     read_so : (w : List ℕ) → front_of_values e (first ∷ w) ≡ quantifier_token (counts_at (first ∷ w)) (first ∷ w)
 
   braces_beginning : (min : ℕ) (max : Option ℕ) (prefix : List ℕ) → SpellsBraces min max prefix → Beginning prefix
@@ -132,15 +142,31 @@ module _ (e : Environment) where
       ∙ quantifier_read min max greedy q.prefix (values rest) q.counts q.alone
       ∙ ap (λ v. Some (quantifier min max greedy, length v)) text)
 
+  -- a `[` at the front
+  at_bracket : (u : CodePoint) (us : List CodePoint) → u.value ≡ 91 → front e (u ∷ us) ≡ bracket_token (class_front e us)
+  unfolding front
+  at_bracket u us h =
+      cond-false (stands_raw e.mode u.value) _ _ (ap (stands_raw e.mode) h ∙ syntax_not_raw e.mode 91 refl)
+      ∙ cond-false (u.value == 92) _ _ (ap (λ c. c == 92) h)
+      ∙ cond-true (u.value == 91) _ _ (ap (λ c. c == 91) h)
+
+  bracket_front : (c : Class) (w rest : List CodePoint) → IsClass e c w rest → front e (w ++ rest) ≡ Some (class c, length w)
+  bracket_front c w rest s =
+      let r = class_read e c w rest s in
+      ap (λ w. front e (w ++ rest)) r.whole ∙ at_bracket r.bracket (r.units ++ rest) r.is_bracket ∙ ap bracket_token r.read
+
   -- spelled → read
   pub spelled_front : (t : Token) (w rest : List CodePoint) → Spells e t w rest → front e (w ++ rest) ≡ Some (t, length w)
   spelled_front (character kind value) w rest s = elim s [ inl r ↦ raw_front kind value w rest r | inr r ↦ escaped_front kind value w rest r ]
   spelled_front dot w rest s = by_text dot 46 [] w rest refl s refl
   spelled_front bar w rest s = by_text bar 124 [] w rest refl s refl
   spelled_front (boundary kind) w rest s = boundary_front kind w rest s
-  spelled_front (class_escape kind) w rest s = class_front kind w rest s
-  spelled_front (property negative strings name value) w rest s = absurd s
-  spelled_front (class c) w rest s = absurd s
+  spelled_front (class_escape kind) w rest s = class_escape_front kind w rest s
+  spelled_front (property negative strings name value) w rest s =
+      let r = property_row e negative strings name value w rest s in
+      by_text (property negative strings name value) 92 (r.letter ∷ r.more) w rest refl r.whole
+      (property_front_token e r.letter (r.more ++ values rest) s.unicode r.is_letter ∙ ap property_token r.read ∙ ap (λ n. Some (property negative strings name value, n)) (omega arith))
+  spelled_front (class c) w rest s = bracket_front c w rest s
   spelled_front (indexed n) w rest s = by_text (indexed n) 92 s.digits w rest refl s.whole (indexed_front e n s.digits (values rest) s.unicode s.number s.not_zero s.all ∙ ap (λ k. Some (indexed n, k)) (omega arith))
   spelled_front (named name) w rest s = let r = named_read e name w rest s in by_text (named name) 92 r.0 w rest refl r.1 r.2
   spelled_front (opener o) w rest s = let r = opener_read e o w rest s in by_text (opener o) 40 r.behind w rest refl r.whole (ap opener_token r.read)
@@ -171,8 +197,8 @@ module _ (e : Environment) where
   spelled_none bar rest s = cc
   spelled_none (boundary kind) rest s = boundary_some kind s.text
   spelled_none (class_escape kind) rest s = class_some kind s
-  spelled_none (property negative strings name value) rest s = s
-  spelled_none (class c) rest s = s
+  spelled_none (property negative strings name value) rest s = let h = (property_row e negative strings name value [] rest s).whole in cc h
+  spelled_none (class c) rest s = let h = (class_read e c [] rest s).whole in cc h
   spelled_none (indexed n) rest s = let h = s.whole in cc
   spelled_none (named name) rest s = let h = s.whole in cc
   spelled_none (opener o) rest s = let h = (opener_read e o [] rest s).whole in cc
@@ -295,6 +321,12 @@ module _ (e : Environment) where
   indexed_at u v us p h k m (digits n count w) f q =
       text_at (indexed n) (count + 1) (u ∷ v ∷ us) (92 ∷ values (v ∷ us)) (ap (λ c. c ∷ values (v ∷ us)) h) (indexed_spelled e n count v.value (values us) w k m f) q
 
+  property_at : (u v : CodePoint) (us : List CodePoint) (p : Token × ℕ) → u.value ≡ 92 → is_unicode e.mode ≡ true → (r : PropertyRead) → property_front e.mode (values (v ∷ us)) ≡ r →
+      property_token r ≡ Some p → FrontOf (u ∷ v ∷ us) p
+  property_at u v us p h m no_property f q = absurd (let k : ⊥ = cc q in k)
+  property_at u v us p h m (property_read negative strings name value n) f q =
+      text_at (property negative strings name value) (n + 1) (u ∷ v ∷ us) (92 ∷ values (v ∷ us)) (ap (λ c. c ∷ values (v ∷ us)) h) (property_text e negative strings name value n (values (v ∷ us)) m f) q
+
   backslash_found : (u : CodePoint) (us : List CodePoint) (p : Token × ℕ) → u.value ≡ 92 → backslash_front e (values us) ≡ Some p → FrontOf (u ∷ us) p
   unfolding backslash_front
   backslash_found u [] p h q = absurd (let k : ⊥ = cc q in k)
@@ -306,9 +338,16 @@ module _ (e : Environment) where
       | inl s ↦
           let b = both (v.value == 107) e.named s.0 in
           named_at u v us p h (eqb-true v.value 107 b.0) b.1 (reference_front (is_unicode e.mode) (values us)) refl s.1
-      | inr s ↦ backslash_at u v us p h (boundary_at e v.value) refl (class_escape_at v.value) refl s.1
+      | inr s ↦ elim (chosen (begins_property v.value && is_unicode e.mode) s.1) [
+        | inl t ↦ property_at u v us p h (both (begins_property v.value) (is_unicode e.mode) t.0).1 (property_front e.mode (values (v ∷ us))) refl t.1
+        | inr t ↦ backslash_at u v us p h (boundary_at e v.value) refl (class_escape_at v.value) refl t.1
+      ]
     ]
   ]
+
+  class_at : (u : CodePoint) (us : List CodePoint) (p : Token × ℕ) → u.value ≡ 91 → (r : Option (Class × ℕ)) → class_front e us ≡ r → bracket_token r ≡ Some p → FrontOf (u ∷ us) p
+  class_at u us p h None f q = absurd (let k : ⊥ = cc q in k)
+  class_at u us p h (Some c) f q = let s = class_spelled e u us c h f in front_of (class c.0) c.1 (u ∷ us) s.w s.rest s.whole s.count s.spelled q
 
   unit_found : (u : CodePoint) (us : List CodePoint) (p : Token × ℕ) → front e (u ∷ us) ≡ Some p → FrontOf (u ∷ us) p
   unfolding front
@@ -317,7 +356,10 @@ module _ (e : Environment) where
         (inl (record { unit = u; alone = refl; kind_is = refl; value_is = refl; allowed = q.0 })) q.1
     | inr q ↦ elim (chosen (u.value == 92) q.1) [
       | inl q ↦ backslash_found u us p (eqb-true u.value 92 q.0) q.1
-      | inr q ↦ syntax_found u us p q.1
+      | inr q ↦ elim (chosen (u.value == 91) q.1) [
+        | inl r ↦ class_at u us p (eqb-true u.value 91 r.0) (class_front e us) refl r.1
+        | inr r ↦ syntax_found u us p r.1
+      ]
     ]
   ]
 

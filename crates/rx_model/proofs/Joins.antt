@@ -5,6 +5,7 @@ use Rattle.rx_model.specs.Environment.{Environment}
 use Rattle.rx_model.specs.Events.{Events, enter, leave, token, inside, modified, tokens_of}
 use Rattle.rx_model.specs.Token.{Token}
 use Rattle.rx_model.specs.Rows.{TokenRow, Row}
+use Rattle.rx_model.proofs.ClassUnspanned.{class_unspanned}
 
 module _ (e : Environment) where
   pub token_row_append : (ts ss : List Token) (us more rest : List CodePoint) → TokenRow e ts us more → TokenRow e ss more rest → TokenRow e (ts ++ ss) us rest
@@ -21,7 +22,7 @@ module _ (e : Environment) where
     row_tokens ((enter n) ∷ es) i us j rest r = row_tokens es i us j rest r.1
     row_tokens ((leave n) ∷ es) i us j rest r = row_tokens es i us j rest r.1
     row_tokens ((token t) ∷ es) i us j rest r = (r.0, r.1, r.2, r.3, row_tokens es (i + length r.0) r.1 j rest r.4)
-    row_tokens ((inside c) ∷ es) i us j rest r = absurd r
+    row_tokens ((inside c) ∷ es) i us j rest r = (r.0, r.1, r.2, class_unspanned e o i c r.0 r.1 r.3, row_tokens es (i + length r.0) r.1 j rest r.4)
     row_tokens ((modified m) ∷ es) i us j rest r = (r.0, r.1, r.2, r.3.modified, row_tokens es (i + length r.0) r.1 j rest r.4)
 
     pub row_append : (es fs : Events) (i : ℕ) (us : List CodePoint) (j : ℕ) (more : List CodePoint) (k : ℕ) (rest : List CodePoint) →
@@ -30,7 +31,7 @@ module _ (e : Environment) where
     row_append ((enter n) ∷ es) fs i us j more k rest r s = (r.0, row_append es fs i us j more k rest r.1 s)
     row_append ((leave n) ∷ es) fs i us j more k rest r s = (r.0, row_append es fs i us j more k rest r.1 s)
     row_append ((token t) ∷ es) fs i us j more k rest r s = (r.0, r.1, r.2, r.3, row_append es fs (i + length r.0) r.1 j more k rest r.4 s)
-    row_append ((inside c) ∷ es) fs i us j more k rest r s = absurd r
+    row_append ((inside c) ∷ es) fs i us j more k rest r s = (r.0, r.1, r.2, r.3, row_append es fs (i + length r.0) r.1 j more k rest r.4 s)
     row_append ((modified m) ∷ es) fs i us j more k rest r s = (r.0, r.1, r.2, r.3, row_append es fs (i + length r.0) r.1 j more k rest r.4 s)
 
     -- the place and the units between
@@ -40,5 +41,5 @@ module _ (e : Environment) where
     row_split ((enter n) ∷ es) fs i us k rest r = let s = row_split es fs i us k rest r.1 in (s.0, s.1, (r.0, s.2), s.3)
     row_split ((leave n) ∷ es) fs i us k rest r = let s = row_split es fs i us k rest r.1 in (s.0, s.1, (r.0, s.2), s.3)
     row_split ((token t) ∷ es) fs i us k rest r = let s = row_split es fs (i + length r.0) r.1 k rest r.4 in (s.0, s.1, (r.0, r.1, r.2, r.3, s.2), s.3)
-    row_split ((inside c) ∷ es) fs i us k rest r = absurd r
+    row_split ((inside c) ∷ es) fs i us k rest r = let s = row_split es fs (i + length r.0) r.1 k rest r.4 in (s.0, s.1, (r.0, r.1, r.2, r.3, s.2), s.3)
     row_split ((modified m) ∷ es) fs i us k rest r = let s = row_split es fs (i + length r.0) r.1 k rest r.4 in (s.0, s.1, (r.0, r.1, r.2, r.3, s.2), s.3)

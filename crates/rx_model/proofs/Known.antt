@@ -3,12 +3,16 @@ use Rattle.std.proofs.Common.{◌≡◌, ◌≢◌, true, Some, None, List, [], 
 use Rattle.rx_units.specs.declared.code_point.CodePoint.{CodePoint}
 use Rattle.rx_units.specs.Units.{values}
 use Rattle.rx_model.specs.Boundaries.{has_boundary}
+use Rattle.rx_model.specs.ClassText.{property_body}
 use Rattle.rx_model.specs.Environment.{Environment, is_unicode}
 use Rattle.rx_model.specs.Groups.{SpellsOpener}
+use Rattle.rx_model.specs.PropertyEscapes.{SpellsProperty}
 use Rattle.rx_model.specs.Rows.{Spells, TokenRow}
 use Rattle.rx_model.specs.Token.{Token, Opener, boundary, character, dot, class_escape, property, class, indexed, named, opener, closer, bar, quantifier, capturing, ignoring, looking}
+use Rattle.rx_model.proofs.ClassKnown.{IsKnownClass, class_known}
 use Rattle.rx_model.proofs.ModifierTexts.{AreThreeBits, modifiers_known}
 use Rattle.rx_model.proofs.NameTexts.{IsName, name_known}
+use Rattle.rx_model.proofs.PropertyTexts.{property_again}
 
 -- What is known of an opener: its name is one, and its modifiers have three bits a side.
 abbrev pub IsKnownOpener : Opener → Type 0
@@ -24,8 +28,8 @@ Known e (boundary kind) = has_boundary e kind ≡ true
 Known e (character kind value) = Unit {0}
 Known e dot = Unit {0}
 Known e (class_escape kind) = Unit {0}
-Known e (property negative strings name value) = ⊥
-Known e (class c) = ⊥
+Known e (property negative strings name value) = SpellsProperty e.mode strings name value (property_body name value)
+Known e (class c) = IsKnownClass e.mode c
 Known e (indexed n) = Unit {0}
 Known e (named name) = IsName name × (e.named ≡ true)
 Known e (opener o) = IsKnownOpener o
@@ -49,8 +53,8 @@ known e (boundary kind) w rest s = s.there
 known e (character kind value) w rest s = tt
 known e dot w rest s = tt
 known e (class_escape kind) w rest s = tt
-known e (property negative strings name value) w rest s = s
-known e (class c) w rest s = s
+known e (property negative strings name value) w rest s = property_again e.mode strings name value s.text s.spelled
+known e (class c) w rest s = class_known e c w rest s
 known e (indexed n) w rest s = tt
 known e (named name) w rest s = (name_known (is_unicode e.mode) name s.spelled (62 ∷ values rest) s.spells, s.there)
 known e (opener o) w rest s = opener_known e o w rest s

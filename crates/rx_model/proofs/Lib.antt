@@ -6,6 +6,14 @@ pub mod Backs
 pub mod Backslashes
 pub mod Builds
 pub mod Choices
+pub mod ClassAgain
+pub mod ClassBacks
+pub mod ClassFronts
+pub mod ClassKnown
+pub mod ClassMarks
+pub mod ClassTokens
+pub mod ClassTrees
+pub mod ClassUnspanned
 pub mod Cuts
 pub mod Decodings
 pub mod Escapes
@@ -27,6 +35,9 @@ pub mod OpenMarks
 pub mod OtherMarks
 pub mod OwnGroups
 pub mod PartedMarks
+pub mod PropertyFronts
+pub mod PropertyTexts
+pub mod PropertyWords
 pub mod Quantifiers
 pub mod ReadBacks
 pub mod Runs

@@ -17,23 +17,31 @@ use Rattle.rx_ast.specs.declared.leaf.CharacterClassEscapeKind.TheVariants.{D, N
 use Rattle.rx_ast.specs.declared.leaf.LookAroundAssertionKind.{LookAroundAssertionKind}
 use Rattle.rx_ast.specs.declared.leaf.LookAroundAssertionKind.TheVariants as look
 use Rattle.rx_ast.specs.declared.term.Pattern.{Pattern}
+use Rattle.rx_ast.specs.ClassTree as in_tree
+use Rattle.rx_ast.specs.ClassTree.{Member, Members, Class, no_member, member}
+use Rattle.rx_ast.specs.declared.class.CharacterClassContentsKind.TheVariants.{Union, Intersection, Subtraction}
 use Rattle.rx_ast.specs.Forget.{bare}
 use Rattle.rx_tables.specs.Characters.{is_within, is_decimal_digit, is_syntax_character, hex_digit}
 use Rattle.rx_tables.proofs.Separators.{line_separator_starts_none, line_separator_in_none, paragraph_separator_starts_none, paragraph_separator_in_none}
 use Rattle.rx_units.specs.declared.code_point.CodePoint.{CodePoint}
+use Rattle.rx_model.specs.declared.mode.Mode.{Mode}
 use Rattle.rx_model.specs.declared.mode.Mode.TheVariants.{Unicode}
 use Rattle.rx_model.specs.Boundaries.{boundary_text}
-use Rattle.rx_model.specs.CharacterText.{control_letter, two_digits, four_digits, hex, braced, outside, character_text}
-use Rattle.rx_model.specs.ClassText.{class_escape_text}
+use Rattle.rx_model.specs.CharacterText.{control_letter, two_digits, four_digits, hex, braced, outside, in_class, character_text}
+use Rattle.rx_model.specs.ClassText.{class_escape_text, property_body, property_text, in_class_text, member_text, members_text, more_members_text, class_text}
 use Rattle.rx_model.specs.Early.{Obeys, greatest_count, most_groups, IsGreatest}
 use Rattle.rx_model.specs.Environment.{Environment, environment}
 use Rattle.rx_model.specs.Events.{tokens}
 use Rattle.rx_model.specs.Names.{groups, names}
 use Rattle.rx_model.specs.OneLine.{ends_column, IsOneLine}
+use Rattle.rx_model.specs.PropertyEscapes.{SpellsProperty}
 use Rattle.rx_model.specs.Reading.{Reads}
 use Rattle.rx_model.specs.GroupNames.{is_in_name}
 use Rattle.rx_model.specs.Spelling.{letters, dash, look_text, counts_text, lazy_text, quantifier_text, spelling}
 use Rattle.rx_model.specs.Token.{Token, Opener, boundary, character, dot, class_escape, property, class, indexed, named, opener, closer, bar, quantifier, capturing, ignoring, looking}
+use Rattle.rx_model.proofs.ClassBacks.{union_text}
+use Rattle.rx_model.proofs.ClassKnown.{IsKnownMember, AreKnownMembers, IsKnownClass}
+use Rattle.rx_model.proofs.PropertyWords.{is_property_unit, property_units}
 use Rattle.rx_model.proofs.TokenTexts.{opened_text, token_text, token_refers, tokens_text, spelled_by_tokens}
 use Rattle.rx_model.proofs.Decodings.{both}
 use Rattle.rx_model.proofs.GroupNames.{differs}
@@ -240,14 +248,75 @@ some_opened (ignoring None) = some 40 _
 some_opened (ignoring (Some bits)) = some 40 _
 some_opened (looking kind) = some_look kind
 
+-- property escapes and classes
+
+property_unit_stays : (c : ℕ) → is_property_unit c ≡ true → stays c ≡ true
+property_unit_stays c h = stays_in is_property_unit c refl refl refl refl refl h
+
+property_units_stay : (text : List ℕ) → list_all is_property_unit text ≡ true → Stays text
+property_units_stay [] h = refl
+property_units_stay (c ∷ text) h =
+    let p = both (is_property_unit c) (list_all is_property_unit text) h in stays_cons c text (property_unit_stays c p.0) (property_units_stay text p.1)
+
+property_stays : (mode : Mode) (negative strings : Bool) (name : List ℕ) (value : Option (List ℕ)) → SpellsProperty mode strings name value (property_body name value) →
+    Stays (property_text negative name value)
+property_stays mode true strings name value k =
+    stays-append (property_body name value) (125 ∷ []) (property_units_stay (property_body name value) (property_units mode strings name value (property_body name value) k)) refl
+property_stays mode false strings name value k =
+    stays-append (property_body name value) (125 ∷ []) (property_units_stay (property_body name value) (property_units mode strings name value (property_body name value) k)) refl
+
+escaped_in_class_stays : (c : ℕ) → (is_syntax_character c || c == 47 || c == 45) ≡ true → stays c ≡ true
+escaped_in_class_stays c h = grind (arith, nat_tests)
+
+in_class_stays : (c : ℕ) → Stays (character_text Unicode in_class c)
+unfolding character_text
+in_class_stays c =
+    cond_both (is_within 9 13 c) _ _ Stays (λ _. stays_cons (control_letter c) [] (letter_stays c) refl)
+    (λ within. cond_both (nat_lt c 32 || is_within 127 159 c) _ _ Stays (λ _. two_stays c)
+    (λ _. cond_both (c == 0x2028 || c == 0x2029) _ _ Stays (λ _. four_stays c)
+    (λ separators. cond_both (is_within 0xD800 0xDFFF c) _ _ Stays (λ _. braced_stays c)
+    (λ _. cond_both (nat_lt 0x10FFFF c) _ _ Stays (λ _. braced_stays c)
+    (λ _. cond_both (is_syntax_character c || c == 47 || c == 45) _ _ Stays (λ syntax. stays_cons c [] (escaped_in_class_stays c syntax) refl)
+    (λ _. stays_cons c [] (raw_stays c within separators) refl))))))
+
+member_stays : (mode : Mode) (m : Member) → IsKnownMember mode m → Stays (member_text Unicode m)
+member_stays mode (in_tree.range r) k =
+    stays-append (in_class_text Unicode r.min) (45 ∷ in_class_text Unicode r.max) (in_class_stays r.min.value) (in_class_stays r.max.value)
+member_stays mode (in_tree.escape c) k = class_escape_stays c.kind
+member_stays mode (in_tree.property p) k = property_stays mode p.negative p.strings p.name p.value k
+member_stays mode (in_tree.character c) k = in_class_stays c.value
+member_stays mode (in_tree.nested c) k = absurd k
+member_stays mode (in_tree.strings d) k = absurd k
+
+members_stay : (mode : Mode) (ms : Members) → AreKnownMembers mode ms → Stays (more_members_text Unicode [] ms)
+members_stay mode no_member k = refl
+members_stay mode (member m ms) k = stays-append (member_text Unicode m) (more_members_text Unicode [] ms) (member_stays mode m k.0) (members_stay mode ms k.1)
+
+union_stays : (mode : Mode) (ms : Members) → AreKnownMembers mode ms → Stays (members_text Unicode [] ms ++ (93 ∷ []))
+union_stays mode ms k = stays-append (members_text Unicode [] ms) (93 ∷ []) (subst Stays (sym (union_text ms)) (members_stay mode ms k)) refl
+
+class_stays : (mode : Mode) (c : Class) → IsKnownClass mode c → Stays (class_text Unicode c)
+class_stays mode (in_tree.class s true may Union ms) k = union_stays mode ms k.known
+class_stays mode (in_tree.class s false may Union ms) k = union_stays mode ms k.known
+class_stays mode (in_tree.class s negative may Intersection ms) k = absurd k.shape.0
+class_stays mode (in_tree.class s negative may Subtraction ms) k = absurd k.shape.0
+
+some_property : (negative : Bool) (name : List ℕ) (value : Option (List ℕ)) → property_text negative name value ≢ []
+some_property true name value = some 92 _
+some_property false name value = some 92 _
+
+some_class : (c : Class) → class_text Unicode c ≢ []
+some_class (in_tree.class s true may kind ms) = some 91 _
+some_class (in_tree.class s false may kind ms) = some 91 _
+
 module _ (e : Environment) (count : ℕ) (in_limit : count ≤ most_groups) (names : List (List ℕ)) where
   token_stays : (after_reference : Bool) (t : Token) → Known e t → Obeys count names t → Stays (token_text Unicode after_reference t)
   token_stays after_reference (boundary kind) k h = boundary_stays kind
   token_stays after_reference (character kind value) k h = character_stays after_reference value
   token_stays after_reference dot k h = refl
   token_stays after_reference (class_escape kind) k h = class_escape_stays kind
-  token_stays after_reference (property negative strings name value) k h = absurd k
-  token_stays after_reference (class c) k h = absurd k
+  token_stays after_reference (property negative strings name value) k h = property_stays e.mode negative strings name value k
+  token_stays after_reference (class c) k h = class_stays e.mode c k
   token_stays after_reference (indexed n) k h = decimal_stays n (omega (arith, h.1, in_limit))
   token_stays after_reference (named name) k h = stays-append name (62 ∷ []) (name_stays name k.0) refl
   token_stays after_reference (opener o) k h = opened_stays o k
@@ -267,8 +336,8 @@ module _ (e : Environment) where
   some_token after_reference (character kind value) k = some_character after_reference value
   some_token after_reference dot k = some 46 []
   some_token after_reference (class_escape kind) k = some_class_escape kind
-  some_token after_reference (property negative strings name value) k = absurd k
-  some_token after_reference (class c) k = absurd k
+  some_token after_reference (property negative strings name value) k = some_property negative name value
+  some_token after_reference (class c) k = some_class c
   some_token after_reference (indexed n) k = some 92 _
   some_token after_reference (named name) k = some 92 _
   some_token after_reference (opener o) k = some_opened o

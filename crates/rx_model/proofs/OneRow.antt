@@ -1,5 +1,5 @@
 -- The rows of tokens that one text begins with are prefixes of its whole row.
-use Rattle.std.proofs.Common.{◌≡◌, ℕ, refl, ap, sym, ◌∙◌, subst, true, ◌&&◌, Some, None, List, [], ◌∷◌, ◌++◌, length, drop, inl, inr}
+use Rattle.std.proofs.Common.{◌≡◌, ℕ, refl, ap, sym, ◌∙◌, subst, Bool, true, false, ◌&&◌, Option, Some, None, List, [], ◌∷◌, ◌++◌, length, drop, inl, inr}
 use Rattle.std.proofs.Math.Seq.{drop-append_seam}
 use Rattle.std.proofs.lemmas.List.{append-nil}
 use Rattle.rx_ast.specs.declared.leaf.BoundaryAssertionKind.{BoundaryAssertionKind}
@@ -8,11 +8,17 @@ use Rattle.rx_ast.specs.declared.leaf.CharacterKind.{CharacterKind}
 use Rattle.rx_units.specs.declared.code_point.CodePoint.{CodePoint}
 use Rattle.rx_units.specs.Units.{values}
 use Rattle.rx_model.specs.Boundaries.{has_buffers, has_boundary}
+use Rattle.rx_ast.specs.ClassTree.{Class}
+use Rattle.rx_model.specs.ClassRows as in_class
+use Rattle.rx_model.specs.ClassRows.{stands_raw_in_class, SpellsInClassAlone, SpellsClassCharacter, SpellsAtom, BeforeHigh, Place, outside, fresh, at_dash, at_high, SpellsInClass, ClassTokenRow, IsClassShape, IsClass}
+use Rattle.rx_model.specs.ClassTokens as tokens
+use Rattle.rx_model.specs.ClassTokens.{Atom, ClassToken, bracket, item, low, dash, high, class_tokens}
 use Rattle.rx_model.specs.Environment.{Environment, is_unicode}
 use Rattle.rx_model.specs.Escapes.{SpellsEscape, control, letter, null, hexadecimal, unicode, identity}
 use Rattle.rx_model.specs.Fronts.{front}
 use Rattle.rx_model.specs.GroupNames.{SpellsName}
 use Rattle.rx_model.specs.Groups.{IsIndexed, IsNamed, IsNaming, SpellsOpener}
+use Rattle.rx_model.specs.PropertyEscapes.{SpellsProperty, IsProperty}
 use Rattle.rx_model.specs.Rows.{IsRaw, IsEscaped, Spells, TokenRow}
 use Rattle.rx_model.specs.Token.{Token, Opener, capturing, ignoring, looking, boundary, character, dot, class_escape, property, class, indexed, named, opener, closer, bar, quantifier}
 use Rattle.rx_model.specs.UnicodeEscapes.{SpellsUnicode}
@@ -86,6 +92,60 @@ opener_same e d (ignoring None) w rest m s = s
 opener_same e d (ignoring (Some bits)) w rest m s = s
 opener_same e d (looking kind) w rest m s = s
 
+property_same : (e d : Environment) (negative strings : Bool) (name : List ℕ) (value : Option (List ℕ)) (w : List CodePoint) → e.mode ≡ d.mode →
+    IsProperty e negative strings name value w → IsProperty d negative strings name value w
+property_same e d negative strings name value w m s = record {
+  unicode = ap is_unicode (sym m) ∙ s.unicode;
+  text = s.text;
+  spelled = subst (λ mode. SpellsProperty mode strings name value s.text) m s.spelled;
+  whole = s.whole;
+}
+
+class_character_same : (e d : Environment) (k : CharacterKind) (v : ℕ) (w rest : List CodePoint) → e.mode ≡ d.mode → SpellsClassCharacter e k v w rest → SpellsClassCharacter d k v w rest
+class_character_same e d _ _ _ rest m (in_class.raw unit h) = in_class.raw unit (ap (λ mode. stands_raw_in_class mode unit.value) (sym m) ∙ h)
+class_character_same e d _ _ _ rest m (in_class.hyphen unit u h) = in_class.hyphen unit (sym m ∙ u) h
+class_character_same e d k v _ rest m (in_class.escaped backslash behind h s) = in_class.escaped backslash behind h (escape_same e d k v (values behind) (values rest) m s)
+class_character_same e d k v _ rest m (in_class.escaped_in_class backslash behind h s) =
+    in_class.escaped_in_class backslash behind h (subst (λ mode. SpellsInClassAlone mode k v (values behind)) m s)
+
+atom_same : (e d : Environment) (a : Atom) (w rest : List CodePoint) → e.mode ≡ d.mode → SpellsAtom e a w rest → SpellsAtom d a w rest
+atom_same e d (tokens.character k v) w rest m s = class_character_same e d k v w rest m s
+atom_same e d (tokens.escape k) w rest m s = s
+atom_same e d (tokens.property negative strings name value) w rest m s = property_same e d negative strings name value w m s
+
+before_high_same : (e d : Environment) (rest : List CodePoint) → e.mode ≡ d.mode → BeforeHigh e rest → BeforeHigh d rest
+before_high_same e d rest m s = record {
+  hyphen = s.hyphen;
+  kind = s.kind;
+  value = s.value;
+  w = s.w;
+  more = s.more;
+  whole = s.whole;
+  hyphen_is = s.hyphen_is;
+  spelled = class_character_same e d s.kind s.value s.w s.more m s.spelled;
+}
+
+in_class_same : (e d : Environment) (q : Place) (t : ClassToken) (w rest : List CodePoint) → e.mode ≡ d.mode → SpellsInClass e q t w rest → SpellsInClass d q t w rest
+in_class_same e d outside (bracket true) w rest m s = s
+in_class_same e d outside (bracket false) w rest m s = s
+in_class_same e d fresh tokens.closer w rest m s = s
+in_class_same e d fresh (item a) w rest m s = (atom_same e d a w rest m s.0, s.1)
+in_class_same e d fresh (low k v) w rest m s = (class_character_same e d k v w rest m s.0, s.1, before_high_same e d rest m s.2)
+in_class_same e d at_dash dash w rest m s = s
+in_class_same e d at_high (high k v) w rest m s = class_character_same e d k v w rest m s
+in_class_same e d q t w rest m s = absurd s
+
+class_row_same : (e d : Environment) (ts : List ClassToken) (q : Place) (us : List CodePoint) (r : Place) (rest : List CodePoint) → e.mode ≡ d.mode → ClassTokenRow e ts q us r rest → ClassTokenRow d ts q us r rest
+class_row_same e d [] q us r rest m s = s
+class_row_same e d (t ∷ ts) q us r rest m s = (s.0, s.1, s.2, in_class_same e d q t s.0 s.1 m s.3, class_row_same e d ts (in_class.behind t) s.1 r rest m s.4)
+
+class_same : (e d : Environment) (c : Class) (w rest : List CodePoint) → e.mode ≡ d.mode → IsClass e c w rest → IsClass d c w rest
+class_same e d c w rest m s = record {
+  no_spans = s.no_spans;
+  shape = subst (λ mode. IsClassShape mode c) m s.shape;
+  row = class_row_same e d (class_tokens c) outside (w ++ rest) fresh rest m s.row;
+}
+
 -- Of the environment a token's spelling depends on the mode, on whether there are buffer boundaries, and on whether `\k` is a reference.
 pub Spells-mode : (e d : Environment) (t : Token) (w rest : List CodePoint) → e.mode ≡ d.mode → e.buffer_boundaries ≡ d.buffer_boundaries → e.named ≡ d.named →
     Spells e t w rest → Spells d t w rest
@@ -94,8 +154,8 @@ Spells-mode e d dot w rest m b n s = s
 Spells-mode e d bar w rest m b n s = s
 Spells-mode e d (boundary kind) w rest m b n s = record { text = s.text; there = sym (boundary_same e d kind m b) ∙ s.there }
 Spells-mode e d (class_escape kind) w rest m b n s = s
-Spells-mode e d (property negative strings name value) w rest m b n s = s
-Spells-mode e d (class c) w rest m b n s = s
+Spells-mode e d (property negative strings name value) w rest m b n s = property_same e d negative strings name value w m s
+Spells-mode e d (class c) w rest m b n s = class_same e d c w rest m s
 Spells-mode e d (indexed index) w rest m b n s = indexed_same e d index w rest m s
 Spells-mode e d (named name) w rest m b n s = named_same e d name w rest m n s
 Spells-mode e d (opener o) w rest m b n s = opener_same e d o w rest m s

@@ -15,7 +15,7 @@ use Rattle.rx_model.proofs.GroupNames.{differs}
 use Rattle.rx_model.proofs.OtherMarks.{is_plain, plain_in, GiveOthers, all_plain_others, append_others}
 
 -- the marks behind some units are those of what follows them
-marks_after : (w rest : List ℕ) → marks_behind (length w) (w ++ rest) ≡ marks rest
+pub marks_after : (w rest : List ℕ) → marks_behind (length w) (w ++ rest) ≡ marks rest
 marks_after [] rest = refl
 marks_after (u ∷ w) rest = marks_after w rest
 

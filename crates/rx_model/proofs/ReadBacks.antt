@@ -21,6 +21,7 @@ use Rattle.rx_model.specs.Token.{Token, boundary, character, dot, class_escape, 
 use Rattle.rx_model.proofs.Again.{again_alternatives, bare_alternatives, alternatives_again, made_alternatives, same_groups, same_names, apart_alternatives}
 use Rattle.rx_model.proofs.AgainTrees.{disjunction_made}
 use Rattle.rx_model.proofs.BackRows.{again_token, again_tokens, tokens_again}
+use Rattle.rx_model.proofs.ClassAgain.{early_class}
 use Rattle.rx_model.proofs.Flat.{before, tokens_are}
 use Rattle.rx_model.proofs.Known.{are_known, has_tokens}
 use Rattle.rx_model.proofs.OneLines.{some_tokens}
@@ -40,7 +41,7 @@ module _ (count : ℕ) (names : List (List ℕ)) where
   token_obeys r dot h = h
   token_obeys r (class_escape kind) h = h
   token_obeys r (property negative strings name value) h = h
-  token_obeys r (class c) h = h
+  token_obeys r (class c) h = early_class c h
   token_obeys r (indexed n) h = h
   token_obeys r (named name) h = h
   token_obeys r (opener o) h = h

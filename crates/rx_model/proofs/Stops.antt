@@ -20,6 +20,7 @@ use Rattle.rx_model.specs.Rows.{Spells}
 use Rattle.rx_model.specs.Stops.{is_one_of, is_letter, is_hex_digit, two_hex_digits, begins_escape, IsStop, at_end, at_closer, at_bracket, at_brace, behind_backslash}
 use Rattle.rx_model.specs.Token.{Token, character, closer}
 use Rattle.rx_model.specs.UnicodeEscapes.{hex_number}
+use Rattle.rx_model.specs.PropertyForms.{begins_property}
 use Rattle.rx_model.proofs.Backslashes.{unreferred, escape_token}
 use Rattle.rx_model.proofs.Decodings.{both}
 use Rattle.rx_model.proofs.Escapes.{begins_with_u, escape_spelled}
@@ -49,7 +50,13 @@ no_buffer e c h = grind (arith, nat_tests)
 no_letter_k : (c : ℕ) → is_one_of (codes "upPk") c ≡ false → (c == 107) ≡ false
 no_letter_k c h = grind (arith, nat_tests)
 
+no_letter_p : (c : ℕ) → is_one_of (codes "upPk") c ≡ false → begins_property c ≡ false
+no_letter_p c h = grind (arith, nat_tests)
+
 -- the other way
+no_p : (c : ℕ) → is_one_of (codes "upPkbBdDsSwWfnrtv") c ≡ false → begins_property c ≡ false
+no_p c h = grind (arith, nat_tests)
+
 no_k : (c : ℕ) → is_one_of (codes "upPkbBdDsSwWfnrtv") c ≡ false → (c == 107) ≡ false
 no_k c h = grind (arith, nat_tests)
 
@@ -117,7 +124,7 @@ module _ (e : Environment) where
   stop_backslash [] u h k = refl
   stop_backslash (c ∷ w) u h k =
       let free = or_parts (is_one_of (codes "upPk") c) (is_within 49 57 c) k in
-      let none = parts_none (boundary_at e c) (class_escape_at c) (escape_at (is_unicode e.mode) (c ∷ w)) (sym (unreferred e c w free.1 (no_letter_k c free.0)) ∙ h) in
+      let none = parts_none (boundary_at e c) (class_escape_at c) (escape_at (is_unicode e.mode) (c ∷ w)) (sym (unreferred e c w free.1 (no_letter_k c free.0) (no_letter_p c free.0)) ∙ h) in
       let no_control_letter = no_control c w h in
       or_from _ _ (or_from _ _ (or_from _ _ (or_from _ _ (or_from _ _ (or_from _ _
       (no_letter_begins e c free.0 none.0 none.1 no_control_letter)
@@ -176,7 +183,7 @@ module _ (e : Environment) where
   backslash_stop [] h = refl
   backslash_stop (c ∷ w) h =
       let b = no_beginning c w h in
-      unreferred e c w b.no_digit (no_k c b.no_letters)
+      unreferred e c w b.no_digit (no_k c b.no_letters) (no_p c b.no_letters)
       ∙ rw (no_boundary e c b.no_letters b.no_buffers, no_class c b.no_letters) (nothing_read (c ∷ w) (escape_at (is_unicode e.mode) (c ∷ w)) h refl)
 
   brace_stop : (w : List ℕ) (r : Counts) → counts_at (123 ∷ w) ≡ r → (BeginsWithBraces (123 ∷ w) → ⊥) → quantifier_token r (123 ∷ w) ≡ None

@@ -9,24 +9,20 @@ use Rattle.rx_base.specs.declared.span.Span.{Span}
 use Rattle.rx_units.specs.declared.code_point.CodePoint.{CodePoint}
 use Rattle.rx_units.specs.Units.{values}
 use Rattle.rx_model.specs.declared.mode.Mode.{Mode}
+use Rattle.rx_model.specs.ClassCauses.{IsClassCause}
 use Rattle.rx_model.specs.Early.{greatest_count, most_groups}
 use Rattle.rx_model.specs.Environment.{is_unicode}
 use Rattle.rx_model.specs.Escapes.{front_is}
 use Rattle.rx_model.specs.Groups.{EndsName, is_mark}
 use Rattle.rx_model.specs.Marks.{IsFirstClash, marks, name_places, starts}
 use Rattle.rx_model.specs.Modifiers.{AreSides, has_twice, is_modifier, occurs, share_some}
+use Rattle.rx_model.specs.EscapeCauses.{IsEscapeCause, IsPropertyCause}
 use Rattle.rx_model.specs.Quantifiers.{SpellsBraces, PassesLimit}
-use Rattle.rx_model.specs.Reached.{AreObeying, HasNoClash, IsInside, IsReached, span_between, text_environment, text_groups, text_names}
+use Rattle.rx_model.specs.Reached.{AreObeying, HasNoClash, IsInside, IsPlace, IsReached, span_between, text_environment, text_groups, text_names}
 use Rattle.rx_model.specs.Rows.{Spells}
 use Rattle.rx_model.specs.Stops.{IsStop}
 use Rattle.rx_model.specs.Token.{Opener, capturing, ignoring, looking, indexed, named, quantifier}
 use Rattle.rx_model.specs.UnicodeEscapes.{Decodes, PassesHex}
-
--- some tokens lead to this place, where the rest is left
-pub record IsPlace (mode : Mode) (us : List CodePoint) (place : ℕ) (rest : List CodePoint) : Type 0 where
-  pub open_groups : List Opener
-  pub ready : Bool
-  pub reached : IsReached mode us place open_groups ready rest
 
 -- a count that is larger than may stand in braces
 abbrev pub IsTooLarge : ℕ → Option ℕ → Type 0
@@ -85,13 +81,15 @@ pub data IsCauseAtPlace (mode : Mode) (us : List CodePoint) (first added : ℕ) 
   -- The digits of a number behind `{` pass 64 bits.
   too_many_digits : (place start count : ℕ) (rest : List CodePoint) → IsPlace mode us place rest → PassesLimit (values rest) start count
       → IsCauseAtPlace mode us first added (TooLargeNumberDigits (span_between us first added (place + start) (place + start + count)) digits.Decimal)
-  -- With `u` or `v` the digits of a unicode escape pass 32 bits.
-  too_many_hex_digits : (place count : ℕ) (rest : List CodePoint) (behind : List ℕ) → IsPlace mode us place rest → is_unicode mode ≡ true → values rest ≡ 92 ∷ behind → PassesHex behind count
-      → IsCauseAtPlace mode us first added (TooLargeNumberDigits (span_between us first added (place + 3) (place + 3 + count)) digits.Hex)
-  -- With `u` or `v` a backslash and `u` begin no unicode escape (22.2.1, IdentityEscape holds no `u`).
-  invalid_escape : (place : ℕ) (rest : List CodePoint) (behind : List ℕ) → IsPlace mode us place rest → is_unicode mode ≡ true → values rest ≡ 92 ∷ 117 ∷ behind
-      → ((v n : ℕ) → Decodes true (117 ∷ behind) v n → ⊥) → ((count : ℕ) → PassesHex (117 ∷ behind) count → ⊥)
-      → IsCauseAtPlace mode us first added (InvalidUnicodeEscapeSequence (span_between us first added (place + 1) (place + 2)))
+  -- A character escape is refused.
+  of_escape : (place : ℕ) (rest : List CodePoint) {diagnostic : Diagnostic} → IsPlace mode us place rest → IsEscapeCause mode us first added place rest diagnostic
+      → IsCauseAtPlace mode us first added diagnostic
+  -- A property escape is refused.
+  of_property : (place : ℕ) (rest : List CodePoint) {diagnostic : Diagnostic} → IsPlace mode us place rest → IsPropertyCause mode us first added place rest diagnostic
+      → IsCauseAtPlace mode us first added diagnostic
+  -- A class is refused.
+  of_class : (place : ℕ) (rest : List CodePoint) {diagnostic : Diagnostic} → IsPlace mode us place rest → IsClassCause mode us first added place rest diagnostic
+      → IsCauseAtPlace mode us first added diagnostic
   -- A group or a look-around is open where terms end, and no `)` stands there.
   unterminated_group : (from place behind : ℕ) (group : Opener) (rest : List CodePoint) → IsInside mode us from group place rest → IsStop (text_environment mode us) rest behind
       → starts 41 (values rest) ≡ false → IsCauseAtPlace mode us first added (UnterminatedPattern (span_between us first added from (place + behind)) (unterminated group))

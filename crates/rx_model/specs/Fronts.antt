@@ -1,64 +1,25 @@
 -- How the token at the front of a text is read: by its first characters, in the order in which the readers look. What the tokens mean stands in Rows.
-use Rattle.std.specs.Prelude.{ℕ, zero, suc, ◌+◌, ◌-◌, ◌*◌, Bool, true, false, ◌==◌, ◌&&◌, Option, Some, None, List, [], ◌∷◌, drop, if◌then◌else◌}
-use Rattle.rx_tables.specs.Characters.{control_escape_value, control_letter_value, is_decimal_digit, is_within}
+use Rattle.std.specs.Prelude.{ℕ, zero, suc, ◌+◌, ◌-◌, ◌*◌, true, false, ◌==◌, ◌&&◌, Option, Some, None, List, [], ◌∷◌, drop, if◌then◌else◌}
+use Rattle.rx_tables.specs.Characters.{is_decimal_digit, is_within}
 use Rattle.rx_ast.specs.declared.leaf.BoundaryAssertionKind.{BoundaryAssertionKind}
 use Rattle.rx_ast.specs.declared.leaf.BoundaryAssertionKind.TheVariants as boundary_kind
 use Rattle.rx_ast.specs.declared.leaf.CharacterClassEscapeKind.{CharacterClassEscapeKind}
-use Rattle.rx_ast.specs.declared.leaf.CharacterClassEscapeKind.TheVariants as class_kind
-use Rattle.rx_ast.specs.declared.leaf.CharacterKind.{CharacterKind}
-use Rattle.rx_ast.specs.declared.leaf.CharacterKind.TheVariants as kind
+use Rattle.rx_ast.specs.ClassTree.{Class}
 use Rattle.rx_units.specs.declared.code_point.CodePoint.{CodePoint}
 use Rattle.rx_units.specs.Units.{values}
 use Rattle.rx_model.specs.Boundaries.{has_buffers}
-use Rattle.rx_model.specs.Decoding.{Decoded, value, invalid, overflow, decoded}
+use Rattle.rx_model.specs.ClassFronts.{class_front}
 use Rattle.rx_model.specs.Environment.{Environment, is_unicode}
-use Rattle.rx_model.specs.Escapes.{front_is, is_identity_escape}
+pub use Rattle.rx_model.specs.EscapeFronts.{EscapeRead, escaped, nothing, too_many, no_unicode, escaped_if, unicode_read, letter_at, two_at, escape_behind, class_escape_at}
+unfoldable pub use Rattle.rx_model.specs.EscapeFronts.{escape_at}
+use Rattle.rx_model.specs.Escapes.{front_is}
 use Rattle.rx_model.specs.GroupFronts.{group_front, reference_front}
+use Rattle.rx_model.specs.PropertyFronts.{PropertyRead, property_read, no_property, property_front}
 use Rattle.rx_model.specs.Quantifiers.{is_question}
-use Rattle.rx_model.specs.Rows.{stands_raw, unit_kind}
-use Rattle.rx_model.specs.Token.{Token, Opener, boundary, character, dot, class_escape, indexed, named, opener, closer, bar, quantifier}
-use Rattle.rx_model.specs.UnicodeEscapes.{hex_number}
-
--- what stands behind a backslash: a character of a kind, by so many characters; nothing; digits that pass 32 bits; `u` without a unicode escape
-pub data EscapeRead : Type 0 where
-  escaped : CharacterKind → ℕ → ℕ → EscapeRead
-  nothing : EscapeRead
-  too_many : ℕ → EscapeRead
-  no_unicode : EscapeRead
-
--- a character of a kind where there is a value
-abbrev pub escaped_if : CharacterKind → ℕ → Option ℕ → EscapeRead
-escaped_if k count None = nothing
-escaped_if k count (Some v) = escaped k v count
-
-abbrev pub unicode_read : Decoded → EscapeRead
-unicode_read (value v n) = escaped kind.UnicodeEscape v n
-unicode_read (overflow n) = too_many n
-unicode_read invalid = no_unicode
-
-abbrev pub letter_at : List ℕ → Option ℕ
-letter_at [] = None
-letter_at (c ∷ w) = control_letter_value c
-
-abbrev pub two_at : List ℕ → Option ℕ
-two_at [] = None
-two_at (a ∷ []) = None
-two_at (a ∷ b ∷ rest) = hex_number (a ∷ b ∷ [])
-
-abbrev pub escape_behind : Bool → Option ℕ → ℕ → List ℕ → EscapeRead
-escape_behind unicode_mode (Some v) c w = escaped kind.SingleEscape v 1
-escape_behind unicode_mode None c w =
-    if c == 99 then escaped_if kind.ControlLetter 2 (letter_at w)
-    else (if c == 48 then (if front_is is_decimal_digit w then nothing else escaped kind.Null 0 1)
-    else (if c == 120 then escaped_if kind.HexadecimalEscape 3 (two_at w)
-    else (if c == 117 then unicode_read (decoded unicode_mode (c ∷ w))
-    else (if unicode_mode && is_identity_escape c then escaped kind.Identifier c 1
-    else nothing))))
-
--- the character escape behind a backslash, with `u` or `v` or not
-unfoldable pub escape_at : Bool → List ℕ → EscapeRead
-escape_at unicode_mode [] = nothing
-escape_at unicode_mode (c ∷ w) = escape_behind unicode_mode (control_escape_value c) c w
+use Rattle.rx_model.specs.Rows.{stands_raw}
+use Rattle.rx_model.specs.UnitKinds.{unit_kind}
+use Rattle.rx_model.specs.Token.{Token, Opener, boundary, character, dot, class_escape, property, class, indexed, named, opener, closer, bar, quantifier}
+use Rattle.rx_model.specs.PropertyForms.{begins_property}
 
 abbrev pub buffer_at : ℕ → Option BoundaryAssertionKind
 buffer_at c =
@@ -72,16 +33,6 @@ boundary_at e c =
     if c == 98 then Some boundary_kind.Boundary
     else (if c == 66 then Some boundary_kind.NegativeBoundary
     else (if has_buffers e then buffer_at c else None))
-
--- the class escape behind a backslash
-abbrev pub class_escape_at : ℕ → Option CharacterClassEscapeKind
-class_escape_at c =
-    if c == 100 then Some class_kind.D
-    else (if c == 68 then Some class_kind.NegativeD
-    else (if c == 115 then Some class_kind.S
-    else (if c == 83 then Some class_kind.NegativeS
-    else (if c == 119 then Some class_kind.W
-    else (if c == 87 then Some class_kind.NegativeW else None)))))
 
 abbrev pub escaped_token : EscapeRead → Option (Token × ℕ)
 escaped_token (escaped k v n) = Some (character k v, n + 1)
@@ -111,13 +62,18 @@ abbrev pub named_token : Option (List ℕ × ℕ) → Option (Token × ℕ)
 named_token None = None
 named_token (Some n) = Some (named n.0, n.1 + 3)
 
+abbrev pub property_token : PropertyRead → Option (Token × ℕ)
+property_token (property_read negative strings name value n) = Some (property negative strings name value, n + 1)
+property_token no_property = None
+
 -- the token of a backslash and what stands behind it
 unfoldable pub backslash_front : Environment → List ℕ → Option (Token × ℕ)
 backslash_front e [] = None
 backslash_front e (c ∷ w) =
     if is_within 49 57 c && is_unicode e.mode then indexed_token (digits_behind 0 0 (c ∷ w))
     else (if c == 107 && e.named then named_token (reference_front (is_unicode e.mode) w)
-    else backslash_token (boundary_at e c) (class_escape_at c) (escape_at (is_unicode e.mode) (c ∷ w)))
+    else (if begins_property c && is_unicode e.mode then property_token (property_front e.mode (c ∷ w))
+    else backslash_token (boundary_at e c) (class_escape_at c) (escape_at (is_unicode e.mode) (c ∷ w))))
 
 -- the counts of a quantifier, by so many characters, or none
 pub data Counts : Type 0 where
@@ -159,7 +115,11 @@ abbrev pub opener_token : Option (Opener × ℕ) → Option (Token × ℕ)
 opener_token None = None
 opener_token (Some o) = Some (opener o.0, o.1)
 
--- the token that begins with this character, which is neither a backslash nor stands for itself
+abbrev pub bracket_token : Option (Class × ℕ) → Option (Token × ℕ)
+bracket_token None = None
+bracket_token (Some c) = Some (class c.0, c.1)
+
+-- the token that begins with this character, which is neither a backslash nor a `[` nor stands for itself
 abbrev pub syntax_front : Environment → ℕ → List ℕ → Option (Token × ℕ)
 syntax_front e c w =
     if c == 46 then Some (dot, 1)
@@ -175,4 +135,5 @@ unfoldable pub front : Environment → List CodePoint → Option (Token × ℕ)
 front e [] = None
 front e (u ∷ us) =
     if stands_raw e.mode u.value then Some (character (unit_kind u.escape_kind) u.value, 1)
-    else (if u.value == 92 then backslash_front e (values us) else syntax_front e u.value (values us))
+    else (if u.value == 92 then backslash_front e (values us)
+    else (if u.value == 91 then bracket_token (class_front e us) else syntax_front e u.value (values us)))

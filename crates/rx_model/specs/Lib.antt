@@ -1,11 +1,19 @@
 pub mod Boundaries
 pub mod Causes
 pub mod CharacterText
+pub mod ClassCauses
+pub mod ClassFronts
+pub mod ClassPlaces
+pub mod ClassRows
+pub mod ClassRuns
 pub mod ClassText
+pub mod ClassTokens
 pub mod Cuts
 pub mod Decoding
 pub mod Early
 pub mod Environment
+pub mod EscapeCauses
+pub mod EscapeFronts
 pub mod Escapes
 pub mod Events
 pub mod FlagCauses
@@ -21,6 +29,9 @@ pub mod Modes
 pub mod Modifiers
 pub mod Names
 pub mod OneLine
+pub mod PropertyEscapes
+pub mod PropertyForms
+pub mod PropertyFronts
 pub mod Quantifiers
 pub mod Reached
 pub mod ReadBack
@@ -31,3 +42,4 @@ pub mod Spelling
 pub mod Stops
 pub mod Token
 pub mod UnicodeEscapes
+pub mod UnitKinds

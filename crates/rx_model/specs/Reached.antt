@@ -40,6 +40,12 @@ pub record IsReached (mode : Mode) (us : List CodePoint) (place : ℕ) (open_gro
   pub accepted : run mode tokens [] false ≡ Some (open_groups, ready)
   pub obey : AreObeying mode us tokens
 
+-- some tokens lead to this place, where the rest is left
+pub record IsPlace (mode : Mode) (us : List CodePoint) (place : ℕ) (rest : List CodePoint) : Type 0 where
+  pub open_groups : List Opener
+  pub ready : Bool
+  pub reached : IsReached mode us place open_groups ready rest
+
 -- The group that opens at place `from` is the innermost that is open at this place, where the rest is left: what stands in it so far opens and
 -- closes groups of its own alone.
 pub record IsInside (mode : Mode) (us : List CodePoint) (from : ℕ) (group : Opener) (place : ℕ) (rest : List CodePoint) : Type 0 where

@@ -3,27 +3,21 @@ use Rattle.std.specs.Prelude.{◌≡◌, ℕ, ◌+◌, Bool, true, false, not, �
 use Rattle.rx_tables.specs.Characters.{is_syntax_character}
 use Rattle.rx_ast.specs.declared.leaf.BoundaryAssertionKind.{BoundaryAssertionKind}
 use Rattle.rx_ast.specs.declared.leaf.CharacterKind.{CharacterKind}
-use Rattle.rx_ast.specs.declared.leaf.CharacterKind.TheVariants.{Symbol, UnicodeEscape, HexadecimalEscape}
 use Rattle.rx_units.specs.declared.code_point.CodePoint.{CodePoint}
-use Rattle.rx_units.specs.declared.code_point.EscapeKind.{EscapeKind}
-use Rattle.rx_units.specs.declared.code_point.EscapeKind.TheVariants as escape
 use Rattle.rx_units.specs.Units.{values}
 use Rattle.rx_model.specs.declared.mode.Mode.{Mode}
 use Rattle.rx_model.specs.declared.mode.Mode.TheVariants.{Legacy, Unicode, Sets}
 use Rattle.rx_model.specs.Boundaries.{boundary_text, has_boundary}
+use Rattle.rx_model.specs.ClassRows.{IsClass, IsClassSpanned}
 use Rattle.rx_model.specs.ClassText.{class_escape_text}
 use Rattle.rx_model.specs.Environment.{Environment}
 use Rattle.rx_model.specs.Escapes.{SpellsEscape}
 use Rattle.rx_model.specs.Events.{Events, enter, leave, token, inside, modified}
 use Rattle.rx_model.specs.Quantifiers.{IsQuantifier}
 use Rattle.rx_model.specs.Groups.{IsIndexed, IsNamed, IsModifying, SpellsOpener}
+use Rattle.rx_model.specs.PropertyEscapes.{IsProperty}
 use Rattle.rx_model.specs.Token.{Token, boundary, character, dot, class_escape, property, class, indexed, named, opener, closer, bar, quantifier}
-
--- the kind of a character that is one unit, by how the unit was written
-abbrev pub unit_kind : EscapeKind → CharacterKind
-unit_kind escape.None = Symbol
-unit_kind escape.Unicode = UnicodeEscape
-unit_kind escape.Hexadecimal = HexadecimalEscape
+use Rattle.rx_model.specs.UnitKinds.{unit_kind}
 
 -- whether a value may stand for itself outside classes (PatternCharacter, 22.2.1); with neither `u` nor `v` no character is read yet
 abbrev pub stands_raw : Mode → ℕ → Bool
@@ -52,15 +46,15 @@ pub record IsBoundary (e : Environment) (kind : BoundaryAssertionKind) (w : List
   pub text : values w ≡ boundary_text kind
   pub there : has_boundary e kind ≡ true
 
--- The units w spell the token before rest. Classes and property escapes are not read yet.
+-- The units w spell the token before rest.
 abbrev pub Spells : Environment → Token → List CodePoint → List CodePoint → Type 0
 Spells e (character kind value) w rest = IsRaw e kind value w ⊎ IsEscaped e kind value w rest
 Spells e dot w rest = values w ≡ 46 ∷ []
 Spells e bar w rest = values w ≡ 124 ∷ []
 Spells e (boundary kind) w rest = IsBoundary e kind w
 Spells e (class_escape kind) w rest = values w ≡ class_escape_text kind
-Spells e (property negative strings name value) w rest = ⊥
-Spells e (class c) w rest = ⊥
+Spells e (property negative strings name value) w rest = IsProperty e negative strings name value w
+Spells e (class c) w rest = IsClass e c w rest
 Spells e (indexed n) w rest = IsIndexed e n w rest
 Spells e (named name) w rest = IsNamed e name w rest
 Spells e (opener o) w rest = SpellsOpener e o w rest
@@ -74,13 +68,14 @@ TokenRow e (t ∷ ts) us rest =
     (w : List CodePoint) × (more : List CodePoint) × (us ≡ w ++ more) × Spells e t w more × TokenRow e ts more rest
 
 -- The events lead from place i, with these units left, to place j with the rest left, where o gives the offset of a place: each node
--- begins and ends at the offset of its place, modifiers too.
+-- begins and ends at the offset of its place, modifiers and what stands in classes too.
 abbrev pub Row : Environment → (ℕ → ℕ) → Events → ℕ → List CodePoint → ℕ → List CodePoint → Type 0
 Row e o [] i us j rest = (i ≡ j) × (us ≡ rest)
 Row e o ((enter n) ∷ es) i us j rest = (n ≡ o i) × Row e o es i us j rest
 Row e o ((leave n) ∷ es) i us j rest = (n ≡ o i) × Row e o es i us j rest
 Row e o ((token t) ∷ es) i us j rest =
     (w : List CodePoint) × (more : List CodePoint) × (us ≡ w ++ more) × Spells e t w more × Row e o es (i + length w) more j rest
-Row e o ((inside c) ∷ es) i us j rest = ⊥
+Row e o ((inside c) ∷ es) i us j rest =
+    (w : List CodePoint) × (more : List CodePoint) × (us ≡ w ++ more) × IsClassSpanned e o i c w more × Row e o es (i + length w) more j rest
 Row e o ((modified m) ∷ es) i us j rest =
     (w : List CodePoint) × (more : List CodePoint) × (us ≡ w ++ more) × IsModifying o i m w × Row e o es (i + length w) more j rest

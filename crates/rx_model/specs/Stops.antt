@@ -4,6 +4,8 @@ use Rattle.std.specs.List.{list_any}
 use Rattle.rx_tables.specs.Characters.{is_within, is_decimal_digit, control_letter_value, hex_digit_value}
 use Rattle.rx_units.specs.declared.code_point.CodePoint.{CodePoint}
 use Rattle.rx_units.specs.Units.{values}
+use Rattle.rx_model.specs.declared.mode.Mode.{Mode}
+use Rattle.rx_model.specs.declared.mode.Mode.TheVariants.{Legacy, Unicode, Sets}
 use Rattle.rx_model.specs.Boundaries.{has_buffers}
 use Rattle.rx_model.specs.Environment.{Environment, is_unicode}
 use Rattle.rx_model.specs.Escapes.{front_is, is_identity_escape}
@@ -28,6 +30,19 @@ abbrev pub begins_escape : Environment → List ℕ → Bool
 begins_escape e [] = false
 begins_escape e (c ∷ w) =
     is_one_of (codes "upPkbBdDsSwWfnrtv") c || is_identity_escape c || is_within 49 57 c || (has_buffers e && is_one_of (codes "AzZ") c)
+    || (c == 99 && front_is is_letter w) || (c == 48 && not (front_is is_decimal_digit w)) || (c == 120 && two_hex_digits w)
+
+-- whether `\-` is an escape in classes: with `u`, and not with `v`, where it is one of the reserved punctuators
+abbrev pub is_hyphen_escaped : Mode → Bool
+is_hyphen_escaped Legacy = false
+is_hyphen_escaped Unicode = true
+is_hyphen_escaped Sets = false
+
+-- The same in classes (ClassEscape, 22.2.1): no boundary and no reference begins there, but `\b` and, with `u`, `\-` do.
+abbrev pub begins_class_escape : Environment → List ℕ → Bool
+begins_class_escape e [] = false
+begins_class_escape e (c ∷ w) =
+    is_one_of (codes "upPbdDsSwWfnrtv") c || is_identity_escape c || (is_hyphen_escaped e.mode && c == 45)
     || (c == 99 && front_is is_letter w) || (c == 48 && not (front_is is_decimal_digit w)) || (c == 120 && two_hex_digits w)
 
 -- Terms end before these units, and reading stands so many units behind that place: at the end; at `)`; with `u` or `v` also at `]`, `}`, a `{` that
