@@ -1,2 +1,7 @@
 pub mod Answers
+pub mod ClassAnswers
+pub mod ClassItems
+pub mod Fitting
 pub mod Found
+pub mod PropertyAnswers
+pub mod PropertyFound

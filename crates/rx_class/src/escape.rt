@@ -2,6 +2,7 @@ ghost use Rattle.std.specs.Prelude.{◌≡◌, ◌+◌, ◌<◌, ◌≤◌, ◌^
 ghost use Rattle.rx_units.specs.Reading.{moved, offset_of};
 ghost use Rattle.rx_model.specs.Reached.{span_between};
 ghost use Rattle.rx_class.specs.Answers.{GivesCharacter, GivesClassEscape, IsBehindBackslash, environment_of};
+ghost use Rattle.rx_class.specs.Fitting.{AreFitting};
 
 use crate::{EscapeFound, character_escape_at, class_escape_at};
 use rx_ast::{Character, CharacterClassEscape};
@@ -22,7 +23,7 @@ pub fn parse_character_escape(
     span_start: u32,
 ) -> Result<Option<Character>, Diagnostic>
     requires backslash { IsBehindBackslash reader.old span_start }
-    requires fits { length reader.old.text + spans.now < 2 ^ 32 }
+    requires fits { AreFitting spans.now reader.old }
     requires unicode { IsTrue state.now.unicode_mode }
     ensures { GivesCharacter (environment_of state.now) spans.now span_start reader.old reader.new result }
 {
@@ -52,7 +53,7 @@ pub fn parse_character_escape(
 
 /// The span of so many units from the reader's place on. The reader moves over them.
 fn next_span(reader: &mut Reader<'_>, spans: &SpanFactory, count: usize) -> Span
-    requires fits { length reader.old.text + spans.now < 2 ^ 32 }
+    requires fits { AreFitting spans.now reader.old }
     requires within { reader.old.place + count ≤ length reader.old.units }
     ensures { result ≡ span_between reader.old.units reader.old.first spans.now reader.old.place (reader.old.place + count) }
 {
@@ -70,7 +71,7 @@ pub fn parse_character_class_escape(
     span_start: u32,
 ) -> Option<CharacterClassEscape>
     requires backslash { IsBehindBackslash reader.old span_start }
-    requires fits { length reader.old.text + spans.now < 2 ^ 32 }
+    requires fits { AreFitting spans.now reader.old }
     ensures { GivesClassEscape spans.now span_start reader.old reader.new result }
 {
     let kind = class_escape_at(reader.remaining_code_points())?;

@@ -1,10 +1,19 @@
-//! Reading the escapes that stand for a character or for a class of characters.
+//! Reading classes, and the escapes that stand for a character or for a class of characters.
 #![tactic(auto)]
 
+mod class;
+mod class_atom;
+mod class_item;
 mod escape;
 mod escape_found;
+mod property;
+mod property_form;
+mod property_found;
 #[cfg(test)]
 mod tests;
 
+pub use class::parse_character_class;
+pub use class_atom::unit_kind;
 pub use escape::{parse_character_class_escape, parse_character_escape};
 pub use escape_found::{EscapeFound, character_escape_at, class_escape_at};
+pub use property::parse_character_class_escape_unicode;

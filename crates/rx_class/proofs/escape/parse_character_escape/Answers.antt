@@ -2,7 +2,14 @@ use Rattle.std.proofs.Common.{◌+◌, ◌≤◌, length, subst}
 use Rattle.rx_units.specs.Reading.{rest}
 use Rattle.rx_class.specs.Answers.{environment_of}
 use Rattle.rx_class.proofs.Gives.{character_gives, ends_there, invalid_gives, nothing_gives, read_in_unicode_mode, too_many_gives, unicode_by}
+use Rattle.rx_class.proofs.Fitting.{offset_moved_fits, start_fits}
 use Rattle.rx_class.proofs.escape.parse_character_escape.Goals as goal
+
+pub create-span-requires-clause-start : goal.create-span-requires-clause-start
+create-span-requires-clause-start c = start_fits c.args.spans.now c.args.span_start c.args.reader.now c.requires.fits c.requires.backslash
+
+pub create-span-requires-clause-end : goal.create-span-requires-clause-end
+create-span-requires-clause-end c = offset_moved_fits c.args.spans.now c.in-Character.length _ c.args.reader.now c.skip.new.self c.requires.fits c.skip.ensures c.offset.ensures.value
 
 pub returns-in-Character : goal.returns-in-Character
 returns-in-Character c =

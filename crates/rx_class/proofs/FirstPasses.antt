@@ -1,0 +1,37 @@
+-- What the first pass over a text leaves in the state.
+use Rattle.std.proofs.Common.{◌≡◌, refl, ap, ap₂, sym, ◌∙◌, ◌-◌, ◌^◌, ◌<◌, true, false, List, arith, Result, Ok, Err}
+use Rattle.std.specs.Prelude.{OnOk, is_err, min}
+use Rattle.rx_units.specs.declared.code_point.CodePoint.{CodePoint}
+use Rattle.rx_units.specs.Units.{values}
+use Rattle.rx_model.specs.declared.mode.Mode.TheVariants.{Unicode}
+use Rattle.rx_model.specs.Marks.{count, marks, seen}
+use Rattle.rx_model.specs.Modes.{mode_by}
+use Rattle.rx_model.specs.Reached.{text_groups, text_names}
+use Rattle.rx_scan.specs.declared.state.State.{State}
+use Rattle.rx_class.specs.ClassAnswers.{HoldsFirstPass}
+
+-- what holds of a call that did not fail
+pub without_err : {T E P : Type 0} (r : Result T E) → is_err r ≡ false → OnOk r P → P
+without_err (Ok it) no_err holds = holds
+without_err (Err cause) no_err holds = absurd (let no : ⊥ = cc no_err in no)
+
+-- the groups of a text, as they are counted
+pub counted : (us : List CodePoint) → text_groups us ≡ count (marks (values us))
+unfolding text_groups
+counted us = refl
+
+-- and their names, as they are listed
+pub listed : (us : List CodePoint) → text_names Unicode us ≡ seen true (marks (values us))
+unfolding text_names
+listed us = refl
+
+-- Where the count did not stand still the state holds the pass.
+pub holds_first_pass : (us : List CodePoint) (old new : State) → old.unicode_mode ≡ true → old.unicode_sets_mode ≡ false → new.unicode_mode ≡ old.unicode_mode
+    → new.unicode_sets_mode ≡ old.unicode_sets_mode → new.num_of_capturing_groups ≡ min (count (marks (values us))) (2 ^ 32 - 1)
+    → new.capturing_group_names ≡ seen old.unicode_mode (marks (values us)) → new.num_of_capturing_groups < 2 ^ 32 - 1 → HoldsFirstPass new us
+holds_first_pass us old new u s same_u same_s groups names small = record {
+  groups = omega (arith, groups, small, counted us);
+  names =
+      names ∙ ap (λ x. seen x (marks (values us))) u ∙ sym (listed us)
+      ∙ ap (λ mode. text_names mode us) (sym (ap₂ mode_by (same_u ∙ u) (same_s ∙ s)));
+}

@@ -1,0 +1,88 @@
+-- The pair of a name and a value that is found behind `{`.
+use Rattle.std.proofs.Common.{◌≡◌, ◌≢◌, ℕ, ◌-◌, ◌<◌, ◌≤◌, ◌==◌, true, false, List, [], ◌∷◌, ◌++◌, length, take, drop, get_or, refl, sym, ap, ◌∙◌, subst, arith}
+use Rattle.std.specs.List.{list_all, prefix_len}
+use Rattle.std.proofs.lemmas.Bool.Decides.{nat_tests}
+use Rattle.std.proofs.lemmas.List.{take_all}
+use Rattle.rx_tables.specs.Characters.{is_unicode_property_name_character}
+use Rattle.rx_units.specs.declared.code_point.CodePoint.{CodePoint}
+use Rattle.rx_units.specs.Units.{values}
+use Rattle.rx_model.specs.Escapes.{front_is}
+use Rattle.rx_model.specs.PropertyForms.{HasPair, IsValueRun}
+use Rattle.rx_class.proofs.PropertyRuns.{IsRunSplit, one_name, one_run, run_split}
+
+-- no name and value stand at the front
+abbrev pub HasNoPair : List CodePoint → Type 0
+HasNoPair us = (name value behind : List ℕ) → HasPair (values us) name value behind → ⊥
+
+empty_values : (us : List CodePoint) → length us ≡ 0 → values us ≡ []
+empty_values [] h = refl
+empty_values (u ∷ us) h = absurd (omega (arith, h))
+
+pub no_units : (us : List CodePoint) → (length us == 0) ≡ true → values us ≡ []
+no_units [] h = refl
+no_units (u ∷ us) h = absurd (grind (arith, nat_tests))
+
+pub some_units : (us : List CodePoint) → (length us == 0) ≡ false → values us ≢ []
+some_units [] h e = let no : ⊥ = cc h in no
+some_units (u ∷ us) h e = cc e
+
+module _ (us name behind : List CodePoint) (n : ℕ) (count : n ≡ prefix_len (λ (u : CodePoint). is_unicode_property_name_character u.value) us) (front : name ≡ take n us) (back : behind ≡ drop n us) where
+  split : IsRunSplit is_unicode_property_name_character us n
+  split = subst (λ n. IsRunSplit is_unicode_property_name_character us n) (sym count) (run_split is_unicode_property_name_character us)
+
+  whole : values us ≡ values name ++ values behind
+  whole = rw (front, back) split.whole
+
+  all : list_all is_unicode_property_name_character (values name) ≡ true
+  all = rw (front) split.inside
+
+  ends : front_is is_unicode_property_name_character (values behind) ≡ false
+  ends = rw (back) split.longest
+
+  -- the name of a pair is this run, and `=` follows it
+  its_name : (a v r : List ℕ) (p : HasPair (values us) a v r) → (values name ≡ a) × (values behind ≡ 61 ∷ p.behind)
+  its_name a v r p = one_name (values us) (values name) (values behind) a p.behind whole all ends p.whole p.of_names
+
+  pub none_at_end : length behind < 1 → HasNoPair us
+  none_at_end short a v r p =
+      let e = sym (empty_values behind (omega (arith, short))) ∙ (its_name a v r p).1 in
+      cc e
+
+  pub none_without_equals : (d : CodePoint) → ((get_or behind 0 d).value ≡ 61 → ⊥) → HasNoPair us
+  none_without_equals d other a v r p = first_differs behind d other (p.behind) (its_name a v r p).1 where
+    first_differs : (bs : List CodePoint) (d : CodePoint) → ((get_or bs 0 d).value ≡ 61 → ⊥) → (more : List ℕ) → values bs ≡ 61 ∷ more → ⊥
+    first_differs [] d other more e = cc e
+    first_differs (b ∷ bs) d other more e = other (let h : b.value ≡ 61 = cc e in h)
+
+  pub none_without_name : (length name == 0) ≡ true → HasNoPair us
+  none_without_name short a v r p = p.some_name (sym (its_name a v r p).0 ∙ no_units name short)
+
+  behind_equals : (bs : List CodePoint) (more : List ℕ) → values bs ≡ 61 ∷ more → values (take (length bs - 1) (drop 1 bs)) ≡ more
+  behind_equals [] more e = absurd (let no : ⊥ = cc e in no)
+  behind_equals (b ∷ bs) more e = ap values (take_all (length (b ∷ bs) - 1) bs (omega arith)) ∙ (let same : values bs ≡ more = cc e in same)
+
+  -- the value of a pair is the run behind `=`
+  its_run : (run rest a v r : List ℕ) → IsValueRun (values (take (length behind - 1) (drop 1 behind))) run rest → HasPair (values us) a v r → (run ≡ v) × (rest ≡ r)
+  its_run run rest a v r is p = one_run is (subst (λ w. IsValueRun w v r) (sym (behind_equals behind p.behind (its_name a v r p).1)) p.run)
+
+  pub none_without_value : (value rest : List CodePoint) → IsValueRun (values (take (length behind - 1) (drop 1 behind))) (values value) (values rest) → (length value == 0) ≡ true → HasNoPair us
+  none_without_value value rest is short a v r p = p.some_value (sym (its_run (values value) (values rest) a v r is p).0 ∙ no_units value short)
+
+  pub none_without_more : (value rest : List CodePoint) → IsValueRun (values (take (length behind - 1) (drop 1 behind))) (values value) (values rest) → (length rest == 0) ≡ true → HasNoPair us
+  none_without_more value rest is short a v r p = p.goes_on (sym (its_run (values value) (values rest) a v r is p).1 ∙ no_units rest short)
+
+  first_is : (bs : List CodePoint) (d : CodePoint) → 1 ≤ length bs → (get_or bs 0 d).value ≡ 61 → values bs ≡ 61 ∷ values (take (length bs - 1) (drop 1 bs))
+  first_is [] d some h = absurd (omega (arith, some))
+  first_is (b ∷ bs) d some h = ap (λ c. c ∷ values bs) h ∙ ap (λ bs. 61 ∷ values bs) (sym (take_all (length (b ∷ bs) - 1) bs (omega arith)))
+
+  pub pair_here : (d : CodePoint) (value rest : List CodePoint) → 1 ≤ length behind → (get_or behind 0 d).value ≡ 61 → IsValueRun (values (take (length behind - 1) (drop 1 behind))) (values value) (values rest)
+      → (length name == 0) ≡ false → (length value == 0) ≡ false → (length rest == 0) ≡ false → HasPair (values us) (values name) (values value) (values rest)
+  pair_here d value rest some equals is some_name some_value goes_on = record {
+    behind = values (take (length behind - 1) (drop 1 behind));
+    whole = whole ∙ ap (λ b. values name ++ b) (first_is behind d some equals);
+    of_names = all;
+    run = is;
+    some_name = some_units name some_name;
+    some_value = some_units value some_value;
+    goes_on = some_units rest goes_on;
+  }

@@ -1,0 +1,145 @@
+-- What the readers of a class's atoms and of its items answer, at a place where one is to stand, by the environment of the reader's whole text.
+use Rattle.std.specs.Prelude.{◌≡◌, ℕ, ◌+◌, ◌-◌, ◌<◌, ◌≤◌, ◌==◌, ◌&&◌, ◌≢◌, false, true, Option, Some, None, Result, Ok, Err, List, [], ◌∷◌, ◌++◌, length, map, if◌then◌else◌}
+use Rattle.rx_base.specs.declared.diagnostic.Diagnostic.{Diagnostic}
+use Rattle.rx_base.specs.declared.diagnostic.Diagnostic.TheVariants.{CharacterClassRangeOutOfOrder, CharacterClassRangeDashNotSubtraction, CharacterClassRangeInvalidAtom}
+use Rattle.rx_base.specs.declared.diagnostic.kinds.RangeKind.TheVariants as range_kind
+use Rattle.rx_base.specs.declared.fault.Fault.{Fault}
+use Rattle.rx_base.specs.declared.fault.Fault.TheVariants as fault
+use Rattle.rx_base.specs.declared.span.Span.{Span}
+use Rattle.rx_ast.specs.declared.leaf.Character.{Character}
+use Rattle.rx_ast.specs.declared.leaf.CharacterKind.{CharacterKind}
+use Rattle.rx_ast.specs.declared.leaf.CharacterKind.TheVariants as kind
+use Rattle.rx_ast.specs.declared.class.CharacterClassContents.{CharacterClassContents}
+use Rattle.rx_ast.specs.declared.class.CharacterClassRange.{CharacterClassRange}
+use Rattle.rx_ast.specs.ClassTree.{Member, Members, no_member, member, members, mirror_contents}
+use Rattle.rx_ast.specs.ClassTree as tree
+use Rattle.rx_units.specs.declared.code_point.CodePoint.{CodePoint}
+use Rattle.rx_units.specs.Reading.{Reading, moved, rest}
+use Rattle.rx_units.specs.Units.{offset_at, values}
+use Rattle.rx_model.specs.declared.mode.Mode.TheVariants.{Unicode}
+use Rattle.rx_model.specs.ClassCauses.{IsClassCause, is_character}
+use Rattle.rx_model.specs.ClassFronts.{atom_at, no_atom, no_piece, piece_at}
+use Rattle.rx_model.specs.ClassFronts as piece
+use Rattle.rx_model.specs.ClassPlaces.{IsAtomPlace, IsItemPlace}
+use Rattle.rx_model.specs.ClassRows.{ClassRow, SpellsAtom, fresh}
+use Rattle.rx_model.specs.ClassRuns.{atom_obeys}
+use Rattle.rx_model.specs.ClassTokens.{Atom, character, escape, property, member_events}
+use Rattle.rx_model.specs.Early.{IsEarlyMember, member_strings}
+use Rattle.rx_model.specs.Environment.{Environment}
+use Rattle.rx_model.specs.Marks.{starts}
+use Rattle.rx_model.specs.Reached.{span_between, text_environment}
+use Rattle.rx_model.specs.UnitKinds.{unit_kind}
+use Rattle.rx_class.specs.declared.class_atom.ClassAtom.{ClassAtom}
+use Rattle.rx_class.specs.declared.class_atom.ClassAtom.TheVariants as atom
+
+-- the atom, without its span
+abbrev pub atom_of : ClassAtom → Atom
+atom_of (atom.Character c) = character c.kind c.value
+atom_of (atom.Escape it) = escape it.kind
+atom_of (atom.Property p) = property p.negative p.strings p.name p.value
+
+abbrev pub atom_span : ClassAtom → Span
+atom_span (atom.Character c) = c.span
+atom_span (atom.Escape it) = it.span
+atom_span (atom.Property p) = p.span
+
+-- the atom as a member of a class
+abbrev pub atom_member : ClassAtom → Member
+atom_member (atom.Character c) = tree.character c
+atom_member (atom.Escape it) = tree.escape it
+atom_member (atom.Property p) = tree.property p
+
+-- the kind of a character that is one unit of a class
+abbrev pub kind_in_class : CodePoint → CharacterKind
+kind_in_class u = if u.value == 45 then kind.Symbol else unit_kind u.escape_kind
+
+-- the character that stands behind a backslash in classes alone, all by itself
+abbrev pub alone_in_class : List ℕ → Option ℕ
+alone_in_class [] = None
+alone_in_class (c ∷ w) = if c == 98 then Some 8 else (if c == 45 then Some 45 else None)
+
+-- the environment of the text that a reader reads
+abbrev pub environment_at : Reading → Environment
+environment_at r = text_environment Unicode r.units
+
+-- the reader one unit before
+abbrev pub back : Reading → Reading
+back r = record r { place = r.place - 1 }
+
+-- neither the end nor `]`
+pub record StandsItem (us : List CodePoint) : Type 0 where
+  pub some : us ≡ [] → ⊥
+  pub no_closer : starts 93 (values us) ≡ false
+
+-- Of each class in which an atom may stand at the reader's place, this is a cause.
+abbrev pub IsAtomCause : ℕ → Reading → Diagnostic → Type 0
+IsAtomCause added r diagnostic =
+    (from : ℕ) (at_class : List CodePoint) → IsAtomPlace (environment_at r) from at_class r.place (rest r)
+    → IsClassCause Unicode r.units r.first added from at_class diagnostic
+
+-- What stands at the reader's place is answered as an atom of a class (ClassAtom, 22.2.1).
+pub data GivesAtom (added : ℕ) (old new : Reading) : Result ClassAtom Fault → Type 0 where
+  some : {it : ClassAtom} (w more : List CodePoint) → rest old ≡ w ++ more → SpellsAtom (environment_at old) (atom_of it) w more → atom_obeys (atom_of it) ≡ true
+      → atom_span it ≡ span_between old.units old.first added old.place (old.place + length w) → new ≡ moved (length w) old → GivesAtom added old new (Ok it)
+  refused : {diagnostic : Diagnostic} → IsAtomCause added old diagnostic → atom_at (environment_at old) (rest old) ≡ no_atom → GivesAtom added old new (Err (fault.Diagnostic diagnostic))
+  no_memory : GivesAtom added old new (Err fault.OutOfMemory)
+
+-- the span between two offsets
+abbrev pub between : ℕ → ℕ → Span
+between start end = record { start = start; end = end }
+
+-- What two atoms are as the ends of a range, with a `-` between them (22.2.1.1).
+pub data IsBetween : ClassAtom → ClassAtom → Result CharacterClassRange Diagnostic → Type 0 where
+  range : {min max : Character} → min.value ≤ max.value
+      → IsBetween (atom.Character min) (atom.Character max) (Ok (record { span = between min.span.start max.span.end; min = min; max = max }))
+  dash_out_of_order : {min max : Character} → max.value < min.value → max.value ≡ 45
+      → IsBetween (atom.Character min) (atom.Character max) (Err (CharacterClassRangeDashNotSubtraction (between min.span.end max.span.end)))
+  out_of_order : {min max : Character} → max.value < min.value → max.value ≢ 45
+      → IsBetween (atom.Character min) (atom.Character max) (Err (CharacterClassRangeOutOfOrder (between min.span.end max.span.end) range_kind.ClassAtom))
+  no_character : {low high : ClassAtom} → (is_character (atom_of low) && is_character (atom_of high)) ≡ false
+      → IsBetween low high (Err (CharacterClassRangeInvalidAtom (between (atom_span low).start (atom_span high).end)))
+
+-- At the front stands no item of a class that is free of early errors: none, or a range out of order.
+pub data BeginsNoItem (e : Environment) (us : List CodePoint) : Type 0 where
+  no_item : piece_at e us ≡ no_piece → BeginsNoItem e us
+  out_of_order : (low high : CharacterKind) (v x n : ℕ) → piece_at e us ≡ piece.range low v high x n → x < v → BeginsNoItem e us
+
+-- Of each class in which an item may stand at the reader's place, this is a cause.
+abbrev pub IsItemCause : ℕ → Reading → Diagnostic → Type 0
+IsItemCause added r diagnostic =
+    (from : ℕ) (at_class : List CodePoint) → IsItemPlace (environment_at r) from at_class r.place (rest r)
+    → IsClassCause Unicode r.units r.first added from at_class diagnostic
+
+-- a member that mode Unicode has: no class, and no class string
+abbrev pub IsPlain : Member → Type 0
+IsPlain (tree.range r) = Unit {0}
+IsPlain (tree.escape e) = Unit {0}
+IsPlain (tree.property p) = Unit {0}
+IsPlain (tree.character c) = Unit {0}
+IsPlain (tree.nested c) = ⊥
+IsPlain (tree.strings d) = ⊥
+
+-- The units w spell a member from place i on, where o gives the offset of a place; it is free of early errors.
+pub record IsItem (e : Environment) (o : ℕ → ℕ) (i : ℕ) (m : Member) (w more : List CodePoint) : Type 0 where
+  pub row : ClassRow e o (member_events m) fresh i (w ++ more) fresh (i + length w) more
+  pub early : IsEarlyMember m
+  pub plain : IsPlain m
+  pub no_strings : member_strings m ≡ false
+
+-- What stands at the reader's place is answered as an item of a class: an atom, or a range (NonemptyClassRanges, 22.2.1).
+pub data GivesItem (added : ℕ) (old new : Reading) : Result CharacterClassContents Fault → Type 0 where
+  some : {it : CharacterClassContents} (w more : List CodePoint) → rest old ≡ w ++ more
+      → IsItem (environment_at old) (λ i. offset_at old.first old.units i + added) old.place (mirror_contents it) w more
+      → new ≡ moved (length w) old → GivesItem added old new (Ok it)
+  refused : {diagnostic : Diagnostic} → IsItemCause added old diagnostic → BeginsNoItem (environment_at old) (rest old) → GivesItem added old new (Err (fault.Diagnostic diagnostic))
+  no_memory : GivesItem added old new (Err fault.OutOfMemory)
+
+-- the contents of a class
+abbrev pub contents : List CharacterClassContents → Members
+contents body = members (map mirror_contents body)
+
+-- Items stand one after another from place i on to place j, where the rest is left.
+abbrev pub AreItems : Environment → (ℕ → ℕ) → Members → ℕ → List CodePoint → ℕ → List CodePoint → Type 0
+AreItems e o no_member i us j rest = (i ≡ j) × (us ≡ rest)
+AreItems e o (member m ms) i us j rest =
+    (w : List CodePoint) × (more : List CodePoint) × (us ≡ w ++ more) × IsItem e o i m w more × AreItems e o ms (i + length w) more j rest

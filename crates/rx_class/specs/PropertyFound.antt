@@ -1,0 +1,68 @@
+-- What is found behind a backslash where a property escape may stand.
+use Rattle.std.specs.Prelude.{◌≡◌, ℕ, ◌+◌, Bool, true, false, Option, Some, None, List, [], ◌∷◌, ◌++◌, Contains, length}
+use Rattle.rx_base.specs.declared.diagnostic.Diagnostic.{Diagnostic}
+use Rattle.rx_base.specs.declared.diagnostic.Diagnostic.TheVariants.{UnterminatedPattern, InvalidUnicodeProperty, InvalidUnicodePropertyOfStrings}
+use Rattle.rx_base.specs.declared.diagnostic.kinds.PropertyPart.TheVariants as part
+use Rattle.rx_base.specs.declared.diagnostic.kinds.Unterminated.TheVariants as what
+use Rattle.rx_tables.specs.Properties.{binary_properties, general_category_values, properties_of_strings}
+use Rattle.rx_units.specs.declared.code_point.CodePoint.{CodePoint}
+use Rattle.rx_units.specs.Units.{values}
+use Rattle.rx_model.specs.declared.mode.Mode.{Mode}
+use Rattle.rx_model.specs.ClassText.{property_opener}
+use Rattle.rx_model.specs.EscapeCauses.{IsPropertyCause}
+use Rattle.rx_model.specs.Escapes.{front_is}
+use Rattle.rx_model.specs.PropertyEscapes.{SpellsProperty}
+use Rattle.rx_model.specs.PropertyForms.{HasPair, begins_property}
+use Rattle.rx_model.specs.Reached.{span_between}
+use Rattle.rx_class.specs.declared.property_found.Lone.{Lone}
+use Rattle.rx_class.specs.declared.property_found.Lone.TheVariants as lone
+use Rattle.rx_class.specs.declared.property_found.PropertyFound.{PropertyFound}
+use Rattle.rx_class.specs.declared.property_found.PropertyFound.TheVariants as found
+use Rattle.rx_class.specs.declared.property_found.PropertyHalt.{PropertyHalt}
+use Rattle.rx_class.specs.declared.property_found.PropertyHalt.TheVariants as halt
+use Rattle.rx_class.specs.declared.property_form.Pair.{Pair}
+
+-- a name and a value at the front, or none
+abbrev pub IsPairFound : List ℕ → Option Pair → Type 0
+IsPairFound w None = (name value behind : List ℕ) → HasPair w name value behind → ⊥
+IsPairFound w (Some p) = HasPair w (values p.name.now) (values p.value.now) (values p.behind.now)
+
+-- what a word names that stands alone
+abbrev pub IsLone : List ℕ → Lone → Type 0
+IsLone word lone.Category = Contains general_category_values word
+IsLone word lone.Binary = (Contains general_category_values word → ⊥) × Contains binary_properties word
+IsLone word lone.OfStrings = (Contains general_category_values word → ⊥) × (Contains binary_properties word → ⊥) × Contains properties_of_strings word
+IsLone word lone.Nothing = (Contains general_category_values word → ⊥) × (Contains binary_properties word → ⊥) × (Contains properties_of_strings word → ⊥)
+
+-- `P` or `p`
+abbrev pub property_letter : Bool → ℕ
+property_letter true = 80
+property_letter false = 112
+
+-- the refusal of a property escape whose backslash stands at a place
+abbrev pub property_refusal : List CodePoint → ℕ → ℕ → ℕ → PropertyHalt → Diagnostic
+property_refusal us first added place (halt.Unterminated end) = UnterminatedPattern (span_between us first added place (place + 1 + end)) what.PropertyEscape
+property_refusal us first added place (halt.Name start length) = InvalidUnicodeProperty (span_between us first added (place + 1 + start) (place + 1 + start + length)) part.Name
+property_refusal us first added place (halt.NameOrValue length) = InvalidUnicodeProperty (span_between us first added (place + 3) (place + 3 + length)) part.NameOrValue
+property_refusal us first added place (halt.OfStrings name length) = InvalidUnicodePropertyOfStrings (span_between us first added (place + 3) (place + 3 + length)) name
+
+-- With these characters behind its backslash a property escape is refused so, wherever it stands.
+abbrev pub IsPropertyHalt : Mode → List ℕ → PropertyHalt → Type 0
+IsPropertyHalt mode behind h = (us rest : List CodePoint) (first added place : ℕ) → values rest ≡ 92 ∷ behind
+    → IsPropertyCause mode us first added place rest (property_refusal us first added place h)
+
+-- So many of the characters behind a backslash spell a property with it.
+pub record IsPropertyBehind (mode : Mode) (behind : List ℕ) (negative strings : Bool) (name : List ℕ) (value : Option (List ℕ)) (count : ℕ) : Type 0 where
+  pub text : List ℕ
+  pub spelled : SpellsProperty mode strings name value text
+  pub front : List ℕ
+  pub rest : List ℕ
+  pub front_is : 92 ∷ front ≡ property_opener negative ++ (text ++ (125 ∷ []))
+  pub whole : behind ≡ front ++ rest
+  pub count_is : length front ≡ count
+
+-- what stands behind a backslash
+abbrev pub IsPropertyFound : Mode → List ℕ → PropertyFound → Type 0
+IsPropertyFound mode behind (found.Property negative strings name value length) = IsPropertyBehind mode behind negative strings name value length
+IsPropertyFound mode behind found.Nothing = front_is begins_property behind ≡ false
+IsPropertyFound mode behind (found.Halt h) = IsPropertyHalt mode behind h

@@ -1,0 +1,150 @@
+ghost use Rattle.std.specs.Prelude.{◌≡◌, IfOk};
+ghost use Rattle.rx_ast.specs.ClassTree.{mirror_contents};
+ghost use Rattle.rx_units.specs.Reading.{rest};
+ghost use Rattle.rx_units.specs.Units.{values};
+ghost use Rattle.rx_model.specs.UnitKinds.{unit_kind};
+ghost use Rattle.rx_class.specs.Answers.{IsBehindBackslash, environment_of};
+ghost use Rattle.rx_class.specs.ClassItems.{GivesAtom, StandsItem, alone_in_class, atom_member, atom_span, back, environment_at, kind_in_class};
+ghost use Rattle.rx_class.specs.Fitting.{AreFitting};
+
+use crate::escape::{parse_character_class_escape, parse_character_escape};
+use crate::property::parse_character_class_escape_unicode;
+use rx_ast::{
+    Character, CharacterClassContents, CharacterClassEscape, CharacterKind, UnicodePropertyEscape,
+};
+use rx_base::{Diagnostic, Fault, OutOfMemory, Span};
+use rx_scan::{SpanFactory, State};
+use rx_units::{CodePoint, EscapeKind, Reader};
+use std::alloc::Global;
+
+/// What stands alone in a class, or at an end of a range (ClassAtom of ECMA-262, 22.2.1).
+#[derive(Drop)]
+pub enum ClassAtom {
+    Character(Character),
+    Escape(CharacterClassEscape),
+    Property(UnicodePropertyEscape),
+}
+
+impl ClassAtom {
+    /// Its span, in bytes.
+    pub fn span(&self) -> Span
+        ensures { result ≡ atom_span self.now }
+    {
+        match self {
+            ClassAtom::Character(it) => it.span,
+            ClassAtom::Escape(it) => it.span,
+            ClassAtom::Property(it) => it.span,
+        }
+    }
+
+    /// The atom as an item of a class.
+    #[tactic(auto, using(rx_ast::proofs::ClassEquations::class_mirrors))]
+    pub fn into_contents(self, alloc: Global) -> Result<CharacterClassContents, OutOfMemory>
+        ensures { IfOk result (λ it. mirror_contents it ≡ atom_member self) }
+    {
+        match self {
+            ClassAtom::Character(it) => {
+                Ok(CharacterClassContents::Character(Box::new(alloc, it)?))
+            }
+            ClassAtom::Escape(it) => {
+                Ok(CharacterClassContents::CharacterClassEscape(Box::new(alloc, it)?))
+            }
+            ClassAtom::Property(it) => {
+                Ok(CharacterClassContents::UnicodePropertyEscape(Box::new(alloc, it)?))
+            }
+        }
+    }
+}
+
+/// Reads the atom that stands next in a class, and moves over it.
+pub fn class_atom(
+    alloc: Global,
+    reader: &mut Reader<'_>,
+    state: &State,
+    spans: &SpanFactory,
+) -> Result<ClassAtom, Fault>
+    requires stands { StandsItem (rest reader.old) }
+    requires environment { environment_of state.now ≡ environment_at reader.old }
+    requires fits { AreFitting spans.now reader.old }
+    ensures { GivesAtom spans.now reader.old reader.new result }
+{
+    let start = reader.offset();
+    let unit = reader.remaining_code_points()[0];
+    reader.advance();
+    if unit.value == '\\' as u32 {
+        return escaped_atom(alloc, reader, state, spans, start);
+    }
+    Ok(ClassAtom::Character(Character {
+        span: spans.create(start, reader.offset()),
+        kind: kind_in_class(unit),
+        value: unit.value,
+    }))
+}
+
+/// The kind of a character that is one unit of a class. A `-` is a symbol, however it was written.
+fn kind_in_class(unit: CodePoint) -> CharacterKind
+    ensures { result ≡ kind_in_class unit }
+{
+    if unit.value == '-' as u32 {
+        CharacterKind::Symbol
+    } else {
+        unit_kind(unit.escape_kind)
+    }
+}
+
+/// The kind of a character that is one unit.
+pub fn unit_kind(escape_kind: EscapeKind) -> CharacterKind
+    ensures { result ≡ unit_kind escape_kind }
+{
+    match escape_kind {
+        EscapeKind::None => CharacterKind::Symbol,
+        EscapeKind::Unicode => CharacterKind::UnicodeEscape,
+        EscapeKind::Hexadecimal => CharacterKind::HexadecimalEscape,
+    }
+}
+
+/// Reads the atom that a backslash begins (ClassEscape of ECMA-262, 22.2.1). The backslash was read, and the atom begins at `start`,
+/// in bytes.
+fn escaped_atom(
+    alloc: Global,
+    reader: &mut Reader<'_>,
+    state: &State,
+    spans: &SpanFactory,
+    start: u32,
+) -> Result<ClassAtom, Fault>
+    requires backslash { IsBehindBackslash reader.old start }
+    requires environment { environment_of state.now ≡ environment_at reader.old }
+    requires fits { AreFitting spans.now reader.old }
+    ensures { GivesAtom spans.now (back reader.old) reader.new result }
+{
+    if let Some(value) = alone_in_class(reader.remaining_code_points()) {
+        reader.advance();
+        let span = spans.create(start, reader.offset());
+        let kind = CharacterKind::SingleEscape;
+        return Ok(ClassAtom::Character(Character { span, kind, value }));
+    }
+    if let Some(escape) = parse_character_class_escape(reader, spans, start) {
+        return Ok(ClassAtom::Escape(escape));
+    }
+    if let Some(escape) = parse_character_class_escape_unicode(
+        alloc, reader, state, spans, start,
+    )? {
+        return Ok(ClassAtom::Property(escape));
+    }
+    if let Some(character) = parse_character_escape(reader, state, spans, start)? {
+        return Ok(ClassAtom::Character(character));
+    }
+    let span = spans.create(start, reader.offset());
+    Err(Fault::Diagnostic(Diagnostic::InvalidClassAtom { span }))
+}
+
+/// The character that the unit behind a backslash stands for in classes alone: `b` for a backspace, `-` for itself.
+fn alone_in_class(units: &[CodePoint]) -> Option<u32>
+    ensures { result ≡ alone_in_class (values units.now) }
+{
+    match char::from_u32(units.first()?.value) {
+        Some('b') => Some(8),
+        Some('-') => Some('-' as u32),
+        _ => None,
+    }
+}

@@ -1,0 +1,107 @@
+ghost use Rattle.std.specs.Prelude.{◌≡◌, ◌+◌, ◌-◌, ◌<◌, ◌^◌, false, length};
+ghost use Rattle.rx_class.specs.Answers.{IsBehindBackslash, environment_of};
+ghost use Rattle.rx_class.specs.Fitting.{AreFitting};
+ghost use Rattle.rx_class.specs.PropertyAnswers.{GivesProperty};
+ghost use Rattle.rx_class.specs.PropertyFound.{property_refusal};
+ghost use Rattle.rx_model.specs.Reached.{span_between};
+
+use crate::property_found::{PropertyFound, PropertyHalt, property_at};
+use rx_ast::UnicodePropertyEscape;
+use rx_base::{Diagnostic, Fault, PropertyPart, Span, Unterminated};
+use rx_scan::{SpanFactory, State};
+use rx_units::Reader;
+use std::alloc::Global;
+
+/// Reads the property escape (CharacterClassEscape of ECMA-262, 22.2.1, that names a property) behind a backslash that was read, and
+/// moves over its units. Its span, in bytes, begins at `span_start`, before the backslash. Out of unicode mode, and where neither
+/// `p` nor `P` stands, the answer is `None`, and the reader stays.
+///
+/// It is refused by `UnterminatedPattern` where no `{` follows, or a name or a value that is known is not followed by `}`; by
+/// `InvalidUnicodeProperty` where a name, a value or both together are in no table; and by `InvalidUnicodePropertyOfStrings`
+/// where a property of strings is named.
+pub fn parse_character_class_escape_unicode(
+    alloc: Global,
+    reader: &mut Reader<'_>,
+    state: &State,
+    spans: &SpanFactory,
+    span_start: u32,
+) -> Result<Option<UnicodePropertyEscape>, Fault>
+    requires backslash { IsBehindBackslash reader.old span_start }
+    requires fits { AreFitting spans.now reader.old }
+    requires no_sets { state.now.unicode_sets_mode ≡ false }
+    ensures { GivesProperty (environment_of state.now) spans.now span_start reader.old reader.new result }
+{
+    if !state.unicode_mode {
+        return Ok(None);
+    }
+    let found = property_at(alloc, reader.remaining_code_points())?;
+    match found {
+        PropertyFound::Property {
+            negative,
+            strings,
+            name,
+            value,
+            length,
+        } => {
+            reader.skip(length);
+            let span = spans.create(span_start, reader.offset());
+            Ok(Some(UnicodePropertyEscape {
+                span,
+                negative,
+                strings,
+                name,
+                value,
+            }))
+        }
+        PropertyFound::Nothing => Ok(None),
+        PropertyFound::Halt(halt) => {
+            Err(Fault::Diagnostic(refusal(reader, spans, span_start, halt)))
+        }
+    }
+}
+
+/// The refusal that a halt is. The reader moves.
+fn refusal(
+    reader: &mut Reader<'_>,
+    spans: &SpanFactory,
+    span_start: u32,
+    halt: PropertyHalt,
+) -> Diagnostic
+    requires backslash { IsBehindBackslash reader.old span_start }
+    requires fits { AreFitting spans.now reader.old }
+    ensures { result ≡ property_refusal reader.old.units reader.old.first spans.now (reader.old.place - 1) halt }
+{
+    match halt {
+        PropertyHalt::Unterminated { end } => {
+            reader.skip(end);
+            let span = spans.create(span_start, reader.offset());
+            let what = Unterminated::PropertyEscape;
+            Diagnostic::UnterminatedPattern { span, what }
+        }
+        PropertyHalt::Name { start, length } => {
+            let span = span_ahead(reader, spans, start, length);
+            let what = PropertyPart::Name;
+            Diagnostic::InvalidUnicodeProperty { span, what }
+        }
+        PropertyHalt::NameOrValue { length } => {
+            let span = span_ahead(reader, spans, 2, length);
+            let what = PropertyPart::NameOrValue;
+            Diagnostic::InvalidUnicodeProperty { span, what }
+        }
+        PropertyHalt::OfStrings { name, length } => {
+            let span = span_ahead(reader, spans, 2, length);
+            Diagnostic::InvalidUnicodePropertyOfStrings { span, name }
+        }
+    }
+}
+
+/// The span of so many units that stand so many units ahead. The reader moves over them.
+fn span_ahead(reader: &mut Reader<'_>, spans: &SpanFactory, ahead: usize, count: usize) -> Span
+    requires fits { AreFitting spans.now reader.old }
+    ensures { result ≡ span_between reader.old.units reader.old.first spans.now (reader.old.place + ahead) (reader.old.place + ahead + count) }
+{
+    reader.skip(ahead);
+    let start = reader.offset();
+    reader.skip(count);
+    spans.create(start, reader.offset())
+}

@@ -1,0 +1,74 @@
+ghost use Rattle.std.specs.Prelude.{◌≡◌};
+ghost use Rattle.std.specs.List.{prefix_len};
+ghost use Rattle.rx_units.specs.Units.{values};
+ghost use Rattle.rx_tables.specs.Characters as set;
+ghost use Rattle.rx_model.specs.PropertyForms.{IsValueRun};
+ghost use Rattle.rx_class.specs.PropertyFound.{IsPairFound};
+
+use rx_tables::{is_unicode_property_name_character, is_unicode_property_value_character};
+use rx_units::CodePoint;
+
+/// A name and a value, with `=` between them, and what follows.
+#[derive(Clone, Copy, Debug)]
+pub struct Pair<'a> {
+    pub name: &'a [CodePoint],
+    pub value: &'a [CodePoint],
+    pub behind: &'a [CodePoint],
+}
+
+/// The name and the value that the units behind `{` begin with; none where one of them is empty, or nothing follows.
+pub fn pair_at(units: &[CodePoint]) -> Option<Pair<'_>>
+    ensures { IsPairFound (values units.now) result }
+{
+    let (name, behind) = units.split_at(name_length(units));
+    let [equals, behind @ ..] = behind else {
+        return None;
+    };
+    if equals.value != '=' as u32 {
+        return None;
+    }
+    let (value, behind) = run_at(behind);
+    if name.is_empty() {
+        return None;
+    }
+    if value.is_empty() {
+        return None;
+    }
+    if behind.is_empty() {
+        return None;
+    }
+    Some(Pair {
+        name,
+        value,
+        behind,
+    })
+}
+
+/// The longest run of a value's characters at the front, and what follows.
+pub fn run_at(units: &[CodePoint]) -> (&[CodePoint], &[CodePoint])
+    ensures { IsValueRun (values units.now) (values result.0.now) (values result.1.now) }
+{
+    units.split_at(value_length(units))
+}
+
+/// How many units at the front may stand in the name of a property.
+fn name_length(units: &[CodePoint]) -> usize
+    ensures { result ≡ prefix_len (λ u. set.is_unicode_property_name_character u.value) units.now }
+{
+    let mut length = 0;
+    while length < units.len() && is_unicode_property_name_character(units[length].value) {
+        length += 1;
+    }
+    length
+}
+
+/// How many units at the front may stand in the value of a property.
+fn value_length(units: &[CodePoint]) -> usize
+    ensures { result ≡ prefix_len (λ u. set.is_unicode_property_value_character u.value) units.now }
+{
+    let mut length = 0;
+    while length < units.len() && is_unicode_property_value_character(units[length].value) {
+        length += 1;
+    }
+    length
+}

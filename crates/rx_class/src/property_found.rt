@@ -1,0 +1,216 @@
+ghost use Rattle.std.specs.Prelude.{◌≡◌, ℕ, ◌∷◌, List, length, true, IfOk};
+ghost use Rattle.std.specs.List.{list_all};
+ghost use Rattle.std.specs.Str.{chars};
+ghost use Rattle.rx_units.specs.Units.{values};
+ghost use Rattle.rx_tables.specs.Characters.{is_unicode_property_value_character};
+ghost use Rattle.rx_model.specs.declared.mode.Mode.TheVariants.{Unicode};
+ghost use Rattle.rx_model.specs.Marks.{starts};
+ghost use Rattle.rx_model.specs.PropertyForms.{HasPair, HasRun};
+ghost use Rattle.rx_class.specs.PropertyFound.{IsLone, IsPropertyFound, property_letter};
+
+use crate::property_form::{pair_at, run_at};
+use rx_base::{OutOfMemory, Text};
+use rx_tables::{
+    is_valid_lone_unicode_property, is_valid_lone_unicode_property_of_strings,
+    is_valid_unicode_property,
+};
+use rx_units::CodePoint;
+use std::alloc::Global;
+
+/// What stands behind a backslash where a property escape may stand, in units.
+#[derive(Debug, Drop)]
+pub enum PropertyFound {
+    /// A property escape, and how many units spell it behind the backslash.
+    Property {
+        negative: bool,
+        strings: bool,
+        name: Text,
+        value: Option<Text>,
+        length: usize,
+    },
+    /// Neither `p` nor `P`.
+    Nothing,
+    /// No property escape stands behind `p` or `P`.
+    Halt(PropertyHalt),
+}
+
+/// Why no property escape stands behind `p` or `P`. Places count the units behind the backslash.
+#[derive(Debug, Drop)]
+pub enum PropertyHalt {
+    /// It is cut off at a place.
+    Unterminated { end: usize },
+    /// A value does not go with its name.
+    Name { start: usize, length: usize },
+    /// So many units behind `{` are no name and no value.
+    NameOrValue { length: usize },
+    /// So many units behind `{` name a property of strings.
+    OfStrings { name: Text, length: usize },
+}
+
+/// What a word names that stands alone between the braces.
+#[derive(Clone, Copy, Debug)]
+pub enum Lone {
+    /// A value of General_Category.
+    Category,
+    /// A binary property of characters.
+    Binary,
+    /// A binary property of strings.
+    OfStrings,
+    Nothing,
+}
+
+/// The property escape (CharacterClassEscape of ECMA-262, 22.2.1) that the units behind a backslash begin with, with `u`.
+pub fn property_at(alloc: Global, units: &[CodePoint]) -> Result<PropertyFound, OutOfMemory>
+    ensures { IfOk result (IsPropertyFound Unicode (values units.now)) }
+{
+    let [letter, behind @ ..] = units else {
+        return Ok(PropertyFound::Nothing);
+    };
+    if letter.value == 'p' as u32 {
+        return expression_at(alloc, false, behind);
+    }
+    if letter.value == 'P' as u32 {
+        return expression_at(alloc, true, behind);
+    }
+    Ok(PropertyFound::Nothing)
+}
+
+/// The same by the units behind `p` or `P`.
+fn expression_at(
+    alloc: Global,
+    negative: bool,
+    units: &[CodePoint],
+) -> Result<PropertyFound, OutOfMemory>
+    ensures { IfOk result (IsPropertyFound Unicode (property_letter negative ∷ values units.now)) }
+{
+    let [brace, behind @ ..] = units else {
+        return Ok(unterminated(1));
+    };
+    if brace.value != '{' as u32 {
+        return Ok(unterminated(1));
+    }
+    match pair_at(behind) {
+        Some(pair) => pair_found(alloc, negative, pair.name, pair.value, pair.behind),
+        None => {
+            let (run, behind) = run_at(behind);
+            run_found(alloc, negative, run, behind)
+        }
+    }
+}
+
+fn unterminated(end: usize) -> PropertyFound
+    ensures { result ≡ PropertyFound.Halt (PropertyHalt.Unterminated end) }
+{
+    PropertyFound::Halt(PropertyHalt::Unterminated { end })
+}
+
+/// The same by a name and a value.
+fn pair_found(
+    alloc: Global,
+    negative: bool,
+    name: &[CodePoint],
+    value: &[CodePoint],
+    behind: &[CodePoint],
+) -> Result<PropertyFound, OutOfMemory>
+    requires { (w : List ℕ) × HasPair w (values name.now) (values value.now) (values behind.now) }
+    ensures { IfOk result (λ found. (w : List ℕ) → HasPair w (values name.now) (values value.now) (values behind.now)
+        → IsPropertyFound Unicode (property_letter negative ∷ 123 ∷ w) found) }
+{
+    let name_text = text_of(alloc, name)?;
+    let value_text = text_of(alloc, value)?;
+    if !is_valid_unicode_property(name_text.as_str(), value_text.as_str()) {
+        return Ok(PropertyFound::Halt(PropertyHalt::Name {
+            start: 3 + name.len(),
+            length: value.len(),
+        }));
+    }
+    if !is_closed(behind) {
+        return Ok(unterminated(3 + name.len() + value.len()));
+    }
+    Ok(PropertyFound::Property {
+        negative,
+        strings: false,
+        name: name_text,
+        value: Some(value_text),
+        length: 4 + name.len() + value.len(),
+    })
+}
+
+/// The same by a run of a value's characters.
+fn run_found(
+    alloc: Global,
+    negative: bool,
+    run: &[CodePoint],
+    behind: &[CodePoint],
+) -> Result<PropertyFound, OutOfMemory>
+    requires { (w : List ℕ) × HasRun w (values run.now) (values behind.now) }
+    ensures { IfOk result (λ found. (w : List ℕ) → HasRun w (values run.now) (values behind.now)
+        → IsPropertyFound Unicode (property_letter negative ∷ 123 ∷ w) found) }
+{
+    let length = 2 + run.len();
+    if run.is_empty() || behind.is_empty() {
+        return Ok(unterminated(length));
+    }
+    let text = text_of(alloc, run)?;
+    match named_alone(text.as_str()) {
+        Lone::Category if is_closed(behind) => Ok(PropertyFound::Property {
+            negative,
+            strings: false,
+            name: Text::from_str(alloc, "General_Category")?,
+            value: Some(text),
+            length: length + 1,
+        }),
+        Lone::Binary if is_closed(behind) => Ok(PropertyFound::Property {
+            negative,
+            strings: false,
+            name: text,
+            value: None,
+            length: length + 1,
+        }),
+        Lone::Category | Lone::Binary => Ok(unterminated(length)),
+        Lone::OfStrings => Ok(PropertyFound::Halt(PropertyHalt::OfStrings {
+            name: text,
+            length: run.len(),
+        })),
+        Lone::Nothing => Ok(PropertyFound::Halt(PropertyHalt::NameOrValue { length: run.len() })),
+    }
+}
+
+/// What a word names that stands alone between the braces.
+fn named_alone(word: &str) -> Lone
+    ensures { IsLone (chars word.now) result }
+{
+    if is_valid_unicode_property("General_Category", word) {
+        Lone::Category
+    } else if is_valid_lone_unicode_property(word) {
+        Lone::Binary
+    } else if is_valid_lone_unicode_property_of_strings(word) {
+        Lone::OfStrings
+    } else {
+        Lone::Nothing
+    }
+}
+
+fn is_closed(units: &[CodePoint]) -> bool
+    ensures { result ≡ starts 125 (values units.now) }
+{
+    units.first().is_some_and(|unit| unit.value == '}' as u32)
+}
+
+/// The characters that some units are.
+#[tactic(auto, using(crate::proofs::PropertyTables::small_value))]
+fn text_of(alloc: Global, units: &[CodePoint]) -> Result<Text, OutOfMemory>
+    requires { list_all is_unicode_property_value_character (values units.now) ≡ true }
+    ensures { IfOk result (λ text. text ≡ values units.now) }
+{
+    let mut text = Text::from_str(alloc, "")?;
+    let mut place = 0;
+    while place < units.len() {
+        match char::from_u32(units[place].value) {
+            Some(character) => text.push(character)?,
+            None => unreachable!(),
+        }
+        place += 1;
+    }
+    Ok(text)
+}
