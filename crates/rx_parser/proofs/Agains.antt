@@ -1,5 +1,5 @@
 -- What the canonical spelling of a pattern is, as the text of a literal: it is read, as a tree that is equal but for spans and character kinds.
-use Rattle.std.proofs.Common.{◌≡◌, ◌≢◌, ℕ, true, false, ◌&&◌, ◌⊎◌, inl, inr, ap, sym, ◌∙◌, subst, List, [], Option, Result, Ok, Err, IfOk, IfErr, IsTrue}
+use Rattle.std.proofs.Common.{◌≡◌, ◌≢◌, ℕ, true, false, not, ◌&&◌, ◌⊎◌, inl, inr, ap, sym, ◌∙◌, subst, List, [], Option, Result, Ok, Err, IfOk, IfErr, IsTrue}
 use Rattle.std.proofs.lemmas.Result.{IfOk-weaker}
 use Rattle.rx_base.specs.declared.fault.Fault.{Fault}
 use Rattle.rx_base.specs.declared.fault.Fault.TheVariants.{OutOfMemory, NotYet}
@@ -9,38 +9,25 @@ use Rattle.rx_ast.proofs.Forgetting.{unspanned_bare}
 use Rattle.rx_units.specs.declared.code_point.CodePoint.{CodePoint}
 use Rattle.rx_model.specs.declared.mode.Mode.{Mode}
 use Rattle.rx_model.specs.declared.mode.Mode.TheVariants.{Unicode}
-use Rattle.rx_model.specs.Environment.{environment}
-use Rattle.rx_model.specs.Events.{tokens}
 use Rattle.rx_model.specs.Flags.{flags_of, flags_ok, mode_of}
-use Rattle.rx_model.specs.Reading.{IsOnly, IsValid, Reads, literal_text, units_of}
+use Rattle.rx_model.specs.Reading.{IsOnly, IsValid, Reads, units_of}
 use Rattle.rx_model.specs.Spelling.{spelling}
-use Rattle.rx_model.proofs.Backs.{values_literal}
 use Rattle.rx_model.proofs.ReadBacks.{spelled_is_read_back}
-use Rattle.rx_parser.specs.NotYet.{holds_unread, is_unread_text, is_unread_literal}
-use Rattle.rx_parser.proofs.Pieces.{row_read}
+use Rattle.rx_parser.specs.NotYet.{is_read, is_unread_literal}
 
 -- The text of a literal is read, as a tree that is equal to the pattern but for spans and character kinds.
 pub record IsAgain (text : List ℕ) (p : Pattern) : Type 0 where
   pub pattern : Pattern
   pub same : bare pattern ≡ bare p
   pub reads : Reads Unicode pattern (units_of Unicode text)
-  pub read : is_unread_text Unicode (literal_text text) ≡ false
-
--- What some tree reads holds nothing that is not read yet.
-text_read : (text : List ℕ) (q : Pattern) → Reads Unicode q (units_of Unicode text) → is_unread_text Unicode (literal_text text) ≡ false
-text_read text q r =
-    ap holds_unread (sym (values_literal 0 (literal_text text)))
-    ∙ row_read (environment Unicode q) (tokens q) (units_of Unicode text) r.spelled.row
 
 pub again : (p : Pattern) (us : List CodePoint) (text : List ℕ) → Reads Unicode p us → us ≢ [] → text ≡ spelling (bare p) Unicode → IsAgain text p
 again p us text r some e =
     let back = spelled_is_read_back p us r some in
-    let reads : Reads Unicode back.again (units_of Unicode text) = subst (λ w. Reads Unicode back.again (units_of Unicode w)) (sym e) back.reads in
     record {
       pattern = back.again;
       same = back.same;
-      reads = reads;
-      read = text_read text back.again reads;
+      reads = subst (λ w. Reads Unicode back.again (units_of Unicode w)) (sym e) back.reads;
     }
 
 module _ (text : List ℕ) (flags : Option (List ℕ)) (p : Pattern) (it : IsAgain text p) (ok : flags_ok (flags_of flags) ≡ true) (m : mode_of (flags_of flags) ≡ Unicode) where
@@ -55,20 +42,20 @@ module _ (text : List ℕ) (flags : Option (List ℕ)) (p : Pattern) (it : IsAga
   unfolding its_mode
   its_valid = record { flags_are = ok; pattern = it.pattern; reads = its_reads }
 
-  its_read : is_unread_literal text flags ≡ false
-  its_read = ap (λ b. b && is_unread_text (mode_of (flags_of flags)) (literal_text text)) ok ∙ ap (λ mode. is_unread_text mode (literal_text text)) m ∙ it.read
+  its_read : is_unread_literal flags ≡ false
+  its_read = ap (λ b. b && not (is_read (mode_of (flags_of flags)))) ok ∙ ap (λ mode. not (is_read mode)) m
 
   -- Where the tree that is read is the only one, it is the pattern.
   pub tree_again : (r : Result Pattern Fault) → IfOk r (λ q. IsOnly (mode_of (flags_of flags)) q (units_of (mode_of (flags_of flags)) text)) → IfOk r (λ q. bare q ≡ bare p)
   unfolding its_mode
   tree_again r only = IfOk-weaker r _ (λ q. bare q ≡ bare p) (λ q one. sym (unspanned_bare it.pattern q (one it.pattern its_reads)) ∙ it.same) only
 
-  not_unread : {A : Type 0} → is_unread_literal text flags ≡ true → A
+  not_unread : {A : Type 0} → is_unread_literal flags ≡ true → A
   not_unread h = let k : false ≡ true = sym its_read ∙ h in cc k
 
   -- The fault is that memory is wanting.
   pub fault_again : (r : Result Pattern Fault) → (IsValid text flags → IfErr r (λ fault. (fault ≡ OutOfMemory) ⊎ (fault ≡ NotYet)))
-      → (r ≡ Err NotYet → IsTrue (is_unread_literal text flags)) → IfErr r (λ fault. fault ≡ OutOfMemory)
+      → (r ≡ Err NotYet → IsTrue (is_unread_literal flags)) → IfErr r (λ fault. fault ≡ OutOfMemory)
   fault_again (Ok q) complete not_yet = tt
   fault_again (Err fault) complete not_yet = elim (complete its_valid) [
     | inl memory ↦ memory
@@ -79,7 +66,7 @@ module _ (text : List ℕ) (flags : Option (List ℕ)) (p : Pattern) (it : IsAga
 pub read_again : (text : List ℕ) (flags : Option (List ℕ)) (r : Result Pattern Fault)
     → IfOk r (λ q. IsOnly (mode_of (flags_of flags)) q (units_of (mode_of (flags_of flags)) text))
     → (IsValid text flags → IfErr r (λ fault. (fault ≡ OutOfMemory) ⊎ (fault ≡ NotYet)))
-    → (r ≡ Err NotYet → IsTrue (is_unread_literal text flags))
+    → (r ≡ Err NotYet → IsTrue (is_unread_literal flags))
     → (p : Pattern) (us : List CodePoint) → Reads Unicode p us → us ≢ [] → text ≡ spelling (bare p) Unicode → flags_ok (flags_of flags) ≡ true → mode_of (flags_of flags) ≡ Unicode
     → IfOk r (λ q. bare q ≡ bare p) × IfErr r (λ fault. fault ≡ OutOfMemory)
 read_again text flags r only complete not_yet p us reads some e ok m =

@@ -5,7 +5,7 @@ use Rattle.std.proofs.lemmas.List.{append-nil, drop_all}
 use Rattle.std.proofs.lemmas.List.Elements.{All-nil}
 use Rattle.rx_ast.specs.declared.term.Pattern.{Pattern}
 use Rattle.rx_units.specs.declared.code_point.CodePoint.{CodePoint}
-use Rattle.rx_units.specs.Units.{offset_at, values}
+use Rattle.rx_units.specs.Units.{offset_at}
 use Rattle.rx_model.specs.declared.mode.Mode.{Mode}
 use Rattle.rx_model.specs.declared.mode.Mode.TheVariants.{Unicode}
 use Rattle.rx_model.specs.Cuts.{TellsGroups}
@@ -26,19 +26,17 @@ use Rattle.rx_model.proofs.OwnGroups.{own_environment, tells_groups}
 use Rattle.rx_parser.specs.declared.builder.Builder.{Builder}
 use Rattle.rx_parser.specs.Frames.{builder_events, openers, ready}
 use Rattle.rx_parser.specs.Good.{IsGood}
-use Rattle.rx_parser.specs.NotYet.{holds_unread}
 use Rattle.rx_parser.specs.Parsing.{IsParsing}
 use Rattle.rx_parser.specs.Progress.{IsAt}
 use Rattle.rx_parser.proofs.Steps.{begun, finished}
 
 -- nothing has been read
 pub parsing_begun : (us : List CodePoint) (first added start : ℕ) (b : Builder) → start ≡ offset_at first us 0 + added → builder_events b ≡ enter start ∷ enter start ∷ enter start ∷ []
-    → openers b ≡ [] → ready b ≡ false → IsGood b → b.mode ≡ Unicode → holds_unread (values us) ≡ false → IsParsing Unicode us first added b 0
-parsing_begun us first added start b a m o r g d h = record {
+    → openers b ≡ [] → ready b ≡ false → IsGood b → b.mode ≡ Unicode → IsParsing Unicode us first added b 0
+parsing_begun us first added start b a m o r g d = record {
   at = begun (text_environment Unicode us) (λ i. offset_at first us i + added) b us start a m o r g d;
   within = omega arith;
   obey = subst (λ es. AreObeying Unicode us (tokens_of es)) (sym m) (All-nil (Obeys (text_groups us) (text_names Unicode us)));
-  read = h;
 }
 
 -- what is read and spanned

@@ -39,12 +39,3 @@ unicode_is false false = refl
 pub unicode_of_modes : (flags : List ℕ) (modes : Bool × Bool) → modes ≡ modes_of flags → modes.0 ≡ is_unicode (mode_of flags)
 unicode_of_modes flags modes h =
     ap (λ (p : Bool × Bool). p.0) h ∙ sym (unicode_is (holds flags 118) (holds flags 117)) ∙ ap is_unicode (modes_give (holds flags 118) (holds flags 117))
-
-sets_or : (sets unicode : Bool) → sets ≡ true → (sets || unicode) ≡ true
-sets_or true unicode h = refl
-sets_or false unicode h = absurd (let no : ⊥ = cc in no)
-
--- the second asks for the first
-pub sets_in_unicode : (flags : List ℕ) (modes : Bool × Bool) → modes ≡ modes_of flags → modes.1 ≡ true → modes.0 ≡ true
-sets_in_unicode flags modes h sets =
-    ap (λ (p : Bool × Bool). p.0) h ∙ sets_or (holds flags 118) (holds flags 117) (sym (ap (λ (p : Bool × Bool). p.1) h) ∙ sets)

@@ -18,8 +18,11 @@ use Rattle.rx_model.specs.Early.{Obeys, greatest_count}
 use Rattle.rx_model.specs.Environment.{Environment, environment_with, is_unicode}
 use Rattle.rx_model.specs.Escapes.{front_is}
 use Rattle.rx_model.specs.Fronts.{front, boundary_at, escape_at, nothing, too_many, no_unicode, escaped_token, backslash_token, backslash_front, class_escape_at, counts, no_counts, counts_at, quantifier_token, syntax_front}
+use Rattle.rx_model.specs.Marks.{starts}
+use Rattle.rx_model.specs.PropertyForms.{begins_property}
 use Rattle.rx_model.specs.Quantifiers.{SpellsCounts, SpellsBraces, star, plus, optional, braces, is_question}
-use Rattle.rx_model.specs.Rows.{stands_raw, unit_kind}
+use Rattle.rx_model.specs.Rows.{stands_raw}
+use Rattle.rx_model.specs.UnitKinds.{unit_kind}
 use Rattle.rx_model.specs.Stops.{IsStop, at_end, at_bracket, at_brace, behind_backslash, is_one_of}
 use Rattle.rx_model.specs.Token.{Token, boundary, character, class_escape, quantifier}
 use Rattle.rx_model.specs.UnicodeEscapes.{Decodes, PassesHex}
@@ -31,7 +34,6 @@ use Rattle.rx_model.proofs.Quantifiers.{counts_spelled, no_braces}
 use Rattle.rx_model.proofs.Stops.{stop_backslash}
 use Rattle.rx_parser.specs.CountsFound.{IsInLimit}
 use Rattle.rx_parser.specs.Found.{Stands, IsFound, boundary_front, begins_reference, closes_or_repeats}
-use Rattle.rx_parser.specs.NotYet.{is_unread_escape}
 use Rattle.rx_parser.specs.declared.found.Found.TheVariants as found
 use Rattle.rx_parser.specs.declared.found.Halt.TheVariants as halt
 use Rattle.rx_parser.proofs.Digits.{chosen}
@@ -45,7 +47,7 @@ named_there mode groups has_names h = ap (λ b. b || has_names) h
 not_above : (n m : ℕ) → (m < n → ⊥) → n ≤ m
 not_above n m h = grind arith
 
-syntax_of : (c : ℕ) → closes_or_repeats c ≡ true → is_syntax_character c ≡ true
+syntax_of : (c : ℕ) → closes_or_repeats c ≡ true → (is_syntax_character c && not (c == 91)) ≡ true
 syntax_of c h = grind (arith, nat_tests)
 
 by_counts : (e : Environment) (c : ℕ) (w : List ℕ) → closes_or_repeats c ≡ true → syntax_front e c w ≡ quantifier_token (counts_at (c ∷ w)) (c ∷ w)
@@ -102,6 +104,14 @@ no_repeat c w h k bracket brace = elim (chosen (c == 42) k) [
     rest : (c : ℕ) → (c == 93 || c == 125) ≡ false → (c == 123) ≡ false → (c == 42) ≡ false → (c == 43) ≡ false → (c == 63) ≡ false → closes_or_repeats c ≡ false
     rest c bracket brace no_star no_plus no_question = grind (arith, nat_tests)
 
+-- a `?` stands next, or at a place
+question_starts : (w : List ℕ) → front_is is_question w ≡ starts 63 w
+question_starts [] = refl
+question_starts (c ∷ w) = refl
+
+question_there : (us : List CodePoint) (n : ℕ) → front_is is_question (drop n (values us)) ≡ starts 63 (values (drop n us))
+question_there us n = question_starts (drop n (values us)) ∙ ap (starts 63) (drop-map (λ u. u.value) n us)
+
 raw_stands : (mode : Mode) (c : ℕ) → is_unicode mode ≡ true → is_syntax_character c ≡ false → stands_raw mode c ≡ true
 raw_stands Legacy c m h = absurd (let no : ⊥ = cc m in no)
 raw_stands Unicode c m h = ap not h
@@ -116,14 +126,14 @@ module _ (e : Environment) where
       ∙ by_counts e u.value (values us) h
 
   pub greedy_front : (us : List CodePoint) (min : ℕ) (max : Option ℕ) (n : ℕ) → front_is closes_or_repeats (values us) ≡ true → counts_at (values us) ≡ counts min max n
-      → front_is is_question (values (drop n us)) ≡ false → front e us ≡ Some (quantifier min max true, n)
+      → starts 63 (values (drop n us)) ≡ false → front e us ≡ Some (quantifier min max true, n)
   greedy_front us min max n h k q =
-      counts_front us h ∙ ap (λ c. quantifier_token c (values us)) k ∙ cond-false (front_is is_question (drop n (values us))) _ _ (ap (front_is is_question) (drop-map (λ u. u.value) n us) ∙ q)
+      counts_front us h ∙ ap (λ c. quantifier_token c (values us)) k ∙ cond-false (front_is is_question (drop n (values us))) _ _ (question_there us n ∙ q)
 
   pub lazy_front : (us : List CodePoint) (min : ℕ) (max : Option ℕ) (n : ℕ) → front_is closes_or_repeats (values us) ≡ true → counts_at (values us) ≡ counts min max n
-      → front_is is_question (values (drop n us)) ≡ true → front e us ≡ Some (quantifier min max false, n + 1)
+      → starts 63 (values (drop n us)) ≡ true → front e us ≡ Some (quantifier min max false, n + 1)
   lazy_front us min max n h k q =
-      counts_front us h ∙ ap (λ c. quantifier_token c (values us)) k ∙ cond-true (front_is is_question (drop n (values us))) _ _ (ap (front_is is_question) (drop-map (λ u. u.value) n us) ∙ q)
+      counts_front us h ∙ ap (λ c. quantifier_token c (values us)) k ∙ cond-true (front_is is_question (drop n (values us))) _ _ (question_there us n ∙ q)
 
   ends_at : (u : CodePoint) (us : List CodePoint) → is_unicode e.mode ≡ true → closes_or_repeats u.value ≡ true → counts_at (values (u ∷ us)) ≡ no_counts → IsInLimit (values (u ∷ us)) → IsStop e (u ∷ us) 0
   ends_at u us m h k limit = elim (cases_Bool (u.value == 93 || u.value == 125)) [
@@ -146,39 +156,43 @@ module _ (e : Environment) where
   backslash_unit : (u : CodePoint) (us : List CodePoint) → u.value ≡ 92 → front e (u ∷ us) ≡ backslash_front e (values us)
   backslash_unit u us h = front_by_values e (u ∷ us) 92 (values us) refl (ap (λ c. c ∷ values us) h)
 
-  -- where no reference begins
-  unreferred_unit : (u v : CodePoint) (us : List CodePoint) → u.value ≡ 92 → begins_reference v.value ≡ false
-      → front e (u ∷ v ∷ us) ≡ backslash_token (boundary_at e v.value) (class_escape_at v.value) (escape_at (is_unicode e.mode) (values (v ∷ us)))
-  unreferred_unit u v us h free =
-      let p = or_parts (is_within 49 57 v.value) (v.value == 107) free in
-      backslash_unit u (v ∷ us) h ∙ unreferred e v.value (values us) p.0 p.1
+  -- a property begins
+  pub property_there : (u v : CodePoint) (us : List CodePoint) → u.value ≡ 92 → begins_property v.value ≡ true → IsFound e (u ∷ v ∷ us) found.Property
+  property_there u v us h k = (v.value, values us, ap (λ c. c ∷ v.value ∷ values us) h, k)
 
-  pub boundary_there : (u : CodePoint) (us : List CodePoint) (kind : BoundaryAssertionKind) → u.value ≡ 92 → front_is begins_reference (values us) ≡ false → boundary_front e (values us) ≡ Some kind
-      → Stands e (u ∷ us) (boundary kind) 2
-  boundary_there u [] kind h free k = absurd (let no : ⊥ = cc k in no)
-  boundary_there u (v ∷ us) kind h free k = (
-    unreferred_unit u v us h free ∙ ap (λ b. backslash_token b (class_escape_at v.value) (escape_at (is_unicode e.mode) (values (v ∷ us)))) k,
+  -- where neither a reference nor a property begins
+  unreferred_unit : (u v : CodePoint) (us : List CodePoint) → u.value ≡ 92 → begins_reference v.value ≡ false → begins_property v.value ≡ false
+      → front e (u ∷ v ∷ us) ≡ backslash_token (boundary_at e v.value) (class_escape_at v.value) (escape_at (is_unicode e.mode) (values (v ∷ us)))
+  unreferred_unit u v us h free other =
+      let p = or_parts (is_within 49 57 v.value) (v.value == 107) free in
+      backslash_unit u (v ∷ us) h ∙ unreferred e v.value (values us) p.0 p.1 other
+
+  pub boundary_there : (u : CodePoint) (us : List CodePoint) (kind : BoundaryAssertionKind) → u.value ≡ 92 → front_is begins_reference (values us) ≡ false
+      → front_is begins_property (values us) ≡ false → boundary_front e (values us) ≡ Some kind → Stands e (u ∷ us) (boundary kind) 2
+  boundary_there u [] kind h free other k = absurd (let no : ⊥ = cc k in no)
+  boundary_there u (v ∷ us) kind h free other k = (
+    unreferred_unit u v us h free other ∙ ap (λ b. backslash_token b (class_escape_at v.value) (escape_at (is_unicode e.mode) (values (v ∷ us)))) k,
     omega arith,
     λ _. tt,
   )
 
-  pub class_there : (u : CodePoint) (us : List CodePoint) (kind : CharacterClassEscapeKind) → u.value ≡ 92 → front_is begins_reference (values us) ≡ false → boundary_front e (values us) ≡ None
-      → class_escape_front (values us) ≡ Some kind → Stands e (u ∷ us) (class_escape kind) 2
-  class_there u [] kind h free b k = absurd (let no : ⊥ = cc k in no)
-  class_there u (v ∷ us) kind h free b k = (
-    unreferred_unit u v us h free
+  pub class_there : (u : CodePoint) (us : List CodePoint) (kind : CharacterClassEscapeKind) → u.value ≡ 92 → front_is begins_reference (values us) ≡ false
+      → front_is begins_property (values us) ≡ false → boundary_front e (values us) ≡ None → class_escape_front (values us) ≡ Some kind → Stands e (u ∷ us) (class_escape kind) 2
+  class_there u [] kind h free other b k = absurd (let no : ⊥ = cc k in no)
+  class_there u (v ∷ us) kind h free other b k = (
+    unreferred_unit u v us h free other
         ∙ ap (λ b. backslash_token b (class_escape_at v.value) (escape_at (is_unicode e.mode) (values (v ∷ us)))) b
         ∙ ap (λ c. backslash_token None c (escape_at (is_unicode e.mode) (values (v ∷ us)))) k,
     omega arith,
     λ _. tt,
   )
 
-  pub escape_front : (u : CodePoint) (us : List CodePoint) → u.value ≡ 92 → front_is begins_reference (values us) ≡ false → boundary_front e (values us) ≡ None → class_escape_front (values us) ≡ None
-      → front e (u ∷ us) ≡ escaped_token (escape_at (is_unicode e.mode) (values us))
+  pub escape_front : (u : CodePoint) (us : List CodePoint) → u.value ≡ 92 → front_is begins_reference (values us) ≡ false → front_is begins_property (values us) ≡ false
+      → boundary_front e (values us) ≡ None → class_escape_front (values us) ≡ None → front e (u ∷ us) ≡ escaped_token (escape_at (is_unicode e.mode) (values us))
   unfolding backslash_front escape_at
-  escape_front u [] h free b c = backslash_unit u [] h
-  escape_front u (v ∷ us) h free b c =
-      unreferred_unit u v us h free
+  escape_front u [] h free other b c = backslash_unit u [] h
+  escape_front u (v ∷ us) h free other b c =
+      unreferred_unit u v us h free other
       ∙ ap (λ b. backslash_token b (class_escape_at v.value) (escape_at (is_unicode e.mode) (values (v ∷ us)))) b
       ∙ ap (λ c. backslash_token None c (escape_at (is_unicode e.mode) (values (v ∷ us)))) c
 
@@ -189,22 +203,23 @@ module _ (e : Environment) where
   ended_backslash u (v ∷ us) m h l = absurd (omega arith)
 
   -- a backslash that begins nothing
-  pub nothing_there : (u : CodePoint) (us : List CodePoint) → is_unicode e.mode ≡ true → u.value ≡ 92 → front_is begins_reference (values us) ≡ false → boundary_front e (values us) ≡ None
-      → class_escape_front (values us) ≡ None → front_is is_unread_escape (values us) ≡ false → escape_at true (values us) ≡ nothing → IsFound e (u ∷ us) (found.Halt (halt.Stop 1))
-  nothing_there u us m h free b c read k =
-      let none = escape_front u us h free b c ∙ ap (λ m. escaped_token (escape_at m (values us))) m ∙ ap escaped_token k in (
+  pub nothing_there : (u : CodePoint) (us : List CodePoint) → is_unicode e.mode ≡ true → u.value ≡ 92 → front_is begins_reference (values us) ≡ false → front_is begins_property (values us) ≡ false
+      → boundary_front e (values us) ≡ None → class_escape_front (values us) ≡ None → escape_at true (values us) ≡ nothing → IsFound e (u ∷ us) (found.Halt (halt.Stop 1))
+  nothing_there u us m h free other b c k =
+      let none = escape_front u us h free other b c ∙ ap (λ m. escaped_token (escape_at m (values us))) m ∙ ap escaped_token k in (
         (
           none,
-          behind_backslash m h (stop_backslash e (values us) m (sym (backslash_unit u us h) ∙ none) (no_beginning (values us) free read (escape_nothing (values us) k))),
+          behind_backslash m h (stop_backslash e (values us) m (sym (backslash_unit u us h) ∙ none) (no_beginning (values us) free other (escape_nothing (values us) k))),
           differs (λ c. c == 92) u.value 41 refl (eq-eqb u.value 92 h),
         ),
         omega arith,
       )
     where
-      of_none : (c : ℕ) → begins_reference c ≡ false → is_unread_escape c ≡ false → (c == 117) ≡ false → (is_one_of (codes "upPk") c || is_within 49 57 c) ≡ false
+      of_none : (c : ℕ) → begins_reference c ≡ false → begins_property c ≡ false → (c == 117) ≡ false → (is_one_of (codes "upPk") c || is_within 49 57 c) ≡ false
       of_none c free h k = grind (arith, nat_tests)
 
-      no_beginning : (w : List ℕ) → front_is begins_reference w ≡ false → front_is is_unread_escape w ≡ false → front_is (λ c. c == 117) w ≡ false → front_is (λ c. is_one_of (codes "upPk") c || is_within 49 57 c) w ≡ false
+      no_beginning : (w : List ℕ) → front_is begins_reference w ≡ false → front_is begins_property w ≡ false → front_is (λ c. c == 117) w ≡ false
+          → front_is (λ c. is_one_of (codes "upPk") c || is_within 49 57 c) w ≡ false
       no_beginning [] free h k = refl
       no_beginning (c ∷ w) free h k = of_none c free h k
 
@@ -230,8 +245,8 @@ module _ (e : Environment) where
   pub too_many_there : (u : CodePoint) (us : List CodePoint) (count : ℕ) → u.value ≡ 92 → count + 2 ≤ length us → escape_at true (values us) ≡ too_many count → IsFound e (u ∷ us) (found.Halt (halt.TooManyHexDigits 3 count))
   too_many_there u us count h l k = (inl (values us, refl, ap (λ c. c ∷ values us) h, escape_too_many (values us) count k), omega (arith, l))
 
-  -- a token of one unit, which is a SyntaxCharacter other than a backslash
-  pub one_there : (us : List CodePoint) (c d : ℕ) (t : Token) → reading.front us ≡ Some c → c ≡ d → is_syntax_character d ≡ true → (d == 92) ≡ false
+  -- a token of one unit, which is a SyntaxCharacter other than a backslash and `[`
+  pub one_there : (us : List CodePoint) (c d : ℕ) (t : Token) → reading.front us ≡ Some c → c ≡ d → (is_syntax_character d && not (d == 91)) ≡ true → (d == 92) ≡ false
       → ((w : List ℕ) → syntax_front e d w ≡ Some (t, 1)) → ((names : List (List ℕ)) → Obeys e.groups names t) → Stands e us t 1
   one_there [] c d t h same s o k obeys = absurd (let no : ⊥ = cc h in no)
   one_there (u ∷ us) c d t h same s o k obeys =

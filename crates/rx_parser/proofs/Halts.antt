@@ -1,6 +1,5 @@
 -- Where the reading halts the text is refused with its cause, and no tree reads it.
 use Rattle.std.proofs.Common.{◌≡◌, refl, ap, sym, ◌∙◌, subst, ℕ, ◌+◌, ◌<◌, ◌≤◌, inl, inr, Bool, true, false, Option, Some, List, [], ◌∷◌, ◌++◌, length, drop, arith, length-append}
-use Rattle.std.proofs.lemmas.Bool.{true≢false}
 use Rattle.std.proofs.lemmas.List.{drop_all}
 use Rattle.rx_base.specs.declared.fault.Fault.{Fault}
 use Rattle.rx_base.specs.declared.fault.Fault.TheVariants.{Diagnostic}
@@ -12,14 +11,15 @@ use Rattle.rx_base.specs.declared.span.Span.{Span}
 use Rattle.rx_units.specs.declared.code_point.CodePoint.{CodePoint}
 use Rattle.rx_units.specs.Units.{offset_at, values}
 use Rattle.rx_model.specs.declared.mode.Mode.TheVariants.{Unicode}
-use Rattle.rx_model.specs.Causes.{IsCauseAtPlace, IsPlace, at_place, unterminated, incomplete, out_of_order, too_large, too_many_digits, too_many_hex_digits, invalid_escape, unterminated_group, unterminated_name, too_many_digits_in_name, misplaced_in_name, invalid_in_name, invalid_u_in_name, no_such_group, no_group_name, unknown_modifiers, duplicated_modifiers, empty_modifiers, invalid_modifiers}
+use Rattle.rx_model.specs.Causes.{IsCauseAtPlace, at_place, unterminated, incomplete, out_of_order, too_large, too_many_digits, of_escape, unterminated_group, unterminated_name, too_many_digits_in_name, misplaced_in_name, invalid_in_name, invalid_u_in_name, no_such_group, no_group_name, unknown_modifiers, duplicated_modifiers, empty_modifiers, invalid_modifiers}
 use Rattle.rx_model.specs.Early.{most_groups}
 use Rattle.rx_model.specs.Environment.{Environment}
 use Rattle.rx_model.specs.Fronts.{front}
 use Rattle.rx_model.specs.GroupNames.{IsNameRow}
 use Rattle.rx_model.specs.Groups.{BeginsName, EndsName}
 use Rattle.rx_model.specs.Marks.{starts}
-use Rattle.rx_model.specs.Reached.{HasNoClash, IsReached, span_between, text_environment, text_groups}
+use Rattle.rx_model.specs.EscapeCauses.{too_many_hex_digits, invalid_escape}
+use Rattle.rx_model.specs.Reached.{IsPlace, HasNoClash, IsReached, span_between, text_environment, text_groups}
 use Rattle.rx_model.specs.Rows.{TokenRow}
 use Rattle.rx_model.specs.Shapes.{run}
 use Rattle.rx_model.specs.Stops.{IsStop, at_closer, at_end}
@@ -66,6 +66,10 @@ module _ (us : List CodePoint) (first added : ℕ) (b : Builder) (place : ℕ) (
   placed : (make : Span → Refusal) (i j from to : ℕ) → i ≡ from → j ≡ to → Causes (make (between i j)) → Causes (make (between from to))
   placed make i j from to e f c = subst (λ k. Causes (make (between from k))) f (subst (λ k. Causes (make (between k j))) e c)
 
+  -- the same, from here on
+  from_here : (make : Span → Refusal) (j : ℕ) → Causes (make (between place j)) → Causes (make (between (place + 0) j))
+  from_here make j c = placed make place j (place + 0) j (omega arith) refl c
+
   -- there is this cause here, and no token that obeys stands next
   abbrev HasCause : Refusal → Type 0
   HasCause cause = Causes cause × IsDead us left
@@ -109,7 +113,7 @@ module _ (us : List CodePoint) (first added : ℕ) (b : Builder) (place : ℕ) (
       escape : (behind : List ℕ) → start ≡ 3 → values left ≡ 92 ∷ behind → PassesHex behind many → HasHexCause start many
       escape behind e whole passes = (
         placed (λ span. TooLargeNumberDigits span Hex) (place + 3) (place + 3 + many) (place + start) (place + (start + many)) (omega (arith, e)) (omega (arith, e))
-            (too_many_hex_digits place many left behind at_left refl whole passes),
+            (of_escape place left at_left (too_many_hex_digits many behind refl whole passes)),
         dead_hex us left behind many whole passes,
       )
 
@@ -145,14 +149,14 @@ module _ (us : List CodePoint) (first added : ℕ) (b : Builder) (place : ℕ) (
           → HasCause (InvalidUnicodeEscapeSequence (between (place + start) (place + (start + n))))
       escape behind e f whole no_value no_limit = (
         placed InvalidUnicodeEscapeSequence (place + 1) (place + 2) (place + start) (place + (start + n)) (omega (arith, e)) (omega (arith, e, f))
-            (invalid_escape place left behind at_left refl whole no_value no_limit),
+            (of_escape place left at_left (invalid_escape behind refl whole no_value no_limit)),
         dead_escape us left behind whole no_value no_limit,
       )
 
-  index_cause : (n k : ℕ) → front here left ≡ Some (indexed k, n) → text_groups us < k → HasCause (InvalidIndexedReference (between place (place + n)) (text_groups us))
+  index_cause : (n k : ℕ) → front here left ≡ Some (indexed k, n) → text_groups us < k → HasCause (InvalidIndexedReference (between (place + 0) (place + n)) (text_groups us))
   index_cause n k e large =
       let f = front_spelled here left (indexed k) n e in (
-        placed (λ span. InvalidIndexedReference span (text_groups us)) place (place + length f.w) place (place + n) refl (ap (λ n. place + n) f.count)
+        placed (λ span. InvalidIndexedReference span (text_groups us)) place (place + length f.w) (place + 0) (place + n) (omega arith) (ap (λ n. place + n) f.count)
             (no_such_group place k f.w f.rest (subst (IsPlace Unicode us place) f.whole at_left) f.spells large),
         dead_index us left k n e large,
       )
@@ -217,19 +221,20 @@ module _ (us : List CodePoint) (first added : ℕ) (b : Builder) (place : ℕ) (
         let c = ended_cause behind (place + behind) fault s.1 s.2 (λ none. some_left us place l) refl f in
         refused c.0 c.2 (dead_end us first added b place h l (dead_none us left s.0)) fault c.1
     halt_refused l fault (halt.OutOfOrder n) s f =
-        halted l (BracedQuantifierOutOfOrder (between place (place + n))) (out_of_order place n s.0 s.1 left at_left s.2 s.3, dead_numbers us left s.0 s.1 n s.2 (not_in_order s.0 s.1 s.3)) fault f
+        halted l (BracedQuantifierOutOfOrder (between (place + 0) (place + n)))
+        (from_here BracedQuantifierOutOfOrder (place + n) (out_of_order place n s.0 s.1 left at_left s.2 s.3), dead_numbers us left s.0 s.1 n s.2 (not_in_order s.0 s.1 s.3)) fault f
     halt_refused l fault (halt.TooLarge n) s f =
-        halted l (TooLargeNumberInBracedQuantifier (between place (place + n)))
-        (too_large place n s.0 s.1 left at_left s.2 s.3.0 s.3.1, dead_numbers us left s.0 s.1 n s.2 (not_small s.0 s.1 s.3.1)) fault f
+        halted l (TooLargeNumberInBracedQuantifier (between (place + 0) (place + n)))
+        (from_here TooLargeNumberInBracedQuantifier (place + n) (too_large place n s.0 s.1 left at_left s.2 s.3.0 s.3.1), dead_numbers us left s.0 s.1 n s.2 (not_small s.0 s.1 s.3.1)) fault f
     halt_refused l fault (halt.TooManyDigits start many) s f = halted l (TooLargeNumberDigits (between (place + start) (place + (start + many))) Decimal) (limit_cause start many s) fault f
     halt_refused l fault (halt.TooManyHexDigits start many) s f = halted l (TooLargeNumberDigits (between (place + start) (place + (start + many))) Hex) (hex_cause start many s) fault f
     halt_refused l fault (halt.InvalidEscape start n) s f = halted l (InvalidUnicodeEscapeSequence (between (place + start) (place + (start + n)))) (escape_cause start n s) fault f
     halt_refused l fault (halt.UnterminatedName n) s f = halted l (UnterminatedPattern (between (place + 2) (place + (n + 3))) GroupName) (unterminated_cause n s) fault f
     halt_refused l fault halt.NoGroupName s f =
-        halted l (EmptyGroupSpecifier (between place (place + 2))) (no_group_name place left s.0 at_left refl s.1 s.2, dead_reference us left s.0 s.1 s.2) fault f
-    halt_refused l fault (halt.NoSuchGroup n) s f = halted l (InvalidIndexedReference (between place (place + n)) (text_groups us)) (index_cause n s.0 s.1 s.2) fault f
+        halted l (EmptyGroupSpecifier (between (place + 0) (place + 2)))
+        (from_here EmptyGroupSpecifier (place + 2) (no_group_name place left s.0 at_left refl s.1 s.2), dead_reference us left s.0 s.1 s.2) fault f
+    halt_refused l fault (halt.NoSuchGroup n) s f = halted l (InvalidIndexedReference (between (place + 0) (place + n)) (text_groups us)) (index_cause n s.0 s.1 s.2) fault f
     halt_refused l fault (halt.Modifiers it n) s f = halted l (modifiers_refusal it (between (place + 2) (place + (n + 2)))) (modifiers_cause it n s.0 s.1 s.2) fault f
-    halt_refused l fault halt.Unread s f = absurd (true≢false (sym s ∙ h.read))
 
     nothing_left : place ≡ length us → left ≡ []
     nothing_left e = drop_all place us (omega (arith, e))

@@ -101,7 +101,8 @@ row_places e o ((enter n) ∷ es) i us j rest r = row_places e o es i us j rest 
 row_places e o ((leave n) ∷ es) i us j rest r = row_places e o es i us j rest r.1
 row_places e o ((token t) ∷ es) i us j rest r =
     let k = row_places e o es (i + length r.0) r.1 j rest r.4 in omega (arith, k, ap length r.2, length-append r.0 r.1)
-row_places e o ((event.inside c) ∷ es) i us j rest r = absurd r
+row_places e o ((event.inside c) ∷ es) i us j rest r =
+    let k = row_places e o es (i + length r.0) r.1 j rest r.4 in omega (arith, k, ap length r.2, length-append r.0 r.1)
 row_places e o ((modified m) ∷ es) i us j rest r =
     let k = row_places e o es (i + length r.0) r.1 j rest r.4 in omega (arith, k, ap length r.2, length-append r.0 r.1)
 

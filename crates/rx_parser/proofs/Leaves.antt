@@ -11,6 +11,7 @@ use Rattle.rx_ast.specs.declared.leaf.CharacterKind.{CharacterKind}
 use Rattle.rx_ast.specs.declared.leaf.Dot.{Dot}
 use Rattle.rx_ast.specs.declared.leaf.IndexedReference.{IndexedReference}
 use Rattle.rx_ast.specs.declared.leaf.NamedReference.{NamedReference}
+use Rattle.rx_ast.specs.declared.leaf.UnicodePropertyEscape.{UnicodePropertyEscape}
 use Rattle.rx_ast.specs.declared.term.Term.{Term}
 use Rattle.rx_ast.specs.declared.term.Term.TheVariants as variant
 use Rattle.rx_ast.specs.Spans.{leaf_span}
@@ -20,10 +21,11 @@ use Rattle.rx_ast.proofs.Equations as mirror
 use Rattle.rx_model.specs.declared.mode.Mode.{Mode}
 use Rattle.rx_model.specs.Events.{enter, leave, token, node_events, term_events, leaf_event}
 use Rattle.rx_model.specs.Shapes.{run, takes, leaf_takes, IsNode}
-use Rattle.rx_model.specs.Token.{Token, Opener, boundary, character, dot, class_escape, indexed, named, leaf_token}
+use Rattle.rx_model.specs.Token.{Token, Opener, boundary, character, dot, class_escape, indexed, named, property, leaf_token}
 use Rattle.rx_parser.specs.Progress.{IsLeafOf}
 
-leaf_runs : (mode : Mode) (l : Leaf) (ts : List Token) (open_groups : List Opener) (ready : Bool) → run mode (leaf_token l ∷ ts) open_groups ready ≡ run mode ts open_groups (leaf_takes l)
+-- A leaf stands wherever its token may, and its events are the token between the ends of its span.
+pub leaf_runs : (mode : Mode) (l : Leaf) (ts : List Token) (open_groups : List Opener) (ready : Bool) → run mode (leaf_token l ∷ ts) open_groups ready ≡ run mode ts open_groups (leaf_takes l)
 leaf_runs mode (tree.boundary b) ts open_groups ready = refl
 leaf_runs mode (tree.character c) ts open_groups ready = refl
 leaf_runs mode (tree.dot d) ts open_groups ready = refl
@@ -33,7 +35,7 @@ leaf_runs mode (tree.class c) ts open_groups ready = refl
 leaf_runs mode (tree.indexed r) ts open_groups ready = refl
 leaf_runs mode (tree.named r) ts open_groups ready = refl
 
-leaf_events : (term : Term) (l : Leaf) → mirror_term term ≡ leaf l → term_events term ≡ enter (leaf_span l).start ∷ leaf_event l ∷ leave (leaf_span l).end ∷ []
+pub leaf_events : (term : Term) (l : Leaf) → mirror_term term ≡ leaf l → term_events term ≡ enter (leaf_span l).start ∷ leaf_event l ∷ leave (leaf_span l).end ∷ []
 unfolding term_events
 leaf_events term l e = ap node_events e
 
@@ -71,3 +73,9 @@ indexed_is_leaf b n at after e =
 pub named_is_leaf : (b : Box NamedReference Global) (name : List ℕ) (at after : ℕ) → b.value ≡ record { span = record { start = at; end = after }; name = name } → IsLeafOf (variant.NamedReference b) (named name) at after
 named_is_leaf b name at after e =
     leaf_is (variant.NamedReference b) (tree.named b.value) (named name) at after (mirror.named_is b) (ap (λ x. token (named x.name)) e) (ap (λ x. named x.name) e) (ap (λ x. x.span) e)
+
+pub property_is_leaf : (b : Box UnicodePropertyEscape Global) (p : UnicodePropertyEscape) → b.value ≡ p
+    → IsLeafOf (variant.UnicodePropertyEscape b) (property p.negative p.strings p.name p.value) p.span.start p.span.end
+property_is_leaf b p e =
+    let its : UnicodePropertyEscape → Token = λ x. property x.negative x.strings x.name x.value in
+    leaf_is (variant.UnicodePropertyEscape b) (tree.property b.value) (its p) p.span.start p.span.end (mirror.property_is b) (ap (λ x. token (its x)) e) (ap its e) (ap (λ x. x.span) e)

@@ -1,4 +1,5 @@
 pub mod Agains
+pub mod ClassTurns
 pub mod DeadCounts
 pub mod DeadFronts
 pub mod Digits
@@ -17,7 +18,6 @@ pub mod ModifierBits
 pub mod ModifiersFound
 pub mod NameFound
 pub mod Passes
-pub mod Pieces
 pub mod Places
 pub mod Prefixes
 pub mod ReferenceFound

@@ -1,21 +1,21 @@
 -- What the parse of a literal's units says of its text and flags.
-use Rattle.std.proofs.Common.{◌≡◌, refl, ap, ◌∙◌, subst, ℕ, true, false, Bool, ◌&&◌, ◌⊎◌, inl, List, Option, Result, Err, IfOk, IsErrAnd, OnOk}
+use Rattle.std.proofs.Common.{◌≡◌, refl, ap, sym, ◌∙◌, subst, ℕ, Bool, true, false, ◌⊎◌, inl, List, Option, Result, Err, IfOk, IsErrAnd, OnOk}
+use Rattle.std.proofs.lemmas.Bool.{and_from, and_parts, not-true, not_from_false}
 use Rattle.std.proofs.lemmas.Result.{IfOk-weaker, err_from_is_err_and}
 use Rattle.rx_ast.specs.declared.term.Pattern.{Pattern}
 use Rattle.rx_base.specs.declared.fault.Fault.{Fault}
 use Rattle.rx_base.specs.declared.fault.Fault.TheVariants.{OutOfMemory, NotYet}
 use Rattle.rx_base.specs.declared.fault.Fault.TheVariants as fault
 use Rattle.rx_units.specs.declared.code_point.CodePoint.{CodePoint}
-use Rattle.rx_units.specs.Units.{literal_units, values}
+use Rattle.rx_units.specs.Units.{literal_units}
 use Rattle.rx_model.specs.declared.mode.Mode.{Mode}
 use Rattle.rx_model.specs.Environment.{is_unicode}
 use Rattle.rx_model.specs.Flags.{flags_of, flags_ok, mode_of, modes_of}
 use Rattle.rx_model.specs.Modes.{mode_by}
 use Rattle.rx_model.specs.Reading.{IsOnly, IsSpanned, IsValid, Reads, literal_text, units_of}
 use Rattle.rx_parser.specs.Literals.{IsFlagFault}
-use Rattle.rx_parser.specs.NotYet.{is_unread_text, is_unread_literal}
+use Rattle.rx_parser.specs.NotYet.{is_read, is_unread_literal}
 use Rattle.rx_parser.proofs.FlagTexts.{mode_of_modes, refused_flags, unicode_of_modes}
-use Rattle.rx_parser.proofs.TextUnits.{unread_by_units}
 
 -- what is passed on is the fault
 pub passed_on : (r : Result Pattern Fault) (fault : Fault) → IsErrAnd r (λ e. e ≡ fault) → r ≡ Err fault
@@ -31,21 +31,13 @@ fault_of_valid text some flags added (fault.Diagnostic cause) e h v =
     let k : flags_ok some ≡ false = refused_flags some added cause h in
     absurd (let no : ⊥ = cc in no)
 
-both_true : (a b : Bool) → (a && b) ≡ true → (a ≡ true) × (b ≡ true)
-both_true true b h = (refl, h)
-both_true false b h = absurd (let no : ⊥ = cc in no)
-
-both : (a b : Bool) → a ≡ true → b ≡ true → (a && b) ≡ true
-both true b h k = k
-both false b h k = absurd (let no : ⊥ = cc in no)
-
--- and so is that of a text that is not read yet
-pub fault_of_unread : (text some : List ℕ) (flags : Option (List ℕ)) (added : ℕ) (fault : Fault) → some ≡ flags_of flags → IsFlagFault some added fault
-    → is_unread_literal text flags ≡ true → fault ≡ OutOfMemory
-fault_of_unread text some flags added OutOfMemory e h later = refl
-fault_of_unread text some flags added NotYet e h later = absurd h
-fault_of_unread text some flags added (fault.Diagnostic cause) e h later =
-    let f : flags_ok some ≡ true = ap flags_ok e ∙ (both_true _ _ later).0 in
+-- and so is that of flags whose mode is not read yet
+pub fault_of_unread : (some : List ℕ) (flags : Option (List ℕ)) (added : ℕ) (fault : Fault) → some ≡ flags_of flags → IsFlagFault some added fault
+    → is_unread_literal flags ≡ true → fault ≡ OutOfMemory
+fault_of_unread some flags added OutOfMemory e h later = refl
+fault_of_unread some flags added NotYet e h later = absurd h
+fault_of_unread some flags added (fault.Diagnostic cause) e h later =
+    let f : flags_ok some ≡ true = ap flags_ok e ∙ (and_parts _ _ later).0 in
     let k : flags_ok some ≡ false = refused_flags some added cause h in
     absurd (let no : ⊥ = cc in no)
 
@@ -83,18 +75,11 @@ pub valid_by : (r : Result Pattern Fault) (text : List ℕ) (flags : Option (Lis
     → IfOk r (λ it. Reads (mode_of (flags_of flags)) it (units_of (mode_of (flags_of flags)) text)) → OnOk r (IsValid text flags)
 valid_by r text flags ok h = IfOk-weaker r _ (λ _. IsValid text flags) (λ p k. record { flags_are = ok; pattern = p; reads = k }) h
 
--- whether its units are read yet is whether the literal is
-pub unread_is : (text : List ℕ) (flags : Option (List ℕ)) (m : Mode) (us : List CodePoint) → m ≡ mode_of (flags_of flags) → us ≡ units_of (mode_of (flags_of flags)) text
-    → is_unread_text m (values us) ≡ is_unread_text (mode_of (flags_of flags)) (literal_text text)
-unread_is text flags m us mode are =
-    ap (λ x. is_unread_text x (values us)) mode ∙ ap (λ xs. is_unread_text (mode_of (flags_of flags)) (values xs)) are
-    ∙ unread_by_units (mode_of (flags_of flags)) (literal_text text)
+module _ (flags : Option (List ℕ)) (mode : Mode) (same : mode ≡ mode_of (flags_of flags)) where
+  -- flags that are no fault and whose mode is not read are not read
+  pub unread_by_mode : flags_ok (flags_of flags) ≡ true → is_read mode ≡ false → is_unread_literal flags ≡ true
+  unread_by_mode ok unread = and_from _ _ ok (not_from_false _ (ap is_read (sym same) ∙ unread))
 
--- the flags are no fault, so the literal is read as its text is
-pub unread_of_text : (text : List ℕ) (flags : Option (List ℕ)) → flags_ok (flags_of flags) ≡ true → is_unread_text (mode_of (flags_of flags)) (literal_text text) ≡ true
-    → is_unread_literal text flags ≡ true
-unread_of_text text flags ok unread = both _ _ ok unread
-
-pub text_of_unread : (text : List ℕ) (flags : Option (List ℕ)) → is_unread_literal text flags ≡ true
-    → is_unread_text (mode_of (flags_of flags)) (literal_text text) ≡ true
-text_of_unread text flags unread = (both_true _ _ unread).1
+  -- and only those
+  pub mode_of_unread : is_unread_literal flags ≡ true → is_read mode ≡ false
+  mode_of_unread unread = ap is_read same ∙ not-true _ (and_parts _ _ unread).1

@@ -107,4 +107,3 @@ halts_in_name e us behind (halt.TooManyDigits start many) b h = absurd h
 halts_in_name e us behind halt.NoGroupName b h = absurd h
 halts_in_name e us behind (halt.NoSuchGroup n) b h = absurd h
 halts_in_name e us behind (halt.Modifiers fault n) b h = absurd h
-halts_in_name e us behind halt.Unread b h = absurd h

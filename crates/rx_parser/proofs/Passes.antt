@@ -11,10 +11,11 @@ use Rattle.rx_model.specs.Causes.{duplicated_names, name_span, too_many_groups}
 use Rattle.rx_model.specs.Early.{most_groups}
 use Rattle.rx_model.specs.Marks.{Clash, IsFirstClash, count, marks, seen}
 use Rattle.rx_model.specs.Modes.{mode_by}
-use Rattle.rx_model.specs.Reached.{HasNoClash, text_groups, text_names}
+use Rattle.rx_model.specs.Reached.{HasNoClash, text_groups}
 use Rattle.rx_model.proofs.Apart.{tells_apart}
 use Rattle.rx_model.proofs.OwnGroups.{tells_groups}
 use Rattle.rx_scan.specs.declared.state.State.{State}
+use Rattle.rx_class.proofs.FirstPasses.{counted, listed}
 use Rattle.rx_parser.specs.Parsing.{HoldsPass, IsInvalid, IsRefused, mode_of_state}
 
 -- the truth values of unicode mode
@@ -23,16 +24,6 @@ unicode_bits true true e = absurd (let k : ⊥ = cc e in k)
 unicode_bits true false e = (refl, refl)
 unicode_bits false true e = absurd (let k : ⊥ = cc e in k)
 unicode_bits false false e = absurd (let k : ⊥ = cc e in k)
-
--- the groups of a text, as they are counted
-counted : (us : List CodePoint) → text_groups us ≡ count (marks (values us))
-unfolding text_groups
-counted us = refl
-
--- and their names, as they are listed
-listed : (us : List CodePoint) → text_names Unicode us ≡ seen true (marks (values us))
-unfolding text_names
-listed us = refl
 
 -- Where the pass refuses nothing the state holds it.
 pub holds_pass : (us : List CodePoint) (old new : State) → mode_of_state old ≡ Unicode → new.unicode_mode ≡ old.unicode_mode → new.unicode_sets_mode ≡ old.unicode_sets_mode

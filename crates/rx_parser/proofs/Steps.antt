@@ -1,15 +1,22 @@
 -- Each token moves the reading on, or may not follow.
 use Rattle.std.proofs.Common.{◌≡◌, refl, ap, sym, ◌∙◌, subst, ℕ, ◌+◌, Bool, true, false, Option, Some, List, [], ◌∷◌, ◌++◌, length, append_assoc}
 use Rattle.rx_units.specs.declared.code_point.CodePoint.{CodePoint}
+use Rattle.rx_base.specs.declared.span.Span.{Span}
 use Rattle.rx_ast.specs.declared.leaf.Modifiers.{Modifiers}
 use Rattle.rx_ast.specs.declared.term.Pattern.{Pattern}
 use Rattle.rx_ast.specs.declared.term.Term.{Term}
-use Rattle.rx_ast.specs.Tree.{mirror_term}
+use Rattle.rx_ast.specs.ClassTree.{Class, class}
+use Rattle.rx_ast.specs.Spans.{class_span}
+use Rattle.rx_ast.specs.Tree as tree
+use Rattle.rx_ast.specs.Tree.{leaf, mirror_term}
+use Rattle.rx_model.specs.ClassRows.{ClassRow, IsClassSpanned, Place, behind, fresh, outside}
+use Rattle.rx_model.specs.ClassTokens as in_class
+use Rattle.rx_model.specs.ClassTokens.{ClassEvents, members_events, operator_events}
 use Rattle.rx_model.specs.Environment.{Environment}
-use Rattle.rx_model.specs.Events.{Events, enter, leave, modified, token, events, opener_event, term_events, tokens, tokens_of}
+use Rattle.rx_model.specs.Events.{Events, enter, inside, leave, modified, token, events, opener_event, term_events, tokens, tokens_of}
 use Rattle.rx_model.specs.Groups.{IsModifying}
 use Rattle.rx_model.specs.Rows.{Row, TokenRow}
-use Rattle.rx_model.specs.Shapes.{run, takes, group_takes, IsWellMade}
+use Rattle.rx_model.specs.Shapes.{run, takes, group_takes, IsNode, IsWellMade}
 use Rattle.rx_model.specs.Token.{Token, Opener, bar, closer, ignoring, letter_bits, opener, opener_of, quantifier}
 use Rattle.rx_model.proofs.Flat.{tokens_of-append}
 use Rattle.rx_model.proofs.Joins.{row_append, row_split, row_tokens}
@@ -21,12 +28,27 @@ use Rattle.rx_parser.specs.Frames.{builder_events, opener_tree, openers, ready}
 use Rattle.rx_parser.specs.Good.{IsGood, IsGoodTerm}
 use Rattle.rx_parser.specs.Levels.{Repeats}
 use Rattle.rx_parser.specs.Progress.{IsLeafOf, IsAt, Advances, Refuses}
+use Rattle.rx_parser.proofs.Leaves.{leaf_events, leaf_runs}
 
 abbrev state : List Opener → Bool → Option (List Opener × Bool)
 state open_groups ready = Some (open_groups, ready)
 
 same_state : (os ps : List Opener) (q r : Bool) → os ≡ ps → q ≡ r → state os q ≡ state ps r
 same_state os ps q r e f = ap (λ x. state x q) e ∙ ap (λ x. state ps x) f
+
+-- A class begins and ends at the offsets of its places.
+row_ends : (e : Environment) (o : ℕ → ℕ) (es : ClassEvents) (n : ℕ) (p q : Place) (i j : ℕ) (us rest : List CodePoint) → ClassRow e o (es ++ (in_class.leave n ∷ [])) p i us q j rest → n ≡ o j
+row_ends e o [] n p q i j us rest h = h.0 ∙ ap o h.1.1
+row_ends e o ((in_class.enter k) ∷ es) n p q i j us rest h = row_ends e o es n p q i j us rest h.1
+row_ends e o ((in_class.leave k) ∷ es) n p q i j us rest h = row_ends e o es n p q i j us rest h.1
+row_ends e o ((in_class.token t) ∷ es) n p q i j us rest h = row_ends e o es n (behind t) q (i + length h.0) j h.1 rest h.4
+
+class_start : (e : Environment) (o : ℕ → ℕ) (i : ℕ) (c : Class) (w rest : List CodePoint) → IsClassSpanned e o i c w rest → (class_span c).start ≡ o i
+class_start e o i (class s negative may kind ms) w rest h = h.row.0
+
+class_end : (e : Environment) (o : ℕ → ℕ) (i : ℕ) (c : Class) (w rest : List CodePoint) → IsClassSpanned e o i c w rest → (class_span c).end ≡ o (i + length w)
+class_end e o i (class s negative may kind ms) w rest h =
+    row_ends e o (in_class.token (in_class.bracket negative) ∷ (members_events (operator_events kind) ms ++ (in_class.token in_class.closer ∷ []))) s.end outside fresh i (i + length w) (w ++ rest) rest h.row.1
 
 module _ (e : Environment) where
   -- more events at the end
@@ -57,6 +79,18 @@ module _ (e : Environment) where
       (a, (w, more, refl, s, (z ∙ ap o k, (sym k, refl))))
       (l.runs e.mode [] (openers b) (ready b) ∙ same_state (openers b) (openers c) (takes e.mode (mirror_term term)) (ready c) (sym q) (ap (λ x. takes x (mirror_term term)) (sym h.mode) ∙ sym r))
       (g (l.good b.mode)) d h
+
+  -- a class, which has the span of what it spells
+  pub class_advances : (b c : Builder) (term : Term) (it : Class) → mirror_term term ≡ leaf (tree.class it) → builder_events c ≡ builder_events b ++ term_events term → openers c ≡ openers b
+      → ready c ≡ takes b.mode (mirror_term term) → (IsGoodTerm b.mode term → IsGood b → IsGood c) → c.mode ≡ b.mode
+      → (o : ℕ → ℕ) (i j : ℕ) (us w more : List CodePoint) → IsClassSpanned e o i it w more → j ≡ i + length w → IsAt e o b us i (w ++ more) → IsAt e o c us j more
+  class_advances b c term it m n q r g d o i j us w more s k h =
+      let span : Span = class_span it in
+      moves o b c (enter span.start ∷ inside it ∷ leave span.end ∷ []) us i j (w ++ more) more (n ∙ ap (λ x. builder_events b ++ x) (leaf_events term (tree.class it) m))
+      (class_start e o i it w more s, (w, more, refl, s, (class_end e o i it w more s, (sym k, refl))))
+      (leaf_runs e.mode (tree.class it) [] (openers b) (ready b)
+      ∙ same_state (openers b) (openers c) true (ready c) (sym q) (ap (takes b.mode) (sym m) ∙ sym r))
+      (g (subst (IsNode b.mode) (sym m) tt)) d h
 
   pub bar_advances : (b c : Builder) (at after : ℕ) → builder_events c ≡ builder_events b ++ (leave at ∷ token bar ∷ enter after ∷ []) → openers c ≡ openers b → ready c ≡ false
       → (IsGood b → IsGood c) → c.mode ≡ b.mode → Advances e b c bar at after

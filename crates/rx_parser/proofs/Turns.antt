@@ -1,39 +1,44 @@
 -- A token that stands next moves a parse on, or refuses the text.
-use Rattle.std.proofs.Common.{◌≡◌, refl, ap, sym, ◌∙◌, subst, ℕ, zero, suc, ◌+◌, ◌-◌, ◌^◌, ◌<◌, ◌≤◌, Bool, true, false, Option, Some, None, List, [], ◌∷◌, ◌++◌, length, drop, take, get_or, arith, append_assoc, length-append, length-drop, Contains}
-use Rattle.std.specs.Prelude.{All, eqb, min}
+use Rattle.std.proofs.Common.{◌≡◌, refl, ap, sym, ◌∙◌, subst, ℕ, ◌+◌, ◌-◌, ◌<◌, ◌≤◌, Bool, true, false, Option, Some, None, List, [], ◌∷◌, ◌++◌, length, drop, get_or, arith, append_assoc, length-append, length-drop, Contains}
+use Rattle.std.specs.Prelude.{All, OnOk, Result, Ok, Err, eqb, min}
 use lib.Pointwise.{pointwise}
 use Rattle.std.proofs.Math.Seq.{drop-append_seam}
 use Rattle.std.proofs.lemmas.Bool.{true≢false}
 use Rattle.std.proofs.lemmas.List.{drop-drop, length-map}
-use Rattle.std.proofs.lemmas.List.Elements.{All-append, All-cons, All-head, All-nil, All-tail}
+use Rattle.std.proofs.lemmas.List.Elements.{All-append, All-cons, All-nil}
 use Rattle.std.proofs.lemmas.List.Folds.{Any-from_list_any, list_any_at}
 use Rattle.rx_base.specs.declared.fault.Fault.TheVariants.{Diagnostic}
 use Rattle.rx_base.specs.declared.diagnostic.Diagnostic.TheVariants.{InvalidNamedReference, LoneQuantifier}
 use Rattle.rx_base.specs.declared.span.Span.{Span}
 use Rattle.rx_ast.specs.declared.leaf.Modifiers.{Modifiers}
 use Rattle.rx_ast.specs.declared.term.Term.{Term}
-use Rattle.rx_ast.specs.Tree.{mirror_term}
+use Rattle.rx_ast.specs.ClassTree.{Class}
+use Rattle.rx_ast.specs.Forget.{forget_class, same_kind}
+use Rattle.rx_ast.specs.Tree as tree
+use Rattle.rx_ast.specs.Tree.{leaf, mirror_term}
 use Rattle.rx_units.specs.declared.code_point.CodePoint.{CodePoint}
-use Rattle.rx_units.specs.Reading.{Reading, moved, offset_of}
-use Rattle.rx_units.specs.Units.{end_of, offset_at, values}
+use Rattle.rx_units.specs.Reading.{Reading, moved, offset_of, rest}
+use Rattle.rx_units.specs.Units.{offset_at}
 use Rattle.rx_model.specs.declared.mode.Mode.{Mode}
 use Rattle.rx_model.specs.declared.mode.Mode.TheVariants.{Unicode}
-use Rattle.rx_model.specs.Causes.{IsCauseAtPlace, IsPlace, at_place, lone, no_such_name}
+use Rattle.rx_model.specs.Causes.{IsCauseAtPlace, at_place, lone, no_such_name}
+use Rattle.rx_model.specs.ClassRows.{IsClassSpanned}
 use Rattle.rx_model.specs.Early.{Obeys, most_groups}
 use Rattle.rx_model.specs.Environment.{Environment, environment_with, has_some, is_unicode}
 use Rattle.rx_model.specs.Events.{Events, enter, leave, modified, token, opener_event, term_events, tokens_of}
 use Rattle.rx_model.specs.Fronts.{front}
 use Rattle.rx_model.specs.Groups.{IsModified, IsModifying}
 use Rattle.rx_model.specs.Names.{is_among}
-use Rattle.rx_model.specs.Reached.{HasNoClash, IsReached, span_between, text_environment, text_groups, text_names}
+use Rattle.rx_model.specs.Reached.{IsPlace, HasNoClash, IsReached, span_between, text_environment, text_groups, text_names}
 use Rattle.rx_model.specs.Rows.{Spells, TokenRow}
 use Rattle.rx_model.specs.Shapes.{run, takes, group_takes}
-use Rattle.rx_model.specs.Token.{Token, Opener, bar, capturing, closer, ignoring, letter_bits, named, opener, opener_of, quantifier}
+use Rattle.rx_model.specs.Token.{Token, Opener, bar, capturing, class, closer, ignoring, letter_bits, named, opener, opener_of, quantifier}
 use Rattle.rx_model.proofs.Flat.{tokens_of-append}
 use Rattle.rx_model.proofs.Fronts.{front_spelled, spelled_front, spelled_some}
 use Rattle.rx_scan.proofs.KnownNames.{same_name_Decides}
 use Rattle.rx_parser.specs.declared.builder.Builder.{Builder}
 use Rattle.rx_parser.specs.declared.found.Found.{Found}
+use Rattle.rx_parser.specs.declared.found.Found.TheVariants.{Open}
 use Rattle.rx_parser.specs.declared.found.OpenerFound.{OpenerFound}
 use Rattle.rx_parser.specs.declared.found.OpenerFound.TheVariants as opening
 use Rattle.rx_parser.specs.declared.frame.Opening.{Opening}
@@ -42,30 +47,13 @@ use Rattle.rx_parser.specs.Found.{HoldsName, HoldsOpener, IsFound, IsOpenerFound
 use Rattle.rx_parser.specs.Frames.{builder_events, opener_tree, openers, ready}
 use Rattle.rx_parser.specs.Good.{IsGood, IsGoodTerm}
 use Rattle.rx_parser.specs.Levels.{Repeats}
-use Rattle.rx_parser.specs.NotYet.{holds_unread}
 use Rattle.rx_parser.specs.Openings.{IsOpeningOf}
-use Rattle.rx_parser.specs.Parsing.{AreFitting, IsParsing, IsRefused}
+use Rattle.rx_parser.specs.Parsing.{IsParsing, IsRefused}
 use Rattle.rx_parser.specs.Progress.{IsAt, IsLeafOf}
-use Rattle.rx_parser.proofs.Pieces.{unread_behind}
+use Rattle.rx_parser.specs.Turns.{IsBefore, IsTurned}
+use Rattle.rx_parser.proofs.Leaves.{leaf_events}
 use Rattle.rx_parser.proofs.Places.{dead_end, reached, read_ahead}
-use Rattle.rx_parser.proofs.Steps.{leaf_advances, bar_advances, close_advances, modified_advances, open_advances, quantify_advances, quantify_refuses}
-
-end_fits : (added first : ℕ) (us : List CodePoint) (n : ℕ) → first + added < 2 ^ 32 → All (λ unit. unit.span.end + added < 2 ^ 32) us → end_of first (take n us) + added < 2 ^ 32
-end_fits added first us zero f a = f
-end_fits added first [] (suc n) f a = f
-end_fits added first (u ∷ us) (suc n) f a =
-    end_fits added u.span.end us n (All-head (λ unit. unit.span.end + added < 2 ^ 32) u us a) (All-tail (λ unit. unit.span.end + added < 2 ^ 32) u us a)
-
--- The offset of each place fits.
-pub offset_fits : (added first : ℕ) (us : List CodePoint) (place : ℕ) → first + added < 2 ^ 32 → All (λ unit. unit.span.end + added < 2 ^ 32) us → offset_at first us place + added < 2 ^ 32
-offset_fits added first us place f a = end_fits added first us place f a
-
--- of each place of a reader, at which it stands or to which it moves
-pub here_fits : (added : ℕ) (r : Reading) → AreFitting added r → offset_of r + added < 2 ^ 32
-here_fits added r f = offset_fits added r.first r.units r.place f.first f.ends
-
-pub moved_fits : (added n : ℕ) (r s : Reading) → AreFitting added r → s ≡ moved n r → offset_of s + added < 2 ^ 32
-moved_fits added n r s f e = subst (λ k. offset_of k + added < 2 ^ 32) (sym e) (offset_fits added r.first r.units (moved n r).place f.first f.ends)
+use Rattle.rx_parser.proofs.Steps.{leaf_advances, class_advances, bar_advances, close_advances, modified_advances, open_advances, quantify_advances, quantify_refuses}
 
 -- the offset of a reader that has moved
 pub moved_offset : (at added n : ℕ) (r s : Reading) → at ≡ offset_of s + added → s ≡ moved n r → at ≡ offset_at r.first r.units (min (r.place + n) (length r.units)) + added
@@ -94,7 +82,7 @@ pub is_next : (us : List CodePoint) (place : ℕ) (t : Token) (n : ℕ) → Stan
 is_next us place t n s = record { read = s.0; within = s.1; obeys = s.2 (text_names Unicode us) }
 
 -- A token has a unit.
-pub place_moves : (us : List CodePoint) (place n : ℕ) (t : Token) → place ≤ length us → IsNext us place t n → place < min (place + n) (length us)
+place_moves : (us : List CodePoint) (place n : ℕ) (t : Token) → place ≤ length us → IsNext us place t n → place < min (place + n) (length us)
 place_moves us place n t l s =
     let text : Environment = text_environment Unicode us in
     let f = front_spelled text (drop place us) t n s.read in
@@ -151,6 +139,22 @@ holds_opener e us n o opening.Ignoring u f = tt
 holds_opener e us n o (opening.Modified enabling disabling) u f = f.1
 holds_opener e us n o (opening.LookAround kind) u f = tt
 
+-- A builder has taken a term.
+pub record Adds (b c : Builder) (term : Term) : Type 0 where
+  pub events : builder_events c ≡ builder_events b ++ term_events term
+  pub openers_are : openers c ≡ openers b
+  pub ready_is : ready c ≡ takes b.mode (mirror_term term)
+  pub good : IsGoodTerm b.mode term → IsGood b → IsGood c
+  pub mode : c.mode ≡ b.mode
+
+-- A builder has begun an alternative.
+pub record Bars (b c : Builder) (at after : ℕ) : Type 0 where
+  pub events : builder_events c ≡ builder_events b ++ (leave at ∷ token bar ∷ enter after ∷ [])
+  pub openers_are : openers c ≡ openers b
+  pub ready_is : ready c ≡ false
+  pub good : IsGood b → IsGood c
+  pub mode : c.mode ≡ b.mode
+
 -- A builder has begun a group.
 pub record Opens (b c : Builder) (begun : Opening) (at after : ℕ) : Type 0 where
   pub events : builder_events c ≡ builder_events b ++ (enter at ∷ opener_event (opener_tree begun) ∷ enter after ∷ enter after ∷ [])
@@ -190,41 +194,54 @@ module _ (us : List CodePoint) (first added : ℕ) (b : Builder) (place : ℕ) (
   abbrev Takes : Builder → Token → ℕ → Type 0
   Takes c t n = (w more : List CodePoint) → length w ≡ n → Spells text t w more → next n ≡ place + length w → IsAt text offset b us place (w ++ more) → IsAt text offset c us (next n) more
 
-  -- a token that the builder takes
-  moves_on : (c : Builder) (t : Token) (n : ℕ) → IsNext us place t n → Takes c t n → tokens_of (builder_events c) ≡ tokens_of (builder_events b) ++ (t ∷ []) → IsParsing Unicode us first added c (next n)
-  moves_on c t n s takes more =
-      let f = front_spelled text (drop place us) t n s.read in
-      let on : next n ≡ place + n = place_on us place n h.within s.within in
-      let rest : drop (next n) us ≡ f.rest =
-      ap (λ k. drop k us) on ∙ sym (drop-drop n place us) ∙ ap (drop n) f.whole ∙ ap (λ k. drop k (f.w ++ f.rest)) (sym f.count) ∙ drop-append_seam f.w f.rest in
+  -- units that the builder takes as a token
+  moves_over : (c : Builder) (t : Token) (w more : List CodePoint) → drop place us ≡ w ++ more → Obeys (text_groups us) (text_names Unicode us) t
+      → (next (length w) ≡ place + length w → IsAt text offset b us place (w ++ more) → IsAt text offset c us (next (length w)) more)
+      → tokens_of (builder_events c) ≡ tokens_of (builder_events b) ++ (t ∷ []) → IsParsing Unicode us first added c (next (length w))
+  moves_over c t w more whole obeys takes adds =
+      let inside : length w ≤ length (drop place us) = omega (arith, ap length whole, length-append w more) in
+      let on : next (length w) ≡ place + length w = place_on us place (length w) h.within inside in
+      let rest : drop (next (length w)) us ≡ more = ap (λ k. drop k us) on ∙ sym (drop-drop (length w) place us) ∙ ap (drop (length w)) whole ∙ drop-append_seam w more in
       let obeying : Token → Type 0 = Obeys (text_groups us) (text_names Unicode us) in
       record {
-        at = subst (IsAt text offset c us (next n)) (sym rest)
-            (takes f.w f.rest f.count f.spells (on ∙ ap (λ k. place + k) (sym f.count)) (subst (IsAt text offset b us place) f.whole h.at));
-        within = omega (arith, on, s.within, h.within, length-drop place us);
-        obey = subst (All obeying) (sym more) (All-append obeying (tokens_of (builder_events b)) (t ∷ []) h.obey (All-cons obeying t [] s.obeys (All-nil obeying)));
-        read = subst (λ w. holds_unread (values w) ≡ false) (sym rest)
-            (unread_behind text t f.w f.rest f.spells (subst (λ w. holds_unread (values w) ≡ false) f.whole h.read));
+        at = subst (IsAt text offset c us (next (length w))) (sym rest) (takes on (subst (IsAt text offset b us place) whole h.at));
+        within = omega (arith, on, inside, h.within, length-drop place us);
+        obey = subst (All obeying) (sym adds) (All-append obeying (tokens_of (builder_events b)) (t ∷ []) h.obey (All-cons obeying t [] obeys (All-nil obeying)));
       }
 
+  -- a token that the builder takes
+  moves_on : (c : Builder) (t : Token) (n : ℕ) → IsNext us place t n → Takes c t n → tokens_of (builder_events c) ≡ tokens_of (builder_events b) ++ (t ∷ []) → IsParsing Unicode us first added c (next n)
+  moves_on c t n s takes adds =
+      let f = front_spelled text (drop place us) t n s.read in
+      subst (λ k. IsParsing Unicode us first added c (next k)) f.count
+      (moves_over c t f.w f.rest f.whole s.obeys (subst (Takes c t) (sym f.count) takes f.w f.rest refl f.spells) adds)
+
   -- a term of one token
-  pub leaf_moves : (c : Builder) (term : Term) (t : Token) (n at after : ℕ) → IsNext us place t n → IsLeafOf term t at after → at ≡ offset place → after ≡ offset (next n)
-      → builder_events c ≡ builder_events b ++ term_events term → openers c ≡ openers b → ready c ≡ takes b.mode (mirror_term term)
-      → (IsGoodTerm b.mode term → IsGood b → IsGood c) → c.mode ≡ b.mode → IsParsing Unicode us first added c (next n)
-  leaf_moves c term t n at after s l a z m o r g d =
-      moves_on c t n s (λ w more count spells on. leaf_advances text b c term t at after l m o r g d offset place (next n) us w more a z spells on)
-      (one_more (builder_events b) (builder_events c) (term_events term) t m (ap tokens_of l.events_are))
+  leaf_moves : (c : Builder) (term : Term) (t : Token) (n at after : ℕ) → IsNext us place t n → IsLeafOf term t at after → at ≡ offset place → after ≡ offset (next n)
+      → Adds b c term → IsParsing Unicode us first added c (next n)
+  leaf_moves c term t n at after s l a z k =
+      moves_on c t n s
+      (λ w more count spells on. leaf_advances text b c term t at after l k.events k.openers_are k.ready_is k.good k.mode offset place (next n) us w more a z spells on)
+      (one_more (builder_events b) (builder_events c) (term_events term) t k.events (ap tokens_of l.events_are))
+
+  -- a class
+  pub class_moves : (c : Builder) (term : Term) (it : Class) (w more : List CodePoint) → mirror_term term ≡ leaf (tree.class it) → drop place us ≡ w ++ more
+      → IsClassSpanned text offset place it w more → Obeys (text_groups us) (text_names Unicode us) (class (forget_class same_kind it)) → Adds b c term
+      → IsParsing Unicode us first added c (next (length w))
+  class_moves c term it w more m whole spelled obeys k =
+      moves_over c (class (forget_class same_kind it)) w more whole obeys
+      (λ on at. class_advances text b c term it m k.events k.openers_are k.ready_is k.good k.mode offset place (next (length w)) us w more spelled on at)
+      (one_more (builder_events b) (builder_events c) (term_events term) (class (forget_class same_kind it)) k.events (ap tokens_of (leaf_events term (tree.class it) m)))
 
   -- a bar
-  pub bar_moves : (c : Builder) (at after : ℕ) → IsNext us place bar 1 → at ≡ offset place → after ≡ offset (next 1)
-      → builder_events c ≡ builder_events b ++ (leave at ∷ token bar ∷ enter after ∷ []) → openers c ≡ openers b → ready c ≡ false → (IsGood b → IsGood c) → c.mode ≡ b.mode
-      → IsParsing Unicode us first added c (next 1)
-  bar_moves c at after s a z m o r g d =
-      moves_on c bar 1 s (λ w more count spells on. bar_advances text b c at after m o r g d offset place (next 1) us w more a z spells on)
-      (one_more (builder_events b) (builder_events c) (leave at ∷ token bar ∷ enter after ∷ []) bar m refl)
+  bar_moves : (c : Builder) (at after : ℕ) → IsNext us place bar 1 → at ≡ offset place → after ≡ offset (next 1) → Bars b c at after → IsParsing Unicode us first added c (next 1)
+  bar_moves c at after s a z k =
+      moves_on c bar 1 s
+      (λ w more count spells on. bar_advances text b c at after k.events k.openers_are k.ready_is k.good k.mode offset place (next 1) us w more a z spells on)
+      (one_more (builder_events b) (builder_events c) (leave at ∷ token bar ∷ enter after ∷ []) bar k.events refl)
 
   -- a quantifier behind what may have one
-  pub quantifier_moves : (c : Builder) (min : ℕ) (max : Option ℕ) (greedy : Bool) (n after : ℕ) → IsNext us place (quantifier min max greedy) n → after ≡ offset (next n)
+  quantifier_moves : (c : Builder) (min : ℕ) (max : Option ℕ) (greedy : Bool) (n after : ℕ) → IsNext us place (quantifier min max greedy) n → after ≡ offset (next n)
       → Repeats (builder_events b) (builder_events c) min max greedy after → ready b ≡ true → openers c ≡ openers b → ready c ≡ false
       → (IsGood b → IsGood c) → c.mode ≡ b.mode → IsParsing Unicode us first added c (next n)
   quantifier_moves c min max greedy n after s z rep q o r g d =
@@ -233,7 +250,7 @@ module _ (us : List CodePoint) (first added : ℕ) (b : Builder) (place : ℕ) (
       (repeats_more (builder_events b) (builder_events c) min max greedy after rep)
 
   -- the end of a group
-  pub close_moves : (c : Builder) (at after : ℕ) → IsNext us place closer 1 → at ≡ offset place → after ≡ offset (next 1)
+  close_moves : (c : Builder) (at after : ℕ) → IsNext us place closer 1 → at ≡ offset place → after ≡ offset (next 1)
       → builder_events c ≡ builder_events b ++ (leave at ∷ leave at ∷ token closer ∷ leave after ∷ []) → (it : Opener) × (openers b ≡ it ∷ openers c) × (ready c ≡ group_takes b.mode it)
       → (IsGood b → IsGood c) → c.mode ≡ b.mode → IsParsing Unicode us first added c (next 1)
   close_moves c at after s a z m o g d =
@@ -262,7 +279,7 @@ module _ (us : List CodePoint) (first added : ℕ) (b : Builder) (place : ℕ) (
       (one_more (builder_events b) (builder_events c) (enter at ∷ modified m ∷ enter after ∷ enter after ∷ []) (opener (ignoring (Some (letter_bits m)))) k.events refl)
 
   -- a group, or a look-around
-  pub open_moves : (c : Builder) (found : OpenerFound) (begun : Opening) (o : Opener) (n at after : ℕ) (source : List ℕ)
+  open_moves : (c : Builder) (found : OpenerFound) (begun : Opening) (o : Opener) (n at after : ℕ) (source : List ℕ)
       → Stands text (drop place us) (opener o) n → IsOpenerFound text (drop place us) n o found → IsOpeningOf (record { units = us; place = place; first = first; text = source }) added n found begun
       → at ≡ offset place → after ≡ offset (next n) → Opens b c begun at after → IsParsing Unicode us first added c (next n)
   open_moves c opening.Capturing begun o n at after source s f g a z k =
@@ -324,3 +341,55 @@ module _ (us : List CodePoint) (first added : ℕ) (b : Builder) (place : ℕ) (
           dead_end us first added b place h l
               (λ u k g o. unknown (subst (Obeys (text_groups us) (text_names Unicode us)) (same_token text (drop place us) u t k n g s) o)),
         )
+
+-- A token that stands next has been read.
+pub turned : (added n : ℕ) (b c : Builder) (r s : Reading) (t : Token) → IsBefore added b r → IsNext r.units r.place t n → s ≡ moved n r → c.mode ≡ b.mode
+    → IsParsing Unicode r.units r.first added c (min (r.place + n) (length r.units)) → IsTurned added b c r s
+turned added n b c r s t h next e m p =
+    subst (IsTurned added b c r) (sym e) (record { parsing = p; mode = m; moved = place_moves r.units r.place n t h.parsing.within next; same = refl })
+
+pub leaf_turned : (added n at after : ℕ) (b c : Builder) (r s : Reading) (t : Token) (term : Term) → IsBefore added b r → IsNext r.units r.place t n → IsLeafOf term t at after
+    → at ≡ offset_of r + added → after ≡ offset_of s + added → s ≡ moved n r → Adds b c term → IsTurned added b c r s
+leaf_turned added n at after b c r s t term h next l a z e k =
+    turned added n b c r s t h next e k.mode (leaf_moves r.units r.first added b r.place h.parsing c term t n at after next l a (moved_offset after added n r s z e) k)
+
+pub bar_turned : (added at after : ℕ) (b c : Builder) (r s : Reading) → IsBefore added b r → IsNext r.units r.place bar 1
+    → at ≡ offset_of r + added → after ≡ offset_of s + added → s ≡ moved 1 r → Bars b c at after → IsTurned added b c r s
+bar_turned added at after b c r s h next a z e k =
+    turned added 1 b c r s bar h next e k.mode (bar_moves r.units r.first added b r.place h.parsing c at after next a (moved_offset after added 1 r s z e) k)
+
+pub open_turned : (added n at after : ℕ) (b c : Builder) (r s : Reading) (found : OpenerFound) (begun : Opening) → IsBefore added b r → IsFound (text_environment Unicode r.units) (rest r) (Open found n)
+    → IsOpeningOf r added n found begun → at ≡ offset_of r + added → after ≡ offset_of s + added → s ≡ moved n r → Opens b c begun at after → IsTurned added b c r s
+open_turned added n at after b c r s found begun h opens g a z e k =
+    turned added n b c r s (opener opens.0) h (is_next r.units r.place (opener opens.0) n opens.1) e k.mode
+    (open_moves r.units r.first added b r.place h.parsing c found begun opens.0 n at after r.text opens.1 opens.2 g a (moved_offset after added n r s z e) k)
+
+pub close_turned : (added at after : ℕ) (b c : Builder) (r s : Reading) → IsBefore added b r → IsNext r.units r.place closer 1 → at ≡ offset_of r + added → after ≡ offset_of s + added → s ≡ moved 1 r
+    → builder_events c ≡ builder_events b ++ (leave at ∷ leave at ∷ token closer ∷ leave after ∷ []) → (it : Opener) × (openers b ≡ it ∷ openers c) × (ready c ≡ group_takes b.mode it)
+    → (IsGood b → IsGood c) → c.mode ≡ b.mode → IsTurned added b c r s
+close_turned added at after b c r s h next a z e m o g d =
+    turned added 1 b c r s closer h next e d (close_moves r.units r.first added b r.place h.parsing c at after next a (moved_offset after added 1 r s z e) m o g d)
+
+pub quantifier_turned : (added n after : ℕ) (b c : Builder) (r s : Reading) (min : ℕ) (max : Option ℕ) (greedy : Bool) → IsBefore added b r → IsNext r.units r.place (quantifier min max greedy) n
+    → after ≡ offset_of s + added → s ≡ moved n r → Repeats (builder_events b) (builder_events c) min max greedy after → ready b ≡ true → openers c ≡ openers b → ready c ≡ false
+    → (IsGood b → IsGood c) → c.mode ≡ b.mode → IsTurned added b c r s
+quantifier_turned added n after b c r s min max greedy h next z e rep q o m g d =
+    turned added n b c r s (quantifier min max greedy) h next e d
+    (quantifier_moves r.units r.first added b r.place h.parsing c min max greedy n after next (moved_offset after added n r s z e) rep q o m g d)
+
+-- What a builder's answer says of it where the answer is no fault.
+pub on_ok_adds : {A E : Type 0} (result : Result A E) (b c : Builder) (term : Term) → OnOk result (builder_events c ≡ builder_events b ++ term_events term) → OnOk result (openers c ≡ openers b)
+    → OnOk result (ready c ≡ takes b.mode (mirror_term term)) → OnOk result (IsGoodTerm b.mode term → IsGood b → IsGood c) → c.mode ≡ b.mode → OnOk result (Adds b c term)
+on_ok_adds (Ok it) b c term e o r g m = record { events = e; openers_are = o; ready_is = r; good = g; mode = m }
+on_ok_adds (Err fault) b c term e o r g m = tt
+
+pub on_ok_bars : {A E : Type 0} (result : Result A E) (b c : Builder) (at after : ℕ) → OnOk result (builder_events c ≡ builder_events b ++ (leave at ∷ token bar ∷ enter after ∷ []))
+    → OnOk result (openers c ≡ openers b) → OnOk result (ready c ≡ false) → OnOk result (IsGood b → IsGood c) → c.mode ≡ b.mode → OnOk result (Bars b c at after)
+on_ok_bars (Ok it) b c at after e o r g m = record { events = e; openers_are = o; ready_is = r; good = g; mode = m }
+on_ok_bars (Err fault) b c at after e o r g m = tt
+
+pub on_ok_opens : {A E : Type 0} (result : Result A E) (b c : Builder) (begun : Opening) (at after : ℕ)
+    → OnOk result (builder_events c ≡ builder_events b ++ (enter at ∷ opener_event (opener_tree begun) ∷ enter after ∷ enter after ∷ [])) → OnOk result (openers c ≡ opener_of (opener_tree begun) ∷ openers b)
+    → OnOk result (ready c ≡ false) → OnOk result (IsGood b → IsGood c) → c.mode ≡ b.mode → OnOk result (Opens b c begun at after)
+on_ok_opens (Ok it) b c begun at after e o r g m = record { events = e; openers_are = o; ready_is = r; good = g; mode = m }
+on_ok_opens (Err fault) b c begun at after e o r g m = tt

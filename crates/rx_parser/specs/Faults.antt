@@ -1,7 +1,7 @@
 -- What the faults of a parse say.
 use Rattle.std.specs.Prelude.{◌≡◌, ℕ, ◌+◌, ◌^◌, ◌<◌, List, [], ◌∷◌, ◌++◌, ◌⊎◌}
 use Rattle.rx_base.specs.declared.fault.Fault.{Fault}
-use Rattle.rx_base.specs.declared.fault.Fault.TheVariants.{NotYet, Diagnostic}
+use Rattle.rx_base.specs.declared.fault.Fault.TheVariants.{Diagnostic}
 use Rattle.rx_base.specs.declared.diagnostic.Diagnostic.{Diagnostic as Refusal}
 use Rattle.rx_base.specs.declared.diagnostic.Diagnostic.TheVariants.{ParsePatternIncomplete, UnterminatedPattern, InvalidIndexedReference, EmptyGroupSpecifier, BracedQuantifierOutOfOrder, TooLargeNumberInBracedQuantifier, TooLargeNumberDigits, InvalidUnicodeEscapeSequence, DuplicatedModifiers, InvalidModifiers, EmptyModifiers, UnknownModifiers}
 use Rattle.rx_base.specs.declared.diagnostic.kinds.DigitsKind.TheVariants.{Decimal, Hex}
@@ -13,7 +13,7 @@ use Rattle.rx_model.specs.Causes.{unterminated}
 use Rattle.rx_model.specs.Reached.{span_between}
 use Rattle.rx_model.specs.Token.{opener_of}
 use Rattle.rx_parser.specs.Frames.{opener_tree}
-use Rattle.rx_parser.specs.HaltPlaces.{halt_end}
+use Rattle.rx_parser.specs.HaltPlaces.{halt_end, halt_start}
 use Rattle.rx_parser.specs.declared.builder.Builder.{Builder}
 use Rattle.rx_parser.specs.declared.frame.Frame.{Frame}
 use Rattle.rx_parser.specs.declared.found.Halt.{Halt}
@@ -38,19 +38,21 @@ IsEndedFault us first added at b it =
     ⊎ ((outer : List Frame) × (group : Frame) × (b.frames ≡ outer ++ (group ∷ []))
     × (it ≡ Diagnostic (UnterminatedPattern (record { start = group.start; end = offset_at first us at + added }) (unterminated (opener_of (opener_tree group.opening))))))
 
+-- what is wrong where a halt names this span, in a pattern with so many groups; of a stop, outside groups
+abbrev pub halt_refusal : Halt → Span → ℕ → Refusal
+halt_refusal (halt.Stop behind) span groups = ParsePatternIncomplete span
+halt_refusal (halt.OutOfOrder n) span groups = BracedQuantifierOutOfOrder span
+halt_refusal (halt.TooLarge n) span groups = TooLargeNumberInBracedQuantifier span
+halt_refusal (halt.TooManyDigits start many) span groups = TooLargeNumberDigits span Decimal
+halt_refusal (halt.TooManyHexDigits start many) span groups = TooLargeNumberDigits span Hex
+halt_refusal (halt.InvalidEscape start n) span groups = InvalidUnicodeEscapeSequence span
+halt_refusal (halt.UnterminatedName n) span groups = UnterminatedPattern span GroupName
+halt_refusal halt.NoGroupName span groups = EmptyGroupSpecifier span
+halt_refusal (halt.NoSuchGroup n) span groups = InvalidIndexedReference span groups
+halt_refusal (halt.Modifiers what n) span groups = modifiers_refusal what span
+
 -- the fault of a pattern with so many groups that halts at this place
 abbrev pub IsHaltFault : List CodePoint → ℕ → ℕ → ℕ → Builder → ℕ → Halt → Fault → Type 0
 IsHaltFault us first added place b groups (halt.Stop behind) it = IsEndedFault us first added (place + behind) b it
-IsHaltFault us first added place b groups (halt.OutOfOrder n) it = it ≡ Diagnostic (BracedQuantifierOutOfOrder (span_between us first added place (place + n)))
-IsHaltFault us first added place b groups (halt.TooLarge n) it = it ≡ Diagnostic (TooLargeNumberInBracedQuantifier (span_between us first added place (place + n)))
-IsHaltFault us first added place b groups (halt.TooManyDigits start many) it =
-    it ≡ Diagnostic (TooLargeNumberDigits (span_between us first added (place + start) (place + (start + many))) Decimal)
-IsHaltFault us first added place b groups (halt.TooManyHexDigits start many) it =
-    it ≡ Diagnostic (TooLargeNumberDigits (span_between us first added (place + start) (place + (start + many))) Hex)
-IsHaltFault us first added place b groups (halt.InvalidEscape start n) it =
-    it ≡ Diagnostic (InvalidUnicodeEscapeSequence (span_between us first added (place + start) (place + (start + n))))
-IsHaltFault us first added place b groups (halt.UnterminatedName n) it = it ≡ Diagnostic (UnterminatedPattern (span_between us first added (place + 2) (place + (n + 3))) GroupName)
-IsHaltFault us first added place b groups halt.NoGroupName it = it ≡ Diagnostic (EmptyGroupSpecifier (span_between us first added place (place + 2)))
-IsHaltFault us first added place b groups (halt.NoSuchGroup n) it = it ≡ Diagnostic (InvalidIndexedReference (span_between us first added place (place + n)) groups)
-IsHaltFault us first added place b groups (halt.Modifiers what n) it = it ≡ Diagnostic (modifiers_refusal what (span_between us first added (place + 2) (place + (n + 2))))
-IsHaltFault us first added place b groups halt.Unread it = it ≡ NotYet
+IsHaltFault us first added place b groups reason it =
+    it ≡ Diagnostic (halt_refusal reason (span_between us first added (place + halt_start reason) (place + halt_end reason)) groups)

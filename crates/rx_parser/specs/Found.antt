@@ -12,13 +12,13 @@ use Rattle.rx_model.specs.GroupNameReading.{name_of}
 use Rattle.rx_model.specs.Groups.{BeginsName}
 use Rattle.rx_model.specs.Marks.{starts}
 use Rattle.rx_model.specs.Modifiers.{AreSides, has_twice, share_some}
+use Rattle.rx_model.specs.PropertyForms.{begins_property}
 use Rattle.rx_model.specs.Quantifiers.{PassesLimit}
 use Rattle.rx_model.specs.Stops.{IsStop}
 use Rattle.rx_model.specs.Token.{Token, Opener, boundary, character, dot, class_escape, indexed, named, opener, closer, bar, quantifier, capturing, ignoring, looking}
 use Rattle.rx_model.specs.UnicodeEscapes.{Decodes, PassesHex}
 use Rattle.rx_parser.specs.HaltPlaces.{halt_end}
 use Rattle.rx_parser.specs.Names.{IsHaltInName}
-use Rattle.rx_parser.specs.NotYet.{holds_unread}
 use Rattle.rx_parser.specs.declared.found.Leaf.{Leaf}
 use Rattle.rx_parser.specs.declared.found.Leaf.TheVariants as leaf
 use Rattle.rx_parser.specs.declared.found.OpenerFound.{OpenerFound}
@@ -120,12 +120,13 @@ IsHalt e us (halt.UnterminatedName n) = HaltsInName e us (halt.UnterminatedName 
 IsHalt e us halt.NoGroupName = (behind : List ℕ) × (values us ≡ 92 ∷ 107 ∷ behind) × (starts 60 behind ≡ false) × (e.named ≡ true)
 IsHalt e us (halt.NoSuchGroup n) = (k : ℕ) × (front e us ≡ Some (indexed k, n)) × (e.groups < k)
 IsHalt e us (halt.Modifiers it n) = (behind : List ℕ) × (values us ≡ 40 ∷ 63 ∷ behind) × IsModifiersFault behind n it
-IsHalt e us halt.Unread = holds_unread (values us) ≡ true
 
 -- In a unicode mode this stands at the front.
 abbrev pub IsFound : Environment → List CodePoint → Found → Type 0
 IsFound e us (found.Leaf l n) = Stands e us (leaf_token l) n
 IsFound e us (found.NamedReference n) = (name : List ℕ) × (front e us ≡ Some (named name, n)) × HoldsName (is_unicode e.mode) us name n
+IsFound e us found.Property = (letter : ℕ) × (behind : List ℕ) × (values us ≡ 92 ∷ letter ∷ behind) × (begins_property letter ≡ true)
+IsFound e us found.Class = starts 91 (values us) ≡ true
 IsFound e us (found.Open it n) = (o : Opener) × Stands e us (opener o) n × IsOpenerFound e us n o it
 IsFound e us found.Close = Stands e us closer 1
 IsFound e us found.Bar = Stands e us bar 1

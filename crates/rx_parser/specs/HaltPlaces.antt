@@ -1,9 +1,22 @@
--- How far ahead a halt looks.
+-- The places that a halt names: its span goes from its start to its end, in units from the place on. A stop names the place where reading stands.
 use Rattle.std.specs.Prelude.{ℕ, ◌+◌}
 use Rattle.rx_parser.specs.declared.found.Halt.{Halt}
 use Rattle.rx_parser.specs.declared.found.Halt.TheVariants as halt
 
--- the place behind the last unit that a halt names, in units
+-- the place of the first unit that a halt names
+abbrev pub halt_start : Halt → ℕ
+halt_start (halt.Stop behind) = behind
+halt_start (halt.OutOfOrder n) = 0
+halt_start (halt.TooLarge n) = 0
+halt_start (halt.TooManyDigits start many) = start
+halt_start (halt.TooManyHexDigits start many) = start
+halt_start (halt.InvalidEscape start n) = start
+halt_start (halt.UnterminatedName n) = 2
+halt_start halt.NoGroupName = 0
+halt_start (halt.NoSuchGroup n) = 0
+halt_start (halt.Modifiers fault n) = 2
+
+-- the place behind the last one
 abbrev pub halt_end : Halt → ℕ
 halt_end (halt.Stop behind) = behind
 halt_end (halt.OutOfOrder n) = n
@@ -15,4 +28,3 @@ halt_end (halt.UnterminatedName n) = n + 3
 halt_end halt.NoGroupName = 2
 halt_end (halt.NoSuchGroup n) = n
 halt_end (halt.Modifiers fault n) = n + 2
-halt_end halt.Unread = 0

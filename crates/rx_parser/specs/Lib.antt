@@ -12,3 +12,4 @@ pub mod NotYet
 pub mod Openings
 pub mod Parsing
 pub mod Progress
+pub mod Turns

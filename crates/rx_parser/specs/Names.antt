@@ -40,7 +40,6 @@ IsHaltInName unicode_mode w (halt.TooManyDigits start many) = ⊥
 IsHaltInName unicode_mode w halt.NoGroupName = ⊥
 IsHaltInName unicode_mode w (halt.NoSuchGroup n) = ⊥
 IsHaltInName unicode_mode w (halt.Modifiers fault n) = ⊥
-IsHaltInName unicode_mode w halt.Unread = ⊥
 
 -- the name of so many units that is read, and a `>`; or why none is
 abbrev pub IsNameFound : Bool → List CodePoint → NameFound → Type 0

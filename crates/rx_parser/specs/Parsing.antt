@@ -1,11 +1,10 @@
 -- How far a parse has come, and what its faults say.
-use Rattle.std.specs.Prelude.{◌≡◌, ℕ, ◌+◌, ◌^◌, ◌<◌, ◌≤◌, false, List, length, drop, All}
+use Rattle.std.specs.Prelude.{◌≡◌, ℕ, ◌+◌, ◌≤◌, List, length, drop}
 use Rattle.rx_base.specs.declared.fault.Fault.{Fault}
 use Rattle.rx_base.specs.declared.fault.Fault.TheVariants.{OutOfMemory, NotYet, Diagnostic}
 use Rattle.rx_ast.specs.declared.term.Pattern.{Pattern}
 use Rattle.rx_units.specs.declared.code_point.CodePoint.{CodePoint}
-use Rattle.rx_units.specs.Reading.{Reading}
-use Rattle.rx_units.specs.Units.{values, offset_at}
+use Rattle.rx_units.specs.Units.{offset_at}
 use Rattle.rx_model.specs.declared.mode.Mode.{Mode}
 use Rattle.rx_model.specs.Causes.{IsCause}
 use Rattle.rx_model.specs.Early.{most_groups}
@@ -15,7 +14,6 @@ use Rattle.rx_model.specs.Modes.{mode_by}
 use Rattle.rx_model.specs.Reading.{Reads}
 use Rattle.rx_scan.specs.declared.state.State.{State}
 use Rattle.rx_parser.specs.Frames.{builder_events}
-use Rattle.rx_parser.specs.NotYet.{holds_unread}
 use Rattle.rx_parser.specs.Progress.{IsAt}
 use Rattle.rx_parser.specs.declared.builder.Builder.{Builder}
 
@@ -31,12 +29,11 @@ pub record HoldsPass (mode : Mode) (us : List CodePoint) (state : State) : Type 
   pub no_clash : HasNoClash mode us
   pub in_limit : text_groups us ≤ most_groups
 
--- The units before the place are a row of tokens, which the builder holds; what is left holds nothing that is not read yet.
+-- The units before the place are a row of tokens, which the builder holds.
 pub record IsParsing (mode : Mode) (us : List CodePoint) (first added : ℕ) (b : Builder) (place : ℕ) : Type 0 where
   pub at : IsAt (text_environment mode us) (λ i. offset_at first us i + added) b us place (drop place us)
   pub within : place ≤ length us
   pub obey : AreObeying mode us (tokens_of (builder_events b))
-  pub read : holds_unread (values (drop place us)) ≡ false
 
 -- no tree reads the text
 abbrev pub IsInvalid : Mode → List CodePoint → Type 0
@@ -47,8 +44,3 @@ abbrev pub IsRefused : Mode → List CodePoint → ℕ → ℕ → Fault → Typ
 IsRefused mode us first added OutOfMemory = Unit {0}
 IsRefused mode us first added NotYet = ⊥
 IsRefused mode us first added (Diagnostic cause) = IsCause mode us first added cause × IsInvalid mode us
-
--- each offset of the reader fits 32 bits, so much being added
-pub record AreFitting (added : ℕ) (r : Reading) : Type 0 where
-  pub first : r.first + added < 2 ^ 32
-  pub ends : All (λ unit. unit.span.end + added < 2 ^ 32) r.units

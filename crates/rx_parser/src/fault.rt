@@ -1,8 +1,9 @@
 ghost use Rattle.std.specs.Prelude.{◌≡◌, ◌+◌, ◌^◌, ◌<◌, ◌≤◌};
 ghost use Rattle.rx_units.specs.Reading.{offset_of};
 ghost use Rattle.rx_model.specs.Reached.{span_between};
-ghost use Rattle.rx_parser.specs.Faults.{IsEndedFault, IsHaltFault, IsSmall, modifiers_refusal};
-ghost use Rattle.rx_parser.specs.Parsing.{AreFitting};
+ghost use Rattle.rx_class.specs.Fitting.{AreFitting};
+ghost use Rattle.rx_parser.specs.Faults.{IsEndedFault, IsHaltFault, IsSmall, halt_refusal, modifiers_refusal};
+ghost use Rattle.rx_parser.specs.HaltPlaces.{halt_end, halt_start};
 
 use crate::builder::Builder;
 use crate::found::{Halt, ModifiersFault};
@@ -22,51 +23,59 @@ pub fn fault(
     requires fits { AreFitting spans.now reader.old }
     ensures { IsHaltFault reader.old.units reader.old.first spans.now reader.old.place builder.now groups halt result }
 {
+    if let Halt::Stop { behind } = halt {
+        reader.skip(behind);
+        return ended(reader, spans, builder);
+    }
+    let (from, to) = named_places(halt);
+    let span = span_ahead(reader, spans, from, to);
+    Fault::Diagnostic(refusal(halt, span, groups))
+}
+
+/// From where to where the span of a halt goes, in units from the place on.
+fn named_places(halt: Halt) -> (usize, usize)
+    requires small { IsSmall halt }
+    ensures places { result ≡ (halt_start halt, halt_end halt) }
+    ensures order { result.0 ≤ result.1 }
+{
     match halt {
-        Halt::Stop { behind } => {
-            reader.skip(behind);
-            ended(reader, spans, builder)
+        Halt::Stop { behind } => (behind, behind),
+        Halt::OutOfOrder { length } | Halt::TooLarge { length } | Halt::NoSuchGroup { length } => {
+            (0, length)
         }
-        Halt::OutOfOrder { length } => {
-            let span = span_ahead(reader, spans, 0, length);
-            Fault::Diagnostic(Diagnostic::BracedQuantifierOutOfOrder { span })
-        }
-        Halt::TooLarge { length } => {
-            let span = span_ahead(reader, spans, 0, length);
-            Fault::Diagnostic(Diagnostic::TooLargeNumberInBracedQuantifier { span })
-        }
-        Halt::TooManyDigits { start, digits } => {
-            let span = span_ahead(reader, spans, start, start + digits);
+        Halt::TooManyDigits { start, digits } => (start, start + digits),
+        Halt::TooManyHexDigits { start, digits } => (start, start + digits),
+        Halt::InvalidEscape { start, length } => (start, start + length),
+        Halt::UnterminatedName { length } => (2, length + 3),
+        Halt::NoGroupName => (0, 2),
+        Halt::Modifiers { length, .. } => (2, length + 2),
+    }
+}
+
+/// What is wrong where a halt names this span, in a pattern with so many groups; of a stop, outside groups.
+fn refusal(halt: Halt, span: Span, groups: u32) -> Diagnostic
+    ensures { result ≡ halt_refusal halt span groups }
+{
+    match halt {
+        Halt::Stop { .. } => Diagnostic::ParsePatternIncomplete { span },
+        Halt::OutOfOrder { .. } => Diagnostic::BracedQuantifierOutOfOrder { span },
+        Halt::TooLarge { .. } => Diagnostic::TooLargeNumberInBracedQuantifier { span },
+        Halt::TooManyDigits { .. } => {
             let what = DigitsKind::Decimal;
-            Fault::Diagnostic(Diagnostic::TooLargeNumberDigits { span, what })
+            Diagnostic::TooLargeNumberDigits { span, what }
         }
-        Halt::TooManyHexDigits { start, digits } => {
-            let span = span_ahead(reader, spans, start, start + digits);
+        Halt::TooManyHexDigits { .. } => {
             let what = DigitsKind::Hex;
-            Fault::Diagnostic(Diagnostic::TooLargeNumberDigits { span, what })
+            Diagnostic::TooLargeNumberDigits { span, what }
         }
-        Halt::InvalidEscape { start, length } => {
-            let span = span_ahead(reader, spans, start, start + length);
-            Fault::Diagnostic(Diagnostic::InvalidUnicodeEscapeSequence { span })
-        }
-        Halt::UnterminatedName { length } => {
-            let span = span_ahead(reader, spans, 2, length + 3);
+        Halt::InvalidEscape { .. } => Diagnostic::InvalidUnicodeEscapeSequence { span },
+        Halt::UnterminatedName { .. } => {
             let what = Unterminated::GroupName;
-            Fault::Diagnostic(Diagnostic::UnterminatedPattern { span, what })
+            Diagnostic::UnterminatedPattern { span, what }
         }
-        Halt::NoGroupName => {
-            let span = span_ahead(reader, spans, 0, 2);
-            Fault::Diagnostic(Diagnostic::EmptyGroupSpecifier { span })
-        }
-        Halt::NoSuchGroup { length } => {
-            let span = span_ahead(reader, spans, 0, length);
-            Fault::Diagnostic(Diagnostic::InvalidIndexedReference { span, max: groups })
-        }
-        Halt::Modifiers { fault, length } => {
-            let span = span_ahead(reader, spans, 2, length + 2);
-            Fault::Diagnostic(modifiers_fault(fault, span))
-        }
-        Halt::Unread => Fault::NotYet,
+        Halt::NoGroupName => Diagnostic::EmptyGroupSpecifier { span },
+        Halt::NoSuchGroup { .. } => Diagnostic::InvalidIndexedReference { span, max: groups },
+        Halt::Modifiers { fault, .. } => modifiers_fault(fault, span),
     }
 }
 

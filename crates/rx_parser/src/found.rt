@@ -89,8 +89,6 @@ pub enum Halt {
         fault: ModifiersFault,
         length: usize,
     },
-    /// What stands here is not read yet.
-    Unread,
 }
 
 /// What the units begin with.
@@ -104,6 +102,10 @@ pub enum Found {
     NamedReference {
         length: usize,
     },
+    /// `\p` or `\P`
+    Property,
+    /// `[`
+    Class,
     Open {
         opener: OpenerFound,
         length: usize,

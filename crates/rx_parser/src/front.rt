@@ -1,4 +1,4 @@
-ghost use Rattle.std.specs.Prelude.{◌≡◌, ◌==◌, ◌-◌, ◌^◌, ◌≤◌, ◌<◌, ◌↔◌, ◌∷◌, Bool, true, false, Some, None, All, IsTrue, drop, length};
+ghost use Rattle.std.specs.Prelude.{◌≡◌, ◌==◌, ◌-◌, ◌^◌, ◌≤◌, ◌<◌, ◌↔◌, ◌∷◌, Bool, true, false, Some, None, All, IsTrue, length};
 ghost use Rattle.rx_units.specs.declared.code_point.CodePoint.{CodePoint};
 ghost use Rattle.rx_units.specs.Reading.{front};
 ghost use Rattle.rx_units.specs.Units.{values};
@@ -9,22 +9,20 @@ ghost use Rattle.rx_model.specs.Boundaries.{has_buffers};
 ghost use Rattle.rx_model.specs.Causes.{IsOutOfOrder, IsTooLarge};
 ghost use Rattle.rx_model.specs.Environment.{Environment, environment_with, is_unicode};
 ghost use Rattle.rx_model.specs.Escapes.{front_is};
-ghost use Rattle.rx_model.specs.Quantifiers.{is_question};
-ghost use Rattle.rx_model.specs.Rows.{unit_kind};
+ghost use Rattle.rx_model.specs.PropertyForms.{begins_property};
 ghost use Rattle.rx_parser.specs.CountsFound.{IsCountsFound};
 ghost use Rattle.rx_parser.specs.Found.{IsFound, begins_reference, boundary_front, closes_or_repeats, is_first_digit};
-ghost use Rattle.rx_parser.specs.NotYet.{is_unread_escape};
 
+use crate::ahead::stands_at;
 use crate::counts::{CountsFound, counts_at};
 use crate::found::{Found, Halt, Leaf};
 use crate::group::group_at;
 use crate::reference::{indexed_at, named_at};
-use crate::unread::is_unread_escape;
-use rx_ast::{BoundaryAssertionKind, CharacterKind};
-use rx_class::{EscapeFound, character_escape_at, class_escape_at};
+use rx_ast::BoundaryAssertionKind;
+use rx_class::{EscapeFound, character_escape_at, class_escape_at, unit_kind};
 use rx_model::Mode;
 use rx_tables::{is_decimal_digit, is_syntax_character};
-use rx_units::{CodePoint, EscapeKind};
+use rx_units::CodePoint;
 
 /// What the units begin with, outside classes, with `u` or `v`, in a pattern with so many groups.
 pub fn front_at(units: &[CodePoint], mode: Mode, groups: u32) -> Found
@@ -52,16 +50,6 @@ pub fn front_at(units: &[CodePoint], mode: Mode, groups: u32) -> Found
         return group_at(behind, true);
     }
     syntax_at(first.value, units)
-}
-
-fn unit_kind(escape_kind: EscapeKind) -> CharacterKind
-    ensures { result ≡ unit_kind escape_kind }
-{
-    match escape_kind {
-        EscapeKind::None => CharacterKind::Symbol,
-        EscapeKind::Unicode => CharacterKind::UnicodeEscape,
-        EscapeKind::Hexadecimal => CharacterKind::HexadecimalEscape,
-    }
 }
 
 /// The boundary that the unit behind a backslash is.
@@ -97,8 +85,8 @@ fn backslash_at(behind: &[CodePoint], mode: Mode, groups: u32) -> Found
     let [first, more @ ..] = behind else {
         return Found::Halt(Halt::Stop { behind: 1 });
     };
-    if is_unread_escape(first.value) {
-        return Found::Halt(Halt::Unread);
+    if begins_property(first.value) {
+        return Found::Property;
     }
     if is_first_digit(first.value) {
         return indexed_at(behind, groups);
@@ -109,6 +97,13 @@ fn backslash_at(behind: &[CodePoint], mode: Mode, groups: u32) -> Found
     escape_at(behind, mode)
 }
 
+/// Whether a property escape begins with this value behind its backslash.
+fn begins_property(value: u32) -> bool
+    ensures { result ≡ begins_property value }
+{
+    value == 'p' as u32 || value == 'P' as u32
+}
+
 /// Whether a value is a digit from 1 to 9.
 fn is_first_digit(value: u32) -> bool
     ensures { result ≡ is_first_digit value }
@@ -116,11 +111,11 @@ fn is_first_digit(value: u32) -> bool
     is_decimal_digit(value) && value != '0' as u32
 }
 
-/// What a backslash and the units behind it, which are no reference, begin with.
+/// What a backslash and the units behind it, which are neither a reference nor a property, begin with.
 fn escape_at(behind: &[CodePoint], mode: Mode) -> Found
     requires unicode { is_unicode mode ≡ true }
     requires no_reference { front_is begins_reference (values behind.now) ≡ false }
-    requires read { front_is is_unread_escape (values behind.now) ≡ false }
+    requires no_property { front_is begins_property (values behind.now) ≡ false }
     ensures { (e : Environment) (backslash : CodePoint) → e.mode ≡ mode → has_buffers e ≡ true → backslash.value ≡ 92 → IsFound e (backslash ∷ behind.now) result }
 {
     if let Some(kind) = boundary_at(behind) {
@@ -144,7 +139,7 @@ fn character_at(behind: &[CodePoint], mode: Mode) -> Found
     requires no_boundary { (e : Environment) → has_buffers e ≡ true → boundary_front e (values behind.now) ≡ None }
     requires no_class { class_escape_front (values behind.now) ≡ None }
     requires no_reference { front_is begins_reference (values behind.now) ≡ false }
-    requires read { front_is is_unread_escape (values behind.now) ≡ false }
+    requires no_property { front_is begins_property (values behind.now) ≡ false }
     ensures { (e : Environment) (backslash : CodePoint) → e.mode ≡ mode → has_buffers e ≡ true → backslash.value ≡ 92 → IsFound e (backslash ∷ behind.now) result }
 {
     match character_escape_at(behind, is_unicode(mode)) {
@@ -190,7 +185,7 @@ fn syntax_at(first: u32, units: &[CodePoint]) -> Found
             leaf: Leaf::Boundary(BoundaryAssertionKind::End),
             length: 1,
         },
-        Some('[') => Found::Halt(Halt::Unread),
+        Some('[') => Found::Class,
         _ => quantifier_at(units),
     }
 }
@@ -221,7 +216,7 @@ fn quantifier(units: &[CodePoint], min: u64, max: Option<u64>, length: usize) ->
     if is_too_large(min, max) {
         return Found::Halt(Halt::TooLarge { length });
     }
-    if is_question_at(units, length) {
+    if stands_at(units, length, '?') {
         return Found::Quantifier {
             min,
             max,
@@ -250,14 +245,4 @@ fn is_too_large(min: u64, max: Option<u64>) -> bool
     ensures { IsTrue result ↔ IsTooLarge min max }
 {
     min > GREATEST_COUNT || max.is_some_and(|max| max > GREATEST_COUNT)
-}
-
-/// Whether a `?` stands at this place.
-fn is_question_at(units: &[CodePoint], place: usize) -> bool
-    ensures question { result ≡ front_is is_question (values (drop place units.now)) }
-    ensures within { IsTrue result → place < length units.now }
-{
-    units
-        .get(place)
-        .is_some_and(|unit| unit.value == '?' as u32)
 }

@@ -1,6 +1,7 @@
 //! Reads a pattern to its tree. Open groups are kept on the heap, so nothing calls itself.
 #![tactic(auto)]
 
+mod ahead;
 mod builder;
 mod counts;
 mod fault;
@@ -19,7 +20,6 @@ mod term;
 #[cfg(test)]
 mod tests;
 mod turn;
-mod unread;
 
 pub use builder::Builder;
 pub use frame::{Frame, Opening};

@@ -66,7 +66,7 @@ impl<'a> LiteralParser<'a> {
         ensures groups { IfOk result (λ it. TellsGroups (mode_of (flags_of (flags_chars self.entry.flags_text))) it
             (units_of (mode_of (flags_of (flags_chars self.entry.flags_text))) (chars self.entry.pattern_text.now))) }
 
-        // Ok comes on valid input alone. On valid input the answer is Ok, or memory is wanting, or it is not read yet.
+        // Ok comes on valid input alone. On valid input the answer is Ok, or memory is wanting, or its mode is not read yet.
         ensures valid { OnOk result (IsValid (chars self.entry.pattern_text.now) (flags_chars self.entry.flags_text)) }
         ensures complete { IsValid (chars self.entry.pattern_text.now) (flags_chars self.entry.flags_text)
             → IfErr result (λ fault. (fault ≡ Fault.OutOfMemory) ⊎ (fault ≡ Fault.NotYet)) }
@@ -74,8 +74,8 @@ impl<'a> LiteralParser<'a> {
         // A refusal has its cause: that of the flags, or where they are right that of the text.
         ensures refused { (cause : Refusal) → result ≡ Err (Fault.Diagnostic cause)
             → IsLiteralCause (chars self.entry.pattern_text.now) (flags_of (flags_chars self.entry.flags_text)) self.entry.options.pattern_span_offset self.entry.options.flags_span_offset cause }
-        ensures not_yet { result ≡ Err Fault.NotYet → IsTrue (is_unread_literal (chars self.entry.pattern_text.now) (flags_chars self.entry.flags_text)) }
-        ensures later { IsTrue (is_unread_literal (chars self.entry.pattern_text.now) (flags_chars self.entry.flags_text))
+        ensures not_yet { result ≡ Err Fault.NotYet → IsTrue (is_unread_literal (flags_chars self.entry.flags_text)) }
+        ensures later { IsTrue (is_unread_literal (flags_chars self.entry.flags_text))
             → (result ≡ Err Fault.NotYet) ⊎ (result ≡ Err Fault.OutOfMemory) }
 
         // Reading a canonical spelling gives the tree that was spelled, but for spans and character kinds, or memory is wanting.

@@ -1,4 +1,4 @@
-ghost use Rattle.std.specs.Prelude.{◌≡◌, ◌≤◌, ◌∷◌, true, false, drop, length, option_map};
+ghost use Rattle.std.specs.Prelude.{◌≡◌, ◌≤◌, ◌∷◌, true, false, length, option_map};
 ghost use Rattle.std.specs.List.{list_all};
 ghost use Rattle.rx_units.specs.declared.code_point.CodePoint.{CodePoint};
 ghost use Rattle.rx_units.specs.Units.{values};
@@ -6,11 +6,11 @@ ghost use Rattle.rx_model.specs.Environment.{Environment};
 ghost use Rattle.rx_model.specs.Escapes.{front_is};
 ghost use Rattle.rx_model.specs.GroupFronts.{letters_at, sides_at};
 ghost use Rattle.rx_model.specs.Groups.{is_mark};
-ghost use Rattle.rx_model.specs.Marks.{starts};
 ghost use Rattle.rx_model.specs.Modifiers.{is_modifier};
 ghost use Rattle.rx_parser.specs.Found.{IsFound};
 ghost use Rattle.rx_parser.specs.Modifiers.{are_bits, modifier_bit, seen_sides};
 
+use crate::ahead::stands_at;
 use crate::found::{Found, Halt, ModifiersFault, OpenerFound};
 use rx_ast::Modifier;
 use rx_units::CodePoint;
@@ -30,7 +30,7 @@ pub fn modifiers_at(units: &[CodePoint]) -> Found
 {
     let sides = sides_at(units);
     let length = sides.length;
-    if !is_colon_at(units, length) {
+    if !stands_at(units, length, ':') {
         return halt(ModifiersFault::Unknown, length);
     }
     let (Some(enabling), Some(disabling)) = (bits_of(sides.enabling), bits_of(sides.disabling))
@@ -120,12 +120,4 @@ fn modifier_of(value: u32) -> Option<Modifier>
         Some('s') => Some(Modifier::S),
         _ => None,
     }
-}
-
-fn is_colon_at(units: &[CodePoint], place: usize) -> bool
-    ensures { result ≡ starts 58 (values (drop place units.now)) }
-{
-    units
-        .get(place)
-        .is_some_and(|unit| unit.value == ':' as u32)
 }

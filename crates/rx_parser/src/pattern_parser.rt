@@ -1,19 +1,18 @@
 ghost use Rattle.std.specs.Prelude.{◌≡◌, ℕ, ◌+◌, ◌<◌, ◌^◌, ◌⊎◌, ◌≢◌, true, false, All, IfErr, IfOk, IsTrue, OnOk, length};
 ghost use Rattle.rx_base.specs.declared.diagnostic.Diagnostic.{Diagnostic as Refusal};
 ghost use Rattle.rx_ast.specs.declared.term.Pattern.{Pattern};
-ghost use Rattle.rx_units.specs.Units.{values};
 ghost use Rattle.rx_model.specs.Causes.{IsCause};
 ghost use Rattle.rx_model.specs.Cuts.{TellsGroups};
 ghost use Rattle.rx_model.specs.Modes.{mode_by};
 ghost use Rattle.rx_model.specs.Reading.{IsOnly, IsSpanned, Reads};
 ghost use Rattle.rx_model.specs.declared.mode.Mode.TheVariants.{Unicode};
-ghost use Rattle.rx_parser.specs.NotYet.{holds_unread, is_unread_text};
-ghost use Rattle.rx_parser.specs.Parsing.{AreFitting, HoldsPass, IsRefused, mode_of_state};
+ghost use Rattle.rx_class.specs.Fitting.{AreFitting};
+ghost use Rattle.rx_parser.specs.NotYet.{is_read};
+ghost use Rattle.rx_parser.specs.Parsing.{HoldsPass, IsRefused, mode_of_state};
 
 use crate::builder::Builder;
 use crate::fault::{ended, here};
 use crate::turn::turn;
-use crate::unread::holds_unread;
 use rx_ast::Pattern;
 use rx_base::{Diagnostic, Fault};
 use rx_model::Mode;
@@ -67,13 +66,13 @@ impl<'a> PatternParser<'a> {
         // The groups and the names that the first pass of the units finds are the tree's.
         ensures groups { IfOk result (λ it. TellsGroups (mode_of_state self.entry.state) it self.entry.reader.units) }
 
-        // A refusal has its cause. On what some tree reads the answer is Ok, or memory is wanting, or it is not read yet.
+        // A refusal has its cause. On what some tree reads the answer is Ok, or memory is wanting, or its mode is not read yet.
         ensures refused { (cause : Refusal) → result ≡ Err (Fault.Diagnostic cause)
             → IsCause (mode_of_state self.entry.state) self.entry.reader.units self.entry.reader.first self.entry.spans cause }
         ensures complete { (p : Pattern) → Reads (mode_of_state self.entry.state) p self.entry.reader.units
             → IfErr result (λ fault. (fault ≡ Fault.OutOfMemory) ⊎ (fault ≡ Fault.NotYet)) }
-        ensures not_yet { result ≡ Err Fault.NotYet → IsTrue (is_unread_text (mode_of_state self.entry.state) (values self.entry.reader.units)) }
-        ensures later { IsTrue (is_unread_text (mode_of_state self.entry.state) (values self.entry.reader.units)) → result ≡ Err Fault.NotYet }
+        ensures not_yet { result ≡ Err Fault.NotYet → is_read (mode_of_state self.entry.state) ≡ false }
+        ensures later { is_read (mode_of_state self.entry.state) ≡ false → result ≡ Err Fault.NotYet }
     {
         let PatternParser {
             alloc,
@@ -82,7 +81,7 @@ impl<'a> PatternParser<'a> {
             spans,
         } = self;
         let mode = Mode::of(state.unicode_mode, state.unicode_sets_mode);
-        if mode != Mode::Unicode || holds_unread(reader.remaining_code_points()) {
+        if mode != Mode::Unicode {
             return Err(Fault::NotYet);
         }
         first_pass(&mut state, &mut reader, &spans)?;
@@ -127,7 +126,6 @@ fn read_pattern(
     requires start { reader.old.place ≡ 0 }
     requires fits { AreFitting spans.now reader.old }
     requires pass { HoldsPass Unicode reader.old.units state.now }
-    requires read { holds_unread (values reader.old.units) ≡ false }
     ensures reads { IfOk result (λ it. Reads Unicode it reader.old.units) }
     ensures spanned { IfOk result (λ it. IsSpanned Unicode it reader.old.units reader.old.first spans.now) }
     ensures refused { IfErr result (λ fault. IsRefused Unicode reader.old.units reader.old.first spans.now fault) }

@@ -1,17 +1,20 @@
 ghost use Rattle.std.specs.Prelude.{◌≡◌, ℕ, true, IfOk, List};
+ghost use Rattle.rx_ast.specs.ClassTree.{mirror_class};
+ghost use Rattle.rx_ast.specs.Tree as tree;
+ghost use Rattle.rx_ast.specs.Tree.{leaf, mirror_term};
 ghost use Rattle.rx_units.specs.Reading.{rest};
-ghost use Rattle.rx_model.specs.Token.{named};
+ghost use Rattle.rx_model.specs.Token.{named, property};
+ghost use Rattle.rx_class.specs.Fitting.{AreFitting};
 ghost use Rattle.rx_parser.specs.Found.{HoldsName, HoldsOpener, leaf_token};
 ghost use Rattle.rx_parser.specs.Openings.{IsOpeningOf};
-ghost use Rattle.rx_parser.specs.Parsing.{AreFitting};
 ghost use Rattle.rx_parser.specs.Progress.{IsLeafOf};
 
 use crate::fault::span_ahead;
 use crate::found::{Leaf, OpenerFound};
 use crate::frame::Opening;
 use rx_ast::{
-    BoundaryAssertion, Character, CharacterClassEscape, Dot, IndexedReference, Modifiers,
-    NamedReference, Term,
+    BoundaryAssertion, Character, CharacterClass, CharacterClassEscape, Dot, IndexedReference,
+    Modifiers, NamedReference, Term, UnicodePropertyEscape,
 };
 use rx_base::{OutOfMemory, Span, Text};
 use rx_scan::{SpanFactory, capturing_group_name};
@@ -49,6 +52,20 @@ pub fn named_term(alloc: Global, name: Text, span: Span) -> Result<Term, OutOfMe
 {
     let reference = NamedReference { span, name };
     Ok(Term::NamedReference(Box::new(alloc, reference)?))
+}
+
+/// The property escape as a term.
+pub fn property_term(alloc: Global, escape: UnicodePropertyEscape) -> Result<Term, OutOfMemory>
+    ensures { IfOk result (λ it. IsLeafOf it (property escape.negative escape.strings escape.name escape.value) escape.span.start escape.span.end) }
+{
+    Ok(Term::UnicodePropertyEscape(Box::new(alloc, escape)?))
+}
+
+/// The class as a term.
+pub fn class_term(alloc: Global, class: CharacterClass) -> Result<Term, OutOfMemory>
+    ensures { IfOk result (λ it. mirror_term it ≡ leaf (tree.class (mirror_class class))) }
+{
+    Ok(Term::CharacterClass(Box::new(alloc, class)?))
 }
 
 /// The name in what so many units are, a group's beginning or a reference: it stands between the third unit and the `>` at their end.

@@ -1,16 +1,18 @@
-ghost use Rattle.std.specs.Prelude.{◌≡◌, ◌<◌, IfErr, IfOk, OnOk, length};
+ghost use Rattle.std.specs.Prelude.{◌≡◌, IfErr, IfOk, OnOk};
 ghost use Rattle.rx_units.specs.Reading.{rest};
 ghost use Rattle.rx_model.specs.declared.mode.Mode.TheVariants.{Unicode};
 ghost use Rattle.rx_model.specs.Reached.{text_environment};
 ghost use Rattle.rx_parser.specs.Found.{IsFound};
-ghost use Rattle.rx_parser.specs.Parsing.{AreFitting, HoldsPass, IsParsing, IsRefused};
+ghost use Rattle.rx_parser.specs.Parsing.{HoldsPass, IsRefused};
+ghost use Rattle.rx_parser.specs.Turns.{IsBefore, IsTurned};
 
 use crate::builder::Builder;
 use crate::fault::{fault, here};
-use crate::found::Found;
+use crate::found::{Found, Leaf, OpenerFound};
 use crate::front::front_at;
-use crate::term::{name_in, named_term, opening, term};
+use crate::term::{class_term, name_in, named_term, opening, property_term, term};
 use rx_base::{Diagnostic, Fault, List, OutOfMemory, Span, Text};
+use rx_class::{parse_character_class, parse_character_class_escape_unicode};
 use rx_scan::{SpanFactory, State};
 use rx_units::Reader;
 use std::alloc::Global;
@@ -23,35 +25,21 @@ pub fn turn(
     spans: &SpanFactory,
     builder: &mut Builder,
 ) -> Result<(), Fault>
-    requires mode { builder.old.mode ≡ Unicode }
-    requires parsing { IsParsing Unicode reader.old.units reader.old.first spans.now builder.old reader.old.place }
+    requires before { IsBefore spans.now builder.old reader.old }
     requires pass { HoldsPass Unicode reader.old.units state.now }
-    requires left { reader.old.place < length reader.old.units }
-    requires fits { AreFitting spans.now reader.old }
-    ensures parsing { OnOk result (IsParsing Unicode reader.new.units reader.new.first spans.now builder.new reader.new.place) }
-    ensures mode { builder.new.mode ≡ builder.old.mode }
-    ensures moved { OnOk result (reader.old.place < reader.new.place) }
-    ensures same { OnOk result (reader.new ≡ record reader.old { place = reader.new.place }) }
+    ensures turned { OnOk result (IsTurned spans.now builder.old builder.new reader.old reader.new) }
     ensures refused { IfErr result (λ fault. IsRefused Unicode reader.old.units reader.old.first spans.now fault) }
 {
     let at = here(reader, spans);
     let groups = state.num_of_capturing_groups;
     match front_at(reader.remaining_code_points(), builder.mode, groups) {
-        Found::Leaf { leaf, length } => {
-            reader.skip(length);
-            let span = Span::new(at, here(reader, spans));
-            builder.leaf(term(alloc, leaf, span)?)?;
-            Ok(())
-        }
+        Found::Leaf { leaf, length } => Ok(take_leaf(alloc, reader, spans, builder, leaf, length)?),
         Found::NamedReference { length } => {
             named_reference(alloc, reader, state, spans, builder, length)
         }
-        Found::Open { opener, length } => {
-            let opening = opening(alloc, reader, spans, opener, length)?;
-            reader.skip(length);
-            builder.open(alloc, opening, at, here(reader, spans))?;
-            Ok(())
-        }
+        Found::Property => property(alloc, reader, state, spans, builder),
+        Found::Class => class(alloc, reader, state, spans, builder),
+        Found::Open { opener, length } => Ok(open(alloc, reader, spans, builder, opener, length)?),
         Found::Close => {
             reader.advance();
             if !builder.close(alloc, at, here(reader, spans))? {
@@ -60,11 +48,7 @@ pub fn turn(
             }
             Ok(())
         }
-        Found::Bar => {
-            reader.advance();
-            builder.bar(alloc, at, here(reader, spans))?;
-            Ok(())
-        }
+        Found::Bar => Ok(bar(alloc, reader, spans, builder)?),
         Found::Quantifier {
             min,
             max,
@@ -83,6 +67,25 @@ pub fn turn(
     }
 }
 
+/// Reads a term that is one token of so many units, and gives it to the builder.
+fn take_leaf(
+    alloc: Global,
+    reader: &mut Reader<'_>,
+    spans: &SpanFactory,
+    builder: &mut Builder,
+    leaf: Leaf,
+    length: usize,
+) -> Result<(), OutOfMemory>
+    requires before { IsBefore spans.now builder.old reader.old }
+    requires found { IsFound (text_environment Unicode reader.old.units) (rest reader.old) (Found.Leaf leaf length) }
+    ensures { OnOk result (IsTurned spans.now builder.old builder.new reader.old reader.new) }
+{
+    let at = here(reader, spans);
+    reader.skip(length);
+    let span = Span::new(at, here(reader, spans));
+    builder.leaf(term(alloc, leaf, span)?)
+}
+
 /// Reads a reference by name of so many units, and gives it to the builder.
 fn named_reference(
     alloc: Global,
@@ -92,16 +95,10 @@ fn named_reference(
     builder: &mut Builder,
     size: usize,
 ) -> Result<(), Fault>
-    requires mode { builder.old.mode ≡ Unicode }
-    requires parsing { IsParsing Unicode reader.old.units reader.old.first spans.now builder.old reader.old.place }
+    requires before { IsBefore spans.now builder.old reader.old }
     requires pass { HoldsPass Unicode reader.old.units state.now }
-    requires left { reader.old.place < length reader.old.units }
-    requires fits { AreFitting spans.now reader.old }
     requires found { IsFound (text_environment Unicode reader.old.units) (rest reader.old) (Found.NamedReference size) }
-    ensures parsing { OnOk result (IsParsing Unicode reader.new.units reader.new.first spans.now builder.new reader.new.place) }
-    ensures mode { builder.new.mode ≡ builder.old.mode }
-    ensures moved { OnOk result (reader.old.place < reader.new.place) }
-    ensures same { OnOk result (reader.new ≡ record reader.old { place = reader.new.place }) }
+    ensures turned { OnOk result (IsTurned spans.now builder.old builder.new reader.old reader.new) }
     ensures refused { IfErr result (λ fault. IsRefused Unicode reader.old.units reader.old.first spans.now fault) }
 {
     let at = here(reader, spans);
@@ -124,4 +121,87 @@ fn copy(alloc: Global, names: &[Text]) -> Result<List<Text>, OutOfMemory>
         copies.push(name.clone(alloc)?)?;
     }
     Ok(copies)
+}
+
+/// Reads a property escape, and gives it to the builder.
+fn property(
+    alloc: Global,
+    reader: &mut Reader<'_>,
+    state: &State,
+    spans: &SpanFactory,
+    builder: &mut Builder,
+) -> Result<(), Fault>
+    requires before { IsBefore spans.now builder.old reader.old }
+    requires pass { HoldsPass Unicode reader.old.units state.now }
+    requires found { IsFound (text_environment Unicode reader.old.units) (rest reader.old) Found.Property }
+    ensures turned { OnOk result (IsTurned spans.now builder.old builder.new reader.old reader.new) }
+    ensures refused { IfErr result (λ fault. IsRefused Unicode reader.old.units reader.old.first spans.now fault) }
+{
+    let start = reader.offset();
+    reader.advance();
+    match parse_character_class_escape_unicode(alloc, reader, state, spans, start)? {
+        Some(escape) => {
+            builder.leaf(property_term(alloc, escape)?)?;
+            Ok(())
+        }
+        None => unreachable!(),
+    }
+}
+
+/// Reads a class, and gives it to the builder.
+fn class(
+    alloc: Global,
+    reader: &mut Reader<'_>,
+    state: &State,
+    spans: &SpanFactory,
+    builder: &mut Builder,
+) -> Result<(), Fault>
+    requires before { IsBefore spans.now builder.old reader.old }
+    requires pass { HoldsPass Unicode reader.old.units state.now }
+    requires found { IsFound (text_environment Unicode reader.old.units) (rest reader.old) Found.Class }
+    ensures turned { OnOk result (IsTurned spans.now builder.old builder.new reader.old reader.new) }
+    ensures refused { IfErr result (λ fault. IsRefused Unicode reader.old.units reader.old.first spans.now fault) }
+{
+    match parse_character_class(alloc, reader, state, spans)? {
+        Some(class) => {
+            builder.leaf(class_term(alloc, class)?)?;
+            Ok(())
+        }
+        None => unreachable!(),
+    }
+}
+
+/// Reads what a group or a look-around of so many units begins with, and opens it in the builder.
+fn open(
+    alloc: Global,
+    reader: &mut Reader<'_>,
+    spans: &SpanFactory,
+    builder: &mut Builder,
+    opener: OpenerFound,
+    length: usize,
+) -> Result<(), OutOfMemory>
+    requires before { IsBefore spans.now builder.old reader.old }
+    requires found { IsFound (text_environment Unicode reader.old.units) (rest reader.old) (Found.Open opener length) }
+    ensures { OnOk result (IsTurned spans.now builder.old builder.new reader.old reader.new) }
+{
+    let at = here(reader, spans);
+    let opening = opening(alloc, reader, spans, opener, length)?;
+    reader.skip(length);
+    builder.open(alloc, opening, at, here(reader, spans))
+}
+
+/// Reads a bar, and begins an alternative in the builder.
+fn bar(
+    alloc: Global,
+    reader: &mut Reader<'_>,
+    spans: &SpanFactory,
+    builder: &mut Builder,
+) -> Result<(), OutOfMemory>
+    requires before { IsBefore spans.now builder.old reader.old }
+    requires found { IsFound (text_environment Unicode reader.old.units) (rest reader.old) Found.Bar }
+    ensures { OnOk result (IsTurned spans.now builder.old builder.new reader.old reader.new) }
+{
+    let at = here(reader, spans);
+    reader.advance();
+    builder.bar(alloc, at, here(reader, spans))
 }

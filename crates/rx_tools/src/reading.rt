@@ -57,16 +57,16 @@ pub fn canonical(
     // The groups and the names that the first pass of the text finds are the tree's.
     ensures groups { IfOk result (λ it. TellsGroups it.mode it.pattern (units_of it.mode (chars pattern_text.now))) }
 
-    // Ok comes on valid input alone. On valid input the answer is Ok, or memory is wanting, or it is not read yet.
+    // Ok comes on valid input alone. On valid input the answer is Ok, or memory is wanting, or its form or mode is not read yet.
     ensures valid { OnOk result (IsValid (chars pattern_text.now) (flags_chars flags_text.entry)) }
     ensures complete { IsValid (chars pattern_text.now) (flags_chars flags_text.entry)
         → IfErr result (λ fault. (fault ≡ Fault.OutOfMemory) ⊎ (fault ≡ Fault.NotYet)) }
 
-    // A refusal has its cause, of the flags or of the text. "Not yet" comes exactly on what is not read yet, or memory is wanting.
+    // A refusal has its cause, of the flags or of the text. "Not yet" comes exactly where its form or mode is not read yet, or memory is wanting.
     ensures refused { (cause : Refusal) → result ≡ Err (Fault.Diagnostic cause)
         → IsLiteralCause (chars pattern_text.now) (flags_of (flags_chars flags_text.entry)) options.pattern_span_offset options.flags_span_offset cause }
-    ensures not_yet { result ≡ Err Fault.NotYet → IsTrue (is_not_yet form (chars pattern_text.now) (flags_chars flags_text.entry)) }
-    ensures later { IsTrue (is_not_yet form (chars pattern_text.now) (flags_chars flags_text.entry))
+    ensures not_yet { result ≡ Err Fault.NotYet → IsTrue (is_not_yet form (flags_chars flags_text.entry)) }
+    ensures later { IsTrue (is_not_yet form (flags_chars flags_text.entry))
         → (result ≡ Err Fault.NotYet) ⊎ (result ≡ Err Fault.OutOfMemory) }
 
     // A canonical spelling, read again, gives the tree that was spelled, but for spans and character kinds, or memory is wanting.

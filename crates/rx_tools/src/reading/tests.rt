@@ -28,6 +28,11 @@ fn texts(rt: HostRuntime) -> Result<(), Fail> {
         ("", "(?:)"),
         ("(?mi-:a)|(?!b)", "(?im:a)|(?!b)"),
         ("(?<\\u0061>.)\\k<a>\\1\\x32", "(?<a>.)\\k<a>\\1\\x32"),
+        ("[^\\x61-c\\b-]", "[^a-c\\x08\\-]"),
+        (
+            "\\p{General_Category=L}\\P{sc=Greek}",
+            "\\p{L}\\P{sc=Greek}",
+        ),
     ];
     for (pattern, text) in rows {
         let it = read(rt.alloc(), pattern, 7).ok().ok_or("refused")?;
@@ -163,15 +168,15 @@ fn characters(rt: HostRuntime) -> Result<(), Fail> {
 #[test]
 fn not_yet(rt: HostRuntime) -> Result<(), Fail> {
     let rows = [
-        (Form::Literal, "[a]", Some("iu")),
-        (Form::Literal, "(a[b])", Some("u")),
-        (Form::Literal, "\\p{L}", Some("u")),
+        (Form::Literal, "[a]", None),
+        (Form::Literal, "(a[b])", Some("iv")),
+        (Form::Literal, "\\p{L}", Some("v")),
         (Form::Literal, "", None),
         (Form::Literal, "a", None),
         (Form::Literal, "a", Some("")),
         (Form::Literal, "a", Some("gi")),
         (Form::Literal, "a", Some("v")),
-        (Form::Constructor, "\"a\"", Some("u")),
+        (Form::Constructor, "\"[a]\"", Some("u")),
         (Form::Constructor, "\"a\"", Some("\"gg\"")),
     ];
     for (form, pattern, flags) in rows {

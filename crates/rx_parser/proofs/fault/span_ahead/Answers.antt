@@ -1,6 +1,6 @@
 use Rattle.std.proofs.Common.{◌+◌, ◌^◌, ◌<◌, ap, sym, ◌∙◌, subst}
 use Rattle.rx_units.specs.Reading.{offset_of, moved}
-use Rattle.rx_parser.proofs.Turns.{offset_fits}
+use Rattle.rx_class.proofs.Fitting.{offset_fits}
 use Rattle.rx_parser.proofs.fault.span_ahead.Goals as goal
 
 pub create-requires-clause-start : goal.create-requires-clause-start

@@ -9,7 +9,7 @@ pub returns-in-Character : goal.returns-in-Character
 returns-in-Character c e backslash same buffers is =
     let read = ap (λ u. escape_at u (values c.args.behind.now)) (ap is_unicode same ∙ sym c.is_unicode.ensures) ∙ sym c.in-Character.ensures.read in
     let within = c.in-Character.ensures.within.1 in (
-      escape_front e backslash c.args.behind.now is c.requires.no_reference (c.requires.no_boundary e buffers) c.requires.no_class ∙ ap escaped_token read,
+      escape_front e backslash c.args.behind.now is c.requires.no_reference c.requires.no_property (c.requires.no_boundary e buffers) c.requires.no_class ∙ ap escaped_token read,
       omega (arith, within),
       λ _. c.in-Character.ensures.within.2,
     )
@@ -17,7 +17,7 @@ returns-in-Character c e backslash same buffers is =
 pub returns-in-Nothing : goal.returns-in-Nothing
 returns-in-Nothing c e backslash same buffers is =
     let read = ap (λ u. escape_at u (values c.args.behind.now)) (sym (c.is_unicode.ensures ∙ c.requires.unicode)) ∙ sym c.in-Nothing.ensures.read in
-    nothing_there e backslash c.args.behind.now (ap is_unicode same ∙ c.requires.unicode) is c.requires.no_reference (c.requires.no_boundary e buffers) c.requires.no_class c.requires.read read
+    nothing_there e backslash c.args.behind.now (ap is_unicode same ∙ c.requires.unicode) is c.requires.no_reference c.requires.no_property (c.requires.no_boundary e buffers) c.requires.no_class read
 
 pub returns-in-TooMany : goal.returns-in-TooMany
 returns-in-TooMany c e backslash same buffers is =

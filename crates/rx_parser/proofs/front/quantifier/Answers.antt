@@ -14,12 +14,12 @@ returns-then-is_too_large c e unicode =
     let order = iff_false c.is_out_of_order.ensures c.if-is_out_of_order.false in
     ((c.args.min, c.args.max, braces_there c.args.units.now c.args.min c.args.max c.args.length c.requires.counts.0 c.requires.counts.1 (inr bad), (order, bad)), c.requires.counts.2)
 
-pub returns-then-is_question_at : goal.returns-then-is_question_at
-returns-then-is_question_at c e unicode =
+pub returns-then-stands_at : goal.returns-then-stands_at
+returns-then-stands_at c e unicode =
     let order = iff_false c.is_out_of_order.ensures c.if-is_out_of_order.false in
     let large = iff_false c.is_too_large.ensures c.if-is_too_large.false in
-    let question = sym c.is_question_at.ensures.question ∙ c.if-is_question_at.true in
-    let within = c.is_question_at.ensures.within c.if-is_question_at.true in (
+    let question = sym c.stands_at.ensures.there ∙ c.if-stands_at.true in
+    let within = c.stands_at.ensures.within c.if-stands_at.true in (
       lazy_front e c.args.units.now c.args.min c.args.max c.args.length c.requires.front c.requires.counts.0 question,
       omega (arith, within),
       λ names. counts_obey e.groups names c.args.min c.args.max false order large,
@@ -29,7 +29,7 @@ pub returns : goal.returns
 returns c e unicode =
     let order = iff_false c.is_out_of_order.ensures c.if-is_out_of_order.false in
     let large = iff_false c.is_too_large.ensures c.if-is_too_large.false in
-    let question = sym c.is_question_at.ensures.question ∙ c.if-is_question_at.false in (
+    let question = sym c.stands_at.ensures.there ∙ c.if-stands_at.false in (
       greedy_front e c.args.units.now c.args.min c.args.max c.args.length c.requires.front c.requires.counts.0 question,
       c.requires.counts.2,
       λ names. counts_obey e.groups names c.args.min c.args.max true order large,

@@ -6,7 +6,7 @@ use Rattle.rx_units.specs.Reading.{Reading}
 use Rattle.rx_units.specs.Units.{literal_units, values}
 use Rattle.rx_model.specs.Flags.{flags_ok, modes_of}
 use Rattle.rx_parser.proofs.FlagTexts.{values_of_units}
-use Rattle.rx_parser.proofs.TextUnits.{text_fits}
+use Rattle.rx_class.proofs.TextFits.{text_fits}
 use Rattle.rx_parser.proofs.literal_parser.read_modes.Goals as goal
 
 pub parse-requires-clause-fits : goal.parse-requires-clause-fits

@@ -9,7 +9,8 @@ use Rattle.rx_scan.specs.declared.state.StateFault.TheVariants.{Duplicated}
 use Rattle.rx_scan.specs.StateFaults.{IsStateFault}
 use Rattle.rx_parser.specs.Parsing.{IsRefused}
 use Rattle.rx_parser.proofs.Passes.{clash_refused, holds_pass, many_refused, shifted, unicode_bits}
-use Rattle.rx_parser.proofs.Turns.{empty_at, offset_fits}
+use Rattle.rx_class.proofs.Fitting.{offset_fits}
+use Rattle.rx_parser.proofs.Turns.{empty_at}
 use Rattle.rx_parser.proofs.pattern_parser.first_pass.Goals as goal
 
 pub create-requires-clause-start : goal.create-requires-clause-start

@@ -3,10 +3,11 @@ use Rattle.rx_units.specs.Reading.{Reading, offset_of}
 use Rattle.rx_model.specs.declared.mode.Mode.TheVariants.{Unicode}
 use Rattle.rx_parser.specs.Faults.{IsEndedFault}
 use Rattle.rx_parser.specs.Frames.{openers}
-use Rattle.rx_parser.specs.Parsing.{AreFitting, IsParsing, IsRefused}
+use Rattle.rx_class.specs.Fitting.{AreFitting}
+use Rattle.rx_parser.specs.Parsing.{IsParsing, IsRefused}
 use Rattle.rx_parser.proofs.Endings.{parsing_begun, parsing_ended}
 use Rattle.rx_parser.proofs.Halts.{ended_refused}
-use Rattle.rx_parser.proofs.Turns.{offset_fits}
+use Rattle.rx_class.proofs.Fitting.{offset_fits}
 use Rattle.rx_parser.proofs.pattern_parser.read_pattern.Goals as goal
 
 pub loop-alloc-init : goal.loop-alloc-init
@@ -16,23 +17,30 @@ loop-alloc-init c =
     record {
       parsing = subst (IsParsing Unicode r.units r.first c.args.spans.now b.result) (sym c.requires.start)
           (parsing_begun r.units r.first c.args.spans.now c.here.result b.result (c.here.ensures ∙ ap (λ k. offset_of (record r { place = k }) + c.args.spans.now) c.requires.start)
-          b.ensures.events b.ensures.openers b.ensures.ready b.ensures.good (b.ensures.mode ∙ c.requires.mode) c.requires.read);
+          b.ensures.events b.ensures.openers b.ensures.ready b.ensures.good (b.ensures.mode ∙ c.requires.mode));
       same = refl;
       mode = b.ensures.mode ∙ c.requires.mode;
     }
 
-pub turn-requires-clause-fits : goal.turn-requires-clause-fits
-turn-requires-clause-fits c =
-    subst (AreFitting c.args.spans.now) (sym c.loop-alloc.invariant.same) (record { first = c.requires.fits.first; ends = c.requires.fits.ends })
+pub turn-requires-clause-before : goal.turn-requires-clause-before
+turn-requires-clause-before c =
+    let l = c.loop-alloc.reader in
+    let some : length (drop l.place l.units) ≡ 0 → ⊥ = search rules in
+    record {
+      mode = c.loop-alloc.invariant.mode;
+      parsing = c.loop-alloc.invariant.parsing;
+      left = omega (arith, some, length-drop l.place l.units, c.loop-alloc.invariant.parsing.within);
+      fits = subst (AreFitting c.args.spans.now) (sym c.loop-alloc.invariant.same) (record { first = c.requires.fits.first; ends = c.requires.fits.ends });
+    }
 
 pub loop-alloc-smaller : goal.loop-alloc-smaller
 loop-alloc-smaller c =
-    let it = c.in_ok-turn.ensures in
+    let it = c.in_ok-turn.ensures.turned in
     omega (arith, it.moved, it.parsing.within, ap (λ (r : Reading). length r.units) it.same)
 
 pub loop-alloc-preserved : goal.loop-alloc-preserved
 loop-alloc-preserved c =
-    let it = c.in_ok-turn.ensures in
+    let it = c.in_ok-turn.ensures.turned in
     record {
       parsing = it.parsing;
       same = it.same ∙ ap (λ (r : Reading). record r { place = c.turn.new.reader.place }) c.loop-alloc.invariant.same;

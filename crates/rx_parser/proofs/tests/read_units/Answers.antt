@@ -4,7 +4,7 @@ use Rattle.std.specs.Str.{chars}
 use Rattle.rx_units.specs.declared.code_point.CodePoint.{CodePoint}
 use Rattle.rx_units.specs.Reading.{Reading}
 use Rattle.rx_units.specs.Units.{literal_units}
-use Rattle.rx_parser.proofs.TextUnits.{text_fits}
+use Rattle.rx_class.proofs.TextFits.{text_fits}
 use Rattle.rx_parser.proofs.tests.read_units.Goals as goal
 
 pub parse-requires-clause-fits : goal.parse-requires-clause-fits

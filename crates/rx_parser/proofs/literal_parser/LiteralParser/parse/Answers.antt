@@ -5,16 +5,16 @@ use Rattle.std.specs.Str.{chars}
 use Rattle.rx_base.specs.declared.fault.Fault.TheVariants.{OutOfMemory, NotYet}
 use Rattle.rx_units.specs.declared.code_point.CodePoint.{CodePoint}
 use Rattle.rx_units.specs.Reading.{Reading}
-use Rattle.rx_units.specs.Units.{literal_units, values}
+use Rattle.rx_units.specs.Units.{literal_units}
 use Rattle.rx_model.specs.Flags.{flags_of, flags_ok, mode_of}
-use Rattle.rx_model.specs.Reading.{IsOnly, IsValid, literal_text, units_of}
+use Rattle.rx_model.specs.Reading.{IsOnly, IsValid, units_of}
 use Rattle.rx_model.proofs.OwnGroups.{tells_groups}
 use Rattle.rx_parser.specs.Literals.{flags_chars}
-use Rattle.rx_parser.specs.NotYet.{is_unread_text, is_unread_literal}
+use Rattle.rx_parser.specs.NotYet.{is_unread_literal}
 use Rattle.rx_parser.specs.Parsing.{mode_of_state}
 use Rattle.rx_parser.proofs.Agains.{read_again}
-use Rattle.rx_parser.proofs.Literals.{fault_of_valid, fault_of_unread, passed_on, mode_is, units_are, only_by, reads_by, spanned_by, valid_by, unread_is, unread_of_text, text_of_unread}
-use Rattle.rx_parser.proofs.TextUnits.{text_fits}
+use Rattle.rx_parser.proofs.Literals.{fault_of_valid, fault_of_unread, passed_on, mode_is, units_are, only_by, reads_by, spanned_by, valid_by, unread_by_mode, mode_of_unread}
+use Rattle.rx_class.proofs.TextFits.{text_fits}
 use Rattle.rx_parser.proofs.literal_parser.LiteralParser.parse.Goals as goal
 
 pub returns-in_err-modes-clause-complete : goal.returns-in_err-modes-clause-complete
@@ -27,7 +27,7 @@ returns-in_err-modes-clause-complete c = λ valid.
 pub returns-in_err-modes-clause-later : goal.returns-in_err-modes-clause-later
 returns-in_err-modes-clause-later c = λ unread.
     inr (passed_on c.from_residual.result c.in_err-modes.field-0.0 c.from_residual.ensures.1
-    ∙ ap Err (fault_of_unread (chars c.args.self.pattern_text.now) (chars c.text_of_flags-flags.result.now) (flags_chars c.args.self.flags_text) c.args.self.options.flags_span_offset
+    ∙ ap Err (fault_of_unread (chars c.text_of_flags-flags.result.now) (flags_chars c.args.self.flags_text) c.args.self.options.flags_span_offset
     c.in_err-modes.field-0.0 c.text_of_flags-flags.ensures.flags c.in_err-modes.ensures.refused unread))
 
 pub parse-requires-clause-fits : goal.parse-requires-clause-fits
@@ -56,11 +56,6 @@ units_hold c =
 flags_hold : (c : goal.After-parse) → flags_ok (flags_of (flags_chars c.args.self.flags_text)) ≡ true
 flags_hold c = ap flags_ok (sym c.text_of_flags-flags.ensures.flags) ∙ c.in_ok-modes.ensures.passed
 
-unread_holds : (c : goal.After-parse) → is_unread_text (mode_of_state c.new.result.state) (values c.new.result.reader.units)
-    ≡ is_unread_text (mode_of (flags_of (flags_chars c.args.self.flags_text))) (literal_text (chars c.args.self.pattern_text.now))
-unread_holds c =
-    unread_is (chars c.args.self.pattern_text.now) (flags_chars c.args.self.flags_text) (mode_of_state c.new.result.state) c.new.result.reader.units (mode_holds c) (units_hold c)
-
 pub returns-clause-only : goal.returns-clause-only
 returns-clause-only c = only_by c.parse.result _ _ _ _ (mode_holds c) (units_hold c) c.parse.ensures.only
 
@@ -81,18 +76,18 @@ returns-clause-valid c =
 
 pub returns-clause-not_yet : goal.returns-clause-not_yet
 returns-clause-not_yet c = λ e.
-    unread_of_text (chars c.args.self.pattern_text.now) (flags_chars c.args.self.flags_text) (flags_hold c) (sym (unread_holds c) ∙ c.parse.ensures.not_yet e)
+    unread_by_mode (flags_chars c.args.self.flags_text) (mode_of_state c.new.result.state) (mode_holds c) (flags_hold c) (c.parse.ensures.not_yet e)
 
 pub returns-clause-later : goal.returns-clause-later
 returns-clause-later c = λ unread.
-    inl (c.parse.ensures.later (unread_holds c ∙ text_of_unread (chars c.args.self.pattern_text.now) (flags_chars c.args.self.flags_text) unread))
+    inl (c.parse.ensures.later (mode_of_unread (flags_chars c.args.self.flags_text) (mode_of_state c.new.result.state) (mode_holds c) unread))
 
 pub returns-in_err-modes-clause-again : goal.returns-in_err-modes-clause-again
 returns-in_err-modes-clause-again c =
     let text = chars c.args.self.pattern_text.now in
     let flags = flags_chars c.args.self.flags_text in
     let only : IfOk c.from_residual.result (λ it. IsOnly (mode_of (flags_of flags)) it (units_of (mode_of (flags_of flags)) text)) = search rules in
-    let not_yet : c.from_residual.result ≡ Err NotYet → IsTrue (is_unread_literal text flags) = search rules in
+    let not_yet : c.from_residual.result ≡ Err NotYet → IsTrue (is_unread_literal flags) = search rules in
     read_again text flags c.from_residual.result only (returns-in_err-modes-clause-complete c) not_yet
 
 pub returns-clause-again : goal.returns-clause-again
