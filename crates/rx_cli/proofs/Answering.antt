@@ -28,7 +28,7 @@ ok_reply_added old first second third text bytes mode utf8 is e f g =
     ∙ append_assoc old (front ++ encode_utf8_all text) (codes "\n")
 
 -- an `ok` reply, as it was made
-pub ok_reply_is : (line text : List ℕ) (request : Request) (pattern : Pattern) (mode : Mode) → IsRequest line request → is_not_yet request.form request.text request.flags ≡ false
+pub ok_reply_is : (line text : List ℕ) (request : Request) (pattern : Pattern) (mode : Mode) → IsRequest line request → is_not_yet request.form request.flags ≡ false
     → mode ≡ mode_asked request → flags_ok (flags_of request.flags) ≡ true → Reads mode pattern (units_of mode request.text) → text ≡ spelling (bare pattern) mode
     → IsReply line (ok_reply mode text)
 ok_reply_is line text request pattern mode asked read is flags_are reads spelled =

@@ -47,10 +47,10 @@ pub record IsReadAs (request : Request) (pattern : Pattern) : Type 0 where
 -- that no pattern is read from.
 pub data IsReply (line : List ℕ) : List ℕ → Type 0 where
   bad : ((request : Request) → ¬ IsRequest line request) → IsReply line bad_reply
-  later : (request : Request) → IsRequest line request → is_not_yet request.form request.text request.flags ≡ true → IsReply line later_reply
-  ok : (request : Request) (pattern : Pattern) → IsRequest line request → is_not_yet request.form request.text request.flags ≡ false
+  later : (request : Request) → IsRequest line request → is_not_yet request.form request.flags ≡ true → IsReply line later_reply
+  ok : (request : Request) (pattern : Pattern) → IsRequest line request → is_not_yet request.form request.flags ≡ false
       → IsReadAs request pattern → IsReply line (ok_reply (mode_asked request) (spelling (bare pattern) (mode_asked request)))
-  err : (request : Request) (cause : Diagnostic) → IsRequest line request → is_not_yet request.form request.text request.flags ≡ false
+  err : (request : Request) (cause : Diagnostic) → IsRequest line request → is_not_yet request.form request.flags ≡ false
       → ((pattern : Pattern) → IsReadAs request pattern → ⊥) → IsLiteralCause request.text (flags_of request.flags) 0 0 cause → IsReply line (err_reply cause)
 
 -- a reply that says `ok`

@@ -61,7 +61,7 @@ const LINES: [(&[u8], &[u8]); 27] = [
     (b"L\tuv\ta", b"err\tinvalid_unicode_flags\t1..2\n"),
     (b"L\tu\t(a)", b"ok\tunicode\t(a)\n"),
     (b"L\tu\t", b"ok\tunicode\t(?:)\n"),
-    (b"L\tu\t[a]", b"later\n"),
+    (b"L\tu\t[a]", b"ok\tunicode\t[a]\n"),
     (b"C\tu\t\"a\"", b"later\n"),
     (b"C\tgg\t\"a\"", b"later\n"),
     (b"L\t\ta", b"later\n"),
@@ -303,5 +303,40 @@ fn are_replied(alloc: Global, rows: &[(&str, &str)]) -> Result<bool, OutOfMemory
     Ok(status.number() <= 1 && sink.bytes() == output.as_slice())
 }
 
+/// What opens a group or a look-around, and the same with another name.
+const OPENERS: [(&str, &str); 8] = [
+    ("(", "("),
+    ("(?<n>", "(?<m>"),
+    ("(?:", "(?:"),
+    ("(?i-m:", "(?i-m:"),
+    ("(?=", "(?="),
+    ("(?!", "(?!"),
+    ("(?<=", "(?<="),
+    ("(?<!", "(?<!"),
+];
+
+/// Whether an input has this output.
+fn is_answered(alloc: Global, input: List<u8>, output: &List<u8>) -> Result<bool, OutOfMemory> {
+    let (_, sink) = run_in_steps(alloc, input, 4096, 4096)?;
+    Ok(sink.bytes() == output.as_slice())
+}
+
+/// Adds the line of a pattern under `u`.
+fn add_line(input: &mut List<u8>, pattern: &str) -> Result<(), OutOfMemory> {
+    input.extend_from_slice(b"L\tu\t")?;
+    input.extend_from_slice(pattern.as_bytes())?;
+    input.extend_from_slice(b"\n")
+}
+
+/// Adds a text so many times.
+fn add_times(bytes: &mut List<u8>, text: &str, times: usize) -> Result<(), OutOfMemory> {
+    for _ in 0..times {
+        bytes.extend_from_slice(text.as_bytes())?;
+    }
+    Ok(())
+}
+
+mod classes;
 mod groups;
 mod patterns;
+mod properties;

@@ -1,5 +1,5 @@
 //! Patterns with groups, names, references and modifiers under `u`, each with its reply, by the rules of ECMA-262, 22.2.1, and the proposals beyond it.
-use super::{are_replied, run_in_steps};
+use super::{OPENERS, add_line, add_times, are_replied, is_answered};
 use rx_base::{List, OutOfMemory};
 use std::alloc::Global;
 use std::test::Fail;
@@ -836,41 +836,32 @@ const TOGETHER: [(&str, &str); 39] = [
     ),
 ];
 
-/// What is not read yet, and what only looks like it.
-const LATER: [(&str, &str); 17] = [
-    ("([a])", "later"),
-    ("(\\p{L})", "later"),
-    ("(?<n>\\P{L})", "later"),
-    ("([", "later"),
-    ("(?<[>a)", "later"),
-    ("\\k<[", "later"),
-    ("\\k[", "later"),
-    ("(?<\\p>a)", "later"),
-    ("*[", "later"),
-    ("(?<a>x)(?<a>y)[", "later"),
-    ("(?i-i:[)", "later"),
-    ("(a)\\1[b]", "later"),
-    ("(\\\\[)", "later"),
-    ("(?:\\\\\\p)", "later"),
+/// Classes and properties in groups, in names and behind them, and what only looks like them.
+const CLASSES: [(&str, &str); 17] = [
+    ("([a])", "ok\tunicode\t([a])"),
+    ("(\\p{L})", "ok\tunicode\t(\\p{L})"),
+    ("(?<n>\\P{L})", "ok\tunicode\t(?<n>\\P{L})"),
+    ("([", "err\tunterminated_pattern\t1..2"),
+    ("(?<[>a)", "err\tunterminated_pattern\t2..3"),
+    ("\\k<[", "err\tunterminated_pattern\t2..3"),
+    ("\\k[", "err\tempty_group_specifier\t0..2"),
+    ("(?<\\p>a)", "err\tinvalid_unicode_escape_sequence\t3..4"),
+    ("*[", "err\tlone_quantifier\t0..1"),
+    (
+        "(?<a>x)(?<a>y)[",
+        "err\tduplicated_capturing_group_names\t3..4,10..11",
+    ),
+    ("(?i-i:[)", "err\tinvalid_modifiers\t2..5"),
+    ("(a)\\1[b]", "ok\tunicode\t(a)\\1[b]"),
+    ("(\\\\[)", "err\tunterminated_pattern\t3..5"),
+    ("(?:\\\\\\p)", "err\tunterminated_pattern\t5..7"),
     ("(\\[)", "ok\tunicode\t(\\[)"),
     ("(\\\\p)", "ok\tunicode\t(\\\\p)"),
     ("(\\\\P\\]p)", "ok\tunicode\t(\\\\P\\]p)"),
 ];
 
-/// What opens a group or a look-around, and the same with another name.
-const OPENERS: [(&str, &str); 8] = [
-    ("(", "("),
-    ("(?<n>", "(?<m>"),
-    ("(?:", "(?:"),
-    ("(?i-m:", "(?i-m:"),
-    ("(?=", "(?="),
-    ("(?!", "(?!"),
-    ("(?<=", "(?<="),
-    ("(?<!", "(?<!"),
-];
-
 /// What is refused wherever terms begin, with the name and the start and end of the span in it.
-const REFUSED: [(&str, &str, usize, usize); 25] = [
+const REFUSED: [(&str, &str, usize, usize); 34] = [
     ("*", "lone_quantifier", 0, 1),
     ("a**", "lone_quantifier", 2, 3),
     ("^+", "lone_quantifier", 1, 2),
@@ -901,6 +892,20 @@ const REFUSED: [(&str, &str, usize, usize); 25] = [
     ("(?i-i:a)", "invalid_modifiers", 2, 5),
     ("(a]", "unterminated_pattern", 0, 2),
     ("(\\a)", "unterminated_pattern", 0, 2),
+    ("[z-a]", "character_class_range_out_of_order", 2, 4),
+    ("[a--]", "character_class_range_dash_not_subtraction", 2, 4),
+    ("[\\d-a]", "character_class_range_invalid_atom", 1, 5),
+    ("[\\y]", "invalid_class_atom", 1, 2),
+    ("[\\u]", "invalid_unicode_escape_sequence", 2, 3),
+    ("[\\p{}]", "unterminated_pattern", 1, 4),
+    ("\\p", "unterminated_pattern", 0, 2),
+    ("\\p{Foo}", "invalid_unicode_property", 3, 6),
+    (
+        "\\P{RGI_Emoji}",
+        "invalid_unicode_property_of_strings",
+        3,
+        12,
+    ),
 ];
 
 /// Behind an opener, where terms end and no `)` stands, and how much of it is read.
@@ -915,19 +920,6 @@ const ENDS: [(&str, usize); 9] = [
     ("\\a", 1),
     ("a\\", 2),
 ];
-
-/// Whether an input has this output.
-fn is_answered(alloc: Global, input: List<u8>, output: &List<u8>) -> Result<bool, OutOfMemory> {
-    let (_, sink) = run_in_steps(alloc, input, 4096, 4096)?;
-    Ok(sink.bytes() == output.as_slice())
-}
-
-/// Adds the line of a pattern under `u`.
-fn add_line(input: &mut List<u8>, pattern: &str) -> Result<(), OutOfMemory> {
-    input.extend_from_slice(b"L\tu\t")?;
-    input.extend_from_slice(pattern.as_bytes())?;
-    input.extend_from_slice(b"\n")
-}
 
 /// Whether each opener is read in each.
 fn are_nested(alloc: Global) -> Result<bool, OutOfMemory> {
@@ -974,14 +966,6 @@ fn are_unterminated(alloc: Global, opener: &str) -> Result<bool, OutOfMemory> {
         output.extend_from_slice(reply.as_bytes())?;
     }
     is_answered(alloc, input, &output)
-}
-
-/// Adds a text so many times.
-fn add_times(bytes: &mut List<u8>, text: &str, times: usize) -> Result<(), OutOfMemory> {
-    for _ in 0..times {
-        bytes.extend_from_slice(text.as_bytes())?;
-    }
-    Ok(())
 }
 
 /// Adds groups with this opener, each in the one before it, behind a text.
@@ -1095,8 +1079,8 @@ fn together(rt: HostRuntime) -> Result<(), Fail> {
 }
 
 #[test]
-fn later(rt: HostRuntime) -> Result<(), Fail> {
-    assert!(rt; are_replied(rt.alloc(), &LATER)?);
+fn classes(rt: HostRuntime) -> Result<(), Fail> {
+    assert!(rt; are_replied(rt.alloc(), &CLASSES)?);
     Ok(())
 }
 

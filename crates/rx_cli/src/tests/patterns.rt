@@ -119,7 +119,7 @@ const UNICODE: [(&str, &str); 34] = [
     ("a\\u{fffffffff}", "err\ttoo_large_number_digits\t4..12"),
 ];
 
-/// Identity escapes, class escapes, backslashes that begin nothing, groups and references that do not stand, and what is not read yet.
+/// Identity escapes, class escapes, backslashes that begin nothing, properties, and groups, classes and references that do not stand.
 const ESCAPES: [(&str, &str); 38] = [
     ("\\^", "ok\tunicode\t\\^"),
     ("\\$", "ok\tunicode\t\\$"),
@@ -150,12 +150,12 @@ const ESCAPES: [(&str, &str); 38] = [
     ("\\1", "err\tinvalid_indexed_reference\t0..2"),
     ("\\9a", "err\tinvalid_indexed_reference\t0..2"),
     ("\\k<a>", "err\tinvalid_named_reference\t0..5"),
-    ("\\p{L}", "later"),
-    ("\\P", "later"),
+    ("\\p{L}", "ok\tunicode\t\\p{L}"),
+    ("\\P", "err\tunterminated_pattern\t0..2"),
     ("a\\2", "err\tinvalid_indexed_reference\t1..3"),
     ("\\\\\\1", "err\tinvalid_indexed_reference\t2..4"),
     ("(", "err\tunterminated_pattern\t0..1"),
-    ("[", "later"),
+    ("[", "err\tunterminated_pattern\t0..1"),
     ("(?:)", "ok\tunicode\t(?:)"),
     ("a*(", "err\tunterminated_pattern\t2..3"),
     ("\\u(", "err\tinvalid_unicode_escape_sequence\t1..2"),

@@ -26,7 +26,7 @@ pub returns-in-Ok : goal.returns-in-Ok
 returns-in-Ok c =
     let request : Request = record { form = c.in-Some.request.form; flags = flags_chars c.in-Some.request.flags; text = chars c.in-Some.request.text.now } in
     let it = c.in-Ok.it in
-    let read : is_not_yet request.form request.text request.flags ≡ false =
+    let read : is_not_yet request.form request.flags ≡ false =
     read_already _ _ _ _ c.in-Ok.ensures.later (λ e. cc) (λ e. cc) in
     on_ok_weaker c.add_ok.result
     (λ added. (
@@ -42,7 +42,7 @@ returns-in-Err-Diagnostic c =
     let request : Request = record { form = c.in-Some.request.form; flags = flags_chars c.in-Some.request.flags; text = chars c.in-Some.request.text.now } in
     let cause = c.in-Err-Diagnostic.cause in
     let is : c.canonical.result ≡ Err (fault.Diagnostic cause) = c.in-Err-Diagnostic.is ∙ ap Err c.in-Err-Diagnostic.field-0-is in
-    let read : is_not_yet request.form request.text request.flags ≡ false =
+    let read : is_not_yet request.form request.flags ≡ false =
     read_already _ _ _ _ c.canonical.ensures.later (λ e. let e' = sym is ∙ e in cc) (λ e. let e' = sym is ∙ e in cc) in
     let P : ℕ → Type 0 = λ n. IsLiteralCause request.text (flags_of request.flags) n c.default-options.result.flags_span_offset cause in
     let Q : ℕ → Type 0 = λ n. IsLiteralCause request.text (flags_of request.flags) 0 n cause in
@@ -55,6 +55,6 @@ returns-in-Err-Diagnostic c =
 pub returns-in-Err-NotYet : goal.returns-in-Err-NotYet
 returns-in-Err-NotYet c =
     let request : Request = record { form = c.in-Some.request.form; flags = flags_chars c.in-Some.request.flags; text = chars c.in-Some.request.text.now } in
-    let not_yet : is_not_yet request.form request.text request.flags ≡ true = c.in-Err-NotYet.ensures.not_yet (ap Err c.in-Err-NotYet.field-0-is) in
+    let not_yet : is_not_yet request.form request.flags ≡ true = c.in-Err-NotYet.ensures.not_yet (ap Err c.in-Err-NotYet.field-0-is) in
     let add = c.add_refusal-in-Err-NotYet in
     on_ok_weaker add.result (λ added. (later_reply, later request c.in-Some.ensures.asked not_yet, added, turned add.new.self.all_ok c.args.self.now.all_ok add.ensures.all_ok)) add.ensures.bytes
