@@ -34,17 +34,17 @@ use Rattle.rx_model.specs.Environment.{Environment, is_unicode}
 use Rattle.rx_model.specs.EscapeCauses.{BeginsProperty, IsEscapeCause, IsPropertyCause, invalid_escape, too_many_hex_digits}
 use Rattle.rx_model.specs.EscapeCauses as cause
 use Rattle.rx_model.specs.EscapeFronts.{EscapeRead, class_escape_at, escape_at, escaped, no_unicode, nothing, too_many}
-use Rattle.rx_model.specs.Escapes.{SpellsEscape, control, front_is, hexadecimal, identity, is_identity_escape, letter, null, unicode}
+use Rattle.rx_model.specs.Escapes.{control, front_is, hexadecimal, identity, letter, null}
 use Rattle.rx_model.specs.PropertyEscapes.{IsProperty, SpellsProperty}
 use Rattle.rx_model.specs.PropertyEscapes as spelled
 use Rattle.rx_model.specs.PropertyForms.{begins_property}
 use Rattle.rx_model.specs.PropertyFronts.{PropertyRead, no_property, property_front, property_read}
 use Rattle.rx_model.specs.Reached.{span_between, text_environment}
 use Rattle.rx_model.specs.Stops.{begins_class_escape, is_hex_digit, is_letter, is_one_of, two_hex_digits}
-use Rattle.rx_model.specs.UnicodeEscapes.{Decodes, PassesHex, SpellsUnicode, hex_number}
+use Rattle.rx_model.specs.UnicodeEscapes.{Decodes, PassesHex, hex_number}
 use Rattle.rx_model.proofs.Backslashes.{class_found}
 use Rattle.rx_model.proofs.Decodings.{both, chosen}
-use Rattle.rx_model.proofs.Escapes.{escape_spelled, spelled_escape, too_many_escape}
+use Rattle.rx_model.proofs.Escapes.{escape_spelled}
 use Rattle.rx_model.proofs.PropertyFronts.{property_text}
 use Rattle.rx_class.specs.declared.class_atom.ClassAtom.{ClassAtom}
 use Rattle.rx_class.specs.declared.class_atom.ClassAtom.TheVariants as atom
@@ -86,12 +86,6 @@ letter_no_b c h = grind (arith, nat_tests)
 
 letter_no_hyphen : (c : ℕ) → begins_property c ≡ true → (c == 45) ≡ false
 letter_no_hyphen c h = grind (arith, nat_tests)
-
-u_no_control : (c v : ℕ) → (c == 117) ≡ true → control_escape_value c ≡ Some v → ⊥
-u_no_control c v h k = grind (arith, nat_tests)
-
-u_no_identity : (c : ℕ) → (c == 117) ≡ true → is_identity_escape c ≡ true → ⊥
-u_no_identity c h k = grind (arith, nat_tests)
 
 u_there : (us : List ℕ) → front_is (λ c. c == 117) us ≡ true → (t : List ℕ) × (us ≡ 117 ∷ t)
 u_there [] h = absurd (let no : ⊥ = cc h in no)
@@ -153,29 +147,6 @@ two_digits a b i j h k = rw (h, k) refl
 module _ (text : List CodePoint) where
   abbrev here : Environment
   here = text_environment Unicode text
-
-  -- With a `u` a character escape is a unicode escape.
-  spells_unicode : (kind : CharacterKind) (v : ℕ) (w more : List ℕ) → SpellsEscape here kind v w more → front_is (λ c. c == 117) (w ++ more) ≡ true → SpellsUnicode true v w more
-  spells_unicode _ v _ more (control {c} h) f = absurd (u_no_control c v f h)
-  spells_unicode _ v _ more (letter h) f = absurd (let no : ⊥ = cc f in no)
-  spells_unicode _ _ _ more (null h) f = absurd (let no : ⊥ = cc f in no)
-  spells_unicode _ v _ more (hexadecimal h) f = absurd (let no : ⊥ = cc f in no)
-  spells_unicode _ v w more (unicode s) f = s
-  spells_unicode _ _ _ more (identity {c} u h) f = absurd (u_no_identity c f h)
-
-  invalid_is_none : (us : List ℕ) → front_is (λ c. c == 117) us ≡ true → ((v n : ℕ) → Decodes true us v n → ⊥) → BeginsNoEscape here us
-  invalid_is_none us f none kind v w more whole s = none v (length w) record {
-    spelled = w;
-    rest = more;
-    spells = spells_unicode kind v w more s (ap (front_is (λ c. c == 117)) (sym whole) ∙ f);
-    whole = whole;
-    count = refl;
-  }
-
-  too_many_is_none : (us : List ℕ) (count : ℕ) → PassesHex us count → BeginsNoEscape here us
-  too_many_is_none us count p kind v w more whole s =
-      let k : too_many count ≡ escaped kind v (length w) = sym (too_many_escape us count p) ∙ ap (escape_at true) whole ∙ spelled_escape here kind v w more s in
-      cc k
 
   -- Where none is spelled none is read.
   unescaped : (us : List ℕ) → BeginsNoEscape here us → (r : EscapeRead) → escape_at true us ≡ r → character_atom r ≡ no_atom
@@ -340,17 +311,17 @@ module _ (added start : ℕ) (old : Reading) (is : IsBehindBackslash old start) 
   escape_refused d after none no_escape cause = answer.refused (λ from at_class place. cause_of_escape (old.place - 1) (from_backslash old) place cause) (not_read none no_escape)
 
   pub character_refused : (d : Diagnostic) (new after : Reading) → BeginsNone (values (rest old)) → GivesCharacter text_here added start old new (Err d) → GivesAtom added (back old) after (Err (fault.Diagnostic d))
-  character_refused _ new after none (given.too_many {span} count passes covers) =
-      escape_refused (TooLargeNumberDigits span Hex) after none (too_many_is_none old.units (values (rest old)) count passes)
+  character_refused _ new after none (given.too_many {span} count passes no_escape covers) =
+      escape_refused (TooLargeNumberDigits span Hex) after none no_escape
       (subst (λ span. IsEscapeCause Unicode old.units old.first added (old.place - 1) (from_backslash old) (TooLargeNumberDigits span Hex)) (sym (from_brace old added count span is.behind covers))
       (too_many_hex_digits count (values (rest old)) refl from_backslash_values passes))
-  character_refused _ new after none (given.invalid {span} u no_value no_limit covers) =
+  character_refused _ new after none (given.invalid {span} u no_value no_limit no_escape covers) =
       let t = u_there (values (rest old)) u in
       let at : span ≡ span_between old.units old.first added (old.place - 1 + 1) (old.place - 1 + 2) =
       covers
       ∙ ap (λ place. span_between old.units old.first added place (old.place + 1)) (let k : old.place ≡ old.place - 1 + 1 = omega (arith, is.behind) in k)
       ∙ ap (span_between old.units old.first added (old.place - 1 + 1)) (let k : old.place + 1 ≡ old.place - 1 + 2 = omega (arith, is.behind) in k) in
-      escape_refused (InvalidUnicodeEscapeSequence span) after none (invalid_is_none old.units (values (rest old)) u no_value)
+      escape_refused (InvalidUnicodeEscapeSequence span) after none no_escape
       (subst (λ span. IsEscapeCause Unicode old.units old.first added (old.place - 1) (from_backslash old) (InvalidUnicodeEscapeSequence span)) (sym at)
       (invalid_escape t.0 refl (from_backslash_values ∙ ap (λ us. 92 ∷ us) t.1) (subst (λ us. (v n : ℕ) → Decodes true us v n → ⊥) t.1 no_value) (subst (λ us. (count : ℕ) → PassesHex us count → ⊥) t.1 no_limit)))
 

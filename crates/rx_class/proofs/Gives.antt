@@ -5,6 +5,7 @@ use Rattle.rx_base.specs.declared.diagnostic.Diagnostic.TheVariants.{TooLargeNum
 use Rattle.rx_base.specs.declared.diagnostic.kinds.DigitsKind.TheVariants.{Hex}
 use Rattle.rx_base.specs.declared.span.Span.{Span}
 use Rattle.rx_ast.specs.declared.leaf.Character.{Character}
+use Rattle.rx_ast.specs.declared.leaf.CharacterKind.{CharacterKind}
 use Rattle.rx_units.specs.declared.code_point.CodePoint.{CodePoint}
 use Rattle.rx_units.specs.Reading.{Reading, moved, offset_of, rest}
 use Rattle.rx_units.specs.Units.{values}
@@ -60,16 +61,13 @@ module _ (e : Environment) (unicode : is_unicode e.mode ≡ true) (added start :
       (subst (λ w. SpellsEscape e it.kind it.value found.spelled w) (sym split.back_is) found.spells) in
       some split.front split.back split.whole spells (escape_small e it.kind it.value n (values (rest old)) here) span (is ∙ ap (λ n. moved n old) count)
 
-  begins_no_escape : escape_at true (values (rest old)) ≡ nothing → BeginsNoEscape e (values (rest old))
-  begins_no_escape read kind v w more whole spells =
-      let f = spelled_escape e kind v w more spells in
-      let g = ap (λ m. escape_at m (w ++ more)) unicode in
-      let h = ap (escape_at true) whole in
-      let no : nothing ≡ escaped kind v (length w) = sym read ∙ h ∙ sym g ∙ f in
-      cc no
+  -- Where no character is read none is spelled.
+  begins_no_escape : (read : EscapeRead) → escape_at true (values (rest old)) ≡ read → ((kind : CharacterKind) (v n : ℕ) → read ≡ escaped kind v n → ⊥) → BeginsNoEscape e (values (rest old))
+  begins_no_escape read here no_character kind v w more whole spells =
+      no_character kind v (length w) (sym here ∙ ap (escape_at true) whole ∙ sym (ap (λ m. escape_at m (w ++ more)) unicode) ∙ spelled_escape e kind v w more spells)
 
   pub nothing_gives : escape_at true (values (rest old)) ≡ nothing → GivesCharacter e added start old old (Ok None)
-  nothing_gives read = none refl (begins_no_escape read) (escape_nothing (values (rest old)) read)
+  nothing_gives read = none refl (begins_no_escape nothing read (λ kind v n h. let no : nothing ≡ escaped kind v n = h in cc no)) (escape_nothing (values (rest old)) read)
 
   pub too_many_gives : (count : ℕ) (behind new : Reading) (span : Span) → escape_at true (values (rest old)) ≡ fronts.too_many count → count + 2 ≤ length (rest old)
       → behind ≡ moved 2 old → span ≡ span_between behind.units behind.first added behind.place (behind.place + count)
@@ -77,13 +75,15 @@ module _ (e : Environment) (unicode : is_unicode e.mode ≡ true) (added start :
   too_many_gives count behind new span read within is covers =
       let on = ap (λ (r : Reading). span_between r.units r.first added r.place (r.place + count)) is in
       let place = ap (λ place. span_between old.units old.first added place (place + count)) (moved_within 2 old (omega arith) (omega arith)) in
-      too_many count (escape_too_many (values (rest old)) count read) (covers ∙ on ∙ place)
+      too_many count (escape_too_many (values (rest old)) count read)
+      (begins_no_escape (fronts.too_many count) read (λ kind v n h. let no : fronts.too_many count ≡ escaped kind v n = h in cc no)) (covers ∙ on ∙ place)
 
   pub invalid_gives : (new : Reading) (span : Span) → escape_at true (values (rest old)) ≡ no_unicode
       → span ≡ span_between old.units old.first added old.place (old.place + 1) → GivesCharacter e added start old new (Err (InvalidUnicodeEscapeSequence span))
   invalid_gives new span read covers =
       let no = escape_no_unicode (values (rest old)) read in
-      invalid (ap (front_is (λ c. c == 117)) no.whole) no.no_value no.no_limit covers
+      invalid (ap (front_is (λ c. c == 117)) no.whole) no.no_value no.no_limit
+      (begins_no_escape no_unicode read (λ kind v n h. let bad : no_unicode ≡ escaped kind v n = h in cc bad)) covers
 
 -- flag `v` goes with unicode mode
 pub unicode_by : (u v : Bool) → u ≡ true → is_unicode (mode_by u v) ≡ true

@@ -45,12 +45,12 @@ pub data GivesCharacter (e : Environment) (added start : ℕ) (old new : Reading
       → it.span ≡ span_to added start new → new ≡ moved (length w) old → GivesCharacter e added start old new (Ok (Some it))
   -- none stands, nor the `u` of one, and the reader stays
   none : new ≡ old → BeginsNoEscape e (values (rest old)) → front_is (λ c. c == 117) (values (rest old)) ≡ false → GivesCharacter e added start old new (Ok None)
-  -- digits in braces pass 32 bits: the span is that of those that do not
-  too_many : {span : Span} (count : ℕ) → PassesHex (values (rest old)) count → span ≡ span_between old.units old.first added (old.place + 2) (old.place + 2 + count)
+  -- none is spelled, since digits in braces pass 32 bits: the span is that of those that do not
+  too_many : {span : Span} (count : ℕ) → PassesHex (values (rest old)) count → BeginsNoEscape e (values (rest old)) → span ≡ span_between old.units old.first added (old.place + 2) (old.place + 2 + count)
       → GivesCharacter e added start old new (Err (TooLargeNumberDigits span Hex))
-  -- `u` begins no unicode escape: the span is that of the `u`
+  -- none is spelled, since `u` begins no unicode escape: the span is that of the `u`
   invalid : {span : Span} → front_is (λ c. c == 117) (values (rest old)) ≡ true → ((value count : ℕ) → Decodes true (values (rest old)) value count → ⊥)
-      → ((count : ℕ) → PassesHex (values (rest old)) count → ⊥) → span ≡ span_between old.units old.first added old.place (old.place + 1)
+      → ((count : ℕ) → PassesHex (values (rest old)) count → ⊥) → BeginsNoEscape e (values (rest old)) → span ≡ span_between old.units old.first added old.place (old.place + 1)
       → GivesCharacter e added start old new (Err (InvalidUnicodeEscapeSequence span))
 
 -- What stands at the reader's place is answered as a class escape (CharacterClassEscape, 22.2.1) that names no property.
