@@ -1,5 +1,5 @@
 -- What the canonical spelling of a pattern is, as the text of a literal: it is read, as a tree that is equal but for spans and character kinds.
-use Rattle.std.proofs.Common.{◌≡◌, ◌≢◌, ℕ, true, false, not, ◌&&◌, ◌⊎◌, inl, inr, ap, sym, ◌∙◌, subst, List, [], Option, Result, Ok, Err, IfOk, IfErr, IsTrue}
+use Rattle.std.proofs.Common.{◌≡◌, ◌≢◌, ℕ, true, ◌⊎◌, sym, ◌∙◌, subst, List, [], Option, Result, Err, IfOk, IfErr, IsTrue}
 use Rattle.std.proofs.lemmas.Result.{IfOk-weaker}
 use Rattle.rx_base.specs.declared.fault.Fault.{Fault}
 use Rattle.rx_base.specs.declared.fault.Fault.TheVariants.{OutOfMemory, NotYet}
@@ -13,7 +13,8 @@ use Rattle.rx_model.specs.Flags.{flags_of, flags_ok, mode_of}
 use Rattle.rx_model.specs.Reading.{IsOnly, IsValid, Reads, units_of}
 use Rattle.rx_model.specs.Spelling.{spelling}
 use Rattle.rx_model.proofs.ReadBacks.{spelled_is_read_back}
-use Rattle.rx_parser.specs.NotYet.{is_read, is_unread_literal}
+use Rattle.rx_parser.proofs.Literals.{memory_alone}
+use Rattle.rx_parser.specs.NotYet.{is_unread_literal}
 
 -- The text of a literal is read, as a tree that is equal to the pattern but for spans and character kinds.
 pub record IsAgain (text : List ℕ) (p : Pattern) : Type 0 where
@@ -42,25 +43,15 @@ module _ (text : List ℕ) (flags : Option (List ℕ)) (p : Pattern) (it : IsAga
   unfolding its_mode
   its_valid = record { flags_are = ok; pattern = it.pattern; reads = its_reads }
 
-  its_read : is_unread_literal flags ≡ false
-  its_read = ap (λ b. b && not (is_read (mode_of (flags_of flags)))) ok ∙ ap (λ mode. not (is_read mode)) m
-
   -- Where the tree that is read is the only one, it is the pattern.
   pub tree_again : (r : Result Pattern Fault) → IfOk r (λ q. IsOnly (mode_of (flags_of flags)) q (units_of (mode_of (flags_of flags)) text)) → IfOk r (λ q. bare q ≡ bare p)
   unfolding its_mode
   tree_again r only = IfOk-weaker r _ (λ q. bare q ≡ bare p) (λ q one. sym (unspanned_bare it.pattern q (one it.pattern its_reads)) ∙ it.same) only
 
-  not_unread : {A : Type 0} → is_unread_literal flags ≡ true → A
-  not_unread h = let k : false ≡ true = sym its_read ∙ h in cc k
-
   -- The fault is that memory is wanting.
   pub fault_again : (r : Result Pattern Fault) → (IsValid text flags → IfErr r (λ fault. (fault ≡ OutOfMemory) ⊎ (fault ≡ NotYet)))
       → (r ≡ Err NotYet → IsTrue (is_unread_literal flags)) → IfErr r (λ fault. fault ≡ OutOfMemory)
-  fault_again (Ok q) complete not_yet = tt
-  fault_again (Err fault) complete not_yet = elim (complete its_valid) [
-    | inl memory ↦ memory
-    | inr unread ↦ not_unread (not_yet (ap Err unread))
-  ]
+  fault_again r complete not_yet = memory_alone text flags r complete not_yet its_valid m
 
 -- What a parse says of a canonical spelling, by what it says of every text.
 pub read_again : (text : List ℕ) (flags : Option (List ℕ)) (r : Result Pattern Fault)

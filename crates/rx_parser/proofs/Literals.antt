@@ -1,5 +1,5 @@
 -- What the parse of a literal's units says of its text and flags.
-use Rattle.std.proofs.Common.{◌≡◌, refl, ap, sym, ◌∙◌, subst, ℕ, Bool, true, false, ◌⊎◌, inl, List, Option, Result, Err, IfOk, IsErrAnd, OnOk}
+use Rattle.std.proofs.Common.{◌≡◌, refl, ap, sym, ◌∙◌, subst, ℕ, Bool, true, false, not, ◌&&◌, ◌⊎◌, inl, inr, List, Option, Result, Ok, Err, IfErr, IfOk, IsErrAnd, IsTrue, OnOk}
 use Rattle.std.proofs.lemmas.Bool.{and_from, and_parts, not-true, not_from_false}
 use Rattle.std.proofs.lemmas.Result.{IfOk-weaker, err_from_is_err_and}
 use Rattle.rx_ast.specs.declared.term.Pattern.{Pattern}
@@ -9,6 +9,7 @@ use Rattle.rx_base.specs.declared.fault.Fault.TheVariants as fault
 use Rattle.rx_units.specs.declared.code_point.CodePoint.{CodePoint}
 use Rattle.rx_units.specs.Units.{literal_units}
 use Rattle.rx_model.specs.declared.mode.Mode.{Mode}
+use Rattle.rx_model.specs.declared.mode.Mode.TheVariants.{Unicode}
 use Rattle.rx_model.specs.Environment.{is_unicode}
 use Rattle.rx_model.specs.Flags.{flags_of, flags_ok, mode_of, modes_of}
 use Rattle.rx_model.specs.Modes.{mode_by}
@@ -83,3 +84,18 @@ module _ (flags : Option (List ℕ)) (mode : Mode) (same : mode ≡ mode_of (fla
   -- and only those
   pub mode_of_unread : is_unread_literal flags ≡ true → is_read mode ≡ false
   mode_of_unread unread = ap is_read same ∙ not-true _ (and_parts _ _ unread).1
+
+-- a literal of the mode of `u` is read
+unicode_is_read : (flags : Option (List ℕ)) → flags_ok (flags_of flags) ≡ true → mode_of (flags_of flags) ≡ Unicode → is_unread_literal flags ≡ false
+unicode_is_read flags ok m = ap (λ b. b && not (is_read (mode_of (flags_of flags)))) ok ∙ ap (λ mode. not (is_read mode)) m
+
+-- so that of its faults on valid input only want of memory is left
+pub memory_alone : (text : List ℕ) (flags : Option (List ℕ)) (r : Result Pattern Fault) → (IsValid text flags → IfErr r (λ fault. (fault ≡ OutOfMemory) ⊎ (fault ≡ NotYet)))
+    → (r ≡ Err NotYet → IsTrue (is_unread_literal flags)) → IsValid text flags → mode_of (flags_of flags) ≡ Unicode → IfErr r (λ fault. fault ≡ OutOfMemory)
+memory_alone text flags (Ok q) complete not_yet valid m = tt
+memory_alone text flags (Err fault) complete not_yet valid m = elim (complete valid) [
+  | inl memory ↦ memory
+  | inr unread ↦
+      let k : false ≡ true = sym (unicode_is_read flags valid.flags_are m) ∙ not_yet (ap Err unread) in
+      absurd (let no : ⊥ = cc k in no)
+]

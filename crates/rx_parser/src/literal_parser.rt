@@ -71,6 +71,10 @@ impl<'a> LiteralParser<'a> {
         ensures complete { IsValid (chars self.entry.pattern_text.now) (flags_chars self.entry.flags_text)
             → IfErr result (λ fault. (fault ≡ Fault.OutOfMemory) ⊎ (fault ≡ Fault.NotYet)) }
 
+        // Where the flags give the mode of `u` every text is read: on valid input the answer is Ok, or memory is wanting.
+        ensures unicode { IsValid (chars self.entry.pattern_text.now) (flags_chars self.entry.flags_text) → mode_of (flags_of (flags_chars self.entry.flags_text)) ≡ Unicode
+            → IfErr result (λ fault. fault ≡ Fault.OutOfMemory) }
+
         // A refusal has its cause: that of the flags, or where they are right that of the text.
         ensures refused { (cause : Refusal) → result ≡ Err (Fault.Diagnostic cause)
             → IsLiteralCause (chars self.entry.pattern_text.now) (flags_of (flags_chars self.entry.flags_text)) self.entry.options.pattern_span_offset self.entry.options.flags_span_offset cause }

@@ -62,6 +62,10 @@ pub fn canonical(
     ensures complete { IsValid (chars pattern_text.now) (flags_chars flags_text.entry)
         → IfErr result (λ fault. (fault ≡ Fault.OutOfMemory) ⊎ (fault ≡ Fault.NotYet)) }
 
+    // Of a literal whose flags give the mode of `u` every text is read: on valid input the answer is Ok, or memory is wanting.
+    ensures unicode { form ≡ Form.Literal → IsValid (chars pattern_text.now) (flags_chars flags_text.entry) → mode_of (flags_of (flags_chars flags_text.entry)) ≡ Mode.Unicode
+        → IfErr result (λ fault. fault ≡ Fault.OutOfMemory) }
+
     // A refusal has its cause, of the flags or of the text. "Not yet" comes exactly where its form or mode is not read yet, or memory is wanting.
     ensures refused { (cause : Refusal) → result ≡ Err (Fault.Diagnostic cause)
         → IsLiteralCause (chars pattern_text.now) (flags_of (flags_chars flags_text.entry)) options.pattern_span_offset options.flags_span_offset cause }

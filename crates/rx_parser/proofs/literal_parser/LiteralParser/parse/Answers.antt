@@ -13,7 +13,7 @@ use Rattle.rx_parser.specs.Literals.{flags_chars}
 use Rattle.rx_parser.specs.NotYet.{is_unread_literal}
 use Rattle.rx_parser.specs.Parsing.{mode_of_state}
 use Rattle.rx_parser.proofs.Agains.{read_again}
-use Rattle.rx_parser.proofs.Literals.{fault_of_valid, fault_of_unread, passed_on, mode_is, units_are, only_by, reads_by, spanned_by, valid_by, unread_by_mode, mode_of_unread}
+use Rattle.rx_parser.proofs.Literals.{fault_of_valid, memory_alone, fault_of_unread, passed_on, mode_is, units_are, only_by, reads_by, spanned_by, valid_by, unread_by_mode, mode_of_unread}
 use Rattle.rx_class.proofs.TextFits.{text_fits}
 use Rattle.rx_parser.proofs.literal_parser.LiteralParser.parse.Goals as goal
 
@@ -96,3 +96,17 @@ returns-clause-again c =
     let flags = flags_chars c.args.self.flags_text in
     let complete : IsValid text flags → IfErr c.parse.result (λ fault. (fault ≡ OutOfMemory) ⊎ (fault ≡ NotYet)) = search rules in
     read_again text flags c.parse.result (returns-clause-only c) complete (returns-clause-not_yet c)
+
+pub returns-in_err-modes-clause-unicode : goal.returns-in_err-modes-clause-unicode
+returns-in_err-modes-clause-unicode c =
+    let text = chars c.args.self.pattern_text.now in
+    let flags = flags_chars c.args.self.flags_text in
+    let not_yet : c.from_residual.result ≡ Err NotYet → IsTrue (is_unread_literal flags) = search rules in
+    memory_alone text flags c.from_residual.result (returns-in_err-modes-clause-complete c) not_yet
+
+pub returns-clause-unicode : goal.returns-clause-unicode
+returns-clause-unicode c =
+    let text = chars c.args.self.pattern_text.now in
+    let flags = flags_chars c.args.self.flags_text in
+    let complete : IsValid text flags → IfErr c.parse.result (λ fault. (fault ≡ OutOfMemory) ⊎ (fault ≡ NotYet)) = search rules in
+    memory_alone text flags c.parse.result complete (returns-clause-not_yet c)
