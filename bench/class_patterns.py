@@ -7,12 +7,11 @@ PROGRAM is crates/rx_cli/out/rx_cli where it is not given; `./regexp </dev/null`
 """
 import os
 import random
-import subprocess
 import sys
-import tempfile
-import time
 
-HERE = os.path.dirname(os.path.abspath(__file__))
+sys.dont_write_bytecode = True
+from flat_patterns import HERE, seconds
+
 COUNT = 100_000
 ITEMS = ["a", "é", "😀", r"\d", r"\W", r"\n", r"\x41", r"\u{1F600}", r"\]", r"\-", "a-z", "0-9", r"\x20-\x7E", "α-ω", r"\p{L}", r"\P{Lu}", r"\p{sc=Greek}"]
 OTHERS = ["a", ".", r"\d+", "(b|c)", r"\p{L}+", r"\P{ASCII}", r"\p{Script=Latin}", r"\p{Alphabetic}*"]
@@ -24,21 +23,6 @@ def some_class(source, items):
 
 def pattern(source):
     return "".join(some_class(source, source.randint(0, 6)) if source.random() < 0.5 else source.choice(OTHERS) for _ in range(source.randint(1, 8)))
-
-
-def seconds(program, lines):
-    """The least of three runs, and the status."""
-    with tempfile.NamedTemporaryFile() as it:
-        it.write(lines)
-        it.flush()
-        best, status = None, 0
-        for _ in range(3):
-            with open(it.name, "rb") as given, open(os.devnull, "wb") as out:
-                began = time.perf_counter()
-                status = subprocess.run([program], stdin=given, stdout=out).returncode
-                took = time.perf_counter() - began
-            best = took if best is None else min(best, took)
-        return best, status
 
 
 def main():
