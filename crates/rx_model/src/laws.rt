@@ -1,19 +1,53 @@
 //! Laws of the definitions. The functions do nothing: each contract is a law.
 
-ghost use Rattle.std.specs.Prelude.{◌≡◌, ◌≢◌, List, [], ◌++◌};
+ghost use Rattle.std.specs.Prelude.{◌≡◌, ◌≢◌, ◌==◌, ◌&&◌, ◌⊎◌, false, true, ℕ, List, [], ◌∷◌, ◌++◌, Result, ◌↔◌, Bool, Option, Some, ◌+◌, length};
+ghost use Rattle.rx_base.specs.declared.diagnostic.Diagnostic.{Diagnostic};
+ghost use Rattle.rx_base.specs.declared.fault.Fault.{Fault};
+ghost use Rattle.rx_base.specs.declared.diagnostic.Diagnostic.TheVariants.{CharacterClassRangeInvalidAtom, InvalidBracedQuantifier, InvalidExtendedAtomEscape};
+ghost use Rattle.rx_base.specs.declared.span.Span.{Span};
+ghost use Rattle.rx_ast.specs.ClassTree.{Class};
 ghost use Rattle.rx_ast.specs.Forget.{bare, unspanned};
 ghost use Rattle.rx_ast.specs.declared.term.Pattern.{Pattern};
 ghost use Rattle.rx_units.specs.declared.code_point.CodePoint.{CodePoint};
+ghost use Rattle.rx_units.specs.Units.{values};
 ghost use Rattle.rx_model.specs.declared.mode.Mode.{Mode};
-ghost use Rattle.rx_model.specs.Cuts.{IsCut, TellsApart, TellsGroups};
-ghost use Rattle.rx_model.specs.Environment.{Environment, is_unicode};
-ghost use Rattle.rx_model.specs.declared.mode.Mode.TheVariants.{Unicode};
-ghost use Rattle.rx_model.specs.OneLine.{IsOneLine};
-ghost use Rattle.rx_model.specs.ReadBack.{IsReadBack};
-ghost use Rattle.rx_model.specs.Reading.{IsSpelled, Reads};
-ghost use Rattle.rx_model.specs.Rows.{Spells, TokenRow};
-ghost use Rattle.rx_model.specs.Spelling.{spelling};
-ghost use Rattle.rx_model.specs.Token.{Token};
+ghost use Rattle.rx_model.specs.Trees.Bodies.{AreQuantified, BeginsWithQuantifier, BeginsWithoutQuantifier};
+ghost use Rattle.rx_model.specs.Refusals.Causes.{IsCause, IsCauseAtPlace};
+ghost use Rattle.rx_model.specs.Refusals.ClassCauses.{IsClassCause};
+ghost use Rattle.rx_model.specs.Classes.ClassRows.{ClassTokenRow, IsClass, Place, outside, SpellsAtom};
+ghost use Rattle.rx_model.specs.Classes.ClassTokens.{ClassToken, class_tokens};
+ghost use Rattle.rx_model.specs.Classes.ClassContents.{AreContents, Thing, held_after};
+ghost use Rattle.rx_model.specs.Classes.ClassRuns.{Held, empty, is_whole, class_opened};
+ghost use Rattle.rx_model.specs.Refusals.ClassPlaces.{IsAtomPlace};
+ghost use Rattle.rx_model.specs.Classes.ClassShapes.{IsFitting, IsFlagged};
+ghost use Rattle.rx_model.specs.Classes.ClassTokens.{Atom, ClassToken, class_tokens};
+ghost use Rattle.rx_model.specs.FirstPass.Cuts.{IsCut, TellsApart, TellsGroups};
+ghost use Rattle.rx_model.specs.Trees.Early.{IsEarlyClass};
+ghost use Rattle.rx_model.specs.Inputs.Environment.{Environment, environment, is_unicode};
+ghost use Rattle.rx_model.specs.declared.mode.Mode.TheVariants.{Legacy, Unicode};
+ghost use Rattle.rx_model.specs.Refusals.Firsts.{IsCauseOfEscape, IsFirst, IsFirstInClass, IsFirstOfEscape, NoneBeyond, NoneBeyondInClass};
+ghost use Rattle.rx_model.specs.Inputs.Flags.{flags_of, flags_ok, holds};
+ghost use Rattle.rx_model.specs.Reading.Headline.{IsFirstRefusal, IsParsed, IsSameAgain};
+ghost use Rattle.rx_model.specs.Inputs.Inputs.{Input, mode_asked};
+ghost use Rattle.rx_model.specs.Groups.GroupNames.{BeginsWithName, SpellsName};
+ghost use Rattle.rx_model.specs.Reading.Prefixes.{GoesOn, GoesOnInClass};
+ghost use Rattle.rx_model.specs.Refusals.Reached.{IsPlace, text_environment};
+ghost use Rattle.rx_model.specs.Trees.Events.{tokens};
+ghost use Rattle.rx_model.specs.Refusals.FlagCauses.{IsFlagCause};
+ghost use Rattle.rx_model.specs.Inputs.Flags.{flags_ok};
+ghost use Rattle.rx_model.specs.FirstPass.Marks.{starts};
+ghost use Rattle.rx_model.specs.Spelling.OneLine.{IsOneLine};
+ghost use Rattle.rx_model.specs.Trees.OpenGroups.{AreOpen, EndsQuantifiable};
+ghost use Rattle.rx_model.specs.Spelling.ReadBack.{AreCodeUnits, IsReadBack};
+ghost use Rattle.rx_model.specs.Reading.Reading.{IsSpelled, Reads};
+ghost use Rattle.rx_model.specs.Reading.Rows.{Spells, TokenRow};
+ghost use Rattle.rx_model.specs.Reading.Sequences.{ElementRow, ElementsGoOn};
+ghost use Rattle.rx_model.specs.Spelling.Spelling.{spelling};
+ghost use Rattle.rx_model.specs.Refusals.Stops.{IsStop, begins_class_escape};
+ghost use Rattle.rx_model.specs.Trees.Shapes.{IsWellMade, run};
+ghost use Rattle.rx_model.specs.Trees.Token.{Opener, Token, quantifier};
+
+use crate::sequence::{ClassTokens, ElementKind, NameCharacters, PatternTokens};
 
 /// Two patterns that one text reads as are equal but for spans.
 pub fn unique_reading()
@@ -23,6 +57,82 @@ pub fn unique_reading()
 /// The tokens that a text begins with are the first of all its tokens, and the others follow them.
 pub fn one_row()
     ensures { (e : Environment) (ts ss : List Token) (us rest : List CodePoint) → TokenRow e ts us rest → TokenRow e ss us [] → (more : List Token) × (ss ≡ ts ++ more) × TokenRow e more rest [] }
+{}
+
+/// Two rows of tokens that one text begins with are prefixes of one another, whatever they leave.
+pub fn row_prefixes()
+    ensures { (e : Environment) (ts ss : List Token) (us a b : List CodePoint) → TokenRow e ts us a → TokenRow e ss us b → GoesOn e ts a ss b ⊎ GoesOn e ss b ts a }
+{}
+
+/// The same of the tokens of a class, from one place of it.
+pub fn class_row_prefixes()
+    ensures { (e : Environment) (ts ss : List ClassToken) (q : Place) (us : List CodePoint) (r : Place) (a : List CodePoint) (p : Place) (b : List CodePoint) →
+        ClassTokenRow e ts q us r a → ClassTokenRow e ss q us p b → GoesOnInClass e ts r a ss p b ⊎ GoesOnInClass e ss p b ts r a }
+{}
+
+/// No tree reads a text that is refused.
+pub fn refused()
+    ensures { (us : List CodePoint) (start added : ℕ) (d : Diagnostic) → IsCause Unicode us start added d → (p : Pattern) → Reads Unicode p us → ⊥ }
+{}
+
+/// No place is reached beyond one at which a refusal holds.
+pub fn none_beyond()
+    ensures { (us : List CodePoint) (start added place : ℕ) (d : Diagnostic) → IsCauseAtPlace Unicode us start added place d → NoneBeyond Unicode us place }
+{}
+
+/// In a class that is refused no item can begin beyond that place, and no place beyond the class's bracket is reached.
+pub fn none_beyond_in_class()
+    ensures { (us : List CodePoint) (start added from : ℕ) (at_class : List CodePoint) (place : ℕ) (d : Diagnostic) → IsClassCause Unicode us start added from at_class place d →
+        NoneBeyondInClass (text_environment Unicode us) from at_class place × (IsPlace Unicode us from at_class → NoneBeyond Unicode us from) }
+{}
+
+/// At most one refusal holds of a text, with its spans and what it says.
+pub fn one_cause()
+    ensures { (us : List CodePoint) (start added : ℕ) (d e : Diagnostic) → IsCause Unicode us start added d → IsCause Unicode us start added e → d ≡ e }
+{}
+
+/// A refusal that holds is the first of its text.
+pub fn cause_is_first()
+    ensures { (us : List CodePoint) (start added : ℕ) (d : Diagnostic) → IsCause Unicode us start added d → IsFirst Unicode us start added d }
+{}
+
+/// At most one refusal holds at places, and it holds at one place.
+pub fn one_place()
+    ensures { (us : List CodePoint) (start added f g : ℕ) (d e : Diagnostic) → IsCauseAtPlace Unicode us start added f d → IsCauseAtPlace Unicode us start added g e → (f ≡ g) × (d ≡ e) }
+{}
+
+/// At most one refusal is the first of a text.
+pub fn one_first()
+    ensures { (us : List CodePoint) (start added : ℕ) (d e : Diagnostic) → IsFirst Unicode us start added d → IsFirst Unicode us start added e → d ≡ e }
+{}
+
+/// At most one refusal is the first of an input whose flags hold `u`, be they right or not.
+pub fn one_refusal()
+    ensures { (input : Input) (d e : Diagnostic) → holds (flags_of input.flags) 117 ≡ true → IsFirstRefusal input d → IsFirstRefusal input e → d ≡ e }
+{}
+
+/// At most one refusal holds in a class, and at one place of it.
+pub fn one_in_class()
+    ensures { (us : List CodePoint) (start added from : ℕ) (at_class : List CodePoint) (f g : ℕ) (d e : Diagnostic) →
+        IsClassCause Unicode us start added from at_class f d → IsClassCause Unicode us start added from at_class g e → (f ≡ g) × (d ≡ e) }
+{}
+
+/// A refusal that holds in a class is the first of that class.
+pub fn class_cause_is_first()
+    ensures { (us : List CodePoint) (start added from : ℕ) (at_class : List CodePoint) (place : ℕ) (d : Diagnostic) →
+        IsClassCause Unicode us start added from at_class place d → IsFirstInClass Unicode us start added from at_class d }
+{}
+
+/// At most one refusal holds of the escape of a character or of a property that is to stand at a place.
+pub fn one_of_escape()
+    ensures { (mode : Mode) → is_unicode mode ≡ true → (us : List CodePoint) (start added place : ℕ) (rest : List CodePoint) (f g : ℕ) (d e : Diagnostic) →
+        IsCauseOfEscape mode us start added place rest f d → IsCauseOfEscape mode us start added place rest g e → (f ≡ g) × (d ≡ e) }
+{}
+
+/// A refusal that holds of such an escape is the first of it.
+pub fn escape_cause_is_first()
+    ensures { (mode : Mode) → is_unicode mode ≡ true → (us : List CodePoint) (start added place : ℕ) (rest : List CodePoint) (f : ℕ) (d : Diagnostic) →
+        IsCauseOfEscape mode us start added place rest f d → IsFirstOfEscape mode us start added place rest d }
 {}
 
 /// Each token is a whole row of marks, whatever the environment, so that the first pass of a text (CountLeftCapturingParensWithin of ECMA-262, 22.2.1.2)
@@ -49,4 +159,155 @@ pub fn one_line()
 /// The canonical spelling of a pattern, with `u`, reads as a pattern that is equal but for spans and character kinds.
 pub fn read_back()
     ensures { (p : Pattern) (us : List CodePoint) → Reads Unicode p us → us ≢ [] → IsReadBack Unicode p }
+{}
+
+/// With neither `u` nor `v` the canonical spelling of a pattern that UTF-16 code units spell is one line too.
+pub fn legacy_one_line()
+    ensures { (p : Pattern) (us : List CodePoint) → Reads Legacy p us → AreCodeUnits us → us ≢ [] → IsOneLine (spelling (bare p) Legacy) }
+{}
+
+/// With neither `u` nor `v` it reads as such a pattern too: each unit of a text is a UTF-16 code unit then, and a name combines a lead and a trail.
+pub fn legacy_read_back()
+    ensures { (p : Pattern) (us : List CodePoint) → Reads Legacy p us → AreCodeUnits us → us ≢ [] → IsReadBack Legacy p }
+{}
+
+/// Whatever a parser answers to the canonical spelling of a pattern, with `u`, is that pattern, but for spans and character kinds, or want of memory.
+pub fn again()
+    ensures { (input : Input) (answer : Result Pattern Fault) → IsParsed (λ p. p) input answer → (p : Pattern) (us : List CodePoint) → Reads Unicode p us → us ≢ []
+        → input.text ≡ spelling (bare p) Unicode → flags_ok (flags_of input.flags) ≡ true → mode_asked input ≡ Unicode → IsSameAgain p answer }
+{}
+
+/// With neither `u` nor `v` some token begins at each backslash that does not end the text, but at one before a `k` where `\k` is a reference.
+pub fn legacy_backslash()
+    ensures { (e : Environment) (u v : CodePoint) (us : List CodePoint) → is_unicode e.mode ≡ false → u.value ≡ 92 → (v.value == 107 && e.named) ≡ false →
+        (t : Token) × (w : List CodePoint) × (rest : List CodePoint) × (u ∷ v ∷ us ≡ w ++ rest) × Spells e t w rest }
+{}
+
+/// Of one text at most one list of elements of a kind ends before a stop, and it is the longest: each list that the text begins with is a front part of it. Of two
+/// lists that one text begins with one is a front part of the other, whatever they leave; they are one where they leave the same.
+pub fn sequence<S: ElementKind>()
+    ensures one { (e : S.Surroundings) (ts ss : List S.Element) (q : S.Place) (us : List S.TextUnit) (r : S.Place) (a : List S.TextUnit) (p : S.Place) (b : List S.TextUnit) →
+        ElementRow (S.spells e) (S.behind e) ts q us r a → S.is_stop e r a → ElementRow (S.spells e) (S.behind e) ss q us p b → S.is_stop e p b → (ts ≡ ss) × (r ≡ p) × (a ≡ b) }
+    ensures longest { (e : S.Surroundings) (ts ss : List S.Element) (q : S.Place) (us : List S.TextUnit) (r : S.Place) (a : List S.TextUnit) (p : S.Place) (b : List S.TextUnit) →
+        ElementRow (S.spells e) (S.behind e) ts q us r a → S.is_stop e r a → ElementRow (S.spells e) (S.behind e) ss q us p b → ElementsGoOn (S.spells e) (S.behind e) ss p b ts r a }
+    ensures prefixes { (e : S.Surroundings) (ts ss : List S.Element) (q : S.Place) (us : List S.TextUnit) (r : S.Place) (a : List S.TextUnit) (p : S.Place) (b : List S.TextUnit) →
+        ElementRow (S.spells e) (S.behind e) ts q us r a → ElementRow (S.spells e) (S.behind e) ss q us p b →
+        ElementsGoOn (S.spells e) (S.behind e) ts r a ss p b ⊎ ElementsGoOn (S.spells e) (S.behind e) ss p b ts r a }
+    ensures one_between { (e : S.Surroundings) (ts ss : List S.Element) (q : S.Place) (us : List S.TextUnit) (r p : S.Place) (rest : List S.TextUnit) →
+        ElementRow (S.spells e) (S.behind e) ts q us r rest → ElementRow (S.spells e) (S.behind e) ss q us p rest → (ts ≡ ss) × (r ≡ p) }
+{
+    S::some_units();
+    S::one_front();
+    S::none_at_stop();
+}
+
+/// Rows of tokens and the characters of a name are lists of elements, and so are the tokens of a class, which end before a stop.
+pub fn elements()
+    ensures tokens { (e : Environment) (ts : List Token) (us rest : List CodePoint) →
+        TokenRow e ts us rest ↔ ElementRow (⟦<PatternTokens as ElementKind>⟧.spells e) (⟦<PatternTokens as ElementKind>⟧.behind e) ts tt us tt rest }
+    ensures class_tokens { (e : Environment) (c : Class) (w rest : List CodePoint) → IsClass e c w rest →
+        (q : Option Place) × ⟦<ClassTokens as ElementKind>⟧.is_stop e q rest ×
+        ElementRow (⟦<ClassTokens as ElementKind>⟧.spells e) (⟦<ClassTokens as ElementKind>⟧.behind e) (class_tokens c) (Some outside) (w ++ rest) q rest }
+    ensures names { (unicode_mode : Bool) (name us rest : List ℕ) →
+        ((w : List ℕ) × (us ≡ w ++ rest) × SpellsName unicode_mode name w rest) ↔
+        ElementRow (⟦<NameCharacters as ElementKind>⟧.spells unicode_mode) (⟦<NameCharacters as ElementKind>⟧.behind unicode_mode) name true us false rest }
+{}
+
+/// A text begins with at most one class.
+pub fn one_class()
+    ensures { (e : Environment) (c d : Class) (w rest v back : List CodePoint) → IsClass e c w rest → IsClass e d v back → w ++ rest ≡ v ++ back → (c ≡ d) × (rest ≡ back) }
+{}
+
+/// A text begins with at most one name: with one that no further character goes on in, and with one before a `>`. Units that stand before one rest spell at most one.
+pub fn one_name()
+    ensures longest { (unicode_mode : Bool) (us name other : List ℕ) (n m : ℕ) → BeginsWithName unicode_mode us name n → BeginsWithName unicode_mode us other m → (name ≡ other) × (n ≡ m) }
+    ensures closed { (unicode_mode : Bool) (name other w rest v back : List ℕ) → SpellsName unicode_mode name w (62 ∷ rest) → SpellsName unicode_mode other v (62 ∷ back) →
+        w ++ (62 ∷ rest) ≡ v ++ (62 ∷ back) → (name ≡ other) × (rest ≡ back) }
+    ensures spelled { (unicode_mode : Bool) (name other w rest : List ℕ) → SpellsName unicode_mode name w rest → SpellsName unicode_mode other w rest → name ≡ other }
+{}
+
+/// A pattern that is well made has tokens that are accepted and leave no group open (ECMA-262, 22.2.1).
+pub fn well_made_is_accepted()
+    ensures { (mode : Mode) (p : Pattern) → IsWellMade mode p → (ready : Bool) × (run mode (tokens p) [] false ≡ Some ([], ready)) }
+{}
+
+/// The groups that are open after tokens that are accepted are the openers that no closer closes, the innermost first, and no closer closes another.
+pub fn groups_are_open()
+    ensures { (mode : Mode) (ts : List Token) (open_groups : List Opener) (ready : Bool) → run mode ts [] false ≡ Some (open_groups, ready) → AreOpen open_groups ts }
+{}
+
+/// A quantifier may follow tokens that are accepted exactly where they end with an Atom or, with neither `u` nor `v`, a QuantifiableAssertion (ECMA-262,
+/// 22.2.1 and B.1.2).
+pub fn quantifiers_may_follow()
+    ensures sound { (mode : Mode) (ts : List Token) (open_groups : List Opener) → run mode ts [] false ≡ Some (open_groups, true) → EndsQuantifiable mode ts }
+    ensures whole { (mode : Mode) (ts : List Token) (open_groups : List Opener) (ready : Bool) → run mode ts [] false ≡ Some (open_groups, ready) → EndsQuantifiable mode ts → ready ≡ true }
+{}
+
+/// What a bracket of a class may hold is a front part of contents, where it may close whole contents, and all whole contents are held (ECMA-262, 22.2.1).
+pub fn class_contents()
+    ensures front { (things : List Thing) (held : Held) → held_after things empty ≡ Some held → (more : List Thing) × AreContents (things ++ more) }
+    ensures sound { (things : List Thing) (held : Held) → held_after things empty ≡ Some held → is_whole held ≡ true → AreContents things }
+    ensures whole { (things : List Thing) → AreContents things → (held : Held) × (held_after things empty ≡ Some held) × (is_whole held ≡ true) }
+{}
+
+/// Where terms end no token begins but the closer of a group.
+pub fn terms_end()
+    ensures { (e : Environment) (us : List CodePoint) (behind : ℕ) → IsStop e us behind → starts 41 (values us) ≡ false →
+        (t : Token) (w rest : List CodePoint) → us ≡ w ++ rest → Spells e t w rest → ⊥ }
+{}
+
+/// The tokens of a class are accepted as a whole class where it is free of early errors, and, where its flags are right, nowhere else, in any mode
+/// (ECMA-262, 22.2.1.1).
+pub fn classes_close()
+    ensures sound { (c : Class) → IsFitting c → IsEarlyClass c → class_opened (class_tokens c) ≡ Some [] }
+    ensures whole { (c : Class) → IsFitting c → IsFlagged c → class_opened (class_tokens c) ≡ Some [] → IsEarlyClass c }
+{}
+
+/// Flags that are refused are no flags, what is no flags is refused, and for one cause (ECMA-262, 22.2.3.3).
+pub fn flags_refused()
+    ensures sound { (us : List CodePoint) (start added : ℕ) (d : Diagnostic) → IsFlagCause us start added d → flags_ok (values us) ≡ false }
+    ensures whole { (us : List CodePoint) (start added : ℕ) → flags_ok (values us) ≡ false → (d : Diagnostic) × IsFlagCause us start added d }
+    ensures one { (us : List CodePoint) (start added : ℕ) (d e : Diagnostic) → IsFlagCause us start added d → IsFlagCause us start added e → d ≡ e }
+{}
+
+/// With neither `u` nor `v` an atom of a class begins at a backslash exactly where a class escape does by the rules of the mode.
+pub fn legacy_class_backslash()
+    ensures some { (e : Environment) (u : CodePoint) (us : List CodePoint) → is_unicode e.mode ≡ false → u.value ≡ 92 → begins_class_escape e (values us) ≡ true →
+        (a : Atom) × (w : List CodePoint) × (rest : List CodePoint) × (u ∷ us ≡ w ++ rest) × SpellsAtom e a w rest }
+    ensures none { (e : Environment) (u : CodePoint) (us : List CodePoint) → is_unicode e.mode ≡ false → u.value ≡ 92 → begins_class_escape e (values us) ≡ false →
+        (a : Atom) (w rest : List CodePoint) → u ∷ us ≡ w ++ rest → SpellsAtom e a w rest → ⊥ }
+{}
+
+/// With neither `u` nor `v` no escape of a character or of a property is refused by itself (ECMA-262, B.1.2).
+pub fn legacy_escapes()
+    ensures { (mode : Mode) → is_unicode mode ≡ false → (us : List CodePoint) (start added place : ℕ) (rest : List CodePoint) (f : ℕ) (d : Diagnostic) →
+        IsCauseOfEscape mode us start added place rest f d → ⊥ }
+{}
+
+/// Where an atom may stand in a class, or the end of a range, so much of the text is left as its place says.
+pub fn atom_places()
+    ensures { (e : Environment) (from : ℕ) (at_class : List CodePoint) (place : ℕ) (rest : List CodePoint) → IsAtomPlace e from at_class place rest →
+        from + length at_class ≡ place + length rest }
+{}
+
+/// A token that begins with the units of a quantifier is that quantifier, in every mode (PatternCharacter, ECMA-262, 22.2.1; InvalidBracedQuantifier, B.1.2). So where
+/// they stand behind some of a tree's tokens, it is the next of them, and one may stand there; and an atom that is no quantifier's body stands before none.
+pub fn quantifiers_stand()
+    ensures only { (e : Environment) (t : Token) (w rest : List CodePoint) (min : ℕ) (max : Option ℕ) → Spells e t w rest → BeginsWithQuantifier (w ++ rest) min max →
+        (greedy : Bool) × (t ≡ quantifier min max greedy) }
+    ensures next { (mode : Mode) (p : Pattern) (us : List CodePoint) → IsSpelled mode p us → (before after : List Token) (rest : List CodePoint) (min : ℕ) (max : Option ℕ) →
+        tokens p ≡ before ++ after → TokenRow (environment mode p) before us rest → BeginsWithQuantifier rest min max → AreQuantified mode before after min max }
+    ensures none { (mode : Mode) (p : Pattern) (us : List CodePoint) → IsSpelled mode p us → (before after : List Token) (rest : List CodePoint) →
+        tokens p ≡ before ++ after → TokenRow (environment mode p) before us rest → BeginsWithoutQuantifier after → (min : ℕ) (max : Option ℕ) → BeginsWithQuantifier rest min max → ⊥ }
+{}
+
+/// With neither `u` nor `v` no place is reached beyond a quantifier that is refused since it has nothing to stand behind, nor beyond a backslash that is
+/// refused since it ends the text; and with `u` alone a range is refused since an end of it is no character (ECMA-262, 22.2.1.1 and B.1.4).
+pub fn legacy_refusals()
+    ensures quantifier { (mode : Mode) → is_unicode mode ≡ false → (us : List CodePoint) (start added place : ℕ) (span : Span) →
+        IsCauseAtPlace mode us start added place (InvalidBracedQuantifier span) → NoneBeyond mode us place }
+    ensures backslash { (mode : Mode) → is_unicode mode ≡ false → (us : List CodePoint) (start added place : ℕ) (span : Span) →
+        IsCauseAtPlace mode us start added place (InvalidExtendedAtomEscape span) → NoneBeyond mode us place }
+    ensures range { (mode : Mode) (us : List CodePoint) (start added from : ℕ) (at_class : List CodePoint) (place : ℕ) (span : Span) →
+        IsClassCause mode us start added from at_class place (CharacterClassRangeInvalidAtom span) → mode ≡ Unicode }
 {}

@@ -5,6 +5,7 @@ mod form;
 pub mod laws;
 pub mod mark_laws;
 mod mode;
+pub mod sequence;
 
 pub use form::Form;
 pub use mode::Mode;

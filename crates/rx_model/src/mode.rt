@@ -1,5 +1,5 @@
 ghost use Rattle.std.specs.Prelude.{◌≡◌};
-ghost use Rattle.rx_model.specs.Modes.{mode_by};
+ghost use Rattle.rx_model.specs.Inputs.Modes.{mode_by};
 
 /// How a pattern is read: without flag `u` or `v`, with `u`, with `v` (ECMA-262, 22.2.3.4 and Annex B.1.2).
 #[derive(Clone, Copy, Debug, PartialEq, Eq)]

@@ -1,4 +1,4 @@
-use Rattle.rx_model.proofs.Cuts.{token_cut}
+use Rattle.rx_model.proofs.FirstPass.Cuts.{token_cut}
 use Rattle.rx_model.proofs.laws.cut.Goals as goal
 
 pub returns : goal.returns

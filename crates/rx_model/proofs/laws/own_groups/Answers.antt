@@ -1,4 +1,4 @@
-use Rattle.rx_model.proofs.OwnGroups.{tells_groups}
+use Rattle.rx_model.proofs.FirstPass.OwnGroups.{tells_groups}
 use Rattle.rx_model.proofs.laws.own_groups.Goals as goal
 
 pub returns : goal.returns

@@ -1,4 +1,4 @@
-use Rattle.rx_model.proofs.PartedMarks.{common}
+use Rattle.rx_model.proofs.FirstPass.PartedMarks.{common}
 use Rattle.rx_model.proofs.mark_laws.has_common.Goals as goal
 
 pub returns : goal.returns

@@ -1,4 +1,4 @@
-use Rattle.rx_model.proofs.PartedMarks.{hidden_parted, parted_hidden}
+use Rattle.rx_model.proofs.FirstPass.PartedMarks.{hidden_parted, parted_hidden}
 use Rattle.rx_model.proofs.mark_laws.parted_by_frames.Goals as goal
 
 pub returns-clause-sound : goal.returns-clause-sound

@@ -1,0 +1,12 @@
+pub mod AtomPlaces
+pub mod ClassContents
+pub mod ClassEscapes
+pub mod ClassFronts
+pub mod ClassShapes
+pub mod ClassStops
+pub mod ClassTokens
+pub mod ClassUnspanned
+pub mod ClassWholes
+pub mod LegacyClassEscapes
+pub mod OneClass
+pub mod OneInClass

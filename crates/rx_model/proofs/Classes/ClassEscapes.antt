@@ -1,0 +1,143 @@
+-- No atom of a class stands where an escape in it is refused.
+use Rattle.std.proofs.Common.{◌≡◌, refl, ap, sym, ◌∙◌, subst, ℕ, ◌+◌, ◌==◌, ◌&&◌, true, false, not, is_some, None, List, [], ◌∷◌, ◌++◌, codes, arith}
+use Rattle.std.proofs.lemmas.Bool.{or_parts, both_ways}
+use Rattle.std.proofs.lemmas.Bool.Decides.{nat_tests}
+use Rattle.rx_base.specs.declared.diagnostic.Diagnostic.{Diagnostic}
+use Rattle.rx_tables.specs.Characters.{is_decimal_digit, control_escape_value}
+use Rattle.rx_ast.specs.declared.leaf.CharacterKind.{CharacterKind}
+use Rattle.rx_units.specs.declared.code_point.CodePoint.{CodePoint}
+use Rattle.rx_units.specs.Units.{values}
+use Rattle.rx_model.specs.declared.mode.Mode.TheVariants.{Unicode}
+use Rattle.rx_model.specs.Classes.ClassFronts.{no_atom, atom_at, character_atom, escape_in_class, property_atom}
+use Rattle.rx_model.specs.Classes.ClassTokens as atoms
+use Rattle.rx_model.specs.Characters.Decoding.{Decoded, value, invalid, overflow, decoded}
+use Rattle.rx_model.specs.Inputs.Environment.{Environment, is_unicode}
+use Rattle.rx_model.specs.Refusals.EscapeCauses as escapes
+use Rattle.rx_model.specs.Refusals.EscapeCauses.{IsEscapeCause, IsPropertyCause}
+use Rattle.rx_model.specs.Characters.EscapeFronts.{EscapeRead, escaped, nothing, too_many, no_unicode, escape_at, class_escape_at, unicode_read}
+use Rattle.rx_model.specs.Characters.Escapes.{front_is, is_identity_escape, SpellsEscape, control, letter, null, hexadecimal, unicode, identity}
+use Rattle.rx_model.specs.FirstPass.Marks.{starts}
+use Rattle.rx_model.specs.Properties.PropertyForms.{begins_property}
+use Rattle.rx_model.specs.Properties.PropertyFronts.{PropertyRead, property_read, no_property, property_front}
+use Rattle.rx_model.specs.Refusals.Reached.{text_environment}
+use Rattle.rx_model.specs.Refusals.Stops.{begins_class_escape, is_hex_digit, is_letter, is_one_of, two_hex_digits}
+use Rattle.rx_model.specs.Characters.UnicodeEscapes.{Decodes}
+use Rattle.rx_model.proofs.Classes.ClassFronts.{at_backslash, atom_found, letter_no_b, letter_no_hyphen}
+use Rattle.rx_model.proofs.Characters.Decodings.{value_law}
+use Rattle.rx_model.proofs.Characters.Escapes.{begins_with_u, escape_spelled, too_many_escape}
+use Rattle.rx_model.proofs.Characters.LegacyEscapes.{any_in_unicode}
+use Rattle.rx_model.proofs.Properties.PropertyRefusals.{cause_begins_no_property, property_first}
+use Rattle.rx_model.proofs.Refusals.Stops.{two_there}
+
+no_control : (c : ℕ) → is_one_of (codes "upPbdDsSwWfnrtv") c ≡ false → control_escape_value c ≡ None
+no_control c h = grind (arith, nat_tests)
+
+no_b : (c : ℕ) → is_one_of (codes "upPbdDsSwWfnrtv") c ≡ false → (c == 98) ≡ false
+no_b c h = grind (arith, nat_tests)
+
+pub no_p : (c : ℕ) → is_one_of (codes "upPbdDsSwWfnrtv") c ≡ false → begins_property c ≡ false
+no_p c h = grind (arith, nat_tests)
+
+no_class : (c : ℕ) → is_one_of (codes "upPbdDsSwWfnrtv") c ≡ false → class_escape_at c ≡ None
+no_class c h = grind (arith, nat_tests)
+
+module _ (us : List CodePoint) where
+  abbrev here : Environment
+  here = text_environment Unicode us
+
+  -- what does not stand behind a backslash that begins no escape in a class
+  pub record NoBeginning (c : ℕ) (w : List ℕ) : Type 0 where
+    pub no_letters : is_one_of (codes "upPbdDsSwWfnrtv") c ≡ false
+    pub no_identity : is_identity_escape c ≡ false
+    pub no_hyphen : (c == 45) ≡ false
+    pub no_c : (c == 99 && front_is is_letter w) ≡ false
+    pub no_null : (c == 48 && not (front_is is_decimal_digit w)) ≡ false
+    pub no_hexadecimal : (c == 120 && two_hex_digits w) ≡ false
+
+  pub no_beginning : (c : ℕ) (w : List ℕ) → begins_class_escape here (c ∷ w) ≡ false → NoBeginning c w
+  no_beginning c w h =
+      let whole = or_parts _ (not (is_unicode here.mode) && not (c == 107 && here.named)) h in
+      let last = or_parts _ (c == 120 && two_hex_digits w) whole.0 in
+      let fifth = or_parts _ (c == 48 && not (front_is is_decimal_digit w)) last.0 in
+      let fourth = or_parts _ (c == 99 && front_is is_letter w) fifth.0 in
+      let third = or_parts _ (c == 45) fourth.0 in
+      let second = or_parts (is_one_of (codes "upPbdDsSwWfnrtv") c) (is_identity_escape c) third.0 in
+      record {
+        no_letters = second.0;
+        no_identity = second.1;
+        no_hyphen = third.1;
+        no_c = fourth.1;
+        no_null = fifth.1;
+        no_hexadecimal = last.1;
+      }
+
+  -- An escape begins where one is spelled.
+  escape_begins : (kind : CharacterKind) (v : ℕ) (w rest : List ℕ) → SpellsEscape here kind v w rest → begins_class_escape here (w ++ rest) ≡ false → ⊥
+  escape_begins _ v _ rest (control {c} h) k = let f = no_control c (no_beginning c rest k).no_letters in cc (f, h)
+  escape_begins _ v _ rest (letter {c} h) k = let f = (no_beginning 99 (c ∷ rest) k).no_c in both_ways (is_letter c) f (ap is_some h)
+  escape_begins _ _ _ rest (null h) k = let f = (no_beginning 48 rest k).no_null in cc (f, ap not h)
+  escape_begins _ v _ rest (hexadecimal {a} {b} h) k = let f = (no_beginning 120 (a ∷ b ∷ rest) k).no_hexadecimal in both_ways (is_hex_digit a && is_hex_digit b) f (two_there a b v h)
+  escape_begins _ v w rest (unicode s) k = let u = begins_with_u s in let f = no_beginning 117 (u.0 ++ rest) (subst (λ w. begins_class_escape here (w ++ rest) ≡ false) u.1 k) in cc f.no_letters
+  escape_begins _ _ _ rest (identity {c} u h) k = both_ways (is_identity_escape c) (no_beginning c rest k).no_identity h
+
+  nothing_read : (w : List ℕ) (r : EscapeRead) → begins_class_escape here w ≡ false → escape_at true w ≡ r → character_atom r ≡ no_atom
+  nothing_read w (escaped kind v n) h f = let s = escape_spelled here kind v n w f in absurd (escape_begins kind v s.spelled s.rest s.spells (ap (begins_class_escape here) (sym s.whole) ∙ h))
+  nothing_read w nothing h f = refl
+  nothing_read w (too_many n) h f = refl
+  nothing_read w no_unicode h f = refl
+
+  no_escape_there : (w : List ℕ) → begins_class_escape here w ≡ false → escape_in_class here w ≡ no_atom
+  no_escape_there [] h = refl
+  no_escape_there (c ∷ w) h =
+      let b = no_beginning c w h in
+      rw (no_b c b.no_letters, b.no_hyphen, no_p c b.no_letters, no_class c b.no_letters) (ap character_atom (any_in_unicode true here (c ∷ w) refl) ∙ nothing_read (c ∷ w) (escape_at true (c ∷ w)) h refl)
+
+  -- behind a backslash at the front
+  behind_backslash : (rest : List CodePoint) (w : List ℕ) → values rest ≡ 92 ∷ w → atom_at here rest ≡ escape_in_class here w
+  behind_backslash [] w h = absurd (let no : ⊥ = cc h in no)
+  behind_backslash (u ∷ rest) w h =
+      let is : u.value ≡ 92 = cc h in
+      let back : values rest ≡ w = cc h in
+      at_backslash here u rest is ∙ ap (escape_in_class here) back
+
+  pub no_escape_atom : (backslash : CodePoint) (rest : List CodePoint) → backslash.value ≡ 92 → begins_class_escape here (values rest) ≡ false → atom_at here (backslash ∷ rest) ≡ no_atom
+  no_escape_atom backslash rest h no_escape = at_backslash here backslash rest h ∙ no_escape_there (values rest) no_escape
+
+  no_value_atom : (w : List ℕ) → ((v n : ℕ) → Decodes true w v n → ⊥) → (d : Decoded) → decoded true w ≡ d → character_atom (unicode_read d) ≡ no_atom
+  no_value_atom w no_value (value v n) h = absurd (no_value v n ((value_law true w v n).0 h))
+  no_value_atom w no_value invalid h = refl
+  no_value_atom w no_value (overflow n) h = refl
+
+  behind_u : (v : List ℕ) → escape_in_class here (117 ∷ v) ≡ character_atom (escape_at true (117 ∷ v))
+  behind_u v = ap character_atom (any_in_unicode true here (117 ∷ v) refl)
+
+  escape_u : (v : List ℕ) → escape_at true (117 ∷ v) ≡ unicode_read (decoded true (117 ∷ v))
+  unfolding escape_at
+  escape_u v = refl
+
+  pub refused_escape : (first added place : ℕ) (rest : List CodePoint) (d : Diagnostic) → IsEscapeCause Unicode us first added place rest d → (atom_at here rest ≡ no_atom) × (starts 93 (values rest) ≡ false)
+  refused_escape first added place rest _ (escapes.too_many_hex_digits count behind m h p) =
+      let more : List ℕ = 123 ∷ (p.digits ++ p.next ∷ p.rest) in (
+        behind_backslash rest behind h ∙ ap (escape_in_class here) p.whole ∙ behind_u more ∙ ap (λ w. character_atom (escape_at true w)) (sym p.whole)
+            ∙ ap character_atom (too_many_escape behind count p),
+        ap (starts 93) h,
+      )
+  refused_escape first added place rest _ (escapes.invalid_escape behind m h no_value no_limit) = (
+    behind_backslash rest (117 ∷ behind) h ∙ behind_u behind ∙ ap character_atom (escape_u behind) ∙ no_value_atom (117 ∷ behind) no_value (decoded true (117 ∷ behind)) refl,
+    ap (starts 93) h,
+  )
+
+  pub refused_property : (first added place : ℕ) (rest : List CodePoint) (d : Diagnostic) → IsPropertyCause Unicode us first added place rest d → (atom_at here rest ≡ no_atom) × (starts 93 (values rest) ≡ false)
+  refused_property first added place rest d c = (there ∙ go (property_front Unicode (p.0 ∷ p.1)) refl, ap (starts 93) p.2)
+    where
+      p : (letter : ℕ) × (w : List ℕ) × (values rest ≡ 92 ∷ letter ∷ w) × (begins_property letter ≡ true)
+      p = property_first Unicode us first added place rest d c
+
+      there : atom_at here rest ≡ property_atom (property_front Unicode (p.0 ∷ p.1))
+      there = behind_backslash rest (p.0 ∷ p.1) p.2 ∙ rw (letter_no_b p.0 p.3, letter_no_hyphen p.0 p.3, p.3) refl
+
+      go : (r : PropertyRead) → property_front Unicode (p.0 ∷ p.1) ≡ r → property_atom (property_front Unicode (p.0 ∷ p.1)) ≡ no_atom
+      go no_property h = ap property_atom h
+      go (property_read negative strings name v n) h =
+          let s = atom_found here (atoms.property negative strings name v) (n + 1) rest (there ∙ ap property_atom h) in
+          absurd (cause_begins_no_property here us first added place rest d c negative strings name v s.w s.rest s.whole s.spelled)

@@ -1,0 +1,134 @@
+-- A class that is spelled with its spans is spelled without them.
+use Rattle.std.proofs.Common.{◌≡◌, refl, sym, ap, ap₂, ◌∙◌, subst, ℕ, ◌+◌, ◌||◌, ◌&&◌, List, [], ◌∷◌, ◌++◌, length, map}
+use Rattle.std.proofs.lemmas.List.{append-nil}
+use Rattle.rx_base.specs.declared.span.Span.{Span}
+use Rattle.rx_ast.specs.declared.leaf.Character.{Character}
+use Rattle.rx_ast.specs.declared.class.CharacterClassContentsKind.{CharacterClassContentsKind}
+use Rattle.rx_ast.specs.declared.class.CharacterClassContentsKind.TheVariants.{Union, Intersection, Subtraction}
+use Rattle.rx_ast.specs.declared.class.ClassString.{ClassString}
+use Rattle.rx_ast.specs.declared.class.ClassStringDisjunction.{ClassStringDisjunction}
+use Rattle.rx_ast.specs.ClassTree.{Member, Members, Class, no_member, member, class}
+use Rattle.rx_ast.specs.ClassTree as tree
+use Rattle.rx_ast.specs.Forget.{forget_character, forget_string, forget_strings, forget_member, forget_members, forget_class, same_kind}
+use Rattle.rx_ast.proofs.Forgetting.{forget_class_twice}
+use Rattle.rx_units.specs.declared.code_point.CodePoint.{CodePoint}
+use Rattle.rx_model.specs.declared.mode.Mode.{Mode}
+use Rattle.rx_model.specs.Classes.ClassRows.{Place, ClassTokenRow, ClassRow, IsClassShape, IsClass, IsClassSpanned, fresh, outside, behind}
+use Rattle.rx_model.specs.Classes.ClassTokens.{ClassEvents, enter, leave, token, bracket, closer, strings, string_bar, strings_end, letter, class_tokens_of, within, letters_events, string_events, barred_strings_events, strings_events, operator_events, member_events, class_events, members_events, more_members_events, class_tokens}
+use Rattle.rx_model.specs.Trees.Early.{member_strings, any_strings, all_strings, first_strings, may_contain_strings}
+use Rattle.rx_model.specs.Inputs.Environment.{Environment}
+
+pub class_tokens_of-append : (es fs : ClassEvents) → class_tokens_of (es ++ fs) ≡ class_tokens_of es ++ class_tokens_of fs
+class_tokens_of-append [] fs = refl
+class_tokens_of-append ((enter n) ∷ es) fs = class_tokens_of-append es fs
+class_tokens_of-append ((leave n) ∷ es) fs = class_tokens_of-append es fs
+class_tokens_of-append ((token t) ∷ es) fs = ap (λ ts. t ∷ ts) (class_tokens_of-append es fs)
+
+-- a span adds no token
+pub within_tokens : (s : Span) (es : ClassEvents) → class_tokens_of (within s es) ≡ class_tokens_of es
+within_tokens s es = class_tokens_of-append es (leave s.end ∷ []) ∙ append-nil (class_tokens_of es)
+
+-- Events that have the same tokens, one after the other.
+both_tokens : (es fs gs hs : ClassEvents) → class_tokens_of es ≡ class_tokens_of gs → class_tokens_of fs ≡ class_tokens_of hs → class_tokens_of (es ++ fs) ≡ class_tokens_of (gs ++ hs)
+both_tokens es fs gs hs h k = class_tokens_of-append es fs ∙ ap₂ (λ ts ss. ts ++ ss) h k ∙ sym (class_tokens_of-append gs hs)
+
+within_both : (s r : Span) (es fs : ClassEvents) → class_tokens_of es ≡ class_tokens_of fs → class_tokens_of (within s es) ≡ class_tokens_of (within r fs)
+within_both s r es fs h = within_tokens s es ∙ h ∙ sym (within_tokens r fs)
+
+letters_forget : (cs : List Character) → class_tokens_of (letters_events (map (forget_character same_kind) cs)) ≡ class_tokens_of (letters_events cs)
+letters_forget [] = refl
+letters_forget (c ∷ cs) = ap (λ ts. letter c.kind c.value ∷ ts) (letters_forget cs)
+
+string_forget : (s : ClassString) → class_tokens_of (string_events (forget_string same_kind s)) ≡ class_tokens_of (string_events s)
+string_forget s = within_both (forget_string same_kind s).span s.span (letters_events (map (forget_character same_kind) s.body)) (letters_events s.body) (letters_forget s.body)
+
+barred_forget : (ss : List ClassString) → class_tokens_of (barred_strings_events (map (forget_string same_kind) ss)) ≡ class_tokens_of (barred_strings_events ss)
+barred_forget [] = refl
+barred_forget (s ∷ ss) =
+    ap (λ ts. string_bar ∷ ts)
+    (both_tokens (string_events (forget_string same_kind s)) (barred_strings_events (map (forget_string same_kind) ss)) (string_events s) (barred_strings_events ss) (string_forget s) (barred_forget ss))
+
+strings_forget : (ss : List ClassString) → class_tokens_of (strings_events (map (forget_string same_kind) ss)) ≡ class_tokens_of (strings_events ss)
+strings_forget [] = refl
+strings_forget (s ∷ ss) = both_tokens (string_events (forget_string same_kind s)) (barred_strings_events (map (forget_string same_kind) ss)) (string_events s) (barred_strings_events ss) (string_forget s) (barred_forget ss)
+
+disjunction_forget : (d : ClassStringDisjunction) → class_tokens_of (member_events (forget_member same_kind (tree.strings d))) ≡ class_tokens_of (member_events (tree.strings d))
+disjunction_forget d =
+    let old = strings_events d.body in
+    let new = strings_events (map (forget_string same_kind) d.body) in
+    within_both (forget_strings same_kind d).span d.span (token strings ∷ (new ++ (token strings_end ∷ []))) (token strings ∷ (old ++ (token strings_end ∷ [])))
+    (ap (λ ts. strings ∷ ts) (both_tokens new (token strings_end ∷ []) old (token strings_end ∷ []) (strings_forget d.body) refl))
+
+-- The tokens of a class do not depend on its spans.
+mutual
+  member_forget : (m : Member) → class_tokens_of (member_events (forget_member same_kind m)) ≡ class_tokens_of (member_events m)
+  member_forget (tree.range r) = refl
+  member_forget (tree.escape e) = refl
+  member_forget (tree.property p) = refl
+  member_forget (tree.character c) = refl
+  member_forget (tree.nested c) = class_forget c
+  member_forget (tree.strings d) = disjunction_forget d
+
+  pub class_forget : (c : Class) → class_tokens (forget_class same_kind c) ≡ class_tokens c
+  class_forget (class s negative may kind ms) =
+      let old = members_events (operator_events kind) ms in
+      let new = members_events (operator_events kind) (forget_members same_kind ms) in
+      within_both (record { start = 0; end = 0 }) s (token (bracket negative) ∷ (new ++ (token closer ∷ []))) (token (bracket negative) ∷ (old ++ (token closer ∷ [])))
+      (ap (λ ts. bracket negative ∷ ts) (both_tokens new (token closer ∷ []) old (token closer ∷ []) (members_forget (operator_events kind) ms) refl))
+
+  members_forget : (operator : ClassEvents) (ms : Members) → class_tokens_of (members_events operator (forget_members same_kind ms)) ≡ class_tokens_of (members_events operator ms)
+  members_forget operator no_member = refl
+  members_forget operator (member m ms) =
+      both_tokens (member_events (forget_member same_kind m)) (more_members_events operator (forget_members same_kind ms)) (member_events m) (more_members_events operator ms)
+      (member_forget m) (more_forget operator ms)
+
+  more_forget : (operator : ClassEvents) (ms : Members) → class_tokens_of (more_members_events operator (forget_members same_kind ms)) ≡ class_tokens_of (more_members_events operator ms)
+  more_forget operator no_member = refl
+  more_forget operator (member m ms) =
+      both_tokens operator (member_events (forget_member same_kind m) ++ more_members_events operator (forget_members same_kind ms)) operator (member_events m ++ more_members_events operator ms) refl
+      (both_tokens (member_events (forget_member same_kind m)) (more_members_events operator (forget_members same_kind ms)) (member_events m) (more_members_events operator ms)
+      (member_forget m) (more_forget operator ms))
+
+-- MayContainStrings does not depend on spans.
+member_may : (m : Member) → member_strings (forget_member same_kind m) ≡ member_strings m
+member_may (tree.range r) = refl
+member_may (tree.escape e) = refl
+member_may (tree.property p) = refl
+member_may (tree.character c) = refl
+member_may (tree.nested (class s negative may kind ms)) = refl
+member_may (tree.strings d) = refl
+
+any_may : (ms : Members) → any_strings (forget_members same_kind ms) ≡ any_strings ms
+any_may no_member = refl
+any_may (member m ms) = ap₂ (λ a b. a || b) (member_may m) (any_may ms)
+
+all_may : (ms : Members) → all_strings (forget_members same_kind ms) ≡ all_strings ms
+all_may no_member = refl
+all_may (member m ms) = ap₂ (λ a b. a && b) (member_may m) (all_may ms)
+
+first_may : (ms : Members) → first_strings (forget_members same_kind ms) ≡ first_strings ms
+first_may no_member = refl
+first_may (member m ms) = member_may m
+
+may_forget : (kind : CharacterClassContentsKind) (ms : Members) → may_contain_strings kind (forget_members same_kind ms) ≡ may_contain_strings kind ms
+may_forget Union ms = any_may ms
+may_forget Intersection ms = all_may ms
+may_forget Subtraction ms = first_may ms
+
+shape_forget : (mode : Mode) (c : Class) → IsClassShape mode c → IsClassShape mode (forget_class same_kind c)
+shape_forget mode (class s negative may kind ms) h = (h.0, h.1 ∙ sym (may_forget kind ms))
+
+module _ (e : Environment) where
+  pub class_row_tokens : (o : ℕ → ℕ) (es : ClassEvents) (q : Place) (i : ℕ) (us : List CodePoint) (r : Place) (j : ℕ) (rest : List CodePoint) →
+      ClassRow e o es q i us r j rest → ClassTokenRow e (class_tokens_of es) q us r rest
+  class_row_tokens o [] q i us r j rest h = (h.0, h.2)
+  class_row_tokens o ((enter n) ∷ es) q i us r j rest h = class_row_tokens o es q i us r j rest h.1
+  class_row_tokens o ((leave n) ∷ es) q i us r j rest h = class_row_tokens o es q i us r j rest h.1
+  class_row_tokens o ((token t) ∷ es) q i us r j rest h = (h.0, h.1, h.2, h.3, class_row_tokens o es (behind e.mode q t h.1) (i + length h.0) h.1 r j rest h.4)
+
+  pub class_unspanned : (o : ℕ → ℕ) (i : ℕ) (c : Class) (w rest : List CodePoint) → IsClassSpanned e o i c w rest → IsClass e (forget_class same_kind c) w rest
+  class_unspanned o i c w rest h = record {
+    no_spans = forget_class_twice same_kind same_kind c;
+    shape = shape_forget e.mode c h.shape;
+    row = subst (λ ts. ClassTokenRow e ts outside (w ++ rest) fresh rest) (sym (class_forget c)) (class_row_tokens o (class_events c) outside i (w ++ rest) fresh (i + length w) rest h.row);
+  }

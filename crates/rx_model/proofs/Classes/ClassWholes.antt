@@ -1,0 +1,181 @@
+-- The tokens of a class that is free of early errors open its bracket and close it.
+use Rattle.std.proofs.Common.{◌≡◌, refl, sym, ap, ◌∙◌, subst, ℕ, ◌≤◌, Bool, true, false, not, ◌&&◌, Option, Some, None, List, [], ◌∷◌, ◌++◌, nat_le}
+use Rattle.std.proofs.lemmas.Bool.{le-leb, and_from}
+use Rattle.rx_ast.specs.declared.leaf.CharacterKind.{CharacterKind}
+use Rattle.rx_ast.specs.declared.class.CharacterClassContentsKind.TheVariants.{Union, Intersection, Subtraction}
+use Rattle.rx_ast.specs.ClassTree.{Class, Member, Members, no_member, member, class}
+use Rattle.rx_ast.specs.ClassTree as tree
+use Rattle.rx_units.specs.declared.code_point.CodePoint.{CodePoint}
+use Rattle.rx_units.specs.Units.{values}
+use Rattle.rx_model.specs.declared.mode.Mode.TheVariants.{Unicode}
+use Rattle.rx_model.specs.Classes.ClassRows.{Place, ClassTokenRow, IsClass, behind_item, fresh, has_threes, is_dashed, outside}
+use Rattle.rx_model.specs.Classes.ClassRuns.{Held, empty, single, several, meeting, met, lessening, lessened, Bracket, Brackets, atom_may, atom_obeys, behind_step, bracket_of, class_opened, class_run, class_step, closed, holding, is_whole, operand, ranged, where_may, where_true, with_strings}
+use Rattle.rx_model.specs.Classes.ClassTokens.{Atom, character, escape, property, ClassToken, bracket, closer, item, low, dash, high, class_tokens}
+use Rattle.rx_model.specs.Trees.Early.{AreEarlyMembers, IsEarlyClass}
+use Rattle.rx_model.specs.Inputs.Environment.{Environment}
+use Rattle.rx_model.specs.Properties.PropertyEscapes as spelled
+use Rattle.rx_model.specs.Properties.PropertyEscapes.{SpellsProperty, IsProperty}
+use Rattle.rx_model.proofs.Classes.ClassTokens.{class_tokens_are, union_tokens}
+
+-- what a bracket around a union holds
+abbrev pub IsUnion : Held → Type 0
+IsUnion empty = Unit {0}
+IsUnion single = Unit {0}
+IsUnion several = Unit {0}
+IsUnion meeting = ⊥
+IsUnion met = ⊥
+IsUnion lessening = ⊥
+IsUnion lessened = ⊥
+
+-- It may hold one thing more.
+pub record Grows (more : Option Held) : Type 0 where
+  pub held : Held
+  pub union : IsUnion held
+  pub is : more ≡ Some held
+
+one_operand : (held : Held) → IsUnion held → Grows (operand held)
+one_operand empty u = record { held = single; union = tt; is = refl }
+one_operand single u = record { held = several; union = tt; is = refl }
+one_operand several u = record { held = several; union = tt; is = refl }
+one_operand meeting u = absurd u
+one_operand met u = absurd u
+one_operand lessening u = absurd u
+one_operand lessened u = absurd u
+
+one_range : (held : Held) → IsUnion held → Grows (ranged held)
+one_range empty u = record { held = several; union = tt; is = refl }
+one_range single u = record { held = several; union = tt; is = refl }
+one_range several u = record { held = several; union = tt; is = refl }
+one_range meeting u = absurd u
+one_range met u = absurd u
+one_range lessening u = absurd u
+one_range lessened u = absurd u
+
+without_strings : (held : Held) → with_strings held false false ≡ false
+without_strings empty = refl
+without_strings single = refl
+without_strings several = refl
+without_strings meeting = refl
+without_strings met = refl
+without_strings lessening = refl
+without_strings lessened = refl
+
+-- A bracket without strings, around a union, holds one thing more.
+holds_more : (negative : Bool) (held : Held) (v : ℕ) (more : Option Held) (g : Grows more) →
+    holding (record (bracket_of negative held false) { low_end = v }) [] false more ≡ Some (bracket_of negative g.held false ∷ [])
+holds_more negative held v more g =
+    ap (holding (record (bracket_of negative held false) { low_end = v }) [] false) g.is ∙ ap (λ may. Some (bracket_of negative g.held may ∷ [])) (without_strings held)
+
+-- After these tokens the bracket is around a union still.
+abbrev Runs : Bool → Held → List ClassToken → List ClassToken → Type 0
+Runs negative held ts ss =
+    (grown : Held) × IsUnion grown × (class_run (ts ++ ss) (bracket_of negative held false ∷ []) ≡ class_run ss (bracket_of negative grown false ∷ []))
+
+atom_runs : (negative : Bool) (held : Held) (a : Atom) (ss : List ClassToken) → IsUnion held → atom_obeys a ≡ true → atom_may a ≡ false → Runs negative held (item a ∷ []) ss
+atom_runs negative held a ss u obeys may =
+    let r : Bracket = bracket_of negative held false in
+    let g = one_operand held u in (
+      g.held,
+      g.union,
+      ap (λ after. behind_step after (λ brackets. class_run ss brackets))
+          (ap (λ b. where_true b (holding r [] (atom_may a) (operand held))) obeys ∙ ap (λ may. holding r [] may (operand held)) may ∙ holds_more negative held 0 (operand held) g),
+    )
+
+range_runs : (negative : Bool) (held : Held) (k : CharacterKind) (v : ℕ) (j : CharacterKind) (x : ℕ) (ss : List ClassToken) → IsUnion held → v ≤ x → x ≤ 0x10FFFF →
+    Runs negative held (low k v ∷ dash ∷ high j x ∷ []) ss
+range_runs negative held k v j x ss u order small =
+    let r : Bracket = record (bracket_of negative held false) { low_end = v } in
+    let g = one_range held u in (
+      g.held,
+      g.union,
+      ap (λ more. behind_step (where_may more (r ∷ [])) (λ brackets. class_run (dash ∷ high j x ∷ ss) brackets)) g.is
+          ∙ ap (λ after. behind_step after (λ brackets. class_run ss brackets))
+          (ap (λ b. where_true b (holding r [] false (ranged held))) (and_from (nat_le v x) (nat_le x 0x10FFFF) (le-leb v x order) (le-leb x 0x10FFFF small))
+          ∙ holds_more negative held v (ranged held) g),
+    )
+
+property_obeys : (negative may : Bool) → (negative && may) ≡ false → not (negative && may) ≡ true
+property_obeys negative may h = ap not h
+
+-- More tokens go on with the brackets that these leave open.
+pub class_run-append : (ts ss : List ClassToken) (bs cs : Brackets) → class_run ts bs ≡ Some cs → class_run (ts ++ ss) bs ≡ class_run ss cs
+class_run-append [] ss bs cs h = let same : bs ≡ cs = cc h in ap (class_run ss) same
+class_run-append (t ∷ ts) ss bs cs h = go (λ after. class_run-append ts ss after cs) (class_step t bs) refl
+  where
+    go : ((after : Brackets) → class_run ts after ≡ Some cs → class_run (ts ++ ss) after ≡ class_run ss cs) → (o : Option Brackets) → class_step t bs ≡ o → class_run (t ∷ (ts ++ ss)) bs ≡ class_run ss cs
+    go again None e = absurd (let no : None ≡ Some cs = ap (λ o. behind_step o (λ after. class_run ts after)) (sym e) ∙ h in let k : ⊥ = cc no in k)
+    go again (Some after) e =
+        ap (λ o. behind_step o (λ after. class_run (ts ++ ss) after)) e
+        ∙ again after (ap (λ o. behind_step o (λ after. class_run ts after)) (sym e) ∙ h)
+
+pub class_opened-append : (ts ss : List ClassToken) (cs : Brackets) → class_opened ts ≡ Some cs → class_opened (ts ++ ss) ≡ class_run ss cs
+class_opened-append [] ss cs h = absurd (let no : ⊥ = cc h in no)
+class_opened-append ((bracket negative) ∷ ts) ss cs h = class_run-append ts ss (bracket_of negative empty false ∷ []) cs h
+class_opened-append (t ∷ ts) ss cs h = absurd (let no : ⊥ = cc h in no)
+
+only_sets : (strings : Bool) (name : List ℕ) (value : Option (List ℕ)) (text : List ℕ) → SpellsProperty Unicode strings name value text → strings ≡ false
+only_sets _ _ _ _ (spelled.pair valid) = refl
+only_sets _ _ _ _ (spelled.category known) = refl
+only_sets _ _ _ _ (spelled.binary no_category known) = refl
+only_sets _ _ _ _ (spelled.of_strings sets no_category no_binary known) = absurd (let no : ⊥ = cc sets in no)
+
+whole_union : (held : Held) → IsUnion held → is_whole held ≡ true
+whole_union empty u = refl
+whole_union single u = refl
+whole_union several u = refl
+whole_union meeting u = absurd u
+whole_union met u = absurd u
+whole_union lessening u = absurd u
+whole_union lessened u = absurd u
+
+never_both : (negative : Bool) → not (negative && false) ≡ true
+never_both true = refl
+never_both false = refl
+
+module _ (e : Environment) (with_u : e.mode ≡ Unicode) where
+  -- with `u` no property is of strings
+  no_strings : (negative strings : Bool) (name : List ℕ) (value : Option (List ℕ)) (w : List CodePoint) → IsProperty e negative strings name value w → strings ≡ false
+  no_strings negative strings name value w s = only_sets strings name value s.text (subst (λ mode. SpellsProperty mode strings name value s.text) with_u s.spelled)
+
+  -- with `u` an item is followed by the next one
+  fresh_again : (dashed : Bool) → behind_item fresh (dashed && has_threes e.mode) ≡ fresh
+  fresh_again true = ap (λ mode. behind_item fresh (true && has_threes mode)) with_u
+  fresh_again false = refl
+
+  next_item : (ts : List ClassToken) (us : List CodePoint) (r : Place) (rest : List CodePoint) → ClassTokenRow e ts (behind_item fresh (is_dashed (values us) && has_threes e.mode)) us r rest → ClassTokenRow e ts fresh us r rest
+  next_item ts us r rest h = subst (λ q. ClassTokenRow e ts q us r rest) (fresh_again (is_dashed (values us))) h
+
+  union_runs : (ms : Members) (ss : List ClassToken) (us : List CodePoint) (r : Place) (rest : List CodePoint) (negative : Bool) (held : Held) → IsUnion held → AreEarlyMembers ms →
+      ClassTokenRow e (union_tokens ms ++ ss) fresh us r rest →
+      (grown : Held) × IsUnion grown × (class_run (union_tokens ms ++ ss) (bracket_of negative held false ∷ []) ≡ class_run ss (bracket_of negative grown false ∷ []))
+  union_runs no_member ss us r rest negative held u early row = (held, u, refl)
+  union_runs (member (tree.range x) ms) ss us r rest negative held u early row =
+      let s = range_runs negative held x.min.kind x.min.value x.max.kind x.max.value (union_tokens ms ++ ss) u early.0.2 early.0.1 in
+      let t = union_runs ms ss row.4.4.1 r rest negative s.0 s.1 early.1 row.4.4.4 in
+      (t.0, t.1, s.2 ∙ t.2)
+  union_runs (member (tree.escape x) ms) ss us r rest negative held u early row =
+      let s = atom_runs negative held (escape x.kind) (union_tokens ms ++ ss) u refl refl in
+      let t = union_runs ms ss row.1 r rest negative s.0 s.1 early.1 (next_item (union_tokens ms ++ ss) row.1 r rest row.4) in
+      (t.0, t.1, s.2 ∙ t.2)
+  union_runs (member (tree.property x) ms) ss us r rest negative held u early row =
+      let s = atom_runs negative held (property x.negative x.strings x.name x.value) (union_tokens ms ++ ss) u (property_obeys x.negative x.strings early.0)
+      (no_strings x.negative x.strings x.name x.value row.0 row.3.0) in
+      let t = union_runs ms ss row.1 r rest negative s.0 s.1 early.1 (next_item (union_tokens ms ++ ss) row.1 r rest row.4) in
+      (t.0, t.1, s.2 ∙ t.2)
+  union_runs (member (tree.character x) ms) ss us r rest negative held u early row =
+      let s = atom_runs negative held (character x.kind x.value) (union_tokens ms ++ ss) u (le-leb x.value 0x10FFFF early.0) refl in
+      let t = union_runs ms ss row.1 r rest negative s.0 s.1 early.1 (next_item (union_tokens ms ++ ss) row.1 r rest row.4) in
+      (t.0, t.1, s.2 ∙ t.2)
+  union_runs (member (tree.nested (class s n may kind xs)) ms) ss us r rest negative held u early row = absurd row.3
+  union_runs (member (tree.strings d) ms) ss us r rest negative held u early row = absurd row.3
+
+  pub whole_class : (c : Class) (w rest : List CodePoint) → IsClass e c w rest → IsEarlyClass c → class_opened (class_tokens c) ≡ Some []
+  whole_class (class s negative may Union ms) w rest is early =
+      let same = class_tokens_are s negative may ms in
+      let row = subst (λ ts. ClassTokenRow e ts outside (w ++ rest) fresh rest) same is.row in
+      let t = union_runs ms (closer ∷ []) row.1 fresh rest negative empty tt early.2 row.4 in
+      ap class_opened same
+      ∙ t.2
+      ∙ ap (λ b. behind_step (closed false b []) (λ after. class_run [] after)) (and_from (is_whole t.0) (not (negative && false)) (whole_union t.0 t.1) (never_both negative))
+  whole_class (class s negative may Intersection ms) w rest is early = absurd is.shape.0
+  whole_class (class s negative may Subtraction ms) w rest is early = absurd is.shape.0

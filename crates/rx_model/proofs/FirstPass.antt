@@ -1,0 +1,13 @@
+pub mod Apart
+pub mod ClassMarks
+pub mod Cuts
+pub mod GroupStretches
+pub mod MarkNames
+pub mod MarkRows
+pub mod MarkTexts
+pub mod OpenMarks
+pub mod OpenerMarks
+pub mod OtherMarks
+pub mod OwnGroups
+pub mod PartedMarks
+pub mod Stretches

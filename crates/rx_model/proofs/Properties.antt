@@ -1,0 +1,7 @@
+pub mod OneProperty
+pub mod PropertyFronts
+pub mod PropertyRefusals
+pub mod PropertyRuns
+pub mod PropertyTables
+pub mod PropertyTexts
+pub mod PropertyWords

@@ -1,0 +1,5 @@
+pub mod Fronts
+pub mod OneRow
+pub mod Prefixes
+pub mod Sequences
+pub mod Splits

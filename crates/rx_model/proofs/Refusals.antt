@@ -1,0 +1,15 @@
+pub mod Beyond
+pub mod DeadFronts
+pub mod DeadPlaces
+pub mod Faults
+pub mod FlagCauses
+pub mod LegacyRefusals
+pub mod LegacyStops
+pub mod OneCause
+pub mod OneEscape
+pub mod OneRefusal
+pub mod OneStop
+pub mod OnlyFirst
+pub mod Places
+pub mod Refusals
+pub mod Stops

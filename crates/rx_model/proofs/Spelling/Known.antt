@@ -1,0 +1,96 @@
+-- What is known of tokens that some units spell.
+use Rattle.std.proofs.Common.{◌≡◌, ◌≢◌, refl, subst, ℕ, Bool, true, Some, None, List, [], ◌∷◌, ◌++◌}
+use Rattle.rx_units.specs.declared.code_point.CodePoint.{CodePoint}
+use Rattle.rx_units.specs.Units.{values}
+use Rattle.rx_model.specs.declared.mode.Mode.{Mode}
+use Rattle.rx_model.specs.declared.mode.Mode.TheVariants.{Legacy}
+use Rattle.rx_model.specs.Reading.Boundaries.{has_boundary}
+use Rattle.rx_model.specs.Spelling.ClassText.{property_body}
+use Rattle.rx_model.specs.Inputs.Environment.{Environment, is_unicode}
+use Rattle.rx_model.specs.Groups.GroupNames.{SpellsName}
+use Rattle.rx_model.specs.Groups.Groups.{SpellsOpener}
+use Rattle.rx_model.specs.Properties.PropertyEscapes.{SpellsProperty}
+use Rattle.rx_model.specs.Spelling.ReadBack.{AreCodeUnits}
+use Rattle.rx_model.specs.Reading.Rows.{Spells, TokenRow}
+use Rattle.rx_model.specs.Trees.Token.{Token, Opener, boundary, character, dot, class_escape, property, class, indexed, named, opener, closer, bar, quantifier, capturing, ignoring, looking}
+use Rattle.rx_model.proofs.Spelling.Bounds.{FitsIn, FitIn, Narrow, AreCodePoints, narrow_values, narrow_front, narrow_back, fit_front, fit_back, character_low, name_low}
+use Rattle.rx_model.proofs.Spelling.ClassKnown.{IsKnownClass, class_known}
+use Rattle.rx_model.proofs.Groups.ModifierTexts.{AreThreeBits, modifiers_known}
+use Rattle.rx_model.proofs.Groups.NameTexts.{IsName, name_known}
+use Rattle.rx_model.proofs.Properties.PropertyTexts.{property_again}
+
+-- What is known of an opener: its name is one, and its modifiers have three bits a side.
+abbrev pub NameFits : Mode → List ℕ → Type 0
+NameFits mode name = mode ≡ Legacy → AreCodePoints name
+
+abbrev pub IsKnownOpener : Mode → Opener → Type 0
+IsKnownOpener mode (capturing None) = Unit {0}
+IsKnownOpener mode (capturing (Some name)) = IsName name × NameFits mode name
+IsKnownOpener mode (ignoring None) = Unit {0}
+IsKnownOpener mode (ignoring (Some bits)) = AreThreeBits bits
+IsKnownOpener mode (looking kind) = Unit {0}
+
+-- The token is one that is read today in this environment.
+abbrev pub Known : Environment → Token → Type 0
+Known e (boundary kind) = has_boundary e kind ≡ true
+Known e (character kind value) = FitsIn e.mode value
+Known e dot = Unit {0}
+Known e (class_escape kind) = Unit {0}
+Known e (property negative strings name value) = (is_unicode e.mode ≡ true) × SpellsProperty e.mode strings name value (property_body name value)
+Known e (class c) = IsKnownClass e.mode c
+Known e (indexed n) = Unit {0}
+Known e (named name) = (IsName name × NameFits e.mode name) × (e.named ≡ true)
+Known e (opener o) = IsKnownOpener e.mode o
+Known e closer = Unit {0}
+Known e bar = Unit {0}
+Known e (quantifier min max greedy) = Unit {0}
+
+abbrev pub AreKnown : Environment → List Token → Type 0
+AreKnown e [] = Unit {0}
+AreKnown e (t ∷ ts) = Known e t × AreKnown e ts
+
+-- the units of a name
+name_there : (name : List ℕ) (head spelled : List ℕ) (unicode_mode : Bool) (rest : List ℕ) (w : List CodePoint) → values w ≡ head ++ (spelled ++ (62 ∷ [])) → SpellsName unicode_mode name spelled rest → AreCodeUnits w →
+    AreCodePoints name
+name_there name head spelled unicode_mode rest w e s f =
+    name_low unicode_mode name spelled rest s (narrow_front spelled (62 ∷ []) (narrow_back head (spelled ++ (62 ∷ [])) (subst Narrow e (narrow_values w f))))
+
+opener_known : (e : Environment) (o : Opener) (w rest : List CodePoint) → FitIn e.mode w → SpellsOpener e o w rest → IsKnownOpener e.mode o
+opener_known e (capturing None) w rest f s = tt
+opener_known e (capturing (Some name)) w rest f s = (
+  name_known (is_unicode e.mode) name s.spelled (62 ∷ values rest) s.spells,
+  λ m. name_there name (40 ∷ 63 ∷ 60 ∷ []) s.spelled (is_unicode e.mode) (62 ∷ values rest) w s.whole s.spells (f m),
+)
+opener_known e (ignoring None) w rest f s = tt
+opener_known e (ignoring (Some bits)) w rest f s = modifiers_known bits.0 bits.1 s.text s.spelled
+opener_known e (looking kind) w rest f s = tt
+
+known : (e : Environment) (t : Token) (w rest : List CodePoint) → FitIn e.mode (w ++ rest) → Spells e t w rest → Known e t
+known e (boundary kind) w rest f s = s.there
+known e (character kind value) w rest f s = character_low e kind value w rest s (fit_front e.mode (w ++ rest) w rest refl f)
+known e dot w rest f s = tt
+known e (class_escape kind) w rest f s = tt
+known e (property negative strings name value) w rest f s = (s.unicode, property_again e.mode strings name value s.text s.spelled)
+known e (class c) w rest f s = class_known e c w rest f s
+known e (indexed n) w rest f s = tt
+known e (named name) w rest f s = (
+  (
+    name_known (is_unicode e.mode) name s.spelled (62 ∷ values rest) s.spells,
+    λ m. name_there name (92 ∷ 107 ∷ 60 ∷ []) s.spelled (is_unicode e.mode) (62 ∷ values rest) w s.whole s.spells (fit_front e.mode (w ++ rest) w rest refl f m),
+  ),
+  s.there,
+)
+known e (opener o) w rest f s = opener_known e o w rest (fit_front e.mode (w ++ rest) w rest refl f) s
+known e closer w rest f s = tt
+known e bar w rest f s = tt
+known e (quantifier min max greedy) w rest f s = tt
+
+pub are_known : (e : Environment) (ts : List Token) (us rest : List CodePoint) → FitIn e.mode us → TokenRow e ts us rest → AreKnown e ts
+are_known e [] us rest f r = tt
+are_known e (t ∷ ts) us rest f r =
+    (known e t r.0 r.1 (λ m. subst AreCodeUnits r.2 (f m)) r.3, are_known e ts r.1 rest (fit_back e.mode us r.0 r.1 r.2 f) r.4)
+
+-- the pattern of some units has tokens
+pub has_tokens : (e : Environment) (ts : List Token) (us : List CodePoint) → TokenRow e ts us [] → us ≢ [] → ts ≢ []
+has_tokens e [] us r h = absurd (h r)
+has_tokens e (t ∷ ts) us r h = λ k. cc

@@ -1,0 +1,132 @@
+-- The canonical spelling of a pattern is read back.
+use Rattle.std.proofs.Common.{◌≡◌, ◌≢◌, ℕ, ◌≤◌, Bool, false, refl, ap, sym, ◌∙◌, subst, List, [], ◌∷◌}
+use Rattle.std.specs.List.{All}
+use Rattle.std.proofs.lemmas.List.Elements.{All-nil, All-cons, All-head, All-tail}
+use Rattle.rx_ast.specs.declared.term.Pattern.{Pattern}
+use Rattle.rx_ast.specs.Forget.{forget_alternatives, no_kind, bare}
+use Rattle.rx_ast.specs.Tree.{mirror_disjunction}
+use Rattle.rx_units.specs.declared.code_point.CodePoint.{CodePoint}
+use Rattle.rx_units.specs.Units.{literal_units}
+use Rattle.rx_model.specs.declared.mode.Mode.{Mode}
+use Rattle.rx_model.specs.declared.mode.Mode.TheVariants.{Legacy, Unicode}
+use Rattle.rx_model.specs.Trees.Early.{Obeys, IsEarly, most_groups}
+use Rattle.rx_model.specs.Inputs.Environment.{is_unicode, environment, environment_with, has_some}
+use Rattle.rx_model.specs.Trees.Events.{tokens, alternatives_events}
+use Rattle.rx_model.specs.Trees.Names.{groups, names, alternatives_groups, alternatives_names, once_behind, AreAlternativesApart}
+use Rattle.rx_model.specs.Spelling.ReadBack.{AreCodeUnits, IsReadBack}
+use Rattle.rx_model.specs.Reading.Reading.{Reads, literal_text, units_of}
+use Rattle.rx_model.specs.Reading.Rows.{TokenRow}
+use Rattle.rx_model.specs.Trees.Shapes.{HasAlternatives, IsWellMade}
+use Rattle.rx_model.specs.Spelling.Spelling.{spelling}
+use Rattle.rx_model.specs.Trees.Token.{Token, boundary, character, dot, class_escape, property, class, indexed, named, opener, closer, bar, quantifier}
+use Rattle.rx_model.proofs.Spelling.Again.{again_alternatives, bare_alternatives, alternatives_again, made_alternatives, same_groups, same_names, apart_alternatives}
+use Rattle.rx_model.proofs.Spelling.AgainTrees.{disjunction_made}
+use Rattle.rx_model.proofs.Spelling.Backs.{IsPlain}
+use Rattle.rx_model.proofs.Spelling.Bounds.{FitIn}
+use Rattle.rx_model.proofs.Spelling.BackRows.{again_token, again_tokens, tokens_again}
+use Rattle.rx_model.proofs.Spelling.ClassAgain.{early_class}
+use Rattle.rx_model.proofs.Trees.Flat.{before, tokens_are}
+use Rattle.rx_model.proofs.Spelling.Known.{are_known, has_tokens}
+use Rattle.rx_model.proofs.Spelling.OneLines.{some_tokens}
+use Rattle.rx_model.proofs.Trees.Runs.{pattern_runs}
+use Rattle.rx_model.proofs.Spelling.TokenTexts.{token_refers, tokens_text, spelled_by_tokens}
+
+-- a text that is not empty is the text of a literal
+literal_text_same : (text : List ℕ) → text ≢ [] → literal_text text ≡ text
+literal_text_same [] h = absurd (h refl)
+literal_text_same (c ∷ text) h = refl
+
+-- a token obeys whatever its kind
+module _ (mode : Mode) (count : ℕ) (names : List (List ℕ)) where
+  token_obeys : (r : Bool) (t : Token) → Obeys count names t → Obeys count names (again_token mode r t)
+  token_obeys r (boundary kind) h = h
+  token_obeys r (character kind value) h = h
+  token_obeys r dot h = h
+  token_obeys r (class_escape kind) h = h
+  token_obeys r (property negative strings name value) h = h
+  token_obeys r (class c) h = early_class mode c h
+  token_obeys r (indexed n) h = h
+  token_obeys r (named name) h = h
+  token_obeys r (opener o) h = h
+  token_obeys r closer h = h
+  token_obeys r bar h = h
+  token_obeys r (quantifier min max greedy) h = h
+
+  tokens_obey : (r : Bool) (ts : List Token) → All (Obeys count names) ts → All (Obeys count names) (again_tokens mode r ts)
+  tokens_obey r [] h = All-nil (Obeys count names)
+  tokens_obey r (t ∷ ts) h =
+      All-cons (Obeys count names) (again_token mode r t) (again_tokens mode (token_refers t) ts) (token_obeys r t (All-head (Obeys count names) t ts h))
+      (tokens_obey (token_refers t) ts (All-tail (Obeys count names) t ts h))
+
+module _ (mode : Mode) (p : Pattern) where
+  again : Pattern
+  again = record { span = p.span; body = (disjunction_made mode p.body).0 }
+
+  its_tree : (mirror_disjunction again.body).1 ≡ again_alternatives mode (mirror_disjunction p.body).1
+  unfolding again
+  its_tree = ap (λ it. it.1) (disjunction_made mode p.body).1
+
+  its_bare : bare again ≡ bare p
+  its_bare = ap (forget_alternatives no_kind) its_tree ∙ bare_alternatives mode (mirror_disjunction p.body).1
+
+  its_tokens : tokens again ≡ again_tokens mode false (tokens p)
+  its_tokens =
+      tokens_are again ∙ ap (λ more. before (alternatives_events more) []) its_tree
+      ∙ (alternatives_again mode (mirror_disjunction p.body).1).1 [] ∙ sym (ap (again_tokens mode false) (tokens_are p))
+
+  its_groups : groups again ≡ groups p
+  its_groups = ap (λ more. alternatives_groups more) its_tree ∙ same_groups mode (mirror_disjunction p.body).1
+
+  its_names : names again ≡ names p
+  its_names = ap (λ more. once_behind [] (alternatives_names more)) its_tree ∙ ap (once_behind []) (same_names mode (mirror_disjunction p.body).1)
+
+  its_environment : environment mode again ≡ environment mode p
+  its_environment =
+      ap (λ k. environment_with mode k (has_some (names again))) its_groups ∙ ap (λ ns. environment_with mode (groups p) (has_some ns)) its_names
+
+  its_early : IsEarly p → IsEarly again
+  its_early h = record {
+    tokens_obey =
+        subst (λ ts. All (Obeys (groups again) (names again)) ts) (sym its_tokens)
+        (subst (λ k. All (Obeys k (names again)) (again_tokens mode false (tokens p))) (sym its_groups)
+        (subst (λ ns. All (Obeys (groups p) ns) (again_tokens mode false (tokens p))) (sym its_names)
+        (tokens_obey mode (groups p) (names p) false (tokens p) h.tokens_obey)));
+    apart = subst AreAlternativesApart (sym its_tree) (apart_alternatives mode (mirror_disjunction p.body).1 h.apart);
+    in_limit = subst (λ k. k ≤ most_groups) (sym its_groups) h.in_limit;
+  }
+
+  its_shape : IsWellMade mode p → IsWellMade mode again
+  its_shape w = subst (HasAlternatives mode) (sym its_tree) (made_alternatives mode (mirror_disjunction p.body).1 w)
+
+  its_row : (us : List CodePoint) → IsPlain mode → FitIn mode us → Reads mode p us → TokenRow (environment mode again) (tokens again) (literal_units (is_unicode mode) 0 (tokens_text mode false (tokens p))) []
+  its_row us plain fit r =
+      let e = environment mode p in
+      let text = tokens_text mode false (tokens p) in
+      let end = pattern_runs mode p r.spelled.shape in
+      subst (λ d. TokenRow d (tokens again) (literal_units (is_unicode mode) 0 text) []) (sym its_environment)
+      (subst (λ ts. TokenRow e ts (literal_units (is_unicode mode) 0 text) []) (sym its_tokens)
+      (tokens_again e mode refl plain (groups p) refl r.early.in_limit (names p) false (tokens p) [] false ([], end.0) end.1 (are_known e (tokens p) us [] fit r.spelled.row) r.early.tokens_obey 0))
+
+pub spelled_is_read : (mode : Mode) (p : Pattern) (us : List CodePoint) → IsPlain mode → FitIn mode us → Reads mode p us → us ≢ [] → IsReadBack mode p
+spelled_is_read mode p us plain fit r h =
+    let e = environment mode p in
+    let some = some_tokens e false (tokens p) (are_known e (tokens p) us [] fit r.spelled.row) (has_tokens e (tokens p) us r.spelled.row h) in
+    let units : literal_units (is_unicode mode) 0 (tokens_text mode false (tokens p)) ≡ units_of mode (spelling (bare p) mode) =
+    ap (literal_units (is_unicode mode) 0) (sym (literal_text_same (tokens_text mode false (tokens p)) some)) ∙ ap (units_of mode) (sym (spelled_by_tokens mode p)) in
+    record {
+      again = again mode p;
+      same = its_bare mode p;
+      reads = record {
+        spelled = record {
+          shape = its_shape mode p r.spelled.shape;
+          row = subst (λ units. TokenRow (environment mode (again mode p)) (tokens (again mode p)) units []) units (its_row mode p us plain fit r);
+        };
+        early = its_early mode p r.early;
+      };
+    }
+
+pub spelled_is_read_back : (p : Pattern) (us : List CodePoint) → Reads Unicode p us → us ≢ [] → IsReadBack Unicode p
+spelled_is_read_back p us r h = spelled_is_read Unicode p us tt (λ m. cc m) r h
+
+pub legacy_is_read_back : (p : Pattern) (us : List CodePoint) → Reads Legacy p us → AreCodeUnits us → us ≢ [] → IsReadBack Legacy p
+legacy_is_read_back p us r f h = spelled_is_read Legacy p us tt (λ _. f) r h

@@ -1,0 +1,6 @@
+pub mod Bodies
+pub mod Builds
+pub mod Flat
+pub mod Joins
+pub mod OpenGroups
+pub mod Runs

@@ -1,0 +1,32 @@
+-- What stands behind the backslash of a character escape (CharacterEscape, 22.2.1), but for the rows that hold in classes alone, and for those that hold
+-- with neither `u` nor `v` alone (LegacyEscapes).
+use Rattle.std.specs.Prelude.{◌≡◌, ℕ, Bool, true, false, ◌==◌, ◌||◌, List, [], ◌∷◌, Some}
+use Rattle.rx_tables.specs.Characters.{control_escape_value, control_letter_value, is_decimal_digit, is_syntax_character}
+use Rattle.rx_ast.specs.declared.leaf.CharacterKind.{CharacterKind}
+use Rattle.rx_ast.specs.declared.leaf.CharacterKind.TheVariants as kind
+use Rattle.rx_model.specs.Inputs.Environment.{Environment, is_unicode}
+use Rattle.rx_model.specs.Characters.UnicodeEscapes.{hex_number, SpellsUnicode}
+
+-- whether the first of these characters is there, and in the set
+abbrev pub front_is : (ℕ → Bool) → List ℕ → Bool
+front_is set [] = false
+front_is set (c ∷ cs) = set c
+
+-- IdentityEscape with `u` or `v`: a SyntaxCharacter or `/`
+abbrev pub is_identity_escape : ℕ → Bool
+is_identity_escape c = is_syntax_character c || c == 47
+
+-- The kind and the value of a character that these characters spell before rest.
+pub data SpellsEscape (e : Environment) : CharacterKind → ℕ → List ℕ → List ℕ → Type 0 where
+  -- ControlEscape: f n r t v
+  control : {c v : ℕ} {rest : List ℕ} → control_escape_value c ≡ Some v → SpellsEscape e kind.SingleEscape v (c ∷ []) rest
+  -- `c` and an AsciiLetter
+  letter : {c v : ℕ} {rest : List ℕ} → control_letter_value c ≡ Some v → SpellsEscape e kind.ControlLetter v (99 ∷ c ∷ []) rest
+  -- `0`, before no DecimalDigit
+  null : {rest : List ℕ} → front_is is_decimal_digit rest ≡ false → SpellsEscape e kind.Null 0 (48 ∷ []) rest
+  -- HexEscapeSequence: `x` and two hexadecimal digits
+  hexadecimal : {a b v : ℕ} {rest : List ℕ} → hex_number (a ∷ b ∷ []) ≡ Some v → SpellsEscape e kind.HexadecimalEscape v (120 ∷ a ∷ b ∷ []) rest
+  -- RegExpUnicodeEscapeSequence
+  unicode : {v : ℕ} {w rest : List ℕ} → SpellsUnicode (is_unicode e.mode) v w rest → SpellsEscape e kind.UnicodeEscape v w rest
+  -- IdentityEscape
+  identity : {c : ℕ} {rest : List ℕ} → is_unicode e.mode ≡ true → is_identity_escape c ≡ true → SpellsEscape e kind.Identifier c (c ∷ []) rest

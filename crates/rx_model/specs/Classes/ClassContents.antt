@@ -1,0 +1,46 @@
+-- What the contents of a class are, as things in a row (ClassContents, ClassUnion, ClassIntersection and ClassSubtraction, 22.2.1), and what a bracket holds
+-- after some of them.
+use Rattle.std.specs.Prelude.{Option, Some, None, List, [], ◌∷◌}
+use Rattle.rx_model.specs.Classes.ClassRuns.{Held, less_by, met_by, operand, ranged}
+
+-- an operand: a character, an escape, a nested class, class strings; a range; `&&`; `--`
+pub data Thing : Type 0 where
+  one_operand : Thing
+  one_range : Thing
+  meet : Thing
+  less : Thing
+
+abbrev pub IsMember : Thing → Type 0
+IsMember one_operand = Unit {0}
+IsMember one_range = Unit {0}
+IsMember meet = ⊥
+IsMember less = ⊥
+
+abbrev pub AreMembers : List Thing → Type 0
+AreMembers [] = Unit {0}
+AreMembers (thing ∷ things) = IsMember thing × AreMembers things
+
+-- further operands, each behind the operator
+pub data AreFurther (operator : Thing) : List Thing → Type 0 where
+  none : AreFurther operator []
+  further : (more : List Thing) → AreFurther operator more → AreFurther operator (operator ∷ one_operand ∷ more)
+
+pub data AreContents : List Thing → Type 0 where
+  union : (things : List Thing) → AreMembers things → AreContents things
+  intersection : (more : List Thing) → AreFurther meet more → AreContents (one_operand ∷ more)
+  subtraction : (more : List Thing) → AreFurther less more → AreContents (one_operand ∷ more)
+
+abbrev pub with_thing : Thing → Held → Option Held
+with_thing one_operand held = operand held
+with_thing one_range held = ranged held
+with_thing meet held = met_by held
+with_thing less held = less_by held
+
+abbrev pub go_on : Option Held → (Held → Option Held) → Option Held
+go_on None more = None
+go_on (Some held) more = more held
+
+-- what a bracket holds that held this, with these things more, or none where one may not stand where it does
+abbrev pub held_after : List Thing → Held → Option Held
+held_after [] held = Some held
+held_after (thing ∷ things) held = go_on (with_thing thing held) (λ after. held_after things after)

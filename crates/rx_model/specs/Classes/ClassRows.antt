@@ -1,0 +1,183 @@
+-- What each token of a class spells (ClassContents, NonemptyClassRanges, 22.2.1), and rows of them. A relation `.. w rest` says that the units w spell a
+-- thing before all that follows them, rest. With neither `u` nor `v`, and with `v`, no class is read yet, and only the rows that all modes share are here.
+use Rattle.std.specs.Prelude.{◌≡◌, ℕ, ◌+◌, Bool, true, false, not, ◌==◌, ◌&&◌, ◌||◌, ◌⊎◌, List, [], ◌∷◌, ◌++◌, length}
+use Rattle.rx_ast.specs.declared.leaf.CharacterKind.{CharacterKind}
+use Rattle.rx_ast.specs.declared.leaf.CharacterKind.TheVariants as kind
+use Rattle.rx_ast.specs.declared.class.CharacterClassContentsKind.{CharacterClassContentsKind}
+use Rattle.rx_ast.specs.declared.class.CharacterClassContentsKind.TheVariants.{Union, Intersection, Subtraction}
+use Rattle.rx_ast.specs.ClassTree.{Class, class}
+use Rattle.rx_ast.specs.Forget.{forget_class, same_kind}
+use Rattle.rx_units.specs.declared.code_point.CodePoint.{CodePoint}
+use Rattle.rx_units.specs.Units.{values}
+use Rattle.rx_model.specs.declared.mode.Mode.{Mode}
+use Rattle.rx_model.specs.declared.mode.Mode.TheVariants.{Legacy, Unicode, Sets}
+use Rattle.rx_model.specs.Spelling.ClassText.{class_escape_text}
+use Rattle.rx_model.specs.Classes.ClassTokens.{Atom, character, escape, property, is_character, ClassToken, bracket, closer, item, low, dash, high, meet, less, strings, letter, string_bar, strings_end, ClassEvents, enter, leave, token, class_events, class_tokens}
+use Rattle.rx_model.specs.Trees.Early.{may_contain_strings}
+use Rattle.rx_model.specs.Inputs.Environment.{Environment, is_unicode}
+use Rattle.rx_model.specs.Characters.Escapes.{SpellsEscape}
+use Rattle.rx_model.specs.Characters.LegacyEscapes.{SpellsLegacy}
+use Rattle.rx_model.specs.FirstPass.Marks.{starts}
+use Rattle.rx_model.specs.Properties.PropertyEscapes.{IsProperty}
+use Rattle.rx_model.specs.Characters.UnitKinds.{unit_kind}
+
+-- whether a value may stand for itself in a class (ClassAtomNoDash): neither a backslash, nor `]`, nor `-`
+abbrev pub stands_raw_in_class : Mode → ℕ → Bool
+stands_raw_in_class Legacy c = not (c == 92 || c == 93 || c == 45)
+stands_raw_in_class Unicode c = not (c == 92 || c == 93 || c == 45)
+stands_raw_in_class Sets c = false
+
+-- the escapes that are characters in classes alone (ClassEscape, 22.2.1): `\b` and, with `u`, `\-`
+pub data SpellsInClassAlone (mode : Mode) : CharacterKind → ℕ → List ℕ → Type 0 where
+  backspace : SpellsInClassAlone mode kind.SingleEscape 8 (98 ∷ [])
+  hyphen : mode ≡ Unicode → SpellsInClassAlone mode kind.SingleEscape 45 (45 ∷ [])
+
+-- whether a `-` may stand for itself
+abbrev pub has_hyphen : Mode → Bool
+has_hyphen Legacy = true
+has_hyphen Unicode = true
+has_hyphen Sets = false
+
+-- A character in a class.
+pub data SpellsClassCharacter (e : Environment) : CharacterKind → ℕ → List CodePoint → List CodePoint → Type 0 where
+  -- one unit
+  raw : {rest : List CodePoint} (unit : CodePoint) → stands_raw_in_class e.mode unit.value ≡ true → SpellsClassCharacter e (unit_kind unit.escape_kind) unit.value (unit ∷ []) rest
+  -- a `-`, however it was written
+  hyphen : {rest : List CodePoint} (unit : CodePoint) → has_hyphen e.mode ≡ true → unit.value ≡ 45 → SpellsClassCharacter e kind.Symbol 45 (unit ∷ []) rest
+  -- a backslash and an escape that is a character everywhere
+  escaped : {k : CharacterKind} {v : ℕ} {rest : List CodePoint} (backslash : CodePoint) (behind : List CodePoint) → backslash.value ≡ 92
+      → SpellsEscape e k v (values behind) (values rest) → SpellsClassCharacter e k v (backslash ∷ behind) rest
+  -- a backslash and one that is a character in classes alone
+  escaped_in_class : {k : CharacterKind} {v : ℕ} {rest : List CodePoint} (backslash : CodePoint) (behind : List CodePoint) → backslash.value ≡ 92
+      → SpellsInClassAlone e.mode k v (values behind) → SpellsClassCharacter e k v (backslash ∷ behind) rest
+  -- a backslash and one that is a character with neither `u` nor `v` alone
+  escaped_in_legacy : {k : CharacterKind} {v : ℕ} {rest : List CodePoint} (backslash : CodePoint) (behind : List CodePoint) → backslash.value ≡ 92 → is_unicode e.mode ≡ false
+      → SpellsLegacy true e k v (values behind) (values rest) → SpellsClassCharacter e k v (backslash ∷ behind) rest
+
+-- ClassAtom
+abbrev pub SpellsAtom : Environment → Atom → List CodePoint → List CodePoint → Type 0
+SpellsAtom e (character k v) w rest = SpellsClassCharacter e k v w rest
+SpellsAtom e (escape k) w rest = values w ≡ class_escape_text k
+SpellsAtom e (property negative of_strings name value) w rest = IsProperty e negative of_strings name value w
+
+-- whether a `-` stands next, and then neither `]` nor the end
+abbrev pub is_dashed : List ℕ → Bool
+is_dashed [] = false
+is_dashed (c ∷ []) = false
+is_dashed (c ∷ d ∷ w) = c == 45 && not (d == 93)
+
+-- a `-` and a character stand next
+pub record BeforeHigh (e : Environment) (rest : List CodePoint) : Type 0 where
+  pub hyphen : CodePoint
+  pub kind : CharacterKind
+  pub value : ℕ
+  pub w : List CodePoint
+  pub more : List CodePoint
+  pub whole : rest ≡ hyphen ∷ (w ++ more)
+  pub hyphen_is : hyphen.value ≡ 45
+  pub spelled : SpellsClassCharacter e kind value w more
+
+-- whether an atom, a `-` and an atom that make no range are three items: with neither `u` nor `v` (CharacterRangeOrUnion, B.1.4)
+abbrev pub has_threes : Mode → Bool
+has_threes Legacy = true
+has_threes Unicode = false
+has_threes Sets = false
+
+-- a `-` and an atom stand next, which are the second and the third of three items, of which this atom is the first
+pub record BeforeThird (e : Environment) (first : Atom) (rest : List CodePoint) : Type 0 where
+  pub hyphen : CodePoint
+  pub third : Atom
+  pub w : List CodePoint
+  pub more : List CodePoint
+  pub whole : rest ≡ hyphen ∷ (w ++ more)
+  pub hyphen_is : hyphen.value ≡ 45
+  pub dashed : is_dashed (values rest) ≡ true
+  pub spelled : SpellsAtom e third w more
+  pub apart : (is_character first && is_character third) ≡ false
+  pub threes : has_threes e.mode ≡ true
+
+-- what stands behind an item: no `-` that could make it the low end of a range, or the other two of three items
+abbrev pub StandsBefore : Environment → Atom → List CodePoint → Type 0
+StandsBefore e a rest = (is_dashed (values rest) ≡ false) ⊎ BeforeThird e a rest
+
+-- What may stand next in a class: its bracket; an item or a closer; the `-` of a range; the end of a range; the second and the third of three items.
+pub data Place : Type 0 where
+  outside : Place
+  fresh : Place
+  at_dash : Place
+  at_high : Place
+  at_second : Place
+  at_third : Place
+
+-- At a place the token is spelled.
+abbrev pub SpellsInClass : Environment → Place → ClassToken → List CodePoint → List CodePoint → Type 0
+SpellsInClass e outside (bracket true) w rest = values w ≡ 91 ∷ 94 ∷ []
+SpellsInClass e outside (bracket false) w rest = (values w ≡ 91 ∷ []) × (starts 94 (values rest) ≡ false)
+SpellsInClass e fresh closer w rest = values w ≡ 93 ∷ []
+SpellsInClass e fresh (item a) w rest = SpellsAtom e a w rest × StandsBefore e a rest
+SpellsInClass e fresh (low k v) w rest = SpellsClassCharacter e k v w rest × (is_dashed (values rest) ≡ true) × BeforeHigh e rest
+SpellsInClass e at_dash dash w rest = values w ≡ 45 ∷ []
+SpellsInClass e at_high (high k v) w rest = SpellsClassCharacter e k v w rest
+SpellsInClass e at_second (item a) w rest = (a ≡ character kind.Symbol 45) × (values w ≡ 45 ∷ [])
+SpellsInClass e at_third (item a) w rest = SpellsAtom e a w rest
+SpellsInClass e q t w rest = ⊥
+
+-- the place behind an item, by whether it is the first of three
+abbrev pub behind_item : Place → Bool → Place
+behind_item fresh true = at_second
+behind_item fresh false = fresh
+behind_item at_second first = at_third
+behind_item at_third first = fresh
+behind_item outside first = fresh
+behind_item at_dash first = fresh
+behind_item at_high first = fresh
+
+-- the place behind a token, from its own place and with what follows it
+abbrev pub behind : Mode → Place → ClassToken → List CodePoint → Place
+behind mode q (bracket negative) rest = fresh
+behind mode q closer rest = fresh
+behind mode q (item a) rest = behind_item q (is_dashed (values rest) && has_threes mode)
+behind mode q (low k v) rest = at_dash
+behind mode q dash rest = at_high
+behind mode q (high k v) rest = fresh
+behind mode q meet rest = fresh
+behind mode q less rest = fresh
+behind mode q strings rest = fresh
+behind mode q (letter k v) rest = fresh
+behind mode q string_bar rest = fresh
+behind mode q strings_end rest = fresh
+
+-- The tokens lead from these units, at a place of the class, to the rest.
+abbrev pub ClassTokenRow : Environment → List ClassToken → Place → List CodePoint → Place → List CodePoint → Type 0
+ClassTokenRow e [] q us r rest = (q ≡ r) × (us ≡ rest)
+ClassTokenRow e (t ∷ ts) q us r rest =
+    (w : List CodePoint) × (more : List CodePoint) × (us ≡ w ++ more) × SpellsInClass e q t w more × ClassTokenRow e ts (behind e.mode q t more) more r rest
+
+-- The events lead from place i of the text to place j, where o gives the offset of a place.
+abbrev pub ClassRow : Environment → (ℕ → ℕ) → ClassEvents → Place → ℕ → List CodePoint → Place → ℕ → List CodePoint → Type 0
+ClassRow e o [] q i us r j rest = (q ≡ r) × (i ≡ j) × (us ≡ rest)
+ClassRow e o ((enter n) ∷ es) q i us r j rest = (n ≡ o i) × ClassRow e o es q i us r j rest
+ClassRow e o ((leave n) ∷ es) q i us r j rest = (n ≡ o i) × ClassRow e o es q i us r j rest
+ClassRow e o ((token t) ∷ es) q i us r j rest =
+    (w : List CodePoint) × (more : List CodePoint) × (us ≡ w ++ more) × SpellsInClass e q t w more × ClassRow e o es (behind e.mode q t more) (i + length w) more r j rest
+
+-- the kind of a class's contents fits them: outside sets mode it is a union
+abbrev pub IsKindOf : Mode → CharacterClassContentsKind → Type 0
+IsKindOf mode Union = Unit {0}
+IsKindOf mode Intersection = ⊥
+IsKindOf mode Subtraction = ⊥
+
+-- What the text of a class does not tell by itself: its kind, and that its flag is MayContainStrings (22.2.1.8).
+abbrev pub IsClassShape : Mode → Class → Type 0
+IsClassShape mode (class s negative may kind ms) = IsKindOf mode kind × (may ≡ may_contain_strings kind ms)
+
+-- A whole class without spans is spelled: from before its bracket to behind its closer.
+pub record IsClass (e : Environment) (c : Class) (w rest : List CodePoint) : Type 0 where
+  pub no_spans : forget_class same_kind c ≡ c
+  pub shape : IsClassShape e.mode c
+  pub row : ClassTokenRow e (class_tokens c) outside (w ++ rest) fresh rest
+
+-- The same from place i on, where o gives the offset of a place: each node in it has the span of what it spells.
+pub record IsClassSpanned (e : Environment) (o : ℕ → ℕ) (i : ℕ) (c : Class) (w rest : List CodePoint) : Type 0 where
+  pub shape : IsClassShape e.mode c
+  pub row : ClassRow e o (class_events c) outside i (w ++ rest) fresh (i + length w) rest

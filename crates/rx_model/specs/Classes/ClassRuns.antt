@@ -1,0 +1,169 @@
+-- Which rows of class tokens are front parts of a class that is free of early errors (22.2.1.1): the brackets that are open after them, and what each holds.
+use Rattle.std.specs.Prelude.{ℕ, ◌+◌, Bool, true, false, not, ◌||◌, ◌&&◌, ◌==◌, nat_le, Option, Some, None, List, [], ◌∷◌}
+use Rattle.rx_model.specs.Classes.ClassTokens.{Atom, character, escape, property, ClassToken, bracket, closer, item, low, dash, high, meet, less, strings, letter, string_bar, strings_end}
+
+-- What a bracket holds so far: nothing, one operand, more of a union; operands with `&&` between, and such a `&&` at the end; the same with `--`.
+pub data Held : Type 0 where
+  empty : Held
+  single : Held
+  several : Held
+  meeting : Held
+  met : Held
+  lessening : Held
+  lessened : Held
+
+-- with one operand more
+abbrev pub operand : Held → Option Held
+operand empty = Some single
+operand single = Some several
+operand several = Some several
+operand meeting = Some met
+operand met = None
+operand lessening = Some lessened
+operand lessened = None
+
+-- with one range more
+abbrev pub ranged : Held → Option Held
+ranged empty = Some several
+ranged single = Some several
+ranged several = Some several
+ranged meeting = None
+ranged met = None
+ranged lessening = None
+ranged lessened = None
+
+-- with `&&`
+abbrev pub met_by : Held → Option Held
+met_by empty = None
+met_by single = Some meeting
+met_by several = None
+met_by meeting = None
+met_by met = Some meeting
+met_by lessening = None
+met_by lessened = None
+
+-- with `--`
+abbrev pub less_by : Held → Option Held
+less_by empty = None
+less_by single = Some lessening
+less_by several = None
+less_by meeting = None
+less_by met = None
+less_by lessening = None
+less_by lessened = Some lessening
+
+-- whether `]` may follow
+abbrev pub is_whole : Held → Bool
+is_whole empty = true
+is_whole single = true
+is_whole several = true
+is_whole meeting = false
+is_whole met = true
+is_whole lessening = false
+is_whole lessened = true
+
+-- MayContainStrings (22.2.1.8) with one operand more, by that of what is held and that of the operand
+abbrev pub with_strings : Held → Bool → Bool → Bool
+with_strings empty old new = new
+with_strings single old new = old || new
+with_strings several old new = old || new
+with_strings meeting old new = old && new
+with_strings met old new = old
+with_strings lessening old new = old
+with_strings lessened old new = old
+
+-- An open bracket: whether it is negative, what it holds, whether that may contain strings; and of a range that has begun its low end, of class strings that
+-- have begun the characters of the last and whether one before is no single character.
+pub record Bracket : Type 0 where
+  pub negative : Bool
+  pub held : Held
+  pub may : Bool
+  pub low_end : ℕ
+  pub count : ℕ
+  pub any : Bool
+
+abbrev pub bracket_of : Bool → Held → Bool → Bracket
+bracket_of negative held may = record { negative = negative; held = held; may = may; low_end = 0; count = 0; any = false }
+
+-- the innermost first
+abbrev pub Brackets : Type 0
+Brackets = List Bracket
+
+-- the bracket with one thing more, if it may
+abbrev pub holding : Bracket → Brackets → Bool → Option Held → Option Brackets
+holding r outer may None = None
+holding r outer may (Some held) = Some (bracket_of r.negative held (with_strings r.held r.may may) ∷ outer)
+
+abbrev pub held_on : Bracket → Brackets → Option Held → Option Brackets
+held_on r outer None = None
+held_on r outer (Some held) = Some (bracket_of r.negative held r.may ∷ outer)
+
+-- these, where one thing more may stand
+abbrev pub where_may : Option Held → Brackets → Option Brackets
+where_may None brackets = None
+where_may (Some held) brackets = Some brackets
+
+-- behind a closer: a closed bracket is an operand of the one around it
+abbrev pub closed : Bool → Bool → Brackets → Option Brackets
+closed may false outer = None
+closed may true [] = Some []
+closed may true (r ∷ outer) = holding r outer may (operand r.held)
+
+-- A bracket that is whole may close, but a negative one with strings (22.2.1.1).
+abbrev pub may_close : Bracket → Bool
+may_close r = is_whole r.held && not (r.negative && r.may)
+
+-- whether some class string is no single character
+abbrev pub any_string : Bracket → Bool
+any_string r = r.any || not (r.count == 1)
+
+abbrev pub where_true : Bool → Option Brackets → Option Brackets
+where_true true brackets = brackets
+where_true false brackets = None
+
+-- whether an atom may contain strings
+abbrev pub atom_may : Atom → Bool
+atom_may (character k v) = false
+atom_may (escape k) = false
+atom_may (property negative may name value) = may
+
+-- whether an atom obeys by itself: a negative property is none of strings
+abbrev pub atom_obeys : Atom → Bool
+atom_obeys (character k v) = nat_le v 0x10FFFF
+atom_obeys (escape k) = true
+atom_obeys (property negative may name value) = not (negative && may)
+
+-- one token more in the innermost bracket
+abbrev pub in_bracket : ClassToken → Bracket → Brackets → Option Brackets
+in_bracket (bracket negative) r outer = where_may (operand r.held) (bracket_of negative empty false ∷ r ∷ outer)
+in_bracket closer r outer = closed r.may (may_close r) outer
+in_bracket (item a) r outer = where_true (atom_obeys a) (holding r outer (atom_may a) (operand r.held))
+in_bracket (low k v) r outer = where_may (ranged r.held) (record r { low_end = v } ∷ outer)
+in_bracket dash r outer = Some (r ∷ outer)
+in_bracket (high k v) r outer = where_true (nat_le r.low_end v && nat_le v 0x10FFFF) (holding r outer false (ranged r.held))
+in_bracket meet r outer = held_on r outer (met_by r.held)
+in_bracket less r outer = held_on r outer (less_by r.held)
+in_bracket strings r outer = where_may (operand r.held) (record r { count = 0; any = false } ∷ outer)
+in_bracket (letter k v) r outer = where_true (nat_le v 0x10FFFF) (Some (record r { count = r.count + 1 } ∷ outer))
+in_bracket string_bar r outer = Some (record r { count = 0; any = any_string r } ∷ outer)
+in_bracket strings_end r outer = holding r outer (any_string r) (operand r.held)
+
+-- one token more; with no open bracket the class has ended
+abbrev pub class_step : ClassToken → Brackets → Option Brackets
+class_step t [] = None
+class_step t (r ∷ outer) = in_bracket t r outer
+
+abbrev pub behind_step : Option Brackets → (Brackets → Option Brackets) → Option Brackets
+behind_step None more = None
+behind_step (Some brackets) more = more brackets
+
+-- the brackets that are open after some tokens, from those that were open; or none, where one may not stand where it does
+abbrev pub class_run : List ClassToken → Brackets → Option Brackets
+class_run [] brackets = Some brackets
+class_run (t ∷ ts) brackets = behind_step (class_step t brackets) (λ after. class_run ts after)
+
+-- the same from before the class's own bracket
+abbrev pub class_opened : List ClassToken → Option Brackets
+class_opened [] = None
+class_opened ((bracket negative) ∷ ts) = class_run ts (bracket_of negative empty false ∷ [])
+class_opened (t ∷ ts) = None

@@ -1,0 +1,4 @@
+pub mod Cuts
+pub mod Frames
+pub mod MarkTexts
+pub mod Marks

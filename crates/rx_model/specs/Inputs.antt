@@ -1,0 +1,4 @@
+pub mod Environment
+pub mod Flags
+pub mod Inputs
+pub mod Modes

@@ -1,0 +1,37 @@
+-- What the reading of a token depends on besides the text.
+use Rattle.std.specs.Prelude.{ℕ, Bool, true, false, ◌||◌, List, [], ◌∷◌}
+use Rattle.rx_ast.specs.declared.term.Pattern.{Pattern}
+use Rattle.rx_model.specs.declared.mode.Mode.{Mode}
+use Rattle.rx_model.specs.declared.mode.Mode.TheVariants.{Legacy, Unicode, Sets}
+use Rattle.rx_model.specs.Trees.Names.{groups, names}
+
+-- with `u` or `v` (the parameter UnicodeMode of the grammar)
+abbrev pub is_unicode : Mode → Bool
+is_unicode Legacy = false
+is_unicode Unicode = true
+is_unicode Sets = true
+
+abbrev pub has_some : List (List ℕ) → Bool
+has_some [] = false
+has_some (name ∷ names) = true
+
+-- The mode, the number of capturing groups in the whole pattern, whether `\k` is a reference (the parameter NamedCaptureGroups:
+-- in the unicode modes, or where some group has a name), and whether the buffer boundaries `\A`, `\z`, `\Z` are read.
+pub record Environment : Type 0 where
+  pub mode : Mode
+  pub groups : ℕ
+  pub named : Bool
+  pub buffer_boundaries : Bool
+
+-- with so many groups, of which some have names or none has
+abbrev pub environment_with : Mode → ℕ → Bool → Environment
+environment_with mode groups has_names = record {
+  mode = mode;
+  groups = groups;
+  named = is_unicode mode || has_names;
+  buffer_boundaries = true;
+}
+
+-- the environment in which a whole pattern is spelled: by its own groups and names
+abbrev pub environment : Mode → Pattern → Environment
+environment mode p = environment_with mode (groups p) (has_some (names p))

@@ -1,0 +1,3 @@
+pub mod PropertyEscapes
+pub mod PropertyForms
+pub mod PropertyFronts

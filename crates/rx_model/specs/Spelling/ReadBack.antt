@@ -1,0 +1,19 @@
+-- What it means that the canonical spelling of a pattern is read back.
+use Rattle.std.specs.Prelude.{◌≡◌, ◌≤◌, List, [], ◌∷◌}
+use Rattle.rx_ast.specs.declared.term.Pattern.{Pattern}
+use Rattle.rx_ast.specs.Forget.{bare}
+use Rattle.rx_units.specs.declared.code_point.CodePoint.{CodePoint}
+use Rattle.rx_model.specs.declared.mode.Mode.{Mode}
+use Rattle.rx_model.specs.Reading.Reading.{Reads, units_of}
+use Rattle.rx_model.specs.Spelling.Spelling.{spelling}
+
+-- Each unit is a UTF-16 code unit, as those of a text are with neither `u` nor `v`.
+abbrev pub AreCodeUnits : List CodePoint → Type 0
+AreCodeUnits [] = Unit {0}
+AreCodeUnits (u ∷ us) = (u.value ≤ 0xFFFF) × AreCodeUnits us
+
+-- The canonical spelling, as the text of a literal, reads as a pattern that is equal but for spans and character kinds.
+pub record IsReadBack (mode : Mode) (p : Pattern) : Type 0 where
+  pub again : Pattern
+  pub same : bare again ≡ bare p
+  pub reads : Reads mode again (units_of mode (spelling (bare p) mode))
