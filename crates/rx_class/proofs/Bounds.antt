@@ -7,12 +7,12 @@ use Rattle.rx_ast.specs.declared.leaf.CharacterKind.TheVariants as kind
 use Rattle.rx_units.specs.declared.code_point.CodePoint.{CodePoint}
 use Rattle.rx_units.specs.Units.{values}
 use Rattle.rx_model.specs.declared.mode.Mode.TheVariants.{Legacy, Unicode}
-use Rattle.rx_model.specs.Environment.{Environment, is_unicode}
-use Rattle.rx_model.specs.Decoding.{Decoded, value, invalid, overflow, decoded}
-use Rattle.rx_model.specs.Escapes.{front_is, is_identity_escape}
-use Rattle.rx_model.specs.Fronts.{escape_at, escape_behind, escaped, escaped_if, letter_at, no_unicode, too_many, two_at, unicode_read}
-use Rattle.rx_model.proofs.Decodings.{chosen, overflow_within}
-use Rattle.rx_model.proofs.Escapes.{escape_positive, escape_small, escape_spelled}
+use Rattle.rx_model.specs.Inputs.Environment.{Environment, is_unicode}
+use Rattle.rx_model.specs.Characters.Decoding.{Decoded, value, invalid, overflow, decoded}
+use Rattle.rx_model.specs.Characters.Escapes.{front_is, is_identity_escape}
+use Rattle.rx_model.specs.Reading.Fronts.{escape_at, escape_behind, escaped, escaped_if, letter_at, no_unicode, too_many, two_at, unicode_read}
+use Rattle.rx_model.proofs.Characters.Decodings.{chosen, overflow_within}
+use Rattle.rx_model.proofs.Characters.Escapes.{escape_positive, escape_small, escape_spelled}
 use Rattle.rx_class.specs.Found.{IsWithin, seen_escape}
 use Rattle.rx_class.specs.declared.escape_found.EscapeFound.{EscapeFound}
 use Rattle.rx_class.specs.declared.escape_found.EscapeFound.TheVariants as found

@@ -5,8 +5,7 @@ use Rattle.std.proofs.lemmas.Bool.Decides.{nat_tests}
 use Rattle.std.proofs.lemmas.List.{length-map}
 use Rattle.std.proofs.lemmas.List.Elements.{All-head}
 use Rattle.rx_base.specs.declared.diagnostic.Diagnostic.{Diagnostic}
-use Rattle.rx_base.specs.declared.diagnostic.Diagnostic.TheVariants.{InvalidClassAtom, InvalidUnicodeEscapeSequence, TooLargeNumberDigits}
-use Rattle.rx_base.specs.declared.diagnostic.kinds.DigitsKind.TheVariants.{Hex}
+use Rattle.rx_base.specs.declared.diagnostic.Diagnostic.TheVariants.{InvalidClassAtom}
 use Rattle.rx_base.specs.declared.fault.Fault.{Fault}
 use Rattle.rx_base.specs.declared.fault.Fault.TheVariants as fault
 use Rattle.rx_base.specs.declared.span.Span.{Span}
@@ -23,40 +22,42 @@ use Rattle.rx_units.specs.Reading.{Reading, moved, offset_of, rest}
 use Rattle.rx_units.specs.Units.{values}
 use Rattle.rx_model.specs.declared.mode.Mode.{Mode}
 use Rattle.rx_model.specs.declared.mode.Mode.TheVariants.{Unicode}
-use Rattle.rx_model.specs.ClassCauses.{IsClassCause, escape_in_class as cause_of_escape, invalid_atom, property_in_class}
-use Rattle.rx_model.specs.ClassFronts.{atom_at, character_atom, escape_atom, escape_in_class, no_atom, property_atom}
-use Rattle.rx_model.specs.ClassPlaces.{IsAtomPlace}
-use Rattle.rx_model.specs.ClassRows.{SpellsAtom, SpellsClassCharacter, SpellsInClassAlone, stands_raw_in_class}
-use Rattle.rx_model.specs.ClassRows as row
-use Rattle.rx_model.specs.ClassRuns.{atom_obeys}
-use Rattle.rx_model.specs.ClassText.{class_escape_text}
-use Rattle.rx_model.specs.Environment.{Environment, is_unicode}
-use Rattle.rx_model.specs.EscapeCauses.{BeginsProperty, IsEscapeCause, IsPropertyCause, invalid_escape, too_many_hex_digits}
-use Rattle.rx_model.specs.EscapeCauses as cause
-use Rattle.rx_model.specs.EscapeFronts.{EscapeRead, class_escape_at, escape_at, escaped, no_unicode, nothing, too_many}
-use Rattle.rx_model.specs.Escapes.{control, front_is, hexadecimal, identity, letter, null}
-use Rattle.rx_model.specs.PropertyEscapes.{IsProperty, SpellsProperty}
-use Rattle.rx_model.specs.PropertyEscapes as spelled
-use Rattle.rx_model.specs.PropertyForms.{begins_property}
-use Rattle.rx_model.specs.PropertyFronts.{PropertyRead, no_property, property_front, property_read}
-use Rattle.rx_model.specs.Reached.{span_between, text_environment}
-use Rattle.rx_model.specs.Stops.{begins_class_escape, is_hex_digit, is_letter, is_one_of, two_hex_digits}
-use Rattle.rx_model.specs.UnicodeEscapes.{Decodes, PassesHex, hex_number}
-use Rattle.rx_model.proofs.Backslashes.{class_found}
-use Rattle.rx_model.proofs.Decodings.{both, chosen}
-use Rattle.rx_model.proofs.Escapes.{escape_spelled}
-use Rattle.rx_model.proofs.PropertyFronts.{property_text}
+use Rattle.rx_model.specs.Refusals.ClassCauses.{IsClassCause, escape_in_class as cause_of_escape, invalid_atom, property_in_class}
+use Rattle.rx_model.specs.Classes.ClassFronts.{atom_at, character_atom, escape_atom, escape_in_class, no_atom, property_atom}
+use Rattle.rx_model.specs.Refusals.ClassPlaces.{IsAtomPlace}
+use Rattle.rx_model.specs.Classes.ClassRows.{SpellsAtom, SpellsClassCharacter, SpellsInClassAlone, stands_raw_in_class}
+use Rattle.rx_model.specs.Classes.ClassRows as row
+use Rattle.rx_model.specs.Classes.ClassRuns.{atom_obeys}
+use Rattle.rx_model.specs.Spelling.ClassText.{class_escape_text}
+use Rattle.rx_model.specs.Inputs.Environment.{Environment, is_unicode}
+use Rattle.rx_model.specs.Refusals.EscapeCauses.{BeginsProperty, IsPropertyCause}
+use Rattle.rx_model.specs.Refusals.EscapeCauses as cause
+use Rattle.rx_model.specs.Characters.EscapeFronts.{EscapeRead, any_escape_at, or_legacy, legacy_at, class_escape_at, escape_at, escaped, no_unicode, nothing, too_many}
+use Rattle.rx_model.specs.Characters.Escapes.{control, front_is, hexadecimal, identity, letter, null}
+use Rattle.rx_model.specs.Properties.PropertyEscapes.{IsProperty, SpellsProperty}
+use Rattle.rx_model.specs.Properties.PropertyEscapes as spelled
+use Rattle.rx_model.specs.Properties.PropertyForms.{begins_property}
+use Rattle.rx_model.specs.Properties.PropertyFronts.{PropertyRead, no_property, property_front, property_read}
+use Rattle.rx_model.specs.Refusals.Reached.{span_between, text_environment}
+use Rattle.rx_model.specs.Refusals.Stops.{begins_class_escape, is_hex_digit, is_letter, is_one_of, two_hex_digits}
+use Rattle.rx_model.specs.Characters.UnicodeEscapes.{hex_number}
+use Rattle.rx_model.proofs.Characters.Backslashes.{class_found}
+use Rattle.rx_model.proofs.Characters.Decodings.{both, chosen}
+use Rattle.rx_model.proofs.Characters.Escapes.{escape_spelled}
+use Rattle.rx_model.proofs.Properties.PropertyFronts.{property_text}
 use Rattle.rx_class.specs.declared.class_atom.ClassAtom.{ClassAtom}
 use Rattle.rx_class.specs.declared.class_atom.ClassAtom.TheVariants as atom
-use Rattle.rx_class.specs.Answers.{BeginsNoEscape, GivesCharacter, GivesClassEscape, IsBehindBackslash, span_to}
+use Rattle.rx_class.specs.Answers.{BeginsNoEscape, GivesCharacter, GivesClassEscape, IsBehindBackslash, from_backslash, span_to}
 use Rattle.rx_class.specs.Answers as given
 use Rattle.rx_class.specs.ClassItems.{GivesAtom, StandsItem, alone_in_class, atom_of, atom_span, back, environment_at, kind_in_class}
 use Rattle.rx_class.specs.ClassItems as answer
-use Rattle.rx_class.specs.PropertyAnswers.{BeginsNoProperty, GivesProperty, from_backslash}
+use Rattle.rx_class.specs.Keeping.{KeepsUnits}
+use Rattle.rx_class.specs.PropertyAnswers.{BeginsNoProperty, GivesProperty}
 use Rattle.rx_class.specs.PropertyAnswers as given_property
+use Rattle.rx_class.proofs.Behind.{stands, stands_within}
 use Rattle.rx_class.proofs.Gives.{split_values}
-use Rattle.rx_class.proofs.PropertyGives.{stands}
-use Rattle.rx_class.proofs.PropertySpans.{cut_off, from_brace, next_span}
+use Rattle.rx_class.proofs.Keeping.{keeps_placed, stays_keeps}
+use Rattle.rx_class.proofs.PropertySpans.{cut_off, next_span}
 
 -- no class escape stands behind a backslash
 abbrev BeginsNoClassEscape : List ℕ → Type 0
@@ -86,10 +87,6 @@ letter_no_b c h = grind (arith, nat_tests)
 
 letter_no_hyphen : (c : ℕ) → begins_property c ≡ true → (c == 45) ≡ false
 letter_no_hyphen c h = grind (arith, nat_tests)
-
-u_there : (us : List ℕ) → front_is (λ c. c == 117) us ≡ true → (t : List ℕ) × (us ≡ 117 ∷ t)
-u_there [] h = absurd (let no : ⊥ = cc h in no)
-u_there (c ∷ us) h = (us, ap (λ c. c ∷ us) (eqb-true c 117 h))
 
 -- the letter of a property escape that is refused
 record BeginsLetter (us : List ℕ) : Type 0 where
@@ -155,6 +152,12 @@ module _ (text : List CodePoint) where
   unescaped us none (too_many n) h = refl
   unescaped us none no_unicode h = refl
 
+  nothing_else : (w : List ℕ) (r : EscapeRead) → character_atom r ≡ no_atom → character_atom (or_legacy r true (legacy_at true here w)) ≡ no_atom
+  nothing_else w (escaped k v n) h = h
+  nothing_else w nothing h = refl
+  nothing_else w (too_many n) h = refl
+  nothing_else w no_unicode h = refl
+
   nothing_behind : (us : List ℕ) → BeginsNone us → BeginsNoEscape here us → escape_in_class here us ≡ no_atom
   nothing_behind [] b none = refl
   nothing_behind (c ∷ w) b none =
@@ -162,8 +165,8 @@ module _ (text : List CodePoint) where
       cond-false (c == 98) _ _ out.0
       ∙ cond-false (c == 45) _ _ out.1
       ∙ cond-false (begins_property c && true) _ _ (and_left _ true b.no_letter)
-      ∙ ap (λ o. escape_atom o (escape_at true (c ∷ w))) (no_class_at c w b.no_class (class_escape_at c) refl)
-      ∙ unescaped (c ∷ w) none (escape_at true (c ∷ w)) refl
+      ∙ ap (λ o. escape_atom o (any_escape_at true here (c ∷ w))) (no_class_at c w b.no_class (class_escape_at c) refl)
+      ∙ nothing_else (c ∷ w) (escape_at true (c ∷ w)) (unescaped (c ∷ w) none (escape_at true (c ∷ w)) refl)
 
   at_backslash : (u : CodePoint) (us : List CodePoint) → u.value ≡ 92 → atom_at here (u ∷ us) ≡ escape_in_class here (values us)
   unfolding atom_at
@@ -217,13 +220,14 @@ module _ (text : List CodePoint) where
   begins_nothing [] b u none = refl
   begins_nothing (c ∷ w) b u none =
       let out = not_alone c w b.no_alone in
-      or_from _ _ (or_from _ _ (or_from _ _ (or_from _ _ (or_from _ _
+      or_from _ _ (or_from _ _ (or_from _ _ (or_from _ _ (or_from _ _ (or_from _ _
       (no_letter_begins c u b.no_letter out.0 (no_class_at c w b.no_class (class_escape_at c) refl) (no_control c w none (control_escape_value c) refl))
       (false_from_ne_true _ (λ t. none kinds.Identifier c (c ∷ []) w refl (identity refl t))))
       out.1)
       (false_from_ne_true _ (λ t. let p = both (c == 99) (front_is is_letter w) t in no_control_letter w (with_first c 99 w p.0 none) p.1)))
       (false_from_ne_true _ (λ t. let p = both (c == 48) (not (front_is is_decimal_digit w)) t in with_first c 48 w p.0 none kinds.Null 0 (48 ∷ []) w refl (null (not-true _ p.1)))))
-      (false_from_ne_true _ (λ t. let p = both (c == 120) (two_hex_digits w) t in no_digits w (with_first c 120 w p.0 none) p.1))
+      (false_from_ne_true _ (λ t. let p = both (c == 120) (two_hex_digits w) t in no_digits w (with_first c 120 w p.0 none) p.1)))
+      refl
 
 -- What is answered behind a backslash is answered from the backslash on.
 module _ (added start : ℕ) (old : Reading) (is : IsBehindBackslash old start) where
@@ -286,9 +290,6 @@ module _ (added start : ℕ) (old : Reading) (is : IsBehindBackslash old start) 
       let b = stands old start is in
       gives (atom.Character it) new b.backslash w more (b.whole ∙ ap (λ us. b.backslash ∷ us) whole) (row.escaped b.backslash w b.value_is spells) (grind (arith, nat_tests)) covers moves
 
-  from_backslash_values : values (from_backslash old) ≡ 92 ∷ values (rest old)
-  from_backslash_values = let b = stands old start is in ap values b.whole ∙ ap (λ c. c ∷ values (rest old)) b.value_is
-
   -- Where none of them reads an escape, no atom is read.
   not_read : BeginsNone (values (rest old)) → BeginsNoEscape text_here (values (rest old)) → atom_at text_here (from_backslash old) ≡ no_atom
   not_read none no_escape = let b = stands old start is in ap (atom_at text_here) b.whole ∙ no_escape_atom old.units b.backslash (rest old) b.value_is none no_escape
@@ -299,45 +300,33 @@ module _ (added start : ℕ) (old : Reading) (is : IsBehindBackslash old start) 
       ap (atom_at text_here) b.whole
       ∙ no_property_atom old.units b.backslash (rest old) b.value_is (subst (λ us. BeginsLetter (values us)) b.whole l) (subst (BeginsNoProperty text_here) b.whole none)
 
+  from_its_backslash : (new : Reading) → KeepsUnits old new → KeepsUnits (back old) new
+  from_its_backslash new keeps = keeps_placed (old.place - 1) old new keeps
+
   -- What they refuse is refused in the class.
-  pub property_refused : (f : Fault) (new after : Reading) → GivesProperty text_here added start old new (Err f) → GivesAtom added (back old) after (Err f)
-  property_refused _ new after (given_property.refused {diagnostic} cause none) =
+  pub property_refused : (f : Fault) (new : Reading) → GivesProperty text_here added start old new (Err f) → GivesAtom added (back old) new (Err f)
+  property_refused _ new (given_property.refused {diagnostic} cause first none keeps) =
       answer.refused (λ from at_class place. property_in_class (old.place - 1) (from_backslash old) place cause)
-      (not_a_property (letter_of Unicode old.units old.first added (old.place - 1) (from_backslash old) diagnostic cause) none)
-  property_refused _ new after given_property.no_memory = answer.no_memory
+      (not_a_property (letter_of Unicode old.units old.first added (old.place - 1) (from_backslash old) diagnostic cause) none) (from_its_backslash new keeps)
+  property_refused _ new (given_property.no_memory keeps) = answer.no_memory (from_its_backslash new keeps)
 
-  escape_refused : (d : Diagnostic) (after : Reading) → BeginsNone (values (rest old)) → BeginsNoEscape text_here (values (rest old))
-      → IsEscapeCause Unicode old.units old.first added (old.place - 1) (from_backslash old) d → GivesAtom added (back old) after (Err (fault.Diagnostic d))
-  escape_refused d after none no_escape cause = answer.refused (λ from at_class place. cause_of_escape (old.place - 1) (from_backslash old) place cause) (not_read none no_escape)
-
-  pub character_refused : (d : Diagnostic) (new after : Reading) → BeginsNone (values (rest old)) → GivesCharacter text_here added start old new (Err d) → GivesAtom added (back old) after (Err (fault.Diagnostic d))
-  character_refused _ new after none (given.too_many {span} count passes no_escape covers) =
-      escape_refused (TooLargeNumberDigits span Hex) after none no_escape
-      (subst (λ span. IsEscapeCause Unicode old.units old.first added (old.place - 1) (from_backslash old) (TooLargeNumberDigits span Hex)) (sym (from_brace old added count span is.behind covers))
-      (too_many_hex_digits count (values (rest old)) refl from_backslash_values passes))
-  character_refused _ new after none (given.invalid {span} u no_value no_limit no_escape covers) =
-      let t = u_there (values (rest old)) u in
-      let at : span ≡ span_between old.units old.first added (old.place - 1 + 1) (old.place - 1 + 2) =
-      covers
-      ∙ ap (λ place. span_between old.units old.first added place (old.place + 1)) (let k : old.place ≡ old.place - 1 + 1 = omega (arith, is.behind) in k)
-      ∙ ap (span_between old.units old.first added (old.place - 1 + 1)) (let k : old.place + 1 ≡ old.place - 1 + 2 = omega (arith, is.behind) in k) in
-      escape_refused (InvalidUnicodeEscapeSequence span) after none no_escape
-      (subst (λ span. IsEscapeCause Unicode old.units old.first added (old.place - 1) (from_backslash old) (InvalidUnicodeEscapeSequence span)) (sym at)
-      (invalid_escape t.0 refl (from_backslash_values ∙ ap (λ us. 92 ∷ us) t.1) (subst (λ us. (v n : ℕ) → Decodes true us v n → ⊥) t.1 no_value) (subst (λ us. (count : ℕ) → PassesHex us count → ⊥) t.1 no_limit)))
+  pub character_refused : (d : Diagnostic) (new : Reading) → BeginsNone (values (rest old)) → GivesCharacter text_here added start old new (Err d) → GivesAtom added (back old) new (Err (fault.Diagnostic d))
+  character_refused d new none (given.refused cause first no_escape keeps) =
+      answer.refused (λ from at_class place. cause_of_escape (old.place - 1) (from_backslash old) place cause) (not_read none no_escape) (from_its_backslash new keeps)
 
   -- Where nothing stands that a class may hold, the backslash is refused.
-  pub nothing_refused : (span : Span) (after : Reading) → BeginsNone (values (rest old)) → BeginsNoEscape text_here (values (rest old)) → front_is (λ c. c == 117) (values (rest old)) ≡ false
-      → span ≡ span_to added start old → GivesAtom added (back old) after (Err (fault.Diagnostic (InvalidClassAtom span)))
-  nothing_refused span after none no_escape no_u covers =
+  pub nothing_refused : (span : Span) (new : Reading) → new ≡ old → BeginsNone (values (rest old)) → BeginsNoEscape text_here (values (rest old)) → front_is (λ c. c == 117) (values (rest old)) ≡ false
+      → span ≡ span_to added start old → GivesAtom added (back old) new (Err (fault.Diagnostic (InvalidClassAtom span)))
+  nothing_refused span new stays none no_escape no_u covers =
       let b = stands old start is in
       let at : span ≡ span_between old.units old.first added (old.place - 1) (old.place - 1 + 1) =
       covers
       ∙ ap (λ n. record { start = n + added; end = offset_of old + added }) is.start
       ∙ ap (λ place. span_between old.units old.first added (old.place - 1) place) (let k : old.place ≡ old.place - 1 + 1 = omega (arith, is.behind) in k) in
       answer.refused (λ from at_class place.
-      subst (λ span. IsClassCause Unicode old.units old.first added from at_class (InvalidClassAtom span)) (sym at)
+      subst (λ span. IsClassCause Unicode old.units old.first added from at_class (old.place - 1) (InvalidClassAtom span)) (sym at)
       (invalid_atom (old.place - 1) b.backslash (rest old) (subst (IsAtomPlace text_here from at_class (old.place - 1)) b.whole place) b.value_is (begins_nothing old.units (values (rest old)) none no_u no_escape)))
-      (not_read none no_escape)
+      (not_read none no_escape) (from_its_backslash new (stays_keeps old new (stands_within old start is) stays))
 
 -- Where none is answered the reader stays.
 pub no_class_escape : {added start : ℕ} {old new : Reading} → GivesClassEscape added start old new None → (new ≡ old) × BeginsNoClassEscape (values (rest old))

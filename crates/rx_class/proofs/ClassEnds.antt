@@ -5,6 +5,7 @@ use Rattle.std.proofs.Math.Bool.{and-true}
 use Rattle.std.proofs.Math.Seq.{drop-append_seam}
 use Rattle.std.proofs.lemmas.Bool.{eqb-true}
 use Rattle.std.proofs.lemmas.List.{drop-drop}
+use Rattle.rx_base.specs.declared.diagnostic.Diagnostic.{Diagnostic}
 use Rattle.rx_base.specs.declared.diagnostic.Diagnostic.TheVariants.{UnterminatedPattern}
 use Rattle.rx_base.specs.declared.diagnostic.kinds.Unterminated.TheVariants as what
 use Rattle.rx_base.specs.declared.fault.Fault.{Fault}
@@ -18,15 +19,16 @@ use Rattle.rx_units.specs.declared.code_point.CodePoint.{CodePoint}
 use Rattle.rx_units.specs.Reading.{Reading, begins, front, moved, offset_of, rest}
 use Rattle.rx_units.specs.Units.{offset_at, values}
 use Rattle.rx_model.specs.declared.mode.Mode.TheVariants.{Unicode}
-use Rattle.rx_model.specs.ClassCauses.{IsClassCause, unterminated_class}
-use Rattle.rx_model.specs.ClassPlaces.{IsItemPlace}
-use Rattle.rx_model.specs.ClassRows.{IsClassSpanned, SpellsInClass, outside}
-use Rattle.rx_model.specs.ClassTokens.{bracket}
-use Rattle.rx_model.specs.Early.{IsEarlyClass}
-use Rattle.rx_model.specs.Environment.{Environment, environment_with, has_some}
-use Rattle.rx_model.specs.Marks.{starts}
-use Rattle.rx_model.specs.Modes.{mode_by}
-use Rattle.rx_model.specs.Reached.{span_between, text_groups, text_names}
+use Rattle.rx_model.specs.Refusals.ClassCauses.{IsClassCause, unterminated_class}
+use Rattle.rx_model.specs.Refusals.ClassPlaces.{IsItemPlace}
+use Rattle.rx_model.specs.Classes.ClassRows.{IsClassSpanned, SpellsInClass, outside}
+use Rattle.rx_model.specs.Classes.ClassTokens.{bracket}
+use Rattle.rx_model.specs.Trees.Early.{IsEarlyClass}
+use Rattle.rx_model.specs.Inputs.Environment.{Environment, environment_with, has_some}
+use Rattle.rx_model.specs.FirstPass.Marks.{starts}
+use Rattle.rx_model.specs.Inputs.Modes.{mode_by}
+use Rattle.rx_model.specs.Refusals.Reached.{span_between, text_groups, text_names}
+use Rattle.rx_model.proofs.Classes.OneInClass.{class_cause_is_first}
 use Rattle.rx_scan.specs.declared.state.State.{State}
 use Rattle.rx_class.specs.Answers.{environment_of}
 use Rattle.rx_class.specs.ClassAnswers.{BeginsNoClass, GivesClass, HoldsFirstPass}
@@ -34,14 +36,16 @@ use Rattle.rx_class.specs.ClassAnswers as class_answer
 use Rattle.rx_class.specs.ClassItems.{AreItems, BeginsNoItem, GivesItem, IsItem, contents, environment_at}
 use Rattle.rx_class.specs.ClassItems as item_answer
 use Rattle.rx_class.specs.Fitting.{AreFitting}
+use Rattle.rx_class.specs.Keeping.{KeepsUnits}
 use Rattle.rx_class.proofs.ClassItems.{class_early, class_spelled, item_place, items_push}
 use Rattle.rx_class.proofs.ClassReads.{Goes, class_goes, item_some, items_go, none_goes, none_read}
+use Rattle.rx_class.proofs.Keeping.{keeps_on, moved_keeps}
 
 -- A reader has moved over these units.
 record Passes (old new : Reading) (w more : List CodePoint) : Type 0 where
   whole : rest old ≡ w ++ more
   place : new.place ≡ old.place + length w
-  same : new ≡ record old { place = new.place }
+  keeps : KeepsUnits old new
   left : rest new ≡ more
 
 passes_moved : (old new : Reading) (w more : List CodePoint) → rest old ≡ w ++ more → 0 < length w → new ≡ moved (length w) old → Passes old new w more
@@ -52,7 +56,7 @@ passes_moved old new w more whole some is =
     record {
       whole = whole;
       place = there;
-      same = is ∙ ap (λ place. record old { place = place }) (sym (ap (λ (r : Reading). r.place) is));
+      keeps = moved_keeps (length w) old new is;
       left = ap rest is ∙ ap (λ place. drop place old.units) place ∙ sym (drop-drop (length w) old.place old.units) ∙ ap (drop (length w)) whole ∙ drop-append_seam w more;
     }
 
@@ -60,7 +64,7 @@ passes_on : (old mid new : Reading) (w more v back : List CodePoint) → Passes 
 passes_on old mid new w more v back p q = record {
   whole = p.whole ∙ ap (λ x. w ++ x) (sym p.left ∙ q.whole) ∙ sym (append_assoc w v back);
   place = omega (arith, p.place, q.place, length-append w v);
-  same = q.same ∙ ap (λ (r : Reading). record r { place = new.place }) p.same;
+  keeps = keeps_on p.keeps q.keeps;
   left = q.left;
 }
 
@@ -75,7 +79,7 @@ pub record IsInClass (added : ℕ) (old new : Reading) (negative : Bool) (ms : M
   pub whole : rest old ≡ w ++ us
   pub opens : SpellsInClass (environment_at old) outside (bracket negative) w us
   pub items : AreItems (environment_at old) (offset_in added old) ms (old.place + length w) us new.place (rest new)
-  pub same : new ≡ record old { place = new.place }
+  pub keeps : KeepsUnits old new
 
 -- the unit that is eaten
 eaten : (c : ℕ) (us : List CodePoint) → begins (c ∷ []) us ≡ true → (u : CodePoint) × (more : List CodePoint) × (us ≡ u ∷ more) × (u.value ≡ c)
@@ -96,7 +100,7 @@ eats c old new h is = let t = eaten c (rest old) h in (t.0, t.1, t.3, passes_mov
 
 opened : (added : ℕ) (old new : Reading) (negative : Bool) (w us : List CodePoint) → Passes old new w us → SpellsInClass (environment_at old) outside (bracket negative) w us →
     IsInClass added old new negative no_member
-opened added old new negative w us p opens = record { w = w; us = us; whole = p.whole; opens = opens; items = (sym p.place, sym p.left); same = p.same }
+opened added old new negative w us p opens = record { w = w; us = us; whole = p.whole; opens = opens; items = (sym p.place, sym p.left); keeps = p.keeps }
 
 -- Behind its bracket the reader is in a class.
 pub begins_class : (added : ℕ) (old mid new : Reading) (negative : Bool) → begins (91 ∷ []) (rest old) ≡ true → mid ≡ moved 1 old → negative ≡ begins (94 ∷ []) (rest mid) →
@@ -137,10 +141,10 @@ closer_stands None h = absurd (let no : ⊥ = cc h in no)
 closer_stands (Some c) h = ap Some (eqb-true c 93 (is_true (c == 93) h))
 
 -- Memory was wanting.
-pub no_memory_gives : (e : Environment) (added : ℕ) (old new : Reading) (r : Result (Option CharacterClass) Fault) → IsErrAnd r (λ cause. cause ≡ fault.OutOfMemory) →
+pub no_memory_gives : (e : Environment) (added : ℕ) (old new : Reading) (r : Result (Option CharacterClass) Fault) → KeepsUnits old new → IsErrAnd r (λ cause. cause ≡ fault.OutOfMemory) →
     GivesClass e added old new r
-no_memory_gives e added old new (Ok it) h = absurd h
-no_memory_gives e added old new (Err cause) h = subst (λ cause. GivesClass e added old new (Err cause)) (sym h) class_answer.no_memory
+no_memory_gives e added old new (Ok it) keeps h = absurd h
+no_memory_gives e added old new (Err cause) keeps h = subst (λ cause. GivesClass e added old new (Err cause)) (sym h) (class_answer.no_memory keeps)
 
 module _ {added : ℕ} {old mid : Reading} {negative : Bool} {ms : Members} (h : IsInClass added old mid negative ms) where
   -- the environment of the text, and the offset of a place
@@ -152,50 +156,55 @@ module _ {added : ℕ} {old mid : Reading} {negative : Bool} {ms : Members} (h :
 
   -- the environment is that of the whole text
   same_environment : environment_at mid ≡ environment_at old
-  same_environment = ap environment_at h.same
+  same_environment = ap environment_at h.keeps.same
 
   -- Its offsets fit still.
   pub still_fits : AreFitting added old → AreFitting added mid
-  still_fits f = subst (AreFitting added) (sym h.same) (record { first = f.first; ends = f.ends })
+  still_fits f = subst (AreFitting added) (sym h.keeps.same) (record { first = f.first; ends = f.ends })
 
   -- an item may begin here
   here : IsItemPlace text old.place (rest old) mid.place (rest mid)
   here = item_place text offset negative ms old.place (rest old) h.w h.us mid.place (rest mid) h.whole h.opens h.items
 
   -- Where no members go on, no class has begun.
-  no_class : (Goes text (rest mid) → ⊥) → BeginsNoClass text (rest old)
+  no_class : (Goes text refl (rest mid) → ⊥) → BeginsNoClass text (rest old)
   no_class none c w more whole is early =
-      none (items_go text offset ms (old.place + length h.w) h.us mid.place (rest mid) h.items
-      (class_goes text c w more negative h.w h.us (sym h.whole ∙ whole) h.opens is early))
+      none (items_go text refl offset ms (old.place + length h.w) h.us mid.place (rest mid) h.items
+      (class_goes text refl c w more negative h.w h.us (sym h.whole ∙ whole) h.opens is early))
+
+  -- What holds of the class is its first refusal.
+  first_gives : (new : Reading) (place : ℕ) (d : Diagnostic) → IsClassCause Unicode old.units old.first added old.place (rest old) place d → (Goes text refl (rest mid) → ⊥) → KeepsUnits old new →
+      GivesClass text added old new (Err (fault.Diagnostic d))
+  first_gives new place d cause none keeps = class_answer.refused (class_cause_is_first old.units old.first added old.place (rest old) place d cause) (no_class none) keeps
 
   -- The text ends in the class.
   pub unterminated_gives : (e : Environment) (start end : ℕ) (span : Span) → text ≡ e → rest mid ≡ [] → start ≡ offset_of old → end ≡ offset_of mid →
       span ≡ record { start = start + added; end = end + added } → GivesClass e added old mid (Err (fault.Diagnostic (UnterminatedPattern span what.CharacterClass)))
   unterminated_gives e start end span there none s t is =
-      subst (λ e. GivesClass e added old mid (Err (fault.Diagnostic (UnterminatedPattern span what.CharacterClass)))) there (class_answer.refused
-      (subst (λ span. IsClassCause Unicode old.units old.first added old.place (rest old) (UnterminatedPattern span what.CharacterClass)) (sym covers)
+      subst (λ e. GivesClass e added old mid (Err (fault.Diagnostic (UnterminatedPattern span what.CharacterClass)))) there (first_gives mid mid.place (UnterminatedPattern span what.CharacterClass)
+      (subst (λ span. IsClassCause Unicode old.units old.first added old.place (rest old) mid.place (UnterminatedPattern span what.CharacterClass)) (sym covers)
       (unterminated_class mid.place (subst (IsItemPlace text old.place (rest old) mid.place) none here)))
-      (no_class (λ goes. none_read (subst (Goes text) none goes))))
+      (λ goes. none_read (subst (Goes text refl) none goes)) h.keeps)
     where
       ending : end ≡ offset_at old.first old.units mid.place
-      ending = t ∙ ap offset_of h.same
+      ending = t ∙ ap offset_of h.keeps.same
 
       covers : span ≡ span_between old.units old.first added old.place mid.place
       covers = is ∙ ap₂ (λ start end. record { start = start + added; end = end + added }) s ending
 
   -- An item is refused, and its fault is passed on.
-  refused_here : (new last : Reading) (cause : Fault) → GivesItem added mid new (Err cause) → GivesClass text added old last (Err cause)
-  refused_here new last _ (item_answer.refused {diagnostic} cause none) = class_answer.refused
-      (subst (λ r. (from : ℕ) (at_class : List CodePoint) → IsItemPlace (environment_at r) from at_class mid.place (rest mid) →
-      IsClassCause Unicode r.units r.first added from at_class diagnostic) h.same cause old.place (rest old) here)
-      (no_class (none_goes text (rest mid) (subst (λ e. BeginsNoItem e (rest mid)) same_environment none)))
-  refused_here new last _ item_answer.no_memory = class_answer.no_memory
+  refused_here : (new : Reading) (cause : Fault) → GivesItem added mid new (Err cause) → GivesClass text added old new (Err cause)
+  refused_here new _ (item_answer.refused {diagnostic} cause none keeps) =
+      let c = subst (λ r. (from : ℕ) (at_class : List CodePoint) → IsItemPlace (environment_at r) from at_class mid.place (rest mid) →
+      (place : ℕ) × IsClassCause Unicode r.units r.first added from at_class place diagnostic) h.keeps.same cause old.place (rest old) here in
+      first_gives new c.0 diagnostic c.1 (none_goes text refl (rest mid) (subst (λ e. BeginsNoItem e (rest mid)) same_environment none)) (keeps_on h.keeps keeps)
+  refused_here new _ (item_answer.no_memory keeps) = class_answer.no_memory (keeps_on h.keeps keeps)
 
-  pub refused_gives : (e : Environment) (new last : Reading) (cause : Fault) (r : Result (Option CharacterClass) Fault) → text ≡ e → IsErrAnd r (λ passed. passed ≡ cause) →
-      GivesItem added mid new (Err cause) → GivesClass e added old last r
-  refused_gives e new last cause (Ok it) there passed gives = absurd passed
-  refused_gives e new last cause (Err other) there passed gives =
-      subst (λ e. GivesClass e added old last (Err other)) there (subst (λ cause. GivesClass text added old last (Err cause)) (sym passed) (refused_here new last cause gives))
+  pub refused_gives : (e : Environment) (new : Reading) (cause : Fault) (r : Result (Option CharacterClass) Fault) → text ≡ e → IsErrAnd r (λ passed. passed ≡ cause) →
+      GivesItem added mid new (Err cause) → GivesClass e added old new r
+  refused_gives e new cause (Ok it) there passed gives = absurd passed
+  refused_gives e new cause (Err other) there passed gives =
+      subst (λ e. GivesClass e added old new (Err other)) there (subst (λ cause. GivesClass text added old new (Err cause)) (sym passed) (refused_here new cause gives))
 
   -- An item is read, and pushed behind the others: fewer units are left.
   pub item_gives : (body : List CharacterClassContents) (new : Reading) (it : CharacterClassContents) → ms ≡ contents body → GivesItem added mid new (Ok it) →
@@ -208,16 +217,16 @@ module _ {added : ℕ} {old mid : Reading} {negative : Bool} {ms : Members} (h :
       opens = h.opens;
       items = subst (AreItems text offset (contents (body ++ (it ∷ []))) (old.place + length h.w) h.us new.place) (sym p.left)
           (subst (λ j. AreItems text offset (contents (body ++ (it ∷ []))) (old.place + length h.w) h.us j more) (sym p.place) pushed);
-      same = p.same ∙ ap (λ (r : Reading). record r { place = new.place }) h.same;
+      keeps = keeps_on h.keeps p.keeps;
     },
-    omega (arith, p.place, some, ap length whole, length-append w more, length-drop mid.place mid.units, ap (λ (r : Reading). length r.units) p.same),
+    omega (arith, p.place, some, ap length whole, length-append w more, length-drop mid.place mid.units, ap (λ (r : Reading). length r.units) p.keeps.same),
   )
     where
       here_is : IsItem text offset mid.place (mirror_contents it) w more
-      here_is = subst (λ r. IsItem (environment_at r) (offset_in added r) mid.place (mirror_contents it) w more) h.same is
+      here_is = subst (λ r. IsItem (environment_at r) (offset_in added r) mid.place (mirror_contents it) w more) h.keeps.same is
 
       some : 0 < length w
-      some = item_some text offset mid.place (mirror_contents it) w more here_is
+      some = item_some text refl offset mid.place (mirror_contents it) w more here_is
 
       p : Passes mid new w more
       p = passes_moved mid new w more whole some moves
@@ -242,7 +251,7 @@ module _ {added : ℕ} {old mid : Reading} {negative : Bool} {ms : Members} (h :
       p = passes_moved mid new (u.0 ∷ []) u.1 u.2 (omega arith) moves
 
       whole_same : new ≡ record old { place = new.place }
-      whole_same = p.same ∙ ap (λ (r : Reading). record r { place = new.place }) h.same
+      whole_same = p.keeps.same ∙ ap (λ (r : Reading). record r { place = new.place }) h.keeps.same
 
       ends : end ≡ offset_at old.first old.units (mid.place + 1)
       ends = t ∙ ap offset_of whole_same ∙ ap (offset_at old.first old.units) p.place
@@ -253,4 +262,4 @@ module _ {added : ℕ} {old mid : Reading} {negative : Bool} {ms : Members} (h :
           (ap (λ (s : Span). s.start) span ∙ ap (λ n. n + added) s) (ap (λ (s : Span). s.end) span ∙ ap (λ n. n + added) ends)
 
       place : new.place ≡ min (old.place + length spelled.0) (length old.units)
-      place = omega (arith, p.place, spelled.2, ap length u.2, length-drop mid.place mid.units, ap (λ (r : Reading). length r.units) h.same)
+      place = omega (arith, p.place, spelled.2, ap length u.2, length-drop mid.place mid.units, ap (λ (r : Reading). length r.units) h.keeps.same)

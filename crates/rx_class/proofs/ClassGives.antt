@@ -7,8 +7,8 @@ use Rattle.rx_ast.specs.declared.leaf.CharacterClassEscapeKind.TheVariants.{D, N
 use Rattle.rx_units.specs.declared.code_point.CodePoint.{CodePoint}
 use Rattle.rx_units.specs.Reading.{Reading, moved, rest}
 use Rattle.rx_units.specs.Units.{values}
-use Rattle.rx_model.specs.ClassText.{class_escape_text}
-use Rattle.rx_model.specs.Fronts.{class_escape_at}
+use Rattle.rx_model.specs.Spelling.ClassText.{class_escape_text}
+use Rattle.rx_model.specs.Reading.Fronts.{class_escape_at}
 use Rattle.rx_class.specs.Answers.{GivesClassEscape, some, none, span_to}
 use Rattle.rx_class.specs.Found.{class_escape_front}
 

@@ -10,15 +10,15 @@ use Rattle.rx_ast.specs.declared.class.CharacterClassContentsKind.TheVariants.{U
 use Rattle.rx_ast.specs.ClassTree.{Member, Members, no_member, member, members, class, mirror_contents}
 use Rattle.rx_ast.specs.ClassTree as tree
 use Rattle.rx_units.specs.declared.code_point.CodePoint.{CodePoint}
-use Rattle.rx_model.specs.ClassPlaces.{IsItemPlace}
-use Rattle.rx_model.specs.ClassRows.{Place, ClassRow, ClassTokenRow, IsClassSpanned, SpellsInClass, behind, fresh, outside}
-use Rattle.rx_model.specs.ClassRuns.{Held, empty, single, several, meeting, met, lessening, lessened, Bracket, atom_may, atom_obeys, behind_step, bracket_of, class_run, holding, operand, ranged, where_may, where_true, with_strings}
-use Rattle.rx_model.specs.ClassTokens.{Atom, character, escape, property, ClassToken, bracket, closer, item, low, dash, high, ClassEvents, enter, leave, token, class_tokens_of, member_events, members_events, more_members_events}
-use Rattle.rx_model.specs.Early.{AreEarlyMembers, IsEarlyClass, IsEarlyMember, any_strings, member_strings}
-use Rattle.rx_model.specs.Environment.{Environment}
-use Rattle.rx_model.proofs.ClassFronts.{members_are}
-use Rattle.rx_model.proofs.ClassTokens.{union_tokens}
-use Rattle.rx_model.proofs.ClassUnspanned.{class_row_tokens}
+use Rattle.rx_model.specs.Refusals.ClassPlaces.{IsItemPlace}
+use Rattle.rx_model.specs.Classes.ClassRows.{Place, ClassRow, ClassTokenRow, IsClassSpanned, SpellsInClass, behind, fresh, outside}
+use Rattle.rx_model.specs.Classes.ClassRuns.{Held, empty, single, several, meeting, met, lessening, lessened, Bracket, atom_may, atom_obeys, behind_step, bracket_of, class_run, holding, operand, ranged, where_may, where_true, with_strings}
+use Rattle.rx_model.specs.Classes.ClassTokens.{Atom, character, escape, property, ClassToken, bracket, closer, item, low, dash, high, ClassEvents, enter, leave, token, class_tokens_of, member_events, members_events, more_members_events}
+use Rattle.rx_model.specs.Trees.Early.{AreEarlyMembers, IsEarlyClass, IsEarlyMember, any_strings, member_strings}
+use Rattle.rx_model.specs.Inputs.Environment.{Environment}
+use Rattle.rx_model.proofs.Classes.ClassFronts.{members_are}
+use Rattle.rx_model.proofs.Classes.ClassTokens.{union_tokens}
+use Rattle.rx_model.proofs.Classes.ClassUnspanned.{class_row_tokens}
 use Rattle.rx_class.specs.ClassItems.{AreItems, IsItem, IsPlain, contents}
 
 -- what a bracket around a union holds
@@ -127,12 +127,12 @@ module _ (e : Environment) where
   rows_append o ((enter n) ∷ es) fs q i us r j rest s k end h g = (h.0, rows_append o es fs q i us r j rest s k end h.1 g)
   rows_append o ((leave n) ∷ es) fs q i us r j rest s k end h g = (h.0, rows_append o es fs q i us r j rest s k end h.1 g)
   rows_append o ((token t) ∷ es) fs q i us r j rest s k end h g =
-      (h.0, h.1, h.2, h.3, rows_append o es fs (behind t) (i + length h.0) h.1 r j rest s k end h.4 g)
+      (h.0, h.1, h.2, h.3, rows_append o es fs (behind e.mode q t h.1) (i + length h.0) h.1 r j rest s k end h.4 g)
 
   token_rows_append : (ts ss : List ClassToken) (q : Place) (us : List CodePoint) (r : Place) (rest : List CodePoint) (s : Place) (end : List CodePoint) →
       ClassTokenRow e ts q us r rest → ClassTokenRow e ss r rest s end → ClassTokenRow e (ts ++ ss) q us s end
   token_rows_append [] ss q us r rest s end h g = subst (λ q. ClassTokenRow e ss q us s end) (sym h.0) (subst (λ us. ClassTokenRow e ss r us s end) (sym h.1) g)
-  token_rows_append (t ∷ ts) ss q us r rest s end h g = (h.0, h.1, h.2, h.3, token_rows_append ts ss (behind t) h.1 r rest s end h.4 g)
+  token_rows_append (t ∷ ts) ss q us r rest s end h g = (h.0, h.1, h.2, h.3, token_rows_append ts ss (behind e.mode q t h.1) h.1 r rest s end h.4 g)
 
   module _ (o : ℕ → ℕ) where
     -- the tokens of an item

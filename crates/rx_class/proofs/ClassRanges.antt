@@ -20,24 +20,26 @@ use Rattle.rx_units.specs.Reading.{Reading, moved, rest}
 use Rattle.rx_units.specs.Units.{offset_at, values}
 use Rattle.rx_model.specs.declared.mode.Mode.{Mode}
 use Rattle.rx_model.specs.declared.mode.Mode.TheVariants.{Unicode, Sets}
-use Rattle.rx_model.specs.ClassCauses.{StandsRange, is_character}
-use Rattle.rx_model.specs.ClassCauses as cause
-use Rattle.rx_model.specs.ClassFronts.{atom_at, atom_read, no_atom, no_piece, piece_at, piece_from, range_to}
-use Rattle.rx_model.specs.ClassPlaces.{IsItemPlace, IsSecondPlace}
-use Rattle.rx_model.specs.ClassRows.{BeforeHigh, ClassRow, SpellsAtom, at_high, fresh, is_dashed}
-use Rattle.rx_model.specs.ClassRuns.{atom_obeys}
-use Rattle.rx_model.specs.ClassTokens.{Atom, character, escape, property, item, enter, leave, token, within}
-use Rattle.rx_model.specs.ClassTokens as tokens
-use Rattle.rx_model.specs.Environment.{Environment}
-use Rattle.rx_model.specs.Marks.{starts}
-use Rattle.rx_model.specs.PropertyEscapes.{SpellsProperty, pair, category, binary, of_strings}
-use Rattle.rx_model.specs.Reached.{span_between}
-use Rattle.rx_model.proofs.ClassFronts.{atom_is_read, atom_some}
-use Rattle.rx_model.proofs.Decodings.{both}
+use Rattle.rx_model.specs.Refusals.ClassCauses.{StandsRange, is_character}
+use Rattle.rx_model.specs.Refusals.ClassCauses as cause
+use Rattle.rx_model.specs.Classes.ClassFronts.{atom_at, atom_read, no_atom, no_piece, piece_at, piece_from, pair_to}
+use Rattle.rx_model.specs.Refusals.ClassPlaces.{IsItemPlace, IsSecondPlace}
+use Rattle.rx_model.specs.Classes.ClassRows.{BeforeHigh, ClassRow, SpellsAtom, at_high, fresh, is_dashed}
+use Rattle.rx_model.specs.Classes.ClassRuns.{atom_obeys}
+use Rattle.rx_model.specs.Classes.ClassTokens.{Atom, character, escape, property, item, enter, leave, token, within}
+use Rattle.rx_model.specs.Classes.ClassTokens as tokens
+use Rattle.rx_model.specs.Inputs.Environment.{Environment}
+use Rattle.rx_model.specs.FirstPass.Marks.{starts}
+use Rattle.rx_model.specs.Properties.PropertyEscapes.{SpellsProperty, pair, category, binary, of_strings}
+use Rattle.rx_model.specs.Refusals.Reached.{span_between}
+use Rattle.rx_model.proofs.Classes.ClassFronts.{behind_one, atom_is_read, atom_some}
+use Rattle.rx_model.proofs.Characters.Decodings.{both}
 use Rattle.rx_class.specs.declared.class_atom.ClassAtom.{ClassAtom}
 use Rattle.rx_class.specs.declared.class_atom.ClassAtom.TheVariants as atom
 use Rattle.rx_class.specs.ClassItems.{BeginsNoItem, GivesAtom, GivesItem, IsAtomCause, IsBetween, IsItem, IsItemCause, StandsItem, atom_member, atom_of, atom_span, between, environment_at}
 use Rattle.rx_class.specs.ClassItems as items
+use Rattle.rx_class.specs.Keeping.{KeepsUnits}
+use Rattle.rx_class.proofs.Keeping.{keeps_from, moved_keeps}
 
 -- what is passed on is the fault
 pub passed_on : (r : Result CharacterClassContents Fault) (fault : Fault) → IsErrAnd r (λ e. e ≡ fault) → r ≡ Err fault
@@ -59,6 +61,10 @@ moved_is w more r whole some =
 -- what is left behind them
 rest_behind : (w more : List CodePoint) (r : Reading) → rest r ≡ w ++ more → rest (placed r (r.place + length w)) ≡ more
 rest_behind w more r whole = sym (drop-drop (length w) r.place r.units) ∙ ap (drop (length w)) whole ∙ drop-append_seam w more
+
+-- Behind an atom memory was wanting.
+pub out_of_memory : (added : ℕ) (old new : Reading) (it : ClassAtom) → GivesAtom added old new (Ok it) → GivesItem added old new (Err fault.OutOfMemory)
+out_of_memory added old new it (items.some w more whole spelled obeys span moves) = items.no_memory (moved_keeps (length w) old new moves)
 
 -- An atom stands at a reader's place, and the reader moved over it.
 record AtomStands (added : ℕ) (old new : Reading) (it : ClassAtom) : Type 0 where
@@ -198,12 +204,12 @@ no_strings mode _ _ _ _ is (binary no_category listed) = refl
 no_strings mode _ _ _ _ is (of_strings sets no_category no_binary listed) = absurd (let e : Unicode ≡ Sets = sym is ∙ sets in let no : ⊥ = cc e in no)
 
 -- a range from an atom to none, or between two that are not both characters
-no_range : (a : Atom) (n : ℕ) → range_to a n no_atom ≡ no_piece
+no_range : (a : Atom) (n : ℕ) → pair_to false a n no_atom ≡ no_piece
 no_range (character k v) n = refl
 no_range (escape k) n = refl
 no_range (property negative strings name value) n = refl
 
-no_range_of : (a b : Atom) (n m : ℕ) → (is_character a && is_character b) ≡ false → range_to a n (atom_read b m) ≡ no_piece
+no_range_of : (a b : Atom) (n m : ℕ) → (is_character a && is_character b) ≡ false → pair_to false a n (atom_read b m) ≡ no_piece
 no_range_of (character k v) (character j x) n m h = absurd (let no : ⊥ = cc h in no)
 no_range_of (character k v) (escape j) n m h = refl
 no_range_of (character k v) (property negative strings name value) n m h = refl
@@ -222,7 +228,7 @@ module _ (added : ℕ) (old : Reading) where
   -- An atom with no range behind it is an item.
   alone_row : (a : Atom) (s : Span) (w more : List CodePoint) → SpellsAtom text a w more → is_dashed (values more) ≡ false → s ≡ between (offset old.place) (offset (old.place + length w))
       → ClassRow text offset (within s (token (item a) ∷ [])) fresh old.place (w ++ more) fresh (old.place + length w) more
-  alone_row a s w more spells alone is = (ap (λ (s : Span). s.start) is, (w, more, refl, (spells, alone), (ap (λ (s : Span). s.end) is, (refl, refl, refl))))
+  alone_row a s w more spells alone is = (ap (λ (s : Span). s.start) is, (w, more, refl, (spells, inl alone), (ap (λ (s : Span). s.end) is, (behind_one text a more alone, refl, refl))))
 
   alone_is : (it : ClassAtom) (w more : List CodePoint) → SpellsAtom text (atom_of it) w more → atom_obeys (atom_of it) ≡ true → is_dashed (values more) ≡ false
       → atom_span it ≡ between (offset old.place) (offset (old.place + length w)) → IsItem text offset old.place (atom_member it) w more
@@ -257,22 +263,22 @@ module _ (added : ℕ) (old : Reading) where
   -- A fault of an atom at some place is one of the item.
   fault_of : (place : ℕ) (new : Reading) (given : Fault) → ((d : Diagnostic) → IsAtomCause added (placed old place) d → IsItemCause added old d)
       → (atom_at text (rest (placed old place)) ≡ no_atom → BeginsNoItem text (rest old)) → GivesAtom added (placed old place) new (Err given) → GivesItem added old new (Err given)
-  fault_of place new _ causes none (items.refused {diagnostic = d} c n) = items.refused (causes d c) (none n)
-  fault_of place new _ causes none items.no_memory = items.no_memory
+  fault_of place new _ causes none (items.refused {diagnostic = d} c n keeps) = items.refused (causes d c) (none n) (keeps_from place old new keeps)
+  fault_of place new _ causes none (items.no_memory keeps) = items.no_memory (keeps_from place old new keeps)
 
   pub first_gives : (new : Reading) (given : Fault) → StandsItem (rest old) → GivesAtom added old new (Err given) → GivesItem added old new (Err given)
   first_gives new given s g =
-      fault_of old.place new given (λ d c from at_class p. c from at_class (inl p))
+      fault_of old.place new given (λ d c from at_class p. (old.place, c from at_class (inl p)))
       (λ none. items.no_item (ap (λ r. piece_from text r (rest old)) none ∙ cond-false (starts 93 (values (rest old))) _ _ s.no_closer)) g
 
   -- what stands where an atom and the `-` of a range do
   dashed_read : (a : Atom) (w more : List CodePoint) (hyphen : CodePoint) → SpellsAtom text a w (hyphen ∷ more) → is_dashed (values (hyphen ∷ more)) ≡ true
-      → piece_at text (w ++ (hyphen ∷ more)) ≡ range_to a (length w) (atom_at text more)
+      → piece_at text (w ++ (hyphen ∷ more)) ≡ pair_to false a (length w) (atom_at text more)
   dashed_read a w more hyphen s d =
       let seam = drop-append_seam w (hyphen ∷ more) in
       ap (λ r. piece_from text r (w ++ (hyphen ∷ more))) (atom_is_read text a w (hyphen ∷ more) s)
       ∙ cond-true (is_dashed (values (drop (length w) (w ++ (hyphen ∷ more))))) _ _ (ap (λ us. is_dashed (values us)) seam ∙ d)
-      ∙ ap (λ us. range_to a (length w) (atom_at text (drop 1 us))) seam
+      ∙ ap (λ us. pair_to false a (length w) (atom_at text (drop 1 us))) seam
 
   pub second_gives : (to new : Reading) (low : ClassAtom) (given : Fault) → DashStands added old to low → GivesAtom added to new (Err given) → GivesItem added old new (Err given)
   second_gives to new low given d g =
@@ -289,20 +295,20 @@ module _ (added : ℕ) (old : Reading) where
         spelled = d.spelled;
         place_is = refl;
       } in
-      fault_of (old.place + length d.w + 1) new given (λ cause c from at_class p. c from at_class (inr (second from at_class p)))
+      fault_of (old.place + length d.w + 1) new given (λ cause c from at_class p. (old.place + length d.w + 1, c from at_class (inr (second from at_class p))))
       (λ none. items.no_item (ap (piece_at text) d.whole
       ∙ dashed_read (atom_of low) d.w d.behind d.hyphen d.spelled d.dashed
-      ∙ ap (range_to (atom_of low) (length d.w)) (ap (atom_at text) (sym d.rest_is) ∙ none)
+      ∙ ap (pair_to false (atom_of low) (length d.w)) (ap (atom_at text) (sym d.rest_is) ∙ none)
       ∙ no_range (atom_of low) (length d.w)))
       (subst (λ r. GivesAtom added r new (Err given)) d.moves g)
 
   module _ (new : Reading) where
     -- what stands where two atoms with a `-` between them do
-    pair_read : (low high : ClassAtom) (p : PairStands added old new low high) → piece_at text (rest old) ≡ range_to (atom_of low) (length p.w) (atom_read (atom_of high) (length p.v))
+    pair_read : (low high : ClassAtom) (p : PairStands added old new low high) → piece_at text (rest old) ≡ pair_to false (atom_of low) (length p.w) (atom_read (atom_of high) (length p.v))
     pair_read low high p =
         ap (piece_at text) p.whole
         ∙ dashed_read (atom_of low) p.w (p.v ++ p.more) p.hyphen p.low_is p.dashed
-        ∙ ap (range_to (atom_of low) (length p.w)) (atom_is_read text (atom_of high) p.v p.more p.high_is)
+        ∙ ap (pair_to false (atom_of low) (length p.w)) (atom_is_read text (atom_of high) p.v p.more p.high_is)
 
     range_stands : (min max : Character) (p : PairStands added old new (atom.Character min) (atom.Character max)) → StandsRange text min.value p.w p.hyphen max.value p.v p.more
     range_stands min max p = record { low_kind = min.kind; low_is = p.low_is; hyphen_is = p.hyphen_is; high_kind = max.kind; high_is = p.high_is }
@@ -312,24 +318,43 @@ module _ (added : ℕ) (old : Reading) where
         → between min.span.end max.span.end ≡ span_between old.units old.first added (old.place + length p.w) (old.place + length p.w + 1 + length p.v)
     dash_span min max p = ap₂ between (ap (λ (s : Span). s.end) p.low_span) (ap (λ (s : Span). s.end) p.high_span)
 
+    pair_keeps : (low high : ClassAtom) → PairStands added old new low high → KeepsUnits old new
+    pair_keeps low high p =
+        let place = ap (λ (r : Reading). r.place) p.moves in
+        record {
+          same = p.moves ∙ ap (placed old) (sym place);
+          within = omega (arith, place, ap length p.whole, length-append p.w (p.hyphen ∷ (p.v ++ p.more)), length-append p.v p.more, length-drop old.place old.units);
+        }
+
+    pub pair_out_of_memory : (low high : ClassAtom) → PairStands added old new low high → GivesItem added old new (Err fault.OutOfMemory)
+    pair_out_of_memory low high p = items.no_memory (pair_keeps low high p)
+
     -- Why two atoms are no range is why there is no item.
     pub range_refused : (low high : ClassAtom) (diagnostic : Diagnostic) → PairStands added old new low high → IsBetween low high (Err diagnostic)
         → GivesItem added old new (Err (fault.Diagnostic diagnostic))
     range_refused _ _ _ p (items.out_of_order {min = min} {max = max} less no_dash) =
-        items.refused (subst (λ s. IsItemCause added old (CharacterClassRangeOutOfOrder s range_kind.ClassAtom)) (sym (dash_span min max p)) (λ from at_class here.
-        cause.range_out_of_order old.place min.value max.value p.w p.v p.more p.hyphen (subst (IsItemPlace text from at_class old.place) p.whole here) (range_stands min max p) less no_dash))
+        items.refused (subst (λ s. IsItemCause added old (CharacterClassRangeOutOfOrder s range_kind.ClassAtom)) (sym (dash_span min max p)) (λ from at_class here. (
+          old.place,
+          cause.range_out_of_order old.place min.value max.value p.w p.v p.more p.hyphen (subst (IsItemPlace text from at_class old.place) p.whole here) (range_stands min max p) less no_dash,
+        )))
         (items.out_of_order min.kind max.kind min.value max.value (length p.w + 1 + length p.v) (pair_read (atom.Character min) (atom.Character max) p) less)
+        (pair_keeps (atom.Character min) (atom.Character max) p)
     range_refused _ _ _ p (items.dash_out_of_order {min = min} {max = max} less dash) =
         let stands = subst (λ x. StandsRange text min.value p.w p.hyphen x p.v p.more) dash (range_stands min max p) in
-        items.refused (subst (λ s. IsItemCause added old (CharacterClassRangeDashNotSubtraction s)) (sym (dash_span min max p)) (λ from at_class here.
-        cause.dash_out_of_order old.place min.value p.w p.v p.more p.hyphen (subst (IsItemPlace text from at_class old.place) p.whole here) stands (subst (λ x. x < min.value) dash less)))
+        items.refused (subst (λ s. IsItemCause added old (CharacterClassRangeDashNotSubtraction s)) (sym (dash_span min max p)) (λ from at_class here. (
+          old.place,
+          cause.dash_out_of_order old.place min.value p.w p.v p.more p.hyphen (subst (IsItemPlace text from at_class old.place) p.whole here) stands (subst (λ x. x < min.value) dash less),
+        )))
         (items.out_of_order min.kind max.kind min.value max.value (length p.w + 1 + length p.v) (pair_read (atom.Character min) (atom.Character max) p) less)
+        (pair_keeps (atom.Character min) (atom.Character max) p)
     range_refused low high _ p (items.no_character h) =
         let span : between (atom_span low).start (atom_span high).end ≡ span_between old.units old.first added old.place (old.place + length p.w + 1 + length p.v) =
         ap₂ between (ap (λ (s : Span). s.start) p.low_span) (ap (λ (s : Span). s.end) p.high_span) in
-        items.refused (subst (λ s. IsItemCause added old (CharacterClassRangeInvalidAtom s)) (sym span) (λ from at_class here.
-        cause.invalid_range old.place (atom_of low) (atom_of high) p.w p.v p.more p.hyphen (subst (IsItemPlace text from at_class old.place) p.whole here) refl p.low_is p.hyphen_is p.high_is h))
-        (items.no_item (pair_read low high p ∙ no_range_of (atom_of low) (atom_of high) (length p.w) (length p.v) h))
+        items.refused (subst (λ s. IsItemCause added old (CharacterClassRangeInvalidAtom s)) (sym span) (λ from at_class here. (
+          old.place,
+          cause.invalid_range old.place (atom_of low) (atom_of high) p.w p.v p.more p.hyphen (subst (IsItemPlace text from at_class old.place) p.whole here) refl p.low_is p.hyphen_is p.high_is h,
+        )))
+        (items.no_item (pair_read low high p ∙ no_range_of (atom_of low) (atom_of high) (length p.w) (length p.v) h)) (pair_keeps low high p)
 
     -- A range of two characters in order is an item.
     before_high : (min max : Character) (p : PairStands added old new (atom.Character min) (atom.Character max)) → BeforeHigh text (p.hyphen ∷ (p.v ++ p.more))

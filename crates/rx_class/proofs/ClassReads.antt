@@ -1,5 +1,5 @@
 -- The members that are read behind the items of a class, where there are some: a refusal leaves none.
-use Rattle.std.proofs.Common.{◌≡◌, refl, sym, ap, ◌∙◌, subst, ℕ, ◌+◌, ◌-◌, ◌<◌, Bool, true, false, List, [], ◌∷◌, ◌++◌, length, drop, arith, append_assoc, length-append}
+use Rattle.std.proofs.Common.{inl, inr, ◌≡◌, refl, sym, ap, ◌∙◌, subst, ℕ, ◌+◌, ◌-◌, ◌<◌, Bool, true, false, List, [], ◌∷◌, ◌++◌, length, drop, arith, append_assoc, length-append}
 use Rattle.std.proofs.Math.Seq.{drop-append_seam}
 use Rattle.std.proofs.lemmas.List.{length-map, map-append}
 use Rattle.rx_ast.specs.declared.leaf.CharacterKind.{CharacterKind}
@@ -9,14 +9,14 @@ use Rattle.rx_ast.specs.ClassTree as tree
 use Rattle.rx_ast.specs.Forget.{forget_members, same_kind}
 use Rattle.rx_units.specs.declared.code_point.CodePoint.{CodePoint}
 use Rattle.rx_units.specs.Units.{values}
-use Rattle.rx_model.specs.ClassFronts.{MembersRead, members_read, no_members, atom_member, before_members, members_after, members_from, one, piece_at, range_member}
-use Rattle.rx_model.specs.ClassFronts as piece
-use Rattle.rx_model.specs.ClassRows.{ClassTokenRow, IsClass, SpellsInClass, fresh, outside}
-use Rattle.rx_model.specs.ClassTokens.{Atom, character, escape, property, bracket, item, low, dash, high, class_tokens_of, member_events}
-use Rattle.rx_model.specs.Early.{AreEarlyMembers, IsEarlyClass}
-use Rattle.rx_model.specs.Environment.{Environment}
-use Rattle.rx_model.specs.Marks.{starts}
-use Rattle.rx_model.proofs.ClassFronts.{atom_some, members_row, one_read, range_read, single, step, tokens_behind}
+use Rattle.rx_model.specs.Classes.ClassFronts.{MembersRead, members_read, no_members, atom_member, before_members, members_after, members_from, one, piece_at, range_member}
+use Rattle.rx_model.specs.Classes.ClassFronts as piece
+use Rattle.rx_model.specs.Classes.ClassRows.{StandsBefore, has_threes, is_dashed, ClassTokenRow, IsClass, SpellsInClass, fresh, outside}
+use Rattle.rx_model.specs.Classes.ClassTokens.{Atom, character, escape, property, bracket, item, low, dash, high, class_tokens_of, member_events}
+use Rattle.rx_model.specs.Trees.Early.{AreEarlyMembers, IsEarlyClass}
+use Rattle.rx_model.specs.Inputs.Environment.{Environment}
+use Rattle.rx_model.specs.FirstPass.Marks.{starts}
+use Rattle.rx_model.proofs.Classes.ClassFronts.{atom_some, members_row, one_read, range_read, single, step, tokens_behind}
 use Rattle.rx_class.specs.ClassItems.{AreItems, BeginsNoItem, IsItem, IsPlain, no_item, out_of_order}
 use Rattle.rx_class.proofs.ClassItems.{item_row}
 
@@ -58,7 +58,7 @@ caret_behind w us v more whole h k =
     ap (λ cs. cs ++ values us) (sym h) ∙ sym (map-append (λ u. u.value) w us) ∙ ap values whole ∙ map-append (λ u. u.value) v more ∙ ap (λ cs. cs ++ values more) k in
     cc t
 
-module _ (e : Environment) where
+module _ (e : Environment) (no_threes : has_threes e.mode ≡ false) where
   -- the members that are read from here on, where there are some
   abbrev pub Goes : List CodePoint → Type 0
   Goes us = ReadsEarly (members_after e 0 us)
@@ -77,6 +77,10 @@ module _ (e : Environment) where
     fewer : length more < length us
     read : members_after e 0 us ≡ before_members it count (members_after e 0 more)
 
+  undashed : (a : Atom) (more : List CodePoint) → StandsBefore e a more → is_dashed (values more) ≡ false
+  undashed a more (inl h) = h
+  undashed a more (inr t) = absurd (let k = t.threes in let no : ⊥ = cc (k, no_threes) in no)
+
   atom_reads : (a : Atom) (us more : List CodePoint) → ClassTokenRow e (item a ∷ []) fresh us fresh more → ReadsItem us more
   atom_reads a us more r =
       let s = r.3 in
@@ -86,7 +90,7 @@ module _ (e : Environment) where
         fewer = omega (arith, atom_some e a r.0 r.1 s.0, length-append r.0 r.1, ap length r.2, ap length r.4.1);
         read =
             ap (members_after e 0) r.2
-            ∙ step e (atom_member a) r.0 r.1 (one a (length r.0)) (one_read e a r.0 r.1 s.0 s.1) (atom_some e a r.0 r.1 s.0) (λ again. refl)
+            ∙ step e (atom_member a) r.0 r.1 (one a (length r.0)) (one_read e a r.0 r.1 s.0 (undashed a r.1 s.1)) (atom_some e a r.0 r.1 s.0) (λ again. refl)
             ∙ ap (λ back. before_members (atom_member a) (length r.0) (members_after e 0 back)) r.4.1;
       }
 

@@ -4,9 +4,9 @@ use Rattle.std.specs.Prelude.{OnOk, is_err, min}
 use Rattle.rx_units.specs.declared.code_point.CodePoint.{CodePoint}
 use Rattle.rx_units.specs.Units.{values}
 use Rattle.rx_model.specs.declared.mode.Mode.TheVariants.{Unicode}
-use Rattle.rx_model.specs.Marks.{count, marks, seen}
-use Rattle.rx_model.specs.Modes.{mode_by}
-use Rattle.rx_model.specs.Reached.{text_groups, text_names}
+use Rattle.rx_model.specs.FirstPass.Marks.{count, marks, seen}
+use Rattle.rx_model.specs.Inputs.Modes.{mode_by}
+use Rattle.rx_model.specs.Refusals.Reached.{text_groups, text_names}
 use Rattle.rx_scan.specs.declared.state.State.{State}
 use Rattle.rx_class.specs.ClassAnswers.{HoldsFirstPass}
 

@@ -1,6 +1,7 @@
 -- What is read behind a backslash is what is answered.
-use Rattle.std.proofs.Common.{◌≡◌, ℕ, ◌+◌, ◌==◌, ◌≤◌, Bool, true, false, List, [], ◌∷◌, ◌++◌, length, min, Some, None, Ok, Err, arith, sym, ap, ◌∙◌, refl, subst, length-drop}
+use Rattle.std.proofs.Common.{◌≡◌, ℕ, ◌+◌, ◌-◌, ◌≤◌, Bool, true, false, List, [], ◌∷◌, ◌++◌, length, min, Some, None, Ok, Err, arith, sym, ap, ◌∙◌, refl, subst, length-drop}
 use Rattle.std.proofs.lemmas.List.{length-map}
+use Rattle.rx_base.specs.declared.diagnostic.Diagnostic.{Diagnostic}
 use Rattle.rx_base.specs.declared.diagnostic.Diagnostic.TheVariants.{TooLargeNumberDigits, InvalidUnicodeEscapeSequence}
 use Rattle.rx_base.specs.declared.diagnostic.kinds.DigitsKind.TheVariants.{Hex}
 use Rattle.rx_base.specs.declared.span.Span.{Span}
@@ -9,14 +10,22 @@ use Rattle.rx_ast.specs.declared.leaf.CharacterKind.{CharacterKind}
 use Rattle.rx_units.specs.declared.code_point.CodePoint.{CodePoint}
 use Rattle.rx_units.specs.Reading.{Reading, moved, offset_of, rest}
 use Rattle.rx_units.specs.Units.{values}
-use Rattle.rx_model.specs.Environment.{Environment, is_unicode}
-use Rattle.rx_model.specs.Escapes.{SpellsEscape, front_is}
-use Rattle.rx_model.specs.Fronts.{EscapeRead, escape_at, escaped, nothing, no_unicode}
-use Rattle.rx_model.specs.Fronts as fronts
-use Rattle.rx_model.specs.Modes.{mode_by}
-use Rattle.rx_model.specs.Reached.{span_between}
-use Rattle.rx_model.proofs.Escapes.{escape_no_unicode, escape_nothing, escape_small, escape_spelled, escape_too_many, spelled_escape}
-use Rattle.rx_class.specs.Answers.{BeginsNoEscape, GivesCharacter, some, none, too_many, invalid, span_to}
+use Rattle.rx_model.specs.Inputs.Environment.{Environment, is_unicode}
+use Rattle.rx_model.specs.Refusals.EscapeCauses.{IsEscapeCause, invalid_escape, too_many_hex_digits}
+use Rattle.rx_model.specs.Characters.Escapes.{SpellsEscape}
+use Rattle.rx_model.specs.Refusals.Firsts.{of_character}
+use Rattle.rx_model.specs.Reading.Fronts.{EscapeRead, escape_at, escaped, nothing, no_unicode}
+use Rattle.rx_model.specs.Reading.Fronts as fronts
+use Rattle.rx_model.specs.Inputs.Modes.{mode_by}
+use Rattle.rx_model.specs.Refusals.Reached.{span_between}
+use Rattle.rx_model.specs.Characters.UnicodeEscapes.{Decodes, PassesHex}
+use Rattle.rx_model.proofs.Characters.Escapes.{escape_no_unicode, escape_nothing, escape_small, escape_spelled, escape_too_many, spelled_escape}
+use Rattle.rx_model.proofs.Refusals.OneEscape.{escape_is_first}
+use Rattle.rx_class.specs.Answers.{BeginsNoEscape, GivesCharacter, IsBehindBackslash, from_backslash, some, none, refused, span_to}
+use Rattle.rx_class.specs.Keeping.{KeepsUnits}
+use Rattle.rx_class.proofs.Behind.{from_backslash_values}
+use Rattle.rx_class.proofs.Keeping.{keeps_on, moved_keeps}
+use Rattle.rx_class.proofs.PropertySpans.{from_brace}
 
 -- units whose values are two lists, one after the other
 pub record Split (us : List CodePoint) (a b : List ℕ) : Type 0 where
@@ -69,21 +78,39 @@ module _ (e : Environment) (unicode : is_unicode e.mode ≡ true) (added start :
   pub nothing_gives : escape_at true (values (rest old)) ≡ nothing → GivesCharacter e added start old old (Ok None)
   nothing_gives read = none refl (begins_no_escape nothing read (λ kind v n h. let no : nothing ≡ escaped kind v n = h in cc no)) (escape_nothing (values (rest old)) read)
 
-  pub too_many_gives : (count : ℕ) (behind new : Reading) (span : Span) → escape_at true (values (rest old)) ≡ fronts.too_many count → count + 2 ≤ length (rest old)
-      → behind ≡ moved 2 old → span ≡ span_between behind.units behind.first added behind.place (behind.place + count)
-      → GivesCharacter e added start old new (Err (TooLargeNumberDigits span Hex))
-  too_many_gives count behind new span read within is covers =
-      let on = ap (λ (r : Reading). span_between r.units r.first added r.place (r.place + count)) is in
-      let place = ap (λ place. span_between old.units old.first added place (place + count)) (moved_within 2 old (omega arith) (omega arith)) in
-      too_many count (escape_too_many (values (rest old)) count read)
-      (begins_no_escape (fronts.too_many count) read (λ kind v n h. let no : fronts.too_many count ≡ escaped kind v n = h in cc no)) (covers ∙ on ∙ place)
+  -- Behind a backslash what holds of the escape is refused, and first.
+  module _ (is : IsBehindBackslash old start) where
+    abbrev IsCauseHere : Diagnostic → Type 0
+    IsCauseHere = IsEscapeCause e.mode old.units old.first added (old.place - 1) (from_backslash old)
 
-  pub invalid_gives : (new : Reading) (span : Span) → escape_at true (values (rest old)) ≡ no_unicode
-      → span ≡ span_between old.units old.first added old.place (old.place + 1) → GivesCharacter e added start old new (Err (InvalidUnicodeEscapeSequence span))
-  invalid_gives new span read covers =
-      let no = escape_no_unicode (values (rest old)) read in
-      invalid (ap (front_is (λ c. c == 117)) no.whole) no.no_value no.no_limit
-      (begins_no_escape no_unicode read (λ kind v n h. let bad : no_unicode ≡ escaped kind v n = h in cc bad)) covers
+    escape_refused : (d : Diagnostic) (new : Reading) → IsCauseHere d → BeginsNoEscape e (values (rest old)) → KeepsUnits old new → GivesCharacter e added start old new (Err d)
+    escape_refused d new cause no_escape keeps =
+        refused cause (escape_is_first e.mode unicode old.units old.first added (old.place - 1) (from_backslash old) (old.place - 1) d (of_character cause)) no_escape keeps
+
+    pub too_many_gives : (count : ℕ) (behind new : Reading) (span : Span) → escape_at true (values (rest old)) ≡ fronts.too_many count → count + 2 ≤ length (rest old)
+        → behind ≡ moved 2 old → span ≡ span_between behind.units behind.first added behind.place (behind.place + count) → KeepsUnits behind new
+        → GivesCharacter e added start old new (Err (TooLargeNumberDigits span Hex))
+    too_many_gives count behind new span read within moves covers keeps =
+        let on = ap (λ (r : Reading). span_between r.units r.first added r.place (r.place + count)) moves in
+        let place = ap (λ place. span_between old.units old.first added place (place + count)) (moved_within 2 old (omega arith) (omega arith)) in
+        escape_refused (TooLargeNumberDigits span Hex) new
+        (subst (λ span. IsCauseHere (TooLargeNumberDigits span Hex)) (sym (from_brace old added count span is.behind (covers ∙ on ∙ place)))
+        (too_many_hex_digits count (values (rest old)) unicode (from_backslash_values old start is) (escape_too_many (values (rest old)) count read)))
+        (begins_no_escape (fronts.too_many count) read (λ kind v n h. let no : fronts.too_many count ≡ escaped kind v n = h in cc no))
+        (keeps_on (moved_keeps 2 old behind moves) keeps)
+
+    pub invalid_gives : (new : Reading) (span : Span) → escape_at true (values (rest old)) ≡ no_unicode
+        → span ≡ span_between old.units old.first added old.place (old.place + 1) → KeepsUnits old new → GivesCharacter e added start old new (Err (InvalidUnicodeEscapeSequence span))
+    invalid_gives new span read covers keeps =
+        let no = escape_no_unicode (values (rest old)) read in
+        let at : span ≡ span_between old.units old.first added (old.place - 1 + 1) (old.place - 1 + 2) =
+        covers ∙ ap (λ place. span_between old.units old.first added place (place + 1)) (let k : old.place ≡ old.place - 1 + 1 = omega (arith, is.behind) in k)
+        ∙ ap (span_between old.units old.first added (old.place - 1 + 1)) (let k : old.place - 1 + 1 + 1 ≡ old.place - 1 + 2 = omega arith in k) in
+        escape_refused (InvalidUnicodeEscapeSequence span) new
+        (subst (λ span. IsCauseHere (InvalidUnicodeEscapeSequence span)) (sym at)
+        (invalid_escape no.behind unicode (from_backslash_values old start is ∙ ap (λ us. 92 ∷ us) no.whole) (subst (λ us. (v n : ℕ) → Decodes true us v n → ⊥) no.whole no.no_value)
+        (subst (λ us. (count : ℕ) → PassesHex us count → ⊥) no.whole no.no_limit)))
+        (begins_no_escape no_unicode read (λ kind v n h. let bad : no_unicode ≡ escaped kind v n = h in cc bad)) keeps
 
 -- flag `v` goes with unicode mode
 pub unicode_by : (u v : Bool) → u ≡ true → is_unicode (mode_by u v) ≡ true

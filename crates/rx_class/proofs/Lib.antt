@@ -1,3 +1,4 @@
+pub mod Behind
 pub mod Bounds
 pub mod ClassAtoms
 pub mod ClassEnds
@@ -8,8 +9,8 @@ pub mod ClassReads
 pub mod FirstPasses
 pub mod Fitting
 pub mod Gives
+pub mod Keeping
 pub mod PairFound
-pub mod PropertyCauses
 pub mod PropertyGives
 pub mod PropertyHalts
 pub mod PropertyRuns

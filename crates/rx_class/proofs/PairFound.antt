@@ -6,9 +6,10 @@ use Rattle.std.proofs.lemmas.List.{take_all}
 use Rattle.rx_tables.specs.Characters.{is_unicode_property_name_character}
 use Rattle.rx_units.specs.declared.code_point.CodePoint.{CodePoint}
 use Rattle.rx_units.specs.Units.{values}
-use Rattle.rx_model.specs.Escapes.{front_is}
-use Rattle.rx_model.specs.PropertyForms.{HasPair, IsValueRun}
-use Rattle.rx_class.proofs.PropertyRuns.{IsRunSplit, one_name, one_run, run_split}
+use Rattle.rx_model.specs.Characters.Escapes.{front_is}
+use Rattle.rx_model.specs.Properties.PropertyForms.{HasPair, IsValueRun}
+use Rattle.rx_model.proofs.Properties.PropertyRuns.{one_name, one_run}
+use Rattle.rx_class.proofs.PropertyRuns.{IsRunSplit, run_split}
 
 -- no name and value stand at the front
 abbrev pub HasNoPair : List CodePoint → Type 0

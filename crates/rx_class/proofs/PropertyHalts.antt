@@ -13,14 +13,14 @@ use Rattle.rx_tables.specs.Properties.{IsValidUnicodeProperty, binary_properties
 use Rattle.rx_units.specs.declared.code_point.CodePoint.{CodePoint}
 use Rattle.rx_units.specs.Units.{values}
 use Rattle.rx_model.specs.declared.mode.Mode.TheVariants.{Unicode}
-use Rattle.rx_model.specs.ClassText.{property_opener}
-use Rattle.rx_model.specs.EscapeCauses.{BeginsProperty, IsPropertyCause, no_property, unterminated_run, unclosed_run, unclosed_pair, unknown_pair, unknown_run, of_strings}
-use Rattle.rx_model.specs.Escapes.{front_is}
-use Rattle.rx_model.specs.Marks.{starts}
-use Rattle.rx_model.specs.PropertyEscapes.{SpellsProperty, pair, category, binary}
-use Rattle.rx_model.specs.PropertyForms.{HasPair, HasRun, IsKnownRun, begins_property}
-use Rattle.rx_model.specs.Reached.{span_between}
-use Rattle.rx_model.proofs.Decodings.{both}
+use Rattle.rx_model.specs.Spelling.ClassText.{property_opener}
+use Rattle.rx_model.specs.Refusals.EscapeCauses.{BeginsProperty, IsPropertyCause, no_property, unterminated_run, unclosed_run, unclosed_pair, unknown_pair, unknown_run, of_strings}
+use Rattle.rx_model.specs.Characters.Escapes.{front_is}
+use Rattle.rx_model.specs.FirstPass.Marks.{starts}
+use Rattle.rx_model.specs.Properties.PropertyEscapes.{SpellsProperty, pair, category, binary}
+use Rattle.rx_model.specs.Properties.PropertyForms.{HasPair, HasRun, IsKnownRun, begins_property}
+use Rattle.rx_model.specs.Refusals.Reached.{span_between}
+use Rattle.rx_model.proofs.Characters.Decodings.{both}
 use Rattle.rx_class.specs.declared.property_found.Lone.TheVariants as lone
 use Rattle.rx_class.specs.declared.property_found.PropertyFound.{PropertyFound}
 use Rattle.rx_class.specs.declared.property_found.PropertyHalt.TheVariants as halt

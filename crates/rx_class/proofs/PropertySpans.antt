@@ -6,7 +6,7 @@ use Rattle.rx_base.specs.declared.span.Span.{Span}
 use Rattle.rx_units.specs.declared.code_point.CodePoint.{CodePoint}
 use Rattle.rx_units.specs.Reading.{Reading, moved, offset_of}
 use Rattle.rx_units.specs.Units.{end_of, offset_at}
-use Rattle.rx_model.specs.Reached.{span_between}
+use Rattle.rx_model.specs.Refusals.Reached.{span_between}
 
 capped_by : (us : List CodePoint) (n : ℕ) (b : Bool) → nat_le n (length us) ≡ b → take (min n (length us)) us ≡ take n us
 capped_by us n true h = ap (λ k. take k us) (let e : min n (length us) ≡ n = grind (arith, nat_tests) in e)

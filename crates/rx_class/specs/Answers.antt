@@ -1,8 +1,6 @@
 -- What the readers of escapes answer behind a backslash, and where they leave the reader. A span has an offset added to both its ends.
-use Rattle.std.specs.Prelude.{◌≡◌, ℕ, ◌+◌, ◌-◌, ◌≤◌, true, false, ◌==◌, Option, Some, None, Result, Ok, Err, List, ◌∷◌, ◌++◌, length, drop}
+use Rattle.std.specs.Prelude.{◌≡◌, ℕ, ◌+◌, ◌-◌, ◌≤◌, false, ◌==◌, Option, Some, None, Result, Ok, Err, List, ◌∷◌, ◌++◌, length, drop}
 use Rattle.rx_base.specs.declared.diagnostic.Diagnostic.{Diagnostic}
-use Rattle.rx_base.specs.declared.diagnostic.Diagnostic.TheVariants.{TooLargeNumberDigits, InvalidUnicodeEscapeSequence}
-use Rattle.rx_base.specs.declared.diagnostic.kinds.DigitsKind.TheVariants.{Hex}
 use Rattle.rx_base.specs.declared.span.Span.{Span}
 use Rattle.rx_units.specs.declared.code_point.CodePoint.{CodePoint}
 use Rattle.rx_units.specs.Reading.{Reading, front, moved, offset_of, rest}
@@ -11,13 +9,14 @@ use Rattle.rx_ast.specs.declared.leaf.Character.{Character}
 use Rattle.rx_ast.specs.declared.leaf.CharacterClassEscape.{CharacterClassEscape}
 use Rattle.rx_ast.specs.declared.leaf.CharacterClassEscapeKind.{CharacterClassEscapeKind}
 use Rattle.rx_ast.specs.declared.leaf.CharacterKind.{CharacterKind}
-use Rattle.rx_model.specs.ClassText.{class_escape_text}
-use Rattle.rx_model.specs.Environment.{Environment, environment_with, has_some}
-use Rattle.rx_model.specs.Escapes.{SpellsEscape, front_is}
-use Rattle.rx_model.specs.Modes.{mode_by}
-use Rattle.rx_model.specs.Reached.{span_between}
-use Rattle.rx_model.specs.UnicodeEscapes.{Decodes, PassesHex}
+use Rattle.rx_model.specs.Spelling.ClassText.{class_escape_text}
+use Rattle.rx_model.specs.Inputs.Environment.{Environment, environment_with, has_some}
+use Rattle.rx_model.specs.Refusals.EscapeCauses.{IsEscapeCause}
+use Rattle.rx_model.specs.Characters.Escapes.{SpellsEscape, front_is}
+use Rattle.rx_model.specs.Refusals.Firsts.{IsFirstOfEscape}
+use Rattle.rx_model.specs.Inputs.Modes.{mode_by}
 use Rattle.rx_scan.specs.declared.state.State.{State}
+use Rattle.rx_class.specs.Keeping.{KeepsUnits}
 
 -- what a state says of the environment: its mode, the number of groups, and whether some have names
 abbrev pub environment_of : State → Environment
@@ -29,6 +28,10 @@ pub record IsBehindBackslash (r : Reading) (span_start : ℕ) : Type 0 where
   pub behind : 1 ≤ r.place
   pub backslash : front (drop (r.place - 1) r.units) ≡ Some 92
   pub start : span_start ≡ offset_at r.first r.units (r.place - 1)
+
+-- the units from the backslash before the reader's place on
+abbrev pub from_backslash : Reading → List CodePoint
+from_backslash r = drop (r.place - 1) r.units
 
 -- no character escape stands at the front
 abbrev pub BeginsNoEscape : Environment → List ℕ → Type 0
@@ -45,13 +48,10 @@ pub data GivesCharacter (e : Environment) (added start : ℕ) (old new : Reading
       → it.span ≡ span_to added start new → new ≡ moved (length w) old → GivesCharacter e added start old new (Ok (Some it))
   -- none stands, nor the `u` of one, and the reader stays
   none : new ≡ old → BeginsNoEscape e (values (rest old)) → front_is (λ c. c == 117) (values (rest old)) ≡ false → GivesCharacter e added start old new (Ok None)
-  -- none is spelled, since digits in braces pass 32 bits: the span is that of those that do not
-  too_many : {span : Span} (count : ℕ) → PassesHex (values (rest old)) count → BeginsNoEscape e (values (rest old)) → span ≡ span_between old.units old.first added (old.place + 2) (old.place + 2 + count)
-      → GivesCharacter e added start old new (Err (TooLargeNumberDigits span Hex))
-  -- none is spelled, since `u` begins no unicode escape: the span is that of the `u`
-  invalid : {span : Span} → front_is (λ c. c == 117) (values (rest old)) ≡ true → ((value count : ℕ) → Decodes true (values (rest old)) value count → ⊥)
-      → ((count : ℕ) → PassesHex (values (rest old)) count → ⊥) → BeginsNoEscape e (values (rest old)) → span ≡ span_between old.units old.first added old.place (old.place + 1)
-      → GivesCharacter e added start old new (Err (InvalidUnicodeEscapeSequence span))
+  -- none is spelled, and the first refusal of the escape that the backslash begins is answered
+  refused : {diagnostic : Diagnostic} → IsEscapeCause e.mode old.units old.first added (old.place - 1) (from_backslash old) diagnostic
+      → IsFirstOfEscape e.mode old.units old.first added (old.place - 1) (from_backslash old) diagnostic → BeginsNoEscape e (values (rest old)) → KeepsUnits old new
+      → GivesCharacter e added start old new (Err diagnostic)
 
 -- What stands at the reader's place is answered as a class escape (CharacterClassEscape, 22.2.1) that names no property.
 pub data GivesClassEscape (added start : ℕ) (old new : Reading) : Option CharacterClassEscape → Type 0 where

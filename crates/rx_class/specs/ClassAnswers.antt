@@ -8,14 +8,15 @@ use Rattle.rx_ast.specs.declared.class.CharacterClass.{CharacterClass}
 use Rattle.rx_units.specs.declared.code_point.CodePoint.{CodePoint}
 use Rattle.rx_units.specs.Reading.{Reading, moved, rest}
 use Rattle.rx_units.specs.Units.{offset_at, values}
-use Rattle.rx_model.specs.ClassCauses.{IsClassCause}
-use Rattle.rx_model.specs.ClassRows.{IsClass, IsClassSpanned}
-use Rattle.rx_model.specs.Early.{IsEarlyClass}
-use Rattle.rx_model.specs.Environment.{Environment}
-use Rattle.rx_model.specs.Marks.{starts}
-use Rattle.rx_model.specs.Modes.{mode_by}
-use Rattle.rx_model.specs.Reached.{text_groups, text_names}
+use Rattle.rx_model.specs.Classes.ClassRows.{IsClass, IsClassSpanned}
+use Rattle.rx_model.specs.Trees.Early.{IsEarlyClass}
+use Rattle.rx_model.specs.Inputs.Environment.{Environment}
+use Rattle.rx_model.specs.Refusals.Firsts.{IsFirstInClass}
+use Rattle.rx_model.specs.FirstPass.Marks.{starts}
+use Rattle.rx_model.specs.Inputs.Modes.{mode_by}
+use Rattle.rx_model.specs.Refusals.Reached.{text_groups, text_names}
 use Rattle.rx_scan.specs.declared.state.State.{State}
+use Rattle.rx_class.specs.Keeping.{KeepsUnits}
 
 -- The state holds what the first pass of the units finds (CountLeftCapturingParensWithin, 22.2.1.2).
 pub record HoldsFirstPass (state : State) (us : List CodePoint) : Type 0 where
@@ -34,8 +35,8 @@ pub data GivesClass (e : Environment) (added : ℕ) (old new : Reading) : Result
       → new ≡ moved (length w) old → GivesClass e added old new (Ok (Some it))
   -- no `[` stands there, and the reader stays
   none : new ≡ old → starts 91 (values (rest old)) ≡ false → GivesClass e added old new (Ok None)
-  -- none that is free of early errors is spelled, and it is refused
-  refused : {diagnostic : Diagnostic} → IsClassCause e.mode old.units old.first added old.place (rest old) diagnostic → BeginsNoClass e (rest old)
+  -- none that is free of early errors is spelled, and the first refusal of the class is answered
+  refused : {diagnostic : Diagnostic} → IsFirstInClass e.mode old.units old.first added old.place (rest old) diagnostic → BeginsNoClass e (rest old) → KeepsUnits old new
       → GivesClass e added old new (Err (fault.Diagnostic diagnostic))
   -- memory was wanting
-  no_memory : GivesClass e added old new (Err fault.OutOfMemory)
+  no_memory : KeepsUnits old new → GivesClass e added old new (Err fault.OutOfMemory)

@@ -17,20 +17,21 @@ use Rattle.rx_units.specs.declared.code_point.CodePoint.{CodePoint}
 use Rattle.rx_units.specs.Reading.{Reading, moved, rest}
 use Rattle.rx_units.specs.Units.{offset_at, values}
 use Rattle.rx_model.specs.declared.mode.Mode.TheVariants.{Unicode}
-use Rattle.rx_model.specs.ClassCauses.{IsClassCause, is_character}
-use Rattle.rx_model.specs.ClassFronts.{atom_at, no_atom, no_piece, piece_at}
-use Rattle.rx_model.specs.ClassFronts as piece
-use Rattle.rx_model.specs.ClassPlaces.{IsAtomPlace, IsItemPlace}
-use Rattle.rx_model.specs.ClassRows.{ClassRow, SpellsAtom, fresh}
-use Rattle.rx_model.specs.ClassRuns.{atom_obeys}
-use Rattle.rx_model.specs.ClassTokens.{Atom, character, escape, property, member_events}
-use Rattle.rx_model.specs.Early.{IsEarlyMember, member_strings}
-use Rattle.rx_model.specs.Environment.{Environment}
-use Rattle.rx_model.specs.Marks.{starts}
-use Rattle.rx_model.specs.Reached.{span_between, text_environment}
-use Rattle.rx_model.specs.UnitKinds.{unit_kind}
+use Rattle.rx_model.specs.Refusals.ClassCauses.{IsClassCause, is_character}
+use Rattle.rx_model.specs.Classes.ClassFronts.{atom_at, no_atom, no_piece, piece_at}
+use Rattle.rx_model.specs.Classes.ClassFronts as piece
+use Rattle.rx_model.specs.Refusals.ClassPlaces.{IsAtomPlace, IsItemPlace}
+use Rattle.rx_model.specs.Classes.ClassRows.{ClassRow, SpellsAtom, fresh}
+use Rattle.rx_model.specs.Classes.ClassRuns.{atom_obeys}
+use Rattle.rx_model.specs.Classes.ClassTokens.{Atom, character, escape, property, member_events}
+use Rattle.rx_model.specs.Trees.Early.{IsEarlyMember, member_strings}
+use Rattle.rx_model.specs.Inputs.Environment.{Environment}
+use Rattle.rx_model.specs.FirstPass.Marks.{starts}
+use Rattle.rx_model.specs.Refusals.Reached.{span_between, text_environment}
+use Rattle.rx_model.specs.Characters.UnitKinds.{unit_kind}
 use Rattle.rx_class.specs.declared.class_atom.ClassAtom.{ClassAtom}
 use Rattle.rx_class.specs.declared.class_atom.ClassAtom.TheVariants as atom
+use Rattle.rx_class.specs.Keeping.{KeepsUnits}
 
 -- the atom, without its span
 abbrev pub atom_of : ClassAtom → Atom
@@ -75,14 +76,15 @@ pub record StandsItem (us : List CodePoint) : Type 0 where
 abbrev pub IsAtomCause : ℕ → Reading → Diagnostic → Type 0
 IsAtomCause added r diagnostic =
     (from : ℕ) (at_class : List CodePoint) → IsAtomPlace (environment_at r) from at_class r.place (rest r)
-    → IsClassCause Unicode r.units r.first added from at_class diagnostic
+    → IsClassCause Unicode r.units r.first added from at_class r.place diagnostic
 
 -- What stands at the reader's place is answered as an atom of a class (ClassAtom, 22.2.1).
 pub data GivesAtom (added : ℕ) (old new : Reading) : Result ClassAtom Fault → Type 0 where
   some : {it : ClassAtom} (w more : List CodePoint) → rest old ≡ w ++ more → SpellsAtom (environment_at old) (atom_of it) w more → atom_obeys (atom_of it) ≡ true
       → atom_span it ≡ span_between old.units old.first added old.place (old.place + length w) → new ≡ moved (length w) old → GivesAtom added old new (Ok it)
-  refused : {diagnostic : Diagnostic} → IsAtomCause added old diagnostic → atom_at (environment_at old) (rest old) ≡ no_atom → GivesAtom added old new (Err (fault.Diagnostic diagnostic))
-  no_memory : GivesAtom added old new (Err fault.OutOfMemory)
+  refused : {diagnostic : Diagnostic} → IsAtomCause added old diagnostic → atom_at (environment_at old) (rest old) ≡ no_atom → KeepsUnits old new
+      → GivesAtom added old new (Err (fault.Diagnostic diagnostic))
+  no_memory : KeepsUnits old new → GivesAtom added old new (Err fault.OutOfMemory)
 
 -- the span between two offsets
 abbrev pub between : ℕ → ℕ → Span
@@ -104,11 +106,11 @@ pub data BeginsNoItem (e : Environment) (us : List CodePoint) : Type 0 where
   no_item : piece_at e us ≡ no_piece → BeginsNoItem e us
   out_of_order : (low high : CharacterKind) (v x n : ℕ) → piece_at e us ≡ piece.range low v high x n → x < v → BeginsNoItem e us
 
--- Of each class in which an item may stand at the reader's place, this is a cause.
+-- Of each class in which an item may stand at the reader's place, this is a cause, at a place in it.
 abbrev pub IsItemCause : ℕ → Reading → Diagnostic → Type 0
 IsItemCause added r diagnostic =
     (from : ℕ) (at_class : List CodePoint) → IsItemPlace (environment_at r) from at_class r.place (rest r)
-    → IsClassCause Unicode r.units r.first added from at_class diagnostic
+    → (place : ℕ) × IsClassCause Unicode r.units r.first added from at_class place diagnostic
 
 -- a member that mode Unicode has: no class, and no class string
 abbrev pub IsPlain : Member → Type 0
@@ -131,8 +133,9 @@ pub data GivesItem (added : ℕ) (old new : Reading) : Result CharacterClassCont
   some : {it : CharacterClassContents} (w more : List CodePoint) → rest old ≡ w ++ more
       → IsItem (environment_at old) (λ i. offset_at old.first old.units i + added) old.place (mirror_contents it) w more
       → new ≡ moved (length w) old → GivesItem added old new (Ok it)
-  refused : {diagnostic : Diagnostic} → IsItemCause added old diagnostic → BeginsNoItem (environment_at old) (rest old) → GivesItem added old new (Err (fault.Diagnostic diagnostic))
-  no_memory : GivesItem added old new (Err fault.OutOfMemory)
+  refused : {diagnostic : Diagnostic} → IsItemCause added old diagnostic → BeginsNoItem (environment_at old) (rest old) → KeepsUnits old new
+      → GivesItem added old new (Err (fault.Diagnostic diagnostic))
+  no_memory : KeepsUnits old new → GivesItem added old new (Err fault.OutOfMemory)
 
 -- the contents of a class
 abbrev pub contents : List CharacterClassContents → Members

@@ -1,7 +1,7 @@
 -- What is found behind a backslash, as the reading that it says.
 use Rattle.std.specs.Prelude.{ℕ, ◌+◌, ◌≤◌, Option, None, List, [], ◌∷◌}
 use Rattle.rx_ast.specs.declared.leaf.CharacterClassEscapeKind.{CharacterClassEscapeKind}
-use Rattle.rx_model.specs.Fronts.{EscapeRead, escaped, nothing, too_many, no_unicode, class_escape_at}
+use Rattle.rx_model.specs.Reading.Fronts.{EscapeRead, escaped, nothing, too_many, no_unicode, class_escape_at}
 use Rattle.rx_class.specs.declared.escape_found.EscapeFound.{EscapeFound}
 use Rattle.rx_class.specs.declared.escape_found.EscapeFound.TheVariants as found
 

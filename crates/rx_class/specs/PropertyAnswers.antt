@@ -1,5 +1,5 @@
 -- What the reader of property escapes answers behind a backslash, and where it leaves the reader. A span has an offset added to both its ends.
-use Rattle.std.specs.Prelude.{◌≡◌, ℕ, ◌-◌, Bool, false, ◌⊎◌, Option, Some, None, Result, Ok, Err, List, ◌∷◌, ◌++◌, length, drop}
+use Rattle.std.specs.Prelude.{◌≡◌, ℕ, ◌-◌, Bool, false, ◌⊎◌, Option, Some, None, Result, Ok, Err, List, ◌∷◌, ◌++◌, length}
 use Rattle.rx_base.specs.declared.diagnostic.Diagnostic.{Diagnostic}
 use Rattle.rx_base.specs.declared.fault.Fault.{Fault}
 use Rattle.rx_base.specs.declared.fault.Fault.TheVariants as fault
@@ -7,16 +7,14 @@ use Rattle.rx_units.specs.declared.code_point.CodePoint.{CodePoint}
 use Rattle.rx_units.specs.Reading.{Reading, moved, rest}
 use Rattle.rx_units.specs.Units.{values}
 use Rattle.rx_ast.specs.declared.leaf.UnicodePropertyEscape.{UnicodePropertyEscape}
-use Rattle.rx_model.specs.Environment.{Environment, is_unicode}
-use Rattle.rx_model.specs.EscapeCauses.{IsPropertyCause}
-use Rattle.rx_model.specs.Escapes.{front_is}
-use Rattle.rx_model.specs.PropertyEscapes.{IsProperty}
-use Rattle.rx_model.specs.PropertyForms.{begins_property}
-use Rattle.rx_class.specs.Answers.{span_to}
-
--- the units from the backslash before the reader's place on
-abbrev pub from_backslash : Reading → List CodePoint
-from_backslash r = drop (r.place - 1) r.units
+use Rattle.rx_model.specs.Inputs.Environment.{Environment, is_unicode}
+use Rattle.rx_model.specs.Refusals.EscapeCauses.{IsPropertyCause}
+use Rattle.rx_model.specs.Characters.Escapes.{front_is}
+use Rattle.rx_model.specs.Refusals.Firsts.{IsFirstOfEscape}
+use Rattle.rx_model.specs.Properties.PropertyEscapes.{IsProperty}
+use Rattle.rx_model.specs.Properties.PropertyForms.{begins_property}
+use Rattle.rx_class.specs.Answers.{from_backslash, span_to}
+use Rattle.rx_class.specs.Keeping.{KeepsUnits}
 
 -- no property escape stands at the front
 abbrev pub BeginsNoProperty : Environment → List CodePoint → Type 0
@@ -30,8 +28,9 @@ pub data GivesProperty (e : Environment) (added start : ℕ) (old new : Reading)
       → GivesProperty e added start old new (Ok (Some it))
   -- with neither `u` nor `v`, or where neither `p` nor `P` stands, there is none, and the reader stays
   none : new ≡ old → (is_unicode e.mode ≡ false) ⊎ (front_is begins_property (values (rest old)) ≡ false) → GivesProperty e added start old new (Ok None)
-  -- none is spelled, and it is refused
+  -- none is spelled, and the first refusal of the escape that the backslash begins is answered
   refused : {diagnostic : Diagnostic} → IsPropertyCause e.mode old.units old.first added (old.place - 1) (from_backslash old) diagnostic
-      → BeginsNoProperty e (from_backslash old) → GivesProperty e added start old new (Err (fault.Diagnostic diagnostic))
+      → IsFirstOfEscape e.mode old.units old.first added (old.place - 1) (from_backslash old) diagnostic → BeginsNoProperty e (from_backslash old) → KeepsUnits old new
+      → GivesProperty e added start old new (Err (fault.Diagnostic diagnostic))
   -- memory was wanting
-  no_memory : GivesProperty e added start old new (Err fault.OutOfMemory)
+  no_memory : KeepsUnits old new → GivesProperty e added start old new (Err fault.OutOfMemory)

@@ -8,12 +8,12 @@ use Rattle.rx_tables.specs.Properties.{binary_properties, general_category_value
 use Rattle.rx_units.specs.declared.code_point.CodePoint.{CodePoint}
 use Rattle.rx_units.specs.Units.{values}
 use Rattle.rx_model.specs.declared.mode.Mode.{Mode}
-use Rattle.rx_model.specs.ClassText.{property_opener}
-use Rattle.rx_model.specs.EscapeCauses.{IsPropertyCause}
-use Rattle.rx_model.specs.Escapes.{front_is}
-use Rattle.rx_model.specs.PropertyEscapes.{SpellsProperty}
-use Rattle.rx_model.specs.PropertyForms.{HasPair, begins_property}
-use Rattle.rx_model.specs.Reached.{span_between}
+use Rattle.rx_model.specs.Spelling.ClassText.{property_opener}
+use Rattle.rx_model.specs.Refusals.EscapeCauses.{IsPropertyCause}
+use Rattle.rx_model.specs.Characters.Escapes.{front_is}
+use Rattle.rx_model.specs.Properties.PropertyEscapes.{SpellsProperty}
+use Rattle.rx_model.specs.Properties.PropertyForms.{HasPair, begins_property}
+use Rattle.rx_model.specs.Refusals.Reached.{span_between}
 use Rattle.rx_class.specs.declared.property_found.Lone.{Lone}
 use Rattle.rx_class.specs.declared.property_found.Lone.TheVariants as lone
 use Rattle.rx_class.specs.declared.property_found.PropertyFound.{PropertyFound}

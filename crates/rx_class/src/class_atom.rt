@@ -2,7 +2,7 @@ ghost use Rattle.std.specs.Prelude.{◌≡◌, IfOk};
 ghost use Rattle.rx_ast.specs.ClassTree.{mirror_contents};
 ghost use Rattle.rx_units.specs.Reading.{rest};
 ghost use Rattle.rx_units.specs.Units.{values};
-ghost use Rattle.rx_model.specs.UnitKinds.{unit_kind};
+ghost use Rattle.rx_model.specs.Characters.UnitKinds.{unit_kind};
 ghost use Rattle.rx_class.specs.Answers.{IsBehindBackslash, environment_of};
 ghost use Rattle.rx_class.specs.ClassItems.{GivesAtom, StandsItem, alone_in_class, atom_member, atom_span, back, environment_at, kind_in_class};
 ghost use Rattle.rx_class.specs.Fitting.{AreFitting};

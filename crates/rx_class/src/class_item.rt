@@ -3,7 +3,7 @@ ghost use Rattle.rx_ast.specs.ClassTree as ClassTree;
 ghost use Rattle.rx_ast.specs.ClassTree.{mirror_contents};
 ghost use Rattle.rx_units.specs.Reading.{rest};
 ghost use Rattle.rx_units.specs.Units.{values};
-ghost use Rattle.rx_model.specs.ClassRows.{is_dashed};
+ghost use Rattle.rx_model.specs.Classes.ClassRows.{is_dashed};
 ghost use Rattle.rx_class.specs.Answers.{environment_of};
 ghost use Rattle.rx_class.specs.ClassItems.{GivesItem, IsBetween, StandsItem, environment_at};
 ghost use Rattle.rx_class.specs.Fitting.{AreFitting};

@@ -1,8 +1,9 @@
 ghost use Rattle.std.specs.Prelude.{◌≡◌, ◌+◌, ◌<◌, ◌≤◌, ◌^◌, IsTrue, length};
 ghost use Rattle.rx_units.specs.Reading.{moved, offset_of};
-ghost use Rattle.rx_model.specs.Reached.{span_between};
+ghost use Rattle.rx_model.specs.Refusals.Reached.{span_between};
 ghost use Rattle.rx_class.specs.Answers.{GivesCharacter, GivesClassEscape, IsBehindBackslash, environment_of};
 ghost use Rattle.rx_class.specs.Fitting.{AreFitting};
+ghost use Rattle.rx_class.specs.Keeping.{KeepsUnits};
 
 use crate::{EscapeFound, character_escape_at, class_escape_at};
 use rx_ast::{Character, CharacterClassEscape};
@@ -55,7 +56,8 @@ pub fn parse_character_escape(
 fn next_span(reader: &mut Reader<'_>, spans: &SpanFactory, count: usize) -> Span
     requires fits { AreFitting spans.now reader.old }
     requires within { reader.old.place + count ≤ length reader.old.units }
-    ensures { result ≡ span_between reader.old.units reader.old.first spans.now reader.old.place (reader.old.place + count) }
+    ensures span { result ≡ span_between reader.old.units reader.old.first spans.now reader.old.place (reader.old.place + count) }
+    ensures reader { KeepsUnits reader.old reader.new }
 {
     let start = reader.offset();
     reader.skip(count);

@@ -1,9 +1,9 @@
 ghost use Rattle.std.specs.Prelude.{◌≡◌, length, if◌then◌else◌};
 ghost use Rattle.rx_units.specs.Units.{values};
 ghost use Rattle.rx_tables.specs.Characters.{is_decimal_digit};
-ghost use Rattle.rx_model.specs.Decoding.{decoded};
-ghost use Rattle.rx_model.specs.Escapes.{front_is, is_identity_escape};
-ghost use Rattle.rx_model.specs.Fronts.{escape_at, escaped, escaped_if, letter_at, nothing, two_at, unicode_read};
+ghost use Rattle.rx_model.specs.Characters.Decoding.{decoded};
+ghost use Rattle.rx_model.specs.Characters.Escapes.{front_is, is_identity_escape};
+ghost use Rattle.rx_model.specs.Reading.Fronts.{escape_at, escaped, escaped_if, letter_at, nothing, two_at, unicode_read};
 ghost use Rattle.rx_class.specs.Found.{IsWithin, class_escape_front, seen_escape};
 
 use rx_ast::{CharacterClassEscapeKind, CharacterKind};
@@ -42,7 +42,7 @@ pub fn character_escape_at(units: &[CodePoint], unicode_mode: bool) -> EscapeFou
     first_escape(units, unicode_mode)
 }
 
-#[tactic(auto, unfolding(rx_model::specs::Fronts::escape_at))]
+#[tactic(auto, unfolding(rx_model::specs::Reading::Fronts::escape_at))]
 fn first_escape(units: &[CodePoint], unicode_mode: bool) -> EscapeFound
     ensures { seen_escape result ≡ escape_at unicode_mode (values units.now) }
 {

@@ -9,8 +9,6 @@ mod escape_found;
 mod property;
 mod property_form;
 mod property_found;
-#[cfg(test)]
-mod tests;
 
 pub use class::parse_character_class;
 pub use class_atom::unit_kind;

@@ -1,9 +1,10 @@
 ghost use Rattle.std.specs.Prelude.{◌≡◌, ◌+◌, ◌-◌, ◌<◌, ◌^◌, false, length};
 ghost use Rattle.rx_class.specs.Answers.{IsBehindBackslash, environment_of};
 ghost use Rattle.rx_class.specs.Fitting.{AreFitting};
+ghost use Rattle.rx_class.specs.Keeping.{KeepsUnits};
 ghost use Rattle.rx_class.specs.PropertyAnswers.{GivesProperty};
 ghost use Rattle.rx_class.specs.PropertyFound.{property_refusal};
-ghost use Rattle.rx_model.specs.Reached.{span_between};
+ghost use Rattle.rx_model.specs.Refusals.Reached.{span_between};
 
 use crate::property_found::{PropertyFound, PropertyHalt, property_at};
 use rx_ast::UnicodePropertyEscape;
@@ -69,7 +70,8 @@ fn refusal(
 ) -> Diagnostic
     requires backslash { IsBehindBackslash reader.old span_start }
     requires fits { AreFitting spans.now reader.old }
-    ensures { result ≡ property_refusal reader.old.units reader.old.first spans.now (reader.old.place - 1) halt }
+    ensures refusal { result ≡ property_refusal reader.old.units reader.old.first spans.now (reader.old.place - 1) halt }
+    ensures reader { KeepsUnits reader.old reader.new }
 {
     match halt {
         PropertyHalt::Unterminated { end } => {
@@ -98,7 +100,8 @@ fn refusal(
 /// The span of so many units that stand so many units ahead. The reader moves over them.
 fn span_ahead(reader: &mut Reader<'_>, spans: &SpanFactory, ahead: usize, count: usize) -> Span
     requires fits { AreFitting spans.now reader.old }
-    ensures { result ≡ span_between reader.old.units reader.old.first spans.now (reader.old.place + ahead) (reader.old.place + ahead + count) }
+    ensures span { result ≡ span_between reader.old.units reader.old.first spans.now (reader.old.place + ahead) (reader.old.place + ahead + count) }
+    ensures reader { KeepsUnits reader.old reader.new }
 {
     reader.skip(ahead);
     let start = reader.offset();

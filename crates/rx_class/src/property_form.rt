@@ -2,7 +2,7 @@ ghost use Rattle.std.specs.Prelude.{◌≡◌};
 ghost use Rattle.std.specs.List.{prefix_len};
 ghost use Rattle.rx_units.specs.Units.{values};
 ghost use Rattle.rx_tables.specs.Characters as set;
-ghost use Rattle.rx_model.specs.PropertyForms.{IsValueRun};
+ghost use Rattle.rx_model.specs.Properties.PropertyForms.{IsValueRun};
 ghost use Rattle.rx_class.specs.PropertyFound.{IsPairFound};
 
 use rx_tables::{is_unicode_property_name_character, is_unicode_property_value_character};

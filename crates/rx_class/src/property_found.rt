@@ -4,8 +4,8 @@ ghost use Rattle.std.specs.Str.{chars};
 ghost use Rattle.rx_units.specs.Units.{values};
 ghost use Rattle.rx_tables.specs.Characters.{is_unicode_property_value_character};
 ghost use Rattle.rx_model.specs.declared.mode.Mode.TheVariants.{Unicode};
-ghost use Rattle.rx_model.specs.Marks.{starts};
-ghost use Rattle.rx_model.specs.PropertyForms.{HasPair, HasRun};
+ghost use Rattle.rx_model.specs.FirstPass.Marks.{starts};
+ghost use Rattle.rx_model.specs.Properties.PropertyForms.{HasPair, HasRun};
 ghost use Rattle.rx_class.specs.PropertyFound.{IsLone, IsPropertyFound, property_letter};
 
 use crate::property_form::{pair_at, run_at};

@@ -3,7 +3,7 @@ use Rattle.std.proofs.Common.{◌≡◌, ap, sym, ◌∙◌, subst, ℕ, suc, �
 use Rattle.std.specs.BTreeMap.{get_by_text}
 use Rattle.std.specs.Str.{IsUtf8, bytes_eq, chars}
 use Rattle.std.proofs.lemmas.List.{map-append}
-use Rattle.rx_model.specs.Marks.{capturing, mark_name, name_length}
+use Rattle.rx_model.specs.FirstPass.Marks.{capturing, mark_name, name_length}
 use Rattle.rx_scan.specs.OpenGroups.{frames_of}
 use Rattle.rx_scan.specs.FirstPass.{Captures, KnowsLast, Steps, entries, entry_of, first_clash, with_name}
 use Rattle.rx_scan.specs.declared.first_pass.FirstPass.{FirstPass}

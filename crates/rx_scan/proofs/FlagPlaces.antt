@@ -8,8 +8,8 @@ use Rattle.rx_base.specs.declared.diagnostic.Diagnostic.TheVariants.{UnknownFlag
 use Rattle.rx_units.specs.declared.code_point.CodePoint.{CodePoint}
 use Rattle.rx_units.specs.Units.{values, offset_at}
 use Rattle.rx_units.proofs.Offsets.{end_of_take}
-use Rattle.rx_model.specs.Flags.{flags_ok, holds, is_flag}
-use Rattle.rx_model.specs.FlagCauses.{IsFirstOffence, IsFlagCause, unit_span, unknown, duplicated, both_modes}
+use Rattle.rx_model.specs.Inputs.Flags.{flags_ok, holds, is_flag}
+use Rattle.rx_model.specs.Refusals.FlagCauses.{IsFirstOffence, IsFlagCause, unit_span, unknown, duplicated, both_modes}
 use Rattle.rx_scan.proofs.FlagRows.{flags_push, refused_append}
 
 not_flag : (a h b : Bool) → a ≡ false → ((a && not h) && b) ≡ false

@@ -6,7 +6,7 @@ use Rattle.std.proofs.lemmas.List.Folds.{list_any-append}
 use Rattle.std.specs.List.{list_any}
 use Rattle.rx_units.specs.declared.code_point.CodePoint.{CodePoint}
 use Rattle.rx_units.specs.Units.{values}
-use Rattle.rx_model.specs.Flags.{flags_ok, are_distinct_flags, holds, is_flag}
+use Rattle.rx_model.specs.Inputs.Flags.{flags_ok, are_distinct_flags, holds, is_flag}
 
 pub holds_values : (us : List CodePoint) (v : ℕ) → list_any (λ unit. unit.value == v) us ≡ holds (values us) v
 holds_values [] v = refl

@@ -5,10 +5,10 @@ use Rattle.std.proofs.lemmas.List.{append-nil, length-map, drop-drop, length-dro
 use Rattle.std.specs.List.{drop-map}
 use Rattle.rx_units.specs.declared.code_point.CodePoint.{CodePoint}
 use Rattle.rx_units.specs.Units.{values}
-use Rattle.rx_model.specs.Decoding.{Decoded, value}
-use Rattle.rx_model.specs.GroupNames.{IsGroupName, IsNameRow, is_in_name}
-use Rattle.rx_model.specs.GroupNameReading.{NameCharacter, character, no_character, name_character_at, row, row_behind, row_after, name_at, all_of, name_of, tested, escape_in_name}
-use Rattle.rx_model.proofs.GroupNames.{character_spelled, name_of_law, read_some, row_behind_none, row_behind_twice, row_steps, row_stops, name_row_law}
+use Rattle.rx_model.specs.Characters.Decoding.{Decoded, value}
+use Rattle.rx_model.specs.Groups.GroupNames.{IsGroupName, IsNameRow, is_in_name}
+use Rattle.rx_model.specs.Groups.GroupNameReading.{NameCharacter, character, no_character, name_character_at, row, row_behind, row_after, name_at, all_of, name_of, tested, escape_in_name}
+use Rattle.rx_model.proofs.Groups.GroupNames.{character_spelled, name_of_law, read_some, row_behind_none, row_behind_twice, row_steps, row_stops, name_row_law}
 
 -- a character of a name is some units, and no more than there are
 pub character_some : (unicode_mode first : Bool) (us : List ℕ) (c n : ℕ) → character c n ≡ name_character_at unicode_mode first us → 0 < n

@@ -2,7 +2,7 @@
 use Rattle.std.proofs.Common.{◌≡◌, refl, ap, sym, ◌∙◌, subst, ℕ, zero, suc, ◌-◌, ◌<◌, ◌≤◌, Bool, true, false, ◌&&◌, ◌||◌, List, [], ◌∷◌, ◌++◌, get_or, length, arith}
 use Rattle.std.specs.Prelude.{nat_le, nat_lt}
 use Rattle.std.proofs.lemmas.Bool.{le-leb, lt-leb, le-ltb}
-use Rattle.rx_model.specs.Frames.{Frame, Nests, drop_top}
+use Rattle.rx_model.specs.FirstPass.Frames.{Frame, Nests, drop_top}
 use Rattle.rx_scan.specs.declared.open_groups.OpenGroup.{OpenGroup}
 use Rattle.rx_scan.specs.OpenGroups.{pair, onto, Splits, no_group, hides, hides_one, any_hides}
 

@@ -4,7 +4,7 @@ use Rattle.std.proofs.Math.Seq.{drop-length}
 use Rattle.rx_units.specs.declared.code_point.CodePoint.{CodePoint}
 use Rattle.rx_units.specs.declared.code_point.EscapeKind.TheVariants as kind
 use Rattle.rx_units.specs.Units.{unit, values}
-use Rattle.rx_model.specs.Marks.{class_rest, before_close, has_close}
+use Rattle.rx_model.specs.FirstPass.Marks.{class_rest, before_close, has_close}
 use Rattle.rx_scan.specs.MarkReading.{closed_part}
 
 -- before the place no `>` stands

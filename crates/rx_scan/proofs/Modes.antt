@@ -1,8 +1,8 @@
 -- The modes that flags ask for.
 use Rattle.std.proofs.Common.{◌≡◌, refl, Bool, true, false, ◌||◌, List, ℕ, if◌then◌else◌}
 use Rattle.rx_model.specs.declared.mode.Mode.TheVariants.{Legacy, Unicode, Sets}
-use Rattle.rx_model.specs.Environment.{is_unicode}
-use Rattle.rx_model.specs.Flags.{holds, mode_of, modes_of}
+use Rattle.rx_model.specs.Inputs.Environment.{is_unicode}
+use Rattle.rx_model.specs.Inputs.Flags.{holds, mode_of, modes_of}
 
 by_tests : (v u : Bool) → is_unicode (if v then Sets else (if u then Unicode else Legacy)) ≡ (v || u)
 by_tests true u = refl

@@ -6,10 +6,10 @@ use Rattle.std.specs.Str.{IsUtf8, bytes_eq, chars}
 use Rattle.std.proofs.lemmas.Bool.{cases_lt, false≢true, ltb-true, lt-ltb, leb-true, le-leb}
 use Rattle.std.proofs.lemmas.List.Folds.{list_any-append}
 use Rattle.std.proofs.Math.Seq.{drop-length}
-use Rattle.rx_model.specs.Frames.{Frame, Hides, Nests, frames, step}
-use Rattle.rx_model.specs.Marks.{Mark, Clash, IsFirstClash, other, bar, closer, quiet, capturing, count, listed, mark_at, mark_count, mark_front, mark_name, marks, marks_behind, name_length, name_places, names, mark_place, places, places_behind}
-use Rattle.rx_model.specs.Names.{is_among, once_behind}
-use Rattle.rx_model.proofs.PartedMarks.{hidden_parted, parted_hidden, last_seen, nests}
+use Rattle.rx_model.specs.FirstPass.Frames.{Frame, Hides, Nests, frames, step}
+use Rattle.rx_model.specs.FirstPass.Marks.{Mark, Clash, IsFirstClash, other, bar, closer, quiet, capturing, count, listed, mark_at, mark_count, mark_front, mark_name, marks, marks_behind, name_length, name_places, names, mark_place, places, places_behind}
+use Rattle.rx_model.specs.Trees.Names.{is_among, once_behind}
+use Rattle.rx_model.proofs.FirstPass.PartedMarks.{hidden_parted, parted_hidden, last_seen, nests}
 use Rattle.rx_scan.specs.MarkReading.{front}
 use Rattle.rx_scan.specs.OpenGroups.{frames_of, hides, hides_one}
 use Rattle.rx_scan.specs.FirstPass.{Entry, IsPassFault, IsStart, KnowsLast, LastTells, Refuses, Steps, entries, entry_at, entry_for, entry_of, first_clash, last_named, last_or, named, same_name, span_of, with_name, with_names}

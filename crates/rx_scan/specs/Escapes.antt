@@ -1,5 +1,5 @@
 -- What the decoder of unicode escapes answers (RegExpUnicodeEscapeSequence, 22.2.1).
-use Rattle.rx_model.specs.Decoding.{Decoded, value, invalid, overflow}
+use Rattle.rx_model.specs.Characters.Decoding.{Decoded, value, invalid, overflow}
 use Rattle.rx_scan.specs.declared.unicode_escape.UnicodeEscape.{UnicodeEscape}
 use Rattle.rx_scan.specs.declared.unicode_escape.UnicodeEscape.TheVariants as escape
 

@@ -3,9 +3,9 @@ use Rattle.std.specs.Prelude.{◌≡◌, ℕ, zero, suc, ◌+◌, Bool, true, eq
 use lib.Pointwise.{pointwise}
 use Rattle.std.specs.BTreeMap.{get_by_text}
 use Rattle.std.specs.Str.{IsUtf8, chars}
-use Rattle.rx_model.specs.Frames.{Frame, step}
-use Rattle.rx_model.specs.Marks.{IsFirstClash, Mark, listed, mark_at, mark_count, mark_name, mark_place, marks, name_length, name_places}
-use Rattle.rx_model.specs.Names.{is_among}
+use Rattle.rx_model.specs.FirstPass.Frames.{Frame, step}
+use Rattle.rx_model.specs.FirstPass.Marks.{IsFirstClash, Mark, listed, mark_at, mark_count, mark_name, mark_place, marks, name_length, name_places}
+use Rattle.rx_model.specs.Trees.Names.{is_among}
 use Rattle.rx_scan.specs.OpenGroups.{frames_of, hides}
 use Rattle.rx_scan.specs.declared.first_pass.FirstPass.{FirstPass}
 use Rattle.rx_scan.specs.declared.first_pass.Opening.{Opening}

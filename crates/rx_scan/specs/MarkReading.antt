@@ -3,8 +3,8 @@ use Rattle.std.specs.Prelude.{ℕ, ◌+◌, Option, Some, None, List, [], ◌∷
 use Rattle.std.specs.Borrow.{Bor}
 use Rattle.rx_units.specs.declared.code_point.CodePoint.{CodePoint}
 use Rattle.rx_units.specs.Units.{values}
-use Rattle.rx_model.specs.Marks as model
-use Rattle.rx_model.specs.Marks.{before_close, has_close, mark_front}
+use Rattle.rx_model.specs.FirstPass.Marks as model
+use Rattle.rx_model.specs.FirstPass.Marks.{before_close, has_close, mark_front}
 use Rattle.rx_scan.specs.declared.mark.Mark.{Mark}
 use Rattle.rx_scan.specs.declared.mark.Mark.TheVariants as mark
 

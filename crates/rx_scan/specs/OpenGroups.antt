@@ -1,6 +1,6 @@
 -- The open groups that the first pass keeps, as the frames of a text's marks.
 use Rattle.std.specs.Prelude.{ℕ, ◌-◌, ◌<◌, ◌≤◌, Bool, false, nat_le, nat_lt, ◌&&◌, ◌||◌, List, [], ◌∷◌, length, get_or}
-use Rattle.rx_model.specs.Frames.{Frame}
+use Rattle.rx_model.specs.FirstPass.Frames.{Frame}
 use Rattle.rx_scan.specs.declared.open_groups.OpenGroup.{OpenGroup}
 use Rattle.rx_scan.specs.declared.open_groups.OpenGroups.{OpenGroups}
 

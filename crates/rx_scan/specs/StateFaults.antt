@@ -2,7 +2,7 @@
 use Rattle.std.specs.Prelude.{◌≡◌, ℕ, Bool}
 use Rattle.rx_units.specs.Reading.{Reading}
 use Rattle.rx_units.specs.Units.{offset_at, values}
-use Rattle.rx_model.specs.Marks.{IsFirstClash, marks, name_places}
+use Rattle.rx_model.specs.FirstPass.Marks.{IsFirstClash, marks, name_places}
 use Rattle.rx_scan.specs.declared.state.StateFault.{StateFault}
 use Rattle.rx_scan.specs.declared.state.StateFault.TheVariants.{OutOfMemory, Duplicated}
 

@@ -1,7 +1,7 @@
 -- How far the first pass has come.
 use Rattle.std.specs.Prelude.{◌≡◌, ℕ, ◌+◌, ◌<◌, ◌≤◌, Bool, List, length, drop}
-use Rattle.rx_model.specs.Frames.{frames}
-use Rattle.rx_model.specs.Marks.{Clash, count, marks, names, places, places_behind, seen}
+use Rattle.rx_model.specs.FirstPass.Frames.{frames}
+use Rattle.rx_model.specs.FirstPass.Marks.{Clash, count, marks, names, places, places_behind, seen}
 use Rattle.rx_scan.specs.OpenGroups.{frames_of}
 use Rattle.rx_scan.specs.FirstPass.{KnowsLast, entries, named, with_names}
 use Rattle.rx_scan.specs.declared.first_pass.FirstPass.{FirstPass}

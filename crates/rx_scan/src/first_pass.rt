@@ -1,8 +1,8 @@
 ghost use Rattle.std.specs.Prelude.{◌≡◌, ◌+◌, ◌<◌, ◌≤◌, ◌^◌, ℕ, List, None, Some, IfOk, IfErr, OnOk, drop, length, map, option_map};
 ghost use Rattle.std.specs.Str.{chars};
 ghost use Rattle.rx_units.specs.Units.{values};
-ghost use Rattle.rx_model.specs.Frames.{Nests};
-ghost use Rattle.rx_model.specs.Marks.{Clash, count, marks, name_length, seen};
+ghost use Rattle.rx_model.specs.FirstPass.Frames.{Nests};
+ghost use Rattle.rx_model.specs.FirstPass.Marks.{Clash, count, marks, name_length, seen};
 ghost use Rattle.rx_scan.specs.MarkReading.{seen_mark, seen_capturing};
 ghost use Rattle.rx_scan.specs.OpenGroups.{frames_of};
 ghost use Rattle.rx_scan.specs.FirstPass.{Captures, ClashesWith, IsPassFault, IsStart, KnowsLast, LastTells, Refuses, Steps, entries, entry_of, first_clash, same_name, span_of, with_name};

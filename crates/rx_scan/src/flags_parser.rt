@@ -1,7 +1,7 @@
 ghost use Rattle.std.specs.Prelude.{◌≡◌, ℕ, ◌+◌, ◌<◌, ◌^◌, true, All, IfOk, IfErr, MatchOption, length, take};
 ghost use Rattle.rx_units.specs.Units.{values};
-ghost use Rattle.rx_model.specs.FlagCauses.{IsFlagCause, unit_span};
-ghost use Rattle.rx_model.specs.Flags.{flags_ok, holds, is_flag, modes_of};
+ghost use Rattle.rx_model.specs.Refusals.FlagCauses.{IsFlagCause, unit_span};
+ghost use Rattle.rx_model.specs.Inputs.Flags.{flags_ok, holds, is_flag, modes_of};
 
 use crate::SpanFactory;
 use rx_base::{Diagnostic, Span};

@@ -1,9 +1,9 @@
 ghost use Rattle.std.specs.Prelude.{◌≡◌, ◌↔◌, ◌≤◌, ℕ, true, List, Some, None, IfOk, length, if◌then◌else◌};
 ghost use Rattle.rx_base.specs.SurrogatePair.{surrogate_pair};
 ghost use Rattle.rx_units.specs.Units.{values};
-ghost use Rattle.rx_model.specs.Decoding.{decoded};
-ghost use Rattle.rx_model.specs.GroupNameReading.{escape_in_name, name_at, name_character_at, name_of, pair_at, raw_at, row};
-ghost use Rattle.rx_model.specs.GroupNames.{IsGroupName, IsNameRow, is_in_name, is_pair_in_name};
+ghost use Rattle.rx_model.specs.Characters.Decoding.{decoded};
+ghost use Rattle.rx_model.specs.Groups.GroupNameReading.{escape_in_name, name_at, name_character_at, name_of, pair_at, raw_at, row};
+ghost use Rattle.rx_model.specs.Groups.GroupNames.{IsGroupName, IsNameRow, is_in_name, is_pair_in_name};
 ghost use Rattle.rx_scan.specs.GroupNames.{seen_character};
 
 use crate::{UnicodeEscape, decode};

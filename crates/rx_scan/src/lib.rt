@@ -10,10 +10,6 @@ mod names;
 mod open_groups;
 mod span_factory;
 mod state;
-#[cfg(test)]
-mod state_tests;
-#[cfg(test)]
-mod tests;
 mod unicode_escape;
 
 pub use flags_parser::FlagsParser;

@@ -1,6 +1,6 @@
 ghost use Rattle.std.specs.Prelude.{◌≡◌, ◌≤◌, ◌<◌, ◌+◌, length, false, option_map, IfSome};
 ghost use Rattle.rx_units.specs.Units.{values};
-ghost use Rattle.rx_model.specs.Marks.{behind_angle, class_rest, escape_rest, mark_front, name_length, open_front, question_front, specifier_front, starts};
+ghost use Rattle.rx_model.specs.FirstPass.Marks.{behind_angle, class_rest, escape_rest, mark_front, name_length, open_front, question_front, specifier_front, starts};
 ghost use Rattle.rx_scan.specs.MarkReading.{closed_part, front, seen_front, seen_mark};
 
 use rx_units::CodePoint;
@@ -37,7 +37,7 @@ pub fn read_mark(units: &[CodePoint]) -> (Mark<'_>, usize)
 }
 
 /// The mark that begins with a unit, and how many of the units behind it are the mark's.
-#[tactic(auto, unfolding(rx_model::specs::Marks::mark_front))]
+#[tactic(auto, unfolding(rx_model::specs::FirstPass::Marks::mark_front))]
 fn behind(unit: u32, units: &[CodePoint]) -> (Mark<'_>, usize)
     ensures value { seen_front result ≡ mark_front unit (values units.now) }
     ensures within { result.1 ≤ length units.now }

@@ -1,5 +1,5 @@
 ghost use Rattle.std.specs.Prelude.{◌≡◌, ◌∷◌, [], ◌≤◌, OnOk};
-ghost use Rattle.rx_model.specs.Frames.{Nests, drop_top, set_top};
+ghost use Rattle.rx_model.specs.FirstPass.Frames.{Nests, drop_top, set_top};
 ghost use Rattle.rx_scan.specs.OpenGroups.{Splits, frames_of, hides};
 
 use rx_base::{List, OutOfMemory};

@@ -1,7 +1,7 @@
 ghost use Rattle.std.specs.Prelude.{◌≡◌, ◌-◌, ◌^◌, ◌||◌, [], ℕ, false, true, min, IfErr, OnErr, OnOk};
 ghost use Rattle.rx_units.specs.Units.{offset_at, values};
-ghost use Rattle.rx_model.specs.Environment.{has_some};
-ghost use Rattle.rx_model.specs.Marks.{Clash, count, marks, seen};
+ghost use Rattle.rx_model.specs.Inputs.Environment.{has_some};
+ghost use Rattle.rx_model.specs.FirstPass.Marks.{Clash, count, marks, seen};
 ghost use Rattle.rx_scan.specs.StateFaults.{IsStateFault};
 
 use crate::Names;

@@ -2,8 +2,8 @@ ghost use Rattle.std.specs.Prelude.{◌≡◌, ◌↔◌, ℕ, ◌+◌, ◌<◌,
 ghost use Rattle.rx_base.specs.SurrogatePair.{IsLeadSurrogate, IsTrailSurrogate};
 ghost use Rattle.rx_tables.specs.Characters.{hex_digit_value};
 ghost use Rattle.rx_units.specs.Units.{values};
-ghost use Rattle.rx_model.specs.Decoding.{behind_u, braces_at, decoded, four_at, joined_at, run_at, trail_at};
-ghost use Rattle.rx_model.specs.UnicodeEscapes.{Decodes, PassesHex};
+ghost use Rattle.rx_model.specs.Characters.Decoding.{behind_u, braces_at, decoded, four_at, joined_at, run_at, trail_at};
+ghost use Rattle.rx_model.specs.Characters.UnicodeEscapes.{Decodes, PassesHex};
 ghost use Rattle.rx_scan.specs.Escapes.{seen_escape};
 
 use rx_base::{combine_surrogate_pair, is_lead_surrogate, is_trail_surrogate};

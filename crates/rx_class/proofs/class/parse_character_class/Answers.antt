@@ -32,7 +32,7 @@ returns-then-is_none c =
 pub returns-in_err-class_item : goal.returns-in_err-class_item
 returns-in_err-class_item c =
     refused_gives c.loop-alloc.invariant (environment_of c.args.state.now)
-    c.class_item.new.reader c.class_item.new.reader c.in_err-class_item.field-0.0 c.from_residual.result
+    c.class_item.new.reader c.in_err-class_item.field-0.0 c.from_residual.result
     (environment_is c.args.state.now c.args.reader.now c.requires.unicode c.requires.no_sets c.requires.pass) c.from_residual.ensures.1 c.in_err-class_item.ensures
 
 pub loop-alloc-smaller : goal.loop-alloc-smaller
@@ -46,7 +46,8 @@ loop-alloc-preserved c =
 
 pub returns-in_err-push : goal.returns-in_err-push
 returns-in_err-push c =
-    no_memory_gives (environment_of c.args.state.now) c.args.spans.now c.args.reader.now c.class_item.new.reader c.from_residual-in_err-push.result c.from_residual-in_err-push.ensures.1
+    no_memory_gives (environment_of c.args.state.now) c.args.spans.now c.args.reader.now c.class_item.new.reader c.from_residual-in_err-push.result
+    (item_gives c.loop-alloc.invariant c.loop-alloc.body c.class_item.new.reader c.in_ok-class_item.field-0 refl c.in_ok-class_item.ensures).0.keeps c.from_residual-in_err-push.ensures.1
 
 pub create-requires-clause-start : goal.create-requires-clause-start
 create-requires-clause-start c = offset_here_fits c.args.spans.now c.offset-start.result c.args.reader.now c.requires.fits c.offset-start.ensures.value

@@ -36,7 +36,7 @@ returns-in_err-escape c =
     let stays = (no_class_escape c.in_default-parse_character_class_escape.ensures).0 in
     let gives = property_here (environment_of c.args.state.now) c.args.spans.now c.args.start old c.parse_character_class_escape.new.reader new c.requires.environment stays _ c.in_err-escape.ensures in
     subst (GivesAtom c.args.spans.now (back old) new) (sym (handed_on c.from_residual.result c.from_residual.ensures.0 c.from_residual.ensures.1))
-    (property_refused c.args.spans.now c.args.start old c.requires.backslash _ new new gives)
+    (property_refused c.args.spans.now c.args.start old c.requires.backslash _ new gives)
 
 pub returns-in-Some-2 : goal.returns-in-Some-2
 returns-in-Some-2 c =
@@ -62,7 +62,7 @@ returns-in_err-character c =
     _ _ c.requires.environment c.remaining_code_points.ensures.units c.in_default.ensures c.in_default-parse_character_class_escape.ensures c.in_ok-escape.ensures c.in_default-2.is in
     let gives = character_here (environment_of c.args.state.now) c.args.spans.now c.args.start old stayed new c.requires.environment so_far.0 _ c.in_err-character.ensures in
     subst (GivesAtom c.args.spans.now (back old) new) (sym (handed_on c.from_residual-in_err-character.result c.from_residual-in_err-character.ensures.0 c.from_residual-in_err-character.ensures.1))
-    (character_refused c.args.spans.now c.args.start old c.requires.backslash _ new new so_far.1 gives)
+    (character_refused c.args.spans.now c.args.start old c.requires.backslash _ new so_far.1 gives)
 
 pub returns-in-Some-3 : goal.returns-in-Some-3
 returns-in-Some-3 c =
@@ -97,4 +97,4 @@ returns c =
     _ _ c.requires.environment c.remaining_code_points.ensures.units c.in_default.ensures c.in_default-parse_character_class_escape.ensures c.in_ok-escape.ensures c.in_default-2.is in
     let none = no_character_here (environment_of c.args.state.now) c.args.spans.now c.args.start old stayed new c.requires.environment so_far.0 _ c.in_ok-character.ensures c.in_default-3.is in
     let span = ends_there c.args.spans.now c.args.start _ new _ c.create-span-2.ensures c.offset-2.ensures.value ∙ ap (span_to c.args.spans.now c.args.start) none.0 in
-    nothing_refused c.args.spans.now c.args.start old c.requires.backslash _ new so_far.1 none.1 none.2 span
+    nothing_refused c.args.spans.now c.args.start old c.requires.backslash _ new none.0 so_far.1 none.1 none.2 span

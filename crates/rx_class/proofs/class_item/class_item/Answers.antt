@@ -1,7 +1,7 @@
 use Rattle.std.proofs.Common.{sym, subst}
 use Rattle.rx_base.specs.declared.fault.Fault.TheVariants as fault
-use Rattle.rx_class.specs.ClassItems.{GivesItem, no_memory}
-use Rattle.rx_class.proofs.ClassRanges.{alone_gives, dash_given, first_gives, pair_given, passed_on, range_gives, range_refused, second_gives, second_stands}
+use Rattle.rx_class.specs.ClassItems.{GivesItem}
+use Rattle.rx_class.proofs.ClassRanges.{alone_gives, dash_given, first_gives, out_of_memory, pair_given, pair_out_of_memory, passed_on, range_gives, range_refused, second_gives, second_stands}
 use Rattle.rx_class.proofs.class_item.class_item.Goals as goal
 
 pub returns-in_err-low : goal.returns-in_err-low
@@ -12,7 +12,8 @@ returns-in_err-low c =
 pub returns-in_err-into_contents : goal.returns-in_err-into_contents
 returns-in_err-into_contents c =
     subst (GivesItem c.args.spans.now c.args.reader.now c.class_atom.new.reader)
-    (sym (passed_on c.from_residual-in_err-into_contents.result fault.OutOfMemory c.from_residual-in_err-into_contents.ensures.1)) no_memory
+    (sym (passed_on c.from_residual-in_err-into_contents.result fault.OutOfMemory c.from_residual-in_err-into_contents.ensures.1))
+    (out_of_memory c.args.spans.now c.args.reader.now c.class_atom.new.reader _ c.in_ok-low.ensures)
 
 pub returns-then-not-is_dashed : goal.returns-then-not-is_dashed
 returns-then-not-is_dashed c =
@@ -40,8 +41,11 @@ returns-in_err-range c =
 
 pub returns-in_err-range_contents : goal.returns-in_err-range_contents
 returns-in_err-range_contents c =
+    let dash = dash_given _ _ _ _ _ _ _ c.in_ok-low.ensures c.remaining_code_points.ensures.units c.is_dashed.ensures c.if-not-is_dashed.false c.advance.ensures in
+    let pair = pair_given _ _ _ _ _ _ dash c.in_ok-high.ensures in
+    let gives = pair_out_of_memory _ _ _ _ _ pair in
     subst (GivesItem c.args.spans.now c.args.reader.now c.class_atom-2.new.reader)
-    (sym (passed_on c.from_residual-in_err-range_contents.result fault.OutOfMemory c.from_residual-in_err-range_contents.ensures.1)) no_memory
+    (sym (passed_on c.from_residual-in_err-range_contents.result fault.OutOfMemory c.from_residual-in_err-range_contents.ensures.1)) gives
 
 pub returns : goal.returns
 returns c =

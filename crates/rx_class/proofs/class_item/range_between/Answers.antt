@@ -3,7 +3,7 @@ use Rattle.rx_base.specs.declared.diagnostic.Diagnostic.{Diagnostic}
 use Rattle.rx_base.specs.declared.span.Span.{Span}
 use Rattle.rx_ast.specs.declared.leaf.Character.{Character}
 use Rattle.rx_ast.specs.declared.class.CharacterClassRange.{CharacterClassRange}
-use Rattle.rx_model.specs.ClassCauses.{is_character}
+use Rattle.rx_model.specs.Refusals.ClassCauses.{is_character}
 use Rattle.rx_class.specs.declared.class_atom.ClassAtom.TheVariants as atom
 use Rattle.rx_class.specs.declared.class_atom.ClassAtom as atoms
 use Rattle.rx_class.specs.ClassItems.{IsBetween, range, dash_out_of_order, out_of_order, no_character, atom_of, atom_span, between}

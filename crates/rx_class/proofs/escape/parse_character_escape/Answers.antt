@@ -32,14 +32,14 @@ returns-in-TooMany c =
     let state = c.args.state.now in
     let old = c.args.reader.now in
     let read = read_in_unicode_mode state.unicode_mode _ (rest old) _ c.requires.unicode c.remaining_code_points.ensures.units c.in-TooMany.ensures.read in
-    too_many_gives (environment_of state) (unicode_by state.unicode_mode state.unicode_sets_mode c.requires.unicode) c.args.spans.now c.args.span_start old
+    too_many_gives (environment_of state) (unicode_by state.unicode_mode state.unicode_sets_mode c.requires.unicode) c.args.spans.now c.args.span_start old c.requires.backslash
     c.in-TooMany.digits c.skip-in-TooMany.new.self _ _ read (subst (λ us. c.in-TooMany.digits + 2 ≤ length us) c.remaining_code_points.ensures.units c.in-TooMany.ensures.within)
-    c.skip-in-TooMany.ensures c.next_span-span.ensures
+    c.skip-in-TooMany.ensures c.next_span-span.ensures.span c.next_span-span.ensures.reader
 
 pub returns-in-Invalid : goal.returns-in-Invalid
 returns-in-Invalid c =
     let state = c.args.state.now in
     let old = c.args.reader.now in
     let read = read_in_unicode_mode state.unicode_mode _ (rest old) _ c.requires.unicode c.remaining_code_points.ensures.units c.in-Invalid.ensures.read in
-    invalid_gives (environment_of state) (unicode_by state.unicode_mode state.unicode_sets_mode c.requires.unicode) c.args.spans.now c.args.span_start old
-    _ _ read c.next_span-span-in-Invalid.ensures
+    invalid_gives (environment_of state) (unicode_by state.unicode_mode state.unicode_sets_mode c.requires.unicode) c.args.spans.now c.args.span_start old c.requires.backslash
+    _ _ read c.next_span-span-in-Invalid.ensures.span c.next_span-span-in-Invalid.ensures.reader

@@ -1,8 +1,8 @@
 use Rattle.std.proofs.Common.{ap, inl, inr, refl, sym, ◌∙◌, subst}
 use Rattle.rx_units.specs.Units.{values}
 use Rattle.rx_model.specs.declared.mode.Mode.TheVariants.{Unicode}
-use Rattle.rx_model.specs.Escapes.{front_is}
-use Rattle.rx_model.specs.PropertyForms.{begins_property}
+use Rattle.rx_model.specs.Characters.Escapes.{front_is}
+use Rattle.rx_model.specs.Properties.PropertyForms.{begins_property}
 use Rattle.rx_class.specs.Answers.{environment_of}
 use Rattle.rx_class.specs.PropertyAnswers.{none}
 use Rattle.rx_class.specs.PropertyFound.{IsPropertyBehind, IsPropertyFound, IsPropertyHalt}
@@ -21,7 +21,7 @@ pub returns-then-not-state : goal.returns-then-not-state
 returns-then-not-state c = none refl (inl (only_legacy c.args.state.now.unicode_mode c.args.state.now.unicode_sets_mode c.if-not-state.true c.requires.no_sets))
 
 pub returns-in_err-found : goal.returns-in_err-found
-returns-in_err-found c = fails (environment_of c.args.state.now) c.args.spans.now c.args.span_start c.args.reader.now c.args.reader.now c.from_residual.result c.from_residual.ensures.0 c.from_residual.ensures.1
+returns-in_err-found c = fails (environment_of c.args.state.now) c.args.spans.now c.args.span_start c.args.reader.now c.requires.backslash c.from_residual.result c.from_residual.ensures.0 c.from_residual.ensures.1
 
 pub returns-in-Property : goal.returns-in-Property
 returns-in-Property c =
@@ -41,4 +41,4 @@ returns-in-Halt c =
     let state = c.args.state.now in
     let mode = only_unicode state.unicode_mode state.unicode_sets_mode c.if-not-state.false c.requires.no_sets in
     halt_gives (environment_of state) c.args.spans.now c.args.span_start c.args.reader.now mode c.requires.backslash _ _ _
-    (subst (λ us. IsPropertyHalt Unicode (values us) c.in-Halt.halt) c.remaining_code_points.ensures.units (subst (λ found. IsPropertyFound Unicode (values c.remaining_code_points.result.now) found) c.in-Halt.is c.in_ok-found.ensures)) c.refusal.ensures
+    (subst (λ us. IsPropertyHalt Unicode (values us) c.in-Halt.halt) c.remaining_code_points.ensures.units (subst (λ found. IsPropertyFound Unicode (values c.remaining_code_points.result.now) found) c.in-Halt.is c.in_ok-found.ensures)) c.refusal.ensures.refusal c.refusal.ensures.reader

@@ -1,6 +1,6 @@
 use Rattle.std.proofs.Common.{◌≡◌, ◌+◌, ◌<◌, ◌^◌, true, take}
 use Rattle.rx_units.specs.Units.{values, offset_at}
-use Rattle.rx_model.specs.Flags.{flags_ok}
+use Rattle.rx_model.specs.Inputs.Flags.{flags_ok}
 use Rattle.rx_scan.proofs.flags_parser.check.Given as goal
 
 abbrev pub invariant-loop-place : goal.invariant-loop-place

@@ -1,7 +1,7 @@
 use Rattle.std.proofs.Common.{◌≡◌, sym, ◌∙◌, ◌+◌, ◌&&◌, false, take}
 use Rattle.std.proofs.lemmas.Bool.{and_left, and_right}
 use Rattle.rx_units.specs.Units.{values}
-use Rattle.rx_model.specs.Flags.{holds}
+use Rattle.rx_model.specs.Inputs.Flags.{holds}
 use Rattle.rx_scan.proofs.FlagPlaces.{unknown_at, duplicated_at, both_modes_at, passes_at}
 use Rattle.rx_scan.proofs.flags_parser.refusal.Goals as goal
 use Rattle.rx_scan.proofs.flags_parser.refusal.Goals.{else-holds-via-then-holds+else-holds-2, else-holds-via-else-holds}

@@ -2,7 +2,7 @@ use Rattle.std.proofs.Common.{◌≡◌, ◌<◌, ◌≤◌, ◌+◌, ◌==◌, 
 use Rattle.std.proofs.lemmas.Bool.{eqb-false}
 use Rattle.std.proofs.lemmas.Str.{chars-nil}
 use Rattle.rx_units.specs.Units.{values}
-use Rattle.rx_model.specs.GroupNameReading.{character, no_character, name_character_at, row_after, row_behind}
+use Rattle.rx_model.specs.Groups.GroupNameReading.{character, no_character, name_character_at, row_after, row_behind}
 use Rattle.rx_scan.proofs.GroupNames.{at_place, character_some, character_within, no_name_yet, goes_on, ends_early, ends_whole, read_names}
 use Rattle.rx_scan.proofs.group_name.capturing_group_name.Goals as goal
 

@@ -1,6 +1,6 @@
 use Rattle.std.proofs.Common.{◌≡◌, ◌-◌, ◌≤◌, ◌==◌, drop, length}
 use Rattle.rx_units.specs.Units.{values}
-use Rattle.rx_model.specs.GroupNameReading.{name_at, row_after, row_behind}
+use Rattle.rx_model.specs.Groups.GroupNameReading.{name_at, row_after, row_behind}
 use Rattle.rx_scan.proofs.group_name.capturing_group_name.Given as goal
 
 abbrev pub invariant-loop-place : goal.invariant-loop-place

@@ -1,6 +1,6 @@
 use Rattle.std.proofs.Common.{ap, sym, ◌∙◌, true}
 use Rattle.rx_units.specs.Units.{values}
-use Rattle.rx_model.specs.Decoding.{decoded}
+use Rattle.rx_model.specs.Characters.Decoding.{decoded}
 use Rattle.rx_scan.specs.GroupNames.{seen_character}
 use Rattle.rx_scan.proofs.GroupNames.{escape_passes, escape_fails}
 use Rattle.rx_scan.proofs.group_name.escaped.Goals as goal

@@ -1,6 +1,6 @@
 use Rattle.std.proofs.Common.{◌+◌, ◌≤◌, ◌==◌, ◌≡◌, rules, arith, drop, length}
 use Rattle.rx_units.specs.Units.{values}
-use Rattle.rx_model.specs.GroupNameReading.{character, no_character, name_character_at}
+use Rattle.rx_model.specs.Groups.GroupNameReading.{character, no_character, name_character_at}
 use Rattle.rx_scan.proofs.GroupNames.{at_place, character_some, character_within, none_before, goes_on, row_ended, row_whole, is_longest}
 use Rattle.rx_scan.proofs.group_name.group_name_length.Goals as goal
 

@@ -1,6 +1,6 @@
 use Rattle.std.proofs.Common.{◌≡◌, ◌+◌, subst, sym, drop, false, Bool}
 use Rattle.rx_units.specs.Units.{values}
-use Rattle.rx_model.specs.Marks.{class_rest}
+use Rattle.rx_model.specs.FirstPass.Marks.{class_rest}
 use Rattle.rx_scan.proofs.MarkSteps.{class_escaped, class_plain, no_eq}
 use Rattle.rx_scan.proofs.mark.class_rest.Goals as goal
 use Rattle.rx_scan.proofs.mark.class_rest.Goals.{then-escaped, else-escaped+else-unit}

@@ -1,6 +1,6 @@
 use Rattle.std.proofs.Common.{sym, ◌∙◌, arith}
 use Rattle.rx_units.specs.Units.{values}
-use Rattle.rx_model.proofs.Decodings.{overflow_law, overflow_within, value_is_code_point, value_law, value_within}
+use Rattle.rx_model.proofs.Characters.Decodings.{overflow_law, overflow_within, value_is_code_point, value_law, value_within}
 use Rattle.rx_scan.proofs.Steps.{invalid_alone, only_invalid, seen_overflow, seen_value}
 use Rattle.rx_scan.proofs.unicode_escape.decode.Goals as goal
 

@@ -1,6 +1,6 @@
 use Rattle.std.proofs.Common.{◌≡◌, drop}
 use Rattle.rx_units.specs.Units.{values}
-use Rattle.rx_model.specs.Decoding.{run_at}
+use Rattle.rx_model.specs.Characters.Decoding.{run_at}
 use Rattle.rx_scan.proofs.unicode_escape.digits_to_brace.Given as goal
 
 abbrev pub invariant-loop-count : goal.invariant-loop-count

@@ -1,6 +1,6 @@
 use Rattle.std.proofs.Common.{ap, ◌∙◌, drop, subst, ℕ}
 use Rattle.rx_units.specs.Units.{values}
-use Rattle.rx_model.specs.Marks.{Clash, marks}
+use Rattle.rx_model.specs.FirstPass.Marks.{Clash, marks}
 use Rattle.rx_scan.proofs.state.State.initialize_with_parsing.Goals as goal
 
 pub returns-in-Ok-clause-apart : goal.returns-in-Ok-clause-apart
