@@ -2,7 +2,7 @@
 use Rattle.std.proofs.Common.{◌≡◌, refl, ap, ap₂, sym, ◌∙◌, subst, ℕ, suc, ◌+◌, ◌-◌, ◌<◌, Bool, true, false, not, ◌&&◌, ◌||◌, ◌==◌, inl, inr, Option, Some, None, Result, Ok, Err, List, [], ◌∷◌, ◌++◌, length, drop, map, arith, length-append}
 use Rattle.std.specs.Prelude.{All, min}
 use Rattle.std.specs.List.{list_any}
-use Rattle.std.proofs.lemmas.Bool.{eqb-true, true≢false}
+use Rattle.std.proofs.lemmas.Bool.{true≢false}
 use Rattle.std.proofs.lemmas.List.{drop-drop, length-map}
 use Rattle.std.proofs.lemmas.List.Elements.{All-cons, All-head, All-map, All-nil, All-tail}
 use Rattle.rx_base.specs.declared.fault.Fault.{Fault}
@@ -22,29 +22,25 @@ use Rattle.rx_units.specs.declared.code_point.CodePoint.{CodePoint}
 use Rattle.rx_units.specs.Reading.{Reading, moved, offset_of, rest}
 use Rattle.rx_units.specs.Units.{offset_at, values}
 use Rattle.rx_model.specs.declared.mode.Mode.TheVariants.{Unicode}
-use Rattle.rx_model.specs.Causes.{at_place, of_class, of_property}
-use Rattle.rx_model.specs.ClassFronts.{class_front}
-use Rattle.rx_model.specs.Early.{AreEarlyMembers, IsCodePoint, IsEarlyClass, IsEarlyMember, IsEarlyString, Obeys, all_strings, any_strings, first_strings, may_contain_strings, member_strings}
-use Rattle.rx_model.specs.Environment.{Environment, environment_with, has_some, is_unicode}
-use Rattle.rx_model.specs.EscapeCauses.{IsPropertyCause}
-use Rattle.rx_model.specs.Escapes.{front_is}
-use Rattle.rx_model.specs.Fronts.{bracket_token, front, property_token}
-use Rattle.rx_model.specs.Marks.{starts}
-use Rattle.rx_model.specs.PropertyEscapes.{SpellsProperty, binary, category, of_strings, pair}
-use Rattle.rx_model.specs.PropertyForms.{begins_property}
-use Rattle.rx_model.specs.PropertyFronts.{PropertyRead, no_property, property_front, property_read}
-use Rattle.rx_model.specs.Reached.{IsPlace, text_environment, text_groups, text_names}
-use Rattle.rx_model.specs.Rows.{Spells}
-use Rattle.rx_model.specs.Token.{Token, property}
-use Rattle.rx_model.specs.Token as token
-use Rattle.rx_model.proofs.Backslashes.{property_front_token}
-use Rattle.rx_model.proofs.ClassUnspanned.{class_unspanned}
-use Rattle.rx_model.proofs.Fronts.{front_by_values, front_spelled, spelled_front}
+use Rattle.rx_model.specs.Refusals.Causes.{at_place, of_class, of_property}
+use Rattle.rx_model.specs.Trees.Early.{AreEarlyMembers, IsCodePoint, IsEarlyClass, IsEarlyMember, IsEarlyString, Obeys, all_strings, any_strings, first_strings, may_contain_strings, member_strings}
+use Rattle.rx_model.specs.Inputs.Environment.{Environment, environment_with, has_some}
+use Rattle.rx_model.specs.Refusals.EscapeCauses.{IsPropertyCause}
+use Rattle.rx_model.specs.Characters.Escapes.{front_is}
+use Rattle.rx_model.specs.Reading.Fronts.{front}
+use Rattle.rx_model.specs.Properties.PropertyEscapes.{SpellsProperty, binary, category, of_strings, pair}
+use Rattle.rx_model.specs.Properties.PropertyForms.{begins_property}
+use Rattle.rx_model.specs.Refusals.Reached.{IsPlace, text_environment, text_groups, text_names}
+use Rattle.rx_model.specs.Reading.Rows.{Spells}
+use Rattle.rx_model.specs.Trees.Token.{Token, property}
+use Rattle.rx_model.specs.Trees.Token as token
+use Rattle.rx_model.proofs.Classes.ClassUnspanned.{class_unspanned}
+use Rattle.rx_model.proofs.Reading.Fronts.{spelled_front}
 use Rattle.rx_scan.specs.declared.state.State.{State}
-use Rattle.rx_class.specs.Answers.{environment_of}
-use Rattle.rx_class.specs.ClassAnswers.{BeginsNoClass, GivesClass}
+use Rattle.rx_class.specs.Answers.{environment_of, from_backslash}
+use Rattle.rx_class.specs.ClassAnswers.{GivesClass}
 use Rattle.rx_class.specs.ClassAnswers as class_answer
-use Rattle.rx_class.specs.PropertyAnswers.{BeginsNoProperty, GivesProperty, from_backslash}
+use Rattle.rx_class.specs.PropertyAnswers.{GivesProperty}
 use Rattle.rx_class.specs.PropertyAnswers as property_answer
 use Rattle.rx_parser.specs.declared.builder.Builder.{Builder}
 use Rattle.rx_parser.specs.declared.found.Found.TheVariants as found
@@ -53,7 +49,7 @@ use Rattle.rx_parser.specs.Frames.{openers, ready}
 use Rattle.rx_parser.specs.Parsing.{HoldsPass, IsRefused}
 use Rattle.rx_parser.specs.Progress.{IsLeafOf}
 use Rattle.rx_parser.specs.Turns.{IsBefore, IsTurned}
-use Rattle.rx_parser.proofs.Places.{IsDead, dead_end, reached}
+use Rattle.rx_parser.proofs.Places.{reached}
 use Rattle.rx_parser.proofs.Turns.{Adds, IsNext, class_moves, leaf_turned, turned}
 
 -- A state that holds the first pass says the environment of the text.
@@ -71,37 +67,6 @@ next_spelled us place t w more whole spells obeys = record {
   within = omega (arith, ap length whole, length-append w more);
   obeys = obeys;
 }
-
--- a token that is a property escape
-record IsPropertyToken (t : Token) : Type 0 where
-  negative : Bool
-  strings : Bool
-  name : List ℕ
-  value : Option (List ℕ)
-  is : t ≡ property negative strings name value
-
-one_of : {A : Type 0} {x y : A} → Some x ≡ Some y → x ≡ y
-one_of h = cc
-
-property_there : (r : PropertyRead) (t : Token) (n : ℕ) → property_token r ≡ Some (t, n) → IsPropertyToken t
-property_there no_property t n h = absurd (let no : ⊥ = cc h in no)
-property_there (property_read negative strings name value m) t n h =
-    record { negative = negative; strings = strings; name = name; value = value; is = sym (ap (λ x. x.0) (one_of h)) }
-
--- Behind a backslash and `p` or `P` stands a property escape, or nothing.
-property_at_front : (e : Environment) (us : List CodePoint) (letter : ℕ) (behind : List ℕ) (t : Token) (n : ℕ) → is_unicode e.mode ≡ true → values us ≡ 92 ∷ letter ∷ behind
-    → begins_property letter ≡ true → front e us ≡ Some (t, n) → IsPropertyToken t
-property_at_front e us letter behind t n u h p f =
-    property_there (property_front e.mode (letter ∷ behind)) t n
-    (sym (property_front_token e letter behind u p) ∙ sym (front_by_values e us 92 (letter ∷ behind) refl h) ∙ f)
-
-dead_property : (us rest : List CodePoint) (letter : ℕ) (behind : List ℕ) → values rest ≡ 92 ∷ letter ∷ behind → begins_property letter ≡ true
-    → BeginsNoProperty (text_environment Unicode us) rest → IsDead us rest
-dead_property us rest letter behind h p none t n f o =
-    let e = text_environment Unicode us in
-    let is = property_at_front e rest letter behind t n refl h p f in
-    let s = front_spelled e rest t n f in
-    none is.negative is.strings is.name is.value s.w s.rest s.whole (subst (λ x. Spells e x s.w s.rest) is.is s.spells)
 
 -- With `u` no property is of strings.
 no_strings : (strings : Bool) (name : List ℕ) (value : Option (List ℕ)) (text : List ℕ) → SpellsProperty Unicode strings name value text → strings ≡ false
@@ -170,33 +135,6 @@ mutual
   early_unspanned : (c : Class) → IsEarlyClass c → IsEarlyClass (forget_class same_kind c)
   early_unspanned (class s negative may kind ms) h = (h.0 ∙ sym (may_unspanned kind ms), h.1, early_members ms h.2)
 
--- a token that is a class
-record IsClassToken (t : Token) : Type 0 where
-  it : Class
-  is : t ≡ token.class it
-
-class_there : (r : Option (Class × ℕ)) (t : Token) (n : ℕ) → bracket_token r ≡ Some (t, n) → IsClassToken t
-class_there None t n h = absurd (let no : ⊥ = cc h in no)
-class_there (Some c) t n h = record { it = c.0; is = sym (ap (λ x. x.0) (one_of h)) }
-
--- at a `[` the front is a class, or nothing
-at_bracket : (e : Environment) (u : CodePoint) (us : List CodePoint) → e.mode ≡ Unicode → u.value ≡ 91 → front e (u ∷ us) ≡ bracket_token (class_front e us)
-unfolding front
-at_bracket e u us m h = rw (m, h) refl
-
-class_at_front : (us ws : List CodePoint) (t : Token) (n : ℕ) → starts 91 (values ws) ≡ true → front (text_environment Unicode us) ws ≡ Some (t, n) → IsClassToken t
-class_at_front us [] t n h f = absurd (let no : ⊥ = cc h in no)
-class_at_front us (v ∷ ws) t n h f =
-    let e = text_environment Unicode us in
-    class_there (class_front e ws) t n (sym (at_bracket e v ws refl (eqb-true v.value 91 h)) ∙ f)
-
-dead_class : (us rest : List CodePoint) → starts 91 (values rest) ≡ true → BeginsNoClass (text_environment Unicode us) rest → IsDead us rest
-dead_class us rest h none t n f o =
-    let e = text_environment Unicode us in
-    let is = class_at_front us rest t n h f in
-    let s = front_spelled e rest t n f in
-    none is.it s.w s.rest s.whole (subst (λ x. Spells e x s.w s.rest) is.is s.spells) (subst (Obeys (text_groups us) (text_names Unicode us)) is.is o)
-
 -- the environment of a reading's text
 abbrev text : Reading → Environment
 text r = text_environment Unicode r.units
@@ -205,19 +143,16 @@ text r = text_environment Unicode r.units
 at_place_of : (added : ℕ) (b : Builder) (r : Reading) → IsBefore added b r → IsPlace Unicode r.units r.place (rest r)
 at_place_of added b r h = record { open_groups = openers b; ready = ready b; reached = reached r.units r.first added b r.place h.parsing }
 
-class_cause : (added : ℕ) (b : Builder) (state : State) (r s : Reading) (fault : Fault) → IsBefore added b r → HoldsPass Unicode r.units state → starts 91 (values (rest r)) ≡ true
+class_cause : (added : ℕ) (b : Builder) (state : State) (r s : Reading) (fault : Fault) → IsBefore added b r → HoldsPass Unicode r.units state
     → GivesClass (text r) added r s (Err fault) → IsRefused Unicode r.units r.first added fault
-class_cause added b state r s _ h pass there (class_answer.refused cause none) = (
-  at_place pass.no_clash pass.in_limit (of_class r.place (rest r) (at_place_of added b r h) cause),
-  dead_end r.units r.first added b r.place h.parsing h.left (dead_class r.units (rest r) there none),
-)
-class_cause added b state r s _ h pass there class_answer.no_memory = tt
+class_cause added b state r s _ h pass (class_answer.refused first none keeps) = at_place first.place pass.no_clash pass.in_limit (of_class r.place first.place (rest r) (at_place_of added b r h) first.holds)
+class_cause added b state r s _ h pass (class_answer.no_memory keeps) = tt
 
 -- Where a class is refused, the text is.
-pub class_refused : (added : ℕ) (b : Builder) (state : State) (r s : Reading) (fault : Fault) → IsBefore added b r → HoldsPass Unicode r.units state → starts 91 (values (rest r)) ≡ true
+pub class_refused : (added : ℕ) (b : Builder) (state : State) (r s : Reading) (fault : Fault) → IsBefore added b r → HoldsPass Unicode r.units state
     → GivesClass (environment_of state) added r s (Err fault) → IsRefused Unicode r.units r.first added fault
-class_refused added b state r s fault h pass there gives =
-    class_cause added b state r s fault h pass there (subst (λ e. GivesClass e added r s (Err fault)) (environment_is r.units state pass) gives)
+class_refused added b state r s fault h pass gives =
+    class_cause added b state r s fault h pass (subst (λ e. GivesClass e added r s (Err fault)) (environment_is r.units state pass) gives)
 
 class_taken : (added : ℕ) (b c : Builder) (r s : Reading) (it : CharacterClass) (term : Term) → IsBefore added b r → GivesClass (text r) added r s (Ok (Some it))
     → mirror_term term ≡ leaf (tree.class (mirror_class it)) → Adds b c term → IsTurned added b c r s
@@ -246,17 +181,14 @@ from_place r l = ap (λ k. drop k r.units) (place_behind r l)
 moved_twice : (r : Reading) (n : ℕ) → r.place < length r.units → moved n (moved 1 r) ≡ moved (suc n) r
 moved_twice r n l = ap (λ k. record r { place = k }) (let same : min (min (r.place + 1) (length r.units) + n) (length r.units) ≡ min (r.place + suc n) (length r.units) = omega arith in same)
 
-property_cause : (added start : ℕ) (b : Builder) (state : State) (r s : Reading) (fault : Fault) (letter : ℕ) (behind : List ℕ) → IsBefore added b r → HoldsPass Unicode r.units state
-    → values (rest r) ≡ 92 ∷ letter ∷ behind → begins_property letter ≡ true → GivesProperty (text r) added start (moved 1 r) s (Err fault) → IsRefused Unicode r.units r.first added fault
-property_cause added start b state r s _ letter behind h pass there begins (property_answer.refused {diagnostic = it} cause none) =
-    let left = from_place r h.left in (
-      at_place pass.no_clash pass.in_limit
-          (of_property r.place (rest r) (at_place_of added b r h)
-          (subst (λ k. IsPropertyCause Unicode r.units r.first added k (rest r) it) (place_behind r h.left)
-          (subst (λ us. IsPropertyCause Unicode r.units r.first added ((moved 1 r).place - 1) us it) left cause))),
-      dead_end r.units r.first added b r.place h.parsing h.left (dead_property r.units (rest r) letter behind there begins (subst (BeginsNoProperty (text r)) left none)),
-    )
-property_cause added start b state r s _ letter behind h pass there begins property_answer.no_memory = tt
+property_cause : (added start : ℕ) (b : Builder) (state : State) (r s : Reading) (fault : Fault) → IsBefore added b r → HoldsPass Unicode r.units state
+    → GivesProperty (text r) added start (moved 1 r) s (Err fault) → IsRefused Unicode r.units r.first added fault
+property_cause added start b state r s _ h pass (property_answer.refused {diagnostic = it} cause first none keeps) =
+    at_place r.place pass.no_clash pass.in_limit
+    (of_property r.place (rest r) (at_place_of added b r h)
+    (subst (λ k. IsPropertyCause Unicode r.units r.first added k (rest r) it) (place_behind r h.left)
+    (subst (λ us. IsPropertyCause Unicode r.units r.first added ((moved 1 r).place - 1) us it) (from_place r h.left) cause)))
+property_cause added start b state r s _ h pass (property_answer.no_memory keeps) = tt
 
 -- an answer under a state, by a reader that has moved over the backslash
 property_gives : (added start : ℕ) (state : State) (r old s : Reading) (answer : Result (Option UnicodePropertyEscape) Fault) → HoldsPass Unicode r.units state → old ≡ moved 1 r
@@ -266,9 +198,9 @@ property_gives added start state r old s answer pass on gives =
 
 -- Where a property escape is refused, the text is.
 pub property_refused : (added start : ℕ) (b : Builder) (state : State) (r old s : Reading) (fault : Fault) → IsBefore added b r → HoldsPass Unicode r.units state
-    → IsFound (text r) (rest r) found.Property → old ≡ moved 1 r → GivesProperty (environment_of state) added start old s (Err fault) → IsRefused Unicode r.units r.first added fault
-property_refused added start b state r old s fault h pass f on gives =
-    property_cause added start b state r s fault f.0 f.1 h pass f.2 f.3 (property_gives added start state r old s (Err fault) pass on gives)
+    → old ≡ moved 1 r → GivesProperty (environment_of state) added start old s (Err fault) → IsRefused Unicode r.units r.first added fault
+property_refused added start b state r old s fault h pass on gives =
+    property_cause added start b state r s fault h pass (property_gives added start state r old s (Err fault) pass on gives)
 
 property_taken : (added start : ℕ) (b c : Builder) (r s : Reading) (it : UnicodePropertyEscape) (term : Term) → IsBefore added b r → start ≡ offset_of r
     → GivesProperty (text r) added start (moved 1 r) s (Ok (Some it)) → IsLeafOf term (property it.negative it.strings it.name it.value) it.span.start it.span.end → Adds b c term → IsTurned added b c r s

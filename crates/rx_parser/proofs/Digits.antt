@@ -1,14 +1,14 @@
 -- Decimal digits as they are read, and the limit of 64 bits on their number.
 use Rattle.std.proofs.Common.{◌≡◌, ℕ, ◌+◌, ◌-◌, ◌*◌, ◌^◌, ◌<◌, ◌≤◌, ◌⊎◌, inl, inr, Bool, true, false, cond, List, [], ◌∷◌, ◌++◌, length, take, drop, get_or, Some, option_and_then, refl, sym, ap, ◌∙◌, subst, add-one, arith}
 use Rattle.std.proofs.Math.Seq.{drop-cons}
-use Rattle.std.proofs.lemmas.Bool.{cond-true, cond-false}
+use Rattle.std.proofs.lemmas.Bool.{cond-true}
 use Rattle.std.proofs.lemmas.List.{map_more, map-append, length-map, length-take, take-append-drop}
 use Rattle.std.proofs.lemmas.Option.{option_and_then_some}
 use Rattle.rx_tables.specs.Characters.{is_decimal_digit}
 use Rattle.rx_units.specs.declared.code_point.CodePoint.{CodePoint}
 use Rattle.rx_units.specs.Units.{values}
-use Rattle.rx_model.specs.Fronts.{Digits, digits, digits_behind}
-use Rattle.rx_model.specs.Quantifiers.{decimal_digit_value, decimal_behind, AreDigits, PassesLimit, first, second}
+use Rattle.rx_model.specs.Reading.Fronts.{Digits, digits, digits_behind}
+use Rattle.rx_model.specs.Quantifiers.Quantifiers.{decimal_digit_value, decimal_behind, AreDigits, PassesLimit, first, second}
 use Rattle.rx_parser.specs.CountsFound.{PassesAt, NonePass, NoSecond, SecondPasses, IsInLimit}
 
 -- which way a choice went
@@ -54,10 +54,6 @@ digits_past m count (c ∷ ds) rest n h =
     cond-true (is_decimal_digit c) _ _ t.0
     ∙ digits_past (10 * m + (c - 48)) (count + 1) ds rest n (rw t.1 f)
     ∙ ap (λ k. digits_behind n k rest) (omega arith))
-
--- no digit more
-digits_end : (m count c : ℕ) (w : List ℕ) → is_decimal_digit c ≡ false → digits_behind m count (c ∷ w) ≡ digits m count (c ∷ w)
-digits_end m count c w h = cond-false (is_decimal_digit c) _ _ h
 
 -- where a number of digits that stands next is below 2 ^ 64, they pass nowhere
 pub none_pass : (w : List ℕ) (n end : ℕ) (rest : List ℕ) → digits_behind 0 0 w ≡ digits n end rest → n < 2 ^ 64 → NonePass w

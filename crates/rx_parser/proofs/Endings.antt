@@ -8,21 +8,21 @@ use Rattle.rx_units.specs.declared.code_point.CodePoint.{CodePoint}
 use Rattle.rx_units.specs.Units.{offset_at}
 use Rattle.rx_model.specs.declared.mode.Mode.{Mode}
 use Rattle.rx_model.specs.declared.mode.Mode.TheVariants.{Unicode}
-use Rattle.rx_model.specs.Cuts.{TellsGroups}
-use Rattle.rx_model.specs.Early.{Obeys, most_groups}
-use Rattle.rx_model.specs.Environment.{Environment, environment}
-use Rattle.rx_model.specs.Events.{enter, leave, events, tokens, tokens_of}
-use Rattle.rx_model.specs.Names.{groups}
-use Rattle.rx_model.specs.Reached.{AreObeying, HasNoClash, text_environment, text_groups, text_names}
-use Rattle.rx_model.specs.Reading.{Reads, IsSpelled, IsSpanned, IsOnly}
-use Rattle.rx_model.specs.Rows.{Row, TokenRow}
-use Rattle.rx_model.specs.Shapes.{IsWellMade}
-use Rattle.rx_model.proofs.Apart.{tells_apart}
-use Rattle.rx_model.proofs.Builds.{one_tree}
-use Rattle.rx_model.proofs.Flat.{tokens_of-append}
-use Rattle.rx_model.proofs.Joins.{row_tokens}
-use Rattle.rx_model.proofs.OneRow.{TokenRow-mode, one_row_by_mode}
-use Rattle.rx_model.proofs.OwnGroups.{own_environment, tells_groups}
+use Rattle.rx_model.specs.FirstPass.Cuts.{TellsGroups}
+use Rattle.rx_model.specs.Trees.Early.{Obeys, most_groups}
+use Rattle.rx_model.specs.Inputs.Environment.{Environment, environment}
+use Rattle.rx_model.specs.Trees.Events.{enter, leave, events, tokens, tokens_of}
+use Rattle.rx_model.specs.Trees.Names.{groups}
+use Rattle.rx_model.specs.Refusals.Reached.{AreObeying, HasNoClash, text_environment, text_groups, text_names}
+use Rattle.rx_model.specs.Reading.Reading.{Reads, IsSpelled, IsSpanned, IsOnly}
+use Rattle.rx_model.specs.Reading.Rows.{Row, TokenRow}
+use Rattle.rx_model.specs.Trees.Shapes.{IsWellMade}
+use Rattle.rx_model.proofs.FirstPass.Apart.{tells_apart}
+use Rattle.rx_model.proofs.Trees.Builds.{one_tree}
+use Rattle.rx_model.proofs.Trees.Flat.{tokens_of-append}
+use Rattle.rx_model.proofs.Trees.Joins.{row_tokens}
+use Rattle.rx_model.proofs.Reading.OneRow.{TokenRow-mode, one_row_by_mode}
+use Rattle.rx_model.proofs.FirstPass.OwnGroups.{own_environment, tells_groups}
 use Rattle.rx_parser.specs.declared.builder.Builder.{Builder}
 use Rattle.rx_parser.specs.Frames.{builder_events, openers, ready}
 use Rattle.rx_parser.specs.Good.{IsGood}
@@ -57,7 +57,7 @@ module _ (us : List CodePoint) (first added : ℕ) (p : Pattern) (no_clash : Has
   whole : Row text offset (events p) 0 us (length us) [] → IsWellMade Unicode p → AreObeying Unicode us (tokens p) → IsWhole p us first added
   whole r w o =
       let row : TokenRow text (tokens p) us [] = row_tokens text offset (events p) 0 us (length us) [] r in
-      let spelled : IsSpelled Unicode p us = record { shape = w; row = TokenRow-mode text (environment Unicode p) (tokens p) us [] refl refl refl row } in
+      let spelled : IsSpelled Unicode p us = record { shape = w; row = TokenRow-mode text (environment Unicode p) (tokens p) us [] refl refl refl (λ h. cc h) row } in
       let told : TellsGroups Unicode p us = tells_groups Unicode p us spelled in
       record {
         reads = record {
@@ -86,4 +86,5 @@ pub reads_only : (mode : Mode) (p : Pattern) (us : List CodePoint) → Reads mod
 reads_only mode p us r q s =
     one_tree mode mode q p s.spelled.shape r.spelled.shape
     (one_row_by_mode (environment mode q) (environment mode p) (tokens q) (tokens p) us refl refl
-    (ap (λ e. e.named) (sym (own_environment mode q us s.spelled) ∙ own_environment mode p us r.spelled)) s.spelled.row r.spelled.row)
+    (ap (λ e. e.named) (sym (own_environment mode q us s.spelled) ∙ own_environment mode p us r.spelled))
+    (λ _. ap (λ e. e.groups) (sym (own_environment mode q us s.spelled) ∙ own_environment mode p us r.spelled)) s.spelled.row r.spelled.row)

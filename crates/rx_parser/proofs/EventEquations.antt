@@ -10,10 +10,10 @@ use Rattle.rx_ast.specs.declared.term.Quantifier.{Quantifier}
 use Rattle.rx_ast.specs.Spans.{node_span}
 use Rattle.rx_ast.specs.Tree.{Node, leaf, quantified, group, nodes, alternatives, mirror_term, mirror_alternative}
 use Rattle.rx_ast.proofs.Equations as mirror
-use Rattle.rx_model.specs.Events.{Event, Events, enter, leave, token, within, node_events, nodes_events, alternatives_events, barred_events, term_events, alternative_events, disjunction_events}
+use Rattle.rx_model.specs.Trees.Events.{Event, Events, enter, leave, token, within, node_events, nodes_events, alternatives_events, barred_events, term_events, alternative_events, disjunction_events}
 use Rattle.rx_model.specs.declared.mode.Mode.{Mode}
-use Rattle.rx_model.specs.Shapes.{takes}
-use Rattle.rx_model.specs.Token.{bar, quantifier}
+use Rattle.rx_model.specs.Trees.Shapes.{takes}
+use Rattle.rx_model.specs.Trees.Token.{bar, quantifier}
 use Rattle.rx_parser.specs.declared.level.Level.{Level}
 use Rattle.rx_parser.specs.Levels.{strung, barred, level_events, last_takes, Repeats}
 

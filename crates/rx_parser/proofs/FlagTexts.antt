@@ -1,24 +1,18 @@
--- What the units of a flags text say of it.
-use Rattle.std.proofs.Common.{◌≡◌, refl, ap, sym, ◌∙◌, ℕ, ◌+◌, Bool, true, false, ◌||◌, List, [], ◌∷◌}
+-- What flags say of the mode, and what refuses them.
+use Rattle.std.proofs.Common.{◌≡◌, refl, ap, sym, ◌∙◌, ℕ, Bool, true, false, ◌||◌, List}
 use Rattle.std.specs.Prelude.{if◌then◌else◌}
-use Rattle.std.specs.Char.{len_utf8}
 use Rattle.rx_base.specs.declared.diagnostic.Diagnostic.{Diagnostic}
-use Rattle.rx_units.specs.Units.{literal_units, values}
 use Rattle.rx_model.specs.declared.mode.Mode.TheVariants.{Legacy, Unicode, Sets}
-use Rattle.rx_model.specs.Environment.{is_unicode}
-use Rattle.rx_model.specs.FlagCauses.{IsFlagCause}
-use Rattle.rx_model.specs.Flags.{flag_units, flags_ok, holds, mode_of, modes_of}
-use Rattle.rx_model.specs.Modes.{mode_by}
-use Rattle.rx_scan.proofs.FlagPlaces.{flag_cause_refuses}
-
--- each character is one unit of its value
-pub values_of_units : (at : ℕ) (cs : List ℕ) → values (literal_units true at cs) ≡ cs
-values_of_units at [] = refl
-values_of_units at (c ∷ cs) = ap (λ xs. c ∷ xs) (values_of_units (at + len_utf8 c) cs)
+use Rattle.rx_model.specs.Inputs.Environment.{is_unicode}
+use Rattle.rx_model.specs.Refusals.FlagCauses.{IsFlagCause}
+use Rattle.rx_model.specs.Inputs.Flags.{flag_units, flags_ok, holds, mode_of, modes_of}
+use Rattle.rx_model.specs.Inputs.Modes.{mode_by}
+use Rattle.rx_model.proofs.Spelling.Backs.{values_literal}
+use Rattle.rx_model.proofs.Refusals.FlagCauses.{cause_refuses}
 
 -- refused flags are no flags
 pub refused_flags : (flags : List ℕ) (added : ℕ) (cause : Diagnostic) → IsFlagCause (flag_units flags) 0 added cause → flags_ok flags ≡ false
-refused_flags flags added cause h = ap flags_ok (sym (values_of_units 0 flags)) ∙ flag_cause_refuses (flag_units flags) 0 added cause h
+refused_flags flags added cause h = ap flags_ok (sym (values_literal 0 flags)) ∙ cause_refuses (flag_units flags) 0 added cause h
 
 modes_give : (sets unicode : Bool) → mode_by (sets || unicode) sets ≡ (if sets then Sets else (if unicode then Unicode else Legacy))
 modes_give true unicode = refl

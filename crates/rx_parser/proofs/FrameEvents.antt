@@ -8,9 +8,9 @@ use Rattle.rx_ast.specs.declared.term.Term.{Term}
 use Rattle.rx_ast.specs.Tree as tree
 use Rattle.rx_ast.specs.Tree.{mirror_term, mirror_disjunction}
 use Rattle.rx_model.specs.declared.mode.Mode.{Mode}
-use Rattle.rx_model.specs.Events.{Event, Events, enter, leave, token, within, events, node_events, opener_event, term_events, disjunction_events}
-use Rattle.rx_model.specs.Shapes.{takes, group_takes}
-use Rattle.rx_model.specs.Token.{Opener, closer, opener_of}
+use Rattle.rx_model.specs.Trees.Events.{Event, Events, enter, leave, token, within, events, node_events, opener_event, term_events, disjunction_events}
+use Rattle.rx_model.specs.Trees.Shapes.{takes, group_takes}
+use Rattle.rx_model.specs.Trees.Token.{Opener, closer, opener_of}
 use Rattle.rx_parser.specs.declared.builder.Builder.{Builder}
 use Rattle.rx_parser.specs.declared.frame.Frame.{Frame}
 use Rattle.rx_parser.specs.declared.frame.Opening.{Opening}

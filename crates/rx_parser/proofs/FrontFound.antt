@@ -12,26 +12,27 @@ use Rattle.rx_units.specs.Units.{values}
 use Rattle.rx_class.specs.Found.{class_escape_front}
 use Rattle.rx_model.specs.declared.mode.Mode.{Mode}
 use Rattle.rx_model.specs.declared.mode.Mode.TheVariants.{Legacy, Unicode, Sets}
-use Rattle.rx_model.specs.Boundaries.{has_buffers}
-use Rattle.rx_model.specs.Causes.{HasBraces, IsOutOfOrder, IsTooLarge}
-use Rattle.rx_model.specs.Early.{Obeys, greatest_count}
-use Rattle.rx_model.specs.Environment.{Environment, environment_with, is_unicode}
-use Rattle.rx_model.specs.Escapes.{front_is}
-use Rattle.rx_model.specs.Fronts.{front, boundary_at, escape_at, nothing, too_many, no_unicode, escaped_token, backslash_token, backslash_front, class_escape_at, counts, no_counts, counts_at, quantifier_token, syntax_front}
-use Rattle.rx_model.specs.Marks.{starts}
-use Rattle.rx_model.specs.PropertyForms.{begins_property}
-use Rattle.rx_model.specs.Quantifiers.{SpellsCounts, SpellsBraces, star, plus, optional, braces, is_question}
-use Rattle.rx_model.specs.Rows.{stands_raw}
-use Rattle.rx_model.specs.UnitKinds.{unit_kind}
-use Rattle.rx_model.specs.Stops.{IsStop, at_end, at_bracket, at_brace, behind_backslash, is_one_of}
-use Rattle.rx_model.specs.Token.{Token, boundary, character, class_escape, quantifier}
-use Rattle.rx_model.specs.UnicodeEscapes.{Decodes, PassesHex}
-use Rattle.rx_model.proofs.Backslashes.{unreferred}
-use Rattle.rx_model.proofs.Escapes.{escape_nothing, escape_too_many, escape_no_unicode}
-use Rattle.rx_model.proofs.Fronts.{front_by_values}
-use Rattle.rx_model.proofs.GroupNames.{differs}
-use Rattle.rx_model.proofs.Quantifiers.{counts_spelled, no_braces}
-use Rattle.rx_model.proofs.Stops.{stop_backslash}
+use Rattle.rx_model.specs.Reading.Boundaries.{has_buffers}
+use Rattle.rx_model.specs.Refusals.Causes.{HasBraces, IsOutOfOrder, IsTooLarge}
+use Rattle.rx_model.specs.Trees.Early.{Obeys, greatest_count}
+use Rattle.rx_model.specs.Inputs.Environment.{Environment, environment_with, is_unicode}
+use Rattle.rx_model.specs.Characters.Escapes.{front_is}
+use Rattle.rx_model.specs.Reading.Fronts.{any_escape_at, is_raw_at, front, boundary_at, escape_at, nothing, too_many, no_unicode, escaped_token, backslash_token, backslash_front, class_escape_at, counts, no_counts, counts_at, quantifier_token, syntax_front}
+use Rattle.rx_model.specs.FirstPass.Marks.{starts}
+use Rattle.rx_model.specs.Properties.PropertyForms.{begins_property}
+use Rattle.rx_model.specs.Quantifiers.Quantifiers.{SpellsCounts, SpellsBraces, star, plus, optional, braces, is_question}
+use Rattle.rx_model.specs.Reading.Rows.{is_legacy_syntax, stands_raw}
+use Rattle.rx_model.specs.Characters.UnitKinds.{unit_kind}
+use Rattle.rx_model.specs.Refusals.Stops.{IsStop, at_end, at_bracket, at_brace, behind_backslash, is_one_of}
+use Rattle.rx_model.specs.Trees.Token.{Token, boundary, character, class_escape, quantifier}
+use Rattle.rx_model.specs.Characters.UnicodeEscapes.{Decodes, PassesHex}
+use Rattle.rx_model.proofs.Characters.Backslashes.{unreferred}
+use Rattle.rx_model.proofs.Characters.Escapes.{escape_nothing, escape_too_many, escape_no_unicode}
+use Rattle.rx_model.proofs.Reading.Fronts.{front_by_values, front_by_unicode, raw_in_unicode}
+use Rattle.rx_model.proofs.Characters.LegacyEscapes.{any_in_unicode}
+use Rattle.rx_model.proofs.Groups.GroupNames.{differs}
+use Rattle.rx_model.proofs.Quantifiers.Quantifiers.{counts_spelled, no_braces}
+use Rattle.rx_model.proofs.Refusals.Stops.{stop_backslash}
 use Rattle.rx_parser.specs.CountsFound.{IsInLimit}
 use Rattle.rx_parser.specs.Found.{Stands, IsFound, boundary_front, begins_reference, closes_or_repeats}
 use Rattle.rx_parser.specs.declared.found.Found.TheVariants as found
@@ -118,22 +119,22 @@ raw_stands Unicode c m h = ap not h
 raw_stands Sets c m h = ap not h
 
 module _ (e : Environment) where
-  counts_front : (us : List CodePoint) → front_is closes_or_repeats (values us) ≡ true → front e us ≡ quantifier_token (counts_at (values us)) (values us)
-  counts_front [] h = absurd (let no : ⊥ = cc h in no)
-  counts_front (u ∷ us) h =
-      front_by_values e (u ∷ us) u.value (values us) (syntax_of u.value h) refl
+  counts_front : (us : List CodePoint) → is_unicode e.mode ≡ true → front_is closes_or_repeats (values us) ≡ true → front e us ≡ quantifier_token (counts_at (values us)) (values us)
+  counts_front [] m h = absurd (let no : ⊥ = cc h in no)
+  counts_front (u ∷ us) m h =
+      front_by_unicode e (u ∷ us) u.value (values us) m (syntax_of u.value h) refl
       ∙ cond-false (u.value == 92) _ _ (differs closes_or_repeats u.value 92 refl h)
       ∙ by_counts e u.value (values us) h
 
-  pub greedy_front : (us : List CodePoint) (min : ℕ) (max : Option ℕ) (n : ℕ) → front_is closes_or_repeats (values us) ≡ true → counts_at (values us) ≡ counts min max n
+  pub greedy_front : (us : List CodePoint) → is_unicode e.mode ≡ true → (min : ℕ) (max : Option ℕ) (n : ℕ) → front_is closes_or_repeats (values us) ≡ true → counts_at (values us) ≡ counts min max n
       → starts 63 (values (drop n us)) ≡ false → front e us ≡ Some (quantifier min max true, n)
-  greedy_front us min max n h k q =
-      counts_front us h ∙ ap (λ c. quantifier_token c (values us)) k ∙ cond-false (front_is is_question (drop n (values us))) _ _ (question_there us n ∙ q)
+  greedy_front us m min max n h k q =
+      counts_front us m h ∙ ap (λ c. quantifier_token c (values us)) k ∙ cond-false (front_is is_question (drop n (values us))) _ _ (question_there us n ∙ q)
 
-  pub lazy_front : (us : List CodePoint) (min : ℕ) (max : Option ℕ) (n : ℕ) → front_is closes_or_repeats (values us) ≡ true → counts_at (values us) ≡ counts min max n
+  pub lazy_front : (us : List CodePoint) → is_unicode e.mode ≡ true → (min : ℕ) (max : Option ℕ) (n : ℕ) → front_is closes_or_repeats (values us) ≡ true → counts_at (values us) ≡ counts min max n
       → starts 63 (values (drop n us)) ≡ true → front e us ≡ Some (quantifier min max false, n + 1)
-  lazy_front us min max n h k q =
-      counts_front us h ∙ ap (λ c. quantifier_token c (values us)) k ∙ cond-true (front_is is_question (drop n (values us))) _ _ (question_there us n ∙ q)
+  lazy_front us m min max n h k q =
+      counts_front us m h ∙ ap (λ c. quantifier_token c (values us)) k ∙ cond-true (front_is is_question (drop n (values us))) _ _ (question_there us n ∙ q)
 
   ends_at : (u : CodePoint) (us : List CodePoint) → is_unicode e.mode ≡ true → closes_or_repeats u.value ≡ true → counts_at (values (u ∷ us)) ≡ no_counts → IsInLimit (values (u ∷ us)) → IsStop e (u ∷ us) 0
   ends_at u us m h k limit = elim (cases_Bool (u.value == 93 || u.value == 125)) [
@@ -147,10 +148,7 @@ module _ (e : Environment) where
   -- no quantifier, nor a `)`
   pub stop_there : (us : List CodePoint) → is_unicode e.mode ≡ true → front_is closes_or_repeats (values us) ≡ true → counts_at (values us) ≡ no_counts → IsInLimit (values us) → IsFound e us (found.Halt (halt.Stop 0))
   stop_there [] m h k limit = absurd (let no : ⊥ = cc h in no)
-  stop_there (u ∷ us) m h k limit = (
-    (counts_front (u ∷ us) h ∙ ap (λ c. quantifier_token c (values (u ∷ us))) k, ends_at u us m h k limit, differs closes_or_repeats u.value 41 refl h),
-    omega arith,
-  )
+  stop_there (u ∷ us) m h k limit = ((ends_at u us m h k limit, differs closes_or_repeats u.value 41 refl h), omega arith)
 
   -- behind a backslash
   backslash_unit : (u : CodePoint) (us : List CodePoint) → u.value ≡ 92 → front e (u ∷ us) ≡ backslash_front e (values us)
@@ -162,7 +160,7 @@ module _ (e : Environment) where
 
   -- where neither a reference nor a property begins
   unreferred_unit : (u v : CodePoint) (us : List CodePoint) → u.value ≡ 92 → begins_reference v.value ≡ false → begins_property v.value ≡ false
-      → front e (u ∷ v ∷ us) ≡ backslash_token (boundary_at e v.value) (class_escape_at v.value) (escape_at (is_unicode e.mode) (values (v ∷ us)))
+      → front e (u ∷ v ∷ us) ≡ backslash_token (boundary_at e v.value) (class_escape_at v.value) (any_escape_at false e (values (v ∷ us)))
   unreferred_unit u v us h free other =
       let p = or_parts (is_within 49 57 v.value) (v.value == 107) free in
       backslash_unit u (v ∷ us) h ∙ unreferred e v.value (values us) p.0 p.1 other
@@ -171,7 +169,7 @@ module _ (e : Environment) where
       → front_is begins_property (values us) ≡ false → boundary_front e (values us) ≡ Some kind → Stands e (u ∷ us) (boundary kind) 2
   boundary_there u [] kind h free other k = absurd (let no : ⊥ = cc k in no)
   boundary_there u (v ∷ us) kind h free other k = (
-    unreferred_unit u v us h free other ∙ ap (λ b. backslash_token b (class_escape_at v.value) (escape_at (is_unicode e.mode) (values (v ∷ us)))) k,
+    unreferred_unit u v us h free other ∙ ap (λ b. backslash_token b (class_escape_at v.value) (any_escape_at false e (values (v ∷ us)))) k,
     omega arith,
     λ _. tt,
   )
@@ -181,34 +179,33 @@ module _ (e : Environment) where
   class_there u [] kind h free other b k = absurd (let no : ⊥ = cc k in no)
   class_there u (v ∷ us) kind h free other b k = (
     unreferred_unit u v us h free other
-        ∙ ap (λ b. backslash_token b (class_escape_at v.value) (escape_at (is_unicode e.mode) (values (v ∷ us)))) b
-        ∙ ap (λ c. backslash_token None c (escape_at (is_unicode e.mode) (values (v ∷ us)))) k,
+        ∙ ap (λ b. backslash_token b (class_escape_at v.value) (any_escape_at false e (values (v ∷ us)))) b
+        ∙ ap (λ c. backslash_token None c (any_escape_at false e (values (v ∷ us)))) k,
     omega arith,
     λ _. tt,
   )
 
-  pub escape_front : (u : CodePoint) (us : List CodePoint) → u.value ≡ 92 → front_is begins_reference (values us) ≡ false → front_is begins_property (values us) ≡ false
+  pub escape_front : (u : CodePoint) (us : List CodePoint) → is_unicode e.mode ≡ true → u.value ≡ 92 → front_is begins_reference (values us) ≡ false → front_is begins_property (values us) ≡ false
       → boundary_front e (values us) ≡ None → class_escape_front (values us) ≡ None → front e (u ∷ us) ≡ escaped_token (escape_at (is_unicode e.mode) (values us))
   unfolding backslash_front escape_at
-  escape_front u [] h free other b c = backslash_unit u [] h
-  escape_front u (v ∷ us) h free other b c =
+  escape_front u [] m h free other b c = backslash_unit u [] h
+  escape_front u (v ∷ us) m h free other b c =
       unreferred_unit u v us h free other
-      ∙ ap (λ b. backslash_token b (class_escape_at v.value) (escape_at (is_unicode e.mode) (values (v ∷ us)))) b
-      ∙ ap (λ c. backslash_token None c (escape_at (is_unicode e.mode) (values (v ∷ us)))) c
+      ∙ ap (λ b. backslash_token b (class_escape_at v.value) (any_escape_at false e (values (v ∷ us)))) b
+      ∙ ap (λ c. backslash_token None c (any_escape_at false e (values (v ∷ us)))) c
+      ∙ ap escaped_token (any_in_unicode false e (values (v ∷ us)) m)
 
   -- a backslash that ends the text
   pub ended_backslash : (u : CodePoint) (us : List CodePoint) → is_unicode e.mode ≡ true → u.value ≡ 92 → length us < 1 → IsFound e (u ∷ us) (found.Halt (halt.Stop 1))
-  unfolding backslash_front
-  ended_backslash u [] m h l = ((backslash_unit u [] h, behind_backslash m h refl, differs (λ c. c == 92) u.value 41 refl (eq-eqb u.value 92 h)), omega arith)
+  ended_backslash u [] m h l = ((behind_backslash m h refl, differs (λ c. c == 92) u.value 41 refl (eq-eqb u.value 92 h)), omega arith)
   ended_backslash u (v ∷ us) m h l = absurd (omega arith)
 
   -- a backslash that begins nothing
   pub nothing_there : (u : CodePoint) (us : List CodePoint) → is_unicode e.mode ≡ true → u.value ≡ 92 → front_is begins_reference (values us) ≡ false → front_is begins_property (values us) ≡ false
       → boundary_front e (values us) ≡ None → class_escape_front (values us) ≡ None → escape_at true (values us) ≡ nothing → IsFound e (u ∷ us) (found.Halt (halt.Stop 1))
   nothing_there u us m h free other b c k =
-      let none = escape_front u us h free other b c ∙ ap (λ m. escaped_token (escape_at m (values us))) m ∙ ap escaped_token k in (
+      let none = escape_front u us m h free other b c ∙ ap (λ m. escaped_token (escape_at m (values us))) m ∙ ap escaped_token k in (
         (
-          none,
           behind_backslash m h (stop_backslash e (values us) m (sym (backslash_unit u us h) ∙ none) (no_beginning (values us) free other (escape_nothing (values us) k))),
           differs (λ c. c == 92) u.value 41 refl (eq-eqb u.value 92 h),
         ),
@@ -246,7 +243,7 @@ module _ (e : Environment) where
   too_many_there u us count h l k = (inl (values us, refl, ap (λ c. c ∷ values us) h, escape_too_many (values us) count k), omega (arith, l))
 
   -- a token of one unit, which is a SyntaxCharacter other than a backslash and `[`
-  pub one_there : (us : List CodePoint) (c d : ℕ) (t : Token) → reading.front us ≡ Some c → c ≡ d → (is_syntax_character d && not (d == 91)) ≡ true → (d == 92) ≡ false
+  pub one_there : (us : List CodePoint) (c d : ℕ) (t : Token) → reading.front us ≡ Some c → c ≡ d → (is_legacy_syntax d && not (d == 91)) ≡ true → (d == 92) ≡ false
       → ((w : List ℕ) → syntax_front e d w ≡ Some (t, 1)) → ((names : List (List ℕ)) → Obeys e.groups names t) → Stands e us t 1
   one_there [] c d t h same s o k obeys = absurd (let no : ⊥ = cc h in no)
   one_there (u ∷ us) c d t h same s o k obeys =
@@ -258,11 +255,10 @@ module _ (e : Environment) where
       → Stands e us (character (unit_kind (get_or us 0 d).escape_kind) (get_or us 0 d).value) 1
   unfolding front
   raw_there [] d l m h k = absurd (omega arith)
-  raw_there (u ∷ us) d l m h k = (cond-true (stands_raw e.mode u.value) _ _ (raw_stands e.mode u.value m h), omega arith, λ _. k)
+  raw_there (u ∷ us) d l m h k = (cond-true (is_raw_at e u.value (values us)) _ _ (raw_in_unicode e u.value (values us) m (raw_stands e.mode u.value m h)), omega arith, λ _. k)
 
   pub ended : (us : List CodePoint) → length us < 1 → IsFound e us (found.Halt (halt.Stop 0))
-  unfolding front
-  ended [] l = ((refl, at_end, refl), omega arith)
+  ended [] l = ((at_end, refl), omega arith)
   ended (u ∷ us) l = absurd (omega arith)
 
 -- what stands behind the first unit

@@ -12,7 +12,7 @@ use Rattle.rx_ast.specs.Tree as tree
 use Rattle.rx_ast.specs.Tree.{nodes, alternatives, mirror_term, mirror_alternative, mirror_disjunction}
 use Rattle.rx_ast.proofs.Equations as mirror
 use Rattle.rx_model.specs.declared.mode.Mode.{Mode}
-use Rattle.rx_model.specs.Shapes.{takes, IsNode, AreNodes, HasAlternatives, AreAlternatives}
+use Rattle.rx_model.specs.Trees.Shapes.{takes, IsNode, AreNodes, HasAlternatives, AreAlternatives}
 use Rattle.rx_parser.specs.declared.level.Level.{Level}
 use Rattle.rx_parser.specs.declared.frame.Frame.{Frame}
 use Rattle.rx_parser.specs.declared.builder.Builder.{Builder}

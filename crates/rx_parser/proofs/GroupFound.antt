@@ -1,19 +1,19 @@
 -- What groups begin with, by what their readers find.
 use Rattle.std.proofs.Common.{◌≡◌, refl, sym, ap, ap₂, ◌∙◌, subst, ℕ, ◌+◌, ◌-◌, ◌<◌, ◌≤◌, ◌==◌, Bool, false, List, [], ◌∷◌, Some, None, length, take, drop, get_or, arith}
-use Rattle.std.proofs.lemmas.Bool.{cond-false, eqb-true, false_from_ne_true, or_from, or_parts}
+use Rattle.std.proofs.lemmas.Bool.{cond-false, eqb-true, false_from_ne_true, or_parts}
 use Rattle.std.proofs.lemmas.List.{take_all}
 use Rattle.rx_ast.specs.declared.leaf.LookAroundAssertionKind.{LookAroundAssertionKind}
 use Rattle.rx_units.specs.declared.code_point.CodePoint.{CodePoint}
 use Rattle.rx_units.specs.Units.{values}
-use Rattle.rx_model.specs.Environment.{Environment, is_unicode}
-use Rattle.rx_model.specs.Escapes.{front_is}
-use Rattle.rx_model.specs.Fronts.{front, opener_token}
-use Rattle.rx_model.specs.GroupFronts.{angle_group, group_front, name_front, named_group}
-use Rattle.rx_model.specs.Groups.{BeginsName, looks, of_group}
-use Rattle.rx_model.specs.Quantifiers.{is_question}
-use Rattle.rx_model.specs.Spelling.{look_text}
-use Rattle.rx_model.specs.Token.{capturing, ignoring, looking, opener}
-use Rattle.rx_model.proofs.Fronts.{front_by_values, spelled_front}
+use Rattle.rx_model.specs.Inputs.Environment.{Environment, is_unicode}
+use Rattle.rx_model.specs.Characters.Escapes.{front_is}
+use Rattle.rx_model.specs.Reading.Fronts.{front, opener_token}
+use Rattle.rx_model.specs.Groups.GroupFronts.{angle_group, group_front, name_front, named_group}
+use Rattle.rx_model.specs.Groups.Groups.{BeginsName, looks, of_group}
+use Rattle.rx_model.specs.Quantifiers.Quantifiers.{is_question}
+use Rattle.rx_model.specs.Spelling.Spelling.{look_text}
+use Rattle.rx_model.specs.Trees.Token.{capturing, ignoring, looking, opener}
+use Rattle.rx_model.proofs.Reading.Fronts.{front_by_values, spelled_front}
 use Rattle.rx_parser.specs.Found.{IsFound}
 use Rattle.rx_parser.specs.Names.{IsNameFound}
 use Rattle.rx_parser.specs.declared.found.Found.TheVariants as found
@@ -39,11 +39,6 @@ is_other c d h = false_from_ne_true (c == d) (λ same. h (eqb-true c d same))
 pub no_question : (us : List CodePoint) (d : CodePoint) → 1 ≤ length us → ((get_or us 0 d).value ≡ 63 → ⊥) → front_is is_question (values us) ≡ false
 no_question [] d l h = absurd (omega arith)
 no_question (u ∷ us) d l h = is_other u.value 63 h
-
--- the first unit tells no look behind
-pub no_look : (us : List CodePoint) (d : CodePoint) → 1 ≤ length us → ((get_or us 0 d).value ≡ 61 → ⊥) → ((get_or us 0 d).value ≡ 33 → ⊥) → front_is looks (values us) ≡ false
-no_look [] d l h k = absurd (omega arith)
-no_look (u ∷ us) d l h k = or_from (u.value == 61) (u.value == 33) (is_other u.value 61 h) (is_other u.value 33 k)
 
 -- behind `(?<`, where no look behind is told
 angle_named : (unicode_mode : Bool) (w : List ℕ) → front_is looks w ≡ false → angle_group unicode_mode w ≡ named_group (name_front unicode_mode w)

@@ -11,17 +11,18 @@ use Rattle.rx_units.specs.declared.code_point.CodePoint.{CodePoint}
 use Rattle.rx_units.specs.Units.{offset_at}
 use Rattle.rx_model.specs.declared.mode.Mode.{Mode}
 use Rattle.rx_model.specs.declared.mode.Mode.TheVariants.{Unicode}
-use Rattle.rx_model.specs.Early.{Obeys}
-use Rattle.rx_model.specs.Environment.{Environment}
-use Rattle.rx_model.specs.Events as event
-use Rattle.rx_model.specs.Events.{Events, enter, leave, token, modified, nodes_events, opener_event, term_events, alternative_events, tokens_of}
-use Rattle.rx_model.specs.Reached.{AreObeying, IsInside, IsReached, text_environment, text_groups, text_names}
-use Rattle.rx_model.specs.Rows.{Row, TokenRow}
-use Rattle.rx_model.specs.Shapes.{run, takes}
-use Rattle.rx_model.specs.Token.{Token, Opener, bar, opener, opener_of}
-use Rattle.rx_model.proofs.Flat.{tokens_of-append, before, before-append, before_opener, before_within}
-use Rattle.rx_model.proofs.Joins.{row_split, row_tokens}
-use Rattle.rx_model.proofs.Runs.{Passes, node_runs, nodes_run}
+use Rattle.rx_model.specs.Trees.Early.{Obeys}
+use Rattle.rx_model.specs.Inputs.Environment.{Environment}
+use Rattle.rx_model.specs.Trees.Events as event
+use Rattle.rx_model.specs.Trees.Events.{Events, enter, leave, token, modified, nodes_events, opener_event, term_events, alternative_events, tokens_of}
+use Rattle.rx_model.specs.Refusals.Reached.{AreObeying, IsInside, IsReached, text_environment, text_groups, text_names}
+use Rattle.rx_model.specs.Reading.Rows.{Row, TokenRow}
+use Rattle.rx_model.specs.Trees.Shapes.{run, takes}
+use Rattle.rx_model.specs.Trees.Token.{Token, Opener, bar, opener, opener_of}
+use Rattle.rx_model.proofs.Refusals.DeadPlaces.{last_all}
+use Rattle.rx_model.proofs.Trees.Flat.{tokens_of-append, before, before-append, before_opener, before_within}
+use Rattle.rx_model.proofs.Trees.Joins.{row_split, row_tokens}
+use Rattle.rx_model.proofs.Trees.Runs.{Passes, node_runs, nodes_run}
 use Rattle.rx_parser.specs.declared.builder.Builder.{Builder}
 use Rattle.rx_parser.specs.declared.frame.Frame.{Frame}
 use Rattle.rx_parser.specs.declared.level.Level.{Level}
@@ -31,7 +32,6 @@ use Rattle.rx_parser.specs.Levels.{barred, level_events, strung}
 use Rattle.rx_parser.specs.Parsing.{IsParsing}
 use Rattle.rx_parser.proofs.FrameEvents.{frames_push}
 use Rattle.rx_parser.proofs.Goods.{frames_split}
-use Rattle.rx_parser.proofs.Places.{last_all}
 
 module _ (mode : Mode) where
   -- one row of events behind another

@@ -19,9 +19,9 @@ use Rattle.rx_ast.specs.Tree as tree
 use Rattle.rx_ast.specs.Tree.{Leaf, leaf, mirror_term}
 use Rattle.rx_ast.proofs.Equations as mirror
 use Rattle.rx_model.specs.declared.mode.Mode.{Mode}
-use Rattle.rx_model.specs.Events.{enter, leave, token, node_events, term_events, leaf_event}
-use Rattle.rx_model.specs.Shapes.{run, takes, leaf_takes, IsNode}
-use Rattle.rx_model.specs.Token.{Token, Opener, boundary, character, dot, class_escape, indexed, named, property, leaf_token}
+use Rattle.rx_model.specs.Trees.Events.{enter, leave, token, node_events, term_events, leaf_event}
+use Rattle.rx_model.specs.Trees.Shapes.{run, takes, leaf_takes, IsNode}
+use Rattle.rx_model.specs.Trees.Token.{Token, Opener, boundary, character, dot, class_escape, indexed, named, property, leaf_token}
 use Rattle.rx_parser.specs.Progress.{IsLeafOf}
 
 -- A leaf stands wherever its token may, and its events are the token between the ends of its span.

@@ -1,7 +1,4 @@
-pub mod Agains
 pub mod ClassTurns
-pub mod DeadCounts
-pub mod DeadFronts
 pub mod Digits
 pub mod Endings
 pub mod EventEquations
@@ -21,6 +18,7 @@ pub mod Passes
 pub mod Places
 pub mod Prefixes
 pub mod ReferenceFound
+pub mod Refused
 pub mod Steps
 pub mod TextUnits
 pub mod Turns

@@ -9,7 +9,7 @@ use Rattle.std.proofs.lemmas.Nat.{and_block, or_block, and_comm}
 use Rattle.rx_ast.specs.declared.modifier.Modifier.{Modifier}
 use Rattle.rx_units.specs.declared.code_point.CodePoint.{CodePoint}
 use Rattle.rx_units.specs.Units.{values}
-use Rattle.rx_model.specs.Modifiers.{is_modifier, occurs, has_twice, share_some, letters_bits}
+use Rattle.rx_model.specs.Groups.Modifiers.{is_modifier, occurs, has_twice, share_some, letters_bits}
 use Rattle.rx_parser.specs.Modifiers.{are_bits, modifier_bit}
 use Rattle.rx_parser.proofs.Digits.{chosen, values_front, values_more}
 

@@ -8,17 +8,17 @@ use Rattle.std.proofs.lemmas.List.Folds.{list_any-append}
 use Rattle.rx_ast.specs.declared.modifier.Modifier.{Modifier}
 use Rattle.rx_units.specs.declared.code_point.CodePoint.{CodePoint}
 use Rattle.rx_units.specs.Units.{values}
-use Rattle.rx_model.specs.Environment.{Environment, is_unicode}
-use Rattle.rx_model.specs.Escapes.{front_is}
-use Rattle.rx_model.specs.Fronts.{front, opener_token}
-use Rattle.rx_model.specs.GroupFronts.{letters_at, sides, second_side, sides_at, modified_group, question_group, group_front}
-use Rattle.rx_model.specs.Groups.{is_mark}
-use Rattle.rx_model.specs.Marks.{starts}
-use Rattle.rx_model.specs.Modifiers.{is_modifier, occurs, has_twice, share_some, letters_bits, AreSides, one_side, two_sides}
-use Rattle.rx_model.specs.Token.{opener, ignoring}
-use Rattle.rx_model.proofs.Fronts.{front_by_values}
-use Rattle.rx_model.proofs.Modifiers.{SidesFront, sides_spelled}
-use Rattle.rx_model.proofs.Splits.{starts_there}
+use Rattle.rx_model.specs.Inputs.Environment.{Environment, is_unicode}
+use Rattle.rx_model.specs.Characters.Escapes.{front_is}
+use Rattle.rx_model.specs.Reading.Fronts.{front, opener_token}
+use Rattle.rx_model.specs.Groups.GroupFronts.{letters_at, sides, second_side, sides_at, modified_group, question_group, group_front}
+use Rattle.rx_model.specs.Groups.Groups.{is_mark}
+use Rattle.rx_model.specs.FirstPass.Marks.{starts}
+use Rattle.rx_model.specs.Groups.Modifiers.{is_modifier, occurs, has_twice, share_some, letters_bits, AreSides, one_side, two_sides}
+use Rattle.rx_model.specs.Trees.Token.{opener, ignoring}
+use Rattle.rx_model.proofs.Reading.Fronts.{front_by_values}
+use Rattle.rx_model.proofs.Groups.Modifiers.{SidesFront, sides_spelled}
+use Rattle.rx_model.proofs.Reading.Splits.{starts_there}
 use Rattle.rx_parser.specs.Found.{IsFound, IsModifiersFault, unknown, duplicated, empty, invalid}
 use Rattle.rx_parser.specs.Modifiers.{are_bits}
 use Rattle.rx_parser.specs.declared.found.Found.{Found}

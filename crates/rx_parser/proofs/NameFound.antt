@@ -5,13 +5,13 @@ use Rattle.std.proofs.lemmas.Bool.{cond-true, eqb-true, false_from_ne_true}
 use Rattle.std.proofs.lemmas.List.{drop-map, length-drop, take-map, take_all}
 use Rattle.rx_units.specs.declared.code_point.CodePoint.{CodePoint}
 use Rattle.rx_units.specs.Units.{values}
-use Rattle.rx_model.specs.Environment.{Environment, is_unicode}
-use Rattle.rx_model.specs.GroupFronts.{closed_name, name_front}
-use Rattle.rx_model.specs.GroupNameReading.{name_of, row}
-use Rattle.rx_model.specs.GroupNames.{BeginsWithName, IsNameRow, no_name, some_name, SpellsName, whole_name}
-use Rattle.rx_model.specs.Groups.{BeginsName}
-use Rattle.rx_model.specs.Marks.{starts}
-use Rattle.rx_model.proofs.GroupNames.{group_name_read, name_anywhere, name_read}
+use Rattle.rx_model.specs.Inputs.Environment.{Environment, is_unicode}
+use Rattle.rx_model.specs.Groups.GroupFronts.{closed_name, name_front}
+use Rattle.rx_model.specs.Groups.GroupNameReading.{name_of, row}
+use Rattle.rx_model.specs.Groups.GroupNames.{BeginsWithName, IsNameRow, no_name, some_name, SpellsName, whole_name}
+use Rattle.rx_model.specs.Groups.Groups.{BeginsName}
+use Rattle.rx_model.specs.FirstPass.Marks.{starts}
+use Rattle.rx_model.proofs.Groups.GroupNames.{group_name_read, name_anywhere, name_read}
 use Rattle.rx_parser.specs.Found.{HoldsName, IsHalt}
 use Rattle.rx_parser.specs.Names.{IsHaltInName, IsNameFound}
 use Rattle.rx_parser.specs.declared.found.Halt.{Halt}

@@ -7,16 +7,13 @@ use Rattle.rx_base.specs.declared.span.Span.{Span}
 use Rattle.rx_units.specs.declared.code_point.CodePoint.{CodePoint}
 use Rattle.rx_units.specs.Units.{values}
 use Rattle.rx_model.specs.declared.mode.Mode.TheVariants.{Unicode}
-use Rattle.rx_model.specs.Causes.{duplicated_names, name_span, too_many_groups}
-use Rattle.rx_model.specs.Early.{most_groups}
-use Rattle.rx_model.specs.Marks.{Clash, IsFirstClash, count, marks, seen}
-use Rattle.rx_model.specs.Modes.{mode_by}
-use Rattle.rx_model.specs.Reached.{HasNoClash, text_groups}
-use Rattle.rx_model.proofs.Apart.{tells_apart}
-use Rattle.rx_model.proofs.OwnGroups.{tells_groups}
+use Rattle.rx_model.specs.Refusals.Causes.{duplicated_names, name_span, too_many_groups}
+use Rattle.rx_model.specs.FirstPass.Marks.{Clash, IsFirstClash, count, marks, seen}
+use Rattle.rx_model.specs.Inputs.Modes.{mode_by}
+use Rattle.rx_model.specs.Refusals.Reached.{HasNoClash}
 use Rattle.rx_scan.specs.declared.state.State.{State}
 use Rattle.rx_class.proofs.FirstPasses.{counted, listed}
-use Rattle.rx_parser.specs.Parsing.{HoldsPass, IsInvalid, IsRefused, mode_of_state}
+use Rattle.rx_parser.specs.Parsing.{HoldsPass, IsRefused, mode_of_state}
 
 -- the truth values of unicode mode
 pub unicode_bits : (unicode sets : Bool) → mode_by unicode sets ≡ Unicode → (unicode ≡ true) × (sets ≡ false)
@@ -43,18 +40,13 @@ holds_pass us old new m u s n names clash small =
 abbrev pub shifted : ℕ → ℕ × ℕ → Span
 shifted added span = record { start = span.0 + added; end = span.1 + added }
 
--- No tree reads a text with a clash.
-clash_invalid : (us : List CodePoint) (a b : ℕ) → Clash true (marks (values us)) a b → IsInvalid Unicode us
-clash_invalid us a b c p r = (tells_apart Unicode p us r.spelled).no_clash r.early.apart a b c
-
 -- Two groups of one name might both take part.
 pub clash_refused : (us : List CodePoint) (first added a b : ℕ) → IsFirstClash true (marks (values us)) a b
     → IsRefused Unicode us first added (Diagnostic (DuplicatedCapturingGroupNames (name_span us first added a) (name_span us first added b)))
-clash_refused us first added a b c = (duplicated_names a b c, clash_invalid us a b c.clash)
+clash_refused us first added a b c = duplicated_names a b c
 
 -- There are more groups than may be.
 pub many_refused : (us : List CodePoint) (first added n : ℕ) → HasNoClash Unicode us → n ≡ min (count (marks (values us))) (2 ^ 32 - 1) → 2 ^ 32 - 1 ≤ n
     → IsRefused Unicode us first added (Diagnostic (TooMayCapturingGroups (record { start = added; end = added })))
 many_refused us first added n no_clash e large =
-    let many : most_groups < text_groups us = omega (arith, e, large, counted us) in
-    (too_many_groups no_clash many, λ p r. let t = tells_groups Unicode p us r.spelled in omega (arith, many, t.groups_are, r.early.in_limit))
+    too_many_groups no_clash (omega (arith, e, large, counted us))

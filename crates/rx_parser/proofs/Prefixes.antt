@@ -7,8 +7,8 @@ use Rattle.std.proofs.lemmas.List.{take_all, length-drop}
 use lib.Dec.{ltb}
 use Rattle.rx_units.specs.declared.code_point.CodePoint.{CodePoint}
 use Rattle.rx_units.specs.Units.{values}
-use Rattle.rx_model.specs.Fronts.{Digits, digits, digits_behind, counts, no_counts, greatest_of, counts_behind_comma, counts_in_braces, counts_at}
-use Rattle.rx_model.specs.Quantifiers.{PassesLimit, first, second}
+use Rattle.rx_model.specs.Reading.Fronts.{Digits, digits, digits_behind, counts, no_counts, greatest_of, counts_behind_comma, counts_in_braces, counts_at}
+use Rattle.rx_model.specs.Quantifiers.Quantifiers.{PassesLimit, first, second}
 use Rattle.rx_parser.specs.declared.counts.CountsFound.{CountsFound}
 use Rattle.rx_parser.specs.declared.counts.CountsFound.TheVariants as found
 use Rattle.rx_parser.specs.CountsFound.{NonePass, NoSecond, IsInLimit, IsBehindComma, IsBehindLeast, IsInBraces, IsCountsFound}

@@ -1,18 +1,19 @@
 -- What references begin with, by what their readers find.
-use Rattle.std.proofs.Common.{◌≡◌, refl, sym, ap, ap₂, ◌∙◌, subst, ℕ, ◌+◌, ◌-◌, ◌*◌, ◌^◌, ◌≤◌, ◌==◌, ◌&&◌, Bool, true, List, [], ◌∷◌, Some, length, take, drop, get_or, min, arith}
+use Rattle.std.proofs.Common.{nat_le, ◌||◌, ◌≡◌, refl, sym, ap, ap₂, ◌∙◌, subst, ℕ, ◌+◌, ◌-◌, ◌*◌, ◌^◌, ◌≤◌, ◌==◌, ◌&&◌, Bool, true, List, [], ◌∷◌, Some, length, take, drop, get_or, min, arith}
 use Rattle.std.proofs.lemmas.Bool.{cond-true, eqb-true, false_from_ne_true}
 use Rattle.std.proofs.lemmas.Bool.Decides.{nat_tests}
 use Rattle.std.proofs.lemmas.List.{take_all}
-use Rattle.rx_tables.specs.Characters.{is_decimal_digit, is_within}
+use Rattle.rx_tables.specs.Characters.{is_decimal_digit}
 use Rattle.rx_units.specs.declared.code_point.CodePoint.{CodePoint}
 use Rattle.rx_units.specs.Units.{values}
-use Rattle.rx_model.specs.Environment.{Environment, is_unicode}
-use Rattle.rx_model.specs.Escapes.{front_is}
-use Rattle.rx_model.specs.Fronts.{backslash_front, digits, digits_behind, front, indexed_token, named_token}
-use Rattle.rx_model.specs.GroupFronts.{name_front, reference_front}
-use Rattle.rx_model.specs.Groups.{BeginsName, of_reference}
-use Rattle.rx_model.specs.Token.{indexed, named}
-use Rattle.rx_model.proofs.Fronts.{front_by_values}
+use Rattle.rx_model.specs.Inputs.Environment.{Environment, is_unicode}
+use Rattle.rx_model.specs.Characters.Escapes.{front_is}
+use Rattle.rx_model.specs.Reading.Fronts.{is_reference, backslash_front, digits, digits_behind, front, indexed_token, named_token}
+use Rattle.rx_model.specs.Groups.GroupFronts.{name_front, reference_front}
+use Rattle.rx_model.specs.Groups.Groups.{BeginsName, of_reference}
+use Rattle.rx_model.specs.Trees.Token.{indexed, named}
+use Rattle.rx_model.specs.Characters.LegacyEscapes.{run_number}
+use Rattle.rx_model.proofs.Reading.Fronts.{front_by_values}
 use Rattle.rx_parser.specs.Found.{IsFound, is_first_digit}
 use Rattle.rx_parser.specs.Names.{IsNameFound}
 use Rattle.rx_parser.specs.declared.found.Found.TheVariants as found
@@ -45,7 +46,7 @@ module _ (e : Environment) where
   indexed_there backslash [] n count rest h m d k = absurd (let no : ⊥ = cc d in no)
   indexed_there backslash (u ∷ us) n count rest h m d k =
       front_by_values e (backslash ∷ u ∷ us) 92 (values (u ∷ us)) refl (ap (λ c. c ∷ values (u ∷ us)) h)
-      ∙ cond-true (is_within 49 57 u.value && is_unicode e.mode) _ _ (ap₂ (λ a b. a && b) d m)
+      ∙ cond-true (is_reference e (values (u ∷ us))) _ _ (ap₂ (λ a b. a && (b || nat_le (run_number 0 (values (u ∷ us))) e.groups)) d m)
       ∙ ap indexed_token k
 
   -- a text that begins with `\k<`

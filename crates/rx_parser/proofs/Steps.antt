@@ -1,4 +1,4 @@
--- Each token moves the reading on, or may not follow.
+-- Each token moves the reading on.
 use Rattle.std.proofs.Common.{◌≡◌, refl, ap, sym, ◌∙◌, subst, ℕ, ◌+◌, Bool, true, false, Option, Some, List, [], ◌∷◌, ◌++◌, length, append_assoc}
 use Rattle.rx_units.specs.declared.code_point.CodePoint.{CodePoint}
 use Rattle.rx_base.specs.declared.span.Span.{Span}
@@ -9,25 +9,24 @@ use Rattle.rx_ast.specs.ClassTree.{Class, class}
 use Rattle.rx_ast.specs.Spans.{class_span}
 use Rattle.rx_ast.specs.Tree as tree
 use Rattle.rx_ast.specs.Tree.{leaf, mirror_term}
-use Rattle.rx_model.specs.ClassRows.{ClassRow, IsClassSpanned, Place, behind, fresh, outside}
-use Rattle.rx_model.specs.ClassTokens as in_class
-use Rattle.rx_model.specs.ClassTokens.{ClassEvents, members_events, operator_events}
-use Rattle.rx_model.specs.Environment.{Environment}
-use Rattle.rx_model.specs.Events.{Events, enter, inside, leave, modified, token, events, opener_event, term_events, tokens, tokens_of}
-use Rattle.rx_model.specs.Groups.{IsModifying}
-use Rattle.rx_model.specs.Rows.{Row, TokenRow}
-use Rattle.rx_model.specs.Shapes.{run, takes, group_takes, IsNode, IsWellMade}
-use Rattle.rx_model.specs.Token.{Token, Opener, bar, closer, ignoring, letter_bits, opener, opener_of, quantifier}
-use Rattle.rx_model.proofs.Flat.{tokens_of-append}
-use Rattle.rx_model.proofs.Joins.{row_append, row_split, row_tokens}
-use Rattle.rx_model.proofs.OneRow.{row_prefix}
-use Rattle.rx_model.proofs.Runs.{pattern_runs, run-append}
+use Rattle.rx_model.specs.Classes.ClassRows.{ClassRow, IsClassSpanned, Place, behind, fresh, outside}
+use Rattle.rx_model.specs.Classes.ClassTokens as in_class
+use Rattle.rx_model.specs.Classes.ClassTokens.{ClassEvents, members_events, operator_events}
+use Rattle.rx_model.specs.Inputs.Environment.{Environment}
+use Rattle.rx_model.specs.Trees.Events.{Events, enter, inside, leave, modified, token, events, opener_event, term_events, tokens_of}
+use Rattle.rx_model.specs.Groups.Groups.{IsModifying}
+use Rattle.rx_model.specs.Reading.Rows.{Row}
+use Rattle.rx_model.specs.Trees.Shapes.{run, takes, group_takes, IsNode, IsWellMade}
+use Rattle.rx_model.specs.Trees.Token.{Token, Opener, bar, closer, ignoring, letter_bits, opener, opener_of, quantifier}
+use Rattle.rx_model.proofs.Trees.Flat.{tokens_of-append}
+use Rattle.rx_model.proofs.Trees.Joins.{row_append, row_split}
+use Rattle.rx_model.proofs.Trees.Runs.{run-append}
 use Rattle.rx_parser.specs.declared.builder.Builder.{Builder}
 use Rattle.rx_parser.specs.declared.frame.Opening.{Opening}
 use Rattle.rx_parser.specs.Frames.{builder_events, opener_tree, openers, ready}
 use Rattle.rx_parser.specs.Good.{IsGood, IsGoodTerm}
 use Rattle.rx_parser.specs.Levels.{Repeats}
-use Rattle.rx_parser.specs.Progress.{IsLeafOf, IsAt, Advances, Refuses}
+use Rattle.rx_parser.specs.Progress.{IsLeafOf, IsAt, Advances}
 use Rattle.rx_parser.proofs.Leaves.{leaf_events, leaf_runs}
 
 abbrev state : List Opener → Bool → Option (List Opener × Bool)
@@ -41,7 +40,7 @@ row_ends : (e : Environment) (o : ℕ → ℕ) (es : ClassEvents) (n : ℕ) (p q
 row_ends e o [] n p q i j us rest h = h.0 ∙ ap o h.1.1
 row_ends e o ((in_class.enter k) ∷ es) n p q i j us rest h = row_ends e o es n p q i j us rest h.1
 row_ends e o ((in_class.leave k) ∷ es) n p q i j us rest h = row_ends e o es n p q i j us rest h.1
-row_ends e o ((in_class.token t) ∷ es) n p q i j us rest h = row_ends e o es n (behind t) q (i + length h.0) j h.1 rest h.4
+row_ends e o ((in_class.token t) ∷ es) n p q i j us rest h = row_ends e o es n (behind e.mode p t h.1) q (i + length h.0) j h.1 rest h.4
 
 class_start : (e : Environment) (o : ℕ → ℕ) (i : ℕ) (c : Class) (w rest : List CodePoint) → IsClassSpanned e o i c w rest → (class_span c).start ≡ o i
 class_start e o i (class s negative may kind ms) w rest h = h.row.0
@@ -125,12 +124,6 @@ module _ (e : Environment) where
       moves o b c (leave at ∷ leave at ∷ token closer ∷ leave after ∷ []) us i j (w ++ more) more m (a, (a, (w, more, refl, s, (z ∙ ap o k, (sym k, refl)))))
       (ap (λ x. run e.mode (closer ∷ []) x (ready b)) q.1 ∙ ap (state (openers c)) (ap (λ x. group_takes x q.0) (sym h.mode) ∙ sym q.2)) g d h
 
-  pub close_refuses : (b : Builder) → openers b ≡ [] → Refuses e b closer
-  close_refuses b o ts = ap (λ x. run e.mode (closer ∷ ts) x (ready b)) o
-
-  pub quantify_refuses : (b : Builder) (min : ℕ) (max : Option ℕ) (greedy : Bool) → ready b ≡ false → Refuses e b (quantifier min max greedy)
-  quantify_refuses b min max greedy r ts = ap (λ x. run e.mode (quantifier min max greedy ∷ ts) (openers b) x) r
-
   pub quantify_advances : (b c : Builder) (min : ℕ) (max : Option ℕ) (greedy : Bool) (at after : ℕ) → Repeats (builder_events b) (builder_events c) min max greedy after → ready b ≡ true
       → openers c ≡ openers b → ready c ≡ false → (IsGood b → IsGood c) → c.mode ≡ b.mode → Advances e b c (quantifier min max greedy) at after
   quantify_advances b c min max greedy at after rep q u r g d o i j us w more a z s k h =
@@ -161,20 +154,3 @@ module _ (e : Environment) where
         (row_append e o (builder_events b) (leave at ∷ leave at ∷ leave at ∷ []) 0 us (length us) [] (length us) [] h.row (a, (a, (a, (refl, refl))))),
     subst (λ x. IsWellMade x p) h.mode (g h.good),
   )
-
-  -- What a whole row of tokens that is accepted says of what is left: its tokens are those that have been read, and others that are accepted behind them.
-  abbrev pub IsAhead : Builder → List CodePoint → List Token → Bool → Type 0
-  IsAhead b rest ts after =
-      (xs : List Token) × TokenRow e xs rest [] × (run e.mode xs (openers b) (ready b) ≡ Some ([], after)) × (ts ≡ tokens_of (builder_events b) ++ xs)
-
-  pub ahead : (o : ℕ → ℕ) (b : Builder) (us : List CodePoint) (place : ℕ) (rest : List CodePoint) → IsAt e o b us place rest
-      → (ts : List Token) (after : Bool) → TokenRow e ts us [] → run e.mode ts [] false ≡ Some ([], after) → IsAhead b rest ts after
-  ahead o b us place rest h ts after r x =
-      let mine : List Token = tokens_of (builder_events b) in
-      let p = row_prefix e mine ts us rest (row_tokens e o (builder_events b) 0 us place rest h.row) r in
-      (p.0, p.2, sym (run-append e.mode mine p.0 [] false (openers b) (ready b) h.state) ∙ ap (λ z. run e.mode z [] false) (sym p.1) ∙ x, p.1)
-
-  -- the same of a pattern
-  pub pattern_ahead : (o : ℕ → ℕ) (b : Builder) (us : List CodePoint) (place : ℕ) (rest : List CodePoint) → IsAt e o b us place rest
-      → (p : Pattern) → IsWellMade e.mode p → TokenRow e (tokens p) us [] → (after : Bool) × IsAhead b rest (tokens p) after
-  pattern_ahead o b us place rest h p w r = let x = pattern_runs e.mode p w in (x.0, ahead o b us place rest h (tokens p) x.0 r x.1)

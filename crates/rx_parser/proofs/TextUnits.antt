@@ -3,7 +3,7 @@ use Rattle.std.proofs.Common.{◌≡◌, refl, ap, sym, ◌∙◌, ℕ, arith, t
 use Rattle.std.specs.Str.{chars, IsUtf8}
 use Rattle.std.proofs.lemmas.Str.{encodes-chars}
 use lib.Utf8.{encodes}
-use Rattle.rx_model.specs.Reading.{literal_text}
+use Rattle.rx_model.specs.Reading.Reading.{literal_text}
 
 some_text : (cs : List ℕ) → (cs ≡ [] → ⊥) → cs ≡ literal_text cs
 some_text [] h = absurd (h refl)

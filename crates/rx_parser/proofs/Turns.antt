@@ -1,5 +1,5 @@
 -- A token that stands next moves a parse on, or refuses the text.
-use Rattle.std.proofs.Common.{◌≡◌, refl, ap, sym, ◌∙◌, subst, ℕ, ◌+◌, ◌-◌, ◌<◌, ◌≤◌, Bool, true, false, Option, Some, None, List, [], ◌∷◌, ◌++◌, length, drop, get_or, arith, append_assoc, length-append, length-drop, Contains}
+use Rattle.std.proofs.Common.{◌≡◌, refl, ap, sym, ◌∙◌, subst, ℕ, ◌+◌, ◌-◌, ◌<◌, ◌≤◌, Bool, true, false, Option, Some, List, [], ◌∷◌, ◌++◌, length, drop, get_or, arith, append_assoc, length-append, length-drop, Contains}
 use Rattle.std.specs.Prelude.{All, OnOk, Result, Ok, Err, eqb, min}
 use lib.Pointwise.{pointwise}
 use Rattle.std.proofs.Math.Seq.{drop-append_seam}
@@ -21,20 +21,20 @@ use Rattle.rx_units.specs.Reading.{Reading, moved, offset_of, rest}
 use Rattle.rx_units.specs.Units.{offset_at}
 use Rattle.rx_model.specs.declared.mode.Mode.{Mode}
 use Rattle.rx_model.specs.declared.mode.Mode.TheVariants.{Unicode}
-use Rattle.rx_model.specs.Causes.{IsCauseAtPlace, at_place, lone, no_such_name}
-use Rattle.rx_model.specs.ClassRows.{IsClassSpanned}
-use Rattle.rx_model.specs.Early.{Obeys, most_groups}
-use Rattle.rx_model.specs.Environment.{Environment, environment_with, has_some, is_unicode}
-use Rattle.rx_model.specs.Events.{Events, enter, leave, modified, token, opener_event, term_events, tokens_of}
-use Rattle.rx_model.specs.Fronts.{front}
-use Rattle.rx_model.specs.Groups.{IsModified, IsModifying}
-use Rattle.rx_model.specs.Names.{is_among}
-use Rattle.rx_model.specs.Reached.{IsPlace, HasNoClash, IsReached, span_between, text_environment, text_groups, text_names}
-use Rattle.rx_model.specs.Rows.{Spells, TokenRow}
-use Rattle.rx_model.specs.Shapes.{run, takes, group_takes}
-use Rattle.rx_model.specs.Token.{Token, Opener, bar, capturing, class, closer, ignoring, letter_bits, named, opener, opener_of, quantifier}
-use Rattle.rx_model.proofs.Flat.{tokens_of-append}
-use Rattle.rx_model.proofs.Fronts.{front_spelled, spelled_front, spelled_some}
+use Rattle.rx_model.specs.Refusals.Causes.{IsCauseAtPlace, at_place, lone, no_such_name}
+use Rattle.rx_model.specs.Classes.ClassRows.{IsClassSpanned}
+use Rattle.rx_model.specs.Trees.Early.{Obeys, most_groups}
+use Rattle.rx_model.specs.Inputs.Environment.{Environment, environment_with, has_some, is_unicode}
+use Rattle.rx_model.specs.Trees.Events.{Events, enter, leave, modified, token, opener_event, term_events, tokens_of}
+use Rattle.rx_model.specs.Reading.Fronts.{front}
+use Rattle.rx_model.specs.Groups.Groups.{IsModified, IsModifying}
+use Rattle.rx_model.specs.Trees.Names.{is_among}
+use Rattle.rx_model.specs.Refusals.Reached.{IsPlace, HasNoClash, IsReached, span_between, text_environment, text_groups, text_names}
+use Rattle.rx_model.specs.Reading.Rows.{Spells}
+use Rattle.rx_model.specs.Trees.Shapes.{takes, group_takes}
+use Rattle.rx_model.specs.Trees.Token.{Token, Opener, bar, capturing, class, closer, ignoring, letter_bits, named, opener, opener_of, quantifier}
+use Rattle.rx_model.proofs.Trees.Flat.{tokens_of-append}
+use Rattle.rx_model.proofs.Reading.Fronts.{front_spelled, spelled_some}
 use Rattle.rx_scan.proofs.KnownNames.{same_name_Decides}
 use Rattle.rx_parser.specs.declared.builder.Builder.{Builder}
 use Rattle.rx_parser.specs.declared.found.Found.{Found}
@@ -52,8 +52,8 @@ use Rattle.rx_parser.specs.Parsing.{IsParsing, IsRefused}
 use Rattle.rx_parser.specs.Progress.{IsAt, IsLeafOf}
 use Rattle.rx_parser.specs.Turns.{IsBefore, IsTurned}
 use Rattle.rx_parser.proofs.Leaves.{leaf_events}
-use Rattle.rx_parser.proofs.Places.{dead_end, reached, read_ahead}
-use Rattle.rx_parser.proofs.Steps.{leaf_advances, class_advances, bar_advances, close_advances, modified_advances, open_advances, quantify_advances, quantify_refuses}
+use Rattle.rx_parser.proofs.Places.{reached}
+use Rattle.rx_parser.proofs.Steps.{leaf_advances, class_advances, bar_advances, close_advances, modified_advances, open_advances, quantify_advances}
 
 -- the offset of a reader that has moved
 pub moved_offset : (at added n : ℕ) (r s : Reading) → at ≡ offset_of s + added → s ≡ moved n r → at ≡ offset_at r.first r.units (min (r.place + n) (length r.units)) + added
@@ -88,14 +88,6 @@ place_moves us place n t l s =
     let f = front_spelled text (drop place us) t n s.read in
     omega (arith, place_on us place n l s.within, f.count, spelled_some text t f.w f.rest f.spells)
 
--- what is there is one
-one_of : {A : Type 0} {x y : A} → Some x ≡ Some y → x ≡ y
-one_of h = cc
-
--- one token stands next
-same_token : (e : Environment) (us : List CodePoint) (s t : Token) (n k : ℕ) → front e us ≡ Some (s, n) → front e us ≡ Some (t, k) → s ≡ t
-same_token e us s t n k f g = ap (λ x. x.0) (one_of (sym f ∙ g))
-
 -- events with one token add it
 one_more : (old new es : Events) (t : Token) → new ≡ old ++ es → tokens_of es ≡ t ∷ [] → tokens_of new ≡ tokens_of old ++ (t ∷ [])
 one_more old new es t e k = ap tokens_of e ∙ tokens_of-append old es ∙ ap (λ ts. tokens_of old ++ ts) k
@@ -126,6 +118,10 @@ between_same at after start end a z = ap (λ x. between x after) a ∙ ap (betwe
 -- What a group begins with is a token among the events.
 abbrev HasToken : Opening → Type 0
 HasToken begun = opener_event (opener_tree begun) ≡ token (opener (opener_of (opener_tree begun)))
+
+-- what is there is one
+one_of : {A : Type 0} {x y : A} → Some x ≡ Some y → x ≡ y
+one_of h = cc
 
 -- one name stands in a group's beginning, or in a reference
 pub one_name : (unicode_mode : Bool) (us : List CodePoint) (name other : List ℕ) (n : ℕ) → HoldsName unicode_mode us name n → HoldsName unicode_mode us other n → name ≡ other
@@ -295,17 +291,6 @@ module _ (us : List CodePoint) (first added : ℕ) (b : Builder) (place : ℕ) (
   open_moves c (opening.LookAround kind) begun o n at after source s f g a z k =
       plain_moves c begun o n at after (is_next us place (opener o) n s) (subst HasToken (sym g) refl) (ap (λ x. opener_of (opener_tree x)) g ∙ sym f) a z k
 
-  -- A token that may not follow stands next: no tree reads the text.
-  refuses : (t : Token) (n : ℕ) → front text (drop place us) ≡ Some (t, n) → ((ts : List Token) → run Unicode (t ∷ ts) (openers b) (ready b) ≡ None)
-      → (xs : List Token) (after : Bool) → TokenRow text xs (drop place us) [] → run Unicode xs (openers b) (ready b) ≡ Some ([], after) → ⊥
-  unfolding front
-  refuses t n f bad [] after r x = let m : front text (drop place us) ≡ None = ap (front text) r in let k : ⊥ = cc (m, f) in k
-  refuses t n f bad (y ∷ xs) after r x =
-      let m : front text (drop place us) ≡ Some (y, length r.0) = ap (front text) r.2 ∙ spelled_front text y r.0 r.1 r.3 in
-      let same : t ≡ y = same_token text (drop place us) t y n (length r.0) f m in
-      let none : run Unicode (y ∷ xs) (openers b) (ready b) ≡ None = subst (λ z. run Unicode (z ∷ xs) (openers b) (ready b) ≡ None) same (bad xs) in
-      let k : ⊥ = cc (none, x) in k
-
   module _ (no_clash : HasNoClash Unicode us) (limit : text_groups us ≤ most_groups) where
     -- A quantifier stands where none may follow.
     pub lone_refused : (min : ℕ) (max : Option ℕ) (greedy : Bool) (n at after : ℕ) → IsNext us place (quantifier min max greedy) n → at ≡ offset place → after ≡ offset (next n) → ready b ≡ false
@@ -317,30 +302,25 @@ module _ (us : List CodePoint) (first added : ℕ) (b : Builder) (place : ℕ) (
         let here : IsReached Unicode us place (openers b) false (f.w ++ f.rest) =
         subst (λ r. IsReached Unicode us place (openers b) r (f.w ++ f.rest)) q (subst (IsReached Unicode us place (openers b) (ready b)) f.whole (reached us first added b place h)) in
         let obeying : Token → Type 0 = Obeys (text_groups us) (text_names Unicode us) in
-        let span : between at after ≡ span_between us first added place (place + length f.w) = between_same at after (offset place) (offset (place + length f.w)) a (z ∙ ap offset on) in (
-          at_place no_clash limit (subst (λ k. IsCauseAtPlace Unicode us first added (LoneQuantifier k)) (sym span)
-              (lone place min max greedy (openers b) f.w f.rest here refl f.spells (All-cons obeying t [] s.obeys (All-nil obeying)))),
-          λ p r. let x = read_ahead us first added b place h p r in refuses t n s.read (quantify_refuses text b min max greedy q) x.1.0 x.0 x.1.1 x.1.2,
-        )
+        let span : between at after ≡ span_between us first added place (place + length f.w) = between_same at after (offset place) (offset (place + length f.w)) a (z ∙ ap offset on) in
+        at_place place no_clash limit (subst (λ k. IsCauseAtPlace Unicode us first added place (LoneQuantifier k)) (sym span)
+        (lone place min max greedy (openers b) f.w f.rest here refl f.spells (All-cons obeying t [] s.obeys (All-nil obeying))))
 
     -- A reference has a name that no group has.
-    pub name_refused : (name : List ℕ) (n at after : ℕ) (held : List (List ℕ)) → front text (drop place us) ≡ Some (named name, n) → n ≤ length (drop place us) → place < length us
+    pub name_refused : (name : List ℕ) (n at after : ℕ) (held : List (List ℕ)) → front text (drop place us) ≡ Some (named name, n) → n ≤ length (drop place us)
         → at ≡ offset place → after ≡ offset (next n) → held ≡ text_names Unicode us → is_among held name ≡ false
         → IsRefused Unicode us first added (Diagnostic (InvalidNamedReference (record { start = at; end = after }) held))
-    name_refused name n at after held s w l a z e none =
+    name_refused name n at after held s w a z e none =
         let t : Token = named name in
         let f = front_spelled text (drop place us) t n s in
         let on : next n ≡ place + length f.w = place_on us place n h.within w ∙ ap (λ k. place + k) (sym f.count) in
         let unknown : Contains (text_names Unicode us) name → ⊥ = λ c. true≢false (sym (contains_among (text_names Unicode us) name c) ∙ ap (λ others. is_among others name) (sym e) ∙ none) in
         let here : IsPlace Unicode us place (f.w ++ f.rest) =
         record { open_groups = openers b; ready = ready b; reached = subst (IsReached Unicode us place (openers b) (ready b)) f.whole (reached us first added b place h) } in
-        let span : between at after ≡ span_between us first added place (place + length f.w) = between_same at after (offset place) (offset (place + length f.w)) a (z ∙ ap offset on) in (
-          at_place no_clash limit (subst (λ k. IsCauseAtPlace Unicode us first added (InvalidNamedReference k held)) (sym span)
-              (subst (λ others. IsCauseAtPlace Unicode us first added (InvalidNamedReference (span_between us first added place (place + length f.w)) others)) (sym e)
-              (no_such_name place name f.w f.rest here f.spells unknown))),
-          dead_end us first added b place h l
-              (λ u k g o. unknown (subst (Obeys (text_groups us) (text_names Unicode us)) (same_token text (drop place us) u t k n g s) o)),
-        )
+        let span : between at after ≡ span_between us first added place (place + length f.w) = between_same at after (offset place) (offset (place + length f.w)) a (z ∙ ap offset on) in
+        at_place place no_clash limit (subst (λ k. IsCauseAtPlace Unicode us first added place (InvalidNamedReference k held)) (sym span)
+        (subst (λ others. IsCauseAtPlace Unicode us first added place (InvalidNamedReference (span_between us first added place (place + length f.w)) others)) (sym e)
+        (no_such_name place name f.w f.rest here f.spells unknown)))
 
 -- A token that stands next has been read.
 pub turned : (added n : ℕ) (b c : Builder) (r s : Reading) (t : Token) → IsBefore added b r → IsNext r.units r.place t n → s ≡ moved n r → c.mode ≡ b.mode

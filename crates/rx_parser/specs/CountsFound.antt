@@ -2,8 +2,8 @@
 use Rattle.std.specs.Prelude.{◌≡◌, ℕ, ◌+◌, ◌<◌, ◌≤◌, List, ◌∷◌, ◌++◌, length, drop}
 use Rattle.rx_units.specs.declared.code_point.CodePoint.{CodePoint}
 use Rattle.rx_units.specs.Units.{values}
-use Rattle.rx_model.specs.Fronts.{digits, digits_behind, counts, no_counts, counts_at, counts_in_braces, counts_behind_comma}
-use Rattle.rx_model.specs.Quantifiers.{PassesDecimal, PassesLimit}
+use Rattle.rx_model.specs.Reading.Fronts.{digits, digits_behind, counts, no_counts, counts_at, counts_in_braces, counts_behind_comma}
+use Rattle.rx_model.specs.Quantifiers.Quantifiers.{PassesDecimal, PassesLimit}
 use Rattle.rx_parser.specs.declared.counts.DigitsFound.{DigitsFound}
 use Rattle.rx_parser.specs.declared.counts.DigitsFound.TheVariants as digits_found
 use Rattle.rx_parser.specs.declared.counts.CountsFound.{CountsFound}

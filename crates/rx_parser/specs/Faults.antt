@@ -9,9 +9,9 @@ use Rattle.rx_base.specs.declared.diagnostic.kinds.Unterminated.TheVariants.{Gro
 use Rattle.rx_base.specs.declared.span.Span.{Span}
 use Rattle.rx_units.specs.declared.code_point.CodePoint.{CodePoint}
 use Rattle.rx_units.specs.Units.{offset_at}
-use Rattle.rx_model.specs.Causes.{unterminated}
-use Rattle.rx_model.specs.Reached.{span_between}
-use Rattle.rx_model.specs.Token.{opener_of}
+use Rattle.rx_model.specs.Refusals.Causes.{unterminated}
+use Rattle.rx_model.specs.Refusals.Reached.{span_between}
+use Rattle.rx_model.specs.Trees.Token.{opener_of}
 use Rattle.rx_parser.specs.Frames.{opener_tree}
 use Rattle.rx_parser.specs.HaltPlaces.{halt_end, halt_start}
 use Rattle.rx_parser.specs.declared.builder.Builder.{Builder}

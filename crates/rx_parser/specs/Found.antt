@@ -4,19 +4,19 @@ use Rattle.rx_tables.specs.Characters.{is_within}
 use Rattle.rx_ast.specs.declared.leaf.BoundaryAssertionKind.{BoundaryAssertionKind}
 use Rattle.rx_units.specs.declared.code_point.CodePoint.{CodePoint}
 use Rattle.rx_units.specs.Units.{values}
-use Rattle.rx_model.specs.Causes.{HasBraces, IsOutOfOrder, IsTooLarge, LeadNowhere}
-use Rattle.rx_model.specs.Early.{Obeys}
-use Rattle.rx_model.specs.Environment.{Environment, is_unicode}
-use Rattle.rx_model.specs.Fronts.{boundary_at, front}
-use Rattle.rx_model.specs.GroupNameReading.{name_of}
-use Rattle.rx_model.specs.Groups.{BeginsName}
-use Rattle.rx_model.specs.Marks.{starts}
-use Rattle.rx_model.specs.Modifiers.{AreSides, has_twice, share_some}
-use Rattle.rx_model.specs.PropertyForms.{begins_property}
-use Rattle.rx_model.specs.Quantifiers.{PassesLimit}
-use Rattle.rx_model.specs.Stops.{IsStop}
-use Rattle.rx_model.specs.Token.{Token, Opener, boundary, character, dot, class_escape, indexed, named, opener, closer, bar, quantifier, capturing, ignoring, looking}
-use Rattle.rx_model.specs.UnicodeEscapes.{Decodes, PassesHex}
+use Rattle.rx_model.specs.Refusals.Causes.{HasBraces, IsOutOfOrder, IsTooLarge, LeadNowhere}
+use Rattle.rx_model.specs.Trees.Early.{Obeys}
+use Rattle.rx_model.specs.Inputs.Environment.{Environment, is_unicode}
+use Rattle.rx_model.specs.Reading.Fronts.{boundary_at, front}
+use Rattle.rx_model.specs.Groups.GroupNameReading.{name_of}
+use Rattle.rx_model.specs.Groups.Groups.{BeginsName}
+use Rattle.rx_model.specs.FirstPass.Marks.{starts}
+use Rattle.rx_model.specs.Groups.Modifiers.{AreSides, has_twice, share_some}
+use Rattle.rx_model.specs.Properties.PropertyForms.{begins_property}
+use Rattle.rx_model.specs.Quantifiers.Quantifiers.{PassesLimit}
+use Rattle.rx_model.specs.Refusals.Stops.{IsStop}
+use Rattle.rx_model.specs.Trees.Token.{Token, Opener, boundary, character, dot, class_escape, indexed, named, opener, closer, bar, quantifier, capturing, ignoring, looking}
+use Rattle.rx_model.specs.Characters.UnicodeEscapes.{Decodes, PassesHex}
 use Rattle.rx_parser.specs.HaltPlaces.{halt_end}
 use Rattle.rx_parser.specs.Names.{IsHaltInName}
 use Rattle.rx_parser.specs.declared.found.Leaf.{Leaf}
@@ -110,7 +110,7 @@ IsNoEscape us start n =
 
 -- no token is read here, for this reason
 abbrev pub IsHalt : Environment → List CodePoint → Halt → Type 0
-IsHalt e us (halt.Stop behind) = (front e us ≡ None) × IsStop e us behind × (starts 41 (values us) ≡ false)
+IsHalt e us (halt.Stop behind) = IsStop e us behind × (starts 41 (values us) ≡ false)
 IsHalt e us (halt.OutOfOrder n) = StandBraces IsOutOfOrder n us
 IsHalt e us (halt.TooLarge n) = StandBraces (λ min max. (IsOutOfOrder min max → ⊥) × IsTooLarge min max) n us
 IsHalt e us (halt.TooManyDigits start many) = PassesLimit (values us) start many

@@ -1,8 +1,8 @@
 -- What has been read of a pattern, as events.
 use Rattle.std.specs.Prelude.{Bool, List, [], ◌∷◌, ◌++◌, map}
 use Rattle.rx_ast.specs.Tree as tree
-use Rattle.rx_model.specs.Events.{Events, enter, opener_event}
-use Rattle.rx_model.specs.Token.{Opener, opener_of}
+use Rattle.rx_model.specs.Trees.Events.{Events, enter, opener_event}
+use Rattle.rx_model.specs.Trees.Token.{Opener, opener_of}
 use Rattle.rx_parser.specs.declared.builder.Builder.{Builder}
 use Rattle.rx_parser.specs.declared.frame.Frame.{Frame}
 use Rattle.rx_parser.specs.declared.frame.Opening.{Opening}

@@ -5,7 +5,7 @@ use Rattle.rx_ast.specs.declared.term.Disjunction.{Disjunction}
 use Rattle.rx_ast.specs.declared.term.Term.{Term}
 use Rattle.rx_ast.specs.Tree.{mirror_term, mirror_alternative, mirror_disjunction}
 use Rattle.rx_model.specs.declared.mode.Mode.{Mode}
-use Rattle.rx_model.specs.Shapes.{IsNode, AreNodes, HasAlternatives}
+use Rattle.rx_model.specs.Trees.Shapes.{IsNode, AreNodes, HasAlternatives}
 use Rattle.rx_parser.specs.declared.builder.Builder.{Builder}
 use Rattle.rx_parser.specs.declared.frame.Frame.{Frame}
 use Rattle.rx_parser.specs.declared.level.Level.{Level}

@@ -3,9 +3,9 @@ use Rattle.std.specs.Prelude.{◌≡◌, ℕ, Bool, false, Option, List, [], ◌
 use Rattle.rx_ast.specs.declared.term.Term.{Term}
 use Rattle.rx_ast.specs.Tree.{mirror_term}
 use Rattle.rx_model.specs.declared.mode.Mode.{Mode}
-use Rattle.rx_model.specs.Events.{Events, enter, leave, token, term_events, alternative_events}
-use Rattle.rx_model.specs.Shapes.{takes}
-use Rattle.rx_model.specs.Token.{bar, quantifier}
+use Rattle.rx_model.specs.Trees.Events.{Events, enter, leave, token, term_events, alternative_events}
+use Rattle.rx_model.specs.Trees.Shapes.{takes}
+use Rattle.rx_model.specs.Trees.Token.{bar, quantifier}
 use Rattle.rx_parser.specs.declared.level.Level.{Level}
 
 -- one behind the other

@@ -1,8 +1,8 @@
 -- What the readers of modifiers answer.
 use Rattle.std.specs.Prelude.{ℕ, ◌==◌, List, Option, Some, None, if◌then◌else◌}
 use Rattle.rx_units.specs.Units.{values}
-use Rattle.rx_model.specs.GroupFronts.{SidesRead, sides}
-use Rattle.rx_model.specs.Modifiers.{has_twice, letters_bits}
+use Rattle.rx_model.specs.Groups.GroupFronts.{SidesRead, sides}
+use Rattle.rx_model.specs.Groups.Modifiers.{has_twice, letters_bits}
 use Rattle.rx_parser.specs.declared.modifiers.Sides.{Sides}
 
 -- the bit of a letter (RegularExpressionModifier, 22.2.1)

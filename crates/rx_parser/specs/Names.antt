@@ -2,11 +2,11 @@
 use Rattle.std.specs.Prelude.{◌≡◌, ℕ, ◌+◌, ◌≤◌, Bool, true, false, ◌&&◌, Some, List, ◌∷◌, length, drop, take}
 use Rattle.rx_units.specs.declared.code_point.CodePoint.{CodePoint}
 use Rattle.rx_units.specs.Units.{values}
-use Rattle.rx_model.specs.GroupFronts.{name_front}
-use Rattle.rx_model.specs.GroupNameReading.{name_of}
-use Rattle.rx_model.specs.GroupNames.{IsNameRow}
-use Rattle.rx_model.specs.Marks.{starts}
-use Rattle.rx_model.specs.UnicodeEscapes.{Decodes, PassesHex}
+use Rattle.rx_model.specs.Groups.GroupFronts.{name_front}
+use Rattle.rx_model.specs.Groups.GroupNameReading.{name_of}
+use Rattle.rx_model.specs.Groups.GroupNames.{IsNameRow}
+use Rattle.rx_model.specs.FirstPass.Marks.{starts}
+use Rattle.rx_model.specs.Characters.UnicodeEscapes.{Decodes, PassesHex}
 use Rattle.rx_parser.specs.HaltPlaces.{halt_end}
 use Rattle.rx_parser.specs.declared.found.Halt.{Halt}
 use Rattle.rx_parser.specs.declared.found.Halt.TheVariants as halt

@@ -1,6 +1,6 @@
 -- Which texts are not read yet: those of a mode that no reader takes.
 use Rattle.std.specs.Prelude.{ℕ, Bool, true, false, not, ◌&&◌, List, Option}
-use Rattle.rx_model.specs.Flags.{flags_of, flags_ok, mode_of}
+use Rattle.rx_model.specs.Inputs.Flags.{flags_of, flags_ok, mode_of}
 use Rattle.rx_model.specs.declared.mode.Mode.{Mode}
 use Rattle.rx_model.specs.declared.mode.Mode.TheVariants.{Legacy, Unicode, Sets}
 

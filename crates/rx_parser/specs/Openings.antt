@@ -1,7 +1,7 @@
 -- What an open group is said to have begun with.
 use Rattle.std.specs.Prelude.{◌≡◌, ℕ, ◌+◌, ◌-◌, Some, None, List, true}
 use Rattle.rx_units.specs.Reading.{Reading, rest}
-use Rattle.rx_model.specs.Reached.{span_between}
+use Rattle.rx_model.specs.Refusals.Reached.{span_between}
 use Rattle.rx_parser.specs.Found.{HoldsName}
 use Rattle.rx_parser.specs.declared.found.OpenerFound.{OpenerFound}
 use Rattle.rx_parser.specs.declared.found.OpenerFound.TheVariants as found

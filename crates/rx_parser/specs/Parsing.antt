@@ -2,16 +2,14 @@
 use Rattle.std.specs.Prelude.{◌≡◌, ℕ, ◌+◌, ◌≤◌, List, length, drop}
 use Rattle.rx_base.specs.declared.fault.Fault.{Fault}
 use Rattle.rx_base.specs.declared.fault.Fault.TheVariants.{OutOfMemory, NotYet, Diagnostic}
-use Rattle.rx_ast.specs.declared.term.Pattern.{Pattern}
 use Rattle.rx_units.specs.declared.code_point.CodePoint.{CodePoint}
 use Rattle.rx_units.specs.Units.{offset_at}
 use Rattle.rx_model.specs.declared.mode.Mode.{Mode}
-use Rattle.rx_model.specs.Causes.{IsCause}
-use Rattle.rx_model.specs.Early.{most_groups}
-use Rattle.rx_model.specs.Events.{tokens_of}
-use Rattle.rx_model.specs.Reached.{AreObeying, HasNoClash, text_environment, text_groups, text_names}
-use Rattle.rx_model.specs.Modes.{mode_by}
-use Rattle.rx_model.specs.Reading.{Reads}
+use Rattle.rx_model.specs.Refusals.Causes.{IsCause}
+use Rattle.rx_model.specs.Trees.Early.{most_groups}
+use Rattle.rx_model.specs.Trees.Events.{tokens_of}
+use Rattle.rx_model.specs.Refusals.Reached.{AreObeying, HasNoClash, text_environment, text_groups, text_names}
+use Rattle.rx_model.specs.Inputs.Modes.{mode_by}
 use Rattle.rx_scan.specs.declared.state.State.{State}
 use Rattle.rx_parser.specs.Frames.{builder_events}
 use Rattle.rx_parser.specs.Progress.{IsAt}
@@ -35,12 +33,8 @@ pub record IsParsing (mode : Mode) (us : List CodePoint) (first added : ℕ) (b 
   pub within : place ≤ length us
   pub obey : AreObeying mode us (tokens_of (builder_events b))
 
--- no tree reads the text
-abbrev pub IsInvalid : Mode → List CodePoint → Type 0
-IsInvalid mode us = (p : Pattern) → Reads mode p us → ⊥
-
--- the fault of a text that is read already: memory is wanting, or it is refused with its cause, and no tree reads it
+-- the fault of a text that is read already: memory is wanting, or it is refused with its cause
 abbrev pub IsRefused : Mode → List CodePoint → ℕ → ℕ → Fault → Type 0
 IsRefused mode us first added OutOfMemory = Unit {0}
 IsRefused mode us first added NotYet = ⊥
-IsRefused mode us first added (Diagnostic cause) = IsCause mode us first added cause × IsInvalid mode us
+IsRefused mode us first added (Diagnostic cause) = IsCause mode us first added cause

@@ -1,14 +1,14 @@
 -- How far a pattern has been read.
-use Rattle.std.specs.Prelude.{◌≡◌, ℕ, ◌+◌, Bool, false, Some, None, List, [], ◌∷◌, ◌++◌, length}
+use Rattle.std.specs.Prelude.{◌≡◌, ℕ, ◌+◌, Bool, false, Some, List, [], ◌∷◌, ◌++◌, length}
 use Rattle.rx_ast.specs.declared.term.Term.{Term}
 use Rattle.rx_ast.specs.Tree.{mirror_term}
 use Rattle.rx_units.specs.declared.code_point.CodePoint.{CodePoint}
 use Rattle.rx_model.specs.declared.mode.Mode.{Mode}
-use Rattle.rx_model.specs.Environment.{Environment}
-use Rattle.rx_model.specs.Events.{enter, leave, token, term_events, tokens_of}
-use Rattle.rx_model.specs.Rows.{Row, Spells}
-use Rattle.rx_model.specs.Shapes.{run, takes}
-use Rattle.rx_model.specs.Token.{Token, Opener}
+use Rattle.rx_model.specs.Inputs.Environment.{Environment}
+use Rattle.rx_model.specs.Trees.Events.{enter, leave, token, term_events, tokens_of}
+use Rattle.rx_model.specs.Reading.Rows.{Row, Spells}
+use Rattle.rx_model.specs.Trees.Shapes.{run, takes}
+use Rattle.rx_model.specs.Trees.Token.{Token, Opener}
 use Rattle.rx_parser.specs.declared.builder.Builder.{Builder}
 use Rattle.rx_parser.specs.Frames.{builder_events, openers, ready}
 use Rattle.rx_parser.specs.Good.{IsGood, IsGoodTerm}
@@ -32,7 +32,3 @@ abbrev pub Advances : Environment → Builder → Builder → Token → ℕ → 
 Advances e old new t at after =
     (o : ℕ → ℕ) (i j : ℕ) (us w more : List CodePoint) → at ≡ o i → after ≡ o j → Spells e t w more → j ≡ i + length w →
     IsAt e o old us i (w ++ more) → IsAt e o new us j more
-
--- The token may not follow.
-abbrev pub Refuses : Environment → Builder → Token → Type 0
-Refuses e b t = (ts : List Token) → run e.mode (t ∷ ts) (openers b) (ready b) ≡ None

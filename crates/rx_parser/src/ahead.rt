@@ -1,6 +1,6 @@
 ghost use Rattle.std.specs.Prelude.{◌≡◌, ◌<◌, IsTrue, drop, length};
 ghost use Rattle.rx_units.specs.Units.{values};
-ghost use Rattle.rx_model.specs.Marks.{starts};
+ghost use Rattle.rx_model.specs.FirstPass.Marks.{starts};
 
 use rx_units::CodePoint;
 

@@ -1,8 +1,8 @@
 ghost use Rattle.std.specs.Prelude.{◌≡◌, ◌++◌, ◌∷◌, [], List, None, IfOk, IfSome, OnOk, IsTrue, ◌↔◌, false};
 ghost use Rattle.rx_ast.specs.Tree.{mirror_term};
-ghost use Rattle.rx_model.specs.Events.{enter, leave, token, events, opener_event, term_events};
-ghost use Rattle.rx_model.specs.Shapes.{group_takes, takes, IsWellMade};
-ghost use Rattle.rx_model.specs.Token.{bar, closer, opener_of, Opener};
+ghost use Rattle.rx_model.specs.Trees.Events.{enter, leave, token, events, opener_event, term_events};
+ghost use Rattle.rx_model.specs.Trees.Shapes.{group_takes, takes, IsWellMade};
+ghost use Rattle.rx_model.specs.Trees.Token.{bar, closer, opener_of, Opener};
 ghost use Rattle.rx_parser.specs.declared.frame.Frame.{Frame};
 ghost use Rattle.rx_parser.specs.Frames.{builder_events, opener_tree, openers, ready};
 ghost use Rattle.rx_parser.specs.Good.{IsGood, IsGoodTerm};

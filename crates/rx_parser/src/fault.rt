@@ -1,6 +1,6 @@
 ghost use Rattle.std.specs.Prelude.{◌≡◌, ◌+◌, ◌^◌, ◌<◌, ◌≤◌};
 ghost use Rattle.rx_units.specs.Reading.{offset_of};
-ghost use Rattle.rx_model.specs.Reached.{span_between};
+ghost use Rattle.rx_model.specs.Refusals.Reached.{span_between};
 ghost use Rattle.rx_class.specs.Fitting.{AreFitting};
 ghost use Rattle.rx_parser.specs.Faults.{IsEndedFault, IsHaltFault, IsSmall, halt_refusal, modifiers_refusal};
 ghost use Rattle.rx_parser.specs.HaltPlaces.{halt_end, halt_start};

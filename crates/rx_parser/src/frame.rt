@@ -1,7 +1,7 @@
 ghost use Rattle.std.specs.Prelude.{◌≡◌, IfOk};
 ghost use Rattle.rx_ast.specs.Tree.{group, mirror_disjunction, mirror_term};
-ghost use Rattle.rx_model.specs.Causes.{unterminated};
-ghost use Rattle.rx_model.specs.Token.{opener_of};
+ghost use Rattle.rx_model.specs.Refusals.Causes.{unterminated};
+ghost use Rattle.rx_model.specs.Trees.Token.{opener_of};
 ghost use Rattle.rx_parser.specs.Frames.{opener_tree};
 
 use crate::Level;

@@ -5,11 +5,11 @@ ghost use Rattle.rx_units.specs.Units.{values};
 ghost use Rattle.rx_tables.specs.Characters.{is_syntax_character};
 ghost use Rattle.rx_class.specs.Found.{class_escape_front};
 ghost use Rattle.rx_model.specs.declared.mode.Mode.{Mode};
-ghost use Rattle.rx_model.specs.Boundaries.{has_buffers};
-ghost use Rattle.rx_model.specs.Causes.{IsOutOfOrder, IsTooLarge};
-ghost use Rattle.rx_model.specs.Environment.{Environment, environment_with, is_unicode};
-ghost use Rattle.rx_model.specs.Escapes.{front_is};
-ghost use Rattle.rx_model.specs.PropertyForms.{begins_property};
+ghost use Rattle.rx_model.specs.Reading.Boundaries.{has_buffers};
+ghost use Rattle.rx_model.specs.Refusals.Causes.{IsOutOfOrder, IsTooLarge};
+ghost use Rattle.rx_model.specs.Inputs.Environment.{Environment, environment_with, is_unicode};
+ghost use Rattle.rx_model.specs.Characters.Escapes.{front_is};
+ghost use Rattle.rx_model.specs.Properties.PropertyForms.{begins_property};
 ghost use Rattle.rx_parser.specs.CountsFound.{IsCountsFound};
 ghost use Rattle.rx_parser.specs.Found.{IsFound, begins_reference, boundary_front, closes_or_repeats, is_first_digit};
 

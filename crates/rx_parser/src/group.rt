@@ -1,9 +1,9 @@
 ghost use Rattle.std.specs.Prelude.{◌≡◌, ◌∷◌, false};
 ghost use Rattle.rx_units.specs.declared.code_point.CodePoint.{CodePoint};
 ghost use Rattle.rx_units.specs.Units.{values};
-ghost use Rattle.rx_model.specs.Environment.{Environment, is_unicode};
-ghost use Rattle.rx_model.specs.Escapes.{front_is};
-ghost use Rattle.rx_model.specs.Groups.{looks};
+ghost use Rattle.rx_model.specs.Inputs.Environment.{Environment, is_unicode};
+ghost use Rattle.rx_model.specs.Characters.Escapes.{front_is};
+ghost use Rattle.rx_model.specs.Groups.Groups.{looks};
 ghost use Rattle.rx_parser.specs.Found.{IsFound};
 
 use crate::found::{Found, OpenerFound};

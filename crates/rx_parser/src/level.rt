@@ -1,9 +1,9 @@
 ghost use Rattle.std.specs.Prelude.{◌≡◌, ◌++◌, ◌∷◌, [], IfOk, OnOk, IsTrue, false};
 ghost use Rattle.rx_ast.specs.Tree.{mirror_term};
 ghost use Rattle.rx_model.specs.declared.mode.Mode.{Mode};
-ghost use Rattle.rx_model.specs.Events.{Events, enter, leave, token, term_events, disjunction_events};
-ghost use Rattle.rx_model.specs.Shapes.{look_takes, takes};
-ghost use Rattle.rx_model.specs.Token.{bar};
+ghost use Rattle.rx_model.specs.Trees.Events.{Events, enter, leave, token, term_events, disjunction_events};
+ghost use Rattle.rx_model.specs.Trees.Shapes.{look_takes, takes};
+ghost use Rattle.rx_model.specs.Trees.Token.{bar};
 ghost use Rattle.rx_parser.specs.Good.{IsGoodLevel, IsGoodTerm, IsGoodDisjunction};
 ghost use Rattle.rx_parser.specs.Levels.{level_events, last_takes, Repeats};
 

@@ -17,8 +17,6 @@ mod options;
 mod pattern_parser;
 mod reference;
 mod term;
-#[cfg(test)]
-mod tests;
 mod turn;
 
 pub use builder::Builder;

@@ -1,16 +1,11 @@
-ghost use Rattle.std.specs.Prelude.{◌≡◌, ℕ, ◌+◌, ◌<◌, ◌≤◌, ◌^◌, ◌⊎◌, ◌≢◌, max, true, List, [], IfErr, IfOk, IsTrue, OnOk, length};
+ghost use Rattle.std.specs.Prelude.{◌≡◌, ◌+◌, ◌<◌, ◌≤◌, ◌^◌, ◌⊎◌, max, true, false, IfErr, IfOk, IsTrue, OnOk, length};
 ghost use Rattle.std.specs.Str.{chars};
-ghost use Rattle.rx_base.specs.declared.diagnostic.Diagnostic.{Diagnostic as Refusal};
-ghost use Rattle.rx_ast.specs.declared.term.Pattern.{Pattern};
-ghost use Rattle.rx_ast.specs.Forget.{bare};
-ghost use Rattle.rx_units.specs.declared.code_point.CodePoint.{CodePoint};
 ghost use Rattle.rx_units.specs.Units.{literal_units};
-ghost use Rattle.rx_model.specs.declared.mode.Mode.TheVariants.{Unicode};
-ghost use Rattle.rx_model.specs.Cuts.{TellsGroups};
-ghost use Rattle.rx_model.specs.Flags.{flags_of, flags_ok, mode_of, modes_of};
-ghost use Rattle.rx_model.specs.Reading.{IsOnly, IsSpanned, IsValid, Reads, literal_text, units_of};
-ghost use Rattle.rx_model.specs.Spelling.{spelling};
-ghost use Rattle.rx_parser.specs.Literals.{IsFlagFault, IsLiteralCause, flags_chars, flags_length};
+ghost use Rattle.rx_model.specs.Inputs.Flags.{flags_of, flags_ok, modes_of};
+ghost use Rattle.rx_model.specs.Reading.Headline.{IsParsed};
+ghost use Rattle.rx_model.specs.Reading.Reading.{literal_text};
+ghost use Rattle.rx_model.specs.declared.form.Form.TheVariants.{Literal};
+ghost use Rattle.rx_parser.specs.Literals.{IsFlagFault, flags_chars, flags_length, input_of};
 ghost use Rattle.rx_parser.specs.NotYet.{is_unread_literal};
 
 use crate::{Options, PatternParser};
@@ -54,39 +49,12 @@ impl<'a> LiteralParser<'a> {
         requires pattern { self.options.pattern_span_offset + max (length self.pattern_text.now) 4 < 2 ^ 32 }
         requires flags { self.options.flags_span_offset + flags_length self.flags_text < 2 ^ 32 }
 
-        // The tree is spelled by the text under the mode of the flags and the only one but for spans, and each of its nodes has the span of what it spells.
-        ensures reads { IfOk result (λ it. Reads (mode_of (flags_of (flags_chars self.entry.flags_text))) it
-            (units_of (mode_of (flags_of (flags_chars self.entry.flags_text))) (chars self.entry.pattern_text.now))) }
-        ensures only { IfOk result (λ it. IsOnly (mode_of (flags_of (flags_chars self.entry.flags_text))) it
-            (units_of (mode_of (flags_of (flags_chars self.entry.flags_text))) (chars self.entry.pattern_text.now))) }
-        ensures spanned { IfOk result (λ it. IsSpanned (mode_of (flags_of (flags_chars self.entry.flags_text))) it
-            (units_of (mode_of (flags_of (flags_chars self.entry.flags_text))) (chars self.entry.pattern_text.now)) 0 self.entry.options.pattern_span_offset) }
-
-        // The groups and the names that the first pass of the text finds are the tree's.
-        ensures groups { IfOk result (λ it. TellsGroups (mode_of (flags_of (flags_chars self.entry.flags_text))) it
-            (units_of (mode_of (flags_of (flags_chars self.entry.flags_text))) (chars self.entry.pattern_text.now))) }
-
-        // Ok comes on valid input alone. On valid input the answer is Ok, or memory is wanting, or its mode is not read yet.
-        ensures valid { OnOk result (IsValid (chars self.entry.pattern_text.now) (flags_chars self.entry.flags_text)) }
-        ensures complete { IsValid (chars self.entry.pattern_text.now) (flags_chars self.entry.flags_text)
-            → IfErr result (λ fault. (fault ≡ Fault.OutOfMemory) ⊎ (fault ≡ Fault.NotYet)) }
-
-        // Where the flags give the mode of `u` every text is read: on valid input the answer is Ok, or memory is wanting.
-        ensures unicode { IsValid (chars self.entry.pattern_text.now) (flags_chars self.entry.flags_text) → mode_of (flags_of (flags_chars self.entry.flags_text)) ≡ Unicode
-            → IfErr result (λ fault. fault ≡ Fault.OutOfMemory) }
-
-        // A refusal has its cause: that of the flags, or where they are right that of the text.
-        ensures refused { (cause : Refusal) → result ≡ Err (Fault.Diagnostic cause)
-            → IsLiteralCause (chars self.entry.pattern_text.now) (flags_of (flags_chars self.entry.flags_text)) self.entry.options.pattern_span_offset self.entry.options.flags_span_offset cause }
+        // Of a text whose mode is read, and of wrong flags: Ok on valid input and on no other, with the only tree; else the first refusal, or want of memory.
+        ensures answered { is_unread_literal (flags_chars self.entry.flags_text) ≡ false
+            → IsParsed (λ p. p) (input_of Literal self.entry.pattern_text.now self.entry.flags_text self.entry.options) result }
         ensures not_yet { result ≡ Err Fault.NotYet → IsTrue (is_unread_literal (flags_chars self.entry.flags_text)) }
         ensures later { IsTrue (is_unread_literal (flags_chars self.entry.flags_text))
             → (result ≡ Err Fault.NotYet) ⊎ (result ≡ Err Fault.OutOfMemory) }
-
-        // Reading a canonical spelling gives the tree that was spelled, but for spans and character kinds, or memory is wanting.
-        ensures again { (p : Pattern) (us : List CodePoint) → Reads Unicode p us → us ≢ []
-            → chars self.entry.pattern_text.now ≡ spelling (bare p) Unicode → flags_ok (flags_of (flags_chars self.entry.flags_text)) ≡ true
-            → mode_of (flags_of (flags_chars self.entry.flags_text)) ≡ Unicode
-            → IfOk result (λ it. bare it ≡ bare p) × IfErr result (λ fault. fault ≡ Fault.OutOfMemory) }
     {
         let LiteralParser {
             alloc,

@@ -2,11 +2,11 @@ ghost use Rattle.std.specs.Prelude.{◌≡◌, ◌≤◌, ◌∷◌, true, false
 ghost use Rattle.std.specs.List.{list_all};
 ghost use Rattle.rx_units.specs.declared.code_point.CodePoint.{CodePoint};
 ghost use Rattle.rx_units.specs.Units.{values};
-ghost use Rattle.rx_model.specs.Environment.{Environment};
-ghost use Rattle.rx_model.specs.Escapes.{front_is};
-ghost use Rattle.rx_model.specs.GroupFronts.{letters_at, sides_at};
-ghost use Rattle.rx_model.specs.Groups.{is_mark};
-ghost use Rattle.rx_model.specs.Modifiers.{is_modifier};
+ghost use Rattle.rx_model.specs.Inputs.Environment.{Environment};
+ghost use Rattle.rx_model.specs.Characters.Escapes.{front_is};
+ghost use Rattle.rx_model.specs.Groups.GroupFronts.{letters_at, sides_at};
+ghost use Rattle.rx_model.specs.Groups.Groups.{is_mark};
+ghost use Rattle.rx_model.specs.Groups.Modifiers.{is_modifier};
 ghost use Rattle.rx_parser.specs.Found.{IsFound};
 ghost use Rattle.rx_parser.specs.Modifiers.{are_bits, modifier_bit, seen_sides};
 

@@ -1,6 +1,6 @@
 ghost use Rattle.std.specs.Prelude.{◌≡◌, ℕ, ◌+◌, ◌^◌, ◌<◌, ◌≤◌, List, length};
 ghost use Rattle.rx_units.specs.Units.{values};
-ghost use Rattle.rx_model.specs.Marks.{starts};
+ghost use Rattle.rx_model.specs.FirstPass.Marks.{starts};
 ghost use Rattle.rx_parser.specs.HaltPlaces.{halt_end};
 ghost use Rattle.rx_parser.specs.Names.{EscapeBehind, IsHaltInName, IsNameFound};
 

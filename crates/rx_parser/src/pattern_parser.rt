@@ -1,10 +1,10 @@
 ghost use Rattle.std.specs.Prelude.{◌≡◌, ℕ, ◌+◌, ◌<◌, ◌^◌, ◌⊎◌, ◌≢◌, true, false, All, IfErr, IfOk, IsTrue, OnOk, length};
 ghost use Rattle.rx_base.specs.declared.diagnostic.Diagnostic.{Diagnostic as Refusal};
 ghost use Rattle.rx_ast.specs.declared.term.Pattern.{Pattern};
-ghost use Rattle.rx_model.specs.Causes.{IsCause};
-ghost use Rattle.rx_model.specs.Cuts.{TellsGroups};
-ghost use Rattle.rx_model.specs.Modes.{mode_by};
-ghost use Rattle.rx_model.specs.Reading.{IsOnly, IsSpanned, Reads};
+ghost use Rattle.rx_model.specs.FirstPass.Cuts.{TellsGroups};
+ghost use Rattle.rx_model.specs.Refusals.Firsts.{IsFirst};
+ghost use Rattle.rx_model.specs.Inputs.Modes.{mode_by};
+ghost use Rattle.rx_model.specs.Reading.Reading.{IsOnly, IsSpanned, Reads};
 ghost use Rattle.rx_model.specs.declared.mode.Mode.TheVariants.{Unicode};
 ghost use Rattle.rx_class.specs.Fitting.{AreFitting};
 ghost use Rattle.rx_parser.specs.NotYet.{is_read};
@@ -66,9 +66,9 @@ impl<'a> PatternParser<'a> {
         // The groups and the names that the first pass of the units finds are the tree's.
         ensures groups { IfOk result (λ it. TellsGroups (mode_of_state self.entry.state) it self.entry.reader.units) }
 
-        // A refusal has its cause. On what some tree reads the answer is Ok, or memory is wanting, or its mode is not read yet.
+        // A refusal is the first of the text. On what some tree reads the answer is Ok, or memory is wanting, or its mode is not read yet.
         ensures refused { (cause : Refusal) → result ≡ Err (Fault.Diagnostic cause)
-            → IsCause (mode_of_state self.entry.state) self.entry.reader.units self.entry.reader.first self.entry.spans cause }
+            → IsFirst (mode_of_state self.entry.state) self.entry.reader.units self.entry.reader.first self.entry.spans cause }
         ensures complete { (p : Pattern) → Reads (mode_of_state self.entry.state) p self.entry.reader.units
             → IfErr result (λ fault. (fault ≡ Fault.OutOfMemory) ⊎ (fault ≡ Fault.NotYet)) }
         ensures not_yet { result ≡ Err Fault.NotYet → is_read (mode_of_state self.entry.state) ≡ false }

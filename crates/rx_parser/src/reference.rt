@@ -1,9 +1,9 @@
 ghost use Rattle.std.specs.Prelude.{◌≡◌, ℕ, ◌+◌, ◌-◌, ◌^◌, ◌<◌, ◌≤◌, ◌∷◌, true, drop, length, min};
 ghost use Rattle.rx_units.specs.declared.code_point.CodePoint.{CodePoint};
 ghost use Rattle.rx_units.specs.Units.{values};
-ghost use Rattle.rx_model.specs.Environment.{Environment, is_unicode};
-ghost use Rattle.rx_model.specs.Escapes.{front_is};
-ghost use Rattle.rx_model.specs.Fronts.{digits, digits_behind};
+ghost use Rattle.rx_model.specs.Inputs.Environment.{Environment, is_unicode};
+ghost use Rattle.rx_model.specs.Characters.Escapes.{front_is};
+ghost use Rattle.rx_model.specs.Reading.Fronts.{digits, digits_behind};
 ghost use Rattle.rx_parser.specs.Found.{IsFound, is_first_digit};
 
 use crate::found::{Found, Halt, Leaf};

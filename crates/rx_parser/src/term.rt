@@ -3,7 +3,7 @@ ghost use Rattle.rx_ast.specs.ClassTree.{mirror_class};
 ghost use Rattle.rx_ast.specs.Tree as tree;
 ghost use Rattle.rx_ast.specs.Tree.{leaf, mirror_term};
 ghost use Rattle.rx_units.specs.Reading.{rest};
-ghost use Rattle.rx_model.specs.Token.{named, property};
+ghost use Rattle.rx_model.specs.Trees.Token.{named, property};
 ghost use Rattle.rx_class.specs.Fitting.{AreFitting};
 ghost use Rattle.rx_parser.specs.Found.{HoldsName, HoldsOpener, leaf_token};
 ghost use Rattle.rx_parser.specs.Openings.{IsOpeningOf};

@@ -1,7 +1,7 @@
 ghost use Rattle.std.specs.Prelude.{◌≡◌, IfErr, IfOk, OnOk};
 ghost use Rattle.rx_units.specs.Reading.{rest};
 ghost use Rattle.rx_model.specs.declared.mode.Mode.TheVariants.{Unicode};
-ghost use Rattle.rx_model.specs.Reached.{text_environment};
+ghost use Rattle.rx_model.specs.Refusals.Reached.{text_environment};
 ghost use Rattle.rx_parser.specs.Found.{IsFound};
 ghost use Rattle.rx_parser.specs.Parsing.{HoldsPass, IsRefused};
 ghost use Rattle.rx_parser.specs.Turns.{IsBefore, IsTurned};

@@ -5,7 +5,7 @@ use Rattle.std.proofs.lemmas.List.{drop_all}
 use Rattle.rx_ast.specs.declared.leaf.Character.{Character}
 use Rattle.rx_ast.specs.declared.class.ClassString.{ClassString}
 use Rattle.rx_model.specs.declared.mode.Mode.{Mode}
-use Rattle.rx_model.specs.ClassText.{in_class_text, characters_text, barred_strings_text}
+use Rattle.rx_model.specs.Spelling.ClassText.{in_class_text, characters_text, barred_strings_text}
 
 pub characters_next : (mode : Mode) (cs : List Character) (i : ℕ) (d : Character) → i < length cs →
     characters_text mode (drop i cs) ≡ in_class_text mode (get_or cs i d) ++ characters_text mode (drop (i + 1) cs)

@@ -5,7 +5,7 @@ use Rattle.std.proofs.lemmas.Bool.Decides.{nat_tests}
 use Rattle.std.proofs.lemmas.Str.{encodes-chars, encode_ascii}
 use Rattle.std.specs.List.{list_all}
 use Rattle.std.specs.Str.{encode_utf8_all, chars, IsUtf8}
-use Rattle.rx_model.specs.ClassText.{are_same}
+use Rattle.rx_model.specs.Spelling.ClassText.{are_same}
 
 same_true : (us vs : List ℕ) → are_same us vs ≡ true → us ≡ vs
 same_true [] [] same = refl

@@ -2,7 +2,7 @@
 use Rattle.std.proofs.Common.{◌≡◌, refl, ℕ, zero, suc, ◌/◌, ◌%◌, ◌-◌, ◌<◌, ◌≤◌, arith, true, false, [], ◌∷◌, ◌++◌, nat_lt}
 use Rattle.std.proofs.lemmas.Bool.Decides.{nat_tests}
 use Rattle.rx_tables.specs.Characters.{hex_digit}
-use Rattle.rx_model.specs.CharacterText.{hex}
+use Rattle.rx_model.specs.Spelling.CharacterText.{hex}
 use Rattle.rx_tools.specs.Utf8.{utf8}
 use Rattle.rx_tools.proofs.Pieces.{utf8-nil}
 

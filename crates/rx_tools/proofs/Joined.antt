@@ -5,8 +5,8 @@ use Rattle.rx_ast.specs.ClassTree.{Member, Members, Class, no_member, member}
 use Rattle.rx_ast.specs.Tree as tree
 use Rattle.rx_ast.specs.Tree.{Leaf, Node, Nodes, Alternatives, leaf, quantified, group, no_node, node, no_alternative, alternative}
 use Rattle.rx_model.specs.declared.mode.Mode.{Mode}
-use Rattle.rx_model.specs.ClassText.{class_opener, operator_text, member_text, class_text, members_text, more_members_text}
-use Rattle.rx_model.specs.Spelling.{leaf_text, opener_text, quantifier_text, refers, node_text, nodes_text, alternatives_text, barred_text}
+use Rattle.rx_model.specs.Spelling.ClassText.{class_opener, operator_text, member_text, class_text, members_text, more_members_text}
+use Rattle.rx_model.specs.Spelling.Spelling.{leaf_text, opener_text, quantifier_text, refers, node_text, nodes_text, alternatives_text, barred_text}
 use Rattle.rx_tools.specs.Steps.{joined, class_front, member_front, operator_front, member_rest, class_rest, members_rest, leaf_front, leaf_rest, node_front, bar_front, node_rest, nodes_rest, alternatives_rest}
 
 pub joined-append : (first second : List (List ℕ)) → joined (first ++ second) ≡ joined first ++ joined second

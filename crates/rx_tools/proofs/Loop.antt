@@ -7,8 +7,8 @@ use Rattle.rx_ast.specs.Forget.{bare}
 use Rattle.rx_ast.specs.Tree.{alternatives, mirror_alternative}
 use Rattle.rx_ast.proofs.Equations.{disjunction_is}
 use Rattle.rx_model.specs.declared.mode.Mode.{Mode}
-use Rattle.rx_model.specs.Spelling.{spelling, alternatives_text}
-use Rattle.rx_model.proofs.Spellings.{spelling_bare}
+use Rattle.rx_model.specs.Spelling.Spelling.{spelling, alternatives_text}
+use Rattle.rx_model.proofs.Spelling.Spellings.{spelling_bare}
 use Rattle.rx_tools.specs.declared.task.Task.{Task}
 use Rattle.rx_tools.specs.Steps.{joined, alternatives_rest}
 use Rattle.rx_tools.specs.Tasks.{task_front, task_rest, pending}

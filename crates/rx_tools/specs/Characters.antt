@@ -1,8 +1,8 @@
 -- How a character is spelled, by its form.
 use Rattle.std.specs.Prelude.{ℕ, ◌∷◌, List, []}
 use Rattle.std.specs.Char.{IsScalar}
-use Rattle.rx_model.specs.CharacterText as text
-use Rattle.rx_model.specs.CharacterText.{control_letter, two_digits, four_digits, braced}
+use Rattle.rx_model.specs.Spelling.CharacterText as text
+use Rattle.rx_model.specs.Spelling.CharacterText.{control_letter, two_digits, four_digits, braced}
 use Rattle.rx_tools.specs.declared.character.Place.{Place}
 use Rattle.rx_tools.specs.declared.character.Place.TheVariants.{Outside, InClass}
 use Rattle.rx_tools.specs.declared.character.CharacterForm.{CharacterForm}

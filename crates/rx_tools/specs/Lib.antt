@@ -1,5 +1,6 @@
 pub mod Characters
 pub mod NotYet
+pub mod Spelled
 pub mod Steps
 pub mod Tasks
 pub mod Texts

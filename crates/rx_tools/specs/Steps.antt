@@ -5,8 +5,8 @@ use Rattle.rx_ast.specs.ClassTree.{Member, Members, Class, no_member, member}
 use Rattle.rx_ast.specs.Tree as tree
 use Rattle.rx_ast.specs.Tree.{Leaf, Node, Nodes, Alternatives, leaf, quantified, group, no_node, node, no_alternative, alternative}
 use Rattle.rx_model.specs.declared.mode.Mode.{Mode}
-use Rattle.rx_model.specs.ClassText.{class_opener, operator_text, member_text}
-use Rattle.rx_model.specs.Spelling.{leaf_text, opener_text, quantifier_text, refers}
+use Rattle.rx_model.specs.Spelling.ClassText.{class_opener, operator_text, member_text}
+use Rattle.rx_model.specs.Spelling.Spelling.{leaf_text, opener_text, quantifier_text, refers}
 
 -- one behind the other
 abbrev pub joined : List (List ℕ) → List ℕ

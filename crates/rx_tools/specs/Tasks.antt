@@ -3,8 +3,8 @@ use Rattle.std.specs.Prelude.{ℕ, List, [], ◌∷◌, ◌++◌, map, codes}
 use Rattle.rx_ast.specs.ClassTree.{members, mirror_contents}
 use Rattle.rx_ast.specs.Tree.{nodes, alternatives, mirror_term, mirror_alternative}
 use Rattle.rx_model.specs.declared.mode.Mode.{Mode}
-use Rattle.rx_model.specs.ClassText.{operator_text}
-use Rattle.rx_model.specs.Spelling.{quantifier_text}
+use Rattle.rx_model.specs.Spelling.ClassText.{operator_text}
+use Rattle.rx_model.specs.Spelling.Spelling.{quantifier_text}
 use Rattle.rx_tools.specs.declared.task.Task.{Task}
 use Rattle.rx_tools.specs.declared.task.Task.TheVariants as task
 use Rattle.rx_tools.specs.Steps.{member_front, member_rest, operator_front, members_rest, node_front, node_rest, nodes_rest, bar_front, alternatives_rest}

@@ -3,7 +3,7 @@ ghost use Rattle.std.specs.Char.{IsScalar};
 ghost use Rattle.std.specs.Str.{chars};
 ghost use Rattle.rx_base.specs.Writing.{Written};
 ghost use Rattle.rx_tables.specs.Characters.{hex_digit as hex};
-ghost use Rattle.rx_model.specs.CharacterText.{is_reserved_in_class as reserved_in_class, is_escaped as escaped, goes_on as going, greatest_raw as greatest, control_letter as letter, hex as hexadecimal, braced, surrogate_text, character_text};
+ghost use Rattle.rx_model.specs.Spelling.CharacterText.{is_reserved_in_class as reserved_in_class, is_escaped as escaped, goes_on as going, greatest_raw as greatest, control_letter as letter, hex as hexadecimal, braced, surrogate_text, character_text};
 ghost use Rattle.rx_tools.specs.Characters.{place_of, form_text, IsWritable};
 ghost use Rattle.rx_tools.specs.Utf8.{utf8};
 
@@ -101,7 +101,7 @@ fn surrogate_form(mode: Mode) -> CharacterForm
 }
 
 /// The form of the first row that fits.
-#[tactic(auto, unfolding(rx_model::specs::CharacterText::character_text))]
+#[tactic(auto, unfolding(rx_model::specs::Spelling::CharacterText::character_text))]
 fn form(mode: Mode, place: Place, c: u32) -> CharacterForm
     ensures text { form_text result c ≡ character_text mode (place_of place) c }
     ensures writable { IsWritable result c }
@@ -189,7 +189,7 @@ fn write_escape<K: Sink>(sink: &mut K, opener: &str, characters: &[char]) -> Res
 }
 
 /// Writes a character as the first row that fits spells it.
-#[tactic(auto, using(crate::proofs::Pieces::in_pieces), unfolding(rx_model::specs::CharacterText::two_digits, rx_model::specs::CharacterText::four_digits))]
+#[tactic(auto, using(crate::proofs::Pieces::in_pieces), unfolding(rx_model::specs::Spelling::CharacterText::two_digits, rx_model::specs::Spelling::CharacterText::four_digits))]
 pub fn write_character<K: Sink>(
     sink: &mut K,
     mode: Mode,

@@ -2,7 +2,7 @@ ghost use Rattle.std.specs.Prelude.{◌≡◌};
 ghost use Rattle.std.specs.Str.{chars};
 ghost use Rattle.rx_ast.specs.ClassTree.{mirror_contents, range, strings as disjunction};
 ghost use Rattle.rx_base.specs.Writing.{Written};
-ghost use Rattle.rx_model.specs.ClassText.{class_opener as opener, operator_text as operator, member_text, characters_text, strings_text, barred_strings_text};
+ghost use Rattle.rx_model.specs.Spelling.ClassText.{class_opener as opener, operator_text as operator, member_text, characters_text, strings_text, barred_strings_text};
 ghost use Rattle.rx_tools.specs.Steps.{member_front};
 ghost use Rattle.rx_tools.specs.Utf8.{utf8};
 

@@ -1,6 +1,6 @@
 ghost use Rattle.std.specs.Prelude.{◌≡◌, ◌++◌, ℕ, List as Sequence, OnOk, IfOk};
 ghost use Rattle.rx_ast.specs.Forget.{bare};
-ghost use Rattle.rx_model.specs.Spelling.{spelling};
+ghost use Rattle.rx_model.specs.Spelling.Spelling.{spelling};
 ghost use Rattle.rx_tools.specs.Tasks.{task_front};
 ghost use Rattle.rx_tools.specs.Utf8.{utf8};
 
@@ -11,9 +11,6 @@ use rx_base::{Failed, List, OutOfMemory, Sink, Text};
 use rx_model::Mode;
 use std::alloc::Global;
 use std::str;
-
-#[cfg(test)]
-mod tests;
 
 /// A sink that keeps its bytes, and fails where there is not enough memory.
 #[derive(Drop)]

@@ -1,7 +1,7 @@
 ghost use Rattle.std.specs.Prelude.{◌≡◌, codes};
 ghost use Rattle.std.specs.Str.{chars};
 ghost use Rattle.rx_base.specs.Writing.{Written};
-ghost use Rattle.rx_model.specs.ClassText.{class_escape_text as escape_text, property_opener as opener, property_text, are_same};
+ghost use Rattle.rx_model.specs.Spelling.ClassText.{class_escape_text as escape_text, property_opener as opener, property_text, are_same};
 ghost use Rattle.rx_tools.specs.Utf8.{utf8};
 
 use crate::write::write_pieces;

@@ -3,7 +3,7 @@ ghost use Rattle.std.specs.Fmt.{decimal};
 ghost use Rattle.std.specs.Str.{chars};
 ghost use Rattle.rx_base.specs.Writing.{Written};
 ghost use Rattle.rx_tools.specs.Utf8.{utf8};
-ghost use Rattle.rx_model.specs.Spelling.{quantifier_text, lazy_text as suffix};
+ghost use Rattle.rx_model.specs.Spelling.Spelling.{quantifier_text, lazy_text as suffix};
 
 use crate::write::write_pieces;
 use itoa::Buffer;

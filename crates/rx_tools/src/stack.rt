@@ -2,7 +2,7 @@ ghost use Rattle.std.specs.Prelude.{◌≡◌, ◌∷◌, [], ◌++◌, OnOk, ma
 ghost use Rattle.rx_ast.specs.ClassTree.{members, mirror_contents, mirror_class};
 ghost use Rattle.rx_ast.specs.Tree.{nodes, alternatives as alternatives_of, mirror_term, mirror_alternative, mirror_quantifier};
 ghost use Rattle.rx_model.specs.declared.mode.Mode.{Mode};
-ghost use Rattle.rx_model.specs.ClassText.{operator_text};
+ghost use Rattle.rx_model.specs.Spelling.ClassText.{operator_text};
 ghost use Rattle.rx_tools.specs.Steps.{alternatives_rest, nodes_rest, node_rest, members_rest, member_rest, class_rest};
 ghost use Rattle.rx_tools.specs.Tasks.{task_rest, pending};
 

@@ -3,7 +3,7 @@ ghost use Rattle.std.specs.Str.{chars};
 ghost use Rattle.rx_ast.specs.ClassTree.{members, mirror_contents};
 ghost use Rattle.rx_ast.specs.Tree.{alternatives as alternatives_of, mirror_alternative};
 ghost use Rattle.rx_base.specs.Writing.{Written};
-ghost use Rattle.rx_model.specs.ClassText.{operator_text as operator};
+ghost use Rattle.rx_model.specs.Spelling.ClassText.{operator_text as operator};
 ghost use Rattle.rx_tools.specs.Steps.{bar_front, operator_front};
 ghost use Rattle.rx_tools.specs.Tasks.{task_front};
 ghost use Rattle.rx_tools.specs.Utf8.{utf8};

@@ -2,8 +2,8 @@ ghost use Rattle.std.specs.Prelude.{◌≡◌};
 ghost use Rattle.std.specs.Str.{chars};
 ghost use Rattle.rx_ast.specs.Tree.{mirror_term, capturing, ignoring};
 ghost use Rattle.rx_base.specs.Writing.{Written};
-ghost use Rattle.rx_model.specs.Boundaries.{boundary_text as boundary};
-ghost use Rattle.rx_model.specs.Spelling.{look_text as look, letters as letters_of, dash as dash_of, opener_text, indexed_text, named_text, refers as reference};
+ghost use Rattle.rx_model.specs.Reading.Boundaries.{boundary_text as boundary};
+ghost use Rattle.rx_model.specs.Spelling.Spelling.{look_text as look, letters as letters_of, dash as dash_of, opener_text, indexed_text, named_text, refers as reference};
 ghost use Rattle.rx_tools.specs.Steps.{node_front};
 ghost use Rattle.rx_tools.specs.Utf8.{utf8};
 
@@ -45,7 +45,7 @@ fn look_text(kind: LookAroundAssertionKind) -> &'static str
 }
 
 /// The letters in the order `i`, `m`, `s`.
-#[tactic(auto, using(crate::proofs::Pieces::in_pieces), unfolding(rx_model::specs::Spelling::letters))]
+#[tactic(auto, using(crate::proofs::Pieces::in_pieces), unfolding(rx_model::specs::Spelling::Spelling::letters))]
 fn letters(modifier: Modifier) -> &'static str
     ensures { chars result.now ≡ letters_of modifier.0 }
 {

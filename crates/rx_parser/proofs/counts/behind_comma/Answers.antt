@@ -1,7 +1,7 @@
 use Rattle.std.proofs.Common.{◌+◌, length, ◌∙◌, ap, sym, arith, rules}
 use Rattle.std.proofs.lemmas.List.{length-drop}
 use Rattle.rx_units.specs.Units.{values}
-use Rattle.rx_model.specs.Fronts.{digits, digits_behind, counts}
+use Rattle.rx_model.specs.Reading.Fronts.{digits, digits_behind, counts}
 use Rattle.rx_parser.proofs.Digits.{none_pass}
 use Rattle.rx_parser.proofs.Prefixes.{greatest_there, comma_closed, comma_ended, comma_open}
 use Rattle.rx_parser.proofs.counts.behind_comma.Goals as goal

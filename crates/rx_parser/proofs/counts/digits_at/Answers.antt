@@ -3,7 +3,7 @@ use Rattle.std.proofs.lemmas.Grind.{common_steps}
 use Rattle.rx_tables.specs.Characters.{is_decimal_digit}
 use Rattle.rx_units.specs.Units.{unit, values}
 use Rattle.rx_units.specs.declared.code_point.EscapeKind.TheVariants as kind
-use Rattle.rx_model.specs.Fronts.{digits_behind}
+use Rattle.rx_model.specs.Reading.Fronts.{digits_behind}
 use Rattle.rx_parser.proofs.Digits.{digits_next, number_next, passes_here}
 use Rattle.rx_parser.proofs.counts.digits_at.Goals as goal
 

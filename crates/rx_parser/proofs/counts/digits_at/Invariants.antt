@@ -1,7 +1,7 @@
 use Rattle.std.proofs.Common.{◌≡◌, ◌<◌, ◌^◌, Some, take, drop}
 use Rattle.rx_units.specs.Units.{values}
-use Rattle.rx_model.specs.Fronts.{digits_behind}
-use Rattle.rx_model.specs.Quantifiers.{decimal_behind}
+use Rattle.rx_model.specs.Reading.Fronts.{digits_behind}
+use Rattle.rx_model.specs.Quantifiers.Quantifiers.{decimal_behind}
 use Rattle.rx_parser.proofs.counts.digits_at.Given as goal
 
 abbrev pub invariant-loop-count : goal.invariant-loop-count

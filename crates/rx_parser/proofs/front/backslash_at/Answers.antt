@@ -1,7 +1,7 @@
 use Rattle.std.proofs.Common.{get_or, take, drop, length, ◌-◌, ◌∷◌, ◌∙◌, refl, sym}
 use Rattle.rx_units.specs.Units.{unit}
 use Rattle.rx_units.specs.declared.code_point.EscapeKind.TheVariants as kind
-use Rattle.rx_model.specs.Environment.{environment_with}
+use Rattle.rx_model.specs.Inputs.Environment.{environment_with}
 use Rattle.rx_parser.specs.Found.{IsFound}
 use Rattle.rx_parser.specs.declared.found.Found.TheVariants as found
 use Rattle.rx_parser.proofs.FrontFound.{behind_first, buffers_there, ended_backslash, named_there, property_there}

@@ -1,8 +1,8 @@
 use Rattle.std.proofs.Common.{◌∙◌, sym, subst, get_or, arith}
 use Rattle.rx_units.specs.Units.{unit}
 use Rattle.rx_units.specs.declared.code_point.EscapeKind.TheVariants as kind
-use Rattle.rx_model.specs.Environment.{environment_with}
-use Rattle.rx_model.specs.Token.{character}
+use Rattle.rx_model.specs.Inputs.Environment.{environment_with}
+use Rattle.rx_model.specs.Trees.Token.{character}
 use Rattle.rx_parser.specs.Found.{IsFound, Stands}
 use Rattle.rx_parser.proofs.FrontFound.{behind_first, ended, raw_there}
 use Rattle.rx_parser.proofs.front.front_at.Goals as goal

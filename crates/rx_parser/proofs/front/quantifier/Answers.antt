@@ -20,7 +20,7 @@ returns-then-stands_at c e unicode =
     let large = iff_false c.is_too_large.ensures c.if-is_too_large.false in
     let question = sym c.stands_at.ensures.there ∙ c.if-stands_at.true in
     let within = c.stands_at.ensures.within c.if-stands_at.true in (
-      lazy_front e c.args.units.now c.args.min c.args.max c.args.length c.requires.front c.requires.counts.0 question,
+      lazy_front e c.args.units.now unicode c.args.min c.args.max c.args.length c.requires.front c.requires.counts.0 question,
       omega (arith, within),
       λ names. counts_obey e.groups names c.args.min c.args.max false order large,
     )
@@ -30,7 +30,7 @@ returns c e unicode =
     let order = iff_false c.is_out_of_order.ensures c.if-is_out_of_order.false in
     let large = iff_false c.is_too_large.ensures c.if-is_too_large.false in
     let question = sym c.stands_at.ensures.there ∙ c.if-stands_at.false in (
-      greedy_front e c.args.units.now c.args.min c.args.max c.args.length c.requires.front c.requires.counts.0 question,
+      greedy_front e c.args.units.now unicode c.args.min c.args.max c.args.length c.requires.front c.requires.counts.0 question,
       c.requires.counts.2,
       λ names. counts_obey e.groups names c.args.min c.args.max true order large,
     )

@@ -1,6 +1,6 @@
 use Rattle.std.proofs.Common.{◌∙◌, sym, refl}
 use Rattle.rx_ast.specs.declared.leaf.BoundaryAssertionKind.TheVariants.{Start, End}
-use Rattle.rx_model.specs.Token.{bar, boundary, closer, dot}
+use Rattle.rx_model.specs.Trees.Token.{bar, boundary, closer, dot}
 use Rattle.rx_parser.proofs.FrontFound.{one_there}
 use Rattle.rx_parser.proofs.front.syntax_at.Goals as goal
 

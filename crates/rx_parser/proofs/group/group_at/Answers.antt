@@ -1,8 +1,8 @@
 use Rattle.std.proofs.Common.{◌≡◌, ◌∷◌, false, get_or, sym, subst, rules}
 use Rattle.rx_units.specs.Units.{unit, values}
 use Rattle.rx_units.specs.declared.code_point.EscapeKind.TheVariants as kind
-use Rattle.rx_model.specs.Escapes.{front_is}
-use Rattle.rx_model.specs.Quantifiers.{is_question}
+use Rattle.rx_model.specs.Characters.Escapes.{front_is}
+use Rattle.rx_model.specs.Quantifiers.Quantifiers.{is_question}
 use Rattle.rx_parser.specs.Found.{IsFound}
 use Rattle.rx_parser.proofs.GroupFound.{capturing_there, from_first, no_question, none_first}
 use Rattle.rx_parser.proofs.group.group_at.Goals as goal

@@ -4,8 +4,8 @@ use Rattle.std.specs.Str.{chars}
 use Rattle.rx_units.specs.declared.code_point.CodePoint.{CodePoint}
 use Rattle.rx_units.specs.Reading.{Reading}
 use Rattle.rx_units.specs.Units.{literal_units, values}
-use Rattle.rx_model.specs.Flags.{flags_ok, modes_of}
-use Rattle.rx_parser.proofs.FlagTexts.{values_of_units}
+use Rattle.rx_model.specs.Inputs.Flags.{flags_ok, modes_of}
+use Rattle.rx_model.proofs.Spelling.Backs.{values_literal}
 use Rattle.rx_class.proofs.TextFits.{text_fits}
 use Rattle.rx_parser.proofs.literal_parser.read_modes.Goals as goal
 
@@ -21,10 +21,10 @@ pub returns-clause-passed : goal.returns-clause-passed
 returns-clause-passed c =
     let cs : List ℕ = chars c.args.flags.now in
     let units : c.new.result.reader.units ≡ literal_units true 0 cs = ap (λ (r : Reading). r.units) (c.new.ensures.reader ∙ c.in_ok-reader.ensures) in
-    ap flags_ok (sym (values_of_units 0 cs)) ∙ ap (λ us. flags_ok (values us)) (sym units) ∙ c.in_ok-parse.ensures.passed
+    ap flags_ok (sym (values_literal 0 cs)) ∙ ap (λ us. flags_ok (values us)) (sym units) ∙ c.in_ok-parse.ensures.passed
 
 pub returns-clause-modes : goal.returns-clause-modes
 returns-clause-modes c =
     let cs : List ℕ = chars c.args.flags.now in
     let units : c.new.result.reader.units ≡ literal_units true 0 cs = ap (λ (r : Reading). r.units) (c.new.ensures.reader ∙ c.in_ok-reader.ensures) in
-    c.in_ok-parse.ensures.modes ∙ ap (λ us. modes_of (values us)) units ∙ ap modes_of (values_of_units 0 cs)
+    c.in_ok-parse.ensures.modes ∙ ap (λ us. modes_of (values us)) units ∙ ap modes_of (values_literal 0 cs)

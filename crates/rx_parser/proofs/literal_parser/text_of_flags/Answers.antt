@@ -1,6 +1,6 @@
 use Rattle.std.proofs.Common.{ap, sym, ◌∙◌}
 use Rattle.std.proofs.lemmas.Str.{chars-nil}
-use Rattle.rx_model.specs.Flags.{flags_of}
+use Rattle.rx_model.specs.Inputs.Flags.{flags_of}
 use Rattle.rx_parser.specs.Literals.{flags_chars}
 use Rattle.rx_parser.proofs.literal_parser.text_of_flags.Goals as goal
 

@@ -1,6 +1,6 @@
 use Rattle.std.proofs.Common.{◌≡◌, false, take}
 use Rattle.rx_units.specs.Units.{values}
-use Rattle.rx_model.specs.Modifiers.{has_twice, letters_bits}
+use Rattle.rx_model.specs.Groups.Modifiers.{has_twice, letters_bits}
 use Rattle.rx_parser.proofs.modifiers.bits_of.Given as goal
 
 abbrev pub invariant-loop-letter : goal.invariant-loop-letter

@@ -1,6 +1,6 @@
 use Rattle.std.proofs.Common.{◌≡◌, ◌+◌, drop}
 use Rattle.rx_units.specs.Units.{values}
-use Rattle.rx_model.specs.GroupFronts.{letters_at}
+use Rattle.rx_model.specs.Groups.GroupFronts.{letters_at}
 use Rattle.rx_parser.proofs.modifiers.letters_at.Given as goal
 
 abbrev pub invariant-loop-count : goal.invariant-loop-count

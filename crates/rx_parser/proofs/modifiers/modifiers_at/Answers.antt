@@ -1,7 +1,7 @@
 use Rattle.std.proofs.Common.{◌∙◌, ap₂, sym, bit_and, arith, inl, inr}
 use Rattle.std.proofs.lemmas.Bool.{cases_eq, iff_false, or_from, or_left, or_right}
 use Rattle.rx_units.specs.Units.{values}
-use Rattle.rx_model.specs.Modifiers.{has_twice}
+use Rattle.rx_model.specs.Groups.Modifiers.{has_twice}
 use Rattle.rx_parser.specs.declared.found.ModifiersFault.TheVariants as fault
 use Rattle.rx_parser.proofs.ModifierBits.{none_of, once_of, share, twice_of}
 use Rattle.rx_parser.proofs.ModifiersFound.{letters_there, unknown_there, duplicated_there, empty_there, invalid_there, opened, halted}

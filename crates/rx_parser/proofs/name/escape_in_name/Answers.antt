@@ -1,6 +1,6 @@
 use Rattle.std.proofs.Common.{◌∙◌, sym, refl, ap, ap₂, ◌≡◌, false, ◌&&◌}
 use Rattle.rx_units.specs.Units.{values}
-use Rattle.rx_model.specs.Marks.{starts}
+use Rattle.rx_model.specs.FirstPass.Marks.{starts}
 use Rattle.rx_parser.specs.Names.{misplaced, no_escape, no_escape_of_u}
 use Rattle.rx_parser.proofs.name.escape_in_name.Goals as goal
 use Rattle.rx_parser.proofs.name.escape_in_name.Goals.{then-unicode_mode+else-begins_with_u, else-unicode_mode}

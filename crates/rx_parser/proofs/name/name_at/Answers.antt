@@ -3,7 +3,7 @@ use Rattle.std.proofs.lemmas.Bool.{eq-eqb, true≢false}
 use Rattle.std.proofs.lemmas.List.{length-drop}
 use Rattle.rx_units.specs.Units.{unit, values}
 use Rattle.rx_units.specs.declared.code_point.EscapeKind.TheVariants as kind
-use Rattle.rx_model.specs.Marks.{starts}
+use Rattle.rx_model.specs.FirstPass.Marks.{starts}
 use Rattle.rx_parser.proofs.NameFound.{name_found, slice_behind, slice_from, slice_some, slice_starts, slice_starts_not}
 use Rattle.rx_parser.proofs.name.name_at.Goals as goal
 use Rattle.rx_parser.proofs.name.name_at.Goals.{then-length-gt0+else-end, else-length-gt0}

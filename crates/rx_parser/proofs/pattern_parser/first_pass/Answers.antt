@@ -2,8 +2,8 @@ use Rattle.std.proofs.Common.{◌≡◌, ℕ, ◌+◌, ◌^◌, ◌-◌, ◌<◌
 use Rattle.rx_base.specs.declared.fault.Fault.TheVariants.{Diagnostic}
 use Rattle.rx_base.specs.declared.diagnostic.Diagnostic.TheVariants.{DuplicatedCapturingGroupNames, TooMayCapturingGroups}
 use Rattle.rx_units.specs.Units.{values}
-use Rattle.rx_model.specs.Causes.{name_span}
-use Rattle.rx_model.specs.Marks.{Clash, IsFirstClash, marks, name_places}
+use Rattle.rx_model.specs.Refusals.Causes.{name_span}
+use Rattle.rx_model.specs.FirstPass.Marks.{Clash, IsFirstClash, marks, name_places}
 use Rattle.rx_model.specs.declared.mode.Mode.TheVariants.{Unicode}
 use Rattle.rx_scan.specs.declared.state.StateFault.TheVariants.{Duplicated}
 use Rattle.rx_scan.specs.StateFaults.{IsStateFault}

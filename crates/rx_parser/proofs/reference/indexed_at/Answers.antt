@@ -1,6 +1,6 @@
 use Rattle.std.proofs.Common.{◌≡◌, ◌+◌, ◌∙◌, Some, ap, arith}
 use Rattle.rx_units.specs.Units.{values}
-use Rattle.rx_model.specs.Token.{indexed}
+use Rattle.rx_model.specs.Trees.Token.{indexed}
 use Rattle.rx_parser.proofs.ReferenceFound.{index_some, indexed_there}
 use Rattle.rx_parser.proofs.reference.indexed_at.Goals as goal
 

@@ -1,5 +1,5 @@
 use Rattle.std.proofs.lemmas.Result.{on_ok_weaker}
-use Rattle.rx_model.specs.Token.{bar}
+use Rattle.rx_model.specs.Trees.Token.{bar}
 use Rattle.rx_class.proofs.Fitting.{here_fits, moved_fits}
 use Rattle.rx_parser.proofs.Turns.{bar_turned, is_next, on_ok_bars}
 use Rattle.rx_parser.proofs.turn.bar.Goals as goal

@@ -8,7 +8,7 @@ pub returns-in_err-class-clause-refused : goal.returns-in_err-class-clause-refus
 returns-in_err-class-clause-refused c =
     let r = c.args.reader.now in
     let refused : IsRefused Unicode r.units r.first c.args.spans.now c.in_err-class.field-0.0 =
-    class_refused c.args.spans.now c.args.builder.now c.args.state.now r c.parse_character_class.new.reader c.in_err-class.field-0.0 c.requires.before c.requires.pass c.requires.found c.in_err-class.ensures in
+    class_refused c.args.spans.now c.args.builder.now c.args.state.now r c.parse_character_class.new.reader c.in_err-class.field-0.0 c.requires.before c.requires.pass c.in_err-class.ensures in
     search rules
 
 pub returns-clause-turned : goal.returns-clause-turned

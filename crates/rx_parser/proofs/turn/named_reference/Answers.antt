@@ -3,10 +3,10 @@ use Rattle.rx_base.specs.declared.fault.Fault.TheVariants.{Diagnostic}
 use Rattle.rx_base.specs.declared.diagnostic.Diagnostic.TheVariants.{InvalidNamedReference}
 use Rattle.rx_units.specs.Reading.{rest}
 use Rattle.rx_model.specs.declared.mode.Mode.TheVariants.{Unicode}
-use Rattle.rx_model.specs.Fronts.{front}
-use Rattle.rx_model.specs.Names.{is_among}
-use Rattle.rx_model.specs.Reached.{text_environment}
-use Rattle.rx_model.specs.Token.{named}
+use Rattle.rx_model.specs.Reading.Fronts.{front}
+use Rattle.rx_model.specs.Trees.Names.{is_among}
+use Rattle.rx_model.specs.Refusals.Reached.{text_environment}
+use Rattle.rx_model.specs.Trees.Token.{named}
 use Rattle.rx_parser.specs.Found.{HoldsName}
 use Rattle.rx_parser.specs.Parsing.{IsRefused}
 use Rattle.rx_class.proofs.Fitting.{here_fits, moved_fits}
@@ -32,7 +32,7 @@ returns-then-not-contains-clause-refused c =
     subst (λ names. IsRefused Unicode r.units r.first c.args.spans.now (Diagnostic (InvalidNamedReference c.new-span.result names))) (sym names_are)
     (subst (λ s. IsRefused Unicode r.units r.first c.args.spans.now (Diagnostic (InvalidNamedReference s held))) (sym c.new-span.ensures)
     (name_refused r.units r.first c.args.spans.now c.args.builder.now r.place h.parsing c.requires.pass.no_clash c.requires.pass.in_limit name c.args.size c.here-at.result c.here.result held
-    front_is stands.within h.left c.here-at.ensures (moved_offset c.here.result c.args.spans.now c.args.size r c.skip.new.self c.here.ensures c.skip.ensures) c.requires.pass.names none))
+    front_is stands.within c.here-at.ensures (moved_offset c.here.result c.args.spans.now c.args.size r c.skip.new.self c.here.ensures c.skip.ensures) c.requires.pass.names none))
 
 pub returns-clause-turned : goal.returns-clause-turned
 returns-clause-turned c =

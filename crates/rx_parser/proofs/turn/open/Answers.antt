@@ -2,7 +2,7 @@ use Rattle.std.proofs.Common.{refl, ap, ◌∙◌}
 use Rattle.std.proofs.lemmas.Result.{on_ok_weaker}
 use Rattle.rx_units.specs.Reading.{moved, rest}
 use Rattle.rx_model.specs.declared.mode.Mode.TheVariants.{Unicode}
-use Rattle.rx_model.specs.Reached.{text_environment}
+use Rattle.rx_model.specs.Refusals.Reached.{text_environment}
 use Rattle.rx_class.proofs.Fitting.{here_fits, moved_fits}
 use Rattle.rx_parser.proofs.Turns.{holds_opener, on_ok_opens, open_turned}
 use Rattle.rx_parser.proofs.turn.open.Goals as goal

@@ -10,7 +10,7 @@ returns-in_err-escape-clause-refused c =
     let read = c.parse_character_class_escape_unicode in
     let refused : IsRefused Unicode r.units r.first c.args.spans.now c.in_err-escape.field-0.0 =
     property_refused c.args.spans.now c.offset-start.result c.args.builder.now c.args.state.now r c.advance.new.self read.new.reader c.in_err-escape.field-0.0
-    c.requires.before c.requires.pass c.requires.found c.advance.ensures c.in_err-escape.ensures in
+    c.requires.before c.requires.pass c.advance.ensures c.in_err-escape.ensures in
     search rules
 
 pub unreachable-requires : goal.unreachable-requires

@@ -3,7 +3,7 @@ use Rattle.rx_base.specs.declared.fault.Fault.TheVariants.{Diagnostic}
 use Rattle.rx_base.specs.declared.diagnostic.Diagnostic.TheVariants.{LoneQuantifier, ParsePatternIncomplete}
 use Rattle.rx_units.specs.Reading.{rest}
 use Rattle.rx_model.specs.declared.mode.Mode.TheVariants.{Unicode}
-use Rattle.rx_model.specs.Token.{closer, quantifier}
+use Rattle.rx_model.specs.Trees.Token.{closer, quantifier}
 use Rattle.rx_parser.specs.declared.found.Found.TheVariants as found
 use Rattle.rx_parser.specs.Faults.{IsHaltFault}
 use Rattle.rx_parser.specs.Parsing.{IsRefused}

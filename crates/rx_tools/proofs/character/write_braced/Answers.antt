@@ -1,6 +1,6 @@
 use Rattle.std.proofs.Common.{◌++◌, codes}
 use Rattle.std.specs.Str.{chars}
-use Rattle.rx_model.specs.CharacterText.{braced, hex}
+use Rattle.rx_model.specs.Spelling.CharacterText.{braced, hex}
 use Rattle.rx_tools.proofs.Pieces.{text_then, text_stop, failed_from}
 use Rattle.rx_tools.proofs.character.write_braced.Goals as goal
 

@@ -1,6 +1,6 @@
 use Rattle.std.proofs.Common.{◌++◌, codes}
 use Rattle.std.specs.Str.{chars}
-use Rattle.rx_model.specs.ClassText.{in_class_text}
+use Rattle.rx_model.specs.Spelling.ClassText.{in_class_text}
 use Rattle.rx_tools.proofs.Pieces.{text_then, text_stop, failed_from}
 use Rattle.rx_tools.proofs.class.write_range.Goals as goal
 

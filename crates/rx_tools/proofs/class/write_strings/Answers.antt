@@ -1,5 +1,5 @@
 use Rattle.rx_base.proofs.Writings.{written_none}
-use Rattle.rx_model.specs.ClassText.{characters_text}
+use Rattle.rx_model.specs.Spelling.ClassText.{characters_text}
 use Rattle.rx_tools.proofs.Lists.{none_long}
 use Rattle.rx_tools.proofs.Pieces.{utf8-nil, text_then, text_stop, failed_from}
 use Rattle.rx_tools.proofs.class.write_strings.Goals as goal

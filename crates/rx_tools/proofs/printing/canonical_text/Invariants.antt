@@ -1,6 +1,6 @@
 use Rattle.std.proofs.Common.{◌≡◌, ◌++◌, length}
 use Rattle.rx_ast.specs.Forget.{bare}
-use Rattle.rx_model.specs.Spelling.{spelling}
+use Rattle.rx_model.specs.Spelling.Spelling.{spelling}
 use Rattle.rx_tools.specs.Steps.{joined}
 use Rattle.rx_tools.specs.Tasks.{pending}
 use Rattle.rx_tools.specs.Utf8.{utf8}

@@ -1,8 +1,8 @@
 use Rattle.std.proofs.Common.{ap, ◌∙◌, sym, subst, ◌++◌}
 use Rattle.rx_base.specs.declared.span.Span.{Span}
 use Rattle.rx_ast.specs.Tree.{Node, group, mirror_disjunction}
-use Rattle.rx_model.specs.Events.{term_events}
-use Rattle.rx_model.specs.Token.{opener_of}
+use Rattle.rx_model.specs.Trees.Events.{term_events}
+use Rattle.rx_model.specs.Trees.Token.{opener_of}
 use Rattle.rx_parser.specs.Frames.{opener_tree}
 use Rattle.rx_parser.specs.Good.{IsGoodLevel}
 use Rattle.rx_parser.specs.Levels.{level_events}

@@ -1,6 +1,6 @@
 use Rattle.std.proofs.Common.{ap, sym, ◌∙◌}
 use Rattle.rx_ast.specs.Tree.{mirror_term}
-use Rattle.rx_model.specs.Shapes.{takes}
+use Rattle.rx_model.specs.Trees.Shapes.{takes}
 use Rattle.rx_parser.specs.Levels.{last_takes}
 use Rattle.rx_parser.proofs.EventEquations.{last_is}
 use Rattle.rx_parser.proofs.level.Level.is_ready.Goals as goal

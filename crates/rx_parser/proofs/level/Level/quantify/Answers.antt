@@ -2,7 +2,7 @@ use Rattle.std.proofs.Common.{◌≡◌, refl, ap, sym, ◌∙◌, true, false}
 use Rattle.rx_base.specs.declared.span.Span.{Span}
 use Rattle.rx_ast.specs.declared.term.Quantifier.{Quantifier}
 use Rattle.rx_ast.specs.Tree.{mirror_term}
-use Rattle.rx_model.specs.Shapes.{takes}
+use Rattle.rx_model.specs.Trees.Shapes.{takes}
 use Rattle.rx_parser.proofs.EventEquations.{level_repeat, last_after, quantifier_takes}
 use Rattle.rx_parser.proofs.Goods.{good_repeat}
 use Rattle.rx_parser.proofs.level.Level.quantify.Goals as goal

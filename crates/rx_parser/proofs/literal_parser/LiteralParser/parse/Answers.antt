@@ -1,28 +1,33 @@
-use Rattle.std.proofs.Common.{◌≡◌, ap, sym, ◌∙◌, subst, ℕ, ◌+◌, ◌<◌, ◌^◌, ◌⊎◌, true, inl, inr, List, Err, IfErr, IfOk, IsTrue, length, arith, rules}
+use Rattle.std.proofs.Common.{◌≡◌, ap, sym, ◌∙◌, subst, ℕ, ◌+◌, ◌<◌, ◌^◌, true, inl, inr, List, Option, Err, length, arith, rules}
 use Rattle.std.specs.Prelude.{All}
-use Rattle.std.proofs.lemmas.Result.{IfOk-weaker}
+use Rattle.std.specs.Borrow.{Bor}
 use Rattle.std.specs.Str.{chars}
-use Rattle.rx_base.specs.declared.fault.Fault.TheVariants.{OutOfMemory, NotYet}
+use Rattle.rx_base.specs.declared.fault.Fault.TheVariants.{OutOfMemory}
 use Rattle.rx_units.specs.declared.code_point.CodePoint.{CodePoint}
 use Rattle.rx_units.specs.Reading.{Reading}
 use Rattle.rx_units.specs.Units.{literal_units}
-use Rattle.rx_model.specs.Flags.{flags_of, flags_ok, mode_of}
-use Rattle.rx_model.specs.Reading.{IsOnly, IsValid, units_of}
-use Rattle.rx_model.proofs.OwnGroups.{tells_groups}
-use Rattle.rx_parser.specs.Literals.{flags_chars}
-use Rattle.rx_parser.specs.NotYet.{is_unread_literal}
+use Rattle.rx_model.specs.declared.form.Form.TheVariants.{Literal}
+use Rattle.rx_model.specs.Inputs.Flags.{flags_of, flags_ok, mode_of}
+use Rattle.rx_model.specs.Reading.Headline.{IsParsed}
+use Rattle.rx_model.specs.Inputs.Inputs.{Input, mode_asked, units_asked}
+use Rattle.rx_model.specs.Reading.Reading.{units_of}
+use Rattle.rx_parser.specs.declared.options.Options.{Options}
+use Rattle.rx_parser.specs.Literals.{flags_chars, input_of}
 use Rattle.rx_parser.specs.Parsing.{mode_of_state}
-use Rattle.rx_parser.proofs.Agains.{read_again}
-use Rattle.rx_parser.proofs.Literals.{fault_of_valid, memory_alone, fault_of_unread, passed_on, mode_is, units_are, only_by, reads_by, spanned_by, valid_by, unread_by_mode, mode_of_unread}
+use Rattle.rx_parser.proofs.Literals.{answers_by, fault_of_unread, flags_refused, memory_wants, mode_is, mode_of_unread, passed_on, text_parsed, units_are, unread_by_mode}
 use Rattle.rx_class.proofs.TextFits.{text_fits}
 use Rattle.rx_parser.proofs.literal_parser.LiteralParser.parse.Goals as goal
 
-pub returns-in_err-modes-clause-complete : goal.returns-in_err-modes-clause-complete
-returns-in_err-modes-clause-complete c = λ valid.
-    subst (λ r. IfErr r (λ fault. (fault ≡ OutOfMemory) ⊎ (fault ≡ NotYet)))
-    (sym (passed_on c.from_residual.result c.in_err-modes.field-0.0 c.from_residual.ensures.1))
-    (fault_of_valid (chars c.args.self.pattern_text.now) (chars c.text_of_flags-flags.result.now) (flags_chars c.args.self.flags_text) c.args.self.options.flags_span_offset
-    c.in_err-modes.field-0.0 c.text_of_flags-flags.ensures.flags c.in_err-modes.ensures.refused valid)
+-- what is to be read
+abbrev input : Bor (List ℕ) → Option (Bor (List ℕ)) → Options → Input
+input text flags options = input_of Literal text.now flags options
+
+pub returns-in_err-modes-clause-answered : goal.returns-in_err-modes-clause-answered
+returns-in_err-modes-clause-answered c = λ _.
+    let it = c.args.self in
+    let asked = input it.pattern_text it.flags_text it.options in
+    subst (λ r. IsParsed (λ p. p) asked r) (sym (passed_on c.from_residual.result c.in_err-modes.field-0.0 c.from_residual.ensures.1))
+    (flags_refused asked (chars c.text_of_flags-flags.result.now) c.in_err-modes.field-0.0 c.text_of_flags-flags.ensures.flags c.in_err-modes.ensures.refused)
 
 pub returns-in_err-modes-clause-later : goal.returns-in_err-modes-clause-later
 returns-in_err-modes-clause-later c = λ unread.
@@ -56,23 +61,15 @@ units_hold c =
 flags_hold : (c : goal.After-parse) → flags_ok (flags_of (flags_chars c.args.self.flags_text)) ≡ true
 flags_hold c = ap flags_ok (sym c.text_of_flags-flags.ensures.flags) ∙ c.in_ok-modes.ensures.passed
 
-pub returns-clause-only : goal.returns-clause-only
-returns-clause-only c = only_by c.parse.result _ _ _ _ (mode_holds c) (units_hold c) c.parse.ensures.only
-
-pub returns-clause-spanned : goal.returns-clause-spanned
-returns-clause-spanned c =
-    spanned_by c.parse.result _ _ _ _ (mode_holds c) (units_hold c) _ 0 _ _ (ap (λ (r : Reading). r.first) (c.new.ensures.reader ∙ c.in_ok-reader.ensures)) c.new.ensures.offset
-    c.parse.ensures.spanned
-
-pub returns-clause-groups : goal.returns-clause-groups
-returns-clause-groups c =
-    IfOk-weaker c.parse.result _ _ (λ it r. tells_groups (mode_of (flags_of (flags_chars c.args.self.flags_text))) it _ r.spelled)
-    (reads_by c.parse.result _ _ _ _ (mode_holds c) (units_hold c) c.parse.ensures.reads)
-
-pub returns-clause-valid : goal.returns-clause-valid
-returns-clause-valid c =
-    valid_by c.parse.result (chars c.args.self.pattern_text.now) (flags_chars c.args.self.flags_text) (flags_hold c)
-    (reads_by c.parse.result _ _ _ _ (mode_holds c) (units_hold c) c.parse.ensures.reads)
+pub returns-clause-answered : goal.returns-clause-answered
+returns-clause-answered c = λ read.
+    let it = c.args.self in
+    let asked = input it.pattern_text it.flags_text it.options in
+    let told = c.parse.ensures in
+    text_parsed asked c.parse.result (flags_hold c) read
+    (answers_by _ (mode_asked asked) _ (units_asked asked) _ 0 _ it.options.pattern_span_offset c.parse.result (mode_holds c) (units_hold c)
+    (ap (λ (r : Reading). r.first) (c.new.ensures.reader ∙ c.in_ok-reader.ensures)) c.new.ensures.offset
+    (record { reads = told.reads; only = told.only; spanned = told.spanned; groups = told.groups; refused = told.refused; complete = told.complete; not_yet = told.not_yet }))
 
 pub returns-clause-not_yet : goal.returns-clause-not_yet
 returns-clause-not_yet c = λ e.
@@ -82,31 +79,9 @@ pub returns-clause-later : goal.returns-clause-later
 returns-clause-later c = λ unread.
     inl (c.parse.ensures.later (mode_of_unread (flags_chars c.args.self.flags_text) (mode_of_state c.new.result.state) (mode_holds c) unread))
 
-pub returns-in_err-modes-clause-again : goal.returns-in_err-modes-clause-again
-returns-in_err-modes-clause-again c =
-    let text = chars c.args.self.pattern_text.now in
-    let flags = flags_chars c.args.self.flags_text in
-    let only : IfOk c.from_residual.result (λ it. IsOnly (mode_of (flags_of flags)) it (units_of (mode_of (flags_of flags)) text)) = search rules in
-    let not_yet : c.from_residual.result ≡ Err NotYet → IsTrue (is_unread_literal flags) = search rules in
-    read_again text flags c.from_residual.result only (returns-in_err-modes-clause-complete c) not_yet
-
-pub returns-clause-again : goal.returns-clause-again
-returns-clause-again c =
-    let text = chars c.args.self.pattern_text.now in
-    let flags = flags_chars c.args.self.flags_text in
-    let complete : IsValid text flags → IfErr c.parse.result (λ fault. (fault ≡ OutOfMemory) ⊎ (fault ≡ NotYet)) = search rules in
-    read_again text flags c.parse.result (returns-clause-only c) complete (returns-clause-not_yet c)
-
-pub returns-in_err-modes-clause-unicode : goal.returns-in_err-modes-clause-unicode
-returns-in_err-modes-clause-unicode c =
-    let text = chars c.args.self.pattern_text.now in
-    let flags = flags_chars c.args.self.flags_text in
-    let not_yet : c.from_residual.result ≡ Err NotYet → IsTrue (is_unread_literal flags) = search rules in
-    memory_alone text flags c.from_residual.result (returns-in_err-modes-clause-complete c) not_yet
-
-pub returns-clause-unicode : goal.returns-clause-unicode
-returns-clause-unicode c =
-    let text = chars c.args.self.pattern_text.now in
-    let flags = flags_chars c.args.self.flags_text in
-    let complete : IsValid text flags → IfErr c.parse.result (λ fault. (fault ≡ OutOfMemory) ⊎ (fault ≡ NotYet)) = search rules in
-    memory_alone text flags c.parse.result complete (returns-clause-not_yet c)
+pub returns-in_err-reader-clause-answered : goal.returns-in_err-reader-clause-answered
+returns-in_err-reader-clause-answered c = λ _.
+    let it = c.args.self in
+    let asked = input it.pattern_text it.flags_text it.options in
+    let is : c.from_residual-in_err-reader.result ≡ Err OutOfMemory = search rules in
+    subst (λ r. IsParsed (λ p. p) asked r) (sym is) (memory_wants asked)
