@@ -1,24 +1,10 @@
 //! Reads lines that each hold a pattern, and writes for each line the pattern's canonical spelling, or why there is none.
 #![tactic(auto)]
 
-mod input;
-mod line;
-pub mod over_memory;
-mod pieces;
-mod replies;
-mod request;
-mod run;
-mod server;
-mod spans;
-mod standard;
-#[cfg(test)]
-mod tests;
-mod words;
-
-use run::run;
-use standard::{StdSink, StdSource};
+use rx_run::run::run;
+use rx_run::standard::{StdSink, StdSource};
+use rx_run::words::words;
 use std::process::ExitCode;
-use words::words;
 
 fn main(rt: HostRuntime) -> ExitCode {
     let alloc = rt.alloc();

@@ -1,0 +1,83 @@
+-- What replies are made of, and the replies to lines past the limit.
+use Rattle.std.proofs.Common.{◌≡◌, ◌<◌, ◌≤◌, refl, sym, ap, ◌∙◌, subst, inl, inr, ℕ, Bool, true, false, Result, Ok, Err, List, ◌++◌, append_assoc, codes, encode_utf8_all, length, arith}
+use Rattle.std.specs.Str.{chars, IsUtf8}
+use Rattle.std.proofs.lemmas.Bool.{cases_lt}
+use Rattle.std.proofs.lemmas.List.{take_all, length-take-le}
+use Rattle.std.proofs.lemmas.Str.{encodes-chars}
+use Rattle.rx_base.specs.declared.diagnostic.Diagnostic.{Diagnostic}
+use Rattle.rx_base.specs.declared.fault.Fault.TheVariants as fault
+use Rattle.rx_ast.specs.Forget.{bare}
+use Rattle.rx_model.specs.declared.mode.Mode.{Mode}
+use Rattle.rx_model.specs.Reading.Headline.{IsAnswered, IsFaultOf, IsFirstRefusal, refused}
+use Rattle.rx_model.specs.Inputs.Inputs.{Input, mode_asked}
+use Rattle.rx_model.specs.Spelling.Spelling.{spelling}
+use Rattle.rx_tools.specs.declared.outcome.Canonical.{Canonical}
+use Rattle.rx_tools.specs.NotYet.{is_not_yet}
+use Rattle.rx_tools.specs.Spelled.{spelled_of}
+use Rattle.rx_run.specs.Request.{Request, IsRequest}
+use Rattle.rx_run.specs.Reply.{IsReply, bad, later, ok, err, bad_reply, err_reply, input_of, mode_name, ok_reply}
+use Rattle.rx_run.specs.Serving.{kept}
+
+-- the parts of an `ok` reply, added behind one another
+pub ok_reply_added : (old first second third text bytes : List ℕ) (mode : Mode) → IsUtf8 bytes → chars bytes ≡ text
+    → first ≡ old ++ (codes "ok\t" ++ mode_name mode ++ codes "\t") → second ≡ first ++ bytes → third ≡ second ++ codes "\n" → third ≡ old ++ ok_reply mode text
+ok_reply_added old first second third text bytes mode utf8 is e f g =
+    let front : List ℕ = codes "ok\t" ++ mode_name mode ++ codes "\t" in
+    let encoded : bytes ≡ encode_utf8_all text = sym (encodes-chars bytes utf8) ∙ ap encode_utf8_all is in
+    g ∙ ap (λ (x : List ℕ). x ++ codes "\n") (f ∙ ap (λ (x : List ℕ). x ++ bytes) e ∙ append_assoc old front bytes ∙ ap (λ (x : List ℕ). old ++ (front ++ x)) encoded)
+    ∙ append_assoc old (front ++ encode_utf8_all text) (codes "\n")
+
+-- an `ok` reply, as it was made
+pub ok_reply_is : (line : List ℕ) (request : Request) (it : Canonical) → IsRequest line request → is_not_yet request.form request.flags ≡ false → IsAnswered spelled_of (input_of request) (Ok it)
+    → IsReply line (ok_reply it.mode it.text)
+ok_reply_is line request it asked read answered =
+    let mode : Mode = mode_asked (input_of request) in
+    let reply : ok_reply it.mode it.text ≡ ok_reply mode (spelling (bare it.pattern) mode) =
+    ap (ok_reply it.mode) answered.text_is ∙ ap (λ (m : Mode). ok_reply m (spelling (bare it.pattern) m)) answered.mode_is in
+    let Q : List ℕ → Type 0 = λ r. IsReply line r in
+    subst Q (sym reply) (ok request it.pattern asked read answered.parsed.valid.flags_are answered.parsed.read)
+
+first_of : (input : Input) (refusal : Diagnostic) → IsFaultOf input (fault.Diagnostic refusal) → IsFirstRefusal input refusal
+first_of input refusal (refused first) = first
+
+-- an `err` reply, as it was made
+pub err_reply_is : (line : List ℕ) (request : Request) (refusal : Diagnostic) → IsRequest line request → is_not_yet request.form request.flags ≡ false
+    → IsAnswered spelled_of (input_of request) (Err (fault.Diagnostic refusal)) → IsReply line (err_reply refusal)
+err_reply_is line request refusal asked read answered =
+    let parsed = answered.parsed in
+    err request refusal asked read (λ valid. let e = parsed.complete valid in let no : ⊥ = cc e in no) (first_of (input_of request) refusal parsed.refused)
+
+-- a line past the limit has exactly the reply `bad`
+long_is_bad : (line : List ℕ) → 1048576 < length line → IsReply line bad_reply
+long_is_bad line long = bad (λ request is. let short : length line ≤ 1048576 = is.within in omega arith)
+
+bad_if_long : (line reply : List ℕ) → 1048576 < length line → IsReply line reply → reply ≡ bad_reply
+bad_if_long line reply long (bad none) = refl
+bad_if_long line reply long (later request asked not_yet) = absurd (let short : length line ≤ 1048576 = asked.within in omega arith)
+bad_if_long line reply long (ok request pattern asked read flags_are is_read) = absurd (let short : length line ≤ 1048576 = asked.within in omega arith)
+bad_if_long line reply long (err request refusal asked read none first) = absurd (let short : length line ≤ 1048576 = asked.within in omega arith)
+
+long_alike : (line line' reply : List ℕ) → 1048576 < length line → 1048576 < length line' → IsReply line reply → IsReply line' reply
+long_alike line line' reply long long' is =
+    let P : List ℕ → Type 0 = λ r. IsReply line' r in subst P (sym (bad_if_long line reply long is)) (long_is_bad line' long')
+
+pub kept-short : (line : List ℕ) → length line ≤ 1048577 → kept line ≡ line
+unfolding kept
+kept-short line short = take_all 1048577 line short
+
+pub length-kept : (line : List ℕ) → 1048577 ≤ length line → length (kept line) ≡ 1048577
+unfolding kept
+length-kept line long = length-take-le 1048577 line long
+
+-- the line and as much of it as is kept have the same replies
+pub IsReply-kept : (line reply : List ℕ) → IsReply (kept line) reply → IsReply line reply
+IsReply-kept line reply is = elim (cases_lt 1048577 (length line)) [
+  | inl long ↦ long_alike (kept line) line reply (let len : length (kept line) ≡ 1048577 = length-kept line (omega arith) in omega arith) (omega arith) is
+  | inr short ↦ let P : List ℕ → Type 0 = λ x. IsReply x reply in subst P (kept-short line short) is
+]
+
+pub IsReply-of_kept : (line reply : List ℕ) → IsReply line reply → IsReply (kept line) reply
+IsReply-of_kept line reply is = elim (cases_lt 1048577 (length line)) [
+  | inl long ↦ long_alike line (kept line) reply (omega arith) (let len : length (kept line) ≡ 1048577 = length-kept line (omega arith) in omega arith) is
+  | inr short ↦ let P : List ℕ → Type 0 = λ x. IsReply x reply in subst P (sym (kept-short line short)) is
+]

@@ -1,0 +1,43 @@
+use Rattle.std.proofs.Common.{◌≡◌, ◌∙◌, ap, sym, subst, [], ◌++◌, List, ℕ}
+use Rattle.std.proofs.KnownBytes.{Appends-nil}
+use Rattle.std.proofs.lemmas.Bool.{false≢true}
+use Rattle.std.proofs.lemmas.Result.{err_from_is_err_and}
+use Rattle.std.specs.Io.KnownBytes.{Appends}
+use Rattle.rx_run.specs.Serving.{Ends}
+use Rattle.rx_run.proofs.Servings.{ends_nothing, ends_last, halts_nothing, halts_ending}
+use Rattle.rx_run.proofs.server.Server.finish.Goals as goal
+
+pub returns-then-is_empty-clause-ok : goal.returns-then-is_empty-clause-ok
+returns-then-is_empty-clause-ok g c =
+    let old = c.args.self.now in
+    ([], Appends-nil (g.K.Sink.taken c.args.sink.now), ends_nothing old.line.bytes old.replies.all_ok (c.is_empty.ensures.0 c.if-is_empty.true))
+
+pub returns-in_err-answer-clause-err : goal.returns-in_err-answer-clause-err
+returns-in_err-answer-clause-err g c =
+    let p = err_from_is_err_and c.from_residual.result c.from_residual.ensures.1 in
+    rw (p.1, p.2) ([], Appends-nil (g.K.Sink.taken c.args.sink.now), halts_nothing c.args.self.now.line.bytes [])
+
+pub returns-in_err-write-clause-err : goal.returns-in_err-write-clause-err
+returns-in_err-write-clause-err g c =
+    let old = c.args.self.now in
+    let mid = c.answer.new.self in
+    let r = c.in_ok-answer.ensures.reply in
+    let some = λ (none : old.line.bytes ≡ []). false≢true (sym c.if-is_empty.false ∙ c.is_empty.ensures.1 none) in
+    let ended : Ends old.line.bytes old.replies.all_ok r.0 mid.replies.all_ok = ends_last old.line.bytes r.0 old.replies.all_ok mid.replies.all_ok old.line.one_line some r.1 r.3 in
+    let is : mid.replies.bytes ≡ r.0 = r.2 ∙ ap (λ (x : List ℕ). x ++ r.0) c.requires in
+    let part = c.in_err-write.ensures.written.part in
+    let p = err_from_is_err_and c.from_residual-in_err-write.result c.from_residual-in_err-write.ensures.1 in
+    rw (p.1, p.2) (part.front, part.appended, halts_ending part.front part.back ended (sym is ∙ part.cut) part.missing)
+
+pub returns-clause-ok : goal.returns-clause-ok
+returns-clause-ok g c =
+    let old = c.args.self.now in
+    let mid = c.answer.new.self in
+    let r = c.in_ok-answer.ensures.reply in
+    let some = λ (none : old.line.bytes ≡ []). false≢true (sym c.if-is_empty.false ∙ c.is_empty.ensures.1 none) in
+    let is : mid.replies.bytes ≡ r.0 = r.2 ∙ ap (λ (x : List ℕ). x ++ r.0) c.requires in
+    let P : List ℕ → Type 0 = λ x. Appends (g.K.Sink.taken c.args.sink.now) (g.K.Sink.taken c.write.new.sink) x in (
+      r.0,
+      subst P is c.in_ok-write.ensures.written.whole,
+      ends_last old.line.bytes r.0 old.replies.all_ok c.write.new.self.all_ok old.line.one_line some r.1 (c.write.ensures.all_ok ∙ r.3),
+    )

@@ -1,0 +1,29 @@
+-- The statuses that a run of the program ends with.
+use Rattle.std.specs.Prelude.{◌≡◌, ℕ, true, false, List, [], ◌⊎◌}
+use Rattle.rx_run.specs.declared.run.Status.{Status}
+use Rattle.rx_run.specs.declared.run.Status.TheVariants.{AllOk, SomeRefused, Usage, ReadFault, WriteFault, OutOfMemory, TooMuch}
+use Rattle.rx_run.specs.Outcome.{IsAnswered, IsBegun}
+
+-- the number that the process ends with
+abbrev pub number_of : Status → ℕ
+number_of AllOk = 0
+number_of SomeRefused = 1
+number_of Usage = 2
+number_of ReadFault = 3
+number_of WriteFault = 4
+number_of OutOfMemory = 5
+number_of TooMuch = 6
+
+-- what was read and what was written, by the status
+abbrev pub Outcome : Status → List ℕ → List ℕ → Type 0
+Outcome AllOk read written = IsAnswered read written true
+Outcome SomeRefused read written = IsAnswered read written false
+Outcome Usage read written = (read ≡ []) × (written ≡ [])
+Outcome ReadFault read written = IsBegun read written 0
+Outcome WriteFault read written = IsBegun read written 1
+Outcome OutOfMemory read written = IsBegun read written 0
+Outcome TooMuch read written = IsBegun read written 0
+
+-- the input was answered to its end
+abbrev pub IsFinished : Status → Type 0
+IsFinished status = (status ≡ AllOk) ⊎ (status ≡ SomeRefused)

@@ -1,0 +1,51 @@
+ghost use Rattle.std.specs.Prelude.{◌≡◌, ◌≤◌, ◌++◌, ◌↔◌, [], IsTrue, length, OnOk, OnErr};
+ghost use Rattle.rx_run.specs.Lines.{lacks};
+ghost use Rattle.rx_run.specs.Serving.{kept};
+
+use crate::request::LINE_LIMIT;
+use rx_base::{List, OutOfMemory};
+use std::alloc::Global;
+
+/// How much of a line is kept, in bytes: one more than is read, which shows that the line is too long.
+const KEPT: usize = LINE_LIMIT + 1;
+
+/// A line that is being read, as far as it is kept. Its memory is used again for the next line.
+#[derive(Drop)]
+pub struct Line {
+    pub bytes: List<u8>,
+    ghost one_line: { IsTrue (lacks 10 bytes) },
+    ghost in_bound: { length bytes ≤ 1048577 },
+}
+
+impl Line {
+    /// Takes no memory.
+    pub fn new(alloc: Global) -> Line
+        ensures { result.bytes ≡ [] }
+    {
+        Line {
+            bytes: List::new(alloc),
+        }
+    }
+
+    pub fn is_empty(&self) -> bool
+        ensures { IsTrue result ↔ (self.now.bytes ≡ []) }
+    {
+        self.bytes.is_empty()
+    }
+
+    /// Adds a piece, as far as it is kept. A refused call leaves the line as it was.
+    pub fn keep(&mut self, piece: &[u8]) -> Result<(), OutOfMemory>
+        requires { IsTrue (lacks 10 piece.now) }
+        ensures ok { OnOk result (self.new.bytes ≡ kept (self.old.bytes ++ piece.now)) }
+        ensures err { OnErr result (self.new.bytes ≡ self.old.bytes) }
+    {
+        let count = piece.len().min(KEPT - self.bytes.len());
+        self.bytes.extend_from_slice(&piece[..count])
+    }
+
+    pub fn clear(&mut self)
+        ensures { self.new.bytes ≡ [] }
+    {
+        self.bytes.clear();
+    }
+}

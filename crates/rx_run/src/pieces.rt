@@ -1,0 +1,24 @@
+ghost use Rattle.std.specs.Prelude.{◌≡◌, ◌∷◌, ◌++◌, IsTrue, MatchOption};
+ghost use Rattle.rx_run.specs.Lines.{lacks};
+
+use memchr::memchr;
+
+/// What stands before and after the first such byte, or none where it does not occur.
+pub fn split_at_byte(byte: u8, bytes: &[u8]) -> Option<(&[u8], &[u8])>
+    ensures { MatchOption result
+        (IsTrue (lacks byte bytes.now))
+        (λ p. (bytes.now ≡ p.0.now ++ byte ∷ p.1.now) × IsTrue (lacks byte p.0.now)) }
+{
+    let at = memchr(byte, bytes)?;
+    Some((&bytes[..at], &bytes[at + 1..]))
+}
+
+/// What stands before and after the first TAB, or none where there is no TAB.
+pub fn split_at_tab(text: &str) -> Option<(&str, &str)>
+    ensures { MatchOption result
+        (IsTrue (lacks 9 text.now))
+        (λ p. (text.now ≡ p.0.now ++ 9 ∷ p.1.now) × IsTrue (lacks 9 p.0.now)) }
+{
+    let at = memchr(b'\t', text.as_bytes())?;
+    Some((&text[..at], &text[at + 1..]))
+}

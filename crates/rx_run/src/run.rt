@@ -1,0 +1,167 @@
+ghost use Rattle.std.specs.Prelude.{◌≡◌, ◌≢◌, ◌<◌, ◌+◌, ◌↔◌, [], OnOk, IsErrOf};
+ghost use Rattle.std.specs.Io.KnownBytes.{IsAtEnd};
+ghost use Rattle.rx_base.specs.Causes.{Rose};
+ghost use Rattle.rx_run.specs.Outcome.{ReadsAndWrites};
+ghost use Rattle.rx_run.specs.Status.{Outcome, IsFinished, number_of};
+ghost use Rattle.rx_run.specs.Stop.{IsServed};
+
+use crate::input::{Input, InputFault};
+use crate::server::{ReplyFault, Server};
+use rx_base::{OutOfMemory, Sink, Source, Text};
+use std::alloc::Global;
+
+/// How much is read at once, in bytes.
+const CHUNK: usize = 65536;
+
+/// Why the input was not answered to its end.
+#[derive(Clone, Copy, Debug, PartialEq, Eq)]
+pub enum Stop {
+    /// There was not enough memory for the buffer.
+    OutOfMemory,
+    Input(InputFault),
+    Reply(ReplyFault),
+}
+
+impl From<OutOfMemory> for Stop {
+    ghost use Rattle.std.specs.Prelude.{◌≡◌};
+    ghost use Rattle.rx_run.specs.declared.run.Stop.TheVariants as stop;
+
+    ghost from_gives = { λ _ e. e ≡ stop.OutOfMemory };
+
+    fn from(_: OutOfMemory) -> Stop {
+        Stop::OutOfMemory
+    }
+}
+
+impl From<InputFault> for Stop {
+    ghost use Rattle.std.specs.Prelude.{◌≡◌};
+    ghost use Rattle.rx_run.specs.declared.run.Stop.TheVariants as stop;
+
+    ghost from_gives = { λ fault e. e ≡ stop.Input fault };
+
+    fn from(fault: InputFault) -> Stop {
+        Stop::Input(fault)
+    }
+}
+
+impl From<ReplyFault> for Stop {
+    ghost use Rattle.std.specs.Prelude.{◌≡◌};
+    ghost use Rattle.rx_run.specs.declared.run.Stop.TheVariants as stop;
+
+    ghost from_gives = { λ fault e. e ≡ stop.Reply fault };
+
+    fn from(fault: ReplyFault) -> Stop {
+        Stop::Reply(fault)
+    }
+}
+
+/// How a run of the program ended.
+#[derive(Clone, Copy, Debug, PartialEq, Eq)]
+pub enum Status {
+    /// The input was read to its end, every reply was written, and every reply begins with `ok`.
+    AllOk,
+
+    /// The input was read to its end, every reply was written, and some reply does not begin with `ok`.
+    SomeRefused,
+
+    /// The words are none of the stated lists.
+    Usage,
+
+    /// The source had a fault.
+    ReadFault,
+
+    /// The sink had a fault.
+    WriteFault,
+
+    /// There was not enough memory.
+    OutOfMemory,
+
+    /// The input is longer than is read.
+    TooMuch,
+}
+
+impl Status {
+    /// The number that the process ends with.
+    pub fn number(self) -> u8
+        ensures { result ≡ number_of self }
+    {
+        match self {
+            Status::AllOk => 0,
+            Status::SomeRefused => 1,
+            Status::Usage => 2,
+            Status::ReadFault => 3,
+            Status::WriteFault => 4,
+            Status::OutOfMemory => 5,
+            Status::TooMuch => 6,
+        }
+    }
+}
+
+impl From<OutOfMemory> for Status {
+    ghost use Rattle.std.specs.Prelude.{◌≡◌};
+    ghost use Rattle.rx_run.specs.declared.run.Status.TheVariants as status;
+
+    ghost from_gives = { λ _ e. e ≡ status.OutOfMemory };
+
+    fn from(_: OutOfMemory) -> Status {
+        Status::OutOfMemory
+    }
+}
+
+/// Reads the input to its end, answers each line, and says whether each reply begins with `ok`.
+fn serve<S: Source, K: Sink>(alloc: Global, source: &mut S, sink: &mut K) -> Result<bool, Stop>
+    ensures content { ReadsAndWrites (S.left source.old) (S.left source.new) (S.drawn source.old) (S.drawn source.new)
+        (K.taken sink.old) (K.taken sink.new) (IsServed result) }
+    ensures end { OnOk result (IsAtEnd (S.left source.new)) }
+
+    ensures fixed { K.fixed sink.new ≡ K.fixed sink.old }
+    ensures read_fault { IsErrOf result (Stop.Input InputFault.Read) → Rose (S.faults source.old) (S.faults source.new) }
+    ensures write_fault { IsErrOf result (Stop.Reply ReplyFault.Write) → Rose (K.faults sink.old) (K.faults sink.new) }
+    ensures too_much { IsErrOf result (Stop.Input InputFault.TooMuch) ↔ (S.drawn source.old + 67108864 < S.drawn source.new) }
+{
+    let mut input = Input::new(alloc, CHUNK)?;
+    let mut server = Server::new(alloc);
+    'chunks: loop {
+        let count = input.fill(source)?;
+        if count == 0 {
+            let all_ok = server.finish(alloc, sink)?;
+            return Ok(all_ok);
+        }
+        server.feed(alloc, input.bytes(count), sink)?;
+    }
+}
+
+/// Does all that the program does, for the words after its name. No words are the only stated list.
+pub fn run<S: Source, K: Sink>(
+    alloc: Global,
+    words: &[Text],
+    source: &mut S,
+    sink: &mut K,
+) -> Status
+    // What was read and written: where the input was read to its end, one reply to each line, in order, and nothing else; else the
+    // front of the replies to the first lines.
+    ensures content { ReadsAndWrites (S.left source.old) (S.left source.new) (S.drawn source.old) (S.drawn source.new)
+        (K.taken sink.old) (K.taken sink.new) (Outcome result) }
+    ensures end { IsFinished result → IsAtEnd (S.left source.new) }
+
+    // When each status comes. So where none of these facts holds, memory ran out or the input was answered.
+    ensures usage { (result ≡ Status.Usage) ↔ (words.now ≢ []) }
+    ensures untouched { result ≡ Status.Usage → (source.new ≡ source.old) × (sink.new ≡ sink.old) }
+    ensures fixed { K.fixed sink.new ≡ K.fixed sink.old }
+    ensures read_fault { result ≡ Status.ReadFault → Rose (S.faults source.old) (S.faults source.new) }
+    ensures write_fault { result ≡ Status.WriteFault → Rose (K.faults sink.old) (K.faults sink.new) }
+    ensures too_much { (result ≡ Status.TooMuch) ↔ (S.drawn source.old + 67108864 < S.drawn source.new) }
+{
+    if !words.is_empty() {
+        return Status::Usage;
+    }
+    match serve(alloc, source, sink) {
+        Ok(true) => Status::AllOk,
+        Ok(false) => Status::SomeRefused,
+        Err(Stop::OutOfMemory) => Status::OutOfMemory,
+        Err(Stop::Input(InputFault::Read)) => Status::ReadFault,
+        Err(Stop::Input(InputFault::TooMuch)) => Status::TooMuch,
+        Err(Stop::Reply(ReplyFault::Write)) => Status::WriteFault,
+        Err(Stop::Reply(ReplyFault::OutOfMemory)) => Status::OutOfMemory,
+    }
+}
