@@ -1,0 +1,17 @@
+use Rattle.std.proofs.Common.{arith}
+use Rattle.rx_example.proofs.Parts.{first_term_groups, first_term_size, popped_groups, popped_size}
+use Rattle.rx_example.proofs.groups.open_terms.Goals as goal
+
+pub returns-clause-groups : goal.returns-clause-groups
+returns-clause-groups c =
+    let others = popped_groups _ _ _ c.in_ok-push.ensures.ok in
+    let cut = first_term_groups c.args.terms.now c.in-Some.first.now c.in-Some.rest.now c.in-Some.ensures.cases.0 in
+    let own = c.in_ok-own.ensures.groups in
+    omega arith
+
+pub returns-clause-size : goal.returns-clause-size
+returns-clause-size c =
+    let others = popped_size _ _ _ c.in_ok-push.ensures.ok in
+    let cut = first_term_size c.args.terms.now c.in-Some.first.now c.in-Some.rest.now c.in-Some.ensures.cases.0 in
+    let own = c.in_ok-own.ensures.size in
+    omega arith

@@ -1,0 +1,44 @@
+-- What is shown of a literal.
+use Rattle.std.specs.Prelude.{◌≡◌, ℕ, true, List, Option}
+use Rattle.std.specs.Str.{encode_utf8_all}
+use Rattle.std.specs.String.{string_bytes}
+use Rattle.rx_ast.specs.declared.term.Pattern.{Pattern}
+use Rattle.rx_ast.specs.Forget.{bare}
+use Rattle.rx_base.specs.declared.diagnostic.Diagnostic.{Diagnostic}
+use Rattle.rx_base.specs.Diagnostic.{name_of, first_span_of, second_span_of}
+use Rattle.rx_base.specs.DiagnosticMessage.{message_of}
+use Rattle.rx_model.specs.declared.form.Form.TheVariants.{Literal}
+use Rattle.rx_model.specs.Reading.Headline.{IsFirstRefusal, IsReadAs}
+use Rattle.rx_model.specs.Inputs.Inputs.{Input, mode_asked}
+use Rattle.rx_model.specs.Trees.Names.{groups}
+use Rattle.rx_model.specs.Reading.Reading.{IsValid}
+use Rattle.rx_model.specs.Spelling.Spelling.{spelling}
+use Rattle.rx_parser.specs.NotYet.{is_unread_literal}
+use Rattle.rx_example.specs.declared.finding.Finding.{Finding}
+use Rattle.rx_example.specs.declared.finding.Finding.TheVariants as finding
+use Rattle.rx_example.specs.declared.finding.Refused.{Refused}
+
+-- a literal by itself: its text and its flags
+abbrev pub literal : List ℕ → Option (List ℕ) → Input
+literal text flags = record { form = Literal; text = text; flags = flags; text_offset = 0; flags_offset = 0 }
+
+-- The input is valid, so many groups of its tree capture, and this is its canonical spelling.
+pub record IsRead (input : Input) (count : ℕ) (spelled : List ℕ) : Type 0 where
+  pub valid : IsValid input.text input.flags
+  pub pattern : Pattern
+  pub read : IsReadAs input pattern
+  pub count_is : count ≡ groups pattern
+  pub spelled_is : spelled ≡ spelling (bare pattern) (mode_asked input)
+
+-- what a refusal is called, where it stands and what it says
+pub record Shows (shown : Refused) (cause : Diagnostic) : Type 0 where
+  pub name : shown.name.now ≡ name_of cause
+  pub first : shown.first ≡ first_span_of cause
+  pub second : shown.second ≡ second_span_of cause
+  pub message : string_bytes shown.message ≡ encode_utf8_all (message_of cause)
+
+-- What is found out about an input: it is read; or this is shown of its first refusal; or its mode is not read yet.
+abbrev pub IsFinding : Input → Finding → Type 0
+IsFinding input (finding.Read count spelled) = IsRead input count spelled
+IsFinding input (finding.Refused shown) = (cause : Diagnostic) × IsFirstRefusal input cause × Shows shown cause
+IsFinding input finding.Later = is_unread_literal input.flags ≡ true
