@@ -3,6 +3,7 @@ pub mod DeadFronts
 pub mod DeadPlaces
 pub mod Faults
 pub mod FlagCauses
+pub mod LegacyRaws
 pub mod LegacyRefusals
 pub mod LegacyStops
 pub mod OneCause

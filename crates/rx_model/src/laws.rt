@@ -1,9 +1,10 @@
 //! Laws of the definitions. The functions do nothing: each contract is a law.
 
-ghost use Rattle.std.specs.Prelude.{◌≡◌, ◌≢◌, ◌==◌, ◌&&◌, ◌⊎◌, false, true, ℕ, List, [], ◌∷◌, ◌++◌, Result, ◌↔◌, Bool, Option, Some, ◌+◌, length};
+ghost use Rattle.std.specs.Prelude.{◌≡◌, ◌≢◌, ◌==◌, ◌&&◌, ◌⊎◌, false, true, ℕ, List, [], ◌∷◌, ◌++◌, Result, ◌↔◌, Bool, Option, Some, ◌+◌, length, ◌||◌, codes};
 ghost use Rattle.rx_base.specs.declared.diagnostic.Diagnostic.{Diagnostic};
 ghost use Rattle.rx_base.specs.declared.fault.Fault.{Fault};
-ghost use Rattle.rx_base.specs.declared.diagnostic.Diagnostic.TheVariants.{CharacterClassRangeInvalidAtom, InvalidBracedQuantifier, InvalidExtendedAtomEscape};
+ghost use Rattle.rx_base.specs.declared.diagnostic.Diagnostic.TheVariants.{CharacterClassRangeInvalidAtom, InvalidBracedQuantifier, InvalidExtendedAtomEscape, BracedQuantifierOutOfOrder, LoneQuantifier, TooLargeNumberDigits, TooLargeNumberInBracedQuantifier};
+ghost use Rattle.rx_base.specs.declared.diagnostic.kinds.DigitsKind.TheVariants as digits;
 ghost use Rattle.rx_base.specs.declared.span.Span.{Span};
 ghost use Rattle.rx_ast.specs.ClassTree.{Class};
 ghost use Rattle.rx_ast.specs.Forget.{bare, unspanned};
@@ -15,12 +16,11 @@ ghost use Rattle.rx_model.specs.Trees.Bodies.{AreQuantified, BeginsWithQuantifie
 ghost use Rattle.rx_model.specs.Refusals.Causes.{IsCause, IsCauseAtPlace};
 ghost use Rattle.rx_model.specs.Refusals.ClassCauses.{IsClassCause};
 ghost use Rattle.rx_model.specs.Classes.ClassRows.{ClassTokenRow, IsClass, Place, outside, SpellsAtom};
-ghost use Rattle.rx_model.specs.Classes.ClassTokens.{ClassToken, class_tokens};
+ghost use Rattle.rx_model.specs.Classes.ClassTokens.{ClassToken, class_tokens, Atom};
 ghost use Rattle.rx_model.specs.Classes.ClassContents.{AreContents, Thing, held_after};
 ghost use Rattle.rx_model.specs.Classes.ClassRuns.{Held, empty, is_whole, class_opened};
 ghost use Rattle.rx_model.specs.Refusals.ClassPlaces.{IsAtomPlace};
 ghost use Rattle.rx_model.specs.Classes.ClassShapes.{IsFitting, IsFlagged};
-ghost use Rattle.rx_model.specs.Classes.ClassTokens.{Atom, ClassToken, class_tokens};
 ghost use Rattle.rx_model.specs.FirstPass.Cuts.{IsCut, TellsApart, TellsGroups};
 ghost use Rattle.rx_model.specs.Trees.Early.{IsEarlyClass};
 ghost use Rattle.rx_model.specs.Inputs.Environment.{Environment, environment, is_unicode};
@@ -34,7 +34,6 @@ ghost use Rattle.rx_model.specs.Reading.Prefixes.{GoesOn, GoesOnInClass};
 ghost use Rattle.rx_model.specs.Refusals.Reached.{IsPlace, text_environment};
 ghost use Rattle.rx_model.specs.Trees.Events.{tokens};
 ghost use Rattle.rx_model.specs.Refusals.FlagCauses.{IsFlagCause};
-ghost use Rattle.rx_model.specs.Inputs.Flags.{flags_ok};
 ghost use Rattle.rx_model.specs.FirstPass.Marks.{starts};
 ghost use Rattle.rx_model.specs.Spelling.OneLine.{IsOneLine};
 ghost use Rattle.rx_model.specs.Trees.OpenGroups.{AreOpen, EndsQuantifiable};
@@ -43,9 +42,12 @@ ghost use Rattle.rx_model.specs.Reading.Reading.{IsSpelled, Reads};
 ghost use Rattle.rx_model.specs.Reading.Rows.{Spells, TokenRow};
 ghost use Rattle.rx_model.specs.Reading.Sequences.{ElementRow, ElementsGoOn};
 ghost use Rattle.rx_model.specs.Spelling.Spelling.{spelling};
-ghost use Rattle.rx_model.specs.Refusals.Stops.{IsStop, begins_class_escape};
+ghost use Rattle.rx_model.specs.Refusals.Stops.{IsStop, begins_class_escape, is_letter, is_one_of};
 ghost use Rattle.rx_model.specs.Trees.Shapes.{IsWellMade, run};
-ghost use Rattle.rx_model.specs.Trees.Token.{Opener, Token, quantifier};
+ghost use Rattle.rx_model.specs.Trees.Token.{Opener, Token, quantifier, character};
+ghost use Rattle.rx_model.specs.Quantifiers.Quantifiers.{BeginsWithBraces};
+ghost use Rattle.rx_model.specs.Characters.LegacyEscapes.{is_control};
+ghost use Rattle.rx_model.specs.Characters.UnitKinds.{unit_kind};
 
 use crate::sequence::{ClassTokens, ElementKind, NameCharacters, PatternTokens};
 
@@ -301,13 +303,33 @@ pub fn quantifiers_stand()
         tokens p ≡ before ++ after → TokenRow (environment mode p) before us rest → BeginsWithoutQuantifier after → (min : ℕ) (max : Option ℕ) → BeginsWithQuantifier rest min max → ⊥ }
 {}
 
-/// With neither `u` nor `v` no place is reached beyond a quantifier that is refused since it has nothing to stand behind, nor beyond a backslash that is
-/// refused since it ends the text; and with `u` alone a range is refused since an end of it is no character (ECMA-262, 22.2.1.1 and B.1.4).
+/// With neither `u` nor `v` no place is reached beyond a quantifier that is refused, since it has nothing to stand behind or for its numbers, nor beyond a
+/// backslash that is refused since it ends the text; and with `u` alone a range is refused since an end of it is no character (ECMA-262, 22.2.1.1 and B.1).
 pub fn legacy_refusals()
     ensures quantifier { (mode : Mode) → is_unicode mode ≡ false → (us : List CodePoint) (start added place : ℕ) (span : Span) →
         IsCauseAtPlace mode us start added place (InvalidBracedQuantifier span) → NoneBeyond mode us place }
+    ensures lone { (mode : Mode) (us : List CodePoint) (start added place : ℕ) (span : Span) → IsCauseAtPlace mode us start added place (LoneQuantifier span) → is_unicode mode ≡ true }
+    ensures order { (mode : Mode) → is_unicode mode ≡ false → (us : List CodePoint) (start added place : ℕ) (span : Span) →
+        IsCauseAtPlace mode us start added place (BracedQuantifierOutOfOrder span) → NoneBeyond mode us place }
+    ensures large { (mode : Mode) → is_unicode mode ≡ false → (us : List CodePoint) (start added place : ℕ) (span : Span) →
+        IsCauseAtPlace mode us start added place (TooLargeNumberInBracedQuantifier span) → NoneBeyond mode us place }
+    ensures limit { (mode : Mode) → is_unicode mode ≡ false → (us : List CodePoint) (start added place : ℕ) (span : Span) →
+        IsCauseAtPlace mode us start added place (TooLargeNumberDigits span digits.Decimal) → NoneBeyond mode us place }
     ensures backslash { (mode : Mode) → is_unicode mode ≡ false → (us : List CodePoint) (start added place : ℕ) (span : Span) →
         IsCauseAtPlace mode us start added place (InvalidExtendedAtomEscape span) → NoneBeyond mode us place }
     ensures range { (mode : Mode) (us : List CodePoint) (start added from : ℕ) (at_class : List CodePoint) (place : ℕ) (span : Span) →
         IsClassCause mode us start added from at_class place (CharacterClassRangeInvalidAtom span) → mode ≡ Unicode }
+{}
+
+/// With neither `u` nor `v` each unit stands for itself that is none of those that ExtendedPatternCharacter leaves out, where no quantifier in braces begins
+/// (ECMA-262, B.1.2).
+pub fn legacy_units()
+    ensures { (e : Environment) (u : CodePoint) (us : List CodePoint) → is_unicode e.mode ≡ false → is_one_of (codes "^$\\.*+?()[|") u.value ≡ false →
+        (BeginsWithBraces (values (u ∷ us)) → ⊥) → Spells e (character (unit_kind u.escape_kind) u.value) (u ∷ []) us }
+{}
+
+/// With neither `u` nor `v` the letters before which `\c` is an escape are the AsciiLetters, and in a class the decimal digits and `_` too (ECMA-262, B.1.2).
+pub fn legacy_controls()
+    ensures inside { (c : ℕ) → is_control true c ≡ (is_letter c || is_one_of (codes "0123456789_") c) }
+    ensures outside { (c : ℕ) → is_control false c ≡ is_letter c }
 {}

@@ -36,7 +36,7 @@ front_braces : (mode : Mode) → is_unicode mode ≡ true → (us rest : List Co
 front_braces mode u us rest v e = front_by_unicode (text_environment mode us) rest 123 v u refl e
 
 -- whatever the counts, they do not obey
-abbrev AreDead : Counts → Type 0
+abbrev pub AreDead : Counts → Type 0
 AreDead c = (min : ℕ) (max : Option ℕ) (n : ℕ) → c ≡ counts min max n → DoNotObey min max
 
 dead_counts : (mode : Mode) (us : List CodePoint) (c : Counts) (w : List ℕ) → AreDead c → (t : Token) (k : ℕ) → quantifier_token c w ≡ Some (t, k) → Obeys (text_groups us) (text_names mode us) t → ⊥
@@ -141,12 +141,12 @@ some_count : (n : ℕ) (ds : List ℕ) → AreDigits n ds → (k : ℕ) × (leng
 some_count n ds a = (length a.more, ap length a.some)
 
 -- what is read behind `{` where digits pass
-record Passing (w : List ℕ) : Type 0 where
-  behind : List ℕ
-  whole : w ≡ 123 ∷ behind
-  dead : AreDead (counts_at (123 ∷ behind))
+pub record Passing (w : List ℕ) : Type 0 where
+  pub behind : List ℕ
+  pub whole : w ≡ 123 ∷ behind
+  pub dead : AreDead (counts_at (123 ∷ behind))
 
-passing : (w : List ℕ) (start count : ℕ) → PassesLimit w start count → Passing w
+pub passing : (w : List ℕ) (start count : ℕ) → PassesLimit w start count → Passing w
 unfolding counts_at
 passing _ _ _ (first ds next rest p) = record {
   behind = ds ++ next ∷ rest;

@@ -1,9 +1,28 @@
-use Rattle.rx_base.specs.declared.diagnostic.Diagnostic.TheVariants.{CharacterClassRangeInvalidAtom, InvalidBracedQuantifier, InvalidExtendedAtomEscape}
-use Rattle.rx_model.proofs.Refusals.LegacyRefusals.{ends_refused, none_beyond}
+use Rattle.std.proofs.Common.{◌≡◌, Bool, true, false, refl}
+use Rattle.rx_base.specs.declared.diagnostic.Diagnostic.TheVariants.{BracedQuantifierOutOfOrder, CharacterClassRangeInvalidAtom, InvalidBracedQuantifier, InvalidExtendedAtomEscape, LoneQuantifier, TooLargeNumberDigits, TooLargeNumberInBracedQuantifier}
+use Rattle.rx_base.specs.declared.diagnostic.kinds.DigitsKind.TheVariants as digits
+use Rattle.rx_model.specs.Inputs.Environment.{is_unicode}
+use Rattle.rx_model.proofs.Refusals.LegacyRefusals.{ends_refused, none_beyond, not_lone}
 use Rattle.rx_model.proofs.laws.legacy_refusals.Goals as goal
 
 pub returns-clause-quantifier : goal.returns-clause-quantifier
 returns-clause-quantifier c mode m us start added place span h = none_beyond mode m us start added place (InvalidBracedQuantifier span) h tt
+
+pub returns-clause-lone : goal.returns-clause-lone
+returns-clause-lone c mode us start added place span h = with_unicode (is_unicode mode) refl
+  where
+    with_unicode : (b : Bool) → is_unicode mode ≡ b → is_unicode mode ≡ true
+    with_unicode true e = e
+    with_unicode false e = absurd (not_lone mode e us start added place (LoneQuantifier span) h tt)
+
+pub returns-clause-order : goal.returns-clause-order
+returns-clause-order c mode m us start added place span h = none_beyond mode m us start added place (BracedQuantifierOutOfOrder span) h tt
+
+pub returns-clause-large : goal.returns-clause-large
+returns-clause-large c mode m us start added place span h = none_beyond mode m us start added place (TooLargeNumberInBracedQuantifier span) h tt
+
+pub returns-clause-limit : goal.returns-clause-limit
+returns-clause-limit c mode m us start added place span h = none_beyond mode m us start added place (TooLargeNumberDigits span digits.Decimal) h tt
 
 pub returns-clause-backslash : goal.returns-clause-backslash
 returns-clause-backslash c mode m us start added place span h = none_beyond mode m us start added place (InvalidExtendedAtomEscape span) h tt
