@@ -4,7 +4,7 @@ use Rattle.std.proofs.lemmas.Bool.{false≢true}
 use Rattle.std.proofs.lemmas.List.{take-append-drop}
 use Rattle.std.proofs.KnownBytes.{Appends-nil, Appends-trans}
 use Rattle.std.specs.Io.KnownBytes.{Appends}
-use Rattle.rx_base.specs.Causes.{HasCause, Rose}
+use Rattle.rx_base.specs.FaultCounts.{CountsFaults, Rose}
 use Rattle.std.specs.Result.{IsErr}
 use Rattle.rx_base.specs.Writing.{Written, AppendsFront}
 
@@ -31,7 +31,7 @@ front_before o n first second b = record {
 rose_later : (f g h : ℕ) → f ≤ g → Rose g h → Rose f h
 rose_later f g h later rose = elim rose [ inl higher ↦ inl (omega arith) | inr last ↦ inr last ]
 
-cause_behind : {T E : Type 0} (f g h : ℕ) (result : Result T E) → f ≤ g → HasCause g h result → HasCause f h result
+cause_behind : {T E : Type 0} (f g h : ℕ) (result : Result T E) → f ≤ g → CountsFaults g h result → CountsFaults f h result
 cause_behind f g h (Ok x) later cause = record { later = let more : g ≤ h = cause.later in omega arith; failed = tt }
 cause_behind f g h (Err e) later cause = record { later = let more : g ≤ h = cause.later in omega arith; failed = rose_later f g h later cause.failed }
 

@@ -1,7 +1,7 @@
 -- What a call wrote to a sink.
 use Rattle.std.specs.Prelude.{◌≡◌, ℕ, ◌<◌, List, ◌++◌, length, Option, Result, OnOk, OnErr}
 use Rattle.std.specs.Io.KnownBytes.{Appends}
-use Rattle.rx_base.specs.Causes.{HasCause}
+use Rattle.rx_base.specs.FaultCounts.{CountsFaults}
 
 -- Known bytes grew by the front of these, of which at least one byte is missing.
 pub record AppendsFront (old new : Option (List ℕ)) (bytes : List ℕ) : Type 0 where
@@ -17,4 +17,4 @@ pub record Written {K T E : Type 0} (taken : K → Option (List ℕ)) (fixed : K
   pub whole : OnOk result (Appends (taken old) (taken new) bytes)
   pub part : OnErr result (AppendsFront (taken old) (taken new) bytes)
   pub kept : fixed new ≡ fixed old
-  pub cause : HasCause (faults old) (faults new) result
+  pub cause : CountsFaults (faults old) (faults new) result

@@ -1,6 +1,6 @@
 ghost use Rattle.std.specs.Prelude.{◌≡◌, ◌≤◌, ◌<◌, ◌+◌, ◌-◌, ◌↔◌, ◌⊎◌, ◌++◌, ◌∷◌, [], min, length, take, drop, Some, Contains, IfOk, OnErr, IsErr, IsTrue, MatchResult};
 ghost use Rattle.std.specs.Io.KnownBytes.{ReadConsumes};
-ghost use Rattle.rx_base.specs.Causes.{HasCause};
+ghost use Rattle.rx_base.specs.FaultCounts.{CountsFaults};
 ghost use Rattle.rx_base.specs.Memory.{next_number};
 
 use crate::fill::{append, fill};
@@ -98,7 +98,7 @@ impl Source for MemorySource {
 
     fn read(&mut self, buf: &mut [u8]) -> Result<usize, Failed>
         ensures bytes { ReadConsumes (Some self.old.left) (Some self.new.left) result buf.new }
-        ensures cause { HasCause self.old.faults self.new.faults result }
+        ensures cause { CountsFaults self.old.faults self.new.faults result }
         ensures fails { IsErr result ↔ Contains self.old.fails (next_number self.old.calls) }
         ensures moved { IfOk result (λ count. count ≡ min self.old.step (min (length buf.old) (length self.old.left))) }
         ensures filled { MatchResult result (λ count. buf.new ≡ take count self.old.left ++ drop count buf.old) (λ _. buf.new ≡ buf.old) }
@@ -183,7 +183,7 @@ impl Sink for MemorySink {
 
     fn write(&mut self, piece: &[u8]) -> Result<usize, Failed>
         ensures moves { 0 < length piece.now → IfOk result (λ count. 0 < count) }
-        ensures cause { HasCause self.old.faults self.new.faults result }
+        ensures cause { CountsFaults self.old.faults self.new.faults result }
         ensures fails { IsErr result ↔ (Contains self.old.fails (next_number self.old.calls)
             ⊎ ((0 < length piece.now) × (length self.old.taken ≡ self.old.room))) }
         ensures moved { IfOk result (λ count. count ≡ min self.old.step (min (length piece.now) (self.old.room - length self.old.taken))) }

@@ -3,9 +3,9 @@ use Rattle.std.proofs.Common.{◌≡◌, sym, subst, ℕ, zero, suc, ◌+◌, �
 use Rattle.std.specs.Prelude.{All}
 use Rattle.std.proofs.lemmas.List.Elements.{All-head, All-tail}
 use Rattle.rx_units.specs.declared.code_point.CodePoint.{CodePoint}
-use Rattle.rx_units.specs.Reading.{Reading, moved, offset_of}
+use Rattle.rx_units.specs.Cursor.{Cursor, moved, offset_of}
 use Rattle.rx_units.specs.Units.{end_of, offset_at}
-use Rattle.rx_class.specs.Answers.{IsBehindBackslash}
+use Rattle.rx_class.specs.EscapeAnswers.{IsBehindBackslash}
 use Rattle.rx_class.specs.Fitting.{AreFitting}
 
 end_fits : (added first : ℕ) (us : List CodePoint) (n : ℕ) → first + added < 2 ^ 32 → All (λ unit. unit.span.end + added < 2 ^ 32) us → end_of first (take n us) + added < 2 ^ 32
@@ -19,23 +19,23 @@ pub offset_fits : (added first : ℕ) (us : List CodePoint) (place : ℕ) → fi
 offset_fits added first us place f a = end_fits added first us place f a
 
 -- so does that where the reader stands, and where it stands some units on
-pub here_fits : (added : ℕ) (r : Reading) → AreFitting added r → offset_of r + added < 2 ^ 32
+pub here_fits : (added : ℕ) (r : Cursor) → AreFitting added r → offset_of r + added < 2 ^ 32
 here_fits added r f = offset_fits added r.first r.units r.place f.first f.ends
 
-pub moved_fits : (added n : ℕ) (r s : Reading) → AreFitting added r → s ≡ moved n r → offset_of s + added < 2 ^ 32
+pub moved_fits : (added n : ℕ) (r s : Cursor) → AreFitting added r → s ≡ moved n r → offset_of s + added < 2 ^ 32
 moved_fits added n r s f e = subst (λ k. offset_of k + added < 2 ^ 32) (sym e) (offset_fits added r.first r.units (moved n r).place f.first f.ends)
 
 -- the same of an offset that is known to be there
-pub offset_here_fits : (added offset : ℕ) (r : Reading) → AreFitting added r → offset ≡ offset_of r → offset + added < 2 ^ 32
+pub offset_here_fits : (added offset : ℕ) (r : Cursor) → AreFitting added r → offset ≡ offset_of r → offset + added < 2 ^ 32
 offset_here_fits added offset r f is = subst (λ k. k + added < 2 ^ 32) (sym is) (here_fits added r f)
 
-pub offset_moved_fits : (added n offset : ℕ) (r s : Reading) → AreFitting added r → s ≡ moved n r → offset ≡ offset_of s → offset + added < 2 ^ 32
+pub offset_moved_fits : (added n offset : ℕ) (r s : Cursor) → AreFitting added r → s ≡ moved n r → offset ≡ offset_of s → offset + added < 2 ^ 32
 offset_moved_fits added n offset r s f e is = subst (λ k. k + added < 2 ^ 32) (sym is) (moved_fits added n r s f e)
 
 -- and of the offset before the backslash
-pub start_fits : (added start : ℕ) (r : Reading) → AreFitting added r → IsBehindBackslash r start → start + added < 2 ^ 32
+pub start_fits : (added start : ℕ) (r : Cursor) → AreFitting added r → IsBehindBackslash r start → start + added < 2 ^ 32
 start_fits added start r f is = subst (λ k. k + added < 2 ^ 32) (sym is.start) (offset_fits added r.first r.units (r.place - 1) f.first f.ends)
 
 -- A reader that moves stays so.
-pub moved_are_fitting : (added n : ℕ) (r s : Reading) → AreFitting added r → s ≡ moved n r → AreFitting added s
+pub moved_are_fitting : (added n : ℕ) (r s : Cursor) → AreFitting added r → s ≡ moved n r → AreFitting added s
 moved_are_fitting added n r s f e = subst (AreFitting added) (sym e) record { first = f.first; ends = f.ends }

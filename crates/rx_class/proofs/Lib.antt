@@ -5,11 +5,11 @@ pub mod ClassEnds
 pub mod ClassGives
 pub mod ClassItems
 pub mod ClassRanges
-pub mod ClassReads
 pub mod FirstPasses
 pub mod Fitting
 pub mod Gives
 pub mod Keeping
+pub mod Modes
 pub mod PairFound
 pub mod PropertyGives
 pub mod PropertyHalts

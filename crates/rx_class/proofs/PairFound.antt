@@ -2,22 +2,20 @@
 use Rattle.std.proofs.Common.{◌≡◌, ◌≢◌, ℕ, ◌-◌, ◌<◌, ◌≤◌, ◌==◌, true, false, List, [], ◌∷◌, ◌++◌, length, take, drop, get_or, refl, sym, ap, ◌∙◌, subst, arith}
 use Rattle.std.specs.List.{list_all, prefix_len}
 use Rattle.std.proofs.lemmas.Bool.Decides.{nat_tests}
-use Rattle.std.proofs.lemmas.List.{take_all}
+use Rattle.std.proofs.lemmas.List.{length-map, take_all}
 use Rattle.rx_tables.specs.Characters.{is_unicode_property_name_character}
 use Rattle.rx_units.specs.declared.code_point.CodePoint.{CodePoint}
 use Rattle.rx_units.specs.Units.{values}
 use Rattle.rx_model.specs.Characters.Escapes.{front_is}
 use Rattle.rx_model.specs.Properties.PropertyForms.{HasPair, IsValueRun}
 use Rattle.rx_model.proofs.Properties.PropertyRuns.{one_name, one_run}
+use Rattle.rx_model.specs.FirstPass.Marks.{starts}
+use Rattle.rx_class.proofs.PropertyHalts.{first_is, starts_other}
 use Rattle.rx_class.proofs.PropertyRuns.{IsRunSplit, run_split}
 
 -- no name and value stand at the front
 abbrev pub HasNoPair : List CodePoint → Type 0
 HasNoPair us = (name value behind : List ℕ) → HasPair (values us) name value behind → ⊥
-
-empty_values : (us : List CodePoint) → length us ≡ 0 → values us ≡ []
-empty_values [] h = refl
-empty_values (u ∷ us) h = absurd (omega (arith, h))
 
 pub no_units : (us : List CodePoint) → (length us == 0) ≡ true → values us ≡ []
 no_units [] h = refl
@@ -45,15 +43,10 @@ module _ (us name behind : List CodePoint) (n : ℕ) (count : n ≡ prefix_len (
   its_name a v r p = one_name (values us) (values name) (values behind) a p.behind whole all ends p.whole p.of_names
 
   pub none_at_end : length behind < 1 → HasNoPair us
-  none_at_end short a v r p =
-      let e = sym (empty_values behind (omega (arith, short))) ∙ (its_name a v r p).1 in
-      cc e
+  none_at_end short a v r p = omega (arith, short, ap length (its_name a v r p).1, length-map behind (λ (u : CodePoint). u.value))
 
   pub none_without_equals : (d : CodePoint) → ((get_or behind 0 d).value ≡ 61 → ⊥) → HasNoPair us
-  none_without_equals d other a v r p = first_differs behind d other (p.behind) (its_name a v r p).1 where
-    first_differs : (bs : List CodePoint) (d : CodePoint) → ((get_or bs 0 d).value ≡ 61 → ⊥) → (more : List ℕ) → values bs ≡ 61 ∷ more → ⊥
-    first_differs [] d other more e = cc e
-    first_differs (b ∷ bs) d other more e = other (let h : b.value ≡ 61 = cc e in h)
+  none_without_equals d other a v r p = let no : true ≡ false = ap (starts 61) (sym (its_name a v r p).1) ∙ starts_other behind 61 d other in cc no
 
   pub none_without_name : (length name == 0) ≡ true → HasNoPair us
   none_without_name short a v r p = p.some_name (sym (its_name a v r p).0 ∙ no_units name short)
@@ -72,15 +65,11 @@ module _ (us name behind : List CodePoint) (n : ℕ) (count : n ≡ prefix_len (
   pub none_without_more : (value rest : List CodePoint) → IsValueRun (values (take (length behind - 1) (drop 1 behind))) (values value) (values rest) → (length rest == 0) ≡ true → HasNoPair us
   none_without_more value rest is short a v r p = p.goes_on (sym (its_run (values value) (values rest) a v r is p).1 ∙ no_units rest short)
 
-  first_is : (bs : List CodePoint) (d : CodePoint) → 1 ≤ length bs → (get_or bs 0 d).value ≡ 61 → values bs ≡ 61 ∷ values (take (length bs - 1) (drop 1 bs))
-  first_is [] d some h = absurd (omega (arith, some))
-  first_is (b ∷ bs) d some h = ap (λ c. c ∷ values bs) h ∙ ap (λ bs. 61 ∷ values bs) (sym (take_all (length (b ∷ bs) - 1) bs (omega arith)))
-
   pub pair_here : (d : CodePoint) (value rest : List CodePoint) → 1 ≤ length behind → (get_or behind 0 d).value ≡ 61 → IsValueRun (values (take (length behind - 1) (drop 1 behind))) (values value) (values rest)
       → (length name == 0) ≡ false → (length value == 0) ≡ false → (length rest == 0) ≡ false → HasPair (values us) (values name) (values value) (values rest)
   pair_here d value rest some equals is some_name some_value goes_on = record {
     behind = values (take (length behind - 1) (drop 1 behind));
-    whole = whole ∙ ap (λ b. values name ++ b) (first_is behind d some equals);
+    whole = whole ∙ ap (λ b. values name ++ b) (first_is behind 61 d some equals);
     of_names = all;
     run = is;
     some_name = some_units name some_name;

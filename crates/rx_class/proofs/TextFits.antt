@@ -2,7 +2,7 @@
 use Rattle.std.proofs.Common.{◌≡◌, refl, sym, subst, ℕ, ◌+◌, ◌<◌, ◌^◌, arith, Bool, List, length}
 use Rattle.std.specs.Prelude.{All}
 use Rattle.std.specs.Str.{chars, IsUtf8}
-use Rattle.rx_units.specs.Reading.{Reading, moved}
+use Rattle.rx_units.specs.Cursor.{Cursor, moved}
 use Rattle.rx_units.specs.Units.{literal_units}
 use Rattle.rx_scan.proofs.Fits.{literal_fits}
 use Rattle.rx_class.specs.Fitting.{AreFitting}
@@ -14,15 +14,15 @@ pub text_fits : (joined : Bool) (bytes : List ℕ) (added : ℕ) → IsUtf8 byte
 text_fits joined bytes added utf8 fits = literal_fits bytes joined (literal_units joined 0 (chars bytes)) added (2 ^ 32) utf8 refl fits
 
 -- a reader at the beginning of a text
-abbrev pub reading_of : Bool → List ℕ → Reading
+abbrev pub reading_of : Bool → List ℕ → Cursor
 reading_of joined bytes = record { units = literal_units joined 0 (chars bytes); place = 0; first = 0; text = bytes }
 
 -- The offsets of a reader that was made of it fit,
-pub made_are_fitting : (joined : Bool) (bytes : List ℕ) (added : ℕ) (r : Reading) → IsUtf8 bytes → added + length bytes < 2 ^ 32 → r ≡ reading_of joined bytes → AreFitting added r
+pub made_are_fitting : (joined : Bool) (bytes : List ℕ) (added : ℕ) (r : Cursor) → IsUtf8 bytes → added + length bytes < 2 ^ 32 → r ≡ reading_of joined bytes → AreFitting added r
 made_are_fitting joined bytes added r utf8 fits made =
     subst (AreFitting added) (sym made) record { first = omega (arith, fits); ends = text_fits joined bytes added utf8 fits }
 
 -- and so do those of one that has moved since.
-pub moved_on_are_fitting : (joined : Bool) (bytes : List ℕ) (added n : ℕ) (r s : Reading) → IsUtf8 bytes → added + length bytes < 2 ^ 32 → r ≡ reading_of joined bytes
+pub moved_on_are_fitting : (joined : Bool) (bytes : List ℕ) (added n : ℕ) (r s : Cursor) → IsUtf8 bytes → added + length bytes < 2 ^ 32 → r ≡ reading_of joined bytes
     → s ≡ moved n r → AreFitting added s
 moved_on_are_fitting joined bytes added n r s utf8 fits made on = moved_are_fitting added n r s (made_are_fitting joined bytes added r utf8 fits made) on

@@ -6,7 +6,7 @@ use Rattle.rx_base.specs.declared.fault.Fault.TheVariants as fault
 use Rattle.rx_ast.specs.ClassTree.{Class, mirror_class}
 use Rattle.rx_ast.specs.declared.class.CharacterClass.{CharacterClass}
 use Rattle.rx_units.specs.declared.code_point.CodePoint.{CodePoint}
-use Rattle.rx_units.specs.Reading.{Reading, moved, rest}
+use Rattle.rx_units.specs.Cursor.{Cursor, moved, rest}
 use Rattle.rx_units.specs.Units.{offset_at, values}
 use Rattle.rx_model.specs.Classes.ClassRows.{IsClass, IsClassSpanned}
 use Rattle.rx_model.specs.Trees.Early.{IsEarlyClass}
@@ -28,7 +28,7 @@ abbrev pub BeginsNoClass : Environment → List CodePoint → Type 0
 BeginsNoClass e us = (c : Class) (w more : List CodePoint) → us ≡ w ++ more → IsClass e c w more → IsEarlyClass c → ⊥
 
 -- What stands at the reader's place is answered as a class (CharacterClass, 22.2.1).
-pub data GivesClass (e : Environment) (added : ℕ) (old new : Reading) : Result (Option CharacterClass) Fault → Type 0 where
+pub data GivesClass (e : Environment) (added : ℕ) (old new : Cursor) : Result (Option CharacterClass) Fault → Type 0 where
   -- one is spelled and free of early errors, each node in it has the span of what it spells, and the reader moves over it
   some : {it : CharacterClass} (w more : List CodePoint) → rest old ≡ w ++ more
       → IsClassSpanned e (λ i. offset_at old.first old.units i + added) old.place (mirror_class it) w more → IsEarlyClass (mirror_class it)
@@ -38,5 +38,5 @@ pub data GivesClass (e : Environment) (added : ℕ) (old new : Reading) : Result
   -- none that is free of early errors is spelled, and the first refusal of the class is answered
   refused : {diagnostic : Diagnostic} → IsFirstInClass e.mode old.units old.first added old.place (rest old) diagnostic → BeginsNoClass e (rest old) → KeepsUnits old new
       → GivesClass e added old new (Err (fault.Diagnostic diagnostic))
-  -- memory was wanting
+  -- memory ran out
   no_memory : KeepsUnits old new → GivesClass e added old new (Err fault.OutOfMemory)

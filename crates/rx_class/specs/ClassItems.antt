@@ -14,12 +14,9 @@ use Rattle.rx_ast.specs.declared.class.CharacterClassRange.{CharacterClassRange}
 use Rattle.rx_ast.specs.ClassTree.{Member, Members, no_member, member, members, mirror_contents}
 use Rattle.rx_ast.specs.ClassTree as tree
 use Rattle.rx_units.specs.declared.code_point.CodePoint.{CodePoint}
-use Rattle.rx_units.specs.Reading.{Reading, moved, rest}
+use Rattle.rx_units.specs.Cursor.{Cursor, moved, rest}
 use Rattle.rx_units.specs.Units.{offset_at, values}
-use Rattle.rx_model.specs.declared.mode.Mode.TheVariants.{Unicode}
 use Rattle.rx_model.specs.Refusals.ClassCauses.{IsClassCause, is_character}
-use Rattle.rx_model.specs.Classes.ClassFronts.{atom_at, no_atom, no_piece, piece_at}
-use Rattle.rx_model.specs.Classes.ClassFronts as piece
 use Rattle.rx_model.specs.Refusals.ClassPlaces.{IsAtomPlace, IsItemPlace}
 use Rattle.rx_model.specs.Classes.ClassRows.{ClassRow, SpellsAtom, fresh}
 use Rattle.rx_model.specs.Classes.ClassRuns.{atom_obeys}
@@ -59,12 +56,12 @@ abbrev pub alone_in_class : List ℕ → Option ℕ
 alone_in_class [] = None
 alone_in_class (c ∷ w) = if c == 98 then Some 8 else (if c == 45 then Some 45 else None)
 
--- the environment of the text that a reader reads
-abbrev pub environment_at : Reading → Environment
-environment_at r = text_environment Unicode r.units
+-- the environment is that of the text that a reader reads
+abbrev pub IsOfText : Environment → Cursor → Type 0
+IsOfText e r = e ≡ text_environment e.mode r.units
 
 -- the reader one unit before
-abbrev pub back : Reading → Reading
+abbrev pub back : Cursor → Cursor
 back r = record r { place = r.place - 1 }
 
 -- neither the end nor `]`
@@ -73,18 +70,16 @@ pub record StandsItem (us : List CodePoint) : Type 0 where
   pub no_closer : starts 93 (values us) ≡ false
 
 -- Of each class in which an atom may stand at the reader's place, this is a cause.
-abbrev pub IsAtomCause : ℕ → Reading → Diagnostic → Type 0
-IsAtomCause added r diagnostic =
-    (from : ℕ) (at_class : List CodePoint) → IsAtomPlace (environment_at r) from at_class r.place (rest r)
-    → IsClassCause Unicode r.units r.first added from at_class r.place diagnostic
+abbrev pub IsAtomCause : Environment → ℕ → Cursor → Diagnostic → Type 0
+IsAtomCause e added r diagnostic =
+    (from : ℕ) (at_class : List CodePoint) → IsAtomPlace e from at_class r.place (rest r) → IsClassCause e.mode r.units r.first added from at_class r.place diagnostic
 
 -- What stands at the reader's place is answered as an atom of a class (ClassAtom, 22.2.1).
-pub data GivesAtom (added : ℕ) (old new : Reading) : Result ClassAtom Fault → Type 0 where
-  some : {it : ClassAtom} (w more : List CodePoint) → rest old ≡ w ++ more → SpellsAtom (environment_at old) (atom_of it) w more → atom_obeys (atom_of it) ≡ true
-      → atom_span it ≡ span_between old.units old.first added old.place (old.place + length w) → new ≡ moved (length w) old → GivesAtom added old new (Ok it)
-  refused : {diagnostic : Diagnostic} → IsAtomCause added old diagnostic → atom_at (environment_at old) (rest old) ≡ no_atom → KeepsUnits old new
-      → GivesAtom added old new (Err (fault.Diagnostic diagnostic))
-  no_memory : KeepsUnits old new → GivesAtom added old new (Err fault.OutOfMemory)
+pub data GivesAtom (e : Environment) (added : ℕ) (old new : Cursor) : Result ClassAtom Fault → Type 0 where
+  some : {it : ClassAtom} (w more : List CodePoint) → rest old ≡ w ++ more → SpellsAtom e (atom_of it) w more → atom_obeys (atom_of it) ≡ true
+      → atom_span it ≡ span_between old.units old.first added old.place (old.place + length w) → new ≡ moved (length w) old → GivesAtom e added old new (Ok it)
+  refused : {diagnostic : Diagnostic} → IsAtomCause e added old diagnostic → KeepsUnits old new → GivesAtom e added old new (Err (fault.Diagnostic diagnostic))
+  no_memory : KeepsUnits old new → GivesAtom e added old new (Err fault.OutOfMemory)
 
 -- the span between two offsets
 abbrev pub between : ℕ → ℕ → Span
@@ -101,18 +96,12 @@ pub data IsBetween : ClassAtom → ClassAtom → Result CharacterClassRange Diag
   no_character : {low high : ClassAtom} → (is_character (atom_of low) && is_character (atom_of high)) ≡ false
       → IsBetween low high (Err (CharacterClassRangeInvalidAtom (between (atom_span low).start (atom_span high).end)))
 
--- At the front stands no item of a class that is free of early errors: none, or a range out of order.
-pub data BeginsNoItem (e : Environment) (us : List CodePoint) : Type 0 where
-  no_item : piece_at e us ≡ no_piece → BeginsNoItem e us
-  out_of_order : (low high : CharacterKind) (v x n : ℕ) → piece_at e us ≡ piece.range low v high x n → x < v → BeginsNoItem e us
-
 -- Of each class in which an item may stand at the reader's place, this is a cause, at a place in it.
-abbrev pub IsItemCause : ℕ → Reading → Diagnostic → Type 0
-IsItemCause added r diagnostic =
-    (from : ℕ) (at_class : List CodePoint) → IsItemPlace (environment_at r) from at_class r.place (rest r)
-    → (place : ℕ) × IsClassCause Unicode r.units r.first added from at_class place diagnostic
+abbrev pub IsItemCause : Environment → ℕ → Cursor → Diagnostic → Type 0
+IsItemCause e added r diagnostic =
+    (from : ℕ) (at_class : List CodePoint) → IsItemPlace e from at_class r.place (rest r) → (place : ℕ) × IsClassCause e.mode r.units r.first added from at_class place diagnostic
 
--- a member that mode Unicode has: no class, and no class string
+-- a member that classes have outside sets mode: no class, and no class string
 abbrev pub IsPlain : Member → Type 0
 IsPlain (tree.range r) = Unit {0}
 IsPlain (tree.escape e) = Unit {0}
@@ -129,20 +118,12 @@ pub record IsItem (e : Environment) (o : ℕ → ℕ) (i : ℕ) (m : Member) (w 
   pub no_strings : member_strings m ≡ false
 
 -- What stands at the reader's place is answered as an item of a class: an atom, or a range (NonemptyClassRanges, 22.2.1).
-pub data GivesItem (added : ℕ) (old new : Reading) : Result CharacterClassContents Fault → Type 0 where
+pub data GivesItem (e : Environment) (added : ℕ) (old new : Cursor) : Result CharacterClassContents Fault → Type 0 where
   some : {it : CharacterClassContents} (w more : List CodePoint) → rest old ≡ w ++ more
-      → IsItem (environment_at old) (λ i. offset_at old.first old.units i + added) old.place (mirror_contents it) w more
-      → new ≡ moved (length w) old → GivesItem added old new (Ok it)
-  refused : {diagnostic : Diagnostic} → IsItemCause added old diagnostic → BeginsNoItem (environment_at old) (rest old) → KeepsUnits old new
-      → GivesItem added old new (Err (fault.Diagnostic diagnostic))
-  no_memory : KeepsUnits old new → GivesItem added old new (Err fault.OutOfMemory)
+      → IsItem e (λ i. offset_at old.first old.units i + added) old.place (mirror_contents it) w more → new ≡ moved (length w) old → GivesItem e added old new (Ok it)
+  refused : {diagnostic : Diagnostic} → IsItemCause e added old diagnostic → KeepsUnits old new → GivesItem e added old new (Err (fault.Diagnostic diagnostic))
+  no_memory : KeepsUnits old new → GivesItem e added old new (Err fault.OutOfMemory)
 
 -- the contents of a class
 abbrev pub contents : List CharacterClassContents → Members
 contents body = members (map mirror_contents body)
-
--- Items stand one after another from place i on to place j, where the rest is left.
-abbrev pub AreItems : Environment → (ℕ → ℕ) → Members → ℕ → List CodePoint → ℕ → List CodePoint → Type 0
-AreItems e o no_member i us j rest = (i ≡ j) × (us ≡ rest)
-AreItems e o (member m ms) i us j rest =
-    (w : List CodePoint) × (more : List CodePoint) × (us ≡ w ++ more) × IsItem e o i m w more × AreItems e o ms (i + length w) more j rest

@@ -1,4 +1,4 @@
-pub mod Answers
+pub mod EscapeAnswers
 pub mod ClassAnswers
 pub mod ClassItems
 pub mod Fitting

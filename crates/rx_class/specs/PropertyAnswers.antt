@@ -4,7 +4,7 @@ use Rattle.rx_base.specs.declared.diagnostic.Diagnostic.{Diagnostic}
 use Rattle.rx_base.specs.declared.fault.Fault.{Fault}
 use Rattle.rx_base.specs.declared.fault.Fault.TheVariants as fault
 use Rattle.rx_units.specs.declared.code_point.CodePoint.{CodePoint}
-use Rattle.rx_units.specs.Reading.{Reading, moved, rest}
+use Rattle.rx_units.specs.Cursor.{Cursor, moved, rest}
 use Rattle.rx_units.specs.Units.{values}
 use Rattle.rx_ast.specs.declared.leaf.UnicodePropertyEscape.{UnicodePropertyEscape}
 use Rattle.rx_model.specs.Inputs.Environment.{Environment, is_unicode}
@@ -13,7 +13,7 @@ use Rattle.rx_model.specs.Characters.Escapes.{front_is}
 use Rattle.rx_model.specs.Refusals.Firsts.{IsFirstOfEscape}
 use Rattle.rx_model.specs.Properties.PropertyEscapes.{IsProperty}
 use Rattle.rx_model.specs.Properties.PropertyForms.{begins_property}
-use Rattle.rx_class.specs.Answers.{from_backslash, span_to}
+use Rattle.rx_class.specs.EscapeAnswers.{from_backslash, span_to}
 use Rattle.rx_class.specs.Keeping.{KeepsUnits}
 
 -- no property escape stands at the front
@@ -21,7 +21,7 @@ abbrev pub BeginsNoProperty : Environment → List CodePoint → Type 0
 BeginsNoProperty e us = (negative strings : Bool) (name : List ℕ) (value : Option (List ℕ)) (w more : List CodePoint) → us ≡ w ++ more → IsProperty e negative strings name value w → ⊥
 
 -- What stands at the reader's place is answered as a property escape (CharacterClassEscape, 22.2.1).
-pub data GivesProperty (e : Environment) (added start : ℕ) (old new : Reading) : Result (Option UnicodePropertyEscape) Fault → Type 0 where
+pub data GivesProperty (e : Environment) (added start : ℕ) (old new : Cursor) : Result (Option UnicodePropertyEscape) Fault → Type 0 where
   -- one is spelled with its backslash, and the reader moves over it
   some : {it : UnicodePropertyEscape} (backslash : CodePoint) (w more : List CodePoint) → from_backslash old ≡ backslash ∷ (w ++ more)
       → IsProperty e it.negative it.strings it.name it.value (backslash ∷ w) → it.span ≡ span_to added start new → new ≡ moved (length w) old
@@ -32,5 +32,5 @@ pub data GivesProperty (e : Environment) (added start : ℕ) (old new : Reading)
   refused : {diagnostic : Diagnostic} → IsPropertyCause e.mode old.units old.first added (old.place - 1) (from_backslash old) diagnostic
       → IsFirstOfEscape e.mode old.units old.first added (old.place - 1) (from_backslash old) diagnostic → BeginsNoProperty e (from_backslash old) → KeepsUnits old new
       → GivesProperty e added start old new (Err (fault.Diagnostic diagnostic))
-  -- memory was wanting
+  -- memory ran out
   no_memory : KeepsUnits old new → GivesProperty e added start old new (Err fault.OutOfMemory)

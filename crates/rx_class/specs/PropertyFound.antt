@@ -13,6 +13,8 @@ use Rattle.rx_model.specs.Refusals.EscapeCauses.{IsPropertyCause}
 use Rattle.rx_model.specs.Characters.Escapes.{front_is}
 use Rattle.rx_model.specs.Properties.PropertyEscapes.{SpellsProperty}
 use Rattle.rx_model.specs.Properties.PropertyForms.{HasPair, begins_property}
+use Rattle.rx_model.specs.Properties.PropertyFronts.{reads_strings}
+use Rattle.rx_model.specs.Inputs.Environment.{is_unicode}
 use Rattle.rx_model.specs.Refusals.Reached.{span_between}
 use Rattle.rx_class.specs.declared.property_found.Lone.{Lone}
 use Rattle.rx_class.specs.declared.property_found.Lone.TheVariants as lone
@@ -46,6 +48,11 @@ property_refusal us first added place (halt.Name start length) = InvalidUnicodeP
 property_refusal us first added place (halt.NameOrValue length) = InvalidUnicodeProperty (span_between us first added (place + 3) (place + 3 + length)) part.NameOrValue
 property_refusal us first added place (halt.OfStrings name length) = InvalidUnicodePropertyOfStrings (span_between us first added (place + 3) (place + 3 + length)) name
 
+-- The mode has property escapes, and none of strings.
+pub record HasProperties (mode : Mode) : Type 0 where
+  pub unicode : is_unicode mode ≡ true
+  pub no_strings : reads_strings mode ≡ false
+
 -- With these characters behind its backslash a property escape is refused so, wherever it stands.
 abbrev pub IsPropertyHalt : Mode → List ℕ → PropertyHalt → Type 0
 IsPropertyHalt mode behind h = (us rest : List CodePoint) (first added place : ℕ) → values rest ≡ 92 ∷ behind
@@ -61,8 +68,12 @@ pub record IsPropertyBehind (mode : Mode) (behind : List ℕ) (negative strings 
   pub whole : behind ≡ front ++ rest
   pub count_is : length front ≡ count
 
--- what stands behind a backslash
-abbrev pub IsPropertyFound : Mode → List ℕ → PropertyFound → Type 0
-IsPropertyFound mode behind (found.Property negative strings name value length) = IsPropertyBehind mode behind negative strings name value length
-IsPropertyFound mode behind found.Nothing = front_is begins_property behind ≡ false
-IsPropertyFound mode behind (found.Halt h) = IsPropertyHalt mode behind h
+-- what stands behind a backslash, in a mode
+abbrev pub IsFoundIn : Mode → List ℕ → PropertyFound → Type 0
+IsFoundIn mode behind (found.Property negative strings name value length) = IsPropertyBehind mode behind negative strings name value length
+IsFoundIn mode behind found.Nothing = front_is begins_property behind ≡ false
+IsFoundIn mode behind (found.Halt h) = IsPropertyHalt mode behind h
+
+-- the same in each mode that has property escapes, none of strings
+abbrev pub IsPropertyFound : List ℕ → PropertyFound → Type 0
+IsPropertyFound behind found = (mode : Mode) → HasProperties mode → IsFoundIn mode behind found

@@ -1,9 +1,11 @@
-ghost use Rattle.std.specs.Prelude.{◌≡◌, IsTrue, false};
-ghost use Rattle.rx_class.specs.Answers.{environment_of};
+ghost use Rattle.std.specs.Prelude.{◌≡◌, true};
+ghost use Rattle.rx_model.specs.Inputs.Modes.{is_read, mode_by};
+ghost use Rattle.rx_class.specs.EscapeAnswers.{environment_of};
 ghost use Rattle.rx_class.specs.ClassAnswers.{GivesClass, HoldsFirstPass};
 ghost use Rattle.rx_class.specs.Fitting.{AreFitting};
 
 use crate::class_item::class_item;
+use crate::spans::span_to_here;
 use rx_ast::{CharacterClass, CharacterClassContentsKind};
 use rx_base::{Diagnostic, Fault, List, Unterminated};
 use rx_scan::{SpanFactory, State};
@@ -23,8 +25,7 @@ pub fn parse_character_class(
     state: &State,
     spans: &SpanFactory,
 ) -> Result<Option<CharacterClass>, Fault>
-    requires unicode { IsTrue state.now.unicode_mode }
-    requires no_sets { state.now.unicode_sets_mode ≡ false }
+    requires read { is_read (mode_by state.now.unicode_mode state.now.unicode_sets_mode) ≡ true }
     requires pass { HoldsFirstPass state.now reader.old.units }
     requires fits { AreFitting spans.now reader.old }
     ensures { GivesClass (environment_of state.now) spans.now reader.old reader.new result }
@@ -37,7 +38,7 @@ pub fn parse_character_class(
     let mut body = List::new(alloc);
     while reader.peek() != Some(']' as u32) {
         if reader.peek().is_none() {
-            let span = spans.create(start, reader.offset());
+            let span = span_to_here(reader, spans, start);
             let what = Unterminated::CharacterClass;
             return Err(Fault::Diagnostic(Diagnostic::UnterminatedPattern { span, what }));
         }
@@ -45,7 +46,7 @@ pub fn parse_character_class(
     }
     reader.advance();
     Ok(Some(CharacterClass {
-        span: spans.create(start, reader.offset()),
+        span: span_to_here(reader, spans, start),
         negative,
         strings: false,
         kind: CharacterClassContentsKind::Union,

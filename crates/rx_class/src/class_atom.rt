@@ -1,14 +1,16 @@
-ghost use Rattle.std.specs.Prelude.{◌≡◌, IfOk};
+ghost use Rattle.std.specs.Prelude.{◌≡◌, IfOk, true};
 ghost use Rattle.rx_ast.specs.ClassTree.{mirror_contents};
-ghost use Rattle.rx_units.specs.Reading.{rest};
+ghost use Rattle.rx_units.specs.Cursor.{rest};
 ghost use Rattle.rx_units.specs.Units.{values};
 ghost use Rattle.rx_model.specs.Characters.UnitKinds.{unit_kind};
-ghost use Rattle.rx_class.specs.Answers.{IsBehindBackslash, environment_of};
-ghost use Rattle.rx_class.specs.ClassItems.{GivesAtom, StandsItem, alone_in_class, atom_member, atom_span, back, environment_at, kind_in_class};
+ghost use Rattle.rx_model.specs.Inputs.Modes.{is_read};
+ghost use Rattle.rx_class.specs.EscapeAnswers.{IsBehindBackslash, environment_of};
+ghost use Rattle.rx_class.specs.ClassItems.{GivesAtom, IsOfText, StandsItem, alone_in_class, atom_member, atom_span, back, kind_in_class};
 ghost use Rattle.rx_class.specs.Fitting.{AreFitting};
 
 use crate::escape::{parse_character_class_escape, parse_character_escape};
 use crate::property::parse_character_class_escape_unicode;
+use crate::spans::span_to_here;
 use rx_ast::{
     Character, CharacterClassContents, CharacterClassEscape, CharacterKind, UnicodePropertyEscape,
 };
@@ -64,9 +66,10 @@ pub fn class_atom(
     spans: &SpanFactory,
 ) -> Result<ClassAtom, Fault>
     requires stands { StandsItem (rest reader.old) }
-    requires environment { environment_of state.now ≡ environment_at reader.old }
+    requires read { is_read (environment_of state.now).mode ≡ true }
+    requires environment { IsOfText (environment_of state.now) reader.old }
     requires fits { AreFitting spans.now reader.old }
-    ensures { GivesAtom spans.now reader.old reader.new result }
+    ensures { GivesAtom (environment_of state.now) spans.now reader.old reader.new result }
 {
     let start = reader.offset();
     let unit = reader.remaining_code_points()[0];
@@ -75,7 +78,7 @@ pub fn class_atom(
         return escaped_atom(alloc, reader, state, spans, start);
     }
     Ok(ClassAtom::Character(Character {
-        span: spans.create(start, reader.offset()),
+        span: span_to_here(reader, spans, start),
         kind: kind_in_class(unit),
         value: unit.value,
     }))
@@ -113,13 +116,14 @@ fn escaped_atom(
     start: u32,
 ) -> Result<ClassAtom, Fault>
     requires backslash { IsBehindBackslash reader.old start }
-    requires environment { environment_of state.now ≡ environment_at reader.old }
+    requires read { is_read (environment_of state.now).mode ≡ true }
+    requires environment { IsOfText (environment_of state.now) reader.old }
     requires fits { AreFitting spans.now reader.old }
-    ensures { GivesAtom spans.now (back reader.old) reader.new result }
+    ensures { GivesAtom (environment_of state.now) spans.now (back reader.old) reader.new result }
 {
     if let Some(value) = alone_in_class(reader.remaining_code_points()) {
         reader.advance();
-        let span = spans.create(start, reader.offset());
+        let span = span_to_here(reader, spans, start);
         let kind = CharacterKind::SingleEscape;
         return Ok(ClassAtom::Character(Character { span, kind, value }));
     }
@@ -134,7 +138,7 @@ fn escaped_atom(
     if let Some(character) = parse_character_escape(reader, state, spans, start)? {
         return Ok(ClassAtom::Character(character));
     }
-    let span = spans.create(start, reader.offset());
+    let span = span_to_here(reader, spans, start);
     Err(Fault::Diagnostic(Diagnostic::InvalidClassAtom { span }))
 }
 

@@ -1,11 +1,12 @@
-ghost use Rattle.std.specs.Prelude.{◌≡◌, IfOk};
+ghost use Rattle.std.specs.Prelude.{◌≡◌, IfOk, true};
 ghost use Rattle.rx_ast.specs.ClassTree as ClassTree;
 ghost use Rattle.rx_ast.specs.ClassTree.{mirror_contents};
-ghost use Rattle.rx_units.specs.Reading.{rest};
+ghost use Rattle.rx_units.specs.Cursor.{rest};
 ghost use Rattle.rx_units.specs.Units.{values};
 ghost use Rattle.rx_model.specs.Classes.ClassRows.{is_dashed};
-ghost use Rattle.rx_class.specs.Answers.{environment_of};
-ghost use Rattle.rx_class.specs.ClassItems.{GivesItem, IsBetween, StandsItem, environment_at};
+ghost use Rattle.rx_model.specs.Inputs.Modes.{is_read};
+ghost use Rattle.rx_class.specs.EscapeAnswers.{environment_of};
+ghost use Rattle.rx_class.specs.ClassItems.{GivesItem, IsBetween, IsOfText, StandsItem};
 ghost use Rattle.rx_class.specs.Fitting.{AreFitting};
 
 use crate::class_atom::{ClassAtom, class_atom};
@@ -23,9 +24,10 @@ pub fn class_item(
     spans: &SpanFactory,
 ) -> Result<CharacterClassContents, Fault>
     requires stands { StandsItem (rest reader.old) }
-    requires environment { environment_of state.now ≡ environment_at reader.old }
+    requires read { is_read (environment_of state.now).mode ≡ true }
+    requires environment { IsOfText (environment_of state.now) reader.old }
     requires fits { AreFitting spans.now reader.old }
-    ensures { GivesItem spans.now reader.old reader.new result }
+    ensures { GivesItem (environment_of state.now) spans.now reader.old reader.new result }
 {
     let low = class_atom(alloc, reader, state, spans)?;
     if !is_dashed(reader.remaining_code_points()) {

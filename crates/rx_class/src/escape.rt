@@ -1,10 +1,11 @@
 ghost use Rattle.std.specs.Prelude.{◌≡◌, ◌+◌, ◌<◌, ◌≤◌, ◌^◌, IsTrue, length};
-ghost use Rattle.rx_units.specs.Reading.{moved, offset_of};
+ghost use Rattle.rx_units.specs.Cursor.{moved, offset_of};
 ghost use Rattle.rx_model.specs.Refusals.Reached.{span_between};
-ghost use Rattle.rx_class.specs.Answers.{GivesCharacter, GivesClassEscape, IsBehindBackslash, environment_of};
+ghost use Rattle.rx_class.specs.EscapeAnswers.{GivesCharacter, GivesClassEscape, IsBehindBackslash, environment_of};
 ghost use Rattle.rx_class.specs.Fitting.{AreFitting};
 ghost use Rattle.rx_class.specs.Keeping.{KeepsUnits};
 
+use crate::spans::span_to_here;
 use crate::{EscapeFound, character_escape_at, class_escape_at};
 use rx_ast::{Character, CharacterClassEscape};
 use rx_base::{Diagnostic, DigitsKind, Span};
@@ -35,7 +36,7 @@ pub fn parse_character_escape(
             length,
         } => {
             reader.skip(length);
-            let span = spans.create(span_start, reader.offset());
+            let span = span_to_here(reader, spans, span_start);
             Ok(Some(Character { span, kind, value }))
         }
         EscapeFound::Nothing => Ok(None),
@@ -61,7 +62,7 @@ fn next_span(reader: &mut Reader<'_>, spans: &SpanFactory, count: usize) -> Span
 {
     let start = reader.offset();
     reader.skip(count);
-    spans.create(start, reader.offset())
+    span_to_here(reader, spans, start)
 }
 
 /// Reads the class escape (CharacterClassEscape of ECMA-262, 22.2.1) behind a backslash that was read, if it names no property, and
@@ -78,6 +79,6 @@ pub fn parse_character_class_escape(
 {
     let kind = class_escape_at(reader.remaining_code_points())?;
     reader.advance();
-    let span = spans.create(span_start, reader.offset());
+    let span = span_to_here(reader, spans, span_start);
     Some(CharacterClassEscape { span, kind })
 }

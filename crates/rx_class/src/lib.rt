@@ -9,6 +9,7 @@ mod escape_found;
 mod property;
 mod property_form;
 mod property_found;
+mod spans;
 
 pub use class::parse_character_class;
 pub use class_atom::unit_kind;

@@ -1,5 +1,5 @@
 ghost use Rattle.std.specs.Prelude.{◌≡◌, ◌+◌, ◌-◌, ◌<◌, ◌^◌, false, length};
-ghost use Rattle.rx_class.specs.Answers.{IsBehindBackslash, environment_of};
+ghost use Rattle.rx_class.specs.EscapeAnswers.{IsBehindBackslash, environment_of};
 ghost use Rattle.rx_class.specs.Fitting.{AreFitting};
 ghost use Rattle.rx_class.specs.Keeping.{KeepsUnits};
 ghost use Rattle.rx_class.specs.PropertyAnswers.{GivesProperty};
@@ -7,6 +7,7 @@ ghost use Rattle.rx_class.specs.PropertyFound.{property_refusal};
 ghost use Rattle.rx_model.specs.Refusals.Reached.{span_between};
 
 use crate::property_found::{PropertyFound, PropertyHalt, property_at};
+use crate::spans::span_to_here;
 use rx_ast::UnicodePropertyEscape;
 use rx_base::{Diagnostic, Fault, PropertyPart, Span, Unterminated};
 use rx_scan::{SpanFactory, State};
@@ -45,7 +46,7 @@ pub fn parse_character_class_escape_unicode(
             length,
         } => {
             reader.skip(length);
-            let span = spans.create(span_start, reader.offset());
+            let span = span_to_here(reader, spans, span_start);
             Ok(Some(UnicodePropertyEscape {
                 span,
                 negative,
@@ -76,7 +77,7 @@ fn refusal(
     match halt {
         PropertyHalt::Unterminated { end } => {
             reader.skip(end);
-            let span = spans.create(span_start, reader.offset());
+            let span = span_to_here(reader, spans, span_start);
             let what = Unterminated::PropertyEscape;
             Diagnostic::UnterminatedPattern { span, what }
         }
@@ -106,5 +107,5 @@ fn span_ahead(reader: &mut Reader<'_>, spans: &SpanFactory, ahead: usize, count:
     reader.skip(ahead);
     let start = reader.offset();
     reader.skip(count);
-    spans.create(start, reader.offset())
+    span_to_here(reader, spans, start)
 }

@@ -3,7 +3,6 @@ ghost use Rattle.std.specs.List.{list_all};
 ghost use Rattle.std.specs.Str.{chars};
 ghost use Rattle.rx_units.specs.Units.{values};
 ghost use Rattle.rx_tables.specs.Characters.{is_unicode_property_value_character};
-ghost use Rattle.rx_model.specs.declared.mode.Mode.TheVariants.{Unicode};
 ghost use Rattle.rx_model.specs.FirstPass.Marks.{starts};
 ghost use Rattle.rx_model.specs.Properties.PropertyForms.{HasPair, HasRun};
 ghost use Rattle.rx_class.specs.PropertyFound.{IsLone, IsPropertyFound, property_letter};
@@ -11,8 +10,8 @@ ghost use Rattle.rx_class.specs.PropertyFound.{IsLone, IsPropertyFound, property
 use crate::property_form::{pair_at, run_at};
 use rx_base::{OutOfMemory, Text};
 use rx_tables::{
-    is_valid_lone_unicode_property, is_valid_lone_unicode_property_of_strings,
-    is_valid_unicode_property,
+    is_general_category_value, is_valid_lone_unicode_property,
+    is_valid_lone_unicode_property_of_strings, is_valid_unicode_property,
 };
 use rx_units::CodePoint;
 use std::alloc::Global;
@@ -59,9 +58,9 @@ pub enum Lone {
     Nothing,
 }
 
-/// The property escape (CharacterClassEscape of ECMA-262, 22.2.1) that the units behind a backslash begin with, with `u`.
+/// The property escape (CharacterClassEscape of ECMA-262, 22.2.1) that the units behind a backslash begin with, where none is of strings.
 pub fn property_at(alloc: Global, units: &[CodePoint]) -> Result<PropertyFound, OutOfMemory>
-    ensures { IfOk result (IsPropertyFound Unicode (values units.now)) }
+    ensures { IfOk result (IsPropertyFound (values units.now)) }
 {
     let [letter, behind @ ..] = units else {
         return Ok(PropertyFound::Nothing);
@@ -81,7 +80,7 @@ fn expression_at(
     negative: bool,
     units: &[CodePoint],
 ) -> Result<PropertyFound, OutOfMemory>
-    ensures { IfOk result (IsPropertyFound Unicode (property_letter negative ∷ values units.now)) }
+    ensures { IfOk result (IsPropertyFound (property_letter negative ∷ values units.now)) }
 {
     let [brace, behind @ ..] = units else {
         return Ok(unterminated(1));
@@ -114,7 +113,7 @@ fn pair_found(
 ) -> Result<PropertyFound, OutOfMemory>
     requires { (w : List ℕ) × HasPair w (values name.now) (values value.now) (values behind.now) }
     ensures { IfOk result (λ found. (w : List ℕ) → HasPair w (values name.now) (values value.now) (values behind.now)
-        → IsPropertyFound Unicode (property_letter negative ∷ 123 ∷ w) found) }
+        → IsPropertyFound (property_letter negative ∷ 123 ∷ w) found) }
 {
     let name_text = text_of(alloc, name)?;
     let value_text = text_of(alloc, value)?;
@@ -145,7 +144,7 @@ fn run_found(
 ) -> Result<PropertyFound, OutOfMemory>
     requires { (w : List ℕ) × HasRun w (values run.now) (values behind.now) }
     ensures { IfOk result (λ found. (w : List ℕ) → HasRun w (values run.now) (values behind.now)
-        → IsPropertyFound Unicode (property_letter negative ∷ 123 ∷ w) found) }
+        → IsPropertyFound (property_letter negative ∷ 123 ∷ w) found) }
 {
     let length = 2 + run.len();
     if run.is_empty() || behind.is_empty() {
@@ -180,7 +179,7 @@ fn run_found(
 fn named_alone(word: &str) -> Lone
     ensures { IsLone (chars word.now) result }
 {
-    if is_valid_unicode_property("General_Category", word) {
+    if is_general_category_value(word) {
         Lone::Category
     } else if is_valid_lone_unicode_property(word) {
         Lone::Binary

@@ -8,5 +8,6 @@ pub mod ClassTokens
 pub mod ClassUnspanned
 pub mod ClassWholes
 pub mod LegacyClassEscapes
+pub mod LegacyClasses
 pub mod OneClass
 pub mod OneInClass

@@ -5,9 +5,9 @@ pub mod GroupStretches
 pub mod MarkNames
 pub mod MarkRows
 pub mod MarkTexts
-pub mod OpenMarks
+pub mod InnerGroups
 pub mod OpenerMarks
-pub mod OtherMarks
+pub mod PlainMarks
 pub mod OwnGroups
 pub mod PartedMarks
 pub mod Stretches

@@ -1,5 +1,8 @@
 pub mod GroupFronts
 pub mod GroupNames
+pub mod NameFronts
+pub mod ModifierBits
+pub mod ModifierFronts
 pub mod ModifierTexts
 pub mod Modifiers
 pub mod NameTexts

@@ -2,6 +2,7 @@ pub mod Characters
 pub mod Classes
 pub mod FirstPass
 pub mod Groups
+pub mod Inputs
 pub mod Properties
 pub mod Quantifiers
 pub mod Reading

@@ -1,4 +1,5 @@
-pub mod DeadCounts
+pub mod CountsReading
+pub mod BlockedCounts
 pub mod DecimalDigits
 pub mod OneQuantifier
 pub mod Quantifiers

@@ -1,3 +1,4 @@
+pub mod FrontReading
 pub mod Fronts
 pub mod OneRow
 pub mod Prefixes

@@ -1,8 +1,10 @@
 pub mod Beyond
-pub mod DeadFronts
-pub mod DeadPlaces
+pub mod BlockedFronts
+pub mod BlockedPlaces
 pub mod Faults
 pub mod FlagCauses
+pub mod InnermostGroups
+pub mod LegacyPlaces
 pub mod LegacyRaws
 pub mod LegacyRefusals
 pub mod LegacyStops

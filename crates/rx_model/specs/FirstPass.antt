@@ -1,4 +1,4 @@
 pub mod Cuts
-pub mod Frames
+pub mod GroupStates
 pub mod MarkTexts
 pub mod Marks

@@ -1,1 +1,2 @@
+pub mod CountsReading
 pub mod Quantifiers

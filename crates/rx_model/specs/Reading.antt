@@ -1,5 +1,6 @@
 pub mod Boundaries
 pub mod ElementKinds
+pub mod FrontReading
 pub mod Fronts
 pub mod Headline
 pub mod Prefixes

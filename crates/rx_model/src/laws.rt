@@ -1,10 +1,9 @@
 //! Laws of the definitions. The functions do nothing: each contract is a law.
 
-ghost use Rattle.std.specs.Prelude.{◌≡◌, ◌≢◌, ◌==◌, ◌&&◌, ◌⊎◌, false, true, ℕ, List, [], ◌∷◌, ◌++◌, Result, ◌↔◌, Bool, Option, Some, ◌+◌, length, ◌||◌, codes};
+ghost use Rattle.std.specs.Prelude.{◌<◌, ◌≡◌, ◌≢◌, ◌==◌, ◌&&◌, ◌⊎◌, false, true, ℕ, List, [], ◌∷◌, ◌++◌, Result, ◌↔◌, Bool, Option, Some, ◌+◌, length, ◌||◌, codes};
 ghost use Rattle.rx_base.specs.declared.diagnostic.Diagnostic.{Diagnostic};
 ghost use Rattle.rx_base.specs.declared.fault.Fault.{Fault};
-ghost use Rattle.rx_base.specs.declared.diagnostic.Diagnostic.TheVariants.{CharacterClassRangeInvalidAtom, InvalidBracedQuantifier, InvalidExtendedAtomEscape, BracedQuantifierOutOfOrder, LoneQuantifier, TooLargeNumberDigits, TooLargeNumberInBracedQuantifier};
-ghost use Rattle.rx_base.specs.declared.diagnostic.kinds.DigitsKind.TheVariants as digits;
+ghost use Rattle.rx_base.specs.declared.diagnostic.Diagnostic.TheVariants.{CharacterClassRangeInvalidAtom, LoneQuantifier};
 ghost use Rattle.rx_base.specs.declared.span.Span.{Span};
 ghost use Rattle.rx_ast.specs.ClassTree.{Class};
 ghost use Rattle.rx_ast.specs.Forget.{bare, unspanned};
@@ -13,7 +12,7 @@ ghost use Rattle.rx_units.specs.declared.code_point.CodePoint.{CodePoint};
 ghost use Rattle.rx_units.specs.Units.{values};
 ghost use Rattle.rx_model.specs.declared.mode.Mode.{Mode};
 ghost use Rattle.rx_model.specs.Trees.Bodies.{AreQuantified, BeginsWithQuantifier, BeginsWithoutQuantifier};
-ghost use Rattle.rx_model.specs.Refusals.Causes.{IsCause, IsCauseAtPlace};
+ghost use Rattle.rx_model.specs.Refusals.Causes.{IsCause, IsCauseAtPlace, begins_modifiers};
 ghost use Rattle.rx_model.specs.Refusals.ClassCauses.{IsClassCause};
 ghost use Rattle.rx_model.specs.Classes.ClassRows.{ClassTokenRow, IsClass, Place, outside, SpellsAtom};
 ghost use Rattle.rx_model.specs.Classes.ClassTokens.{ClassToken, class_tokens, Atom};
@@ -23,21 +22,21 @@ ghost use Rattle.rx_model.specs.Refusals.ClassPlaces.{IsAtomPlace};
 ghost use Rattle.rx_model.specs.Classes.ClassShapes.{IsFitting, IsFlagged};
 ghost use Rattle.rx_model.specs.FirstPass.Cuts.{IsCut, TellsApart, TellsGroups};
 ghost use Rattle.rx_model.specs.Trees.Early.{IsEarlyClass};
-ghost use Rattle.rx_model.specs.Inputs.Environment.{Environment, environment, is_unicode};
+ghost use Rattle.rx_model.specs.Inputs.Environment.{Environment, environment, is_sets, is_unicode};
 ghost use Rattle.rx_model.specs.declared.mode.Mode.TheVariants.{Legacy, Unicode};
 ghost use Rattle.rx_model.specs.Refusals.Firsts.{IsCauseOfEscape, IsFirst, IsFirstInClass, IsFirstOfEscape, NoneBeyond, NoneBeyondInClass};
-ghost use Rattle.rx_model.specs.Inputs.Flags.{flags_of, flags_ok, holds};
+ghost use Rattle.rx_model.specs.Inputs.Flags.{flags_of, flags_ok};
 ghost use Rattle.rx_model.specs.Reading.Headline.{IsFirstRefusal, IsParsed, IsSameAgain};
 ghost use Rattle.rx_model.specs.Inputs.Inputs.{Input, mode_asked};
 ghost use Rattle.rx_model.specs.Groups.GroupNames.{BeginsWithName, SpellsName};
 ghost use Rattle.rx_model.specs.Reading.Prefixes.{GoesOn, GoesOnInClass};
-ghost use Rattle.rx_model.specs.Refusals.Reached.{IsPlace, text_environment};
+ghost use Rattle.rx_model.specs.Refusals.Reached.{IsInside, IsPlace, IsReached, text_environment};
 ghost use Rattle.rx_model.specs.Trees.Events.{tokens};
 ghost use Rattle.rx_model.specs.Refusals.FlagCauses.{IsFlagCause};
 ghost use Rattle.rx_model.specs.FirstPass.Marks.{starts};
 ghost use Rattle.rx_model.specs.Spelling.OneLine.{IsOneLine};
 ghost use Rattle.rx_model.specs.Trees.OpenGroups.{AreOpen, EndsQuantifiable};
-ghost use Rattle.rx_model.specs.Spelling.ReadBack.{AreCodeUnits, IsReadBack};
+ghost use Rattle.rx_model.specs.Spelling.ReadBack.{AreCodeUnits, FitIn, IsReadBack};
 ghost use Rattle.rx_model.specs.Reading.Reading.{IsSpelled, Reads};
 ghost use Rattle.rx_model.specs.Reading.Rows.{Spells, TokenRow};
 ghost use Rattle.rx_model.specs.Reading.Sequences.{ElementRow, ElementsGoOn};
@@ -72,68 +71,71 @@ pub fn class_row_prefixes()
         ClassTokenRow e ts q us r a → ClassTokenRow e ss q us p b → GoesOnInClass e ts r a ss p b ⊎ GoesOnInClass e ss p b ts r a }
 {}
 
-/// No tree reads a text that is refused.
+/// No tree reads a text that is refused, in every mode but that of `v`.
 pub fn refused()
-    ensures { (us : List CodePoint) (start added : ℕ) (d : Diagnostic) → IsCause Unicode us start added d → (p : Pattern) → Reads Unicode p us → ⊥ }
+    ensures { (mode : Mode) → is_sets mode ≡ false → (us : List CodePoint) (start added : ℕ) (d : Diagnostic) → IsCause mode us start added d → (p : Pattern) → Reads mode p us → ⊥ }
 {}
 
 /// No place is reached beyond one at which a refusal holds.
 pub fn none_beyond()
-    ensures { (us : List CodePoint) (start added place : ℕ) (d : Diagnostic) → IsCauseAtPlace Unicode us start added place d → NoneBeyond Unicode us place }
+    ensures { (mode : Mode) → is_sets mode ≡ false → (us : List CodePoint) (start added place : ℕ) (d : Diagnostic) → IsCauseAtPlace mode us start added place d → NoneBeyond mode us place }
 {}
 
 /// In a class that is refused no item can begin beyond that place, and no place beyond the class's bracket is reached.
 pub fn none_beyond_in_class()
-    ensures { (us : List CodePoint) (start added from : ℕ) (at_class : List CodePoint) (place : ℕ) (d : Diagnostic) → IsClassCause Unicode us start added from at_class place d →
-        NoneBeyondInClass (text_environment Unicode us) from at_class place × (IsPlace Unicode us from at_class → NoneBeyond Unicode us from) }
+    ensures { (mode : Mode) → is_sets mode ≡ false → (us : List CodePoint) (start added from : ℕ) (at_class : List CodePoint) (place : ℕ) (d : Diagnostic) →
+        IsClassCause mode us start added from at_class place d →
+        NoneBeyondInClass (text_environment mode us) from at_class place × (IsPlace mode us from at_class → NoneBeyond mode us from) }
 {}
 
 /// At most one refusal holds of a text, with its spans and what it says.
 pub fn one_cause()
-    ensures { (us : List CodePoint) (start added : ℕ) (d e : Diagnostic) → IsCause Unicode us start added d → IsCause Unicode us start added e → d ≡ e }
+    ensures { (mode : Mode) → is_sets mode ≡ false → (us : List CodePoint) (start added : ℕ) (d e : Diagnostic) → IsCause mode us start added d → IsCause mode us start added e → d ≡ e }
 {}
 
 /// A refusal that holds is the first of its text.
 pub fn cause_is_first()
-    ensures { (us : List CodePoint) (start added : ℕ) (d : Diagnostic) → IsCause Unicode us start added d → IsFirst Unicode us start added d }
+    ensures { (mode : Mode) → is_sets mode ≡ false → (us : List CodePoint) (start added : ℕ) (d : Diagnostic) → IsCause mode us start added d → IsFirst mode us start added d }
 {}
 
 /// At most one refusal holds at places, and it holds at one place.
 pub fn one_place()
-    ensures { (us : List CodePoint) (start added f g : ℕ) (d e : Diagnostic) → IsCauseAtPlace Unicode us start added f d → IsCauseAtPlace Unicode us start added g e → (f ≡ g) × (d ≡ e) }
+    ensures { (mode : Mode) → is_sets mode ≡ false → (us : List CodePoint) (start added f g : ℕ) (d e : Diagnostic) →
+        IsCauseAtPlace mode us start added f d → IsCauseAtPlace mode us start added g e → (f ≡ g) × (d ≡ e) }
 {}
 
 /// At most one refusal is the first of a text.
 pub fn one_first()
-    ensures { (us : List CodePoint) (start added : ℕ) (d e : Diagnostic) → IsFirst Unicode us start added d → IsFirst Unicode us start added e → d ≡ e }
+    ensures { (mode : Mode) → is_sets mode ≡ false → (us : List CodePoint) (start added : ℕ) (d e : Diagnostic) → IsFirst mode us start added d → IsFirst mode us start added e → d ≡ e }
 {}
 
-/// At most one refusal is the first of an input whose flags hold `u`, be they right or not.
+/// At most one refusal is the first of an input whose flags are wrong, or ask for a mode other than that of `v`.
 pub fn one_refusal()
-    ensures { (input : Input) (d e : Diagnostic) → holds (flags_of input.flags) 117 ≡ true → IsFirstRefusal input d → IsFirstRefusal input e → d ≡ e }
+    ensures { (input : Input) (d e : Diagnostic) → (flags_ok (flags_of input.flags) ≡ true → is_sets (mode_asked input) ≡ false) →
+        IsFirstRefusal input d → IsFirstRefusal input e → d ≡ e }
 {}
 
 /// At most one refusal holds in a class, and at one place of it.
 pub fn one_in_class()
-    ensures { (us : List CodePoint) (start added from : ℕ) (at_class : List CodePoint) (f g : ℕ) (d e : Diagnostic) →
-        IsClassCause Unicode us start added from at_class f d → IsClassCause Unicode us start added from at_class g e → (f ≡ g) × (d ≡ e) }
+    ensures { (mode : Mode) → is_sets mode ≡ false → (us : List CodePoint) (start added from : ℕ) (at_class : List CodePoint) (f g : ℕ) (d e : Diagnostic) →
+        IsClassCause mode us start added from at_class f d → IsClassCause mode us start added from at_class g e → (f ≡ g) × (d ≡ e) }
 {}
 
 /// A refusal that holds in a class is the first of that class.
 pub fn class_cause_is_first()
-    ensures { (us : List CodePoint) (start added from : ℕ) (at_class : List CodePoint) (place : ℕ) (d : Diagnostic) →
-        IsClassCause Unicode us start added from at_class place d → IsFirstInClass Unicode us start added from at_class d }
+    ensures { (mode : Mode) → is_sets mode ≡ false → (us : List CodePoint) (start added from : ℕ) (at_class : List CodePoint) (place : ℕ) (d : Diagnostic) →
+        IsClassCause mode us start added from at_class place d → IsFirstInClass mode us start added from at_class d }
 {}
 
-/// At most one refusal holds of the escape of a character or of a property that is to stand at a place.
+/// At most one refusal holds of the escape of a character or of a property that is to stand at a place, in every mode.
 pub fn one_of_escape()
-    ensures { (mode : Mode) → is_unicode mode ≡ true → (us : List CodePoint) (start added place : ℕ) (rest : List CodePoint) (f g : ℕ) (d e : Diagnostic) →
+    ensures { (mode : Mode) (us : List CodePoint) (start added place : ℕ) (rest : List CodePoint) (f g : ℕ) (d e : Diagnostic) →
         IsCauseOfEscape mode us start added place rest f d → IsCauseOfEscape mode us start added place rest g e → (f ≡ g) × (d ≡ e) }
 {}
 
 /// A refusal that holds of such an escape is the first of it.
 pub fn escape_cause_is_first()
-    ensures { (mode : Mode) → is_unicode mode ≡ true → (us : List CodePoint) (start added place : ℕ) (rest : List CodePoint) (f : ℕ) (d : Diagnostic) →
+    ensures { (mode : Mode) (us : List CodePoint) (start added place : ℕ) (rest : List CodePoint) (f : ℕ) (d : Diagnostic) →
         IsCauseOfEscape mode us start added place rest f d → IsFirstOfEscape mode us start added place rest d }
 {}
 
@@ -153,30 +155,22 @@ pub fn names_apart()
     ensures { (mode : Mode) (p : Pattern) (us : List CodePoint) → IsSpelled mode p us → TellsApart mode p us }
 {}
 
-/// The canonical spelling of a pattern, with `u`, is one line: not empty, and with no tab and no LineTerminator (ECMA-262, 12.3) in it.
+/// The canonical spelling of a pattern is one line: not empty, and with no tab and no LineTerminator (ECMA-262, 12.3) in it. With neither `u` nor `v` each unit
+/// of a text is a UTF-16 code unit.
 pub fn one_line()
-    ensures { (p : Pattern) (us : List CodePoint) → Reads Unicode p us → us ≢ [] → IsOneLine (spelling (bare p) Unicode) }
+    ensures { (mode : Mode) (p : Pattern) (us : List CodePoint) → Reads mode p us → FitIn mode us → us ≢ [] → IsOneLine (spelling (bare p) mode) }
 {}
 
-/// The canonical spelling of a pattern, with `u`, reads as a pattern that is equal but for spans and character kinds.
+/// In every mode but that of `v` the canonical spelling of a pattern reads as a pattern that is equal but for spans and character kinds.
 pub fn read_back()
-    ensures { (p : Pattern) (us : List CodePoint) → Reads Unicode p us → us ≢ [] → IsReadBack Unicode p }
+    ensures { (mode : Mode) → is_sets mode ≡ false → (p : Pattern) (us : List CodePoint) → Reads mode p us → FitIn mode us → us ≢ [] → IsReadBack mode p }
 {}
 
-/// With neither `u` nor `v` the canonical spelling of a pattern that UTF-16 code units spell is one line too.
-pub fn legacy_one_line()
-    ensures { (p : Pattern) (us : List CodePoint) → Reads Legacy p us → AreCodeUnits us → us ≢ [] → IsOneLine (spelling (bare p) Legacy) }
-{}
-
-/// With neither `u` nor `v` it reads as such a pattern too: each unit of a text is a UTF-16 code unit then, and a name combines a lead and a trail.
-pub fn legacy_read_back()
-    ensures { (p : Pattern) (us : List CodePoint) → Reads Legacy p us → AreCodeUnits us → us ≢ [] → IsReadBack Legacy p }
-{}
-
-/// Whatever a parser answers to the canonical spelling of a pattern, with `u`, is that pattern, but for spans and character kinds, or want of memory.
+/// So whatever a parser answers to the canonical spelling of a pattern is that pattern, but for spans and character kinds, or out of memory.
 pub fn again()
-    ensures { (input : Input) (answer : Result Pattern Fault) → IsParsed (λ p. p) input answer → (p : Pattern) (us : List CodePoint) → Reads Unicode p us → us ≢ []
-        → input.text ≡ spelling (bare p) Unicode → flags_ok (flags_of input.flags) ≡ true → mode_asked input ≡ Unicode → IsSameAgain p answer }
+    ensures { (input : Input) (answer : Result Pattern Fault) → IsParsed (λ p. p) input answer → is_sets (mode_asked input) ≡ false → (p : Pattern) (us : List CodePoint) →
+        Reads (mode_asked input) p us → FitIn (mode_asked input) us → us ≢ [] → input.text ≡ spelling (bare p) (mode_asked input) → flags_ok (flags_of input.flags) ≡ true →
+        IsSameAgain p answer }
 {}
 
 /// With neither `u` nor `v` some token begins at each backslash that does not end the text, but at one before a `k` where `\k` is a reference.
@@ -303,20 +297,10 @@ pub fn quantifiers_stand()
         tokens p ≡ before ++ after → TokenRow (environment mode p) before us rest → BeginsWithoutQuantifier after → (min : ℕ) (max : Option ℕ) → BeginsWithQuantifier rest min max → ⊥ }
 {}
 
-/// With neither `u` nor `v` no place is reached beyond a quantifier that is refused, since it has nothing to stand behind or for its numbers, nor beyond a
-/// backslash that is refused since it ends the text; and with `u` alone a range is refused since an end of it is no character (ECMA-262, 22.2.1.1 and B.1).
+/// A quantifier that has nothing to stand behind has a refusal of its own with `u` or `v`; and with `u` alone a range is refused since an end of it is no
+/// character (ECMA-262, 22.2.1.1 and B.1).
 pub fn legacy_refusals()
-    ensures quantifier { (mode : Mode) → is_unicode mode ≡ false → (us : List CodePoint) (start added place : ℕ) (span : Span) →
-        IsCauseAtPlace mode us start added place (InvalidBracedQuantifier span) → NoneBeyond mode us place }
     ensures lone { (mode : Mode) (us : List CodePoint) (start added place : ℕ) (span : Span) → IsCauseAtPlace mode us start added place (LoneQuantifier span) → is_unicode mode ≡ true }
-    ensures order { (mode : Mode) → is_unicode mode ≡ false → (us : List CodePoint) (start added place : ℕ) (span : Span) →
-        IsCauseAtPlace mode us start added place (BracedQuantifierOutOfOrder span) → NoneBeyond mode us place }
-    ensures large { (mode : Mode) → is_unicode mode ≡ false → (us : List CodePoint) (start added place : ℕ) (span : Span) →
-        IsCauseAtPlace mode us start added place (TooLargeNumberInBracedQuantifier span) → NoneBeyond mode us place }
-    ensures limit { (mode : Mode) → is_unicode mode ≡ false → (us : List CodePoint) (start added place : ℕ) (span : Span) →
-        IsCauseAtPlace mode us start added place (TooLargeNumberDigits span digits.Decimal) → NoneBeyond mode us place }
-    ensures backslash { (mode : Mode) → is_unicode mode ≡ false → (us : List CodePoint) (start added place : ℕ) (span : Span) →
-        IsCauseAtPlace mode us start added place (InvalidExtendedAtomEscape span) → NoneBeyond mode us place }
     ensures range { (mode : Mode) (us : List CodePoint) (start added from : ℕ) (at_class : List CodePoint) (place : ℕ) (span : Span) →
         IsClassCause mode us start added from at_class place (CharacterClassRangeInvalidAtom span) → mode ≡ Unicode }
 {}
@@ -332,4 +316,27 @@ pub fn legacy_units()
 pub fn legacy_controls()
     ensures inside { (c : ℕ) → is_control true c ≡ (is_letter c || is_one_of (codes "0123456789_") c) }
     ensures outside { (c : ℕ) → is_control false c ≡ is_letter c }
+{}
+
+/// With neither `u` nor `v` a class stands where a `[` does that is free of early errors, or a refusal holds in it.
+pub fn legacy_classes()
+    ensures { (us : List CodePoint) (start added from : ℕ) (u : CodePoint) (text : List CodePoint) → u.value ≡ 91 → AreCodeUnits text →
+        ((c : Class) × (w : List CodePoint) × (rest : List CodePoint) × (u ∷ text ≡ w ++ rest) × IsClass (text_environment Legacy us) c w rest × IsEarlyClass c)
+        ⊎ ((f : ℕ) × (d : Diagnostic) × IsClassCause Legacy us start added from (u ∷ text) f d) }
+{}
+
+/// With neither `u` nor `v`, at a place that is reached, the text ends with no group open, a further place is reached, or a refusal holds; but for modifiers, which
+/// no mode changes.
+pub fn legacy_places()
+    ensures { (us : List CodePoint) (start added place : ℕ) (open_groups : List Opener) (ready : Bool) (rest : List CodePoint) → AreCodeUnits rest →
+        IsReached Legacy us place open_groups ready rest → begins_modifiers (values rest) ≡ false →
+        ((rest ≡ []) × (open_groups ≡ []))
+        ⊎ (((further : ℕ) × (back : List CodePoint) × (place < further) × IsPlace Legacy us further back)
+        ⊎ ((f : ℕ) × (d : Diagnostic) × IsCauseAtPlace Legacy us start added f d)) }
+{}
+
+/// Where a group is open at a place that is reached, the innermost began at such a place, and what stands in it opens and closes groups of its own alone.
+pub fn innermost_group()
+    ensures { (mode : Mode) (us : List CodePoint) (place : ℕ) (group : Opener) (open_groups : List Opener) (ready : Bool) (rest : List CodePoint) →
+        IsReached mode us place (group ∷ open_groups) ready rest → (from : ℕ) × IsInside mode us from group place rest }
 {}

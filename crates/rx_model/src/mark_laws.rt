@@ -1,7 +1,7 @@
 //! Laws of the marks of a text. The functions do nothing: each contract is a law.
 
 ghost use Rattle.std.specs.Prelude.{◌≡◌, ◌↔◌, ◌++◌, ℕ, Bool, List, [], None, Option, Some};
-ghost use Rattle.rx_model.specs.FirstPass.Frames.{Hides, frames};
+ghost use Rattle.rx_model.specs.FirstPass.GroupStates.{Hides, group_states};
 ghost use Rattle.rx_model.specs.FirstPass.MarkTexts.{AreNames, AreNamesOnce, AreOnce, ArePlaces, IsMarkRow, IsNameBetween, IsNamedOpening, SpellsMark};
 ghost use Rattle.rx_model.specs.FirstPass.Marks.{IsCommon, IsParted, Mark, mark_at, mark_name, marks, name_places, names, places, seen};
 ghost use Rattle.rx_model.specs.Trees.Names.{once_behind};
@@ -13,9 +13,9 @@ pub fn has_common()
 
 /// A bar parts a mark from a later one exactly where, at the later one, the mark is in an alternative that has ended, of a group
 /// that has not.
-pub fn parted_by_frames()
-    ensures sound { (ms : List Mark) (a b : ℕ) → Hides a (frames ms b) → IsParted ms a b }
-    ensures whole { (ms : List Mark) (a b : ℕ) → IsParted ms a b → Hides a (frames ms b) }
+pub fn parted_by_group_states()
+    ensures sound { (ms : List Mark) (a b : ℕ) → Hides a (group_states ms b) → IsParted ms a b }
+    ensures whole { (ms : List Mark) (a b : ℕ) → IsParted ms a b → Hides a (group_states ms b) }
 {}
 
 /// A text is one row of marks, which are those that the function of marks gives, at its places; it begins with at most one mark (CountLeftCapturingParensWithin of

@@ -1,4 +1,5 @@
 ghost use Rattle.std.specs.Prelude.{◌≡◌};
+ghost use Rattle.rx_model.specs.Inputs.Environment.{is_unicode};
 ghost use Rattle.rx_model.specs.Inputs.Modes.{mode_by};
 
 /// How a pattern is read: without flag `u` or `v`, with `u`, with `v` (ECMA-262, 22.2.3.4 and Annex B.1.2).
@@ -20,6 +21,16 @@ impl Mode {
             Mode::Unicode
         } else {
             Mode::Legacy
+        }
+    }
+
+    /// Whether it is a unicode mode: with `u` or `v` (UnicodeMode of ECMA-262, 22.2.1).
+    pub fn is_unicode(self) -> bool
+        ensures { result ≡ is_unicode self }
+    {
+        match self {
+            Mode::Legacy => false,
+            Mode::Unicode | Mode::Sets => true,
         }
     }
 }

@@ -7,79 +7,74 @@ use Rattle.rx_ast.specs.declared.term.Pattern.{Pattern}
 use Rattle.rx_units.specs.declared.code_point.CodePoint.{CodePoint}
 use Rattle.rx_units.specs.Units.{offset_at}
 use Rattle.rx_model.specs.declared.mode.Mode.{Mode}
-use Rattle.rx_model.specs.declared.mode.Mode.TheVariants.{Unicode}
 use Rattle.rx_model.specs.FirstPass.Cuts.{TellsGroups}
 use Rattle.rx_model.specs.Trees.Early.{Obeys, most_groups}
 use Rattle.rx_model.specs.Inputs.Environment.{Environment, environment}
 use Rattle.rx_model.specs.Trees.Events.{enter, leave, events, tokens, tokens_of}
 use Rattle.rx_model.specs.Trees.Names.{groups}
 use Rattle.rx_model.specs.Refusals.Reached.{AreObeying, HasNoClash, text_environment, text_groups, text_names}
-use Rattle.rx_model.specs.Reading.Reading.{Reads, IsSpelled, IsSpanned, IsOnly}
+use Rattle.rx_model.specs.Reading.Reading.{Reads, IsSpelled, IsOnly}
 use Rattle.rx_model.specs.Reading.Rows.{Row, TokenRow}
 use Rattle.rx_model.specs.Trees.Shapes.{IsWellMade}
 use Rattle.rx_model.proofs.FirstPass.Apart.{tells_apart}
 use Rattle.rx_model.proofs.Trees.Builds.{one_tree}
 use Rattle.rx_model.proofs.Trees.Flat.{tokens_of-append}
 use Rattle.rx_model.proofs.Trees.Joins.{row_tokens}
-use Rattle.rx_model.proofs.Reading.OneRow.{TokenRow-mode, one_row_by_mode}
-use Rattle.rx_model.proofs.FirstPass.OwnGroups.{own_environment, tells_groups}
+use Rattle.rx_model.proofs.Reading.OneRow.{one_row_by_mode}
+use Rattle.rx_model.proofs.FirstPass.OwnGroups.{environment_by, own_environment, tells_groups}
 use Rattle.rx_parser.specs.declared.builder.Builder.{Builder}
 use Rattle.rx_parser.specs.Frames.{builder_events, openers, ready}
 use Rattle.rx_parser.specs.Good.{IsGood}
-use Rattle.rx_parser.specs.Parsing.{IsParsing}
+use Rattle.rx_parser.specs.Parsing.{IsParsing, IsWhole}
 use Rattle.rx_parser.specs.Progress.{IsAt}
 use Rattle.rx_parser.proofs.Steps.{begun, finished}
 
 -- nothing has been read
-pub parsing_begun : (us : List CodePoint) (first added start : ℕ) (b : Builder) → start ≡ offset_at first us 0 + added → builder_events b ≡ enter start ∷ enter start ∷ enter start ∷ []
-    → openers b ≡ [] → ready b ≡ false → IsGood b → b.mode ≡ Unicode → IsParsing Unicode us first added b 0
-parsing_begun us first added start b a m o r g d = record {
-  at = begun (text_environment Unicode us) (λ i. offset_at first us i + added) b us start a m o r g d;
+pub parsing_begun : {mode : Mode} (us : List CodePoint) (first added start : ℕ) (b : Builder) → start ≡ offset_at first us 0 + added → builder_events b ≡ enter start ∷ enter start ∷ enter start ∷ []
+    → openers b ≡ [] → ready b ≡ false → IsGood b → b.mode ≡ mode → IsParsing mode us first added b 0
+parsing_begun {mode} us first added start b a m o r g d = record {
+  at = begun (text_environment mode us) (λ i. offset_at first us i + added) b us start a m o r g d;
   within = omega arith;
-  obey = subst (λ es. AreObeying Unicode us (tokens_of es)) (sym m) (All-nil (Obeys (text_groups us) (text_names Unicode us)));
+  obey = subst (λ es. AreObeying mode us (tokens_of es)) (sym m) (All-nil (Obeys (text_groups us) (text_names mode us)));
 }
 
--- what is read and spanned
-pub record IsWhole (p : Pattern) (us : List CodePoint) (first added : ℕ) : Type 0 where
-  pub reads : Reads Unicode p us
-  pub spanned : IsSpanned Unicode p us first added
-
-module _ (us : List CodePoint) (first added : ℕ) (p : Pattern) (no_clash : HasNoClash Unicode us) (limit : text_groups us ≤ most_groups) where
+module _ (mode : Mode) (us : List CodePoint) (first added : ℕ) (p : Pattern) (no_clash : HasNoClash mode us) (limit : text_groups us ≤ most_groups) where
   -- the environment of the text
   abbrev text : Environment
-  text = text_environment Unicode us
+  text = text_environment mode us
 
   -- the offset of a place
   abbrev offset : ℕ → ℕ
   offset i = offset_at first us i + added
 
   -- A tree that is spelled in the environment of the text is spelled in its own.
-  whole : Row text offset (events p) 0 us (length us) [] → IsWellMade Unicode p → AreObeying Unicode us (tokens p) → IsWhole p us first added
+  whole : Row text offset (events p) 0 us (length us) [] → IsWellMade mode p → AreObeying mode us (tokens p) → IsWhole mode us first added p
   whole r w o =
       let row : TokenRow text (tokens p) us [] = row_tokens text offset (events p) 0 us (length us) [] r in
-      let spelled : IsSpelled Unicode p us = record { shape = w; row = TokenRow-mode text (environment Unicode p) (tokens p) us [] refl refl refl (λ h. cc h) row } in
-      let told : TellsGroups Unicode p us = tells_groups Unicode p us spelled in
+      let own : text ≡ environment mode p = environment_by text p us row in
+      let spelled : IsSpelled mode p us = record { shape = w; row = subst (λ e. TokenRow e (tokens p) us []) own row } in
+      let told : TellsGroups mode p us = tells_groups mode p us spelled in
       record {
         reads = record {
           spelled = spelled;
           early = record {
-            tokens_obey = subst (λ held. All (Obeys (groups p) held) (tokens p)) told.names_are (subst (λ count. All (Obeys count (text_names Unicode us)) (tokens p)) told.groups_are o);
-            apart = (tells_apart Unicode p us spelled).apart no_clash;
+            tokens_obey = subst (λ held. All (Obeys (groups p) held) (tokens p)) told.names_are (subst (λ count. All (Obeys count (text_names mode us)) (tokens p)) told.groups_are o);
+            apart = (tells_apart mode p us spelled).apart no_clash;
             in_limit = omega (arith, limit, told.groups_are);
           };
         };
-        spanned = subst (λ e. Row e offset (events p) 0 us (length us) []) (own_environment Unicode p us spelled) r;
+        spanned = subst (λ e. Row e offset (events p) 0 us (length us) []) own r;
       }
 
   -- the text has been read to its end
-  pub parsing_ended : (b : Builder) (place at : ℕ) → IsParsing Unicode us first added b place → length us ≤ place → at ≡ offset place
-      → events p ≡ builder_events b ++ (leave at ∷ leave at ∷ leave at ∷ []) → (IsGood b → IsWellMade b.mode p) → IsWhole p us first added
+  pub parsing_ended : (b : Builder) (place at : ℕ) → IsParsing mode us first added b place → length us ≤ place → at ≡ offset place
+      → events p ≡ builder_events b ++ (leave at ∷ leave at ∷ leave at ∷ []) → (IsGood b → IsWellMade b.mode p) → IsWhole mode us first added p
   parsing_ended b place at h l a m g =
       let end : place ≡ length us = omega (arith, l, h.within) in
       let nothing : drop place us ≡ [] = drop_all place us l in
       let there : IsAt text offset b us (length us) [] = subst (λ k. IsAt text offset b us k []) end (subst (IsAt text offset b us place) nothing h.at) in
       let f = finished text offset b us at p (a ∙ ap offset end) there m g in
-      whole f.0 f.1 (subst (AreObeying Unicode us) (sym (ap tokens_of m ∙ tokens_of-append (builder_events b) (leave at ∷ leave at ∷ leave at ∷ []) ∙ append-nil (tokens_of (builder_events b)))) h.obey)
+      whole f.0 f.1 (subst (AreObeying mode us) (sym (ap tokens_of m ∙ tokens_of-append (builder_events b) (leave at ∷ leave at ∷ leave at ∷ []) ∙ append-nil (tokens_of (builder_events b)))) h.obey)
 
 -- what reads the units is the only one that does
 pub reads_only : (mode : Mode) (p : Pattern) (us : List CodePoint) → Reads mode p us → IsOnly mode p us

@@ -13,7 +13,7 @@ use Rattle.rx_model.specs.Trees.Shapes.{takes, group_takes}
 use Rattle.rx_model.specs.Trees.Token.{Opener, closer, opener_of}
 use Rattle.rx_parser.specs.declared.builder.Builder.{Builder}
 use Rattle.rx_parser.specs.declared.frame.Frame.{Frame}
-use Rattle.rx_parser.specs.declared.frame.Opening.{Opening}
+use Rattle.rx_parser.specs.declared.frame.GroupKind.{GroupKind}
 use Rattle.rx_parser.specs.declared.level.Level.{Level}
 use Rattle.rx_parser.specs.Frames.{opener_tree, frame_events, frames_events, builder_events, opened}
 use Rattle.rx_parser.specs.Levels.{level_events}
@@ -39,12 +39,12 @@ unfolding builder_events
 builder_inner b P l h = h (enter b.start ∷ frames_events b.frames)
 
 -- a group begins
-pub builder_open : (b : Builder) (fs : List Frame) (l : Level) (opening : Opening) (at after : ℕ) → fs ≡ b.frames ++ (record { outer = b.level; start = at; opening = opening } ∷ [])
-    → level_events l ≡ enter after ∷ enter after ∷ [] → builder_events (record b { frames = fs; level = l }) ≡ builder_events b ++ (enter at ∷ opener_event (opener_tree opening) ∷ enter after ∷ enter after ∷ [])
+pub builder_open : (b : Builder) (fs : List Frame) (l : Level) (group_kind : GroupKind) (at after : ℕ) → fs ≡ b.frames ++ (record { outer = b.level; start = at; group_kind = group_kind } ∷ [])
+    → level_events l ≡ enter after ∷ enter after ∷ [] → builder_events (record b { frames = fs; level = l }) ≡ builder_events b ++ (enter at ∷ opener_event (opener_tree group_kind) ∷ enter after ∷ enter after ∷ [])
 unfolding builder_events
-builder_open b fs l opening at after e h =
-    let f : Frame = record { outer = b.level; start = at; opening = opening } in
-    let o : Event = opener_event (opener_tree opening) in
+builder_open b fs l group_kind at after e h =
+    let f : Frame = record { outer = b.level; start = at; group_kind = group_kind } in
+    let o : Event = opener_event (opener_tree group_kind) in
     ap (λ w. enter b.start ∷ (frames_events w ++ level_events l)) e
     ∙ ap (λ w. enter b.start ∷ (w ++ level_events l)) (frames_push b.frames f)
     ∙ ap (λ w. enter b.start ∷ ((frames_events b.frames ++ frame_events f) ++ w)) h
@@ -75,15 +75,15 @@ group_events t s o d e = ap node_events e
 -- the innermost group ends
 pub builder_close : (b : Builder) (fs : List Frame) (f : Frame) (d : Disjunction) (t : Term) (l : Level) (at after : ℕ) → b.frames ≡ fs ++ (f ∷ [])
     → disjunction_events d ≡ level_events b.level ++ (leave at ∷ leave at ∷ [])
-    → mirror_term t ≡ tree.group (record { start = f.start; end = after }) (opener_tree f.opening) (mirror_disjunction d).0 (mirror_disjunction d).1
+    → mirror_term t ≡ tree.group (record { start = f.start; end = after }) (opener_tree f.group_kind) (mirror_disjunction d).0 (mirror_disjunction d).1
     → level_events l ≡ level_events f.outer ++ term_events t
     → builder_events (record b { frames = fs; level = l }) ≡ builder_events b ++ (leave at ∷ leave at ∷ token closer ∷ leave after ∷ [])
 unfolding builder_events
 builder_close b fs f d t l at after e h g k =
-    let o : Event = opener_event (opener_tree f.opening) in
+    let o : Event = opener_event (opener_tree f.group_kind) in
     let s : Span = record { start = f.start; end = after } in
     let made : level_events l ≡ level_events f.outer ++ (enter f.start ∷ o ∷ (((level_events b.level ++ (leave at ∷ leave at ∷ [])) ++ (token closer ∷ [])) ++ (leave after ∷ []))) =
-    k ∙ ap (λ w. level_events f.outer ++ w) (group_events t s (opener_tree f.opening) d g ∙ ap (λ w. within s (o ∷ (w ++ (token closer ∷ [])))) h) in
+    k ∙ ap (λ w. level_events f.outer ++ w) (group_events t s (opener_tree f.group_kind) d g ∙ ap (λ w. within s (o ∷ (w ++ (token closer ∷ [])))) h) in
     ap (λ w. enter b.start ∷ (frames_events fs ++ w)) made
     ∙ ap (λ w. enter b.start ∷ w) (close_shape (frames_events fs) (level_events f.outer) (level_events b.level) (enter f.start) o (leave at) (leave at) (token closer) (leave after))
     ∙ ap (λ w. enter b.start ∷ ((w ++ level_events b.level) ++ (leave at ∷ leave at ∷ token closer ∷ leave after ∷ []))) (sym (ap frames_events e ∙ frames_push fs f))
@@ -98,21 +98,21 @@ builder_finish b p at e s h =
     ∙ ap (λ w. enter b.start ∷ w) (append_assoc (level_events b.level) (leave at ∷ leave at ∷ []) (leave at ∷ []))
     ∙ ap (λ w. enter b.start ∷ ((w ++ level_events b.level) ++ (leave at ∷ leave at ∷ leave at ∷ []))) (sym (ap frames_events e))
 
-opened_push : (fs : List Frame) (f : Frame) (outer : List Opener) → opened (fs ++ (f ∷ [])) outer ≡ opener_of (opener_tree f.opening) ∷ opened fs outer
+opened_push : (fs : List Frame) (f : Frame) (outer : List Opener) → opened (fs ++ (f ∷ [])) outer ≡ opener_of (opener_tree f.group_kind) ∷ opened fs outer
 opened_push [] f outer = refl
-opened_push (g ∷ fs) f outer = opened_push fs f (opener_of (opener_tree g.opening) ∷ outer)
+opened_push (g ∷ fs) f outer = opened_push fs f (opener_of (opener_tree g.group_kind) ∷ outer)
 
-pub opened_after : (fs gs : List Frame) (f : Frame) → gs ≡ fs ++ (f ∷ []) → opened gs [] ≡ opener_of (opener_tree f.opening) ∷ opened fs []
+pub opened_after : (fs gs : List Frame) (f : Frame) → gs ≡ fs ++ (f ∷ []) → opened gs [] ≡ opener_of (opener_tree f.group_kind) ∷ opened fs []
 opened_after fs gs f e = ap (λ x. opened x []) e ∙ opened_push fs f []
 
 some_opened : (fs : List Frame) (outer : List Opener) (o : Opener) → opened fs (o ∷ outer) ≡ [] → ⊥
 some_opened [] outer o e = cc
-some_opened (f ∷ fs) outer o e = some_opened fs (o ∷ outer) (opener_of (opener_tree f.opening)) e
+some_opened (f ∷ fs) outer o e = some_opened fs (o ∷ outer) (opener_of (opener_tree f.group_kind)) e
 
 -- where nothing is open, no frame is there
 pub frames_none : (fs : List Frame) → opened fs [] ≡ [] → fs ≡ []
 frames_none [] e = refl
-frames_none (f ∷ fs) e = absurd (some_opened fs [] (opener_of (opener_tree f.opening)) e)
+frames_none (f ∷ fs) e = absurd (some_opened fs [] (opener_of (opener_tree f.group_kind)) e)
 
 pub group_takes_is : (mode : Mode) (t : Term) (s : Span) (o : tree.Opener) (d : Disjunction) → mirror_term t ≡ tree.group s o (mirror_disjunction d).0 (mirror_disjunction d).1
     → takes mode (mirror_term t) ≡ group_takes mode (opener_of o)

@@ -1,43 +1,46 @@
--- What stands at the front of a text, by what its readers find.
-use Rattle.std.proofs.Common.{◌≡◌, refl, sym, ap, ◌∙◌, subst, ℕ, ◌+◌, ◌-◌, ◌<◌, ◌≤◌, Bool, true, false, not, ◌==◌, ◌&&◌, ◌||◌, ◌⊎◌, Option, Some, None, List, [], ◌∷◌, length, take, drop, get_or, codes, arith, inl, inr}
-use Rattle.std.proofs.lemmas.Bool.{eqb-true, eq-eqb, or_parts, cond-true, cond-false, cases_Bool, true≢false}
-use Rattle.std.proofs.lemmas.Bool.Decides.{nat_tests}
-use Rattle.std.proofs.lemmas.List.{drop-map, take_all}
-use Rattle.rx_tables.specs.Characters.{is_within, is_syntax_character}
-use Rattle.rx_ast.specs.declared.leaf.BoundaryAssertionKind.{BoundaryAssertionKind}
-use Rattle.rx_ast.specs.declared.leaf.CharacterClassEscapeKind.{CharacterClassEscapeKind}
+-- What is found at the front of a text, by what is read there.
+use Rattle.std.proofs.Common.{All, ◌≡◌, refl, sym, ap, ap₂, ◌∙◌, ℕ, ◌+◌, ◌-◌, ◌%◌, ◌≤◌, Bool, true, false, ◌==◌, ◌&&◌, ◌||◌, Some, None, List, [], ◌∷◌, ◌++◌, length, take, drop, get_or, arith, append_assoc, length-append}
+use Rattle.std.proofs.Math.Seq.{take-append_seam}
+use Rattle.std.proofs.lemmas.Bool.{cond-false, and_left, ne_eqb, true≢false}
+use Rattle.std.proofs.lemmas.List.{drop-map, length-drop, length-map, map-append, take-map, take_all}
+use Rattle.rx_tables.specs.Characters.{is_syntax_character}
 use Rattle.rx_units.specs.declared.code_point.CodePoint.{CodePoint}
-use Rattle.rx_units.specs.Reading as reading
 use Rattle.rx_units.specs.Units.{values}
 use Rattle.rx_class.specs.Found.{class_escape_front}
 use Rattle.rx_model.specs.declared.mode.Mode.{Mode}
 use Rattle.rx_model.specs.declared.mode.Mode.TheVariants.{Legacy, Unicode, Sets}
-use Rattle.rx_model.specs.Reading.Boundaries.{has_buffers}
-use Rattle.rx_model.specs.Refusals.Causes.{HasBraces, IsOutOfOrder, IsTooLarge}
-use Rattle.rx_model.specs.Trees.Early.{Obeys, greatest_count}
-use Rattle.rx_model.specs.Inputs.Environment.{Environment, environment_with, is_unicode}
-use Rattle.rx_model.specs.Characters.Escapes.{front_is}
-use Rattle.rx_model.specs.Reading.Fronts.{any_escape_at, is_raw_at, front, boundary_at, escape_at, nothing, too_many, no_unicode, escaped_token, backslash_token, backslash_front, class_escape_at, counts, no_counts, counts_at, quantifier_token, syntax_front}
+use Rattle.rx_model.specs.Characters.UnicodeEscapes.{PassesHex}
 use Rattle.rx_model.specs.FirstPass.Marks.{starts}
+use Rattle.rx_model.specs.Groups.GroupNameReading.{name_of}
+use Rattle.rx_model.specs.Groups.GroupNames.{IsNameRow, no_name, some_name, SpellsName}
+use Rattle.rx_model.specs.Groups.Groups.{BeginsName, of_group, of_reference}
+use Rattle.rx_model.specs.Groups.ModifierFronts.{ModifiersHalt}
+use Rattle.rx_model.specs.Groups.NameFronts.{NameHalt, unterminated, misplaced, no_escape, no_escape_of_u, many_digits}
+use Rattle.rx_model.specs.Inputs.Environment.{Environment, environment_with, is_unicode}
+use Rattle.rx_model.specs.Inputs.Modes.{is_read}
 use Rattle.rx_model.specs.Properties.PropertyForms.{begins_property}
-use Rattle.rx_model.specs.Quantifiers.Quantifiers.{SpellsCounts, SpellsBraces, star, plus, optional, braces, is_question}
-use Rattle.rx_model.specs.Reading.Rows.{is_legacy_syntax, stands_raw}
-use Rattle.rx_model.specs.Characters.UnitKinds.{unit_kind}
-use Rattle.rx_model.specs.Refusals.Stops.{IsStop, at_end, at_bracket, at_brace, behind_backslash, is_one_of}
-use Rattle.rx_model.specs.Trees.Token.{Token, boundary, character, class_escape, quantifier}
-use Rattle.rx_model.specs.Characters.UnicodeEscapes.{Decodes, PassesHex}
-use Rattle.rx_model.proofs.Characters.Backslashes.{unreferred}
-use Rattle.rx_model.proofs.Characters.Escapes.{escape_nothing, escape_too_many, escape_no_unicode}
-use Rattle.rx_model.proofs.Reading.Fronts.{front_by_values, front_by_unicode, raw_in_unicode}
+use Rattle.rx_model.specs.Reading.Boundaries.{has_buffers}
+use Rattle.rx_model.specs.Reading.FrontReading.{FrontHalt, ends_here, out_of_order, too_large, many_decimal_digits, many_hex_digits, no_unicode_escape, in_name, no_angle, no_such_group, in_modifiers, FrontRead, token_read, property_begins, class_begins, halted, front_read, backslash_read, one_of_escapes, syntax_read}
+use Rattle.rx_model.specs.Reading.Fronts.{boundary_at, class_escape_at, escape_at, front, is_raw_at, is_reference}
+use Rattle.rx_model.specs.Reading.Rows.{stands_raw}
+use Rattle.rx_model.specs.Refusals.Stops.{IsStop, at_end, at_closer, at_bracket, at_brace, behind_backslash}
+use Rattle.rx_model.specs.Trees.Token.{Token, Opener, boundary, character, dot, class_escape, property, class, indexed, named, opener, closer, bar, quantifier, capturing, ignoring, looking}
 use Rattle.rx_model.proofs.Characters.LegacyEscapes.{any_in_unicode}
-use Rattle.rx_model.proofs.Groups.GroupNames.{differs}
-use Rattle.rx_model.proofs.Quantifiers.Quantifiers.{counts_spelled, no_braces}
-use Rattle.rx_model.proofs.Refusals.Stops.{stop_backslash}
-use Rattle.rx_parser.specs.CountsFound.{IsInLimit}
-use Rattle.rx_parser.specs.Found.{Stands, IsFound, boundary_front, begins_reference, closes_or_repeats}
-use Rattle.rx_parser.specs.declared.found.Found.TheVariants as found
-use Rattle.rx_parser.specs.declared.found.Halt.TheVariants as halt
-use Rattle.rx_parser.proofs.Digits.{chosen}
+use Rattle.rx_model.proofs.Groups.GroupNames.{group_name_read, name_anywhere}
+use Rattle.rx_model.proofs.Groups.ModifierBits.{bits_small}
+use Rattle.rx_model.proofs.Groups.ModifierFronts.{AreWrong, unknown, duplicated, empty, invalid}
+use Rattle.rx_model.proofs.Groups.NameFronts.{EscapeBehind, SaysNameHalt}
+use Rattle.rx_model.proofs.Quantifiers.CountsReading.{limit_within}
+use Rattle.rx_model.proofs.Reading.FrontReading.{Says, SaysHalt, front_said}
+use Rattle.rx_model.proofs.Reading.Fronts.{Front, front_spelled, unicode_not_raw}
+use Rattle.rx_parser.specs.Found.{HoldsName, IsFound, IsOpenerFound, boundary_front, found_front, found_halt, found_opener, is_first_digit}
+use Rattle.rx_parser.specs.HaltPlaces.{halt_end}
+use Rattle.rx_parser.specs.Names.{found_name_halt}
+
+pub unicode_read : (mode : Mode) → is_read mode ≡ true → is_unicode mode ≡ true
+unicode_read Legacy h = h
+unicode_read Unicode h = refl
+unicode_read Sets h = refl
 
 pub buffers_there : (mode : Mode) (groups : ℕ) (has_names : Bool) → is_unicode mode ≡ true → has_buffers (environment_with mode groups has_names) ≡ true
 buffers_there mode groups has_names h = ap (λ b. b && true) h
@@ -45,223 +48,148 @@ buffers_there mode groups has_names h = ap (λ b. b && true) h
 pub named_there : (mode : Mode) (groups : ℕ) (has_names : Bool) → is_unicode mode ≡ true → (environment_with mode groups has_names).named ≡ true
 named_there mode groups has_names h = ap (λ b. b || has_names) h
 
-not_above : (n m : ℕ) → (m < n → ⊥) → n ≤ m
-not_above n m h = grind arith
+-- behind a backslash, where neither a reference nor a property begins
+pub escapes_alone : (e : Environment) (us : List CodePoint) (d : CodePoint) → is_unicode e.mode ≡ true → 1 ≤ length us → is_first_digit (get_or us 0 d).value ≡ false → ((get_or us 0 d).value ≡ 107 → ⊥)
+    → begins_property (get_or us 0 d).value ≡ false
+    → backslash_read e (values us) ≡ one_of_escapes (boundary_front e (values us)) (class_escape_front (values us)) (escape_at (is_unicode e.mode) (values us))
+escapes_alone e [] d m l free no_k other = absurd (omega arith)
+escapes_alone e (u ∷ us) d m l free no_k other =
+    cond-false (is_reference e (values (u ∷ us))) _ _ (and_left (is_first_digit u.value) _ free)
+    ∙ cond-false (u.value == 107 && e.named) _ _ (and_left (u.value == 107) e.named (ne_eqb u.value 107 no_k))
+    ∙ cond-false (begins_property u.value && is_unicode e.mode) _ _ (and_left (begins_property u.value) (is_unicode e.mode) other)
+    ∙ ap (one_of_escapes (boundary_at e u.value) (class_escape_at u.value)) (any_in_unicode false e (values (u ∷ us)) m)
 
-syntax_of : (c : ℕ) → closes_or_repeats c ≡ true → (is_syntax_character c && not (c == 91)) ≡ true
-syntax_of c h = grind (arith, nat_tests)
+-- a SyntaxCharacter other than a backslash and `[`
+pub syntax_alone : (e : Environment) (us : List CodePoint) (d : CodePoint) → is_unicode e.mode ≡ true → 1 ≤ length us → is_syntax_character (get_or us 0 d).value ≡ true → ((get_or us 0 d).value ≡ 92 → ⊥) → ((get_or us 0 d).value ≡ 91 → ⊥)
+    → front_read e us ≡ syntax_read e (get_or us 0 d).value (values (take (length us - 1) (drop 1 us)))
+unfolding front_read
+syntax_alone e [] d m l s no_backslash no_bracket = absurd (omega arith)
+syntax_alone e (u ∷ us) d m l s no_backslash no_bracket =
+    cond-false (is_raw_at e u.value (values us)) _ _ (and_left (stands_raw e.mode u.value) _ (unicode_not_raw e.mode u.value m s))
+    ∙ cond-false (u.value == 92) _ _ (ne_eqb u.value 92 no_backslash)
+    ∙ cond-false (u.value == 91) _ _ (ne_eqb u.value 91 no_bracket)
+    ∙ ap (λ us. syntax_read e u.value (values us)) (sym (take_all (length (u ∷ us) - 1) us (omega arith)))
 
-by_counts : (e : Environment) (c : ℕ) (w : List ℕ) → closes_or_repeats c ≡ true → syntax_front e c w ≡ quantifier_token (counts_at (c ∷ w)) (c ∷ w)
-by_counts e c w h =
-    cond-false (c == 46) _ _ (differs closes_or_repeats c 46 refl h)
-    ∙ cond-false (c == 40) _ _ (differs closes_or_repeats c 40 refl h)
-    ∙ cond-false (c == 41) _ _ (differs closes_or_repeats c 41 refl h)
-    ∙ cond-false (c == 124) _ _ (differs closes_or_repeats c 124 refl h)
-    ∙ cond-false (c == 94) _ _ (differs closes_or_repeats c 94 refl h)
-    ∙ cond-false (c == 36) _ _ (differs closes_or_repeats c 36 refl h)
-
--- counts that are out of order or too large stand in braces
-spelled_in_braces : (min : ℕ) (max : Option ℕ) (prefix : List ℕ) → SpellsCounts min max prefix → IsOutOfOrder min max ⊎ IsTooLarge min max → SpellsBraces min max prefix
-spelled_in_braces _ _ _ star bad = absurd (elim bad [ inl k ↦ k | inr k ↦ omega (arith, k) ])
-spelled_in_braces _ _ _ plus bad = absurd (elim bad [ inl k ↦ k | inr k ↦ omega (arith, k) ])
-spelled_in_braces _ _ _ optional bad = absurd (elim bad [
-  | inl k ↦ omega (arith, k)
-  | inr k ↦ elim k [ inl l ↦ omega (arith, l) | inr l ↦ omega (arith, l) ]
-])
-spelled_in_braces min max prefix (braces s) bad = s
-
-pub braces_there : (us : List CodePoint) (min : ℕ) (max : Option ℕ) (n : ℕ) → counts_at (values us) ≡ counts min max n → IsInLimit (values us) → IsOutOfOrder min max ⊎ IsTooLarge min max → HasBraces min max n us
-braces_there us min max n h limit bad =
-    let f = counts_spelled min max n (values us) h in record {
-      prefix = f.prefix;
-      behind = f.rest;
-      spelled = spelled_in_braces min max f.prefix f.spelled bad;
-      whole = f.whole;
-      count_is = sym f.count;
-      in_limit = limit;
+-- a name between three units and `>`
+named_units : (m : Bool) (a b c : ℕ) (us w rest : List CodePoint) (name spelled : List ℕ) (n : ℕ) → us ≡ w ++ rest → length w ≡ n → values w ≡ a ∷ b ∷ c ∷ (spelled ++ (62 ∷ []))
+    → SpellsName m name spelled (62 ∷ values rest) → HoldsName m us name n
+named_units m a b c us w rest name spelled n whole count is spells =
+    let long : n ≡ 4 + length spelled = omega (arith, count, ap length is, length-map w (λ (u : CodePoint). u.value), length-append spelled (62 ∷ [])) in
+    let k : n - 4 ≡ length spelled = omega (arith, long) in
+    let behind : drop 3 (values us) ≡ spelled ++ (62 ∷ values rest) =
+    ap (λ us. drop 3 (values us)) whole ∙ ap (drop 3) (map-append (λ (u : CodePoint). u.value) w rest ∙ ap (λ v. v ++ values rest) is) ∙ append_assoc spelled (62 ∷ []) (values rest) in
+    let units : values (take (n - 4) (drop 3 us)) ≡ spelled =
+    sym (take-map (λ (u : CodePoint). u.value) (n - 4) (drop 3 us))
+    ∙ ap (take (n - 4)) (sym (drop-map (λ (u : CodePoint). u.value) 3 us) ∙ behind)
+    ∙ ap (λ k. take k (spelled ++ (62 ∷ values rest))) k
+    ∙ take-append_seam spelled (62 ∷ values rest) in record {
+      long = omega (arith, long);
+      within = omega (arith, ap length whole, length-append w rest, count);
+      name_is = ap (name_of m) units ∙ group_name_read m spelled name (name_anywhere m name spelled (62 ∷ values rest) [] spells);
     }
 
-pub counts_obey : (count : ℕ) (names : List (List ℕ)) (min : ℕ) (max : Option ℕ) (greedy : Bool) → (IsOutOfOrder min max → ⊥) → (IsTooLarge min max → ⊥) → Obeys count names (quantifier min max greedy)
-counts_obey count names min None greedy order large = (not_above min greatest_count large, tt)
-counts_obey count names min (Some max) greedy order large = (
-  not_above min greatest_count (λ k. large (inl k)),
-  (not_above min max order, not_above max greatest_count (λ k. large (inr k))),
-)
+module _ (e : Environment) (us : List CodePoint) where
+  name_held : (name : List ℕ) (n : ℕ) → Front e (named name) n us → HoldsName (is_unicode e.mode) us name n
+  name_held name n f = named_units (is_unicode e.mode) 92 107 60 us f.w f.rest name f.spells.spelled n f.whole f.count f.spells.whole f.spells.spells
 
--- No bracket that closes begins a quantifier, nor do braces that hold no counts.
-no_repeat : (c : ℕ) (w : List ℕ) → closes_or_repeats c ≡ true → counts_at (c ∷ w) ≡ no_counts → (c == 93 || c == 125) ≡ false → (c == 123) ≡ false → ⊥
-unfolding counts_at
-no_repeat c w h k bracket brace = elim (chosen (c == 42) k) [
-  | inl p ↦ (let no : ⊥ = cc p.1 in no)
-  | inr p ↦ elim (chosen (c == 43) p.1) [
-    | inl q ↦ (let no : ⊥ = cc q.1 in no)
-    | inr q ↦ elim (chosen (c == 63) q.1) [
-      | inl r ↦ (let no : ⊥ = cc r.1 in no)
-      | inr r ↦ let none : closes_or_repeats c ≡ false = rest c bracket brace p.0 q.0 r.0 in true≢false (sym h ∙ none)
-    ]
-  ]
-]
-  where
-    rest : (c : ℕ) → (c == 93 || c == 125) ≡ false → (c == 123) ≡ false → (c == 42) ≡ false → (c == 43) ≡ false → (c == 63) ≡ false → closes_or_repeats c ≡ false
-    rest c bracket brace no_star no_plus no_question = grind (arith, nat_tests)
-
--- a `?` stands next, or at a place
-question_starts : (w : List ℕ) → front_is is_question w ≡ starts 63 w
-question_starts [] = refl
-question_starts (c ∷ w) = refl
-
-question_there : (us : List CodePoint) (n : ℕ) → front_is is_question (drop n (values us)) ≡ starts 63 (values (drop n us))
-question_there us n = question_starts (drop n (values us)) ∙ ap (starts 63) (drop-map (λ u. u.value) n us)
-
-raw_stands : (mode : Mode) (c : ℕ) → is_unicode mode ≡ true → is_syntax_character c ≡ false → stands_raw mode c ≡ true
-raw_stands Legacy c m h = absurd (let no : ⊥ = cc m in no)
-raw_stands Unicode c m h = ap not h
-raw_stands Sets c m h = ap not h
-
-module _ (e : Environment) where
-  counts_front : (us : List CodePoint) → is_unicode e.mode ≡ true → front_is closes_or_repeats (values us) ≡ true → front e us ≡ quantifier_token (counts_at (values us)) (values us)
-  counts_front [] m h = absurd (let no : ⊥ = cc h in no)
-  counts_front (u ∷ us) m h =
-      front_by_unicode e (u ∷ us) u.value (values us) m (syntax_of u.value h) refl
-      ∙ cond-false (u.value == 92) _ _ (differs closes_or_repeats u.value 92 refl h)
-      ∙ by_counts e u.value (values us) h
-
-  pub greedy_front : (us : List CodePoint) → is_unicode e.mode ≡ true → (min : ℕ) (max : Option ℕ) (n : ℕ) → front_is closes_or_repeats (values us) ≡ true → counts_at (values us) ≡ counts min max n
-      → starts 63 (values (drop n us)) ≡ false → front e us ≡ Some (quantifier min max true, n)
-  greedy_front us m min max n h k q =
-      counts_front us m h ∙ ap (λ c. quantifier_token c (values us)) k ∙ cond-false (front_is is_question (drop n (values us))) _ _ (question_there us n ∙ q)
-
-  pub lazy_front : (us : List CodePoint) → is_unicode e.mode ≡ true → (min : ℕ) (max : Option ℕ) (n : ℕ) → front_is closes_or_repeats (values us) ≡ true → counts_at (values us) ≡ counts min max n
-      → starts 63 (values (drop n us)) ≡ true → front e us ≡ Some (quantifier min max false, n + 1)
-  lazy_front us m min max n h k q =
-      counts_front us m h ∙ ap (λ c. quantifier_token c (values us)) k ∙ cond-true (front_is is_question (drop n (values us))) _ _ (question_there us n ∙ q)
-
-  ends_at : (u : CodePoint) (us : List CodePoint) → is_unicode e.mode ≡ true → closes_or_repeats u.value ≡ true → counts_at (values (u ∷ us)) ≡ no_counts → IsInLimit (values (u ∷ us)) → IsStop e (u ∷ us) 0
-  ends_at u us m h k limit = elim (cases_Bool (u.value == 93 || u.value == 125)) [
-    | inl q ↦ at_bracket m q
-    | inr q ↦ elim (cases_Bool (u.value == 123)) [
-      | inl r ↦ at_brace m (eqb-true u.value 123 r) (no_braces (values (u ∷ us)) k) limit
-      | inr r ↦ absurd (no_repeat u.value (values us) h k q r)
-    ]
-  ]
-
-  -- no quantifier, nor a `)`
-  pub stop_there : (us : List CodePoint) → is_unicode e.mode ≡ true → front_is closes_or_repeats (values us) ≡ true → counts_at (values us) ≡ no_counts → IsInLimit (values us) → IsFound e us (found.Halt (halt.Stop 0))
-  stop_there [] m h k limit = absurd (let no : ⊥ = cc h in no)
-  stop_there (u ∷ us) m h k limit = ((ends_at u us m h k limit, differs closes_or_repeats u.value 41 refl h), omega arith)
-
-  -- behind a backslash
-  backslash_unit : (u : CodePoint) (us : List CodePoint) → u.value ≡ 92 → front e (u ∷ us) ≡ backslash_front e (values us)
-  backslash_unit u us h = front_by_values e (u ∷ us) 92 (values us) refl (ap (λ c. c ∷ values us) h)
-
-  -- a property begins
-  pub property_there : (u v : CodePoint) (us : List CodePoint) → u.value ≡ 92 → begins_property v.value ≡ true → IsFound e (u ∷ v ∷ us) found.Property
-  property_there u v us h k = (v.value, values us, ap (λ c. c ∷ v.value ∷ values us) h, k)
-
-  -- where neither a reference nor a property begins
-  unreferred_unit : (u v : CodePoint) (us : List CodePoint) → u.value ≡ 92 → begins_reference v.value ≡ false → begins_property v.value ≡ false
-      → front e (u ∷ v ∷ us) ≡ backslash_token (boundary_at e v.value) (class_escape_at v.value) (any_escape_at false e (values (v ∷ us)))
-  unreferred_unit u v us h free other =
-      let p = or_parts (is_within 49 57 v.value) (v.value == 107) free in
-      backslash_unit u (v ∷ us) h ∙ unreferred e v.value (values us) p.0 p.1 other
-
-  pub boundary_there : (u : CodePoint) (us : List CodePoint) (kind : BoundaryAssertionKind) → u.value ≡ 92 → front_is begins_reference (values us) ≡ false
-      → front_is begins_property (values us) ≡ false → boundary_front e (values us) ≡ Some kind → Stands e (u ∷ us) (boundary kind) 2
-  boundary_there u [] kind h free other k = absurd (let no : ⊥ = cc k in no)
-  boundary_there u (v ∷ us) kind h free other k = (
-    unreferred_unit u v us h free other ∙ ap (λ b. backslash_token b (class_escape_at v.value) (any_escape_at false e (values (v ∷ us)))) k,
-    omega arith,
-    λ _. tt,
-  )
-
-  pub class_there : (u : CodePoint) (us : List CodePoint) (kind : CharacterClassEscapeKind) → u.value ≡ 92 → front_is begins_reference (values us) ≡ false
-      → front_is begins_property (values us) ≡ false → boundary_front e (values us) ≡ None → class_escape_front (values us) ≡ Some kind → Stands e (u ∷ us) (class_escape kind) 2
-  class_there u [] kind h free other b k = absurd (let no : ⊥ = cc k in no)
-  class_there u (v ∷ us) kind h free other b k = (
-    unreferred_unit u v us h free other
-        ∙ ap (λ b. backslash_token b (class_escape_at v.value) (any_escape_at false e (values (v ∷ us)))) b
-        ∙ ap (λ c. backslash_token None c (any_escape_at false e (values (v ∷ us)))) k,
-    omega arith,
-    λ _. tt,
-  )
-
-  pub escape_front : (u : CodePoint) (us : List CodePoint) → is_unicode e.mode ≡ true → u.value ≡ 92 → front_is begins_reference (values us) ≡ false → front_is begins_property (values us) ≡ false
-      → boundary_front e (values us) ≡ None → class_escape_front (values us) ≡ None → front e (u ∷ us) ≡ escaped_token (escape_at (is_unicode e.mode) (values us))
-  unfolding backslash_front escape_at
-  escape_front u [] m h free other b c = backslash_unit u [] h
-  escape_front u (v ∷ us) m h free other b c =
-      unreferred_unit u v us h free other
-      ∙ ap (λ b. backslash_token b (class_escape_at v.value) (any_escape_at false e (values (v ∷ us)))) b
-      ∙ ap (λ c. backslash_token None c (any_escape_at false e (values (v ∷ us)))) c
-      ∙ ap escaped_token (any_in_unicode false e (values (v ∷ us)) m)
-
-  -- a backslash that ends the text
-  pub ended_backslash : (u : CodePoint) (us : List CodePoint) → is_unicode e.mode ≡ true → u.value ≡ 92 → length us < 1 → IsFound e (u ∷ us) (found.Halt (halt.Stop 1))
-  ended_backslash u [] m h l = ((behind_backslash m h refl, differs (λ c. c == 92) u.value 41 refl (eq-eqb u.value 92 h)), omega arith)
-  ended_backslash u (v ∷ us) m h l = absurd (omega arith)
-
-  -- a backslash that begins nothing
-  pub nothing_there : (u : CodePoint) (us : List CodePoint) → is_unicode e.mode ≡ true → u.value ≡ 92 → front_is begins_reference (values us) ≡ false → front_is begins_property (values us) ≡ false
-      → boundary_front e (values us) ≡ None → class_escape_front (values us) ≡ None → escape_at true (values us) ≡ nothing → IsFound e (u ∷ us) (found.Halt (halt.Stop 1))
-  nothing_there u us m h free other b c k =
-      let none = escape_front u us m h free other b c ∙ ap (λ m. escaped_token (escape_at m (values us))) m ∙ ap escaped_token k in (
-        (
-          behind_backslash m h (stop_backslash e (values us) m (sym (backslash_unit u us h) ∙ none) (no_beginning (values us) free other (escape_nothing (values us) k))),
-          differs (λ c. c == 92) u.value 41 refl (eq-eqb u.value 92 h),
-        ),
-        omega arith,
+  opener_held : (o : Opener) (n : ℕ) → Front e (opener o) n us → IsOpenerFound e us n o (found_opener o)
+  opener_held (capturing None) n f = refl
+  opener_held (capturing (Some name)) n f = (name, refl, named_units (is_unicode e.mode) 40 63 60 us f.w f.rest name f.spells.spelled n f.whole f.count f.spells.whole f.spells.spells)
+  opener_held (ignoring None) n f = refl
+  opener_held (ignoring (Some bits)) n f =
+      let s = f.spells.spelled in
+      let a = bits_small s.enabled in
+      let b = bits_small s.disabled in (
+        ap₂ (λ a b. ignoring (Some (a, b))) (let k : bits.0 ≡ bits.0 % 8 = omega (arith, a, s.enabling_is) in k) (let k : bits.1 ≡ bits.1 % 8 = omega (arith, b, s.disabling_is) in k),
+        omega (arith, f.count, ap length f.spells.whole, length-map f.w (λ (u : CodePoint). u.value), length-append f.spells.text (58 ∷ [])),
       )
+  opener_held (looking kind) n f = refl
+
+-- A halt names places within the text.
+row_within : (m : Bool) (w : List ℕ) (n : ℕ) → IsNameRow m w n → n ≤ length w
+row_within m w _ (no_name none) = omega arith
+row_within m w n (some_name b) = omega (arith, b.count_is, ap length b.whole, length-append b.spelled b.rest)
+
+escape_within : (m : Bool) (w : List ℕ) (n : ℕ) (behind : List ℕ) → EscapeBehind m w n behind → n + 1 + length behind ≤ length w
+escape_within m w n behind b = let l = row_within m w n b.row in omega (arith, l, ap length b.there, length-drop n w)
+
+hex_within : (w : List ℕ) (many : ℕ) → PassesHex w many → many + 3 ≤ length w
+hex_within w many p = omega (arith, p.count_is, ap length p.whole, length-append p.digits (p.next ∷ p.rest))
+
+some_u : (m : Bool) (w : List ℕ) → (m && starts 117 w) ≡ true → 1 ≤ length w
+some_u true (c ∷ w) h = omega arith
+some_u true [] h = absurd (true≢false (sym h))
+some_u false w h = absurd (true≢false (sym h))
+
+name_within : (m : Bool) (w : List ℕ) (it : NameHalt) → SaysNameHalt m w it → halt_end (found_name_halt it) ≤ length w + 3
+name_within m w (unterminated n) s = let l = row_within m w n s.0 in omega (arith, l)
+name_within m w (misplaced count n) s = let l = escape_within m w count s.0 s.1 in omega (arith, l, s.3.count, ap length s.3.whole, length-append s.3.spelled s.3.rest)
+name_within m w (no_escape count) s = let l = escape_within m w count s.0 s.1 in omega (arith, l)
+name_within m w (no_escape_of_u count) s = let l = escape_within m w count s.0 s.1 in let k = some_u m s.0 s.3 in omega (arith, l, k)
+name_within m w (many_digits count many) s = let l = escape_within m w count s.0 s.1 in let k = hex_within s.0 many s.2 in omega (arith, l, k)
+
+begins_within : (e : Environment) (w behind : List ℕ) → BeginsName e w behind → length w ≡ length behind + 3
+begins_within e _ _ (of_group h) = omega arith
+begins_within e _ _ (of_reference h) = omega arith
+
+wrong_within : (w : List ℕ) (n : ℕ) (it : ModifiersHalt) → AreWrong w n it → n ≤ length w
+wrong_within _ _ _ (unknown text behind l) = omega (arith, length-append text behind)
+wrong_within _ _ _ (duplicated text behind s h) = omega (arith, length-append text (58 ∷ behind))
+wrong_within _ _ _ empty = omega arith
+wrong_within _ _ _ (invalid text behind s h k) = omega (arith, length-append text (58 ∷ behind))
+
+stop_within : (e : Environment) (us : List CodePoint) (n : ℕ) → IsStop e us n → n ≤ length us
+stop_within e _ _ at_end = omega arith
+stop_within e _ _ (at_closer h) = omega arith
+stop_within e _ _ (at_bracket h k) = omega arith
+stop_within e _ _ (at_brace h k l m) = omega arith
+stop_within e _ _ (behind_backslash h k l) = omega arith
+
+module _ (e : Environment) (us : List CodePoint) where
+  token_within : (t : Token) (n : ℕ) → front e us ≡ Some (t, n) → n ≤ length us
+  token_within t n h = let f = front_spelled e us t n h in omega (arith, f.count, ap length f.whole, length-append f.w f.rest)
+
+  units : length (values us) ≡ length us
+  units = length-map us (λ (u : CodePoint). u.value)
+
+  halt_within : (it : FrontHalt) → SaysHalt e us (front e us) it → halt_end (found_halt it) ≤ length us
+  halt_within (ends_here n) s = stop_within e us n s.0
+  halt_within (out_of_order n) s = omega (arith, units, s.2.count_is, ap length s.2.whole, length-append s.2.prefix s.2.behind)
+  halt_within (too_large n) s = omega (arith, units, s.2.count_is, ap length s.2.whole, length-append s.2.prefix s.2.behind)
+  halt_within (many_decimal_digits start many) s = let l = limit_within (values us) start many s in omega (arith, units, l)
+  halt_within (many_hex_digits many) s = let l = hex_within s.0 many s.2 in omega (arith, units, l, ap length s.1)
+  halt_within no_unicode_escape s = omega (arith, units, ap length s.1, ap length s.2.whole)
+  halt_within (in_name it) s = let l = name_within (is_unicode e.mode) s.0 it s.2 in let k = begins_within e (values us) s.0 s.1 in omega (arith, units, l, k)
+  halt_within no_angle s = omega (arith, units, ap length s.1)
+  halt_within (no_such_group n) s = token_within (indexed s.0) n s.1
+  halt_within (in_modifiers it n) s = let l = wrong_within s.0 n it s.2 in omega (arith, units, ap length s.1, l)
+
+  -- What is found at the front stands there.
+  pub front_found : is_unicode e.mode ≡ true → e.named ≡ true → All (λ (u : CodePoint). u.value ≤ 0x10FFFF) us → IsFound e us (found_front (front_read e us))
+  front_found unicode allowed small = go (front_read e us) refl (front_said e unicode allowed us)
     where
-      of_none : (c : ℕ) → begins_reference c ≡ false → begins_property c ≡ false → (c == 117) ≡ false → (is_one_of (codes "upPk") c || is_within 49 57 c) ≡ false
-      of_none c free h k = grind (arith, nat_tests)
+      one_unit : (c n : ℕ) (f : List CodePoint) → length f ≡ n → values f ≡ c ∷ [] → n ≡ 1
+      one_unit c n f l h = omega (arith, l, ap length h, length-map f (λ (u : CodePoint). u.value))
 
-      no_beginning : (w : List ℕ) → front_is begins_reference w ≡ false → front_is begins_property w ≡ false → front_is (λ c. c == 117) w ≡ false
-          → front_is (λ c. is_one_of (codes "upPk") c || is_within 49 57 c) w ≡ false
-      no_beginning [] free h k = refl
-      no_beginning (c ∷ w) free h k = of_none c free h k
-
-  -- `u` without a unicode escape
-  pub invalid_there : (u : CodePoint) (us : List CodePoint) → u.value ≡ 92 → escape_at true (values us) ≡ no_unicode → IsFound e (u ∷ us) (found.Halt (halt.InvalidEscape 1 1))
-  invalid_there u us h k =
-      let no = escape_no_unicode (values us) k in (
-        inl (
-          no.behind,
-          refl,
-          refl,
-          ap (λ c. c ∷ values us) h ∙ ap (λ w. 92 ∷ w) no.whole,
-          λ v n d. no.no_value v n (subst (λ w. Decodes true w v n) (sym no.whole) d),
-          λ count p. no.no_limit count (subst (λ w. PassesHex w count) (sym no.whole) p),
-        ),
-        some_behind us no.behind no.whole,
-      )
-    where
-      some_behind : (us : List CodePoint) (w : List ℕ) → values us ≡ 117 ∷ w → 1 + 1 ≤ length (u ∷ us)
-      some_behind [] w h = absurd (let no : ⊥ = cc h in no)
-      some_behind (v ∷ us) w h = omega arith
-
-  pub too_many_there : (u : CodePoint) (us : List CodePoint) (count : ℕ) → u.value ≡ 92 → count + 2 ≤ length us → escape_at true (values us) ≡ too_many count → IsFound e (u ∷ us) (found.Halt (halt.TooManyHexDigits 3 count))
-  too_many_there u us count h l k = (inl (values us, refl, ap (λ c. c ∷ values us) h, escape_too_many (values us) count k), omega (arith, l))
-
-  -- a token of one unit, which is a SyntaxCharacter other than a backslash and `[`
-  pub one_there : (us : List CodePoint) (c d : ℕ) (t : Token) → reading.front us ≡ Some c → c ≡ d → (is_legacy_syntax d && not (d == 91)) ≡ true → (d == 92) ≡ false
-      → ((w : List ℕ) → syntax_front e d w ≡ Some (t, 1)) → ((names : List (List ℕ)) → Obeys e.groups names t) → Stands e us t 1
-  one_there [] c d t h same s o k obeys = absurd (let no : ⊥ = cc h in no)
-  one_there (u ∷ us) c d t h same s o k obeys =
-      let is : u.value ≡ d = (let first : u.value ≡ c = cc h in first) ∙ same in
-      (front_by_values e (u ∷ us) d (values us) s (ap (λ c. c ∷ values us) is) ∙ cond-false (d == 92) _ _ o ∙ k (values us), omega arith, obeys)
-
-  -- a unit that stands for itself
-  pub raw_there : (us : List CodePoint) (d : CodePoint) → 1 ≤ length us → is_unicode e.mode ≡ true → is_syntax_character (get_or us 0 d).value ≡ false → (get_or us 0 d).value ≤ 0x10FFFF
-      → Stands e us (character (unit_kind (get_or us 0 d).escape_kind) (get_or us 0 d).value) 1
-  unfolding front
-  raw_there [] d l m h k = absurd (omega arith)
-  raw_there (u ∷ us) d l m h k = (cond-true (is_raw_at e u.value (values us)) _ _ (raw_in_unicode e u.value (values us) m (raw_stands e.mode u.value m h)), omega arith, λ _. k)
-
-  pub ended : (us : List CodePoint) → length us < 1 → IsFound e us (found.Halt (halt.Stop 0))
-  ended [] l = ((at_end, refl), omega arith)
-  ended (u ∷ us) l = absurd (omega arith)
-
--- what stands behind the first unit
-pub behind_first : (P : List CodePoint → Type 0) (us : List CodePoint) (d : CodePoint) → 1 ≤ length us → P (get_or us 0 d ∷ take (length us - 1) (drop 1 us)) → P us
-behind_first P [] d l h = absurd (omega arith)
-behind_first P (u ∷ us) d l h = subst (λ w. P (u ∷ w)) (take_all (length (u ∷ us) - 1) us (omega arith)) h
+      go : (r : FrontRead) → front_read e us ≡ r → Says e us (front e us) r → IsFound e us (found_front r)
+      go (token_read (boundary kind) n) h s = (s.0, token_within (boundary kind) n s.0, s.1 small)
+      go (token_read (character kind value) n) h s = (s.0, token_within (character kind value) n s.0, s.1 small)
+      go (token_read dot n) h s = (s.0, token_within dot n s.0, s.1 small)
+      go (token_read (class_escape kind) n) h s = (s.0, token_within (class_escape kind) n s.0, s.1 small)
+      go (token_read (property negative strings name value) n) h s = absurd (s.1 small)
+      go (token_read (class c) n) h s = absurd (s.1 small)
+      go (token_read (indexed k) n) h s = (s.0, token_within (indexed k) n s.0, s.1 small)
+      go (token_read (named name) n) h s = (name, s.0, name_held e us name n (front_spelled e us (named name) n s.0))
+      go (token_read (opener o) n) h s = (o, (s.0, token_within (opener o) n s.0, s.1 small), opener_held e us o n (front_spelled e us (opener o) n s.0))
+      go (token_read closer n) h s =
+          let f = front_spelled e us closer n s.0 in
+          let one = one_unit 41 n f.w f.count f.spells in
+          (s.0 ∙ ap (λ n. Some (closer, n)) one, omega (arith, one, token_within closer n s.0), s.1 small)
+      go (token_read bar n) h s =
+          let f = front_spelled e us bar n s.0 in
+          let one = one_unit 124 n f.w f.count f.spells in
+          (s.0 ∙ ap (λ n. Some (bar, n)) one, omega (arith, one, token_within bar n s.0), s.1 small)
+      go (token_read (quantifier min max greedy) n) h s = (s.0, token_within (quantifier min max greedy) n s.0, s.1 small)
+      go property_begins h s = s
+      go class_begins h s = s
+      go (halted it) h s = ((it, h, refl), halt_within it s)

@@ -1,5 +1,5 @@
 -- Where the reading halts the text is refused with its cause.
-use Rattle.std.proofs.Common.{◌≡◌, refl, ap, sym, subst, ℕ, ◌+◌, ◌<◌, ◌≤◌, inl, inr, true, false, Some, List, [], ◌∷◌, ◌++◌, length, drop, arith, length-append}
+use Rattle.std.proofs.Common.{◌≡◌, refl, ap, ◌∙◌, sym, subst, ℕ, ◌+◌, ◌<◌, ◌≤◌, inl, inr, true, false, Some, List, [], ◌∷◌, ◌++◌, length, drop, arith, length-append}
 use Rattle.std.proofs.lemmas.List.{drop_all}
 use Rattle.rx_base.specs.declared.fault.Fault.{Fault}
 use Rattle.rx_base.specs.declared.fault.Fault.TheVariants.{Diagnostic}
@@ -27,12 +27,21 @@ use Rattle.rx_model.proofs.Reading.Fronts.{front_spelled}
 use Rattle.rx_parser.specs.declared.builder.Builder.{Builder}
 use Rattle.rx_parser.specs.declared.found.Halt.{Halt}
 use Rattle.rx_parser.specs.declared.found.Halt.TheVariants as halt
-use Rattle.rx_parser.specs.declared.found.ModifiersFault.{ModifiersFault}
 use Rattle.rx_parser.specs.declared.frame.Frame.{Frame}
-use Rattle.rx_parser.specs.Faults.{IsEndedFault, IsHaltFault, modifiers_refusal}
-use Rattle.rx_parser.specs.Found.{HaltsInName, IsHalt, IsModifiersFault, unknown, duplicated, empty, invalid, Stands}
+use Rattle.rx_parser.specs.Faults.{IsEndedFault, IsHaltFault, halt_refusal}
+use Rattle.rx_model.specs.Groups.ModifierFronts.{ModifiersHalt}
+use Rattle.rx_model.specs.Groups.NameFronts.{NameHalt, unterminated as unterminated_row, misplaced, no_escape, no_escape_of_u, many_digits}
+use Rattle.rx_model.specs.Quantifiers.Quantifiers.{PassesLimit}
+use Rattle.rx_model.specs.Reading.FrontReading.{FrontHalt, ends_here, many_decimal_digits, many_hex_digits, no_unicode_escape, in_name, no_angle, in_modifiers}
+use Rattle.rx_model.specs.Reading.FrontReading as reading
+use Rattle.rx_model.proofs.Characters.Escapes.{NoUnicode}
+use Rattle.rx_model.proofs.Groups.ModifierFronts.{AreWrong, unknown, duplicated, empty, invalid}
+use Rattle.rx_model.proofs.Groups.NameFronts.{EscapeBehind, SaysNameHalt}
+use Rattle.rx_model.proofs.Reading.FrontReading.{Says, SaysHalt, front_said}
+use Rattle.rx_parser.specs.Found.{IsHalt, Stands, found_fault, found_halt}
+use Rattle.rx_parser.specs.HaltPlaces.{halt_end, halt_start}
 use Rattle.rx_parser.specs.Frames.{opened, openers, opener_tree, ready}
-use Rattle.rx_parser.specs.Names.{EscapeBehind, IsBadEscape, misplaced, no_escape, no_escape_of_u}
+use Rattle.rx_parser.specs.Names.{found_name_halt}
 use Rattle.rx_parser.specs.Parsing.{IsParsing, IsRefused}
 use Rattle.rx_parser.proofs.Insides.{inside}
 use Rattle.rx_parser.proofs.Places.{reached, some_left}
@@ -62,63 +71,48 @@ module _ (us : List CodePoint) (first added : ℕ) (b : Builder) (place : ℕ) (
   from_here make j c = placed make place j (place + 0) j (omega arith) refl c
 
   -- the numbers of a quantifier
-  limit_cause : (start many : ℕ) → IsHalt here left (halt.TooManyDigits start many) → Causes (TooLargeNumberDigits (between (place + start) (place + (start + many))) Decimal)
+  limit_cause : (start many : ℕ) → PassesLimit (values left) start many → Causes (TooLargeNumberDigits (between (place + start) (place + (start + many))) Decimal)
   limit_cause start many s =
       placed (λ span. TooLargeNumberDigits span Decimal) (place + start) (place + start + many) (place + start) (place + (start + many)) refl (omega arith)
       (too_many_digits place start many left at_left s (λ h. cc h))
 
-  -- a name that is to stand here, and its longest row
-  ends_name : (behind : List ℕ) → BeginsName here (values left) behind → (count : ℕ) → IsNameRow true behind count → (rest : List ℕ) → rest ≡ drop count behind → EndsName here (values left) count rest
-  ends_name behind begins count longest rest e = record { behind = behind; begins = begins; longest = longest; rest_is = e }
+  -- a name that is to stand here, and its longest row; behind it an escape
+  ends_name : (behind : List ℕ) → BeginsName here (values left) behind → (count : ℕ) → IsNameRow true behind count → EndsName here (values left) count (drop count behind)
+  ends_name behind begins count longest = record { behind = behind; begins = begins; longest = longest; rest_is = refl }
 
-  -- behind the row an escape
   ends_escape : (behind : List ℕ) → BeginsName here (values left) behind → (count : ℕ) (escape : List ℕ) → EscapeBehind true behind count escape → EndsName here (values left) count (92 ∷ escape)
-  ends_escape behind begins count escape r = ends_name behind begins count r.row (92 ∷ escape) (sym r.there)
+  ends_escape behind begins count escape r = record { behind = behind; begins = begins; longest = r.row; rest_is = sym r.there }
 
-  unterminated_cause : (n : ℕ) → HaltsInName here left (halt.UnterminatedName n) → Causes (UnterminatedPattern (between (place + 2) (place + (n + 3))) GroupName)
-  unterminated_cause n s =
-      let behind : List ℕ = s.0 in
-      let ends = ends_name behind s.1 n s.2.0 (drop n behind) refl in
+  abbrev Refuses : Halt → Type 0
+  Refuses it = Causes (halt_refusal it (between (place + halt_start it) (place + halt_end it)) (text_groups us))
+
+  name_cause : (behind : List ℕ) → BeginsName here (values left) behind → (it : NameHalt) → SaysNameHalt true behind it → Refuses (found_name_halt it)
+  name_cause behind begins (unterminated_row n) s =
       placed (λ span. UnterminatedPattern span GroupName) (place + 2) (place + 3 + n) (place + 2) (place + (n + 3)) refl (omega arith)
-      (unterminated_name place n left (drop n behind) at_left refl ends s.2.1 s.2.2)
-
-  -- too many digits in a unicode escape, of a character or in a name
-  abbrev HasHexCause : ℕ → ℕ → Type 0
-  HasHexCause start many = Causes (TooLargeNumberDigits (between (place + start) (place + (start + many))) Hex)
-
-  hex_cause : (start many : ℕ) → IsHalt here left (halt.TooManyHexDigits start many) → HasHexCause start many
-  hex_cause start many s = elim s [ inl p ↦ escape p.0 p.1 p.2 p.3 | inr p ↦ in_name p.0 p.1 p.2.0 p.2.1 p.2.2 p.2.3 p.2.4 ]
-    where
-      escape : (behind : List ℕ) → start ≡ 3 → values left ≡ 92 ∷ behind → PassesHex behind many → HasHexCause start many
-      escape behind e whole passes =
-          placed (λ span. TooLargeNumberDigits span Hex) (place + 3) (place + 3 + many) (place + start) (place + (start + many)) (omega (arith, e)) (omega (arith, e))
-          (of_escape place left at_left (too_many_hex_digits many behind refl whole passes))
-
-      in_name : (behind : List ℕ) → BeginsName here (values left) behind → (count : ℕ) (back : List ℕ) → EscapeBehind true behind count back → start ≡ count + 6 → PassesHex back many → HasHexCause start many
-      in_name behind begins count back r e passes =
-          placed (λ span. TooLargeNumberDigits span Hex) (place + 6 + count) (place + 6 + count + many) (place + start) (place + (start + many)) (omega (arith, e)) (omega (arith, e))
-          (too_many_digits_in_name place count many left back at_left (ends_escape behind begins count back r) passes)
-
-  bad_escape_cause : (count : ℕ) (behind back : List ℕ) (start n : ℕ) → BeginsName here (values left) behind → EscapeBehind true behind count back → IsBadEscape true count back start n
-      → Causes (InvalidUnicodeEscapeSequence (between (place + start) (place + (start + n))))
-  bad_escape_cause count behind back _ _ begins r (misplaced {v} {n} decodes) =
+      (unterminated_name place n left (drop n behind) at_left refl (ends_name behind begins n s.0) s.1 s.2)
+  name_cause behind begins (misplaced count n) s =
       placed InvalidUnicodeEscapeSequence (place + 3 + count) (place + 4 + count + n) (place + (count + 3)) (place + (count + 3 + (n + 1))) (omega arith) (omega arith)
-      (misplaced_in_name place count v n left back at_left (ends_escape behind begins count back r) decodes)
-  bad_escape_cause count behind back _ _ begins r (no_escape no_value no_limit no_u) =
+      (misplaced_in_name place count s.2 n left s.0 at_left (ends_escape behind begins count s.0 s.1) s.3)
+  name_cause behind begins (no_escape count) s =
       placed InvalidUnicodeEscapeSequence (place + 3 + count) (place + 4 + count) (place + (count + 3)) (place + (count + 3 + 1)) (omega arith) (omega arith)
-      (invalid_in_name place count left back at_left (ends_escape behind begins count back r) no_value no_limit no_u)
-  bad_escape_cause count behind back _ _ begins r (no_escape_of_u no_value no_limit a_u) =
+      (invalid_in_name place count left s.0 at_left (ends_escape behind begins count s.0 s.1) s.2.no_value s.2.no_limit s.3)
+  name_cause behind begins (no_escape_of_u count) s =
       placed InvalidUnicodeEscapeSequence (place + 4 + count) (place + 5 + count) (place + (count + 4)) (place + (count + 4 + 1)) (omega arith) (omega arith)
-      (invalid_u_in_name place count left back at_left (ends_escape behind begins count back r) no_value no_limit a_u)
+      (invalid_u_in_name place count left s.0 at_left (ends_escape behind begins count s.0 s.1) s.2.no_value s.2.no_limit s.3)
+  name_cause behind begins (many_digits count many) s =
+      placed (λ span. TooLargeNumberDigits span Hex) (place + 6 + count) (place + 6 + count + many) (place + (count + 6)) (place + (count + 6 + many)) (omega arith) (omega arith)
+      (too_many_digits_in_name place count many left s.0 at_left (ends_escape behind begins count s.0 s.1) s.2)
 
-  escape_cause : (start n : ℕ) → IsHalt here left (halt.InvalidEscape start n) → Causes (InvalidUnicodeEscapeSequence (between (place + start) (place + (start + n))))
-  escape_cause start n s = elim s [ inl p ↦ escape p.0 p.1 p.2 p.3 p.4 p.5 | inr p ↦ bad_escape_cause p.2.0 p.0 p.2.1 start n p.1 p.2.2 p.2.3 ]
-    where
-      escape : (behind : List ℕ) → start ≡ 1 → n ≡ 1 → values left ≡ 92 ∷ 117 ∷ behind → ((v k : ℕ) → Decodes true (117 ∷ behind) v k → ⊥) → ((many : ℕ) → PassesHex (117 ∷ behind) many → ⊥)
-          → Causes (InvalidUnicodeEscapeSequence (between (place + start) (place + (start + n))))
-      escape behind e f whole no_value no_limit =
-          placed InvalidUnicodeEscapeSequence (place + 1) (place + 2) (place + start) (place + (start + n)) (omega (arith, e)) (omega (arith, e, f))
-          (of_escape place left at_left (invalid_escape behind refl whole no_value no_limit))
+  -- a unicode escape of a character
+  hex_cause : (behind : List ℕ) (many : ℕ) → values left ≡ 92 ∷ behind → PassesHex behind many → Causes (TooLargeNumberDigits (between (place + 3) (place + (3 + many))) Hex)
+  hex_cause behind many whole passes =
+      placed (λ span. TooLargeNumberDigits span Hex) (place + 3) (place + 3 + many) (place + 3) (place + (3 + many)) refl (omega arith)
+      (of_escape place left at_left (too_many_hex_digits many behind refl whole passes))
+
+  escape_cause : (behind : List ℕ) → values left ≡ 92 ∷ behind → NoUnicode behind → Causes (InvalidUnicodeEscapeSequence (between (place + 1) (place + 2)))
+  escape_cause behind whole n =
+      of_escape place left at_left (invalid_escape n.behind refl (whole ∙ ap (λ w. 92 ∷ w) n.whole) (λ v k d. n.no_value v k (subst (λ w. Decodes true w v k) (sym n.whole) d))
+      (λ many p. n.no_limit many (subst (λ w. PassesHex w many) (sym n.whole) p)))
 
   index_cause : (n k : ℕ) → front here left ≡ Some (indexed k, n) → text_groups us < k → Causes (InvalidIndexedReference (between (place + 0) (place + n)) (text_groups us))
   index_cause n k e large =
@@ -126,7 +120,7 @@ module _ (us : List CodePoint) (first added : ℕ) (b : Builder) (place : ℕ) (
       placed (λ span. InvalidIndexedReference span (text_groups us)) place (place + length f.w) (place + 0) (place + n) (omega arith) (ap (λ n. place + n) f.count)
       (no_such_group place k f.w f.rest (subst (IsPlace Unicode us place) f.whole at_left) f.spells large)
 
-  modifiers_cause : (it : ModifiersFault) (n : ℕ) (behind : List ℕ) → values left ≡ 40 ∷ 63 ∷ behind → IsModifiersFault behind n it → Causes (modifiers_refusal it (between (place + 2) (place + (n + 2))))
+  modifiers_cause : (it : ModifiersHalt) (n : ℕ) (behind : List ℕ) → values left ≡ 40 ∷ 63 ∷ behind → AreWrong behind n it → Refuses (halt.Modifiers (found_fault it) n)
   modifiers_cause _ _ _ whole (unknown text behind l) =
       placed UnknownModifiers (place + 2) (place + 2 + length text) (place + 2) (place + (length text + 2)) refl (omega arith) (unknown_modifiers place left text behind at_left whole l)
   modifiers_cause _ _ _ whole (duplicated {enabled} {disabled} text behind sides twice) =
@@ -155,16 +149,16 @@ module _ (us : List CodePoint) (first added : ℕ) (b : Builder) (place : ℕ) (
           )
 
       group : (outer : List Frame) (it : Frame) → b.frames ≡ outer ++ (it ∷ [])
-          → fault ≡ Diagnostic (UnterminatedPattern (record { start = it.start; end = offset_at first us at + added }) (unterminated (opener_of (opener_tree it.opening)))) → IsOfCause fault
+          → fault ≡ Diagnostic (UnterminatedPattern (record { start = it.start; end = offset_at first us at + added }) (unterminated (opener_of (opener_tree it.group_kind)))) → IsOfCause fault
       group outer it frames is =
-          let what = unterminated (opener_of (opener_tree it.opening)) in
+          let what = unterminated (opener_of (opener_tree it.group_kind)) in
           let i = inside us first added b place h outer it frames in
           let made : ℕ → Refusal = λ start. UnterminatedPattern (record { start = start; end = offset_at first us at + added }) what in (
             made it.start,
             is,
             subst (λ start. Causes (made start)) (sym i.2)
                 (placed (λ span. UnterminatedPattern span what) i.0 (place + behind) i.0 at refl (sym e)
-                (unterminated_group i.0 place behind (opener_of (opener_tree it.opening)) left i.1 stop not_closed)),
+                (unterminated_group i.0 place behind (opener_of (opener_tree it.group_kind)) left i.1 stop not_closed)),
           )
 
   module _ (no_clash : HasNoClash Unicode us) (limit : text_groups us ≤ most_groups) where
@@ -173,22 +167,29 @@ module _ (us : List CodePoint) (first added : ℕ) (b : Builder) (place : ℕ) (
 
     -- why the text is refused where the reading halts
     pub halt_refused : place < length us → (fault : Fault) (it : Halt) → IsHalt here left it → IsHaltFault us first added place b (text_groups us) it fault → IsRefused Unicode us first added fault
-    halt_refused l fault (halt.Stop behind) s f =
-        let c = ended_cause behind (place + behind) fault s.0 s.1 (λ none. some_left us place l) refl f in
-        refused c.0 c.2 fault c.1
-    halt_refused l fault (halt.OutOfOrder n) s f =
-        refused (BracedQuantifierOutOfOrder (between (place + 0) (place + n))) (from_here BracedQuantifierOutOfOrder (place + n) (out_of_order place n s.0 s.1 left at_left s.2 s.3)) fault f
-    halt_refused l fault (halt.TooLarge n) s f =
-        refused (TooLargeNumberInBracedQuantifier (between (place + 0) (place + n)))
-        (from_here TooLargeNumberInBracedQuantifier (place + n) (too_large place n s.0 s.1 left at_left s.2 s.3.0 s.3.1)) fault f
-    halt_refused l fault (halt.TooManyDigits start many) s f = refused (TooLargeNumberDigits (between (place + start) (place + (start + many))) Decimal) (limit_cause start many s) fault f
-    halt_refused l fault (halt.TooManyHexDigits start many) s f = refused (TooLargeNumberDigits (between (place + start) (place + (start + many))) Hex) (hex_cause start many s) fault f
-    halt_refused l fault (halt.InvalidEscape start n) s f = refused (InvalidUnicodeEscapeSequence (between (place + start) (place + (start + n)))) (escape_cause start n s) fault f
-    halt_refused l fault (halt.UnterminatedName n) s f = refused (UnterminatedPattern (between (place + 2) (place + (n + 3))) GroupName) (unterminated_cause n s) fault f
-    halt_refused l fault halt.NoGroupName s f =
-        refused (EmptyGroupSpecifier (between (place + 0) (place + 2))) (from_here EmptyGroupSpecifier (place + 2) (no_group_name place left s.0 at_left refl s.1 s.2)) fault f
-    halt_refused l fault (halt.NoSuchGroup n) s f = refused (InvalidIndexedReference (between (place + 0) (place + n)) (text_groups us)) (index_cause n s.0 s.1 s.2) fault f
-    halt_refused l fault (halt.Modifiers it n) s f = refused (modifiers_refusal it (between (place + 2) (place + (n + 2)))) (modifiers_cause it n s.0 s.1 s.2) fault f
+    halt_refused l fault it h f =
+        go h.0 (subst (Says here left (front here left)) h.1 (front_said here refl refl left)) (subst (λ it. IsHaltFault us first added place b (text_groups us) it fault) h.2 f)
+      where
+        name : (it : NameHalt) → Refuses (found_name_halt it) → IsHaltFault us first added place b (text_groups us) (found_name_halt it) fault → IsRefused Unicode us first added fault
+        name (unterminated_row n) c f = refused _ c fault f
+        name (misplaced count n) c f = refused _ c fault f
+        name (no_escape count) c f = refused _ c fault f
+        name (no_escape_of_u count) c f = refused _ c fault f
+        name (many_digits count many) c f = refused _ c fault f
+
+        go : (it : FrontHalt) → SaysHalt here left (front here left) it → IsHaltFault us first added place b (text_groups us) (found_halt it) fault → IsRefused Unicode us first added fault
+        go (ends_here behind) s f =
+            let c = ended_cause behind (place + behind) fault s.0 s.1 (λ none. some_left us place l) refl f in
+            refused c.0 c.2 fault c.1
+        go (reading.out_of_order n) s f = refused _ (from_here BracedQuantifierOutOfOrder (place + n) (out_of_order place n s.0 s.1 left at_left s.2 s.3)) fault f
+        go (reading.too_large n) s f = refused _ (from_here TooLargeNumberInBracedQuantifier (place + n) (too_large place n s.0 s.1 left at_left s.2 s.3.0 s.3.1)) fault f
+        go (many_decimal_digits start many) s f = refused _ (limit_cause start many s) fault f
+        go (many_hex_digits many) s f = refused _ (hex_cause s.0 many s.1 s.2) fault f
+        go no_unicode_escape s f = refused _ (escape_cause s.0 s.1 s.2) fault f
+        go (in_name it) s f = name it (name_cause s.0 s.1 it s.2) f
+        go no_angle s f = refused _ (from_here EmptyGroupSpecifier (place + 2) (no_group_name place left s.0 at_left s.3 s.1 s.2)) fault f
+        go (reading.no_such_group n) s f = refused _ (index_cause n s.0 s.1 s.2) fault f
+        go (in_modifiers it n) s f = refused _ (modifiers_cause it n s.0 s.1 s.2) fault f
 
     -- a group is open at the end of the text
     pub ended_refused : place ≡ length us → (openers b ≡ [] → ⊥) → (fault : Fault) → IsEndedFault us first added place b fault → IsRefused Unicode us first added fault

@@ -1,5 +1,5 @@
 -- What stands so far in the innermost open group: it opens and closes groups of its own alone.
-use Rattle.std.proofs.Common.{◌≡◌, refl, ap, sym, ◌∙◌, subst, ℕ, ◌+◌, Bool, false, Some, None, List, [], ◌∷◌, ◌++◌, map, length, drop, append_assoc, length-append, length-drop, arith}
+use Rattle.std.proofs.Common.{◌≡◌, refl, ap, sym, ◌∙◌, subst, ℕ, ◌+◌, Bool, false, Some, List, [], ◌∷◌, ◌++◌, map, length, drop, append_assoc, length-append, length-drop, arith}
 use Rattle.std.specs.Prelude.{All}
 use Rattle.std.proofs.lemmas.List.{append-nil}
 use Rattle.std.proofs.lemmas.List.Elements.{All-head, All-tail, All-nil, All-cons}
@@ -10,7 +10,6 @@ use Rattle.rx_ast.specs.Tree.{mirror_term, mirror_alternative}
 use Rattle.rx_units.specs.declared.code_point.CodePoint.{CodePoint}
 use Rattle.rx_units.specs.Units.{offset_at}
 use Rattle.rx_model.specs.declared.mode.Mode.{Mode}
-use Rattle.rx_model.specs.declared.mode.Mode.TheVariants.{Unicode}
 use Rattle.rx_model.specs.Trees.Early.{Obeys}
 use Rattle.rx_model.specs.Inputs.Environment.{Environment}
 use Rattle.rx_model.specs.Trees.Events as event
@@ -19,7 +18,7 @@ use Rattle.rx_model.specs.Refusals.Reached.{AreObeying, IsInside, IsReached, tex
 use Rattle.rx_model.specs.Reading.Rows.{Row, TokenRow}
 use Rattle.rx_model.specs.Trees.Shapes.{run, takes}
 use Rattle.rx_model.specs.Trees.Token.{Token, Opener, bar, opener, opener_of}
-use Rattle.rx_model.proofs.Refusals.DeadPlaces.{last_all}
+use Rattle.rx_model.proofs.Refusals.BlockedPlaces.{last_all}
 use Rattle.rx_model.proofs.Trees.Flat.{tokens_of-append, before, before-append, before_opener, before_within}
 use Rattle.rx_model.proofs.Trees.Joins.{row_split, row_tokens}
 use Rattle.rx_model.proofs.Trees.Runs.{Passes, node_runs, nodes_run}
@@ -77,7 +76,7 @@ module _ (mode : Mode) where
       (after : Bool) × ((ts : List Token) → run mode (before (frames_events fs) ts) open_groups ready ≡ run mode ts (opened fs open_groups) after)
   frames_open [] g open_groups ready = (ready, λ ts. refl)
   frames_open (f ∷ fs) g open_groups ready =
-      let o = opener_tree f.opening in
+      let o = opener_tree f.group_kind in
       let p = level_passes f.outer g.0 open_groups ready in
       let q = frames_open fs g.1 (opener_of o ∷ open_groups) false in (
         q.0,
@@ -89,22 +88,16 @@ module _ (mode : Mode) where
       )
 
 opener_tokens : (o : tree.Opener) (es : Events) → tokens_of (opener_event o ∷ es) ≡ opener (opener_of o) ∷ tokens_of es
-opener_tokens (tree.capturing name) es = refl
-opener_tokens (tree.ignoring None) es = refl
-opener_tokens (tree.ignoring (Some m)) es = refl
-opener_tokens (tree.looking kind) es = refl
+opener_tokens o es = sym (append-nil (tokens_of (opener_event o ∷ es))) ∙ before_opener o es [] ∙ ap (λ ts. opener (opener_of o) ∷ ts) (append-nil (tokens_of es))
 
 -- a row takes as many units as it moves on
 row_places : (e : Environment) (o : ℕ → ℕ) (es : Events) (i : ℕ) (us : List CodePoint) (j : ℕ) (rest : List CodePoint) → Row e o es i us j rest → i + length us ≡ j + length rest
 row_places e o [] i us j rest r = omega (arith, r.0, ap length r.1)
 row_places e o ((enter n) ∷ es) i us j rest r = row_places e o es i us j rest r.1
 row_places e o ((leave n) ∷ es) i us j rest r = row_places e o es i us j rest r.1
-row_places e o ((token t) ∷ es) i us j rest r =
-    let k = row_places e o es (i + length r.0) r.1 j rest r.4 in omega (arith, k, ap length r.2, length-append r.0 r.1)
-row_places e o ((event.inside c) ∷ es) i us j rest r =
-    let k = row_places e o es (i + length r.0) r.1 j rest r.4 in omega (arith, k, ap length r.2, length-append r.0 r.1)
-row_places e o ((modified m) ∷ es) i us j rest r =
-    let k = row_places e o es (i + length r.0) r.1 j rest r.4 in omega (arith, k, ap length r.2, length-append r.0 r.1)
+row_places e o ((token t) ∷ es) i us j rest r = omega (arith, row_places e o es (i + length r.0) r.1 j rest r.4, ap length r.2, length-append r.0 r.1)
+row_places e o ((event.inside c) ∷ es) i us j rest r = omega (arith, row_places e o es (i + length r.0) r.1 j rest r.4, ap length r.2, length-append r.0 r.1)
+row_places e o ((modified m) ∷ es) i us j rest r = omega (arith, row_places e o es (i + length r.0) r.1 j rest r.4, ap length r.2, length-append r.0 r.1)
 
 row_from_start : (e : Environment) (o : ℕ → ℕ) (es : Events) (us : List CodePoint) (j : ℕ) (rest : List CodePoint) → Row e o es 0 us j rest → length us ≡ j + length rest
 row_from_start e o es us j rest r = let k = row_places e o es 0 us j rest r in omega (arith, k)
@@ -121,12 +114,12 @@ module _ (b : Builder) (outer : List Frame) (group : Frame) (e : b.frames ≡ ou
 
   -- the group so far
   abbrev tail : Events
-  tail = enter group.start ∷ opener_event (opener_tree group.opening) ∷ level_events b.level
+  tail = enter group.start ∷ opener_event (opener_tree group.group_kind) ∷ level_events b.level
 
   parted : builder_events b ≡ head ++ tail
   unfolding builder_events
   parted =
-      let start : Events = enter group.start ∷ opener_event (opener_tree group.opening) ∷ [] in
+      let start : Events = enter group.start ∷ opener_event (opener_tree group.group_kind) ∷ [] in
       ap (λ fs. enter b.start ∷ (frames_events fs ++ level_events b.level)) e
       ∙ ap (λ es. enter b.start ∷ (es ++ level_events b.level)) (frames_push outer group)
       ∙ ap (λ es. enter b.start ∷ es)
@@ -154,41 +147,41 @@ module _ (b : Builder) (outer : List Frame) (group : Frame) (e : b.frames ≡ ou
       (p.0, ap (λ ts. run b.mode ts [] false) (sym (append-nil (tokens_of (level_events b.level)))) ∙ p.1 [])
 
 -- the innermost group begins at some place, and all behind it stands in it
-pub inside : (us : List CodePoint) (first added : ℕ) (b : Builder) (place : ℕ) → IsParsing Unicode us first added b place → (outer : List Frame) (group : Frame) → b.frames ≡ outer ++ (group ∷ [])
-    → (from : ℕ) × IsInside Unicode us from (opener_of (opener_tree group.opening)) place (drop place us) × (group.start ≡ offset_at first us from + added)
-inside us first added b place h outer group e =
-    let env : Environment = text_environment Unicode us in
+pub inside : {mode : Mode} (us : List CodePoint) (first added : ℕ) (b : Builder) (place : ℕ) → IsParsing mode us first added b place → (outer : List Frame) (group : Frame) → b.frames ≡ outer ++ (group ∷ [])
+    → (from : ℕ) × IsInside mode us from (opener_of (opener_tree group.group_kind)) place (drop place us) × (group.start ≡ offset_at first us from + added)
+inside {mode} us first added b place h outer group e =
+    let env : Environment = text_environment mode us in
     let o : ℕ → ℕ = λ i. offset_at first us i + added in
     let rest : List CodePoint = drop place us in
-    let it = opener_tree group.opening in
+    let it = opener_tree group.group_kind in
     let before_group : Events = head b outer group e in
     let in_group : Events = opener_event it ∷ level_events b.level in
     let whole = parted b outer group e in
     let s = row_split env o before_group (enter group.start ∷ in_group) 0 us place rest (subst (λ es. Row env o es 0 us place rest) whole h.at.row) in
-    let owed : AreObeying Unicode us (tokens_of before_group ++ tokens_of in_group) = subst (AreObeying Unicode us) (ap tokens_of whole ∙ tokens_of-append before_group (enter group.start ∷ in_group)) h.obey in
-    let P : Token → Type 0 = Obeys (text_groups us) (text_names Unicode us) in
+    let owed : AreObeying mode us (tokens_of before_group ++ tokens_of in_group) = subst (AreObeying mode us) (ap tokens_of whole ∙ tokens_of-append before_group (enter group.start ∷ in_group)) h.obey in
+    let P : Token → Type 0 = Obeys (text_groups us) (text_names mode us) in
     let shown = opener_tokens it (level_events b.level) in
-    let opening = head_open b outer group e h.at.good in
+    let group_kind = head_open b outer group e h.at.good in
     let closed = inside_closed b outer group e h.at.good in
-    let reached : IsReached Unicode us s.0 (opened outer []) opening.0 s.1 = record {
+    let reached : IsReached mode us s.0 (opened outer []) group_kind.0 s.1 = record {
       tokens = tokens_of before_group;
       row = row_tokens env o before_group 0 us s.0 s.1 s.2;
       place_is = row_from_start env o before_group us s.0 s.1 s.2;
-      accepted = subst (λ mode. run mode (tokens_of before_group) [] false ≡ Some (opened outer [], opening.0)) h.at.mode opening.1;
+      accepted = subst (λ m. run m (tokens_of before_group) [] false ≡ Some (opened outer [], group_kind.0)) h.at.mode group_kind.1;
       obey = first_all P (tokens_of before_group) (tokens_of in_group) owed;
     } in (
       s.0,
       record {
         open_groups = opened outer [];
-        ready = opening.0;
+        ready = group_kind.0;
         at_group = s.1;
         reached = reached;
         inside = tokens_of (level_events b.level);
         row = subst (λ ts. TokenRow env ts s.1 rest) shown (row_tokens env o in_group s.0 s.1 place rest s.3.1);
         place_is = omega (arith, h.within, length-drop place us);
         ready_inside = closed.0;
-        accepted = subst (λ mode. run mode (tokens_of (level_events b.level)) [] false ≡ Some ([], closed.0)) h.at.mode closed.1;
-        obey = subst (AreObeying Unicode us) shown (last_all P (tokens_of before_group) (tokens_of in_group) owed);
+        accepted = subst (λ m. run m (tokens_of (level_events b.level)) [] false ≡ Some ([], closed.0)) h.at.mode closed.1;
+        obey = subst (AreObeying mode us) shown (last_all P (tokens_of before_group) (tokens_of in_group) owed);
       },
       s.3.0,
     )

@@ -1,12 +1,10 @@
 pub mod ClassTurns
-pub mod Digits
 pub mod Endings
 pub mod EventEquations
 pub mod FlagTexts
 pub mod FrameEvents
 pub mod FrontFound
 pub mod Goods
-pub mod GroupFound
 pub mod Halts
 pub mod Insides
 pub mod Leaves
@@ -16,7 +14,6 @@ pub mod ModifiersFound
 pub mod NameFound
 pub mod Passes
 pub mod Places
-pub mod Prefixes
 pub mod ReferenceFound
 pub mod Refused
 pub mod Steps

@@ -2,7 +2,7 @@
 use Rattle.std.proofs.Common.{◌≡◌, ap, ℕ, ◌+◌, ◌<◌, List, [], length, drop, arith, length-drop}
 use Rattle.rx_units.specs.declared.code_point.CodePoint.{CodePoint}
 use Rattle.rx_units.specs.Units.{offset_at}
-use Rattle.rx_model.specs.declared.mode.Mode.TheVariants.{Unicode}
+use Rattle.rx_model.specs.declared.mode.Mode.{Mode}
 use Rattle.rx_model.specs.Trees.Events.{tokens_of}
 use Rattle.rx_model.specs.Refusals.Reached.{IsReached, text_environment}
 use Rattle.rx_model.proofs.Trees.Joins.{row_tokens}
@@ -13,10 +13,10 @@ use Rattle.rx_parser.specs.Parsing.{IsParsing}
 pub some_left : (us : List CodePoint) (place : ℕ) → place < length us → drop place us ≡ [] → ⊥
 some_left us place l e = omega (arith, length-drop place us, ap length e)
 
-pub reached : (us : List CodePoint) (first added : ℕ) (b : Builder) (place : ℕ) → IsParsing Unicode us first added b place → IsReached Unicode us place (openers b) (ready b) (drop place us)
-reached us first added b place h = record {
+pub reached : {mode : Mode} (us : List CodePoint) (first added : ℕ) (b : Builder) (place : ℕ) → IsParsing mode us first added b place → IsReached mode us place (openers b) (ready b) (drop place us)
+reached {mode} us first added b place h = record {
   tokens = tokens_of (builder_events b);
-  row = row_tokens (text_environment Unicode us) (λ i. offset_at first us i + added) (builder_events b) 0 us place (drop place us) h.at.row;
+  row = row_tokens (text_environment mode us) (λ i. offset_at first us i + added) (builder_events b) 0 us place (drop place us) h.at.row;
   place_is = omega (arith, h.within, length-drop place us);
   accepted = h.at.state;
   obey = h.obey;

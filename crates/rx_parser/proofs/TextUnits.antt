@@ -1,8 +1,12 @@
 -- The units of a text.
-use Rattle.std.proofs.Common.{◌≡◌, refl, ap, sym, ◌∙◌, ℕ, arith, true, false, nat_eq, List, [], ◌∷◌, length}
+use Rattle.std.proofs.Common.{◌≡◌, refl, ap, sym, ◌∙◌, ℕ, ◌+◌, ◌<◌, arith, true, false, nat_eq, List, [], ◌∷◌, ◌++◌, length, take, drop, get_or, add-one}
+use Rattle.std.proofs.Math.Seq.{drop-cons}
+use Rattle.std.proofs.lemmas.List.{map_more}
 use Rattle.std.specs.Str.{chars, IsUtf8}
 use Rattle.std.proofs.lemmas.Str.{encodes-chars}
 use lib.Utf8.{encodes}
+use Rattle.rx_units.specs.declared.code_point.CodePoint.{CodePoint}
+use Rattle.rx_units.specs.Units.{values}
 use Rattle.rx_model.specs.Reading.Reading.{literal_text}
 
 some_text : (cs : List ℕ) → (cs ≡ [] → ⊥) → cs ≡ literal_text cs
@@ -21,3 +25,10 @@ pub empty_stands : (bytes : List ℕ) → nat_eq (length bytes) 0 ≡ true → c
 unfolding chars
 empty_stands [] e = refl
 empty_stands (b ∷ bytes) e = absurd (let no : ⊥ = grind (arith, e) in no)
+
+-- the values from a place on
+pub values_front : (us : List CodePoint) (k : ℕ) (d : CodePoint) → k < length us → values (drop k us) ≡ (get_or us k d).value ∷ values (drop (k + 1) us)
+values_front us k d h = ap values (drop-cons us k d h ∙ ap (λ j. get_or us k d ∷ drop j us) (sym (add-one k)))
+
+pub values_more : (us : List CodePoint) (k : ℕ) (d : CodePoint) → k < length us → values (take (k + 1) us) ≡ values (take k us) ++ (get_or us k d).value ∷ []
+values_more us k d h = map_more (λ u. u.value) us k d h

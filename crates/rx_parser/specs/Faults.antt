@@ -36,7 +36,7 @@ abbrev pub IsEndedFault : List CodePoint → ℕ → ℕ → ℕ → Builder →
 IsEndedFault us first added at b it =
     ((b.frames ≡ []) × (it ≡ Diagnostic (ParsePatternIncomplete (span_between us first added at at))))
     ⊎ ((outer : List Frame) × (group : Frame) × (b.frames ≡ outer ++ (group ∷ []))
-    × (it ≡ Diagnostic (UnterminatedPattern (record { start = group.start; end = offset_at first us at + added }) (unterminated (opener_of (opener_tree group.opening))))))
+    × (it ≡ Diagnostic (UnterminatedPattern (record { start = group.start; end = offset_at first us at + added }) (unterminated (opener_of (opener_tree group.group_kind))))))
 
 -- what is wrong where a halt names this span, in a pattern with so many groups; of a stop, outside groups
 abbrev pub halt_refusal : Halt → Span → ℕ → Refusal

@@ -1,28 +1,24 @@
 -- What is found at the front of a text.
-use Rattle.std.specs.Prelude.{◌≡◌, ℕ, ◌-◌, ◌%◌, ◌<◌, ◌≤◌, Bool, ◌==◌, ◌||◌, Option, Some, None, true, false, List, [], ◌∷◌, ◌++◌, ◌⊎◌, length, drop, take}
+use Rattle.std.specs.Prelude.{◌≡◌, ℕ, ◌-◌, ◌%◌, ◌≤◌, Bool, Option, Some, None, true, List, [], ◌∷◌, length, drop, take}
 use Rattle.rx_tables.specs.Characters.{is_within}
 use Rattle.rx_ast.specs.declared.leaf.BoundaryAssertionKind.{BoundaryAssertionKind}
 use Rattle.rx_units.specs.declared.code_point.CodePoint.{CodePoint}
 use Rattle.rx_units.specs.Units.{values}
-use Rattle.rx_model.specs.Refusals.Causes.{HasBraces, IsOutOfOrder, IsTooLarge, LeadNowhere}
 use Rattle.rx_model.specs.Trees.Early.{Obeys}
 use Rattle.rx_model.specs.Inputs.Environment.{Environment, is_unicode}
 use Rattle.rx_model.specs.Reading.Fronts.{boundary_at, front}
 use Rattle.rx_model.specs.Groups.GroupNameReading.{name_of}
-use Rattle.rx_model.specs.Groups.Groups.{BeginsName}
 use Rattle.rx_model.specs.FirstPass.Marks.{starts}
-use Rattle.rx_model.specs.Groups.Modifiers.{AreSides, has_twice, share_some}
 use Rattle.rx_model.specs.Properties.PropertyForms.{begins_property}
-use Rattle.rx_model.specs.Quantifiers.Quantifiers.{PassesLimit}
-use Rattle.rx_model.specs.Refusals.Stops.{IsStop}
-use Rattle.rx_model.specs.Trees.Token.{Token, Opener, boundary, character, dot, class_escape, indexed, named, opener, closer, bar, quantifier, capturing, ignoring, looking}
-use Rattle.rx_model.specs.Characters.UnicodeEscapes.{Decodes, PassesHex}
+use Rattle.rx_model.specs.Reading.FrontReading.{FrontHalt, ends_here, out_of_order, too_large, many_decimal_digits, many_hex_digits, no_unicode_escape, in_name, no_angle, no_such_group, in_modifiers, FrontRead, token_read, property_begins, class_begins, halted, front_read}
+use Rattle.rx_model.specs.Groups.ModifierFronts.{ModifiersHalt, no_colon, letter_twice, no_letter, letter_shared}
+use Rattle.rx_model.specs.Trees.Token.{Token, Opener, boundary, character, dot, class_escape, property, class, indexed, named, opener, closer, bar, quantifier, capturing, ignoring, looking}
+use Rattle.rx_parser.specs.Names.{found_name_halt}
 use Rattle.rx_parser.specs.HaltPlaces.{halt_end}
-use Rattle.rx_parser.specs.Names.{IsHaltInName}
 use Rattle.rx_parser.specs.declared.found.Leaf.{Leaf}
 use Rattle.rx_parser.specs.declared.found.Leaf.TheVariants as leaf
 use Rattle.rx_parser.specs.declared.found.OpenerFound.{OpenerFound}
-use Rattle.rx_parser.specs.declared.found.OpenerFound.TheVariants as opening
+use Rattle.rx_parser.specs.declared.found.OpenerFound.TheVariants as opener_found
 use Rattle.rx_parser.specs.declared.found.ModifiersFault.{ModifiersFault}
 use Rattle.rx_parser.specs.declared.found.ModifiersFault.TheVariants as fault
 use Rattle.rx_parser.specs.declared.found.Halt.{Halt}
@@ -38,17 +34,9 @@ leaf_token leaf.Dot = dot
 leaf_token (leaf.ClassEscape kind) = class_escape kind
 leaf_token (leaf.IndexedReference n) = indexed n
 
--- what a quantifier begins with (Quantifier, 22.2.1), or a brace or bracket that closes: one of ] } * + ? {
-abbrev pub closes_or_repeats : ℕ → Bool
-closes_or_repeats c = c == 93 || c == 125 || c == 42 || c == 43 || c == 63 || c == 123
-
 -- what a DecimalEscape begins with (22.2.1): 1 to 9
 abbrev pub is_first_digit : ℕ → Bool
 is_first_digit c = is_within 49 57 c
-
--- what a reference begins with behind a backslash (AtomEscape, 22.2.1): such a digit, or `k`
-abbrev pub begins_reference : ℕ → Bool
-begins_reference c = is_first_digit c || c == 107
 
 -- the boundary that the first of these characters is behind a backslash (Assertion, 22.2.1)
 abbrev pub boundary_front : Environment → List ℕ → Option BoundaryAssertionKind
@@ -67,59 +55,73 @@ pub record HoldsName (unicode_mode : Bool) (us : List CodePoint) (name : List �
 
 -- what a group of so many units begins with
 abbrev pub IsOpenerFound : Environment → List CodePoint → ℕ → Opener → OpenerFound → Type 0
-IsOpenerFound e us n o opening.Capturing = o ≡ capturing None
-IsOpenerFound e us n o opening.Named = (name : List ℕ) × (o ≡ capturing (Some name)) × HoldsName (is_unicode e.mode) us name n
-IsOpenerFound e us n o opening.Ignoring = o ≡ ignoring None
-IsOpenerFound e us n o (opening.Modified enabling disabling) = (o ≡ ignoring (Some (enabling.0 % 8, disabling.0 % 8))) × (3 ≤ n)
-IsOpenerFound e us n o (opening.LookAround kind) = o ≡ looking kind
+IsOpenerFound e us n o opener_found.Capturing = o ≡ capturing None
+IsOpenerFound e us n o opener_found.Named = (name : List ℕ) × (o ≡ capturing (Some name)) × HoldsName (is_unicode e.mode) us name n
+IsOpenerFound e us n o opener_found.Ignoring = o ≡ ignoring None
+IsOpenerFound e us n o (opener_found.Modified enabling disabling) = (o ≡ ignoring (Some (enabling.0 % 8, disabling.0 % 8))) × (3 ≤ n)
+IsOpenerFound e us n o (opener_found.LookAround kind) = o ≡ looking kind
 
 -- the parts of what a group of so many units begins with are there, with `u` or `v`
 abbrev pub HoldsOpener : List CodePoint → ℕ → OpenerFound → Type 0
-HoldsOpener us n opening.Capturing = Unit {0}
-HoldsOpener us n opening.Named = (name : List ℕ) × HoldsName true us name n
-HoldsOpener us n opening.Ignoring = Unit {0}
-HoldsOpener us n (opening.Modified enabling disabling) = 3 ≤ n
-HoldsOpener us n (opening.LookAround kind) = Unit {0}
+HoldsOpener us n opener_found.Capturing = Unit {0}
+HoldsOpener us n opener_found.Named = (name : List ℕ) × HoldsName true us name n
+HoldsOpener us n opener_found.Ignoring = Unit {0}
+HoldsOpener us n (opener_found.Modified enabling disabling) = 3 ≤ n
+HoldsOpener us n (opener_found.LookAround kind) = Unit {0}
 
--- braces of so many units with such counts stand next
-abbrev pub StandBraces : (ℕ → Option ℕ → Type 0) → ℕ → List CodePoint → Type 0
-StandBraces P n us = (min : ℕ) × (max : Option ℕ) × HasBraces min max n us × P min max
+-- the answer on what a group begins with
+abbrev pub found_opener : Opener → OpenerFound
+found_opener (capturing None) = opener_found.Capturing
+found_opener (capturing (Some name)) = opener_found.Named
+found_opener (ignoring None) = opener_found.Ignoring
+found_opener (ignoring (Some bits)) = opener_found.Modified (record { 0 = bits.0 }) (record { 0 = bits.1 })
+found_opener (looking kind) = opener_found.LookAround kind
 
--- behind `(?` stand modifiers of so many units, which are wrong in this way
-pub data IsModifiersFault : List ℕ → ℕ → ModifiersFault → Type 0 where
-  unknown : (text behind : List ℕ) → LeadNowhere text behind → IsModifiersFault (text ++ behind) (length text) fault.Unknown
-  duplicated : {enabled disabled : List ℕ} (text behind : List ℕ) → AreSides enabled disabled text → (has_twice enabled || has_twice disabled) ≡ true
-      → IsModifiersFault (text ++ (58 ∷ behind)) (length text) fault.Duplicated
-  empty : {behind : List ℕ} → IsModifiersFault (45 ∷ 58 ∷ behind) 1 fault.Empty
-  invalid : {enabled disabled : List ℕ} (text behind : List ℕ) → AreSides enabled disabled text → (has_twice enabled || has_twice disabled) ≡ false → share_some enabled disabled ≡ true
-      → IsModifiersFault (text ++ (58 ∷ behind)) (length text) fault.Invalid
+-- the answer on wrong modifiers
+abbrev pub found_fault : ModifiersHalt → ModifiersFault
+found_fault no_colon = fault.Unknown
+found_fault letter_twice = fault.Duplicated
+found_fault no_letter = fault.Empty
+found_fault letter_shared = fault.Invalid
 
--- a name is to stand next, and halts so
-abbrev pub HaltsInName : Environment → List CodePoint → Halt → Type 0
-HaltsInName e us it = (behind : List ℕ) × BeginsName e (values us) behind × IsHaltInName (is_unicode e.mode) behind it
+-- the answer on a token of so many units
+abbrev pub found_token : Token → ℕ → Found
+found_token (boundary kind) n = found.Leaf (leaf.Boundary kind) n
+found_token (character kind value) n = found.Leaf (leaf.Character kind value) n
+found_token dot n = found.Leaf leaf.Dot n
+found_token (class_escape kind) n = found.Leaf (leaf.ClassEscape kind) n
+found_token (property negative strings name value) n = found.Property
+found_token (class c) n = found.Class
+found_token (indexed index) n = found.Leaf (leaf.IndexedReference index) n
+found_token (named name) n = found.NamedReference n
+found_token (opener o) n = found.Open (found_opener o) n
+found_token closer n = found.Close
+found_token bar n = found.Bar
+found_token (quantifier min max greedy) n = found.Quantifier min max greedy n
 
--- digits behind `\u{` pass 32 bits
-abbrev pub PassesEscape : List CodePoint → ℕ → ℕ → Type 0
-PassesEscape us start many = (behind : List ℕ) × (start ≡ 3) × (values us ≡ 92 ∷ behind) × PassesHex behind many
+-- the answer where no token is read
+abbrev pub found_halt : FrontHalt → Halt
+found_halt (ends_here n) = halt.Stop n
+found_halt (out_of_order n) = halt.OutOfOrder n
+found_halt (too_large n) = halt.TooLarge n
+found_halt (many_decimal_digits start many) = halt.TooManyDigits start many
+found_halt (many_hex_digits many) = halt.TooManyHexDigits 3 many
+found_halt no_unicode_escape = halt.InvalidEscape 1 1
+found_halt (in_name it) = found_name_halt it
+found_halt no_angle = halt.NoGroupName
+found_halt (no_such_group n) = halt.NoSuchGroup n
+found_halt (in_modifiers it n) = halt.Modifiers (found_fault it) n
 
--- a backslash and `u` begin no unicode escape
-abbrev pub IsNoEscape : List CodePoint → ℕ → ℕ → Type 0
-IsNoEscape us start n =
-    (behind : List ℕ) × (start ≡ 1) × (n ≡ 1) × (values us ≡ 92 ∷ 117 ∷ behind)
-    × ((v k : ℕ) → Decodes true (117 ∷ behind) v k → ⊥) × ((many : ℕ) → PassesHex (117 ∷ behind) many → ⊥)
+-- the answer on what is read at the front
+abbrev pub found_front : FrontRead → Found
+found_front (token_read t n) = found_token t n
+found_front property_begins = found.Property
+found_front class_begins = found.Class
+found_front (halted it) = found.Halt (found_halt it)
 
 -- no token is read here, for this reason
 abbrev pub IsHalt : Environment → List CodePoint → Halt → Type 0
-IsHalt e us (halt.Stop behind) = IsStop e us behind × (starts 41 (values us) ≡ false)
-IsHalt e us (halt.OutOfOrder n) = StandBraces IsOutOfOrder n us
-IsHalt e us (halt.TooLarge n) = StandBraces (λ min max. (IsOutOfOrder min max → ⊥) × IsTooLarge min max) n us
-IsHalt e us (halt.TooManyDigits start many) = PassesLimit (values us) start many
-IsHalt e us (halt.TooManyHexDigits start many) = PassesEscape us start many ⊎ HaltsInName e us (halt.TooManyHexDigits start many)
-IsHalt e us (halt.InvalidEscape start n) = IsNoEscape us start n ⊎ HaltsInName e us (halt.InvalidEscape start n)
-IsHalt e us (halt.UnterminatedName n) = HaltsInName e us (halt.UnterminatedName n)
-IsHalt e us halt.NoGroupName = (behind : List ℕ) × (values us ≡ 92 ∷ 107 ∷ behind) × (starts 60 behind ≡ false) × (e.named ≡ true)
-IsHalt e us (halt.NoSuchGroup n) = (k : ℕ) × (front e us ≡ Some (indexed k, n)) × (e.groups < k)
-IsHalt e us (halt.Modifiers it n) = (behind : List ℕ) × (values us ≡ 40 ∷ 63 ∷ behind) × IsModifiersFault behind n it
+IsHalt e us it = (reason : FrontHalt) × (front_read e us ≡ halted reason) × (it ≡ found_halt reason)
 
 -- In a unicode mode this stands at the front.
 abbrev pub IsFound : Environment → List CodePoint → Found → Type 0

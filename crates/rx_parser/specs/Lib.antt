@@ -9,7 +9,7 @@ pub mod Literals
 pub mod Modifiers
 pub mod Names
 pub mod NotYet
-pub mod Openings
+pub mod GroupKinds
 pub mod Parsing
 pub mod Progress
 pub mod Turns

@@ -25,7 +25,7 @@ abbrev pub input_of : Form → List ℕ → Option (Bor (List ℕ)) → Options 
 input_of form text flags options =
     record { form = form; text = chars text; flags = flags_chars flags; text_offset = options.pattern_span_offset; flags_offset = options.flags_span_offset }
 
--- the flags are refused, or memory is wanting
+-- the flags are refused, or memory ran out
 abbrev pub IsFlagFault : List ℕ → ℕ → Fault → Type 0
 IsFlagFault flags added OutOfMemory = Unit {0}
 IsFlagFault flags added NotYet = ⊥

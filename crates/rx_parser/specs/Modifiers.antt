@@ -1,17 +1,12 @@
 -- What the readers of modifiers answer.
-use Rattle.std.specs.Prelude.{ℕ, ◌==◌, List, Option, Some, None, if◌then◌else◌}
+use Rattle.std.specs.Prelude.{ℕ, ◌==◌, Option, Some, None, if◌then◌else◌}
 use Rattle.rx_units.specs.Units.{values}
 use Rattle.rx_model.specs.Groups.GroupFronts.{SidesRead, sides}
-use Rattle.rx_model.specs.Groups.Modifiers.{has_twice, letters_bits}
 use Rattle.rx_parser.specs.declared.modifiers.Sides.{Sides}
 
 -- the bit of a letter (RegularExpressionModifier, 22.2.1)
 abbrev pub modifier_bit : ℕ → Option ℕ
 modifier_bit c = if c == 105 then Some 1 else (if c == 109 then Some 2 else (if c == 115 then Some 4 else None))
-
--- the bits of letters, or none where one is there twice
-abbrev pub are_bits : List ℕ → Option ℕ
-are_bits w = if has_twice w then None else Some (letters_bits w)
 
 -- an answer as the reading that it says
 abbrev pub seen_sides : Sides → SidesRead

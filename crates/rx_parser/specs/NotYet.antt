@@ -1,14 +1,7 @@
 -- Which texts are not read yet: those of a mode that no reader takes.
-use Rattle.std.specs.Prelude.{ℕ, Bool, true, false, not, ◌&&◌, List, Option}
+use Rattle.std.specs.Prelude.{ℕ, Bool, not, ◌&&◌, List, Option}
 use Rattle.rx_model.specs.Inputs.Flags.{flags_of, flags_ok, mode_of}
-use Rattle.rx_model.specs.declared.mode.Mode.{Mode}
-use Rattle.rx_model.specs.declared.mode.Mode.TheVariants.{Legacy, Unicode, Sets}
-
--- the modes that are read
-abbrev pub is_read : Mode → Bool
-is_read Legacy = false
-is_read Unicode = true
-is_read Sets = false
+use Rattle.rx_model.specs.Inputs.Modes.{is_read}
 
 -- whether a literal is not read yet: its flags are no fault, and their mode is not read
 abbrev pub is_unread_literal : Option (List ℕ) → Bool

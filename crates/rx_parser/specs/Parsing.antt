@@ -1,15 +1,20 @@
 -- How far a parse has come, and what its faults say.
-use Rattle.std.specs.Prelude.{◌≡◌, ℕ, ◌+◌, ◌≤◌, List, length, drop}
+use Rattle.std.specs.Prelude.{◌≡◌, ℕ, ◌+◌, ◌≤◌, ◌⊎◌, false, List, length, drop, Result, Err, IfErr, IfOk}
+use Rattle.rx_base.specs.declared.diagnostic.Diagnostic.{Diagnostic as Refusal}
 use Rattle.rx_base.specs.declared.fault.Fault.{Fault}
 use Rattle.rx_base.specs.declared.fault.Fault.TheVariants.{OutOfMemory, NotYet, Diagnostic}
+use Rattle.rx_ast.specs.declared.term.Pattern.{Pattern}
 use Rattle.rx_units.specs.declared.code_point.CodePoint.{CodePoint}
 use Rattle.rx_units.specs.Units.{offset_at}
 use Rattle.rx_model.specs.declared.mode.Mode.{Mode}
+use Rattle.rx_model.specs.FirstPass.Cuts.{TellsGroups}
 use Rattle.rx_model.specs.Refusals.Causes.{IsCause}
+use Rattle.rx_model.specs.Refusals.Firsts.{IsFirst}
 use Rattle.rx_model.specs.Trees.Early.{most_groups}
 use Rattle.rx_model.specs.Trees.Events.{tokens_of}
+use Rattle.rx_model.specs.Reading.Reading.{IsOnly, IsSpanned, Reads}
 use Rattle.rx_model.specs.Refusals.Reached.{AreObeying, HasNoClash, text_environment, text_groups, text_names}
-use Rattle.rx_model.specs.Inputs.Modes.{mode_by}
+use Rattle.rx_model.specs.Inputs.Modes.{is_read, mode_by}
 use Rattle.rx_scan.specs.declared.state.State.{State}
 use Rattle.rx_parser.specs.Frames.{builder_events}
 use Rattle.rx_parser.specs.Progress.{IsAt}
@@ -33,8 +38,25 @@ pub record IsParsing (mode : Mode) (us : List CodePoint) (first added : ℕ) (b 
   pub within : place ≤ length us
   pub obey : AreObeying mode us (tokens_of (builder_events b))
 
--- the fault of a text that is read already: memory is wanting, or it is refused with its cause
+-- The tree is what the units read as, and each of its nodes has the span of what it spells.
+pub record IsWhole (mode : Mode) (us : List CodePoint) (first added : ℕ) (p : Pattern) : Type 0 where
+  pub reads : Reads mode p us
+  pub spanned : IsSpanned mode p us first added
+
+-- the fault of a text whose mode is read: out of memory, or it is refused with its cause
 abbrev pub IsRefused : Mode → List CodePoint → ℕ → ℕ → Fault → Type 0
 IsRefused mode us first added OutOfMemory = Unit {0}
 IsRefused mode us first added NotYet = ⊥
 IsRefused mode us first added (Diagnostic cause) = IsCause mode us first added cause
+
+-- What is answered to units that are to be read in a mode.
+pub record AnswersUnits (mode : Mode) (us : List CodePoint) (first added : ℕ) (answer : Result Pattern Fault) : Type 0 where
+  -- The tree is spelled by the units and the only one but for spans, and each of its nodes has the span of what it spells.
+  pub whole : IfOk answer (IsWhole mode us first added)
+  pub only : IfOk answer (λ it. IsOnly mode it us)
+  -- The groups and the names that the first pass of the units finds are the tree's.
+  pub groups : IfOk answer (λ it. TellsGroups mode it us)
+  -- A refusal is the first of the text. On what some tree reads the answer is Ok, or memory ran out, or its mode is not read yet.
+  pub refused : (cause : Refusal) → answer ≡ Err (Diagnostic cause) → IsFirst mode us first added cause
+  pub complete : (p : Pattern) → Reads mode p us → IfErr answer (λ fault. (fault ≡ OutOfMemory) ⊎ (fault ≡ NotYet))
+  pub not_yet : answer ≡ Err NotYet → is_read mode ≡ false

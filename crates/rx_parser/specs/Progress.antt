@@ -1,12 +1,12 @@
 -- How far a pattern has been read.
-use Rattle.std.specs.Prelude.{◌≡◌, ℕ, ◌+◌, Bool, false, Some, List, [], ◌∷◌, ◌++◌, length}
+use Rattle.std.specs.Prelude.{◌≡◌, ℕ, Bool, false, Some, List, [], ◌∷◌}
 use Rattle.rx_ast.specs.declared.term.Term.{Term}
 use Rattle.rx_ast.specs.Tree.{mirror_term}
 use Rattle.rx_units.specs.declared.code_point.CodePoint.{CodePoint}
 use Rattle.rx_model.specs.declared.mode.Mode.{Mode}
 use Rattle.rx_model.specs.Inputs.Environment.{Environment}
 use Rattle.rx_model.specs.Trees.Events.{enter, leave, token, term_events, tokens_of}
-use Rattle.rx_model.specs.Reading.Rows.{Row, Spells}
+use Rattle.rx_model.specs.Reading.Rows.{Row}
 use Rattle.rx_model.specs.Trees.Shapes.{run, takes}
 use Rattle.rx_model.specs.Trees.Token.{Token, Opener}
 use Rattle.rx_parser.specs.declared.builder.Builder.{Builder}
@@ -26,9 +26,3 @@ pub record IsAt (e : Environment) (o : ℕ → ℕ) (b : Builder) (us : List Cod
   pub good : IsGood b
   pub state : run e.mode (tokens_of (builder_events b)) [] false ≡ Some (openers b, ready b)
   pub mode : b.mode ≡ e.mode
-
--- The token, spelled between two offsets, leads from the old builder to the new.
-abbrev pub Advances : Environment → Builder → Builder → Token → ℕ → ℕ → Type 0
-Advances e old new t at after =
-    (o : ℕ → ℕ) (i j : ℕ) (us w more : List CodePoint) → at ≡ o i → after ≡ o j → Spells e t w more → j ≡ i + length w →
-    IsAt e o old us i (w ++ more) → IsAt e o new us j more

@@ -8,7 +8,7 @@ ghost use Rattle.rx_parser.specs.Frames.{builder_events, opener_tree, openers, r
 ghost use Rattle.rx_parser.specs.Good.{IsGood, IsGoodTerm};
 ghost use Rattle.rx_parser.specs.Levels.{Repeats};
 
-use crate::{Frame, Level, Opening};
+use crate::{Frame, GroupKind, Level};
 use rx_ast::{Pattern, Term};
 use rx_base::{List, OutOfMemory, Span};
 use rx_model::Mode;
@@ -70,12 +70,12 @@ impl Builder {
     pub fn open(
         &mut self,
         alloc: Global,
-        opening: Opening,
+        group_kind: GroupKind,
         at: u32,
         after: u32,
     ) -> Result<(), OutOfMemory>
-        ensures events { OnOk result (builder_events self.new ≡ builder_events self.old ++ (enter at ∷ opener_event (opener_tree opening) ∷ enter after ∷ enter after ∷ [])) }
-        ensures openers { OnOk result (openers self.new ≡ opener_of (opener_tree opening) ∷ openers self.old) }
+        ensures events { OnOk result (builder_events self.new ≡ builder_events self.old ++ (enter at ∷ opener_event (opener_tree group_kind) ∷ enter after ∷ enter after ∷ [])) }
+        ensures openers { OnOk result (openers self.new ≡ opener_of (opener_tree group_kind) ∷ openers self.old) }
         ensures ready { OnOk result (ready self.new ≡ false) }
         ensures good { OnOk result (IsGood self.old → IsGood self.new) }
         ensures mode { self.new.mode ≡ self.old.mode }
@@ -85,7 +85,7 @@ impl Builder {
         self.frames.push(Frame {
             outer,
             start: at,
-            opening,
+            group_kind,
         })
     }
 
@@ -105,11 +105,11 @@ impl Builder {
         let Frame {
             outer,
             start,
-            opening,
+            group_kind,
         } = frame;
         let inner = std::mem::replace(&mut self.level, outer);
         let body = inner.finish(at)?;
-        let term = opening.into_term(alloc, Span::new(start, after), body)?;
+        let term = group_kind.into_term(alloc, Span::new(start, after), body)?;
         self.level.push(term)?;
         Ok(true)
     }

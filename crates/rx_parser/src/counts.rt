@@ -1,7 +1,9 @@
-ghost use Rattle.std.specs.Prelude.{◌≡◌, ◌+◌, ◌^◌, ◌<◌, ◌≤◌, length, drop};
+ghost use Rattle.std.specs.Prelude.{◌≡◌, ◌+◌, ◌^◌, ◌<◌, ◌≤◌, length};
 ghost use Rattle.rx_units.specs.Units.{values};
-ghost use Rattle.rx_parser.specs.CountsFound.{IsDigitsFound, IsCountsFound, IsInBraces, IsBehindLeast, IsBehindComma};
+ghost use Rattle.rx_model.specs.Quantifiers.CountsReading.{digits_read_at, read_behind_comma, read_behind_least, read_in_braces, counts_read_at};
+ghost use Rattle.rx_parser.specs.CountsFound.{seen_digits, digits_counted, seen_counts};
 
+use crate::ahead::tail;
 use rx_tables::is_decimal_digit;
 use rx_units::CodePoint;
 
@@ -31,7 +33,8 @@ pub enum CountsFound {
 }
 
 fn digits_at(units: &[CodePoint]) -> DigitsFound
-    ensures { IsDigitsFound units.now result }
+    ensures read { seen_digits units.now result ≡ digits_read_at 0 0 (values units.now) }
+    ensures within { digits_counted result ≤ length units.now }
 {
     let mut value = 0u64;
     for (count, unit) in units.iter().enumerate() {
@@ -53,17 +56,10 @@ fn digits_at(units: &[CodePoint]) -> DigitsFound
     }
 }
 
-fn tail(units: &[CodePoint], count: usize) -> &[CodePoint]
-    requires { count ≤ length units.now }
-    ensures { result.now ≡ drop count units.now }
-{
-    &units[count..]
-}
-
 /// The counts behind `{`, a number of so many digits and `,`.
 fn behind_comma(min: u64, count: usize, units: &[CodePoint]) -> CountsFound
     requires { count + 2 + length units.now < 2 ^ 64 }
-    ensures { IsBehindComma min count units.now result }
+    ensures { seen_counts result ≡ read_behind_comma min count (digits_read_at 0 0 (values units.now)) }
 {
     let (value, more) = match digits_at(units) {
         DigitsFound::Digits { value, count } => (value, count),
@@ -87,7 +83,7 @@ fn behind_comma(min: u64, count: usize, units: &[CodePoint]) -> CountsFound
 /// The counts behind `{` and a number of so many digits.
 fn behind_least(min: u64, count: usize, units: &[CodePoint]) -> CountsFound
     requires { count + 1 + length units.now < 2 ^ 64 }
-    ensures { IsBehindLeast min count units.now result }
+    ensures { seen_counts result ≡ read_behind_least min count (values units.now) }
 {
     if count == 0 {
         return CountsFound::Nothing;
@@ -106,7 +102,7 @@ fn behind_least(min: u64, count: usize, units: &[CodePoint]) -> CountsFound
 /// The counts behind `{`.
 fn in_braces(units: &[CodePoint]) -> CountsFound
     requires { 1 + length units.now < 2 ^ 64 }
-    ensures { IsInBraces units.now result }
+    ensures { seen_counts result ≡ read_in_braces (digits_read_at 0 0 (values units.now)) }
 {
     match digits_at(units) {
         DigitsFound::Digits { value, count } => behind_least(value, count, tail(units, count)),
@@ -115,8 +111,9 @@ fn in_braces(units: &[CodePoint]) -> CountsFound
 }
 
 /// The quantifier's prefix that the units begin with.
+#[tactic(auto, unfolding(rx_model::specs::Quantifiers::CountsReading::counts_read_at))]
 pub fn counts_at(units: &[CodePoint]) -> CountsFound
-    ensures { IsCountsFound units.now result }
+    ensures { seen_counts result ≡ counts_read_at (values units.now) }
 {
     let [first, behind @ ..] = units else {
         return CountsFound::Nothing;

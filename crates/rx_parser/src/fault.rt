@@ -1,5 +1,5 @@
 ghost use Rattle.std.specs.Prelude.{◌≡◌, ◌+◌, ◌^◌, ◌<◌, ◌≤◌};
-ghost use Rattle.rx_units.specs.Reading.{offset_of};
+ghost use Rattle.rx_units.specs.Cursor.{offset_of};
 ghost use Rattle.rx_model.specs.Refusals.Reached.{span_between};
 ghost use Rattle.rx_class.specs.Fitting.{AreFitting};
 ghost use Rattle.rx_parser.specs.Faults.{IsEndedFault, IsHaltFault, IsSmall, halt_refusal, modifiers_refusal};
@@ -99,7 +99,7 @@ pub fn ended(reader: &Reader<'_>, spans: &SpanFactory, builder: &Builder) -> Fau
     match builder.innermost() {
         Some(group) => Fault::Diagnostic(Diagnostic::UnterminatedPattern {
             span: Span::new(group.start, end),
-            what: group.opening.unterminated(),
+            what: group.group_kind.unterminated(),
         }),
         None => {
             let span = Span::empty(end);
@@ -110,10 +110,11 @@ pub fn ended(reader: &Reader<'_>, spans: &SpanFactory, builder: &Builder) -> Fau
 
 /// The offset where the reader stands, with the offset of the spans added.
 pub fn here(reader: &Reader<'_>, spans: &SpanFactory) -> u32
-    requires fits { offset_of reader.now + spans.now < 2 ^ 32 }
+    requires fits { AreFitting spans.now reader.now }
     ensures { result ≡ offset_of reader.now + spans.now }
 {
-    spans.create(reader.offset(), reader.offset()).start
+    let at = reader.offset();
+    spans.create(at, at).start
 }
 
 /// The span from one place ahead to another, in units from where the reader stands. The reader stays there.

@@ -14,7 +14,7 @@ use std::alloc::Global;
 
 /// What an open group or look-around began with (Atom and Assertion of ECMA-262, 22.2.1).
 #[derive(Drop)]
-pub enum Opening {
+pub enum GroupKind {
     /// `(`, or `(?<`, a name and `>`.
     Capturing(Option<Text>),
 
@@ -25,15 +25,15 @@ pub enum Opening {
     LookAround(LookAroundAssertionKind),
 }
 
-impl Opening {
+impl GroupKind {
     /// What is said where it does not end.
     pub fn unterminated(&self) -> Unterminated
         ensures { result ≡ unterminated (opener_of (opener_tree self.now)) }
     {
         match self {
-            Opening::Capturing(_) => Unterminated::CapturingGroup,
-            Opening::Ignoring(_) => Unterminated::IgnoreGroup,
-            Opening::LookAround(_) => Unterminated::LookAround,
+            GroupKind::Capturing(_) => Unterminated::CapturingGroup,
+            GroupKind::Ignoring(_) => Unterminated::IgnoreGroup,
+            GroupKind::LookAround(_) => Unterminated::LookAround,
         }
     }
 
@@ -48,11 +48,11 @@ impl Opening {
         ensures { IfOk result (λ it. mirror_term it ≡ group span (opener_tree self) (mirror_disjunction body).0 (mirror_disjunction body).1) }
     {
         match self {
-            Opening::Capturing(name) => {
+            GroupKind::Capturing(name) => {
                 let it = CapturingGroup { span, name, body };
                 Ok(Term::CapturingGroup(Box::new(alloc, it)?))
             }
-            Opening::Ignoring(modifiers) => {
+            GroupKind::Ignoring(modifiers) => {
                 let it = IgnoreGroup {
                     span,
                     modifiers,
@@ -60,7 +60,7 @@ impl Opening {
                 };
                 Ok(Term::IgnoreGroup(Box::new(alloc, it)?))
             }
-            Opening::LookAround(kind) => {
+            GroupKind::LookAround(kind) => {
                 let it = LookAroundAssertion { span, kind, body };
                 Ok(Term::LookAroundAssertion(Box::new(alloc, it)?))
             }
@@ -73,5 +73,5 @@ impl Opening {
 pub struct Frame {
     pub outer: Level,
     pub start: u32,
-    pub opening: Opening,
+    pub group_kind: GroupKind,
 }

@@ -1,17 +1,14 @@
-ghost use Rattle.std.specs.Prelude.{◌≡◌, ◌==◌, ◌-◌, ◌^◌, ◌≤◌, ◌<◌, ◌↔◌, ◌∷◌, Bool, true, false, Some, None, All, IsTrue, length};
-ghost use Rattle.rx_units.specs.declared.code_point.CodePoint.{CodePoint};
-ghost use Rattle.rx_units.specs.Reading.{front};
+ghost use Rattle.std.specs.Prelude.{◌≡◌, ◌-◌, ◌^◌, ◌≤◌, ◌<◌, ◌∷◌, ℕ, Bool, true, All};
 ghost use Rattle.rx_units.specs.Units.{values};
-ghost use Rattle.rx_tables.specs.Characters.{is_syntax_character};
 ghost use Rattle.rx_class.specs.Found.{class_escape_front};
-ghost use Rattle.rx_model.specs.declared.mode.Mode.{Mode};
-ghost use Rattle.rx_model.specs.Reading.Boundaries.{has_buffers};
-ghost use Rattle.rx_model.specs.Refusals.Causes.{IsOutOfOrder, IsTooLarge};
 ghost use Rattle.rx_model.specs.Inputs.Environment.{Environment, environment_with, is_unicode};
-ghost use Rattle.rx_model.specs.Characters.Escapes.{front_is};
+ghost use Rattle.rx_model.specs.Inputs.Modes.{is_read};
 ghost use Rattle.rx_model.specs.Properties.PropertyForms.{begins_property};
-ghost use Rattle.rx_parser.specs.CountsFound.{IsCountsFound};
-ghost use Rattle.rx_parser.specs.Found.{IsFound, begins_reference, boundary_front, closes_or_repeats, is_first_digit};
+ghost use Rattle.rx_model.specs.Quantifiers.CountsReading.{counts_read, counts_read_at};
+ghost use Rattle.rx_model.specs.Reading.Boundaries.{has_buffers};
+ghost use Rattle.rx_model.specs.Reading.FrontReading.{are_out_of_order, are_too_large, backslash_read, escape_read, front_read, one_of_escapes, quantifier_read, syntax_read};
+ghost use Rattle.rx_model.specs.Reading.Fronts.{escape_at};
+ghost use Rattle.rx_parser.specs.Found.{IsFound, boundary_front, found_front, is_first_digit};
 
 use crate::ahead::stands_at;
 use crate::counts::{CountsFound, counts_at};
@@ -24,12 +21,22 @@ use rx_model::Mode;
 use rx_tables::{is_decimal_digit, is_syntax_character};
 use rx_units::CodePoint;
 
-/// What the units begin with, outside classes, with `u` or `v`, in a pattern with so many groups.
+/// What the units begin with, outside classes, in a pattern with so many groups.
 pub fn front_at(units: &[CodePoint], mode: Mode, groups: u32) -> Found
-    requires unicode { is_unicode mode ≡ true }
+    requires read { is_read mode ≡ true }
     requires few { groups < 2 ^ 32 - 1 }
     requires code_points { All (λ unit. unit.value ≤ 0x10FFFF) units.now }
     ensures { (has_names : Bool) → IsFound (environment_with mode groups has_names) units.now result }
+{
+    first_of(units, mode, groups)
+}
+
+/// The same, by how the front is read.
+#[tactic(auto, unfolding(rx_model::specs::Reading::FrontReading::front_read))]
+fn first_of(units: &[CodePoint], mode: Mode, groups: u32) -> Found
+    requires read { is_read mode ≡ true }
+    requires few { groups < 2 ^ 32 - 1 }
+    ensures { (has_names : Bool) → result ≡ found_front (front_read (environment_with mode groups has_names) units.now) }
 {
     let [first, behind @ ..] = units else {
         return Found::Halt(Halt::Stop { behind: 0 });
@@ -46,10 +53,10 @@ pub fn front_at(units: &[CodePoint], mode: Mode, groups: u32) -> Found
     if first.value == '\\' as u32 {
         return backslash_at(behind, mode, groups);
     }
-    if first.value == '(' as u32 {
-        return group_at(behind, true);
+    if first.value == '[' as u32 {
+        return Found::Class;
     }
-    syntax_at(first.value, units)
+    syntax_at(first.value, behind, units, mode)
 }
 
 /// The boundary that the unit behind a backslash is.
@@ -77,22 +84,21 @@ fn is_unicode(mode: Mode) -> bool
 
 /// What a backslash and the units behind it begin with.
 fn backslash_at(behind: &[CodePoint], mode: Mode, groups: u32) -> Found
-    requires unicode { is_unicode mode ≡ true }
+    requires read { is_read mode ≡ true }
     requires few { groups < 2 ^ 32 - 1 }
-    ensures { (has_names : Bool) (backslash : CodePoint) → backslash.value ≡ 92
-        → IsFound (environment_with mode groups has_names) (backslash ∷ behind.now) result }
+    ensures { (has_names : Bool) → result ≡ found_front (backslash_read (environment_with mode groups has_names) (values behind.now)) }
 {
     let [first, more @ ..] = behind else {
         return Found::Halt(Halt::Stop { behind: 1 });
     };
-    if begins_property(first.value) {
-        return Found::Property;
-    }
     if is_first_digit(first.value) {
         return indexed_at(behind, groups);
     }
     if first.value == 'k' as u32 {
-        return named_at(more, true);
+        return named_at(more, is_unicode(mode));
+    }
+    if begins_property(first.value) {
+        return Found::Property;
     }
     escape_at(behind, mode)
 }
@@ -113,10 +119,8 @@ fn is_first_digit(value: u32) -> bool
 
 /// What a backslash and the units behind it, which are neither a reference nor a property, begin with.
 fn escape_at(behind: &[CodePoint], mode: Mode) -> Found
-    requires unicode { is_unicode mode ≡ true }
-    requires no_reference { front_is begins_reference (values behind.now) ≡ false }
-    requires no_property { front_is begins_property (values behind.now) ≡ false }
-    ensures { (e : Environment) (backslash : CodePoint) → e.mode ≡ mode → has_buffers e ≡ true → backslash.value ≡ 92 → IsFound e (backslash ∷ behind.now) result }
+    ensures { (e : Environment) → has_buffers e ≡ true
+        → result ≡ found_front (one_of_escapes (boundary_front e (values behind.now)) (class_escape_front (values behind.now)) (escape_at (is_unicode mode) (values behind.now))) }
 {
     if let Some(kind) = boundary_at(behind) {
         return Found::Leaf {
@@ -135,12 +139,7 @@ fn escape_at(behind: &[CodePoint], mode: Mode) -> Found
 
 /// What a backslash and the units behind it, which are neither a boundary nor a class escape, begin with.
 fn character_at(behind: &[CodePoint], mode: Mode) -> Found
-    requires unicode { is_unicode mode ≡ true }
-    requires no_boundary { (e : Environment) → has_buffers e ≡ true → boundary_front e (values behind.now) ≡ None }
-    requires no_class { class_escape_front (values behind.now) ≡ None }
-    requires no_reference { front_is begins_reference (values behind.now) ≡ false }
-    requires no_property { front_is begins_property (values behind.now) ≡ false }
-    ensures { (e : Environment) (backslash : CodePoint) → e.mode ≡ mode → has_buffers e ≡ true → backslash.value ≡ 92 → IsFound e (backslash ∷ behind.now) result }
+    ensures { result ≡ found_front (escape_read (escape_at (is_unicode mode) (values behind.now))) }
 {
     match character_escape_at(behind, is_unicode(mode)) {
         EscapeFound::Character {
@@ -162,19 +161,17 @@ fn character_at(behind: &[CodePoint], mode: Mode) -> Found
     }
 }
 
-/// What the units begin with, whose first is a SyntaxCharacter other than a backslash and `(`.
-fn syntax_at(first: u32, units: &[CodePoint]) -> Found
-    requires front { front units.now ≡ Some first }
-    requires syntax { is_syntax_character first ≡ true }
-    requires no_backslash { (first == 92) ≡ false }
-    requires no_group { (first == 40) ≡ false }
-    ensures { (e : Environment) → is_unicode e.mode ≡ true → IsFound e units.now result }
+/// What the units begin with, whose first is neither a backslash nor `[` nor stands for itself.
+fn syntax_at(first: u32, behind: &[CodePoint], units: &[CodePoint], mode: Mode) -> Found
+    requires { values units.now ≡ first ∷ values behind.now }
+    ensures { (groups : ℕ) (has_names : Bool) → result ≡ found_front (syntax_read (environment_with mode groups has_names) first (values behind.now)) }
 {
     match char::from_u32(first) {
         Some('.') => Found::Leaf {
             leaf: Leaf::Dot,
             length: 1,
         },
+        Some('(') => group_at(behind, is_unicode(mode)),
         Some(')') => Found::Close,
         Some('|') => Found::Bar,
         Some('^') => Found::Leaf {
@@ -185,15 +182,13 @@ fn syntax_at(first: u32, units: &[CodePoint]) -> Found
             leaf: Leaf::Boundary(BoundaryAssertionKind::End),
             length: 1,
         },
-        Some('[') => Found::Class,
         _ => quantifier_at(units),
     }
 }
 
-/// The quantifier that the units begin with, whose first is a brace or bracket that closes, or begins one.
+/// The quantifier that the units begin with.
 fn quantifier_at(units: &[CodePoint]) -> Found
-    requires front { front_is closes_or_repeats (values units.now) ≡ true }
-    ensures { (e : Environment) → is_unicode e.mode ≡ true → IsFound e units.now result }
+    ensures { result ≡ found_front (quantifier_read (counts_read_at (values units.now)) (values units.now)) }
 {
     match counts_at(units) {
         CountsFound::Counts { min, max, length } => quantifier(units, min, max, length),
@@ -206,9 +201,7 @@ fn quantifier_at(units: &[CodePoint]) -> Found
 
 /// The quantifier of these counts, in so many units; or why they may not stand in braces.
 fn quantifier(units: &[CodePoint], min: u64, max: Option<u64>, length: usize) -> Found
-    requires front { front_is closes_or_repeats (values units.now) ≡ true }
-    requires counts { IsCountsFound units.now (CountsFound.Counts min max length) }
-    ensures { (e : Environment) → is_unicode e.mode ≡ true → IsFound e units.now result }
+    ensures { result ≡ found_front (quantifier_read (counts_read min max length) (values units.now)) }
 {
     if is_out_of_order(min, max) {
         return Found::Halt(Halt::OutOfOrder { length });
@@ -233,7 +226,7 @@ fn quantifier(units: &[CodePoint], min: u64, max: Option<u64>, length: usize) ->
 }
 
 fn is_out_of_order(min: u64, max: Option<u64>) -> bool
-    ensures { IsTrue result ↔ IsOutOfOrder min max }
+    ensures { result ≡ are_out_of_order min max }
 {
     max.is_some_and(|max| max < min)
 }
@@ -242,7 +235,7 @@ fn is_out_of_order(min: u64, max: Option<u64>) -> bool
 const GREATEST_COUNT: u64 = (1 << 53) - 1;
 
 fn is_too_large(min: u64, max: Option<u64>) -> bool
-    ensures { IsTrue result ↔ IsTooLarge min max }
+    ensures { result ≡ are_too_large min max }
 {
     min > GREATEST_COUNT || max.is_some_and(|max| max > GREATEST_COUNT)
 }

@@ -1,10 +1,8 @@
-ghost use Rattle.std.specs.Prelude.{◌≡◌, ◌∷◌, false};
-ghost use Rattle.rx_units.specs.declared.code_point.CodePoint.{CodePoint};
+ghost use Rattle.std.specs.Prelude.{◌≡◌};
 ghost use Rattle.rx_units.specs.Units.{values};
-ghost use Rattle.rx_model.specs.Inputs.Environment.{Environment, is_unicode};
-ghost use Rattle.rx_model.specs.Characters.Escapes.{front_is};
-ghost use Rattle.rx_model.specs.Groups.Groups.{looks};
-ghost use Rattle.rx_parser.specs.Found.{IsFound};
+ghost use Rattle.rx_model.specs.Groups.NameFronts.{name_read_at};
+ghost use Rattle.rx_model.specs.Reading.FrontReading.{angle_read, group_read, named_group_read, question_read};
+ghost use Rattle.rx_parser.specs.Found.{found_front};
 
 use crate::found::{Found, OpenerFound};
 use crate::modifiers::modifiers_at;
@@ -14,7 +12,7 @@ use rx_units::CodePoint;
 
 /// The group or look-around that `(` and the units behind it begin (Atom and Assertion of ECMA-262, 22.2.1), or why they begin none.
 pub fn group_at(behind: &[CodePoint], unicode_mode: bool) -> Found
-    ensures { (e : Environment) (paren : CodePoint) → is_unicode e.mode ≡ unicode_mode → paren.value ≡ 40 → IsFound e (paren ∷ behind.now) result }
+    ensures { result ≡ found_front (group_read unicode_mode (values behind.now)) }
 {
     match behind {
         [question, more @ ..] if question.value == '?' as u32 => behind_question(
@@ -33,8 +31,7 @@ fn opens(opener: OpenerFound, length: usize) -> Found
 
 /// The group behind `(?`.
 fn behind_question(units: &[CodePoint], unicode_mode: bool) -> Found
-    ensures { (e : Environment) (paren question : CodePoint) → is_unicode e.mode ≡ unicode_mode → paren.value ≡ 40 → question.value ≡ 63
-        → IsFound e (paren ∷ question ∷ units.now) result }
+    ensures { result ≡ found_front (question_read unicode_mode (values units.now)) }
 {
     match units {
         [mark, ..] if mark.value == ':' as u32 => opens(OpenerFound::Ignoring, 3),
@@ -59,8 +56,7 @@ fn look_around(kind: LookAroundAssertionKind, length: usize) -> Found
 
 /// The group behind `(?<`.
 fn behind_angle(units: &[CodePoint], unicode_mode: bool) -> Found
-    ensures { (e : Environment) (paren question angle : CodePoint) → is_unicode e.mode ≡ unicode_mode → paren.value ≡ 40 → question.value ≡ 63 → angle.value ≡ 60
-        → IsFound e (paren ∷ question ∷ angle ∷ units.now) result }
+    ensures { result ≡ found_front (angle_read unicode_mode (values units.now)) }
 {
     match units {
         [mark, ..] if mark.value == '=' as u32 => look_around(
@@ -77,9 +73,7 @@ fn behind_angle(units: &[CodePoint], unicode_mode: bool) -> Found
 
 /// The group behind `(?<`, where no look behind begins.
 fn named(units: &[CodePoint], unicode_mode: bool) -> Found
-    requires { front_is looks (values units.now) ≡ false }
-    ensures { (e : Environment) (paren question angle : CodePoint) → is_unicode e.mode ≡ unicode_mode → paren.value ≡ 40 → question.value ≡ 63 → angle.value ≡ 60
-        → IsFound e (paren ∷ question ∷ angle ∷ units.now) result }
+    ensures { result ≡ found_front (named_group_read (name_read_at unicode_mode (values units.now))) }
 {
     match name_at(units, unicode_mode) {
         NameFound::Name { length } => opens(OpenerFound::Named, length + 4),

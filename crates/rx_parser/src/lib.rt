@@ -20,7 +20,7 @@ mod term;
 mod turn;
 
 pub use builder::Builder;
-pub use frame::{Frame, Opening};
+pub use frame::{Frame, GroupKind};
 pub use level::Level;
 pub use literal_parser::LiteralParser;
 pub use options::Options;

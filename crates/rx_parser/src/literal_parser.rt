@@ -1,16 +1,19 @@
 ghost use Rattle.std.specs.Prelude.{◌≡◌, ◌+◌, ◌<◌, ◌≤◌, ◌^◌, ◌⊎◌, max, true, false, IfErr, IfOk, IsTrue, OnOk, length};
 ghost use Rattle.std.specs.Str.{chars};
 ghost use Rattle.rx_units.specs.Units.{literal_units};
-ghost use Rattle.rx_model.specs.Inputs.Flags.{flags_of, flags_ok, modes_of};
+ghost use Rattle.rx_model.specs.Inputs.Flags.{flags_of, flags_ok, mode_of, modes_of};
+ghost use Rattle.rx_model.specs.Inputs.Modes.{is_read, mode_by};
 ghost use Rattle.rx_model.specs.Reading.Headline.{IsParsed};
-ghost use Rattle.rx_model.specs.Reading.Reading.{literal_text};
+ghost use Rattle.rx_model.specs.Reading.Reading.{literal_text, units_of};
 ghost use Rattle.rx_model.specs.declared.form.Form.TheVariants.{Literal};
 ghost use Rattle.rx_parser.specs.Literals.{IsFlagFault, flags_chars, flags_length, input_of};
 ghost use Rattle.rx_parser.specs.NotYet.{is_unread_literal};
+ghost use Rattle.rx_parser.specs.Parsing.{AnswersUnits};
 
 use crate::{Options, PatternParser};
 use rx_ast::Pattern;
 use rx_base::{Fault, OutOfMemory};
+use rx_model::Mode;
 use rx_scan::FlagsParser;
 use rx_units::{Reader, ReaderFault};
 use std::alloc::Global;
@@ -49,9 +52,26 @@ impl<'a> LiteralParser<'a> {
         requires pattern { self.options.pattern_span_offset + max (length self.pattern_text.now) 4 < 2 ^ 32 }
         requires flags { self.options.flags_span_offset + flags_length self.flags_text < 2 ^ 32 }
 
-        // Of a text whose mode is read, and of wrong flags: Ok on valid input and on no other, with the only tree; else the first refusal, or want of memory.
+        // Of a text whose mode is read, and of wrong flags: Ok on valid input and on no other, with the only tree; else the first refusal, or out of memory.
         ensures answered { is_unread_literal (flags_chars self.entry.flags_text) ≡ false
             → IsParsed (λ p. p) (input_of Literal self.entry.pattern_text.now self.entry.flags_text self.entry.options) result }
+        ensures not_yet { result ≡ Err Fault.NotYet → IsTrue (is_unread_literal (flags_chars self.entry.flags_text)) }
+        ensures later { IsTrue (is_unread_literal (flags_chars self.entry.flags_text))
+            → (result ≡ Err Fault.NotYet) ⊎ (result ≡ Err Fault.OutOfMemory) }
+    {
+        match self.parse_with_mode() {
+            Ok((pattern, _)) => Ok(pattern),
+            Err(fault) => Err(fault),
+        }
+    }
+
+    /// The same tree, and the mode that the flags ask for.
+    pub fn parse_with_mode(self) -> Result<(Pattern, Mode), Fault>
+        requires pattern { self.options.pattern_span_offset + max (length self.pattern_text.now) 4 < 2 ^ 32 }
+        requires flags { self.options.flags_span_offset + flags_length self.flags_text < 2 ^ 32 }
+        ensures answered { is_unread_literal (flags_chars self.entry.flags_text) ≡ false
+            → IsParsed (λ it. it.0) (input_of Literal self.entry.pattern_text.now self.entry.flags_text self.entry.options) result }
+        ensures mode { IfOk result (λ it. it.1 ≡ mode_of (flags_of (flags_chars self.entry.flags_text))) }
         ensures not_yet { result ≡ Err Fault.NotYet → IsTrue (is_unread_literal (flags_chars self.entry.flags_text)) }
         ensures later { IsTrue (is_unread_literal (flags_chars self.entry.flags_text))
             → (result ≡ Err Fault.NotYet) ⊎ (result ≡ Err Fault.OutOfMemory) }
@@ -64,9 +84,27 @@ impl<'a> LiteralParser<'a> {
         } = self;
         let flags = text_of_flags(flags_text);
         let modes = read_modes(alloc, flags, options.flags_span_offset)?;
-        let reader = reader_of(alloc, stand_in(pattern_text), modes.0)?;
-        PatternParser::new(alloc, reader, modes, options.pattern_span_offset).parse()
+        match parse_text(alloc, pattern_text, modes, options.pattern_span_offset) {
+            Ok(pattern) => Ok((pattern, Mode::of(modes.0, modes.1))),
+            Err(fault) => Err(fault),
+        }
     }
+}
+
+/// The tree of a literal's text in a mode, by whether it is a unicode mode and whether it is sets mode.
+fn parse_text(
+    alloc: Global,
+    pattern_text: &str,
+    modes: (bool, bool),
+    span_offset: u32,
+) -> Result<Pattern, Fault>
+    requires pattern { span_offset + max (length pattern_text.now) 4 < 2 ^ 32 }
+    requires modes { modes.1 ≡ true → modes.0 ≡ true }
+    ensures answers { AnswersUnits (mode_by modes.0 modes.1) (units_of (mode_by modes.0 modes.1) (chars pattern_text.now)) 0 span_offset result }
+    ensures later { is_read (mode_by modes.0 modes.1) ≡ false → (result ≡ Err Fault.NotYet) ⊎ (result ≡ Err Fault.OutOfMemory) }
+{
+    let reader = reader_of(alloc, stand_in(pattern_text), modes.0)?;
+    PatternParser::new(alloc, reader, modes, span_offset).parse()
 }
 
 /// The text of flags, empty where there are none.

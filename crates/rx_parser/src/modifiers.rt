@@ -1,14 +1,12 @@
-ghost use Rattle.std.specs.Prelude.{◌≡◌, ◌≤◌, ◌∷◌, true, false, length, option_map};
+ghost use Rattle.std.specs.Prelude.{◌≡◌, ◌+◌, ◌^◌, ◌<◌, ◌≤◌, true, length, option_map};
 ghost use Rattle.std.specs.List.{list_all};
-ghost use Rattle.rx_units.specs.declared.code_point.CodePoint.{CodePoint};
 ghost use Rattle.rx_units.specs.Units.{values};
-ghost use Rattle.rx_model.specs.Inputs.Environment.{Environment};
-ghost use Rattle.rx_model.specs.Characters.Escapes.{front_is};
 ghost use Rattle.rx_model.specs.Groups.GroupFronts.{letters_at, sides_at};
-ghost use Rattle.rx_model.specs.Groups.Groups.{is_mark};
+ghost use Rattle.rx_model.specs.Groups.ModifierFronts.{are_bits, modifiers_read_at, read_bits};
 ghost use Rattle.rx_model.specs.Groups.Modifiers.{is_modifier};
-ghost use Rattle.rx_parser.specs.Found.{IsFound};
-ghost use Rattle.rx_parser.specs.Modifiers.{are_bits, modifier_bit, seen_sides};
+ghost use Rattle.rx_model.specs.Reading.FrontReading.{modified_read};
+ghost use Rattle.rx_parser.specs.Found.{found_front};
+ghost use Rattle.rx_parser.specs.Modifiers.{modifier_bit, seen_sides};
 
 use crate::ahead::stands_at;
 use crate::found::{Found, Halt, ModifiersFault, OpenerFound};
@@ -23,18 +21,27 @@ struct Sides<'a> {
     length: usize,
 }
 
-/// The group that `(?` and what stands behind it, neither `:`, `=`, `!` nor `<`, begin; or why its modifiers may not stand there.
+/// The group that `(?` and the modifiers behind it begin; or why they may not stand there.
 pub fn modifiers_at(units: &[CodePoint]) -> Found
-    requires other { front_is is_mark (values units.now) ≡ false }
-    ensures { (e : Environment) (paren question : CodePoint) → paren.value ≡ 40 → question.value ≡ 63 → IsFound e (paren ∷ question ∷ units.now) result }
+    ensures { result ≡ found_front (modified_read (modifiers_read_at (values units.now))) }
 {
     let sides = sides_at(units);
-    let length = sides.length;
-    if !stands_at(units, length, ':') {
-        return halt(ModifiersFault::Unknown, length);
+    if !stands_at(units, sides.length, ':') {
+        return halt(ModifiersFault::Unknown, sides.length);
     }
-    let (Some(enabling), Some(disabling)) = (bits_of(sides.enabling), bits_of(sides.disabling))
-    else {
+    modified(
+        bits_of(sides.enabling),
+        bits_of(sides.disabling),
+        sides.length,
+    )
+}
+
+/// The group of modifiers of so many units that a `:` ends, by the bits of both sides.
+fn modified(enabling: Option<Modifier>, disabling: Option<Modifier>, length: usize) -> Found
+    requires { length + 3 < 2 ^ 64 }
+    ensures { result ≡ found_front (modified_read (read_bits (option_map (λ it. it.0) enabling) (option_map (λ it. it.0) disabling) length)) }
+{
+    let (Some(enabling), Some(disabling)) = (enabling, disabling) else {
         return halt(ModifiersFault::Duplicated, length);
     };
     if enabling.is_empty() && disabling.is_empty() {

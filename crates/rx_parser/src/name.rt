@@ -1,9 +1,12 @@
-ghost use Rattle.std.specs.Prelude.{◌≡◌, ℕ, ◌+◌, ◌^◌, ◌<◌, ◌≤◌, List, length};
+ghost use Rattle.std.specs.Prelude.{◌≡◌, true, ℕ, ◌+◌, ◌^◌, ◌<◌, ◌≤◌, List, length};
 ghost use Rattle.rx_units.specs.Units.{values};
+ghost use Rattle.rx_model.specs.Characters.Decoding.{decoded};
 ghost use Rattle.rx_model.specs.FirstPass.Marks.{starts};
+ghost use Rattle.rx_model.specs.Groups.NameFronts.{escape_halt, name_read_at, read_behind_name};
 ghost use Rattle.rx_parser.specs.HaltPlaces.{halt_end};
-ghost use Rattle.rx_parser.specs.Names.{EscapeBehind, IsHaltInName, IsNameFound};
+ghost use Rattle.rx_parser.specs.Names.{found_name, found_name_halt, name_end};
 
+use crate::ahead::tail;
 use crate::found::Halt;
 use rx_scan::{UnicodeEscape, decode, group_name_length};
 use rx_units::CodePoint;
@@ -19,22 +22,32 @@ pub enum NameFound {
 
 /// The name behind `(?<` or `\k<` (GroupName of ECMA-262, 22.2.1), or why there is none.
 pub fn name_at(units: &[CodePoint], unicode_mode: bool) -> NameFound
-    ensures { IsNameFound unicode_mode units.now result }
+    ensures read { result ≡ found_name (name_read_at unicode_mode (values units.now)) }
+    ensures within { name_end result ≤ length units.now + 3 }
 {
     let length = group_name_length(units, unicode_mode);
-    match &units[length..] {
-        [end, ..] if length > 0 && end.value == '>' as u32 => NameFound::Name { length },
+    behind_name(length, tail(units, length), unicode_mode)
+}
+
+/// What stands behind so many units of a name.
+fn behind_name(count: usize, units: &[CodePoint], unicode_mode: bool) -> NameFound
+    requires { count + 6 + length units.now < 2 ^ 64 }
+    ensures read { (name : List ℕ) → result ≡ found_name (read_behind_name unicode_mode name count (values units.now)) }
+    ensures within { name_end result ≤ count + length units.now + 3 }
+{
+    match units {
+        [end, ..] if count > 0 && end.value == '>' as u32 => NameFound::Name { length: count },
         [backslash, behind @ ..] if backslash.value == '\\' as u32 => {
-            NameFound::Halt(escape_in_name(length, behind, unicode_mode))
+            NameFound::Halt(escape_in_name(count, behind, unicode_mode))
         }
-        _ => NameFound::Halt(Halt::UnterminatedName { length }),
+        _ => NameFound::Halt(Halt::UnterminatedName { length: count }),
     }
 }
 
 /// Why what stands behind so many units of a name and a backslash is none of the name's characters.
 fn escape_in_name(count: usize, behind: &[CodePoint], unicode_mode: bool) -> Halt
     requires { count + 6 + length behind.now < 2 ^ 64 }
-    ensures halts { (w : List ℕ) → EscapeBehind unicode_mode w count (values behind.now) → IsHaltInName unicode_mode w result }
+    ensures read { result ≡ found_name_halt (escape_halt unicode_mode count (values behind.now) (decoded true (values behind.now))) }
     ensures within { halt_end result ≤ count + 4 + length behind.now }
 {
     match decode(behind, true) {

@@ -1,14 +1,7 @@
-ghost use Rattle.std.specs.Prelude.{◌≡◌, ℕ, ◌+◌, ◌<◌, ◌^◌, ◌⊎◌, ◌≢◌, true, false, All, IfErr, IfOk, IsTrue, OnOk, length};
-ghost use Rattle.rx_base.specs.declared.diagnostic.Diagnostic.{Diagnostic as Refusal};
-ghost use Rattle.rx_ast.specs.declared.term.Pattern.{Pattern};
-ghost use Rattle.rx_model.specs.FirstPass.Cuts.{TellsGroups};
-ghost use Rattle.rx_model.specs.Refusals.Firsts.{IsFirst};
-ghost use Rattle.rx_model.specs.Inputs.Modes.{mode_by};
-ghost use Rattle.rx_model.specs.Reading.Reading.{IsOnly, IsSpanned, Reads};
-ghost use Rattle.rx_model.specs.declared.mode.Mode.TheVariants.{Unicode};
+ghost use Rattle.std.specs.Prelude.{◌≡◌, ◌+◌, ◌<◌, ◌^◌, true, false, All, IfErr, IfOk, OnOk};
+ghost use Rattle.rx_model.specs.Inputs.Modes.{is_read};
 ghost use Rattle.rx_class.specs.Fitting.{AreFitting};
-ghost use Rattle.rx_parser.specs.NotYet.{is_read};
-ghost use Rattle.rx_parser.specs.Parsing.{HoldsPass, IsRefused, mode_of_state};
+ghost use Rattle.rx_parser.specs.Parsing.{AnswersUnits, HoldsPass, IsRefused, IsWhole, mode_of_state};
 
 use crate::builder::Builder;
 use crate::fault::{ended, here};
@@ -58,20 +51,7 @@ impl<'a> PatternParser<'a> {
         requires first { self.reader.first + self.spans < 2 ^ 32 }
         requires fits { All (λ unit. unit.span.end + self.spans < 2 ^ 32) self.reader.units }
 
-        // The tree is spelled by the units and the only one but for spans, and each of its nodes has the span of what it spells.
-        ensures reads { IfOk result (λ it. Reads (mode_of_state self.entry.state) it self.entry.reader.units) }
-        ensures only { IfOk result (λ it. IsOnly (mode_of_state self.entry.state) it self.entry.reader.units) }
-        ensures spanned { IfOk result (λ it. IsSpanned (mode_of_state self.entry.state) it self.entry.reader.units self.entry.reader.first self.entry.spans) }
-
-        // The groups and the names that the first pass of the units finds are the tree's.
-        ensures groups { IfOk result (λ it. TellsGroups (mode_of_state self.entry.state) it self.entry.reader.units) }
-
-        // A refusal is the first of the text. On what some tree reads the answer is Ok, or memory is wanting, or its mode is not read yet.
-        ensures refused { (cause : Refusal) → result ≡ Err (Fault.Diagnostic cause)
-            → IsFirst (mode_of_state self.entry.state) self.entry.reader.units self.entry.reader.first self.entry.spans cause }
-        ensures complete { (p : Pattern) → Reads (mode_of_state self.entry.state) p self.entry.reader.units
-            → IfErr result (λ fault. (fault ≡ Fault.OutOfMemory) ⊎ (fault ≡ Fault.NotYet)) }
-        ensures not_yet { result ≡ Err Fault.NotYet → is_read (mode_of_state self.entry.state) ≡ false }
+        ensures answers { AnswersUnits (mode_of_state self.entry.state) self.entry.reader.units self.entry.reader.first self.entry.spans result }
         ensures later { is_read (mode_of_state self.entry.state) ≡ false → result ≡ Err Fault.NotYet }
     {
         let PatternParser {
@@ -81,7 +61,7 @@ impl<'a> PatternParser<'a> {
             spans,
         } = self;
         let mode = Mode::of(state.unicode_mode, state.unicode_sets_mode);
-        if mode != Mode::Unicode {
+        if !is_read(mode) {
             return Err(Fault::NotYet);
         }
         first_pass(&mut state, &mut reader, &spans)?;
@@ -89,14 +69,25 @@ impl<'a> PatternParser<'a> {
     }
 }
 
+/// Whether patterns of this mode are read. Of other modes the answer is "not yet".
+fn is_read(mode: Mode) -> bool
+    ensures { result ≡ is_read mode }
+{
+    match mode {
+        Mode::Unicode => true,
+        Mode::Legacy | Mode::Sets => false,
+    }
+}
+
 /// Counts the groups of the text and lists their names, or tells why the text is refused for them.
 fn first_pass(state: &mut State, reader: &mut Reader<'_>, spans: &SpanFactory) -> Result<(), Fault>
-    requires mode { mode_of_state state.old ≡ Unicode }
+    requires read { is_read (mode_of_state state.old) ≡ true }
+    requires modes { state.old.unicode_sets_mode ≡ true → state.old.unicode_mode ≡ true }
     requires start { reader.old.place ≡ 0 }
     requires fits { AreFitting spans.now reader.old }
     ensures reader { reader.new ≡ reader.old }
-    ensures pass { OnOk result (HoldsPass Unicode reader.old.units state.new) }
-    ensures refused { IfErr result (λ fault. IsRefused Unicode reader.old.units reader.old.first spans.now fault) }
+    ensures pass { OnOk result (HoldsPass (mode_of_state state.old) reader.old.units state.new) }
+    ensures refused { IfErr result (IsRefused (mode_of_state state.old) reader.old.units reader.old.first spans.now) }
 {
     match state.initialize_with_parsing(reader) {
         Ok(()) if state.num_of_capturing_groups < u32::MAX => Ok(()),
@@ -122,13 +113,12 @@ fn read_pattern(
     spans: &SpanFactory,
     mode: Mode,
 ) -> Result<Pattern, Fault>
-    requires mode { mode ≡ Unicode }
+    requires read { is_read mode ≡ true }
     requires start { reader.old.place ≡ 0 }
     requires fits { AreFitting spans.now reader.old }
-    requires pass { HoldsPass Unicode reader.old.units state.now }
-    ensures reads { IfOk result (λ it. Reads Unicode it reader.old.units) }
-    ensures spanned { IfOk result (λ it. IsSpanned Unicode it reader.old.units reader.old.first spans.now) }
-    ensures refused { IfErr result (λ fault. IsRefused Unicode reader.old.units reader.old.first spans.now fault) }
+    requires pass { HoldsPass mode reader.old.units state.now }
+    ensures whole { IfOk result (IsWhole mode reader.old.units reader.old.first spans.now) }
+    ensures refused { IfErr result (IsRefused mode reader.old.units reader.old.first spans.now) }
 {
     let mut builder = Builder::new(alloc, mode, here(reader, spans));
     while !reader.remaining_code_points().is_empty() {

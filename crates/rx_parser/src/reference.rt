@@ -1,10 +1,10 @@
-ghost use Rattle.std.specs.Prelude.{◌≡◌, ℕ, ◌+◌, ◌-◌, ◌^◌, ◌<◌, ◌≤◌, ◌∷◌, true, drop, length, min};
-ghost use Rattle.rx_units.specs.declared.code_point.CodePoint.{CodePoint};
+ghost use Rattle.std.specs.Prelude.{◌≡◌, ℕ, ◌-◌, ◌^◌, ◌<◌, ◌≤◌, drop, length, min};
 ghost use Rattle.rx_units.specs.Units.{values};
-ghost use Rattle.rx_model.specs.Inputs.Environment.{Environment, is_unicode};
-ghost use Rattle.rx_model.specs.Characters.Escapes.{front_is};
+ghost use Rattle.rx_model.specs.Groups.NameFronts.{name_read_at};
+ghost use Rattle.rx_model.specs.Reading.FrontReading.{indexed_read, reference_read, with_name};
 ghost use Rattle.rx_model.specs.Reading.Fronts.{digits, digits_behind};
-ghost use Rattle.rx_parser.specs.Found.{IsFound, is_first_digit};
+ghost use Rattle.rx_model.specs.Trees.Token.{named};
+ghost use Rattle.rx_parser.specs.Found.{found_front};
 
 use crate::found::{Found, Halt, Leaf};
 use crate::name::{NameFound, name_at};
@@ -13,9 +13,8 @@ use rx_units::CodePoint;
 
 /// The reference behind a backslash, whose number begins with a digit that is not 0 (DecimalEscape of ECMA-262, 22.2.1), in a pattern with so many groups.
 pub fn indexed_at(behind: &[CodePoint], groups: u32) -> Found
-    requires digit { front_is is_first_digit (values behind.now) ≡ true }
     requires few { groups < 2 ^ 32 - 1 }
-    ensures { (e : Environment) (backslash : CodePoint) → is_unicode e.mode ≡ true → e.groups ≡ groups → backslash.value ≡ 92 → IsFound e (backslash ∷ behind.now) result }
+    ensures { result ≡ found_front (indexed_read groups (digits_behind 0 0 (values behind.now))) }
 {
     let (index, count) = index_at(behind);
     let length = count + 1;
@@ -28,7 +27,7 @@ pub fn indexed_at(behind: &[CodePoint], groups: u32) -> Found
     }
 }
 
-/// The number of the digits that the units begin with, which stands still at 4294967295, and how many digits they are.
+/// The number of the digits that the units begin with, which stays at its greatest value, 4294967295, and how many digits they are.
 fn index_at(units: &[CodePoint]) -> (u32, usize)
     ensures index { (n : ℕ) × (result.0 ≡ min n (2 ^ 32 - 1)) × (digits_behind 0 0 (values units.now) ≡ digits n result.1 (values (drop result.1 units.now))) }
     ensures within { result.1 ≤ length units.now }
@@ -46,14 +45,20 @@ fn index_at(units: &[CodePoint]) -> (u32, usize)
 
 /// The reference by name behind `\k` (AtomEscape of ECMA-262, 22.2.1).
 pub fn named_at(behind: &[CodePoint], unicode_mode: bool) -> Found
-    ensures { (e : Environment) (backslash k : CodePoint) → is_unicode e.mode ≡ unicode_mode → e.named ≡ true → backslash.value ≡ 92 → k.value ≡ 107
-        → IsFound e (backslash ∷ k ∷ behind.now) result }
+    ensures { result ≡ found_front (reference_read unicode_mode (values behind.now)) }
 {
     match behind {
-        [angle, name @ ..] if angle.value == '<' as u32 => match name_at(name, unicode_mode) {
-            NameFound::Name { length } => Found::NamedReference { length: length + 4 },
-            NameFound::Halt(halt) => Found::Halt(halt),
-        },
+        [angle, name @ ..] if angle.value == '<' as u32 => named(name, unicode_mode),
         _ => Found::Halt(Halt::NoGroupName),
+    }
+}
+
+/// The reference by name behind `\k<`.
+fn named(units: &[CodePoint], unicode_mode: bool) -> Found
+    ensures { result ≡ found_front (with_name named (name_read_at unicode_mode (values units.now))) }
+{
+    match name_at(units, unicode_mode) {
+        NameFound::Name { length } => Found::NamedReference { length: length + 4 },
+        NameFound::Halt(halt) => Found::Halt(halt),
     }
 }

@@ -1,22 +1,24 @@
-ghost use Rattle.std.specs.Prelude.{◌≡◌, ℕ, true, IfOk, List};
+ghost use Rattle.std.specs.Prelude.{◌≡◌, ℕ, IfOk, List};
 ghost use Rattle.rx_ast.specs.ClassTree.{mirror_class};
 ghost use Rattle.rx_ast.specs.Tree as tree;
 ghost use Rattle.rx_ast.specs.Tree.{leaf, mirror_term};
-ghost use Rattle.rx_units.specs.Reading.{rest};
+ghost use Rattle.rx_units.specs.Cursor.{rest};
+ghost use Rattle.rx_model.specs.Refusals.Reached.{text_environment};
 ghost use Rattle.rx_model.specs.Trees.Token.{named, property};
 ghost use Rattle.rx_class.specs.Fitting.{AreFitting};
-ghost use Rattle.rx_parser.specs.Found.{HoldsName, HoldsOpener, leaf_token};
-ghost use Rattle.rx_parser.specs.Openings.{IsOpeningOf};
+ghost use Rattle.rx_parser.specs.Found.{HoldsName, IsFound, leaf_token};
+ghost use Rattle.rx_parser.specs.GroupKinds.{IsGroupKindOf};
 ghost use Rattle.rx_parser.specs.Progress.{IsLeafOf};
 
 use crate::fault::span_ahead;
-use crate::found::{Leaf, OpenerFound};
-use crate::frame::Opening;
+use crate::found::{Found, Leaf, OpenerFound};
+use crate::frame::GroupKind;
 use rx_ast::{
     BoundaryAssertion, Character, CharacterClass, CharacterClassEscape, Dot, IndexedReference,
     Modifiers, NamedReference, Term, UnicodePropertyEscape,
 };
 use rx_base::{OutOfMemory, Span, Text};
+use rx_model::Mode;
 use rx_scan::{SpanFactory, capturing_group_name};
 use rx_units::{CodePoint, Reader};
 use std::alloc::Global;
@@ -69,47 +71,54 @@ pub fn class_term(alloc: Global, class: CharacterClass) -> Result<Term, OutOfMem
 }
 
 /// The name in what so many units are, a group's beginning or a reference: it stands between the third unit and the `>` at their end.
-pub fn name_in(alloc: Global, units: &[CodePoint], length: usize) -> Result<Text, OutOfMemory>
-    requires { (name : List ℕ) × HoldsName true units.now name length }
-    ensures { IfOk result (λ it. HoldsName true units.now it length) }
+pub fn name_in(
+    alloc: Global,
+    units: &[CodePoint],
+    length: usize,
+    unicode_mode: bool,
+) -> Result<Text, OutOfMemory>
+    requires { (name : List ℕ) × HoldsName unicode_mode units.now name length }
+    ensures { IfOk result (λ it. HoldsName unicode_mode units.now it length) }
 {
-    match capturing_group_name(alloc, &units[3..length - 1], true)? {
+    match capturing_group_name(alloc, &units[3..length - 1], unicode_mode)? {
         Some(name) => Ok(name),
         None => unreachable!(),
     }
 }
 
 /// What a group or look-around of so many units, which stands next, begins with. The reader stays where it stands.
-pub fn opening(
+pub fn group_kind(
     alloc: Global,
     reader: &mut Reader<'_>,
     spans: &SpanFactory,
+    mode: Mode,
     opener: OpenerFound,
     length: usize,
-) -> Result<Opening, OutOfMemory>
+) -> Result<GroupKind, OutOfMemory>
     requires fits { AreFitting spans.now reader.old }
-    requires found { HoldsOpener (rest reader.old) length opener }
-    ensures opening { IfOk result (IsOpeningOf reader.old spans.now length opener) }
+    requires found { IsFound (text_environment mode reader.old.units) (rest reader.old) (Found.Open opener length) }
+    ensures group_kind { IfOk result (IsGroupKindOf mode reader.old spans.now length opener) }
     ensures reader { reader.new ≡ reader.old }
 {
     match opener {
-        OpenerFound::Capturing => Ok(Opening::Capturing(None)),
+        OpenerFound::Capturing => Ok(GroupKind::Capturing(None)),
         OpenerFound::Named => {
-            let name = name_in(alloc, reader.remaining_code_points(), length)?;
-            Ok(Opening::Capturing(Some(name)))
+            let units = reader.remaining_code_points();
+            let name = name_in(alloc, units, length, mode.is_unicode())?;
+            Ok(GroupKind::Capturing(Some(name)))
         }
-        OpenerFound::Ignoring => Ok(Opening::Ignoring(None)),
+        OpenerFound::Ignoring => Ok(GroupKind::Ignoring(None)),
         OpenerFound::Modified {
             enabling,
             disabling,
         } => {
             let span = span_ahead(reader, spans, 2, length - 1);
-            Ok(Opening::Ignoring(Some(Modifiers {
+            Ok(GroupKind::Ignoring(Some(Modifiers {
                 span,
                 enabling,
                 disabling,
             })))
         }
-        OpenerFound::LookAround(kind) => Ok(Opening::LookAround(kind)),
+        OpenerFound::LookAround(kind) => Ok(GroupKind::LookAround(kind)),
     }
 }

@@ -1,16 +1,18 @@
-ghost use Rattle.std.specs.Prelude.{◌≡◌, IfErr, IfOk, OnOk};
-ghost use Rattle.rx_units.specs.Reading.{rest};
-ghost use Rattle.rx_model.specs.declared.mode.Mode.TheVariants.{Unicode};
+ghost use Rattle.std.specs.Prelude.{◌≡◌, true, IfErr, IfOk, OnOk};
+ghost use Rattle.rx_units.specs.Cursor.{rest};
+ghost use Rattle.rx_model.specs.Inputs.Modes.{is_read};
 ghost use Rattle.rx_model.specs.Refusals.Reached.{text_environment};
+ghost use Rattle.rx_parser.specs.Faults.{IsSmall};
 ghost use Rattle.rx_parser.specs.Found.{IsFound};
+ghost use Rattle.rx_parser.specs.declared.found.Halt.{Halt};
 ghost use Rattle.rx_parser.specs.Parsing.{HoldsPass, IsRefused};
 ghost use Rattle.rx_parser.specs.Turns.{IsBefore, IsTurned};
 
 use crate::builder::Builder;
 use crate::fault::{fault, here};
-use crate::found::{Found, Leaf, OpenerFound};
+use crate::found::{Found, Halt, Leaf, OpenerFound};
 use crate::front::front_at;
-use crate::term::{class_term, name_in, named_term, opening, property_term, term};
+use crate::term::{class_term, group_kind, name_in, named_term, property_term, term};
 use rx_base::{Diagnostic, Fault, List, OutOfMemory, Span, Text};
 use rx_class::{parse_character_class, parse_character_class_escape_unicode};
 use rx_scan::{SpanFactory, State};
@@ -18,6 +20,7 @@ use rx_units::Reader;
 use std::alloc::Global;
 
 /// Reads one token, and gives it to the builder.
+#[tactic(auto, using(rx_class::proofs::Fitting::moved_are_fitting))]
 pub fn turn(
     alloc: Global,
     reader: &mut Reader<'_>,
@@ -26,13 +29,12 @@ pub fn turn(
     builder: &mut Builder,
 ) -> Result<(), Fault>
     requires before { IsBefore spans.now builder.old reader.old }
-    requires pass { HoldsPass Unicode reader.old.units state.now }
+    requires pass { HoldsPass builder.old.mode reader.old.units state.now }
     ensures turned { OnOk result (IsTurned spans.now builder.old builder.new reader.old reader.new) }
-    ensures refused { IfErr result (λ fault. IsRefused Unicode reader.old.units reader.old.first spans.now fault) }
+    ensures refused { IfErr result (IsRefused builder.old.mode reader.old.units reader.old.first spans.now) }
 {
     let at = here(reader, spans);
-    let groups = state.num_of_capturing_groups;
-    match front_at(reader.remaining_code_points(), builder.mode, groups) {
+    match found_here(reader, state, builder) {
         Found::Leaf { leaf, length } => Ok(take_leaf(alloc, reader, spans, builder, leaf, length)?),
         Found::NamedReference { length } => {
             named_reference(alloc, reader, state, spans, builder, length)
@@ -63,11 +65,26 @@ pub fn turn(
             }
             Ok(())
         }
-        Found::Halt(halt) => Err(fault(reader, spans, builder, groups, halt)),
+        Found::Halt(halt) => {
+            let groups = state.num_of_capturing_groups;
+            Err(fault(reader, spans, builder, groups, halt))
+        }
     }
 }
 
+/// What stands where the reader does, in the mode of the builder.
+fn found_here(reader: &Reader<'_>, state: &State, builder: &Builder) -> Found
+    requires read { is_read builder.now.mode ≡ true }
+    requires pass { HoldsPass builder.now.mode reader.now.units state.now }
+    ensures found { IsFound (text_environment builder.now.mode reader.now.units) (rest reader.now) result }
+    ensures small { (halt : Halt) → result ≡ Found.Halt halt → IsSmall halt }
+{
+    let groups = state.num_of_capturing_groups;
+    front_at(reader.remaining_code_points(), builder.mode, groups)
+}
+
 /// Reads a term that is one token of so many units, and gives it to the builder.
+#[tactic(auto, using(rx_class::proofs::Fitting::moved_are_fitting))]
 fn take_leaf(
     alloc: Global,
     reader: &mut Reader<'_>,
@@ -77,16 +94,18 @@ fn take_leaf(
     length: usize,
 ) -> Result<(), OutOfMemory>
     requires before { IsBefore spans.now builder.old reader.old }
-    requires found { IsFound (text_environment Unicode reader.old.units) (rest reader.old) (Found.Leaf leaf length) }
+    requires found { IsFound (text_environment builder.old.mode reader.old.units) (rest reader.old) (Found.Leaf leaf length) }
     ensures { OnOk result (IsTurned spans.now builder.old builder.new reader.old reader.new) }
 {
     let at = here(reader, spans);
     reader.skip(length);
     let span = Span::new(at, here(reader, spans));
-    builder.leaf(term(alloc, leaf, span)?)
+    builder.leaf(term(alloc, leaf, span)?)?;
+    Ok(())
 }
 
 /// Reads a reference by name of so many units, and gives it to the builder.
+#[tactic(auto, using(rx_class::proofs::Fitting::moved_are_fitting))]
 fn named_reference(
     alloc: Global,
     reader: &mut Reader<'_>,
@@ -96,13 +115,14 @@ fn named_reference(
     size: usize,
 ) -> Result<(), Fault>
     requires before { IsBefore spans.now builder.old reader.old }
-    requires pass { HoldsPass Unicode reader.old.units state.now }
-    requires found { IsFound (text_environment Unicode reader.old.units) (rest reader.old) (Found.NamedReference size) }
+    requires pass { HoldsPass builder.old.mode reader.old.units state.now }
+    requires found { IsFound (text_environment builder.old.mode reader.old.units) (rest reader.old) (Found.NamedReference size) }
     ensures turned { OnOk result (IsTurned spans.now builder.old builder.new reader.old reader.new) }
-    ensures refused { IfErr result (λ fault. IsRefused Unicode reader.old.units reader.old.first spans.now fault) }
+    ensures refused { IfErr result (IsRefused builder.old.mode reader.old.units reader.old.first spans.now) }
 {
     let at = here(reader, spans);
-    let name = name_in(alloc, reader.remaining_code_points(), size)?;
+    let unicode_mode = builder.mode.is_unicode();
+    let name = name_in(alloc, reader.remaining_code_points(), size, unicode_mode)?;
     reader.skip(size);
     let span = Span::new(at, here(reader, spans));
     if !state.capturing_group_names.contains(name.as_str()) {
@@ -132,10 +152,10 @@ fn property(
     builder: &mut Builder,
 ) -> Result<(), Fault>
     requires before { IsBefore spans.now builder.old reader.old }
-    requires pass { HoldsPass Unicode reader.old.units state.now }
-    requires found { IsFound (text_environment Unicode reader.old.units) (rest reader.old) Found.Property }
+    requires pass { HoldsPass builder.old.mode reader.old.units state.now }
+    requires found { IsFound (text_environment builder.old.mode reader.old.units) (rest reader.old) Found.Property }
     ensures turned { OnOk result (IsTurned spans.now builder.old builder.new reader.old reader.new) }
-    ensures refused { IfErr result (λ fault. IsRefused Unicode reader.old.units reader.old.first spans.now fault) }
+    ensures refused { IfErr result (IsRefused builder.old.mode reader.old.units reader.old.first spans.now) }
 {
     let start = reader.offset();
     reader.advance();
@@ -157,10 +177,10 @@ fn class(
     builder: &mut Builder,
 ) -> Result<(), Fault>
     requires before { IsBefore spans.now builder.old reader.old }
-    requires pass { HoldsPass Unicode reader.old.units state.now }
-    requires found { IsFound (text_environment Unicode reader.old.units) (rest reader.old) Found.Class }
+    requires pass { HoldsPass builder.old.mode reader.old.units state.now }
+    requires found { IsFound (text_environment builder.old.mode reader.old.units) (rest reader.old) Found.Class }
     ensures turned { OnOk result (IsTurned spans.now builder.old builder.new reader.old reader.new) }
-    ensures refused { IfErr result (λ fault. IsRefused Unicode reader.old.units reader.old.first spans.now fault) }
+    ensures refused { IfErr result (IsRefused builder.old.mode reader.old.units reader.old.first spans.now) }
 {
     match parse_character_class(alloc, reader, state, spans)? {
         Some(class) => {
@@ -172,6 +192,7 @@ fn class(
 }
 
 /// Reads what a group or a look-around of so many units begins with, and opens it in the builder.
+#[tactic(auto, using(rx_class::proofs::Fitting::moved_are_fitting))]
 fn open(
     alloc: Global,
     reader: &mut Reader<'_>,
@@ -181,16 +202,18 @@ fn open(
     length: usize,
 ) -> Result<(), OutOfMemory>
     requires before { IsBefore spans.now builder.old reader.old }
-    requires found { IsFound (text_environment Unicode reader.old.units) (rest reader.old) (Found.Open opener length) }
+    requires found { IsFound (text_environment builder.old.mode reader.old.units) (rest reader.old) (Found.Open opener length) }
     ensures { OnOk result (IsTurned spans.now builder.old builder.new reader.old reader.new) }
 {
     let at = here(reader, spans);
-    let opening = opening(alloc, reader, spans, opener, length)?;
+    let group_kind = group_kind(alloc, reader, spans, builder.mode, opener, length)?;
     reader.skip(length);
-    builder.open(alloc, opening, at, here(reader, spans))
+    builder.open(alloc, group_kind, at, here(reader, spans))?;
+    Ok(())
 }
 
 /// Reads a bar, and begins an alternative in the builder.
+#[tactic(auto, using(rx_class::proofs::Fitting::moved_are_fitting))]
 fn bar(
     alloc: Global,
     reader: &mut Reader<'_>,
@@ -198,10 +221,11 @@ fn bar(
     builder: &mut Builder,
 ) -> Result<(), OutOfMemory>
     requires before { IsBefore spans.now builder.old reader.old }
-    requires found { IsFound (text_environment Unicode reader.old.units) (rest reader.old) Found.Bar }
+    requires found { IsFound (text_environment builder.old.mode reader.old.units) (rest reader.old) Found.Bar }
     ensures { OnOk result (IsTurned spans.now builder.old builder.new reader.old reader.new) }
 {
     let at = here(reader, spans);
     reader.advance();
-    builder.bar(alloc, at, here(reader, spans))
+    builder.bar(alloc, at, here(reader, spans))?;
+    Ok(())
 }

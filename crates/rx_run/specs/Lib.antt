@@ -5,4 +5,4 @@ pub mod Reply
 pub mod Serving
 pub mod Outcome
 pub mod Status
-pub mod Stop
+pub mod Served

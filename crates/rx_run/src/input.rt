@@ -1,6 +1,6 @@
 ghost use Rattle.std.specs.Prelude.{◌≡◌, ◌≤◌, ◌<◌, ◌+◌, ℕ, List as Sequence, take, vec_len, IfOk, OnErr, IsErrOf};
 ghost use Rattle.std.specs.Io.KnownBytes.{IsAtEnd};
-ghost use Rattle.rx_base.specs.Causes.{Rose};
+ghost use Rattle.rx_base.specs.FaultCounts.{Rose};
 ghost use Rattle.rx_run.specs.Outcome.{Reads};
 
 use rx_base::{Failed, OutOfMemory, Source};

@@ -1,9 +1,9 @@
 ghost use Rattle.std.specs.Prelude.{◌≡◌, ◌≢◌, ◌<◌, ◌+◌, ◌↔◌, [], OnOk, IsErrOf};
 ghost use Rattle.std.specs.Io.KnownBytes.{IsAtEnd};
-ghost use Rattle.rx_base.specs.Causes.{Rose};
+ghost use Rattle.rx_base.specs.FaultCounts.{Rose};
 ghost use Rattle.rx_run.specs.Outcome.{ReadsAndWrites};
 ghost use Rattle.rx_run.specs.Status.{Outcome, IsFinished, number_of};
-ghost use Rattle.rx_run.specs.Stop.{IsServed};
+ghost use Rattle.rx_run.specs.Served.{IsServed};
 
 use crate::input::{Input, InputFault};
 use crate::server::{ReplyFault, Server};
@@ -15,43 +15,43 @@ const CHUNK: usize = 65536;
 
 /// Why the input was not answered to its end.
 #[derive(Clone, Copy, Debug, PartialEq, Eq)]
-pub enum Stop {
+pub enum Interruption {
     /// There was not enough memory for the buffer.
     OutOfMemory,
     Input(InputFault),
     Reply(ReplyFault),
 }
 
-impl From<OutOfMemory> for Stop {
+impl From<OutOfMemory> for Interruption {
     ghost use Rattle.std.specs.Prelude.{◌≡◌};
-    ghost use Rattle.rx_run.specs.declared.run.Stop.TheVariants as stop;
+    ghost use Rattle.rx_run.specs.declared.run.Interruption.TheVariants as interruption;
 
-    ghost from_gives = { λ _ e. e ≡ stop.OutOfMemory };
+    ghost from_gives = { λ _ e. e ≡ interruption.OutOfMemory };
 
-    fn from(_: OutOfMemory) -> Stop {
-        Stop::OutOfMemory
+    fn from(_: OutOfMemory) -> Interruption {
+        Interruption::OutOfMemory
     }
 }
 
-impl From<InputFault> for Stop {
+impl From<InputFault> for Interruption {
     ghost use Rattle.std.specs.Prelude.{◌≡◌};
-    ghost use Rattle.rx_run.specs.declared.run.Stop.TheVariants as stop;
+    ghost use Rattle.rx_run.specs.declared.run.Interruption.TheVariants as interruption;
 
-    ghost from_gives = { λ fault e. e ≡ stop.Input fault };
+    ghost from_gives = { λ fault e. e ≡ interruption.Input fault };
 
-    fn from(fault: InputFault) -> Stop {
-        Stop::Input(fault)
+    fn from(fault: InputFault) -> Interruption {
+        Interruption::Input(fault)
     }
 }
 
-impl From<ReplyFault> for Stop {
+impl From<ReplyFault> for Interruption {
     ghost use Rattle.std.specs.Prelude.{◌≡◌};
-    ghost use Rattle.rx_run.specs.declared.run.Stop.TheVariants as stop;
+    ghost use Rattle.rx_run.specs.declared.run.Interruption.TheVariants as interruption;
 
-    ghost from_gives = { λ fault e. e ≡ stop.Reply fault };
+    ghost from_gives = { λ fault e. e ≡ interruption.Reply fault };
 
-    fn from(fault: ReplyFault) -> Stop {
-        Stop::Reply(fault)
+    fn from(fault: ReplyFault) -> Interruption {
+        Interruption::Reply(fault)
     }
 }
 
@@ -109,15 +109,19 @@ impl From<OutOfMemory> for Status {
 }
 
 /// Reads the input to its end, answers each line, and says whether each reply begins with `ok`.
-fn serve<S: Source, K: Sink>(alloc: Global, source: &mut S, sink: &mut K) -> Result<bool, Stop>
+fn serve<S: Source, K: Sink>(
+    alloc: Global,
+    source: &mut S,
+    sink: &mut K,
+) -> Result<bool, Interruption>
     ensures content { ReadsAndWrites (S.left source.old) (S.left source.new) (S.drawn source.old) (S.drawn source.new)
         (K.taken sink.old) (K.taken sink.new) (IsServed result) }
     ensures end { OnOk result (IsAtEnd (S.left source.new)) }
 
     ensures fixed { K.fixed sink.new ≡ K.fixed sink.old }
-    ensures read_fault { IsErrOf result (Stop.Input InputFault.Read) → Rose (S.faults source.old) (S.faults source.new) }
-    ensures write_fault { IsErrOf result (Stop.Reply ReplyFault.Write) → Rose (K.faults sink.old) (K.faults sink.new) }
-    ensures too_much { IsErrOf result (Stop.Input InputFault.TooMuch) ↔ (S.drawn source.old + 67108864 < S.drawn source.new) }
+    ensures read_fault { IsErrOf result (Interruption.Input InputFault.Read) → Rose (S.faults source.old) (S.faults source.new) }
+    ensures write_fault { IsErrOf result (Interruption.Reply ReplyFault.Write) → Rose (K.faults sink.old) (K.faults sink.new) }
+    ensures too_much { IsErrOf result (Interruption.Input InputFault.TooMuch) ↔ (S.drawn source.old + 67108864 < S.drawn source.new) }
 {
     let mut input = Input::new(alloc, CHUNK)?;
     let mut server = Server::new(alloc);
@@ -158,10 +162,10 @@ pub fn run<S: Source, K: Sink>(
     match serve(alloc, source, sink) {
         Ok(true) => Status::AllOk,
         Ok(false) => Status::SomeRefused,
-        Err(Stop::OutOfMemory) => Status::OutOfMemory,
-        Err(Stop::Input(InputFault::Read)) => Status::ReadFault,
-        Err(Stop::Input(InputFault::TooMuch)) => Status::TooMuch,
-        Err(Stop::Reply(ReplyFault::Write)) => Status::WriteFault,
-        Err(Stop::Reply(ReplyFault::OutOfMemory)) => Status::OutOfMemory,
+        Err(Interruption::OutOfMemory) => Status::OutOfMemory,
+        Err(Interruption::Input(InputFault::Read)) => Status::ReadFault,
+        Err(Interruption::Input(InputFault::TooMuch)) => Status::TooMuch,
+        Err(Interruption::Reply(ReplyFault::Write)) => Status::WriteFault,
+        Err(Interruption::Reply(ReplyFault::OutOfMemory)) => Status::OutOfMemory,
     }
 }

@@ -1,10 +1,10 @@
 ghost use Rattle.std.specs.Prelude.{◌≡◌, ◌≤◌, ◌∷◌, ◌++◌, ℕ, List as Sequence, [], IsTrue, ◌&&◌, true, OnOk, IfOk, IfErr, IsErrOf};
 ghost use Rattle.std.specs.Io.KnownBytes.{Appends};
-ghost use Rattle.rx_base.specs.Causes.{Rose};
+ghost use Rattle.rx_base.specs.FaultCounts.{Rose};
 ghost use Rattle.rx_run.specs.Lines.{lacks};
 ghost use Rattle.rx_run.specs.Reply.{IsReply, begins_ok};
 ghost use Rattle.rx_run.specs.Serving.{Serves, Halts, Ends};
-ghost use Rattle.rx_run.specs.Stop.{least_missing};
+ghost use Rattle.rx_run.specs.Served.{least_missing};
 
 use crate::line::Line;
 use crate::pieces::split_at_byte;

@@ -2,7 +2,7 @@
 ghost use Rattle.std.specs.Prelude.{◌≡◌, ◌<◌, ◌≤◌, ◌+◌, ◌^◌, ◌↔◌, ◌⊎◌, ℕ, None, Ok, IsNone, IfSome, IsErr, IsOkAnd, IfOk, OnOk, OnErr, MatchResult, length, take};
 ghost use Rattle.std.specs.Io.{ReadsAtMost, WritesAtMost};
 ghost use Rattle.std.specs.Io.KnownBytes.{Keeps, Consumes, IsAtEnd, WriteAppends};
-ghost use Rattle.rx_base.specs.Causes.{HasCause};
+ghost use Rattle.rx_base.specs.FaultCounts.{CountsFaults};
 ghost use Rattle.rx_base.specs.Memory.{next_number};
 
 use rx_base::{Failed, Sink, Source};
@@ -50,7 +50,7 @@ impl<R: Read + Drop> Source for StdSource<R> {
     fn read(&mut self, buf: &mut [u8]) -> Result<usize, Failed>
         ensures bound { ReadsAtMost result buf.new }
         ensures count { MatchResult result (λ count. self.new.drawn ≡ self.old.drawn + count) (λ _. self.new.drawn ≡ self.old.drawn) }
-        ensures cause { HasCause self.old.faults self.new.faults result }
+        ensures cause { CountsFaults self.old.faults self.new.faults result }
 
         // Each fault is counted, and nothing else is.
         ensures fault { OnErr result (self.new.faults ≡ next_number self.old.faults) }
@@ -114,7 +114,7 @@ impl<W: Write + Drop> Sink for StdSink<W> {
     fn write(&mut self, piece: &[u8]) -> Result<usize, Failed>
         ensures bound { WritesAtMost result piece.now }
         ensures moves { 0 < length piece.now → IfOk result (λ count. 0 < count) }
-        ensures cause { HasCause self.old.faults self.new.faults result }
+        ensures cause { CountsFaults self.old.faults self.new.faults result }
 
         // Each fault is counted, and nothing else is.
         ensures fault { OnErr result (self.new.faults ≡ next_number self.old.faults) }

@@ -4,7 +4,7 @@ use Rattle.std.specs.BTreeMap.{get_by_text}
 use Rattle.std.specs.Str.{IsUtf8, bytes_eq, chars}
 use Rattle.std.proofs.lemmas.List.{map-append}
 use Rattle.rx_model.specs.FirstPass.Marks.{capturing, mark_name, name_length}
-use Rattle.rx_scan.specs.OpenGroups.{frames_of}
+use Rattle.rx_scan.specs.OpenGroups.{group_states_of}
 use Rattle.rx_scan.specs.FirstPass.{Captures, KnowsLast, Steps, entries, entry_of, first_clash, with_name}
 use Rattle.rx_scan.specs.declared.first_pass.FirstPass.{FirstPass}
 use Rattle.rx_scan.specs.declared.first_pass.Opening.{Opening}
@@ -16,7 +16,7 @@ pub record Added (old mid new : FirstPass) (opening : Opening) (bytes : List ℕ
   pub mode : new.unicode_mode ≡ mid.unicode_mode
   pub counted : new.count ≡ mid.count + 1
   pub named_by : new.names ≡ mid.names
-  pub opened : frames_of new.groups ≡ (opening.mark + 1, opening.mark + 1) ∷ frames_of mid.groups
+  pub opened : group_states_of new.groups ≡ (opening.mark + 1, opening.mark + 1) ∷ group_states_of mid.groups
   pub listed_are : new.openings ≡ mid.openings ++ opening ∷ []
   pub sets : (cs : List ℕ) → get_by_text new.last_openings.marks cs ≡ cond (bytes_eq bytes cs) (Some opening.mark) (get_by_text mid.last_openings.marks cs)
   pub text : IsUtf8 bytes
@@ -25,7 +25,7 @@ pub record Added (old mid new : FirstPass) (opening : Opening) (bytes : List ℕ
 some_is : (x y : List ℕ) → Some x ≡ Some y → x ≡ y
 some_is x y e = cc
 
-pub added : (old mid new : FirstPass) (opening : Opening) (bytes : List ℕ) → Added old mid new opening bytes → KnowsLast (entries old) old.last_openings → first_clash (frames_of old.groups) opening.name (entries old) ≡ None → Captures old new (Some opening.name) opening.start opening.end opening.mark
+pub added : (old mid new : FirstPass) (opening : Opening) (bytes : List ℕ) → Added old mid new opening bytes → KnowsLast (entries old) old.last_openings → first_clash (group_states_of old.groups) opening.name (entries old) ≡ None → Captures old new (Some opening.name) opening.start opening.end opening.mark
 added old mid new opening bytes a knows none =
     let next : opening.mark + 1 ≡ suc opening.mark = omega arith in
     let es : entries new ≡ entries old ++ entry_of opening ∷ [] =
@@ -34,11 +34,11 @@ added old mid new opening bytes a knows none =
       mode = a.mode ∙ ap (λ m. m.unicode_mode) a.renamed;
       counted = a.counted ∙ ap (λ m. m.count + 1) a.renamed;
       named_by = a.named_by ∙ ap (λ m. m.names) a.renamed;
-      opened = a.opened ∙ ap (λ j. (j, j) ∷ frames_of mid.groups) next ∙ ap (λ m. (suc opening.mark, suc opening.mark) ∷ frames_of m.groups) a.renamed;
+      opened = a.opened ∙ ap (λ j. (j, j) ∷ group_states_of mid.groups) next ∙ ap (λ m. (suc opening.mark, suc opening.mark) ∷ group_states_of m.groups) a.renamed;
       listed_are = es;
       knows = subst (λ z. KnowsLast z new.last_openings) (sym es)
           (knows_more (entries old) (entry_of opening) old.last_openings new.last_openings bytes knows (λ cs. a.sets cs ∙ ap (λ m. cond (bytes_eq bytes cs) (Some opening.mark) (get_by_text m.last_openings.marks cs)) a.renamed) a.text a.spells);
-      fresh = λ n e. let same : opening.name ≡ n = some_is opening.name n e in subst (λ z. first_clash (frames_of old.groups) z (entries old) ≡ None) same none;
+      fresh = λ n e. let same : opening.name ≡ n = some_is opening.name n e in subst (λ z. first_clash (group_states_of old.groups) z (entries old) ≡ None) same none;
     }
 
 pub captured_steps : (old new : FirstPass) (units : Option (List ℕ)) (name : Option (List ℕ)) (at k : ℕ) → mark_name old.unicode_mode (capturing units) ≡ name → Captures old new name (at + 3) (at + 3 + name_length (capturing units)) k → Steps old new (capturing units) at k

@@ -4,7 +4,7 @@ use Rattle.std.proofs.lemmas.List.Elements.{All-nil, All-cons, All-same}
 use Rattle.std.specs.List.{All}
 use Rattle.std.specs.Str.{IsUtf8, chars}
 use Rattle.rx_units.specs.declared.code_point.CodePoint.{CodePoint}
-use Rattle.rx_units.specs.Reading.{AreEnds}
+use Rattle.rx_units.specs.Cursor.{AreEnds}
 use Rattle.rx_units.specs.Units.{literal_units}
 use Rattle.rx_units.proofs.Ends.{literal_ends}
 

@@ -6,12 +6,12 @@ use Rattle.std.specs.Str.{IsUtf8, bytes_eq, chars}
 use Rattle.std.proofs.lemmas.Bool.{cases_lt, false≢true, ltb-true, lt-ltb, leb-true, le-leb}
 use Rattle.std.proofs.lemmas.List.Folds.{list_any-append}
 use Rattle.std.proofs.Math.Seq.{drop-length}
-use Rattle.rx_model.specs.FirstPass.Frames.{Frame, Hides, Nests, frames, step}
+use Rattle.rx_model.specs.FirstPass.GroupStates.{GroupState, Hides, Nests, group_states, step}
 use Rattle.rx_model.specs.FirstPass.Marks.{Mark, Clash, IsFirstClash, other, bar, closer, quiet, capturing, count, listed, mark_at, mark_count, mark_front, mark_name, marks, marks_behind, name_length, name_places, names, mark_place, places, places_behind}
 use Rattle.rx_model.specs.Trees.Names.{is_among, once_behind}
 use Rattle.rx_model.proofs.FirstPass.PartedMarks.{hidden_parted, parted_hidden, last_seen, nests}
 use Rattle.rx_scan.specs.MarkReading.{front}
-use Rattle.rx_scan.specs.OpenGroups.{frames_of, hides, hides_one}
+use Rattle.rx_scan.specs.OpenGroups.{group_states_of, hides, hides_one}
 use Rattle.rx_scan.specs.FirstPass.{Entry, IsPassFault, IsStart, KnowsLast, LastTells, Refuses, Steps, entries, entry_at, entry_for, entry_of, first_clash, last_named, last_or, named, same_name, span_of, with_name, with_names}
 use Rattle.rx_scan.specs.Walked.{IsAt}
 use Rattle.rx_scan.specs.declared.first_pass.FirstPass.{FirstPass}
@@ -108,25 +108,25 @@ same_is xs ys e = (same_name_Decides xs ys).0 e
 same_self : (xs : List ℕ) → same_name xs xs ≡ true
 same_self xs = (same_name_Decides xs xs).1 refl
 
-one_true : (a : ℕ) (f : Frame) → hides_one a f ≡ true → (f.0 ≤ a) × (a < f.1)
+one_true : (a : ℕ) (f : GroupState) → hides_one a f ≡ true → (f.0 ≤ a) × (a < f.1)
 one_true a f e = let h = both_true (nat_le f.0 a) (nat_lt a f.1) e in (leb-true f.0 a h.0, ltb-true a f.1 h.1)
 
-one_is : (a : ℕ) (f : Frame) → f.0 ≤ a → a < f.1 → hides_one a f ≡ true
+one_is : (a : ℕ) (f : GroupState) → f.0 ≤ a → a < f.1 → hides_one a f ≡ true
 one_is a f l g = ap (λ b. b && nat_lt a f.1) (le-leb f.0 a l) ∙ lt-ltb a f.1 g
 
-hides_true : (a : ℕ) (fs : List Frame) → hides a fs ≡ true → Hides a fs
+hides_true : (a : ℕ) (fs : List GroupState) → hides a fs ≡ true → Hides a fs
 hides_true a [] e = absurd (false≢true e)
 hides_true a (f ∷ fs) e = elim (either_true (hides_one a f) (hides a fs) e) [ inl h ↦ inl (one_true a f h) | inr h ↦ inr (hides_true a fs h) ]
 
-hides_is : (a : ℕ) (fs : List Frame) → Hides a fs → hides a fs ≡ true
+hides_is : (a : ℕ) (fs : List GroupState) → Hides a fs → hides a fs ≡ true
 hides_is a [] h = absurd h
 hides_is a (f ∷ fs) (inl h) = ap (λ b. b || hides a fs) (one_is a f h.0 h.1)
 hides_is a (f ∷ fs) (inr h) = ap (λ b. hides_one a f || b) (hides_is a fs h) ∙ or_true (hides_one a f)
 
-abbrev test : List Frame → List ℕ → Entry → Bool
+abbrev test : List GroupState → List ℕ → Entry → Bool
 test fs n e = same_name e.name n && not (hides e.index fs)
 
-none_both : (fs : List Frame) (n : List ℕ) (xs ys : List Entry) → first_clash fs n (xs ++ ys) ≡ None → (first_clash fs n xs ≡ None) × (first_clash fs n ys ≡ None)
+none_both : (fs : List GroupState) (n : List ℕ) (xs ys : List Entry) → first_clash fs n (xs ++ ys) ≡ None → (first_clash fs n xs ≡ None) × (first_clash fs n ys ≡ None)
 none_both fs n [] ys h = (refl, h)
 none_both fs n (e ∷ xs) ys h = elim (bool_is (test fs n e)) [
   | inl t ↦ let g : Some e ≡ None = sym (ap (λ b. cond b (Some e) (first_clash fs n (xs ++ ys))) t) ∙ h in cc
@@ -134,7 +134,7 @@ none_both fs n (e ∷ xs) ys h = elim (bool_is (test fs n e)) [
       let i = none_both fs n xs ys g in (ap (λ b. cond b (Some e) (first_clash fs n xs)) f ∙ i.0, i.1)
 ]
 
-some_either : (fs : List Frame) (n : List ℕ) (xs ys : List Entry) (x : Entry) → first_clash fs n (xs ++ ys) ≡ Some x → (first_clash fs n xs ≡ Some x) ⊎ ((first_clash fs n xs ≡ None) × (first_clash fs n ys ≡ Some x))
+some_either : (fs : List GroupState) (n : List ℕ) (xs ys : List Entry) (x : Entry) → first_clash fs n (xs ++ ys) ≡ Some x → (first_clash fs n xs ≡ Some x) ⊎ ((first_clash fs n xs ≡ None) × (first_clash fs n ys ≡ Some x))
 some_either fs n [] ys x h = inr (refl, h)
 some_either fs n (e ∷ xs) ys x h = elim (bool_is (test fs n e)) [
   | inl t ↦ let g : Some e ≡ Some x = sym (ap (λ b. cond b (Some e) (first_clash fs n (xs ++ ys))) t) ∙ h in inl (ap (λ b. cond b (Some e) (first_clash fs n xs)) t ∙ g)
@@ -144,10 +144,10 @@ some_either fs n (e ∷ xs) ys x h = elim (bool_is (test fs n e)) [
 ]
 
 -- each earlier opening of this name is in an alternative that has ended
-abbrev AllHidden : Bool → List ℕ → List Frame → List ℕ → ℕ → Type 0
+abbrev AllHidden : Bool → List ℕ → List GroupState → List ℕ → ℕ → Type 0
 AllHidden um us fs n k = (a : ℕ) → a < k → mark_name um (mark_at (marks us) a) ≡ Some n → hides a fs ≡ true
 
-entry_hidden : (fs : List Frame) (n : List ℕ) (k from to : ℕ) (o : Option (List ℕ)) → o ≡ Some n → first_clash fs n (entry_for k from to o) ≡ None → hides k fs ≡ true
+entry_hidden : (fs : List GroupState) (n : List ℕ) (k from to : ℕ) (o : Option (List ℕ)) → o ≡ Some n → first_clash fs n (entry_for k from to o) ≡ None → hides k fs ≡ true
 entry_hidden fs n k from to o e h = elim (bool_is (hides k fs)) [
   | inl t ↦ t
   | inr f ↦
@@ -166,7 +166,7 @@ start_of us k = mark_place us k + 3
 abbrev end_of : List ℕ → ℕ → ℕ
 end_of us k = mark_place us k + 3 + name_length (mark_at (marks us) k)
 
-none_all : (um : Bool) (us : List ℕ) (fs : List Frame) (n : List ℕ) (k : ℕ) → first_clash fs n (named um us k) ≡ None → AllHidden um us fs n k
+none_all : (um : Bool) (us : List ℕ) (fs : List GroupState) (n : List ℕ) (k : ℕ) → first_clash fs n (named um us k) ≡ None → AllHidden um us fs n k
 none_all um us fs n zero h a lt e = absurd (omega arith)
 none_all um us fs n (suc k) h a lt e =
     let i = none_both fs n (named um us k) (entry_at um (mark_place us k) k (mark_at (marks us) k)) h in
@@ -176,7 +176,7 @@ none_all um us fs n (suc k) h a lt e =
           ap (λ j. hides j fs) s ∙ entry_hidden fs n k (start_of us k) (end_of us k) (name_at um us k) (sym (ap (name_at um us) s) ∙ e) i.1
     ]
 
-record Found (um : Bool) (us : List ℕ) (fs : List Frame) (n : List ℕ) (k : ℕ) (e : Entry) : Type 0 where
+record Found (um : Bool) (us : List ℕ) (fs : List GroupState) (n : List ℕ) (k : ℕ) (e : Entry) : Type 0 where
   before : e.index < k
   is : name_at um us e.index ≡ Some n
   seen_there : hides e.index fs ≡ false
@@ -187,7 +187,7 @@ not_true : (b : Bool) → not b ≡ true → b ≡ false
 not_true true e = absurd (false≢true e)
 not_true false e = refl
 
-found_last : (um : Bool) (us : List ℕ) (fs : List Frame) (n : List ℕ) (k : ℕ) (e : Entry) (o : Option (List ℕ)) → name_at um us k ≡ o → AllHidden um us fs n k → first_clash fs n (entry_for k (start_of us k) (end_of us k) o) ≡ Some e → Found um us fs n (suc k) e
+found_last : (um : Bool) (us : List ℕ) (fs : List GroupState) (n : List ℕ) (k : ℕ) (e : Entry) (o : Option (List ℕ)) → name_at um us k ≡ o → AllHidden um us fs n k → first_clash fs n (entry_for k (start_of us k) (end_of us k) o) ≡ Some e → Found um us fs n (suc k) e
 found_last um us fs n k e None m all h = cc
 found_last um us fs n k e (Some v) m all h =
     let x : Entry = record { index = k; name = v; from = start_of us k; to = end_of us k } in
@@ -201,10 +201,10 @@ found_last um us fs n k e (Some v) m all h =
       | inr f ↦ let g : None ≡ Some e = sym (ap (λ b. cond b (Some x) None) f) ∙ h in cc
     ]
 
-found_more : (um : Bool) (us : List ℕ) (fs : List Frame) (n : List ℕ) (k : ℕ) (e : Entry) → Found um us fs n k e → Found um us fs n (suc k) e
+found_more : (um : Bool) (us : List ℕ) (fs : List GroupState) (n : List ℕ) (k : ℕ) (e : Entry) → Found um us fs n k e → Found um us fs n (suc k) e
 found_more um us fs n k e f = let b = f.before in record { before = omega arith; is = f.is; seen_there = f.seen_there; places_are = f.places_are; first = f.first }
 
-some_found : (um : Bool) (us : List ℕ) (fs : List Frame) (n : List ℕ) (k : ℕ) (e : Entry) → first_clash fs n (named um us k) ≡ Some e → Found um us fs n k e
+some_found : (um : Bool) (us : List ℕ) (fs : List GroupState) (n : List ℕ) (k : ℕ) (e : Entry) → first_clash fs n (named um us k) ≡ Some e → Found um us fs n k e
 some_found um us fs n zero e h = cc
 some_found um us fs n (suc k) e h =
     elim (some_either fs n (named um us k) (entry_at um (mark_place us k) k (mark_at (marks us) k)) e h) [
@@ -250,8 +250,8 @@ count_one quiet = omega arith
 count_one (capturing units) = omega arith
 
 -- what the mark at index k clashes with is in no alternative that has ended
-clash_seen : (um : Bool) (ms : List Mark) (a k : ℕ) → Clash um ms a k → hides a (frames ms k) ≡ true → ⊥
-clash_seen um ms a k c h = c.together (hidden_parted ms a k (hides_true a (frames ms k) h))
+clash_seen : (um : Bool) (ms : List Mark) (a k : ℕ) → Clash um ms a k → hides a (group_states ms k) ≡ true → ⊥
+clash_seen um ms a k c h = c.together (hidden_parted ms a k (hides_true a (group_states ms k) h))
 
 pub start_at : (um : Bool) (us : List ℕ) (s : FirstPass) → IsStart um s → IsAt um us 0 0 s
 start_at um us s w = record {
@@ -288,7 +288,7 @@ advanced um us at k x old new lt le pos e s w =
       fewer = omega arith;
       rest = drop_next ms k m (marks (drop (at + taken) us)) r;
       places = drop_next (places us) k at (places_behind (at + taken) 0 (drop (at + taken) us)) p;
-      opened = s.opened ∙ ap (step k m) w.opened ∙ ap (λ z. step k z (frames ms k)) (sym here) ∙ ap (frames ms) next;
+      opened = s.opened ∙ ap (step k m) w.opened ∙ ap (λ z. step k z (group_states ms k)) (sym here) ∙ ap (group_states ms) next;
       listed_are = s.listed_are ∙ ap (λ z. z ++ entry_at old.unicode_mode at k m) w.listed_are ∙ ap (λ z. named um us k ++ entry_at z at k m) w.mode ∙ ap (λ z. named um us k ++ entry_at um z k m) (sym place_is) ∙ ap (λ z. named um us k ++ entry_at um (mark_place us k) k z) (sym here) ∙ ap (named um us) next;
       knows = s.knows;
       counted = (let c = w.counted in let d : count (marks (drop at us)) ≡ mark_count m + count (marks (drop (at + taken) us)) = ap count t.marks_are in omega arith);
@@ -299,7 +299,7 @@ advanced um us at k x old new lt le pos e s w =
             let q : b ≡ k = omega arith in
             let d : Clash um ms a k = subst (Clash um ms a) q c in
             let f = s.fresh d.name (ap (λ z. mark_name z m) w.mode ∙ ap (mark_name um) (sym here) ∙ d.second) in
-            let h = none_all um us (frames ms k) d.name k (ap (λ z. first_clash (frames ms k) d.name z) (sym w.listed_are) ∙ ap (λ z. first_clash z d.name (entries old)) (sym w.opened) ∙ f) in
+            let h = none_all um us (group_states ms k) d.name k (ap (λ z. first_clash (group_states ms k) d.name z) (sym w.listed_are) ∙ ap (λ z. first_clash z d.name (entries old)) (sym w.opened) ∙ f) in
             clash_seen um ms a k d (h a d.in_order d.first)
       ];
     }
@@ -312,14 +312,14 @@ duplicated um us at k m old f g pl here r w =
     let ms = marks us in
     let n = r.0 in
     let e = r.2.0 in
-    let d = some_found um us (frames ms k) n k e (ap (λ z. first_clash (frames ms k) n z) (sym w.listed_are) ∙ ap (λ z. first_clash z n (entries old)) (sym w.opened) ∙ r.2.1) in
+    let d = some_found um us (group_states ms k) n k e (ap (λ z. first_clash (group_states ms k) n z) (sym w.listed_are) ∙ ap (λ z. first_clash z n (entries old)) (sym w.opened) ∙ r.2.1) in
     let name_is : name_at um us k ≡ Some n = ap (mark_name um) here ∙ ap (λ z. mark_name z m) (sym w.mode) ∙ r.1 in
     let clash : Clash um ms e.index k = record {
       in_order = d.before;
       name = n;
       first = d.is;
       second = name_is;
-      together = λ p. false≢true (sym d.seen_there ∙ hides_is e.index (frames ms k) (parted_hidden ms e.index k p));
+      together = λ p. false≢true (sym d.seen_there ∙ hides_is e.index (group_states ms k) (parted_hidden ms e.index k p));
     } in
     let first : IsFirstClash um ms e.index k = record {
       clash = clash;
@@ -364,7 +364,7 @@ last_or_none : (x y : Option Entry) → last_or x y ≡ None → (x ≡ None) ×
 last_or_none None y e = (refl, e)
 last_or_none (Some x) y e = cc
 
-none_last : (fs : List Frame) (n : List ℕ) (es : List Entry) → last_named n es ≡ None → first_clash fs n es ≡ None
+none_last : (fs : List GroupState) (n : List ℕ) (es : List Entry) → last_named n es ≡ None → first_clash fs n es ≡ None
 none_last fs n [] h = refl
 none_last fs n (e ∷ es) h =
     let g = last_or_none (last_named n es) (cond (same_name e.name n) (Some e) None) h in
@@ -427,11 +427,11 @@ last_found um us n (suc k) e h =
           }
     ]
 
-tells_case : (um : Bool) (us : List ℕ) (n : List ℕ) (k : ℕ) (e : Entry) → ((a b : ℕ) → b < k → Clash um (marks us) a b → ⊥) → Last um us n k e → hides e.index (frames (marks us) k) ≡ true → (o : Option Entry) → first_clash (frames (marks us) k) n (named um us k) ≡ o → o ≡ None
+tells_case : (um : Bool) (us : List ℕ) (n : List ℕ) (k : ℕ) (e : Entry) → ((a b : ℕ) → b < k → Clash um (marks us) a b → ⊥) → Last um us n k e → hides e.index (group_states (marks us) k) ≡ true → (o : Option Entry) → first_clash (group_states (marks us) k) n (named um us k) ≡ o → o ≡ None
 tells_case um us n k e clean l h None s = refl
 tells_case um us n k e clean l h (Some x) s =
     let ms = marks us in
-    let f = some_found um us (frames ms k) n k x s in
+    let f = some_found um us (group_states ms k) n k x s in
     let le = l.last x.index f.before f.is in
     absurd (elim (cases_lt x.index e.index) [
       | inl lt ↦ clean x.index e.index l.before (record {
@@ -439,32 +439,32 @@ tells_case um us n k e clean l h (Some x) s =
         name = n;
         first = f.is;
         second = l.is;
-        together = λ p. last_seen ms x.index e.index k lt l.before (hides_true e.index (frames ms k) h) (λ z. false≢true (sym f.seen_there ∙ hides_is x.index (frames ms k) z)) p;
+        together = λ p. last_seen ms x.index e.index k lt l.before (hides_true e.index (group_states ms k) h) (λ z. false≢true (sym f.seen_there ∙ hides_is x.index (group_states ms k) z)) p;
       })
-      | inr ge ↦ let q : x.index ≡ e.index = omega arith in false≢true (sym f.seen_there ∙ ap (λ j. hides j (frames ms k)) q ∙ h)
+      | inr ge ↦ let q : x.index ≡ e.index = omega arith in false≢true (sym f.seen_there ∙ ap (λ j. hides j (group_states ms k)) q ∙ h)
     ])
 
-pub tells : (um : Bool) (us : List ℕ) (at k : ℕ) (s : FirstPass) → IsAt um us at k s → (n : List ℕ) → LastTells (frames_of s.groups) n (entries s)
+pub tells : (um : Bool) (us : List ℕ) (at k : ℕ) (s : FirstPass) → IsAt um us at k s → (n : List ℕ) → LastTells (group_states_of s.groups) n (entries s)
 tells um us at k s w n e h y =
-    let fs = frames (marks us) k in
+    let fs = group_states (marks us) k in
     let l = last_found um us n k e (ap (last_named n) (sym w.listed_are) ∙ h) in
     ap (λ z. first_clash z n (entries s)) w.opened ∙ ap (first_clash fs n) w.listed_are ∙ tells_case um us n k e w.clean l (ap (hides e.index) (sym w.opened) ∙ y) (first_clash fs n (named um us k)) refl
 
-pub nests_at : (um : Bool) (us : List ℕ) (at k : ℕ) (s : FirstPass) → IsAt um us at k s → Nests (frames_of s.groups)
+pub nests_at : (um : Bool) (us : List ℕ) (at k : ℕ) (s : FirstPass) → IsAt um us at k s → Nests (group_states_of s.groups)
 nests_at um us at k s w = subst Nests (sym w.opened) (nests (marks us) k)
 
 no_index : (o : Option Entry) → None ≡ option_map (λ (e : Entry). e.index) o → o ≡ None
 no_index None h = refl
 no_index (Some x) h = cc
 
-pub clash_none : (fs : List Frame) (n : List ℕ) (es : List Entry) → None ≡ option_map (λ (e : Entry). e.index) (last_named n es) → None ≡ option_map span_of (first_clash fs n es)
+pub clash_none : (fs : List GroupState) (n : List ℕ) (es : List Entry) → None ≡ option_map (λ (e : Entry). e.index) (last_named n es) → None ≡ option_map span_of (first_clash fs n es)
 clash_none fs n es h = ap (option_map span_of) (sym (none_last fs n es (no_index (last_named n es) h)))
 
 span_none : (o : Option Entry) → None ≡ option_map span_of o → o ≡ None
 span_none None h = refl
 span_none (Some e) h = cc
 
-pub clash_not : (fs : List Frame) (n : List ℕ) (es : List Entry) → None ≡ option_map span_of (first_clash fs n es) → first_clash fs n es ≡ None
+pub clash_not : (fs : List GroupState) (n : List ℕ) (es : List Entry) → None ≡ option_map span_of (first_clash fs n es) → first_clash fs n es ≡ None
 clash_not fs n es h = span_none (first_clash fs n es) h
 
 abbrev last_number : Option ℕ → Option ℕ → Option ℕ

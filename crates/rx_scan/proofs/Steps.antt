@@ -5,7 +5,7 @@ use Rattle.rx_units.specs.Units.{values}
 use Rattle.rx_model.specs.Characters.Decoding.{four_at, trail_at, value, overflow}
 use Rattle.rx_scan.specs.declared.unicode_escape.UnicodeEscape.{UnicodeEscape}
 use Rattle.rx_scan.specs.declared.unicode_escape.UnicodeEscape.TheVariants as escape
-use Rattle.rx_scan.specs.Escapes.{seen_escape}
+use Rattle.rx_scan.specs.EscapeDecoding.{seen_escape}
 
 pub short_four : (us : List CodePoint) → length us < 4 → four_at (values us) ≡ None
 short_four [] h = refl

@@ -3,10 +3,10 @@ use Rattle.std.specs.Prelude.{◌≡◌, ℕ, zero, suc, ◌+◌, Bool, true, eq
 use lib.Pointwise.{pointwise}
 use Rattle.std.specs.BTreeMap.{get_by_text}
 use Rattle.std.specs.Str.{IsUtf8, chars}
-use Rattle.rx_model.specs.FirstPass.Frames.{Frame, step}
+use Rattle.rx_model.specs.FirstPass.GroupStates.{GroupState, step}
 use Rattle.rx_model.specs.FirstPass.Marks.{IsFirstClash, Mark, listed, mark_at, mark_count, mark_name, mark_place, marks, name_length, name_places}
 use Rattle.rx_model.specs.Trees.Names.{is_among}
-use Rattle.rx_scan.specs.OpenGroups.{frames_of, hides}
+use Rattle.rx_scan.specs.OpenGroups.{group_states_of, hides}
 use Rattle.rx_scan.specs.declared.first_pass.FirstPass.{FirstPass}
 use Rattle.rx_scan.specs.declared.first_pass.Opening.{Opening}
 use Rattle.rx_scan.specs.declared.first_pass.PassFault.{PassFault}
@@ -39,7 +39,7 @@ abbrev pub same_name : List ℕ → List ℕ → Bool
 same_name xs ys = pointwise eqb xs ys
 
 -- the first of equal name that is in no alternative that has ended
-abbrev pub first_clash : List Frame → List ℕ → List Entry → Option Entry
+abbrev pub first_clash : List GroupState → List ℕ → List Entry → Option Entry
 first_clash fs name [] = None
 first_clash fs name (e ∷ es) = if same_name e.name name && not (hides e.index fs) then Some e else first_clash fs name es
 
@@ -54,7 +54,7 @@ last_named name [] = None
 last_named name (e ∷ es) = last_or (last_named name es) (if same_name e.name name then Some e else None)
 
 -- Where the last of equal name is in an alternative that has ended, all are.
-abbrev pub LastTells : List Frame → List ℕ → List Entry → Type 0
+abbrev pub LastTells : List GroupState → List ℕ → List Entry → Type 0
 LastTells fs name es = (e : Entry) → last_named name es ≡ Some e → hides e.index fs ≡ true → first_clash fs name es ≡ None
 
 -- The map has the index of the last opening of each name.
@@ -88,7 +88,7 @@ pub record IsStart (unicode_mode : Bool) (pass : FirstPass) : Type 0 where
   pub mode : pass.unicode_mode ≡ unicode_mode
   pub counted : pass.count ≡ 0
   pub named_by : pass.names ≡ []
-  pub opened : frames_of pass.groups ≡ (0, 0) ∷ []
+  pub opened : group_states_of pass.groups ≡ (0, 0) ∷ []
   pub listed_are : pass.openings ≡ []
   pub knows : KnowsLast [] pass.last_openings
 
@@ -97,26 +97,26 @@ pub record Captures (old new : FirstPass) (name : Option (List ℕ)) (from to k 
   pub mode : new.unicode_mode ≡ old.unicode_mode
   pub counted : new.count ≡ old.count + 1
   pub named_by : new.names ≡ with_names old.names (listed name)
-  pub opened : frames_of new.groups ≡ (suc k, suc k) ∷ frames_of old.groups
+  pub opened : group_states_of new.groups ≡ (suc k, suc k) ∷ group_states_of old.groups
   pub listed_are : entries new ≡ entries old ++ entry_for k from to name
   pub knows : KnowsLast (entries new) new.last_openings
-  pub fresh : (n : List ℕ) → name ≡ Some n → first_clash (frames_of old.groups) n (entries old) ≡ None
+  pub fresh : (n : List ℕ) → name ≡ Some n → first_clash (group_states_of old.groups) n (entries old) ≡ None
 
 -- The mark with index k, which begins at a place, leads from old to new.
 pub record Steps (old new : FirstPass) (m : Mark) (at k : ℕ) : Type 0 where
   pub mode : new.unicode_mode ≡ old.unicode_mode
   pub counted : new.count ≡ old.count + mark_count m
   pub named_by : new.names ≡ with_names old.names (listed (mark_name old.unicode_mode m))
-  pub opened : frames_of new.groups ≡ step k m (frames_of old.groups)
+  pub opened : group_states_of new.groups ≡ step k m (group_states_of old.groups)
   pub listed_are : entries new ≡ entries old ++ entry_at old.unicode_mode at k m
   pub knows : KnowsLast (entries new) new.last_openings
-  pub fresh : (n : List ℕ) → mark_name old.unicode_mode m ≡ Some n → first_clash (frames_of old.groups) n (entries old) ≡ None
+  pub fresh : (n : List ℕ) → mark_name old.unicode_mode m ≡ Some n → first_clash (group_states_of old.groups) n (entries old) ≡ None
 
 -- An opening with this name between these places clashes with an earlier one.
 abbrev pub ClashesWith : FirstPass → List ℕ → ℕ → ℕ → PassFault → Type 0
 ClashesWith old name from to OutOfMemory = Unit {0}
 ClashesWith old name from to (Duplicated first second) =
-    (e : Entry) × (first_clash (frames_of old.groups) name (entries old) ≡ Some e) × (first ≡ span_of e) × (second ≡ (from, to))
+    (e : Entry) × (first_clash (group_states_of old.groups) name (entries old) ≡ Some e) × (first ≡ span_of e) × (second ≡ (from, to))
 
 -- The mark that begins at a place is such an opening.
 abbrev pub Refuses : FirstPass → Mark → ℕ → PassFault → Type 0

@@ -1,4 +1,4 @@
-pub mod Escapes
+pub mod EscapeDecoding
 pub mod FirstPass
 pub mod GroupNames
 pub mod KnownNames

@@ -1,28 +1,28 @@
--- The open groups that the first pass keeps, as the frames of a text's marks.
+-- The open groups that the first pass keeps, as the group states of a text's marks.
 use Rattle.std.specs.Prelude.{ℕ, ◌-◌, ◌<◌, ◌≤◌, Bool, false, nat_le, nat_lt, ◌&&◌, ◌||◌, List, [], ◌∷◌, length, get_or}
-use Rattle.rx_model.specs.FirstPass.Frames.{Frame}
+use Rattle.rx_model.specs.FirstPass.GroupStates.{GroupState}
 use Rattle.rx_scan.specs.declared.open_groups.OpenGroup.{OpenGroup}
 use Rattle.rx_scan.specs.declared.open_groups.OpenGroups.{OpenGroups}
 
--- an open group as a frame
-abbrev pub pair : OpenGroup → Frame
+-- an open group as a group state
+abbrev pub pair : OpenGroup → GroupState
 pair group = (group.start, group.bar)
 
 -- groups with the outermost first, turned onto others
-abbrev pub onto : List OpenGroup → List Frame → List Frame
+abbrev pub onto : List OpenGroup → List GroupState → List GroupState
 onto [] fs = fs
 onto (group ∷ groups) fs = onto groups (pair group ∷ fs)
 
 -- the innermost first
-abbrev pub frames_of : OpenGroups → List Frame
-frames_of groups = pair groups.innermost ∷ onto groups.outer []
+abbrev pub group_states_of : OpenGroups → List GroupState
+group_states_of groups = pair groups.innermost ∷ onto groups.outer []
 
--- whether what stands at index a is in an alternative of this frame that has ended
-abbrev pub hides_one : ℕ → Frame → Bool
+-- whether what stands at index a is in an alternative of this group state that has ended
+abbrev pub hides_one : ℕ → GroupState → Bool
 hides_one a f = nat_le f.0 a && nat_lt a f.1
 
 -- whether what stands at index a is in an alternative that has ended, of a group that has not
-abbrev pub hides : ℕ → List Frame → Bool
+abbrev pub hides : ℕ → List GroupState → Bool
 hides a [] = false
 hides a (f ∷ fs) = hides_one a f || hides a fs
 

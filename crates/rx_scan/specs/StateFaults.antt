@@ -1,21 +1,21 @@
 -- Which fault tells that two groups of one name might both take part.
 use Rattle.std.specs.Prelude.{◌≡◌, ℕ, Bool}
-use Rattle.rx_units.specs.Reading.{Reading}
+use Rattle.rx_units.specs.Cursor.{Cursor}
 use Rattle.rx_units.specs.Units.{offset_at, values}
 use Rattle.rx_model.specs.FirstPass.Marks.{IsFirstClash, marks, name_places}
 use Rattle.rx_scan.specs.declared.state.StateFault.{StateFault}
 use Rattle.rx_scan.specs.declared.state.StateFault.TheVariants.{OutOfMemory, Duplicated}
 
 -- the offsets of the reader at two places
-abbrev pub offsets_at : Reading → ℕ × ℕ → ℕ × ℕ
+abbrev pub offsets_at : Cursor → ℕ × ℕ → ℕ × ℕ
 offsets_at r span = (offset_at r.first r.units span.0, offset_at r.first r.units span.1)
 
 -- the offsets around the name of the mark with this index
-abbrev pub name_offsets : Reading → ℕ → ℕ × ℕ
+abbrev pub name_offsets : Cursor → ℕ → ℕ × ℕ
 name_offsets r k = offsets_at r (name_places (values r.units) k)
 
 -- The fault tells the first clash of the reader's text: the second of the two openings is the least, and then the first.
-abbrev pub IsStateFault : Bool → Reading → StateFault → Type 0
+abbrev pub IsStateFault : Bool → Cursor → StateFault → Type 0
 IsStateFault unicode_mode r OutOfMemory = Unit {0}
 IsStateFault unicode_mode r (Duplicated first second) =
     (a : ℕ) × (b : ℕ) × IsFirstClash unicode_mode (marks (values r.units)) a b × (first ≡ name_offsets r a) × (second ≡ name_offsets r b)

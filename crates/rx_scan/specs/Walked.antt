@@ -1,8 +1,8 @@
 -- How far the first pass has come.
 use Rattle.std.specs.Prelude.{◌≡◌, ℕ, ◌+◌, ◌<◌, ◌≤◌, Bool, List, length, drop}
-use Rattle.rx_model.specs.FirstPass.Frames.{frames}
+use Rattle.rx_model.specs.FirstPass.GroupStates.{group_states}
 use Rattle.rx_model.specs.FirstPass.Marks.{Clash, count, marks, names, places, places_behind, seen}
-use Rattle.rx_scan.specs.OpenGroups.{frames_of}
+use Rattle.rx_scan.specs.OpenGroups.{group_states_of}
 use Rattle.rx_scan.specs.FirstPass.{KnowsLast, entries, named, with_names}
 use Rattle.rx_scan.specs.declared.first_pass.FirstPass.{FirstPass}
 
@@ -14,7 +14,7 @@ pub record IsAt (unicode_mode : Bool) (us : List ℕ) (at : ℕ) (k : ℕ) (pass
   pub fewer : pass.count ≤ k
   pub rest : drop k (marks us) ≡ marks (drop at us)
   pub places : drop k (places us) ≡ places_behind at 0 (drop at us)
-  pub opened : frames_of pass.groups ≡ frames (marks us) k
+  pub opened : group_states_of pass.groups ≡ group_states (marks us) k
   pub listed_are : entries pass ≡ named unicode_mode us k
   pub knows : KnowsLast (entries pass) pass.last_openings
   pub counted : pass.count + count (marks (drop at us)) ≡ count (marks us)

@@ -1,10 +1,10 @@
 ghost use Rattle.std.specs.Prelude.{◌≡◌, ◌+◌, ◌<◌, ◌≤◌, ◌^◌, ℕ, List, None, Some, IfOk, IfErr, OnOk, drop, length, map, option_map};
 ghost use Rattle.std.specs.Str.{chars};
 ghost use Rattle.rx_units.specs.Units.{values};
-ghost use Rattle.rx_model.specs.FirstPass.Frames.{Nests};
+ghost use Rattle.rx_model.specs.FirstPass.GroupStates.{Nests};
 ghost use Rattle.rx_model.specs.FirstPass.Marks.{Clash, count, marks, name_length, seen};
 ghost use Rattle.rx_scan.specs.MarkReading.{seen_mark, seen_capturing};
-ghost use Rattle.rx_scan.specs.OpenGroups.{frames_of};
+ghost use Rattle.rx_scan.specs.OpenGroups.{group_states_of};
 ghost use Rattle.rx_scan.specs.FirstPass.{Captures, ClashesWith, IsPassFault, IsStart, KnowsLast, LastTells, Refuses, Steps, entries, entry_of, first_clash, same_name, span_of, with_name};
 
 use crate::last_openings::LastOpenings;
@@ -117,8 +117,8 @@ impl FirstPass {
         requires few { self.old.count + 1 < 2 ^ 64 }
         requires room { place + 3 + name_length (seen_mark mark) < 2 ^ 64 }
         requires after { index + 1 < 2 ^ 64 }
-        requires tells { (name : List ℕ) → LastTells (frames_of self.old.groups) name (entries self.old) }
-        requires nests { Nests (frames_of self.old.groups) }
+        requires tells { (name : List ℕ) → LastTells (group_states_of self.old.groups) name (entries self.old) }
+        requires nests { Nests (group_states_of self.old.groups) }
         requires knows { KnowsLast (entries self.old) self.old.last_openings }
         ensures ok { OnOk result (Steps self.old self.new (seen_mark mark.entry) place index) }
         ensures err { IfErr result (Refuses self.old (seen_mark mark.entry) place) }
@@ -144,8 +144,8 @@ impl FirstPass {
         requires few { self.old.count + 1 < 2 ^ 64 }
         requires room { place + 3 + name_length (seen_capturing units) < 2 ^ 64 }
         requires after { index + 1 < 2 ^ 64 }
-        requires tells { (name : List ℕ) → LastTells (frames_of self.old.groups) name (entries self.old) }
-        requires nests { Nests (frames_of self.old.groups) }
+        requires tells { (name : List ℕ) → LastTells (group_states_of self.old.groups) name (entries self.old) }
+        requires nests { Nests (group_states_of self.old.groups) }
         requires knows { KnowsLast (entries self.old) self.old.last_openings }
         ensures ok { OnOk result (Steps self.old self.new (seen_capturing units.entry) place index) }
         ensures err { IfErr result (Refuses self.old (seen_capturing units.entry) place) }
@@ -184,8 +184,8 @@ impl FirstPass {
     fn capture_named(&mut self, alloc: Global, opening: Opening) -> Result<(), PassFault>
         requires few { self.old.count + 1 < 2 ^ 64 }
         requires after { opening.mark + 1 < 2 ^ 64 }
-        requires tells { LastTells (frames_of self.old.groups) opening.name (entries self.old) }
-        requires nests { Nests (frames_of self.old.groups) }
+        requires tells { LastTells (group_states_of self.old.groups) opening.name (entries self.old) }
+        requires nests { Nests (group_states_of self.old.groups) }
         requires knows { KnowsLast (entries self.old) self.old.last_openings }
         ensures ok { OnOk result (Captures self.old self.new (Some opening.name) opening.start opening.end opening.mark) }
         ensures err { IfErr result (ClashesWith self.old opening.name opening.start opening.end) }
@@ -217,10 +217,10 @@ impl FirstPass {
     /// Where the name of the first opening stands with which a new one of this name clashes, where none clashed before. All openings
     /// are looked at only where some clash.
     fn clash(&self, name: &str) -> Option<(usize, usize)>
-        requires tells { LastTells (frames_of self.now.groups) (chars name.now) (entries self.now) }
-        requires nests { Nests (frames_of self.now.groups) }
+        requires tells { LastTells (group_states_of self.now.groups) (chars name.now) (entries self.now) }
+        requires nests { Nests (group_states_of self.now.groups) }
         requires knows { KnowsLast (entries self.now) self.now.last_openings }
-        ensures { result ≡ option_map span_of (first_clash (frames_of self.now.groups) (chars name.now) (entries self.now)) }
+        ensures { result ≡ option_map span_of (first_clash (group_states_of self.now.groups) (chars name.now) (entries self.now)) }
     {
         match self.last_openings.get(name) {
             None => None,
@@ -237,8 +237,8 @@ impl FirstPass {
 
 /// Where the name of the first opening of this name stands that is in no alternative that has ended.
 fn first_clash(openings: &[Opening], groups: &OpenGroups, name: &str) -> Option<(usize, usize)>
-    requires { Nests (frames_of groups.now) }
-    ensures { result ≡ option_map span_of (first_clash (frames_of groups.now) (chars name.now) (map entry_of openings.now)) }
+    requires { Nests (group_states_of groups.now) }
+    ensures { result ≡ option_map span_of (first_clash (group_states_of groups.now) (chars name.now) (map entry_of openings.now)) }
 {
     for opening in openings {
         if is_named(opening, name) && !groups.hides(opening.mark) {

@@ -1,6 +1,6 @@
 ghost use Rattle.std.specs.Prelude.{◌≡◌, ◌∷◌, [], ◌≤◌, OnOk};
-ghost use Rattle.rx_model.specs.FirstPass.Frames.{Nests, drop_top, set_top};
-ghost use Rattle.rx_scan.specs.OpenGroups.{Splits, frames_of, hides};
+ghost use Rattle.rx_model.specs.FirstPass.GroupStates.{Nests, drop_top, set_top};
+ghost use Rattle.rx_scan.specs.OpenGroups.{Splits, group_states_of, hides};
 
 use rx_base::{List, OutOfMemory};
 use std::alloc::Global;
@@ -23,7 +23,7 @@ pub struct OpenGroups {
 impl OpenGroups {
     /// The whole text alone. Takes no memory.
     pub fn new(alloc: Global) -> OpenGroups
-        ensures { frames_of result ≡ (0, 0) ∷ [] }
+        ensures { group_states_of result ≡ (0, 0) ∷ [] }
     {
         OpenGroups {
             outer: List::new(alloc),
@@ -33,7 +33,7 @@ impl OpenGroups {
 
     /// A group opens, whose first mark has this index.
     pub fn open(&mut self, start: usize) -> Result<(), OutOfMemory>
-        ensures { OnOk result (frames_of self.new ≡ (start, start) ∷ frames_of self.old) }
+        ensures { OnOk result (group_states_of self.new ≡ (start, start) ∷ group_states_of self.old) }
     {
         self.outer.push(self.innermost)?;
         self.innermost = OpenGroup { start, bar: start };
@@ -42,14 +42,14 @@ impl OpenGroups {
 
     /// A bar stands at this index.
     pub fn bar(&mut self, index: usize)
-        ensures { frames_of self.new ≡ set_top index (frames_of self.old) }
+        ensures { group_states_of self.new ≡ set_top index (group_states_of self.old) }
     {
         self.innermost.bar = index;
     }
 
     /// The innermost group closes, where there is one.
     pub fn close(&mut self)
-        ensures { frames_of self.new ≡ drop_top (frames_of self.old) }
+        ensures { group_states_of self.new ≡ drop_top (group_states_of self.old) }
     {
         if let Some(group) = self.outer.pop() {
             self.innermost = group;
@@ -58,8 +58,8 @@ impl OpenGroups {
 
     /// Whether the mark with this index is in an alternative that has ended, of a group that is open.
     pub fn hides(&self, mark: usize) -> bool
-        requires { Nests (frames_of self.now) }
-        ensures { result ≡ hides mark (frames_of self.now) }
+        requires { Nests (group_states_of self.now) }
+        ensures { result ≡ hides mark (group_states_of self.now) }
     {
         if self.innermost.start <= mark {
             return mark < self.innermost.bar;

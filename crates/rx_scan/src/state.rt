@@ -19,7 +19,7 @@ pub struct State {
     /// Whether `\k` is always a reference (the parameter NamedCaptureGroups of ECMA-262, 22.2.1): in unicode mode, or where some
     /// group has a name.
     pub named_capture_groups: bool,
-    /// How many groups capture (CountLeftCapturingParensWithin of ECMA-262, 22.2.1.2). It stands still at 4294967295.
+    /// How many groups capture (CountLeftCapturingParensWithin of ECMA-262, 22.2.1.2). It stays at its greatest value, 4294967295.
     pub num_of_capturing_groups: u32,
     /// The names of the groups (GroupSpecifier of ECMA-262, 22.2.1).
     pub capturing_group_names: Names,

@@ -4,7 +4,7 @@ ghost use Rattle.rx_tables.specs.Characters.{hex_digit_value};
 ghost use Rattle.rx_units.specs.Units.{values};
 ghost use Rattle.rx_model.specs.Characters.Decoding.{behind_u, braces_at, decoded, four_at, joined_at, run_at, trail_at};
 ghost use Rattle.rx_model.specs.Characters.UnicodeEscapes.{Decodes, PassesHex};
-ghost use Rattle.rx_scan.specs.Escapes.{seen_escape};
+ghost use Rattle.rx_scan.specs.EscapeDecoding.{seen_escape};
 
 use rx_base::{combine_surrogate_pair, is_lead_surrogate, is_trail_surrogate};
 use rx_tables::map_hex_digit;

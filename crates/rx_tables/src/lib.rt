@@ -18,6 +18,6 @@ pub use identifiers::{
     is_identifier_part_char, is_identifier_start_char, is_unicode_id_continue, is_unicode_id_start,
 };
 pub use properties::{
-    is_valid_lone_unicode_property, is_valid_lone_unicode_property_of_strings,
-    is_valid_unicode_property,
+    is_general_category_value, is_valid_lone_unicode_property,
+    is_valid_lone_unicode_property_of_strings, is_valid_unicode_property,
 };

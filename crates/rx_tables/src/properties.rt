@@ -22,8 +22,9 @@ fn is_general_category(name: &str) -> bool
     is_among(&["General_Category", "gc"], name)
 }
 
+/// Whether a word is a value of General_Category.
 #[tactic(auto, unfolding(crate::specs::Properties::general_category_values))]
-fn is_general_category_value(value: &str) -> bool
+pub fn is_general_category_value(value: &str) -> bool
     ensures { IsTrue result ↔ Contains general_category_values (chars value.now) }
 {
     is_among(&GENERAL_CATEGORY_VALUES, value)

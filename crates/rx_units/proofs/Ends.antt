@@ -6,7 +6,7 @@ use Rattle.std.specs.Str.{IsCharBoundary, IsUtf8, chars}
 use lib.Utf8.{encode, encodes, scalar, scalars}
 use Rattle.rx_units.specs.declared.code_point.CodePoint.{CodePoint}
 use Rattle.rx_units.specs.declared.code_point.EscapeKind.TheVariants as kind
-use Rattle.rx_units.specs.Reading.{AreEnds}
+use Rattle.rx_units.specs.Cursor.{AreEnds}
 use Rattle.rx_units.specs.Units.{character_units, lead_of, literal_units, offset_at, trail_of, unit}
 
 pub both_true : (a b : Bool) → (a && b) ≡ true → (a ≡ true) × (b ≡ true)

@@ -1,3 +1,3 @@
 pub mod Units
 pub mod Characters
-pub mod Reading
+pub mod Cursor

@@ -1,6 +1,6 @@
 ghost use Rattle.std.specs.Prelude.{◌≡◌, ℕ, ◌∷◌, [], ◌<◌, ◌≤◌, ◌^◌, ◌↔◌, length, IfOk, IsFalse, IsTrue, All, Any, if◌then◌else◌, slice_range};
 ghost use Rattle.std.specs.Str.{chars};
-ghost use Rattle.rx_units.specs.Reading.{IsOffset, begins, front, front_kind, moved, offset_of, rest, second};
+ghost use Rattle.rx_units.specs.Cursor.{IsOffset, begins, front, front_kind, moved, offset_of, rest, second};
 ghost use Rattle.rx_units.specs.Units.{literal_units, offset_at};
 
 use crate::{CodePoint, EscapeKind, parse_regexp_literal};
@@ -37,9 +37,9 @@ pub struct Reader<'a> {
 }
 
 impl<'a> Model for Reader<'a> {
-    ghost use Rattle.rx_units.specs.Reading.{IsSound, Reading};
+    ghost use Rattle.rx_units.specs.Cursor.{IsSound, Cursor};
 
-    ghost Value = { Reading };
+    ghost Value = { Cursor };
 
     ghost view = { λ r. record { units = r.units; place = r.index; first = r.first; text = r.source_text.now } };
 

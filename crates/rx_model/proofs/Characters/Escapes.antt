@@ -218,18 +218,19 @@ overflow_there (value v m) n h = absurd (let k : ⊥ = cc h in k)
 overflow_there invalid n h = absurd (let k : ⊥ = cc h in k)
 overflow_there (overflow m) n h = ap overflow (let k : m ≡ n = cc h in k)
 
-pub escape_too_many : (w : List ℕ) (n : ℕ) → escape_at true w ≡ too_many n → PassesHex w n
-escape_too_many w n h = elim (escape_ways true w) [
-  | inl p ↦ (read_overflow true w n (overflow_there (decoded true w) n (sym p.2 ∙ h))).1
+-- Only a unicode escape passes the limit.
+pub too_many_decoded : (u : Bool) (w : List ℕ) (n : ℕ) → escape_at u w ≡ too_many n → decoded u w ≡ overflow n
+too_many_decoded u w n h = elim (escape_ways u w) [
+  | inl p ↦ overflow_there (decoded u w) n (sym p.2 ∙ h)
   | inr p ↦ absurd (let k : ⊥ = cc (ap is_plain h, p.1) in k)
 ]
 
+pub escape_too_many : (w : List ℕ) (n : ℕ) → escape_at true w ≡ too_many n → PassesHex w n
+escape_too_many w n h = (read_overflow true w n (too_many_decoded true w n h)).1
+
 -- With neither `u` nor `v` no digits pass a limit.
 pub escape_no_limit : (w : List ℕ) (n : ℕ) → escape_at false w ≡ too_many n → ⊥
-escape_no_limit w n h = elim (escape_ways false w) [
-  | inl p ↦ let k = (read_overflow false w n (overflow_there (decoded false w) n (sym p.2 ∙ h))).0 in cc k
-  | inr p ↦ cc (ap is_plain h, p.1)
-]
+escape_no_limit w n h = let k = (read_overflow false w n (too_many_decoded false w n h)).0 in cc k
 
 invalid_there : (d : Decoded) → unicode_read d ≡ no_unicode → d ≡ invalid
 invalid_there (value v m) h = absurd (let k : ⊥ = cc h in k)

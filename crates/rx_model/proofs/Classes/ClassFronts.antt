@@ -102,15 +102,15 @@ same_front (u ∷ w) [] rest h = absurd (omega (arith, ap length h, length-appen
 same_front (u ∷ w) (x ∷ v) rest h = ap₂ (λ u w. u ∷ w) (let same : u ≡ x = cc h in same) (same_front w v rest (let k : w ++ rest ≡ v ++ rest = cc h in k))
 
 -- the letter of a class escape
-record ClassLetter (k : CharacterClassEscapeKind) : Type 0 where
-  letter : ℕ
-  text : class_escape_text k ≡ 92 ∷ letter ∷ []
+pub record ClassLetter (k : CharacterClassEscapeKind) : Type 0 where
+  pub letter : ℕ
+  pub text : class_escape_text k ≡ 92 ∷ letter ∷ []
   no_b : (letter == 98) ≡ false
   not_hyphen : (letter == 45) ≡ false
   no_letter : begins_property letter ≡ false
-  found : class_escape_at letter ≡ Some k
+  pub found : class_escape_at letter ≡ Some k
 
-class_letter : (k : CharacterClassEscapeKind) → ClassLetter k
+pub class_letter : (k : CharacterClassEscapeKind) → ClassLetter k
 class_letter classes.D = record { letter = 100; text = refl; no_b = refl; not_hyphen = refl; no_letter = refl; found = refl }
 class_letter classes.NegativeD = record { letter = 68; text = refl; no_b = refl; not_hyphen = refl; no_letter = refl; found = refl }
 class_letter classes.S = record { letter = 115; text = refl; no_b = refl; not_hyphen = refl; no_letter = refl; found = refl }
@@ -308,6 +308,31 @@ module _ (e : Environment) where
       ((again : ℕ → MembersRead) → members_from p again ≡ before_members m (length w) (again (length w - 1))) → members_after e 0 (w ++ rest) ≡ before_members m (length w) (members_after e 0 rest)
   step m w rest p h l f = step_by (before_members m (length w)) w rest p h l f
 
+  -- a range, and three items, at the front of what is in a class
+  joined : (w : List CodePoint) (hyphen : CodePoint) (z back : List CodePoint) → (w ++ (hyphen ∷ z)) ++ back ≡ w ++ (hyphen ∷ (z ++ back))
+  joined w hyphen z back = append_assoc w (hyphen ∷ z) back
+
+  joined_count : (w : List CodePoint) (hyphen : CodePoint) (z : List CodePoint) → length w + 1 + length z ≡ length (w ++ (hyphen ∷ z))
+  joined_count w hyphen z = omega (arith, length-append w (hyphen ∷ z))
+
+  pub range_step : (k : CharacterKind) (v : ℕ) (j : CharacterKind) (x : ℕ) (w : List CodePoint) (hyphen : CodePoint) (z back : List CodePoint) → SpellsClassCharacter e k v w (hyphen ∷ (z ++ back)) →
+      is_dashed (values (hyphen ∷ (z ++ back))) ≡ true → SpellsClassCharacter e j x z back →
+      members_after e 0 ((w ++ (hyphen ∷ z)) ++ back) ≡ before_members (range_member k v j x) (length (w ++ (hyphen ∷ z))) (members_after e 0 back)
+  range_step k v j x w hyphen z back s d t =
+      let n = length (w ++ (hyphen ∷ z)) in
+      step (range_member k v j x) (w ++ (hyphen ∷ z)) back (range k v j x n)
+      (ap (piece_at e) (joined w hyphen z back) ∙ range_read k v j x w (hyphen ∷ (z ++ back)) hyphen z back s d refl t ∙ ap (range k v j x) (joined_count w hyphen z))
+      (omega (arith, joined_count w hyphen z)) (λ again. refl)
+
+  pub three_step : (a b : Atom) (w : List CodePoint) (hyphen : CodePoint) (z back : List CodePoint) → SpellsAtom e a w (hyphen ∷ (z ++ back)) → is_dashed (values (hyphen ∷ (z ++ back))) ≡ true → SpellsAtom e b z back →
+      (is_character a && is_character b) ≡ false → has_threes e.mode ≡ true →
+      members_after e 0 ((w ++ (hyphen ∷ z)) ++ back) ≡ before_three a b (length (w ++ (hyphen ∷ z))) (members_after e 0 back)
+  three_step a b w hyphen z back s d t apart threes =
+      let n = length (w ++ (hyphen ∷ z)) in
+      step_by (before_three a b n) (w ++ (hyphen ∷ z)) back (three a (length w) b n)
+      (ap (piece_at e) (joined w hyphen z back) ∙ three_read a b w (hyphen ∷ (z ++ back)) hyphen z back s d refl t apart threes ∙ ap (three a (length w) b) (joined_count w hyphen z))
+      (omega (arith, joined_count w hyphen z)) (λ again. refl)
+
   -- what is in a class up to its closer, spelled → read
   pub record MembersRow (ms : Members) (us rest : List CodePoint) : Type 0 where
     pub front : List CodePoint
@@ -332,13 +357,9 @@ module _ (e : Environment) where
       us ≡ w ++ more → SpellsClassCharacter e k v w more → is_dashed (values more) ≡ true → more ≡ hyphen ∷ (z ++ back) → SpellsClassCharacter e j x z back →
       MembersRow ms back rest → MembersRow (member m ms) us rest
   range_first k v j x m ms us w more hyphen z back rest same h s d whole t r =
-      let all : w ++ more ≡ (w ++ (hyphen ∷ z)) ++ back = ap (λ v. w ++ v) whole ∙ sym (append_assoc w (hyphen ∷ z) back) in
-      let count : length w + 1 + length z ≡ length (w ++ (hyphen ∷ z)) = omega (arith, length-append w (hyphen ∷ z)) in
-      prepend m ms us (w ++ (hyphen ∷ z)) back rest (h ∙ all)
-      (step m (w ++ (hyphen ∷ z)) back (range k v j x (length (w ++ (hyphen ∷ z))))
-      (ap (piece_at e) (sym all) ∙ range_read k v j x w more hyphen z back s d whole t ∙ ap (range k v j x) count)
-      (omega (arith, count))
-      (λ again. ap (λ m. before_members m (length (w ++ (hyphen ∷ z))) (again (length (w ++ (hyphen ∷ z)) - 1))) same)) r
+      let seen = range_step k v j x w hyphen z back (subst (SpellsClassCharacter e k v w) whole s) (ap (λ us. is_dashed (values us)) (sym whole) ∙ d) t in
+      prepend m ms us (w ++ (hyphen ∷ z)) back rest (h ∙ ap (λ v. w ++ v) whole ∙ sym (joined w hyphen z back))
+      (seen ∙ ap (λ m. before_members m (length (w ++ (hyphen ∷ z))) (members_after e 0 back)) same) r
 
   ending_read : (w rest : List CodePoint) → values w ≡ 93 ∷ [] → members_after e 0 (w ++ rest) ≡ members_read no_member (length w)
   ending_read [] rest h = absurd (let no : ⊥ = cc h in no)
@@ -390,12 +411,8 @@ module _ (e : Environment) where
       let atoms : t.third ≡ x.atom = one_atom t.third x.atom t.w t.more x.w x.more t.spelled x.spelled tails in
       let apart : (is_character a && is_character x.atom) ≡ false = ap (λ b. is_character a && is_character b) (sym atoms) ∙ t.apart in
       let all : w ++ more ≡ (w ++ z) ++ x.more = ap (λ v. w ++ v) tail ∙ sym (append_assoc w z x.more) in
-      let count : length w + 1 + length x.w ≡ length (w ++ z) = omega (arith, length-append w z) in
       let n = length (w ++ z) in
-      let seen : piece_at e ((w ++ z) ++ x.more) ≡ three a (length w) x.atom n =
-      ap (piece_at e) (sym all) ∙ three_read a x.atom w more r.hyphen x.w x.more s t.dashed tail x.spelled apart t.threes ∙ ap (three a (length w) x.atom) count in
-      let grown : members_after e 0 ((w ++ z) ++ x.more) ≡ before_three a x.atom n (members_after e 0 x.more) =
-      step_by (before_three a x.atom n) (w ++ z) x.more (three a (length w) x.atom n) seen (omega (arith, count)) (λ again. refl) in
+      let grown = three_step a x.atom w r.hyphen x.w x.more (subst (SpellsAtom e a w) tail s) (ap (λ us. is_dashed (values us)) (sym tail) ∙ t.dashed) x.spelled apart t.threes in
       let members : member (atom_member a) (member (atom_member (character kinds.Symbol 45)) (member (atom_member x.atom) x.others)) ≡ member m ms =
       ap₂ member same (ap (member (atom_member (character kinds.Symbol 45))) (sym x.members_are) ∙ sym r.members_are) in
       let y = x.row in

@@ -7,7 +7,7 @@ use Rattle.rx_base.specs.declared.diagnostic.Diagnostic.{Diagnostic}
 use Rattle.rx_ast.specs.declared.leaf.CharacterKind.{CharacterKind}
 use Rattle.rx_units.specs.declared.code_point.CodePoint.{CodePoint}
 use Rattle.rx_units.specs.Units.{values}
-use Rattle.rx_model.specs.declared.mode.Mode.TheVariants.{Unicode}
+use Rattle.rx_model.specs.declared.mode.Mode.{Mode}
 use Rattle.rx_model.specs.Refusals.ClassCauses as class_cause
 use Rattle.rx_model.specs.Refusals.ClassCauses.{IsClassCause, StandsRange, is_character}
 use Rattle.rx_model.specs.Classes.ClassFronts.{atom_read, no_atom, atom_at}
@@ -15,7 +15,7 @@ use Rattle.rx_model.specs.Refusals.ClassPlaces.{IsAtomPlace, IsItemPlace}
 use Rattle.rx_model.specs.Classes.ClassRows.{behind, ClassTokenRow, IsClass, Place, SpellsAtom, at_dash, fresh, has_threes, is_dashed, outside}
 use Rattle.rx_model.specs.Classes.ClassRuns.{Bracket, Brackets, Held, behind_step, class_opened, class_run, holding, ranged, where_may, where_true}
 use Rattle.rx_model.specs.Classes.ClassTokens.{Atom, character, ClassToken, bracket, class_tokens, closer, item, low, dash, high}
-use Rattle.rx_model.specs.Inputs.Environment.{Environment}
+use Rattle.rx_model.specs.Inputs.Environment.{Environment, is_sets}
 use Rattle.rx_model.specs.FirstPass.Marks.{starts}
 use Rattle.rx_ast.specs.ClassTree.{Class}
 use Rattle.rx_model.specs.Trees.Early.{IsEarlyClass, Obeys}
@@ -23,10 +23,11 @@ use Rattle.rx_model.specs.Reading.Fronts.{bracket_token, front}
 use Rattle.rx_model.specs.Classes.ClassFronts.{class_front}
 use Rattle.rx_model.specs.Reading.Rows.{Spells}
 use Rattle.rx_model.specs.Trees.Token as token
+use Rattle.rx_model.specs.Refusals.Firsts.{of_character, of_property}
 use Rattle.rx_model.specs.Refusals.Reached.{text_environment, text_groups, text_names}
-use Rattle.rx_model.proofs.Classes.ClassEscapes.{no_escape_atom, refused_escape, refused_property}
+use Rattle.rx_model.proofs.Classes.ClassEscapes.{no_escape_atom, refused_escape}
 use Rattle.rx_model.proofs.Classes.ClassWholes.{class_opened-append, whole_class}
-use Rattle.rx_model.proofs.Refusals.DeadPlaces.{IsDead, next, same_token}
+use Rattle.rx_model.proofs.Refusals.BlockedPlaces.{IsBlocked, next, same_token}
 use Rattle.rx_model.proofs.Reading.Fronts.{at_bracket, front_spelled}
 use Rattle.rx_model.proofs.Reading.Prefixes.{class_prefixes}
 use Rattle.rx_model.proofs.Classes.ClassFronts.{atom_is_read, atom_some, no_atom_at_closer, single}
@@ -35,8 +36,8 @@ abbrev ClosesAs : Brackets → Option Brackets
 ClosesAs brackets = Some brackets
 
 -- No row of tokens leads on from this item place to another, or to the end of the class, that the brackets allow.
-abbrev pub IsDeadItem : Environment → Bracket → Brackets → List CodePoint → Type 0
-IsDeadItem e inner outer rest =
+abbrev pub IsBlockedItem : Environment → Bracket → Brackets → List CodePoint → Type 0
+IsBlockedItem e inner outer rest =
     (t : ClassToken) (ts : List ClassToken) (back : List CodePoint) (after : Brackets) → ClassTokenRow e (t ∷ ts) fresh rest fresh back → class_run (t ∷ ts) (inner ∷ outer) ≡ Some after → ⊥
 
 -- No atom stands at the front, and no closer.
@@ -57,14 +58,14 @@ module _ (e : Environment) where
   closer_first : (us w more : List CodePoint) → us ≡ w ++ more → values w ≡ 93 ∷ [] → (u : CodePoint) × (v : List CodePoint) × (us ≡ u ∷ v) × (u.value ≡ 93)
   closer_first us w more h k = let s = single w 93 k in (s.0, more, h ∙ ap (λ w. w ++ more) s.1, s.2)
 
-  pub no_atom_dead : (inner : Bracket) (outer : Brackets) (rest : List CodePoint) → NoAtom e rest → IsDeadItem e inner outer rest
-  no_atom_dead inner outer rest n closer ts back after row run =
+  pub no_atom_blocked : (inner : Bracket) (outer : Brackets) (rest : List CodePoint) → NoAtom e rest → IsBlockedItem e inner outer rest
+  no_atom_blocked inner outer rest n closer ts back after row run =
       let c = closer_first rest row.0 row.1 row.2 row.3 in
       let k : true ≡ false = ap (λ x. x == 93) (sym c.3) ∙ ap (λ us. starts 93 (values us)) (sym c.2) ∙ n.no_closer in
       true≢false k
-  no_atom_dead inner outer rest n (item a) ts back after row run = no_atom_spelled a rest row.0 row.1 n.none row.2 row.3.0
-  no_atom_dead inner outer rest n (low k v) ts back after row run = no_atom_spelled (character k v) rest row.0 row.1 n.none row.2 row.3.0
-  no_atom_dead inner outer rest n t ts back after row run = absurd row.3
+  no_atom_blocked inner outer rest n (item a) ts back after row run = no_atom_spelled a rest row.0 row.1 n.none row.2 row.3.0
+  no_atom_blocked inner outer rest n (low k v) ts back after row run = no_atom_spelled (character k v) rest row.0 row.1 n.none row.2 row.3.0
+  no_atom_blocked inner outer rest n t ts back after row run = absurd row.3
 
   -- the same atom, the same units behind
   record IsSameAtom (a b : Atom) (w v more rest : List CodePoint) : Type 0 where
@@ -87,10 +88,10 @@ module _ (e : Environment) where
       no_atom_spelled a us w more (ap (atom_at e) u.2 ∙ no_atom_at_closer e u.0 u.1 u.3) h s
 
   -- behind an atom and a `-` no atom stands
-  pub second_dead : (inner : Bracket) (outer : Brackets) (a : Atom) (w : List CodePoint) (hyphen : CodePoint) (rest : List CodePoint) → SpellsAtom e a w (hyphen ∷ rest) → is_dashed (values (hyphen ∷ rest)) ≡ true →
-      atom_at e rest ≡ no_atom → IsDeadItem e inner outer (w ++ (hyphen ∷ rest))
-  second_dead inner outer a w hyphen rest s d none closer ts back after row run = no_closer_at a (w ++ (hyphen ∷ rest)) w (hyphen ∷ rest) row.0 row.1 refl s row.2 row.3
-  second_dead inner outer a w hyphen rest s d none (item b) ts back after row run =
+  pub second_blocked : (inner : Bracket) (outer : Brackets) (a : Atom) (w : List CodePoint) (hyphen : CodePoint) (rest : List CodePoint) → SpellsAtom e a w (hyphen ∷ rest) → is_dashed (values (hyphen ∷ rest)) ≡ true →
+      atom_at e rest ≡ no_atom → IsBlockedItem e inner outer (w ++ (hyphen ∷ rest))
+  second_blocked inner outer a w hyphen rest s d none closer ts back after row run = no_closer_at a (w ++ (hyphen ∷ rest)) w (hyphen ∷ rest) row.0 row.1 refl s row.2 row.3
+  second_blocked inner outer a w hyphen rest s d none (item b) ts back after row run =
       let same = same_atom b a (w ++ (hyphen ∷ rest)) row.0 w row.1 (hyphen ∷ rest) row.2 row.3.0 refl s in
       elim row.3.1 [
         | inl k ↦ true≢false (sym d ∙ ap (λ us. is_dashed (values us)) (sym same.units) ∙ k)
@@ -98,12 +99,12 @@ module _ (e : Environment) where
             let there : hyphen ∷ rest ≡ b.hyphen ∷ (b.w ++ b.more) = sym same.units ∙ b.whole in
             no_atom_spelled b.third rest b.w b.more none (let k : rest ≡ b.w ++ b.more = cc there in k) b.spelled
       ]
-  second_dead inner outer a w hyphen rest s d none (low k v) ts back after row run =
+  second_blocked inner outer a w hyphen rest s d none (low k v) ts back after row run =
       let same = same_atom (character k v) a (w ++ (hyphen ∷ rest)) row.0 w row.1 (hyphen ∷ rest) row.2 row.3.0 refl s in
       let b = row.3.2 in
       let there : hyphen ∷ rest ≡ b.hyphen ∷ (b.w ++ b.more) = sym same.units ∙ b.whole in
       no_atom_spelled (character b.kind b.value) rest b.w b.more none (let k : rest ≡ b.w ++ b.more = cc there in k) b.spelled
-  second_dead inner outer a w hyphen rest s d none t ts back after row run = absurd row.3
+  second_blocked inner outer a w hyphen rest s d none t ts back after row run = absurd row.3
 
   -- A `-` before an atom.
   dashed_by : (b : Atom) (v more : List CodePoint) (hyphen : CodePoint) → hyphen.value ≡ 45 → SpellsAtom e b v more → is_dashed (values (hyphen ∷ (v ++ more))) ≡ true
@@ -115,16 +116,16 @@ module _ (e : Environment) where
       go false f = rw (h, f) refl
 
   -- An atom, a `-` and an atom, which are not both characters.
-  pub atoms_dead : (inner : Bracket) (outer : Brackets) (a b : Atom) (w v more : List CodePoint) (hyphen : CodePoint) → SpellsAtom e a w (hyphen ∷ (v ++ more)) → hyphen.value ≡ 45 → SpellsAtom e b v more →
-      (is_character a && is_character b) ≡ false → has_threes e.mode ≡ false → IsDeadItem e inner outer (w ++ (hyphen ∷ (v ++ more)))
-  atoms_dead inner outer a b w v more hyphen s h t both_no no_threes closer ts back after row run = no_closer_at a (w ++ (hyphen ∷ (v ++ more))) w (hyphen ∷ (v ++ more)) row.0 row.1 refl s row.2 row.3
-  atoms_dead inner outer a b w v more hyphen s h t both_no no_threes (item c) ts back after row run =
+  pub atoms_blocked : (inner : Bracket) (outer : Brackets) (a b : Atom) (w v more : List CodePoint) (hyphen : CodePoint) → SpellsAtom e a w (hyphen ∷ (v ++ more)) → hyphen.value ≡ 45 → SpellsAtom e b v more →
+      (is_character a && is_character b) ≡ false → has_threes e.mode ≡ false → IsBlockedItem e inner outer (w ++ (hyphen ∷ (v ++ more)))
+  atoms_blocked inner outer a b w v more hyphen s h t both_no no_threes closer ts back after row run = no_closer_at a (w ++ (hyphen ∷ (v ++ more))) w (hyphen ∷ (v ++ more)) row.0 row.1 refl s row.2 row.3
+  atoms_blocked inner outer a b w v more hyphen s h t both_no no_threes (item c) ts back after row run =
       let same = same_atom c a (w ++ (hyphen ∷ (v ++ more))) row.0 w row.1 (hyphen ∷ (v ++ more)) row.2 row.3.0 refl s in
       elim row.3.1 [
         | inl k ↦ true≢false (sym (dashed_by b v more hyphen h t) ∙ ap (λ us. is_dashed (values us)) (sym same.units) ∙ k)
         | inr l ↦ true≢false (sym l.threes ∙ no_threes)
       ]
-  atoms_dead inner outer a b w v more hyphen s h t both_no no_threes (low k x) ts back after row run =
+  atoms_blocked inner outer a b w v more hyphen s h t both_no no_threes (low k x) ts back after row run =
       let same = same_atom (character k x) a (w ++ (hyphen ∷ (v ++ more))) row.0 w row.1 (hyphen ∷ (v ++ more)) row.2 row.3.0 refl s in
       let l = row.3.2 in
       let there : hyphen ∷ (v ++ more) ≡ l.hyphen ∷ (l.w ++ l.more) = sym same.units ∙ l.whole in
@@ -132,7 +133,7 @@ module _ (e : Environment) where
       let k : (is_character (character k x) && is_character (character l.kind l.value)) ≡ false = subst (λ a. (is_character a && is_character (character l.kind l.value)) ≡ false) (sym same.atoms)
       (subst (λ b. (is_character a && is_character b) ≡ false) (sym also.atoms) both_no) in
       cc k
-  atoms_dead inner outer a b w v more hyphen s h t both_no no_threes t' ts back after row run = absurd row.3
+  atoms_blocked inner outer a b w v more hyphen s h t both_no no_threes t' ts back after row run = absurd row.3
 
   -- A range whose end is below its start is not allowed.
   no_range : (inner : Bracket) (outer : Brackets) (k j : CharacterKind) (v x : ℕ) (ts : List ClassToken) (after : Brackets) → x < v → class_run (low k v ∷ dash ∷ high j x ∷ ts) (inner ∷ outer) ≡ Some after → ⊥
@@ -148,10 +149,10 @@ module _ (e : Environment) where
           ap (λ b. behind_step (where_true (b && nat_le x 0x10FFFF) (holding (record inner { low_end = v }) outer false (ranged inner.held))) (λ bs. class_run ts bs)) (sym (not_below v x less)) ∙ low_is in
           cc no
 
-  pub range_dead : (inner : Bracket) (outer : Brackets) (v x : ℕ) (w z more : List CodePoint) (hyphen : CodePoint) → StandsRange e v w hyphen x z more → x < v → IsDeadItem e inner outer (w ++ (hyphen ∷ (z ++ more)))
-  range_dead inner outer v x w z more hyphen s less closer ts back after row run =
+  pub range_blocked : (inner : Bracket) (outer : Brackets) (v x : ℕ) (w z more : List CodePoint) (hyphen : CodePoint) → StandsRange e v w hyphen x z more → x < v → IsBlockedItem e inner outer (w ++ (hyphen ∷ (z ++ more)))
+  range_blocked inner outer v x w z more hyphen s less closer ts back after row run =
       no_closer_at (character s.low_kind v) (w ++ (hyphen ∷ (z ++ more))) w (hyphen ∷ (z ++ more)) row.0 row.1 refl s.low_is row.2 row.3
-  range_dead inner outer v x w z more hyphen s less (item c) ts back after row run =
+  range_blocked inner outer v x w z more hyphen s less (item c) ts back after row run =
       let same = same_atom c (character s.low_kind v) (w ++ (hyphen ∷ (z ++ more))) row.0 w row.1 (hyphen ∷ (z ++ more)) row.2 row.3.0 refl s.low_is in
       elim row.3.1 [
         | inl k ↦ true≢false (sym (dashed_by (character s.high_kind x) z more hyphen s.hyphen_is s.high_is) ∙ ap (λ us. is_dashed (values us)) (sym same.units) ∙ k)
@@ -162,7 +163,7 @@ module _ (e : Environment) where
             subst (λ b. (is_character (character s.low_kind v) && is_character b) ≡ false) also.atoms (subst (λ a. (is_character a && is_character l.third) ≡ false) same.atoms l.apart) in
             cc apart
       ]
-  range_dead inner outer v x w z more hyphen s less (low k y) ts back after row run =
+  range_blocked inner outer v x w z more hyphen s less (low k y) ts back after row run =
       let same = same_atom (character k y) (character s.low_kind v) (w ++ (hyphen ∷ (z ++ more))) row.0 w row.1 (hyphen ∷ (z ++ more)) row.2 row.3.0 refl s.low_is in
       behind_low k y (let e : y ≡ v = character_value k s.low_kind y v same.atoms in e) ts row.1 same.units row.4 run
     where
@@ -181,7 +182,7 @@ module _ (e : Environment) where
           no_range inner outer k j y x' ts after (omega (arith, same, high_is, less)) run
       behind_low k y same (dash ∷ t' ∷ ts) us h r run = absurd r.4.3
       behind_low k y same (t ∷ ts) us h r run = absurd r.3
-  range_dead inner outer v x w z more hyphen s less t ts back after row run = absurd row.3
+  range_blocked inner outer v x w z more hyphen s less t ts back after row run = absurd row.3
 
 pub row_shorter : (e : Environment) (ts : List ClassToken) (q : Place) (us : List CodePoint) (r : Place) (rest : List CodePoint) → ClassTokenRow e ts q us r rest → length rest ≤ length us
 row_shorter e [] q us r rest h = omega (arith, ap length h.1)
@@ -200,55 +201,55 @@ first_bracket e ((bracket false) ∷ ts) us rest open_brackets h r = let s = sin
 first_bracket e (t ∷ ts) us rest open_brackets h r = absurd (let no : ⊥ = cc h in no)
 
 -- An item place, at this place or before it, from which no reading goes on.
-pub record IsStopped (us : List CodePoint) (from : ℕ) (at_class : List CodePoint) (f : ℕ) : Type 0 where
+pub record IsStopped (mode : Mode) (us : List CodePoint) (from : ℕ) (at_class : List CodePoint) (f : ℕ) : Type 0 where
   pub place : ℕ
   pub rest : List CodePoint
-  pub item_place : IsItemPlace (text_environment Unicode us) from at_class place rest
+  pub item_place : IsItemPlace (text_environment mode us) from at_class place rest
   pub before : place ≤ f
-  pub dead : IsDeadItem (text_environment Unicode us) item_place.inner item_place.outer rest
+  pub blocked : IsBlockedItem (text_environment mode us) item_place.inner item_place.outer rest
 
-module _ (us : List CodePoint) (from : ℕ) (at_class : List CodePoint) where
+module _ (mode : Mode) (no_sets : is_sets mode ≡ false) (us : List CodePoint) (from : ℕ) (at_class : List CodePoint) where
   abbrev here : Environment
-  here = text_environment Unicode us
+  here = text_environment mode us
 
   nothing_there : atom_at here [] ≡ no_atom
   unfolding atom_at
   nothing_there = refl
 
-  at_item : (f : ℕ) (rest : List CodePoint) → (i : IsItemPlace here from at_class f rest) → IsDeadItem here i.inner i.outer rest → IsStopped us from at_class f
-  at_item f rest i dead = record { place = f; rest = rest; item_place = i; before = omega arith; dead = dead }
+  at_item : (f : ℕ) (rest : List CodePoint) → (i : IsItemPlace here from at_class f rest) → IsBlockedItem here i.inner i.outer rest → IsStopped mode us from at_class f
+  at_item f rest i blocked = record { place = f; rest = rest; item_place = i; before = omega arith; blocked = blocked }
 
-  at_atom : (f : ℕ) (rest : List CodePoint) → IsAtomPlace here from at_class f rest → atom_at here rest ≡ no_atom → starts 93 (values rest) ≡ false → IsStopped us from at_class f
-  at_atom f rest (inl i) none other = at_item f rest i (no_atom_dead here i.inner i.outer rest (record { none = none; no_closer = other }))
+  at_atom : (f : ℕ) (rest : List CodePoint) → IsAtomPlace here from at_class f rest → atom_at here rest ≡ no_atom → starts 93 (values rest) ≡ false → IsStopped mode us from at_class f
+  at_atom f rest (inl i) none other = at_item f rest i (no_atom_blocked here i.inner i.outer rest (record { none = none; no_closer = other }))
   at_atom f rest (inr i) none other = record {
     place = i.first;
     rest = i.w ++ (i.hyphen ∷ rest);
     item_place = i.item_place;
     before = omega (arith, i.place_is);
-    dead = second_dead here i.item_place.inner i.item_place.outer i.atom i.w i.hyphen rest i.spelled i.dashed none;
+    blocked = second_blocked here i.item_place.inner i.item_place.outer i.atom i.w i.hyphen rest i.spelled i.dashed none;
   }
 
-  pub stopped : (first added f : ℕ) (d : Diagnostic) → IsClassCause Unicode us first added from at_class f d → IsStopped us from at_class f
-  stopped first added _ _ (class_cause.unterminated_class place i) = at_item place [] i (no_atom_dead here i.inner i.outer [] (record { none = nothing_there; no_closer = refl }))
+  pub stopped : (first added f : ℕ) (d : Diagnostic) → IsClassCause mode us first added from at_class f d → IsStopped mode us from at_class f
+  stopped first added _ _ (class_cause.unterminated_class place i) = at_item place [] i (no_atom_blocked here i.inner i.outer [] (record { none = nothing_there; no_closer = refl }))
   stopped first added _ _ (class_cause.range_out_of_order place low_value high_value w v more hyphen i s less other) =
-      at_item place (w ++ (hyphen ∷ (v ++ more))) i (range_dead here i.inner i.outer low_value high_value w v more hyphen s less)
+      at_item place (w ++ (hyphen ∷ (v ++ more))) i (range_blocked here i.inner i.outer low_value high_value w v more hyphen s less)
   stopped first added _ _ (class_cause.dash_out_of_order place low_value w v more hyphen i s less) =
-      at_item place (w ++ (hyphen ∷ (v ++ more))) i (range_dead here i.inner i.outer low_value 45 w v more hyphen s less)
+      at_item place (w ++ (hyphen ∷ (v ++ more))) i (range_blocked here i.inner i.outer low_value 45 w v more hyphen s less)
   stopped first added _ _ (class_cause.invalid_range place a b w v more hyphen i m s h t other) =
-      at_item place (w ++ (hyphen ∷ (v ++ more))) i (atoms_dead here i.inner i.outer a b w v more hyphen s h t other refl)
+      at_item place (w ++ (hyphen ∷ (v ++ more))) i (atoms_blocked here i.inner i.outer a b w v more hyphen s h t other (ap has_threes m))
   stopped first added _ _ (class_cause.invalid_atom place backslash rest i h no_escape) =
-      at_atom place (backslash ∷ rest) i (no_escape_atom us backslash rest h no_escape) (ap (λ x. x == 93) h)
-  stopped first added _ d (class_cause.escape_in_class place rest i c) = let r = refused_escape us first added place rest d c in at_atom place rest i r.0 r.1
-  stopped first added _ d (class_cause.property_in_class place rest i c) = let r = refused_property us first added place rest d c in at_atom place rest i r.0 r.1
+      at_atom place (backslash ∷ rest) i (no_escape_atom mode no_sets us backslash rest h no_escape) (ap (λ x. x == 93) h)
+  stopped first added _ d (class_cause.escape_in_class place rest i c) = let r = refused_escape mode no_sets us first added place rest place d (of_character c) in at_atom place rest i r.0 r.1
+  stopped first added _ d (class_cause.property_in_class place rest i c) = let r = refused_escape mode no_sets us first added place rest place d (of_property c) in at_atom place rest i r.0 r.1
 
-  pub at_bracket_is : (f : ℕ) → IsStopped us from at_class f → (u : CodePoint) × (more : List CodePoint) × (at_class ≡ u ∷ more) × (u.value ≡ 91)
+  pub at_bracket_is : (f : ℕ) → IsStopped mode us from at_class f → (u : CodePoint) × (more : List CodePoint) × (at_class ≡ u ∷ more) × (u.value ≡ 91)
   at_bracket_is f s = let i = s.item_place in first_bracket here i.tokens at_class s.rest (i.inner ∷ i.outer) i.accepted i.row
 
-  pub behind_bracket : (f : ℕ) → IsStopped us from at_class f → from ≤ f
+  pub behind_bracket : (f : ℕ) → IsStopped mode us from at_class f → from ≤ f
   behind_bracket f s = let i = s.item_place in omega (arith, s.before, i.place_is, row_shorter here i.tokens outside at_class fresh s.rest i.row)
 
   -- No item place stands beyond.
-  pub item_beyond : (f : ℕ) → IsStopped us from at_class f → (further : ℕ) (back : List CodePoint) → IsItemPlace here from at_class further back → f < further → ⊥
+  pub item_beyond : (f : ℕ) → IsStopped mode us from at_class f → (further : ℕ) (back : List CodePoint) → IsItemPlace here from at_class further back → f < further → ⊥
   item_beyond f s further back j less =
       let i = s.item_place in
       elim (class_prefixes here i.tokens j.tokens outside at_class fresh s.rest fresh back i.row j.row) [
@@ -259,18 +260,18 @@ module _ (us : List CodePoint) (from : ℕ) (at_class : List CodePoint) where
       go : (xs : List ClassToken) → j.tokens ≡ s.item_place.tokens ++ xs → ClassTokenRow here xs fresh s.rest fresh back → ⊥
       go [] e r = omega (arith, ap length r.1, s.item_place.place_is, j.place_is, s.before, less)
       go (t ∷ ts) e r =
-          s.dead t ts back (j.inner ∷ j.outer) r
+          s.blocked t ts back (j.inner ∷ j.outer) r
           (sym (class_opened-append s.item_place.tokens (t ∷ ts) (s.item_place.inner ∷ s.item_place.outer) s.item_place.accepted) ∙ ap class_opened (sym e) ∙ j.accepted)
 
   -- No class that is free of early errors stands there.
-  pub no_class : (f : ℕ) → IsStopped us from at_class f → (c : Class) (w rest : List CodePoint) → at_class ≡ w ++ rest → IsClass here c w rest → IsEarlyClass c → ⊥
+  pub no_class : (f : ℕ) → IsStopped mode us from at_class f → (c : Class) (w rest : List CodePoint) → at_class ≡ w ++ rest → IsClass here c w rest → IsEarlyClass c → ⊥
   no_class f s c w rest whole is early =
       let i = s.item_place in
       let row = subst (λ us. ClassTokenRow here (class_tokens c) outside us fresh rest) (sym whole) is.row in
       elim (class_prefixes here i.tokens (class_tokens c) outside at_class fresh s.rest fresh rest i.row row) [ inl p ↦ on p.0 p.1 p.2 | inr p ↦ off p.0 p.1 ]
     where
       closes : class_opened (class_tokens c) ≡ Some []
-      closes = whole_class here refl c w rest is early
+      closes = whole_class here c w rest is early
 
       none_open : (inner : Bracket) (outer : Brackets) → ClosesAs [] ≡ ClosesAs (inner ∷ outer) → ⊥
       none_open inner outer h = cc h
@@ -279,14 +280,14 @@ module _ (us : List CodePoint) (from : ℕ) (at_class : List CodePoint) where
       on [] e r =
           none_open s.item_place.inner s.item_place.outer
           (sym closes ∙ ap class_opened e ∙ class_opened-append s.item_place.tokens [] (s.item_place.inner ∷ s.item_place.outer) s.item_place.accepted)
-      on (t ∷ ts) e r = s.dead t ts rest [] r (sym (class_opened-append s.item_place.tokens (t ∷ ts) (s.item_place.inner ∷ s.item_place.outer) s.item_place.accepted) ∙ ap class_opened (sym e) ∙ closes)
+      on (t ∷ ts) e r = s.blocked t ts rest [] r (sym (class_opened-append s.item_place.tokens (t ∷ ts) (s.item_place.inner ∷ s.item_place.outer) s.item_place.accepted) ∙ ap class_opened (sym e) ∙ closes)
 
       off : (xs : List ClassToken) → s.item_place.tokens ≡ class_tokens c ++ xs → ⊥
       off [] e = none_open s.item_place.inner s.item_place.outer (sym (class_opened-append (class_tokens c) [] [] closes) ∙ ap class_opened (sym e) ∙ s.item_place.accepted)
       off (t ∷ ts) e = let no : None ≡ ClosesAs (s.item_place.inner ∷ s.item_place.outer) = sym (class_opened-append (class_tokens c) (t ∷ ts) [] closes) ∙ ap class_opened (sym e) ∙ s.item_place.accepted in cc no
 
-  pub class_dead : (f : ℕ) → IsStopped us from at_class f → IsDead Unicode us at_class
-  class_dead f s t n h o = go (class_front here b.1) (sym h ∙ ap (front here) b.2 ∙ at_bracket here b.0 b.1 b.3)
+  pub class_blocked : (f : ℕ) → IsStopped mode us from at_class f → IsBlocked mode us at_class
+  class_blocked f s t n h o = go (class_front here b.1) (sym h ∙ ap (front here) b.2 ∙ at_bracket here b.0 b.1 b.3)
     where
       b : (u : CodePoint) × (more : List CodePoint) × (at_class ≡ u ∷ more) × (u.value ≡ 91)
       b = at_bracket_is f s
@@ -296,4 +297,4 @@ module _ (us : List CodePoint) (from : ℕ) (at_class : List CodePoint) where
       go (Some c) k =
           let same : t ≡ token.class c.0 = same_token t (token.class c.0) n c.1 k in
           let x = front_spelled here at_class t n h in
-          no_class f s c.0 x.w x.rest x.whole (subst (λ t. Spells here t x.w x.rest) same x.spells) (subst (Obeys (text_groups us) (text_names Unicode us)) same o)
+          no_class f s c.0 x.w x.rest x.whole (subst (λ t. Spells here t x.w x.rest) same x.spells) (subst (Obeys (text_groups us) (text_names mode us)) same o)

@@ -16,7 +16,7 @@ abbrev pub union_tokens : Members → List ClassToken
 union_tokens no_member = []
 union_tokens (member m ms) = class_tokens_of (member_events m) ++ union_tokens ms
 
-more_tokens_are : (ms : Members) → class_tokens_of (more_members_events [] ms) ≡ union_tokens ms
+pub more_tokens_are : (ms : Members) → class_tokens_of (more_members_events [] ms) ≡ union_tokens ms
 more_tokens_are no_member = refl
 more_tokens_are (member m ms) =
     tokens_append (member_events m) (more_members_events [] ms) ∙ ap (λ ts. class_tokens_of (member_events m) ++ ts) (more_tokens_are ms)

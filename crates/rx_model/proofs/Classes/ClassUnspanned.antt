@@ -1,6 +1,9 @@
 -- A class that is spelled with its spans is spelled without them.
-use Rattle.std.proofs.Common.{◌≡◌, refl, sym, ap, ap₂, ◌∙◌, subst, ℕ, ◌+◌, ◌||◌, ◌&&◌, List, [], ◌∷◌, ◌++◌, length, map}
-use Rattle.std.proofs.lemmas.List.{append-nil}
+use Rattle.std.proofs.Common.{◌≡◌, refl, sym, ap, ap₂, ◌∙◌, subst, ℕ, ◌+◌, ◌==◌, ◌||◌, ◌&&◌, not, List, [], ◌∷◌, ◌++◌, length, map}
+use Rattle.std.specs.Prelude.{All}
+use Rattle.std.specs.List.{list_any}
+use Rattle.std.proofs.lemmas.List.{append-nil, length-map}
+use Rattle.std.proofs.lemmas.List.Elements.{All-cons, All-head, All-map, All-nil, All-tail}
 use Rattle.rx_base.specs.declared.span.Span.{Span}
 use Rattle.rx_ast.specs.declared.leaf.Character.{Character}
 use Rattle.rx_ast.specs.declared.class.CharacterClassContentsKind.{CharacterClassContentsKind}
@@ -15,7 +18,7 @@ use Rattle.rx_units.specs.declared.code_point.CodePoint.{CodePoint}
 use Rattle.rx_model.specs.declared.mode.Mode.{Mode}
 use Rattle.rx_model.specs.Classes.ClassRows.{Place, ClassTokenRow, ClassRow, IsClassShape, IsClass, IsClassSpanned, fresh, outside, behind}
 use Rattle.rx_model.specs.Classes.ClassTokens.{ClassEvents, enter, leave, token, bracket, closer, strings, string_bar, strings_end, letter, class_tokens_of, within, letters_events, string_events, barred_strings_events, strings_events, operator_events, member_events, class_events, members_events, more_members_events, class_tokens}
-use Rattle.rx_model.specs.Trees.Early.{member_strings, any_strings, all_strings, first_strings, may_contain_strings}
+use Rattle.rx_model.specs.Trees.Early.{AreEarlyMembers, IsCodePoint, IsEarlyClass, IsEarlyMember, IsEarlyString, member_strings, any_strings, all_strings, first_strings, may_contain_strings}
 use Rattle.rx_model.specs.Inputs.Environment.{Environment}
 
 pub class_tokens_of-append : (es fs : ClassEvents) → class_tokens_of (es ++ fs) ≡ class_tokens_of es ++ class_tokens_of fs
@@ -114,6 +117,36 @@ may_forget : (kind : CharacterClassContentsKind) (ms : Members) → may_contain_
 may_forget Union ms = any_may ms
 may_forget Intersection ms = all_may ms
 may_forget Subtraction ms = first_may ms
+
+-- Nor do the early errors.
+early_string : (s : ClassString) → IsEarlyString s → IsEarlyString (forget_string same_kind s)
+early_string s h =
+    (h.0 ∙ ap (λ n. not (n == 1)) (sym (length-map s.body (forget_character same_kind))), All-map (λ (c : Character). IsCodePoint c.value) (forget_character same_kind) s.body h.1)
+
+early_each : (ss : List ClassString) → All IsEarlyString ss → All IsEarlyString (map (forget_string same_kind) ss)
+early_each [] h = All-nil IsEarlyString
+early_each (s ∷ ss) h =
+    All-cons IsEarlyString (forget_string same_kind s) (map (forget_string same_kind) ss) (early_string s (All-head IsEarlyString s ss h)) (early_each ss (All-tail IsEarlyString s ss h))
+
+some_strings : (ss : List ClassString) → list_any (λ s. s.strings) (map (forget_string same_kind) ss) ≡ list_any (λ s. s.strings) ss
+some_strings [] = refl
+some_strings (s ∷ ss) = ap (λ b. s.strings || b) (some_strings ss)
+
+mutual
+  early_member : (m : Member) → IsEarlyMember m → IsEarlyMember (forget_member same_kind m)
+  early_member (tree.range r) h = h
+  early_member (tree.escape e) h = h
+  early_member (tree.property p) h = h
+  early_member (tree.character c) h = h
+  early_member (tree.nested c) h = early_forget c h
+  early_member (tree.strings d) h = (h.0 ∙ sym (some_strings d.body), early_each d.body h.1)
+
+  early_members : (ms : Members) → AreEarlyMembers ms → AreEarlyMembers (forget_members same_kind ms)
+  early_members no_member h = h
+  early_members (member m ms) h = (early_member m h.0, early_members ms h.1)
+
+  pub early_forget : (c : Class) → IsEarlyClass c → IsEarlyClass (forget_class same_kind c)
+  early_forget (class s negative may kind ms) h = (h.0 ∙ sym (may_forget kind ms), h.1, early_members ms h.2)
 
 shape_forget : (mode : Mode) (c : Class) → IsClassShape mode c → IsClassShape mode (forget_class same_kind c)
 shape_forget mode (class s negative may kind ms) h = (h.0, h.1 ∙ sym (may_forget kind ms))

@@ -6,15 +6,17 @@ use Rattle.rx_ast.specs.declared.class.CharacterClassContentsKind.TheVariants.{U
 use Rattle.rx_ast.specs.ClassTree.{Class, Member, Members, no_member, member, class}
 use Rattle.rx_ast.specs.ClassTree as tree
 use Rattle.rx_units.specs.declared.code_point.CodePoint.{CodePoint}
-use Rattle.rx_units.specs.Units.{values}
-use Rattle.rx_model.specs.declared.mode.Mode.TheVariants.{Unicode}
-use Rattle.rx_model.specs.Classes.ClassRows.{Place, ClassTokenRow, IsClass, behind_item, fresh, has_threes, is_dashed, outside}
-use Rattle.rx_model.specs.Classes.ClassRuns.{Held, empty, single, several, meeting, met, lessening, lessened, Bracket, Brackets, atom_may, atom_obeys, behind_step, bracket_of, class_opened, class_run, class_step, closed, holding, is_whole, operand, ranged, where_may, where_true, with_strings}
-use Rattle.rx_model.specs.Classes.ClassTokens.{Atom, character, escape, property, ClassToken, bracket, closer, item, low, dash, high, class_tokens}
-use Rattle.rx_model.specs.Trees.Early.{AreEarlyMembers, IsEarlyClass}
+use Rattle.rx_model.specs.declared.mode.Mode.{Mode}
+use Rattle.rx_model.specs.declared.mode.Mode.TheVariants.{Sets}
+use Rattle.rx_model.specs.Classes.ClassRows.{Place, ClassTokenRow, IsClass, SpellsInClass, at_dash, at_high, at_second, at_third, behind_item, fresh, outside}
+use Rattle.rx_model.specs.Classes.ClassRuns.{Held, empty, single, several, meeting, met, lessening, lessened, Bracket, Brackets, atom_may, atom_obeys, behind_step, bracket_of, class_opened, class_run, class_step, holding, is_whole, operand, ranged, where_may, where_true, with_strings}
+use Rattle.rx_model.specs.Classes.ClassTokens.{Atom, ClassToken, bracket, closer, item, low, dash, high, strings, class_tokens}
+use Rattle.rx_model.specs.Classes.ClassShapes.{AreFitting}
+use Rattle.rx_model.specs.Trees.Early.{IsEarlyClass}
 use Rattle.rx_model.specs.Inputs.Environment.{Environment}
 use Rattle.rx_model.specs.Properties.PropertyEscapes as spelled
-use Rattle.rx_model.specs.Properties.PropertyEscapes.{SpellsProperty, IsProperty}
+use Rattle.rx_model.specs.Properties.PropertyEscapes.{SpellsProperty}
+use Rattle.rx_model.proofs.Classes.ClassShapes.{early_closes}
 use Rattle.rx_model.proofs.Classes.ClassTokens.{class_tokens_are, union_tokens}
 
 -- what a bracket around a union holds
@@ -67,11 +69,11 @@ holds_more negative held v more g =
     ap (holding (record (bracket_of negative held false) { low_end = v }) [] false) g.is ∙ ap (λ may. Some (bracket_of negative g.held may ∷ [])) (without_strings held)
 
 -- After these tokens the bracket is around a union still.
-abbrev Runs : Bool → Held → List ClassToken → List ClassToken → Type 0
+abbrev pub Runs : Bool → Held → List ClassToken → List ClassToken → Type 0
 Runs negative held ts ss =
     (grown : Held) × IsUnion grown × (class_run (ts ++ ss) (bracket_of negative held false ∷ []) ≡ class_run ss (bracket_of negative grown false ∷ []))
 
-atom_runs : (negative : Bool) (held : Held) (a : Atom) (ss : List ClassToken) → IsUnion held → atom_obeys a ≡ true → atom_may a ≡ false → Runs negative held (item a ∷ []) ss
+pub atom_runs : (negative : Bool) (held : Held) (a : Atom) (ss : List ClassToken) → IsUnion held → atom_obeys a ≡ true → atom_may a ≡ false → Runs negative held (item a ∷ []) ss
 atom_runs negative held a ss u obeys may =
     let r : Bracket = bracket_of negative held false in
     let g = one_operand held u in (
@@ -81,7 +83,7 @@ atom_runs negative held a ss u obeys may =
           (ap (λ b. where_true b (holding r [] (atom_may a) (operand held))) obeys ∙ ap (λ may. holding r [] may (operand held)) may ∙ holds_more negative held 0 (operand held) g),
     )
 
-range_runs : (negative : Bool) (held : Held) (k : CharacterKind) (v : ℕ) (j : CharacterKind) (x : ℕ) (ss : List ClassToken) → IsUnion held → v ≤ x → x ≤ 0x10FFFF →
+pub range_runs : (negative : Bool) (held : Held) (k : CharacterKind) (v : ℕ) (j : CharacterKind) (x : ℕ) (ss : List ClassToken) → IsUnion held → v ≤ x → x ≤ 0x10FFFF →
     Runs negative held (low k v ∷ dash ∷ high j x ∷ []) ss
 range_runs negative held k v j x ss u order small =
     let r : Bracket = record (bracket_of negative held false) { low_end = v } in
@@ -94,7 +96,7 @@ range_runs negative held k v j x ss u order small =
           ∙ holds_more negative held v (ranged held) g),
     )
 
-property_obeys : (negative may : Bool) → (negative && may) ≡ false → not (negative && may) ≡ true
+pub property_obeys : (negative may : Bool) → (negative && may) ≡ false → not (negative && may) ≡ true
 property_obeys negative may h = ap not h
 
 -- More tokens go on with the brackets that these leave open.
@@ -113,11 +115,12 @@ class_opened-append [] ss cs h = absurd (let no : ⊥ = cc h in no)
 class_opened-append ((bracket negative) ∷ ts) ss cs h = class_run-append ts ss (bracket_of negative empty false ∷ []) cs h
 class_opened-append (t ∷ ts) ss cs h = absurd (let no : ⊥ = cc h in no)
 
-only_sets : (strings : Bool) (name : List ℕ) (value : Option (List ℕ)) (text : List ℕ) → SpellsProperty Unicode strings name value text → strings ≡ false
-only_sets _ _ _ _ (spelled.pair valid) = refl
-only_sets _ _ _ _ (spelled.category known) = refl
-only_sets _ _ _ _ (spelled.binary no_category known) = refl
-only_sets _ _ _ _ (spelled.of_strings sets no_category no_binary known) = absurd (let no : ⊥ = cc sets in no)
+-- But in sets mode no property is of strings.
+pub only_sets : (mode : Mode) → (mode ≡ Sets → ⊥) → (strings : Bool) (name : List ℕ) (value : Option (List ℕ)) (text : List ℕ) → SpellsProperty mode strings name value text → strings ≡ false
+only_sets mode no_sets _ _ _ _ (spelled.pair valid) = refl
+only_sets mode no_sets _ _ _ _ (spelled.category known) = refl
+only_sets mode no_sets _ _ _ _ (spelled.binary no_category known) = refl
+only_sets mode no_sets _ _ _ _ (spelled.of_strings sets no_category no_binary known) = absurd (no_sets sets)
 
 whole_union : (held : Held) → IsUnion held → is_whole held ≡ true
 whole_union empty u = refl
@@ -132,50 +135,54 @@ never_both : (negative : Bool) → not (negative && false) ≡ true
 never_both true = refl
 never_both false = refl
 
-module _ (e : Environment) (with_u : e.mode ≡ Unicode) where
-  -- with `u` no property is of strings
-  no_strings : (negative strings : Bool) (name : List ℕ) (value : Option (List ℕ)) (w : List CodePoint) → IsProperty e negative strings name value w → strings ≡ false
-  no_strings negative strings name value w s = only_sets strings name value s.text (subst (λ mode. SpellsProperty mode strings name value s.text) with_u s.spelled)
+-- The members of a class that is spelled are neither classes nor strings.
+abbrev IsInside : Place → Type 0
+IsInside outside = ⊥
+IsInside fresh = Unit {0}
+IsInside at_dash = Unit {0}
+IsInside at_high = Unit {0}
+IsInside at_second = Unit {0}
+IsInside at_third = Unit {0}
 
-  -- with `u` an item is followed by the next one
-  fresh_again : (dashed : Bool) → behind_item fresh (dashed && has_threes e.mode) ≡ fresh
-  fresh_again true = ap (λ mode. behind_item fresh (true && has_threes mode)) with_u
-  fresh_again false = refl
+behind_inside : (q : Place) (first : Bool) → IsInside (behind_item q first)
+behind_inside outside first = tt
+behind_inside fresh true = tt
+behind_inside fresh false = tt
+behind_inside at_dash first = tt
+behind_inside at_high first = tt
+behind_inside at_second first = tt
+behind_inside at_third first = tt
 
-  next_item : (ts : List ClassToken) (us : List CodePoint) (r : Place) (rest : List CodePoint) → ClassTokenRow e ts (behind_item fresh (is_dashed (values us) && has_threes e.mode)) us r rest → ClassTokenRow e ts fresh us r rest
-  next_item ts us r rest h = subst (λ q. ClassTokenRow e ts q us r rest) (fresh_again (is_dashed (values us))) h
+module _ (e : Environment) where
+  no_bracket : (q : Place) (negative : Bool) (w rest : List CodePoint) → IsInside q → SpellsInClass e q (bracket negative) w rest → ⊥
+  no_bracket outside negative w rest i s = i
+  no_bracket fresh negative w rest i s = s
+  no_bracket at_dash negative w rest i s = s
+  no_bracket at_high negative w rest i s = s
+  no_bracket at_second negative w rest i s = s
+  no_bracket at_third negative w rest i s = s
 
-  union_runs : (ms : Members) (ss : List ClassToken) (us : List CodePoint) (r : Place) (rest : List CodePoint) (negative : Bool) (held : Held) → IsUnion held → AreEarlyMembers ms →
-      ClassTokenRow e (union_tokens ms ++ ss) fresh us r rest →
-      (grown : Held) × IsUnion grown × (class_run (union_tokens ms ++ ss) (bracket_of negative held false ∷ []) ≡ class_run ss (bracket_of negative grown false ∷ []))
-  union_runs no_member ss us r rest negative held u early row = (held, u, refl)
-  union_runs (member (tree.range x) ms) ss us r rest negative held u early row =
-      let s = range_runs negative held x.min.kind x.min.value x.max.kind x.max.value (union_tokens ms ++ ss) u early.0.2 early.0.1 in
-      let t = union_runs ms ss row.4.4.1 r rest negative s.0 s.1 early.1 row.4.4.4 in
-      (t.0, t.1, s.2 ∙ t.2)
-  union_runs (member (tree.escape x) ms) ss us r rest negative held u early row =
-      let s = atom_runs negative held (escape x.kind) (union_tokens ms ++ ss) u refl refl in
-      let t = union_runs ms ss row.1 r rest negative s.0 s.1 early.1 (next_item (union_tokens ms ++ ss) row.1 r rest row.4) in
-      (t.0, t.1, s.2 ∙ t.2)
-  union_runs (member (tree.property x) ms) ss us r rest negative held u early row =
-      let s = atom_runs negative held (property x.negative x.strings x.name x.value) (union_tokens ms ++ ss) u (property_obeys x.negative x.strings early.0)
-      (no_strings x.negative x.strings x.name x.value row.0 row.3.0) in
-      let t = union_runs ms ss row.1 r rest negative s.0 s.1 early.1 (next_item (union_tokens ms ++ ss) row.1 r rest row.4) in
-      (t.0, t.1, s.2 ∙ t.2)
-  union_runs (member (tree.character x) ms) ss us r rest negative held u early row =
-      let s = atom_runs negative held (character x.kind x.value) (union_tokens ms ++ ss) u (le-leb x.value 0x10FFFF early.0) refl in
-      let t = union_runs ms ss row.1 r rest negative s.0 s.1 early.1 (next_item (union_tokens ms ++ ss) row.1 r rest row.4) in
-      (t.0, t.1, s.2 ∙ t.2)
-  union_runs (member (tree.nested (class s n may kind xs)) ms) ss us r rest negative held u early row = absurd row.3
-  union_runs (member (tree.strings d) ms) ss us r rest negative held u early row = absurd row.3
+  no_strings : (q : Place) (w rest : List CodePoint) → SpellsInClass e q strings w rest → ⊥
+  no_strings outside w rest s = s
+  no_strings fresh w rest s = s
+  no_strings at_dash w rest s = s
+  no_strings at_high w rest s = s
+  no_strings at_second w rest s = s
+  no_strings at_third w rest s = s
 
+  are_fitting : (ms : Members) (ss : List ClassToken) (q : Place) (us : List CodePoint) (r : Place) (rest : List CodePoint) → IsInside q → ClassTokenRow e (union_tokens ms ++ ss) q us r rest → AreFitting ms
+  are_fitting no_member ss q us r rest i row = tt
+  are_fitting (member (tree.range x) ms) ss q us r rest i row = (tt, are_fitting ms ss fresh row.4.4.1 r rest tt row.4.4.4)
+  are_fitting (member (tree.escape x) ms) ss q us r rest i row = (tt, are_fitting ms ss _ row.1 r rest (behind_inside q _) row.4)
+  are_fitting (member (tree.property x) ms) ss q us r rest i row = (tt, are_fitting ms ss _ row.1 r rest (behind_inside q _) row.4)
+  are_fitting (member (tree.character x) ms) ss q us r rest i row = (tt, are_fitting ms ss _ row.1 r rest (behind_inside q _) row.4)
+  are_fitting (member (tree.nested (class s n may kind xs)) ms) ss q us r rest i row = absurd (no_bracket q n row.0 row.1 i row.3)
+  are_fitting (member (tree.strings d) ms) ss q us r rest i row = absurd (no_strings q row.0 row.1 row.3)
+
+  -- A class that is spelled and free of early errors closes.
   pub whole_class : (c : Class) (w rest : List CodePoint) → IsClass e c w rest → IsEarlyClass c → class_opened (class_tokens c) ≡ Some []
   whole_class (class s negative may Union ms) w rest is early =
-      let same = class_tokens_are s negative may ms in
-      let row = subst (λ ts. ClassTokenRow e ts outside (w ++ rest) fresh rest) same is.row in
-      let t = union_runs ms (closer ∷ []) row.1 fresh rest negative empty tt early.2 row.4 in
-      ap class_opened same
-      ∙ t.2
-      ∙ ap (λ b. behind_step (closed false b []) (λ after. class_run [] after)) (and_from (is_whole t.0) (not (negative && false)) (whole_union t.0 t.1) (never_both negative))
+      let row = subst (λ ts. ClassTokenRow e ts outside (w ++ rest) fresh rest) (class_tokens_are s negative may ms) is.row in
+      early_closes (class s negative may Union ms) (tt, are_fitting ms (closer ∷ []) fresh row.1 fresh rest tt row.4) early
   whole_class (class s negative may Intersection ms) w rest is early = absurd is.shape.0
   whole_class (class s negative may Subtraction ms) w rest is early = absurd is.shape.0

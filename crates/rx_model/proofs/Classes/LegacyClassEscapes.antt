@@ -11,11 +11,12 @@ use Rattle.rx_model.specs.Classes.ClassRows.{SpellsAtom}
 use Rattle.rx_model.specs.Classes.ClassTokens.{Atom}
 use Rattle.rx_model.specs.Inputs.Environment.{Environment, is_unicode}
 use Rattle.rx_model.specs.Refusals.EscapeCauses as escapes
-use Rattle.rx_model.specs.Refusals.EscapeCauses.{BeginsProperty, IsEscapeCause, IsPropertyCause}
+use Rattle.rx_model.specs.Refusals.EscapeCauses.{IsEscapeCause}
 use Rattle.rx_model.specs.Refusals.Firsts.{IsCauseOfEscape, of_character, of_property}
 use Rattle.rx_model.specs.Refusals.Stops.{begins_class_escape, is_hyphen_escaped}
 use Rattle.rx_model.proofs.Classes.ClassFronts.{at_backslash, atom_found, atom_is_read}
 use Rattle.rx_model.proofs.Characters.Decodings.{both}
+use Rattle.rx_model.proofs.Properties.PropertyRefusals.{cause_unicode}
 use Rattle.rx_model.proofs.Refusals.LegacyStops.{atom_behind_backslash, no_atom_behind_backslash}
 
 no_hyphen : (mode : Mode) → is_unicode mode ≡ false → (is_hyphen_escaped mode && false) ≡ false
@@ -61,15 +62,6 @@ module _ (mode : Mode) (m : is_unicode mode ≡ false) (us : List CodePoint) (st
   no_character _ (escapes.too_many_hex_digits count behind u h limit) = never u
   no_character _ (escapes.invalid_escape behind u h none no_limit) = never u
 
-  no_property : (d : Diagnostic) → IsPropertyCause mode us start added place rest d → ⊥
-  no_property _ (escapes.no_property letter behind u h p s) = never u
-  no_property _ (escapes.unterminated_run w run behind b r h) = never b.unicode
-  no_property _ (escapes.unclosed_run w run behind b r known some h) = never b.unicode
-  no_property _ (escapes.unclosed_pair w name value behind b p known h) = never b.unicode
-  no_property _ (escapes.unknown_pair w name value behind b p unknown) = never b.unicode
-  no_property _ (escapes.unknown_run w run behind b r some more unknown no_strings) = never b.unicode
-  no_property _ (escapes.of_strings w run behind u b r more unknown strings) = never b.unicode
-
   pub none_refused : (f : ℕ) (d : Diagnostic) → IsCauseOfEscape mode us start added place rest f d → ⊥
   none_refused _ d (of_character c) = no_character d c
-  none_refused _ d (of_property c) = no_property d c
+  none_refused _ d (of_property c) = never (cause_unicode mode us start added place rest d c)

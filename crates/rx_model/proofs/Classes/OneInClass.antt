@@ -1,52 +1,60 @@
 -- At most one refusal holds at a place of a class.
-use Rattle.std.proofs.Common.{◌≡◌, refl, ap, sym, ◌∙◌, subst, ℕ, ◌+◌, ◌<◌, ◌≤◌, ◌==◌, ◌&&◌, false, cond, Some, List, [], ◌∷◌, ◌++◌, length, drop, arith, inl, inr, length-append}
+use Rattle.std.proofs.Common.{◌≡◌, refl, ap, sym, ◌∙◌, subst, ℕ, ◌+◌, ◌<◌, ◌≤◌, ◌==◌, ◌&&◌, true, false, cond, List, [], ◌∷◌, ◌++◌, length, drop, arith, inl, inr, length-append}
 use Rattle.std.proofs.Math.Seq.{drop-append_seam}
-use Rattle.std.proofs.lemmas.Bool.{cond-false, false_from_ne_true, eqb-true, true≢false}
+use Rattle.std.proofs.lemmas.Bool.{both_ways, cond-false, false_from_ne_true, eqb-true, or_cases, true≢false}
 use Rattle.rx_base.specs.declared.diagnostic.Diagnostic.{Diagnostic}
 use Rattle.rx_base.specs.declared.diagnostic.Diagnostic.TheVariants.{UnterminatedPattern, CharacterClassRangeOutOfOrder, CharacterClassRangeDashNotSubtraction, CharacterClassRangeInvalidAtom, InvalidClassAtom}
 use Rattle.rx_base.specs.declared.diagnostic.kinds.RangeKind.TheVariants as range_kind
 use Rattle.rx_base.specs.declared.diagnostic.kinds.Unterminated.TheVariants as what
 use Rattle.rx_units.specs.declared.code_point.CodePoint.{CodePoint}
 use Rattle.rx_units.specs.Units.{values}
-use Rattle.rx_model.specs.declared.mode.Mode.TheVariants.{Unicode}
+use Rattle.rx_model.specs.declared.mode.Mode.{Mode}
 use Rattle.rx_model.specs.Refusals.ClassCauses as class_cause
 use Rattle.rx_model.specs.Refusals.ClassCauses.{IsClassCause, StandsRange, is_character}
 use Rattle.rx_model.specs.Classes.ClassFronts.{atom_read, no_atom, atom_at}
 use Rattle.rx_model.specs.Refusals.ClassPlaces.{IsAtomPlace, IsItemPlace, IsSecondPlace}
 use Rattle.rx_model.specs.Classes.ClassRows.{behind, ClassTokenRow, SpellsAtom, SpellsInClass, fresh, outside}
 use Rattle.rx_model.specs.Classes.ClassTokens.{Atom, character, ClassToken, closer, item, low}
-use Rattle.rx_model.specs.Inputs.Environment.{Environment}
+use Rattle.rx_model.specs.Inputs.Environment.{Environment, is_sets}
+use Rattle.rx_model.specs.Properties.PropertyForms.{begins_property}
 use Rattle.rx_model.specs.Refusals.EscapeCauses as escape
 use Rattle.rx_model.specs.Refusals.EscapeCauses.{IsEscapeCause, IsPropertyCause}
-use Rattle.rx_model.specs.Refusals.Firsts.{IsFirstInClass}
+use Rattle.rx_model.specs.Refusals.Firsts.{IsFirstInClass, of_character, of_property}
 use Rattle.rx_model.specs.Refusals.Reached.{span_between, text_environment}
 use Rattle.rx_model.specs.Refusals.Stops.{begins_class_escape}
-use Rattle.rx_model.proofs.Classes.ClassEscapes.{no_beginning, no_escape_atom, no_p, refused_escape, refused_property}
+use Rattle.rx_model.proofs.Classes.ClassEscapes.{no_escape_atom, refused_escape}
 use Rattle.rx_model.proofs.Classes.ClassFronts.{atom_is_read, atom_some, single}
-use Rattle.rx_model.proofs.Classes.ClassStops.{IsStopped, item_beyond, row_shorter, second_dead, stopped}
+use Rattle.rx_model.proofs.Classes.ClassStops.{IsStopped, item_beyond, row_shorter, second_blocked, stopped}
 use Rattle.rx_model.proofs.Refusals.OneEscape.{not_both, one_escape}
 use Rattle.rx_model.proofs.Properties.OneProperty.{one_property}
 use Rattle.rx_model.proofs.Refusals.OnlyFirst.{only_is_first}
 use Rattle.rx_model.proofs.Reading.Prefixes.{class_prefixes}
 use Rattle.rx_model.proofs.Properties.PropertyRefusals.{property_first}
 
-module _ (us : List CodePoint) (start added from : ℕ) (at_class : List CodePoint) where
+-- A property escape begins an escape of a class.
+property_begins : (e : Environment) (letter : ℕ) (w : List ℕ) → begins_property letter ≡ true → begins_class_escape e (letter ∷ w) ≡ true
+property_begins e letter w h = elim (or_cases (letter == 112) (letter == 80) h) [
+  | inl p ↦ ap (λ c. begins_class_escape e (c ∷ w)) (eqb-true letter 112 p)
+  | inr p ↦ ap (λ c. begins_class_escape e (c ∷ w)) (eqb-true letter 80 p)
+]
+
+module _ (mode : Mode) (no_sets : is_sets mode ≡ false) (us : List CodePoint) (start added from : ℕ) (at_class : List CodePoint) where
   abbrev here : Environment
-  here = text_environment Unicode us
+  here = text_environment mode us
 
   -- where an escape may stand
   data AtomFault (f : ℕ) (rest : List CodePoint) : Diagnostic → Type 0 where
     bad_escape : (backslash : CodePoint) (w : List CodePoint) → rest ≡ backslash ∷ w → backslash.value ≡ 92 → begins_class_escape here (values w) ≡ false
         → AtomFault f rest (InvalidClassAtom (span_between us start added f (f + 1)))
-    in_escape : {d : Diagnostic} → IsEscapeCause Unicode us start added f rest d → AtomFault f rest d
-    in_property : {d : Diagnostic} → IsPropertyCause Unicode us start added f rest d → AtomFault f rest d
+    in_escape : {d : Diagnostic} → IsEscapeCause mode us start added f rest d → AtomFault f rest d
+    in_property : {d : Diagnostic} → IsPropertyCause mode us start added f rest d → AtomFault f rest d
 
-  escape_first : (f : ℕ) (rest : List CodePoint) (d : Diagnostic) → IsEscapeCause Unicode us start added f rest d → (w : List ℕ) × (values rest ≡ 92 ∷ 117 ∷ w)
+  escape_first : (f : ℕ) (rest : List CodePoint) (d : Diagnostic) → IsEscapeCause mode us start added f rest d → (w : List ℕ) × (values rest ≡ 92 ∷ 117 ∷ w)
   escape_first f rest _ (escape.too_many_hex_digits count behind m h p) = (_, h ∙ ap (λ w. 92 ∷ w) p.whole)
   escape_first f rest _ (escape.invalid_escape behind m h no_value no_limit) = (behind, h)
 
   -- What begins an escape that is refused begins an escape in a class.
-  no_bad_escape : (f : ℕ) (rest : List CodePoint) (backslash : CodePoint) (w : List CodePoint) (d : Diagnostic) → rest ≡ backslash ∷ w → begins_class_escape here (values w) ≡ false → IsEscapeCause Unicode us start added f rest d → ⊥
+  no_bad_escape : (f : ℕ) (rest : List CodePoint) (backslash : CodePoint) (w : List CodePoint) (d : Diagnostic) → rest ≡ backslash ∷ w → begins_class_escape here (values w) ≡ false → IsEscapeCause mode us start added f rest d → ⊥
   no_bad_escape f rest backslash w d h no_escape c =
       let e = escape_first f rest d c in
       let text : 92 ∷ 117 ∷ e.0 ≡ backslash.value ∷ values w = sym e.1 ∙ ap values h in
@@ -54,34 +62,33 @@ module _ (us : List CodePoint) (start added from : ℕ) (at_class : List CodePoi
       let k : begins_class_escape here (117 ∷ e.0) ≡ false = ap (begins_class_escape here) (sym text_behind) ∙ no_escape in
       true≢false k
 
-  no_bad_property : (f : ℕ) (rest : List CodePoint) (backslash : CodePoint) (w : List CodePoint) (d : Diagnostic) → rest ≡ backslash ∷ w → begins_class_escape here (values w) ≡ false → IsPropertyCause Unicode us start added f rest d → ⊥
+  no_bad_property : (f : ℕ) (rest : List CodePoint) (backslash : CodePoint) (w : List CodePoint) (d : Diagnostic) → rest ≡ backslash ∷ w → begins_class_escape here (values w) ≡ false → IsPropertyCause mode us start added f rest d → ⊥
   no_bad_property f rest backslash w d h no_escape c =
-      let p = property_first Unicode us start added f rest d c in
+      let p = property_first mode us start added f rest d c in
       let text : 92 ∷ p.0 ∷ p.1 ≡ backslash.value ∷ values w = sym p.2 ∙ ap values h in
       let text_behind : values w ≡ p.0 ∷ p.1 = cc text in
-      let b = no_beginning us p.0 p.1 (ap (begins_class_escape here) (sym text_behind) ∙ no_escape) in
-      true≢false (sym p.3 ∙ no_p p.0 b.no_letters)
+      both_ways (begins_class_escape here (p.0 ∷ p.1)) (ap (begins_class_escape here) (sym text_behind) ∙ no_escape) (property_begins here p.0 p.1 p.3)
 
   one_atom_fault : (f : ℕ) (rest : List CodePoint) (d e : Diagnostic) → AtomFault f rest d → AtomFault f rest e → d ≡ e
   one_atom_fault f rest _ _ (bad_escape b w h is no_escape) (bad_escape c v k is' no_escape') = refl
   one_atom_fault f rest _ e (bad_escape b w h is no_escape) (in_escape c) = absurd (no_bad_escape f rest b w e h no_escape c)
   one_atom_fault f rest _ e (bad_escape b w h is no_escape) (in_property c) = absurd (no_bad_property f rest b w e h no_escape c)
   one_atom_fault f rest d _ (in_escape c) (bad_escape b w h is no_escape) = absurd (no_bad_escape f rest b w d h no_escape c)
-  one_atom_fault f rest d e (in_escape c) (in_escape k) = one_escape Unicode refl us start added f rest d e c k
-  one_atom_fault f rest d e (in_escape c) (in_property k) = absurd (not_both Unicode refl us start added f rest d e c k)
+  one_atom_fault f rest d e (in_escape c) (in_escape k) = one_escape mode us start added f rest d e c k
+  one_atom_fault f rest d e (in_escape c) (in_property k) = absurd (not_both mode us start added f rest d e c k)
   one_atom_fault f rest d _ (in_property c) (bad_escape b w h is no_escape) = absurd (no_bad_property f rest b w d h no_escape c)
-  one_atom_fault f rest d e (in_property c) (in_escape k) = absurd (not_both Unicode refl us start added f rest e d k c)
-  one_atom_fault f rest d e (in_property c) (in_property k) = one_property Unicode us start added f rest d e c k
+  one_atom_fault f rest d e (in_property c) (in_escape k) = absurd (not_both mode us start added f rest e d k c)
+  one_atom_fault f rest d e (in_property c) (in_property k) = one_property mode us start added f rest d e c k
 
   no_atom_there : (f : ℕ) (rest : List CodePoint) (d : Diagnostic) → AtomFault f rest d → atom_at here rest ≡ no_atom
-  no_atom_there f rest _ (bad_escape b w h is no_escape) = ap (atom_at here) h ∙ no_escape_atom us b w is no_escape
-  no_atom_there f rest d (in_escape c) = (refused_escape us start added f rest d c).0
-  no_atom_there f rest d (in_property c) = (refused_property us start added f rest d c).0
+  no_atom_there f rest _ (bad_escape b w h is no_escape) = ap (atom_at here) h ∙ no_escape_atom mode no_sets us b w is no_escape
+  no_atom_there f rest d (in_escape c) = (refused_escape mode no_sets us start added f rest f d (of_character c)).0
+  no_atom_there f rest d (in_property c) = (refused_escape mode no_sets us start added f rest f d (of_property c)).0
 
   some_there : (f : ℕ) (rest : List CodePoint) (d : Diagnostic) → AtomFault f rest d → rest ≡ [] → ⊥
   some_there f rest _ (bad_escape b w h is no_escape) e = let no : [] ≡ b ∷ w = sym e ∙ h in cc no
   some_there f rest d (in_escape c) e = let t = escape_first f rest d c in let no : [] ≡ 92 ∷ 117 ∷ t.0 = ap values (sym e) ∙ t.1 in cc no
-  some_there f rest d (in_property c) e = let t = property_first Unicode us start added f rest d c in let no : [] ≡ 92 ∷ t.0 ∷ t.1 = ap values (sym e) ∙ t.2 in cc no
+  some_there f rest d (in_property c) e = let t = property_first mode us start added f rest d c in let no : [] ≡ 92 ∷ t.0 ∷ t.1 = ap values (sym e) ∙ t.2 in cc no
 
   abbrev value_of : Atom → ℕ
   value_of (character k v) = v
@@ -170,7 +177,7 @@ module _ (us : List CodePoint) (start added from : ℕ) (at_class : List CodePoi
   by_place f rest d (inl i) c = at_item rest i (of_atom c)
   by_place f rest d (inr i) c = at_second rest i c
 
-  viewed : (f : ℕ) (d : Diagnostic) → IsClassCause Unicode us start added from at_class f d → ClassView f d
+  viewed : (f : ℕ) (d : Diagnostic) → IsClassCause mode us start added from at_class f d → ClassView f d
   viewed _ _ (class_cause.unterminated_class place i) = at_item [] i (ends refl refl)
   viewed _ _ (class_cause.range_out_of_order place low_value high_value w v more hyphen i s less other) =
       at_item (w ++ (hyphen ∷ (v ++ more))) i (of_range (record {
@@ -236,17 +243,17 @@ module _ (us : List CodePoint) (start added from : ℕ) (at_class : List CodePoi
   ]
 
   -- The end of a range that is refused stops the reading where the range begins.
-  second_stop : (f : ℕ) (rest : List CodePoint) (d : Diagnostic) → (i : IsSecondPlace here from at_class f rest) → AtomFault f rest d → IsStopped us from at_class i.first
+  second_stop : (f : ℕ) (rest : List CodePoint) (d : Diagnostic) → (i : IsSecondPlace here from at_class f rest) → AtomFault f rest d → IsStopped mode us from at_class i.first
   second_stop f rest d i c = record {
     place = i.first;
     rest = i.w ++ (i.hyphen ∷ rest);
     item_place = i.item_place;
     before = omega arith;
-    dead = second_dead here i.item_place.inner i.item_place.outer i.atom i.w i.hyphen rest i.spelled i.dashed (no_atom_there f rest d c);
+    blocked = second_blocked here i.item_place.inner i.item_place.outer i.atom i.w i.hyphen rest i.spelled i.dashed (no_atom_there f rest d c);
   }
 
   not_beyond : (f g : ℕ) (rest back : List CodePoint) (d : Diagnostic) → (i : IsSecondPlace here from at_class f rest) → AtomFault f rest d → IsItemPlace here from at_class g back → g ≤ i.first
-  not_beyond f g rest back d i c j = le_from (λ less. item_beyond us from at_class i.first (second_stop f rest d i c) g back j less)
+  not_beyond f g rest back d i c j = le_from (λ less. item_beyond mode no_sets us from at_class i.first (second_stop f rest d i c) g back j less)
     where
       le_from : (i.first < g → ⊥) → g ≤ i.first
       le_from h = omega (arith, h)
@@ -264,17 +271,17 @@ module _ (us : List CodePoint) (start added from : ℕ) (at_class : List CodePoi
       let no : no_atom ≡ atom_read j.atom (length j.w) = sym (no_atom_there g rest d x) ∙ read_at j.atom rest j.w (j.hyphen ∷ back) h j.spelled in
       cc no
 
-  up_to : (f g : ℕ) (d : Diagnostic) (back : List CodePoint) → IsClassCause Unicode us start added from at_class f d → IsItemPlace here from at_class g back → g ≤ f
-  up_to f g d back c j = le_from (λ less. item_beyond us from at_class f (stopped us from at_class start added f d c) g back j less)
+  up_to : (f g : ℕ) (d : Diagnostic) (back : List CodePoint) → IsClassCause mode us start added from at_class f d → IsItemPlace here from at_class g back → g ≤ f
+  up_to f g d back c j = le_from (λ less. item_beyond mode no_sets us from at_class f (stopped mode no_sets us from at_class start added f d c) g back j less)
     where
       le_from : (f < g → ⊥) → g ≤ f
       le_from h = omega (arith, h)
 
   -- At most one refusal of the class holds, and at one place.
-  pub one_in_class : (f g : ℕ) (d e : Diagnostic) → IsClassCause Unicode us start added from at_class f d → IsClassCause Unicode us start added from at_class g e → (f ≡ g) × (d ≡ e)
+  pub one_in_class : (f g : ℕ) (d e : Diagnostic) → IsClassCause mode us start added from at_class f d → IsClassCause mode us start added from at_class g e → (f ≡ g) × (d ≡ e)
   one_in_class f g d e c k = by (viewed f d c) (viewed g e k)
     where
-      item_second : (f g : ℕ) (rest back : List CodePoint) (x y : Diagnostic) → IsClassCause Unicode us start added from at_class f x → IsItemPlace here from at_class f rest → ItemFault f rest x →
+      item_second : (f g : ℕ) (rest back : List CodePoint) (x y : Diagnostic) → IsClassCause mode us start added from at_class f x → IsItemPlace here from at_class f rest → ItemFault f rest x →
           (j : IsSecondPlace here from at_class g back) → AtomFault g back y → ⊥
       item_second f g rest back x y c i v j w =
           let l = not_beyond g f back rest y j w i in
@@ -301,5 +308,5 @@ module _ (us : List CodePoint) (start added from : ℕ) (at_class : List CodePoi
           (same_place, one_atom_fault g back d e (subst (λ f. AtomFault f back d) same_place (subst (λ rest. AtomFault f rest d) same x)) y)
 
   -- So a refusal of the class is the first of it.
-  pub class_cause_is_first : (f : ℕ) (d : Diagnostic) → IsClassCause Unicode us start added from at_class f d → IsFirstInClass Unicode us start added from at_class d
-  class_cause_is_first f d c = only_is_first (IsClassCause Unicode us start added from at_class) f d c (λ g e k. one_in_class f g d e c k)
+  pub class_cause_is_first : (f : ℕ) (d : Diagnostic) → IsClassCause mode us start added from at_class f d → IsFirstInClass mode us start added from at_class d
+  class_cause_is_first f d c = only_is_first (IsClassCause mode us start added from at_class) f d c (λ g e k. one_in_class f g d e c k)

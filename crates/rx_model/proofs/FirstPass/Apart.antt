@@ -8,7 +8,7 @@ use Rattle.rx_model.specs.declared.mode.Mode.{Mode}
 use Rattle.rx_model.specs.FirstPass.Cuts.{AreMarksOfAll, TellsApart}
 use Rattle.rx_model.specs.Inputs.Environment.{environment, is_unicode}
 use Rattle.rx_model.specs.Trees.Events.{node_events, nodes_events, alternatives_events, barred_events, tokens}
-use Rattle.rx_model.specs.FirstPass.Frames.{Frame, frames}
+use Rattle.rx_model.specs.FirstPass.GroupStates.{GroupState, group_states}
 use Rattle.rx_model.specs.FirstPass.Marks.{Mark, Clash, mark_at, marks}
 use Rattle.rx_model.specs.Trees.Names.{node_names, nodes_names, alternatives_names, IsNodeApart, AreNodesApart, AreAlternativesApart}
 use Rattle.rx_model.specs.Reading.Reading.{IsSpelled}
@@ -26,7 +26,7 @@ module _ (unicode_mode : Bool) (ms : List Mark) where
   StretchThen k ts rule names = (j : ℕ) × AreFrom unicode_mode ms j ts × IsStretch unicode_mode ms k j rule names
 
   -- From k on stand alternatives of a group, and then these tokens.
-  abbrev BodyThen : ℕ → List Frame → ℕ → List Token → Type 0 → List (List ℕ) → Type 0
+  abbrev BodyThen : ℕ → List GroupState → ℕ → List Token → Type 0 → List (List ℕ) → Type 0
   BodyThen s fs k ts rule names = (j : ℕ) × AreFrom unicode_mode ms j ts × IsBody unicode_mode ms s fs k j rule names
 
   -- A node is a stretch, with the rule and the names of the tree; so are the nodes of an alternative. The alternatives of a group are a body.
@@ -43,9 +43,9 @@ module _ (unicode_mode : Bool) (ms : List Mark) where
     node_apart (group s o d more) ts k c =
         let h = opener_then unicode_mode ms o (before (alternatives_events more) (closer ∷ ts)) k (subst (AreFrom unicode_mode ms k) (before_group s d o (alternatives_events more) ts) c) in
         let others = h.1.1 in
-        let opened : frames ms (suc k) ≡ (suc k, suc k) ∷ frames ms k = opening_step unicode_mode o (mark_at ms k) k (frames ms k) h.0 in
-        let v = after_opening unicode_mode ms (suc k) (frames ms k) h.1.0 opened others in
-        let b = alternatives_apart more (suc k) (frames ms k) h.1.0 (closer ∷ ts) v.0 others.up v.1 h.1.2 in
+        let opened : group_states ms (suc k) ≡ (suc k, suc k) ∷ group_states ms k = opening_step unicode_mode o (mark_at ms k) k (group_states ms k) h.0 in
+        let v = after_opening unicode_mode ms (suc k) (group_states ms k) h.1.0 opened others in
+        let b = alternatives_apart more (suc k) (group_states ms k) h.1.0 (closer ∷ ts) v.0 others.up v.1 h.1.2 in
         let e = closer_then unicode_mode ms ts b.0 b.1 in
         (suc b.0, e.1, group_stretch unicode_mode ms o k h.1.0 b.0 (AreAlternativesApart more) (alternatives_names more) h.0 others b.2 e.0)
 
@@ -56,7 +56,7 @@ module _ (unicode_mode : Bool) (ms : List Mark) where
         let r = nodes_apart ns ts h.0 h.1 in
         (r.0, r.1, stretches unicode_mode ms k h.0 r.0 (IsNodeApart n) (AreNodesApart ns) (node_names n) (nodes_names ns) h.2 r.2)
 
-    alternatives_apart : (more : Alternatives) (s : ℕ) (fs : List Frame) (k : ℕ) (ts : List Token) → frames ms k ≡ (s, s) ∷ fs → s ≤ k → SeesAsBefore unicode_mode ms s fs k →
+    alternatives_apart : (more : Alternatives) (s : ℕ) (fs : List GroupState) (k : ℕ) (ts : List Token) → group_states ms k ≡ (s, s) ∷ fs → s ≤ k → SeesAsBefore unicode_mode ms s fs k →
         AreFrom unicode_mode ms k (before (alternatives_events more) ts) → BodyThen s fs k ts (AreAlternativesApart more) (alternatives_names more)
     alternatives_apart no_alternative s fs k ts e le v c = (k, c, no_body unicode_mode ms s s fs k e)
     alternatives_apart (alternative d ns more) s fs k ts e le v c =
@@ -65,7 +65,7 @@ module _ (unicode_mode : Bool) (ms : List Mark) where
         let r = barred_apart more s s fs h.0 ts (h.2.same ∙ e) (omega arith) h.1 in
         (r.0, r.1, alternative_body unicode_mode ms s fs k h.0 r.0 (AreNodesApart ns) (AreAlternativesApart more) (nodes_names ns) (alternatives_names more) v h.2 r.2)
 
-    barred_apart : (more : Alternatives) (s last : ℕ) (fs : List Frame) (k : ℕ) (ts : List Token) → frames ms k ≡ (s, last) ∷ fs → s ≤ k →
+    barred_apart : (more : Alternatives) (s last : ℕ) (fs : List GroupState) (k : ℕ) (ts : List Token) → group_states ms k ≡ (s, last) ∷ fs → s ≤ k →
         AreFrom unicode_mode ms k (before (barred_events more) ts) → BodyThen s fs k ts (AreAlternativesApart more) (alternatives_names more)
     barred_apart no_alternative s last fs k ts e le c = (k, c, no_body unicode_mode ms s last fs k e)
     barred_apart (alternative d ns more) s last fs k ts e le c =

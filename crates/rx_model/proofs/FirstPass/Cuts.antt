@@ -35,7 +35,7 @@ use Rattle.rx_model.proofs.FirstPass.ClassMarks.{class_marks}
 use Rattle.rx_model.proofs.Characters.Decodings.{both}
 use Rattle.rx_model.proofs.Groups.GroupNames.{group_name_read, name_anywhere}
 use Rattle.rx_model.proofs.FirstPass.OpenerMarks.{modifier_marks, naming_marks}
-use Rattle.rx_model.proofs.FirstPass.OtherMarks.{is_plain, plain_in, GiveOthers, nothing_others, plain_others, escape_others, append_others, all_plain_others, hex_others, escaped_digits_others, unicode_others, name_others, counts_others, lazy_others}
+use Rattle.rx_model.proofs.FirstPass.PlainMarks.{is_plain, plain_in, GiveOthers, nothing_others, plain_others, escape_others, append_others, all_plain_others, hex_others, escaped_digits_others, unicode_others, name_others, counts_others, lazy_others}
 use Rattle.rx_model.proofs.Properties.PropertyWords.{is_property_unit, property_units}
 
 module _ (e : Environment) where

@@ -4,39 +4,39 @@ use Rattle.std.proofs.lemmas.Bool.{cases_lt}
 use Rattle.std.proofs.lemmas.List.Elements.{Contains-append_left, Contains-append_right}
 use Rattle.rx_ast.specs.Tree as tree
 use Rattle.rx_model.specs.FirstPass.Cuts.{IsOpening}
-use Rattle.rx_model.specs.FirstPass.Frames.{Frame, step, drop_top, frames, Hides}
+use Rattle.rx_model.specs.FirstPass.GroupStates.{GroupState, step, drop_top, group_states, Hides}
 use Rattle.rx_model.specs.FirstPass.Marks as mark
 use Rattle.rx_model.specs.FirstPass.Marks.{Mark, mark_at, mark_name}
 use Rattle.rx_model.specs.Trees.Names.{AreApart, opener_names}
 use Rattle.rx_model.specs.Trees.Token.{opener_of}
 use Rattle.rx_model.proofs.FirstPass.MarkRows.{OnlyOthers, opening_named, named_opening}
-use Rattle.rx_model.proofs.FirstPass.OpenMarks.{Falls, falls}
+use Rattle.rx_model.proofs.FirstPass.InnerGroups.{Falls, falls}
 use Rattle.rx_model.proofs.FirstPass.PartedMarks.{hidden_before}
 use Rattle.rx_model.proofs.FirstPass.Stretches.{HasName, IsSeen, IsSeenAt, AreUnseen, AreClear, AreNamed, IsStretch, named_both, unnamed, clear_low, clear_high, clear_both, clear_one, others_named, others_clear, unseen_both}
 
--- the frame of a group falls with it
-drop_pushed : (f : Frame) (fs : List Frame) → Falls fs → drop_top (f ∷ fs) ≡ fs
+-- the group state of a group falls with it
+drop_pushed : (f : GroupState) (fs : List GroupState) → Falls fs → drop_top (f ∷ fs) ≡ fs
 drop_pushed f [] w = absurd w
 drop_pushed f (g ∷ gs) w = refl
 
 module _ (unicode_mode : Bool) (ms : List Mark) where
-  -- At k the same names are seen as before the group that begins at index s, over these frames.
-  abbrev pub SeesAsBefore : ℕ → List Frame → ℕ → Type 0
+  -- At k the same names are seen as before the group that begins at index s, over these group states.
+  abbrev pub SeesAsBefore : ℕ → List GroupState → ℕ → Type 0
   SeesAsBefore s fs k =
       (name : List ℕ) → (IsSeenAt unicode_mode ms k name → IsSeen unicode_mode ms s fs name) × (IsSeen unicode_mode ms s fs name → IsSeenAt unicode_mode ms k name)
 
-  -- The marks from k to j, in a group that begins at index s over these frames, leave it open and have these names. They are clear exactly where
+  -- The marks from k to j, in a group that begins at index s over these group states, leave it open and have these names. They are clear exactly where
   -- this rule holds and none of the names was seen before the group.
-  pub record IsBody (s : ℕ) (fs : List Frame) (k : ℕ) (j : ℕ) (rule : Type 0) (names : List (List ℕ)) : Type 0 where
+  pub record IsBody (s : ℕ) (fs : List GroupState) (k : ℕ) (j : ℕ) (rule : Type 0) (names : List (List ℕ)) : Type 0 where
     pub last : ℕ
     pub up : k ≤ j
-    pub same : frames ms j ≡ (s, last) ∷ fs
+    pub same : group_states ms j ≡ (s, last) ∷ fs
     pub named : AreNamed unicode_mode ms k j names
     pub sound : AreClear unicode_mode ms k j → rule × AreUnseen unicode_mode ms s fs names
     pub whole : rule → AreUnseen unicode_mode ms s fs names → AreClear unicode_mode ms k j
 
   -- where no alternative follows
-  pub no_body : (s last : ℕ) (fs : List Frame) (k : ℕ) → frames ms k ≡ (s, last) ∷ fs → IsBody s fs k k (Unit {0}) []
+  pub no_body : (s last : ℕ) (fs : List GroupState) (k : ℕ) → group_states ms k ≡ (s, last) ∷ fs → IsBody s fs k k (Unit {0}) []
   no_body s last fs k e = record {
     last = last;
     up = omega arith;
@@ -47,7 +47,7 @@ module _ (unicode_mode : Bool) (ms : List Mark) where
   }
 
   -- an alternative, and those that follow it
-  pub alternative_body : (s : ℕ) (fs : List Frame) (k i j : ℕ) (r q : Type 0) (xs ys : List (List ℕ)) →
+  pub alternative_body : (s : ℕ) (fs : List GroupState) (k i j : ℕ) (r q : Type 0) (xs ys : List (List ℕ)) →
       SeesAsBefore s fs k → IsStretch unicode_mode ms k i r xs → IsBody s fs i j q ys → IsBody s fs k j (r × q) (xs ++ ys)
   alternative_body s fs k i j r q xs ys v n l =
       let le = n.up in let lf = l.up in
@@ -70,7 +70,7 @@ module _ (unicode_mode : Bool) (ms : List Mark) where
   none_at k m e none b name l g h = let here : b ≡ k = omega arith in let f = ap (mark_name unicode_mode) (ap (mark_at ms) here ∙ e) in cc
 
   -- the same behind a bar
-  pub bar_body : (s : ℕ) (fs : List Frame) (k j : ℕ) (rule : Type 0) (names : List (List ℕ)) → mark_at ms k ≡ mark.bar → IsBody s fs (suc k) j rule names → IsBody s fs k j rule names
+  pub bar_body : (s : ℕ) (fs : List GroupState) (k j : ℕ) (rule : Type 0) (names : List (List ℕ)) → mark_at ms k ≡ mark.bar → IsBody s fs (suc k) j rule names → IsBody s fs k j rule names
   bar_body s fs k j rule names e l =
       let up = l.up in
       let never = none_at k mark.bar e refl in
@@ -85,9 +85,9 @@ module _ (unicode_mode : Bool) (ms : List Mark) where
       }
 
   -- behind a bar all that stands in the group before it is hidden
-  pub after_bar : (s last : ℕ) (fs : List Frame) (k : ℕ) → frames ms k ≡ (s, last) ∷ fs → s ≤ k → mark_at ms k ≡ mark.bar → (frames ms (suc k) ≡ (s, k) ∷ fs) × SeesAsBefore s fs (suc k)
+  pub after_bar : (s last : ℕ) (fs : List GroupState) (k : ℕ) → group_states ms k ≡ (s, last) ∷ fs → s ≤ k → mark_at ms k ≡ mark.bar → (group_states ms (suc k) ≡ (s, k) ∷ fs) × SeesAsBefore s fs (suc k)
   after_bar s last fs k e le b =
-      let f : frames ms (suc k) ≡ (s, k) ∷ fs = ap (λ m. step k m (frames ms k)) b ∙ ap (step k mark.bar) e in (
+      let f : group_states ms (suc k) ≡ (s, k) ∷ fs = ap (λ m. step k m (group_states ms k)) b ∙ ap (step k mark.bar) e in (
         f,
         λ name. (
           λ v. let lt = v.1 in elim (cases_lt v.0 s) [
@@ -102,9 +102,9 @@ module _ (unicode_mode : Bool) (ms : List Mark) where
       )
 
   -- behind an opening and the others that belong to it nothing new is seen
-  pub after_opening : (s : ℕ) (fs : List Frame) (i : ℕ) → frames ms s ≡ (s, s) ∷ fs → OnlyOthers ms s i → (frames ms i ≡ (s, s) ∷ fs) × SeesAsBefore s fs i
+  pub after_opening : (s : ℕ) (fs : List GroupState) (i : ℕ) → group_states ms s ≡ (s, s) ∷ fs → OnlyOthers ms s i → (group_states ms i ≡ (s, s) ∷ fs) × SeesAsBefore s fs i
   after_opening s fs i e o =
-      let f : frames ms i ≡ (s, s) ∷ fs = o.same ∙ e in
+      let f : group_states ms i ≡ (s, s) ∷ fs = o.same ∙ e in
       let up = o.up in (
         f,
         λ name. (
@@ -136,14 +136,14 @@ module _ (unicode_mode : Bool) (ms : List Mark) where
 
   -- A group is a stretch: its name is to be none of those in it.
   pub group_stretch : (o : tree.Opener) (k i m : ℕ) (rule : Type 0) (names : List (List ℕ)) →
-      IsOpening unicode_mode (opener_of o) (mark_at ms k) → OnlyOthers ms (suc k) i → IsBody (suc k) (frames ms k) i m rule names → mark_at ms m ≡ mark.closer →
+      IsOpening unicode_mode (opener_of o) (mark_at ms k) → OnlyOthers ms (suc k) i → IsBody (suc k) (group_states ms k) i m rule names → mark_at ms m ≡ mark.closer →
       IsStretch unicode_mode ms k (suc m) (AreApart (opener_names o) names × rule) (opener_names o ++ names)
   group_stretch o k i m rule names e others l d =
-      let fs = frames ms k in
+      let fs = group_states ms k in
       let up = others.up in let le = l.up in
       record {
         up = omega arith;
-        same = ap (λ x. step m x (frames ms m)) d ∙ ap drop_top l.same ∙ drop_pushed (suc k, l.last) fs (falls ms k).0;
+        same = ap (λ x. step m x (group_states ms m)) d ∙ ap drop_top l.same ∙ drop_pushed (suc k, l.last) fs (falls ms k).0;
         named = named_both unicode_mode ms k (suc k) (suc m) (opener_names o) names (omega arith) (omega arith) (opening_names o k e) (body_named k i m names others le l.named d);
         sound = λ c.
             let b = l.sound (clear_low unicode_mode ms i m (suc m) (omega arith) (clear_high unicode_mode ms k i (suc m) (omega arith) c)) in (

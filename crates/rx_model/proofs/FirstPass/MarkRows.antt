@@ -4,7 +4,7 @@ use Rattle.std.proofs.lemmas.Bool.{cases_lt}
 use Rattle.std.proofs.lemmas.List.Elements.{All-head, All-tail}
 use Rattle.rx_ast.specs.Tree as tree
 use Rattle.rx_model.specs.FirstPass.Cuts.{IsOpening, AreOthers, AreMarksOfAll}
-use Rattle.rx_model.specs.FirstPass.Frames.{Frame, step, frames}
+use Rattle.rx_model.specs.FirstPass.GroupStates.{GroupState, step, group_states}
 use Rattle.rx_model.specs.FirstPass.Marks as mark
 use Rattle.rx_model.specs.FirstPass.Marks.{Mark, mark_at, mark_name}
 use Rattle.rx_model.specs.Trees.Names.{opener_names}
@@ -32,7 +32,7 @@ named_before_end unicode_mode (m ∷ ms) (suc b) name e = let h = named_before_e
 -- the marks from k to j open and close nothing
 pub record OnlyOthers (ms : List Mark) (k : ℕ) (j : ℕ) : Type 0 where
   pub up : k ≤ j
-  pub same : frames ms j ≡ frames ms k
+  pub same : group_states ms j ≡ group_states ms k
   pub each : (b : ℕ) → k ≤ b → b < j → mark_at ms b ≡ mark.other
 
 pub no_mark : (ms : List Mark) (k : ℕ) → OnlyOthers ms k k
@@ -41,7 +41,7 @@ no_mark ms k = record { up = omega arith; same = refl; each = λ b l g. absurd (
 one_more : (ms : List Mark) (k j : ℕ) → mark_at ms k ≡ mark.other → OnlyOthers ms (suc k) j → OnlyOthers ms k j
 one_more ms k j e o = record {
   up = let l = o.up in omega arith;
-  same = o.same ∙ ap (λ m. step k m (frames ms k)) e;
+  same = o.same ∙ ap (λ m. step k m (group_states ms k)) e;
   each = λ b l g. elim (cases_lt k b) [
     | inl lt ↦ o.each b lt g
     | inr ge ↦ let here : b ≡ k = omega arith in ap (mark_at ms) here ∙ e
@@ -103,7 +103,7 @@ module _ (unicode_mode : Bool) (ms : List Mark) where
       (subst (IsOpening unicode_mode (opener_of o)) (sym f.0) a.3, others_then a.1 c.1 (suc k) ts f.1 a.4 c.4)
 
 -- an opening opens a group
-pub opening_step : (unicode_mode : Bool) (o : tree.Opener) (m : Mark) (k : ℕ) (fs : List Frame) → IsOpening unicode_mode (opener_of o) m → step k m fs ≡ (suc k, suc k) ∷ fs
+pub opening_step : (unicode_mode : Bool) (o : tree.Opener) (m : Mark) (k : ℕ) (fs : List GroupState) → IsOpening unicode_mode (opener_of o) m → step k m fs ≡ (suc k, suc k) ∷ fs
 opening_step unicode_mode (tree.capturing None) m k fs h = ap (λ x. step k x fs) h
 opening_step unicode_mode (tree.capturing (Some name)) m k fs h = ap (λ x. step k x fs) h.1
 opening_step unicode_mode (tree.ignoring modifiers) m k fs h = ap (λ x. step k x fs) h

@@ -12,7 +12,7 @@ use Rattle.rx_model.specs.Groups.Modifiers.{is_modifier, AreSides, one_side, two
 use Rattle.rx_model.specs.Characters.UnicodeEscapes.{hex_behind, SpellsUnicode, alone, pair, braced}
 use Rattle.rx_model.proofs.Characters.Decodings.{chosen, both}
 use Rattle.rx_model.proofs.Groups.GroupNames.{differs}
-use Rattle.rx_model.proofs.FirstPass.OtherMarks.{is_plain, plain_in, GiveOthers, all_plain_others, append_others}
+use Rattle.rx_model.proofs.FirstPass.PlainMarks.{is_plain, plain_in, GiveOthers, all_plain_others, append_others}
 
 -- the marks behind some units are those of what follows them
 pub marks_after : (w rest : List ℕ) → marks_behind (length w) (w ++ rest) ≡ marks rest

@@ -232,19 +232,26 @@ mutual
       more_behind bar (before (within s (nodes_events ns) ++ barred_events all) ts) ts (nodes_groups ns + alternatives_groups all) (nodes_names ns ++ alternatives_names all) refl refl
       (alternative_more s ns all ts (nodes_more ns (before (barred_events all) ts)) (barred_more all ts))
 
-pub tells_groups : (mode : Mode) (p : Pattern) (us : List CodePoint) → IsSpelled mode p us → TellsGroups mode p us
+-- whatever the environment of the row
+tells_by : (e : Environment) (p : Pattern) (us : List CodePoint) → TokenRow e (tokens p) us [] → TellsGroups e.mode p us
 unfolding text_groups text_names
-tells_groups mode p us s =
+tells_by e p us row =
     let all = (mirror_disjunction p.body).1 in
-    let marked = row_counted (is_unicode mode) (tokens p) (marks (values us)) (row_marks (environment mode p) (tokens p) us s.row) in
+    let marked = row_counted (is_unicode e.mode) (tokens p) (marks (values us)) (row_marks e (tokens p) us row) in
     let more = subst (λ ts. HasMore ts [] (alternatives_groups all) (alternatives_names all)) (sym (tokens_are p)) (alternatives_more all []) in
     record {
       groups_are = omega (arith, marked.count_is, more.groups_more);
       names_are = ap (once_behind []) (marked.names_are ∙ more.names_more ∙ append-nil (alternatives_names all));
     }
 
--- so a tree is spelled in the environment of its text
+pub tells_groups : (mode : Mode) (p : Pattern) (us : List CodePoint) → IsSpelled mode p us → TellsGroups mode p us
+tells_groups mode p us s = tells_by (environment mode p) p us s.row
+
+-- so the environment of a text is that of the tree whose tokens it spells
+pub environment_by : (e : Environment) (p : Pattern) (us : List CodePoint) → TokenRow e (tokens p) us [] → text_environment e.mode us ≡ environment e.mode p
+environment_by e p us row =
+    let t = tells_by e p us row in
+    ap₂ (λ n found. environment_with e.mode n (has_some found)) t.groups_are t.names_are
+
 pub own_environment : (mode : Mode) (p : Pattern) (us : List CodePoint) → IsSpelled mode p us → text_environment mode us ≡ environment mode p
-own_environment mode p us s =
-    let t = tells_groups mode p us s in
-    ap₂ (λ n found. environment_with mode n (has_some found)) t.groups_are t.names_are
+own_environment mode p us s = environment_by (environment mode p) p us s.row

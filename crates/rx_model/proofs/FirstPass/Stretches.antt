@@ -2,7 +2,7 @@
 use Rattle.std.proofs.Common.{◌≡◌, ap, sym, ◌∙◌, subst, ℕ, suc, ◌<◌, ◌≤◌, Bool, Some, List, [], ◌++◌, append-nil, Contains, arith, ◌⊎◌, inl, inr}
 use Rattle.std.proofs.lemmas.Bool.{cases_lt}
 use Rattle.std.proofs.lemmas.List.Elements.{Contains-append_left, Contains-append_right, Contains-append_cases}
-use Rattle.rx_model.specs.FirstPass.Frames.{Frame, frames, Hides}
+use Rattle.rx_model.specs.FirstPass.GroupStates.{GroupState, group_states, Hides}
 use Rattle.rx_model.specs.FirstPass.Marks.{Mark, mark_at, mark_name}
 use Rattle.rx_model.specs.Trees.Names.{AreApart}
 use Rattle.rx_model.proofs.FirstPass.MarkRows.{OnlyOthers}
@@ -13,16 +13,16 @@ module _ (unicode_mode : Bool) (ms : List Mark) where
   abbrev pub HasName : ℕ → List ℕ → Type 0
   HasName b name = mark_name unicode_mode (mark_at ms b) ≡ Some name
 
-  -- A mark before index s has the name, and these frames do not hide it.
-  abbrev pub IsSeen : ℕ → List Frame → List ℕ → Type 0
+  -- A mark before index s has the name, and these group states do not hide it.
+  abbrev pub IsSeen : ℕ → List GroupState → List ℕ → Type 0
   IsSeen s fs name = (a : ℕ) × (a < s) × HasName a name × (Hides a fs → ⊥)
 
   -- the same by what is open there
   abbrev pub IsSeenAt : ℕ → List ℕ → Type 0
-  IsSeenAt k name = IsSeen k (frames ms k) name
+  IsSeenAt k name = IsSeen k (group_states ms k) name
 
   -- none of these names is seen
-  abbrev pub AreUnseen : ℕ → List Frame → List (List ℕ) → Type 0
+  abbrev pub AreUnseen : ℕ → List GroupState → List (List ℕ) → Type 0
   AreUnseen s fs names = (name : List ℕ) → Contains names name → IsSeen s fs name → ⊥
 
   -- Of the marks from k to j none has a name that is seen there.
@@ -86,16 +86,16 @@ module _ (unicode_mode : Bool) (ms : List Mark) where
   others_clear k j o b name l g h s = other_has_none k j o b name l g h
 
   -- the names of two stretches are unseen where both are
-  pub unseen_both : (s : ℕ) (fs : List Frame) (xs ys : List (List ℕ)) → AreUnseen s fs xs → AreUnseen s fs ys → AreUnseen s fs (xs ++ ys)
+  pub unseen_both : (s : ℕ) (fs : List GroupState) (xs ys : List (List ℕ)) → AreUnseen s fs xs → AreUnseen s fs ys → AreUnseen s fs (xs ++ ys)
   unseen_both s fs xs ys f g name h v = elim (Contains-append_cases xs ys name h) [ inl a ↦ f name a v | inr a ↦ g name a v ]
 
   -- The marks from k to j leave open what was open and have these names. They are clear exactly where this rule holds and none of the names was seen.
   pub record IsStretch (k : ℕ) (j : ℕ) (rule : Type 0) (names : List (List ℕ)) : Type 0 where
     pub up : k ≤ j
-    pub same : frames ms j ≡ frames ms k
+    pub same : group_states ms j ≡ group_states ms k
     pub named : AreNamed k j names
-    pub sound : AreClear k j → rule × AreUnseen k (frames ms k) names
-    pub whole : rule → AreUnseen k (frames ms k) names → AreClear k j
+    pub sound : AreClear k j → rule × AreUnseen k (group_states ms k) names
+    pub whole : rule → AreUnseen k (group_states ms k) names → AreClear k j
 
   pub others_stretch : (k j : ℕ) → OnlyOthers ms k j → IsStretch k j (Unit {0}) []
   others_stretch k j o = record {
@@ -119,18 +119,18 @@ module _ (unicode_mode : Bool) (ms : List Mark) where
       }
 
   -- what is seen behind a stretch was seen before it or is a name of it
-  seen_behind : (k j : ℕ) (names : List (List ℕ)) (name : List ℕ) → AreNamed k j names → frames ms j ≡ frames ms k → IsSeenAt j name → IsSeenAt k name ⊎ Contains names name
+  seen_behind : (k j : ℕ) (names : List (List ℕ)) (name : List ℕ) → AreNamed k j names → group_states ms j ≡ group_states ms k → IsSeenAt j name → IsSeenAt k name ⊎ Contains names name
   seen_behind k j names name n e s = elim (cases_lt s.0 k) [
     | inl lt ↦ inl (s.0, lt, s.2, λ h. s.3 (subst (Hides s.0) (sym e) h))
     | inr ge ↦ inr (n.into name (s.0, ge, s.1, s.2))
   ]
 
   -- what was seen before a stretch is seen behind it
-  seen_still : (k j : ℕ) (name : List ℕ) → k ≤ j → frames ms j ≡ frames ms k → IsSeenAt k name → IsSeenAt j name
+  seen_still : (k j : ℕ) (name : List ℕ) → k ≤ j → group_states ms j ≡ group_states ms k → IsSeenAt k name → IsSeenAt j name
   seen_still k j name le e s = let l = s.1 in (s.0, omega arith, s.2, λ h. s.3 (subst (Hides s.0) e h))
 
   -- and so are its names
-  seen_now : (k j : ℕ) (names : List (List ℕ)) (name : List ℕ) → AreNamed k j names → frames ms j ≡ frames ms k → Contains names name → IsSeenAt j name
+  seen_now : (k j : ℕ) (names : List (List ℕ)) (name : List ℕ) → AreNamed k j names → group_states ms j ≡ group_states ms k → Contains names name → IsSeenAt j name
   seen_now k j names name n e h =
       let r = n.from name h in
       let le = r.1 in
@@ -148,7 +148,7 @@ module _ (unicode_mode : Bool) (ms : List Mark) where
             let a = m.sound (clear_low k i j lf c) in
             let b = n.sound (clear_high k i j le c) in (
               (λ name h g. b.1 name g (seen_now k i xs name m.named m.same h), a.0, b.0),
-              unseen_both k (frames ms k) xs ys a.1 (λ name h s. b.1 name h (seen_still k i name le m.same s)),
+              unseen_both k (group_states ms k) xs ys a.1 (λ name h s. b.1 name h (seen_still k i name le m.same s)),
             );
         whole = λ t f.
             clear_both k i j (m.whole t.1 (λ name h s. f name (Contains-append_left xs ys name h) s))

@@ -23,19 +23,19 @@ no_surrogate : (first : Bool) (c : ℕ) → 0xD800 ≤ c → c ≤ 0xDFFF → is
 no_surrogate true c low high = grind (arith, nat_tests)
 no_surrogate false c low high = grind (arith, nat_tests)
 
-lead_not_backslash : (c : ℕ) → IsLeadSurrogate c → (c == 92) ≡ false
+pub lead_not_backslash : (c : ℕ) → IsLeadSurrogate c → (c == 92) ≡ false
 lead_not_backslash c lead = grind (arith, nat_tests, lead.0)
 
-lead_seen : (c : ℕ) → IsLeadSurrogate c → is_lead c ≡ true
+pub lead_seen : (c : ℕ) → IsLeadSurrogate c → is_lead c ≡ true
 lead_seen c lead = grind (arith, nat_tests, lead.0, lead.1)
 
-trail_seen : (c : ℕ) → IsTrailSurrogate c → is_trail c ≡ true
+pub trail_seen : (c : ℕ) → IsTrailSurrogate c → is_trail c ≡ true
 trail_seen c trail = grind (arith, nat_tests, trail.0, trail.1)
 
-seen_lead : (c : ℕ) → is_lead c ≡ true → IsLeadSurrogate c
+pub seen_lead : (c : ℕ) → is_lead c ≡ true → IsLeadSurrogate c
 seen_lead c h = let p = both (nat_le 0xD800 c) (nat_le c 0xDBFF) h in (leb-true 0xD800 c p.0, leb-true c 0xDBFF p.1)
 
-seen_trail : (c : ℕ) → is_trail c ≡ true → IsTrailSurrogate c
+pub seen_trail : (c : ℕ) → is_trail c ≡ true → IsTrailSurrogate c
 seen_trail c h = let p = both (nat_le 0xDC00 c) (nat_le c 0xDFFF) h in (leb-true 0xDC00 c p.0, leb-true c 0xDFFF p.1)
 
 abbrev codes_of : NameRow → List ℕ
@@ -278,7 +278,7 @@ module _ (unicode_mode : Bool) where
       ∙ ap₂ row (append-nil name) (omega (arith, b.count_is))
 
   -- the first row is of no code point only where no name begins
-  no_name_read : (us : List ℕ) (n : ℕ) → name_at unicode_mode us ≡ row [] n → n ≡ 0
+  pub no_name_read : (us : List ℕ) (n : ℕ) → name_at unicode_mode us ≡ row [] n → n ≡ 0
   no_name_read us n h = go (name_character_at unicode_mode true us) refl
     where
       grown : (c k : ℕ) (r : NameRow) → row_behind (c ∷ []) k r ≡ row [] n → n ≡ 0

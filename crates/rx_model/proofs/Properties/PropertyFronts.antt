@@ -28,10 +28,10 @@ among_decides : (names : List (List ℕ)) (name : List ℕ) → Decides (is_amon
 among_decides names name =
     Decides-contains names name _ (Decides-by_or (λ w. pointwise eqb w name) (λ w. w ≡ name) (list_any (λ w. pointwise eqb w name)) (λ w. bytes_eq-Decides w name) refl (λ _ _. refl) names)
 
-among : (names : List (List ℕ)) (name : List ℕ) → Contains names name → is_among names name ≡ true
+pub among : (names : List (List ℕ)) (name : List ℕ) → Contains names name → is_among names name ≡ true
 among names name h = (among_decides names name).1 h
 
-found_among : (names : List (List ℕ)) (name : List ℕ) → is_among names name ≡ true → Contains names name
+pub found_among : (names : List (List ℕ)) (name : List ℕ) → is_among names name ≡ true → Contains names name
 found_among names name h = (among_decides names name).0 h
 
 not_among : (names : List (List ℕ)) (name : List ℕ) → (Contains names name → ⊥) → is_among names name ≡ false

@@ -9,7 +9,7 @@ use Rattle.rx_units.specs.declared.code_point.CodePoint.{CodePoint}
 use Rattle.rx_units.specs.Units.{values}
 use Rattle.rx_model.specs.declared.mode.Mode.{Mode}
 use Rattle.rx_model.specs.Spelling.ClassText.{property_opener}
-use Rattle.rx_model.specs.Inputs.Environment.{Environment}
+use Rattle.rx_model.specs.Inputs.Environment.{Environment, is_unicode}
 use Rattle.rx_model.specs.Refusals.EscapeCauses.{IsPropertyCause, no_property, unterminated_run, unclosed_run, unclosed_pair, unknown_pair, unknown_run, of_strings}
 use Rattle.rx_model.specs.FirstPass.Marks.{starts}
 use Rattle.rx_model.specs.Properties.PropertyEscapes.{SpellsProperty, pair, category, binary, of_strings as strings_alone}
@@ -20,7 +20,7 @@ use Rattle.rx_model.proofs.Properties.PropertyRuns.{one_pair, one_run, same_run}
 use Rattle.rx_model.proofs.Properties.PropertyTables.{IsWordOf, binary_word, category_word, strings_word, valid_words}
 
 -- a name's characters may stand in a value
-names_are_values : (w : List ℕ) → list_all is_unicode_property_name_character w ≡ true → list_all is_unicode_property_value_character w ≡ true
+pub names_are_values : (w : List ℕ) → list_all is_unicode_property_name_character w ≡ true → list_all is_unicode_property_value_character w ≡ true
 names_are_values [] h = refl
 names_are_values (c ∷ w) h =
     let p = both (is_unicode_property_name_character c) (list_all is_unicode_property_name_character w) h in
@@ -127,6 +127,16 @@ cause_begins_no_property e us first added place rest d cause negative strings na
     ∙ append_assoc (property_opener negative) (text ++ (125 ∷ [])) (values more)
     ∙ ap (λ v. property_opener negative ++ v) (append_assoc text (125 ∷ []) (values more)) in
     refuses e.mode us first added place rest d cause negative text (values more) back (stands e.mode strings name value text (values more) is.spelled)
+
+-- A property escape is refused with `u` or `v` alone.
+pub cause_unicode : (mode : Mode) (us : List CodePoint) (first added place : ℕ) (rest : List CodePoint) (d : Diagnostic) → IsPropertyCause mode us first added place rest d → is_unicode mode ≡ true
+cause_unicode mode us first added place rest _ (no_property letter behind unicode whole letter_is other) = unicode
+cause_unicode mode us first added place rest _ (unterminated_run w run behind b has ends) = b.unicode
+cause_unicode mode us first added place rest _ (unclosed_run w run behind b has known goes other) = b.unicode
+cause_unicode mode us first added place rest _ (unclosed_pair w name value behind b has known other) = b.unicode
+cause_unicode mode us first added place rest _ (unknown_pair w name value behind b has unknown) = b.unicode
+cause_unicode mode us first added place rest _ (unknown_run w run behind b has some goes unknown no_strings) = b.unicode
+cause_unicode mode us first added place rest _ (of_strings w run behind u b has goes unknown strings) = b.unicode
 
 -- what a property escape begins with that is refused
 pub property_first : (mode : Mode) (us : List CodePoint) (first added f : ℕ) (rest : List CodePoint) (d : Diagnostic) → IsPropertyCause mode us first added f rest d →

@@ -49,7 +49,7 @@ syntax_not_raw Unicode c h = ap not (legacy_syntax c h)
 syntax_not_raw Sets c h = ap not (legacy_syntax c h)
 
 -- with `u` or `v` no SyntaxCharacter does
-unicode_not_raw : (mode : Mode) (c : ℕ) → is_unicode mode ≡ true → is_syntax_character c ≡ true → stands_raw mode c ≡ false
+pub unicode_not_raw : (mode : Mode) (c : ℕ) → is_unicode mode ≡ true → is_syntax_character c ≡ true → stands_raw mode c ≡ false
 unicode_not_raw Legacy c m h = absurd (let no : ⊥ = cc m in no)
 unicode_not_raw Unicode c m h = ap not h
 unicode_not_raw Sets c m h = ap not h

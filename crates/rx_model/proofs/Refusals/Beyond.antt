@@ -1,5 +1,6 @@
 -- Where a cause holds no reading goes on: no place beyond is reached, and the end of the text only with a group open.
 use Rattle.std.proofs.Common.{◌≡◌, ◌≢◌, refl, ap, sym, ◌∙◌, subst, ℕ, ◌+◌, ◌<◌, ◌≤◌, Bool, true, false, Option, Some, List, [], ◌∷◌, ◌++◌, length, arith, length-append}
+use Rattle.std.proofs.lemmas.Bool.Decides.{nat_tests}
 use Rattle.std.proofs.lemmas.List.Elements.{All-append}
 use Rattle.rx_base.specs.declared.diagnostic.Diagnostic.{Diagnostic}
 use Rattle.rx_ast.specs.declared.term.Pattern.{Pattern}
@@ -8,14 +9,13 @@ use Rattle.rx_units.specs.Units.{values}
 use Rattle.rx_model.specs.declared.mode.Mode.{Mode}
 use Rattle.rx_model.specs.Refusals.Causes as cause
 use Rattle.rx_model.specs.Refusals.ClassCauses.{IsClassCause}
-use Rattle.rx_model.specs.Refusals.Causes.{HasBraces, IsCauseAtPlace, IsOutOfOrder, IsTooLarge}
+use Rattle.rx_model.specs.Refusals.Causes.{BeginsWithPair, HasBraces, IsCauseAtPlace, IsOutOfOrder, IsTooLarge}
 use Rattle.rx_model.specs.Trees.Early.{Obeys}
-use Rattle.rx_model.specs.Inputs.Environment.{Environment, is_unicode}
+use Rattle.rx_model.specs.Inputs.Environment.{Environment}
 use Rattle.rx_model.specs.Refusals.EscapeCauses as escape
 use Rattle.rx_model.specs.Refusals.EscapeCauses.{BeginsProperty, IsEscapeCause, IsPropertyCause}
 use Rattle.rx_model.specs.Refusals.Firsts.{NoneBeyond}
-use Rattle.rx_model.specs.Reading.Fronts.{front, property_token}
-use Rattle.rx_model.specs.Groups.GroupNames.{IsNameRow}
+use Rattle.rx_model.specs.Reading.Fronts.{backslash_front, front, property_token}
 use Rattle.rx_model.specs.Groups.Groups.{BeginsName, of_group, of_reference, EndsName}
 use Rattle.rx_model.specs.FirstPass.Marks.{starts}
 use Rattle.rx_model.specs.Properties.PropertyFronts.{PropertyRead, property_read, no_property, property_front}
@@ -28,19 +28,19 @@ use Rattle.rx_model.specs.Trees.Shapes.{run, group_takes}
 use Rattle.rx_model.specs.Refusals.Stops.{IsStop}
 use Rattle.rx_model.specs.Trees.Token.{Token, Opener, boundary, character, dot, class_escape, property, class, indexed, named, opener, closer, bar, quantifier}
 use Rattle.rx_model.proofs.Characters.Backslashes.{property_front_token}
-use Rattle.rx_model.proofs.Quantifiers.DeadCounts.{brace_first, dead_limit, dead_numbers, not_in_order, not_small}
-use Rattle.rx_model.proofs.Refusals.DeadFronts.{dead_duplicated, dead_empty, dead_escape, dead_hex, dead_name, dead_reference, dead_shared, dead_unknown}
-use Rattle.rx_model.proofs.Refusals.DeadPlaces.{IsDead, dead_none, dead_token, next, none_goes_on, same_token}
+use Rattle.rx_model.proofs.Quantifiers.BlockedCounts.{brace_first, blocked_limit, blocked_numbers, not_in_order, not_small}
+use Rattle.rx_model.proofs.Refusals.BlockedFronts.{blocked_duplicated, blocked_empty, blocked_escape, blocked_hex, blocked_name, blocked_reference, blocked_shared, blocked_unknown}
+use Rattle.rx_model.proofs.Refusals.BlockedPlaces.{IsBlocked, blocked_none, blocked_token, next, none_goes_on, same_token}
 use Rattle.rx_model.proofs.Reading.Fronts.{front_by_values, front_spelled, spelled_front, spelled_some}
 use Rattle.rx_model.proofs.Trees.Joins.{token_row_append}
 use Rattle.rx_model.proofs.Refusals.Places.{ahead, same_place, read_to_end}
-use Rattle.rx_model.proofs.Properties.PropertyRefusals.{cause_begins_no_property, property_first}
+use Rattle.rx_model.proofs.Properties.PropertyRefusals.{cause_begins_no_property, cause_unicode, property_first}
 use Rattle.rx_model.proofs.Trees.Runs.{run-append}
 use Rattle.rx_model.proofs.Refusals.Stops.{closer_front, stop_front}
 
 -- Where no token stands that obeys no place beyond is reached.
-pub dead_beyond : (mode : Mode) (us : List CodePoint) (f : ℕ) (rest : List CodePoint) → IsPlace mode us f rest → IsDead mode us rest → NoneBeyond mode us f
-dead_beyond mode us f rest a d g back b l =
+pub blocked_beyond : (mode : Mode) (us : List CodePoint) (f : ℕ) (rest : List CodePoint) → IsPlace mode us f rest → IsBlocked mode us rest → NoneBeyond mode us f
+blocked_beyond mode us f rest a d g back b l =
     let h = ahead mode us a.reached b.reached l in
     none_goes_on mode us rest back d h.t h.more h.row h.obey
 
@@ -117,10 +117,10 @@ ends_refuse mode us f (left_open group open_groups ready rest r none) p reads = 
 pub record ClassLaws (mode : Mode) (us : List CodePoint) (start added : ℕ) : Type 0 where
   pub behind_bracket : {from f : ℕ} {at_class : List CodePoint} {d : Diagnostic} → IsClassCause mode us start added from at_class f d → from ≤ f
   pub at_bracket : {from f : ℕ} {at_class : List CodePoint} {d : Diagnostic} → IsClassCause mode us start added from at_class f d → (w : List ℕ) × (values at_class ≡ 91 ∷ w)
-  pub dead : {from f : ℕ} {at_class : List CodePoint} {d : Diagnostic} → IsClassCause mode us start added from at_class f d → IsDead mode us at_class
+  pub blocked : {from f : ℕ} {at_class : List CodePoint} {d : Diagnostic} → IsClassCause mode us start added from at_class f d → IsBlocked mode us at_class
   pub one : {from f g : ℕ} {at_class : List CodePoint} {d e : Diagnostic} → IsClassCause mode us start added from at_class f d → IsClassCause mode us start added from at_class g e → (f ≡ g) × (d ≡ e)
 
-module _ (mode : Mode) (u : is_unicode mode ≡ true) (us : List CodePoint) where
+module _ (mode : Mode) (us : List CodePoint) where
   abbrev here : Environment
   here = text_environment mode us
 
@@ -129,8 +129,8 @@ module _ (mode : Mode) (u : is_unicode mode ≡ true) (us : List CodePoint) wher
   some_left f [] c w h p = absurd (let no : ⊥ = cc h in no)
   some_left f (u ∷ rest) c w h p = omega (arith, p.reached.place_is)
 
-  dead_ends : (f : ℕ) (rest : List CodePoint) (c : ℕ) (w : List ℕ) → values rest ≡ c ∷ w → IsPlace mode us f rest → IsDead mode us rest → Ends mode us f
-  dead_ends f rest c w h p d = passes f (omega arith) (some_left f rest c w h p) (dead_beyond mode us f rest p d)
+  blocked_ends : (f : ℕ) (rest : List CodePoint) (c : ℕ) (w : List ℕ) → values rest ≡ c ∷ w → IsPlace mode us f rest → IsBlocked mode us rest → Ends mode us f
+  blocked_ends f rest c w h p d = passes f (omega arith) (some_left f rest c w h p) (blocked_beyond mode us f rest p d)
 
   -- a token that is spelled, and has units
   token_left : (f : ℕ) (t : Token) (w more : List CodePoint) → Spells here t w more → IsPlace mode us f (w ++ more) → f < length us
@@ -138,12 +138,12 @@ module _ (mode : Mode) (u : is_unicode mode ≡ true) (us : List CodePoint) wher
 
   spelled_ends : (f : ℕ) (t : Token) (w more : List CodePoint) → Spells here t w more → IsPlace mode us f (w ++ more) → (Obeys (text_groups us) (text_names mode us) t → ⊥) → Ends mode us f
   spelled_ends f t w more s p not =
-      passes f (omega arith) (token_left f t w more s p) (dead_beyond mode us f (w ++ more) p (dead_token mode us (w ++ more) t (length w) (spelled_front here t w more s) not))
+      passes f (omega arith) (token_left f t w more s p) (blocked_beyond mode us f (w ++ more) p (blocked_token mode us (w ++ more) t (length w) (spelled_front here t w more s) not))
 
-  braces_ends : (f count min : ℕ) (max : Option ℕ) (rest : List CodePoint) → IsPlace mode us f rest → (h : HasBraces min max count rest) → IsDead mode us rest → Ends mode us f
+  braces_ends : (f count min : ℕ) (max : Option ℕ) (rest : List CodePoint) → IsPlace mode us f rest → (h : HasBraces min max count rest) → IsBlocked mode us rest → Ends mode us f
   braces_ends f count min max rest p h d =
       let b = brace_first min max h.prefix h.spelled in
-      dead_ends f rest 123 (b.0 ++ h.behind) (h.whole ∙ ap (λ w. w ++ h.behind) b.1) p d
+      blocked_ends f rest 123 (b.0 ++ h.behind) (h.whole ∙ ap (λ w. w ++ h.behind) b.1) p d
 
   pub limit_first : (w : List ℕ) (start count : ℕ) → PassesLimit w start count → (v : List ℕ) × (w ≡ 123 ∷ v)
   limit_first _ _ _ (limits.first digits next rest p) = (_, refl)
@@ -156,19 +156,19 @@ module _ (mode : Mode) (u : is_unicode mode ≡ true) (us : List CodePoint) wher
   name_ends : (f count : ℕ) (rest : List CodePoint) (behind : List ℕ) → IsPlace mode us f rest → EndsName here (values rest) count behind → (starts 62 behind ≡ true → count ≡ 0) → Ends mode us f
   name_ends f count rest behind p n h =
       let b = name_first (values rest) n.behind n.begins in
-      dead_ends f rest b.0 b.1 b.2 p (dead_name mode u us rest (values rest) n.behind count refl n.begins (subst (λ m. IsNameRow m n.behind count) u n.longest) (λ t. h (ap (starts 62) n.rest_is ∙ t)))
+      blocked_ends f rest b.0 b.1 b.2 p (blocked_name mode us rest (values rest) n.behind count refl n.begins n.longest (λ t. h (ap (starts 62) n.rest_is ∙ t)))
 
   no_angle : (behind : List ℕ) (count : ℕ) → starts 62 (92 ∷ behind) ≡ true → count ≡ 0
   no_angle behind count h = absurd (let no : ⊥ = cc h in no)
 
   escape_ends : (f : ℕ) (rest : List CodePoint) (first added : ℕ) (d : Diagnostic) → IsPlace mode us f rest → IsEscapeCause mode us first added f rest d → Ends mode us f
-  escape_ends f rest first added _ p (escape.too_many_hex_digits count behind m h limit) = dead_ends f rest 92 behind h p (dead_hex mode u us rest behind count h limit)
-  escape_ends f rest first added _ p (escape.invalid_escape behind m h no_value no_limit) = dead_ends f rest 92 (117 ∷ behind) h p (dead_escape mode u us rest behind h no_value no_limit)
+  escape_ends f rest first added _ p (escape.too_many_hex_digits count behind m h limit) = blocked_ends f rest 92 behind h p (blocked_hex mode us m rest behind count h limit)
+  escape_ends f rest first added _ p (escape.invalid_escape behind m h no_value no_limit) = blocked_ends f rest 92 (117 ∷ behind) h p (blocked_escape mode us m rest behind h no_value no_limit)
 
-  property_dead : (first added f : ℕ) (rest : List CodePoint) (d : Diagnostic) → IsPropertyCause mode us first added f rest d → IsDead mode us rest
-  property_dead first added f rest d c t n h o =
+  property_blocked : (first added f : ℕ) (rest : List CodePoint) (d : Diagnostic) → IsPropertyCause mode us first added f rest d → IsBlocked mode us rest
+  property_blocked first added f rest d c t n h o =
       let p = property_first mode us first added f rest d c in
-      go (property_front mode (p.0 ∷ p.1)) (sym h ∙ front_by_values here rest 92 (p.0 ∷ p.1) refl p.2 ∙ property_front_token here p.0 p.1 u p.3)
+      go (property_front mode (p.0 ∷ p.1)) (sym h ∙ front_by_values here rest 92 (p.0 ∷ p.1) refl p.2 ∙ property_front_token here p.0 p.1 (cause_unicode mode us first added f rest d c) p.3)
     where
       go : (r : PropertyRead) → Some (t, n) ≡ property_token r → ⊥
       go no_property k = cc k
@@ -178,7 +178,7 @@ module _ (mode : Mode) (u : is_unicode mode ≡ true) (us : List CodePoint) wher
           cause_begins_no_property here us first added f rest d c negative strings name value s.w s.rest s.whole (subst (λ t. Spells here t s.w s.rest) same s.spells)
 
   property_ends : (f : ℕ) (rest : List CodePoint) (first added : ℕ) (d : Diagnostic) → IsPlace mode us f rest → IsPropertyCause mode us first added f rest d → Ends mode us f
-  property_ends f rest first added d p c = let b = property_first mode us first added f rest d c in dead_ends f rest 92 (b.0 ∷ b.1) b.2 p (property_dead first added f rest d c)
+  property_ends f rest first added d p c = let b = property_first mode us first added f rest d c in blocked_ends f rest 92 (b.0 ∷ b.1) b.2 p (property_blocked first added f rest d c)
 
   -- Outside groups terms end before the end of the text.
   incomplete_ends : (f i : ℕ) (ready : Bool) (rest : List CodePoint) → IsReached mode us f [] ready rest → IsStop here rest i → rest ≢ [] → Ends mode us f
@@ -186,7 +186,7 @@ module _ (mode : Mode) (u : is_unicode mode ≡ true) (us : List CodePoint) wher
   incomplete_ends f i ready (u ∷ rest) r s some = passes f (omega arith) (omega (arith, r.place_is)) (go (starts 41 (values (u ∷ rest))) refl)
     where
       go : (b : Bool) → starts 41 (values (u ∷ rest)) ≡ b → NoneBeyond mode us f
-      go false h g back b l = dead_beyond mode us f (u ∷ rest) (record { open_groups = []; ready = ready; reached = r }) (dead_none mode us (u ∷ rest) (stop_front here (u ∷ rest) i s h)) g back b l
+      go false h g back b l = blocked_beyond mode us f (u ∷ rest) (record { open_groups = []; ready = ready; reached = r }) (blocked_none mode us (u ∷ rest) (stop_front here (u ∷ rest) i s h)) g back b l
       go true h g back b l =
           let a = ahead mode us r b.reached l in
           let k : next closer 1 ≡ next a.t (length a.row.0) = sym (closer_front here (u ∷ rest) h) ∙ ap (front here) a.row.2 ∙ spelled_front here a.t a.row.0 a.row.1 a.row.3 in
@@ -204,42 +204,49 @@ module _ (mode : Mode) (u : is_unicode mode ≡ true) (us : List CodePoint) wher
   group_ends from f i group rest inside s other =
       let r = inside_reached mode us from group f rest inside in
       left_open group inside.open_groups inside.ready_inside rest r
-      (dead_beyond mode us f rest (record { open_groups = group ∷ inside.open_groups; ready = inside.ready_inside; reached = r }) (dead_none mode us rest (stop_front here rest i s other)))
+      (blocked_beyond mode us f rest (record { open_groups = group ∷ inside.open_groups; ready = inside.ready_inside; reached = r }) (blocked_none mode us rest (stop_front here rest i s other)))
 
   class_ends : (first added : ℕ) → ClassLaws mode us first added → (from f : ℕ) (at_class : List CodePoint) (d : Diagnostic) → IsPlace mode us from at_class → IsClassCause mode us first added from at_class f d → Ends mode us f
   class_ends first added laws from f at_class d p c =
-      let b = laws.at_bracket c in passes from (laws.behind_bracket c) (some_left from at_class 91 b.0 b.1 p) (dead_beyond mode us from at_class p (laws.dead c))
+      let b = laws.at_bracket c in passes from (laws.behind_bracket c) (some_left from at_class 91 b.0 b.1 p) (blocked_beyond mode us from at_class p (laws.blocked c))
 
-  no_legacy : (f : ℕ) → is_unicode mode ≡ false → Ends mode us f
-  no_legacy f m = absurd (let no : true ≡ false = sym u ∙ m in let g : ⊥ = cc no in g)
+  -- A backslash ends the text.
+  last_ends : (f : ℕ) (backslash : CodePoint) → IsPlace mode us f (backslash ∷ []) → backslash.value ≡ 92 → Ends mode us f
+  unfolding backslash_front
+  last_ends f backslash p h =
+      let text : values (backslash ∷ []) ≡ 92 ∷ [] = ap (λ c. c ∷ []) h in
+      blocked_ends f (backslash ∷ []) 92 [] text p (blocked_none mode us (backslash ∷ []) (front_by_values here (backslash ∷ []) 92 [] refl text))
+
+  pub pair_no_closer : (behind : List ℕ) (count : ℕ) → BeginsWithPair behind → starts 62 behind ≡ true → count ≡ 0
+  pair_no_closer behind count p h = absurd (let no : ⊥ = grind (arith, nat_tests, p.whole, p.is_lead.0, h) in no)
 
   pub cause_ends : (first added : ℕ) → ClassLaws mode us first added → (f : ℕ) (d : Diagnostic) → IsCauseAtPlace mode us first added f d → Ends mode us f
   cause_ends first added laws _ _ (cause.incomplete place behind ready rest r s some) = incomplete_ends place behind ready rest r s some
   cause_ends first added laws _ _ (cause.lone place min max greedy open_groups w more r m s o) = lone_ends place min max greedy open_groups w more r s
-  cause_ends first added laws f _ (cause.lone_in_legacy place min max greedy open_groups w more r m s o) = no_legacy f m
-  cause_ends first added laws f _ (cause.last_backslash place backslash p m h) = no_legacy f m
-  cause_ends first added laws _ _ (cause.out_of_order place count min max rest p h out) = braces_ends place count min max rest p h (dead_numbers mode u us rest min max count h (not_in_order min max out))
-  cause_ends first added laws _ _ (cause.too_large place count min max rest p h order large) = braces_ends place count min max rest p h (dead_numbers mode u us rest min max count h (not_small min max large))
+  cause_ends first added laws _ _ (cause.lone_in_legacy place min max greedy open_groups w more r m s o) = lone_ends place min max greedy open_groups w more r s
+  cause_ends first added laws _ _ (cause.last_backslash place backslash p m h) = last_ends place backslash p h
+  cause_ends first added laws _ _ (cause.out_of_order place count min max rest p h out) = braces_ends place count min max rest p h (blocked_numbers mode us rest min max count h (not_in_order min max out))
+  cause_ends first added laws _ _ (cause.too_large place count min max rest p h order large) = braces_ends place count min max rest p h (blocked_numbers mode us rest min max count h (not_small min max large))
   cause_ends first added laws _ _ (cause.too_many_digits place start count rest p limit in_legacy) =
-      let b = limit_first (values rest) start count limit in dead_ends place rest 123 b.0 b.1 p (dead_limit mode u us rest start count limit)
+      let b = limit_first (values rest) start count limit in blocked_ends place rest 123 b.0 b.1 p (blocked_limit mode us rest start count limit in_legacy)
   cause_ends first added laws _ d (cause.of_escape place rest p c) = escape_ends place rest first added d p c
   cause_ends first added laws _ d (cause.of_property place rest p c) = property_ends place rest first added d p c
   cause_ends first added laws _ d (cause.of_class from place at_class p c) = class_ends first added laws from place at_class d p c
   cause_ends first added laws _ _ (cause.unterminated_group from place behind group rest inside s other) = group_ends from place behind group rest inside s other
   cause_ends first added laws _ _ (cause.unterminated_name place count rest behind p m n no_escape ends) = name_ends place count rest behind p n ends
-  cause_ends first added laws f _ (cause.unterminated_name_in_legacy place count rest behind p m n none no_pair ends) = no_legacy f m
-  cause_ends first added laws f _ (cause.misplaced_pair place count rest behind p m n pair) = no_legacy f m
+  cause_ends first added laws _ _ (cause.unterminated_name_in_legacy place count rest behind p m n none no_pair ends) = name_ends place count rest behind p n ends
+  cause_ends first added laws _ _ (cause.misplaced_pair place count rest behind p m n pair) = name_ends place count rest behind p n (pair_no_closer behind count pair)
   cause_ends first added laws _ _ (cause.too_many_digits_in_name place count many rest behind p n limit) = name_ends place count rest (92 ∷ behind) p n (no_angle behind count)
   cause_ends first added laws _ _ (cause.misplaced_in_name place count value n rest behind p ends decodes) = name_ends place count rest (92 ∷ behind) p ends (no_angle behind count)
   cause_ends first added laws _ _ (cause.invalid_in_name place count rest behind p n no_value no_limit u) = name_ends place count rest (92 ∷ behind) p n (no_angle behind count)
   cause_ends first added laws _ _ (cause.invalid_u_in_name place count rest behind p n no_value no_limit u) = name_ends place count rest (92 ∷ behind) p n (no_angle behind count)
   cause_ends first added laws _ _ (cause.no_such_group place n w more p s large) =
       spelled_ends place (indexed n) w more s p (λ o. omega (arith, large, o.1))
-  cause_ends first added laws _ _ (cause.no_group_name place rest behind p there h other) = dead_ends place rest 92 (107 ∷ behind) h p (dead_reference mode u us rest behind h other)
+  cause_ends first added laws _ _ (cause.no_group_name place rest behind p there h other) = blocked_ends place rest 92 (107 ∷ behind) h p (blocked_reference mode us there rest behind h other)
   cause_ends first added laws _ _ (cause.no_such_name place name w more p s unknown) = spelled_ends place (named name) w more s p unknown
-  cause_ends first added laws _ _ (cause.unknown_modifiers place rest text behind p h l) = dead_ends place rest 40 (63 ∷ (text ++ behind)) h p (dead_unknown mode u us rest text behind h l)
+  cause_ends first added laws _ _ (cause.unknown_modifiers place rest text behind p h l) = blocked_ends place rest 40 (63 ∷ (text ++ behind)) h p (blocked_unknown mode us rest text behind h l)
   cause_ends first added laws _ _ (cause.duplicated_modifiers place rest enabled disabled text behind p h s twice) =
-      dead_ends place rest 40 (63 ∷ (text ++ (58 ∷ behind))) h p (dead_duplicated mode u us rest enabled disabled text behind h s twice)
-  cause_ends first added laws _ _ (cause.empty_modifiers place rest behind p h) = dead_ends place rest 40 (63 ∷ 45 ∷ 58 ∷ behind) h p (dead_empty mode u us rest behind h)
+      blocked_ends place rest 40 (63 ∷ (text ++ (58 ∷ behind))) h p (blocked_duplicated mode us rest enabled disabled text behind h s twice)
+  cause_ends first added laws _ _ (cause.empty_modifiers place rest behind p h) = blocked_ends place rest 40 (63 ∷ 45 ∷ 58 ∷ behind) h p (blocked_empty mode us rest behind h)
   cause_ends first added laws _ _ (cause.invalid_modifiers place rest enabled disabled text behind p h s once share) =
-      dead_ends place rest 40 (63 ∷ (text ++ (58 ∷ behind))) h p (dead_shared mode u us rest enabled disabled text behind h s once share)
+      blocked_ends place rest 40 (63 ∷ (text ++ (58 ∷ behind))) h p (blocked_shared mode us rest enabled disabled text behind h s once share)

@@ -1,12 +1,12 @@
 -- What is refused at a place that is reached, by a function of what stands there.
-use Rattle.std.proofs.Common.{◌≡◌, ◌⊎◌, refl, ap, sym, ◌∙◌, subst, ℕ, ◌+◌, ◌*◌, ◌==◌, ◌||◌, Bool, true, false, cond, Option, Some, None, List, [], ◌∷◌, ◌++◌, length, drop, codes, arith, inl, inr}
+use Rattle.std.proofs.Common.{◌≡◌, ◌⊎◌, refl, ap, sym, ◌∙◌, subst, ℕ, ◌+◌, ◌*◌, ◌==◌, ◌||◌, ◌&&◌, not, Bool, true, false, cond, Option, Some, None, List, [], ◌∷◌, ◌++◌, length, drop, codes, arith, inl, inr}
 use Rattle.std.proofs.Math.Seq.{drop-append_seam}
-use Rattle.std.proofs.lemmas.Bool.{cond-true, cond-false, eqb-true, or_cases}
+use Rattle.std.proofs.lemmas.Bool.{cond-true, cond-false, eqb-true, false_from_ne_true, or_cases}
 use Rattle.std.proofs.lemmas.List.{map-append}
 use Rattle.std.proofs.lemmas.Option.{option_and_then_some}
 use Rattle.std.proofs.lemmas.Bool.Decides.{nat_tests}
 use Rattle.rx_base.specs.declared.diagnostic.Diagnostic.{Diagnostic}
-use Rattle.rx_base.specs.declared.diagnostic.Diagnostic.TheVariants.{UnterminatedPattern, InvalidIndexedReference, EmptyGroupSpecifier, InvalidNamedReference, TooLargeNumberDigits, InvalidUnicodeEscapeSequence, DuplicatedModifiers, InvalidModifiers, EmptyModifiers, UnknownModifiers}
+use Rattle.rx_base.specs.declared.diagnostic.Diagnostic.TheVariants.{UnterminatedPattern, InvalidExtendedAtomEscape, InvalidSurrogatePair, InvalidIndexedReference, EmptyGroupSpecifier, InvalidNamedReference, TooLargeNumberDigits, InvalidUnicodeEscapeSequence, DuplicatedModifiers, InvalidModifiers, EmptyModifiers, UnknownModifiers}
 use Rattle.rx_base.specs.declared.diagnostic.kinds.DigitsKind.TheVariants as digits_kind
 use Rattle.rx_base.specs.declared.diagnostic.kinds.Unterminated.TheVariants as what
 use Rattle.rx_base.specs.declared.span.Span.{Span}
@@ -14,8 +14,8 @@ use Rattle.rx_tables.specs.Characters.{is_decimal_digit, is_within}
 use Rattle.rx_units.specs.declared.code_point.CodePoint.{CodePoint}
 use Rattle.rx_units.specs.Units.{values}
 use Rattle.rx_model.specs.declared.mode.Mode.{Mode}
-use Rattle.rx_model.specs.Refusals.Causes.{LeadNowhere}
-use Rattle.rx_model.specs.Characters.Decoding.{Decoded, value, invalid, overflow, decoded}
+use Rattle.rx_model.specs.Refusals.Causes.{BeginsWithPair, LeadNowhere}
+use Rattle.rx_model.specs.Characters.Decoding.{Decoded, value, invalid, overflow, decoded, is_lead, is_trail}
 use Rattle.rx_model.specs.Inputs.Environment.{Environment, is_unicode}
 use Rattle.rx_model.specs.Refusals.EscapeCauses as escape
 use Rattle.rx_model.specs.Refusals.EscapeCauses.{IsEscapeCause}
@@ -35,11 +35,11 @@ use Rattle.rx_model.specs.Refusals.Stops.{IsStop, at_end, at_closer, at_bracket,
 use Rattle.rx_model.specs.Trees.Token.{Token, indexed, named, quantifier}
 use Rattle.rx_model.specs.Characters.UnicodeEscapes.{Decodes, PassesHex}
 use Rattle.rx_model.proofs.Quantifiers.DecimalDigits.{digit_there}
-use Rattle.rx_model.proofs.Quantifiers.DeadCounts.{brace_first}
-use Rattle.rx_model.proofs.Refusals.DeadFronts.{backslash_k, no_name_begins, no_name_front, sides_lead}
-use Rattle.rx_model.proofs.Characters.Decodings.{overflow_read, read_overflow, value_law}
+use Rattle.rx_model.proofs.Quantifiers.BlockedCounts.{brace_first}
+use Rattle.rx_model.proofs.Refusals.BlockedFronts.{backslash_k, no_name_begins, no_name_front, sides_lead}
+use Rattle.rx_model.proofs.Characters.Decodings.{both, overflow_read, read_overflow, value_law}
 use Rattle.rx_model.proofs.Reading.Fronts.{front_by_values, spelled_front}
-use Rattle.rx_model.proofs.Groups.GroupNames.{name_read, no_name_law}
+use Rattle.rx_model.proofs.Groups.GroupNames.{lead_not_backslash, lead_seen, name_read, no_name_law, seen_lead, seen_trail, trail_seen}
 use Rattle.rx_model.proofs.Groups.Modifiers.{modifiers_begin, not_mark, sides_read}
 use Rattle.rx_model.proofs.Refusals.Stops.{no_beginning, stop_front}
 
@@ -54,9 +54,9 @@ pub data Answer : Type 0 where
 abbrev row_units : NameRow → ℕ
 row_units (row cs n) = n
 
-units_are : (behind : List ℕ) (count : ℕ) → IsNameRow true behind count → count ≡ row_units (name_at true behind)
-units_are behind _ (no_name none) = ap row_units (sym ((no_name_law true behind).1 (no_name_begins true behind none)))
-units_are behind count (some_name {name} b) = ap row_units (sym (name_read true behind name count b))
+units_are : (m : Bool) (behind : List ℕ) (count : ℕ) → IsNameRow m behind count → count ≡ row_units (name_at m behind)
+units_are m behind _ (no_name none) = ap row_units (sym ((no_name_law m behind).1 (no_name_begins m behind none)))
+units_are m behind count (some_name {name} b) = ap row_units (sym (name_read m behind name count b))
 
 letter_cases : (c : ℕ) → begins_property c ≡ true → ((c == 117) ≡ false) × ((c == 107) ≡ false)
 letter_cases c h = (grind (arith, nat_tests), grind (arith, nat_tests))
@@ -73,7 +73,21 @@ not_zero c h k = grind (arith, nat_tests)
 first_digit : (c : ℕ) (ds : List ℕ) (n : ℕ) → decimal_behind 0 (c ∷ ds) ≡ Some n → is_decimal_digit c ≡ true
 first_digit c ds n h = option_and_then_some (λ d. decimal_behind (10 * 0 + d) ds) (decimal_digit_value c) n h (λ d e f. (digit_there c d e).0)
 
-module _ (mode : Mode) (u : is_unicode mode ≡ true) (us : List CodePoint) (start added : ℕ) where
+-- whether a raw lead and a raw trail stand next
+abbrev pub begins_pair : List ℕ → Bool
+begins_pair [] = false
+begins_pair (c ∷ []) = false
+begins_pair (c ∷ d ∷ w) = is_lead c && is_trail d
+
+pub pair_begins : (c : ℕ) (w : List ℕ) → begins_pair (c ∷ w) ≡ true → BeginsWithPair (c ∷ w)
+pair_begins c [] h = absurd (let no : ⊥ = cc h in no)
+pair_begins c (d ∷ w) h = let p = both (is_lead c) (is_trail d) h in record { lead = c; trail = d; rest = w; whole = refl; is_lead = seen_lead c p.0; is_trail = seen_trail d p.1 }
+
+pub no_pair_begins : (w : List ℕ) → (BeginsWithPair w → ⊥) → begins_pair w ≡ false
+no_pair_begins [] h = refl
+no_pair_begins (c ∷ w) h = false_from_ne_true (begins_pair (c ∷ w)) (λ t. h (pair_begins c w t))
+
+module _ (mode : Mode) (us : List CodePoint) (start added : ℕ) where
   abbrev here : Environment
   here = text_environment mode us
 
@@ -91,17 +105,21 @@ module _ (mode : Mode) (u : is_unicode mode ≡ true) (us : List CodePoint) (sta
   in_name f count (value v n) w = Some (InvalidUnicodeEscapeSequence (span (f + 3 + count) (f + 4 + count + n)))
   in_name f count (overflow n) w = Some (TooLargeNumberDigits (span (f + 6 + count) (f + 6 + count + n)) digits_kind.Hex)
   in_name f count invalid w =
-      cond (starts 117 w) (Some (InvalidUnicodeEscapeSequence (span (f + 4 + count) (f + 5 + count)))) (Some (InvalidUnicodeEscapeSequence (span (f + 3 + count) (f + 4 + count))))
+      cond (is_unicode mode && starts 117 w) (Some (InvalidUnicodeEscapeSequence (span (f + 4 + count) (f + 5 + count)))) (Some (InvalidUnicodeEscapeSequence (span (f + 3 + count) (f + 4 + count))))
 
   abbrev unterminated_name : ℕ → ℕ → Option Diagnostic
   unterminated_name f count = Some (UnterminatedPattern (span (f + 2) (f + 3 + count)) what.GroupName)
 
+  abbrev misplaced_pair : ℕ → ℕ → Option Diagnostic
+  misplaced_pair f count = Some (InvalidSurrogatePair (span (f + 3 + count) (f + 5 + count)))
+
   abbrev pub behind_name : ℕ → ℕ → List ℕ → Option Diagnostic
   behind_name f count [] = unterminated_name f count
-  behind_name f count (c ∷ w) = cond (c == 92) (in_name f count (decoded true w) w) (unterminated_name f count)
+  behind_name f count (c ∷ w) =
+      cond (c == 92) (in_name f count (decoded true w) w) (cond (not (is_unicode mode) && begins_pair (c ∷ w)) (misplaced_pair f count) (unterminated_name f count))
 
   abbrev name_fault : ℕ → List ℕ → Option Diagnostic
-  name_fault f w = behind_name f (row_units (name_at true w)) (drop (row_units (name_at true w)) w)
+  name_fault f w = behind_name f (row_units (name_at (is_unicode mode) w)) (drop (row_units (name_at (is_unicode mode) w)) w)
 
   abbrev index_fault : ℕ → Option (Token × ℕ) → Option Diagnostic
   index_fault f None = None
@@ -124,7 +142,7 @@ module _ (mode : Mode) (u : is_unicode mode ≡ true) (us : List CodePoint) (sta
       (Some (UnknownModifiers (span (f + 2) (f + 2 + n))))
 
   abbrev at_backslash : ℕ → Option (Token × ℕ) → List ℕ → Answer
-  at_backslash f t [] = stopping
+  at_backslash f t [] = cond (is_unicode mode) stopping (told (Some (InvalidExtendedAtomEscape (span f (f + 1)))))
   at_backslash f t (c ∷ w) =
       cond (c == 117) (told (escape_fault f (decoded true (117 ∷ w))))
       (cond (c == 107) (told (reference_fault f t w))
@@ -159,26 +177,31 @@ module _ (mode : Mode) (u : is_unicode mode ≡ true) (us : List CodePoint) (sta
       ap (answer_by f (front here rest)) h ∙ ap told (escape_told f (117 ∷ behind) d (decoded true (117 ∷ behind)) refl no_value no_limit)
 
   -- the same of names
-  name_there : (f count : ℕ) (behind : List ℕ) (d : Option Diagnostic) → IsNameRow true behind count → behind_name f count (drop count behind) ≡ d → name_fault f behind ≡ d
-  name_there f count behind d h e = subst (λ n. behind_name f n (drop n behind) ≡ d) (units_are behind count h) e
+  name_there : (f count : ℕ) (behind : List ℕ) (d : Option Diagnostic) → IsNameRow (is_unicode mode) behind count → behind_name f count (drop count behind) ≡ d → name_fault f behind ≡ d
+  name_there f count behind d h e = subst (λ n. behind_name f n (drop n behind) ≡ d) (units_are (is_unicode mode) behind count h) e
 
-  name_by : (f count : ℕ) (rest : List CodePoint) (w behind : List ℕ) (d : Option Diagnostic) → values rest ≡ w → BeginsName here w behind → IsNameRow true behind count → (starts 62 (drop count behind) ≡ true → count ≡ 0) →
+  name_by : (f count : ℕ) (rest : List CodePoint) (w behind : List ℕ) (d : Option Diagnostic) → values rest ≡ w → BeginsName here w behind → IsNameRow (is_unicode mode) behind count → (starts 62 (drop count behind) ≡ true → count ≡ 0) →
       behind_name f count (drop count behind) ≡ d → answer f rest ≡ told d
   unfolding reference_front backslash_front
   name_by f count rest _ behind d h (of_group look) longest ends e = ap (answer_by f (front here rest)) h ∙ ap told (name_there f count behind d longest e)
   name_by f count rest _ behind d h (of_reference there) longest ends e =
-      let none : front here rest ≡ None = front_by_values here rest 92 (107 ∷ 60 ∷ behind) refl h ∙ backslash_k mode u us (60 ∷ behind) ∙ ap named_token (no_name_front true behind count longest ends) in
+      let none : front here rest ≡ None = front_by_values here rest 92 (107 ∷ 60 ∷ behind) refl h ∙ backslash_k mode us there (60 ∷ behind) ∙ ap named_token (no_name_front (is_unicode mode) behind count longest ends) in
       ap (answer_by f (front here rest)) h ∙ ap (λ t. told (angle_fault f t behind)) none ∙ ap told (name_there f count behind d longest e)
 
   pub name_is : (f count : ℕ) (rest : List CodePoint) (behind : List ℕ) (d : Option Diagnostic) → EndsName here (values rest) count behind → (starts 62 behind ≡ true → count ≡ 0) → behind_name f count behind ≡ d → answer f rest ≡ told d
   name_is f count rest behind d n ends e =
-      name_by f count rest (values rest) n.behind d refl n.begins (subst (λ m. IsNameRow m n.behind count) u n.longest) (λ t. ends (ap (starts 62) n.rest_is ∙ t)) (ap (behind_name f count) (sym n.rest_is) ∙ e)
+      name_by f count rest (values rest) n.behind d refl n.begins n.longest (λ t. ends (ap (starts 62) n.rest_is ∙ t)) (ap (behind_name f count) (sym n.rest_is) ∙ e)
 
-  pub unterminated_is : (f count : ℕ) (behind : List ℕ) → starts 92 behind ≡ false → behind_name f count behind ≡ unterminated_name f count
-  unterminated_is f count [] h = refl
-  unterminated_is f count (c ∷ w) h = cond-false (c == 92) _ _ h
+  pub unterminated_is : (f count : ℕ) (behind : List ℕ) → starts 92 behind ≡ false → (not (is_unicode mode) && begins_pair behind) ≡ false → behind_name f count behind ≡ unterminated_name f count
+  unterminated_is f count [] h none = refl
+  unterminated_is f count (c ∷ w) h none = cond-false (c == 92) _ _ h ∙ cond-false (not (is_unicode mode) && begins_pair (c ∷ w)) _ _ none
 
-  pub invalid_is : (f count : ℕ) (w : List ℕ) (b : Bool) (r : Decoded) → decoded true w ≡ r → ((v n : ℕ) → Decodes true w v n → ⊥) → ((many : ℕ) → PassesHex w many → ⊥) → starts 117 w ≡ b →
+  pub pair_is : (f count : ℕ) (behind : List ℕ) → is_unicode mode ≡ false → BeginsWithPair behind → behind_name f count behind ≡ misplaced_pair f count
+  pair_is f count behind m p =
+      ap (behind_name f count) p.whole ∙ cond-false (p.lead == 92) _ _ (lead_not_backslash p.lead p.is_lead)
+      ∙ cond-true (not (is_unicode mode) && begins_pair (p.lead ∷ p.trail ∷ p.rest)) _ _ (rw (m, lead_seen p.lead p.is_lead, trail_seen p.trail p.is_trail) refl)
+
+  pub invalid_is : (f count : ℕ) (w : List ℕ) (b : Bool) (r : Decoded) → decoded true w ≡ r → ((v n : ℕ) → Decodes true w v n → ⊥) → ((many : ℕ) → PassesHex w many → ⊥) → (is_unicode mode && starts 117 w) ≡ b →
       behind_name f count (92 ∷ w) ≡ cond b (Some (InvalidUnicodeEscapeSequence (span (f + 4 + count) (f + 5 + count)))) (Some (InvalidUnicodeEscapeSequence (span (f + 3 + count) (f + 4 + count))))
   invalid_is f count w b (value v n) h no_value no_limit s = absurd (no_value v n ((value_law true w v n).0 h))
   invalid_is f count w b (overflow n) h no_value no_limit s = absurd (no_limit n (read_overflow true w n h).1)
@@ -267,7 +290,7 @@ module _ (mode : Mode) (u : is_unicode mode ≡ true) (us : List CodePoint) (sta
       inl (ap (λ c. answer_by f (front here (u ∷ rest)) (c ∷ values rest)) h ∙ go (values rest) none)
     where
       go : (w : List ℕ) → begins_escape here w ≡ false → at_backslash f (front here (u ∷ rest)) w ≡ stopping
-      go [] k = refl
+      go [] k = cond-true (is_unicode mode) _ _ m
       go (c ∷ w) k =
           let b = no_beginning here c w k in
           let e = escape_cases c b.no_letters in
@@ -283,6 +306,10 @@ module _ (mode : Mode) (u : is_unicode mode ≡ true) (us : List CodePoint) (sta
   ]
   stop_units _ _ (at_brace {u} {us = rest} m h none limit) = rw h refl
   stop_units _ _ (behind_backslash {u} {us = rest} m h none) = rw h refl
+
+  -- With neither `u` nor `v` a backslash ends the text.
+  pub last_is : (f : ℕ) (backslash : CodePoint) → is_unicode mode ≡ false → backslash.value ≡ 92 → answer f (backslash ∷ []) ≡ told (Some (InvalidExtendedAtomEscape (span f (f + 1))))
+  last_is f backslash m h = ap (λ c. answer_by f (front here (backslash ∷ [])) (c ∷ [])) h ∙ cond-false (is_unicode mode) _ _ m
 
   -- A `[` ends no terms, and no refusal outside classes stands there.
   pub bracket_is : (f : ℕ) (rest : List CodePoint) (w : List ℕ) → values rest ≡ 91 ∷ w → answer f rest ≡ stopping

@@ -1,5 +1,5 @@
 -- With neither `u` nor `v` each unit that ExtendedPatternCharacter does not leave out stands for itself, where no braces begin a quantifier.
-use Rattle.std.proofs.Common.{◌≡◌, refl, ap, ◌∙◌, ℕ, ◌==◌, ◌||◌, Bool, true, false, not, List, [], ◌∷◌, codes, arith, inl}
+use Rattle.std.proofs.Common.{◌≡◌, refl, ap, ℕ, ◌||◌, Bool, true, false, not, List, [], ◌∷◌, codes, arith, inl}
 use Rattle.std.proofs.lemmas.Bool.Decides.{nat_tests}
 use Rattle.rx_units.specs.declared.code_point.CodePoint.{CodePoint}
 use Rattle.rx_units.specs.Units.{values}

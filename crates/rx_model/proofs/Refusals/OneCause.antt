@@ -1,5 +1,5 @@
 -- At most one refusal holds of a text: of those at places, since no place beyond one is reached, and what stands at a place tells its refusal.
-use Rattle.std.proofs.Common.{◌&&◌, ◌≡◌, refl, ap, sym, ◌∙◌, subst, ℕ, ◌<◌, true, false, Option, Some, None, List, [], ◌∷◌, ◌++◌, length, arith, inl, inr}
+use Rattle.std.proofs.Common.{◌≡◌, refl, ap, sym, ◌∙◌, subst, ℕ, ◌+◌, ◌<◌, Bool, true, false, Option, Some, None, List, [], ◌∷◌, ◌++◌, length, arith, inl, inr}
 use Rattle.rx_base.specs.declared.diagnostic.Diagnostic.{Diagnostic}
 use Rattle.rx_base.specs.declared.diagnostic.Diagnostic.TheVariants.{DuplicatedCapturingGroupNames}
 use Rattle.rx_units.specs.declared.code_point.CodePoint.{CodePoint}
@@ -12,32 +12,33 @@ use Rattle.rx_model.specs.Inputs.Environment.{Environment, is_unicode}
 use Rattle.rx_model.specs.Refusals.Firsts.{IsFirst, NoneBeyond, of_groups, of_places}
 use Rattle.rx_model.specs.Reading.Fronts.{front}
 use Rattle.rx_model.specs.FirstPass.Marks.{IsFirstClash, marks, starts}
-use Rattle.rx_model.specs.Refusals.Reached.{IsPlace, text_environment}
+use Rattle.rx_model.specs.Refusals.Reached.{AreObeying, IsPlace, span_between, text_environment}
+use Rattle.rx_model.specs.Reading.Rows.{Spells}
 use Rattle.rx_model.specs.Trees.Token.{quantifier}
-use Rattle.rx_model.proofs.Refusals.Beyond.{ClassLaws, dead_beyond, inside_reached, limit_first}
-use Rattle.rx_model.proofs.Quantifiers.DeadCounts.{brace_first}
-use Rattle.rx_model.proofs.Refusals.DeadPlaces.{next}
+use Rattle.rx_model.proofs.Refusals.Beyond.{ClassLaws, blocked_beyond, inside_reached, limit_first, pair_no_closer}
+use Rattle.rx_model.proofs.Quantifiers.BlockedCounts.{brace_first}
+use Rattle.rx_model.proofs.Refusals.BlockedPlaces.{next}
 use Rattle.rx_model.proofs.Refusals.OnlyFirst.{only_is_first}
-use Rattle.rx_model.proofs.Refusals.Faults.{told, by_property, by_quantifier, stopping, answer, escape_is, name_is, unterminated_is, invalid_is, index_is, reference_is, named_is, unknown_is, duplicated_is, empty_is, shared_is, property_is, NoBraces, stop_is, brace_is, bracket_is, misplaced_is, no_stop, overflow_is, quantifier_is}
+use Rattle.rx_model.proofs.Refusals.Faults.{told, by_property, by_quantifier, stopping, answer, escape_is, name_is, unterminated_is, invalid_is, index_is, reference_is, named_is, unknown_is, duplicated_is, empty_is, shared_is, property_is, NoBraces, stop_is, brace_is, bracket_is, misplaced_is, no_stop, overflow_is, quantifier_is, last_is, no_pair_begins, pair_is}
 use Rattle.rx_model.proofs.Reading.Fronts.{spelled_front}
 use Rattle.rx_model.proofs.Properties.OneProperty.{one_property}
-use Rattle.rx_model.proofs.Quantifiers.OneQuantifier.{QuantifierRow, lone, out_of_order, too_large, too_many_digits, one_quantifier}
+use Rattle.rx_model.proofs.Quantifiers.OneQuantifier.{QuantifierRow, lone, out_of_order, too_large, too_many_digits, lone_refusal, one_quantifier}
 use Rattle.rx_model.proofs.Refusals.OneStop.{StopRow, outside, inside, stops_at, one_stop}
 use Rattle.rx_model.proofs.Refusals.Places.{same_place}
 use Rattle.rx_model.proofs.Properties.PropertyRefusals.{property_first}
 use Rattle.rx_model.proofs.Refusals.Refusals.{none_beyond}
 use Rattle.rx_model.specs.Refusals.EscapeCauses.{IsPropertyCause}
 
-module _ (mode : Mode) (u : is_unicode mode ≡ true) (us : List CodePoint) (start added : ℕ) (laws : ClassLaws mode us start added) where
+module _ (mode : Mode) (us : List CodePoint) (start added : ℕ) (laws : ClassLaws mode us start added) where
   abbrev here : Environment
   here = text_environment mode us
 
   -- a refusal of what stands at a place that is reached, outside classes
   data Row (f : ℕ) (rest : List CodePoint) (d : Diagnostic) : Type 0 where
-    told_row : answer mode u us start added f rest ≡ told (Some d) → Row f rest d
-    property_row : answer mode u us start added f rest ≡ by_property → IsPropertyCause mode us start added f rest d → Row f rest d
-    quantifier_row : answer mode u us start added f rest ≡ by_quantifier → QuantifierRow mode us start added f rest d → Row f rest d
-    stop_row : StopRow mode u us start added f rest d → Row f rest d
+    told_row : answer mode us start added f rest ≡ told (Some d) → Row f rest d
+    property_row : answer mode us start added f rest ≡ by_property → IsPropertyCause mode us start added f rest d → Row f rest d
+    quantifier_row : answer mode us start added f rest ≡ by_quantifier → QuantifierRow mode us start added f rest d → Row f rest d
+    stop_row : StopRow mode us start added f rest d → Row f rest d
 
   data Located (f : ℕ) (d : Diagnostic) : Type 0 where
     at_place : (rest : List CodePoint) → IsPlace mode us f rest → Row f rest d → Located f d
@@ -46,50 +47,56 @@ module _ (mode : Mode) (u : is_unicode mode ≡ true) (us : List CodePoint) (sta
   no_angle : (behind : List ℕ) (count : ℕ) → starts 62 (92 ∷ behind) ≡ true → count ≡ 0
   no_angle behind count h = absurd (let no : ⊥ = cc h in no)
 
-  braces_are : (f count min : ℕ) (max : Option ℕ) (rest : List CodePoint) → HasBraces min max count rest → answer mode u us start added f rest ≡ by_quantifier
-  braces_are f count min max rest h = let b = brace_first min max h.prefix h.spelled in brace_is mode u us start added f rest (b.0 ++ h.behind) (h.whole ∙ ap (λ w. w ++ h.behind) b.1)
+  braces_are : (f count min : ℕ) (max : Option ℕ) (rest : List CodePoint) → HasBraces min max count rest → answer mode us start added f rest ≡ by_quantifier
+  braces_are f count min max rest h = let b = brace_first min max h.prefix h.spelled in brace_is mode us start added f rest (b.0 ++ h.behind) (h.whole ∙ ap (λ w. w ++ h.behind) b.1)
 
-  no_legacy : {f : ℕ} {d : Diagnostic} → is_unicode mode ≡ false → Located f d
-  no_legacy m = absurd (let no : true ≡ false = sym u ∙ m in let f : ⊥ = cc no in f)
+  lone_row : (f min : ℕ) (max : Option ℕ) (greedy : Bool) (w more : List CodePoint) (u : Bool) → is_unicode mode ≡ u → Spells here (quantifier min max greedy) w more → AreObeying mode us (quantifier min max greedy ∷ []) →
+      Row f (w ++ more) (lone_refusal u (span_between us start added f (f + length w)))
+  lone_row f min max greedy w more u m s o =
+      subst (λ u. Row f (w ++ more) (lone_refusal u (span_between us start added f (f + length w)))) m
+      (quantifier_row (quantifier_is mode us start added f min max greedy w more s) (lone min max greedy w more refl s o))
 
   located : (f : ℕ) (d : Diagnostic) → IsCauseAtPlace mode us start added f d → Located f d
   located _ _ (cause.incomplete place behind ready rest r s some) = at_place rest (record { open_groups = []; ready = ready; reached = r }) (stop_row (outside behind ready r s))
   located _ _ (cause.lone place min max greedy open_groups w more r m s o) =
-      at_place (w ++ more) (record { open_groups = open_groups; ready = false; reached = r }) (quantifier_row (quantifier_is mode u us start added place min max greedy w more s) (lone min max greedy w more refl s o))
-  located _ _ (cause.lone_in_legacy place min max greedy open_groups w more r m s o) = no_legacy m
-  located _ _ (cause.last_backslash place backslash p m h) = no_legacy m
+      at_place (w ++ more) (record { open_groups = open_groups; ready = false; reached = r }) (lone_row place min max greedy w more true m s o)
+  located _ _ (cause.lone_in_legacy place min max greedy open_groups w more r m s o) =
+      at_place (w ++ more) (record { open_groups = open_groups; ready = false; reached = r }) (lone_row place min max greedy w more false m s o)
+  located _ _ (cause.last_backslash place backslash p m h) = at_place (backslash ∷ []) p (told_row (last_is mode us start added place backslash m h))
   located _ _ (cause.out_of_order place count min max rest p h out) = at_place rest p (quantifier_row (braces_are place count min max rest h) (out_of_order count min max h out))
   located _ _ (cause.too_large place count min max rest p h order large) = at_place rest p (quantifier_row (braces_are place count min max rest h) (too_large count min max h order large))
-  located _ _ (cause.too_many_digits place from count rest p limit in_legacy) = at_place rest p (quantifier_row (let b = limit_first mode u us (values rest) from count limit in brace_is mode u us start added place rest b.0 b.1) (too_many_digits from count limit))
-  located _ d (cause.of_escape place rest p c) = at_place rest p (told_row (escape_is mode u us start added place rest d c))
+  located _ _ (cause.too_many_digits place from count rest p limit in_legacy) = at_place rest p (quantifier_row (let b = limit_first mode us (values rest) from count limit in brace_is mode us start added place rest b.0 b.1) (too_many_digits from count limit in_legacy))
+  located _ d (cause.of_escape place rest p c) = at_place rest p (told_row (escape_is mode us start added place rest d c))
   located _ d (cause.of_property place rest p c) =
-      let b = property_first mode us start added place rest d c in at_place rest p (property_row (property_is mode u us start added place rest b.0 b.1 b.2 b.3) c)
+      let b = property_first mode us start added place rest d c in at_place rest p (property_row (property_is mode us start added place rest b.0 b.1 b.2 b.3) c)
   located _ d (cause.of_class from place at_class p c) = in_class from at_class p c
   located _ _ (cause.unterminated_group from place behind group rest g s other) =
       at_place rest (record { open_groups = group ∷ g.open_groups; ready = g.ready_inside; reached = inside_reached mode us from group place rest g }) (stop_row (inside from behind group g s))
   located _ d (cause.unterminated_name place count rest behind p m n none ends) =
-      at_place rest p (told_row (name_is mode u us start added place count rest behind (Some d) n ends (unterminated_is mode u us start added place count behind none)))
-  located _ _ (cause.unterminated_name_in_legacy place count rest behind p m n none no_pair ends) = no_legacy m
-  located _ _ (cause.misplaced_pair place count rest behind p m n pair) = no_legacy m
+      at_place rest p (told_row (name_is mode us start added place count rest behind (Some d) n ends (unterminated_is mode us start added place count behind none (rw m refl))))
+  located _ d (cause.unterminated_name_in_legacy place count rest behind p m n none no_pair ends) =
+      at_place rest p (told_row (name_is mode us start added place count rest behind (Some d) n ends (unterminated_is mode us start added place count behind none (rw (m, no_pair_begins behind no_pair) refl))))
+  located _ d (cause.misplaced_pair place count rest behind p m n pair) =
+      at_place rest p (told_row (name_is mode us start added place count rest behind (Some d) n (pair_no_closer mode us behind count pair) (pair_is mode us start added place count behind m pair)))
   located _ d (cause.too_many_digits_in_name place count many rest behind p n limit) =
-      at_place rest p (told_row (name_is mode u us start added place count rest (92 ∷ behind) (Some d) n (no_angle behind count) (overflow_is mode u us start added place count many behind limit)))
+      at_place rest p (told_row (name_is mode us start added place count rest (92 ∷ behind) (Some d) n (no_angle behind count) (overflow_is mode us start added place count many behind limit)))
   located _ d (cause.misplaced_in_name place count value n rest behind p ends decodes) =
-      at_place rest p (told_row (name_is mode u us start added place count rest (92 ∷ behind) (Some d) ends (no_angle behind count) (misplaced_is mode u us start added place count value n behind decodes)))
+      at_place rest p (told_row (name_is mode us start added place count rest (92 ∷ behind) (Some d) ends (no_angle behind count) (misplaced_is mode us start added place count value n behind decodes)))
   located _ d (cause.invalid_in_name place count rest behind p n no_value no_limit begun) =
-      at_place rest p (told_row (name_is mode u us start added place count rest (92 ∷ behind) (Some d) n (no_angle behind count) (invalid_is mode u us start added place count behind false _ refl no_value no_limit (ap (λ m. m && starts 117 behind) (sym u) ∙ begun))))
+      at_place rest p (told_row (name_is mode us start added place count rest (92 ∷ behind) (Some d) n (no_angle behind count) (invalid_is mode us start added place count behind false _ refl no_value no_limit begun)))
   located _ d (cause.invalid_u_in_name place count rest behind p n no_value no_limit begun) =
-      at_place rest p (told_row (name_is mode u us start added place count rest (92 ∷ behind) (Some d) n (no_angle behind count) (invalid_is mode u us start added place count behind true _ refl no_value no_limit (ap (λ m. m && starts 117 behind) (sym u) ∙ begun))))
-  located _ _ (cause.no_such_group place n w more p s large) = at_place (w ++ more) p (told_row (index_is mode u us start added place n w more s))
-  located _ _ (cause.no_group_name place rest behind p there h other) = at_place rest p (told_row (reference_is mode u us start added place rest behind h other))
-  located _ _ (cause.no_such_name place name w more p s unknown) = at_place (w ++ more) p (told_row (named_is mode u us start added place name w more s))
-  located _ _ (cause.unknown_modifiers place rest text behind p h l) = at_place rest p (told_row (unknown_is mode u us start added place rest text behind h l))
-  located _ _ (cause.duplicated_modifiers place rest enabled disabled text behind p h s twice) = at_place rest p (told_row (duplicated_is mode u us start added place rest enabled disabled text behind h s twice))
-  located _ _ (cause.empty_modifiers place rest behind p h) = at_place rest p (told_row (empty_is mode u us start added place rest behind h))
+      at_place rest p (told_row (name_is mode us start added place count rest (92 ∷ behind) (Some d) n (no_angle behind count) (invalid_is mode us start added place count behind true _ refl no_value no_limit begun)))
+  located _ _ (cause.no_such_group place n w more p s large) = at_place (w ++ more) p (told_row (index_is mode us start added place n w more s))
+  located _ _ (cause.no_group_name place rest behind p there h other) = at_place rest p (told_row (reference_is mode us start added place rest behind h other))
+  located _ _ (cause.no_such_name place name w more p s unknown) = at_place (w ++ more) p (told_row (named_is mode us start added place name w more s))
+  located _ _ (cause.unknown_modifiers place rest text behind p h l) = at_place rest p (told_row (unknown_is mode us start added place rest text behind h l))
+  located _ _ (cause.duplicated_modifiers place rest enabled disabled text behind p h s twice) = at_place rest p (told_row (duplicated_is mode us start added place rest enabled disabled text behind h s twice))
+  located _ _ (cause.empty_modifiers place rest behind p h) = at_place rest p (told_row (empty_is mode us start added place rest behind h))
   located _ _ (cause.invalid_modifiers place rest enabled disabled text behind p h s once share) =
-      at_place rest p (told_row (shared_is mode u us start added place rest enabled disabled text behind h s once share))
+      at_place rest p (told_row (shared_is mode us start added place rest enabled disabled text behind h s once share))
 
   -- No quantifier stands where terms end at a brace.
-  no_quantifier_row : (f : ℕ) (rest : List CodePoint) (d : Diagnostic) → NoBraces mode u us start added rest → QuantifierRow mode us start added f rest d → ⊥
+  no_quantifier_row : (f : ℕ) (rest : List CodePoint) (d : Diagnostic) → NoBraces mode us start added rest → QuantifierRow mode us start added f rest d → ⊥
   no_quantifier_row f rest _ n (lone min max greedy w more h s o) =
       let no : None ≡ next (quantifier min max greedy) (length w) = sym n.no_token ∙ ap (front here) h ∙ spelled_front here (quantifier min max greedy) w more s in
       cc no
@@ -109,22 +116,22 @@ module _ (mode : Mode) (u : is_unicode mode ≡ true) (us : List CodePoint) (sta
     spelled = h.spelled;
     whole = h.whole;
   })
-  no_quantifier_row f rest _ n (too_many_digits from count limit) = n.in_limit from count limit
+  no_quantifier_row f rest _ n (too_many_digits from count limit in_legacy) = n.in_limit from count limit
 
-  no_stop_told : (f : ℕ) (rest : List CodePoint) (d : Diagnostic) (r : Option Diagnostic) → StopRow mode u us start added f rest d → answer mode u us start added f rest ≡ told r → ⊥
-  no_stop_told f rest d r s h = let i = stops_at mode u us start added s in elim (stop_is mode u us start added f i.0 rest i.1) [
+  no_stop_told : (f : ℕ) (rest : List CodePoint) (d : Diagnostic) (r : Option Diagnostic) → StopRow mode us start added f rest d → answer mode us start added f rest ≡ told r → ⊥
+  no_stop_told f rest d r s h = let i = stops_at mode us start added s in elim (stop_is mode us start added f i.0 rest i.1) [
     | inl p ↦ (let no : stopping ≡ told r = sym p ∙ h in cc no)
     | inr p ↦ (let no : by_quantifier ≡ told r = sym p.0 ∙ h in cc no)
   ]
 
-  no_stop_property : (f : ℕ) (rest : List CodePoint) (d : Diagnostic) → StopRow mode u us start added f rest d → answer mode u us start added f rest ≡ by_property → ⊥
-  no_stop_property f rest d s h = let i = stops_at mode u us start added s in elim (stop_is mode u us start added f i.0 rest i.1) [
+  no_stop_property : (f : ℕ) (rest : List CodePoint) (d : Diagnostic) → StopRow mode us start added f rest d → answer mode us start added f rest ≡ by_property → ⊥
+  no_stop_property f rest d s h = let i = stops_at mode us start added s in elim (stop_is mode us start added f i.0 rest i.1) [
     | inl p ↦ (let no : stopping ≡ by_property = sym p ∙ h in cc no)
     | inr p ↦ (let no : by_quantifier ≡ by_property = sym p.0 ∙ h in cc no)
   ]
 
-  no_stop_quantifier : (f : ℕ) (rest : List CodePoint) (d e : Diagnostic) → StopRow mode u us start added f rest d → answer mode u us start added f rest ≡ by_quantifier → QuantifierRow mode us start added f rest e → ⊥
-  no_stop_quantifier f rest d e s h q = let i = stops_at mode u us start added s in elim (stop_is mode u us start added f i.0 rest i.1) [
+  no_stop_quantifier : (f : ℕ) (rest : List CodePoint) (d e : Diagnostic) → StopRow mode us start added f rest d → answer mode us start added f rest ≡ by_quantifier → QuantifierRow mode us start added f rest e → ⊥
+  no_stop_quantifier f rest d e s h q = let i = stops_at mode us start added s in elim (stop_is mode us start added f i.0 rest i.1) [
     | inl p ↦ (let no : stopping ≡ by_quantifier = sym p ∙ h in cc no)
     | inr p ↦ no_quantifier_row f rest e p.1 q
   ]
@@ -140,19 +147,19 @@ module _ (mode : Mode) (u : is_unicode mode ≡ true) (us : List CodePoint) (sta
   one_row f rest d e (property_row h c) (stop_row s) = absurd (no_stop_property f rest e s h)
   one_row f rest d e (quantifier_row h q) (told_row k) = absurd (let no : by_quantifier ≡ told (Some e) = sym h ∙ k in let f : ⊥ = cc no in f)
   one_row f rest d e (quantifier_row h q) (property_row k c) = absurd (let no : by_quantifier ≡ by_property = sym h ∙ k in let f : ⊥ = cc no in f)
-  one_row f rest d e (quantifier_row h q) (quantifier_row k r) = one_quantifier mode us start added u f rest d e q r
+  one_row f rest d e (quantifier_row h q) (quantifier_row k r) = one_quantifier mode us start added f rest d e q r
   one_row f rest d e (quantifier_row h q) (stop_row s) = absurd (no_stop_quantifier f rest e d s h q)
   one_row f rest d e (stop_row s) (told_row k) = absurd (no_stop_told f rest d (Some e) s k)
   one_row f rest d e (stop_row s) (property_row k c) = absurd (no_stop_property f rest d s k)
   one_row f rest d e (stop_row s) (quantifier_row k q) = absurd (no_stop_quantifier f rest d e s k q)
-  one_row f rest d e (stop_row s) (stop_row t) = one_stop mode u us start added f rest d e s t
+  one_row f rest d e (stop_row s) (stop_row t) = one_stop mode us start added f rest d e s t
 
   -- No refusal outside classes holds at a `[`.
   no_row_at_bracket : (f : ℕ) (rest : List CodePoint) (w : List ℕ) (d : Diagnostic) → values rest ≡ 91 ∷ w → Row f rest d → ⊥
-  no_row_at_bracket f rest w d h (told_row k) = let no : stopping ≡ told (Some d) = sym (bracket_is mode u us start added f rest w h) ∙ k in cc no
-  no_row_at_bracket f rest w d h (property_row k c) = let no : stopping ≡ by_property = sym (bracket_is mode u us start added f rest w h) ∙ k in cc no
-  no_row_at_bracket f rest w d h (quantifier_row k q) = let no : stopping ≡ by_quantifier = sym (bracket_is mode u us start added f rest w h) ∙ k in cc no
-  no_row_at_bracket f rest w d h (stop_row s) = let i = stops_at mode u us start added s in no_stop mode u us start added i.0 rest w h i.1
+  no_row_at_bracket f rest w d h (told_row k) = let no : stopping ≡ told (Some d) = sym (bracket_is mode us start added f rest w h) ∙ k in cc no
+  no_row_at_bracket f rest w d h (property_row k c) = let no : stopping ≡ by_property = sym (bracket_is mode us start added f rest w h) ∙ k in cc no
+  no_row_at_bracket f rest w d h (quantifier_row k q) = let no : stopping ≡ by_quantifier = sym (bracket_is mode us start added f rest w h) ∙ k in cc no
+  no_row_at_bracket f rest w d h (stop_row s) = let i = stops_at mode us start added s in no_stop mode us start added i.0 rest w h i.1
 
   -- Of two places, neither beyond the other, each is the other.
   same_if : (f g : ℕ) (rest back : List CodePoint) → NoneBeyond mode us f → NoneBeyond mode us g → IsPlace mode us f rest → IsPlace mode us g back → f ≡ g
@@ -171,7 +178,7 @@ module _ (mode : Mode) (u : is_unicode mode ≡ true) (us : List CodePoint) (sta
   row_against_class : (f from g : ℕ) (rest at_class : List CodePoint) (d e : Diagnostic) → NoneBeyond mode us f → IsPlace mode us f rest → Row f rest d → IsPlace mode us from at_class →
       IsClassCause mode us start added from at_class g e → ⊥
   row_against_class f from g rest at_class d e n p x q c =
-      let m = dead_beyond mode us from at_class q (laws.dead c) in
+      let m = blocked_beyond mode us from at_class q (laws.blocked c) in
       let same = same_if f from rest at_class n m p q in
       let b = at_class_bracket from g at_class e c in
       no_row_at_bracket f rest b.0 d (ap values (rests f from rest at_class same p q) ∙ b.1) x
@@ -181,12 +188,12 @@ module _ (mode : Mode) (u : is_unicode mode ≡ true) (us : List CodePoint) (sta
     where
       by : Located f d → Located g e → (f ≡ g) × (d ≡ e)
       by (at_place rest p x) (at_place back q y) =
-          let same = same_if f g rest back (none_beyond mode u us start added laws f d c) (none_beyond mode u us start added laws g e k) p q in
+          let same = same_if f g rest back (none_beyond mode us start added laws f d c) (none_beyond mode us start added laws g e k) p q in
           (same, one_row g back d e (subst (λ f. Row f back d) same (subst (λ rest. Row f rest d) (rests f g rest back same p q) x)) y)
-      by (at_place rest p x) (in_class from at_class q y) = absurd (row_against_class f from g rest at_class d e (none_beyond mode u us start added laws f d c) p x q y)
-      by (in_class from at_class p x) (at_place back q y) = absurd (row_against_class g from f back at_class e d (none_beyond mode u us start added laws g e k) q y p x)
+      by (at_place rest p x) (in_class from at_class q y) = absurd (row_against_class f from g rest at_class d e (none_beyond mode us start added laws f d c) p x q y)
+      by (in_class from at_class p x) (at_place back q y) = absurd (row_against_class g from f back at_class e d (none_beyond mode us start added laws g e k) q y p x)
       by (in_class from at_class p x) (in_class other also q y) =
-          let same = same_if from other at_class also (dead_beyond mode us from at_class p (laws.dead x)) (dead_beyond mode us other also q (laws.dead y)) p q in
+          let same = same_if from other at_class also (blocked_beyond mode us from at_class p (laws.blocked x)) (blocked_beyond mode us other also q (laws.blocked y)) p q in
           laws.one
           (subst (λ from. IsClassCause mode us start added from also f d) same (subst (λ at_class. IsClassCause mode us start added from at_class f d) (rests from other at_class also same p q) x)) y
 

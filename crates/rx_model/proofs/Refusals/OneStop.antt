@@ -5,7 +5,7 @@ use Rattle.rx_base.specs.declared.diagnostic.Diagnostic.TheVariants.{ParsePatter
 use Rattle.rx_units.specs.declared.code_point.CodePoint.{CodePoint}
 use Rattle.rx_model.specs.declared.mode.Mode.{Mode}
 use Rattle.rx_model.specs.Refusals.Causes.{unterminated}
-use Rattle.rx_model.specs.Inputs.Environment.{Environment, is_unicode}
+use Rattle.rx_model.specs.Inputs.Environment.{Environment}
 use Rattle.rx_model.specs.Refusals.Reached.{IsInside, IsReached, span_between, text_environment}
 use Rattle.rx_model.specs.Reading.Rows.{TokenRow}
 use Rattle.rx_model.specs.Trees.Shapes.{run, group_takes}
@@ -79,7 +79,7 @@ module _ (mode : Mode) where
       let i = one_opener ts us ss vs o p after ended (cc e) h k in
       record { before = ap (λ t. t ∷ ts) first ∙ ap (λ ts. s ∷ ts) i.before; openers = i.openers }
 
-module _ (mode : Mode) (u : is_unicode mode ≡ true) (us : List CodePoint) (start added : ℕ) where
+module _ (mode : Mode) (us : List CodePoint) (start added : ℕ) where
   abbrev here : Environment
   here = text_environment mode us
 
@@ -104,7 +104,7 @@ module _ (mode : Mode) (u : is_unicode mode ≡ true) (us : List CodePoint) (sta
   stops_at (inside from i group g s) = (i, s)
 
   same_units : (i j : ℕ) (rest : List CodePoint) → IsStop here rest i → IsStop here rest j → i ≡ j
-  same_units i j rest s t = stop_units mode u us start added i rest s ∙ sym (stop_units mode u us start added j rest t)
+  same_units i j rest s t = stop_units mode us start added i rest s ∙ sym (stop_units mode us start added j rest t)
 
   pub one_stop : (f : ℕ) (rest : List CodePoint) (d e : Diagnostic) → StopRow f rest d → StopRow f rest e → d ≡ e
   one_stop f rest _ _ (outside i ready r s) (outside j also q t) = ap (λ i. ParsePatternIncomplete (span_between us start added (f + i) (f + i))) (same_units i j rest s t)

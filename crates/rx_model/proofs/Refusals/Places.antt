@@ -12,7 +12,7 @@ use Rattle.rx_model.specs.Reading.Rows.{TokenRow}
 use Rattle.rx_model.specs.Trees.Shapes.{run}
 use Rattle.rx_model.specs.Trees.Token.{Token, Opener}
 use Rattle.rx_model.proofs.Characters.Decodings.{Some-inj}
-use Rattle.rx_model.proofs.Refusals.DeadPlaces.{last_all, tree_obeys}
+use Rattle.rx_model.proofs.Refusals.BlockedPlaces.{last_all, tree_obeys}
 use Rattle.rx_model.proofs.Reading.Fronts.{spelled_some}
 use Rattle.rx_model.proofs.FirstPass.OwnGroups.{own_environment}
 use Rattle.rx_model.proofs.Reading.Prefixes.{prefixes}

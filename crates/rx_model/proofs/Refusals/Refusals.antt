@@ -1,45 +1,44 @@
 -- No tree reads a text that is refused, and no place is reached beyond the one at which a refusal holds.
-use Rattle.std.proofs.Common.{◌≡◌, ap, ◌∙◌, ◌∷◌, true, ℕ, List, arith}
+use Rattle.std.proofs.Common.{◌≡◌, ap, ◌∙◌, ◌∷◌, false, ℕ, List, arith}
 use Rattle.rx_base.specs.declared.diagnostic.Diagnostic.{Diagnostic}
 use Rattle.rx_ast.specs.declared.term.Pattern.{Pattern}
 use Rattle.rx_units.specs.declared.code_point.CodePoint.{CodePoint}
 use Rattle.rx_units.specs.Units.{values}
 use Rattle.rx_model.specs.declared.mode.Mode.{Mode}
-use Rattle.rx_model.specs.declared.mode.Mode.TheVariants.{Unicode}
 use Rattle.rx_model.specs.Refusals.Causes as cause
 use Rattle.rx_model.specs.Refusals.Causes.{IsCause, IsCauseAtPlace}
 use Rattle.rx_model.specs.Refusals.ClassCauses.{IsClassCause}
-use Rattle.rx_model.specs.Inputs.Environment.{is_unicode}
+use Rattle.rx_model.specs.Inputs.Environment.{is_sets}
 use Rattle.rx_model.specs.Refusals.Firsts.{NoneBeyond, NoneBeyondInClass}
 use Rattle.rx_model.specs.Refusals.Reached.{IsPlace, text_environment}
 use Rattle.rx_model.specs.Reading.Reading.{Reads}
 use Rattle.rx_model.proofs.FirstPass.Apart.{tells_apart}
-use Rattle.rx_model.proofs.Refusals.Beyond.{ClassLaws, cause_ends, dead_beyond, ends_beyond, ends_refuse}
-use Rattle.rx_model.proofs.Classes.ClassStops.{at_bracket_is, behind_bracket, class_dead, item_beyond, stopped}
+use Rattle.rx_model.proofs.Refusals.Beyond.{ClassLaws, cause_ends, blocked_beyond, ends_beyond, ends_refuse}
+use Rattle.rx_model.proofs.Classes.ClassStops.{at_bracket_is, behind_bracket, class_blocked, item_beyond, stopped}
 use Rattle.rx_model.proofs.Classes.OneInClass.{one_in_class}
 use Rattle.rx_model.proofs.FirstPass.OwnGroups.{tells_groups}
 
-pub refused : (mode : Mode) → is_unicode mode ≡ true → (us : List CodePoint) (start added : ℕ) → ClassLaws mode us start added → (d : Diagnostic) → IsCause mode us start added d → (p : Pattern) → Reads mode p us → ⊥
-refused mode u us start added laws _ (cause.duplicated_names a b c) p r = (tells_apart mode p us r.spelled).no_clash r.early.apart a b c.clash
-refused mode u us start added laws _ (cause.too_many_groups none many) p r = omega (arith, many, r.early.in_limit, (tells_groups mode p us r.spelled).groups_are)
-refused mode u us start added laws d (cause.at_place place none few c) p r = ends_refuse mode us place (cause_ends mode u us start added laws place d c) p r
+pub refused : (mode : Mode) (us : List CodePoint) (start added : ℕ) → ClassLaws mode us start added → (d : Diagnostic) → IsCause mode us start added d → (p : Pattern) → Reads mode p us → ⊥
+refused mode us start added laws _ (cause.duplicated_names a b c) p r = (tells_apart mode p us r.spelled).no_clash r.early.apart a b c.clash
+refused mode us start added laws _ (cause.too_many_groups none many) p r = omega (arith, many, r.early.in_limit, (tells_groups mode p us r.spelled).groups_are)
+refused mode us start added laws d (cause.at_place place none few c) p r = ends_refuse mode us place (cause_ends mode us start added laws place d c) p r
 
-pub none_beyond : (mode : Mode) → is_unicode mode ≡ true → (us : List CodePoint) (start added : ℕ) → ClassLaws mode us start added → (place : ℕ) (d : Diagnostic) → IsCauseAtPlace mode us start added place d → NoneBeyond mode us place
-none_beyond mode u us start added laws place d c = ends_beyond mode us place (cause_ends mode u us start added laws place d c)
+pub none_beyond : (mode : Mode) (us : List CodePoint) (start added : ℕ) → ClassLaws mode us start added → (place : ℕ) (d : Diagnostic) → IsCauseAtPlace mode us start added place d → NoneBeyond mode us place
+none_beyond mode us start added laws place d c = ends_beyond mode us place (cause_ends mode us start added laws place d c)
 
-pub none_beyond_in_class : (us : List CodePoint) (start added from : ℕ) (at_class : List CodePoint) (place : ℕ) (d : Diagnostic) → IsClassCause Unicode us start added from at_class place d →
-    NoneBeyondInClass (text_environment Unicode us) from at_class place × (IsPlace Unicode us from at_class → NoneBeyond Unicode us from)
-none_beyond_in_class us start added from at_class place d c =
-    let s = stopped us from at_class start added place d c in
-    (item_beyond us from at_class place s, λ p. dead_beyond Unicode us from at_class p (class_dead us from at_class place s))
+pub none_beyond_in_class : (mode : Mode) → is_sets mode ≡ false → (us : List CodePoint) (start added from : ℕ) (at_class : List CodePoint) (place : ℕ) (d : Diagnostic) → IsClassCause mode us start added from at_class place d →
+    NoneBeyondInClass (text_environment mode us) from at_class place × (IsPlace mode us from at_class → NoneBeyond mode us from)
+none_beyond_in_class mode no_sets us start added from at_class place d c =
+    let s = stopped mode no_sets us from at_class start added place d c in
+    (item_beyond mode no_sets us from at_class place s, λ p. blocked_beyond mode us from at_class p (class_blocked mode no_sets us from at_class place s))
 
--- the classes with `u`
-pub unicode_classes : (us : List CodePoint) (start added : ℕ) → ClassLaws Unicode us start added
-unicode_classes us start added = record {
-  behind_bracket = λ {from} {f} {at_class} {d} c. behind_bracket us from at_class f (stopped us from at_class start added f d c);
+-- the classes of every mode but that of `v`
+pub class_laws : (mode : Mode) → is_sets mode ≡ false → (us : List CodePoint) (start added : ℕ) → ClassLaws mode us start added
+class_laws mode no_sets us start added = record {
+  behind_bracket = λ {from} {f} {at_class} {d} c. behind_bracket mode no_sets us from at_class f (stopped mode no_sets us from at_class start added f d c);
   at_bracket = λ {from} {f} {at_class} {d} c.
-      let b = at_bracket_is us from at_class f (stopped us from at_class start added f d c) in
+      let b = at_bracket_is mode no_sets us from at_class f (stopped mode no_sets us from at_class start added f d c) in
       (values b.1, ap values b.2 ∙ ap (λ x. x ∷ values b.1) b.3);
-  dead = λ {from} {f} {at_class} {d} c. class_dead us from at_class f (stopped us from at_class start added f d c);
-  one = λ {from} {f} {g} {at_class} {d} {e} c k. one_in_class us start added from at_class f g d e c k;
+  blocked = λ {from} {f} {at_class} {d} c. class_blocked mode no_sets us from at_class f (stopped mode no_sets us from at_class start added f d c);
+  one = λ {from} {f} {g} {at_class} {d} {e} c k. one_in_class mode no_sets us start added from at_class f g d e c k;
 }

@@ -28,7 +28,7 @@ use Rattle.rx_model.proofs.Reading.Fronts.{front_by_values, front_by_unicode, sp
 use Rattle.rx_model.proofs.Quantifiers.Quantifiers.{counts_spelled}
 use Rattle.rx_model.proofs.Reading.Splits.{starts_there}
 
-some_there : (o : Option ℕ) → is_some o ≡ true → (v : ℕ) × (o ≡ Some v)
+pub some_there : (o : Option ℕ) → is_some o ≡ true → (v : ℕ) × (o ≡ Some v)
 some_there None h = absurd (let k : ⊥ = cc h in k)
 some_there (Some v) h = (v, refl)
 
@@ -37,7 +37,7 @@ parts_none (Some k) c r h = absurd (let f : ⊥ = cc h in f)
 parts_none None (Some k) r h = absurd (let f : ⊥ = cc h in f)
 parts_none None None r h = (refl, refl)
 
-two_number : (a b i j : ℕ) → hex_digit_value a ≡ Some i → hex_digit_value b ≡ Some j → hex_number (a ∷ b ∷ []) ≡ Some (16 * (16 * 0 + i) + j)
+pub two_number : (a b i j : ℕ) → hex_digit_value a ≡ Some i → hex_digit_value b ≡ Some j → hex_number (a ∷ b ∷ []) ≡ Some (16 * (16 * 0 + i) + j)
 two_number a b i j h k = rw (h, k) refl
 
 no_letter_begins : (e : Environment) (c : ℕ) → is_one_of (codes "upPk") c ≡ false → boundary_at e c ≡ None → class_escape_at c ≡ None → control_escape_value c ≡ None →

@@ -17,7 +17,7 @@ use Rattle.rx_model.specs.Characters.Escapes.{SpellsEscape, control, letter, nul
 use Rattle.rx_model.specs.Groups.GroupNames.{SpellsNameCharacter, one_unit, by_escape, raw_pair, SpellsNameParts, no_part, part, SpellsName, whole_name}
 use Rattle.rx_model.specs.Characters.LegacyEscapes as legacy
 use Rattle.rx_model.specs.Characters.LegacyEscapes.{SpellsLegacy, octal}
-use Rattle.rx_model.specs.Spelling.ReadBack.{AreCodeUnits}
+use Rattle.rx_model.specs.Spelling.ReadBack.{AreCodeUnits, FitIn}
 use Rattle.rx_model.specs.Reading.Rows.{Spells}
 use Rattle.rx_model.specs.Trees.Token.{character}
 use Rattle.rx_model.specs.Characters.UnicodeEscapes.{hex_number, SpellsUnicode, code_unit, alone, pair, braced}
@@ -26,9 +26,6 @@ use Rattle.rx_model.proofs.Characters.Decodings.{spelled_read, value_is_code_poi
 -- a value of a mode: with neither `u` nor `v` it has 16 bits
 abbrev pub FitsIn : Mode → ℕ → Type 0
 FitsIn mode v = mode ≡ Legacy → v ≤ 0xFFFF
-
-abbrev pub FitIn : Mode → List CodePoint → Type 0
-FitIn mode us = mode ≡ Legacy → AreCodeUnits us
 
 -- values of 16 bits
 abbrev pub Narrow : List ℕ → Type 0

@@ -24,14 +24,14 @@ use Rattle.rx_model.specs.Classes.ClassRows as spelled
 use Rattle.rx_model.specs.Spelling.ClassText.{class_escape_text, property_body, property_text, class_opener, in_class_text, member_text, members_text, more_members_text, class_text}
 use Rattle.rx_model.specs.Classes.ClassTokens.{Atom, character, escape, property, ClassToken, bracket, closer, item, low, dash, high, class_tokens, class_tokens_of, member_events}
 use Rattle.rx_model.specs.Trees.Early.{IsEarlyMember, AreEarlyMembers, IsEarlyClass}
-use Rattle.rx_model.specs.Inputs.Environment.{Environment, is_unicode}
+use Rattle.rx_model.specs.Inputs.Environment.{Environment, is_sets, is_unicode}
 use Rattle.rx_model.specs.Characters.Escapes.{front_is, SpellsEscape, control, hexadecimal, unicode, identity}
 use Rattle.rx_model.specs.Characters.LegacyEscapes as legacy
 use Rattle.rx_model.specs.Characters.LegacyEscapes.{IsIdentity}
 use Rattle.rx_model.specs.FirstPass.Marks.{starts}
 use Rattle.rx_model.specs.Properties.PropertyEscapes.{IsProperty, SpellsProperty}
 use Rattle.rx_model.specs.Characters.UnicodeEscapes.{SpellsUnicode, code_unit}
-use Rattle.rx_model.proofs.Spelling.Backs.{IsPlain, too_great, syntax_identity, four_any, four_text, values_literal, units-append, braced_from, hex_read, two_read, two_small, control_read}
+use Rattle.rx_model.proofs.Spelling.Backs.{too_great, syntax_identity, four_any, four_text, values_literal, units-append, braced_from, hex_read, two_read, two_small, control_read}
 use Rattle.rx_model.proofs.Spelling.Bounds.{FitsIn}
 use Rattle.rx_model.proofs.Characters.Choices.{choose_both}
 use Rattle.rx_model.proofs.Spelling.ClassAgain.{kind_of_hyphen, class_kind, again_member, again_members, again_class, unspanned_class, again_may}
@@ -49,16 +49,16 @@ BeginsOutside set text = (more : List ℕ) → front_is set (text ++ more) ≡ f
 raw_in_any : (c : ℕ) → (is_syntax_character c || c == 47 || c == 45) ≡ false → not (c == 92 || c == 93 || c == 45) ≡ true
 raw_in_any c h = grind (arith, nat_tests)
 
-raw_in_class : (mode : Mode) (c : ℕ) → IsPlain mode → (is_syntax_character c || c == 47 || c == 45) ≡ false → stands_raw_in_class mode c ≡ true
+raw_in_class : (mode : Mode) (c : ℕ) → is_sets mode ≡ false → (is_syntax_character c || c == 47 || c == 45) ≡ false → stands_raw_in_class mode c ≡ true
 raw_in_class Legacy c p h = raw_in_any c h
 raw_in_class Unicode c p h = raw_in_any c h
-raw_in_class Sets c p h = absurd p
+raw_in_class Sets c p h = absurd (let no : ⊥ = cc p in no)
 
 -- without sets a `-` is escaped in classes besides what is escaped everywhere
-reserved_is : (mode : Mode) (c : ℕ) (b : Bool) → IsPlain mode → (is_syntax_character c || c == 47 || is_reserved_in_class mode c) ≡ b → (is_syntax_character c || c == 47 || c == 45) ≡ b
+reserved_is : (mode : Mode) (c : ℕ) (b : Bool) → is_sets mode ≡ false → (is_syntax_character c || c == 47 || is_reserved_in_class mode c) ≡ b → (is_syntax_character c || c == 47 || c == 45) ≡ b
 reserved_is Legacy c b p h = h
 reserved_is Unicode c b p h = h
-reserved_is Sets c b p h = absurd p
+reserved_is Sets c b p h = absurd (let no : ⊥ = cc p in no)
 
 -- what is escaped in a class is a `-` or escaped everywhere
 not_hyphen : (c : ℕ) → (is_syntax_character c || c == 47 || c == 45) ≡ true → (c == 45) ≡ false → (is_syntax_character c || c == 47) ≡ true
@@ -87,7 +87,7 @@ class_outside mode set h (class s true may kind ms) more = h
 class_outside mode set h (class s false may kind ms) more = h
 
 -- a set that holds no backslash, and nothing that is not escaped in classes
-module _ (mode : Mode) (plain : IsPlain mode) (set : ℕ → Bool) (backslash : set 92 ≡ false) (raw : (c : ℕ) → (is_syntax_character c || c == 47 || c == 45) ≡ false → set c ≡ false) where
+module _ (mode : Mode) (no_sets : is_sets mode ≡ false) (set : ℕ → Bool) (backslash : set 92 ≡ false) (raw : (c : ℕ) → (is_syntax_character c || c == 47 || c == 45) ≡ false → set c ≡ false) where
   surrogate_outside : (md : Mode) (c : ℕ) → BeginsOutside set (surrogate_text md c)
   unfolding four_digits braced
   surrogate_outside Legacy c more = backslash
@@ -101,7 +101,7 @@ module _ (mode : Mode) (plain : IsPlain mode) (set : ℕ → Bool) (backslash : 
       cond_both (is_within 9 13 c) _ _ P (λ _. backslash) (λ _. cond_both (nat_lt c 32 || is_within 127 159 c) _ _ P (λ _. backslash)
       (λ _. cond_both (c == 0x2028 || c == 0x2029) _ _ P (λ _. backslash) (λ _. cond_both (is_within 0xD800 0xDFFF c) _ _ P (λ _. surrogate_outside mode c more)
       (λ _. cond_both (nat_lt (greatest_raw mode) c) _ _ P (λ _. backslash) (λ _. cond_both (is_syntax_character c || c == 47 || is_reserved_in_class mode c) _ _ P (λ _. backslash)
-      (λ r. raw c (reserved_is mode c false plain r)))))))
+      (λ r. raw c (reserved_is mode c false no_sets r)))))))
 
   module _ (e : Environment) where
     member_outside : (m : Member) → IsKnownMember e.mode m → BeginsOutside set (member_text mode m)
@@ -179,7 +179,7 @@ no_raw_closer c h = grind (arith, nat_tests)
 no_raw_caret : (c : ℕ) → (is_syntax_character c || c == 47 || c == 45) ≡ false → (c == 94) ≡ false
 no_raw_caret c h = grind (arith, nat_tests)
 
-module _ (e : Environment) (mode : Mode) (m : e.mode ≡ mode) (plain : IsPlain mode) where
+module _ (e : Environment) (mode : Mode) (m : e.mode ≡ mode) (no_sets : is_sets mode ≡ false) where
   -- The text spells a character of this kind in a class, before anything.
   abbrev SpellsHere : ℕ → CharacterKind → List ℕ → Type 0
   SpellsHere c kind text = (at : ℕ) (rest : List CodePoint) → SpellsClassCharacter e kind c (literal_units true at text) rest
@@ -194,7 +194,7 @@ module _ (e : Environment) (mode : Mode) (m : e.mode ≡ mode) (plain : IsPlain 
 
   -- each way to write a character
   raw_spelled : (c : ℕ) → (is_syntax_character c || c == 47 || c == 45) ≡ false → SpellsHere c kinds.Symbol (c ∷ [])
-  raw_spelled c h at rest = spelled.raw (unit at (at + len_utf8 c) c escape.None) (ap (λ mode. stands_raw_in_class mode c) m ∙ raw_in_class mode c plain h)
+  raw_spelled c h at rest = spelled.raw (unit at (at + len_utf8 c) c escape.None) (ap (λ mode. stands_raw_in_class mode c) m ∙ raw_in_class mode c no_sets h)
 
   two_spelled : (c : ℕ) → c < 256 → SpellsHere c kinds.HexadecimalEscape (two_digits c)
   unfolding two_digits
@@ -215,20 +215,20 @@ module _ (e : Environment) (mode : Mode) (m : e.mode ≡ mode) (plain : IsPlain 
       unicode_escape c (117 ∷ 123 ∷ (hex 8 c ++ (125 ∷ [])))
       (λ rest. subst (λ mode. SpellsUnicode (is_unicode mode) c (117 ∷ 123 ∷ (hex 8 c ++ (125 ∷ []))) rest) (sym l)
       (braced_from c (hex 8 c) rest (some_behind (cond (nat_lt c 16) [] (hex 7 (c / 16))) (hex_digit (c % 16)) []) (hex_read 8 c (omega (arith, in_limit))) in_limit))
-  surrogate_spelled Sets l c in_limit h = absurd (subst IsPlain l plain)
+  surrogate_spelled Sets l c in_limit h = absurd (let no : true ≡ false = sym (ap is_sets l) ∙ no_sets in let f : ⊥ = cc no in f)
 
   -- an escape with a backslash alone
   hyphen_identity : (rest : List ℕ) → IsIdentity true e 45 rest
   hyphen_identity rest = record { no_letter = refl; no_octal = refl; no_k = and_no e.named; no_boundary = refl; no_reference = refl; no_x = refl; no_u = refl }
 
-  hyphen_spelled : (md : Mode) → e.mode ≡ md → IsPlain md → (c : ℕ) → c ≡ 45 → SpellsHere c (kind_of_hyphen md) (92 ∷ c ∷ [])
+  hyphen_spelled : (md : Mode) → e.mode ≡ md → is_sets md ≡ false → (c : ℕ) → c ≡ 45 → SpellsHere c (kind_of_hyphen md) (92 ∷ c ∷ [])
   hyphen_spelled Unicode l p c h at rest =
       subst (λ c. SpellsClassCharacter e kinds.SingleEscape c (literal_units true at (92 ∷ c ∷ [])) rest) (sym h)
       (spelled.escaped_in_class (unit at (at + len_utf8 92) 92 escape.None) (literal_units true (at + len_utf8 92) (45 ∷ [])) refl (spelled.hyphen l))
   hyphen_spelled Legacy l p c h at rest =
       subst (λ c. SpellsClassCharacter e kinds.Identifier c (literal_units true at (92 ∷ c ∷ [])) rest) (sym h)
       (spelled.escaped_in_legacy (unit at (at + len_utf8 92) 92 escape.None) (literal_units true (at + len_utf8 92) (45 ∷ [])) refl (ap is_unicode l) (legacy.identity (hyphen_identity (values rest))))
-  hyphen_spelled Sets l p c h at rest = absurd p
+  hyphen_spelled Sets l p c h at rest = absurd (let no : ⊥ = cc p in no)
 
   identity_spelled : (md : Mode) → e.mode ≡ md → (c : ℕ) → (is_syntax_character c || c == 47) ≡ true → SpellsHere c kinds.Identifier (92 ∷ c ∷ [])
   identity_spelled Legacy l c h at rest =
@@ -240,7 +240,7 @@ module _ (e : Environment) (mode : Mode) (m : e.mode ≡ mode) (plain : IsPlain 
   escaped_spelled : (c : ℕ) → (is_syntax_character c || c == 47 || c == 45) ≡ true → SpellsHere c (cond (c == 45) (kind_of_hyphen mode) kinds.Identifier) (92 ∷ c ∷ [])
   escaped_spelled c h =
       cond_both (c == 45) (kind_of_hyphen mode) kinds.Identifier (λ kind. SpellsHere c kind (92 ∷ c ∷ []))
-      (λ hyphen. hyphen_spelled mode m plain c (is_hyphen c hyphen))
+      (λ hyphen. hyphen_spelled mode m no_sets c (is_hyphen c hyphen))
       (λ other. identity_spelled e.mode refl c (not_hyphen c h other))
 
   -- a character's canonical text
@@ -252,9 +252,9 @@ module _ (e : Environment) (mode : Mode) (m : e.mode ≡ mode) (plain : IsPlain 
       (λ _. choose_both P (nat_lt c 32 || is_within 127 159 c) _ _ _ _ (λ small. two_spelled c (two_small c small))
       (λ _. choose_both P (c == 0x2028 || c == 0x2029) _ _ _ _ (λ separator. four_spelled c separator)
       (λ _. choose_both P (is_within 0xD800 0xDFFF c) _ _ _ _ (λ surrogate. surrogate_spelled mode refl c in_limit surrogate)
-      (λ _. choose_both P (nat_lt (greatest_raw mode) c) _ _ _ _ (λ great. absurd (too_great mode c plain in_limit fits great))
-      (λ _. choose_both P (is_syntax_character c || c == 47 || is_reserved_in_class mode c) _ _ _ _ (λ syntax. escaped_spelled c (reserved_is mode c true plain syntax))
-      (λ raw. raw_spelled c (reserved_is mode c false plain raw)))))))
+      (λ _. choose_both P (nat_lt (greatest_raw mode) c) _ _ _ _ (λ great. absurd (too_great mode c no_sets in_limit fits great))
+      (λ _. choose_both P (is_syntax_character c || c == 47 || is_reserved_in_class mode c) _ _ _ _ (λ syntax. escaped_spelled c (reserved_is mode c true no_sets syntax))
+      (λ raw. raw_spelled c (reserved_is mode c false no_sets raw)))))))
 
   -- The units of the text, before anything, are a row of these tokens.
   abbrev AgainHere : List ClassToken → List ℕ → Type 0
@@ -324,7 +324,7 @@ module _ (e : Environment) (mode : Mode) (m : e.mode ≡ mode) (plain : IsPlain 
       subst (AgainHere (low (class_kind mode r.min.value) r.min.value ∷ dash ∷ high (class_kind mode r.max.value) r.max.value ∷ ts)) (sym (append_assoc first (45 ∷ last) text))
       (range_again (class_kind mode r.min.value) (class_kind mode r.max.value) r.min.value r.max.value first last ts text
       (in_class_spelled r.min.value h.0 (fits_here r.min.value k.0)) (in_class_spelled r.max.value h.1 (fits_here r.max.value k.1)) (some_in_class mode r.max.value)
-      (in_class_outside mode plain (λ c. c == 93) refl no_raw_closer r.max.value) again)
+      (in_class_outside mode no_sets (λ c. c == 93) refl no_raw_closer r.max.value) again)
   member_again (tree.escape c) ts text k h dashless again =
       item_again (escape c.kind) (class_escape_text c.kind) ts text (λ at rest. values_literal at (class_escape_text c.kind)) dashless again
   member_again (tree.property p) ts text k h dashless again =
@@ -343,7 +343,7 @@ module _ (e : Environment) (mode : Mode) (m : e.mode ≡ mode) (plain : IsPlain 
       let own = class_tokens_of (member_events (again_member mode mb)) in
       subst (λ ts. AgainHere ts (member_text mode mb ++ more_members_text mode [] ms ++ (93 ∷ []))) (sym (append_assoc own (union_tokens (again_members mode ms)) (closer ∷ [])))
       (subst (AgainHere (own ++ ts)) (sym (append_assoc (member_text mode mb) (more_members_text mode [] ms) (93 ∷ [])))
-      (member_again mb ts text k.0 h.0 (members_outside mode plain (λ c. c == 45) refl no_raw_hyphen e refl ms k.1) (members_again ms k.1 h.1)))
+      (member_again mb ts text k.0 h.0 (members_outside mode no_sets (λ c. c == 45) refl no_raw_hyphen e refl ms k.1) (members_again ms k.1 h.1)))
 
   -- the bracket
   bracket_again : (negative : Bool) (ts : List ClassToken) (text : List ℕ) → BeginsOutside (λ c. c == 94) text → AgainHere ts text →
@@ -362,7 +362,7 @@ module _ (e : Environment) (mode : Mode) (m : e.mode ≡ mode) (plain : IsPlain 
   class_row s negative may ms k h at rest =
       let ts = union_tokens (again_members mode ms) ++ (closer ∷ []) in
       let text = more_members_text mode [] ms ++ (93 ∷ []) in
-      let row = bracket_again negative ts text (members_outside mode plain (λ c. c == 94) refl no_raw_caret e refl ms k) (members_again ms k h) at rest in
+      let row = bracket_again negative ts text (members_outside mode no_sets (λ c. c == 94) refl no_raw_caret e refl ms k) (members_again ms k h) at rest in
       subst (λ text. ClassTokenRow e (class_tokens (class s negative may Union (again_members mode ms))) outside (literal_units true at (class_opener negative ++ (text ++ (93 ∷ []))) ++ rest) fresh rest)
       (sym (union_text mode ms))
       (subst (λ ts. ClassTokenRow e ts outside (literal_units true at (class_opener negative ++ text) ++ rest) fresh rest) (sym (class_tokens_are s negative may (again_members mode ms))) row)

@@ -14,7 +14,8 @@ use Rattle.rx_model.specs.Spelling.ClassText.{property_body}
 use Rattle.rx_model.specs.Classes.ClassTokens.{Atom, character, escape, property, ClassToken, bracket, closer, item, low, dash, high, strings, class_tokens_of, member_events}
 use Rattle.rx_model.specs.Inputs.Environment.{Environment, is_unicode}
 use Rattle.rx_model.specs.Properties.PropertyEscapes.{SpellsProperty}
-use Rattle.rx_model.proofs.Spelling.Bounds.{FitsIn, FitIn, fit_front, fit_back, class_character_low}
+use Rattle.rx_model.specs.Spelling.ReadBack.{FitIn}
+use Rattle.rx_model.proofs.Spelling.Bounds.{FitsIn, fit_front, fit_back, class_character_low}
 use Rattle.rx_model.proofs.Classes.ClassTokens.{union_tokens, class_tokens_are}
 use Rattle.rx_model.proofs.Properties.PropertyTexts.{property_again}
 

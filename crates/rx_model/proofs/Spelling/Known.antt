@@ -10,10 +10,10 @@ use Rattle.rx_model.specs.Inputs.Environment.{Environment, is_unicode}
 use Rattle.rx_model.specs.Groups.GroupNames.{SpellsName}
 use Rattle.rx_model.specs.Groups.Groups.{SpellsOpener}
 use Rattle.rx_model.specs.Properties.PropertyEscapes.{SpellsProperty}
-use Rattle.rx_model.specs.Spelling.ReadBack.{AreCodeUnits}
+use Rattle.rx_model.specs.Spelling.ReadBack.{AreCodeUnits, FitIn}
 use Rattle.rx_model.specs.Reading.Rows.{Spells, TokenRow}
 use Rattle.rx_model.specs.Trees.Token.{Token, Opener, boundary, character, dot, class_escape, property, class, indexed, named, opener, closer, bar, quantifier, capturing, ignoring, looking}
-use Rattle.rx_model.proofs.Spelling.Bounds.{FitsIn, FitIn, Narrow, AreCodePoints, narrow_values, narrow_front, narrow_back, fit_front, fit_back, character_low, name_low}
+use Rattle.rx_model.proofs.Spelling.Bounds.{FitsIn, Narrow, AreCodePoints, narrow_values, narrow_front, narrow_back, fit_front, fit_back, character_low, name_low}
 use Rattle.rx_model.proofs.Spelling.ClassKnown.{IsKnownClass, class_known}
 use Rattle.rx_model.proofs.Groups.ModifierTexts.{AreThreeBits, modifiers_known}
 use Rattle.rx_model.proofs.Groups.NameTexts.{IsName, name_known}

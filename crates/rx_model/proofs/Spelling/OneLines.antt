@@ -35,12 +35,11 @@ use Rattle.rx_model.specs.Trees.Events.{tokens}
 use Rattle.rx_model.specs.Trees.Names.{groups, names}
 use Rattle.rx_model.specs.Spelling.OneLine.{ends_column, IsOneLine}
 use Rattle.rx_model.specs.Properties.PropertyEscapes.{SpellsProperty}
-use Rattle.rx_model.specs.Spelling.ReadBack.{AreCodeUnits}
+use Rattle.rx_model.specs.Spelling.ReadBack.{FitIn}
 use Rattle.rx_model.specs.Reading.Reading.{Reads}
 use Rattle.rx_model.specs.Groups.GroupNames.{is_in_name}
 use Rattle.rx_model.specs.Spelling.Spelling.{letters, dash, look_text, counts_text, lazy_text, quantifier_text, spelling}
 use Rattle.rx_model.specs.Trees.Token.{Token, Opener, boundary, character, dot, class_escape, property, class, indexed, named, opener, closer, bar, quantifier, capturing, ignoring, looking}
-use Rattle.rx_model.proofs.Spelling.Bounds.{FitIn}
 use Rattle.rx_model.proofs.Spelling.ClassBacks.{some_surrogate, union_text}
 use Rattle.rx_model.proofs.Spelling.ClassKnown.{IsKnownMember, AreKnownMembers, IsKnownClass}
 use Rattle.rx_model.proofs.Properties.PropertyWords.{is_property_unit, property_units}
@@ -366,17 +365,11 @@ all_stay : (text : List ℕ) → Stays text → All (λ c. ends_column c ≡ fal
 all_stay [] h = All-nil (λ c. ends_column c ≡ false)
 all_stay (c ∷ text) h = let k = both (stays c) (list_all stays text) h in All-cons (λ c. ends_column c ≡ false) c text (no_end (ends_column c) k.0) (all_stay text k.1)
 
-pub spelled_in_line : (mode : Mode) (p : Pattern) (us : List CodePoint) → FitIn mode us → Reads mode p us → us ≢ [] → IsOneLine (spelling (bare p) mode)
-spelled_in_line mode p us f r h =
+pub spelled_in_one_line : (mode : Mode) (p : Pattern) (us : List CodePoint) → Reads mode p us → FitIn mode us → us ≢ [] → IsOneLine (spelling (bare p) mode)
+spelled_in_one_line mode p us r f h =
     let e = environment mode p in
     let k = are_known e (tokens p) us [] f r.spelled.row in
     subst IsOneLine (sym (spelled_by_tokens mode p)) (record {
       some = some_tokens e false (tokens p) k (has_tokens e (tokens p) us r.spelled.row h);
       stays = all_stay (tokens_text mode false (tokens p)) (tokens_stay e (groups p) r.early.in_limit (names p) false (tokens p) k r.early.tokens_obey);
     })
-
-pub spelled_in_one_line : (p : Pattern) (us : List CodePoint) → Reads Unicode p us → us ≢ [] → IsOneLine (spelling (bare p) Unicode)
-spelled_in_one_line p us r h = spelled_in_line Unicode p us (λ m. cc m) r h
-
-pub legacy_in_one_line : (p : Pattern) (us : List CodePoint) → Reads Legacy p us → AreCodeUnits us → us ≢ [] → IsOneLine (spelling (bare p) Legacy)
-legacy_in_one_line p us r f h = spelled_in_line Legacy p us (λ _. f) r h

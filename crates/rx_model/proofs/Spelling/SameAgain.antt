@@ -1,6 +1,7 @@
--- Whatever a parser answers to a canonical spelling is the tree that was spelled, but for spans and character kinds, or want of memory.
-use Rattle.std.proofs.Common.{◌≡◌, ◌≢◌, refl, ap, sym, ◌∙◌, subst, ℕ, ◌+◌, Bool, true, false, cond, ◌||◌, List, [], ◌∷◌, ◌++◌, Result, Ok, Err}
+-- Whatever a parser answers to a canonical spelling is the tree that was spelled, but for spans and character kinds, or out of memory.
+use Rattle.std.proofs.Common.{◌≡◌, ◌≢◌, refl, ap, sym, ◌∙◌, subst, ℕ, ◌+◌, Bool, true, false, cond, ◌||◌, List, [], ◌∷◌, ◌++◌, Result, Ok, Err, arith}
 use Rattle.std.specs.Prelude.{nat_lt}
+use Rattle.std.proofs.lemmas.Bool.Decides.{nat_tests}
 use Rattle.std.specs.Char.{len_utf8}
 use Rattle.rx_base.specs.declared.fault.Fault.{Fault}
 use Rattle.rx_ast.specs.declared.term.Pattern.{Pattern}
@@ -8,16 +9,17 @@ use Rattle.rx_ast.specs.Forget.{bare}
 use Rattle.rx_ast.proofs.Forgetting.{unspanned_bare}
 use Rattle.rx_units.specs.declared.code_point.CodePoint.{CodePoint}
 use Rattle.rx_units.specs.declared.code_point.EscapeKind.TheVariants as escape_kind
-use Rattle.rx_units.specs.Units.{lead_of, literal_units, trail_of, unit}
+use Rattle.rx_units.specs.Units.{character_units, lead_of, literal_units, trail_of, unit}
 use Rattle.rx_model.specs.declared.mode.Mode.{Mode}
-use Rattle.rx_model.specs.declared.mode.Mode.TheVariants.{Unicode}
-use Rattle.rx_model.specs.Inputs.Environment.{is_unicode}
+use Rattle.rx_model.specs.declared.mode.Mode.TheVariants.{Legacy, Unicode, Sets}
+use Rattle.rx_model.specs.Inputs.Environment.{is_sets, is_unicode}
 use Rattle.rx_model.specs.Inputs.Flags.{flags_of, flags_ok}
 use Rattle.rx_model.specs.Reading.Headline.{IsParsed, IsReadAs, IsSameAgain}
-use Rattle.rx_model.specs.Inputs.Inputs.{Input, literal_alone, mode_asked, units_asked}
-use Rattle.rx_model.specs.Spelling.ReadBack.{IsReadBack}
+use Rattle.rx_model.specs.Inputs.Inputs.{Input, flags_for, literal_alone, mode_asked, units_asked}
+use Rattle.rx_model.specs.Spelling.ReadBack.{AreCodeUnits, FitIn, IsReadBack}
 use Rattle.rx_model.specs.Reading.Reading.{Reads, units_of}
 use Rattle.rx_model.specs.Spelling.Spelling.{spelling}
+use Rattle.rx_model.proofs.Spelling.Bounds.{AreCodePoints}
 use Rattle.rx_model.proofs.Spelling.ReadBacks.{spelled_is_read_back}
 
 -- Where the input's text is the spelling of a tree that is read back, its answer is this tree.
@@ -33,10 +35,9 @@ same_as input tree back text ok (Err fault) parsed =
       reads = subst (λ w. Reads (mode_asked input) back.again (units_of (mode_asked input) w)) (sym text) back.reads;
     })
 
-pub same_again : (input : Input) (answer : Result Pattern Fault) → IsParsed (λ p. p) input answer → (tree : Pattern) (us : List CodePoint) → Reads Unicode tree us → us ≢ []
-    → input.text ≡ spelling (bare tree) Unicode → flags_ok (flags_of input.flags) ≡ true → mode_asked input ≡ Unicode → IsSameAgain tree answer
-same_again input answer parsed tree us r some text ok m =
-    same_as input tree (subst (λ mode. IsReadBack mode tree) (sym m) (spelled_is_read_back tree us r some)) (text ∙ ap (spelling (bare tree)) (sym m)) ok answer parsed
+pub same_again : (input : Input) (answer : Result Pattern Fault) → IsParsed (λ p. p) input answer → is_sets (mode_asked input) ≡ false → (tree : Pattern) (us : List CodePoint) → Reads (mode_asked input) tree us
+    → FitIn (mode_asked input) us → us ≢ [] → input.text ≡ spelling (bare tree) (mode_asked input) → flags_ok (flags_of input.flags) ≡ true → IsSameAgain tree answer
+same_again input answer parsed no_sets tree us r fit some text ok = same_as input tree (spelled_is_read_back (mode_asked input) no_sets tree us r fit some) text ok answer parsed
 
 -- A literal is never read from no units.
 some_units : (joined : Bool) (at c : ℕ) (cs : List ℕ) → literal_units joined at (c ∷ cs) ≢ []
@@ -54,10 +55,40 @@ some_asked : (mode : Mode) (text : List ℕ) → units_of mode text ≢ []
 some_asked mode [] = some_units (is_unicode mode) 0 40 (63 ∷ 58 ∷ 41 ∷ [])
 some_asked mode (c ∷ cs) = some_units (is_unicode mode) 0 c cs
 
+alone_asks : (mode : Mode) (text : List ℕ) → mode_asked (literal_alone text mode) ≡ mode
+alone_asks Legacy text = refl
+alone_asks Unicode text = refl
+alone_asks Sets text = refl
+
+alone_right : (mode : Mode) → flags_ok (flags_for mode) ≡ true
+alone_right Legacy = refl
+alone_right Unicode = refl
+alone_right Sets = refl
+
+-- The units of a text of code points fit in its mode.
+narrow_append : (us vs : List CodePoint) → AreCodeUnits us → AreCodeUnits vs → AreCodeUnits (us ++ vs)
+narrow_append [] vs h k = k
+narrow_append (u ∷ us) vs h k = (h.0, narrow_append us vs h.1 k)
+
+code_units : (at : ℕ) (text : List ℕ) → AreCodePoints text → AreCodeUnits (literal_units false at text)
+code_units at [] h = tt
+code_units at (c ∷ cs) h = narrow_append (character_units false at (at + len_utf8 c) c escape_kind.None) (literal_units false (at + len_utf8 c) cs) (one (nat_lt c 0x10000) refl) (code_units (at + len_utf8 c) cs h.1)
+  where
+    one : (low : Bool) → nat_lt c 0x10000 ≡ low → AreCodeUnits (character_units false at (at + len_utf8 c) c escape_kind.None)
+    one true l = rw l (grind (arith, nat_tests), tt)
+    one false l = rw l (omega (arith, h.0), (omega (arith, h.0), tt))
+
+pub text_fits : (mode : Mode) (text : List ℕ) → AreCodePoints text → FitIn mode (units_of mode text)
+text_fits Legacy [] h l = code_units 0 (40 ∷ 63 ∷ 58 ∷ 41 ∷ []) (omega arith, (omega arith, (omega arith, (omega arith, tt))))
+text_fits Legacy (c ∷ cs) h l = code_units 0 (c ∷ cs) h
+text_fits Unicode text h l = absurd (let no : ⊥ = cc l in no)
+text_fits Sets text h l = absurd (let no : ⊥ = cc l in no)
+
 -- So it is with the spelling of what an input is read as.
-pub spelled_again : (input : Input) (tree : Pattern) → IsReadAs input tree → mode_asked input ≡ Unicode
+pub spelled_again : (input : Input) (tree : Pattern) → IsReadAs input tree → is_sets (mode_asked input) ≡ false → FitIn (mode_asked input) (units_asked input)
     → (answer : Result Pattern Fault) → IsParsed (λ p. p) (literal_alone (spelling (bare tree) (mode_asked input)) (mode_asked input)) answer → IsSameAgain tree answer
-spelled_again input tree read m answer parsed =
-    let at : Mode → Type 0 = λ mode. IsParsed (λ p. p) (literal_alone (spelling (bare tree) mode) mode) answer in
-    same_again (literal_alone (spelling (bare tree) Unicode) Unicode) answer (subst at m parsed) tree (units_asked input)
-    (subst (λ mode. Reads mode tree (units_asked input)) m read.reads) (some_asked (mode_asked input) input.text) refl refl refl
+spelled_again input tree read no_sets fit answer parsed =
+    let mode = mode_asked input in
+    let text = spelling (bare tree) mode in
+    let back = spelled_is_read_back mode no_sets tree (units_asked input) read.reads fit (some_asked mode input.text) in
+    same_as (literal_alone text mode) tree (subst (λ m. IsReadBack m tree) (sym (alone_asks mode text)) back) (ap (spelling (bare tree)) (sym (alone_asks mode text))) (alone_right mode) answer parsed

@@ -1,5 +1,5 @@
 -- What each token of a class spells (ClassContents, NonemptyClassRanges, 22.2.1), and rows of them. A relation `.. w rest` says that the units w spell a
--- thing before all that follows them, rest. With neither `u` nor `v`, and with `v`, no class is read yet, and only the rows that all modes share are here.
+-- thing before all that follows them, rest. Of what `v` alone has only the rows that all modes share are here.
 use Rattle.std.specs.Prelude.{◌≡◌, ℕ, ◌+◌, Bool, true, false, not, ◌==◌, ◌&&◌, ◌||◌, ◌⊎◌, List, [], ◌∷◌, ◌++◌, length}
 use Rattle.rx_ast.specs.declared.leaf.CharacterKind.{CharacterKind}
 use Rattle.rx_ast.specs.declared.leaf.CharacterKind.TheVariants as kind

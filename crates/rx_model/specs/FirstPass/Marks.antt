@@ -168,7 +168,7 @@ abbrev pub IsParted : List Mark → ℕ → ℕ → Type 0
 IsParted ms a b =
     (o : Option ℕ) × (k : ℕ) × IsCommon ms o a b × (a < k) × (k < b) × (mark_at ms k ≡ bar) × IsInner ms o k
 
--- Two named openings of equal names might both take part (22.2.1.1, 22.2.1.3 MightBothParticipate): no bar parts them.
+-- Two named openings of equal names might both take part (22.2.1.1, 22.2.1.4 MightBothParticipate): no bar parts them.
 pub record Clash (unicode_mode : Bool) (ms : List Mark) (a : ℕ) (b : ℕ) : Type 0 where
   pub in_order : a < b
   pub name : List ℕ

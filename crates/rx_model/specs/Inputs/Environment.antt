@@ -11,6 +11,12 @@ is_unicode Legacy = false
 is_unicode Unicode = true
 is_unicode Sets = true
 
+-- with `v` (the parameter UnicodeSetsMode of the grammar)
+abbrev pub is_sets : Mode → Bool
+is_sets Legacy = false
+is_sets Unicode = false
+is_sets Sets = true
+
 abbrev pub has_some : List (List ℕ) → Bool
 has_some [] = false
 has_some (name ∷ names) = true

@@ -1,5 +1,5 @@
--- What a reader answers to a literal: Ok on valid input and on no other, with the only tree and its spelling; else the first refusal, or want of memory.
-use Rattle.std.specs.Prelude.{◌≡◌, ℕ, ◌+◌, ◌<◌, ◌^◌, true, List, length, encode_utf8_all, Result, IfOk, IfErr, OnOk, MatchResult}
+-- What a reader answers to a literal: Ok on valid input and on no other, with the only tree and its spelling; else the first refusal, or out of memory.
+use Rattle.std.specs.Prelude.{◌≡◌, ℕ, ◌<◌, ◌^◌, true, List, length, encode_utf8_all, Result, IfOk, IfErr, OnOk, MatchResult}
 use Rattle.rx_base.specs.declared.diagnostic.Diagnostic.{Diagnostic as Refusal}
 use Rattle.rx_base.specs.declared.fault.Fault.{Fault}
 use Rattle.rx_base.specs.declared.fault.Fault.TheVariants.{OutOfMemory, Diagnostic}
@@ -34,15 +34,15 @@ pub data IsFaultOf (input : Input) : Fault → Type 0 where
 
 -- What a parser of literals may answer, where an Ok answer has a tree.
 pub record IsParsed {A : Type 0} (tree : A → Pattern) (input : Input) (answer : Result A Fault) : Type 0 where
-  -- Ok comes on valid input and on no other: on valid input all that may come besides is want of memory.
+  -- Ok comes on valid input and on no other: on valid input all that may come besides is out of memory.
   pub valid : OnOk answer (IsValid input.text input.flags)
   pub complete : IsValid input.text input.flags → IfErr answer (λ fault. fault ≡ OutOfMemory)
   -- It has the only tree.
   pub read : IfOk answer (λ it. IsReadAs input (tree it))
-  -- Each other answer is the first refusal, or want of memory.
+  -- Each other answer is the first refusal, or out of memory.
   pub refused : IfErr answer (IsFaultOf input)
 
--- The answer to a text that is read again is a tree that is equal but for spans and character kinds, or memory is wanting.
+-- The answer to a text that is read again is a tree that is equal but for spans and character kinds, or memory ran out.
 abbrev pub IsSameAgain : Pattern → Result Pattern Fault → Type 0
 IsSameAgain tree again = MatchResult again (λ it. bare it ≡ bare tree) (λ fault. fault ≡ OutOfMemory)
 
@@ -57,6 +57,6 @@ pub record IsAnswered {A : Type 0} (spelled : A → Spelled) (input : Input) (an
   pub parsed : IsParsed (λ it. (spelled it).pattern) input answer
   pub mode_is : IfOk answer (λ it. (spelled it).mode ≡ mode_asked input)
   pub text_is : IfOk answer (λ it. (spelled it).text ≡ spelling (bare (spelled it).pattern) (spelled it).mode)
-  -- Of the spelling, where its length fits 32 bits, whatever a parser of literals answers under the same mode is the same tree, or want of memory.
+  -- Of the spelling, where its length fits 32 bits, whatever a parser of literals answers under the same mode is the same tree, or out of memory.
   pub again : IfOk answer (λ it. length (encode_utf8_all (spelled it).text) < 2 ^ 32
       → (again : Result Pattern Fault) → IsParsed (λ p. p) (literal_alone (spelled it).text (spelled it).mode) again → IsSameAgain (spelled it).pattern again)

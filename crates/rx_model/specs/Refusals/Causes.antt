@@ -1,5 +1,5 @@
 -- When the text of a pattern is refused, and where: at a place that is reached, for what stands there.
-use Rattle.std.specs.Prelude.{◌≡◌, ◌≢◌, ℕ, ◌+◌, ◌<◌, ◌≤◌, ◌⊎◌, Bool, true, false, ◌&&◌, ◌||◌, Contains, Option, Some, None, List, [], ◌∷◌, ◌++◌, length}
+use Rattle.std.specs.Prelude.{◌≡◌, ◌≢◌, ℕ, ◌+◌, ◌<◌, ◌≤◌, ◌⊎◌, ◌==◌, Bool, true, false, not, ◌&&◌, ◌||◌, Contains, Option, Some, None, List, [], ◌∷◌, ◌++◌, length}
 use Rattle.rx_base.specs.declared.diagnostic.Diagnostic.{Diagnostic}
 use Rattle.rx_base.specs.declared.diagnostic.Diagnostic.TheVariants.{DuplicatedCapturingGroupNames, TooMayCapturingGroups, ParsePatternIncomplete, LoneQuantifier, UnterminatedPattern, InvalidExtendedAtomEscape, InvalidBracedQuantifier, InvalidSurrogatePair, InvalidIndexedReference, EmptyGroupSpecifier, InvalidNamedReference, BracedQuantifierOutOfOrder, TooLargeNumberInBracedQuantifier, TooLargeNumberDigits, InvalidUnicodeEscapeSequence, DuplicatedModifiers, InvalidModifiers, EmptyModifiers, UnknownModifiers}
 use Rattle.rx_base.specs.declared.diagnostic.kinds.DigitsKind.TheVariants as digits
@@ -53,6 +53,12 @@ unterminated (looking kind) = what.LookAround
 -- the span of a name that the first pass finds, between its `<` and its `>`
 abbrev pub name_span : List CodePoint → ℕ → ℕ → ℕ → Span
 name_span us first added k = span_between us first added (name_places (values us) k).0 (name_places (values us) k).1
+
+-- whether modifiers are to stand next, behind `(?`
+abbrev pub begins_modifiers : List ℕ → Bool
+begins_modifiers [] = false
+begins_modifiers (c ∷ []) = false
+begins_modifiers (c ∷ d ∷ w) = c == 40 && d == 63 && not (front_is is_mark w)
 
 -- Modifiers at the front, behind `(?`, lead to no `:`: behind their text there is no letter, no first `-` and no `:`.
 pub record LeadNowhere (text behind : List ℕ) : Type 0 where
@@ -171,6 +177,6 @@ pub data IsCause (mode : Mode) (us : List CodePoint) (first added : ℕ) : Diagn
   -- first with which it does.
   duplicated_names : (a b : ℕ) → IsFirstClash (is_unicode mode) (marks (values us)) a b
       → IsCause mode us first added (DuplicatedCapturingGroupNames (name_span us first added a) (name_span us first added b))
-  -- There are more groups than a reader's limit allows.
+  -- There are 2^32 - 1 groups or more (22.2.1.1, Pattern).
   too_many_groups : HasNoClash mode us → most_groups < text_groups us → IsCause mode us first added (TooMayCapturingGroups (record { start = added; end = added }))
   at_place : (place : ℕ) {diagnostic : Diagnostic} → HasNoClash mode us → text_groups us ≤ most_groups → IsCauseAtPlace mode us first added place diagnostic → IsCause mode us first added diagnostic

@@ -4,6 +4,7 @@ use Rattle.rx_ast.specs.declared.term.Pattern.{Pattern}
 use Rattle.rx_ast.specs.Forget.{bare}
 use Rattle.rx_units.specs.declared.code_point.CodePoint.{CodePoint}
 use Rattle.rx_model.specs.declared.mode.Mode.{Mode}
+use Rattle.rx_model.specs.declared.mode.Mode.TheVariants.{Legacy}
 use Rattle.rx_model.specs.Reading.Reading.{Reads, units_of}
 use Rattle.rx_model.specs.Spelling.Spelling.{spelling}
 
@@ -11,6 +12,10 @@ use Rattle.rx_model.specs.Spelling.Spelling.{spelling}
 abbrev pub AreCodeUnits : List CodePoint → Type 0
 AreCodeUnits [] = Unit {0}
 AreCodeUnits (u ∷ us) = (u.value ≤ 0xFFFF) × AreCodeUnits us
+
+-- The units are some that a text may have in this mode.
+abbrev pub FitIn : Mode → List CodePoint → Type 0
+FitIn mode us = mode ≡ Legacy → AreCodeUnits us
 
 -- The canonical spelling, as the text of a literal, reads as a pattern that is equal but for spans and character kinds.
 pub record IsReadBack (mode : Mode) (p : Pattern) : Type 0 where

@@ -16,7 +16,7 @@ use Rattle.rx_model.specs.Trees.Token as token
 use Rattle.rx_model.specs.Trees.Events.{tokens}
 use Rattle.rx_model.specs.Trees.Names.{groups, names, AreAlternativesApart}
 
--- the greatest number of a braced quantifier
+-- the greatest number of a braced quantifier: a limit of this project, and none of the standard
 abbrev pub greatest_count : ℕ
 greatest_count = 2 ^ 53 - 1
 
@@ -112,7 +112,7 @@ Obeys count names closer = Unit {0}
 Obeys count names bar = Unit {0}
 Obeys count names (quantifier min max greedy) = (min ≤ greatest_count) × IsGreatest min max
 
--- A limit of the reader: indices of groups are numbers of 32 bits.
+-- The most groups that capture: from 2^32 - 1 on they are an early error (Pattern, 22.2.1.1).
 abbrev pub most_groups : ℕ
 most_groups = 2 ^ 32 - 2
 

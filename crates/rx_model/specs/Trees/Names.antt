@@ -69,7 +69,7 @@ names p = once_behind [] (alternatives_names (mirror_disjunction p.body).1)
 abbrev pub AreApart : List (List ℕ) → List (List ℕ) → Type 0
 AreApart some others = (name : List ℕ) → Contains some name → Contains others name → ⊥
 
--- Two groups of one name never take part both (22.2.1.1, 22.2.1.3 MightBothParticipate): in each alternative the names held by
+-- Two groups of one name never take part both (22.2.1.1, 22.2.1.4 MightBothParticipate): in each alternative the names held by
 -- its terms are apart, and no group's name occurs in the group.
 abbrev mutual
   pub IsNodeApart : Node → Type 0

@@ -1,14 +1,12 @@
+use Rattle.rx_class.specs.EscapeAnswers.{environment_of}
 use Rattle.rx_class.proofs.ClassAtoms.{unit_gives}
-use Rattle.rx_class.proofs.Fitting.{offset_here_fits, offset_moved_fits}
+use Rattle.rx_class.proofs.Fitting.{offset_here_fits}
 use Rattle.rx_class.proofs.class_atom.class_atom.Goals as goal
 
-pub create-requires-clause-start : goal.create-requires-clause-start
-create-requires-clause-start c = offset_here_fits c.args.spans.now _ c.args.reader.now c.requires.fits c.offset-start.ensures.value
-
-pub create-requires-clause-end : goal.create-requires-clause-end
-create-requires-clause-end c = offset_moved_fits c.args.spans.now 1 _ c.args.reader.now c.advance.new.self c.requires.fits c.advance.ensures c.offset.ensures.value
+pub span_to_here-requires-clause-start : goal.span_to_here-requires-clause-start
+span_to_here-requires-clause-start c = offset_here_fits c.args.spans.now _ c.args.reader.now c.requires.fits c.offset-start.ensures.value
 
 pub returns : goal.returns
 returns c =
-    unit_gives c.args.spans.now _ _ c.args.reader.now c.advance.new.self _ _ _ _ c.remaining_code_points.ensures.units c.requires.stands c.remaining_code_points.ensures.code_points
-    c.if-unit.false c.advance.ensures c.offset-start.ensures.value c.offset.ensures.value c.create.ensures c.kind_in_class.ensures
+    unit_gives (environment_of c.args.state.now) c.requires.read c.args.spans.now _ c.args.reader.now c.advance.new.self _ _ _ _ c.remaining_code_points.ensures.units c.requires.stands
+    c.remaining_code_points.ensures.code_points c.if-unit.false c.advance.ensures c.offset-start.ensures.value c.span_to_here.ensures c.kind_in_class.ensures

@@ -1,12 +1,10 @@
-use Rattle.std.proofs.Common.{◌≡◌, ◌&&◌, false, Result, refl, ap, ap₂, ◌∙◌}
-use Rattle.rx_base.specs.declared.diagnostic.Diagnostic.{Diagnostic}
+use Rattle.std.proofs.Common.{◌≡◌, ◌&&◌, false, refl, ap, ap₂, ◌∙◌}
 use Rattle.rx_base.specs.declared.span.Span.{Span}
 use Rattle.rx_ast.specs.declared.leaf.Character.{Character}
-use Rattle.rx_ast.specs.declared.class.CharacterClassRange.{CharacterClassRange}
 use Rattle.rx_model.specs.Refusals.ClassCauses.{is_character}
 use Rattle.rx_class.specs.declared.class_atom.ClassAtom.TheVariants as atom
 use Rattle.rx_class.specs.declared.class_atom.ClassAtom as atoms
-use Rattle.rx_class.specs.ClassItems.{IsBetween, range, dash_out_of_order, out_of_order, no_character, atom_of, atom_span, between}
+use Rattle.rx_class.specs.ClassItems.{range, dash_out_of_order, out_of_order, no_character, atom_of, atom_span, between}
 use Rattle.rx_class.proofs.class_item.range_between.Goals.{in_default-via-in-Character+in_default, in_default-via-in_default}
 use Rattle.rx_class.proofs.class_item.range_between.Goals as goal
 
@@ -17,11 +15,6 @@ not_both (atom.Character x) (atom.Escape it) h = refl
 not_both (atom.Character x) (atom.Property it) h = refl
 not_both (atom.Escape it) high h = refl
 not_both (atom.Property it) high h = refl
-
--- what two atoms are, by what they are as characters
-by_atoms : (low high : atoms.ClassAtom) (min max : Character) (r : Result CharacterClassRange Diagnostic) → low ≡ atom.Character min → high ≡ atom.Character max
-    → IsBetween (atom.Character min) (atom.Character max) r → IsBetween low high r
-by_atoms low high min max r l h is = rw (l, h) is
 
 pub returns-in_default : goal.returns-in_default
 returns-in_default c =
@@ -34,16 +27,10 @@ returns-in_default c =
     rw span (no_character neither)
 
 pub returns-then-min-max : goal.returns-then-min-max
-returns-then-min-max c =
-    by_atoms c.args.low.now c.args.high.now c.in-Character-Character.min c.in-Character-Character.max _ c.in-Character-Character.is-0 c.in-Character-Character.is-1
-    (rw c.new-span-then-min-max.ensures (range c.if-min-max.true))
+returns-then-min-max c = rw (c.in-Character-Character.is-0, c.in-Character-Character.is-1, c.new-span-then-min-max.ensures) (range c.if-min-max.true)
 
 pub returns-then-max : goal.returns-then-max
-returns-then-max c =
-    by_atoms c.args.low.now c.args.high.now c.in-Character-Character.min c.in-Character-Character.max _ c.in-Character-Character.is-0 c.in-Character-Character.is-1
-    (rw c.new-span-2.ensures (dash_out_of_order c.if-min-max.false c.if-max.true))
+returns-then-max c = rw (c.in-Character-Character.is-0, c.in-Character-Character.is-1, c.new-span-2.ensures) (dash_out_of_order c.if-min-max.false c.if-max.true)
 
 pub returns : goal.returns
-returns c =
-    by_atoms c.args.low.now c.args.high.now c.in-Character-Character.min c.in-Character-Character.max _ c.in-Character-Character.is-0 c.in-Character-Character.is-1
-    (rw c.new-span-2.ensures (out_of_order c.if-min-max.false c.if-max.false))
+returns c = rw (c.in-Character-Character.is-0, c.in-Character-Character.is-1, c.new-span-2.ensures) (out_of_order c.if-min-max.false c.if-max.false)

@@ -4,24 +4,17 @@ use Rattle.rx_base.specs.declared.diagnostic.kinds.PropertyPart.TheVariants as p
 use Rattle.rx_base.specs.declared.diagnostic.kinds.Unterminated.TheVariants as what
 use Rattle.rx_class.specs.PropertyFound.{property_refusal}
 use Rattle.rx_class.proofs.PropertySpans.{cut_off, from_before, from_brace}
-use Rattle.rx_class.proofs.Fitting.{offset_moved_fits, start_fits}
-use Rattle.rx_class.proofs.Keeping.{moved_keeps}
+use Rattle.rx_class.proofs.Fitting.{start_fits}
 use Rattle.rx_class.proofs.property.refusal.Goals as goal
 
-pub create-span-requires-clause-start : goal.create-span-requires-clause-start
-create-span-requires-clause-start c = start_fits c.args.spans.now c.args.span_start c.args.reader.now c.requires.fits c.requires.backslash
-
-pub create-span-requires-clause-end : goal.create-span-requires-clause-end
-create-span-requires-clause-end c = offset_moved_fits c.args.spans.now c.in-Unterminated.end _ c.args.reader.now c.skip.new.self c.requires.fits c.skip.ensures c.offset.ensures.value
+pub span_to_here-span-requires-clause-start : goal.span_to_here-span-requires-clause-start
+span_to_here-span-requires-clause-start c = start_fits c.args.spans.now c.args.span_start c.args.reader.now c.requires.fits c.requires.backslash
 
 pub returns-in-Unterminated-clause-refusal : goal.returns-in-Unterminated-clause-refusal
 returns-in-Unterminated-clause-refusal c =
     ap (λ span. UnterminatedPattern span what.PropertyEscape)
-    (cut_off c.args.reader.now c.skip.new.self _ c.args.spans.now c.args.span_start _ _ c.requires.backslash.behind c.requires.backslash.start c.skip.ensures c.offset.ensures.value c.create-span.ensures)
+    (cut_off c.args.reader.now c.skip.new.self _ c.args.spans.now c.args.span_start _ c.requires.backslash.behind c.requires.backslash.start c.skip.ensures c.span_to_here-span.ensures)
     ∙ ap (property_refusal c.args.reader.now.units c.args.reader.now.first c.args.spans.now (c.args.reader.now.place - 1)) (sym c.in-Unterminated.is)
-
-pub returns-in-Unterminated-clause-reader : goal.returns-in-Unterminated-clause-reader
-returns-in-Unterminated-clause-reader c = moved_keeps c.in-Unterminated.end c.args.reader.now c.skip.new.self c.skip.ensures
 
 pub returns-in-Name-clause-refusal : goal.returns-in-Name-clause-refusal
 returns-in-Name-clause-refusal c = ap (λ span. InvalidUnicodeProperty span part.Name) (from_before c.args.reader.now c.args.spans.now _ _ _ c.requires.backslash.behind c.span_ahead-span.ensures.span)

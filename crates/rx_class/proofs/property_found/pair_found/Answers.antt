@@ -1,8 +1,7 @@
-use Rattle.std.proofs.Common.{◌∷◌, sym, ◌∙◌, subst}
+use Rattle.std.proofs.Common.{sym, ◌∙◌}
 use Rattle.rx_units.specs.Units.{values}
-use Rattle.rx_model.specs.declared.mode.Mode.TheVariants.{Unicode}
-use Rattle.rx_class.specs.PropertyFound.{IsPropertyFound, property_letter}
-use Rattle.rx_class.proofs.PropertyHalts.{names_are_values, pair_spelled, pair_unclosed, pair_unknown, valid_texts}
+use Rattle.rx_model.proofs.Properties.PropertyRefusals.{names_are_values}
+use Rattle.rx_class.proofs.PropertyHalts.{pair_spelled, pair_unclosed, pair_unknown, valid_texts}
 use Rattle.rx_class.proofs.PropertyTables.{no_true}
 use Rattle.rx_class.proofs.property_found.pair_found.Goals as goal
 
@@ -10,19 +9,16 @@ pub text_of-requires : goal.text_of-requires
 text_of-requires c = names_are_values (values c.args.name.now) c.requires.1.of_names
 
 pub returns-then-not-is_valid_unicode_property : goal.returns-then-not-is_valid_unicode_property
-returns-then-not-is_valid_unicode_property c = λ w has.
-    pair_unknown c.args.negative w c.args.name.now c.args.value.now c.args.behind.now has
-    (λ valid. no_true c.if-not-is_valid_unicode_property.true (c.is_valid_unicode_property.ensures.1
+returns-then-not-is_valid_unicode_property c = λ w p mode has.
+    pair_unknown has c.args.negative w c.args.name.now c.args.value.now c.args.behind.now p (λ valid. no_true c.if-not-is_valid_unicode_property.true (c.is_valid_unicode_property.ensures.1
     (valid_texts _ _ _ _ (sym (c.as_str.ensures ∙ c.in_ok-name_text.ensures)) (sym (c.as_str-2.ensures ∙ c.in_ok-value_text.ensures)) valid)))
 
 pub returns-then-not-is_closed : goal.returns-then-not-is_closed
-returns-then-not-is_closed c = λ w has.
+returns-then-not-is_closed c = λ w p mode has.
     let valid = valid_texts _ _ _ _ (c.as_str.ensures ∙ c.in_ok-name_text.ensures) (c.as_str-2.ensures ∙ c.in_ok-value_text.ensures) (c.is_valid_unicode_property.ensures.0 c.if-not-is_valid_unicode_property.false) in
-    subst (λ found. IsPropertyFound Unicode (property_letter c.args.negative ∷ 123 ∷ w) found) (sym c.unterminated.ensures)
-    (pair_unclosed c.args.negative w c.args.name.now c.args.value.now c.args.behind.now has valid (sym c.is_closed.ensures ∙ c.if-not-is_closed.true))
+    rw c.unterminated.ensures (pair_unclosed has c.args.negative w c.args.name.now c.args.value.now c.args.behind.now p valid (sym c.is_closed.ensures ∙ c.if-not-is_closed.true))
 
 pub returns : goal.returns
-returns c = λ w has.
+returns c = λ w p mode has.
     let valid = valid_texts _ _ _ _ (c.as_str.ensures ∙ c.in_ok-name_text.ensures) (c.as_str-2.ensures ∙ c.in_ok-value_text.ensures) (c.is_valid_unicode_property.ensures.0 c.if-not-is_valid_unicode_property.false) in
-    rw (c.in_ok-name_text.ensures, c.in_ok-value_text.ensures)
-    (pair_spelled c.args.negative w c.args.name.now c.args.value.now c.args.behind.now has valid (sym c.is_closed.ensures ∙ c.if-not-is_closed.false))
+    rw (c.in_ok-name_text.ensures, c.in_ok-value_text.ensures) (pair_spelled has c.args.negative w c.args.name.now c.args.value.now c.args.behind.now p valid (sym c.is_closed.ensures ∙ c.if-not-is_closed.false))

@@ -1,19 +1,12 @@
 use Rattle.std.proofs.Common.{IfOk, sym, subst}
-use Rattle.rx_model.specs.declared.mode.Mode.TheVariants.{Unicode}
 use Rattle.rx_class.specs.PropertyFound.{IsPropertyFound}
-use Rattle.rx_class.proofs.PropertyHalts.{first_is, no_letter, no_letter_at_end}
+use Rattle.rx_class.proofs.PropertyHalts.{first_is}
 use Rattle.rx_class.proofs.property_found.property_at.Goals as goal
-
-pub returns-in_default : goal.returns-in_default
-returns-in_default c = no_letter_at_end c.args.units.now c.in_default.len_below
 
 pub returns-then-letter : goal.returns-then-letter
 returns-then-letter c =
-    subst (λ v. IfOk c.expression_at.result (IsPropertyFound Unicode v)) (sym (first_is c.args.units.now 112 _ c.in-len1-up.len_at_least c.if-letter.true)) c.expression_at.ensures
+    subst (λ v. IfOk c.expression_at.result (IsPropertyFound v)) (sym (first_is c.args.units.now 112 _ c.in-len1-up.len_at_least c.if-letter.true)) c.expression_at.ensures
 
 pub returns-then-letter-2 : goal.returns-then-letter-2
 returns-then-letter-2 c =
-    subst (λ v. IfOk c.expression_at-then-letter-2.result (IsPropertyFound Unicode v)) (sym (first_is c.args.units.now 80 _ c.in-len1-up.len_at_least c.if-letter-2.true)) c.expression_at-then-letter-2.ensures
-
-pub returns : goal.returns
-returns c = no_letter c.args.units.now _ c.if-letter.false c.if-letter-2.false
+    subst (λ v. IfOk c.expression_at-then-letter-2.result (IsPropertyFound v)) (sym (first_is c.args.units.now 80 _ c.in-len1-up.len_at_least c.if-letter-2.true)) c.expression_at-then-letter-2.ensures

@@ -7,7 +7,7 @@ use Rattle.rx_model.specs.Reading.Headline.{IsAnswered}
 use Rattle.rx_model.specs.Spelling.Spelling.{spelling}
 use Rattle.rx_parser.specs.Literals.{flags_chars}
 use Rattle.rx_tools.specs.Spelled.{spelled_of}
-use Rattle.rx_tools.proofs.Answers.{read_already}
+use Rattle.rx_tools.proofs.CanonicalAnswers.{read_already}
 use Rattle.rx_example.proofs.Answered.{by_itself, first_of}
 use Rattle.rx_example.specs.Shown.{literal}
 use Rattle.rx_example.proofs.finding.inspect.Goals as goal

@@ -1,12 +1,8 @@
 use Rattle.std.proofs.Common.{◌≡◌, Bool, true, false, refl}
-use Rattle.rx_base.specs.declared.diagnostic.Diagnostic.TheVariants.{BracedQuantifierOutOfOrder, CharacterClassRangeInvalidAtom, InvalidBracedQuantifier, InvalidExtendedAtomEscape, LoneQuantifier, TooLargeNumberDigits, TooLargeNumberInBracedQuantifier}
-use Rattle.rx_base.specs.declared.diagnostic.kinds.DigitsKind.TheVariants as digits
+use Rattle.rx_base.specs.declared.diagnostic.Diagnostic.TheVariants.{CharacterClassRangeInvalidAtom, LoneQuantifier}
 use Rattle.rx_model.specs.Inputs.Environment.{is_unicode}
-use Rattle.rx_model.proofs.Refusals.LegacyRefusals.{ends_refused, none_beyond, not_lone}
+use Rattle.rx_model.proofs.Refusals.LegacyRefusals.{ends_refused, not_lone}
 use Rattle.rx_model.proofs.laws.legacy_refusals.Goals as goal
-
-pub returns-clause-quantifier : goal.returns-clause-quantifier
-returns-clause-quantifier c mode m us start added place span h = none_beyond mode m us start added place (InvalidBracedQuantifier span) h tt
 
 pub returns-clause-lone : goal.returns-clause-lone
 returns-clause-lone c mode us start added place span h = with_unicode (is_unicode mode) refl
@@ -14,18 +10,6 @@ returns-clause-lone c mode us start added place span h = with_unicode (is_unicod
     with_unicode : (b : Bool) → is_unicode mode ≡ b → is_unicode mode ≡ true
     with_unicode true e = e
     with_unicode false e = absurd (not_lone mode e us start added place (LoneQuantifier span) h tt)
-
-pub returns-clause-order : goal.returns-clause-order
-returns-clause-order c mode m us start added place span h = none_beyond mode m us start added place (BracedQuantifierOutOfOrder span) h tt
-
-pub returns-clause-large : goal.returns-clause-large
-returns-clause-large c mode m us start added place span h = none_beyond mode m us start added place (TooLargeNumberInBracedQuantifier span) h tt
-
-pub returns-clause-limit : goal.returns-clause-limit
-returns-clause-limit c mode m us start added place span h = none_beyond mode m us start added place (TooLargeNumberDigits span digits.Decimal) h tt
-
-pub returns-clause-backslash : goal.returns-clause-backslash
-returns-clause-backslash c mode m us start added place span h = none_beyond mode m us start added place (InvalidExtendedAtomEscape span) h tt
 
 pub returns-clause-range : goal.returns-clause-range
 returns-clause-range c mode us start added from at_class place span h =

@@ -1,8 +1,6 @@
-use Rattle.std.proofs.Common.{refl}
-use Rattle.rx_model.specs.declared.mode.Mode.TheVariants.{Unicode}
 use Rattle.rx_model.proofs.Refusals.OneCause.{one_cause_at_places}
-use Rattle.rx_model.proofs.Refusals.Refusals.{unicode_classes}
+use Rattle.rx_model.proofs.Refusals.Refusals.{class_laws}
 use Rattle.rx_model.proofs.laws.one_place.Goals as goal
 
 pub returns : goal.returns
-returns c us start added = one_cause_at_places Unicode refl us start added (unicode_classes us start added)
+returns c mode no_sets us start added = one_cause_at_places mode us start added (class_laws mode no_sets us start added)

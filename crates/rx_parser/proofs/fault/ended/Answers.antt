@@ -3,13 +3,7 @@ use Rattle.rx_base.specs.declared.diagnostic.Diagnostic.TheVariants.{ParsePatter
 use Rattle.rx_base.specs.declared.fault.Fault.TheVariants.{Diagnostic}
 use Rattle.rx_base.specs.declared.span.Span.{Span}
 use Rattle.rx_parser.proofs.FrameEvents.{frames_none}
-use Rattle.rx_class.proofs.Fitting.{offset_fits}
 use Rattle.rx_parser.proofs.fault.ended.Goals as goal
-
-pub here-end-requires : goal.here-end-requires
-here-end-requires c =
-    let r = c.args.reader.now in
-    record { fits = offset_fits c.args.spans.now r.first r.units r.place c.requires.fits.first c.requires.fits.ends }
 
 pub returns-in-None : goal.returns-in-None
 returns-in-None c =

@@ -1,5 +1,5 @@
 use Rattle.std.proofs.Common.{◌+◌, ◌^◌, ◌<◌, ap, sym, ◌∙◌, subst}
-use Rattle.rx_units.specs.Reading.{offset_of, moved}
+use Rattle.rx_units.specs.Cursor.{offset_of, moved}
 use Rattle.rx_class.proofs.Fitting.{offset_fits}
 use Rattle.rx_parser.proofs.fault.span_ahead.Goals as goal
 

@@ -1,13 +1,15 @@
-use Rattle.std.proofs.Common.{◌∷◌, sym, subst}
-use Rattle.rx_parser.specs.Found.{IsFound}
-use Rattle.rx_parser.proofs.GroupFound.{name_halts, name_there}
+use Rattle.std.proofs.Common.{◌∙◌, sym, ap, Some}
+use Rattle.rx_units.specs.Units.{values}
+use Rattle.rx_model.specs.Groups.NameFronts.{name_read_at}
+use Rattle.rx_model.specs.Trees.Token.{capturing, opener}
+use Rattle.rx_parser.specs.Found.{found_front}
+use Rattle.rx_parser.proofs.NameFound.{halt_answered, name_answered}
 use Rattle.rx_parser.proofs.group.named.Goals as goal
 
 pub returns-in-Name : goal.returns-in-Name
-returns-in-Name c e paren question angle m paren_is question_is angle_is =
-    subst (IsFound e (paren ∷ question ∷ angle ∷ c.args.units.now)) (sym c.opens.ensures)
-    (name_there e c.args.unicode_mode paren question angle c.args.units.now c.in-Name.length m paren_is question_is angle_is c.requires c.in-Name.ensures)
+returns-in-Name c =
+    let r = name_read_at c.args.unicode_mode (values c.args.units.now) in
+    c.opens.ensures ∙ ap found_front (sym (name_answered (λ name. opener (capturing (Some name))) r c.in-Name.length c.in-Name.ensures.read).1)
 
 pub returns-in-Halt : goal.returns-in-Halt
-returns-in-Halt c e paren question angle m paren_is question_is angle_is =
-    name_halts e c.args.unicode_mode paren question angle c.args.units.now c.in-Halt.halt m paren_is question_is angle_is c.requires c.in-Halt.ensures
+returns-in-Halt c = halt_answered (λ name. opener (capturing (Some name))) (name_read_at c.args.unicode_mode (values c.args.units.now)) c.in-Halt.halt c.in-Halt.ensures.read

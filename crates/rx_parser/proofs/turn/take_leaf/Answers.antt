@@ -1,25 +1,17 @@
 use Rattle.std.proofs.Common.{ap, ◌∙◌}
-use Rattle.std.proofs.lemmas.Result.{on_ok_weaker}
+use Rattle.rx_model.specs.Refusals.Reached.{text_names}
 use Rattle.rx_parser.specs.Found.{leaf_token}
-use Rattle.rx_class.proofs.Fitting.{here_fits, moved_fits}
-use Rattle.rx_parser.proofs.Turns.{is_next, leaf_turned, on_ok_adds}
+use Rattle.rx_parser.proofs.Turns.{leaf_turned, passed}
 use Rattle.rx_parser.proofs.turn.take_leaf.Goals as goal
-
-pub here-at-requires : goal.here-at-requires
-here-at-requires c = record { fits = here_fits c.args.spans.now c.args.reader.now c.requires.before.fits }
-
-pub here-requires : goal.here-requires
-here-requires c = record { fits = moved_fits c.args.spans.now c.args.length c.args.reader.now c.skip.new.self c.requires.before.fits c.skip.ensures }
 
 pub returns : goal.returns
 returns c =
-    let r = c.args.reader.now in
+    let h = c.requires.before in
     let b = c.args.builder.now in
-    let span = c.new-span.result in
-    let it = c.leaf.ensures in
-    let t = leaf_token c.args.leaf in
-    on_ok_weaker c.leaf.result
-    (leaf_turned c.args.spans.now c.args.length span.start span.end b c.leaf.new.self r c.skip.new.self t c.in_ok-term.field-0 c.requires.before
-    (is_next r.units r.place t c.args.length c.requires.found) c.in_ok-term.ensures (ap (λ s. s.start) c.new-span.ensures ∙ c.here-at.ensures)
-    (ap (λ s. s.end) c.new-span.ensures ∙ c.here.ensures) c.skip.ensures)
-    (on_ok_adds c.leaf.result b c.leaf.new.self c.in_ok-term.field-0 it.events it.openers it.ready it.good it.mode)
+    let span = c.new-span in
+    let its = c.in_ok-term.ensures in
+    let it = c.in_ok-leaf.ensures in
+    leaf_turned h c.leaf.new.self c.skip.new.self (leaf_token c.args.leaf) c.args.length span.result.start span.result.end c.in_ok-term.field-0
+    (passed h c.requires.found (ap (λ s. s.start) span.ensures ∙ c.here-at.ensures) (ap (λ s. s.end) span.ensures ∙ c.here.ensures) c.skip.ensures)
+    (c.requires.found.2 (text_names b.mode c.args.reader.now.units)) its
+    (record { events = it.events; openers_are = it.openers; ready_is = it.ready; good = it.good (its.good b.mode); mode = it.mode })

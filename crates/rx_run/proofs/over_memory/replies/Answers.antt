@@ -1,6 +1,6 @@
 use Rattle.std.proofs.Common.{◌≡◌, ◌∙◌, ◌<◌, ◌≤◌, ◌++◌, ap, subst, inl, inr, ℕ, List, [], Some, length, length-append, arith}
 use Rattle.std.specs.List.{AllZip, concat}
-use Rattle.rx_base.specs.Causes.{Rose}
+use Rattle.rx_base.specs.FaultCounts.{Rose}
 use Rattle.rx_run.specs.declared.run.Status.{Status}
 use Rattle.rx_run.specs.Lines.{lines_of}
 use Rattle.rx_run.specs.Outcome.{IsBegun, ReadsAndWrites}

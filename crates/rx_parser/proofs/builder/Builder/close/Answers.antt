@@ -15,7 +15,7 @@ pub returns-clause-events : goal.returns-clause-events
 returns-clause-events c =
     let body = c.in_ok-body.body in
     let frame = c.in-Some.frame in
-    let made : Span → Node = λ s. group s (opener_tree frame.opening) (mirror_disjunction body).0 (mirror_disjunction body).1 in
+    let made : Span → Node = λ s. group s (opener_tree frame.group_kind) (mirror_disjunction body).0 (mirror_disjunction body).1 in
     λ _. builder_close c.args.self.now c.pop.new.self frame body c.in_ok-term.term c.push.new.self c.args.at c.args.after c.in-Some.ensures
     (rw c.replace-inner.ensures.value at c.in_ok-body.ensures.events)
     (c.in_ok-term.ensures ∙ ap made c.new.ensures)
@@ -24,7 +24,7 @@ returns-clause-events c =
 pub returns-clause-openers : goal.returns-clause-openers
 returns-clause-openers c =
     let mode = c.args.self.now.mode in
-    let opener = opener_tree c.in-Some.frame.opening in
+    let opener = opener_tree c.in-Some.frame.group_kind in
     λ _. (
       opener_of opener,
       opened_after c.pop.new.self c.args.self.now.frames c.in-Some.frame c.in-Some.ensures,
@@ -38,5 +38,5 @@ returns-clause-good c =
     let term = c.in_ok-term.term in
     λ _. good_close c.args.self.now c.pop.new.self c.in-Some.frame c.push.new.self c.in-Some.ensures
     (λ inner outer. c.in_ok-push.ensures.good mode (subst (IsGoodLevel mode) (sym c.replace-inner.ensures.after) outer)
-    (good_group mode term c.new.result (opener_tree c.in-Some.frame.opening) c.in_ok-body.body c.in_ok-term.ensures
+    (good_group mode term c.new.result (opener_tree c.in-Some.frame.group_kind) c.in_ok-body.body c.in_ok-term.ensures
     (c.in_ok-body.ensures.good mode (subst (IsGoodLevel mode) (sym c.replace-inner.ensures.value) inner))))

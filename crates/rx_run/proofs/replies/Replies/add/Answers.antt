@@ -9,7 +9,7 @@ use Rattle.rx_model.specs.Reading.Headline.{IsAnswered}
 use Rattle.rx_tools.specs.declared.outcome.Canonical.{Canonical}
 use Rattle.rx_tools.specs.NotYet.{is_not_yet}
 use Rattle.rx_tools.specs.Spelled.{spelled_of}
-use Rattle.rx_tools.proofs.Answers.{read_already}
+use Rattle.rx_tools.proofs.CanonicalAnswers.{read_already}
 use Rattle.rx_parser.specs.Literals.{flags_chars}
 use Rattle.rx_run.specs.Request.{Request}
 use Rattle.rx_run.specs.Reply.{bad, later, bad_reply, later_reply, ok_reply, err_reply, input_of}

@@ -1,5 +1,5 @@
 use Rattle.std.proofs.Common.{refl, ap, ◌∙◌, option_map}
-use Rattle.rx_scan.specs.OpenGroups.{frames_of}
+use Rattle.rx_scan.specs.OpenGroups.{group_states_of}
 use Rattle.rx_scan.specs.FirstPass.{entries, first_clash, span_of, with_name}
 use Rattle.rx_scan.proofs.Passes.{clash_not}
 use Rattle.rx_scan.proofs.Captures.{added}
@@ -22,4 +22,4 @@ returns-clause-ok c =
       spells = c.as_str-3.ensures;
     })
     c.requires.knows
-    (clash_not (frames_of old.groups) opening.name (entries old) (c.in_default.ensures ∙ ap (λ name. option_map span_of (first_clash (frames_of old.groups) name (entries old))) c.as_str.ensures))
+    (clash_not (group_states_of old.groups) opening.name (entries old) (c.in_default.ensures ∙ ap (λ name. option_map span_of (first_clash (group_states_of old.groups) name (entries old))) c.as_str.ensures))

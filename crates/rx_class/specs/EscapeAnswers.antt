@@ -1,0 +1,63 @@
+-- What the readers of escapes answer behind a backslash, and where they leave the reader. A span has an offset added to both its ends.
+use Rattle.std.specs.Prelude.{◌≡◌, ℕ, ◌+◌, ◌-◌, ◌≤◌, false, ◌==◌, Option, Some, None, Result, Ok, Err, List, ◌∷◌, ◌++◌, length, drop}
+use Rattle.rx_base.specs.declared.diagnostic.Diagnostic.{Diagnostic}
+use Rattle.rx_base.specs.declared.span.Span.{Span}
+use Rattle.rx_units.specs.declared.code_point.CodePoint.{CodePoint}
+use Rattle.rx_units.specs.Cursor.{Cursor, front, moved, offset_of, rest}
+use Rattle.rx_units.specs.Units.{offset_at, values}
+use Rattle.rx_ast.specs.declared.leaf.Character.{Character}
+use Rattle.rx_ast.specs.declared.leaf.CharacterClassEscape.{CharacterClassEscape}
+use Rattle.rx_ast.specs.declared.leaf.CharacterClassEscapeKind.{CharacterClassEscapeKind}
+use Rattle.rx_ast.specs.declared.leaf.CharacterKind.{CharacterKind}
+use Rattle.rx_model.specs.Spelling.ClassText.{class_escape_text}
+use Rattle.rx_model.specs.Inputs.Environment.{Environment, environment_with, has_some}
+use Rattle.rx_model.specs.Refusals.EscapeCauses.{IsEscapeCause}
+use Rattle.rx_model.specs.Characters.Escapes.{SpellsEscape, front_is}
+use Rattle.rx_model.specs.Refusals.Firsts.{IsFirstOfEscape}
+use Rattle.rx_model.specs.Inputs.Modes.{mode_by}
+use Rattle.rx_scan.specs.declared.state.State.{State}
+use Rattle.rx_class.specs.Keeping.{KeepsUnits}
+
+-- what a state says of the environment: its mode, the number of groups, and whether some have names
+abbrev pub environment_of : State → Environment
+environment_of state =
+    environment_with (mode_by state.unicode_mode state.unicode_sets_mode) state.num_of_capturing_groups (has_some state.capturing_group_names)
+
+-- The reader stands behind a backslash, and the span begins before it.
+pub record IsBehindBackslash (r : Cursor) (span_start : ℕ) : Type 0 where
+  pub behind : 1 ≤ r.place
+  pub backslash : front (drop (r.place - 1) r.units) ≡ Some 92
+  pub start : span_start ≡ offset_at r.first r.units (r.place - 1)
+
+-- the units from the backslash before the reader's place on
+abbrev pub from_backslash : Cursor → List CodePoint
+from_backslash r = drop (r.place - 1) r.units
+
+-- no character escape stands at the front
+abbrev pub BeginsNoEscape : Environment → List ℕ → Type 0
+BeginsNoEscape e us = (kind : CharacterKind) (value : ℕ) (w more : List ℕ) → us ≡ w ++ more → SpellsEscape e kind value w more → ⊥
+
+-- the span from before the backslash to where the reader stands
+abbrev pub span_to : ℕ → ℕ → Cursor → Span
+span_to added start r = record { start = start + added; end = offset_of r + added }
+
+-- What stands at the reader's place is answered as a character escape (CharacterEscape, 22.2.1).
+pub data GivesCharacter (e : Environment) (added start : ℕ) (old new : Cursor) : Result (Option Character) Diagnostic → Type 0 where
+  -- one is spelled, and the reader moves over it
+  some : {it : Character} (w more : List CodePoint) → rest old ≡ w ++ more → SpellsEscape e it.kind it.value (values w) (values more) → it.value ≤ 0x10FFFF
+      → it.span ≡ span_to added start new → new ≡ moved (length w) old → GivesCharacter e added start old new (Ok (Some it))
+  -- none stands, nor the `u` of one, and the reader stays
+  none : new ≡ old → BeginsNoEscape e (values (rest old)) → front_is (λ c. c == 117) (values (rest old)) ≡ false → GivesCharacter e added start old new (Ok None)
+  -- none is spelled, and the first refusal of the escape that the backslash begins is answered
+  refused : {diagnostic : Diagnostic} → IsEscapeCause e.mode old.units old.first added (old.place - 1) (from_backslash old) diagnostic
+      → IsFirstOfEscape e.mode old.units old.first added (old.place - 1) (from_backslash old) diagnostic → BeginsNoEscape e (values (rest old)) → KeepsUnits old new
+      → GivesCharacter e added start old new (Err diagnostic)
+
+-- What stands at the reader's place is answered as a class escape (CharacterClassEscape, 22.2.1) that names no property.
+pub data GivesClassEscape (added start : ℕ) (old new : Cursor) : Option CharacterClassEscape → Type 0 where
+  -- one is spelled, its backslash before it, and the reader moves over it
+  some : {it : CharacterClassEscape} (w more : List CodePoint) → 92 ∷ values w ≡ class_escape_text it.kind → rest old ≡ w ++ more
+      → it.span ≡ span_to added start new → new ≡ moved 1 old → GivesClassEscape added start old new (Some it)
+  -- none stands, and the reader stays
+  none : new ≡ old → ((kind : CharacterClassEscapeKind) (w more : List ℕ) → 92 ∷ w ≡ class_escape_text kind → values (rest old) ≡ w ++ more → ⊥)
+      → GivesClassEscape added start old new None

@@ -1,0 +1,83 @@
+-- A name that is read behind `(?<` and `\k<` stands there, and where none is read this is for the reason that is said.
+use Rattle.std.proofs.Common.{◌≡◌, refl, sym, ap, ◌∙◌, subst, ℕ, ◌+◌, ◌<◌, Bool, true, false, ◌==◌, ◌&&◌, nat_lt, cond, Some, List, [], ◌∷◌, drop, arith}
+use Rattle.std.proofs.lemmas.Bool.{and_parts, cond-true, cond_both, eqb-true, ltb-true, true≢false}
+use Rattle.rx_model.specs.Characters.Decoding.{Decoded, value, invalid, overflow, decoded}
+use Rattle.rx_model.specs.Characters.UnicodeEscapes.{Decodes, PassesHex}
+use Rattle.rx_model.specs.FirstPass.Marks.{starts}
+use Rattle.rx_model.specs.Groups.GroupFronts.{closed_name, name_front}
+use Rattle.rx_model.specs.Groups.GroupNameReading.{NameRow, row, name_at}
+use Rattle.rx_model.specs.Groups.GroupNames.{BeginsWithName, IsNameRow, no_name, some_name, SpellsName, whole_name}
+use Rattle.rx_model.specs.Groups.NameFronts.{NameHalt, unterminated, misplaced, no_escape, no_escape_of_u, many_digits, NameRead, name_read, no_name_read, escape_halt, read_behind_name, read_from_row, name_read_at}
+use Rattle.rx_model.proofs.Characters.Decodings.{value_law, overflow_law}
+use Rattle.rx_model.proofs.Groups.GroupNames.{name_read as name_row_read, name_row_law}
+
+-- Behind so many units, which are the longest row of a name's characters, stands a backslash.
+pub record EscapeBehind (unicode_mode : Bool) (w : List ℕ) (count : ℕ) (behind : List ℕ) : Type 0 where
+  pub row : IsNameRow unicode_mode w count
+  pub there : drop count w ≡ 92 ∷ behind
+
+-- No unicode escape stands there.
+pub record NoEscape (w : List ℕ) : Type 0 where
+  pub no_value : (v n : ℕ) → Decodes true w v n → ⊥
+  pub no_limit : (many : ℕ) → PassesHex w many → ⊥
+
+-- Where no name ends, this is so.
+abbrev pub SaysNameHalt : Bool → List ℕ → NameHalt → Type 0
+SaysNameHalt m w (unterminated n) = IsNameRow m w n × (starts 92 (drop n w) ≡ false) × (starts 62 (drop n w) ≡ true → n ≡ 0)
+SaysNameHalt m w (misplaced count n) = (behind : List ℕ) × EscapeBehind m w count behind × (v : ℕ) × Decodes true behind v n
+SaysNameHalt m w (no_escape count) = (behind : List ℕ) × EscapeBehind m w count behind × NoEscape behind × ((m && starts 117 behind) ≡ false)
+SaysNameHalt m w (no_escape_of_u count) = (behind : List ℕ) × EscapeBehind m w count behind × NoEscape behind × ((m && starts 117 behind) ≡ true)
+SaysNameHalt m w (many_digits count many) = (behind : List ℕ) × EscapeBehind m w count behind × PassesHex behind many
+
+-- What a reading says of a text.
+abbrev pub SaysName : Bool → List ℕ → NameRead → Type 0
+SaysName m w (name_read name n) = BeginsWithName m w name n × (starts 62 (drop n w) ≡ true)
+SaysName m w (no_name_read it) = SaysNameHalt m w it
+
+module _ (m : Bool) (w : List ℕ) where
+  escape_said : (count : ℕ) (behind : List ℕ) → EscapeBehind m w count behind → (d : Decoded) → decoded true behind ≡ d → SaysNameHalt m w (escape_halt m count behind d)
+  escape_said count behind b (value v n) e = (behind, b, v, (value_law true behind v n).0 e)
+  escape_said count behind b (overflow many) e = (behind, b, ((overflow_law true behind many).0 e).1)
+  escape_said count behind b invalid e =
+      let none : NoEscape behind = record {
+        no_value = λ v n d. let no : ⊥ = cc (e, (value_law true behind v n).1 d) in no;
+        no_limit = λ many p. let no : ⊥ = cc (e, (overflow_law true behind many).1 (refl, p)) in no;
+      } in
+      cond_both (m && starts 117 behind) (no_escape_of_u count) (no_escape count) (SaysNameHalt m w) (λ u. (behind, b, none, u)) (λ u. (behind, b, none, u))
+
+  name_said : (name : List ℕ) (n : ℕ) → name_at m w ≡ row name n → 0 < n → IsNameRow m w n → starts 62 (drop n w) ≡ true → SaysName m w (name_read name n)
+  name_said name _ e some (no_name none) closed = absurd (omega arith)
+  name_said name n e some (some_name {name = other} b) closed =
+      let same : name ≡ other = cc (e, name_row_read m w other n b) in
+      (subst (λ name. BeginsWithName m w name n) (sym same) b, closed)
+
+  behind_said : (name : List ℕ) (n : ℕ) → name_at m w ≡ row name n → (rest : List ℕ) → drop n w ≡ rest → SaysName m w (read_behind_name m name n rest)
+  behind_said name n e [] f = (name_row_law m w name n e, ap (starts 92) f, λ closed. absurd (true≢false (sym closed ∙ ap (starts 62) f)))
+  behind_said name n e (c ∷ v) f =
+      let row = name_row_law m w name n e in
+      let other : NameRead = cond (c == 92) (no_name_read (escape_halt m n v (decoded true v))) (no_name_read (unterminated n)) in
+      cond_both (nat_lt 0 n && (c == 62)) (name_read name n) other (SaysName m w)
+      (λ t. let p = and_parts (nat_lt 0 n) (c == 62) t in name_said name n e (ltb-true 0 n p.0) row (ap (starts 62) f ∙ p.1))
+      (λ t. cond_both (c == 92) (no_name_read (escape_halt m n v (decoded true v))) (no_name_read (unterminated n)) (SaysName m w)
+      (λ s. escape_said n v (record { row = row; there = f ∙ ap (λ c. c ∷ v) (eqb-true c 92 s) }) (decoded true v) refl)
+      (λ s. (row, ap (starts 92) f ∙ s, λ closed. none n t (sym (ap (starts 62) f) ∙ closed))))
+    where
+      none : (n : ℕ) → (nat_lt 0 n && (c == 62)) ≡ false → (c == 62) ≡ true → n ≡ 0
+      none n t closed = grind (arith, closed, t)
+
+  -- What is read holds.
+  pub names_said : SaysName m w (name_read_at m w)
+  names_said = go (name_at m w) refl
+    where
+      go : (r : NameRow) → name_at m w ≡ r → SaysName m w (read_from_row m r w)
+      go (row name n) e = behind_said name n e (drop n w) refl
+
+  -- A name that is read is the token's.
+  pub name_there : (name : List ℕ) (n : ℕ) → name_read_at m w ≡ name_read name n → name_front m w ≡ Some (name, n + 1)
+  name_there name n h = closed (subst (SaysName m w) h names_said)
+    where
+      some : (name : List ℕ) (v rest : List ℕ) → SpellsName m name v rest → starts 62 (drop n w) ≡ true → closed_name (row name n) w ≡ Some (name, n + 1)
+      some _ _ _ (whole_name v u rest s parts) t = cond-true (starts 62 (drop n w)) _ _ t
+
+      closed : SaysName m w (name_read name n) → name_front m w ≡ Some (name, n + 1)
+      closed b = ap (λ r. closed_name r w) (name_row_read m w name n b.0) ∙ some name b.0.spelled b.0.rest b.0.spells b.1

@@ -1,0 +1,21 @@
+-- The modes that are read.
+use Rattle.std.proofs.Common.{◌≡◌, refl, sym, ap, ◌∙◌, true, false}
+use Rattle.rx_model.specs.declared.mode.Mode.{Mode}
+use Rattle.rx_model.specs.declared.mode.Mode.TheVariants.{Legacy, Unicode, Sets}
+use Rattle.rx_model.specs.Inputs.Modes.{is_read}
+use Rattle.rx_model.specs.Inputs.Environment.{is_sets}
+
+-- That of `u` is the only one that is read today.
+pub read_is_unicode : (mode : Mode) → is_read mode ≡ true → mode ≡ Unicode
+read_is_unicode Legacy h = absurd (let no : ⊥ = cc h in no)
+read_is_unicode Unicode h = refl
+read_is_unicode Sets h = absurd (let no : ⊥ = cc h in no)
+
+-- That of `v` is not read.
+pub not_sets : (mode : Mode) → is_read mode ≡ true → mode ≡ Sets → ⊥
+not_sets mode read sets = let no : is_read Sets ≡ true = ap is_read (sym sets) ∙ read in let k : ⊥ = cc no in k
+
+pub read_no_sets : (mode : Mode) → is_read mode ≡ true → is_sets mode ≡ false
+read_no_sets Legacy read = refl
+read_no_sets Unicode read = refl
+read_no_sets Sets read = absurd (let no : ⊥ = cc read in no)

@@ -1,0 +1,40 @@
+-- How a name and its `>` are read behind `(?<` and `\k<` (GroupName, 22.2.1): what stands, or why nothing does. What names mean stands in GroupNames.
+use Rattle.std.specs.Prelude.{ℕ, Bool, true, ◌==◌, ◌&&◌, nat_lt, List, [], ◌∷◌, drop, if◌then◌else◌}
+use Rattle.rx_model.specs.Characters.Decoding.{Decoded, value, invalid, overflow, decoded}
+use Rattle.rx_model.specs.FirstPass.Marks.{starts}
+use Rattle.rx_model.specs.Groups.GroupNameReading.{NameRow, row, name_at}
+
+-- What stands behind so many units of a name's characters where no name ends: neither an escape nor, behind some, a `>`; an escape of so many units,
+-- of what may not stand there; a backslash that begins no escape, or none though with `u` or `v` a `u` follows it; an escape whose digits pass 32 bits
+-- behind so many.
+pub data NameHalt : Type 0 where
+  unterminated : ℕ → NameHalt
+  misplaced : ℕ → ℕ → NameHalt
+  no_escape : ℕ → NameHalt
+  no_escape_of_u : ℕ → NameHalt
+  many_digits : ℕ → ℕ → NameHalt
+
+-- a name of so many units, which a `>` ends; or why there is none
+pub data NameRead : Type 0 where
+  name_read : List ℕ → ℕ → NameRead
+  no_name_read : NameHalt → NameRead
+
+-- behind so many units of a name and a backslash
+abbrev pub escape_halt : Bool → ℕ → List ℕ → Decoded → NameHalt
+escape_halt unicode_mode count w (value v n) = misplaced count n
+escape_halt unicode_mode count w (overflow many) = many_digits count many
+escape_halt unicode_mode count w invalid = if unicode_mode && starts 117 w then no_escape_of_u count else no_escape count
+
+-- behind so many units of a name, which are none where none begins
+abbrev pub read_behind_name : Bool → List ℕ → ℕ → List ℕ → NameRead
+read_behind_name unicode_mode name count [] = no_name_read (unterminated count)
+read_behind_name unicode_mode name count (c ∷ w) =
+    if nat_lt 0 count && (c == 62) then name_read name count
+    else (if c == 92 then no_name_read (escape_halt unicode_mode count w (decoded true w)) else no_name_read (unterminated count))
+
+abbrev pub read_from_row : Bool → NameRow → List ℕ → NameRead
+read_from_row unicode_mode (row name count) w = read_behind_name unicode_mode name count (drop count w)
+
+-- the name and the `>` at the front
+abbrev pub name_read_at : Bool → List ℕ → NameRead
+name_read_at unicode_mode w = read_from_row unicode_mode (name_at unicode_mode w) w

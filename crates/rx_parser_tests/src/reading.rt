@@ -1,0 +1,139 @@
+ghost use Rattle.std.specs.Prelude.{◌≡◌, ◌≤◌, IfSome, length};
+
+use rx_base::Fault;
+use rx_rows::{Call, agree, short};
+use rx_tools::{Canonical, Form, Options, canonical};
+use std::alloc::Global;
+use std::test::Fail;
+
+/// Asked are the flags, `-` where there are none, a blank and the pattern.
+#[derive(Clone, Copy)]
+struct CanonicalCall {
+    form: Form,
+    at_seven: bool,
+}
+
+/// A literal whose pattern stands at byte 0, and its flags at byte 7.
+const LITERAL: CanonicalCall = CanonicalCall {
+    form: Form::Literal,
+    at_seven: true,
+};
+
+const AT_ZERO: CanonicalCall = CanonicalCall {
+    form: Form::Literal,
+    at_seven: false,
+};
+
+const CONSTRUCTOR: CanonicalCall = CanonicalCall {
+    form: Form::Constructor,
+    at_seven: false,
+};
+
+impl Call for CanonicalCall {
+    fn answer(&self, alloc: Global, asked: &str) -> Result<String, Fail> {
+        let (flags, pattern) = asked.split_once(' ').ok_or("no blank")?;
+        let flags = given(short(flags)?);
+        let options = Options {
+            pattern_span_offset: 0,
+            flags_span_offset: if self.at_seven { 7 } else { 0 },
+        };
+        shown(
+            alloc,
+            canonical(alloc, self.form, short(pattern)?, flags, options),
+        )
+    }
+}
+
+fn given(flags: &str) -> Option<&str>
+    ensures { IfSome result (λ it. length it.now ≤ length flags.now) }
+{
+    if flags == "-" { None } else { Some(flags) }
+}
+
+/// The mode, the spelling and the span of what is read; or the refusal with its spans.
+fn shown(alloc: Global, answer: Result<Canonical, Fault>) -> Result<String, Fail> {
+    match answer {
+        Ok(it) => Ok(format!(in alloc;
+            "{:?} {} {}..{}",
+            it.mode,
+            it.text.as_str(),
+            it.pattern.span.start,
+            it.pattern.span.end
+        )?),
+        Err(Fault::Diagnostic(cause)) => Ok(format!(in alloc;
+            "{} {:?} {:?}",
+            cause.name(),
+            cause.first_span(),
+            cause.second_span()
+        )?),
+        Err(Fault::NotYet) => Ok(String::from_str(alloc, "not yet")?),
+        Err(Fault::OutOfMemory) => Err(Fail::new("out of memory")),
+    }
+}
+
+#[test]
+fn not_yet(rt: HostRuntime) -> Result<(), Fail> {
+    let rows = "- [a] => not yet
+iv (a[b]) => not yet
+v \\p{L} => not yet
+-  => not yet
+- a => not yet
+ a => not yet
+gi a => not yet
+v a => not yet";
+    agree(rt.alloc(), &AT_ZERO, rows)?;
+    let rows = "u \"[a]\" => not yet
+\"gg\" \"a\" => not yet";
+    agree(rt.alloc(), &CONSTRUCTOR, rows)
+}
+
+#[test]
+fn options_are_zero_where_none_are_given(rt: HostRuntime) {
+    let options = Options::default();
+    assert_eq!(rt;
+        (options.pattern_span_offset, options.flags_span_offset),
+        (0, 0)
+    );
+}
+
+#[test]
+fn flags(rt: HostRuntime) -> Result<(), Fail> {
+    let rows = "u a => Unicode a 0..1
+ui a => Unicode a 0..1
+su a => Unicode a 0..1
+dgimsuy a => Unicode a 0..1";
+    agree(rt.alloc(), &AT_ZERO, rows)?;
+    let rows = "gg ( => duplicated_flags Span { start: 8, end: 9 } None
+ux ( => unknown_flag Span { start: 8, end: 9 } None
+uv ( => invalid_unicode_flags Span { start: 8, end: 9 } None
+vu ( => invalid_unicode_flags Span { start: 8, end: 9 } None
+é ( => unknown_flag Span { start: 7, end: 9 } None";
+    agree(rt.alloc(), &LITERAL, rows)
+}
+
+#[test]
+fn spans_end_at_the_greatest_offset(rt: HostRuntime) -> Result<(), Fail> {
+    let options = Options {
+        pattern_span_offset: 4294967291,
+        flags_span_offset: 0,
+    };
+    let answer = canonical(rt.alloc(), Form::Literal, "", Some("u"), options);
+    let text = shown(rt.alloc(), answer)?;
+    assert_eq!(rt; text.as_str(), "Unicode (?:) 4294967291..4294967295");
+    Ok(())
+}
+
+#[test]
+fn spans_of_flags_end_at_the_greatest_offset(rt: HostRuntime) -> Result<(), Fail> {
+    let options = Options {
+        pattern_span_offset: 0,
+        flags_span_offset: 4294967294,
+    };
+    let answer = canonical(rt.alloc(), Form::Literal, "a", Some("x"), options);
+    let text = shown(rt.alloc(), answer)?;
+    assert_eq!(rt;
+        text.as_str(),
+        "unknown_flag Span { start: 4294967294, end: 4294967295 } None"
+    );
+    Ok(())
+}

@@ -1,0 +1,39 @@
+ghost use Rattle.std.specs.Prelude.{◌+◌, ◌<◌, ◌^◌, length};
+
+use crate::shown::outline;
+use rx_ast::Pattern;
+use rx_base::Fault;
+use rx_parser::{LiteralParser, Options, PatternParser};
+use rx_units::{Reader, ReaderFault};
+use std::alloc::Global;
+
+/// The tree of a short text under `u`.
+fn read_units(alloc: Global, text: &str, span_offset: u32) -> Result<Pattern, Fault>
+    requires { length text.now + span_offset < 2 ^ 32 }
+{
+    let reader = match Reader::initialize(alloc, text, true, false) {
+        Ok(reader) => reader,
+        Err(ReaderFault::OutOfMemory) => return Err(Fault::OutOfMemory),
+    };
+    PatternParser::new(alloc, reader, (true, false), span_offset).parse()
+}
+
+const OUTLINE: &str = "10..15 | 10..13 10..11 11..12 12..13 | 14..15 14..15";
+
+#[test]
+fn a_literal_is_read(rt: HostRuntime) -> Result<(), Fault> {
+    let options = Options {
+        pattern_span_offset: 10,
+        flags_span_offset: 20,
+    };
+    let pattern = LiteralParser::new(rt.alloc(), "a.b|c", Some("u"), options).parse()?;
+    assert_eq!(rt; outline(rt.alloc(), &pattern)?.as_str(), OUTLINE);
+    Ok(())
+}
+
+#[test]
+fn the_units_of_a_literal_are_read_alike(rt: HostRuntime) -> Result<(), Fault> {
+    let pattern = read_units(rt.alloc(), "a.b|c", 10)?;
+    assert_eq!(rt; outline(rt.alloc(), &pattern)?.as_str(), OUTLINE);
+    Ok(())
+}

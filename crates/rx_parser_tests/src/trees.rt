@@ -1,0 +1,102 @@
+use crate::shown::{outline, terms};
+use rx_base::Fault;
+use rx_rows::{Call, agree, short};
+use rx_tools::{Canonical, Form, Mode, Options, canonical, canonical_text};
+use std::alloc::Global;
+use std::test::Fail;
+
+/// Reads a short pattern under `u`.
+fn read(alloc: Global, pattern: &str, pattern_span_offset: u32) -> Result<Canonical, Fail> {
+    let options = Options {
+        pattern_span_offset: pattern_span_offset.min(1000),
+        flags_span_offset: 0,
+    };
+    let answer = canonical(alloc, Form::Literal, short(pattern)?, Some("u"), options);
+    match answer {
+        Ok(it) => Ok(it),
+        Err(fault) => Err(Fail::from(fault)),
+    }
+}
+
+/// The mode, the spelling, and that of a copy of the tree.
+#[derive(Clone, Copy)]
+struct SpellingCall;
+
+impl Call for SpellingCall {
+    fn answer(&self, alloc: Global, asked: &str) -> Result<String, Fail> {
+        let it = read(alloc, asked, 7)?;
+        let copy = it.pattern.clone(alloc)?;
+        let again = canonical_text(alloc, &copy, it.mode)?;
+        if it.mode != Mode::Unicode || again.as_str() != it.text.as_str() {
+            return Err(Fail::new("another mode, or another copy"));
+        }
+        Ok(String::from_str(alloc, again.as_str())?)
+    }
+}
+
+#[test]
+fn texts(rt: HostRuntime) -> Result<(), Fail> {
+    let rows = "a.b|c => a.b|c
+a/b => a\\/b
+\\x41B => AB
+\\uD83D\\uDE00 => \u{1F600}
+a{0,1} => a?
+ => (?:)
+(?mi-:a)|(?!b) => (?im:a)|(?!b)
+(?<\\u0061>.)\\k<a>\\1\\x32 => (?<a>.)\\k<a>\\1\\x32
+[^\\x61-c\\b-] => [^a-c\\x08\\-]
+\\p{General_Category=L}\\P{sc=Greek} => \\p{L}\\P{sc=Greek}";
+    agree(rt.alloc(), &SpellingCall, rows)
+}
+
+/// The spans of a pattern at a byte.
+#[derive(Clone, Copy)]
+struct OutlineCall {
+    offset: u32,
+}
+
+impl Call for OutlineCall {
+    fn answer(&self, alloc: Global, asked: &str) -> Result<String, Fail> {
+        let it = read(alloc, asked, self.offset)?;
+        Ok(outline(alloc, &it.pattern)?)
+    }
+}
+
+#[test]
+fn spans(rt: HostRuntime) -> Result<(), Fail> {
+    let rows = "a.b|c => 0..5 | 0..3 0..1 1..2 2..3 | 4..5 4..5";
+    agree(rt.alloc(), &OutlineCall { offset: 0 }, rows)?;
+    let rows = "a.b|c => 10..15 | 10..13 10..11 11..12 12..13 | 14..15 14..15";
+    agree(rt.alloc(), &OutlineCall { offset: 10 }, rows)
+}
+
+/// The terms of the first alternative.
+#[derive(Clone, Copy)]
+struct TermsCall;
+
+impl Call for TermsCall {
+    fn answer(&self, alloc: Global, asked: &str) -> Result<String, Fail> {
+        let it = read(alloc, asked, 0)?;
+        Ok(terms(alloc, &it.pattern)?)
+    }
+}
+
+#[test]
+fn groups(rt: HostRuntime) -> Result<(), Fail> {
+    let rows =
+        "(?<é>a)(?i-m:b)\\1\\k<é> => 0..8 é 6..7; 8..16 10..13 1 2; 16..18 reference 1; 18..24 reference é;
+a. => 0..1 Symbol 61; 1..2 dot;";
+    agree(rt.alloc(), &TermsCall, rows)
+}
+
+#[test]
+fn characters(rt: HostRuntime) -> Result<(), Fail> {
+    let rows = "\\x41B => 0..4 HexadecimalEscape 41; 4..5 Symbol 42;
+\\uD83D\\uDE00 => 0..12 UnicodeEscape 1f600;
+\\u{D83D}\\u{DE00} => 0..8 UnicodeEscape d83d; 8..16 UnicodeEscape de00;
+é\\0 => 0..2 Symbol e9; 2..4 Null 0;
+\\cA => 0..3 ControlLetter 1;
+\\/ => 0..2 Identifier 2f;
+\\n => 0..2 SingleEscape a;";
+    agree(rt.alloc(), &TermsCall, rows)
+}

@@ -1,0 +1,13 @@
+//! Tests of the program over memory: what no clause says. The replies to patterns are the table of `rx_replies`.
+#![tactic(auto)]
+
+#[cfg(test)]
+mod depth;
+#[cfg(test)]
+mod ends;
+#[cfg(test)]
+mod limits;
+#[cfg(test)]
+mod memory;
+#[cfg(test)]
+mod running;

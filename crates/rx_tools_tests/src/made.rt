@@ -1,0 +1,195 @@
+//! Parts of trees, with no spans.
+use rx_ast::{
+    Alternative, BoundaryAssertion, BoundaryAssertionKind, CapturingGroup, Character,
+    CharacterClass, CharacterClassContents, CharacterClassContentsKind, CharacterClassEscape,
+    CharacterClassEscapeKind, CharacterKind, Disjunction, Dot, IgnoreGroup, IndexedReference,
+    LookAroundAssertion, LookAroundAssertionKind, Modifier, Modifiers, NamedReference, Pattern,
+    Quantifier, Term, UnicodePropertyEscape,
+};
+use rx_base::{List, OutOfMemory, Span, Text};
+use rx_tools::{Mode, canonical_text};
+use std::alloc::Global;
+
+pub fn nowhere() -> Span {
+    Span::empty(0)
+}
+
+/// The canonical spelling of these alternatives.
+pub fn spelled_disjunction(
+    alloc: Global,
+    mode: Mode,
+    body: List<Alternative>,
+) -> Result<Text, OutOfMemory> {
+    let span = nowhere();
+    let pattern = Pattern {
+        span,
+        body: Disjunction { span, body },
+    };
+    canonical_text(alloc, &pattern, mode)
+}
+
+/// The canonical spelling of these terms.
+pub fn spelled(alloc: Global, mode: Mode, body: List<Term>) -> Result<Text, OutOfMemory> {
+    let span = nowhere();
+    let mut alternatives = List::new(alloc);
+    alternatives.push(Alternative { span, body })?;
+    spelled_disjunction(alloc, mode, alternatives)
+}
+
+/// The canonical spelling of this term.
+pub fn spelled_term(alloc: Global, mode: Mode, term: Term) -> Result<Text, OutOfMemory> {
+    let mut terms = List::new(alloc);
+    terms.push(term)?;
+    spelled(alloc, mode, terms)
+}
+
+pub fn disjunction_of(alloc: Global, term: Term) -> Result<Disjunction, OutOfMemory> {
+    let mut terms = List::new(alloc);
+    terms.push(term)?;
+    let span = nowhere();
+    let mut body = List::new(alloc);
+    body.push(Alternative { span, body: terms })?;
+    Ok(Disjunction { span, body })
+}
+
+pub fn symbol(value: u32) -> Character {
+    Character {
+        span: nowhere(),
+        kind: CharacterKind::Symbol,
+        value,
+    }
+}
+
+pub fn dot() -> Term {
+    Term::Dot(Dot { span: nowhere() })
+}
+
+pub fn character(alloc: Global, value: u32) -> Result<Term, OutOfMemory> {
+    Ok(Term::Character(Box::new(alloc, symbol(value))?))
+}
+
+pub fn of_kind(alloc: Global, kind: CharacterKind, value: u32) -> Result<Term, OutOfMemory> {
+    let it = Character {
+        span: nowhere(),
+        kind,
+        value,
+    };
+    Ok(Term::Character(Box::new(alloc, it)?))
+}
+
+pub fn boundary(alloc: Global, kind: BoundaryAssertionKind) -> Result<Term, OutOfMemory> {
+    let span = nowhere();
+    Ok(Term::BoundaryAssertion(Box::new(alloc, BoundaryAssertion { span, kind })?))
+}
+
+pub fn class_escape(alloc: Global, kind: CharacterClassEscapeKind) -> Result<Term, OutOfMemory> {
+    let span = nowhere();
+    Ok(Term::CharacterClassEscape(Box::new(alloc, CharacterClassEscape { span, kind })?))
+}
+
+/// A look-around of a dot.
+pub fn looking(alloc: Global, kind: LookAroundAssertionKind) -> Result<Term, OutOfMemory> {
+    let span = nowhere();
+    let body = disjunction_of(alloc, dot())?;
+    Ok(Term::LookAroundAssertion(Box::new(alloc, LookAroundAssertion { span, kind, body })?))
+}
+
+pub fn reference(alloc: Global) -> Result<Term, OutOfMemory> {
+    let it = IndexedReference {
+        span: nowhere(),
+        index: 1,
+    };
+    Ok(Term::IndexedReference(Box::new(alloc, it)?))
+}
+
+pub fn named(alloc: Global) -> Result<Term, OutOfMemory> {
+    let it = NamedReference {
+        span: nowhere(),
+        name: Text::from_str(alloc, "n")?,
+    };
+    Ok(Term::NamedReference(Box::new(alloc, it)?))
+}
+
+pub fn quantified(
+    alloc: Global,
+    min: u64,
+    max: Option<u64>,
+    greedy: bool,
+    body: Term,
+) -> Result<Term, OutOfMemory> {
+    let quantifier = Quantifier {
+        span: nowhere(),
+        min,
+        max,
+        greedy,
+        body,
+    };
+    Ok(Term::Quantifier(Box::new(alloc, quantifier)?))
+}
+
+pub fn group_of(alloc: Global, name: Option<Text>, term: Term) -> Result<Term, OutOfMemory> {
+    let group = CapturingGroup {
+        span: nowhere(),
+        name,
+        body: disjunction_of(alloc, term)?,
+    };
+    Ok(Term::CapturingGroup(Box::new(alloc, group)?))
+}
+
+/// A group of a dot.
+pub fn ignoring(alloc: Global, modifiers: Option<Modifiers>) -> Result<Term, OutOfMemory> {
+    let group = IgnoreGroup {
+        span: nowhere(),
+        modifiers,
+        body: disjunction_of(alloc, dot())?,
+    };
+    Ok(Term::IgnoreGroup(Box::new(alloc, group)?))
+}
+
+/// A group of a dot with modifiers of these bits.
+pub fn modified(alloc: Global, enabling: u32, disabling: u32) -> Result<Term, OutOfMemory> {
+    let modifiers = Modifiers {
+        span: nowhere(),
+        enabling: modifier(enabling),
+        disabling: modifier(disabling),
+    };
+    ignoring(alloc, Some(modifiers))
+}
+
+fn modifier(bits: u32) -> Modifier {
+    Modifier::from_bits_retain(bits.min(255) as u8)
+}
+
+pub fn property(
+    alloc: Global,
+    negative: bool,
+    name: &str,
+    value: Option<Text>,
+) -> Result<UnicodePropertyEscape, OutOfMemory> {
+    Ok(UnicodePropertyEscape {
+        span: nowhere(),
+        negative,
+        strings: false,
+        name: Text::from_str(alloc, name)?,
+        value,
+    })
+}
+
+pub fn in_class(alloc: Global, value: u32) -> Result<CharacterClassContents, OutOfMemory> {
+    let it = Box::new(alloc, symbol(value))?;
+    Ok(CharacterClassContents::Character(it))
+}
+
+pub fn union(body: List<CharacterClassContents>) -> CharacterClass {
+    CharacterClass {
+        span: nowhere(),
+        negative: false,
+        strings: false,
+        kind: CharacterClassContentsKind::Union,
+        body,
+    }
+}
+
+pub fn class_term(alloc: Global, class: CharacterClass) -> Result<Term, OutOfMemory> {
+    Ok(Term::CharacterClass(Box::new(alloc, class)?))
+}

@@ -1,0 +1,139 @@
+//! Trees as texts of signs, each of which stands for a term.
+use crate::made::{
+    boundary, character, class_escape, class_term, dot, group_of, ignoring, in_class, looking,
+    modified, named, nowhere, of_kind, quantified, reference, spelled, spelled_disjunction, union,
+};
+use rx_ast::{
+    Alternative, BoundaryAssertionKind, CharacterClassEscapeKind, CharacterKind,
+    LookAroundAssertionKind, Term,
+};
+use rx_base::{List, OutOfMemory, Text};
+use rx_rows::Call;
+use rx_tools::Mode;
+use std::alloc::Global;
+use std::test::Fail;
+
+/// The canonical spelling of alternatives, with bars between them.
+#[derive(Clone, Copy)]
+pub struct SpellingCall {
+    pub mode: Mode,
+}
+
+impl Call for SpellingCall {
+    fn answer(&self, alloc: Global, asked: &str) -> Result<String, Fail> {
+        let mut alternatives = List::new(alloc);
+        for signs in asked.split('|') {
+            let body = terms_of(alloc, signs)?;
+            let span = nowhere();
+            alternatives.push(Alternative { span, body })?;
+        }
+        let text = spelled_disjunction(alloc, self.mode, alternatives)?;
+        Ok(String::from_str(alloc, text.as_str())?)
+    }
+}
+
+/// One term for each sign.
+fn terms_of(alloc: Global, signs: &str) -> Result<List<Term>, OutOfMemory> {
+    let mut terms = List::new(alloc);
+    for sign in signs.chars() {
+        terms.push(term_of(alloc, sign)?)?;
+    }
+    Ok(terms)
+}
+
+fn term_of(alloc: Global, sign: char) -> Result<Term, OutOfMemory> {
+    match sign {
+        '1' => reference(alloc),
+        '9' => character(alloc, 0x39),
+        'q' => quantified(alloc, 0, None, true, reference(alloc)?),
+        'm' => quantified(alloc, 0, None, true, character(alloc, 0x39)?),
+        'c' => digit_class(alloc),
+        'n' => named(alloc),
+        '.' => Ok(dot()),
+        _ => escape_of(alloc, sign),
+    }
+}
+
+fn digit_class(alloc: Global) -> Result<Term, OutOfMemory> {
+    let mut body = List::new(alloc);
+    body.push(in_class(alloc, 0x39)?)?;
+    class_term(alloc, union(body))
+}
+
+fn escape_of(alloc: Global, sign: char) -> Result<Term, OutOfMemory> {
+    let kind = match sign {
+        'd' => CharacterClassEscapeKind::D,
+        'D' => CharacterClassEscapeKind::NegativeD,
+        's' => CharacterClassEscapeKind::S,
+        'S' => CharacterClassEscapeKind::NegativeS,
+        'w' => CharacterClassEscapeKind::W,
+        'W' => CharacterClassEscapeKind::NegativeW,
+        _ => return boundary_of(alloc, sign),
+    };
+    class_escape(alloc, kind)
+}
+
+fn boundary_of(alloc: Global, sign: char) -> Result<Term, OutOfMemory> {
+    let kind = match sign {
+        '^' => BoundaryAssertionKind::Start,
+        '$' => BoundaryAssertionKind::End,
+        'b' => BoundaryAssertionKind::Boundary,
+        'B' => BoundaryAssertionKind::NegativeBoundary,
+        'A' => BoundaryAssertionKind::StartBuffer,
+        'z' => BoundaryAssertionKind::EndBuffer,
+        'Z' => BoundaryAssertionKind::EndBufferOptionalNewline,
+        _ => return look_of(alloc, sign),
+    };
+    boundary(alloc, kind)
+}
+
+fn look_of(alloc: Global, sign: char) -> Result<Term, OutOfMemory> {
+    let kind = match sign {
+        '=' => LookAroundAssertionKind::Lookahead,
+        '!' => LookAroundAssertionKind::NegativeLookahead,
+        '<' => LookAroundAssertionKind::Lookbehind,
+        '>' => LookAroundAssertionKind::NegativeLookbehind,
+        _ => return group_with(alloc, sign),
+    };
+    looking(alloc, kind)
+}
+
+fn group_with(alloc: Global, sign: char) -> Result<Term, OutOfMemory> {
+    match sign {
+        '(' => group_of(alloc, None, dot()),
+        'N' => group_of(alloc, Some(Text::from_str(alloc, "größe")?), dot()),
+        'g' => group_of(alloc, None, character(alloc, 0x39)?),
+        'h' => group_of(alloc, None, reference(alloc)?),
+        ':' => ignoring(alloc, None),
+        _ => unspelled(alloc, sign),
+    }
+}
+
+/// A term that no text spells.
+fn unspelled(alloc: Global, sign: char) -> Result<Term, OutOfMemory> {
+    match sign {
+        '0' => character(alloc, 0xFFFFFFFF),
+        '2' => of_kind(alloc, CharacterKind::Null, 0x41),
+        '3' => of_kind(alloc, CharacterKind::ControlLetter, 0x1F),
+        '4' => quantified(alloc, 5, Some(2), true, dot()),
+        '5' => quantified(
+            alloc,
+            0,
+            None,
+            true,
+            quantified(alloc, 0, None, true, dot())?,
+        ),
+        '6' => modified(alloc, 0, 0xF8),
+        '7' => character(alloc, 0xD83D),
+        _ => character(alloc, 0xDE00),
+    }
+}
+
+/// The canonical spelling of these characters.
+pub fn characters_outside(alloc: Global, mode: Mode, values: &[u32]) -> Result<Text, OutOfMemory> {
+    let mut terms = List::new(alloc);
+    for value in values {
+        terms.push(character(alloc, *value)?)?;
+    }
+    spelled(alloc, mode, terms)
+}
