@@ -1,6 +1,6 @@
 -- What stands behind a backslash in a class, and what is answered of it.
 use Rattle.std.proofs.Common.{◌≡◌, ◌≢◌, refl, sym, ap, ◌∙◌, subst, ℕ, suc, ◌+◌, ◌-◌, ◌≤◌, ◌==◌, nat_le, Bool, true, false, not, ◌&&◌, Option, Some, None, Ok, Err, All, get_or, List, [], ◌∷◌, ◌++◌, length, min, codes, arith, inl, inr}
-use Rattle.std.proofs.lemmas.Bool.{eqb-true, false_from_ne_true, not-true, true≢false}
+use Rattle.std.proofs.lemmas.Bool.{cases_Bool, eqb-true, false_from_ne_true, not-true, true≢false}
 use Rattle.std.proofs.lemmas.Bool.Decides.{nat_tests}
 use Rattle.std.proofs.lemmas.List.{length-map}
 use Rattle.std.proofs.lemmas.List.Elements.{All-head}
@@ -24,20 +24,24 @@ use Rattle.rx_model.specs.Refusals.ClassPlaces.{IsAtomPlace}
 use Rattle.rx_model.specs.Classes.ClassRows.{SpellsAtom, SpellsClassCharacter, SpellsInClassAlone, stands_raw_in_class}
 use Rattle.rx_model.specs.Classes.ClassRows as row
 use Rattle.rx_model.specs.Classes.ClassRuns.{atom_obeys}
+use Rattle.rx_model.specs.Classes.ClassTokens.{character}
 use Rattle.rx_model.specs.Spelling.ClassText.{class_escape_text}
 use Rattle.rx_model.specs.Inputs.Environment.{Environment, is_unicode}
-use Rattle.rx_model.specs.Characters.EscapeFronts.{class_escape_at}
-use Rattle.rx_model.specs.Characters.Escapes.{control, front_is, hexadecimal, identity, is_identity_escape, letter, null}
+use Rattle.rx_model.specs.Characters.EscapeFronts.{EscapeRead, any_escape_at, class_escape_at, escaped, nothing}
+use Rattle.rx_model.specs.Characters.EscapeFronts.{escape_at}
+use Rattle.rx_model.specs.Characters.Escapes.{SpellsEscape, control, front_is, hexadecimal, identity, is_identity_escape, letter, null}
 use Rattle.rx_model.specs.Properties.PropertyForms.{begins_property}
 use Rattle.rx_model.specs.Refusals.Reached.{span_between, text_environment}
 use Rattle.rx_model.specs.Refusals.Stops.{begins_class_escape, is_hex_digit, is_hyphen_escaped, is_letter, is_one_of, two_hex_digits}
 use Rattle.rx_model.proofs.Characters.Decodings.{both, chosen}
 use Rattle.rx_class.specs.declared.class_atom.ClassAtom.{ClassAtom}
 use Rattle.rx_class.specs.declared.class_atom.ClassAtom.TheVariants as atom
-use Rattle.rx_class.specs.EscapeAnswers.{BeginsNoEscape, GivesCharacter, GivesClassEscape, IsBehindBackslash, from_backslash, span_to}
+use Rattle.rx_class.specs.EscapeAnswers.{GivesClassEscape, IsBehindBackslash, from_backslash, span_to}
 use Rattle.rx_class.specs.EscapeAnswers as given
 use Rattle.rx_class.specs.ClassItems.{GivesAtom, StandsItem, IsOfText, alone_in_class, atom_of, atom_span, back, kind_in_class}
 use Rattle.rx_class.specs.ClassItems as answer
+use Rattle.rx_class.specs.Found.{AnswersFound}
+use Rattle.rx_class.specs.Found as found
 use Rattle.rx_class.specs.PropertyAnswers.{BeginsNoProperty, GivesProperty}
 use Rattle.rx_class.specs.PropertyAnswers as given_property
 use Rattle.rx_class.proofs.Keeping.{keeps_placed, stays_keeps}
@@ -45,24 +49,27 @@ use Rattle.rx_class.proofs.PropertySpans.{cut_off, next_span}
 use Rattle.rx_model.specs.FirstPass.Marks.{starts}
 use Rattle.rx_model.specs.Inputs.Modes.{is_read}
 use Rattle.rx_model.proofs.Characters.Backslashes.{class_found, no_right}
-use Rattle.rx_model.proofs.Classes.ClassFronts.{class_letter}
-use Rattle.rx_model.proofs.Inputs.Modes.{read_is_unicode}
+use Rattle.rx_model.proofs.Characters.Escapes.{escape_nothing}
+use Rattle.rx_model.proofs.Characters.LegacyEscapes.{IsCharacterOrNothing, any_in_unicode, any_read, any_refused, any_spelled}
+use Rattle.rx_model.proofs.Classes.ClassFronts.{any_there, class_letter}
+use Rattle.rx_model.proofs.Inputs.Modes.{read_in_unicode}
 use Rattle.rx_model.proofs.Refusals.Stops.{some_there, two_number}
 use Rattle.rx_class.proofs.Behind.{StandsBehind, stands, stands_within}
-use Rattle.rx_class.proofs.Modes.{no_strings, read_hyphen, read_raw, read_unicode}
+use Rattle.rx_class.proofs.Gives.{nothing_in_legacy, refusal_cause, refusal_keeps}
+use Rattle.rx_class.proofs.Modes.{no_strings, read_hyphen, read_raw}
 
 -- no class escape stands behind a backslash
 abbrev BeginsNoClassEscape : List ℕ → Type 0
 BeginsNoClassEscape us = (kind : CharacterClassEscapeKind) (w more : List ℕ) → 92 ∷ w ≡ class_escape_text kind → us ≡ w ++ more → ⊥
 
 -- Behind a backslash stands neither what is a character in classes alone, nor a class escape, nor the letter of a property escape.
-pub record BeginsNone (us : List ℕ) : Type 0 where
-  pub no_alone : alone_in_class us ≡ None
+pub record BeginsNone (e : Environment) (us : List ℕ) : Type 0 where
+  pub no_alone : alone_in_class (is_unicode e.mode) us ≡ None
   pub no_class : BeginsNoClassEscape us
-  pub no_letter : front_is begins_property us ≡ false
+  pub no_letter : is_unicode e.mode ≡ true → front_is begins_property us ≡ false
 
-not_alone : (c : ℕ) (w : List ℕ) → alone_in_class (c ∷ w) ≡ None → ((c == 98) ≡ false) × ((c == 45) ≡ false)
-not_alone c w h = (grind (arith, nat_tests), grind (arith, nat_tests))
+not_alone : (unicode : Bool) (c : ℕ) (w : List ℕ) → alone_in_class unicode (c ∷ w) ≡ None → ((c == 98) ≡ false) × ((unicode && c == 45) ≡ false)
+not_alone unicode c w h = (grind (arith, nat_tests), grind (arith, nat_tests))
 
 none_there : {A : Type 0} (o : Option A) → ((it : A) → o ≡ Some it → ⊥) → o ≡ None
 none_there None h = refl
@@ -79,13 +86,17 @@ one_unit kind w h = let letter = class_letter kind in omega (arith, ap length (h
 no_letter_begins : (c : ℕ) → (c == 117) ≡ false → begins_property c ≡ false → (c == 98) ≡ false → class_escape_at c ≡ None → control_escape_value c ≡ None → is_one_of (codes "upPbdDsSwWfnrtv") c ≡ false
 no_letter_begins c u p b d f = grind (arith, nat_tests)
 
+-- no escape is spelled behind a backslash
+abbrev SpellsNone : Environment → List ℕ → Type 0
+SpellsNone e us = (kind : CharacterKind) (v : ℕ) (w more : List ℕ) → us ≡ w ++ more → SpellsEscape e kind v w more → ⊥
+
 -- Where nothing stands behind a backslash, no escape of a class begins.
 module _ (e : Environment) (unicode : is_unicode e.mode ≡ true) where
-  no_control_letter : (w : List ℕ) → BeginsNoEscape e (99 ∷ w) → front_is is_letter w ≡ true → ⊥
+  no_control_letter : (w : List ℕ) → SpellsNone e (99 ∷ w) → front_is is_letter w ≡ true → ⊥
   no_control_letter [] none h = cc h
   no_control_letter (c ∷ w) none h = let v = some_there (control_letter_value c) h in none kinds.ControlLetter v.0 (99 ∷ c ∷ []) w refl (letter v.1)
 
-  no_digits : (w : List ℕ) → BeginsNoEscape e (120 ∷ w) → two_hex_digits w ≡ true → ⊥
+  no_digits : (w : List ℕ) → SpellsNone e (120 ∷ w) → two_hex_digits w ≡ true → ⊥
   no_digits [] none h = cc h
   no_digits (a ∷ []) none h = let f = (both (is_hex_digit a) false h).1 in cc f
   no_digits (a ∷ b ∷ w) none h =
@@ -94,13 +105,14 @@ module _ (e : Environment) (unicode : is_unicode e.mode ≡ true) where
       let j = some_there (hex_digit_value b) p.1 in
       none kinds.HexadecimalEscape _ (120 ∷ a ∷ b ∷ []) w refl (hexadecimal (two_number a b i.0 j.0 i.1 j.1))
 
-  with_first : (c d : ℕ) (w : List ℕ) → (c == d) ≡ true → BeginsNoEscape e (c ∷ w) → BeginsNoEscape e (d ∷ w)
-  with_first c d w h none = subst (λ c. BeginsNoEscape e (c ∷ w)) (eqb-true c d h) none
+  with_first : (c d : ℕ) (w : List ℕ) → (c == d) ≡ true → SpellsNone e (c ∷ w) → SpellsNone e (d ∷ w)
+  with_first c d w h none = subst (λ c. SpellsNone e (c ∷ w)) (eqb-true c d h) none
 
-  begins_nothing : (us : List ℕ) → BeginsNone us → front_is (λ c. c == 117) us ≡ false → BeginsNoEscape e us → begins_class_escape e us ≡ false
+  begins_nothing : (us : List ℕ) → BeginsNone e us → front_is (λ c. c == 117) us ≡ false → SpellsNone e us → begins_class_escape e us ≡ false
   begins_nothing [] b u none = refl
   begins_nothing (c ∷ w) b u none =
-      let out = not_alone c w b.no_alone in
+      let out = not_alone (is_unicode e.mode) c w b.no_alone in
+      let hyphen : (c == 45) ≡ false = ap (λ u. u && c == 45) (sym unicode) ∙ out.1 in
       let no_class = none_there (class_escape_at c) (λ kind h. b.no_class kind (c ∷ []) w (class_found kind c h) refl) in
       let no_control = none_there (control_escape_value c) (λ v h. none kinds.SingleEscape v (c ∷ []) w refl (control h)) in
       let no_identity = false_from_ne_true (is_identity_escape c) (λ t. none kinds.Identifier c (c ∷ []) w refl (identity unicode t)) in
@@ -108,7 +120,27 @@ module _ (e : Environment) (unicode : is_unicode e.mode ≡ true) where
       let no_null = false_from_ne_true (c == 48 && not (front_is is_decimal_digit w)) (λ t.
       let p = both (c == 48) (not (front_is is_decimal_digit w)) t in with_first c 48 w p.0 none kinds.Null 0 (48 ∷ []) w refl (null (not-true _ p.1))) in
       let no_x = false_from_ne_true (c == 120 && two_hex_digits w) (λ t. let p = both (c == 120) (two_hex_digits w) t in no_digits w (with_first c 120 w p.0 none) p.1) in
-      rw (no_letter_begins c u b.no_letter out.0 no_class no_control, no_identity, out.1, no_c, no_null, no_x, unicode, no_right (is_hyphen_escaped e.mode)) refl
+      rw (no_letter_begins c u (b.no_letter unicode) out.0 no_class no_control, no_identity, hyphen, no_c, no_null, no_x, unicode, no_right (is_hyphen_escaped e.mode)) refl
+
+-- the same in every mode, by what is read
+module _ (e : Environment) where
+  spells_none : (us : List ℕ) → any_escape_at true e us ≡ nothing → SpellsNone e us
+  spells_none us h kind v w more whole s = let no : nothing ≡ escaped kind v (length w) = sym h ∙ ap (any_escape_at true e) whole ∙ any_read true e kind v w more s in cc no
+
+  nothing_begins : (us : List ℕ) → BeginsNone e us → any_escape_at true e us ≡ nothing → begins_class_escape e us ≡ false
+  nothing_begins [] b h = refl
+  nothing_begins (c ∷ w) b h = elim (cases_Bool (is_unicode e.mode)) [
+    | inl m ↦ begins_nothing e m (c ∷ w) b (escape_nothing (c ∷ w) (ap (λ u. escape_at u (c ∷ w)) (sym m) ∙ sym (any_in_unicode true e (c ∷ w) m) ∙ h)) (spells_none (c ∷ w) h)
+    | inr m ↦
+        let no_class = none_there (class_escape_at c) (λ kind h. b.no_class kind (c ∷ []) w (class_found kind c h) refl) in
+        let k = both (c == 107) e.named (nothing_in_legacy e c w m (not_alone (is_unicode e.mode) c w b.no_alone).0 no_class h) in
+        rw (eqb-true c 107 k.0, k.1, m, no_right (is_hyphen_escaped e.mode)) refl
+  ]
+
+-- what is answered where one is refused
+refusal_refuses : {added start : ℕ} {old new : Cursor} {read : EscapeRead} {d : Diagnostic} → AnswersFound added start old new read (Err d) → IsCharacterOrNothing read → ⊥
+refusal_refuses (found.many_digits keeps) h = h
+refusal_refuses (found.no_escape_of_u keeps) h = h
 
 -- What is answered behind a backslash is answered from the backslash on.
 module _ (e : Environment) (read : is_read e.mode ≡ true) (added start : ℕ) (old : Cursor) (is : IsBehindBackslash old start) where
@@ -130,20 +162,21 @@ module _ (e : Environment) (read : is_read e.mode ≡ true) (added start : ℕ) 
           ∙ ap (span_between old.units old.first added (old.place - 1)) (let k : old.place - 1 + 1 + length w ≡ old.place - 1 + suc (length w) = omega arith in k)
 
   -- a character that stands behind a backslash in classes alone
-  alone_spelled : (c v : ℕ) (w : List ℕ) → alone_in_class (c ∷ w) ≡ Some v → SpellsInClassAlone e.mode kinds.SingleEscape v (c ∷ []) × (nat_le v 0x10FFFF ≡ true)
+  alone_spelled : (c v : ℕ) (w : List ℕ) → alone_in_class (is_unicode e.mode) (c ∷ w) ≡ Some v → SpellsInClassAlone e.mode kinds.SingleEscape v (c ∷ []) × (nat_le v 0x10FFFF ≡ true)
   alone_spelled c v w h = elim (chosen (c == 98) h) [
     | inl p ↦ let eight : v ≡ 8 = cc p.1 in rw (eqb-true c 98 p.0, eight) (row.backspace, refl)
-    | inr p ↦ elim (chosen (c == 45) p.1) [
-      | inl q ↦ let itself : v ≡ 45 = cc q.1 in rw (eqb-true c 45 q.0, itself) (row.hyphen (read_is_unicode e.mode read), refl)
+    | inr p ↦ elim (chosen (is_unicode e.mode && c == 45) p.1) [
+      | inl q ↦ let both_are = both (is_unicode e.mode) (c == 45) q.0 in
+          let itself : v ≡ 45 = cc q.1 in rw (eqb-true c 45 both_are.1, itself) (row.hyphen (read_in_unicode e.mode read both_are.0), refl)
       | inr q ↦ absurd (let no : ⊥ = cc q.1 in no)
     ]
   ]
 
-  pub alone_gives : (v : ℕ) (span : Span) (new : Cursor) → alone_in_class (values (rest old)) ≡ Some v → span ≡ span_to added start new → new ≡ moved 1 old
+  pub alone_gives : (v : ℕ) (span : Span) (new : Cursor) → alone_in_class (is_unicode e.mode) (values (rest old)) ≡ Some v → span ≡ span_to added start new → new ≡ moved 1 old
       → GivesAtom e added (back old) new (Ok (atom.Character (record { span = span; kind = kinds.SingleEscape; value = v })))
   alone_gives v span new h covers moves = go (rest old) refl h
     where
-      go : (us : List CodePoint) → rest old ≡ us → alone_in_class (values us) ≡ Some v → GivesAtom e added (back old) new (Ok (atom.Character (record { span = span; kind = kinds.SingleEscape; value = v })))
+      go : (us : List CodePoint) → rest old ≡ us → alone_in_class (is_unicode e.mode) (values us) ≡ Some v → GivesAtom e added (back old) new (Ok (atom.Character (record { span = span; kind = kinds.SingleEscape; value = v })))
       go [] whole h = absurd (let no : ⊥ = cc h in no)
       go (u ∷ us) whole h =
           let s = alone_spelled u.value v (values us) h in
@@ -159,9 +192,17 @@ module _ (e : Environment) (read : is_read e.mode ≡ true) (added start : ℕ) 
   property_gives it new (given_property.some backslash w more whole spells covers moves) =
       gives (atom.Property it) new backslash w more whole spells (never_of_strings it.negative it.strings (no_strings e.mode it.strings it.name it.value spells.text read spells.spelled)) covers moves
 
-  pub character_gives : (it : Character) (new : Cursor) → GivesCharacter e added start old new (Ok (Some it)) → GivesAtom e added (back old) new (Ok (atom.Character it))
-  character_gives it new (given.some w more whole spells small covers moves) =
-      gives (atom.Character it) new b.backslash w more (b.whole ∙ ap (λ us. b.backslash ∷ us) whole) (row.escaped b.backslash w b.value_is spells) (grind (arith, nat_tests)) covers moves
+  pub character_gives : (found : EscapeRead) (it : Character) (new : Cursor) → any_escape_at true e (values (rest old)) ≡ found → AnswersFound added start old new found (Ok (Some it))
+      → GivesAtom e added (back old) new (Ok (atom.Character it))
+  character_gives _ it new read (found.some {count = n} small covers moves) =
+      let f = any_there e (character it.kind it.value) (n + 1) b.backslash (rest old) it.kind it.value n b.value_is (any_spelled true e it.kind it.value n (values (rest old)) read) refl in
+      go f.w f.rest f.whole f.spelled f.count
+    where
+      go : (w more : List CodePoint) → b.backslash ∷ rest old ≡ w ++ more → SpellsAtom e (character it.kind it.value) w more → length w ≡ n + 1 → GivesAtom e added (back old) new (Ok (atom.Character it))
+      go [] more whole spells count = absurd (omega (arith, count))
+      go (u ∷ w) more whole spells count =
+          gives (atom.Character it) new u w more (b.whole ∙ whole) spells (grind (arith, nat_tests)) covers
+          (moves ∙ ap (λ n. moved n old) (let k : n ≡ length w = omega (arith, count) in k))
 
   -- What they refuse is refused in the class.
   module _ (same : IsOfText e old) where
@@ -173,17 +214,22 @@ module _ (e : Environment) (read : is_read e.mode ≡ true) (added start : ℕ) 
         answer.refused (λ from at_class place. property_in_class (old.place - 1) (from_backslash old) (in_text from at_class _ place) cause) (keeps_placed (old.place - 1) old new keeps)
     property_refused _ new (given_property.no_memory keeps) = answer.no_memory (keeps_placed (old.place - 1) old new keeps)
 
-    pub character_refused : (d : Diagnostic) (new : Cursor) → GivesCharacter e added start old new (Err d) → GivesAtom e added (back old) new (Err (fault.Diagnostic d))
-    character_refused d new (given.refused cause first none keeps) =
-        answer.refused (λ from at_class place. cause_of_escape (old.place - 1) (from_backslash old) (in_text from at_class _ place) cause) (keeps_placed (old.place - 1) old new keeps)
+    pub character_refused : (read : EscapeRead) (d : Diagnostic) (new : Cursor) → any_escape_at true e (values (rest old)) ≡ read → AnswersFound added start old new read (Err d)
+        → GivesAtom e added (back old) new (Err (fault.Diagnostic d))
+    character_refused read d new here answers =
+        let r = any_refused true e (values (rest old)) read here (refusal_refuses answers) in
+        let cause = refusal_cause e added start old new is read d r.0 r.1 answers in
+        answer.refused (λ from at_class place. cause_of_escape (old.place - 1) (from_backslash old) (in_text from at_class _ place) cause)
+        (keeps_placed (old.place - 1) old new (refusal_keeps e added start old new is read d answers))
 
     -- Where nothing stands that a class may hold, the backslash is refused.
-    pub nothing_refused : (span : Span) (new : Cursor) → BeginsNone (values (rest old)) → GivesCharacter e added start old new (Ok None) → span ≡ span_to added start new
+    pub nothing_refused : (read : EscapeRead) (span : Span) (new : Cursor) → any_escape_at true e (values (rest old)) ≡ read → BeginsNone e (values (rest old)) → AnswersFound added start old new read (Ok None)
+        → span ≡ span_to added start new
         → GivesAtom e added (back old) new (Err (fault.Diagnostic (InvalidClassAtom span)))
-    nothing_refused span new no_others (given.none stays none no_u) covers =
+    nothing_refused _ span new here no_others (found.none stays) covers =
         answer.refused (λ from at_class place.
         rw at_backslash (invalid_atom (old.place - 1) b.backslash (rest old) (subst (IsAtomPlace _ from at_class (old.place - 1)) b.whole (in_text from at_class _ place)) b.value_is
-        (subst (λ t. begins_class_escape t (values (rest old)) ≡ false) same (begins_nothing e (read_unicode e.mode read) (values (rest old)) no_others no_u none))))
+        (subst (λ t. begins_class_escape t (values (rest old)) ≡ false) same (nothing_begins e (values (rest old)) no_others here))))
         (keeps_placed (old.place - 1) old new (stays_keeps old new (stands_within old start is) stays))
       where
         at_backslash : span ≡ span_between old.units old.first added (old.place - 1) (old.place - 1 + 1)
@@ -197,21 +243,21 @@ module _ (e : Environment) (read : is_read e.mode ≡ true) (added start : ℕ) 
 pub no_class_escape : {added start : ℕ} {old new : Cursor} → GivesClassEscape added start old new None → (new ≡ old) × BeginsNoClassEscape (values (rest old))
 no_class_escape (given.none stays none) = (stays, none)
 
-pub no_character_stays : {e : Environment} {added start : ℕ} {old new : Cursor} → GivesCharacter e added start old new (Ok None) → new ≡ old
-no_character_stays (given.none stays none no_u) = stays
+pub no_character_stays : {added start : ℕ} {old new : Cursor} {read : EscapeRead} → AnswersFound added start old new read (Ok None) → new ≡ old
+no_character_stays (found.none stays) = stays
 
-no_property_there : {e : Environment} {added start : ℕ} {old new : Cursor} → is_unicode e.mode ≡ true → GivesProperty e added start old new (Ok None)
-    → (new ≡ old) × (front_is begins_property (values (rest old)) ≡ false)
-no_property_there u (given_property.none stays (inl never)) = absurd (true≢false (sym u ∙ never))
-no_property_there u (given_property.none stays (inr never)) = (stays, never)
+no_property_there : {e : Environment} {added start : ℕ} {old new : Cursor} → GivesProperty e added start old new (Ok None)
+    → (new ≡ old) × (is_unicode e.mode ≡ true → front_is begins_property (values (rest old)) ≡ false)
+no_property_there (given_property.none stays (inl never)) = (stays, λ u. absurd (true≢false (sym u ∙ never)))
+no_property_there (given_property.none stays (inr never)) = (stays, λ u. never)
 
 -- Behind the backslash stands no escape that was asked for so far.
-pub nothing_so_far : {e : Environment} {added start : ℕ} {old stayed new : Cursor} {us : List CodePoint} {o : Option UnicodePropertyEscape} → is_read e.mode ≡ true → us ≡ rest old
-    → None ≡ alone_in_class (values us) → GivesClassEscape added start old stayed None → GivesProperty e added start stayed new (Ok o) → o ≡ None → (new ≡ old) × BeginsNone (values (rest old))
-nothing_so_far {e} {added} {start} {old} {stayed} {new} {us} {o} read whole alone class_gone property_gone is_none =
+pub nothing_so_far : {e : Environment} {added start : ℕ} {old stayed new : Cursor} {us : List CodePoint} {o : Option UnicodePropertyEscape} → us ≡ rest old
+    → None ≡ alone_in_class (is_unicode e.mode) (values us) → GivesClassEscape added start old stayed None → GivesProperty e added start stayed new (Ok o) → o ≡ None → (new ≡ old) × BeginsNone e (values (rest old))
+nothing_so_far {e} {added} {start} {old} {stayed} {new} {us} {o} whole alone class_gone property_gone is_none =
     let k = no_class_escape class_gone in
-    let p = no_property_there (read_unicode e.mode read) (subst (λ o. GivesProperty e added start old new (Ok o)) is_none (subst (λ r. GivesProperty e added start r new (Ok o)) k.0 property_gone)) in
-    (p.0, record { no_alone = ap (λ us. alone_in_class (values us)) (sym whole) ∙ sym alone; no_class = k.1; no_letter = p.1 })
+    let p = no_property_there (subst (λ o. GivesProperty e added start old new (Ok o)) is_none (subst (λ r. GivesProperty e added start r new (Ok o)) k.0 property_gone)) in
+    (p.0, record { no_alone = ap (λ us. alone_in_class (is_unicode e.mode) (values us)) (sym whole) ∙ sym alone; no_class = k.1; no_letter = p.1 })
 
 -- A unit that is no backslash stands for itself, and a `-` is a symbol.
 module _ (e : Environment) (read : is_read e.mode ≡ true) where

@@ -12,7 +12,7 @@ use Rattle.rx_base.specs.declared.span.Span.{Span}
 use Rattle.rx_ast.specs.declared.class.CharacterClass.{CharacterClass}
 use Rattle.rx_ast.specs.declared.class.CharacterClassContents.{CharacterClassContents}
 use Rattle.rx_ast.specs.declared.class.CharacterClassContentsKind.TheVariants.{Union}
-use Rattle.rx_ast.specs.ClassTree.{Members, no_member, class, mirror_class, mirror_contents}
+use Rattle.rx_ast.specs.ClassTree.{Members, no_member, class, mirror_class}
 use Rattle.rx_units.specs.declared.code_point.CodePoint.{CodePoint}
 use Rattle.rx_units.specs.Cursor.{Cursor, begins, front, moved, offset_of, rest}
 use Rattle.rx_units.specs.Units.{offset_at, values}
@@ -34,13 +34,14 @@ use Rattle.rx_model.proofs.Classes.ClassUnspanned.{class_row_tokens}
 use Rattle.rx_model.proofs.Classes.OneInClass.{class_cause_is_first}
 use Rattle.rx_model.proofs.Inputs.Modes.{read_no_sets}
 use Rattle.rx_scan.specs.declared.state.State.{State}
+use Rattle.rx_class.specs.declared.class_item.ClassItem.{ClassItem}
 use Rattle.rx_class.specs.EscapeAnswers.{environment_of, span_to}
 use Rattle.rx_class.specs.ClassAnswers.{BeginsNoClass, GivesClass, HoldsFirstPass}
 use Rattle.rx_class.specs.ClassAnswers as class_answer
-use Rattle.rx_class.specs.ClassItems.{GivesItem, IsItem, IsOfText, contents}
+use Rattle.rx_class.specs.ClassItems.{GivesItem, IsItem, IsOfText, contents, item_contents, item_members}
 use Rattle.rx_class.specs.ClassItems as item_answer
 use Rattle.rx_class.specs.Keeping.{KeepsUnits}
-use Rattle.rx_class.proofs.ClassItems.{AreItems, item_some, items_push, rows_append}
+use Rattle.rx_class.proofs.ClassItems.{AreItems, items_push, rows_append}
 use Rattle.rx_class.proofs.Keeping.{Passes, keeps_on, passes_keeps, passes_moved, passes_on, passes_over}
 
 -- the offset of a place of a reader's text
@@ -168,17 +169,17 @@ module _ {e : Environment} {added : ℕ} {old mid : Cursor} {negative : Bool} {m
     refused_gives new _ (item_answer.no_memory keeps) = class_answer.no_memory (keeps_on (passes_keeps h.passes) keeps)
 
   -- An item is read, and pushed behind the others: fewer units are left.
-  pub item_gives : (body : List CharacterClassContents) {new : Cursor} {it : CharacterClassContents} → ms ≡ contents body → GivesItem e added mid new (Ok it) →
-      IsInClass e added old new negative (contents (body ++ (it ∷ []))) × (length new.units - new.place < length mid.units - mid.place)
+  pub item_gives : (body : List CharacterClassContents) {new : Cursor} {it : ClassItem} → ms ≡ contents body → GivesItem e added mid new (Ok it) →
+      IsInClass e added old new negative (contents (body ++ item_contents it)) × (length new.units - new.place < length mid.units - mid.place)
   item_gives body {new} {it} all (item_answer.some w more whole is moves) = (
     record {
       w = h.w;
       v = h.v ++ w;
       passes = subst (Passes old new) (append_assoc h.w h.v w) (passes_on h.passes p);
       opens = subst (SpellsInClass e outside (bracket negative) h.w) units h.opens;
-      items = subst (λ j. AreItems e offset negative (contents (body ++ (it ∷ []))) (old.place + length h.w) ((h.v ++ w) ++ rest new) j (rest new)) (sym place)
-          (items_push e offset negative body it (old.place + length h.w) ((h.v ++ w) ++ rest new) mid.place w (rest new) (rw (← all, ← units, ← p.whole) h.items)
-          (subst (IsItem e offset mid.place (mirror_contents it) w) (sym q.1) here_is));
+      items = subst (λ j. AreItems e offset negative (contents (body ++ item_contents it)) (old.place + length h.w) ((h.v ++ w) ++ rest new) j (rest new)) (sym place)
+          (items_push e offset negative body (item_contents it) (old.place + length h.w) ((h.v ++ w) ++ rest new) mid.place w (rest new) (rw (← all, ← units, ← p.whole) h.items)
+          (subst (IsItem e offset mid.place (item_members it) w) (sym q.1) here_is));
     },
     omega (arith, place, some, p.within, ap (λ (r : Cursor). length r.units) p.moves),
   )
@@ -186,11 +187,11 @@ module _ {e : Environment} {added : ℕ} {old mid : Cursor} {negative : Bool} {m
       offset : ℕ → ℕ
       offset = offset_in added old
 
-      here_is : IsItem e offset mid.place (mirror_contents it) w more
-      here_is = subst (λ r. IsItem e (offset_in added r) mid.place (mirror_contents it) w more) h.passes.moves is
+      here_is : IsItem e offset mid.place (item_members it) w more
+      here_is = subst (λ r. IsItem e (offset_in added r) mid.place (item_members it) w more) h.passes.moves is
 
       some : 0 < length w
-      some = item_some e offset mid.place (mirror_contents it) w more here_is
+      some = here_is.some
 
       q : Passes mid new w × (rest new ≡ more)
       q = passes_moved mid new w more whole some moves

@@ -1,5 +1,5 @@
 -- Items that stand one after another in a class: what they spell, and what the bracket around them holds.
-use Rattle.std.proofs.Common.{◌≡◌, refl, sym, ap, ◌∙◌, subst, ℕ, ◌+◌, ◌<◌, ◌≤◌, Bool, false, Some, List, [], ◌∷◌, ◌++◌, length, arith, append_assoc, append-nil, length-append}
+use Rattle.std.proofs.Common.{◌≡◌, refl, sym, ap, ◌∙◌, subst, ℕ, ◌+◌, Bool, false, Some, List, [], ◌∷◌, ◌++◌, length, append_assoc}
 use Rattle.std.specs.Prelude.{map}
 use Rattle.std.proofs.lemmas.Bool.{le-leb, or_parts}
 use Rattle.std.proofs.lemmas.List.{map-append}
@@ -7,17 +7,14 @@ use Rattle.rx_ast.specs.declared.class.CharacterClassContents.{CharacterClassCon
 use Rattle.rx_ast.specs.ClassTree.{Member, Members, no_member, member, members, mirror_contents}
 use Rattle.rx_ast.specs.ClassTree as tree
 use Rattle.rx_units.specs.declared.code_point.CodePoint.{CodePoint}
-use Rattle.rx_model.specs.Classes.ClassRows.{Place, ClassRow, ClassTokenRow, SpellsAtom, at_dash, behind, fresh}
+use Rattle.rx_model.specs.Classes.ClassRows.{Place, ClassRow, behind, fresh}
 use Rattle.rx_model.specs.Classes.ClassRuns.{Held, empty, bracket_of, class_run}
-use Rattle.rx_model.specs.Classes.ClassTokens.{Atom, character, escape, property, ClassToken, dash, high, ClassEvents, enter, leave, token, class_tokens_of, member_events, more_members_events}
+use Rattle.rx_model.specs.Classes.ClassTokens.{character, escape, property, ClassToken, ClassEvents, enter, leave, token, class_tokens_of, member_events, more_members_events}
 use Rattle.rx_model.specs.Trees.Early.{AreEarlyMembers, IsEarlyMember, any_strings, member_strings}
 use Rattle.rx_model.specs.Inputs.Environment.{Environment}
-use Rattle.rx_model.proofs.Classes.ClassFronts.{atom_some}
-use Rattle.rx_model.proofs.Classes.ClassStops.{row_shorter}
 use Rattle.rx_model.proofs.Classes.ClassTokens.{union_tokens}
-use Rattle.rx_model.proofs.Classes.ClassUnspanned.{class_row_tokens}
 use Rattle.rx_model.proofs.Classes.ClassWholes.{IsUnion, atom_runs, class_run-append, property_obeys, range_runs}
-use Rattle.rx_class.specs.ClassItems.{IsItem, IsPlain, contents}
+use Rattle.rx_class.specs.ClassItems.{ArePlain, IsItem, IsPlain, contents}
 
 -- After an item the bracket is around a union still.
 pub record Holds (negative : Bool) (ts : List ClassToken) (from : Held) : Type 0 where
@@ -37,6 +34,18 @@ member_holds negative from m u early plain none = let r = by m early plain none 
     by (tree.nested c) early plain none = absurd plain
     by (tree.strings d) early plain none = absurd plain
 
+members_hold : (negative : Bool) (from : Held) (ms : List Member) → IsUnion from → AreEarlyMembers (members ms) → ArePlain ms → any_strings (members ms) ≡ false → Holds negative (union_tokens (members ms)) from
+members_hold negative from [] u early plain none = record { held = from; union = u; run = refl }
+members_hold negative from (m ∷ ms) u early plain none =
+    let p = or_parts (member_strings m) (any_strings (members ms)) none in
+    let h = member_holds negative from m u early.0 plain.0 p.0 in
+    let g = members_hold negative h.held ms h.union early.1 plain.1 p.1 in
+    record {
+      held = g.held;
+      union = g.union;
+      run = class_run-append (class_tokens_of (member_events m)) (union_tokens (members ms)) (bracket_of negative from false ∷ []) (bracket_of negative h.held false ∷ []) h.run ∙ g.run;
+    }
+
 module _ (e : Environment) (o : ℕ → ℕ) where
   -- Rows, one after the other.
   pub rows_append : (es fs : ClassEvents) (q : Place) (i : ℕ) (us : List CodePoint) (r : Place) (j : ℕ) (rest : List CodePoint) (s : Place) (k : ℕ) (end : List CodePoint) →
@@ -48,21 +57,6 @@ module _ (e : Environment) (o : ℕ → ℕ) where
   rows_append ((token t) ∷ es) fs q i us r j rest s k end h g =
       (h.0, h.1, h.2, h.3, rows_append es fs (behind e.mode q t h.1) (i + length h.0) h.1 r j rest s k end h.4 g)
 
-  -- An item has a unit.
-  has_unit : (a : Atom) (w more v back : List CodePoint) → w ++ more ≡ v ++ back → SpellsAtom e a v back → length more ≤ length back → 0 < length w
-  has_unit a w more v back whole spelled left = omega (arith, atom_some e a v back spelled, left, ap length whole, length-append w more, length-append v back)
-
-  pub item_some : (i : ℕ) (m : Member) (w more : List CodePoint) → IsItem e o i m w more → 0 < length w
-  item_some i m w more it = by m it.plain (class_row_tokens e o (member_events m) fresh i (w ++ more) fresh (i + length w) more it.row)
-    where
-      by : (m : Member) → IsPlain m → ClassTokenRow e (class_tokens_of (member_events m)) fresh (w ++ more) fresh more → 0 < length w
-      by (tree.range b) p r = has_unit (character b.min.kind b.min.value) w more r.0 r.1 r.2 r.3.0 (row_shorter e (dash ∷ high b.max.kind b.max.value ∷ []) at_dash r.1 fresh more r.4)
-      by (tree.escape k) p r = has_unit (escape k.kind) w more r.0 r.1 r.2 r.3.0 (omega (arith, ap length r.4.1))
-      by (tree.property q) p r = has_unit (property q.negative q.strings q.name q.value) w more r.0 r.1 r.2 r.3.0 (omega (arith, ap length r.4.1))
-      by (tree.character c) p r = has_unit (character c.kind c.value) w more r.0 r.1 r.2 r.3.0 (omega (arith, ap length r.4.1))
-      by (tree.nested c) p r = absurd p
-      by (tree.strings d) p r = absurd p
-
   -- Items stand one after another from place i on to place j, where the rest is left.
   pub record AreItems (negative : Bool) (ms : Members) (i : ℕ) (us : List CodePoint) (j : ℕ) (rest : List CodePoint) : Type 0 where
     pub row : ClassRow e o (more_members_events [] ms) fresh i us fresh j rest
@@ -70,40 +64,41 @@ module _ (e : Environment) (o : ℕ → ℕ) where
     pub no_strings : any_strings ms ≡ false
     pub holds : Holds negative (union_tokens ms) empty
 
-  -- one item more
-  events_push : (xs : List Member) (m : Member) → more_members_events [] (members (xs ++ (m ∷ []))) ≡ more_members_events [] (members xs) ++ member_events m
-  events_push [] m = append-nil (member_events m)
-  events_push (x ∷ xs) m = ap (λ es. member_events x ++ es) (events_push xs m) ∙ sym (append_assoc (member_events x) (more_members_events [] (members xs)) (member_events m))
+  -- some members more
+  events_push : (xs ys : List Member) → more_members_events [] (members (xs ++ ys)) ≡ more_members_events [] (members xs) ++ more_members_events [] (members ys)
+  events_push [] ys = refl
+  events_push (x ∷ xs) ys =
+      ap (λ es. member_events x ++ es) (events_push xs ys) ∙ sym (append_assoc (member_events x) (more_members_events [] (members xs)) (more_members_events [] (members ys)))
 
-  tokens_push : (xs : List Member) (m : Member) → union_tokens (members (xs ++ (m ∷ []))) ≡ union_tokens (members xs) ++ class_tokens_of (member_events m)
-  tokens_push [] m = append-nil (class_tokens_of (member_events m))
-  tokens_push (x ∷ xs) m =
-      ap (λ ts. class_tokens_of (member_events x) ++ ts) (tokens_push xs m) ∙ sym (append_assoc (class_tokens_of (member_events x)) (union_tokens (members xs)) (class_tokens_of (member_events m)))
+  tokens_push : (xs ys : List Member) → union_tokens (members (xs ++ ys)) ≡ union_tokens (members xs) ++ union_tokens (members ys)
+  tokens_push [] ys = refl
+  tokens_push (x ∷ xs) ys =
+      ap (λ ts. class_tokens_of (member_events x) ++ ts) (tokens_push xs ys) ∙ sym (append_assoc (class_tokens_of (member_events x)) (union_tokens (members xs)) (union_tokens (members ys)))
 
-  early_push : (xs : List Member) (m : Member) → AreEarlyMembers (members xs) → IsEarlyMember m → AreEarlyMembers (members (xs ++ (m ∷ [])))
-  early_push [] m h k = (k, tt)
-  early_push (x ∷ xs) m h k = (h.0, early_push xs m h.1 k)
+  early_push : (xs ys : List Member) → AreEarlyMembers (members xs) → AreEarlyMembers (members ys) → AreEarlyMembers (members (xs ++ ys))
+  early_push [] ys h k = k
+  early_push (x ∷ xs) ys h k = (h.0, early_push xs ys h.1 k)
 
-  strings_push : (xs : List Member) (m : Member) → any_strings (members xs) ≡ false → member_strings m ≡ false → any_strings (members (xs ++ (m ∷ []))) ≡ false
-  strings_push [] m h k = rw k refl
-  strings_push (x ∷ xs) m h k = let p = or_parts (member_strings x) (any_strings (members xs)) h in rw (p.0) (strings_push xs m p.1 k)
+  strings_push : (xs ys : List Member) → any_strings (members xs) ≡ false → any_strings (members ys) ≡ false → any_strings (members (xs ++ ys)) ≡ false
+  strings_push [] ys h k = k
+  strings_push (x ∷ xs) ys h k = let p = or_parts (member_strings x) (any_strings (members xs)) h in rw (p.0) (strings_push xs ys p.1 k)
 
-  members_push : (negative : Bool) (xs : List Member) (m : Member) (i : ℕ) (us : List CodePoint) (j : ℕ) (w rest : List CodePoint) → AreItems negative (members xs) i us j (w ++ rest) →
-      IsItem e o j m w rest → AreItems negative (members (xs ++ (m ∷ []))) i us (j + length w) rest
-  members_push negative xs m i us j w rest h it =
-      let g = member_holds negative h.holds.held m h.holds.union it.early it.plain it.no_strings in
+  members_push : (negative : Bool) (xs ys : List Member) (i : ℕ) (us : List CodePoint) (j : ℕ) (w rest : List CodePoint) → AreItems negative (members xs) i us j (w ++ rest) →
+      IsItem e o j ys w rest → AreItems negative (members (xs ++ ys)) i us (j + length w) rest
+  members_push negative xs ys i us j w rest h it =
+      let g = members_hold negative h.holds.held ys h.holds.union it.early it.plain it.no_strings in
       let outer = bracket_of negative empty false ∷ [] in
       let run =
-      ap (λ ts. class_run ts outer) (tokens_push xs m)
-      ∙ class_run-append (union_tokens (members xs)) (class_tokens_of (member_events m)) outer (bracket_of negative h.holds.held false ∷ []) h.holds.run ∙ g.run in
+      ap (λ ts. class_run ts outer) (tokens_push xs ys)
+      ∙ class_run-append (union_tokens (members xs)) (union_tokens (members ys)) outer (bracket_of negative h.holds.held false ∷ []) h.holds.run ∙ g.run in
       record {
-        row = rw (events_push xs m) (rows_append (more_members_events [] (members xs)) (member_events m) fresh i us fresh j (w ++ rest) fresh (j + length w) rest h.row it.row);
-        early = early_push xs m h.early it.early;
-        no_strings = strings_push xs m h.no_strings it.no_strings;
+        row = rw (events_push xs ys) (rows_append (more_members_events [] (members xs)) (more_members_events [] (members ys)) fresh i us fresh j (w ++ rest) fresh (j + length w) rest h.row it.row);
+        early = early_push xs ys h.early it.early;
+        no_strings = strings_push xs ys h.no_strings it.no_strings;
         holds = record { held = g.held; union = g.union; run = run };
       }
 
-  pub items_push : (negative : Bool) (body : List CharacterClassContents) (it : CharacterClassContents) (i : ℕ) (us : List CodePoint) (j : ℕ) (w rest : List CodePoint) →
-      AreItems negative (contents body) i us j (w ++ rest) → IsItem e o j (mirror_contents it) w rest → AreItems negative (contents (body ++ (it ∷ []))) i us (j + length w) rest
-  items_push negative body it i us j w rest h is =
-      rw (map-append mirror_contents body (it ∷ [])) (members_push negative (map mirror_contents body) (mirror_contents it) i us j w rest h is)
+  pub items_push : (negative : Bool) (body its : List CharacterClassContents) (i : ℕ) (us : List CodePoint) (j : ℕ) (w rest : List CodePoint) →
+      AreItems negative (contents body) i us j (w ++ rest) → IsItem e o j (map mirror_contents its) w rest → AreItems negative (contents (body ++ its)) i us (j + length w) rest
+  items_push negative body its i us j w rest h is =
+      rw (map-append mirror_contents body its) (members_push negative (map mirror_contents body) (map mirror_contents its) i us j w rest h is)

@@ -6,35 +6,55 @@ use Rattle.rx_base.specs.declared.fault.Fault.{Fault}
 use Rattle.rx_base.specs.declared.fault.Fault.TheVariants as fault
 use Rattle.rx_base.specs.declared.span.Span.{Span}
 use Rattle.rx_ast.specs.declared.leaf.Character.{Character}
+use Rattle.rx_ast.specs.declared.leaf.CharacterKind.TheVariants as kinds
 use Rattle.rx_ast.specs.declared.class.CharacterClassContents.{CharacterClassContents}
 use Rattle.rx_ast.specs.declared.class.CharacterClassRange.{CharacterClassRange}
 use Rattle.rx_ast.specs.ClassTree.{mirror_contents}
 use Rattle.rx_ast.specs.ClassTree as tree
 use Rattle.rx_units.specs.declared.code_point.CodePoint.{CodePoint}
-use Rattle.rx_units.specs.Cursor.{Cursor, moved, rest}
+use Rattle.rx_units.specs.Cursor.{Cursor, moved, offset_of, rest}
 use Rattle.rx_units.specs.Units.{offset_at, values}
 use Rattle.rx_model.specs.Refusals.ClassCauses.{StandsRange, is_character}
 use Rattle.rx_model.specs.Refusals.ClassCauses as cause
 use Rattle.rx_model.specs.Refusals.ClassPlaces.{IsItemPlace, IsSecondPlace}
-use Rattle.rx_model.specs.Classes.ClassRows.{ClassRow, SpellsAtom, fresh, is_dashed}
+use Rattle.rx_model.specs.Classes.ClassRows.{BeforeThird, ClassRow, SpellsAtom, fresh, is_dashed}
 use Rattle.rx_model.specs.Classes.ClassRuns.{atom_obeys}
-use Rattle.rx_model.specs.Classes.ClassTokens.{Atom, character, escape, property, item, token, within}
-use Rattle.rx_model.specs.Inputs.Environment.{Environment}
+use Rattle.rx_model.specs.Classes.ClassTokens.{Atom, character, item, leave, member_events, token, within}
+use Rattle.rx_model.specs.Trees.Early.{IsEarlyMember, member_strings}
+use Rattle.rx_model.specs.Inputs.Environment.{Environment, is_unicode}
 use Rattle.rx_model.specs.Inputs.Modes.{is_read}
-use Rattle.rx_model.specs.Refusals.Reached.{text_environment}
+use Rattle.rx_model.specs.Refusals.Reached.{span_between, text_environment}
 use Rattle.rx_model.proofs.Characters.Decodings.{both}
-use Rattle.rx_model.proofs.Classes.ClassFronts.{atom_some, behind_one}
-use Rattle.rx_model.proofs.Inputs.Modes.{read_is_unicode}
+use Rattle.rx_model.proofs.Classes.ClassFronts.{atom_some, behind_first, behind_one}
+use Rattle.rx_model.proofs.Inputs.Modes.{read_in_unicode}
 use Rattle.rx_class.specs.declared.class_atom.ClassAtom.{ClassAtom}
 use Rattle.rx_class.specs.declared.class_atom.ClassAtom.TheVariants as atom
-use Rattle.rx_class.specs.ClassItems.{GivesAtom, GivesItem, IsAtomCause, IsBetween, IsItem, IsItemCause, IsOfText, StandsItem, atom_member, atom_of, atom_span, between}
+use Rattle.rx_class.specs.declared.class_item.ClassItem.{ClassItem}
+use Rattle.rx_class.specs.declared.class_item.ClassItem.TheVariants as given_item
+use Rattle.rx_class.specs.EscapeAnswers.{span_to}
+use Rattle.rx_class.specs.ClassItems.{GivesAtom, GivesItem, IsAtomCause, IsBetween, IsItem, IsItemCause, IsOfText, IsPlain, StandsItem, atom_member, atom_of, atom_span, between, hyphen_member, item_members}
 use Rattle.rx_class.specs.ClassItems as items
+use Rattle.rx_class.specs.Fitting.{AreFitting}
+use Rattle.rx_class.proofs.Fitting.{moved_are_fitting}
 use Rattle.rx_class.proofs.Keeping.{Passes, keeps_from, passes_keeps, passes_moved, passes_on, passes_over}
-use Rattle.rx_class.proofs.Modes.{no_strings}
+use Rattle.rx_class.proofs.Modes.{legacy_threes, no_strings}
+use Rattle.rx_class.proofs.PropertySpans.{next_span}
 
 not_true : (b : Bool) → not b ≡ true → b ≡ false
 not_true true h = absurd (let no : ⊥ = cc h in no)
 not_true false h = refl
+
+-- Two atoms that are no range are three items but with `u`.
+unless_three : {unicode characters : Bool} → characters ≡ false → (not unicode && not characters) ≡ false → unicode ≡ true
+unless_three {unicode} {characters} apart no_three = grind (arith, apart, no_three)
+
+-- what is asked of two atoms, by the environment
+pub three_test : {mode unicode test answer : Bool} (characters : Bool) → unicode ≡ mode → test ≡ (not unicode && not characters) → test ≡ answer → (not mode && not characters) ≡ answer
+three_test characters same is_test is_answer = ap (λ unicode. not unicode && not characters) (sym same) ∙ sym is_test ∙ is_answer
+
+-- Behind an atom the reader's offsets fit as before it.
+pub atom_fits : {e : Environment} {added : ℕ} {old new : Cursor} {it : ClassAtom} → GivesAtom e added old new (Ok it) → AreFitting added old → AreFitting added new
+atom_fits {added = added} {old = old} {new = new} (items.some w more whole spelled obeys span moves) fits = moved_are_fitting added (length w) old new fits moves
 
 -- a `-` at the front, behind which an item may stand
 record DashFront (us : List CodePoint) : Type 0 where
@@ -56,6 +76,27 @@ dash_front (u ∷ v ∷ us) h =
       hyphen_is = eqb-true u.value 45 b.0;
       stands = record { some = λ e. let no : ⊥ = cc e in no; no_closer = not_true (v.value == 93) b.1 };
     }
+
+-- An atom as a member of a class.
+atom_events : (a : ClassAtom) → member_events (atom_member a) ≡ within (atom_span a) (token (item (atom_of a)) ∷ [])
+atom_events (atom.Character c) = refl
+atom_events (atom.Escape c) = refl
+atom_events (atom.Property p) = refl
+
+atom_early : (a : ClassAtom) → atom_obeys (atom_of a) ≡ true → IsEarlyMember (atom_member a)
+atom_early (atom.Character c) o = leb-true c.value 0x10FFFF o
+atom_early (atom.Escape c) o = tt
+atom_early (atom.Property p) o = not_true (p.negative && p.strings) o
+
+atom_plain : (a : ClassAtom) → IsPlain (atom_member a)
+atom_plain (atom.Character c) = tt
+atom_plain (atom.Escape c) = tt
+atom_plain (atom.Property p) = tt
+
+atom_no_strings : (e : Environment) (a : ClassAtom) (w more : List CodePoint) → is_read e.mode ≡ true → SpellsAtom e (atom_of a) w more → member_strings (atom_member a) ≡ false
+atom_no_strings e (atom.Character c) w more read s = refl
+atom_no_strings e (atom.Escape c) w more read s = refl
+atom_no_strings e (atom.Property p) w more read s = no_strings e.mode p.strings p.name p.value s.text read s.spelled
 
 module _ (e : Environment) (added : ℕ) (old : Cursor) where
   -- the reader at another place of its text
@@ -89,26 +130,24 @@ module _ (e : Environment) (added : ℕ) (old : Cursor) where
   alone_row a s w more spells alone is = (ap (λ (s : Span). s.start) is, (w, more, refl, (spells, inl alone), (ap (λ (s : Span). s.end) is, (behind_one e a more alone, refl, refl))))
 
   alone_is : (it : ClassAtom) (w more : List CodePoint) → is_read e.mode ≡ true → SpellsAtom e (atom_of it) w more → atom_obeys (atom_of it) ≡ true → is_dashed (values more) ≡ false
-      → atom_span it ≡ between (offset old.place) (offset (old.place + length w)) → IsItem e offset old.place (atom_member it) w more
-  alone_is (atom.Character c) w more read s o d is =
-      record { row = alone_row (character c.kind c.value) c.span w more s d is; early = leb-true c.value 0x10FFFF o; plain = tt; no_strings = refl }
-  alone_is (atom.Escape c) w more read s o d is = record { row = alone_row (escape c.kind) c.span w more s d is; early = tt; plain = tt; no_strings = refl }
-  alone_is (atom.Property p) w more read s o d is = record {
-    row = alone_row (property p.negative p.strings p.name p.value) p.span w more s d is;
-    early = not_true (p.negative && p.strings) o;
-    plain = tt;
-    no_strings = no_strings e.mode p.strings p.name p.value s.text read s.spelled;
+      → atom_span it ≡ between (offset old.place) (offset (old.place + length w)) → IsItem e offset old.place (atom_member it ∷ []) w more
+  alone_is it w more read s o d is = record {
+    some = atom_some e (atom_of it) w more s;
+    row = rw (atom_events it) (alone_row (atom_of it) (atom_span it) w more s d is);
+    early = (atom_early it o, tt);
+    plain = (atom_plain it, tt);
+    no_strings = rw (atom_no_strings e it w more read s) refl;
   }
 
   pub alone_gives : {new : Cursor} {it : ClassAtom} {given : CharacterClassContents} {us : List CodePoint} {b : Bool} → is_read e.mode ≡ true → GivesAtom e added old new (Ok it) → us ≡ rest new
-      → b ≡ is_dashed (values us) → b ≡ false → mirror_contents given ≡ atom_member it → GivesItem e added old new (Ok given)
+      → b ≡ is_dashed (values us) → b ≡ false → mirror_contents given ≡ atom_member it → GivesItem e added old new (Ok (given_item.One given))
   alone_gives {new} {it} {given} {us} {b} read g same is_test is_false m =
       let f = atom_stands old.place new it g in
       let alone = ap (λ us. is_dashed (values us)) (sym same) ∙ sym is_test ∙ is_false in
       items.some f.w (rest new) f.passes.whole (rw m (alone_is it f.w (rest new) read f.spelled f.obeys alone f.span)) (passes_over f.passes)
 
   -- An atom and the `-` of a range stand at a reader's place, and the reader moved over both.
-  pub record DashStands (new : Cursor) (it : ClassAtom) : Type 0 where
+  pub record DashStands (new : Cursor) (it : ClassAtom) (hyphen_at : Span) : Type 0 where
     pub w : List CodePoint
     pub hyphen : CodePoint
     pub passes : Passes old new (w ++ (hyphen ∷ []))
@@ -118,10 +157,11 @@ module _ (e : Environment) (added : ℕ) (old : Cursor) where
     pub spelled : SpellsAtom e (atom_of it) w (hyphen ∷ rest new)
     pub obeys : atom_obeys (atom_of it) ≡ true
     pub span : atom_span it ≡ between (offset old.place) (offset (old.place + length w))
+    pub hyphen_span : hyphen_at ≡ between (offset (old.place + length w)) (offset (old.place + length w + 1))
 
-  pub dash_given : {to new : Cursor} {it : ClassAtom} {us : List CodePoint} {b : Bool} → GivesAtom e added old to (Ok it) → us ≡ rest to → b ≡ is_dashed (values us) → b ≡ true
-      → new ≡ moved 1 to → DashStands new it
-  dash_given {to} {new} {it} {us} {b} g same is_test is_true moves =
+  pub dash_given : {to new : Cursor} {it : ClassAtom} {us : List CodePoint} {b : Bool} {start : ℕ} {hyphen : Span} → GivesAtom e added old to (Ok it) → us ≡ rest to → b ≡ is_dashed (values us) → b ≡ true
+      → start ≡ offset_of to → new ≡ moved 1 to → hyphen ≡ span_to added start new → DashStands new it hyphen
+  dash_given {to} {new} {it} {us} {b} {start} {hyphen = hyphen_at} g same is_test is_true starts moves covers =
       let f = atom_stands old.place to it g in
       let d = dash_front us (sym is_test ∙ is_true) in
       let p = passes_moved to new (d.hyphen ∷ []) d.behind (sym same ∙ d.whole) (omega arith) moves in
@@ -136,14 +176,15 @@ module _ (e : Environment) (added : ℕ) (old : Cursor) where
         spelled = subst (SpellsAtom e (atom_of it) f.w) hyphen.whole f.spelled;
         obeys = f.obeys;
         span = f.span;
+        hyphen_span = next_span to new added start hyphen_at starts moves covers ∙ ap (λ (r : Cursor). span_between r.units r.first added r.place (r.place + 1)) f.passes.moves;
       }
 
   -- the place behind the `-`
-  dash_at : {new : Cursor} {it : ClassAtom} (d : DashStands new it) → new ≡ at (old.place + length d.w + 1)
+  dash_at : {new : Cursor} {it : ClassAtom} {h : Span} (d : DashStands new it h) → new ≡ at (old.place + length d.w + 1)
   dash_at d = d.passes.moves ∙ ap at (omega (arith, length-append d.w (d.hyphen ∷ [])))
 
-  dash_whole : {new : Cursor} {it : ClassAtom} (d : DashStands new it) → rest old ≡ d.w ++ (d.hyphen ∷ rest new)
-  dash_whole {new} d = d.passes.whole ∙ append_assoc d.w (d.hyphen ∷ []) (rest new)
+  dash_whole : {new : Cursor} {it : ClassAtom} {h : Span} (d : DashStands new it h) → rest old ≡ d.w ++ (d.hyphen ∷ rest new)
+  dash_whole {new} {it} {h} d = d.passes.whole ∙ append_assoc d.w (d.hyphen ∷ []) (rest new)
 
   -- A fault of an atom at some place is one of the item.
   fault_of : (place : ℕ) (new : Cursor) (given : Fault) → ((d : Diagnostic) → IsAtomCause e added (at place) d → IsItemCause e added old d)
@@ -154,8 +195,8 @@ module _ (e : Environment) (added : ℕ) (old : Cursor) where
   pub first_gives : {new : Cursor} {given : Fault} → GivesAtom e added old new (Err given) → GivesItem e added old new (Err given)
   first_gives {new} {given} g = fault_of old.place new given (λ d c from at_class p. (old.place, c from at_class (inl p))) g
 
-  pub second_gives : {to new : Cursor} {low : ClassAtom} {given : Fault} → DashStands to low → GivesAtom e added to new (Err given) → GivesItem e added old new (Err given)
-  second_gives {to} {new} {low} {given} d g =
+  pub second_gives : {to new : Cursor} {low : ClassAtom} {h : Span} {given : Fault} → DashStands to low h → GivesAtom e added to new (Err given) → GivesItem e added old new (Err given)
+  second_gives {to} {new} {low} {h} {given} d g =
       fault_of second new given (λ cause c from at_class p. (
         second,
         c from at_class (inr (subst (IsSecondPlace e from at_class second) (ap rest (dash_at d)) record {
@@ -176,7 +217,7 @@ module _ (e : Environment) (added : ℕ) (old : Cursor) where
       second = old.place + length d.w + 1
 
   -- Two atoms with a `-` between them stand at a reader's place, and the reader moved over them.
-  pub record PairStands (new : Cursor) (low high : ClassAtom) : Type 0 where
+  pub record PairStands (new : Cursor) (low high : ClassAtom) (hyphen_at : Span) : Type 0 where
     pub w : List CodePoint
     pub hyphen : CodePoint
     pub v : List CodePoint
@@ -187,11 +228,12 @@ module _ (e : Environment) (added : ℕ) (old : Cursor) where
     pub high_is : SpellsAtom e (atom_of high) v (rest new)
     pub low_obeys : atom_obeys (atom_of low) ≡ true
     pub high_obeys : atom_obeys (atom_of high) ≡ true
+    pub hyphen_span : hyphen_at ≡ between (offset (old.place + length w)) (offset (old.place + length w + 1))
     pub low_span : atom_span low ≡ between (offset old.place) (offset (old.place + length w))
     pub high_span : atom_span high ≡ between (offset (old.place + length w + 1)) (offset (old.place + length w + 1 + length v))
 
-  pub pair_given : {to new : Cursor} {low high : ClassAtom} → DashStands to low → GivesAtom e added to new (Ok high) → PairStands new low high
-  pair_given {to} {new} {low} {high} d g =
+  pub pair_given : {to new : Cursor} {low high : ClassAtom} {h : Span} → DashStands to low h → GivesAtom e added to new (Ok high) → PairStands new low high h
+  pair_given {to} {new} {low} {high} {h} d g =
       let f = atom_stands (old.place + length d.w + 1) new high (subst (λ r. GivesAtom e added r new (Ok high)) (dash_at d) g) in
       let q = subst (λ r. Passes r new f.w) (sym (dash_at d)) f.passes in
       record {
@@ -205,61 +247,63 @@ module _ (e : Environment) (added : ℕ) (old : Cursor) where
         high_is = f.spelled;
         low_obeys = d.obeys;
         high_obeys = f.obeys;
+        hyphen_span = d.hyphen_span;
         low_span = d.span;
         high_span = f.span;
       }
 
   module _ (new : Cursor) where
-    pub pair_out_of_memory : {low high : ClassAtom} → PairStands new low high → GivesItem e added old new (Err fault.OutOfMemory)
-    pair_out_of_memory p = items.no_memory (passes_keeps p.passes)
+    pub pair_out_of_memory : {low high : ClassAtom} {h : Span} → PairStands new low high h → GivesItem e added old new (Err fault.OutOfMemory)
+    pair_out_of_memory {low} {high} {h} p = items.no_memory (passes_keeps p.passes)
 
     -- Why two atoms are no range is why there is no item.
     module _ (read : is_read e.mode ≡ true) (same : IsOfText e old) where
       abbrev text : Environment
       text = text_environment e.mode old.units
 
-      here : {low high : ClassAtom} (p : PairStands new low high) (from : ℕ) (at_class : List CodePoint) → IsItemPlace e from at_class old.place (rest old)
+      here : {low high : ClassAtom} {h : Span} (p : PairStands new low high h) (from : ℕ) (at_class : List CodePoint) → IsItemPlace e from at_class old.place (rest old)
           → IsItemPlace text from at_class old.place (p.w ++ (p.hyphen ∷ (p.v ++ (rest new))))
-      here p from at_class place =
+      here {low} {high} {h} p from at_class place =
           subst (λ t. IsItemPlace t from at_class old.place (p.w ++ (p.hyphen ∷ (p.v ++ (rest new))))) same
           (subst (IsItemPlace e from at_class old.place) (p.passes.whole ∙ append_assoc p.w (p.hyphen ∷ p.v) (rest new)) place)
 
-      range_stands : (min max : Character) (p : PairStands new (atom.Character min) (atom.Character max)) → StandsRange text min.value p.w p.hyphen max.value p.v (rest new)
-      range_stands min max p =
+      range_stands : (min max : Character) {h : Span} (p : PairStands new (atom.Character min) (atom.Character max) h) → StandsRange text min.value p.w p.hyphen max.value p.v (rest new)
+      range_stands min max {h} p =
           subst (λ t. StandsRange t min.value p.w p.hyphen max.value p.v (rest new)) same record { low_kind = min.kind; low_is = p.low_is; hyphen_is = p.hyphen_is; high_kind = max.kind; high_is = p.high_is }
 
-      pub range_refused : (low high : ClassAtom) (diagnostic : Diagnostic) → PairStands new low high → IsBetween low high (Err diagnostic)
+      pub range_refused : (low high : ClassAtom) (diagnostic : Diagnostic) {h : Span} → (not (is_unicode e.mode) && not (is_character (atom_of low) && is_character (atom_of high))) ≡ false → PairStands new low high h → IsBetween low high (Err diagnostic)
           → GivesItem e added old new (Err (fault.Diagnostic diagnostic))
-      range_refused _ _ _ p (items.out_of_order {min = min} {max = max} less no_dash) =
+      range_refused _ _ _ {h} no_three p (items.out_of_order {min = min} {max = max} less no_dash) =
           items.refused (rw (p.low_span, p.high_span) (λ from at_class place. (
             old.place,
             cause.range_out_of_order old.place min.value max.value p.w p.v (rest new) p.hyphen (here p from at_class place) (range_stands min max p) less no_dash,
           )))
           (passes_keeps p.passes)
-      range_refused _ _ _ p (items.dash_out_of_order {min = min} {max = max} less dash) =
+      range_refused _ _ _ {h} no_three p (items.dash_out_of_order {min = min} {max = max} less dash) =
           let stands = subst (λ x. StandsRange text min.value p.w p.hyphen x p.v (rest new)) dash (range_stands min max p) in
           items.refused (rw (p.low_span, p.high_span) (λ from at_class place. (
             old.place,
             cause.dash_out_of_order old.place min.value p.w p.v (rest new) p.hyphen (here p from at_class place) stands (subst (λ x. x < min.value) dash less),
           )))
           (passes_keeps p.passes)
-      range_refused low high _ p (items.no_character h) =
+      range_refused low high _ {h} no_three p (items.no_character apart) =
           items.refused (rw (p.low_span, p.high_span) (λ from at_class place. (
             old.place,
-            cause.invalid_range old.place (atom_of low) (atom_of high) p.w p.v (rest new) p.hyphen (here p from at_class place) (read_is_unicode e.mode read)
-                (subst (λ t. SpellsAtom t (atom_of low) p.w (p.hyphen ∷ (p.v ++ (rest new)))) same p.low_is) p.hyphen_is (subst (λ t. SpellsAtom t (atom_of high) p.v (rest new)) same p.high_is) h,
+            cause.invalid_range old.place (atom_of low) (atom_of high) p.w p.v (rest new) p.hyphen (here p from at_class place) (read_in_unicode e.mode read (unless_three apart no_three))
+                (subst (λ t. SpellsAtom t (atom_of low) p.w (p.hyphen ∷ (p.v ++ (rest new)))) same p.low_is) p.hyphen_is (subst (λ t. SpellsAtom t (atom_of high) p.v (rest new)) same p.high_is) apart,
           )))
           (passes_keeps p.passes)
 
     -- A range of two characters in order is an item.
-    range_is : (min max : Character) → min.value ≤ max.value → (p : PairStands new (atom.Character min) (atom.Character max))
-        → IsItem e offset old.place (tree.range (record { span = between min.span.start max.span.end; min = min; max = max })) (p.w ++ (p.hyphen ∷ p.v)) (rest new)
-    range_is min max ordered p =
+    range_is : (min max : Character) → min.value ≤ max.value → {h : Span} (p : PairStands new (atom.Character min) (atom.Character max) h)
+        → IsItem e offset old.place (tree.range (record { span = between min.span.start max.span.end; min = min; max = max }) ∷ []) (p.w ++ (p.hyphen ∷ p.v)) (rest new)
+    range_is min max ordered {h} p =
         let start = ap (λ (s : Span). s.start) p.low_span in
         let end = ap (λ (s : Span). s.end) p.high_span in
         let place : old.place + length p.w + 1 + length p.v ≡ old.place + length (p.w ++ (p.hyphen ∷ p.v)) = omega (arith, length-append p.w (p.hyphen ∷ p.v)) in
         let behind = p.v ++ (rest new) in
         record {
+          some = omega (arith, length-append p.w (p.hyphen ∷ p.v));
           row = (
             start,
             (
@@ -282,12 +326,67 @@ module _ (e : Environment) (added : ℕ) (old : Cursor) where
               ),
             ),
           );
-          early = (leb-true min.value 0x10FFFF p.low_obeys, leb-true max.value 0x10FFFF p.high_obeys, ordered);
-          plain = tt;
+          early = ((leb-true min.value 0x10FFFF p.low_obeys, leb-true max.value 0x10FFFF p.high_obeys, ordered), tt);
+          plain = (tt, tt);
           no_strings = refl;
         }
 
-    pub range_gives : (low high : ClassAtom) (range : CharacterClassRange) (given : CharacterClassContents) → PairStands new low high → IsBetween low high (Ok range)
-        → mirror_contents given ≡ tree.range range → GivesItem e added old new (Ok given)
-    range_gives _ _ _ given p (items.range {min = min} {max = max} ordered) m =
+    pub range_gives : (low high : ClassAtom) (range : CharacterClassRange) (given : CharacterClassContents) {h : Span} → PairStands new low high h → IsBetween low high (Ok range)
+        → mirror_contents given ≡ tree.range range → GivesItem e added old new (Ok (given_item.One given))
+    range_gives _ _ _ given {h} p (items.range {min = min} {max = max} ordered) m =
         items.some (p.w ++ (p.hyphen ∷ p.v)) (rest new) p.passes.whole (rw m (range_is min max ordered p)) (passes_over p.passes)
+
+    -- With neither `u` nor `v` two atoms of which one is no character are three items, with the `-` between.
+    three_row : (a b : Atom) (s h t : Span) (w v more : List CodePoint) (hyphen : CodePoint) → BeforeThird e a (hyphen ∷ (v ++ more)) → SpellsAtom e a w (hyphen ∷ (v ++ more)) → SpellsAtom e b v more → hyphen.value ≡ 45
+        → s ≡ between (offset old.place) (offset (old.place + length w)) → h ≡ between (offset (old.place + length w)) (offset (old.place + length w + 1))
+        → t ≡ between (offset (old.place + length w + 1)) (offset (old.place + length w + 1 + length v))
+        → ClassRow e offset (within s (token (item a) ∷ []) ++ (within h (token (item (character kinds.Symbol 45)) ∷ []) ++ (within t (token (item b) ∷ []) ++ []))) fresh old.place (w ++ (hyphen ∷ (v ++ more)))
+        fresh (old.place + length w + 1 + length v) more
+    three_row a b s h t w v more hyphen before low high value s_is h_is t_is = rw (s_is, h_is, t_is) (
+      refl,
+      (
+        w,
+        hyphen ∷ (v ++ more),
+        refl,
+        (low, inr before),
+        subst (λ q. ClassRow e offset (leave (offset (old.place + length w)) ∷ (within (between (offset (old.place + length w)) (offset (old.place + length w + 1))) (token (item (character kinds.Symbol 45)) ∷ [])
+            ++ within (between (offset (old.place + length w + 1)) (offset (old.place + length w + 1 + length v))) (token (item b) ∷ []))) q (old.place + length w) (hyphen ∷ (v ++ more)) fresh
+            (old.place + length w + 1 + length v) more) (sym (behind_first e a (hyphen ∷ (v ++ more)) before))
+            (refl, (refl, (hyphen ∷ [], v ++ more, refl, (refl, ap (λ c. c ∷ []) value), (refl, (refl, (v, more, refl, high, (refl, (refl, refl, refl)))))))),
+      ),
+    )
+
+    pub three_gives : {low high : ClassAtom} {h : Span} (given : ClassItem) → is_read e.mode ≡ true → (not (is_unicode e.mode) && not (is_character (atom_of low) && is_character (atom_of high))) ≡ true → PairStands new low high h
+        → item_members given ≡ atom_member low ∷ hyphen_member h ∷ atom_member high ∷ [] → GivesItem e added old new (Ok given)
+    three_gives {low} {high} {h} given read three p m =
+        items.some (p.w ++ (p.hyphen ∷ p.v)) (rest new) p.passes.whole (rw m record {
+          some = omega (arith, length-append p.w (p.hyphen ∷ p.v));
+          row = rw (atom_events low, atom_events high, ← place, append_assoc p.w (p.hyphen ∷ p.v) (rest new))
+              (three_row (atom_of low) (atom_of high) (atom_span low) h (atom_span high) p.w p.v (rest new) p.hyphen before p.low_is p.high_is p.hyphen_is p.low_span p.hyphen_span p.high_span);
+          early = (atom_early low p.low_obeys, (by_computing, (atom_early high p.high_obeys, tt)));
+          plain = (atom_plain low, (tt, (atom_plain high, tt)));
+          no_strings = rw (atom_no_strings e low p.w _ read p.low_is, atom_no_strings e high p.v _ read p.high_is) refl;
+        }) (passes_over p.passes)
+      where
+        by_computing : 45 ≤ 0x10FFFF
+        by_computing = omega arith
+
+        place : old.place + length p.w + 1 + length p.v ≡ old.place + length (p.w ++ (p.hyphen ∷ p.v))
+        place = omega (arith, length-append p.w (p.hyphen ∷ p.v))
+
+        tests : (not (is_unicode e.mode) ≡ true) × (not (is_character (atom_of low) && is_character (atom_of high)) ≡ true)
+        tests = both (not (is_unicode e.mode)) (not (is_character (atom_of low) && is_character (atom_of high))) three
+
+        before : BeforeThird e (atom_of low) (p.hyphen ∷ (p.v ++ rest new))
+        before = record {
+          hyphen = p.hyphen;
+          third = atom_of high;
+          w = p.v;
+          more = rest new;
+          whole = refl;
+          hyphen_is = p.hyphen_is;
+          dashed = p.dashed;
+          spelled = p.high_is;
+          apart = not_true _ tests.1;
+          threes = legacy_threes e.mode (not_true _ tests.0);
+        }

@@ -1,5 +1,6 @@
 -- What is read behind a backslash is what is answered.
-use Rattle.std.proofs.Common.{◌≡◌, ℕ, ◌+◌, ◌-◌, ◌≤◌, Bool, true, false, List, ◌∷◌, length, min, Some, None, Ok, Err, arith, sym, ap, ap₂, ◌∙◌, refl, subst, length-drop}
+use Rattle.std.proofs.Common.{◌≡◌, ℕ, ◌+◌, ◌-◌, ◌≤◌, ◌==◌, ◌&&◌, Bool, true, false, cond, Option, List, [], ◌∷◌, ◌++◌, length, min, Some, None, Result, Err, arith, inl, inr, sym, ap, ap₂, ◌∙◌, refl, subst, length-drop}
+use Rattle.std.proofs.lemmas.Bool.{cases_Bool, cond-false, eqb-true}
 use Rattle.std.proofs.lemmas.List.{length-map}
 use Rattle.rx_base.specs.declared.diagnostic.Diagnostic.{Diagnostic}
 use Rattle.rx_base.specs.declared.diagnostic.Diagnostic.TheVariants.{TooLargeNumberDigits, InvalidUnicodeEscapeSequence}
@@ -10,84 +11,155 @@ use Rattle.rx_ast.specs.declared.leaf.CharacterKind.{CharacterKind}
 use Rattle.rx_units.specs.declared.code_point.CodePoint.{CodePoint}
 use Rattle.rx_units.specs.Cursor.{Cursor, moved, rest}
 use Rattle.rx_units.specs.Units.{values}
+use Rattle.rx_model.specs.Characters.Escapes.{front_is}
 use Rattle.rx_model.specs.Inputs.Environment.{Environment, is_unicode}
 use Rattle.rx_model.specs.Refusals.EscapeCauses.{IsEscapeCause, invalid_escape, too_many_hex_digits}
 use Rattle.rx_model.specs.Refusals.Firsts.{of_character}
-use Rattle.rx_model.specs.Reading.Fronts.{EscapeRead, escape_at, escaped, nothing, no_unicode}
-use Rattle.rx_model.specs.Reading.Fronts as fronts
-use Rattle.rx_model.specs.Inputs.Modes.{mode_by}
+use Rattle.rx_model.specs.Refusals.Stops.{is_hyphen_escaped}
+use Rattle.rx_model.specs.Reading.Fronts.{EscapeRead, any_escape_at, class_escape_at, escape_at, escaped, escaped_if, letter_at, nothing, no_unicode, too_many}
 use Rattle.rx_model.specs.Refusals.Reached.{span_between}
-use Rattle.rx_model.proofs.Characters.Escapes.{escape_no_unicode, escape_nothing, escape_small, escape_spelled, escape_too_many, spelled_escape}
+use Rattle.rx_model.proofs.Characters.Backslashes.{no_right}
+use Rattle.rx_model.proofs.Characters.Decodings.{chosen}
+use Rattle.rx_model.proofs.Characters.Escapes.{escape_no_unicode, escape_nothing, escape_spelled, escape_too_many, spelled_escape}
+use Rattle.rx_model.proofs.Characters.LegacyEscapes.{IsCharacterOrNothing, any_in_unicode, any_legacy_read, any_read, any_refused, any_spelled}
 use Rattle.rx_model.proofs.Reading.Splits.{split_values}
+use Rattle.rx_model.proofs.Refusals.LegacyStops.{atom_behind_backslash}
 use Rattle.rx_model.proofs.Refusals.OneEscape.{escape_is_first}
-use Rattle.rx_class.specs.EscapeAnswers.{BeginsNoEscape, GivesCharacter, IsBehindBackslash, from_backslash, some, none, refused, span_to}
+use Rattle.rx_class.specs.EscapeAnswers.{BeginsNoEscape, GivesCharacter, IsBehindBackslash, SpellsCharacter, from_backslash, in_each_mode, in_legacy_mode, span_to}
+use Rattle.rx_class.specs.EscapeAnswers as given
+use Rattle.rx_class.specs.Found.{AnswersFound, many_digits, no_escape_of_u, none, shared_escape_at, some}
 use Rattle.rx_class.specs.Keeping.{KeepsUnits}
 use Rattle.rx_class.proofs.Behind.{from_backslash_values}
 use Rattle.rx_class.proofs.Keeping.{keeps_on, moved_keeps}
-use Rattle.rx_class.proofs.PropertySpans.{from_brace}
 
 -- some places on, where so many units are left
 moved_within : (n : ℕ) (r : Cursor) → 1 ≤ n → n ≤ length (rest r) → min (r.place + n) (length r.units) ≡ r.place + n
 moved_within n r one within = let left = length-drop r.place r.units in grind arith
 
-module _ (e : Environment) (added start : ℕ) (old : Cursor) where
-  pub character_gives : (it : Character) (n : ℕ) (new : Cursor) → escape_at (is_unicode e.mode) (values (rest old)) ≡ escaped it.kind it.value n
-      → new ≡ moved n old → it.span ≡ span_to added start new → GivesCharacter e added start old new (Ok (Some it))
-  character_gives it n new read is span =
-      let found = escape_spelled e it.kind it.value n (values (rest old)) read in
-      let split = split_values (rest old) found.spelled found.rest found.whole in
-      let count : n ≡ length split.front = omega (arith, found.count, ap length split.front_is, length-map split.front (λ (u : CodePoint). u.value)) in
-      some split.front split.back split.whole (rw (split.front_is, split.back_is) found.spells) (escape_small e it.kind it.value n (values (rest old)) read) span (is ∙ ap (λ n. moved n old) count)
+module _ (added start : ℕ) (old : Cursor) where
+  pub many_digits_answered : (count : ℕ) (behind new : Cursor) (span : Span) → count + 2 ≤ length (rest old) → behind ≡ moved 2 old
+      → span ≡ span_between behind.units behind.first added behind.place (behind.place + count) → KeepsUnits behind new
+      → AnswersFound added start old new (too_many count) (Err (TooLargeNumberDigits span Hex))
+  many_digits_answered count behind new span within moves covers keeps =
+      let on = ap (λ (r : Cursor). span_between r.units r.first added r.place (r.place + count)) moves in
+      let place = ap (λ place. span_between old.units old.first added place (place + count)) (moved_within 2 old (omega arith) (omega arith)) in
+      rw (covers ∙ on ∙ place) (many_digits (keeps_on (moved_keeps 2 old behind moves) keeps))
 
-  -- Where no character is read none is spelled.
-  begins_no_escape : (read : EscapeRead) → escape_at (is_unicode e.mode) (values (rest old)) ≡ read → ((kind : CharacterKind) (v n : ℕ) → read ≡ escaped kind v n → ⊥) → BeginsNoEscape e (values (rest old))
-  begins_no_escape read here no_character kind v w more whole spells =
-      no_character kind v (length w) (sym here ∙ ap (escape_at (is_unicode e.mode)) whole ∙ spelled_escape e kind v w more spells)
+  pub invalid_answered : (new : Cursor) (span : Span) → span ≡ span_between old.units old.first added old.place (old.place + 1) → KeepsUnits old new
+      → AnswersFound added start old new no_unicode (Err (InvalidUnicodeEscapeSequence span))
+  invalid_answered new span covers keeps = rw covers (no_escape_of_u keeps)
 
-  -- In a unicode mode what holds of an escape is refused, and first.
-  module _ (unicode : is_unicode e.mode ≡ true) where
-    in_unicode : (read : EscapeRead) → escape_at (is_unicode e.mode) (values (rest old)) ≡ read → escape_at true (values (rest old)) ≡ read
-    in_unicode read here = subst (λ m. escape_at m (values (rest old)) ≡ read) unicode here
+either : {x y z : EscapeRead} (b : Bool) → x ≡ z → y ≡ z → cond b x y ≡ z
+either true p q = p
+either false p q = q
 
-    pub nothing_gives : escape_at (is_unicode e.mode) (values (rest old)) ≡ nothing → GivesCharacter e added start old old (Ok None)
-    nothing_gives read =
-        none refl (begins_no_escape nothing read (λ kind v n h. let no : nothing ≡ escaped kind v n = h in cc no)) (escape_nothing (values (rest old)) (in_unicode nothing read))
+letter_no_refusal : (kind : CharacterKind) (count : ℕ) (o : Option ℕ) → IsCharacterOrNothing (escaped_if kind count o)
+letter_no_refusal kind count None = tt
+letter_no_refusal kind count (Some v) = tt
 
-    module _ (is : IsBehindBackslash old start) where
-      abbrev IsCauseHere : Diagnostic → Type 0
-      IsCauseHere = IsEscapeCause e.mode old.units old.first added (old.place - 1) (from_backslash old)
+-- of `c` no escape is refused
+c_no_refusal : (unicode : Bool) (w : List ℕ) → front_is (λ c. c == 99) w ≡ true → IsCharacterOrNothing (escape_at unicode w)
+unfolding escape_at
+c_no_refusal unicode [] h = absurd (let no : ⊥ = cc h in no)
+c_no_refusal unicode (c ∷ w) h = subst (λ c. IsCharacterOrNothing (escape_at unicode (c ∷ w))) (sym (eqb-true c 99 h)) (letter_no_refusal _ 2 (letter_at w))
 
-      escape_refused : (d : Diagnostic) (new : Cursor) → IsCauseHere d → BeginsNoEscape e (values (rest old)) → KeepsUnits old new → GivesCharacter e added start old new (Err d)
-      escape_refused d new cause no_escape keeps =
-          refused cause (escape_is_first e.mode old.units old.first added (old.place - 1) (from_backslash old) (old.place - 1) d (of_character cause)) no_escape keeps
+module _ (e : Environment) where
+  -- With neither `u` nor `v` nothing is found before `k` alone, where it begins a reference.
+  pub nothing_in_legacy : (c : ℕ) (w : List ℕ) → is_unicode e.mode ≡ false → (c == 98) ≡ false → class_escape_at c ≡ None → any_escape_at true e (c ∷ w) ≡ nothing → (c == 107 && e.named) ≡ true
+  nothing_in_legacy c w m b d h = elim (cases_Bool (c == 107 && e.named)) [
+    | inl k ↦ k
+    | inr k ↦ let t = atom_behind_backslash e m c w k in let no : ⊥ = grind (arith, m, b, d, h, t.2, no_right (is_hyphen_escaped e.mode)) in absurd no
+  ]
 
-      pub too_many_gives : (count : ℕ) (behind new : Cursor) (span : Span) → escape_at (is_unicode e.mode) (values (rest old)) ≡ fronts.too_many count → count + 2 ≤ length (rest old)
-          → behind ≡ moved 2 old → span ≡ span_between behind.units behind.first added behind.place (behind.place + count) → KeepsUnits behind new
-          → GivesCharacter e added start old new (Err (TooLargeNumberDigits span Hex))
-      too_many_gives count behind new span read within moves covers keeps =
-          let on = ap (λ (r : Cursor). span_between r.units r.first added r.place (r.place + count)) moves in
-          let place = ap (λ place. span_between old.units old.first added place (place + count)) (moved_within 2 old (omega arith) (omega arith)) in
-          let at = from_brace old added count span is.behind (covers ∙ on ∙ place) in
-          escape_refused _ new
-          (rw at (too_many_hex_digits count (values (rest old)) unicode (from_backslash_values old start is) (escape_too_many (values (rest old)) count (in_unicode (fronts.too_many count) read))))
-          (begins_no_escape (fronts.too_many count) read (λ kind v n h. let no : fronts.too_many count ≡ escaped kind v n = h in cc no))
-          (keeps_on (moved_keeps 2 old behind moves) keeps)
+  u_begins_one : (w : List ℕ) → any_escape_at true e (117 ∷ w) ≡ nothing → ⊥
+  u_begins_one w h = elim (cases_Bool (is_unicode e.mode)) [
+    | inl m ↦ let k = escape_nothing (117 ∷ w) (ap (λ u. escape_at u (117 ∷ w)) (sym m) ∙ sym (any_in_unicode true e (117 ∷ w) m) ∙ h) in cc k
+    | inr m ↦ let k = nothing_in_legacy 117 w m refl refl h in cc k
+  ]
 
-      pub invalid_gives : (new : Cursor) (span : Span) → escape_at (is_unicode e.mode) (values (rest old)) ≡ no_unicode
-          → span ≡ span_between old.units old.first added old.place (old.place + 1) → KeepsUnits old new → GivesCharacter e added start old new (Err (InvalidUnicodeEscapeSequence span))
-      invalid_gives new span read covers keeps =
-          let no = escape_no_unicode (values (rest old)) (in_unicode no_unicode read) in
-          let at : span ≡ span_between old.units old.first added (old.place - 1 + 1) (old.place - 1 + 2) =
-          covers ∙ ap₂ (span_between old.units old.first added) (let k : old.place ≡ old.place - 1 + 1 = omega (arith, is.behind) in k) (let k : old.place + 1 ≡ old.place - 1 + 2 = omega (arith, is.behind) in k) in
-          escape_refused _ new
-          (rw at (invalid_escape no.behind unicode (from_backslash_values old start is ∙ ap (λ us. 92 ∷ us) no.whole) (rw no.whole at no.no_value) (rw no.whole at no.no_limit)))
-          (begins_no_escape no_unicode read (λ kind v n h. let bad : no_unicode ≡ escaped kind v n = h in cc bad)) keeps
+  -- Where nothing is read no `u` stands.
+  no_u_there : (w : List ℕ) → shared_escape_at e w ≡ nothing → front_is (λ c. c == 117) w ≡ false
+  no_u_there [] h = refl
+  no_u_there (c ∷ w) h = elim (cases_Bool (c == 117)) [
+    | inl u ↦ absurd (u_begins_one w (subst (λ c. shared_escape_at e (c ∷ w) ≡ nothing) (eqb-true c 117 u) h))
+    | inr u ↦ u
+  ]
 
--- In a unicode mode the flag says how escapes are read.
-pub mode_unicode : (u v : Bool) → u ≡ true → is_unicode (mode_by u v) ≡ true
-mode_unicode true true h = refl
-mode_unicode true false h = refl
-mode_unicode false v h = absurd (let no : ⊥ = cc h in no)
+  -- what is spelled is read, and
+  shared_read : (kind : CharacterKind) (v : ℕ) (w more : List ℕ) → SpellsCharacter e kind v w more → shared_escape_at e (w ++ more) ≡ escaped kind v (length w)
+  shared_read kind v w more (in_each_mode s) = either (front_is (λ c. c == 99) (w ++ more)) (spelled_escape e kind v w more s) (any_read true e kind v w more s)
+  shared_read kind v w more (in_legacy_mode m c s) = cond-false (front_is (λ c. c == 99) (w ++ more)) _ _ c ∙ any_legacy_read true e kind v w more m s
 
-pub read_in_mode : (u v : Bool) (us vs : List CodePoint) (read : EscapeRead) → u ≡ true → us ≡ vs → read ≡ escape_at u (values us) → escape_at (is_unicode (mode_by u v)) (values vs) ≡ read
-read_in_mode u v us vs read unicode same here = sym (here ∙ ap₂ (λ m us. escape_at m (values us)) (unicode ∙ sym (mode_unicode u v unicode)) same)
+  -- what is read is spelled.
+  record SharedFront (kind : CharacterKind) (v n : ℕ) (w : List ℕ) : Type 0 where
+    spelled : List ℕ
+    more : List ℕ
+    spells : SpellsCharacter e kind v spelled more
+    whole : w ≡ spelled ++ more
+    count : length spelled ≡ n
+
+  shared_spelled : (kind : CharacterKind) (v n : ℕ) (w : List ℕ) → shared_escape_at e w ≡ escaped kind v n → SharedFront kind v n w
+  shared_spelled kind v n w h = elim (chosen (front_is (λ c. c == 99) w) h) [
+    | inl p ↦ let f = escape_spelled e kind v n w p.1 in record { spelled = f.spelled; more = f.rest; spells = in_each_mode f.spells; whole = f.whole; count = f.count }
+    | inr p ↦ elim (any_spelled true e kind v n w p.1) [
+      | inl f ↦ record { spelled = f.spelled; more = f.rest; spells = in_each_mode f.spells; whole = f.whole; count = f.count }
+      | inr (m, f) ↦ record {
+        spelled = f.spelled;
+        more = f.rest;
+        spells = in_legacy_mode m (ap (front_is (λ c. c == 99)) (sym f.whole) ∙ p.0) f.spells;
+        whole = f.whole;
+        count = f.count;
+      }
+    ]
+  ]
+
+  shared_refused : (w : List ℕ) (r : EscapeRead) → shared_escape_at e w ≡ r → (IsCharacterOrNothing r → ⊥) → (is_unicode e.mode ≡ true) × (escape_at true w ≡ r)
+  shared_refused w r h never = elim (chosen (front_is (λ c. c == 99) w) h) [
+    | inl p ↦ absurd (never (subst IsCharacterOrNothing p.1 (c_no_refusal (is_unicode e.mode) w p.0)))
+    | inr p ↦ any_refused true e w r p.1 never
+  ]
+
+  module _ (added start : ℕ) (old new : Cursor) (is : IsBehindBackslash old start) where
+    abbrev IsCauseHere : Diagnostic → Type 0
+    IsCauseHere = IsEscapeCause e.mode old.units old.first added (old.place - 1) (from_backslash old)
+
+    -- What is refused with `u` or `v` is refused for a cause.
+    pub refusal_cause : (read : EscapeRead) (d : Diagnostic) → is_unicode e.mode ≡ true → escape_at true (values (rest old)) ≡ read → AnswersFound added start old new read (Err d) → IsCauseHere d
+    refusal_cause _ _ unicode read (many_digits {count} keeps) =
+        subst (λ place. IsCauseHere (TooLargeNumberDigits (span_between old.units old.first added place (place + count)) Hex)) (let k : old.place - 1 + 3 ≡ old.place + 2 = omega (arith, is.behind) in k)
+        (too_many_hex_digits count (values (rest old)) unicode (from_backslash_values old start is) (escape_too_many (values (rest old)) count read))
+    refusal_cause _ _ unicode read (no_escape_of_u keeps) =
+        let no = escape_no_unicode (values (rest old)) read in
+        let at = ap₂ (span_between old.units old.first added) (let k : old.place - 1 + 1 ≡ old.place = omega (arith, is.behind) in k) (let k : old.place - 1 + 2 ≡ old.place + 1 = omega (arith, is.behind) in k) in
+        subst (λ span. IsCauseHere (InvalidUnicodeEscapeSequence span)) at
+        (invalid_escape no.behind unicode (from_backslash_values old start is ∙ ap (λ us. 92 ∷ us) no.whole) (rw no.whole at no.no_value) (rw no.whole at no.no_limit))
+
+    pub refusal_keeps : (read : EscapeRead) (d : Diagnostic) → AnswersFound added start old new read (Err d) → KeepsUnits old new
+    refusal_keeps _ _ (many_digits keeps) = keeps
+    refusal_keeps _ _ (no_escape_of_u keeps) = keeps
+
+    none_spelled : (read : EscapeRead) → shared_escape_at e (values (rest old)) ≡ read → ((kind : CharacterKind) (v n : ℕ) → read ≡ escaped kind v n → ⊥) → BeginsNoEscape e (values (rest old))
+    none_spelled read here never kind v w more whole spells = never kind v (length w) (sym here ∙ ap (shared_escape_at e) whole ∙ shared_read kind v w more spells)
+
+    refusal_gives : (read : EscapeRead) (d : Diagnostic) → shared_escape_at e (values (rest old)) ≡ read → (IsCharacterOrNothing read → ⊥) → AnswersFound added start old new read (Err d)
+        → GivesCharacter e added start old new (Err d)
+    refusal_gives read d here never answers =
+        let r = shared_refused (values (rest old)) read here never in
+        let cause = refusal_cause read d r.0 r.1 answers in
+        given.refused cause (escape_is_first e.mode old.units old.first added (old.place - 1) (from_backslash old) (old.place - 1) d (of_character cause))
+        (none_spelled read here (λ kind v n is. never (subst IsCharacterOrNothing (sym is) tt))) (refusal_keeps read d answers)
+
+    gives : (read : EscapeRead) (r : Result (Option Character) Diagnostic) → shared_escape_at e (values (rest old)) ≡ read → AnswersFound added start old new read r → GivesCharacter e added start old new r
+    gives _ _ here (some {it} {count} small covers moves) =
+        let f = shared_spelled it.kind it.value count (values (rest old)) here in
+        let split = split_values (rest old) f.spelled f.more f.whole in
+        let n : count ≡ length split.front = omega (arith, f.count, ap length split.front_is, length-map split.front (λ (u : CodePoint). u.value)) in
+        given.some split.front split.back split.whole (rw (split.front_is, split.back_is) f.spells) small covers (moves ∙ ap (λ n. moved n old) n)
+    gives _ _ here (none stays) = given.none stays (none_spelled nothing here (λ kind v n h. let no : nothing ≡ escaped kind v n = h in cc no)) (no_u_there (values (rest old)) here)
+    gives _ _ here (many_digits {count} keeps) = refusal_gives (too_many count) _ here (λ no. no) (many_digits keeps)
+    gives _ _ here (no_escape_of_u keeps) = refusal_gives no_unicode _ here (λ no. no) (no_escape_of_u keeps)
+
+    -- What is found in the units that are left is answered.
+    pub character_gives : (us : List CodePoint) (found : EscapeRead) {r : Result (Option Character) Diagnostic} → us ≡ rest old → found ≡ shared_escape_at e (values us)
+        → AnswersFound added start old new found r → GivesCharacter e added start old new r
+    character_gives us found {r} same read answers = gives found r (sym (read ∙ ap (λ us. shared_escape_at e (values us)) same)) answers

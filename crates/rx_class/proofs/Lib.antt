@@ -9,6 +9,7 @@ pub mod FirstPasses
 pub mod Fitting
 pub mod Gives
 pub mod Keeping
+pub mod LegacyEscapes
 pub mod Modes
 pub mod PairFound
 pub mod PropertyGives

@@ -2,25 +2,18 @@
 use Rattle.std.proofs.Common.{◌≡◌, refl, sym, ap, ◌∙◌, ℕ, ◌==◌, ◌||◌, not, Bool, true, false, Option, List}
 use Rattle.rx_model.specs.declared.mode.Mode.{Mode}
 use Rattle.rx_model.specs.declared.mode.Mode.TheVariants.{Legacy, Unicode, Sets}
-use Rattle.rx_model.specs.Classes.ClassRows.{has_hyphen, stands_raw_in_class}
+use Rattle.rx_model.specs.Classes.ClassRows.{has_hyphen, has_threes, stands_raw_in_class}
 use Rattle.rx_model.specs.Inputs.Environment.{is_unicode}
 use Rattle.rx_model.specs.Inputs.Modes.{is_read, mode_by}
 use Rattle.rx_model.specs.Properties.PropertyEscapes.{SpellsProperty, pair, category, binary, of_strings}
-use Rattle.rx_model.proofs.Inputs.Modes.{read_is_unicode}
 use Rattle.rx_class.specs.PropertyFound.{HasProperties}
 
--- A mode that is read is a unicode mode.
-pub read_unicode : (mode : Mode) → is_read mode ≡ true → is_unicode mode ≡ true
-read_unicode mode read = ap is_unicode (read_is_unicode mode read)
-
--- The first truth value of a state whose mode is read is set.
-pub state_unicode : (u v : Bool) → is_read (mode_by u v) ≡ true → u ≡ true
-state_unicode true v read = refl
-state_unicode false v read = absurd (never v (read_is_unicode (mode_by false v) read))
-  where
-    never : (v : Bool) → mode_by false v ≡ Unicode → ⊥
-    never true h = cc h
-    never false h = cc h
+-- Escapes are those of a unicode mode where one of a state's truth values is set.
+pub by_either : (u v : Bool) → is_unicode (mode_by u v) ≡ (u || v)
+by_either true true = refl
+by_either true false = refl
+by_either false true = refl
+by_either false false = refl
 
 -- Outside sets mode the first of the two values says whether it is a unicode mode.
 pub unicode_by : (u v : Bool) → v ≡ false → is_unicode (mode_by u v) ≡ u
@@ -38,6 +31,12 @@ pub read_hyphen : (mode : Mode) → is_read mode ≡ true → has_hyphen mode �
 read_hyphen Legacy read = refl
 read_hyphen Unicode read = refl
 read_hyphen Sets read = absurd (let no : ⊥ = cc read in no)
+
+-- Where no escape is that of a unicode mode three items may stand.
+pub legacy_threes : (mode : Mode) → is_unicode mode ≡ false → has_threes mode ≡ true
+legacy_threes Legacy h = refl
+legacy_threes Unicode h = absurd (let no : ⊥ = cc h in no)
+legacy_threes Sets h = absurd (let no : ⊥ = cc h in no)
 
 -- No property is one of strings.
 pub no_strings : (mode : Mode) (strings : Bool) (name : List ℕ) (value : Option (List ℕ)) (text : List ℕ) → is_read mode ≡ true → SpellsProperty mode strings name value text → strings ≡ false

@@ -1,5 +1,5 @@
 -- What the readers of a class's atoms and of its items answer, at a place where one is to stand, by the environment of the reader's whole text.
-use Rattle.std.specs.Prelude.{◌≡◌, ℕ, ◌+◌, ◌-◌, ◌<◌, ◌≤◌, ◌==◌, ◌&&◌, ◌≢◌, false, true, Option, Some, None, Result, Ok, Err, List, [], ◌∷◌, ◌++◌, length, map, if◌then◌else◌}
+use Rattle.std.specs.Prelude.{◌≡◌, ℕ, ◌+◌, ◌-◌, ◌<◌, ◌≤◌, ◌==◌, ◌&&◌, ◌≢◌, Bool, false, true, Option, Some, None, Result, Ok, Err, List, [], ◌∷◌, ◌++◌, length, map, if◌then◌else◌}
 use Rattle.rx_base.specs.declared.diagnostic.Diagnostic.{Diagnostic}
 use Rattle.rx_base.specs.declared.diagnostic.Diagnostic.TheVariants.{CharacterClassRangeOutOfOrder, CharacterClassRangeDashNotSubtraction, CharacterClassRangeInvalidAtom}
 use Rattle.rx_base.specs.declared.diagnostic.kinds.RangeKind.TheVariants as range_kind
@@ -20,14 +20,16 @@ use Rattle.rx_model.specs.Refusals.ClassCauses.{IsClassCause, is_character}
 use Rattle.rx_model.specs.Refusals.ClassPlaces.{IsAtomPlace, IsItemPlace}
 use Rattle.rx_model.specs.Classes.ClassRows.{ClassRow, SpellsAtom, fresh}
 use Rattle.rx_model.specs.Classes.ClassRuns.{atom_obeys}
-use Rattle.rx_model.specs.Classes.ClassTokens.{Atom, character, escape, property, member_events}
-use Rattle.rx_model.specs.Trees.Early.{IsEarlyMember, member_strings}
+use Rattle.rx_model.specs.Classes.ClassTokens.{Atom, character, escape, property, more_members_events}
+use Rattle.rx_model.specs.Trees.Early.{AreEarlyMembers, any_strings}
 use Rattle.rx_model.specs.Inputs.Environment.{Environment}
 use Rattle.rx_model.specs.FirstPass.Marks.{starts}
 use Rattle.rx_model.specs.Refusals.Reached.{span_between, text_environment}
 use Rattle.rx_model.specs.Characters.UnitKinds.{unit_kind}
 use Rattle.rx_class.specs.declared.class_atom.ClassAtom.{ClassAtom}
 use Rattle.rx_class.specs.declared.class_atom.ClassAtom.TheVariants as atom
+use Rattle.rx_class.specs.declared.class_item.ClassItem.{ClassItem}
+use Rattle.rx_class.specs.declared.class_item.ClassItem.TheVariants as item
 use Rattle.rx_class.specs.Keeping.{KeepsUnits}
 
 -- the atom, without its span
@@ -51,10 +53,10 @@ atom_member (atom.Property p) = tree.property p
 abbrev pub kind_in_class : CodePoint → CharacterKind
 kind_in_class u = if u.value == 45 then kind.Symbol else unit_kind u.escape_kind
 
--- the character that stands behind a backslash in classes alone, all by itself
-abbrev pub alone_in_class : List ℕ → Option ℕ
-alone_in_class [] = None
-alone_in_class (c ∷ w) = if c == 98 then Some 8 else (if c == 45 then Some 45 else None)
+-- the character that stands behind a backslash in classes alone, all by itself, with `u` or without
+abbrev pub alone_in_class : Bool → List ℕ → Option ℕ
+alone_in_class unicode [] = None
+alone_in_class unicode (c ∷ w) = if c == 98 then Some 8 else (if unicode && c == 45 then Some 45 else None)
 
 -- the environment is that of the text that a reader reads
 abbrev pub IsOfText : Environment → Cursor → Type 0
@@ -110,17 +112,34 @@ IsPlain (tree.character c) = Unit {0}
 IsPlain (tree.nested c) = ⊥
 IsPlain (tree.strings d) = ⊥
 
--- The units w spell a member from place i on, where o gives the offset of a place; it is free of early errors.
-pub record IsItem (e : Environment) (o : ℕ → ℕ) (i : ℕ) (m : Member) (w more : List CodePoint) : Type 0 where
-  pub row : ClassRow e o (member_events m) fresh i (w ++ more) fresh (i + length w) more
-  pub early : IsEarlyMember m
-  pub plain : IsPlain m
-  pub no_strings : member_strings m ≡ false
+abbrev pub ArePlain : List Member → Type 0
+ArePlain [] = Unit {0}
+ArePlain (m ∷ ms) = IsPlain m × ArePlain ms
 
--- What stands at the reader's place is answered as an item of a class: an atom, or a range (NonemptyClassRanges, 22.2.1).
-pub data GivesItem (e : Environment) (added : ℕ) (old new : Cursor) : Result CharacterClassContents Fault → Type 0 where
-  some : {it : CharacterClassContents} (w more : List CodePoint) → rest old ≡ w ++ more
-      → IsItem e (λ i. offset_at old.first old.units i + added) old.place (mirror_contents it) w more → new ≡ moved (length w) old → GivesItem e added old new (Ok it)
+-- The units w, one at least, spell members from place i on, where o gives the offset of a place; they are free of early errors.
+pub record IsItem (e : Environment) (o : ℕ → ℕ) (i : ℕ) (ms : List Member) (w more : List CodePoint) : Type 0 where
+  pub some : 0 < length w
+  pub row : ClassRow e o (more_members_events [] (members ms)) fresh i (w ++ more) fresh (i + length w) more
+  pub early : AreEarlyMembers (members ms)
+  pub plain : ArePlain ms
+  pub no_strings : any_strings (members ms) ≡ false
+
+-- the contents that an item is
+abbrev pub item_contents : ClassItem → List CharacterClassContents
+item_contents (item.One it) = it ∷ []
+item_contents (item.Three first hyphen last) = first ∷ hyphen ∷ last ∷ []
+
+abbrev pub item_members : ClassItem → List Member
+item_members it = map mirror_contents (item_contents it)
+
+-- the `-` of three items
+abbrev pub hyphen_member : Span → Member
+hyphen_member span = tree.character (record { span = span; kind = kind.Symbol; value = 45 })
+
+-- What stands at the reader's place is answered as an item of a class: an atom, or a range (NonemptyClassRanges, 22.2.1), or three items (CharacterRangeOrUnion, B.1.2).
+pub data GivesItem (e : Environment) (added : ℕ) (old new : Cursor) : Result ClassItem Fault → Type 0 where
+  some : {it : ClassItem} (w more : List CodePoint) → rest old ≡ w ++ more
+      → IsItem e (λ i. offset_at old.first old.units i + added) old.place (item_members it) w more → new ≡ moved (length w) old → GivesItem e added old new (Ok it)
   refused : {diagnostic : Diagnostic} → IsItemCause e added old diagnostic → KeepsUnits old new → GivesItem e added old new (Err (fault.Diagnostic diagnostic))
   no_memory : KeepsUnits old new → GivesItem e added old new (Err fault.OutOfMemory)
 

@@ -1,5 +1,5 @@
 -- What the readers of escapes answer behind a backslash, and where they leave the reader. A span has an offset added to both its ends.
-use Rattle.std.specs.Prelude.{◌≡◌, ℕ, ◌+◌, ◌-◌, ◌≤◌, false, ◌==◌, Option, Some, None, Result, Ok, Err, List, ◌∷◌, ◌++◌, length, drop}
+use Rattle.std.specs.Prelude.{◌≡◌, ℕ, ◌+◌, ◌-◌, ◌≤◌, true, false, ◌==◌, Option, Some, None, Result, Ok, Err, List, ◌∷◌, ◌++◌, length, drop}
 use Rattle.rx_base.specs.declared.diagnostic.Diagnostic.{Diagnostic}
 use Rattle.rx_base.specs.declared.span.Span.{Span}
 use Rattle.rx_units.specs.declared.code_point.CodePoint.{CodePoint}
@@ -10,9 +10,10 @@ use Rattle.rx_ast.specs.declared.leaf.CharacterClassEscape.{CharacterClassEscape
 use Rattle.rx_ast.specs.declared.leaf.CharacterClassEscapeKind.{CharacterClassEscapeKind}
 use Rattle.rx_ast.specs.declared.leaf.CharacterKind.{CharacterKind}
 use Rattle.rx_model.specs.Spelling.ClassText.{class_escape_text}
-use Rattle.rx_model.specs.Inputs.Environment.{Environment, environment_with, has_some}
+use Rattle.rx_model.specs.Inputs.Environment.{Environment, environment_with, has_some, is_unicode}
 use Rattle.rx_model.specs.Refusals.EscapeCauses.{IsEscapeCause}
 use Rattle.rx_model.specs.Characters.Escapes.{SpellsEscape, front_is}
+use Rattle.rx_model.specs.Characters.LegacyEscapes.{SpellsLegacy}
 use Rattle.rx_model.specs.Refusals.Firsts.{IsFirstOfEscape}
 use Rattle.rx_model.specs.Inputs.Modes.{mode_by}
 use Rattle.rx_scan.specs.declared.state.State.{State}
@@ -33,9 +34,17 @@ pub record IsBehindBackslash (r : Cursor) (span_start : ℕ) : Type 0 where
 abbrev pub from_backslash : Cursor → List CodePoint
 from_backslash r = drop (r.place - 1) r.units
 
+-- The kind and the value of a character that these characters spell before more, behind a backslash that may stand in a class and outside classes.
+pub data SpellsCharacter (e : Environment) (kind : CharacterKind) (value : ℕ) (w more : List ℕ) : Type 0 where
+  -- CharacterEscape, 22.2.1
+  in_each_mode : SpellsEscape e kind value w more → SpellsCharacter e kind value w more
+  -- with neither `u` nor `v` LegacyOctalEscapeSequence and SourceCharacterIdentityEscape (B.1.2), as in a class, where no reference and no `\B` is read; of `c`
+  -- the rows of CharacterEscape alone
+  in_legacy_mode : is_unicode e.mode ≡ false → front_is (λ c. c == 99) (w ++ more) ≡ false → SpellsLegacy true e kind value w more → SpellsCharacter e kind value w more
+
 -- no character escape stands at the front
 abbrev pub BeginsNoEscape : Environment → List ℕ → Type 0
-BeginsNoEscape e us = (kind : CharacterKind) (value : ℕ) (w more : List ℕ) → us ≡ w ++ more → SpellsEscape e kind value w more → ⊥
+BeginsNoEscape e us = (kind : CharacterKind) (value : ℕ) (w more : List ℕ) → us ≡ w ++ more → SpellsCharacter e kind value w more → ⊥
 
 -- the span from before the backslash to where the reader stands
 abbrev pub span_to : ℕ → ℕ → Cursor → Span
@@ -44,7 +53,7 @@ span_to added start r = record { start = start + added; end = offset_of r + adde
 -- What stands at the reader's place is answered as a character escape (CharacterEscape, 22.2.1).
 pub data GivesCharacter (e : Environment) (added start : ℕ) (old new : Cursor) : Result (Option Character) Diagnostic → Type 0 where
   -- one is spelled, and the reader moves over it
-  some : {it : Character} (w more : List CodePoint) → rest old ≡ w ++ more → SpellsEscape e it.kind it.value (values w) (values more) → it.value ≤ 0x10FFFF
+  some : {it : Character} (w more : List CodePoint) → rest old ≡ w ++ more → SpellsCharacter e it.kind it.value (values w) (values more) → it.value ≤ 0x10FFFF
       → it.span ≡ span_to added start new → new ≡ moved (length w) old → GivesCharacter e added start old new (Ok (Some it))
   -- none stands, nor the `u` of one, and the reader stays
   none : new ≡ old → BeginsNoEscape e (values (rest old)) → front_is (λ c. c == 117) (values (rest old)) ≡ false → GivesCharacter e added start old new (Ok None)

@@ -4,7 +4,7 @@ ghost use Rattle.rx_class.specs.EscapeAnswers.{environment_of};
 ghost use Rattle.rx_class.specs.ClassAnswers.{GivesClass, HoldsFirstPass};
 ghost use Rattle.rx_class.specs.Fitting.{AreFitting};
 
-use crate::class_item::class_item;
+use crate::class_item::{class_item, push_item};
 use crate::spans::span_to_here;
 use rx_ast::{CharacterClass, CharacterClassContentsKind};
 use rx_base::{Diagnostic, Fault, List, Unterminated};
@@ -16,9 +16,9 @@ use std::alloc::Global;
 /// `None`, and the reader stays.
 ///
 /// It is refused by `UnterminatedPattern` where the text ends in it; by `CharacterClassRangeOutOfOrder` or, where the end is a `-`,
-/// by `CharacterClassRangeDashNotSubtraction` where a range ends below its start; by `CharacterClassRangeInvalidAtom` where an end of
-/// a range is no character; by `InvalidClassAtom` where a backslash begins no escape of a class; and as the escapes in it are. Spans
-/// are in bytes.
+/// by `CharacterClassRangeDashNotSubtraction` where a range ends below its start; with `u` by `CharacterClassRangeInvalidAtom` where
+/// an end of a range is no character; by `InvalidClassAtom` where a backslash begins no escape of a class; and as the escapes in it
+/// are. Spans are in bytes.
 pub fn parse_character_class(
     alloc: Global,
     reader: &mut Reader<'_>,
@@ -42,7 +42,8 @@ pub fn parse_character_class(
             let what = Unterminated::CharacterClass;
             return Err(Fault::Diagnostic(Diagnostic::UnterminatedPattern { span, what }));
         }
-        body.push(class_item(alloc, reader, state, spans)?)?;
+        let item = class_item(alloc, reader, state, spans)?;
+        push_item(&mut body, item)?;
     }
     reader.advance();
     Ok(Some(CharacterClass {

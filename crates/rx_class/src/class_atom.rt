@@ -8,7 +8,7 @@ ghost use Rattle.rx_class.specs.EscapeAnswers.{IsBehindBackslash, environment_of
 ghost use Rattle.rx_class.specs.ClassItems.{GivesAtom, IsOfText, StandsItem, alone_in_class, atom_member, atom_span, back, kind_in_class};
 ghost use Rattle.rx_class.specs.Fitting.{AreFitting};
 
-use crate::escape::{parse_character_class_escape, parse_character_escape};
+use crate::escape::{character_in_class, is_unicode, parse_character_class_escape};
 use crate::property::parse_character_class_escape_unicode;
 use crate::spans::span_to_here;
 use rx_ast::{
@@ -121,7 +121,7 @@ fn escaped_atom(
     requires fits { AreFitting spans.now reader.old }
     ensures { GivesAtom (environment_of state.now) spans.now (back reader.old) reader.new result }
 {
-    if let Some(value) = alone_in_class(reader.remaining_code_points()) {
+    if let Some(value) = alone_in_class(reader.remaining_code_points(), is_unicode(state)) {
         reader.advance();
         let span = span_to_here(reader, spans, start);
         let kind = CharacterKind::SingleEscape;
@@ -135,20 +135,20 @@ fn escaped_atom(
     )? {
         return Ok(ClassAtom::Property(escape));
     }
-    if let Some(character) = parse_character_escape(reader, state, spans, start)? {
+    if let Some(character) = character_in_class(reader, state, spans, start)? {
         return Ok(ClassAtom::Character(character));
     }
     let span = span_to_here(reader, spans, start);
     Err(Fault::Diagnostic(Diagnostic::InvalidClassAtom { span }))
 }
 
-/// The character that the unit behind a backslash stands for in classes alone: `b` for a backspace, `-` for itself.
-fn alone_in_class(units: &[CodePoint]) -> Option<u32>
-    ensures { result ≡ alone_in_class (values units.now) }
+/// The character that the unit behind a backslash stands for in classes alone: `b` for a backspace and, with `u`, `-` for itself.
+fn alone_in_class(units: &[CodePoint], unicode: bool) -> Option<u32>
+    ensures { result ≡ alone_in_class unicode (values units.now) }
 {
     match char::from_u32(units.first()?.value) {
         Some('b') => Some(8),
-        Some('-') => Some('-' as u32),
+        Some('-') if unicode => Some('-' as u32),
         _ => None,
     }
 }

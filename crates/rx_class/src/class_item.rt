@@ -1,28 +1,65 @@
-ghost use Rattle.std.specs.Prelude.{◌≡◌, IfOk, true};
+ghost use Rattle.std.specs.Prelude.{◌≡◌, ◌&&◌, ◌++◌, ◌∷◌, [], IfOk, OnOk, not, true};
 ghost use Rattle.rx_ast.specs.ClassTree as ClassTree;
 ghost use Rattle.rx_ast.specs.ClassTree.{mirror_contents};
 ghost use Rattle.rx_units.specs.Cursor.{rest};
 ghost use Rattle.rx_units.specs.Units.{values};
 ghost use Rattle.rx_model.specs.Classes.ClassRows.{is_dashed};
+ghost use Rattle.rx_model.specs.Classes.ClassTokens.{is_character};
 ghost use Rattle.rx_model.specs.Inputs.Modes.{is_read};
 ghost use Rattle.rx_class.specs.EscapeAnswers.{environment_of};
-ghost use Rattle.rx_class.specs.ClassItems.{GivesItem, IsBetween, IsOfText, StandsItem};
+ghost use Rattle.rx_class.specs.ClassItems.{GivesItem, IsBetween, IsOfText, StandsItem, atom_member, atom_of, hyphen_member, item_contents, item_members};
 ghost use Rattle.rx_class.specs.Fitting.{AreFitting};
 
 use crate::class_atom::{ClassAtom, class_atom};
-use rx_ast::{CharacterClassContents, CharacterClassRange};
-use rx_base::{Diagnostic, Fault, OutOfMemory, RangeKind, Span};
+use crate::escape::is_unicode;
+use crate::spans::span_to_here;
+use rx_ast::{Character, CharacterClassContents, CharacterClassRange, CharacterKind};
+use rx_base::{Diagnostic, Fault, List, OutOfMemory, RangeKind, Span};
 use rx_scan::{SpanFactory, State};
 use rx_units::{CodePoint, Reader};
 use std::alloc::Global;
 
-/// Reads the item that stands next in a class, an atom or a range (NonemptyClassRanges of ECMA-262, 22.2.1), and moves over it.
+/// An item of a class, as it is read.
+#[derive(Drop)]
+pub enum ClassItem {
+    One(CharacterClassContents),
+    /// An atom, a `-` and an atom that make no range.
+    Three {
+        first: CharacterClassContents,
+        hyphen: CharacterClassContents,
+        last: CharacterClassContents,
+    },
+}
+
+/// Adds what an item is to the contents of a class.
+pub fn push_item(
+    body: &mut List<CharacterClassContents>,
+    item: ClassItem,
+) -> Result<(), OutOfMemory>
+    ensures { OnOk result (body.new ≡ body.old ++ item_contents item) }
+{
+    match item {
+        ClassItem::One(it) => body.push(it),
+        ClassItem::Three {
+            first,
+            hyphen,
+            last,
+        } => {
+            body.push(first)?;
+            body.push(hyphen)?;
+            body.push(last)
+        }
+    }
+}
+
+/// Reads the item that stands next in a class, an atom or a range (NonemptyClassRanges of ECMA-262, 22.2.1), and moves over it. With
+/// neither `u` nor `v` two atoms with a `-` between, of which one is no character, are three items (CharacterRangeOrUnion, B.1.2).
 pub fn class_item(
     alloc: Global,
     reader: &mut Reader<'_>,
     state: &State,
     spans: &SpanFactory,
-) -> Result<CharacterClassContents, Fault>
+) -> Result<ClassItem, Fault>
     requires stands { StandsItem (rest reader.old) }
     requires read { is_read (environment_of state.now).mode ≡ true }
     requires environment { IsOfText (environment_of state.now) reader.old }
@@ -31,12 +68,57 @@ pub fn class_item(
 {
     let low = class_atom(alloc, reader, state, spans)?;
     if !is_dashed(reader.remaining_code_points()) {
-        return Ok(low.into_contents(alloc)?);
+        return Ok(ClassItem::One(low.into_contents(alloc)?));
     }
+    let start = reader.offset();
     reader.advance();
+    let hyphen = span_to_here(reader, spans, start);
     let high = class_atom(alloc, reader, state, spans)?;
+    if are_three(&low, &high, is_unicode(state)) {
+        return Ok(three_items(alloc, low, hyphen, high)?);
+    }
     let range = range_between(&low, &high)?;
-    Ok(range_contents(alloc, range)?)
+    Ok(ClassItem::One(range_contents(alloc, range)?))
+}
+
+/// Whether two atoms with a `-` between are three items, with `u` or without.
+fn are_three(low: &ClassAtom, high: &ClassAtom, unicode: bool) -> bool
+    ensures { result ≡ (not unicode && not (is_character (atom_of low.now) && is_character (atom_of high.now))) }
+{
+    !unicode && !(is_character(low) && is_character(high))
+}
+
+fn is_character(atom: &ClassAtom) -> bool
+    ensures { result ≡ is_character (atom_of atom.now) }
+{
+    match atom {
+        ClassAtom::Character(_) => true,
+        ClassAtom::Escape(_) | ClassAtom::Property(_) => false,
+    }
+}
+
+/// Two atoms and the `-` between them.
+fn three_items(
+    alloc: Global,
+    low: ClassAtom,
+    hyphen: Span,
+    high: ClassAtom,
+) -> Result<ClassItem, OutOfMemory>
+    ensures { IfOk result (λ it. item_members it ≡ atom_member low ∷ hyphen_member hyphen ∷ atom_member high ∷ []) }
+{
+    let first = low.into_contents(alloc)?;
+    let hyphen = ClassAtom::Character(Character {
+        span: hyphen,
+        kind: CharacterKind::Symbol,
+        value: '-' as u32,
+    });
+    let hyphen = hyphen.into_contents(alloc)?;
+    let last = high.into_contents(alloc)?;
+    Ok(ClassItem::Three {
+        first,
+        hyphen,
+        last,
+    })
 }
 
 /// The range as an item of a class.

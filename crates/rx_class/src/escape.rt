@@ -1,23 +1,32 @@
-ghost use Rattle.std.specs.Prelude.{◌≡◌, ◌+◌, ◌<◌, ◌≤◌, ◌^◌, IsTrue, length};
-ghost use Rattle.rx_units.specs.Cursor.{moved, offset_of};
+ghost use Rattle.std.specs.Prelude.{◌≡◌, ◌+◌, ◌<◌, ◌≤◌, ◌==◌, ◌^◌, All, true, length};
+ghost use Rattle.rx_units.specs.Cursor.{moved, offset_of, rest};
+ghost use Rattle.rx_units.specs.Units.{values};
+ghost use Rattle.rx_model.specs.Characters.EscapeFronts.{any_escape_at};
+ghost use Rattle.rx_model.specs.Characters.Escapes.{front_is};
+ghost use Rattle.rx_model.specs.Inputs.Environment.{is_unicode};
 ghost use Rattle.rx_model.specs.Refusals.Reached.{span_between};
 ghost use Rattle.rx_class.specs.EscapeAnswers.{GivesCharacter, GivesClassEscape, IsBehindBackslash, environment_of};
 ghost use Rattle.rx_class.specs.Fitting.{AreFitting};
+ghost use Rattle.rx_class.specs.Found.{AnswersFound, IsWithin, seen_escape, shared_escape_at};
 ghost use Rattle.rx_class.specs.Keeping.{KeepsUnits};
 
 use crate::spans::span_to_here;
-use crate::{EscapeFound, character_escape_at, class_escape_at};
+use crate::{EscapeFound, LegacyContext, any_escape_at, character_escape_at, class_escape_at};
 use rx_ast::{Character, CharacterClassEscape};
 use rx_base::{Diagnostic, DigitsKind, Span};
 use rx_scan::{SpanFactory, State};
-use rx_units::Reader;
+use rx_units::{CodePoint, Reader};
 
 /// Reads the character escape (CharacterEscape of ECMA-262, 22.2.1) behind a backslash that was read, and moves over its units. The
 /// character's span, in bytes, begins at `span_start`, before the backslash. Where none stands the answer is `None`, and the
 /// reader stays.
 ///
-/// It is refused by `TooLargeNumberDigits` where the digits in braces pass 32 bits: the span is that of the digits before the one
-/// that does. It is refused by `InvalidUnicodeEscapeSequence` where `u` begins no unicode escape: the span is that of the `u`.
+/// With neither `u` nor `v` octal escapes and identity escapes are read too (B.1.2), as they stand in classes: a digit begins no
+/// reference, and `B` stands for itself. What classes alone have is not read: `b`, and `c` before anything but a letter.
+///
+/// With `u` or `v` it is refused by `TooLargeNumberDigits` where the digits in braces pass 32 bits: the span is that of the digits
+/// before the one that does. It is refused by `InvalidUnicodeEscapeSequence` where `u` begins no unicode escape: the span is that
+/// of the `u`.
 pub fn parse_character_escape(
     reader: &mut Reader<'_>,
     state: &State,
@@ -26,10 +35,81 @@ pub fn parse_character_escape(
 ) -> Result<Option<Character>, Diagnostic>
     requires backslash { IsBehindBackslash reader.old span_start }
     requires fits { AreFitting spans.now reader.old }
-    requires unicode { IsTrue state.now.unicode_mode }
     ensures { GivesCharacter (environment_of state.now) spans.now span_start reader.old reader.new result }
 {
-    match character_escape_at(reader.remaining_code_points(), state.unicode_mode) {
+    let found = shared_escape(reader.remaining_code_points(), state);
+    answer(reader, spans, span_start, found)
+}
+
+/// Reads the escape of a character (ClassEscape of ECMA-262, 22.2.1) behind a backslash in a class, but for `\b` and `\-`, and moves over it.
+pub fn character_in_class(
+    reader: &mut Reader<'_>,
+    state: &State,
+    spans: &SpanFactory,
+    span_start: u32,
+) -> Result<Option<Character>, Diagnostic>
+    requires backslash { IsBehindBackslash reader.old span_start }
+    requires fits { AreFitting spans.now reader.old }
+    ensures { AnswersFound spans.now span_start reader.old reader.new (any_escape_at true (environment_of state.now) (values (rest reader.old))) result }
+{
+    let units = reader.remaining_code_points();
+    let found = any_escape_at(units, is_unicode(state), context_in_class(state));
+    answer(reader, spans, span_start, found)
+}
+
+/// The escape that units begin with behind a backslash, in and out of classes.
+fn shared_escape(units: &[CodePoint], state: &State) -> EscapeFound
+    requires code_points { All (λ unit. unit.value ≤ 0x10FFFF) units.now }
+    ensures read { seen_escape result ≡ shared_escape_at (environment_of state.now) (values units.now) }
+    ensures within { IsWithin (length units.now) result }
+{
+    if begins_with_c(units) {
+        character_escape_at(units, is_unicode(state))
+    } else {
+        any_escape_at(units, is_unicode(state), context_in_class(state))
+    }
+}
+
+fn begins_with_c(units: &[CodePoint]) -> bool
+    ensures { result ≡ front_is (λ c. c == 99) (values units.now) }
+{
+    units.first().is_some_and(|unit| unit.value == 'c' as u32)
+}
+
+/// Whether escapes are those with `u` or `v`.
+#[tactic(auto, using(crate::proofs::Modes::by_either))]
+pub fn is_unicode(state: &State) -> bool
+    ensures { result ≡ is_unicode (environment_of state.now).mode }
+{
+    state.unicode_mode || state.unicode_sets_mode
+}
+
+/// What the escapes in a class of the pattern depend on.
+fn context_in_class(state: &State) -> LegacyContext
+    ensures inside { result.inside ≡ true }
+    ensures groups { result.groups ≡ (environment_of state.now).groups }
+    ensures named { result.named ≡ (environment_of state.now).named }
+{
+    LegacyContext {
+        inside: true,
+        groups: state.num_of_capturing_groups,
+        named: is_unicode(state) || !state.capturing_group_names.is_empty(),
+    }
+}
+
+/// The answer to what was found where the reader stands. The reader moves over a character.
+fn answer(
+    reader: &mut Reader<'_>,
+    spans: &SpanFactory,
+    span_start: u32,
+    found: EscapeFound,
+) -> Result<Option<Character>, Diagnostic>
+    requires backslash { IsBehindBackslash reader.old span_start }
+    requires fits { AreFitting spans.now reader.old }
+    requires within { IsWithin (length (rest reader.old)) found }
+    ensures { AnswersFound spans.now span_start reader.old reader.new (seen_escape found) result }
+{
+    match found {
         EscapeFound::Character {
             kind,
             value,

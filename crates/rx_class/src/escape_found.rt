@@ -1,11 +1,14 @@
-ghost use Rattle.std.specs.Prelude.{◌≡◌, length, if◌then◌else◌};
+ghost use Rattle.std.specs.Prelude.{◌≡◌, ◌≤◌, All, length, if◌then◌else◌};
 ghost use Rattle.rx_units.specs.Units.{values};
 ghost use Rattle.rx_tables.specs.Characters.{is_decimal_digit};
 ghost use Rattle.rx_model.specs.Characters.Decoding.{decoded};
+ghost use Rattle.rx_model.specs.Characters.EscapeFronts.{any_escape_at};
 ghost use Rattle.rx_model.specs.Characters.Escapes.{front_is, is_identity_escape};
+ghost use Rattle.rx_model.specs.Inputs.Environment.{Environment, is_unicode};
 ghost use Rattle.rx_model.specs.Reading.Fronts.{escape_at, escaped, escaped_if, letter_at, nothing, two_at, unicode_read};
 ghost use Rattle.rx_class.specs.Found.{IsWithin, class_escape_front, seen_escape};
 
+use crate::{LegacyContext, legacy_escape_at};
 use rx_ast::{CharacterClassEscapeKind, CharacterKind};
 use rx_scan::{UnicodeEscape, decode};
 use rx_tables::{
@@ -30,6 +33,31 @@ pub enum EscapeFound {
     },
     /// `u` begins no unicode escape.
     Invalid,
+}
+
+/// The character escape (CharacterEscape of ECMA-262, 22.2.1) that the units behind a backslash begin with in a mode: with neither
+/// `u` nor `v` those of B.1.2 are read too.
+#[tactic(auto, using(crate::proofs::Bounds::any_within))]
+pub fn any_escape_at(units: &[CodePoint], unicode_mode: bool, context: LegacyContext) -> EscapeFound
+    ensures read { (e : Environment) → is_unicode e.mode ≡ unicode_mode → e.groups ≡ context.groups → e.named ≡ context.named
+        → seen_escape result ≡ any_escape_at context.inside e (values units.now) }
+    ensures within { All (λ unit. unit.value ≤ 0x10FFFF) units.now → IsWithin (length units.now) result }
+{
+    escape_of_mode(units, unicode_mode, context)
+}
+
+fn escape_of_mode(units: &[CodePoint], unicode_mode: bool, context: LegacyContext) -> EscapeFound
+    ensures { (e : Environment) → is_unicode e.mode ≡ unicode_mode → e.groups ≡ context.groups → e.named ≡ context.named
+        → seen_escape result ≡ any_escape_at context.inside e (values units.now) }
+{
+    let found = character_escape_at(units, unicode_mode);
+    if unicode_mode {
+        return found;
+    }
+    match found {
+        EscapeFound::Character { .. } | EscapeFound::TooMany { .. } => found,
+        EscapeFound::Nothing | EscapeFound::Invalid => legacy_escape_at(units, context),
+    }
 }
 
 /// The character escape (CharacterEscape of ECMA-262, 22.2.1) that the units behind a backslash begin with. It never fails: what is
@@ -63,7 +91,8 @@ fn first_escape(units: &[CodePoint], unicode_mode: bool) -> EscapeFound
     }
 }
 
-fn character(kind: CharacterKind, value: u32, length: usize) -> EscapeFound
+/// A character of a kind, by so many units behind the backslash.
+pub fn character(kind: CharacterKind, value: u32, length: usize) -> EscapeFound
     ensures { result ≡ EscapeFound.Character kind value length }
 {
     EscapeFound::Character {

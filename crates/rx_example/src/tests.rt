@@ -22,6 +22,6 @@ fn findings(rt: HostRuntime) -> Result<(), Fail> {
         refused.message.as_str(),
         "Invalid regular expression: Duplicated capturing group names"
     );
-    assert!(rt; matches!(inspect(rt.alloc(), "a", None)?, Finding::Later));
+    assert!(rt; matches!(inspect(rt.alloc(), "a", Some("v"))?, Finding::Later));
     Ok(())
 }

@@ -1,7 +1,7 @@
 -- What the readers of classes and of property escapes answer moves a parse on, or refuses the text.
 use Rattle.std.proofs.Common.{◌≡◌, refl, ap, sym, ◌∙◌, subst, ℕ, suc, ◌+◌, ◌-◌, Bool, true, false, ◌&&◌, inl, inr, Option, Some, None, Result, Ok, Err, List, [], ◌∷◌, length, drop, arith}
 use Rattle.std.specs.Prelude.{min}
-use Rattle.std.proofs.lemmas.Bool.{true≢false}
+use Rattle.std.proofs.lemmas.Bool.{and_parts, true≢false}
 use Rattle.std.proofs.lemmas.List.{drop-drop}
 use Rattle.rx_base.specs.declared.fault.Fault.{Fault}
 use Rattle.rx_ast.specs.declared.class.CharacterClass.{CharacterClass}
@@ -14,7 +14,7 @@ use Rattle.rx_units.specs.declared.code_point.CodePoint.{CodePoint}
 use Rattle.rx_units.specs.Cursor.{Cursor, moved, offset_of, rest}
 use Rattle.rx_units.specs.Units.{offset_at, values}
 use Rattle.rx_model.specs.Refusals.Causes.{at_place, of_class, of_property}
-use Rattle.rx_model.specs.Inputs.Environment.{Environment, environment_with, has_some, is_unicode}
+use Rattle.rx_model.specs.Inputs.Environment.{Environment, environment_with, has_some}
 use Rattle.rx_model.specs.Refusals.EscapeCauses.{IsPropertyCause}
 use Rattle.rx_model.specs.Characters.Escapes.{front_is}
 use Rattle.rx_model.specs.Properties.PropertyForms.{begins_property}
@@ -24,7 +24,7 @@ use Rattle.rx_model.specs.Trees.Shapes.{takes}
 use Rattle.rx_model.specs.Trees.Token.{property}
 use Rattle.rx_model.proofs.Classes.ClassUnspanned.{class_unspanned, early_forget}
 use Rattle.rx_model.proofs.Classes.ClassWholes.{only_sets}
-use Rattle.rx_model.proofs.Inputs.Modes.{not_sets, read_is_unicode}
+use Rattle.rx_model.proofs.Inputs.Modes.{not_sets}
 use Rattle.rx_scan.specs.declared.state.State.{State}
 use Rattle.rx_class.specs.EscapeAnswers.{environment_of, from_backslash}
 use Rattle.rx_class.specs.ClassAnswers.{GivesClass}
@@ -140,6 +140,6 @@ module _ {added : ℕ} {b : Builder} {r : Cursor} {state : State} (h : IsBefore 
 
         never : GivesProperty text added start (moved 1 r) s (Ok None) → ⊥
         never (property_answer.none new why) = elim why [
-          | inl legacy ↦ true≢false (sym (ap is_unicode (read_is_unicode b.mode h.read)) ∙ legacy)
-          | inr other ↦ true≢false (sym f.3 ∙ ap (front_is begins_property) (sym behind) ∙ other)
+          | inl legacy ↦ true≢false (sym (and_parts _ _ f.3).1 ∙ legacy)
+          | inr other ↦ true≢false (sym (and_parts _ _ f.3).0 ∙ ap (front_is begins_property) (sym behind) ∙ other)
         ]

@@ -1,74 +1,52 @@
 -- What is found at the front of a text, by what is read there.
-use Rattle.std.proofs.Common.{All, ◌≡◌, refl, sym, ap, ap₂, ◌∙◌, ℕ, ◌+◌, ◌-◌, ◌%◌, ◌≤◌, Bool, true, false, ◌==◌, ◌&&◌, ◌||◌, Some, None, List, [], ◌∷◌, ◌++◌, length, take, drop, get_or, arith, append_assoc, length-append}
+use Rattle.std.proofs.Common.{All, ◌≡◌, refl, sym, ap, ap₂, ◌∙◌, ℕ, ◌+◌, ◌-◌, ◌%◌, ◌≤◌, Bool, true, false, ◌==◌, ◌&&◌, Some, None, List, [], ◌∷◌, ◌++◌, length, take, drop, get_or, arith, append_assoc, length-append}
 use Rattle.std.proofs.Math.Seq.{take-append_seam}
-use Rattle.std.proofs.lemmas.Bool.{cond-false, and_left, ne_eqb, true≢false}
+use Rattle.std.proofs.lemmas.Bool.{cond-false, cond-true, ne_eqb, true≢false}
 use Rattle.std.proofs.lemmas.List.{drop-map, length-drop, length-map, map-append, take-map, take_all}
-use Rattle.rx_tables.specs.Characters.{is_syntax_character}
 use Rattle.rx_units.specs.declared.code_point.CodePoint.{CodePoint}
 use Rattle.rx_units.specs.Units.{values}
-use Rattle.rx_class.specs.Found.{class_escape_front}
-use Rattle.rx_model.specs.declared.mode.Mode.{Mode}
-use Rattle.rx_model.specs.declared.mode.Mode.TheVariants.{Legacy, Unicode, Sets}
 use Rattle.rx_model.specs.Characters.UnicodeEscapes.{PassesHex}
+use Rattle.rx_model.specs.Characters.UnitKinds.{unit_kind}
 use Rattle.rx_model.specs.FirstPass.Marks.{starts}
 use Rattle.rx_model.specs.Groups.GroupNameReading.{name_of}
 use Rattle.rx_model.specs.Groups.GroupNames.{IsNameRow, no_name, some_name, SpellsName}
 use Rattle.rx_model.specs.Groups.Groups.{BeginsName, of_group, of_reference}
 use Rattle.rx_model.specs.Groups.ModifierFronts.{ModifiersHalt}
-use Rattle.rx_model.specs.Groups.NameFronts.{NameHalt, unterminated, misplaced, no_escape, no_escape_of_u, many_digits}
-use Rattle.rx_model.specs.Inputs.Environment.{Environment, environment_with, is_unicode}
-use Rattle.rx_model.specs.Inputs.Modes.{is_read}
-use Rattle.rx_model.specs.Properties.PropertyForms.{begins_property}
-use Rattle.rx_model.specs.Reading.Boundaries.{has_buffers}
-use Rattle.rx_model.specs.Reading.FrontReading.{FrontHalt, ends_here, out_of_order, too_large, many_decimal_digits, many_hex_digits, no_unicode_escape, in_name, no_angle, no_such_group, in_modifiers, FrontRead, token_read, property_begins, class_begins, halted, front_read, backslash_read, one_of_escapes, syntax_read}
-use Rattle.rx_model.specs.Reading.Fronts.{boundary_at, class_escape_at, escape_at, front, is_raw_at, is_reference}
-use Rattle.rx_model.specs.Reading.Rows.{stands_raw}
+use Rattle.rx_model.specs.Groups.NameFronts.{NameHalt, unterminated, misplaced_pair, misplaced, no_escape, no_escape_of_u, many_digits}
+use Rattle.rx_model.specs.Inputs.Environment.{Environment, is_unicode}
+use Rattle.rx_model.specs.Reading.FrontReading.{FrontHalt, ends_here, last_backslash, out_of_order, too_large, many_decimal_digits, many_hex_digits, no_unicode_escape, in_name, no_angle, no_such_group, in_modifiers, FrontRead, token_read, property_begins, class_begins, halted, front_read, syntax_read}
+use Rattle.rx_model.specs.Reading.Fronts.{front, is_raw_at}
 use Rattle.rx_model.specs.Refusals.Stops.{IsStop, at_end, at_closer, at_bracket, at_brace, behind_backslash}
 use Rattle.rx_model.specs.Trees.Token.{Token, Opener, boundary, character, dot, class_escape, property, class, indexed, named, opener, closer, bar, quantifier, capturing, ignoring, looking}
-use Rattle.rx_model.proofs.Characters.LegacyEscapes.{any_in_unicode}
 use Rattle.rx_model.proofs.Groups.GroupNames.{group_name_read, name_anywhere}
 use Rattle.rx_model.proofs.Groups.ModifierBits.{bits_small}
 use Rattle.rx_model.proofs.Groups.ModifierFronts.{AreWrong, unknown, duplicated, empty, invalid}
 use Rattle.rx_model.proofs.Groups.NameFronts.{EscapeBehind, SaysNameHalt}
 use Rattle.rx_model.proofs.Quantifiers.CountsReading.{limit_within}
 use Rattle.rx_model.proofs.Reading.FrontReading.{Says, SaysHalt, front_said}
-use Rattle.rx_model.proofs.Reading.Fronts.{Front, front_spelled, unicode_not_raw}
-use Rattle.rx_parser.specs.Found.{HoldsName, IsFound, IsOpenerFound, boundary_front, found_front, found_halt, found_opener, is_first_digit}
+use Rattle.rx_model.proofs.Reading.Fronts.{Front, front_spelled}
+use Rattle.rx_parser.specs.Found.{HoldsName, IsFound, IsOpenerFound, found_front, found_halt, found_opener}
 use Rattle.rx_parser.specs.HaltPlaces.{halt_end}
 use Rattle.rx_parser.specs.Names.{found_name_halt}
 
-pub unicode_read : (mode : Mode) → is_read mode ≡ true → is_unicode mode ≡ true
-unicode_read Legacy h = h
-unicode_read Unicode h = refl
-unicode_read Sets h = refl
-
-pub buffers_there : (mode : Mode) (groups : ℕ) (has_names : Bool) → is_unicode mode ≡ true → has_buffers (environment_with mode groups has_names) ≡ true
-buffers_there mode groups has_names h = ap (λ b. b && true) h
-
-pub named_there : (mode : Mode) (groups : ℕ) (has_names : Bool) → is_unicode mode ≡ true → (environment_with mode groups has_names).named ≡ true
-named_there mode groups has_names h = ap (λ b. b || has_names) h
-
--- behind a backslash, where neither a reference nor a property begins
-pub escapes_alone : (e : Environment) (us : List CodePoint) (d : CodePoint) → is_unicode e.mode ≡ true → 1 ≤ length us → is_first_digit (get_or us 0 d).value ≡ false → ((get_or us 0 d).value ≡ 107 → ⊥)
-    → begins_property (get_or us 0 d).value ≡ false
-    → backslash_read e (values us) ≡ one_of_escapes (boundary_front e (values us)) (class_escape_front (values us)) (escape_at (is_unicode e.mode) (values us))
-escapes_alone e [] d m l free no_k other = absurd (omega arith)
-escapes_alone e (u ∷ us) d m l free no_k other =
-    cond-false (is_reference e (values (u ∷ us))) _ _ (and_left (is_first_digit u.value) _ free)
-    ∙ cond-false (u.value == 107 && e.named) _ _ (and_left (u.value == 107) e.named (ne_eqb u.value 107 no_k))
-    ∙ cond-false (begins_property u.value && is_unicode e.mode) _ _ (and_left (begins_property u.value) (is_unicode e.mode) other)
-    ∙ ap (one_of_escapes (boundary_at e u.value) (class_escape_at u.value)) (any_in_unicode false e (values (u ∷ us)) m)
-
--- a SyntaxCharacter other than a backslash and `[`
-pub syntax_alone : (e : Environment) (us : List CodePoint) (d : CodePoint) → is_unicode e.mode ≡ true → 1 ≤ length us → is_syntax_character (get_or us 0 d).value ≡ true → ((get_or us 0 d).value ≡ 92 → ⊥) → ((get_or us 0 d).value ≡ 91 → ⊥)
-    → front_read e us ≡ syntax_read e (get_or us 0 d).value (values (take (length us - 1) (drop 1 us)))
+-- a unit that stands for itself
+pub raw_alone : (e : Environment) (us : List CodePoint) (d : CodePoint) → 1 ≤ length us → is_raw_at e (get_or us 0 d).value (values (take (length us - 1) (drop 1 us))) ≡ true
+    → front_read e us ≡ token_read (character (unit_kind (get_or us 0 d).escape_kind) (get_or us 0 d).value) 1
 unfolding front_read
-syntax_alone e [] d m l s no_backslash no_bracket = absurd (omega arith)
-syntax_alone e (u ∷ us) d m l s no_backslash no_bracket =
-    cond-false (is_raw_at e u.value (values us)) _ _ (and_left (stands_raw e.mode u.value) _ (unicode_not_raw e.mode u.value m s))
+raw_alone e [] d l raw = absurd (omega arith)
+raw_alone e (u ∷ us) d l raw = cond-true (is_raw_at e u.value (values us)) _ _ (ap (λ us. is_raw_at e u.value (values us)) (sym (take_all (length (u ∷ us) - 1) us (omega arith))) ∙ raw)
+
+-- another that is neither a backslash nor `[`
+pub syntax_alone : (e : Environment) (us : List CodePoint) (d : CodePoint) → 1 ≤ length us → is_raw_at e (get_or us 0 d).value (values (take (length us - 1) (drop 1 us))) ≡ false
+    → ((get_or us 0 d).value ≡ 92 → ⊥) → ((get_or us 0 d).value ≡ 91 → ⊥) → front_read e us ≡ syntax_read e (get_or us 0 d).value (values (take (length us - 1) (drop 1 us)))
+unfolding front_read
+syntax_alone e [] d l raw no_backslash no_bracket = absurd (omega arith)
+syntax_alone e (u ∷ us) d l raw no_backslash no_bracket =
+    let behind = take_all (length (u ∷ us) - 1) us (omega arith) in
+    cond-false (is_raw_at e u.value (values us)) _ _ (ap (λ us. is_raw_at e u.value (values us)) (sym behind) ∙ raw)
     ∙ cond-false (u.value == 92) _ _ (ne_eqb u.value 92 no_backslash)
     ∙ cond-false (u.value == 91) _ _ (ne_eqb u.value 91 no_bracket)
-    ∙ ap (λ us. syntax_read e u.value (values us)) (sym (take_all (length (u ∷ us) - 1) us (omega arith)))
+    ∙ ap (λ us. syntax_read e u.value (values us)) (sym behind)
 
 -- a name between three units and `>`
 named_units : (m : Bool) (a b c : ℕ) (us w rest : List CodePoint) (name spelled : List ℕ) (n : ℕ) → us ≡ w ++ rest → length w ≡ n → values w ≡ a ∷ b ∷ c ∷ (spelled ++ (62 ∷ []))
@@ -123,6 +101,7 @@ some_u false w h = absurd (true≢false (sym h))
 
 name_within : (m : Bool) (w : List ℕ) (it : NameHalt) → SaysNameHalt m w it → halt_end (found_name_halt it) ≤ length w + 3
 name_within m w (unterminated n) s = let l = row_within m w n s.0 in omega (arith, l)
+name_within m w (misplaced_pair n) s = let l = row_within m w n s.0 in omega (arith, l, ap length s.2.whole, length-drop n w)
 name_within m w (misplaced count n) s = let l = escape_within m w count s.0 s.1 in omega (arith, l, s.3.count, ap length s.3.whole, length-append s.3.spelled s.3.rest)
 name_within m w (no_escape count) s = let l = escape_within m w count s.0 s.1 in omega (arith, l)
 name_within m w (no_escape_of_u count) s = let l = escape_within m w count s.0 s.1 in let k = some_u m s.0 s.3 in omega (arith, l, k)
@@ -154,19 +133,20 @@ module _ (e : Environment) (us : List CodePoint) where
 
   halt_within : (it : FrontHalt) → SaysHalt e us (front e us) it → halt_end (found_halt it) ≤ length us
   halt_within (ends_here n) s = stop_within e us n s.0
+  halt_within last_backslash s = omega (arith, ap length s.2)
   halt_within (out_of_order n) s = omega (arith, units, s.2.count_is, ap length s.2.whole, length-append s.2.prefix s.2.behind)
   halt_within (too_large n) s = omega (arith, units, s.2.count_is, ap length s.2.whole, length-append s.2.prefix s.2.behind)
-  halt_within (many_decimal_digits start many) s = let l = limit_within (values us) start many s in omega (arith, units, l)
-  halt_within (many_hex_digits many) s = let l = hex_within s.0 many s.2 in omega (arith, units, l, ap length s.1)
-  halt_within no_unicode_escape s = omega (arith, units, ap length s.1, ap length s.2.whole)
+  halt_within (many_decimal_digits start many) s = let l = limit_within (values us) start many s.0 in omega (arith, units, l)
+  halt_within (many_hex_digits many) s = let l = hex_within s.1 many s.3 in omega (arith, units, l, ap length s.2)
+  halt_within no_unicode_escape s = omega (arith, units, ap length s.2, ap length s.3.whole)
   halt_within (in_name it) s = let l = name_within (is_unicode e.mode) s.0 it s.2 in let k = begins_within e (values us) s.0 s.1 in omega (arith, units, l, k)
   halt_within no_angle s = omega (arith, units, ap length s.1)
   halt_within (no_such_group n) s = token_within (indexed s.0) n s.1
   halt_within (in_modifiers it n) s = let l = wrong_within s.0 n it s.2 in omega (arith, units, ap length s.1, l)
 
   -- What is found at the front stands there.
-  pub front_found : is_unicode e.mode ≡ true → e.named ≡ true → All (λ (u : CodePoint). u.value ≤ 0x10FFFF) us → IsFound e us (found_front (front_read e us))
-  front_found unicode allowed small = go (front_read e us) refl (front_said e unicode allowed us)
+  pub front_found : (is_unicode e.mode ≡ true → e.named ≡ true) → All (λ (u : CodePoint). u.value ≤ 0x10FFFF) us → IsFound e us (found_front (front_read e us))
+  front_found allowed small = go (front_read e us) refl (front_said e allowed us)
     where
       one_unit : (c n : ℕ) (f : List CodePoint) → length f ≡ n → values f ≡ c ∷ [] → n ≡ 1
       one_unit c n f l h = omega (arith, l, ap length h, length-map f (λ (u : CodePoint). u.value))

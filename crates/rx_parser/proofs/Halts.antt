@@ -1,25 +1,26 @@
 -- Where the reading halts the text is refused with its cause.
-use Rattle.std.proofs.Common.{◌≡◌, refl, ap, ◌∙◌, sym, subst, ℕ, ◌+◌, ◌<◌, ◌≤◌, inl, inr, true, false, Some, List, [], ◌∷◌, ◌++◌, length, drop, arith, length-append}
+use Rattle.std.proofs.Common.{◌≡◌, refl, ap, ◌∙◌, sym, subst, ℕ, ◌+◌, ◌<◌, ◌≤◌, ◌&&◌, ◌||◌, inl, inr, Bool, true, false, not, Some, List, [], ◌∷◌, ◌++◌, length, drop, arith, length-append}
+use Rattle.std.proofs.lemmas.Bool.{cases_Bool}
 use Rattle.std.proofs.lemmas.List.{drop_all}
 use Rattle.rx_base.specs.declared.fault.Fault.{Fault}
 use Rattle.rx_base.specs.declared.fault.Fault.TheVariants.{Diagnostic}
 use Rattle.rx_base.specs.declared.diagnostic.Diagnostic.{Diagnostic as Refusal}
-use Rattle.rx_base.specs.declared.diagnostic.Diagnostic.TheVariants.{ParsePatternIncomplete, UnterminatedPattern, InvalidIndexedReference, BracedQuantifierOutOfOrder, TooLargeNumberInBracedQuantifier, TooLargeNumberDigits, InvalidUnicodeEscapeSequence, EmptyGroupSpecifier, DuplicatedModifiers, InvalidModifiers, UnknownModifiers}
+use Rattle.rx_base.specs.declared.diagnostic.Diagnostic.TheVariants.{InvalidExtendedAtomEscape, InvalidSurrogatePair, ParsePatternIncomplete, UnterminatedPattern, InvalidIndexedReference, BracedQuantifierOutOfOrder, TooLargeNumberInBracedQuantifier, TooLargeNumberDigits, InvalidUnicodeEscapeSequence, EmptyGroupSpecifier, DuplicatedModifiers, InvalidModifiers, UnknownModifiers}
 use Rattle.rx_base.specs.declared.diagnostic.kinds.DigitsKind.TheVariants.{Decimal, Hex}
 use Rattle.rx_base.specs.declared.diagnostic.kinds.Unterminated.TheVariants.{GroupName}
 use Rattle.rx_base.specs.declared.span.Span.{Span}
 use Rattle.rx_units.specs.declared.code_point.CodePoint.{CodePoint}
 use Rattle.rx_units.specs.Units.{offset_at, values}
-use Rattle.rx_model.specs.declared.mode.Mode.TheVariants.{Unicode}
-use Rattle.rx_model.specs.Refusals.Causes.{IsCauseAtPlace, at_place, unterminated, incomplete, out_of_order, too_large, too_many_digits, of_escape, unterminated_group, unterminated_name, too_many_digits_in_name, misplaced_in_name, invalid_in_name, invalid_u_in_name, no_such_group, no_group_name, unknown_modifiers, duplicated_modifiers, empty_modifiers, invalid_modifiers}
+use Rattle.rx_model.specs.declared.mode.Mode.{Mode}
+use Rattle.rx_model.specs.Refusals.Causes.{IsCauseAtPlace, at_place, unterminated, incomplete, last_backslash, misplaced_pair, out_of_order, too_large, too_many_digits, of_escape, unterminated_group, unterminated_name, unterminated_name_in_legacy, too_many_digits_in_name, misplaced_in_name, invalid_in_name, invalid_u_in_name, no_such_group, no_group_name, unknown_modifiers, duplicated_modifiers, empty_modifiers, invalid_modifiers}
 use Rattle.rx_model.specs.Trees.Early.{most_groups}
-use Rattle.rx_model.specs.Inputs.Environment.{Environment}
+use Rattle.rx_model.specs.Inputs.Environment.{Environment, has_some, is_unicode}
 use Rattle.rx_model.specs.Reading.Fronts.{front}
 use Rattle.rx_model.specs.Groups.GroupNames.{IsNameRow}
 use Rattle.rx_model.specs.Groups.Groups.{BeginsName, EndsName}
 use Rattle.rx_model.specs.FirstPass.Marks.{starts}
 use Rattle.rx_model.specs.Refusals.EscapeCauses.{too_many_hex_digits, invalid_escape}
-use Rattle.rx_model.specs.Refusals.Reached.{IsPlace, HasNoClash, IsReached, span_between, text_environment, text_groups}
+use Rattle.rx_model.specs.Refusals.Reached.{IsPlace, HasNoClash, IsReached, span_between, text_environment, text_groups, text_names}
 use Rattle.rx_model.specs.Refusals.Stops.{IsStop, at_closer, at_end}
 use Rattle.rx_model.specs.Trees.Token.{closer, indexed, opener_of}
 use Rattle.rx_model.specs.Characters.UnicodeEscapes.{Decodes, PassesHex}
@@ -30,13 +31,13 @@ use Rattle.rx_parser.specs.declared.found.Halt.TheVariants as halt
 use Rattle.rx_parser.specs.declared.frame.Frame.{Frame}
 use Rattle.rx_parser.specs.Faults.{IsEndedFault, IsHaltFault, halt_refusal}
 use Rattle.rx_model.specs.Groups.ModifierFronts.{ModifiersHalt}
-use Rattle.rx_model.specs.Groups.NameFronts.{NameHalt, unterminated as unterminated_row, misplaced, no_escape, no_escape_of_u, many_digits}
-use Rattle.rx_model.specs.Quantifiers.Quantifiers.{PassesLimit}
+use Rattle.rx_model.specs.Groups.NameFronts.{NameHalt, begins_pair, unterminated as unterminated_row, misplaced_pair as misplaced_pair_row, misplaced, no_escape, no_escape_of_u, many_digits}
+use Rattle.rx_model.specs.Quantifiers.Quantifiers.{BeginsWithBraces, PassesLimit}
 use Rattle.rx_model.specs.Reading.FrontReading.{FrontHalt, ends_here, many_decimal_digits, many_hex_digits, no_unicode_escape, in_name, no_angle, in_modifiers}
 use Rattle.rx_model.specs.Reading.FrontReading as reading
 use Rattle.rx_model.proofs.Characters.Escapes.{NoUnicode}
 use Rattle.rx_model.proofs.Groups.ModifierFronts.{AreWrong, unknown, duplicated, empty, invalid}
-use Rattle.rx_model.proofs.Groups.NameFronts.{EscapeBehind, SaysNameHalt}
+use Rattle.rx_model.proofs.Groups.NameFronts.{EscapeBehind, SaysNameHalt, no_pair}
 use Rattle.rx_model.proofs.Reading.FrontReading.{Says, SaysHalt, front_said}
 use Rattle.rx_parser.specs.Found.{IsHalt, Stands, found_fault, found_halt}
 use Rattle.rx_parser.specs.HaltPlaces.{halt_end, halt_start}
@@ -46,18 +47,21 @@ use Rattle.rx_parser.specs.Parsing.{IsParsing, IsRefused}
 use Rattle.rx_parser.proofs.Insides.{inside}
 use Rattle.rx_parser.proofs.Places.{reached, some_left}
 
-module _ (us : List CodePoint) (first added : ℕ) (b : Builder) (place : ℕ) (h : IsParsing Unicode us first added b place) where
+module _ {mode : Mode} (us : List CodePoint) (first added : ℕ) (b : Builder) (place : ℕ) (h : IsParsing mode us first added b place) where
+  abbrev unicode_mode : Bool
+  unicode_mode = is_unicode mode
+
   abbrev left : List CodePoint
   left = drop place us
 
   abbrev here : Environment
-  here = text_environment Unicode us
+  here = text_environment mode us
 
-  at_left : IsPlace Unicode us place left
+  at_left : IsPlace mode us place left
   at_left = record { open_groups = openers b; ready = ready b; reached = reached us first added b place h }
 
   abbrev Causes : Refusal → Type 0
-  Causes cause = IsCauseAtPlace Unicode us first added place cause
+  Causes cause = IsCauseAtPlace mode us first added place cause
 
   abbrev between : ℕ → ℕ → Span
   between from to = span_between us first added from to
@@ -71,25 +75,33 @@ module _ (us : List CodePoint) (first added : ℕ) (b : Builder) (place : ℕ) (
   from_here make j c = placed make place j (place + 0) j (omega arith) refl c
 
   -- the numbers of a quantifier
-  limit_cause : (start many : ℕ) → PassesLimit (values left) start many → Causes (TooLargeNumberDigits (between (place + start) (place + (start + many))) Decimal)
-  limit_cause start many s =
+  limit_cause : (start many : ℕ) → PassesLimit (values left) start many → (unicode_mode ≡ false → BeginsWithBraces (values left)) → Causes (TooLargeNumberDigits (between (place + start) (place + (start + many))) Decimal)
+  limit_cause start many s in_legacy =
       placed (λ span. TooLargeNumberDigits span Decimal) (place + start) (place + start + many) (place + start) (place + (start + many)) refl (omega arith)
-      (too_many_digits place start many left at_left s (λ h. cc h))
+      (too_many_digits place start many left at_left s in_legacy)
 
   -- a name that is to stand here, and its longest row; behind it an escape
-  ends_name : (behind : List ℕ) → BeginsName here (values left) behind → (count : ℕ) → IsNameRow true behind count → EndsName here (values left) count (drop count behind)
+  ends_name : (behind : List ℕ) → BeginsName here (values left) behind → (count : ℕ) → IsNameRow unicode_mode behind count → EndsName here (values left) count (drop count behind)
   ends_name behind begins count longest = record { behind = behind; begins = begins; longest = longest; rest_is = refl }
 
-  ends_escape : (behind : List ℕ) → BeginsName here (values left) behind → (count : ℕ) (escape : List ℕ) → EscapeBehind true behind count escape → EndsName here (values left) count (92 ∷ escape)
+  ends_escape : (behind : List ℕ) → BeginsName here (values left) behind → (count : ℕ) (escape : List ℕ) → EscapeBehind unicode_mode behind count escape → EndsName here (values left) count (92 ∷ escape)
   ends_escape behind begins count escape r = record { behind = behind; begins = begins; longest = r.row; rest_is = sym r.there }
 
   abbrev Refuses : Halt → Type 0
   Refuses it = Causes (halt_refusal it (between (place + halt_start it) (place + halt_end it)) (text_groups us))
 
-  name_cause : (behind : List ℕ) → BeginsName here (values left) behind → (it : NameHalt) → SaysNameHalt true behind it → Refuses (found_name_halt it)
+  name_cause : (behind : List ℕ) → BeginsName here (values left) behind → (it : NameHalt) → SaysNameHalt unicode_mode behind it → Refuses (found_name_halt it)
   name_cause behind begins (unterminated_row n) s =
       placed (λ span. UnterminatedPattern span GroupName) (place + 2) (place + 3 + n) (place + 2) (place + (n + 3)) refl (omega arith)
-      (unterminated_name place n left (drop n behind) at_left refl (ends_name behind begins n s.0) s.1 s.2)
+      (elim (cases_Bool unicode_mode) [
+        | inl unicode ↦ unterminated_name place n left (drop n behind) at_left unicode (ends_name behind begins n s.0) s.1 s.3
+        | inr legacy ↦
+            let raw : begins_pair (drop n behind) ≡ false = ap (λ u. not u && begins_pair (drop n behind)) (sym legacy) ∙ s.2 in
+            unterminated_name_in_legacy place n left (drop n behind) at_left legacy (ends_name behind begins n s.0) s.1 (no_pair (drop n behind) raw) s.3
+      ])
+  name_cause behind begins (misplaced_pair_row n) s =
+      placed InvalidSurrogatePair (place + 3 + n) (place + 5 + n) (place + (n + 3)) (place + (n + 3 + 2)) (omega arith) (omega arith)
+      (misplaced_pair place n left (drop n behind) at_left s.1 (ends_name behind begins n s.0) s.2)
   name_cause behind begins (misplaced count n) s =
       placed InvalidUnicodeEscapeSequence (place + 3 + count) (place + 4 + count + n) (place + (count + 3)) (place + (count + 3 + (n + 1))) (omega arith) (omega arith)
       (misplaced_in_name place count s.2 n left s.0 at_left (ends_escape behind begins count s.0 s.1) s.3)
@@ -104,21 +116,21 @@ module _ (us : List CodePoint) (first added : ℕ) (b : Builder) (place : ℕ) (
       (too_many_digits_in_name place count many left s.0 at_left (ends_escape behind begins count s.0 s.1) s.2)
 
   -- a unicode escape of a character
-  hex_cause : (behind : List ℕ) (many : ℕ) → values left ≡ 92 ∷ behind → PassesHex behind many → Causes (TooLargeNumberDigits (between (place + 3) (place + (3 + many))) Hex)
-  hex_cause behind many whole passes =
+  hex_cause : unicode_mode ≡ true → (behind : List ℕ) (many : ℕ) → values left ≡ 92 ∷ behind → PassesHex behind many → Causes (TooLargeNumberDigits (between (place + 3) (place + (3 + many))) Hex)
+  hex_cause unicode behind many whole passes =
       placed (λ span. TooLargeNumberDigits span Hex) (place + 3) (place + 3 + many) (place + 3) (place + (3 + many)) refl (omega arith)
-      (of_escape place left at_left (too_many_hex_digits many behind refl whole passes))
+      (of_escape place left at_left (too_many_hex_digits many behind unicode whole passes))
 
-  escape_cause : (behind : List ℕ) → values left ≡ 92 ∷ behind → NoUnicode behind → Causes (InvalidUnicodeEscapeSequence (between (place + 1) (place + 2)))
-  escape_cause behind whole n =
-      of_escape place left at_left (invalid_escape n.behind refl (whole ∙ ap (λ w. 92 ∷ w) n.whole) (λ v k d. n.no_value v k (subst (λ w. Decodes true w v k) (sym n.whole) d))
+  escape_cause : unicode_mode ≡ true → (behind : List ℕ) → values left ≡ 92 ∷ behind → NoUnicode behind → Causes (InvalidUnicodeEscapeSequence (between (place + 1) (place + 2)))
+  escape_cause unicode behind whole n =
+      of_escape place left at_left (invalid_escape n.behind unicode (whole ∙ ap (λ w. 92 ∷ w) n.whole) (λ v k d. n.no_value v k (subst (λ w. Decodes true w v k) (sym n.whole) d))
       (λ many p. n.no_limit many (subst (λ w. PassesHex w many) (sym n.whole) p)))
 
   index_cause : (n k : ℕ) → front here left ≡ Some (indexed k, n) → text_groups us < k → Causes (InvalidIndexedReference (between (place + 0) (place + n)) (text_groups us))
   index_cause n k e large =
       let f = front_spelled here left (indexed k) n e in
       placed (λ span. InvalidIndexedReference span (text_groups us)) place (place + length f.w) (place + 0) (place + n) (omega arith) (ap (λ n. place + n) f.count)
-      (no_such_group place k f.w f.rest (subst (IsPlace Unicode us place) f.whole at_left) f.spells large)
+      (no_such_group place k f.w f.rest (subst (IsPlace mode us place) f.whole at_left) f.spells large)
 
   modifiers_cause : (it : ModifiersHalt) (n : ℕ) (behind : List ℕ) → values left ≡ 40 ∷ 63 ∷ behind → AreWrong behind n it → Refuses (halt.Modifiers (found_fault it) n)
   modifiers_cause _ _ _ whole (unknown text behind l) =
@@ -142,7 +154,7 @@ module _ (us : List CodePoint) (first added : ℕ) (b : Builder) (place : ℕ) (
     where
       pattern : b.frames ≡ [] → fault ≡ Diagnostic (ParsePatternIncomplete (between at at)) → IsOfCause fault
       pattern none is =
-          let r : IsReached Unicode us place [] (ready b) left = subst (λ fs. IsReached Unicode us place (opened fs []) (ready b) left) none (reached us first added b place h) in (
+          let r : IsReached mode us place [] (ready b) left = subst (λ fs. IsReached mode us place (opened fs []) (ready b) left) none (reached us first added b place h) in (
             ParsePatternIncomplete (between at at),
             is,
             placed ParsePatternIncomplete (place + behind) (place + behind) at at (sym e) (sym e) (incomplete place behind (ready b) left r stop (some none)),
@@ -161,38 +173,41 @@ module _ (us : List CodePoint) (first added : ℕ) (b : Builder) (place : ℕ) (
                 (unterminated_group i.0 place behind (opener_of (opener_tree it.group_kind)) left i.1 stop not_closed)),
           )
 
-  module _ (no_clash : HasNoClash Unicode us) (limit : text_groups us ≤ most_groups) where
-    refused : (cause : Refusal) → Causes cause → (fault : Fault) → fault ≡ Diagnostic cause → IsRefused Unicode us first added fault
-    refused cause c fault e = subst (IsRefused Unicode us first added) (sym e) (at_place place no_clash limit c)
+  module _ (no_clash : HasNoClash mode us) (limit : text_groups us ≤ most_groups) where
+    refused : (cause : Refusal) → Causes cause → (fault : Fault) → fault ≡ Diagnostic cause → IsRefused mode us first added fault
+    refused cause c fault e = subst (IsRefused mode us first added) (sym e) (at_place place no_clash limit c)
 
     -- why the text is refused where the reading halts
-    pub halt_refused : place < length us → (fault : Fault) (it : Halt) → IsHalt here left it → IsHaltFault us first added place b (text_groups us) it fault → IsRefused Unicode us first added fault
+    pub halt_refused : place < length us → (fault : Fault) (it : Halt) → IsHalt here left it → IsHaltFault us first added place b (text_groups us) it fault → IsRefused mode us first added fault
     halt_refused l fault it h f =
-        go h.0 (subst (Says here left (front here left)) h.1 (front_said here refl refl left)) (subst (λ it. IsHaltFault us first added place b (text_groups us) it fault) h.2 f)
+        go h.0 (subst (Says here left (front here left)) h.1 (front_said here (ap (λ u. u || has_some (text_names mode us))) left)) (subst (λ it. IsHaltFault us first added place b (text_groups us) it fault) h.2 f)
       where
-        name : (it : NameHalt) → Refuses (found_name_halt it) → IsHaltFault us first added place b (text_groups us) (found_name_halt it) fault → IsRefused Unicode us first added fault
+        name : (it : NameHalt) → Refuses (found_name_halt it) → IsHaltFault us first added place b (text_groups us) (found_name_halt it) fault → IsRefused mode us first added fault
         name (unterminated_row n) c f = refused _ c fault f
+        name (misplaced_pair_row n) c f = refused _ c fault f
         name (misplaced count n) c f = refused _ c fault f
         name (no_escape count) c f = refused _ c fault f
         name (no_escape_of_u count) c f = refused _ c fault f
         name (many_digits count many) c f = refused _ c fault f
 
-        go : (it : FrontHalt) → SaysHalt here left (front here left) it → IsHaltFault us first added place b (text_groups us) (found_halt it) fault → IsRefused Unicode us first added fault
+        go : (it : FrontHalt) → SaysHalt here left (front here left) it → IsHaltFault us first added place b (text_groups us) (found_halt it) fault → IsRefused mode us first added fault
         go (ends_here behind) s f =
             let c = ended_cause behind (place + behind) fault s.0 s.1 (λ none. some_left us place l) refl f in
             refused c.0 c.2 fault c.1
+        go reading.last_backslash s f =
+            refused _ (from_here InvalidExtendedAtomEscape (place + 1) (last_backslash place s.1 (subst (IsPlace mode us place) s.2 at_left) s.0 s.3)) fault f
         go (reading.out_of_order n) s f = refused _ (from_here BracedQuantifierOutOfOrder (place + n) (out_of_order place n s.0 s.1 left at_left s.2 s.3)) fault f
         go (reading.too_large n) s f = refused _ (from_here TooLargeNumberInBracedQuantifier (place + n) (too_large place n s.0 s.1 left at_left s.2 s.3.0 s.3.1)) fault f
-        go (many_decimal_digits start many) s f = refused _ (limit_cause start many s) fault f
-        go (many_hex_digits many) s f = refused _ (hex_cause s.0 many s.1 s.2) fault f
-        go no_unicode_escape s f = refused _ (escape_cause s.0 s.1 s.2) fault f
+        go (many_decimal_digits start many) s f = refused _ (limit_cause start many s.0 s.1) fault f
+        go (many_hex_digits many) s f = refused _ (hex_cause s.0 s.1 many s.2 s.3) fault f
+        go no_unicode_escape s f = refused _ (escape_cause s.0 s.1 s.2 s.3) fault f
         go (in_name it) s f = name it (name_cause s.0 s.1 it s.2) f
         go no_angle s f = refused _ (from_here EmptyGroupSpecifier (place + 2) (no_group_name place left s.0 at_left s.3 s.1 s.2)) fault f
         go (reading.no_such_group n) s f = refused _ (index_cause n s.0 s.1 s.2) fault f
         go (in_modifiers it n) s f = refused _ (modifiers_cause it n s.0 s.1 s.2) fault f
 
     -- a group is open at the end of the text
-    pub ended_refused : place ≡ length us → (openers b ≡ [] → ⊥) → (fault : Fault) → IsEndedFault us first added place b fault → IsRefused Unicode us first added fault
+    pub ended_refused : place ≡ length us → (openers b ≡ [] → ⊥) → (fault : Fault) → IsEndedFault us first added place b fault → IsRefused mode us first added fault
     ended_refused e some fault f =
         let none : left ≡ [] = drop_all place us (omega (arith, e)) in
         let stop : IsStop here left 0 = subst (λ rest. IsStop here rest 0) (sym none) at_end in
@@ -200,12 +215,12 @@ module _ (us : List CodePoint) (first added : ℕ) (b : Builder) (place : ℕ) (
         refused c.0 c.2 fault c.1
 
     -- a `)` where no group is open
-    pub closer_refused : Stands here left closer 1 → openers b ≡ [] → IsRefused Unicode us first added (Diagnostic (ParsePatternIncomplete (between place place)))
+    pub closer_refused : Stands here left closer 1 → openers b ≡ [] → IsRefused mode us first added (Diagnostic (ParsePatternIncomplete (between place place)))
     closer_refused s none =
         let f = front_spelled here left closer 1 s.0 in
         let stop : IsStop here left 0 = subst (λ rest. IsStop here rest 0) (sym f.whole) (closer_stops f.w f.rest f.spells) in
         let some : left ≡ [] → ⊥ = λ e. omega (arith, ap length e, ap length f.whole, length-append f.w f.rest, f.count) in
-        let r : IsReached Unicode us place [] (ready b) left = subst (λ os. IsReached Unicode us place os (ready b) left) none (reached us first added b place h) in
+        let r : IsReached mode us place [] (ready b) left = subst (λ os. IsReached mode us place os (ready b) left) none (reached us first added b place h) in
         let here_is : place + 0 ≡ place = omega arith in
         at_place place no_clash limit (placed ParsePatternIncomplete (place + 0) (place + 0) place place here_is here_is (incomplete place 0 (ready b) left r stop some))
       where

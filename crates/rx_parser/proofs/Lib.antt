@@ -12,9 +12,9 @@ pub mod Literals
 pub mod ModifierBits
 pub mod ModifiersFound
 pub mod NameFound
+pub mod NumberFound
 pub mod Passes
 pub mod Places
-pub mod ReferenceFound
 pub mod Refused
 pub mod Steps
 pub mod TextUnits

@@ -7,13 +7,11 @@ use Rattle.rx_base.specs.declared.span.Span.{Span}
 use Rattle.rx_units.specs.declared.code_point.CodePoint.{CodePoint}
 use Rattle.rx_units.specs.Units.{values}
 use Rattle.rx_model.specs.declared.mode.Mode.{Mode}
-use Rattle.rx_model.specs.declared.mode.Mode.TheVariants.{Legacy, Sets, Unicode}
 use Rattle.rx_model.specs.Refusals.Causes.{duplicated_names, name_span, too_many_groups}
 use Rattle.rx_model.specs.FirstPass.Marks.{Clash, IsFirstClash, count, marks, seen}
-use Rattle.rx_model.specs.Inputs.Environment.{is_unicode}
-use Rattle.rx_model.specs.Inputs.Modes.{is_read, mode_by}
+use Rattle.rx_model.specs.Inputs.Environment.{is_sets, is_unicode}
+use Rattle.rx_model.specs.Inputs.Modes.{mode_by}
 use Rattle.rx_model.specs.Refusals.Reached.{HasNoClash, text_names}
-use Rattle.rx_model.proofs.Inputs.Modes.{not_sets, read_is_unicode}
 use Rattle.rx_scan.specs.declared.state.State.{State}
 use Rattle.rx_class.proofs.FirstPasses.{counted}
 use Rattle.rx_parser.specs.Parsing.{HoldsPass, IsRefused, mode_of_state}
@@ -25,18 +23,12 @@ unicode_by true false h = refl
 unicode_by false true h = absurd (let no : false ≡ true = h refl in let k : ⊥ = cc no in k)
 unicode_by false false h = refl
 
-pub no_sets : (unicode sets : Bool) → is_read (mode_by unicode sets) ≡ true → sets ≡ false
-no_sets unicode true read = absurd (not_sets Sets read refl)
-no_sets unicode false read = refl
+pub no_sets : (unicode sets : Bool) → is_sets (mode_by unicode sets) ≡ false → sets ≡ false
+no_sets unicode true h = absurd (let no : ⊥ = cc h in no)
+no_sets unicode false h = refl
 
--- those of a mode that is read
-bits_of_read : (unicode sets : Bool) → is_read (mode_by unicode sets) ≡ true → (unicode ≡ true) × (sets ≡ false)
-bits_of_read unicode true read = absurd (not_sets Sets read refl)
-bits_of_read true false read = (refl, refl)
-bits_of_read false false read = absurd (let is : Legacy ≡ Unicode = read_is_unicode Legacy read in let no : ⊥ = cc is in no)
-
-pub unicode_bits : {mode : Mode} {us : List CodePoint} (state : State) → is_read mode ≡ true → HoldsPass mode us state → (state.unicode_mode ≡ true) × (state.unicode_sets_mode ≡ false)
-unicode_bits state read pass = bits_of_read state.unicode_mode state.unicode_sets_mode (ap is_read pass.mode_is ∙ read)
+pub sets_bit : {mode : Mode} {us : List CodePoint} (state : State) → is_sets mode ≡ false → HoldsPass mode us state → state.unicode_sets_mode ≡ false
+sets_bit state h pass = no_sets state.unicode_mode state.unicode_sets_mode (ap is_sets pass.mode_is ∙ h)
 
 -- the span between two offsets, so much being added to each
 abbrev pub shifted : ℕ → ℕ × ℕ → Span

@@ -7,7 +7,7 @@ use Rattle.std.proofs.lemmas.List.{drop-drop, length-map}
 use Rattle.std.proofs.lemmas.List.Elements.{All-append, All-cons, All-nil}
 use Rattle.rx_base.specs.declared.fault.Fault.TheVariants.{Diagnostic}
 use Rattle.rx_base.specs.declared.diagnostic.Diagnostic.{Diagnostic as Refusal}
-use Rattle.rx_base.specs.declared.diagnostic.Diagnostic.TheVariants.{InvalidNamedReference, LoneQuantifier}
+use Rattle.rx_base.specs.declared.diagnostic.Diagnostic.TheVariants.{InvalidNamedReference}
 use Rattle.rx_base.specs.declared.span.Span.{Span}
 use Rattle.rx_ast.specs.declared.leaf.Modifiers.{Modifiers}
 use Rattle.rx_ast.specs.declared.term.Term.{Term}
@@ -19,7 +19,9 @@ use Rattle.rx_ast.specs.Tree.{leaf, mirror_term}
 use Rattle.rx_units.specs.declared.code_point.CodePoint.{CodePoint}
 use Rattle.rx_units.specs.Cursor.{Cursor, moved, offset_of, rest}
 use Rattle.rx_units.specs.Units.{offset_at}
-use Rattle.rx_model.specs.Refusals.Causes.{IsCauseAtPlace, at_place, lone, no_such_name}
+use Rattle.rx_model.specs.declared.mode.Mode.{Mode}
+use Rattle.rx_model.specs.declared.mode.Mode.TheVariants.{Legacy, Sets, Unicode}
+use Rattle.rx_model.specs.Refusals.Causes.{IsCauseAtPlace, at_place, lone, lone_in_legacy, no_such_name}
 use Rattle.rx_model.specs.Classes.ClassRows.{IsClassSpanned}
 use Rattle.rx_model.specs.Trees.Early.{IsEarlyClass, IsEarlyOpener, Obeys}
 use Rattle.rx_model.specs.Inputs.Environment.{Environment, is_unicode}
@@ -27,11 +29,10 @@ use Rattle.rx_model.specs.Trees.Events.{Events, enter, inside, leave, modified, 
 use Rattle.rx_model.specs.Reading.Fronts.{front}
 use Rattle.rx_model.specs.Groups.Groups.{IsModified, IsModifying}
 use Rattle.rx_model.specs.Trees.Names.{is_among}
-use Rattle.rx_model.specs.Refusals.Reached.{IsPlace, IsReached, span_between, text_environment, text_groups, text_names}
-use Rattle.rx_model.specs.Reading.Rows.{Row}
+use Rattle.rx_model.specs.Refusals.Reached.{AreObeying, IsPlace, IsReached, span_between, text_environment, text_groups, text_names}
+use Rattle.rx_model.specs.Reading.Rows.{Row, Spells}
 use Rattle.rx_model.specs.Trees.Shapes.{group_takes, run, takes}
 use Rattle.rx_model.specs.Trees.Token.{Token, Opener, bar, capturing, class, closer, ignoring, letter_bits, named, opener, opener_of, quantifier}
-use Rattle.rx_model.proofs.Inputs.Modes.{read_is_unicode}
 use Rattle.rx_model.proofs.Properties.PropertyFronts.{among}
 use Rattle.rx_model.proofs.Trees.Flat.{tokens_of-append}
 use Rattle.rx_model.proofs.Reading.Fronts.{Front, front_spelled, spelled_some}
@@ -42,6 +43,7 @@ use Rattle.rx_parser.specs.declared.found.OpenerFound.{OpenerFound}
 use Rattle.rx_parser.specs.declared.found.OpenerFound.TheVariants as opener_found
 use Rattle.rx_parser.specs.declared.frame.GroupKind.{GroupKind}
 use Rattle.rx_parser.specs.declared.frame.GroupKind.TheVariants.{Ignoring}
+use Rattle.rx_parser.specs.Faults.{lone_refusal}
 use Rattle.rx_parser.specs.Found.{HoldsName, IsFound, IsOpenerFound, Stands}
 use Rattle.rx_parser.specs.Frames.{builder_events, opener_tree, openers, ready}
 use Rattle.rx_parser.specs.GroupKinds.{IsGroupKindOf}
@@ -78,6 +80,14 @@ HasToken begun = opener_event (opener_tree begun) ≡ token (opener (opener_of (
 -- one name stands in a group's beginning, or in a reference
 pub one_name : {unicode_mode : Bool} {us : List CodePoint} {name other : List ℕ} {n : ℕ} → HoldsName unicode_mode us name n → HoldsName unicode_mode us other n → name ≡ other
 one_name {name = name} {other = other} h k = let same : Some name ≡ Some other = sym h.name_is ∙ k.name_is in cc same
+
+-- a quantifier behind nothing that may have one
+lone_cause : {us : List CodePoint} {first added : ℕ} (mode : Mode) (place min : ℕ) (max : Option ℕ) (greedy : Bool) (open_groups : List Opener) (w more : List CodePoint) → IsReached mode us place open_groups false (w ++ more)
+    → Spells (text_environment mode us) (quantifier min max greedy) w more → AreObeying mode us (quantifier min max greedy ∷ [])
+    → IsCauseAtPlace mode us first added place (lone_refusal mode (span_between us first added place (place + length w)))
+lone_cause Legacy place min max greedy open_groups w more r s o = lone_in_legacy place min max greedy open_groups w more r refl s o
+lone_cause Unicode place min max greedy open_groups w more r s o = lone place min max greedy open_groups w more r refl s o
+lone_cause Sets place min max greedy open_groups w more r s o = lone place min max greedy open_groups w more r refl s o
 
 -- the units of `(?`, modifiers and `:`
 modified_length : (bits : ℕ × ℕ) (w : List CodePoint) (m : IsModified bits w) → length w ≡ length m.text + 3
@@ -230,12 +240,12 @@ module _ {added : ℕ} {b : Builder} {r : Cursor} (h : IsBefore added b r) where
 
     -- A quantifier stands where none may follow.
     pub lone_refused : (s : Cursor) (min : ℕ) (max : Option ℕ) (greedy : Bool) (n at after : ℕ) → IsPassedBy s (quantifier min max greedy) n at after → IsObeying (quantifier min max greedy) → ready b ≡ false
-        → IsRefused b.mode r.units r.first added (Diagnostic (LoneQuantifier (between at after)))
+        → IsRefused b.mode r.units r.first added (Diagnostic (lone_refusal b.mode (between at after)))
     lone_refused s min max greedy n at after k obeys none =
         let w = k.next.w in
         let more = k.next.rest in
-        refused k LoneQuantifier
-        (lone r.place min max greedy (openers b) w more (subst (λ q. IsReached b.mode r.units r.place (openers b) q (w ++ more)) none (at_token k.next)) (ap is_unicode (read_is_unicode b.mode h.read)) k.next.spells
+        refused k (lone_refusal b.mode)
+        (lone_cause b.mode r.place min max greedy (openers b) w more (subst (λ q. IsReached b.mode r.units r.place (openers b) q (w ++ more)) none (at_token k.next)) k.next.spells
         (All-cons IsObeying (quantifier min max greedy) [] obeys (All-nil IsObeying)))
 
     -- A reference has a name that no group has.

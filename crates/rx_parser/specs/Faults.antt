@@ -3,12 +3,14 @@ use Rattle.std.specs.Prelude.{◌≡◌, ℕ, ◌+◌, ◌^◌, ◌<◌, List, [
 use Rattle.rx_base.specs.declared.fault.Fault.{Fault}
 use Rattle.rx_base.specs.declared.fault.Fault.TheVariants.{Diagnostic}
 use Rattle.rx_base.specs.declared.diagnostic.Diagnostic.{Diagnostic as Refusal}
-use Rattle.rx_base.specs.declared.diagnostic.Diagnostic.TheVariants.{ParsePatternIncomplete, UnterminatedPattern, InvalidIndexedReference, EmptyGroupSpecifier, BracedQuantifierOutOfOrder, TooLargeNumberInBracedQuantifier, TooLargeNumberDigits, InvalidUnicodeEscapeSequence, DuplicatedModifiers, InvalidModifiers, EmptyModifiers, UnknownModifiers}
+use Rattle.rx_base.specs.declared.diagnostic.Diagnostic.TheVariants.{InvalidBracedQuantifier, InvalidExtendedAtomEscape, InvalidSurrogatePair, LoneQuantifier, ParsePatternIncomplete, UnterminatedPattern, InvalidIndexedReference, EmptyGroupSpecifier, BracedQuantifierOutOfOrder, TooLargeNumberInBracedQuantifier, TooLargeNumberDigits, InvalidUnicodeEscapeSequence, DuplicatedModifiers, InvalidModifiers, EmptyModifiers, UnknownModifiers}
 use Rattle.rx_base.specs.declared.diagnostic.kinds.DigitsKind.TheVariants.{Decimal, Hex}
 use Rattle.rx_base.specs.declared.diagnostic.kinds.Unterminated.TheVariants.{GroupName}
 use Rattle.rx_base.specs.declared.span.Span.{Span}
 use Rattle.rx_units.specs.declared.code_point.CodePoint.{CodePoint}
 use Rattle.rx_units.specs.Units.{offset_at}
+use Rattle.rx_model.specs.declared.mode.Mode.{Mode}
+use Rattle.rx_model.specs.declared.mode.Mode.TheVariants.{Legacy, Sets, Unicode}
 use Rattle.rx_model.specs.Refusals.Causes.{unterminated}
 use Rattle.rx_model.specs.Refusals.Reached.{span_between}
 use Rattle.rx_model.specs.Trees.Token.{opener_of}
@@ -31,6 +33,12 @@ modifiers_refusal fault.Duplicated span = DuplicatedModifiers span
 modifiers_refusal fault.Empty span = EmptyModifiers span
 modifiers_refusal fault.Invalid span = InvalidModifiers span
 
+-- what is wrong where a quantifier stands behind nothing that may have one (Term, 22.2.1; with neither `u` nor `v` InvalidBracedQuantifier, B.1.2)
+abbrev pub lone_refusal : Mode → Span → Refusal
+lone_refusal Legacy span = InvalidBracedQuantifier span
+lone_refusal Unicode span = LoneQuantifier span
+lone_refusal Sets span = LoneQuantifier span
+
 -- Terms end, and reading stands at place `at`: the innermost group is not ended, or where none is open the pattern goes on.
 abbrev pub IsEndedFault : List CodePoint → ℕ → ℕ → ℕ → Builder → Fault → Type 0
 IsEndedFault us first added at b it =
@@ -41,12 +49,14 @@ IsEndedFault us first added at b it =
 -- what is wrong where a halt names this span, in a pattern with so many groups; of a stop, outside groups
 abbrev pub halt_refusal : Halt → Span → ℕ → Refusal
 halt_refusal (halt.Stop behind) span groups = ParsePatternIncomplete span
+halt_refusal halt.LastBackslash span groups = InvalidExtendedAtomEscape span
 halt_refusal (halt.OutOfOrder n) span groups = BracedQuantifierOutOfOrder span
 halt_refusal (halt.TooLarge n) span groups = TooLargeNumberInBracedQuantifier span
 halt_refusal (halt.TooManyDigits start many) span groups = TooLargeNumberDigits span Decimal
 halt_refusal (halt.TooManyHexDigits start many) span groups = TooLargeNumberDigits span Hex
 halt_refusal (halt.InvalidEscape start n) span groups = InvalidUnicodeEscapeSequence span
 halt_refusal (halt.UnterminatedName n) span groups = UnterminatedPattern span GroupName
+halt_refusal (halt.MisplacedPair start) span groups = InvalidSurrogatePair span
 halt_refusal halt.NoGroupName span groups = EmptyGroupSpecifier span
 halt_refusal (halt.NoSuchGroup n) span groups = InvalidIndexedReference span groups
 halt_refusal (halt.Modifiers what n) span groups = modifiers_refusal what span

@@ -1,6 +1,5 @@
 -- What is found at the front of a text.
-use Rattle.std.specs.Prelude.{◌≡◌, ℕ, ◌-◌, ◌%◌, ◌≤◌, Bool, Option, Some, None, true, List, [], ◌∷◌, length, drop, take}
-use Rattle.rx_tables.specs.Characters.{is_within}
+use Rattle.std.specs.Prelude.{◌≡◌, ℕ, ◌-◌, ◌%◌, ◌≤◌, Bool, ◌&&◌, Option, Some, None, true, List, [], ◌∷◌, length, drop, take}
 use Rattle.rx_ast.specs.declared.leaf.BoundaryAssertionKind.{BoundaryAssertionKind}
 use Rattle.rx_units.specs.declared.code_point.CodePoint.{CodePoint}
 use Rattle.rx_units.specs.Units.{values}
@@ -10,7 +9,7 @@ use Rattle.rx_model.specs.Reading.Fronts.{boundary_at, front}
 use Rattle.rx_model.specs.Groups.GroupNameReading.{name_of}
 use Rattle.rx_model.specs.FirstPass.Marks.{starts}
 use Rattle.rx_model.specs.Properties.PropertyForms.{begins_property}
-use Rattle.rx_model.specs.Reading.FrontReading.{FrontHalt, ends_here, out_of_order, too_large, many_decimal_digits, many_hex_digits, no_unicode_escape, in_name, no_angle, no_such_group, in_modifiers, FrontRead, token_read, property_begins, class_begins, halted, front_read}
+use Rattle.rx_model.specs.Reading.FrontReading.{FrontHalt, ends_here, last_backslash, out_of_order, too_large, many_decimal_digits, many_hex_digits, no_unicode_escape, in_name, no_angle, no_such_group, in_modifiers, FrontRead, token_read, property_begins, class_begins, halted, front_read}
 use Rattle.rx_model.specs.Groups.ModifierFronts.{ModifiersHalt, no_colon, letter_twice, no_letter, letter_shared}
 use Rattle.rx_model.specs.Trees.Token.{Token, Opener, boundary, character, dot, class_escape, property, class, indexed, named, opener, closer, bar, quantifier, capturing, ignoring, looking}
 use Rattle.rx_parser.specs.Names.{found_name_halt}
@@ -34,10 +33,6 @@ leaf_token leaf.Dot = dot
 leaf_token (leaf.ClassEscape kind) = class_escape kind
 leaf_token (leaf.IndexedReference n) = indexed n
 
--- what a DecimalEscape begins with (22.2.1): 1 to 9
-abbrev pub is_first_digit : ℕ → Bool
-is_first_digit c = is_within 49 57 c
-
 -- the boundary that the first of these characters is behind a backslash (Assertion, 22.2.1)
 abbrev pub boundary_front : Environment → List ℕ → Option BoundaryAssertionKind
 boundary_front e [] = None
@@ -60,14 +55,6 @@ IsOpenerFound e us n o opener_found.Named = (name : List ℕ) × (o ≡ capturin
 IsOpenerFound e us n o opener_found.Ignoring = o ≡ ignoring None
 IsOpenerFound e us n o (opener_found.Modified enabling disabling) = (o ≡ ignoring (Some (enabling.0 % 8, disabling.0 % 8))) × (3 ≤ n)
 IsOpenerFound e us n o (opener_found.LookAround kind) = o ≡ looking kind
-
--- the parts of what a group of so many units begins with are there, with `u` or `v`
-abbrev pub HoldsOpener : List CodePoint → ℕ → OpenerFound → Type 0
-HoldsOpener us n opener_found.Capturing = Unit {0}
-HoldsOpener us n opener_found.Named = (name : List ℕ) × HoldsName true us name n
-HoldsOpener us n opener_found.Ignoring = Unit {0}
-HoldsOpener us n (opener_found.Modified enabling disabling) = 3 ≤ n
-HoldsOpener us n (opener_found.LookAround kind) = Unit {0}
 
 -- the answer on what a group begins with
 abbrev pub found_opener : Opener → OpenerFound
@@ -102,6 +89,7 @@ found_token (quantifier min max greedy) n = found.Quantifier min max greedy n
 -- the answer where no token is read
 abbrev pub found_halt : FrontHalt → Halt
 found_halt (ends_here n) = halt.Stop n
+found_halt last_backslash = halt.LastBackslash
 found_halt (out_of_order n) = halt.OutOfOrder n
 found_halt (too_large n) = halt.TooLarge n
 found_halt (many_decimal_digits start many) = halt.TooManyDigits start many
@@ -123,11 +111,11 @@ found_front (halted it) = found.Halt (found_halt it)
 abbrev pub IsHalt : Environment → List CodePoint → Halt → Type 0
 IsHalt e us it = (reason : FrontHalt) × (front_read e us ≡ halted reason) × (it ≡ found_halt reason)
 
--- In a unicode mode this stands at the front.
+-- This stands at the front.
 abbrev pub IsFound : Environment → List CodePoint → Found → Type 0
 IsFound e us (found.Leaf l n) = Stands e us (leaf_token l) n
 IsFound e us (found.NamedReference n) = (name : List ℕ) × (front e us ≡ Some (named name, n)) × HoldsName (is_unicode e.mode) us name n
-IsFound e us found.Property = (letter : ℕ) × (behind : List ℕ) × (values us ≡ 92 ∷ letter ∷ behind) × (begins_property letter ≡ true)
+IsFound e us found.Property = (letter : ℕ) × (behind : List ℕ) × (values us ≡ 92 ∷ letter ∷ behind) × ((begins_property letter && is_unicode e.mode) ≡ true)
 IsFound e us found.Class = starts 91 (values us) ≡ true
 IsFound e us (found.Open it n) = (o : Opener) × Stands e us (opener o) n × IsOpenerFound e us n o it
 IsFound e us found.Close = Stands e us closer 1

@@ -1,4 +1,5 @@
 pub mod CountsFound
+pub mod Environments
 pub mod Faults
 pub mod Found
 pub mod Frames

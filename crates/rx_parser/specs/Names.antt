@@ -1,6 +1,6 @@
 -- What the readers of names answer, by what is read (GroupName, 22.2.1). The places of a halt count the three units before the name.
 use Rattle.std.specs.Prelude.{ℕ, ◌+◌}
-use Rattle.rx_model.specs.Groups.NameFronts.{NameHalt, unterminated, misplaced, no_escape, no_escape_of_u, many_digits, NameRead, name_read, no_name_read}
+use Rattle.rx_model.specs.Groups.NameFronts.{NameHalt, unterminated, misplaced_pair, misplaced, no_escape, no_escape_of_u, many_digits, NameRead, name_read, no_name_read}
 use Rattle.rx_parser.specs.HaltPlaces.{halt_end}
 use Rattle.rx_parser.specs.declared.found.Halt.{Halt}
 use Rattle.rx_parser.specs.declared.found.Halt.TheVariants as halt
@@ -10,6 +10,7 @@ use Rattle.rx_parser.specs.declared.name.NameFound.TheVariants as found
 -- the answer where no name ends
 abbrev pub found_name_halt : NameHalt → Halt
 found_name_halt (unterminated n) = halt.UnterminatedName n
+found_name_halt (misplaced_pair count) = halt.MisplacedPair (count + 3)
 found_name_halt (misplaced count n) = halt.InvalidEscape (count + 3) (n + 1)
 found_name_halt (no_escape count) = halt.InvalidEscape (count + 3) 1
 found_name_halt (no_escape_of_u count) = halt.InvalidEscape (count + 4) 1

@@ -1,7 +1,9 @@
-ghost use Rattle.std.specs.Prelude.{◌≡◌, ◌<◌, ◌≤◌, IsTrue, drop, length};
+ghost use Rattle.std.specs.Prelude.{◌≡◌, ℕ, ◌-◌, ◌^◌, ◌<◌, ◌≤◌, IsTrue, drop, length, min};
 ghost use Rattle.rx_units.specs.Units.{values};
 ghost use Rattle.rx_model.specs.FirstPass.Marks.{starts};
+ghost use Rattle.rx_model.specs.Reading.Fronts.{digits, digits_behind};
 
+use rx_tables::is_decimal_digit;
 use rx_units::CodePoint;
 
 /// Whether this character stands at this place.
@@ -18,4 +20,20 @@ pub fn tail(units: &[CodePoint], place: usize) -> &[CodePoint]
     ensures { result.now ≡ drop place units.now }
 {
     &units[place..]
+}
+
+/// The number of the digits that the units begin with, which stays at its greatest value, 4294967295, and how many digits they are.
+pub fn number_at(units: &[CodePoint]) -> (u32, usize)
+    ensures number { (n : ℕ) × (result.0 ≡ min n (2 ^ 32 - 1)) × (digits_behind 0 0 (values units.now) ≡ digits n result.1 (values (drop result.1 units.now))) }
+    ensures within { result.1 ≤ length units.now }
+{
+    let mut number = 0u32;
+    for (count, unit) in units.iter().enumerate() {
+        if !is_decimal_digit(unit.value) {
+            return (number, count);
+        }
+        let digit = unit.value - '0' as u32;
+        number = number.saturating_mul(10).saturating_add(digit);
+    }
+    (number, units.len())
 }

@@ -1,9 +1,10 @@
-ghost use Rattle.std.specs.Prelude.{◌≡◌, ◌+◌, ◌^◌, ◌<◌, ◌≤◌, length};
+ghost use Rattle.std.specs.Prelude.{◌≡◌, ℕ, suc, ◌+◌, ◌^◌, ◌<◌, ◌≤◌, length};
 ghost use Rattle.rx_units.specs.Units.{values};
 ghost use Rattle.rx_model.specs.Quantifiers.CountsReading.{digits_read_at, read_behind_comma, read_behind_least, read_in_braces, counts_read_at};
+ghost use Rattle.rx_model.specs.Reading.Fronts.{are_counts, counts_at, counts_behind_comma, counts_in_braces, digits, digits_behind};
 ghost use Rattle.rx_parser.specs.CountsFound.{seen_digits, digits_counted, seen_counts};
 
-use crate::ahead::tail;
+use crate::ahead::{number_at, tail};
 use rx_tables::is_decimal_digit;
 use rx_units::CodePoint;
 
@@ -125,6 +126,48 @@ pub fn counts_at(units: &[CodePoint]) -> CountsFound
         Some('{') => in_braces(behind),
         _ => CountsFound::Nothing,
     }
+}
+
+/// Whether a quantifier's prefix stands first, whatever its numbers are.
+#[tactic(auto, unfolding(rx_model::specs::Reading::Fronts::counts_at))]
+pub fn begins_with_counts(units: &[CodePoint]) -> bool
+    ensures { result ≡ are_counts (counts_at (values units.now)) }
+{
+    let [first, behind @ ..] = units else {
+        return false;
+    };
+    match char::from_u32(first.value) {
+        Some('*' | '+' | '?') => true,
+        Some('{') => are_braces(behind),
+        _ => false,
+    }
+}
+
+/// Whether a quantifier in braces goes on behind its `{`.
+fn are_braces(units: &[CodePoint]) -> bool
+    ensures { result ≡ are_counts (counts_in_braces (digits_behind 0 0 (values units.now))) }
+{
+    let (_, count) = number_at(units);
+    count > 0 && end_braces(tail(units, count))
+}
+
+/// Whether a quantifier in braces goes on behind its first number.
+fn end_braces(units: &[CodePoint]) -> bool
+    ensures { (number more : ℕ) → result ≡ are_counts (counts_in_braces (digits number (suc more) (values units.now))) }
+{
+    match units {
+        [brace, ..] if brace.value == '}' as u32 => true,
+        [comma, more @ ..] if comma.value == ',' as u32 => end_behind_comma(more),
+        _ => false,
+    }
+}
+
+/// Whether a quantifier in braces goes on behind its comma.
+fn end_behind_comma(units: &[CodePoint]) -> bool
+    ensures { (number count : ℕ) → result ≡ are_counts (counts_behind_comma number count (digits_behind 0 0 (values units.now))) }
+{
+    let (_, more) = number_at(units);
+    matches!(tail(units, more), [brace, ..] if brace.value == '}' as u32)
 }
 
 /// The counts of a prefix of one unit.

@@ -2,12 +2,13 @@ ghost use Rattle.std.specs.Prelude.{◌≡◌, ◌+◌, ◌^◌, ◌<◌, ◌≤
 ghost use Rattle.rx_units.specs.Cursor.{offset_of};
 ghost use Rattle.rx_model.specs.Refusals.Reached.{span_between};
 ghost use Rattle.rx_class.specs.Fitting.{AreFitting};
-ghost use Rattle.rx_parser.specs.Faults.{IsEndedFault, IsHaltFault, IsSmall, halt_refusal, modifiers_refusal};
+ghost use Rattle.rx_parser.specs.Faults.{IsEndedFault, IsHaltFault, IsSmall, halt_refusal, lone_refusal, modifiers_refusal};
 ghost use Rattle.rx_parser.specs.HaltPlaces.{halt_end, halt_start};
 
 use crate::builder::Builder;
 use crate::found::{Halt, ModifiersFault};
 use rx_base::{Diagnostic, DigitsKind, Fault, Span, Unterminated};
+use rx_model::Mode;
 use rx_scan::SpanFactory;
 use rx_units::Reader;
 
@@ -40,6 +41,7 @@ fn named_places(halt: Halt) -> (usize, usize)
 {
     match halt {
         Halt::Stop { behind } => (behind, behind),
+        Halt::LastBackslash => (0, 1),
         Halt::OutOfOrder { length } | Halt::TooLarge { length } | Halt::NoSuchGroup { length } => {
             (0, length)
         }
@@ -47,6 +49,7 @@ fn named_places(halt: Halt) -> (usize, usize)
         Halt::TooManyHexDigits { start, digits } => (start, start + digits),
         Halt::InvalidEscape { start, length } => (start, start + length),
         Halt::UnterminatedName { length } => (2, length + 3),
+        Halt::MisplacedPair { start } => (start, start + 2),
         Halt::NoGroupName => (0, 2),
         Halt::Modifiers { length, .. } => (2, length + 2),
     }
@@ -58,6 +61,7 @@ fn refusal(halt: Halt, span: Span, groups: u32) -> Diagnostic
 {
     match halt {
         Halt::Stop { .. } => Diagnostic::ParsePatternIncomplete { span },
+        Halt::LastBackslash => Diagnostic::InvalidExtendedAtomEscape { span },
         Halt::OutOfOrder { .. } => Diagnostic::BracedQuantifierOutOfOrder { span },
         Halt::TooLarge { .. } => Diagnostic::TooLargeNumberInBracedQuantifier { span },
         Halt::TooManyDigits { .. } => {
@@ -73,9 +77,20 @@ fn refusal(halt: Halt, span: Span, groups: u32) -> Diagnostic
             let what = Unterminated::GroupName;
             Diagnostic::UnterminatedPattern { span, what }
         }
+        Halt::MisplacedPair { .. } => Diagnostic::InvalidSurrogatePair { span },
         Halt::NoGroupName => Diagnostic::EmptyGroupSpecifier { span },
         Halt::NoSuchGroup { .. } => Diagnostic::InvalidIndexedReference { span, max: groups },
         Halt::Modifiers { fault, .. } => modifiers_fault(fault, span),
+    }
+}
+
+/// What is wrong where a quantifier of this span stands behind nothing that may have one.
+pub fn lone_quantifier(mode: Mode, span: Span) -> Diagnostic
+    ensures { result ≡ lone_refusal mode span }
+{
+    match mode {
+        Mode::Legacy => Diagnostic::InvalidBracedQuantifier { span },
+        Mode::Unicode | Mode::Sets => Diagnostic::LoneQuantifier { span },
     }
 }
 

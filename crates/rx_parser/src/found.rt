@@ -50,6 +50,8 @@ pub enum Halt {
     Stop {
         behind: usize,
     },
+    /// With neither `u` nor `v` a backslash ends the text.
+    LastBackslash,
     /// The numbers of the braces of this length are out of order.
     OutOfOrder {
         length: usize,
@@ -77,6 +79,10 @@ pub enum Halt {
     /// Behind `<`, at the second unit from here, and so many units of a name's characters neither a name ends nor an escape begins.
     UnterminatedName {
         length: usize,
+    },
+    /// With neither `u` nor `v` a raw surrogate pair stands in a name that may not stand there, from `start` on.
+    MisplacedPair {
+        start: usize,
     },
     /// `\k` is a reference, and no `<` follows.
     NoGroupName,

@@ -1,47 +1,51 @@
-ghost use Rattle.std.specs.Prelude.{◌≡◌, ◌-◌, ◌^◌, ◌≤◌, ◌<◌, ◌∷◌, ℕ, Bool, true, All};
+ghost use Rattle.std.specs.Prelude.{◌≡◌, ◌-◌, ◌^◌, ◌≤◌, ◌<◌, ◌∷◌, ℕ, Bool, false, All, length, if◌then◌else◌};
 ghost use Rattle.rx_units.specs.Units.{values};
-ghost use Rattle.rx_class.specs.Found.{class_escape_front};
-ghost use Rattle.rx_model.specs.Inputs.Environment.{Environment, environment_with, is_unicode};
-ghost use Rattle.rx_model.specs.Inputs.Modes.{is_read};
+ghost use Rattle.rx_ast.specs.declared.leaf.CharacterKind.{CharacterKind};
+ghost use Rattle.rx_class.specs.Found.{class_escape_front, seen_escape};
+ghost use Rattle.rx_class.specs.declared.escape_found.EscapeFound.{EscapeFound};
+ghost use Rattle.rx_model.specs.Characters.EscapeFronts.{any_escape_at};
+ghost use Rattle.rx_model.specs.Inputs.Environment.{environment_with, is_unicode};
 ghost use Rattle.rx_model.specs.Properties.PropertyForms.{begins_property};
 ghost use Rattle.rx_model.specs.Quantifiers.CountsReading.{counts_read, counts_read_at};
-ghost use Rattle.rx_model.specs.Reading.Boundaries.{has_buffers};
-ghost use Rattle.rx_model.specs.Reading.FrontReading.{are_out_of_order, are_too_large, backslash_read, escape_read, front_read, one_of_escapes, quantifier_read, syntax_read};
-ghost use Rattle.rx_model.specs.Reading.Fronts.{escape_at};
-ghost use Rattle.rx_parser.specs.Found.{IsFound, boundary_front, found_front, is_first_digit};
+ghost use Rattle.rx_model.specs.Reading.FrontReading.{are_out_of_order, are_too_large, backslash_read, ends_here, escape_read, front_read, last_backslash, one_of_escapes, quantifier_read, syntax_read};
+ghost use Rattle.rx_model.specs.Reading.Fronts.{is_raw_at};
+ghost use Rattle.rx_model.specs.Reading.Rows.{is_legacy_syntax, stands_raw};
+ghost use Rattle.rx_parser.specs.Environments.{seen_environment};
+ghost use Rattle.rx_parser.specs.Found.{IsFound, boundary_front, found_front, found_halt};
 
 use crate::ahead::stands_at;
-use crate::counts::{CountsFound, counts_at};
+use crate::counts::{CountsFound, begins_with_counts, counts_at};
+use crate::environment::Environment;
 use crate::found::{Found, Halt, Leaf};
 use crate::group::group_at;
-use crate::reference::{indexed_at, named_at};
+use crate::reference::{indexed_at, is_reference, named_at};
 use rx_ast::BoundaryAssertionKind;
-use rx_class::{EscapeFound, character_escape_at, class_escape_at, unit_kind};
+use rx_class::{
+    EscapeFound, LegacyContext, character_escape_at, class_escape_at, legacy_escape_at, unit_kind,
+};
 use rx_model::Mode;
-use rx_tables::{is_decimal_digit, is_syntax_character};
+use rx_tables::is_syntax_character;
 use rx_units::CodePoint;
 
-/// What the units begin with, outside classes, in a pattern with so many groups.
-pub fn front_at(units: &[CodePoint], mode: Mode, groups: u32) -> Found
-    requires read { is_read mode ≡ true }
-    requires few { groups < 2 ^ 32 - 1 }
+/// What the units begin with, outside classes.
+pub fn front_at(units: &[CodePoint], environment: Environment) -> Found
+    requires few { environment.groups < 2 ^ 32 - 1 }
     requires code_points { All (λ unit. unit.value ≤ 0x10FFFF) units.now }
-    ensures { (has_names : Bool) → IsFound (environment_with mode groups has_names) units.now result }
+    ensures { IsFound (seen_environment environment) units.now result }
 {
-    first_of(units, mode, groups)
+    first_of(units, environment)
 }
 
 /// The same, by how the front is read.
 #[tactic(auto, unfolding(rx_model::specs::Reading::FrontReading::front_read))]
-fn first_of(units: &[CodePoint], mode: Mode, groups: u32) -> Found
-    requires read { is_read mode ≡ true }
-    requires few { groups < 2 ^ 32 - 1 }
-    ensures { (has_names : Bool) → result ≡ found_front (front_read (environment_with mode groups has_names) units.now) }
+fn first_of(units: &[CodePoint], environment: Environment) -> Found
+    requires few { environment.groups < 2 ^ 32 - 1 }
+    ensures { result ≡ found_front (front_read (seen_environment environment) units.now) }
 {
     let [first, behind @ ..] = units else {
         return Found::Halt(Halt::Stop { behind: 0 });
     };
-    if !is_syntax_character(first.value) {
+    if is_raw(first.value, behind, units, environment.mode) {
         return Found::Leaf {
             leaf: Leaf::Character {
                 kind: unit_kind(first.escape_kind),
@@ -51,56 +55,85 @@ fn first_of(units: &[CodePoint], mode: Mode, groups: u32) -> Found
         };
     }
     if first.value == '\\' as u32 {
-        return backslash_at(behind, mode, groups);
+        return backslash_at(behind, environment);
     }
     if first.value == '[' as u32 {
         return Found::Class;
     }
-    syntax_at(first.value, behind, units, mode)
+    syntax_at(first.value, behind, units, environment.mode)
+}
+
+/// Whether the first unit stands for itself. With neither `u` nor `v` a brace does, where no quantifier begins there.
+fn is_raw(first: u32, behind: &[CodePoint], units: &[CodePoint], mode: Mode) -> bool
+    requires { values units.now ≡ first ∷ values behind.now }
+    ensures { (groups : ℕ) (has_names : Bool) → result ≡ is_raw_at (environment_with mode groups has_names) first (values behind.now) }
+{
+    stands_raw(first, mode) && (mode.is_unicode() || !begins_with_counts(units))
+}
+
+/// Whether a value may stand for itself (PatternCharacter of ECMA-262, 22.2.1, and ExtendedPatternCharacter of B.1.2).
+fn stands_raw(value: u32, mode: Mode) -> bool
+    ensures { result ≡ stands_raw mode value }
+{
+    match mode {
+        Mode::Legacy => !is_legacy_syntax(value),
+        Mode::Unicode | Mode::Sets => !is_syntax_character(value),
+    }
+}
+
+/// Whether a value stands for itself in no mode.
+fn is_legacy_syntax(value: u32) -> bool
+    ensures { result ≡ is_legacy_syntax value }
+{
+    matches!(
+        char::from_u32(value),
+        Some('^' | '$' | '\\' | '.' | '*' | '+' | '?' | '(' | ')' | '[' | '|')
+    )
 }
 
 /// The boundary that the unit behind a backslash is.
-fn boundary_at(behind: &[CodePoint]) -> Option<BoundaryAssertionKind>
-    ensures { (e : Environment) → has_buffers e ≡ true → result ≡ boundary_front e (values behind.now) }
+fn boundary_at(behind: &[CodePoint], mode: Mode) -> Option<BoundaryAssertionKind>
+    ensures { (groups : ℕ) (has_names : Bool) → result ≡ boundary_front (environment_with mode groups has_names) (values behind.now) }
 {
     match char::from_u32(behind.first()?.value) {
         Some('b') => Some(BoundaryAssertionKind::Boundary),
         Some('B') => Some(BoundaryAssertionKind::NegativeBoundary),
-        Some('A') => Some(BoundaryAssertionKind::StartBuffer),
-        Some('z') => Some(BoundaryAssertionKind::EndBuffer),
-        Some('Z') => Some(BoundaryAssertionKind::EndBufferOptionalNewline),
+        Some('A') if mode.is_unicode() => Some(BoundaryAssertionKind::StartBuffer),
+        Some('z') if mode.is_unicode() => Some(BoundaryAssertionKind::EndBuffer),
+        Some('Z') if mode.is_unicode() => Some(BoundaryAssertionKind::EndBufferOptionalNewline),
         _ => None,
     }
 }
 
-fn is_unicode(mode: Mode) -> bool
-    ensures { result ≡ is_unicode mode }
-{
-    match mode {
-        Mode::Legacy => false,
-        Mode::Unicode | Mode::Sets => true,
-    }
-}
-
 /// What a backslash and the units behind it begin with.
-fn backslash_at(behind: &[CodePoint], mode: Mode, groups: u32) -> Found
-    requires read { is_read mode ≡ true }
-    requires few { groups < 2 ^ 32 - 1 }
-    ensures { (has_names : Bool) → result ≡ found_front (backslash_read (environment_with mode groups has_names) (values behind.now)) }
+fn backslash_at(behind: &[CodePoint], environment: Environment) -> Found
+    requires few { environment.groups < 2 ^ 32 - 1 }
+    ensures { result ≡ found_front (backslash_read (seen_environment environment) (values behind.now)) }
 {
     let [first, more @ ..] = behind else {
-        return Found::Halt(Halt::Stop { behind: 1 });
+        return Found::Halt(behind_last_backslash(environment.mode));
     };
-    if is_first_digit(first.value) {
-        return indexed_at(behind, groups);
+    if is_reference(behind, environment) {
+        return indexed_at(behind, environment.groups);
     }
-    if first.value == 'k' as u32 {
-        return named_at(more, is_unicode(mode));
+    if first.value == 'k' as u32 && environment.is_named() {
+        return named_at(more, environment.mode.is_unicode());
     }
-    if begins_property(first.value) {
+    if begins_property(first.value) && environment.mode.is_unicode() {
         return Found::Property;
     }
-    escape_at(behind, mode)
+    escape_at(behind, environment)
+}
+
+/// Why no token begins with a backslash at the end of the text.
+fn behind_last_backslash(mode: Mode) -> Halt
+    ensures { result ≡ found_halt (if is_unicode mode then ends_here 1 else last_backslash) }
+{
+    if mode.is_unicode() {
+        Halt::Stop { behind: 1 }
+    } else {
+        Halt::LastBackslash
+    }
 }
 
 /// Whether a property escape begins with this value behind its backslash.
@@ -110,19 +143,11 @@ fn begins_property(value: u32) -> bool
     value == 'p' as u32 || value == 'P' as u32
 }
 
-/// Whether a value is a digit from 1 to 9.
-fn is_first_digit(value: u32) -> bool
-    ensures { result ≡ is_first_digit value }
-{
-    is_decimal_digit(value) && value != '0' as u32
-}
-
 /// What a backslash and the units behind it, which are neither a reference nor a property, begin with.
-fn escape_at(behind: &[CodePoint], mode: Mode) -> Found
-    ensures { (e : Environment) → has_buffers e ≡ true
-        → result ≡ found_front (one_of_escapes (boundary_front e (values behind.now)) (class_escape_front (values behind.now)) (escape_at (is_unicode mode) (values behind.now))) }
+fn escape_at(behind: &[CodePoint], environment: Environment) -> Found
+    ensures { result ≡ found_front (one_of_escapes (boundary_front (seen_environment environment) (values behind.now)) (class_escape_front (values behind.now)) (any_escape_at false (seen_environment environment) (values behind.now))) }
 {
-    if let Some(kind) = boundary_at(behind) {
+    if let Some(kind) = boundary_at(behind, environment.mode) {
         return Found::Leaf {
             leaf: Leaf::Boundary(kind),
             length: 2,
@@ -134,14 +159,14 @@ fn escape_at(behind: &[CodePoint], mode: Mode) -> Found
             length: 2,
         };
     }
-    character_at(behind, mode)
+    character_at(behind, environment)
 }
 
 /// What a backslash and the units behind it, which are neither a boundary nor a class escape, begin with.
-fn character_at(behind: &[CodePoint], mode: Mode) -> Found
-    ensures { result ≡ found_front (escape_read (escape_at (is_unicode mode) (values behind.now))) }
+fn character_at(behind: &[CodePoint], environment: Environment) -> Found
+    ensures { result ≡ found_front (escape_read (any_escape_at false (seen_environment environment) (values behind.now))) }
 {
-    match character_escape_at(behind, is_unicode(mode)) {
+    match any_escape_at(behind, environment) {
         EscapeFound::Character {
             kind,
             value,
@@ -161,6 +186,31 @@ fn character_at(behind: &[CodePoint], mode: Mode) -> Found
     }
 }
 
+/// The character escape that the units behind a backslash begin with, outside classes: with neither `u` nor `v` also one of ECMA-262, B.1.2.
+fn any_escape_at(behind: &[CodePoint], environment: Environment) -> EscapeFound
+    ensures read { seen_escape result ≡ any_escape_at false (seen_environment environment) (values behind.now) }
+    ensures within { (kind : CharacterKind) (value n : ℕ) → result ≡ EscapeFound.Character kind value n → n ≤ length behind.now }
+{
+    escape_in_mode(behind, environment)
+}
+
+fn escape_in_mode(behind: &[CodePoint], environment: Environment) -> EscapeFound
+    ensures { seen_escape result ≡ any_escape_at false (seen_environment environment) (values behind.now) }
+{
+    let unicode_mode = environment.mode.is_unicode();
+    match character_escape_at(behind, unicode_mode) {
+        EscapeFound::Nothing | EscapeFound::Invalid if !unicode_mode => {
+            let context = LegacyContext {
+                inside: false,
+                groups: environment.groups,
+                named: environment.is_named(),
+            };
+            legacy_escape_at(behind, context)
+        }
+        found => found,
+    }
+}
+
 /// What the units begin with, whose first is neither a backslash nor `[` nor stands for itself.
 fn syntax_at(first: u32, behind: &[CodePoint], units: &[CodePoint], mode: Mode) -> Found
     requires { values units.now ≡ first ∷ values behind.now }
@@ -171,7 +221,7 @@ fn syntax_at(first: u32, behind: &[CodePoint], units: &[CodePoint], mode: Mode) 
             leaf: Leaf::Dot,
             length: 1,
         },
-        Some('(') => group_at(behind, is_unicode(mode)),
+        Some('(') => group_at(behind, mode.is_unicode()),
         Some(')') => Found::Close,
         Some('|') => Found::Bar,
         Some('^') => Found::Leaf {

@@ -4,6 +4,7 @@
 mod ahead;
 mod builder;
 mod counts;
+mod environment;
 mod fault;
 mod found;
 mod frame;

@@ -1,13 +1,14 @@
-ghost use Rattle.std.specs.Prelude.{◌≡◌, true, ℕ, ◌+◌, ◌^◌, ◌<◌, ◌≤◌, List, length};
+ghost use Rattle.std.specs.Prelude.{◌≡◌, IsTrue, true, ℕ, ◌+◌, ◌^◌, ◌<◌, ◌≤◌, List, length};
 ghost use Rattle.rx_units.specs.Units.{values};
 ghost use Rattle.rx_model.specs.Characters.Decoding.{decoded};
 ghost use Rattle.rx_model.specs.FirstPass.Marks.{starts};
-ghost use Rattle.rx_model.specs.Groups.NameFronts.{escape_halt, name_read_at, read_behind_name};
+ghost use Rattle.rx_model.specs.Groups.NameFronts.{begins_pair, escape_halt, name_read_at, read_behind_name};
 ghost use Rattle.rx_parser.specs.HaltPlaces.{halt_end};
 ghost use Rattle.rx_parser.specs.Names.{found_name, found_name_halt, name_end};
 
 use crate::ahead::tail;
 use crate::found::Halt;
+use rx_base::{is_lead_surrogate, is_trail_surrogate};
 use rx_scan::{UnicodeEscape, decode, group_name_length};
 use rx_units::CodePoint;
 
@@ -40,7 +41,21 @@ fn behind_name(count: usize, units: &[CodePoint], unicode_mode: bool) -> NameFou
         [backslash, behind @ ..] if backslash.value == '\\' as u32 => {
             NameFound::Halt(escape_in_name(count, behind, unicode_mode))
         }
+        _ if !unicode_mode && begins_with_pair(units) => {
+            NameFound::Halt(Halt::MisplacedPair { start: count + 3 })
+        }
         _ => NameFound::Halt(Halt::UnterminatedName { length: count }),
+    }
+}
+
+/// Whether a raw lead surrogate and a raw trail surrogate stand first.
+fn begins_with_pair(units: &[CodePoint]) -> bool
+    ensures pair { result ≡ begins_pair (values units.now) }
+    ensures within { IsTrue result → 2 ≤ length units.now }
+{
+    match units {
+        [lead, trail, ..] => is_lead_surrogate(lead.value) && is_trail_surrogate(trail.value),
+        _ => false,
     }
 }
 

@@ -1,4 +1,5 @@
 ghost use Rattle.std.specs.Prelude.{◌≡◌, ◌+◌, ◌<◌, ◌^◌, true, false, All, IfErr, IfOk, OnOk};
+ghost use Rattle.rx_model.specs.Inputs.Environment.{is_sets};
 ghost use Rattle.rx_model.specs.Inputs.Modes.{is_read};
 ghost use Rattle.rx_class.specs.Fitting.{AreFitting};
 ghost use Rattle.rx_parser.specs.Parsing.{AnswersUnits, HoldsPass, IsRefused, IsWhole, mode_of_state};
@@ -74,14 +75,14 @@ fn is_read(mode: Mode) -> bool
     ensures { result ≡ is_read mode }
 {
     match mode {
-        Mode::Unicode => true,
-        Mode::Legacy | Mode::Sets => false,
+        Mode::Legacy | Mode::Unicode => true,
+        Mode::Sets => false,
     }
 }
 
 /// Counts the groups of the text and lists their names, or tells why the text is refused for them.
 fn first_pass(state: &mut State, reader: &mut Reader<'_>, spans: &SpanFactory) -> Result<(), Fault>
-    requires read { is_read (mode_of_state state.old) ≡ true }
+    requires no_sets { is_sets (mode_of_state state.old) ≡ false }
     requires modes { state.old.unicode_sets_mode ≡ true → state.old.unicode_mode ≡ true }
     requires start { reader.old.place ≡ 0 }
     requires fits { AreFitting spans.now reader.old }

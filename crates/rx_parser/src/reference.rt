@@ -1,22 +1,52 @@
-ghost use Rattle.std.specs.Prelude.{◌≡◌, ℕ, ◌-◌, ◌^◌, ◌<◌, ◌≤◌, drop, length, min};
+ghost use Rattle.std.specs.Prelude.{◌≡◌, ◌-◌, ◌^◌, ◌<◌, nat_le};
 ghost use Rattle.rx_units.specs.Units.{values};
 ghost use Rattle.rx_model.specs.Groups.NameFronts.{name_read_at};
 ghost use Rattle.rx_model.specs.Reading.FrontReading.{indexed_read, reference_read, with_name};
-ghost use Rattle.rx_model.specs.Reading.Fronts.{digits, digits_behind};
+ghost use Rattle.rx_model.specs.Characters.LegacyEscapes.{begins_run, run_number};
+ghost use Rattle.rx_model.specs.Reading.Fronts.{digits_behind, is_reference};
 ghost use Rattle.rx_model.specs.Trees.Token.{named};
+ghost use Rattle.rx_parser.specs.Environments.{seen_environment};
 ghost use Rattle.rx_parser.specs.Found.{found_front};
 
+use crate::ahead::number_at;
+use crate::environment::Environment;
 use crate::found::{Found, Halt, Leaf};
 use crate::name::{NameFound, name_at};
 use rx_tables::is_decimal_digit;
 use rx_units::CodePoint;
+
+/// Whether a reference by number stands behind a backslash (DecimalEscape of ECMA-262, 22.2.1): with neither `u` nor `v` one whose number is at most that
+/// of the groups (B.1.2).
+pub fn is_reference(behind: &[CodePoint], environment: Environment) -> bool
+    requires few { environment.groups < 2 ^ 32 - 1 }
+    ensures { result ≡ is_reference (seen_environment environment) (values behind.now) }
+{
+    begins_with_first_digit(behind)
+        && (environment.mode.is_unicode() || is_at_most(behind, environment.groups))
+}
+
+/// Whether a digit from 1 to 9 stands first.
+fn begins_with_first_digit(units: &[CodePoint]) -> bool
+    ensures { result ≡ begins_run (values units.now) }
+{
+    units.first().is_some_and(|unit| is_decimal_digit(unit.value) && unit.value != '0' as u32)
+}
+
+/// Whether the number of the digits that the units begin with is at most that of the groups.
+fn is_at_most(units: &[CodePoint], groups: u32) -> bool
+    requires few { groups < 2 ^ 32 - 1 }
+    ensures { result ≡ nat_le (run_number 0 (values units.now)) groups }
+{
+    let (number, _) = number_at(units);
+    number <= groups
+}
 
 /// The reference behind a backslash, whose number begins with a digit that is not 0 (DecimalEscape of ECMA-262, 22.2.1), in a pattern with so many groups.
 pub fn indexed_at(behind: &[CodePoint], groups: u32) -> Found
     requires few { groups < 2 ^ 32 - 1 }
     ensures { result ≡ found_front (indexed_read groups (digits_behind 0 0 (values behind.now))) }
 {
-    let (index, count) = index_at(behind);
+    let (index, count) = number_at(behind);
     let length = count + 1;
     if index > groups {
         return Found::Halt(Halt::NoSuchGroup { length });
@@ -25,22 +55,6 @@ pub fn indexed_at(behind: &[CodePoint], groups: u32) -> Found
         leaf: Leaf::IndexedReference(index),
         length,
     }
-}
-
-/// The number of the digits that the units begin with, which stays at its greatest value, 4294967295, and how many digits they are.
-fn index_at(units: &[CodePoint]) -> (u32, usize)
-    ensures index { (n : ℕ) × (result.0 ≡ min n (2 ^ 32 - 1)) × (digits_behind 0 0 (values units.now) ≡ digits n result.1 (values (drop result.1 units.now))) }
-    ensures within { result.1 ≤ length units.now }
-{
-    let mut index = 0u32;
-    for (count, unit) in units.iter().enumerate() {
-        if !is_decimal_digit(unit.value) {
-            return (index, count);
-        }
-        let digit = unit.value - '0' as u32;
-        index = index.saturating_mul(10).saturating_add(digit);
-    }
-    (index, units.len())
 }
 
 /// The reference by name behind `\k` (AtomEscape of ECMA-262, 22.2.1).

@@ -1,6 +1,6 @@
 ghost use Rattle.std.specs.Prelude.{◌≡◌, true, IfErr, IfOk, OnOk};
 ghost use Rattle.rx_units.specs.Cursor.{rest};
-ghost use Rattle.rx_model.specs.Inputs.Modes.{is_read};
+ghost use Rattle.rx_model.specs.Inputs.Environment.{has_some};
 ghost use Rattle.rx_model.specs.Refusals.Reached.{text_environment};
 ghost use Rattle.rx_parser.specs.Faults.{IsSmall};
 ghost use Rattle.rx_parser.specs.Found.{IsFound};
@@ -9,7 +9,8 @@ ghost use Rattle.rx_parser.specs.Parsing.{HoldsPass, IsRefused};
 ghost use Rattle.rx_parser.specs.Turns.{IsBefore, IsTurned};
 
 use crate::builder::Builder;
-use crate::fault::{fault, here};
+use crate::environment::Environment;
+use crate::fault::{fault, here, lone_quantifier};
 use crate::found::{Found, Halt, Leaf, OpenerFound};
 use crate::front::front_at;
 use crate::term::{class_term, group_kind, name_in, named_term, property_term, term};
@@ -58,10 +59,11 @@ pub fn turn(
             length,
         } => {
             reader.skip(length);
+            let mode = builder.mode;
             let after = here(reader, spans);
             if !builder.quantify(alloc, min, max, greedy, after)? {
                 let span = Span::new(at, after);
-                return Err(Fault::Diagnostic(Diagnostic::LoneQuantifier { span }));
+                return Err(Fault::Diagnostic(lone_quantifier(mode, span)));
             }
             Ok(())
         }
@@ -74,13 +76,23 @@ pub fn turn(
 
 /// What stands where the reader does, in the mode of the builder.
 fn found_here(reader: &Reader<'_>, state: &State, builder: &Builder) -> Found
-    requires read { is_read builder.now.mode ≡ true }
     requires pass { HoldsPass builder.now.mode reader.now.units state.now }
     ensures found { IsFound (text_environment builder.now.mode reader.now.units) (rest reader.now) result }
     ensures small { (halt : Halt) → result ≡ Found.Halt halt → IsSmall halt }
 {
-    let groups = state.num_of_capturing_groups;
-    front_at(reader.remaining_code_points(), builder.mode, groups)
+    let environment = Environment {
+        mode: builder.mode,
+        groups: state.num_of_capturing_groups,
+        has_names: has_names(state),
+    };
+    front_at(reader.remaining_code_points(), environment)
+}
+
+/// Whether some group of the pattern has a name.
+fn has_names(state: &State) -> bool
+    ensures { result ≡ has_some state.now.capturing_group_names }
+{
+    !state.capturing_group_names.is_empty()
 }
 
 /// Reads a term that is one token of so many units, and gives it to the builder.

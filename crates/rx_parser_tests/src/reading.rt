@@ -73,18 +73,23 @@ fn shown(alloc: Global, answer: Result<Canonical, Fault>) -> Result<String, Fail
 
 #[test]
 fn not_yet(rt: HostRuntime) -> Result<(), Fail> {
-    let rows = "- [a] => not yet
-iv (a[b]) => not yet
+    let rows = "iv (a[b]) => not yet
 v \\p{L} => not yet
--  => not yet
-- a => not yet
- a => not yet
-gi a => not yet
 v a => not yet";
     agree(rt.alloc(), &AT_ZERO, rows)?;
     let rows = "u \"[a]\" => not yet
 \"gg\" \"a\" => not yet";
     agree(rt.alloc(), &CONSTRUCTOR, rows)
+}
+
+#[test]
+fn no_flag_of_a_mode(rt: HostRuntime) -> Result<(), Fail> {
+    let rows = "- [a] => Legacy [a] 0..3
+-  => Legacy (?:) 0..4
+- a => Legacy a 0..1
+ a => Legacy a 0..1
+gi a => Legacy a 0..1";
+    agree(rt.alloc(), &AT_ZERO, rows)
 }
 
 #[test]

@@ -57,8 +57,8 @@ ok\tunicode\t(?:)
 ok\tunicode\t[a]
 later
 later
-later
-later
+ok\tlegacy\ta
+ok\tlegacy\ta
 later
 bad
 bad

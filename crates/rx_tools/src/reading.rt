@@ -1,8 +1,7 @@
 ghost use Rattle.std.specs.Prelude.{◌≡◌, ◌+◌, ◌<◌, ◌^◌, ◌⊎◌, max, false, length, IsTrue};
-ghost use Rattle.rx_model.specs.Inputs.Flags.{flags_of, holds};
 ghost use Rattle.rx_model.specs.Reading.Headline.{IsAnswered};
 ghost use Rattle.rx_parser.specs.Literals.{flags_chars, flags_length, input_of};
-ghost use Rattle.rx_tools.specs.NotYet.{is_not_yet};
+ghost use Rattle.rx_tools.specs.NotYet.{AskNoSets, is_not_yet};
 ghost use Rattle.rx_tools.specs.Spelled.{spelled_of};
 ghost use Rattle.rx_tools.specs.Texts.{stand_in_length};
 
@@ -24,9 +23,9 @@ pub fn canonical(
     requires pattern { options.pattern_span_offset + max (length pattern_text.now) (stand_in_length form) < 2 ^ 32 }
     requires flags { options.flags_span_offset + flags_length flags_text < 2 ^ 32 }
 
-    // Of a literal whose flags hold `u`, be they right or wrong: Ok on valid input and on no other, with the only tree and its canonical spelling; else
-    // the first refusal, or out of memory.
-    ensures headline { form ≡ Form.Literal → IsTrue (holds (flags_of (flags_chars flags_text.entry)) 117)
+    // Of a literal whose flags do not ask for sets mode, be they right or wrong: Ok on valid input and on no other, with the only tree and its canonical
+    // spelling; else the first refusal, or out of memory.
+    ensures headline { form ≡ Form.Literal → AskNoSets (flags_chars flags_text.entry)
         → IsAnswered spelled_of (input_of form pattern_text.now flags_text.entry options) result }
 
     // The same of each form and mode that is read, and of wrong flags. "Not yet" comes exactly where its form or mode is not read yet; out of memory may

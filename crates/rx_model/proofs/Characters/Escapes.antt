@@ -142,7 +142,7 @@ module _ (e : Environment) where
   escape_spelled kind v n [] h = absurd (let k : ⊥ = cc h in k)
   escape_spelled kind v n (c ∷ w) h = behind_found kind v n c w (control_escape_value c) refl h
 
-  spelled_small : (kind : CharacterKind) (v : ℕ) (w rest : List ℕ) → SpellsEscape e kind v w rest → v ≤ 0x10FFFF
+  pub spelled_small : (kind : CharacterKind) (v : ℕ) (w rest : List ℕ) → SpellsEscape e kind v w rest → v ≤ 0x10FFFF
   spelled_small _ v _ rest (control {c} h) = grind (arith, nat_tests)
   spelled_small _ v _ rest (letter {c} h) = letter_small c v h
   spelled_small _ _ _ rest (null h) = omega arith

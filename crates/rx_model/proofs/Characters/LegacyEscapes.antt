@@ -1,7 +1,8 @@
 -- Escapes with neither `u` nor `v`: what is spelled is read, and what is read is spelled.
-use Rattle.std.proofs.Common.{◌≡◌, ℕ, ◌+◌, ◌*◌, ◌%◌, ◌==◌, Bool, true, false, cond, not, is_some, ◌||◌, ◌&&◌, List, [], ◌∷◌, ◌++◌, length, Option, Some, None, codes, refl, sym, ap, ◌∙◌, subst, arith, ◌⊎◌, inl, inr}
-use Rattle.std.proofs.lemmas.Bool.{eqb-true, cond-true, cond-false, cases_Bool}
+use Rattle.std.proofs.Common.{◌≡◌, ℕ, ◌+◌, ◌≤◌, ◌*◌, All, ◌%◌, ◌==◌, Bool, true, false, cond, not, is_some, ◌||◌, ◌&&◌, List, [], ◌∷◌, ◌++◌, length, Option, Some, None, codes, refl, sym, ap, ◌∙◌, subst, arith, ◌⊎◌, inl, inr, nat_le, length-append}
+use Rattle.std.proofs.lemmas.Bool.{eqb-true, cond-true, cond-false, cases_Bool, leb-true}
 use Rattle.std.proofs.lemmas.Bool.Decides.{nat_tests}
+use Rattle.std.proofs.lemmas.List.Elements.{All-head}
 use Rattle.rx_tables.specs.Characters.{control_escape_value, control_letter_value, is_decimal_digit, is_octal_digit, is_within}
 use Rattle.rx_ast.specs.declared.leaf.CharacterKind.{CharacterKind}
 use Rattle.rx_ast.specs.declared.leaf.CharacterKind.TheVariants as kinds
@@ -13,7 +14,7 @@ use Rattle.rx_model.specs.Characters.LegacyEscapes.{is_free, two_next, four_next
 use Rattle.rx_model.specs.Refusals.Stops.{is_one_of}
 use Rattle.rx_model.specs.Characters.UnicodeEscapes.{hex_number}
 use Rattle.rx_model.proofs.Characters.Decodings.{chosen, both}
-use Rattle.rx_model.proofs.Characters.Escapes.{EscapeFront, escape_spelled, spelled_escape}
+use Rattle.rx_model.proofs.Characters.Escapes.{EscapeFront, escape_no_limit, escape_spelled, spelled_escape, spelled_small}
 
 -- small facts on tests
 not_test : (b : Bool) → not b ≡ true → b ≡ false
@@ -336,6 +337,30 @@ module _ (inside : Bool) (e : Environment) where
   pub any_spelled : (kind : CharacterKind) (v n : ℕ) (w : List ℕ) → any_escape_at inside e w ≡ escaped kind v n → AnyFront kind v n w
   any_spelled kind v n w h = any_found kind v n w (escape_at (is_unicode e.mode) w) refl h
 
+  -- an escape of a code point is one
+  legacy_low : (kind : CharacterKind) (v : ℕ) (w rest : List ℕ) → SpellsLegacy inside e kind v w rest → front_is (λ c. nat_le c 0x10FFFF) (w ++ rest) ≡ true → v ≤ 0x10FFFF
+  legacy_low _ _ _ _ (lone h) n = omega arith
+  legacy_low _ _ _ rest (class_control {c} h k) n = omega arith
+  legacy_low _ _ _ rest (octal_zero h) n = omega arith
+  legacy_low _ _ _ rest (octal1 {c} h k f) n = grind (arith, nat_tests)
+  legacy_low _ _ _ rest (octal2_low {c} {d} h k l f) n = grind (arith, nat_tests)
+  legacy_low _ _ _ rest (octal2_high {c} {d} h k f) n = grind (arith, nat_tests)
+  legacy_low _ _ _ rest (octal3 {c} {d} {f} h k l x) n = grind (arith, nat_tests)
+  legacy_low _ _ _ rest (identity {c} h) n = leb-true c 0x10FFFF n
+
+  pub any_small : (kind : CharacterKind) (v n : ℕ) (w : List ℕ) → front_is (λ c. nat_le c 0x10FFFF) w ≡ true → any_escape_at inside e w ≡ escaped kind v n → v ≤ 0x10FFFF
+  any_small kind v n w small h = elim (any_spelled kind v n w h) [
+    | inl f ↦ spelled_small e kind v f.spelled f.rest f.spells
+    | inr f ↦ legacy_low kind v f.1.spelled f.1.rest f.1.spells (ap (front_is (λ c. nat_le c 0x10FFFF)) (sym f.1.whole) ∙ small)
+  ]
+
+  -- and one stays within the text
+  pub any_within : (kind : CharacterKind) (v n : ℕ) (w : List ℕ) → any_escape_at inside e w ≡ escaped kind v n → n ≤ length w
+  any_within kind v n w h = elim (any_spelled kind v n w h) [
+    | inl f ↦ omega (arith, f.count, ap length f.whole, length-append f.spelled f.rest)
+    | inr f ↦ omega (arith, f.1.count, ap length f.1.whole, length-append f.1.spelled f.1.rest)
+  ]
+
   -- With `u` or `v` there are none but those of every mode.
   pub any_in_unicode : (w : List ℕ) → is_unicode e.mode ≡ true → any_escape_at inside e w ≡ escape_at (is_unicode e.mode) w
   any_in_unicode w m = go (escape_at (is_unicode e.mode) w)
@@ -396,3 +421,60 @@ module _ (inside : Bool) (e : Environment) where
     no_b = identity_no_b c h.no_letter;
     no_class = identity_class c h.no_letter;
   }
+
+-- An answer is a character or nothing.
+abbrev pub IsCharacterOrNothing : EscapeRead → Type 0
+IsCharacterOrNothing (escaped kind v n) = Unit {0}
+IsCharacterOrNothing nothing = Unit {0}
+IsCharacterOrNothing (too_many n) = ⊥
+IsCharacterOrNothing no_unicode = ⊥
+
+either : (b : Bool) (r s : EscapeRead) → IsCharacterOrNothing r → IsCharacterOrNothing s → IsCharacterOrNothing (cond b r s)
+either true r s p q = p
+either false r s p q = q
+
+-- With neither `u` nor `v` alone no escape is refused.
+module _ (inside : Bool) (e : Environment) where
+  control_no_refusal : (w : List ℕ) → IsCharacterOrNothing (control_behind inside w)
+  control_no_refusal [] = tt
+  control_no_refusal (c ∷ w) = either (is_some (control_letter_value c)) _ _ tt (either (inside && is_class_control c) _ _ tt tt)
+
+  octal_no_refusal : (c : ℕ) (w : List ℕ) → IsCharacterOrNothing (octal_at c w)
+  octal_no_refusal c [] = tt
+  octal_no_refusal c (d ∷ []) = either (is_octal_digit d) _ _ tt tt
+  octal_no_refusal c (d ∷ f ∷ w) = either (is_octal_digit d) _ _ (either (is_within 48 51 c && is_octal_digit f) _ _ tt tt) tt
+
+  digit_no_refusal : (c : ℕ) (w : List ℕ) → IsCharacterOrNothing (digit_at inside e.groups c w)
+  digit_no_refusal c w = either (not (is_free inside e.groups (c ∷ w))) _ _ tt (either (c == 48 && not (front_is is_decimal_digit w)) _ _ tt (either (is_octal_digit c) _ _ (octal_no_refusal c w) tt))
+
+  pub legacy_no_refusal : (w : List ℕ) → IsCharacterOrNothing (legacy_at inside e w)
+  unfolding legacy_at
+  legacy_no_refusal [] = tt
+  legacy_no_refusal (c ∷ w) = either (c == 99) _ _ (control_no_refusal w) (either (is_decimal_digit c) _ _ (digit_no_refusal c w)
+      (either (is_one_of (codes "dDsSwWfnrtvb") c || ((e.named && c == 107) || (not inside && c == 66))) _ _ tt
+      (either (c == 120 && is_some (two_next w)) _ _ tt (either (c == 117 && is_some (four_next w)) _ _ tt tt))))
+
+  -- The value of a character is a code point where all its characters are.
+  pub legacy_small : (kind : CharacterKind) (v : ℕ) (w rest : List ℕ) → SpellsLegacy inside e kind v w rest → All (λ c. c ≤ 0x10FFFF) (w ++ rest) → v ≤ 0x10FFFF
+  legacy_small _ _ _ _ (lone h) small = omega arith
+  legacy_small _ _ _ _ (class_control {c} h k) small = grind (arith, nat_tests)
+  legacy_small _ _ _ _ (octal_zero h) small = omega arith
+  legacy_small _ _ _ _ (octal1 {c} h k f) small = grind (arith, nat_tests)
+  legacy_small _ _ _ _ (octal2_low {c} {d} h k n f) small = grind (arith, nat_tests)
+  legacy_small _ _ _ _ (octal2_high {c} {d} h k f) small = grind (arith, nat_tests)
+  legacy_small _ _ _ _ (octal3 {c} {d} {f} h k l x) small = grind (arith, nat_tests)
+  legacy_small _ _ _ rest (identity {c} h) small = All-head (λ c. c ≤ 0x10FFFF) c rest small
+
+  -- So what is refused is refused with `u` or `v`, among the escapes of every mode.
+  in_legacy_mode : (w : List ℕ) (r : EscapeRead) → escape_at false w ≡ r → IsCharacterOrNothing (or_legacy r false (legacy_at inside e w))
+  in_legacy_mode w (escaped kind v n) h = tt
+  in_legacy_mode w nothing h = legacy_no_refusal w
+  in_legacy_mode w (too_many n) h = absurd (escape_no_limit w n h)
+  in_legacy_mode w no_unicode h = legacy_no_refusal w
+
+  pub any_refused : (w : List ℕ) (r : EscapeRead) → any_escape_at inside e w ≡ r → (IsCharacterOrNothing r → ⊥) → (is_unicode e.mode ≡ true) × (escape_at true w ≡ r)
+  any_refused w r h never = by (is_unicode e.mode) refl
+    where
+      by : (b : Bool) → is_unicode e.mode ≡ b → (is_unicode e.mode ≡ true) × (escape_at true w ≡ r)
+      by true m = (m, ap (λ u. escape_at u w) (sym m) ∙ sym (any_in_unicode inside e w m) ∙ h)
+      by false m = absurd (never (subst IsCharacterOrNothing (ap (λ u. or_legacy (escape_at u w) u (legacy_at inside e w)) (sym m) ∙ h) (in_legacy_mode w (escape_at false w) refl)))

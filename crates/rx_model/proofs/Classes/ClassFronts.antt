@@ -606,7 +606,7 @@ module _ (e : Environment) where
       atom_of (property negative strings name value) (k + 1) (u ∷ us) s.front s.back s.whole (sym (length-map s.front (λ u. u.value)) ∙ ap length s.front_is ∙ t.count)
       (t.spells s.front s.back s.front_is s.back_is) q
 
-  any_there : (a : Atom) (n : ℕ) (u : CodePoint) (us : List CodePoint) (k : CharacterKind) (v m : ℕ) → u.value ≡ 92 → AnyFront true e k v m (values us) → atom_read (character k v) (m + 1) ≡ atom_read a n → AtomFront a n (u ∷ us)
+  pub any_there : (a : Atom) (n : ℕ) (u : CodePoint) (us : List CodePoint) (k : CharacterKind) (v m : ℕ) → u.value ≡ 92 → AnyFront true e k v m (values us) → atom_read (character k v) (m + 1) ≡ atom_read a n → AtomFront a n (u ∷ us)
   any_there a n u us k v m h (inl r) q =
       let s = split_values us r.spelled r.rest r.whole in
       atom_of (character k v) (m + 1) (u ∷ us) (u ∷ s.front) s.back (ap (λ w. u ∷ w) s.whole) (omega (arith, r.count, ap length s.front_is, length-map s.front (λ (u : CodePoint). u.value)))

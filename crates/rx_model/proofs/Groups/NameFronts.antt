@@ -1,15 +1,28 @@
 -- A name that is read behind `(?<` and `\k<` stands there, and where none is read this is for the reason that is said.
-use Rattle.std.proofs.Common.{◌≡◌, refl, sym, ap, ◌∙◌, subst, ℕ, ◌+◌, ◌<◌, Bool, true, false, ◌==◌, ◌&&◌, nat_lt, cond, Some, List, [], ◌∷◌, drop, arith}
-use Rattle.std.proofs.lemmas.Bool.{and_parts, cond-true, cond_both, eqb-true, ltb-true, true≢false}
-use Rattle.rx_model.specs.Characters.Decoding.{Decoded, value, invalid, overflow, decoded}
+use Rattle.std.proofs.Common.{◌≡◌, refl, sym, ap, ◌∙◌, subst, ℕ, ◌+◌, ◌<◌, Bool, true, false, not, ◌==◌, ◌&&◌, nat_lt, cond, Some, List, [], ◌∷◌, drop, arith}
+use Rattle.std.proofs.lemmas.Bool.{and_parts, both_ways, cond-true, cond_both, eqb-true, false_from_ne_true, ltb-true, true≢false}
+use Rattle.rx_model.specs.Characters.Decoding.{Decoded, value, invalid, overflow, decoded, is_lead, is_trail}
 use Rattle.rx_model.specs.Characters.UnicodeEscapes.{Decodes, PassesHex}
 use Rattle.rx_model.specs.FirstPass.Marks.{starts}
 use Rattle.rx_model.specs.Groups.GroupFronts.{closed_name, name_front}
 use Rattle.rx_model.specs.Groups.GroupNameReading.{NameRow, row, name_at}
 use Rattle.rx_model.specs.Groups.GroupNames.{BeginsWithName, IsNameRow, no_name, some_name, SpellsName, whole_name}
-use Rattle.rx_model.specs.Groups.NameFronts.{NameHalt, unterminated, misplaced, no_escape, no_escape_of_u, many_digits, NameRead, name_read, no_name_read, escape_halt, read_behind_name, read_from_row, name_read_at}
-use Rattle.rx_model.proofs.Characters.Decodings.{value_law, overflow_law}
-use Rattle.rx_model.proofs.Groups.GroupNames.{name_read as name_row_read, name_row_law}
+use Rattle.rx_model.specs.Groups.NameFronts.{NameHalt, begins_pair, unterminated, misplaced_pair, misplaced, no_escape, no_escape_of_u, many_digits, NameRead, name_read, no_name_read, escape_halt, read_behind_name, read_from_row, name_read_at}
+use Rattle.rx_model.specs.Refusals.Causes.{BeginsWithPair}
+use Rattle.rx_model.proofs.Characters.Decodings.{both, value_law, overflow_law}
+use Rattle.rx_model.proofs.Groups.GroupNames.{lead_seen, name_read as name_row_read, name_row_law, seen_lead, seen_trail, trail_seen}
+
+-- a raw pair stands next, or none
+pub pair_begins : (w : List ℕ) → begins_pair w ≡ true → BeginsWithPair w
+pair_begins [] h = absurd (let no : ⊥ = cc h in no)
+pair_begins (c ∷ []) h = absurd (let no : ⊥ = cc h in no)
+pair_begins (c ∷ d ∷ w) h = let p = both (is_lead c) (is_trail d) h in record { lead = c; trail = d; rest = w; whole = refl; is_lead = seen_lead c p.0; is_trail = seen_trail d p.1 }
+
+pub no_pair_begins : (w : List ℕ) → (BeginsWithPair w → ⊥) → begins_pair w ≡ false
+no_pair_begins w h = false_from_ne_true (begins_pair w) (λ t. h (pair_begins w t))
+
+pub no_pair : (w : List ℕ) → begins_pair w ≡ false → BeginsWithPair w → ⊥
+no_pair w h b = both_ways (begins_pair w) h (ap begins_pair b.whole ∙ rw (lead_seen b.lead b.is_lead, trail_seen b.trail b.is_trail) refl)
 
 -- Behind so many units, which are the longest row of a name's characters, stands a backslash.
 pub record EscapeBehind (unicode_mode : Bool) (w : List ℕ) (count : ℕ) (behind : List ℕ) : Type 0 where
@@ -23,7 +36,8 @@ pub record NoEscape (w : List ℕ) : Type 0 where
 
 -- Where no name ends, this is so.
 abbrev pub SaysNameHalt : Bool → List ℕ → NameHalt → Type 0
-SaysNameHalt m w (unterminated n) = IsNameRow m w n × (starts 92 (drop n w) ≡ false) × (starts 62 (drop n w) ≡ true → n ≡ 0)
+SaysNameHalt m w (unterminated n) = IsNameRow m w n × (starts 92 (drop n w) ≡ false) × ((not m && begins_pair (drop n w)) ≡ false) × (starts 62 (drop n w) ≡ true → n ≡ 0)
+SaysNameHalt m w (misplaced_pair n) = IsNameRow m w n × (m ≡ false) × BeginsWithPair (drop n w)
 SaysNameHalt m w (misplaced count n) = (behind : List ℕ) × EscapeBehind m w count behind × (v : ℕ) × Decodes true behind v n
 SaysNameHalt m w (no_escape count) = (behind : List ℕ) × EscapeBehind m w count behind × NoEscape behind × ((m && starts 117 behind) ≡ false)
 SaysNameHalt m w (no_escape_of_u count) = (behind : List ℕ) × EscapeBehind m w count behind × NoEscape behind × ((m && starts 117 behind) ≡ true)
@@ -33,6 +47,10 @@ SaysNameHalt m w (many_digits count many) = (behind : List ℕ) × EscapeBehind 
 abbrev pub SaysName : Bool → List ℕ → NameRead → Type 0
 SaysName m w (name_read name n) = BeginsWithName m w name n × (starts 62 (drop n w) ≡ true)
 SaysName m w (no_name_read it) = SaysNameHalt m w it
+
+no_right : (b : Bool) → (b && false) ≡ false
+no_right true = refl
+no_right false = refl
 
 module _ (m : Bool) (w : List ℕ) where
   escape_said : (count : ℕ) (behind : List ℕ) → EscapeBehind m w count behind → (d : Decoded) → decoded true behind ≡ d → SaysNameHalt m w (escape_halt m count behind d)
@@ -52,16 +70,22 @@ module _ (m : Bool) (w : List ℕ) where
       (subst (λ name. BeginsWithName m w name n) (sym same) b, closed)
 
   behind_said : (name : List ℕ) (n : ℕ) → name_at m w ≡ row name n → (rest : List ℕ) → drop n w ≡ rest → SaysName m w (read_behind_name m name n rest)
-  behind_said name n e [] f = (name_row_law m w name n e, ap (starts 92) f, λ closed. absurd (true≢false (sym closed ∙ ap (starts 62) f)))
+  behind_said name n e [] f = (name_row_law m w name n e, ap (starts 92) f, ap (λ v. not m && begins_pair v) f ∙ no_right (not m), λ closed. absurd (true≢false (sym closed ∙ ap (starts 62) f)))
   behind_said name n e (c ∷ v) f =
       let row = name_row_law m w name n e in
-      let other : NameRead = cond (c == 92) (no_name_read (escape_halt m n v (decoded true v))) (no_name_read (unterminated n)) in
+      let raw : NameRead = cond (not m && begins_pair (c ∷ v)) (no_name_read (misplaced_pair n)) (no_name_read (unterminated n)) in
+      let other : NameRead = cond (c == 92) (no_name_read (escape_halt m n v (decoded true v))) raw in
       cond_both (nat_lt 0 n && (c == 62)) (name_read name n) other (SaysName m w)
       (λ t. let p = and_parts (nat_lt 0 n) (c == 62) t in name_said name n e (ltb-true 0 n p.0) row (ap (starts 62) f ∙ p.1))
-      (λ t. cond_both (c == 92) (no_name_read (escape_halt m n v (decoded true v))) (no_name_read (unterminated n)) (SaysName m w)
+      (λ t. cond_both (c == 92) (no_name_read (escape_halt m n v (decoded true v))) raw (SaysName m w)
       (λ s. escape_said n v (record { row = row; there = f ∙ ap (λ c. c ∷ v) (eqb-true c 92 s) }) (decoded true v) refl)
-      (λ s. (row, ap (starts 92) f ∙ s, λ closed. none n t (sym (ap (starts 62) f) ∙ closed))))
+      (λ s. cond_both (not m && begins_pair (c ∷ v)) (no_name_read (misplaced_pair n)) (no_name_read (unterminated n)) (SaysName m w)
+      (λ p. let q = and_parts (not m) (begins_pair (c ∷ v)) p in (row, not_true_false m q.0, subst BeginsWithPair (sym f) (pair_begins (c ∷ v) q.1)))
+      (λ p. (row, ap (starts 92) f ∙ s, ap (λ v. not m && begins_pair v) f ∙ p, λ closed. none n t (sym (ap (starts 62) f) ∙ closed)))))
     where
+      not_true_false : (m : Bool) → not m ≡ true → m ≡ false
+      not_true_false m h = grind arith
+
       none : (n : ℕ) → (nat_lt 0 n && (c == 62)) ≡ false → (c == 62) ≡ true → n ≡ 0
       none n t closed = grind (arith, closed, t)
 

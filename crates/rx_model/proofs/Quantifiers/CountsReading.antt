@@ -1,13 +1,14 @@
 -- The counts that are read where numbers have 64 bits: those that stand, or where the limit is passed.
 use Rattle.std.proofs.Common.{◌≡◌, refl, sym, ap, ◌∙◌, subst, ℕ, zero, suc, ◌+◌, ◌-◌, ◌*◌, ◌^◌, ◌<◌, ◌≤◌, ◌==◌, ◌⊎◌, inl, inr, Bool, true, false, List, [], ◌∷◌, ◌++◌, length, Option, Some, None, option_and_then, cond, nat_lt, length-append, arith}
-use Rattle.std.proofs.lemmas.Bool.{cond-true, cond-false, eqb-true, lt-ltb, le-ltb, ltb-true, ltb-false}
+use Rattle.std.proofs.lemmas.Bool.{cond-true, cond-false, eqb-true, lt-ltb, le-ltb, ltb-true, ltb-false, true≢false}
 use Rattle.std.proofs.lemmas.Option.{option_and_then_some}
 use Rattle.rx_tables.specs.Characters.{is_decimal_digit}
 use Rattle.rx_units.specs.declared.code_point.CodePoint.{CodePoint}
 use Rattle.rx_units.specs.Units.{values}
+use Rattle.rx_model.specs.FirstPass.Marks.{starts}
 use Rattle.rx_model.specs.Reading.Fronts.{digits, digits_behind, Counts, counts, no_counts, counts_at, counts_in_braces, counts_behind_comma}
 use Rattle.rx_model.specs.Quantifiers.CountsReading.{DigitsRead, fitting, passing, digits_read_at, CountsRead, counts_read, no_counts_read, many_digits, read_behind_comma, read_behind_least, read_in_braces, counts_read_at}
-use Rattle.rx_model.specs.Quantifiers.Quantifiers.{decimal_digit_value, decimal_behind, AreDigits, SpellsBraces, SpellsCounts, star, plus, optional, braces, PassesDecimal, PassesLimit, first, second}
+use Rattle.rx_model.specs.Quantifiers.Quantifiers.{BeginsWithBraces, decimal_digit_value, decimal_behind, AreDigits, SpellsBraces, SpellsCounts, star, plus, optional, braces, PassesDecimal, PassesLimit, first, second}
 use Rattle.rx_model.specs.Refusals.Causes.{HasBraces, IsOutOfOrder, IsTooLarge}
 use Rattle.rx_model.proofs.Characters.Decodings.{chosen}
 use Rattle.rx_model.proofs.Quantifiers.DecimalDigits.{digit_there}
@@ -236,6 +237,23 @@ limit_within _ _ _ (second ds es next rest a small p) = omega (arith, length-app
 -- where nothing is read no limit is passed
 pub none_in_limit : (w : List ℕ) → counts_read_at w ≡ no_counts_read → (start many : ℕ) → PassesLimit w start many → ⊥
 none_in_limit w h start many p = let e : no_counts_read ≡ many_digits start many = sym h ∙ limit_read w start many p in cc e
+
+-- counts whose first unit is `{` stand in braces
+braces_first : (min : ℕ) (max : Option ℕ) (prefix rest : List ℕ) → SpellsCounts min max prefix → starts 123 (prefix ++ rest) ≡ true → SpellsBraces min max prefix
+braces_first _ _ _ rest star h = absurd (true≢false (sym h))
+braces_first _ _ _ rest plus h = absurd (true≢false (sym h))
+braces_first _ _ _ rest optional h = absurd (true≢false (sym h))
+braces_first min max prefix rest (braces s) h = s
+
+limit_first : (w : List ℕ) (start many : ℕ) → PassesLimit w start many → starts 123 w ≡ true
+limit_first _ _ _ (first ds next rest p) = refl
+limit_first _ _ _ (second ds es next rest a small p) = refl
+
+-- Counts that stand where digits pass the limit stand in braces.
+pub limit_braces : (w : List ℕ) (min : ℕ) (max : Option ℕ) (n start many : ℕ) → counts_at w ≡ counts min max n → PassesLimit w start many → BeginsWithBraces w
+limit_braces w min max n start many h p =
+    let f = counts_spelled min max n w h in
+    record { min = min; max = max; prefix = f.prefix; rest = f.rest; spelled = braces_first min max f.prefix f.rest f.spelled (ap (starts 123) (sym f.whole) ∙ limit_first w start many p); whole = f.whole }
 
 -- counts that are out of order or too large stand in braces
 pub in_braces : (min : ℕ) (max : Option ℕ) (prefix : List ℕ) → SpellsCounts min max prefix → IsOutOfOrder min max ⊎ IsTooLarge min max → SpellsBraces min max prefix

@@ -1,6 +1,6 @@
 -- What is read at the front stands there, and where no token is read this is for the reason that is said.
-use Rattle.std.proofs.Common.{All, ◌≡◌, refl, sym, ap, ◌∙◌, subst, ℕ, ◌+◌, ◌-◌, ◌*◌, ◌<◌, ◌≤◌, Bool, true, false, not, ◌==◌, ◌&&◌, ◌||◌, ◌⊎◌, cond, nat_lt, Option, Some, None, List, [], ◌∷◌, drop, codes, arith, inl, inr}
-use Rattle.std.proofs.lemmas.Bool.{cases_Bool, cond-true, cond-false, cond_both, and_parts, eq-eqb, eqb-true, lt-ltb, ltb-true, ltb-false, or_cases, or_from, or_left, or_parts, true≢false}
+use Rattle.std.proofs.Common.{All, ◌≡◌, refl, sym, ap, ◌∙◌, subst, ℕ, ◌+◌, ◌-◌, ◌*◌, ◌<◌, ◌≤◌, Bool, true, false, not, ◌==◌, ◌&&◌, ◌||◌, ◌⊎◌, cond, nat_le, nat_lt, Option, Some, None, List, [], ◌∷◌, drop, codes, arith, inl, inr}
+use Rattle.std.proofs.lemmas.Bool.{cases_Bool, cond-true, cond-false, cond_both, and_from, and_parts, both_ways, eq-eqb, eqb-true, le-leb, lt-ltb, ltb-true, ltb-false, or_cases, or_from, or_left, or_right, or_parts, true≢false}
 use Rattle.std.proofs.lemmas.Bool.Decides.{nat_tests}
 use Rattle.rx_tables.specs.Characters.{is_decimal_digit, is_syntax_character, is_within}
 use Rattle.rx_ast.specs.declared.leaf.BoundaryAssertionKind.{BoundaryAssertionKind}
@@ -19,26 +19,26 @@ use Rattle.rx_model.specs.declared.mode.Mode.TheVariants.{Legacy, Unicode, Sets}
 use Rattle.rx_model.specs.Inputs.Environment.{Environment, is_unicode}
 use Rattle.rx_model.specs.Properties.PropertyForms.{begins_property}
 use Rattle.rx_model.specs.Quantifiers.CountsReading.{CountsRead, counts_read, no_counts_read, many_digits, counts_read_at}
-use Rattle.rx_model.specs.Quantifiers.Quantifiers.{PassesLimit, is_question}
-use Rattle.rx_model.specs.Reading.FrontReading.{FrontHalt, ends_here, out_of_order, too_large, many_decimal_digits, many_hex_digits, no_unicode_escape, in_name, no_angle, no_such_group, in_modifiers, FrontRead, token_read, property_begins, class_begins, halted, with_name, modified_read, angle_read, question_read, group_read, indexed_read, reference_read, one_of_escapes, backslash_read, are_out_of_order, are_too_large, quantifier_read, front_read}
-use Rattle.rx_model.specs.Reading.Fronts.{EscapeRead, escaped, nothing, too_many, no_unicode, escape_at, any_escape_at, boundary_at, class_escape_at, backslash_front, backslash_token, Digits, digits, digits_behind, indexed_token, named_token, opener_token, counts_at, quantifier_token, is_raw_at, is_reference, front}
-use Rattle.rx_model.specs.Reading.Rows.{stands_raw}
+use Rattle.rx_model.specs.Quantifiers.Quantifiers.{BeginsWithBraces, PassesLimit, is_question}
+use Rattle.rx_model.specs.Reading.FrontReading.{FrontHalt, ends_here, last_backslash, out_of_order, too_large, many_decimal_digits, many_hex_digits, no_unicode_escape, in_name, no_angle, no_such_group, in_modifiers, FrontRead, token_read, property_begins, class_begins, halted, with_name, modified_read, angle_read, question_read, group_read, indexed_read, reference_read, one_of_escapes, backslash_read, are_out_of_order, are_too_large, quantifier_read, front_read}
+use Rattle.rx_model.specs.Reading.Fronts.{EscapeRead, escaped, nothing, too_many, no_unicode, escape_at, any_escape_at, boundary_at, class_escape_at, backslash_front, backslash_token, Digits, digits, digits_behind, indexed_token, named_token, opener_token, Counts, counts, no_counts, are_counts, counts_at, quantifier_token, is_raw_at, is_reference, front}
+use Rattle.rx_model.specs.Reading.Rows.{is_legacy_syntax, stands_raw}
 use Rattle.rx_model.specs.Refusals.Causes.{HasBraces, IsOutOfOrder, IsTooLarge}
 use Rattle.rx_model.specs.Refusals.Stops.{IsStop, begins_escape, at_end, at_bracket, at_brace, behind_backslash, is_one_of}
 use Rattle.rx_model.specs.Trees.Early.{Obeys, greatest_count}
 use Rattle.rx_model.specs.Trees.Token.{Token, Opener, property, class, indexed, named, opener, quantifier, capturing}
-use Rattle.rx_model.proofs.Characters.Backslashes.{unreferred}
 use Rattle.rx_model.proofs.Characters.Choices.{choose_both}
 use Rattle.rx_model.proofs.Characters.Decodings.{chosen}
-use Rattle.rx_model.proofs.Characters.Escapes.{NoUnicode, escape_no_unicode, escape_nothing, escape_small, escape_too_many}
-use Rattle.rx_model.proofs.Characters.LegacyEscapes.{any_in_unicode}
+use Rattle.rx_model.proofs.Characters.Escapes.{NoUnicode, escape_no_unicode, escape_nothing, escape_too_many}
+use Rattle.rx_model.proofs.Characters.LegacyEscapes.{any_in_unicode, any_small}
 use Rattle.rx_model.proofs.Groups.GroupNames.{differs}
 use Rattle.rx_model.proofs.Groups.ModifierFronts.{AreWrong, SaysModifiers, modifiers_said}
 use Rattle.rx_model.proofs.Groups.NameFronts.{SaysNameHalt, name_there, names_said, SaysName}
-use Rattle.rx_model.proofs.Quantifiers.CountsReading.{counts_there, none_in_limit, none_there, passes_there, refused_braces}
+use Rattle.rx_model.proofs.Quantifiers.CountsReading.{counts_there, limit_braces, none_in_limit, none_there, passes_there, refused_braces}
 use Rattle.rx_model.proofs.Quantifiers.DecimalDigits.{digits_le}
 use Rattle.rx_model.proofs.Quantifiers.Quantifiers.{no_braces}
 use Rattle.rx_model.proofs.Reading.Fronts.{raw_in_unicode}
+use Rattle.rx_model.proofs.Refusals.LegacyStops.{backslash_read as token_there}
 use Rattle.rx_model.proofs.Refusals.Stops.{stop_backslash}
 
 -- Braces of so many units with such counts stand next.
@@ -48,11 +48,12 @@ StandBraces P n us = (min : ℕ) × (max : Option ℕ) × HasBraces min max n us
 -- Why no token that obeys stands at the front, where this is what `front` says.
 abbrev pub SaysHalt : Environment → List CodePoint → Option (Token × ℕ) → FrontHalt → Type 0
 SaysHalt e us o (ends_here n) = IsStop e us n × (starts 41 (values us) ≡ false)
+SaysHalt e us o last_backslash = (is_unicode e.mode ≡ false) × (backslash : CodePoint) × (us ≡ backslash ∷ []) × (backslash.value ≡ 92)
 SaysHalt e us o (out_of_order n) = StandBraces IsOutOfOrder n us
 SaysHalt e us o (too_large n) = StandBraces (λ min max. (IsOutOfOrder min max → ⊥) × IsTooLarge min max) n us
-SaysHalt e us o (many_decimal_digits start many) = PassesLimit (values us) start many
-SaysHalt e us o (many_hex_digits many) = (behind : List ℕ) × (values us ≡ 92 ∷ behind) × PassesHex behind many
-SaysHalt e us o no_unicode_escape = (behind : List ℕ) × (values us ≡ 92 ∷ behind) × NoUnicode behind
+SaysHalt e us o (many_decimal_digits start many) = PassesLimit (values us) start many × (is_unicode e.mode ≡ false → BeginsWithBraces (values us))
+SaysHalt e us o (many_hex_digits many) = (is_unicode e.mode ≡ true) × (behind : List ℕ) × (values us ≡ 92 ∷ behind) × PassesHex behind many
+SaysHalt e us o no_unicode_escape = (is_unicode e.mode ≡ true) × (behind : List ℕ) × (values us ≡ 92 ∷ behind) × NoUnicode behind
 SaysHalt e us o (in_name it) = (behind : List ℕ) × BeginsName e (values us) behind × SaysNameHalt (is_unicode e.mode) behind it
 SaysHalt e us o no_angle = (behind : List ℕ) × (values us ≡ 92 ∷ 107 ∷ behind) × (starts 60 behind ≡ false) × (e.named ≡ true)
 SaysHalt e us o (no_such_group n) = (k : ℕ) × (o ≡ Some (indexed k, n)) × (e.groups < k)
@@ -68,7 +69,7 @@ ObeysAlone e t = (names : List (List ℕ)) → Obeys e.groups names t
 -- A reading, by what `front` says, of code points.
 abbrev pub Says : Environment → List CodePoint → Option (Token × ℕ) → FrontRead → Type 0
 Says e us o (token_read t n) = (o ≡ Some (t, n)) × (All (λ (u : CodePoint). u.value ≤ 0x10FFFF) us → ObeysAlone e t)
-Says e us o property_begins = (letter : ℕ) × (behind : List ℕ) × (values us ≡ 92 ∷ letter ∷ behind) × (begins_property letter ≡ true)
+Says e us o property_begins = (letter : ℕ) × (behind : List ℕ) × (values us ≡ 92 ∷ letter ∷ behind) × ((begins_property letter && is_unicode e.mode) ≡ true)
 Says e us o class_begins = starts 91 (values us) ≡ true
 Says e us o (halted it) = SaysHalt e us o it
 
@@ -124,12 +125,59 @@ ender c w s other k = elim (chosen (c == 42) k) [
         → (c == 123) ≡ false → (c == 93 || c == 125) ≡ true
     rest c s other no_star no_plus no_question no_brace = grind (arith, nat_tests)
 
-module _ (e : Environment) (unicode : is_unicode e.mode ≡ true) (allowed : e.named ≡ true) where
+no_units : (us : List CodePoint) → values us ≡ [] → us ≡ []
+no_units [] h = refl
+no_units (u ∷ us) h = absurd (let no : ⊥ = cc h in no)
+
+-- the second unit of code points is one
+second_small : (u : CodePoint) (us : List CodePoint) (c : ℕ) (w : List ℕ) → values us ≡ c ∷ w → All (λ (u : CodePoint). u.value ≤ 0x10FFFF) (u ∷ us) → nat_le c 0x10FFFF ≡ true
+second_small u [] c w v small = absurd (let no : ⊥ = cc v in no)
+second_small u (d ∷ us) c w v small = let same : d.value ≡ c = cc v in let l = small 1 u (omega arith) in le-leb c 0x10FFFF (omega (arith, l, same))
+
+-- With neither `u` nor `v` a unit that is no `(`, `)`, `.`, `|`, `^`, `$`, `\` and `[`, and does not stand for itself, begins a quantifier.
+legacy_raw : (e : Environment) (c : ℕ) (w : List ℕ) → is_unicode e.mode ≡ false → is_raw_at e c w ≡ false → counts_at (c ∷ w) ≡ no_counts → is_legacy_syntax c ≡ true
+legacy_raw e c w m raw none = elim (cases_Bool (is_legacy_syntax c)) [
+  | inl h ↦ h
+  | inr h ↦ absurd (true≢false (sym (and_from (stands_raw e.mode c) _ (stands e.mode m h) (or_right (is_unicode e.mode) _ (ap (λ r. not (are_counts r)) none))) ∙ raw))
+]
+  where
+    stands : (mode : Mode) → is_unicode mode ≡ false → is_legacy_syntax c ≡ false → stands_raw mode c ≡ true
+    stands Legacy m h = ap not h
+    stands Unicode m h = absurd (true≢false m)
+    stands Sets m h = absurd (true≢false m)
+
+legacy_quantifier : (c : ℕ) (w : List ℕ) → is_legacy_syntax c ≡ true → (c == 46 || c == 40 || c == 41 || c == 124 || c == 94 || c == 36 || c == 92 || c == 91) ≡ false → (c == 42 || c == 43 || c == 63) ≡ true
+legacy_quantifier c w s other = grind (arith, nat_tests)
+
+-- With `u` or `v` what does not stand for itself is a SyntaxCharacter.
+unicode_syntax : (e : Environment) (c : ℕ) (w : List ℕ) → is_unicode e.mode ≡ true → is_raw_at e c w ≡ false → is_syntax_character c ≡ true
+unicode_syntax e c w m raw = elim (cases_Bool (is_syntax_character c)) [
+  | inl s ↦ s
+  | inr none ↦ absurd (true≢false (sym (raw_in_unicode e c w m (stands e.mode m none)) ∙ raw))
+]
+  where
+    stands : (mode : Mode) → is_unicode mode ≡ true → is_syntax_character c ≡ false → stands_raw mode c ≡ true
+    stands Legacy m h = absurd (true≢false (sym m))
+    stands Unicode m h = ap not h
+    stands Sets m h = ap not h
+
+-- Where no counts stand, no `*`, `+` and `?` does.
+no_unit_counts : (c : ℕ) (w : List ℕ) → counts_at (c ∷ w) ≡ no_counts → (c == 42 || c == 43 || c == 63) ≡ false
+unfolding counts_at
+no_unit_counts c w k = elim (chosen (c == 42) k) [
+  | inl p ↦ absurd (let no : ⊥ = cc p.1 in no)
+  | inr p ↦ elim (chosen (c == 43) p.1) [
+    | inl q ↦ absurd (let no : ⊥ = cc q.1 in no)
+    | inr q ↦ elim (chosen (c == 63) q.1) [ inl r ↦ absurd (let no : ⊥ = cc r.1 in no) | inr r ↦ or_from (c == 42 || c == 43) (c == 63) (or_from (c == 42) (c == 43) p.0 q.0) r.0 ]
+  ]
+]
+
+module _ (e : Environment) (allowed : is_unicode e.mode ≡ true → e.named ≡ true) where
   -- a quantifier, from its first unit on
-  quantifier_said : (u : CodePoint) (us : List CodePoint) → is_syntax_character u.value ≡ true
+  quantifier_said : (u : CodePoint) (us : List CodePoint) → is_raw_at e u.value (values us) ≡ false
       → (u.value == 46 || u.value == 40 || u.value == 41 || u.value == 124 || u.value == 94 || u.value == 36 || u.value == 92 || u.value == 91) ≡ false
       → Says e (u ∷ us) (quantifier_token (counts_at (values (u ∷ us))) (values (u ∷ us))) (quantifier_read (counts_read_at (values (u ∷ us))) (values (u ∷ us)))
-  quantifier_said u us syntax other = go (counts_read_at w) refl
+  quantifier_said u us raw other = go (counts_read_at w) refl
     where
       w : List ℕ
       w = values (u ∷ us)
@@ -137,18 +185,31 @@ module _ (e : Environment) (unicode : is_unicode e.mode ≡ true) (allowed : e.n
       o : Option (Token × ℕ)
       o = quantifier_token (counts_at w) w
 
-      stops : counts_read_at w ≡ no_counts_read → IsStop e (u ∷ us) 0
-      stops h = elim (ender u.value (values us) syntax other h) [
-        | inl bracket ↦ at_bracket unicode bracket
-        | inr brace ↦ at_brace unicode (eqb-true u.value 123 brace) (no_braces w (none_there w h)) (none_in_limit w h)
+      -- where no counts stand
+      unicode_alone : counts_at w ≡ no_counts → is_unicode e.mode ≡ true
+      unicode_alone none = elim (cases_Bool (is_unicode e.mode)) [
+        | inl unicode ↦ unicode
+        | inr legacy ↦ absurd (both_ways _ (no_unit_counts u.value (values us) none) (legacy_quantifier u.value (values us) (legacy_raw e u.value (values us) legacy raw none) other))
       ]
+
+      stops : counts_read_at w ≡ no_counts_read → IsStop e (u ∷ us) 0
+      stops h =
+          let unicode = unicode_alone (none_there w h) in
+          elim (ender u.value (values us) (unicode_syntax e u.value (values us) unicode raw) other h) [
+            | inl bracket ↦ at_bracket unicode bracket
+            | inr brace ↦ at_brace unicode (eqb-true u.value 123 brace) (no_braces w (none_there w h)) (none_in_limit w h)
+          ]
+
+      in_braces : (start many : ℕ) → PassesLimit w start many → is_unicode e.mode ≡ false → (c : Counts) → counts_at w ≡ c → BeginsWithBraces w
+      in_braces start many p legacy (counts min max n) h = limit_braces w min max n start many h p
+      in_braces start many p legacy no_counts h = absurd (both_ways (is_unicode e.mode) legacy (unicode_alone h))
 
       no_closer : (c : ℕ) → (c == 46 || c == 40 || c == 41 || c == 124 || c == 94 || c == 36 || c == 92 || c == 91) ≡ false → (c == 41) ≡ false
       no_closer c h = grind (arith, nat_tests)
 
       go : (r : CountsRead) → counts_read_at w ≡ r → Says e (u ∷ us) o (quantifier_read r w)
       go no_counts_read h = (stops h, no_closer u.value other)
-      go (many_digits start many) h = passes_there w start many h
+      go (many_digits start many) h = let p = passes_there w start many h in (p, λ legacy. in_braces start many p legacy (counts_at w) refl)
       go (counts_read min max n) h =
           let lazy : FrontRead = cond (starts 63 (drop n w)) (token_read (quantifier min max false) (n + 1)) (token_read (quantifier min max true) n) in
           let large : FrontRead = cond (are_too_large min max) (halted (too_large n)) lazy in
@@ -216,14 +277,14 @@ module _ (e : Environment) (unicode : is_unicode e.mode ≡ true) (allowed : e.n
             (λ angle. modified_said (c ∷ w) whole (or_from (c == 58 || c == 61 || c == 33) (c == 60) (or_from (c == 58 || c == 61) (c == 33) (or_from (c == 58) (c == 61) colon equal) mark) angle)))))
 
     -- behind `\k`
-    reference_said : (w : List ℕ) → values all ≡ 92 ∷ 107 ∷ w → Says e all (named_token (reference_front (is_unicode e.mode) w)) (reference_read (is_unicode e.mode) w)
+    reference_said : e.named ≡ true → (w : List ℕ) → values all ≡ 92 ∷ 107 ∷ w → Says e all (named_token (reference_front (is_unicode e.mode) w)) (reference_read (is_unicode e.mode) w)
     unfolding reference_front
-    reference_said [] whole = ([], whole, refl, allowed)
-    reference_said (c ∷ w) whole =
+    reference_said there [] whole = ([], whole, refl, there)
+    reference_said there (c ∷ w) whole =
         choose_both (λ o r. Says e all (named_token o) r) (c == 60) _ _ _ _
         (λ t. name_said named named_token (λ name n. ap (λ n. Some (named name, n)) (omega arith)) (λ name. tt) w
-        (subst (λ v. BeginsName e v w) (sym (whole ∙ ap (λ c. 92 ∷ 107 ∷ c ∷ w) (eqb-true c 60 t))) (of_reference allowed)))
-        (λ t. (c ∷ w, whole, t, allowed))
+        (subst (λ v. BeginsName e v w) (sym (whole ∙ ap (λ c. 92 ∷ 107 ∷ c ∷ w) (eqb-true c 60 t))) (of_reference there)))
+        (λ t. (c ∷ w, whole, t, there))
 
     -- a reference by number
     indexed_said : (c : ℕ) (w : List ℕ) → is_within 49 57 c ≡ true → (d : Digits) → digits_behind 0 0 (c ∷ w) ≡ d → Says e all (indexed_token d) (indexed_read e.groups d)
@@ -232,18 +293,22 @@ module _ (e : Environment) (unicode : is_unicode e.mode ≡ true) (allowed : e.n
         (λ t. (n, refl, ltb-true e.groups n t)) (λ t. (refl, λ _ names. (index_some c w n count rest first h, ltb-false e.groups n t)))
 
   -- a character escape behind a backslash, or none
-  escape_said : (u : CodePoint) (us : List CodePoint) → u.value ≡ 92 → (c : ℕ) (w : List ℕ) → values us ≡ c ∷ w → (is_within 49 57 c || c == 107 || begins_property c) ≡ false
-      → (b : Option BoundaryAssertionKind) → boundary_at e c ≡ b → (k : Option CharacterClassEscapeKind) → class_escape_at c ≡ k → (r : EscapeRead) → any_escape_at false e (c ∷ w) ≡ r
-      → Says e (u ∷ us) (backslash_token b k r) (one_of_escapes b k r)
-  escape_said u us h c w v free (Some kind) b k kl r read = (refl, λ _ names. tt)
-  escape_said u us h c w v free None b (Some kind) kl r read = (refl, λ _ names. tt)
-  escape_said u us h c w v free None b None kl r read = go r read
+  escape_said : (u : CodePoint) (us : List CodePoint) → u.value ≡ 92 → (c : ℕ) (w : List ℕ) → values us ≡ c ∷ w → (is_unicode e.mode ≡ true → (is_within 49 57 c || c == 107 || begins_property c) ≡ false)
+      → (c == 107 && e.named) ≡ false → (b : Option BoundaryAssertionKind) → boundary_at e c ≡ b → (k : Option CharacterClassEscapeKind) → class_escape_at c ≡ k → (r : EscapeRead) → any_escape_at false e (c ∷ w) ≡ r
+      → backslash_front e (c ∷ w) ≡ backslash_token b k r → Says e (u ∷ us) (backslash_token b k r) (one_of_escapes b k r)
+  escape_said u us h c w v free no_k (Some kind) b k kl r read front = (refl, λ _ names. tt)
+  escape_said u us h c w v free no_k None b (Some kind) kl r read front = (refl, λ _ names. tt)
+  escape_said u us h c w v free no_k None b None kl r read front = go r read front
     where
-      read_as : (r : EscapeRead) → any_escape_at false e (c ∷ w) ≡ r → escape_at (is_unicode e.mode) (c ∷ w) ≡ r
-      read_as r h = sym (any_in_unicode false e (c ∷ w) unicode) ∙ h
+      -- with neither `u` nor `v` some escape stands
+      unicode_alone : backslash_front e (c ∷ w) ≡ None → is_unicode e.mode ≡ true
+      unicode_alone none = elim (cases_Bool (is_unicode e.mode)) [
+        | inl unicode ↦ unicode
+        | inr legacy ↦ absurd (let some = token_there e legacy c w no_k in let some_is = some.1 in let no : ⊥ = cc (some_is, none) in no)
+      ]
 
-      read_true : (r : EscapeRead) → any_escape_at false e (c ∷ w) ≡ r → escape_at true (c ∷ w) ≡ r
-      read_true r h = ap (λ m. escape_at m (c ∷ w)) (sym unicode) ∙ read_as r h
+      read_true : is_unicode e.mode ≡ true → (r : EscapeRead) → any_escape_at false e (c ∷ w) ≡ r → escape_at true (c ∷ w) ≡ r
+      read_true unicode r h = ap (λ m. escape_at m (c ∷ w)) (sym unicode) ∙ sym (any_in_unicode false e (c ∷ w) unicode) ∙ h
 
       whole : values (u ∷ us) ≡ 92 ∷ c ∷ w
       whole = ap (λ x. x ∷ values us) h ∙ ap (λ v. 92 ∷ v) v
@@ -251,40 +316,42 @@ module _ (e : Environment) (unicode : is_unicode e.mode ≡ true) (allowed : e.n
       none_first : (c : ℕ) → (is_within 49 57 c || c == 107 || begins_property c) ≡ false → (c == 117) ≡ false → (is_one_of (codes "upPk") c || is_within 49 57 c) ≡ false
       none_first c free k = grind (arith, nat_tests)
 
-      go : (r : EscapeRead) → any_escape_at false e (c ∷ w) ≡ r → Says e (u ∷ us) (backslash_token None None r) (one_of_escapes None None r)
-      go (escaped kind x n) read = (refl, λ _ names. escape_small e kind x n (c ∷ w) (read_as (escaped kind x n) read))
-      go nothing read =
-          let p = or_parts (is_within 49 57 c || c == 107) (begins_property c) free in
-          let q = or_parts (is_within 49 57 c) (c == 107) p.0 in
-          let none : backslash_front e (c ∷ w) ≡ None =
-          unreferred e c w q.0 q.1 p.1 ∙ ap (λ b. backslash_token b (class_escape_at c) (any_escape_at false e (c ∷ w))) b ∙ ap (λ k. backslash_token None k (any_escape_at false e (c ∷ w))) kl
-          ∙ ap (backslash_token None None) read in
-          let stops = stop_backslash e (c ∷ w) unicode none (none_first c free (escape_nothing (c ∷ w) (read_true nothing read))) in
+      go : (r : EscapeRead) → any_escape_at false e (c ∷ w) ≡ r → backslash_front e (c ∷ w) ≡ backslash_token None None r → Says e (u ∷ us) (backslash_token None None r) (one_of_escapes None None r)
+      go (escaped kind x n) read front = (refl, λ small names. any_small false e kind x n (c ∷ w) (second_small u us c w v small) read)
+      go nothing read front =
+          let unicode = unicode_alone front in
+          let stops = stop_backslash e (c ∷ w) unicode front (none_first c (free unicode) (escape_nothing (c ∷ w) (read_true unicode nothing read))) in
           (subst (λ v. IsStop e (u ∷ us) 1) v (behind_backslash unicode h (ap (begins_escape e) v ∙ stops)), differs (λ c. c == 92) u.value 41 refl (eq-eqb u.value 92 h))
-      go (too_many n) read = (c ∷ w, whole, escape_too_many (c ∷ w) n (read_true (too_many n) read))
-      go no_unicode read = (c ∷ w, whole, escape_no_unicode (c ∷ w) (read_true no_unicode read))
+      go (too_many n) read front = let unicode = unicode_alone front in (unicode, c ∷ w, whole, escape_too_many (c ∷ w) n (read_true unicode (too_many n) read))
+      go no_unicode read front = let unicode = unicode_alone front in (unicode, c ∷ w, whole, escape_no_unicode (c ∷ w) (read_true unicode no_unicode read))
 
   -- behind a backslash
   backslash_said : (u : CodePoint) (us : List CodePoint) → u.value ≡ 92 → (w : List ℕ) → values us ≡ w → Says e (u ∷ us) (backslash_front e w) (backslash_read e w)
   unfolding backslash_front
-  backslash_said u us h [] v = (behind_backslash unicode h (ap (begins_escape e) v), differs (λ c. c == 92) u.value 41 refl (eq-eqb u.value 92 h))
+  backslash_said u us h [] v =
+      cond_both (is_unicode e.mode) (ends_here 1) last_backslash (λ it. Says e (u ∷ us) None (halted it))
+      (λ unicode. (behind_backslash unicode h (ap (begins_escape e) v), differs (λ c. c == 92) u.value 41 refl (eq-eqb u.value 92 h)))
+      (λ legacy. (legacy, u, ap (λ us. u ∷ us) (no_units us v), h))
   backslash_said u us h (c ∷ w) v =
       let whole : values (u ∷ us) ≡ 92 ∷ c ∷ w = ap (λ x. x ∷ values us) h ∙ ap (λ v. 92 ∷ v) v in
       choose_both (Says e (u ∷ us)) (is_reference e (c ∷ w)) _ _ _ _
       (λ t. indexed_said (u ∷ us) c w (and_parts (is_within 49 57 c) _ t).0 (digits_behind 0 0 (c ∷ w)) refl)
       (λ index. choose_both (Says e (u ∷ us)) (c == 107 && e.named) _ _ _ _
-      (λ t. reference_said (u ∷ us) w (whole ∙ ap (λ c. 92 ∷ c ∷ w) (eqb-true c 107 (and_parts (c == 107) e.named t).0)))
+      (λ t. let p = and_parts (c == 107) e.named t in reference_said (u ∷ us) p.1 w (whole ∙ ap (λ c. 92 ∷ c ∷ w) (eqb-true c 107 p.0)))
       (λ no_k. choose_both (Says e (u ∷ us)) (begins_property c && is_unicode e.mode) _ _ _ _
-      (λ t. (c, w, whole, (and_parts (begins_property c) (is_unicode e.mode) t).0))
-      (λ no_property. escape_said u us h c w v (or_from (is_within 49 57 c || c == 107) (begins_property c) (or_from (is_within 49 57 c) (c == 107) (sym (by_unicode (is_within 49 57 c) _) ∙ index) (sym (by_true (c == 107) e.named allowed) ∙ no_k)) (sym (by_true (begins_property c) (is_unicode e.mode) unicode) ∙ no_property))
-      (boundary_at e c) refl (class_escape_at c) refl (any_escape_at false e (c ∷ w)) refl)))
+      (λ t. (c, w, whole, t))
+      (λ no_property. escape_said u us h c w v (λ unicode. no_beginning unicode index no_k no_property) no_k (boundary_at e c) refl (class_escape_at c) refl (any_escape_at false e (c ∷ w)) refl
+      (cond-false (is_reference e (c ∷ w)) _ _ index ∙ cond-false (c == 107 && e.named) _ _ no_k ∙ cond-false (begins_property c && is_unicode e.mode) _ _ no_property))))
     where
       by_true : (a b : Bool) → b ≡ true → (a && b) ≡ a
       by_true true b h = h
       by_true false b h = refl
 
-      by_unicode : (a b : Bool) → (a && (is_unicode e.mode || b)) ≡ a
-      by_unicode a b = by_true a (is_unicode e.mode || b) (or_left (is_unicode e.mode) b unicode)
+      no_beginning : is_unicode e.mode ≡ true → is_reference e (c ∷ w) ≡ false → (c == 107 && e.named) ≡ false → (begins_property c && is_unicode e.mode) ≡ false → (is_within 49 57 c || c == 107 || begins_property c) ≡ false
+      no_beginning unicode index no_k no_property =
+          or_from (is_within 49 57 c || c == 107) (begins_property c)
+          (or_from (is_within 49 57 c) (c == 107) (sym (by_true (is_within 49 57 c) _ (or_left (is_unicode e.mode) _ unicode)) ∙ index) (sym (by_true (c == 107) e.named (allowed unicode)) ∙ no_k))
+          (sym (by_true (begins_property c) (is_unicode e.mode) unicode) ∙ no_property)
 
   -- What is read at the front holds.
   pub front_said : (us : List CodePoint) → Says e us (front e us) (front_read e us)
@@ -301,16 +368,5 @@ module _ (e : Environment) (unicode : is_unicode e.mode ≡ true) (allowed : e.n
       choose_both P (u.value == 124) _ _ _ _ (λ t. (refl, λ _ names. tt)) (λ no_bar.
       choose_both P (u.value == 94) _ _ _ _ (λ t. (refl, λ _ names. tt)) (λ no_start.
       choose_both P (u.value == 36) _ _ _ _ (λ t. (refl, λ _ names. tt)) (λ no_end.
-      quantifier_said u us (syntax raw) (or_from _ (u.value == 91) (or_from _ (u.value == 92) (or_from _ (u.value == 36) (or_from _ (u.value == 94) (or_from _ (u.value == 124) (or_from _ (u.value == 41)
+      quantifier_said u us raw (or_from _ (u.value == 91) (or_from _ (u.value == 92) (or_from _ (u.value == 36) (or_from _ (u.value == 94) (or_from _ (u.value == 124) (or_from _ (u.value == 41)
       (or_from (u.value == 46) (u.value == 40) no_dot no_group) no_closer) no_bar) no_start) no_end) no_backslash) no_bracket))))))))))
-    where
-      raw_stands : (mode : Mode) (c : ℕ) → is_unicode mode ≡ true → is_syntax_character c ≡ false → stands_raw mode c ≡ true
-      raw_stands Legacy c m h = absurd (true≢false (sym m))
-      raw_stands Unicode c m h = ap not h
-      raw_stands Sets c m h = ap not h
-
-      syntax : is_raw_at e u.value (values us) ≡ false → is_syntax_character u.value ≡ true
-      syntax h = elim (cases_Bool (is_syntax_character u.value)) [
-        | inl s ↦ s
-        | inr none ↦ absurd (true≢false (sym (raw_in_unicode e u.value (values us) unicode (raw_stands e.mode u.value unicode none)) ∙ h))
-      ]

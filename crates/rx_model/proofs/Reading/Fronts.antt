@@ -39,7 +39,7 @@ use Rattle.rx_model.proofs.Properties.PropertyFronts.{property_row, property_tex
 use Rattle.rx_model.proofs.Quantifiers.Quantifiers.{spelled_counts, counts_spelled, no_braces}
 use Rattle.rx_model.proofs.Reading.Splits.{split_values, TextFront}
 
-legacy_syntax : (c : ℕ) → is_legacy_syntax c ≡ true → is_syntax_character c ≡ true
+pub legacy_syntax : (c : ℕ) → is_legacy_syntax c ≡ true → is_syntax_character c ≡ true
 legacy_syntax c h = grind (arith, nat_tests)
 
 -- the characters that stand for themselves in no mode

@@ -1,7 +1,7 @@
 -- What is refused at a place that is reached, by a function of what stands there.
 use Rattle.std.proofs.Common.{◌≡◌, ◌⊎◌, refl, ap, sym, ◌∙◌, subst, ℕ, ◌+◌, ◌*◌, ◌==◌, ◌||◌, ◌&&◌, not, Bool, true, false, cond, Option, Some, None, List, [], ◌∷◌, ◌++◌, length, drop, codes, arith, inl, inr}
 use Rattle.std.proofs.Math.Seq.{drop-append_seam}
-use Rattle.std.proofs.lemmas.Bool.{cond-true, cond-false, eqb-true, false_from_ne_true, or_cases}
+use Rattle.std.proofs.lemmas.Bool.{cond-true, cond-false, eqb-true, or_cases}
 use Rattle.std.proofs.lemmas.List.{map-append}
 use Rattle.std.proofs.lemmas.Option.{option_and_then_some}
 use Rattle.std.proofs.lemmas.Bool.Decides.{nat_tests}
@@ -15,7 +15,7 @@ use Rattle.rx_units.specs.declared.code_point.CodePoint.{CodePoint}
 use Rattle.rx_units.specs.Units.{values}
 use Rattle.rx_model.specs.declared.mode.Mode.{Mode}
 use Rattle.rx_model.specs.Refusals.Causes.{BeginsWithPair, LeadNowhere}
-use Rattle.rx_model.specs.Characters.Decoding.{Decoded, value, invalid, overflow, decoded, is_lead, is_trail}
+use Rattle.rx_model.specs.Characters.Decoding.{Decoded, value, invalid, overflow, decoded}
 use Rattle.rx_model.specs.Inputs.Environment.{Environment, is_unicode}
 use Rattle.rx_model.specs.Refusals.EscapeCauses as escape
 use Rattle.rx_model.specs.Refusals.EscapeCauses.{IsEscapeCause}
@@ -24,6 +24,7 @@ use Rattle.rx_model.specs.Reading.Fronts.{front, named_token, backslash_front}
 use Rattle.rx_model.specs.Groups.GroupFronts.{SidesRead, sides, sides_at, reference_front}
 use Rattle.rx_model.specs.Groups.GroupNameReading.{NameRow, row, name_at}
 use Rattle.rx_model.specs.Groups.GroupNames.{IsNameRow, no_name, some_name}
+use Rattle.rx_model.specs.Groups.NameFronts.{begins_pair}
 use Rattle.rx_model.specs.Groups.Groups.{BeginsName, of_group, of_reference, EndsName, is_mark}
 use Rattle.rx_model.specs.FirstPass.Marks.{starts}
 use Rattle.rx_model.specs.Groups.Modifiers.{AreSides, has_twice, share_some}
@@ -37,9 +38,9 @@ use Rattle.rx_model.specs.Characters.UnicodeEscapes.{Decodes, PassesHex}
 use Rattle.rx_model.proofs.Quantifiers.DecimalDigits.{digit_there}
 use Rattle.rx_model.proofs.Quantifiers.BlockedCounts.{brace_first}
 use Rattle.rx_model.proofs.Refusals.BlockedFronts.{backslash_k, no_name_begins, no_name_front, sides_lead}
-use Rattle.rx_model.proofs.Characters.Decodings.{both, overflow_read, read_overflow, value_law}
+use Rattle.rx_model.proofs.Characters.Decodings.{overflow_read, read_overflow, value_law}
 use Rattle.rx_model.proofs.Reading.Fronts.{front_by_values, spelled_front}
-use Rattle.rx_model.proofs.Groups.GroupNames.{lead_not_backslash, lead_seen, name_read, no_name_law, seen_lead, seen_trail, trail_seen}
+use Rattle.rx_model.proofs.Groups.GroupNames.{lead_not_backslash, lead_seen, name_read, no_name_law, trail_seen}
 use Rattle.rx_model.proofs.Groups.Modifiers.{modifiers_begin, not_mark, sides_read}
 use Rattle.rx_model.proofs.Refusals.Stops.{no_beginning, stop_front}
 
@@ -72,20 +73,6 @@ not_zero c h k = grind (arith, nat_tests)
 
 first_digit : (c : ℕ) (ds : List ℕ) (n : ℕ) → decimal_behind 0 (c ∷ ds) ≡ Some n → is_decimal_digit c ≡ true
 first_digit c ds n h = option_and_then_some (λ d. decimal_behind (10 * 0 + d) ds) (decimal_digit_value c) n h (λ d e f. (digit_there c d e).0)
-
--- whether a raw lead and a raw trail stand next
-abbrev pub begins_pair : List ℕ → Bool
-begins_pair [] = false
-begins_pair (c ∷ []) = false
-begins_pair (c ∷ d ∷ w) = is_lead c && is_trail d
-
-pub pair_begins : (c : ℕ) (w : List ℕ) → begins_pair (c ∷ w) ≡ true → BeginsWithPair (c ∷ w)
-pair_begins c [] h = absurd (let no : ⊥ = cc h in no)
-pair_begins c (d ∷ w) h = let p = both (is_lead c) (is_trail d) h in record { lead = c; trail = d; rest = w; whole = refl; is_lead = seen_lead c p.0; is_trail = seen_trail d p.1 }
-
-pub no_pair_begins : (w : List ℕ) → (BeginsWithPair w → ⊥) → begins_pair w ≡ false
-no_pair_begins [] h = refl
-no_pair_begins (c ∷ w) h = false_from_ne_true (begins_pair (c ∷ w)) (λ t. h (pair_begins c w t))
 
 module _ (mode : Mode) (us : List CodePoint) (start added : ℕ) where
   abbrev here : Environment

@@ -19,6 +19,7 @@ use Rattle.rx_model.specs.FirstPass.Marks.{starts}
 use Rattle.rx_model.specs.Groups.GroupFronts.{angle_group, closed_name, group_front, name_front, named_group, question_group, reference_front}
 use Rattle.rx_model.specs.Groups.GroupNameReading.{NameRow, row, name_at}
 use Rattle.rx_model.specs.Groups.GroupNames.{IsNameRow}
+use Rattle.rx_model.specs.Groups.NameFronts.{begins_pair}
 use Rattle.rx_model.specs.Groups.Groups.{BeginsName, EndsName, of_group, of_reference, is_mark}
 use Rattle.rx_model.specs.Inputs.Environment.{Environment}
 use Rattle.rx_model.specs.Quantifiers.CountsReading.{CountsRead, counts_read, no_counts_read, many_digits, counts_read_at}
@@ -37,7 +38,7 @@ use Rattle.rx_model.specs.Trees.Token.{Token, Opener, boundary, character, dot, 
 use Rattle.rx_model.proofs.Characters.Decodings.{both, chosen, overflow_read, read_overflow, value_law}
 use Rattle.rx_model.proofs.Classes.ClassFronts.{class_read}
 use Rattle.rx_model.proofs.Classes.LegacyClasses.{class_or_refusal}
-use Rattle.rx_model.proofs.Groups.GroupNames.{lead_seen, name_row_law, no_name_read, trail_seen}
+use Rattle.rx_model.proofs.Groups.GroupNames.{name_row_law, no_name_read}
 use Rattle.rx_model.proofs.Groups.Modifiers.{no_mark}
 use Rattle.rx_model.proofs.Quantifiers.CountsReading.{decimal_le, in_braces, limit_read, none_there, passes_there}
 use Rattle.rx_model.proofs.Quantifiers.BlockedCounts.{standing}
@@ -45,8 +46,8 @@ use Rattle.rx_model.proofs.Quantifiers.DecimalDigits.{digit_there}
 use Rattle.rx_model.proofs.Quantifiers.Quantifiers.{counts_spelled, no_braces, spelled_counts}
 use Rattle.rx_model.proofs.Reading.Fronts.{front_by_values, front_spelled, spelled_front, spelled_some}
 use Rattle.rx_model.proofs.Refusals.BlockedFronts.{backslash_k}
-use Rattle.rx_model.proofs.Refusals.Faults.{begins_pair, pair_begins}
 use Rattle.rx_model.proofs.Refusals.InnermostGroups.{innermost}
+use Rattle.rx_model.proofs.Groups.NameFronts.{no_pair, pair_begins}
 use Rattle.rx_model.proofs.Refusals.LegacyRaws.{unit_stands}
 use Rattle.rx_model.proofs.Refusals.LegacyStops.{backslash_read}
 use Rattle.rx_model.proofs.Spelling.Bounds.{character_low, units_front}
@@ -287,16 +288,13 @@ module _ (us : List CodePoint) (start added : ℕ) where
             (λ many d. let no : invalid ≡ overflow many = sym h ∙ overflow_read v many d in cc no) refl,
       )
 
-      no_pair : (c : ℕ) (v : List ℕ) → begins_pair (c ∷ v) ≡ false → BeginsWithPair (c ∷ v) → ⊥
-      no_pair c v h b = both_ways (begins_pair (c ∷ v)) h (ap begins_pair b.whole ∙ rw (lead_seen b.lead b.is_lead, trail_seen b.trail b.is_trail) refl)
-
       behind_row : (n : ℕ) (back : List ℕ) → IsNameRow false behind n → (starts 62 back ≡ true → n ≡ 0) → drop n behind ≡ back → Refused
       behind_row n [] longest closes h = (place, _, cause.unterminated_name_in_legacy place n rest [] p refl (ends_with n [] longest h) refl (λ b. let no = b.whole in cc no) closes)
       behind_row n (c ∷ v) longest closes h = elim (cases_Bool (c == 92)) [
         | inl b ↦ escape_there n v (decoded true v) refl (ends_with n (92 ∷ v) longest (h ∙ ap (λ c. c ∷ v) (eqb-true c 92 b)))
         | inr b ↦ elim (cases_Bool (begins_pair (c ∷ v))) [
-          | inl t ↦ (place, _, cause.misplaced_pair place n rest (c ∷ v) p refl (ends_with n (c ∷ v) longest h) (pair_begins c v t))
-          | inr t ↦ (place, _, cause.unterminated_name_in_legacy place n rest (c ∷ v) p refl (ends_with n (c ∷ v) longest h) b (no_pair c v t) closes)
+          | inl t ↦ (place, _, cause.misplaced_pair place n rest (c ∷ v) p refl (ends_with n (c ∷ v) longest h) (pair_begins (c ∷ v) t))
+          | inr t ↦ (place, _, cause.unterminated_name_in_legacy place n rest (c ∷ v) p refl (ends_with n (c ∷ v) longest h) b (no_pair (c ∷ v) t) closes)
         ]
       ]
 

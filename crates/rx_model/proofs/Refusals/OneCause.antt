@@ -19,7 +19,8 @@ use Rattle.rx_model.proofs.Refusals.Beyond.{ClassLaws, blocked_beyond, inside_re
 use Rattle.rx_model.proofs.Quantifiers.BlockedCounts.{brace_first}
 use Rattle.rx_model.proofs.Refusals.BlockedPlaces.{next}
 use Rattle.rx_model.proofs.Refusals.OnlyFirst.{only_is_first}
-use Rattle.rx_model.proofs.Refusals.Faults.{told, by_property, by_quantifier, stopping, answer, escape_is, name_is, unterminated_is, invalid_is, index_is, reference_is, named_is, unknown_is, duplicated_is, empty_is, shared_is, property_is, NoBraces, stop_is, brace_is, bracket_is, misplaced_is, no_stop, overflow_is, quantifier_is, last_is, no_pair_begins, pair_is}
+use Rattle.rx_model.proofs.Groups.NameFronts.{no_pair_begins}
+use Rattle.rx_model.proofs.Refusals.Faults.{told, by_property, by_quantifier, stopping, answer, escape_is, name_is, unterminated_is, invalid_is, index_is, reference_is, named_is, unknown_is, duplicated_is, empty_is, shared_is, property_is, NoBraces, stop_is, brace_is, bracket_is, misplaced_is, no_stop, overflow_is, quantifier_is, last_is, pair_is}
 use Rattle.rx_model.proofs.Reading.Fronts.{spelled_front}
 use Rattle.rx_model.proofs.Properties.OneProperty.{one_property}
 use Rattle.rx_model.proofs.Quantifiers.OneQuantifier.{QuantifierRow, lone, out_of_order, too_large, too_many_digits, lone_refusal, one_quantifier}

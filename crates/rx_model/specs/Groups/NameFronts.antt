@@ -1,14 +1,15 @@
 -- How a name and its `>` are read behind `(?<` and `\k<` (GroupName, 22.2.1): what stands, or why nothing does. What names mean stands in GroupNames.
-use Rattle.std.specs.Prelude.{ℕ, Bool, true, ◌==◌, ◌&&◌, nat_lt, List, [], ◌∷◌, drop, if◌then◌else◌}
-use Rattle.rx_model.specs.Characters.Decoding.{Decoded, value, invalid, overflow, decoded}
+use Rattle.std.specs.Prelude.{ℕ, Bool, true, false, not, ◌==◌, ◌&&◌, nat_lt, List, [], ◌∷◌, drop, if◌then◌else◌}
+use Rattle.rx_model.specs.Characters.Decoding.{Decoded, value, invalid, overflow, decoded, is_lead, is_trail}
 use Rattle.rx_model.specs.FirstPass.Marks.{starts}
 use Rattle.rx_model.specs.Groups.GroupNameReading.{NameRow, row, name_at}
 
--- What stands behind so many units of a name's characters where no name ends: neither an escape nor, behind some, a `>`; an escape of so many units,
--- of what may not stand there; a backslash that begins no escape, or none though with `u` or `v` a `u` follows it; an escape whose digits pass 32 bits
--- behind so many.
+-- What stands behind so many units of a name's characters where no name ends: neither an escape nor, behind some, a `>`; with neither `u` nor `v` a raw
+-- pair that may not stand there; an escape of so many units, of what may not stand there; a backslash that begins no escape, or none though with `u` or `v`
+-- a `u` follows it; an escape whose digits pass 32 bits behind so many.
 pub data NameHalt : Type 0 where
   unterminated : ℕ → NameHalt
+  misplaced_pair : ℕ → NameHalt
   misplaced : ℕ → ℕ → NameHalt
   no_escape : ℕ → NameHalt
   no_escape_of_u : ℕ → NameHalt
@@ -18,6 +19,12 @@ pub data NameHalt : Type 0 where
 pub data NameRead : Type 0 where
   name_read : List ℕ → ℕ → NameRead
   no_name_read : NameHalt → NameRead
+
+-- whether a raw lead and a raw trail stand next
+abbrev pub begins_pair : List ℕ → Bool
+begins_pair [] = false
+begins_pair (c ∷ []) = false
+begins_pair (c ∷ d ∷ w) = is_lead c && is_trail d
 
 -- behind so many units of a name and a backslash
 abbrev pub escape_halt : Bool → ℕ → List ℕ → Decoded → NameHalt
@@ -30,7 +37,8 @@ abbrev pub read_behind_name : Bool → List ℕ → ℕ → List ℕ → NameRea
 read_behind_name unicode_mode name count [] = no_name_read (unterminated count)
 read_behind_name unicode_mode name count (c ∷ w) =
     if nat_lt 0 count && (c == 62) then name_read name count
-    else (if c == 92 then no_name_read (escape_halt unicode_mode count w (decoded true w)) else no_name_read (unterminated count))
+    else (if c == 92 then no_name_read (escape_halt unicode_mode count w (decoded true w))
+    else (if not unicode_mode && begins_pair (c ∷ w) then no_name_read (misplaced_pair count) else no_name_read (unterminated count)))
 
 abbrev pub read_from_row : Bool → NameRow → List ℕ → NameRead
 read_from_row unicode_mode (row name count) w = read_behind_name unicode_mode name count (drop count w)

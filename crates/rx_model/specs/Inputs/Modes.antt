@@ -9,8 +9,8 @@ mode_by unicode true = Sets
 mode_by true false = Unicode
 mode_by false false = Legacy
 
--- the modes that the readers take; in the others they answer that it is not read yet
+-- the modes that the readers take: all but that of `v`, in which they answer that it is not read yet
 abbrev pub is_read : Mode → Bool
-is_read Legacy = false
+is_read Legacy = true
 is_read Unicode = true
 is_read Sets = false

@@ -22,6 +22,8 @@ use Rattle.rx_model.specs.Trees.Token.{Token, boundary, character, dot, class_es
 pub data FrontHalt : Type 0 where
   -- terms end here; reading stands so many units on
   ends_here : ℕ → FrontHalt
+  -- with neither `u` nor `v`, a backslash at the end of the text
+  last_backslash : FrontHalt
   -- the counts of a quantifier of this length
   out_of_order : ℕ → FrontHalt
   too_large : ℕ → FrontHalt
@@ -102,7 +104,7 @@ one_of_escapes None None r = escape_read r
 
 -- behind a backslash
 abbrev pub backslash_read : Environment → List ℕ → FrontRead
-backslash_read e [] = halted (ends_here 1)
+backslash_read e [] = halted (if is_unicode e.mode then ends_here 1 else last_backslash)
 backslash_read e (c ∷ w) =
     if is_reference e (c ∷ w) then indexed_read e.groups (digits_behind 0 0 (c ∷ w))
     else (if c == 107 && e.named then reference_read (is_unicode e.mode) w

@@ -27,23 +27,23 @@ returns-then-is_none c =
     (nothing_stands (rest c.loop-alloc.reader) (subst (λ o. is_some o ≡ false) c.peek-in-loop-alloc.ensures (c.is_none.ensures ∙ ap not c.if-is_none.true)))
     c.offset-start.ensures.value c.span_to_here-span.ensures
 
-pub returns-in_err-class_item : goal.returns-in_err-class_item
-returns-in_err-class_item c =
+pub returns-in_err-item : goal.returns-in_err-item
+returns-in_err-item c =
     handed (GivesClass (environment_of c.args.state.now) c.args.spans.now c.args.reader.now c.class_item.new.reader) c.from_residual.ensures.1
-    (refused_gives c.loop-alloc.invariant c.requires.read (environment_is c.args.state.now c.args.reader.now c.requires.pass) c.class_item.new.reader c.in_err-class_item.field-0.0 c.in_err-class_item.ensures)
+    (refused_gives c.loop-alloc.invariant c.requires.read (environment_is c.args.state.now c.args.reader.now c.requires.pass) c.class_item.new.reader c.in_err-item.field-0.0 c.in_err-item.ensures)
 
 pub loop-alloc-smaller : goal.loop-alloc-smaller
-loop-alloc-smaller c = (item_gives c.loop-alloc.invariant c.loop-alloc.body refl c.in_ok-class_item.ensures).1
+loop-alloc-smaller c = (item_gives c.loop-alloc.invariant c.loop-alloc.body refl c.in_ok-item.ensures).1
 
 pub loop-alloc-preserved : goal.loop-alloc-preserved
 loop-alloc-preserved c =
-    subst (λ body. IsInClass (environment_of c.args.state.now) c.args.spans.now c.args.reader.now c.class_item.new.reader c.eat-negative.result (contents body)) (sym c.in_ok-push.ensures.ok)
-    (item_gives c.loop-alloc.invariant c.loop-alloc.body refl c.in_ok-class_item.ensures).0
+    subst (λ body. IsInClass (environment_of c.args.state.now) c.args.spans.now c.args.reader.now c.class_item.new.reader c.eat-negative.result (contents body)) (sym c.in_ok-push_item.ensures)
+    (item_gives c.loop-alloc.invariant c.loop-alloc.body refl c.in_ok-item.ensures).0
 
-pub returns-in_err-push : goal.returns-in_err-push
-returns-in_err-push c =
-    let pushed = (item_gives c.loop-alloc.invariant c.loop-alloc.body refl c.in_ok-class_item.ensures).0 in
-    handed (GivesClass (environment_of c.args.state.now) c.args.spans.now c.args.reader.now c.class_item.new.reader) c.from_residual-in_err-push.ensures.1 (no_memory (passes_keeps pushed.passes))
+pub returns-in_err-push_item : goal.returns-in_err-push_item
+returns-in_err-push_item c =
+    let pushed = (item_gives c.loop-alloc.invariant c.loop-alloc.body refl c.in_ok-item.ensures).0 in
+    handed (GivesClass (environment_of c.args.state.now) c.args.spans.now c.args.reader.now c.class_item.new.reader) c.from_residual-in_err-push_item.ensures.1 (no_memory (passes_keeps pushed.passes))
 
 pub span_to_here-requires-clause-start : goal.span_to_here-requires-clause-start
 span_to_here-requires-clause-start c = offset_here_fits c.args.spans.now c.offset-start.result c.args.reader.now c.requires.fits c.offset-start.ensures.value

@@ -1,14 +1,22 @@
-use Rattle.std.proofs.Common.{◌∙◌, ap, sym}
+use Rattle.std.proofs.Common.{◌∙◌, ap, get_or, sym}
 use Rattle.rx_units.specs.Units.{unit}
 use Rattle.rx_units.specs.declared.code_point.EscapeKind.TheVariants as kind
-use Rattle.rx_model.specs.Inputs.Environment.{environment_with}
+use Rattle.rx_parser.specs.Environments.{seen_environment}
 use Rattle.rx_parser.specs.Found.{found_front}
-use Rattle.rx_parser.proofs.FrontFound.{syntax_alone, unicode_read}
+use Rattle.rx_parser.specs.declared.found.Found.TheVariants.{Leaf}
+use Rattle.rx_parser.specs.declared.found.Leaf.TheVariants.{Character}
+use Rattle.rx_parser.proofs.FrontFound.{raw_alone, syntax_alone}
 use Rattle.rx_parser.proofs.front.first_of.Goals as goal
 
+pub returns-then-is_raw : goal.returns-then-is_raw
+returns-then-is_raw c =
+    let e = c.args.environment in
+    ap (λ k. Leaf (Character k (get_or c.args.units.now 0 (unit 0 0 0 kind.None)).value) 1) c.unit_kind.ensures
+    ∙ ap found_front (sym (raw_alone (seen_environment e) c.args.units.now (unit 0 0 0 kind.None) c.in-len1-up.len_at_least (sym (c.is_raw.ensures e.groups e.has_names) ∙ c.if-is_raw.true)))
+
 pub returns : goal.returns
-returns c has_names =
-    let e = environment_with c.args.mode c.args.groups has_names in
-    c.syntax_at.ensures c.args.groups has_names
-    ∙ ap found_front (sym (syntax_alone e c.args.units.now (unit 0 0 0 kind.None) (unicode_read c.args.mode c.requires.read) c.in-len1-up.len_at_least
-    (sym c.is_syntax_character.ensures ∙ c.if-not-is_syntax_character.false) c.if-first.false c.if-first-2.false))
+returns c =
+    let e = c.args.environment in
+    c.syntax_at.ensures e.groups e.has_names
+    ∙ ap found_front (sym (syntax_alone (seen_environment e) c.args.units.now (unit 0 0 0 kind.None) c.in-len1-up.len_at_least
+    (sym (c.is_raw.ensures e.groups e.has_names) ∙ c.if-is_raw.false) c.if-first.false c.if-first-2.false))

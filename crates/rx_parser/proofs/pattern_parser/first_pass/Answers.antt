@@ -20,7 +20,7 @@ name_fits added r f k span e =
     subst (λ span. (span.0 + added < 2 ^ 32) × (span.1 + added < 2 ^ 32)) (sym e) (offset_fits added r.first r.units places.0 f.first f.ends, offset_fits added r.first r.units places.1 f.first f.ends)
 
 pub initialize_with_parsing-requires-clause-no_sets : goal.initialize_with_parsing-requires-clause-no_sets
-initialize_with_parsing-requires-clause-no_sets c = no_sets c.args.state.now.unicode_mode c.args.state.now.unicode_sets_mode c.requires.read
+initialize_with_parsing-requires-clause-no_sets c = no_sets c.args.state.now.unicode_mode c.args.state.now.unicode_sets_mode c.requires.no_sets
 
 pub create-requires : goal.create-requires
 create-requires c =

@@ -6,7 +6,7 @@ use Rattle.rx_parser.specs.Faults.{IsEndedFault}
 use Rattle.rx_parser.specs.Frames.{openers}
 use Rattle.rx_parser.specs.Parsing.{HoldsPass, IsParsing, IsRefused}
 use Rattle.rx_parser.proofs.Endings.{parsing_begun, parsing_ended}
-use Rattle.rx_parser.proofs.Refused.{refuses}
+use Rattle.rx_parser.proofs.Halts.{ended_refused}
 use Rattle.rx_parser.proofs.pattern_parser.read_pattern.Goals as goal
 
 pub loop-alloc-init : goal.loop-alloc-init
@@ -74,7 +74,7 @@ returns-then-not-is_whole-clause-refused c =
     let some : openers b ≡ [] → ⊥ = search rules in
     let parsing : IsParsing c.args.mode r.units r.first c.args.spans.now b l.place =
     subst (λ (k : Cursor). IsParsing c.args.mode k.units k.first c.args.spans.now b l.place) same c.loop-alloc.invariant.parsing in
-    (refuses c.args.mode c.requires.read r.units r.first c.args.spans.now b l.place).end parsing c.args.state.now c.requires.pass
+    ended_refused r.units r.first c.args.spans.now b l.place parsing c.requires.pass.no_clash c.requires.pass.in_limit
     (omega (arith, left, length-drop l.place l.units, parsing.within, ap (λ (k : Cursor). length k.units) same)) some c.ended.result
     (subst (λ (k : Cursor). IsEndedFault k.units k.first c.args.spans.now l.place b c.ended.result) same c.ended.ensures)
 

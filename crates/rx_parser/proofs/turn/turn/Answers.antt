@@ -1,10 +1,10 @@
 use Rattle.std.proofs.Common.{◌≡◌, refl, ap, sym, ◌∙◌, subst, true, false}
 use Rattle.rx_base.specs.declared.fault.Fault.TheVariants.{Diagnostic}
-use Rattle.rx_base.specs.declared.diagnostic.Diagnostic.TheVariants.{LoneQuantifier, ParsePatternIncomplete}
+use Rattle.rx_base.specs.declared.diagnostic.Diagnostic.TheVariants.{ParsePatternIncomplete}
 use Rattle.rx_model.specs.Refusals.Reached.{text_names}
-use Rattle.rx_parser.specs.Faults.{IsHaltFault}
+use Rattle.rx_parser.specs.Faults.{IsHaltFault, lone_refusal}
 use Rattle.rx_parser.specs.Parsing.{IsRefused}
-use Rattle.rx_parser.proofs.Refused.{refuses}
+use Rattle.rx_parser.proofs.Halts.{closer_refused, halt_refused}
 use Rattle.rx_parser.proofs.Turns.{close_turned, empty_at, lone_refused, passed, quantifier_turned}
 use Rattle.rx_parser.proofs.turn.turn.Goals as goal
 
@@ -14,7 +14,7 @@ returns-then-not-branch-clause-refused c =
     let it = c.in_ok-close-in-Close in
     let none : it.field-0 ≡ false = cc in
     subst (λ s. IsRefused c.args.builder.now.mode r.units r.first c.args.spans.now (Diagnostic (ParsePatternIncomplete s))) (sym (c.empty-span.ensures ∙ ap empty_at c.here-at.ensures))
-    ((refuses c.args.builder.now.mode c.requires.before.read r.units r.first c.args.spans.now c.args.builder.now r.place).closer c.requires.before.parsing c.args.state.now c.requires.pass c.in-Close.ensures.found (it.ensures.none none))
+    (closer_refused r.units r.first c.args.spans.now c.args.builder.now r.place c.requires.before.parsing c.requires.pass.no_clash c.requires.pass.in_limit c.in-Close.ensures.found (it.ensures.none none))
 
 pub returns-else-not-branch-clause-turned : goal.returns-else-not-branch-clause-turned
 returns-else-not-branch-clause-turned c =
@@ -31,7 +31,7 @@ returns-then-not-branch-2-clause-refused c =
     let it = c.in_ok-quantify-in-Quantifier in
     let r = c.args.reader.now in
     let none : it.field-0 ≡ false = cc in
-    subst (λ s. IsRefused c.args.builder.now.mode r.units r.first c.args.spans.now (Diagnostic (LoneQuantifier s))) (sym c.new-span.ensures)
+    subst (λ it. IsRefused c.args.builder.now.mode r.units r.first c.args.spans.now (Diagnostic it)) (sym (c.lone_quantifier.ensures ∙ ap (lone_refusal c.args.builder.now.mode) c.new-span.ensures))
     (lone_refused c.requires.before c.requires.pass c.skip.new.self q.min q.max q.greedy q.length c.here-at.result c.here-after.result
     (passed c.requires.before q.ensures.found c.here-at.ensures c.here-after.ensures c.skip.ensures) (q.ensures.found.2 (text_names c.args.builder.now.mode r.units)) (it.ensures.answer ∙ none))
 
@@ -57,5 +57,5 @@ fault-requires-clause-small c = c.in-Halt.ensures.small c.in-Halt.halt refl
 pub returns-in-Halt-clause-refused : goal.returns-in-Halt-clause-refused
 returns-in-Halt-clause-refused c =
     let r = c.args.reader.now in
-    (refuses c.args.builder.now.mode c.requires.before.read r.units r.first c.args.spans.now c.args.builder.now r.place).halt c.requires.before.parsing c.args.state.now c.requires.pass c.requires.before.left c.fault.result c.in-Halt.halt c.in-Halt.ensures.found.0
+    halt_refused r.units r.first c.args.spans.now c.args.builder.now r.place c.requires.before.parsing c.requires.pass.no_clash c.requires.pass.in_limit c.requires.before.left c.fault.result c.in-Halt.halt c.in-Halt.ensures.found.0
     (subst (λ n. IsHaltFault r.units r.first c.args.spans.now r.place c.args.builder.now n c.in-Halt.halt c.fault.result) c.requires.pass.groups c.fault.ensures)

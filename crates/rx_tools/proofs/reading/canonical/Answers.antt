@@ -7,7 +7,7 @@ use Rattle.rx_model.specs.Reading.Headline.{IsAnswered, IsParsed}
 use Rattle.rx_parser.specs.Literals.{flags_chars, input_of}
 use Rattle.rx_parser.specs.NotYet.{is_unread_literal}
 use Rattle.rx_tools.specs.Spelled.{spelled_of}
-use Rattle.rx_tools.proofs.CanonicalAnswers.{memory_wants, tree_spelled, unicode_is_read}
+use Rattle.rx_tools.proofs.CanonicalAnswers.{memory_wants, no_sets_is_read, text_points, tree_spelled}
 use Rattle.rx_tools.proofs.reading.canonical.Goals as goal
 
 pub returns-in_err-text-clause-answered : goal.returns-in_err-text-clause-answered
@@ -17,7 +17,7 @@ returns-in_err-text-clause-answered c = λ _.
     subst (IsAnswered spelled_of input) (sym is) (memory_wants input)
 
 pub returns-in_err-text-clause-headline : goal.returns-in_err-text-clause-headline
-returns-in_err-text-clause-headline c = λ literal u. returns-in_err-text-clause-answered c (unicode_is_read c.args.form (flags_chars c.args.flags_text) literal u)
+returns-in_err-text-clause-headline c = λ literal none. returns-in_err-text-clause-answered c (no_sets_is_read c.args.form (flags_chars c.args.flags_text) literal none)
 
 pub returns-clause-answered : goal.returns-clause-answered
 returns-clause-answered c = λ at_once.
@@ -32,8 +32,8 @@ returns-clause-answered c = λ at_once.
     (subst (λ options. IsParsed (λ it. it.0) (input_of Literal text c.args.flags_text options) (Ok it)) given.options
     (subst (λ flags. IsParsed (λ it. it.0) (input_of Literal text flags c.new-parser.result.options) (Ok it)) given.flags_text
     (subst (λ (text : Bor (List ℕ)). IsParsed (λ it. it.0) (input_of Literal text.now c.new-parser.result.flags_text c.new-parser.result.options) (Ok it)) given.pattern_text told))) in
-    tree_spelled input (record { pattern = it.0; mode = it.1; text = c.in_ok-text.text }) parsed read
+    tree_spelled input (text_points text c.utf8.pattern_text) (record { pattern = it.0; mode = it.1; text = c.in_ok-text.text }) parsed read
     (c.in-Ok.ensures.mode ∙ ap (λ flags. mode_of (flags_of (flags_chars flags))) given.flags_text) c.in_ok-text.ensures
 
 pub returns-clause-headline : goal.returns-clause-headline
-returns-clause-headline c = λ literal u. returns-clause-answered c (unicode_is_read c.args.form (flags_chars c.args.flags_text) literal u)
+returns-clause-headline c = λ literal none. returns-clause-answered c (no_sets_is_read c.args.form (flags_chars c.args.flags_text) literal none)

@@ -1,0 +1,207 @@
+ghost use Rattle.std.specs.Prelude.{◌≡◌, ◌==◌, ◌∷◌, ◌&&◌, ◌||◌, true, not, ℕ, List, is_some, nat_le, codes};
+ghost use Rattle.rx_units.specs.Units.{values};
+ghost use Rattle.rx_model.specs.Characters.EscapeFronts.{control_behind, digit_at, legacy_at, octal_at};
+ghost use Rattle.rx_model.specs.Characters.Escapes.{front_is};
+ghost use Rattle.rx_model.specs.Characters.LegacyEscapes.{four_next, is_class_control, octal, refers, run_number, two_next};
+ghost use Rattle.rx_model.specs.Inputs.Environment.{Environment};
+ghost use Rattle.rx_model.specs.Refusals.Stops.{is_hex_digit, is_one_of};
+ghost use Rattle.rx_tables.specs.Characters.{is_decimal_digit, is_octal_digit};
+ghost use Rattle.rx_class.specs.Found.{seen_escape};
+
+use crate::EscapeFound;
+use crate::escape_found::character;
+use rx_ast::CharacterKind;
+use rx_tables::{is_decimal_digit, is_octal_digit, map_c_ascii_letter, map_hex_digit};
+use rx_units::CodePoint;
+
+/// Where an escape stands, with neither `u` nor `v`.
+#[derive(Clone, Copy, Debug)]
+pub struct LegacyContext {
+    /// In a class, and not outside classes.
+    pub inside: bool,
+    /// The number of the pattern's groups.
+    pub groups: u32,
+    /// Whether `\k` is a reference.
+    pub named: bool,
+}
+
+/// The escape that the units behind a backslash begin with, of those that are one with neither `u` nor `v` alone (CharacterEscape and ClassEscape of
+/// ECMA-262, B.1.2).
+#[tactic(auto, unfolding(rx_model::specs::Characters::EscapeFronts::legacy_at))]
+pub fn legacy_escape_at(units: &[CodePoint], context: LegacyContext) -> EscapeFound
+    ensures { (e : Environment) → e.groups ≡ context.groups → e.named ≡ context.named → seen_escape result ≡ legacy_at context.inside e (values units.now) }
+{
+    let [first, rest @ ..] = units else {
+        return EscapeFound::Nothing;
+    };
+    let cp = first.value;
+    if cp == 'c' as u32 {
+        return control(rest, context.inside);
+    }
+    if is_decimal_digit(cp) {
+        return digit(units, context);
+    }
+    if begins_another(cp, context) || is_hexadecimal(cp, rest) || is_unicode(cp, rest) {
+        return EscapeFound::Nothing;
+    }
+    character(CharacterKind::Identifier, cp, 1)
+}
+
+/// `c`, by the units behind it: in a class a ClassControlLetter follows; else the backslash stands for itself.
+fn control(units: &[CodePoint], inside: bool) -> EscapeFound
+    ensures { seen_escape result ≡ control_behind inside (values units.now) }
+{
+    let [letter, ..] = units else {
+        return character(CharacterKind::Symbol, '\\' as u32, 0);
+    };
+    if map_c_ascii_letter(letter.value).is_some() {
+        return EscapeFound::Nothing;
+    }
+    if inside && is_class_control(letter.value) {
+        return character(CharacterKind::ControlLetter, letter.value % 32, 2);
+    }
+    character(CharacterKind::Symbol, '\\' as u32, 0)
+}
+
+/// ClassControlLetter: a digit or `_`.
+fn is_class_control(cp: u32) -> bool
+    ensures { result ≡ is_class_control cp }
+{
+    is_decimal_digit(cp) || cp == '_' as u32
+}
+
+/// A digit, which the units begin with: an octal escape or the digit itself, where it begins no reference.
+fn digit(units: &[CodePoint], context: LegacyContext) -> EscapeFound
+    ensures { (c : ℕ) (w : List ℕ) → values units.now ≡ c ∷ w → seen_escape result ≡ digit_at context.inside context.groups c w }
+{
+    let [first, rest @ ..] = units else {
+        return EscapeFound::Nothing;
+    };
+    if !context.inside && refers(units, context.groups) {
+        return EscapeFound::Nothing;
+    }
+    if first.value == '0' as u32 && !begins_with_digit(rest) {
+        return EscapeFound::Nothing;
+    }
+    if is_octal_digit(first.value) {
+        return octal_escape(first.value, rest);
+    }
+    character(CharacterKind::Identifier, first.value, 1)
+}
+
+fn begins_with_digit(units: &[CodePoint]) -> bool
+    ensures { result ≡ front_is is_decimal_digit (values units.now) }
+{
+    units
+        .first()
+        .is_some_and(|unit| is_decimal_digit(unit.value))
+}
+
+/// LegacyOctalEscapeSequence, by its first digit and the units behind it.
+fn octal_escape(first: u32, rest: &[CodePoint]) -> EscapeFound
+    requires { is_octal_digit first ≡ true }
+    ensures { seen_escape result ≡ octal_at first (values rest.now) }
+{
+    let value = octal(first);
+    match rest {
+        [second, third, ..]
+            if first <= '3' as u32 && is_octal_digit(second.value) && is_octal_digit(third.value) =>
+            {
+                let value = 64 * value + 8 * octal(second.value) + octal(third.value);
+                character(CharacterKind::Octal3, value, 3)
+            }
+        [second, ..] if is_octal_digit(second.value) => {
+            character(CharacterKind::Octal2, 8 * value + octal(second.value), 2)
+        }
+        _ => character(CharacterKind::Octal1, value, 1),
+    }
+}
+
+/// The value of an octal digit.
+fn octal(digit: u32) -> u32
+    requires { is_octal_digit digit ≡ true }
+    ensures { result ≡ octal digit }
+{
+    digit - '0' as u32
+}
+
+/// Whether the units begin with a decimal number that does not begin with 0 and is at most that of the groups (DecimalEscape of ECMA-262, 22.2.1).
+fn refers(units: &[CodePoint], groups: u32) -> bool
+    ensures { result ≡ refers groups (values units.now) }
+{
+    let [first, ..] = units else {
+        return false;
+    };
+    is_decimal_digit(first.value) && first.value != '0' as u32 && is_at_most(units, groups)
+}
+
+/// Whether the number of the decimal digits that the units begin with is at most a limit.
+fn is_at_most(units: &[CodePoint], limit: u32) -> bool
+    ensures { result ≡ nat_le (run_number 0 (values units.now)) limit }
+{
+    let mut number = 0u64;
+    for unit in units {
+        if !is_decimal_digit(unit.value) {
+            return true;
+        }
+        number = 10 * number + (unit.value - '0' as u32) as u64;
+        if number > limit as u64 {
+            return false;
+        }
+    }
+    true
+}
+
+/// Whether what begins with this value is no escape of a character, or one in every mode: a ControlEscape, a class escape, a boundary, or a reference by name.
+fn begins_another(cp: u32, context: LegacyContext) -> bool
+    ensures { result ≡ (is_one_of (codes "dDsSwWfnrtvb") cp || ((context.named && cp == 107) || (not context.inside && cp == 66))) }
+{
+    is_lettered(cp) || context.named && cp == 'k' as u32 || !context.inside && cp == 'B' as u32
+}
+
+fn is_lettered(cp: u32) -> bool
+    ensures { result ≡ is_one_of (codes "dDsSwWfnrtvb") cp }
+{
+    matches!(
+        char::from_u32(cp),
+        Some('d' | 'D' | 's' | 'S' | 'w' | 'W' | 'f' | 'n' | 'r' | 't' | 'v' | 'b')
+    )
+}
+
+/// Whether this is the `x` of a HexEscapeSequence, by the units behind it.
+fn is_hexadecimal(cp: u32, rest: &[CodePoint]) -> bool
+    ensures { result ≡ (cp == 120 && is_some (two_next (values rest.now))) }
+{
+    cp == 'x' as u32 && begin_with_two_hex_digits(rest)
+}
+
+fn begin_with_two_hex_digits(units: &[CodePoint]) -> bool
+    ensures { result ≡ is_some (two_next (values units.now)) }
+{
+    match units {
+        [a, b, ..] => are_hex_digits(a.value, b.value),
+        _ => false,
+    }
+}
+
+/// Whether this is the `u` of a RegExpUnicodeEscapeSequence of four digits, by the units behind it.
+fn is_unicode(cp: u32, rest: &[CodePoint]) -> bool
+    ensures { result ≡ (cp == 117 && is_some (four_next (values rest.now))) }
+{
+    cp == 'u' as u32 && begin_with_four_hex_digits(rest)
+}
+
+fn begin_with_four_hex_digits(units: &[CodePoint]) -> bool
+    ensures { result ≡ is_some (four_next (values units.now)) }
+{
+    match units {
+        [a, b, more @ ..] => are_hex_digits(a.value, b.value) && begin_with_two_hex_digits(more),
+        _ => false,
+    }
+}
+
+fn are_hex_digits(a: u32, b: u32) -> bool
+    ensures { result ≡ (is_hex_digit a && is_hex_digit b) }
+{
+    map_hex_digit(a).is_some() && map_hex_digit(b).is_some()
+}

@@ -1,0 +1,24 @@
+ghost use Rattle.std.specs.Prelude.{◌≡◌};
+ghost use Rattle.rx_model.specs.Inputs.Environment.{is_unicode};
+ghost use Rattle.rx_parser.specs.Environments.{seen_environment};
+
+use rx_model::Mode;
+
+/// What the reading of a token depends on besides the text.
+#[derive(Clone, Copy, Debug)]
+pub struct Environment {
+    pub mode: Mode,
+    /// The number of the pattern's groups.
+    pub groups: u32,
+    /// Whether some group has a name.
+    pub has_names: bool,
+}
+
+impl Environment {
+    /// Whether `\k` is a reference (the parameter NamedCaptureGroups of ECMA-262, 22.2.1).
+    pub fn is_named(&self) -> bool
+        ensures { result ≡ (seen_environment self.now).named }
+    {
+        self.mode.is_unicode() || self.has_names
+    }
+}
