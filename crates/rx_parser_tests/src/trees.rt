@@ -100,3 +100,32 @@ fn characters(rt: HostRuntime) -> Result<(), Fail> {
 \\n => 0..2 SingleEscape a;";
     agree(rt.alloc(), &TermsCall, rows)
 }
+
+/// The terms of the first alternative, read with no flags.
+#[derive(Clone, Copy)]
+struct LegacyTermsCall;
+
+impl Call for LegacyTermsCall {
+    fn answer(&self, alloc: Global, asked: &str) -> Result<String, Fail> {
+        match canonical(
+            alloc,
+            Form::Literal,
+            short(asked)?,
+            None,
+            Options::default(),
+        ) {
+            Ok(it) => Ok(terms(alloc, &it.pattern)?),
+            Err(fault) => Err(Fail::from(fault)),
+        }
+    }
+}
+
+#[test]
+fn characters_with_no_flags(rt: HostRuntime) -> Result<(), Fail> {
+    let rows = "\\0022 => 0..4 Octal3 2; 4..5 Symbol 32;
+\\18 => 0..2 Octal1 1; 2..3 Symbol 38;
+\\8\\y => 0..2 Identifier 38; 2..4 Identifier 79;
+\\c => 0..1 Symbol 5c; 1..2 Symbol 63;
+\u{1F600} => 0..4 Symbol d83d; 4..4 Symbol de00;";
+    agree(rt.alloc(), &LegacyTermsCall, rows)
+}
