@@ -59,7 +59,7 @@ pub look_is : (g : LookAroundAssertion) → mirror_look g ≡ tree.group (out-Lo
 unfolding mirror_look mirror_disjunction
 look_is g = fold_out-LookAroundAssertion Node SpannedNodes Node SpannedAlternatives Node Node Node term_step alternative_step capturing_step disjunction_step ignore_step look_step quantifier_step g
 
-pub boundary_is : (b : Box BoundaryAssertion Global) → mirror_term (term.BoundaryAssertion b) ≡ leaf (tree.boundary b.value)
+pub boundary_is : (b : BoundaryAssertion) → mirror_term (term.BoundaryAssertion b) ≡ leaf (tree.boundary b)
 boundary_is b = ap mirror_term (sym (views.rolls-BoundaryAssertion b)) ∙ roll_is (layer.BoundaryAssertion b)
 
 pub look_term_is : (b : Box LookAroundAssertion Global) → mirror_term (term.LookAroundAssertion b) ≡ mirror_look b.value
@@ -68,10 +68,10 @@ look_term_is b = ap mirror_term (sym (views.rolls-LookAroundAssertion b)) ∙ ro
 pub quantifier_term_is : (b : Box Quantifier Global) → mirror_term (term.Quantifier b) ≡ mirror_quantifier b.value
 quantifier_term_is b = ap mirror_term (sym (views.rolls-Quantifier b)) ∙ roll_is (layer.Quantifier b)
 
-pub character_is : (b : Box Character Global) → mirror_term (term.Character b) ≡ leaf (tree.character b.value)
+pub character_is : (b : Character) → mirror_term (term.Character b) ≡ leaf (tree.character b)
 character_is b = ap mirror_term (sym (views.rolls-Character b)) ∙ roll_is (layer.Character b)
 
-pub escape_is : (b : Box CharacterClassEscape Global) → mirror_term (term.CharacterClassEscape b) ≡ leaf (tree.class_escape b.value)
+pub escape_is : (b : CharacterClassEscape) → mirror_term (term.CharacterClassEscape b) ≡ leaf (tree.class_escape b)
 escape_is b = ap mirror_term (sym (views.rolls-CharacterClassEscape b)) ∙ roll_is (layer.CharacterClassEscape b)
 
 pub property_is : (b : Box UnicodePropertyEscape Global) → mirror_term (term.UnicodePropertyEscape b) ≡ leaf (tree.property b.value)
@@ -86,7 +86,7 @@ capturing_term_is b = ap mirror_term (sym (views.rolls-CapturingGroup b)) ∙ ro
 pub ignore_term_is : (b : Box IgnoreGroup Global) → mirror_term (term.IgnoreGroup b) ≡ mirror_ignore b.value
 ignore_term_is b = ap mirror_term (sym (views.rolls-IgnoreGroup b)) ∙ roll_is (layer.IgnoreGroup b)
 
-pub indexed_is : (b : Box IndexedReference Global) → mirror_term (term.IndexedReference b) ≡ leaf (tree.indexed b.value)
+pub indexed_is : (b : IndexedReference) → mirror_term (term.IndexedReference b) ≡ leaf (tree.indexed b)
 indexed_is b = ap mirror_term (sym (views.rolls-IndexedReference b)) ∙ roll_is (layer.IndexedReference b)
 
 pub named_is : (b : Box NamedReference Global) → mirror_term (term.NamedReference b) ≡ leaf (tree.named b.value)

@@ -36,9 +36,9 @@ members (m ∷ ms) = member m (members ms)
 
 abbrev pub contents_step : CharacterClassContents-F Member Class → Member
 contents_step (layer.CharacterClassRange b) = range b.value
-contents_step (layer.CharacterClassEscape b) = escape b.value
+contents_step (layer.CharacterClassEscape b) = escape b
 contents_step (layer.UnicodePropertyEscape b) = property b.value
-contents_step (layer.Character b) = character b.value
+contents_step (layer.Character b) = character b
 contents_step (layer.NestedCharacterClass b) = nested b.value
 contents_step (layer.ClassStringDisjunction b) = strings b.value
 

@@ -72,17 +72,17 @@ alternatives [] = no_alternative
 alternatives (a ∷ rest) = alternative a.0 a.1 (alternatives rest)
 
 abbrev pub term_step : Term-F Node SpannedNodes Node SpannedAlternatives Node Node Node → Node
-term_step (layer.BoundaryAssertion b) = leaf (boundary b.value)
+term_step (layer.BoundaryAssertion b) = leaf (boundary b)
 term_step (layer.LookAroundAssertion b) = b.value
 term_step (layer.Quantifier b) = b.value
-term_step (layer.Character b) = leaf (character b.value)
+term_step (layer.Character b) = leaf (character b)
 term_step (layer.Dot d) = leaf (dot d)
-term_step (layer.CharacterClassEscape b) = leaf (class_escape b.value)
+term_step (layer.CharacterClassEscape b) = leaf (class_escape b)
 term_step (layer.UnicodePropertyEscape b) = leaf (property b.value)
 term_step (layer.CharacterClass b) = leaf (class (mirror_class b.value))
 term_step (layer.CapturingGroup b) = b.value
 term_step (layer.IgnoreGroup b) = b.value
-term_step (layer.IndexedReference b) = leaf (indexed b.value)
+term_step (layer.IndexedReference b) = leaf (indexed b)
 term_step (layer.NamedReference b) = leaf (named b.value)
 
 abbrev pub alternative_step : Alternative-F Node SpannedNodes Node SpannedAlternatives Node Node Node → SpannedNodes

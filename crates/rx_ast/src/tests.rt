@@ -189,7 +189,7 @@ fn nested_groups(alloc: Global, depth: u32) -> Result<Term, OutOfMemory> {
 
 fn nested_classes(alloc: Global, depth: u32) -> Result<CharacterClassContents, OutOfMemory> {
     let span = Span::empty(0);
-    let mut contents = CharacterClassContents::Character(Box::new(alloc, symbol(0, 97))?);
+    let mut contents = CharacterClassContents::Character(symbol(0, 97));
     for _ in 0..depth {
         let class = class_of(alloc, span, contents)?;
         contents = CharacterClassContents::NestedCharacterClass(Box::new(alloc, class)?);

@@ -45,12 +45,8 @@ impl ClassAtom {
         ensures { IfOk result (λ it. mirror_contents it ≡ atom_member self) }
     {
         match self {
-            ClassAtom::Character(it) => {
-                Ok(CharacterClassContents::Character(Box::new(alloc, it)?))
-            }
-            ClassAtom::Escape(it) => {
-                Ok(CharacterClassContents::CharacterClassEscape(Box::new(alloc, it)?))
-            }
+            ClassAtom::Character(it) => Ok(CharacterClassContents::Character(it)),
+            ClassAtom::Escape(it) => Ok(CharacterClassContents::CharacterClassEscape(it)),
             ClassAtom::Property(it) => {
                 Ok(CharacterClassContents::UnicodePropertyEscape(Box::new(alloc, it)?))
             }

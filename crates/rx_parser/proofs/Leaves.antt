@@ -48,27 +48,27 @@ leaf_is term l t at after m e k s = record {
   good = λ mode. subst (IsNode mode) (sym m) tt;
 }
 
-pub boundary_is_leaf : (b : Box BoundaryAssertion Global) (kind : BoundaryAssertionKind) (at after : ℕ) → b.value ≡ record { span = record { start = at; end = after }; kind = kind }
+pub boundary_is_leaf : (b : BoundaryAssertion) (kind : BoundaryAssertionKind) (at after : ℕ) → b ≡ record { span = record { start = at; end = after }; kind = kind }
     → IsLeafOf (variant.BoundaryAssertion b) (boundary kind) at after
 boundary_is_leaf b kind at after e =
-    leaf_is (variant.BoundaryAssertion b) (tree.boundary b.value) (boundary kind) at after (mirror.boundary_is b) (ap (λ x. token (boundary x.kind)) e) (ap (λ x. boundary x.kind) e) (ap (λ x. x.span) e)
+    leaf_is (variant.BoundaryAssertion b) (tree.boundary b) (boundary kind) at after (mirror.boundary_is b) (ap (λ x. token (boundary x.kind)) e) (ap (λ x. boundary x.kind) e) (ap (λ x. x.span) e)
 
-pub character_is_leaf : (b : Box Character Global) (kind : CharacterKind) (value at after : ℕ) → b.value ≡ record { span = record { start = at; end = after }; kind = kind; value = value }
+pub character_is_leaf : (b : Character) (kind : CharacterKind) (value at after : ℕ) → b ≡ record { span = record { start = at; end = after }; kind = kind; value = value }
     → IsLeafOf (variant.Character b) (character kind value) at after
 character_is_leaf b kind value at after e =
-    leaf_is (variant.Character b) (tree.character b.value) (character kind value) at after (mirror.character_is b) (ap (λ x. token (character x.kind x.value)) e) (ap (λ x. character x.kind x.value) e) (ap (λ x. x.span) e)
+    leaf_is (variant.Character b) (tree.character b) (character kind value) at after (mirror.character_is b) (ap (λ x. token (character x.kind x.value)) e) (ap (λ x. character x.kind x.value) e) (ap (λ x. x.span) e)
 
 pub dot_is_leaf : (d : Dot) (at after : ℕ) → d ≡ record { span = record { start = at; end = after } } → IsLeafOf (variant.Dot d) dot at after
 dot_is_leaf d at after e = leaf_is (variant.Dot d) (tree.dot d) dot at after (mirror.dot_is d) refl refl (ap (λ x. x.span) e)
 
-pub class_escape_is_leaf : (b : Box CharacterClassEscape Global) (kind : CharacterClassEscapeKind) (at after : ℕ) → b.value ≡ record { span = record { start = at; end = after }; kind = kind }
+pub class_escape_is_leaf : (b : CharacterClassEscape) (kind : CharacterClassEscapeKind) (at after : ℕ) → b ≡ record { span = record { start = at; end = after }; kind = kind }
     → IsLeafOf (variant.CharacterClassEscape b) (class_escape kind) at after
 class_escape_is_leaf b kind at after e =
-    leaf_is (variant.CharacterClassEscape b) (tree.class_escape b.value) (class_escape kind) at after (mirror.escape_is b) (ap (λ x. token (class_escape x.kind)) e) (ap (λ x. class_escape x.kind) e) (ap (λ x. x.span) e)
+    leaf_is (variant.CharacterClassEscape b) (tree.class_escape b) (class_escape kind) at after (mirror.escape_is b) (ap (λ x. token (class_escape x.kind)) e) (ap (λ x. class_escape x.kind) e) (ap (λ x. x.span) e)
 
-pub indexed_is_leaf : (b : Box IndexedReference Global) (n at after : ℕ) → b.value ≡ record { span = record { start = at; end = after }; index = n } → IsLeafOf (variant.IndexedReference b) (indexed n) at after
+pub indexed_is_leaf : (b : IndexedReference) (n at after : ℕ) → b ≡ record { span = record { start = at; end = after }; index = n } → IsLeafOf (variant.IndexedReference b) (indexed n) at after
 indexed_is_leaf b n at after e =
-    leaf_is (variant.IndexedReference b) (tree.indexed b.value) (indexed n) at after (mirror.indexed_is b) (ap (λ x. token (indexed x.index)) e) (ap (λ x. indexed x.index) e) (ap (λ x. x.span) e)
+    leaf_is (variant.IndexedReference b) (tree.indexed b) (indexed n) at after (mirror.indexed_is b) (ap (λ x. token (indexed x.index)) e) (ap (λ x. indexed x.index) e) (ap (λ x. x.span) e)
 
 pub named_is_leaf : (b : Box NamedReference Global) (name : List ℕ) (at after : ℕ) → b.value ≡ record { span = record { start = at; end = after }; name = name } → IsLeafOf (variant.NamedReference b) (named name) at after
 named_is_leaf b name at after e =

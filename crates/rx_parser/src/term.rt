@@ -24,26 +24,16 @@ use rx_units::{CodePoint, Reader};
 use std::alloc::Global;
 
 /// The term that a leaf is.
-pub fn term(alloc: Global, leaf: Leaf, span: Span) -> Result<Term, OutOfMemory>
-    ensures { IfOk result (λ it. IsLeafOf it (leaf_token leaf) span.start span.end) }
+pub fn term(leaf: Leaf, span: Span) -> Term
+    ensures { IsLeafOf result (leaf_token leaf) span.start span.end }
 {
     match leaf {
-        Leaf::Boundary(kind) => {
-            let boundary = BoundaryAssertion { span, kind };
-            Ok(Term::BoundaryAssertion(Box::new(alloc, boundary)?))
-        }
-        Leaf::Character { kind, value } => {
-            let character = Character { span, kind, value };
-            Ok(Term::Character(Box::new(alloc, character)?))
-        }
-        Leaf::Dot => Ok(Term::Dot(Dot { span })),
-        Leaf::ClassEscape(kind) => {
-            let escape = CharacterClassEscape { span, kind };
-            Ok(Term::CharacterClassEscape(Box::new(alloc, escape)?))
-        }
+        Leaf::Boundary(kind) => Term::BoundaryAssertion(BoundaryAssertion { span, kind }),
+        Leaf::Character { kind, value } => Term::Character(Character { span, kind, value }),
+        Leaf::Dot => Term::Dot(Dot { span }),
+        Leaf::ClassEscape(kind) => Term::CharacterClassEscape(CharacterClassEscape { span, kind }),
         Leaf::IndexedReference(index) => {
-            let reference = IndexedReference { span, index };
-            Ok(Term::IndexedReference(Box::new(alloc, reference)?))
+            Term::IndexedReference(IndexedReference { span, index })
         }
     }
 }

@@ -36,7 +36,7 @@ pub fn turn(
 {
     let at = here(reader, spans);
     match found_here(reader, state, builder) {
-        Found::Leaf { leaf, length } => Ok(take_leaf(alloc, reader, spans, builder, leaf, length)?),
+        Found::Leaf { leaf, length } => Ok(take_leaf(reader, spans, builder, leaf, length)?),
         Found::NamedReference { length } => {
             named_reference(alloc, reader, state, spans, builder, length)
         }
@@ -98,7 +98,6 @@ fn has_names(state: &State) -> bool
 /// Reads a term that is one token of so many units, and gives it to the builder.
 #[tactic(auto, using(rx_class::proofs::Fitting::moved_are_fitting))]
 fn take_leaf(
-    alloc: Global,
     reader: &mut Reader<'_>,
     spans: &SpanFactory,
     builder: &mut Builder,
@@ -112,7 +111,7 @@ fn take_leaf(
     let at = here(reader, spans);
     reader.skip(length);
     let span = Span::new(at, here(reader, spans));
-    builder.leaf(term(alloc, leaf, span)?)?;
+    builder.leaf(term(leaf, span))?;
     Ok(())
 }
 

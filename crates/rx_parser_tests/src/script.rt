@@ -70,7 +70,7 @@ fn begin(
     let span = Span::new(at, after);
     let group_kind = match sign {
         '.' => return builder.leaf(Term::Dot(Dot { span })),
-        '^' => return builder.leaf(start_of(alloc, span)?),
+        '^' => return builder.leaf(start_of(span)),
         'N' => GroupKind::Capturing(Some(Text::from_str(alloc, "n")?)),
         '=' => GroupKind::LookAround(LookAroundAssertionKind::Lookahead),
         '!' => GroupKind::LookAround(LookAroundAssertionKind::NegativeLookahead),
@@ -81,10 +81,9 @@ fn begin(
     builder.open(alloc, group_kind, at, after)
 }
 
-fn start_of(alloc: Global, span: Span) -> Result<Term, OutOfMemory> {
-    let it = BoundaryAssertion {
+fn start_of(span: Span) -> Term {
+    Term::BoundaryAssertion(BoundaryAssertion {
         span,
         kind: BoundaryAssertionKind::Start,
-    };
-    Ok(Term::BoundaryAssertion(Box::new(alloc, it)?))
+    })
 }

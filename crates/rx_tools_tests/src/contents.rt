@@ -46,11 +46,11 @@ fn spelled_class(
 fn contents_of(alloc: Global, sign: char) -> Result<CharacterClassContents, OutOfMemory> {
     match sign {
         'r' => range(alloc),
-        'e' => escape(alloc),
+        'e' => Ok(escape()),
         'p' => letters(alloc),
         's' => three_strings(alloc),
         'c' => empty_class(alloc),
-        _ => in_class(alloc, sign as u32),
+        _ => Ok(in_class(sign as u32)),
     }
 }
 
@@ -63,12 +63,11 @@ fn range(alloc: Global) -> Result<CharacterClassContents, OutOfMemory> {
     Ok(CharacterClassContents::CharacterClassRange(Box::new(alloc, range)?))
 }
 
-fn escape(alloc: Global) -> Result<CharacterClassContents, OutOfMemory> {
-    let escape = CharacterClassEscape {
+fn escape() -> CharacterClassContents {
+    CharacterClassContents::CharacterClassEscape(CharacterClassEscape {
         span: nowhere(),
         kind: CharacterClassEscapeKind::D,
-    };
-    Ok(CharacterClassContents::CharacterClassEscape(Box::new(alloc, escape)?))
+    })
 }
 
 fn letters(alloc: Global) -> Result<CharacterClassContents, OutOfMemory> {

@@ -64,27 +64,26 @@ pub fn dot() -> Term {
     Term::Dot(Dot { span: nowhere() })
 }
 
-pub fn character(alloc: Global, value: u32) -> Result<Term, OutOfMemory> {
-    Ok(Term::Character(Box::new(alloc, symbol(value))?))
+pub fn character(value: u32) -> Term {
+    Term::Character(symbol(value))
 }
 
-pub fn of_kind(alloc: Global, kind: CharacterKind, value: u32) -> Result<Term, OutOfMemory> {
-    let it = Character {
+pub fn of_kind(kind: CharacterKind, value: u32) -> Term {
+    Term::Character(Character {
         span: nowhere(),
         kind,
         value,
-    };
-    Ok(Term::Character(Box::new(alloc, it)?))
+    })
 }
 
-pub fn boundary(alloc: Global, kind: BoundaryAssertionKind) -> Result<Term, OutOfMemory> {
+pub fn boundary(kind: BoundaryAssertionKind) -> Term {
     let span = nowhere();
-    Ok(Term::BoundaryAssertion(Box::new(alloc, BoundaryAssertion { span, kind })?))
+    Term::BoundaryAssertion(BoundaryAssertion { span, kind })
 }
 
-pub fn class_escape(alloc: Global, kind: CharacterClassEscapeKind) -> Result<Term, OutOfMemory> {
+pub fn class_escape(kind: CharacterClassEscapeKind) -> Term {
     let span = nowhere();
-    Ok(Term::CharacterClassEscape(Box::new(alloc, CharacterClassEscape { span, kind })?))
+    Term::CharacterClassEscape(CharacterClassEscape { span, kind })
 }
 
 /// A look-around of a dot.
@@ -94,12 +93,11 @@ pub fn looking(alloc: Global, kind: LookAroundAssertionKind) -> Result<Term, Out
     Ok(Term::LookAroundAssertion(Box::new(alloc, LookAroundAssertion { span, kind, body })?))
 }
 
-pub fn reference(alloc: Global) -> Result<Term, OutOfMemory> {
-    let it = IndexedReference {
+pub fn reference() -> Term {
+    Term::IndexedReference(IndexedReference {
         span: nowhere(),
         index: 1,
-    };
-    Ok(Term::IndexedReference(Box::new(alloc, it)?))
+    })
 }
 
 pub fn named(alloc: Global) -> Result<Term, OutOfMemory> {
@@ -175,9 +173,8 @@ pub fn property(
     })
 }
 
-pub fn in_class(alloc: Global, value: u32) -> Result<CharacterClassContents, OutOfMemory> {
-    let it = Box::new(alloc, symbol(value))?;
-    Ok(CharacterClassContents::Character(it))
+pub fn in_class(value: u32) -> CharacterClassContents {
+    CharacterClassContents::Character(symbol(value))
 }
 
 pub fn union(body: List<CharacterClassContents>) -> CharacterClass {

@@ -20,7 +20,7 @@ const VALUES: [u32; 31] = [
 fn characters_inside(alloc: Global, mode: Mode, values: &[u32]) -> Result<Text, OutOfMemory> {
     let mut body = List::new(alloc);
     for value in values {
-        body.push(in_class(alloc, *value)?)?;
+        body.push(in_class(*value))?;
     }
     spelled_term(alloc, mode, class_term(alloc, union(body))?)
 }

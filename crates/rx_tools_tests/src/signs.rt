@@ -43,10 +43,10 @@ fn terms_of(alloc: Global, signs: &str) -> Result<List<Term>, OutOfMemory> {
 
 fn term_of(alloc: Global, sign: char) -> Result<Term, OutOfMemory> {
     match sign {
-        '1' => reference(alloc),
-        '9' => character(alloc, 0x39),
-        'q' => quantified(alloc, 0, None, true, reference(alloc)?),
-        'm' => quantified(alloc, 0, None, true, character(alloc, 0x39)?),
+        '1' => Ok(reference()),
+        '9' => Ok(character(0x39)),
+        'q' => quantified(alloc, 0, None, true, reference()),
+        'm' => quantified(alloc, 0, None, true, character(0x39)),
         'c' => digit_class(alloc),
         'n' => named(alloc),
         '.' => Ok(dot()),
@@ -56,7 +56,7 @@ fn term_of(alloc: Global, sign: char) -> Result<Term, OutOfMemory> {
 
 fn digit_class(alloc: Global) -> Result<Term, OutOfMemory> {
     let mut body = List::new(alloc);
-    body.push(in_class(alloc, 0x39)?)?;
+    body.push(in_class(0x39))?;
     class_term(alloc, union(body))
 }
 
@@ -70,7 +70,7 @@ fn escape_of(alloc: Global, sign: char) -> Result<Term, OutOfMemory> {
         'W' => CharacterClassEscapeKind::NegativeW,
         _ => return boundary_of(alloc, sign),
     };
-    class_escape(alloc, kind)
+    Ok(class_escape(kind))
 }
 
 fn boundary_of(alloc: Global, sign: char) -> Result<Term, OutOfMemory> {
@@ -84,7 +84,7 @@ fn boundary_of(alloc: Global, sign: char) -> Result<Term, OutOfMemory> {
         'Z' => BoundaryAssertionKind::EndBufferOptionalNewline,
         _ => return look_of(alloc, sign),
     };
-    boundary(alloc, kind)
+    Ok(boundary(kind))
 }
 
 fn look_of(alloc: Global, sign: char) -> Result<Term, OutOfMemory> {
@@ -102,8 +102,8 @@ fn group_with(alloc: Global, sign: char) -> Result<Term, OutOfMemory> {
     match sign {
         '(' => group_of(alloc, None, dot()),
         'N' => group_of(alloc, Some(Text::from_str(alloc, "größe")?), dot()),
-        'g' => group_of(alloc, None, character(alloc, 0x39)?),
-        'h' => group_of(alloc, None, reference(alloc)?),
+        'g' => group_of(alloc, None, character(0x39)),
+        'h' => group_of(alloc, None, reference()),
         ':' => ignoring(alloc, None),
         _ => unspelled(alloc, sign),
     }
@@ -112,9 +112,9 @@ fn group_with(alloc: Global, sign: char) -> Result<Term, OutOfMemory> {
 /// A term that no text spells.
 fn unspelled(alloc: Global, sign: char) -> Result<Term, OutOfMemory> {
     match sign {
-        '0' => character(alloc, 0xFFFFFFFF),
-        '2' => of_kind(alloc, CharacterKind::Null, 0x41),
-        '3' => of_kind(alloc, CharacterKind::ControlLetter, 0x1F),
+        '0' => Ok(character(0xFFFFFFFF)),
+        '2' => Ok(of_kind(CharacterKind::Null, 0x41)),
+        '3' => Ok(of_kind(CharacterKind::ControlLetter, 0x1F)),
         '4' => quantified(alloc, 5, Some(2), true, dot()),
         '5' => quantified(
             alloc,
@@ -124,8 +124,8 @@ fn unspelled(alloc: Global, sign: char) -> Result<Term, OutOfMemory> {
             quantified(alloc, 0, None, true, dot())?,
         ),
         '6' => modified(alloc, 0, 0xF8),
-        '7' => character(alloc, 0xD83D),
-        _ => character(alloc, 0xDE00),
+        '7' => Ok(character(0xD83D)),
+        _ => Ok(character(0xDE00)),
     }
 }
 
@@ -133,7 +133,7 @@ fn unspelled(alloc: Global, sign: char) -> Result<Term, OutOfMemory> {
 pub fn characters_outside(alloc: Global, mode: Mode, values: &[u32]) -> Result<Text, OutOfMemory> {
     let mut terms = List::new(alloc);
     for value in values {
-        terms.push(character(alloc, *value)?)?;
+        terms.push(character(*value))?;
     }
     spelled(alloc, mode, terms)
 }

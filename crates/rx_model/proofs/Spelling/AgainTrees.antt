@@ -32,20 +32,20 @@ module _ (mode : Mode) where
 
   -- the node that a level of a term is
   abbrev shape : Layer → Node
-  shape (layer.BoundaryAssertion b) = leaf (tree.boundary b.value)
+  shape (layer.BoundaryAssertion b) = leaf (tree.boundary b)
   shape (layer.LookAroundAssertion b) =
       let h = out-LookAroundAssertion b.value in group h.span (tree.looking h.kind) (mirror_disjunction h.body).0 (mirror_disjunction h.body).1
   shape (layer.Quantifier b) = quantified b.value.span b.value.min b.value.max b.value.greedy (mirror_term b.value.body)
-  shape (layer.Character b) = leaf (tree.character b.value)
+  shape (layer.Character b) = leaf (tree.character b)
   shape (layer.Dot d) = leaf (tree.dot d)
-  shape (layer.CharacterClassEscape b) = leaf (tree.class_escape b.value)
+  shape (layer.CharacterClassEscape b) = leaf (tree.class_escape b)
   shape (layer.UnicodePropertyEscape b) = leaf (tree.property b.value)
   shape (layer.CharacterClass b) = leaf (tree.class (mirror_class b.value))
   shape (layer.CapturingGroup b) =
       let h = out-CapturingGroup b.value in group h.span (tree.capturing h.name) (mirror_disjunction h.body).0 (mirror_disjunction h.body).1
   shape (layer.IgnoreGroup b) =
       let h = out-IgnoreGroup b.value in group h.span (tree.ignoring h.modifiers) (mirror_disjunction h.body).0 (mirror_disjunction h.body).1
-  shape (layer.IndexedReference b) = leaf (tree.indexed b.value)
+  shape (layer.IndexedReference b) = leaf (tree.indexed b)
   shape (layer.NamedReference b) = leaf (tree.named b.value)
 
   shape_is : (x : Layer) → mirror_term (roll-Term x) ≡ shape x
@@ -76,9 +76,9 @@ module _ (mode : Mode) where
 
   character_made : (r : Bool) (x : Layer) (c : Character) → shape x ≡ leaf (tree.character c) → Made (leaf (tree.character (again_character mode r c)))
   character_made r (layer.Character b) c e =
-      let same : b.value ≡ c = cc e in
-      let box = record b { value = again_character mode r b.value } in
-      (term.Character box, equations.character_is box ∙ ap (λ c. leaf (tree.character (again_character mode r c))) same)
+      let same : b ≡ c = cc e in
+      let again = again_character mode r b in
+      (term.Character again, equations.character_is again ∙ ap (λ c. leaf (tree.character (again_character mode r c))) same)
   character_made r x c e = absurd (let f : ⊥ = cc e in f)
 
   class_leaf_made : (x : Layer) (c : Class) → shape x ≡ leaf (tree.class c) → Made (leaf (tree.class (again_class mode c)))

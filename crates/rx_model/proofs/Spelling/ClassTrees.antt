@@ -22,8 +22,8 @@ module _ (mode : Mode) where
       let box = record b { value = again_range mode b.value } in
       (contents.CharacterClassRange box, equations.range_is box ∙ ap (again_member mode) (sym (equations.range_is b) ∙ ap mirror_contents (sym (views.rolls-CharacterClassRange b))))
   contents_made (layer.Character b) =
-      let box = record b { value = again_in_class mode b.value } in
-      (contents.Character box, equations.character_is box ∙ ap (again_member mode) (sym (equations.character_is b) ∙ ap mirror_contents (sym (views.rolls-Character b))))
+      let again = again_in_class mode b in
+      (contents.Character again, equations.character_is again ∙ ap (again_member mode) (sym (equations.character_is b) ∙ ap mirror_contents (sym (views.rolls-Character b))))
   contents_made (layer.CharacterClassEscape b) =
       let e = ap mirror_contents (views.rolls-CharacterClassEscape b) ∙ equations.escape_is b in (contents.CharacterClassEscape b, equations.escape_is b ∙ sym (ap (again_member mode) e))
   contents_made (layer.UnicodePropertyEscape b) =

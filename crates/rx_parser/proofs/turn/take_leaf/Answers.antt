@@ -9,9 +9,9 @@ returns c =
     let h = c.requires.before in
     let b = c.args.builder.now in
     let span = c.new-span in
-    let its = c.in_ok-term.ensures in
+    let its = c.term.ensures in
     let it = c.in_ok-leaf.ensures in
-    leaf_turned h c.leaf.new.self c.skip.new.self (leaf_token c.args.leaf) c.args.length span.result.start span.result.end c.in_ok-term.field-0
+    leaf_turned h c.leaf.new.self c.skip.new.self (leaf_token c.args.leaf) c.args.length span.result.start span.result.end c.term.result
     (passed h c.requires.found (ap (λ s. s.start) span.ensures ∙ c.here-at.ensures) (ap (λ s. s.end) span.ensures ∙ c.here.ensures) c.skip.ensures)
     (c.requires.found.2 (text_names b.mode c.args.reader.now.units)) its
     (record { events = it.events; openers_are = it.openers; ready_is = it.ready; good = it.good (its.good b.mode); mode = it.mode })
