@@ -10,7 +10,7 @@ use Rattle.rx_ast.specs.declared.term.LookAroundAssertion.{LookAroundAssertion, 
 use Rattle.rx_ast.specs.declared.term.Quantifier.{Quantifier}
 use Rattle.rx_ast.specs.declared.term.Term.{Term}
 use Rattle.rx_ast.specs.declared.term.Term.TheVariants as term
-use Rattle.rx_ast.specs.Size.{node_size, alternatives_size, term_size, terms_size, disjunction_size, all_alternatives_size}
+use Rattle.rx_ast.specs.Size.{node_size, alternatives_size, term_size, terms_size, disjunction_size, disjunctions_size, all_alternatives_size}
 use Rattle.rx_ast.specs.Tree.{Node, leaf, quantified, group, alternatives, mirror_term}
 use Rattle.rx_ast.proofs.Equations.{tree_of_quantifier, tree_of_capturing, tree_of_ignore, tree_of_look, disjunction_is, alternative_is}
 
@@ -38,6 +38,10 @@ pub no_terms : terms_size [] ≡ 0
 unfolding terms_size
 no_terms = refl
 
+pub no_disjunctions : disjunctions_size [] ≡ 0
+unfolding disjunctions_size
+no_disjunctions = refl
+
 pub no_alternatives : all_alternatives_size [] ≡ 0
 unfolding all_alternatives_size
 no_alternatives = refl
@@ -46,6 +50,11 @@ pub terms_last : (ts : List Term) (t : Term) → terms_size (ts ++ (t ∷ [])) �
 unfolding terms_size term_size
 terms_last [] t = omega arith
 terms_last (s ∷ ts) t = let h = terms_last ts t in omega arith
+
+pub disjunctions_last : (ds : List Disjunction) (d : Disjunction) → disjunctions_size (ds ++ (d ∷ [])) ≡ disjunctions_size ds + (1 + disjunction_size d)
+unfolding disjunctions_size
+disjunctions_last [] d = omega arith
+disjunctions_last (e ∷ ds) d = let h = disjunctions_last ds d in omega arith
 
 pub alternatives_last : (as' : List Alternative) (a : Alternative) → all_alternatives_size (as' ++ (a ∷ [])) ≡ all_alternatives_size as' + (1 + terms_size a.body)
 unfolding terms_size all_alternatives_size
@@ -61,4 +70,4 @@ pub term_positive : (t : Term) → 0 < term_size t
 unfolding term_size
 term_positive t = node_positive (mirror_term t)
 
-pub ruleset sizes = (term_positive, size_of_quantifier, size_of_capturing, size_of_ignore, size_of_look, size_of_disjunction, no_terms, no_alternatives, terms_last, alternatives_last)
+pub ruleset sizes = (term_positive, size_of_quantifier, size_of_capturing, size_of_ignore, size_of_look, size_of_disjunction, no_terms, no_disjunctions, no_alternatives, terms_last, disjunctions_last, alternatives_last)

@@ -1,5 +1,5 @@
 -- How many nodes a tree has. An alternative counts too, since it may be empty.
-use Rattle.std.specs.Prelude.{ℕ, ◌+◌, List, map}
+use Rattle.std.specs.Prelude.{ℕ, ◌+◌, List, [], ◌∷◌, map}
 use Rattle.rx_ast.specs.declared.class.CharacterClassContents.{CharacterClassContents}
 use Rattle.rx_ast.specs.declared.term.Alternative.{Alternative}
 use Rattle.rx_ast.specs.declared.term.Disjunction.{Disjunction}
@@ -49,6 +49,11 @@ all_alternatives_size as' = alternatives_size (alternatives (map mirror_alternat
 
 unfoldable pub disjunction_size : Disjunction → ℕ
 disjunction_size d = alternatives_size (mirror_disjunction d).1
+
+-- Of some disjunctions, each counted as one more than it holds, as the group is that it stands in.
+unfoldable pub disjunctions_size : List Disjunction → ℕ
+disjunctions_size [] = 0
+disjunctions_size (d ∷ ds) = 1 + disjunction_size d + disjunctions_size ds
 
 unfoldable pub contents_size : CharacterClassContents → ℕ
 contents_size c = member_size (mirror_contents c)

@@ -15,6 +15,7 @@ mod surrogate_pair;
 #[cfg(test)]
 mod tests;
 mod text;
+mod text_sink;
 mod write;
 
 pub use clean::{CleanSink, CleanSource};
@@ -27,4 +28,5 @@ pub use out_of_memory::OutOfMemory;
 pub use span::{GetSpan, Span};
 pub use surrogate_pair::{combine_surrogate_pair, is_lead_surrogate, is_trail_surrogate};
 pub use text::Text;
+pub use text_sink::TextSink;
 pub use write::write_all;

@@ -1,4 +1,4 @@
-ghost use Rattle.std.specs.Prelude.{◌≡◌, [], ◌∷◌, ◌++◌, ◌<◌, ◌↔◌, length, slice_get, IsTrue, IfErr, IsSome, MatchOption, OnOk, OnErr};
+ghost use Rattle.std.specs.Prelude.{◌≡◌, [], ◌∷◌, ◌++◌, ◌<◌, ◌↔◌, length, slice_get, IsTrue, IfErr, IfOk, IsSome, MatchOption, OnOk, OnErr};
 ghost use Rattle.std.specs.Option.{option_copied};
 
 use crate::OutOfMemory;
@@ -30,6 +30,15 @@ impl<T> List<T> {
         List {
             items: Vec::new(alloc),
         }
+    }
+
+    /// Takes memory for this many items at once.
+    pub fn with_capacity(alloc: Global, capacity: usize) -> Result<List<T>, OutOfMemory>
+        ensures { IfOk result (λ list. list ≡ []) }
+    {
+        Ok(List {
+            items: Vec::with_capacity(alloc, capacity)?,
+        })
     }
 
     pub fn len(&self) -> usize

@@ -116,7 +116,7 @@ impl Source for MemorySource {
     }
 }
 
-/// A sink with room for so many bytes, with calls that are to fail.
+/// A sink with room for n bytes, with calls that are to fail.
 #[derive(Drop)]
 pub struct MemorySink {
     room: Vec<u8>,

@@ -8,6 +8,7 @@ pub struct Span {
 }
 
 impl Span {
+    #[inline]
     pub fn new(start: u32, end: u32) -> Span
         ensures { result ≡ record { start = start; end = end } }
     {

@@ -17,11 +17,11 @@ use Rattle.rx_class.specs.declared.escape_found.EscapeFound.TheVariants as found
 use Rattle.rx_class.specs.declared.legacy_escape.LegacyContext.{LegacyContext}
 use Rattle.rx_class.proofs.Modes.{unicode_by}
 
--- so many units are there as values
+-- n units are there as values
 in_units : (us : List CodePoint) (a b : List ℕ) (n : ℕ) → values us ≡ a ++ b → length a ≡ n → n ≤ length us
 in_units us a b n whole count = omega (arith, count, length-append a b, ap length whole, length-map us (λ (u : CodePoint). u.value))
 
--- an environment of so many groups
+-- an environment of n groups
 abbrev environment_by : Bool → ℕ → Bool → Environment
 environment_by unicode groups named = record { mode = mode_by unicode false; groups = groups; named = named; buffer_boundaries = true }
 

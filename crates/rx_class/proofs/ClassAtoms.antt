@@ -259,6 +259,11 @@ nothing_so_far {e} {added} {start} {old} {stayed} {new} {us} {o} whole alone cla
     let p = no_property_there (subst (λ o. GivesProperty e added start old new (Ok o)) is_none (subst (λ r. GivesProperty e added start r new (Ok o)) k.0 property_gone)) in
     (p.0, record { no_alone = ap (λ us. alone_in_class (is_unicode e.mode) (values us)) (sym whole) ∙ sym alone; no_class = k.1; no_letter = p.1 })
 
+-- no backslash stands first
+pub begins_otherwise : (us : List CodePoint) (none : CodePoint) → (get_or us 0 none).value ≢ 92 → starts 92 (values us) ≡ false
+begins_otherwise [] none h = refl
+begins_otherwise (u ∷ us) none h = false_from_ne_true _ (λ t. h (eqb-true u.value 92 t))
+
 -- A unit that is no backslash stands for itself, and a `-` is a symbol.
 module _ (e : Environment) (read : is_read e.mode ≡ true) where
   itself : (u : CodePoint) (more : List CodePoint) → (u.value == 92) ≡ false → (u.value == 93) ≡ false → (b : Bool) → (u.value == 45) ≡ b → SpellsClassCharacter e (kind_in_class u) u.value (u ∷ []) more
@@ -267,13 +272,13 @@ module _ (e : Environment) (read : is_read e.mode ≡ true) where
   itself u more k l false h = rw h (row.raw u (read_raw e.mode u.value read ∙ rw (h, k, l) refl))
 
   pub unit_gives : (added s : ℕ) (old new : Cursor) (us : List CodePoint) (none : CodePoint) (span : Span) (kind : CharacterKind) → us ≡ rest old → StandsItem (rest old) → All (λ u. u.value ≤ 0x10FFFF) us
-      → (get_or us 0 none).value ≢ 92 → new ≡ moved 1 old → s ≡ offset_of old → span ≡ span_to added s new → kind ≡ kind_in_class (get_or us 0 none)
+      → starts 92 (values (rest old)) ≡ false → new ≡ moved 1 old → s ≡ offset_of old → span ≡ span_to added s new → kind ≡ kind_in_class (get_or us 0 none)
       → GivesAtom e added old new (Ok (atom.Character (record { span = span; kind = kind; value = (get_or us 0 none).value })))
   unit_gives added s old new [] none span kind whole stands_item all no_backslash moves start covers is = absurd (stands_item.some (sym whole))
   unit_gives added s old new (u ∷ us) none span kind whole stands_item all no_backslash moves start covers is =
       let small : u.value ≤ 0x10FFFF = All-head (λ u. u.value ≤ 0x10FFFF) u us all in
       answer.some (u ∷ []) us (sym whole)
-      (rw is (itself u us (false_from_ne_true _ (λ t. no_backslash (eqb-true u.value 92 t))) (ap (λ us. starts 93 (values us)) whole ∙ stands_item.no_closer) (u.value == 45) refl))
+      (rw is (itself u us (ap (λ us. starts 92 (values us)) whole ∙ no_backslash) (ap (λ us. starts 93 (values us)) whole ∙ stands_item.no_closer) (u.value == 45) refl))
       (grind (arith, nat_tests))
       (next_span old new added s span start moves covers)
       moves

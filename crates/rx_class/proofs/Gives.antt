@@ -32,7 +32,7 @@ use Rattle.rx_class.specs.Keeping.{KeepsUnits}
 use Rattle.rx_class.proofs.Behind.{from_backslash_values}
 use Rattle.rx_class.proofs.Keeping.{keeps_on, moved_keeps}
 
--- some places on, where so many units are left
+-- some places on, where n units are left
 moved_within : (n : ℕ) (r : Cursor) → 1 ≤ n → n ≤ length (rest r) → min (r.place + n) (length r.units) ≡ r.place + n
 moved_within n r one within = let left = length-drop r.place r.units in grind arith
 

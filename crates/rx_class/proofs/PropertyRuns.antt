@@ -8,7 +8,7 @@ use Rattle.rx_units.specs.Units.{values}
 use Rattle.rx_model.specs.Characters.Escapes.{front_is}
 use Rattle.rx_model.specs.Properties.PropertyForms.{IsValueRun}
 
--- The longest run of characters of a set, of so many units, and what follows it.
+-- The longest run of characters of a set, of n units, and what follows it.
 pub record IsRunSplit (set : ℕ → Bool) (us : List CodePoint) (n : ℕ) : Type 0 where
   pub whole : values us ≡ values (take n us) ++ values (drop n us)
   pub inside : list_all set (values (take n us)) ≡ true
@@ -30,7 +30,7 @@ module _ (set : ℕ → Bool) where
   run_split [] = record { whole = refl; inside = refl; longest = refl }
   run_split (u ∷ us) = split_step u us (prefix_len (λ (u : CodePoint). set u.value) us) (set u.value) refl (run_split us)
 
--- The run of a value's characters, of so many units.
+-- The run of a value's characters, of n units.
 pub value_run : (us a b : List CodePoint) (n : ℕ) → n ≡ prefix_len (λ (u : CodePoint). is_unicode_property_value_character u.value) us → a ≡ take n us → b ≡ drop n us
     → IsValueRun (values us) (values a) (values b)
 value_run us a b n count front back =

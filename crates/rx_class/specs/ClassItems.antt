@@ -1,5 +1,5 @@
 -- What the readers of a class's atoms and of its items answer, at a place where one is to stand, by the environment of the reader's whole text.
-use Rattle.std.specs.Prelude.{◌≡◌, ℕ, ◌+◌, ◌-◌, ◌<◌, ◌≤◌, ◌==◌, ◌&&◌, ◌≢◌, Bool, false, true, Option, Some, None, Result, Ok, Err, List, [], ◌∷◌, ◌++◌, length, map, if◌then◌else◌}
+use Rattle.std.specs.Prelude.{◌≡◌, ℕ, ◌+◌, ◌-◌, ◌<◌, ◌≤◌, ◌==◌, ◌&&◌, ◌≢◌, Bool, not, nat_le, false, true, Option, Some, None, Result, Ok, Err, List, [], ◌∷◌, ◌++◌, length, map, if◌then◌else◌}
 use Rattle.rx_base.specs.declared.diagnostic.Diagnostic.{Diagnostic}
 use Rattle.rx_base.specs.declared.diagnostic.Diagnostic.TheVariants.{CharacterClassRangeOutOfOrder, CharacterClassRangeDashNotSubtraction, CharacterClassRangeInvalidAtom}
 use Rattle.rx_base.specs.declared.diagnostic.kinds.RangeKind.TheVariants as range_kind
@@ -142,6 +142,25 @@ pub data GivesItem (e : Environment) (added : ℕ) (old new : Cursor) : Result C
       → IsItem e (λ i. offset_at old.first old.units i + added) old.place (item_members it) w more → new ≡ moved (length w) old → GivesItem e added old new (Ok it)
   refused : {diagnostic : Diagnostic} → IsItemCause e added old diagnostic → KeepsUnits old new → GivesItem e added old new (Err (fault.Diagnostic diagnostic))
   no_memory : KeepsUnits old new → GivesItem e added old new (Err fault.OutOfMemory)
+
+-- An item is answered, and stands behind the contents before it.
+pub record AddsItem (e : Environment) (added : ℕ) (old new : Cursor) (before after : List CharacterClassContents) : Type 0 where
+  pub it : ClassItem
+  pub gives : GivesItem e added old new (Ok it)
+  pub adds : after ≡ before ++ item_contents it
+
+-- The first character is an item by itself: it is no backslash, and what follows it is no `-`.
+abbrev pub stands_alone : List ℕ → Bool
+stands_alone [] = false
+stands_alone (c ∷ []) = false
+stands_alone (c ∷ d ∷ w) = not (c == 92) && not (d == 45)
+
+-- The first three characters are a range whose ends stand for themselves, in order.
+abbrev pub stands_range : List ℕ → Bool
+stands_range [] = false
+stands_range (c ∷ []) = false
+stands_range (c ∷ h ∷ []) = false
+stands_range (c ∷ h ∷ d ∷ w) = h == 45 && not (c == 92) && not (d == 92) && not (d == 93) && nat_le c d
 
 -- the contents of a class
 abbrev pub contents : List CharacterClassContents → Members

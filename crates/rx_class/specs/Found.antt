@@ -22,7 +22,7 @@ seen_escape found.Nothing = nothing
 seen_escape (found.TooMany digits) = too_many digits
 seen_escape found.Invalid = no_unicode
 
--- An answer stays within so many units, and is a code point.
+-- An answer stays within n units, and is a code point.
 abbrev pub IsWithin : ℕ → EscapeFound → Type 0
 IsWithin units (found.Character kind value length) = (length ≤ units) × (value ≤ 0x10FFFF)
 IsWithin units found.Nothing = Unit {0}

@@ -58,7 +58,7 @@ abbrev pub IsPropertyHalt : Mode → List ℕ → PropertyHalt → Type 0
 IsPropertyHalt mode behind h = (us rest : List CodePoint) (first added place : ℕ) → values rest ≡ 92 ∷ behind
     → IsPropertyCause mode us first added place rest (property_refusal us first added place h)
 
--- So many of the characters behind a backslash spell a property with it.
+-- n of the characters behind a backslash spell a property with it.
 pub record IsPropertyBehind (mode : Mode) (behind : List ℕ) (negative strings : Bool) (name : List ℕ) (value : Option (List ℕ)) (count : ℕ) : Type 0 where
   pub text : List ℕ
   pub spelled : SpellsProperty mode strings name value text

@@ -4,7 +4,7 @@ ghost use Rattle.rx_class.specs.EscapeAnswers.{environment_of};
 ghost use Rattle.rx_class.specs.ClassAnswers.{GivesClass, HoldsFirstPass};
 ghost use Rattle.rx_class.specs.Fitting.{AreFitting};
 
-use crate::class_item::{class_item, push_item};
+use crate::class_item::add_item;
 use crate::spans::span_to_here;
 use rx_ast::{CharacterClass, CharacterClassContentsKind};
 use rx_base::{Diagnostic, Fault, List, Unterminated};
@@ -42,8 +42,7 @@ pub fn parse_character_class(
             let what = Unterminated::CharacterClass;
             return Err(Fault::Diagnostic(Diagnostic::UnterminatedPattern { span, what }));
         }
-        let item = class_item(alloc, reader, state, spans)?;
-        push_item(&mut body, item)?;
+        add_item(alloc, reader, state, spans, &mut body)?;
     }
     reader.advance();
     Ok(Some(CharacterClass {

@@ -1,8 +1,10 @@
-ghost use Rattle.std.specs.Prelude.{◌≡◌, IfOk, true};
+ghost use Rattle.std.specs.Prelude.{◌≡◌, IfOk, Ok, Some, false, true};
 ghost use Rattle.rx_ast.specs.ClassTree.{mirror_contents};
-ghost use Rattle.rx_units.specs.Cursor.{rest};
+ghost use Rattle.rx_units.specs.Cursor.{front, moved, rest};
 ghost use Rattle.rx_units.specs.Units.{values};
 ghost use Rattle.rx_model.specs.Characters.UnitKinds.{unit_kind};
+ghost use Rattle.rx_model.specs.FirstPass.Marks.{starts};
+ghost use Rattle.rx_model.specs.Inputs.Environment.{Environment};
 ghost use Rattle.rx_model.specs.Inputs.Modes.{is_read};
 ghost use Rattle.rx_class.specs.EscapeAnswers.{IsBehindBackslash, environment_of};
 ghost use Rattle.rx_class.specs.ClassItems.{GivesAtom, IsOfText, StandsItem, alone_in_class, atom_member, atom_span, back, kind_in_class};
@@ -67,20 +69,37 @@ pub fn class_atom(
     requires fits { AreFitting spans.now reader.old }
     ensures { GivesAtom (environment_of state.now) spans.now reader.old reader.new result }
 {
+    let unit = reader.remaining_code_points()[0];
+    if unit.value == '\\' as u32 {
+        let start = reader.offset();
+        reader.advance();
+        return escaped_atom(alloc, reader, state, spans, start);
+    }
+    Ok(ClassAtom::Character(unit_character(reader, spans)))
+}
+
+/// Reads the character that is one unit of a class, no backslash, and moves over it.
+#[inline]
+pub fn unit_character(reader: &mut Reader<'_>, spans: &SpanFactory) -> Character
+    requires stands { StandsItem (rest reader.old) }
+    requires no_backslash { starts 92 (values (rest reader.old)) ≡ false }
+    requires fits { AreFitting spans.now reader.old }
+    ensures atom { (e : Environment) → is_read e.mode ≡ true → GivesAtom e spans.now reader.old reader.new (Ok (ClassAtom.Character result)) }
+    ensures value { front (rest reader.old) ≡ Some result.value }
+    ensures reader { reader.new ≡ moved 1 reader.old }
+{
     let start = reader.offset();
     let unit = reader.remaining_code_points()[0];
     reader.advance();
-    if unit.value == '\\' as u32 {
-        return escaped_atom(alloc, reader, state, spans, start);
-    }
-    Ok(ClassAtom::Character(Character {
+    Character {
         span: span_to_here(reader, spans, start),
         kind: kind_in_class(unit),
         value: unit.value,
-    }))
+    }
 }
 
 /// The kind of a character that is one unit of a class. A `-` is a symbol, however it was written.
+#[inline]
 fn kind_in_class(unit: CodePoint) -> CharacterKind
     ensures { result ≡ kind_in_class unit }
 {
@@ -92,6 +111,7 @@ fn kind_in_class(unit: CodePoint) -> CharacterKind
 }
 
 /// The kind of a character that is one unit.
+#[inline]
 pub fn unit_kind(escape_kind: EscapeKind) -> CharacterKind
     ensures { result ≡ unit_kind escape_kind }
 {

@@ -1,16 +1,18 @@
-ghost use Rattle.std.specs.Prelude.{◌≡◌, ◌&&◌, ◌++◌, ◌∷◌, [], IfOk, OnOk, not, true};
+ghost use Rattle.std.specs.Prelude.{◌≡◌, ◌&&◌, ◌++◌, ◌∷◌, [], Err, IfErr, IfOk, Ok, OnOk, not, true};
 ghost use Rattle.rx_ast.specs.ClassTree as ClassTree;
 ghost use Rattle.rx_ast.specs.ClassTree.{mirror_contents};
 ghost use Rattle.rx_units.specs.Cursor.{rest};
 ghost use Rattle.rx_units.specs.Units.{values};
 ghost use Rattle.rx_model.specs.Classes.ClassRows.{is_dashed};
 ghost use Rattle.rx_model.specs.Classes.ClassTokens.{is_character};
+ghost use Rattle.rx_model.specs.Inputs.Environment.{Environment};
 ghost use Rattle.rx_model.specs.Inputs.Modes.{is_read};
 ghost use Rattle.rx_class.specs.EscapeAnswers.{environment_of};
-ghost use Rattle.rx_class.specs.ClassItems.{GivesItem, IsBetween, IsOfText, StandsItem, atom_member, atom_of, hyphen_member, item_contents, item_members};
+ghost use Rattle.rx_class.specs.ClassItems.{AddsItem, GivesItem, IsBetween, IsOfText, StandsItem, atom_member, atom_of, hyphen_member, item_contents, item_members, stands_alone, stands_range};
 ghost use Rattle.rx_class.specs.Fitting.{AreFitting};
+ghost use Rattle.rx_class.specs.Keeping.{KeepsUnits};
 
-use crate::class_atom::{ClassAtom, class_atom};
+use crate::class_atom::{ClassAtom, class_atom, unit_character};
 use crate::escape::is_unicode;
 use crate::spans::span_to_here;
 use rx_ast::{Character, CharacterClassContents, CharacterClassRange, CharacterKind};
@@ -31,11 +33,77 @@ pub enum ClassItem {
     },
 }
 
-/// Adds what an item is to the contents of a class.
-pub fn push_item(
+/// Reads the item that stands next in a class, moves over it, and adds what it is to the contents.
+pub fn add_item(
+    alloc: Global,
+    reader: &mut Reader<'_>,
+    state: &State,
+    spans: &SpanFactory,
     body: &mut List<CharacterClassContents>,
-    item: ClassItem,
-) -> Result<(), OutOfMemory>
+) -> Result<(), Fault>
+    requires stands { StandsItem (rest reader.old) }
+    requires read { is_read (environment_of state.now).mode ≡ true }
+    requires environment { IsOfText (environment_of state.now) reader.old }
+    requires fits { AreFitting spans.now reader.old }
+    ensures added { OnOk result (AddsItem (environment_of state.now) spans.now reader.old reader.new body.old body.new) }
+    ensures refused { IfErr result (λ fault. GivesItem (environment_of state.now) spans.now reader.old reader.new (Err fault)) }
+{
+    let units = reader.remaining_code_points();
+    if stands_alone(units) {
+        let character = unit_character(reader, spans);
+        return Ok(body.push(CharacterClassContents::Character(character))?);
+    }
+    if stands_range(units) {
+        let range = unit_range(reader, spans);
+        return Ok(body.push(range_contents(alloc, range)?)?);
+    }
+    let item = class_item(alloc, reader, state, spans)?;
+    Ok(push_item(body, item)?)
+}
+
+/// Whether the first unit is an item by itself: it is no backslash, and what follows it is no `-`.
+#[inline]
+fn stands_alone(units: &[CodePoint]) -> bool
+    ensures { result ≡ stands_alone (values units.now) }
+{
+    match units {
+        [unit, next, ..] => unit.value != '\\' as u32 && next.value != '-' as u32,
+        _ => false,
+    }
+}
+
+/// Whether the first three units are a range whose ends stand for themselves, in order.
+fn stands_range(units: &[CodePoint]) -> bool
+    ensures { result ≡ stands_range (values units.now) }
+{
+    let [low, hyphen, high, ..] = units else {
+        return false;
+    };
+    hyphen.value == '-' as u32
+        && low.value != '\\' as u32
+        && high.value != '\\' as u32
+        && high.value != ']' as u32
+        && low.value <= high.value
+}
+
+/// Reads the range of two units that stands next, and moves over it.
+#[tactic(auto, using(crate::proofs::Fitting::moved_are_fitting))]
+fn unit_range(reader: &mut Reader<'_>, spans: &SpanFactory) -> CharacterClassRange
+    requires stands { StandsItem (rest reader.old) }
+    requires range { stands_range (values (rest reader.old)) ≡ true }
+    requires fits { AreFitting spans.now reader.old }
+    ensures item { (e : Environment) (item : CharacterClassContents) → is_read e.mode ≡ true → mirror_contents item ≡ ClassTree.range result → GivesItem e spans.now reader.old reader.new (Ok (ClassItem.One item)) }
+    ensures reader { KeepsUnits reader.old reader.new }
+{
+    let min = unit_character(reader, spans);
+    reader.advance();
+    let max = unit_character(reader, spans);
+    let span = Span::new(min.span.start, max.span.end);
+    CharacterClassRange { span, min, max }
+}
+
+/// Adds what an item is to the contents of a class.
+fn push_item(body: &mut List<CharacterClassContents>, item: ClassItem) -> Result<(), OutOfMemory>
     ensures { OnOk result (body.new ≡ body.old ++ item_contents item) }
 {
     match item {
@@ -54,7 +122,7 @@ pub fn push_item(
 
 /// Reads the item that stands next in a class, an atom or a range (NonemptyClassRanges of ECMA-262, 22.2.1), and moves over it. With
 /// neither `u` nor `v` two atoms with a `-` between, of which one is no character, are three items (CharacterRangeOrUnion, B.1.2).
-pub fn class_item(
+fn class_item(
     alloc: Global,
     reader: &mut Reader<'_>,
     state: &State,

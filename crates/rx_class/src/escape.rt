@@ -133,7 +133,7 @@ fn answer(
     }
 }
 
-/// The span of so many units from the reader's place on. The reader moves over them.
+/// The span of n units from the reader's place on. The reader moves over them.
 fn next_span(reader: &mut Reader<'_>, spans: &SpanFactory, count: usize) -> Span
     requires fits { AreFitting spans.now reader.old }
     requires within { reader.old.place + count ≤ length reader.old.units }

@@ -27,7 +27,7 @@ pub enum EscapeFound {
     },
     /// No character escape.
     Nothing,
-    /// The digits behind `u{` pass 32 bits, after so many that do not.
+    /// The digits behind `u{` pass 32 bits, after n digits that do not.
     TooMany {
         digits: usize,
     },
@@ -91,7 +91,7 @@ fn first_escape(units: &[CodePoint], unicode_mode: bool) -> EscapeFound
     }
 }
 
-/// A character of a kind, by so many units behind the backslash.
+/// A character of a kind, in n units behind the backslash.
 pub fn character(kind: CharacterKind, value: u32, length: usize) -> EscapeFound
     ensures { result ≡ EscapeFound.Character kind value length }
 {

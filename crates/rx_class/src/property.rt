@@ -98,7 +98,7 @@ fn refusal(
     }
 }
 
-/// The span of so many units that stand so many units ahead. The reader moves over them.
+/// The span of `count` units that stand `ahead` units on. The reader moves over them.
 fn span_ahead(reader: &mut Reader<'_>, spans: &SpanFactory, ahead: usize, count: usize) -> Span
     requires fits { AreFitting spans.now reader.old }
     ensures span { result ≡ span_between reader.old.units reader.old.first spans.now (reader.old.place + ahead) (reader.old.place + ahead + count) }

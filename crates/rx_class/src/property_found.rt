@@ -40,9 +40,9 @@ pub enum PropertyHalt {
     Unterminated { end: usize },
     /// A value does not go with its name.
     Name { start: usize, length: usize },
-    /// So many units behind `{` are no name and no value.
+    /// n units behind `{` are no name and no value.
     NameOrValue { length: usize },
-    /// So many units behind `{` name a property of strings.
+    /// n units behind `{` name a property of strings.
     OfStrings { name: Text, length: usize },
 }
 

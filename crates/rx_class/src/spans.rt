@@ -7,6 +7,7 @@ use rx_scan::SpanFactory;
 use rx_units::Reader;
 
 /// The span from an offset to where the reader stands.
+#[inline]
 pub fn span_to_here(reader: &Reader<'_>, spans: &SpanFactory, start: u32) -> Span
     requires start { start + spans.now < 2 ^ 32 }
     requires fits { AreFitting spans.now reader.now }

@@ -22,7 +22,7 @@ use Rattle.rx_example.specs.declared.finding.Refused.{Refused}
 abbrev pub literal : List ℕ → Option (List ℕ) → Input
 literal text flags = record { form = Literal; text = text; flags = flags; text_offset = 0; flags_offset = 0 }
 
--- The input is valid, so many groups of its tree capture, and this is its canonical spelling.
+-- The input is valid, n groups of its tree capture, and this is its canonical spelling.
 pub record IsRead (input : Input) (count : ℕ) (spelled : List ℕ) : Type 0 where
   pub valid : IsValid input.text input.flags
   pub pattern : Pattern

@@ -1,10 +1,14 @@
 -- What is found at the front of a text, by what is read there.
-use Rattle.std.proofs.Common.{All, ◌≡◌, refl, sym, ap, ap₂, ◌∙◌, ℕ, ◌+◌, ◌-◌, ◌%◌, ◌≤◌, Bool, true, false, ◌==◌, ◌&&◌, Some, None, List, [], ◌∷◌, ◌++◌, length, take, drop, get_or, arith, append_assoc, length-append}
+use Rattle.std.proofs.Common.{All, ◌≡◌, refl, sym, ap, ap₂, ◌∙◌, subst, ℕ, ◌+◌, ◌-◌, ◌%◌, ◌≤◌, Bool, true, false, not, ◌==◌, ◌&&◌, Some, None, List, [], ◌∷◌, ◌++◌, length, take, drop, get_or, arith, append_assoc, length-append}
 use Rattle.std.proofs.Math.Seq.{take-append_seam}
-use Rattle.std.proofs.lemmas.Bool.{cond-false, cond-true, ne_eqb, true≢false}
+use Rattle.std.proofs.lemmas.Bool.{and_from, cond-false, cond-true, false_from_ne_true, ne_eqb, or_right, true≢false}
+use Rattle.std.proofs.lemmas.Bool.Decides.{nat_tests}
 use Rattle.std.proofs.lemmas.List.{drop-map, length-drop, length-map, map-append, take-map, take_all}
+use Rattle.rx_tables.specs.Characters.{is_syntax_character}
 use Rattle.rx_units.specs.declared.code_point.CodePoint.{CodePoint}
 use Rattle.rx_units.specs.Units.{values}
+use Rattle.rx_model.specs.declared.mode.Mode.{Mode}
+use Rattle.rx_model.specs.declared.mode.Mode.TheVariants.{Legacy, Sets, Unicode}
 use Rattle.rx_model.specs.Characters.UnicodeEscapes.{PassesHex}
 use Rattle.rx_model.specs.Characters.UnitKinds.{unit_kind}
 use Rattle.rx_model.specs.FirstPass.Marks.{starts}
@@ -15,7 +19,8 @@ use Rattle.rx_model.specs.Groups.ModifierFronts.{ModifiersHalt}
 use Rattle.rx_model.specs.Groups.NameFronts.{NameHalt, unterminated, misplaced_pair, misplaced, no_escape, no_escape_of_u, many_digits}
 use Rattle.rx_model.specs.Inputs.Environment.{Environment, is_unicode}
 use Rattle.rx_model.specs.Reading.FrontReading.{FrontHalt, ends_here, last_backslash, out_of_order, too_large, many_decimal_digits, many_hex_digits, no_unicode_escape, in_name, no_angle, no_such_group, in_modifiers, FrontRead, token_read, property_begins, class_begins, halted, front_read, syntax_read}
-use Rattle.rx_model.specs.Reading.Fronts.{front, is_raw_at}
+use Rattle.rx_model.specs.Reading.Fronts.{are_counts, counts_at, front, is_raw_at}
+use Rattle.rx_model.specs.Reading.Rows.{is_legacy_syntax, stands_raw}
 use Rattle.rx_model.specs.Refusals.Stops.{IsStop, at_end, at_closer, at_bracket, at_brace, behind_backslash}
 use Rattle.rx_model.specs.Trees.Token.{Token, Opener, boundary, character, dot, class_escape, property, class, indexed, named, opener, closer, bar, quantifier, capturing, ignoring, looking}
 use Rattle.rx_model.proofs.Groups.GroupNames.{group_name_read, name_anywhere}
@@ -24,8 +29,10 @@ use Rattle.rx_model.proofs.Groups.ModifierFronts.{AreWrong, unknown, duplicated,
 use Rattle.rx_model.proofs.Groups.NameFronts.{EscapeBehind, SaysNameHalt}
 use Rattle.rx_model.proofs.Quantifiers.CountsReading.{limit_within}
 use Rattle.rx_model.proofs.Reading.FrontReading.{Says, SaysHalt, front_said}
-use Rattle.rx_model.proofs.Reading.Fronts.{Front, front_spelled}
+use Rattle.rx_model.proofs.Reading.Fronts.{Front, front_spelled, legacy_syntax}
 use Rattle.rx_parser.specs.Found.{HoldsName, IsFound, IsOpenerFound, found_front, found_halt, found_opener}
+use Rattle.rx_parser.specs.declared.found.Found.TheVariants as found
+use Rattle.rx_parser.specs.declared.found.Leaf.TheVariants as leaf
 use Rattle.rx_parser.specs.HaltPlaces.{halt_end}
 use Rattle.rx_parser.specs.Names.{found_name_halt}
 
@@ -47,6 +54,22 @@ syntax_alone e (u ∷ us) d l raw no_backslash no_bracket =
     ∙ cond-false (u.value == 92) _ _ (ne_eqb u.value 92 no_backslash)
     ∙ cond-false (u.value == 91) _ _ (ne_eqb u.value 91 no_bracket)
     ∙ ap (λ us. syntax_read e u.value (values us)) (sym behind)
+
+-- What is no SyntaxCharacter stands for itself in every mode, whatever follows.
+plain_stands : (mode : Mode) (c : ℕ) → is_syntax_character c ≡ false → stands_raw mode c ≡ true
+plain_stands Legacy c h = ap not (false_from_ne_true (is_legacy_syntax c) (λ legacy. true≢false (sym (legacy_syntax c legacy) ∙ h)))
+plain_stands Unicode c h = ap not h
+plain_stands Sets c h = ap not h
+
+plain_counts : (c : ℕ) → is_syntax_character c ≡ false → ((c == 42) ≡ false) × ((c == 43) ≡ false) × ((c == 63) ≡ false) × ((c == 123) ≡ false)
+plain_counts c h = (grind (arith, nat_tests), grind (arith, nat_tests), grind (arith, nat_tests), grind (arith, nat_tests))
+
+plain_begins_none : (c : ℕ) (w : List ℕ) → is_syntax_character c ≡ false → are_counts (counts_at (c ∷ w)) ≡ false
+unfolding counts_at
+plain_begins_none c w h = let no = plain_counts c h in rw (no.0, no.1, no.2, no.3) refl
+
+plain_raw : (e : Environment) (c : ℕ) (w : List ℕ) → is_syntax_character c ≡ false → is_raw_at e c w ≡ true
+plain_raw e c w h = and_from (stands_raw e.mode c) _ (plain_stands e.mode c h) (or_right (is_unicode e.mode) _ (ap not (plain_begins_none c w h)))
 
 -- a name between three units and `>`
 named_units : (m : Bool) (a b c : ℕ) (us w rest : List CodePoint) (name spelled : List ℕ) (n : ℕ) → us ≡ w ++ rest → length w ≡ n → values w ≡ a ∷ b ∷ c ∷ (spelled ++ (62 ∷ []))
@@ -173,3 +196,8 @@ module _ (e : Environment) (us : List CodePoint) where
       go property_begins h s = s
       go class_begins h s = s
       go (halted it) h s = ((it, h, refl), halt_within it s)
+
+  -- A unit that is no SyntaxCharacter is found there.
+  pub plain_found : (d : CodePoint) → (is_unicode e.mode ≡ true → e.named ≡ true) → All (λ (u : CodePoint). u.value ≤ 0x10FFFF) us → 1 ≤ length us → is_syntax_character (get_or us 0 d).value ≡ false
+      → IsFound e us (found.Leaf (leaf.Character (unit_kind (get_or us 0 d).escape_kind) (get_or us 0 d).value) 1)
+  plain_found d allowed small some plain = subst (IsFound e us) (ap found_front (raw_alone e us d some (plain_raw e _ _ plain))) (front_found allowed small)

@@ -147,7 +147,7 @@ module _ {mode : Mode} (us : List CodePoint) (first added : ℕ) (b : Builder) (
   abbrev IsOfCause : Fault → Type 0
   IsOfCause fault = (cause : Refusal) × (fault ≡ Diagnostic cause) × Causes cause
 
-  -- Terms end, and so many units on reading stands: outside groups, or in the innermost one.
+  -- Terms end, and n units on reading stands: outside groups, or in the innermost one.
   ended_cause : (behind at : ℕ) (fault : Fault) → IsStop here left behind → starts 41 (values left) ≡ false → (b.frames ≡ [] → left ≡ [] → ⊥) → at ≡ place + behind → IsEndedFault us first added at b fault
       → IsOfCause fault
   ended_cause behind at fault stop not_closed some e f = elim f [ inl p ↦ pattern p.0 p.1 | inr p ↦ group p.0 p.1 p.2 p.3 ]

@@ -9,7 +9,7 @@ use Rattle.rx_parser.specs.declared.found.Found.TheVariants as found
 use Rattle.rx_parser.specs.declared.found.Halt.{Halt}
 use Rattle.rx_parser.specs.declared.name.NameFound.TheVariants as name_found
 
--- a name of so many units
+-- a name of n units
 pub name_answered : (make : List ℕ → Token) (r : NameRead) (n : ℕ) → name_found.Name n ≡ found_name r → (name : List ℕ) × (with_name make r ≡ token_read (make name) (n + 4))
 name_answered make (name_read name k) n h = let same : k ≡ n = cc h in (name, ap (λ k. token_read (make name) (k + 4)) same)
 name_answered make (no_name_read it) n h = absurd (let no : ⊥ = cc h in no)

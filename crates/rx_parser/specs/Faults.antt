@@ -46,7 +46,7 @@ IsEndedFault us first added at b it =
     ⊎ ((outer : List Frame) × (group : Frame) × (b.frames ≡ outer ++ (group ∷ []))
     × (it ≡ Diagnostic (UnterminatedPattern (record { start = group.start; end = offset_at first us at + added }) (unterminated (opener_of (opener_tree group.group_kind))))))
 
--- what is wrong where a halt names this span, in a pattern with so many groups; of a stop, outside groups
+-- what is wrong where a halt names this span, in a pattern with n groups; of a stop, outside groups
 abbrev pub halt_refusal : Halt → Span → ℕ → Refusal
 halt_refusal (halt.Stop behind) span groups = ParsePatternIncomplete span
 halt_refusal halt.LastBackslash span groups = InvalidExtendedAtomEscape span
@@ -61,7 +61,7 @@ halt_refusal halt.NoGroupName span groups = EmptyGroupSpecifier span
 halt_refusal (halt.NoSuchGroup n) span groups = InvalidIndexedReference span groups
 halt_refusal (halt.Modifiers what n) span groups = modifiers_refusal what span
 
--- the fault of a pattern with so many groups that halts at this place
+-- the fault of a pattern with n groups that halts at this place
 abbrev pub IsHaltFault : List CodePoint → ℕ → ℕ → ℕ → Builder → ℕ → Halt → Fault → Type 0
 IsHaltFault us first added place b groups (halt.Stop behind) it = IsEndedFault us first added (place + behind) b it
 IsHaltFault us first added place b groups reason it =

@@ -38,17 +38,17 @@ abbrev pub boundary_front : Environment → List ℕ → Option BoundaryAssertio
 boundary_front e [] = None
 boundary_front e (c ∷ cs) = boundary_at e c
 
--- a token of so many units stands next, which owes nothing to names
+-- a token of n units stands next, which owes nothing to names
 abbrev pub Stands : Environment → List CodePoint → Token → ℕ → Type 0
 Stands e us t n = (front e us ≡ Some (t, n)) × (n ≤ length us) × ((names : List (List ℕ)) → Obeys e.groups names t)
 
--- what so many units are ends with a name and `>`, and the name begins at the third unit
+-- what n units are ends with a name and `>`, and the name begins at the third unit
 pub record HoldsName (unicode_mode : Bool) (us : List CodePoint) (name : List ℕ) (n : ℕ) : Type 0 where
   pub long : 4 ≤ n
   pub within : n ≤ length us
   pub name_is : name_of unicode_mode (values (take (n - 4) (drop 3 us))) ≡ Some name
 
--- what a group of so many units begins with
+-- what a group of n units begins with
 abbrev pub IsOpenerFound : Environment → List CodePoint → ℕ → Opener → OpenerFound → Type 0
 IsOpenerFound e us n o opener_found.Capturing = o ≡ capturing None
 IsOpenerFound e us n o opener_found.Named = (name : List ℕ) × (o ≡ capturing (Some name)) × HoldsName (is_unicode e.mode) us name n
@@ -71,7 +71,7 @@ found_fault letter_twice = fault.Duplicated
 found_fault no_letter = fault.Empty
 found_fault letter_shared = fault.Invalid
 
--- the answer on a token of so many units
+-- the answer on a token of n units
 abbrev pub found_token : Token → ℕ → Found
 found_token (boundary kind) n = found.Leaf (leaf.Boundary kind) n
 found_token (character kind value) n = found.Leaf (leaf.Character kind value) n

@@ -10,7 +10,7 @@ use Rattle.rx_parser.specs.declared.found.OpenerFound.TheVariants as found
 use Rattle.rx_parser.specs.declared.frame.GroupKind.{GroupKind}
 use Rattle.rx_parser.specs.declared.frame.GroupKind.TheVariants.{Capturing, Ignoring, LookAround}
 
--- The group_kind of a group of so many units that stands next, so much being added to each offset: modifiers have the span of their text, between `(?` and `:`.
+-- The group_kind of a group of n units that stands next, an offset being added to each offset: modifiers have the span of their text, between `(?` and `:`.
 abbrev pub IsGroupKindOf : Mode → Cursor → ℕ → ℕ → OpenerFound → GroupKind → Type 0
 IsGroupKindOf mode r added n found.Capturing it = it ≡ Capturing None
 IsGroupKindOf mode r added n found.Named it = (name : List ℕ) × HoldsName (is_unicode mode) (rest r) name n × (it ≡ Capturing (Some name))

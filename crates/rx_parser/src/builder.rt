@@ -42,7 +42,30 @@ impl Builder {
         }
     }
 
+    /// The same, with memory for n terms of the first alternative.
+    pub fn with_capacity(
+        alloc: Global,
+        mode: Mode,
+        start: u32,
+        capacity: usize,
+    ) -> Result<Builder, OutOfMemory>
+        ensures events { IfOk result (λ it. builder_events it ≡ enter start ∷ enter start ∷ enter start ∷ []) }
+        ensures openers { IfOk result (λ it. openers it ≡ []) }
+        ensures ready { IfOk result (λ it. ready it ≡ false) }
+        ensures good { IfOk result IsGood }
+        ensures mode { IfOk result (λ it. it.mode ≡ mode) }
+        ensures start { IfOk result (λ it. it.start ≡ start) }
+    {
+        Ok(Builder {
+            mode,
+            start,
+            frames: List::new(alloc),
+            level: Level::with_capacity(alloc, start, capacity)?,
+        })
+    }
+
     /// Adds a term with no term in it.
+    #[inline]
     pub fn leaf(&mut self, term: Term) -> Result<(), OutOfMemory>
         ensures events { OnOk result (builder_events self.new ≡ builder_events self.old ++ term_events term) }
         ensures openers { OnOk result (openers self.new ≡ openers self.old) }

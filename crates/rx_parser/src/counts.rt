@@ -13,7 +13,7 @@ use rx_units::CodePoint;
 enum DigitsFound {
     /// All digits that stand next, and how many they are: none too.
     Digits { value: u64, count: usize },
-    /// The digit behind so many makes the number pass 64 bits.
+    /// The digit after n digits makes the number pass 64 bits.
     TooMany { digits: usize },
 }
 
@@ -26,7 +26,7 @@ pub enum CountsFound {
         length: usize,
     },
     Nothing,
-    /// The digits of a number behind `{`, from `start` on, pass 64 bits behind so many.
+    /// The digits of a number behind `{`, from `start` on, pass 64 bits after n of them.
     TooMany {
         start: usize,
         digits: usize,
@@ -57,7 +57,7 @@ fn digits_at(units: &[CodePoint]) -> DigitsFound
     }
 }
 
-/// The counts behind `{`, a number of so many digits and `,`.
+/// The counts behind `{`, a number of n digits and `,`.
 fn behind_comma(min: u64, count: usize, units: &[CodePoint]) -> CountsFound
     requires { count + 2 + length units.now < 2 ^ 64 }
     ensures { seen_counts result ≡ read_behind_comma min count (digits_read_at 0 0 (values units.now)) }
@@ -81,7 +81,7 @@ fn behind_comma(min: u64, count: usize, units: &[CodePoint]) -> CountsFound
     }
 }
 
-/// The counts behind `{` and a number of so many digits.
+/// The counts behind `{` and a number of n digits.
 fn behind_least(min: u64, count: usize, units: &[CodePoint]) -> CountsFound
     requires { count + 1 + length units.now < 2 ^ 64 }
     ensures { seen_counts result ≡ read_behind_least min count (values units.now) }

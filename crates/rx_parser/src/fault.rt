@@ -12,7 +12,8 @@ use rx_model::Mode;
 use rx_scan::SpanFactory;
 use rx_units::Reader;
 
-/// Why a pattern is refused that halts where the reader stands. It has so many groups.
+/// Why a pattern is refused that halts where the reader stands. It has n groups.
+#[cold]
 pub fn fault(
     reader: &mut Reader<'_>,
     spans: &SpanFactory,
@@ -55,7 +56,7 @@ fn named_places(halt: Halt) -> (usize, usize)
     }
 }
 
-/// What is wrong where a halt names this span, in a pattern with so many groups; of a stop, outside groups.
+/// What is wrong where a halt names this span, in a pattern with n groups; of a stop, outside groups.
 fn refusal(halt: Halt, span: Span, groups: u32) -> Diagnostic
     ensures { result ≡ halt_refusal halt span groups }
 {
@@ -85,6 +86,7 @@ fn refusal(halt: Halt, span: Span, groups: u32) -> Diagnostic
 }
 
 /// What is wrong where a quantifier of this span stands behind nothing that may have one.
+#[cold]
 pub fn lone_quantifier(mode: Mode, span: Span) -> Diagnostic
     ensures { result ≡ lone_refusal mode span }
 {
@@ -106,6 +108,7 @@ fn modifiers_fault(fault: ModifiersFault, span: Span) -> Diagnostic
 }
 
 /// Why a pattern is refused whose terms end, but for a `)`, so that reading stands where the reader does.
+#[cold]
 pub fn ended(reader: &Reader<'_>, spans: &SpanFactory, builder: &Builder) -> Fault
     requires fits { AreFitting spans.now reader.now }
     ensures { IsEndedFault reader.now.units reader.now.first spans.now reader.now.place builder.now result }
@@ -124,6 +127,7 @@ pub fn ended(reader: &Reader<'_>, spans: &SpanFactory, builder: &Builder) -> Fau
 }
 
 /// The offset where the reader stands, with the offset of the spans added.
+#[inline]
 pub fn here(reader: &Reader<'_>, spans: &SpanFactory) -> u32
     requires fits { AreFitting spans.now reader.now }
     ensures { result ≡ offset_of reader.now + spans.now }

@@ -46,7 +46,7 @@ pub enum ModifiersFault {
 /// Why no token is read. Lengths and places are in units, from the place on.
 #[derive(Clone, Copy, Debug)]
 pub enum Halt {
-    /// Terms end here, and not by a `)`; reading stands so many units on.
+    /// Terms end here, and not by a `)`; reading stands n units on.
     Stop {
         behind: usize,
     },
@@ -60,23 +60,23 @@ pub enum Halt {
     TooLarge {
         length: usize,
     },
-    /// The digits of a number from `start` on pass 64 bits behind so many.
+    /// The digits of a number from `start` on pass 64 bits after n of them.
     TooManyDigits {
         start: usize,
         digits: usize,
     },
-    /// The digits of a unicode escape from `start` on pass 32 bits behind so many.
+    /// The digits of a unicode escape from `start` on pass 32 bits after n of them.
     TooManyHexDigits {
         start: usize,
         digits: usize,
     },
-    /// A backslash begins no unicode escape where one has to stand, or in a name one of what may not stand there: the span is so many units from
+    /// A backslash begins no unicode escape where one has to stand, or in a name one of what may not stand there: the span is n units from
     /// `start` on.
     InvalidEscape {
         start: usize,
         length: usize,
     },
-    /// Behind `<`, at the second unit from here, and so many units of a name's characters neither a name ends nor an escape begins.
+    /// Behind `<`, at the second unit from here, and n units of a name's characters neither a name ends nor an escape begins.
     UnterminatedName {
         length: usize,
     },

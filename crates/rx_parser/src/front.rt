@@ -249,7 +249,7 @@ fn quantifier_at(units: &[CodePoint]) -> Found
     }
 }
 
-/// The quantifier of these counts, in so many units; or why they may not stand in braces.
+/// The quantifier of these counts, in n units; or why they may not stand in braces.
 fn quantifier(units: &[CodePoint], min: u64, max: Option<u64>, length: usize) -> Found
     ensures { result ≡ found_front (quantifier_read (counts_read min max length) (values units.now)) }
 {

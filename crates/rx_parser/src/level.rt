@@ -36,7 +36,22 @@ impl Level {
         }
     }
 
+    /// The same, with memory for n terms.
+    pub fn with_capacity(alloc: Global, at: u32, capacity: usize) -> Result<Level, OutOfMemory>
+        ensures events { IfOk result (λ it. level_events it ≡ enter at ∷ enter at ∷ []) }
+        ensures terms { IfOk result (λ it. it.terms ≡ []) }
+        ensures good { IfOk result (λ it. (mode : Mode) → IsGoodLevel mode it) }
+    {
+        Ok(Level {
+            start: at,
+            alternatives: List::new(alloc),
+            alternative_start: at,
+            terms: List::with_capacity(alloc, capacity)?,
+        })
+    }
+
     /// Adds a term.
+    #[inline]
     pub fn push(&mut self, term: Term) -> Result<(), OutOfMemory>
         ensures events { OnOk result (level_events self.new ≡ level_events self.old ++ term_events term) }
         ensures terms { OnOk result (self.new.terms ≡ self.old.terms ++ term ∷ []) }

@@ -36,7 +36,7 @@ pub fn modifiers_at(units: &[CodePoint]) -> Found
     )
 }
 
-/// The group of modifiers of so many units that a `:` ends, by the bits of both sides.
+/// The group of modifiers of n units that a `:` ends, by the bits of both sides.
 fn modified(enabling: Option<Modifier>, disabling: Option<Modifier>, length: usize) -> Found
     requires { length + 3 < 2 ^ 64 }
     ensures { result ≡ found_front (modified_read (read_bits (option_map (λ it. it.0) enabling) (option_map (λ it. it.0) disabling) length)) }

@@ -15,7 +15,7 @@ use rx_units::CodePoint;
 /// What stands behind `(?<` or `\k<`.
 #[derive(Clone, Copy, Debug)]
 pub enum NameFound {
-    /// A name of so many units, and `>`.
+    /// A name of n units, and `>`.
     Name { length: usize },
     /// Neither. The places of the halt count the three units before the name.
     Halt(Halt),
@@ -30,7 +30,7 @@ pub fn name_at(units: &[CodePoint], unicode_mode: bool) -> NameFound
     behind_name(length, tail(units, length), unicode_mode)
 }
 
-/// What stands behind so many units of a name.
+/// What stands behind n units of a name.
 fn behind_name(count: usize, units: &[CodePoint], unicode_mode: bool) -> NameFound
     requires { count + 6 + length units.now < 2 ^ 64 }
     ensures read { (name : List ℕ) → result ≡ found_name (read_behind_name unicode_mode name count (values units.now)) }
@@ -59,7 +59,7 @@ fn begins_with_pair(units: &[CodePoint]) -> bool
     }
 }
 
-/// Why what stands behind so many units of a name and a backslash is none of the name's characters.
+/// Why what stands behind n units of a name and a backslash is none of the name's characters.
 fn escape_in_name(count: usize, behind: &[CodePoint], unicode_mode: bool) -> Halt
     requires { count + 6 + length behind.now < 2 ^ 64 }
     ensures read { result ≡ found_name_halt (escape_halt unicode_mode count (values behind.now) (decoded true (values behind.now))) }

@@ -106,6 +106,9 @@ fn first_pass(state: &mut State, reader: &mut Reader<'_>, spans: &SpanFactory) -
     }
 }
 
+/// For how many terms memory is taken at once: most patterns have no more outside groups.
+const TERMS_RESERVED: usize = 16;
+
 /// The tree of a text that is read already, and whose groups are counted.
 fn read_pattern(
     alloc: Global,
@@ -121,7 +124,8 @@ fn read_pattern(
     ensures whole { IfOk result (IsWhole mode reader.old.units reader.old.first spans.now) }
     ensures refused { IfErr result (IsRefused mode reader.old.units reader.old.first spans.now) }
 {
-    let mut builder = Builder::new(alloc, mode, here(reader, spans));
+    let capacity = reader.remaining_code_points().len().min(TERMS_RESERVED);
+    let mut builder = Builder::with_capacity(alloc, mode, here(reader, spans), capacity)?;
     while !reader.remaining_code_points().is_empty() {
         turn(alloc, reader, state, spans, &mut builder)?;
     }

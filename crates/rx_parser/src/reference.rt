@@ -41,7 +41,7 @@ fn is_at_most(units: &[CodePoint], groups: u32) -> bool
     number <= groups
 }
 
-/// The reference behind a backslash, whose number begins with a digit that is not 0 (DecimalEscape of ECMA-262, 22.2.1), in a pattern with so many groups.
+/// The reference behind a backslash, whose number begins with a digit that is not 0 (DecimalEscape of ECMA-262, 22.2.1), in a pattern with n groups.
 pub fn indexed_at(behind: &[CodePoint], groups: u32) -> Found
     requires few { groups < 2 ^ 32 - 1 }
     ensures { result ≡ found_front (indexed_read groups (digits_behind 0 0 (values behind.now))) }

@@ -24,6 +24,7 @@ use rx_units::{CodePoint, Reader};
 use std::alloc::Global;
 
 /// The term that a leaf is.
+#[inline]
 pub fn term(leaf: Leaf, span: Span) -> Term
     ensures { IsLeafOf result (leaf_token leaf) span.start span.end }
 {
@@ -60,7 +61,7 @@ pub fn class_term(alloc: Global, class: CharacterClass) -> Result<Term, OutOfMem
     Ok(Term::CharacterClass(Box::new(alloc, class)?))
 }
 
-/// The name in what so many units are, a group's beginning or a reference: it stands between the third unit and the `>` at their end.
+/// The name in what n units are, a group's beginning or a reference: it stands between the third unit and the `>` at their end.
 pub fn name_in(
     alloc: Global,
     units: &[CodePoint],
@@ -76,7 +77,7 @@ pub fn name_in(
     }
 }
 
-/// What a group or look-around of so many units, which stands next, begins with. The reader stays where it stands.
+/// What a group or look-around of n units, which stands next, begins with. The reader stays where it stands.
 pub fn group_kind(
     alloc: Global,
     reader: &mut Reader<'_>,

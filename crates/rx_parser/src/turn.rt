@@ -1,5 +1,6 @@
 ghost use Rattle.std.specs.Prelude.{◌≡◌, true, IfErr, IfOk, OnOk};
 ghost use Rattle.rx_units.specs.Cursor.{rest};
+ghost use Rattle.rx_model.specs.Characters.UnitKinds.{unit_kind};
 ghost use Rattle.rx_model.specs.Inputs.Environment.{has_some};
 ghost use Rattle.rx_model.specs.Refusals.Reached.{text_environment};
 ghost use Rattle.rx_parser.specs.Faults.{IsSmall};
@@ -15,14 +16,37 @@ use crate::found::{Found, Halt, Leaf, OpenerFound};
 use crate::front::front_at;
 use crate::term::{class_term, group_kind, name_in, named_term, property_term, term};
 use rx_base::{Diagnostic, Fault, List, OutOfMemory, Span, Text};
-use rx_class::{parse_character_class, parse_character_class_escape_unicode};
+use rx_class::{parse_character_class, parse_character_class_escape_unicode, unit_kind};
 use rx_scan::{SpanFactory, State};
-use rx_units::Reader;
+use rx_tables::is_syntax_character;
+use rx_units::{CodePoint, Reader};
 use std::alloc::Global;
 
-/// Reads one token, and gives it to the builder.
-#[tactic(auto, using(rx_class::proofs::Fitting::moved_are_fitting))]
+/// Reads one token, and gives it to the builder. A unit that is no SyntaxCharacter stands for itself in every mode (PatternCharacter of ECMA-262, 22.2.1), so
+/// nothing else is looked for there.
+#[inline]
 pub fn turn(
+    alloc: Global,
+    reader: &mut Reader<'_>,
+    state: &State,
+    spans: &SpanFactory,
+    builder: &mut Builder,
+) -> Result<(), Fault>
+    requires before { IsBefore spans.now builder.old reader.old }
+    requires pass { HoldsPass builder.old.mode reader.old.units state.now }
+    ensures turned { OnOk result (IsTurned spans.now builder.old builder.new reader.old reader.new) }
+    ensures refused { IfErr result (IsRefused builder.old.mode reader.old.units reader.old.first spans.now) }
+{
+    let unit = reader.remaining_code_points()[0];
+    if is_syntax_character(unit.value) {
+        return take_found(alloc, reader, state, spans, builder);
+    }
+    Ok(plain_character(reader, spans, builder, unit)?)
+}
+
+/// Reads the token that is found where the reader stands, and gives it to the builder.
+#[tactic(auto, using(rx_class::proofs::Fitting::moved_are_fitting))]
+fn take_found(
     alloc: Global,
     reader: &mut Reader<'_>,
     state: &State,
@@ -95,7 +119,27 @@ fn has_names(state: &State) -> bool
     !state.capturing_group_names.is_empty()
 }
 
-/// Reads a term that is one token of so many units, and gives it to the builder.
+/// Reads the unit that stands next, and for itself, and gives it to the builder.
+#[inline]
+fn plain_character(
+    reader: &mut Reader<'_>,
+    spans: &SpanFactory,
+    builder: &mut Builder,
+    unit: CodePoint,
+) -> Result<(), OutOfMemory>
+    requires before { IsBefore spans.now builder.old reader.old }
+    requires found { IsFound (text_environment builder.old.mode reader.old.units) (rest reader.old) (Found.Leaf (Leaf.Character (unit_kind unit.escape_kind) unit.value) 1) }
+    ensures { OnOk result (IsTurned spans.now builder.old builder.new reader.old reader.new) }
+{
+    let leaf = Leaf::Character {
+        kind: unit_kind(unit.escape_kind),
+        value: unit.value,
+    };
+    take_leaf(reader, spans, builder, leaf, 1)
+}
+
+/// Reads a term that is one token of n units, and gives it to the builder.
+#[inline(always)]
 #[tactic(auto, using(rx_class::proofs::Fitting::moved_are_fitting))]
 fn take_leaf(
     reader: &mut Reader<'_>,
@@ -115,7 +159,7 @@ fn take_leaf(
     Ok(())
 }
 
-/// Reads a reference by name of so many units, and gives it to the builder.
+/// Reads a reference by name of n units, and gives it to the builder.
 #[tactic(auto, using(rx_class::proofs::Fitting::moved_are_fitting))]
 fn named_reference(
     alloc: Global,
@@ -202,7 +246,7 @@ fn class(
     }
 }
 
-/// Reads what a group or a look-around of so many units begins with, and opens it in the builder.
+/// Reads what a group or a look-around of n units begins with, and opens it in the builder.
 #[tactic(auto, using(rx_class::proofs::Fitting::moved_are_fitting))]
 fn open(
     alloc: Global,

@@ -1,48 +1,44 @@
 -- What replies are made of, and the replies to lines past the limit.
-use Rattle.std.proofs.Common.{◌≡◌, ◌<◌, ◌≤◌, refl, sym, ap, ◌∙◌, subst, inl, inr, ℕ, Bool, true, false, Result, Ok, Err, List, ◌++◌, append_assoc, codes, encode_utf8_all, length, arith}
-use Rattle.std.specs.Str.{chars, IsUtf8}
+use Rattle.std.proofs.Common.{◌≡◌, ◌<◌, ◌≤◌, refl, sym, ap, ◌∙◌, subst, inl, inr, ℕ, false, Ok, Err, List, ◌++◌, append_assoc, codes, encode_utf8_all, length, arith}
 use Rattle.std.proofs.lemmas.Bool.{cases_lt}
 use Rattle.std.proofs.lemmas.List.{take_all, length-take-le}
-use Rattle.std.proofs.lemmas.Str.{encodes-chars}
 use Rattle.rx_base.specs.declared.diagnostic.Diagnostic.{Diagnostic}
 use Rattle.rx_base.specs.declared.fault.Fault.TheVariants as fault
+use Rattle.rx_ast.specs.declared.term.Pattern.{Pattern}
 use Rattle.rx_ast.specs.Forget.{bare}
 use Rattle.rx_model.specs.declared.mode.Mode.{Mode}
 use Rattle.rx_model.specs.Reading.Headline.{IsAnswered, IsFaultOf, IsFirstRefusal, refused}
-use Rattle.rx_model.specs.Inputs.Inputs.{Input, mode_asked}
+use Rattle.rx_model.specs.Inputs.Inputs.{Input}
 use Rattle.rx_model.specs.Spelling.Spelling.{spelling}
-use Rattle.rx_tools.specs.declared.outcome.Canonical.{Canonical}
 use Rattle.rx_tools.specs.NotYet.{is_not_yet}
-use Rattle.rx_tools.specs.Spelled.{spelled_of}
+use Rattle.rx_tools.specs.Spelled.{read_of}
+use Rattle.rx_tools.specs.Utf8.{utf8}
 use Rattle.rx_run.specs.Request.{Request, IsRequest}
 use Rattle.rx_run.specs.Reply.{IsReply, bad, later, ok, err, bad_reply, err_reply, input_of, mode_name, ok_reply}
 use Rattle.rx_run.specs.Serving.{kept}
 
 -- the parts of an `ok` reply, added behind one another
-pub ok_reply_added : (old first second third text bytes : List ℕ) (mode : Mode) → IsUtf8 bytes → chars bytes ≡ text
-    → first ≡ old ++ (codes "ok\t" ++ mode_name mode ++ codes "\t") → second ≡ first ++ bytes → third ≡ second ++ codes "\n" → third ≡ old ++ ok_reply mode text
-ok_reply_added old first second third text bytes mode utf8 is e f g =
+pub ok_reply_added : (old first second third text : List ℕ) (mode : Mode) → first ≡ old ++ (codes "ok\t" ++ mode_name mode ++ codes "\t") → second ≡ first ++ utf8 text
+    → third ≡ second ++ codes "\n" → third ≡ old ++ ok_reply mode text
+unfolding utf8
+ok_reply_added old first second third text mode e f g =
     let front : List ℕ = codes "ok\t" ++ mode_name mode ++ codes "\t" in
-    let encoded : bytes ≡ encode_utf8_all text = sym (encodes-chars bytes utf8) ∙ ap encode_utf8_all is in
-    g ∙ ap (λ (x : List ℕ). x ++ codes "\n") (f ∙ ap (λ (x : List ℕ). x ++ bytes) e ∙ append_assoc old front bytes ∙ ap (λ (x : List ℕ). old ++ (front ++ x)) encoded)
+    g ∙ ap (λ (x : List ℕ). x ++ codes "\n") (f ∙ ap (λ (x : List ℕ). x ++ encode_utf8_all text) e ∙ append_assoc old front (encode_utf8_all text))
     ∙ append_assoc old (front ++ encode_utf8_all text) (codes "\n")
 
 -- an `ok` reply, as it was made
-pub ok_reply_is : (line : List ℕ) (request : Request) (it : Canonical) → IsRequest line request → is_not_yet request.form request.flags ≡ false → IsAnswered spelled_of (input_of request) (Ok it)
-    → IsReply line (ok_reply it.mode it.text)
+pub ok_reply_is : (line : List ℕ) (request : Request) (it : Pattern × Mode) → IsRequest line request → is_not_yet request.form request.flags ≡ false → IsAnswered read_of (input_of request) (Ok it)
+    → IsReply line (ok_reply it.1 (spelling (bare it.0) it.1))
 ok_reply_is line request it asked read answered =
-    let mode : Mode = mode_asked (input_of request) in
-    let reply : ok_reply it.mode it.text ≡ ok_reply mode (spelling (bare it.pattern) mode) =
-    ap (ok_reply it.mode) answered.text_is ∙ ap (λ (m : Mode). ok_reply m (spelling (bare it.pattern) m)) answered.mode_is in
-    let Q : List ℕ → Type 0 = λ r. IsReply line r in
-    subst Q (sym reply) (ok request it.pattern asked read answered.parsed.valid.flags_are answered.parsed.read)
+    let Q : Mode → Type 0 = λ m. IsReply line (ok_reply m (spelling (bare it.0) m)) in
+    subst Q (sym answered.mode_is) (ok request it.0 asked read answered.parsed.valid.flags_are answered.parsed.read)
 
-first_of : (input : Input) (refusal : Diagnostic) → IsFaultOf input (fault.Diagnostic refusal) → IsFirstRefusal input refusal
+pub first_of : (input : Input) (refusal : Diagnostic) → IsFaultOf input (fault.Diagnostic refusal) → IsFirstRefusal input refusal
 first_of input refusal (refused first) = first
 
 -- an `err` reply, as it was made
 pub err_reply_is : (line : List ℕ) (request : Request) (refusal : Diagnostic) → IsRequest line request → is_not_yet request.form request.flags ≡ false
-    → IsAnswered spelled_of (input_of request) (Err (fault.Diagnostic refusal)) → IsReply line (err_reply refusal)
+    → IsAnswered read_of (input_of request) (Err (fault.Diagnostic refusal)) → IsReply line (err_reply refusal)
 err_reply_is line request refusal asked read answered =
     let parsed = answered.parsed in
     err request refusal asked read (λ valid. let e = parsed.complete valid in let no : ⊥ = cc e in no) (first_of (input_of request) refusal parsed.refused)

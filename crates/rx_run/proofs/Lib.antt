@@ -5,3 +5,6 @@ pub mod Answering
 pub mod Keeping
 pub mod Servings
 pub mod Progresses
+pub mod Commands
+pub mod Generated
+pub mod Generating

@@ -18,7 +18,7 @@ and_true : (a : Bool) → (a && true) ≡ a
 and_true true = refl
 and_true false = refl
 
-AllZip-append : {A B : Type 0} (R : A → B → Type 0) (xs : List A) (ys : List B) (xs' : List A) (ys' : List B) → AllZip R xs ys → AllZip R xs' ys' → AllZip R (xs ++ xs') (ys ++ ys')
+pub AllZip-append : {A B : Type 0} (R : A → B → Type 0) (xs : List A) (ys : List B) (xs' : List A) (ys' : List B) → AllZip R xs ys → AllZip R xs' ys' → AllZip R (xs ++ xs') (ys ++ ys')
 AllZip-append R [] [] xs' ys' h g = g
 AllZip-append R (x ∷ xs) (y ∷ ys) xs' ys' h g = (h.0, AllZip-append R xs ys xs' ys' h.1 g)
 AllZip-append R [] (y ∷ ys) xs' ys' h g = absurd h

@@ -4,5 +4,7 @@ pub mod Spans
 pub mod Reply
 pub mod Serving
 pub mod Outcome
+pub mod Command
+pub mod Generator
 pub mod Status
 pub mod Served

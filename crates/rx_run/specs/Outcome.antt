@@ -12,7 +12,7 @@ pub record IsAnswered (read written : List ℕ) (all_ok : Bool) : Type 0 where
   pub written_is : written ≡ concat replies
   pub judged : all_ok ≡ list_all begins_ok replies
 
--- What was written is the front of the replies to the first lines of what was read, of which at least so many bytes are missing.
+-- What was written is the front of the replies to the first lines of what was read, of which at least n bytes are missing.
 pub record IsBegun (read written : List ℕ) (least : ℕ) : Type 0 where
   pub lines : List (List ℕ)
   pub later : List (List ℕ)

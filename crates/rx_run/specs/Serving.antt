@@ -32,7 +32,7 @@ pub record Ends (line : List ℕ) (ok : Bool) (written : List ℕ) (ok' : Bool) 
   pub judged : ok' ≡ (ok && list_all begins_ok replies)
 
 -- Behind this much of a line the bytes came, and what was written is the front of the replies to the first of their lines, of which at
--- least so many bytes are missing.
+-- least n bytes are missing.
 pub record Halts (line bytes written : List ℕ) (least : ℕ) : Type 0 where
   pub lines : List (List ℕ)
   pub later : List (List ℕ)

@@ -40,7 +40,7 @@ pub struct Input {
 }
 
 impl Input {
-    /// Takes memory for so many bytes, and no more later.
+    /// Takes memory for n bytes, and no more later.
     pub fn new(alloc: Global, size: usize) -> Result<Input, OutOfMemory>
         requires { 0 < size }
         ensures { IfOk result (λ input. input.total ≡ 0) }

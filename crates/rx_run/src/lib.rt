@@ -1,6 +1,10 @@
 //! All that the program does but its `main`: it reads lines that each hold a pattern, and writes for each line the pattern's canonical spelling, or why there is none.
+//! With the words `gen SEED COUNT` it makes patterns, and writes how many of them are read.
 #![tactic(auto)]
 
+mod command;
+mod decimal;
+mod generator;
 mod input;
 mod line;
 pub mod over_memory;

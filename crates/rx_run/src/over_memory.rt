@@ -19,7 +19,7 @@ pub fn run_clean(alloc: Global, words: &[Text], input: &[u8]) -> Status
     run(alloc, words, &mut source, &mut sink)
 }
 
-/// The replies to a text in memory, in a room of so many bytes.
+/// The replies to a text in memory, in a room of n bytes.
 pub fn replies(
     alloc: Global,
     input: &[u8],

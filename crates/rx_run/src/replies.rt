@@ -1,11 +1,14 @@
 ghost use Rattle.std.specs.Prelude.{◌≡◌, ◌++◌, ◌&&◌, ℕ, List as Sequence, [], true, false, OnOk, codes};
 ghost use Rattle.rx_base.specs.Writing.{Written};
+ghost use Rattle.rx_ast.specs.Forget.{bare};
+ghost use Rattle.rx_model.specs.Spelling.Spelling.{spelling};
 ghost use Rattle.rx_run.specs.Reply.{IsReply, begins_ok, err_reply, mode_name, ok_reply};
 
 use crate::request::Request;
 use crate::spans::add_spans;
+use rx_ast::Pattern;
 use rx_base::{Diagnostic, Failed, Fault, List, OutOfMemory, Sink, write_all};
-use rx_tools::{Canonical, Mode, Options, canonical};
+use rx_tools::{Mode, Options, append_canonical, read_pattern};
 use std::alloc::Global;
 
 /// The replies that are to be written next, and whether all replies so far begin with `ok`. The memory is used again after a write.
@@ -35,8 +38,8 @@ impl Replies {
             return self.add_refusal(b"bad\n");
         };
         let options = Options::default();
-        match canonical(alloc, request.form, request.text, request.flags, options) {
-            Ok(it) => self.add_ok(&it),
+        match read_pattern(alloc, request.form, request.text, request.flags, options) {
+            Ok((pattern, mode)) => self.add_ok(alloc, &pattern, mode),
             Err(Fault::Diagnostic(cause)) => self.add_err(&cause),
             Err(Fault::NotYet) => self.add_refusal(b"later\n"),
             Err(Fault::OutOfMemory) => Err(OutOfMemory),
@@ -52,13 +55,13 @@ impl Replies {
         self.bytes.extend_from_slice(reply)
     }
 
-    /// Adds the reply with this mode and spelling.
-    fn add_ok(&mut self, it: &Canonical) -> Result<(), OutOfMemory>
-        ensures bytes { OnOk result (self.new.bytes ≡ self.old.bytes ++ ok_reply it.now.mode it.now.text) }
+    /// Adds the reply with this mode and the spelling of a tree. After an error a part of it may stand at the end.
+    fn add_ok(&mut self, alloc: Global, pattern: &Pattern, mode: Mode) -> Result<(), OutOfMemory>
+        ensures bytes { OnOk result (self.new.bytes ≡ self.old.bytes ++ ok_reply mode (spelling (bare pattern.now) mode)) }
         ensures all_ok { self.new.all_ok ≡ self.old.all_ok }
     {
-        self.bytes.extend_from_slice(ok_front(it.mode).as_bytes())?;
-        self.bytes.extend_from_slice(it.text.as_str().as_bytes())?;
+        self.bytes.extend_from_slice(ok_front(mode).as_bytes())?;
+        append_canonical(alloc, &mut self.bytes, pattern, mode)?;
         self.bytes.extend_from_slice(b"\n")
     }
 

@@ -1,10 +1,13 @@
-ghost use Rattle.std.specs.Prelude.{◌≡◌, ◌≢◌, ◌<◌, ◌+◌, ◌↔◌, [], OnOk, IsErrOf};
+ghost use Rattle.std.specs.Prelude.{◌≡◌, ◌≢◌, ◌≤◌, ◌<◌, ◌+◌, ◌↔◌, ℕ, [], OnOk, IsErrOf};
 ghost use Rattle.std.specs.Io.KnownBytes.{IsAtEnd};
 ghost use Rattle.rx_base.specs.FaultCounts.{Rose};
+ghost use Rattle.rx_run.specs.Command.{IsGen, IsStated};
 ghost use Rattle.rx_run.specs.Outcome.{ReadsAndWrites};
-ghost use Rattle.rx_run.specs.Status.{Outcome, IsFinished, number_of};
+ghost use Rattle.rx_run.specs.Status.{Generates, GenOutcome, Outcome, IsFinished, number_of};
 ghost use Rattle.rx_run.specs.Served.{IsServed};
 
+use crate::command::Command;
+use crate::generator::generate;
 use crate::input::{Input, InputFault};
 use crate::server::{ReplyFault, Server};
 use rx_base::{OutOfMemory, Sink, Source, Text};
@@ -58,10 +61,11 @@ impl From<ReplyFault> for Interruption {
 /// How a run of the program ended.
 #[derive(Clone, Copy, Debug, PartialEq, Eq)]
 pub enum Status {
-    /// The input was read to its end, every reply was written, and every reply begins with `ok`.
+    /// The input was read to its end, every reply was written, and every reply begins with `ok`. Of `gen`: its line was written.
     AllOk,
 
-    /// The input was read to its end, every reply was written, and some reply does not begin with `ok`.
+    /// The input was read to its end, every reply was written, and some reply does not begin with `ok`. Not of `gen`, whose
+    /// patterns are all valid.
     SomeRefused,
 
     /// The words are none of the stated lists.
@@ -135,30 +139,17 @@ fn serve<S: Source, K: Sink>(
     }
 }
 
-/// Does all that the program does, for the words after its name. No words are the only stated list.
-pub fn run<S: Source, K: Sink>(
-    alloc: Global,
-    words: &[Text],
-    source: &mut S,
-    sink: &mut K,
-) -> Status
-    // What was read and written: where the input was read to its end, one reply to each line, in order, and nothing else; else the
-    // front of the replies to the first lines.
+/// Answers the lines of the input, as the program does without words.
+fn run_serve<S: Source, K: Sink>(alloc: Global, source: &mut S, sink: &mut K) -> Status
     ensures content { ReadsAndWrites (S.left source.old) (S.left source.new) (S.drawn source.old) (S.drawn source.new)
         (K.taken sink.old) (K.taken sink.new) (Outcome result) }
     ensures end { IsFinished result → IsAtEnd (S.left source.new) }
-
-    // When each status comes. So where none of these facts holds, memory ran out or the input was answered.
-    ensures usage { (result ≡ Status.Usage) ↔ (words.now ≢ []) }
-    ensures untouched { result ≡ Status.Usage → (source.new ≡ source.old) × (sink.new ≡ sink.old) }
+    ensures usage { result ≢ Status.Usage }
     ensures fixed { K.fixed sink.new ≡ K.fixed sink.old }
     ensures read_fault { result ≡ Status.ReadFault → Rose (S.faults source.old) (S.faults source.new) }
     ensures write_fault { result ≡ Status.WriteFault → Rose (K.faults sink.old) (K.faults sink.new) }
     ensures too_much { (result ≡ Status.TooMuch) ↔ (S.drawn source.old + 67108864 < S.drawn source.new) }
 {
-    if !words.is_empty() {
-        return Status::Usage;
-    }
     match serve(alloc, source, sink) {
         Ok(true) => Status::AllOk,
         Ok(false) => Status::SomeRefused,
@@ -167,5 +158,50 @@ pub fn run<S: Source, K: Sink>(
         Err(Interruption::Input(InputFault::TooMuch)) => Status::TooMuch,
         Err(Interruption::Reply(ReplyFault::Write)) => Status::WriteFault,
         Err(Interruption::Reply(ReplyFault::OutOfMemory)) => Status::OutOfMemory,
+    }
+}
+
+/// Makes patterns and writes what came of them, as the program does with the words of `gen`.
+fn run_generate<K: Sink>(alloc: Global, seed: u32, count: u32, sink: &mut K) -> Status
+    requires { count ≤ 20000 }
+    ensures written { GenOutcome result seed count (K.taken sink.old) (K.taken sink.new) }
+    ensures fixed { K.fixed sink.new ≡ K.fixed sink.old }
+    ensures write_fault { result ≡ Status.WriteFault → Rose (K.faults sink.old) (K.faults sink.new) }
+{
+    match generate(alloc, seed, count, sink) {
+        Ok(()) => Status::AllOk,
+        Err(ReplyFault::Write) => Status::WriteFault,
+        Err(ReplyFault::OutOfMemory) => Status::OutOfMemory,
+    }
+}
+
+/// Does all that the program does, for the words after its name. The stated lists of words are none, and `gen SEED COUNT`.
+pub fn run<S: Source, K: Sink>(
+    alloc: Global,
+    words: &[Text],
+    source: &mut S,
+    sink: &mut K,
+) -> Status
+    // What was read and written without words: where the input was read to its end, one reply to each line, in order, and nothing
+    // else; else the front of the replies to the first lines.
+    ensures content { words.now ≡ [] → ReadsAndWrites (S.left source.old) (S.left source.new) (S.drawn source.old) (S.drawn source.new)
+        (K.taken sink.old) (K.taken sink.new) (Outcome result) }
+    ensures end { words.now ≡ [] → IsFinished result → IsAtEnd (S.left source.new) }
+
+    // With the words of `gen` nothing is read, and the line is written, or a front of it, or nothing.
+    ensures generated { (seed count : ℕ) → IsGen words.now seed count → Generates K.taken source.old source.new sink.old sink.new seed count result }
+
+    // When each status comes. So where none of these facts holds, memory ran out, or the input was answered, or the line written.
+    ensures usage { (result ≡ Status.Usage) ↔ ¬ IsStated words.now }
+    ensures untouched { result ≡ Status.Usage → (source.new ≡ source.old) × (sink.new ≡ sink.old) }
+    ensures fixed { K.fixed sink.new ≡ K.fixed sink.old }
+    ensures read_fault { result ≡ Status.ReadFault → Rose (S.faults source.old) (S.faults source.new) }
+    ensures write_fault { result ≡ Status.WriteFault → Rose (K.faults sink.old) (K.faults sink.new) }
+    ensures too_much { (result ≡ Status.TooMuch) ↔ (S.drawn source.old + 67108864 < S.drawn source.new) }
+{
+    match Command::parse(words) {
+        None => Status::Usage,
+        Some(Command::Serve) => run_serve(alloc, source, sink),
+        Some(Command::Generate { seed, count }) => run_generate(alloc, seed, count, sink),
     }
 }

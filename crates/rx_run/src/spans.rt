@@ -1,8 +1,7 @@
 ghost use Rattle.std.specs.Prelude.{◌≡◌, ◌++◌, OnOk};
-ghost use Rattle.std.specs.Fmt.{decimal};
 ghost use Rattle.rx_run.specs.Spans.{span_text, second_text, spans_text};
 
-use itoa::Buffer;
+use crate::decimal::add_decimal;
 use rx_base::{Diagnostic, List, OutOfMemory, Span};
 
 /// Adds the spans of a refusal. After an error a part of them may stand at the end.
@@ -29,11 +28,4 @@ fn add_span(bytes: &mut List<u8>, span: Span) -> Result<(), OutOfMemory>
     add_decimal(bytes, span.start)?;
     bytes.extend_from_slice(b"..")?;
     add_decimal(bytes, span.end)
-}
-
-fn add_decimal(bytes: &mut List<u8>, n: u32) -> Result<(), OutOfMemory>
-    ensures { OnOk result (bytes.new ≡ bytes.old ++ decimal n) }
-{
-    let mut buffer = Buffer::new();
-    bytes.extend_from_slice(buffer.format(n).as_bytes())
 }

@@ -28,7 +28,7 @@ impl<R: Read + Drop> StdSource<R> {
     }
 }
 
-/// What a reader's answer is after so many bytes: the number of bytes read, and that of all. None where the reader had an error, and
+/// What a reader's answer is after n bytes: the number of bytes read, and that of all. None where the reader had an error, and
 /// where the number of all would pass its last value.
 fn read_count(drawn: u64, answer: io::Result<usize>) -> Option<(usize, u64)>
     ensures none { IsNone result ↔ (IsErr answer ⊎ IsOkAnd answer (λ count. 2 ^ 64 ≤ drawn + count)) }

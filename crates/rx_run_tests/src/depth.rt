@@ -18,20 +18,20 @@ fn is_spelled(alloc: Global, pattern: &str) -> Result<bool, OutOfMemory> {
     is_reply(alloc, pattern, &reply)
 }
 
-/// So many groups with this opener, each in the one before it.
+/// n groups with this opener, each in the one before it.
 fn nested(alloc: Global, opener: &str, depth: usize) -> Result<String, AllocError> {
     let openers = opener.repeat(alloc, depth)?;
     let closers = ")".repeat(alloc, depth)?;
     format!(in alloc; "{openers}{closers}")
 }
 
-/// A class with so many of these items.
+/// A class with n of these items.
 fn class_of(alloc: Global, item: &str, times: usize) -> Result<String, AllocError> {
     let items = item.repeat(alloc, times)?;
     format!(in alloc; "[{items}]")
 }
 
-/// Whether so many of these openers are unterminated, by this reply.
+/// Whether n of these openers are unterminated, by this reply.
 fn are_unterminated(
     alloc: Global,
     opener: &str,

@@ -6,6 +6,8 @@ mod depth;
 #[cfg(test)]
 mod ends;
 #[cfg(test)]
+mod generating;
+#[cfg(test)]
 mod limits;
 #[cfg(test)]
 mod memory;

@@ -5,7 +5,7 @@ use rx_run::run::Status;
 use std::alloc::Global;
 use std::test::Fail;
 
-/// So many lines of so many letters.
+/// n lines of m letters.
 fn letters(alloc: Global, lines: usize, letter: u8, count: usize) -> Result<List<u8>, OutOfMemory> {
     let line = vec![in alloc; letter; count]?;
     let mut input = List::new(alloc);
@@ -16,7 +16,7 @@ fn letters(alloc: Global, lines: usize, letter: u8, count: usize) -> Result<List
     Ok(input)
 }
 
-/// Runs the program on a line whose pattern has so many letters.
+/// Runs the program on a line whose pattern has n letters.
 fn run_line(alloc: Global, count: usize) -> Result<(Status, MemorySink), OutOfMemory> {
     let mut input = bytes_of(alloc, b"L\tu\t")?;
     let line = letters(alloc, 1, b'a', count)?;

@@ -11,7 +11,7 @@ pub fn bytes_of(alloc: Global, text: &[u8]) -> Result<List<u8>, OutOfMemory> {
     Ok(bytes)
 }
 
-/// Runs the program without words, from and to so many bytes at a time.
+/// Runs the program without words, from and to n bytes at a time.
 pub fn run_in_steps(
     alloc: Global,
     input: List<u8>,

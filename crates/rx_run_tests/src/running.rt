@@ -69,7 +69,7 @@ bad
 ok\tunicode\tno LF
 ";
 
-/// Whether the lines have their replies in order, from and to so many bytes at a time.
+/// Whether the lines have their replies in order, from and to n bytes at a time.
 fn are_in_order(alloc: Global, source_step: usize, sink_step: usize) -> Result<bool, OutOfMemory>
     requires source { 0 < source_step }
     requires sink { 0 < sink_step }

@@ -15,7 +15,7 @@ Passed us i =
 unit_at : (us : List CodePoint) (i : ℕ) (d : CodePoint) → i < length us → drop i us ≡ get_or us i d ∷ drop (i + 1) us
 unit_at us i d h = rw (add-one, drop-cons us i d) refl
 
-values_at : (us : List CodePoint) (i : ℕ) (d : CodePoint) → i < length us → values (drop i us) ≡ (get_or us i d).value ∷ values (drop (i + 1) us)
+pub values_at : (us : List CodePoint) (i : ℕ) (d : CodePoint) → i < length us → values (drop i us) ≡ (get_or us i d).value ∷ values (drop (i + 1) us)
 values_at us i d h = ap values (unit_at us i d h)
 
 no_eq_case : (a b : ℕ) (t : Bool) → (a == b) ≡ t → (a ≡ b → ⊥) → t ≡ false

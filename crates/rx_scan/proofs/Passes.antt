@@ -1,5 +1,5 @@
 -- One more mark of the first pass.
-use Rattle.std.proofs.Common.{◌≡◌, refl, ap, sym, ◌∙◌, subst, ℕ, zero, suc, ◌+◌, ◌<◌, ◌≤◌, Bool, true, false, cond, not, ◌&&◌, ◌||◌, Option, Some, None, List, [], ◌∷◌, ◌++◌, append_assoc, append-nil, drop, drop-cons, add-one, get_or, length, arith, ◌⊎◌, inl, inr, map}
+use Rattle.std.proofs.Common.{◌≡◌, refl, ap, sym, ◌∙◌, subst, ℕ, zero, suc, ◌+◌, ◌<◌, ◌≤◌, Bool, true, false, cond, not, ◌&&◌, ◌||◌, ◌==◌, Option, Some, None, List, [], ◌∷◌, ◌++◌, append_assoc, append-nil, drop, drop-cons, add-one, get_or, length, arith, ◌⊎◌, inl, inr, map}
 use Rattle.std.specs.Prelude.{nat_le, nat_lt, option_map}
 use Rattle.std.specs.BTreeMap.{get_by_text}
 use Rattle.std.specs.Str.{IsUtf8, bytes_eq, chars}
@@ -10,7 +10,7 @@ use Rattle.rx_model.specs.FirstPass.GroupStates.{GroupState, Hides, Nests, group
 use Rattle.rx_model.specs.FirstPass.Marks.{Mark, Clash, IsFirstClash, other, bar, closer, quiet, capturing, count, listed, mark_at, mark_count, mark_front, mark_name, marks, marks_behind, name_length, name_places, names, mark_place, places, places_behind}
 use Rattle.rx_model.specs.Trees.Names.{is_among, once_behind}
 use Rattle.rx_model.proofs.FirstPass.PartedMarks.{hidden_parted, parted_hidden, last_seen, nests}
-use Rattle.rx_scan.specs.MarkReading.{front}
+use Rattle.rx_scan.specs.MarkReading.{front, is_plain}
 use Rattle.rx_scan.specs.OpenGroups.{group_states_of, hides, hides_one}
 use Rattle.rx_scan.specs.FirstPass.{Entry, IsPassFault, IsStart, KnowsLast, LastTells, Refuses, Steps, entries, entry_at, entry_for, entry_of, first_clash, last_named, last_or, named, same_name, span_of, with_name, with_names}
 use Rattle.rx_scan.specs.Walked.{IsAt}
@@ -303,6 +303,36 @@ advanced um us at k x old new lt le pos e s w =
             clash_seen um ms a k d (h a d.in_order d.first)
       ];
     }
+
+unmoved : (s : FirstPass) (at k : ℕ) → KnowsLast (entries s) s.last_openings → Steps s s other at k
+unmoved s at k knows = record {
+  mode = refl;
+  counted = omega arith;
+  named_by = refl;
+  opened = refl;
+  listed_are = sym (append-nil (entries s));
+  knows = knows;
+  fresh = λ n e. cc;
+}
+
+none_of : {A : Type 0} (a b c d e : Bool) (v w x y z o : A) → not (a || b || c || d || e) ≡ true → cond a v (cond b w (cond c x (cond d y (cond e z o)))) ≡ o
+none_of true b c d e v w x y z o h = absurd (false≢true h)
+none_of false true c d e v w x y z o h = absurd (false≢true h)
+none_of false false true d e v w x y z o h = absurd (false≢true h)
+none_of false false false true e v w x y z o h = absurd (false≢true h)
+none_of false false false false true v w x y z o h = absurd (false≢true h)
+none_of false false false false false v w x y z o h = refl
+
+plain_front : (u : ℕ) (us : List ℕ) → is_plain u ≡ true → mark_front u us ≡ (other, 0)
+unfolding mark_front
+plain_front u us h = none_of (u == 92) (u == 91) (u == 40) (u == 41) (u == 124) _ _ _ _ _ (other, 0) h
+
+-- over a unit that opens and closes nothing
+pub passed : (um : Bool) (us : List ℕ) (at k u : ℕ) (more : List ℕ) (s : FirstPass) → at < length us → drop at us ≡ u ∷ more → is_plain u ≡ true → IsAt um us at k s → IsAt um us (at + 1) (k + 1) s
+unfolding front
+passed um us at k u more s lt d plain w =
+    advanced um us at k (other, 1) s s lt (omega arith) (omega arith)
+    (sym (ap front d ∙ ap (λ (q : Mark × ℕ). (q.0, q.1 + 1)) (plain_front u more plain))) (unmoved s at k w.knows) w
 
 places_at : (us : List ℕ) (at k : ℕ) (m : Mark) → mark_place us k ≡ at → mark_at (marks us) k ≡ m → (at + 3, at + 3 + name_length m) ≡ name_places us k
 places_at us at k m pl here = ap (λ z. (z + 3, z + 3 + name_length m)) (sym pl) ∙ ap (λ z. (mark_place us k + 3, mark_place us k + 3 + name_length z)) (sym here)

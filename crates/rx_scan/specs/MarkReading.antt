@@ -1,5 +1,5 @@
 -- What the reader of marks answers, as marks of the text.
-use Rattle.std.specs.Prelude.{ℕ, ◌+◌, Option, Some, None, List, [], ◌∷◌, if◌then◌else◌}
+use Rattle.std.specs.Prelude.{ℕ, ◌+◌, ◌==◌, ◌||◌, Bool, not, Option, Some, None, List, [], ◌∷◌, if◌then◌else◌}
 use Rattle.std.specs.Borrow.{Bor}
 use Rattle.rx_units.specs.declared.code_point.CodePoint.{CodePoint}
 use Rattle.rx_units.specs.Units.{values}
@@ -33,3 +33,7 @@ seen_front front = (seen_mark front.0, front.1)
 unfoldable pub front : List ℕ → model.Mark × ℕ
 front [] = (model.other, 0)
 front (u ∷ us) = ((mark_front u us).0, (mark_front u us).1 + 1)
+
+-- whether a unit is a mark of its own that opens and closes nothing: it begins no escape, class, opening, closer or bar
+abbrev pub is_plain : ℕ → Bool
+is_plain u = not (u == 92 || u == 91 || u == 40 || u == 41 || u == 124)

@@ -8,7 +8,7 @@ ghost use Rattle.rx_scan.specs.OpenGroups.{group_states_of};
 ghost use Rattle.rx_scan.specs.FirstPass.{Captures, ClashesWith, IsPassFault, IsStart, KnowsLast, LastTells, Refuses, Steps, entries, entry_of, first_clash, same_name, span_of, with_name};
 
 use crate::last_openings::LastOpenings;
-use crate::mark::{Mark, read_mark};
+use crate::mark::{Mark, is_plain, read_mark};
 use crate::open_groups::OpenGroups;
 use crate::{Names, capturing_group_name};
 use rx_base::{List, OutOfMemory, Text};
@@ -82,6 +82,11 @@ impl FirstPass {
         let mut place = 0usize;
         let mut index = 0usize;
         while place < units.len() {
+            if is_plain(units[place].value) {
+                place += 1;
+                index += 1;
+                continue;
+            }
             let (mark, taken) = read_mark(tail(units, place));
             match pass.step(alloc, mark, place, index) {
                 Ok(()) => {}

@@ -1,7 +1,7 @@
 ghost use Rattle.std.specs.Prelude.{◌≡◌, ◌≤◌, ◌<◌, ◌+◌, length, false, option_map, IfSome};
 ghost use Rattle.rx_units.specs.Units.{values};
 ghost use Rattle.rx_model.specs.FirstPass.Marks.{behind_angle, class_rest, escape_rest, mark_front, name_length, open_front, question_front, specifier_front, starts};
-ghost use Rattle.rx_scan.specs.MarkReading.{closed_part, front, seen_front, seen_mark};
+ghost use Rattle.rx_scan.specs.MarkReading.{closed_part, front, is_plain, seen_front, seen_mark};
 
 use rx_units::CodePoint;
 
@@ -34,6 +34,17 @@ pub fn read_mark(units: &[CodePoint]) -> (Mark<'_>, usize)
         }
         _ => (Mark::Other, 0),
     }
+}
+
+/// Whether a unit is a mark of its own that opens and closes nothing, whatever stands behind it.
+pub fn is_plain(unit: u32) -> bool
+    ensures { result ≡ is_plain unit }
+{
+    unit != '\\' as u32
+        && unit != '[' as u32
+        && unit != '(' as u32
+        && unit != ')' as u32
+        && unit != '|' as u32
 }
 
 /// The mark that begins with a unit, and how many of the units behind it are the mark's.

@@ -28,6 +28,7 @@ impl SpanFactory {
     }
 
     /// The span from `start` to `end`, with the offset added to both.
+    #[inline]
     pub fn create(&self, start: u32, end: u32) -> Span
         requires start { start + self.now < 2 ^ 32 }
         requires end { end + self.now < 2 ^ 32 }

@@ -17,7 +17,7 @@ pub enum UnicodeEscape {
     Value { code_point: u32, length: usize },
     /// No escape stands there, or one past the last code point.
     Invalid,
-    /// The digits in braces pass 32 bits, after so many that do not.
+    /// The digits in braces pass 32 bits, after n digits that do not.
     Overflow { digits: usize },
 }
 

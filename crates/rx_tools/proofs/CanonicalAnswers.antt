@@ -1,11 +1,12 @@
 -- What is answered, by what the parser answers.
 use Rattle.std.proofs.Common.{◌≡◌, refl, ap, sym, ◌∙◌, subst, ℕ, Bool, true, false, not, ◌&&◌, ◌⊎◌, inl, inr, List, Option, Result, Ok, Err, [], ◌∷◌, arith}
-use Rattle.std.specs.Prelude.{if◌then◌else◌}
+use Rattle.std.specs.Prelude.{◌<◌, ◌^◌, length, encode_utf8_all, IfOk, if◌then◌else◌}
 use Rattle.std.specs.Str.{IsUtf8, chars}
 use Rattle.std.proofs.Math.Utf8.{scalar_cases}
 use Rattle.std.proofs.lemmas.Str.{scalars-chars}
 use lib.Utf8.{scalar, scalars}
 use Rattle.std.proofs.lemmas.Bool.{and_parts, false_from_ne_true}
+use Rattle.rx_base.specs.declared.fault.Fault.{Fault}
 use Rattle.rx_base.specs.declared.fault.Fault.TheVariants as fault
 use Rattle.rx_ast.specs.declared.term.Pattern.{Pattern}
 use Rattle.rx_ast.specs.Forget.{bare}
@@ -15,7 +16,7 @@ use Rattle.rx_model.specs.declared.mode.Mode.{Mode}
 use Rattle.rx_model.specs.declared.mode.Mode.TheVariants.{Legacy, Unicode, Sets}
 use Rattle.rx_model.specs.Inputs.Environment.{is_sets}
 use Rattle.rx_model.specs.Inputs.Flags.{flags_of, flags_ok, holds, mode_of}
-use Rattle.rx_model.specs.Reading.Headline.{IsAnswered, IsParsed, no_memory}
+use Rattle.rx_model.specs.Reading.Headline.{IsAnswered, IsParsed, IsSameAgain, no_memory}
 use Rattle.rx_model.specs.Inputs.Inputs.{Input, literal_alone, mode_asked}
 use Rattle.rx_model.specs.Spelling.Spelling.{spelling}
 use Rattle.rx_model.proofs.Inputs.Modes.{read_no_sets}
@@ -26,7 +27,7 @@ use Rattle.rx_parser.specs.NotYet.{is_unread_literal}
 use Rattle.rx_parser.proofs.FlagTexts.{mode_is_read}
 use Rattle.rx_tools.specs.declared.outcome.Canonical.{Canonical}
 use Rattle.rx_tools.specs.NotYet.{AskNoSets, is_not_yet}
-use Rattle.rx_tools.specs.Spelled.{spelled_of}
+use Rattle.rx_tools.specs.Spelled.{read_of, spelled_of}
 
 -- right flags that do not hold `v` give a mode that is read
 read_if : (unicode sets : Bool) → sets ≡ false → is_read (if sets then Sets else (if unicode then Unicode else Legacy)) ≡ true
@@ -73,16 +74,33 @@ module _ (input : Input) where
     again = tt;
   }
 
-  -- a tree of the parser, and its spelling
-  pub tree_spelled : AreCodePoints input.text → (it : Canonical) → IsParsed {A = Pattern × Mode} (λ read. read.0) input (Ok (it.pattern, it.mode)) → is_unread_literal input.flags ≡ false → it.mode ≡ mode_asked input → it.text ≡ spelling (bare it.pattern) it.mode
-      → IsAnswered spelled_of input (Ok it)
-  tree_spelled points it parsed read mode text = record {
-    parsed = record { valid = parsed.valid; complete = parsed.complete; read = parsed.read; refused = tt };
+  -- what the parser answers, with the spelling that a tree has
+  pub with_spelling : AreCodePoints input.text → (answer : Result (Pattern × Mode) Fault) → IsParsed (λ it. it.0) input answer → is_unread_literal input.flags ≡ false →
+      IfOk answer (λ it. it.1 ≡ mode_asked input) → IsAnswered read_of input answer
+  with_spelling points (Ok it) parsed read mode = record {
+    parsed = parsed;
     mode_is = mode;
-    text_is = text;
+    text_is = refl;
     again = λ _ answer again.
         let is = mode_is_read input.flags parsed.valid.flags_are read in
-        spelled_again input it.pattern parsed.read (read_no_sets (mode_asked input) is) (text_fits (mode_asked input) input.text points) answer
-        (subst (λ m. IsParsed (λ p. p) (literal_alone (spelling (bare it.pattern) m) m) answer) mode
-        (subst (λ w. IsParsed (λ p. p) (literal_alone w it.mode) answer) text again));
+        spelled_again input it.0 parsed.read (read_no_sets (mode_asked input) is) (text_fits (mode_asked input) input.text points) answer
+        (subst (λ m. IsParsed (λ p. p) (literal_alone (spelling (bare it.0) m) m) answer) mode again);
+  }
+  with_spelling points (Err fault) parsed read mode = record { parsed = parsed; mode_is = tt; text_is = tt; again = tt }
+
+  -- the same with a text that is this spelling
+  pub with_text : (it : Canonical) → it.text ≡ spelling (bare it.pattern) it.mode → IsAnswered read_of input (Ok (it.pattern, it.mode)) → IsAnswered spelled_of input (Ok it)
+  with_text it text read = record {
+    parsed = record { valid = read.parsed.valid; complete = read.parsed.complete; read = read.parsed.read; refused = tt };
+    mode_is = read.mode_is;
+    text_is = text;
+    again = subst (λ w. length (encode_utf8_all w) < 2 ^ 32 → (again : Result Pattern Fault) → IsParsed (λ p. p) (literal_alone w it.mode) again → IsSameAgain it.pattern again) (sym text) read.again;
+  }
+
+  pub refused_too : (fault : Fault) → IsAnswered read_of input (Err fault) → IsAnswered spelled_of input (Err fault)
+  refused_too fault read = record {
+    parsed = record { valid = tt; complete = read.parsed.complete; read = tt; refused = read.parsed.refused };
+    mode_is = tt;
+    text_is = tt;
+    again = tt;
   }

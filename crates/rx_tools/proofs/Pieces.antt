@@ -34,6 +34,9 @@ pub utf8-cons : (c : ℕ) (cs : List ℕ) → utf8 (c ∷ cs) ≡ encode_utf8 c 
 unfolding utf8
 utf8-cons c cs = refl
 
+pub utf8-one : (c : ℕ) → utf8 (c ∷ []) ≡ encode_utf8 c
+utf8-one c = utf8-cons c [] ∙ ap (λ bytes. encode_utf8 c ++ bytes) utf8-nil ∙ append-nil (encode_utf8 c)
+
 -- the pieces from an index on
 pub pieces_next : (ps : List (Bor (List ℕ))) (i : ℕ) (d : Bor (List ℕ)) → i < length ps →
     utf8 (flat_map (λ p. chars p.now) (drop i ps)) ≡ utf8 (chars (get_or ps i d).now) ++ utf8 (flat_map (λ p. chars p.now) (drop (i + 1) ps))
@@ -42,9 +45,9 @@ pieces_next ps i d h = rw (add-one, drop-cons ps i d) (utf8-append (chars (get_o
 pub pieces_none : (ps : List (Bor (List ℕ))) (i : ℕ) → length ps ≤ i → utf8 (flat_map (λ p. chars p.now) (drop i ps)) ≡ []
 pieces_none ps i h = rw (drop_all i ps) utf8-nil
 
--- the characters from an index on, of which the first has these bytes
-pub characters_next : (cs bytes : List ℕ) (i c : ℕ) → i < length cs → c ≡ get_or cs i c → bytes ≡ encode_utf8 c → utf8 (drop i cs) ≡ bytes ++ utf8 (drop (i + 1) cs)
-characters_next cs bytes i c h e k = rw (add-one, drop-cons cs i c, ← e, k) (utf8-cons c (drop (suc i) cs))
+-- the characters from an index on
+pub characters_next : (cs : List ℕ) (i c : ℕ) → i < length cs → c ≡ get_or cs i c → utf8 (drop i cs) ≡ encode_utf8 c ++ utf8 (drop (i + 1) cs)
+characters_next cs i c h e = rw (add-one, drop-cons cs i c, ← e) (utf8-cons c (drop (suc i) cs))
 
 pub failed_from : {T E : Type 0} (result : Result T E) (P : E → Type 0) → IsErrAnd result P → IsErr result
 failed_from (Ok x) P cause = absurd cause

@@ -1,7 +1,9 @@
 pub mod Characters
+pub mod ClassTasks
+pub mod Goes
+pub mod Leaves
 pub mod NotYet
 pub mod Spelled
-pub mod Steps
 pub mod Tasks
 pub mod Texts
 pub mod Utf8

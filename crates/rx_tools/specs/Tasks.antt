@@ -1,37 +1,36 @@
--- What tasks are to write.
-use Rattle.std.specs.Prelude.{ℕ, List, [], ◌∷◌, ◌++◌, map, codes}
-use Rattle.rx_ast.specs.ClassTree.{members, mirror_contents}
-use Rattle.rx_ast.specs.Tree.{nodes, alternatives, mirror_term, mirror_alternative}
+-- What the tasks of a pattern are to write, and a number that falls with each that is done.
+use Rattle.std.specs.Prelude.{ℕ, ◌+◌, ◌*◌, List, map, reverse, flat_map, sum_by, codes}
+use Rattle.rx_ast.specs.Size.{terms_size, all_alternatives_size}
+use Rattle.rx_ast.specs.Tree.{Alternatives, alternatives, mirror_alternative}
+use Rattle.rx_ast.specs.declared.term.Alternative.{Alternative}
 use Rattle.rx_model.specs.declared.mode.Mode.{Mode}
-use Rattle.rx_model.specs.Spelling.ClassText.{operator_text}
-use Rattle.rx_model.specs.Spelling.Spelling.{quantifier_text}
+use Rattle.rx_model.specs.Spelling.Spelling.{alternatives_text, barred_text, quantifier_text}
 use Rattle.rx_tools.specs.declared.task.Task.{Task}
 use Rattle.rx_tools.specs.declared.task.Task.TheVariants as task
-use Rattle.rx_tools.specs.Steps.{member_front, member_rest, operator_front, members_rest, node_front, node_rest, nodes_rest, bar_front, alternatives_rest}
+use Rattle.rx_tools.specs.Leaves.{rest_text}
 
--- what a task writes at once
-abbrev pub task_front : Mode → Task → List ℕ
-task_front mode (task.Alternatives more) = bar_front (alternatives (map mirror_alternative more.now))
-task_front mode (task.Terms after_reference ts) = []
-task_front mode (task.OneTerm after_reference t) = node_front mode after_reference (mirror_term t.now)
-task_front mode (task.Suffix min max greedy) = quantifier_text min max greedy
-task_front mode (task.Contents kind ms) = operator_front (operator_text kind) (members (map mirror_contents ms.now))
-task_front mode (task.OneContents m) = member_front mode (mirror_contents m.now)
-task_front mode task.GroupEnd = codes ")"
-task_front mode task.ClassEnd = codes "]"
+-- the tree of alternatives that the code holds
+abbrev pub tree_of : List Alternative → Alternatives
+tree_of more = alternatives (map mirror_alternative more)
 
--- what it leaves to later tasks
-abbrev pub task_rest : Mode → Task → List (List ℕ)
-task_rest mode (task.Alternatives more) = alternatives_rest mode (alternatives (map mirror_alternative more.now))
-task_rest mode (task.Terms after_reference ts) = nodes_rest mode after_reference (nodes (map mirror_term ts.now))
-task_rest mode (task.OneTerm after_reference t) = node_rest mode after_reference (mirror_term t.now)
-task_rest mode (task.Suffix min max greedy) = []
-task_rest mode (task.Contents kind ms) = members_rest mode (operator_text kind) (members (map mirror_contents ms.now))
-task_rest mode (task.OneContents m) = member_rest mode (mirror_contents m.now)
-task_rest mode task.GroupEnd = []
-task_rest mode task.ClassEnd = []
+abbrev pub task_text : Mode → Task → List ℕ
+task_text mode (task.Disjunction more) = alternatives_text mode (tree_of more.now)
+task_text mode (task.Alternatives more) = barred_text mode (tree_of more.now)
+task_text mode (task.Terms rest) = rest_text mode rest
+task_text mode (task.Suffix min max greedy) = quantifier_text min max greedy
+task_text mode task.GroupEnd = codes ")"
 
--- the pieces of all tasks, those of the last task first
-unfoldable pub pending : Mode → List Task → List (List ℕ)
-pending mode [] = []
-pending mode (t ∷ ts) = pending mode ts ++ (task_front mode t ∷ task_rest mode t)
+abbrev pub task_size : Task → ℕ
+task_size (task.Disjunction more) = all_alternatives_size more.now
+task_size (task.Alternatives more) = all_alternatives_size more.now
+task_size (task.Terms rest) = terms_size rest.terms.now
+task_size (task.Suffix min max greedy) = 0
+task_size task.GroupEnd = 0
+
+-- the texts of the tasks, from the last to the first
+unfoldable pub pending : Mode → List Task → List ℕ
+pending mode tasks = flat_map (task_text mode) (reverse tasks)
+
+-- A group of size n leaves two tasks, which weigh 3 * n - 1.
+unfoldable pub weight : List Task → ℕ
+weight tasks = sum_by (λ t. 1 + 3 * task_size t) tasks

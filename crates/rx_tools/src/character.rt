@@ -1,14 +1,15 @@
-ghost use Rattle.std.specs.Prelude.{◌≡◌, ◌++◌, ◌<◌, ℕ};
+ghost use Rattle.std.specs.Prelude.{◌≡◌, ◌∷◌, [], ◌++◌, ◌<◌, ℕ, true};
 ghost use Rattle.std.specs.Char.{IsScalar};
 ghost use Rattle.std.specs.Str.{chars};
 ghost use Rattle.rx_base.specs.Writing.{Written};
 ghost use Rattle.rx_tables.specs.Characters.{hex_digit as hex};
 ghost use Rattle.rx_model.specs.Spelling.CharacterText.{is_reserved_in_class as reserved_in_class, is_escaped as escaped, goes_on as going, greatest_raw as greatest, control_letter as letter, hex as hexadecimal, braced, surrogate_text, character_text};
+ghost use Rattle.rx_model.specs.declared.mode.Mode.{Mode};
 ghost use Rattle.rx_tools.specs.Characters.{place_of, form_text, IsWritable};
 ghost use Rattle.rx_tools.specs.Utf8.{utf8};
 
 use crate::write::{write_chars, write_str};
-use rx_base::{Failed, Sink};
+use rx_base::{Failed, TextSink};
 use rx_model::Mode;
 use rx_tables::{is_class_set_reserved_punctuator, is_syntax_character};
 
@@ -151,9 +152,9 @@ fn hex_digit(digit: u32) -> char
     }
 }
 
-/// Writes at most so many hexadecimal digits, without leading zeros.
-fn write_hex<K: Sink>(sink: &mut K, places: u32, n: u32) -> Result<(), Failed>
-    ensures { Written K.taken K.fixed K.faults sink.old sink.new result (utf8 (hexadecimal places n)) }
+/// Writes at most n hexadecimal digits, without leading zeros.
+fn write_hex<W: TextSink>(sink: &mut W, places: u32, n: u32) -> Result<(), Failed>
+    ensures { Written W.taken W.fixed W.faults sink.old sink.new result (utf8 (hexadecimal places n)) }
 {
     if places == 0 {
         return Ok(());
@@ -164,8 +165,8 @@ fn write_hex<K: Sink>(sink: &mut K, places: u32, n: u32) -> Result<(), Failed>
     write_chars(sink, &[hex_digit(n % 16)])
 }
 
-fn write_braced<K: Sink>(sink: &mut K, c: u32) -> Result<(), Failed>
-    ensures { Written K.taken K.fixed K.faults sink.old sink.new result (utf8 (braced c)) }
+fn write_braced<W: TextSink>(sink: &mut W, c: u32) -> Result<(), Failed>
+    ensures { Written W.taken W.fixed W.faults sink.old sink.new result (utf8 (braced c)) }
 {
     write_str(sink, "\\u{")?;
     write_hex(sink, 8, c)?;
@@ -181,8 +182,8 @@ fn character(c: u32) -> char
 }
 
 /// Writes what an escape begins with, and the characters behind it.
-fn write_escape<K: Sink>(sink: &mut K, opener: &str, characters: &[char]) -> Result<(), Failed>
-    ensures { Written K.taken K.fixed K.faults sink.old sink.new result (utf8 (chars opener.now ++ characters.now)) }
+fn write_escape<W: TextSink>(sink: &mut W, opener: &str, characters: &[char]) -> Result<(), Failed>
+    ensures { Written W.taken W.fixed W.faults sink.old sink.new result (utf8 (chars opener.now ++ characters.now)) }
 {
     write_str(sink, opener)?;
     write_chars(sink, characters)
@@ -190,13 +191,8 @@ fn write_escape<K: Sink>(sink: &mut K, opener: &str, characters: &[char]) -> Res
 
 /// Writes a character as the first row that fits spells it.
 #[tactic(auto, using(crate::proofs::Pieces::in_pieces), unfolding(rx_model::specs::Spelling::CharacterText::two_digits, rx_model::specs::Spelling::CharacterText::four_digits))]
-pub fn write_character<K: Sink>(
-    sink: &mut K,
-    mode: Mode,
-    place: Place,
-    c: u32,
-) -> Result<(), Failed>
-    ensures { Written K.taken K.fixed K.faults sink.old sink.new result (utf8 (character_text mode (place_of place) c)) }
+fn write_by_form<W: TextSink>(sink: &mut W, mode: Mode, place: Place, c: u32) -> Result<(), Failed>
+    ensures { Written W.taken W.fixed W.faults sink.old sink.new result (utf8 (character_text mode (place_of place) c)) }
 {
     match form(mode, place, c) {
         CharacterForm::Control => write_escape(sink, "\\", &[control_letter(c)]),
@@ -217,5 +213,37 @@ pub fn write_character<K: Sink>(
         CharacterForm::Escaped => write_escape(sink, "\\", &[character(c)]),
         CharacterForm::Digit => write_escape(sink, "\\x3", &[character(c)]),
         CharacterForm::Raw => write_chars(sink, &[character(c)]),
+    }
+}
+
+/// Whether the character stands for itself in every mode: a letter, `_`, a blank, or a digit that no reference stands right
+/// before.
+#[inline]
+#[tactic(auto, using(crate::proofs::Plain::plain_texts))]
+fn is_plain(place: Place, c: u32) -> bool
+    ensures text { result ≡ true → (mode : Mode) → character_text mode (place_of place) c ≡ c ∷ [] }
+    ensures ascii { result ≡ true → c < 128 }
+{
+    match c {
+        0x20 | 0x41..=0x5A | 0x5F | 0x61..=0x7A => true,
+        0x30..=0x39 => !goes_on(place, c),
+        _ => false,
+    }
+}
+
+/// Writes a character as it is spelled canonically at its place.
+#[inline]
+pub fn write_character<W: TextSink>(
+    sink: &mut W,
+    mode: Mode,
+    place: Place,
+    c: u32,
+) -> Result<(), Failed>
+    ensures { Written W.taken W.fixed W.faults sink.old sink.new result (utf8 (character_text mode (place_of place) c)) }
+{
+    if is_plain(place, c) {
+        sink.write_char(character(c))
+    } else {
+        write_by_form(sink, mode, place, c)
     }
 }

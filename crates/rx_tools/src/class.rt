@@ -1,19 +1,19 @@
-ghost use Rattle.std.specs.Prelude.{◌≡◌};
+ghost use Rattle.std.specs.Prelude.{◌≡◌, true, false, map};
 ghost use Rattle.std.specs.Str.{chars};
-ghost use Rattle.rx_ast.specs.ClassTree.{mirror_contents, range, strings as disjunction};
+ghost use Rattle.rx_ast.specs.ClassTree.{members, mirror_contents, mirror_class, range, strings as disjunction};
 ghost use Rattle.rx_base.specs.Writing.{Written};
-ghost use Rattle.rx_model.specs.Spelling.ClassText.{class_opener as opener, operator_text as operator, member_text, characters_text, strings_text, barred_strings_text};
-ghost use Rattle.rx_tools.specs.Steps.{member_front};
+ghost use Rattle.rx_model.specs.Spelling.ClassText.{class_opener as opener, operator_text as operator, member_text, members_text, class_text, characters_text, strings_text, barred_strings_text};
+ghost use Rattle.rx_tools.specs.Leaves.{is_nested as is_class, are_flat, is_flat as flat};
 ghost use Rattle.rx_tools.specs.Utf8.{utf8};
 
 use crate::character::{Place, write_character};
 use crate::property::{class_escape_text, write_property};
 use crate::write::write_str;
 use rx_ast::{
-    Character, CharacterClassContents, CharacterClassContentsKind, CharacterClassRange,
-    ClassString, ClassStringDisjunction,
+    Character, CharacterClass, CharacterClassContents, CharacterClassContentsKind,
+    CharacterClassRange, ClassString, ClassStringDisjunction,
 };
-use rx_base::{Failed, Sink};
+use rx_base::{Failed, TextSink};
 use rx_model::Mode;
 
 #[tactic(auto, using(crate::proofs::Pieces::in_pieces))]
@@ -35,20 +35,24 @@ pub fn operator_text(kind: CharacterClassContentsKind) -> &'static str
     }
 }
 
-fn write_range<K: Sink>(sink: &mut K, mode: Mode, it: &CharacterClassRange) -> Result<(), Failed>
-    ensures { Written K.taken K.fixed K.faults sink.old sink.new result (utf8 (member_text mode (range it.now))) }
+fn write_range<W: TextSink>(
+    sink: &mut W,
+    mode: Mode,
+    it: &CharacterClassRange,
+) -> Result<(), Failed>
+    ensures { Written W.taken W.fixed W.faults sink.old sink.new result (utf8 (member_text mode (range it.now))) }
 {
     write_character(sink, mode, Place::InClass, it.min.value)?;
     write_str(sink, "-")?;
     write_character(sink, mode, Place::InClass, it.max.value)
 }
 
-fn write_characters<K: Sink>(
-    sink: &mut K,
+fn write_characters<W: TextSink>(
+    sink: &mut W,
     mode: Mode,
     characters: &[Character],
 ) -> Result<(), Failed>
-    ensures { Written K.taken K.fixed K.faults sink.old sink.new result (utf8 (characters_text mode characters.now)) }
+    ensures { Written W.taken W.fixed W.faults sink.old sink.new result (utf8 (characters_text mode characters.now)) }
 {
     for c in characters {
         write_character(sink, mode, Place::InClass, c.value)?;
@@ -57,12 +61,12 @@ fn write_characters<K: Sink>(
 }
 
 /// Writes each string behind a bar.
-fn write_barred_strings<K: Sink>(
-    sink: &mut K,
+fn write_barred_strings<W: TextSink>(
+    sink: &mut W,
     mode: Mode,
     strings: &[ClassString],
 ) -> Result<(), Failed>
-    ensures { Written K.taken K.fixed K.faults sink.old sink.new result (utf8 (barred_strings_text mode strings.now)) }
+    ensures { Written W.taken W.fixed W.faults sink.old sink.new result (utf8 (barred_strings_text mode strings.now)) }
 {
     for string in strings {
         write_str(sink, "|")?;
@@ -72,8 +76,12 @@ fn write_barred_strings<K: Sink>(
 }
 
 /// Writes strings with bars between them.
-fn write_strings<K: Sink>(sink: &mut K, mode: Mode, strings: &[ClassString]) -> Result<(), Failed>
-    ensures { Written K.taken K.fixed K.faults sink.old sink.new result (utf8 (strings_text mode strings.now)) }
+fn write_strings<W: TextSink>(
+    sink: &mut W,
+    mode: Mode,
+    strings: &[ClassString],
+) -> Result<(), Failed>
+    ensures { Written W.taken W.fixed W.faults sink.old sink.new result (utf8 (strings_text mode strings.now)) }
 {
     match strings.split_first() {
         None => Ok(()),
@@ -84,26 +92,55 @@ fn write_strings<K: Sink>(sink: &mut K, mode: Mode, strings: &[ClassString]) -> 
     }
 }
 
-fn write_string_disjunction<K: Sink>(
-    sink: &mut K,
+fn write_string_disjunction<W: TextSink>(
+    sink: &mut W,
     mode: Mode,
     it: &ClassStringDisjunction,
 ) -> Result<(), Failed>
-    ensures { Written K.taken K.fixed K.faults sink.old sink.new result (utf8 (member_text mode (disjunction it.now))) }
+    ensures { Written W.taken W.fixed W.faults sink.old sink.new result (utf8 (member_text mode (disjunction it.now))) }
 {
     write_str(sink, "\\q{")?;
     write_strings(sink, mode, it.body.as_slice())?;
     write_str(sink, "}")
 }
 
-/// Writes one of a class's contents, of a class in it what it begins with.
+#[inline]
+#[tactic(auto, using(rx_ast::proofs::ClassEquations::class_mirrors))]
+fn is_nested(contents: &CharacterClassContents) -> bool
+    ensures { result ≡ is_class (mirror_contents contents.now) }
+{
+    match contents {
+        CharacterClassContents::NestedCharacterClass(_) => true,
+        CharacterClassContents::CharacterClassRange(_) => false,
+        CharacterClassContents::CharacterClassEscape(_) => false,
+        CharacterClassContents::UnicodePropertyEscape(_) => false,
+        CharacterClassContents::Character(_) => false,
+        CharacterClassContents::ClassStringDisjunction(_) => false,
+    }
+}
+
+/// Whether no class stands in the class.
+pub fn is_flat(class: &CharacterClass) -> bool
+    ensures { result ≡ flat (mirror_class class.now) }
+{
+    let all_contents = class.body.as_slice();
+    for contents in all_contents {
+        if is_nested(contents) {
+            return false;
+        }
+    }
+    true
+}
+
+/// Writes one of a class's contents that is no class.
 #[tactic(auto, using(crate::proofs::Pieces::in_pieces, rx_ast::proofs::ClassEquations::class_mirrors))]
-pub fn write_contents_front<K: Sink>(
-    sink: &mut K,
+pub fn write_contents<W: TextSink>(
+    sink: &mut W,
     mode: Mode,
     contents: &CharacterClassContents,
 ) -> Result<(), Failed>
-    ensures { Written K.taken K.fixed K.faults sink.old sink.new result (utf8 (member_front mode (mirror_contents contents.now))) }
+    requires { is_class (mirror_contents contents.now) ≡ false }
+    ensures { Written W.taken W.fixed W.faults sink.old sink.new result (utf8 (member_text mode (mirror_contents contents.now))) }
 {
     match contents {
         CharacterClassContents::CharacterClassRange(it) => write_range(sink, mode, it),
@@ -114,11 +151,43 @@ pub fn write_contents_front<K: Sink>(
         CharacterClassContents::Character(it) => {
             write_character(sink, mode, Place::InClass, it.value)
         }
-        CharacterClassContents::NestedCharacterClass(it) => {
-            write_str(sink, class_opener(it.negative))
-        }
         CharacterClassContents::ClassStringDisjunction(it) => {
             write_string_disjunction(sink, mode, it)
         }
+        CharacterClassContents::NestedCharacterClass(_) => unreachable!(),
     }
+}
+
+/// Writes contents among which no class stands, with the operator of their kind between them.
+fn write_flat_contents<W: TextSink>(
+    sink: &mut W,
+    mode: Mode,
+    kind: CharacterClassContentsKind,
+    all_contents: &[CharacterClassContents],
+) -> Result<(), Failed>
+    requires { are_flat (members (map mirror_contents all_contents.now)) ≡ true }
+    ensures { Written W.taken W.fixed W.faults sink.old sink.new result (utf8 (members_text mode (operator kind) (members (map mirror_contents all_contents.now)))) }
+{
+    let operator = operator_text(kind);
+    let mut before = "";
+    for contents in all_contents {
+        write_str(sink, before)?;
+        write_contents(sink, mode, contents)?;
+        before = operator;
+    }
+    Ok(())
+}
+
+/// Writes a class in which no class stands.
+pub fn write_flat_class<W: TextSink>(
+    sink: &mut W,
+    mode: Mode,
+    class: &CharacterClass,
+) -> Result<(), Failed>
+    requires { flat (mirror_class class.now) ≡ true }
+    ensures { Written W.taken W.fixed W.faults sink.old sink.new result (utf8 (class_text mode (mirror_class class.now))) }
+{
+    write_str(sink, class_opener(class.negative))?;
+    write_flat_contents(sink, mode, class.kind, class.body.as_slice())?;
+    write_str(sink, "]")
 }

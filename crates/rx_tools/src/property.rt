@@ -6,7 +6,7 @@ ghost use Rattle.rx_tools.specs.Utf8.{utf8};
 
 use crate::write::write_pieces;
 use rx_ast::{CharacterClassEscapeKind, UnicodePropertyEscape};
-use rx_base::{Failed, Sink, Text};
+use rx_base::{Failed, Text, TextSink};
 
 #[tactic(auto, using(crate::proofs::Pieces::in_pieces))]
 pub fn class_escape_text(kind: CharacterClassEscapeKind) -> &'static str
@@ -37,8 +37,8 @@ fn is_general_category(name: &Text) -> bool
 
 /// Writes a property, where a value of `General_Category` stands alone.
 #[tactic(auto, using(crate::proofs::Pieces::in_pieces))]
-pub fn write_property<K: Sink>(sink: &mut K, it: &UnicodePropertyEscape) -> Result<(), Failed>
-    ensures { Written K.taken K.fixed K.faults sink.old sink.new result (utf8 (property_text it.now.negative it.now.name it.now.value)) }
+pub fn write_property<W: TextSink>(sink: &mut W, it: &UnicodePropertyEscape) -> Result<(), Failed>
+    ensures { Written W.taken W.fixed W.faults sink.old sink.new result (utf8 (property_text it.now.negative it.now.name it.now.value)) }
 {
     match &it.value {
         None => write_pieces(sink, &[property_opener(it), it.name.as_str(), "}"]),

@@ -7,7 +7,7 @@ ghost use Rattle.rx_model.specs.Spelling.Spelling.{quantifier_text, lazy_text as
 
 use crate::write::write_pieces;
 use itoa::Buffer;
-use rx_base::{Failed, Sink};
+use rx_base::{Failed, TextSink};
 
 #[tactic(auto, using(crate::proofs::Pieces::in_pieces))]
 fn lazy_text(greedy: bool) -> &'static str
@@ -25,13 +25,13 @@ pub fn decimal_text(buffer: &mut Buffer, n: u64) -> &str
 
 /// Writes the first that fits of `*`, `+`, `?`, `{n}`, `{n,m}`, `{n,}`, and `?` behind it unless greedy.
 #[tactic(auto, using(crate::proofs::Pieces::in_pieces))]
-pub fn write_quantifier<K: Sink>(
-    sink: &mut K,
+pub fn write_quantifier<W: TextSink>(
+    sink: &mut W,
     min: u64,
     max: Option<u64>,
     greedy: bool,
 ) -> Result<(), Failed>
-    ensures { Written K.taken K.fixed K.faults sink.old sink.new result (utf8 (quantifier_text min max greedy)) }
+    ensures { Written W.taken W.fixed W.faults sink.old sink.new result (utf8 (quantifier_text min max greedy)) }
 {
     let lazy = lazy_text(greedy);
     let mut first = Buffer::new();

@@ -1,85 +1,87 @@
-ghost use Rattle.std.specs.Prelude.{◌≡◌, map};
-ghost use Rattle.std.specs.Str.{chars};
-ghost use Rattle.rx_ast.specs.ClassTree.{members, mirror_contents};
-ghost use Rattle.rx_ast.specs.Tree.{alternatives as alternatives_of, mirror_alternative};
-ghost use Rattle.rx_base.specs.Writing.{Written};
-ghost use Rattle.rx_model.specs.Spelling.ClassText.{operator_text as operator};
-ghost use Rattle.rx_tools.specs.Steps.{bar_front, operator_front};
-ghost use Rattle.rx_tools.specs.Tasks.{task_front};
-ghost use Rattle.rx_tools.specs.Utf8.{utf8};
+ghost use Rattle.std.specs.Prelude.{◌≡◌, ◌++◌, ◌+◌, ◌*◌, ◌≤◌, OnOk, codes};
+ghost use Rattle.rx_ast.specs.Size.{all_alternatives_size, disjunction_size, terms_size};
+ghost use Rattle.rx_ast.specs.Tree.{mirror_disjunction};
+ghost use Rattle.rx_model.specs.declared.mode.Mode.{Mode};
+ghost use Rattle.rx_model.specs.Spelling.Spelling.{alternatives_text, barred_text, quantifier_text};
+ghost use Rattle.rx_tools.specs.Leaves.{rest_text};
+ghost use Rattle.rx_tools.specs.Tasks.{pending, task_size, task_text, tree_of, weight};
 
-use crate::class::{operator_text, write_contents_front};
-use crate::quantifier::write_quantifier;
-use crate::term::write_term_front;
-use crate::write::write_str;
-use rx_ast::{Alternative, CharacterClassContents, CharacterClassContentsKind, Term};
-use rx_base::{Failed, Sink};
-use rx_model::Mode;
+use crate::leaf::Rest;
+use rx_ast::{Alternative, Disjunction, Quantifier};
+use rx_base::{Failed, List, OutOfMemory};
 
-/// What is still to be written.
+/// What is still to be written of a pattern.
 #[derive(Clone, Copy)]
 pub enum Task<'a> {
+    /// A disjunction.
+    Disjunction(&'a [Alternative]),
+
     /// The rest of a disjunction, each alternative behind a bar.
     Alternatives(&'a [Alternative]),
 
-    /// The rest of an alternative, and whether an unquantified indexed reference stands right before it.
-    Terms(bool, &'a [Term]),
+    /// The rest of an alternative.
+    Terms(Rest<'a>),
 
-    /// One term, and whether an unquantified indexed reference stands right before it.
-    OneTerm(bool, &'a Term),
-
-    /// A quantifier behind its body: its least and its greatest number, and whether it is greedy.
-    Suffix(u64, Option<u64>, bool),
-
-    /// The rest of a class's contents, each behind the operator of that kind.
-    Contents(CharacterClassContentsKind, &'a [CharacterClassContents]),
-
-    /// One of a class's contents.
-    OneContents(&'a CharacterClassContents),
+    /// A quantifier behind its body.
+    Suffix {
+        min: u64,
+        max: Option<u64>,
+        greedy: bool,
+    },
     GroupEnd,
-    ClassEnd,
 }
 
-/// A bar, unless nothing is behind it.
-#[tactic(auto, using(crate::proofs::Pieces::in_pieces, crate::proofs::Pending::fronts))]
-fn bar_before(alternatives: &[Alternative]) -> &'static str
-    ensures { chars result.now ≡ bar_front (alternatives_of (map mirror_alternative alternatives.now)) }
+/// Leaves a task for later. Where there is no memory for it this fails as a write does.
+fn leave<'a>(tasks: &mut List<Task<'a>>, task: Task<'a>) -> Result<(), Failed>
+    ensures text { OnOk result ((mode : Mode) → pending mode tasks.new ≡ task_text mode task.entry ++ pending mode tasks.old) }
+    ensures size { OnOk result (weight tasks.new ≡ weight tasks.old + (1 + 3 * task_size task.entry)) }
 {
-    match alternatives {
-        [] => "",
-        [_, ..] => "|",
+    match tasks.push(task) {
+        Ok(()) => Ok(()),
+        Err(OutOfMemory) => Err(Failed),
     }
 }
 
-/// The operator, unless nothing is behind it.
-#[tactic(auto, using(crate::proofs::Pieces::in_pieces, crate::proofs::Pending::fronts))]
-fn operator_before(
-    kind: CharacterClassContentsKind,
-    contents: &[CharacterClassContents],
-) -> &'static str
-    ensures { chars result.now ≡ operator_front (operator kind) (members (map mirror_contents contents.now)) }
+/// Leaves the rest of a disjunction for later, if there is any.
+pub fn leave_alternatives<'a>(
+    tasks: &mut List<Task<'a>>,
+    alternatives: &'a [Alternative],
+) -> Result<(), Failed>
+    ensures text { OnOk result ((mode : Mode) → pending mode tasks.new ≡ barred_text mode (tree_of alternatives.now) ++ pending mode tasks.old) }
+    ensures size { OnOk result (weight tasks.new ≤ weight tasks.old + (1 + 3 * all_alternatives_size alternatives.now)) }
 {
-    match contents {
-        [] => "",
-        [_, ..] => operator_text(kind),
+    if alternatives.is_empty() {
+        return Ok(());
     }
+    leave(tasks, Task::Alternatives(alternatives))
 }
 
-/// Writes what the task writes at once.
-#[tactic(auto, using(crate::proofs::Pieces::in_pieces))]
-pub fn write_task_front<K: Sink>(sink: &mut K, mode: Mode, task: Task) -> Result<(), Failed>
-    ensures { Written K.taken K.fixed K.faults sink.old sink.new result (utf8 (task_front mode task.entry)) }
+/// Leaves the rest of an alternative for later, if there is any.
+pub fn leave_terms<'a>(tasks: &mut List<Task<'a>>, rest: Rest<'a>) -> Result<(), Failed>
+    ensures text { OnOk result ((mode : Mode) → pending mode tasks.new ≡ rest_text mode rest.entry ++ pending mode tasks.old) }
+    ensures size { OnOk result (weight tasks.new ≤ weight tasks.old + (1 + 3 * terms_size rest.entry.terms.now)) }
 {
-    match task {
-        Task::Alternatives(alternatives) => write_str(sink, bar_before(alternatives)),
-        Task::Terms(_, _) => write_str(sink, ""),
-        Task::OneTerm(after_reference, term) => {
-            write_term_front(sink, mode, after_reference, term)
-        }
-        Task::Suffix(min, max, greedy) => write_quantifier(sink, min, max, greedy),
-        Task::Contents(kind, contents) => write_str(sink, operator_before(kind, contents)),
-        Task::OneContents(contents) => write_contents_front(sink, mode, contents),
-        Task::GroupEnd => write_str(sink, ")"),
-        Task::ClassEnd => write_str(sink, "]"),
+    if rest.terms.is_empty() {
+        return Ok(());
     }
+    leave(tasks, Task::Terms(rest))
+}
+
+/// Leaves what is behind the opener of a group for later.
+#[tactic(auto, using(rx_ast::proofs::Sizes::sizes))]
+pub fn leave_group<'a>(tasks: &mut List<Task<'a>>, body: &'a Disjunction) -> Result<(), Failed>
+    ensures text { OnOk result ((mode : Mode) → pending mode tasks.new ≡ (alternatives_text mode (mirror_disjunction body.now).1 ++ codes ")") ++ pending mode tasks.old) }
+    ensures size { OnOk result (weight tasks.new ≡ weight tasks.old + (2 + 3 * disjunction_size body.now)) }
+{
+    leave(tasks, Task::GroupEnd)?;
+    leave(tasks, Task::Disjunction(body.body.as_slice()))
+}
+
+/// Leaves a quantifier for later, which stands behind its body.
+pub fn leave_suffix<'a>(tasks: &mut List<Task<'a>>, it: &Quantifier) -> Result<(), Failed>
+    ensures text { OnOk result ((mode : Mode) → pending mode tasks.new ≡ quantifier_text it.now.min it.now.max it.now.greedy ++ pending mode tasks.old) }
+    ensures size { OnOk result (weight tasks.new ≡ weight tasks.old + 1) }
+{
+    let (min, max, greedy) = (it.min, it.max, it.greedy);
+    leave(tasks, Task::Suffix { min, max, greedy })
 }

@@ -3,18 +3,18 @@ ghost use Rattle.std.specs.Str.{chars};
 ghost use Rattle.rx_base.specs.Writing.{Written};
 ghost use Rattle.rx_tools.specs.Utf8.{utf8};
 
-use rx_base::{Failed, Sink, write_all};
+use rx_base::{Failed, TextSink};
 
 /// Writes a text.
-pub fn write_str<K: Sink>(sink: &mut K, text: &str) -> Result<(), Failed>
-    ensures { Written K.taken K.fixed K.faults sink.old sink.new result (utf8 (chars text.now)) }
+pub fn write_str<W: TextSink>(sink: &mut W, text: &str) -> Result<(), Failed>
+    ensures { Written W.taken W.fixed W.faults sink.old sink.new result (utf8 (chars text.now)) }
 {
-    write_all(sink, text.as_bytes())
+    sink.write_str(text)
 }
 
 /// Writes texts, one behind the other.
-pub fn write_pieces<K: Sink>(sink: &mut K, pieces: &[&str]) -> Result<(), Failed>
-    ensures { Written K.taken K.fixed K.faults sink.old sink.new result (utf8 (flat_map (λ p. chars p.now) pieces.now)) }
+pub fn write_pieces<W: TextSink>(sink: &mut W, pieces: &[&str]) -> Result<(), Failed>
+    ensures { Written W.taken W.fixed W.faults sink.old sink.new result (utf8 (flat_map (λ p. chars p.now) pieces.now)) }
 {
     for piece in pieces {
         write_str(sink, piece)?;
@@ -23,12 +23,11 @@ pub fn write_pieces<K: Sink>(sink: &mut K, pieces: &[&str]) -> Result<(), Failed
 }
 
 /// Writes characters.
-pub fn write_chars<K: Sink>(sink: &mut K, characters: &[char]) -> Result<(), Failed>
-    ensures { Written K.taken K.fixed K.faults sink.old sink.new result (utf8 characters.now) }
+pub fn write_chars<W: TextSink>(sink: &mut W, characters: &[char]) -> Result<(), Failed>
+    ensures { Written W.taken W.fixed W.faults sink.old sink.new result (utf8 characters.now) }
 {
-    let mut buffer = [0; 4];
     for c in characters {
-        write_all(sink, c.encode_utf8(&mut buffer).as_bytes())?;
+        sink.write_char(*c)?;
     }
     Ok(())
 }

@@ -1,5 +1,5 @@
-ghost use Rattle.std.specs.Prelude.{◌≡◌, ◌+◌, ◌<◌, ◌≤◌, ◌^◌, ◌++◌, length, OnOk, OnErr, IfOk};
-ghost use Rattle.std.specs.Str.{chars};
+ghost use Rattle.std.specs.Prelude.{◌≡◌, Bool, ◌+◌, ◌<◌, ◌≤◌, ◌^◌, ◌++◌, length, OnOk, OnErr, IfOk};
+ghost use Rattle.std.specs.Str.{IsAscii, chars};
 ghost use Rattle.rx_units.specs.Units.{character_units, literal_units};
 
 use crate::{CodePoint, EscapeKind};
@@ -60,7 +60,46 @@ pub fn parse_regexp_literal(
     requires { span_offset + length source_text.now < 2 ^ 32 }
     ensures { IfOk result (λ body. body ≡ literal_units combine_surrogate_pair span_offset (chars source_text.now)) }
 {
-    let mut body = List::new(alloc);
+    if source_text.is_ascii() {
+        ascii_units(alloc, source_text.as_bytes(), span_offset)
+    } else {
+        mixed_units(alloc, source_text, span_offset, combine_surrogate_pair)
+    }
+}
+
+/// The units of ASCII text, which are its bytes, joined or not.
+fn ascii_units(
+    alloc: Global,
+    bytes: &[u8],
+    span_offset: u32,
+) -> Result<List<CodePoint>, OutOfMemory>
+    requires offset { span_offset + length bytes.now < 2 ^ 32 }
+    requires ascii { IsAscii bytes.now }
+    ensures { IfOk result (λ body. (joined : Bool) → body ≡ literal_units joined span_offset bytes.now) }
+{
+    let mut body = List::with_capacity(alloc, bytes.len())?;
+    for (at, byte) in bytes.iter().enumerate() {
+        let start = span_offset + at as u32;
+        body.push(CodePoint {
+            span: Span::new(start, start + 1),
+            value: *byte as u32,
+            escape_kind: EscapeKind::None,
+        })?;
+    }
+    Ok(body)
+}
+
+/// The units of any text. A text has no more units than bytes.
+fn mixed_units(
+    alloc: Global,
+    source_text: &str,
+    span_offset: u32,
+    combine_surrogate_pair: bool,
+) -> Result<List<CodePoint>, OutOfMemory>
+    requires { span_offset + length source_text.now < 2 ^ 32 }
+    ensures { IfOk result (λ body. body ≡ literal_units combine_surrogate_pair span_offset (chars source_text.now)) }
+{
+    let mut body = List::with_capacity(alloc, source_text.len())?;
     let mut at = 0;
     for c in source_text.chars() {
         let end = at + c.len_utf8() as u32;

@@ -74,6 +74,7 @@ impl<'a> Reader<'a> {
     }
 
     /// The offset at the place, in bytes. No place before has a larger one.
+    #[inline]
     pub fn offset(&self) -> u32
         ensures value { result ≡ offset_of self.now }
         ensures within { result ≤ length self.now.text }
@@ -101,14 +102,16 @@ impl<'a> Reader<'a> {
     }
 
     /// Moves one place on, or does nothing at the end.
+    #[inline]
     pub fn advance(&mut self)
         ensures { self.new ≡ moved 1 self.old }
     {
         self.skip(1);
     }
 
-    /// Moves so many places on, or to the end where fewer are left.
+    /// Moves n places on, or to the end where fewer are left.
     #[tactic(auto, using(crate::proofs::Offsets::end_of_take))]
+    #[inline]
     pub fn skip(&mut self, count: usize)
         ensures { self.new ≡ moved count self.old }
     {
@@ -121,6 +124,7 @@ impl<'a> Reader<'a> {
     }
 
     /// The value of the unit at the place.
+    #[inline]
     pub fn peek(&self) -> Option<u32>
         ensures { result ≡ front (rest self.now) }
     {
@@ -171,6 +175,7 @@ impl<'a> Reader<'a> {
     }
 
     /// Moves over both characters where they stand at the place one after the other, and says whether they do.
+    /// For callers: no reader of these crates needs it.
     pub fn eat2(&mut self, ch: char, ch2: char) -> bool
         ensures value { result ≡ begins (ch ∷ ch2 ∷ []) (rest self.old) }
         ensures reader { self.new ≡ (if result then moved 2 self.old else self.old) }
@@ -183,6 +188,7 @@ impl<'a> Reader<'a> {
     }
 
     /// Moves over the three characters where they stand at the place one after the other, and says whether they do.
+    /// For callers: no reader of these crates needs it.
     pub fn eat3(&mut self, ch: char, ch2: char, ch3: char) -> bool
         ensures value { result ≡ begins (ch ∷ ch2 ∷ ch3 ∷ []) (rest self.old) }
         ensures reader { self.new ≡ (if result then moved 3 self.old else self.old) }
@@ -199,6 +205,7 @@ impl<'a> Reader<'a> {
     }
 
     /// Moves over the four characters where they stand at the place one after the other, and says whether they do.
+    /// For callers: no reader of these crates needs it.
     pub fn eat4(&mut self, ch: char, ch2: char, ch3: char, ch4: char) -> bool
         ensures value { result ≡ begins (ch ∷ ch2 ∷ ch3 ∷ ch4 ∷ []) (rest self.old) }
         ensures reader { self.new ≡ (if result then moved 4 self.old else self.old) }
@@ -226,6 +233,7 @@ impl<'a> Reader<'a> {
 
     /// The units from the place to the end.
     #[tactic(auto, using(crate::proofs::CodePoints::code_points_from))]
+    #[inline]
     pub fn remaining_code_points(&self) -> &[CodePoint]
         ensures units { result.now ≡ rest self.now }
         ensures code_points { All (λ unit. unit.value ≤ 0x10FFFF) result.now }

@@ -413,7 +413,7 @@ overflow_within unicode_mode us n h =
 digit_small : (c d : ℕ) → hex_digit_value c ≡ Some d → d < 16
 digit_small c d h = grind (arith, nat_tests)
 
--- so many digits are below that power of 16
+-- n digits are below that power of 16
 four_small : (a b c d v : ℕ) → hex_number (a ∷ b ∷ c ∷ d ∷ []) ≡ Some v → v ≤ 0xFFFF
 four_small a b c d v h =
     option_and_then_some _ (hex_digit_value a) v h (λ i ia h.

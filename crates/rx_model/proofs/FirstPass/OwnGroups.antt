@@ -82,7 +82,7 @@ tokens_names [] = []
 tokens_names (t ∷ ts) = token_names t ++ tokens_names ts
 
 module _ (unicode_mode : Bool) where
-  -- The marks open so many groups that capture, of these names.
+  -- The marks open n groups that capture, of these names.
   record AreCounted (ms : List Mark) (n : ℕ) (found : List (List ℕ)) : Type 0 where
     count_is : count ms ≡ n
     names_are : mark.names unicode_mode ms ≡ found
@@ -147,7 +147,7 @@ module _ (unicode_mode : Bool) where
       subst (λ ms. AreCounted ms (tokens_groups (t ∷ ts)) (tokens_names (t ∷ ts))) (sym h.2)
       (counted_append h.0 h.1 (token_groups t) (tokens_groups ts) (token_names t) (tokens_names ts) (token_counted t h.0 h.3) (row_counted ts h.1 h.4))
 
--- These tokens have so many groups and these names more than others.
+-- These tokens have n groups and these names more than others.
 record HasMore (more ts : List Token) (n : ℕ) (found : List (List ℕ)) : Type 0 where
   groups_more : tokens_groups more ≡ n + tokens_groups ts
   names_more : tokens_names more ≡ found ++ tokens_names ts

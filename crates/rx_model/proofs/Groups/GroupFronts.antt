@@ -99,7 +99,7 @@ module _ (unicode_mode : Bool) where
   group_plain [] h = refl
   group_plain (c ∷ w) h = cond-false (c == 63) _ _ h
 
-  -- a name and `>` behind so many units
+  -- a name and `>` behind n units
   angle_front : (name w rest : List ℕ) → SpellsName unicode_mode name w (62 ∷ rest) → name_front unicode_mode ((w ++ (62 ∷ [])) ++ rest) ≡ Some (name, length (w ++ (62 ∷ [])))
   angle_front name w rest s =
       ap (name_front unicode_mode) (append_assoc w (62 ∷ []) rest)

@@ -289,7 +289,7 @@ module _ (unicode_mode : Bool) where
       go (character c k) e =
           grown c k (row_after unicode_mode false 0 (drop k us)) (sym (row_steps true us c k e (read_some true us c k e)) ∙ h)
 
-  -- a text begins with a name of so many units, and with no longer one, exactly where that is read
+  -- a text begins with a name of n units, and with no longer one, exactly where that is read
   pub name_at_law : (us : List ℕ) (c : ℕ) (cs : List ℕ) (n : ℕ) → (name_at unicode_mode us ≡ row (c ∷ cs) n) ↔ BeginsWithName unicode_mode us (c ∷ cs) n
   name_at_law us c cs n = (read_name us c cs n, name_read us (c ∷ cs) n)
 

@@ -17,7 +17,7 @@ use Rattle.rx_model.proofs.Groups.ModifierBits.{no_letters, share}
 use Rattle.rx_model.proofs.Groups.Modifiers.{SidesFront, sides_spelled}
 use Rattle.rx_model.proofs.Reading.Splits.{starts_there}
 
--- Behind `(?` stand modifiers of so many units, which are wrong in this way.
+-- Behind `(?` stand modifiers of n units, which are wrong in this way.
 pub data AreWrong : List ℕ → ℕ → ModifiersHalt → Type 0 where
   unknown : (text behind : List ℕ) → LeadNowhere text behind → AreWrong (text ++ behind) (length text) no_colon
   duplicated : {enabled disabled : List ℕ} (text behind : List ℕ) → AreSides enabled disabled text → (has_twice enabled || has_twice disabled) ≡ true

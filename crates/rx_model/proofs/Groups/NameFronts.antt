@@ -24,7 +24,7 @@ no_pair_begins w h = false_from_ne_true (begins_pair w) (λ t. h (pair_begins w 
 pub no_pair : (w : List ℕ) → begins_pair w ≡ false → BeginsWithPair w → ⊥
 no_pair w h b = both_ways (begins_pair w) h (ap begins_pair b.whole ∙ rw (lead_seen b.lead b.is_lead, trail_seen b.trail b.is_trail) refl)
 
--- Behind so many units, which are the longest row of a name's characters, stands a backslash.
+-- Behind n units, which are the longest row of a name's characters, stands a backslash.
 pub record EscapeBehind (unicode_mode : Bool) (w : List ℕ) (count : ℕ) (behind : List ℕ) : Type 0 where
   pub row : IsNameRow unicode_mode w count
   pub there : drop count w ≡ 92 ∷ behind

@@ -14,7 +14,7 @@ use Rattle.rx_model.proofs.Characters.Decodings.{chosen}
 use Rattle.rx_model.proofs.Quantifiers.DecimalDigits.{digit_there}
 use Rattle.rx_model.proofs.Quantifiers.Quantifiers.{counts_spelled}
 
--- What is said of digits behind a number and so many digits, by what they are read as: those that stand next, or the digits up to the one that
+-- What is said of digits behind a number and n digits, by what they are read as: those that stand next, or the digits up to the one that
 -- passes the limit.
 pub record Fits (m count : ℕ) (w : List ℕ) (n end : ℕ) (rest : List ℕ) : Type 0 where
   pub read : digits_behind m count w ≡ digits n end rest

@@ -41,7 +41,7 @@ use Rattle.rx_model.proofs.Reading.Fronts.{raw_in_unicode}
 use Rattle.rx_model.proofs.Refusals.LegacyStops.{backslash_read as token_there}
 use Rattle.rx_model.proofs.Refusals.Stops.{stop_backslash}
 
--- Braces of so many units with such counts stand next.
+-- Braces of n units with such counts stand next.
 abbrev pub StandBraces : (ℕ → Option ℕ → Type 0) → ℕ → List CodePoint → Type 0
 StandBraces P n us = (min : ℕ) × (max : Option ℕ) × HasBraces min max n us × P min max
 

@@ -31,7 +31,7 @@ split_values (u ∷ us) (x ∷ a) b h =
       back_is = s.back_is;
     }
 
--- at the front of a text so many characters are what units with their values are
+-- at the front of a text n characters are what units with their values are
 pub record TextFront (S : List CodePoint → List CodePoint → Type 0) (n : ℕ) (v : List ℕ) : Type 0 where
   pub text : List ℕ
   pub back : List ℕ

@@ -87,7 +87,7 @@ module _ (mode : Mode) (us : List CodePoint) (start added : ℕ) where
   escape_fault f (overflow n) = Some (TooLargeNumberDigits (span (f + 3) (f + 3 + n)) digits_kind.Hex)
   escape_fault f invalid = Some (InvalidUnicodeEscapeSequence (span (f + 1) (f + 2)))
 
-  -- in a name, behind a backslash and so many units
+  -- in a name, behind a backslash and n units
   abbrev in_name : ℕ → ℕ → Decoded → List ℕ → Option Diagnostic
   in_name f count (value v n) w = Some (InvalidUnicodeEscapeSequence (span (f + 3 + count) (f + 4 + count + n)))
   in_name f count (overflow n) w = Some (TooLargeNumberDigits (span (f + 6 + count) (f + 6 + count + n)) digits_kind.Hex)

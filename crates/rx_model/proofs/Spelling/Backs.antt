@@ -50,7 +50,7 @@ hex_push m (x ∷ xs) v d h small =
     option_and_then_some (λ i. hex_behind (16 * m + i) xs) (hex_digit_value x) v h (λ i at_x rest.
     ap (option_and_then (λ i. hex_behind (16 * m + i) (xs ++ (hex_digit d ∷ [])))) at_x ∙ hex_push (16 * m + i) xs v d rest small)
 
--- the first number with more than so many hexadecimal digits
+-- the first number with more than n hexadecimal digits
 abbrev hex_bound : ℕ → ℕ
 hex_bound zero = 1
 hex_bound (suc k) = 16 * hex_bound k

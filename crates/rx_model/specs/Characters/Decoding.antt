@@ -4,7 +4,7 @@ use Rattle.rx_base.specs.SurrogatePair.{surrogate_pair}
 use Rattle.rx_tables.specs.Characters.{hex_digit_value, is_within}
 use Rattle.rx_model.specs.Characters.UnicodeEscapes.{hex_number}
 
--- a code point by so many characters; none; digits that pass 32 bits, after so many that do not
+-- a code point in n characters; none; digits that pass 32 bits, after n digits that do not
 pub data Decoded : Type 0 where
   value : ℕ → ℕ → Decoded
   invalid : Decoded
@@ -31,7 +31,7 @@ abbrev pub run_step : Option ℕ → ℕ → ℕ → ℕ → (ℕ → Decoded) �
 run_step (Some d) n count x again = if nat_lt (16 * n + d) (2 ^ 32) then again (16 * n + d) else overflow count
 run_step None n count x again = if (x == 125) && (nat_lt 0 count && nat_le n 0x10FFFF) then value n (count + 3) else invalid
 
--- digits and a brace, behind a number and so many digits
+-- digits and a brace, behind a number and n digits
 abbrev pub run_at : ℕ → ℕ → List ℕ → Decoded
 run_at n count [] = invalid
 run_at n count (x ∷ xs) = run_step (hex_digit_value x) n count x (λ m. run_at m (count + 1) xs)

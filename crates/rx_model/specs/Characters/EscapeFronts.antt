@@ -12,7 +12,7 @@ use Rattle.rx_model.specs.Characters.LegacyEscapes.{four_next, is_class_control,
 use Rattle.rx_model.specs.Refusals.Stops.{is_one_of}
 use Rattle.rx_model.specs.Characters.UnicodeEscapes.{hex_number}
 
--- what stands behind a backslash: a character of a kind, by so many characters; nothing; digits that pass 32 bits; `u` without a unicode escape
+-- what stands behind a backslash: a character of a kind, in n characters; nothing; digits that pass 32 bits; `u` without a unicode escape
 pub data EscapeRead : Type 0 where
   escaped : CharacterKind → ℕ → ℕ → EscapeRead
   nothing : EscapeRead

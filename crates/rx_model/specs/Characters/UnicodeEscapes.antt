@@ -39,7 +39,7 @@ pub data SpellsUnicode : Bool → ℕ → List ℕ → List ℕ → Type 0 where
   -- one or more digits in braces
   braced : {v : ℕ} {rest : List ℕ} (x : ℕ) (xs : List ℕ) → hex_number (x ∷ xs) ≡ Some v → v ≤ 0x10FFFF → SpellsUnicode true v (117 ∷ 123 ∷ x ∷ (xs ++ 125 ∷ [])) rest
 
--- At the front a code point is spelled by so many characters.
+-- At the front a code point is spelled in n characters.
 pub record Decodes (unicode_mode : Bool) (w : List ℕ) (v n : ℕ) : Type 0 where
   pub spelled : List ℕ
   pub rest : List ℕ
@@ -47,7 +47,7 @@ pub record Decodes (unicode_mode : Bool) (w : List ℕ) (v n : ℕ) : Type 0 whe
   pub whole : w ≡ spelled ++ rest
   pub count : length spelled ≡ n
 
--- The digits behind `u{` pass 32 bits, after so many that do not.
+-- The digits behind `u{` pass 32 bits, after n digits that do not.
 pub record PassesHex (w : List ℕ) (count : ℕ) : Type 0 where
   pub digits : List ℕ
   pub next : ℕ

@@ -20,12 +20,12 @@ use Rattle.rx_model.specs.Refusals.Stops.{is_hyphen_escaped}
 use Rattle.rx_model.specs.Characters.UnitKinds.{unit_kind}
 use Rattle.rx_model.specs.Properties.PropertyForms.{begins_property}
 
--- an atom by so many units; none
+-- an atom in n units; none
 pub data AtomRead : Type 0 where
   atom_read : Atom → ℕ → AtomRead
   no_atom : AtomRead
 
--- at the beginning of an item: an atom that begins no range; a range, from one character to another; three items, of which the first has so many
+-- at the beginning of an item: an atom that begins no range; a range, from one character to another; three items, of which the first has n
 -- units; the closer; none of these
 pub data Piece : Type 0 where
   one : Atom → ℕ → Piece
@@ -34,7 +34,7 @@ pub data Piece : Type 0 where
   ending : Piece
   no_piece : Piece
 
--- what is in a class up to its closer, by so many units; a class that does not end
+-- what is in a class up to its closer, in n units; a class that does not end
 pub data MembersRead : Type 0 where
   members_read : Members → ℕ → MembersRead
   no_members : MembersRead
@@ -75,7 +75,7 @@ abbrev pub three_of : Bool → Atom → ℕ → Atom → ℕ → Piece
 three_of true a n b m = three a n b (n + 1 + m)
 three_of false a n b m = no_piece
 
--- two atoms of so many units with `-` between; whether they may be three items
+-- two atoms of n units with `-` between; whether they may be three items
 abbrev pub pair_of : Bool → Atom → ℕ → Atom → ℕ → Piece
 pair_of threes (character k v) n (character j x) m = range k v j x (n + 1 + m)
 pair_of threes (character k v) n (escape j) m = three_of threes (character k v) n (escape j) m
@@ -114,16 +114,16 @@ range_member k v j x = tree.range (record {
   max = record { span = nowhere; kind = j; value = x };
 })
 
--- a member of so many units before others
+-- a member of n units before others
 abbrev pub before_members : Member → ℕ → MembersRead → MembersRead
 before_members m n (members_read ms k) = members_read (member m ms) (n + k)
 before_members m n no_members = no_members
 
--- three members of so many units before others, the second being a `-`
+-- three members of n units before others, the second being a `-`
 abbrev pub before_three : Atom → Atom → ℕ → MembersRead → MembersRead
 before_three a b n r = before_members (atom_member a) n (before_members (atom_member (character kind.Symbol 45)) 0 (before_members (atom_member b) 0 r))
 
--- what is in a class, from what was read on; `again` goes on behind so many further units
+-- what is in a class, from what was read on; `again` goes on behind n further units
 abbrev pub members_from : Piece → (ℕ → MembersRead) → MembersRead
 members_from (one a n) again = before_members (atom_member a) n (again (n - 1))
 members_from (three a m b n) again = before_three a b n (again (n - 1))
@@ -131,7 +131,7 @@ members_from (range k v j x n) again = before_members (range_member k v j x) n (
 members_from ending again = members_read no_member 1
 members_from no_piece again = no_members
 
--- what is in a class behind so many units that were read
+-- what is in a class behind n units that were read
 abbrev pub members_after : Environment → ℕ → List CodePoint → MembersRead
 members_after e skipped [] = no_members
 members_after e (suc skipped) (u ∷ us) = members_after e skipped us

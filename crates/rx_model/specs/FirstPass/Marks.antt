@@ -70,7 +70,7 @@ mark_front u us =
     else (if u == 124 then (bar, 0)
     else (other, 0)))))
 
--- the marks behind so many units
+-- the marks behind n units
 abbrev pub marks_behind : ℕ → List ℕ → List Mark
 marks_behind n [] = []
 marks_behind zero (u ∷ us) = (mark_front u us).0 ∷ marks_behind (mark_front u us).1 us
@@ -191,7 +191,7 @@ name_length quiet = 0
 name_length (capturing None) = 0
 name_length (capturing (Some units)) = length units
 
--- the place of each mark, from place `at` on, behind so many units
+-- the place of each mark, from place `at` on, behind n units
 abbrev pub places_behind : ℕ → ℕ → List ℕ → List ℕ
 places_behind at n [] = []
 places_behind at zero (u ∷ us) = at ∷ places_behind (at + 1) (mark_front u us).1 us

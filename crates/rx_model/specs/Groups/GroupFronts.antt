@@ -24,7 +24,7 @@ letters_at (c ∷ w) = if is_modifier c then suc (letters_at w) else 0
 pub data SidesRead : Type 0 where
   sides : List ℕ → List ℕ → ℕ → SidesRead
 
--- behind so many letters and a `-`
+-- behind n letters and a `-`
 abbrev pub second_side : List ℕ → ℕ → List ℕ → SidesRead
 second_side w n v = sides (take n w) (take (letters_at v) v) (n + 1 + letters_at v)
 

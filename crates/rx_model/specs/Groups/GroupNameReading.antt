@@ -4,7 +4,7 @@ use Rattle.rx_base.specs.SurrogatePair.{surrogate_pair}
 use Rattle.rx_model.specs.Characters.Decoding.{Decoded, value, invalid, overflow, decoded, is_lead, is_trail}
 use Rattle.rx_model.specs.Groups.GroupNames.{is_in_name, is_pair_in_name}
 
--- a code point of a name by so many units; none
+-- a code point of a name in n units; none
 pub data NameCharacter : Type 0 where
   character : ℕ → ℕ → NameCharacter
   no_character : NameCharacter
@@ -13,7 +13,7 @@ pub data NameCharacter : Type 0 where
 pub data NameRow : Type 0 where
   row : List ℕ → ℕ → NameRow
 
--- a code point that has passed the test for names, by so many units
+-- a code point that has passed the test for names, in n units
 abbrev pub tested : Bool → ℕ → ℕ → NameCharacter
 tested passes c count = if passes then character c count else no_character
 
@@ -38,16 +38,16 @@ abbrev pub name_character_at : Bool → Bool → List ℕ → NameCharacter
 name_character_at unicode_mode first [] = no_character
 name_character_at unicode_mode first (x ∷ w) = if x == 92 then escape_in_name first (decoded true w) else raw_at unicode_mode first x w
 
--- a row behind some code points of so many units
+-- a row behind some code points of n units
 abbrev pub row_behind : List ℕ → ℕ → NameRow → NameRow
 row_behind cs n (row ds m) = row (cs ++ ds) (n + m)
 
--- a row that begins with what was read; `again` goes on behind so many further units
+-- a row that begins with what was read; `again` goes on behind n further units
 abbrev pub row_from : NameCharacter → (ℕ → NameRow) → NameRow
 row_from (character c n) again = row_behind (c ∷ []) n (again (n - 1))
 row_from no_character again = row [] 0
 
--- the row behind so many units that were read
+-- the row behind n units that were read
 abbrev pub row_after : Bool → Bool → ℕ → List ℕ → NameRow
 row_after unicode_mode first skipped [] = row [] 0
 row_after unicode_mode first (suc skipped) (x ∷ w) = row_after unicode_mode first skipped w
@@ -57,7 +57,7 @@ row_after unicode_mode first zero (x ∷ w) = row_from (name_character_at unicod
 abbrev pub name_at : Bool → List ℕ → NameRow
 name_at unicode_mode us = row_after unicode_mode true 0 us
 
--- the code points of a row that is all of so many units
+-- the code points of a row that is all of n units
 abbrev pub all_of : ℕ → NameRow → Option (List ℕ)
 all_of count (row cs n) = if n == count then Some cs else None
 

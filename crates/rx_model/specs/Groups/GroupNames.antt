@@ -38,7 +38,7 @@ pub data SpellsName (unicode_mode : Bool) : List ℕ → List ℕ → List ℕ �
 abbrev pub IsGroupName : Bool → List ℕ → List ℕ → Type 0
 IsGroupName unicode_mode us name = SpellsName unicode_mode name us []
 
--- A text begins with a name of so many units, behind which no further code point goes on in it.
+-- A text begins with a name of n units, behind which no further code point goes on in it.
 pub record BeginsWithName (unicode_mode : Bool) (us name : List ℕ) (count : ℕ) : Type 0 where
   pub spelled : List ℕ
   pub rest : List ℕ
@@ -47,7 +47,7 @@ pub record BeginsWithName (unicode_mode : Bool) (us name : List ℕ) (count : �
   pub count_is : length spelled ≡ count
   pub ends : (c : ℕ) (w more : List ℕ) → SpellsNameCharacter unicode_mode false c w more → rest ≡ w ++ more → ⊥
 
--- The longest row of characters of a name at the front of a text is so many units; where no name stands there, none.
+-- The longest row of characters of a name at the front of a text is n units; where no name stands there, none.
 pub data IsNameRow (unicode_mode : Bool) (us : List ℕ) : ℕ → Type 0 where
   no_name : ((c : ℕ) (w more : List ℕ) → SpellsNameCharacter unicode_mode true c w more → us ≡ w ++ more → ⊥) → IsNameRow unicode_mode us 0
   some_name : {name : List ℕ} {count : ℕ} → BeginsWithName unicode_mode us name count → IsNameRow unicode_mode us count

@@ -61,7 +61,7 @@ pub data BeginsName (e : Environment) : List ℕ → List ℕ → Type 0 where
   of_group : {behind : List ℕ} → front_is looks behind ≡ false → BeginsName e (40 ∷ 63 ∷ 60 ∷ behind) behind
   of_reference : {behind : List ℕ} → e.named ≡ true → BeginsName e (92 ∷ 107 ∷ 60 ∷ behind) behind
 
--- A name is to stand at the front, and its longest row of characters is so many units, or none; behind it stands the rest.
+-- A name is to stand at the front, and its longest row of characters is n units, or none; behind it stands the rest.
 pub record EndsName (e : Environment) (w : List ℕ) (count : ℕ) (rest : List ℕ) : Type 0 where
   pub behind : List ℕ
   pub begins : BeginsName e w behind

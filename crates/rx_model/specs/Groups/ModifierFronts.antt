@@ -12,7 +12,7 @@ pub data ModifiersHalt : Type 0 where
   no_letter : ModifiersHalt
   letter_shared : ModifiersHalt
 
--- the bits of both sides of modifiers, which are so many units; or what is wrong with them
+-- the bits of both sides of modifiers, which are n units; or what is wrong with them
 pub data ModifiersRead : Type 0 where
   modifiers_read : ℕ → ℕ → ℕ → ModifiersRead
   no_modifiers_read : ModifiersHalt → ℕ → ModifiersRead

@@ -4,9 +4,9 @@ use Rattle.rx_model.specs.Characters.Decoding.{Decoded, value, invalid, overflow
 use Rattle.rx_model.specs.FirstPass.Marks.{starts}
 use Rattle.rx_model.specs.Groups.GroupNameReading.{NameRow, row, name_at}
 
--- What stands behind so many units of a name's characters where no name ends: neither an escape nor, behind some, a `>`; with neither `u` nor `v` a raw
--- pair that may not stand there; an escape of so many units, of what may not stand there; a backslash that begins no escape, or none though with `u` or `v`
--- a `u` follows it; an escape whose digits pass 32 bits behind so many.
+-- What stands behind n units of a name's characters where no name ends: neither an escape nor, behind some, a `>`; with neither `u` nor `v` a raw
+-- pair that may not stand there; an escape of n units, of what may not stand there; a backslash that begins no escape, or none though with `u` or `v`
+-- a `u` follows it; an escape whose digits pass 32 bits after n of them.
 pub data NameHalt : Type 0 where
   unterminated : ℕ → NameHalt
   misplaced_pair : ℕ → NameHalt
@@ -15,7 +15,7 @@ pub data NameHalt : Type 0 where
   no_escape_of_u : ℕ → NameHalt
   many_digits : ℕ → ℕ → NameHalt
 
--- a name of so many units, which a `>` ends; or why there is none
+-- a name of n units, which a `>` ends; or why there is none
 pub data NameRead : Type 0 where
   name_read : List ℕ → ℕ → NameRead
   no_name_read : NameHalt → NameRead
@@ -26,13 +26,13 @@ begins_pair [] = false
 begins_pair (c ∷ []) = false
 begins_pair (c ∷ d ∷ w) = is_lead c && is_trail d
 
--- behind so many units of a name and a backslash
+-- behind n units of a name and a backslash
 abbrev pub escape_halt : Bool → ℕ → List ℕ → Decoded → NameHalt
 escape_halt unicode_mode count w (value v n) = misplaced count n
 escape_halt unicode_mode count w (overflow many) = many_digits count many
 escape_halt unicode_mode count w invalid = if unicode_mode && starts 117 w then no_escape_of_u count else no_escape count
 
--- behind so many units of a name, which are none where none begins
+-- behind n units of a name, which are none where none begins
 abbrev pub read_behind_name : Bool → List ℕ → ℕ → List ℕ → NameRead
 read_behind_name unicode_mode name count [] = no_name_read (unterminated count)
 read_behind_name unicode_mode name count (c ∷ w) =

@@ -29,7 +29,7 @@ pub record Environment : Type 0 where
   pub named : Bool
   pub buffer_boundaries : Bool
 
--- with so many groups, of which some have names or none has
+-- with n groups, of which some have names or none has
 abbrev pub environment_with : Mode → ℕ → Bool → Environment
 environment_with mode groups has_names = record {
   mode = mode;

@@ -3,31 +3,31 @@ use Rattle.std.specs.Prelude.{ℕ, zero, suc, ◌+◌, ◌-◌, ◌*◌, ◌^◌
 use Rattle.rx_tables.specs.Characters.{is_decimal_digit}
 use Rattle.rx_model.specs.Reading.Fronts.{greatest_of}
 
--- digits that stand next: their number, how many they are, what stands behind them; or so many stand before the one that makes the number pass 64 bits
+-- digits that stand next: their number, how many they are, what stands behind them; or n stand before the one that makes the number pass 64 bits
 pub data DigitsRead : Type 0 where
   fitting : ℕ → ℕ → List ℕ → DigitsRead
   passing : ℕ → DigitsRead
 
--- the digits that stand next, behind a number and so many digits
+-- the digits that stand next, behind a number and n digits
 abbrev pub digits_read_at : ℕ → ℕ → List ℕ → DigitsRead
 digits_read_at n count [] = fitting n count []
 digits_read_at n count (c ∷ w) =
     if is_decimal_digit c then (if nat_lt (10 * n + (c - 48)) (2 ^ 64) then digits_read_at (10 * n + (c - 48)) (count + 1) w else passing count) else fitting n count (c ∷ w)
 
--- a QuantifierPrefix (22.2.1): the least and the greatest number, by so many characters; none; or digits behind `{` that pass 64 bits, from which
+-- a QuantifierPrefix (22.2.1): the least and the greatest number, in n characters; none; or digits behind `{` that pass 64 bits, from which
 -- place on and how many stand before the one that does so
 pub data CountsRead : Type 0 where
   counts_read : ℕ → Option ℕ → ℕ → CountsRead
   no_counts_read : CountsRead
   many_digits : ℕ → ℕ → CountsRead
 
--- behind `{`, a number of so many digits and `,`
+-- behind `{`, a number of n digits and `,`
 abbrev pub read_behind_comma : ℕ → ℕ → DigitsRead → CountsRead
 read_behind_comma n count (passing many) = many_digits (count + 2) many
 read_behind_comma n count (fitting m more []) = no_counts_read
 read_behind_comma n count (fitting m more (c ∷ w)) = if c == 125 then counts_read n (greatest_of more m) (count + more + 3) else no_counts_read
 
--- behind `{` and a number of so many digits
+-- behind `{` and a number of n digits
 abbrev pub read_behind_least : ℕ → ℕ → List ℕ → CountsRead
 read_behind_least n zero w = no_counts_read
 read_behind_least n (suc count) [] = no_counts_read

@@ -67,7 +67,7 @@ pub record PassesDecimal (digits : List ℕ) (next : ℕ) : Type 0 where
   pub passes : 2 ^ 64 ≤ 10 * number + digit
 
 -- Behind a `{` the digits of the first number, or of a second behind a comma, pass 64 bits, whether a `}` comes or not: the digits before the one
--- that does so stand from `start` on, and are so many. A reader's limit: there is none in the standard.
+-- that does so stand from `start` on, and are n. A reader's limit: there is none in the standard.
 pub data PassesLimit : List ℕ → ℕ → ℕ → Type 0 where
   first : (digits : List ℕ) (next : ℕ) (rest : List ℕ) → PassesDecimal digits next → PassesLimit (123 ∷ (digits ++ (next ∷ rest))) 1 (length digits)
   second : {n : ℕ} (ds digits : List ℕ) (next : ℕ) (rest : List ℕ) → AreDigits n ds → n < 2 ^ 64 → PassesDecimal digits next

@@ -20,16 +20,16 @@ use Rattle.rx_model.specs.Trees.Token.{Token, boundary, character, dot, class_es
 
 -- Why no token is read. Lengths and places are in units, from the front on.
 pub data FrontHalt : Type 0 where
-  -- terms end here; reading stands so many units on
+  -- terms end here; reading stands n units on
   ends_here : ℕ → FrontHalt
   -- with neither `u` nor `v`, a backslash at the end of the text
   last_backslash : FrontHalt
   -- the counts of a quantifier of this length
   out_of_order : ℕ → FrontHalt
   too_large : ℕ → FrontHalt
-  -- the digits of a count from a place on pass 64 bits, behind so many
+  -- the digits of a count from a place on pass 64 bits, after n of them
   many_decimal_digits : ℕ → ℕ → FrontHalt
-  -- the digits of a unicode escape pass 32 bits, behind so many
+  -- the digits of a unicode escape pass 32 bits, after n of them
   many_hex_digits : ℕ → FrontHalt
   no_unicode_escape : FrontHalt
   in_name : NameHalt → FrontHalt
@@ -39,7 +39,7 @@ pub data FrontHalt : Type 0 where
   no_such_group : ℕ → FrontHalt
   in_modifiers : ModifiersHalt → ℕ → FrontHalt
 
--- a token of so many units, what begins a property or a class, or why none is read
+-- a token of n units, what begins a property or a class, or why none is read
 pub data FrontRead : Type 0 where
   token_read : Token → ℕ → FrontRead
   property_begins : FrontRead
@@ -81,7 +81,7 @@ abbrev pub group_read : Bool → List ℕ → FrontRead
 group_read unicode_mode [] = token_read (opener (capturing None)) 1
 group_read unicode_mode (c ∷ w) = if c == 63 then question_read unicode_mode w else token_read (opener (capturing None)) 1
 
--- a reference by number, with so many groups
+-- a reference by number, with n groups
 abbrev pub indexed_read : ℕ → Digits → FrontRead
 indexed_read groups (digits n count w) = if nat_lt groups n then halted (no_such_group (count + 1)) else token_read (indexed n) (count + 1)
 

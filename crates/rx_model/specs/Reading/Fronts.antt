@@ -50,7 +50,7 @@ backslash_token None None r = escaped_token r
 pub data Digits : Type 0 where
   digits : ℕ → ℕ → List ℕ → Digits
 
--- the digits that stand next, behind a number and so many digits
+-- the digits that stand next, behind a number and n digits
 abbrev pub digits_behind : ℕ → ℕ → List ℕ → Digits
 digits_behind n count [] = digits n count []
 digits_behind n count (c ∷ w) = if is_decimal_digit c then digits_behind (10 * n + (c - 48)) (count + 1) w else digits n count (c ∷ w)
@@ -80,7 +80,7 @@ backslash_front e (c ∷ w) =
     else (if begins_property c && is_unicode e.mode then property_token (property_front e.mode (c ∷ w))
     else backslash_token (boundary_at e c) (class_escape_at c) (any_escape_at false e (c ∷ w))))
 
--- the counts of a quantifier, by so many characters, or none
+-- the counts of a quantifier, in n characters, or none
 pub data Counts : Type 0 where
   counts : ℕ → Option ℕ → ℕ → Counts
   no_counts : Counts
@@ -89,7 +89,7 @@ abbrev pub greatest_of : ℕ → ℕ → Option ℕ
 greatest_of zero m = None
 greatest_of (suc count) m = Some m
 
--- behind `{`, a number of so many digits and `,`
+-- behind `{`, a number of n digits and `,`
 abbrev pub counts_behind_comma : ℕ → ℕ → Digits → Counts
 counts_behind_comma n count (digits m more []) = no_counts
 counts_behind_comma n count (digits m more (c ∷ w)) = if c == 125 then counts n (greatest_of more m) (count + more + 3) else no_counts

@@ -47,7 +47,7 @@ begins_class_escape e (c ∷ w) =
     || (c == 99 && front_is is_letter w) || (c == 48 && not (front_is is_decimal_digit w)) || (c == 120 && two_hex_digits w)
     || (not (is_unicode e.mode) && not (c == 107 && e.named))
 
--- Terms end before these units, and reading stands so many units behind that place: at the end; at `)`; with `u` or `v` also at `]`, `}`, a `{` that
+-- Terms end before these units, and reading stands n units behind that place: at the end; at `)`; with `u` or `v` also at `]`, `}`, a `{` that
 -- begins no quantifier, and behind a backslash that begins no escape.
 pub data IsStop (e : Environment) : List CodePoint → ℕ → Type 0 where
   at_end : IsStop e [] 0

@@ -97,7 +97,7 @@ IsEarlyOpener (capturing name) = Unit {0}
 IsEarlyOpener (ignoring modifiers) = AreModifiers modifiers
 IsEarlyOpener (looking kind) = Unit {0}
 
--- What a token owes by itself, in a pattern with so many groups and with these names.
+-- What a token owes by itself, in a pattern with n groups and with these names.
 abbrev pub Obeys : ℕ → List (List ℕ) → Token → Type 0
 Obeys count names (token.boundary kind) = Unit {0}
 Obeys count names (token.character kind value) = IsCodePoint value

@@ -1,9 +1,9 @@
-use Rattle.std.proofs.Common.{◌+◌, ◌*◌, ◌<◌, ◌≤◌, length}
-use Rattle.rx_ast.specs.Size.{term_size, terms_size, all_alternatives_size, disjunction_size}
+use Rattle.std.proofs.Common.{◌+◌, ◌*◌, ◌≤◌, length}
+use Rattle.rx_ast.specs.Size.{terms_size, all_alternatives_size, disjunction_size, disjunctions_size}
 use Rattle.rx_ast.proofs.term.+dropping.Given as goal
 
-abbrev pub decreases-Term::drop : goal.decreases-Term::drop
-decreases-Term::drop l = 2 * term_size l.self
+abbrev pub decreases-drop_disjunction : goal.decreases-drop_disjunction
+decreases-drop_disjunction l = 2 * disjunction_size l.body + 1
 
 abbrev pub decreases-add_disjunction : goal.decreases-add_disjunction
 decreases-add_disjunction l = 2 * disjunction_size l.body
@@ -11,16 +11,16 @@ decreases-add_disjunction l = 2 * disjunction_size l.body
 abbrev pub decreases-add_terms : goal.decreases-add_terms
 decreases-add_terms l = 2 * terms_size l.terms + 1
 
-abbrev pub invariant-Term::drop-loop-term : goal.invariant-Term::drop-loop-term
-invariant-Term::drop-loop-term l = terms_size l.waiting < term_size l.fn.self
+abbrev pub invariant-drop_disjunction-loop-body : goal.invariant-drop_disjunction-loop-body
+invariant-drop_disjunction-loop-body l = disjunctions_size l.waiting ≤ disjunction_size l.fn.body
 
-abbrev pub decreases-Term::drop-loop-term : goal.decreases-Term::drop-loop-term
-decreases-Term::drop-loop-term l = terms_size l.waiting
+abbrev pub decreases-drop_disjunction-loop-body : goal.decreases-drop_disjunction-loop-body
+decreases-drop_disjunction-loop-body l = disjunctions_size l.waiting
 
 abbrev pub invariant-add_disjunction-loop-alternative :
     goal.invariant-add_disjunction-loop-alternative
 invariant-add_disjunction-loop-alternative l =
-    (terms_size l.waiting + all_alternatives_size l.body ≤ terms_size l.fn.waiting + disjunction_size l.fn.body)
+    (disjunctions_size l.waiting + all_alternatives_size l.body ≤ disjunctions_size l.fn.waiting + disjunction_size l.fn.body)
     × (all_alternatives_size l.body ≤ disjunction_size l.fn.body)
 
 abbrev pub decreases-add_disjunction-loop-alternative :
@@ -29,7 +29,7 @@ decreases-add_disjunction-loop-alternative l = length l.body
 
 abbrev pub invariant-add_terms-loop-term : goal.invariant-add_terms-loop-term
 invariant-add_terms-loop-term l =
-    (terms_size l.waiting + terms_size l.terms ≤ terms_size l.fn.waiting + terms_size l.fn.terms)
+    (disjunctions_size l.waiting + terms_size l.terms ≤ disjunctions_size l.fn.waiting + terms_size l.fn.terms)
     × (terms_size l.terms ≤ terms_size l.fn.terms)
 
 abbrev pub decreases-add_terms-loop-term : goal.decreases-add_terms-loop-term

@@ -2,11 +2,11 @@ use Rattle.std.proofs.Common.{◌≡◌, not, false, is_some, refl, sym, ap, ◌
 use Rattle.rx_ast.proofs.ClassEquations.{class_roll}
 use Rattle.rx_units.specs.Cursor.{rest}
 use Rattle.rx_class.specs.EscapeAnswers.{environment_of}
-use Rattle.rx_class.specs.ClassAnswers.{GivesClass, no_memory}
+use Rattle.rx_class.specs.ClassAnswers.{GivesClass}
 use Rattle.rx_class.specs.ClassItems.{contents}
 use Rattle.rx_class.proofs.ClassEnds.{IsInClass, begins_class, class_gives, closer_stands, environment_is, item_gives, none_gives, nothing_stands, refused_gives, unterminated_gives}
 use Rattle.rx_class.proofs.Fitting.{offset_here_fits}
-use Rattle.rx_class.proofs.Keeping.{handed, passes_keeps}
+use Rattle.rx_class.proofs.Keeping.{handed}
 use Rattle.rx_class.proofs.class.parse_character_class.Goals as goal
 
 pub returns-then-not-eat : goal.returns-then-not-eat
@@ -27,23 +27,19 @@ returns-then-is_none c =
     (nothing_stands (rest c.loop-alloc.reader) (subst (λ o. is_some o ≡ false) c.peek-in-loop-alloc.ensures (c.is_none.ensures ∙ ap not c.if-is_none.true)))
     c.offset-start.ensures.value c.span_to_here-span.ensures
 
-pub returns-in_err-item : goal.returns-in_err-item
-returns-in_err-item c =
-    handed (GivesClass (environment_of c.args.state.now) c.args.spans.now c.args.reader.now c.class_item.new.reader) c.from_residual.ensures.1
-    (refused_gives c.loop-alloc.invariant c.requires.read (environment_is c.args.state.now c.args.reader.now c.requires.pass) c.class_item.new.reader c.in_err-item.field-0.0 c.in_err-item.ensures)
+pub returns-in_err-add_item : goal.returns-in_err-add_item
+returns-in_err-add_item c =
+    handed (GivesClass (environment_of c.args.state.now) c.args.spans.now c.args.reader.now c.add_item.new.reader) c.from_residual.ensures.1
+    (refused_gives c.loop-alloc.invariant c.requires.read (environment_is c.args.state.now c.args.reader.now c.requires.pass) c.add_item.new.reader c.in_err-add_item.field-0.0 c.in_err-add_item.ensures.refused)
 
 pub loop-alloc-smaller : goal.loop-alloc-smaller
-loop-alloc-smaller c = (item_gives c.loop-alloc.invariant c.loop-alloc.body refl c.in_ok-item.ensures).1
+loop-alloc-smaller c = (item_gives c.loop-alloc.invariant c.loop-alloc.body refl c.in_ok-add_item.ensures.added.gives).1
 
 pub loop-alloc-preserved : goal.loop-alloc-preserved
 loop-alloc-preserved c =
-    subst (λ body. IsInClass (environment_of c.args.state.now) c.args.spans.now c.args.reader.now c.class_item.new.reader c.eat-negative.result (contents body)) (sym c.in_ok-push_item.ensures)
-    (item_gives c.loop-alloc.invariant c.loop-alloc.body refl c.in_ok-item.ensures).0
-
-pub returns-in_err-push_item : goal.returns-in_err-push_item
-returns-in_err-push_item c =
-    let pushed = (item_gives c.loop-alloc.invariant c.loop-alloc.body refl c.in_ok-item.ensures).0 in
-    handed (GivesClass (environment_of c.args.state.now) c.args.spans.now c.args.reader.now c.class_item.new.reader) c.from_residual-in_err-push_item.ensures.1 (no_memory (passes_keeps pushed.passes))
+    let it = c.in_ok-add_item.ensures.added in
+    subst (λ body. IsInClass (environment_of c.args.state.now) c.args.spans.now c.args.reader.now c.add_item.new.reader c.eat-negative.result (contents body)) (sym it.adds)
+    (item_gives c.loop-alloc.invariant c.loop-alloc.body refl it.gives).0
 
 pub span_to_here-requires-clause-start : goal.span_to_here-requires-clause-start
 span_to_here-requires-clause-start c = offset_here_fits c.args.spans.now c.offset-start.result c.args.reader.now c.requires.fits c.offset-start.ensures.value

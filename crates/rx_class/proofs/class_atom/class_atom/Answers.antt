@@ -1,12 +1,13 @@
+use Rattle.std.proofs.Common.{ap, sym, ◌∙◌}
+use Rattle.rx_units.specs.Units.{values}
+use Rattle.rx_model.specs.FirstPass.Marks.{starts}
 use Rattle.rx_class.specs.EscapeAnswers.{environment_of}
-use Rattle.rx_class.proofs.ClassAtoms.{unit_gives}
-use Rattle.rx_class.proofs.Fitting.{offset_here_fits}
+use Rattle.rx_class.proofs.ClassAtoms.{begins_otherwise}
 use Rattle.rx_class.proofs.class_atom.class_atom.Goals as goal
 
-pub span_to_here-requires-clause-start : goal.span_to_here-requires-clause-start
-span_to_here-requires-clause-start c = offset_here_fits c.args.spans.now _ c.args.reader.now c.requires.fits c.offset-start.ensures.value
+pub unit_character-requires-clause-no_backslash : goal.unit_character-requires-clause-no_backslash
+unit_character-requires-clause-no_backslash c =
+    ap (λ us. starts 92 (values us)) (sym c.remaining_code_points.ensures.units) ∙ begins_otherwise c.remaining_code_points.result.now _ c.if-unit.false
 
 pub returns : goal.returns
-returns c =
-    unit_gives (environment_of c.args.state.now) c.requires.read c.args.spans.now _ c.args.reader.now c.advance.new.self _ _ _ _ c.remaining_code_points.ensures.units c.requires.stands
-    c.remaining_code_points.ensures.code_points c.if-unit.false c.advance.ensures c.offset-start.ensures.value c.span_to_here.ensures c.kind_in_class.ensures
+returns c = c.unit_character.ensures.atom (environment_of c.args.state.now) c.requires.read

@@ -12,10 +12,10 @@ use Rattle.rx_parser.proofs.pattern_parser.read_pattern.Goals as goal
 pub loop-alloc-init : goal.loop-alloc-init
 loop-alloc-init c =
     let r = c.args.reader.now in
-    let b = c.new-builder in
+    let b = c.in_ok-builder in
     record {
-      parsing = subst (IsParsing c.args.mode r.units r.first c.args.spans.now b.result) (sym c.requires.start)
-          (parsing_begun r.units r.first c.args.spans.now c.here.result b.result (c.here.ensures ∙ ap (λ k. offset_of (record r { place = k }) + c.args.spans.now) c.requires.start)
+      parsing = subst (IsParsing c.args.mode r.units r.first c.args.spans.now b.builder) (sym c.requires.start)
+          (parsing_begun r.units r.first c.args.spans.now c.here.result b.builder (c.here.ensures ∙ ap (λ k. offset_of (record r { place = k }) + c.args.spans.now) c.requires.start)
           b.ensures.events b.ensures.openers b.ensures.ready b.ensures.good b.ensures.mode);
       same = refl;
     }

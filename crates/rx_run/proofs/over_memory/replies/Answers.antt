@@ -28,9 +28,10 @@ returns-clause-write_fault c = λ is.
     let sink = c.run-status.new.sink in
     let source = c.run-status.new.source in
     let made = c.in_ok-sink.ensures in
+    let none : c.as_slice.result.now ≡ [] = c.as_slice.ensures ∙ c.new-words.ensures in
     let fails : sink.fails ≡ [] = cc (run.fixed, made) in
     let room : sink.room ≡ c.args.room = cc (run.fixed, made) in
     let fault : 0 < sink.faults = rose_above sink.faults (rw made at run.write_fault is) in
     let full : length sink.taken ≡ c.args.room = c.bytes.ensures.full fails fault ∙ room in
     let P : Status → Type 0 = λ s. ReadsAndWrites (Some c.args.input.now) (Some source.left) 0 source.drawn (Some []) (Some sink.taken) (Outcome s) in
-    past_room c.args.input.now source.left sink.taken 0 source.drawn c.args.room full (subst P is (rw (made, c.new-source.ensures) at run.content))
+    past_room c.args.input.now source.left sink.taken 0 source.drawn c.args.room full (subst P is (rw (made, c.new-source.ensures) at (run.content none)))

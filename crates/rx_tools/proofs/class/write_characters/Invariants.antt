@@ -6,4 +6,4 @@ use Rattle.rx_tools.proofs.class.write_characters.Given as goal
 
 abbrev pub invariant-loop-c : goal.invariant-loop-c
 invariant-loop-c g l =
-    Left g.K.Sink.taken g.K.Sink.fixed g.K.Sink.faults l.fn.sink l.sink (utf8 (characters_text l.mode l.characters)) (utf8 (characters_text l.mode (drop l.c-index l.characters)))
+    Left g.W.TextSink.taken g.W.TextSink.fixed g.W.TextSink.faults l.fn.sink l.sink (utf8 (characters_text l.mode l.characters)) (utf8 (characters_text l.mode (drop l.c-index l.characters)))

@@ -4,4 +4,4 @@ use Rattle.rx_base.proofs.Writings.{Left}
 use Rattle.rx_tools.proofs.write.write_chars.Given as goal
 
 abbrev pub invariant-loop-c : goal.invariant-loop-c
-invariant-loop-c g l = Left g.K.Sink.taken g.K.Sink.fixed g.K.Sink.faults l.fn.sink l.sink (utf8 l.characters) (utf8 (drop l.c-index l.characters))
+invariant-loop-c g l = Left g.W.TextSink.taken g.W.TextSink.fixed g.W.TextSink.faults l.fn.sink l.sink (utf8 l.characters) (utf8 (drop l.c-index l.characters))

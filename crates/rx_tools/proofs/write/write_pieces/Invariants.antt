@@ -7,4 +7,4 @@ use Rattle.rx_tools.proofs.write.write_pieces.Given as goal
 
 abbrev pub invariant-loop-piece : goal.invariant-loop-piece
 invariant-loop-piece g l =
-    Left g.K.Sink.taken g.K.Sink.fixed g.K.Sink.faults l.fn.sink l.sink (utf8 (flat_map (λ p. chars p.now) l.pieces)) (utf8 (flat_map (λ p. chars p.now) (drop l.piece-index l.pieces)))
+    Left g.W.TextSink.taken g.W.TextSink.fixed g.W.TextSink.faults l.fn.sink l.sink (utf8 (flat_map (λ p. chars p.now) l.pieces)) (utf8 (flat_map (λ p. chars p.now) (drop l.piece-index l.pieces)))

@@ -1,8 +1,8 @@
 use Rattle.std.proofs.Common.{◌≡◌, ap, subst, sym, ◌∙◌, ◌+◌, ◌-◌, ◌<◌, ◌≤◌, length, length-drop, arith}
 use Rattle.rx_units.specs.Units.{values}
 use Rattle.rx_scan.specs.MarkReading.{seen_front, front}
-use Rattle.rx_scan.proofs.Passes.{start_at, advanced, nests_at, tells, refused, all_clean}
-use Rattle.rx_scan.proofs.MarkSteps.{values_drop, values_length}
+use Rattle.rx_scan.proofs.Passes.{start_at, advanced, passed, nests_at, tells, refused, all_clean}
+use Rattle.rx_scan.proofs.MarkSteps.{values_at, values_drop, values_length}
 use Rattle.rx_scan.proofs.first_pass.FirstPass.over.Goals as goal
 
 pub loop-place-init : goal.loop-place-init
@@ -21,6 +21,14 @@ returns-in-Err-clause-fault c =
     refused c.args.unicode_mode (values us) at c.loop-place.index (seen_front c.read_mark-taken.result) c.loop-place.pass c.in-Err.fault
     (subst (λ n. at < n) (sym (values_length us)) c.loop-place-test.true)
     (c.read_mark-taken.ensures.value ∙ ap (λ ws. front (values ws)) c.tail.ensures ∙ ap front (values_drop at us)) c.in-Err.ensures.err c.loop-place.invariant
+
+pub loop-place-preserved-then-is_plain : goal.loop-place-preserved-then-is_plain
+loop-place-preserved-then-is_plain c =
+    let us = c.args.units.now in
+    let at = c.loop-place.place in
+    passed c.args.unicode_mode (values us) at c.loop-place.index _ _ c.loop-place.pass
+    (subst (λ n. at < n) (sym (values_length us)) c.loop-place-test.true)
+    (sym (values_drop at us) ∙ values_at us at _ c.loop-place-test.true) (sym c.is_plain.ensures ∙ c.if-is_plain.true) c.loop-place.invariant
 
 pub loop-place-preserved : goal.loop-place-preserved
 loop-place-preserved c =

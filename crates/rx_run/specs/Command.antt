@@ -1,0 +1,33 @@
+-- The words of the command line, and what they ask for.
+use Rattle.std.specs.Prelude.{◌≡◌, ◌≤◌, ◌<◌, ℕ, IsTrue, List, [], ◌∷◌, length, codes}
+use Rattle.std.specs.Str.{all_ascii_digits}
+use Rattle.std.specs.Str.Parse.{digits_value}
+use Rattle.rx_run.specs.declared.command.Command.{Command}
+use Rattle.rx_run.specs.declared.command.Command.TheVariants.{Serve, Generate}
+
+-- The word is a decimal without sign, of 1 to 10 digits.
+pub record IsDecimal (word : List ℕ) (n : ℕ) : Type 0 where
+  pub digits : IsTrue (all_ascii_digits word)
+  pub some : 1 ≤ length word
+  pub within : length word ≤ 10
+  pub value : n ≡ digits_value 10 word
+
+-- The words are `gen SEED COUNT`.
+pub record IsGen (words : List (List ℕ)) (seed count : ℕ) : Type 0 where
+  pub seed_word : List ℕ
+  pub count_word : List ℕ
+  pub words_are : words ≡ codes "gen" ∷ seed_word ∷ count_word ∷ []
+  pub seed_is : IsDecimal seed_word seed
+  pub count_is : IsDecimal count_word count
+  pub seed_within : seed < 2147483648
+  pub some : 1 ≤ count
+  pub count_within : count ≤ 20000
+
+-- the words of a command
+abbrev pub IsCommand : List (List ℕ) → Command → Type 0
+IsCommand words Serve = words ≡ []
+IsCommand words (Generate seed count) = IsGen words seed count
+
+-- the words are one of the stated lists
+abbrev pub IsStated : List (List ℕ) → Type 0
+IsStated words = (command : Command) × IsCommand words command

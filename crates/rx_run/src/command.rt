@@ -1,0 +1,89 @@
+ghost use Rattle.std.specs.Prelude.{◌≡◌, ◌↔◌, ◌∷◌, ℕ, [], IsTrue, MatchOption, codes};
+ghost use Rattle.std.specs.Char.{is_ascii_digit};
+ghost use Rattle.std.specs.List.{list_all};
+ghost use Rattle.std.specs.Str.{chars};
+ghost use Rattle.rx_run.specs.declared.command.Command.{Command as Commands};
+ghost use Rattle.rx_run.specs.Command.{IsCommand, IsDecimal, IsGen};
+
+use rx_base::Text;
+
+/// The longest decimal that is read, in digits.
+const DIGITS: usize = 10;
+
+/// What each seed is below.
+const SEED_LIMIT: u64 = 2147483648;
+
+/// The most patterns that are made.
+const COUNT_LIMIT: u64 = 20000;
+
+/// What the words after the program's name ask for.
+#[derive(Clone, Copy, Debug, PartialEq, Eq)]
+pub enum Command {
+    /// No words: the lines of the input are answered.
+    Serve,
+
+    /// `gen SEED COUNT`: n patterns are made from this seed, and spelled.
+    Generate { seed: u32, count: u32 },
+}
+
+impl Command {
+    /// The command that has these words, or none where they are none of the stated lists.
+    pub fn parse(words: &[Text]) -> Option<Command>
+        ensures { MatchOption result
+            ((command : Commands) → ¬ IsCommand words.now command)
+            (λ command. IsCommand words.now command) }
+    {
+        match words {
+            [] => Some(Command::Serve),
+            [name, seed, count] => generation(name.as_str(), seed.as_str(), count.as_str()),
+            _ => None,
+        }
+    }
+}
+
+/// The command with these three words, or none where they are not `gen`, a seed and a count.
+fn generation(name: &str, seed: &str, count: &str) -> Option<Command>
+    ensures { MatchOption result
+        ((seed_value count_value : ℕ) → ¬ IsGen (chars name.now ∷ chars seed.now ∷ chars count.now ∷ []) seed_value count_value)
+        (λ command. IsCommand (chars name.now ∷ chars seed.now ∷ chars count.now ∷ []) command) }
+{
+    if !is_gen(name) {
+        return None;
+    }
+    let seed = decimal_value(seed)?;
+    let count = decimal_value(count)?;
+    if seed >= SEED_LIMIT || count == 0 || count > COUNT_LIMIT {
+        return None;
+    }
+    Some(Command::Generate {
+        seed: seed as u32,
+        count: count as u32,
+    })
+}
+
+fn is_gen(word: &str) -> bool
+    ensures { IsTrue result ↔ (word.now ≡ codes "gen") }
+{
+    word == "gen"
+}
+
+fn are_digits(bytes: &[u8]) -> bool
+    ensures { result ≡ list_all is_ascii_digit bytes.now }
+{
+    bytes.iter().all(|byte| byte.is_ascii_digit())
+}
+
+/// The value of a decimal without sign, or none where the word is none, or has more digits than are read.
+fn decimal_value(word: &str) -> Option<u64>
+    ensures { MatchOption result
+        ((n : ℕ) → ¬ IsDecimal (chars word.now) n)
+        (λ n. IsDecimal (chars word.now) n) }
+{
+    if word.len() > DIGITS {
+        return None;
+    }
+    if !are_digits(word.as_bytes()) {
+        return None;
+    }
+    word.parse::<u64>().ok()
+}

@@ -1,0 +1,48 @@
+-- Terms and alternatives in order: their texts and their sizes.
+use Rattle.std.proofs.Common.{◌≡◌, refl, ap, ℕ, zero, suc, ◌+◌, ◌<◌, ◌≤◌, arith, false, List, [], ◌∷◌, ◌++◌, length, drop, get_or, add-one, codes, map}
+use Rattle.std.proofs.Math.Seq.{drop-cons}
+use Rattle.std.proofs.lemmas.List.{drop_all}
+use Rattle.rx_ast.specs.declared.term.Alternative.{Alternative}
+use Rattle.rx_ast.specs.declared.term.Term.{Term}
+use Rattle.rx_ast.specs.Size.{term_size, terms_size, all_alternatives_size, alternatives_size}
+use Rattle.rx_ast.specs.Tree.{Alternatives, no_alternative, alternative, alternatives, nodes, mirror_term, mirror_alternative}
+use Rattle.rx_ast.proofs.Equations.{alternative_is}
+use Rattle.rx_model.specs.declared.mode.Mode.{Mode}
+use Rattle.rx_model.specs.Spelling.Spelling.{nodes_text, alternatives_text, barred_text}
+
+-- alternatives, the first behind this text and each other one behind a bar
+abbrev pub alternatives_behind : Mode → List ℕ → Alternatives → List ℕ
+alternatives_behind mode before no_alternative = []
+alternatives_behind mode before (alternative s ns more) = before ++ (nodes_text mode false ns ++ barred_text mode more)
+
+pub behind_nothing : (mode : Mode) (more : Alternatives) → alternatives_text mode more ≡ alternatives_behind mode [] more
+behind_nothing mode no_alternative = refl
+behind_nothing mode (alternative s ns more) = refl
+
+behind_bar : (mode : Mode) (more : Alternatives) → barred_text mode more ≡ alternatives_behind mode (codes "|") more
+behind_bar mode no_alternative = refl
+behind_bar mode (alternative s ns more) = refl
+
+pub alternatives_next : (mode : Mode) (before : List ℕ) (as' : List Alternative) (i : ℕ) (a : Alternative) → i < length as' → a ≡ get_or as' i a →
+    alternatives_behind mode before (alternatives (map mirror_alternative (drop i as'))) ≡
+    before ++ (nodes_text mode false (nodes (map mirror_term a.body)) ++ alternatives_behind mode (codes "|") (alternatives (map mirror_alternative (drop (i + 1) as'))))
+alternatives_next mode before as' i a h e =
+    rw (add-one, drop-cons as' i a, ← e, alternative_is a)
+    (ap (λ rest. before ++ (nodes_text mode false (nodes (map mirror_term a.body)) ++ rest)) (behind_bar mode (alternatives (map mirror_alternative (drop (suc i) as')))))
+
+pub alternatives_none : (mode : Mode) (before : List ℕ) (as' : List Alternative) (i : ℕ) → length as' ≤ i → alternatives_behind mode before (alternatives (map mirror_alternative (drop i as'))) ≡ []
+alternatives_none mode before as' i h = rw (drop_all i as') refl
+
+pub alternatives_first : (a : Alternative) (as' : List Alternative) → all_alternatives_size (a ∷ as') ≡ 1 + terms_size a.body + all_alternatives_size as'
+unfolding terms_size all_alternatives_size
+alternatives_first a as' = ap (λ m. alternatives_size (alternatives (m ∷ map mirror_alternative as'))) (alternative_is a)
+
+-- the terms of an alternative at an index are fewer than all nodes
+pub alternative_within : (as' : List Alternative) (i : ℕ) (a : Alternative) → i < length as' → a ≡ get_or as' i a → terms_size a.body < all_alternatives_size as'
+alternative_within [] i a h e = absurd (omega arith)
+alternative_within (b ∷ as') zero a h e = rw e (omega (arith, alternatives_first b as'))
+alternative_within (b ∷ as') (suc i) a h e = let within = alternative_within as' i a (omega arith) e in omega (arith, alternatives_first b as')
+
+pub terms_first : (t : Term) (ts : List Term) → terms_size (t ∷ ts) ≡ term_size t + terms_size ts
+unfolding terms_size term_size
+terms_first t ts = refl
