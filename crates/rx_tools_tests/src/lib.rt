@@ -1,4 +1,4 @@
-//! Tests of `canonical_text` on trees that are made by hand.
+//! Tests of the printers on trees that are made by hand, and on patterns that are read.
 #![tactic(auto)]
 
 #[cfg(test)]
@@ -11,3 +11,5 @@ mod made;
 mod printing;
 #[cfg(test)]
 mod signs;
+#[cfg(test)]
+mod writing;

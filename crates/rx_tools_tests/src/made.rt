@@ -6,9 +6,12 @@ use rx_ast::{
     LookAroundAssertion, LookAroundAssertionKind, Modifier, Modifiers, NamedReference, Pattern,
     Quantifier, Term, UnicodePropertyEscape,
 };
-use rx_base::{List, OutOfMemory, Span, Text};
-use rx_tools::{Mode, canonical_text};
+use rx_base::{List, MemorySink, OutOfMemory, Span, Text};
+use rx_tools::{Mode, append_canonical, canonical_text, write_canonical};
 use std::alloc::Global;
+
+/// Past this many bytes a spelling is of a deep tree, which `write_canonical` is not for.
+const LONG: usize = 10_000;
 
 pub fn nowhere() -> Span {
     Span::empty(0)
@@ -25,7 +28,28 @@ pub fn spelled_disjunction(
         span,
         body: Disjunction { span, body },
     };
-    canonical_text(alloc, &pattern, mode)
+    let text = canonical_text(alloc, &pattern, mode)?;
+    if text.as_str().len() > LONG || all_agree(alloc, &pattern, mode, text.as_str())? {
+        return Ok(text);
+    }
+    Text::from_str(alloc, "the printers differ")
+}
+
+/// Whether the other two printers write this text too: the one to a sink that takes three bytes at a time and has room for no more, the other behind
+/// a byte that is there.
+fn all_agree(
+    alloc: Global,
+    pattern: &Pattern,
+    mode: Mode,
+    text: &str,
+) -> Result<bool, OutOfMemory> {
+    let mut sink = MemorySink::new(alloc, text.len(), List::new(alloc), 3)?;
+    let written = write_canonical(&mut sink, pattern, mode);
+    let mut bytes = List::new(alloc);
+    bytes.push(b'x')?;
+    append_canonical(alloc, &mut bytes, pattern, mode)?;
+    let appended = bytes.as_slice().strip_prefix(b"x");
+    Ok(written == Ok(()) && sink.bytes() == text.as_bytes() && appended == Some(text.as_bytes()))
 }
 
 /// The canonical spelling of these terms.
