@@ -6,8 +6,6 @@ use crate::{List, Span, Text};
 mod kinds;
 mod message;
 mod reason;
-#[cfg(test)]
-mod tests;
 
 pub use kinds::{DigitsKind, PropertyPart, RangeKind, SetOperator, Unterminated};
 

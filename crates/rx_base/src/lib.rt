@@ -12,8 +12,6 @@ mod memory;
 mod out_of_memory;
 mod span;
 mod surrogate_pair;
-#[cfg(test)]
-mod tests;
 mod text;
 mod text_sink;
 mod write;

@@ -41,6 +41,13 @@ impl<T> List<T> {
         })
     }
 
+    /// The items of a vector.
+    pub fn from_vec(items: Vec<T>) -> List<T>
+        ensures { result ≡ items.items }
+    {
+        List { items }
+    }
+
     pub fn len(&self) -> usize
         ensures { result ≡ length self.now }
     {
@@ -101,6 +108,14 @@ impl<T> List<T> {
 }
 
 impl<T: Drop> List<T> {
+    /// Takes memory for this many more items at once, where there is not enough already.
+    pub fn reserve(&mut self, additional: usize) -> Result<(), OutOfMemory>
+        ensures { self.new ≡ self.old }
+    {
+        self.items.reserve(additional)?;
+        Ok(())
+    }
+
     /// Adds an item at the end. A refused push leaves the list as it was.
     pub fn push(&mut self, item: T) -> Result<(), OutOfMemory>
         ensures ok { OnOk result (self.new ≡ self.old ++ item ∷ []) }

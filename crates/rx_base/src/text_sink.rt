@@ -58,9 +58,15 @@ impl TextSink for List<u8> {
         }
     }
 
+    #[inline(always)]
     fn write_char(&mut self, c: char) -> Result<(), Failed> {
-        let mut buffer = [0; 4];
-        match self.extend_from_slice(c.encode_utf8(&mut buffer).as_bytes()) {
+        let pushed = if c.is_ascii() {
+            self.push(c as u8)
+        } else {
+            let mut buffer = [0; 4];
+            self.extend_from_slice(c.encode_utf8(&mut buffer).as_bytes())
+        };
+        match pushed {
             Ok(()) => Ok(()),
             Err(OutOfMemory) => Err(Failed),
         }

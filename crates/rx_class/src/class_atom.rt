@@ -162,9 +162,12 @@ fn escaped_atom(
 fn alone_in_class(units: &[CodePoint], unicode: bool) -> Option<u32>
     ensures { result ≡ alone_in_class unicode (values units.now) }
 {
-    match char::from_u32(units.first()?.value) {
-        Some('b') => Some(8),
-        Some('-') if unicode => Some('-' as u32),
-        _ => None,
+    let value = units.first()?.value;
+    if value == 'b' as u32 {
+        Some(8)
+    } else if value == '-' as u32 && unicode {
+        Some(value)
+    } else {
+        None
     }
 }

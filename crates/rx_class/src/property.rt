@@ -4,6 +4,9 @@ ghost use Rattle.rx_class.specs.Fitting.{AreFitting};
 ghost use Rattle.rx_class.specs.Keeping.{KeepsUnits};
 ghost use Rattle.rx_class.specs.PropertyAnswers.{GivesProperty};
 ghost use Rattle.rx_class.specs.PropertyFound.{property_refusal};
+ghost use Rattle.rx_units.specs.Units.{values};
+ghost use Rattle.rx_model.specs.Characters.Escapes.{front_is};
+ghost use Rattle.rx_model.specs.Properties.PropertyForms.{begins_property};
 ghost use Rattle.rx_model.specs.Refusals.Reached.{span_between};
 
 use crate::property_found::{PropertyFound, PropertyHalt, property_at};
@@ -11,7 +14,7 @@ use crate::spans::span_to_here;
 use rx_ast::UnicodePropertyEscape;
 use rx_base::{Diagnostic, Fault, PropertyPart, Span, Unterminated};
 use rx_scan::{SpanFactory, State};
-use rx_units::Reader;
+use rx_units::{CodePoint, Reader};
 use std::alloc::Global;
 
 /// Reads the property escape (CharacterClassEscape of ECMA-262, 22.2.1, that names a property) behind a backslash that was read, and
@@ -21,7 +24,35 @@ use std::alloc::Global;
 /// It is refused by `UnterminatedPattern` where no `{` follows, or a name or a value that is known is not followed by `}`; by
 /// `InvalidUnicodeProperty` where a name, a value or both together are in no table; and by `InvalidUnicodePropertyOfStrings`
 /// where a property of strings is named.
+#[inline]
 pub fn parse_character_class_escape_unicode(
+    alloc: Global,
+    reader: &mut Reader<'_>,
+    state: &State,
+    spans: &SpanFactory,
+    span_start: u32,
+) -> Result<Option<UnicodePropertyEscape>, Fault>
+    requires backslash { IsBehindBackslash reader.old span_start }
+    requires fits { AreFitting spans.now reader.old }
+    requires no_sets { state.now.unicode_sets_mode ≡ false }
+    ensures { GivesProperty (environment_of state.now) spans.now span_start reader.old reader.new result }
+{
+    if !begins_property(reader.remaining_code_points()) {
+        return Ok(None);
+    }
+    property_escape(alloc, reader, state, spans, span_start)
+}
+
+/// Whether `p` or `P` stands first.
+#[inline]
+fn begins_property(units: &[CodePoint]) -> bool
+    ensures { result ≡ front_is begins_property (values units.now) }
+{
+    units.first().is_some_and(|unit| unit.value == 'p' as u32 || unit.value == 'P' as u32)
+}
+
+/// The same, by all of what stands there.
+fn property_escape(
     alloc: Global,
     reader: &mut Reader<'_>,
     state: &State,

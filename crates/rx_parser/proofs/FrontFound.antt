@@ -1,5 +1,5 @@
 -- What is found at the front of a text, by what is read there.
-use Rattle.std.proofs.Common.{All, ◌≡◌, refl, sym, ap, ap₂, ◌∙◌, subst, ℕ, ◌+◌, ◌-◌, ◌%◌, ◌≤◌, Bool, true, false, not, ◌==◌, ◌&&◌, Some, None, List, [], ◌∷◌, ◌++◌, length, take, drop, get_or, arith, append_assoc, length-append}
+use Rattle.std.proofs.Common.{All, ◌≡◌, refl, sym, ap, ap₂, ◌∙◌, subst, ℕ, ◌+◌, ◌-◌, ◌%◌, ◌≤◌, Bool, true, false, not, ◌==◌, ◌&&◌, ◌||◌, Some, None, List, [], ◌∷◌, ◌++◌, length, take, drop, get_or, arith, append_assoc, length-append}
 use Rattle.std.proofs.Math.Seq.{take-append_seam}
 use Rattle.std.proofs.lemmas.Bool.{and_from, cond-false, cond-true, false_from_ne_true, ne_eqb, or_right, true≢false}
 use Rattle.std.proofs.lemmas.Bool.Decides.{nat_tests}
@@ -18,7 +18,7 @@ use Rattle.rx_model.specs.Groups.Groups.{BeginsName, of_group, of_reference}
 use Rattle.rx_model.specs.Groups.ModifierFronts.{ModifiersHalt}
 use Rattle.rx_model.specs.Groups.NameFronts.{NameHalt, unterminated, misplaced_pair, misplaced, no_escape, no_escape_of_u, many_digits}
 use Rattle.rx_model.specs.Inputs.Environment.{Environment, is_unicode}
-use Rattle.rx_model.specs.Reading.FrontReading.{FrontHalt, ends_here, last_backslash, out_of_order, too_large, many_decimal_digits, many_hex_digits, no_unicode_escape, in_name, no_angle, no_such_group, in_modifiers, FrontRead, token_read, property_begins, class_begins, halted, front_read, syntax_read}
+use Rattle.rx_model.specs.Reading.FrontReading.{FrontHalt, ends_here, last_backslash, out_of_order, too_large, many_decimal_digits, many_hex_digits, no_unicode_escape, in_name, no_angle, no_such_group, in_modifiers, FrontRead, token_read, property_begins, class_begins, halted, front_read, backslash_read, syntax_read}
 use Rattle.rx_model.specs.Reading.Fronts.{are_counts, counts_at, front, is_raw_at}
 use Rattle.rx_model.specs.Reading.Rows.{is_legacy_syntax, stands_raw}
 use Rattle.rx_model.specs.Refusals.Stops.{IsStop, at_end, at_closer, at_bracket, at_brace, behind_backslash}
@@ -42,6 +42,36 @@ pub raw_alone : (e : Environment) (us : List CodePoint) (d : CodePoint) → 1 �
 unfolding front_read
 raw_alone e [] d l raw = absurd (omega arith)
 raw_alone e (u ∷ us) d l raw = cond-true (is_raw_at e u.value (values us)) _ _ (ap (λ us. is_raw_at e u.value (values us)) (sym (take_all (length (u ∷ us) - 1) us (omega arith))) ∙ raw)
+
+-- a backslash and `[` stand for themselves in no mode
+backslash_not_raw : (mode : Mode) → stands_raw mode 92 ≡ false
+backslash_not_raw Legacy = refl
+backslash_not_raw Unicode = refl
+backslash_not_raw Sets = refl
+
+bracket_not_raw : (mode : Mode) → stands_raw mode 91 ≡ false
+bracket_not_raw Legacy = refl
+bracket_not_raw Unicode = refl
+bracket_not_raw Sets = refl
+
+-- a backslash
+pub backslash_alone : (e : Environment) (us : List CodePoint) (d : CodePoint) → 1 ≤ length us → (get_or us 0 d).value ≡ 92
+    → front_read e us ≡ backslash_read e (values (take (length us - 1) (drop 1 us)))
+unfolding front_read
+backslash_alone e [] d l is = absurd (omega arith)
+backslash_alone e (u ∷ us) d l is =
+    cond-false (is_raw_at e u.value (values us)) _ _ (ap (λ b. b && (is_unicode e.mode || not (are_counts (counts_at (u.value ∷ values us))))) (ap (λ c. stands_raw e.mode c) is ∙ backslash_not_raw e.mode))
+    ∙ cond-true (u.value == 92) _ _ (ap (λ c. c == 92) is)
+    ∙ ap (λ us. backslash_read e (values us)) (sym (take_all (length (u ∷ us) - 1) us (omega arith)))
+
+-- the beginning of a class
+pub bracket_alone : (e : Environment) (us : List CodePoint) (d : CodePoint) → 1 ≤ length us → (get_or us 0 d).value ≡ 91 → front_read e us ≡ class_begins
+unfolding front_read
+bracket_alone e [] d l is = absurd (omega arith)
+bracket_alone e (u ∷ us) d l is =
+    cond-false (is_raw_at e u.value (values us)) _ _ (ap (λ b. b && (is_unicode e.mode || not (are_counts (counts_at (u.value ∷ values us))))) (ap (λ c. stands_raw e.mode c) is ∙ bracket_not_raw e.mode))
+    ∙ cond-false (u.value == 92) _ _ (ap (λ c. c == 92) is)
+    ∙ cond-true (u.value == 91) _ _ (ap (λ c. c == 91) is)
 
 -- another that is neither a backslash nor `[`
 pub syntax_alone : (e : Environment) (us : List CodePoint) (d : CodePoint) → 1 ≤ length us → is_raw_at e (get_or us 0 d).value (values (take (length us - 1) (drop 1 us))) ≡ false

@@ -45,6 +45,12 @@ fn first_of(units: &[CodePoint], environment: Environment) -> Found
     let [first, behind @ ..] = units else {
         return Found::Halt(Halt::Stop { behind: 0 });
     };
+    if first.value == '\\' as u32 {
+        return backslash_at(behind, environment);
+    }
+    if first.value == '[' as u32 {
+        return Found::Class;
+    }
     if is_raw(first.value, behind, units, environment.mode) {
         return Found::Leaf {
             leaf: Leaf::Character {
@@ -53,12 +59,6 @@ fn first_of(units: &[CodePoint], environment: Environment) -> Found
             },
             length: 1,
         };
-    }
-    if first.value == '\\' as u32 {
-        return backslash_at(behind, environment);
-    }
-    if first.value == '[' as u32 {
-        return Found::Class;
     }
     syntax_at(first.value, behind, units, environment.mode)
 }

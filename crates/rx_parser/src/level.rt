@@ -1,4 +1,4 @@
-ghost use Rattle.std.specs.Prelude.{◌≡◌, ◌++◌, ◌∷◌, [], IfOk, OnOk, IsTrue, false};
+ghost use Rattle.std.specs.Prelude.{◌≡◌, ◌++◌, ◌∷◌, [], IfOk, OnOk, IsTrue, ◌↔◌, false};
 ghost use Rattle.rx_ast.specs.Tree.{mirror_term};
 ghost use Rattle.rx_model.specs.declared.mode.Mode.{Mode};
 ghost use Rattle.rx_model.specs.Trees.Events.{Events, enter, leave, token, term_events, disjunction_events};
@@ -48,6 +48,21 @@ impl Level {
             alternative_start: at,
             terms: List::with_capacity(alloc, capacity)?,
         })
+    }
+
+    /// Whether no term stands yet in the last alternative.
+    #[inline]
+    pub fn is_fresh(&self) -> bool
+        ensures { IsTrue result ↔ (self.now.terms ≡ []) }
+    {
+        self.terms.is_empty()
+    }
+
+    /// Takes memory for n more terms at once.
+    pub fn reserve(&mut self, additional: usize) -> Result<(), OutOfMemory>
+        ensures { self.new ≡ self.old }
+    {
+        self.terms.reserve(additional)
     }
 
     /// Adds a term.

@@ -1,4 +1,4 @@
-ghost use Rattle.std.specs.Prelude.{◌≡◌, true, IfErr, IfOk, OnOk};
+ghost use Rattle.std.specs.Prelude.{◌≡◌, ◌≤◌, true, IfErr, IfOk, OnOk};
 ghost use Rattle.rx_units.specs.Cursor.{rest};
 ghost use Rattle.rx_model.specs.Characters.UnitKinds.{unit_kind};
 ghost use Rattle.rx_model.specs.Inputs.Environment.{has_some};
@@ -41,7 +41,46 @@ pub fn turn(
     if is_syntax_character(unit.value) {
         return take_found(alloc, reader, state, spans, builder);
     }
+    reserve_run(reader, builder)?;
     Ok(plain_character(reader, spans, builder, unit)?)
+}
+
+/// For how many terms memory is taken at once where more than half as many units stand for themselves.
+const LONG_RUN: usize = 8;
+
+/// For how many it is where more than those stand for themselves.
+const LONGER_RUN: usize = 16;
+
+/// Takes memory at once, where an alternative begins, for the units that stand next and for themselves: no more than adding them one by one would come to take.
+#[inline]
+fn reserve_run(reader: &Reader<'_>, builder: &mut Builder) -> Result<(), OutOfMemory>
+    ensures { builder.new ≡ builder.old }
+{
+    if !builder.level.is_fresh() {
+        return Ok(());
+    }
+    builder
+        .level
+        .reserve(room_of_run(reader.remaining_code_points()))
+}
+
+/// For how many terms to take memory where units begin that stand for themselves: for none where they are few.
+#[inline(never)]
+fn room_of_run(units: &[CodePoint]) -> usize
+    ensures { result ≤ 16 }
+{
+    let ahead = &units[..units.len().min(LONG_RUN + 1)];
+    let run = ahead
+        .iter()
+        .position(|unit| is_syntax_character(unit.value))
+        .unwrap_or(ahead.len());
+    if run > LONG_RUN {
+        LONGER_RUN.min(units.len())
+    } else if run > LONG_RUN / 2 {
+        LONG_RUN.min(units.len())
+    } else {
+        0
+    }
 }
 
 /// Reads the token that is found where the reader stands, and gives it to the builder.

@@ -5,12 +5,23 @@ ghost use Rattle.rx_tables.specs.Characters as set;
 pub fn is_syntax_character(cp: u32) -> bool
     ensures { result ≡ set.is_syntax_character cp }
 {
-    char::from_u32(cp).is_some_and(|ch| {
-        matches!(
-            ch,
-            '^' | '$' | '\\' | '.' | '*' | '+' | '?' | '(' | ')' | '[' | ']' | '{' | '}' | '|'
+    cp < 128
+        && matches!(
+            cp as u8,
+            b'^' | b'$'
+                | b'\\'
+                | b'.'
+                | b'*'
+                | b'+'
+                | b'?'
+                | b'('
+                | b')'
+                | b'['
+                | b']'
+                | b'{'
+                | b'}'
+                | b'|'
         )
-    })
 }
 
 /// Whether a value is one of `( ) [ ] { } / - \ |`.
@@ -129,5 +140,10 @@ pub fn map_c_ascii_letter(cp: u32) -> Option<u32>
 pub fn map_hex_digit(cp: u32) -> Option<u32>
     ensures { result ≡ set.hex_digit_value cp }
 {
-    char::from_u32(cp).and_then(|ch| ch.to_digit(16))
+    match cp {
+        0x30..=0x39 => Some(cp - 0x30),
+        0x41..=0x46 => Some(cp - 0x37),
+        0x61..=0x66 => Some(cp - 0x57),
+        _ => None,
+    }
 }

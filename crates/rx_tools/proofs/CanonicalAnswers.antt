@@ -14,7 +14,6 @@ use Rattle.rx_model.specs.declared.form.Form.{Form}
 use Rattle.rx_model.specs.declared.form.Form.TheVariants.{Literal}
 use Rattle.rx_model.specs.declared.mode.Mode.{Mode}
 use Rattle.rx_model.specs.declared.mode.Mode.TheVariants.{Legacy, Unicode, Sets}
-use Rattle.rx_model.specs.Inputs.Environment.{is_sets}
 use Rattle.rx_model.specs.Inputs.Flags.{flags_of, flags_ok, holds, mode_of}
 use Rattle.rx_model.specs.Reading.Headline.{IsAnswered, IsParsed, IsSameAgain, no_memory}
 use Rattle.rx_model.specs.Inputs.Inputs.{Input, literal_alone, mode_asked}

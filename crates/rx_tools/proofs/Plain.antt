@@ -36,14 +36,17 @@ always_raw Unicode c h = grind (arith, nat_tests)
 always_raw Sets c h = grind (arith, nat_tests)
 
 -- the last row
-raw_text : (mode : Mode) (place : Place) (c : ℕ) → 32 ≤ c → c < 127 → may_be_escaped c ≡ false → goes_on place c ≡ false → character_text mode place c ≡ c ∷ []
+pub unescaped_text : (mode : Mode) (place : Place) (c : ℕ) → 32 ≤ c → c < 127 → is_escaped mode place c ≡ false → goes_on place c ≡ false → character_text mode place c ≡ c ∷ []
 unfolding character_text
-raw_text mode place c low high free alone =
+unescaped_text mode place c low high free alone =
     let control : is_within 9 13 c ≡ false = grind (arith, nat_tests) in
     let two_digits : (nat_lt c 32 || is_within 127 159 c) ≡ false = grind (arith, nat_tests) in
     let separator : (c == 0x2028 || c == 0x2029) ≡ false = grind (arith, nat_tests) in
     let surrogate : is_within 0xD800 0xDFFF c ≡ false = grind (arith, nat_tests) in
-    rw (control, two_digits, separator, surrogate, always_raw mode c high, never_escaped mode place c free, alone) refl
+    rw (control, two_digits, separator, surrogate, always_raw mode c high, free, alone) refl
+
+raw_text : (mode : Mode) (place : Place) (c : ℕ) → 32 ≤ c → c < 127 → may_be_escaped c ≡ false → goes_on place c ≡ false → character_text mode place c ≡ c ∷ []
+raw_text mode place c low high free alone = unescaped_text mode place c low high (never_escaped mode place c free) alone
 
 lower_free : (c : ℕ) → 97 ≤ c → c ≤ 122 → may_be_escaped c ≡ false
 lower_free c low high = grind (arith, nat_tests)

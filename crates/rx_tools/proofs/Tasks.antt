@@ -15,7 +15,6 @@ use Rattle.rx_ast.specs.declared.term.Quantifier.{Quantifier}
 use Rattle.rx_ast.specs.declared.term.Term.{Term}
 use Rattle.rx_ast.specs.declared.term.Term.TheVariants as term
 use Rattle.rx_ast.specs.Forget.{bare}
-use Rattle.rx_ast.specs.Size.{terms_size, term_size, all_alternatives_size}
 use Rattle.rx_ast.specs.Tree.{capturing, ignoring, looking, mirror_disjunction, mirror_term, nodes}
 use Rattle.rx_ast.proofs.Equations.{alternative_is, disjunction_is, tree_of_quantifier, tree_of_capturing, tree_of_ignore, tree_of_look}
 use Rattle.rx_model.specs.declared.mode.Mode.{Mode}

@@ -216,23 +216,31 @@ fn write_by_form<W: TextSink>(sink: &mut W, mode: Mode, place: Place, c: u32) ->
     }
 }
 
-/// Whether the character stands for itself in every mode: a letter, `_`, a blank, or a digit that no reference stands right
-/// before.
-#[inline]
+/// Whether the character is printable ASCII, and is spelled as itself.
+#[tactic(auto, using(crate::proofs::Plain::unescaped_text))]
+fn is_raw_sign(mode: Mode, place: Place, c: u32) -> bool
+    ensures text { result ≡ true → character_text mode (place_of place) c ≡ c ∷ [] }
+    ensures ascii { result ≡ true → c < 128 }
+{
+    32 <= c && c < 127 && !is_escaped(mode, place, c) && !goes_on(place, c)
+}
+
+/// The same, where a letter, `_`, a blank and a digit that no reference stands right before are found at once: they are spelled so in every mode.
+#[inline(always)]
 #[tactic(auto, using(crate::proofs::Plain::plain_texts))]
-fn is_plain(place: Place, c: u32) -> bool
-    ensures text { result ≡ true → (mode : Mode) → character_text mode (place_of place) c ≡ c ∷ [] }
+fn is_plain(mode: Mode, place: Place, c: u32) -> bool
+    ensures text { result ≡ true → character_text mode (place_of place) c ≡ c ∷ [] }
     ensures ascii { result ≡ true → c < 128 }
 {
     match c {
         0x20 | 0x41..=0x5A | 0x5F | 0x61..=0x7A => true,
         0x30..=0x39 => !goes_on(place, c),
-        _ => false,
+        _ => is_raw_sign(mode, place, c),
     }
 }
 
 /// Writes a character as it is spelled canonically at its place.
-#[inline]
+#[inline(always)]
 pub fn write_character<W: TextSink>(
     sink: &mut W,
     mode: Mode,
@@ -241,7 +249,7 @@ pub fn write_character<W: TextSink>(
 ) -> Result<(), Failed>
     ensures { Written W.taken W.fixed W.faults sink.old sink.new result (utf8 (character_text mode (place_of place) c)) }
 {
-    if is_plain(place, c) {
+    if is_plain(mode, place, c) {
         sink.write_char(character(c))
     } else {
         write_by_form(sink, mode, place, c)

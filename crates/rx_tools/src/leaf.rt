@@ -26,7 +26,7 @@ pub struct Rest<'a> {
 }
 
 /// Whether nothing nests in the term: it is no quantifier, group or look-around, and no class that holds a class.
-#[inline]
+#[inline(always)]
 #[tactic(auto, using(rx_ast::proofs::Equations::mirrors))]
 pub fn is_leaf(term: &Term) -> bool
     ensures { result ≡ stands_alone (mirror_term term.now) }
@@ -48,6 +48,7 @@ pub fn is_leaf(term: &Term) -> bool
 }
 
 /// Writes a term in which nothing nests.
+#[inline(always)]
 #[tactic(auto, using(crate::proofs::Pieces::in_pieces, rx_ast::proofs::Equations::mirrors))]
 pub fn write_leaf<W: TextSink>(
     sink: &mut W,
@@ -91,6 +92,7 @@ fn write_quantified_leaf<W: TextSink>(
 }
 
 /// Writes the term if nothing nests in it, or in what its quantifier stands on, and answers whether it did.
+#[inline(always)]
 fn write_if_leaf<W: TextSink>(
     sink: &mut W,
     mode: Mode,

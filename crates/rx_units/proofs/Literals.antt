@@ -1,7 +1,7 @@
 -- The units of a literal, character by character.
-use Rattle.std.proofs.Common.{◌≡◌, ℕ, ◌+◌, ◌<◌, Bool, true, false, cond, List, [], ◌∷◌, ◌++◌, length, get_or, drop, refl, sym, ap, ◌∙◌, append_assoc, length-append, arith}
+use Rattle.std.proofs.Common.{◌≡◌, ℕ, suc, ◌+◌, ◌%◌, ◌^◌, ◌<◌, Bool, true, false, cond, List, [], ◌∷◌, ◌++◌, length, get_or, drop, refl, sym, ap, ◌∙◌, append_assoc, length-append, arith}
+use Rattle.std.proofs.Math.Nat.{mod-eq_of_lt}
 use Rattle.std.proofs.lemmas.Bool.{lt-ltb}
-use Rattle.std.proofs.lemmas.Grind.{get_or_default_zero}
 use Rattle.std.proofs.lemmas.List.{at_drop_more}
 use Rattle.std.proofs.lemmas.Str.{len_utf8_ascii, length-encode}
 use lib.Utf8.{encode, encodes}
@@ -9,6 +9,7 @@ use Rattle.std.specs.Char.{len_utf8}
 use Rattle.std.specs.Str.{IsAscii}
 use Rattle.rx_units.specs.declared.code_point.CodePoint.{CodePoint}
 use Rattle.rx_units.specs.declared.code_point.EscapeKind.TheVariants as kind
+use Rattle.rx_units.specs.Bytes.{byte_units}
 use Rattle.rx_units.specs.Units.{character_units, lead_of, literal_units, trail_of, unit}
 
 -- one character of a literal
@@ -36,13 +37,13 @@ ascii_unit true start end c h = refl
 ascii_unit false start end c h =
     ap (λ b. cond b (unit start end c kind.None ∷ []) (unit start end (lead_of c) kind.None ∷ unit start end (trail_of c) kind.None ∷ [])) (lt-ltb c 0x10000 (omega arith))
 
--- one more byte of ASCII text
-pub ascii_preserved : (joined : Bool) (bytes : List ℕ) (n first start : ℕ) (old new : List CodePoint) → n < length bytes → IsAscii bytes → start ≡ first + n
-    → old ++ literal_units joined (first + n) (drop n bytes) ≡ literal_units joined first bytes → new ≡ old ++ unit start (start + 1) (get_or bytes n 0) kind.None ∷ []
-    → new ++ literal_units joined (first + (n + 1)) (drop (n + 1) bytes) ≡ literal_units joined first bytes
-ascii_preserved joined bytes n first start old new within ascii is h e =
-    let byte = get_or bytes n 0 in
-    let one = len_utf8_ascii byte (ascii n) in
-    let next : start + 1 ≡ first + (n + 1) = omega arith in
-    units_preserved bytes n byte (first + n) (within, sym (get_or_default_zero bytes n byte within)) joined (first + (n + 1)) old new _ (omega arith) h
-    (e ∙ ap (λ k. old ++ unit k (start + 1) byte kind.None ∷ []) is ∙ ap (λ k. old ++ unit (first + n) k byte kind.None ∷ []) next ∙ ap (λ us. old ++ us) (sym (ascii_unit joined (first + n) (first + (n + 1)) byte (ascii n))))
+-- so ASCII text is read byte by byte
+pub byte_units_literal : (joined : Bool) (at : ℕ) (bytes : List ℕ) → at + length bytes < 2 ^ 32 → IsAscii bytes → byte_units at bytes ≡ literal_units joined at bytes
+byte_units_literal joined at [] fits ascii = refl
+byte_units_literal joined at (b ∷ bs) fits ascii =
+    let end : (at + 1) % 2 ^ 32 ≡ at + 1 = mod-eq_of_lt (omega arith) in
+    let rest = byte_units_literal joined (at + 1) bs (omega arith) (λ i. ascii (suc i)) in
+    ap (λ (k : ℕ). unit at k b kind.None ∷ byte_units (at + 1) bs) end
+    ∙ ap (λ us. unit at (at + 1) b kind.None ∷ us) rest
+    ∙ ap (λ us. us ++ literal_units joined (at + 1) bs) (sym (ascii_unit joined at (at + 1) b (ascii 0)))
+    ∙ ap (λ (n : ℕ). character_units joined at (at + n) b kind.None ++ literal_units joined (at + n) bs) (sym (len_utf8_ascii b (ascii 0)))

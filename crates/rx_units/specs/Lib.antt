@@ -1,3 +1,4 @@
 pub mod Units
 pub mod Characters
 pub mod Cursor
+pub mod Bytes

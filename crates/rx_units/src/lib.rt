@@ -5,8 +5,6 @@ mod characters;
 mod code_point;
 mod literal;
 mod reader;
-#[cfg(test)]
-mod tests;
 
 pub use characters::{
     CR, LF, LS, PS, is_line_terminator, is_non_escape_character, is_single_escape_character,

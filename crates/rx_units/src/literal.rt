@@ -1,10 +1,11 @@
 ghost use Rattle.std.specs.Prelude.{◌≡◌, Bool, ◌+◌, ◌<◌, ◌≤◌, ◌^◌, ◌++◌, length, OnOk, OnErr, IfOk};
 ghost use Rattle.std.specs.Str.{IsAscii, chars};
+ghost use Rattle.rx_units.specs.Bytes.{byte_units};
 ghost use Rattle.rx_units.specs.Units.{character_units, literal_units};
 
 use crate::{CodePoint, EscapeKind};
 use rx_base::{List, OutOfMemory, Span};
-use std::alloc::Global;
+use std::alloc::{AllocError, Global};
 
 /// Adds a code point, of which the first two numbers are its start and its end in bytes, before the offset: one unit,
 /// or without joining a lead and a trail that share the span. A refusal leaves the list as before.
@@ -77,16 +78,21 @@ fn ascii_units(
     requires ascii { IsAscii bytes.now }
     ensures { IfOk result (λ body. (joined : Bool) → body ≡ literal_units joined span_offset bytes.now) }
 {
-    let mut body = List::with_capacity(alloc, bytes.len())?;
-    for (at, byte) in bytes.iter().enumerate() {
-        let start = span_offset + at as u32;
-        body.push(CodePoint {
-            span: Span::new(start, start + 1),
-            value: *byte as u32,
-            escape_kind: EscapeKind::None,
-        })?;
-    }
-    Ok(body)
+    Ok(List::from_vec(byte_units(alloc, bytes, span_offset)?))
+}
+
+/// Each byte as a unit.
+fn byte_units(alloc: Global, bytes: &[u8], span_offset: u32) -> Result<Vec<CodePoint>, AllocError>
+    requires { span_offset + length bytes.now < 2 ^ 32 }
+    ensures { IfOk result (λ units. units.items ≡ byte_units span_offset bytes.now) }
+{
+    let starts = span_offset..span_offset + bytes.len() as u32;
+    let units = starts.zip(bytes).map(|(start, byte)| CodePoint {
+        span: Span::new(start, start.wrapping_add(1)),
+        value: *byte as u32,
+        escape_kind: EscapeKind::None,
+    });
+    units.collect(alloc)
 }
 
 /// The units of any text. A text has no more units than bytes.

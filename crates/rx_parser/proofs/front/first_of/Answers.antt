@@ -5,8 +5,16 @@ use Rattle.rx_parser.specs.Environments.{seen_environment}
 use Rattle.rx_parser.specs.Found.{found_front}
 use Rattle.rx_parser.specs.declared.found.Found.TheVariants.{Leaf}
 use Rattle.rx_parser.specs.declared.found.Leaf.TheVariants.{Character}
-use Rattle.rx_parser.proofs.FrontFound.{raw_alone, syntax_alone}
+use Rattle.rx_parser.proofs.FrontFound.{backslash_alone, bracket_alone, raw_alone, syntax_alone}
 use Rattle.rx_parser.proofs.front.first_of.Goals as goal
+
+pub returns-then-first : goal.returns-then-first
+returns-then-first c =
+    c.backslash_at.ensures ∙ ap found_front (sym (backslash_alone (seen_environment c.args.environment) c.args.units.now (unit 0 0 0 kind.None) c.in-len1-up.len_at_least c.if-first.true))
+
+pub returns-then-first-2 : goal.returns-then-first-2
+returns-then-first-2 c =
+    ap found_front (sym (bracket_alone (seen_environment c.args.environment) c.args.units.now (unit 0 0 0 kind.None) c.in-len1-up.len_at_least c.if-first-2.true))
 
 pub returns-then-is_raw : goal.returns-then-is_raw
 returns-then-is_raw c =

@@ -12,7 +12,7 @@ use Rattle.rx_parser.proofs.turn.turn.Goals as goal
 
 pub plain_character-requires-clause-found : goal.plain_character-requires-clause-found
 plain_character-requires-clause-found c =
-    let mode = c.args.builder.now.mode in
+    let mode = c.reserve_run.new.builder.mode in
     let r = c.args.reader.now in
     let left = c.remaining_code_points.ensures in
     let us = c.remaining_code_points.result.now in

@@ -4,4 +4,4 @@ use Rattle.rx_tools.proofs.character.write_character.Goals as goal
 pub returns-then-is_plain : goal.returns-then-is_plain
 returns-then-is_plain g c =
     let written = rw c.character.ensures at c.write_char.ensures in
-    rw (c.is_plain.ensures.text c.if-is_plain.true c.args.mode, utf8-one c.args.c) written
+    rw (c.is_plain.ensures.text c.if-is_plain.true, utf8-one c.args.c) written

@@ -1,4 +1,4 @@
-use crate::{
+use rx_base::{
     CleanSink, CleanSource, Failed, List, MemorySink, MemorySource, OutOfMemory, Sink, Source,
     Text, combine_surrogate_pair, is_lead_surrogate, is_trail_surrogate, write_all,
 };

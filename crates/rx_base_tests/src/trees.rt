@@ -1,6 +1,6 @@
 ghost use Rattle.std.specs.Prelude.{◌<◌, ◌^◌};
 
-use crate::{
+use rx_ast::{
     Alternative, CapturingGroup, Character, CharacterClass, CharacterClassContents,
     CharacterClassContentsKind, CharacterClassRange, CharacterKind, Disjunction, Dot, Modifier,
     Pattern, Quantifier, Term,

@@ -1,5 +1,6 @@
-use super::{Diagnostic, DigitsKind, PropertyPart, RangeKind, SetOperator, Unterminated};
-use crate::{List, Span, Text};
+use rx_base::{
+    Diagnostic, DigitsKind, List, PropertyPart, RangeKind, SetOperator, Span, Text, Unterminated,
+};
 use std::alloc::Global;
 use std::process::Abort;
 use std::test::Fail;

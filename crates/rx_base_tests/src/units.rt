@@ -1,10 +1,10 @@
 ghost use Rattle.std.specs.Prelude.{◌<◌, ◌^◌, length};
 
-use crate::{
+use rx_base::{List, Text};
+use rx_units::{
     CR, CodePoint, EscapeKind, LF, LS, PS, Reader, handle_code_point, is_line_terminator,
     is_non_escape_character, is_single_escape_character, parse_regexp_literal,
 };
-use rx_base::{List, Text};
 use std::alloc::Global;
 use std::test::Fail;
 

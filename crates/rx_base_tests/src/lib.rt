@@ -1,0 +1,11 @@
+//! Tests of the public calls of `rx_base`, `rx_units` and `rx_ast`: what no clause says, and each call once where it succeeds.
+#![tactic(auto)]
+
+#[cfg(test)]
+mod diagnostics;
+#[cfg(test)]
+mod memory;
+#[cfg(test)]
+mod trees;
+#[cfg(test)]
+mod units;
