@@ -28,7 +28,7 @@ environment_by unicode groups named = record { mode = mode_by unicode false; gro
 character_within : (u : Bool) (us : List CodePoint) (kind : CharacterKind) (v n : ℕ) → escape_at u (values us) ≡ escaped kind v n → (n ≤ length us) × (v ≤ 0x10FFFF)
 character_within u us kind v n read =
     let e = environment_by u 0 u in
-    let here = ap (λ m. escape_at m (values us)) (unicode_by u false refl) ∙ read in
+    let here = ap (λ m. escape_at m (values us)) (unicode_by u) ∙ read in
     let front = escape_spelled e kind v n (values us) here in
     (in_units us front.spelled front.rest n front.whole front.count, escape_small e kind v n (values us) here)
 
@@ -69,4 +69,4 @@ pub any_within : (us : List CodePoint) (unicode : Bool) (context : LegacyContext
     → All (λ unit. unit.value ≤ 0x10FFFF) us → IsWithin (length us) answer
 any_within us unicode context answer read small =
     let e = environment_by unicode context.groups context.named in
-    any_read_within context.inside e us answer (read e (unicode_by unicode false refl) refl refl) small
+    any_read_within context.inside e us answer (read e (unicode_by unicode) refl refl) small

@@ -26,7 +26,7 @@ use Rattle.rx_model.specs.Classes.ClassRows as row
 use Rattle.rx_model.specs.Classes.ClassRuns.{atom_obeys}
 use Rattle.rx_model.specs.Classes.ClassTokens.{character}
 use Rattle.rx_model.specs.Spelling.ClassText.{class_escape_text}
-use Rattle.rx_model.specs.Inputs.Environment.{Environment, is_unicode}
+use Rattle.rx_model.specs.Inputs.Environment.{Environment, is_sets, is_unicode}
 use Rattle.rx_model.specs.Characters.EscapeFronts.{EscapeRead, any_escape_at, class_escape_at, escaped, nothing}
 use Rattle.rx_model.specs.Characters.EscapeFronts.{escape_at}
 use Rattle.rx_model.specs.Characters.Escapes.{SpellsEscape, control, front_is, hexadecimal, identity, is_identity_escape, letter, null}
@@ -47,16 +47,16 @@ use Rattle.rx_class.specs.PropertyAnswers as given_property
 use Rattle.rx_class.proofs.Keeping.{keeps_placed, stays_keeps}
 use Rattle.rx_class.proofs.PropertySpans.{cut_off, next_span}
 use Rattle.rx_model.specs.FirstPass.Marks.{starts}
-use Rattle.rx_model.specs.Inputs.Modes.{is_read}
 use Rattle.rx_model.proofs.Characters.Backslashes.{class_found, no_right}
 use Rattle.rx_model.proofs.Characters.Escapes.{escape_nothing}
 use Rattle.rx_model.proofs.Characters.LegacyEscapes.{IsCharacterOrNothing, any_in_unicode, any_read, any_refused, any_spelled}
 use Rattle.rx_model.proofs.Classes.ClassFronts.{any_there, class_letter}
-use Rattle.rx_model.proofs.Inputs.Modes.{read_in_unicode}
+use Rattle.rx_model.proofs.Inputs.Modes.{unicode_alone}
 use Rattle.rx_model.proofs.Refusals.Stops.{some_there, two_number}
 use Rattle.rx_class.proofs.Behind.{StandsBehind, stands, stands_within}
 use Rattle.rx_class.proofs.Gives.{nothing_in_legacy, refusal_cause, refusal_keeps}
-use Rattle.rx_class.proofs.Modes.{no_strings, read_hyphen, read_raw}
+use Rattle.rx_class.proofs.ClassSteps.{property_place}
+use Rattle.rx_class.proofs.Modes.{hyphen_without_sets, raw_without_sets}
 
 -- no class escape stands behind a backslash
 abbrev BeginsNoClassEscape : List ℕ → Type 0
@@ -74,10 +74,6 @@ not_alone unicode c w h = (grind (arith, nat_tests), grind (arith, nat_tests))
 none_there : {A : Type 0} (o : Option A) → ((it : A) → o ≡ Some it → ⊥) → o ≡ None
 none_there None h = refl
 none_there (Some it) h = absurd (h it refl)
-
-never_of_strings : (negative strings : Bool) → strings ≡ false → not (negative && strings) ≡ true
-never_of_strings true strings h = ap not h
-never_of_strings false strings h = refl
 
 -- a class escape is one unit behind its backslash
 one_unit : (kind : CharacterClassEscapeKind) (w : List CodePoint) → 92 ∷ values w ≡ class_escape_text kind → 1 ≡ length w
@@ -143,7 +139,7 @@ refusal_refuses (found.many_digits keeps) h = h
 refusal_refuses (found.no_escape_of_u keeps) h = h
 
 -- What is answered behind a backslash is answered from the backslash on.
-module _ (e : Environment) (read : is_read e.mode ≡ true) (added start : ℕ) (old : Cursor) (is : IsBehindBackslash old start) where
+module _ (e : Environment) (no_sets : is_sets e.mode ≡ false) (added start : ℕ) (old : Cursor) (is : IsBehindBackslash old start) where
   b : StandsBehind old
   b = stands old start is
 
@@ -167,7 +163,7 @@ module _ (e : Environment) (read : is_read e.mode ≡ true) (added start : ℕ) 
     | inl p ↦ let eight : v ≡ 8 = cc p.1 in rw (eqb-true c 98 p.0, eight) (row.backspace, refl)
     | inr p ↦ elim (chosen (is_unicode e.mode && c == 45) p.1) [
       | inl q ↦ let both_are = both (is_unicode e.mode) (c == 45) q.0 in
-          let itself : v ≡ 45 = cc q.1 in rw (eqb-true c 45 both_are.1, itself) (row.hyphen (read_in_unicode e.mode read both_are.0), refl)
+          let itself : v ≡ 45 = cc q.1 in rw (eqb-true c 45 both_are.1, itself) (row.hyphen (unicode_alone e.mode no_sets both_are.0), refl)
       | inr q ↦ absurd (let no : ⊥ = cc q.1 in no)
     ]
   ]
@@ -189,8 +185,7 @@ module _ (e : Environment) (read : is_read e.mode ≡ true) (added start : ℕ) 
       (moves ∙ ap (λ n. moved n old) (one_unit it.kind w text))
 
   pub property_gives : (it : UnicodePropertyEscape) (new : Cursor) → GivesProperty e added start old new (Ok (Some it)) → GivesAtom e added (back old) new (Ok (atom.Property it))
-  property_gives it new (given_property.some backslash w more whole spells covers moves) =
-      gives (atom.Property it) new backslash w more whole spells (never_of_strings it.negative it.strings (no_strings e.mode it.strings it.name it.value spells.text read spells.spelled)) covers moves
+  property_gives it new (given_property.some backslash w more whole spells obeys covers moves) = gives (atom.Property it) new backslash w more whole spells (ap not obeys) covers moves
 
   pub character_gives : (found : EscapeRead) (it : Character) (new : Cursor) → any_escape_at true e (values (rest old)) ≡ found → AnswersFound added start old new found (Ok (Some it))
       → GivesAtom e added (back old) new (Ok (atom.Character it))
@@ -211,7 +206,7 @@ module _ (e : Environment) (read : is_read e.mode ≡ true) (added start : ℕ) 
 
     pub property_refused : (f : Fault) (new : Cursor) → GivesProperty e added start old new (Err f) → GivesAtom e added (back old) new (Err f)
     property_refused _ new (given_property.refused cause first none keeps) =
-        answer.refused (λ from at_class place. property_in_class (old.place - 1) (from_backslash old) (in_text from at_class _ place) cause) (keeps_placed (old.place - 1) old new keeps)
+        answer.refused (λ from at_class place. property_in_class (old.place - 1) (from_backslash old) (property_place no_sets (in_text from at_class _ place)) cause) (keeps_placed (old.place - 1) old new keeps)
     property_refused _ new (given_property.no_memory keeps) = answer.no_memory (keeps_placed (old.place - 1) old new keeps)
 
     pub character_refused : (read : EscapeRead) (d : Diagnostic) (new : Cursor) → any_escape_at true e (values (rest old)) ≡ read → AnswersFound added start old new read (Err d)
@@ -228,7 +223,7 @@ module _ (e : Environment) (read : is_read e.mode ≡ true) (added start : ℕ) 
         → GivesAtom e added (back old) new (Err (fault.Diagnostic (InvalidClassAtom span)))
     nothing_refused _ span new here no_others (found.none stays) covers =
         answer.refused (λ from at_class place.
-        rw at_backslash (invalid_atom (old.place - 1) b.backslash (rest old) (subst (IsAtomPlace _ from at_class (old.place - 1)) b.whole (in_text from at_class _ place)) b.value_is
+        rw at_backslash (invalid_atom (old.place - 1) b.backslash (rest old) no_sets (subst (IsAtomPlace _ from at_class (old.place - 1)) b.whole (in_text from at_class _ place)) b.value_is
         (subst (λ t. begins_class_escape t (values (rest old)) ≡ false) same (nothing_begins e (values (rest old)) no_others here))))
         (keeps_placed (old.place - 1) old new (stays_keeps old new (stands_within old start is) stays))
       where
@@ -265,11 +260,11 @@ begins_otherwise [] none h = refl
 begins_otherwise (u ∷ us) none h = false_from_ne_true _ (λ t. h (eqb-true u.value 92 t))
 
 -- A unit that is no backslash stands for itself, and a `-` is a symbol.
-module _ (e : Environment) (read : is_read e.mode ≡ true) where
+module _ (e : Environment) (no_sets : is_sets e.mode ≡ false) where
   itself : (u : CodePoint) (more : List CodePoint) → (u.value == 92) ≡ false → (u.value == 93) ≡ false → (b : Bool) → (u.value == 45) ≡ b → SpellsClassCharacter e (kind_in_class u) u.value (u ∷ []) more
   itself u more k l true h =
-      let value = eqb-true u.value 45 h in rw h (subst (λ v. SpellsClassCharacter e kinds.Symbol v (u ∷ []) more) (sym value) (row.hyphen u (read_hyphen e.mode read) value))
-  itself u more k l false h = rw h (row.raw u (read_raw e.mode u.value read ∙ rw (h, k, l) refl))
+      let value = eqb-true u.value 45 h in rw h (subst (λ v. SpellsClassCharacter e kinds.Symbol v (u ∷ []) more) (sym value) (row.hyphen u (hyphen_without_sets e.mode no_sets) value))
+  itself u more k l false h = rw h (row.raw u (raw_without_sets e.mode u.value (values more) no_sets ∙ rw (h, k, l) refl))
 
   pub unit_gives : (added s : ℕ) (old new : Cursor) (us : List CodePoint) (none : CodePoint) (span : Span) (kind : CharacterKind) → us ≡ rest old → StandsItem (rest old) → All (λ u. u.value ≤ 0x10FFFF) us
       → starts 92 (values (rest old)) ≡ false → new ≡ moved 1 old → s ≡ offset_of old → span ≡ span_to added s new → kind ≡ kind_in_class (get_or us 0 none)

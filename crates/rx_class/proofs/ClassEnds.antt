@@ -17,22 +17,22 @@ use Rattle.rx_units.specs.declared.code_point.CodePoint.{CodePoint}
 use Rattle.rx_units.specs.Cursor.{Cursor, begins, front, moved, offset_of, rest}
 use Rattle.rx_units.specs.Units.{offset_at, values}
 use Rattle.rx_model.specs.declared.mode.Mode.{Mode}
-use Rattle.rx_model.specs.Refusals.ClassCauses.{IsClassCause, unterminated_class}
-use Rattle.rx_model.specs.Refusals.ClassPlaces.{IsItemPlace}
-use Rattle.rx_model.specs.Refusals.Firsts.{IsFirstInClass}
-use Rattle.rx_model.specs.Classes.ClassRows.{ClassRow, ClassTokenRow, SpellsInClass, fresh, outside}
-use Rattle.rx_model.specs.Classes.ClassRuns.{bracket_of, empty}
+use Rattle.rx_model.specs.Refusals.ClassCauses.{IsClassCause, NothingFollows, unterminated_class}
+use Rattle.rx_model.specs.Refusals.ClassPlaces.{IsInBracket, IsItemPlace, of_class}
+use Rattle.rx_model.specs.Classes.ClassRows.{ClassRow, ClassTokenRow, Place, SpellsInClass, fresh, outside}
+use Rattle.rx_model.specs.Classes.ClassRuns.{Held, bracket_of, empty}
 use Rattle.rx_model.specs.Classes.ClassTokens.{bracket, closer, leave, token, members_events, more_members_events}
-use Rattle.rx_model.specs.Inputs.Environment.{Environment, environment_with, has_some}
-use Rattle.rx_model.specs.Inputs.Modes.{is_read, mode_by}
+use Rattle.rx_model.specs.Inputs.Environment.{Environment, environment_with, has_some, is_sets}
+use Rattle.rx_model.specs.Inputs.Modes.{mode_by}
 use Rattle.rx_model.specs.FirstPass.Marks.{starts}
 use Rattle.rx_model.specs.Refusals.Reached.{span_between, text_environment}
-use Rattle.rx_model.proofs.Classes.ClassFronts.{members_are}
-use Rattle.rx_model.proofs.Classes.ClassStops.{no_class, stopped}
-use Rattle.rx_model.proofs.Classes.ClassTokens.{more_tokens_are, union_tokens}
+use Rattle.rx_model.proofs.Classes.ClassBeyond.{no_class}
+use Rattle.rx_model.proofs.Classes.ClassFaults.{stuck}
+use Rattle.rx_model.proofs.Classes.ClassFronts.{token_some}
+use Rattle.rx_model.proofs.Classes.ClassStates.{opened_union}
+use Rattle.rx_model.proofs.Classes.ClassTokens.{members_are, more_tokens_are, union_tokens}
 use Rattle.rx_model.proofs.Classes.ClassUnspanned.{class_row_tokens}
 use Rattle.rx_model.proofs.Classes.OneInClass.{class_cause_is_first}
-use Rattle.rx_model.proofs.Inputs.Modes.{read_no_sets}
 use Rattle.rx_scan.specs.declared.state.State.{State}
 use Rattle.rx_class.specs.declared.class_item.ClassItem.{ClassItem}
 use Rattle.rx_class.specs.EscapeAnswers.{environment_of, span_to}
@@ -43,6 +43,7 @@ use Rattle.rx_class.specs.ClassItems as item_answer
 use Rattle.rx_class.specs.Keeping.{KeepsUnits}
 use Rattle.rx_class.proofs.ClassItems.{AreItems, items_push, rows_append}
 use Rattle.rx_class.proofs.Keeping.{Passes, keeps_on, passes_keeps, passes_moved, passes_on, passes_over}
+use Rattle.rx_class.proofs.SetRefusals.{unit_next}
 
 -- the offset of a place of a reader's text
 abbrev pub offset_in : ℕ → Cursor → ℕ → ℕ
@@ -70,8 +71,18 @@ not_eaten : (c : ℕ) (us : List CodePoint) → begins (c ∷ []) us ≡ false �
 not_eaten c [] h = refl
 not_eaten c (u ∷ us) h = let k = and-true (u.value == c) in sym k ∙ h
 
-eats : (c : ℕ) (old new : Cursor) → begins (c ∷ []) (rest old) ≡ true → new ≡ moved 1 old → (u : CodePoint) × (u.value ≡ c) × Passes old new (u ∷ [])
-eats c old new h is = let t = eaten c (rest old) h in let p = passes_moved old new (t.0 ∷ []) t.1 t.2 (omega arith) is in (t.0, t.3, p.0)
+-- the reader moves over that unit
+passes_one : (c : ℕ) (old new : Cursor) → (u : CodePoint) × (more : List CodePoint) × (rest old ≡ u ∷ more) × (u.value ≡ c) → new ≡ moved 1 old → (u : CodePoint) × (u.value ≡ c) × Passes old new (u ∷ [])
+passes_one c old new t is = let p = passes_moved old new (t.0 ∷ []) t.1 t.2 (omega arith) is in (t.0, t.3, p.0)
+
+-- No `[` stands next.
+no_bracket : (us : List CodePoint) → true ≡ not (option_eq eqb (front us) (Some 91)) → starts 91 (values us) ≡ false
+no_bracket [] h = refl
+no_bracket (u ∷ us) h = is_false (u.value == 91) h
+  where
+    is_false : (b : Bool) → true ≡ not b → b ≡ false
+    is_false false h = refl
+    is_false true h = absurd (let no : ⊥ = cc h in no)
 
 module _ (e : Environment) (added : ℕ) (old : Cursor) where
   opened : (new : Cursor) (negative : Bool) (w : List CodePoint) → Passes old new w → SpellsInClass e outside (bracket negative) w (rest new) → IsInClass e added old new negative no_member
@@ -80,23 +91,23 @@ module _ (e : Environment) (added : ℕ) (old : Cursor) where
     v = [];
     passes = subst (Passes old new) (sym (append-nil w)) p;
     opens = opens;
-    items = record { row = (refl, ap (λ (r : Cursor). r.place) (sym p.moves), refl); early = tt; no_strings = refl; holds = record { held = empty; union = tt; run = refl } };
+    items = record { row = (refl, ap (λ (r : Cursor). r.place) (sym p.moves), refl); sound = record { fitting = tt; flagged = tt; early = tt }; no_strings = refl; holds = record { held = empty; union = tt; run = refl } };
   }
 
   -- Behind its bracket the reader is in a class.
-  pub begins_class : (mid new : Cursor) (negative : Bool) → begins (91 ∷ []) (rest old) ≡ true → mid ≡ moved 1 old → negative ≡ begins (94 ∷ []) (rest mid) →
+  pub begins_class : (mid new : Cursor) (negative : Bool) → starts 91 (values (rest old)) ≡ true → mid ≡ moved 1 old → negative ≡ begins (94 ∷ []) (rest mid) →
       new ≡ (if negative then moved 1 mid else mid) → IsInClass e added old new negative no_member
   begins_class mid new true h m n is =
-      let a = eats 91 old mid h m in
-      let b = eats 94 mid new (sym n) is in
+      let a = passes_one 91 old mid (unit_next 91 (rest old) h) m in
+      let b = passes_one 94 mid new (eaten 94 (rest mid) (sym n)) is in
       opened new true (a.0 ∷ b.0 ∷ []) (passes_on a.2 b.2) (ap₂ (λ x y. x ∷ y ∷ []) a.1 b.1)
   begins_class mid new false h m n is =
-      let a = eats 91 old mid h m in
+      let a = passes_one 91 old mid (unit_next 91 (rest old) h) m in
       rw is (opened mid false (a.0 ∷ []) a.2 (ap (λ x. x ∷ []) a.1, not_eaten 94 (rest mid) (sym n)))
 
   -- Where no `[` stands the reader stays.
-  pub none_gives : (new : Cursor) → false ≡ begins (91 ∷ []) (rest old) → new ≡ old → GivesClass e added old new (Ok None)
-  none_gives new h is = class_answer.none is (not_eaten 91 (rest old) (sym h))
+  pub none_gives : true ≡ not (option_eq eqb (front (rest old)) (Some 91)) → GivesClass e added old old (Ok None)
+  none_gives h = class_answer.none refl (no_bracket (rest old) h)
 
 -- What a state says of the environment is what the whole text says.
 pub environment_is : (state : State) (r : Cursor) → HoldsFirstPass state r.units → IsOfText (environment_of state) r
@@ -116,18 +127,22 @@ closer_stands (Some c) h = ap Some (eqb-true c 93 (is_true (c == 93) h))
     is_true true h = refl
     is_true false h = absurd (let no : ⊥ = cc h in no)
 
--- What holds of a class is its first refusal, and no class stands there.
-refused_first : (mode : Mode) (us : List CodePoint) (first added from place : ℕ) (at_class : List CodePoint) (d : Diagnostic) → is_read mode ≡ true → IsClassCause mode us first added from at_class place d
-    → IsFirstInClass mode us first added from at_class d × BeginsNoClass (text_environment mode us) at_class
-refused_first mode us first added from place at_class d read cause =
-    let no_sets = read_no_sets mode read in
-    (class_cause_is_first mode no_sets us first added from at_class place d cause, no_class mode no_sets us from at_class place (stopped mode no_sets us from at_class first added place d cause))
+-- Where a refusal of a class holds no class stands.
+pub no_class_there : (mode : Mode) (us : List CodePoint) (first added from place : ℕ) (at_class : List CodePoint) (d : Diagnostic) → IsClassCause mode us first added from at_class place d
+    → BeginsNoClass (text_environment mode us) at_class
+no_class_there mode us first added from place at_class d cause = no_class mode us first added from at_class place d (stuck mode us first added from at_class place d cause)
+
+-- At the end of the text nothing follows.
+pub nothing_follows : (e : Environment) (at : Place) (held : Held) → NothingFollows e at held []
+nothing_follows e at held t w more whole spells = absurd (omega (arith, token_some e at t w more spells, ap length whole, length-append w more))
 
 module _ {e : Environment} {added : ℕ} {old mid : Cursor} {negative : Bool} {ms : Members} (h : IsInClass e added old mid negative ms) where
   -- an item may begin here
   here : IsItemPlace e old.place (rest old) mid.place (rest mid)
   here = record {
     tokens = bracket negative ∷ union_tokens ms;
+    at = fresh;
+    begins = refl;
     inner = bracket_of negative h.items.holds.held false;
     outer = [];
     row = (
@@ -142,20 +157,34 @@ module _ {e : Environment} {added : ℕ} {old mid : Cursor} {negative : Bool} {m
     place_is = omega (arith, ap (λ (r : Cursor). r.place) h.passes.moves, ap length h.passes.whole, length-append (h.w ++ h.v) (rest mid));
   }
 
+  in_bracket : IsInBracket e old.place (rest old) false old.place mid.place (rest mid)
+  unfolding here
+  in_bracket = record { at_bracket = rest old; begins = of_class; item_place = here; innermost = refl }
+
   -- The text ends in the class, or an item is refused.
-  module _ (read : is_read e.mode ≡ true) (same : IsOfText e old) where
+  module _ (no_sets : is_sets e.mode ≡ false) (same : IsOfText e old) where
     first_gives : (new : Cursor) (place : ℕ) (d : Diagnostic) → IsClassCause e.mode old.units old.first added old.place (rest old) place d → KeepsUnits old new →
         GivesClass e added old new (Err (fault.Diagnostic d))
     first_gives new place d cause keeps =
-        let first = refused_first e.mode old.units old.first added old.place place (rest old) d read cause in
-        class_answer.refused first.0 (subst (λ t. BeginsNoClass t (rest old)) (sym same) first.1) keeps
+        class_answer.refused (class_cause_is_first e.mode old.units old.first added old.place (rest old) no_sets place d cause)
+        (subst (λ t. BeginsNoClass t (rest old)) (sym same) (no_class_there e.mode old.units old.first added old.place place (rest old) d cause)) keeps
 
     pub unterminated_gives : (start : ℕ) (span : Span) → rest mid ≡ [] → start ≡ offset_of old → span ≡ span_to added start mid →
         GivesClass e added old mid (Err (fault.Diagnostic (UnterminatedPattern span what.CharacterClass)))
     unterminated_gives start span none s is =
-        rw covers (first_gives mid mid.place _ (unterminated_class mid.place (subst (λ t. IsItemPlace t old.place (rest old) mid.place []) same (subst (IsItemPlace e old.place (rest old) mid.place) none here)))
-        (passes_keeps h.passes))
+        rw covers (first_gives mid mid.place _ ends (passes_keeps h.passes))
       where
+        in_class : IsInBracket (text_environment e.mode old.units) old.place (rest old) false old.place mid.place []
+        in_class =
+            subst (λ t. IsInBracket t old.place (rest old) false old.place mid.place []) same (subst (IsInBracket e old.place (rest old) false old.place mid.place) none in_bracket)
+
+        ends : IsClassCause e.mode old.units old.first added old.place (rest old) mid.place (UnterminatedPattern (span_between old.units old.first added old.place mid.place) what.CharacterClass)
+        ends =
+            let i = in_class.item_place in
+            unterminated_class false old.place mid.place [] in_class
+            (opened_union (text_environment e.mode old.units) no_sets i.tokens in_class.at_bracket i.at [] i.inner i.outer i.row i.accepted)
+            (nothing_follows (text_environment e.mode old.units) i.at i.inner.held) (λ sets empties. refl) (λ no. refl)
+
         covers : span ≡ span_between old.units old.first added old.place mid.place
         covers =
             let keeps = passes_keeps h.passes in
@@ -210,13 +239,13 @@ module _ {e : Environment} {added : ℕ} {old mid : Cursor} {negative : Bool} {m
       mirror_class it ≡ class it.span negative false Union ms → GivesClass e added old new (Ok (Some it))
   class_gives new start it closes moves s span mirror =
       class_answer.some (h.w ++ inside) (rest new) all.whole (rw mirror record {
-        shape = (tt, sym h.items.no_strings);
+        shape = ((tt, h.items.sound.fitting), (sym h.items.no_strings, h.items.sound.flagged));
         row = (
           ap (λ (s : Span). s.start) span ∙ ap (λ n. n + added) s,
           (h.w, inside ++ rest new, append_assoc h.w inside (rest new), subst (SpellsInClass e outside (bracket negative) h.w) units h.opens, closed),
         );
       })
-      (rw mirror (sym h.items.no_strings, and-false negative, h.items.early)) (passes_over all)
+      (rw mirror (sym h.items.no_strings, and-false negative, h.items.sound.early)) (passes_over all)
     where
       u : (u : CodePoint) × (more : List CodePoint) × (rest mid ≡ u ∷ more) × (u.value ≡ 93)
       u = next_is (rest mid) 93 closes

@@ -1,5 +1,5 @@
 -- Items that stand one after another in a class: what they spell, and what the bracket around them holds.
-use Rattle.std.proofs.Common.{◌≡◌, refl, sym, ap, ◌∙◌, subst, ℕ, ◌+◌, Bool, false, Some, List, [], ◌∷◌, ◌++◌, length, append_assoc}
+use Rattle.std.proofs.Common.{◌≡◌, refl, sym, ap, ◌∙◌, subst, ℕ, ◌+◌, Bool, false, Some, List, [], ◌∷◌, ◌++◌, length, append-nil, append_assoc}
 use Rattle.std.specs.Prelude.{map}
 use Rattle.std.proofs.lemmas.Bool.{le-leb, or_parts}
 use Rattle.std.proofs.lemmas.List.{map-append}
@@ -14,7 +14,10 @@ use Rattle.rx_model.specs.Trees.Early.{AreEarlyMembers, IsEarlyMember, any_strin
 use Rattle.rx_model.specs.Inputs.Environment.{Environment}
 use Rattle.rx_model.proofs.Classes.ClassTokens.{union_tokens}
 use Rattle.rx_model.proofs.Classes.ClassWholes.{IsUnion, atom_runs, class_run-append, property_obeys, range_runs}
+use Rattle.rx_model.specs.Classes.ClassShapes.{IsFittingMember, IsFlaggedMember}
 use Rattle.rx_class.specs.ClassItems.{ArePlain, IsItem, IsPlain, contents}
+use Rattle.rx_class.specs.WellBuilt.{AreSound, IsSound}
+use Rattle.rx_class.proofs.MembersPushed.{sound_pushed}
 
 -- After an item the bracket is around a union still.
 pub record Holds (negative : Bool) (ts : List ClassToken) (from : Held) : Type 0 where
@@ -46,6 +49,31 @@ members_hold negative from (m ∷ ms) u early plain none =
       run = class_run-append (class_tokens_of (member_events m)) (union_tokens (members ms)) (bracket_of negative from false ∷ []) (bracket_of negative h.held false ∷ []) h.run ∙ g.run;
     }
 
+-- What holds no class and no class strings is as the grammar asks for.
+plain_fitting : (m : Member) → IsPlain m → IsFittingMember m
+plain_fitting (tree.range r) plain = tt
+plain_fitting (tree.escape e) plain = tt
+plain_fitting (tree.property p) plain = tt
+plain_fitting (tree.character c) plain = tt
+plain_fitting (tree.nested c) plain = absurd plain
+plain_fitting (tree.strings d) plain = absurd plain
+
+plain_flagged : (m : Member) → IsPlain m → IsFlaggedMember m
+plain_flagged (tree.range r) plain = tt
+plain_flagged (tree.escape e) plain = tt
+plain_flagged (tree.property p) plain = tt
+plain_flagged (tree.character c) plain = tt
+plain_flagged (tree.nested c) plain = absurd plain
+plain_flagged (tree.strings d) plain = absurd plain
+
+plain_sound : (m : Member) → IsPlain m → IsEarlyMember m → IsSound m
+plain_sound m plain early = record { fitting = plain_fitting m plain; flagged = plain_flagged m plain; early = early }
+
+sound_push : (xs ys : List Member) → AreSound (members xs) → ArePlain ys → AreEarlyMembers (members ys) → AreSound (members (xs ++ ys))
+sound_push xs [] sound plain early = subst (λ ms. AreSound (members ms)) (sym (append-nil xs)) sound
+sound_push xs (y ∷ ys) sound plain early =
+    subst (λ ms. AreSound (members ms)) (append_assoc xs (y ∷ []) ys) (sound_push (xs ++ (y ∷ [])) ys (sound_pushed xs y sound (plain_sound y plain.0 early.0)) plain.1 early.1)
+
 module _ (e : Environment) (o : ℕ → ℕ) where
   -- Rows, one after the other.
   pub rows_append : (es fs : ClassEvents) (q : Place) (i : ℕ) (us : List CodePoint) (r : Place) (j : ℕ) (rest : List CodePoint) (s : Place) (k : ℕ) (end : List CodePoint) →
@@ -60,7 +88,7 @@ module _ (e : Environment) (o : ℕ → ℕ) where
   -- Items stand one after another from place i on to place j, where the rest is left.
   pub record AreItems (negative : Bool) (ms : Members) (i : ℕ) (us : List CodePoint) (j : ℕ) (rest : List CodePoint) : Type 0 where
     pub row : ClassRow e o (more_members_events [] ms) fresh i us fresh j rest
-    pub early : AreEarlyMembers ms
+    pub sound : AreSound ms
     pub no_strings : any_strings ms ≡ false
     pub holds : Holds negative (union_tokens ms) empty
 
@@ -74,10 +102,6 @@ module _ (e : Environment) (o : ℕ → ℕ) where
   tokens_push [] ys = refl
   tokens_push (x ∷ xs) ys =
       ap (λ ts. class_tokens_of (member_events x) ++ ts) (tokens_push xs ys) ∙ sym (append_assoc (class_tokens_of (member_events x)) (union_tokens (members xs)) (union_tokens (members ys)))
-
-  early_push : (xs ys : List Member) → AreEarlyMembers (members xs) → AreEarlyMembers (members ys) → AreEarlyMembers (members (xs ++ ys))
-  early_push [] ys h k = k
-  early_push (x ∷ xs) ys h k = (h.0, early_push xs ys h.1 k)
 
   strings_push : (xs ys : List Member) → any_strings (members xs) ≡ false → any_strings (members ys) ≡ false → any_strings (members (xs ++ ys)) ≡ false
   strings_push [] ys h k = k
@@ -93,7 +117,7 @@ module _ (e : Environment) (o : ℕ → ℕ) where
       ∙ class_run-append (union_tokens (members xs)) (union_tokens (members ys)) outer (bracket_of negative h.holds.held false ∷ []) h.holds.run ∙ g.run in
       record {
         row = rw (events_push xs ys) (rows_append (more_members_events [] (members xs)) (more_members_events [] (members ys)) fresh i us fresh j (w ++ rest) fresh (j + length w) rest h.row it.row);
-        early = early_push xs ys h.early it.early;
+        sound = sound_push xs ys h.sound it.plain it.early;
         no_strings = strings_push xs ys h.no_strings it.no_strings;
         holds = record { held = g.held; union = g.union; run = run };
       }

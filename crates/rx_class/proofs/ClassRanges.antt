@@ -1,6 +1,6 @@
 -- An item of a class is an atom, or a range of two atoms with a `-` between them.
 use Rattle.std.proofs.Common.{◌≡◌, refl, sym, ap, ◌∙◌, subst, ℕ, ◌+◌, ◌<◌, ◌≤◌, ◌==◌, Bool, true, false, not, ◌&&◌, Some, Ok, Err, List, [], ◌∷◌, ◌++◌, length, arith, inl, inr, append_assoc, length-append}
-use Rattle.std.proofs.lemmas.Bool.{eqb-true, leb-true}
+use Rattle.std.proofs.lemmas.Bool.{eqb-true, leb-true, true≢false}
 use Rattle.std.proofs.lemmas.Bool.Decides.{nat_tests}
 use Rattle.rx_base.specs.declared.diagnostic.Diagnostic.{Diagnostic}
 use Rattle.rx_base.specs.declared.fault.Fault.{Fault}
@@ -23,12 +23,11 @@ use Rattle.rx_model.specs.Classes.ClassRows.{BeforeThird, ClassRow, SpellsAtom, 
 use Rattle.rx_model.specs.Classes.ClassRuns.{atom_obeys}
 use Rattle.rx_model.specs.Classes.ClassTokens.{Atom, character, item, leave, member_events, token, within}
 use Rattle.rx_model.specs.Trees.Early.{IsEarlyMember, member_strings}
-use Rattle.rx_model.specs.Inputs.Environment.{Environment, is_unicode}
-use Rattle.rx_model.specs.Inputs.Modes.{is_read}
+use Rattle.rx_model.specs.Inputs.Environment.{Environment, is_sets, is_unicode}
 use Rattle.rx_model.specs.Refusals.Reached.{span_between, text_environment}
 use Rattle.rx_model.proofs.Characters.Decodings.{both}
 use Rattle.rx_model.proofs.Classes.ClassFronts.{atom_some, behind_first, behind_one}
-use Rattle.rx_model.proofs.Inputs.Modes.{read_in_unicode}
+use Rattle.rx_model.proofs.Inputs.Modes.{unicode_alone}
 use Rattle.rx_class.specs.declared.class_atom.ClassAtom.{ClassAtom}
 use Rattle.rx_class.specs.declared.class_atom.ClassAtom.TheVariants as atom
 use Rattle.rx_class.specs.declared.class_item.ClassItem.{ClassItem}
@@ -39,6 +38,7 @@ use Rattle.rx_class.specs.ClassItems as items
 use Rattle.rx_class.specs.Fitting.{AreFitting}
 use Rattle.rx_class.proofs.Fitting.{moved_are_fitting}
 use Rattle.rx_class.proofs.Keeping.{Passes, keeps_from, passes_keeps, passes_moved, passes_on, passes_over}
+use Rattle.rx_class.proofs.ClassSteps.{operand_place}
 use Rattle.rx_class.proofs.Modes.{legacy_threes, no_strings}
 use Rattle.rx_class.proofs.PropertySpans.{next_span}
 
@@ -162,10 +162,10 @@ atom_plain (atom.Character c) = tt
 atom_plain (atom.Escape c) = tt
 atom_plain (atom.Property p) = tt
 
-atom_no_strings : (e : Environment) (a : ClassAtom) (w more : List CodePoint) → is_read e.mode ≡ true → SpellsAtom e (atom_of a) w more → member_strings (atom_member a) ≡ false
-atom_no_strings e (atom.Character c) w more read s = refl
-atom_no_strings e (atom.Escape c) w more read s = refl
-atom_no_strings e (atom.Property p) w more read s = no_strings e.mode p.strings p.name p.value s.text read s.spelled
+atom_no_strings : (e : Environment) (a : ClassAtom) (w more : List CodePoint) → is_sets e.mode ≡ false → SpellsAtom e (atom_of a) w more → member_strings (atom_member a) ≡ false
+atom_no_strings e (atom.Character c) w more no_sets s = refl
+atom_no_strings e (atom.Escape c) w more no_sets s = refl
+atom_no_strings e (atom.Property p) w more no_sets s = no_strings e.mode p.strings p.name p.value s.text no_sets s.spelled
 
 module _ (e : Environment) (added : ℕ) (old : Cursor) where
   -- the reader at another place of its text
@@ -184,7 +184,7 @@ module _ (e : Environment) (added : ℕ) (old : Cursor) where
     pub obeys : atom_obeys (atom_of it) ≡ true
     pub span : atom_span it ≡ between (offset place) (offset (place + length w))
 
-  atom_stands : (place : ℕ) (new : Cursor) (it : ClassAtom) → GivesAtom e added (at place) new (Ok it) → AtomStands place new it
+  pub atom_stands : (place : ℕ) (new : Cursor) (it : ClassAtom) → GivesAtom e added (at place) new (Ok it) → AtomStands place new it
   atom_stands place new it (items.some w more whole spelled obeys span moves) =
       let p = passes_moved (at place) new w more whole (atom_some e (atom_of it) w more spelled) moves in
       record { w = w; passes = p.0; spelled = subst (SpellsAtom e (atom_of it) w) (sym p.1) spelled; obeys = obeys; span = span }
@@ -198,22 +198,22 @@ module _ (e : Environment) (added : ℕ) (old : Cursor) where
       → ClassRow e offset (within s (token (item a) ∷ [])) fresh old.place (w ++ more) fresh (old.place + length w) more
   alone_row a s w more spells alone is = (ap (λ (s : Span). s.start) is, (w, more, refl, (spells, inl alone), (ap (λ (s : Span). s.end) is, (behind_one e a more alone, refl, refl))))
 
-  alone_is : (it : ClassAtom) (w more : List CodePoint) → is_read e.mode ≡ true → SpellsAtom e (atom_of it) w more → atom_obeys (atom_of it) ≡ true → is_dashed (values more) ≡ false
+  alone_is : (it : ClassAtom) (w more : List CodePoint) → is_sets e.mode ≡ false → SpellsAtom e (atom_of it) w more → atom_obeys (atom_of it) ≡ true → is_dashed (values more) ≡ false
       → atom_span it ≡ between (offset old.place) (offset (old.place + length w)) → IsItem e offset old.place (atom_member it ∷ []) w more
-  alone_is it w more read s o d is = record {
+  alone_is it w more no_sets s o d is = record {
     some = atom_some e (atom_of it) w more s;
     row = rw (atom_events it) (alone_row (atom_of it) (atom_span it) w more s d is);
     early = (atom_early it o, tt);
     plain = (atom_plain it, tt);
-    no_strings = rw (atom_no_strings e it w more read s) refl;
+    no_strings = rw (atom_no_strings e it w more no_sets s) refl;
   }
 
-  pub alone_gives : {new : Cursor} {it : ClassAtom} {given : CharacterClassContents} {us : List CodePoint} {b : Bool} → is_read e.mode ≡ true → GivesAtom e added old new (Ok it) → us ≡ rest new
+  pub alone_gives : {new : Cursor} {it : ClassAtom} {given : CharacterClassContents} {us : List CodePoint} {b : Bool} → is_sets e.mode ≡ false → GivesAtom e added old new (Ok it) → us ≡ rest new
       → b ≡ is_dashed (values us) → b ≡ false → mirror_contents given ≡ atom_member it → GivesItem e added old new (Ok (given_item.One given))
-  alone_gives {new} {it} {given} {us} {b} read g same is_test is_false m =
+  alone_gives {new} {it} {given} {us} {b} no_sets g same is_test is_false m =
       let f = atom_stands old.place new it g in
       let alone = ap (λ us. is_dashed (values us)) (sym same) ∙ sym is_test ∙ is_false in
-      items.some f.w (rest new) f.passes.whole (rw m (alone_is it f.w (rest new) read f.spelled f.obeys alone f.span)) (passes_over f.passes)
+      items.some f.w (rest new) f.passes.whole (rw m (alone_is it f.w (rest new) no_sets f.spelled f.obeys alone f.span)) (passes_over f.passes)
 
   -- So is a unit that stands alone.
   lone_undashed : (new : Cursor) (us : List CodePoint) → rest old ≡ us → new ≡ moved 1 old → stands_alone (values us) ≡ true → is_dashed (values (rest new)) ≡ false
@@ -223,9 +223,9 @@ module _ (e : Environment) (added : ℕ) (old : Cursor) where
       ap (λ us. is_dashed (values us)) (passes_moved old new (u ∷ []) (v ∷ us) whole (omega arith) moves).1
       ∙ undashed v us (not_true (v.value == 45) (both (not (u.value == 92)) (not (v.value == 45)) h).1)
 
-  pub lone_gives : {new : Cursor} {it : ClassAtom} {given : CharacterClassContents} → is_read e.mode ≡ true → GivesAtom e added old new (Ok it) → new ≡ moved 1 old → stands_alone (values (rest old)) ≡ true
+  pub lone_gives : {new : Cursor} {it : ClassAtom} {given : CharacterClassContents} → is_sets e.mode ≡ false → GivesAtom e added old new (Ok it) → new ≡ moved 1 old → stands_alone (values (rest old)) ≡ true
       → mirror_contents given ≡ atom_member it → GivesItem e added old new (Ok (given_item.One given))
-  lone_gives {new} read g moves alone m = alone_gives read g refl refl (lone_undashed new (rest old) refl moves alone) m
+  lone_gives {new} no_sets g moves alone m = alone_gives no_sets g refl refl (lone_undashed new (rest old) refl moves alone) m
 
   -- An atom and the `-` of a range stand at a reader's place, and the reader moved over both.
   pub record DashStands (new : Cursor) (it : ClassAtom) (hyphen_at : Span) : Type 0 where
@@ -261,10 +261,10 @@ module _ (e : Environment) (added : ℕ) (old : Cursor) where
       }
 
   -- the place behind the `-`
-  dash_at : {new : Cursor} {it : ClassAtom} {h : Span} (d : DashStands new it h) → new ≡ at (old.place + length d.w + 1)
+  pub dash_at : {new : Cursor} {it : ClassAtom} {h : Span} (d : DashStands new it h) → new ≡ at (old.place + length d.w + 1)
   dash_at d = d.passes.moves ∙ ap at (omega (arith, length-append d.w (d.hyphen ∷ [])))
 
-  dash_whole : {new : Cursor} {it : ClassAtom} {h : Span} (d : DashStands new it h) → rest old ≡ d.w ++ (d.hyphen ∷ rest new)
+  pub dash_whole : {new : Cursor} {it : ClassAtom} {h : Span} (d : DashStands new it h) → rest old ≡ d.w ++ (d.hyphen ∷ rest new)
   dash_whole {new} {it} {h} d = d.passes.whole ∙ append_assoc d.w (d.hyphen ∷ []) (rest new)
 
   -- A fault of an atom at some place is one of the item.
@@ -273,14 +273,14 @@ module _ (e : Environment) (added : ℕ) (old : Cursor) where
   fault_of place new _ causes (items.refused {diagnostic = d} c keeps) = items.refused (causes d c) (keeps_from place old new keeps)
   fault_of place new _ causes (items.no_memory keeps) = items.no_memory (keeps_from place old new keeps)
 
-  pub first_gives : {new : Cursor} {given : Fault} → GivesAtom e added old new (Err given) → GivesItem e added old new (Err given)
-  first_gives {new} {given} g = fault_of old.place new given (λ d c from at_class p. (old.place, c from at_class (inl p))) g
+  pub first_gives : {new : Cursor} {given : Fault} → is_sets e.mode ≡ false → GivesAtom e added old new (Err given) → GivesItem e added old new (Err given)
+  first_gives {new} {given} no_sets g = fault_of old.place new given (λ d c from at_class p. (old.place, c from at_class (inl (operand_place no_sets p)))) g
 
-  pub second_gives : {to new : Cursor} {low : ClassAtom} {h : Span} {given : Fault} → DashStands to low h → GivesAtom e added to new (Err given) → GivesItem e added old new (Err given)
-  second_gives {to} {new} {low} {h} {given} d g =
+  pub second_gives : {to new : Cursor} {low : ClassAtom} {h : Span} {given : Fault} → is_sets e.mode ≡ false → DashStands to low h → GivesAtom e added to new (Err given) → GivesItem e added old new (Err given)
+  second_gives {to} {new} {low} {h} {given} no_sets d g =
       fault_of second new given (λ cause c from at_class p. (
         second,
-        c from at_class (inr (subst (IsSecondPlace e from at_class second) (ap rest (dash_at d)) record {
+        c from at_class (inr (inl (subst (IsSecondPlace e from at_class second) (ap rest (dash_at d)) record {
           first = old.place;
           atom = atom_of low;
           w = d.w;
@@ -289,8 +289,9 @@ module _ (e : Environment) (added : ℕ) (old : Cursor) where
           hyphen_is = d.hyphen_is;
           dashed = d.dashed;
           spelled = d.spelled;
+          of_union = λ sets. absurd (true≢false (sym sets ∙ no_sets));
           place_is = refl;
-        })),
+        }))),
       ))
       (subst (λ r. GivesAtom e added r new (Err given)) (dash_at d) g)
     where
@@ -338,7 +339,7 @@ module _ (e : Environment) (added : ℕ) (old : Cursor) where
     pair_out_of_memory {low} {high} {h} p = items.no_memory (passes_keeps p.passes)
 
     -- Why two atoms are no range is why there is no item.
-    module _ (read : is_read e.mode ≡ true) (same : IsOfText e old) where
+    module _ (no_sets : is_sets e.mode ≡ false) (same : IsOfText e old) where
       abbrev text : Environment
       text = text_environment e.mode old.units
 
@@ -357,26 +358,26 @@ module _ (e : Environment) (added : ℕ) (old : Cursor) where
       range_refused _ _ _ {h} no_three p (items.out_of_order {min = min} {max = max} less no_dash) =
           items.refused (rw (p.low_span, p.high_span) (λ from at_class place. (
             old.place,
-            cause.range_out_of_order old.place min.value max.value p.w p.v (rest new) p.hyphen (here p from at_class place) (range_stands min max p) less no_dash,
+            cause.range_out_of_order old.place min.value max.value p.w p.v (rest new) p.hyphen no_sets (here p from at_class place) (range_stands min max p) less no_dash,
           )))
           (passes_keeps p.passes)
       range_refused _ _ _ {h} no_three p (items.dash_out_of_order {min = min} {max = max} less dash) =
           let stands = subst (λ x. StandsRange text min.value p.w p.hyphen x p.v (rest new)) dash (range_stands min max p) in
           items.refused (rw (p.low_span, p.high_span) (λ from at_class place. (
             old.place,
-            cause.dash_out_of_order old.place min.value p.w p.v (rest new) p.hyphen (here p from at_class place) stands (subst (λ x. x < min.value) dash less),
+            cause.dash_out_of_order old.place min.value p.w p.v (rest new) p.hyphen no_sets (here p from at_class place) stands (subst (λ x. x < min.value) dash less),
           )))
           (passes_keeps p.passes)
       range_refused low high _ {h} no_three p (items.no_character apart) =
           items.refused (rw (p.low_span, p.high_span) (λ from at_class place. (
             old.place,
-            cause.invalid_range old.place (atom_of low) (atom_of high) p.w p.v (rest new) p.hyphen (here p from at_class place) (read_in_unicode e.mode read (unless_three apart no_three))
+            cause.invalid_range old.place (atom_of low) (atom_of high) p.w p.v (rest new) p.hyphen (here p from at_class place) (unicode_alone e.mode no_sets (unless_three apart no_three))
                 (subst (λ t. SpellsAtom t (atom_of low) p.w (p.hyphen ∷ (p.v ++ (rest new)))) same p.low_is) p.hyphen_is (subst (λ t. SpellsAtom t (atom_of high) p.v (rest new)) same p.high_is) apart,
           )))
           (passes_keeps p.passes)
 
     -- A range of two characters in order is an item.
-    range_is : (min max : Character) → min.value ≤ max.value → {h : Span} (p : PairStands new (atom.Character min) (atom.Character max) h)
+    pub range_is : (min max : Character) → min.value ≤ max.value → {h : Span} (p : PairStands new (atom.Character min) (atom.Character max) h)
         → IsItem e offset old.place (tree.range (record { span = between min.span.start max.span.end; min = min; max = max }) ∷ []) (p.w ++ (p.hyphen ∷ p.v)) (rest new)
     range_is min max ordered {h} p =
         let start = ap (λ (s : Span). s.start) p.low_span in
@@ -436,7 +437,7 @@ module _ (e : Environment) (added : ℕ) (old : Cursor) where
         w,
         hyphen ∷ (v ++ more),
         refl,
-        (low, inr before),
+        (low, inr (inl before)),
         subst (λ q. ClassRow e offset (leave (offset (old.place + length w)) ∷ (within (between (offset (old.place + length w)) (offset (old.place + length w + 1))) (token (item (character kinds.Symbol 45)) ∷ [])
             ++ within (between (offset (old.place + length w + 1)) (offset (old.place + length w + 1 + length v))) (token (item b) ∷ []))) q (old.place + length w) (hyphen ∷ (v ++ more)) fresh
             (old.place + length w + 1 + length v) more) (sym (behind_first e a (hyphen ∷ (v ++ more)) before))
@@ -444,16 +445,16 @@ module _ (e : Environment) (added : ℕ) (old : Cursor) where
       ),
     )
 
-    pub three_gives : {low high : ClassAtom} {h : Span} (given : ClassItem) → is_read e.mode ≡ true → (not (is_unicode e.mode) && not (is_character (atom_of low) && is_character (atom_of high))) ≡ true → PairStands new low high h
+    pub three_gives : {low high : ClassAtom} {h : Span} (given : ClassItem) → is_sets e.mode ≡ false → (not (is_unicode e.mode) && not (is_character (atom_of low) && is_character (atom_of high))) ≡ true → PairStands new low high h
         → item_members given ≡ atom_member low ∷ hyphen_member h ∷ atom_member high ∷ [] → GivesItem e added old new (Ok given)
-    three_gives {low} {high} {h} given read three p m =
+    three_gives {low} {high} {h} given no_sets three p m =
         items.some (p.w ++ (p.hyphen ∷ p.v)) (rest new) p.passes.whole (rw m record {
           some = omega (arith, length-append p.w (p.hyphen ∷ p.v));
           row = rw (atom_events low, atom_events high, ← place, append_assoc p.w (p.hyphen ∷ p.v) (rest new))
               (three_row (atom_of low) (atom_of high) (atom_span low) h (atom_span high) p.w p.v (rest new) p.hyphen before p.low_is p.high_is p.hyphen_is p.low_span p.hyphen_span p.high_span);
           early = (atom_early low p.low_obeys, (by_computing, (atom_early high p.high_obeys, tt)));
           plain = (atom_plain low, (tt, (atom_plain high, tt)));
-          no_strings = rw (atom_no_strings e low p.w _ read p.low_is, atom_no_strings e high p.v _ read p.high_is) refl;
+          no_strings = rw (atom_no_strings e low p.w _ no_sets p.low_is, atom_no_strings e high p.v _ no_sets p.high_is) refl;
         }) (passes_over p.passes)
       where
         by_computing : 45 ≤ 0x10FFFF

@@ -1,5 +1,5 @@
 -- What is found behind a backslash is what the reader of property escapes answers.
-use Rattle.std.proofs.Common.{◌≡◌, ℕ, ◌-◌, ◌∷◌, Some, Ok, Err, length, sym, ap, ◌∙◌, subst, arith}
+use Rattle.std.proofs.Common.{◌≡◌, ℕ, ◌-◌, ◌∷◌, Some, Ok, Err, length, sym, ap, ◌∙◌, subst, arith, Bool}
 use Rattle.std.proofs.lemmas.List.{length-map}
 use Rattle.rx_base.specs.declared.diagnostic.Diagnostic.{Diagnostic}
 use Rattle.rx_base.specs.declared.fault.Fault.TheVariants as fault
@@ -21,7 +21,7 @@ use Rattle.rx_model.proofs.Reading.Splits.{split_values}
 use Rattle.rx_model.proofs.Properties.PropertyRefusals.{cause_begins_no_property}
 
 module _ (e : Environment) (added start : ℕ) (old : Cursor) (is : IsBehindBackslash old start) where
-  pub property_gives : HasProperties e.mode → (it : UnicodePropertyEscape) (new : Cursor) (count : ℕ) → IsPropertyBehind e.mode (values (rest old)) it.negative it.strings it.name it.value count
+  pub property_gives : {sets : Bool} → HasProperties sets e.mode → (it : UnicodePropertyEscape) (new : Cursor) (count : ℕ) → IsPropertyBehind e.mode (values (rest old)) it.negative it.strings it.name it.value count
       → it.span ≡ span_to added start new → new ≡ moved count old → GivesProperty e added start old new (Ok (Some it))
   property_gives has it new count found span moves =
       let b = stands old start is in
@@ -34,11 +34,11 @@ module _ (e : Environment) (added start : ℕ) (old : Cursor) (is : IsBehindBack
         spelled = found.spelled;
         whole = ap (λ c. c ∷ values split.front) b.value_is ∙ ap (λ w. 92 ∷ w) split.front_is ∙ found.front_is;
       }
-      span (moves ∙ ap (λ n. moved n old) counted)
+      found.obeys span (moves ∙ ap (λ n. moved n old) counted)
 
-  pub halt_gives : HasProperties e.mode → (h : PropertyHalt) (new : Cursor) (diagnostic : Diagnostic) → IsPropertyHalt e.mode (values (rest old)) h
+  pub halt_gives : (h : PropertyHalt) (new : Cursor) (diagnostic : Diagnostic) → IsPropertyHalt e.mode (values (rest old)) h
       → diagnostic ≡ property_refusal old.units old.first added (old.place - 1) h → KeepsUnits old new → GivesProperty e added start old new (Err (fault.Diagnostic diagnostic))
-  halt_gives has h new diagnostic halts is_refusal keeps =
+  halt_gives h new diagnostic halts is_refusal keeps =
       let here = subst (IsPropertyCause e.mode old.units old.first added (old.place - 1) (from_backslash old)) (sym is_refusal)
       (halts old.units (from_backslash old) old.first added (old.place - 1) (from_backslash_values old start is)) in
       refused here

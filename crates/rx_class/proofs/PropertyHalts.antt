@@ -1,22 +1,24 @@
--- What is found behind `\p{` and `\P{` is what stands there, in a mode that has properties, none of strings.
-use Rattle.std.proofs.Common.{◌≡◌, ◌≢◌, ℕ, ◌+◌, ◌-◌, ◌<◌, ◌≤◌, ◌==◌, ◌⊎◌, get_or, take, drop, inl, inr, Bool, true, false, List, [], ◌∷◌, ◌++◌, Option, Some, Contains, length, refl, sym, ap, ◌∙◌, subst, arith, length-append}
+-- What is found behind `\p{` and `\P{` is what stands there, in a mode that has properties.
+use Rattle.std.proofs.Common.{◌≡◌, ◌≢◌, ℕ, ◌+◌, ◌-◌, ◌<◌, ◌≤◌, ◌==◌, ◌⊎◌, get_or, take, drop, inl, inr, Bool, true, false, ◌&&◌, List, [], ◌∷◌, ◌++◌, Option, Some, length, refl, sym, ap, ◌∙◌, subst, arith, length-append}
 use Rattle.std.proofs.lemmas.Bool.{eqb-true, false_from_ne_true}
 use Rattle.std.proofs.lemmas.List.{append_assoc, length-map, take_all}
-use Rattle.rx_tables.specs.Properties.{IsValidUnicodeProperty, binary_properties, general_category_values}
+use Rattle.std.proofs.Math.Bool.{and-false}
+use Rattle.rx_tables.specs.Properties.{IsValidUnicodeProperty}
 use Rattle.rx_units.specs.declared.code_point.CodePoint.{CodePoint}
 use Rattle.rx_units.specs.Units.{values}
 use Rattle.rx_model.specs.declared.mode.Mode.{Mode}
 use Rattle.rx_model.specs.Spelling.ClassText.{property_opener}
-use Rattle.rx_model.specs.Refusals.EscapeCauses.{BeginsProperty, no_property, unterminated_run, unclosed_run, unclosed_pair, unknown_pair, unknown_run, of_strings}
+use Rattle.rx_model.specs.Refusals.EscapeCauses.{BeginsProperty, no_property, unterminated_run, unclosed_run, unclosed_pair, unknown_pair, unknown_run, of_strings, negative_of_strings}
 use Rattle.rx_model.specs.FirstPass.Marks.{starts}
 use Rattle.rx_model.specs.Properties.PropertyEscapes.{SpellsProperty, pair}
 use Rattle.rx_model.specs.Properties.PropertyForms.{HasPair, HasRun, IsKnownRun, begins_property}
 use Rattle.rx_class.specs.declared.property_found.Lone.TheVariants as lone
 use Rattle.rx_class.specs.declared.property_found.PropertyHalt.TheVariants as halt
-use Rattle.rx_model.specs.Properties.PropertyFronts.{reads_strings}
+use Rattle.rx_class.specs.declared.property_found.Lone.{Lone}
+use Rattle.rx_model.proofs.Classes.ClassFronts.{sets_is}
+use Rattle.rx_model.proofs.Inputs.Modes.{not_sets, unicode_alone}
 use Rattle.rx_model.proofs.Reading.Splits.{starts_there}
-use Rattle.rx_class.specs.PropertyFound.{HasProperties, IsLone, IsPropertyBehind, IsPropertyHalt, property_letter}
-use Rattle.rx_class.proofs.Modes.{has_properties_u}
+use Rattle.rx_class.specs.PropertyFound.{HasProperties, IsLone, IsPropertyBehind, IsPropertyHalt, is_known, property_letter, unknown_halt}
 
 count_values : (us : List CodePoint) → length (values us) ≡ length us
 count_values us = length-map us (λ (u : CodePoint). u.value)
@@ -29,7 +31,7 @@ opener_is : (negative : Bool) (w : List ℕ) → 92 ∷ property_letter negative
 opener_is true w = refl
 opener_is false w = refl
 
-module _ {mode : Mode} (has : HasProperties mode) (negative : Bool) where
+module _ {sets : Bool} {mode : Mode} (has : HasProperties sets mode) (negative : Bool) where
   begins : (rest : List CodePoint) (w : List ℕ) → values rest ≡ 92 ∷ property_letter negative ∷ 123 ∷ w → BeginsProperty mode (values rest) w
   begins rest w whole = record { letter = property_letter negative; unicode = has.unicode; letter_is = letter_begins negative; whole = whole }
 
@@ -41,8 +43,8 @@ module _ {mode : Mode} (has : HasProperties mode) (negative : Bool) where
 
   -- a text and the `}` behind it are a property
   spelled_before : (strings : Bool) (name : List ℕ) (value : Option (List ℕ)) (text w behind : List ℕ) (n : ℕ) → w ≡ text ++ behind → starts 125 behind ≡ true → SpellsProperty mode strings name value text
-      → n ≡ 3 + length text → IsPropertyBehind mode (property_letter negative ∷ 123 ∷ w) negative strings name value n
-  spelled_before strings name value text w behind n there closed spelled count =
+      → n ≡ 3 + length text → (negative && strings) ≡ false → IsPropertyBehind mode (property_letter negative ∷ 123 ∷ w) negative strings name value n
+  spelled_before strings name value text w behind n there closed spelled count obeys =
       let close = starts_there 125 behind closed in
       record {
         text = text;
@@ -52,6 +54,7 @@ module _ {mode : Mode} (has : HasProperties mode) (negative : Bool) where
         front_is = opener_is negative (text ++ (125 ∷ []));
         whole = ap (λ w. property_letter negative ∷ 123 ∷ w) (there ∙ ap (λ b. text ++ b) close.1 ∙ sym (append_assoc text (125 ∷ []) close.0));
         count_is = omega (arith, count, length-append text (125 ∷ []));
+        obeys = obeys;
       }
 
   module _ (w : List ℕ) (name value behind : List CodePoint) (p : HasPair w (values name) (values value) (values behind)) where
@@ -71,7 +74,7 @@ module _ {mode : Mode} (has : HasProperties mode) (negative : Bool) where
     pair_spelled valid closed =
         let whole = p.whole ∙ ap (λ v. values name ++ (61 ∷ v)) p.run.whole ∙ sym (append_assoc (values name) (61 ∷ values value) (values behind)) in
         spelled_before false (values name) (Some (values value)) (values name ++ (61 ∷ values value)) w (values behind) (4 + length name + length value) whole closed (pair valid)
-        (omega (arith, length-append (values name) (61 ∷ values value), count_values name, count_values value))
+        (omega (arith, length-append (values name) (61 ∷ values value), count_values name, count_values value)) (and-false negative)
 
   module _ (w : List ℕ) (run behind : List CodePoint) (r : HasRun w (values run) (values behind)) where
     cut_off_at : (place : ℕ) → place + 1 + (2 + length run) ≡ place + 3 + length (values run)
@@ -83,22 +86,41 @@ module _ {mode : Mode} (has : HasProperties mode) (negative : Bool) where
     pub run_unclosed : IsKnownRun mode (values run) → values behind ≢ [] → starts 125 (values behind) ≡ false → IsPropertyHalt mode (property_letter negative ∷ 123 ∷ w) (halt.Unterminated (2 + length run))
     run_unclosed known some unclosed us rest first added place whole = rw (cut_off_at place) (unclosed_run w (values run) (values behind) (begins rest w whole) r known some unclosed)
 
-    known_in : (Contains general_category_values (values run) → ⊥) → (Contains binary_properties (values run) → ⊥) → IsKnownRun mode (values run) → ⊥
-    known_in no_category no_binary (inl h) = no_category h
-    known_in no_category no_binary (inr (inl h)) = no_binary h
-    known_in no_category no_binary (inr (inr h)) = let k : false ≡ true = sym has.no_strings ∙ ap reads_strings h.0 in cc k
+    pub run_unknown : (lone : Lone) → IsLone (values run) lone → values run ≢ [] → values behind ≢ [] → is_known lone sets ≡ false
+        → IsPropertyHalt mode (property_letter negative ∷ 123 ∷ w) (unknown_halt lone (values run) (length run))
+    run_unknown lone.Category named some more unknown us rest first added place whole = absurd (let no : ⊥ = cc unknown in no)
+    run_unknown lone.Binary named some more unknown us rest first added place whole = absurd (let no : ⊥ = cc unknown in no)
+    run_unknown lone.OfStrings named some more unknown us rest first added place whole =
+        let no_sets = has.sets_is ∙ unknown in
+        rw (sym (count_values run)) (of_strings w (values run) (values behind) (unicode_alone mode no_sets has.unicode) (begins rest w whole) r more (λ known. elim known [
+          | inl h ↦ named.0 h
+          | inr h ↦ elim h [ inl k ↦ named.1 k | inr k ↦ not_sets mode no_sets k.0 ]
+        ]) named.2)
+    run_unknown lone.Nothing named some more unknown us rest first added place whole =
+        rw (sym (count_values run)) (unknown_run w (values run) (values behind) (begins rest w whole) r some more (λ known. elim known [
+          | inl h ↦ named.0 h
+          | inr h ↦ elim h [ inl k ↦ named.1 k | inr k ↦ named.2 k.1 ]
+        ]) named.2)
 
-    pub run_unknown : values run ≢ [] → values behind ≢ [] → IsLone (values run) lone.Nothing → IsPropertyHalt mode (property_letter negative ∷ 123 ∷ w) (halt.NameOrValue (length run))
-    run_unknown some more known us rest first added place whole =
-        rw (sym (count_values run)) (unknown_run w (values run) (values behind) (begins rest w whole) r some more (known_in known.0 known.1) known.2)
+  -- A word that names a property stands alone between the braces.
+  module _ (w word behind : List ℕ) (r : HasRun w word behind) (closed : starts 125 behind ≡ true) (n : ℕ) (count : n ≡ length word) where
+    pub word_spelled : (strings : Bool) (name : List ℕ) (value : Option (List ℕ)) → SpellsProperty mode strings name value word → (negative && strings) ≡ false
+        → IsPropertyBehind mode (property_letter negative ∷ 123 ∷ w) negative strings name value (3 + n)
+    word_spelled strings name value spelled obeys = spelled_before strings name value word w behind (3 + n) r.is_run.whole closed spelled (omega (arith, count)) obeys
 
-    pub run_of_strings : values behind ≢ [] → IsLone (values run) lone.OfStrings → IsPropertyHalt mode (property_letter negative ∷ 123 ∷ w) (halt.OfStrings (values run) (length run))
-    run_of_strings more known us rest first added place whole =
-        rw (sym (count_values run)) (of_strings w (values run) (values behind) (has_properties_u mode has) (begins rest w whole) r more (known_in known.0 known.1) known.2)
+    pub negative_refused : negative ≡ true → sets ≡ true → IsLone word lone.OfStrings → IsPropertyHalt mode (property_letter negative ∷ 123 ∷ w) (halt.NegativeOfStrings word (3 + n))
+    negative_refused is sets_too named us rest first added place whole =
+        let close = starts_there 125 behind closed in
+        let end : place + 1 + (3 + n) ≡ place + 4 + length word = omega (arith, count) in
+        rw end (negative_of_strings w word close.0 (sets_is mode (has.sets_is ∙ sets_too)) (whole ∙ ap (λ negative. 92 ∷ property_letter negative ∷ 123 ∷ w) is) (subst (HasRun w word) close.1 r)
+        named.0 named.1 named.2)
 
-    pub run_spelled : (name : List ℕ) (value : Option (List ℕ)) → SpellsProperty mode false name value (values run) → starts 125 (values behind) ≡ true
-        → IsPropertyBehind mode (property_letter negative ∷ 123 ∷ w) negative false name value (2 + length run + 1)
-    run_spelled name value spelled closed = spelled_before false name value (values run) w (values behind) (2 + length run + 1) r.is_run.whole closed spelled (omega (arith, count_values run))
+-- A word that names a property is a run that is known.
+pub known_run : {sets : Bool} {mode : Mode} → HasProperties sets mode → (word : List ℕ) (lone : Lone) → IsLone word lone → is_known lone sets ≡ true → IsKnownRun mode word
+known_run has word lone.Category named known = inl named
+known_run has word lone.Binary named known = inr (inl named.1)
+known_run {mode = mode} has word lone.OfStrings named known = inr (inr (sets_is mode (has.sets_is ∙ known), named.2))
+known_run has word lone.Nothing named known = absurd (let no : ⊥ = cc known in no)
 
 pub valid_texts : (a b x y : List ℕ) → a ≡ x → b ≡ y → IsValidUnicodeProperty a b → IsValidUnicodeProperty x y
 valid_texts a b x y e f h = subst (λ x. IsValidUnicodeProperty x y) e (subst (λ y. IsValidUnicodeProperty a y) f h)

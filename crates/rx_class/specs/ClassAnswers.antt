@@ -13,15 +13,15 @@ use Rattle.rx_model.specs.Trees.Early.{IsEarlyClass}
 use Rattle.rx_model.specs.Inputs.Environment.{Environment}
 use Rattle.rx_model.specs.Refusals.Firsts.{IsFirstInClass}
 use Rattle.rx_model.specs.FirstPass.Marks.{starts}
-use Rattle.rx_model.specs.Inputs.Modes.{mode_by}
 use Rattle.rx_model.specs.Refusals.Reached.{text_groups, text_names}
+use Rattle.rx_scan.specs.StateFaults.{mode_of_state}
 use Rattle.rx_scan.specs.declared.state.State.{State}
 use Rattle.rx_class.specs.Keeping.{KeepsUnits}
 
 -- The state holds what the first pass of the units finds (CountLeftCapturingParensWithin, 22.2.1.2).
 pub record HoldsFirstPass (state : State) (us : List CodePoint) : Type 0 where
-  pub groups : state.num_of_capturing_groups ≡ text_groups us
-  pub names : state.capturing_group_names ≡ text_names (mode_by state.unicode_mode state.unicode_sets_mode) us
+  pub groups : state.num_of_capturing_groups ≡ text_groups (mode_of_state state) us
+  pub names : state.capturing_group_names ≡ text_names (mode_of_state state) us
 
 -- no class that is free of early errors stands at the front
 abbrev pub BeginsNoClass : Environment → List CodePoint → Type 0

@@ -1,5 +1,5 @@
 -- What the reader of property escapes answers behind a backslash, and where it leaves the reader. A span has an offset added to both its ends.
-use Rattle.std.specs.Prelude.{◌≡◌, ℕ, ◌-◌, Bool, false, ◌⊎◌, Option, Some, None, Result, Ok, Err, List, ◌∷◌, ◌++◌, length}
+use Rattle.std.specs.Prelude.{◌≡◌, ℕ, ◌-◌, Bool, false, ◌&&◌, ◌⊎◌, Option, Some, None, Result, Ok, Err, List, ◌∷◌, ◌++◌, length}
 use Rattle.rx_base.specs.declared.diagnostic.Diagnostic.{Diagnostic}
 use Rattle.rx_base.specs.declared.fault.Fault.{Fault}
 use Rattle.rx_base.specs.declared.fault.Fault.TheVariants as fault
@@ -16,19 +16,20 @@ use Rattle.rx_model.specs.Properties.PropertyForms.{begins_property}
 use Rattle.rx_class.specs.EscapeAnswers.{from_backslash, span_to}
 use Rattle.rx_class.specs.Keeping.{KeepsUnits}
 
--- no property escape stands at the front
+-- No property escape stands at the front that is free of early errors: a negative one is of no strings (22.2.1.1).
 abbrev pub BeginsNoProperty : Environment → List CodePoint → Type 0
-BeginsNoProperty e us = (negative strings : Bool) (name : List ℕ) (value : Option (List ℕ)) (w more : List CodePoint) → us ≡ w ++ more → IsProperty e negative strings name value w → ⊥
+BeginsNoProperty e us =
+    (negative strings : Bool) (name : List ℕ) (value : Option (List ℕ)) (w more : List CodePoint) → us ≡ w ++ more → IsProperty e negative strings name value w → (negative && strings) ≡ false → ⊥
 
 -- What stands at the reader's place is answered as a property escape (CharacterClassEscape, 22.2.1).
 pub data GivesProperty (e : Environment) (added start : ℕ) (old new : Cursor) : Result (Option UnicodePropertyEscape) Fault → Type 0 where
-  -- one is spelled with its backslash, and the reader moves over it
+  -- one is spelled with its backslash and free of early errors, and the reader moves over it
   some : {it : UnicodePropertyEscape} (backslash : CodePoint) (w more : List CodePoint) → from_backslash old ≡ backslash ∷ (w ++ more)
-      → IsProperty e it.negative it.strings it.name it.value (backslash ∷ w) → it.span ≡ span_to added start new → new ≡ moved (length w) old
+      → IsProperty e it.negative it.strings it.name it.value (backslash ∷ w) → (it.negative && it.strings) ≡ false → it.span ≡ span_to added start new → new ≡ moved (length w) old
       → GivesProperty e added start old new (Ok (Some it))
   -- with neither `u` nor `v`, or where neither `p` nor `P` stands, there is none, and the reader stays
   none : new ≡ old → (is_unicode e.mode ≡ false) ⊎ (front_is begins_property (values (rest old)) ≡ false) → GivesProperty e added start old new (Ok None)
-  -- none is spelled, and the first refusal of the escape that the backslash begins is answered
+  -- none is spelled that is free of early errors, and the first refusal of the escape that the backslash begins is answered
   refused : {diagnostic : Diagnostic} → IsPropertyCause e.mode old.units old.first added (old.place - 1) (from_backslash old) diagnostic
       → IsFirstOfEscape e.mode old.units old.first added (old.place - 1) (from_backslash old) diagnostic → BeginsNoProperty e (from_backslash old) → KeepsUnits old new
       → GivesProperty e added start old new (Err (fault.Diagnostic diagnostic))

@@ -1,7 +1,7 @@
 -- What is found behind a backslash where a property escape may stand.
-use Rattle.std.specs.Prelude.{◌≡◌, ℕ, ◌+◌, Bool, true, false, Option, Some, None, List, [], ◌∷◌, ◌++◌, Contains, length}
+use Rattle.std.specs.Prelude.{◌≡◌, ℕ, ◌+◌, Bool, true, false, ◌&&◌, Option, Some, None, List, [], ◌∷◌, ◌++◌, Contains, length}
 use Rattle.rx_base.specs.declared.diagnostic.Diagnostic.{Diagnostic}
-use Rattle.rx_base.specs.declared.diagnostic.Diagnostic.TheVariants.{UnterminatedPattern, InvalidUnicodeProperty, InvalidUnicodePropertyOfStrings}
+use Rattle.rx_base.specs.declared.diagnostic.Diagnostic.TheVariants.{UnterminatedPattern, InvalidUnicodeProperty, InvalidUnicodePropertyOfStrings, InvalidUnicodePropertyNameNegativeStrings}
 use Rattle.rx_base.specs.declared.diagnostic.kinds.PropertyPart.TheVariants as part
 use Rattle.rx_base.specs.declared.diagnostic.kinds.Unterminated.TheVariants as what
 use Rattle.rx_tables.specs.Properties.{binary_properties, general_category_values, properties_of_strings}
@@ -13,8 +13,7 @@ use Rattle.rx_model.specs.Refusals.EscapeCauses.{IsPropertyCause}
 use Rattle.rx_model.specs.Characters.Escapes.{front_is}
 use Rattle.rx_model.specs.Properties.PropertyEscapes.{SpellsProperty}
 use Rattle.rx_model.specs.Properties.PropertyForms.{HasPair, begins_property}
-use Rattle.rx_model.specs.Properties.PropertyFronts.{reads_strings}
-use Rattle.rx_model.specs.Inputs.Environment.{is_unicode}
+use Rattle.rx_model.specs.Inputs.Environment.{is_sets, is_unicode}
 use Rattle.rx_model.specs.Refusals.Reached.{span_between}
 use Rattle.rx_class.specs.declared.property_found.Lone.{Lone}
 use Rattle.rx_class.specs.declared.property_found.Lone.TheVariants as lone
@@ -36,6 +35,20 @@ IsLone word lone.Binary = (Contains general_category_values word → ⊥) × Con
 IsLone word lone.OfStrings = (Contains general_category_values word → ⊥) × (Contains binary_properties word → ⊥) × Contains properties_of_strings word
 IsLone word lone.Nothing = (Contains general_category_values word → ⊥) × (Contains binary_properties word → ⊥) × (Contains properties_of_strings word → ⊥)
 
+-- whether such a word names a property, with `v` or without: one of strings does with `v` alone
+abbrev pub is_known : Lone → Bool → Bool
+is_known lone.Category sets = true
+is_known lone.Binary sets = true
+is_known lone.OfStrings sets = sets
+is_known lone.Nothing sets = false
+
+-- why a property escape is refused that has such a word of n characters, where it names none
+abbrev pub unknown_halt : Lone → List ℕ → ℕ → PropertyHalt
+unknown_halt lone.Category word n = halt.NameOrValue n
+unknown_halt lone.Binary word n = halt.NameOrValue n
+unknown_halt lone.OfStrings word n = halt.OfStrings word n
+unknown_halt lone.Nothing word n = halt.NameOrValue n
+
 -- `P` or `p`
 abbrev pub property_letter : Bool → ℕ
 property_letter true = 80
@@ -47,18 +60,19 @@ property_refusal us first added place (halt.Unterminated end) = UnterminatedPatt
 property_refusal us first added place (halt.Name start length) = InvalidUnicodeProperty (span_between us first added (place + 1 + start) (place + 1 + start + length)) part.Name
 property_refusal us first added place (halt.NameOrValue length) = InvalidUnicodeProperty (span_between us first added (place + 3) (place + 3 + length)) part.NameOrValue
 property_refusal us first added place (halt.OfStrings name length) = InvalidUnicodePropertyOfStrings (span_between us first added (place + 3) (place + 3 + length)) name
+property_refusal us first added place (halt.NegativeOfStrings name end) = InvalidUnicodePropertyNameNegativeStrings (span_between us first added place (place + 1 + end)) name
 
--- The mode has property escapes, and none of strings.
-pub record HasProperties (mode : Mode) : Type 0 where
+-- The mode has property escapes, and is that of `v` or not.
+pub record HasProperties (sets : Bool) (mode : Mode) : Type 0 where
   pub unicode : is_unicode mode ≡ true
-  pub no_strings : reads_strings mode ≡ false
+  pub sets_is : is_sets mode ≡ sets
 
 -- With these characters behind its backslash a property escape is refused so, wherever it stands.
 abbrev pub IsPropertyHalt : Mode → List ℕ → PropertyHalt → Type 0
 IsPropertyHalt mode behind h = (us rest : List CodePoint) (first added place : ℕ) → values rest ≡ 92 ∷ behind
     → IsPropertyCause mode us first added place rest (property_refusal us first added place h)
 
--- n of the characters behind a backslash spell a property with it.
+-- n of the characters behind a backslash spell a property with it, which is of no strings where it is negative.
 pub record IsPropertyBehind (mode : Mode) (behind : List ℕ) (negative strings : Bool) (name : List ℕ) (value : Option (List ℕ)) (count : ℕ) : Type 0 where
   pub text : List ℕ
   pub spelled : SpellsProperty mode strings name value text
@@ -67,6 +81,7 @@ pub record IsPropertyBehind (mode : Mode) (behind : List ℕ) (negative strings 
   pub front_is : 92 ∷ front ≡ property_opener negative ++ (text ++ (125 ∷ []))
   pub whole : behind ≡ front ++ rest
   pub count_is : length front ≡ count
+  pub obeys : (negative && strings) ≡ false
 
 -- what stands behind a backslash, in a mode
 abbrev pub IsFoundIn : Mode → List ℕ → PropertyFound → Type 0
@@ -74,6 +89,6 @@ IsFoundIn mode behind (found.Property negative strings name value length) = IsPr
 IsFoundIn mode behind found.Nothing = front_is begins_property behind ≡ false
 IsFoundIn mode behind (found.Halt h) = IsPropertyHalt mode behind h
 
--- the same in each mode that has property escapes, none of strings
-abbrev pub IsPropertyFound : List ℕ → PropertyFound → Type 0
-IsPropertyFound behind found = (mode : Mode) → HasProperties mode → IsFoundIn mode behind found
+-- the same in each mode that has property escapes, with `v` or without
+abbrev pub IsPropertyFound : Bool → List ℕ → PropertyFound → Type 0
+IsPropertyFound sets behind found = (mode : Mode) → HasProperties sets mode → IsFoundIn mode behind found

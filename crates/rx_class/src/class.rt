@@ -1,10 +1,15 @@
-ghost use Rattle.std.specs.Prelude.{◌≡◌, true};
-ghost use Rattle.rx_model.specs.Inputs.Modes.{is_read, mode_by};
+ghost use Rattle.std.specs.Prelude.{◌≡◌, Err, MatchResult, Ok, Some, false, true};
+ghost use Rattle.rx_units.specs.Cursor.{rest};
+ghost use Rattle.rx_units.specs.Units.{values};
+ghost use Rattle.rx_model.specs.FirstPass.Marks.{starts};
+ghost use Rattle.rx_model.specs.Inputs.Environment.{is_sets};
 ghost use Rattle.rx_class.specs.EscapeAnswers.{environment_of};
 ghost use Rattle.rx_class.specs.ClassAnswers.{GivesClass, HoldsFirstPass};
+ghost use Rattle.rx_class.specs.ClassItems.{IsOfText};
 ghost use Rattle.rx_class.specs.Fitting.{AreFitting};
 
 use crate::class_item::add_item;
+use crate::set_class::set_class;
 use crate::spans::span_to_here;
 use rx_ast::{CharacterClass, CharacterClassContentsKind};
 use rx_base::{Diagnostic, Fault, List, Unterminated};
@@ -15,25 +20,50 @@ use std::alloc::Global;
 /// Reads the class (CharacterClass of ECMA-262, 22.2.1) that stands next, and moves over it. Where no `[` stands the answer is
 /// `None`, and the reader stays.
 ///
-/// It is refused by `UnterminatedPattern` where the text ends in it; by `CharacterClassRangeOutOfOrder` or, where the end is a `-`,
-/// by `CharacterClassRangeDashNotSubtraction` where a range ends below its start; with `u` by `CharacterClassRangeInvalidAtom` where
-/// an end of a range is no character; by `InvalidClassAtom` where a backslash begins no escape of a class; and as the escapes in it
-/// are. Spans are in bytes.
+/// It is refused by `UnterminatedPattern` where the text ends in it. Without `v` it is refused by `CharacterClassRangeOutOfOrder` or,
+/// where the end is a `-`, by `CharacterClassRangeDashNotSubtraction` where a range ends below its start; with `u` by
+/// `CharacterClassRangeInvalidAtom` where an end of a range is no character; by `InvalidClassAtom` where a backslash begins no escape
+/// of a class; and as the escapes in it are. Spans are in bytes.
+///
+/// With `v` brackets nest, and it is refused too by `EmptyClassSetExpression` where a bracket begins with no operand; by
+/// `ClassIntersectionUnexpectedAmpersand` where a `&` stands behind `&&`; by `ClassSetExpressionInvalidCharacter` where neither an
+/// operand nor `]` stands that may follow an operator or what is behind one; by `UnterminatedPattern` where class strings or a bracket
+/// do not end; by `CharacterClassRangeOutOfOrder`; and by `InvalidCharacterClass` or, where it is nested, by
+/// `CharacterClassContentsInvalidOperands` where a negative class may contain strings.
 pub fn parse_character_class(
     alloc: Global,
     reader: &mut Reader<'_>,
     state: &State,
     spans: &SpanFactory,
 ) -> Result<Option<CharacterClass>, Fault>
-    requires read { is_read (mode_by state.now.unicode_mode state.now.unicode_sets_mode) ≡ true }
     requires pass { HoldsFirstPass state.now reader.old.units }
     requires fits { AreFitting spans.now reader.old }
     ensures { GivesClass (environment_of state.now) spans.now reader.old reader.new result }
 {
-    let start = reader.offset();
-    if !reader.eat('[') {
+    if reader.peek() != Some('[' as u32) {
         return Ok(None);
     }
+    if state.unicode_sets_mode {
+        return Ok(Some(set_class(alloc, reader, state, spans)?));
+    }
+    Ok(Some(items_class(alloc, reader, state, spans)?))
+}
+
+/// Reads the class without `v` (CharacterClass and NonemptyClassRanges of ECMA-262, 22.2.1) whose `[` stands next, and moves over it.
+fn items_class(
+    alloc: Global,
+    reader: &mut Reader<'_>,
+    state: &State,
+    spans: &SpanFactory,
+) -> Result<CharacterClass, Fault>
+    requires bracket { starts 91 (values (rest reader.old)) ≡ true }
+    requires no_sets { is_sets (environment_of state.now).mode ≡ false }
+    requires environment { IsOfText (environment_of state.now) reader.old }
+    requires fits { AreFitting spans.now reader.old }
+    ensures { MatchResult result (λ it. GivesClass (environment_of state.now) spans.now reader.old reader.new (Ok (Some it))) (λ fault. GivesClass (environment_of state.now) spans.now reader.old reader.new (Err fault)) }
+{
+    let start = reader.offset();
+    reader.advance();
     let negative = reader.eat('^');
     let mut body = List::new(alloc);
     while reader.peek() != Some(']' as u32) {
@@ -45,11 +75,11 @@ pub fn parse_character_class(
         add_item(alloc, reader, state, spans, &mut body)?;
     }
     reader.advance();
-    Ok(Some(CharacterClass {
+    Ok(CharacterClass {
         span: span_to_here(reader, spans, start),
         negative,
         strings: false,
         kind: CharacterClassContentsKind::Union,
         body,
-    }))
+    })
 }

@@ -1,11 +1,10 @@
-ghost use Rattle.std.specs.Prelude.{◌≡◌, IfOk, Ok, Some, false, true};
+ghost use Rattle.std.specs.Prelude.{◌≡◌, IfOk, Ok, Some, false};
 ghost use Rattle.rx_ast.specs.ClassTree.{mirror_contents};
 ghost use Rattle.rx_units.specs.Cursor.{front, moved, rest};
 ghost use Rattle.rx_units.specs.Units.{values};
 ghost use Rattle.rx_model.specs.Characters.UnitKinds.{unit_kind};
 ghost use Rattle.rx_model.specs.FirstPass.Marks.{starts};
-ghost use Rattle.rx_model.specs.Inputs.Environment.{Environment};
-ghost use Rattle.rx_model.specs.Inputs.Modes.{is_read};
+ghost use Rattle.rx_model.specs.Inputs.Environment.{Environment, is_sets};
 ghost use Rattle.rx_class.specs.EscapeAnswers.{IsBehindBackslash, environment_of};
 ghost use Rattle.rx_class.specs.ClassItems.{GivesAtom, IsOfText, StandsItem, alone_in_class, atom_member, atom_span, back, kind_in_class};
 ghost use Rattle.rx_class.specs.Fitting.{AreFitting};
@@ -56,7 +55,7 @@ impl ClassAtom {
     }
 }
 
-/// Reads the atom that stands next in a class, and moves over it.
+/// Reads the atom that stands next in a class without `v`, and moves over it.
 pub fn class_atom(
     alloc: Global,
     reader: &mut Reader<'_>,
@@ -64,7 +63,7 @@ pub fn class_atom(
     spans: &SpanFactory,
 ) -> Result<ClassAtom, Fault>
     requires stands { StandsItem (rest reader.old) }
-    requires read { is_read (environment_of state.now).mode ≡ true }
+    requires no_sets { is_sets (environment_of state.now).mode ≡ false }
     requires environment { IsOfText (environment_of state.now) reader.old }
     requires fits { AreFitting spans.now reader.old }
     ensures { GivesAtom (environment_of state.now) spans.now reader.old reader.new result }
@@ -84,7 +83,7 @@ pub fn unit_character(reader: &mut Reader<'_>, spans: &SpanFactory) -> Character
     requires stands { StandsItem (rest reader.old) }
     requires no_backslash { starts 92 (values (rest reader.old)) ≡ false }
     requires fits { AreFitting spans.now reader.old }
-    ensures atom { (e : Environment) → is_read e.mode ≡ true → GivesAtom e spans.now reader.old reader.new (Ok (ClassAtom.Character result)) }
+    ensures atom { (e : Environment) → is_sets e.mode ≡ false → GivesAtom e spans.now reader.old reader.new (Ok (ClassAtom.Character result)) }
     ensures value { front (rest reader.old) ≡ Some result.value }
     ensures reader { reader.new ≡ moved 1 reader.old }
 {
@@ -132,7 +131,7 @@ fn escaped_atom(
     start: u32,
 ) -> Result<ClassAtom, Fault>
     requires backslash { IsBehindBackslash reader.old start }
-    requires read { is_read (environment_of state.now).mode ≡ true }
+    requires no_sets { is_sets (environment_of state.now).mode ≡ false }
     requires environment { IsOfText (environment_of state.now) reader.old }
     requires fits { AreFitting spans.now reader.old }
     ensures { GivesAtom (environment_of state.now) spans.now (back reader.old) reader.new result }

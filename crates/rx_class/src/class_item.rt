@@ -1,12 +1,11 @@
-ghost use Rattle.std.specs.Prelude.{◌≡◌, ◌&&◌, ◌++◌, ◌∷◌, [], Err, IfErr, IfOk, Ok, OnOk, not, true};
+ghost use Rattle.std.specs.Prelude.{◌≡◌, ◌&&◌, ◌++◌, ◌∷◌, [], Err, IfErr, IfOk, Ok, OnOk, false, not, true};
 ghost use Rattle.rx_ast.specs.ClassTree as ClassTree;
 ghost use Rattle.rx_ast.specs.ClassTree.{mirror_contents};
 ghost use Rattle.rx_units.specs.Cursor.{rest};
 ghost use Rattle.rx_units.specs.Units.{values};
 ghost use Rattle.rx_model.specs.Classes.ClassRows.{is_dashed};
 ghost use Rattle.rx_model.specs.Classes.ClassTokens.{is_character};
-ghost use Rattle.rx_model.specs.Inputs.Environment.{Environment};
-ghost use Rattle.rx_model.specs.Inputs.Modes.{is_read};
+ghost use Rattle.rx_model.specs.Inputs.Environment.{Environment, is_sets};
 ghost use Rattle.rx_class.specs.EscapeAnswers.{environment_of};
 ghost use Rattle.rx_class.specs.ClassItems.{AddsItem, GivesItem, IsBetween, IsOfText, StandsItem, atom_member, atom_of, hyphen_member, item_contents, item_members, stands_alone, stands_range};
 ghost use Rattle.rx_class.specs.Fitting.{AreFitting};
@@ -33,7 +32,7 @@ pub enum ClassItem {
     },
 }
 
-/// Reads the item that stands next in a class, moves over it, and adds what it is to the contents.
+/// Reads the item that stands next in a class without `v`, moves over it, and adds what it is to the contents.
 pub fn add_item(
     alloc: Global,
     reader: &mut Reader<'_>,
@@ -42,7 +41,7 @@ pub fn add_item(
     body: &mut List<CharacterClassContents>,
 ) -> Result<(), Fault>
     requires stands { StandsItem (rest reader.old) }
-    requires read { is_read (environment_of state.now).mode ≡ true }
+    requires no_sets { is_sets (environment_of state.now).mode ≡ false }
     requires environment { IsOfText (environment_of state.now) reader.old }
     requires fits { AreFitting spans.now reader.old }
     ensures added { OnOk result (AddsItem (environment_of state.now) spans.now reader.old reader.new body.old body.new) }
@@ -92,7 +91,7 @@ fn unit_range(reader: &mut Reader<'_>, spans: &SpanFactory) -> CharacterClassRan
     requires stands { StandsItem (rest reader.old) }
     requires range { stands_range (values (rest reader.old)) ≡ true }
     requires fits { AreFitting spans.now reader.old }
-    ensures item { (e : Environment) (item : CharacterClassContents) → is_read e.mode ≡ true → mirror_contents item ≡ ClassTree.range result → GivesItem e spans.now reader.old reader.new (Ok (ClassItem.One item)) }
+    ensures item { (e : Environment) (item : CharacterClassContents) → is_sets e.mode ≡ false → mirror_contents item ≡ ClassTree.range result → GivesItem e spans.now reader.old reader.new (Ok (ClassItem.One item)) }
     ensures reader { KeepsUnits reader.old reader.new }
 {
     let min = unit_character(reader, spans);
@@ -129,7 +128,7 @@ fn class_item(
     spans: &SpanFactory,
 ) -> Result<ClassItem, Fault>
     requires stands { StandsItem (rest reader.old) }
-    requires read { is_read (environment_of state.now).mode ≡ true }
+    requires no_sets { is_sets (environment_of state.now).mode ≡ false }
     requires environment { IsOfText (environment_of state.now) reader.old }
     requires fits { AreFitting spans.now reader.old }
     ensures { GivesItem (environment_of state.now) spans.now reader.old reader.new result }
@@ -191,7 +190,7 @@ fn three_items(
 
 /// The range as an item of a class.
 #[tactic(auto, using(rx_ast::proofs::ClassEquations::class_mirrors))]
-fn range_contents(
+pub fn range_contents(
     alloc: Global,
     range: CharacterClassRange,
 ) -> Result<CharacterClassContents, OutOfMemory>

@@ -3,12 +3,14 @@ ghost use Rattle.rx_units.specs.Cursor.{moved, offset_of, rest};
 ghost use Rattle.rx_units.specs.Units.{values};
 ghost use Rattle.rx_model.specs.Characters.EscapeFronts.{any_escape_at};
 ghost use Rattle.rx_model.specs.Characters.Escapes.{front_is};
-ghost use Rattle.rx_model.specs.Inputs.Environment.{is_unicode};
+ghost use Rattle.rx_model.specs.Inputs.Environment.{Environment, is_sets, is_unicode};
 ghost use Rattle.rx_model.specs.Refusals.Reached.{span_between};
 ghost use Rattle.rx_class.specs.EscapeAnswers.{GivesCharacter, GivesClassEscape, IsBehindBackslash, environment_of};
 ghost use Rattle.rx_class.specs.Fitting.{AreFitting};
 ghost use Rattle.rx_class.specs.Found.{AnswersFound, IsWithin, seen_escape, shared_escape_at};
 ghost use Rattle.rx_class.specs.Keeping.{KeepsUnits};
+ghost use Rattle.rx_class.specs.SetAnswers.{GivesSetCharacter};
+ghost use Rattle.rx_class.specs.SetFronts.{set_character_at};
 
 use crate::spans::span_to_here;
 use crate::{EscapeFound, LegacyContext, any_escape_at, character_escape_at, class_escape_at};
@@ -133,8 +135,45 @@ fn answer(
     }
 }
 
+/// The answer to what was found from where the reader stands on, with its backslash. The reader moves over a character.
+pub fn answer_ahead(
+    reader: &mut Reader<'_>,
+    spans: &SpanFactory,
+    found: EscapeFound,
+) -> Result<Option<Character>, Diagnostic>
+    requires found { seen_escape found ≡ set_character_at (rest reader.old) }
+    requires code_points { All (λ unit. unit.value ≤ 0x10FFFF) (rest reader.old) }
+    requires fits { AreFitting spans.now reader.old }
+    ensures { (e : Environment) → is_sets e.mode ≡ true → GivesSetCharacter e spans.now reader.old reader.new result }
+{
+    match found {
+        EscapeFound::Character {
+            kind,
+            value,
+            length,
+        } => {
+            let start = reader.offset();
+            reader.skip(length);
+            let span = span_to_here(reader, spans, start);
+            Ok(Some(Character { span, kind, value }))
+        }
+        EscapeFound::Nothing => Ok(None),
+        EscapeFound::TooMany { digits } => {
+            reader.skip(3);
+            let span = next_span(reader, spans, digits);
+            let what = DigitsKind::Hex;
+            Err(Diagnostic::TooLargeNumberDigits { span, what })
+        }
+        EscapeFound::Invalid => {
+            reader.advance();
+            let span = next_span(reader, spans, 1);
+            Err(Diagnostic::InvalidUnicodeEscapeSequence { span })
+        }
+    }
+}
+
 /// The span of n units from the reader's place on. The reader moves over them.
-fn next_span(reader: &mut Reader<'_>, spans: &SpanFactory, count: usize) -> Span
+pub fn next_span(reader: &mut Reader<'_>, spans: &SpanFactory, count: usize) -> Span
     requires fits { AreFitting spans.now reader.old }
     requires within { reader.old.place + count ≤ length reader.old.units }
     ensures span { result ≡ span_between reader.old.units reader.old.first spans.now reader.old.place (reader.old.place + count) }

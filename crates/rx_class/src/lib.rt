@@ -3,13 +3,23 @@
 
 mod class;
 mod class_atom;
+mod class_builder;
 mod class_item;
+mod class_strings;
 mod escape;
 mod escape_found;
+mod held;
 mod legacy_escape;
+mod open_bracket;
 mod property;
 mod property_form;
 mod property_found;
+mod set_class;
+mod set_front;
+mod set_operand;
+mod set_operator;
+mod set_refusal;
+mod set_turn;
 mod spans;
 
 pub use class::parse_character_class;

@@ -1,4 +1,4 @@
-ghost use Rattle.std.specs.Prelude.{◌≡◌, ◌+◌, ◌-◌, ◌<◌, ◌^◌, false, length};
+ghost use Rattle.std.specs.Prelude.{◌≡◌, ◌+◌, ◌-◌};
 ghost use Rattle.rx_class.specs.EscapeAnswers.{IsBehindBackslash, environment_of};
 ghost use Rattle.rx_class.specs.Fitting.{AreFitting};
 ghost use Rattle.rx_class.specs.Keeping.{KeepsUnits};
@@ -9,6 +9,7 @@ ghost use Rattle.rx_model.specs.Characters.Escapes.{front_is};
 ghost use Rattle.rx_model.specs.Properties.PropertyForms.{begins_property};
 ghost use Rattle.rx_model.specs.Refusals.Reached.{span_between};
 
+use crate::escape::is_unicode;
 use crate::property_found::{PropertyFound, PropertyHalt, property_at};
 use crate::spans::span_to_here;
 use rx_ast::UnicodePropertyEscape;
@@ -18,12 +19,12 @@ use rx_units::{CodePoint, Reader};
 use std::alloc::Global;
 
 /// Reads the property escape (CharacterClassEscape of ECMA-262, 22.2.1, that names a property) behind a backslash that was read, and
-/// moves over its units. Its span, in bytes, begins at `span_start`, before the backslash. Out of unicode mode, and where neither
+/// moves over its units. Its span, in bytes, begins at `span_start`, before the backslash. With neither `u` nor `v`, and where neither
 /// `p` nor `P` stands, the answer is `None`, and the reader stays.
 ///
 /// It is refused by `UnterminatedPattern` where no `{` follows, or a name or a value that is known is not followed by `}`; by
-/// `InvalidUnicodeProperty` where a name, a value or both together are in no table; and by `InvalidUnicodePropertyOfStrings`
-/// where a property of strings is named.
+/// `InvalidUnicodeProperty` where a name, a value or both together are in no table; where a property of strings is named, by
+/// `InvalidUnicodePropertyOfStrings` with `u`, and with `v` by `InvalidUnicodePropertyNameNegativeStrings` behind `\P`.
 #[inline]
 pub fn parse_character_class_escape_unicode(
     alloc: Global,
@@ -34,7 +35,6 @@ pub fn parse_character_class_escape_unicode(
 ) -> Result<Option<UnicodePropertyEscape>, Fault>
     requires backslash { IsBehindBackslash reader.old span_start }
     requires fits { AreFitting spans.now reader.old }
-    requires no_sets { state.now.unicode_sets_mode ≡ false }
     ensures { GivesProperty (environment_of state.now) spans.now span_start reader.old reader.new result }
 {
     if !begins_property(reader.remaining_code_points()) {
@@ -61,13 +61,16 @@ fn property_escape(
 ) -> Result<Option<UnicodePropertyEscape>, Fault>
     requires backslash { IsBehindBackslash reader.old span_start }
     requires fits { AreFitting spans.now reader.old }
-    requires no_sets { state.now.unicode_sets_mode ≡ false }
     ensures { GivesProperty (environment_of state.now) spans.now span_start reader.old reader.new result }
 {
-    if !state.unicode_mode {
+    if !is_unicode(state) {
         return Ok(None);
     }
-    let found = property_at(alloc, reader.remaining_code_points())?;
+    let found = property_at(
+        alloc,
+        reader.remaining_code_points(),
+        state.unicode_sets_mode,
+    )?;
     match found {
         PropertyFound::Property {
             negative,
@@ -121,6 +124,11 @@ fn refusal(
             let span = span_ahead(reader, spans, 2, length);
             let what = PropertyPart::NameOrValue;
             Diagnostic::InvalidUnicodeProperty { span, what }
+        }
+        PropertyHalt::NegativeOfStrings { name, end } => {
+            reader.skip(end);
+            let span = span_to_here(reader, spans, span_start);
+            Diagnostic::InvalidUnicodePropertyNameNegativeStrings { span, name }
         }
         PropertyHalt::OfStrings { name, length } => {
             let span = span_ahead(reader, spans, 2, length);

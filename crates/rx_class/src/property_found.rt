@@ -1,11 +1,11 @@
-ghost use Rattle.std.specs.Prelude.{◌≡◌, ℕ, ◌∷◌, List, length, true, IfOk};
+ghost use Rattle.std.specs.Prelude.{◌≡◌, ◌<◌, ◌^◌, ℕ, Bool, ◌∷◌, List, length, true, IfOk};
 ghost use Rattle.std.specs.List.{list_all};
 ghost use Rattle.std.specs.Str.{chars};
 ghost use Rattle.rx_units.specs.Units.{values};
 ghost use Rattle.rx_tables.specs.Characters.{is_unicode_property_value_character};
 ghost use Rattle.rx_model.specs.FirstPass.Marks.{starts};
 ghost use Rattle.rx_model.specs.Properties.PropertyForms.{HasPair, HasRun};
-ghost use Rattle.rx_class.specs.PropertyFound.{IsLone, IsPropertyFound, property_letter};
+ghost use Rattle.rx_class.specs.PropertyFound.{IsLone, IsPropertyFound, is_known, property_letter, unknown_halt};
 
 use crate::property_form::{pair_at, run_at};
 use rx_base::{OutOfMemory, Text};
@@ -44,6 +44,8 @@ pub enum PropertyHalt {
     NameOrValue { length: usize },
     /// n units behind `{` name a property of strings.
     OfStrings { name: Text, length: usize },
+    /// A negative escape that ends at a place names a property of strings.
+    NegativeOfStrings { name: Text, end: usize },
 }
 
 /// What a word names that stands alone between the braces.
@@ -58,18 +60,22 @@ pub enum Lone {
     Nothing,
 }
 
-/// The property escape (CharacterClassEscape of ECMA-262, 22.2.1) that the units behind a backslash begin with, where none is of strings.
-pub fn property_at(alloc: Global, units: &[CodePoint]) -> Result<PropertyFound, OutOfMemory>
-    ensures { IfOk result (IsPropertyFound (values units.now)) }
+/// The property escape (CharacterClassEscape of ECMA-262, 22.2.1) that the units behind a backslash begin with, in sets mode or not.
+pub fn property_at(
+    alloc: Global,
+    units: &[CodePoint],
+    sets: bool,
+) -> Result<PropertyFound, OutOfMemory>
+    ensures { IfOk result (IsPropertyFound sets (values units.now)) }
 {
     let [letter, behind @ ..] = units else {
         return Ok(PropertyFound::Nothing);
     };
     if letter.value == 'p' as u32 {
-        return expression_at(alloc, false, behind);
+        return expression_at(alloc, false, behind, sets);
     }
     if letter.value == 'P' as u32 {
-        return expression_at(alloc, true, behind);
+        return expression_at(alloc, true, behind, sets);
     }
     Ok(PropertyFound::Nothing)
 }
@@ -79,8 +85,9 @@ fn expression_at(
     alloc: Global,
     negative: bool,
     units: &[CodePoint],
+    sets: bool,
 ) -> Result<PropertyFound, OutOfMemory>
-    ensures { IfOk result (IsPropertyFound (property_letter negative ∷ values units.now)) }
+    ensures { IfOk result (IsPropertyFound sets (property_letter negative ∷ values units.now)) }
 {
     let [brace, behind @ ..] = units else {
         return Ok(unterminated(1));
@@ -92,7 +99,7 @@ fn expression_at(
         Some(pair) => pair_found(alloc, negative, pair.name, pair.value, pair.behind),
         None => {
             let (run, behind) = run_at(behind);
-            run_found(alloc, negative, run, behind)
+            run_found(alloc, negative, run, behind, sets)
         }
     }
 }
@@ -103,7 +110,7 @@ fn unterminated(end: usize) -> PropertyFound
     PropertyFound::Halt(PropertyHalt::Unterminated { end })
 }
 
-/// The same by a name and a value.
+/// The same by a name and a value, in every mode.
 fn pair_found(
     alloc: Global,
     negative: bool,
@@ -112,8 +119,8 @@ fn pair_found(
     behind: &[CodePoint],
 ) -> Result<PropertyFound, OutOfMemory>
     requires { (w : List ℕ) × HasPair w (values name.now) (values value.now) (values behind.now) }
-    ensures { IfOk result (λ found. (w : List ℕ) → HasPair w (values name.now) (values value.now) (values behind.now)
-        → IsPropertyFound (property_letter negative ∷ 123 ∷ w) found) }
+    ensures { IfOk result (λ found. (sets : Bool) (w : List ℕ) → HasPair w (values name.now) (values value.now) (values behind.now)
+        → IsPropertyFound sets (property_letter negative ∷ 123 ∷ w) found) }
 {
     let name_text = text_of(alloc, name)?;
     let value_text = text_of(alloc, value)?;
@@ -141,37 +148,89 @@ fn run_found(
     negative: bool,
     run: &[CodePoint],
     behind: &[CodePoint],
+    sets: bool,
 ) -> Result<PropertyFound, OutOfMemory>
     requires { (w : List ℕ) × HasRun w (values run.now) (values behind.now) }
     ensures { IfOk result (λ found. (w : List ℕ) → HasRun w (values run.now) (values behind.now)
-        → IsPropertyFound (property_letter negative ∷ 123 ∷ w) found) }
+        → IsPropertyFound sets (property_letter negative ∷ 123 ∷ w) found) }
 {
-    let length = 2 + run.len();
     if run.is_empty() || behind.is_empty() {
-        return Ok(unterminated(length));
+        return Ok(unterminated(2 + run.len()));
     }
-    let text = text_of(alloc, run)?;
-    match named_alone(text.as_str()) {
-        Lone::Category if is_closed(behind) => Ok(PropertyFound::Property {
+    let word = text_of(alloc, run)?;
+    let lone = named_alone(word.as_str());
+    if !is_known(lone, sets) {
+        return Ok(PropertyFound::Halt(unknown(lone, word, run.len())));
+    }
+    if !is_closed(behind) {
+        return Ok(unterminated(2 + run.len()));
+    }
+    known_found(alloc, negative, lone, word, run.len())
+}
+
+/// Whether such a word names a property: one of strings does in sets mode alone.
+fn is_known(lone: Lone, sets: bool) -> bool
+    ensures { result ≡ is_known lone sets }
+{
+    match lone {
+        Lone::Category | Lone::Binary => true,
+        Lone::OfStrings => sets,
+        Lone::Nothing => false,
+    }
+}
+
+/// Why a word of n characters is refused that names no property.
+fn unknown(lone: Lone, word: Text, length: usize) -> PropertyHalt
+    ensures { result ≡ unknown_halt lone word length }
+{
+    match lone {
+        Lone::OfStrings => PropertyHalt::OfStrings { name: word, length },
+        Lone::Category | Lone::Binary | Lone::Nothing => PropertyHalt::NameOrValue { length },
+    }
+}
+
+/// The same by a word of n characters that names a property, and stands between braces.
+fn known_found(
+    alloc: Global,
+    negative: bool,
+    lone: Lone,
+    word: Text,
+    count: usize,
+) -> Result<PropertyFound, OutOfMemory>
+    requires named { IsLone word lone }
+    requires known { (sets : Bool) × (is_known lone sets ≡ true) }
+    requires count { count ≡ length word }
+    requires small { count < 2 ^ 63 }
+    ensures { IfOk result (λ found. (sets : Bool) (w behind : List ℕ) → is_known lone sets ≡ true → HasRun w word behind → starts 125 behind ≡ true
+        → IsPropertyFound sets (property_letter negative ∷ 123 ∷ w) found) }
+{
+    match lone {
+        Lone::Category => Ok(PropertyFound::Property {
             negative,
             strings: false,
             name: Text::from_str(alloc, "General_Category")?,
-            value: Some(text),
-            length: length + 1,
+            value: Some(word),
+            length: 3 + count,
         }),
-        Lone::Binary if is_closed(behind) => Ok(PropertyFound::Property {
+        Lone::Binary => Ok(PropertyFound::Property {
             negative,
             strings: false,
-            name: text,
+            name: word,
             value: None,
-            length: length + 1,
+            length: 3 + count,
         }),
-        Lone::Category | Lone::Binary => Ok(unterminated(length)),
-        Lone::OfStrings => Ok(PropertyFound::Halt(PropertyHalt::OfStrings {
-            name: text,
-            length: run.len(),
+        Lone::OfStrings if negative => Ok(PropertyFound::Halt(PropertyHalt::NegativeOfStrings {
+            name: word,
+            end: 3 + count,
         })),
-        Lone::Nothing => Ok(PropertyFound::Halt(PropertyHalt::NameOrValue { length: run.len() })),
+        Lone::OfStrings => Ok(PropertyFound::Property {
+            negative,
+            strings: true,
+            name: word,
+            value: None,
+            length: 3 + count,
+        }),
+        Lone::Nothing => unreachable!(),
     }
 }
 

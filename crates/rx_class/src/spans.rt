@@ -1,4 +1,5 @@
 ghost use Rattle.std.specs.Prelude.{◌≡◌, ◌+◌, ◌<◌, ◌^◌};
+ghost use Rattle.rx_units.specs.Cursor.{offset_of};
 ghost use Rattle.rx_class.specs.EscapeAnswers.{span_to};
 ghost use Rattle.rx_class.specs.Fitting.{AreFitting};
 
@@ -14,4 +15,12 @@ pub fn span_to_here(reader: &Reader<'_>, spans: &SpanFactory, start: u32) -> Spa
     ensures { result ≡ span_to spans.now start reader.now }
 {
     spans.create(start, reader.offset())
+}
+
+/// Covers nothing where the reader stands.
+pub fn here(reader: &Reader<'_>, spans: &SpanFactory) -> Span
+    requires fits { AreFitting spans.now reader.now }
+    ensures { result ≡ span_to spans.now (offset_of reader.now) reader.now }
+{
+    spans.create(reader.offset(), reader.offset())
 }

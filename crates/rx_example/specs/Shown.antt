@@ -1,5 +1,5 @@
 -- What is shown of a literal.
-use Rattle.std.specs.Prelude.{◌≡◌, ℕ, true, List, Option}
+use Rattle.std.specs.Prelude.{◌≡◌, ℕ, List, Option}
 use Rattle.std.specs.Str.{encode_utf8_all}
 use Rattle.std.specs.String.{string_bytes}
 use Rattle.rx_ast.specs.declared.term.Pattern.{Pattern}
@@ -13,7 +13,6 @@ use Rattle.rx_model.specs.Inputs.Inputs.{Input, mode_asked}
 use Rattle.rx_model.specs.Trees.Names.{groups}
 use Rattle.rx_model.specs.Reading.Reading.{IsValid}
 use Rattle.rx_model.specs.Spelling.Spelling.{spelling}
-use Rattle.rx_parser.specs.NotYet.{is_unread_literal}
 use Rattle.rx_example.specs.declared.finding.Finding.{Finding}
 use Rattle.rx_example.specs.declared.finding.Finding.TheVariants as finding
 use Rattle.rx_example.specs.declared.finding.Refused.{Refused}
@@ -37,8 +36,7 @@ pub record Shows (shown : Refused) (cause : Diagnostic) : Type 0 where
   pub second : shown.second ≡ second_span_of cause
   pub message : string_bytes shown.message ≡ encode_utf8_all (message_of cause)
 
--- What is found out about an input: it is read; or this is shown of its first refusal; or its mode is not read yet.
+-- What is found out about an input: it is read, or this is shown of its first refusal.
 abbrev pub IsFinding : Input → Finding → Type 0
 IsFinding input (finding.Read count spelled) = IsRead input count spelled
 IsFinding input (finding.Refused shown) = (cause : Diagnostic) × IsFirstRefusal input cause × Shows shown cause
-IsFinding input finding.Later = is_unread_literal input.flags ≡ true

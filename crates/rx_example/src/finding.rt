@@ -25,9 +25,6 @@ pub enum Finding {
 
     /// The pattern is refused.
     Refused(Refused),
-
-    /// A pattern of this mode is not read yet.
-    Later,
 }
 
 /// Reads the text between a literal's slashes, under its flags. Fails only where there is not enough memory.
@@ -42,7 +39,7 @@ pub fn inspect(alloc: Global, pattern: &str, flags: Option<&str>) -> Result<Find
             spelling: it.text,
         }),
         Err(Fault::Diagnostic(cause)) => Ok(Finding::Refused(shown(alloc, &cause)?)),
-        Err(Fault::NotYet) => Ok(Finding::Later),
+        Err(Fault::NotYet) => unreachable!(),
         Err(Fault::OutOfMemory) => Err(OutOfMemory),
     }
 }

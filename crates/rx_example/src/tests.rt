@@ -22,6 +22,10 @@ fn findings(rt: HostRuntime) -> Result<(), Fail> {
         refused.message.as_str(),
         "Invalid regular expression: Duplicated capturing group names"
     );
-    assert!(rt; matches!(inspect(rt.alloc(), "a", Some("v"))?, Finding::Later));
+    let Finding::Read { groups, spelling } = inspect(rt.alloc(), "([\\w--[!]])", Some("v"))? else {
+        return Err(Fail::new("not read under v"));
+    };
+    assert_eq!(rt; groups, 1);
+    assert_eq!(rt; spelling.as_str(), "([\\w--[\\!]])");
     Ok(())
 }

@@ -1,5 +1,6 @@
 pub mod Apart
 pub mod ClassMarks
+pub mod ClassRest
 pub mod Cuts
 pub mod GroupStretches
 pub mod MarkNames

@@ -6,6 +6,7 @@ pub mod Bounds
 pub mod ClassAgain
 pub mod ClassBacks
 pub mod ClassKnown
+pub mod ClassTexts
 pub mod ClassTrees
 pub mod Known
 pub mod Narrows

@@ -1,3 +1,4 @@
+pub mod ClassBuilds
 pub mod ClassContents
 pub mod ClassFronts
 pub mod ClassRows

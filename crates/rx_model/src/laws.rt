@@ -1,6 +1,6 @@
 //! Laws of the definitions. The functions do nothing: each contract is a law.
 
-ghost use Rattle.std.specs.Prelude.{◌<◌, ◌≡◌, ◌≢◌, ◌==◌, ◌&&◌, ◌⊎◌, false, true, ℕ, List, [], ◌∷◌, ◌++◌, Result, ◌↔◌, Bool, Option, Some, ◌+◌, length, ◌||◌, codes};
+ghost use Rattle.std.specs.Prelude.{◌<◌, ◌≡◌, ◌≢◌, ◌==◌, ◌&&◌, ◌⊎◌, false, true, ℕ, List, [], ◌∷◌, ◌++◌, Result, ◌↔◌, Bool, Option, Some, ◌+◌, length, ◌||◌, codes, All};
 ghost use Rattle.rx_base.specs.declared.diagnostic.Diagnostic.{Diagnostic};
 ghost use Rattle.rx_base.specs.declared.fault.Fault.{Fault};
 ghost use Rattle.rx_base.specs.declared.diagnostic.Diagnostic.TheVariants.{CharacterClassRangeInvalidAtom, LoneQuantifier};
@@ -21,11 +21,12 @@ ghost use Rattle.rx_model.specs.Classes.ClassRuns.{Held, empty, is_whole, class_
 ghost use Rattle.rx_model.specs.Refusals.ClassPlaces.{IsAtomPlace};
 ghost use Rattle.rx_model.specs.Classes.ClassShapes.{IsFitting, IsFlagged};
 ghost use Rattle.rx_model.specs.FirstPass.Cuts.{IsCut, TellsApart, TellsGroups};
-ghost use Rattle.rx_model.specs.Trees.Early.{IsEarlyClass};
+ghost use Rattle.rx_model.specs.Trees.Early.{IsCodePoint, IsEarlyClass};
 ghost use Rattle.rx_model.specs.Inputs.Environment.{Environment, environment, is_sets, is_unicode};
-ghost use Rattle.rx_model.specs.declared.mode.Mode.TheVariants.{Legacy, Unicode};
-ghost use Rattle.rx_model.specs.Refusals.Firsts.{IsCauseOfEscape, IsFirst, IsFirstInClass, IsFirstOfEscape, NoneBeyond, NoneBeyondInClass};
+ghost use Rattle.rx_model.specs.declared.mode.Mode.TheVariants.{Legacy, Unicode, Sets};
+ghost use Rattle.rx_model.specs.Refusals.Firsts.{GivesWay, IsCauseOfEscape, IsFirst, IsFirstInClass, IsFirstOf, IsFirstOfEscape, NoneBeyond, NoneBeyondInClass, no_item, yielding};
 ghost use Rattle.rx_model.specs.Inputs.Flags.{flags_of, flags_ok};
+ghost use Rattle.rx_model.specs.Reading.ElementKinds.{NestedPlace};
 ghost use Rattle.rx_model.specs.Reading.Headline.{IsFirstRefusal, IsParsed, IsSameAgain};
 ghost use Rattle.rx_model.specs.Inputs.Inputs.{Input, mode_asked};
 ghost use Rattle.rx_model.specs.Groups.GroupNames.{BeginsWithName, SpellsName};
@@ -71,34 +72,34 @@ pub fn class_row_prefixes()
         ClassTokenRow e ts q us r a → ClassTokenRow e ss q us p b → GoesOnInClass e ts r a ss p b ⊎ GoesOnInClass e ss p b ts r a }
 {}
 
-/// No tree reads a text that is refused, in every mode but that of `v`.
+/// No tree reads a text that is refused.
 pub fn refused()
-    ensures { (mode : Mode) → is_sets mode ≡ false → (us : List CodePoint) (start added : ℕ) (d : Diagnostic) → IsCause mode us start added d → (p : Pattern) → Reads mode p us → ⊥ }
+    ensures { (mode : Mode) (us : List CodePoint) (start added : ℕ) (d : Diagnostic) → IsCause mode us start added d → (p : Pattern) → Reads mode p us → ⊥ }
 {}
 
 /// No place is reached beyond one at which a refusal holds.
 pub fn none_beyond()
-    ensures { (mode : Mode) → is_sets mode ≡ false → (us : List CodePoint) (start added place : ℕ) (d : Diagnostic) → IsCauseAtPlace mode us start added place d → NoneBeyond mode us place }
+    ensures { (mode : Mode) (us : List CodePoint) (start added place : ℕ) (d : Diagnostic) → IsCauseAtPlace mode us start added place d → NoneBeyond mode us place }
 {}
 
 /// In a class that is refused no item can begin beyond that place, and no place beyond the class's bracket is reached.
 pub fn none_beyond_in_class()
-    ensures { (mode : Mode) → is_sets mode ≡ false → (us : List CodePoint) (start added from : ℕ) (at_class : List CodePoint) (place : ℕ) (d : Diagnostic) →
+    ensures { (mode : Mode) (us : List CodePoint) (start added from : ℕ) (at_class : List CodePoint) (place : ℕ) (d : Diagnostic) →
         IsClassCause mode us start added from at_class place d →
         NoneBeyondInClass (text_environment mode us) from at_class place × (IsPlace mode us from at_class → NoneBeyond mode us from) }
 {}
 
-/// At most one refusal holds of a text, with its spans and what it says.
+/// Without `v` at most one refusal holds of a text, with its spans and what it says.
 pub fn one_cause()
     ensures { (mode : Mode) → is_sets mode ≡ false → (us : List CodePoint) (start added : ℕ) (d e : Diagnostic) → IsCause mode us start added d → IsCause mode us start added e → d ≡ e }
 {}
 
-/// A refusal that holds is the first of its text.
+/// Without `v` a refusal that holds is the first of its text.
 pub fn cause_is_first()
     ensures { (mode : Mode) → is_sets mode ≡ false → (us : List CodePoint) (start added : ℕ) (d : Diagnostic) → IsCause mode us start added d → IsFirst mode us start added d }
 {}
 
-/// At most one refusal holds at places, and it holds at one place.
+/// Without `v` at most one refusal holds at places, and it holds at one place.
 pub fn one_place()
     ensures { (mode : Mode) → is_sets mode ≡ false → (us : List CodePoint) (start added f g : ℕ) (d e : Diagnostic) →
         IsCauseAtPlace mode us start added f d → IsCauseAtPlace mode us start added g e → (f ≡ g) × (d ≡ e) }
@@ -106,25 +107,53 @@ pub fn one_place()
 
 /// At most one refusal is the first of a text.
 pub fn one_first()
-    ensures { (mode : Mode) → is_sets mode ≡ false → (us : List CodePoint) (start added : ℕ) (d e : Diagnostic) → IsFirst mode us start added d → IsFirst mode us start added e → d ≡ e }
+    ensures { (mode : Mode) (us : List CodePoint) (start added : ℕ) (d e : Diagnostic) → IsFirst mode us start added d → IsFirst mode us start added e → d ≡ e }
 {}
 
-/// At most one refusal is the first of an input whose flags are wrong, or ask for a mode other than that of `v`.
+/// A refusal that holds at a place is the first of its text where it gives way to none, since it says what stands there; and so is the first of a class that begins
+/// at a place that is reached.
+pub fn first_at_places()
+    ensures said { (mode : Mode) (us : List CodePoint) (start added place : ℕ) (d : Diagnostic) → IsCauseAtPlace mode us start added place d → yielding d ≢ no_item →
+        IsFirstOf (IsCauseAtPlace mode us start added) d }
+    ensures in_class { (mode : Mode) (us : List CodePoint) (start added from : ℕ) (at_class : List CodePoint) (d : Diagnostic) → IsPlace mode us from at_class →
+        IsFirstInClass mode us start added from at_class d → IsFirstOf (IsCauseAtPlace mode us start added) d }
+{}
+
+/// At most one refusal is the first of an input.
 pub fn one_refusal()
-    ensures { (input : Input) (d e : Diagnostic) → (flags_ok (flags_of input.flags) ≡ true → is_sets (mode_asked input) ≡ false) →
+    ensures { (input : Input) (d e : Diagnostic) →
         IsFirstRefusal input d → IsFirstRefusal input e → d ≡ e }
 {}
 
-/// At most one refusal holds in a class, and at one place of it.
+/// Without `v` at most one refusal holds in a class, and at one place of it.
 pub fn one_in_class()
     ensures { (mode : Mode) → is_sets mode ≡ false → (us : List CodePoint) (start added from : ℕ) (at_class : List CodePoint) (f g : ℕ) (d e : Diagnostic) →
         IsClassCause mode us start added from at_class f d → IsClassCause mode us start added from at_class g e → (f ≡ g) × (d ≡ e) }
 {}
 
-/// A refusal that holds in a class is the first of that class.
+/// Without `v` a refusal that holds in a class is the first of that class.
 pub fn class_cause_is_first()
     ensures { (mode : Mode) → is_sets mode ≡ false → (us : List CodePoint) (start added from : ℕ) (at_class : List CodePoint) (place : ℕ) (d : Diagnostic) →
         IsClassCause mode us start added from at_class place d → IsFirstInClass mode us start added from at_class d }
+{}
+
+/// Of two refusals that hold in a class one gives way to the other, or they are one, at one place of it.
+pub fn two_in_class()
+    ensures { (mode : Mode) (us : List CodePoint) (start added from : ℕ) (at_class : List CodePoint) (f g : ℕ) (d e : Diagnostic) →
+        IsClassCause mode us start added from at_class f d → IsClassCause mode us start added from at_class g e →
+        ((f ≡ g) × (d ≡ e)) ⊎ (GivesWay f d g e ⊎ GivesWay g e f d) }
+{}
+
+/// At most one refusal is the first of a class.
+pub fn one_first_in_class()
+    ensures { (mode : Mode) (us : List CodePoint) (start added from : ℕ) (at_class : List CodePoint) (d e : Diagnostic) →
+        IsFirstInClass mode us start added from at_class d → IsFirstInClass mode us start added from at_class e → d ≡ e }
+{}
+
+/// A refusal that gives way to none, since it says what stands there, is the first of its class.
+pub fn said_is_first_in_class()
+    ensures { (mode : Mode) (us : List CodePoint) (start added from : ℕ) (at_class : List CodePoint) (place : ℕ) (d : Diagnostic) →
+        IsClassCause mode us start added from at_class place d → yielding d ≢ no_item → IsFirstInClass mode us start added from at_class d }
 {}
 
 /// At most one refusal holds of the escape of a character or of a property that is to stand at a place, in every mode.
@@ -142,7 +171,7 @@ pub fn escape_cause_is_first()
 /// Each token is a whole row of marks, whatever the environment, so that the first pass of a text (CountLeftCapturingParensWithin of ECMA-262, 22.2.1.2)
 /// sees the groups that its tokens open and close.
 pub fn cut()
-    ensures { (e : Environment) (t : Token) (w rest : List CodePoint) → Spells e t w rest → IsCut (is_unicode e.mode) t w rest }
+    ensures { (e : Environment) (t : Token) (w rest : List CodePoint) → Spells e t w rest → IsCut e.mode t w rest }
 {}
 
 /// The number of groups and the names that the first pass of a text finds are those of any tree that it spells.
@@ -161,14 +190,14 @@ pub fn one_line()
     ensures { (mode : Mode) (p : Pattern) (us : List CodePoint) → Reads mode p us → FitIn mode us → us ≢ [] → IsOneLine (spelling (bare p) mode) }
 {}
 
-/// In every mode but that of `v` the canonical spelling of a pattern reads as a pattern that is equal but for spans and character kinds.
+/// The canonical spelling of a pattern reads as a pattern that is equal but for spans and character kinds.
 pub fn read_back()
-    ensures { (mode : Mode) → is_sets mode ≡ false → (p : Pattern) (us : List CodePoint) → Reads mode p us → FitIn mode us → us ≢ [] → IsReadBack mode p }
+    ensures { (mode : Mode) (p : Pattern) (us : List CodePoint) → Reads mode p us → FitIn mode us → us ≢ [] → IsReadBack mode p }
 {}
 
 /// So whatever a parser answers to the canonical spelling of a pattern is that pattern, but for spans and character kinds, or out of memory.
 pub fn again()
-    ensures { (input : Input) (answer : Result Pattern Fault) → IsParsed (λ p. p) input answer → is_sets (mode_asked input) ≡ false → (p : Pattern) (us : List CodePoint) →
+    ensures { (input : Input) (answer : Result Pattern Fault) → IsParsed (λ p. p) input answer → (p : Pattern) (us : List CodePoint) →
         Reads (mode_asked input) p us → FitIn (mode_asked input) us → us ≢ [] → input.text ≡ spelling (bare p) (mode_asked input) → flags_ok (flags_of input.flags) ≡ true →
         IsSameAgain p answer }
 {}
@@ -202,8 +231,8 @@ pub fn elements()
     ensures tokens { (e : Environment) (ts : List Token) (us rest : List CodePoint) →
         TokenRow e ts us rest ↔ ElementRow (⟦<PatternTokens as ElementKind>⟧.spells e) (⟦<PatternTokens as ElementKind>⟧.behind e) ts tt us tt rest }
     ensures class_tokens { (e : Environment) (c : Class) (w rest : List CodePoint) → IsClass e c w rest →
-        (q : Option Place) × ⟦<ClassTokens as ElementKind>⟧.is_stop e q rest ×
-        ElementRow (⟦<ClassTokens as ElementKind>⟧.spells e) (⟦<ClassTokens as ElementKind>⟧.behind e) (class_tokens c) (Some outside) (w ++ rest) q rest }
+        (q : Option NestedPlace) × ⟦<ClassTokens as ElementKind>⟧.is_stop e q rest ×
+        ElementRow (⟦<ClassTokens as ElementKind>⟧.spells e) (⟦<ClassTokens as ElementKind>⟧.behind e) (class_tokens c) (Some (0, outside)) (w ++ rest) q rest }
     ensures names { (unicode_mode : Bool) (name us rest : List ℕ) →
         ((w : List ℕ) × (us ≡ w ++ rest) × SpellsName unicode_mode name w rest) ↔
         ElementRow (⟦<NameCharacters as ElementKind>⟧.spells unicode_mode) (⟦<NameCharacters as ElementKind>⟧.behind unicode_mode) name true us false rest }
@@ -323,6 +352,13 @@ pub fn legacy_classes()
     ensures { (us : List CodePoint) (start added from : ℕ) (u : CodePoint) (text : List CodePoint) → u.value ≡ 91 → AreCodeUnits text →
         ((c : Class) × (w : List CodePoint) × (rest : List CodePoint) × (u ∷ text ≡ w ++ rest) × IsClass (text_environment Legacy us) c w rest × IsEarlyClass c)
         ⊎ ((f : ℕ) × (d : Diagnostic) × IsClassCause Legacy us start added from (u ∷ text) f d) }
+{}
+
+/// With `v` a class stands where a `[` does that is free of early errors, or a refusal holds in it.
+pub fn classes_or_refusals()
+    ensures { (us : List CodePoint) (start added from : ℕ) (u : CodePoint) (text : List CodePoint) → u.value ≡ 91 → All (λ u. IsCodePoint u.value) text →
+        ((c : Class) × (w : List CodePoint) × (rest : List CodePoint) × (u ∷ text ≡ w ++ rest) × IsClass (text_environment Sets us) c w rest × IsEarlyClass c)
+        ⊎ ((f : ℕ) × (d : Diagnostic) × IsClassCause Sets us start added from (u ∷ text) f d) }
 {}
 
 /// With neither `u` nor `v`, at a place that is reached, the text ends with no group open, a further place is reached, or a refusal holds; but for modifiers, which

@@ -74,9 +74,8 @@ pub struct ClassTokens;
 impl ElementKind for ClassTokens {
     ghost use Rattle.std.specs.Prelude.{Option, None};
     ghost use Rattle.rx_units.specs.declared.code_point.CodePoint.{CodePoint};
-    ghost use Rattle.rx_model.specs.Classes.ClassRows.{Place as ClassPlace};
     ghost use Rattle.rx_model.specs.Classes.ClassTokens.{ClassToken};
-    ghost use Rattle.rx_model.specs.Reading.ElementKinds.{SpellsOfClass, behind_of_class};
+    ghost use Rattle.rx_model.specs.Reading.ElementKinds.{NestedPlace, SpellsOfClass, behind_of_class};
     ghost use Rattle.rx_model.specs.Inputs.Environment.{Environment};
 
     ghost Element = { ClassToken };
@@ -85,7 +84,7 @@ impl ElementKind for ClassTokens {
 
     ghost Surroundings = { Environment };
 
-    ghost Place = { Option ClassPlace };
+    ghost Place = { Option NestedPlace };
 
     ghost spells = { SpellsOfClass };
 

@@ -1,5 +1,5 @@
 -- What the readers of classes and of property escapes answer moves a parse on, or refuses the text.
-use Rattle.std.proofs.Common.{◌≡◌, refl, ap, sym, ◌∙◌, subst, ℕ, suc, ◌+◌, ◌-◌, Bool, true, false, ◌&&◌, inl, inr, Option, Some, None, Result, Ok, Err, List, [], ◌∷◌, length, drop, arith}
+use Rattle.std.proofs.Common.{◌≡◌, refl, ap, sym, ◌∙◌, subst, ℕ, suc, ◌+◌, ◌-◌, inl, inr, Option, Some, None, Result, Ok, Err, List, [], ◌∷◌, length, drop, arith}
 use Rattle.std.specs.Prelude.{min}
 use Rattle.std.proofs.lemmas.Bool.{and_parts, true≢false}
 use Rattle.std.proofs.lemmas.List.{drop-drop}
@@ -13,7 +13,7 @@ use Rattle.rx_ast.specs.Tree.{leaf, mirror_term}
 use Rattle.rx_units.specs.declared.code_point.CodePoint.{CodePoint}
 use Rattle.rx_units.specs.Cursor.{Cursor, moved, offset_of, rest}
 use Rattle.rx_units.specs.Units.{offset_at, values}
-use Rattle.rx_model.specs.Refusals.Causes.{at_place, of_class, of_property}
+use Rattle.rx_model.specs.Refusals.Causes.{of_property}
 use Rattle.rx_model.specs.Inputs.Environment.{Environment, environment_with, has_some}
 use Rattle.rx_model.specs.Refusals.EscapeCauses.{IsPropertyCause}
 use Rattle.rx_model.specs.Characters.Escapes.{front_is}
@@ -23,8 +23,7 @@ use Rattle.rx_model.specs.Trees.Events.{term_events}
 use Rattle.rx_model.specs.Trees.Shapes.{takes}
 use Rattle.rx_model.specs.Trees.Token.{property}
 use Rattle.rx_model.proofs.Classes.ClassUnspanned.{class_unspanned, early_forget}
-use Rattle.rx_model.proofs.Classes.ClassWholes.{only_sets}
-use Rattle.rx_model.proofs.Inputs.Modes.{not_sets}
+use Rattle.rx_model.proofs.Refusals.OneEscape.{property_says}
 use Rattle.rx_scan.specs.declared.state.State.{State}
 use Rattle.rx_class.specs.EscapeAnswers.{environment_of, from_backslash}
 use Rattle.rx_class.specs.ClassAnswers.{GivesClass}
@@ -39,12 +38,9 @@ use Rattle.rx_parser.specs.Parsing.{HoldsPass, IsRefused}
 use Rattle.rx_parser.specs.Progress.{IsLeafOf}
 use Rattle.rx_parser.specs.Turns.{IsBefore, IsTurned}
 use Rattle.rx_parser.proofs.Places.{reached}
+use Rattle.rx_parser.proofs.Refused.{cause_refused, class_refused}
 use Rattle.rx_parser.proofs.Steps.{Grows}
 use Rattle.rx_parser.proofs.Turns.{class_turned, leaf_turned}
-
-not_both : (a b : Bool) → b ≡ false → (a && b) ≡ false
-not_both true b h = h
-not_both false b h = refl
 
 -- behind the first of two values
 second_values : (us : List CodePoint) (c d : ℕ) (w : List ℕ) → values us ≡ c ∷ d ∷ w → values (drop 1 us) ≡ d ∷ w
@@ -60,18 +56,18 @@ module _ {added : ℕ} {b : Builder} {r : Cursor} {state : State} (h : IsBefore 
   environment_is =
       ap (λ mode. environment_with mode state.num_of_capturing_groups (has_some state.capturing_group_names)) pass.mode_is
       ∙ ap (λ count. environment_with b.mode count (has_some state.capturing_group_names)) pass.groups
-      ∙ ap (λ names. environment_with b.mode (text_groups r.units) (has_some names)) pass.names
+      ∙ ap (λ names. environment_with b.mode (text_groups b.mode r.units) (has_some names)) pass.names
 
   -- A parse has reached where the reader stands.
   at_here : IsPlace b.mode r.units r.place (rest r)
   at_here = record { open_groups = openers b; ready = ready b; reached = reached r.units r.first added b r.place h.parsing }
 
   -- Where a class is refused, the text is.
-  pub class_refused : (s : Cursor) (fault : Fault) → GivesClass (environment_of state) added r s (Err fault) → IsRefused b.mode r.units r.first added fault
-  class_refused s fault gives = cause fault (subst (λ e. GivesClass e added r s (Err fault)) environment_is gives)
+  pub class_answer_refused : (s : Cursor) (fault : Fault) → GivesClass (environment_of state) added r s (Err fault) → IsRefused b.mode r.units r.first added fault
+  class_answer_refused s fault gives = cause fault (subst (λ e. GivesClass e added r s (Err fault)) environment_is gives)
     where
       cause : (fault : Fault) → GivesClass text added r s (Err fault) → IsRefused b.mode r.units r.first added fault
-      cause _ (class_answer.refused first none keeps) = at_place first.place pass.no_clash pass.in_limit (of_class r.place first.place (rest r) at_here first.holds)
+      cause _ (class_answer.refused first none keeps) = class_refused b.mode r.units r.first added pass.no_clash pass.in_limit r.place (rest r) _ at_here first
       cause _ (class_answer.no_memory keeps) = tt
 
   -- A class that is answered is read.
@@ -106,10 +102,10 @@ module _ {added : ℕ} {b : Builder} {r : Cursor} {state : State} (h : IsBefore 
       where
         cause : (fault : Fault) → GivesProperty text added start (moved 1 r) s (Err fault) → IsRefused b.mode r.units r.first added fault
         cause _ (property_answer.refused {diagnostic = it} holds first none keeps) =
-            at_place r.place pass.no_clash pass.in_limit
-            (of_property r.place (rest r) at_here
-            (subst (λ k. IsPropertyCause b.mode r.units r.first added k (rest r) it) place_behind
-            (subst (λ us. IsPropertyCause b.mode r.units r.first added ((moved 1 r).place - 1) us it) from_place holds)))
+            let here =
+            subst (λ k. IsPropertyCause b.mode r.units r.first added k (rest r) it) place_behind
+            (subst (λ us. IsPropertyCause b.mode r.units r.first added ((moved 1 r).place - 1) us it) from_place holds) in
+            cause_refused b.mode r.units r.first added pass.no_clash pass.in_limit r.place it (property_says b.mode r.units r.first added r.place (rest r) it here) (of_property r.place (rest r) at_here here)
         cause _ (property_answer.no_memory keeps) = tt
 
     -- A property escape that is answered is read.
@@ -119,7 +115,7 @@ module _ {added : ℕ} {b : Builder} {r : Cursor} {state : State} (h : IsBefore 
     property_taken c answer it term begun is gives l g = taken (subst (λ x. GivesProperty text added start (moved 1 r) s (Ok x)) is (gives_here (Ok answer) gives))
       where
         taken : GivesProperty text added start (moved 1 r) s (Ok (Some it)) → IsTurned added b c r s
-        taken (property_answer.some backslash w more whole spelled span new) =
+        taken (property_answer.some backslash w more whole spelled obeys span new) =
             leaf_turned h c s (property it.negative it.strings it.name it.value) (length (backslash ∷ w)) it.span.start it.span.end term
             (record {
               next = record { w = backslash ∷ w; rest = more; whole = sym from_place ∙ whole; count = refl; spells = spelled };
@@ -127,7 +123,7 @@ module _ {added : ℕ} {b : Builder} {r : Cursor} {state : State} (h : IsBefore 
               end = ap (λ x. x.end) span;
               moved_on = new ∙ moved_twice (length w);
             })
-            (not_both it.negative it.strings (only_sets b.mode (not_sets b.mode h.read) it.strings it.name it.value spelled.text spelled.spelled)) l g
+            obeys l g
 
     -- Where a property escape is to stand, one is answered or refused.
     pub property_never_none : (answer : Option UnicodePropertyEscape) → IsFound text (rest r) found.Property → answer ≡ None → GivesProperty (environment_of state) added start old s (Ok answer) → ⊥

@@ -35,10 +35,10 @@ pub parsing_begun : {mode : Mode} (us : List CodePoint) (first added start : ℕ
 parsing_begun {mode} us first added start b a m o r g d = record {
   at = begun (text_environment mode us) (λ i. offset_at first us i + added) b us start a m o r g d;
   within = omega arith;
-  obey = subst (λ es. AreObeying mode us (tokens_of es)) (sym m) (All-nil (Obeys (text_groups us) (text_names mode us)));
+  obey = subst (λ es. AreObeying mode us (tokens_of es)) (sym m) (All-nil (Obeys (text_groups mode us) (text_names mode us)));
 }
 
-module _ (mode : Mode) (us : List CodePoint) (first added : ℕ) (p : Pattern) (no_clash : HasNoClash mode us) (limit : text_groups us ≤ most_groups) where
+module _ (mode : Mode) (us : List CodePoint) (first added : ℕ) (p : Pattern) (no_clash : HasNoClash mode us) (limit : text_groups mode us ≤ most_groups) where
   -- the environment of the text
   abbrev text : Environment
   text = text_environment mode us

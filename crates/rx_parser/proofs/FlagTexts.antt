@@ -1,15 +1,14 @@
 -- What flags say of the mode, and what refuses them.
-use Rattle.std.proofs.Common.{◌≡◌, refl, ap, sym, ◌∙◌, ℕ, Bool, true, false, not, ◌&&◌, ◌||◌, List, Option}
+use Rattle.std.proofs.Common.{◌≡◌, refl, ap, sym, ◌∙◌, ℕ, Bool, true, false, ◌||◌, List}
 use Rattle.std.specs.Prelude.{if◌then◌else◌}
 use Rattle.std.proofs.lemmas.Bool.{or_left}
 use Rattle.rx_base.specs.declared.diagnostic.Diagnostic.{Diagnostic}
 use Rattle.rx_model.specs.declared.mode.Mode.TheVariants.{Legacy, Unicode, Sets}
 use Rattle.rx_model.specs.Refusals.FlagCauses.{IsFlagCause}
-use Rattle.rx_model.specs.Inputs.Flags.{flag_units, flags_of, flags_ok, holds, mode_of, modes_of}
-use Rattle.rx_model.specs.Inputs.Modes.{is_read, mode_by}
+use Rattle.rx_model.specs.Inputs.Flags.{flag_units, flags_ok, holds, mode_of, modes_of}
+use Rattle.rx_model.specs.Inputs.Modes.{mode_by}
 use Rattle.rx_model.proofs.Spelling.Backs.{values_literal}
 use Rattle.rx_model.proofs.Refusals.FlagCauses.{cause_refuses}
-use Rattle.rx_parser.specs.NotYet.{is_unread_literal}
 
 -- refused flags are no flags
 pub refused_flags : (flags : List ℕ) (added : ℕ) (cause : Diagnostic) → IsFlagCause (flag_units flags) 0 added cause → flags_ok flags ≡ false
@@ -28,11 +27,3 @@ mode_of_modes flags modes h =
 -- sets mode is a unicode mode
 pub sets_is_unicode : (flags : List ℕ) (modes : Bool × Bool) → modes ≡ modes_of flags → modes.1 ≡ true → modes.0 ≡ true
 sets_is_unicode flags modes h sets = ap (λ (p : Bool × Bool). p.0) h ∙ or_left (holds flags 118) (holds flags 117) (sym (ap (λ (p : Bool × Bool). p.1) h) ∙ sets)
-
--- flags that are no fault, and are not left unread, have a mode that is read
-pub mode_is_read : (flags : Option (List ℕ)) → flags_ok (flags_of flags) ≡ true → is_unread_literal flags ≡ false → is_read (mode_of (flags_of flags)) ≡ true
-mode_is_read flags = by_parts (flags_ok (flags_of flags)) (is_read (mode_of (flags_of flags)))
-  where
-    by_parts : (ok read : Bool) → ok ≡ true → (ok && not read) ≡ false → read ≡ true
-    by_parts ok true e h = refl
-    by_parts ok false e h = let no : true ≡ false = sym (ap (λ b. b && true) e) ∙ h in absurd (let k : ⊥ = cc no in k)

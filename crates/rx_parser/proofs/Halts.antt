@@ -1,5 +1,5 @@
 -- Where the reading halts the text is refused with its cause.
-use Rattle.std.proofs.Common.{◌≡◌, refl, ap, ◌∙◌, sym, subst, ℕ, ◌+◌, ◌<◌, ◌≤◌, ◌&&◌, ◌||◌, inl, inr, Bool, true, false, not, Some, List, [], ◌∷◌, ◌++◌, length, drop, arith, length-append}
+use Rattle.std.proofs.Common.{◌≡◌, ◌≢◌, refl, ap, ◌∙◌, sym, subst, ℕ, ◌+◌, ◌<◌, ◌≤◌, ◌&&◌, ◌||◌, inl, inr, Bool, true, false, not, Some, List, [], ◌∷◌, ◌++◌, length, drop, arith, length-append}
 use Rattle.std.proofs.lemmas.Bool.{cases_Bool}
 use Rattle.std.proofs.lemmas.List.{drop_all}
 use Rattle.rx_base.specs.declared.fault.Fault.{Fault}
@@ -12,7 +12,7 @@ use Rattle.rx_base.specs.declared.span.Span.{Span}
 use Rattle.rx_units.specs.declared.code_point.CodePoint.{CodePoint}
 use Rattle.rx_units.specs.Units.{offset_at, values}
 use Rattle.rx_model.specs.declared.mode.Mode.{Mode}
-use Rattle.rx_model.specs.Refusals.Causes.{IsCauseAtPlace, at_place, unterminated, incomplete, last_backslash, misplaced_pair, out_of_order, too_large, too_many_digits, of_escape, unterminated_group, unterminated_name, unterminated_name_in_legacy, too_many_digits_in_name, misplaced_in_name, invalid_in_name, invalid_u_in_name, no_such_group, no_group_name, unknown_modifiers, duplicated_modifiers, empty_modifiers, invalid_modifiers}
+use Rattle.rx_model.specs.Refusals.Causes.{IsCauseAtPlace, unterminated, incomplete, last_backslash, misplaced_pair, out_of_order, too_large, too_many_digits, of_escape, unterminated_group, unterminated_name, unterminated_name_in_legacy, too_many_digits_in_name, misplaced_in_name, invalid_in_name, invalid_u_in_name, no_such_group, no_group_name, unknown_modifiers, duplicated_modifiers, empty_modifiers, invalid_modifiers}
 use Rattle.rx_model.specs.Trees.Early.{most_groups}
 use Rattle.rx_model.specs.Inputs.Environment.{Environment, has_some, is_unicode}
 use Rattle.rx_model.specs.Reading.Fronts.{front}
@@ -20,16 +20,19 @@ use Rattle.rx_model.specs.Groups.GroupNames.{IsNameRow}
 use Rattle.rx_model.specs.Groups.Groups.{BeginsName, EndsName}
 use Rattle.rx_model.specs.FirstPass.Marks.{starts}
 use Rattle.rx_model.specs.Refusals.EscapeCauses.{too_many_hex_digits, invalid_escape}
+use Rattle.rx_model.specs.Refusals.Firsts.{no_item, yielding}
 use Rattle.rx_model.specs.Refusals.Reached.{IsPlace, HasNoClash, IsReached, span_between, text_environment, text_groups, text_names}
 use Rattle.rx_model.specs.Refusals.Stops.{IsStop, at_closer, at_end}
-use Rattle.rx_model.specs.Trees.Token.{closer, indexed, opener_of}
+use Rattle.rx_model.specs.Trees.Token.{Opener, capturing, closer, ignoring, indexed, looking, opener_of}
 use Rattle.rx_model.specs.Characters.UnicodeEscapes.{Decodes, PassesHex}
 use Rattle.rx_model.proofs.Reading.Fronts.{front_spelled}
 use Rattle.rx_parser.specs.declared.builder.Builder.{Builder}
 use Rattle.rx_parser.specs.declared.found.Halt.{Halt}
 use Rattle.rx_parser.specs.declared.found.Halt.TheVariants as halt
+use Rattle.rx_parser.specs.declared.found.ModifiersFault.{ModifiersFault}
+use Rattle.rx_parser.specs.declared.found.ModifiersFault.TheVariants as fault
 use Rattle.rx_parser.specs.declared.frame.Frame.{Frame}
-use Rattle.rx_parser.specs.Faults.{IsEndedFault, IsHaltFault, halt_refusal}
+use Rattle.rx_parser.specs.Faults.{IsEndedFault, IsHaltFault, halt_refusal, modifiers_refusal}
 use Rattle.rx_model.specs.Groups.ModifierFronts.{ModifiersHalt}
 use Rattle.rx_model.specs.Groups.NameFronts.{NameHalt, begins_pair, unterminated as unterminated_row, misplaced_pair as misplaced_pair_row, misplaced, no_escape, no_escape_of_u, many_digits}
 use Rattle.rx_model.specs.Quantifiers.Quantifiers.{BeginsWithBraces, PassesLimit}
@@ -46,6 +49,20 @@ use Rattle.rx_parser.specs.Names.{found_name_halt}
 use Rattle.rx_parser.specs.Parsing.{IsParsing, IsRefused}
 use Rattle.rx_parser.proofs.Insides.{inside}
 use Rattle.rx_parser.proofs.Places.{reached, some_left}
+use Rattle.rx_parser.proofs.Refused.{cause_refused}
+
+-- a group that is not ended
+says_group : (o : Opener) (span : Span) → yielding (UnterminatedPattern span (unterminated o)) ≢ no_item
+says_group (capturing name) span e = cc e
+says_group (ignoring bits) span e = cc e
+says_group (looking kind) span e = cc e
+
+-- wrong modifiers
+says_modifiers : (it : ModifiersFault) (span : Span) → yielding (modifiers_refusal it span) ≢ no_item
+says_modifiers fault.Unknown span e = cc e
+says_modifiers fault.Duplicated span e = cc e
+says_modifiers fault.Empty span e = cc e
+says_modifiers fault.Invalid span e = cc e
 
 module _ {mode : Mode} (us : List CodePoint) (first added : ℕ) (b : Builder) (place : ℕ) (h : IsParsing mode us first added b place) where
   abbrev unicode_mode : Bool
@@ -88,7 +105,7 @@ module _ {mode : Mode} (us : List CodePoint) (first added : ℕ) (b : Builder) (
   ends_escape behind begins count escape r = record { behind = behind; begins = begins; longest = r.row; rest_is = sym r.there }
 
   abbrev Refuses : Halt → Type 0
-  Refuses it = Causes (halt_refusal it (between (place + halt_start it) (place + halt_end it)) (text_groups us))
+  Refuses it = Causes (halt_refusal it (between (place + halt_start it) (place + halt_end it)) (text_groups mode us))
 
   name_cause : (behind : List ℕ) → BeginsName here (values left) behind → (it : NameHalt) → SaysNameHalt unicode_mode behind it → Refuses (found_name_halt it)
   name_cause behind begins (unterminated_row n) s =
@@ -126,10 +143,10 @@ module _ {mode : Mode} (us : List CodePoint) (first added : ℕ) (b : Builder) (
       of_escape place left at_left (invalid_escape n.behind unicode (whole ∙ ap (λ w. 92 ∷ w) n.whole) (λ v k d. n.no_value v k (subst (λ w. Decodes true w v k) (sym n.whole) d))
       (λ many p. n.no_limit many (subst (λ w. PassesHex w many) (sym n.whole) p)))
 
-  index_cause : (n k : ℕ) → front here left ≡ Some (indexed k, n) → text_groups us < k → Causes (InvalidIndexedReference (between (place + 0) (place + n)) (text_groups us))
+  index_cause : (n k : ℕ) → front here left ≡ Some (indexed k, n) → text_groups mode us < k → Causes (InvalidIndexedReference (between (place + 0) (place + n)) (text_groups mode us))
   index_cause n k e large =
       let f = front_spelled here left (indexed k) n e in
-      placed (λ span. InvalidIndexedReference span (text_groups us)) place (place + length f.w) (place + 0) (place + n) (omega arith) (ap (λ n. place + n) f.count)
+      placed (λ span. InvalidIndexedReference span (text_groups mode us)) place (place + length f.w) (place + 0) (place + n) (omega arith) (ap (λ n. place + n) f.count)
       (no_such_group place k f.w f.rest (subst (IsPlace mode us place) f.whole at_left) f.spells large)
 
   modifiers_cause : (it : ModifiersHalt) (n : ℕ) (behind : List ℕ) → values left ≡ 40 ∷ 63 ∷ behind → AreWrong behind n it → Refuses (halt.Modifiers (found_fault it) n)
@@ -145,7 +162,7 @@ module _ {mode : Mode} (us : List CodePoint) (first added : ℕ) (b : Builder) (
 
   -- the fault is some cause
   abbrev IsOfCause : Fault → Type 0
-  IsOfCause fault = (cause : Refusal) × (fault ≡ Diagnostic cause) × Causes cause
+  IsOfCause fault = (cause : Refusal) × (fault ≡ Diagnostic cause) × (yielding cause ≢ no_item) × Causes cause
 
   -- Terms end, and n units on reading stands: outside groups, or in the innermost one.
   ended_cause : (behind at : ℕ) (fault : Fault) → IsStop here left behind → starts 41 (values left) ≡ false → (b.frames ≡ [] → left ≡ [] → ⊥) → at ≡ place + behind → IsEndedFault us first added at b fault
@@ -157,6 +174,7 @@ module _ {mode : Mode} (us : List CodePoint) (first added : ℕ) (b : Builder) (
           let r : IsReached mode us place [] (ready b) left = subst (λ fs. IsReached mode us place (opened fs []) (ready b) left) none (reached us first added b place h) in (
             ParsePatternIncomplete (between at at),
             is,
+            (λ e. cc e),
             placed ParsePatternIncomplete (place + behind) (place + behind) at at (sym e) (sym e) (incomplete place behind (ready b) left r stop (some none)),
           )
 
@@ -165,46 +183,48 @@ module _ {mode : Mode} (us : List CodePoint) (first added : ℕ) (b : Builder) (
       group outer it frames is =
           let what = unterminated (opener_of (opener_tree it.group_kind)) in
           let i = inside us first added b place h outer it frames in
-          let made : ℕ → Refusal = λ start. UnterminatedPattern (record { start = start; end = offset_at first us at + added }) what in (
+          let made_span : ℕ → Span = λ start. record { start = start; end = offset_at first us at + added } in
+          let made : ℕ → Refusal = λ start. UnterminatedPattern (made_span start) what in (
             made it.start,
             is,
+            says_group (opener_of (opener_tree it.group_kind)) (made_span it.start),
             subst (λ start. Causes (made start)) (sym i.2)
                 (placed (λ span. UnterminatedPattern span what) i.0 (place + behind) i.0 at refl (sym e)
                 (unterminated_group i.0 place behind (opener_of (opener_tree it.group_kind)) left i.1 stop not_closed)),
           )
 
-  module _ (no_clash : HasNoClash mode us) (limit : text_groups us ≤ most_groups) where
-    refused : (cause : Refusal) → Causes cause → (fault : Fault) → fault ≡ Diagnostic cause → IsRefused mode us first added fault
-    refused cause c fault e = subst (IsRefused mode us first added) (sym e) (at_place place no_clash limit c)
+  module _ (no_clash : HasNoClash mode us) (limit : text_groups mode us ≤ most_groups) where
+    refused : (cause : Refusal) → yielding cause ≢ no_item → Causes cause → (fault : Fault) → fault ≡ Diagnostic cause → IsRefused mode us first added fault
+    refused cause says c fault e = subst (IsRefused mode us first added) (sym e) (cause_refused mode us first added no_clash limit place cause says c)
 
     -- why the text is refused where the reading halts
-    pub halt_refused : place < length us → (fault : Fault) (it : Halt) → IsHalt here left it → IsHaltFault us first added place b (text_groups us) it fault → IsRefused mode us first added fault
+    pub halt_refused : place < length us → (fault : Fault) (it : Halt) → IsHalt here left it → IsHaltFault us first added place b (text_groups mode us) it fault → IsRefused mode us first added fault
     halt_refused l fault it h f =
-        go h.0 (subst (Says here left (front here left)) h.1 (front_said here (ap (λ u. u || has_some (text_names mode us))) left)) (subst (λ it. IsHaltFault us first added place b (text_groups us) it fault) h.2 f)
+        go h.0 (subst (Says here left (front here left)) h.1 (front_said here (ap (λ u. u || has_some (text_names mode us))) left)) (subst (λ it. IsHaltFault us first added place b (text_groups mode us) it fault) h.2 f)
       where
-        name : (it : NameHalt) → Refuses (found_name_halt it) → IsHaltFault us first added place b (text_groups us) (found_name_halt it) fault → IsRefused mode us first added fault
-        name (unterminated_row n) c f = refused _ c fault f
-        name (misplaced_pair_row n) c f = refused _ c fault f
-        name (misplaced count n) c f = refused _ c fault f
-        name (no_escape count) c f = refused _ c fault f
-        name (no_escape_of_u count) c f = refused _ c fault f
-        name (many_digits count many) c f = refused _ c fault f
+        name : (it : NameHalt) → Refuses (found_name_halt it) → IsHaltFault us first added place b (text_groups mode us) (found_name_halt it) fault → IsRefused mode us first added fault
+        name (unterminated_row n) c f = refused _ (λ e. cc e) c fault f
+        name (misplaced_pair_row n) c f = refused _ (λ e. cc e) c fault f
+        name (misplaced count n) c f = refused _ (λ e. cc e) c fault f
+        name (no_escape count) c f = refused _ (λ e. cc e) c fault f
+        name (no_escape_of_u count) c f = refused _ (λ e. cc e) c fault f
+        name (many_digits count many) c f = refused _ (λ e. cc e) c fault f
 
-        go : (it : FrontHalt) → SaysHalt here left (front here left) it → IsHaltFault us first added place b (text_groups us) (found_halt it) fault → IsRefused mode us first added fault
+        go : (it : FrontHalt) → SaysHalt here left (front here left) it → IsHaltFault us first added place b (text_groups mode us) (found_halt it) fault → IsRefused mode us first added fault
         go (ends_here behind) s f =
             let c = ended_cause behind (place + behind) fault s.0 s.1 (λ none. some_left us place l) refl f in
-            refused c.0 c.2 fault c.1
+            refused c.0 c.2 c.3 fault c.1
         go reading.last_backslash s f =
-            refused _ (from_here InvalidExtendedAtomEscape (place + 1) (last_backslash place s.1 (subst (IsPlace mode us place) s.2 at_left) s.0 s.3)) fault f
-        go (reading.out_of_order n) s f = refused _ (from_here BracedQuantifierOutOfOrder (place + n) (out_of_order place n s.0 s.1 left at_left s.2 s.3)) fault f
-        go (reading.too_large n) s f = refused _ (from_here TooLargeNumberInBracedQuantifier (place + n) (too_large place n s.0 s.1 left at_left s.2 s.3.0 s.3.1)) fault f
-        go (many_decimal_digits start many) s f = refused _ (limit_cause start many s.0 s.1) fault f
-        go (many_hex_digits many) s f = refused _ (hex_cause s.0 s.1 many s.2 s.3) fault f
-        go no_unicode_escape s f = refused _ (escape_cause s.0 s.1 s.2 s.3) fault f
+            refused _ (λ e. cc e) (from_here InvalidExtendedAtomEscape (place + 1) (last_backslash place s.1 (subst (IsPlace mode us place) s.2 at_left) s.0 s.3)) fault f
+        go (reading.out_of_order n) s f = refused _ (λ e. cc e) (from_here BracedQuantifierOutOfOrder (place + n) (out_of_order place n s.0 s.1 left at_left s.2 s.3)) fault f
+        go (reading.too_large n) s f = refused _ (λ e. cc e) (from_here TooLargeNumberInBracedQuantifier (place + n) (too_large place n s.0 s.1 left at_left s.2 s.3.0 s.3.1)) fault f
+        go (many_decimal_digits start many) s f = refused _ (λ e. cc e) (limit_cause start many s.0 s.1) fault f
+        go (many_hex_digits many) s f = refused _ (λ e. cc e) (hex_cause s.0 s.1 many s.2 s.3) fault f
+        go no_unicode_escape s f = refused _ (λ e. cc e) (escape_cause s.0 s.1 s.2 s.3) fault f
         go (in_name it) s f = name it (name_cause s.0 s.1 it s.2) f
-        go no_angle s f = refused _ (from_here EmptyGroupSpecifier (place + 2) (no_group_name place left s.0 at_left s.3 s.1 s.2)) fault f
-        go (reading.no_such_group n) s f = refused _ (index_cause n s.0 s.1 s.2) fault f
-        go (in_modifiers it n) s f = refused _ (modifiers_cause it n s.0 s.1 s.2) fault f
+        go no_angle s f = refused _ (λ e. cc e) (from_here EmptyGroupSpecifier (place + 2) (no_group_name place left s.0 at_left s.3 s.1 s.2)) fault f
+        go (reading.no_such_group n) s f = refused _ (λ e. cc e) (index_cause n s.0 s.1 s.2) fault f
+        go (in_modifiers it n) s f = refused _ (says_modifiers (found_fault it) _) (modifiers_cause it n s.0 s.1 s.2) fault f
 
     -- a group is open at the end of the text
     pub ended_refused : place ≡ length us → (openers b ≡ [] → ⊥) → (fault : Fault) → IsEndedFault us first added place b fault → IsRefused mode us first added fault
@@ -212,7 +232,7 @@ module _ {mode : Mode} (us : List CodePoint) (first added : ℕ) (b : Builder) (
         let none : left ≡ [] = drop_all place us (omega (arith, e)) in
         let stop : IsStop here left 0 = subst (λ rest. IsStop here rest 0) (sym none) at_end in
         let c = ended_cause 0 place fault stop (ap (λ rest. starts 41 (values rest)) none) (λ frames _. some (ap (λ fs. opened fs []) frames)) (omega arith) f in
-        refused c.0 c.2 fault c.1
+        refused c.0 c.2 c.3 fault c.1
 
     -- a `)` where no group is open
     pub closer_refused : Stands here left closer 1 → openers b ≡ [] → IsRefused mode us first added (Diagnostic (ParsePatternIncomplete (between place place)))
@@ -222,7 +242,8 @@ module _ {mode : Mode} (us : List CodePoint) (first added : ℕ) (b : Builder) (
         let some : left ≡ [] → ⊥ = λ e. omega (arith, ap length e, ap length f.whole, length-append f.w f.rest, f.count) in
         let r : IsReached mode us place [] (ready b) left = subst (λ os. IsReached mode us place os (ready b) left) none (reached us first added b place h) in
         let here_is : place + 0 ≡ place = omega arith in
-        at_place place no_clash limit (placed ParsePatternIncomplete (place + 0) (place + 0) place place here_is here_is (incomplete place 0 (ready b) left r stop some))
+        cause_refused mode us first added no_clash limit place (ParsePatternIncomplete (between place place)) (λ e. cc e)
+        (placed ParsePatternIncomplete (place + 0) (place + 0) place place here_is here_is (incomplete place 0 (ready b) left r stop some))
       where
         closer_stops : (w rest : List CodePoint) → values w ≡ 41 ∷ [] → IsStop here (w ++ rest) 0
         closer_stops [] rest e = absurd (let no : ⊥ = cc e in no)

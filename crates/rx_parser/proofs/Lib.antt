@@ -14,6 +14,7 @@ pub mod ModifiersFound
 pub mod NameFound
 pub mod NumberFound
 pub mod Passes
+pub mod PlainRuns
 pub mod Places
 pub mod Refused
 pub mod Steps

@@ -1,6 +1,5 @@
 -- What the parse of a literal's units says of its text and flags.
-use Rattle.std.proofs.Common.{◌≡◌, refl, ap, sym, ◌∙◌, subst, ℕ, Bool, true, false, inl, inr, List, Option, Result, Ok, Err, IsErrAnd}
-use Rattle.std.proofs.lemmas.Bool.{and_from, and_parts, not-true, not_from_false}
+use Rattle.std.proofs.Common.{◌≡◌, refl, ap, sym, ◌∙◌, subst, ℕ, Bool, true, false, List, Result, Ok, Err, IsErrAnd}
 use Rattle.std.proofs.lemmas.Result.{err_from_is_err_and}
 use Rattle.rx_ast.specs.declared.term.Pattern.{Pattern}
 use Rattle.rx_base.specs.declared.fault.Fault.{Fault}
@@ -10,26 +9,15 @@ use Rattle.rx_model.specs.Refusals.FlagCauses.{IsFlagCause}
 use Rattle.rx_model.specs.Inputs.Flags.{flag_units, flags_of, flags_ok, mode_of, modes_of}
 use Rattle.rx_model.specs.Reading.Headline.{IsParsed, no_memory, of_flags, of_text, refused}
 use Rattle.rx_model.specs.Inputs.Inputs.{Input, mode_asked}
-use Rattle.rx_model.specs.Inputs.Modes.{is_read, mode_by}
+use Rattle.rx_model.specs.Inputs.Modes.{mode_by}
 use Rattle.rx_model.specs.Reading.Reading.{units_of}
 use Rattle.rx_parser.specs.Literals.{IsFlagFault}
-use Rattle.rx_parser.specs.NotYet.{is_unread_literal}
 use Rattle.rx_parser.specs.Parsing.{AnswersUnits}
-use Rattle.rx_parser.proofs.FlagTexts.{mode_is_read, mode_of_modes, refused_flags}
+use Rattle.rx_parser.proofs.FlagTexts.{mode_of_modes, refused_flags}
 
 -- what is passed on is the fault
 pub passed_on : {A : Type 0} (r : Result A Fault) (it : Fault) → IsErrAnd r (λ e. e ≡ it) → r ≡ Err it
 passed_on r it h = let p = err_from_is_err_and r h in p.1 ∙ ap Err p.2
-
--- A fault of flags whose mode is not read yet is no refusal.
-pub fault_of_unread : (some : List ℕ) (flags : Option (List ℕ)) (added : ℕ) (it : Fault) → some ≡ flags_of flags → IsFlagFault some added it
-    → is_unread_literal flags ≡ true → it ≡ fault.OutOfMemory
-fault_of_unread some flags added fault.OutOfMemory e h later = refl
-fault_of_unread some flags added fault.NotYet e h later = absurd h
-fault_of_unread some flags added (fault.Diagnostic cause) e h later =
-    let f : flags_ok some ≡ true = ap flags_ok e ∙ (and_parts _ _ later).0 in
-    let k : flags_ok some ≡ false = refused_flags some added cause h in
-    absurd (let no : ⊥ = cc in no)
 
 module _ (input : Input) where
   -- what is answered to the input
@@ -64,13 +52,6 @@ module _ (input : Input) where
     ok_given : flags_ok (flags_of input.flags) ≡ true
     ok_given = ap flags_ok (sym given) ∙ ok
 
-    -- where its mode is not read, the literal is left unread, and only there
-    pub left_unread : is_read (mode_by modes.0 modes.1) ≡ false → is_unread_literal input.flags ≡ true
-    left_unread unread = and_from _ _ ok_given (not_from_false _ (ap is_read (sym mode_is) ∙ unread))
-
-    pub mode_unread : is_unread_literal input.flags ≡ true → is_read (mode_by modes.0 modes.1) ≡ false
-    mode_unread unread = ap is_read mode_is ∙ not-true _ (and_parts _ _ unread).1
-
     pub text_read : (p : Pattern) (mode : Mode) → Answers (mode_by modes.0 modes.1) (Ok p) → Parsed (Ok (p, mode))
     text_read p mode answers =
         let a = subst (λ m. Answers m (Ok p)) mode_is answers in record {
@@ -80,21 +61,10 @@ module _ (input : Input) where
           refused = tt;
         }
 
-    pub text_refused : is_unread_literal input.flags ≡ false → (it : Fault) → Answers (mode_by modes.0 modes.1) (Err it) → Parsed (Err it)
-    text_refused read it answers = by_fault it (subst (λ m. Answers m (Err it)) mode_is answers)
+    pub text_refused : (it : Fault) → Answers (mode_by modes.0 modes.1) (Err it) → Parsed (Err it)
+    text_refused it answers = by_fault it (subst (λ m. Answers m (Err it)) mode_is answers)
       where
         by_fault : (it : Fault) → Answers (mode_asked input) (Err it) → Parsed (Err it)
         by_fault fault.OutOfMemory a = memory_wants
-        by_fault fault.NotYet a =
-            let is : is_read (mode_asked input) ≡ true = mode_is_read input.flags ok_given read in
-            let is_not : is_read (mode_asked input) ≡ false = a.not_yet refl in
-            absurd (let no : ⊥ = cc in no)
-        by_fault (fault.Diagnostic cause) a = record {
-          valid = tt;
-          complete = λ v. elim (a.complete v.pattern v.reads) [
-            | inl e ↦ cc e
-            | inr e ↦ absurd (let no : ⊥ = cc e in no)
-          ];
-          read = tt;
-          refused = refused (of_text ok_given (a.refused cause refl));
-        }
+        by_fault fault.NotYet a = absurd a.refused
+        by_fault (fault.Diagnostic cause) a = record { valid = tt; complete = λ v. a.complete v.pattern v.reads; read = tt; refused = refused (of_text ok_given a.refused) }

@@ -1,5 +1,5 @@
 -- A token that stands next moves a parse on, or refuses the text.
-use Rattle.std.proofs.Common.{◌≡◌, refl, ap, sym, ◌∙◌, subst, ℕ, ◌+◌, ◌-◌, Bool, true, false, Option, Some, List, [], ◌∷◌, ◌++◌, length, drop, arith, length-append, length-drop, Contains}
+use Rattle.std.proofs.Common.{◌≡◌, ◌≢◌, refl, ap, sym, ◌∙◌, subst, ℕ, ◌+◌, ◌-◌, Bool, true, false, Option, Some, List, [], ◌∷◌, ◌++◌, length, drop, arith, length-append, length-drop, Contains}
 use Rattle.std.specs.Prelude.{All, min}
 use Rattle.std.proofs.Math.Seq.{drop-append_seam}
 use Rattle.std.proofs.lemmas.Bool.{true≢false}
@@ -21,7 +21,8 @@ use Rattle.rx_units.specs.Cursor.{Cursor, moved, offset_of, rest}
 use Rattle.rx_units.specs.Units.{offset_at}
 use Rattle.rx_model.specs.declared.mode.Mode.{Mode}
 use Rattle.rx_model.specs.declared.mode.Mode.TheVariants.{Legacy, Sets, Unicode}
-use Rattle.rx_model.specs.Refusals.Causes.{IsCauseAtPlace, at_place, lone, lone_in_legacy, no_such_name}
+use Rattle.rx_model.specs.Refusals.Causes.{IsCauseAtPlace, lone, lone_in_legacy, no_such_name}
+use Rattle.rx_model.specs.Refusals.Firsts.{no_item, yielding}
 use Rattle.rx_model.specs.Classes.ClassRows.{IsClassSpanned}
 use Rattle.rx_model.specs.Trees.Early.{IsEarlyClass, IsEarlyOpener, Obeys}
 use Rattle.rx_model.specs.Inputs.Environment.{Environment, is_unicode}
@@ -52,6 +53,7 @@ use Rattle.rx_parser.specs.Progress.{IsAt, IsLeafOf}
 use Rattle.rx_parser.specs.Turns.{IsBefore, IsTurned}
 use Rattle.rx_parser.proofs.Leaves.{leaf_events, leaf_runs}
 use Rattle.rx_parser.proofs.Places.{reached}
+use Rattle.rx_parser.proofs.Refused.{cause_refused}
 use Rattle.rx_parser.proofs.Steps.{Grows, Quantifies, class_end, class_start, moves, quantifier_adds, repeats}
 
 -- The token stands next between two offsets, and the other reader has moved over it.
@@ -89,6 +91,11 @@ lone_cause Legacy place min max greedy open_groups w more r s o = lone_in_legacy
 lone_cause Unicode place min max greedy open_groups w more r s o = lone place min max greedy open_groups w more r refl s o
 lone_cause Sets place min max greedy open_groups w more r s o = lone place min max greedy open_groups w more r refl s o
 
+lone_says : (mode : Mode) (span : Span) → yielding (lone_refusal mode span) ≢ no_item
+lone_says Legacy span e = cc e
+lone_says Unicode span e = cc e
+lone_says Sets span e = cc e
+
 -- the units of `(?`, modifiers and `:`
 modified_length : (bits : ℕ × ℕ) (w : List CodePoint) (m : IsModified bits w) → length w ≡ length m.text + 3
 modified_length bits w m = omega (arith, ap length m.whole, length-map w (λ (u : CodePoint). u.value), length-append m.text (58 ∷ []))
@@ -107,7 +114,7 @@ module _ {added : ℕ} {b : Builder} {r : Cursor} (h : IsBefore added b r) where
 
   -- the token is free of early errors by itself
   abbrev IsObeying : Token → Type 0
-  IsObeying = Obeys (text_groups r.units) (text_names b.mode r.units)
+  IsObeying = Obeys (text_groups b.mode r.units) (text_names b.mode r.units)
 
   abbrev IsPassedBy : Cursor → Token → ℕ → ℕ → ℕ → Type 0
   IsPassedBy = IsPassed added b r
@@ -229,10 +236,12 @@ module _ {added : ℕ} {b : Builder} {r : Cursor} (h : IsBefore added b r) where
 
   module _ {state : State} (pass : HoldsPass b.mode r.units state) where
     -- Where this is a cause of a token that stands next, the text is refused.
-    refused : {s : Cursor} {t : Token} {n at after : ℕ} (k : IsPassedBy s t n at after) (cause : Span → Refusal)
+    refused : {s : Cursor} {t : Token} {n at after : ℕ} (k : IsPassedBy s t n at after) (cause : Span → Refusal) → ((span : Span) → yielding (cause span) ≢ no_item)
         → IsCauseAtPlace b.mode r.units r.first added r.place (cause (span_between r.units r.first added r.place (r.place + length k.next.w)))
         → IsRefused b.mode r.units r.first added (Diagnostic (cause (between at after)))
-    refused k cause c = at_place r.place pass.no_clash pass.in_limit (subst (λ x. IsCauseAtPlace b.mode r.units r.first added r.place (cause x)) (sym (span_is k)) c)
+    refused {at = at} {after = after} k cause says c =
+        cause_refused b.mode r.units r.first added pass.no_clash pass.in_limit r.place (cause (between at after)) (says (between at after))
+        (subst (λ x. IsCauseAtPlace b.mode r.units r.first added r.place (cause x)) (sym (span_is k)) c)
 
     -- the place, where the token is left
     at_token : {t : Token} {n : ℕ} (next : IsNext t n) → IsReached b.mode r.units r.place (openers b) (ready b) (next.w ++ next.rest)
@@ -244,7 +253,7 @@ module _ {added : ℕ} {b : Builder} {r : Cursor} (h : IsBefore added b r) where
     lone_refused s min max greedy n at after k obeys none =
         let w = k.next.w in
         let more = k.next.rest in
-        refused k (lone_refusal b.mode)
+        refused k (lone_refusal b.mode) (lone_says b.mode)
         (lone_cause b.mode r.place min max greedy (openers b) w more (subst (λ q. IsReached b.mode r.units r.place (openers b) q (w ++ more)) none (at_token k.next)) k.next.spells
         (All-cons IsObeying (quantifier min max greedy) [] obeys (All-nil IsObeying)))
 
@@ -256,4 +265,4 @@ module _ {added : ℕ} {b : Builder} {r : Cursor} (h : IsBefore added b r) where
         let unknown : Contains held name → ⊥ = λ c. true≢false (sym (among held name c) ∙ ap (λ names. is_among names name) (sym pass.names) ∙ none) in
         let here : IsPlace b.mode r.units r.place (k.next.w ++ k.next.rest) = record { open_groups = openers b; ready = ready b; reached = at_token k.next } in
         subst (λ names. IsRefused b.mode r.units r.first added (Diagnostic (InvalidNamedReference (between at after) names))) (sym pass.names)
-        (refused k (λ span. InvalidNamedReference span held) (no_such_name r.place name k.next.w k.next.rest here k.next.spells unknown))
+        (refused k (λ span. InvalidNamedReference span held) (λ span e. cc e) (no_such_name r.place name k.next.w k.next.rest here k.next.spells unknown))

@@ -9,7 +9,6 @@ pub mod Levels
 pub mod Literals
 pub mod Modifiers
 pub mod Names
-pub mod NotYet
 pub mod GroupKinds
 pub mod Parsing
 pub mod Progress

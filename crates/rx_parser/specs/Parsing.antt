@@ -1,6 +1,5 @@
 -- How far a parse has come, and what its faults say.
-use Rattle.std.specs.Prelude.{◌≡◌, ℕ, ◌+◌, ◌≤◌, ◌⊎◌, false, List, length, drop, Result, Err, IfErr, IfOk}
-use Rattle.rx_base.specs.declared.diagnostic.Diagnostic.{Diagnostic as Refusal}
+use Rattle.std.specs.Prelude.{◌≡◌, ℕ, ◌+◌, ◌≤◌, List, length, drop, Result, IfErr, IfOk}
 use Rattle.rx_base.specs.declared.fault.Fault.{Fault}
 use Rattle.rx_base.specs.declared.fault.Fault.TheVariants.{OutOfMemory, NotYet, Diagnostic}
 use Rattle.rx_ast.specs.declared.term.Pattern.{Pattern}
@@ -8,29 +7,24 @@ use Rattle.rx_units.specs.declared.code_point.CodePoint.{CodePoint}
 use Rattle.rx_units.specs.Units.{offset_at}
 use Rattle.rx_model.specs.declared.mode.Mode.{Mode}
 use Rattle.rx_model.specs.FirstPass.Cuts.{TellsGroups}
-use Rattle.rx_model.specs.Refusals.Causes.{IsCause}
 use Rattle.rx_model.specs.Refusals.Firsts.{IsFirst}
 use Rattle.rx_model.specs.Trees.Early.{most_groups}
 use Rattle.rx_model.specs.Trees.Events.{tokens_of}
 use Rattle.rx_model.specs.Reading.Reading.{IsOnly, IsSpanned, Reads}
 use Rattle.rx_model.specs.Refusals.Reached.{AreObeying, HasNoClash, text_environment, text_groups, text_names}
-use Rattle.rx_model.specs.Inputs.Modes.{is_read, mode_by}
+use Rattle.rx_scan.specs.StateFaults.{mode_of_state}
 use Rattle.rx_scan.specs.declared.state.State.{State}
 use Rattle.rx_parser.specs.Frames.{builder_events}
 use Rattle.rx_parser.specs.Progress.{IsAt}
 use Rattle.rx_parser.specs.declared.builder.Builder.{Builder}
 
--- the mode that a state stands for
-abbrev pub mode_of_state : State → Mode
-mode_of_state state = mode_by state.unicode_mode state.unicode_sets_mode
-
 -- The state holds what the first pass of the units finds (CountLeftCapturingParensWithin, 22.2.1.2), which refuses nothing.
 pub record HoldsPass (mode : Mode) (us : List CodePoint) (state : State) : Type 0 where
   pub mode_is : mode_of_state state ≡ mode
-  pub groups : state.num_of_capturing_groups ≡ text_groups us
+  pub groups : state.num_of_capturing_groups ≡ text_groups mode us
   pub names : state.capturing_group_names ≡ text_names mode us
   pub no_clash : HasNoClash mode us
-  pub in_limit : text_groups us ≤ most_groups
+  pub in_limit : text_groups mode us ≤ most_groups
 
 -- The units before the place are a row of tokens, which the builder holds.
 pub record IsParsing (mode : Mode) (us : List CodePoint) (first added : ℕ) (b : Builder) (place : ℕ) : Type 0 where
@@ -43,11 +37,11 @@ pub record IsWhole (mode : Mode) (us : List CodePoint) (first added : ℕ) (p : 
   pub reads : Reads mode p us
   pub spanned : IsSpanned mode p us first added
 
--- the fault of a text whose mode is read: out of memory, or it is refused with its cause
+-- memory is wanting, or the text is refused with its first cause
 abbrev pub IsRefused : Mode → List CodePoint → ℕ → ℕ → Fault → Type 0
 IsRefused mode us first added OutOfMemory = Unit {0}
 IsRefused mode us first added NotYet = ⊥
-IsRefused mode us first added (Diagnostic cause) = IsCause mode us first added cause
+IsRefused mode us first added (Diagnostic cause) = IsFirst mode us first added cause
 
 -- What is answered to units that are to be read in a mode.
 pub record AnswersUnits (mode : Mode) (us : List CodePoint) (first added : ℕ) (answer : Result Pattern Fault) : Type 0 where
@@ -56,7 +50,6 @@ pub record AnswersUnits (mode : Mode) (us : List CodePoint) (first added : ℕ) 
   pub only : IfOk answer (λ it. IsOnly mode it us)
   -- The groups and the names that the first pass of the units finds are the tree's.
   pub groups : IfOk answer (λ it. TellsGroups mode it us)
-  -- A refusal is the first of the text. On what some tree reads the answer is Ok, or memory ran out, or its mode is not read yet.
-  pub refused : (cause : Refusal) → answer ≡ Err (Diagnostic cause) → IsFirst mode us first added cause
-  pub complete : (p : Pattern) → Reads mode p us → IfErr answer (λ fault. (fault ≡ OutOfMemory) ⊎ (fault ≡ NotYet))
-  pub not_yet : answer ≡ Err NotYet → is_read mode ≡ false
+  -- Each other answer is the first refusal of the text, or out of memory. On what some tree reads the answer is Ok, or memory ran out.
+  pub refused : IfErr answer (IsRefused mode us first added)
+  pub complete : (p : Pattern) → Reads mode p us → IfErr answer (λ fault. fault ≡ OutOfMemory)

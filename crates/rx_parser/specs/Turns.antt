@@ -1,14 +1,12 @@
 -- What one turn of a parse asks and gives.
-use Rattle.std.specs.Prelude.{◌≡◌, true, ℕ, ◌<◌, length}
+use Rattle.std.specs.Prelude.{◌≡◌, ℕ, ◌<◌, length}
 use Rattle.rx_units.specs.Cursor.{Cursor}
-use Rattle.rx_model.specs.Inputs.Modes.{is_read}
 use Rattle.rx_class.specs.Fitting.{AreFitting}
 use Rattle.rx_parser.specs.Parsing.{IsParsing}
 use Rattle.rx_parser.specs.declared.builder.Builder.{Builder}
 
--- Something is left of the text, whose mode is read, and the builder holds what stands before it.
+-- Something is left of the text, and the builder holds what stands before it.
 pub record IsBefore (added : ℕ) (b : Builder) (r : Cursor) : Type 0 where
-  pub read : is_read b.mode ≡ true
   pub parsing : IsParsing b.mode r.units r.first added b r.place
   pub left : r.place < length r.units
   pub fits : AreFitting added r

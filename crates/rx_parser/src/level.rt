@@ -1,4 +1,4 @@
-ghost use Rattle.std.specs.Prelude.{◌≡◌, ◌++◌, ◌∷◌, [], IfOk, OnOk, IsTrue, ◌↔◌, false};
+ghost use Rattle.std.specs.Prelude.{◌≡◌, ◌++◌, ◌∷◌, [], IfOk, OnOk, IsTrue, false};
 ghost use Rattle.rx_ast.specs.Tree.{mirror_term};
 ghost use Rattle.rx_model.specs.declared.mode.Mode.{Mode};
 ghost use Rattle.rx_model.specs.Trees.Events.{Events, enter, leave, token, term_events, disjunction_events};
@@ -50,15 +50,8 @@ impl Level {
         })
     }
 
-    /// Whether no term stands yet in the last alternative.
-    #[inline]
-    pub fn is_fresh(&self) -> bool
-        ensures { IsTrue result ↔ (self.now.terms ≡ []) }
-    {
-        self.terms.is_empty()
-    }
-
     /// Takes memory for n more terms at once.
+    #[inline]
     pub fn reserve(&mut self, additional: usize) -> Result<(), OutOfMemory>
         ensures { self.new ≡ self.old }
     {

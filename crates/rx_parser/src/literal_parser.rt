@@ -1,13 +1,12 @@
-ghost use Rattle.std.specs.Prelude.{◌≡◌, ◌+◌, ◌<◌, ◌≤◌, ◌^◌, ◌⊎◌, max, true, false, IfErr, IfOk, IsTrue, OnOk, length};
+ghost use Rattle.std.specs.Prelude.{◌≡◌, ◌+◌, ◌<◌, ◌≤◌, ◌^◌, max, true, IfErr, IfOk, OnOk, length};
 ghost use Rattle.std.specs.Str.{chars};
 ghost use Rattle.rx_units.specs.Units.{literal_units};
 ghost use Rattle.rx_model.specs.Inputs.Flags.{flags_of, flags_ok, mode_of, modes_of};
-ghost use Rattle.rx_model.specs.Inputs.Modes.{is_read, mode_by};
+ghost use Rattle.rx_model.specs.Inputs.Modes.{mode_by};
 ghost use Rattle.rx_model.specs.Reading.Headline.{IsParsed};
 ghost use Rattle.rx_model.specs.Reading.Reading.{literal_text, units_of};
 ghost use Rattle.rx_model.specs.declared.form.Form.TheVariants.{Literal};
 ghost use Rattle.rx_parser.specs.Literals.{IsFlagFault, flags_chars, flags_length, input_of};
-ghost use Rattle.rx_parser.specs.NotYet.{is_unread_literal};
 ghost use Rattle.rx_parser.specs.Parsing.{AnswersUnits};
 
 use crate::{Options, PatternParser};
@@ -52,12 +51,8 @@ impl<'a> LiteralParser<'a> {
         requires pattern { self.options.pattern_span_offset + max (length self.pattern_text.now) 4 < 2 ^ 32 }
         requires flags { self.options.flags_span_offset + flags_length self.flags_text < 2 ^ 32 }
 
-        // Of a text whose mode is read, and of wrong flags: Ok on valid input and on no other, with the only tree; else the first refusal, or out of memory.
-        ensures answered { is_unread_literal (flags_chars self.entry.flags_text) ≡ false
-            → IsParsed (λ p. p) (input_of Literal self.entry.pattern_text.now self.entry.flags_text self.entry.options) result }
-        ensures not_yet { result ≡ Err Fault.NotYet → IsTrue (is_unread_literal (flags_chars self.entry.flags_text)) }
-        ensures later { IsTrue (is_unread_literal (flags_chars self.entry.flags_text))
-            → (result ≡ Err Fault.NotYet) ⊎ (result ≡ Err Fault.OutOfMemory) }
+        // Ok on valid input and on no other, with the only tree; else the first refusal, or out of memory.
+        ensures { IsParsed (λ p. p) (input_of Literal self.entry.pattern_text.now self.entry.flags_text self.entry.options) result }
     {
         match self.parse_with_mode() {
             Ok((pattern, _)) => Ok(pattern),
@@ -69,12 +64,8 @@ impl<'a> LiteralParser<'a> {
     pub fn parse_with_mode(self) -> Result<(Pattern, Mode), Fault>
         requires pattern { self.options.pattern_span_offset + max (length self.pattern_text.now) 4 < 2 ^ 32 }
         requires flags { self.options.flags_span_offset + flags_length self.flags_text < 2 ^ 32 }
-        ensures answered { is_unread_literal (flags_chars self.entry.flags_text) ≡ false
-            → IsParsed (λ it. it.0) (input_of Literal self.entry.pattern_text.now self.entry.flags_text self.entry.options) result }
+        ensures answered { IsParsed (λ it. it.0) (input_of Literal self.entry.pattern_text.now self.entry.flags_text self.entry.options) result }
         ensures mode { IfOk result (λ it. it.1 ≡ mode_of (flags_of (flags_chars self.entry.flags_text))) }
-        ensures not_yet { result ≡ Err Fault.NotYet → IsTrue (is_unread_literal (flags_chars self.entry.flags_text)) }
-        ensures later { IsTrue (is_unread_literal (flags_chars self.entry.flags_text))
-            → (result ≡ Err Fault.NotYet) ⊎ (result ≡ Err Fault.OutOfMemory) }
     {
         let LiteralParser {
             alloc,
@@ -100,8 +91,7 @@ fn parse_text(
 ) -> Result<Pattern, Fault>
     requires pattern { span_offset + max (length pattern_text.now) 4 < 2 ^ 32 }
     requires modes { modes.1 ≡ true → modes.0 ≡ true }
-    ensures answers { AnswersUnits (mode_by modes.0 modes.1) (units_of (mode_by modes.0 modes.1) (chars pattern_text.now)) 0 span_offset result }
-    ensures later { is_read (mode_by modes.0 modes.1) ≡ false → (result ≡ Err Fault.NotYet) ⊎ (result ≡ Err Fault.OutOfMemory) }
+    ensures { AnswersUnits (mode_by modes.0 modes.1) (units_of (mode_by modes.0 modes.1) (chars pattern_text.now)) 0 span_offset result }
 {
     let reader = reader_of(alloc, stand_in(pattern_text), modes.0)?;
     PatternParser::new(alloc, reader, modes, span_offset).parse()

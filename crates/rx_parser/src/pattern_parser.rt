@@ -1,8 +1,7 @@
 ghost use Rattle.std.specs.Prelude.{◌≡◌, ◌+◌, ◌<◌, ◌^◌, true, false, All, IfErr, IfOk, OnOk};
-ghost use Rattle.rx_model.specs.Inputs.Environment.{is_sets};
-ghost use Rattle.rx_model.specs.Inputs.Modes.{is_read};
+ghost use Rattle.rx_scan.specs.StateFaults.{mode_of_state};
 ghost use Rattle.rx_class.specs.Fitting.{AreFitting};
-ghost use Rattle.rx_parser.specs.Parsing.{AnswersUnits, HoldsPass, IsRefused, IsWhole, mode_of_state};
+ghost use Rattle.rx_parser.specs.Parsing.{AnswersUnits, HoldsPass, IsRefused, IsWhole};
 
 use crate::builder::Builder;
 use crate::fault::{ended, here};
@@ -52,8 +51,7 @@ impl<'a> PatternParser<'a> {
         requires first { self.reader.first + self.spans < 2 ^ 32 }
         requires fits { All (λ unit. unit.span.end + self.spans < 2 ^ 32) self.reader.units }
 
-        ensures answers { AnswersUnits (mode_of_state self.entry.state) self.entry.reader.units self.entry.reader.first self.entry.spans result }
-        ensures later { is_read (mode_of_state self.entry.state) ≡ false → result ≡ Err Fault.NotYet }
+        ensures { AnswersUnits (mode_of_state self.entry.state) self.entry.reader.units self.entry.reader.first self.entry.spans result }
     {
         let PatternParser {
             alloc,
@@ -62,28 +60,13 @@ impl<'a> PatternParser<'a> {
             spans,
         } = self;
         let mode = Mode::of(state.unicode_mode, state.unicode_sets_mode);
-        if !is_read(mode) {
-            return Err(Fault::NotYet);
-        }
         first_pass(&mut state, &mut reader, &spans)?;
         read_pattern(alloc, &mut reader, &state, &spans, mode)
     }
 }
 
-/// Whether patterns of this mode are read. Of other modes the answer is "not yet".
-fn is_read(mode: Mode) -> bool
-    ensures { result ≡ is_read mode }
-{
-    match mode {
-        Mode::Legacy | Mode::Unicode => true,
-        Mode::Sets => false,
-    }
-}
-
 /// Counts the groups of the text and lists their names, or tells why the text is refused for them.
 fn first_pass(state: &mut State, reader: &mut Reader<'_>, spans: &SpanFactory) -> Result<(), Fault>
-    requires no_sets { is_sets (mode_of_state state.old) ≡ false }
-    requires modes { state.old.unicode_sets_mode ≡ true → state.old.unicode_mode ≡ true }
     requires start { reader.old.place ≡ 0 }
     requires fits { AreFitting spans.now reader.old }
     ensures reader { reader.new ≡ reader.old }
@@ -117,7 +100,6 @@ fn read_pattern(
     spans: &SpanFactory,
     mode: Mode,
 ) -> Result<Pattern, Fault>
-    requires read { is_read mode ≡ true }
     requires start { reader.old.place ≡ 0 }
     requires fits { AreFitting spans.now reader.old }
     requires pass { HoldsPass mode reader.old.units state.now }

@@ -1,6 +1,6 @@
-ghost use Rattle.std.specs.Prelude.{◌≡◌, ◌≤◌, true, IfErr, IfOk, OnOk};
+ghost use Rattle.std.specs.Prelude.{◌≡◌, ◌≤◌, ◌<◌, true, false, All, IfErr, IfOk, OnOk, length, take};
+ghost use Rattle.rx_tables.specs.Characters.{is_syntax_character};
 ghost use Rattle.rx_units.specs.Cursor.{rest};
-ghost use Rattle.rx_model.specs.Characters.UnitKinds.{unit_kind};
 ghost use Rattle.rx_model.specs.Inputs.Environment.{has_some};
 ghost use Rattle.rx_model.specs.Refusals.Reached.{text_environment};
 ghost use Rattle.rx_parser.specs.Faults.{IsSmall};
@@ -37,50 +37,53 @@ pub fn turn(
     ensures turned { OnOk result (IsTurned spans.now builder.old builder.new reader.old reader.new) }
     ensures refused { IfErr result (IsRefused builder.old.mode reader.old.units reader.old.first spans.now) }
 {
-    let unit = reader.remaining_code_points()[0];
-    if is_syntax_character(unit.value) {
+    let count = plain_length(reader.remaining_code_points());
+    if count == 0 {
         return take_found(alloc, reader, state, spans, builder);
     }
-    reserve_run(reader, builder)?;
-    Ok(plain_character(reader, spans, builder, unit)?)
+    Ok(plain_run(reader, spans, builder, count)?)
 }
 
-/// For how many terms memory is taken at once where more than half as many units stand for themselves.
-const LONG_RUN: usize = 8;
-
-/// For how many it is where more than those stand for themselves.
-const LONGER_RUN: usize = 16;
-
-/// Takes memory at once, where an alternative begins, for the units that stand next and for themselves: no more than adding them one by one would come to take.
+/// How many units stand for themselves before the first that does not.
 #[inline]
-fn reserve_run(reader: &Reader<'_>, builder: &mut Builder) -> Result<(), OutOfMemory>
-    ensures { builder.new ≡ builder.old }
+#[tactic(auto, using(crate::proofs::PlainRuns::plain_more))]
+fn plain_length(units: &[CodePoint]) -> usize
+    ensures within { result ≤ length units.now }
+    ensures plain { All (λ unit. is_syntax_character unit.value ≡ false) (take result units.now) }
 {
-    if !builder.level.is_fresh() {
-        return Ok(());
+    let mut count = 0;
+    while count < units.len() && !is_syntax_character(units[count].value) {
+        count += 1;
     }
-    builder
-        .level
-        .reserve(room_of_run(reader.remaining_code_points()))
+    count
 }
 
-/// For how many terms to take memory where units begin that stand for themselves: for none where they are few.
-#[inline(never)]
-fn room_of_run(units: &[CodePoint]) -> usize
-    ensures { result ≤ 16 }
+/// Reads the n units that stand next and for themselves, and gives them to the builder. Memory for them is taken at once.
+fn plain_run(
+    reader: &mut Reader<'_>,
+    spans: &SpanFactory,
+    builder: &mut Builder,
+    count: usize,
+) -> Result<(), OutOfMemory>
+    requires before { IsBefore spans.now builder.old reader.old }
+    requires some { 0 < count }
+    requires within { count ≤ length (rest reader.old) }
+    requires plain { All (λ unit. is_syntax_character unit.value ≡ false) (take count (rest reader.old)) }
+    ensures { OnOk result (IsTurned spans.now builder.old builder.new reader.old reader.new) }
 {
-    let ahead = &units[..units.len().min(LONG_RUN + 1)];
-    let run = ahead
-        .iter()
-        .position(|unit| is_syntax_character(unit.value))
-        .unwrap_or(ahead.len());
-    if run > LONG_RUN {
-        LONGER_RUN.min(units.len())
-    } else if run > LONG_RUN / 2 {
-        LONG_RUN.min(units.len())
-    } else {
-        0
+    builder.level.reserve(count)?;
+    let mut start = reader.offset();
+    for unit in &reader.remaining_code_points()[..count] {
+        let span = spans.create(start, unit.span.end);
+        let leaf = Leaf::Character {
+            kind: unit_kind(unit.escape_kind),
+            value: unit.value,
+        };
+        builder.leaf(term(leaf, span))?;
+        start = unit.span.end;
     }
+    reader.skip(count);
+    Ok(())
 }
 
 /// Reads the token that is found where the reader stands, and gives it to the builder.
@@ -156,25 +159,6 @@ fn has_names(state: &State) -> bool
     ensures { result ≡ has_some state.now.capturing_group_names }
 {
     !state.capturing_group_names.is_empty()
-}
-
-/// Reads the unit that stands next, and for itself, and gives it to the builder.
-#[inline]
-fn plain_character(
-    reader: &mut Reader<'_>,
-    spans: &SpanFactory,
-    builder: &mut Builder,
-    unit: CodePoint,
-) -> Result<(), OutOfMemory>
-    requires before { IsBefore spans.now builder.old reader.old }
-    requires found { IsFound (text_environment builder.old.mode reader.old.units) (rest reader.old) (Found.Leaf (Leaf.Character (unit_kind unit.escape_kind) unit.value) 1) }
-    ensures { OnOk result (IsTurned spans.now builder.old builder.new reader.old reader.new) }
-{
-    let leaf = Leaf::Character {
-        kind: unit_kind(unit.escape_kind),
-        value: unit.value,
-    };
-    take_leaf(reader, spans, builder, leaf, 1)
 }
 
 /// Reads a term that is one token of n units, and gives it to the builder.

@@ -73,11 +73,8 @@ fn shown(alloc: Global, answer: Result<Canonical, Fault>) -> Result<String, Fail
 
 #[test]
 fn not_yet(rt: HostRuntime) -> Result<(), Fail> {
-    let rows = "iv (a[b]) => not yet
-v \\p{L} => not yet
-v a => not yet";
-    agree(rt.alloc(), &AT_ZERO, rows)?;
     let rows = "u \"[a]\" => not yet
+v \"[a]\" => not yet
 \"gg\" \"a\" => not yet";
     agree(rt.alloc(), &CONSTRUCTOR, rows)
 }
@@ -106,7 +103,11 @@ fn flags(rt: HostRuntime) -> Result<(), Fail> {
     let rows = "u a => Unicode a 0..1
 ui a => Unicode a 0..1
 su a => Unicode a 0..1
-dgimsuy a => Unicode a 0..1";
+dgimsuy a => Unicode a 0..1
+v a => Sets a 0..1
+iv (a[b]) => Sets (a[b]) 0..6
+v \\p{L} => Sets \\p{L} 0..5
+v [ab--c] => unterminated_pattern Span { start: 0, end: 3 } None";
     agree(rt.alloc(), &AT_ZERO, rows)?;
     let rows = "gg ( => duplicated_flags Span { start: 8, end: 9 } None
 ux ( => unknown_flag Span { start: 8, end: 9 } None

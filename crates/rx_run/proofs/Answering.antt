@@ -1,16 +1,16 @@
 -- What replies are made of, and the replies to lines past the limit.
-use Rattle.std.proofs.Common.{◌≡◌, ◌<◌, ◌≤◌, refl, sym, ap, ◌∙◌, subst, inl, inr, ℕ, false, Ok, Err, List, ◌++◌, append_assoc, codes, encode_utf8_all, length, arith}
+use Rattle.std.proofs.Common.{◌≡◌, ◌<◌, ◌≤◌, refl, sym, ap, ◌∙◌, subst, inl, inr, ℕ, Ok, Err, List, ◌++◌, append_assoc, codes, encode_utf8_all, length, arith}
 use Rattle.std.proofs.lemmas.Bool.{cases_lt}
 use Rattle.std.proofs.lemmas.List.{take_all, length-take-le}
 use Rattle.rx_base.specs.declared.diagnostic.Diagnostic.{Diagnostic}
 use Rattle.rx_base.specs.declared.fault.Fault.TheVariants as fault
 use Rattle.rx_ast.specs.declared.term.Pattern.{Pattern}
 use Rattle.rx_ast.specs.Forget.{bare}
+use Rattle.rx_model.specs.declared.form.Form.TheVariants.{Literal}
 use Rattle.rx_model.specs.declared.mode.Mode.{Mode}
 use Rattle.rx_model.specs.Reading.Headline.{IsAnswered, IsFaultOf, IsFirstRefusal, refused}
 use Rattle.rx_model.specs.Inputs.Inputs.{Input}
 use Rattle.rx_model.specs.Spelling.Spelling.{spelling}
-use Rattle.rx_tools.specs.NotYet.{is_not_yet}
 use Rattle.rx_tools.specs.Spelled.{read_of}
 use Rattle.rx_tools.specs.Utf8.{utf8}
 use Rattle.rx_run.specs.Request.{Request, IsRequest}
@@ -27,21 +27,21 @@ ok_reply_added old first second third text mode e f g =
     ∙ append_assoc old (front ++ encode_utf8_all text) (codes "\n")
 
 -- an `ok` reply, as it was made
-pub ok_reply_is : (line : List ℕ) (request : Request) (it : Pattern × Mode) → IsRequest line request → is_not_yet request.form request.flags ≡ false → IsAnswered read_of (input_of request) (Ok it)
+pub ok_reply_is : (line : List ℕ) (request : Request) (it : Pattern × Mode) → IsRequest line request → request.form ≡ Literal → IsAnswered read_of (input_of request) (Ok it)
     → IsReply line (ok_reply it.1 (spelling (bare it.0) it.1))
-ok_reply_is line request it asked read answered =
+ok_reply_is line request it asked literal answered =
     let Q : Mode → Type 0 = λ m. IsReply line (ok_reply m (spelling (bare it.0) m)) in
-    subst Q (sym answered.mode_is) (ok request it.0 asked read answered.parsed.valid.flags_are answered.parsed.read)
+    subst Q (sym answered.mode_is) (ok request it.0 asked literal answered.parsed.valid.flags_are answered.parsed.read)
 
 pub first_of : (input : Input) (refusal : Diagnostic) → IsFaultOf input (fault.Diagnostic refusal) → IsFirstRefusal input refusal
 first_of input refusal (refused first) = first
 
 -- an `err` reply, as it was made
-pub err_reply_is : (line : List ℕ) (request : Request) (refusal : Diagnostic) → IsRequest line request → is_not_yet request.form request.flags ≡ false
+pub err_reply_is : (line : List ℕ) (request : Request) (refusal : Diagnostic) → IsRequest line request → request.form ≡ Literal
     → IsAnswered read_of (input_of request) (Err (fault.Diagnostic refusal)) → IsReply line (err_reply refusal)
-err_reply_is line request refusal asked read answered =
+err_reply_is line request refusal asked literal answered =
     let parsed = answered.parsed in
-    err request refusal asked read (λ valid. let e = parsed.complete valid in let no : ⊥ = cc e in no) (first_of (input_of request) refusal parsed.refused)
+    err request refusal asked literal (λ valid. let e = parsed.complete valid in let no : ⊥ = cc e in no) (first_of (input_of request) refusal parsed.refused)
 
 -- a line past the limit has exactly the reply `bad`
 long_is_bad : (line : List ℕ) → 1048576 < length line → IsReply line bad_reply
@@ -49,9 +49,9 @@ long_is_bad line long = bad (λ request is. let short : length line ≤ 1048576 
 
 bad_if_long : (line reply : List ℕ) → 1048576 < length line → IsReply line reply → reply ≡ bad_reply
 bad_if_long line reply long (bad none) = refl
-bad_if_long line reply long (later request asked not_yet) = absurd (let short : length line ≤ 1048576 = asked.within in omega arith)
-bad_if_long line reply long (ok request pattern asked read flags_are is_read) = absurd (let short : length line ≤ 1048576 = asked.within in omega arith)
-bad_if_long line reply long (err request refusal asked read none first) = absurd (let short : length line ≤ 1048576 = asked.within in omega arith)
+bad_if_long line reply long (later request asked constructor) = absurd (let short : length line ≤ 1048576 = asked.within in omega arith)
+bad_if_long line reply long (ok request pattern asked literal flags_are read) = absurd (let short : length line ≤ 1048576 = asked.within in omega arith)
+bad_if_long line reply long (err request refusal asked literal none first) = absurd (let short : length line ≤ 1048576 = asked.within in omega arith)
 
 long_alike : (line line' reply : List ℕ) → 1048576 < length line → 1048576 < length line' → IsReply line reply → IsReply line' reply
 long_alike line line' reply long long' is =

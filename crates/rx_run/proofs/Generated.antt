@@ -16,12 +16,13 @@ use Rattle.rx_model.specs.declared.mode.Mode.{Mode}
 use Rattle.rx_model.specs.declared.mode.Mode.TheVariants.{Unicode}
 use Rattle.rx_model.specs.Characters.EscapeFronts.{escape_at}
 use Rattle.rx_model.specs.Characters.Escapes.{front_is}
-use Rattle.rx_model.specs.Classes.ClassFronts.{class_front, range_member, atom_member, atom_at}
+use Rattle.rx_model.specs.Classes.ClassBuilds.{atom_member, range_member}
+use Rattle.rx_model.specs.Classes.ClassFronts.{atom_at, class_front, class_token_at}
 use Rattle.rx_model.specs.Classes.ClassTokens as atom
 use Rattle.rx_model.specs.FirstPass.Marks.{Mark, count, listed, mark_at, mark_front, mark_name, marks}
 use Rattle.rx_model.specs.FirstPass.Marks as mark
 use Rattle.rx_model.specs.Groups.GroupFronts.{group_front}
-use Rattle.rx_model.specs.Inputs.Environment.{Environment, environment_with, has_some, is_sets}
+use Rattle.rx_model.specs.Inputs.Environment.{Environment, environment_with, has_some}
 use Rattle.rx_model.specs.Properties.PropertyFronts.{property_front}
 use Rattle.rx_model.specs.Quantifiers.Quantifiers.{is_question}
 use Rattle.rx_model.specs.Reading.Fronts.{front, backslash_front, counts_at}
@@ -43,9 +44,9 @@ use Rattle.rx_model.proofs.Spelling.Backs.{units-append, values_literal}
 use Rattle.rx_run.specs.Generator.{asked, drawn, next_state, pattern_text, piece, pieces_text}
 
 -- Where the end of a text is reached with no group open no refusal holds at a place.
-ended_refuses : (mode : Mode) → is_sets mode ≡ false → (us : List CodePoint) (start added : ℕ) (ready : Bool) → IsReached mode us (length us) [] ready [] →
+ended_refuses : (mode : Mode) (us : List CodePoint) (start added : ℕ) (ready : Bool) → IsReached mode us (length us) [] ready [] →
     (place : ℕ) (d : Diagnostic) → IsCauseAtPlace mode us start added place d → ⊥
-ended_refuses mode no_sets us start added ready end place d c = by (cause_ends mode us start added (class_laws mode no_sets us start added) place d c)
+ended_refuses mode us start added ready end place d c = by (cause_ends mode us start added (class_laws mode us start added) place d c)
   where
     in_group : (group : Opener) (open_groups : List Opener) (ready_in : Bool) (rest : List CodePoint) → IsReached mode us place (group ∷ open_groups) ready_in rest → place < length us
     in_group group open_groups ready_in [] r = let same = (same_place mode us r end (omega (arith, r.place_is))).open_is in cc same
@@ -89,7 +90,7 @@ module _ (groups : ℕ) (names : List (List ℕ)) (has_names : Bool) where
     pub accepted : (more : List Token) (ready : Bool) → (after : Bool) × (run Unicode (map (λ t. t.0) tokens ++ more) [] ready ≡ run Unicode more [] after)
 
   piece_read : (number at : ℕ) (rest : List CodePoint) → front_is is_question (values rest) ≡ false → IsPiece at (piece number) rest
-  unfolding front backslash_front escape_at class_front atom_at counts_at group_front property_front general_category_values
+  unfolding front backslash_front escape_at class_front class_token_at atom_at counts_at group_front property_front general_category_values
   piece_read zero at rest h = record {
     tokens = (character kind.Symbol 97, 1) ∷ [];
     read = (refl, omega arith, refl);
@@ -181,7 +182,7 @@ module _ (groups : ℕ) (names : List (List ℕ)) (has_names : Bool) where
 
 -- a piece opens one group that captures at most, and none with a name
 piece_marks : (number : ℕ) (rest : List ℕ) →
-    (count (marks (piece number ++ rest)) ≤ 1 + count (marks rest)) × (mark.names true (marks (piece number ++ rest)) ≡ mark.names true (marks rest))
+    (count (marks Unicode (piece number ++ rest)) ≤ 1 + count (marks Unicode rest)) × (mark.names Unicode (marks Unicode (piece number ++ rest)) ≡ mark.names Unicode (marks Unicode rest))
 unfolding mark_front
 piece_marks zero rest = (omega arith, refl)
 piece_marks (suc zero) rest = (omega arith, refl)
@@ -193,7 +194,7 @@ piece_marks (suc (suc (suc (suc (suc (suc zero)))))) rest = (omega arith, refl)
 piece_marks (suc (suc (suc (suc (suc (suc (suc zero))))))) rest = (omega arith, refl)
 piece_marks (suc (suc (suc (suc (suc (suc (suc (suc number)))))))) rest = (omega arith, refl)
 
-pieces_marks : (n x : ℕ) → (count (marks (pieces_text n x)) ≤ n) × (mark.names true (marks (pieces_text n x)) ≡ [])
+pieces_marks : (n x : ℕ) → (count (marks Unicode (pieces_text n x)) ≤ n) × (mark.names Unicode (marks Unicode (pieces_text n x)) ≡ [])
 unfolding pieces_text
 pieces_marks zero x = (omega arith, refl)
 pieces_marks (suc n) x =
@@ -202,12 +203,12 @@ pieces_marks (suc n) x =
     (omega (arith, p.0, more.0), p.1 ∙ more.1)
 
 -- where no mark has a name none at an index has
-unnamed : (ms : List Mark) (i : ℕ) (name : List ℕ) → mark.names true ms ≡ [] → mark_name true (mark_at ms i) ≡ Some name → ⊥
+unnamed : (ms : List Mark) (i : ℕ) (name : List ℕ) → mark.names Unicode ms ≡ [] → mark_name Unicode (mark_at ms i) ≡ Some name → ⊥
 unnamed [] i name none h = cc h
-unnamed (m ∷ ms) zero name none h = let no : listed (Some name) ++ mark.names true ms ≡ [] = ap (λ o. listed o ++ mark.names true ms) (sym h) ∙ none in cc no
-unnamed (m ∷ ms) (suc i) name none h = unnamed ms i name (tail (mark_name true m) none) h
+unnamed (m ∷ ms) zero name none h = let no : listed (Some name) ++ mark.names Unicode ms ≡ [] = ap (λ o. listed o ++ mark.names Unicode ms) (sym h) ∙ none in cc no
+unnamed (m ∷ ms) (suc i) name none h = unnamed ms i name (tail (mark_name Unicode m) none) h
   where
-    tail : (o : Option (List ℕ)) → listed o ++ mark.names true ms ≡ [] → mark.names true ms ≡ []
+    tail : (o : Option (List ℕ)) → listed o ++ mark.names Unicode ms ≡ [] → mark.names Unicode ms ≡ []
     tail None e = e
     tail (Some name) e = absurd (let no : ⊥ = cc e in no)
 
@@ -237,22 +238,22 @@ module _ (n x : ℕ) (few : n < 8) where
   units_are = values_literal 0 (pieces_text (suc n) x)
 
   no_clash : HasNoClash Unicode us
-  no_clash a b clash = unnamed (marks (values us)) a clash.name (ap (λ w. mark.names true (marks w)) units_are ∙ (pieces_marks (suc n) x).1) clash.first
+  no_clash a b clash = unnamed (marks Unicode (values us)) a clash.name (ap (λ w. mark.names Unicode (marks Unicode w)) units_are ∙ (pieces_marks (suc n) x).1) clash.first
 
-  few_groups : text_groups us ≤ most_groups
+  few_groups : text_groups Unicode us ≤ most_groups
   unfolding text_groups
-  few_groups = omega (arith, few, ap (λ w. count (marks w)) units_are, (pieces_marks (suc n) x).0)
+  few_groups = omega (arith, few, ap (λ w. count (marks Unicode w)) units_are, (pieces_marks (suc n) x).0)
 
   end_reached : (ready : Bool) × IsReached Unicode us (length us) [] ready []
   unfolding us
   end_reached =
-      let r = pieces_row (text_groups us) (text_names Unicode us) (has_some (text_names Unicode us)) (suc n) x 0 in
+      let r = pieces_row (text_groups Unicode us) (text_names Unicode us) (has_some (text_names Unicode us)) (suc n) x 0 in
       let after = r.accepted false in
       (after.0, record { tokens = r.tokens; row = r.row; place_is = omega arith; accepted = after.1; obey = r.obey })
 
   none_first : (added : ℕ) (refusal : Diagnostic) → IsFirst Unicode us 0 added refusal → ⊥
   none_first added refusal (of_groups cause amiss) = amiss no_clash few_groups
-  none_first added refusal (of_places none few first) = ended_refuses Unicode refl us 0 added end_reached.0 end_reached.1 first.place refusal first.holds
+  none_first added refusal (of_places none few first) = ended_refuses Unicode us 0 added end_reached.0 end_reached.1 first.place refusal first.holds
 
   pieces_not_refused : {refusal : Diagnostic} → IsFirstRefusal (asked (pieces_text (suc n) x)) refusal → ⊥
   unfolding us

@@ -1,21 +1,21 @@
-//! Groups that stand deep in one another, and classes of many items.
+//! Groups and classes that stand deep in one another, and classes of many items.
 use crate::memory::{bytes_of, run_in_steps};
 use rx_base::OutOfMemory;
 use std::alloc::{AllocError, Global};
 use std::test::Fail;
 
-/// Whether the program gives this reply to a pattern under `u`.
-fn is_reply(alloc: Global, pattern: &str, reply: &str) -> Result<bool, OutOfMemory> {
-    let mut input = bytes_of(alloc, b"L\tu\t")?;
-    input.extend_from_slice(pattern.as_bytes())?;
+/// Whether the program gives this reply to a pattern under these flags.
+fn is_reply(alloc: Global, flags: &str, pattern: &str, reply: &str) -> Result<bool, OutOfMemory> {
+    let line = format!(in alloc; "L\t{flags}\t{pattern}")?;
+    let input = bytes_of(alloc, line.as_bytes())?;
     let (_, sink) = run_in_steps(alloc, input, 4096, 4096)?;
     Ok(sink.bytes().strip_suffix(b"\n") == Some(reply.as_bytes()))
 }
 
-/// Whether a pattern is read, and is its own spelling.
+/// Whether a pattern is read under `u`, and is its own spelling.
 fn is_spelled(alloc: Global, pattern: &str) -> Result<bool, OutOfMemory> {
     let reply = format!(in alloc; "ok\tunicode\t{pattern}")?;
-    is_reply(alloc, pattern, &reply)
+    is_reply(alloc, "u", pattern, &reply)
 }
 
 /// n groups with this opener, each in the one before it.
@@ -31,15 +31,23 @@ fn class_of(alloc: Global, item: &str, times: usize) -> Result<String, AllocErro
     format!(in alloc; "[{items}]")
 }
 
-/// Whether n of these openers are unterminated, by this reply.
+/// n nested classes, each in the one before it, and a character in the innermost.
+fn nested_classes(alloc: Global, depth: usize) -> Result<String, AllocError> {
+    let openers = "[".repeat(alloc, depth)?;
+    let closers = "]".repeat(alloc, depth)?;
+    format!(in alloc; "{openers}a{closers}")
+}
+
+/// Whether n of these openers are unterminated under these flags, by this reply.
 fn are_unterminated(
     alloc: Global,
+    flags: &str,
     opener: &str,
     times: usize,
     reply: &str,
 ) -> Result<bool, OutOfMemory> {
     let pattern = opener.repeat(alloc, times)?;
-    is_reply(alloc, &pattern, reply)
+    is_reply(alloc, flags, &pattern, reply)
 }
 
 #[test]
@@ -66,16 +74,32 @@ fn long_classes(rt: HostRuntime) -> Result<(), Fail> {
 }
 
 #[test]
+fn deep_classes(rt: HostRuntime) -> Result<(), Fail> {
+    for depth in [1000usize, 300000] {
+        let pattern = nested_classes(rt.alloc(), depth)?;
+        let reply = format!(in rt.alloc(); "ok\tsets\t{pattern}")?;
+        assert!(rt; is_reply(rt.alloc(), "v", &pattern, &reply)?, "{depth}");
+    }
+    Ok(())
+}
+
+#[test]
 fn many_openers(rt: HostRuntime) -> Result<(), Fail> {
-    for (opener, times, reply) in [
-        ("(", 1000usize, "err\tunterminated_pattern\t999..1000"),
-        ("(", 100000, "err\tunterminated_pattern\t99999..100000"),
-        ("[", 1000, "err\tunterminated_pattern\t0..1000"),
-        ("[", 100000, "err\tunterminated_pattern\t0..100000"),
+    for (flags, opener, times, reply) in [
+        ("u", "(", 1000usize, "err\tunterminated_pattern\t999..1000"),
+        ("u", "(", 100000, "err\tunterminated_pattern\t99999..100000"),
+        ("u", "[", 1000, "err\tunterminated_pattern\t0..1000"),
+        ("u", "[", 100000, "err\tunterminated_pattern\t0..100000"),
+        (
+            "v",
+            "[",
+            300000,
+            "err\tunterminated_pattern\t299999..300000",
+        ),
     ] {
         assert!(rt;
-            are_unterminated(rt.alloc(), opener, times, reply)?,
-            "{times} of {opener}"
+            are_unterminated(rt.alloc(), flags, opener, times, reply)?,
+            "{times} of {opener} under {flags}"
         );
     }
     Ok(())

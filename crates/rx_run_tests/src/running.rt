@@ -59,7 +59,7 @@ later
 later
 ok\tlegacy\ta
 ok\tlegacy\ta
-later
+ok\tsets\ta
 bad
 bad
 bad

@@ -13,7 +13,7 @@ use Rattle.rx_scan.proofs.Passes.{knows_more}
 -- what a new named opening leads to, where `mid` has its name
 pub record Added (old mid new : FirstPass) (opening : Opening) (bytes : List ℕ) : Type 0 where
   pub renamed : mid ≡ record old { names = with_name old.names opening.name }
-  pub mode : new.unicode_mode ≡ mid.unicode_mode
+  pub mode_is : new.mode ≡ mid.mode
   pub counted : new.count ≡ mid.count + 1
   pub named_by : new.names ≡ mid.names
   pub opened : group_states_of new.groups ≡ (opening.mark + 1, opening.mark + 1) ∷ group_states_of mid.groups
@@ -31,7 +31,7 @@ added old mid new opening bytes a knows none =
     let es : entries new ≡ entries old ++ entry_of opening ∷ [] =
     ap (map entry_of) (a.listed_are ∙ ap (λ m. m.openings ++ opening ∷ []) a.renamed) ∙ map-append entry_of old.openings (opening ∷ []) in
     record {
-      mode = a.mode ∙ ap (λ m. m.unicode_mode) a.renamed;
+      mode_is = a.mode_is ∙ ap (λ m. m.mode) a.renamed;
       counted = a.counted ∙ ap (λ m. m.count + 1) a.renamed;
       named_by = a.named_by ∙ ap (λ m. m.names) a.renamed;
       opened = a.opened ∙ ap (λ j. (j, j) ∷ group_states_of mid.groups) next ∙ ap (λ m. (suc opening.mark, suc opening.mark) ∷ group_states_of m.groups) a.renamed;
@@ -41,7 +41,7 @@ added old mid new opening bytes a knows none =
       fresh = λ n e. let same : opening.name ≡ n = some_is opening.name n e in subst (λ z. first_clash (group_states_of old.groups) z (entries old) ≡ None) same none;
     }
 
-pub captured_steps : (old new : FirstPass) (units : Option (List ℕ)) (name : Option (List ℕ)) (at k : ℕ) → mark_name old.unicode_mode (capturing units) ≡ name → Captures old new name (at + 3) (at + 3 + name_length (capturing units)) k → Steps old new (capturing units) at k
+pub captured_steps : (old new : FirstPass) (units : Option (List ℕ)) (name : Option (List ℕ)) (at k : ℕ) → mark_name old.mode (capturing units) ≡ name → Captures old new name (at + 3) (at + 3 + name_length (capturing units)) k → Steps old new (capturing units) at k
 captured_steps old new units name at k e c =
     let d = subst (λ z. Captures old new z (at + 3) (at + 3 + name_length (capturing units)) k) (sym e) c in
-    record { mode = d.mode; counted = d.counted; named_by = d.named_by; opened = d.opened; listed_are = d.listed_are; knows = d.knows; fresh = d.fresh }
+    record { mode_is = d.mode_is; counted = d.counted; named_by = d.named_by; opened = d.opened; listed_are = d.listed_are; knows = d.knows; fresh = d.fresh }

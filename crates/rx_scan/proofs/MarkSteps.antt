@@ -1,10 +1,14 @@
 -- Steps of the loops that read a class and a name.
-use Rattle.std.proofs.Common.{◌≡◌, refl, ap, sym, ◌∙◌, ℕ, zero, suc, ◌+◌, ◌<◌, Bool, true, false, cond, ◌==◌, Some, None, List, [], ◌∷◌, ◌++◌, take, drop, get_or, drop-cons, add-one, append_assoc, append-nil, length, eqb-true, arith}
+use Rattle.std.proofs.Common.{◌≡◌, refl, ap, sym, ◌∙◌, subst, ℕ, zero, suc, ◌+◌, ◌-◌, ◌<◌, Bool, true, false, cond, ◌==◌, ◌&&◌, Some, None, List, [], ◌∷◌, ◌++◌, take, drop, get_or, drop-cons, add-one, append_assoc, append-nil, length, eqb-true, arith}
 use Rattle.std.proofs.Math.Seq.{drop-length}
 use Rattle.rx_units.specs.declared.code_point.CodePoint.{CodePoint}
 use Rattle.rx_units.specs.declared.code_point.EscapeKind.TheVariants as kind
 use Rattle.rx_units.specs.Units.{unit, values}
+use Rattle.rx_model.specs.declared.mode.Mode.{Mode}
+use Rattle.rx_model.specs.declared.mode.Mode.TheVariants.{Sets}
+use Rattle.rx_model.specs.Inputs.Environment.{is_sets}
 use Rattle.rx_model.specs.FirstPass.Marks.{class_rest, before_close, has_close}
+use Rattle.rx_model.proofs.FirstPass.ClassRest.{inside_begins, inside_ends}
 use Rattle.rx_scan.specs.MarkReading.{closed_part}
 
 -- before the place no `>` stands
@@ -28,16 +32,52 @@ no_eq a b n = no_eq_case a b (a == b) refl n
 no_unit : CodePoint
 no_unit = unit 0 0 0 kind.None
 
-pub class_escaped : (us : List CodePoint) (i : ℕ) → i < length us → class_rest false (values us) ≡ i + class_rest true (values (drop i us)) → class_rest false (values us) ≡ (i + 1) + class_rest false (values (drop (i + 1) us))
-class_escaped us i h e = let g = ap (class_rest true) (values_at us i no_unit h) in omega arith
+-- So many units of a class are read, n classes are open in it there, and a backslash stands right before or not.
+abbrev pub IsInClass : Mode → List CodePoint → ℕ → Bool → ℕ → Type 0
+IsInClass mode us i escaped n = class_rest mode false 0 (values us) ≡ i + class_rest mode escaped n (values (drop i us))
 
-pub class_plain : (us : List CodePoint) (i : ℕ) (d : CodePoint) → i < length us → ((get_or us i d).value == 93) ≡ false → class_rest false (values us) ≡ i + class_rest false (values (drop i us)) → class_rest false (values us) ≡ (i + 1) + class_rest ((get_or us i d).value == 92) (values (drop (i + 1) us))
-class_plain us i d h n e =
-    let u = (get_or us i d).value in
+-- one unit more of a class: behind a backslash, and one that is neither a bracket nor behind a backslash
+pub class_escaped : (mode : Mode) (us : List CodePoint) (i n : ℕ) → i < length us → IsInClass mode us i true n → IsInClass mode us (i + 1) false n
+class_escaped mode us i n h e = let g = ap (class_rest mode true n) (values_at us i no_unit h) in omega arith
+
+rest_plain : (mode : Mode) (n u : ℕ) (more : List ℕ) → (u == 93) ≡ false → (u == 91 && is_sets mode) ≡ false → class_rest mode false n (u ∷ more) ≡ class_rest mode (u == 92) n more + 1
+rest_plain mode zero u more no_closer no_bracket = rw (no_closer, no_bracket) refl
+rest_plain mode (suc n) u more no_closer no_bracket = rw (no_closer, no_bracket) refl
+
+class_step : (mode : Mode) (us : List CodePoint) (i n m : ℕ) (d : CodePoint) (escaped : Bool) → i < length us →
+    class_rest mode false n ((get_or us i d).value ∷ values (drop (i + 1) us)) ≡ class_rest mode escaped m (values (drop (i + 1) us)) + 1 → IsInClass mode us i false n → IsInClass mode us (i + 1) escaped m
+class_step mode us i n m d escaped h step e = let g = ap (class_rest mode false n) (values_at us i d h) in omega arith
+
+pub class_plain : (mode : Mode) (us : List CodePoint) (i n : ℕ) (d : CodePoint) → i < length us → ((get_or us i d).value == 93) ≡ false → ((get_or us i d).value == 91 && is_sets mode) ≡ false →
+    IsInClass mode us i false n → IsInClass mode us (i + 1) ((get_or us i d).value == 92) n
+class_plain mode us i n d h no_closer no_bracket e =
+    class_step mode us i n n d ((get_or us i d).value == 92) h (rest_plain mode n (get_or us i d).value (values (drop (i + 1) us)) no_closer no_bracket) e
+
+-- the same with neither a bracket nor a backslash, and with a backslash
+pub class_unit : (mode : Mode) (us : List CodePoint) (i n : ℕ) (d : CodePoint) → i < length us → ((get_or us i d).value == 93) ≡ false → ((get_or us i d).value == 91 && is_sets mode) ≡ false →
+    ((get_or us i d).value == 92) ≡ false → IsInClass mode us i false n → IsInClass mode us (i + 1) false n
+class_unit mode us i n d h no_closer no_bracket no_backslash e = subst (λ b. IsInClass mode us (i + 1) b n) no_backslash (class_plain mode us i n d h no_closer no_bracket e)
+
+pub class_backslash : (mode : Mode) (us : List CodePoint) (i n : ℕ) (d : CodePoint) → i < length us → (get_or us i d).value ≡ 92 → IsInClass mode us i false n → IsInClass mode us (i + 1) true n
+class_backslash mode us i n d h is e =
+    let tests = λ (u : ℕ). IsInClass mode us (i + 1) (u == 92) n in
+    subst tests is (class_plain mode us i n d h (ap (λ u. u == 93) is) (ap (λ u. u == 91 && is_sets mode) is) e)
+
+-- with `v` the bracket of a class in it, and its closer
+pub class_opens : (us : List CodePoint) (i n : ℕ) (d : CodePoint) → i < length us → (get_or us i d).value ≡ 91 → IsInClass Sets us i false n → IsInClass Sets us (i + 1) false (n + 1)
+class_opens us i n d h is e =
     let more = values (drop (i + 1) us) in
-    let g : class_rest false (values (drop i us)) ≡ class_rest (u == 92) more + 1 =
-    ap (class_rest false) (values_at us i d h) ∙ ap (λ b. cond b 1 (class_rest (u == 92) more + 1)) n in
-    omega arith
+    let next : suc n ≡ n + 1 = omega arith in
+    class_step Sets us i n (n + 1) d false h
+    (ap (λ u. class_rest Sets false n (u ∷ more)) is ∙ inside_begins Sets n more refl ∙ ap (λ m. class_rest Sets false m more + 1) next) e
+
+pub class_closes : (us : List CodePoint) (i n : ℕ) (d : CodePoint) → i < length us → (get_or us i d).value ≡ 93 → (n ≡ 0 → ⊥) → IsInClass Sets us i false n → IsInClass Sets us (i + 1) false (n - 1)
+class_closes us i zero d h is some e = absurd (some refl)
+class_closes us i (suc n) d h is some e =
+    let more = values (drop (i + 1) us) in
+    let last : n ≡ suc n - 1 = omega arith in
+    class_step Sets us i (suc n) (suc n - 1) d false h
+    (ap (λ u. class_rest Sets false (suc n) (u ∷ more)) is ∙ inside_ends Sets n more ∙ ap (λ m. class_rest Sets false m more + 1) last) e
 
 values_append : (us vs : List CodePoint) → values (us ++ vs) ≡ values us ++ values vs
 values_append [] vs = refl

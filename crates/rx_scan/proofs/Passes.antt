@@ -6,6 +6,7 @@ use Rattle.std.specs.Str.{IsUtf8, bytes_eq, chars}
 use Rattle.std.proofs.lemmas.Bool.{cases_lt, false≢true, ltb-true, lt-ltb, leb-true, le-leb}
 use Rattle.std.proofs.lemmas.List.Folds.{list_any-append}
 use Rattle.std.proofs.Math.Seq.{drop-length}
+use Rattle.rx_model.specs.declared.mode.Mode.{Mode}
 use Rattle.rx_model.specs.FirstPass.GroupStates.{GroupState, Hides, Nests, group_states, step}
 use Rattle.rx_model.specs.FirstPass.Marks.{Mark, Clash, IsFirstClash, other, bar, closer, quiet, capturing, count, listed, mark_at, mark_count, mark_front, mark_name, marks, marks_behind, name_length, name_places, names, mark_place, places, places_behind}
 use Rattle.rx_model.specs.Trees.Names.{is_among, once_behind}
@@ -23,15 +24,15 @@ use Rattle.rx_scan.proofs.KnownNames.{same_name_Decides, same_text}
 unit_at : (us : List ℕ) (i : ℕ) → i < length us → drop i us ≡ get_or us i 0 ∷ drop (i + 1) us
 unit_at us i h = rw (add-one, drop-cons us i 0) refl
 
-behind_drop : (n : ℕ) (us : List ℕ) → marks_behind n us ≡ marks (drop n us)
-behind_drop zero us = refl
-behind_drop (suc n) [] = refl
-behind_drop (suc n) (u ∷ us) = behind_drop n us
+behind_drop : (mode : Mode) (n : ℕ) (us : List ℕ) → marks_behind mode n us ≡ marks mode (drop n us)
+behind_drop mode zero us = refl
+behind_drop mode (suc n) [] = refl
+behind_drop mode (suc n) (u ∷ us) = behind_drop mode n us
 
-places_drop : (at n : ℕ) (us : List ℕ) → places_behind at n us ≡ places_behind (at + n) 0 (drop n us)
-places_drop at zero us = ap (λ k. places_behind k 0 us) (omega arith)
-places_drop at (suc n) [] = refl
-places_drop at (suc n) (u ∷ us) = let e : (at + 1) + n ≡ at + suc n = omega arith in places_drop (at + 1) n us ∙ ap (λ k. places_behind k 0 (drop n us)) e
+places_drop : (mode : Mode) (at n : ℕ) (us : List ℕ) → places_behind mode at n us ≡ places_behind mode (at + n) 0 (drop n us)
+places_drop mode at zero us = ap (λ k. places_behind mode k 0 us) (omega arith)
+places_drop mode at (suc n) [] = refl
+places_drop mode at (suc n) (u ∷ us) = let e : (at + 1) + n ≡ at + suc n = omega arith in places_drop mode (at + 1) n us ∙ ap (λ k. places_behind mode k 0 (drop n us)) e
 
 drop_none : (n : ℕ) → drop n (let e : List ℕ = [] in e) ≡ []
 drop_none zero = refl
@@ -62,28 +63,28 @@ Some-inj : {A : Type 0} {x y : A} → Some x ≡ Some y → x ≡ y
 Some-inj e = cc
 
 -- the mark that stands at a place, and what follows it
-record Turn (us : List ℕ) (at : ℕ) (m : Mark) (taken : ℕ) : Type 0 where
-  marks_are : marks (drop at us) ≡ m ∷ marks (drop (at + taken) us)
-  places_are : places_behind at 0 (drop at us) ≡ at ∷ places_behind (at + taken) 0 (drop (at + taken) us)
+record Turn (mode : Mode) (us : List ℕ) (at : ℕ) (m : Mark) (taken : ℕ) : Type 0 where
+  marks_are : marks mode (drop at us) ≡ m ∷ marks mode (drop (at + taken) us)
+  places_are : places_behind mode at 0 (drop at us) ≡ at ∷ places_behind mode (at + taken) 0 (drop (at + taken) us)
 
-turn_at : (us : List ℕ) (at u : ℕ) (more : List ℕ) (p : Mark × ℕ) → drop at us ≡ u ∷ more → p ≡ ((mark_front u more).0, (mark_front u more).1 + 1) → Turn us at p.0 p.1
-turn_at us at u more p d e =
+turn_at : (mode : Mode) (us : List ℕ) (at u : ℕ) (more : List ℕ) (p : Mark × ℕ) → drop at us ≡ u ∷ more → p ≡ ((mark_front mode u more).0, (mark_front mode u more).1 + 1) → Turn mode us at p.0 p.1
+turn_at mode us at u more p d e =
     let m = p.0 in
     let taken = p.1 in
-    let n = (mark_front u more).1 in
-    let em : m ≡ (mark_front u more).0 = ap (λ q. q.0) e in
+    let n = (mark_front mode u more).1 in
+    let em : m ≡ (mark_front mode u more).0 = ap (λ q. q.0) e in
     let et : taken ≡ n + 1 = ap (λ q. q.1) e in
     let s : suc n ≡ taken = omega arith in
     let t : at + 1 + n ≡ at + taken = omega arith in
     let f : drop n more ≡ drop (at + taken) us = ap (drop (suc n)) (sym d) ∙ drop_more at (suc n) us ∙ ap (λ j. drop (at + j) us) s in
     record {
-      marks_are = ap marks d ∙ ap (λ z. (mark_front u more).0 ∷ z) (behind_drop n more ∙ ap marks f) ∙ ap (λ z. z ∷ marks (drop (at + taken) us)) (sym em);
-      places_are = ap (places_behind at 0) d ∙ ap (λ z. at ∷ z) (places_drop (at + 1) n more ∙ ap (λ j. places_behind j 0 (drop n more)) t ∙ ap (places_behind (at + taken) 0) f);
+      marks_are = ap (marks mode) d ∙ ap (λ z. (mark_front mode u more).0 ∷ z) (behind_drop mode n more ∙ ap (marks mode) f) ∙ ap (λ z. z ∷ marks mode (drop (at + taken) us)) (sym em);
+      places_are = ap (places_behind mode at 0) d ∙ ap (λ z. at ∷ z) (places_drop mode (at + 1) n more ∙ ap (λ j. places_behind mode j 0 (drop n more)) t ∙ ap (places_behind mode (at + taken) 0) f);
     }
 
-turn : (us : List ℕ) (at : ℕ) (p : Mark × ℕ) → at < length us → p ≡ front (drop at us) → Turn us at p.0 p.1
+turn : (mode : Mode) (us : List ℕ) (at : ℕ) (p : Mark × ℕ) → at < length us → p ≡ front mode (drop at us) → Turn mode us at p.0 p.1
 unfolding front
-turn us at p lt e = turn_at us at (get_or us at 0) (drop (at + 1) us) p (unit_at us at lt) (e ∙ ap front (unit_at us at lt))
+turn mode us at p lt e = turn_at mode us at (get_or us at 0) (drop (at + 1) us) p (unit_at us at lt) (e ∙ ap (front mode) (unit_at us at lt))
 
 drop_next : {A : Type 0} (xs : List A) (k : ℕ) (y : A) (ys : List A) → drop k xs ≡ y ∷ ys → drop (k + 1) xs ≡ ys
 drop_next xs zero y ys e = ap (drop 1) e
@@ -144,8 +145,8 @@ some_either fs n (e ∷ xs) ys x h = elim (bool_is (test fs n e)) [
 ]
 
 -- each earlier opening of this name is in an alternative that has ended
-abbrev AllHidden : Bool → List ℕ → List GroupState → List ℕ → ℕ → Type 0
-AllHidden um us fs n k = (a : ℕ) → a < k → mark_name um (mark_at (marks us) a) ≡ Some n → hides a fs ≡ true
+abbrev AllHidden : Mode → List ℕ → List GroupState → List ℕ → ℕ → Type 0
+AllHidden mode us fs n k = (a : ℕ) → a < k → mark_name mode (mark_at (marks mode us) a) ≡ Some n → hides a fs ≡ true
 
 entry_hidden : (fs : List GroupState) (n : List ℕ) (k from to : ℕ) (o : Option (List ℕ)) → o ≡ Some n → first_clash fs n (entry_for k from to o) ≡ None → hides k fs ≡ true
 entry_hidden fs n k from to o e h = elim (bool_is (hides k fs)) [
@@ -157,59 +158,59 @@ entry_hidden fs n k from to o e h = elim (bool_is (hides k fs)) [
       cc
 ]
 
-abbrev name_at : Bool → List ℕ → ℕ → Option (List ℕ)
-name_at um us k = mark_name um (mark_at (marks us) k)
+abbrev name_at : Mode → List ℕ → ℕ → Option (List ℕ)
+name_at mode us k = mark_name mode (mark_at (marks mode us) k)
 
-abbrev start_of : List ℕ → ℕ → ℕ
-start_of us k = mark_place us k + 3
+abbrev start_of : Mode → List ℕ → ℕ → ℕ
+start_of mode us k = mark_place mode us k + 3
 
-abbrev end_of : List ℕ → ℕ → ℕ
-end_of us k = mark_place us k + 3 + name_length (mark_at (marks us) k)
+abbrev end_of : Mode → List ℕ → ℕ → ℕ
+end_of mode us k = mark_place mode us k + 3 + name_length (mark_at (marks mode us) k)
 
-none_all : (um : Bool) (us : List ℕ) (fs : List GroupState) (n : List ℕ) (k : ℕ) → first_clash fs n (named um us k) ≡ None → AllHidden um us fs n k
-none_all um us fs n zero h a lt e = absurd (omega arith)
-none_all um us fs n (suc k) h a lt e =
-    let i = none_both fs n (named um us k) (entry_at um (mark_place us k) k (mark_at (marks us) k)) h in
+none_all : (mode : Mode) (us : List ℕ) (fs : List GroupState) (n : List ℕ) (k : ℕ) → first_clash fs n (named mode us k) ≡ None → AllHidden mode us fs n k
+none_all mode us fs n zero h a lt e = absurd (omega arith)
+none_all mode us fs n (suc k) h a lt e =
+    let i = none_both fs n (named mode us k) (entry_at mode (mark_place mode us k) k (mark_at (marks mode us) k)) h in
     elim (cases_lt a k) [
-      | inl l ↦ none_all um us fs n k i.0 a l e
+      | inl l ↦ none_all mode us fs n k i.0 a l e
       | inr g ↦ let s : a ≡ k = omega arith in
-          ap (λ j. hides j fs) s ∙ entry_hidden fs n k (start_of us k) (end_of us k) (name_at um us k) (sym (ap (name_at um us) s) ∙ e) i.1
+          ap (λ j. hides j fs) s ∙ entry_hidden fs n k (start_of mode us k) (end_of mode us k) (name_at mode us k) (sym (ap (name_at mode us) s) ∙ e) i.1
     ]
 
-record Found (um : Bool) (us : List ℕ) (fs : List GroupState) (n : List ℕ) (k : ℕ) (e : Entry) : Type 0 where
+record Found (mode : Mode) (us : List ℕ) (fs : List GroupState) (n : List ℕ) (k : ℕ) (e : Entry) : Type 0 where
   before : e.index < k
-  is : name_at um us e.index ≡ Some n
+  is : name_at mode us e.index ≡ Some n
   seen_there : hides e.index fs ≡ false
-  places_are : span_of e ≡ name_places us e.index
-  first : AllHidden um us fs n e.index
+  places_are : span_of e ≡ name_places mode us e.index
+  first : AllHidden mode us fs n e.index
 
 not_true : (b : Bool) → not b ≡ true → b ≡ false
 not_true true e = absurd (false≢true e)
 not_true false e = refl
 
-found_last : (um : Bool) (us : List ℕ) (fs : List GroupState) (n : List ℕ) (k : ℕ) (e : Entry) (o : Option (List ℕ)) → name_at um us k ≡ o → AllHidden um us fs n k → first_clash fs n (entry_for k (start_of us k) (end_of us k) o) ≡ Some e → Found um us fs n (suc k) e
-found_last um us fs n k e None m all h = cc
-found_last um us fs n k e (Some v) m all h =
-    let x : Entry = record { index = k; name = v; from = start_of us k; to = end_of us k } in
+found_last : (mode : Mode) (us : List ℕ) (fs : List GroupState) (n : List ℕ) (k : ℕ) (e : Entry) (o : Option (List ℕ)) → name_at mode us k ≡ o → AllHidden mode us fs n k → first_clash fs n (entry_for k (start_of mode us k) (end_of mode us k) o) ≡ Some e → Found mode us fs n (suc k) e
+found_last mode us fs n k e None m all h = cc
+found_last mode us fs n k e (Some v) m all h =
+    let x : Entry = record { index = k; name = v; from = start_of mode us k; to = end_of mode us k } in
     elim (bool_is (test fs n x)) [
       | inl t ↦
           let same : x ≡ e = Some-inj (sym (ap (λ b. cond b (Some x) None) t) ∙ h) in
           let b = both_true (same_name v n) (not (hides k fs)) t in
           let q : v ≡ n = same_is v n b.0 in
-          subst (Found um us fs n (suc k)) same
+          subst (Found mode us fs n (suc k)) same
           (record { before = omega arith; is = m ∙ ap Some q; seen_there = not_true (hides k fs) b.1; places_are = refl; first = all })
       | inr f ↦ let g : None ≡ Some e = sym (ap (λ b. cond b (Some x) None) f) ∙ h in cc
     ]
 
-found_more : (um : Bool) (us : List ℕ) (fs : List GroupState) (n : List ℕ) (k : ℕ) (e : Entry) → Found um us fs n k e → Found um us fs n (suc k) e
-found_more um us fs n k e f = let b = f.before in record { before = omega arith; is = f.is; seen_there = f.seen_there; places_are = f.places_are; first = f.first }
+found_more : (mode : Mode) (us : List ℕ) (fs : List GroupState) (n : List ℕ) (k : ℕ) (e : Entry) → Found mode us fs n k e → Found mode us fs n (suc k) e
+found_more mode us fs n k e f = let b = f.before in record { before = omega arith; is = f.is; seen_there = f.seen_there; places_are = f.places_are; first = f.first }
 
-some_found : (um : Bool) (us : List ℕ) (fs : List GroupState) (n : List ℕ) (k : ℕ) (e : Entry) → first_clash fs n (named um us k) ≡ Some e → Found um us fs n k e
-some_found um us fs n zero e h = cc
-some_found um us fs n (suc k) e h =
-    elim (some_either fs n (named um us k) (entry_at um (mark_place us k) k (mark_at (marks us) k)) e h) [
-      | inl i ↦ found_more um us fs n k e (some_found um us fs n k e i)
-      | inr i ↦ found_last um us fs n k e (name_at um us k) refl (none_all um us fs n k i.0) i.1
+some_found : (mode : Mode) (us : List ℕ) (fs : List GroupState) (n : List ℕ) (k : ℕ) (e : Entry) → first_clash fs n (named mode us k) ≡ Some e → Found mode us fs n k e
+some_found mode us fs n zero e h = cc
+some_found mode us fs n (suc k) e h =
+    elim (some_either fs n (named mode us k) (entry_at mode (mark_place mode us k) k (mark_at (marks mode us) k)) e h) [
+      | inl i ↦ found_more mode us fs n k e (some_found mode us fs n k e i)
+      | inr i ↦ found_last mode us fs n k e (name_at mode us k) refl (none_all mode us fs n k i.0) i.1
     ]
 
 with_names_append : (xs s ys : List (List ℕ)) → with_names s (xs ++ ys) ≡ with_names (with_names s xs) ys
@@ -250,12 +251,12 @@ count_one quiet = omega arith
 count_one (capturing units) = omega arith
 
 -- what the mark at index k clashes with is in no alternative that has ended
-clash_seen : (um : Bool) (ms : List Mark) (a k : ℕ) → Clash um ms a k → hides a (group_states ms k) ≡ true → ⊥
-clash_seen um ms a k c h = c.together (hidden_parted ms a k (hides_true a (group_states ms k) h))
+clash_seen : (mode : Mode) (ms : List Mark) (a k : ℕ) → Clash mode ms a k → hides a (group_states ms k) ≡ true → ⊥
+clash_seen mode ms a k c h = c.together (hidden_parted ms a k (hides_true a (group_states ms k) h))
 
-pub start_at : (um : Bool) (us : List ℕ) (s : FirstPass) → IsStart um s → IsAt um us 0 0 s
-start_at um us s w = record {
-  mode = w.mode;
+pub start_at : (mode : Mode) (us : List ℕ) (s : FirstPass) → IsStart mode s → IsAt mode us 0 0 s
+start_at mode us s w = record {
+  mode_is = w.mode_is;
   within = omega arith;
   few = omega arith;
   fewer = (let c = w.counted in omega arith);
@@ -265,48 +266,48 @@ start_at um us s w = record {
   listed_are = ap (map entry_of) w.listed_are;
   knows = subst (λ es. KnowsLast es s.last_openings) (sym (ap (map entry_of) w.listed_are)) w.knows;
   counted = (let c = w.counted in omega arith);
-  named_by = ap (λ z. with_names z (names um (marks us))) w.named_by ∙ once_in_order (names um (marks us)) [] [] (λ n. refl);
+  named_by = ap (λ z. with_names z (names mode (marks mode us))) w.named_by ∙ once_in_order (names mode (marks mode us)) [] [] (λ n. refl);
   clean = λ a b l c. absurd (omega arith);
 }
 
-pub advanced : (um : Bool) (us : List ℕ) (at k : ℕ) (x : Mark × ℕ) (old new : FirstPass) → at < length us → at + x.1 ≤ length us → 0 < x.1 → x ≡ front (drop at us) → Steps old new x.0 at k → IsAt um us at k old → IsAt um us (at + x.1) (k + 1) new
-advanced um us at k x old new lt le pos e s w =
-    let ms = marks us in
+pub advanced : (mode : Mode) (us : List ℕ) (at k : ℕ) (x : Mark × ℕ) (old new : FirstPass) → at < length us → at + x.1 ≤ length us → 0 < x.1 → x ≡ front mode (drop at us) → Steps old new x.0 at k → IsAt mode us at k old → IsAt mode us (at + x.1) (k + 1) new
+advanced mode us at k x old new lt le pos e s w =
+    let ms = marks mode us in
     let m = x.0 in
     let taken = x.1 in
-    let t = turn us at x lt e in
-    let r : drop k ms ≡ m ∷ marks (drop (at + taken) us) = w.rest ∙ t.marks_are in
-    let p : drop k (places us) ≡ at ∷ places_behind (at + taken) 0 (drop (at + taken) us) = w.places ∙ t.places_are in
-    let here : mark_at ms k ≡ m = mark_here ms k m (marks (drop (at + taken) us)) r in
-    let place_is : mark_place us k ≡ at = place_here (places us) k at (places_behind (at + taken) 0 (drop (at + taken) us)) p in
+    let t = turn mode us at x lt e in
+    let r : drop k ms ≡ m ∷ marks mode (drop (at + taken) us) = w.rest ∙ t.marks_are in
+    let p : drop k (places mode us) ≡ at ∷ places_behind mode (at + taken) 0 (drop (at + taken) us) = w.places ∙ t.places_are in
+    let here : mark_at ms k ≡ m = mark_here ms k m (marks mode (drop (at + taken) us)) r in
+    let place_is : mark_place mode us k ≡ at = place_here (places mode us) k at (places_behind mode (at + taken) 0 (drop (at + taken) us)) p in
     let next : suc k ≡ k + 1 = omega arith in
     let few = w.few in let fewer = w.fewer in let one = count_one m in let counted = s.counted in
     record {
-      mode = s.mode ∙ w.mode;
+      mode_is = s.mode_is ∙ w.mode_is;
       within = le;
       few = omega arith;
       fewer = omega arith;
-      rest = drop_next ms k m (marks (drop (at + taken) us)) r;
-      places = drop_next (places us) k at (places_behind (at + taken) 0 (drop (at + taken) us)) p;
+      rest = drop_next ms k m (marks mode (drop (at + taken) us)) r;
+      places = drop_next (places mode us) k at (places_behind mode (at + taken) 0 (drop (at + taken) us)) p;
       opened = s.opened ∙ ap (step k m) w.opened ∙ ap (λ z. step k z (group_states ms k)) (sym here) ∙ ap (group_states ms) next;
-      listed_are = s.listed_are ∙ ap (λ z. z ++ entry_at old.unicode_mode at k m) w.listed_are ∙ ap (λ z. named um us k ++ entry_at z at k m) w.mode ∙ ap (λ z. named um us k ++ entry_at um z k m) (sym place_is) ∙ ap (λ z. named um us k ++ entry_at um (mark_place us k) k z) (sym here) ∙ ap (named um us) next;
+      listed_are = s.listed_are ∙ ap (λ z. z ++ entry_at old.mode at k m) w.listed_are ∙ ap (λ z. named mode us k ++ entry_at z at k m) w.mode_is ∙ ap (λ z. named mode us k ++ entry_at mode z k m) (sym place_is) ∙ ap (λ z. named mode us k ++ entry_at mode (mark_place mode us k) k z) (sym here) ∙ ap (named mode us) next;
       knows = s.knows;
-      counted = (let c = w.counted in let d : count (marks (drop at us)) ≡ mark_count m + count (marks (drop (at + taken) us)) = ap count t.marks_are in omega arith);
-      named_by = ap (λ z. with_names z (names um (marks (drop (at + taken) us)))) (s.named_by ∙ ap (λ z. with_names old.names (listed (mark_name z m))) w.mode) ∙ sym (with_names_append (listed (mark_name um m)) old.names (names um (marks (drop (at + taken) us)))) ∙ ap (λ z. with_names old.names (names um z)) (sym t.marks_are) ∙ w.named_by;
+      counted = (let c = w.counted in let d : count (marks mode (drop at us)) ≡ mark_count m + count (marks mode (drop (at + taken) us)) = ap count t.marks_are in omega arith);
+      named_by = ap (λ z. with_names z (names mode (marks mode (drop (at + taken) us)))) (s.named_by ∙ ap (λ z. with_names old.names (listed (mark_name z m))) w.mode_is) ∙ sym (with_names_append (listed (mark_name mode m)) old.names (names mode (marks mode (drop (at + taken) us)))) ∙ ap (λ z. with_names old.names (names mode z)) (sym t.marks_are) ∙ w.named_by;
       clean = λ a b l c. elim (cases_lt b k) [
         | inl h ↦ w.clean a b h c
         | inr g ↦
             let q : b ≡ k = omega arith in
-            let d : Clash um ms a k = subst (Clash um ms a) q c in
-            let f = s.fresh d.name (ap (λ z. mark_name z m) w.mode ∙ ap (mark_name um) (sym here) ∙ d.second) in
-            let h = none_all um us (group_states ms k) d.name k (ap (λ z. first_clash (group_states ms k) d.name z) (sym w.listed_are) ∙ ap (λ z. first_clash z d.name (entries old)) (sym w.opened) ∙ f) in
-            clash_seen um ms a k d (h a d.in_order d.first)
+            let d : Clash mode ms a k = subst (Clash mode ms a) q c in
+            let f = s.fresh d.name (ap (λ z. mark_name z m) w.mode_is ∙ ap (mark_name mode) (sym here) ∙ d.second) in
+            let h = none_all mode us (group_states ms k) d.name k (ap (λ z. first_clash (group_states ms k) d.name z) (sym w.listed_are) ∙ ap (λ z. first_clash z d.name (entries old)) (sym w.opened) ∙ f) in
+            clash_seen mode ms a k d (h a d.in_order d.first)
       ];
     }
 
 unmoved : (s : FirstPass) (at k : ℕ) → KnowsLast (entries s) s.last_openings → Steps s s other at k
 unmoved s at k knows = record {
-  mode = refl;
+  mode_is = refl;
   counted = omega arith;
   named_by = refl;
   opened = refl;
@@ -323,55 +324,55 @@ none_of false false false true e v w x y z o h = absurd (false≢true h)
 none_of false false false false true v w x y z o h = absurd (false≢true h)
 none_of false false false false false v w x y z o h = refl
 
-plain_front : (u : ℕ) (us : List ℕ) → is_plain u ≡ true → mark_front u us ≡ (other, 0)
+plain_front : (mode : Mode) (u : ℕ) (us : List ℕ) → is_plain u ≡ true → mark_front mode u us ≡ (other, 0)
 unfolding mark_front
-plain_front u us h = none_of (u == 92) (u == 91) (u == 40) (u == 41) (u == 124) _ _ _ _ _ (other, 0) h
+plain_front mode u us h = none_of (u == 92) (u == 91) (u == 40) (u == 41) (u == 124) _ _ _ _ _ (other, 0) h
 
 -- over a unit that opens and closes nothing
-pub passed : (um : Bool) (us : List ℕ) (at k u : ℕ) (more : List ℕ) (s : FirstPass) → at < length us → drop at us ≡ u ∷ more → is_plain u ≡ true → IsAt um us at k s → IsAt um us (at + 1) (k + 1) s
+pub passed : (mode : Mode) (us : List ℕ) (at k u : ℕ) (more : List ℕ) (s : FirstPass) → at < length us → drop at us ≡ u ∷ more → is_plain u ≡ true → IsAt mode us at k s → IsAt mode us (at + 1) (k + 1) s
 unfolding front
-passed um us at k u more s lt d plain w =
-    advanced um us at k (other, 1) s s lt (omega arith) (omega arith)
-    (sym (ap front d ∙ ap (λ (q : Mark × ℕ). (q.0, q.1 + 1)) (plain_front u more plain))) (unmoved s at k w.knows) w
+passed mode us at k u more s lt d plain w =
+    advanced mode us at k (other, 1) s s lt (omega arith) (omega arith)
+    (sym (ap (front mode) d ∙ ap (λ (q : Mark × ℕ). (q.0, q.1 + 1)) (plain_front mode u more plain))) (unmoved s at k w.knows) w
 
-places_at : (us : List ℕ) (at k : ℕ) (m : Mark) → mark_place us k ≡ at → mark_at (marks us) k ≡ m → (at + 3, at + 3 + name_length m) ≡ name_places us k
-places_at us at k m pl here = ap (λ z. (z + 3, z + 3 + name_length m)) (sym pl) ∙ ap (λ z. (mark_place us k + 3, mark_place us k + 3 + name_length z)) (sym here)
+places_at : (mode : Mode) (us : List ℕ) (at k : ℕ) (m : Mark) → mark_place mode us k ≡ at → mark_at (marks mode us) k ≡ m → (at + 3, at + 3 + name_length m) ≡ name_places mode us k
+places_at mode us at k m pl here = ap (λ z. (z + 3, z + 3 + name_length m)) (sym pl) ∙ ap (λ z. (mark_place mode us k + 3, mark_place mode us k + 3 + name_length z)) (sym here)
 
-duplicated : (um : Bool) (us : List ℕ) (at k : ℕ) (m : Mark) (old : FirstPass) (f g : ℕ × ℕ) → mark_place us k ≡ at → mark_at (marks us) k ≡ m → Refuses old m at (Duplicated f g) → IsAt um us at k old → IsPassFault um us (Duplicated f g)
-duplicated um us at k m old f g pl here r w =
-    let ms = marks us in
+duplicated : (mode : Mode) (us : List ℕ) (at k : ℕ) (m : Mark) (old : FirstPass) (f g : ℕ × ℕ) → mark_place mode us k ≡ at → mark_at (marks mode us) k ≡ m → Refuses old m at (Duplicated f g) → IsAt mode us at k old → IsPassFault mode us (Duplicated f g)
+duplicated mode us at k m old f g pl here r w =
+    let ms = marks mode us in
     let n = r.0 in
     let e = r.2.0 in
-    let d = some_found um us (group_states ms k) n k e (ap (λ z. first_clash (group_states ms k) n z) (sym w.listed_are) ∙ ap (λ z. first_clash z n (entries old)) (sym w.opened) ∙ r.2.1) in
-    let name_is : name_at um us k ≡ Some n = ap (mark_name um) here ∙ ap (λ z. mark_name z m) (sym w.mode) ∙ r.1 in
-    let clash : Clash um ms e.index k = record {
+    let d = some_found mode us (group_states ms k) n k e (ap (λ z. first_clash (group_states ms k) n z) (sym w.listed_are) ∙ ap (λ z. first_clash z n (entries old)) (sym w.opened) ∙ r.2.1) in
+    let name_is : name_at mode us k ≡ Some n = ap (mark_name mode) here ∙ ap (λ z. mark_name z m) (sym w.mode_is) ∙ r.1 in
+    let clash : Clash mode ms e.index k = record {
       in_order = d.before;
       name = n;
       first = d.is;
       second = name_is;
       together = λ p. false≢true (sym d.seen_there ∙ hides_is e.index (group_states ms k) (parted_hidden ms e.index k p));
     } in
-    let first : IsFirstClash um ms e.index k = record {
+    let first : IsFirstClash mode ms e.index k = record {
       clash = clash;
       second_least = λ x y c. elim (cases_lt y k) [ inl l ↦ absurd (w.clean x y l c) | inr l ↦ l ];
       first_least = λ x c. elim (cases_lt x e.index) [
         | inl l ↦
             let q : c.name ≡ n = Some-inj (sym c.second ∙ name_is) in
-            absurd (clash_seen um ms x k c (d.first x l (c.first ∙ ap Some q)))
+            absurd (clash_seen mode ms x k c (d.first x l (c.first ∙ ap Some q)))
         | inr l ↦ l
       ];
     } in
-    (e.index, k, first, r.2.2 ∙ d.places_are, r.2.3 ∙ places_at us at k m pl here)
+    (e.index, k, first, r.2.2 ∙ d.places_are, r.2.3 ∙ places_at mode us at k m pl here)
 
-pub refused : (um : Bool) (us : List ℕ) (at k : ℕ) (x : Mark × ℕ) (old : FirstPass) (f : PassFault) → at < length us → x ≡ front (drop at us) → Refuses old x.0 at f → IsAt um us at k old → IsPassFault um us f
-refused um us at k x old OutOfMemory lt e r w = tt
-refused um us at k x old (Duplicated f g) lt e r w =
+pub refused : (mode : Mode) (us : List ℕ) (at k : ℕ) (x : Mark × ℕ) (old : FirstPass) (f : PassFault) → at < length us → x ≡ front mode (drop at us) → Refuses old x.0 at f → IsAt mode us at k old → IsPassFault mode us f
+refused mode us at k x old OutOfMemory lt e r w = tt
+refused mode us at k x old (Duplicated f g) lt e r w =
     let m = x.0 in
     let taken = x.1 in
-    let t = turn us at x lt e in
-    duplicated um us at k m old f g
-    (place_here (places us) k at (places_behind (at + taken) 0 (drop (at + taken) us)) (w.places ∙ t.places_are))
-    (mark_here (marks us) k m (marks (drop (at + taken) us)) (w.rest ∙ t.marks_are)) r w
+    let t = turn mode us at x lt e in
+    duplicated mode us at k m old f g
+    (place_here (places mode us) k at (places_behind mode (at + taken) 0 (drop (at + taken) us)) (w.places ∙ t.places_are))
+    (mark_here (marks mode us) k m (marks mode (drop (at + taken) us)) (w.rest ∙ t.marks_are)) r w
 
 nothing_at : (ms : List Mark) (k : ℕ) → drop k ms ≡ [] → (b : ℕ) → k ≤ b → mark_at ms b ≡ other
 nothing_at [] k e b l = refl
@@ -379,15 +380,15 @@ nothing_at (m ∷ ms) zero e b l = cc
 nothing_at (m ∷ ms) (suc k) e zero l = absurd (omega arith)
 nothing_at (m ∷ ms) (suc k) e (suc b) l = nothing_at ms k e b (omega arith)
 
-at_end : (um : Bool) (us : List ℕ) (at k : ℕ) (s : FirstPass) → length us ≤ at → IsAt um us at k s → drop at us ≡ []
-at_end um us at k s le w = let h = w.within in let e : at ≡ length us = omega arith in ap (λ j. drop j us) e ∙ drop-length us
+at_end : (mode : Mode) (us : List ℕ) (at k : ℕ) (s : FirstPass) → length us ≤ at → IsAt mode us at k s → drop at us ≡ []
+at_end mode us at k s le w = let h = w.within in let e : at ≡ length us = omega arith in ap (λ j. drop j us) e ∙ drop-length us
 
-pub all_clean : (um : Bool) (us : List ℕ) (at k : ℕ) (s : FirstPass) → length us ≤ at → IsAt um us at k s → (a b : ℕ) → Clash um (marks us) a b → ⊥
-all_clean um us at k s le w a b c = elim (cases_lt b k) [
+pub all_clean : (mode : Mode) (us : List ℕ) (at k : ℕ) (s : FirstPass) → length us ≤ at → IsAt mode us at k s → (a b : ℕ) → Clash mode (marks mode us) a b → ⊥
+all_clean mode us at k s le w a b c = elim (cases_lt b k) [
   | inl l ↦ w.clean a b l c
   | inr l ↦
-      let d : drop k (marks us) ≡ [] = w.rest ∙ ap marks (at_end um us at k s le w) in
-      let m = nothing_at (marks us) k d b l in let q : None ≡ Some c.name = sym (ap (mark_name um) m) ∙ c.second in cc
+      let d : drop k (marks mode us) ≡ [] = w.rest ∙ ap (marks mode) (at_end mode us at k s le w) in
+      let m = nothing_at (marks mode us) k d b l in let q : None ≡ Some c.name = sym (ap (mark_name mode) m) ∙ c.second in cc
 ]
 
 last_or_none : (x y : Option Entry) → last_or x y ≡ None → (x ≡ None) × (y ≡ None)
@@ -419,10 +420,10 @@ last_either : (x y : Option Entry) (e : Entry) → last_or x y ≡ Some e → (x
 last_either None y e h = inr (refl, h)
 last_either (Some x) y e h = inl h
 
-record Last (um : Bool) (us : List ℕ) (n : List ℕ) (k : ℕ) (e : Entry) : Type 0 where
+record Last (mode : Mode) (us : List ℕ) (n : List ℕ) (k : ℕ) (e : Entry) : Type 0 where
   before : e.index < k
-  is : name_at um us e.index ≡ Some n
-  last : (a : ℕ) → a < k → name_at um us a ≡ Some n → a ≤ e.index
+  is : name_at mode us e.index ≡ Some n
+  last : (a : ℕ) → a < k → name_at mode us a ≡ Some n → a ≤ e.index
 
 entry_last : (n : List ℕ) (k from to : ℕ) (o : Option (List ℕ)) (e : Entry) → last_named n (entry_for k from to o) ≡ Some e → (e.index ≡ k) × (o ≡ Some n)
 entry_last n k from to None e h = cc
@@ -438,30 +439,30 @@ entry_not n k from to o h e =
     let x : Entry = record { index = k; name = n; from = from; to = to } in
     let g : last_named n (entry_for k from to o) ≡ Some x = ap (λ z. last_named n (entry_for k from to z)) e ∙ ap (λ b. cond b (Some x) None) (same_self n) in cc
 
-last_found : (um : Bool) (us : List ℕ) (n : List ℕ) (k : ℕ) (e : Entry) → last_named n (named um us k) ≡ Some e → Last um us n k e
-last_found um us n zero e h = cc
-last_found um us n (suc k) e h =
-    let o = name_at um us k in
-    let new = entry_for k (start_of us k) (end_of us k) o in
-    elim (last_either (last_named n new) (last_named n (named um us k)) e (sym (last_append n (named um us k) new) ∙ h)) [
-      | inl i ↦ let g = entry_last n k (start_of us k) (end_of us k) o e i in let q = g.0 in
-          record { before = omega arith; is = ap (name_at um us) q ∙ g.1; last = λ a l m. omega arith }
-      | inr i ↦ let g = last_found um us n k e i.1 in let b = g.before in
+last_found : (mode : Mode) (us : List ℕ) (n : List ℕ) (k : ℕ) (e : Entry) → last_named n (named mode us k) ≡ Some e → Last mode us n k e
+last_found mode us n zero e h = cc
+last_found mode us n (suc k) e h =
+    let o = name_at mode us k in
+    let new = entry_for k (start_of mode us k) (end_of mode us k) o in
+    elim (last_either (last_named n new) (last_named n (named mode us k)) e (sym (last_append n (named mode us k) new) ∙ h)) [
+      | inl i ↦ let g = entry_last n k (start_of mode us k) (end_of mode us k) o e i in let q = g.0 in
+          record { before = omega arith; is = ap (name_at mode us) q ∙ g.1; last = λ a l m. omega arith }
+      | inr i ↦ let g = last_found mode us n k e i.1 in let b = g.before in
           record {
             before = omega arith;
             is = g.is;
             last = λ a l m. elim (cases_lt a k) [
               | inl lt ↦ g.last a lt m
-              | inr ge ↦ let q : a ≡ k = omega arith in absurd (entry_not n k (start_of us k) (end_of us k) o i.0 (sym (ap (name_at um us) q) ∙ m))
+              | inr ge ↦ let q : a ≡ k = omega arith in absurd (entry_not n k (start_of mode us k) (end_of mode us k) o i.0 (sym (ap (name_at mode us) q) ∙ m))
             ];
           }
     ]
 
-tells_case : (um : Bool) (us : List ℕ) (n : List ℕ) (k : ℕ) (e : Entry) → ((a b : ℕ) → b < k → Clash um (marks us) a b → ⊥) → Last um us n k e → hides e.index (group_states (marks us) k) ≡ true → (o : Option Entry) → first_clash (group_states (marks us) k) n (named um us k) ≡ o → o ≡ None
-tells_case um us n k e clean l h None s = refl
-tells_case um us n k e clean l h (Some x) s =
-    let ms = marks us in
-    let f = some_found um us (group_states ms k) n k x s in
+tells_case : (mode : Mode) (us : List ℕ) (n : List ℕ) (k : ℕ) (e : Entry) → ((a b : ℕ) → b < k → Clash mode (marks mode us) a b → ⊥) → Last mode us n k e → hides e.index (group_states (marks mode us) k) ≡ true → (o : Option Entry) → first_clash (group_states (marks mode us) k) n (named mode us k) ≡ o → o ≡ None
+tells_case mode us n k e clean l h None s = refl
+tells_case mode us n k e clean l h (Some x) s =
+    let ms = marks mode us in
+    let f = some_found mode us (group_states ms k) n k x s in
     let le = l.last x.index f.before f.is in
     absurd (elim (cases_lt x.index e.index) [
       | inl lt ↦ clean x.index e.index l.before (record {
@@ -474,14 +475,14 @@ tells_case um us n k e clean l h (Some x) s =
       | inr ge ↦ let q : x.index ≡ e.index = omega arith in false≢true (sym f.seen_there ∙ ap (λ j. hides j (group_states ms k)) q ∙ h)
     ])
 
-pub tells : (um : Bool) (us : List ℕ) (at k : ℕ) (s : FirstPass) → IsAt um us at k s → (n : List ℕ) → LastTells (group_states_of s.groups) n (entries s)
-tells um us at k s w n e h y =
-    let fs = group_states (marks us) k in
-    let l = last_found um us n k e (ap (last_named n) (sym w.listed_are) ∙ h) in
-    ap (λ z. first_clash z n (entries s)) w.opened ∙ ap (first_clash fs n) w.listed_are ∙ tells_case um us n k e w.clean l (ap (hides e.index) (sym w.opened) ∙ y) (first_clash fs n (named um us k)) refl
+pub tells : (mode : Mode) (us : List ℕ) (at k : ℕ) (s : FirstPass) → IsAt mode us at k s → (n : List ℕ) → LastTells (group_states_of s.groups) n (entries s)
+tells mode us at k s w n e h y =
+    let fs = group_states (marks mode us) k in
+    let l = last_found mode us n k e (ap (last_named n) (sym w.listed_are) ∙ h) in
+    ap (λ z. first_clash z n (entries s)) w.opened ∙ ap (first_clash fs n) w.listed_are ∙ tells_case mode us n k e w.clean l (ap (hides e.index) (sym w.opened) ∙ y) (first_clash fs n (named mode us k)) refl
 
-pub nests_at : (um : Bool) (us : List ℕ) (at k : ℕ) (s : FirstPass) → IsAt um us at k s → Nests (group_states_of s.groups)
-nests_at um us at k s w = subst Nests (sym w.opened) (nests (marks us) k)
+pub nests_at : (mode : Mode) (us : List ℕ) (at k : ℕ) (s : FirstPass) → IsAt mode us at k s → Nests (group_states_of s.groups)
+nests_at mode us at k s w = subst Nests (sym w.opened) (nests (marks mode us) k)
 
 no_index : (o : Option Entry) → None ≡ option_map (λ (e : Entry). e.index) o → o ≡ None
 no_index None h = refl

@@ -3,6 +3,7 @@ use Rattle.std.specs.Prelude.{◌≡◌, ℕ, zero, suc, ◌+◌, Bool, true, eq
 use lib.Pointwise.{pointwise}
 use Rattle.std.specs.BTreeMap.{get_by_text}
 use Rattle.std.specs.Str.{IsUtf8, chars}
+use Rattle.rx_model.specs.declared.mode.Mode.{Mode}
 use Rattle.rx_model.specs.FirstPass.GroupStates.{GroupState, step}
 use Rattle.rx_model.specs.FirstPass.Marks.{IsFirstClash, Mark, listed, mark_at, mark_count, mark_name, mark_place, marks, name_length, name_places}
 use Rattle.rx_model.specs.Trees.Names.{is_among}
@@ -26,13 +27,13 @@ entry_for k from to None = []
 entry_for k from to (Some name) = record { index = k; name = name; from = from; to = to } ∷ []
 
 -- of the mark with index k, which begins at a place
-abbrev pub entry_at : Bool → ℕ → ℕ → Mark → List Entry
-entry_at unicode_mode at k m = entry_for k (at + 3) (at + 3 + name_length m) (mark_name unicode_mode m)
+abbrev pub entry_at : Mode → ℕ → ℕ → Mark → List Entry
+entry_at mode at k m = entry_for k (at + 3) (at + 3 + name_length m) (mark_name mode m)
 
 -- those of the first k marks
-abbrev pub named : Bool → List ℕ → ℕ → List Entry
-named unicode_mode us zero = []
-named unicode_mode us (suc k) = named unicode_mode us k ++ entry_at unicode_mode (mark_place us k) k (mark_at (marks us) k)
+abbrev pub named : Mode → List ℕ → ℕ → List Entry
+named mode us zero = []
+named mode us (suc k) = named mode us k ++ entry_at mode (mark_place mode us k) k (mark_at (marks mode us) k)
 
 -- whether two names are equal
 abbrev pub same_name : List ℕ → List ℕ → Bool
@@ -84,8 +85,8 @@ with_names names [] = names
 with_names names (name ∷ more) = with_names (with_name names name) more
 
 -- before the first mark
-pub record IsStart (unicode_mode : Bool) (pass : FirstPass) : Type 0 where
-  pub mode : pass.unicode_mode ≡ unicode_mode
+pub record IsStart (mode : Mode) (pass : FirstPass) : Type 0 where
+  pub mode_is : pass.mode ≡ mode
   pub counted : pass.count ≡ 0
   pub named_by : pass.names ≡ []
   pub opened : group_states_of pass.groups ≡ (0, 0) ∷ []
@@ -94,7 +95,7 @@ pub record IsStart (unicode_mode : Bool) (pass : FirstPass) : Type 0 where
 
 -- A capturing group opens at index k, with or without a name.
 pub record Captures (old new : FirstPass) (name : Option (List ℕ)) (from to k : ℕ) : Type 0 where
-  pub mode : new.unicode_mode ≡ old.unicode_mode
+  pub mode_is : new.mode ≡ old.mode
   pub counted : new.count ≡ old.count + 1
   pub named_by : new.names ≡ with_names old.names (listed name)
   pub opened : group_states_of new.groups ≡ (suc k, suc k) ∷ group_states_of old.groups
@@ -104,13 +105,13 @@ pub record Captures (old new : FirstPass) (name : Option (List ℕ)) (from to k 
 
 -- The mark with index k, which begins at a place, leads from old to new.
 pub record Steps (old new : FirstPass) (m : Mark) (at k : ℕ) : Type 0 where
-  pub mode : new.unicode_mode ≡ old.unicode_mode
+  pub mode_is : new.mode ≡ old.mode
   pub counted : new.count ≡ old.count + mark_count m
-  pub named_by : new.names ≡ with_names old.names (listed (mark_name old.unicode_mode m))
+  pub named_by : new.names ≡ with_names old.names (listed (mark_name old.mode m))
   pub opened : group_states_of new.groups ≡ step k m (group_states_of old.groups)
-  pub listed_are : entries new ≡ entries old ++ entry_at old.unicode_mode at k m
+  pub listed_are : entries new ≡ entries old ++ entry_at old.mode at k m
   pub knows : KnowsLast (entries new) new.last_openings
-  pub fresh : (n : List ℕ) → mark_name old.unicode_mode m ≡ Some n → first_clash (group_states_of old.groups) n (entries old) ≡ None
+  pub fresh : (n : List ℕ) → mark_name old.mode m ≡ Some n → first_clash (group_states_of old.groups) n (entries old) ≡ None
 
 -- An opening with this name between these places clashes with an earlier one.
 abbrev pub ClashesWith : FirstPass → List ℕ → ℕ → ℕ → PassFault → Type 0
@@ -122,11 +123,11 @@ ClashesWith old name from to (Duplicated first second) =
 abbrev pub Refuses : FirstPass → Mark → ℕ → PassFault → Type 0
 Refuses old m at OutOfMemory = Unit {0}
 Refuses old m at (Duplicated first second) =
-    (name : List ℕ) × (mark_name old.unicode_mode m ≡ Some name)
+    (name : List ℕ) × (mark_name old.mode m ≡ Some name)
     × ClashesWith old name (at + 3) (at + 3 + name_length m) (Duplicated first second)
 
 -- The fault names the first clash.
-abbrev pub IsPassFault : Bool → List ℕ → PassFault → Type 0
-IsPassFault unicode_mode us OutOfMemory = Unit {0}
-IsPassFault unicode_mode us (Duplicated first second) =
-    (a : ℕ) × (b : ℕ) × IsFirstClash unicode_mode (marks us) a b × (first ≡ name_places us a) × (second ≡ name_places us b)
+abbrev pub IsPassFault : Mode → List ℕ → PassFault → Type 0
+IsPassFault mode us OutOfMemory = Unit {0}
+IsPassFault mode us (Duplicated first second) =
+    (a : ℕ) × (b : ℕ) × IsFirstClash mode (marks mode us) a b × (first ≡ name_places mode us a) × (second ≡ name_places mode us b)

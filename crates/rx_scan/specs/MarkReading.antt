@@ -3,6 +3,7 @@ use Rattle.std.specs.Prelude.{ℕ, ◌+◌, ◌==◌, ◌||◌, Bool, not, Optio
 use Rattle.std.specs.Borrow.{Bor}
 use Rattle.rx_units.specs.declared.code_point.CodePoint.{CodePoint}
 use Rattle.rx_units.specs.Units.{values}
+use Rattle.rx_model.specs.declared.mode.Mode.{Mode}
 use Rattle.rx_model.specs.FirstPass.Marks as model
 use Rattle.rx_model.specs.FirstPass.Marks.{before_close, has_close, mark_front}
 use Rattle.rx_scan.specs.declared.mark.Mark.{Mark}
@@ -30,9 +31,9 @@ abbrev pub seen_front : Mark × ℕ → model.Mark × ℕ
 seen_front front = (seen_mark front.0, front.1)
 
 -- the mark with which the units begin, and how many of them it takes
-unfoldable pub front : List ℕ → model.Mark × ℕ
-front [] = (model.other, 0)
-front (u ∷ us) = ((mark_front u us).0, (mark_front u us).1 + 1)
+unfoldable pub front : Mode → List ℕ → model.Mark × ℕ
+front mode [] = (model.other, 0)
+front mode (u ∷ us) = ((mark_front mode u us).0, (mark_front mode u us).1 + 1)
 
 -- whether a unit is a mark of its own that opens and closes nothing: it begins no escape, class, opening, closer or bar
 abbrev pub is_plain : ℕ → Bool

@@ -1,5 +1,6 @@
 -- How far the first pass has come.
-use Rattle.std.specs.Prelude.{◌≡◌, ℕ, ◌+◌, ◌<◌, ◌≤◌, Bool, List, length, drop}
+use Rattle.std.specs.Prelude.{◌≡◌, ℕ, ◌+◌, ◌<◌, ◌≤◌, List, length, drop}
+use Rattle.rx_model.specs.declared.mode.Mode.{Mode}
 use Rattle.rx_model.specs.FirstPass.GroupStates.{group_states}
 use Rattle.rx_model.specs.FirstPass.Marks.{Clash, count, marks, names, places, places_behind, seen}
 use Rattle.rx_scan.specs.OpenGroups.{group_states_of}
@@ -7,16 +8,16 @@ use Rattle.rx_scan.specs.FirstPass.{KnowsLast, entries, named, with_names}
 use Rattle.rx_scan.specs.declared.first_pass.FirstPass.{FirstPass}
 
 -- After the first k marks, of which the last ends at a place, what has been found and what is left make what is to be found.
-pub record IsAt (unicode_mode : Bool) (us : List ℕ) (at : ℕ) (k : ℕ) (pass : FirstPass) : Type 0 where
-  pub mode : pass.unicode_mode ≡ unicode_mode
+pub record IsAt (mode : Mode) (us : List ℕ) (at : ℕ) (k : ℕ) (pass : FirstPass) : Type 0 where
+  pub mode_is : pass.mode ≡ mode
   pub within : at ≤ length us
   pub few : k ≤ at
   pub fewer : pass.count ≤ k
-  pub rest : drop k (marks us) ≡ marks (drop at us)
-  pub places : drop k (places us) ≡ places_behind at 0 (drop at us)
-  pub opened : group_states_of pass.groups ≡ group_states (marks us) k
-  pub listed_are : entries pass ≡ named unicode_mode us k
+  pub rest : drop k (marks mode us) ≡ marks mode (drop at us)
+  pub places : drop k (places mode us) ≡ places_behind mode at 0 (drop at us)
+  pub opened : group_states_of pass.groups ≡ group_states (marks mode us) k
+  pub listed_are : entries pass ≡ named mode us k
   pub knows : KnowsLast (entries pass) pass.last_openings
-  pub counted : pass.count + count (marks (drop at us)) ≡ count (marks us)
-  pub named_by : with_names pass.names (names unicode_mode (marks (drop at us))) ≡ seen unicode_mode (marks us)
-  pub clean : (a b : ℕ) → b < k → Clash unicode_mode (marks us) a b → ⊥
+  pub counted : pass.count + count (marks mode (drop at us)) ≡ count (marks mode us)
+  pub named_by : with_names pass.names (names mode (marks mode (drop at us))) ≡ seen mode (marks mode us)
+  pub clean : (a b : ℕ) → b < k → Clash mode (marks mode us) a b → ⊥

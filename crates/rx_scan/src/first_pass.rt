@@ -2,7 +2,8 @@ ghost use Rattle.std.specs.Prelude.{◌≡◌, ◌+◌, ◌<◌, ◌≤◌, ◌^
 ghost use Rattle.std.specs.Str.{chars};
 ghost use Rattle.rx_units.specs.Units.{values};
 ghost use Rattle.rx_model.specs.FirstPass.GroupStates.{Nests};
-ghost use Rattle.rx_model.specs.FirstPass.Marks.{Clash, count, marks, name_length, seen};
+ghost use Rattle.rx_model.specs.FirstPass.Marks.{name_length};
+ghost use Rattle.rx_model.specs.Refusals.Reached.{HasNoClash, text_groups, text_names};
 ghost use Rattle.rx_scan.specs.MarkReading.{seen_mark, seen_capturing};
 ghost use Rattle.rx_scan.specs.OpenGroups.{group_states_of};
 ghost use Rattle.rx_scan.specs.FirstPass.{Captures, ClashesWith, IsPassFault, IsStart, KnowsLast, LastTells, Refuses, Steps, entries, entry_of, first_clash, same_name, span_of, with_name};
@@ -12,6 +13,7 @@ use crate::mark::{Mark, is_plain, read_mark};
 use crate::open_groups::OpenGroups;
 use crate::{Names, capturing_group_name};
 use rx_base::{List, OutOfMemory, Text};
+use rx_model::Mode;
 use rx_units::CodePoint;
 use std::alloc::Global;
 
@@ -49,7 +51,7 @@ impl From<OutOfMemory> for PassFault {
 /// What a first pass has found so far.
 #[derive(Debug, Drop)]
 pub struct FirstPass {
-    pub unicode_mode: bool,
+    pub mode: Mode,
     /// How many groups capture.
     pub count: usize,
     pub names: Names,
@@ -68,17 +70,15 @@ fn tail(units: &[CodePoint], place: usize) -> &[CodePoint]
 impl FirstPass {
     /// Counts the groups of a text and lists their names (CountLeftCapturingParensWithin of ECMA-262, 22.2.1.2), or finds the first
     /// two equal names of which no bar parts the one from the other (22.2.1.1).
-    pub fn over(
-        alloc: Global,
-        units: &[CodePoint],
-        unicode_mode: bool,
-    ) -> Result<FirstPass, PassFault>
-        ensures count { IfOk result (λ pass. pass.count ≡ count (marks (values units.now))) }
-        ensures names { IfOk result (λ pass. pass.names ≡ seen unicode_mode (marks (values units.now))) }
-        ensures clean { IfOk result (λ pass. (a b : ℕ) → Clash unicode_mode (marks (values units.now)) a b → ⊥) }
-        ensures fault { IfErr result (IsPassFault unicode_mode (values units.now)) }
+    #[tactic(auto, unfolding(rx_model::specs::Refusals::Reached::text_groups, rx_model::specs::Refusals::Reached::text_names))]
+    pub fn over(alloc: Global, units: &[CodePoint], mode: Mode) -> Result<FirstPass, PassFault>
+        ensures mode { IfOk result (λ pass. pass.mode ≡ mode) }
+        ensures count { IfOk result (λ pass. pass.count ≡ text_groups mode units.now) }
+        ensures names { IfOk result (λ pass. pass.names ≡ text_names mode units.now) }
+        ensures clean { IfOk result (λ pass. HasNoClash mode units.now) }
+        ensures fault { IfErr result (IsPassFault mode (values units.now)) }
     {
-        let mut pass = FirstPass::new(alloc, unicode_mode);
+        let mut pass = FirstPass::new(alloc, mode);
         let mut place = 0usize;
         let mut index = 0usize;
         while place < units.len() {
@@ -87,7 +87,7 @@ impl FirstPass {
                 index += 1;
                 continue;
             }
-            let (mark, taken) = read_mark(tail(units, place));
+            let (mark, taken) = read_mark(tail(units, place), mode);
             match pass.step(alloc, mark, place, index) {
                 Ok(()) => {}
                 Err(fault) => return Err(fault),
@@ -98,11 +98,11 @@ impl FirstPass {
         Ok(pass)
     }
 
-    fn new(alloc: Global, unicode_mode: bool) -> FirstPass
-        ensures { IsStart unicode_mode result }
+    fn new(alloc: Global, mode: Mode) -> FirstPass
+        ensures { IsStart mode result }
     {
         FirstPass {
-            unicode_mode,
+            mode,
             count: 0,
             names: Names::new(alloc),
             openings: List::new(alloc),
@@ -160,7 +160,7 @@ impl FirstPass {
         };
         let start = place + 3;
         let end = start + units.len();
-        match capturing_group_name(alloc, units, self.unicode_mode)? {
+        match capturing_group_name(alloc, units, self.mode.is_unicode())? {
             None => self.capture_unnamed(index),
             Some(name) => {
                 let opening = Opening {

@@ -1,8 +1,10 @@
 ghost use Rattle.std.specs.Prelude.{◌≡◌, ◌≤◌, ◌<◌, ◌+◌, length, false, option_map, IfSome};
 ghost use Rattle.rx_units.specs.Units.{values};
+ghost use Rattle.rx_model.specs.Inputs.Environment.{is_sets};
 ghost use Rattle.rx_model.specs.FirstPass.Marks.{behind_angle, class_rest, escape_rest, mark_front, name_length, open_front, question_front, specifier_front, starts};
 ghost use Rattle.rx_scan.specs.MarkReading.{closed_part, front, is_plain, seen_front, seen_mark};
 
+use rx_model::Mode;
 use rx_units::CodePoint;
 
 /// What counting groups sees of a text (CountLeftCapturingParensWithin of ECMA-262, 22.2.1.2).
@@ -20,16 +22,16 @@ pub enum Mark<'a> {
 
 /// The mark with which the units begin, and how many of them it takes.
 #[tactic(auto, unfolding(crate::specs::MarkReading::front))]
-pub fn read_mark(units: &[CodePoint]) -> (Mark<'_>, usize)
+pub fn read_mark(units: &[CodePoint], mode: Mode) -> (Mark<'_>, usize)
     requires { 0 < length units.now }
-    ensures value { seen_front result ≡ front (values units.now) }
+    ensures value { seen_front result ≡ front mode (values units.now) }
     ensures within { result.1 ≤ length units.now }
     ensures moves { 0 < result.1 }
     ensures name { name_length (seen_mark result.0) ≤ result.1 }
 {
     match units {
         [unit, rest @ ..] => {
-            let (mark, count) = behind(unit.value, rest);
+            let (mark, count) = behind(unit.value, rest, mode);
             (mark, count + 1)
         }
         _ => (Mark::Other, 0),
@@ -49,15 +51,15 @@ pub fn is_plain(unit: u32) -> bool
 
 /// The mark that begins with a unit, and how many of the units behind it are the mark's.
 #[tactic(auto, unfolding(rx_model::specs::FirstPass::Marks::mark_front))]
-fn behind(unit: u32, units: &[CodePoint]) -> (Mark<'_>, usize)
-    ensures value { seen_front result ≡ mark_front unit (values units.now) }
+fn behind(unit: u32, units: &[CodePoint], mode: Mode) -> (Mark<'_>, usize)
+    ensures value { seen_front result ≡ mark_front mode unit (values units.now) }
     ensures within { result.1 ≤ length units.now }
     ensures name { name_length (seen_mark result.0) ≤ result.1 }
 {
     if unit == '\\' as u32 {
         (Mark::Other, escape_rest(units))
     } else if unit == '[' as u32 {
-        (Mark::Other, class_rest(units))
+        (Mark::Other, class_rest(units, mode))
     } else if unit == '(' as u32 {
         behind_parenthesis(units)
     } else if unit == ')' as u32 {
@@ -80,8 +82,19 @@ fn escape_rest(units: &[CodePoint]) -> usize
 }
 
 /// How many units a class has behind its `[`.
-fn class_rest(units: &[CodePoint]) -> usize
-    ensures value { result ≡ class_rest false (values units.now) }
+fn class_rest(units: &[CodePoint], mode: Mode) -> usize
+    ensures value { result ≡ class_rest mode false 0 (values units.now) }
+    ensures within { result ≤ length units.now }
+{
+    match mode {
+        Mode::Legacy | Mode::Unicode => flat_class_rest(units),
+        Mode::Sets => nested_class_rest(units),
+    }
+}
+
+/// The same without `v`: a class has no class in it.
+fn flat_class_rest(units: &[CodePoint]) -> usize
+    ensures value { (mode : Mode) → is_sets mode ≡ false → result ≡ class_rest mode false 0 (values units.now) }
     ensures within { result ≤ length units.now }
 {
     let mut escaped = false;
@@ -92,6 +105,30 @@ fn class_rest(units: &[CodePoint]) -> usize
             return place + 1;
         } else {
             escaped = unit.value == '\\' as u32;
+        }
+    }
+    units.len()
+}
+
+/// The same with `v`: classes may be open in it.
+fn nested_class_rest(units: &[CodePoint]) -> usize
+    ensures value { result ≡ class_rest Mode.Sets false 0 (values units.now) }
+    ensures within { result ≤ length units.now }
+{
+    let mut escaped = false;
+    let mut open = 0usize;
+    for (place, unit) in units.iter().enumerate() {
+        if escaped {
+            escaped = false;
+        } else if unit.value == '\\' as u32 {
+            escaped = true;
+        } else if unit.value == '[' as u32 {
+            open += 1;
+        } else if unit.value == ']' as u32 {
+            if open == 0 {
+                return place + 1;
+            }
+            open -= 1;
         }
     }
     units.len()

@@ -1,11 +1,12 @@
-ghost use Rattle.std.specs.Prelude.{◌≡◌, ◌-◌, ◌^◌, ◌||◌, [], ℕ, false, true, min, IfErr, OnErr, OnOk};
-ghost use Rattle.rx_units.specs.Units.{offset_at, values};
-ghost use Rattle.rx_model.specs.Inputs.Environment.{has_some};
-ghost use Rattle.rx_model.specs.FirstPass.Marks.{Clash, count, marks, seen};
-ghost use Rattle.rx_scan.specs.StateFaults.{IsStateFault};
+ghost use Rattle.std.specs.Prelude.{◌≡◌, ◌-◌, ◌^◌, ◌||◌, [], false, min, IfErr, OnErr, OnOk};
+ghost use Rattle.rx_units.specs.Units.{offset_at};
+ghost use Rattle.rx_model.specs.Inputs.Environment.{has_some, is_unicode};
+ghost use Rattle.rx_model.specs.Refusals.Reached.{HasNoClash, text_environment, text_groups, text_names};
+ghost use Rattle.rx_scan.specs.StateFaults.{IsStateFault, mode_of_state};
 
 use crate::Names;
 use crate::first_pass::{FirstPass, PassFault};
+use rx_model::Mode;
 use rx_units::{CodePoint, Reader};
 use std::alloc::Global;
 
@@ -62,22 +63,21 @@ impl State {
     /// leaves the state as it was.
     pub fn initialize_with_parsing(&mut self, reader: &mut Reader<'_>) -> Result<(), StateFault>
         requires start { reader.old.place ≡ 0 }
-        requires modes { self.old.unicode_sets_mode ≡ true → self.old.unicode_mode ≡ true }
-        requires no_sets { self.old.unicode_sets_mode ≡ false }
         ensures reader { reader.new ≡ reader.old }
         ensures unicode_mode { self.new.unicode_mode ≡ self.old.unicode_mode }
         ensures unicode_sets_mode { self.new.unicode_sets_mode ≡ self.old.unicode_sets_mode }
-        ensures groups { OnOk result (self.new.num_of_capturing_groups ≡ min (count (marks (values reader.old.units))) (2 ^ 32 - 1)) }
-        ensures names { OnOk result (self.new.capturing_group_names ≡ seen self.old.unicode_mode (marks (values reader.old.units))) }
-        ensures named { OnOk result (self.new.named_capture_groups ≡ (self.old.unicode_mode || has_some (seen self.old.unicode_mode (marks (values reader.old.units))))) }
-        ensures apart { OnOk result ((a b : ℕ) → Clash self.old.unicode_mode (marks (values reader.old.units)) a b → ⊥) }
-        ensures refused { IfErr result (IsStateFault self.old.unicode_mode reader.old) }
+        ensures groups { OnOk result (self.new.num_of_capturing_groups ≡ min (text_groups (mode_of_state self.old) reader.old.units) (2 ^ 32 - 1)) }
+        ensures names { OnOk result (self.new.capturing_group_names ≡ text_names (mode_of_state self.old) reader.old.units) }
+        ensures named { OnOk result (self.new.named_capture_groups ≡ (text_environment (mode_of_state self.old) reader.old.units).named) }
+        ensures apart { OnOk result (HasNoClash (mode_of_state self.old) reader.old.units) }
+        ensures refused { IfErr result (IsStateFault (mode_of_state self.old) reader.old) }
         ensures unchanged { OnErr result (self.new ≡ self.old) }
     {
         let alloc = self.capturing_group_names.allocator();
         let units = reader.remaining_code_points();
         let start = reader.offset();
-        match FirstPass::over(alloc, units, self.unicode_mode) {
+        let mode = Mode::of(self.unicode_mode, self.unicode_sets_mode);
+        match FirstPass::over(alloc, units, mode) {
             Ok(pass) => {
                 self.keep(pass);
                 Ok(())
@@ -96,9 +96,9 @@ impl State {
         ensures unicode_sets_mode { self.new.unicode_sets_mode ≡ self.old.unicode_sets_mode }
         ensures groups { self.new.num_of_capturing_groups ≡ min pass.count (2 ^ 32 - 1) }
         ensures names { self.new.capturing_group_names ≡ pass.names }
-        ensures named { self.new.named_capture_groups ≡ (self.old.unicode_mode || has_some pass.names) }
+        ensures named { self.new.named_capture_groups ≡ (is_unicode pass.mode || has_some pass.names) }
     {
-        self.named_capture_groups = self.unicode_mode || !pass.names.is_empty();
+        self.named_capture_groups = pass.mode.is_unicode() || !pass.names.is_empty();
         self.num_of_capturing_groups = u32::try_from(pass.count).unwrap_or(u32::MAX);
         self.capturing_group_names = pass.names;
     }

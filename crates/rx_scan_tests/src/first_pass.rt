@@ -5,22 +5,32 @@ use rx_units::Reader;
 use std::alloc::Global;
 use std::test::Fail;
 
-/// What the first pass makes of a text, with or without `u`.
+/// What the first pass makes of a text, with `v`, with `u`, or with neither.
 #[derive(Clone, Copy)]
 struct FirstPassCall {
     unicode_mode: bool,
+    unicode_sets_mode: bool,
 }
 
-const WITH_U: FirstPassCall = FirstPassCall { unicode_mode: true };
+const WITH_V: FirstPassCall = FirstPassCall {
+    unicode_mode: true,
+    unicode_sets_mode: true,
+};
+
+const WITH_U: FirstPassCall = FirstPassCall {
+    unicode_mode: true,
+    unicode_sets_mode: false,
+};
 
 const WITHOUT_U: FirstPassCall = FirstPassCall {
     unicode_mode: false,
+    unicode_sets_mode: false,
 };
 
 impl Call for FirstPassCall {
     fn answer(&self, alloc: Global, asked: &str) -> Result<String, Fail> {
         let mut reader = Reader::initialize(alloc, short(asked)?, self.unicode_mode, false)?;
-        let mut state = State::new(alloc, self.unicode_mode, false);
+        let mut state = State::new(alloc, self.unicode_mode, self.unicode_sets_mode);
         match state.initialize_with_parsing(&mut reader) {
             Ok(()) => counted(alloc, &state),
             Err(StateFault::Duplicated { first, second }) => Ok(format!(in alloc;
@@ -69,6 +79,34 @@ fn counts_groups(rt: HostRuntime) -> Result<(), Fail> {
 #[test]
 fn lists_names_once(rt: HostRuntime) -> Result<(), Fail> {
     let rows = "(?<b>)(?<1>)(?:(?<a>)|(?<b\\u0061>)|(?<a>)|(?<\\u{61}>)) => 6 true b a ba";
+    agree(rt.alloc(), &WITH_U, rows)
+}
+
+#[test]
+fn nests_classes(rt: HostRuntime) -> Result<(), Fail> {
+    let rows = "[(] => 0 true
+[[(]]( => 1 true
+[[(]( => 0 true
+[\\[(](a) => 1 true
+[[( => 0 true
+[[\\ => 0 true
+[[\\]( => 0 true
+[]]( => 1 true
+[^[^(]]( => 1 true
+[[]\\](]() => 1 true
+[a[b]c](?<n>x) => 1 true n
+[a[b](?<n>x) => 0 true
+[(&&[(]--[)]](?<b>.) => 1 true b
+[[[]]](?<a>)|(?<a>) => 2 true a
+(?<a>)[[]|(?<a>) => 1 true a
+(?<a>)[[|]|](?<a>) => 3..4 15..16
+(?<a>)[[|]]|(?<a>) => 2 true a";
+    agree(rt.alloc(), &WITH_V, rows)?;
+    let rows = "[[(]]( => 1 true
+[[(]( => 1 true
+[a[b](?<n>x) => 1 true n
+(?<a>)[[]|(?<a>) => 2 true a
+(?<a>)[[|]|](?<a>) => 2 true a";
     agree(rt.alloc(), &WITH_U, rows)
 }
 

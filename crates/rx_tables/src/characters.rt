@@ -5,23 +5,11 @@ ghost use Rattle.rx_tables.specs.Characters as set;
 pub fn is_syntax_character(cp: u32) -> bool
     ensures { result ≡ set.is_syntax_character cp }
 {
-    cp < 128
-        && matches!(
-            cp as u8,
-            b'^' | b'$'
-                | b'\\'
-                | b'.'
-                | b'*'
-                | b'+'
-                | b'?'
-                | b'('
-                | b')'
-                | b'['
-                | b']'
-                | b'{'
-                | b'}'
-                | b'|'
-        )
+    if cp < 64 {
+        matches!(cp as u8, b'$' | b'('..=b'+' | b'.' | b'?')
+    } else {
+        cp < 128 && matches!(cp as u8, b'['..=b'^' | b'{'..=b'}')
+    }
 }
 
 /// Whether a value is one of `( ) [ ] { } / - \ |`.

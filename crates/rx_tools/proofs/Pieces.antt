@@ -37,6 +37,11 @@ utf8-cons c cs = refl
 pub utf8-one : (c : ℕ) → utf8 (c ∷ []) ≡ encode_utf8 c
 utf8-one c = utf8-cons c [] ∙ ap (λ bytes. encode_utf8 c ++ bytes) utf8-nil ∙ append-nil (encode_utf8 c)
 
+-- one character is written
+pub one_character : {K T E : Type 0} {taken : K → Option (List ℕ)} {fixed : K → List ℕ} {faults : K → ℕ} {old new : K} {result : Result T E} (c : ℕ) →
+    Written taken fixed faults old new result (encode_utf8 c) → Written taken fixed faults old new result (utf8 (c ∷ []))
+one_character c written = rw (utf8-one c) written
+
 -- the pieces from an index on
 pub pieces_next : (ps : List (Bor (List ℕ))) (i : ℕ) (d : Bor (List ℕ)) → i < length ps →
     utf8 (flat_map (λ p. chars p.now) (drop i ps)) ≡ utf8 (chars (get_or ps i d).now) ++ utf8 (flat_map (λ p. chars p.now) (drop (i + 1) ps))

@@ -2,7 +2,6 @@ pub mod Characters
 pub mod ClassTasks
 pub mod Goes
 pub mod Leaves
-pub mod NotYet
 pub mod Spelled
 pub mod Tasks
 pub mod Texts

@@ -217,26 +217,31 @@ fn write_by_form<W: TextSink>(sink: &mut W, mode: Mode, place: Place, c: u32) ->
 }
 
 /// Whether the character is printable ASCII, and is spelled as itself.
+#[inline(always)]
 #[tactic(auto, using(crate::proofs::Plain::unescaped_text))]
-fn is_raw_sign(mode: Mode, place: Place, c: u32) -> bool
+fn is_plain(mode: Mode, place: Place, c: u32) -> bool
     ensures text { result ≡ true → character_text mode (place_of place) c ≡ c ∷ [] }
     ensures ascii { result ≡ true → c < 128 }
 {
     32 <= c && c < 127 && !is_escaped(mode, place, c) && !goes_on(place, c)
 }
 
-/// The same, where a letter, `_`, a blank and a digit that no reference stands right before are found at once: they are spelled so in every mode.
-#[inline(always)]
-#[tactic(auto, using(crate::proofs::Plain::plain_texts))]
-fn is_plain(mode: Mode, place: Place, c: u32) -> bool
-    ensures text { result ≡ true → character_text mode (place_of place) c ≡ c ∷ [] }
+/// Whether the character is printable ASCII, and is spelled behind a backslash.
+#[tactic(auto, using(crate::proofs::Plain::escaped_text))]
+fn is_escaped_sign(mode: Mode, place: Place, c: u32) -> bool
+    ensures text { result ≡ true → character_text mode (place_of place) c ≡ 92 ∷ c ∷ [] }
     ensures ascii { result ≡ true → c < 128 }
 {
-    match c {
-        0x20 | 0x41..=0x5A | 0x5F | 0x61..=0x7A => true,
-        0x30..=0x39 => !goes_on(place, c),
-        _ => is_raw_sign(mode, place, c),
-    }
+    32 <= c && c < 127 && is_escaped(mode, place, c)
+}
+
+/// Writes a backslash and the character.
+fn write_escaped<W: TextSink>(sink: &mut W, c: u32) -> Result<(), Failed>
+    requires { c < 128 }
+    ensures { Written W.taken W.fixed W.faults sink.old sink.new result (utf8 (92 ∷ c ∷ [])) }
+{
+    sink.write_char('\\')?;
+    sink.write_char(character(c))
 }
 
 /// Writes a character as it is spelled canonically at its place.
@@ -251,6 +256,8 @@ pub fn write_character<W: TextSink>(
 {
     if is_plain(mode, place, c) {
         sink.write_char(character(c))
+    } else if is_escaped_sign(mode, place, c) {
+        write_escaped(sink, c)
     } else {
         write_by_form(sink, mode, place, c)
     }

@@ -1,7 +1,6 @@
-ghost use Rattle.std.specs.Prelude.{◌≡◌, ◌+◌, ◌<◌, ◌^◌, ◌⊎◌, max, false, length, IsTrue};
+ghost use Rattle.std.specs.Prelude.{◌≡◌, ◌+◌, ◌<◌, ◌^◌, max, length};
 ghost use Rattle.rx_model.specs.Reading.Headline.{IsAnswered};
-ghost use Rattle.rx_parser.specs.Literals.{flags_chars, flags_length, input_of};
-ghost use Rattle.rx_tools.specs.NotYet.{AskNoSets, is_not_yet};
+ghost use Rattle.rx_parser.specs.Literals.{flags_length, input_of};
 ghost use Rattle.rx_tools.specs.Spelled.{read_of, spelled_of};
 ghost use Rattle.rx_tools.specs.Texts.{stand_in_length};
 
@@ -24,24 +23,19 @@ pub fn read_pattern(
     requires pattern { options.pattern_span_offset + max (length pattern_text.now) (stand_in_length form) < 2 ^ 32 }
     requires flags { options.flags_span_offset + flags_length flags_text < 2 ^ 32 }
 
-    // Of a literal whose flags do not ask for sets mode, be they right or wrong: Ok on valid input and on no other, with the only tree, spans aside, that
-    // reads in the mode that the flags ask for, and with that mode; else the first refusal, or out of memory. The spelling of the tree is read back.
-    ensures headline { form ≡ Form.Literal → AskNoSets (flags_chars flags_text.entry)
-        → IsAnswered read_of (input_of form pattern_text.now flags_text.entry options) result }
+    // Of a literal, be its flags right or wrong: Ok on valid input and on no other, with the only tree, spans aside, that reads in the mode that the flags
+    // ask for, and with that mode; else the first refusal, or out of memory. The spelling of the tree is read back.
+    ensures headline { form ≡ Form.Literal → IsAnswered read_of (input_of form pattern_text.now flags_text.entry options) result }
 
-    // The same of each form and mode that is read, and of wrong flags. "Not yet" comes exactly where its form or mode is not read yet; out of memory may
-    // come in its place.
-    ensures answered { is_not_yet form (flags_chars flags_text.entry) ≡ false
-        → IsAnswered read_of (input_of form pattern_text.now flags_text.entry options) result }
-    ensures not_yet { result ≡ Err Fault.NotYet → IsTrue (is_not_yet form (flags_chars flags_text.entry)) }
-    ensures later { IsTrue (is_not_yet form (flags_chars flags_text.entry))
-        → (result ≡ Err Fault.NotYet) ⊎ (result ≡ Err Fault.OutOfMemory) }
+    // The argument of `RegExp` is not read yet.
+    ensures not_yet { form ≡ Form.Constructor → result ≡ Err Fault.NotYet }
 {
     match form {
-        Form::Constructor => return Err(Fault::NotYet),
-        Form::Literal => {}
+        Form::Literal => {
+            LiteralParser::new(alloc, pattern_text, flags_text, options).parse_with_mode()
+        }
+        Form::Constructor => Err(Fault::NotYet),
     }
-    LiteralParser::new(alloc, pattern_text, flags_text, options).parse_with_mode()
 }
 
 /// Reads a pattern and spells it canonically. The flags text is absent where there are no flags.
@@ -55,18 +49,12 @@ pub fn canonical(
     requires pattern { options.pattern_span_offset + max (length pattern_text.now) (stand_in_length form) < 2 ^ 32 }
     requires flags { options.flags_span_offset + flags_length flags_text < 2 ^ 32 }
 
-    // Of a literal whose flags do not ask for sets mode, be they right or wrong: Ok on valid input and on no other, with the only tree and its canonical
-    // spelling; else the first refusal, or out of memory.
-    ensures headline { form ≡ Form.Literal → AskNoSets (flags_chars flags_text.entry)
-        → IsAnswered spelled_of (input_of form pattern_text.now flags_text.entry options) result }
+    // Of a literal, be its flags right or wrong: Ok on valid input and on no other, with the only tree and its canonical spelling; else the first refusal, or
+    // out of memory.
+    ensures headline { form ≡ Form.Literal → IsAnswered spelled_of (input_of form pattern_text.now flags_text.entry options) result }
 
-    // The same of each form and mode that is read, and of wrong flags. "Not yet" comes exactly where its form or mode is not read yet; out of memory may
-    // come in its place.
-    ensures answered { is_not_yet form (flags_chars flags_text.entry) ≡ false
-        → IsAnswered spelled_of (input_of form pattern_text.now flags_text.entry options) result }
-    ensures not_yet { result ≡ Err Fault.NotYet → IsTrue (is_not_yet form (flags_chars flags_text.entry)) }
-    ensures later { IsTrue (is_not_yet form (flags_chars flags_text.entry))
-        → (result ≡ Err Fault.NotYet) ⊎ (result ≡ Err Fault.OutOfMemory) }
+    // The argument of `RegExp` is not read yet.
+    ensures not_yet { form ≡ Form.Constructor → result ≡ Err Fault.NotYet }
 {
     let (pattern, mode) = match read_pattern(alloc, form, pattern_text, flags_text, options) {
         Ok(read) => read,

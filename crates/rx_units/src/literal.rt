@@ -1,4 +1,5 @@
 ghost use Rattle.std.specs.Prelude.{◌≡◌, Bool, ◌+◌, ◌<◌, ◌≤◌, ◌^◌, ◌++◌, length, OnOk, OnErr, IfOk};
+ghost use Rattle.std.specs.Char.{len_utf8};
 ghost use Rattle.std.specs.Str.{IsAscii, chars};
 ghost use Rattle.rx_units.specs.Bytes.{byte_units};
 ghost use Rattle.rx_units.specs.Units.{character_units, literal_units};
@@ -95,6 +96,14 @@ fn byte_units(alloc: Global, bytes: &[u8], span_offset: u32) -> Result<Vec<CodeP
     units.collect(alloc)
 }
 
+/// How many bytes a character takes. Most take one.
+#[inline(always)]
+fn width(c: char) -> u32
+    ensures { result ≡ len_utf8 c }
+{
+    if c.is_ascii() { 1 } else { c.len_utf8() as u32 }
+}
+
 /// The units of any text. A text has no more units than bytes.
 fn mixed_units(
     alloc: Global,
@@ -108,7 +117,7 @@ fn mixed_units(
     let mut body = List::with_capacity(alloc, source_text.len())?;
     let mut at = 0;
     for c in source_text.chars() {
-        let end = at + c.len_utf8() as u32;
+        let end = at + width(c);
         let code_point = ((at, end), c as u32, EscapeKind::None);
         handle_code_point(&mut body, code_point, span_offset, combine_surrogate_pair)?;
         at = end;

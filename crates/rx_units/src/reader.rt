@@ -102,11 +102,16 @@ impl<'a> Reader<'a> {
     }
 
     /// Moves one place on, or does nothing at the end.
+    #[tactic(auto, using(crate::proofs::Offsets::end_of_take))]
     #[inline]
     pub fn advance(&mut self)
         ensures { self.new ≡ moved 1 self.old }
     {
-        self.skip(1);
+        if self.index < self.units.len() {
+            let place = self.index + 1;
+            self.offset = self.units.as_slice()[place - 1].span.end;
+            self.index = place;
+        }
     }
 
     /// Moves n places on, or to the end where fewer are left.

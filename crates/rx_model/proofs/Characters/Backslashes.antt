@@ -3,7 +3,7 @@ use Rattle.std.proofs.Common.{◌≡◌, ℕ, ◌+◌, ◌*◌, ◌-◌, ◌==�
 use Rattle.std.proofs.lemmas.Bool.{eqb-true, cond-true, cond-false, and_left, and_from, not-true}
 use Rattle.std.proofs.lemmas.Bool.Decides.{nat_tests}
 use Rattle.std.proofs.lemmas.Option.{option_and_then_some}
-use Rattle.rx_tables.specs.Characters.{is_decimal_digit, is_within}
+use Rattle.rx_tables.specs.Characters.{is_decimal_digit, is_reserved_punctuator, is_within}
 use Rattle.rx_ast.specs.declared.leaf.BoundaryAssertionKind.{BoundaryAssertionKind}
 use Rattle.rx_ast.specs.declared.leaf.BoundaryAssertionKind.TheVariants as boundaries
 use Rattle.rx_ast.specs.declared.leaf.CharacterClassEscapeKind.{CharacterClassEscapeKind}
@@ -27,7 +27,7 @@ use Rattle.rx_model.proofs.Characters.LegacyEscapes.{any_read, any_legacy_read, 
 use Rattle.rx_model.proofs.Quantifiers.Quantifiers.{digit_there, digits_read, digits_found}
 use Rattle.rx_model.proofs.Reading.Splits.{TextFront}
 
--- the character begins neither a reference nor a boundary nor a class escape nor a property escape, and is not `-`
+-- the character begins neither a reference nor a boundary nor a class escape nor a property escape, and is no reserved punctuator, of which `-` is one
 pub record BeginsEscape (e : Environment) (w : List ℕ) : Type 0 where
   pub first : ℕ
   pub behind : List ℕ
@@ -39,6 +39,7 @@ pub record BeginsEscape (e : Environment) (w : List ℕ) : Type 0 where
   pub no_class : class_escape_at first ≡ None
   pub no_b : (first == 98) ≡ false
   pub no_hyphen : (first == 45) ≡ false
+  pub no_reserved : is_reserved_punctuator first ≡ false
 
 pub no_right : (b : Bool) → (b && false) ≡ false
 no_right true = refl
@@ -72,6 +73,7 @@ begins e _ v _ rest (control {c} h) = record {
   no_class = grind (arith, nat_tests);
   no_b = grind (arith, nat_tests);
   no_hyphen = grind (arith, nat_tests);
+  no_reserved = grind (arith, nat_tests);
 }
 begins e _ v _ rest (letter {c} h) = record {
   first = 99;
@@ -84,6 +86,7 @@ begins e _ v _ rest (letter {c} h) = record {
   no_class = refl;
   no_b = refl;
   no_hyphen = refl;
+  no_reserved = refl;
 }
 begins e _ _ _ rest (null h) = record {
   first = 48;
@@ -96,6 +99,7 @@ begins e _ _ _ rest (null h) = record {
   no_class = refl;
   no_b = refl;
   no_hyphen = refl;
+  no_reserved = refl;
 }
 begins e _ v _ rest (hexadecimal {a} {b} h) = record {
   first = 120;
@@ -108,6 +112,7 @@ begins e _ v _ rest (hexadecimal {a} {b} h) = record {
   no_class = refl;
   no_b = refl;
   no_hyphen = refl;
+  no_reserved = refl;
 }
 begins e _ v w rest (unicode s) = let u = begins_with_u s in record {
   first = 117;
@@ -120,6 +125,7 @@ begins e _ v w rest (unicode s) = let u = begins_with_u s in record {
   no_class = refl;
   no_b = refl;
   no_hyphen = refl;
+  no_reserved = refl;
 }
 begins e _ _ _ rest (identity {c} u h) = record {
   first = c;
@@ -132,6 +138,7 @@ begins e _ _ _ rest (identity {c} u h) = record {
   no_class = grind (arith, nat_tests);
   no_b = grind (arith, nat_tests);
   no_hyphen = grind (arith, nat_tests);
+  no_reserved = grind (arith, nat_tests);
 }
 
 pub escape_token : (e : Environment) (kind : CharacterKind) (v : ℕ) (w rest : List ℕ) → SpellsEscape e kind v w rest → backslash_front e (w ++ rest) ≡ Some (character kind v, length w + 1)

@@ -10,5 +10,6 @@ second_counted e from at_class place rest s =
     omega (arith, s.item_place.place_is, s.place_is, length-append s.w (s.hyphen ∷ rest))
 
 pub place_counted : (e : Environment) (from : ℕ) (at_class : List CodePoint) (place : ℕ) (rest : List CodePoint) → IsAtomPlace e from at_class place rest → from + length at_class ≡ place + length rest
-place_counted e from at_class place rest (inl s) = s.place_is
-place_counted e from at_class place rest (inr s) = second_counted e from at_class place rest s
+place_counted e from at_class place rest (inl s) = s.item_place.place_is
+place_counted e from at_class place rest (inr (inl s)) = second_counted e from at_class place rest s
+place_counted e from at_class place rest (inr (inr s)) = s.1.place_is

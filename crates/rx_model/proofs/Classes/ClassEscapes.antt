@@ -1,35 +1,23 @@
--- No atom of a class stands where an escape in it is refused.
-use Rattle.std.proofs.Common.{◌≡◌, refl, ap, sym, ◌∙◌, subst, ℕ, ◌+◌, ◌==◌, ◌&&◌, true, false, not, is_some, None, List, [], ◌∷◌, ◌++◌, codes, arith}
+-- No atom of a class stands where no escape in it begins.
+use Rattle.std.proofs.Common.{◌≡◌, refl, ap, sym, ◌∙◌, subst, ℕ, ◌==◌, ◌&&◌, true, false, not, is_some, None, List, [], ◌∷◌, ◌++◌, codes, arith}
 use Rattle.std.proofs.lemmas.Bool.{or_parts, both_ways}
 use Rattle.std.proofs.lemmas.Bool.Decides.{nat_tests}
-use Rattle.rx_base.specs.declared.diagnostic.Diagnostic.{Diagnostic}
 use Rattle.rx_tables.specs.Characters.{is_decimal_digit, control_escape_value}
 use Rattle.rx_ast.specs.declared.leaf.CharacterKind.{CharacterKind}
 use Rattle.rx_units.specs.declared.code_point.CodePoint.{CodePoint}
 use Rattle.rx_units.specs.Units.{values}
 use Rattle.rx_model.specs.declared.mode.Mode.{Mode}
 use Rattle.rx_model.specs.declared.mode.Mode.TheVariants.{Legacy, Unicode, Sets}
-use Rattle.rx_model.specs.Classes.ClassFronts.{no_atom, atom_at, character_atom, escape_in_class, property_atom}
-use Rattle.rx_model.specs.Classes.ClassTokens as atoms
-use Rattle.rx_model.specs.Characters.Decoding.{Decoded, value, invalid, overflow, decoded}
+use Rattle.rx_model.specs.Classes.ClassFronts.{no_atom, atom_at, character_atom, escape_in_class}
 use Rattle.rx_model.specs.Inputs.Environment.{Environment, is_sets, is_unicode}
-use Rattle.rx_model.specs.Refusals.EscapeCauses as escapes
-use Rattle.rx_model.specs.Refusals.EscapeCauses.{IsEscapeCause, IsPropertyCause}
-use Rattle.rx_model.specs.Characters.EscapeFronts.{EscapeRead, escaped, nothing, too_many, no_unicode, escape_at, class_escape_at, unicode_read}
+use Rattle.rx_model.specs.Characters.EscapeFronts.{EscapeRead, escaped, nothing, too_many, no_unicode, escape_at, class_escape_at}
 use Rattle.rx_model.specs.Characters.Escapes.{front_is, is_identity_escape, SpellsEscape, control, letter, null, hexadecimal, unicode, identity}
-use Rattle.rx_model.specs.FirstPass.Marks.{starts}
 use Rattle.rx_model.specs.Properties.PropertyForms.{begins_property}
-use Rattle.rx_model.specs.Properties.PropertyFronts.{PropertyRead, property_read, no_property, property_front}
-use Rattle.rx_model.specs.Refusals.Firsts.{IsCauseOfEscape, of_character, of_property}
 use Rattle.rx_model.specs.Refusals.Reached.{text_environment}
 use Rattle.rx_model.specs.Refusals.Stops.{begins_class_escape, is_hex_digit, is_letter, is_one_of, two_hex_digits}
-use Rattle.rx_model.specs.Characters.UnicodeEscapes.{Decodes}
-use Rattle.rx_model.proofs.Classes.ClassFronts.{at_backslash, atom_found, letter_no_b, letter_no_hyphen}
-use Rattle.rx_model.proofs.Characters.Decodings.{value_law}
-use Rattle.rx_model.proofs.Characters.Escapes.{begins_with_u, escape_spelled, too_many_escape}
+use Rattle.rx_model.proofs.Classes.ClassFronts.{at_backslash}
+use Rattle.rx_model.proofs.Characters.Escapes.{begins_with_u, escape_spelled}
 use Rattle.rx_model.proofs.Characters.LegacyEscapes.{any_in_unicode}
-use Rattle.rx_model.proofs.Properties.PropertyRefusals.{cause_begins_no_property, property_first}
-use Rattle.rx_model.proofs.Classes.LegacyClassEscapes.{none_refused}
 use Rattle.rx_model.proofs.Refusals.LegacyStops.{no_atom_behind_backslash}
 use Rattle.rx_model.proofs.Refusals.Stops.{two_there}
 
@@ -96,66 +84,12 @@ module _ (us : List CodePoint) where
       let b = no_beginning c w h in
       rw (no_b c b.no_letters, b.no_hyphen, no_p c b.no_letters, no_class c b.no_letters) (ap character_atom (any_in_unicode true here (c ∷ w) refl) ∙ nothing_read (c ∷ w) (escape_at true (c ∷ w)) h refl)
 
-  -- behind a backslash at the front
-  behind_backslash : (rest : List CodePoint) (w : List ℕ) → values rest ≡ 92 ∷ w → atom_at here rest ≡ escape_in_class here w
-  behind_backslash [] w h = absurd (let no : ⊥ = cc h in no)
-  behind_backslash (u ∷ rest) w h =
-      let is : u.value ≡ 92 = cc h in
-      let back : values rest ≡ w = cc h in
-      at_backslash here u rest is ∙ ap (escape_in_class here) back
-
   no_escape_in_unicode : (backslash : CodePoint) (rest : List CodePoint) → backslash.value ≡ 92 → begins_class_escape here (values rest) ≡ false → atom_at here (backslash ∷ rest) ≡ no_atom
   no_escape_in_unicode backslash rest h no_escape = at_backslash here backslash rest h ∙ no_escape_there (values rest) no_escape
 
-  no_value_atom : (w : List ℕ) → ((v n : ℕ) → Decodes true w v n → ⊥) → (d : Decoded) → decoded true w ≡ d → character_atom (unicode_read d) ≡ no_atom
-  no_value_atom w no_value (value v n) h = absurd (no_value v n ((value_law true w v n).0 h))
-  no_value_atom w no_value invalid h = refl
-  no_value_atom w no_value (overflow n) h = refl
-
-  behind_u : (v : List ℕ) → escape_in_class here (117 ∷ v) ≡ character_atom (escape_at true (117 ∷ v))
-  behind_u v = ap character_atom (any_in_unicode true here (117 ∷ v) refl)
-
-  escape_u : (v : List ℕ) → escape_at true (117 ∷ v) ≡ unicode_read (decoded true (117 ∷ v))
-  unfolding escape_at
-  escape_u v = refl
-
-  escape_in_unicode : (first added place : ℕ) (rest : List CodePoint) (d : Diagnostic) → IsEscapeCause Unicode us first added place rest d → (atom_at here rest ≡ no_atom) × (starts 93 (values rest) ≡ false)
-  escape_in_unicode first added place rest _ (escapes.too_many_hex_digits count behind m h p) =
-      let more : List ℕ = 123 ∷ (p.digits ++ p.next ∷ p.rest) in (
-        behind_backslash rest behind h ∙ ap (escape_in_class here) p.whole ∙ behind_u more ∙ ap (λ w. character_atom (escape_at true w)) (sym p.whole)
-            ∙ ap character_atom (too_many_escape behind count p),
-        ap (starts 93) h,
-      )
-  escape_in_unicode first added place rest _ (escapes.invalid_escape behind m h no_value no_limit) = (
-    behind_backslash rest (117 ∷ behind) h ∙ behind_u behind ∙ ap character_atom (escape_u behind) ∙ no_value_atom (117 ∷ behind) no_value (decoded true (117 ∷ behind)) refl,
-    ap (starts 93) h,
-  )
-
-  property_in_unicode : (first added place : ℕ) (rest : List CodePoint) (d : Diagnostic) → IsPropertyCause Unicode us first added place rest d → (atom_at here rest ≡ no_atom) × (starts 93 (values rest) ≡ false)
-  property_in_unicode first added place rest d c = (there ∙ go (property_front Unicode (p.0 ∷ p.1)) refl, ap (starts 93) p.2)
-    where
-      p : (letter : ℕ) × (w : List ℕ) × (values rest ≡ 92 ∷ letter ∷ w) × (begins_property letter ≡ true)
-      p = property_first Unicode us first added place rest d c
-
-      there : atom_at here rest ≡ property_atom (property_front Unicode (p.0 ∷ p.1))
-      there = behind_backslash rest (p.0 ∷ p.1) p.2 ∙ rw (letter_no_b p.0 p.3, letter_no_hyphen p.0 p.3, p.3) refl
-
-      go : (r : PropertyRead) → property_front Unicode (p.0 ∷ p.1) ≡ r → property_atom (property_front Unicode (p.0 ∷ p.1)) ≡ no_atom
-      go no_property h = ap property_atom h
-      go (property_read negative strings name v n) h =
-          let s = atom_found here (atoms.property negative strings name v) (n + 1) rest (there ∙ ap property_atom h) in
-          absurd (cause_begins_no_property here us first added place rest d c negative strings name v s.w s.rest s.whole s.spelled)
-
--- In every mode but that of `v` no atom of a class stands where no escape begins, or one is refused.
+-- In every mode but that of `v` no atom of a class stands where no escape begins.
 pub no_escape_atom : (mode : Mode) → is_sets mode ≡ false → (us : List CodePoint) (backslash : CodePoint) (rest : List CodePoint) → backslash.value ≡ 92 →
     begins_class_escape (text_environment mode us) (values rest) ≡ false → atom_at (text_environment mode us) (backslash ∷ rest) ≡ no_atom
 no_escape_atom Legacy no_sets us backslash rest h none = at_backslash (text_environment Legacy us) backslash rest h ∙ no_atom_behind_backslash (text_environment Legacy us) refl (values rest) none
 no_escape_atom Unicode no_sets us backslash rest h none = no_escape_in_unicode us backslash rest h none
 no_escape_atom Sets no_sets us backslash rest h none = absurd (let no : ⊥ = cc no_sets in no)
-
-pub refused_escape : (mode : Mode) → is_sets mode ≡ false → (us : List CodePoint) (first added place : ℕ) (rest : List CodePoint) (f : ℕ) (d : Diagnostic) → IsCauseOfEscape mode us first added place rest f d →
-    (atom_at (text_environment mode us) rest ≡ no_atom) × (starts 93 (values rest) ≡ false)
-refused_escape Legacy no_sets us first added place rest f d c = absurd (none_refused Legacy refl us first added place rest f d c)
-refused_escape Unicode no_sets us first added place rest _ d (of_character c) = escape_in_unicode us first added place rest d c
-refused_escape Unicode no_sets us first added place rest _ d (of_property c) = property_in_unicode us first added place rest d c
-refused_escape Sets no_sets us first added place rest f d c = absurd (let no : ⊥ = cc no_sets in no)

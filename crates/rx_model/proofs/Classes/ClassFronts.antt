@@ -1,30 +1,25 @@
--- Classes: what is spelled is read, and what is read is spelled, so that a text begins with one class at most.
-use Rattle.std.proofs.Common.{◌≡◌, refl, sym, ap, ap₂, ◌∙◌, subst, ℕ, zero, suc, ◌+◌, ◌-◌, ◌<◌, ◌==◌, Bool, true, false, not, ◌&&◌, Option, Some, None, List, [], ◌∷◌, ◌++◌, length, drop, arith, inl, inr, append_assoc, length-append}
+-- Atoms and tokens at the front of what is left of a class: what is spelled is read, and what is read is spelled.
+use Rattle.std.proofs.Common.{◌≡◌, refl, sym, ap, ap₂, ◌∙◌, subst, ℕ, ◌+◌, ◌<◌, ◌==◌, Bool, true, false, not, ◌&&◌, ◌||◌, Option, Some, None, List, [], ◌∷◌, ◌++◌, length, drop, arith, inl, inr}
 use Rattle.std.proofs.Math.Seq.{drop-append_seam}
-use Rattle.std.proofs.lemmas.Bool.{eqb-true, cond-true, cond-false, and_left, and_from}
+use Rattle.std.proofs.lemmas.Bool.{cases_Bool, eqb-true, cond-true, cond-false, and_left, and_from, not-true}
 use Rattle.std.proofs.lemmas.Bool.Decides.{nat_tests}
-use Rattle.std.proofs.lemmas.List.{append-nil, length-map, map-append}
+use Rattle.std.proofs.lemmas.List.{length-map, map-append}
+use Rattle.rx_tables.specs.Characters.{is_reserved_punctuator}
 use Rattle.rx_ast.specs.declared.leaf.CharacterClassEscapeKind.{CharacterClassEscapeKind}
 use Rattle.rx_ast.specs.declared.leaf.CharacterClassEscapeKind.TheVariants as classes
 use Rattle.rx_ast.specs.declared.leaf.CharacterKind.{CharacterKind}
 use Rattle.rx_ast.specs.declared.leaf.CharacterKind.TheVariants as kinds
-use Rattle.rx_ast.specs.declared.class.CharacterClassContentsKind.TheVariants.{Union, Intersection, Subtraction}
-use Rattle.rx_ast.specs.ClassTree.{Member, Members, Class, no_member, member, class}
-use Rattle.rx_ast.specs.ClassTree as tree
-use Rattle.rx_ast.specs.Forget.{nowhere, forget_member, forget_members, same_kind}
-use Rattle.rx_base.specs.declared.span.Span.{Span}
 use Rattle.rx_units.specs.declared.code_point.CodePoint.{CodePoint}
 use Rattle.rx_units.specs.Units.{values}
 use Rattle.rx_model.specs.declared.mode.Mode.{Mode}
 use Rattle.rx_model.specs.declared.mode.Mode.TheVariants.{Legacy, Unicode, Sets}
-use Rattle.rx_model.specs.Classes.ClassFronts.{AtomRead, atom_read, no_atom, Piece, one, three, range, ending, no_piece, MembersRead, members_read, no_members, property_atom, character_atom, escape_atom, escape_in_class, atom_at, three_of, pair_of, pair_to, piece_from, piece_at, atom_member, range_member, before_members, before_three, members_from, members_after, class_of, class_front}
-use Rattle.rx_model.specs.Classes.ClassRows.{stands_raw_in_class, SpellsInClassAlone, backspace, SpellsClassCharacter, raw, escaped_in_class, SpellsAtom, has_hyphen, has_threes, is_dashed, BeforeThird, StandsBefore, outside, fresh, at_second, at_third, behind, behind_item, Place, escaped_in_legacy, SpellsInClass, ClassTokenRow, IsClass}
+use Rattle.rx_model.specs.Classes.ClassFronts.{AtomRead, atom_read, no_atom, property_atom, character_atom, escape_atom, escape_in_class, atom_at, TokenRead, item_where, item_of, low_of, high_of, dashed_of, item_before, bracket_at, are_next, begins_strings, operand_token, set_token, fresh_token, operand_of, string_token, token_where, class_token_at}
+use Rattle.rx_model.specs.Classes.ClassRows.{stands_raw_in_class, SpellsInClassAlone, backspace, SpellsClassCharacter, raw, escaped_in_class, escaped_in_legacy, SpellsAtom, has_hyphen, has_threes, is_dashed, BeforeHigh, BeforeThird, BeginsNoRange, StandsBefore, Place, outside, fresh, at_dash, at_high, at_second, at_third, behind_meet, behind_less, in_strings, behind, behind_item, SpellsBracket, SpellsOperand, SpellsOfStrings, SpellsInClass}
 use Rattle.rx_model.specs.Classes.ClassRows as row
 use Rattle.rx_model.specs.Spelling.ClassText.{class_escape_text}
-use Rattle.rx_model.specs.Classes.ClassTokens.{Atom, ClassToken, is_character, character, escape, property, bracket, closer, item, token, leave, class_tokens_of, members_events, more_members_events}
-use Rattle.rx_model.specs.Trees.Early.{any_strings}
-use Rattle.rx_model.specs.Inputs.Environment.{Environment, is_unicode}
-use Rattle.rx_model.specs.Characters.EscapeFronts.{EscapeRead, escaped, nothing, too_many, no_unicode, any_escape_at, class_escape_at}
+use Rattle.rx_model.specs.Classes.ClassTokens.{Atom, ClassToken, is_character, character, escape, property, bracket, closer, item, low, dash, high, meet, less, strings, letter, string_bar, strings_end}
+use Rattle.rx_model.specs.Inputs.Environment.{Environment, is_sets, is_unicode}
+use Rattle.rx_model.specs.Characters.EscapeFronts.{EscapeRead, escaped, nothing, too_many, no_unicode, any_escape_at, class_escape_at, escape_at}
 use Rattle.rx_model.specs.Characters.Escapes.{SpellsEscape}
 use Rattle.rx_model.specs.Characters.LegacyEscapes.{SpellsLegacy}
 use Rattle.rx_model.specs.FirstPass.Marks.{starts}
@@ -34,21 +29,20 @@ use Rattle.rx_model.specs.Refusals.Stops.{is_hyphen_escaped}
 use Rattle.rx_model.specs.Characters.UnitKinds.{unit_kind}
 use Rattle.rx_model.specs.Properties.PropertyForms.{begins_property}
 use Rattle.rx_model.proofs.Characters.Backslashes.{begins, class_found, no_right}
-use Rattle.rx_model.proofs.Classes.ClassUnspanned.{class_tokens_of-append}
 use Rattle.rx_model.proofs.Characters.Decodings.{chosen, both, Some-inj}
-use Rattle.rx_model.proofs.Characters.LegacyEscapes.{AnyFront, any_read, any_legacy_read, any_spelled, legacy_begins}
+use Rattle.rx_model.proofs.Characters.LegacyEscapes.{AnyFront, any_in_unicode, any_read, any_legacy_read, any_spelled, legacy_begins}
 use Rattle.rx_model.proofs.Properties.PropertyFronts.{property_row, property_text}
 use Rattle.rx_model.proofs.Reading.Splits.{split_values}
 
-backslash_not_raw : (mode : Mode) → stands_raw_in_class mode 92 ≡ false
-backslash_not_raw Legacy = refl
-backslash_not_raw Unicode = refl
-backslash_not_raw Sets = refl
+backslash_not_raw : (mode : Mode) (w : List ℕ) → stands_raw_in_class mode 92 w ≡ false
+backslash_not_raw Legacy w = refl
+backslash_not_raw Unicode w = refl
+backslash_not_raw Sets w = refl
 
-closer_not_raw : (mode : Mode) → stands_raw_in_class mode 93 ≡ false
-closer_not_raw Legacy = refl
-closer_not_raw Unicode = refl
-closer_not_raw Sets = refl
+closer_not_raw : (mode : Mode) (w : List ℕ) → stands_raw_in_class mode 93 w ≡ false
+closer_not_raw Legacy w = refl
+closer_not_raw Unicode w = refl
+closer_not_raw Sets w = refl
 
 no_hyphen : (mode : Mode) (c : ℕ) → (c == 45) ≡ false → (has_hyphen mode && c == 45) ≡ false
 no_hyphen Legacy c h = h
@@ -65,19 +59,40 @@ only_escapes Legacy h = absurd (let no : ⊥ = cc h in no)
 only_escapes Unicode h = refl
 only_escapes Sets h = absurd (let no : ⊥ = cc h in no)
 
-no_legacy_hyphen : (mode : Mode) (c : ℕ) → is_unicode mode ≡ false → (is_hyphen_escaped mode && c == 45) ≡ false
+pub no_legacy_hyphen : (mode : Mode) (c : ℕ) → is_unicode mode ≡ false → (is_hyphen_escaped mode && c == 45) ≡ false
 no_legacy_hyphen Legacy c m = refl
 no_legacy_hyphen Unicode c m = absurd (let no : ⊥ = cc m in no)
 no_legacy_hyphen Sets c m = refl
 
+no_punctuator : (mode : Mode) (c : ℕ) → is_reserved_punctuator c ≡ false → (is_sets mode && is_reserved_punctuator c) ≡ false
+no_punctuator Legacy c h = refl
+no_punctuator Unicode c h = refl
+no_punctuator Sets c h = h
+
+pub no_legacy_punctuator : (mode : Mode) (c : ℕ) → is_unicode mode ≡ false → (is_sets mode && is_reserved_punctuator c) ≡ false
+no_legacy_punctuator Legacy c m = refl
+no_legacy_punctuator Unicode c m = refl
+no_legacy_punctuator Sets c m = absurd (let no : ⊥ = cc m in no)
+
+pub sets_is : (mode : Mode) → is_sets mode ≡ true → mode ≡ Sets
+sets_is Legacy h = absurd (let no : ⊥ = cc h in no)
+sets_is Unicode h = absurd (let no : ⊥ = cc h in no)
+sets_is Sets h = refl
+
 -- a `-` does not stand for itself as other characters do
-hyphen_not_raw : (mode : Mode) → stands_raw_in_class mode 45 ≡ false
-hyphen_not_raw Legacy = refl
-hyphen_not_raw Unicode = refl
-hyphen_not_raw Sets = refl
+hyphen_not_raw : (mode : Mode) (w : List ℕ) → stands_raw_in_class mode 45 w ≡ false
+hyphen_not_raw Legacy w = refl
+hyphen_not_raw Unicode w = refl
+hyphen_not_raw Sets w = refl
 
 pub letter_no_b : (c : ℕ) → begins_property c ≡ true → (c == 98) ≡ false
 letter_no_b c h = grind (arith, nat_tests)
+
+letter_no_punctuator : (c : ℕ) → begins_property c ≡ true → is_reserved_punctuator c ≡ false
+letter_no_punctuator c h = grind (arith, nat_tests)
+
+punctuator_no_b : (c : ℕ) → is_reserved_punctuator c ≡ true → (c == 98) ≡ false
+punctuator_no_b c h = grind (arith, nat_tests)
 
 pub letter_no_hyphen : (c : ℕ) → begins_property c ≡ true → (c == 45) ≡ false
 letter_no_hyphen c h = grind (arith, nat_tests)
@@ -91,62 +106,30 @@ single [] c h = absurd (let no : ⊥ = cc h in no)
 single (u ∷ []) c h = (u, refl, cc h)
 single (u ∷ v ∷ w) c h = absurd (let no : ⊥ = cc h in no)
 
-nothing_left : (w : List CodePoint) → values w ≡ [] → w ≡ []
-nothing_left [] h = refl
-nothing_left (u ∷ w) h = absurd (let no : ⊥ = cc h in no)
-
-same_front : (w v rest : List CodePoint) → w ++ rest ≡ v ++ rest → w ≡ v
-same_front [] [] rest h = refl
-same_front [] (x ∷ v) rest h = absurd (omega (arith, ap length h, length-append v rest))
-same_front (u ∷ w) [] rest h = absurd (omega (arith, ap length h, length-append w rest))
-same_front (u ∷ w) (x ∷ v) rest h = ap₂ (λ u w. u ∷ w) (let same : u ≡ x = cc h in same) (same_front w v rest (let k : w ++ rest ≡ v ++ rest = cc h in k))
-
 -- the letter of a class escape
 pub record ClassLetter (k : CharacterClassEscapeKind) : Type 0 where
   pub letter : ℕ
   pub text : class_escape_text k ≡ 92 ∷ letter ∷ []
   no_b : (letter == 98) ≡ false
   not_hyphen : (letter == 45) ≡ false
+  no_punctuator : is_reserved_punctuator letter ≡ false
   no_letter : begins_property letter ≡ false
   pub found : class_escape_at letter ≡ Some k
 
 pub class_letter : (k : CharacterClassEscapeKind) → ClassLetter k
-class_letter classes.D = record { letter = 100; text = refl; no_b = refl; not_hyphen = refl; no_letter = refl; found = refl }
-class_letter classes.NegativeD = record { letter = 68; text = refl; no_b = refl; not_hyphen = refl; no_letter = refl; found = refl }
-class_letter classes.S = record { letter = 115; text = refl; no_b = refl; not_hyphen = refl; no_letter = refl; found = refl }
-class_letter classes.NegativeS = record { letter = 83; text = refl; no_b = refl; not_hyphen = refl; no_letter = refl; found = refl }
-class_letter classes.W = record { letter = 119; text = refl; no_b = refl; not_hyphen = refl; no_letter = refl; found = refl }
-class_letter classes.NegativeW = record { letter = 87; text = refl; no_b = refl; not_hyphen = refl; no_letter = refl; found = refl }
-
--- The tokens of what was read.
-atom_tokens : (a : Atom) (ms : Members) → class_tokens_of (more_members_events [] (member (atom_member a) ms)) ≡ item a ∷ class_tokens_of (more_members_events [] ms)
-atom_tokens (character k v) ms = refl
-atom_tokens (escape k) ms = refl
-atom_tokens (property negative strings name value) ms = refl
-
-atom_kept : (a : Atom) → forget_member same_kind (atom_member a) ≡ atom_member a
-atom_kept (character k v) = refl
-atom_kept (escape k) = refl
-atom_kept (property negative strings name value) = refl
-
-pub members_are : (ms : Members) → members_events [] ms ≡ more_members_events [] ms
-members_are no_member = refl
-members_are (member m ms) = refl
-
-pub tokens_behind : (s : Span) (ms : Members) →
-    class_tokens_of ((members_events [] ms ++ (token closer ∷ [])) ++ (leave s.end ∷ [])) ≡ class_tokens_of (more_members_events [] ms) ++ (closer ∷ [])
-tokens_behind s ms =
-    class_tokens_of-append (members_events [] ms ++ (token closer ∷ [])) (leave s.end ∷ [])
-    ∙ append-nil (class_tokens_of (members_events [] ms ++ (token closer ∷ [])))
-    ∙ class_tokens_of-append (members_events [] ms) (token closer ∷ [])
-    ∙ ap (λ es. class_tokens_of es ++ (closer ∷ [])) (members_are ms)
+class_letter classes.D = record { letter = 100; text = refl; no_b = refl; not_hyphen = refl; no_punctuator = refl; no_letter = refl; found = refl }
+class_letter classes.NegativeD = record { letter = 68; text = refl; no_b = refl; not_hyphen = refl; no_punctuator = refl; no_letter = refl; found = refl }
+class_letter classes.S = record { letter = 115; text = refl; no_b = refl; not_hyphen = refl; no_punctuator = refl; no_letter = refl; found = refl }
+class_letter classes.NegativeS = record { letter = 83; text = refl; no_b = refl; not_hyphen = refl; no_punctuator = refl; no_letter = refl; found = refl }
+class_letter classes.W = record { letter = 119; text = refl; no_b = refl; not_hyphen = refl; no_punctuator = refl; no_letter = refl; found = refl }
+class_letter classes.NegativeW = record { letter = 87; text = refl; no_b = refl; not_hyphen = refl; no_punctuator = refl; no_letter = refl; found = refl }
 
 module _ (e : Environment) where
   -- behind a backslash
   pub at_backslash : (u : CodePoint) (us : List CodePoint) → u.value ≡ 92 → atom_at e (u ∷ us) ≡ escape_in_class e (values us)
   unfolding atom_at
   at_backslash u us h =
-      cond-false (stands_raw_in_class e.mode u.value) _ _ (ap (stands_raw_in_class e.mode) h ∙ backslash_not_raw e.mode)
+      cond-false (stands_raw_in_class e.mode u.value (values us)) _ _ (ap (λ c. stands_raw_in_class e.mode c (values us)) h ∙ backslash_not_raw e.mode (values us))
       ∙ cond-false (has_hyphen e.mode && u.value == 45) _ _ (no_hyphen e.mode u.value (ap (λ c. c == 45) h))
       ∙ cond-true (u.value == 92) _ _ (ap (λ c. c == 92) h)
 
@@ -163,6 +146,7 @@ module _ (e : Environment) where
       ap (λ w. escape_in_class e (w ++ rest)) b.whole
       ∙ cond-false (b.first == 98) _ _ b.no_b
       ∙ cond-false (is_hyphen_escaped e.mode && b.first == 45) _ _ (no_hyphen_escape e.mode b.first b.no_hyphen)
+      ∙ cond-false (is_sets e.mode && is_reserved_punctuator b.first) _ _ (no_punctuator e.mode b.first b.no_reserved)
       ∙ cond-false (begins_property b.first && is_unicode e.mode) _ _ (and_left _ (is_unicode e.mode) b.no_property)
       ∙ ap (λ o. escape_atom o (any_escape_at true e (b.first ∷ b.behind ++ rest))) b.no_class
       ∙ ap (λ w. character_atom (any_escape_at true e (w ++ rest))) (sym b.whole)
@@ -174,6 +158,7 @@ module _ (e : Environment) where
       ap (escape_in_class e) b.whole
       ∙ cond-false (b.first == 98) _ _ b.no_b
       ∙ cond-false (is_hyphen_escaped e.mode && b.first == 45) _ _ (no_legacy_hyphen e.mode b.first m)
+      ∙ cond-false (is_sets e.mode && is_reserved_punctuator b.first) _ _ (no_legacy_punctuator e.mode b.first m)
       ∙ cond-false (begins_property b.first && is_unicode e.mode) _ _ (ap (λ u. begins_property b.first && u) m ∙ no_right (begins_property b.first))
       ∙ ap (λ o. escape_atom o (any_escape_at true e (b.first ∷ b.behind))) b.no_class
       ∙ ap (λ w. character_atom (any_escape_at true e w)) (sym b.whole)
@@ -184,12 +169,17 @@ module _ (e : Environment) where
   alone_read _ _ _ rest (row.hyphen m) =
       cond-true (is_hyphen_escaped e.mode && (45 == 45)) _ _ (ap (λ mode. is_hyphen_escaped mode && (45 == 45)) m)
       ∙ ap (atom_read (character kinds.SingleEscape 45)) (omega arith)
+  alone_read _ _ _ rest (row.reserved c m h) =
+      cond-false (c == 98) _ _ (punctuator_no_b c h)
+      ∙ cond-false (is_hyphen_escaped e.mode && c == 45) _ _ (ap (λ mode. is_hyphen_escaped mode && c == 45) m)
+      ∙ cond-true (is_sets e.mode && is_reserved_punctuator c) _ _ (and_from (is_sets e.mode) (is_reserved_punctuator c) (ap is_sets m) h)
+      ∙ ap (atom_read (character kinds.Identifier c)) (omega arith)
 
   character_read : (k : CharacterKind) (v : ℕ) (w rest : List CodePoint) → SpellsClassCharacter e k v w rest → atom_at e (w ++ rest) ≡ atom_read (character k v) (length w)
   unfolding atom_at
-  character_read _ _ _ rest (raw unit h) = cond-true (stands_raw_in_class e.mode unit.value) _ _ h
+  character_read _ _ _ rest (raw unit h) = cond-true (stands_raw_in_class e.mode unit.value (values rest)) _ _ h
   character_read _ _ _ rest (row.hyphen unit m h) =
-      cond-false (stands_raw_in_class e.mode unit.value) _ _ (ap (stands_raw_in_class e.mode) h ∙ hyphen_not_raw e.mode)
+      cond-false (stands_raw_in_class e.mode unit.value (values rest)) _ _ (ap (λ c. stands_raw_in_class e.mode c (values rest)) h ∙ hyphen_not_raw e.mode (values rest))
       ∙ cond-true (has_hyphen e.mode && unit.value == 45) _ _ (and_from (has_hyphen e.mode) (unit.value == 45) m (ap (λ c. c == 45) h))
   character_read k v _ rest (row.escaped backslash behind h s) =
       atom_by_values (backslash ∷ behind) rest (values behind) (ap (λ c. c ∷ values behind) h)
@@ -210,25 +200,27 @@ module _ (e : Environment) where
       atom_by_values w rest (c.letter ∷ []) (s ∙ c.text)
       ∙ cond-false (c.letter == 98) _ _ c.no_b
       ∙ cond-false (is_hyphen_escaped e.mode && c.letter == 45) _ _ (no_hyphen_escape e.mode c.letter c.not_hyphen)
+      ∙ cond-false (is_sets e.mode && is_reserved_punctuator c.letter) _ _ (no_punctuator e.mode c.letter c.no_punctuator)
       ∙ cond-false (begins_property c.letter && is_unicode e.mode) _ _ (and_left _ (is_unicode e.mode) c.no_letter)
       ∙ ap (λ o. escape_atom o (any_escape_at true e (c.letter ∷ values rest))) c.found
       ∙ ap (atom_read (escape k)) (units w (92 ∷ c.letter ∷ []) (s ∙ c.text))
 
-  property_atom_read : (negative strings : Bool) (name : List ℕ) (value : Option (List ℕ)) (w rest : List CodePoint) → IsProperty e negative strings name value w →
-      atom_at e (w ++ rest) ≡ atom_read (property negative strings name value) (length w)
-  property_atom_read negative strings name value w rest s =
-      let r = property_row e negative strings name value w rest s in
+  property_atom_read : (negative may : Bool) (name : List ℕ) (value : Option (List ℕ)) (w rest : List CodePoint) → IsProperty e negative may name value w →
+      atom_at e (w ++ rest) ≡ atom_read (property negative may name value) (length w)
+  property_atom_read negative may name value w rest s =
+      let r = property_row e negative may name value w rest s in
       atom_by_values w rest (r.letter ∷ r.more) r.whole
       ∙ cond-false (r.letter == 98) _ _ (letter_no_b r.letter r.is_letter)
       ∙ cond-false (is_hyphen_escaped e.mode && r.letter == 45) _ _ (no_hyphen_escape e.mode r.letter (letter_no_hyphen r.letter r.is_letter))
+      ∙ cond-false (is_sets e.mode && is_reserved_punctuator r.letter) _ _ (no_punctuator e.mode r.letter (letter_no_punctuator r.letter r.is_letter))
       ∙ cond-true (begins_property r.letter && is_unicode e.mode) _ _ (and_from _ _ r.is_letter s.unicode)
       ∙ ap property_atom r.read
-      ∙ ap (atom_read (property negative strings name value)) (omega (arith, units w (92 ∷ r.letter ∷ r.more) r.whole))
+      ∙ ap (atom_read (property negative may name value)) (omega (arith, units w (92 ∷ r.letter ∷ r.more) r.whole))
 
   pub atom_is_read : (a : Atom) (w rest : List CodePoint) → SpellsAtom e a w rest → atom_at e (w ++ rest) ≡ atom_read a (length w)
   atom_is_read (character k v) w rest s = character_read k v w rest s
   atom_is_read (escape k) w rest s = class_escape_read k w rest s
-  atom_is_read (property negative strings name value) w rest s = property_atom_read negative strings name value w rest s
+  atom_is_read (property negative may name value) w rest s = property_atom_read negative may name value w rest s
 
   -- No atom is spelled by no units.
   character_some : (k : CharacterKind) (v : ℕ) (w rest : List CodePoint) → SpellsClassCharacter e k v w rest → 0 < length w
@@ -241,347 +233,8 @@ module _ (e : Environment) where
   pub atom_some : (a : Atom) (w rest : List CodePoint) → SpellsAtom e a w rest → 0 < length w
   atom_some (character k v) w rest s = character_some k v w rest s
   atom_some (escape k) w rest s = let c = class_letter k in omega (arith, units w (92 ∷ c.letter ∷ []) (s ∙ c.text))
-  atom_some (property negative strings name value) w rest s =
-      let r = property_row e negative strings name value w rest s in omega (arith, units w (92 ∷ r.letter ∷ r.more) r.whole)
-
-  pub no_atom_at_closer : (u : CodePoint) (us : List CodePoint) → u.value ≡ 93 → atom_at e (u ∷ us) ≡ no_atom
-  unfolding atom_at
-  no_atom_at_closer u us h =
-      cond-false (stands_raw_in_class e.mode u.value) _ _ (ap (stands_raw_in_class e.mode) h ∙ closer_not_raw e.mode)
-      ∙ cond-false (has_hyphen e.mode && u.value == 45) _ _ (no_hyphen e.mode u.value (ap (λ c. c == 45) h))
-      ∙ cond-false (u.value == 92) _ _ (ap (λ c. c == 92) h)
-
-  -- What stands where an item may begin, spelled → read.
-  closer_read : (w rest : List CodePoint) → values w ≡ 93 ∷ [] → piece_at e (w ++ rest) ≡ ending
-  closer_read [] rest h = absurd (let no : ⊥ = cc h in no)
-  closer_read (u ∷ w) rest h =
-      let same : u.value ≡ 93 = cc h in
-      ap (λ r. piece_from e r (u ∷ w ++ rest)) (no_atom_at_closer u (w ++ rest) same) ∙ cond-true (u.value == 93) _ _ (ap (λ c. c == 93) same)
-
-  pub one_read : (a : Atom) (w rest : List CodePoint) → SpellsAtom e a w rest → is_dashed (values rest) ≡ false → piece_at e (w ++ rest) ≡ one a (length w)
-  one_read a w rest s d =
-      ap (λ r. piece_from e r (w ++ rest)) (atom_is_read a w rest s)
-      ∙ cond-false (is_dashed (values (drop (length w) (w ++ rest)))) _ _ (ap (λ us. is_dashed (values us)) (drop-append_seam w rest) ∙ d)
-
-  pub range_read : (k : CharacterKind) (v : ℕ) (j : CharacterKind) (x : ℕ) (w more : List CodePoint) (hyphen : CodePoint) (z rest : List CodePoint) → SpellsClassCharacter e k v w more → is_dashed (values more) ≡ true →
-      more ≡ hyphen ∷ (z ++ rest) → SpellsClassCharacter e j x z rest → piece_at e (w ++ more) ≡ range k v j x (length w + 1 + length z)
-  range_read k v j x w more hyphen z rest s d whole t =
-      ap (λ r. piece_from e r (w ++ more)) (character_read k v w more s)
-      ∙ cond-true (is_dashed (values (drop (length w) (w ++ more)))) _ _ (ap (λ us. is_dashed (values us)) (drop-append_seam w more) ∙ d)
-      ∙ ap (λ us. pair_to (has_threes e.mode) (character k v) (length w) (atom_at e (drop 1 us))) (drop-append_seam w more ∙ whole)
-      ∙ ap (pair_to (has_threes e.mode) (character k v) (length w)) (character_read j x z rest t)
-
-  -- three items
-  apart_pair : (a b : Atom) (n m : ℕ) → (is_character a && is_character b) ≡ false → pair_of true a n b m ≡ three a n b (n + 1 + m)
-  apart_pair (character k v) (character j x) n m h = absurd (let no : ⊥ = cc h in no)
-  apart_pair (character k v) (escape j) n m h = refl
-  apart_pair (character k v) (property negative strings name value) n m h = refl
-  apart_pair (escape k) b n m h = refl
-  apart_pair (property negative strings name value) b n m h = refl
-
-  pub three_read : (a b : Atom) (w more : List CodePoint) (hyphen : CodePoint) (z rest : List CodePoint) → SpellsAtom e a w more → is_dashed (values more) ≡ true → more ≡ hyphen ∷ (z ++ rest) →
-      SpellsAtom e b z rest → (is_character a && is_character b) ≡ false → has_threes e.mode ≡ true → piece_at e (w ++ more) ≡ three a (length w) b (length w + 1 + length z)
-  three_read a b w more hyphen z rest s d whole t apart threes =
-      ap (λ r. piece_from e r (w ++ more)) (atom_is_read a w more s)
-      ∙ cond-true (is_dashed (values (drop (length w) (w ++ more)))) _ _ (ap (λ us. is_dashed (values us)) (drop-append_seam w more) ∙ d)
-      ∙ ap (λ us. pair_to (has_threes e.mode) a (length w) (atom_at e (drop 1 us))) (drop-append_seam w more ∙ whole)
-      ∙ ap (pair_to (has_threes e.mode) a (length w)) (atom_is_read b z rest t)
-      ∙ ap (λ x. pair_of x a (length w) b (length z)) threes
-      ∙ apart_pair a b (length w) (length z) apart
-
-  after_skipped : (n : ℕ) (us : List CodePoint) → members_after e n us ≡ members_after e 0 (drop n us)
-  after_skipped zero us = refl
-  after_skipped (suc n) [] = refl
-  after_skipped (suc n) (x ∷ us) = after_skipped n us
-
-  pub step_by : (grow : MembersRead → MembersRead) (w rest : List CodePoint) (p : Piece) → piece_at e (w ++ rest) ≡ p → 0 < length w →
-      ((again : ℕ → MembersRead) → members_from p again ≡ grow (again (length w - 1))) → members_after e 0 (w ++ rest) ≡ grow (members_after e 0 rest)
-  step_by grow [] rest p h l f = absurd (omega (arith, l))
-  step_by grow (u ∷ w) rest p h l f =
-      let less : suc (length w) - 1 ≡ length w = omega arith in
-      ap (λ p. members_from p (λ n. members_after e n (w ++ rest))) h
-      ∙ f (λ n. members_after e n (w ++ rest))
-      ∙ ap (λ n. grow (members_after e n (w ++ rest))) less
-      ∙ ap grow (after_skipped (length w) (w ++ rest) ∙ ap (members_after e 0) (drop-append_seam w rest))
-
-  pub step : (m : Member) (w rest : List CodePoint) (p : Piece) → piece_at e (w ++ rest) ≡ p → 0 < length w →
-      ((again : ℕ → MembersRead) → members_from p again ≡ before_members m (length w) (again (length w - 1))) → members_after e 0 (w ++ rest) ≡ before_members m (length w) (members_after e 0 rest)
-  step m w rest p h l f = step_by (before_members m (length w)) w rest p h l f
-
-  -- a range, and three items, at the front of what is in a class
-  joined : (w : List CodePoint) (hyphen : CodePoint) (z back : List CodePoint) → (w ++ (hyphen ∷ z)) ++ back ≡ w ++ (hyphen ∷ (z ++ back))
-  joined w hyphen z back = append_assoc w (hyphen ∷ z) back
-
-  joined_count : (w : List CodePoint) (hyphen : CodePoint) (z : List CodePoint) → length w + 1 + length z ≡ length (w ++ (hyphen ∷ z))
-  joined_count w hyphen z = omega (arith, length-append w (hyphen ∷ z))
-
-  pub range_step : (k : CharacterKind) (v : ℕ) (j : CharacterKind) (x : ℕ) (w : List CodePoint) (hyphen : CodePoint) (z back : List CodePoint) → SpellsClassCharacter e k v w (hyphen ∷ (z ++ back)) →
-      is_dashed (values (hyphen ∷ (z ++ back))) ≡ true → SpellsClassCharacter e j x z back →
-      members_after e 0 ((w ++ (hyphen ∷ z)) ++ back) ≡ before_members (range_member k v j x) (length (w ++ (hyphen ∷ z))) (members_after e 0 back)
-  range_step k v j x w hyphen z back s d t =
-      let n = length (w ++ (hyphen ∷ z)) in
-      step (range_member k v j x) (w ++ (hyphen ∷ z)) back (range k v j x n)
-      (ap (piece_at e) (joined w hyphen z back) ∙ range_read k v j x w (hyphen ∷ (z ++ back)) hyphen z back s d refl t ∙ ap (range k v j x) (joined_count w hyphen z))
-      (omega (arith, joined_count w hyphen z)) (λ again. refl)
-
-  pub three_step : (a b : Atom) (w : List CodePoint) (hyphen : CodePoint) (z back : List CodePoint) → SpellsAtom e a w (hyphen ∷ (z ++ back)) → is_dashed (values (hyphen ∷ (z ++ back))) ≡ true → SpellsAtom e b z back →
-      (is_character a && is_character b) ≡ false → has_threes e.mode ≡ true →
-      members_after e 0 ((w ++ (hyphen ∷ z)) ++ back) ≡ before_three a b (length (w ++ (hyphen ∷ z))) (members_after e 0 back)
-  three_step a b w hyphen z back s d t apart threes =
-      let n = length (w ++ (hyphen ∷ z)) in
-      step_by (before_three a b n) (w ++ (hyphen ∷ z)) back (three a (length w) b n)
-      (ap (piece_at e) (joined w hyphen z back) ∙ three_read a b w (hyphen ∷ (z ++ back)) hyphen z back s d refl t apart threes ∙ ap (three a (length w) b) (joined_count w hyphen z))
-      (omega (arith, joined_count w hyphen z)) (λ again. refl)
-
-  -- what is in a class up to its closer, spelled → read
-  pub record MembersRow (ms : Members) (us rest : List CodePoint) : Type 0 where
-    pub front : List CodePoint
-    whole : us ≡ front ++ rest
-    pub read : members_after e 0 us ≡ members_read ms (length front)
-
-  prepend : (m : Member) (ms : Members) (us w more rest : List CodePoint) → us ≡ w ++ more → members_after e 0 (w ++ more) ≡ before_members m (length w) (members_after e 0 more) →
-      MembersRow ms more rest → MembersRow (member m ms) us rest
-  prepend m ms us w more rest h s r = record {
-    front = w ++ r.front;
-    whole = h ∙ ap (λ v. w ++ v) r.whole ∙ sym (append_assoc w r.front rest);
-    read = ap (members_after e 0) h ∙ s ∙ ap (before_members m (length w)) r.read ∙ ap (members_read (member m ms)) (sym (length-append w r.front));
-  }
-
-  atom_first : (a : Atom) (m : Member) (ms : Members) (us w more rest : List CodePoint) → atom_member a ≡ m → us ≡ w ++ more → SpellsAtom e a w more → is_dashed (values more) ≡ false →
-      MembersRow ms more rest → MembersRow (member m ms) us rest
-  atom_first a m ms us w more rest same h s d r =
-      prepend m ms us w more rest h
-      (step m w more (one a (length w)) (one_read a w more s d) (atom_some a w more s) (λ again. ap (λ m. before_members m (length w) (again (length w - 1))) same)) r
-
-  range_first : (k : CharacterKind) (v : ℕ) (j : CharacterKind) (x : ℕ) (m : Member) (ms : Members) (us w more : List CodePoint) (hyphen : CodePoint) (z back rest : List CodePoint) → range_member k v j x ≡ m →
-      us ≡ w ++ more → SpellsClassCharacter e k v w more → is_dashed (values more) ≡ true → more ≡ hyphen ∷ (z ++ back) → SpellsClassCharacter e j x z back →
-      MembersRow ms back rest → MembersRow (member m ms) us rest
-  range_first k v j x m ms us w more hyphen z back rest same h s d whole t r =
-      let seen = range_step k v j x w hyphen z back (subst (SpellsClassCharacter e k v w) whole s) (ap (λ us. is_dashed (values us)) (sym whole) ∙ d) t in
-      prepend m ms us (w ++ (hyphen ∷ z)) back rest (h ∙ ap (λ v. w ++ v) whole ∙ sym (joined w hyphen z back))
-      (seen ∙ ap (λ m. before_members m (length (w ++ (hyphen ∷ z))) (members_after e 0 back)) same) r
-
-  ending_read : (w rest : List CodePoint) → values w ≡ 93 ∷ [] → members_after e 0 (w ++ rest) ≡ members_read no_member (length w)
-  ending_read [] rest h = absurd (let no : ⊥ = cc h in no)
-  ending_read (u ∷ w) rest h =
-      ap (λ p. members_from p (λ n. members_after e n (w ++ rest))) (closer_read (u ∷ w) rest h)
-      ∙ ap (members_read no_member) (units (u ∷ w) (93 ∷ []) h)
-
-  -- the place behind an item that no `-` follows, and behind the first of three
-  pub behind_one : (a : Atom) (more : List CodePoint) → is_dashed (values more) ≡ false → behind e.mode fresh (item a) more ≡ fresh
-  behind_one a more d = ap (λ b. behind_item fresh (b && has_threes e.mode)) d
-
-  pub behind_first : (a : Atom) (more : List CodePoint) → BeforeThird e a more → behind e.mode fresh (item a) more ≡ at_second
-  behind_first a more t = ap₂ (λ b c. behind_item fresh (b && c)) t.dashed t.threes
-
-  abbrev MembersTokens : Members → List ClassToken
-  MembersTokens ms = class_tokens_of (more_members_events [] ms) ++ (closer ∷ [])
-
-  -- what stands where the third of three items is to stand, and where the second
-  record ThirdRow (ms : Members) (us rest : List CodePoint) : Type 0 where
-    atom : Atom
-    others : Members
-    w : List CodePoint
-    more : List CodePoint
-    members_are : ms ≡ member (atom_member atom) others
-    whole : us ≡ w ++ more
-    spelled : SpellsAtom e atom w more
-    row : MembersRow others more rest
-
-  record SecondRow (ms : Members) (us rest : List CodePoint) : Type 0 where
-    hyphen : CodePoint
-    tail : Members
-    more : List CodePoint
-    members_are : ms ≡ member (atom_member (character kinds.Symbol 45)) tail
-    whole : us ≡ hyphen ∷ more
-    hyphen_is : hyphen.value ≡ 45
-    third : ThirdRow tail more rest
-
-  -- one atom at most stands at the front
-  one_atom : (a b : Atom) (w more v rest : List CodePoint) → SpellsAtom e a w more → SpellsAtom e b v rest → w ++ more ≡ v ++ rest → a ≡ b
-  one_atom a b w more v rest s t h = cc (sym (atom_is_read a w more s) ∙ ap (atom_at e) h ∙ atom_is_read b v rest t)
-
-  three_first : (a : Atom) (m : Member) (ms : Members) (us w more rest : List CodePoint) → atom_member a ≡ m → us ≡ w ++ more → SpellsAtom e a w more → BeforeThird e a more → SecondRow ms more rest →
-      MembersRow (member m ms) us rest
-  three_first a m ms us w more rest same h s t r =
-      let x = r.third in
-      let z = r.hyphen ∷ x.w in
-      let tail : more ≡ z ++ x.more = r.whole ∙ ap (λ v. r.hyphen ∷ v) x.whole in
-      let tails : t.w ++ t.more ≡ x.w ++ x.more = (let k = sym t.whole ∙ tail in let l : t.w ++ t.more ≡ x.w ++ x.more = cc k in l) in
-      let atoms : t.third ≡ x.atom = one_atom t.third x.atom t.w t.more x.w x.more t.spelled x.spelled tails in
-      let apart : (is_character a && is_character x.atom) ≡ false = ap (λ b. is_character a && is_character b) (sym atoms) ∙ t.apart in
-      let all : w ++ more ≡ (w ++ z) ++ x.more = ap (λ v. w ++ v) tail ∙ sym (append_assoc w z x.more) in
-      let n = length (w ++ z) in
-      let grown = three_step a x.atom w r.hyphen x.w x.more (subst (SpellsAtom e a w) tail s) (ap (λ us. is_dashed (values us)) (sym tail) ∙ t.dashed) x.spelled apart t.threes in
-      let members : member (atom_member a) (member (atom_member (character kinds.Symbol 45)) (member (atom_member x.atom) x.others)) ≡ member m ms =
-      ap₂ member same (ap (member (atom_member (character kinds.Symbol 45))) (sym x.members_are) ∙ sym r.members_are) in
-      let y = x.row in
-      record {
-        front = (w ++ z) ++ y.front;
-        whole = h ∙ all ∙ ap (λ v. (w ++ z) ++ v) y.whole ∙ sym (append_assoc (w ++ z) y.front rest);
-        read =
-            ap (members_after e 0) (h ∙ all) ∙ grown ∙ ap (before_three a x.atom n) y.read
-            ∙ ap₂ members_read members (let k : n + (0 + (0 + length y.front)) ≡ n + length y.front = omega arith in k)
-            ∙ ap (members_read (member m ms)) (sym (length-append (w ++ z) y.front));
-      }
-
-  abbrev RowAt : Place → Members → List CodePoint → List CodePoint → Type 0
-  RowAt q ms us rest = ClassTokenRow e (MembersTokens ms) q us fresh rest
-
-  item_row : (a : Atom) (m : Member) (ms : Members) (us w more rest : List CodePoint) → atom_member a ≡ m → us ≡ w ++ more → SpellsAtom e a w more → StandsBefore e a more →
-      RowAt (behind e.mode fresh (item a) more) ms more rest → (RowAt fresh ms more rest → MembersRow ms more rest) → (RowAt at_second ms more rest → SecondRow ms more rest) → MembersRow (member m ms) us rest
-  item_row a m ms us w more rest same h s (inl d) r alone first =
-      atom_first a m ms us w more rest same h s d (alone (subst (λ q. RowAt q ms more rest) (behind_one a more d) r))
-  item_row a m ms us w more rest same h s (inr t) r alone first =
-      three_first a m ms us w more rest same h s t (first (subst (λ q. RowAt q ms more rest) (behind_first a more t) r))
-
-  last_row : (a : Atom) (m : Member) (ms : Members) (us w more rest : List CodePoint) → atom_member a ≡ m → us ≡ w ++ more → SpellsAtom e a w more → MembersRow ms more rest → ThirdRow (member m ms) us rest
-  last_row a m ms us w more rest same h s r = record {
-    atom = a;
-    others = ms;
-    w = w;
-    more = more;
-    members_are = ap (λ m. member m ms) (sym same);
-    whole = h;
-    spelled = s;
-    row = r;
-  }
-
-  mutual
-    pub members_row : (ms : Members) (us rest : List CodePoint) → forget_members same_kind ms ≡ ms → ClassTokenRow e (class_tokens_of (more_members_events [] ms) ++ (closer ∷ [])) fresh us fresh rest → MembersRow ms us rest
-    members_row no_member us rest h r = record {
-      front = r.0;
-      whole = r.2 ∙ ap (λ v. r.0 ++ v) r.4.1;
-      read = ap (members_after e 0) r.2 ∙ ending_read r.0 r.1 r.3;
-    }
-    members_row (member (tree.character c) ms) us rest h r =
-        let same : forget_member same_kind (tree.character c) ≡ tree.character c = cc h in
-        let others : forget_members same_kind ms ≡ ms = cc h in
-        item_row (character c.kind c.value) (tree.character c) ms us r.0 r.1 rest same r.2 r.3.0 r.3.1 r.4 (λ k. members_row ms r.1 rest others k) (λ k. second_row ms r.1 rest others k)
-    members_row (member (tree.escape k) ms) us rest h r =
-        let same : forget_member same_kind (tree.escape k) ≡ tree.escape k = cc h in
-        let others : forget_members same_kind ms ≡ ms = cc h in
-        item_row (escape k.kind) (tree.escape k) ms us r.0 r.1 rest same r.2 r.3.0 r.3.1 r.4 (λ k. members_row ms r.1 rest others k) (λ k. second_row ms r.1 rest others k)
-    members_row (member (tree.property p) ms) us rest h r =
-        let same : forget_member same_kind (tree.property p) ≡ tree.property p = cc h in
-        let others : forget_members same_kind ms ≡ ms = cc h in
-        item_row (property p.negative p.strings p.name p.value) (tree.property p) ms us r.0 r.1 rest same r.2 r.3.0 r.3.1 r.4 (λ k. members_row ms r.1 rest others k) (λ k. second_row ms r.1 rest others k)
-    members_row (member (tree.range b) ms) us rest h r =
-        let same : forget_member same_kind (tree.range b) ≡ tree.range b = cc h in
-        let others : forget_members same_kind ms ≡ ms = cc h in
-        let middle = r.4 in
-        let end = middle.4 in
-        let hyphen = single middle.0 45 middle.3 in
-        range_first b.min.kind b.min.value b.max.kind b.max.value (tree.range b) ms us r.0 r.1 hyphen.0 end.0 end.1 rest same r.2 r.3.0 r.3.1
-        (middle.2 ∙ ap (λ w. w ++ middle.1) hyphen.1 ∙ ap (λ us. hyphen.0 ∷ us) end.2) end.3 (members_row ms end.1 rest others end.4)
-    members_row (member (tree.nested (class s negative may kind inner)) ms) us rest h r = absurd r.3
-    members_row (member (tree.strings d) ms) us rest h r = absurd r.3
-
-    second_row : (ms : Members) (us rest : List CodePoint) → forget_members same_kind ms ≡ ms → RowAt at_second ms us rest → SecondRow ms us rest
-    second_row no_member us rest h r = absurd r.3
-    second_row (member (tree.character c) ms) us rest h r =
-        let same : forget_member same_kind (tree.character c) ≡ tree.character c = cc h in
-        let others : forget_members same_kind ms ≡ ms = cc h in
-        let u = single r.0 45 r.3.1 in
-        record {
-          hyphen = u.0;
-          tail = ms;
-          more = r.1;
-          members_are = ap (λ m. member m ms) (sym same ∙ ap atom_member r.3.0);
-          whole = r.2 ∙ ap (λ v. v ++ r.1) u.1;
-          hyphen_is = u.2;
-          third = third_row ms r.1 rest others r.4;
-        }
-    second_row (member (tree.escape k) ms) us rest h r = let f = r.3.0 in absurd (let no : ⊥ = cc f in no)
-    second_row (member (tree.property p) ms) us rest h r = let f = r.3.0 in absurd (let no : ⊥ = cc f in no)
-    second_row (member (tree.range b) ms) us rest h r = absurd r.3
-    second_row (member (tree.nested (class s negative may kind inner)) ms) us rest h r = absurd r.3
-    second_row (member (tree.strings d) ms) us rest h r = absurd r.3
-
-    third_row : (ms : Members) (us rest : List CodePoint) → forget_members same_kind ms ≡ ms → RowAt at_third ms us rest → ThirdRow ms us rest
-    third_row no_member us rest h r = absurd r.3
-    third_row (member (tree.character c) ms) us rest h r =
-        let same : forget_member same_kind (tree.character c) ≡ tree.character c = cc h in
-        let others : forget_members same_kind ms ≡ ms = cc h in
-        last_row (character c.kind c.value) (tree.character c) ms us r.0 r.1 rest same r.2 r.3 (members_row ms r.1 rest others r.4)
-    third_row (member (tree.escape k) ms) us rest h r =
-        let same : forget_member same_kind (tree.escape k) ≡ tree.escape k = cc h in
-        let others : forget_members same_kind ms ≡ ms = cc h in
-        last_row (escape k.kind) (tree.escape k) ms us r.0 r.1 rest same r.2 r.3 (members_row ms r.1 rest others r.4)
-    third_row (member (tree.property p) ms) us rest h r =
-        let same : forget_member same_kind (tree.property p) ≡ tree.property p = cc h in
-        let others : forget_members same_kind ms ≡ ms = cc h in
-        last_row (property p.negative p.strings p.name p.value) (tree.property p) ms us r.0 r.1 rest same r.2 r.3 (members_row ms r.1 rest others r.4)
-    third_row (member (tree.range b) ms) us rest h r = absurd r.3
-    third_row (member (tree.nested (class s negative may kind inner)) ms) us rest h r = absurd r.3
-    third_row (member (tree.strings d) ms) us rest h r = absurd r.3
-
-  -- a class, spelled → read
-  pub record ClassRead (c : Class) (w rest : List CodePoint) : Type 0 where
-    pub bracket : CodePoint
-    pub units : List CodePoint
-    pub whole : w ≡ bracket ∷ units
-    pub is_bracket : bracket.value ≡ 91
-    pub read : class_front e (units ++ rest) ≡ Some (c, length w)
-
-  positive_front : (us : List CodePoint) (ms : Members) (n : ℕ) → starts 94 (values us) ≡ false → members_after e 0 us ≡ members_read ms n → class_front e us ≡ class_of false 1 (members_after e 0 us)
-  unfolding class_front
-  positive_front [] ms n h r = absurd (let no : ⊥ = cc r in no)
-  positive_front (u ∷ us) ms n h r = cond-false (u.value == 94) _ _ h
-
-  opened_front : (negative : Bool) (u : CodePoint) (b more : List CodePoint) (ms : Members) (n : ℕ) → members_after e 0 more ≡ members_read ms n → SpellsInClass e outside (bracket negative) (u ∷ b) more →
-      class_front e (b ++ more) ≡ class_of negative (length (u ∷ b)) (members_after e 0 more)
-  unfolding class_front
-  opened_front true u b more ms n r k =
-      let rest : values b ≡ 94 ∷ [] = cc k in
-      let caret = single b 94 rest in
-      ap (λ b. class_front e (b ++ more)) caret.1
-      ∙ cond-true (caret.0.value == 94) _ _ (ap (λ c. c == 94) caret.2)
-      ∙ ap (λ n. class_of true (suc n) (members_after e 0 more)) (units b (94 ∷ []) rest)
-  opened_front false u b more ms n r k =
-      let first = k.0 in
-      let none : values b ≡ [] = cc first in
-      ap (λ b. class_front e (b ++ more)) (nothing_left b none)
-      ∙ positive_front more ms n k.1 r
-      ∙ ap (λ n. class_of false (suc n) (members_after e 0 more)) (units b [] none)
-
-  class_there : (negative may : Bool) (s : Span) (ms : Members) (w rest b more : List CodePoint) → s ≡ nowhere → may ≡ any_strings ms → w ++ rest ≡ b ++ more → SpellsInClass e outside (bracket negative) b more →
-      MembersRow ms more rest → ClassRead (class s negative may Union ms) w rest
-  class_there negative may s ms w rest [] more place flag h k r = absurd (nothing_opens negative k)
-    where
-      nothing_opens : (negative : Bool) → SpellsInClass e outside (bracket negative) [] more → ⊥
-      nothing_opens true k = cc k
-      nothing_opens false k = let no = k.0 in cc no
-  class_there negative may s ms w rest (u ∷ b) more place flag h k r = record {
-    bracket = u;
-    units = b ++ r.front;
-    whole = all;
-    is_bracket = opens negative k;
-    read =
-        ap (class_front e) (append_assoc b r.front rest ∙ ap (λ v. b ++ v) (sym r.whole))
-        ∙ opened_front negative u b more ms (length r.front) r.read k
-        ∙ ap (class_of negative (length (u ∷ b))) r.read
-        ∙ ap₂ (λ s may. Some (class s negative may Union ms, length (u ∷ b) + length r.front)) (sym place) (sym flag)
-        ∙ ap (λ n. Some (class s negative may Union ms, n)) (sym (length-append (u ∷ b) r.front) ∙ ap length (sym all));
-  }
-    where
-      all : w ≡ u ∷ (b ++ r.front)
-      all = same_front w (u ∷ (b ++ r.front)) rest (h ∙ ap (λ v. (u ∷ b) ++ v) r.whole ∙ sym (append_assoc (u ∷ b) r.front rest))
-
-      opens : (negative : Bool) → SpellsInClass e outside (bracket negative) (u ∷ b) more → u.value ≡ 91
-      opens true k = cc k
-      opens false k = let first = k.0 in cc first
-
-  pub class_read : (c : Class) (w rest : List CodePoint) → IsClass e c w rest → ClassRead c w rest
-  class_read (class s negative may Union ms) w rest i =
-      let none = i.no_spans in
-      let place : nowhere ≡ s = cc none in
-      let kept : forget_members same_kind ms ≡ ms = cc none in
-      let r = i.row in
-      class_there negative may s ms w rest r.0 r.1 (sym place) i.shape.1 r.2 r.3
-      (members_row ms r.1 rest kept (subst (λ ts. ClassTokenRow e ts fresh r.1 fresh rest) (tokens_behind s ms) r.4))
-  class_read (class s negative may Intersection ms) w rest i = absurd i.shape.0
-  class_read (class s negative may Subtraction ms) w rest i = absurd i.shape.0
+  atom_some (property negative may name value) w rest s =
+      let r = property_row e negative may name value w rest s in omega (arith, units w (92 ∷ r.letter ∷ r.more) r.whole)
 
   -- an atom that stands at the front, read → spelled
   pub record AtomFront (a : Atom) (n : ℕ) (us : List CodePoint) : Type 0 where
@@ -600,10 +253,10 @@ module _ (e : Environment) where
   property_there : (a : Atom) (n : ℕ) (u : CodePoint) (us : List CodePoint) → u.value ≡ 92 → is_unicode e.mode ≡ true → (r : PropertyRead) → property_front e.mode (values us) ≡ r →
       property_atom r ≡ atom_read a n → AtomFront a n (u ∷ us)
   property_there a n u us h m no_property f q = absurd (let no : ⊥ = cc q in no)
-  property_there a n u us h m (property_read negative strings name value k) f q =
-      let t = property_text e negative strings name value k (values us) m f in
+  property_there a n u us h m (property_read negative may name value k) f q =
+      let t = property_text e negative may name value k (values us) m f in
       let s = split_values (u ∷ us) t.text t.back (ap (λ c. c ∷ values us) h ∙ t.whole) in
-      atom_of (property negative strings name value) (k + 1) (u ∷ us) s.front s.back s.whole (sym (length-map s.front (λ u. u.value)) ∙ ap length s.front_is ∙ t.count)
+      atom_of (property negative may name value) (k + 1) (u ∷ us) s.front s.back s.whole (sym (length-map s.front (λ u. u.value)) ∙ ap length s.front_is ∙ t.count)
       (t.spells s.front s.back s.front_is s.back_is) q
 
   pub any_there : (a : Atom) (n : ℕ) (u : CodePoint) (us : List CodePoint) (k : CharacterKind) (v m : ℕ) → u.value ≡ 92 → AnyFront true e k v m (values us) → atom_read (character k v) (m + 1) ≡ atom_read a n → AtomFront a n (u ∷ us)
@@ -641,9 +294,14 @@ module _ (e : Environment) where
           let b = both (is_hyphen_escaped e.mode) (v.value == 45) r.0 in
           atom_of (character kinds.SingleEscape 45) 2 (u ∷ v ∷ us) (u ∷ v ∷ []) us refl refl
           (escaped_in_class u (v ∷ []) h (subst (SpellsInClassAlone e.mode kinds.SingleEscape 45) (sym (one_value v 45 b.1)) (row.hyphen (only_escapes e.mode b.0)))) r.1
-      | inr r ↦ elim (chosen (begins_property v.value && is_unicode e.mode) r.1) [
-        | inl s ↦ property_there a n u (v ∷ us) h (both (begins_property v.value) (is_unicode e.mode) s.0).1 (property_front e.mode (values (v ∷ us))) refl s.1
-        | inr s ↦ class_escape_there a n u v us h (class_escape_at v.value) refl s.1
+      | inr r ↦ elim (chosen (is_sets e.mode && is_reserved_punctuator v.value) r.1) [
+        | inl s ↦
+            let b = both (is_sets e.mode) (is_reserved_punctuator v.value) s.0 in
+            atom_of (character kinds.Identifier v.value) 2 (u ∷ v ∷ us) (u ∷ v ∷ []) us refl refl (escaped_in_class u (v ∷ []) h (row.reserved v.value (sets_is e.mode b.0) b.1)) s.1
+        | inr s ↦ elim (chosen (begins_property v.value && is_unicode e.mode) s.1) [
+          | inl t ↦ property_there a n u (v ∷ us) h (both (begins_property v.value) (is_unicode e.mode) t.0).1 (property_front e.mode (values (v ∷ us))) refl t.1
+          | inr t ↦ class_escape_there a n u v us h (class_escape_at v.value) refl t.1
+        ]
       ]
     ]
   ]
@@ -651,7 +309,7 @@ module _ (e : Environment) where
   pub atom_found : (a : Atom) (n : ℕ) (us : List CodePoint) → atom_at e us ≡ atom_read a n → AtomFront a n us
   unfolding atom_at
   atom_found a n [] h = absurd (let no : ⊥ = cc h in no)
-  atom_found a n (u ∷ us) h = elim (chosen (stands_raw_in_class e.mode u.value) h) [
+  atom_found a n (u ∷ us) h = elim (chosen (stands_raw_in_class e.mode u.value (values us)) h) [
     | inl p ↦ atom_of (character (unit_kind u.escape_kind) u.value) 1 (u ∷ us) (u ∷ []) us refl refl (raw u p.0) p.1
     | inr p ↦ elim (chosen (has_hyphen e.mode && u.value == 45) p.1) [
       | inl q ↦
@@ -664,310 +322,486 @@ module _ (e : Environment) where
     ]
   ]
 
-  -- what stands where an item may begin, read → spelled
-  record OneFront (a : Atom) (n : ℕ) (us : List CodePoint) : Type 0 where
-    w : List CodePoint
-    rest : List CodePoint
-    whole : us ≡ w ++ rest
-    count : length w ≡ n
-    spelled : SpellsAtom e a w rest
-    alone : is_dashed (values rest) ≡ false
+  -- Tokens at their places, spelled → read.
+  text_of : (w rest : List CodePoint) (v : List ℕ) → values w ≡ v → values (w ++ rest) ≡ v ++ values rest
+  text_of w rest v h = map-append (λ (u : CodePoint). u.value) w rest ∙ ap (λ v. v ++ values rest) h
 
-  record RangeFront (k : CharacterKind) (v : ℕ) (j : CharacterKind) (x n : ℕ) (us : List CodePoint) : Type 0 where
-    w : List CodePoint
-    hyphen : CodePoint
-    z : List CodePoint
-    rest : List CodePoint
-    whole : us ≡ w ++ (hyphen ∷ (z ++ rest))
-    count : length w + 1 + length z ≡ n
-    is_hyphen : hyphen.value ≡ 45
-    dashed : is_dashed (values (hyphen ∷ (z ++ rest))) ≡ true
-    first : SpellsClassCharacter e k v w (hyphen ∷ (z ++ rest))
-    last : SpellsClassCharacter e j x z rest
+  -- no atom begins with a character that neither stands for itself nor is a `-` of its own nor a backslash
+  no_atom_at : (u : CodePoint) (us : List CodePoint) → stands_raw_in_class e.mode u.value (values us) ≡ false → (has_hyphen e.mode && u.value == 45) ≡ false → (u.value == 92) ≡ false → atom_at e (u ∷ us) ≡ no_atom
+  unfolding atom_at
+  no_atom_at u us r h b = cond-false (stands_raw_in_class e.mode u.value (values us)) _ _ r ∙ cond-false (has_hyphen e.mode && u.value == 45) _ _ h ∙ cond-false (u.value == 92) _ _ b
 
-  record ThreeFront (a : Atom) (b : Atom) (n : ℕ) (us : List CodePoint) : Type 0 where
-    w : List CodePoint
-    hyphen : CodePoint
-    z : List CodePoint
-    rest : List CodePoint
-    whole : us ≡ w ++ (hyphen ∷ (z ++ rest))
-    count : length w + 1 + length z ≡ n
-    is_hyphen : hyphen.value ≡ 45
-    dashed : is_dashed (values (hyphen ∷ (z ++ rest))) ≡ true
-    first : SpellsAtom e a w (hyphen ∷ (z ++ rest))
-    last : SpellsAtom e b z rest
-    apart : (is_character a && is_character b) ≡ false
-    threes : has_threes e.mode ≡ true
+  pub no_atom_at_closer : (u : CodePoint) (us : List CodePoint) → u.value ≡ 93 → atom_at e (u ∷ us) ≡ no_atom
+  no_atom_at_closer u us h =
+      no_atom_at u us (ap (λ c. stands_raw_in_class e.mode c (values us)) h ∙ closer_not_raw e.mode (values us)) (no_hyphen e.mode u.value (ap (λ c. c == 45) h)) (ap (λ c. c == 92) h)
 
-  abbrev PieceFront : List CodePoint → Piece → Type 0
-  PieceFront us (three a m b n) = ThreeFront a b n us
-  PieceFront us (one a n) = OneFront a n us
-  PieceFront us (range k v j x n) = RangeFront k v j x n us
-  PieceFront us ending = (u : CodePoint) × (rest : List CodePoint) × (us ≡ u ∷ rest) × (u.value ≡ 93)
-  PieceFront us no_piece = Unit {0}
+  -- With `v` no atom stands where another token does.
+  no_set_atom : (us : List CodePoint) (c : ℕ) (w : List ℕ) → is_sets e.mode ≡ true → values us ≡ c ∷ w → stands_raw_in_class Sets c w ≡ false → (c == 92) ≡ false → atom_at e us ≡ no_atom
+  no_set_atom [] c w m h r b = absurd (let no : ⊥ = cc h in no)
+  no_set_atom (u ∷ us) c w m h r b =
+      let first : u.value ≡ c = cc h in
+      let others : values us ≡ w = cc h in
+      let is = sets_is e.mode m in
+      no_atom_at u us (ap₂ (λ c w. stands_raw_in_class e.mode c w) first others ∙ ap (λ mode. stands_raw_in_class mode c w) is ∙ r) (ap (λ mode. has_hyphen mode && u.value == 45) is)
+      (ap (λ c. c == 92) first ∙ b)
+
+  no_strings_atom : (us : List CodePoint) (w : List ℕ) → is_sets e.mode ≡ true → values us ≡ 92 ∷ 113 ∷ w → atom_at e us ≡ no_atom
+  unfolding escape_at
+  no_strings_atom [] w m h = absurd (let no : ⊥ = cc h in no)
+  no_strings_atom (u ∷ us) w m h =
+      let is = sets_is e.mode m in
+      let first : u.value ≡ 92 = cc h in
+      let others : values us ≡ 113 ∷ w = cc h in
+      at_backslash u us first ∙ ap (escape_in_class e) others
+      ∙ cond-false (is_hyphen_escaped e.mode && 113 == 45) _ _ (ap (λ mode. is_hyphen_escaped mode && 113 == 45) is)
+      ∙ cond-false (is_sets e.mode && is_reserved_punctuator 113) _ _ (ap (λ mode. is_sets mode && is_reserved_punctuator 113) is)
+      ∙ ap character_atom (any_in_unicode true e (113 ∷ w) (ap is_unicode is) ∙ ap (λ unicode. escape_at unicode (113 ∷ w)) (ap is_unicode is))
+
+  at_bracket : (negative : Bool) (w rest : List CodePoint) → SpellsBracket negative w rest → bracket_at (values (w ++ rest)) ≡ Some (bracket negative, length w)
+  at_bracket true w rest s = ap bracket_at (text_of w rest (91 ∷ 94 ∷ []) s) ∙ ap (λ n. Some (bracket true, n)) (units w (91 ∷ 94 ∷ []) s)
+  at_bracket false w rest s =
+      ap bracket_at (text_of w rest (91 ∷ []) s.0) ∙ cond-false (starts 94 (values rest)) _ _ s.1 ∙ ap (λ n. Some (bracket false, n)) (units w (91 ∷ []) s.0)
+
+  -- the units of a bracket
+  bracket_begins : (negative : Bool) (w rest : List CodePoint) → SpellsBracket negative w rest → (v : List ℕ) × (values (w ++ rest) ≡ 91 ∷ v)
+  bracket_begins true w rest s = (94 ∷ values rest, text_of w rest (91 ∷ 94 ∷ []) s)
+  bracket_begins false w rest s = (values rest, text_of w rest (91 ∷ []) s.0)
+
+  operand_bracket : (negative : Bool) (w rest : List CodePoint) → SpellsBracket negative w rest → operand_token (values (w ++ rest)) ≡ Some (bracket negative, length w)
+  operand_bracket negative w rest s =
+      let b = bracket_begins negative w rest s in
+      ap operand_token b.1 ∙ ap bracket_at (sym b.1) ∙ at_bracket negative w rest s
+
+  -- an operand that is no atom
+  operand_read : (w rest : List CodePoint) (t : ClassToken) → is_sets e.mode ≡ true → SpellsOperand e t w rest → operand_of (atom_at e (w ++ rest)) (values (w ++ rest)) ≡ Some (t, length w)
+  operand_read w rest (item a) m s = ap (λ r. operand_of r (values (w ++ rest))) (atom_is_read a w rest s)
+  operand_read w rest (bracket negative) m s =
+      let b = bracket_begins negative w rest s in
+      ap (λ r. operand_of r (values (w ++ rest))) (no_set_atom (w ++ rest) 91 b.0 m b.1 refl refl) ∙ operand_bracket negative w rest s
+  operand_read w rest strings m s =
+      let text = text_of w rest (92 ∷ 113 ∷ 123 ∷ []) s in
+      ap (λ r. operand_of r (values (w ++ rest))) (no_strings_atom (w ++ rest) (123 ∷ values rest) m text) ∙ ap operand_token text ∙ ap (λ n. Some (strings, n)) (units w (92 ∷ 113 ∷ 123 ∷ []) s)
+  operand_read w rest t m s = absurd s
+
+  -- With `v` an item stands before a `-` behind which no end of a range is read.
+  some_character : (a : Atom) → is_character a ≡ true → (k : CharacterKind) × (v : ℕ) × (a ≡ character k v)
+  some_character (character k v) h = (k, v, refl)
+  some_character (escape k) h = absurd (let no : ⊥ = cc h in no)
+  some_character (property negative may name value) h = absurd (let no : ⊥ = cc h in no)
+
+  in_sets : (threes : Bool) (a : Atom) (n : ℕ) → is_sets e.mode ≡ true → item_where (threes || is_sets e.mode) a n ≡ Some (item a, n)
+  in_sets true a n h = refl
+  in_sets false a n h = ap (λ set. item_where set a n) h
+
+  set_item : (a : Atom) (n : ℕ) (hyphen : CodePoint) (more : List CodePoint) → hyphen.value ≡ 45 → BeginsNoRange e a (hyphen ∷ more) → (r : AtomRead) → atom_at e more ≡ r → dashed_of e.mode a n r ≡ Some (item a, n)
+  set_item a n hyphen more is b no_atom f = ap (λ set. item_where set a n) b.sets
+  set_item a n hyphen more is b (atom_read c m) f = elim (cases_Bool (is_character a && is_character c)) [
+    | inl h ↦
+        let p = both (is_character a) (is_character c) h in
+        let k = some_character c p.1 in
+        let g = atom_found c m more f in
+        absurd (b.none p.0 (record {
+          hyphen = hyphen;
+          kind = k.0;
+          value = k.1;
+          w = g.w;
+          more = g.rest;
+          whole = ap (λ us. hyphen ∷ us) g.whole;
+          hyphen_is = is;
+          spelled = subst (λ c. SpellsAtom e c g.w g.rest) k.2 g.spelled;
+        }))
+    | inr h ↦ cond-false (is_character a && is_character c) _ _ h ∙ in_sets (has_threes e.mode) a n b.sets
+  ]
 
   hyphen_there : (us : List CodePoint) → is_dashed (values us) ≡ true → (u : CodePoint) × (more : List CodePoint) × (us ≡ u ∷ more) × (u.value ≡ 45)
   hyphen_there [] h = absurd (let no : ⊥ = cc h in no)
   hyphen_there (u ∷ []) h = absurd (let no : ⊥ = cc h in no)
   hyphen_there (u ∷ v ∷ us) h = (u, v ∷ us, refl, eqb-true u.value 45 (both (u.value == 45) (not (v.value == 93)) h).0)
 
-  closer_there : (us : List CodePoint) → starts 93 (values us) ≡ true → (u : CodePoint) × (rest : List CodePoint) × (us ≡ u ∷ rest) × (u.value ≡ 93)
-  closer_there [] h = absurd (let no : ⊥ = cc h in no)
-  closer_there (u ∷ us) h = (u, us, refl, eqb-true u.value 93 h)
+  -- what a `-` and an atom behind an atom make of it
+  dashed_is : (a b : Atom) (n : ℕ) (us : List CodePoint) (hyphen : CodePoint) (w more : List CodePoint) → is_dashed (values us) ≡ true → us ≡ hyphen ∷ (w ++ more) → SpellsAtom e b w more →
+      item_before e a n us ≡ dashed_of e.mode a n (atom_read b (length w))
+  dashed_is a b n us hyphen w more d h s =
+      cond-true (is_dashed (values us)) _ _ d
+      ∙ ap (λ us. dashed_of e.mode a n (atom_at e (drop 1 us))) h
+      ∙ ap (dashed_of e.mode a n) (atom_is_read b w more s)
 
-  -- two atoms with `-` between
-  record PairFront (a : Atom) (n : ℕ) (b : Atom) (m : ℕ) (us : List CodePoint) : Type 0 where
-    w : List CodePoint
-    hyphen : CodePoint
-    z : List CodePoint
-    rest : List CodePoint
-    whole : us ≡ w ++ (hyphen ∷ (z ++ rest))
-    count : length w + 1 + length z ≡ n + 1 + m
-    is_hyphen : hyphen.value ≡ 45
-    dashed : is_dashed (values (hyphen ∷ (z ++ rest))) ≡ true
-    first : SpellsAtom e a w (hyphen ∷ (z ++ rest))
-    last : SpellsAtom e b z rest
-
-  three_found : (us : List CodePoint) (p : Piece) (threes : Bool) (a b : Atom) (n m : ℕ) → has_threes e.mode ≡ threes → (is_character a && is_character b) ≡ false → PairFront a n b m us → three_of threes a n b m ≡ p → PieceFront us p
-  three_found us p true a b n m t apart f q = subst (PieceFront us) q (record {
-    w = f.w;
-    hyphen = f.hyphen;
-    z = f.z;
-    rest = f.rest;
-    whole = f.whole;
-    count = f.count;
-    is_hyphen = f.is_hyphen;
-    dashed = f.dashed;
-    first = f.first;
-    last = f.last;
-    apart = apart;
-    threes = t;
-  })
-  three_found us p false a b n m t apart f q = subst (PieceFront us) q tt
-
-  pair_found : (us : List CodePoint) (p : Piece) (a b : Atom) (n m : ℕ) → PairFront a n b m us → pair_of (has_threes e.mode) a n b m ≡ p → PieceFront us p
-  pair_found us p (character k v) (character j x) n m f q = subst (PieceFront us) q (record {
-    w = f.w;
-    hyphen = f.hyphen;
-    z = f.z;
-    rest = f.rest;
-    whole = f.whole;
-    count = f.count;
-    is_hyphen = f.is_hyphen;
-    dashed = f.dashed;
-    first = f.first;
-    last = f.last;
-  })
-  pair_found us p (character k v) (escape j) n m f q = three_found us p (has_threes e.mode) (character k v) (escape j) n m refl refl f q
-  pair_found us p (character k v) (property negative strings name value) n m f q = three_found us p (has_threes e.mode) (character k v) (property negative strings name value) n m refl refl f q
-  pair_found us p (escape k) b n m f q = three_found us p (has_threes e.mode) (escape k) b n m refl refl f q
-  pair_found us p (property negative strings name value) b n m f q = three_found us p (has_threes e.mode) (property negative strings name value) b n m refl refl f q
-
-  second_found : (a : Atom) (n : ℕ) (us w : List CodePoint) (hyphen : CodePoint) (more : List CodePoint) (p : Piece) → us ≡ w ++ (hyphen ∷ more) → length w ≡ n → hyphen.value ≡ 45 → is_dashed (values (hyphen ∷ more)) ≡ true →
-      SpellsAtom e a w (hyphen ∷ more) → (r : AtomRead) → atom_at e more ≡ r → pair_to (has_threes e.mode) a n r ≡ p → PieceFront us p
-  second_found a n us w hyphen more p whole l is d s no_atom f q = subst (PieceFront us) q tt
-  second_found a n us w hyphen more p whole l is d s (atom_read b m) f q =
-      let g = atom_found b m more f in
-      pair_found us p a b n m (record {
-        w = w;
-        hyphen = hyphen;
-        z = g.w;
-        rest = g.rest;
-        whole = whole ∙ ap (λ more. w ++ (hyphen ∷ more)) g.whole;
-        count = omega (arith, l, g.count);
-        is_hyphen = is;
-        dashed = ap (λ more. is_dashed (values (hyphen ∷ more))) (sym g.whole) ∙ d;
-        first = subst (λ more. SpellsAtom e a w (hyphen ∷ more)) g.whole s;
-        last = g.spelled;
-      }) q
-
-  dashed_found : (a : Atom) (n : ℕ) (us : List CodePoint) (p : Piece) (f : AtomFront a n us) → is_dashed (values f.rest) ≡ true → pair_to (has_threes e.mode) a n (atom_at e (drop 1 f.rest)) ≡ p → PieceFront us p
-  dashed_found a n us p f d q =
-      let t = hyphen_there f.rest d in
-      second_found a n us f.w t.0 t.1 p (f.whole ∙ ap (λ rest. f.w ++ rest) t.2) f.count t.3 (ap (λ us. is_dashed (values us)) (sym t.2) ∙ d)
-      (subst (SpellsAtom e a f.w) t.2 f.spelled) (atom_at e t.1) refl (ap (λ us. pair_to (has_threes e.mode) a n (atom_at e (drop 1 us))) (sym t.2) ∙ q)
-
-  piece_found : (us : List CodePoint) (p : Piece) (r : AtomRead) → atom_at e us ≡ r → piece_from e r us ≡ p → PieceFront us p
-  piece_found us p no_atom f h = elim (chosen (starts 93 (values us)) h) [
-    | inl q ↦ subst (PieceFront us) q.1 (closer_there us q.0)
-    | inr q ↦ subst (PieceFront us) q.1 tt
+  item_is : (a : Atom) (n : ℕ) (rest : List CodePoint) → StandsBefore e a rest → item_before e a n rest ≡ Some (item a, n)
+  item_is a n rest (inl d) = cond-false (is_dashed (values rest)) _ _ d
+  item_is a n rest (inr (inl t)) =
+      dashed_is a t.third n rest t.hyphen t.w t.more t.dashed t.whole t.spelled
+      ∙ cond-false (is_character a && is_character t.third) _ _ t.apart
+      ∙ ap (λ threes. item_where (threes || is_sets e.mode) a n) t.threes
+  item_is a n rest (inr (inr b)) = elim (cases_Bool (is_dashed (values rest))) [
+    | inl d ↦
+        let h = hyphen_there rest d in
+        cond-true (is_dashed (values rest)) _ _ d
+        ∙ ap (λ us. dashed_of e.mode a n (atom_at e (drop 1 us))) h.2
+        ∙ set_item a n h.0 h.1 h.3 (subst (BeginsNoRange e a) h.2 b) (atom_at e h.1) refl
+    | inr d ↦ cond-false (is_dashed (values rest)) _ _ d
   ]
-  piece_found us p (atom_read a n) f h =
-      let g = atom_found a n us f in
-      let seam : drop n us ≡ g.rest = ap (drop n) g.whole ∙ ap (λ n. drop n (g.w ++ g.rest)) (sym g.count) ∙ drop-append_seam g.w g.rest in
-      elim (chosen (is_dashed (values (drop n us))) h) [
-        | inl q ↦ dashed_found a n us p g (ap (λ us. is_dashed (values us)) (sym seam) ∙ q.0) (ap (λ us. pair_to (has_threes e.mode) a n (atom_at e (drop 1 us))) (sym seam) ∙ q.1)
-        | inr q ↦ subst (PieceFront us) q.1 (record {
-          w = g.w;
-          rest = g.rest;
-          whole = g.whole;
-          count = g.count;
-          spelled = g.spelled;
-          alone = ap (λ us. is_dashed (values us)) (sym seam) ∙ q.0;
-        })
-      ]
 
-  -- what is in a class, read → spelled
-  record MembersSpelled (ms : Members) (n : ℕ) (us : List CodePoint) : Type 0 where
-    front : List CodePoint
-    rest : List CodePoint
-    whole : us ≡ front ++ rest
-    count : length front ≡ n
-    kept : forget_members same_kind ms ≡ ms
-    spelled : ClassTokenRow e (class_tokens_of (more_members_events [] ms) ++ (closer ∷ [])) fresh us fresh rest
+  low_is : (k : CharacterKind) (v n : ℕ) (rest : List CodePoint) → is_dashed (values rest) ≡ true → BeforeHigh e rest → item_before e (character k v) n rest ≡ Some (low k v, n)
+  low_is k v n rest d b = dashed_is (character k v) (character b.kind b.value) n rest b.hyphen b.w b.more d b.whole b.spelled
 
-  abbrev MembersFront : List CodePoint → MembersRead → Type 0
-  MembersFront us (members_read ms n) = MembersSpelled ms n us
-  MembersFront us no_members = Unit {0}
+  -- an atom where an item may begin
+  fresh_atom : (a : Atom) (w rest : List CodePoint) → SpellsAtom e a w rest → fresh_token e (atom_at e (w ++ rest)) (w ++ rest) ≡ item_before e a (length w) rest
+  fresh_atom a w rest s = ap (λ r. fresh_token e r (w ++ rest)) (atom_is_read a w rest s) ∙ ap (item_before e a (length w)) (drop-append_seam w rest)
 
-  behind_front : (u : CodePoint) (us w rest : List CodePoint) (n : ℕ) → u ∷ us ≡ w ++ rest → length w ≡ n → 0 < n → drop (n - 1) us ≡ rest
-  behind_front u us [] rest n h l s = absurd (omega (arith, l, s))
-  behind_front u us (x ∷ w) rest n h l s =
-      let same : us ≡ w ++ rest = cc h in
-      let less : n - 1 ≡ length w = omega (arith, l) in
-      ap (λ k. drop k us) less ∙ ap (drop (length w)) same ∙ drop-append_seam w rest
+  -- With `v`, and where no atom begins, what stands there is neither an atom nor a closer.
+  fresh_set : (us : List CodePoint) → is_sets e.mode ≡ true → atom_at e us ≡ no_atom → starts 93 (values us) ≡ false → fresh_token e (atom_at e us) us ≡ set_token (values us)
+  fresh_set us m none c =
+      ap (λ r. fresh_token e r us) none ∙ cond-false (starts 93 (values us)) _ _ c ∙ cond-true (is_sets e.mode) _ _ m
 
-  atom_grown : (a : Atom) (n : ℕ) (us : List CodePoint) (f : OneFront a n us) (r : MembersRead) → MembersFront f.rest r → MembersFront us (before_members (atom_member a) n r)
-  atom_grown a n us f no_members g = tt
-  atom_grown a n us f (members_read ms k) g = record {
-    front = f.w ++ g.front;
-    rest = g.rest;
-    whole = f.whole ∙ ap (λ v. f.w ++ v) g.whole ∙ sym (append_assoc f.w g.front g.rest);
-    count = length-append f.w g.front ∙ ap₂ (λ a b. a + b) f.count g.count;
-    kept = ap₂ member (atom_kept a) g.kept;
-    spelled = subst (λ ts. ClassTokenRow e (ts ++ (closer ∷ [])) fresh us fresh g.rest) (sym (atom_tokens a ms)) (
-      f.w,
-      f.rest,
-      f.whole,
-      (f.spelled, inl f.alone),
-      subst (λ q. ClassTokenRow e (class_tokens_of (more_members_events [] ms) ++ (closer ∷ [])) q f.rest fresh g.rest) (sym (behind_one a f.rest f.alone)) g.spelled,
-    );
-  }
+  starts_by : (c : ℕ) (us : List CodePoint) (d : ℕ) (v : List ℕ) → values us ≡ d ∷ v → (d == c) ≡ false → starts c (values us) ≡ false
+  starts_by c us d v h n = ap (starts c) h ∙ n
 
-  range_grown : (k : CharacterKind) (v : ℕ) (j : CharacterKind) (x n : ℕ) (us : List CodePoint) (f : RangeFront k v j x n us) (r : MembersRead) → MembersFront f.rest r →
-      MembersFront us (before_members (range_member k v j x) n r)
-  range_grown k v j x n us f no_members g = tt
-  range_grown k v j x n us f (members_read ms m) g =
-      let w = f.w ++ (f.hyphen ∷ f.z) in
-      let all : us ≡ w ++ f.rest = f.whole ∙ sym (append_assoc f.w (f.hyphen ∷ f.z) f.rest) in
-      record {
-        front = w ++ g.front;
-        rest = g.rest;
-        whole = all ∙ ap (λ v. w ++ v) g.whole ∙ sym (append_assoc w g.front g.rest);
-        count = omega (arith, length-append w g.front, length-append f.w (f.hyphen ∷ f.z), f.count, g.count);
-        kept = ap (member (range_member k v j x)) g.kept;
-        spelled = (
-          f.w,
-          f.hyphen ∷ (f.z ++ f.rest),
-          f.whole,
-          (f.first, f.dashed, record { hyphen = f.hyphen; kind = j; value = x; w = f.z; more = f.rest; whole = refl; hyphen_is = f.is_hyphen; spelled = f.last }),
-          (f.hyphen ∷ [], f.z ++ f.rest, refl, ap (λ c. c ∷ []) f.is_hyphen, (f.z, f.rest, refl, f.last, g.spelled)),
-        );
-      }
+  -- No operand is spelled by no units.
+  operand_some : (t : ClassToken) (w rest : List CodePoint) → SpellsOperand e t w rest → 0 < length w
+  operand_some (item a) w rest s = atom_some a w rest s
+  operand_some (bracket true) w rest s = omega (arith, units w (91 ∷ 94 ∷ []) s)
+  operand_some (bracket false) w rest s = omega (arith, units w (91 ∷ []) s.0)
+  operand_some strings w rest s = omega (arith, units w (92 ∷ 113 ∷ 123 ∷ []) s)
+  operand_some t w rest s = absurd s
 
-  three_tokens : (a b : Atom) (ms : Members) → class_tokens_of (more_members_events [] (member (atom_member a) (member (atom_member (character kinds.Symbol 45)) (member (atom_member b) ms)))) ≡
-      item a ∷ item (character kinds.Symbol 45) ∷ item b ∷ class_tokens_of (more_members_events [] ms)
-  three_tokens a b ms =
-      atom_tokens a (member (atom_member (character kinds.Symbol 45)) (member (atom_member b) ms))
-      ∙ ap (λ ts. item a ∷ ts) (atom_tokens (character kinds.Symbol 45) (member (atom_member b) ms) ∙ ap (λ ts. item (character kinds.Symbol 45) ∷ ts) (atom_tokens b ms))
+  starts_front : (c : ℕ) (w rest : List CodePoint) → 0 < length w → starts c (values (w ++ rest)) ≡ starts c (values w)
+  starts_front c [] rest l = absurd (omega (arith, l))
+  starts_front c (u ∷ w) rest l = refl
 
-  three_grown : (a b : Atom) (n : ℕ) (us : List CodePoint) (f : ThreeFront a b n us) (r : MembersRead) → MembersFront f.rest r → MembersFront us (before_three a b n r)
-  three_grown a b n us f no_members g = tt
-  three_grown a b n us f (members_read ms m) g =
-      let w = f.w ++ (f.hyphen ∷ f.z) in
-      let tail = f.hyphen ∷ (f.z ++ f.rest) in
-      let all : us ≡ w ++ f.rest = f.whole ∙ sym (append_assoc f.w (f.hyphen ∷ f.z) f.rest) in
-      let before : BeforeThird e a tail = record {
-        hyphen = f.hyphen;
-        third = b;
-        w = f.z;
-        more = f.rest;
-        whole = refl;
-        hyphen_is = f.is_hyphen;
-        dashed = f.dashed;
-        spelled = f.last;
-        apart = f.apart;
-        threes = f.threes;
-      } in
-      let ts = class_tokens_of (more_members_events [] ms) ++ (closer ∷ []) in
-      let last_row : ClassTokenRow e (item b ∷ ts) at_third (f.z ++ f.rest) fresh g.rest = (f.z, f.rest, refl, f.last, g.spelled) in
-      let second : ClassTokenRow e (item (character kinds.Symbol 45) ∷ item b ∷ ts) at_second tail fresh g.rest =
-      (f.hyphen ∷ [], f.z ++ f.rest, refl, (refl, ap (λ c. c ∷ []) f.is_hyphen), last_row) in
-      let whole_row : ClassTokenRow e (item a ∷ item (character kinds.Symbol 45) ∷ item b ∷ ts) fresh us fresh g.rest = (
-        f.w,
-        tail,
-        f.whole,
-        (f.first, inr before),
-        subst (λ q. ClassTokenRow e (item (character kinds.Symbol 45) ∷ item b ∷ ts) q tail fresh g.rest) (sym (behind_first a tail before)) second,
-      ) in
-      record {
-        front = w ++ g.front;
-        rest = g.rest;
-        whole = all ∙ ap (λ v. w ++ v) g.whole ∙ sym (append_assoc w g.front g.rest);
-        count = omega (arith, length-append w g.front, length-append f.w (f.hyphen ∷ f.z), f.count, g.count);
-        kept = ap₂ member (atom_kept a) (ap (member (atom_member (character kinds.Symbol 45))) (ap₂ member (atom_kept b) g.kept));
-        spelled = subst (λ ts. ClassTokenRow e (ts ++ (closer ∷ [])) fresh us fresh g.rest) (sym (three_tokens a b ms)) whole_row;
-      }
+  token_there : (b : Bool) (r : TokenRead) → b ≡ true → token_where b r ≡ r
+  token_there b r h = ap (λ b. token_where b r) h
 
-  from_found : (u : CodePoint) (us : List CodePoint) → ((n : ℕ) → MembersFront (drop n us) (members_after e n us)) → (p : Piece) → PieceFront (u ∷ us) p →
-      MembersFront (u ∷ us) (members_from p (λ n. members_after e n us))
-  from_found u us again (one a n) f =
-      let some : 0 < n = omega (arith, f.count, atom_some a f.w f.rest f.spelled) in
-      atom_grown a n (u ∷ us) f (members_after e (n - 1) us) (subst (λ v. MembersFront v (members_after e (n - 1) us)) (behind_front u us f.w f.rest n f.whole f.count some) (again (n - 1)))
-  from_found u us again (range k v j x n) f =
-      let w = f.w ++ (f.hyphen ∷ f.z) in
-      let all : u ∷ us ≡ w ++ f.rest = f.whole ∙ sym (append_assoc f.w (f.hyphen ∷ f.z) f.rest) in
-      let count : length w ≡ n = omega (arith, length-append f.w (f.hyphen ∷ f.z), f.count) in
-      let some : 0 < n = omega (arith, f.count) in
-      range_grown k v j x n (u ∷ us) f (members_after e (n - 1) us) (subst (λ v. MembersFront v (members_after e (n - 1) us)) (behind_front u us w f.rest n all count some) (again (n - 1)))
-  from_found u us again (three a k b n) f =
-      let w = f.w ++ (f.hyphen ∷ f.z) in
-      let all : u ∷ us ≡ w ++ f.rest = f.whole ∙ sym (append_assoc f.w (f.hyphen ∷ f.z) f.rest) in
-      let count : length w ≡ n = omega (arith, length-append f.w (f.hyphen ∷ f.z), f.count) in
-      let some : 0 < n = omega (arith, f.count) in
-      three_grown a b n (u ∷ us) f (members_after e (n - 1) us) (subst (λ v. MembersFront v (members_after e (n - 1) us)) (behind_front u us w f.rest n all count some) (again (n - 1)))
-  from_found u us again ending f =
-      let same : us ≡ f.1 = (let whole = f.2 in let k : us ≡ f.1 = cc whole in k) in
-      let is : u.value ≡ 93 = ap (λ (u : CodePoint). u.value) (let whole = f.2 in let k : u ≡ f.0 = cc whole in k) ∙ f.3 in
-      record { front = u ∷ []; rest = us; whole = refl; count = refl; kept = refl; spelled = (u ∷ [], us, refl, ap (λ c. c ∷ []) is, (refl, refl)) }
-  from_found u us again no_piece f = tt
+  one_unit : (w rest : List CodePoint) (c : ℕ) (t : ClassToken) → values w ≡ c ∷ [] → token_where (starts c (values (w ++ rest))) (Some (t, 1)) ≡ Some (t, length w)
+  one_unit w rest c t h =
+      let u = single w c h in
+      token_there (starts c (values (w ++ rest))) (Some (t, 1)) (ap (λ v. starts c (values (v ++ rest))) u.1 ∙ ap (λ d. d == c) u.2 ∙ same_value c)
+      ∙ ap (λ n. Some (t, n)) (units w (c ∷ []) h)
+    where
+      same_value : (c : ℕ) → (c == c) ≡ true
+      same_value c = grind (arith, nat_tests)
 
-  members_found : (n : ℕ) (us : List CodePoint) → MembersFront (drop n us) (members_after e n us)
-  members_found zero [] = tt
-  members_found (suc n) [] = tt
-  members_found (suc n) (u ∷ us) = members_found n us
-  members_found zero (u ∷ us) = from_found u us (λ n. members_found n us) (piece_at e (u ∷ us)) (piece_found (u ∷ us) (piece_at e (u ∷ us)) (atom_at e (u ∷ us)) refl refl)
+  letter_read : (k : CharacterKind) (v : ℕ) (w rest : List CodePoint) → SpellsClassCharacter e k v w rest → string_token (atom_at e (w ++ rest)) (values (w ++ rest)) ≡ Some (letter k v, length w)
+  letter_read k v w rest s = ap (λ r. string_token r (values (w ++ rest))) (character_read k v w rest s)
 
-  -- a class that stands at the front, read → spelled
-  pub record ClassSpelled (c : Class) (n : ℕ) (us : List CodePoint) : Type 0 where
+  of_strings_read : (t : ClassToken) (w rest : List CodePoint) → is_sets e.mode ≡ true → SpellsOfStrings e t w rest → string_token (atom_at e (w ++ rest)) (values (w ++ rest)) ≡ Some (t, length w)
+  of_strings_read (letter k v) w rest m s = letter_read k v w rest s
+  of_strings_read string_bar w rest m s =
+      let text = text_of w rest (124 ∷ []) s in
+      ap (λ r. string_token r (values (w ++ rest))) (no_set_atom (w ++ rest) 124 (values rest) m text refl refl) ∙ ap (string_token no_atom) text ∙ ap (λ n. Some (string_bar, n)) (units w (124 ∷ []) s)
+  of_strings_read strings_end w rest m s =
+      let text = text_of w rest (125 ∷ []) s in
+      ap (λ r. string_token r (values (w ++ rest))) (no_set_atom (w ++ rest) 125 (values rest) m text refl refl) ∙ ap (string_token no_atom) text ∙ ap (λ n. Some (strings_end, n)) (units w (125 ∷ []) s)
+  of_strings_read t w rest m s = absurd s
+
+  -- What is spelled at a place of a class is read there.
+  pub class_token_is : (q : Place) (t : ClassToken) (w rest : List CodePoint) → SpellsInClass e q t w rest → class_token_at e q (w ++ rest) ≡ Some (t, length w)
+  unfolding class_token_at
+  class_token_is outside (bracket negative) w rest s = at_bracket negative w rest s
+  class_token_is fresh closer w rest s =
+      let u = single w 93 s in
+      ap (λ v. fresh_token e (atom_at e (v ++ rest)) (v ++ rest)) u.1
+      ∙ ap (λ r. fresh_token e r (u.0 ∷ rest)) (no_atom_at_closer u.0 rest u.2)
+      ∙ cond-true (u.0.value == 93) _ _ (ap (λ c. c == 93) u.2)
+      ∙ ap (λ n. Some (closer, n)) (units w (93 ∷ []) s)
+  class_token_is fresh (item a) w rest s = fresh_atom a w rest s.0 ∙ item_is a (length w) rest s.1
+  class_token_is fresh (low k v) w rest s = fresh_atom (character k v) w rest s.0 ∙ low_is k v (length w) rest s.1 s.2
+  class_token_is fresh (bracket negative) w rest s =
+      let b = bracket_begins negative w rest s.1 in
+      fresh_set (w ++ rest) s.0 (no_set_atom (w ++ rest) 91 b.0 s.0 b.1 refl refl) (starts_by 93 (w ++ rest) 91 b.0 b.1 refl)
+      ∙ ap set_token b.1 ∙ ap bracket_at (sym b.1) ∙ at_bracket negative w rest s.1
+  class_token_is fresh strings w rest s =
+      let text = text_of w rest (92 ∷ 113 ∷ 123 ∷ []) s.1 in
+      fresh_set (w ++ rest) s.0 (no_strings_atom (w ++ rest) (123 ∷ values rest) s.0 text) (starts_by 93 (w ++ rest) 92 (113 ∷ 123 ∷ values rest) text refl)
+      ∙ ap set_token text ∙ ap (λ n. Some (strings, n)) (units w (92 ∷ 113 ∷ 123 ∷ []) s.1)
+  class_token_is fresh meet w rest s =
+      let text = text_of w rest (38 ∷ 38 ∷ []) s.1 in
+      fresh_set (w ++ rest) s.0 (no_set_atom (w ++ rest) 38 (38 ∷ values rest) s.0 text refl refl) (starts_by 93 (w ++ rest) 38 (38 ∷ values rest) text refl)
+      ∙ ap set_token text ∙ ap (λ n. Some (meet, n)) (units w (38 ∷ 38 ∷ []) s.1)
+  class_token_is fresh less w rest s =
+      let text = text_of w rest (45 ∷ 45 ∷ []) s.1 in
+      fresh_set (w ++ rest) s.0 (no_set_atom (w ++ rest) 45 (45 ∷ values rest) s.0 text refl refl) (starts_by 93 (w ++ rest) 45 (45 ∷ values rest) text refl)
+      ∙ ap set_token text ∙ ap (λ n. Some (less, n)) (units w (45 ∷ 45 ∷ []) s.1)
+  class_token_is at_dash dash w rest s = one_unit w rest 45 dash s
+  class_token_is at_high (high k v) w rest s = ap high_of (atom_is_read (character k v) w rest s)
+  class_token_is at_second (item a) w rest s = one_unit w rest 45 (item (character kinds.Symbol 45)) s.1 ∙ ap (λ a. Some (item a, length w)) (sym s.0)
+  class_token_is at_third (item a) w rest s = ap item_of (atom_is_read a w rest s)
+  class_token_is behind_meet t w rest s =
+      token_there (is_sets e.mode && not (starts 38 (values (w ++ rest)))) _
+      (and_from (is_sets e.mode) (not (starts 38 (values (w ++ rest)))) s.0 (ap not (starts_front 38 w rest (operand_some t w rest s.1) ∙ s.2)))
+      ∙ operand_read w rest t s.0 s.1
+  class_token_is behind_less t w rest s = token_there (is_sets e.mode) _ s.0 ∙ operand_read w rest t s.0 s.1
+  class_token_is in_strings t w rest s = token_there (is_sets e.mode) _ s.0 ∙ of_strings_read t w rest s.0 s.1
+  class_token_is q t w rest s = absurd s
+
+  -- a token that stands at the front, at a place of a class
+  pub record TokenFront (q : Place) (t : ClassToken) (n : ℕ) (us : List CodePoint) : Type 0 where
     pub w : List CodePoint
     pub rest : List CodePoint
     pub whole : us ≡ w ++ rest
     pub count : length w ≡ n
-    pub spelled : IsClass e c w rest
+    pub spelled : SpellsInClass e q t w rest
 
-  class_found_by : (negative : Bool) (b us : List CodePoint) (m : ℕ) (c : Class × ℕ) → length b ≡ m → SpellsInClass e outside (bracket negative) b us → (r : MembersRead) → MembersFront us r →
-      class_of negative m r ≡ Some c → ClassSpelled c.0 c.1 (b ++ us)
-  class_found_by negative b us m c l s no_members f h = absurd (let no : ⊥ = cc h in no)
-  class_found_by negative b us m c l s (members_read ms k) f h = subst (λ (c : Class × ℕ). ClassSpelled c.0 c.1 (b ++ us)) (Some-inj h) (record {
-    w = b ++ f.front;
-    rest = f.rest;
-    whole = all;
-    count = length-append b f.front ∙ ap₂ (λ a b. a + b) l f.count;
-    spelled = record {
-      no_spans = ap (class nowhere negative (any_strings ms) Union) f.kept;
-      shape = (tt, refl);
-      row = (b, us, sym all, s, subst (λ ts. ClassTokenRow e ts fresh us fresh f.rest) (sym (tokens_behind nowhere ms)) f.spelled);
-    };
-  })
-    where
-      all : b ++ us ≡ (b ++ f.front) ++ f.rest
-      all = ap (λ v. b ++ v) f.whole ∙ sym (append_assoc b f.front f.rest)
+  -- What is read at a place is spelled there, by a token of what it may be.
+  abbrev Front : (ClassToken → List CodePoint → List CodePoint → Type 0) → List CodePoint → ClassToken × ℕ → Type 0
+  Front spells us read = (w : List CodePoint) × (rest : List CodePoint) × (us ≡ w ++ rest) × (length w ≡ read.1) × spells read.0 w rest
 
-  pub class_spelled : (u : CodePoint) (us : List CodePoint) (c : Class × ℕ) → u.value ≡ 91 → class_front e us ≡ Some c → ClassSpelled c.0 c.1 (u ∷ us)
-  unfolding class_front
-  class_spelled u [] c h q = absurd (let no : ⊥ = cc q in no)
-  class_spelled u (v ∷ us) c h q = elim (chosen (v.value == 94) q) [
-    | inl p ↦ class_found_by true (u ∷ v ∷ []) us 2 c refl (ap₂ (λ a b. a ∷ b ∷ []) h (eqb-true v.value 94 p.0)) (members_after e 0 us) (members_found 0 us) p.1
-    | inr p ↦ class_found_by false (u ∷ []) (v ∷ us) 1 c refl (ap (λ a. a ∷ []) h, p.0) (members_after e 0 (v ∷ us)) (members_found 0 (v ∷ us)) p.1
+  abbrev Reading : Type 1
+  Reading = ClassToken → List CodePoint → List CodePoint → Type 0
+
+  front_by : (spells : Reading) (us : List CodePoint) (read : ClassToken × ℕ) (t : ClassToken) (w rest : List CodePoint) (n : ℕ) → us ≡ w ++ rest → length w ≡ n → spells t w rest → Some (t, n) ≡ Some read → Front spells us read
+  front_by spells us read t w rest n h l s same = subst (Front spells us) (Some-inj same) (w, rest, h, l, s)
+
+  -- the characters at the front, as units
+  front_text : (spells : Reading) (us : List CodePoint) (read : ClassToken × ℕ) (t : ClassToken) (v more : List ℕ) → values us ≡ v ++ more → ((w rest : List CodePoint) → values w ≡ v → values rest ≡ more → spells t w rest) →
+      Some (t, length v) ≡ Some read → Front spells us read
+  front_text spells us read t v more h make same =
+      let s = split_values us v more h in
+      front_by spells us read t s.front s.back (length v) s.whole (sym (units s.front v s.front_is)) (make s.front s.back s.front_is s.back_is) same
+
+  next_are : (c d : ℕ) (w : List ℕ) → are_next c d w ≡ true → (more : List ℕ) × (w ≡ c ∷ d ∷ more)
+  next_are c d [] h = absurd (let no : ⊥ = cc h in no)
+  next_are c d (x ∷ []) h = absurd (let no : ⊥ = grind (arith, h) in no)
+  next_are c d (x ∷ y ∷ w) h = let b = both (x == c) (y == d) h in (w, ap₂ (λ a b. a ∷ b ∷ w) (eqb-true x c b.0) (eqb-true y d b.1))
+
+  starts_with : (c : ℕ) (w : List ℕ) → starts c w ≡ true → (more : List ℕ) × (w ≡ c ∷ more)
+  starts_with c [] h = absurd (let no : ⊥ = cc h in no)
+  starts_with c (x ∷ w) h = (w, ap (λ x. x ∷ w) (eqb-true x c h))
+
+  strings_are : (w : List ℕ) → begins_strings w ≡ true → (more : List ℕ) × (w ≡ 92 ∷ 113 ∷ 123 ∷ more)
+  strings_are [] h = absurd (let no : ⊥ = cc h in no)
+  strings_are (c ∷ w) h =
+      let b = both (c == 92) (are_next 113 123 w) h in
+      let n = next_are 113 123 w b.1 in
+      (n.0, ap₂ (λ c w. c ∷ w) (eqb-true c 92 b.0) n.1)
+
+  -- an operand that is no atom, or the beginning of one
+  abbrev SpellsOpening : Reading
+  SpellsOpening (bracket negative) w rest = SpellsBracket negative w rest
+  SpellsOpening strings w rest = values w ≡ 92 ∷ 113 ∷ 123 ∷ []
+  SpellsOpening t w rest = ⊥
+
+  opening_operand : (t : ClassToken) (w rest : List CodePoint) → SpellsOpening t w rest → SpellsOperand e t w rest
+  opening_operand (bracket negative) w rest s = s
+  opening_operand strings w rest s = s
+  opening_operand t w rest s = absurd s
+
+  outside_opening : (t : ClassToken) (w rest : List CodePoint) → SpellsInClass e outside t w rest → SpellsOpening t w rest
+  outside_opening (bracket negative) w rest s = s
+  outside_opening t w rest s = absurd s
+
+  opening_fresh : (t : ClassToken) (w rest : List CodePoint) → is_sets e.mode ≡ true → SpellsOpening t w rest → SpellsInClass e fresh t w rest
+  opening_fresh (bracket negative) w rest m s = (m, s)
+  opening_fresh strings w rest m s = (m, s)
+  opening_fresh t w rest m s = absurd s
+
+  bracket_found : (us : List CodePoint) (read : ClassToken × ℕ) (r : List ℕ) → values us ≡ r → bracket_at r ≡ Some read → Front (SpellsInClass e outside) us read
+  bracket_found us read [] f h = absurd (let no : ⊥ = cc h in no)
+  bracket_found us read (c ∷ r) f h = elim (chosen (c == 91) h) [
+    | inl p ↦ elim (chosen (starts 94 r) p.1) [
+      | inl q ↦
+          let s = starts_with 94 r q.0 in
+          front_text (SpellsInClass e outside) us read (bracket true) (91 ∷ 94 ∷ []) s.0 (f ∙ ap₂ (λ c r. c ∷ r) (eqb-true c 91 p.0) s.1) (λ w rest first others. first) q.1
+      | inr q ↦
+          front_text (SpellsInClass e outside) us read (bracket false) (91 ∷ []) r (f ∙ ap (λ c. c ∷ r) (eqb-true c 91 p.0)) (λ w rest first others. (first, ap (starts 94) others ∙ q.0)) q.1
+    ]
+    | inr p ↦ absurd (let q = p.1 in let no : ⊥ = cc q in no)
   ]
+
+  operand_found : (us : List CodePoint) (read : ClassToken × ℕ) → operand_token (values us) ≡ Some read → Front SpellsOpening us read
+  operand_found us read h = elim (chosen (begins_strings (values us)) h) [
+    | inl p ↦
+        let s = strings_are (values us) p.0 in
+        front_text SpellsOpening us read strings (92 ∷ 113 ∷ 123 ∷ []) s.0 s.1 (λ w rest first others. first) p.1
+    | inr p ↦ let o = bracket_found us read (values us) refl p.1 in (o.0, o.1, o.2, o.3, outside_opening read.0 o.0 o.1 o.4)
+  ]
+
+  any_operand_found : (us : List CodePoint) (read : ClassToken × ℕ) (r : AtomRead) → atom_at e us ≡ r → operand_of r (values us) ≡ Some read → Front (SpellsOperand e) us read
+  any_operand_found us read no_atom f h = let o = operand_found us read h in (o.0, o.1, o.2, o.3, opening_operand read.0 o.0 o.1 o.4)
+  any_operand_found us read (atom_read a n) f h = let g = atom_found a n us f in front_by (SpellsOperand e) us read (item a) g.w g.rest n g.whole g.count g.spelled h
+
+  of_strings_found : (us : List CodePoint) (read : ClassToken × ℕ) (r : AtomRead) → atom_at e us ≡ r → string_token r (values us) ≡ Some read → Front (SpellsOfStrings e) us read
+  of_strings_found us read (atom_read (character k v) n) f h =
+      let g = atom_found (character k v) n us f in front_by (SpellsOfStrings e) us read (letter k v) g.w g.rest n g.whole g.count g.spelled h
+  of_strings_found us read (atom_read (escape k) n) f h = absurd (let no : ⊥ = cc h in no)
+  of_strings_found us read (atom_read (property negative may name value) n) f h = absurd (let no : ⊥ = cc h in no)
+  of_strings_found us read no_atom f h = elim (chosen (starts 124 (values us)) h) [
+    | inl p ↦ let s = starts_with 124 (values us) p.0 in front_text (SpellsOfStrings e) us read string_bar (124 ∷ []) s.0 s.1 (λ w rest first others. first) p.1
+    | inr p ↦ elim (chosen (starts 125 (values us)) p.1) [
+      | inl q ↦ let s = starts_with 125 (values us) q.0 in front_text (SpellsOfStrings e) us read strings_end (125 ∷ []) s.0 s.1 (λ w rest first others. first) q.1
+      | inr q ↦ absurd (let k = q.1 in let no : ⊥ = cc k in no)
+    ]
+  ]
+
+  where_true_is : (b : Bool) (r : TokenRead) (read : ClassToken × ℕ) → token_where b r ≡ Some read → (b ≡ true) × (r ≡ Some read)
+  where_true_is true r read h = (refl, h)
+  where_true_is false r read h = absurd (let no : ⊥ = cc h in no)
+
+  item_where_is : (b : Bool) (a : Atom) (n : ℕ) (read : ClassToken × ℕ) → item_where b a n ≡ Some read → (b ≡ true) × (Some (item a, n) ≡ Some read)
+  item_where_is true a n read h = (refl, h)
+  item_where_is false a n read h = absurd (let no : ⊥ = cc h in no)
+
+  abbrev FreshFront : List CodePoint → ClassToken × ℕ → Type 0
+  FreshFront = Front (SpellsInClass e fresh)
+
+  fresh_by : (us : List CodePoint) (read : ClassToken × ℕ) (t : ClassToken) (w rest : List CodePoint) (n : ℕ) → us ≡ w ++ rest → length w ≡ n → SpellsInClass e fresh t w rest → Some (t, n) ≡ Some read → FreshFront us read
+  fresh_by us read t w rest n h l s same = front_by (SpellsInClass e fresh) us read t w rest n h l s same
+
+  -- an atom of n units that stands at the front, before these
+  module _ (us : List CodePoint) (read : ClassToken × ℕ) (w rest : List CodePoint) (whole : us ≡ w ++ rest) where
+    item_there : (a : Atom) (n : ℕ) → length w ≡ n → SpellsAtom e a w rest → StandsBefore e a rest → Some (item a, n) ≡ Some read → FreshFront us read
+    item_there a n l s b h = fresh_by us read (item a) w rest n whole l (s, b) h
+
+    no_range : (a : Atom) (hyphen : CodePoint) (more : List CodePoint) → rest ≡ hyphen ∷ more → is_sets e.mode ≡ true → (is_character a ≡ true → (k : CharacterKind) (v m : ℕ) → atom_at e more ≡ atom_read (character k v) m → ⊥) → BeginsNoRange e a rest
+    no_range a hyphen more is m none = record {
+      sets = m;
+      none = λ c b.
+          let same = sym is ∙ b.whole in
+          none c b.kind b.value (length b.w) (ap (atom_at e) (let k : more ≡ b.w ++ b.more = cc same in k) ∙ character_read b.kind b.value b.w b.more b.spelled);
+    }
+
+    pair_there : (a b : Atom) (n m : ℕ) (hyphen : CodePoint) (more : List CodePoint) → length w ≡ n → SpellsAtom e a w rest → is_dashed (values rest) ≡ true → rest ≡ hyphen ∷ more → hyphen.value ≡ 45 → AtomFront b m more →
+        (is_character a && is_character b) ≡ true → low_of a n ≡ Some read → FreshFront us read
+    pair_there (character k v) (character j x) n m hyphen more l s d is hyphen_is f c h =
+        fresh_by us read (low k v) w rest n whole l (s, d, record { hyphen = hyphen; kind = j; value = x; w = f.w; more = f.rest; whole = is ∙ ap (λ us. hyphen ∷ us) f.whole; hyphen_is = hyphen_is; spelled = f.spelled }) h
+    pair_there (character k v) (escape j) n m hyphen more l s d is hyphen_is f c h = absurd (let no : ⊥ = cc c in no)
+    pair_there (character k v) (property negative may name value) n m hyphen more l s d is hyphen_is f c h = absurd (let no : ⊥ = cc c in no)
+    pair_there (escape k) b n m hyphen more l s d is hyphen_is f c h = absurd (let no : ⊥ = cc h in no)
+    pair_there (property negative may name value) b n m hyphen more l s d is hyphen_is f c h = absurd (let no : ⊥ = cc h in no)
+
+    no_pair : (a b : Atom) (m : ℕ) (more : List CodePoint) → atom_at e more ≡ atom_read b m → (is_character a && is_character b) ≡ false → is_character a ≡ true → (k : CharacterKind) (v i : ℕ) → atom_at e more ≡ atom_read (character k v) i → ⊥
+    no_pair a b m more f apart c k v i g =
+        let same : b ≡ character k v = (let h = sym f ∙ g in let k : b ≡ character k v = cc h in k) in
+        let no : true ≡ false = sym (and_from (is_character a) (is_character b) c (ap is_character same)) ∙ apart in
+        let k : ⊥ = cc no in k
+
+    apart_there : (a b : Atom) (n m : ℕ) (hyphen : CodePoint) (more : List CodePoint) → length w ≡ n → SpellsAtom e a w rest → is_dashed (values rest) ≡ true → rest ≡ hyphen ∷ more → hyphen.value ≡ 45 → atom_at e more ≡ atom_read b m →
+        (is_character a && is_character b) ≡ false → item_where (has_threes e.mode || is_sets e.mode) a n ≡ Some read → FreshFront us read
+    apart_there a b n m hyphen more l s d is hyphen_is f c h =
+        let i = item_where_is (has_threes e.mode || is_sets e.mode) a n read h in
+        let g = atom_found b m more f in
+        item_there a n l s (elim (cases_Bool (has_threes e.mode)) [
+          | inl t ↦ inr (inl (record { hyphen = hyphen; third = b; w = g.w; more = g.rest; whole = is ∙ ap (λ us. hyphen ∷ us) g.whole; hyphen_is = hyphen_is; dashed = d; spelled = g.spelled; apart = c; threes = t }))
+          | inr t ↦ inr (inr (no_range a hyphen more is (ap (λ b. b || is_sets e.mode) (sym t) ∙ i.0) (no_pair a b m more f c)))
+        ]) i.1
+
+    dashed_there : (a : Atom) (n : ℕ) (hyphen : CodePoint) (more : List CodePoint) → length w ≡ n → SpellsAtom e a w rest → is_dashed (values rest) ≡ true → rest ≡ hyphen ∷ more → hyphen.value ≡ 45 →
+        (r : AtomRead) → atom_at e more ≡ r → dashed_of e.mode a n r ≡ Some read → FreshFront us read
+    dashed_there a n hyphen more l s d is hyphen_is no_atom f h =
+        let i = item_where_is (is_sets e.mode) a n read h in
+        item_there a n l s (inr (inr (no_range a hyphen more is i.0 (λ c k v m g. let no = sym f ∙ g in let k : ⊥ = cc no in k)))) i.1
+    dashed_there a n hyphen more l s d is hyphen_is (atom_read b m) f h = elim (chosen (is_character a && is_character b) h) [
+      | inl p ↦ pair_there a b n m hyphen more l s d is hyphen_is (atom_found b m more f) p.0 p.1
+      | inr p ↦ apart_there a b n m hyphen more l s d is hyphen_is f p.0 p.1
+    ]
+
+    before_there : (a : Atom) (n : ℕ) → length w ≡ n → SpellsAtom e a w rest → item_before e a n rest ≡ Some read → FreshFront us read
+    before_there a n l s h = elim (chosen (is_dashed (values rest)) h) [
+      | inl p ↦
+          let t = hyphen_there rest p.0 in
+          dashed_there a n t.0 t.1 l s p.0 t.2 t.3 (atom_at e t.1) refl (ap (λ us. dashed_of e.mode a n (atom_at e (drop 1 us))) (sym t.2) ∙ p.1)
+      | inr p ↦ item_there a n l s (inl p.0) p.1
+    ]
+
+  set_found : (us : List CodePoint) (read : ClassToken × ℕ) → is_sets e.mode ≡ true → set_token (values us) ≡ Some read → FreshFront us read
+  set_found us read m h = elim (chosen (are_next 38 38 (values us)) h) [
+    | inl p ↦ let s = next_are 38 38 (values us) p.0 in front_text (SpellsInClass e fresh) us read meet (38 ∷ 38 ∷ []) s.0 s.1 (λ w rest first others. (m, first)) p.1
+    | inr p ↦ elim (chosen (are_next 45 45 (values us)) p.1) [
+      | inl q ↦ let s = next_are 45 45 (values us) q.0 in front_text (SpellsInClass e fresh) us read less (45 ∷ 45 ∷ []) s.0 s.1 (λ w rest first others. (m, first)) q.1
+      | inr q ↦ let o = operand_found us read q.1 in (o.0, o.1, o.2, o.3, opening_fresh read.0 o.0 o.1 m o.4)
+    ]
+  ]
+
+  closer_found : (us : List CodePoint) (read : ClassToken × ℕ) → starts 93 (values us) ≡ true → Some (closer, 1) ≡ Some read → FreshFront us read
+  closer_found us read c h = let s = starts_with 93 (values us) c in front_text (SpellsInClass e fresh) us read closer (93 ∷ []) s.0 s.1 (λ w rest first others. first) h
+
+  fresh_found : (us : List CodePoint) (read : ClassToken × ℕ) (r : AtomRead) → atom_at e us ≡ r → fresh_token e r us ≡ Some read → FreshFront us read
+  fresh_found us read (atom_read a n) f h =
+      let g = atom_found a n us f in
+      let seam : drop n us ≡ g.rest = ap (drop n) g.whole ∙ ap (λ n. drop n (g.w ++ g.rest)) (sym g.count) ∙ drop-append_seam g.w g.rest in
+      before_there us read g.w g.rest g.whole a n g.count g.spelled (ap (item_before e a n) (sym seam) ∙ h)
+  fresh_found us read no_atom f h = elim (chosen (starts 93 (values us)) h) [
+    | inl p ↦ closer_found us read p.0 p.1
+    | inr p ↦ elim (chosen (is_sets e.mode) p.1) [
+      | inl q ↦ set_found us read q.0 q.1
+      | inr q ↦ absurd (let k = q.1 in let no : ⊥ = cc k in no)
+    ]
+  ]
+
+  -- one unit
+  unit_found : (q : Place) (us : List CodePoint) (read : ClassToken × ℕ) (c : ℕ) (t : ClassToken) → ((w rest : List CodePoint) → values w ≡ c ∷ [] → SpellsInClass e q t w rest) →
+      token_where (starts c (values us)) (Some (t, 1)) ≡ Some read → Front (SpellsInClass e q) us read
+  unit_found q us read c t make h =
+      let p = where_true_is (starts c (values us)) (Some (t, 1)) read h in
+      let s = starts_with c (values us) p.0 in
+      front_text (SpellsInClass e q) us read t (c ∷ []) s.0 s.1 (λ w rest first others. make w rest first) p.1
+
+  high_found : (us : List CodePoint) (read : ClassToken × ℕ) (r : AtomRead) → atom_at e us ≡ r → high_of r ≡ Some read → Front (SpellsInClass e at_high) us read
+  high_found us read (atom_read (character k v) n) f h =
+      let g = atom_found (character k v) n us f in front_by (SpellsInClass e at_high) us read (high k v) g.w g.rest n g.whole g.count g.spelled h
+  high_found us read (atom_read (escape k) n) f h = absurd (let no : ⊥ = cc h in no)
+  high_found us read (atom_read (property negative may name value) n) f h = absurd (let no : ⊥ = cc h in no)
+  high_found us read no_atom f h = absurd (let no : ⊥ = cc h in no)
+
+  third_found : (us : List CodePoint) (read : ClassToken × ℕ) (r : AtomRead) → atom_at e us ≡ r → item_of r ≡ Some read → Front (SpellsInClass e at_third) us read
+  third_found us read (atom_read a n) f h = let g = atom_found a n us f in front_by (SpellsInClass e at_third) us read (item a) g.w g.rest n g.whole g.count g.spelled h
+  third_found us read no_atom f h = absurd (let no : ⊥ = cc h in no)
+
+  -- where no `&` stands
+  no_ampersand : (w rest : List CodePoint) (t : ClassToken) → SpellsOperand e t w rest → not (starts 38 (values (w ++ rest))) ≡ true → starts 38 (values w) ≡ false
+  no_ampersand w rest t s h = sym (starts_front 38 w rest (operand_some t w rest s)) ∙ not-true (starts 38 (values (w ++ rest))) h
+
+  place_found : (q : Place) (us : List CodePoint) (read : ClassToken × ℕ) → class_token_at e q us ≡ Some read → Front (SpellsInClass e q) us read
+  unfolding class_token_at
+  place_found outside us read h = bracket_found us read (values us) refl h
+  place_found fresh us read h = fresh_found us read (atom_at e us) refl h
+  place_found at_dash us read h = unit_found at_dash us read 45 dash (λ w rest s. s) h
+  place_found at_high us read h = high_found us read (atom_at e us) refl h
+  place_found at_second us read h = unit_found at_second us read 45 (item (character kinds.Symbol 45)) (λ w rest s. (refl, s)) h
+  place_found at_third us read h = third_found us read (atom_at e us) refl h
+  place_found behind_meet us read h =
+      let p = where_true_is (is_sets e.mode && not (starts 38 (values us))) _ read h in
+      let b = both (is_sets e.mode) (not (starts 38 (values us))) p.0 in
+      let o = any_operand_found us read (atom_at e us) refl p.1 in
+      (o.0, o.1, o.2, o.3, (b.0, o.4, no_ampersand o.0 o.1 read.0 o.4 (ap (λ us. not (starts 38 (values us))) (sym o.2) ∙ b.1)))
+  place_found behind_less us read h =
+      let p = where_true_is (is_sets e.mode) _ read h in
+      let o = any_operand_found us read (atom_at e us) refl p.1 in
+      (o.0, o.1, o.2, o.3, (p.0, o.4))
+  place_found in_strings us read h =
+      let p = where_true_is (is_sets e.mode) _ read h in
+      let o = of_strings_found us read (atom_at e us) refl p.1 in
+      (o.0, o.1, o.2, o.3, (p.0, o.4))
+
+  -- What is read at a place of a class is spelled there.
+  pub class_token_found : (q : Place) (us : List CodePoint) (t : ClassToken) (n : ℕ) → class_token_at e q us ≡ Some (t, n) → TokenFront q t n us
+  class_token_found q us t n h = let o = place_found q us (t, n) h in record { w = o.0; rest = o.1; whole = o.2; count = o.3; spelled = o.4 }
+
+  -- No token is spelled by no units.
+  pub token_some : (q : Place) (t : ClassToken) (w rest : List CodePoint) → SpellsInClass e q t w rest → 0 < length w
+  token_some outside (bracket true) w rest s = omega (arith, units w (91 ∷ 94 ∷ []) s)
+  token_some outside (bracket false) w rest s = omega (arith, units w (91 ∷ []) s.0)
+  token_some fresh closer w rest s = omega (arith, units w (93 ∷ []) s)
+  token_some fresh (item a) w rest s = atom_some a w rest s.0
+  token_some fresh (low k v) w rest s = atom_some (character k v) w rest s.0
+  token_some fresh (bracket negative) w rest s = operand_some (bracket negative) w rest s.1
+  token_some fresh strings w rest s = operand_some strings w rest s.1
+  token_some fresh meet w rest s = omega (arith, units w (38 ∷ 38 ∷ []) s.1)
+  token_some fresh less w rest s = omega (arith, units w (45 ∷ 45 ∷ []) s.1)
+  token_some at_dash dash w rest s = omega (arith, units w (45 ∷ []) s)
+  token_some at_high (high k v) w rest s = atom_some (character k v) w rest s
+  token_some at_second (item a) w rest s = omega (arith, units w (45 ∷ []) s.1)
+  token_some at_third (item a) w rest s = atom_some a w rest s
+  token_some behind_meet t w rest s = operand_some t w rest s.1
+  token_some behind_less t w rest s = operand_some t w rest s.1
+  token_some in_strings (letter k v) w rest s = atom_some (character k v) w rest s.1
+  token_some in_strings string_bar w rest s = omega (arith, units w (124 ∷ []) s.1)
+  token_some in_strings strings_end w rest s = omega (arith, units w (125 ∷ []) s.1)
+  token_some in_strings t w rest s = absurd s.1
+  token_some q t w rest s = absurd s
+
+  -- the place behind an item that no `-` follows, and behind the first of three
+  pub behind_one : (a : Atom) (more : List CodePoint) → is_dashed (values more) ≡ false → behind e.mode fresh (item a) more ≡ fresh
+  behind_one a more d = ap (λ b. behind_item fresh (b && has_threes e.mode)) d
+
+  pub behind_first : (a : Atom) (more : List CodePoint) → BeforeThird e a more → behind e.mode fresh (item a) more ≡ at_second
+  behind_first a more t = ap₂ (λ b c. behind_item fresh (b && c)) t.dashed t.threes

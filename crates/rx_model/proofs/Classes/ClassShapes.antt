@@ -37,11 +37,11 @@ further_are es (member m ms) =
     tokens_append es (member_events m ++ more_members_events es ms)
     ∙ ap (λ ts. class_tokens_of es ++ ts) (tokens_append (member_events m) (more_members_events es ms) ∙ ap (λ ts. operand_tokens m ++ ts) (further_are es ms))
 
-contents_are : (es : ClassEvents) (ms : Members) → class_tokens_of (members_events es ms) ≡ contents_tokens (class_tokens_of es) ms
+pub contents_are : (es : ClassEvents) (ms : Members) → class_tokens_of (members_events es ms) ≡ contents_tokens (class_tokens_of es) ms
 contents_are es no_member = refl
 contents_are es (member m ms) = tokens_append (member_events m) (more_members_events es ms) ∙ ap (λ ts. operand_tokens m ++ ts) (further_are es ms)
 
-abbrev between_by : CharacterClassContentsKind → List ClassToken
+abbrev pub between_by : CharacterClassContentsKind → List ClassToken
 between_by kind = class_tokens_of (operator_events kind)
 
 pub class_tokens_by : (s : Span) (negative may : Bool) (kind : CharacterClassContentsKind) (ms : Members) →
@@ -73,7 +73,7 @@ barred_are (s ∷ ss) =
     ap (λ ts. string_bar ∷ ts) (tokens_append (string_events s) (barred_strings_events ss) ∙ ap (λ ts. ts ++ class_tokens_of (barred_strings_events ss)) (string_are s)
     ∙ ap (λ ts. letters_tokens s.body ++ ts) (barred_are ss))
 
-strings_are : (s : ClassString) (ss : List ClassString) (span : Span) →
+pub strings_are : (s : ClassString) (ss : List ClassString) (span : Span) →
     class_tokens_of ((strings_events (s ∷ ss) ++ (token strings_end ∷ [])) ++ (leave span.end ∷ [])) ≡ letters_tokens s.body ++ (barred_tokens ss ++ (strings_end ∷ []))
 strings_are s ss span =
     tokens_append (strings_events (s ∷ ss) ++ (token strings_end ∷ [])) (leave span.end ∷ []) ∙ append-nil _
@@ -86,7 +86,7 @@ le_true : (a b : ℕ) → nat_le a b ≡ true → a ≤ b
 le_true a b h = grind (arith, nat_tests)
 
 -- with this thing more
-abbrev with_member : Member → Held → Option Held
+abbrev pub with_member : Member → Held → Option Held
 with_member (tree.range r) held = ranged held
 with_member (tree.escape e) held = operand held
 with_member (tree.property p) held = operand held
@@ -151,22 +151,22 @@ strings_out negative held may outer after e s (t ∷ ss) any more all =
     ∙ strings_out negative held may outer after e t ss (any || not ((0 + length s.body) == 1)) more (All-tail IsEarlyString s (t ∷ ss) all)
     ∙ ap (λ b. class_run more (bracket_of negative after (with_strings held may b) ∷ outer)) (any_now any s (list_any (λ s. s.strings) (t ∷ ss)) (All-head IsEarlyString s (t ∷ ss) all).0)
 
-some_strings : {A : Type 0} (ss : List ClassString) → ss ≢ [] → ((s : ClassString) (more : List ClassString) → ss ≡ s ∷ more → A) → A
+pub some_strings : {A : Type 0} (ss : List ClassString) → ss ≢ [] → ((s : ClassString) (more : List ClassString) → ss ≡ s ∷ more → A) → A
 some_strings [] none h = absurd (none refl)
 some_strings (s ∷ more) none h = h s more refl
 
 -- a bracket around the operands of an intersection, and of a subtraction
-abbrev IsMeeting : Held → Type 0
+abbrev pub IsMeeting : Held → Type 0
 IsMeeting single = Unit {0}
 IsMeeting met = Unit {0}
 IsMeeting held = ⊥
 
-abbrev IsLessening : Held → Type 0
+abbrev pub IsLessening : Held → Type 0
 IsLessening single = Unit {0}
 IsLessening lessened = Unit {0}
 IsLessening held = ⊥
 
-abbrev IsGrowing : Held → Type 0
+abbrev pub IsGrowing : Held → Type 0
 IsGrowing single = Unit {0}
 IsGrowing several = Unit {0}
 IsGrowing held = ⊥
@@ -176,7 +176,7 @@ abbrev Contents : List ClassToken → Bool → Held → Bool → Brackets → Bo
 Contents ts negative held may outer flag =
     (after : Held) × (is_whole after ≡ true) × ((ss : List ClassToken) → class_run (ts ++ ss) (bracket_of negative held may ∷ outer) ≡ class_run ss (bracket_of negative after flag ∷ outer))
 
-operand_of : (m : Member) → IsOperand m → (held : Held) → with_member m held ≡ operand held
+pub operand_of : (m : Member) → IsOperand m → (held : Held) → with_member m held ≡ operand held
 operand_of (tree.range r) i held = absurd i
 operand_of (tree.escape e) i held = refl
 operand_of (tree.property p) i held = refl
@@ -184,7 +184,7 @@ operand_of (tree.character c) i held = refl
 operand_of (tree.nested c) i held = refl
 operand_of (tree.strings d) i held = refl
 
-first_after : (m : Member) → (after : Held) × (with_member m empty ≡ Some after) × IsGrowing after
+pub first_after : (m : Member) → (after : Held) × (with_member m empty ≡ Some after) × IsGrowing after
 first_after (tree.range r) = (several, refl, tt)
 first_after (tree.escape e) = (single, refl, tt)
 first_after (tree.property p) = (single, refl, tt)
@@ -192,7 +192,7 @@ first_after (tree.character c) = (single, refl, tt)
 first_after (tree.nested c) = (single, refl, tt)
 first_after (tree.strings d) = (single, refl, tt)
 
-more_after : (m : Member) (held : Held) → IsGrowing held → with_member m held ≡ Some several
+pub more_after : (m : Member) (held : Held) → IsGrowing held → with_member m held ≡ Some several
 more_after (tree.range r) single g = refl
 more_after (tree.range r) several g = refl
 more_after (tree.escape e) single g = refl
@@ -220,7 +220,7 @@ growing_or met may new g = absurd g
 growing_or lessening may new g = absurd g
 growing_or lessened may new g = absurd g
 
-growing_whole : (held : Held) → IsGrowing held → is_whole held ≡ true
+pub growing_whole : (held : Held) → IsGrowing held → is_whole held ≡ true
 growing_whole single g = refl
 growing_whole several g = refl
 growing_whole empty g = absurd g
@@ -229,7 +229,7 @@ growing_whole met g = absurd g
 growing_whole lessening g = absurd g
 growing_whole lessened g = absurd g
 
-meeting_whole : (held : Held) → IsMeeting held → is_whole held ≡ true
+pub meeting_whole : (held : Held) → IsMeeting held → is_whole held ≡ true
 meeting_whole single g = refl
 meeting_whole met g = refl
 meeting_whole empty g = absurd g
@@ -238,7 +238,7 @@ meeting_whole meeting g = absurd g
 meeting_whole lessening g = absurd g
 meeting_whole lessened g = absurd g
 
-lessening_whole : (held : Held) → IsLessening held → is_whole held ≡ true
+pub lessening_whole : (held : Held) → IsLessening held → is_whole held ≡ true
 lessening_whole single g = refl
 lessening_whole lessened g = refl
 lessening_whole empty g = absurd g
@@ -247,7 +247,7 @@ lessening_whole meeting g = absurd g
 lessening_whole met g = absurd g
 lessening_whole lessening g = absurd g
 
-meets : (held : Held) → IsMeeting held → met_by held ≡ Some meeting
+pub meets : (held : Held) → IsMeeting held → met_by held ≡ Some meeting
 meets single g = refl
 meets met g = refl
 meets empty g = absurd g
@@ -256,7 +256,7 @@ meets meeting g = absurd g
 meets lessening g = absurd g
 meets lessened g = absurd g
 
-lessens : (held : Held) → IsLessening held → less_by held ≡ Some lessening
+pub lessens : (held : Held) → IsLessening held → less_by held ≡ Some lessening
 lessens single g = refl
 lessens lessened g = refl
 lessens empty g = absurd g
@@ -371,7 +371,7 @@ mutual
       ∙ class_rest n flag kind ms (bracket_of negative held may ∷ outer) (members_out ms fits.1 early.2) fits.0 early.0 early.1 ss
       ∙ goes ss (holds (bracket_of negative held may) outer flag (operand held) after e)
 
-  member_out : (m : Member) → IsFittingMember m → IsEarlyMember m → (negative : Bool) (held : Held) (may : Bool) (outer : Brackets) (after : Held) → with_member m held ≡ Some after →
+  pub member_out : (m : Member) → IsFittingMember m → IsEarlyMember m → (negative : Bool) (held : Held) (may : Bool) (outer : Brackets) (after : Held) → with_member m held ≡ Some after →
       Out (operand_tokens m) negative held may outer after (member_strings m)
   member_out (tree.range r) fits early negative held may outer after e ss =
       let b : Bracket = record (bracket_of negative held may) { low_end = r.min.value } in

@@ -16,6 +16,11 @@ abbrev pub union_tokens : Members → List ClassToken
 union_tokens no_member = []
 union_tokens (member m ms) = class_tokens_of (member_events m) ++ union_tokens ms
 
+-- a union has no operator
+pub members_are : (ms : Members) → members_events [] ms ≡ more_members_events [] ms
+members_are no_member = refl
+members_are (member m ms) = refl
+
 pub more_tokens_are : (ms : Members) → class_tokens_of (more_members_events [] ms) ≡ union_tokens ms
 more_tokens_are no_member = refl
 more_tokens_are (member m ms) =

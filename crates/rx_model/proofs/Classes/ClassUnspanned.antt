@@ -1,5 +1,5 @@
 -- A class that is spelled with its spans is spelled without them.
-use Rattle.std.proofs.Common.{◌≡◌, refl, sym, ap, ap₂, ◌∙◌, subst, ℕ, ◌+◌, ◌==◌, ◌||◌, ◌&&◌, not, List, [], ◌∷◌, ◌++◌, length, map}
+use Rattle.std.proofs.Common.{◌≡◌, ◌≢◌, refl, sym, ap, ap₂, ◌∙◌, subst, ℕ, ◌+◌, ◌==◌, ◌||◌, ◌&&◌, not, List, [], ◌∷◌, ◌++◌, length, map}
 use Rattle.std.specs.Prelude.{All}
 use Rattle.std.specs.List.{list_any}
 use Rattle.std.proofs.lemmas.List.{append-nil, length-map}
@@ -15,25 +15,20 @@ use Rattle.rx_ast.specs.ClassTree as tree
 use Rattle.rx_ast.specs.Forget.{forget_character, forget_string, forget_strings, forget_member, forget_members, forget_class, same_kind}
 use Rattle.rx_ast.proofs.Forgetting.{forget_class_twice}
 use Rattle.rx_units.specs.declared.code_point.CodePoint.{CodePoint}
-use Rattle.rx_model.specs.declared.mode.Mode.{Mode}
 use Rattle.rx_model.specs.Classes.ClassRows.{Place, ClassTokenRow, ClassRow, IsClassShape, IsClass, IsClassSpanned, fresh, outside, behind}
+use Rattle.rx_model.specs.Classes.ClassShapes.{AreFitting, AreFlagged, AreOperands, AreTwo, FitsKind, IsFitting, IsFittingMember, IsFlagged, IsFlaggedMember, IsFlaggedString, IsOperand}
 use Rattle.rx_model.specs.Classes.ClassTokens.{ClassEvents, enter, leave, token, bracket, closer, strings, string_bar, strings_end, letter, class_tokens_of, within, letters_events, string_events, barred_strings_events, strings_events, operator_events, member_events, class_events, members_events, more_members_events, class_tokens}
 use Rattle.rx_model.specs.Trees.Early.{AreEarlyMembers, IsCodePoint, IsEarlyClass, IsEarlyMember, IsEarlyString, member_strings, any_strings, all_strings, first_strings, may_contain_strings}
 use Rattle.rx_model.specs.Inputs.Environment.{Environment}
-
-pub class_tokens_of-append : (es fs : ClassEvents) → class_tokens_of (es ++ fs) ≡ class_tokens_of es ++ class_tokens_of fs
-class_tokens_of-append [] fs = refl
-class_tokens_of-append ((enter n) ∷ es) fs = class_tokens_of-append es fs
-class_tokens_of-append ((leave n) ∷ es) fs = class_tokens_of-append es fs
-class_tokens_of-append ((token t) ∷ es) fs = ap (λ ts. t ∷ ts) (class_tokens_of-append es fs)
+use Rattle.rx_model.proofs.Classes.ClassTokens.{tokens_append}
 
 -- a span adds no token
 pub within_tokens : (s : Span) (es : ClassEvents) → class_tokens_of (within s es) ≡ class_tokens_of es
-within_tokens s es = class_tokens_of-append es (leave s.end ∷ []) ∙ append-nil (class_tokens_of es)
+within_tokens s es = tokens_append es (leave s.end ∷ []) ∙ append-nil (class_tokens_of es)
 
 -- Events that have the same tokens, one after the other.
 both_tokens : (es fs gs hs : ClassEvents) → class_tokens_of es ≡ class_tokens_of gs → class_tokens_of fs ≡ class_tokens_of hs → class_tokens_of (es ++ fs) ≡ class_tokens_of (gs ++ hs)
-both_tokens es fs gs hs h k = class_tokens_of-append es fs ∙ ap₂ (λ ts ss. ts ++ ss) h k ∙ sym (class_tokens_of-append gs hs)
+both_tokens es fs gs hs h k = tokens_append es fs ∙ ap₂ (λ ts ss. ts ++ ss) h k ∙ sym (tokens_append gs hs)
 
 within_both : (s r : Span) (es fs : ClassEvents) → class_tokens_of es ≡ class_tokens_of fs → class_tokens_of (within s es) ≡ class_tokens_of (within r fs)
 within_both s r es fs h = within_tokens s es ∙ h ∙ sym (within_tokens r fs)
@@ -113,7 +108,7 @@ first_may : (ms : Members) → first_strings (forget_members same_kind ms) ≡ f
 first_may no_member = refl
 first_may (member m ms) = member_may m
 
-may_forget : (kind : CharacterClassContentsKind) (ms : Members) → may_contain_strings kind (forget_members same_kind ms) ≡ may_contain_strings kind ms
+pub may_forget : (kind : CharacterClassContentsKind) (ms : Members) → may_contain_strings kind (forget_members same_kind ms) ≡ may_contain_strings kind ms
 may_forget Union ms = any_may ms
 may_forget Intersection ms = all_may ms
 may_forget Subtraction ms = first_may ms
@@ -128,7 +123,7 @@ early_each [] h = All-nil IsEarlyString
 early_each (s ∷ ss) h =
     All-cons IsEarlyString (forget_string same_kind s) (map (forget_string same_kind) ss) (early_string s (All-head IsEarlyString s ss h)) (early_each ss (All-tail IsEarlyString s ss h))
 
-some_strings : (ss : List ClassString) → list_any (λ s. s.strings) (map (forget_string same_kind) ss) ≡ list_any (λ s. s.strings) ss
+pub some_strings : (ss : List ClassString) → list_any (λ s. s.strings) (map (forget_string same_kind) ss) ≡ list_any (λ s. s.strings) ss
 some_strings [] = refl
 some_strings (s ∷ ss) = ap (λ b. s.strings || b) (some_strings ss)
 
@@ -148,8 +143,75 @@ mutual
   pub early_forget : (c : Class) → IsEarlyClass c → IsEarlyClass (forget_class same_kind c)
   early_forget (class s negative may kind ms) h = (h.0 ∙ sym (may_forget kind ms), h.1, early_members ms h.2)
 
-shape_forget : (mode : Mode) (c : Class) → IsClassShape mode c → IsClassShape mode (forget_class same_kind c)
-shape_forget mode (class s negative may kind ms) h = (h.0, h.1 ∙ sym (may_forget kind ms))
+-- Nor does what a class owes to the grammar.
+operand_forget : (m : Member) → IsOperand m → IsOperand (forget_member same_kind m)
+operand_forget (tree.range r) h = absurd h
+operand_forget (tree.escape e) h = h
+operand_forget (tree.property p) h = h
+operand_forget (tree.character c) h = h
+operand_forget (tree.nested c) h = h
+operand_forget (tree.strings d) h = h
+
+operands_forget : (ms : Members) → AreOperands ms → AreOperands (forget_members same_kind ms)
+operands_forget no_member h = h
+operands_forget (member m ms) h = (operand_forget m h.0, operands_forget ms h.1)
+
+two_forget : (ms : Members) → AreTwo ms → AreTwo (forget_members same_kind ms)
+two_forget no_member h = absurd h
+two_forget (member m no_member) h = absurd h
+two_forget (member m (member n ms)) h = h
+
+fits_forget : (kind : CharacterClassContentsKind) (ms : Members) → FitsKind kind ms → FitsKind kind (forget_members same_kind ms)
+fits_forget Union ms h = h
+fits_forget Intersection ms h = (two_forget ms h.0, operands_forget ms h.1)
+fits_forget Subtraction ms h = (two_forget ms h.0, operands_forget ms h.1)
+
+some_forget : (ss : List ClassString) → ss ≢ [] → map (forget_string same_kind) ss ≢ []
+some_forget [] h k = h refl
+some_forget (s ∷ ss) h k = let no : ⊥ = cc k in no
+
+mutual
+  fitting_member : (m : Member) → IsFittingMember m → IsFittingMember (forget_member same_kind m)
+  fitting_member (tree.range r) h = h
+  fitting_member (tree.escape e) h = h
+  fitting_member (tree.property p) h = h
+  fitting_member (tree.character c) h = h
+  fitting_member (tree.nested c) h = fitting_forget c h
+  fitting_member (tree.strings d) h = some_forget d.body h
+
+  fitting_members : (ms : Members) → AreFitting ms → AreFitting (forget_members same_kind ms)
+  fitting_members no_member h = h
+  fitting_members (member m ms) h = (fitting_member m h.0, fitting_members ms h.1)
+
+  fitting_forget : (c : Class) → IsFitting c → IsFitting (forget_class same_kind c)
+  fitting_forget (class s negative may kind ms) h = (fits_forget kind ms h.0, fitting_members ms h.1)
+
+flagged_string : (s : ClassString) → IsFlaggedString s → IsFlaggedString (forget_string same_kind s)
+flagged_string s h = h ∙ ap (λ n. not (n == 1)) (sym (length-map s.body (forget_character same_kind)))
+
+flagged_each : (ss : List ClassString) → All IsFlaggedString ss → All IsFlaggedString (map (forget_string same_kind) ss)
+flagged_each [] h = All-nil IsFlaggedString
+flagged_each (s ∷ ss) h =
+    All-cons IsFlaggedString (forget_string same_kind s) (map (forget_string same_kind) ss) (flagged_string s (All-head IsFlaggedString s ss h)) (flagged_each ss (All-tail IsFlaggedString s ss h))
+
+mutual
+  flagged_member : (m : Member) → IsFlaggedMember m → IsFlaggedMember (forget_member same_kind m)
+  flagged_member (tree.range r) h = h
+  flagged_member (tree.escape e) h = h
+  flagged_member (tree.property p) h = h
+  flagged_member (tree.character c) h = h
+  flagged_member (tree.nested c) h = flagged_forget c h
+  flagged_member (tree.strings d) h = (h.0 ∙ sym (some_strings d.body), flagged_each d.body h.1)
+
+  flagged_members : (ms : Members) → AreFlagged ms → AreFlagged (forget_members same_kind ms)
+  flagged_members no_member h = h
+  flagged_members (member m ms) h = (flagged_member m h.0, flagged_members ms h.1)
+
+  flagged_forget : (c : Class) → IsFlagged c → IsFlagged (forget_class same_kind c)
+  flagged_forget (class s negative may kind ms) h = (h.0 ∙ sym (may_forget kind ms), flagged_members ms h.1)
+
+pub shape_forget : (c : Class) → IsClassShape c → IsClassShape (forget_class same_kind c)
+shape_forget c h = (fitting_forget c h.0, flagged_forget c h.1)
 
 module _ (e : Environment) where
   pub class_row_tokens : (o : ℕ → ℕ) (es : ClassEvents) (q : Place) (i : ℕ) (us : List CodePoint) (r : Place) (j : ℕ) (rest : List CodePoint) →
@@ -162,6 +224,6 @@ module _ (e : Environment) where
   pub class_unspanned : (o : ℕ → ℕ) (i : ℕ) (c : Class) (w rest : List CodePoint) → IsClassSpanned e o i c w rest → IsClass e (forget_class same_kind c) w rest
   class_unspanned o i c w rest h = record {
     no_spans = forget_class_twice same_kind same_kind c;
-    shape = shape_forget e.mode c h.shape;
+    shape = shape_forget c h.shape;
     row = subst (λ ts. ClassTokenRow e ts outside (w ++ rest) fresh rest) (sym (class_forget c)) (class_row_tokens o (class_events c) outside i (w ++ rest) fresh (i + length w) rest h.row);
   }

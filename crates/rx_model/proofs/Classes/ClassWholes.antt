@@ -1,23 +1,19 @@
 -- The tokens of a class that is free of early errors open its bracket and close it.
-use Rattle.std.proofs.Common.{◌≡◌, refl, sym, ap, ◌∙◌, subst, ℕ, ◌≤◌, Bool, true, false, not, ◌&&◌, Option, Some, None, List, [], ◌∷◌, ◌++◌, nat_le}
+use Rattle.std.proofs.Common.{◌≡◌, refl, sym, ap, ◌∙◌, ℕ, ◌≤◌, Bool, true, false, not, ◌&&◌, Option, Some, None, List, [], ◌∷◌, ◌++◌, nat_le}
 use Rattle.std.proofs.lemmas.Bool.{le-leb, and_from}
 use Rattle.rx_ast.specs.declared.leaf.CharacterKind.{CharacterKind}
-use Rattle.rx_ast.specs.declared.class.CharacterClassContentsKind.TheVariants.{Union, Intersection, Subtraction}
-use Rattle.rx_ast.specs.ClassTree.{Class, Member, Members, no_member, member, class}
-use Rattle.rx_ast.specs.ClassTree as tree
+use Rattle.rx_ast.specs.ClassTree.{Class}
 use Rattle.rx_units.specs.declared.code_point.CodePoint.{CodePoint}
 use Rattle.rx_model.specs.declared.mode.Mode.{Mode}
 use Rattle.rx_model.specs.declared.mode.Mode.TheVariants.{Sets}
-use Rattle.rx_model.specs.Classes.ClassRows.{Place, ClassTokenRow, IsClass, SpellsInClass, at_dash, at_high, at_second, at_third, behind_item, fresh, outside}
-use Rattle.rx_model.specs.Classes.ClassRuns.{Held, empty, single, several, meeting, met, lessening, lessened, Bracket, Brackets, atom_may, atom_obeys, behind_step, bracket_of, class_opened, class_run, class_step, holding, is_whole, operand, ranged, where_may, where_true, with_strings}
-use Rattle.rx_model.specs.Classes.ClassTokens.{Atom, ClassToken, bracket, closer, item, low, dash, high, strings, class_tokens}
-use Rattle.rx_model.specs.Classes.ClassShapes.{AreFitting}
+use Rattle.rx_model.specs.Classes.ClassRows.{IsClass}
+use Rattle.rx_model.specs.Classes.ClassRuns.{Held, empty, single, several, meeting, met, lessening, lessened, Bracket, Brackets, atom_may, atom_obeys, behind_step, bracket_of, class_opened, class_run, class_step, holding, operand, ranged, where_may, where_true, with_strings}
+use Rattle.rx_model.specs.Classes.ClassTokens.{Atom, ClassToken, bracket, item, low, dash, high, class_tokens}
 use Rattle.rx_model.specs.Trees.Early.{IsEarlyClass}
 use Rattle.rx_model.specs.Inputs.Environment.{Environment}
 use Rattle.rx_model.specs.Properties.PropertyEscapes as spelled
 use Rattle.rx_model.specs.Properties.PropertyEscapes.{SpellsProperty}
 use Rattle.rx_model.proofs.Classes.ClassShapes.{early_closes}
-use Rattle.rx_model.proofs.Classes.ClassTokens.{class_tokens_are, union_tokens}
 
 -- what a bracket around a union holds
 abbrev pub IsUnion : Held → Type 0
@@ -122,67 +118,6 @@ only_sets mode no_sets _ _ _ _ (spelled.category known) = refl
 only_sets mode no_sets _ _ _ _ (spelled.binary no_category known) = refl
 only_sets mode no_sets _ _ _ _ (spelled.of_strings sets no_category no_binary known) = absurd (no_sets sets)
 
-whole_union : (held : Held) → IsUnion held → is_whole held ≡ true
-whole_union empty u = refl
-whole_union single u = refl
-whole_union several u = refl
-whole_union meeting u = absurd u
-whole_union met u = absurd u
-whole_union lessening u = absurd u
-whole_union lessened u = absurd u
-
-never_both : (negative : Bool) → not (negative && false) ≡ true
-never_both true = refl
-never_both false = refl
-
--- The members of a class that is spelled are neither classes nor strings.
-abbrev IsInside : Place → Type 0
-IsInside outside = ⊥
-IsInside fresh = Unit {0}
-IsInside at_dash = Unit {0}
-IsInside at_high = Unit {0}
-IsInside at_second = Unit {0}
-IsInside at_third = Unit {0}
-
-behind_inside : (q : Place) (first : Bool) → IsInside (behind_item q first)
-behind_inside outside first = tt
-behind_inside fresh true = tt
-behind_inside fresh false = tt
-behind_inside at_dash first = tt
-behind_inside at_high first = tt
-behind_inside at_second first = tt
-behind_inside at_third first = tt
-
-module _ (e : Environment) where
-  no_bracket : (q : Place) (negative : Bool) (w rest : List CodePoint) → IsInside q → SpellsInClass e q (bracket negative) w rest → ⊥
-  no_bracket outside negative w rest i s = i
-  no_bracket fresh negative w rest i s = s
-  no_bracket at_dash negative w rest i s = s
-  no_bracket at_high negative w rest i s = s
-  no_bracket at_second negative w rest i s = s
-  no_bracket at_third negative w rest i s = s
-
-  no_strings : (q : Place) (w rest : List CodePoint) → SpellsInClass e q strings w rest → ⊥
-  no_strings outside w rest s = s
-  no_strings fresh w rest s = s
-  no_strings at_dash w rest s = s
-  no_strings at_high w rest s = s
-  no_strings at_second w rest s = s
-  no_strings at_third w rest s = s
-
-  are_fitting : (ms : Members) (ss : List ClassToken) (q : Place) (us : List CodePoint) (r : Place) (rest : List CodePoint) → IsInside q → ClassTokenRow e (union_tokens ms ++ ss) q us r rest → AreFitting ms
-  are_fitting no_member ss q us r rest i row = tt
-  are_fitting (member (tree.range x) ms) ss q us r rest i row = (tt, are_fitting ms ss fresh row.4.4.1 r rest tt row.4.4.4)
-  are_fitting (member (tree.escape x) ms) ss q us r rest i row = (tt, are_fitting ms ss _ row.1 r rest (behind_inside q _) row.4)
-  are_fitting (member (tree.property x) ms) ss q us r rest i row = (tt, are_fitting ms ss _ row.1 r rest (behind_inside q _) row.4)
-  are_fitting (member (tree.character x) ms) ss q us r rest i row = (tt, are_fitting ms ss _ row.1 r rest (behind_inside q _) row.4)
-  are_fitting (member (tree.nested (class s n may kind xs)) ms) ss q us r rest i row = absurd (no_bracket q n row.0 row.1 i row.3)
-  are_fitting (member (tree.strings d) ms) ss q us r rest i row = absurd (no_strings q row.0 row.1 row.3)
-
-  -- A class that is spelled and free of early errors closes.
-  pub whole_class : (c : Class) (w rest : List CodePoint) → IsClass e c w rest → IsEarlyClass c → class_opened (class_tokens c) ≡ Some []
-  whole_class (class s negative may Union ms) w rest is early =
-      let row = subst (λ ts. ClassTokenRow e ts outside (w ++ rest) fresh rest) (class_tokens_are s negative may ms) is.row in
-      early_closes (class s negative may Union ms) (tt, are_fitting ms (closer ∷ []) fresh row.1 fresh rest tt row.4) early
-  whole_class (class s negative may Intersection ms) w rest is early = absurd is.shape.0
-  whole_class (class s negative may Subtraction ms) w rest is early = absurd is.shape.0
+-- A class that is spelled and free of early errors closes.
+pub whole_class : (e : Environment) (c : Class) (w rest : List CodePoint) → IsClass e c w rest → IsEarlyClass c → class_opened (class_tokens c) ≡ Some []
+whole_class e c w rest is early = early_closes c is.shape.0 early

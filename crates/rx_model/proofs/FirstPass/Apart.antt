@@ -1,12 +1,12 @@
 -- The first pass finds two groups of one name that might both take part exactly where the tree holds such.
-use Rattle.std.proofs.Common.{◌≡◌, refl, ◌∙◌, subst, ℕ, suc, ◌≤◌, Bool, List, [], ◌∷◌, drop, arith}
+use Rattle.std.proofs.Common.{◌≡◌, refl, ◌∙◌, subst, ℕ, suc, ◌≤◌, List, [], ◌∷◌, drop, arith}
 use Rattle.rx_ast.specs.declared.term.Pattern.{Pattern}
 use Rattle.rx_ast.specs.Tree.{Node, Nodes, Alternatives, leaf, quantified, group, no_node, node, no_alternative, alternative, mirror_disjunction}
 use Rattle.rx_units.specs.declared.code_point.CodePoint.{CodePoint}
 use Rattle.rx_units.specs.Units.{values}
 use Rattle.rx_model.specs.declared.mode.Mode.{Mode}
 use Rattle.rx_model.specs.FirstPass.Cuts.{AreMarksOfAll, TellsApart}
-use Rattle.rx_model.specs.Inputs.Environment.{environment, is_unicode}
+use Rattle.rx_model.specs.Inputs.Environment.{environment}
 use Rattle.rx_model.specs.Trees.Events.{node_events, nodes_events, alternatives_events, barred_events, tokens}
 use Rattle.rx_model.specs.FirstPass.GroupStates.{GroupState, group_states}
 use Rattle.rx_model.specs.FirstPass.Marks.{Mark, Clash, mark_at, marks}
@@ -20,100 +20,100 @@ use Rattle.rx_model.proofs.FirstPass.OwnGroups.{row_marks}
 use Rattle.rx_model.proofs.FirstPass.PartedMarks.{hidden_parted, parted_hidden}
 use Rattle.rx_model.proofs.FirstPass.Stretches.{AreClear, IsStretch, others_stretch, others_after, stretches}
 
-module _ (unicode_mode : Bool) (ms : List Mark) where
+module _ (mode : Mode) (ms : List Mark) where
   -- From k on stands a stretch, and then these tokens.
   abbrev StretchThen : ℕ → List Token → Type 0 → List (List ℕ) → Type 0
-  StretchThen k ts rule names = (j : ℕ) × AreFrom unicode_mode ms j ts × IsStretch unicode_mode ms k j rule names
+  StretchThen k ts rule names = (j : ℕ) × AreFrom mode ms j ts × IsStretch mode ms k j rule names
 
   -- From k on stand alternatives of a group, and then these tokens.
   abbrev BodyThen : ℕ → List GroupState → ℕ → List Token → Type 0 → List (List ℕ) → Type 0
-  BodyThen s fs k ts rule names = (j : ℕ) × AreFrom unicode_mode ms j ts × IsBody unicode_mode ms s fs k j rule names
+  BodyThen s fs k ts rule names = (j : ℕ) × AreFrom mode ms j ts × IsBody mode ms s fs k j rule names
 
   -- A node is a stretch, with the rule and the names of the tree; so are the nodes of an alternative. The alternatives of a group are a body.
   mutual
-    node_apart : (n : Node) (ts : List Token) (k : ℕ) → AreFrom unicode_mode ms k (before (node_events n) ts) → StretchThen k ts (IsNodeApart n) (node_names n)
+    node_apart : (n : Node) (ts : List Token) (k : ℕ) → AreFrom mode ms k (before (node_events n) ts) → StretchThen k ts (IsNodeApart n) (node_names n)
     node_apart (leaf l) ts k c =
-        let h = leaf_then unicode_mode ms l ts k (subst (AreFrom unicode_mode ms k) (before_leaf l _ ts) c) in
-        (h.0, h.2, others_stretch unicode_mode ms k h.0 h.1)
+        let h = leaf_then mode ms l ts k (subst (AreFrom mode ms k) (before_leaf l _ ts) c) in
+        (h.0, h.2, others_stretch mode ms k h.0 h.1)
     node_apart (quantified s min max greedy n) ts k c =
         let q = quantifier min max greedy in
-        let h = node_apart n (q ∷ ts) k (subst (AreFrom unicode_mode ms k) (before_quantified s (node_events n) q ts) c) in
-        let o = quantifier_then unicode_mode ms min max greedy ts h.0 h.1 in
-        (o.0, o.2, others_after unicode_mode ms k h.0 o.0 (IsNodeApart n) (node_names n) h.2 o.1)
+        let h = node_apart n (q ∷ ts) k (subst (AreFrom mode ms k) (before_quantified s (node_events n) q ts) c) in
+        let o = quantifier_then mode ms min max greedy ts h.0 h.1 in
+        (o.0, o.2, others_after mode ms k h.0 o.0 (IsNodeApart n) (node_names n) h.2 o.1)
     node_apart (group s o d more) ts k c =
-        let h = opener_then unicode_mode ms o (before (alternatives_events more) (closer ∷ ts)) k (subst (AreFrom unicode_mode ms k) (before_group s d o (alternatives_events more) ts) c) in
+        let h = opener_then mode ms o (before (alternatives_events more) (closer ∷ ts)) k (subst (AreFrom mode ms k) (before_group s d o (alternatives_events more) ts) c) in
         let others = h.1.1 in
-        let opened : group_states ms (suc k) ≡ (suc k, suc k) ∷ group_states ms k = opening_step unicode_mode o (mark_at ms k) k (group_states ms k) h.0 in
-        let v = after_opening unicode_mode ms (suc k) (group_states ms k) h.1.0 opened others in
+        let opened : group_states ms (suc k) ≡ (suc k, suc k) ∷ group_states ms k = opening_step mode o (mark_at ms k) k (group_states ms k) h.0 in
+        let v = after_opening mode ms (suc k) (group_states ms k) h.1.0 opened others in
         let b = alternatives_apart more (suc k) (group_states ms k) h.1.0 (closer ∷ ts) v.0 others.up v.1 h.1.2 in
-        let e = closer_then unicode_mode ms ts b.0 b.1 in
-        (suc b.0, e.1, group_stretch unicode_mode ms o k h.1.0 b.0 (AreAlternativesApart more) (alternatives_names more) h.0 others b.2 e.0)
+        let e = closer_then mode ms ts b.0 b.1 in
+        (suc b.0, e.1, group_stretch mode ms o k h.1.0 b.0 (AreAlternativesApart more) (alternatives_names more) h.0 others b.2 e.0)
 
-    nodes_apart : (ns : Nodes) (ts : List Token) (k : ℕ) → AreFrom unicode_mode ms k (before (nodes_events ns) ts) → StretchThen k ts (AreNodesApart ns) (nodes_names ns)
-    nodes_apart no_node ts k c = (k, c, others_stretch unicode_mode ms k k (no_mark ms k))
+    nodes_apart : (ns : Nodes) (ts : List Token) (k : ℕ) → AreFrom mode ms k (before (nodes_events ns) ts) → StretchThen k ts (AreNodesApart ns) (nodes_names ns)
+    nodes_apart no_node ts k c = (k, c, others_stretch mode ms k k (no_mark ms k))
     nodes_apart (node n ns) ts k c =
-        let h = node_apart n (before (nodes_events ns) ts) k (subst (AreFrom unicode_mode ms k) (before-append (node_events n) (nodes_events ns) ts) c) in
+        let h = node_apart n (before (nodes_events ns) ts) k (subst (AreFrom mode ms k) (before-append (node_events n) (nodes_events ns) ts) c) in
         let r = nodes_apart ns ts h.0 h.1 in
-        (r.0, r.1, stretches unicode_mode ms k h.0 r.0 (IsNodeApart n) (AreNodesApart ns) (node_names n) (nodes_names ns) h.2 r.2)
+        (r.0, r.1, stretches mode ms k h.0 r.0 (IsNodeApart n) (AreNodesApart ns) (node_names n) (nodes_names ns) h.2 r.2)
 
-    alternatives_apart : (more : Alternatives) (s : ℕ) (fs : List GroupState) (k : ℕ) (ts : List Token) → group_states ms k ≡ (s, s) ∷ fs → s ≤ k → SeesAsBefore unicode_mode ms s fs k →
-        AreFrom unicode_mode ms k (before (alternatives_events more) ts) → BodyThen s fs k ts (AreAlternativesApart more) (alternatives_names more)
-    alternatives_apart no_alternative s fs k ts e le v c = (k, c, no_body unicode_mode ms s s fs k e)
+    alternatives_apart : (more : Alternatives) (s : ℕ) (fs : List GroupState) (k : ℕ) (ts : List Token) → group_states ms k ≡ (s, s) ∷ fs → s ≤ k → SeesAsBefore mode ms s fs k →
+        AreFrom mode ms k (before (alternatives_events more) ts) → BodyThen s fs k ts (AreAlternativesApart more) (alternatives_names more)
+    alternatives_apart no_alternative s fs k ts e le v c = (k, c, no_body mode ms s s fs k e)
     alternatives_apart (alternative d ns more) s fs k ts e le v c =
-        let h = nodes_apart ns (before (barred_events more) ts) k (subst (AreFrom unicode_mode ms k) (before_alternative d (nodes_events ns) (barred_events more) ts) c) in
+        let h = nodes_apart ns (before (barred_events more) ts) k (subst (AreFrom mode ms k) (before_alternative d (nodes_events ns) (barred_events more) ts) c) in
         let up = h.2.up in
         let r = barred_apart more s s fs h.0 ts (h.2.same ∙ e) (omega arith) h.1 in
-        (r.0, r.1, alternative_body unicode_mode ms s fs k h.0 r.0 (AreNodesApart ns) (AreAlternativesApart more) (nodes_names ns) (alternatives_names more) v h.2 r.2)
+        (r.0, r.1, alternative_body mode ms s fs k h.0 r.0 (AreNodesApart ns) (AreAlternativesApart more) (nodes_names ns) (alternatives_names more) v h.2 r.2)
 
     barred_apart : (more : Alternatives) (s last : ℕ) (fs : List GroupState) (k : ℕ) (ts : List Token) → group_states ms k ≡ (s, last) ∷ fs → s ≤ k →
-        AreFrom unicode_mode ms k (before (barred_events more) ts) → BodyThen s fs k ts (AreAlternativesApart more) (alternatives_names more)
-    barred_apart no_alternative s last fs k ts e le c = (k, c, no_body unicode_mode ms s last fs k e)
+        AreFrom mode ms k (before (barred_events more) ts) → BodyThen s fs k ts (AreAlternativesApart more) (alternatives_names more)
+    barred_apart no_alternative s last fs k ts e le c = (k, c, no_body mode ms s last fs k e)
     barred_apart (alternative d ns more) s last fs k ts e le c =
-        let b = bar_then unicode_mode ms _ k c in
-        let v = after_bar unicode_mode ms s last fs k e le b.0 in
-        let h = nodes_apart ns (before (barred_events more) ts) (suc k) (subst (AreFrom unicode_mode ms (suc k)) (before_alternative d (nodes_events ns) (barred_events more) ts) b.1) in
+        let b = bar_then mode ms _ k c in
+        let v = after_bar mode ms s last fs k e le b.0 in
+        let h = nodes_apart ns (before (barred_events more) ts) (suc k) (subst (AreFrom mode ms (suc k)) (before_alternative d (nodes_events ns) (barred_events more) ts) b.1) in
         let up = h.2.up in
         let r = barred_apart more s k fs h.0 ts (h.2.same ∙ v.0) (omega arith) h.1 in (
           r.0,
           r.1,
-          bar_body unicode_mode ms s fs k r.0 (AreAlternativesApart (alternative d ns more)) (alternatives_names (alternative d ns more)) b.0
-              (alternative_body unicode_mode ms s fs (suc k) h.0 r.0 (AreNodesApart ns) (AreAlternativesApart more) (nodes_names ns) (alternatives_names more) v.1 h.2 r.2),
+          bar_body mode ms s fs k r.0 (AreAlternativesApart (alternative d ns more)) (alternatives_names (alternative d ns more)) b.0
+              (alternative_body mode ms s fs (suc k) h.0 r.0 (AreNodesApart ns) (AreAlternativesApart more) (nodes_names ns) (alternatives_names more) v.1 h.2 r.2),
         )
 
   -- marks without a clash are clear
-  clear_from : (j : ℕ) → ((a b : ℕ) → Clash unicode_mode ms a b → ⊥) → AreClear unicode_mode ms 0 j
+  clear_from : (j : ℕ) → ((a b : ℕ) → Clash mode ms a b → ⊥) → AreClear mode ms 0 j
   clear_from j f b name l g h v = f v.0 b (record { in_order = v.1; name = name; first = v.2; second = h; together = λ p. v.3 (parted_hidden ms v.0 b p) })
 
   -- and clear marks are without a clash
-  no_clash_from : (j : ℕ) → drop j ms ≡ [] → AreClear unicode_mode ms 0 j → (a b : ℕ) → Clash unicode_mode ms a b → ⊥
+  no_clash_from : (j : ℕ) → drop j ms ≡ [] → AreClear mode ms 0 j → (a b : ℕ) → Clash mode ms a b → ⊥
   no_clash_from j e f a b c =
       let end = past_end ms j e in
-      let here = named_before_end unicode_mode ms b c.name c.second in
+      let here = named_before_end mode ms b c.name c.second in
       f b c.name (omega arith) (omega arith) c.second (a, c.in_order, c.first, λ h. c.together (hidden_parted ms a b h))
 
   -- the alternatives of a whole text are a body in no group
-  whole_apart : (more : Alternatives) → AreFrom unicode_mode ms 0 (before (alternatives_events more) []) → BodyThen 0 [] 0 [] (AreAlternativesApart more) (alternatives_names more)
+  whole_apart : (more : Alternatives) → AreFrom mode ms 0 (before (alternatives_events more) []) → BodyThen 0 [] 0 [] (AreAlternativesApart more) (alternatives_names more)
   whole_apart more c = alternatives_apart more 0 [] 0 [] refl (omega arith) (λ name. (λ v. let l = v.1 in absurd (omega arith), λ v. let l = v.1 in absurd (omega arith))) c
 
 -- where the marks of a whole text do not clash, the names of its tree are apart
-apart_from : (unicode_mode : Bool) (ms : List Mark) (more : Alternatives) → AreFrom unicode_mode ms 0 (before (alternatives_events more) []) → ((a b : ℕ) → Clash unicode_mode ms a b → ⊥) → AreAlternativesApart more
-apart_from unicode_mode ms more c f = let b = whole_apart unicode_mode ms more c in (b.2.sound (clear_from unicode_mode ms b.0 f)).0
+apart_from : (mode : Mode) (ms : List Mark) (more : Alternatives) → AreFrom mode ms 0 (before (alternatives_events more) []) → ((a b : ℕ) → Clash mode ms a b → ⊥) → AreAlternativesApart more
+apart_from mode ms more c f = let b = whole_apart mode ms more c in (b.2.sound (clear_from mode ms b.0 f)).0
 
 -- and where they are apart, the marks do not clash
-no_clash_of : (unicode_mode : Bool) (ms : List Mark) (more : Alternatives) → AreFrom unicode_mode ms 0 (before (alternatives_events more) []) → AreAlternativesApart more → (a b : ℕ) → Clash unicode_mode ms a b → ⊥
-no_clash_of unicode_mode ms more c r =
-    let b = whole_apart unicode_mode ms more c in
-    no_clash_from unicode_mode ms b.0 b.1 (b.2.whole r (λ name h v. let l = v.1 in absurd (omega arith)))
+no_clash_of : (mode : Mode) (ms : List Mark) (more : Alternatives) → AreFrom mode ms 0 (before (alternatives_events more) []) → AreAlternativesApart more → (a b : ℕ) → Clash mode ms a b → ⊥
+no_clash_of mode ms more c r =
+    let b = whole_apart mode ms more c in
+    no_clash_from mode ms b.0 b.1 (b.2.whole r (λ name h v. let l = v.1 in absurd (omega arith)))
 
 -- the marks of a text are those of the alternatives of its tree
 alternatives_marks : (mode : Mode) (p : Pattern) (us : List CodePoint) → IsSpelled mode p us →
-    AreFrom (is_unicode mode) (marks (values us)) 0 (before (alternatives_events (mirror_disjunction p.body).1) [])
+    AreFrom mode (marks mode (values us)) 0 (before (alternatives_events (mirror_disjunction p.body).1) [])
 alternatives_marks mode p us r =
-    subst (λ ts. AreMarksOfAll (is_unicode mode) ts (marks (values us))) (tokens_are p) (row_marks (environment mode p) (tokens p) us r.row)
+    subst (λ ts. AreMarksOfAll mode ts (marks mode (values us))) (tokens_are p) (row_marks (environment mode p) (tokens p) us r.row)
 
 pub tells_apart : (mode : Mode) (p : Pattern) (us : List CodePoint) → IsSpelled mode p us → TellsApart mode p us
 tells_apart mode p us r =
     let c = alternatives_marks mode p us r in record {
-      apart = apart_from (is_unicode mode) (marks (values us)) (mirror_disjunction p.body).1 c;
-      no_clash = no_clash_of (is_unicode mode) (marks (values us)) (mirror_disjunction p.body).1 c;
+      apart = apart_from mode (marks mode (values us)) (mirror_disjunction p.body).1 c;
+      no_clash = no_clash_of mode (marks mode (values us)) (mirror_disjunction p.body).1 c;
     }

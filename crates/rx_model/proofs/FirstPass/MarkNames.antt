@@ -1,5 +1,5 @@
 -- The names that the first pass lists are those that the named openings of a text spell.
-use Rattle.std.proofs.Common.{◌≡◌, refl, ap, sym, ◌∙◌, subst, ℕ, zero, suc, ◌+◌, Bool, false, Contains, Decides, Option, Some, None, List, [], ◌∷◌, ◌++◌, append_assoc, length, length-append, get_or, eqb, arith, ◌⊎◌, inl, inr, ◌↔◌}
+use Rattle.std.proofs.Common.{◌≡◌, refl, ap, sym, ◌∙◌, subst, ℕ, zero, suc, ◌+◌, false, Contains, Decides, Option, Some, None, List, [], ◌∷◌, ◌++◌, append_assoc, length, length-append, get_or, eqb, arith, ◌⊎◌, inl, inr, ◌↔◌}
 use Rattle.std.specs.List.{list_any}
 use lib.Pointwise.{pointwise}
 use Rattle.std.proofs.lemmas.Bool.Decides.{Decides-by_or}
@@ -7,30 +7,31 @@ use Rattle.std.proofs.lemmas.List.Elements.{Decides-contains}
 use Rattle.std.proofs.lemmas.Slice.Eq.{bytes_eq-Decides}
 use Rattle.std.proofs.lemmas.Bool.{cases_Bool, cond-true, cond-false, false_from_ne_true}
 use Rattle.std.proofs.lemmas.List.{append-nil}
+use Rattle.rx_model.specs.declared.mode.Mode.{Mode}
 use Rattle.rx_model.specs.Groups.GroupNameReading.{name_of}
-use Rattle.rx_model.specs.FirstPass.MarkTexts.{SpellsMark, escape, last_backslash, class, open_class, open_escape, plain, ignoring, ahead, not_ahead, behind, not_behind, modifying, named, unclosed, closing, parting, one_unit, IsMarkRow, no_mark, mark, IsNamedOpening, AreNames, no_opening, opening, nameless, AreOnce, no_name, fresh, known, AreNamesOnce, IsNameBetween}
+use Rattle.rx_model.specs.FirstPass.MarkTexts.{SpellsMark, escape, last_backslash, class, open_class, plain, ignoring, ahead, not_ahead, behind, not_behind, modifying, named, unclosed, closing, parting, one_unit, IsMarkRow, no_mark, mark, IsNamedOpening, AreNames, no_opening, opening, nameless, AreOnce, no_name, fresh, known, AreNamesOnce, IsNameBetween}
 use Rattle.rx_model.specs.FirstPass.Marks.{Mark, capturing, marks, mark_at, mark_name, name_length, name_places, listed, names, seen, places_behind}
+use Rattle.rx_model.specs.Inputs.Environment.{is_unicode}
 use Rattle.rx_model.specs.Trees.Names.{is_among, once_behind}
 use Rattle.rx_model.proofs.Groups.GroupNames.{read_group_name, group_name_read, name_anywhere}
 use Rattle.rx_model.proofs.FirstPass.MarkTexts.{spelled_mark, row_of, first_place}
 use Rattle.rx_model.proofs.FirstPass.OpenerMarks.{naming_marks}
 
-module _ (unicode_mode : Bool) where
+module _ (mode : Mode) where
   -- a mark's name is what its units spell
-  units_name : (units name rest : List ℕ) → name_of unicode_mode units ≡ Some name → IsNamedOpening unicode_mode name (40 ∷ 63 ∷ 60 ∷ (units ++ (62 ∷ []))) rest
+  units_name : (units name rest : List ℕ) → name_of (is_unicode mode) units ≡ Some name → IsNamedOpening mode name (40 ∷ 63 ∷ 60 ∷ (units ++ (62 ∷ []))) rest
   units_name units name rest h = record {
     units = units;
     whole = refl;
-    spells = name_anywhere unicode_mode name units [] (62 ∷ rest) (read_group_name unicode_mode units name h);
+    spells = name_anywhere (is_unicode mode) name units [] (62 ∷ rest) (read_group_name (is_unicode mode) units name h);
   }
 
-  named_spelled : (m : Mark) (w rest name : List ℕ) → SpellsMark m w rest → mark_name unicode_mode m ≡ Some name → IsNamedOpening unicode_mode name w rest
+  named_spelled : (m : Mark) (w rest name : List ℕ) → SpellsMark mode m w rest → mark_name mode m ≡ Some name → IsNamedOpening mode name w rest
   named_spelled _ _ rest name (named units l n) h = units_name units name rest h
   named_spelled _ _ rest name (escape c) h = absurd (let no : ⊥ = cc h in no)
   named_spelled _ _ _ name last_backslash h = absurd (let no : ⊥ = cc h in no)
   named_spelled _ _ rest name (class inside a) h = absurd (let no : ⊥ = cc h in no)
-  named_spelled _ _ _ name (open_class inside a) h = absurd (let no : ⊥ = cc h in no)
-  named_spelled _ _ _ name (open_escape inside a) h = absurd (let no : ⊥ = cc h in no)
+  named_spelled _ _ _ name (open_class w a) h = absurd (let no : ⊥ = cc h in no)
   named_spelled _ _ rest name (plain p) h = absurd (let no : ⊥ = cc h in no)
   named_spelled _ _ rest name ignoring h = absurd (let no : ⊥ = cc h in no)
   named_spelled _ _ rest name ahead h = absurd (let no : ⊥ = cc h in no)
@@ -44,60 +45,60 @@ module _ (unicode_mode : Bool) where
   named_spelled _ _ rest name (one_unit c p) h = absurd (let no : ⊥ = cc h in no)
 
   -- an opening that spells a name is that mark
-  opening_mark : (m : Mark) (w rest name : List ℕ) → SpellsMark m w rest → (o : IsNamedOpening unicode_mode name w rest) → m ≡ capturing (Some o.units)
+  opening_mark : (m : Mark) (w rest name : List ℕ) → SpellsMark mode m w rest → (o : IsNamedOpening mode name w rest) → m ≡ capturing (Some o.units)
   opening_mark m w rest name s o =
-      let both : m ∷ marks rest ≡ capturing (Some o.units) ∷ marks rest =
-      sym (spelled_mark m w rest s) ∙ ap (λ w. marks (w ++ rest)) o.whole ∙ naming_marks unicode_mode name o.units (62 ∷ rest) rest o.spells in
+      let both : m ∷ marks mode rest ≡ capturing (Some o.units) ∷ marks mode rest =
+      sym (spelled_mark mode m w rest s) ∙ ap (λ w. marks mode (w ++ rest)) o.whole ∙ naming_marks mode name o.units (62 ∷ rest) rest o.spells in
       cc both
 
-  spelled_named : (m : Mark) (w rest name : List ℕ) → SpellsMark m w rest → IsNamedOpening unicode_mode name w rest → mark_name unicode_mode m ≡ Some name
+  spelled_named : (m : Mark) (w rest name : List ℕ) → SpellsMark mode m w rest → IsNamedOpening mode name w rest → mark_name mode m ≡ Some name
   spelled_named m w rest name s o =
-      ap (mark_name unicode_mode) (opening_mark m w rest name s o)
-      ∙ group_name_read unicode_mode o.units name (name_anywhere unicode_mode name o.units (62 ∷ rest) [] o.spells)
+      ap (mark_name mode) (opening_mark m w rest name s o)
+      ∙ group_name_read (is_unicode mode) o.units name (name_anywhere (is_unicode mode) name o.units (62 ∷ rest) [] o.spells)
 
-  pub named_law : (m : Mark) (w rest name : List ℕ) → SpellsMark m w rest → (mark_name unicode_mode m ≡ Some name) ↔ IsNamedOpening unicode_mode name w rest
+  pub named_law : (m : Mark) (w rest name : List ℕ) → SpellsMark mode m w rest → (mark_name mode m ≡ Some name) ↔ IsNamedOpening mode name w rest
   named_law m w rest name s = (named_spelled m w rest name s, spelled_named m w rest name s)
 
-  nameless_spelled : (m : Mark) (w rest : List ℕ) → SpellsMark m w rest → ((name : List ℕ) → IsNamedOpening unicode_mode name w rest → ⊥) → mark_name unicode_mode m ≡ None
-  nameless_spelled m w rest s none = go (mark_name unicode_mode m) refl
+  nameless_spelled : (m : Mark) (w rest : List ℕ) → SpellsMark mode m w rest → ((name : List ℕ) → IsNamedOpening mode name w rest → ⊥) → mark_name mode m ≡ None
+  nameless_spelled m w rest s none = go (mark_name mode m) refl
     where
-      go : (o : Option (List ℕ)) → mark_name unicode_mode m ≡ o → o ≡ None
+      go : (o : Option (List ℕ)) → mark_name mode m ≡ o → o ≡ None
       go None e = refl
       go (Some name) e = absurd (none name (named_spelled m w rest name s e))
 
-  none_named : (m : Mark) (w rest : List ℕ) → SpellsMark m w rest → mark_name unicode_mode m ≡ None → (name : List ℕ) → IsNamedOpening unicode_mode name w rest → ⊥
+  none_named : (m : Mark) (w rest : List ℕ) → SpellsMark mode m w rest → mark_name mode m ≡ None → (name : List ℕ) → IsNamedOpening mode name w rest → ⊥
   none_named m w rest s none name o = let e = spelled_named m w rest name s o in cc (none, e)
 
-  pub nameless_law : (m : Mark) (w rest : List ℕ) → SpellsMark m w rest → (mark_name unicode_mode m ≡ None) ↔ ((name : List ℕ) → IsNamedOpening unicode_mode name w rest → ⊥)
+  pub nameless_law : (m : Mark) (w rest : List ℕ) → SpellsMark mode m w rest → (mark_name mode m ≡ None) ↔ ((name : List ℕ) → IsNamedOpening mode name w rest → ⊥)
   nameless_law m w rest s = (none_named m w rest s, nameless_spelled m w rest s)
 
   -- the names of a text
-  names_step : (m : Mark) (w rest : List ℕ) (o : Option (List ℕ)) → SpellsMark m w rest → mark_name unicode_mode m ≡ o → names unicode_mode (marks (w ++ rest)) ≡ listed o ++ names unicode_mode (marks rest)
-  names_step m w rest o s e = ap (names unicode_mode) (spelled_mark m w rest s) ∙ ap (λ o. listed o ++ names unicode_mode (marks rest)) e
+  names_step : (m : Mark) (w rest : List ℕ) (o : Option (List ℕ)) → SpellsMark mode m w rest → mark_name mode m ≡ o → names mode (marks mode (w ++ rest)) ≡ listed o ++ names mode (marks mode rest)
+  names_step m w rest o s e = ap (names mode) (spelled_mark mode m w rest s) ∙ ap (λ o. listed o ++ names mode (marks mode rest)) e
 
-  names_are : (us : List ℕ) (ns : List (List ℕ)) → AreNames unicode_mode us ns → ns ≡ names unicode_mode (marks us)
+  names_are : (us : List ℕ) (ns : List (List ℕ)) → AreNames mode us ns → ns ≡ names mode (marks mode us)
   names_are _ _ no_opening = refl
   names_are _ _ (opening {m} {name} {names = ns} w rest s o r) =
       ap (λ ns. name ∷ ns) (names_are rest ns r) ∙ sym (names_step m w rest (Some name) s (spelled_named m w rest name s o))
   names_are _ _ (nameless {m} {names = ns} w rest s none r) =
       names_are rest ns r ∙ sym (names_step m w rest None s (nameless_spelled m w rest s none))
 
-  one_more : (m : Mark) (w rest : List ℕ) (o : Option (List ℕ)) → SpellsMark m w rest → mark_name unicode_mode m ≡ o → AreNames unicode_mode rest (names unicode_mode (marks rest)) →
-      AreNames unicode_mode (w ++ rest) (listed o ++ names unicode_mode (marks rest))
+  one_more : (m : Mark) (w rest : List ℕ) (o : Option (List ℕ)) → SpellsMark mode m w rest → mark_name mode m ≡ o → AreNames mode rest (names mode (marks mode rest)) →
+      AreNames mode (w ++ rest) (listed o ++ names mode (marks mode rest))
   one_more m w rest None s e r = nameless w rest s (none_named m w rest s e) r
   one_more m w rest (Some name) s e r = opening w rest s (named_spelled m w rest name s e) r
 
-  are_names : (us : List ℕ) (ms : List Mark) → IsMarkRow us ms → AreNames unicode_mode us (names unicode_mode (marks us))
+  are_names : (us : List ℕ) (ms : List Mark) → IsMarkRow mode us ms → AreNames mode us (names mode (marks mode us))
   are_names _ _ no_mark = no_opening
   are_names _ _ (mark {m} {ms} w rest s r) =
-      subst (AreNames unicode_mode (w ++ rest)) (sym (names_step m w rest (mark_name unicode_mode m) s refl)) (one_more m w rest (mark_name unicode_mode m) s refl (are_names rest ms r))
+      subst (AreNames mode (w ++ rest)) (sym (names_step m w rest (mark_name mode m) s refl)) (one_more m w rest (mark_name mode m) s refl (are_names rest ms r))
 
-  pub names_law : (us : List ℕ) (ns : List (List ℕ)) → AreNames unicode_mode us ns ↔ (ns ≡ names unicode_mode (marks us))
-  names_law us ns = (names_are us ns, λ e. subst (AreNames unicode_mode us) (sym e) (are_names us (marks us) (row_of us)))
+  pub names_law : (us : List ℕ) (ns : List (List ℕ)) → AreNames mode us ns ↔ (ns ≡ names mode (marks mode us))
+  names_law us ns = (names_are us ns, λ e. subst (AreNames mode us) (sym e) (are_names us (marks mode us) (row_of mode us)))
 
   -- where a name stands
-  here_between : (front w rest : List ℕ) (m : Mark) (name : List ℕ) → SpellsMark m w rest → mark_name unicode_mode m ≡ Some name →
-      IsNameBetween unicode_mode (front ++ (w ++ rest)) name (length front + 3) (length front + 3 + name_length m)
+  here_between : (front w rest : List ℕ) (m : Mark) (name : List ℕ) → SpellsMark mode m w rest → mark_name mode m ≡ Some name →
+      IsNameBetween mode (front ++ (w ++ rest)) name (length front + 3) (length front + 3 + name_length m)
   here_between front w rest m name s e =
       let o = named_spelled m w rest name s e in
       record {
@@ -110,23 +111,23 @@ module _ (unicode_mode : Bool) where
         to_is = ap (λ m. length front + 3 + name_length m) (opening_mark m w rest name s o);
       }
 
-  between : (front us : List ℕ) (ms : List Mark) (k : ℕ) (name : List ℕ) → IsMarkRow us ms → mark_name unicode_mode (mark_at (marks us) k) ≡ Some name →
-      let from : ℕ = get_or (places_behind (length front) 0 us) k 0 + 3 in
-      IsNameBetween unicode_mode (front ++ us) name from (from + name_length (mark_at (marks us) k))
+  between : (front us : List ℕ) (ms : List Mark) (k : ℕ) (name : List ℕ) → IsMarkRow mode us ms → mark_name mode (mark_at (marks mode us) k) ≡ Some name →
+      let from : ℕ = get_or (places_behind mode (length front) 0 us) k 0 + 3 in
+      IsNameBetween mode (front ++ us) name from (from + name_length (mark_at (marks mode us) k))
   between front _ _ k name no_mark e = absurd (let no : ⊥ = cc e in no)
   between front _ _ zero name (mark {m} {ms} w rest s r) e =
-      let first = first_place (length front) m w rest s in
-      let all = spelled_mark m w rest s in
-      rw (first, all) (here_between front w rest m name s (ap (λ ms. mark_name unicode_mode (mark_at ms 0)) (sym all) ∙ e))
+      let first = first_place mode (length front) m w rest s in
+      let all = spelled_mark mode m w rest s in
+      rw (first, all) (here_between front w rest m name s (ap (λ ms. mark_name mode (mark_at ms 0)) (sym all) ∙ e))
   between front _ _ (suc k) name (mark {m} {ms} w rest s r) e =
-      let first = first_place (length front) m w rest s in
-      let all = spelled_mark m w rest s in
-      let b = between (front ++ w) rest ms k name r (ap (λ ms. mark_name unicode_mode (mark_at ms (suc k))) (sym all) ∙ e) in
+      let first = first_place mode (length front) m w rest s in
+      let all = spelled_mark mode m w rest s in
+      let b = between (front ++ w) rest ms k name r (ap (λ ms. mark_name mode (mark_at ms (suc k))) (sym all) ∙ e) in
       rw (first, all, ← append_assoc, ← length-append) b
 
-  pub name_between : (us : List ℕ) (k : ℕ) (name : List ℕ) → mark_name unicode_mode (mark_at (marks us) k) ≡ Some name →
-      IsNameBetween unicode_mode us name (name_places us k).0 (name_places us k).1
-  name_between us k name e = between [] us (marks us) k name (row_of us) e
+  pub name_between : (us : List ℕ) (k : ℕ) (name : List ℕ) → mark_name mode (mark_at (marks mode us) k) ≡ Some name →
+      IsNameBetween mode us name (name_places mode us k).0 (name_places mode us k).1
+  name_between us k name e = between [] us (marks mode us) k name (row_of mode us) e
 
 -- a search among names
 among_decides : (names : List (List ℕ)) (name : List ℕ) → Decides (is_among names name) (Contains names name)
@@ -208,12 +209,12 @@ are_once front (name ∷ back) r =
 pub once_law : (names once : List (List ℕ)) → AreOnce names once ↔ (once ≡ once_behind [] names)
 once_law names once = (once_are names once, λ e. subst (AreOnce names) (sym e) (are_once [] names no_name))
 
-pub seen_law : (unicode_mode : Bool) (us : List ℕ) (once : List (List ℕ)) → AreNamesOnce unicode_mode us once ↔ (once ≡ seen unicode_mode (marks us))
-seen_law unicode_mode us once = (
-  λ r. once_are r.names once r.first ∙ ap (once_behind []) ((names_law unicode_mode us r.names).0 r.are),
+pub seen_law : (mode : Mode) (us : List ℕ) (once : List (List ℕ)) → AreNamesOnce mode us once ↔ (once ≡ seen mode (marks mode us))
+seen_law mode us once = (
+  λ r. once_are r.names once r.first ∙ ap (once_behind []) ((names_law mode us r.names).0 r.are),
   λ e. record {
-    names = names unicode_mode (marks us);
-    are = (names_law unicode_mode us (names unicode_mode (marks us))).1 refl;
-    first = (once_law (names unicode_mode (marks us)) once).1 e;
+    names = names mode (marks mode us);
+    are = (names_law mode us (names mode (marks mode us))).1 refl;
+    first = (once_law (names mode (marks mode us)) once).1 e;
   },
 )

@@ -3,6 +3,7 @@ use Rattle.std.proofs.Common.{◌≡◌, refl, ap, sym, ◌∙◌, subst, ℕ, z
 use Rattle.std.proofs.lemmas.Bool.{cases_lt}
 use Rattle.std.proofs.lemmas.List.Elements.{All-head, All-tail}
 use Rattle.rx_ast.specs.Tree as tree
+use Rattle.rx_model.specs.declared.mode.Mode.{Mode}
 use Rattle.rx_model.specs.FirstPass.Cuts.{IsOpening, AreOthers, AreMarksOfAll}
 use Rattle.rx_model.specs.FirstPass.GroupStates.{GroupState, step, group_states}
 use Rattle.rx_model.specs.FirstPass.Marks as mark
@@ -24,10 +25,10 @@ past_end (m ∷ ms) zero e = cc
 past_end (m ∷ ms) (suc k) e = let h = past_end ms k e in omega arith
 
 -- a mark with a name is one of the marks
-pub named_before_end : (unicode_mode : Bool) (ms : List Mark) (b : ℕ) (name : List ℕ) → mark_name unicode_mode (mark_at ms b) ≡ Some name → b < length ms
-named_before_end unicode_mode [] b name e = cc
-named_before_end unicode_mode (m ∷ ms) zero name e = omega arith
-named_before_end unicode_mode (m ∷ ms) (suc b) name e = let h = named_before_end unicode_mode ms b name e in omega arith
+pub named_before_end : (mode : Mode) (ms : List Mark) (b : ℕ) (name : List ℕ) → mark_name mode (mark_at ms b) ≡ Some name → b < length ms
+named_before_end mode [] b name e = cc
+named_before_end mode (m ∷ ms) zero name e = omega arith
+named_before_end mode (m ∷ ms) (suc b) name e = let h = named_before_end mode ms b name e in omega arith
 
 -- the marks from k to j open and close nothing
 pub record OnlyOthers (ms : List Mark) (k : ℕ) (j : ℕ) : Type 0 where
@@ -56,18 +57,18 @@ others_pass ms (m ∷ others) rest k a e =
     let h = others_pass ms others rest (suc k) (All-tail (λ x. x ≡ mark.other) m others a) f.1 in
     (h.0, one_more ms k h.0 (f.0 ∙ All-head (λ x. x ≡ mark.other) m others a) h.1, h.2)
 
-module _ (unicode_mode : Bool) (ms : List Mark) where
+module _ (mode : Mode) (ms : List Mark) where
   -- the marks from index k on are those of these tokens
   abbrev pub AreFrom : ℕ → List Token → Type 0
-  AreFrom k ts = AreMarksOfAll unicode_mode ts (drop k ms)
+  AreFrom k ts = AreMarksOfAll mode ts (drop k ms)
 
   -- From k on stand others, and then these tokens.
   abbrev pub OthersThen : ℕ → List Token → Type 0
   OthersThen k ts = (j : ℕ) × OnlyOthers ms k j × AreFrom j ts
 
-  others_then : (others rest : List Mark) (k : ℕ) (ts : List Token) → drop k ms ≡ others ++ rest → AreOthers others → AreMarksOfAll unicode_mode ts rest → OthersThen k ts
+  others_then : (others rest : List Mark) (k : ℕ) (ts : List Token) → drop k ms ≡ others ++ rest → AreOthers others → AreMarksOfAll mode ts rest → OthersThen k ts
   others_then others rest k ts e a r =
-      let h = others_pass ms others rest k a e in (h.0, h.1, subst (AreMarksOfAll unicode_mode ts) (sym h.2) r)
+      let h = others_pass ms others rest k a e in (h.0, h.1, subst (AreMarksOfAll mode ts) (sym h.2) r)
 
   -- a leaf is others
   pub leaf_then : (l : tree.Leaf) (ts : List Token) (k : ℕ) → AreFrom k (leaf_token l ∷ ts) → OthersThen k ts
@@ -85,9 +86,9 @@ module _ (unicode_mode : Bool) (ms : List Mark) where
   quantifier_then min max greedy ts k c = others_then c.0 c.1 k ts c.2 c.3 c.4
 
   -- a token that is one mark
-  alone_then : (m : Mark) (here rest : List Mark) (k : ℕ) (ts : List Token) → drop k ms ≡ here ++ rest → here ≡ m ∷ [] → AreMarksOfAll unicode_mode ts rest → (mark_at ms k ≡ m) × AreFrom (suc k) ts
+  alone_then : (m : Mark) (here rest : List Mark) (k : ℕ) (ts : List Token) → drop k ms ≡ here ++ rest → here ≡ m ∷ [] → AreMarksOfAll mode ts rest → (mark_at ms k ≡ m) × AreFrom (suc k) ts
   alone_then m here rest k ts e a r =
-      let f = first_mark ms k m rest (e ∙ ap (λ xs. xs ++ rest) a) in (f.0, subst (AreMarksOfAll unicode_mode ts) (sym f.1) r)
+      let f = first_mark ms k m rest (e ∙ ap (λ xs. xs ++ rest) a) in (f.0, subst (AreMarksOfAll mode ts) (sym f.1) r)
 
   pub closer_then : (ts : List Token) (k : ℕ) → AreFrom k (closer ∷ ts) → (mark_at ms k ≡ mark.closer) × AreFrom (suc k) ts
   closer_then ts k c = alone_then mark.closer c.0 c.1 k ts c.2 c.3 c.4
@@ -96,34 +97,34 @@ module _ (unicode_mode : Bool) (ms : List Mark) where
   bar_then ts k c = alone_then mark.bar c.0 c.1 k ts c.2 c.3 c.4
 
   -- an opener is an opening and others
-  pub opener_then : (o : tree.Opener) (ts : List Token) (k : ℕ) → AreFrom k (opener (opener_of o) ∷ ts) → IsOpening unicode_mode (opener_of o) (mark_at ms k) × OthersThen (suc k) ts
+  pub opener_then : (o : tree.Opener) (ts : List Token) (k : ℕ) → AreFrom k (opener (opener_of o) ∷ ts) → IsOpening mode (opener_of o) (mark_at ms k) × OthersThen (suc k) ts
   opener_then o ts k c =
       let a = c.3 in
       let f = first_mark ms k a.0 (a.1 ++ c.1) (c.2 ∙ ap (λ xs. xs ++ c.1) a.2) in
-      (subst (IsOpening unicode_mode (opener_of o)) (sym f.0) a.3, others_then a.1 c.1 (suc k) ts f.1 a.4 c.4)
+      (subst (IsOpening mode (opener_of o)) (sym f.0) a.3, others_then a.1 c.1 (suc k) ts f.1 a.4 c.4)
 
 -- an opening opens a group
-pub opening_step : (unicode_mode : Bool) (o : tree.Opener) (m : Mark) (k : ℕ) (fs : List GroupState) → IsOpening unicode_mode (opener_of o) m → step k m fs ≡ (suc k, suc k) ∷ fs
-opening_step unicode_mode (tree.capturing None) m k fs h = ap (λ x. step k x fs) h
-opening_step unicode_mode (tree.capturing (Some name)) m k fs h = ap (λ x. step k x fs) h.1
-opening_step unicode_mode (tree.ignoring modifiers) m k fs h = ap (λ x. step k x fs) h
-opening_step unicode_mode (tree.looking kind) m k fs h = ap (λ x. step k x fs) h
+pub opening_step : (mode : Mode) (o : tree.Opener) (m : Mark) (k : ℕ) (fs : List GroupState) → IsOpening mode (opener_of o) m → step k m fs ≡ (suc k, suc k) ∷ fs
+opening_step mode (tree.capturing None) m k fs h = ap (λ x. step k x fs) h
+opening_step mode (tree.capturing (Some name)) m k fs h = ap (λ x. step k x fs) h.1
+opening_step mode (tree.ignoring modifiers) m k fs h = ap (λ x. step k x fs) h
+opening_step mode (tree.looking kind) m k fs h = ap (λ x. step k x fs) h
 
 -- and has no name but the group's
-pub opening_named : (unicode_mode : Bool) (o : tree.Opener) (m : Mark) (name : List ℕ) → IsOpening unicode_mode (opener_of o) m → mark_name unicode_mode m ≡ Some name → Contains (opener_names o) name
-opening_named unicode_mode (tree.capturing None) m name h e = let f = ap (mark_name unicode_mode) h in cc
-opening_named unicode_mode (tree.capturing (Some x)) m name h e =
-    let f = ap (mark_name unicode_mode) h.1 ∙ h.2 in let same : x ≡ name = cc (e, f) in (0, omega arith, same)
-opening_named unicode_mode (tree.ignoring modifiers) m name h e = let f = ap (mark_name unicode_mode) h in cc
-opening_named unicode_mode (tree.looking kind) m name h e = let f = ap (mark_name unicode_mode) h in cc
+pub opening_named : (mode : Mode) (o : tree.Opener) (m : Mark) (name : List ℕ) → IsOpening mode (opener_of o) m → mark_name mode m ≡ Some name → Contains (opener_names o) name
+opening_named mode (tree.capturing None) m name h e = let f = ap (mark_name mode) h in cc
+opening_named mode (tree.capturing (Some x)) m name h e =
+    let f = ap (mark_name mode) h.1 ∙ h.2 in let same : x ≡ name = cc (e, f) in (0, omega arith, same)
+opening_named mode (tree.ignoring modifiers) m name h e = let f = ap (mark_name mode) h in cc
+opening_named mode (tree.looking kind) m name h e = let f = ap (mark_name mode) h in cc
 
 one_name : (x name : List ℕ) → Contains (x ∷ []) name → x ≡ name
 one_name x name (zero, l, e) = e
 one_name x name (suc k, l, e) = absurd (omega arith)
 
 -- where the group has a name, that is the opening's
-pub named_opening : (unicode_mode : Bool) (o : tree.Opener) (m : Mark) (name : List ℕ) → IsOpening unicode_mode (opener_of o) m → Contains (opener_names o) name → mark_name unicode_mode m ≡ Some name
-named_opening unicode_mode (tree.capturing None) m name h c = let l = c.1 in absurd (omega arith)
-named_opening unicode_mode (tree.capturing (Some x)) m name h c = ap (mark_name unicode_mode) h.1 ∙ h.2 ∙ ap Some (one_name x name c)
-named_opening unicode_mode (tree.ignoring modifiers) m name h c = let l = c.1 in absurd (omega arith)
-named_opening unicode_mode (tree.looking kind) m name h c = let l = c.1 in absurd (omega arith)
+pub named_opening : (mode : Mode) (o : tree.Opener) (m : Mark) (name : List ℕ) → IsOpening mode (opener_of o) m → Contains (opener_names o) name → mark_name mode m ≡ Some name
+named_opening mode (tree.capturing None) m name h c = let l = c.1 in absurd (omega arith)
+named_opening mode (tree.capturing (Some x)) m name h c = ap (mark_name mode) h.1 ∙ h.2 ∙ ap Some (one_name x name c)
+named_opening mode (tree.ignoring modifiers) m name h c = let l = c.1 in absurd (omega arith)
+named_opening mode (tree.looking kind) m name h c = let l = c.1 in absurd (omega arith)

@@ -6,8 +6,10 @@ use Rattle.std.proofs.lemmas.Bool.Decides.{nat_tests}
 use Rattle.std.proofs.lemmas.List.Folds.{list_all-append}
 use Rattle.std.proofs.lemmas.Option.{option_and_then_some}
 use Rattle.rx_tables.specs.Characters.{hex_digit_value}
+use Rattle.rx_model.specs.declared.mode.Mode.{Mode}
 use Rattle.rx_model.specs.Groups.GroupNames.{is_in_name, SpellsNameCharacter, one_unit, by_escape, raw_pair, SpellsNameParts, no_part, part, SpellsName, whole_name}
 use Rattle.rx_model.specs.FirstPass.Marks.{quiet, capturing, starts, before_close, has_close, mark_front, marks, marks_behind}
+use Rattle.rx_model.specs.Inputs.Environment.{is_unicode}
 use Rattle.rx_model.specs.Groups.Modifiers.{is_modifier, AreSides, one_side, two_sides}
 use Rattle.rx_model.specs.Characters.UnicodeEscapes.{hex_behind, SpellsUnicode, alone, pair, braced}
 use Rattle.rx_model.proofs.Characters.Decodings.{chosen, both}
@@ -15,9 +17,9 @@ use Rattle.rx_model.proofs.Groups.GroupNames.{differs}
 use Rattle.rx_model.proofs.FirstPass.PlainMarks.{is_plain, plain_in, GiveOthers, all_plain_others, append_others}
 
 -- the marks behind some units are those of what follows them
-pub marks_after : (w rest : List ℕ) → marks_behind (length w) (w ++ rest) ≡ marks rest
-marks_after [] rest = refl
-marks_after (u ∷ w) rest = marks_after w rest
+pub marks_after : (mode : Mode) (w rest : List ℕ) → marks_behind mode (length w) (w ++ rest) ≡ marks mode rest
+marks_after mode [] rest = refl
+marks_after mode (u ∷ w) rest = marks_after mode w rest
 
 -- no `>` is among some units
 pub no_close_before : (u : ℕ) (w : List ℕ) → (u == 62) ≡ false → has_close w ≡ false → has_close (u ∷ w) ≡ false
@@ -71,49 +73,49 @@ begins_no_look c us h = rw (differs (is_in_name true) c 61 refl h, differs (is_i
 surrogate_no_look : (c : ℕ) (us : List ℕ) → 0xD800 ≤ c → begins_look (c ∷ us) ≡ false
 surrogate_no_look c us h = grind (arith, nat_tests)
 
-module _ (unicode_mode : Bool) where
+module _ (mode : Mode) where
   -- nor among those of a name
-  character_no_close : (first : Bool) (c : ℕ) (w rest : List ℕ) → SpellsNameCharacter unicode_mode first c w rest → has_close w ≡ false
+  character_no_close : (first : Bool) (c : ℕ) (w rest : List ℕ) → SpellsNameCharacter (is_unicode mode) first c w rest → has_close w ≡ false
   character_no_close first c _ rest (one_unit h) = no_close_before c [] (in_name_no_close first c h) refl
   character_no_close first c _ rest (by_escape {w} spells h) = unicode_no_close c w rest spells
   character_no_close first _ _ rest (raw_pair {lead} {trail} legacy is_lead is_trail h) =
       no_close_before lead (trail ∷ []) (surrogate_no_close lead is_lead.0) (no_close_before trail [] (surrogate_no_close trail (omega (arith, is_trail.0))) refl)
 
-  parts_no_close : (cs w rest : List ℕ) → SpellsNameParts unicode_mode cs w rest → has_close w ≡ false
+  parts_no_close : (cs w rest : List ℕ) → SpellsNameParts (is_unicode mode) cs w rest → has_close w ≡ false
   parts_no_close _ _ rest no_part = refl
   parts_no_close _ _ _ (part {c} {cs} w v rest spells more) =
       no_close_append w v (character_no_close false c w (v ++ rest) spells) (parts_no_close cs v rest more)
 
-  name_no_close : (name w rest : List ℕ) → SpellsName unicode_mode name w rest → has_close w ≡ false
+  name_no_close : (name w rest : List ℕ) → SpellsName (is_unicode mode) name w rest → has_close w ≡ false
   name_no_close _ _ _ (whole_name {c} {cs} w v rest spells more) =
       no_close_append w v (character_no_close true c w (v ++ rest) spells) (parts_no_close cs v rest more)
 
   -- a name begins as no look behind does
-  character_no_look : (c : ℕ) (w rest us : List ℕ) → SpellsNameCharacter unicode_mode true c w rest → begins_look (w ++ us) ≡ false
+  character_no_look : (c : ℕ) (w rest us : List ℕ) → SpellsNameCharacter (is_unicode mode) true c w rest → begins_look (w ++ us) ≡ false
   character_no_look c _ rest us (one_unit h) = begins_no_look c us h
   character_no_look c _ rest us (by_escape spells h) = refl
   character_no_look _ _ rest us (raw_pair {lead} {trail} legacy is_lead is_trail h) = surrogate_no_look lead (trail ∷ us) is_lead.0
 
-  name_no_look : (name w rest us : List ℕ) → SpellsName unicode_mode name w rest → begins_look (w ++ us) ≡ false
+  name_no_look : (name w rest us : List ℕ) → SpellsName (is_unicode mode) name w rest → begins_look (w ++ us) ≡ false
   name_no_look _ _ _ us (whole_name {c} {cs} w v rest spells more) =
       ap begins_look (append_assoc w v us) ∙ character_no_look c w (v ++ rest) (v ++ us) spells
 
-  naming_front : (name w rest us : List ℕ) → SpellsName unicode_mode name w rest → mark_front 40 (63 ∷ 60 ∷ (w ++ (62 ∷ us))) ≡ (capturing (Some w), length w + 3)
+  naming_front : (name w rest us : List ℕ) → SpellsName (is_unicode mode) name w rest → mark_front mode 40 (63 ∷ 60 ∷ (w ++ (62 ∷ us))) ≡ (capturing (Some w), length w + 3)
   unfolding mark_front
   naming_front name w rest us spells =
       let close = name_no_close name w rest spells in
       rw (name_no_look name w rest (62 ∷ us) spells, close_found w us close, before_found w us close) refl
 
   -- `(?<`, a name and `>` are one opening
-  pub naming_marks : (name w rest us : List ℕ) → SpellsName unicode_mode name w rest →
-      marks (40 ∷ 63 ∷ 60 ∷ ((w ++ (62 ∷ [])) ++ us)) ≡ capturing (Some w) ∷ marks us
+  pub naming_marks : (name w rest us : List ℕ) → SpellsName (is_unicode mode) name w rest →
+      marks mode (40 ∷ 63 ∷ 60 ∷ ((w ++ (62 ∷ [])) ++ us)) ≡ capturing (Some w) ∷ marks mode us
   naming_marks name w rest us spells =
       let behind : List ℕ = 63 ∷ 60 ∷ (w ++ (62 ∷ [])) in
       let count : length w + 3 ≡ length behind = omega (arith, length-append w (62 ∷ [])) in
-      let front = ap (λ v. mark_front 40 (63 ∷ 60 ∷ v)) (append_assoc w (62 ∷ []) us) ∙ naming_front name w rest us spells in
-      ap (λ p. p.0 ∷ marks_behind p.1 (behind ++ us)) front
-      ∙ ap (λ n. capturing (Some w) ∷ marks_behind n (behind ++ us)) count
-      ∙ ap (λ ms. capturing (Some w) ∷ ms) (marks_after behind us)
+      let front = ap (λ v. mark_front mode 40 (63 ∷ 60 ∷ v)) (append_assoc w (62 ∷ []) us) ∙ naming_front name w rest us spells in
+      ap (λ p. p.0 ∷ marks_behind mode p.1 (behind ++ us)) front
+      ∙ ap (λ n. capturing (Some w) ∷ marks_behind mode n (behind ++ us)) count
+      ∙ ap (λ ms. capturing (Some w) ∷ ms) (marks_after mode behind us)
 
 -- the letters of modifiers, and the dash
 abbrev is_in_modifiers : ℕ → Bool
@@ -137,29 +139,29 @@ all_in_modifiers_plain (c ∷ text) h =
     rw (plain_in is_in_modifiers c refl p.0) (all_in_modifiers_plain text p.1)
 
 -- the opening is `(?` alone
-modifying_front : (c : ℕ) (us : List ℕ) → is_in_modifiers c ≡ true → mark_front 40 (63 ∷ c ∷ us) ≡ (quiet, 1)
+modifying_front : (mode : Mode) (c : ℕ) (us : List ℕ) → is_in_modifiers c ≡ true → mark_front mode 40 (63 ∷ c ∷ us) ≡ (quiet, 1)
 unfolding mark_front
-modifying_front c us h =
+modifying_front mode c us h =
     rw (differs is_in_modifiers c 60 refl h, differs is_in_modifiers c 58 refl h, differs is_in_modifiers c 61 refl h, differs is_in_modifiers c 33 refl h) refl
 
 -- the letters and the `:` of modifiers
-pub record ModifierMarks (text : List ℕ) : Type 0 where
-  pub behind : GiveOthers (text ++ (58 ∷ []))
-  pub whole : (us : List ℕ) → marks (40 ∷ 63 ∷ ((text ++ (58 ∷ [])) ++ us)) ≡ quiet ∷ marks ((text ++ (58 ∷ [])) ++ us)
+pub record ModifierMarks (mode : Mode) (text : List ℕ) : Type 0 where
+  pub behind : GiveOthers mode (text ++ (58 ∷ []))
+  pub whole : (us : List ℕ) → marks mode (40 ∷ 63 ∷ ((text ++ (58 ∷ [])) ++ us)) ≡ quiet ∷ marks mode ((text ++ (58 ∷ [])) ++ us)
 
 -- `(?`, modifiers and `:` are an opening and others
-pub modifier_marks : (enabled disabled text : List ℕ) → AreSides enabled disabled text → text ≢ [] → ModifierMarks text
-modifier_marks enabled disabled text sides some =
+pub modifier_marks : (mode : Mode) (enabled disabled text : List ℕ) → AreSides enabled disabled text → text ≢ [] → ModifierMarks mode text
+modifier_marks mode enabled disabled text sides some =
     let within = sides_in_modifiers enabled disabled text sides in
     record {
-      behind = append_others text (58 ∷ []) (all_plain_others text (all_in_modifiers_plain text within)) (all_plain_others (58 ∷ []) refl);
+      behind = append_others mode text (58 ∷ []) (all_plain_others mode text (all_in_modifiers_plain text within)) (all_plain_others mode (58 ∷ []) refl);
       whole = go text some within;
     }
   where
     go : (text : List ℕ) → text ≢ [] → list_all is_in_modifiers text ≡ true → (us : List ℕ) →
-        marks (40 ∷ 63 ∷ ((text ++ (58 ∷ [])) ++ us)) ≡ quiet ∷ marks ((text ++ (58 ∷ [])) ++ us)
+        marks mode (40 ∷ 63 ∷ ((text ++ (58 ∷ [])) ++ us)) ≡ quiet ∷ marks mode ((text ++ (58 ∷ [])) ++ us)
     go [] some within us = absurd (some refl)
     go (c ∷ text) some within us =
         let p = both (is_in_modifiers c) (list_all is_in_modifiers text) within in
         let behind : List ℕ = (text ++ (58 ∷ [])) ++ us in
-        ap (λ p. p.0 ∷ marks_behind p.1 (63 ∷ c ∷ behind)) (modifying_front c behind p.0)
+        ap (λ p. p.0 ∷ marks_behind mode p.1 (63 ∷ c ∷ behind)) (modifying_front mode c behind p.0)

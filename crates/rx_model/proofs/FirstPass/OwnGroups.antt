@@ -1,5 +1,5 @@
 -- The first pass of a text finds the groups and the names of the tree that the text spells.
-use Rattle.std.proofs.Common.{◌≡◌, ℕ, ◌+◌, Bool, Some, None, List, [], ◌∷◌, ◌++◌, append_assoc, refl, sym, ap, ap₂, ◌∙◌, subst, arith}
+use Rattle.std.proofs.Common.{◌≡◌, ℕ, ◌+◌, Some, None, List, [], ◌∷◌, ◌++◌, append_assoc, refl, sym, ap, ap₂, ◌∙◌, subst, arith}
 use Rattle.std.proofs.lemmas.List.{append-nil, map-append}
 use Rattle.std.proofs.lemmas.List.Elements.{All-head, All-tail}
 use Rattle.rx_base.specs.declared.span.Span.{Span}
@@ -10,7 +10,7 @@ use Rattle.rx_units.specs.declared.code_point.CodePoint.{CodePoint}
 use Rattle.rx_units.specs.Units.{values}
 use Rattle.rx_model.specs.declared.mode.Mode.{Mode}
 use Rattle.rx_model.specs.FirstPass.Cuts.{AreMarksOf, AreMarksOfAll, AreOthers, IsOpening, TellsGroups}
-use Rattle.rx_model.specs.Inputs.Environment.{Environment, environment, environment_with, has_some, is_unicode}
+use Rattle.rx_model.specs.Inputs.Environment.{Environment, environment, environment_with, has_some}
 use Rattle.rx_model.specs.Trees.Events.{within, node_events, nodes_events, alternatives_events, barred_events, tokens}
 use Rattle.rx_model.specs.FirstPass.Marks as mark
 use Rattle.rx_model.specs.FirstPass.Marks.{Mark, marks, count, listed, mark_count, mark_name}
@@ -23,13 +23,13 @@ use Rattle.rx_model.proofs.FirstPass.Cuts.{token_cut}
 use Rattle.rx_model.proofs.Trees.Flat.{before, before-append, before_leaf, before_quantified, before_group, before_alternative, tokens_are}
 
 -- the marks of a text are those of its tokens
-pub row_marks : (e : Environment) (ts : List Token) (us : List CodePoint) → TokenRow e ts us [] → AreMarksOfAll (is_unicode e.mode) ts (marks (values us))
-row_marks e [] us r = ap (λ us. marks (values us)) r
+pub row_marks : (e : Environment) (ts : List Token) (us : List CodePoint) → TokenRow e ts us [] → AreMarksOfAll e.mode ts (marks e.mode (values us))
+row_marks e [] us r = ap (λ us. marks e.mode (values us)) r
 row_marks e (t ∷ ts) us r =
     let c = token_cut e t r.0 r.1 r.3 in (
       c.cut,
-      marks (values r.1),
-      ap (λ us. marks (values us)) r.2 ∙ ap marks (map-append (λ (u : CodePoint). u.value) r.0 r.1) ∙ c.whole,
+      marks e.mode (values r.1),
+      ap (λ us. marks e.mode (values us)) r.2 ∙ ap (marks e.mode) (map-append (λ (u : CodePoint). u.value) r.0 r.1) ∙ c.whole,
       c.are,
       row_marks e ts r.1 r.4,
     )
@@ -81,11 +81,11 @@ abbrev tokens_names : List Token → List (List ℕ)
 tokens_names [] = []
 tokens_names (t ∷ ts) = token_names t ++ tokens_names ts
 
-module _ (unicode_mode : Bool) where
+module _ (mode : Mode) where
   -- The marks open n groups that capture, of these names.
   record AreCounted (ms : List Mark) (n : ℕ) (found : List (List ℕ)) : Type 0 where
     count_is : count ms ≡ n
-    names_are : mark.names unicode_mode ms ≡ found
+    names_are : mark.names mode ms ≡ found
 
   counted_append : (ms rest : List Mark) (n m : ℕ) (found more : List (List ℕ)) → AreCounted ms n found → AreCounted rest m more → AreCounted (ms ++ rest) (n + m) (found ++ more)
   counted_append ms rest n m found more c d = record {
@@ -97,13 +97,13 @@ module _ (unicode_mode : Bool) where
       count_of [] = omega arith
       count_of (m ∷ ms) = omega (arith, count_of ms)
 
-      names_of : (ms : List Mark) → mark.names unicode_mode (ms ++ rest) ≡ mark.names unicode_mode ms ++ mark.names unicode_mode rest
+      names_of : (ms : List Mark) → mark.names mode (ms ++ rest) ≡ mark.names mode ms ++ mark.names mode rest
       names_of [] = refl
       names_of (m ∷ ms) =
-          ap (λ found. listed (mark_name unicode_mode m) ++ found) (names_of ms)
-          ∙ sym (append_assoc (listed (mark_name unicode_mode m)) (mark.names unicode_mode ms) (mark.names unicode_mode rest))
+          ap (λ found. listed (mark_name mode m) ++ found) (names_of ms)
+          ∙ sym (append_assoc (listed (mark_name mode m)) (mark.names mode ms) (mark.names mode rest))
 
-  counted_front : (m : Mark) (ms : List Mark) (n : ℕ) (found : List (List ℕ)) → mark_count m ≡ n → listed (mark_name unicode_mode m) ≡ found → AreCounted ms 0 [] → AreCounted (m ∷ ms) n found
+  counted_front : (m : Mark) (ms : List Mark) (n : ℕ) (found : List (List ℕ)) → mark_count m ≡ n → listed (mark_name mode m) ≡ found → AreCounted ms 0 [] → AreCounted (m ∷ ms) n found
   counted_front m ms n found h k c = record {
     count_is = omega (arith, h, c.count_is);
     names_are = ap₂ (λ here more. here ++ more) k c.names_are ∙ append-nil found;
@@ -113,18 +113,18 @@ module _ (unicode_mode : Bool) where
   others_counted [] h = record { count_is = refl; names_are = refl }
   others_counted (m ∷ ms) h =
       let first : m ≡ mark.other = All-head (λ m. m ≡ mark.other) m ms h in
-      counted_front m ms 0 [] (ap mark_count first) (ap (λ m. listed (mark_name unicode_mode m)) first) (others_counted ms (All-tail (λ m. m ≡ mark.other) m ms h))
+      counted_front m ms 0 [] (ap mark_count first) (ap (λ m. listed (mark_name mode m)) first) (others_counted ms (All-tail (λ m. m ≡ mark.other) m ms h))
 
   alone_counted : (m : Mark) (ms : List Mark) → ms ≡ m ∷ [] → AreCounted (m ∷ []) 0 [] → AreCounted ms 0 []
   alone_counted m ms e c = subst (λ ms. AreCounted ms 0 []) (sym e) c
 
-  opening_counted : (o : Opener) (m : Mark) → IsOpening unicode_mode o m → (mark_count m ≡ opened_groups o) × (listed (mark_name unicode_mode m) ≡ opened_names o)
-  opening_counted (capturing None) m h = (ap mark_count h, ap (λ m. listed (mark_name unicode_mode m)) h)
-  opening_counted (capturing (Some name)) m h = (ap mark_count h.1, ap (λ m. listed (mark_name unicode_mode m)) h.1 ∙ ap listed h.2)
-  opening_counted (ignoring bits) m h = (ap mark_count h, ap (λ m. listed (mark_name unicode_mode m)) h)
-  opening_counted (looking kind) m h = (ap mark_count h, ap (λ m. listed (mark_name unicode_mode m)) h)
+  opening_counted : (o : Opener) (m : Mark) → IsOpening mode o m → (mark_count m ≡ opened_groups o) × (listed (mark_name mode m) ≡ opened_names o)
+  opening_counted (capturing None) m h = (ap mark_count h, ap (λ m. listed (mark_name mode m)) h)
+  opening_counted (capturing (Some name)) m h = (ap mark_count h.1, ap (λ m. listed (mark_name mode m)) h.1 ∙ ap listed h.2)
+  opening_counted (ignoring bits) m h = (ap mark_count h, ap (λ m. listed (mark_name mode m)) h)
+  opening_counted (looking kind) m h = (ap mark_count h, ap (λ m. listed (mark_name mode m)) h)
 
-  token_counted : (t : Token) (ms : List Mark) → AreMarksOf unicode_mode t ms → AreCounted ms (token_groups t) (token_names t)
+  token_counted : (t : Token) (ms : List Mark) → AreMarksOf mode t ms → AreCounted ms (token_groups t) (token_names t)
   token_counted (boundary kind) ms h = others_counted ms h
   token_counted (character kind value) ms h = others_counted ms h
   token_counted dot ms h = others_counted ms h
@@ -141,8 +141,8 @@ module _ (unicode_mode : Bool) where
   token_counted (quantifier min max greedy) ms h = others_counted ms h
 
   -- the marks of a row tell its groups and their names
-  row_counted : (ts : List Token) (ms : List Mark) → AreMarksOfAll unicode_mode ts ms → AreCounted ms (tokens_groups ts) (tokens_names ts)
-  row_counted [] ms h = record { count_is = ap count h; names_are = ap (mark.names unicode_mode) h }
+  row_counted : (ts : List Token) (ms : List Mark) → AreMarksOfAll mode ts ms → AreCounted ms (tokens_groups ts) (tokens_names ts)
+  row_counted [] ms h = record { count_is = ap count h; names_are = ap (mark.names mode) h }
   row_counted (t ∷ ts) ms h =
       subst (λ ms. AreCounted ms (tokens_groups (t ∷ ts)) (tokens_names (t ∷ ts))) (sym h.2)
       (counted_append h.0 h.1 (token_groups t) (tokens_groups ts) (token_names t) (tokens_names ts) (token_counted t h.0 h.3) (row_counted ts h.1 h.4))
@@ -237,7 +237,7 @@ tells_by : (e : Environment) (p : Pattern) (us : List CodePoint) → TokenRow e 
 unfolding text_groups text_names
 tells_by e p us row =
     let all = (mirror_disjunction p.body).1 in
-    let marked = row_counted (is_unicode e.mode) (tokens p) (marks (values us)) (row_marks e (tokens p) us row) in
+    let marked = row_counted e.mode (tokens p) (marks e.mode (values us)) (row_marks e (tokens p) us row) in
     let more = subst (λ ts. HasMore ts [] (alternatives_groups all) (alternatives_names all)) (sym (tokens_are p)) (alternatives_more all []) in
     record {
       groups_are = omega (arith, marked.count_is, more.groups_more);

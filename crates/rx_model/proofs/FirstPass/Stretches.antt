@@ -1,17 +1,18 @@
 -- Stretches of marks in which all groups are closed that open there, and the names in them.
-use Rattle.std.proofs.Common.{◌≡◌, ap, sym, ◌∙◌, subst, ℕ, suc, ◌<◌, ◌≤◌, Bool, Some, List, [], ◌++◌, append-nil, Contains, arith, ◌⊎◌, inl, inr}
+use Rattle.std.proofs.Common.{◌≡◌, ap, sym, ◌∙◌, subst, ℕ, suc, ◌<◌, ◌≤◌, Some, List, [], ◌++◌, append-nil, Contains, arith, ◌⊎◌, inl, inr}
 use Rattle.std.proofs.lemmas.Bool.{cases_lt}
 use Rattle.std.proofs.lemmas.List.Elements.{Contains-append_left, Contains-append_right, Contains-append_cases}
+use Rattle.rx_model.specs.declared.mode.Mode.{Mode}
 use Rattle.rx_model.specs.FirstPass.GroupStates.{GroupState, group_states, Hides}
 use Rattle.rx_model.specs.FirstPass.Marks.{Mark, mark_at, mark_name}
 use Rattle.rx_model.specs.Trees.Names.{AreApart}
 use Rattle.rx_model.proofs.FirstPass.MarkRows.{OnlyOthers}
 use Rattle.rx_model.proofs.FirstPass.PartedMarks.{hidden_before}
 
-module _ (unicode_mode : Bool) (ms : List Mark) where
+module _ (mode : Mode) (ms : List Mark) where
   -- the mark at this index has this name
   abbrev pub HasName : ℕ → List ℕ → Type 0
-  HasName b name = mark_name unicode_mode (mark_at ms b) ≡ Some name
+  HasName b name = mark_name mode (mark_at ms b) ≡ Some name
 
   -- A mark before index s has the name, and these group states do not hide it.
   abbrev pub IsSeen : ℕ → List GroupState → List ℕ → Type 0
@@ -77,7 +78,7 @@ module _ (unicode_mode : Bool) (ms : List Mark) where
 
   -- what is only others has no names and is clear
   other_has_none : (k j : ℕ) → OnlyOthers ms k j → (b : ℕ) (name : List ℕ) → k ≤ b → b < j → HasName b name → ⊥
-  other_has_none k j o b name l g h = let e = ap (mark_name unicode_mode) (o.each b l g) in cc
+  other_has_none k j o b name l g h = let e = ap (mark_name mode) (o.each b l g) in cc
 
   pub others_named : (k j : ℕ) → OnlyOthers ms k j → AreNamed k j []
   others_named k j o = unnamed k j (other_has_none k j o)

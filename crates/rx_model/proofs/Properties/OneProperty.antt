@@ -2,13 +2,14 @@
 use Rattle.std.proofs.Common.{◌≡◌, ◌≢◌, ◌⊎◌, refl, ap, sym, ◌∙◌, subst, ℕ, ◌+◌, false, List, [], ◌∷◌, length, Contains, inl, inr}
 use Rattle.std.proofs.lemmas.Bool.{true≢false}
 use Rattle.rx_base.specs.declared.diagnostic.Diagnostic.{Diagnostic}
-use Rattle.rx_base.specs.declared.diagnostic.Diagnostic.TheVariants.{UnterminatedPattern, InvalidUnicodeProperty, InvalidUnicodePropertyOfStrings}
+use Rattle.rx_base.specs.declared.diagnostic.Diagnostic.TheVariants.{UnterminatedPattern, InvalidUnicodeProperty, InvalidUnicodePropertyOfStrings, InvalidUnicodePropertyNameNegativeStrings}
 use Rattle.rx_base.specs.declared.diagnostic.kinds.PropertyPart.TheVariants as part
 use Rattle.rx_base.specs.declared.diagnostic.kinds.Unterminated.TheVariants as what
 use Rattle.rx_tables.specs.Properties.{IsValidUnicodeProperty, properties_of_strings}
 use Rattle.rx_units.specs.declared.code_point.CodePoint.{CodePoint}
 use Rattle.rx_units.specs.Units.{values}
 use Rattle.rx_model.specs.declared.mode.Mode.{Mode}
+use Rattle.rx_model.specs.declared.mode.Mode.TheVariants.{Sets}
 use Rattle.rx_model.specs.Refusals.EscapeCauses as escape
 use Rattle.rx_model.specs.Refusals.EscapeCauses.{BeginsProperty, IsPropertyCause}
 use Rattle.rx_model.specs.FirstPass.Marks.{starts}
@@ -25,9 +26,11 @@ module _ (mode : Mode) (us : List CodePoint) (start added f : ℕ) where
 
   data RunFault (run behind : List ℕ) : Diagnostic → Type 0 where
     short : (run ≡ []) ⊎ (behind ≡ []) → RunFault run behind (UnterminatedPattern (span_between us start added f (f + 3 + length run)) what.PropertyEscape)
-    open_run : IsKnownRun mode run → behind ≢ [] → RunFault run behind (UnterminatedPattern (span_between us start added f (f + 3 + length run)) what.PropertyEscape)
+    open_run : IsKnownRun mode run → behind ≢ [] → starts 125 behind ≡ false → RunFault run behind (UnterminatedPattern (span_between us start added f (f + 3 + length run)) what.PropertyEscape)
     no_run : run ≢ [] → behind ≢ [] → (IsKnownRun mode run → ⊥) → (Contains properties_of_strings run → ⊥) →
         RunFault run behind (InvalidUnicodeProperty (span_between us start added (f + 3) (f + 3 + length run)) part.NameOrValue)
+    negative_run : (back : List ℕ) → mode ≡ Sets → behind ≡ 125 ∷ back → Contains properties_of_strings run →
+        RunFault run behind (InvalidUnicodePropertyNameNegativeStrings (span_between us start added f (f + 4 + length run)) run)
     run_of_strings : behind ≢ [] → (IsKnownRun mode run → ⊥) → Contains properties_of_strings run → RunFault run behind (InvalidUnicodePropertyOfStrings (span_between us start added (f + 3) (f + 3 + length run)) run)
 
   -- what stands behind the backslash and its letter
@@ -48,11 +51,13 @@ module _ (mode : Mode) (us : List CodePoint) (start added f : ℕ) where
   viewed : (rest : List CodePoint) (d : Diagnostic) → IsPropertyCause mode us start added f rest d → Viewed rest d
   viewed rest _ (escape.no_property letter behind m h is other) = record { letter = letter; behind = behind; whole = h; view = none other }
   viewed rest _ (escape.unterminated_run w word behind b has s) = begun b (run w word behind refl has (short s))
-  viewed rest _ (escape.unclosed_run w word behind b has known goes other) = begun b (run w word behind refl has (open_run known goes))
+  viewed rest _ (escape.unclosed_run w word behind b has known goes other) = begun b (run w word behind refl has (open_run known goes other))
   viewed rest _ (escape.unclosed_pair w name value behind b has valid other) = begun b (pair w name value behind refl has (unclosed valid))
   viewed rest _ (escape.unknown_pair w name value behind b has no_pair) = begun b (pair w name value behind refl has (unknown no_pair))
   viewed rest _ (escape.unknown_run w word behind b has some goes no_word no_strings) = begun b (run w word behind refl has (no_run some goes no_word no_strings))
   viewed rest _ (escape.of_strings w word behind m b has goes no_word strings) = begun b (run w word behind refl has (run_of_strings goes no_word strings))
+  viewed rest _ (escape.negative_of_strings w word behind sets h has no_category no_binary strings) =
+      record { letter = 80; behind = 123 ∷ w; whole = h; view = run w word (125 ∷ behind) refl has (negative_run behind sets refl strings) }
 
   one_pair_fault : (name value behind : List ℕ) (d e : Diagnostic) → PairFault name value behind d → PairFault name value behind e → d ≡ e
   one_pair_fault name value behind _ _ (unclosed valid) (unclosed also) = refl
@@ -69,23 +74,34 @@ module _ (mode : Mode) (us : List CodePoint) (start added f : ℕ) where
   not_short word behind some goes (inl e) = some e
   not_short word behind some goes (inr e) = goes e
 
+  -- A known property of strings and a `}` behind it have no other fault.
+  negative_alone : (word behind back : List ℕ) (d : Diagnostic) → mode ≡ Sets → behind ≡ 125 ∷ back → Contains properties_of_strings word → RunFault word behind d →
+      d ≡ InvalidUnicodePropertyNameNegativeStrings (span_between us start added f (f + 4 + length word)) word
+  negative_alone word behind back _ sets h strings (short s) = absurd (not_short word behind (strings_word word strings).some (λ none. let no : [] ≡ 125 ∷ back = sym none ∙ h in let f : ⊥ = cc no in f) s)
+  negative_alone word behind back _ sets h strings (open_run known goes no_close) = absurd (true≢false (ap (starts 125) (sym h) ∙ no_close))
+  negative_alone word behind back _ sets h strings (no_run some goes no_word no_strings) = absurd (no_strings strings)
+  negative_alone word behind back _ sets h strings (run_of_strings goes no_word also) = absurd (no_word (inr (inr (sets, strings))))
+  negative_alone word behind back _ sets h strings (negative_run back' sets' h' also) = refl
+
   one_run_fault : (word behind : List ℕ) (d e : Diagnostic) → RunFault word behind d → RunFault word behind e → d ≡ e
   one_run_fault word behind _ _ (short s) (short t) = refl
-  one_run_fault word behind _ _ (short s) (open_run known goes) = refl
+  one_run_fault word behind _ _ (short s) (open_run known goes no_close) = refl
   one_run_fault word behind _ _ (short s) (no_run some goes no_word no_strings) = absurd (not_short word behind some goes s)
   one_run_fault word behind _ _ (short s) (run_of_strings goes no_word strings) = absurd (not_short word behind (strings_word word strings).some goes s)
-  one_run_fault word behind _ _ (open_run known goes) (short s) = refl
-  one_run_fault word behind _ _ (open_run known goes) (open_run also goes') = refl
-  one_run_fault word behind _ _ (open_run known goes) (no_run some goes' no_word no_strings) = absurd (no_word known)
-  one_run_fault word behind _ _ (open_run known goes) (run_of_strings goes' no_word strings) = absurd (no_word known)
+  one_run_fault word behind _ _ (open_run known goes no_close) (short s) = refl
+  one_run_fault word behind _ _ (open_run known goes no_close) (open_run also goes' no_close') = refl
+  one_run_fault word behind _ _ (open_run known goes no_close) (no_run some goes' no_word no_strings) = absurd (no_word known)
+  one_run_fault word behind _ _ (open_run known goes no_close) (run_of_strings goes' no_word strings) = absurd (no_word known)
   one_run_fault word behind _ _ (no_run some goes no_word no_strings) (short s) = absurd (not_short word behind some goes s)
-  one_run_fault word behind _ _ (no_run some goes no_word no_strings) (open_run known goes') = absurd (no_word known)
+  one_run_fault word behind _ _ (no_run some goes no_word no_strings) (open_run known goes' no_close) = absurd (no_word known)
   one_run_fault word behind _ _ (no_run some goes no_word no_strings) (no_run some' goes' no_word' no_strings') = refl
   one_run_fault word behind _ _ (no_run some goes no_word no_strings) (run_of_strings goes' no_word' strings) = absurd (no_strings strings)
   one_run_fault word behind _ _ (run_of_strings goes no_word strings) (short s) = absurd (not_short word behind (strings_word word strings).some goes s)
-  one_run_fault word behind _ _ (run_of_strings goes no_word strings) (open_run known goes') = absurd (no_word known)
+  one_run_fault word behind _ _ (run_of_strings goes no_word strings) (open_run known goes' no_close) = absurd (no_word known)
   one_run_fault word behind _ _ (run_of_strings goes no_word strings) (no_run some goes' no_word' no_strings) = absurd (no_strings strings)
   one_run_fault word behind _ _ (run_of_strings goes no_word strings) (run_of_strings goes' no_word' strings') = refl
+  one_run_fault word behind d _ fault (negative_run back sets h strings) = negative_alone word behind back d sets h strings fault
+  one_run_fault word behind _ e (negative_run back sets h strings) fault = sym (negative_alone word behind back e sets h strings fault)
 
   no_brace : (behind w : List ℕ) → starts 123 behind ≡ false → behind ≡ 123 ∷ w → ⊥
   no_brace behind w h e = true≢false (ap (starts 123) (sym e) ∙ h)

@@ -1,16 +1,17 @@
--- Where a property escape is refused none is spelled.
-use Rattle.std.proofs.Common.{◌≡◌, ◌≢◌, ◌||◌, ◌&&◌, ℕ, inl, inr, Bool, true, false, List, [], ◌∷◌, ◌++◌, Option, refl, sym, ap, ◌∙◌, subst}
+-- Where a property escape is refused none is spelled that obeys.
+use Rattle.std.proofs.Common.{◌≡◌, ◌≢◌, ◌⊎◌, ◌||◌, ◌&&◌, ℕ, inl, inr, Bool, true, false, List, [], ◌∷◌, ◌++◌, Option, drop, Contains, refl, sym, ap, ◌∙◌, subst}
 use Rattle.std.specs.List.{list_all}
+use Rattle.std.proofs.lemmas.Bool.{true≢false}
 use Rattle.std.proofs.lemmas.List.{append_assoc, map-append}
 use Rattle.rx_base.specs.declared.diagnostic.Diagnostic.{Diagnostic}
 use Rattle.rx_tables.specs.Characters.{is_decimal_digit, is_unicode_property_name_character, is_unicode_property_value_character}
-use Rattle.rx_tables.specs.Properties.{IsValidUnicodeProperty}
+use Rattle.rx_tables.specs.Properties.{IsValidUnicodeProperty, binary_properties, general_category_values}
 use Rattle.rx_units.specs.declared.code_point.CodePoint.{CodePoint}
 use Rattle.rx_units.specs.Units.{values}
 use Rattle.rx_model.specs.declared.mode.Mode.{Mode}
 use Rattle.rx_model.specs.Spelling.ClassText.{property_opener}
 use Rattle.rx_model.specs.Inputs.Environment.{Environment, is_unicode}
-use Rattle.rx_model.specs.Refusals.EscapeCauses.{IsPropertyCause, no_property, unterminated_run, unclosed_run, unclosed_pair, unknown_pair, unknown_run, of_strings}
+use Rattle.rx_model.specs.Refusals.EscapeCauses.{IsPropertyCause, no_property, unterminated_run, unclosed_run, unclosed_pair, unknown_pair, unknown_run, of_strings, negative_of_strings}
 use Rattle.rx_model.specs.FirstPass.Marks.{starts}
 use Rattle.rx_model.specs.Properties.PropertyEscapes.{SpellsProperty, pair, category, binary, of_strings as strings_alone}
 use Rattle.rx_model.specs.Properties.PropertyEscapes.{IsProperty}
@@ -26,16 +27,17 @@ names_are_values (c ∷ w) h =
     let p = both (is_unicode_property_name_character c) (list_all is_unicode_property_name_character w) h in
     ap (λ b. (b || is_decimal_digit c) && list_all is_unicode_property_value_character w) p.0 ∙ names_are_values w p.1
 
--- no property escape stands at the front
+-- No property escape stands at the front that obeys: a negative one is of no strings.
 abbrev pub BeginsNoProperty : Environment → List CodePoint → Type 0
-BeginsNoProperty e us = (negative strings : Bool) (name : List ℕ) (value : Option (List ℕ)) (w more : List CodePoint) → us ≡ w ++ more → IsProperty e negative strings name value w → ⊥
+BeginsNoProperty e us =
+    (negative strings : Bool) (name : List ℕ) (value : Option (List ℕ)) (w more : List CodePoint) → us ≡ w ++ more → IsProperty e negative strings name value w → (negative && strings) ≡ false → ⊥
 
--- What a property and the `}` behind it are: a valid pair, or a known run.
-data Stands (mode : Mode) (w more : List ℕ) : Type 0 where
-  by_pair : (name value : List ℕ) → HasPair w name value (125 ∷ more) → IsValidUnicodeProperty name value → Stands mode w more
-  by_run : (run : List ℕ) → HasRun w run (125 ∷ more) → IsKnownRun mode run → run ≢ [] → Stands mode w more
+-- What a property and the `}` behind it are: a valid pair, or a known run, which with no strings is a value of General_Category or a binary property.
+data Stands (mode : Mode) (strings : Bool) (w more : List ℕ) : Type 0 where
+  by_pair : (name value : List ℕ) → HasPair w name value (125 ∷ more) → IsValidUnicodeProperty name value → Stands mode strings w more
+  by_run : (run : List ℕ) → HasRun w run (125 ∷ more) → IsKnownRun mode run → run ≢ [] → (strings ≡ false → Contains general_category_values run ⊎ Contains binary_properties run) → Stands mode strings w more
 
-lone_run : (run more : List ℕ) → IsWordOf is_unicode_property_value_character run → HasRun (run ++ (125 ∷ more)) run (125 ∷ more)
+pub lone_run : (run more : List ℕ) → IsWordOf is_unicode_property_value_character run → HasRun (run ++ (125 ∷ more)) run (125 ∷ more)
 lone_run run more word = record {
   no_pair = λ name value behind p.
       let same = same_run is_unicode_property_value_character run (125 ∷ more) name (61 ∷ p.behind) p.whole word.all (names_are_values name p.of_names) refl refl in
@@ -44,10 +46,11 @@ lone_run run more word = record {
   is_run = record { whole = refl; of_values = word.all; longest = refl };
 }
 
-lone_stands : (mode : Mode) (run more : List ℕ) → IsWordOf is_unicode_property_value_character run → IsKnownRun mode run → Stands mode (run ++ (125 ∷ more)) more
-lone_stands mode run more word known = by_run run (lone_run run more word) known word.some
+lone_stands : (mode : Mode) (strings : Bool) (run more : List ℕ) → IsWordOf is_unicode_property_value_character run → IsKnownRun mode run →
+    (strings ≡ false → Contains general_category_values run ⊎ Contains binary_properties run) → Stands mode strings (run ++ (125 ∷ more)) more
+lone_stands mode strings run more word known alone = by_run run (lone_run run more word) known word.some alone
 
-stands : (mode : Mode) (strings : Bool) (name : List ℕ) (value : Option (List ℕ)) (text more : List ℕ) → SpellsProperty mode strings name value text → Stands mode (text ++ (125 ∷ more)) more
+stands : (mode : Mode) (strings : Bool) (name : List ℕ) (value : Option (List ℕ)) (text more : List ℕ) → SpellsProperty mode strings name value text → Stands mode strings (text ++ (125 ∷ more)) more
 stands mode strings name value text more (pair {name = n} {value = v} valid) =
     let words = valid_words n v valid in
     by_pair n v record {
@@ -59,22 +62,29 @@ stands mode strings name value text more (pair {name = n} {value = v} valid) =
       some_value = words.1.some;
       goes_on = λ e. cc e;
     } valid
-stands mode strings name value text more (category {value = v} known) = lone_stands mode v more (category_word v known) (inl known)
-stands mode strings name value text more (binary {name = n} no_category known) = lone_stands mode n more (binary_word n known) (inr (inl known))
-stands mode strings name value text more (strings_alone {name = n} sets no_category no_binary known) = lone_stands mode n more (strings_word n known) (inr (inr (sets, known)))
+stands mode strings name value text more (category {value = v} known) = lone_stands mode strings v more (category_word v known) (inl known) (λ no_strings. inl known)
+stands mode strings name value text more (binary {name = n} no_category known) = lone_stands mode strings n more (binary_word n known) (inr (inl known)) (λ no_strings. inr known)
+stands mode strings name value text more (strings_alone {name = n} sets no_category no_binary known) = lone_stands mode strings n more (strings_word n known) (inr (inr (sets, known))) (λ no_strings. let no : ⊥ = cc no_strings in absurd no)
 
-module _ (mode : Mode) (w more : List ℕ) where
-  run_against : (run behind : List ℕ) → HasRun w run behind → (IsKnownRun mode run → run ≢ [] → behind ≡ 125 ∷ more → ⊥) → Stands mode w more → ⊥
+module _ (mode : Mode) (strings : Bool) (w more : List ℕ) where
+  run_against : (run behind : List ℕ) → HasRun w run behind → (IsKnownRun mode run → run ≢ [] → behind ≡ 125 ∷ more → ⊥) → Stands mode strings w more → ⊥
   run_against run behind has against (by_pair name value p valid) = has.no_pair name value (125 ∷ more) p
-  run_against run behind has against (by_run other also known some) =
+  run_against run behind has against (by_run other also known some alone) =
       let same = one_run also.is_run has.is_run in
       against (subst (IsKnownRun mode) same.0 known) (subst (λ r. r ≢ []) same.0 some) (sym same.1)
 
-  pair_against : (name value behind : List ℕ) → HasPair w name value behind → (IsValidUnicodeProperty name value → behind ≡ 125 ∷ more → ⊥) → Stands mode w more → ⊥
+  -- A run that is known alone as a property of strings, where no property of strings is spelled.
+  no_lone_run : (run behind : List ℕ) → HasRun w run (125 ∷ behind) → (Contains general_category_values run → ⊥) → (Contains binary_properties run → ⊥) → strings ≡ false → Stands mode strings w more → ⊥
+  no_lone_run run behind has no_category no_binary none (by_pair name value p valid) = has.no_pair name value (125 ∷ more) p
+  no_lone_run run behind has no_category no_binary none (by_run other also known some alone) =
+      let same = one_run also.is_run has.is_run in
+      elim (subst (λ r. Contains general_category_values r ⊎ Contains binary_properties r) same.0 (alone none)) [ inl h ↦ no_category h | inr h ↦ no_binary h ]
+
+  pair_against : (name value behind : List ℕ) → HasPair w name value behind → (IsValidUnicodeProperty name value → behind ≡ 125 ∷ more → ⊥) → Stands mode strings w more → ⊥
   pair_against name value behind has against (by_pair other_name other_value p valid) =
       let same = one_pair p has in
       against (subst (λ v. IsValidUnicodeProperty name v) same.values_too (subst (λ n. IsValidUnicodeProperty n other_value) same.names valid)) (sym same.rest)
-  pair_against name value behind has against (by_run run also known some) = also.no_pair name value behind has
+  pair_against name value behind has against (by_run run also known some alone) = also.no_pair name value behind has
 
 closes : (w more : List ℕ) → starts 125 w ≡ false → w ≡ 125 ∷ more → ⊥
 closes w more unclosed e = let no : false ≡ true = sym unclosed ∙ ap (starts 125) e in cc no
@@ -83,6 +93,11 @@ closes w more unclosed e = let no : false ≡ true = sym unclosed ∙ ap (starts
 behind_brace : (negative : Bool) (us w more : List ℕ) (letter : ℕ) → us ≡ 92 ∷ letter ∷ 123 ∷ w → us ≡ property_opener negative ++ more → w ≡ more
 behind_brace true us w more letter e f = let k : 92 ∷ letter ∷ 123 ∷ w ≡ 92 ∷ 80 ∷ 123 ∷ more = sym e ∙ f in cc k
 behind_brace false us w more letter e f = let k : 92 ∷ letter ∷ 123 ∷ w ≡ 92 ∷ 112 ∷ 123 ∷ more = sym e ∙ f in cc k
+
+-- A negative property escape that obeys is of no strings.
+not_of_strings : (negative strings : Bool) (us w more : List ℕ) → us ≡ 92 ∷ 80 ∷ 123 ∷ w → us ≡ property_opener negative ++ more → (negative && strings) ≡ false → strings ≡ false
+not_of_strings true strings us w more e f obeys = obeys
+not_of_strings false strings us w more e f obeys = absurd (true≢false (ap (λ us. starts 80 (drop 1 us)) (sym e ∙ f)))
 
 brace_there : (negative : Bool) (us behind more : List ℕ) (letter : ℕ) → us ≡ 92 ∷ letter ∷ behind → us ≡ property_opener negative ++ more → starts 123 behind ≡ true
 brace_there true us behind more letter e f =
@@ -95,30 +110,34 @@ brace_there false us behind more letter e f =
     ap (starts 123) b
 
 refuses : (mode : Mode) (us : List CodePoint) (first added place : ℕ) (rest : List CodePoint) (d : Diagnostic) → IsPropertyCause mode us first added place rest d
-    → (negative : Bool) (text more : List ℕ) → values rest ≡ property_opener negative ++ (text ++ (125 ∷ more)) → Stands mode (text ++ (125 ∷ more)) more → ⊥
-refuses mode us first added place rest d (no_property letter behind unicode whole letter_is other) negative text more is s =
+    → (negative strings : Bool) (text more : List ℕ) → values rest ≡ property_opener negative ++ (text ++ (125 ∷ more)) → (negative && strings) ≡ false → Stands mode strings (text ++ (125 ∷ more)) more → ⊥
+refuses mode us first added place rest d (no_property letter behind unicode whole letter_is other) negative strings text more is obeys s =
     let no : false ≡ true = sym other ∙ brace_there negative (values rest) behind (text ++ (125 ∷ more)) letter whole is in cc no
-refuses mode us first added place rest d (unterminated_run w run behind b has short) negative text more is s =
+refuses mode us first added place rest d (unterminated_run w run behind b has short) negative strings text more is obeys s =
     let here = behind_brace negative (values rest) w (text ++ (125 ∷ more)) b.letter b.whole is in
-    run_against mode w more run behind has (λ known some e. elim short [ inl none ↦ some none | inr none ↦ let no : [] ≡ 125 ∷ more = sym none ∙ e in cc no ]) (subst (λ w. Stands mode w more) (sym here) s)
-refuses mode us first added place rest d (unclosed_run w run behind b has known goes unclosed) negative text more is s =
+    run_against mode strings w more run behind has (λ known some e. elim short [ inl none ↦ some none | inr none ↦ let no : [] ≡ 125 ∷ more = sym none ∙ e in cc no ]) (subst (λ w. Stands mode strings w more) (sym here) s)
+refuses mode us first added place rest d (unclosed_run w run behind b has known goes unclosed) negative strings text more is obeys s =
     let here = behind_brace negative (values rest) w (text ++ (125 ∷ more)) b.letter b.whole is in
-    run_against mode w more run behind has (λ known some e. closes behind more unclosed e) (subst (λ w. Stands mode w more) (sym here) s)
-refuses mode us first added place rest d (unclosed_pair w name value behind b has valid unclosed) negative text more is s =
+    run_against mode strings w more run behind has (λ known some e. closes behind more unclosed e) (subst (λ w. Stands mode strings w more) (sym here) s)
+refuses mode us first added place rest d (unclosed_pair w name value behind b has valid unclosed) negative strings text more is obeys s =
     let here = behind_brace negative (values rest) w (text ++ (125 ∷ more)) b.letter b.whole is in
-    pair_against mode w more name value behind has (λ valid e. closes behind more unclosed e) (subst (λ w. Stands mode w more) (sym here) s)
-refuses mode us first added place rest d (unknown_pair w name value behind b has unknown) negative text more is s =
+    pair_against mode strings w more name value behind has (λ valid e. closes behind more unclosed e) (subst (λ w. Stands mode strings w more) (sym here) s)
+refuses mode us first added place rest d (unknown_pair w name value behind b has unknown) negative strings text more is obeys s =
     let here = behind_brace negative (values rest) w (text ++ (125 ∷ more)) b.letter b.whole is in
-    pair_against mode w more name value behind has (λ valid e. unknown valid) (subst (λ w. Stands mode w more) (sym here) s)
-refuses mode us first added place rest d (unknown_run w run behind b has some goes unknown no_strings) negative text more is s =
+    pair_against mode strings w more name value behind has (λ valid e. unknown valid) (subst (λ w. Stands mode strings w more) (sym here) s)
+refuses mode us first added place rest d (unknown_run w run behind b has some goes unknown no_strings) negative strings text more is obeys s =
     let here = behind_brace negative (values rest) w (text ++ (125 ∷ more)) b.letter b.whole is in
-    run_against mode w more run behind has (λ known some e. unknown known) (subst (λ w. Stands mode w more) (sym here) s)
-refuses mode us first added place rest d (of_strings w run behind unicode b has goes unknown strings) negative text more is s =
+    run_against mode strings w more run behind has (λ known some e. unknown known) (subst (λ w. Stands mode strings w more) (sym here) s)
+refuses mode us first added place rest d (of_strings w run behind unicode b has goes unknown known_strings) negative strings text more is obeys s =
     let here = behind_brace negative (values rest) w (text ++ (125 ∷ more)) b.letter b.whole is in
-    run_against mode w more run behind has (λ known some e. unknown known) (subst (λ w. Stands mode w more) (sym here) s)
+    run_against mode strings w more run behind has (λ known some e. unknown known) (subst (λ w. Stands mode strings w more) (sym here) s)
+refuses mode us first added place rest d (negative_of_strings w run behind sets whole has no_category no_binary known_strings) negative strings text more is obeys s =
+    let here = behind_brace negative (values rest) w (text ++ (125 ∷ more)) 80 whole is in
+    let alone = not_of_strings negative strings (values rest) w (text ++ (125 ∷ more)) whole is obeys in
+    no_lone_run mode strings w more run behind has no_category no_binary alone (subst (λ w. Stands mode strings w more) (sym here) s)
 
 pub cause_begins_no_property : (e : Environment) (us : List CodePoint) (first added place : ℕ) (rest : List CodePoint) (d : Diagnostic) → IsPropertyCause e.mode us first added place rest d → BeginsNoProperty e rest
-cause_begins_no_property e us first added place rest d cause negative strings name value w more whole is =
+cause_begins_no_property e us first added place rest d cause negative strings name value w more whole is obeys =
     let text = is.text in
     let back : values rest ≡ property_opener negative ++ (text ++ (125 ∷ values more)) =
     ap values whole
@@ -126,7 +145,7 @@ cause_begins_no_property e us first added place rest d cause negative strings na
     ∙ ap (λ v. v ++ values more) is.whole
     ∙ append_assoc (property_opener negative) (text ++ (125 ∷ [])) (values more)
     ∙ ap (λ v. property_opener negative ++ v) (append_assoc text (125 ∷ []) (values more)) in
-    refuses e.mode us first added place rest d cause negative text (values more) back (stands e.mode strings name value text (values more) is.spelled)
+    refuses e.mode us first added place rest d cause negative strings text (values more) back obeys (stands e.mode strings name value text (values more) is.spelled)
 
 -- A property escape is refused with `u` or `v` alone.
 pub cause_unicode : (mode : Mode) (us : List CodePoint) (first added place : ℕ) (rest : List CodePoint) (d : Diagnostic) → IsPropertyCause mode us first added place rest d → is_unicode mode ≡ true
@@ -137,6 +156,7 @@ cause_unicode mode us first added place rest _ (unclosed_pair w name value behin
 cause_unicode mode us first added place rest _ (unknown_pair w name value behind b has unknown) = b.unicode
 cause_unicode mode us first added place rest _ (unknown_run w run behind b has some goes unknown no_strings) = b.unicode
 cause_unicode mode us first added place rest _ (of_strings w run behind u b has goes unknown strings) = b.unicode
+cause_unicode mode us first added place rest _ (negative_of_strings w run behind sets whole has no_category no_binary strings) = ap is_unicode sets
 
 -- what a property escape begins with that is refused
 pub property_first : (mode : Mode) (us : List CodePoint) (first added f : ℕ) (rest : List CodePoint) (d : Diagnostic) → IsPropertyCause mode us first added f rest d →
@@ -148,3 +168,4 @@ property_first mode us first added f rest _ (unclosed_pair w name value behind b
 property_first mode us first added f rest _ (unknown_pair w name value behind b has unknown) = (b.letter, 123 ∷ w, b.whole, b.letter_is)
 property_first mode us first added f rest _ (unknown_run w run behind b has some goes unknown no_strings) = (b.letter, 123 ∷ w, b.whole, b.letter_is)
 property_first mode us first added f rest _ (of_strings w run behind m b has goes unknown strings) = (b.letter, 123 ∷ w, b.whole, b.letter_is)
+property_first mode us first added f rest _ (negative_of_strings w run behind sets whole has no_category no_binary strings) = (80, 123 ∷ w, whole, refl)

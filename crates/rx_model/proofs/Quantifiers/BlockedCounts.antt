@@ -27,9 +27,9 @@ abbrev pub DoNotObey : ℕ → Option ℕ → Type 0
 DoNotObey min max = (greedy : Bool) → Obeys 0 [] (quantifier min max greedy) → ⊥
 
 token_blocked : (mode : Mode) (us : List CodePoint) (min : ℕ) (max : Option ℕ) (n : ℕ) (w : List ℕ) → DoNotObey min max → (t : Token) (k : ℕ) → quantifier_token (counts min max n) w ≡ Some (t, k)
-    → Obeys (text_groups us) (text_names mode us) t → ⊥
+    → Obeys (text_groups mode us) (text_names mode us) t → ⊥
 token_blocked mode us min max n w not t k h o =
-    let owed = Obeys (text_groups us) (text_names mode us) in
+    let owed = Obeys (text_groups mode us) (text_names mode us) in
     elim (chosen {x = next (quantifier min max false) (n + 1)} {y = next (quantifier min max true) n} (front_is is_question (drop n w)) h) [
       | inl p ↦ not false (subst owed (sym (same_token (quantifier min max false) t (n + 1) k p.1)) o)
       | inr p ↦ not true (subst owed (sym (same_token (quantifier min max true) t n k p.1)) o)
@@ -42,7 +42,7 @@ front_braces mode u us rest v e = front_by_unicode (text_environment mode us) re
 abbrev pub AreBlocked : Counts → Type 0
 AreBlocked c = (min : ℕ) (max : Option ℕ) (n : ℕ) → c ≡ counts min max n → DoNotObey min max
 
-blocked_counts : (mode : Mode) (us : List CodePoint) (c : Counts) (w : List ℕ) → AreBlocked c → (t : Token) (k : ℕ) → quantifier_token c w ≡ Some (t, k) → Obeys (text_groups us) (text_names mode us) t → ⊥
+blocked_counts : (mode : Mode) (us : List CodePoint) (c : Counts) (w : List ℕ) → AreBlocked c → (t : Token) (k : ℕ) → quantifier_token c w ≡ Some (t, k) → Obeys (text_groups mode us) (text_names mode us) t → ⊥
 blocked_counts mode us no_counts w d t k h o = let f : ⊥ = cc h in f
 blocked_counts mode us (counts min max n) w d t k h o = token_blocked mode us min max n w (d min max n refl) t k h o
 

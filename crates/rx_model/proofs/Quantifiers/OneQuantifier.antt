@@ -65,7 +65,7 @@ module _ (mode : Mode) (us : List CodePoint) (start added : ℕ) where
   alive : (rest : List CodePoint) (min : ℕ) (max : Option ℕ) (greedy : Bool) (w more : List CodePoint) → rest ≡ w ++ more → Spells here (quantifier min max greedy) w more → AreObeying mode us (quantifier min max greedy ∷ []) → IsBlocked mode us rest → ⊥
   alive rest min max greedy w more h s o blocked =
       blocked (quantifier min max greedy) (length w) (ap (front here) h ∙ spelled_front here (quantifier min max greedy) w more s)
-      (All-head (Obeys (text_groups us) (text_names mode us)) (quantifier min max greedy) [] o)
+      (All-head (Obeys (text_groups mode us) (text_names mode us)) (quantifier min max greedy) [] o)
 
   same_order : (min other : ℕ) (max also : Option ℕ) → min ≡ other → max ≡ also → IsOutOfOrder min max → IsOutOfOrder other also
   same_order min other max also e f h = subst (λ also. IsOutOfOrder other also) f (subst (λ other. IsOutOfOrder other max) e h)

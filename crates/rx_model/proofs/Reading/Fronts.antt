@@ -31,7 +31,7 @@ use Rattle.rx_model.specs.Reading.Rows.{is_legacy_syntax, stands_raw, IsRaw, IsE
 use Rattle.rx_model.specs.Trees.Token.{Token, Opener, boundary, character, dot, class_escape, property, class, indexed, named, opener, closer, bar, quantifier}
 use Rattle.rx_model.specs.Properties.PropertyForms.{begins_property}
 use Rattle.rx_model.proofs.Characters.Backslashes.{no_right, escape_token, legacy_token, boundary_found, class_found, buffer_token, class_token, indexed_front, indexed_spelled, property_front_token}
-use Rattle.rx_model.proofs.Classes.ClassFronts.{class_read, class_spelled}
+use Rattle.rx_model.proofs.Classes.ClassReads.{class_opens, class_read, class_spelled, class_takes_some}
 use Rattle.rx_model.proofs.Characters.Decodings.{chosen, Some-inj, both}
 use Rattle.rx_model.proofs.Characters.LegacyEscapes.{AnyFront, any_spelled}
 use Rattle.rx_model.proofs.Groups.GroupFronts.{opener_read, opener_spelled, named_read, named_spelled}
@@ -224,7 +224,7 @@ module _ (e : Environment) where
       ∙ ap (λ v. Some (quantifier min max greedy, length v)) text)
 
   -- a `[` at the front
-  pub at_bracket : (u : CodePoint) (us : List CodePoint) → u.value ≡ 91 → front e (u ∷ us) ≡ bracket_token (class_front e us)
+  pub at_bracket : (u : CodePoint) (us : List CodePoint) → u.value ≡ 91 → front e (u ∷ us) ≡ bracket_token (class_front e (u ∷ us))
   unfolding front
   at_bracket u us h =
       cond-false (is_raw_at e u.value (values us)) _ _ (not_raw_at e u.value (values us) (ap (stands_raw e.mode) h ∙ syntax_not_raw e.mode 91 refl))
@@ -233,8 +233,8 @@ module _ (e : Environment) where
 
   bracket_front : (c : Class) (w rest : List CodePoint) → IsClass e c w rest → front e (w ++ rest) ≡ Some (class c, length w)
   bracket_front c w rest s =
-      let r = class_read e c w rest s in
-      ap (λ w. front e (w ++ rest)) r.whole ∙ at_bracket r.bracket (r.units ++ rest) r.is_bracket ∙ ap bracket_token r.read
+      let b = class_opens e c w rest s in
+      ap (front e) b.2 ∙ at_bracket b.0 b.1 b.3 ∙ ap (λ us. bracket_token (class_front e us)) (sym b.2) ∙ ap bracket_token (class_read e c w rest s)
 
   -- spelled → read
   pub spelled_front : (t : Token) (w rest : List CodePoint) → Spells e t w rest → front e (w ++ rest) ≡ Some (t, length w)
@@ -285,7 +285,7 @@ module _ (e : Environment) where
   spelled_none (boundary kind) rest s = boundary_some kind s.text
   spelled_none (class_escape kind) rest s = class_some kind s
   spelled_none (property negative strings name value) rest s = let h = (property_row e negative strings name value [] rest s).whole in cc h
-  spelled_none (class c) rest s = let h = (class_read e c [] rest s).whole in cc h
+  spelled_none (class c) rest s = omega (arith, class_takes_some e c [] rest s)
   spelled_none (indexed n) rest s = let h = s.whole in cc
   spelled_none (named name) rest s = let h = s.whole in cc
   spelled_none (opener o) rest s = let h = (opener_read e o [] rest s).whole in cc
@@ -446,9 +446,9 @@ module _ (e : Environment) where
     ]
   ]
 
-  class_at : (u : CodePoint) (us : List CodePoint) (p : Token × ℕ) → u.value ≡ 91 → (r : Option (Class × ℕ)) → class_front e us ≡ r → bracket_token r ≡ Some p → FrontOf (u ∷ us) p
-  class_at u us p h None f q = absurd (let k : ⊥ = cc q in k)
-  class_at u us p h (Some c) f q = let s = class_spelled e u us c h f in front_of (class c.0) c.1 (u ∷ us) s.w s.rest s.whole s.count s.spelled q
+  class_at : (u : CodePoint) (us : List CodePoint) (p : Token × ℕ) → (r : Option (Class × ℕ)) → class_front e (u ∷ us) ≡ r → bracket_token r ≡ Some p → FrontOf (u ∷ us) p
+  class_at u us p None f q = absurd (let k : ⊥ = cc q in k)
+  class_at u us p (Some c) f q = let s = class_spelled e (u ∷ us) c.0 c.1 f in front_of (class c.0) c.1 (u ∷ us) s.w s.rest s.whole s.count s.spelled q
 
   none_there : (r : Counts) → are_counts r ≡ false → r ≡ no_counts
   none_there no_counts h = refl
@@ -468,7 +468,7 @@ module _ (e : Environment) where
     | inr q ↦ elim (chosen (u.value == 92) q.1) [
       | inl q ↦ backslash_found u us p (eqb-true u.value 92 q.0) q.1
       | inr q ↦ elim (chosen (u.value == 91) q.1) [
-        | inl r ↦ class_at u us p (eqb-true u.value 91 r.0) (class_front e us) refl r.1
+        | inl r ↦ class_at u us p (class_front e (u ∷ us)) refl r.1
         | inr r ↦ syntax_found u us p r.1
       ]
     ]

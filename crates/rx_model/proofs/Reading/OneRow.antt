@@ -10,10 +10,10 @@ use Rattle.rx_units.specs.Units.{values}
 use Rattle.rx_model.specs.Reading.Boundaries.{has_buffers, has_boundary}
 use Rattle.rx_ast.specs.ClassTree.{Class}
 use Rattle.rx_model.specs.Classes.ClassRows as in_class
-use Rattle.rx_model.specs.Classes.ClassRows.{stands_raw_in_class, SpellsInClassAlone, SpellsClassCharacter, SpellsAtom, BeforeHigh, BeforeThird, Place, outside, fresh, at_dash, at_high, at_second, at_third, has_hyphen, has_threes, SpellsInClass, ClassTokenRow, IsClassShape, IsClass}
+use Rattle.rx_model.specs.Classes.ClassRows.{stands_raw_in_class, SpellsInClassAlone, SpellsClassCharacter, SpellsAtom, BeforeHigh, BeforeThird, BeginsNoRange, StandsBefore, Place, outside, fresh, at_dash, at_high, at_second, at_third, behind_meet, behind_less, in_strings, has_hyphen, has_threes, SpellsOperand, SpellsOfStrings, SpellsInClass, ClassTokenRow, IsClass}
 use Rattle.rx_model.specs.Classes.ClassTokens as tokens
-use Rattle.rx_model.specs.Classes.ClassTokens.{Atom, ClassToken, bracket, item, low, dash, high, class_tokens}
-use Rattle.rx_model.specs.Inputs.Environment.{Environment, is_unicode}
+use Rattle.rx_model.specs.Classes.ClassTokens.{Atom, ClassToken, bracket, item, low, dash, high, meet, less, strings, letter, string_bar, strings_end, class_tokens}
+use Rattle.rx_model.specs.Inputs.Environment.{Environment, is_sets, is_unicode}
 use Rattle.rx_model.specs.Characters.Escapes.{SpellsEscape, control, letter, null, hexadecimal, unicode, identity}
 use Rattle.rx_model.specs.Reading.Fronts.{front}
 use Rattle.rx_model.specs.Groups.GroupNames.{SpellsName}
@@ -145,17 +145,17 @@ opener_same e d (ignoring None) w rest m s = s
 opener_same e d (ignoring (Some bits)) w rest m s = s
 opener_same e d (looking kind) w rest m s = s
 
-property_same : (e d : Environment) (negative strings : Bool) (name : List ℕ) (value : Option (List ℕ)) (w : List CodePoint) → e.mode ≡ d.mode →
-    IsProperty e negative strings name value w → IsProperty d negative strings name value w
-property_same e d negative strings name value w m s = record {
+property_same : (e d : Environment) (negative may : Bool) (name : List ℕ) (value : Option (List ℕ)) (w : List CodePoint) → e.mode ≡ d.mode →
+    IsProperty e negative may name value w → IsProperty d negative may name value w
+property_same e d negative may name value w m s = record {
   unicode = ap is_unicode (sym m) ∙ s.unicode;
   text = s.text;
-  spelled = subst (λ mode. SpellsProperty mode strings name value s.text) m s.spelled;
+  spelled = subst (λ mode. SpellsProperty mode may name value s.text) m s.spelled;
   whole = s.whole;
 }
 
 class_character_same : (e d : Environment) (k : CharacterKind) (v : ℕ) (w rest : List CodePoint) → e.mode ≡ d.mode → e.named ≡ d.named → AgreeOnGroups e d → SpellsClassCharacter e k v w rest → SpellsClassCharacter d k v w rest
-class_character_same e d _ _ _ rest m n g (in_class.raw unit h) = in_class.raw unit (ap (λ mode. stands_raw_in_class mode unit.value) (sym m) ∙ h)
+class_character_same e d _ _ _ rest m n g (in_class.raw unit h) = in_class.raw unit (ap (λ mode. stands_raw_in_class mode unit.value (values rest)) (sym m) ∙ h)
 class_character_same e d _ _ _ rest m n g (in_class.hyphen unit u h) = in_class.hyphen unit (ap has_hyphen (sym m) ∙ u) h
 class_character_same e d k v _ rest m n g (in_class.escaped backslash behind h s) = in_class.escaped backslash behind h (escape_same e d k v (values behind) (values rest) m s)
 class_character_same e d k v _ rest m n g (in_class.escaped_in_class backslash behind h s) =
@@ -166,7 +166,7 @@ class_character_same e d k v _ rest m n g (in_class.escaped_in_legacy backslash 
 atom_same : (e d : Environment) (a : Atom) (w rest : List CodePoint) → e.mode ≡ d.mode → e.named ≡ d.named → AgreeOnGroups e d → SpellsAtom e a w rest → SpellsAtom d a w rest
 atom_same e d (tokens.character k v) w rest m n g s = class_character_same e d k v w rest m n g s
 atom_same e d (tokens.escape k) w rest m n g s = s
-atom_same e d (tokens.property negative strings name value) w rest m n g s = property_same e d negative strings name value w m s
+atom_same e d (tokens.property negative may name value) w rest m n g s = property_same e d negative may name value w m s
 
 before_high_same : (e d : Environment) (rest : List CodePoint) → e.mode ≡ d.mode → e.named ≡ d.named → AgreeOnGroups e d → BeforeHigh e rest → BeforeHigh d rest
 before_high_same e d rest m n g s = record {
@@ -194,16 +194,49 @@ before_third_same e d a rest m n g s = record {
   threes = ap has_threes (sym m) ∙ s.threes;
 }
 
+-- The two agree the other way round.
+agree_back : (e d : Environment) → e.mode ≡ d.mode → AgreeOnGroups e d → AgreeOnGroups d e
+agree_back e d m g h = sym (g (ap is_unicode m ∙ h))
+
+no_range_same : (e d : Environment) (a : Atom) (rest : List CodePoint) → e.mode ≡ d.mode → e.named ≡ d.named → AgreeOnGroups e d → BeginsNoRange e a rest → BeginsNoRange d a rest
+no_range_same e d a rest m n g s = record {
+  sets = ap is_sets (sym m) ∙ s.sets;
+  none = λ c b. s.none c (before_high_same d e rest (sym m) (sym n) (agree_back e d m g) b);
+}
+
+stands_before_same : (e d : Environment) (a : Atom) (rest : List CodePoint) → e.mode ≡ d.mode → e.named ≡ d.named → AgreeOnGroups e d → StandsBefore e a rest → StandsBefore d a rest
+stands_before_same e d a rest m n g (inl h) = inl h
+stands_before_same e d a rest m n g (inr (inl h)) = inr (inl (before_third_same e d a rest m n g h))
+stands_before_same e d a rest m n g (inr (inr h)) = inr (inr (no_range_same e d a rest m n g h))
+
+operand_same : (e d : Environment) (t : ClassToken) (w rest : List CodePoint) → e.mode ≡ d.mode → e.named ≡ d.named → AgreeOnGroups e d → SpellsOperand e t w rest → SpellsOperand d t w rest
+operand_same e d (item a) w rest m n g s = atom_same e d a w rest m n g s
+operand_same e d (bracket negative) w rest m n g s = s
+operand_same e d strings w rest m n g s = s
+operand_same e d t w rest m n g s = absurd s
+
+of_strings_same : (e d : Environment) (t : ClassToken) (w rest : List CodePoint) → e.mode ≡ d.mode → e.named ≡ d.named → AgreeOnGroups e d → SpellsOfStrings e t w rest → SpellsOfStrings d t w rest
+of_strings_same e d (letter k v) w rest m n g s = class_character_same e d k v w rest m n g s
+of_strings_same e d string_bar w rest m n g s = s
+of_strings_same e d strings_end w rest m n g s = s
+of_strings_same e d t w rest m n g s = absurd s
+
 in_class_same : (e d : Environment) (q : Place) (t : ClassToken) (w rest : List CodePoint) → e.mode ≡ d.mode → e.named ≡ d.named → AgreeOnGroups e d → SpellsInClass e q t w rest → SpellsInClass d q t w rest
-in_class_same e d outside (bracket true) w rest m n g s = s
-in_class_same e d outside (bracket false) w rest m n g s = s
+in_class_same e d outside (bracket negative) w rest m n g s = s
 in_class_same e d fresh tokens.closer w rest m n g s = s
-in_class_same e d fresh (item a) w rest m n g s = (atom_same e d a w rest m n g s.0, elim s.1 [ inl h ↦ inl h | inr h ↦ inr (before_third_same e d a rest m n g h) ])
+in_class_same e d fresh (item a) w rest m n g s = (atom_same e d a w rest m n g s.0, stands_before_same e d a rest m n g s.1)
 in_class_same e d fresh (low k v) w rest m n g s = (class_character_same e d k v w rest m n g s.0, s.1, before_high_same e d rest m n g s.2)
+in_class_same e d fresh (bracket negative) w rest m n g s = (ap is_sets (sym m) ∙ s.0, s.1)
+in_class_same e d fresh strings w rest m n g s = (ap is_sets (sym m) ∙ s.0, s.1)
+in_class_same e d fresh meet w rest m n g s = (ap is_sets (sym m) ∙ s.0, s.1)
+in_class_same e d fresh less w rest m n g s = (ap is_sets (sym m) ∙ s.0, s.1)
 in_class_same e d at_dash dash w rest m n g s = s
 in_class_same e d at_high (high k v) w rest m n g s = class_character_same e d k v w rest m n g s
 in_class_same e d at_second (item a) w rest m n g s = s
 in_class_same e d at_third (item a) w rest m n g s = atom_same e d a w rest m n g s
+in_class_same e d behind_meet t w rest m n g s = (ap is_sets (sym m) ∙ s.0, operand_same e d t w rest m n g s.1, s.2)
+in_class_same e d behind_less t w rest m n g s = (ap is_sets (sym m) ∙ s.0, operand_same e d t w rest m n g s.1)
+in_class_same e d in_strings t w rest m n g s = (ap is_sets (sym m) ∙ s.0, of_strings_same e d t w rest m n g s.1)
 in_class_same e d q t w rest m n g s = absurd s
 
 class_row_same : (e d : Environment) (ts : List ClassToken) (q : Place) (us : List CodePoint) (r : Place) (rest : List CodePoint) → e.mode ≡ d.mode → e.named ≡ d.named → AgreeOnGroups e d → ClassTokenRow e ts q us r rest → ClassTokenRow d ts q us r rest
@@ -219,7 +252,7 @@ class_row_same e d (t ∷ ts) q us r rest m n g s = (
 class_same : (e d : Environment) (c : Class) (w rest : List CodePoint) → e.mode ≡ d.mode → e.named ≡ d.named → AgreeOnGroups e d → IsClass e c w rest → IsClass d c w rest
 class_same e d c w rest m n g s = record {
   no_spans = s.no_spans;
-  shape = subst (λ mode. IsClassShape mode c) m s.shape;
+  shape = s.shape;
   row = class_row_same e d (class_tokens c) outside (w ++ rest) fresh rest m n g s.row;
 }
 
@@ -235,7 +268,7 @@ Spells-mode e d dot w rest m b n g s = s
 Spells-mode e d bar w rest m b n g s = s
 Spells-mode e d (boundary kind) w rest m b n g s = record { text = s.text; there = sym (boundary_same e d kind m b) ∙ s.there }
 Spells-mode e d (class_escape kind) w rest m b n g s = s
-Spells-mode e d (property negative strings name value) w rest m b n g s = property_same e d negative strings name value w m s
+Spells-mode e d (property negative may name value) w rest m b n g s = property_same e d negative may name value w m s
 Spells-mode e d (class c) w rest m b n g s = class_same e d c w rest m n g s
 Spells-mode e d (indexed index) w rest m b n g s = indexed_same e d index w rest m g s
 Spells-mode e d (named name) w rest m b n g s = named_same e d name w rest m n s

@@ -9,11 +9,11 @@ use Rattle.rx_units.specs.Units.{values}
 use Rattle.rx_model.specs.declared.mode.Mode.{Mode}
 use Rattle.rx_model.specs.Refusals.Causes as cause
 use Rattle.rx_model.specs.Refusals.ClassCauses.{IsClassCause}
-use Rattle.rx_model.specs.Refusals.Causes.{BeginsWithPair, HasBraces, IsCauseAtPlace, IsOutOfOrder, IsTooLarge}
+use Rattle.rx_model.specs.Refusals.Causes.{BeginsWithPair, HasBraces, IsCauseAtPlace}
 use Rattle.rx_model.specs.Trees.Early.{Obeys}
-use Rattle.rx_model.specs.Inputs.Environment.{Environment}
+use Rattle.rx_model.specs.Inputs.Environment.{Environment, is_sets}
 use Rattle.rx_model.specs.Refusals.EscapeCauses as escape
-use Rattle.rx_model.specs.Refusals.EscapeCauses.{BeginsProperty, IsEscapeCause, IsPropertyCause}
+use Rattle.rx_model.specs.Refusals.EscapeCauses.{IsEscapeCause, IsPropertyCause}
 use Rattle.rx_model.specs.Refusals.Firsts.{NoneBeyond}
 use Rattle.rx_model.specs.Reading.Fronts.{backslash_front, front, property_token}
 use Rattle.rx_model.specs.Groups.Groups.{BeginsName, of_group, of_reference, EndsName}
@@ -30,6 +30,7 @@ use Rattle.rx_model.specs.Trees.Token.{Token, Opener, boundary, character, dot, 
 use Rattle.rx_model.proofs.Characters.Backslashes.{property_front_token}
 use Rattle.rx_model.proofs.Quantifiers.BlockedCounts.{brace_first, blocked_limit, blocked_numbers, not_in_order, not_small}
 use Rattle.rx_model.proofs.Refusals.BlockedFronts.{blocked_duplicated, blocked_empty, blocked_escape, blocked_hex, blocked_name, blocked_reference, blocked_shared, blocked_unknown}
+use Rattle.rx_model.proofs.Refusals.OnlyFirst.{AreCompared}
 use Rattle.rx_model.proofs.Refusals.BlockedPlaces.{IsBlocked, blocked_none, blocked_token, next, none_goes_on, same_token}
 use Rattle.rx_model.proofs.Reading.Fronts.{front_by_values, front_spelled, spelled_front, spelled_some}
 use Rattle.rx_model.proofs.Trees.Joins.{token_row_append}
@@ -87,7 +88,7 @@ module _ (mode : Mode) where
     accepted =
         run-append mode i.reached.tokens (opener group ∷ i.inside) [] false i.open_groups i.ready i.reached.accepted
         ∙ run_in i.inside [] (group ∷ i.open_groups) false [] i.ready_inside i.accepted;
-    obey = All-append (Obeys (text_groups us) (text_names mode us)) i.reached.tokens (opener group ∷ i.inside) i.reached.obey i.obey;
+    obey = All-append (Obeys (text_groups mode us) (text_names mode us)) i.reached.tokens (opener group ∷ i.inside) i.reached.obey i.obey;
   }
 
 -- How a cause at this place ends all readings: no place is reached beyond this one, or one before it, which is not the end of the text; or a group is open.
@@ -113,12 +114,15 @@ ends_refuse mode us f (left_open group open_groups ready rest r none) p reads = 
         let e = read_to_end mode us p reads in
         none (length us) [] (record { open_groups = []; ready = e.0; reached = e.1 }) (omega (arith, r.place_is))
 
--- What is owed of the classes of a mode: where a refusal holds in one, no place beyond its bracket is reached, and at most one holds, at one place.
+-- What is owed of the classes of a mode: where a refusal holds in one, no place beyond its bracket is reached; of two that hold one gives way to the other, or
+-- they are one, which they are without `v`.
 pub record ClassLaws (mode : Mode) (us : List CodePoint) (start added : ℕ) : Type 0 where
   pub behind_bracket : {from f : ℕ} {at_class : List CodePoint} {d : Diagnostic} → IsClassCause mode us start added from at_class f d → from ≤ f
   pub at_bracket : {from f : ℕ} {at_class : List CodePoint} {d : Diagnostic} → IsClassCause mode us start added from at_class f d → (w : List ℕ) × (values at_class ≡ 91 ∷ w)
   pub blocked : {from f : ℕ} {at_class : List CodePoint} {d : Diagnostic} → IsClassCause mode us start added from at_class f d → IsBlocked mode us at_class
-  pub one : {from f g : ℕ} {at_class : List CodePoint} {d e : Diagnostic} → IsClassCause mode us start added from at_class f d → IsClassCause mode us start added from at_class g e → (f ≡ g) × (d ≡ e)
+  pub two : {from f g : ℕ} {at_class : List CodePoint} {d e : Diagnostic} → IsClassCause mode us start added from at_class f d → IsClassCause mode us start added from at_class g e → AreCompared f d g e
+  pub one : {from f g : ℕ} {at_class : List CodePoint} {d e : Diagnostic} → is_sets mode ≡ false → IsClassCause mode us start added from at_class f d → IsClassCause mode us start added from at_class g e →
+      (f ≡ g) × (d ≡ e)
 
 module _ (mode : Mode) (us : List CodePoint) where
   abbrev here : Environment
@@ -136,7 +140,7 @@ module _ (mode : Mode) (us : List CodePoint) where
   token_left : (f : ℕ) (t : Token) (w more : List CodePoint) → Spells here t w more → IsPlace mode us f (w ++ more) → f < length us
   token_left f t w more s p = omega (arith, p.reached.place_is, spelled_some here t w more s, length-append w more)
 
-  spelled_ends : (f : ℕ) (t : Token) (w more : List CodePoint) → Spells here t w more → IsPlace mode us f (w ++ more) → (Obeys (text_groups us) (text_names mode us) t → ⊥) → Ends mode us f
+  spelled_ends : (f : ℕ) (t : Token) (w more : List CodePoint) → Spells here t w more → IsPlace mode us f (w ++ more) → (Obeys (text_groups mode us) (text_names mode us) t → ⊥) → Ends mode us f
   spelled_ends f t w more s p not =
       passes f (omega arith) (token_left f t w more s p) (blocked_beyond mode us f (w ++ more) p (blocked_token mode us (w ++ more) t (length w) (spelled_front here t w more s) not))
 
@@ -176,6 +180,7 @@ module _ (mode : Mode) (us : List CodePoint) where
           let same : t ≡ property negative strings name value = same_token t (property negative strings name value) n (m + 1) k in
           let s = front_spelled here rest t n h in
           cause_begins_no_property here us first added f rest d c negative strings name value s.w s.rest s.whole (subst (λ t. Spells here t s.w s.rest) same s.spells)
+          (subst (Obeys (text_groups mode us) (text_names mode us)) same o)
 
   property_ends : (f : ℕ) (rest : List CodePoint) (first added : ℕ) (d : Diagnostic) → IsPlace mode us f rest → IsPropertyCause mode us first added f rest d → Ends mode us f
   property_ends f rest first added d p c = let b = property_first mode us first added f rest d c in blocked_ends f rest 92 (b.0 ∷ b.1) b.2 p (property_blocked first added f rest d c)

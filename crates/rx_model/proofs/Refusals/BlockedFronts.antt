@@ -201,7 +201,7 @@ module _ (mode : Mode) (us : List CodePoint) where
   blocked_reference there rest behind e h = blocked_none mode us rest (front_backslash rest (107 ∷ behind) e ∙ backslash_k there behind ∙ ap named_token (no_angle (is_unicode mode) behind h))
 
   -- a reference to no group
-  pub blocked_index : (rest : List CodePoint) (k n : ℕ) → front here rest ≡ Some (indexed k, n) → text_groups us < k → IsBlocked mode us rest
+  pub blocked_index : (rest : List CodePoint) (k n : ℕ) → front here rest ≡ Some (indexed k, n) → text_groups mode us < k → IsBlocked mode us rest
   blocked_index rest k n e large = blocked_token mode us rest (indexed k) n e (λ o. omega (arith, large, o.1))
 
   pub front_question : (rest : List CodePoint) (behind : List ℕ) → values rest ≡ 40 ∷ 63 ∷ behind → front here rest ≡ opener_token (question_group (is_unicode mode) behind)

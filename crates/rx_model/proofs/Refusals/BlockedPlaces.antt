@@ -18,7 +18,7 @@ use Rattle.rx_model.proofs.FirstPass.OwnGroups.{tells_groups}
 
 -- No token that obeys stands next.
 abbrev pub IsBlocked : Mode → List CodePoint → List CodePoint → Type 0
-IsBlocked mode us rest = (t : Token) (n : ℕ) → front (text_environment mode us) rest ≡ Some (t, n) → Obeys (text_groups us) (text_names mode us) t → ⊥
+IsBlocked mode us rest = (t : Token) (n : ℕ) → front (text_environment mode us) rest ≡ Some (t, n) → Obeys (text_groups mode us) (text_names mode us) t → ⊥
 
 abbrev pub next : Token → ℕ → Option (Token × ℕ)
 next t n = Some (t, n)
@@ -33,14 +33,14 @@ same_token s t n k h = ap (λ x. x.0) (one_of h)
 pub blocked_none : (mode : Mode) (us rest : List CodePoint) → front (text_environment mode us) rest ≡ None → IsBlocked mode us rest
 blocked_none mode us rest e t n f o = let no : ⊥ = cc (e, f) in no
 
-pub blocked_token : (mode : Mode) (us rest : List CodePoint) (t : Token) (n : ℕ) → front (text_environment mode us) rest ≡ Some (t, n) → (Obeys (text_groups us) (text_names mode us) t → ⊥) → IsBlocked mode us rest
-blocked_token mode us rest t n e not s k f o = not (subst (Obeys (text_groups us) (text_names mode us)) (sym (same_token t s n k (sym e ∙ f))) o)
+pub blocked_token : (mode : Mode) (us rest : List CodePoint) (t : Token) (n : ℕ) → front (text_environment mode us) rest ≡ Some (t, n) → (Obeys (text_groups mode us) (text_names mode us) t → ⊥) → IsBlocked mode us rest
+blocked_token mode us rest t n e not s k f o = not (subst (Obeys (text_groups mode us) (text_names mode us)) (sym (same_token t s n k (sym e ∙ f))) o)
 
 -- nor does any row of such tokens go on from there
 pub none_goes_on : (mode : Mode) (us rest back : List CodePoint) → IsBlocked mode us rest → (t : Token) (xs : List Token) → TokenRow (text_environment mode us) (t ∷ xs) rest back → AreObeying mode us (t ∷ xs) → ⊥
 none_goes_on mode us rest back blocked t xs r o =
     blocked t (length r.0) (ap (front (text_environment mode us)) r.2 ∙ spelled_front (text_environment mode us) t r.0 r.1 r.3)
-    (All-head (Obeys (text_groups us) (text_names mode us)) t xs o)
+    (All-head (Obeys (text_groups mode us) (text_names mode us)) t xs o)
 
 -- what holds of all holds of the last
 pub last_all : {A : Type 0} (P : A → Type 0) (xs ys : List A) → All P (xs ++ ys) → All P ys

@@ -110,7 +110,7 @@ module _ (mode : Mode) (us : List CodePoint) (start added : ℕ) where
 
   abbrev index_fault : ℕ → Option (Token × ℕ) → Option Diagnostic
   index_fault f None = None
-  index_fault f (Some t) = Some (InvalidIndexedReference (span f (f + t.1)) (text_groups us))
+  index_fault f (Some t) = Some (InvalidIndexedReference (span f (f + t.1)) (text_groups mode us))
 
   -- behind `\k<`
   abbrev angle_fault : ℕ → Option (Token × ℕ) → List ℕ → Option Diagnostic
@@ -195,7 +195,7 @@ module _ (mode : Mode) (us : List CodePoint) (start added : ℕ) where
   invalid_is f count w b invalid h no_value no_limit s =
       ap (λ r. in_name f count r w) h ∙ ap (λ b. cond b (Some (InvalidUnicodeEscapeSequence (span (f + 4 + count) (f + 5 + count)))) (Some (InvalidUnicodeEscapeSequence (span (f + 3 + count) (f + 4 + count))))) s
 
-  pub index_is : (f n : ℕ) (w more : List CodePoint) → Spells here (indexed n) w more → answer f (w ++ more) ≡ told (Some (InvalidIndexedReference (span f (f + length w)) (text_groups us)))
+  pub index_is : (f n : ℕ) (w more : List CodePoint) → Spells here (indexed n) w more → answer f (w ++ more) ≡ told (Some (InvalidIndexedReference (span f (f + length w)) (text_groups mode us)))
   index_is f n w more s =
       let d = s.number in
       let text : values (w ++ more) ≡ 92 ∷ d.first ∷ (d.more ++ values more) = map-append (λ (u : CodePoint). u.value) w more ∙ ap (λ v. v ++ values more) (s.whole ∙ ap (λ ds. 92 ∷ ds) d.some) in

@@ -90,7 +90,7 @@ module _ (mode : Mode) where
   pub innermost : (us : List CodePoint) (place : ℕ) (o : Opener) (os : List Opener) (ready : Bool) (rest : List CodePoint) → IsReached mode us place (o ∷ os) ready rest → (from : ℕ) × IsInside mode us from o place rest
   innermost us place o os ready rest r =
       let here = text_environment mode us in
-      let owed = Obeys (text_groups us) (text_names mode us) in
+      let owed = Obeys (text_groups mode us) (text_names mode us) in
       let opens = (accepted_whole mode r.tokens (o ∷ os) ready r.accepted).openers in
       let before = opens.0 in
       let inside = opens.1 in

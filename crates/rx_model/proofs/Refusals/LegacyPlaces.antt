@@ -36,7 +36,7 @@ use Rattle.rx_model.specs.Trees.Early.{IsGreatest, Obeys, greatest_count}
 use Rattle.rx_model.specs.Trees.Shapes.{run}
 use Rattle.rx_model.specs.Trees.Token.{Token, Opener, boundary, character, dot, class_escape, property, class, indexed, named, opener, closer, bar, quantifier, capturing, ignoring, looking}
 use Rattle.rx_model.proofs.Characters.Decodings.{both, chosen, overflow_read, read_overflow, value_law}
-use Rattle.rx_model.proofs.Classes.ClassFronts.{class_read}
+use Rattle.rx_model.proofs.Classes.ClassReads.{class_opens}
 use Rattle.rx_model.proofs.Classes.LegacyClasses.{class_or_refusal}
 use Rattle.rx_model.proofs.Groups.GroupNames.{name_row_law, no_name_read}
 use Rattle.rx_model.proofs.Groups.Modifiers.{no_mark}
@@ -147,9 +147,9 @@ module _ (us : List CodePoint) (start added : ℕ) where
 
   -- A token that stands, is accepted and obeys leads to a further place.
   on : {place : ℕ} {open_groups : List Opener} {ready : Bool} {rest : List CodePoint} → IsReached Legacy us place open_groups ready rest → (t : Token) (w more : List CodePoint) (open_after : List Opener) (ready_after : Bool) →
-      rest ≡ w ++ more → Spells here t w more → run Legacy (t ∷ []) open_groups ready ≡ Some (open_after, ready_after) → Obeys (text_groups us) (text_names Legacy us) t → Further place
+      rest ≡ w ++ more → Spells here t w more → run Legacy (t ∷ []) open_groups ready ≡ Some (open_after, ready_after) → Obeys (text_groups Legacy us) (text_names Legacy us) t → Further place
   on {place} {open_groups} {ready} {rest} r t w more open_after ready_after whole s run_is o =
-      let owed = Obeys (text_groups us) (text_names Legacy us) in (
+      let owed = Obeys (text_groups Legacy us) (text_names Legacy us) in (
         place + length w,
         more,
         omega (arith, spelled_some here t w more s),
@@ -188,10 +188,10 @@ module _ (us : List CodePoint) (start added : ℕ) where
       text : values rest ≡ s.prefix ++ (lazy_mark greedy ++ values more)
       text = ap values whole ∙ map-append (λ (u : CodePoint). u.value) w more ∙ ap (λ v. v ++ values more) s.whole ∙ append_assoc s.prefix (lazy_mark greedy) (values more)
 
-      obeyed : (b : Bool) → IsReached Legacy us place open_groups b rest → Obeys (text_groups us) (text_names Legacy us) (quantifier min max greedy) → Further place ⊎ Refused
+      obeyed : (b : Bool) → IsReached Legacy us place open_groups b rest → Obeys (text_groups Legacy us) (text_names Legacy us) (quantifier min max greedy) → Further place ⊎ Refused
       obeyed true at o = inl (on at (quantifier min max greedy) w more open_groups false whole s refl o)
       obeyed false at o =
-          let owed = Obeys (text_groups us) (text_names Legacy us) in
+          let owed = Obeys (text_groups Legacy us) (text_names Legacy us) in
           inr (place, _, cause.lone_in_legacy place min max greedy open_groups w more (subst (IsReached Legacy us place open_groups false) whole at) refl s (All-cons owed (quantifier min max greedy) [] o (All-nil owed)))
 
       bad_by : IsOutOfOrder min max ⊎ IsTooLarge min max → (HasBraces min max (length s.prefix) rest → Refused) → (c : CountsRead) → counts_read_at (values rest) ≡ c → Refused
@@ -249,12 +249,12 @@ module _ (us : List CodePoint) (start added : ℕ) where
   token_there {place} {open_groups} {ready} u rest r units other (class_escape kind) w more whole s = inl (on r (class_escape kind) w more open_groups true whole s refl tt)
   token_there u rest r units other (property negative strings name v) w more whole s = absurd (let no = s.unicode in let f : ⊥ = cc no in f)
   token_there u rest r units other (class c) w more whole s =
-      let k = class_read here c w more s in
-      let first : u ∷ rest ≡ k.bracket ∷ (k.units ++ more) = whole ∙ ap (λ w. w ++ more) k.whole in
-      let same : u ≡ k.bracket = cc first in
-      class_there u rest r (ap (λ u. u.value) same ∙ k.is_bracket) units.1
+      let k = class_opens here c w more s in
+      let first : u ∷ rest ≡ k.0 ∷ k.1 = whole ∙ k.2 in
+      let same : u ≡ k.0 = cc first in
+      class_there u rest r (ap (λ u. u.value) same ∙ k.3) units.1
   token_there {place} {open_groups} {ready} u rest r units other (indexed n) w more whole s =
-      inl (on r (indexed n) w more open_groups true whole s refl (index_is n s.digits s.number s.not_zero, leb-true n (text_groups us) s.refers))
+      inl (on r (indexed n) w more open_groups true whole s refl (index_is n s.digits s.number s.not_zero, leb-true n (text_groups Legacy us) s.refers))
   token_there {place} {open_groups} {ready} u rest r units other (named name) w more whole s = elim (among (text_names Legacy us) name) [
     | inl there ↦ inl (on r (named name) w more open_groups true whole s refl there)
     | inr none ↦ inr (place, _, cause.no_such_name place name w more (subst (IsPlace Legacy us place) whole (its_place r)) s none)

@@ -1,5 +1,5 @@
 -- With `u` or `v` alone a quantifier that has nothing to stand behind is refused as lone, and with `u` alone a range is refused for its ends.
-use Rattle.std.proofs.Common.{◌≡◌, ℕ, false, List}
+use Rattle.std.proofs.Common.{◌≡◌, ℕ, true, false, List}
 use Rattle.std.proofs.lemmas.Bool.{both_ways}
 use Rattle.rx_base.specs.declared.diagnostic.Diagnostic.{Diagnostic}
 use Rattle.rx_base.specs.declared.diagnostic.Diagnostic.TheVariants.{CharacterClassRangeInvalidAtom, LoneQuantifier}
@@ -37,24 +37,39 @@ no_property mode us start added place rest _ (escape_cause.unclosed_pair w name 
 no_property mode us start added place rest _ (escape_cause.unknown_pair w name value behind b p unknown) is = is
 no_property mode us start added place rest _ (escape_cause.unknown_run w run behind b r some more unknown no_strings) is = is
 no_property mode us start added place rest _ (escape_cause.of_strings w run behind u b r more unknown strings) is = is
+no_property mode us start added place rest _ (escape_cause.negative_of_strings w run behind m h r no_category no_binary strings) is = is
 
 -- A range is refused for its ends with `u` alone.
 pub ends_refused : (mode : Mode) (us : List CodePoint) (start added from : ℕ) (at_class : List CodePoint) (f : ℕ) (d : Diagnostic) → IsClassCause mode us start added from at_class f d → IsOfEnds d → mode ≡ Unicode
-ends_refused mode us start added from at_class _ _ (class_cause.unterminated_class place p) is = absurd is
-ends_refused mode us start added from at_class _ _ (class_cause.range_out_of_order place low high w v more hyphen p s less none) is = absurd is
-ends_refused mode us start added from at_class _ _ (class_cause.dash_out_of_order place low w v more hyphen p s less) is = absurd is
+ends_refused mode us start added from at_class _ _ (class_cause.unterminated_class nested begin place rest p union none sets_empty no_sets) is = absurd is
+ends_refused mode us start added from at_class _ _ (class_cause.no_operand place rest p sets empty none some) is = absurd is
+ends_refused mode us start added from at_class _ _ (class_cause.third_ampersand place unit rest p at is_ampersand) is = absurd is
+ends_refused mode us start added from at_class _ _ (class_cause.no_operator operator place rest p held none no_third) is = absurd is
+ends_refused mode us start added from at_class _ _ (class_cause.unterminated_strings opener place rest p none) is = absurd is
+ends_refused mode us start added from at_class _ _ (class_cause.negative_strings true begin place rest p closer whole negative) is = absurd is
+ends_refused mode us start added from at_class _ _ (class_cause.negative_strings false begin place rest p closer whole negative) is = absurd is
+ends_refused mode us start added from at_class _ _ (class_cause.range_out_of_order place low high w v more hyphen k p s less none) is = absurd is
+ends_refused mode us start added from at_class _ _ (class_cause.dash_out_of_order place low w v more hyphen k p s less) is = absurd is
+ends_refused mode us start added from at_class _ _ (class_cause.set_range_out_of_order place low high w v more hyphen k p union s less) is = absurd is
 ends_refused mode us start added from at_class _ _ (class_cause.invalid_range place a b w v more hyphen p m s h t none) is = m
-ends_refused mode us start added from at_class _ _ (class_cause.invalid_atom place backslash rest p h b) is = absurd is
+ends_refused mode us start added from at_class _ _ (class_cause.invalid_atom place backslash rest no_sets p h b) is = absurd is
 ends_refused mode us start added from at_class _ d (class_cause.escape_in_class place rest p c) is = absurd (no_escape mode us start added place rest d c is)
 ends_refused mode us start added from at_class _ d (class_cause.property_in_class place rest p c) is = absurd (no_property mode us start added place rest d c is)
 
 module _ (mode : Mode) (m : is_unicode mode ≡ false) (us : List CodePoint) (start added : ℕ) where
   not_lone_in_class : (from : ℕ) (at_class : List CodePoint) (f : ℕ) (d : Diagnostic) → IsClassCause mode us start added from at_class f d → IsLone d → ⊥
-  not_lone_in_class from at_class _ _ (class_cause.unterminated_class place p) is = is
-  not_lone_in_class from at_class _ _ (class_cause.range_out_of_order place low high w v more hyphen p s less none) is = is
-  not_lone_in_class from at_class _ _ (class_cause.dash_out_of_order place low w v more hyphen p s less) is = is
+  not_lone_in_class from at_class _ _ (class_cause.unterminated_class nested begin place rest p union none sets_empty no_sets) is = is
+  not_lone_in_class from at_class _ _ (class_cause.no_operand place rest p sets empty none some) is = is
+  not_lone_in_class from at_class _ _ (class_cause.third_ampersand place unit rest p at is_ampersand) is = is
+  not_lone_in_class from at_class _ _ (class_cause.no_operator operator place rest p held none no_third) is = is
+  not_lone_in_class from at_class _ _ (class_cause.unterminated_strings opener place rest p none) is = is
+  not_lone_in_class from at_class _ _ (class_cause.negative_strings true begin place rest p closer whole negative) is = is
+  not_lone_in_class from at_class _ _ (class_cause.negative_strings false begin place rest p closer whole negative) is = is
+  not_lone_in_class from at_class _ _ (class_cause.range_out_of_order place low high w v more hyphen k p s less none) is = is
+  not_lone_in_class from at_class _ _ (class_cause.dash_out_of_order place low w v more hyphen k p s less) is = is
+  not_lone_in_class from at_class _ _ (class_cause.set_range_out_of_order place low high w v more hyphen k p union s less) is = is
   not_lone_in_class from at_class _ _ (class_cause.invalid_range place a b w v more hyphen p k s h t none) is = is
-  not_lone_in_class from at_class _ _ (class_cause.invalid_atom place backslash rest p h b) is = is
+  not_lone_in_class from at_class _ _ (class_cause.invalid_atom place backslash rest no_sets p h b) is = is
   not_lone_in_class from at_class _ d (class_cause.escape_in_class place rest p c) is = none_refused mode m us start added place rest place d (of_character c)
   not_lone_in_class from at_class _ d (class_cause.property_in_class place rest p c) is = none_refused mode m us start added place rest place d (of_property c)
 

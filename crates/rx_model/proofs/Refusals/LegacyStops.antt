@@ -2,17 +2,15 @@
 use Rattle.std.proofs.Common.{◌≡◌, ℕ, ◌==◌, Bool, true, false, cond, not, is_some, ◌||◌, ◌&&◌, List, [], ◌∷◌, Option, option_map, Some, None, codes, refl, ap, ◌∙◌, subst, arith, inl, inr}
 use Rattle.std.proofs.lemmas.Bool.{eqb-true, cond-true, cond-false, cases_Bool, not-true, or_parts}
 use Rattle.std.proofs.lemmas.Bool.Decides.{nat_tests}
-use Rattle.rx_tables.specs.Characters.{control_escape_value, control_letter_value, is_decimal_digit, is_octal_digit, is_within}
+use Rattle.rx_tables.specs.Characters.{control_escape_value, control_letter_value, is_decimal_digit, is_octal_digit, is_reserved_punctuator, is_within}
 use Rattle.rx_ast.specs.declared.leaf.BoundaryAssertionKind.{BoundaryAssertionKind}
 use Rattle.rx_ast.specs.declared.leaf.CharacterClassEscapeKind.{CharacterClassEscapeKind}
 use Rattle.rx_ast.specs.declared.leaf.CharacterKind.{CharacterKind}
 use Rattle.rx_ast.specs.declared.leaf.CharacterKind.TheVariants as kinds
-use Rattle.rx_model.specs.declared.mode.Mode.{Mode}
-use Rattle.rx_model.specs.declared.mode.Mode.TheVariants.{Legacy, Unicode, Sets}
 use Rattle.rx_model.specs.Classes.ClassFronts.{AtomRead, atom_read, no_atom, character_atom, escape_atom, escape_in_class}
 use Rattle.rx_model.specs.Classes.ClassTokens.{Atom}
 use Rattle.rx_model.specs.Characters.Decoding.{four_at, behind_u}
-use Rattle.rx_model.specs.Inputs.Environment.{Environment, is_unicode}
+use Rattle.rx_model.specs.Inputs.Environment.{Environment, is_sets, is_unicode}
 use Rattle.rx_model.specs.Characters.Escapes.{front_is}
 use Rattle.rx_model.specs.Characters.EscapeFronts.{EscapeRead, escaped, nothing, too_many, no_unicode, escaped_if, unicode_read, two_at, escape_behind, escape_at, control_behind, octal_at, digit_at, legacy_at, or_legacy, any_escape_at, class_escape_at}
 use Rattle.rx_model.specs.Reading.Fronts.{boundary_at, backslash_token, backslash_front, escaped_token, is_reference, indexed_token, digits, digits_behind, Digits}
@@ -24,6 +22,7 @@ use Rattle.rx_model.specs.Characters.UnicodeEscapes.{hex_number}
 use Rattle.rx_model.proofs.Characters.Backslashes.{no_right}
 use Rattle.rx_model.proofs.Characters.Decodings.{chosen, both}
 use Rattle.rx_model.proofs.Characters.Escapes.{escape_no_limit}
+use Rattle.rx_model.proofs.Classes.ClassFronts.{no_legacy_hyphen, no_legacy_punctuator}
 
 -- some escape is read
 abbrev IsRead : EscapeRead → Type 0
@@ -197,11 +196,6 @@ read_atom : (r : EscapeRead) → IsRead r → IsAtomRead (character_atom r)
 read_atom r h = (_, _, ap character_atom h.3)
 
 module _ (e : Environment) (m : is_unicode e.mode ≡ false) where
-  hyphen_no_escape : (mode : Mode) (c : ℕ) → is_unicode mode ≡ false → (is_hyphen_escaped mode && c == 45) ≡ false
-  hyphen_no_escape Legacy c l = refl
-  hyphen_no_escape Unicode c l = absurd (let no : ⊥ = cc l in no)
-  hyphen_no_escape Sets c l = absurd (let no : ⊥ = cc l in no)
-
   kinds_atom : (c : ℕ) (w : List ℕ) → (c == 107 && e.named) ≡ false → (c == 98) ≡ false → (d : Option CharacterClassEscapeKind) → class_escape_at c ≡ d → IsAtomRead (escape_atom d (any_escape_at true e (c ∷ w)))
   kinds_atom c w k b (Some d) g = (_, _, refl)
   kinds_atom c w k b None g =
@@ -215,7 +209,8 @@ module _ (e : Environment) (m : is_unicode e.mode ≡ false) where
         let t = kinds_atom c w k h (class_escape_at c) refl in (
           t.0,
           t.1,
-          cond-false (c == 98) _ _ h ∙ cond-false (is_hyphen_escaped e.mode && c == 45) _ _ (hyphen_no_escape e.mode c m)
+          cond-false (c == 98) _ _ h ∙ cond-false (is_hyphen_escaped e.mode && c == 45) _ _ (no_legacy_hyphen e.mode c m)
+              ∙ cond-false (is_sets e.mode && is_reserved_punctuator c) _ _ (no_legacy_punctuator e.mode c m)
               ∙ cond-false (begins_property c && is_unicode e.mode) _ _ (ap (λ u. begins_property c && u) m ∙ no_right (begins_property c)) ∙ t.2,
         )
   ]
@@ -229,7 +224,8 @@ module _ (e : Environment) (m : is_unicode e.mode ≡ false) where
       let k : (c == 107 && e.named) ≡ true = yes_test _ (low_next (not (is_unicode e.mode)) _ (ap not m) last) in
       let p = both (c == 107) e.named k in
       ap (λ c. escape_in_class e (c ∷ w)) (eqb-true c 107 p.0)
-      ∙ cond-false (is_hyphen_escaped e.mode && 107 == 45) _ _ (hyphen_no_escape e.mode 107 m)
+      ∙ cond-false (is_hyphen_escaped e.mode && 107 == 45) _ _ (no_legacy_hyphen e.mode 107 m)
+      ∙ cond-false (is_sets e.mode && is_reserved_punctuator 107) _ _ (no_legacy_punctuator e.mode 107 m)
       ∙ ap (λ u. character_atom (or_legacy (escape_at u (107 ∷ w)) u (legacy_at true e (107 ∷ w)))) m
       ∙ ap (λ b. character_atom (cond ((b && true) || false) nothing (escaped kinds.Identifier 107 1))) p.1
     where

@@ -1,5 +1,5 @@
 -- At most one refusal holds of a text: of those at places, since no place beyond one is reached, and what stands at a place tells its refusal.
-use Rattle.std.proofs.Common.{◌≡◌, refl, ap, sym, ◌∙◌, subst, ℕ, ◌+◌, ◌<◌, Bool, true, false, Option, Some, None, List, [], ◌∷◌, ◌++◌, length, arith, inl, inr}
+use Rattle.std.proofs.Common.{◌≡◌, ◌≢◌, refl, ap, sym, ◌∙◌, subst, ℕ, ◌+◌, ◌<◌, ◌≤◌, Bool, true, false, Option, Some, None, List, [], ◌∷◌, ◌++◌, length, arith, inl, inr}
 use Rattle.rx_base.specs.declared.diagnostic.Diagnostic.{Diagnostic}
 use Rattle.rx_base.specs.declared.diagnostic.Diagnostic.TheVariants.{DuplicatedCapturingGroupNames}
 use Rattle.rx_units.specs.declared.code_point.CodePoint.{CodePoint}
@@ -8,17 +8,18 @@ use Rattle.rx_model.specs.declared.mode.Mode.{Mode}
 use Rattle.rx_model.specs.Refusals.Causes as cause
 use Rattle.rx_model.specs.Refusals.Causes.{HasBraces, IsCause, IsCauseAtPlace, name_span}
 use Rattle.rx_model.specs.Refusals.ClassCauses.{IsClassCause}
-use Rattle.rx_model.specs.Inputs.Environment.{Environment, is_unicode}
-use Rattle.rx_model.specs.Refusals.Firsts.{IsFirst, NoneBeyond, of_groups, of_places}
+use Rattle.rx_model.specs.Inputs.Environment.{Environment, is_sets, is_unicode}
+use Rattle.rx_model.specs.Refusals.Firsts.{IsFirst, IsFirstInClass, IsFirstOf, NoneBeyond, no_item, of_groups, of_places, yielding}
 use Rattle.rx_model.specs.Reading.Fronts.{front}
 use Rattle.rx_model.specs.FirstPass.Marks.{IsFirstClash, marks, starts}
-use Rattle.rx_model.specs.Refusals.Reached.{AreObeying, IsPlace, span_between, text_environment}
+use Rattle.rx_model.specs.Refusals.Reached.{AreObeying, HasNoClash, IsPlace, span_between, text_environment, text_groups}
 use Rattle.rx_model.specs.Reading.Rows.{Spells}
+use Rattle.rx_model.specs.Trees.Early.{most_groups}
 use Rattle.rx_model.specs.Trees.Token.{quantifier}
 use Rattle.rx_model.proofs.Refusals.Beyond.{ClassLaws, blocked_beyond, inside_reached, limit_first, pair_no_closer}
 use Rattle.rx_model.proofs.Quantifiers.BlockedCounts.{brace_first}
 use Rattle.rx_model.proofs.Refusals.BlockedPlaces.{next}
-use Rattle.rx_model.proofs.Refusals.OnlyFirst.{only_is_first}
+use Rattle.rx_model.proofs.Refusals.OnlyFirst.{AreCompared, most_is_first, one_first_of, only_is_first}
 use Rattle.rx_model.proofs.Groups.NameFronts.{no_pair_begins}
 use Rattle.rx_model.proofs.Refusals.Faults.{told, by_property, by_quantifier, stopping, answer, escape_is, name_is, unterminated_is, invalid_is, index_is, reference_is, named_is, unknown_is, duplicated_is, empty_is, shared_is, property_is, NoBraces, stop_is, brace_is, bracket_is, misplaced_is, no_stop, overflow_is, quantifier_is, last_is, pair_is}
 use Rattle.rx_model.proofs.Reading.Fronts.{spelled_front}
@@ -184,8 +185,48 @@ module _ (mode : Mode) (us : List CodePoint) (start added : ℕ) (laws : ClassLa
       let b = at_class_bracket from g at_class e c in
       no_row_at_bracket f rest b.0 d (ap values (rests f from rest at_class same p q) ∙ b.1) x
 
-  pub one_cause_at_places : (f g : ℕ) (d e : Diagnostic) → IsCauseAtPlace mode us start added f d → IsCauseAtPlace mode us start added g e → (f ≡ g) × (d ≡ e)
-  one_cause_at_places f g d e c k = by (located f d c) (located g e k)
+  -- Two classes that are refused are one.
+  in_one_class : (from other f g : ℕ) (at_class also : List CodePoint) (d e : Diagnostic) → IsPlace mode us from at_class → IsClassCause mode us start added from at_class f d → IsPlace mode us other also →
+      IsClassCause mode us start added other also g e → IsClassCause mode us start added other also f d
+  in_one_class from other f g at_class also d e p x q y =
+      let same = same_if from other at_class also (blocked_beyond mode us from at_class p (laws.blocked x)) (blocked_beyond mode us other also q (laws.blocked y)) p q in
+      subst (λ from. IsClassCause mode us start added from also f d) same (subst (λ at_class. IsClassCause mode us start added from at_class f d) (rests from other at_class also same p q) x)
+
+  -- Of two refusals that hold at places one gives way to the other, or they are one.
+  pub two_at_places : (f g : ℕ) (d e : Diagnostic) → IsCauseAtPlace mode us start added f d → IsCauseAtPlace mode us start added g e → AreCompared f d g e
+  two_at_places f g d e c k = by (located f d c) (located g e k)
+    where
+      by : Located f d → Located g e → AreCompared f d g e
+      by (at_place rest p x) (at_place back q y) =
+          let same = same_if f g rest back (none_beyond mode us start added laws f d c) (none_beyond mode us start added laws g e k) p q in
+          inl (same, one_row g back d e (subst (λ f. Row f back d) same (subst (λ rest. Row f rest d) (rests f g rest back same p q) x)) y)
+      by (at_place rest p x) (in_class from at_class q y) = absurd (row_against_class f from g rest at_class d e (none_beyond mode us start added laws f d c) p x q y)
+      by (in_class from at_class p x) (at_place back q y) = absurd (row_against_class g from f back at_class e d (none_beyond mode us start added laws g e k) q y p x)
+      by (in_class from at_class p x) (in_class other also q y) = laws.two (in_one_class from other f g at_class also d e p x q y) y
+
+  -- A refusal that says more than that nothing stands there is the first.
+  pub said_is_first : (place : ℕ) (d : Diagnostic) → IsCauseAtPlace mode us start added place d → yielding d ≢ no_item → IsFirstOf (IsCauseAtPlace mode us start added) d
+  said_is_first place d c says = most_is_first (IsCauseAtPlace mode us start added) place d c (λ further e k. two_at_places place further d e c k) says
+
+  -- So is the first of a class that begins at a place that is reached.
+  pub class_is_first : (from : ℕ) (at_class : List CodePoint) (d : Diagnostic) → IsPlace mode us from at_class → IsFirstInClass mode us start added from at_class d → IsFirstOf (IsCauseAtPlace mode us start added) d
+  class_is_first from at_class d p x = record {
+    place = x.place;
+    holds = cause.of_class from x.place at_class p x.holds;
+    none_later = λ further e k less. x.none_later further e (in_this further e k) less;
+    none_over = λ e k. x.none_over e (in_this x.place e k);
+  }
+    where
+      in_this : (further : ℕ) (e : Diagnostic) → IsCauseAtPlace mode us start added further e → IsClassCause mode us start added from at_class further e
+      in_this further e k = by (located further e k)
+        where
+          by : Located further e → IsClassCause mode us start added from at_class further e
+          by (at_place back q y) = absurd (row_against_class further from x.place back at_class e d (none_beyond mode us start added laws further e k) q y p x.holds)
+          by (in_class other also q y) = in_one_class other from further x.place also at_class e d q y p x.holds
+
+  -- Without `v` they are one.
+  pub one_cause_at_places : is_sets mode ≡ false → (f g : ℕ) (d e : Diagnostic) → IsCauseAtPlace mode us start added f d → IsCauseAtPlace mode us start added g e → (f ≡ g) × (d ≡ e)
+  one_cause_at_places no_sets f g d e c k = by (located f d c) (located g e k)
     where
       by : Located f d → Located g e → (f ≡ g) × (d ≡ e)
       by (at_place rest p x) (at_place back q y) =
@@ -193,45 +234,51 @@ module _ (mode : Mode) (us : List CodePoint) (start added : ℕ) (laws : ClassLa
           (same, one_row g back d e (subst (λ f. Row f back d) same (subst (λ rest. Row f rest d) (rests f g rest back same p q) x)) y)
       by (at_place rest p x) (in_class from at_class q y) = absurd (row_against_class f from g rest at_class d e (none_beyond mode us start added laws f d c) p x q y)
       by (in_class from at_class p x) (at_place back q y) = absurd (row_against_class g from f back at_class e d (none_beyond mode us start added laws g e k) q y p x)
-      by (in_class from at_class p x) (in_class other also q y) =
-          let same = same_if from other at_class also (blocked_beyond mode us from at_class p (laws.blocked x)) (blocked_beyond mode us other also q (laws.blocked y)) p q in
-          laws.one
-          (subst (λ from. IsClassCause mode us start added from also f d) same (subst (λ at_class. IsClassCause mode us start added from at_class f d) (rests from other at_class also same p q) x)) y
+      by (in_class from at_class p x) (in_class other also q y) = laws.one no_sets (in_one_class from other f g at_class also d e p x q y) y
 
-  pub one_cause : (d e : Diagnostic) → IsCause mode us start added d → IsCause mode us start added e → d ≡ e
-  one_cause _ _ (cause.duplicated_names a b c) (cause.duplicated_names x y k) =
+  one_clash : (a b x y : ℕ) → IsFirstClash mode (marks mode (values us)) a b → IsFirstClash mode (marks mode (values us)) x y →
+      DuplicatedCapturingGroupNames (name_span mode us start added a) (name_span mode us start added b) ≡ DuplicatedCapturingGroupNames (name_span mode us start added x) (name_span mode us start added y)
+  one_clash a b x y c k =
       let l = c.second_least x y k.clash in
       let m = k.second_least a b c.clash in
       let seconds : b ≡ y = omega (arith, l, m) in
       let firsts : a ≡ x = first_is a b x y seconds c k in
-      ap (λ a. DuplicatedCapturingGroupNames (name_span us start added a) (name_span us start added b)) firsts
-      ∙ ap (λ b. DuplicatedCapturingGroupNames (name_span us start added x) (name_span us start added b)) seconds
+      ap (λ a. DuplicatedCapturingGroupNames (name_span mode us start added a) (name_span mode us start added b)) firsts
+      ∙ ap (λ b. DuplicatedCapturingGroupNames (name_span mode us start added x) (name_span mode us start added b)) seconds
     where
-      first_is : (a b x y : ℕ) → b ≡ y → IsFirstClash (is_unicode mode) (marks (values us)) a b → IsFirstClash (is_unicode mode) (marks (values us)) x y → a ≡ x
+      first_is : (a b x y : ℕ) → b ≡ y → IsFirstClash mode (marks mode (values us)) a b → IsFirstClash mode (marks mode (values us)) x y → a ≡ x
       first_is a b x y e c k =
-          let also = subst (λ y. IsFirstClash (is_unicode mode) (marks (values us)) x y) (sym e) k in
+          let also = subst (λ y. IsFirstClash mode (marks mode (values us)) x y) (sym e) k in
           let l = c.first_least x also.clash in
           let m = also.first_least a c.clash in
           omega (arith, l, m)
-  one_cause _ _ (cause.duplicated_names a b c) (cause.too_many_groups none many) = absurd (none a b c.clash)
-  one_cause _ e (cause.duplicated_names a b c) (cause.at_place place none few k) = absurd (none a b c.clash)
-  one_cause _ _ (cause.too_many_groups none many) (cause.duplicated_names a b c) = absurd (none a b c.clash)
-  one_cause _ _ (cause.too_many_groups none many) (cause.too_many_groups also too) = refl
-  one_cause _ e (cause.too_many_groups none many) (cause.at_place place also few k) = absurd (omega (arith, many, few))
-  one_cause d _ (cause.at_place place none few c) (cause.duplicated_names a b k) = absurd (none a b k.clash)
-  one_cause d _ (cause.at_place place none few c) (cause.too_many_groups also many) = absurd (omega (arith, many, few))
-  one_cause d e (cause.at_place place none few c) (cause.at_place further also too k) = (one_cause_at_places place further d e c k).1
 
-  first_cause : (d : Diagnostic) → IsFirst mode us start added d → IsCause mode us start added d
-  first_cause d (of_groups c other) = c
-  first_cause d (of_places none few f) = cause.at_place f.place none few f.holds
+  -- Of two refusals of the text, they are one where those at places are.
+  one_by : (d e : Diagnostic) → (HasNoClash mode us → text_groups mode us ≤ most_groups → (f g : ℕ) → IsCauseAtPlace mode us start added f d → IsCauseAtPlace mode us start added g e → d ≡ e) → IsCause mode us start added d → IsCause mode us start added e → d ≡ e
+  one_by _ _ places (cause.duplicated_names a b c) (cause.duplicated_names x y k) = one_clash a b x y c k
+  one_by _ _ places (cause.duplicated_names a b c) (cause.too_many_groups none many) = absurd (none a b c.clash)
+  one_by _ e places (cause.duplicated_names a b c) (cause.at_place place none few k) = absurd (none a b c.clash)
+  one_by _ _ places (cause.too_many_groups none many) (cause.duplicated_names a b c) = absurd (none a b c.clash)
+  one_by _ _ places (cause.too_many_groups none many) (cause.too_many_groups also too) = refl
+  one_by _ e places (cause.too_many_groups none many) (cause.at_place place also few k) = absurd (omega (arith, many, few))
+  one_by d _ places (cause.at_place place none few c) (cause.duplicated_names a b k) = absurd (none a b k.clash)
+  one_by d _ places (cause.at_place place none few c) (cause.too_many_groups also many) = absurd (omega (arith, many, few))
+  one_by d e places (cause.at_place place none few c) (cause.at_place further also too k) = places none few place further c k
 
+  -- Without `v` at most one refusal holds.
+  pub one_cause : is_sets mode ≡ false → (d e : Diagnostic) → IsCause mode us start added d → IsCause mode us start added e → d ≡ e
+  one_cause no_sets d e c k = one_by d e (λ none few f g c k. (one_cause_at_places no_sets f g d e c k).1) c k
+
+  -- At most one is the first.
   pub one_first : (d e : Diagnostic) → IsFirst mode us start added d → IsFirst mode us start added e → d ≡ e
-  one_first d e f g = one_cause d e (first_cause d f) (first_cause e g)
+  one_first d e (of_groups c other) (of_groups k other') = one_by d e (λ none few f g c k. absurd (other none few)) c k
+  one_first d e (of_groups c other) (of_places none few k) = absurd (other none few)
+  one_first d e (of_places none few c) (of_groups k other) = absurd (other none few)
+  one_first d e (of_places none few c) (of_places none' few' k) = one_first_of (IsCauseAtPlace mode us start added) d e c k (λ f g d e c k. two_at_places f g d e c k)
 
-  -- A refusal is the first, since it is the only one.
-  pub cause_is_first : (d : Diagnostic) → IsCause mode us start added d → IsFirst mode us start added d
-  cause_is_first _ (cause.duplicated_names a b c) = of_groups (cause.duplicated_names a b c) (λ none few. none a b c.clash)
-  cause_is_first _ (cause.too_many_groups none many) = of_groups (cause.too_many_groups none many) (λ also few. omega (arith, many, few))
-  cause_is_first d (cause.at_place place none few c) =
-      of_places none few (only_is_first (IsCauseAtPlace mode us start added) place d c (λ further e k. one_cause_at_places place further d e c k))
+  -- So a refusal is the first without `v`, since it is the only one.
+  pub cause_is_first : is_sets mode ≡ false → (d : Diagnostic) → IsCause mode us start added d → IsFirst mode us start added d
+  cause_is_first no_sets _ (cause.duplicated_names a b c) = of_groups (cause.duplicated_names a b c) (λ none few. none a b c.clash)
+  cause_is_first no_sets _ (cause.too_many_groups none many) = of_groups (cause.too_many_groups none many) (λ also few. omega (arith, many, few))
+  cause_is_first no_sets d (cause.at_place place none few c) =
+      of_places none few (only_is_first (IsCauseAtPlace mode us start added) place d c (λ further e k. one_cause_at_places no_sets place further d e c k))

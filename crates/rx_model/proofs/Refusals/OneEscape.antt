@@ -1,10 +1,11 @@
 -- At most one refusal holds of an escape that is to stand at a place.
-use Rattle.std.proofs.Common.{◌≡◌, refl, sym, ◌∙◌, ℕ, Some, List}
+use Rattle.std.proofs.Common.{◌≡◌, ◌≢◌, refl, sym, ◌∙◌, ℕ, Some, List}
 use Rattle.rx_base.specs.declared.diagnostic.Diagnostic.{Diagnostic}
 use Rattle.rx_units.specs.declared.code_point.CodePoint.{CodePoint}
 use Rattle.rx_model.specs.declared.mode.Mode.{Mode}
+use Rattle.rx_model.specs.Refusals.EscapeCauses as escape
 use Rattle.rx_model.specs.Refusals.EscapeCauses.{IsEscapeCause, IsPropertyCause}
-use Rattle.rx_model.specs.Refusals.Firsts.{IsCauseOfEscape, IsFirstOfEscape, of_character, of_property}
+use Rattle.rx_model.specs.Refusals.Firsts.{IsCauseOfEscape, IsFirstOfEscape, no_item, of_character, of_property, yielding}
 use Rattle.rx_model.proofs.Refusals.Faults.{by_property, told, escape_is, property_is}
 use Rattle.rx_model.proofs.Properties.OneProperty.{one_property}
 use Rattle.rx_model.proofs.Refusals.OnlyFirst.{only_is_first}
@@ -25,6 +26,21 @@ module _ (mode : Mode) (us : List CodePoint) (start added place : ℕ) (rest : L
   one_of_escape _ _ d e (of_character c) (of_property k) = absurd (not_both d e c k)
   one_of_escape _ _ d e (of_property c) (of_character k) = absurd (not_both e d k c)
   one_of_escape _ _ d e (of_property c) (of_property k) = (refl, one_property mode us start added place rest d e c k)
+
+  -- It says more than that nothing stands there.
+  pub character_says : (d : Diagnostic) → IsEscapeCause mode us start added place rest d → yielding d ≢ no_item
+  character_says _ (escape.too_many_hex_digits count behind u h p) k = cc k
+  character_says _ (escape.invalid_escape behind u h no_value no_limit) k = cc k
+
+  pub property_says : (d : Diagnostic) → IsPropertyCause mode us start added place rest d → yielding d ≢ no_item
+  property_says _ (escape.no_property c behind unicode whole is other) k = cc k
+  property_says _ (escape.unterminated_run w run behind b has short) k = cc k
+  property_says _ (escape.unclosed_run w run behind b has known goes other) k = cc k
+  property_says _ (escape.unclosed_pair w name value behind b has valid other) k = cc k
+  property_says _ (escape.unknown_pair w name value behind b has unknown) k = cc k
+  property_says _ (escape.unknown_run w run behind b has some goes unknown no_strings) k = cc k
+  property_says _ (escape.of_strings w run behind u b has goes unknown known) k = cc k
+  property_says _ (escape.negative_of_strings w run behind sets whole has no_category no_binary known) k = cc k
 
   -- So a refusal of an escape is the first of it.
   pub escape_is_first : (f : ℕ) (d : Diagnostic) → IsCauseOfEscape mode us start added place rest f d → IsFirstOfEscape mode us start added place rest d

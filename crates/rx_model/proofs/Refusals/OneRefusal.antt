@@ -1,8 +1,7 @@
--- At most one refusal is the first of an input whose flags are wrong, or ask for a mode other than that of `v`.
+-- At most one refusal is the first of an input.
 use Rattle.std.proofs.Common.{◌≡◌, ap, sym, ◌∙◌, true, false}
 use Rattle.rx_base.specs.declared.diagnostic.Diagnostic.{Diagnostic}
 use Rattle.rx_model.specs.Refusals.FlagCauses.{IsFlagCause}
-use Rattle.rx_model.specs.Inputs.Environment.{is_sets}
 use Rattle.rx_model.specs.Inputs.Flags.{flag_units, flags_of, flags_ok}
 use Rattle.rx_model.specs.Reading.Headline.{IsFirstRefusal, of_flags, of_text}
 use Rattle.rx_model.specs.Inputs.Inputs.{Input, mode_asked, units_asked}
@@ -16,9 +15,9 @@ not_both input d c ok =
     let no : false ≡ true = sym (cause_refuses (flag_units (flags_of input.flags)) 0 input.flags_offset d c) ∙ ap flags_ok (values_literal 0 (flags_of input.flags)) ∙ ok in
     cc no
 
-pub one_refusal : (input : Input) (d e : Diagnostic) → (flags_ok (flags_of input.flags) ≡ true → is_sets (mode_asked input) ≡ false) → IsFirstRefusal input d → IsFirstRefusal input e → d ≡ e
-one_refusal input d e no_sets (of_flags c) (of_flags k) = one_cause (flag_units (flags_of input.flags)) 0 input.flags_offset d e c k
-one_refusal input d e no_sets (of_flags c) (of_text ok f) = absurd (not_both input d c ok)
-one_refusal input d e no_sets (of_text ok f) (of_flags k) = absurd (not_both input e k ok)
-one_refusal input d e no_sets (of_text ok f) (of_text also g) =
-    one_first (mode_asked input) (units_asked input) 0 input.text_offset (class_laws (mode_asked input) (no_sets ok) (units_asked input) 0 input.text_offset) d e f g
+pub one_refusal : (input : Input) (d e : Diagnostic) → IsFirstRefusal input d → IsFirstRefusal input e → d ≡ e
+one_refusal input d e (of_flags c) (of_flags k) = one_cause (flag_units (flags_of input.flags)) 0 input.flags_offset d e c k
+one_refusal input d e (of_flags c) (of_text ok f) = absurd (not_both input d c ok)
+one_refusal input d e (of_text ok f) (of_flags k) = absurd (not_both input e k ok)
+one_refusal input d e (of_text ok f) (of_text also g) =
+    one_first (mode_asked input) (units_asked input) 0 input.text_offset (class_laws (mode_asked input) (units_asked input) 0 input.text_offset) d e f g

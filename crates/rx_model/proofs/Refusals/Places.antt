@@ -55,7 +55,7 @@ module _ (mode : Mode) (us : List CodePoint) where
         more = more;
         row = r;
         accepted = sym (run-append mode a.tokens (t ∷ more) [] false open_groups ready a.accepted) ∙ ap (λ ts. run mode ts [] false) (sym e) ∙ b.accepted;
-        obey = last_all (Obeys (text_groups us) (text_names mode us)) a.tokens (t ∷ more) (subst (AreObeying mode us) e b.obey);
+        obey = last_all (Obeys (text_groups mode us) (text_names mode us)) a.tokens (t ∷ more) (subst (AreObeying mode us) e b.obey);
       }
 
   -- What holds at one place.

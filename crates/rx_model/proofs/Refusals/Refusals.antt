@@ -1,5 +1,5 @@
 -- No tree reads a text that is refused, and no place is reached beyond the one at which a refusal holds.
-use Rattle.std.proofs.Common.{◌≡◌, ap, ◌∙◌, ◌∷◌, false, ℕ, List, arith}
+use Rattle.std.proofs.Common.{ap, ◌∙◌, ◌∷◌, ℕ, List, arith}
 use Rattle.rx_base.specs.declared.diagnostic.Diagnostic.{Diagnostic}
 use Rattle.rx_ast.specs.declared.term.Pattern.{Pattern}
 use Rattle.rx_units.specs.declared.code_point.CodePoint.{CodePoint}
@@ -8,14 +8,14 @@ use Rattle.rx_model.specs.declared.mode.Mode.{Mode}
 use Rattle.rx_model.specs.Refusals.Causes as cause
 use Rattle.rx_model.specs.Refusals.Causes.{IsCause, IsCauseAtPlace}
 use Rattle.rx_model.specs.Refusals.ClassCauses.{IsClassCause}
-use Rattle.rx_model.specs.Inputs.Environment.{is_sets}
 use Rattle.rx_model.specs.Refusals.Firsts.{NoneBeyond, NoneBeyondInClass}
 use Rattle.rx_model.specs.Refusals.Reached.{IsPlace, text_environment}
 use Rattle.rx_model.specs.Reading.Reading.{Reads}
 use Rattle.rx_model.proofs.FirstPass.Apart.{tells_apart}
 use Rattle.rx_model.proofs.Refusals.Beyond.{ClassLaws, cause_ends, blocked_beyond, ends_beyond, ends_refuse}
-use Rattle.rx_model.proofs.Classes.ClassStops.{at_bracket_is, behind_bracket, class_blocked, item_beyond, stopped}
-use Rattle.rx_model.proofs.Classes.OneInClass.{one_in_class}
+use Rattle.rx_model.proofs.Classes.ClassBeyond.{at_bracket_is, behind_bracket, class_blocked, item_beyond}
+use Rattle.rx_model.proofs.Classes.ClassFaults.{stuck}
+use Rattle.rx_model.proofs.Classes.OneInClass.{one_in_class, two_in_class}
 use Rattle.rx_model.proofs.FirstPass.OwnGroups.{tells_groups}
 
 pub refused : (mode : Mode) (us : List CodePoint) (start added : ℕ) → ClassLaws mode us start added → (d : Diagnostic) → IsCause mode us start added d → (p : Pattern) → Reads mode p us → ⊥
@@ -26,19 +26,20 @@ refused mode us start added laws d (cause.at_place place none few c) p r = ends_
 pub none_beyond : (mode : Mode) (us : List CodePoint) (start added : ℕ) → ClassLaws mode us start added → (place : ℕ) (d : Diagnostic) → IsCauseAtPlace mode us start added place d → NoneBeyond mode us place
 none_beyond mode us start added laws place d c = ends_beyond mode us place (cause_ends mode us start added laws place d c)
 
-pub none_beyond_in_class : (mode : Mode) → is_sets mode ≡ false → (us : List CodePoint) (start added from : ℕ) (at_class : List CodePoint) (place : ℕ) (d : Diagnostic) → IsClassCause mode us start added from at_class place d →
+pub none_beyond_in_class : (mode : Mode) (us : List CodePoint) (start added from : ℕ) (at_class : List CodePoint) (place : ℕ) (d : Diagnostic) → IsClassCause mode us start added from at_class place d →
     NoneBeyondInClass (text_environment mode us) from at_class place × (IsPlace mode us from at_class → NoneBeyond mode us from)
-none_beyond_in_class mode no_sets us start added from at_class place d c =
-    let s = stopped mode no_sets us from at_class start added place d c in
-    (item_beyond mode no_sets us from at_class place s, λ p. blocked_beyond mode us from at_class p (class_blocked mode no_sets us from at_class place s))
+none_beyond_in_class mode us start added from at_class place d c =
+    let s = stuck mode us start added from at_class place d c in
+    (item_beyond mode us start added from at_class place d s, λ p. blocked_beyond mode us from at_class p (class_blocked mode us start added from at_class place d s))
 
--- the classes of every mode but that of `v`
-pub class_laws : (mode : Mode) → is_sets mode ≡ false → (us : List CodePoint) (start added : ℕ) → ClassLaws mode us start added
-class_laws mode no_sets us start added = record {
-  behind_bracket = λ {from} {f} {at_class} {d} c. behind_bracket mode no_sets us from at_class f (stopped mode no_sets us from at_class start added f d c);
+-- the classes of every mode
+pub class_laws : (mode : Mode) (us : List CodePoint) (start added : ℕ) → ClassLaws mode us start added
+class_laws mode us start added = record {
+  behind_bracket = λ {from} {f} {at_class} {d} c. behind_bracket mode us start added from at_class f d (stuck mode us start added from at_class f d c);
   at_bracket = λ {from} {f} {at_class} {d} c.
-      let b = at_bracket_is mode no_sets us from at_class f (stopped mode no_sets us from at_class start added f d c) in
+      let b = at_bracket_is mode us start added from at_class f d (stuck mode us start added from at_class f d c) in
       (values b.1, ap values b.2 ∙ ap (λ x. x ∷ values b.1) b.3);
-  blocked = λ {from} {f} {at_class} {d} c. class_blocked mode no_sets us from at_class f (stopped mode no_sets us from at_class start added f d c);
-  one = λ {from} {f} {g} {at_class} {d} {e} c k. one_in_class mode no_sets us start added from at_class f g d e c k;
+  blocked = λ {from} {f} {at_class} {d} c. class_blocked mode us start added from at_class f d (stuck mode us start added from at_class f d c);
+  two = λ {from} {f} {g} {at_class} {d} {e} c k. two_in_class mode us start added from at_class f g d e c k;
+  one = λ {from} {f} {g} {at_class} {d} {e} no_sets c k. one_in_class mode us start added from at_class no_sets f g d e c k;
 }

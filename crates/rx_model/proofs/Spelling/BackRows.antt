@@ -20,7 +20,7 @@ use Rattle.rx_model.specs.Reading.Boundaries.{boundary_text}
 use Rattle.rx_model.specs.Spelling.CharacterText.{two_digits, four_digits, braced, surrogate_text, greatest_raw, outside, character_text}
 use Rattle.rx_model.specs.Spelling.ClassText.{class_escape_text, property_text, class_text}
 use Rattle.rx_model.specs.Trees.Early.{Obeys, IsEarlyOpener, greatest_count, most_groups, IsGreatest}
-use Rattle.rx_model.specs.Inputs.Environment.{Environment, is_sets, is_unicode}
+use Rattle.rx_model.specs.Inputs.Environment.{Environment, is_unicode}
 use Rattle.rx_model.specs.Characters.Escapes.{front_is}
 use Rattle.rx_model.specs.Groups.GroupNames.{SpellsName}
 use Rattle.rx_model.specs.Groups.Groups.{IsNaming, IsNamed, SpellsOpener}
@@ -33,7 +33,8 @@ use Rattle.rx_model.specs.Trees.Token.{Token, Opener, boundary, character, dot, 
 use Rattle.rx_model.proofs.Spelling.Backs.{spelled_kind, values_literal, units-append, character_spelled, are_digits}
 use Rattle.rx_model.proofs.Spelling.Bounds.{FitsIn}
 use Rattle.rx_model.proofs.Spelling.ClassAgain.{again_class}
-use Rattle.rx_model.proofs.Spelling.ClassBacks.{BeginsOutside, class_escape_outside, property_outside, class_outside, property_spelled, class_spelled_again}
+use Rattle.rx_model.proofs.Spelling.ClassBacks.{property_spelled, class_spelled_again}
+use Rattle.rx_model.proofs.Spelling.ClassTexts.{BeginsOutside, class_escape_outside, property_outside, class_outside}
 use Rattle.rx_model.proofs.Spelling.ClassKnown.{IsKnownClass}
 use Rattle.rx_model.proofs.Characters.Decodings.{both}
 use Rattle.rx_model.proofs.Spelling.Known.{NameFits, IsKnownOpener, Known, AreKnown}
@@ -196,7 +197,7 @@ high_question c h = grind (arith, nat_tests, h)
 high_digit : (c : ℕ) → 0xD800 ≤ c → is_decimal_digit c ≡ false
 high_digit c h = grind (arith, nat_tests, h)
 
-module _ (e : Environment) (mode : Mode) (m : e.mode ≡ mode) (no_sets : is_sets mode ≡ false) (count : ℕ) (groups_are : e.groups ≡ count) (in_limit : count ≤ most_groups) (names : List (List ℕ)) where
+module _ (e : Environment) (mode : Mode) (m : e.mode ≡ mode) (count : ℕ) (groups_are : e.groups ≡ count) (in_limit : count ≤ most_groups) (names : List (List ℕ)) where
   -- no question mark comes where no quantifier may follow
   no_question : (ts : List Token) (open_groups : List Opener) (end : List Opener × Bool) → run mode ts open_groups false ≡ Some end → AreKnown e ts →
       front_is is_question (tokens_text mode false ts) ≡ false
@@ -265,44 +266,50 @@ module _ (e : Environment) (mode : Mode) (m : e.mode ≡ mode) (no_sets : is_set
   }
 
   -- the units of a name's text, before `>`
-  naming_again : (md : Mode) → e.mode ≡ md → is_sets md ≡ false → (name : List ℕ) → IsName name → NameFits md name → (at : ℕ) (rest : List CodePoint) →
-      IsNaming e name (literal_units (is_unicode md) at (opened_text (capturing (Some name)))) rest
-  naming_again Unicode l p name k fits at rest = record {
+  naming_in_unicode : (name : List ℕ) → IsName name → (at : ℕ) (rest : List CodePoint) → IsNaming e name (literal_units true at (opened_text (capturing (Some name)))) rest
+  naming_in_unicode name k at rest = record {
     spelled = name;
     whole = values_literal at (opened_text (capturing (Some name)));
     spells = name_spelled (is_unicode e.mode) name _ k;
   }
-  naming_again Legacy l p name k fits at rest = record {
+
+  naming_again : (md : Mode) → e.mode ≡ md → (name : List ℕ) → IsName name → NameFits md name → (at : ℕ) (rest : List CodePoint) →
+      IsNaming e name (literal_units (is_unicode md) at (opened_text (capturing (Some name)))) rest
+  naming_again Unicode l name k fits at rest = naming_in_unicode name k at rest
+  naming_again Sets l name k fits at rest = naming_in_unicode name k at rest
+  naming_again Legacy l name k fits at rest = record {
     spelled = wide name;
     whole = values_wide at (opened_text (capturing (Some name))) ∙ ap (λ v. 40 ∷ 63 ∷ 60 ∷ v) (wide_closed name);
     spells = subst (λ mode. SpellsName (is_unicode mode) name (wide name) (62 ∷ values rest)) (sym l) (wide_name_spelled name (62 ∷ values rest) k (fits refl));
   }
-  naming_again Sets l p name k fits at rest = absurd (let no : ⊥ = cc p in no)
 
-  reference_again : (md : Mode) → e.mode ≡ md → is_sets md ≡ false → (name : List ℕ) → IsName name → NameFits md name → e.named ≡ true → (at : ℕ) (rest : List CodePoint) →
-      IsNamed e name (literal_units (is_unicode md) at (named_text name)) rest
-  reference_again Unicode l p name k fits there at rest = record {
+  reference_in_unicode : (name : List ℕ) → IsName name → e.named ≡ true → (at : ℕ) (rest : List CodePoint) → IsNamed e name (literal_units true at (named_text name)) rest
+  reference_in_unicode name k there at rest = record {
     spelled = name;
     whole = values_literal at (named_text name);
     spells = name_spelled (is_unicode e.mode) name _ k;
     there = there;
   }
-  reference_again Legacy l p name k fits there at rest = record {
+
+  reference_again : (md : Mode) → e.mode ≡ md → (name : List ℕ) → IsName name → NameFits md name → e.named ≡ true → (at : ℕ) (rest : List CodePoint) →
+      IsNamed e name (literal_units (is_unicode md) at (named_text name)) rest
+  reference_again Unicode l name k fits there at rest = reference_in_unicode name k there at rest
+  reference_again Sets l name k fits there at rest = reference_in_unicode name k there at rest
+  reference_again Legacy l name k fits there at rest = record {
     spelled = wide name;
     whole = values_wide at (named_text name) ∙ ap (λ v. 92 ∷ 107 ∷ 60 ∷ v) (wide_closed name);
     spells = subst (λ mode. SpellsName (is_unicode mode) name (wide name) (62 ∷ values rest)) (sym l) (wide_name_spelled name (62 ∷ values rest) k (fits refl));
     there = there;
   }
-  reference_again Sets l p name k fits there at rest = absurd (let no : ⊥ = cc p in no)
 
   -- what has no name has the same units in every mode
-  same_units : (md : Mode) → is_sets md ≡ false → (at : ℕ) (text : List ℕ) → (md ≡ Legacy → IsNarrow text) → literal_units true at text ≡ literal_units (is_unicode md) at text
-  same_units Legacy p at text n = sym (narrow_units at text (n refl))
-  same_units Unicode p at text n = refl
-  same_units Sets p at text n = absurd (let no : ⊥ = cc p in no)
+  same_units : (md : Mode) (at : ℕ) (text : List ℕ) → (md ≡ Legacy → IsNarrow text) → literal_units true at text ≡ literal_units (is_unicode md) at text
+  same_units Legacy at text n = sym (narrow_units at text (n refl))
+  same_units Unicode at text n = refl
+  same_units Sets at text n = refl
 
   as_units : (t : Token) (at : ℕ) (text : List ℕ) (rest : List CodePoint) → (mode ≡ Legacy → IsNarrow text) → Spells e t (literal_units true at text) rest → Spells e t (literal_units (is_unicode mode) at text) rest
-  as_units t at text rest n s = subst (λ us. Spells e t us rest) (same_units mode no_sets at text n) s
+  as_units t at text rest n s = subst (λ us. Spells e t us rest) (same_units mode at text n) s
 
   character_in : (md : Mode) (after_reference : Bool) (c : ℕ) → FitsIn md c → md ≡ Legacy → IsNarrow (character_text md (outside after_reference) c)
   character_in Legacy after_reference c f l = character_narrow after_reference c (f refl)
@@ -321,7 +328,7 @@ module _ (e : Environment) (mode : Mode) (m : e.mode ≡ mode) (no_sets : is_set
   opener_again : (o : Opener) → IsKnownOpener mode o → IsEarlyOpener o → (at : ℕ) (rest : List CodePoint) → FollowsOpener o (values rest) →
       SpellsOpener e o (literal_units (is_unicode mode) at (opened_text o)) rest
   opener_again (capturing None) k h at rest f = as_units (opener (capturing None)) at (opened_text (capturing None)) rest (λ _. refl) (refl, f)
-  opener_again (capturing (Some name)) k h at rest f = naming_again mode m no_sets name k.0 k.1 at rest
+  opener_again (capturing (Some name)) k h at rest f = naming_again mode m name k.0 k.1 at rest
   opener_again (ignoring None) k h at rest f = as_units (opener (ignoring None)) at (opened_text (ignoring None)) rest (λ _. refl) refl
   opener_again (ignoring (Some bits)) k h at rest f = as_units (opener (ignoring (Some bits))) at (opened_text (ignoring (Some bits))) rest (λ _. modifiers_are_narrow bits) (record {
     text = letters bits.0 ++ (dash bits.1 ++ letters bits.1);
@@ -337,14 +344,14 @@ module _ (e : Environment) (mode : Mode) (m : e.mode ≡ mode) (no_sets : is_set
       as_units (boundary kind) at (boundary_text kind) rest (λ _. boundary_narrow kind) (record { text = values_literal at (boundary_text kind); there = k })
   token_again after_reference (character kind value) k h at rest f =
       as_units (character (spelled_kind mode after_reference value) value) at (character_text mode (outside after_reference) value) rest
-      (character_in mode after_reference value (λ l. k (m ∙ l))) (character_spelled e mode m no_sets after_reference value h (λ l. k (m ∙ l)) at rest)
+      (character_in mode after_reference value (λ l. k (m ∙ l))) (character_spelled e mode m after_reference value h (λ l. k (m ∙ l)) at rest)
   token_again after_reference dot k h at rest f = as_units (dot) at (46 ∷ []) rest (λ _. refl) refl
   token_again after_reference (class_escape kind) k h at rest f =
       as_units (class_escape kind) at (class_escape_text kind) rest (λ _. class_escape_narrow kind) (values_literal at (class_escape_text kind))
   token_again after_reference (property negative strings name value) k h at rest f =
-      as_units (property negative strings name value) at (property_text negative name value) rest (λ l. no_legacy k.0 l) (property_spelled e mode m no_sets negative strings name value k.0 k.1 at)
+      as_units (property negative strings name value) at (property_text negative name value) rest (λ l. no_legacy k.0 l) (property_spelled e mode m negative strings name value k.0 k.1 at)
   token_again after_reference (class c) k h at rest f =
-      as_units (class (again_class mode c)) at (class_text mode c) rest (class_in mode c (subst (λ mode. IsKnownClass mode c) m k)) (class_spelled_again e mode m no_sets c k h at rest)
+      as_units (class (again_class mode c)) at (class_text mode c) rest (class_in mode c (subst (λ mode. IsKnownClass mode c) m k)) (class_spelled_again e mode m c k h at rest)
   token_again after_reference (indexed n) k h at rest f = as_units (indexed n) at (indexed_text n) rest (λ _. decimal_narrow n (omega (arith, h.1, in_limit))) (record {
     digits = decimal n;
     whole = values_literal at (indexed_text n);
@@ -357,7 +364,7 @@ module _ (e : Environment) (mode : Mode) (m : e.mode ≡ mode) (no_sets : is_set
       refers_again : (u : Bool) (n : ℕ) → n ≤ count → (u || nat_le n e.groups) ≡ true
       refers_again true n h = refl
       refers_again false n h = ap (nat_le n) groups_are ∙ at_most n count h
-  token_again after_reference (named name) k h at rest f = reference_again mode m no_sets name k.0.0 (λ l. k.0.1 (m ∙ l)) k.1 at rest
+  token_again after_reference (named name) k h at rest f = reference_again mode m name k.0.0 (λ l. k.0.1 (m ∙ l)) k.1 at rest
   token_again after_reference (opener o) k h at rest f = opener_again o (subst (λ mode. IsKnownOpener mode o) m k) h at rest f
   token_again after_reference closer k h at rest f = as_units (closer) at (41 ∷ []) rest (λ _. refl) refl
   token_again after_reference bar k h at rest f = as_units (bar) at (124 ∷ []) rest (λ _. refl) refl

@@ -19,7 +19,7 @@ use Rattle.rx_units.specs.Units.{unit, literal_units, values}
 use Rattle.rx_model.specs.declared.mode.Mode.{Mode}
 use Rattle.rx_model.specs.declared.mode.Mode.TheVariants.{Legacy, Unicode, Sets}
 use Rattle.rx_model.specs.Spelling.CharacterText.{control_letter, two_digits, four_digits, hex, braced, surrogate_text, greatest_raw, outside, character_text}
-use Rattle.rx_model.specs.Inputs.Environment.{Environment, is_sets, is_unicode}
+use Rattle.rx_model.specs.Inputs.Environment.{Environment, is_unicode}
 use Rattle.rx_model.specs.Characters.Escapes.{SpellsEscape, control, hexadecimal, unicode, identity}
 use Rattle.rx_model.specs.Characters.LegacyEscapes as legacy
 use Rattle.rx_model.specs.Characters.LegacyEscapes.{IsIdentity}
@@ -149,10 +149,10 @@ four_text Legacy c rest h = code_unit (four_read c h)
 four_text Unicode c rest h = alone (four_read c h) (λ lead _. not_lead c h lead)
 four_text Sets c rest h = alone (four_read c h) (λ lead _. not_lead c h lead)
 
-pub too_great : (mode : Mode) (c : ℕ) → is_sets mode ≡ false → c ≤ 0x10FFFF → (mode ≡ Legacy → c ≤ 0xFFFF) → nat_lt (greatest_raw mode) c ≡ true → ⊥
-too_great Legacy c p low fits h = let k = fits refl in grind (arith, nat_tests)
-too_great Unicode c p low fits h = grind (arith, nat_tests)
-too_great Sets c p low fits h = absurd (let no : ⊥ = cc p in no)
+pub too_great : (mode : Mode) (c : ℕ) → c ≤ 0x10FFFF → (mode ≡ Legacy → c ≤ 0xFFFF) → nat_lt (greatest_raw mode) c ≡ true → ⊥
+too_great Legacy c low fits h = let k = fits refl in grind (arith, nat_tests)
+too_great Unicode c low fits h = grind (arith, nat_tests)
+too_great Sets c low fits h = grind (arith, nat_tests)
 
 -- an escaped character that is a SyntaxCharacter or `/`
 pub syntax_identity : (inside : Bool) (e : Environment) (c : ℕ) (rest : List ℕ) → (is_syntax_character c || c == 47) ≡ true → IsIdentity inside e c rest
@@ -166,7 +166,7 @@ syntax_identity inside e c rest h = record {
   no_u = grind (arith, nat_tests);
 }
 
-module _ (e : Environment) (mode : Mode) (m : e.mode ≡ mode) (no_sets : is_sets mode ≡ false) where
+module _ (e : Environment) (mode : Mode) (m : e.mode ≡ mode) where
   -- The text spells a character of this kind before anything.
   abbrev SpellsCharacter : ℕ → CharacterKind → List ℕ → Type 0
   SpellsCharacter c kind text = (at : ℕ) (more : List CodePoint) → Spells e (character kind c) (literal_units true at text) more
@@ -217,17 +217,21 @@ module _ (e : Environment) (mode : Mode) (m : e.mode ≡ mode) (no_sets : is_set
   identity_spelled Unicode l c h at more = backslash c kinds.Identifier (c ∷ []) (λ rest. identity (ap is_unicode l) h) at more
   identity_spelled Sets l c h at more = backslash c kinds.Identifier (c ∷ []) (λ rest. identity (ap is_unicode l) h) at more
 
+  braced_spelled : {md : Mode} → mode ≡ md → is_unicode md ≡ true → (c : ℕ) → c ≤ 0x10FFFF → SpellsCharacter c kinds.UnicodeEscape (braced c)
+  unfolding braced
+  braced_spelled l u c low =
+      unicode_escape c (117 ∷ 123 ∷ (hex 8 c ++ (125 ∷ [])))
+      (λ rest. subst (λ b. SpellsUnicode b c (117 ∷ 123 ∷ (hex 8 c ++ (125 ∷ []))) rest) (sym (ap is_unicode l ∙ u))
+      (braced_from c (hex 8 c) rest (some_behind (cond (nat_lt c 16) [] (hex 7 (c / 16))) (hex_digit (c % 16)) []) (hex_read 8 c (omega (arith, low))) low))
+
   surrogate_spelled : (md : Mode) → mode ≡ md → (c : ℕ) → c ≤ 0x10FFFF → is_within 0xD800 0xDFFF c ≡ true → SpellsCharacter c kinds.UnicodeEscape (surrogate_text md c)
-  unfolding four_digits braced
+  unfolding four_digits
   surrogate_spelled Legacy l c low h =
       unicode_escape c (117 ∷ hex_digit (c / 4096 % 16) ∷ hex_digit (c / 256 % 16) ∷ hex_digit (c / 16 % 16) ∷ hex_digit (c % 16) ∷ [])
       (λ rest. subst (λ mode. SpellsUnicode (is_unicode mode) c (117 ∷ hex_digit (c / 4096 % 16) ∷ hex_digit (c / 256 % 16) ∷ hex_digit (c / 16 % 16) ∷ hex_digit (c % 16) ∷ []) rest) (sym l)
       (code_unit (four_any c (let k : c ≤ 0xFFFF = grind (arith, nat_tests) in k))))
-  surrogate_spelled Unicode l c low h =
-      unicode_escape c (117 ∷ 123 ∷ (hex 8 c ++ (125 ∷ [])))
-      (λ rest. subst (λ mode. SpellsUnicode (is_unicode mode) c (117 ∷ 123 ∷ (hex 8 c ++ (125 ∷ []))) rest) (sym l)
-      (braced_from c (hex 8 c) rest (some_behind (cond (nat_lt c 16) [] (hex 7 (c / 16))) (hex_digit (c % 16)) []) (hex_read 8 c (omega (arith, low))) low))
-  surrogate_spelled Sets l c low h = absurd (let no : true ≡ false = sym (ap is_sets l) ∙ no_sets in let f : ⊥ = cc no in f)
+  surrogate_spelled Unicode l c low h = braced_spelled l refl c low
+  surrogate_spelled Sets l c low h = braced_spelled l refl c low
 
   pub character_spelled : (after_reference : Bool) (c : ℕ) → c ≤ 0x10FFFF → (mode ≡ Legacy → c ≤ 0xFFFF) →
       SpellsCharacter c (spelled_kind mode after_reference c) (character_text mode (outside after_reference) c)
@@ -238,7 +242,7 @@ module _ (e : Environment) (mode : Mode) (m : e.mode ≡ mode) (no_sets : is_set
       (λ _. choose_both P (nat_lt c 32 || is_within 127 159 c) _ _ _ _ (λ small. two_spelled c (two_small c small))
       (λ _. choose_both P (c == 0x2028 || c == 0x2029) _ _ _ _ (λ separator. four_spelled c separator)
       (λ _. choose_both P (is_within 0xD800 0xDFFF c) _ _ _ _ (λ surrogate. surrogate_spelled mode refl c low surrogate)
-      (λ _. choose_both P (nat_lt (greatest_raw mode) c) _ _ _ _ (λ great. absurd (too_great mode c no_sets low fits great))
+      (λ _. choose_both P (nat_lt (greatest_raw mode) c) _ _ _ _ (λ great. absurd (too_great mode c low fits great))
       (λ _. choose_both P (is_syntax_character c || c == 47) _ _ _ _ (λ syntax. identity_spelled e.mode refl c syntax)
       (λ raw. choose_both P (after_reference && is_decimal_digit c) _ _ _ _
       (λ digit. backslash c kinds.HexadecimalEscape (120 ∷ 51 ∷ c ∷ []) (λ rest. hexadecimal (digit_read c (both after_reference (is_decimal_digit c) digit).1)))

@@ -4,7 +4,7 @@ use Rattle.std.proofs.lemmas.Bool.{true≢false}
 use Rattle.std.proofs.lemmas.Bool.Decides.{nat_tests}
 use Rattle.std.proofs.lemmas.Option.{option_and_then_some}
 use Rattle.rx_base.specs.SurrogatePair.{IsLeadSurrogate, IsTrailSurrogate, surrogate_pair}
-use Rattle.rx_tables.specs.Characters.{control_escape_value, control_letter_value, hex_digit_value, is_octal_digit, is_within}
+use Rattle.rx_tables.specs.Characters.{control_escape_value, control_letter_value, hex_digit_value, is_octal_digit, is_reserved_punctuator, is_within}
 use Rattle.rx_ast.specs.declared.leaf.CharacterKind.{CharacterKind}
 use Rattle.rx_units.specs.declared.code_point.CodePoint.{CodePoint}
 use Rattle.rx_units.specs.Units.{values}
@@ -127,9 +127,13 @@ character_low e kind v w rest (inr (inl r)) f m = escape_low e m kind v (values 
 character_low e kind v w rest (inr (inr r)) f m =
     let n = subst AreCodeUnits r.whole (f m) in legacy_low false e kind v (values r.behind) (values rest) r.spelled (narrow_values r.behind n.1)
 
-alone_low : (mode : Mode) (kind : CharacterKind) (v : ℕ) (w : List ℕ) → SpellsInClassAlone mode kind v w → v ≤ 0xFFFF
+reserved_low : (c : ℕ) → is_reserved_punctuator c ≡ true → c ≤ 0xFFFF
+reserved_low c h = grind (arith, nat_tests)
+
+pub alone_low : (mode : Mode) (kind : CharacterKind) (v : ℕ) (w : List ℕ) → SpellsInClassAlone mode kind v w → v ≤ 0xFFFF
 alone_low mode _ _ _ spelled.backspace = omega arith
 alone_low mode _ _ _ (spelled.hyphen m) = omega arith
+alone_low mode _ _ _ (spelled.reserved c m h) = reserved_low c h
 
 pub class_character_low : (e : Environment) (kind : CharacterKind) (v : ℕ) (w rest : List CodePoint) → SpellsClassCharacter e kind v w rest → FitIn e.mode w → FitsIn e.mode v
 class_character_low e _ _ _ rest (spelled.raw unit h) f m = (f m).0

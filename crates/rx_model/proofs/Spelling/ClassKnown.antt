@@ -2,6 +2,7 @@
 use Rattle.std.proofs.Common.{◌≡◌, refl, subst, ℕ, ◌≤◌, arith, ◌&&◌, Bool, true, false, Option, List, [], ◌∷◌, ◌++◌, append_assoc}
 use Rattle.rx_ast.specs.declared.leaf.CharacterKind.{CharacterKind}
 use Rattle.rx_ast.specs.declared.leaf.CharacterKind.TheVariants as kinds
+use Rattle.rx_ast.specs.declared.class.CharacterClassContentsKind.{CharacterClassContentsKind}
 use Rattle.rx_ast.specs.declared.class.CharacterClassContentsKind.TheVariants.{Union, Intersection, Subtraction}
 use Rattle.rx_ast.specs.ClassTree as tree
 use Rattle.rx_ast.specs.ClassTree.{Member, Members, Class, no_member, member, class}
@@ -9,37 +10,45 @@ use Rattle.rx_ast.specs.Forget.{forget_class, same_kind}
 use Rattle.rx_units.specs.declared.code_point.CodePoint.{CodePoint}
 use Rattle.rx_units.specs.Units.{values}
 use Rattle.rx_model.specs.declared.mode.Mode.{Mode}
-use Rattle.rx_model.specs.Classes.ClassRows.{ClassTokenRow, SpellsInClass, IsClassShape, IsClass, Place, outside, fresh, at_dash, at_high, at_second, at_third, behind, behind_item, has_threes, is_dashed}
+use Rattle.rx_model.specs.Classes.ClassRows.{ClassTokenRow, SpellsClassCharacter, SpellsInClass, IsClassShape, IsClass, Place, outside, fresh, at_second, at_third, behind_meet, behind_less, in_strings, behind, behind_item, has_threes, is_dashed}
+use Rattle.rx_model.specs.Classes.ClassShapes.{AreFitting, FitsKind, IsFitting, IsFittingMember}
 use Rattle.rx_model.specs.Spelling.ClassText.{property_body}
-use Rattle.rx_model.specs.Classes.ClassTokens.{Atom, character, escape, property, ClassToken, bracket, closer, item, low, dash, high, strings, class_tokens_of, member_events}
-use Rattle.rx_model.specs.Inputs.Environment.{Environment, is_unicode}
+use Rattle.rx_model.specs.Classes.ClassTokens.{character, property, ClassToken, bracket, closer, item, low, dash, high, meet, less, strings, class_tokens}
+use Rattle.rx_model.specs.Inputs.Environment.{Environment, is_sets, is_unicode}
 use Rattle.rx_model.specs.Properties.PropertyEscapes.{SpellsProperty}
 use Rattle.rx_model.specs.Spelling.ReadBack.{FitIn}
 use Rattle.rx_model.proofs.Spelling.Bounds.{FitsIn, fit_front, fit_back, class_character_low}
-use Rattle.rx_model.proofs.Classes.ClassTokens.{union_tokens, class_tokens_are}
+use Rattle.rx_model.proofs.Classes.ClassShapes.{operand_tokens, further_tokens, contents_tokens, between_by, class_tokens_by}
 use Rattle.rx_model.proofs.Properties.PropertyTexts.{property_again}
 
--- The member is one that is read today in this mode.
-abbrev pub IsKnownMember : Mode → Member → Type 0
-IsKnownMember mode (tree.range r) = FitsIn mode r.min.value × FitsIn mode r.max.value
-IsKnownMember mode (tree.escape e) = Unit {0}
-IsKnownMember mode (tree.property p) = (is_unicode mode ≡ true) × SpellsProperty mode p.strings p.name p.value (property_body p.name p.value)
-IsKnownMember mode (tree.character c) = FitsIn mode c.value
-IsKnownMember mode (tree.nested c) = ⊥
-IsKnownMember mode (tree.strings d) = ⊥
+-- `&&` and `--` stand in classes with `v` alone
+abbrev pub IsKnownKind : Mode → CharacterClassContentsKind → Type 0
+IsKnownKind mode Union = Unit {0}
+IsKnownKind mode Intersection = is_sets mode ≡ true
+IsKnownKind mode Subtraction = is_sets mode ≡ true
 
-abbrev pub AreKnownMembers : Mode → Members → Type 0
-AreKnownMembers mode no_member = Unit {0}
-AreKnownMembers mode (member m ms) = IsKnownMember mode m × AreKnownMembers mode ms
+-- What units of this mode may spell in a class, and in the classes in it.
+abbrev mutual
+  pub IsKnownMember : Mode → Member → Type 0
+  IsKnownMember mode (tree.range r) = FitsIn mode r.min.value × FitsIn mode r.max.value
+  IsKnownMember mode (tree.escape e) = Unit {0}
+  IsKnownMember mode (tree.property p) = (is_unicode mode ≡ true) × SpellsProperty mode p.strings p.name p.value (property_body p.name p.value)
+  IsKnownMember mode (tree.character c) = FitsIn mode c.value
+  IsKnownMember mode (tree.nested c) = (is_sets mode ≡ true) × IsKnownTree mode c
+  IsKnownMember mode (tree.strings d) = is_sets mode ≡ true
 
-abbrev pub class_members : Class → Members
-class_members (class s negative may kind ms) = ms
+  pub AreKnownMembers : Mode → Members → Type 0
+  AreKnownMembers mode no_member = Unit {0}
+  AreKnownMembers mode (member m ms) = IsKnownMember mode m × AreKnownMembers mode ms
 
--- The class has no spans and the shape of a class, and is one that is read today.
+  pub IsKnownTree : Mode → Class → Type 0
+  IsKnownTree mode (class s negative may kind ms) = IsKnownKind mode kind × AreKnownMembers mode ms
+
+-- The class has no spans and the shape of a class, and is one that units of this mode may spell.
 pub record IsKnownClass (mode : Mode) (c : Class) : Type 0 where
   pub no_spans : forget_class same_kind c ≡ c
-  pub shape : IsClassShape mode c
-  pub known : AreKnownMembers mode (class_members c)
+  pub shape : IsClassShape c
+  pub known : IsKnownTree mode c
 
 module _ (e : Environment) where
   -- what stands in a class
@@ -47,36 +56,23 @@ module _ (e : Environment) where
   IsWithin q = q ≡ outside → ⊥
 
   behind_within : (q : Place) (first : Bool) → IsWithin (behind_item q first)
-  behind_within outside first h = cc h
   behind_within fresh true h = cc h
   behind_within fresh false h = cc h
-  behind_within at_dash first h = cc h
-  behind_within at_high first h = cc h
-  behind_within at_second first h = cc h
-  behind_within at_third first h = cc h
+  behind_within q first h = cc h
 
-  -- the tokens behind a member are a row from some place
-  abbrev RowOn : List ClassToken → List CodePoint → Type 0
-  RowOn ts rest = (q : Place) × (more : List CodePoint) × IsWithin q × FitIn e.mode more × ClassTokenRow e ts q more fresh rest
+  token_within : (q : Place) (t : ClassToken) (more : List CodePoint) → IsWithin (behind e.mode q t more)
+  token_within q (item a) more h = behind_within q (is_dashed (values more) && has_threes e.mode) h
+  token_within q t more h = cc h
 
-  range_row : (k j : CharacterKind) (v u : ℕ) (ts : List ClassToken) (q : Place) (us rest : List CodePoint) → FitIn e.mode us → ClassTokenRow e (low k v ∷ dash ∷ high j u ∷ ts) q us fresh rest →
-      (FitsIn e.mode v × FitsIn e.mode u) × RowOn ts rest
-  range_row k j v u ts fresh us rest f (w, more, e0, s, (x, tail, e1, d, (y, last, e2, t, row))) =
-      let f1 = fit_back e.mode us w more e0 f in
-      let f2 = fit_back e.mode more x tail e1 f1 in (
-        (class_character_low e k v w more s.0 (fit_front e.mode us w more e0 f), class_character_low e j u y last t (fit_front e.mode tail y last e2 f2)),
-        (fresh, last, (λ h. cc h), fit_back e.mode tail y last e2 f2, row),
-      )
-  range_row k j v u ts outside us rest f r = absurd r.3
-  range_row k j v u ts at_dash us rest f r = absurd r.3
-  range_row k j v u ts at_high us rest f r = absurd r.3
-  range_row k j v u ts at_second us rest f r = absurd r.3
-  range_row k j v u ts at_third us rest f r = absurd r.3
+  -- the characters of a range
+  low_there : (q : Place) (k : CharacterKind) (v : ℕ) (w more : List CodePoint) → SpellsInClass e q (low k v) w more → SpellsClassCharacter e k v w more
+  low_there fresh k v w more s = s.0
+  low_there behind_meet k v w more s = absurd s.1
+  low_there behind_less k v w more s = absurd s.1
+  low_there in_strings k v w more s = absurd s.1
+  low_there q k v w more s = absurd s
 
-  item_row : (a : Atom) (ts : List ClassToken) (q : Place) (us rest : List CodePoint) → FitIn e.mode us → ClassTokenRow e (item a ∷ ts) q us fresh rest → RowOn ts rest
-  item_row a ts q us rest f r =
-      (behind e.mode q (item a) r.1, r.1, behind_within q (is_dashed (values r.1) && has_threes e.mode), fit_back e.mode us r.0 r.1 r.2 f, r.4)
-
+  -- a character and a property escape by themselves
   symbol_low : (k : CharacterKind) (v : ℕ) → character k v ≡ character kinds.Symbol 45 → v ≤ 0xFFFF
   symbol_low k v h = let same : v ≡ 45 = cc h in omega (arith, same)
 
@@ -84,62 +80,132 @@ module _ (e : Environment) where
   character_there fresh k v w more f s = class_character_low e k v w more s.0 f
   character_there at_third k v w more f s = class_character_low e k v w more s f
   character_there at_second k v w more f s = λ m. symbol_low k v s.0
-  character_there outside k v w more f s = absurd s
-  character_there at_dash k v w more f s = absurd s
-  character_there at_high k v w more f s = absurd s
+  character_there behind_meet k v w more f s = class_character_low e k v w more s.1 f
+  character_there behind_less k v w more f s = class_character_low e k v w more s.1 f
+  character_there in_strings k v w more f s = absurd s.1
+  character_there q k v w more f s = absurd s
 
   property_there : (q : Place) (negative may : Bool) (name : List ℕ) (value : Option (List ℕ)) (w more : List CodePoint) → SpellsInClass e q (item (property negative may name value)) w more →
       (is_unicode e.mode ≡ true) × SpellsProperty e.mode may name value (property_body name value)
   property_there fresh negative may name value w more s = (s.0.unicode, property_again e.mode may name value s.0.text s.0.spelled)
   property_there at_third negative may name value w more s = (s.unicode, property_again e.mode may name value s.text s.spelled)
   property_there at_second negative may name value w more s = let f = s.0 in absurd (let no : ⊥ = cc f in no)
-  property_there outside negative may name value w more s = absurd s
-  property_there at_dash negative may name value w more s = absurd s
-  property_there at_high negative may name value w more s = absurd s
+  property_there behind_meet negative may name value w more s = (s.1.unicode, property_again e.mode may name value s.1.text s.1.spelled)
+  property_there behind_less negative may name value w more s = (s.1.unicode, property_again e.mode may name value s.1.text s.1.spelled)
+  property_there in_strings negative may name value w more s = absurd s.1
+  property_there q negative may name value w more s = absurd s
 
-  no_bracket : (q : Place) (negative : Bool) (w more : List CodePoint) → IsWithin q → SpellsInClass e q (bracket negative) w more → ⊥
-  no_bracket outside negative w more n s = n refl
-  no_bracket fresh negative w more n s = s
-  no_bracket at_dash negative w more n s = s
-  no_bracket at_high negative w more n s = s
-  no_bracket at_second negative w more n s = s
-  no_bracket at_third negative w more n s = s
+  -- what stands in classes with `v` alone
+  bracket_sets : (q : Place) (negative : Bool) (w more : List CodePoint) → IsWithin q → SpellsInClass e q (bracket negative) w more → is_sets e.mode ≡ true
+  bracket_sets outside negative w more n s = absurd (n refl)
+  bracket_sets fresh negative w more n s = s.0
+  bracket_sets behind_meet negative w more n s = s.0
+  bracket_sets behind_less negative w more n s = s.0
+  bracket_sets in_strings negative w more n s = s.0
+  bracket_sets q negative w more n s = absurd s
 
-  no_strings : (q : Place) (w more : List CodePoint) → SpellsInClass e q strings w more → ⊥
-  no_strings outside w more s = s
-  no_strings fresh w more s = s
-  no_strings at_dash w more s = s
-  no_strings at_high w more s = s
-  no_strings at_second w more s = s
-  no_strings at_third w more s = s
+  strings_sets : (q : Place) (w more : List CodePoint) → SpellsInClass e q strings w more → is_sets e.mode ≡ true
+  strings_sets fresh w more s = s.0
+  strings_sets behind_meet w more s = s.0
+  strings_sets behind_less w more s = s.0
+  strings_sets in_strings w more s = s.0
+  strings_sets q w more s = absurd s
 
-  -- a member is known, and the tokens behind it are a row
-  member_known : (m : Member) (ts : List ClassToken) (q : Place) (us rest : List CodePoint) → IsWithin q → FitIn e.mode us → ClassTokenRow e (class_tokens_of (member_events m) ++ ts) q us fresh rest →
-      IsKnownMember e.mode m × RowOn ts rest
-  member_known (tree.range r) ts q us rest n f row = range_row r.min.kind r.max.kind r.min.value r.max.value ts q us rest f row
-  member_known (tree.escape c) ts q us rest n f row = (tt, item_row (escape c.kind) ts q us rest f row)
-  member_known (tree.property p) ts q us rest n f row =
-      (property_there q p.negative p.strings p.name p.value row.0 row.1 row.3, item_row (property p.negative p.strings p.name p.value) ts q us rest f row)
-  member_known (tree.character c) ts q us rest n f row =
-      (character_there q c.kind c.value row.0 row.1 (fit_front e.mode us row.0 row.1 row.2 f) row.3, item_row (character c.kind c.value) ts q us rest f row)
-  member_known (tree.nested (class s negative may kind ms)) ts q us rest n f row = absurd (no_bracket q negative row.0 row.1 n row.3)
-  member_known (tree.strings d) ts q us rest n f row = absurd (no_strings q row.0 row.1 row.3)
+  meet_sets : (q : Place) (w more : List CodePoint) → SpellsInClass e q meet w more → is_sets e.mode ≡ true
+  meet_sets fresh w more s = s.0
+  meet_sets behind_meet w more s = s.0
+  meet_sets behind_less w more s = s.0
+  meet_sets in_strings w more s = s.0
+  meet_sets q w more s = absurd s
 
-  -- all members
-  members_known : (ms : Members) (q : Place) (us rest : List CodePoint) → IsWithin q → FitIn e.mode us → ClassTokenRow e (union_tokens ms ++ (closer ∷ [])) q us fresh rest → AreKnownMembers e.mode ms
-  members_known no_member q us rest n f row = tt
-  members_known (member m ms) q us rest n f row =
-      let r = subst (λ ts. ClassTokenRow e ts q us fresh rest) (append_assoc (class_tokens_of (member_events m)) (union_tokens ms) (closer ∷ [])) row in
-      let k = member_known m (union_tokens ms ++ (closer ∷ [])) q us rest n f r in
-      let on = k.1 in
-      (k.0, members_known ms on.0 on.1 rest on.2 on.3 on.4)
+  less_sets : (q : Place) (w more : List CodePoint) → SpellsInClass e q less w more → is_sets e.mode ≡ true
+  less_sets fresh w more s = s.0
+  less_sets behind_meet w more s = s.0
+  less_sets behind_less w more s = s.0
+  less_sets in_strings w more s = s.0
+  less_sets q w more s = absurd s
+
+  -- before what follows the class
+  module _ (rest : List CodePoint) where
+    -- from some place in the class the tokens are a row to its end
+    abbrev RowOn : List ClassToken → Type 0
+    RowOn ts = (q : Place) × (us : List CodePoint) × IsWithin q × FitIn e.mode us × ClassTokenRow e ts q us fresh rest
+
+    token_on : (t : ClassToken) (ts : List ClassToken) → RowOn (t ∷ ts) → RowOn ts
+    token_on t ts (q, us, n, f, (w, more, whole, s, row)) = (behind e.mode q t more, more, token_within q t more, fit_back e.mode us w more whole f, row)
+
+    tokens_on : (own ts : List ClassToken) → RowOn (own ++ ts) → RowOn ts
+    tokens_on [] ts r = r
+    tokens_on (t ∷ own) ts r = tokens_on own ts (token_on t (own ++ ts) r)
+
+    range_known : (k j : CharacterKind) (v u : ℕ) (ts : List ClassToken) → RowOn (low k v ∷ dash ∷ high j u ∷ ts) → FitsIn e.mode v × FitsIn e.mode u
+    range_known k j v u ts (q, us, n, f, (w, more, e0, s, (x, tail, e1, d, (y, last, e2, t, row)))) =
+        let f1 = fit_back e.mode us w more e0 f in
+        let f2 = fit_back e.mode more x tail e1 f1 in
+        (class_character_low e k v w more (low_there q k v w more s) (fit_front e.mode us w more e0 f), class_character_low e j u y last t (fit_front e.mode tail y last e2 f2))
+
+    character_known : (k : CharacterKind) (v : ℕ) (ts : List ClassToken) → RowOn (item (character k v) ∷ ts) → FitsIn e.mode v
+    character_known k v ts (q, us, n, f, (w, more, whole, s, row)) = character_there q k v w more (fit_front e.mode us w more whole f) s
+
+    property_known : (negative may : Bool) (name : List ℕ) (value : Option (List ℕ)) (ts : List ClassToken) → RowOn (item (property negative may name value) ∷ ts) →
+        (is_unicode e.mode ≡ true) × SpellsProperty e.mode may name value (property_body name value)
+    property_known negative may name value ts (q, us, n, f, (w, more, whole, s, row)) = property_there q negative may name value w more s
+
+    -- a member, and what stands behind it
+    member_apart : (m : Member) (own ts : List ClassToken) → RowOn ((operand_tokens m ++ own) ++ ts) → RowOn (operand_tokens m ++ (own ++ ts)) × RowOn (own ++ ts)
+    member_apart m own ts r =
+        let row = subst RowOn (append_assoc (operand_tokens m) own ts) r in (row, tokens_on (operand_tokens m) (own ++ ts) row)
+
+    kind_known : (kind : CharacterClassContentsKind) (ms : Members) (ts : List ClassToken) → FitsKind kind ms → RowOn (contents_tokens (between_by kind) ms ++ ts) → IsKnownKind e.mode kind
+    kind_known Union ms ts fits r = tt
+    kind_known Intersection no_member ts fits r = absurd fits.0
+    kind_known Intersection (member m no_member) ts fits r = absurd fits.0
+    kind_known Intersection (member m (member n ms)) ts fits r =
+        let on = (member_apart m (further_tokens (meet ∷ []) (member n ms)) ts r).1 in meet_sets on.0 on.4.0 on.4.1 on.4.3
+    kind_known Subtraction no_member ts fits r = absurd fits.0
+    kind_known Subtraction (member m no_member) ts fits r = absurd fits.0
+    kind_known Subtraction (member m (member n ms)) ts fits r =
+        let on = (member_apart m (further_tokens (less ∷ []) (member n ms)) ts r).1 in less_sets on.0 on.4.0 on.4.1 on.4.3
+
+    -- behind its bracket
+    contents_on : (negative : Bool) (own ts : List ClassToken) → RowOn ((bracket negative ∷ (own ++ (closer ∷ []))) ++ ts) → RowOn (own ++ (closer ∷ ts))
+    contents_on negative own ts r = subst RowOn (append_assoc own (closer ∷ []) ts) (token_on (bracket negative) ((own ++ (closer ∷ [])) ++ ts) r)
+
+    mutual
+      member_known : (m : Member) (ts : List ClassToken) → IsFittingMember m → RowOn (operand_tokens m ++ ts) → IsKnownMember e.mode m
+      member_known (tree.range r) ts h row = range_known r.min.kind r.max.kind r.min.value r.max.value ts row
+      member_known (tree.escape k) ts h row = tt
+      member_known (tree.property p) ts h row = property_known p.negative p.strings p.name p.value ts row
+      member_known (tree.character c) ts h row = character_known c.kind c.value ts row
+      member_known (tree.nested c) ts h row = nested_known c ts h row
+      member_known (tree.strings d) ts h row = strings_sets row.0 row.4.0 row.4.1 row.4.3
+
+      nested_known : (c : Class) (ts : List ClassToken) → IsFitting c → RowOn (class_tokens c ++ ts) → (is_sets e.mode ≡ true) × IsKnownTree e.mode c
+      nested_known (class s negative may kind ms) ts h row =
+          let r = subst (λ own. RowOn (own ++ ts)) (class_tokens_by s negative may kind ms) row in
+          (bracket_sets r.0 negative r.4.0 r.4.1 r.2 r.4.3, contents_known kind ms (closer ∷ ts) h.0 h.1 (contents_on negative (contents_tokens (between_by kind) ms) ts r))
+
+      contents_known : (kind : CharacterClassContentsKind) (ms : Members) (ts : List ClassToken) → FitsKind kind ms → AreFitting ms → RowOn (contents_tokens (between_by kind) ms ++ ts) →
+          IsKnownKind e.mode kind × AreKnownMembers e.mode ms
+      contents_known kind no_member ts fits h row = (kind_known kind no_member ts fits row, tt)
+      contents_known kind (member m ms) ts fits h row =
+          let own = further_tokens (between_by kind) ms in
+          let r = member_apart m own ts row in
+          (kind_known kind (member m ms) ts fits row, (member_known m (own ++ ts) h.0 r.0, further_known (between_by kind) ms ts h.1 r.1))
+
+      further_known : (between : List ClassToken) (ms : Members) (ts : List ClassToken) → AreFitting ms → RowOn (further_tokens between ms ++ ts) → AreKnownMembers e.mode ms
+      further_known between no_member ts h row = tt
+      further_known between (member m ms) ts h row =
+          let own = further_tokens between ms in
+          let on = tokens_on between ((operand_tokens m ++ own) ++ ts) (subst RowOn (append_assoc between (operand_tokens m ++ own) ts) row) in
+          let r = member_apart m own ts on in
+          (member_known m (own ++ ts) h.0 r.0, further_known between ms ts h.1 r.1)
 
   -- the class
+  tree_known : (c : Class) (us rest : List CodePoint) → FitIn e.mode us → IsFitting c → ClassTokenRow e (class_tokens c) outside us fresh rest → IsKnownTree e.mode c
+  tree_known (class s negative may kind ms) us rest f h row =
+      let r = subst (λ ts. ClassTokenRow e ts outside us fresh rest) (class_tokens_by s negative may kind ms) row in
+      contents_known rest kind ms (closer ∷ []) h.0 h.1 (fresh, r.1, (λ h. cc h), fit_back e.mode us r.0 r.1 r.2 f, r.4)
+
   pub class_known : (c : Class) (w rest : List CodePoint) → FitIn e.mode (w ++ rest) → IsClass e c w rest → IsKnownClass e.mode c
-  class_known (class s negative may Union ms) w rest f h = record {
-    no_spans = h.no_spans;
-    shape = h.shape;
-    known = let r = subst (λ ts. ClassTokenRow e ts outside (w ++ rest) fresh rest) (class_tokens_are s negative may ms) h.row in members_known ms fresh r.1 rest (λ h. cc h) (fit_back e.mode (w ++ rest) r.0 r.1 r.2 f) r.4;
-  }
-  class_known (class s negative may Intersection ms) w rest f h = absurd h.shape.0
-  class_known (class s negative may Subtraction ms) w rest f h = absurd h.shape.0
+  class_known c w rest f h = record { no_spans = h.no_spans; shape = h.shape; known = tree_known c (w ++ rest) rest f h.shape.0 h.row }

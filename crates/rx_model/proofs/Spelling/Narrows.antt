@@ -26,8 +26,8 @@ use Rattle.rx_model.specs.Spelling.ClassText.{class_escape_text, in_class_text, 
 use Rattle.rx_model.specs.Trees.Early.{greatest_count, IsGreatest}
 use Rattle.rx_model.specs.Spelling.Spelling.{letters, dash, look_text, counts_text, lazy_text, quantifier_text}
 use Rattle.rx_model.specs.Trees.Token.{ignoring}
-use Rattle.rx_model.proofs.Spelling.ClassBacks.{union_text}
-use Rattle.rx_model.proofs.Spelling.ClassKnown.{IsKnownMember, AreKnownMembers, IsKnownClass}
+use Rattle.rx_model.proofs.Spelling.ClassTexts.{union_text}
+use Rattle.rx_model.proofs.Spelling.ClassKnown.{IsKnownMember, AreKnownMembers, IsKnownTree, IsKnownClass}
 use Rattle.rx_model.proofs.Spelling.TokenTexts.{opened_text}
 
 abbrev narrow : ℕ → Bool
@@ -179,8 +179,8 @@ member_narrow (in_tree.range r) k =
 member_narrow (in_tree.escape c) k = class_escape_narrow c.kind
 member_narrow (in_tree.property p) k = let u = k.0 in absurd (let no : ⊥ = cc u in no)
 member_narrow (in_tree.character c) k = in_class_narrow c.value (k refl)
-member_narrow (in_tree.nested c) k = absurd k
-member_narrow (in_tree.strings d) k = absurd k
+member_narrow (in_tree.nested c) k = let u = k.0 in absurd (let no : ⊥ = cc u in no)
+member_narrow (in_tree.strings d) k = absurd (let no : ⊥ = cc k in no)
 
 members_are_narrow : (ms : Members) → AreKnownMembers Legacy ms → IsNarrow (more_members_text Legacy [] ms)
 members_are_narrow no_member k = refl
@@ -189,8 +189,11 @@ members_are_narrow (member m ms) k = narrow-append (member_text Legacy m) (more_
 union_narrow : (ms : Members) → AreKnownMembers Legacy ms → IsNarrow (members_text Legacy [] ms ++ (93 ∷ []))
 union_narrow ms k = narrow-append (members_text Legacy [] ms) (93 ∷ []) (subst IsNarrow (sym (union_text Legacy ms)) (members_are_narrow ms k)) refl
 
+tree_narrow : (c : Class) → IsKnownTree Legacy c → IsNarrow (class_text Legacy c)
+tree_narrow (in_tree.class s true may Union ms) k = union_narrow ms k.1
+tree_narrow (in_tree.class s false may Union ms) k = union_narrow ms k.1
+tree_narrow (in_tree.class s negative may Intersection ms) k = let u = k.0 in absurd (let no : ⊥ = cc u in no)
+tree_narrow (in_tree.class s negative may Subtraction ms) k = let u = k.0 in absurd (let no : ⊥ = cc u in no)
+
 pub class_narrow : (c : Class) → IsKnownClass Legacy c → IsNarrow (class_text Legacy c)
-class_narrow (in_tree.class s true may Union ms) k = union_narrow ms k.known
-class_narrow (in_tree.class s false may Union ms) k = union_narrow ms k.known
-class_narrow (in_tree.class s negative may Intersection ms) k = absurd k.shape.0
-class_narrow (in_tree.class s negative may Subtraction ms) k = absurd k.shape.0
+class_narrow c k = tree_narrow c k.known

@@ -12,6 +12,7 @@ use Rattle.std.proofs.lemmas.List.Folds.{list_all-append}
 use Rattle.std.proofs.lemmas.Str.Parse.{digit_from_value}
 use Rattle.rx_ast.specs.declared.leaf.BoundaryAssertionKind.{BoundaryAssertionKind}
 use Rattle.rx_ast.specs.declared.leaf.BoundaryAssertionKind.TheVariants as boundaries
+use Rattle.rx_ast.specs.declared.leaf.Character.{Character}
 use Rattle.rx_ast.specs.declared.leaf.CharacterClassEscapeKind.{CharacterClassEscapeKind}
 use Rattle.rx_ast.specs.declared.leaf.CharacterClassEscapeKind.TheVariants.{D, NegativeD, S, NegativeS, W, NegativeW}
 use Rattle.rx_ast.specs.declared.leaf.LookAroundAssertionKind.{LookAroundAssertionKind}
@@ -19,7 +20,9 @@ use Rattle.rx_ast.specs.declared.leaf.LookAroundAssertionKind.TheVariants as loo
 use Rattle.rx_ast.specs.declared.term.Pattern.{Pattern}
 use Rattle.rx_ast.specs.ClassTree as in_tree
 use Rattle.rx_ast.specs.ClassTree.{Member, Members, Class, no_member, member}
+use Rattle.rx_ast.specs.declared.class.CharacterClassContentsKind.{CharacterClassContentsKind}
 use Rattle.rx_ast.specs.declared.class.CharacterClassContentsKind.TheVariants.{Union, Intersection, Subtraction}
+use Rattle.rx_ast.specs.declared.class.ClassString.{ClassString}
 use Rattle.rx_ast.specs.Forget.{bare}
 use Rattle.rx_tables.specs.Characters.{is_within, is_decimal_digit, is_syntax_character, hex_digit}
 use Rattle.rx_tables.proofs.Separators.{line_separator_starts_none, line_separator_in_none, paragraph_separator_starts_none, paragraph_separator_in_none}
@@ -28,7 +31,7 @@ use Rattle.rx_model.specs.declared.mode.Mode.{Mode}
 use Rattle.rx_model.specs.declared.mode.Mode.TheVariants.{Legacy, Unicode, Sets}
 use Rattle.rx_model.specs.Reading.Boundaries.{boundary_text}
 use Rattle.rx_model.specs.Spelling.CharacterText.{control_letter, two_digits, four_digits, hex, braced, surrogate_text, greatest_raw, is_reserved_in_class, outside, in_class, character_text}
-use Rattle.rx_model.specs.Spelling.ClassText.{class_escape_text, property_body, property_text, in_class_text, member_text, members_text, more_members_text, class_text}
+use Rattle.rx_model.specs.Spelling.ClassText.{class_escape_text, property_body, property_text, class_opener, operator_text, in_class_text, characters_text, barred_strings_text, strings_text, member_text, members_text, more_members_text, class_text}
 use Rattle.rx_model.specs.Trees.Early.{Obeys, greatest_count, most_groups, IsGreatest}
 use Rattle.rx_model.specs.Inputs.Environment.{Environment, environment}
 use Rattle.rx_model.specs.Trees.Events.{tokens}
@@ -40,8 +43,8 @@ use Rattle.rx_model.specs.Reading.Reading.{Reads}
 use Rattle.rx_model.specs.Groups.GroupNames.{is_in_name}
 use Rattle.rx_model.specs.Spelling.Spelling.{letters, dash, look_text, counts_text, lazy_text, quantifier_text, spelling}
 use Rattle.rx_model.specs.Trees.Token.{Token, Opener, boundary, character, dot, class_escape, property, class, indexed, named, opener, closer, bar, quantifier, capturing, ignoring, looking}
-use Rattle.rx_model.proofs.Spelling.ClassBacks.{some_surrogate, union_text}
-use Rattle.rx_model.proofs.Spelling.ClassKnown.{IsKnownMember, AreKnownMembers, IsKnownClass}
+use Rattle.rx_model.proofs.Spelling.ClassTexts.{some_surrogate}
+use Rattle.rx_model.proofs.Spelling.ClassKnown.{IsKnownMember, AreKnownMembers, IsKnownTree, IsKnownClass}
 use Rattle.rx_model.proofs.Properties.PropertyWords.{is_property_unit, property_units}
 use Rattle.rx_model.proofs.Spelling.TokenTexts.{opened_text, token_text, token_refers, tokens_text, spelled_by_tokens}
 use Rattle.rx_model.proofs.Characters.Decodings.{both}
@@ -290,27 +293,54 @@ in_class_stays mode c =
     (λ _. cond_both (is_syntax_character c || c == 47 || is_reserved_in_class mode c) _ _ Stays (λ syntax. stays_cons c [] (reserved_stays mode c syntax) refl)
     (λ _. stays_cons c [] (raw_stays c within separators) refl))))))
 
-member_stays : (mode : Mode) (m : Member) → IsKnownMember mode m → Stays (member_text mode m)
-member_stays mode (in_tree.range r) k =
-    stays-append (in_class_text mode r.min) (45 ∷ in_class_text mode r.max) (in_class_stays mode r.min.value) (in_class_stays mode r.max.value)
-member_stays mode (in_tree.escape c) k = class_escape_stays c.kind
-member_stays mode (in_tree.property p) k = property_stays mode p.negative p.strings p.name p.value k.1
-member_stays mode (in_tree.character c) k = in_class_stays mode c.value
-member_stays mode (in_tree.nested c) k = absurd k
-member_stays mode (in_tree.strings d) k = absurd k
+characters_stay : (mode : Mode) (cs : List Character) → Stays (characters_text mode cs)
+characters_stay mode [] = refl
+characters_stay mode (c ∷ cs) = stays-append (in_class_text mode c) (characters_text mode cs) (in_class_stays mode c.value) (characters_stay mode cs)
 
-members_stay : (mode : Mode) (ms : Members) → AreKnownMembers mode ms → Stays (more_members_text mode [] ms)
-members_stay mode no_member k = refl
-members_stay mode (member m ms) k = stays-append (member_text mode m) (more_members_text mode [] ms) (member_stays mode m k.0) (members_stay mode ms k.1)
+barred_strings_stay : (mode : Mode) (ss : List ClassString) → Stays (barred_strings_text mode ss)
+barred_strings_stay mode [] = refl
+barred_strings_stay mode (s ∷ ss) = stays-append (characters_text mode s.body) (barred_strings_text mode ss) (characters_stay mode s.body) (barred_strings_stay mode ss)
 
-union_stays : (mode : Mode) (ms : Members) → AreKnownMembers mode ms → Stays (members_text mode [] ms ++ (93 ∷ []))
-union_stays mode ms k = stays-append (members_text mode [] ms) (93 ∷ []) (subst Stays (sym (union_text mode ms)) (members_stay mode ms k)) refl
+strings_stay : (mode : Mode) (ss : List ClassString) → Stays (strings_text mode ss)
+strings_stay mode [] = refl
+strings_stay mode (s ∷ ss) = stays-append (characters_text mode s.body) (barred_strings_text mode ss) (characters_stay mode s.body) (barred_strings_stay mode ss)
+
+opener_stays : (negative : Bool) → Stays (class_opener negative)
+opener_stays true = refl
+opener_stays false = refl
+
+operator_stays : (kind : CharacterClassContentsKind) → Stays (operator_text kind)
+operator_stays Union = refl
+operator_stays Intersection = refl
+operator_stays Subtraction = refl
+
+mutual
+  member_stays : (mode : Mode) (m : Member) → IsKnownMember mode m → Stays (member_text mode m)
+  member_stays mode (in_tree.range r) k =
+      stays-append (in_class_text mode r.min) (45 ∷ in_class_text mode r.max) (in_class_stays mode r.min.value) (in_class_stays mode r.max.value)
+  member_stays mode (in_tree.escape c) k = class_escape_stays c.kind
+  member_stays mode (in_tree.property p) k = property_stays mode p.negative p.strings p.name p.value k.1
+  member_stays mode (in_tree.character c) k = in_class_stays mode c.value
+  member_stays mode (in_tree.nested c) k = tree_stays mode c k.1
+  member_stays mode (in_tree.strings d) k = stays-append (strings_text mode d.body) (125 ∷ []) (strings_stay mode d.body) refl
+
+  members_stay : (mode : Mode) (operator : List ℕ) (ms : Members) → Stays operator → AreKnownMembers mode ms → Stays (members_text mode operator ms)
+  members_stay mode operator no_member o k = refl
+  members_stay mode operator (member m ms) o k = stays-append (member_text mode m) (more_members_text mode operator ms) (member_stays mode m k.0) (more_members_stay mode operator ms o k.1)
+
+  more_members_stay : (mode : Mode) (operator : List ℕ) (ms : Members) → Stays operator → AreKnownMembers mode ms → Stays (more_members_text mode operator ms)
+  more_members_stay mode operator no_member o k = refl
+  more_members_stay mode operator (member m ms) o k =
+      stays-append operator (member_text mode m ++ more_members_text mode operator ms) o
+      (stays-append (member_text mode m) (more_members_text mode operator ms) (member_stays mode m k.0) (more_members_stay mode operator ms o k.1))
+
+  tree_stays : (mode : Mode) (c : Class) → IsKnownTree mode c → Stays (class_text mode c)
+  tree_stays mode (in_tree.class s negative may kind ms) k =
+      let text = members_text mode (operator_text kind) ms in
+      stays-append (class_opener negative) (text ++ (93 ∷ [])) (opener_stays negative) (stays-append text (93 ∷ []) (members_stay mode (operator_text kind) ms (operator_stays kind) k.1) refl)
 
 class_stays : (mode : Mode) (c : Class) → IsKnownClass mode c → Stays (class_text mode c)
-class_stays mode (in_tree.class s true may Union ms) k = union_stays mode ms k.known
-class_stays mode (in_tree.class s false may Union ms) k = union_stays mode ms k.known
-class_stays mode (in_tree.class s negative may Intersection ms) k = absurd k.shape.0
-class_stays mode (in_tree.class s negative may Subtraction ms) k = absurd k.shape.0
+class_stays mode c k = tree_stays mode c k.known
 
 some_property : (negative : Bool) (name : List ℕ) (value : Option (List ℕ)) → property_text negative name value ≢ []
 some_property true name value = some 92 _

@@ -9,7 +9,7 @@ use Rattle.rx_units.specs.declared.code_point.CodePoint.{CodePoint}
 use Rattle.rx_units.specs.Units.{literal_units}
 use Rattle.rx_model.specs.declared.mode.Mode.{Mode}
 use Rattle.rx_model.specs.Trees.Early.{Obeys, IsEarly, most_groups}
-use Rattle.rx_model.specs.Inputs.Environment.{is_sets, is_unicode, environment, environment_with, has_some}
+use Rattle.rx_model.specs.Inputs.Environment.{is_unicode, environment, environment_with, has_some}
 use Rattle.rx_model.specs.Trees.Events.{tokens, alternatives_events}
 use Rattle.rx_model.specs.Trees.Names.{groups, names, alternatives_groups, alternatives_names, once_behind, AreAlternativesApart}
 use Rattle.rx_model.specs.Spelling.ReadBack.{FitIn, IsReadBack}
@@ -95,17 +95,17 @@ module _ (mode : Mode) (p : Pattern) where
   its_shape : IsWellMade mode p → IsWellMade mode again
   its_shape w = subst (HasAlternatives mode) (sym its_tree) (made_alternatives mode (mirror_disjunction p.body).1 w)
 
-  its_row : (us : List CodePoint) → is_sets mode ≡ false → FitIn mode us → Reads mode p us → TokenRow (environment mode again) (tokens again) (literal_units (is_unicode mode) 0 (tokens_text mode false (tokens p))) []
-  its_row us no_sets fit r =
+  its_row : (us : List CodePoint) → FitIn mode us → Reads mode p us → TokenRow (environment mode again) (tokens again) (literal_units (is_unicode mode) 0 (tokens_text mode false (tokens p))) []
+  its_row us fit r =
       let e = environment mode p in
       let text = tokens_text mode false (tokens p) in
       let end = pattern_runs mode p r.spelled.shape in
       subst (λ d. TokenRow d (tokens again) (literal_units (is_unicode mode) 0 text) []) (sym its_environment)
       (subst (λ ts. TokenRow e ts (literal_units (is_unicode mode) 0 text) []) (sym its_tokens)
-      (tokens_again e mode refl no_sets (groups p) refl r.early.in_limit (names p) false (tokens p) [] false ([], end.0) end.1 (are_known e (tokens p) us [] fit r.spelled.row) r.early.tokens_obey 0))
+      (tokens_again e mode refl (groups p) refl r.early.in_limit (names p) false (tokens p) [] false ([], end.0) end.1 (are_known e (tokens p) us [] fit r.spelled.row) r.early.tokens_obey 0))
 
-pub spelled_is_read_back : (mode : Mode) → is_sets mode ≡ false → (p : Pattern) (us : List CodePoint) → Reads mode p us → FitIn mode us → us ≢ [] → IsReadBack mode p
-spelled_is_read_back mode no_sets p us r fit h =
+pub spelled_is_read_back : (mode : Mode) (p : Pattern) (us : List CodePoint) → Reads mode p us → FitIn mode us → us ≢ [] → IsReadBack mode p
+spelled_is_read_back mode p us r fit h =
     let e = environment mode p in
     let some = some_tokens e false (tokens p) (are_known e (tokens p) us [] fit r.spelled.row) (has_tokens e (tokens p) us r.spelled.row h) in
     let units : literal_units (is_unicode mode) 0 (tokens_text mode false (tokens p)) ≡ units_of mode (spelling (bare p) mode) =
@@ -116,7 +116,7 @@ spelled_is_read_back mode no_sets p us r fit h =
       reads = record {
         spelled = record {
           shape = its_shape mode p r.spelled.shape;
-          row = subst (λ units. TokenRow (environment mode (again mode p)) (tokens (again mode p)) units []) units (its_row mode p us no_sets fit r);
+          row = subst (λ units. TokenRow (environment mode (again mode p)) (tokens (again mode p)) units []) units (its_row mode p us fit r);
         };
         early = its_early mode p r.early;
       };

@@ -12,7 +12,7 @@ use Rattle.rx_units.specs.declared.code_point.EscapeKind.TheVariants as escape_k
 use Rattle.rx_units.specs.Units.{character_units, lead_of, literal_units, trail_of, unit}
 use Rattle.rx_model.specs.declared.mode.Mode.{Mode}
 use Rattle.rx_model.specs.declared.mode.Mode.TheVariants.{Legacy, Unicode, Sets}
-use Rattle.rx_model.specs.Inputs.Environment.{is_sets, is_unicode}
+use Rattle.rx_model.specs.Inputs.Environment.{is_unicode}
 use Rattle.rx_model.specs.Inputs.Flags.{flags_of, flags_ok}
 use Rattle.rx_model.specs.Reading.Headline.{IsParsed, IsReadAs, IsSameAgain}
 use Rattle.rx_model.specs.Inputs.Inputs.{Input, flags_for, literal_alone, mode_asked, units_asked}
@@ -35,9 +35,9 @@ same_as input tree back text ok (Err fault) parsed =
       reads = subst (λ w. Reads (mode_asked input) back.again (units_of (mode_asked input) w)) (sym text) back.reads;
     })
 
-pub same_again : (input : Input) (answer : Result Pattern Fault) → IsParsed (λ p. p) input answer → is_sets (mode_asked input) ≡ false → (tree : Pattern) (us : List CodePoint) → Reads (mode_asked input) tree us
+pub same_again : (input : Input) (answer : Result Pattern Fault) → IsParsed (λ p. p) input answer → (tree : Pattern) (us : List CodePoint) → Reads (mode_asked input) tree us
     → FitIn (mode_asked input) us → us ≢ [] → input.text ≡ spelling (bare tree) (mode_asked input) → flags_ok (flags_of input.flags) ≡ true → IsSameAgain tree answer
-same_again input answer parsed no_sets tree us r fit some text ok = same_as input tree (spelled_is_read_back (mode_asked input) no_sets tree us r fit some) text ok answer parsed
+same_again input answer parsed tree us r fit some text ok = same_as input tree (spelled_is_read_back (mode_asked input) tree us r fit some) text ok answer parsed
 
 -- A literal is never read from no units.
 some_units : (joined : Bool) (at c : ℕ) (cs : List ℕ) → literal_units joined at (c ∷ cs) ≢ []
@@ -85,10 +85,10 @@ text_fits Unicode text h l = absurd (let no : ⊥ = cc l in no)
 text_fits Sets text h l = absurd (let no : ⊥ = cc l in no)
 
 -- So it is with the spelling of what an input is read as.
-pub spelled_again : (input : Input) (tree : Pattern) → IsReadAs input tree → is_sets (mode_asked input) ≡ false → FitIn (mode_asked input) (units_asked input)
+pub spelled_again : (input : Input) (tree : Pattern) → IsReadAs input tree → FitIn (mode_asked input) (units_asked input)
     → (answer : Result Pattern Fault) → IsParsed (λ p. p) (literal_alone (spelling (bare tree) (mode_asked input)) (mode_asked input)) answer → IsSameAgain tree answer
-spelled_again input tree read no_sets fit answer parsed =
+spelled_again input tree read fit answer parsed =
     let mode = mode_asked input in
     let text = spelling (bare tree) mode in
-    let back = spelled_is_read_back mode no_sets tree (units_asked input) read.reads fit (some_asked mode input.text) in
+    let back = spelled_is_read_back mode tree (units_asked input) read.reads fit (some_asked mode input.text) in
     same_as (literal_alone text mode) tree (subst (λ m. IsReadBack m tree) (sym (alone_asks mode text)) back) (ap (spelling (bare tree)) (sym (alone_asks mode text))) (alone_right mode) answer parsed

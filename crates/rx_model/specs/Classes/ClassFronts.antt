@@ -1,21 +1,20 @@
--- How a class at the front of a text is read: an item, a range or the closer at a time. What it means stands in ClassRows.
-use Rattle.std.specs.Prelude.{ℕ, zero, suc, ◌+◌, ◌-◌, Bool, true, false, ◌==◌, ◌&&◌, Option, Some, None, List, [], ◌∷◌, drop, if◌then◌else◌}
+-- How a class at the front of a text is read: a token at a time, by its place, up to the closer. What it means stands in ClassRows.
+use Rattle.std.specs.Prelude.{ℕ, zero, suc, ◌+◌, ◌-◌, Bool, true, false, not, ◌==◌, ◌&&◌, ◌||◌, Option, Some, None, List, [], ◌∷◌, drop, if◌then◌else◌}
+use Rattle.rx_tables.specs.Characters.{is_reserved_punctuator}
 use Rattle.rx_ast.specs.declared.leaf.CharacterClassEscapeKind.{CharacterClassEscapeKind}
-use Rattle.rx_ast.specs.declared.leaf.CharacterKind.{CharacterKind}
 use Rattle.rx_ast.specs.declared.leaf.CharacterKind.TheVariants as kind
-use Rattle.rx_ast.specs.declared.class.CharacterClassContentsKind.TheVariants.{Union}
-use Rattle.rx_ast.specs.ClassTree.{Member, Members, Class, no_member, member, class}
-use Rattle.rx_ast.specs.ClassTree as tree
-use Rattle.rx_ast.specs.Forget.{nowhere}
+use Rattle.rx_ast.specs.ClassTree.{Class}
 use Rattle.rx_units.specs.declared.code_point.CodePoint.{CodePoint}
 use Rattle.rx_units.specs.Units.{values}
-use Rattle.rx_model.specs.Classes.ClassRows.{has_hyphen, has_threes, is_dashed, stands_raw_in_class}
-use Rattle.rx_model.specs.Classes.ClassTokens.{Atom, character, escape, property}
-use Rattle.rx_model.specs.Trees.Early.{any_strings}
-use Rattle.rx_model.specs.Inputs.Environment.{Environment, is_unicode}
+use Rattle.rx_model.specs.declared.mode.Mode.{Mode}
+use Rattle.rx_model.specs.Classes.ClassBuilds.{class_of_tokens}
+use Rattle.rx_model.specs.Classes.ClassRows.{Place, outside, fresh, at_dash, at_high, at_second, at_third, behind_meet, behind_less, in_strings, has_hyphen, has_threes, is_dashed, stands_raw_in_class}
+use Rattle.rx_model.specs.Classes.ClassTokens.{Atom, character, escape, property, is_character, ClassToken, bracket, closer, item, low, dash, high, meet, less, strings, letter, string_bar, strings_end}
+use Rattle.rx_model.specs.Inputs.Environment.{Environment, is_sets, is_unicode}
 use Rattle.rx_model.specs.Characters.EscapeFronts.{EscapeRead, escaped, nothing, too_many, no_unicode, any_escape_at, class_escape_at}
 use Rattle.rx_model.specs.FirstPass.Marks.{starts}
 use Rattle.rx_model.specs.Properties.PropertyFronts.{PropertyRead, property_read, no_property, property_front}
+use Rattle.rx_model.specs.Reading.ElementKinds.{NestedPlace, behind_of_class}
 use Rattle.rx_model.specs.Refusals.Stops.{is_hyphen_escaped}
 use Rattle.rx_model.specs.Characters.UnitKinds.{unit_kind}
 use Rattle.rx_model.specs.Properties.PropertyForms.{begins_property}
@@ -25,22 +24,8 @@ pub data AtomRead : Type 0 where
   atom_read : Atom → ℕ → AtomRead
   no_atom : AtomRead
 
--- at the beginning of an item: an atom that begins no range; a range, from one character to another; three items, of which the first has n
--- units; the closer; none of these
-pub data Piece : Type 0 where
-  one : Atom → ℕ → Piece
-  three : Atom → ℕ → Atom → ℕ → Piece
-  range : CharacterKind → ℕ → CharacterKind → ℕ → ℕ → Piece
-  ending : Piece
-  no_piece : Piece
-
--- what is in a class up to its closer, in n units; a class that does not end
-pub data MembersRead : Type 0 where
-  members_read : Members → ℕ → MembersRead
-  no_members : MembersRead
-
 abbrev pub property_atom : PropertyRead → AtomRead
-property_atom (property_read negative strings name value n) = atom_read (property negative strings name value) (n + 1)
+property_atom (property_read negative may name value n) = atom_read (property negative may name value) (n + 1)
 property_atom no_property = no_atom
 
 abbrev pub character_atom : EscapeRead → AtomRead
@@ -59,89 +44,140 @@ escape_in_class e [] = no_atom
 escape_in_class e (c ∷ w) =
     if c == 98 then atom_read (character kind.SingleEscape 8) 2
     else (if is_hyphen_escaped e.mode && c == 45 then atom_read (character kind.SingleEscape 45) 2
+    else (if is_sets e.mode && is_reserved_punctuator c then atom_read (character kind.Identifier c) 2
     else (if begins_property c && is_unicode e.mode then property_atom (property_front e.mode (c ∷ w))
-    else escape_atom (class_escape_at c) (any_escape_at true e (c ∷ w))))
+    else escape_atom (class_escape_at c) (any_escape_at true e (c ∷ w)))))
 
 -- the atom at the front
 unfoldable pub atom_at : Environment → List CodePoint → AtomRead
 atom_at e [] = no_atom
 atom_at e (u ∷ us) =
-    if stands_raw_in_class e.mode u.value then atom_read (character (unit_kind u.escape_kind) u.value) 1
+    if stands_raw_in_class e.mode u.value (values us) then atom_read (character (unit_kind u.escape_kind) u.value) 1
     else (if has_hyphen e.mode && u.value == 45 then atom_read (character kind.Symbol 45) 1
     else (if u.value == 92 then escape_in_class e (values us) else no_atom))
 
--- two atoms with `-` between that make no range
-abbrev pub three_of : Bool → Atom → ℕ → Atom → ℕ → Piece
-three_of true a n b m = three a n b (n + 1 + m)
-three_of false a n b m = no_piece
+-- a token in n units; none
+abbrev pub TokenRead : Type 0
+TokenRead = Option (ClassToken × ℕ)
 
--- two atoms of n units with `-` between; whether they may be three items
-abbrev pub pair_of : Bool → Atom → ℕ → Atom → ℕ → Piece
-pair_of threes (character k v) n (character j x) m = range k v j x (n + 1 + m)
-pair_of threes (character k v) n (escape j) m = three_of threes (character k v) n (escape j) m
-pair_of threes (character k v) n (property negative strings name value) m = three_of threes (character k v) n (property negative strings name value) m
-pair_of threes (escape k) n b m = three_of threes (escape k) n b m
-pair_of threes (property negative strings name value) n b m = three_of threes (property negative strings name value) n b m
+-- an atom as an item, where it may be one
+abbrev pub item_where : Bool → Atom → ℕ → TokenRead
+item_where true a n = Some (item a, n)
+item_where false a n = None
 
--- the same where the second was read or not
-abbrev pub pair_to : Bool → Atom → ℕ → AtomRead → Piece
-pair_to threes a n no_atom = no_piece
-pair_to threes a n (atom_read b m) = pair_of threes a n b m
+abbrev pub item_of : AtomRead → TokenRead
+item_of no_atom = None
+item_of (atom_read a n) = Some (item a, n)
 
-abbrev pub piece_from : Environment → AtomRead → List CodePoint → Piece
-piece_from e no_atom us = if starts 93 (values us) then ending else no_piece
-piece_from e (atom_read a n) us = if is_dashed (values (drop n us)) then pair_to (has_threes e.mode) a n (atom_at e (drop 1 (drop n us))) else one a n
+-- a character as the low end of a range, as its high end, and as a letter of class strings
+abbrev pub low_of : Atom → ℕ → TokenRead
+low_of (character k v) n = Some (low k v, n)
+low_of (escape k) n = None
+low_of (property negative may name value) n = None
 
--- what stands where an item may begin
-abbrev pub piece_at : Environment → List CodePoint → Piece
-piece_at e us = piece_from e (atom_at e us) us
+abbrev pub high_of : AtomRead → TokenRead
+high_of no_atom = None
+high_of (atom_read (character k v) n) = Some (high k v, n)
+high_of (atom_read (escape k) n) = None
+high_of (atom_read (property negative may name value) n) = None
 
-abbrev pub atom_member : Atom → Member
-atom_member (character k v) = tree.character (record { span = nowhere; kind = k; value = v })
-atom_member (escape k) = tree.escape (record { span = nowhere; kind = k })
-atom_member (property negative strings name value) = tree.property (record {
-  span = nowhere;
-  negative = negative;
-  strings = strings;
-  name = name;
-  value = value;
-})
+-- an atom before a `-` and what stands behind that: the low end of a range, or with neither `u` nor `v` the first of three items, or with `v` an item in any
+-- other case
+abbrev pub dashed_of : Mode → Atom → ℕ → AtomRead → TokenRead
+dashed_of mode a n no_atom = item_where (is_sets mode) a n
+dashed_of mode a n (atom_read b m) = if is_character a && is_character b then low_of a n else item_where (has_threes mode || is_sets mode) a n
 
-abbrev pub range_member : CharacterKind → ℕ → CharacterKind → ℕ → Member
-range_member k v j x = tree.range (record {
-  span = nowhere;
-  min = record { span = nowhere; kind = k; value = v };
-  max = record { span = nowhere; kind = j; value = x };
-})
+-- an atom before these units
+abbrev pub item_before : Environment → Atom → ℕ → List CodePoint → TokenRead
+item_before e a n rest = if is_dashed (values rest) then dashed_of e.mode a n (atom_at e (drop 1 rest)) else Some (item a, n)
 
--- a member of n units before others
-abbrev pub before_members : Member → ℕ → MembersRead → MembersRead
-before_members m n (members_read ms k) = members_read (member m ms) (n + k)
-before_members m n no_members = no_members
+abbrev pub bracket_at : List ℕ → TokenRead
+bracket_at [] = None
+bracket_at (c ∷ w) = if c == 91 then (if starts 94 w then Some (bracket true, 2) else Some (bracket false, 1)) else None
 
--- three members of n units before others, the second being a `-`
-abbrev pub before_three : Atom → Atom → ℕ → MembersRead → MembersRead
-before_three a b n r = before_members (atom_member a) n (before_members (atom_member (character kind.Symbol 45)) 0 (before_members (atom_member b) 0 r))
+-- whether these two characters stand next
+abbrev pub are_next : ℕ → ℕ → List ℕ → Bool
+are_next c d [] = false
+are_next c d (x ∷ w) = x == c && starts d w
 
--- what is in a class, from what was read on; `again` goes on behind n further units
-abbrev pub members_from : Piece → (ℕ → MembersRead) → MembersRead
-members_from (one a n) again = before_members (atom_member a) n (again (n - 1))
-members_from (three a m b n) again = before_three a b n (again (n - 1))
-members_from (range k v j x n) again = before_members (range_member k v j x) n (again (n - 1))
-members_from ending again = members_read no_member 1
-members_from no_piece again = no_members
+-- whether `\q{` stands next
+abbrev pub begins_strings : List ℕ → Bool
+begins_strings [] = false
+begins_strings (c ∷ w) = c == 92 && are_next 113 123 w
 
--- what is in a class behind n units that were read
-abbrev pub members_after : Environment → ℕ → List CodePoint → MembersRead
-members_after e skipped [] = no_members
-members_after e (suc skipped) (u ∷ us) = members_after e skipped us
-members_after e zero (u ∷ us) = members_from (piece_at e (u ∷ us)) (λ n. members_after e n us)
+-- an operand that is no atom, or the beginning of one
+abbrev pub operand_token : List ℕ → TokenRead
+operand_token w = if begins_strings w then Some (strings, 3) else bracket_at w
 
-abbrev pub class_of : Bool → ℕ → MembersRead → Option (Class × ℕ)
-class_of negative n (members_read ms k) = Some (class nowhere negative (any_strings ms) Union ms, n + k)
-class_of negative n no_members = None
+-- the token of a class with `v` alone that no atom begins, where an item may begin
+abbrev pub set_token : List ℕ → TokenRead
+set_token w = if are_next 38 38 w then Some (meet, 2) else (if are_next 45 45 w then Some (less, 2) else operand_token w)
 
--- the class behind a `[`, without spans, and how many units it has with the `[`
+-- where an item may begin
+abbrev pub fresh_token : Environment → AtomRead → List CodePoint → TokenRead
+fresh_token e (atom_read a n) us = item_before e a n (drop n us)
+fresh_token e no_atom us = if starts 93 (values us) then Some (closer, 1) else (if is_sets e.mode then set_token (values us) else None)
+
+-- where an operand may
+abbrev pub operand_of : AtomRead → List ℕ → TokenRead
+operand_of (atom_read a n) w = Some (item a, n)
+operand_of no_atom w = operand_token w
+
+-- in class strings
+abbrev pub string_token : AtomRead → List ℕ → TokenRead
+string_token (atom_read (character k v) n) w = Some (letter k v, n)
+string_token (atom_read (escape k) n) w = None
+string_token (atom_read (property negative may name value) n) w = None
+string_token no_atom w = if starts 124 w then Some (string_bar, 1) else (if starts 125 w then Some (strings_end, 1) else None)
+
+abbrev pub token_where : Bool → TokenRead → TokenRead
+token_where true r = r
+token_where false r = None
+
+-- the token at a place of a class, and how many units it takes
+unfoldable pub class_token_at : Environment → Place → List CodePoint → TokenRead
+class_token_at e outside us = bracket_at (values us)
+class_token_at e fresh us = fresh_token e (atom_at e us) us
+class_token_at e at_dash us = token_where (starts 45 (values us)) (Some (dash, 1))
+class_token_at e at_high us = high_of (atom_at e us)
+class_token_at e at_second us = token_where (starts 45 (values us)) (Some (item (character kind.Symbol 45), 1))
+class_token_at e at_third us = item_of (atom_at e us)
+class_token_at e behind_meet us = token_where (is_sets e.mode && not (starts 38 (values us))) (operand_of (atom_at e us) (values us))
+class_token_at e behind_less us = token_where (is_sets e.mode) (operand_of (atom_at e us) (values us))
+class_token_at e in_strings us = token_where (is_sets e.mode) (string_token (atom_at e us) (values us))
+
+-- tokens in n units; none
+abbrev pub TokensRead : Type 0
+TokensRead = Option (List ClassToken × ℕ)
+
+abbrev pub with_token : ClassToken → ℕ → TokensRead → TokensRead
+with_token t n None = None
+with_token t n (Some r) = Some (t ∷ r.0, n + r.1)
+
+-- the tokens on from behind n units; none where the class ends there
+abbrev pub tokens_on : ℕ → Option NestedPlace → (NestedPlace → ℕ → TokensRead) → TokensRead
+tokens_on n None again = Some ([], 0)
+tokens_on n (Some p) again = again p (n - 1)
+
+-- the tokens from a token on that was read at a place; `again` goes on behind further units
+abbrev pub tokens_from : Environment → NestedPlace → List CodePoint → TokenRead → (NestedPlace → ℕ → TokensRead) → TokensRead
+tokens_from e p us None again = None
+tokens_from e p us (Some r) again = with_token r.0 r.1 (tokens_on r.1 (behind_of_class e (Some p) r.0 (drop r.1 us)) again)
+
+-- the tokens of a class from a place on up to its closer, behind some units that were read
+abbrev pub class_tokens_at : Environment → NestedPlace → ℕ → List CodePoint → TokensRead
+class_tokens_at e p skipped [] = None
+class_tokens_at e p (suc skipped) (u ∷ us) = class_tokens_at e p skipped us
+class_tokens_at e p zero (u ∷ us) = tokens_from e p (u ∷ us) (class_token_at e p.1 (u ∷ us)) (λ q n. class_tokens_at e q n us)
+
+abbrev pub class_in : ℕ → Option Class → Option (Class × ℕ)
+class_in n None = None
+class_in n (Some c) = Some (c, n)
+
+abbrev pub class_of : TokensRead → Option (Class × ℕ)
+class_of None = None
+class_of (Some r) = class_in r.1 (class_of_tokens r.0)
+
+-- the class at the front, without spans, and how many units it has
 unfoldable pub class_front : Environment → List CodePoint → Option (Class × ℕ)
-class_front e [] = None
-class_front e (u ∷ us) = if u.value == 94 then class_of true 2 (members_after e 0 us) else class_of false 1 (members_after e 0 (u ∷ us))
+class_front e us = class_of (class_tokens_at e (0, outside) 0 us)

@@ -1,11 +1,10 @@
--- What each token of a class spells (ClassContents, NonemptyClassRanges, 22.2.1), and rows of them. A relation `.. w rest` says that the units w spell a
--- thing before all that follows them, rest. Of what `v` alone has only the rows that all modes share are here.
+-- What each token of a class spells (ClassContents, NonemptyClassRanges, and with `v` ClassSetExpression, 22.2.1), and rows of them. A relation `.. w rest`
+-- says that the units w spell a thing before all that follows them, rest.
 use Rattle.std.specs.Prelude.{◌≡◌, ℕ, ◌+◌, Bool, true, false, not, ◌==◌, ◌&&◌, ◌||◌, ◌⊎◌, List, [], ◌∷◌, ◌++◌, length}
+use Rattle.rx_tables.specs.Characters.{is_class_set_reserved_double_punctuator, is_class_set_syntax_character, is_reserved_punctuator}
 use Rattle.rx_ast.specs.declared.leaf.CharacterKind.{CharacterKind}
 use Rattle.rx_ast.specs.declared.leaf.CharacterKind.TheVariants as kind
-use Rattle.rx_ast.specs.declared.class.CharacterClassContentsKind.{CharacterClassContentsKind}
-use Rattle.rx_ast.specs.declared.class.CharacterClassContentsKind.TheVariants.{Union, Intersection, Subtraction}
-use Rattle.rx_ast.specs.ClassTree.{Class, class}
+use Rattle.rx_ast.specs.ClassTree.{Class}
 use Rattle.rx_ast.specs.Forget.{forget_class, same_kind}
 use Rattle.rx_units.specs.declared.code_point.CodePoint.{CodePoint}
 use Rattle.rx_units.specs.Units.{values}
@@ -13,24 +12,26 @@ use Rattle.rx_model.specs.declared.mode.Mode.{Mode}
 use Rattle.rx_model.specs.declared.mode.Mode.TheVariants.{Legacy, Unicode, Sets}
 use Rattle.rx_model.specs.Spelling.ClassText.{class_escape_text}
 use Rattle.rx_model.specs.Classes.ClassTokens.{Atom, character, escape, property, is_character, ClassToken, bracket, closer, item, low, dash, high, meet, less, strings, letter, string_bar, strings_end, ClassEvents, enter, leave, token, class_events, class_tokens}
-use Rattle.rx_model.specs.Trees.Early.{may_contain_strings}
-use Rattle.rx_model.specs.Inputs.Environment.{Environment, is_unicode}
-use Rattle.rx_model.specs.Characters.Escapes.{SpellsEscape}
+use Rattle.rx_model.specs.Classes.ClassShapes.{IsFitting, IsFlagged}
+use Rattle.rx_model.specs.Inputs.Environment.{Environment, is_sets, is_unicode}
+use Rattle.rx_model.specs.Characters.Escapes.{SpellsEscape, front_is}
 use Rattle.rx_model.specs.Characters.LegacyEscapes.{SpellsLegacy}
 use Rattle.rx_model.specs.FirstPass.Marks.{starts}
 use Rattle.rx_model.specs.Properties.PropertyEscapes.{IsProperty}
 use Rattle.rx_model.specs.Characters.UnitKinds.{unit_kind}
 
--- whether a value may stand for itself in a class (ClassAtomNoDash): neither a backslash, nor `]`, nor `-`
-abbrev pub stands_raw_in_class : Mode → ℕ → Bool
-stands_raw_in_class Legacy c = not (c == 92 || c == 93 || c == 45)
-stands_raw_in_class Unicode c = not (c == 92 || c == 93 || c == 45)
-stands_raw_in_class Sets c = false
+-- whether a value may stand for itself in a class before these characters (ClassAtomNoDash): neither a backslash, nor `]`, nor `-`; with `v`
+-- (ClassSetCharacter) no ClassSetSyntaxCharacter, and with what stands behind it no ClassSetReservedDoublePunctuator
+abbrev pub stands_raw_in_class : Mode → ℕ → List ℕ → Bool
+stands_raw_in_class Legacy c w = not (c == 92 || c == 93 || c == 45)
+stands_raw_in_class Unicode c w = not (c == 92 || c == 93 || c == 45)
+stands_raw_in_class Sets c w = not (is_class_set_syntax_character c || front_is (is_class_set_reserved_double_punctuator c) w)
 
--- the escapes that are characters in classes alone (ClassEscape, 22.2.1): `\b` and, with `u`, `\-`
+-- the escapes that are characters in classes alone (ClassEscape, 22.2.1): `\b`; with `u`, `\-`; with `v`, a ClassSetReservedPunctuator
 pub data SpellsInClassAlone (mode : Mode) : CharacterKind → ℕ → List ℕ → Type 0 where
   backspace : SpellsInClassAlone mode kind.SingleEscape 8 (98 ∷ [])
   hyphen : mode ≡ Unicode → SpellsInClassAlone mode kind.SingleEscape 45 (45 ∷ [])
+  reserved : (c : ℕ) → mode ≡ Sets → is_reserved_punctuator c ≡ true → SpellsInClassAlone mode kind.Identifier c (c ∷ [])
 
 -- whether a `-` may stand for itself
 abbrev pub has_hyphen : Mode → Bool
@@ -41,7 +42,7 @@ has_hyphen Sets = false
 -- A character in a class.
 pub data SpellsClassCharacter (e : Environment) : CharacterKind → ℕ → List CodePoint → List CodePoint → Type 0 where
   -- one unit
-  raw : {rest : List CodePoint} (unit : CodePoint) → stands_raw_in_class e.mode unit.value ≡ true → SpellsClassCharacter e (unit_kind unit.escape_kind) unit.value (unit ∷ []) rest
+  raw : {rest : List CodePoint} (unit : CodePoint) → stands_raw_in_class e.mode unit.value (values rest) ≡ true → SpellsClassCharacter e (unit_kind unit.escape_kind) unit.value (unit ∷ []) rest
   -- a `-`, however it was written
   hyphen : {rest : List CodePoint} (unit : CodePoint) → has_hyphen e.mode ≡ true → unit.value ≡ 45 → SpellsClassCharacter e kind.Symbol 45 (unit ∷ []) rest
   -- a backslash and an escape that is a character everywhere
@@ -96,11 +97,17 @@ pub record BeforeThird (e : Environment) (first : Atom) (rest : List CodePoint) 
   pub apart : (is_character first && is_character third) ≡ false
   pub threes : has_threes e.mode ≡ true
 
+-- With `v` an operand of a union is what no range begins with (ClassUnion): it is no character, or no `-` and character stand next.
+pub record BeginsNoRange (e : Environment) (a : Atom) (rest : List CodePoint) : Type 0 where
+  pub sets : is_sets e.mode ≡ true
+  pub none : is_character a ≡ true → BeforeHigh e rest → ⊥
+
 -- what stands behind an item: no `-` that could make it the low end of a range, or the other two of three items
 abbrev pub StandsBefore : Environment → Atom → List CodePoint → Type 0
-StandsBefore e a rest = (is_dashed (values rest) ≡ false) ⊎ BeforeThird e a rest
+StandsBefore e a rest = (is_dashed (values rest) ≡ false) ⊎ (BeforeThird e a rest ⊎ BeginsNoRange e a rest)
 
--- What may stand next in a class: its bracket; an item or a closer; the `-` of a range; the end of a range; the second and the third of three items.
+-- What may stand next in a class: its bracket; an item, an operator or a closer; the `-` of a range; the end of a range; the second and the third of three
+-- items; with `v` the operand behind `&&`, and behind `--`; what class strings may go on with.
 pub data Place : Type 0 where
   outside : Place
   fresh : Place
@@ -108,18 +115,47 @@ pub data Place : Type 0 where
   at_high : Place
   at_second : Place
   at_third : Place
+  behind_meet : Place
+  behind_less : Place
+  in_strings : Place
 
--- At a place the token is spelled.
+-- `[^`, or a `[` before no `^`
+abbrev pub SpellsBracket : Bool → List CodePoint → List CodePoint → Type 0
+SpellsBracket true w rest = values w ≡ 91 ∷ 94 ∷ []
+SpellsBracket false w rest = (values w ≡ 91 ∷ []) × (starts 94 (values rest) ≡ false)
+
+-- what an operand is or begins with (ClassSetOperand): an atom, a nested class, the `\q{` of class strings
+abbrev pub SpellsOperand : Environment → ClassToken → List CodePoint → List CodePoint → Type 0
+SpellsOperand e (item a) w rest = SpellsAtom e a w rest
+SpellsOperand e (bracket negative) w rest = SpellsBracket negative w rest
+SpellsOperand e strings w rest = values w ≡ 92 ∷ 113 ∷ 123 ∷ []
+SpellsOperand e t w rest = ⊥
+
+-- what class strings go on with (ClassStringDisjunction): a character, `|`, or the `}` that ends them
+abbrev pub SpellsOfStrings : Environment → ClassToken → List CodePoint → List CodePoint → Type 0
+SpellsOfStrings e (letter k v) w rest = SpellsClassCharacter e k v w rest
+SpellsOfStrings e string_bar w rest = values w ≡ 124 ∷ []
+SpellsOfStrings e strings_end w rest = values w ≡ 125 ∷ []
+SpellsOfStrings e t w rest = ⊥
+
+-- At a place the token is spelled. Nested classes, class strings, `&&` and `--` stand in classes with `v` alone, and no `&` stands right behind `&&`
+-- (ClassIntersection).
 abbrev pub SpellsInClass : Environment → Place → ClassToken → List CodePoint → List CodePoint → Type 0
-SpellsInClass e outside (bracket true) w rest = values w ≡ 91 ∷ 94 ∷ []
-SpellsInClass e outside (bracket false) w rest = (values w ≡ 91 ∷ []) × (starts 94 (values rest) ≡ false)
+SpellsInClass e outside (bracket negative) w rest = SpellsBracket negative w rest
 SpellsInClass e fresh closer w rest = values w ≡ 93 ∷ []
 SpellsInClass e fresh (item a) w rest = SpellsAtom e a w rest × StandsBefore e a rest
 SpellsInClass e fresh (low k v) w rest = SpellsClassCharacter e k v w rest × (is_dashed (values rest) ≡ true) × BeforeHigh e rest
+SpellsInClass e fresh (bracket negative) w rest = (is_sets e.mode ≡ true) × SpellsOperand e (bracket negative) w rest
+SpellsInClass e fresh strings w rest = (is_sets e.mode ≡ true) × SpellsOperand e strings w rest
+SpellsInClass e fresh meet w rest = (is_sets e.mode ≡ true) × (values w ≡ 38 ∷ 38 ∷ [])
+SpellsInClass e fresh less w rest = (is_sets e.mode ≡ true) × (values w ≡ 45 ∷ 45 ∷ [])
 SpellsInClass e at_dash dash w rest = values w ≡ 45 ∷ []
 SpellsInClass e at_high (high k v) w rest = SpellsClassCharacter e k v w rest
 SpellsInClass e at_second (item a) w rest = (a ≡ character kind.Symbol 45) × (values w ≡ 45 ∷ [])
 SpellsInClass e at_third (item a) w rest = SpellsAtom e a w rest
+SpellsInClass e behind_meet t w rest = (is_sets e.mode ≡ true) × SpellsOperand e t w rest × (starts 38 (values w) ≡ false)
+SpellsInClass e behind_less t w rest = (is_sets e.mode ≡ true) × SpellsOperand e t w rest
+SpellsInClass e in_strings t w rest = (is_sets e.mode ≡ true) × SpellsOfStrings e t w rest
 SpellsInClass e q t w rest = ⊥
 
 -- the place behind an item, by whether it is the first of three
@@ -131,6 +167,9 @@ behind_item at_third first = fresh
 behind_item outside first = fresh
 behind_item at_dash first = fresh
 behind_item at_high first = fresh
+behind_item behind_meet first = fresh
+behind_item behind_less first = fresh
+behind_item in_strings first = fresh
 
 -- the place behind a token, from its own place and with what follows it
 abbrev pub behind : Mode → Place → ClassToken → List CodePoint → Place
@@ -140,11 +179,11 @@ behind mode q (item a) rest = behind_item q (is_dashed (values rest) && has_thre
 behind mode q (low k v) rest = at_dash
 behind mode q dash rest = at_high
 behind mode q (high k v) rest = fresh
-behind mode q meet rest = fresh
-behind mode q less rest = fresh
-behind mode q strings rest = fresh
-behind mode q (letter k v) rest = fresh
-behind mode q string_bar rest = fresh
+behind mode q meet rest = behind_meet
+behind mode q less rest = behind_less
+behind mode q strings rest = in_strings
+behind mode q (letter k v) rest = in_strings
+behind mode q string_bar rest = in_strings
 behind mode q strings_end rest = fresh
 
 -- The tokens lead from these units, at a place of the class, to the rest.
@@ -161,23 +200,18 @@ ClassRow e o ((leave n) ∷ es) q i us r j rest = (n ≡ o i) × ClassRow e o es
 ClassRow e o ((token t) ∷ es) q i us r j rest =
     (w : List CodePoint) × (more : List CodePoint) × (us ≡ w ++ more) × SpellsInClass e q t w more × ClassRow e o es (behind e.mode q t more) (i + length w) more r j rest
 
--- the kind of a class's contents fits them: outside sets mode it is a union
-abbrev pub IsKindOf : Mode → CharacterClassContentsKind → Type 0
-IsKindOf mode Union = Unit {0}
-IsKindOf mode Intersection = ⊥
-IsKindOf mode Subtraction = ⊥
-
--- What the text of a class does not tell by itself: its kind, and that its flag is MayContainStrings (22.2.1.8).
-abbrev pub IsClassShape : Mode → Class → Type 0
-IsClassShape mode (class s negative may kind ms) = IsKindOf mode kind × (may ≡ may_contain_strings kind ms)
+-- What the text of a class does not tell by itself, of nested classes too: that its kind has as many operands as it takes, and that each flag is
+-- MayContainStrings (22.2.1.8).
+abbrev pub IsClassShape : Class → Type 0
+IsClassShape c = IsFitting c × IsFlagged c
 
 -- A whole class without spans is spelled: from before its bracket to behind its closer.
 pub record IsClass (e : Environment) (c : Class) (w rest : List CodePoint) : Type 0 where
   pub no_spans : forget_class same_kind c ≡ c
-  pub shape : IsClassShape e.mode c
+  pub shape : IsClassShape c
   pub row : ClassTokenRow e (class_tokens c) outside (w ++ rest) fresh rest
 
 -- The same from place i on, where o gives the offset of a place: each node in it has the span of what it spells.
 pub record IsClassSpanned (e : Environment) (o : ℕ → ℕ) (i : ℕ) (c : Class) (w rest : List CodePoint) : Type 0 where
-  pub shape : IsClassShape e.mode c
+  pub shape : IsClassShape c
   pub row : ClassRow e o (class_events c) outside i (w ++ rest) fresh (i + length w) rest

@@ -1,5 +1,7 @@
 -- Which rows of class tokens are front parts of a class that is free of early errors (22.2.1.1): the brackets that are open after them, and what each holds.
-use Rattle.std.specs.Prelude.{ℕ, ◌+◌, Bool, true, false, not, ◌||◌, ◌&&◌, ◌==◌, nat_le, Option, Some, None, List, [], ◌∷◌}
+use Rattle.std.specs.Prelude.{ℕ, ◌+◌, Bool, true, false, not, is_some, ◌||◌, ◌&&◌, ◌==◌, nat_le, Option, Some, None, List, [], ◌∷◌}
+use Rattle.rx_base.specs.declared.diagnostic.kinds.SetOperator.{SetOperator}
+use Rattle.rx_base.specs.declared.diagnostic.kinds.SetOperator.TheVariants as operator
 use Rattle.rx_model.specs.Classes.ClassTokens.{Atom, character, escape, property, ClassToken, bracket, closer, item, low, dash, high, meet, less, strings, letter, string_bar, strings_end}
 
 -- What a bracket holds so far: nothing, one operand, more of a union; operands with `&&` between, and such a `&&` at the end; the same with `--`.
@@ -61,6 +63,45 @@ is_whole meeting = false
 is_whole met = true
 is_whole lessening = false
 is_whole lessened = true
+
+-- whether it is a union (ClassUnion), or may become one
+abbrev pub is_union : Held → Bool
+is_union empty = true
+is_union single = true
+is_union several = true
+is_union meeting = false
+is_union met = false
+is_union lessening = false
+is_union lessened = false
+
+-- the operator of an intersection or a subtraction
+abbrev pub operator_of : Held → Option SetOperator
+operator_of empty = None
+operator_of single = None
+operator_of several = None
+operator_of meeting = Some operator.Intersection
+operator_of met = Some operator.Intersection
+operator_of lessening = Some operator.Subtraction
+operator_of lessened = Some operator.Subtraction
+
+-- whether an operand may stand next
+abbrev pub takes_operand : Held → Bool
+takes_operand held = is_some (operand held)
+
+-- whether the token is one that may stand next, as far as what is held tells
+abbrev pub may_follow : Held → ClassToken → Bool
+may_follow held (bracket negative) = takes_operand held
+may_follow held closer = is_whole held
+may_follow held (item a) = takes_operand held
+may_follow held (low k v) = is_some (ranged held)
+may_follow held dash = true
+may_follow held (high k v) = is_some (ranged held)
+may_follow held meet = is_some (met_by held)
+may_follow held less = is_some (less_by held)
+may_follow held strings = takes_operand held
+may_follow held (letter k v) = true
+may_follow held string_bar = true
+may_follow held strings_end = takes_operand held
 
 -- MayContainStrings (22.2.1.8) with one operand more, by that of what is held and that of the operand
 abbrev pub with_strings : Held → Bool → Bool → Bool

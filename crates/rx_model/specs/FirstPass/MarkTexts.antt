@@ -1,76 +1,90 @@
 -- A text as a row of marks, and the names of its openings, with no function that reads it (CountLeftCapturingParensWithin, 22.2.1.2). Text is a list of
 -- the values of units, and `.. w rest` says that w is a thing before all that follows it, rest. Marks has the functions that find them.
-use Rattle.std.specs.Prelude.{◌≡◌, ℕ, ◌+◌, Bool, false, ◌==◌, ◌||◌, Contains, None, Some, List, [], ◌∷◌, ◌++◌, length}
+use Rattle.std.specs.Prelude.{◌≡◌, ℕ, ◌+◌, Bool, false, true, ◌==◌, ◌&&◌, ◌||◌, Contains, None, Some, List, [], ◌∷◌, ◌++◌, length}
+use Rattle.rx_model.specs.declared.mode.Mode.{Mode}
 use Rattle.rx_model.specs.Characters.Escapes.{front_is}
 use Rattle.rx_model.specs.Groups.GroupNames.{SpellsName}
 use Rattle.rx_model.specs.Groups.Groups.{is_mark, looks}
 use Rattle.rx_model.specs.FirstPass.Marks.{Mark, other, bar, closer, quiet, capturing}
+use Rattle.rx_model.specs.Inputs.Environment.{is_sets, is_unicode}
 use Rattle.rx_model.specs.Quantifiers.Quantifiers.{is_question}
 
--- Behind the `[` of a class these units do not end it: no `]` is among them but behind a backslash, and each backslash has the unit behind it.
-pub data AreInClass : List ℕ → Type 0 where
-  no_unit : AreInClass []
-  escaped_unit : (c : ℕ) {w : List ℕ} → AreInClass w → AreInClass (92 ∷ c ∷ w)
-  class_unit : {c : ℕ} {w : List ℕ} → (c == 92 || c == 93) ≡ false → AreInClass w → AreInClass (c ∷ w)
+-- whether a unit of a class is more than a unit: a backslash, a `]` or, with `v`, a `[`
+abbrev pub is_class_mark : Mode → ℕ → Bool
+is_class_mark mode c = c == 92 || c == 93 || (c == 91 && is_sets mode)
+
+-- Behind the `[` of a class these units do not end it, and leave no class open in it: each backslash has the unit behind it; with `v` each `[` begins a class
+-- in it, up to and with its `]` (NestedClass, 22.2.1); and no `]` is among the others.
+pub data AreInClass (mode : Mode) : List ℕ → Type 0 where
+  no_unit : AreInClass mode []
+  escaped_unit : (c : ℕ) {w : List ℕ} → AreInClass mode w → AreInClass mode (92 ∷ c ∷ w)
+  class_unit : {c : ℕ} {w : List ℕ} → is_class_mark mode c ≡ false → AreInClass mode w → AreInClass mode (c ∷ w)
+  inner_class : (inside w : List ℕ) → is_sets mode ≡ true → AreInClass mode inside → AreInClass mode w → AreInClass mode (91 ∷ (inside ++ (93 ∷ w)))
+
+-- Behind the `[` of a class that nothing ends these units are all that is left of the text: a backslash may be the last of them, and with `v` a class in it
+-- may be open too.
+pub data AreInOpenClass (mode : Mode) : List ℕ → Type 0 where
+  all_inside : {inside : List ℕ} → AreInClass mode inside → AreInOpenClass mode inside
+  last_escape : (inside : List ℕ) → AreInClass mode inside → AreInOpenClass mode (inside ++ (92 ∷ []))
+  open_inside : (inside w : List ℕ) → is_sets mode ≡ true → AreInClass mode inside → AreInOpenClass mode w → AreInOpenClass mode (inside ++ (91 ∷ w))
 
 -- whether a unit begins an escape or a class, or opens, closes or parts groups: one of \ [ ( ) |
 abbrev pub begins_mark : ℕ → Bool
 begins_mark c = c == 92 || c == 91 || c == 40 || c == 41 || c == 124
 
 -- The units w are this mark before rest.
-pub data SpellsMark : Mark → List ℕ → List ℕ → Type 0 where
+pub data SpellsMark (mode : Mode) : Mark → List ℕ → List ℕ → Type 0 where
   -- a backslash and the unit behind it, whatever it is
-  escape : (c : ℕ) {rest : List ℕ} → SpellsMark other (92 ∷ c ∷ []) rest
+  escape : (c : ℕ) {rest : List ℕ} → SpellsMark mode other (92 ∷ c ∷ []) rest
   -- a backslash that ends the text
-  last_backslash : SpellsMark other (92 ∷ []) []
+  last_backslash : SpellsMark mode other (92 ∷ []) []
   -- a class from `[` to its `]`
-  class : {rest : List ℕ} (inside : List ℕ) → AreInClass inside → SpellsMark other (91 ∷ (inside ++ (93 ∷ []))) rest
-  -- a class that nothing ends, to the end of the text, of which a backslash may be the last unit
-  open_class : (inside : List ℕ) → AreInClass inside → SpellsMark other (91 ∷ inside) []
-  open_escape : (inside : List ℕ) → AreInClass inside → SpellsMark other (91 ∷ (inside ++ (92 ∷ []))) []
+  class : {rest : List ℕ} (inside : List ℕ) → AreInClass mode inside → SpellsMark mode other (91 ∷ (inside ++ (93 ∷ []))) rest
+  -- a class that nothing ends, to the end of the text
+  open_class : (w : List ℕ) → AreInOpenClass mode w → SpellsMark mode other (91 ∷ w) []
   -- `(` before no `?`
-  plain : {rest : List ℕ} → front_is is_question rest ≡ false → SpellsMark (capturing None) (40 ∷ []) rest
+  plain : {rest : List ℕ} → front_is is_question rest ≡ false → SpellsMark mode (capturing None) (40 ∷ []) rest
   -- `(?:`, `(?=`, `(?!`, `(?<=`, `(?<!`
-  ignoring : {rest : List ℕ} → SpellsMark quiet (40 ∷ 63 ∷ 58 ∷ []) rest
-  ahead : {rest : List ℕ} → SpellsMark quiet (40 ∷ 63 ∷ 61 ∷ []) rest
-  not_ahead : {rest : List ℕ} → SpellsMark quiet (40 ∷ 63 ∷ 33 ∷ []) rest
-  behind : {rest : List ℕ} → SpellsMark quiet (40 ∷ 63 ∷ 60 ∷ 61 ∷ []) rest
-  not_behind : {rest : List ℕ} → SpellsMark quiet (40 ∷ 63 ∷ 60 ∷ 33 ∷ []) rest
+  ignoring : {rest : List ℕ} → SpellsMark mode quiet (40 ∷ 63 ∷ 58 ∷ []) rest
+  ahead : {rest : List ℕ} → SpellsMark mode quiet (40 ∷ 63 ∷ 61 ∷ []) rest
+  not_ahead : {rest : List ℕ} → SpellsMark mode quiet (40 ∷ 63 ∷ 33 ∷ []) rest
+  behind : {rest : List ℕ} → SpellsMark mode quiet (40 ∷ 63 ∷ 60 ∷ 61 ∷ []) rest
+  not_behind : {rest : List ℕ} → SpellsMark mode quiet (40 ∷ 63 ∷ 60 ∷ 33 ∷ []) rest
   -- `(?` before none of : = ! <
-  modifying : {rest : List ℕ} → front_is is_mark rest ≡ false → SpellsMark quiet (40 ∷ 63 ∷ []) rest
+  modifying : {rest : List ℕ} → front_is is_mark rest ≡ false → SpellsMark mode quiet (40 ∷ 63 ∷ []) rest
   -- `(?<` before neither `=` nor `!`, with all units up to and with the next `>`
   named : {rest : List ℕ} (units : List ℕ) → front_is looks (units ++ (62 ∷ rest)) ≡ false → (Contains units 62 → ⊥)
-      → SpellsMark (capturing (Some units)) (40 ∷ 63 ∷ 60 ∷ (units ++ (62 ∷ []))) rest
+      → SpellsMark mode (capturing (Some units)) (40 ∷ 63 ∷ 60 ∷ (units ++ (62 ∷ []))) rest
   -- the same to the end, where no `>` comes
-  unclosed : (units : List ℕ) → front_is looks units ≡ false → (Contains units 62 → ⊥) → SpellsMark (capturing None) (40 ∷ 63 ∷ 60 ∷ units) []
-  closing : {rest : List ℕ} → SpellsMark closer (41 ∷ []) rest
-  parting : {rest : List ℕ} → SpellsMark bar (124 ∷ []) rest
+  unclosed : (units : List ℕ) → front_is looks units ≡ false → (Contains units 62 → ⊥) → SpellsMark mode (capturing None) (40 ∷ 63 ∷ 60 ∷ units) []
+  closing : {rest : List ℕ} → SpellsMark mode closer (41 ∷ []) rest
+  parting : {rest : List ℕ} → SpellsMark mode bar (124 ∷ []) rest
   -- any other unit
-  one_unit : {rest : List ℕ} (c : ℕ) → begins_mark c ≡ false → SpellsMark other (c ∷ []) rest
+  one_unit : {rest : List ℕ} (c : ℕ) → begins_mark c ≡ false → SpellsMark mode other (c ∷ []) rest
 
 -- All of a text is these marks, one after the other, each before all that follows it.
-pub data IsMarkRow : List ℕ → List Mark → Type 0 where
-  no_mark : IsMarkRow [] []
-  mark : {m : Mark} {ms : List Mark} (w rest : List ℕ) → SpellsMark m w rest → IsMarkRow rest ms → IsMarkRow (w ++ rest) (m ∷ ms)
+pub data IsMarkRow (mode : Mode) : List ℕ → List Mark → Type 0 where
+  no_mark : IsMarkRow mode [] []
+  mark : {m : Mark} {ms : List Mark} (w rest : List ℕ) → SpellsMark mode m w rest → IsMarkRow mode rest ms → IsMarkRow mode (w ++ rest) (m ∷ ms)
 
 -- The same by the places at which the marks begin, of which the first is `at`.
-pub data ArePlaces : ℕ → List ℕ → List ℕ → Type 0 where
-  no_place : {at : ℕ} → ArePlaces at [] []
-  place : {m : Mark} {at : ℕ} {ps : List ℕ} (w rest : List ℕ) → SpellsMark m w rest → ArePlaces (at + length w) rest ps → ArePlaces at (w ++ rest) (at ∷ ps)
+pub data ArePlaces (mode : Mode) : ℕ → List ℕ → List ℕ → Type 0 where
+  no_place : {at : ℕ} → ArePlaces mode at [] []
+  place : {m : Mark} {at : ℕ} {ps : List ℕ} (w rest : List ℕ) → SpellsMark mode m w rest → ArePlaces mode (at + length w) rest ps → ArePlaces mode at (w ++ rest) (at ∷ ps)
 
 -- The units w are a named opening before rest: `(?<`, a name and `>` (GroupSpecifier, 22.2.1). No `>` stands in a name, so that this is the first.
-pub record IsNamedOpening (unicode_mode : Bool) (name w rest : List ℕ) : Type 0 where
+pub record IsNamedOpening (mode : Mode) (name w rest : List ℕ) : Type 0 where
   pub units : List ℕ
   pub whole : w ≡ 40 ∷ 63 ∷ 60 ∷ (units ++ (62 ∷ []))
-  pub spells : SpellsName unicode_mode name units (62 ∷ rest)
+  pub spells : SpellsName (is_unicode mode) name units (62 ∷ rest)
 
 -- These are the names of a text's named openings, one for each mark that is one, in their order.
-pub data AreNames (unicode_mode : Bool) : List ℕ → List (List ℕ) → Type 0 where
-  no_opening : AreNames unicode_mode [] []
-  opening : {m : Mark} {name : List ℕ} {names : List (List ℕ)} (w rest : List ℕ) → SpellsMark m w rest → IsNamedOpening unicode_mode name w rest → AreNames unicode_mode rest names
-      → AreNames unicode_mode (w ++ rest) (name ∷ names)
-  nameless : {m : Mark} {names : List (List ℕ)} (w rest : List ℕ) → SpellsMark m w rest → ((name : List ℕ) → IsNamedOpening unicode_mode name w rest → ⊥) → AreNames unicode_mode rest names
-      → AreNames unicode_mode (w ++ rest) names
+pub data AreNames (mode : Mode) : List ℕ → List (List ℕ) → Type 0 where
+  no_opening : AreNames mode [] []
+  opening : {m : Mark} {name : List ℕ} {names : List (List ℕ)} (w rest : List ℕ) → SpellsMark mode m w rest → IsNamedOpening mode name w rest → AreNames mode rest names
+      → AreNames mode (w ++ rest) (name ∷ names)
+  nameless : {m : Mark} {names : List (List ℕ)} (w rest : List ℕ) → SpellsMark mode m w rest → ((name : List ℕ) → IsNamedOpening mode name w rest → ⊥) → AreNames mode rest names
+      → AreNames mode (w ++ rest) names
 
 -- The names of a list, each once, in the order in which they first appear: a name at its end comes last where it stands nowhere before, and adds nothing
 -- where it does.
@@ -80,17 +94,17 @@ pub data AreOnce : List (List ℕ) → List (List ℕ) → Type 0 where
   known : {names once : List (List ℕ)} (name : List ℕ) → AreOnce names once → Contains names name → AreOnce (names ++ (name ∷ [])) once
 
 -- These are the names of a text, each once, in the order of their first openings.
-pub record AreNamesOnce (unicode_mode : Bool) (us : List ℕ) (once : List (List ℕ)) : Type 0 where
+pub record AreNamesOnce (mode : Mode) (us : List ℕ) (once : List (List ℕ)) : Type 0 where
   pub names : List (List ℕ)
-  pub are : AreNames unicode_mode us names
+  pub are : AreNames mode us names
   pub first : AreOnce names once
 
 -- From a place of a text to another stand units that spell this name, right behind `(?<` and right before `>`.
-pub record IsNameBetween (unicode_mode : Bool) (us name : List ℕ) (from : ℕ) (to : ℕ) : Type 0 where
+pub record IsNameBetween (mode : Mode) (us name : List ℕ) (from : ℕ) (to : ℕ) : Type 0 where
   pub before : List ℕ
   pub units : List ℕ
   pub rest : List ℕ
   pub whole : us ≡ before ++ (40 ∷ 63 ∷ 60 ∷ (units ++ (62 ∷ rest)))
-  pub spells : SpellsName unicode_mode name units (62 ∷ rest)
+  pub spells : SpellsName (is_unicode mode) name units (62 ∷ rest)
   pub from_is : from ≡ length before + 3
   pub to_is : to ≡ from + length units

@@ -1,7 +1,9 @@
 -- What counting groups sees of a text (CountLeftCapturingParensWithin, 22.2.1.2), also of one that no tree spells: a row of marks, of which
 -- the openings and closers say what stands in what.
-use Rattle.std.specs.Prelude.{◌≡◌, ℕ, zero, suc, ◌+◌, ◌<◌, ◌≤◌, ◌==◌, ◌||◌, Bool, true, false, Option, Some, None, List, [], ◌∷◌, ◌++◌, length, drop, get_or, if◌then◌else◌}
+use Rattle.std.specs.Prelude.{◌≡◌, ℕ, zero, suc, ◌+◌, ◌<◌, ◌≤◌, ◌==◌, ◌&&◌, ◌||◌, Bool, true, false, Option, Some, None, List, [], ◌∷◌, ◌++◌, length, drop, get_or, if◌then◌else◌}
+use Rattle.rx_model.specs.declared.mode.Mode.{Mode}
 use Rattle.rx_model.specs.Groups.GroupNameReading.{name_of}
+use Rattle.rx_model.specs.Inputs.Environment.{is_sets, is_unicode}
 use Rattle.rx_model.specs.Trees.Names.{once_behind}
 
 -- what a stretch of a text is to the counting of groups
@@ -25,11 +27,17 @@ abbrev pub escape_rest : List ℕ → ℕ
 escape_rest [] = 0
 escape_rest (u ∷ us) = 1
 
--- how many units a class has behind its `[`: up to and with its `]`, or all; `escaped` says that a backslash stands right before
-abbrev pub class_rest : Bool → List ℕ → ℕ
-class_rest escaped [] = 0
-class_rest true (u ∷ us) = class_rest false us + 1
-class_rest false (u ∷ us) = if u == 93 then 1 else class_rest (u == 92) us + 1
+-- how many classes are open in a class behind a unit that ends none, where n were: with `v` a `[` opens one (NestedClass, 22.2.1)
+abbrev pub opened : Mode → ℕ → ℕ → ℕ
+opened mode u n = if u == 91 && is_sets mode then suc n else n
+
+-- how many units a class has behind its `[`: up to and with its `]`, or all; n classes are open in it, each up to and with a `]` of its own, and `escaped`
+-- says that a backslash stands right before
+abbrev pub class_rest : Mode → Bool → ℕ → List ℕ → ℕ
+class_rest mode escaped n [] = 0
+class_rest mode true n (u ∷ us) = class_rest mode false n us + 1
+class_rest mode false zero (u ∷ us) = if u == 93 then 1 else class_rest mode (u == 92) (opened mode u zero) us + 1
+class_rest mode false (suc n) (u ∷ us) = if u == 93 then class_rest mode false n us + 1 else class_rest mode (u == 92) (opened mode u (suc n)) us + 1
 
 -- the units before the next `>`, or all
 abbrev pub before_close : List ℕ → List ℕ
@@ -61,24 +69,24 @@ abbrev pub open_front : List ℕ → Mark × ℕ
 open_front us = if starts 63 us then question_front (drop 1 us) else (capturing None, 0)
 
 -- the mark that begins with a unit, and how many of the units behind it are the mark's
-unfoldable pub mark_front : ℕ → List ℕ → Mark × ℕ
-mark_front u us =
+unfoldable pub mark_front : Mode → ℕ → List ℕ → Mark × ℕ
+mark_front mode u us =
     if u == 92 then (other, escape_rest us)
-    else (if u == 91 then (other, class_rest false us)
+    else (if u == 91 then (other, class_rest mode false 0 us)
     else (if u == 40 then open_front us
     else (if u == 41 then (closer, 0)
     else (if u == 124 then (bar, 0)
     else (other, 0)))))
 
 -- the marks behind n units
-abbrev pub marks_behind : ℕ → List ℕ → List Mark
-marks_behind n [] = []
-marks_behind zero (u ∷ us) = (mark_front u us).0 ∷ marks_behind (mark_front u us).1 us
-marks_behind (suc n) (u ∷ us) = marks_behind n us
+abbrev pub marks_behind : Mode → ℕ → List ℕ → List Mark
+marks_behind mode n [] = []
+marks_behind mode zero (u ∷ us) = (mark_front mode u us).0 ∷ marks_behind mode (mark_front mode u us).1 us
+marks_behind mode (suc n) (u ∷ us) = marks_behind mode n us
 
 -- the marks of a text, each from where the one before ends
-abbrev pub marks : List ℕ → List Mark
-marks us = marks_behind 0 us
+abbrev pub marks : Mode → List ℕ → List Mark
+marks mode us = marks_behind mode 0 us
 
 -- how many groups a mark opens that capture
 abbrev pub mark_count : Mark → ℕ
@@ -94,13 +102,13 @@ count [] = 0
 count (m ∷ ms) = mark_count m + count ms
 
 -- the name of a named opening: what stands between its `<` and its `>`, where that is a name (GroupName, 22.2.1)
-abbrev pub mark_name : Bool → Mark → Option (List ℕ)
-mark_name unicode_mode other = None
-mark_name unicode_mode bar = None
-mark_name unicode_mode closer = None
-mark_name unicode_mode quiet = None
-mark_name unicode_mode (capturing None) = None
-mark_name unicode_mode (capturing (Some units)) = name_of unicode_mode units
+abbrev pub mark_name : Mode → Mark → Option (List ℕ)
+mark_name mode other = None
+mark_name mode bar = None
+mark_name mode closer = None
+mark_name mode quiet = None
+mark_name mode (capturing None) = None
+mark_name mode (capturing (Some units)) = name_of (is_unicode mode) units
 
 -- a name as a list of at most one
 abbrev pub listed : Option (List ℕ) → List (List ℕ)
@@ -108,13 +116,13 @@ listed None = []
 listed (Some name) = name ∷ []
 
 -- the names of the named openings, in order
-abbrev pub names : Bool → List Mark → List (List ℕ)
-names unicode_mode [] = []
-names unicode_mode (m ∷ ms) = listed (mark_name unicode_mode m) ++ names unicode_mode ms
+abbrev pub names : Mode → List Mark → List (List ℕ)
+names mode [] = []
+names mode (m ∷ ms) = listed (mark_name mode m) ++ names mode ms
 
 -- the names in order of first appearance, each once
-abbrev pub seen : Bool → List Mark → List (List ℕ)
-seen unicode_mode ms = once_behind [] (names unicode_mode ms)
+abbrev pub seen : Mode → List Mark → List (List ℕ)
+seen mode ms = once_behind [] (names mode ms)
 
 -- whether a mark opens a group
 abbrev pub opens : Mark → Bool
@@ -169,18 +177,18 @@ IsParted ms a b =
     (o : Option ℕ) × (k : ℕ) × IsCommon ms o a b × (a < k) × (k < b) × (mark_at ms k ≡ bar) × IsInner ms o k
 
 -- Two named openings of equal names might both take part (22.2.1.1, 22.2.1.4 MightBothParticipate): no bar parts them.
-pub record Clash (unicode_mode : Bool) (ms : List Mark) (a : ℕ) (b : ℕ) : Type 0 where
+pub record Clash (mode : Mode) (ms : List Mark) (a : ℕ) (b : ℕ) : Type 0 where
   pub in_order : a < b
   pub name : List ℕ
-  pub first : mark_name unicode_mode (mark_at ms a) ≡ Some name
-  pub second : mark_name unicode_mode (mark_at ms b) ≡ Some name
+  pub first : mark_name mode (mark_at ms a) ≡ Some name
+  pub second : mark_name mode (mark_at ms b) ≡ Some name
   pub together : IsParted ms a b → ⊥
 
 -- The first clash: the second of the two is the least, and then the first.
-pub record IsFirstClash (unicode_mode : Bool) (ms : List Mark) (a : ℕ) (b : ℕ) : Type 0 where
-  pub clash : Clash unicode_mode ms a b
-  pub second_least : (x y : ℕ) → Clash unicode_mode ms x y → b ≤ y
-  pub first_least : (x : ℕ) → Clash unicode_mode ms x b → a ≤ x
+pub record IsFirstClash (mode : Mode) (ms : List Mark) (a : ℕ) (b : ℕ) : Type 0 where
+  pub clash : Clash mode ms a b
+  pub second_least : (x y : ℕ) → Clash mode ms x y → b ≤ y
+  pub first_least : (x : ℕ) → Clash mode ms x b → a ≤ x
 
 -- how many units stand between the `<` and the `>` of a mark
 abbrev pub name_length : Mark → ℕ
@@ -192,19 +200,19 @@ name_length (capturing None) = 0
 name_length (capturing (Some units)) = length units
 
 -- the place of each mark, from place `at` on, behind n units
-abbrev pub places_behind : ℕ → ℕ → List ℕ → List ℕ
-places_behind at n [] = []
-places_behind at zero (u ∷ us) = at ∷ places_behind (at + 1) (mark_front u us).1 us
-places_behind at (suc n) (u ∷ us) = places_behind (at + 1) n us
+abbrev pub places_behind : Mode → ℕ → ℕ → List ℕ → List ℕ
+places_behind mode at n [] = []
+places_behind mode at zero (u ∷ us) = at ∷ places_behind mode (at + 1) (mark_front mode u us).1 us
+places_behind mode at (suc n) (u ∷ us) = places_behind mode (at + 1) n us
 
 -- the places of the marks of a text, in units
-abbrev pub places : List ℕ → List ℕ
-places us = places_behind 0 0 us
+abbrev pub places : Mode → List ℕ → List ℕ
+places mode us = places_behind mode 0 0 us
 
 -- the place at which the mark with this index begins
-abbrev pub mark_place : List ℕ → ℕ → ℕ
-mark_place us k = get_or (places us) k 0
+abbrev pub mark_place : Mode → List ℕ → ℕ → ℕ
+mark_place mode us k = get_or (places mode us) k 0
 
 -- the places before and after the name of the opening with this index: behind its `(?<`, and at its `>`
-abbrev pub name_places : List ℕ → ℕ → ℕ × ℕ
-name_places us k = (mark_place us k + 3, mark_place us k + 3 + name_length (mark_at (marks us) k))
+abbrev pub name_places : Mode → List ℕ → ℕ → ℕ × ℕ
+name_places mode us k = (mark_place mode us k + 3, mark_place mode us k + 3 + name_length (mark_at (marks mode us) k))

@@ -1,4 +1,4 @@
--- Modes, by two truth values, and which of them are read.
+-- Modes, by two truth values.
 use Rattle.std.specs.Prelude.{Bool, true, false}
 use Rattle.rx_model.specs.declared.mode.Mode.{Mode}
 use Rattle.rx_model.specs.declared.mode.Mode.TheVariants.{Legacy, Unicode, Sets}
@@ -8,9 +8,3 @@ abbrev pub mode_by : Bool → Bool → Mode
 mode_by unicode true = Sets
 mode_by true false = Unicode
 mode_by false false = Legacy
-
--- the modes that the readers take: all but that of `v`, in which they answer that it is not read yet
-abbrev pub is_read : Mode → Bool
-is_read Legacy = true
-is_read Unicode = true
-is_read Sets = false

@@ -1,22 +1,37 @@
 -- What the kinds of elements spell whose lists end before a stop, where no other definition says it.
-use Rattle.std.specs.Prelude.{◌≡◌, ◌⊎◌, ℕ, Bool, true, Option, Some, None, List, ◌++◌}
+use Rattle.std.specs.Prelude.{◌≡◌, ◌⊎◌, ℕ, zero, suc, Bool, true, Option, Some, None, List, ◌++◌}
 use Rattle.rx_units.specs.declared.code_point.CodePoint.{CodePoint}
-use Rattle.rx_model.specs.Classes.ClassRows.{Place, behind, SpellsInClass}
-use Rattle.rx_model.specs.Classes.ClassTokens.{ClassToken, closer}
+use Rattle.rx_model.specs.Classes.ClassRows.{Place, behind, fresh, outside, SpellsInClass}
+use Rattle.rx_model.specs.Classes.ClassTokens.{ClassToken, bracket, closer}
 use Rattle.rx_model.specs.Inputs.Environment.{Environment}
 use Rattle.rx_model.specs.Groups.GroupNames.{SpellsNameCharacter}
 use Rattle.rx_model.specs.FirstPass.Marks.{starts}
 
--- At a place of a class the token is spelled; behind the closer there is no place, and no token of the class.
-abbrev pub SpellsOfClass : Environment → Option Place → ClassToken → List CodePoint → List CodePoint → Type 0
-SpellsOfClass e None t w rest = ⊥
-SpellsOfClass e (Some q) t w rest = SpellsInClass e q t w rest
+-- A place of a class, with the number of the nested classes that are open there.
+abbrev pub NestedPlace : Type 0
+NestedPlace = ℕ × Place
 
--- the place behind a token: no class stands in a class yet, so that a closer is that of the whole class
-abbrev pub behind_of_class : Environment → Option Place → ClassToken → List CodePoint → Option Place
+-- At a place of a class the token is spelled; behind the closer of the whole class there is no place, and no token of the class.
+abbrev pub SpellsOfClass : Environment → Option NestedPlace → ClassToken → List CodePoint → List CodePoint → Type 0
+SpellsOfClass e None t w rest = ⊥
+SpellsOfClass e (Some p) t w rest = SpellsInClass e p.1 t w rest
+
+-- how many nested classes are open behind a bracket: that of the class itself opens none
+abbrev pub opened : ℕ → Place → ℕ
+opened inner outside = inner
+opened inner q = suc inner
+
+-- behind a closer
+abbrev pub closed : ℕ → Option NestedPlace
+closed zero = None
+closed (suc inner) = Some (inner, fresh)
+
+-- the place behind a token
+abbrev pub behind_of_class : Environment → Option NestedPlace → ClassToken → List CodePoint → Option NestedPlace
 behind_of_class e None t rest = None
-behind_of_class e (Some q) closer rest = None
-behind_of_class e (Some q) t rest = Some (behind e.mode q t rest)
+behind_of_class e (Some p) closer rest = closed p.0
+behind_of_class e (Some p) (bracket negative) rest = Some (opened p.0 p.1, fresh)
+behind_of_class e (Some p) t rest = Some (p.0, behind e.mode p.1 t rest)
 
 -- No character of a name stands at the front of a text.
 abbrev pub HasNoNameCharacter : Bool → Bool → List ℕ → Type 0

@@ -149,4 +149,4 @@ front e [] = None
 front e (u ∷ us) =
     if is_raw_at e u.value (values us) then Some (character (unit_kind u.escape_kind) u.value, 1)
     else (if u.value == 92 then backslash_front e (values us)
-    else (if u.value == 91 then bracket_token (class_front e us) else syntax_front e u.value (values us)))
+    else (if u.value == 91 then bracket_token (class_front e (u ∷ us)) else syntax_front e u.value (values us)))

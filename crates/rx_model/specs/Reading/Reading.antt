@@ -32,9 +32,7 @@ literal_text (c ∷ cs) = c ∷ cs
 abbrev pub units_of : Mode → List ℕ → List CodePoint
 units_of mode text = literal_units (is_unicode mode) 0 (literal_text text)
 
--- A tree that the text spells under the mode, free of early errors. With `u` the relation is whole, and the parser reads it. With neither `u` nor `v` the
--- definitions and the laws of reading and spelling stand too, and no parser reads it yet. With `v` classes have their shapes alone (ClassTokens, ClassRuns,
--- ClassShapes): of what stands in one only escapes are spelled, so that a text with any other class has no tree yet, but for an empty one.
+-- A tree that the text spells under the mode, free of early errors.
 pub record Reads (mode : Mode) (p : Pattern) (us : List CodePoint) : Type 0 where
   pub spelled : IsSpelled mode p us
   pub early : IsEarly p

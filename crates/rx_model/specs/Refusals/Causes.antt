@@ -51,8 +51,8 @@ unterminated (ignoring bits) = what.IgnoreGroup
 unterminated (looking kind) = what.LookAround
 
 -- the span of a name that the first pass finds, between its `<` and its `>`
-abbrev pub name_span : List CodePoint → ℕ → ℕ → ℕ → Span
-name_span us first added k = span_between us first added (name_places (values us) k).0 (name_places (values us) k).1
+abbrev pub name_span : Mode → List CodePoint → ℕ → ℕ → ℕ → Span
+name_span mode us first added k = span_between us first added (name_places mode (values us) k).0 (name_places mode (values us) k).1
 
 -- whether modifiers are to stand next, behind `(?`
 abbrev pub begins_modifiers : List ℕ → Bool
@@ -148,8 +148,8 @@ pub data IsCauseAtPlace (mode : Mode) (us : List CodePoint) (first added : ℕ) 
       → (is_unicode mode && starts 117 behind) ≡ true
       → IsCauseAtPlace mode us first added place (InvalidUnicodeEscapeSequence (span_between us first added (place + 4 + count) (place + 5 + count)))
   -- A reference has a number above that of the groups (22.2.1.1).
-  no_such_group : (place n : ℕ) (w more : List CodePoint) → IsPlace mode us place (w ++ more) → Spells (text_environment mode us) (indexed n) w more → text_groups us < n
-      → IsCauseAtPlace mode us first added place (InvalidIndexedReference (span_between us first added place (place + length w)) (text_groups us))
+  no_such_group : (place n : ℕ) (w more : List CodePoint) → IsPlace mode us place (w ++ more) → Spells (text_environment mode us) (indexed n) w more → text_groups mode us < n
+      → IsCauseAtPlace mode us first added place (InvalidIndexedReference (span_between us first added place (place + length w)) (text_groups mode us))
   -- Where `\k` is a reference, no `<` follows.
   no_group_name : (place : ℕ) (rest : List CodePoint) (behind : List ℕ) → IsPlace mode us place rest → (text_environment mode us).named ≡ true → values rest ≡ 92 ∷ 107 ∷ behind
       → starts 60 behind ≡ false → IsCauseAtPlace mode us first added place (EmptyGroupSpecifier (span_between us first added place (place + 2)))
@@ -175,8 +175,8 @@ pub data IsCauseAtPlace (mode : Mode) (us : List CodePoint) (first added : ℕ) 
 pub data IsCause (mode : Mode) (us : List CodePoint) (first added : ℕ) : Diagnostic → Type 0 where
   -- Two groups of one name might both take part (22.2.1.1): the second of the two names is the first that clashes with one before it, and the first is the
   -- first with which it does.
-  duplicated_names : (a b : ℕ) → IsFirstClash (is_unicode mode) (marks (values us)) a b
-      → IsCause mode us first added (DuplicatedCapturingGroupNames (name_span us first added a) (name_span us first added b))
+  duplicated_names : (a b : ℕ) → IsFirstClash mode (marks mode (values us)) a b
+      → IsCause mode us first added (DuplicatedCapturingGroupNames (name_span mode us first added a) (name_span mode us first added b))
   -- There are 2^32 - 1 groups or more (22.2.1.1, Pattern).
-  too_many_groups : HasNoClash mode us → most_groups < text_groups us → IsCause mode us first added (TooMayCapturingGroups (record { start = added; end = added }))
-  at_place : (place : ℕ) {diagnostic : Diagnostic} → HasNoClash mode us → text_groups us ≤ most_groups → IsCauseAtPlace mode us first added place diagnostic → IsCause mode us first added diagnostic
+  too_many_groups : HasNoClash mode us → most_groups < text_groups mode us → IsCause mode us first added (TooMayCapturingGroups (record { start = added; end = added }))
+  at_place : (place : ℕ) {diagnostic : Diagnostic} → HasNoClash mode us → text_groups mode us ≤ most_groups → IsCauseAtPlace mode us first added place diagnostic → IsCause mode us first added diagnostic

@@ -1,15 +1,15 @@
 -- When a character escape or a property escape is refused, and where: it is to stand at a place of a text, where the rest is left.
 use Rattle.std.specs.Prelude.{◌≡◌, ◌≢◌, ℕ, ◌+◌, ◌⊎◌, true, false, Contains, List, [], ◌∷◌, length}
 use Rattle.rx_base.specs.declared.diagnostic.Diagnostic.{Diagnostic}
-use Rattle.rx_base.specs.declared.diagnostic.Diagnostic.TheVariants.{UnterminatedPattern, TooLargeNumberDigits, InvalidUnicodeEscapeSequence, InvalidUnicodeProperty, InvalidUnicodePropertyOfStrings}
+use Rattle.rx_base.specs.declared.diagnostic.Diagnostic.TheVariants.{UnterminatedPattern, TooLargeNumberDigits, InvalidUnicodeEscapeSequence, InvalidUnicodeProperty, InvalidUnicodePropertyOfStrings, InvalidUnicodePropertyNameNegativeStrings}
 use Rattle.rx_base.specs.declared.diagnostic.kinds.DigitsKind.TheVariants as digits
 use Rattle.rx_base.specs.declared.diagnostic.kinds.PropertyPart.TheVariants as part
 use Rattle.rx_base.specs.declared.diagnostic.kinds.Unterminated.TheVariants as what
-use Rattle.rx_tables.specs.Properties.{IsValidUnicodeProperty, properties_of_strings}
+use Rattle.rx_tables.specs.Properties.{IsValidUnicodeProperty, binary_properties, general_category_values, properties_of_strings}
 use Rattle.rx_units.specs.declared.code_point.CodePoint.{CodePoint}
 use Rattle.rx_units.specs.Units.{values}
 use Rattle.rx_model.specs.declared.mode.Mode.{Mode}
-use Rattle.rx_model.specs.declared.mode.Mode.TheVariants.{Unicode}
+use Rattle.rx_model.specs.declared.mode.Mode.TheVariants.{Sets, Unicode}
 use Rattle.rx_model.specs.Inputs.Environment.{is_unicode}
 use Rattle.rx_model.specs.FirstPass.Marks.{starts}
 use Rattle.rx_model.specs.Properties.PropertyForms.{HasPair, HasRun, IsKnownRun, begins_property}
@@ -55,3 +55,7 @@ pub data IsPropertyCause (mode : Mode) (us : List CodePoint) (first added place 
   -- With `u` a run is a property of strings (22.2.1.1).
   of_strings : (w run behind : List ℕ) → mode ≡ Unicode → BeginsProperty mode (values rest) w → HasRun w run behind → behind ≢ [] → (IsKnownRun mode run → ⊥) → Contains properties_of_strings run
       → IsPropertyCause mode us first added place rest (InvalidUnicodePropertyOfStrings (span_between us first added (place + 3) (place + 3 + length run)) run)
+  -- With `v` a negative property escape is of strings (22.2.1.1).
+  negative_of_strings : (w run behind : List ℕ) → mode ≡ Sets → values rest ≡ 92 ∷ 80 ∷ 123 ∷ w → HasRun w run (125 ∷ behind) → (Contains general_category_values run → ⊥)
+      → (Contains binary_properties run → ⊥) → Contains properties_of_strings run
+      → IsPropertyCause mode us first added place rest (InvalidUnicodePropertyNameNegativeStrings (span_between us first added place (place + 4 + length run)) run)

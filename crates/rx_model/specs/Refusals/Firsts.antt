@@ -1,5 +1,5 @@
 -- Which refusal is the first of a text: where it holds no reading goes on, and none holds at a later place.
-use Rattle.std.specs.Prelude.{◌≡◌, ℕ, ◌<◌, ◌≤◌, Bool, true, false, List}
+use Rattle.std.specs.Prelude.{◌≡◌, ◌≢◌, ℕ, ◌<◌, ◌≤◌, Bool, true, false, List}
 use Rattle.rx_base.specs.declared.diagnostic.Diagnostic.{Diagnostic}
 use Rattle.rx_base.specs.declared.diagnostic.Diagnostic.TheVariants.{UnterminatedPattern, EmptyClassSetExpression, ClassSetExpressionInvalidCharacter, TooLargeNumberDigits, InvalidUnicodePropertyOfStrings, InvalidUnicodeEscapeSequence}
 use Rattle.rx_base.specs.declared.diagnostic.kinds.Unterminated.TheVariants as what
@@ -51,6 +51,13 @@ yields no_escape many_digits = true
 yields no_property of_strings = true
 yields a b = false
 
+-- Of two refusals the first gives way to the second: it says no more than that nothing stands at its place which may, the second says more, and holds at no
+-- earlier place.
+pub record GivesWay (place : ℕ) (diagnostic : Diagnostic) (further : ℕ) (other : Diagnostic) : Type 0 where
+  pub says_less : yielding diagnostic ≡ no_item
+  pub says_more : yielding other ≢ no_item
+  pub no_earlier : place ≤ further
+
 -- Of the refusals that hold at places, as this relation says, the diagnostic is the first: none holds at a later place than it does, and it yields to none
 -- at its own.
 pub record IsFirstOf (Holds : ℕ → Diagnostic → Type 0) (diagnostic : Diagnostic) : Type 0 where
@@ -61,8 +68,8 @@ pub record IsFirstOf (Holds : ℕ → Diagnostic → Type 0) (diagnostic : Diagn
 
 -- The refusal is the first of this text. Those of the groups of the whole text come before all else.
 pub data IsFirst (mode : Mode) (us : List CodePoint) (start added : ℕ) : Diagnostic → Type 0 where
-  of_groups : {diagnostic : Diagnostic} → IsCause mode us start added diagnostic → (HasNoClash mode us → text_groups us ≤ most_groups → ⊥) → IsFirst mode us start added diagnostic
-  of_places : {diagnostic : Diagnostic} → HasNoClash mode us → text_groups us ≤ most_groups → IsFirstOf (IsCauseAtPlace mode us start added) diagnostic → IsFirst mode us start added diagnostic
+  of_groups : {diagnostic : Diagnostic} → IsCause mode us start added diagnostic → (HasNoClash mode us → text_groups mode us ≤ most_groups → ⊥) → IsFirst mode us start added diagnostic
+  of_places : {diagnostic : Diagnostic} → HasNoClash mode us → text_groups mode us ≤ most_groups → IsFirstOf (IsCauseAtPlace mode us start added) diagnostic → IsFirst mode us start added diagnostic
 
 -- The refusal is the first of the class that begins at place `from`, where `at_class` is left.
 abbrev pub IsFirstInClass : Mode → List CodePoint → ℕ → ℕ → ℕ → List CodePoint → Diagnostic → Type 0

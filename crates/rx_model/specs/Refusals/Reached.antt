@@ -5,31 +5,31 @@ use Rattle.rx_units.specs.declared.code_point.CodePoint.{CodePoint}
 use Rattle.rx_units.specs.Units.{offset_at, values}
 use Rattle.rx_model.specs.declared.mode.Mode.{Mode}
 use Rattle.rx_model.specs.Trees.Early.{Obeys}
-use Rattle.rx_model.specs.Inputs.Environment.{Environment, environment_with, has_some, is_unicode}
+use Rattle.rx_model.specs.Inputs.Environment.{Environment, environment_with, has_some}
 use Rattle.rx_model.specs.FirstPass.Marks.{Clash, count, marks, seen}
 use Rattle.rx_model.specs.Reading.Rows.{TokenRow}
 use Rattle.rx_model.specs.Trees.Shapes.{run}
 use Rattle.rx_model.specs.Trees.Token.{Token, Opener, opener}
 
 -- how many groups of a text capture, by its first pass
-unfoldable pub text_groups : List CodePoint → ℕ
-text_groups us = count (marks (values us))
+unfoldable pub text_groups : Mode → List CodePoint → ℕ
+text_groups mode us = count (marks mode (values us))
 
 -- the names of its groups in order of first appearance, each once
 unfoldable pub text_names : Mode → List CodePoint → List (List ℕ)
-text_names mode us = seen (is_unicode mode) (marks (values us))
+text_names mode us = seen mode (marks mode (values us))
 
 -- the environment of a text: by the groups and the names that its first pass finds
 abbrev pub text_environment : Mode → List CodePoint → Environment
-text_environment mode us = environment_with mode (text_groups us) (has_some (text_names mode us))
+text_environment mode us = environment_with mode (text_groups mode us) (has_some (text_names mode us))
 
 -- No two groups of one name might both take part (22.2.1.1).
 abbrev pub HasNoClash : Mode → List CodePoint → Type 0
-HasNoClash mode us = (a b : ℕ) → Clash (is_unicode mode) (marks (values us)) a b → ⊥
+HasNoClash mode us = (a b : ℕ) → Clash mode (marks mode (values us)) a b → ⊥
 
 -- what the tokens of a text owe by themselves
 abbrev pub AreObeying : Mode → List CodePoint → List Token → Type 0
-AreObeying mode us tokens = All (Obeys (text_groups us) (text_names mode us)) tokens
+AreObeying mode us tokens = All (Obeys (text_groups mode us) (text_names mode us)) tokens
 
 -- Tokens lead from the beginning to this place, where the rest is left, these groups are open, and a quantifier may follow or not; each is
 -- spelled before all that follows it and is free of early errors by itself.

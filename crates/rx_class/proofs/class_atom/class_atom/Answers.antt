@@ -10,4 +10,4 @@ unit_character-requires-clause-no_backslash c =
     ap (λ us. starts 92 (values us)) (sym c.remaining_code_points.ensures.units) ∙ begins_otherwise c.remaining_code_points.result.now _ c.if-unit.false
 
 pub returns : goal.returns
-returns c = c.unit_character.ensures.atom (environment_of c.args.state.now) c.requires.read
+returns c = c.unit_character.ensures.atom (environment_of c.args.state.now) c.requires.no_sets

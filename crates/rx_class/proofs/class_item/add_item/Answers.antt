@@ -39,7 +39,7 @@ returns-then-stands_alone-clause-added c =
     ap (λ us. stands_alone (values us)) (sym c.remaining_code_points-units.ensures.units) ∙ sym c.stands_alone.ensures ∙ c.if-stands_alone.true in
     record {
       it = _;
-      gives = lone_gives (environment_of c.args.state.now) c.args.spans.now c.args.reader.now c.requires.read (character.ensures.atom _ c.requires.read) character.ensures.reader alone (character_is character.result);
+      gives = lone_gives (environment_of c.args.state.now) c.args.spans.now c.args.reader.now c.requires.no_sets (character.ensures.atom _ c.requires.no_sets) character.ensures.reader alone (character_is character.result);
       adds = c.in_ok-push.ensures.ok;
     }
 
@@ -53,7 +53,7 @@ returns-in_err-push-2-clause-refused c =
 
 pub returns-then-stands_range-clause-added : goal.returns-then-stands_range-clause-added
 returns-then-stands_range-clause-added c =
-    record { it = _; gives = c.unit_range-range.ensures.item _ c.in_ok-range_contents.field-0 c.requires.read c.in_ok-range_contents.ensures; adds = c.in_ok-push-2.ensures.ok }
+    record { it = _; gives = c.unit_range-range.ensures.item _ c.in_ok-range_contents.field-0 c.requires.no_sets c.in_ok-range_contents.ensures; adds = c.in_ok-push-2.ensures.ok }
 
 pub returns-in_err-push_item-clause-refused : goal.returns-in_err-push_item-clause-refused
 returns-in_err-push_item-clause-refused c =

@@ -8,7 +8,7 @@ use Rattle.rx_class.proofs.class_item.class_item.Goals as goal
 
 pub returns-in_err-low : goal.returns-in_err-low
 returns-in_err-low c =
-    handed (GivesItem (environment_of c.args.state.now) c.args.spans.now c.args.reader.now c.class_atom.new.reader) c.from_residual.ensures.1 (first_gives _ _ _ c.in_err-low.ensures)
+    handed (GivesItem (environment_of c.args.state.now) c.args.spans.now c.args.reader.now c.class_atom.new.reader) c.from_residual.ensures.1 (first_gives _ _ _ c.requires.no_sets c.in_err-low.ensures)
 
 pub returns-in_err-into_contents : goal.returns-in_err-into_contents
 returns-in_err-into_contents c =
@@ -16,7 +16,7 @@ returns-in_err-into_contents c =
 
 pub returns-then-not-is_dashed : goal.returns-then-not-is_dashed
 returns-then-not-is_dashed c =
-    alone_gives _ _ _ c.requires.read c.in_ok-low.ensures c.remaining_code_points.ensures.units c.is_dashed.ensures c.if-not-is_dashed.true c.in_ok-into_contents.ensures
+    alone_gives _ _ _ c.requires.no_sets c.in_ok-low.ensures c.remaining_code_points.ensures.units c.is_dashed.ensures c.if-not-is_dashed.true c.in_ok-into_contents.ensures
 
 pub span_to_here-hyphen-requires-clause-start : goal.span_to_here-hyphen-requires-clause-start
 span_to_here-hyphen-requires-clause-start c = offset_here_fits c.args.spans.now _ c.class_atom.new.reader (atom_fits c.in_ok-low.ensures c.requires.fits) c.offset-start.ensures.value
@@ -35,7 +35,7 @@ class_atom-requires-2-clause-stands c =
 pub returns-in_err-high : goal.returns-in_err-high
 returns-in_err-high c =
     let dash = dash_given _ _ _ c.in_ok-low.ensures c.remaining_code_points.ensures.units c.is_dashed.ensures c.if-not-is_dashed.false c.offset-start.ensures.value c.advance.ensures c.span_to_here-hyphen.ensures in
-    handed (GivesItem (environment_of c.args.state.now) c.args.spans.now c.args.reader.now c.class_atom-2.new.reader) c.from_residual-in_err-high.ensures.1 (second_gives _ _ _ dash c.in_err-high.ensures)
+    handed (GivesItem (environment_of c.args.state.now) c.args.spans.now c.args.reader.now c.class_atom-2.new.reader) c.from_residual-in_err-high.ensures.1 (second_gives _ _ _ c.requires.no_sets dash c.in_err-high.ensures)
 
 pub returns-in_err-three_items : goal.returns-in_err-three_items
 returns-in_err-three_items c =
@@ -46,13 +46,13 @@ returns-in_err-three_items c =
 pub returns-then-are_three : goal.returns-then-are_three
 returns-then-are_three c =
     let dash = dash_given _ _ _ c.in_ok-low.ensures c.remaining_code_points.ensures.units c.is_dashed.ensures c.if-not-is_dashed.false c.offset-start.ensures.value c.advance.ensures c.span_to_here-hyphen.ensures in
-    three_gives _ _ _ _ _ c.requires.read (three_test _ c.is_unicode.ensures c.are_three.ensures c.if-are_three.true) (pair_given _ _ _ dash c.in_ok-high.ensures) c.in_ok-three_items.ensures
+    three_gives _ _ _ _ _ c.requires.no_sets (three_test _ c.is_unicode.ensures c.are_three.ensures c.if-are_three.true) (pair_given _ _ _ dash c.in_ok-high.ensures) c.in_ok-three_items.ensures
 
 pub returns-in_err-range : goal.returns-in_err-range
 returns-in_err-range c =
     let dash = dash_given _ _ _ c.in_ok-low.ensures c.remaining_code_points.ensures.units c.is_dashed.ensures c.if-not-is_dashed.false c.offset-start.ensures.value c.advance.ensures c.span_to_here-hyphen.ensures in
     let no_three = three_test _ c.is_unicode.ensures c.are_three.ensures c.if-are_three.false in
-    let gives = range_refused _ _ _ _ c.requires.read c.requires.environment _ _ _ no_three (pair_given _ _ _ dash c.in_ok-high.ensures) c.in_err-range.ensures in
+    let gives = range_refused _ _ _ _ c.requires.no_sets c.requires.environment _ _ _ no_three (pair_given _ _ _ dash c.in_ok-high.ensures) c.in_err-range.ensures in
     handed (GivesItem (environment_of c.args.state.now) c.args.spans.now c.args.reader.now c.class_atom-2.new.reader) c.from_residual-in_err-range.ensures.1 gives
 
 pub returns-in_err-range_contents : goal.returns-in_err-range_contents

@@ -20,11 +20,11 @@ unit_character-max-requires-clause-no_backslash c =
     range_goes_on (range_front c.args.reader.now c.unit_character-min.new.reader c.advance.new.self _ refl c.requires.range c.unit_character-min.ensures.reader c.advance.ensures)
 
 pub returns-clause-item : goal.returns-clause-item
-returns-clause-item c = λ e item read is.
+returns-clause-item c = λ e item no_sets is.
     let min = c.unit_character-min in
     let max = c.unit_character-max in
     let front = range_front c.args.reader.now min.new.reader c.advance.new.self _ refl c.requires.range min.ensures.reader c.advance.ensures in
-    units_range_gives e c.args.spans.now c.args.reader.now max.new.reader front (min.ensures.atom e read) c.advance.ensures (max.ensures.atom e read)
+    units_range_gives e c.args.spans.now c.args.reader.now max.new.reader front (min.ensures.atom e no_sets) c.advance.ensures (max.ensures.atom e no_sets)
     (range_ordered front min.result.value max.result.value min.ensures.value max.ensures.value)
     (is ∙ ap (λ (s : Span). range (record { span = s; min = min.result; max = max.result })) c.new-span.ensures)
 

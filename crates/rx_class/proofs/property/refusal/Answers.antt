@@ -1,5 +1,5 @@
 use Rattle.std.proofs.Common.{◌-◌, ap, sym, ◌∙◌}
-use Rattle.rx_base.specs.declared.diagnostic.Diagnostic.TheVariants.{UnterminatedPattern, InvalidUnicodeProperty, InvalidUnicodePropertyOfStrings}
+use Rattle.rx_base.specs.declared.diagnostic.Diagnostic.TheVariants.{UnterminatedPattern, InvalidUnicodeProperty, InvalidUnicodePropertyOfStrings, InvalidUnicodePropertyNameNegativeStrings}
 use Rattle.rx_base.specs.declared.diagnostic.kinds.PropertyPart.TheVariants as part
 use Rattle.rx_base.specs.declared.diagnostic.kinds.Unterminated.TheVariants as what
 use Rattle.rx_class.specs.PropertyFound.{property_refusal}
@@ -27,3 +27,13 @@ returns-in-NameOrValue-clause-refusal c = ap (λ span. InvalidUnicodeProperty sp
 pub returns-in-OfStrings-clause-refusal : goal.returns-in-OfStrings-clause-refusal
 returns-in-OfStrings-clause-refusal c = ap (λ span. InvalidUnicodePropertyOfStrings span c.in-OfStrings.name) (from_brace c.args.reader.now c.args.spans.now _ _ c.requires.backslash.behind c.span_ahead-span-in-OfStrings.ensures.span)
     ∙ ap (property_refusal c.args.reader.now.units c.args.reader.now.first c.args.spans.now (c.args.reader.now.place - 1)) (sym c.in-OfStrings.is)
+
+pub span_to_here-span-requires-in-NegativeOfStrings-clause-start : goal.span_to_here-span-requires-in-NegativeOfStrings-clause-start
+span_to_here-span-requires-in-NegativeOfStrings-clause-start c = start_fits c.args.spans.now c.args.span_start c.args.reader.now c.requires.fits c.requires.backslash
+
+pub returns-in-NegativeOfStrings-clause-refusal : goal.returns-in-NegativeOfStrings-clause-refusal
+returns-in-NegativeOfStrings-clause-refusal c =
+    ap (λ span. InvalidUnicodePropertyNameNegativeStrings span c.in-NegativeOfStrings.name)
+    (cut_off c.args.reader.now c.skip-in-NegativeOfStrings.new.self _ c.args.spans.now c.args.span_start _ c.requires.backslash.behind c.requires.backslash.start
+    c.skip-in-NegativeOfStrings.ensures c.span_to_here-span-in-NegativeOfStrings.ensures)
+    ∙ ap (property_refusal c.args.reader.now.units c.args.reader.now.first c.args.spans.now (c.args.reader.now.place - 1)) (sym c.in-NegativeOfStrings.is)

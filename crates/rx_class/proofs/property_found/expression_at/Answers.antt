@@ -18,3 +18,9 @@ returns-in-None c =
     let first = first_is c.args.units.now 123 _ c.in-len1-up.len_at_least c.if-brace.false in
     let behind = values (take (length c.args.units.now - 1) (drop 1 c.args.units.now)) in
     IfOk-weaker c.run_found.result _ _ (λ found h. rw first (h behind record { no_pair = c.in-None.ensures; is_run = c.run_at.ensures })) c.run_found.ensures
+
+pub returns-in-Some : goal.returns-in-Some
+returns-in-Some c =
+    let first = first_is c.args.units.now 123 _ c.in-len1-up.len_at_least c.if-brace.false in
+    let behind = values (take (length c.args.units.now - 1) (drop 1 c.args.units.now)) in
+    IfOk-weaker c.pair_found.result _ _ (λ found h. rw first (h c.args.sets behind c.in-Some.ensures)) c.pair_found.ensures

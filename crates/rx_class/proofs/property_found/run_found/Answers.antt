@@ -1,10 +1,11 @@
-use Rattle.std.proofs.Common.{◌≡◌, [], ◌⊎◌, inl, inr, sym, ◌∙◌, codes, Some, None}
+use Rattle.std.proofs.Common.{◌≡◌, [], ◌⊎◌, inl, inr, subst, sym, ◌∙◌}
+use Rattle.std.proofs.lemmas.Result.{IfOk-weaker}
 use Rattle.rx_units.specs.Units.{values}
-use Rattle.rx_model.specs.Properties.PropertyEscapes.{binary, category}
+use Rattle.rx_model.specs.Properties.PropertyForms.{HasRun}
+use Rattle.rx_class.specs.PropertyFound.{IsLone}
 use Rattle.rx_class.proofs.PairFound.{no_units, some_units}
-use Rattle.rx_class.proofs.PropertyHalts.{run_of_strings, run_spelled, run_unclosed, run_unknown, run_unterminated}
-use Rattle.rx_class.proofs.PropertyTables.{category_text}
-use Rattle.rx_class.proofs.property_found.run_found.Goals.{then-is_empty-via-then-is_empty, then-is_empty-via-else-is_empty+then-is_empty-2, in-Category+else-is_closed, in-Binary+else-is_closed-2}
+use Rattle.rx_class.proofs.PropertyHalts.{known_run, run_unclosed, run_unknown, run_unterminated}
+use Rattle.rx_class.proofs.property_found.run_found.Goals.{then-is_empty-via-then-is_empty, then-is_empty-via-else-is_empty+then-is_empty-2}
 use Rattle.rx_class.proofs.property_found.run_found.Goals as goal
 
 pub returns-then-is_empty : goal.returns-then-is_empty
@@ -15,33 +16,22 @@ returns-then-is_empty c = λ w r mode has.
     ] in
     rw c.unterminated.ensures (run_unterminated has c.args.negative w c.args.run.now c.args.behind.now r short)
 
-pub returns-in_ok-from_str-in-Category : goal.returns-in_ok-from_str-in-Category
-returns-in_ok-from_str-in-Category c = λ w r mode has.
-    let known = rw (c.as_str.ensures ∙ c.in_ok-text.ensures) at c.in-Category.ensures in
-    rw (c.in_ok-from_str-in-Category.ensures ∙ category_text, c.in_ok-text.ensures)
-    (run_spelled has c.args.negative w c.args.run.now c.args.behind.now r (codes "General_Category") (Some (values c.args.run.now)) (category known) (sym c.if-is_closed.ensures))
+pub returns-then-not-is_known : goal.returns-then-not-is_known
+returns-then-not-is_known c = λ w r mode has.
+    let word_is = c.in_ok-word.ensures in
+    let named = subst (λ word. IsLone word c.named_alone-lone.result) (c.as_str.ensures ∙ word_is) c.named_alone-lone.ensures in
+    rw (c.unknown.ensures, word_is) (run_unknown has c.args.negative w c.args.run.now c.args.behind.now r c.named_alone-lone.result named
+    (some_units c.args.run.now (sym c.is_empty.ensures ∙ c.if-is_empty.false))
+    (some_units c.args.behind.now (sym c.is_empty-else-is_empty.ensures ∙ c.if-is_empty-2.false)) (sym c.is_known.ensures ∙ c.if-not-is_known.true))
 
-pub returns-in-Binary : goal.returns-in-Binary
-returns-in-Binary c = λ w r mode has.
-    let known = rw (c.as_str.ensures ∙ c.in_ok-text.ensures) at c.in-Binary.ensures in
-    rw c.in_ok-text.ensures (run_spelled has c.args.negative w c.args.run.now c.args.behind.now r (values c.args.run.now) None (binary known.0 known.1) (sym c.if-is_closed-2.ensures))
+pub returns-then-not-is_closed : goal.returns-then-not-is_closed
+returns-then-not-is_closed c = λ w r mode has.
+    let named = subst (λ word. IsLone word c.named_alone-lone.result) (c.as_str.ensures ∙ c.in_ok-word.ensures) c.named_alone-lone.ensures in
+    let known = known_run has (values c.args.run.now) c.named_alone-lone.result named (sym c.is_known.ensures ∙ c.if-not-is_known.false) in
+    rw c.unterminated-then-not-is_closed.ensures (run_unclosed has c.args.negative w c.args.run.now c.args.behind.now r known
+    (some_units c.args.behind.now (sym c.is_empty-else-is_empty.ensures ∙ c.if-is_empty-2.false)) (sym c.is_closed.ensures ∙ c.if-not-is_closed.true))
 
-pub returns-in-OfStrings : goal.returns-in-OfStrings
-returns-in-OfStrings c = λ w r mode has.
-    let known = rw (c.as_str.ensures ∙ c.in_ok-text.ensures) at c.in-OfStrings.ensures in
-    rw c.in_ok-text.ensures (run_of_strings has c.args.negative w c.args.run.now c.args.behind.now r (some_units c.args.behind.now (sym c.is_empty-else-is_empty.ensures ∙ c.if-is_empty-2.false)) known)
-
-pub returns-in-Nothing : goal.returns-in-Nothing
-returns-in-Nothing c = λ w r mode has.
-    let known = rw (c.as_str.ensures ∙ c.in_ok-text.ensures) at c.in-Nothing.ensures in
-    run_unknown has c.args.negative w c.args.run.now c.args.behind.now r (some_units c.args.run.now (sym c.is_empty.ensures ∙ c.if-is_empty.false))
-    (some_units c.args.behind.now (sym c.is_empty-else-is_empty.ensures ∙ c.if-is_empty-2.false)) known
-
-pub returns-in-Category-2 : goal.returns-in-Category-2
-returns-in-Category-2 c = λ w r mode has.
-    let more = some_units c.args.behind.now (sym c.is_empty-else-is_empty.ensures ∙ c.if-is_empty-2.false) in
-    let same = c.as_str.ensures ∙ c.in_ok-text.ensures in
-    rw c.unterminated-in-Category-2.ensures (elim c.in-Category-2-1.branch [
-      | in-Category+else-is_closed b ↦ run_unclosed has c.args.negative w c.args.run.now c.args.behind.now r (inl (rw same at b.in-Category.ensures)) more (sym b.if-is_closed.ensures)
-      | in-Binary+else-is_closed-2 b ↦ run_unclosed has c.args.negative w c.args.run.now c.args.behind.now r (inr (inl (let known = rw same at b.in-Binary.ensures in known.1))) more (sym b.if-is_closed-2.ensures)
-    ])
+pub returns : goal.returns
+returns c =
+    IfOk-weaker c.known_found.result _ _ (λ found h w r. h c.args.sets w (values c.args.behind.now) (sym c.is_known.ensures ∙ c.if-not-is_known.false)
+    (subst (λ word. HasRun w word (values c.args.behind.now)) (sym c.in_ok-word.ensures) r) (sym c.is_closed.ensures ∙ c.if-not-is_closed.false)) c.known_found.ensures

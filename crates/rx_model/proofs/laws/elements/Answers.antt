@@ -1,7 +1,7 @@
 use Rattle.std.proofs.Common.{subst, sym, refl, true, false, None}
 use Rattle.rx_model.specs.Groups.GroupNames.{SpellsNameCharacter}
 use Rattle.rx_model.specs.Reading.Sequences.{ElementRow}
-use Rattle.rx_model.proofs.Classes.OneClass.{class_ends}
+use Rattle.rx_model.proofs.Classes.ClassEnds.{class_ends}
 use Rattle.rx_model.proofs.Groups.OneName.{name_row, row_name, behind_character}
 use Rattle.rx_model.proofs.Reading.OneRow.{elements, of_elements}
 use Rattle.rx_model.proofs.laws.elements.Goals as goal

@@ -2,4 +2,4 @@ use Rattle.rx_model.proofs.Classes.OneInClass.{one_in_class}
 use Rattle.rx_model.proofs.laws.one_in_class.Goals as goal
 
 pub returns : goal.returns
-returns c = one_in_class
+returns c mode no_sets us start added from at_class = one_in_class mode us start added from at_class no_sets

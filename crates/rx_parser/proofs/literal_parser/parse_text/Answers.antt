@@ -1,13 +1,14 @@
-use Rattle.std.proofs.Common.{◌≡◌, ap, sym, ◌∙◌, subst, ℕ, Bool, inl, ◌+◌, ◌<◌, ◌^◌, List, length, arith}
+use Rattle.std.proofs.Common.{◌≡◌, ap, sym, ◌∙◌, subst, ℕ, Bool, ◌+◌, ◌<◌, ◌^◌, List, length, arith}
 use Rattle.std.specs.Prelude.{All}
 use Rattle.std.specs.Str.{chars}
 use Rattle.rx_units.specs.declared.code_point.CodePoint.{CodePoint}
 use Rattle.rx_units.specs.Cursor.{Cursor}
 use Rattle.rx_units.specs.Units.{literal_units}
-use Rattle.rx_model.specs.Inputs.Modes.{is_read, mode_by}
+use Rattle.rx_model.specs.Inputs.Modes.{mode_by}
 use Rattle.rx_model.specs.Reading.Reading.{literal_text, units_of}
 use Rattle.rx_class.proofs.TextFits.{text_fits}
-use Rattle.rx_parser.specs.Parsing.{AnswersUnits, mode_of_state}
+use Rattle.rx_scan.specs.StateFaults.{mode_of_state}
+use Rattle.rx_parser.specs.Parsing.{AnswersUnits}
 use Rattle.rx_parser.proofs.Passes.{unicode_by}
 use Rattle.rx_parser.proofs.literal_parser.parse_text.Goals as goal
 
@@ -20,8 +21,8 @@ parse-requires-clause-fits c =
     subst (Fit c.new.result.spans) (sym units)
     (subst (λ n. Fit n us) (sym c.new.ensures.offset) (text_fits c.args.modes.0 c.stand_in.result.now c.args.span_offset c.stand_in.utf8 (omega arith)))
 
-pub returns-clause-answers : goal.returns-clause-answers
-returns-clause-answers c =
+pub returns : goal.returns
+returns c =
     let modes = c.args.modes in
     let parser = c.new.result in
     let reader = c.new.ensures.reader ∙ c.in_ok-reader.ensures in
@@ -33,8 +34,4 @@ returns-clause-answers c =
     subst (λ m. AnswersUnits m (units_of (mode_by modes.0 modes.1) text) 0 c.args.span_offset c.parse.result) mode
     (subst (λ us. AnswersUnits (mode_of_state parser.state) us 0 c.args.span_offset c.parse.result) units
     (subst (λ first. AnswersUnits (mode_of_state parser.state) parser.reader.units first c.args.span_offset c.parse.result) (ap (λ (r : Cursor). r.first) reader)
-    (subst (λ added. AnswersUnits (mode_of_state parser.state) parser.reader.units parser.reader.first added c.parse.result) c.new.ensures.offset c.parse.ensures.answers)))
-
-pub returns-clause-later : goal.returns-clause-later
-returns-clause-later c = λ unread.
-    inl (c.parse.ensures.later (ap (λ (p : Bool × Bool). is_read (mode_by p.0 p.1)) c.new.ensures.modes ∙ unread))
+    (subst (λ added. AnswersUnits (mode_of_state parser.state) parser.reader.units parser.reader.first added c.parse.result) c.new.ensures.offset c.parse.ensures)))

@@ -3,35 +3,34 @@ use Rattle.rx_base.specs.declared.fault.Fault.TheVariants.{Diagnostic}
 use Rattle.rx_base.specs.declared.diagnostic.Diagnostic.TheVariants.{DuplicatedCapturingGroupNames, TooMayCapturingGroups}
 use Rattle.rx_units.specs.Cursor.{Cursor}
 use Rattle.rx_units.specs.Units.{values}
-use Rattle.rx_model.specs.Refusals.Causes.{name_span}
+use Rattle.rx_model.specs.declared.mode.Mode.{Mode}
+use Rattle.rx_model.specs.Refusals.Causes.{duplicated_names, name_span}
+use Rattle.rx_model.specs.Refusals.Firsts.{of_groups}
 use Rattle.rx_model.specs.FirstPass.Marks.{name_places}
-use Rattle.rx_scan.specs.StateFaults.{IsStateFault, name_offsets}
+use Rattle.rx_scan.specs.StateFaults.{IsStateFault, mode_of_state, name_offsets}
 use Rattle.rx_class.specs.Fitting.{AreFitting}
 use Rattle.rx_class.proofs.Fitting.{offset_fits}
-use Rattle.rx_parser.specs.Parsing.{IsRefused, mode_of_state}
-use Rattle.rx_parser.proofs.Passes.{clash_refused, holds_pass, many_refused, no_sets, none_clash, shifted}
+use Rattle.rx_parser.specs.Parsing.{IsRefused}
+use Rattle.rx_parser.proofs.Passes.{holds_pass, many_refused, shifted}
 use Rattle.rx_parser.proofs.Turns.{empty_at}
 use Rattle.rx_parser.proofs.pattern_parser.first_pass.Goals as goal
 
 -- the offsets around a name fit
-name_fits : (added : ℕ) (r : Cursor) → AreFitting added r → (k : ℕ) (span : ℕ × ℕ) → span ≡ name_offsets r k → (span.0 + added < 2 ^ 32) × (span.1 + added < 2 ^ 32)
-name_fits added r f k span e =
-    let places = name_places (values r.units) k in
+name_fits : (mode : Mode) (added : ℕ) (r : Cursor) → AreFitting added r → (k : ℕ) (span : ℕ × ℕ) → span ≡ name_offsets mode r k → (span.0 + added < 2 ^ 32) × (span.1 + added < 2 ^ 32)
+name_fits mode added r f k span e =
+    let places = name_places mode (values r.units) k in
     subst (λ span. (span.0 + added < 2 ^ 32) × (span.1 + added < 2 ^ 32)) (sym e) (offset_fits added r.first r.units places.0 f.first f.ends, offset_fits added r.first r.units places.1 f.first f.ends)
-
-pub initialize_with_parsing-requires-clause-no_sets : goal.initialize_with_parsing-requires-clause-no_sets
-initialize_with_parsing-requires-clause-no_sets c = no_sets c.args.state.now.unicode_mode c.args.state.now.unicode_sets_mode c.requires.no_sets
 
 pub create-requires : goal.create-requires
 create-requires c =
-    let told = subst (IsStateFault c.args.state.now.unicode_mode c.args.reader.now) c.in-Err-Duplicated.field-0-is c.in-Err-Duplicated.ensures.refused in
-    let fits = name_fits c.args.spans.now c.args.reader.now c.requires.fits told.0 c.in-Err-Duplicated.first told.3 in
+    let told = subst (IsStateFault (mode_of_state c.args.state.now) c.args.reader.now) c.in-Err-Duplicated.field-0-is c.in-Err-Duplicated.ensures.refused in
+    let fits = name_fits (mode_of_state c.args.state.now) c.args.spans.now c.args.reader.now c.requires.fits told.0 c.in-Err-Duplicated.first told.3 in
     record { start = fits.0; end = fits.1 }
 
 pub create-requires-in-Err-Duplicated : goal.create-requires-in-Err-Duplicated
 create-requires-in-Err-Duplicated c =
-    let told = subst (IsStateFault c.args.state.now.unicode_mode c.args.reader.now) c.in-Err-Duplicated.field-0-is c.in-Err-Duplicated.ensures.refused in
-    let fits = name_fits c.args.spans.now c.args.reader.now c.requires.fits told.1 c.in-Err-Duplicated.second told.4 in
+    let told = subst (IsStateFault (mode_of_state c.args.state.now) c.args.reader.now) c.in-Err-Duplicated.field-0-is c.in-Err-Duplicated.ensures.refused in
+    let fits = name_fits (mode_of_state c.args.state.now) c.args.spans.now c.args.reader.now c.requires.fits told.1 c.in-Err-Duplicated.second told.4 in
     record { start = fits.0; end = fits.1 }
 
 pub returns-in-Ok-clause-pass : goal.returns-in-Ok-clause-pass
@@ -39,7 +38,7 @@ returns-in-Ok-clause-pass c =
     let it = c.in-Ok.ensures in
     let new = c.initialize_with_parsing.new.self in
     let small : new.num_of_capturing_groups < 2 ^ 32 - 1 = search rules in
-    holds_pass c.args.reader.now.units c.args.state.now c.requires.modes new it.unicode_mode it.unicode_sets_mode it.groups it.names it.apart small
+    holds_pass c.args.reader.now.units c.args.state.now new it.unicode_mode it.unicode_sets_mode it.groups it.names it.apart small
 
 pub returns-in-Ok-2-clause-refused : goal.returns-in-Ok-2-clause-refused
 returns-in-Ok-2-clause-refused c =
@@ -51,7 +50,7 @@ returns-in-Ok-2-clause-refused c =
     let none : 0 + added ≡ added = omega arith in
     let large : 2 ^ 32 - 1 ≤ groups = search rules in
     subst (λ s. IsRefused (mode_of_state state) r.units r.first added (Diagnostic (TooMayCapturingGroups s))) (sym (c.create-span.ensures ∙ ap empty_at none))
-    (many_refused r.units state c.requires.modes r.first added groups (none_clash r.units state c.requires.modes it.apart) it.groups large)
+    (many_refused r.units state r.first added groups it.apart it.groups large)
 
 pub returns-in-Err-Duplicated-clause-refused : goal.returns-in-Err-Duplicated-clause-refused
 returns-in-Err-Duplicated-clause-refused c =
@@ -59,7 +58,7 @@ returns-in-Err-Duplicated-clause-refused c =
     let state = c.args.state.now in
     let mode = mode_of_state state in
     let added = c.args.spans.now in
-    let told = subst (IsStateFault state.unicode_mode r) c.in-Err-Duplicated.field-0-is c.in-Err-Duplicated.ensures.refused in
+    let told = subst (IsStateFault mode r) c.in-Err-Duplicated.field-0-is c.in-Err-Duplicated.ensures.refused in
     subst (λ s. IsRefused mode r.units r.first added (Diagnostic (DuplicatedCapturingGroupNames s c.create-in-Err-Duplicated.result))) (sym (c.create.ensures ∙ ap (shifted added) told.3))
-    (subst (λ s. IsRefused mode r.units r.first added (Diagnostic (DuplicatedCapturingGroupNames (name_span r.units r.first added told.0) s))) (sym (c.create-in-Err-Duplicated.ensures ∙ ap (shifted added) told.4))
-    (clash_refused r.units state c.requires.modes r.first added told.0 told.1 told.2))
+    (subst (λ s. IsRefused mode r.units r.first added (Diagnostic (DuplicatedCapturingGroupNames (name_span mode r.units r.first added told.0) s))) (sym (c.create-in-Err-Duplicated.ensures ∙ ap (shifted added) told.4))
+    (of_groups (duplicated_names told.0 told.1 told.2) (λ none few. none told.0 told.1 told.2.clash)))

@@ -1,6 +1,5 @@
-use Rattle.std.proofs.Common.{◌≡◌, true, ◌+◌, [], refl, ap, sym, ◌∙◌, subst, length, drop, arith, length-drop, rules}
+use Rattle.std.proofs.Common.{◌≡◌, ◌+◌, [], refl, ap, sym, ◌∙◌, subst, length, drop, arith, length-drop, rules}
 use Rattle.rx_units.specs.Cursor.{Cursor, offset_of}
-use Rattle.rx_model.specs.Inputs.Modes.{is_read}
 use Rattle.rx_class.specs.Fitting.{AreFitting}
 use Rattle.rx_parser.specs.Faults.{IsEndedFault}
 use Rattle.rx_parser.specs.Frames.{openers}
@@ -28,7 +27,6 @@ turn-requires c =
     let mode = sym it.parsing.at.mode in
     record {
       before = record {
-        read = subst (λ mode. is_read mode ≡ true) mode c.requires.read;
         parsing = subst (λ mode. IsParsing mode l.units l.first c.args.spans.now c.loop-alloc.builder l.place) mode it.parsing;
         left = omega (arith, some, length-drop l.place l.units, it.parsing.within);
         fits = subst (AreFitting c.args.spans.now) (sym it.same) (record { first = c.requires.fits.first; ends = c.requires.fits.ends });

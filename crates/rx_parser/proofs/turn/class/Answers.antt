@@ -1,14 +1,14 @@
 use Rattle.std.proofs.Common.{sym, subst, rules}
 use Rattle.rx_model.specs.Trees.Shapes.{IsNode}
 use Rattle.rx_parser.specs.Parsing.{IsRefused}
-use Rattle.rx_parser.proofs.ClassTurns.{class_refused, class_taken}
+use Rattle.rx_parser.proofs.ClassTurns.{class_answer_refused, class_taken}
 use Rattle.rx_parser.proofs.turn.class.Goals as goal
 
 pub returns-in_err-class-clause-refused : goal.returns-in_err-class-clause-refused
 returns-in_err-class-clause-refused c =
     let r = c.args.reader.now in
     let refused : IsRefused c.args.builder.now.mode r.units r.first c.args.spans.now c.in_err-class.field-0.0 =
-    class_refused c.requires.before c.requires.pass c.parse_character_class.new.reader c.in_err-class.field-0.0 c.in_err-class.ensures in
+    class_answer_refused c.requires.before c.requires.pass c.parse_character_class.new.reader c.in_err-class.field-0.0 c.in_err-class.ensures in
     search rules
 
 pub returns-clause-turned : goal.returns-clause-turned

@@ -1,12 +1,7 @@
 use Rattle.std.proofs.Common.{rules}
-use Rattle.rx_model.proofs.Inputs.Modes.{read_no_sets}
 use Rattle.rx_parser.specs.Parsing.{IsRefused}
 use Rattle.rx_parser.proofs.ClassTurns.{property_never_none, property_refused, property_taken}
-use Rattle.rx_parser.proofs.Passes.{sets_bit}
 use Rattle.rx_parser.proofs.turn.property.Goals as goal
-
-pub parse_character_class_escape_unicode-requires-clause-no_sets : goal.parse_character_class_escape_unicode-requires-clause-no_sets
-parse_character_class_escape_unicode-requires-clause-no_sets c = sets_bit c.args.state.now (read_no_sets c.args.builder.now.mode c.requires.before.read) c.requires.pass
 
 pub returns-in_err-escape-clause-refused : goal.returns-in_err-escape-clause-refused
 returns-in_err-escape-clause-refused c =

@@ -1,13 +1,12 @@
-use Rattle.std.proofs.Common.{◌≡◌, ◌≤◌, ◌*◌, ◌∙◌, sym, subst, ap, refl, false, Result, Ok, Err, Some, List, ℕ, [], ◌∷◌, length, codes, arith}
-use Rattle.std.proofs.lemmas.Bool.{false≢true}
+use Rattle.std.proofs.Common.{◌≡◌, ◌≤◌, ◌*◌, subst, ap, refl, Result, Ok, Err, Some, List, ℕ, [], ◌∷◌, length, codes, arith}
 use Rattle.std.specs.Str.{chars}
 use Rattle.rx_base.specs.declared.fault.Fault.{Fault}
 use Rattle.rx_model.specs.declared.form.Form.TheVariants.{Literal}
 use Rattle.rx_model.specs.Inputs.Inputs.{Input}
 use Rattle.rx_model.specs.Reading.Headline.{IsAnswered}
 use Rattle.rx_tools.specs.declared.outcome.Canonical.{Canonical}
-use Rattle.rx_tools.specs.NotYet.{is_not_yet}
 use Rattle.rx_tools.specs.Spelled.{spelled_of}
+use Rattle.rx_tools.proofs.CanonicalAnswers.{never_later}
 use Rattle.rx_run.specs.Generator.{asked}
 use Rattle.rx_run.proofs.Generating.{asked_is, none_refused, pattern_short, read_sized, text_short}
 use Rattle.rx_run.proofs.generator.spelling_size.Goals as goal
@@ -15,10 +14,6 @@ use Rattle.rx_run.proofs.generator.spelling_size.Goals as goal
 flags_are : chars (codes "u") ≡ 117 ∷ []
 unfolding chars
 flags_are = refl
-
-is_read : is_not_yet Literal (Some (chars (codes "u"))) ≡ false
-unfolding chars
-is_read = refl
 
 -- an answer to what was asked, as one to the literal alone
 alone : (answer : Result Canonical Fault) (text bytes : List ℕ) (a b : ℕ) → chars bytes ≡ text → a ≡ 0 → b ≡ 0
@@ -35,7 +30,7 @@ pub returns-in-Ok : goal.returns-in-Ok
 returns-in-Ok c =
     let at = c.default.ensures in
     read_sized c.args.pattern.now c.in-Ok.it c.as_str-in-Ok.result.now c.as_str-in-Ok.utf8 c.as_str-in-Ok.ensures
-    (alone (Ok c.in-Ok.it) c.args.pattern.now c.as_str.result.now _ _ c.as_str.ensures at.0 at.1 (c.in-Ok.ensures.answered is_read))
+    (alone (Ok c.in-Ok.it) c.args.pattern.now c.as_str.result.now _ _ c.as_str.ensures at.0 at.1 (c.in-Ok.ensures.headline refl))
 
 pub unreachable-requires-in-Err-Diagnostic : goal.unreachable-requires-in-Err-Diagnostic
 unreachable-requires-in-Err-Diagnostic c =
@@ -43,7 +38,7 @@ unreachable-requires-in-Err-Diagnostic c =
     let arm = c.in-Err-Diagnostic in
     none_refused c.args.pattern.now arm.field-0-0 c.requires
     (subst (λ (f : Fault). IsAnswered spelled_of (asked c.args.pattern.now) (Err f)) arm.field-0-is
-    (alone (Err arm.field-0) c.args.pattern.now c.as_str.result.now _ _ c.as_str.ensures at.0 at.1 (arm.ensures.answered is_read)))
+    (alone (Err arm.field-0) c.args.pattern.now c.as_str.result.now _ _ c.as_str.ensures at.0 at.1 (arm.ensures.headline refl)))
 
 pub unreachable-requires : goal.unreachable-requires
-unreachable-requires c = false≢true (sym is_read ∙ c.in-Err-NotYet.ensures.not_yet (ap Err c.in-Err-NotYet.field-0-is))
+unreachable-requires c = never_later spelled_of _ (rw c.in-Err-NotYet.field-0-is at c.in-Err-NotYet.ensures.headline refl)

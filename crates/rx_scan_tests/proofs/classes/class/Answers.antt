@@ -13,7 +13,7 @@ parse_character_class-found-requires-clause-pass c =
     let new = c.initialize_with_parsing.new.self in
     let small : new.num_of_capturing_groups < 2 ^ 32 - 1 = search rules in
     subst (λ (r : Cursor). HoldsFirstPass new r.units) (sym it.reader)
-    (holds_first_pass c.in_ok-reader.reader.units c.new-state.result new c.new-state.ensures.unicode_sets_mode it.unicode_mode it.unicode_sets_mode
+    (holds_first_pass c.in_ok-reader.reader.units c.new-state.result new it.unicode_mode it.unicode_sets_mode
     (without_err call no_err it.groups) (without_err call no_err it.names) small)
 
 pub parse_character_class-found-requires-clause-fits : goal.parse_character_class-found-requires-clause-fits

@@ -24,17 +24,17 @@ pub handle_code_point-requires-clause-offset : goal.handle_code_point-requires-c
 handle_code_point-requires-clause-offset c =
     let t = YieldsList-turn (YieldsList-from_chars c.args.source_text.now c.utf8.source_text cc) c.loop-c.yielded _ c.loop-c.yielded_by _ _ c.in-Some.c c.in-Some.is c.next.ensures.steps in
     let b = bytes_turn (chars c.args.source_text.now) (length c.loop-c.yielded) c.in-Some.c c.loop-c.at t in
-    omega (arith, c.loop-c.invariant.bytes, c.requires, c.len_utf8.ensures.value)
+    omega (arith, c.loop-c.invariant.bytes, c.requires, c.width.ensures)
 
 pub loop-c-preserved : goal.loop-c-preserved
 loop-c-preserved c =
     let t = YieldsList-turn (YieldsList-from_chars c.args.source_text.now c.utf8.source_text cc) c.loop-c.yielded _ c.loop-c.yielded_by _ _ c.in-Some.c c.in-Some.is c.next.ensures.steps in
     let b = bytes_turn (chars c.args.source_text.now) (length c.loop-c.yielded) c.in-Some.c c.loop-c.at t in
-    let n : ℕ = c.args.span_offset + (c.loop-c.at + c.len_utf8.result) in
+    let n : ℕ = c.args.span_offset + (c.loop-c.at + c.width.result) in
     rw (length_push c.loop-c.yielded c.in-Some.c) record {
       units = units_preserved (chars c.args.source_text.now) (length c.loop-c.yielded) c.in-Some.c (c.args.span_offset + c.loop-c.at) t c.args.combine_surrogate_pair n
-          c.loop-c.body c.handle_code_point.new.body _ (omega (arith, c.len_utf8.ensures.value)) c.loop-c.invariant.units c.in_ok-handle_code_point.ensures.ok;
-      bytes = omega (arith, c.loop-c.invariant.bytes, c.len_utf8.ensures.value);
+          c.loop-c.body c.handle_code_point.new.body _ (omega (arith, c.width.ensures)) c.loop-c.invariant.units c.in_ok-handle_code_point.ensures.ok;
+      bytes = omega (arith, c.loop-c.invariant.bytes, c.width.ensures);
     }
 
 pub returns : goal.returns

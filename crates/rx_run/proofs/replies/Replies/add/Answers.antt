@@ -1,4 +1,4 @@
-use Rattle.std.proofs.Common.{◌≡◌, ◌∙◌, refl, sym, ap, subst, ℕ, Result, Ok, Err, Bool, true, false, ◌&&◌, rules}
+use Rattle.std.proofs.Common.{◌≡◌, ◌∙◌, refl, sym, ap, subst, ℕ, Result, Ok, Err, Bool, false, ◌&&◌, rules}
 use Rattle.std.specs.Str.{chars}
 use Rattle.std.proofs.lemmas.Bool.{and_right}
 use Rattle.std.proofs.lemmas.Result.{on_ok_weaker}
@@ -7,12 +7,12 @@ use Rattle.rx_base.specs.declared.fault.Fault.TheVariants as fault
 use Rattle.rx_base.specs.declared.fault.Fault.{Fault}
 use Rattle.rx_ast.specs.declared.term.Pattern.{Pattern}
 use Rattle.rx_ast.specs.Forget.{bare}
+use Rattle.rx_model.specs.declared.form.Form.TheVariants.{Constructor}
 use Rattle.rx_model.specs.declared.mode.Mode.{Mode}
 use Rattle.rx_model.specs.Reading.Headline.{IsAnswered}
 use Rattle.rx_model.specs.Spelling.Spelling.{spelling}
-use Rattle.rx_tools.specs.NotYet.{is_not_yet}
 use Rattle.rx_tools.specs.Spelled.{read_of}
-use Rattle.rx_tools.proofs.CanonicalAnswers.{read_already}
+use Rattle.rx_tools.proofs.CanonicalAnswers.{is_constructor, is_literal}
 use Rattle.rx_parser.specs.Literals.{flags_chars}
 use Rattle.rx_run.specs.Request.{Request}
 use Rattle.rx_run.specs.Reply.{bad, later, bad_reply, later_reply, ok_reply, err_reply, input_of}
@@ -40,13 +40,12 @@ pub returns-in-Ok : goal.returns-in-Ok
 returns-in-Ok c =
     let request : Request = record { form = c.in-Some.request.form; flags = flags_chars c.in-Some.request.flags; text = chars c.in-Some.request.text.now } in
     let it : Pattern × Mode = (c.in-Ok.pattern, c.in-Ok.mode) in
-    let read : is_not_yet request.form request.flags ≡ false =
-    read_already _ _ _ _ c.in-Ok.ensures.later (λ e. cc) (λ e. cc) in
+    let literal = is_literal request.form (Ok it) c.in-Ok.ensures.not_yet (λ e. cc) in
     on_ok_weaker c.add_ok.result
     (λ added. (
       ok_reply it.1 (spelling (bare it.0) it.1),
-      ok_reply_is c.args.line.now request it c.in-Some.ensures.asked read
-          (by_itself request (Ok it) c.default-options.result.pattern_span_offset c.default-options.result.flags_span_offset (search rules) (search rules) (c.in-Ok.ensures.answered read)),
+      ok_reply_is c.args.line.now request it c.in-Some.ensures.asked literal
+          (by_itself request (Ok it) c.default-options.result.pattern_span_offset c.default-options.result.flags_span_offset (search rules) (search rules) (c.in-Ok.ensures.headline literal)),
       added,
       c.add_ok.ensures.all_ok ∙ sym (and-true c.args.self.now.all_ok),
     ))
@@ -57,20 +56,22 @@ returns-in-Err-Diagnostic c =
     let request : Request = record { form = c.in-Some.request.form; flags = flags_chars c.in-Some.request.flags; text = chars c.in-Some.request.text.now } in
     let cause = c.in-Err-Diagnostic.cause in
     let is : c.read_pattern.result ≡ Err (fault.Diagnostic cause) = c.in-Err-Diagnostic.is ∙ ap Err c.in-Err-Diagnostic.field-0-is in
-    let read : is_not_yet request.form request.flags ≡ false =
-    read_already _ _ _ _ c.read_pattern.ensures.later (λ e. let e' = sym is ∙ e in cc) (λ e. let e' = sym is ∙ e in cc) in
+    let literal = is_literal request.form c.read_pattern.result c.read_pattern.ensures.not_yet (λ e. let e' = sym is ∙ e in cc) in
     let options = c.default-options.result in
     let answered : IsAnswered read_of (input_of request) (Err (fault.Diagnostic cause)) =
     by_itself request (Err (fault.Diagnostic cause)) options.pattern_span_offset options.flags_span_offset (search rules) (search rules)
     (subst (λ r. IsAnswered read_of (record { form = request.form; text = request.text; flags = request.flags; text_offset = options.pattern_span_offset; flags_offset = options.flags_span_offset }) r)
-    is (c.read_pattern.ensures.answered read)) in
+    is (c.read_pattern.ensures.headline literal)) in
     let add = c.add_err in
-    on_ok_weaker add.result (λ added. (err_reply cause, err_reply_is c.args.line.now request cause c.in-Some.ensures.asked read answered, added, turned add.new.self.all_ok c.args.self.now.all_ok add.ensures.all_ok))
+    on_ok_weaker add.result (λ added. (err_reply cause, err_reply_is c.args.line.now request cause c.in-Some.ensures.asked literal answered, added, turned add.new.self.all_ok c.args.self.now.all_ok add.ensures.all_ok))
     (rw c.in-Err-Diagnostic.field-0-is at add.ensures.bytes)
 
 pub returns-in-Err-NotYet : goal.returns-in-Err-NotYet
 returns-in-Err-NotYet c =
     let request : Request = record { form = c.in-Some.request.form; flags = flags_chars c.in-Some.request.flags; text = chars c.in-Some.request.text.now } in
-    let not_yet : is_not_yet request.form request.flags ≡ true = c.in-Err-NotYet.ensures.not_yet (ap Err c.in-Err-NotYet.field-0-is) in
+    let options = c.default-options.result in
+    let constructor : request.form ≡ Constructor =
+    is_constructor read_of (record { form = request.form; text = request.text; flags = request.flags; text_offset = options.pattern_span_offset; flags_offset = options.flags_span_offset })
+    (λ literal. rw c.in-Err-NotYet.field-0-is at c.in-Err-NotYet.ensures.headline literal) in
     let add = c.add_refusal-in-Err-NotYet in
-    on_ok_weaker add.result (λ added. (later_reply, later request c.in-Some.ensures.asked not_yet, added, turned add.new.self.all_ok c.args.self.now.all_ok add.ensures.all_ok)) add.ensures.bytes
+    on_ok_weaker add.result (λ added. (later_reply, later request c.in-Some.ensures.asked constructor, added, turned add.new.self.all_ok c.args.self.now.all_ok add.ensures.all_ok)) add.ensures.bytes

@@ -1,7 +1,8 @@
-use Rattle.std.proofs.Common.{refl, sym, subst, ◌∙◌, ◌+◌, length, None, Some}
+use Rattle.std.proofs.Common.{refl, ap, sym, subst, ◌∙◌, ◌+◌, length, None, Some}
 use Rattle.std.specs.Result.{OnOk}
 use Rattle.std.proofs.lemmas.Result.{on_ok_weaker}
 use Rattle.rx_units.specs.Units.{values}
+use Rattle.rx_model.specs.Groups.GroupNameReading.{name_of}
 use Rattle.rx_scan.specs.FirstPass.{Steps}
 use Rattle.rx_scan.specs.MarkReading.{seen_capturing}
 use Rattle.rx_scan.proofs.Captures.{captured_steps}
@@ -19,5 +20,5 @@ returns-in-None-clause-ok c =
     let spelled = values c.in-Some.units.now in
     subst (λ units. OnOk c.capture_unnamed-in-None.result (Steps old new (seen_capturing units) place index)) (sym c.in-Some.is)
     (on_ok_weaker c.capture_unnamed-in-None.result
-    (λ f. captured_steps old new (Some spelled) None place index (sym c.in_ok-capturing_group_name.ensures.read ∙ c.in-None.is) (f (place + 3) (place + 3 + length spelled)))
+    (λ f. captured_steps old new (Some spelled) None place index (ap (λ unicode_mode. name_of unicode_mode spelled) (sym c.is_unicode.ensures) ∙ sym c.in_ok-capturing_group_name.ensures.read ∙ c.in-None.is) (f (place + 3) (place + 3 + length spelled)))
     c.capture_unnamed-in-None.ensures.ok)

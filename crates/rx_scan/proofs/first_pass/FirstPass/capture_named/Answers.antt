@@ -12,7 +12,7 @@ returns-clause-ok c =
     added old c.add_name.new.self _ opening c.as_str-3.result.now
     (record {
       renamed = c.in_ok-add_name.ensures ∙ ap (λ name. record old { names = with_name old.names name }) c.as_str-2.ensures;
-      mode = refl;
+      mode_is = refl;
       counted = refl;
       named_by = refl;
       opened = c.in_ok-open.ensures;

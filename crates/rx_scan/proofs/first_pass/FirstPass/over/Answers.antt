@@ -6,27 +6,27 @@ use Rattle.rx_scan.proofs.MarkSteps.{values_at, values_drop, values_length}
 use Rattle.rx_scan.proofs.first_pass.FirstPass.over.Goals as goal
 
 pub loop-place-init : goal.loop-place-init
-loop-place-init c = start_at c.args.unicode_mode (values c.args.units.now) c.new-pass.result c.new-pass.ensures
+loop-place-init c = start_at c.args.mode (values c.args.units.now) c.new-pass.result c.new-pass.ensures
 
 pub step-requires-clause-tells : goal.step-requires-clause-tells
-step-requires-clause-tells c = tells c.args.unicode_mode (values c.args.units.now) c.loop-place.place c.loop-place.index c.loop-place.pass c.loop-place.invariant
+step-requires-clause-tells c = tells c.args.mode (values c.args.units.now) c.loop-place.place c.loop-place.index c.loop-place.pass c.loop-place.invariant
 
 pub step-requires-clause-nests : goal.step-requires-clause-nests
-step-requires-clause-nests c = nests_at c.args.unicode_mode (values c.args.units.now) c.loop-place.place c.loop-place.index c.loop-place.pass c.loop-place.invariant
+step-requires-clause-nests c = nests_at c.args.mode (values c.args.units.now) c.loop-place.place c.loop-place.index c.loop-place.pass c.loop-place.invariant
 
 pub returns-in-Err-clause-fault : goal.returns-in-Err-clause-fault
 returns-in-Err-clause-fault c =
     let us = c.args.units.now in
     let at = c.loop-place.place in
-    refused c.args.unicode_mode (values us) at c.loop-place.index (seen_front c.read_mark-taken.result) c.loop-place.pass c.in-Err.fault
+    refused c.args.mode (values us) at c.loop-place.index (seen_front c.read_mark-taken.result) c.loop-place.pass c.in-Err.fault
     (subst (λ n. at < n) (sym (values_length us)) c.loop-place-test.true)
-    (c.read_mark-taken.ensures.value ∙ ap (λ ws. front (values ws)) c.tail.ensures ∙ ap front (values_drop at us)) c.in-Err.ensures.err c.loop-place.invariant
+    (c.read_mark-taken.ensures.value ∙ ap (λ ws. front c.args.mode (values ws)) c.tail.ensures ∙ ap (front c.args.mode) (values_drop at us)) c.in-Err.ensures.err c.loop-place.invariant
 
 pub loop-place-preserved-then-is_plain : goal.loop-place-preserved-then-is_plain
 loop-place-preserved-then-is_plain c =
     let us = c.args.units.now in
     let at = c.loop-place.place in
-    passed c.args.unicode_mode (values us) at c.loop-place.index _ _ c.loop-place.pass
+    passed c.args.mode (values us) at c.loop-place.index _ _ c.loop-place.pass
     (subst (λ n. at < n) (sym (values_length us)) c.loop-place-test.true)
     (sym (values_drop at us) ∙ values_at us at _ c.loop-place-test.true) (sym c.is_plain.ensures ∙ c.if-is_plain.true) c.loop-place.invariant
 
@@ -41,11 +41,11 @@ loop-place-preserved c =
     let t = c.loop-place-test.true in
     let i = c.loop-place.invariant.within in
     let le : at + c.read_mark-taken.result.1 ≤ length (values us) = omega arith in
-    advanced c.args.unicode_mode (values us) at c.loop-place.index (seen_front c.read_mark-taken.result) c.loop-place.pass c.step.new.self
+    advanced c.args.mode (values us) at c.loop-place.index (seen_front c.read_mark-taken.result) c.loop-place.pass c.step.new.self
     (subst (λ n. at < n) (sym n) t) le p
-    (c.read_mark-taken.ensures.value ∙ ap (λ ws. front (values ws)) c.tail.ensures ∙ ap front (values_drop at us)) c.in-Ok.ensures.ok c.loop-place.invariant
+    (c.read_mark-taken.ensures.value ∙ ap (λ ws. front c.args.mode (values ws)) c.tail.ensures ∙ ap (front c.args.mode) (values_drop at us)) c.in-Ok.ensures.ok c.loop-place.invariant
 
 pub returns-clause-clean : goal.returns-clause-clean
 returns-clause-clean c =
-    all_clean c.args.unicode_mode (values c.args.units.now) c.loop-place.place c.loop-place.index c.loop-place.pass
+    all_clean c.args.mode (values c.args.units.now) c.loop-place.place c.loop-place.index c.loop-place.pass
     (subst (λ n. n ≤ c.loop-place.place) (sym (values_length c.args.units.now)) c.loop-place-test.false) c.loop-place.invariant

@@ -1,0 +1,310 @@
+-- Where what was built of a class with `v` leads to: an item place of the class, and of the innermost bracket.
+use Rattle.std.proofs.Common.{◌≡◌, refl, sym, ap, ◌∙◌, subst, ℕ, ◌+◌, Bool, true, false, Option, Some, None, List, [], ◌∷◌, ◌++◌, length, arith, length-append}
+use Rattle.std.specs.Prelude.{All}
+use Rattle.std.specs.List.{flat_map}
+use Rattle.std.proofs.lemmas.List.Elements.{All-head, All-tail}
+use Rattle.rx_units.specs.declared.code_point.CodePoint.{CodePoint}
+use Rattle.rx_units.specs.Cursor.{Cursor, rest}
+use Rattle.rx_model.specs.Classes.ClassRows.{ClassRow, ClassTokenRow, Place, behind, outside, fresh, behind_meet, behind_less}
+use Rattle.rx_model.specs.Classes.ClassRuns.{Bracket, Brackets, Held, empty, single, several, meeting, met, lessening, lessened, class_opened, class_run, is_union, is_whole, less_by, met_by, operand, ranged, takes_operand}
+use Rattle.rx_model.specs.Classes.ClassTokens.{ClassEvents, enter, leave, token, class_tokens_of}
+use Rattle.rx_model.specs.Inputs.Environment.{Environment}
+use Rattle.rx_model.specs.Refusals.ClassPlaces.{IsInBracket, IsItemPlace, begins_item, nested, of_class}
+use Rattle.rx_model.proofs.Characters.Decodings.{Some-inj}
+use Rattle.rx_model.proofs.Classes.ClassStates.{run_in}
+use Rattle.rx_model.proofs.Classes.ClassTokens.{tokens_append}
+use Rattle.rx_model.proofs.Classes.ClassUnspanned.{class_row_tokens}
+use Rattle.rx_model.proofs.Classes.ClassWholes.{class_opened-append, class_run-append}
+use Rattle.rx_model.proofs.Classes.OpenBrackets.{behind_opened, nested_run, row_alone}
+use Rattle.rx_class.specs.declared.class_builder.ClassBuilder.{ClassBuilder}
+use Rattle.rx_class.specs.declared.open_bracket.OpenBracket.{OpenBracket}
+use Rattle.rx_class.specs.ClassBuilding.{bracket_at, bracket_events, builder_events}
+use Rattle.rx_class.specs.SetReading.{IsInSets, has_outer, held_in, is_nested, offset_in, place_of}
+use Rattle.rx_class.specs.WellBuilt.{IsAround, IsWellBuilt, IsWellHeld}
+
+-- An item may begin at the place that a bracket is at.
+pub begins_place : (held : Held) → begins_item (place_of held) ≡ true
+begins_place empty = refl
+begins_place single = refl
+begins_place several = refl
+begins_place meeting = refl
+begins_place met = refl
+begins_place lessening = refl
+begins_place lessened = refl
+
+pub whole_fresh : (held : Held) → is_whole held ≡ true → place_of held ≡ fresh
+whole_fresh empty h = refl
+whole_fresh single h = refl
+whole_fresh several h = refl
+whole_fresh meeting h = absurd (let no : ⊥ = cc h in no)
+whole_fresh met h = refl
+whole_fresh lessening h = absurd (let no : ⊥ = cc h in no)
+whole_fresh lessened h = refl
+
+-- behind an operand
+pub operand_fresh : (held after : Held) → operand held ≡ Some after → place_of after ≡ fresh
+operand_fresh empty after h = ap place_of (sym (Some-inj h))
+operand_fresh single after h = ap place_of (sym (Some-inj h))
+operand_fresh several after h = ap place_of (sym (Some-inj h))
+operand_fresh meeting after h = ap place_of (sym (Some-inj h))
+operand_fresh met after h = absurd (let no : ⊥ = cc h in no)
+operand_fresh lessening after h = ap place_of (sym (Some-inj h))
+operand_fresh lessened after h = absurd (let no : ⊥ = cc h in no)
+
+-- before and behind a range
+pub ranged_fresh : (held after : Held) → ranged held ≡ Some after → (place_of held ≡ fresh) × (place_of after ≡ fresh)
+ranged_fresh empty after h = (refl, ap place_of (sym (Some-inj h)))
+ranged_fresh single after h = (refl, ap place_of (sym (Some-inj h)))
+ranged_fresh several after h = (refl, ap place_of (sym (Some-inj h)))
+ranged_fresh meeting after h = absurd (let no : ⊥ = cc h in no)
+ranged_fresh met after h = absurd (let no : ⊥ = cc h in no)
+ranged_fresh lessening after h = absurd (let no : ⊥ = cc h in no)
+ranged_fresh lessened after h = absurd (let no : ⊥ = cc h in no)
+
+-- A range stands in a union.
+pub ranged_union : (held after : Held) → ranged held ≡ Some after → is_union held ≡ true
+ranged_union empty after h = refl
+ranged_union single after h = refl
+ranged_union several after h = refl
+ranged_union meeting after h = absurd (let no : ⊥ = cc h in no)
+ranged_union met after h = absurd (let no : ⊥ = cc h in no)
+ranged_union lessening after h = absurd (let no : ⊥ = cc h in no)
+ranged_union lessened after h = absurd (let no : ⊥ = cc h in no)
+
+-- An operand behind which no union is stands where no range may.
+pub no_range_no_union : (held after : Held) → operand held ≡ Some after → ranged held ≡ None → is_union after ≡ false
+no_range_no_union empty after h none = absurd (let no : ⊥ = cc none in no)
+no_range_no_union single after h none = absurd (let no : ⊥ = cc none in no)
+no_range_no_union several after h none = absurd (let no : ⊥ = cc none in no)
+no_range_no_union meeting after h none = ap is_union (sym (Some-inj h))
+no_range_no_union met after h none = absurd (let no : ⊥ = cc h in no)
+no_range_no_union lessening after h none = ap is_union (sym (Some-inj h))
+no_range_no_union lessened after h none = absurd (let no : ⊥ = cc h in no)
+
+-- before and behind `&&`
+pub met_places : (held after : Held) → met_by held ≡ Some after → (place_of held ≡ fresh) × (place_of after ≡ behind_meet)
+met_places empty after h = absurd (let no : ⊥ = cc h in no)
+met_places single after h = (refl, ap place_of (sym (Some-inj h)))
+met_places several after h = absurd (let no : ⊥ = cc h in no)
+met_places meeting after h = absurd (let no : ⊥ = cc h in no)
+met_places met after h = (refl, ap place_of (sym (Some-inj h)))
+met_places lessening after h = absurd (let no : ⊥ = cc h in no)
+met_places lessened after h = absurd (let no : ⊥ = cc h in no)
+
+-- before and behind `--`
+pub less_places : (held after : Held) → less_by held ≡ Some after → (place_of held ≡ fresh) × (place_of after ≡ behind_less)
+less_places empty after h = absurd (let no : ⊥ = cc h in no)
+less_places single after h = (refl, ap place_of (sym (Some-inj h)))
+less_places several after h = absurd (let no : ⊥ = cc h in no)
+less_places meeting after h = absurd (let no : ⊥ = cc h in no)
+less_places met after h = absurd (let no : ⊥ = cc h in no)
+less_places lessening after h = absurd (let no : ⊥ = cc h in no)
+less_places lessened after h = (refl, ap place_of (sym (Some-inj h)))
+
+-- Brackets open in others, the innermost of which takes an operand more.
+record Opens (o : Option Brackets) : Type 0 where
+  inner : Bracket
+  outer : Brackets
+  opened : o ≡ Some (inner ∷ outer)
+  takes : takes_operand inner.held ≡ true
+
+-- one more
+opens_in : (b : OpenBracket) (d : Bracket) (ds : Brackets) → IsWellHeld b → takes_operand d.held ≡ true → class_run (class_tokens_of (bracket_events b)) (d ∷ ds) ≡ Some (bracket_at b ∷ d ∷ ds)
+opens_in b d ds well takes =
+    let ts = class_tokens_of (bracket_events b) in
+    run_in ts d [] ds (bracket_at b) (d ∷ []) (nested_run ts d (bracket_at b) takes well.opens)
+
+all_open : (bs : List OpenBracket) (d : Bracket) (ds : Brackets) → All IsAround bs → takes_operand d.held ≡ true → Opens (class_run (class_tokens_of (flat_map bracket_events bs)) (d ∷ ds))
+all_open [] d ds all takes = record { inner = d; outer = ds; opened = refl; takes = takes }
+all_open (b ∷ bs) d ds all takes =
+    let is = All-head IsAround b bs all in
+    let on = all_open bs (bracket_at b) (d ∷ ds) (All-tail IsAround b bs all) is.operand in record {
+      inner = on.inner;
+      outer = on.outer;
+      opened =
+          ap (λ ts. class_run ts (d ∷ ds)) (tokens_append (bracket_events b) (flat_map bracket_events bs))
+          ∙ class_run-append (class_tokens_of (bracket_events b)) (class_tokens_of (flat_map bracket_events bs)) (d ∷ ds) (bracket_at b ∷ d ∷ ds) (opens_in b d ds is.well takes)
+          ∙ on.opened;
+      takes = on.takes;
+    }
+
+around_open : (b : OpenBracket) (bs : List OpenBracket) → All IsAround (b ∷ bs) → Opens (class_opened (class_tokens_of (flat_map bracket_events (b ∷ bs))))
+around_open b bs all =
+    let is = All-head IsAround b bs all in
+    let well = is.well in
+    let on = all_open bs (bracket_at b) [] (All-tail IsAround b bs all) is.operand in record {
+      inner = on.inner;
+      outer = on.outer;
+      opened =
+          ap class_opened (tokens_append (bracket_events b) (flat_map bracket_events bs))
+          ∙ class_opened-append (class_tokens_of (bracket_events b)) (class_tokens_of (flat_map bracket_events bs)) (bracket_at b ∷ []) well.opens
+          ∙ on.opened;
+      takes = on.takes;
+    }
+
+-- All that was built leaves the innermost bracket open, and those around it.
+pub record BuiltOpens (b : ClassBuilder) : Type 0 where
+  pub outer : Brackets
+  pub opened : class_opened (class_tokens_of (builder_events b)) ≡ Some (bracket_at b.inner ∷ outer)
+
+inner_alone : (b : ClassBuilder) → b.outer ≡ [] → builder_events b ≡ bracket_events b.inner
+unfolding builder_events
+inner_alone b none = ap (λ bs. flat_map bracket_events bs ++ bracket_events b.inner) none
+
+inner_behind : (b : ClassBuilder) (bs : List OpenBracket) → b.outer ≡ bs → builder_events b ≡ flat_map bracket_events bs ++ bracket_events b.inner
+unfolding builder_events
+inner_behind b bs are = ap (λ bs. flat_map bracket_events bs ++ bracket_events b.inner) are
+
+pub built_opens : (b : ClassBuilder) → IsWellBuilt b → BuiltOpens b
+built_opens b well = go b.outer refl
+  where
+    inner : IsWellHeld b.inner
+    inner = well.inner
+
+    go : (bs : List OpenBracket) → b.outer ≡ bs → BuiltOpens b
+    go [] are = record { outer = []; opened = ap (λ es. class_opened (class_tokens_of es)) (inner_alone b are) ∙ inner.opens }
+    go (x ∷ bs) are =
+        let around = around_open x bs (subst (All IsAround) are well.outer) in
+        let ts = class_tokens_of (flat_map bracket_events (x ∷ bs)) in record {
+          outer = around.inner ∷ around.outer;
+          opened =
+              ap (λ es. class_opened (class_tokens_of es)) (inner_behind b (x ∷ bs) are)
+              ∙ ap class_opened (tokens_append (flat_map bracket_events (x ∷ bs)) (bracket_events b.inner))
+              ∙ class_opened-append ts (class_tokens_of (bracket_events b.inner)) (around.inner ∷ around.outer) around.opened
+              ∙ opens_in b.inner around.inner around.outer inner around.takes;
+        }
+
+module _ (e : Environment) (o : ℕ → ℕ) where
+  -- A row falls apart where its events do.
+  record SplitRow (es fs : ClassEvents) (q : Place) (i : ℕ) (us : List CodePoint) (r : Place) (j : ℕ) (end : List CodePoint) : Type 0 where
+    at : Place
+    place : ℕ
+    left : List CodePoint
+    first : ClassRow e o es q i us at place left
+    others : ClassRow e o fs at place left r j end
+
+  split_row : (es fs : ClassEvents) (q : Place) (i : ℕ) (us : List CodePoint) (r : Place) (j : ℕ) (end : List CodePoint) → ClassRow e o (es ++ fs) q i us r j end → SplitRow es fs q i us r j end
+  split_row [] fs q i us r j end h = record { at = q; place = i; left = us; first = (refl, refl, refl); others = h }
+  split_row ((enter n) ∷ es) fs q i us r j end h = let s = split_row es fs q i us r j end h.1 in record { at = s.at; place = s.place; left = s.left; first = (h.0, s.first); others = s.others }
+  split_row ((leave n) ∷ es) fs q i us r j end h = let s = split_row es fs q i us r j end h.1 in record { at = s.at; place = s.place; left = s.left; first = (h.0, s.first); others = s.others }
+  split_row ((token t) ∷ es) fs q i us r j end h =
+      let s = split_row es fs (behind e.mode q t h.1) (i + length h.0) h.1 r j end h.4 in
+      record { at = s.at; place = s.place; left = s.left; first = (h.0, h.1, h.2, h.3, s.first); others = s.others }
+
+  -- A row keeps the sum of its place and of what is left.
+  pub row_place : (es : ClassEvents) (q : Place) (i : ℕ) (us : List CodePoint) (r : Place) (j : ℕ) (end : List CodePoint) → ClassRow e o es q i us r j end → i + length us ≡ j + length end
+  row_place [] q i us r j end h = omega (arith, h.1, ap length h.2)
+  row_place ((enter n) ∷ es) q i us r j end h = row_place es q i us r j end h.1
+  row_place ((leave n) ∷ es) q i us r j end h = row_place es q i us r j end h.1
+  row_place ((token t) ∷ es) q i us r j end h =
+      omega (arith, row_place es (behind e.mode q t h.1) (i + length h.0) h.1 r j end h.4, ap length h.2, length-append h.0 h.1)
+
+  -- An open bracket begins where its row does.
+  begins_at : (b : OpenBracket) (q : Place) (i : ℕ) (us : List CodePoint) (r : Place) (j : ℕ) (end : List CodePoint) → ClassRow e o (bracket_events b) q i us r j end → b.start ≡ o i
+  unfolding bracket_events
+  begins_at b q i us r j end h = h.0
+
+module _ {e : Environment} {added : ℕ} {from r : Cursor} {b : ClassBuilder} (h : IsInSets e added from r b) where
+  -- An item may begin where the reader stands.
+  abbrev pub item_before : (left : List CodePoint) → rest r ≡ left → IsItemPlace e from.place (rest from) r.place left
+  item_before left is =
+      let opens = built_opens b h.well in record {
+        tokens = class_tokens_of (builder_events b);
+        at = place_of (held_in b);
+        inner = bracket_at b.inner;
+        outer = opens.outer;
+        begins = begins_place (held_in b);
+        row = subst (ClassTokenRow e (class_tokens_of (builder_events b)) outside (rest from) (place_of (held_in b))) is
+            (class_row_tokens e (offset_in added from) (builder_events b) outside from.place (rest from) (place_of (held_in b)) r.place (rest r) h.row);
+        accepted = opens.opened;
+        place_is = row_place e (offset_in added from) (builder_events b) outside from.place (rest from) (place_of (held_in b)) r.place (rest r) h.row ∙ ap (λ us. r.place + length us) is;
+      }
+
+  abbrev pub item_here : IsItemPlace e from.place (rest from) r.place (rest r)
+  item_here = item_before (rest r) refl
+
+  -- The innermost bracket, which is nested or not, begins where it says.
+  pub record Innermost (nested : Bool) : Type 0 where
+    pub begin : ℕ
+    pub in_bracket : IsInBracket e from.place (rest from) nested begin r.place (rest r)
+    pub at_is : in_bracket.item_place.at ≡ place_of (held_in b)
+    pub inner_is : in_bracket.item_place.inner ≡ bracket_at b.inner
+    pub start_is : b.inner.start ≡ offset_in added from begin
+
+  pub innermost_here : Innermost (is_nested b)
+  innermost_here = go b.outer refl
+    where
+      o : ℕ → ℕ
+      o = offset_in added from
+
+      well : IsWellBuilt b
+      well = h.well
+
+      inner : IsWellHeld b.inner
+      inner = well.inner
+
+      q : Place
+      q = place_of (held_in b)
+
+      own : ClassEvents
+      own = bracket_events b.inner
+
+      -- the place in the innermost bracket, by a row of it alone
+      alone : (begin : ℕ) (us : List CodePoint) → ClassTokenRow e (class_tokens_of own) outside us q (rest r) → begin + length us ≡ r.place + length (rest r) → IsItemPlace e begin us r.place (rest r)
+      alone begin us row place_is = record {
+        tokens = class_tokens_of own;
+        at = q;
+        inner = bracket_at b.inner;
+        outer = [];
+        begins = begins_place (held_in b);
+        row = row;
+        accepted = inner.opens;
+        place_is = place_is;
+      }
+
+      go : (bs : List OpenBracket) → b.outer ≡ bs → Innermost (has_outer bs)
+      go [] are =
+          let row = subst (λ es. ClassRow e o es outside from.place (rest from) q r.place (rest r)) (inner_alone b are) h.row in
+          let place_is = row_place e o own outside from.place (rest from) q r.place (rest r) row in record {
+            begin = from.place;
+            in_bracket = record {
+              at_bracket = rest from;
+              begins = of_class;
+              item_place = alone from.place (rest from) (class_row_tokens e o own outside from.place (rest from) q r.place (rest r) row) place_is;
+              innermost = refl;
+            };
+            at_is = refl;
+            inner_is = refl;
+            start_is = begins_at e o b.inner outside from.place (rest from) q r.place (rest r) row;
+          }
+      go (x ∷ bs) are =
+          let before : ClassEvents = flat_map bracket_events (x ∷ bs) in
+          let row = subst (λ es. ClassRow e o es outside from.place (rest from) q r.place (rest r)) (inner_behind b (x ∷ bs) are) h.row in
+          let s = split_row e o before own outside from.place (rest from) q r.place (rest r) row in
+          let around = around_open x bs (subst (All IsAround) are well.outer) in
+          let first = class_row_tokens e o before outside from.place (rest from) s.at s.place s.left s.first in
+          let inside = behind_opened e (class_tokens_of before) (around.inner ∷ around.outer) (rest from) s.at s.left around.opened first in
+          let on = row_alone e (class_tokens_of own) (bracket_at b.inner ∷ []) s.at s.left q (rest r) inner.opens inside (class_row_tokens e o own s.at s.place s.left q r.place (rest r) s.others) in record {
+            begin = s.place;
+            in_bracket = record {
+              at_bracket = s.left;
+              begins = nested on.0 record {
+                item_place = record {
+                  tokens = class_tokens_of before;
+                  at = s.at;
+                  inner = around.inner;
+                  outer = around.outer;
+                  begins = on.1;
+                  row = first;
+                  accepted = around.opened;
+                  place_is = row_place e o before outside from.place (rest from) s.at s.place s.left s.first;
+                };
+                takes = around.takes;
+              };
+              item_place = alone s.place s.left on.2 (row_place e o own s.at s.place s.left q r.place (rest r) s.others);
+              innermost = refl;
+            };
+            at_is = refl;
+            inner_is = refl;
+            start_is = begins_at e o b.inner s.at s.place s.left q r.place (rest r) s.others;
+          }

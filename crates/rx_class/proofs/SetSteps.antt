@@ -1,0 +1,143 @@
+-- What a turn of the reader of a class with `v` adds to what was built.
+use Rattle.std.proofs.Common.{◌≡◌, refl, sym, ap, ◌∙◌, subst, ℕ, ◌+◌, ◌<◌, Bool, true, false, Some, List, [], ◌∷◌, ◌++◌, length, arith, append_assoc, length-append}
+use Rattle.std.proofs.lemmas.Bool.{true≢false}
+use Rattle.std.proofs.lemmas.List.{length-map}
+use Rattle.rx_units.specs.declared.code_point.CodePoint.{CodePoint}
+use Rattle.rx_units.specs.Cursor.{Cursor, moved, offset_of, rest}
+use Rattle.rx_units.specs.Units.{values}
+use Rattle.rx_model.specs.Classes.ClassRows.{ClassRow, Place, SpellsBracket, SpellsInClass, behind, outside, fresh, at_dash, at_high, at_second, at_third, behind_meet, behind_less, in_strings}
+use Rattle.rx_model.specs.Classes.ClassRuns.{empty, is_whole, less_by, met_by}
+use Rattle.rx_model.specs.Classes.ClassTokens.{Atom, ClassEvents, ClassToken, bracket, closer, enter, is_character, item, leave, less, meet, token, class_tokens_of}
+use Rattle.rx_model.specs.Inputs.Environment.{Environment, is_sets}
+use Rattle.rx_model.specs.FirstPass.Marks.{starts}
+use Rattle.rx_model.specs.Refusals.ClassPlaces.{begins_item}
+use Rattle.rx_model.proofs.Classes.ClassTokens.{tokens_append}
+use Rattle.rx_class.specs.declared.class_builder.ClassBuilder.{ClassBuilder}
+use Rattle.rx_class.specs.declared.held.Held.{Held as HeldState}
+use Rattle.rx_class.specs.ClassBuilding.{builder_events}
+use Rattle.rx_class.specs.HeldMirror.{held_of}
+use Rattle.rx_class.specs.SetFronts.{Begins, BeginsBracket}
+use Rattle.rx_class.specs.SetReading.{AddsToSets, IsInSets, IsOfSets, RefusesNoEnd, bracket_text, held_in, offset_in, place_of}
+use Rattle.rx_class.specs.WellBuilt.{IsWellBuilt}
+use Rattle.rx_class.proofs.ClassItems.{rows_append}
+use Rattle.rx_class.proofs.Keeping.{keeps_on, passes_keeps, passes_moved}
+use Rattle.rx_class.proofs.SetPlaces.{begins_place, less_places, met_places, whole_fresh}
+
+pub last_same : {A : Type 0} (xs ys : List A) (x y : A) → xs ++ (x ∷ []) ≡ ys ++ (y ∷ []) → x ≡ y
+last_same [] [] x y h = cc h
+last_same [] (b ∷ ys) x y h = absurd (omega (arith, ap length h, length-append ys (y ∷ [])))
+last_same (a ∷ xs) [] x y h = absurd (omega (arith, ap length h, length-append xs (x ∷ [])))
+last_same (a ∷ xs) (b ∷ ys) x y h = last_same xs ys x y (let k : xs ++ (x ∷ []) ≡ ys ++ (y ∷ []) = cc h in k)
+
+-- Behind another token than a character no range is begun.
+pub last_no_character : (e : Environment) (r : Cursor) (before after : ClassBuilder) (more : ClassEvents) (ts : List ClassToken) (t : ClassToken) → builder_events after ≡ builder_events before ++ more →
+    class_tokens_of more ≡ ts ++ (t ∷ []) → ((a : Atom) → t ≡ item a → is_character a ≡ true → ⊥) → RefusesNoEnd e r after
+last_no_character e r before after more ts t events last other union xs a tokens is =
+    let all : xs ++ (item a ∷ []) ≡ (class_tokens_of (builder_events before) ++ ts) ++ (t ∷ []) =
+    sym tokens ∙ ap class_tokens_of events ∙ tokens_append (builder_events before) more ∙ ap (λ us. class_tokens_of (builder_events before) ++ us) last
+    ∙ sym (append_assoc (class_tokens_of (builder_events before)) ts (t ∷ [])) in
+    absurd (other a (sym (last_same xs (class_tokens_of (builder_events before) ++ ts) (item a) t all)) is)
+
+module _ (e : Environment) (added : ℕ) (old new : Cursor) (before after : ClassBuilder) where
+  -- More events that lead on by some units.
+  pub adds_by : (more : ClassEvents) (w left : List CodePoint) (q r : Place) → rest old ≡ w ++ left → 0 < length w → new ≡ moved (length w) old → builder_events after ≡ builder_events before ++ more →
+      place_of (held_in before) ≡ q → place_of (held_in after) ≡ r → ClassRow e (offset_in added old) more q old.place (w ++ left) r (old.place + length w) left → IsWellBuilt after → RefusesNoEnd e new after →
+      AddsToSets e added old new before after
+  adds_by more w left q r whole some moves events from to row well ends =
+      let p = passes_moved old new w left whole some moves in
+      let passes = p.0 in
+      let place : new.place ≡ old.place + length w = ap (λ (r : Cursor). r.place) passes.moves in record {
+        keeps = passes_keeps passes;
+        goes_on = omega (arith, place, some);
+        more = more;
+        events = events;
+        row = rw (p.1, place, whole, from, to) row;
+        well = well;
+        ends = ends;
+      }
+
+  -- one token more
+  pub adds_token : (t : ClassToken) (w left : List CodePoint) (q : Place) → rest old ≡ w ++ left → 0 < length w → new ≡ moved (length w) old → builder_events after ≡ builder_events before ++ (token t ∷ []) →
+      place_of (held_in before) ≡ q → place_of (held_in after) ≡ behind e.mode q t left → SpellsInClass e q t w left → IsWellBuilt after → ((a : Atom) → t ≡ item a → is_character a ≡ true → ⊥) → AddsToSets e added old new before after
+  adds_token t w left q whole some moves events from to spelled well other =
+      adds_by (token t ∷ []) w left q (behind e.mode q t left) whole some moves events from to (w, left, refl, spelled, (refl, refl, refl)) well
+      (last_no_character e new before after (token t ∷ []) [] t events refl other)
+
+-- What was built so far goes on with more.
+pub goes_on : {e : Environment} {added : ℕ} {from old new : Cursor} {before after : ClassBuilder} → IsInSets e added from old before → AddsToSets e added old new before after → IsInSets e added from new after
+goes_on {e} {added} {from} {old} {new} {before} {after} h a = record {
+  keeps = keeps_on h.keeps a.keeps;
+  row =
+      rw (a.events) (rows_append e (offset_in added from) (builder_events before) a.more outside from.place (rest from) (place_of (held_in before)) old.place (rest old) (place_of (held_in after)) new.place (rest new) h.row
+      (subst (λ (r : Cursor). ClassRow e (offset_in added r) a.more (place_of (held_in before)) old.place (rest old) (place_of (held_in after)) new.place (rest new)) h.keeps.same a.row));
+  well = a.well;
+  ends = a.ends;
+}
+
+begins_some : (us : List CodePoint) (text : List ℕ) (b : Begins us text) → length b.w ≡ length text
+begins_some us text b = sym (length-map b.w (λ (u : CodePoint). u.value)) ∙ ap length b.text_is
+
+-- `&&` and `--`
+module _ (added : ℕ) (old new : Cursor) (before after : ClassBuilder) (held : HeldState) (with : held_in after ≡ held_of held) (well : IsWellBuilt after) where
+  pub meet_adds : Begins (rest old) (38 ∷ 38 ∷ []) → met_by (held_in before) ≡ Some (held_of held) → builder_events after ≡ builder_events before ++ (token meet ∷ []) → new ≡ moved 2 old →
+      (e : Environment) → IsOfSets e old → AddsToSets e added old new before after
+  meet_adds front by events moves e of =
+      let places = met_places (held_in before) (held_of held) by in
+      let n = begins_some (rest old) (38 ∷ 38 ∷ []) front in
+      adds_token e added old new before after meet front.w front.rest fresh front.whole (omega (arith, n)) (moves ∙ ap (λ n. moved n old) (sym n)) events places.0 (ap place_of with ∙ places.1) (of.sets, front.text_is) well
+      (λ a same is. let no : ⊥ = cc same in no)
+
+  pub less_adds : Begins (rest old) (45 ∷ 45 ∷ []) → less_by (held_in before) ≡ Some (held_of held) → builder_events after ≡ builder_events before ++ (token less ∷ []) → new ≡ moved 2 old →
+      (e : Environment) → IsOfSets e old → AddsToSets e added old new before after
+  less_adds front by events moves e of =
+      let places = less_places (held_in before) (held_of held) by in
+      let n = begins_some (rest old) (45 ∷ 45 ∷ []) front in
+      adds_token e added old new before after less front.w front.rest fresh front.whole (omega (arith, n)) (moves ∙ ap (λ n. moved n old) (sym n)) events places.0 (ap place_of with ∙ places.1) (of.sets, front.text_is) well
+      (λ a same is. let no : ⊥ = cc same in no)
+
+-- Behind an item, or an operator, a nested bracket may stand.
+bracket_there : (e : Environment) (q : Place) (negative : Bool) (w left : List CodePoint) → begins_item q ≡ true → is_sets e.mode ≡ true → SpellsBracket negative w left → SpellsInClass e q (bracket negative) w left
+bracket_there e fresh negative w left begins sets s = (sets, s)
+bracket_there e behind_meet negative w left begins sets s = (sets, s, no_ampersand negative s)
+  where
+    no_ampersand : (negative : Bool) → SpellsBracket negative w left → starts 38 (values w) ≡ false
+    no_ampersand true s = ap (starts 38) s
+    no_ampersand false s = ap (starts 38) s.0
+bracket_there e behind_less negative w left begins sets s = (sets, s)
+bracket_there e outside negative w left begins sets s = absurd (true≢false (sym begins))
+bracket_there e at_dash negative w left begins sets s = absurd (true≢false (sym begins))
+bracket_there e at_high negative w left begins sets s = absurd (true≢false (sym begins))
+bracket_there e at_second negative w left begins sets s = absurd (true≢false (sym begins))
+bracket_there e at_third negative w left begins sets s = absurd (true≢false (sym begins))
+bracket_there e in_strings negative w left begins sets s = absurd (true≢false (sym begins))
+
+bracket_count : (negative : Bool) (w left : List CodePoint) → SpellsBracket negative w left → length w ≡ length (bracket_text negative)
+bracket_count true w left s = sym (length-map w (λ (u : CodePoint). u.value)) ∙ ap length s
+bracket_count false w left s = sym (length-map w (λ (u : CodePoint). u.value)) ∙ ap length s.0
+
+some_text : (negative : Bool) → 0 < length (bracket_text negative)
+some_text true = omega arith
+some_text false = omega arith
+
+-- a bracket that opens, and one that closes
+module _ (added : ℕ) (old new : Cursor) (before after : ClassBuilder) (well : IsWellBuilt after) where
+  pub open_adds : (negative : Bool) (start count : ℕ) → BeginsBracket (rest old) negative → held_in after ≡ empty → builder_events after ≡ builder_events before ++ (enter start ∷ token (bracket negative) ∷ []) →
+      start ≡ offset_of old + added → count ≡ length (bracket_text negative) → new ≡ moved count old → (e : Environment) → IsOfSets e old → AddsToSets e added old new before after
+  open_adds negative start count front with events at counts moves e of =
+      let n = bracket_count negative front.w front.rest front.spelled in
+      let q = place_of (held_in before) in
+      adds_by e added old new before after (enter start ∷ token (bracket negative) ∷ []) front.w front.rest q fresh front.whole (omega (arith, n, some_text negative)) (moves ∙ ap (λ n. moved n old) (counts ∙ sym n)) events refl (ap place_of with)
+      (at, (front.w, front.rest, refl, bracket_there e q negative front.w front.rest (begins_place (held_in before)) of.sets front.spelled, (refl, refl, refl))) well
+      (last_no_character e new before after (enter start ∷ token (bracket negative) ∷ []) [] (bracket negative) events refl (λ a same is. let no : ⊥ = cc same in no))
+
+  pub close_adds : (end : ℕ) → Begins (rest old) (93 ∷ []) → is_whole (held_in before) ≡ true → is_whole (held_in after) ≡ true → builder_events after ≡ builder_events before ++ (token closer ∷ leave end ∷ []) →
+      end ≡ offset_of new + added → new ≡ moved 1 old → (e : Environment) → IsOfSets e old → AddsToSets e added old new before after
+  close_adds end front whole held events at moves e of =
+      let n = begins_some (rest old) (93 ∷ []) front in
+      let moves_on : new ≡ moved (length front.w) old = moves ∙ ap (λ n. moved n old) (sym n) in
+      let p = passes_moved old new front.w front.rest front.whole (omega (arith, n)) moves_on in
+      let passes = p.0 in
+      let there : end ≡ offset_in added old (old.place + length front.w) = at ∙ ap (λ (r : Cursor). offset_of r + added) passes.moves in
+      adds_by e added old new before after (token closer ∷ leave end ∷ []) front.w front.rest fresh fresh front.whole (omega (arith, n)) moves_on events (whole_fresh (held_in before) whole) (whole_fresh (held_in after) held)
+      (front.w, front.rest, refl, front.text_is, (there, (refl, refl, refl))) well
+      (last_no_character e new before after (token closer ∷ leave end ∷ []) [] closer events refl (λ a same is. let no : ⊥ = cc same in no))

@@ -1,0 +1,297 @@
+-- Class strings from their opener on: where their reader stands, and what it answers.
+use Rattle.std.proofs.Common.{◌≡◌, ◌≢◌, refl, sym, ap, ◌∙◌, subst, ℕ, ◌+◌, ◌-◌, ◌<◌, ◌≤◌, true, false, is_some, Option, Some, None, Ok, Err, List, [], ◌∷◌, ◌++◌, length, arith, append-nil, append_assoc, inr, length-append}
+use Rattle.std.specs.Prelude.{All}
+use Rattle.std.proofs.lemmas.Bool.{le-leb, true≢false}
+use Rattle.std.proofs.lemmas.List.{length-map}
+use Rattle.std.proofs.lemmas.List.Elements.{All-cons, All-head, All-nil, All-tail, All-weaker}
+use Rattle.rx_base.specs.declared.diagnostic.Diagnostic.{Diagnostic}
+use Rattle.rx_base.specs.declared.diagnostic.Diagnostic.TheVariants.{UnterminatedPattern}
+use Rattle.rx_base.specs.declared.diagnostic.kinds.Unterminated.TheVariants as what
+use Rattle.rx_base.specs.declared.fault.Fault.{Fault}
+use Rattle.rx_base.specs.declared.fault.Fault.TheVariants as fault
+use Rattle.rx_base.specs.declared.span.Span.{Span}
+use Rattle.rx_ast.specs.declared.leaf.Character.{Character}
+use Rattle.rx_ast.specs.declared.class.ClassString.{ClassString}
+use Rattle.rx_ast.specs.declared.class.ClassStringDisjunction.{ClassStringDisjunction}
+use Rattle.rx_ast.specs.ClassTree as tree
+use Rattle.rx_units.specs.declared.code_point.CodePoint.{CodePoint}
+use Rattle.rx_units.specs.Cursor.{Cursor, moved, offset_of, rest}
+use Rattle.rx_units.specs.Units.{offset_at, values}
+use Rattle.rx_model.specs.Classes.ClassRows.{ClassRow, Place, SpellsInClass, fresh, behind_meet, behind_less, in_strings}
+use Rattle.rx_model.specs.Classes.ClassRuns.{Bracket, Brackets, Held, any_string, behind_step, class_run, operand, takes_operand, where_may, where_true}
+use Rattle.rx_model.specs.Classes.ClassShapes.{IsFlaggedString}
+use Rattle.rx_model.specs.Classes.ClassTokens.{ClassEvents, ClassToken, strings, letter, string_bar, strings_end, barred_strings_events, class_tokens_of, enter, leave, letters_events, string_events, strings_events, token}
+use Rattle.rx_model.specs.FirstPass.Marks.{starts}
+use Rattle.rx_model.specs.Inputs.Environment.{Environment, is_sets}
+use Rattle.rx_model.specs.Refusals.ClassCauses.{EndsStrings, escape_in_class}
+use Rattle.rx_model.specs.Refusals.ClassPlaces.{IsOfStrings, IsOperandPlace, IsStringPlace, begins_item}
+use Rattle.rx_model.specs.Refusals.EscapeCauses.{IsEscapeCause, invalid_escape, too_many_hex_digits}
+use Rattle.rx_model.specs.Refusals.Firsts.{IsFirstInClass, no_item, yielding}
+use Rattle.rx_model.specs.Refusals.Reached.{text_environment}
+use Rattle.rx_model.specs.Trees.Early.{IsCodePoint, IsEarlyString}
+use Rattle.rx_model.proofs.Classes.ClassUnspanned.{class_row_tokens}
+use Rattle.rx_model.proofs.Classes.NothingFirst.{unterminated_strings_first}
+use Rattle.rx_model.proofs.Classes.OneInClass.{said_is_first}
+use Rattle.rx_class.specs.declared.class_strings.StringsBuilder.{StringsBuilder}
+use Rattle.rx_class.specs.ClassItems.{IsOfText}
+use Rattle.rx_class.specs.EscapeAnswers.{span_to}
+use Rattle.rx_class.specs.Fitting.{AreFitting}
+use Rattle.rx_class.specs.Keeping.{KeepsUnits}
+use Rattle.rx_class.specs.SetAnswers.{GivesStrings, IsOperandRefusal, IsOperandRow}
+use Rattle.rx_class.specs.SetAnswers as given
+use Rattle.rx_class.specs.SetFronts.{Begins}
+use Rattle.rx_class.specs.SetStrings.{AddsPart, AreSoundStrings, RefusesPart, ended_events, ends, escape, last_string, no_memory, read_events, started, with_string}
+use Rattle.rx_class.specs.WellBuilt.{IsSound}
+use Rattle.rx_class.proofs.ClassItems.{rows_append}
+use Rattle.rx_class.proofs.Keeping.{Passes, keeps_on, passes_keeps, passes_moved, passes_on, passes_over}
+use Rattle.rx_class.proofs.SetStrings.{string_ends, three_more, unit_there}
+
+-- the offset of a place of a reader's text
+abbrev pub offset_in : ℕ → Cursor → ℕ → ℕ
+offset_in added r i = offset_at r.first r.units i + added
+
+-- From the opener at a reader's old place, characters and bars lead to its new one.
+pub record IsInStrings (e : Environment) (added : ℕ) (old new : Cursor) (b : StringsBuilder) : Type 0 where
+  pub opener : List CodePoint
+  pub opener_is : values opener ≡ 92 ∷ 113 ∷ 123 ∷ []
+  pub w : List CodePoint
+  pub passes : Passes old new (opener ++ w)
+  pub row : ClassRow e (offset_in added old) (read_events b) in_strings (old.place + length opener) (w ++ rest new) in_strings new.place (rest new)
+  pub sound : AreSoundStrings b
+
+-- Tokens of class strings are accepted in a bracket.
+abbrev IsSmallOfStrings : ClassToken → Type 0
+IsSmallOfStrings (letter k v) = v ≤ 0x10FFFF
+IsSmallOfStrings string_bar = Unit {0}
+IsSmallOfStrings t = ⊥
+
+small_is_of_strings : (t : ClassToken) → IsSmallOfStrings t → IsOfStrings t
+small_is_of_strings (letter k v) h = tt
+small_is_of_strings string_bar h = tt
+small_is_of_strings t h = absurd h
+
+small_run : (ts : List ClassToken) (b : Bracket) (outer : Brackets) → All IsSmallOfStrings ts → (c : Bracket) × (class_run ts (b ∷ outer) ≡ Some (c ∷ outer))
+small_run [] b outer h = (b, refl)
+small_run ((letter k v) ∷ ts) b outer h =
+    let small = All-head IsSmallOfStrings (letter k v) ts h in
+    let more : Bracket = record b { count = b.count + 1 } in
+    let again = small_run ts more outer (All-tail IsSmallOfStrings (letter k v) ts h) in
+    (again.0, ap (λ x. behind_step (where_true x (Some (more ∷ outer))) (λ bs. class_run ts bs)) (le-leb v 0x10FFFF small) ∙ again.1)
+small_run (string_bar ∷ ts) b outer h = small_run ts (record b { count = 0; any = any_string b }) outer (All-tail IsSmallOfStrings string_bar ts h)
+small_run (t ∷ ts) b outer h = absurd (All-head IsSmallOfStrings t ts h)
+
+opens : (held : Held) (bs : Brackets) → takes_operand held ≡ true → where_may (operand held) bs ≡ Some bs
+opens held bs takes = by (operand held) takes
+  where
+    by : (o : Option Held) → is_some o ≡ true → where_may o bs ≡ Some bs
+    by None h = absurd (true≢false (sym h))
+    by (Some held) h = refl
+
+-- What has been read are such tokens.
+abbrev AreSmall : ClassEvents → Type 0
+AreSmall es = All IsSmallOfStrings (class_tokens_of es)
+
+small_append : (es fs : ClassEvents) → AreSmall es → AreSmall fs → AreSmall (es ++ fs)
+small_append [] fs h k = k
+small_append ((enter n) ∷ es) fs h k = small_append es fs h k
+small_append ((leave n) ∷ es) fs h k = small_append es fs h k
+small_append ((token t) ∷ es) fs h k =
+    All-cons IsSmallOfStrings t (class_tokens_of (es ++ fs)) (All-head IsSmallOfStrings t (class_tokens_of es) h) (small_append es fs (All-tail IsSmallOfStrings t (class_tokens_of es) h) k)
+
+letters_small : (cs : List Character) → All (λ c. IsCodePoint c.value) cs → AreSmall (letters_events cs)
+letters_small [] h = All-nil IsSmallOfStrings
+letters_small (c ∷ cs) h =
+    All-cons IsSmallOfStrings (letter c.kind c.value) (class_tokens_of (letters_events cs)) (All-head (λ (c : Character). IsCodePoint c.value) c cs h)
+    (letters_small cs (All-tail (λ (c : Character). IsCodePoint c.value) c cs h))
+
+ended_small : (ss : List ClassString) → All IsEarlyString ss → AreSmall (ended_events ss)
+ended_small [] h = All-nil IsSmallOfStrings
+ended_small (s ∷ ss) h =
+    small_append (string_events s) (token string_bar ∷ ended_events ss)
+    (small_append (letters_events s.body) (leave s.span.end ∷ []) (letters_small s.body (All-head IsEarlyString s ss h).1) (All-nil IsSmallOfStrings))
+    (All-cons IsSmallOfStrings string_bar (class_tokens_of (ended_events ss)) tt (ended_small ss (All-tail IsEarlyString s ss h)))
+
+read_small : (b : StringsBuilder) → AreSoundStrings b → AreSmall (read_events b)
+read_small b s = small_append (ended_events b.strings) (enter b.start ∷ letters_events b.letters) (ended_small b.strings s.early) (letters_small b.letters s.letters)
+
+-- The strings that ended, and a last one.
+barred : (ss : List ClassString) (s : ClassString) → barred_strings_events (ss ++ (s ∷ [])) ≡ token string_bar ∷ (ended_events ss ++ string_events s)
+barred [] s = ap (λ es. token string_bar ∷ es) (append-nil (string_events s))
+barred (x ∷ ss) s = ap (λ es. token string_bar ∷ (string_events x ++ es)) (barred ss s) ∙ ap (λ es. token string_bar ∷ es) (sym (append_assoc (string_events x) (token string_bar ∷ ended_events ss) (string_events s)))
+
+strings_are : (ss : List ClassString) (s : ClassString) → strings_events (ss ++ (s ∷ [])) ≡ ended_events ss ++ string_events s
+strings_are [] s = append-nil (string_events s)
+strings_are (x ∷ ss) s = ap (λ es. string_events x ++ es) (barred ss s) ∙ sym (append_assoc (string_events x) (token string_bar ∷ ended_events ss) (string_events s))
+
+last_ends : (b : StringsBuilder) (end : ℕ) → strings_events (with_string b end).strings ≡ read_events b ++ (leave end ∷ [])
+last_ends b end = strings_are b.strings (last_string b end) ∙ sym (append_assoc (ended_events b.strings) (enter b.start ∷ letters_events b.letters) (leave end ∷ []))
+
+some_string : (ss : List ClassString) (s : ClassString) → ss ++ (s ∷ []) ≡ [] → ⊥
+some_string [] s h = cc h
+some_string (x ∷ ss) s h = cc h
+
+-- An escape that is refused says what stands there.
+pub escape_says_more : {mode : _} {us : List CodePoint} {first added place : ℕ} {rest : List CodePoint} (d : Diagnostic) → IsEscapeCause mode us first added place rest d → yielding d ≢ no_item
+escape_says_more _ (too_many_hex_digits count behind u h p) k = cc k
+escape_says_more _ (invalid_escape behind u h no_value no_limit) k = cc k
+
+module _ (e : Environment) (sets : is_sets e.mode ≡ true) (added : ℕ) (old : Cursor) where
+  -- where an operand may stand class strings may begin
+  opener_spelled : (q : Place) (w more : List CodePoint) → begins_item q ≡ true → values w ≡ 92 ∷ 113 ∷ 123 ∷ [] → SpellsInClass e q strings w more
+  opener_spelled fresh w more b h = (sets, h)
+  opener_spelled behind_meet w more b h = (sets, h, ap (starts 38) h)
+  opener_spelled behind_less w more b h = (sets, h)
+  opener_spelled q w more b h = absurd (true≢false (sym b))
+
+  pub strings_begin : (new : Cursor) (b : StringsBuilder) (here : Span) → Begins (rest old) (92 ∷ 113 ∷ 123 ∷ []) → new ≡ moved 3 old → here ≡ span_to added (offset_of new) new → b ≡ started here.start → IsInStrings e added old new b
+  strings_begin new b here o moves here_is is =
+      let count : 3 ≡ length o.w = sym (sym (length-map o.w (λ (u : CodePoint). u.value)) ∙ ap length o.text_is) in
+      let p = passes_moved old new o.w o.rest o.whole (omega arith) (moves ∙ ap (λ n. moved n old) count) in
+      let place : new.place ≡ old.place + length o.w = ap (λ (r : Cursor). r.place) p.0.moves in
+      let start : here.start ≡ offset_in added old (old.place + length o.w) = ap (λ (s : Span). s.start) here_is ∙ ap (λ (r : Cursor). offset_of r + added) p.0.moves in
+      record {
+        opener = o.w;
+        opener_is = o.text_is;
+        w = [];
+        passes = subst (Passes old new) (sym (append-nil o.w)) p.0;
+        row = subst (λ b. ClassRow e (offset_in added old) (read_events b) in_strings (old.place + length o.w) (rest new) in_strings new.place (rest new)) (sym is) (start, (refl, sym place, refl));
+        sound = subst AreSoundStrings (sym is) record { early = All-nil IsEarlyString; letters = All-nil (λ (c : Character). IsCodePoint c.value); may = refl };
+      }
+
+  pub strings_go_on : (mid new : Cursor) (b after : StringsBuilder) → IsInStrings e added old mid b → AddsPart e added mid new b after → IsInStrings e added old new after
+  strings_go_on mid new b after h a =
+      let p = (passes_moved mid new a.w (rest new) a.whole a.some a.moves).0 in
+      let all = passes_on h.passes p in
+      let place : new.place ≡ mid.place + length a.w = ap (λ (r : Cursor). r.place) p.moves in
+      let more : ClassRow e (offset_in added old) a.events in_strings mid.place (rest mid) in_strings new.place (rest new) =
+      subst (λ place. ClassRow e (offset_in added old) a.events in_strings mid.place (rest mid) in_strings place (rest new)) (sym place)
+      (subst (λ us. ClassRow e (offset_in added old) a.events in_strings mid.place us in_strings (mid.place + length a.w) (rest new)) (sym a.whole)
+      (subst (λ (r : Cursor). ClassRow e (offset_in added r) a.events in_strings mid.place (a.w ++ rest new) in_strings (mid.place + length a.w) (rest new)) h.passes.moves a.row)) in
+      let text : h.w ++ rest mid ≡ (h.w ++ a.w) ++ rest new = ap (λ us. h.w ++ us) a.whole ∙ sym (append_assoc h.w a.w (rest new)) in
+      record {
+        opener = h.opener;
+        opener_is = h.opener_is;
+        w = h.w ++ a.w;
+        passes = subst (Passes old new) (append_assoc h.opener h.w a.w) all;
+        row =
+            rw a.adds
+            (subst (λ us. ClassRow e (offset_in added old) (read_events b ++ a.events) in_strings (old.place + length h.opener) us in_strings new.place (rest new)) text
+            (rows_append e (offset_in added old) (read_events b) a.events in_strings (old.place + length h.opener) (h.w ++ rest mid) in_strings mid.place (rest mid) in_strings new.place (rest new) h.row more));
+        sound = a.sound h.sound;
+      }
+
+  -- What spells the class strings, from the opener to the `}`.
+  module _ (mid new : Cursor) (b ended : StringsBuilder) (here span : Span) (h : IsInStrings e added old mid b) (closes : starts 125 (values (rest mid)) ≡ true) (here_is : here ≡ span_to added (offset_of mid) mid) (ended_is : ended ≡ with_string b here.start)
+      (moves : new ≡ moved 1 mid) (start : ℕ) (start_is : start ≡ offset_of old) (span_is : span ≡ span_to added start new) where
+    abbrev it : ClassStringDisjunction
+    it = record { span = span; strings = ended.may; body = ended.strings }
+
+    abbrev ends_by : ClassEvents
+    ends_by = leave here.start ∷ token strings_end ∷ leave span.end ∷ []
+
+    events_are : (strings_events ended.strings ++ (token strings_end ∷ [])) ++ (leave span.end ∷ []) ≡ read_events b ++ ends_by
+    events_are =
+        ap (λ es. (es ++ (token strings_end ∷ [])) ++ (leave span.end ∷ [])) (ap (λ (b : StringsBuilder). strings_events b.strings) ended_is ∙ last_ends b here.start)
+        ∙ three_more (read_events b) (leave here.start) (token strings_end) (leave span.end)
+
+    sound_strings : AreSoundStrings ended
+    sound_strings = subst AreSoundStrings (sym ended_is) (string_ends b here.start h.sound)
+
+    strings_sound : IsSound (tree.strings it)
+    strings_sound = record {
+      fitting = λ none. some_string b.strings (last_string b here.start) (sym (ap (λ (b : StringsBuilder). b.strings) ended_is) ∙ none);
+      flagged = (sound_strings.may, All-weaker IsEarlyString IsFlaggedString (λ s early. early.0) ended.strings sound_strings.early);
+      early = (sound_strings.may, sound_strings.early);
+    }
+
+    pub strings_give : GivesStrings e added old new (Ok it)
+    strings_give =
+        let t = unit_there 125 (rest mid) closes in
+        let p = (passes_moved mid new (t.0 ∷ []) t.1 t.2 (omega arith) moves).0 in
+        let all = passes_on h.passes p in
+        let w = (h.opener ++ h.w) ++ (t.0 ∷ []) in
+        let place : new.place ≡ mid.place + 1 = ap (λ (r : Cursor). r.place) p.moves in
+        let place_all : new.place ≡ old.place + length w = ap (λ (r : Cursor). r.place) all.moves in
+        let o = offset_in added old in
+        let here_there : here.start ≡ o mid.place = ap (λ (s : Span). s.start) here_is ∙ ap (λ (r : Cursor). offset_of r + added) h.passes.moves ∙ ap o (sym (ap (λ (r : Cursor). r.place) h.passes.moves)) in
+        let end_there : span.end ≡ o (mid.place + 1) = ap (λ (s : Span). s.end) span_is ∙ ap (λ (r : Cursor). offset_of r + added) all.moves ∙ ap o (sym place_all ∙ place) in
+        let begins : span.start ≡ o old.place = ap (λ (s : Span). s.start) span_is ∙ ap (λ n. n + added) start_is in
+        let last : ClassRow e o ends_by in_strings mid.place (rest mid) fresh new.place (rest new) =
+        (here_there, (t.0 ∷ [], rest new, p.whole, (sets, ap (λ c. c ∷ []) t.3), (end_there, (refl, sym place, refl)))) in
+        let row : ClassRow e o (read_events b ++ ends_by) in_strings (old.place + length h.opener) (h.w ++ rest mid) fresh new.place (rest new) =
+        rows_append e o (read_events b) ends_by in_strings (old.place + length h.opener) (h.w ++ rest mid) in_strings mid.place (rest mid) fresh new.place (rest new) h.row last in
+        let whole : w ++ rest new ≡ h.opener ++ (h.w ++ rest mid) = sym all.whole ∙ h.passes.whole ∙ append_assoc h.opener h.w (rest mid) in
+        let on = subst (λ place. ClassRow e o (read_events b ++ ends_by) in_strings (old.place + length h.opener) (h.w ++ rest mid) fresh place (rest new)) place_all row in
+        given.some w (rest new) all.whole
+        (λ q b. (begins, (h.opener, h.w ++ rest mid, whole, opener_spelled q h.opener (h.w ++ rest mid) b h.opener_is, rw events_are on)))
+        strings_sound (passes_over all)
+
+  -- Where no part is read.
+  module _ (r : Cursor) (b : StringsBuilder) (h : IsInStrings e added old r b) where
+    string_place : (from : ℕ) (at_class : List CodePoint) → IsOperandPlace e from at_class old.place (rest old) → IsStringPlace e from at_class old.place r.place (rest r)
+    string_place from at_class p =
+        let i = p.item_place in
+        let small = read_small b h.sound in
+        let inside = class_tokens_of (read_events b) in
+        let run = small_run inside (record i.inner { count = 0; any = false }) i.outer small in
+        let row = class_row_tokens e (offset_in added old) (read_events b) in_strings (old.place + length h.opener) (h.w ++ rest r) in_strings r.place (rest r) h.row in
+        let whole : rest old ≡ h.opener ++ (h.w ++ rest r) = h.passes.whole ∙ append_assoc h.opener h.w (rest r) in
+        let place : r.place ≡ old.place + length (h.opener ++ h.w) = ap (λ (r : Cursor). r.place) h.passes.moves in
+        record {
+          at_strings = rest old;
+          item_place = i;
+          inside = inside;
+          of_strings = All-weaker IsSmallOfStrings IsOfStrings small_is_of_strings inside small;
+          row = (h.opener, h.w ++ rest r, whole, opener_spelled i.at h.opener (h.w ++ rest r) i.begins h.opener_is, row);
+          inner = run.0;
+          outer = i.outer;
+          accepted = ap (λ o. behind_step o (λ bs. class_run inside bs)) (opens i.inner.held (record i.inner { count = 0; any = false } ∷ i.outer) p.takes) ∙ run.1;
+          place_is = omega (arith, i.place_is, place, ap length h.passes.whole, length-append (h.opener ++ h.w) (rest r));
+        }
+
+    -- of each class in which the class strings may stand, what is refused there is the first refusal
+    abbrev IsFirstHere : Diagnostic → Type 0
+    IsFirstHere d = (from : ℕ) (at_class : List CodePoint) → IsOperandPlace e from at_class old.place (rest old) → IsFirstInClass e.mode r.units r.first added from at_class d
+
+    in_text : IsOfText e r → (from : ℕ) (at_class : List CodePoint) → IsOperandPlace e from at_class old.place (rest old) → IsStringPlace (text_environment e.mode r.units) from at_class old.place r.place (rest r)
+    in_text text from at_class p = subst (λ e. IsStringPlace e from at_class old.place r.place (rest r)) text (string_place from at_class p)
+
+    escape_first_here : (d : Diagnostic) → IsOfText e r → IsEscapeCause e.mode r.units r.first added r.place (rest r) d → IsFirstHere d
+    escape_first_here d text c from at_class p =
+        said_is_first e.mode r.units r.first added from at_class r.place d (escape_in_class r.place (rest r) (inr (inr (old.place, in_text text from at_class p))) c) (escape_says_more d c)
+
+    ends_first_here : (start : ℕ) → start ≡ offset_of old → IsOfText e r → EndsStrings e (rest r) → ((d : Diagnostic) → IsEscapeCause e.mode r.units r.first added r.place (rest r) d → ⊥)
+        → IsFirstHere (UnterminatedPattern (span_to added start r) what.ClassStringDisjunction)
+    ends_first_here start start_is text none no_escape from at_class p =
+        let first = unterminated_strings_first e.mode r.units r.first added from at_class sets old.place r.place (rest r) (in_text text from at_class p) (subst (λ e. EndsStrings e (rest r)) text none) no_escape in
+        let begins : start ≡ offset_at r.first r.units old.place = start_is ∙ ap (λ (r : Cursor). offset_at r.first r.units old.place) (sym h.passes.moves) in
+        subst (λ n. IsFirstInClass e.mode r.units r.first added from at_class (UnterminatedPattern (record { start = n + added; end = offset_of r + added }) what.ClassStringDisjunction)) (sym begins) first
+
+    refused_here : (new : Cursor) (d : Diagnostic) → (IsOfText e r → IsFirstHere d) → KeepsUnits r new → GivesStrings e added old new (Err (fault.Diagnostic d))
+    refused_here new d first keeps =
+        let back : old ≡ record r { place = old.place } = sym (ap (λ (r : Cursor). record r { place = old.place }) h.passes.moves) in
+        given.refused
+        (λ text from at_class p.
+        subst (λ (c : Cursor). IsFirstInClass e.mode c.units c.first added from at_class d) (sym back)
+        (first (text ∙ ap (λ (c : Cursor). text_environment e.mode c.units) back) from at_class p))
+        (keeps_on (passes_keeps h.passes) keeps)
+
+    pub strings_refuse : (new : Cursor) (start : ℕ) (f : Fault) → start ≡ offset_of old → RefusesPart e added start r new f → GivesStrings e added old new (Err f)
+    strings_refuse new start _ start_is (escape {diagnostic} c keeps) = refused_here new diagnostic (λ text. escape_first_here diagnostic text c) keeps
+    strings_refuse new start _ start_is (ends none no_escape keeps) = refused_here new _ (λ text. ends_first_here start start_is text none no_escape) keeps
+    strings_refuse new start _ start_is (no_memory keeps) = given.no_memory (keeps_on (passes_keeps h.passes) keeps)
+
+    pub strings_no_memory : GivesStrings e added old r (Err fault.OutOfMemory)
+    strings_no_memory = given.no_memory (passes_keeps h.passes)
+
+    pub strings_within : r.place ≤ length r.units
+    strings_within = let k = passes_keeps h.passes in omega (arith, k.within, ap (λ (r : Cursor). length r.units) k.same)
+
+    pub strings_fitting : AreFitting added old → AreFitting added r
+    strings_fitting f = subst (AreFitting added) (sym h.passes.moves) record { first = f.first; ends = f.ends }
+
+  -- A part more leaves less to read.
+  pub strings_shorter : (mid new : Cursor) (b after : StringsBuilder) → IsInStrings e added old mid b → AddsPart e added mid new b after → length new.units - new.place < length mid.units - mid.place
+  strings_shorter mid new b after h a =
+      let p = (passes_moved mid new a.w (rest new) a.whole a.some a.moves).0 in
+      omega (arith, a.some, p.within, ap (λ (r : Cursor). r.place) p.moves, ap (λ (r : Cursor). length r.units) p.moves)

@@ -1,0 +1,58 @@
+use Rattle.std.proofs.Common.{Some, Ok, ap, subst, ◌∙◌, ◌++◌}
+use Rattle.rx_model.specs.Classes.ClassTokens.{member_events}
+use Rattle.rx_class.specs.ClassBuilding.{builder_events}
+use Rattle.rx_class.specs.EscapeAnswers.{environment_of}
+use Rattle.rx_class.specs.PropertyAnswers.{GivesProperty}
+use Rattle.rx_class.specs.SetReading.{GivesTurn, adds, no_memory}
+use Rattle.rx_class.proofs.Keeping.{handed}
+use Rattle.rx_class.proofs.SetOperands.{property_adds, property_keeps, property_refused, property_stands}
+use Rattle.rx_class.proofs.set_operand.property.Goals as goal
+
+pub returns-in_err-it : goal.returns-in_err-it
+returns-in_err-it c =
+    let e = environment_of c.args.state.now in
+    let mid = c.advance.new.self in
+    let new = c.parse_character_class_escape_unicode.new.reader in
+    handed (GivesTurn e c.args.spans.now c.args.reader.now new c.args.builder.now c.args.builder.now) c.from_residual.ensures.1
+    (property_refused e c.args.spans.now c.offset-start.result c.args.reader.now mid new c.requires.front c.advance.ensures c.args.builder.now c.args.builder.now _ _ c.requires.held c.requires.sets c.in_err-it.ensures)
+
+pub unreachable-requires : goal.unreachable-requires
+unreachable-requires c =
+    let e = environment_of c.args.state.now in
+    let mid = c.advance.new.self in
+    let new = c.parse_character_class_escape_unicode.new.reader in
+    let of = c.requires.sets in
+    property_stands e c.args.spans.now c.offset-start.result c.args.reader.now mid new c.requires.front c.advance.ensures of.sets
+    (subst (λ o. GivesProperty e c.args.spans.now c.offset-start.result mid new (Ok o)) c.in_default.is c.in_ok-it.ensures)
+
+pub returns-in_err-contents : goal.returns-in_err-contents
+returns-in_err-contents c =
+    let e = environment_of c.args.state.now in
+    let mid = c.advance.new.self in
+    let new = c.parse_character_class_escape_unicode.new.reader in
+    let gives : GivesProperty e c.args.spans.now c.offset-start.result mid new (Ok (Some c.in-Some.it)) =
+    subst (λ o. GivesProperty e c.args.spans.now c.offset-start.result mid new (Ok o)) c.in-Some.is c.in_ok-it.ensures in
+    handed (GivesTurn e c.args.spans.now c.args.reader.now new c.args.builder.now c.args.builder.now) c.from_residual-in_err-contents.ensures.1
+    (no_memory (property_keeps e c.args.spans.now c.offset-start.result c.args.reader.now mid new c.requires.front c.advance.ensures c.in-Some.it c.offset-start.ensures.value gives))
+
+pub returns-in_err-push : goal.returns-in_err-push
+returns-in_err-push c =
+    let e = environment_of c.args.state.now in
+    let mid = c.advance.new.self in
+    let new = c.parse_character_class_escape_unicode.new.reader in
+    let gives : GivesProperty e c.args.spans.now c.offset-start.result mid new (Ok (Some c.in-Some.it)) =
+    subst (λ o. GivesProperty e c.args.spans.now c.offset-start.result mid new (Ok o)) c.in-Some.is c.in_ok-it.ensures in
+    handed (GivesTurn e c.args.spans.now c.args.reader.now new c.args.builder.now c.push.new.self) c.from_residual-in_err-push.ensures.1
+    (no_memory (property_keeps e c.args.spans.now c.offset-start.result c.args.reader.now mid new c.requires.front c.advance.ensures c.in-Some.it c.offset-start.ensures.value gives))
+
+pub returns : goal.returns
+returns c =
+    let e = environment_of c.args.state.now in
+    let mid = c.advance.new.self in
+    let new = c.parse_character_class_escape_unicode.new.reader in
+    let gives : GivesProperty e c.args.spans.now c.offset-start.result mid new (Ok (Some c.in-Some.it)) =
+    subst (λ o. GivesProperty e c.args.spans.now c.offset-start.result mid new (Ok o)) c.in-Some.is c.in_ok-it.ensures in
+    let is = c.in_ok-push.ensures in
+    adds
+    (property_adds e c.args.spans.now c.offset-start.result c.args.reader.now mid new c.requires.front c.advance.ensures c.args.builder.now c.push.new.self c.args.after c.requires.held is.held is.well c.in-Some.it
+    c.offset-start.ensures.value gives (is.events ∙ ap (λ m. builder_events c.args.builder.now ++ member_events m) c.in_ok-contents.ensures) c.requires.sets)

@@ -1,0 +1,187 @@
+-- How what stands next in a class with `v` is read (ClassSetExpression, 22.2.1), and what each answer says of the units. Lengths count from the front on.
+use Rattle.std.specs.Prelude.{◌≡◌, ◌≢◌, ℕ, ◌+◌, ◌==◌, ◌&&◌, ◌⊎◌, Bool, true, false, Option, Some, None, List, [], ◌∷◌, ◌++◌, if◌then◌else◌}
+use Rattle.rx_base.specs.declared.diagnostic.Diagnostic.{Diagnostic}
+use Rattle.rx_tables.specs.Characters.{is_reserved_punctuator}
+use Rattle.rx_ast.specs.declared.leaf.CharacterClassEscapeKind.{CharacterClassEscapeKind}
+use Rattle.rx_ast.specs.declared.leaf.CharacterKind.TheVariants as kind
+use Rattle.rx_units.specs.declared.code_point.CodePoint.{CodePoint}
+use Rattle.rx_units.specs.Units.{values}
+use Rattle.rx_model.specs.declared.mode.Mode.TheVariants.{Sets}
+use Rattle.rx_model.specs.Characters.EscapeFronts.{EscapeRead, escaped, nothing, too_many, no_unicode, escape_at}
+use Rattle.rx_model.specs.Characters.Escapes.{front_is}
+use Rattle.rx_model.specs.Characters.UnitKinds.{unit_kind}
+use Rattle.rx_model.specs.Classes.ClassFronts.{are_next}
+use Rattle.rx_model.specs.Classes.ClassRows.{BeforeHigh, Place, SpellsBracket, SpellsInClass, is_dashed, stands_raw_in_class}
+use Rattle.rx_model.specs.Classes.ClassTokens.{Atom, ClassToken, is_character}
+use Rattle.rx_model.specs.Classes.ClassTokens as token
+use Rattle.rx_model.specs.FirstPass.Marks.{starts}
+use Rattle.rx_model.specs.Inputs.Environment.{Environment}
+use Rattle.rx_model.specs.Properties.PropertyForms.{begins_property}
+use Rattle.rx_model.specs.Refusals.ClassPlaces.{begins_item}
+use Rattle.rx_model.specs.Refusals.EscapeCauses.{IsEscapeCause, IsPropertyCause}
+use Rattle.rx_model.specs.Spelling.ClassText.{class_escape_text}
+use Rattle.rx_class.specs.Found.{class_escape_front}
+
+-- the character behind a backslash
+abbrev pub set_escape_at : List ℕ → EscapeRead
+set_escape_at [] = nothing
+set_escape_at (c ∷ w) =
+    if c == 98 then escaped kind.SingleEscape 8 1 else (if is_reserved_punctuator c then escaped kind.Identifier c 1 else escape_at true (c ∷ w))
+
+-- the same from the backslash on
+abbrev pub behind_backslash : EscapeRead → EscapeRead
+behind_backslash (escaped k v n) = escaped k v (n + 1)
+behind_backslash nothing = nothing
+behind_backslash (too_many n) = too_many n
+behind_backslash no_unicode = no_unicode
+
+-- the character (ClassSetCharacter) at the front
+unfoldable pub set_character_at : List CodePoint → EscapeRead
+set_character_at [] = nothing
+set_character_at (u ∷ us) =
+    if u.value == 92 then behind_backslash (set_escape_at (values us))
+    else (if stands_raw_in_class Sets u.value (values us) then escaped (unit_kind u.escape_kind) u.value 1 else nothing)
+
+-- a `-` and a character behind it; the count is from behind the `-` on
+abbrev pub range_end_at : List CodePoint → EscapeRead
+range_end_at [] = nothing
+range_end_at (u ∷ us) = if u.value == 45 then set_character_at us else nothing
+
+-- What stands next: `]`; `[`, which may be negative; `\q{`; `&&`; `--`; a character, or an escape of one that is refused; a class escape; what begins a
+-- property escape; nothing of these.
+pub data FrontRead : Type 0 where
+  closer_next : FrontRead
+  bracket_next : Bool → FrontRead
+  strings_next : FrontRead
+  meet_next : FrontRead
+  less_next : FrontRead
+  character_next : EscapeRead → FrontRead
+  escape_next : CharacterClassEscapeKind → FrontRead
+  property_next : FrontRead
+  nothing_next : FrontRead
+
+abbrev pub character_front : EscapeRead → FrontRead
+character_front (escaped k v n) = character_next (escaped k v n)
+character_front nothing = nothing_next
+character_front (too_many n) = character_next (too_many n)
+character_front no_unicode = character_next no_unicode
+
+abbrev pub escape_front : Option CharacterClassEscapeKind → EscapeRead → FrontRead
+escape_front (Some k) read = escape_next k
+escape_front None read = character_front (behind_backslash read)
+
+-- behind a backslash
+abbrev pub escaped_front : List ℕ → FrontRead
+escaped_front w =
+    if are_next 113 123 w then strings_next
+    else (if front_is begins_property w then property_next
+    else escape_front (class_escape_front w) (set_escape_at w))
+
+unfoldable pub set_front_at : List CodePoint → FrontRead
+set_front_at [] = nothing_next
+set_front_at (u ∷ us) =
+    if u.value == 93 then closer_next
+    else (if u.value == 91 then bracket_next (starts 94 (values us))
+    else (if u.value == 38 && starts 38 (values us) then meet_next
+    else (if u.value == 45 && starts 45 (values us) then less_next
+    else (if u.value == 92 then escaped_front (values us)
+    else character_front (set_character_at (u ∷ us))))))
+
+-- The units begin with this text.
+pub record Begins (us : List CodePoint) (text : List ℕ) : Type 0 where
+  pub w : List CodePoint
+  pub rest : List CodePoint
+  pub whole : us ≡ w ++ rest
+  pub text_is : values w ≡ text
+
+-- a bracket at the front
+pub record BeginsBracket (us : List CodePoint) (negative : Bool) : Type 0 where
+  pub w : List CodePoint
+  pub rest : List CodePoint
+  pub whole : us ≡ w ++ rest
+  pub spelled : SpellsBracket negative w rest
+
+-- `\p` or `\P` at the front
+pub record BeginsProperty (us : List CodePoint) : Type 0 where
+  pub letter : ℕ
+  pub behind : List ℕ
+  pub whole : values us ≡ 92 ∷ letter ∷ behind
+  pub letter_is : begins_property letter ≡ true
+
+-- what an answer says of the units
+abbrev pub StandsFront : List CodePoint → FrontRead → Type 0
+StandsFront us closer_next = Begins us (93 ∷ [])
+StandsFront us (bracket_next negative) = BeginsBracket us negative
+StandsFront us strings_next = Begins us (92 ∷ 113 ∷ 123 ∷ [])
+StandsFront us meet_next = Begins us (38 ∷ 38 ∷ [])
+StandsFront us less_next = Begins us (45 ∷ 45 ∷ [])
+StandsFront us (character_next read) = (set_character_at us ≡ read) × (read ≢ nothing)
+StandsFront us (escape_next k) = Begins us (class_escape_text k)
+StandsFront us property_next = BeginsProperty us
+StandsFront us nothing_next = Unit {0}
+
+-- a character of a class, or one that begins a range
+abbrev pub IsOfCharacter : ClassToken → Type 0
+IsOfCharacter (token.item a) = is_character a ≡ true
+IsOfCharacter (token.low k v) = Unit {0}
+IsOfCharacter t = ⊥
+
+abbrev pub IsItem : ClassToken → Type 0
+IsItem (token.item a) = Unit {0}
+IsItem t = ⊥
+
+-- the tokens that may be spelled before units which this was read of, where an item or an operand may begin
+abbrev pub IsOfFront : FrontRead → ClassToken → Type 0
+IsOfFront closer_next t = t ≡ token.closer
+IsOfFront (bracket_next negative) t = t ≡ token.bracket negative
+IsOfFront strings_next t = t ≡ token.strings
+IsOfFront meet_next t = t ≡ token.meet
+IsOfFront less_next t = t ≡ token.less
+IsOfFront (character_next read) t = IsOfCharacter t
+IsOfFront (escape_next k) t = t ≡ token.item (token.escape k)
+IsOfFront property_next t = IsItem t
+IsOfFront nothing_next t = ⊥
+
+-- whether a refusal of an escape may hold there
+abbrev pub may_be_refused : FrontRead → Bool
+may_be_refused closer_next = false
+may_be_refused (bracket_next negative) = false
+may_be_refused strings_next = false
+may_be_refused meet_next = false
+may_be_refused less_next = false
+may_be_refused (character_next read) = true
+may_be_refused (escape_next k) = false
+may_be_refused property_next = true
+may_be_refused nothing_next = false
+
+-- Neither a character escape nor a property escape is refused here.
+abbrev pub NoneRefused : Environment → List CodePoint → Type 0
+NoneRefused e rest =
+    (us : List CodePoint) (first added place : ℕ) (d : Diagnostic) → IsEscapeCause e.mode us first added place rest d ⊎ IsPropertyCause e.mode us first added place rest d → ⊥
+
+-- What was read where an item or an operand may begin: what stands there, that no other token is spelled there, and whether an escape is refused there.
+pub record IsSetFront (e : Environment) (us : List CodePoint) (read : FrontRead) : Type 0 where
+  pub stands : StandsFront us read
+  pub only : (q : Place) (t : ClassToken) (w more : List CodePoint) → begins_item q ≡ true → us ≡ w ++ more → SpellsInClass e q t w more → IsOfFront read t
+  pub none_refused : may_be_refused read ≡ false → NoneRefused e us
+
+-- No `-` and end of a range stand next.
+pub record EndsNoRange (e : Environment) (us : List CodePoint) : Type 0 where
+  pub none_high : BeforeHigh e us → ⊥
+  pub nothing_behind : (hyphen : CodePoint) (more : List CodePoint) → us ≡ hyphen ∷ more → hyphen.value ≡ 45 → set_character_at more ≡ nothing
+
+-- A `-` and a character stand next, or one whose escape is refused.
+pub record EndsRange (us : List CodePoint) (read : EscapeRead) : Type 0 where
+  pub hyphen : CodePoint
+  pub more : List CodePoint
+  pub whole : us ≡ hyphen ∷ more
+  pub hyphen_is : hyphen.value ≡ 45
+  pub behind : set_character_at more ≡ read
+  pub dashed : is_dashed (values us) ≡ true
+
+-- what was read behind a character, as the end of a range
+abbrev pub IsRangeEnd : Environment → List CodePoint → EscapeRead → Type 0
+IsRangeEnd e us (escaped k v n) = EndsRange us (escaped k v n)
+IsRangeEnd e us nothing = EndsNoRange e us
+IsRangeEnd e us (too_many n) = EndsRange us (too_many n)
+IsRangeEnd e us no_unicode = EndsRange us no_unicode

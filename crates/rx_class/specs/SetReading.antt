@@ -1,0 +1,141 @@
+-- A class with `v` that is being read (ClassSetExpression, 22.2.1): what was built of it leads to where its reader stands, and what is answered to what stands
+-- there.
+use Rattle.std.specs.Prelude.{◌≡◌, ◌≢◌, ℕ, ◌+◌, ◌<◌, ◌≤◌, ◌⊎◌, Bool, true, false, Option, Some, None, Result, Ok, Err, List, [], ◌∷◌, ◌++◌, length}
+use Rattle.rx_base.specs.declared.diagnostic.Diagnostic.{Diagnostic}
+use Rattle.rx_base.specs.declared.diagnostic.Diagnostic.TheVariants.{CharacterClassRangeOutOfOrder, ClassSetExpressionInvalidCharacter, EmptyClassSetExpression, UnterminatedPattern}
+use Rattle.rx_base.specs.declared.diagnostic.kinds.RangeKind.TheVariants as range_kind
+use Rattle.rx_base.specs.declared.diagnostic.kinds.SetOperator.{SetOperator}
+use Rattle.rx_base.specs.declared.fault.Fault.{Fault}
+use Rattle.rx_base.specs.declared.fault.Fault.TheVariants as fault
+use Rattle.rx_ast.specs.declared.leaf.Character.{Character}
+use Rattle.rx_ast.specs.declared.class.CharacterClassRange.{CharacterClassRange}
+use Rattle.rx_units.specs.declared.code_point.CodePoint.{CodePoint}
+use Rattle.rx_units.specs.Cursor.{Cursor, offset_of, rest}
+use Rattle.rx_units.specs.Units.{offset_at, values}
+use Rattle.rx_model.specs.Characters.EscapeFronts.{nothing}
+use Rattle.rx_model.specs.Classes.ClassRows.{ClassRow, Place, outside, fresh, behind_meet, behind_less}
+use Rattle.rx_model.specs.Classes.ClassRuns.{Held, empty, single, several, meeting, met, lessening, lessened, is_union, is_whole, operator_of, ranged, takes_operand}
+use Rattle.rx_model.specs.Classes.ClassTokens.{Atom, ClassEvents, ClassToken, class_tokens_of, is_character, item}
+use Rattle.rx_model.specs.FirstPass.Marks.{starts}
+use Rattle.rx_model.specs.Inputs.Environment.{Environment, is_sets}
+use Rattle.rx_model.specs.Refusals.ClassCauses.{NothingFollows, unterminated}
+use Rattle.rx_model.specs.Refusals.EscapeCauses.{IsEscapeCause}
+use Rattle.rx_model.specs.Refusals.Firsts.{IsFirstInClass}
+use Rattle.rx_class.specs.declared.class_builder.ClassBuilder.{ClassBuilder}
+use Rattle.rx_class.specs.declared.open_bracket.OpenBracket.{OpenBracket}
+use Rattle.rx_class.specs.declared.escape_found.EscapeFound.{EscapeFound}
+use Rattle.rx_class.specs.declared.held.Held.{Held as HeldState}
+use Rattle.rx_class.specs.ClassBuilding.{builder_events}
+use Rattle.rx_class.specs.ClassItems.{IsOfText, between}
+use Rattle.rx_class.specs.EscapeAnswers.{span_to}
+use Rattle.rx_class.specs.Found.{seen_escape}
+use Rattle.rx_class.specs.HeldMirror.{held_of}
+use Rattle.rx_class.specs.Keeping.{KeepsUnits}
+use Rattle.rx_class.specs.SetFronts.{EndsNoRange, EndsRange, NoneRefused}
+use Rattle.rx_class.specs.WellBuilt.{IsWellBuilt}
+
+-- The mode is that of `v`, and the environment that of the text which a reader reads.
+pub record IsOfSets (e : Environment) (r : Cursor) : Type 0 where
+  pub sets : is_sets e.mode ≡ true
+  pub text : IsOfText e r
+  pub within : r.place ≤ length r.units
+
+-- where what stands next in a bracket that holds this may stand
+abbrev pub place_of : Held → Place
+place_of empty = fresh
+place_of single = fresh
+place_of several = fresh
+place_of meeting = behind_meet
+place_of met = fresh
+place_of lessening = behind_less
+place_of lessened = fresh
+
+-- what the innermost bracket holds
+abbrev pub held_in : ClassBuilder → Held
+held_in b = held_of b.inner.held
+
+-- whether there are some
+abbrev pub has_outer : List OpenBracket → Bool
+has_outer [] = false
+has_outer (b ∷ bs) = true
+
+-- whether the innermost bracket is nested
+abbrev pub is_nested : ClassBuilder → Bool
+is_nested b = has_outer b.outer
+
+-- `[^`, or `[`
+abbrev pub bracket_text : Bool → List ℕ
+bracket_text true = 91 ∷ 94 ∷ []
+bracket_text false = 91 ∷ []
+
+-- the offset of a place of a reader's text
+abbrev pub offset_in : ℕ → Cursor → ℕ → ℕ
+offset_in added r i = offset_at r.first r.units i + added
+
+-- No escape of a character is refused behind a `-` that stands next.
+abbrev pub NoneBehindDash : Environment → Cursor → Type 0
+NoneBehindDash e r =
+    (hyphen : CodePoint) (behind : List CodePoint) → rest r ≡ hyphen ∷ behind → hyphen.value ≡ 45 → (us : List CodePoint) (first added place : ℕ) (d : Diagnostic) → IsEscapeCause e.mode us first added place behind d → ⊥
+
+-- Where a character of a union was read last, no escape is refused that is to end a range which it begins.
+abbrev pub RefusesNoEnd : Environment → Cursor → ClassBuilder → Type 0
+RefusesNoEnd e r b =
+    is_union (held_in b) ≡ true → (before : List ClassToken) (a : Atom) → class_tokens_of (builder_events b) ≡ before ++ (item a ∷ []) → is_character a ≡ true → NoneBehindDash e r
+
+-- From the bracket of a class, at place `from`, all that was built leads to where the reader stands.
+pub record IsInSets (e : Environment) (added : ℕ) (from r : Cursor) (b : ClassBuilder) : Type 0 where
+  pub keeps : KeepsUnits from r
+  pub row : ClassRow e (offset_in added from) (builder_events b) outside from.place (rest from) (place_of (held_in b)) r.place (rest r)
+  pub well : IsWellBuilt b
+  pub ends : RefusesNoEnd e r b
+
+-- Of each class that was read so far, this is the first refusal.
+abbrev pub IsSetRefusal : Environment → ℕ → Cursor → ClassBuilder → Diagnostic → Type 0
+IsSetRefusal e added r b diagnostic = (from : Cursor) → IsInSets e added from r b → IsFirstInClass e.mode r.units r.first added from.place (rest from) diagnostic
+
+-- More is built behind what was, and the reader moved over it.
+pub record AddsToSets (e : Environment) (added : ℕ) (old new : Cursor) (before after : ClassBuilder) : Type 0 where
+  pub keeps : KeepsUnits old new
+  pub goes_on : old.place < new.place
+  pub more : ClassEvents
+  pub events : builder_events after ≡ builder_events before ++ more
+  pub row : ClassRow e (offset_in added old) more (place_of (held_in before)) old.place (rest old) (place_of (held_in after)) new.place (rest new)
+  pub well : IsWellBuilt after
+  pub ends : RefusesNoEnd e new after
+
+-- What stands where the reader stands in a class is answered.
+pub data GivesTurn (e : Environment) (added : ℕ) (old new : Cursor) (before after : ClassBuilder) : Result (Unit {0}) Fault → Type 0 where
+  adds : AddsToSets e added old new before after → GivesTurn e added old new before after (Ok tt)
+  refused : {diagnostic : Diagnostic} → IsSetRefusal e added old before diagnostic → KeepsUnits old new → GivesTurn e added old new before after (Err (fault.Diagnostic diagnostic))
+  no_memory : KeepsUnits old new → GivesTurn e added old new before after (Err fault.OutOfMemory)
+
+-- Nothing stands where a reader stands that may follow in the innermost bracket, and no escape is refused that may stand there.
+pub record StandsNothing (e : Environment) (r : Cursor) (b : ClassBuilder) : Type 0 where
+  pub follows : NothingFollows e (place_of (held_in b)) (held_in b) (rest r)
+  pub none_refused : takes_operand (held_in b) ≡ true → NoneRefused e (rest r)
+  pub no_third : place_of (held_in b) ≡ behind_meet → starts 38 (values (rest r)) ≡ false
+
+-- Why nothing that stands next may follow in the innermost bracket.
+pub data SaysNothing (added : ℕ) (r : Cursor) (b : ClassBuilder) : Diagnostic → Type 0 where
+  -- it begins with no operand
+  no_operand : held_in b ≡ empty → rest r ≢ [] → SaysNothing added r b (EmptyClassSetExpression (span_to added (offset_of r) r))
+  -- it does not end
+  no_end : is_union (held_in b) ≡ true → (held_in b ≡ empty → rest r ≡ []) → SaysNothing added r b (UnterminatedPattern (between b.inner.start (offset_of r + added)) (unterminated (is_nested b)))
+  -- it goes on with no operator, or no operand behind one
+  no_operator : (operator : SetOperator) → operator_of (held_in b) ≡ Some operator → SaysNothing added r b (ClassSetExpressionInvalidCharacter (span_to added (offset_of r) r) operator)
+
+-- The class's own `]` stands next, and its contents are whole.
+pub record EndsSets (r : Cursor) (b : ClassBuilder) : Type 0 where
+  pub closer : starts 93 (values (rest r)) ≡ true
+  pub outermost : b.outer ≡ []
+  pub whole : is_whole (held_in b) ≡ true
+
+-- What two characters are as the ends of a range (22.2.1.1).
+pub data IsSetRange (min max : Character) : Result CharacterClassRange Diagnostic → Type 0 where
+  range : min.value ≤ max.value → IsSetRange min max (Ok (record { span = between min.span.start max.span.end; min = min; max = max }))
+  out_of_order : max.value < min.value → IsSetRange min max (Err (CharacterClassRangeOutOfOrder (between min.span.start max.span.end) range_kind.ClassSet))
+
+-- What is found behind a character as the end of a range, and what a bracket that held this holds with the range.
+abbrev pub IsRangeNext : Environment → List CodePoint → Held → Option (EscapeFound × HeldState) → Type 0
+IsRangeNext e us held None = (ranged held ≡ None) ⊎ EndsNoRange e us
+IsRangeNext e us held (Some next) = EndsRange us (seen_escape next.0) × (seen_escape next.0 ≢ nothing) × (ranged held ≡ Some (held_of next.1))

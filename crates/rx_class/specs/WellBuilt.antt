@@ -1,0 +1,62 @@
+-- What has been read of a class whose brackets nest obeys the grammar (22.2.1), and has no early error (22.2.1.1).
+use Rattle.std.specs.Prelude.{◌≡◌, All, IsSome, Some, [], ◌∷◌}
+use Rattle.rx_ast.specs.ClassTree.{Member, Members, no_member, member}
+use Rattle.rx_model.specs.Classes.ClassRuns.{Held, empty, single, several, meeting, met, lessening, lessened, class_opened, operand}
+use Rattle.rx_model.specs.Classes.ClassShapes.{AreFitting, AreFlagged, AreOperands, AreTwo, IsFittingMember, IsFlaggedMember}
+use Rattle.rx_model.specs.Classes.ClassTokens.{class_tokens_of}
+use Rattle.rx_model.specs.Trees.Early.{AreEarlyMembers, IsEarlyMember, may_contain_strings}
+use Rattle.rx_class.specs.declared.class_builder.ClassBuilder.{ClassBuilder}
+use Rattle.rx_class.specs.declared.open_bracket.OpenBracket.{OpenBracket}
+use Rattle.rx_class.specs.ClassBuilding.{bracket_at, bracket_events}
+use Rattle.rx_class.specs.ClassItems.{contents}
+use Rattle.rx_class.specs.HeldMirror.{held_of, kind_of}
+
+abbrev pub AreNone : Members → Type 0
+AreNone no_member = Unit {0}
+AreNone (member m ms) = ⊥
+
+abbrev pub AreSome : Members → Type 0
+AreSome no_member = ⊥
+AreSome (member m ms) = Unit {0}
+
+abbrev pub AreOne : Members → Type 0
+AreOne no_member = ⊥
+AreOne (member m ms) = AreNone ms
+
+-- These members are what a bracket has that holds this: before an operator there is one operand at least, and where operators stand between them there are two.
+abbrev pub AreHeld : Held → Members → Type 0
+AreHeld empty ms = AreNone ms
+AreHeld single ms = AreOne ms × AreOperands ms
+AreHeld several ms = Unit {0}
+AreHeld meeting ms = AreSome ms × AreOperands ms
+AreHeld met ms = AreTwo ms × AreOperands ms
+AreHeld lessening ms = AreSome ms × AreOperands ms
+AreHeld lessened ms = AreTwo ms × AreOperands ms
+
+-- A member, with all that is in it, has what the grammar asks for, flags that tell its strings, and no early error.
+pub record IsSound (m : Member) : Type 0 where
+  pub fitting : IsFittingMember m
+  pub flagged : IsFlaggedMember m
+  pub early : IsEarlyMember m
+
+pub record AreSound (ms : Members) : Type 0 where
+  pub fitting : AreFitting ms
+  pub flagged : AreFlagged ms
+  pub early : AreEarlyMembers ms
+
+-- What was read in a bracket is sound, is what the bracket holds, and the bracket's flag is MayContainStrings (22.2.1.8) of it; its tokens leave it open
+-- alone.
+pub record IsWellHeld (b : OpenBracket) : Type 0 where
+  pub sound : AreSound (contents b.body)
+  pub held : AreHeld (held_of b.held) (contents b.body)
+  pub strings : b.strings ≡ may_contain_strings (kind_of (held_of b.held)) (contents b.body)
+  pub opens : class_opened (class_tokens_of (bracket_events b)) ≡ Some (bracket_at b ∷ [])
+
+-- a bracket around another: where that one closes, an operand may stand
+pub record IsAround (b : OpenBracket) : Type 0 where
+  pub well : IsWellHeld b
+  pub operand : IsSome (operand (held_of b.held))
+
+pub record IsWellBuilt (b : ClassBuilder) : Type 0 where
+  pub inner : IsWellHeld b.inner
+  pub outer : All IsAround b.outer

@@ -1,0 +1,187 @@
+ghost use Rattle.std.specs.Prelude.{◌≡◌, true, length};
+ghost use Rattle.rx_units.specs.Units.{values};
+ghost use Rattle.rx_model.specs.declared.mode.Mode.TheVariants.{Sets};
+ghost use Rattle.rx_model.specs.Classes.ClassFronts.{are_next};
+ghost use Rattle.rx_model.specs.Classes.ClassRows.{stands_raw_in_class};
+ghost use Rattle.rx_model.specs.FirstPass.Marks.{starts};
+ghost use Rattle.rx_model.specs.Inputs.Environment.{Environment, is_sets};
+ghost use Rattle.rx_class.specs.Found.{IsWithin, seen_escape};
+ghost use Rattle.rx_class.specs.FrontSeen.{seen_front};
+ghost use Rattle.rx_class.specs.SetFronts.{IsRangeEnd, IsSetFront, behind_backslash, character_front, escaped_front, range_end_at, set_character_at, set_escape_at, set_front_at};
+
+use crate::class_atom::unit_kind;
+use crate::escape_found::character;
+use crate::{EscapeFound, character_escape_at, class_escape_at};
+use rx_ast::{CharacterClassEscapeKind, CharacterKind};
+use rx_tables::{
+    is_class_set_reserved_double_punctuator, is_class_set_reserved_punctuator,
+    is_class_set_syntax_character,
+};
+use rx_units::CodePoint;
+
+/// What stands where an operand of a class may stand with `v` (ClassSetExpression of ECMA-262, 22.2.1).
+#[derive(Clone, Copy, Debug)]
+pub enum SetFront {
+    /// `]`
+    Closer,
+    /// `[`, or `[^`
+    Bracket { negative: bool },
+    /// `\q{`
+    Strings,
+    /// `&&`
+    Meet,
+    /// `--`
+    Less,
+    /// A character, or an escape of one that is refused; lengths count from the front on.
+    Character(EscapeFound),
+    /// A class escape that names no property.
+    Escape(CharacterClassEscapeKind),
+    /// `\p` or `\P`
+    Property,
+    Nothing,
+}
+
+/// What the units begin with.
+pub fn set_front_at(units: &[CodePoint]) -> SetFront
+    ensures { (e : Environment) → is_sets e.mode ≡ true → IsSetFront e units.now (seen_front result) }
+{
+    first_front(units)
+}
+
+#[tactic(auto, unfolding(crate::specs::SetFronts::set_front_at))]
+fn first_front(units: &[CodePoint]) -> SetFront
+    ensures { seen_front result ≡ set_front_at units.now }
+{
+    let [first, behind @ ..] = units else {
+        return SetFront::Nothing;
+    };
+    match char::from_u32(first.value) {
+        Some(']') => SetFront::Closer,
+        Some('[') => SetFront::Bracket {
+            negative: begins_with(behind, '^'),
+        },
+        Some('&') if begins_with(behind, '&') => SetFront::Meet,
+        Some('-') if begins_with(behind, '-') => SetFront::Less,
+        Some('\\') => escaped_front(behind),
+        _ => character_front(set_character_at(units)),
+    }
+}
+
+/// What stands behind a backslash.
+fn escaped_front(units: &[CodePoint]) -> SetFront
+    ensures { seen_front result ≡ escaped_front (values units.now) }
+{
+    if begins_strings(units) {
+        return SetFront::Strings;
+    }
+    if begins_with(units, 'p') || begins_with(units, 'P') {
+        return SetFront::Property;
+    }
+    match class_escape_at(units) {
+        Some(kind) => SetFront::Escape(kind),
+        None => character_front(behind_backslash(units)),
+    }
+}
+
+fn character_front(found: EscapeFound) -> SetFront
+    ensures { seen_front result ≡ character_front (seen_escape found) }
+{
+    match found {
+        EscapeFound::Nothing => SetFront::Nothing,
+        _ => SetFront::Character(found),
+    }
+}
+
+/// The character (ClassSetCharacter of ECMA-262, 22.2.1) that the units begin with, with its backslash.
+#[tactic(auto, unfolding(crate::specs::SetFronts::set_character_at))]
+pub fn set_character_at(units: &[CodePoint]) -> EscapeFound
+    ensures { seen_escape result ≡ set_character_at units.now }
+{
+    let [first, behind @ ..] = units else {
+        return EscapeFound::Nothing;
+    };
+    if first.value == '\\' as u32 {
+        return behind_backslash(behind);
+    }
+    if stands_raw(first.value, behind) {
+        character(unit_kind(first.escape_kind), first.value, 1)
+    } else {
+        EscapeFound::Nothing
+    }
+}
+
+/// The character that the units behind a backslash stand for in a class, from the backslash on.
+fn behind_backslash(units: &[CodePoint]) -> EscapeFound
+    ensures { seen_escape result ≡ behind_backslash (set_escape_at (values units.now)) }
+{
+    let found = set_escape_at(units);
+    match found {
+        EscapeFound::Character {
+            kind,
+            value,
+            length,
+        } => character(kind, value, length + 1),
+        EscapeFound::Nothing | EscapeFound::TooMany { .. } | EscapeFound::Invalid => found,
+    }
+}
+
+/// The same without the backslash.
+fn set_escape_at(units: &[CodePoint]) -> EscapeFound
+    ensures read { seen_escape result ≡ set_escape_at (values units.now) }
+    ensures within { IsWithin (length units.now) result }
+{
+    let [first, ..] = units else {
+        return EscapeFound::Nothing;
+    };
+    if first.value == 'b' as u32 {
+        return character(CharacterKind::SingleEscape, 8, 1);
+    }
+    if is_class_set_reserved_punctuator(first.value) {
+        return character(CharacterKind::Identifier, first.value, 1);
+    }
+    character_escape_at(units, true)
+}
+
+/// Whether a value stands for itself before some units: it is no ClassSetSyntaxCharacter, and begins no ClassSetReservedDoublePunctuator.
+fn stands_raw(value: u32, behind: &[CodePoint]) -> bool
+    ensures { result ≡ stands_raw_in_class Sets value (values behind.now) }
+{
+    !is_class_set_syntax_character(value)
+        && !behind.first().is_some_and(|next| is_class_set_reserved_double_punctuator(
+            value, next.value,
+        ))
+}
+
+/// What stands behind a character as the end of a range: a `-` and a character. Lengths count from behind the `-` on.
+#[tactic(auto, using(crate::proofs::SetCharacters::range_end_is))]
+pub fn range_end_at(units: &[CodePoint]) -> EscapeFound
+    ensures { (e : Environment) → is_sets e.mode ≡ true → IsRangeEnd e units.now (seen_escape result) }
+{
+    behind_hyphen(units)
+}
+
+fn behind_hyphen(units: &[CodePoint]) -> EscapeFound
+    ensures { seen_escape result ≡ range_end_at units.now }
+{
+    match units {
+        [hyphen, behind @ ..] if hyphen.value == '-' as u32 => set_character_at(behind),
+        _ => EscapeFound::Nothing,
+    }
+}
+
+/// Whether `q{` stands behind a backslash.
+fn begins_strings(units: &[CodePoint]) -> bool
+    ensures { result ≡ are_next 113 123 (values units.now) }
+{
+    match units {
+        [letter, brace, ..] => letter.value == 'q' as u32 && brace.value == '{' as u32,
+        _ => false,
+    }
+}
+
+/// Whether the units begin with a character.
+pub fn begins_with(units: &[CodePoint], ch: char) -> bool
+    ensures { result ≡ starts ch (values units.now) }
+{
+    units.first().is_some_and(|unit| unit.value == ch as u32)
+}

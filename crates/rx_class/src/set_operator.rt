@@ -1,0 +1,87 @@
+ghost use Rattle.std.specs.Prelude.{◌≡◌, ◌≢◌, ◌∷◌, ℕ, [], IsSome, Some, length, true};
+ghost use Rattle.rx_units.specs.Cursor.{rest};
+ghost use Rattle.rx_units.specs.Units.{values};
+ghost use Rattle.rx_model.specs.Classes.ClassRuns.{is_whole, less_by, met_by, operand};
+ghost use Rattle.rx_model.specs.FirstPass.Marks.{starts};
+ghost use Rattle.rx_model.specs.Inputs.Environment.{Environment};
+ghost use Rattle.rx_class.specs.Fitting.{AreFitting};
+ghost use Rattle.rx_class.specs.HeldMirror.{held_of};
+ghost use Rattle.rx_class.specs.SetFronts.{Begins, BeginsBracket};
+ghost use Rattle.rx_class.specs.SetReading.{AddsToSets, GivesTurn, IsOfSets, bracket_text, held_in};
+ghost use Rattle.rx_class.specs.WellBuilt.{IsWellBuilt};
+
+use crate::class_builder::ClassBuilder;
+use crate::held::Held;
+use crate::set_refusal::refuse_negative_strings;
+use crate::spans::here;
+use rx_base::Fault;
+use rx_scan::SpanFactory;
+use rx_units::Reader;
+use std::alloc::Global;
+
+/// Reads the `&&` that stands next, with which the innermost bracket holds what is given.
+pub fn meet(reader: &mut Reader<'_>, builder: &mut ClassBuilder, after: Held)
+    requires front { Begins (rest reader.old) (38 ∷ 38 ∷ []) }
+    requires held { met_by (held_in builder.old) ≡ Some (held_of after) }
+    requires well { IsWellBuilt builder.old }
+    ensures { (e : Environment) (added : ℕ) → IsOfSets e reader.old → AddsToSets e added reader.old reader.new builder.old builder.new }
+{
+    reader.skip(2);
+    builder.meet(after);
+}
+
+/// Reads the `--` that stands next, with which the innermost bracket holds what is given.
+pub fn less(reader: &mut Reader<'_>, builder: &mut ClassBuilder, after: Held)
+    requires front { Begins (rest reader.old) (45 ∷ 45 ∷ []) }
+    requires held { less_by (held_in builder.old) ≡ Some (held_of after) }
+    requires well { IsWellBuilt builder.old }
+    ensures { (e : Environment) (added : ℕ) → IsOfSets e reader.old → AddsToSets e added reader.old reader.new builder.old builder.new }
+{
+    reader.skip(2);
+    builder.less(after);
+}
+
+/// Reads the bracket that stands next, and opens it.
+pub fn open(
+    alloc: Global,
+    reader: &mut Reader<'_>,
+    spans: &SpanFactory,
+    builder: &mut ClassBuilder,
+    negative: bool,
+) -> Result<(), Fault>
+    requires front { BeginsBracket (rest reader.old) negative }
+    requires operand { IsSome (operand (held_in builder.old)) }
+    requires well { IsWellBuilt builder.old }
+    requires fits { AreFitting spans.now reader.old }
+    ensures { (e : Environment) → IsOfSets e reader.old → GivesTurn e spans.now reader.old reader.new builder.old builder.new result }
+{
+    let start = here(reader, spans).start;
+    reader.skip(bracket_length(negative));
+    Ok(builder.open(alloc, start, negative)?)
+}
+
+/// How many units `[` or `[^` has.
+fn bracket_length(negative: bool) -> usize
+    ensures { result ≡ length (bracket_text negative) }
+{
+    if negative { 2 } else { 1 }
+}
+
+/// Reads the `]` that stands next, and closes the innermost bracket, which is nested.
+pub fn close(
+    alloc: Global,
+    reader: &mut Reader<'_>,
+    spans: &SpanFactory,
+    builder: &mut ClassBuilder,
+) -> Result<(), Fault>
+    requires front { Begins (rest reader.old) (93 ∷ []) }
+    requires nested { builder.old.outer ≢ [] }
+    requires whole { is_whole (held_in builder.old) ≡ true }
+    requires well { IsWellBuilt builder.old }
+    requires fits { AreFitting spans.now reader.old }
+    ensures { (e : Environment) → IsOfSets e reader.old → GivesTurn e spans.now reader.old reader.new builder.old builder.new result }
+{
+    refuse_negative_strings(builder, reader, spans)?;
+    reader.advance();
+    Ok(builder.close(alloc, here(reader, spans).start)?)
+}

@@ -1,0 +1,132 @@
+-- A class without spans from its tokens: the brackets that are open, and what each holds.
+use Rattle.std.specs.Prelude.{ℕ, Bool, not, ◌==◌, Option, Some, None, List, [], ◌∷◌, ◌++◌, length, if◌then◌else◌}
+use Rattle.std.specs.List.{list_any}
+use Rattle.rx_ast.specs.declared.leaf.Character.{Character}
+use Rattle.rx_ast.specs.declared.leaf.CharacterKind.{CharacterKind}
+use Rattle.rx_ast.specs.declared.class.CharacterClassContentsKind.{CharacterClassContentsKind}
+use Rattle.rx_ast.specs.declared.class.CharacterClassContentsKind.TheVariants.{Union, Intersection, Subtraction}
+use Rattle.rx_ast.specs.declared.class.ClassString.{ClassString}
+use Rattle.rx_ast.specs.ClassTree.{Member, Members, Class, no_member, member, class}
+use Rattle.rx_ast.specs.ClassTree as tree
+use Rattle.rx_ast.specs.Forget.{nowhere}
+use Rattle.rx_model.specs.Classes.ClassRuns.{Held, empty, single, several, meeting, met, lessening, lessened, is_whole, less_by, met_by, operand, ranged}
+use Rattle.rx_model.specs.Classes.ClassTokens.{Atom, character, escape, property, ClassToken, bracket, closer, item, low, dash, high, meet, less, strings, letter, string_bar, strings_end}
+use Rattle.rx_model.specs.Trees.Early.{may_contain_strings}
+
+abbrev pub character_of : CharacterKind → ℕ → Character
+character_of k v = record { span = nowhere; kind = k; value = v }
+
+abbrev pub atom_member : Atom → Member
+atom_member (character k v) = tree.character (character_of k v)
+atom_member (escape k) = tree.escape (record { span = nowhere; kind = k })
+atom_member (property negative may name value) = tree.property (record {
+  span = nowhere;
+  negative = negative;
+  strings = may;
+  name = name;
+  value = value;
+})
+
+abbrev pub range_member : CharacterKind → ℕ → CharacterKind → ℕ → Member
+range_member k v j x = tree.range (record { span = nowhere; min = character_of k v; max = character_of j x })
+
+-- a class string of these characters
+abbrev pub string_of : List Character → ClassString
+string_of cs = record { span = nowhere; strings = not (length cs == 1); body = cs }
+
+abbrev pub strings_member : List ClassString → Member
+strings_member ss = tree.strings (record { span = nowhere; strings = list_any (λ s. s.strings) ss; body = ss })
+
+-- one member more
+abbrev pub with_last : Members → Member → Members
+with_last no_member m = member m no_member
+with_last (member n ms) m = member n (with_last ms m)
+
+-- the kind of contents, by what is held
+abbrev pub kind_of : Held → CharacterClassContentsKind
+kind_of empty = Union
+kind_of single = Union
+kind_of several = Union
+kind_of meeting = Intersection
+kind_of met = Intersection
+kind_of lessening = Subtraction
+kind_of lessened = Subtraction
+
+-- an open bracket: whether it is negative, what it holds, and that as members
+pub record Level : Type 0 where
+  pub negative : Bool
+  pub held : Held
+  pub members : Members
+
+abbrev pub level_of : Bool → Held → Members → Level
+level_of negative held ms = record { negative = negative; held = held; members = ms }
+
+-- the class that ends here
+abbrev pub class_of_level : Level → Class
+class_of_level l = class nowhere l.negative (may_contain_strings (kind_of l.held) l.members) (kind_of l.held) l.members
+
+-- What has begun in the innermost bracket and goes on: nothing; a range behind its low end, and behind its `-`; class strings, of which some are whole, with
+-- the characters of the next.
+pub data Begun : Type 0 where
+  nothing_begun : Begun
+  behind_low : CharacterKind → ℕ → Begun
+  behind_dash : CharacterKind → ℕ → Begun
+  inside_strings : List ClassString → List Character → Begun
+
+-- before the class; inside it, with the innermost bracket first; the whole class; none
+pub data Building : Type 0 where
+  before_class : Building
+  inside_class : Level → List Level → Begun → Building
+  whole_class : Class → Building
+  no_class : Building
+
+-- with one member more, if the bracket may hold it
+abbrev pub holding_member : Level → List Level → Member → Option Held → Building
+holding_member l outer m None = no_class
+holding_member l outer m (Some held) = inside_class (level_of l.negative held (with_last l.members m)) outer nothing_begun
+
+-- with an operator
+abbrev pub operated : Level → List Level → Option Held → Building
+operated l outer None = no_class
+operated l outer (Some held) = inside_class (level_of l.negative held l.members) outer nothing_begun
+
+abbrev pub class_closed : Level → List Level → Building
+class_closed l [] = whole_class (class_of_level l)
+class_closed l (around ∷ outer) = holding_member around outer (tree.nested (class_of_level l)) (operand around.held)
+
+-- one token more
+abbrev pub build_in : ClassToken → Begun → Level → List Level → Building
+build_in (bracket negative) nothing_begun l outer = inside_class (level_of negative empty no_member) (l ∷ outer) nothing_begun
+build_in closer nothing_begun l outer = if is_whole l.held then class_closed l outer else no_class
+build_in (item a) nothing_begun l outer = holding_member l outer (atom_member a) (operand l.held)
+build_in (low k v) nothing_begun l outer = inside_class l outer (behind_low k v)
+build_in dash (behind_low k v) l outer = inside_class l outer (behind_dash k v)
+build_in (high j x) (behind_dash k v) l outer = holding_member l outer (range_member k v j x) (ranged l.held)
+build_in meet nothing_begun l outer = operated l outer (met_by l.held)
+build_in less nothing_begun l outer = operated l outer (less_by l.held)
+build_in strings nothing_begun l outer = inside_class l outer (inside_strings [] [])
+build_in (letter k v) (inside_strings ss cs) l outer = inside_class l outer (inside_strings ss (cs ++ (character_of k v ∷ [])))
+build_in string_bar (inside_strings ss cs) l outer = inside_class l outer (inside_strings (ss ++ (string_of cs ∷ [])) [])
+build_in strings_end (inside_strings ss cs) l outer = holding_member l outer (strings_member (ss ++ (string_of cs ∷ []))) (operand l.held)
+build_in t begun l outer = no_class
+
+abbrev pub build_step : ClassToken → Building → Building
+build_step (bracket negative) before_class = inside_class (level_of negative empty no_member) [] nothing_begun
+build_step t before_class = no_class
+build_step t (inside_class l outer begun) = build_in t begun l outer
+build_step t (whole_class c) = no_class
+build_step t no_class = no_class
+
+abbrev pub build_class : List ClassToken → Building → Building
+build_class [] s = s
+build_class (t ∷ ts) s = build_class ts (build_step t s)
+
+abbrev pub class_built : Building → Option Class
+class_built before_class = None
+class_built (inside_class l outer begun) = None
+class_built (whole_class c) = Some c
+class_built no_class = None
+
+-- the class that has these tokens
+abbrev pub class_of_tokens : List ClassToken → Option Class
+class_of_tokens ts = class_built (build_class ts before_class)

@@ -1,0 +1,103 @@
+-- A run of units that stand for themselves moves a parse on.
+use Rattle.std.proofs.Common.{◌≡◌, refl, ap, sym, ◌∙◌, subst, ℕ, ◌+◌, ◌-◌, ◌<◌, ◌≤◌, ◌||◌, false, List, length, drop, take, get_or, arith, length-drop, length-take}
+use Rattle.std.specs.Prelude.{All, min}
+use Rattle.std.proofs.lemmas.List.{drop-drop, get_or-drop, get_or-take, get_or_default, take_more}
+use Rattle.std.proofs.lemmas.List.Elements.{All-drop, All-get_or, All-push}
+use Rattle.rx_ast.specs.declared.term.Term.{Term}
+use Rattle.rx_ast.specs.Tree.{mirror_term}
+use Rattle.rx_tables.specs.Characters.{is_syntax_character}
+use Rattle.rx_units.specs.declared.code_point.CodePoint.{CodePoint}
+use Rattle.rx_units.specs.Cursor.{Cursor, moved, offset_of, rest}
+use Rattle.rx_units.specs.Units.{offset_at}
+use Rattle.rx_units.proofs.Offsets.{end_of_take}
+use Rattle.rx_model.specs.Characters.UnitKinds.{unit_kind}
+use Rattle.rx_model.specs.Inputs.Environment.{has_some}
+use Rattle.rx_model.specs.Refusals.Reached.{text_environment, text_names}
+use Rattle.rx_model.specs.Trees.Events.{term_events}
+use Rattle.rx_model.specs.Trees.Shapes.{takes}
+use Rattle.rx_model.specs.Trees.Token.{character}
+use Rattle.rx_parser.specs.declared.builder.Builder.{Builder}
+use Rattle.rx_parser.specs.declared.found.Found.TheVariants.{Leaf}
+use Rattle.rx_parser.specs.declared.found.Leaf.TheVariants.{Character}
+use Rattle.rx_parser.specs.Found.{IsFound}
+use Rattle.rx_parser.specs.Frames.{openers}
+use Rattle.rx_parser.specs.Parsing.{IsParsing}
+use Rattle.rx_parser.specs.Progress.{IsLeafOf}
+use Rattle.rx_parser.specs.Turns.{IsBefore, IsTurned}
+use Rattle.rx_parser.proofs.FrontFound.{plain_found}
+use Rattle.rx_parser.proofs.Steps.{Grows}
+use Rattle.rx_parser.proofs.Turns.{leaf_turned, passed}
+
+-- each unit is a code point
+abbrev AreCodePoints : Cursor → Type 0
+AreCodePoints r = All (λ (u : CodePoint). u.value ≤ 0x10FFFF) (rest r)
+
+-- the builder has taken a unit as a character between two offsets
+pub record Takes (b c : Builder) (u : CodePoint) (term : Term) (at after : ℕ) : Type 0 where
+  pub leaf : IsLeafOf term (character (unit_kind u.escape_kind) u.value) at after
+  pub grows : Grows b c (term_events term) (openers b) (takes b.mode (mirror_term term))
+
+-- the unit that stands next
+unit_turned : {added : ℕ} {b : Builder} {r : Cursor} → IsBefore added b r → (c : Builder) (u : CodePoint) (term : Term) (at after : ℕ) → AreCodePoints r → 1 ≤ length (rest r) → u ≡ get_or (rest r) 0 u
+    → is_syntax_character u.value ≡ false → at ≡ offset_of r + added → after ≡ offset_of (moved 1 r) + added → Takes b c u term at after → IsTurned added b c r (moved 1 r)
+unit_turned {added} {b} {r} h c u term at after small some is plain start end t =
+    let e = text_environment b.mode r.units in
+    let found : IsFound e (rest r) (Leaf (Character (unit_kind u.escape_kind) u.value) 1) =
+    subst (λ (v : CodePoint). IsFound e (rest r) (Leaf (Character (unit_kind v.escape_kind) v.value) 1)) (sym is)
+    (plain_found e (rest r) u (ap (λ always. always || has_some (text_names b.mode r.units))) small some (subst (λ (v : CodePoint). is_syntax_character v.value ≡ false) is plain)) in
+    leaf_turned h c (moved 1 r) (character (unit_kind u.escape_kind) u.value) 1 at after term (passed h found start end refl) (found.2 (text_names b.mode r.units)) t.leaf t.grows
+
+-- one more unit that stands for itself
+pub plain_more : (us : List CodePoint) (i : ℕ) (d : CodePoint) → i < length us → All (λ (u : CodePoint). is_syntax_character u.value ≡ false) (take i us) → is_syntax_character (get_or us i d).value ≡ false
+    → All (λ (u : CodePoint). is_syntax_character u.value ≡ false) (take (i + 1) us)
+plain_more us i d inside plain here =
+    let P : CodePoint → Type 0 = λ (u : CodePoint). is_syntax_character u.value ≡ false in
+    subst (All P) (sym (take_more us i d inside)) (All-push P (take i us) (get_or us i d) plain here)
+
+-- the unit at an index of a run of units that are left
+module _ (r : Cursor) (us : List CodePoint) (count i : ℕ) (d : CodePoint) (left : us ≡ rest r) (inside : i < count) (within : count ≤ length us) where
+  pub unit_is : get_or (take count us) i d ≡ get_or (rest r) i (get_or (take count us) i d)
+  unit_is = get_or-take count us i d inside ∙ get_or_default us i d _ (omega (arith, inside, within)) ∙ ap (λ ws. get_or ws i (get_or (take count us) i d)) left
+
+  pub unit_plain : All (λ (u : CodePoint). is_syntax_character u.value ≡ false) (take count (rest r)) → is_syntax_character (get_or (take count us) i d).value ≡ false
+  unit_plain plain =
+      All-get_or (λ (u : CodePoint). is_syntax_character u.value ≡ false) (take count us) i d (omega (arith, inside, within, length-take count us))
+      (subst (λ ws. All (λ (u : CodePoint). is_syntax_character u.value ≡ false) (take count ws)) (sym left) plain)
+
+module _ {added : ℕ} {b : Builder} {r : Cursor} (h : IsBefore added b r) where
+  -- the unit of a run behind i others
+  module _ (i : ℕ) (u : CodePoint) (some : i < length (rest r)) (is : u ≡ get_or (rest r) i u) where
+    -- it ends where the next begins
+    pub unit_end : u.span.end ≡ offset_at r.first r.units (r.place + (i + 1))
+    unit_end =
+        let place : ℕ = r.place + (i + 1) in
+        let before : r.place + i ≡ place - 1 = omega arith in
+        let k = end_of_take r.first r.units place u (omega arith) (omega (arith, some, length-drop r.place r.units, h.parsing.within)) in
+        ap (λ (v : CodePoint). v.span.end) (is ∙ get_or-drop r.place r.units i u ∙ ap (λ n. get_or r.units n u) before) ∙ sym k
+
+    -- the builder takes it
+    pub run_on : (l c : Builder) (term : Term) (start : ℕ) → AreCodePoints r → is_syntax_character u.value ≡ false → IsParsing b.mode r.units r.first added l (r.place + i) → start ≡ offset_at r.first r.units (r.place + i)
+        → Takes l c u term (start + added) (u.span.end + added) → IsParsing b.mode r.units r.first added c (r.place + (i + 1))
+    run_on l c term start small plain parsing from t =
+        let s : Cursor = record r { place = r.place + i } in
+        let within : r.place + i < length r.units = omega (arith, some, length-drop r.place r.units, h.parsing.within) in
+        let same : drop i (rest r) ≡ rest s = drop-drop i r.place r.units in
+        let mode : b.mode ≡ l.mode = sym parsing.at.mode in
+        let before : IsBefore added l s = record {
+          parsing = subst (λ m. IsParsing m r.units r.first added l (r.place + i)) mode parsing;
+          left = within;
+          fits = record { first = h.fits.first; ends = h.fits.ends };
+        } in
+        let next : min (r.place + i + 1) (length r.units) ≡ r.place + (i + 1) = omega (arith, within) in
+        let code_points : AreCodePoints s = subst (All (λ (u : CodePoint). u.value ≤ 0x10FFFF)) same (All-drop (λ (u : CodePoint). u.value ≤ 0x10FFFF) i (rest r) small) in
+        let first : i ≡ i + 0 = omega arith in
+        let here : u ≡ get_or (rest s) 0 u = is ∙ ap (λ n. get_or (rest r) n u) first ∙ sym (get_or-drop i (rest r) 0 u) ∙ ap (λ us. get_or us 0 u) same in
+        let turned = unit_turned before c u term (start + added) (u.span.end + added) code_points (omega (arith, within, length-drop (r.place + i) r.units)) here plain
+        (ap (λ k. k + added) from) (ap (λ k. k + added) (unit_end ∙ ap (offset_at r.first r.units) (sym next))) t in
+        subst (λ m. IsParsing m r.units r.first added c (r.place + (i + 1))) (sym mode) (subst (IsParsing l.mode r.units r.first added c) next turned.parsing)
+
+  -- The whole run is read.
+  pub run_turned : (c : Builder) (s : Cursor) (count : ℕ) → 0 < count → count ≤ length (rest r) → s ≡ moved count r → IsParsing b.mode r.units r.first added c (r.place + count) → IsTurned added b c r s
+  run_turned c s count some within e parsing =
+      let it : min (r.place + count) (length r.units) ≡ r.place + count = omega (arith, within, length-drop r.place r.units, h.parsing.within) in
+      subst (IsTurned added b c r) (sym (e ∙ ap (λ k. record r { place = k }) it)) (record { parsing = parsing; moved = omega (arith, some); same = refl })

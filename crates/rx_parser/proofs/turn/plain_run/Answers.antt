@@ -1,0 +1,45 @@
+use Rattle.std.proofs.Common.{sym, subst, ◌+◌, ◌^◌, ◌<◌, ◌≤◌, length, take, get_or, arith, rules}
+use Rattle.std.specs.Prelude.{All}
+use Rattle.rx_base.specs.declared.span.Span.{Span}
+use Rattle.rx_ast.specs.declared.leaf.CharacterKind.{CharacterKind}
+use Rattle.rx_units.specs.declared.code_point.CodePoint.{CodePoint}
+use Rattle.rx_units.specs.declared.code_point.EscapeKind.TheVariants as kind
+use Rattle.rx_units.specs.Cursor.{rest}
+use Rattle.rx_units.specs.Units.{unit}
+use Rattle.rx_model.specs.Trees.Token.{character}
+use Rattle.rx_class.proofs.Fitting.{offset_fits}
+use Rattle.rx_parser.specs.Progress.{IsLeafOf}
+use Rattle.rx_parser.proofs.PlainRuns.{Takes, run_on, unit_end, unit_is, unit_plain}
+use Rattle.rx_parser.proofs.turn.plain_run.Goals as goal
+
+pub create-span-requires-clause-start : goal.create-span-requires-clause-start
+create-span-requires-clause-start c =
+    let r = c.args.reader.now in
+    subst (λ k. k + c.args.spans.now < 2 ^ 32) (sym c.loop-unit.invariant.start)
+    (offset_fits c.args.spans.now r.first r.units (r.place + c.loop-unit.unit-index) c.requires.before.fits.first c.requires.before.fits.ends)
+
+pub loop-unit-preserved : goal.loop-unit-preserved
+loop-unit-preserved c =
+    let r = c.args.reader.now in
+    let us = c.remaining_code_points.result.now in
+    let left = c.remaining_code_points.ensures.units in
+    let i = c.loop-unit.unit-index in
+    let d = unit 0 0 0 kind.None in
+    let u : CodePoint = get_or (take c.args.count us) i d in
+    let within : c.args.count ≤ length us = subst (λ ws. c.args.count ≤ length ws) (sym left) c.requires.within in
+    let inside : i < c.args.count = search rules in
+    let some : i < length (rest r) = omega (arith, inside, c.requires.within) in
+    let is = unit_is r us c.args.count i d left inside within in
+    let it = c.in_ok-leaf.ensures in
+    let its = c.term.ensures in
+    let spanned : IsLeafOf c.term.result (character c.unit_kind.result u.value) (c.loop-unit.start + c.args.spans.now) (u.span.end + c.args.spans.now) =
+    subst (λ (s : Span). IsLeafOf c.term.result (character c.unit_kind.result u.value) s.start s.end) c.create-span.ensures its in
+    let taken : Takes c.loop-unit.builder c.leaf.new.self u c.term.result (c.loop-unit.start + c.args.spans.now) (u.span.end + c.args.spans.now) = record {
+      leaf = subst (λ (k : CharacterKind). IsLeafOf c.term.result (character k u.value) (c.loop-unit.start + c.args.spans.now) (u.span.end + c.args.spans.now)) c.unit_kind.ensures spanned;
+      grows = record { events = it.events; openers_are = it.openers; ready_is = it.ready; good = it.good (its.good c.loop-unit.builder.mode); mode = it.mode };
+    } in
+    record {
+      parsing = run_on c.requires.before i u some is c.loop-unit.builder c.leaf.new.self c.term.result c.loop-unit.start (subst (All (λ (u : CodePoint). u.value ≤ 0x10FFFF)) left c.remaining_code_points.ensures.code_points)
+          (unit_plain r us c.args.count i d left inside within c.requires.plain) c.loop-unit.invariant.parsing c.loop-unit.invariant.start taken;
+      start = unit_end c.requires.before i u some is;
+    }

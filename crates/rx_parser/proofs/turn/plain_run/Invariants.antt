@@ -1,0 +1,10 @@
+use Rattle.std.proofs.Common.{◌≡◌, ◌+◌}
+use Rattle.rx_units.specs.Units.{offset_at}
+use Rattle.rx_parser.specs.Parsing.{IsParsing}
+use Rattle.rx_parser.proofs.turn.plain_run.Given as goal
+
+abbrev pub invariant-loop-unit : goal.invariant-loop-unit
+invariant-loop-unit l = record {
+  parsing : IsParsing l.fn.builder.mode l.fn.reader.units l.fn.reader.first l.spans l.builder (l.fn.reader.place + l.unit-index);
+  start : l.start ≡ offset_at l.fn.reader.first l.fn.reader.units (l.fn.reader.place + l.unit-index);
+}
