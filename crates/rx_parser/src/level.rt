@@ -21,6 +21,17 @@ pub struct Level {
     pub terms: List<Term>,
 }
 
+/// The alternatives before the last of a disjunction. Where there are none, memory is taken for the last alone: most disjunctions have no more.
+fn with_room_for_last(alternatives: List<Alternative>) -> Result<List<Alternative>, OutOfMemory>
+    ensures { IfOk result (λ it. it ≡ alternatives) }
+{
+    if alternatives.is_empty() {
+        List::with_capacity(alternatives.allocator(), 1)
+    } else {
+        Ok(alternatives)
+    }
+}
+
 impl Level {
     /// A disjunction of which nothing has been read.
     pub fn new(alloc: Global, at: u32) -> Level
@@ -132,10 +143,11 @@ impl Level {
     {
         let Level {
             start,
-            mut alternatives,
+            alternatives,
             alternative_start,
             terms,
         } = self;
+        let mut alternatives = with_room_for_last(alternatives)?;
         alternatives.push(Alternative {
             span: Span::new(alternative_start, at),
             body: terms,
