@@ -6,9 +6,6 @@ pub enum Fault {
     /// There was not enough memory.
     OutOfMemory,
 
-    /// The pattern holds what is not read yet, so it is neither read nor refused.
-    NotYet,
-
     /// The pattern is refused.
     Diagnostic(Diagnostic),
 }

@@ -6,6 +6,8 @@ mod diagnostics;
 #[cfg(test)]
 mod memory;
 #[cfg(test)]
+mod quoted;
+#[cfg(test)]
 mod trees;
 #[cfg(test)]
 mod units;

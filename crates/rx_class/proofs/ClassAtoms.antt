@@ -19,6 +19,7 @@ use Rattle.rx_ast.specs.declared.leaf.UnicodePropertyEscape.{UnicodePropertyEsca
 use Rattle.rx_units.specs.declared.code_point.CodePoint.{CodePoint}
 use Rattle.rx_units.specs.Cursor.{Cursor, moved, offset_of, rest}
 use Rattle.rx_units.specs.Units.{values}
+use Rattle.rx_units.specs.Digits.{front_is, is_hex_digit}
 use Rattle.rx_model.specs.Refusals.ClassCauses.{escape_in_class as cause_of_escape, invalid_atom, property_in_class}
 use Rattle.rx_model.specs.Refusals.ClassPlaces.{IsAtomPlace}
 use Rattle.rx_model.specs.Classes.ClassRows.{SpellsAtom, SpellsClassCharacter, SpellsInClassAlone, stands_raw_in_class}
@@ -29,10 +30,10 @@ use Rattle.rx_model.specs.Spelling.ClassText.{class_escape_text}
 use Rattle.rx_model.specs.Inputs.Environment.{Environment, is_sets, is_unicode}
 use Rattle.rx_model.specs.Characters.EscapeFronts.{EscapeRead, any_escape_at, class_escape_at, escaped, nothing}
 use Rattle.rx_model.specs.Characters.EscapeFronts.{escape_at}
-use Rattle.rx_model.specs.Characters.Escapes.{SpellsEscape, control, front_is, hexadecimal, identity, is_identity_escape, letter, null}
+use Rattle.rx_model.specs.Characters.Escapes.{SpellsEscape, control, hexadecimal, identity, is_identity_escape, letter, null}
 use Rattle.rx_model.specs.Properties.PropertyForms.{begins_property}
 use Rattle.rx_model.specs.Refusals.Reached.{span_between, text_environment}
-use Rattle.rx_model.specs.Refusals.Stops.{begins_class_escape, is_hex_digit, is_hyphen_escaped, is_letter, is_one_of, two_hex_digits}
+use Rattle.rx_model.specs.Refusals.Stops.{begins_class_escape, is_hyphen_escaped, is_letter, is_one_of, two_hex_digits}
 use Rattle.rx_model.proofs.Characters.Decodings.{both, chosen}
 use Rattle.rx_class.specs.declared.class_atom.ClassAtom.{ClassAtom}
 use Rattle.rx_class.specs.declared.class_atom.ClassAtom.TheVariants as atom

@@ -9,9 +9,8 @@ use Rattle.std.proofs.lemmas.Bool.Decides.{nat_tests}
 use Rattle.rx_tables.specs.Characters.{hex_digit_value, is_decimal_digit}
 use Rattle.rx_units.specs.declared.code_point.CodePoint.{CodePoint}
 use Rattle.rx_units.specs.Units.{values}
+use Rattle.rx_units.specs.Digits.{hex_behind, is_hex_digit}
 use Rattle.rx_model.specs.Characters.LegacyEscapes.{four_next, run_number, two_next}
-use Rattle.rx_model.specs.Characters.UnicodeEscapes.{hex_behind}
-use Rattle.rx_model.specs.Refusals.Stops.{is_hex_digit}
 
 -- characters spell a number where all of them are digits
 digits_on : (n : ℕ) (w : List ℕ) (o : Option ℕ) → ((d : ℕ) → is_some (hex_behind (16 * n + d) w) ≡ list_all is_hex_digit w)

@@ -6,7 +6,7 @@ use Rattle.std.proofs.lemmas.List.{length-map, take_all}
 use Rattle.rx_tables.specs.Characters.{is_unicode_property_name_character}
 use Rattle.rx_units.specs.declared.code_point.CodePoint.{CodePoint}
 use Rattle.rx_units.specs.Units.{values}
-use Rattle.rx_model.specs.Characters.Escapes.{front_is}
+use Rattle.rx_units.specs.Digits.{front_is}
 use Rattle.rx_model.specs.Properties.PropertyForms.{HasPair, IsValueRun}
 use Rattle.rx_model.proofs.Properties.PropertyRuns.{one_name, one_run}
 use Rattle.rx_model.specs.FirstPass.Marks.{starts}

@@ -6,9 +6,9 @@ use Rattle.rx_tables.specs.Characters.{is_reserved_punctuator}
 use Rattle.rx_ast.specs.declared.leaf.CharacterClassEscapeKind.{CharacterClassEscapeKind}
 use Rattle.rx_units.specs.declared.code_point.CodePoint.{CodePoint}
 use Rattle.rx_units.specs.Units.{values}
+use Rattle.rx_units.specs.Digits.{front_is}
 use Rattle.rx_model.specs.declared.mode.Mode.TheVariants.{Sets}
 use Rattle.rx_model.specs.Characters.EscapeFronts.{EscapeRead, escaped, nothing, too_many, no_unicode, class_escape_at, escape_at}
-use Rattle.rx_model.specs.Characters.Escapes.{front_is}
 use Rattle.rx_model.specs.Classes.ClassFronts.{no_atom, atom_at, operand_token, property_atom, bracket_at, are_next, begins_strings, set_token}
 use Rattle.rx_model.specs.Classes.ClassRows.{stands_raw_in_class}
 use Rattle.rx_model.specs.Classes.ClassTokens.{ClassToken, character, escape, property, bracket, closer, item, meet, less, strings}

@@ -20,9 +20,9 @@ use Rattle.rx_ast.specs.ClassTree as tree
 use Rattle.rx_units.specs.declared.code_point.CodePoint.{CodePoint}
 use Rattle.rx_units.specs.Cursor.{Cursor, moved, offset_of, rest}
 use Rattle.rx_units.specs.Units.{values}
+use Rattle.rx_units.specs.Digits.{front_is}
 use Rattle.rx_model.specs.declared.mode.Mode.{Mode}
 use Rattle.rx_model.specs.declared.mode.Mode.TheVariants.{Legacy, Unicode, Sets}
-use Rattle.rx_model.specs.Characters.Escapes.{front_is}
 use Rattle.rx_model.specs.Characters.EscapeFronts.{EscapeRead, nothing}
 use Rattle.rx_model.specs.Classes.ClassRows.{BeforeHigh, ClassRow, Place, SpellsAtom, SpellsInClass, behind, behind_item, has_threes, outside, fresh, at_dash, at_high, at_second, at_third, behind_meet, behind_less, in_strings, is_dashed}
 use Rattle.rx_model.specs.Classes.ClassRuns.{Held, empty, single, several, meeting, met, lessening, lessened, is_union, operand, ranged}

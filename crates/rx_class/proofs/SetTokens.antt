@@ -6,9 +6,9 @@ use Rattle.rx_ast.specs.declared.leaf.CharacterClassEscapeKind.{CharacterClassEs
 use Rattle.rx_ast.specs.declared.leaf.CharacterKind.{CharacterKind}
 use Rattle.rx_units.specs.declared.code_point.CodePoint.{CodePoint}
 use Rattle.rx_units.specs.Units.{values}
+use Rattle.rx_units.specs.Digits.{front_is}
 use Rattle.rx_model.specs.declared.mode.Mode.TheVariants.{Sets}
 use Rattle.rx_model.specs.Characters.EscapeFronts.{EscapeRead, escaped, nothing, too_many, no_unicode, any_escape_at, escape_at}
-use Rattle.rx_model.specs.Characters.Escapes.{front_is}
 use Rattle.rx_model.specs.Classes.ClassFronts.{AtomRead, atom_read, no_atom, atom_at, character_atom, class_token_at, dashed_of, escape_atom, escape_in_class, item_before, item_where, low_of, operand_of, operand_token, bracket_at, are_next, begins_strings, set_token, token_where, fresh_token, TokenRead}
 use Rattle.rx_model.specs.Classes.ClassRows.{Place, fresh, behind_meet, behind_less, SpellsInClass, has_hyphen, is_dashed, stands_raw_in_class}
 use Rattle.rx_model.specs.Classes.ClassTokens.{Atom, ClassToken, is_character, character, escape, property, closer, item, low}

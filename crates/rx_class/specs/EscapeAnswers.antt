@@ -5,6 +5,7 @@ use Rattle.rx_base.specs.declared.span.Span.{Span}
 use Rattle.rx_units.specs.declared.code_point.CodePoint.{CodePoint}
 use Rattle.rx_units.specs.Cursor.{Cursor, front, moved, offset_of, rest}
 use Rattle.rx_units.specs.Units.{offset_at, values}
+use Rattle.rx_units.specs.Digits.{front_is}
 use Rattle.rx_ast.specs.declared.leaf.Character.{Character}
 use Rattle.rx_ast.specs.declared.leaf.CharacterClassEscape.{CharacterClassEscape}
 use Rattle.rx_ast.specs.declared.leaf.CharacterClassEscapeKind.{CharacterClassEscapeKind}
@@ -12,7 +13,7 @@ use Rattle.rx_ast.specs.declared.leaf.CharacterKind.{CharacterKind}
 use Rattle.rx_model.specs.Spelling.ClassText.{class_escape_text}
 use Rattle.rx_model.specs.Inputs.Environment.{Environment, environment_with, has_some, is_unicode}
 use Rattle.rx_model.specs.Refusals.EscapeCauses.{IsEscapeCause}
-use Rattle.rx_model.specs.Characters.Escapes.{SpellsEscape, front_is}
+use Rattle.rx_model.specs.Characters.Escapes.{SpellsEscape}
 use Rattle.rx_model.specs.Characters.LegacyEscapes.{SpellsLegacy}
 use Rattle.rx_model.specs.Refusals.Firsts.{IsFirstOfEscape}
 use Rattle.rx_scan.specs.StateFaults.{mode_of_state}

@@ -4,9 +4,9 @@ use Rattle.rx_base.specs.declared.diagnostic.Diagnostic.{Diagnostic}
 use Rattle.rx_base.specs.declared.diagnostic.Diagnostic.TheVariants.{InvalidUnicodeEscapeSequence, TooLargeNumberDigits}
 use Rattle.rx_base.specs.declared.diagnostic.kinds.DigitsKind.TheVariants as digits
 use Rattle.rx_units.specs.Cursor.{Cursor, moved}
+use Rattle.rx_units.specs.Digits.{front_is}
 use Rattle.rx_ast.specs.declared.leaf.Character.{Character}
 use Rattle.rx_ast.specs.declared.leaf.CharacterClassEscapeKind.{CharacterClassEscapeKind}
-use Rattle.rx_model.specs.Characters.Escapes.{front_is}
 use Rattle.rx_model.specs.Inputs.Environment.{Environment, is_unicode}
 use Rattle.rx_model.specs.Reading.Fronts.{EscapeRead, escaped, nothing, too_many, no_unicode, any_escape_at, class_escape_at, escape_at}
 use Rattle.rx_model.specs.Refusals.Reached.{span_between}

@@ -6,10 +6,10 @@ use Rattle.rx_base.specs.declared.fault.Fault.TheVariants as fault
 use Rattle.rx_units.specs.declared.code_point.CodePoint.{CodePoint}
 use Rattle.rx_units.specs.Cursor.{Cursor, moved, rest}
 use Rattle.rx_units.specs.Units.{values}
+use Rattle.rx_units.specs.Digits.{front_is}
 use Rattle.rx_ast.specs.declared.leaf.UnicodePropertyEscape.{UnicodePropertyEscape}
 use Rattle.rx_model.specs.Inputs.Environment.{Environment, is_unicode}
 use Rattle.rx_model.specs.Refusals.EscapeCauses.{IsPropertyCause}
-use Rattle.rx_model.specs.Characters.Escapes.{front_is}
 use Rattle.rx_model.specs.Refusals.Firsts.{IsFirstOfEscape}
 use Rattle.rx_model.specs.Properties.PropertyEscapes.{IsProperty}
 use Rattle.rx_model.specs.Properties.PropertyForms.{begins_property}

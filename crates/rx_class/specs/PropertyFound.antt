@@ -7,10 +7,10 @@ use Rattle.rx_base.specs.declared.diagnostic.kinds.Unterminated.TheVariants as w
 use Rattle.rx_tables.specs.Properties.{binary_properties, general_category_values, properties_of_strings}
 use Rattle.rx_units.specs.declared.code_point.CodePoint.{CodePoint}
 use Rattle.rx_units.specs.Units.{values}
+use Rattle.rx_units.specs.Digits.{front_is}
 use Rattle.rx_model.specs.declared.mode.Mode.{Mode}
 use Rattle.rx_model.specs.Spelling.ClassText.{property_opener}
 use Rattle.rx_model.specs.Refusals.EscapeCauses.{IsPropertyCause}
-use Rattle.rx_model.specs.Characters.Escapes.{front_is}
 use Rattle.rx_model.specs.Properties.PropertyEscapes.{SpellsProperty}
 use Rattle.rx_model.specs.Properties.PropertyForms.{HasPair, begins_property}
 use Rattle.rx_model.specs.Inputs.Environment.{is_sets, is_unicode}

@@ -50,14 +50,14 @@ pub fn add_item(
     let units = reader.remaining_code_points();
     if stands_alone(units) {
         let character = unit_character(reader, spans);
-        return Ok(body.push(CharacterClassContents::Character(character))?);
+        return Ok(push_one(body, reader, CharacterClassContents::Character(character))?);
     }
     if stands_range(units) {
         let range = unit_range(reader, spans);
-        return Ok(body.push(range_contents(alloc, range)?)?);
+        return Ok(push_one(body, reader, range_contents(alloc, range)?)?);
     }
     let item = class_item(alloc, reader, state, spans)?;
-    Ok(push_item(body, item)?)
+    Ok(push_item(body, reader, item)?)
 }
 
 /// Whether the first unit is an item by itself: it is no backslash, and what follows it is no `-`.
@@ -101,12 +101,31 @@ fn unit_range(reader: &mut Reader<'_>, spans: &SpanFactory) -> CharacterClassRan
     CharacterClassRange { span, min, max }
 }
 
-/// Adds what an item is to the contents of a class.
-fn push_item(body: &mut List<CharacterClassContents>, item: ClassItem) -> Result<(), OutOfMemory>
+/// Adds an item to the contents of a class. Where it is all that the class holds, memory is taken for it alone.
+#[inline]
+fn push_one(
+    body: &mut List<CharacterClassContents>,
+    reader: &Reader<'_>,
+    item: CharacterClassContents,
+) -> Result<(), OutOfMemory>
+    ensures { OnOk result (body.new ≡ body.old ++ item ∷ []) }
+{
+    if body.is_empty() && reader.peek() == Some(']' as u32) {
+        *body = List::with_capacity(body.allocator(), 1)?;
+    }
+    body.push(item)
+}
+
+/// Adds what an item is to the contents of a class, behind which the reader stands.
+fn push_item(
+    body: &mut List<CharacterClassContents>,
+    reader: &Reader<'_>,
+    item: ClassItem,
+) -> Result<(), OutOfMemory>
     ensures { OnOk result (body.new ≡ body.old ++ item_contents item) }
 {
     match item {
-        ClassItem::One(it) => body.push(it),
+        ClassItem::One(it) => push_one(body, reader, it),
         ClassItem::Three {
             first,
             hyphen,

@@ -1,8 +1,8 @@
 ghost use Rattle.std.specs.Prelude.{◌≡◌, ◌+◌, ◌<◌, ◌≤◌, ◌==◌, ◌^◌, All, true, length};
 ghost use Rattle.rx_units.specs.Cursor.{moved, offset_of, rest};
 ghost use Rattle.rx_units.specs.Units.{values};
+ghost use Rattle.rx_units.specs.Digits.{front_is};
 ghost use Rattle.rx_model.specs.Characters.EscapeFronts.{any_escape_at};
-ghost use Rattle.rx_model.specs.Characters.Escapes.{front_is};
 ghost use Rattle.rx_model.specs.Inputs.Environment.{Environment, is_sets, is_unicode};
 ghost use Rattle.rx_model.specs.Refusals.Reached.{span_between};
 ghost use Rattle.rx_class.specs.EscapeAnswers.{GivesCharacter, GivesClassEscape, IsBehindBackslash, environment_of};

@@ -1,9 +1,10 @@
 ghost use Rattle.std.specs.Prelude.{◌≡◌, ◌≤◌, All, length, if◌then◌else◌};
 ghost use Rattle.rx_units.specs.Units.{values};
+ghost use Rattle.rx_units.specs.Digits.{front_is};
 ghost use Rattle.rx_tables.specs.Characters.{is_decimal_digit};
 ghost use Rattle.rx_model.specs.Characters.Decoding.{decoded};
 ghost use Rattle.rx_model.specs.Characters.EscapeFronts.{any_escape_at};
-ghost use Rattle.rx_model.specs.Characters.Escapes.{front_is, is_identity_escape};
+ghost use Rattle.rx_model.specs.Characters.Escapes.{is_identity_escape};
 ghost use Rattle.rx_model.specs.Inputs.Environment.{Environment, is_unicode};
 ghost use Rattle.rx_model.specs.Reading.Fronts.{escape_at, escaped, escaped_if, letter_at, nothing, two_at, unicode_read};
 ghost use Rattle.rx_class.specs.Found.{IsWithin, class_escape_front, seen_escape};

@@ -1,10 +1,10 @@
 ghost use Rattle.std.specs.Prelude.{◌≡◌, ◌==◌, ◌∷◌, ◌&&◌, ◌||◌, true, not, ℕ, List, is_some, nat_le, codes};
 ghost use Rattle.rx_units.specs.Units.{values};
+ghost use Rattle.rx_units.specs.Digits.{front_is, octal, is_hex_digit};
 ghost use Rattle.rx_model.specs.Characters.EscapeFronts.{control_behind, digit_at, legacy_at, octal_at};
-ghost use Rattle.rx_model.specs.Characters.Escapes.{front_is};
-ghost use Rattle.rx_model.specs.Characters.LegacyEscapes.{four_next, is_class_control, octal, refers, run_number, two_next};
+ghost use Rattle.rx_model.specs.Characters.LegacyEscapes.{four_next, is_class_control, refers, run_number, two_next};
 ghost use Rattle.rx_model.specs.Inputs.Environment.{Environment};
-ghost use Rattle.rx_model.specs.Refusals.Stops.{is_hex_digit, is_one_of};
+ghost use Rattle.rx_model.specs.Refusals.Stops.{is_one_of};
 ghost use Rattle.rx_tables.specs.Characters.{is_decimal_digit, is_octal_digit};
 ghost use Rattle.rx_class.specs.Found.{seen_escape};
 

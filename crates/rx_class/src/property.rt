@@ -5,7 +5,7 @@ ghost use Rattle.rx_class.specs.Keeping.{KeepsUnits};
 ghost use Rattle.rx_class.specs.PropertyAnswers.{GivesProperty};
 ghost use Rattle.rx_class.specs.PropertyFound.{property_refusal};
 ghost use Rattle.rx_units.specs.Units.{values};
-ghost use Rattle.rx_model.specs.Characters.Escapes.{front_is};
+ghost use Rattle.rx_units.specs.Digits.{front_is};
 ghost use Rattle.rx_model.specs.Properties.PropertyForms.{begins_property};
 ghost use Rattle.rx_model.specs.Refusals.Reached.{span_between};
 

@@ -8,10 +8,10 @@ use Rattle.rx_base.specs.declared.diagnostic.Diagnostic.{Diagnostic}
 use Rattle.rx_base.specs.Diagnostic.{name_of, first_span_of, second_span_of}
 use Rattle.rx_base.specs.DiagnosticMessage.{message_of}
 use Rattle.rx_model.specs.declared.form.Form.TheVariants.{Literal}
-use Rattle.rx_model.specs.Reading.Headline.{IsFirstRefusal, IsReadAs}
-use Rattle.rx_model.specs.Inputs.Inputs.{Input, mode_asked}
+use Rattle.rx_model.specs.declared.mode.Mode.{Mode}
+use Rattle.rx_model.specs.Reading.Headline.{IsFirstRefusal, IsReadAs, IsValid}
+use Rattle.rx_model.specs.Inputs.Inputs.{Input}
 use Rattle.rx_model.specs.Trees.Names.{groups}
-use Rattle.rx_model.specs.Reading.Reading.{IsValid}
 use Rattle.rx_model.specs.Spelling.Spelling.{spelling}
 use Rattle.rx_example.specs.declared.finding.Finding.{Finding}
 use Rattle.rx_example.specs.declared.finding.Finding.TheVariants as finding
@@ -23,11 +23,12 @@ literal text flags = record { form = Literal; text = text; flags = flags; text_o
 
 -- The input is valid, n groups of its tree capture, and this is its canonical spelling.
 pub record IsRead (input : Input) (count : ℕ) (spelled : List ℕ) : Type 0 where
-  pub valid : IsValid input.text input.flags
+  pub valid : IsValid input
   pub pattern : Pattern
-  pub read : IsReadAs input pattern
+  pub mode : Mode
+  pub read : IsReadAs input mode pattern
   pub count_is : count ≡ groups pattern
-  pub spelled_is : spelled ≡ spelling (bare pattern) (mode_asked input)
+  pub spelled_is : spelled ≡ spelling (bare pattern) mode
 
 -- what a refusal is called, where it stands and what it says
 pub record Shows (shown : Refused) (cause : Diagnostic) : Type 0 where

@@ -1,6 +1,6 @@
 ghost use Rattle.std.specs.Prelude.{◌≡◌, ◌<◌, ◌^◌, max, length, IfOk};
 ghost use Rattle.std.specs.Str.{chars};
-ghost use Rattle.rx_parser.specs.Literals.{flags_chars, flags_length};
+ghost use Rattle.rx_parser.specs.Inputs.{flags_chars, flags_length};
 ghost use Rattle.rx_example.specs.Shown.{IsFinding, Shows, literal};
 
 use crate::capturing_groups;
@@ -39,7 +39,6 @@ pub fn inspect(alloc: Global, pattern: &str, flags: Option<&str>) -> Result<Find
             spelling: it.text,
         }),
         Err(Fault::Diagnostic(cause)) => Ok(Finding::Refused(shown(alloc, &cause)?)),
-        Err(Fault::NotYet) => unreachable!(),
         Err(Fault::OutOfMemory) => Err(OutOfMemory),
     }
 }

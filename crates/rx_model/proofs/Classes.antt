@@ -1,4 +1,6 @@
 pub mod AtomPlaces
+pub mod BareClassFronts
+pub mod BareClasses
 pub mod ClassBeyond
 pub mod ClassBuilds
 pub mod ClassBuilt

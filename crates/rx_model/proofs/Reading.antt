@@ -2,5 +2,6 @@ pub mod FrontReading
 pub mod Fronts
 pub mod OneRow
 pub mod Prefixes
+pub mod SameValues
 pub mod Sequences
 pub mod Splits

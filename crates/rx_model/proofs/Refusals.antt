@@ -1,6 +1,7 @@
 pub mod Beyond
 pub mod BlockedFronts
 pub mod BlockedPlaces
+pub mod Decoded
 pub mod Faults
 pub mod FlagCauses
 pub mod InnermostGroups

@@ -1,3 +1,4 @@
+pub mod BareTrees
 pub mod Bodies
 pub mod Builds
 pub mod Flat

@@ -1,4 +1,5 @@
 pub mod Environment
 pub mod Flags
+pub mod Texts
 pub mod Inputs
 pub mod Modes

@@ -3,13 +3,15 @@
 ghost use Rattle.std.specs.Prelude.{◌<◌, ◌≡◌, ◌≢◌, ◌==◌, ◌&&◌, ◌⊎◌, false, true, ℕ, List, [], ◌∷◌, ◌++◌, Result, ◌↔◌, Bool, Option, Some, ◌+◌, length, ◌||◌, codes, All};
 ghost use Rattle.rx_base.specs.declared.diagnostic.Diagnostic.{Diagnostic};
 ghost use Rattle.rx_base.specs.declared.fault.Fault.{Fault};
-ghost use Rattle.rx_base.specs.declared.diagnostic.Diagnostic.TheVariants.{CharacterClassRangeInvalidAtom, LoneQuantifier};
+ghost use Rattle.rx_base.specs.declared.diagnostic.Diagnostic.TheVariants.{CharacterClassRangeInvalidAtom, InvalidInput, LoneQuantifier};
 ghost use Rattle.rx_base.specs.declared.span.Span.{Span};
 ghost use Rattle.rx_ast.specs.ClassTree.{Class};
 ghost use Rattle.rx_ast.specs.Forget.{bare, unspanned};
 ghost use Rattle.rx_ast.specs.declared.term.Pattern.{Pattern};
 ghost use Rattle.rx_units.specs.declared.code_point.CodePoint.{CodePoint};
 ghost use Rattle.rx_units.specs.Units.{values};
+ghost use Rattle.rx_model.specs.declared.form.Form.{Form};
+ghost use Rattle.rx_model.specs.declared.form.Form.TheVariants as form;
 ghost use Rattle.rx_model.specs.declared.mode.Mode.{Mode};
 ghost use Rattle.rx_model.specs.Trees.Bodies.{AreQuantified, BeginsWithQuantifier, BeginsWithoutQuantifier};
 ghost use Rattle.rx_model.specs.Refusals.Causes.{IsCause, IsCauseAtPlace, begins_modifiers};
@@ -25,10 +27,11 @@ ghost use Rattle.rx_model.specs.Trees.Early.{IsCodePoint, IsEarlyClass};
 ghost use Rattle.rx_model.specs.Inputs.Environment.{Environment, environment, is_sets, is_unicode};
 ghost use Rattle.rx_model.specs.declared.mode.Mode.TheVariants.{Legacy, Unicode, Sets};
 ghost use Rattle.rx_model.specs.Refusals.Firsts.{GivesWay, IsCauseOfEscape, IsFirst, IsFirstInClass, IsFirstOf, IsFirstOfEscape, NoneBeyond, NoneBeyondInClass, no_item, yielding};
-ghost use Rattle.rx_model.specs.Inputs.Flags.{flags_of, flags_ok};
+ghost use Rattle.rx_model.specs.Inputs.Flags.{flags_ok};
 ghost use Rattle.rx_model.specs.Reading.ElementKinds.{NestedPlace};
-ghost use Rattle.rx_model.specs.Reading.Headline.{IsFirstRefusal, IsParsed, IsSameAgain};
-ghost use Rattle.rx_model.specs.Inputs.Inputs.{Input, mode_asked};
+ghost use Rattle.rx_model.specs.Reading.Headline.{IsFirstRefusal, IsParsed, IsReadAs, IsSameAgain, IsValid};
+ghost use Rattle.rx_model.specs.Inputs.Inputs.{Asks, AsksFor, Input};
+ghost use Rattle.rx_model.specs.Inputs.Texts.{AreUnits};
 ghost use Rattle.rx_model.specs.Groups.GroupNames.{BeginsWithName, SpellsName};
 ghost use Rattle.rx_model.specs.Reading.Prefixes.{GoesOn, GoesOnInClass};
 ghost use Rattle.rx_model.specs.Refusals.Reached.{IsInside, IsPlace, IsReached, text_environment};
@@ -119,10 +122,27 @@ pub fn first_at_places()
         IsFirstInClass mode us start added from at_class d → IsFirstOf (IsCauseAtPlace mode us start added) d }
 {}
 
-/// At most one refusal is the first of an input.
+/// A text has at most one list of units in a form, and a literal has one.
+pub fn one_text()
+    ensures one { (joined : Bool) (text : List ℕ) (form : Form) (us vs : List CodePoint) → AreUnits joined text form us → AreUnits joined text form vs → us ≡ vs }
+    ensures of_literal { (joined : Bool) (text : List ℕ) → (us : List CodePoint) × AreUnits joined text form.Literal us }
+{}
+
+/// An input asks to read at most one list of units, in one mode.
+pub fn one_asked()
+    ensures mode { (input : Input) (m n : Mode) → AsksFor input m → AsksFor input n → m ≡ n }
+    ensures units { (input : Input) (m n : Mode) (us vs : List CodePoint) → Asks input m us → Asks input n vs → (m ≡ n) × (us ≡ vs) }
+{}
+
+/// At most one refusal is the first of an input, and none of a valid one.
 pub fn one_refusal()
-    ensures { (input : Input) (d e : Diagnostic) →
-        IsFirstRefusal input d → IsFirstRefusal input e → d ≡ e }
+    ensures one { (input : Input) (d e : Diagnostic) → IsFirstRefusal input d → IsFirstRefusal input e → d ≡ e }
+    ensures none { (input : Input) (d : Diagnostic) → IsFirstRefusal input d → IsValid input → ⊥ }
+{}
+
+/// No literal is refused as a text that is not decoded.
+pub fn literals_are_decoded()
+    ensures { (input : Input) (span : Span) → input.form ≡ form.Literal → IsFirstRefusal input (InvalidInput span) → ⊥ }
 {}
 
 /// Without `v` at most one refusal holds in a class, and at one place of it.
@@ -197,9 +217,18 @@ pub fn read_back()
 
 /// So whatever a parser answers to the canonical spelling of a pattern is that pattern, but for spans and character kinds, or out of memory.
 pub fn again()
-    ensures { (input : Input) (answer : Result Pattern Fault) → IsParsed (λ p. p) input answer → (p : Pattern) (us : List CodePoint) →
-        Reads (mode_asked input) p us → FitIn (mode_asked input) us → us ≢ [] → input.text ≡ spelling (bare p) (mode_asked input) → flags_ok (flags_of input.flags) ≡ true →
-        IsSameAgain p answer }
+    ensures { (input : Input) (mode : Mode) (answer : Result Pattern Fault) → IsParsed (λ p. p) input answer → input.form ≡ form.Literal → AsksFor input mode →
+        (p : Pattern) (us : List CodePoint) → Reads mode p us → FitIn mode us → us ≢ [] → input.text ≡ spelling (bare p) mode → IsSameAgain p answer }
+{}
+
+/// Two trees that read units of equal values, under one mode, are equal but for spans and character kinds.
+pub fn same_values()
+    ensures { (mode : Mode) (p q : Pattern) (us vs : List CodePoint) → Reads mode p us → Reads mode q vs → values us ≡ values vs → bare p ≡ bare q }
+{}
+
+/// So it is with two inputs, in whatever forms, that ask to read units of equal values in one mode: of a literal, say, and of a quoted text.
+pub fn same_inputs()
+    ensures { (a b : Input) (mode : Mode) (p q : Pattern) (read : IsReadAs a mode p) (read_too : IsReadAs b mode q) → values read.units ≡ values read_too.units → bare p ≡ bare q }
 {}
 
 /// With neither `u` nor `v` some token begins at each backslash that does not end the text, but at one before a `k` where `\k` is a reference.

@@ -13,10 +13,10 @@ use Rattle.rx_ast.specs.Tree.{leaf, mirror_term}
 use Rattle.rx_units.specs.declared.code_point.CodePoint.{CodePoint}
 use Rattle.rx_units.specs.Cursor.{Cursor, moved, offset_of, rest}
 use Rattle.rx_units.specs.Units.{offset_at, values}
+use Rattle.rx_units.specs.Digits.{front_is}
 use Rattle.rx_model.specs.Refusals.Causes.{of_property}
 use Rattle.rx_model.specs.Inputs.Environment.{Environment, environment_with, has_some}
 use Rattle.rx_model.specs.Refusals.EscapeCauses.{IsPropertyCause}
-use Rattle.rx_model.specs.Characters.Escapes.{front_is}
 use Rattle.rx_model.specs.Properties.PropertyForms.{begins_property}
 use Rattle.rx_model.specs.Refusals.Reached.{IsPlace, text_environment, text_groups}
 use Rattle.rx_model.specs.Trees.Events.{term_events}

@@ -1,5 +1,5 @@
 -- What the first pass over a text tells of its groups.
-use Rattle.std.proofs.Common.{◌≡◌, refl, ap₂, ℕ, ◌+◌, ◌-◌, ◌^◌, ◌<◌, ◌≤◌, Bool, true, false, List, arith}
+use Rattle.std.proofs.Common.{◌≡◌, ap₂, ℕ, ◌+◌, ◌-◌, ◌^◌, ◌<◌, ◌≤◌, List, arith}
 use Rattle.std.specs.Prelude.{min}
 use Rattle.rx_base.specs.declared.fault.Fault.TheVariants.{Diagnostic}
 use Rattle.rx_base.specs.declared.diagnostic.Diagnostic.TheVariants.{TooMayCapturingGroups}
@@ -8,20 +8,12 @@ use Rattle.rx_units.specs.declared.code_point.CodePoint.{CodePoint}
 use Rattle.rx_model.specs.declared.mode.Mode.{Mode}
 use Rattle.rx_model.specs.Refusals.Causes.{too_many_groups}
 use Rattle.rx_model.specs.Refusals.Firsts.{of_groups}
-use Rattle.rx_model.specs.Inputs.Environment.{is_unicode}
 use Rattle.rx_model.specs.Inputs.Modes.{mode_by}
 use Rattle.rx_model.specs.Refusals.Reached.{HasNoClash, text_groups, text_names}
 use Rattle.rx_model.specs.Trees.Early.{most_groups}
 use Rattle.rx_scan.specs.StateFaults.{mode_of_state}
 use Rattle.rx_scan.specs.declared.state.State.{State}
 use Rattle.rx_parser.specs.Parsing.{HoldsPass, IsRefused}
-
--- the truth values of a mode
-pub unicode_by : (unicode sets : Bool) → (sets ≡ true → unicode ≡ true) → is_unicode (mode_by unicode sets) ≡ unicode
-unicode_by true true h = refl
-unicode_by true false h = refl
-unicode_by false true h = absurd (let no : false ≡ true = h refl in let k : ⊥ = cc no in k)
-unicode_by false false h = refl
 
 -- the span between two offsets, so much being added to each
 abbrev pub shifted : ℕ → ℕ × ℕ → Span

@@ -36,7 +36,6 @@ module _ (mode : Mode) (us : List CodePoint) (first added : ℕ) where
   -- On a text that some tree reads memory is wanting.
   wanting : (it : Fault) → IsRefused mode us first added it → (p : Pattern) → Reads mode p us → it ≡ fault.OutOfMemory
   wanting fault.OutOfMemory h p reads = refl
-  wanting fault.NotYet h p reads = absurd h
   wanting (fault.Diagnostic cause) h p reads = absurd (none_reads cause h p reads)
 
   -- What is read or refused is answered so.

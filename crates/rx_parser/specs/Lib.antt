@@ -6,7 +6,7 @@ pub mod Frames
 pub mod Good
 pub mod HaltPlaces
 pub mod Levels
-pub mod Literals
+pub mod Inputs
 pub mod Modifiers
 pub mod Names
 pub mod GroupKinds

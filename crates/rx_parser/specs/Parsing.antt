@@ -1,7 +1,7 @@
 -- How far a parse has come, and what its faults say.
 use Rattle.std.specs.Prelude.{◌≡◌, ℕ, ◌+◌, ◌≤◌, List, length, drop, Result, IfErr, IfOk}
 use Rattle.rx_base.specs.declared.fault.Fault.{Fault}
-use Rattle.rx_base.specs.declared.fault.Fault.TheVariants.{OutOfMemory, NotYet, Diagnostic}
+use Rattle.rx_base.specs.declared.fault.Fault.TheVariants.{OutOfMemory, Diagnostic}
 use Rattle.rx_ast.specs.declared.term.Pattern.{Pattern}
 use Rattle.rx_units.specs.declared.code_point.CodePoint.{CodePoint}
 use Rattle.rx_units.specs.Units.{offset_at}
@@ -40,7 +40,6 @@ pub record IsWhole (mode : Mode) (us : List CodePoint) (first added : ℕ) (p : 
 -- memory is wanting, or the text is refused with its first cause
 abbrev pub IsRefused : Mode → List CodePoint → ℕ → ℕ → Fault → Type 0
 IsRefused mode us first added OutOfMemory = Unit {0}
-IsRefused mode us first added NotYet = ⊥
 IsRefused mode us first added (Diagnostic cause) = IsFirst mode us first added cause
 
 -- What is answered to units that are to be read in a mode.

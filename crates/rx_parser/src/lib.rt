@@ -3,6 +3,7 @@
 
 mod ahead;
 mod builder;
+mod constructor_parser;
 mod counts;
 mod environment;
 mod fault;
@@ -10,6 +11,7 @@ mod found;
 mod frame;
 mod front;
 mod group;
+mod input;
 mod level;
 mod literal_parser;
 mod modifiers;
@@ -21,6 +23,7 @@ mod term;
 mod turn;
 
 pub use builder::Builder;
+pub use constructor_parser::ConstructorParser;
 pub use frame::{Frame, GroupKind};
 pub use level::Level;
 pub use literal_parser::LiteralParser;

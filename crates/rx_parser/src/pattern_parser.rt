@@ -1,4 +1,4 @@
-ghost use Rattle.std.specs.Prelude.{◌≡◌, ◌+◌, ◌<◌, ◌^◌, true, false, All, IfErr, IfOk, OnOk};
+ghost use Rattle.std.specs.Prelude.{◌≡◌, ◌+◌, ◌<◌, ◌^◌, All, IfErr, IfOk, OnOk};
 ghost use Rattle.rx_scan.specs.StateFaults.{mode_of_state};
 ghost use Rattle.rx_class.specs.Fitting.{AreFitting};
 ghost use Rattle.rx_parser.specs.Parsing.{AnswersUnits, HoldsPass, IsRefused, IsWhole};
@@ -47,7 +47,6 @@ impl<'a> PatternParser<'a> {
     /// The tree of the pattern (Pattern, 22.2.1). Over no units it has one empty alternative.
     pub fn parse(self) -> Result<Pattern, Fault>
         requires start { self.reader.place ≡ 0 }
-        requires modes { self.state.unicode_sets_mode ≡ true → self.state.unicode_mode ≡ true }
         requires first { self.reader.first + self.spans < 2 ^ 32 }
         requires fits { All (λ unit. unit.span.end + self.spans < 2 ^ 32) self.reader.units }
 

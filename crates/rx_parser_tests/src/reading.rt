@@ -29,6 +29,11 @@ const CONSTRUCTOR: CanonicalCall = CanonicalCall {
     at_seven: false,
 };
 
+const CONSTRUCTOR_AT_SEVEN: CanonicalCall = CanonicalCall {
+    form: Form::Constructor,
+    at_seven: true,
+};
+
 impl Call for CanonicalCall {
     fn answer(&self, alloc: Global, asked: &str) -> Result<String, Fail> {
         let (flags, pattern) = asked.split_once(' ').ok_or("no blank")?;
@@ -44,7 +49,8 @@ impl Call for CanonicalCall {
     }
 }
 
-fn given(flags: &str) -> Option<&str>
+/// The flags text, which is absent where `-` stands.
+pub fn given(flags: &str) -> Option<&str>
     ensures { IfSome result (λ it. length it.now ≤ length flags.now) }
 {
     if flags == "-" { None } else { Some(flags) }
@@ -66,17 +72,41 @@ fn shown(alloc: Global, answer: Result<Canonical, Fault>) -> Result<String, Fail
             cause.first_span(),
             cause.second_span()
         )?),
-        Err(Fault::NotYet) => Ok(String::from_str(alloc, "not yet")?),
         Err(Fault::OutOfMemory) => Err(Fail::new("out of memory")),
     }
 }
 
 #[test]
-fn not_yet(rt: HostRuntime) -> Result<(), Fail> {
-    let rows = "u \"[a]\" => not yet
-v \"[a]\" => not yet
-\"gg\" \"a\" => not yet";
+fn arguments(rt: HostRuntime) -> Result<(), Fail> {
+    let rows = r#"- "" => Legacy (?:) 1..5
+- '' => Legacy (?:) 1..5
+"" `` => Legacy (?:) 1..5
+'v' "" => Sets (?:) 1..5
+- "\n" => Legacy \n 1..3
+- "\012" => Legacy \n 1..5
+"gi" "\\d+" => Legacy \d+ 1..5
+"u" "\uD83D\uDE00" => Unicode \u{D83D}\u{DE00} 1..13
+"u" 'a\uDE00' => Unicode a\u{DE00} 1..8
+`v` '[\\p{L}&&a]' => Sets [\p{L}&&a] 1..12
+- "a => invalid_input Span { start: 0, end: 2 } None
+- a => invalid_input Span { start: 0, end: 1 } None
+-  => invalid_input Span { start: 0, end: 0 } None
+- `${a}` => invalid_input Span { start: 0, end: 6 } None
+"u" "(?<a>)(?<\x61>)" => duplicated_capturing_group_names Span { start: 4, end: 5 } Some(Span { start: 10, end: 14 })"#;
     agree(rt.alloc(), &CONSTRUCTOR, rows)
+}
+
+#[test]
+fn flags_of_arguments(rt: HostRuntime) -> Result<(), Fail> {
+    let rows = r#""\uD83D" "a" => unknown_flag Span { start: 8, end: 14 } None
+"gg" "a => duplicated_flags Span { start: 9, end: 10 } None
+`uv` a => invalid_unicode_flags Span { start: 9, end: 10 } None
+"g\x67" "(" => duplicated_flags Span { start: 9, end: 13 } None
+"gg "a => invalid_input Span { start: 7, end: 10 } None
+u "a" => invalid_input Span { start: 7, end: 8 } None
+ "a" => invalid_input Span { start: 7, end: 7 } None
+"u" "a => invalid_input Span { start: 0, end: 2 } None"#;
+    agree(rt.alloc(), &CONSTRUCTOR_AT_SEVEN, rows)
 }
 
 #[test]
@@ -140,6 +170,30 @@ fn spans_of_flags_end_at_the_greatest_offset(rt: HostRuntime) -> Result<(), Fail
     assert_eq!(rt;
         text.as_str(),
         "unknown_flag Span { start: 4294967294, end: 4294967295 } None"
+    );
+    Ok(())
+}
+
+#[test]
+fn spans_of_arguments_end_at_the_greatest_offset(rt: HostRuntime) -> Result<(), Fail> {
+    let options = Options {
+        pattern_span_offset: 4294967289,
+        flags_span_offset: 4294967292,
+    };
+    let empty = canonical(rt.alloc(), Form::Constructor, "\"\"", None, options);
+    let text = shown(rt.alloc(), empty)?;
+    assert_eq!(rt; text.as_str(), "Legacy (?:) 4294967290..4294967294");
+    let undecoded = canonical(rt.alloc(), Form::Constructor, "\"a", Some("'u'"), options);
+    let text = shown(rt.alloc(), undecoded)?;
+    assert_eq!(rt;
+        text.as_str(),
+        "invalid_input Span { start: 4294967289, end: 4294967291 } None"
+    );
+    let flags = canonical(rt.alloc(), Form::Constructor, "\"a", Some("'x'"), options);
+    let text = shown(rt.alloc(), flags)?;
+    assert_eq!(rt;
+        text.as_str(),
+        "unknown_flag Span { start: 4294967293, end: 4294967294 } None"
     );
     Ok(())
 }

@@ -3,19 +3,17 @@ ghost use Rattle.std.specs.Prelude.{◌+◌, ◌<◌, ◌^◌, length};
 use crate::shown::outline;
 use rx_ast::Pattern;
 use rx_base::Fault;
-use rx_parser::{LiteralParser, Options, PatternParser};
-use rx_units::{Reader, ReaderFault};
+use rx_parser::{ConstructorParser, LiteralParser, Options, PatternParser};
+use rx_units::Reader;
 use std::alloc::Global;
+use std::test::Fail;
 
 /// The tree of a short text under `u`.
-fn read_units(alloc: Global, text: &str, span_offset: u32) -> Result<Pattern, Fault>
+fn read_units(alloc: Global, text: &str, span_offset: u32) -> Result<Pattern, Fail>
     requires { length text.now + span_offset < 2 ^ 32 }
 {
-    let reader = match Reader::initialize(alloc, text, true, false) {
-        Ok(reader) => reader,
-        Err(ReaderFault::OutOfMemory) => return Err(Fault::OutOfMemory),
-    };
-    PatternParser::new(alloc, reader, (true, false), span_offset).parse()
+    let reader = Reader::initialize(alloc, text, true, false)?;
+    Ok(PatternParser::new(alloc, reader, (true, false), span_offset).parse()?)
 }
 
 const OUTLINE: &str = "10..15 | 10..13 10..11 11..12 12..13 | 14..15 14..15";
@@ -32,7 +30,19 @@ fn a_literal_is_read(rt: HostRuntime) -> Result<(), Fault> {
 }
 
 #[test]
-fn the_units_of_a_literal_are_read_alike(rt: HostRuntime) -> Result<(), Fault> {
+fn an_argument_is_read_alike(rt: HostRuntime) -> Result<(), Fault> {
+    let options = Options {
+        pattern_span_offset: 9,
+        flags_span_offset: 20,
+    };
+    let parser = ConstructorParser::new(rt.alloc(), "\"a.b|c\"", Some("'u'"), options);
+    let pattern = parser.parse()?;
+    assert_eq!(rt; outline(rt.alloc(), &pattern)?.as_str(), OUTLINE);
+    Ok(())
+}
+
+#[test]
+fn the_units_of_a_literal_are_read_alike(rt: HostRuntime) -> Result<(), Fail> {
     let pattern = read_units(rt.alloc(), "a.b|c", 10)?;
     assert_eq!(rt; outline(rt.alloc(), &pattern)?.as_str(), OUTLINE);
     Ok(())

@@ -1,6 +1,8 @@
+use crate::reading::given;
 use crate::shown::{outline, terms};
 use rx_base::Fault;
-use rx_rows::{Call, agree, short};
+use rx_parser::ConstructorParser;
+use rx_rows::{Call, agree, short, text_of};
 use rx_tools::{Canonical, Form, Mode, Options, canonical, canonical_text};
 use std::alloc::Global;
 use std::test::Fail;
@@ -128,4 +130,65 @@ fn characters_with_no_flags(rt: HostRuntime) -> Result<(), Fail> {
 \\c => 0..1 Symbol 5c; 1..2 Symbol 63;
 \u{1F600} => 0..4 Symbol d83d; 4..4 Symbol de00;";
     agree(rt.alloc(), &LegacyTermsCall, rows)
+}
+
+/// Asked are the flags of an argument, `-` where there are none, a blank and the argument; the answer has the terms of the first alternative.
+#[derive(Clone, Copy)]
+struct ArgumentTermsCall;
+
+impl Call for ArgumentTermsCall {
+    fn answer(&self, alloc: Global, asked: &str) -> Result<String, Fail> {
+        let text = text_of(alloc, asked)?.ok_or("no such character")?;
+        let (flags, pattern) = text.split_once(' ').ok_or("no blank")?;
+        let flags = given(short(flags)?);
+        let options = Options::default();
+        let parser = ConstructorParser::new(alloc, short(pattern)?, flags, options);
+        Ok(terms(alloc, &parser.parse()?)?)
+    }
+}
+
+#[test]
+fn characters_of_arguments(rt: HostRuntime) -> Result<(), Fail> {
+    let rows = r#"- "" => 1..5
+- "\n" => 1..3 Symbol a;
+- "\012" => 1..5 Symbol a;
+- `\012` => 1..4 Symbol 31; 4..5 Symbol 32;
+- `a«A»b` => 1..2 Symbol 61; 2..3 Symbol a; 3..4 Symbol 62;
+- `a«D»«A»b` => 1..2 Symbol 61; 2..4 Symbol a; 4..5 Symbol 62;
+- "\«A»a" => 1..3 Symbol a; 3..4 Symbol 61;
+- '\«D»«A»' => 1..4 Symbol a;
+- "\x41\u0042C" => 1..5 HexadecimalEscape 41; 5..11 UnicodeEscape 42; 11..12 Symbol 43;
+- "\0" => 1..3 Symbol 0;
+- "\\0" => 1..4 Null 0;
+- "\\012" => 1..6 Octal3 a;
+- "\\\x30\x31" => 1..11 Octal2 1;
+"u" "\\n" => 1..4 SingleEscape a;
+"u" "\\\x6E" => 1..7 SingleEscape a;
+"u" "\\x41" => 1..6 HexadecimalEscape 41;
+"u" "\\$" => 1..4 Identifier 24;
+"u" "\\\x24" => 1..7 Identifier 24;"#;
+    agree(rt.alloc(), &ArgumentTermsCall, rows)
+}
+
+#[test]
+fn surrogates_of_arguments(rt: HostRuntime) -> Result<(), Fail> {
+    let rows = r#"- "😀" => 1..5 Symbol d83d; 5..5 Symbol de00;
+- "\u{1F600}" => 1..10 UnicodeEscape d83d; 10..10 UnicodeEscape de00;
+- "\uD83D\uDE00" => 1..7 UnicodeEscape d83d; 7..13 UnicodeEscape de00;
+- "\\uD83D\\uDE00" => 1..8 UnicodeEscape d83d; 8..15 UnicodeEscape de00;
+"u" "😀" => 1..5 Symbol 1f600;
+"u" "\u{1F600}" => 1..10 UnicodeEscape 1f600;
+"u" "\uD83D\uDE00" => 1..7 UnicodeEscape d83d; 7..13 UnicodeEscape de00;
+"u" "\\uD83D\\uDE00" => 1..15 UnicodeEscape 1f600;
+"u" "\\uD83D\uDE00" => 1..8 UnicodeEscape d83d; 8..14 UnicodeEscape de00;
+"u" "a\uDE00" => 1..2 Symbol 61; 2..8 UnicodeEscape de00;"#;
+    agree(rt.alloc(), &ArgumentTermsCall, rows)
+}
+
+#[test]
+fn groups_of_arguments(rt: HostRuntime) -> Result<(), Fail> {
+    let rows =
+        r#""u" "(?<\x61>.)\\k<a>\\1" => 1..11 a 9..10; 11..17 reference a; 17..20 reference 1;
+"u" "(?\x69-m:b)" => 1..12 3..9 1 2;"#;
+    agree(rt.alloc(), &ArgumentTermsCall, rows)
 }

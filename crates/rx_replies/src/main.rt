@@ -11,7 +11,6 @@
 #![tactic(auto)]
 
 mod line;
-mod notation;
 mod question;
 mod report;
 

@@ -1,7 +1,7 @@
 use crate::line::Line;
-use crate::notation::text_of;
 use crate::question::{Answer, Question};
 use rx_base::OutOfMemory;
+use rx_rows::text_of;
 use std::io::{self, ErrorKind};
 use std::process::ExitCode;
 

@@ -1,8 +1,11 @@
 //! For tests: rows of what a call is asked and what it answers, as a text, which costs the prover nothing.
 #![tactic(auto)]
 
+mod notation;
+
 ghost use Rattle.std.specs.Prelude.{◌≡◌, ◌≤◌, IfOk, length};
 
+pub use notation::text_of;
 use rx_base::Diagnostic;
 use std::alloc::Global;
 use std::test::Fail;

@@ -6,15 +6,14 @@ use Rattle.rx_base.specs.declared.diagnostic.Diagnostic.{Diagnostic}
 use Rattle.rx_base.specs.declared.fault.Fault.TheVariants as fault
 use Rattle.rx_ast.specs.declared.term.Pattern.{Pattern}
 use Rattle.rx_ast.specs.Forget.{bare}
-use Rattle.rx_model.specs.declared.form.Form.TheVariants.{Literal}
 use Rattle.rx_model.specs.declared.mode.Mode.{Mode}
-use Rattle.rx_model.specs.Reading.Headline.{IsAnswered, IsFaultOf, IsFirstRefusal, refused}
-use Rattle.rx_model.specs.Inputs.Inputs.{Input}
+use Rattle.rx_model.specs.Reading.Headline.{IsAnswered}
 use Rattle.rx_model.specs.Spelling.Spelling.{spelling}
 use Rattle.rx_tools.specs.Spelled.{read_of}
 use Rattle.rx_tools.specs.Utf8.{utf8}
+use Rattle.rx_tools.proofs.CanonicalAnswers.{first_of, read_as}
 use Rattle.rx_run.specs.Request.{Request, IsRequest}
-use Rattle.rx_run.specs.Reply.{IsReply, bad, later, ok, err, bad_reply, err_reply, input_of, mode_name, ok_reply}
+use Rattle.rx_run.specs.Reply.{IsReply, bad, ok, err, bad_reply, err_reply, input_of, mode_name, ok_reply}
 use Rattle.rx_run.specs.Serving.{kept}
 
 -- the parts of an `ok` reply, added behind one another
@@ -27,21 +26,16 @@ ok_reply_added old first second third text mode e f g =
     ∙ append_assoc old (front ++ encode_utf8_all text) (codes "\n")
 
 -- an `ok` reply, as it was made
-pub ok_reply_is : (line : List ℕ) (request : Request) (it : Pattern × Mode) → IsRequest line request → request.form ≡ Literal → IsAnswered read_of (input_of request) (Ok it)
+pub ok_reply_is : (line : List ℕ) (request : Request) (it : Pattern × Mode) → IsRequest line request → IsAnswered read_of (input_of request) (Ok it)
     → IsReply line (ok_reply it.1 (spelling (bare it.0) it.1))
-ok_reply_is line request it asked literal answered =
-    let Q : Mode → Type 0 = λ m. IsReply line (ok_reply m (spelling (bare it.0) m)) in
-    subst Q (sym answered.mode_is) (ok request it.0 asked literal answered.parsed.valid.flags_are answered.parsed.read)
-
-pub first_of : (input : Input) (refusal : Diagnostic) → IsFaultOf input (fault.Diagnostic refusal) → IsFirstRefusal input refusal
-first_of input refusal (refused first) = first
+ok_reply_is line request it asked answered = ok request it.1 it.0 asked (read_as read_of (input_of request) it answered)
 
 -- an `err` reply, as it was made
-pub err_reply_is : (line : List ℕ) (request : Request) (refusal : Diagnostic) → IsRequest line request → request.form ≡ Literal
+pub err_reply_is : (line : List ℕ) (request : Request) (refusal : Diagnostic) → IsRequest line request
     → IsAnswered read_of (input_of request) (Err (fault.Diagnostic refusal)) → IsReply line (err_reply refusal)
-err_reply_is line request refusal asked literal answered =
+err_reply_is line request refusal asked answered =
     let parsed = answered.parsed in
-    err request refusal asked literal (λ valid. let e = parsed.complete valid in let no : ⊥ = cc e in no) (first_of (input_of request) refusal parsed.refused)
+    err request refusal asked (λ valid. let e = parsed.complete valid in let no : ⊥ = cc e in no) (first_of (input_of request) refusal parsed.refused)
 
 -- a line past the limit has exactly the reply `bad`
 long_is_bad : (line : List ℕ) → 1048576 < length line → IsReply line bad_reply
@@ -49,9 +43,8 @@ long_is_bad line long = bad (λ request is. let short : length line ≤ 1048576 
 
 bad_if_long : (line reply : List ℕ) → 1048576 < length line → IsReply line reply → reply ≡ bad_reply
 bad_if_long line reply long (bad none) = refl
-bad_if_long line reply long (later request asked constructor) = absurd (let short : length line ≤ 1048576 = asked.within in omega arith)
-bad_if_long line reply long (ok request pattern asked literal flags_are read) = absurd (let short : length line ≤ 1048576 = asked.within in omega arith)
-bad_if_long line reply long (err request refusal asked literal none first) = absurd (let short : length line ≤ 1048576 = asked.within in omega arith)
+bad_if_long line reply long (ok request mode pattern asked read) = absurd (let short : length line ≤ 1048576 = asked.within in omega arith)
+bad_if_long line reply long (err request refusal asked none first) = absurd (let short : length line ≤ 1048576 = asked.within in omega arith)
 
 long_alike : (line line' reply : List ℕ) → 1048576 < length line → 1048576 < length line' → IsReply line reply → IsReply line' reply
 long_alike line line' reply long long' is =

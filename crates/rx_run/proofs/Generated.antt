@@ -12,10 +12,11 @@ use Rattle.rx_ast.specs.Forget.{nowhere}
 use Rattle.rx_tables.specs.Properties.{general_category_values}
 use Rattle.rx_units.specs.declared.code_point.CodePoint.{CodePoint}
 use Rattle.rx_units.specs.Units.{literal_units, values}
+use Rattle.rx_model.specs.declared.form.Form.TheVariants.{Literal}
+use Rattle.rx_units.specs.Digits.{front_is}
 use Rattle.rx_model.specs.declared.mode.Mode.{Mode}
 use Rattle.rx_model.specs.declared.mode.Mode.TheVariants.{Unicode}
 use Rattle.rx_model.specs.Characters.EscapeFronts.{escape_at}
-use Rattle.rx_model.specs.Characters.Escapes.{front_is}
 use Rattle.rx_model.specs.Classes.ClassBuilds.{atom_member, range_member}
 use Rattle.rx_model.specs.Classes.ClassFronts.{atom_at, class_front, class_token_at}
 use Rattle.rx_model.specs.Classes.ClassTokens as atom
@@ -23,11 +24,12 @@ use Rattle.rx_model.specs.FirstPass.Marks.{Mark, count, listed, mark_at, mark_fr
 use Rattle.rx_model.specs.FirstPass.Marks as mark
 use Rattle.rx_model.specs.Groups.GroupFronts.{group_front}
 use Rattle.rx_model.specs.Inputs.Environment.{Environment, environment_with, has_some}
+use Rattle.rx_model.specs.Inputs.Flags.{flags_ok}
+use Rattle.rx_model.specs.Inputs.Texts.{literal_text, of_literal, some_flags}
 use Rattle.rx_model.specs.Properties.PropertyFronts.{property_front}
 use Rattle.rx_model.specs.Quantifiers.Quantifiers.{is_question}
 use Rattle.rx_model.specs.Reading.Fronts.{front, backslash_front, counts_at}
-use Rattle.rx_model.specs.Reading.Headline.{IsFirstRefusal, of_flags, of_text}
-use Rattle.rx_model.specs.Reading.Reading.{literal_text}
+use Rattle.rx_model.specs.Reading.Headline.{IsFirstRefusal, no_flags_text, no_text, of_flags, of_text}
 use Rattle.rx_model.specs.Reading.Rows.{TokenRow}
 use Rattle.rx_model.specs.Refusals.Causes.{IsCauseAtPlace}
 use Rattle.rx_model.specs.Refusals.Firsts.{IsFirst, of_groups, of_places}
@@ -35,6 +37,7 @@ use Rattle.rx_model.specs.Refusals.Reached.{HasNoClash, IsReached, text_groups, 
 use Rattle.rx_model.specs.Trees.Early.{Obeys, most_groups}
 use Rattle.rx_model.specs.Trees.Shapes.{run}
 use Rattle.rx_model.specs.Trees.Token.{Token, Opener, character, dot, property, class, opener, closer, bar, quantifier, capturing, ignoring}
+use Rattle.rx_model.proofs.Inputs.Asked.{alone_asks, one_asked, one_flags}
 use Rattle.rx_model.proofs.Reading.Fronts.{front_spelled}
 use Rattle.rx_model.proofs.Refusals.Beyond.{Ends, passes, left_open, cause_ends}
 use Rattle.rx_model.proofs.Refusals.FlagCauses.{cause_refuses}
@@ -257,8 +260,17 @@ module _ (n x : ℕ) (few : n < 8) where
 
   pieces_not_refused : {refusal : Diagnostic} → IsFirstRefusal (asked (pieces_text (suc n) x)) refusal → ⊥
   unfolding us
-  pieces_not_refused {refusal} (of_flags cause) = let no : true ≡ false = cause_refuses _ _ _ refusal cause in cc no
-  pieces_not_refused {refusal} (of_text right first) = none_first 0 refusal (subst (λ text. IsFirst Unicode (literal_units true 0 text) 0 0 refusal) (pieces_some n x) first)
+  pieces_not_refused {refusal} (no_flags_text e none) = none _ of_literal
+  pieces_not_refused {refusal} (of_flags {flags} are cause) =
+      let right = one_flags Literal (Some (117 ∷ [])) (literal_units true 0 (117 ∷ [])) flags (some_flags of_literal) are in
+      let no : true ≡ false = ap (λ flags. flags_ok (values flags)) right ∙ cause_refuses flags 0 0 refusal cause in
+      cc no
+  pieces_not_refused {refusal} (no_text asks none) = none _ of_literal
+  pieces_not_refused {refusal} (of_text {mode} {us = asked_units} asks first) =
+      let text = pieces_text (suc n) x in
+      let one = one_asked (asked text) mode Unicode asked_units (literal_units true 0 (literal_text text)) asks (alone_asks text Unicode) in
+      none_first 0 refusal (subst (λ w. IsFirst Unicode (literal_units true 0 w) 0 0 refusal) (pieces_some n x)
+      (subst (λ vs. IsFirst Unicode vs 0 0 refusal) one.1 (subst (λ m. IsFirst m asked_units 0 0 refusal) one.0 first)))
 
 -- no pattern of `gen` is refused
 pub not_refused : (x : ℕ) {refusal : Diagnostic} → IsFirstRefusal (asked (pattern_text x)) refusal → ⊥

@@ -11,12 +11,13 @@ use Rattle.rx_base.specs.declared.fault.Fault.TheVariants as fault
 use Rattle.rx_ast.specs.Forget.{bare}
 use Rattle.rx_model.specs.declared.form.Form.TheVariants.{Literal}
 use Rattle.rx_model.specs.declared.mode.Mode.TheVariants.{Unicode}
-use Rattle.rx_model.specs.Reading.Headline.{IsAnswered, IsFirstRefusal}
+use Rattle.rx_model.specs.Reading.Headline.{IsAnswered, IsFirstRefusal, IsReadAs}
 use Rattle.rx_model.specs.Spelling.Spelling.{spelling}
+use Rattle.rx_model.proofs.Inputs.Asked.{alone_asks, one_mode}
 use Rattle.rx_tools.specs.declared.outcome.Canonical.{Canonical}
 use Rattle.rx_tools.specs.Spelled.{spelled_of}
+use Rattle.rx_tools.proofs.CanonicalAnswers.{first_of, read_as}
 use Rattle.rx_run.specs.Generator.{AreSized, IsGenerated, IsSized, asked, drawn, next_state, pattern_text, patterns, piece, pieces_text, state_after, state_after_pattern}
-use Rattle.rx_run.proofs.Answering.{first_of}
 use Rattle.rx_run.proofs.Generated.{not_refused}
 use Rattle.rx_run.proofs.Servings.{AllZip-append}
 
@@ -85,9 +86,10 @@ asked_is text bytes flags a b text_is flags_are a_is b_is = cc
 -- an answer, by the bytes of its spelling
 pub read_sized : (text : List ℕ) (it : Canonical) (bytes : List ℕ) → IsUtf8 bytes → chars bytes ≡ it.text → IsAnswered spelled_of (asked text) (Ok it) → IsSized text (length bytes)
 read_sized text it bytes utf8 is answered =
-    let spelled : it.text ≡ spelling (bare it.pattern) Unicode = answered.text_is ∙ ap (spelling (bare it.pattern)) answered.mode_is in
+    let mode : it.mode ≡ Unicode = one_mode (asked text) it.mode Unicode answered.mode_is (alone_asks text Unicode).mode_asked in
+    let spelled : it.text ≡ spelling (bare it.pattern) Unicode = answered.text_is ∙ ap (spelling (bare it.pattern)) mode in
     let same : bytes ≡ encode_utf8_all (spelling (bare it.pattern) Unicode) = sym (encodes-chars bytes utf8) ∙ ap encode_utf8_all (is ∙ spelled) in
-    record { pattern = it.pattern; read = answered.parsed.read; size_is = ap length same }
+    record { pattern = it.pattern; read = subst (λ m. IsReadAs (asked text) m it.pattern) mode (read_as spelled_of (asked text) it answered); size_is = ap length same }
 
 -- no generated pattern is answered by a refusal
 pub none_refused : (text : List ℕ) (refusal : Diagnostic) → IsGenerated text → IsAnswered spelled_of (asked text) (Err (fault.Diagnostic refusal)) → ⊥

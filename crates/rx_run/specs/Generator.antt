@@ -63,7 +63,7 @@ IsGenerated text = (x : ℕ) × (text ≡ pattern_text x)
 -- The text is a pattern, whose canonical spelling has n bytes.
 pub record IsSized (text : List ℕ) (size : ℕ) : Type 0 where
   pub pattern : Pattern
-  pub read : IsReadAs (asked text) pattern
+  pub read : IsReadAs (asked text) Unicode pattern
   pub size_is : size ≡ length (encode_utf8_all (spelling (bare pattern) Unicode))
 
 -- The texts are patterns, whose canonical spellings have n bytes.

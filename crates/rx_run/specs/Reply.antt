@@ -1,17 +1,14 @@
 -- What a line is answered.
-use Rattle.std.specs.Prelude.{◌≡◌, ℕ, Bool, true, nat_eq, List, ◌++◌, codes, encode_utf8_all}
+use Rattle.std.specs.Prelude.{ℕ, Bool, nat_eq, List, ◌++◌, codes, encode_utf8_all}
 use Rattle.std.specs.List.{starts_with}
 use Rattle.rx_base.specs.declared.diagnostic.Diagnostic.{Diagnostic}
 use Rattle.rx_base.specs.Diagnostic.{name_of}
 use Rattle.rx_ast.specs.declared.term.Pattern.{Pattern}
 use Rattle.rx_ast.specs.Forget.{bare}
-use Rattle.rx_model.specs.declared.form.Form.TheVariants.{Literal, Constructor}
 use Rattle.rx_model.specs.declared.mode.Mode.{Mode}
 use Rattle.rx_model.specs.declared.mode.Mode.TheVariants.{Legacy, Unicode, Sets}
-use Rattle.rx_model.specs.Inputs.Flags.{flags_of, flags_ok}
-use Rattle.rx_model.specs.Reading.Headline.{IsFirstRefusal, IsReadAs}
-use Rattle.rx_model.specs.Inputs.Inputs.{Input, mode_asked}
-use Rattle.rx_model.specs.Reading.Reading.{IsValid}
+use Rattle.rx_model.specs.Reading.Headline.{IsFirstRefusal, IsReadAs, IsValid}
+use Rattle.rx_model.specs.Inputs.Inputs.{Input}
 use Rattle.rx_model.specs.Spelling.Spelling.{spelling}
 use Rattle.rx_run.specs.Request.{Request, IsRequest}
 use Rattle.rx_run.specs.Spans.{spans_text}
@@ -23,9 +20,6 @@ mode_name Sets = codes "sets"
 
 abbrev pub bad_reply : List ℕ
 bad_reply = codes "bad\n"
-
-abbrev pub later_reply : List ℕ
-later_reply = codes "later\n"
 
 -- the mode, and the spelling of a pattern
 abbrev pub ok_reply : Mode → List ℕ → List ℕ
@@ -39,15 +33,14 @@ err_reply cause = codes "err\t" ++ name_of cause ++ codes "\t" ++ spans_text cau
 abbrev pub input_of : Request → Input
 input_of request = record { form = request.form; text = request.text; flags = request.flags; text_offset = 0; flags_offset = 0 }
 
--- The reply to a line: there is no request in it, or one of the form that is not read yet, or a literal that is read, or one whose flags or text are
--- refused, so that it is no valid one, with the first refusal.
+-- The reply to a line: there is no request in it, or one that is read, or one whose flags or text are refused, so that it is no valid one, with the first
+-- refusal.
 pub data IsReply (line : List ℕ) : List ℕ → Type 0 where
   bad : ((request : Request) → ¬ IsRequest line request) → IsReply line bad_reply
-  later : (request : Request) → IsRequest line request → request.form ≡ Constructor → IsReply line later_reply
-  ok : (request : Request) (pattern : Pattern) → IsRequest line request → request.form ≡ Literal → flags_ok (flags_of request.flags) ≡ true
-      → IsReadAs (input_of request) pattern → IsReply line (ok_reply (mode_asked (input_of request)) (spelling (bare pattern) (mode_asked (input_of request))))
-  err : (request : Request) (refusal : Diagnostic) → IsRequest line request → request.form ≡ Literal → ¬ IsValid request.text request.flags
-      → IsFirstRefusal (input_of request) refusal → IsReply line (err_reply refusal)
+  ok : (request : Request) (mode : Mode) (pattern : Pattern) → IsRequest line request → IsReadAs (input_of request) mode pattern
+      → IsReply line (ok_reply mode (spelling (bare pattern) mode))
+  err : (request : Request) (refusal : Diagnostic) → IsRequest line request → ¬ IsValid (input_of request) → IsFirstRefusal (input_of request) refusal
+      → IsReply line (err_reply refusal)
 
 -- a reply that says `ok`
 abbrev pub begins_ok : List ℕ → Bool

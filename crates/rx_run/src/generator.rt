@@ -80,7 +80,6 @@ fn spelling_size(alloc: Global, pattern: &Text) -> Result<usize, OutOfMemory>
     ) {
         Ok(it) => Ok(it.text.as_str().len()),
         Err(Fault::OutOfMemory) => Err(OutOfMemory),
-        Err(Fault::NotYet) => unreachable!(),
         Err(Fault::Diagnostic(_)) => unreachable!(),
     }
 }

@@ -41,7 +41,6 @@ impl Replies {
         match read_pattern(alloc, request.form, request.text, request.flags, options) {
             Ok((pattern, mode)) => self.add_ok(alloc, &pattern, mode),
             Err(Fault::Diagnostic(cause)) => self.add_err(&cause),
-            Err(Fault::NotYet) => self.add_refusal(b"later\n"),
             Err(Fault::OutOfMemory) => Err(OutOfMemory),
         }
     }

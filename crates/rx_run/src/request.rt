@@ -1,7 +1,7 @@
 ghost use Rattle.std.specs.Prelude.{◌≡◌, ◌≤◌, MatchOption, IfSome, length};
 ghost use Rattle.std.specs.Str.{chars};
 ghost use Rattle.rx_model.specs.declared.form.Form.{Form as Forms};
-ghost use Rattle.rx_parser.specs.Literals.{flags_chars, flags_length};
+ghost use Rattle.rx_parser.specs.Inputs.{flags_chars, flags_length};
 ghost use Rattle.rx_run.specs.Request.{IsRequest, form_field, flags_text};
 ghost use Rattle.rx_run.specs.Request.{Request as Asked};
 

@@ -55,8 +55,8 @@ err\tinvalid_unicode_flags\t1..2
 ok\tunicode\t(a)
 ok\tunicode\t(?:)
 ok\tunicode\t[a]
-later
-later
+err\tinvalid_input\t0..1
+err\tinvalid_input\t0..2
 ok\tlegacy\ta
 ok\tlegacy\ta
 ok\tsets\ta

@@ -1,23 +1,27 @@
 -- What is answered, by what the parser answers.
-use Rattle.std.proofs.Common.{◌≡◌, refl, sym, subst, ℕ, true, inl, inr, List, Result, Ok, Err, [], ◌∷◌, arith}
+use Rattle.std.proofs.Common.{◌≡◌, refl, sym, subst, ℕ, true, inl, inr, List, Option, Result, Ok, Err, [], ◌∷◌, arith}
 use Rattle.std.specs.Prelude.{◌<◌, ◌^◌, length, encode_utf8_all, IfOk}
+use Rattle.std.specs.Borrow.{Bor}
 use Rattle.std.specs.Str.{IsUtf8, chars}
 use Rattle.std.proofs.Math.Utf8.{scalar_cases}
 use Rattle.std.proofs.lemmas.Str.{scalars-chars}
 use lib.Utf8.{scalar, scalars}
 use Rattle.std.proofs.lemmas.Bool.{and_parts}
+use Rattle.rx_base.specs.declared.diagnostic.Diagnostic.{Diagnostic}
 use Rattle.rx_base.specs.declared.fault.Fault.{Fault}
 use Rattle.rx_base.specs.declared.fault.Fault.TheVariants as fault
 use Rattle.rx_ast.specs.declared.term.Pattern.{Pattern}
 use Rattle.rx_ast.specs.Forget.{bare}
 use Rattle.rx_model.specs.declared.form.Form.{Form}
-use Rattle.rx_model.specs.declared.form.Form.TheVariants.{Literal, Constructor}
 use Rattle.rx_model.specs.declared.mode.Mode.{Mode}
-use Rattle.rx_model.specs.Reading.Headline.{IsAnswered, IsFaultOf, IsParsed, IsSameAgain, Spelled, no_memory, refused}
-use Rattle.rx_model.specs.Inputs.Inputs.{Input, literal_alone, mode_asked}
+use Rattle.rx_model.specs.Reading.Headline.{IsAnswered, IsFaultOf, IsFirstRefusal, IsParsed, IsReadAs, IsSameAgain, Spelled, no_memory, refused}
+use Rattle.rx_model.specs.Inputs.Inputs.{AsksFor, Input, literal_alone}
 use Rattle.rx_model.specs.Spelling.Spelling.{spelling}
+use Rattle.rx_model.proofs.Inputs.Asked.{one_mode}
 use Rattle.rx_model.proofs.Spelling.Bounds.{AreCodePoints}
-use Rattle.rx_model.proofs.Spelling.SameAgain.{spelled_again, text_fits}
+use Rattle.rx_model.proofs.Spelling.SameAgain.{asked_fits, asked_some, spelled_again}
+use Rattle.rx_parser.specs.Inputs.{input_of}
+use Rattle.rx_parser.specs.declared.options.Options.{Options}
 use Rattle.rx_tools.specs.declared.outcome.Canonical.{Canonical}
 use Rattle.rx_tools.specs.Spelled.{read_of, spelled_of}
 
@@ -31,25 +35,33 @@ are_points (c ∷ cs) h =
 pub text_points : (bytes : List ℕ) → IsUtf8 bytes → AreCodePoints (chars bytes)
 text_points bytes utf8 = are_points (chars bytes) (scalars-chars bytes utf8)
 
--- What is answered to a literal is never "not yet".
-never_fault : (input : Input) (it : Fault) → IsFaultOf input it → it ≡ fault.NotYet → ⊥
-never_fault input _ no_memory e = cc e
-never_fault input _ (refused first) e = cc e
+-- A tree is read in the mode that is asked for,
+read_in : (input : Input) (mode other : Mode) (tree : Pattern) → AsksFor input mode → IsReadAs input other tree → IsReadAs input mode tree
+read_in input mode other tree asks read =
+    subst (λ m. IsReadAs input m tree) (one_mode input other mode read.asked.mode_asked asks) read
 
-pub never_later : {A : Type 0} (spelled : A → Spelled) (input : Input) → IsAnswered spelled input (Err fault.NotYet) → ⊥
-never_later spelled input answered = never_fault input fault.NotYet answered.parsed.refused refl
+-- which is the one that is answered.
+pub read_as : {A : Type 0} (spelled : A → Spelled) (input : Input) (it : A) → IsAnswered spelled input (Ok it) → IsReadAs input (spelled it).mode (spelled it).pattern
+read_as spelled input it answered =
+    let read = answered.parsed.read in read_in input (spelled it).mode read.0 (spelled it).pattern answered.mode_is read.1
 
--- So what is answered otherwise is a literal, and no literal is answered so.
-pub is_literal : {A : Type 0} (form : Form) (answer : Result A Fault) → (form ≡ Constructor → answer ≡ Err fault.NotYet) → (answer ≡ Err fault.NotYet → ⊥) → form ≡ Literal
-is_literal Literal answer later other = refl
-is_literal Constructor answer later other = absurd (other (later refl))
+-- A fault that is a refusal is the first.
+pub first_of : (input : Input) (refusal : Diagnostic) → IsFaultOf input (fault.Diagnostic refusal) → IsFirstRefusal input refusal
+first_of input refusal (refused first) = first
 
-pub is_constructor : {A : Type 0} (spelled : A → Spelled) (input : Input) → (input.form ≡ Literal → IsAnswered spelled input (Err fault.NotYet)) → input.form ≡ Constructor
-is_constructor spelled input answered = go input.form (λ literal. never_later spelled input (answered literal))
-  where
-    go : (form : Form) → (form ≡ Literal → ⊥) → form ≡ Constructor
-    go Literal other = absurd (other refl)
-    go Constructor other = refl
+-- an answer at offsets that are 0
+pub by_itself : {A : Type 0} (spelled : A → Spelled) (form : Form) (text : List ℕ) (flags : Option (List ℕ)) (answer : Result A Fault) (text_offset flags_offset : ℕ) → text_offset ≡ 0 → flags_offset ≡ 0
+    → IsAnswered spelled (record { form = form; text = text; flags = flags; text_offset = text_offset; flags_offset = flags_offset }) answer
+    → IsAnswered spelled (record { form = form; text = text; flags = flags; text_offset = 0; flags_offset = 0 }) answer
+by_itself spelled form text flags answer text_offset flags_offset text_is flags_is answered =
+    subst (λ n. IsAnswered spelled (record { form = form; text = text; flags = flags; text_offset = 0; flags_offset = n }) answer) flags_is
+    (subst (λ n. IsAnswered spelled (record { form = form; text = text; flags = flags; text_offset = n; flags_offset = flags_offset }) answer) text_is answered)
+
+-- the inputs of equal texts and options
+pub same_input : (given form : Form) (given_text text : Bor (List ℕ)) (given_flags flags : Option (Bor (List ℕ))) (given_options options : Options)
+    → form ≡ given → given_text ≡ text → given_flags ≡ flags → given_options ≡ options
+    → input_of given given_text.now given_flags given_options ≡ input_of form text.now flags options
+same_input given form given_text text given_flags flags given_options options form_is text_is flags_are options_are = cc
 
 module _ (input : Input) where
   pub memory_wants : IsAnswered spelled_of input (Err fault.OutOfMemory)
@@ -61,15 +73,15 @@ module _ (input : Input) where
   }
 
   -- what the parser answers, with the spelling that a tree has
-  pub with_spelling : AreCodePoints input.text → (answer : Result (Pattern × Mode) Fault) → IsParsed (λ it. it.0) input answer →
-      IfOk answer (λ it. it.1 ≡ mode_asked input) → IsAnswered read_of input answer
+  with_spelling : AreCodePoints input.text → (answer : Result (Pattern × Mode) Fault) → IsParsed (λ it. it.0) input answer →
+      IfOk answer (λ it. AsksFor input it.1) → IsAnswered read_of input answer
   with_spelling points (Ok it) parsed mode = record {
     parsed = parsed;
     mode_is = mode;
     text_is = refl;
-    again = λ _ answer again.
-        spelled_again input it.0 parsed.read (text_fits (mode_asked input) input.text points) answer
-        (subst (λ m. IsParsed (λ p. p) (literal_alone (spelling (bare it.0) m) m) answer) mode again);
+    again = λ _.
+        let read = read_in input it.1 parsed.read.0 it.0 mode parsed.read.1 in
+        spelled_again input it.1 it.0 read (asked_fits input it.1 read.units read.asked points) (asked_some input it.1 read.units read.asked);
   }
   with_spelling points (Err fault) parsed mode = record { parsed = parsed; mode_is = tt; text_is = tt; again = tt }
 
@@ -89,3 +101,9 @@ module _ (input : Input) where
     text_is = tt;
     again = tt;
   }
+
+-- what a parser answers that was given an equal input
+pub parser_answers : (given input : Input) → given ≡ input → AreCodePoints input.text → (answer : Result (Pattern × Mode) Fault) → IsParsed (λ it. it.0) given answer
+    → IfOk answer (λ it. AsksFor given it.1) → IsAnswered read_of input answer
+parser_answers given input e points answer parsed mode =
+    with_spelling input points answer (subst (λ i. IsParsed (λ (it : Pattern × Mode). it.0) i answer) e parsed) (subst (λ i. IfOk answer (λ (it : Pattern × Mode). AsksFor i it.1)) e mode)

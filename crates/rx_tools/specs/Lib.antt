@@ -4,5 +4,4 @@ pub mod Goes
 pub mod Leaves
 pub mod Spelled
 pub mod Tasks
-pub mod Texts
 pub mod Utf8

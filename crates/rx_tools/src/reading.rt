@@ -1,18 +1,18 @@
 ghost use Rattle.std.specs.Prelude.{◌≡◌, ◌+◌, ◌<◌, ◌^◌, max, length};
 ghost use Rattle.rx_model.specs.Reading.Headline.{IsAnswered};
-ghost use Rattle.rx_parser.specs.Literals.{flags_length, input_of};
+ghost use Rattle.rx_parser.specs.Inputs.{flags_length, input_of, stand_in_length};
 ghost use Rattle.rx_tools.specs.Spelled.{read_of, spelled_of};
-ghost use Rattle.rx_tools.specs.Texts.{stand_in_length};
 
 use crate::printing::canonical_text;
 use crate::{Canonical, Options};
 use rx_ast::Pattern;
 use rx_base::Fault;
 use rx_model::{Form, Mode};
-use rx_parser::LiteralParser;
+use rx_parser::{ConstructorParser, LiteralParser};
 use std::alloc::Global;
 
-/// Reads a pattern to its tree, and says in which mode it was read. The flags text is absent where there are no flags.
+/// Reads a pattern to its tree, and says in which mode it was read. The flags text is absent where there are no flags; in the form of a constructor both
+/// texts have their quotes.
 pub fn read_pattern(
     alloc: Global,
     form: Form,
@@ -23,22 +23,21 @@ pub fn read_pattern(
     requires pattern { options.pattern_span_offset + max (length pattern_text.now) (stand_in_length form) < 2 ^ 32 }
     requires flags { options.flags_span_offset + flags_length flags_text < 2 ^ 32 }
 
-    // Of a literal, be its flags right or wrong: Ok on valid input and on no other, with the only tree, spans aside, that reads in the mode that the flags
-    // ask for, and with that mode; else the first refusal, or out of memory. The spelling of the tree is read back.
-    ensures headline { form ≡ Form.Literal → IsAnswered read_of (input_of form pattern_text.now flags_text.entry options) result }
-
-    // The argument of `RegExp` is not read yet.
-    ensures not_yet { form ≡ Form.Constructor → result ≡ Err Fault.NotYet }
+    // Be the flags right or wrong: Ok on valid input and on no other, with the only tree, spans aside, that reads in the mode that the flags ask for, and
+    // with that mode; else the first refusal, or out of memory. The spelling of the tree is read back.
+    ensures headline { IsAnswered read_of (input_of form pattern_text.now flags_text.entry options) result }
 {
     match form {
         Form::Literal => {
             LiteralParser::new(alloc, pattern_text, flags_text, options).parse_with_mode()
         }
-        Form::Constructor => Err(Fault::NotYet),
+        Form::Constructor => {
+            ConstructorParser::new(alloc, pattern_text, flags_text, options).parse_with_mode()
+        }
     }
 }
 
-/// Reads a pattern and spells it canonically. The flags text is absent where there are no flags.
+/// Reads a pattern and spells it canonically. The flags text is absent where there are no flags; in the form of a constructor both texts have their quotes.
 pub fn canonical(
     alloc: Global,
     form: Form,
@@ -49,12 +48,8 @@ pub fn canonical(
     requires pattern { options.pattern_span_offset + max (length pattern_text.now) (stand_in_length form) < 2 ^ 32 }
     requires flags { options.flags_span_offset + flags_length flags_text < 2 ^ 32 }
 
-    // Of a literal, be its flags right or wrong: Ok on valid input and on no other, with the only tree and its canonical spelling; else the first refusal, or
-    // out of memory.
-    ensures headline { form ≡ Form.Literal → IsAnswered spelled_of (input_of form pattern_text.now flags_text.entry options) result }
-
-    // The argument of `RegExp` is not read yet.
-    ensures not_yet { form ≡ Form.Constructor → result ≡ Err Fault.NotYet }
+    // Be the flags right or wrong: Ok on valid input and on no other, with the only tree and its canonical spelling; else the first refusal, or out of memory.
+    ensures headline { IsAnswered spelled_of (input_of form pattern_text.now flags_text.entry options) result }
 {
     let (pattern, mode) = match read_pattern(alloc, form, pattern_text, flags_text, options) {
         Ok(read) => read,

@@ -1,4 +1,7 @@
 pub mod Units
 pub mod Characters
 pub mod Cursor
+pub mod Digits
 pub mod Bytes
+pub mod Quoted
+pub mod Sources

@@ -1,14 +1,22 @@
-//! The units of a text, and a reader over them.
+//! The units of a text, a literal's or a quoted one's, and a reader over them.
 #![tactic(auto)]
 
 mod characters;
 mod code_point;
+pub mod laws;
 mod literal;
+mod options;
+pub mod quoted_text;
 mod reader;
+mod reader_fault;
+pub mod string_literal_parser;
+pub mod template_literal_parser;
 
 pub use characters::{
     CR, LF, LS, PS, is_line_terminator, is_non_escape_character, is_single_escape_character,
 };
 pub use code_point::{CodePoint, EscapeKind};
 pub use literal::{handle_code_point, parse_regexp_literal};
-pub use reader::{Reader, ReaderFault};
+pub use options::Options;
+pub use reader::Reader;
+pub use reader_fault::ReaderFault;

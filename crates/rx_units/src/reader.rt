@@ -1,30 +1,20 @@
-ghost use Rattle.std.specs.Prelude.{◌≡◌, ℕ, ◌∷◌, [], ◌<◌, ◌≤◌, ◌^◌, ◌↔◌, length, IfOk, IsFalse, IsTrue, All, Any, if◌then◌else◌, slice_range};
-ghost use Rattle.std.specs.Str.{chars};
-ghost use Rattle.rx_units.specs.Cursor.{IsOffset, begins, front, front_kind, moved, offset_of, rest, second};
+ghost use Rattle.std.specs.Prelude.{◌≡◌, ℕ, ◌∷◌, [], ◌<◌, ◌≤◌, ◌^◌, ◌↔◌, length, IfErr, IfOk, IsFalse, IsTrue, All, Any, List, MatchResult, ◌⊎◌, if◌then◌else◌, slice_range};
+ghost use Rattle.std.specs.Str.{IsCharBoundary, chars};
+ghost use Rattle.rx_units.specs.Cursor.{AreEnds, IsOffset, begins, front, front_kind, moved, offset_of, rest, second};
+ghost use Rattle.rx_units.specs.declared.code_point.CodePoint.{CodePoint as UnitValue};
+ghost use Rattle.rx_units.specs.declared.reader_fault.ReaderFault.{ReaderFault as FaultValue};
+ghost use Rattle.rx_units.specs.Quoted.Faults.{is_grave_accent};
+ghost use Rattle.rx_units.specs.Sources.{Decodes, IsQuotedFault};
 ghost use Rattle.rx_units.specs.Units.{literal_units, offset_at};
+ghost use Rattle.rx_units.specs.Digits.{front_is};
 
-use crate::{CodePoint, EscapeKind, parse_regexp_literal};
+use crate::{
+    CodePoint, EscapeKind, Options, ReaderFault, parse_regexp_literal, string_literal_parser,
+    template_literal_parser,
+};
 use rx_base::{List, OutOfMemory, Text};
 use std::alloc::Global;
 use std::marker::Model;
-
-/// Why a source text was not read.
-#[derive(Clone, Copy, Debug, PartialEq, Eq)]
-pub enum ReaderFault {
-    /// There was not enough memory.
-    OutOfMemory,
-}
-
-impl From<OutOfMemory> for ReaderFault {
-    ghost use Rattle.std.specs.Prelude.{◌≡◌};
-    ghost use Rattle.rx_units.specs.declared.reader.ReaderFault.TheVariants as fault;
-
-    ghost from_gives = { λ _ e. e ≡ fault.OutOfMemory };
-
-    fn from(_: OutOfMemory) -> ReaderFault {
-        ReaderFault::OutOfMemory
-    }
-}
 
 /// The units of a source text, and a place between them. A checkpoint is a place and its offset in bytes.
 #[derive(Drop)]
@@ -47,30 +37,55 @@ impl<'a> Model for Reader<'a> {
 }
 
 impl<'a> Reader<'a> {
-    /// Reads the text of a literal: by code points in unicode mode, else by code units.
+    /// Reads the text of a literal, or one in quotes: a template where it begins with a grave accent, else a string. In unicode mode the units are code
+    /// points; else a character past FFFF is two UTF-16 code units.
     pub fn initialize(
         alloc: Global,
         source_text: &'a str,
         unicode_mode: bool,
         parse_string_or_template_literal: bool,
     ) -> Result<Reader<'a>, ReaderFault>
-        requires size { length source_text.now < 2 ^ 32 }
-        requires literal { IsFalse parse_string_or_template_literal }
-        ensures { IfOk result (λ reader. reader ≡ record {
-          units = literal_units unicode_mode 0 (chars source_text.now);
-          place = 0;
-          first = 0;
-          text = source_text.now;
-        }) }
+        requires { length source_text.now < 2 ^ 32 }
+
+        // A literal is read, or memory ran out.
+        ensures literal { IsFalse parse_string_or_template_literal → MatchResult result
+            (λ reader. reader ≡ record { units = literal_units unicode_mode 0 (chars source_text.now); place = 0; first = 0; text = source_text.now })
+            (λ fault. fault ≡ ReaderFault.OutOfMemory) }
+
+        // A text in quotes is read as what it is decoded to, from behind its quote on; else it is refused for its fault, or memory ran out.
+        ensures quoted { IsTrue parse_string_or_template_literal → MatchResult result
+            (λ reader. Decodes unicode_mode (chars source_text.now) reader.units × (reader.place ≡ 0) × (reader.first ≡ 1) × (reader.text ≡ source_text.now))
+            (λ fault. (fault ≡ ReaderFault.OutOfMemory) ⊎ IsQuotedFault unicode_mode (chars source_text.now) fault) }
+        ensures decodes { IsTrue parse_string_or_template_literal → (units : List UnitValue) → Decodes unicode_mode (chars source_text.now) units →
+            IfErr result (λ fault. fault ≡ ReaderFault.OutOfMemory) }
+        ensures refuses { IsTrue parse_string_or_template_literal → (f : FaultValue) → IsQuotedFault unicode_mode (chars source_text.now) f →
+            MatchResult result (λ reader. ⊥) (λ fault. (fault ≡ ReaderFault.OutOfMemory) ⊎ (fault ≡ f)) }
+
+        // No unit ends behind the text.
+        ensures within { IfOk result (λ reader. All (λ unit. unit.span.end ≤ length source_text.now) reader.units) }
     {
+        if parse_string_or_template_literal {
+            let units = quoted_units(alloc, source_text, unicode_mode)?;
+            return Ok(Reader::at_start(source_text, units, 1));
+        }
         let units = parse_regexp_literal(alloc, source_text, 0, unicode_mode)?;
-        Ok(Reader {
+        Ok(Reader::at_start(source_text, units, 0))
+    }
+
+    /// A reader before the first of some units, whose offset is `first`.
+    fn at_start(source_text: &'a str, units: List<CodePoint>, first: u32) -> Reader<'a>
+        requires start { IsCharBoundary source_text.now first }
+        requires ends { AreEnds source_text.now first units }
+        requires code_points { All (λ unit. unit.value ≤ 0x10FFFF) units }
+        ensures { result ≡ record { units = units; place = 0; first = first; text = source_text.now } }
+    {
+        Reader {
             source_text,
             units,
             index: 0,
-            offset: 0,
-            first: 0,
-        })
+            offset: first,
+            first,
+        }
     }
 
     /// The offset at the place, in bytes. No place before has a larger one.
@@ -256,4 +271,37 @@ impl<'a> Reader<'a> {
         let part = &self.source_text[start as usize..end as usize];
         Text::from_str(alloc, part)
     }
+}
+
+/// The units of a text in quotes, a template where it begins with a grave accent, else a string.
+fn quoted_units(
+    alloc: Global,
+    source_text: &str,
+    joined: bool,
+) -> Result<List<CodePoint>, ReaderFault>
+    requires { length source_text.now < 2 ^ 32 }
+    ensures ok { IfOk result (Decodes joined (chars source_text.now)) }
+    ensures err { IfErr result (λ fault. (fault ≡ ReaderFault.OutOfMemory) ⊎ IsQuotedFault joined (chars source_text.now) fault) }
+    ensures decodes { (units : List UnitValue) → Decodes joined (chars source_text.now) units → IfErr result (λ fault. fault ≡ ReaderFault.OutOfMemory) }
+    ensures refuses { (f : FaultValue) → IsQuotedFault joined (chars source_text.now) f → MatchResult result (λ units. ⊥) (λ fault. (fault ≡ ReaderFault.OutOfMemory) ⊎ (fault ≡ f)) }
+{
+    let options = Options {
+        strict_mode: false,
+        span_offset: 0,
+        combine_surrogate_pair: joined,
+    };
+    if is_template(source_text) {
+        let template = template_literal_parser::Parser::new(alloc, source_text, options)?;
+        Ok(template.parse()?.body)
+    } else {
+        let string = string_literal_parser::Parser::new(alloc, source_text, options)?;
+        Ok(string.parse()?.body)
+    }
+}
+
+/// Whether a text in quotes is a template: one that begins with a grave accent.
+fn is_template(source_text: &str) -> bool
+    ensures { result ≡ front_is is_grave_accent (chars source_text.now) }
+{
+    source_text.starts_with('`')
 }

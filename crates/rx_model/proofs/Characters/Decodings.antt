@@ -8,7 +8,8 @@ use Rattle.rx_base.specs.SurrogatePair.{IsLeadSurrogate, surrogate_pair}
 use Rattle.rx_tables.specs.Characters.{hex_digit_value, is_within}
 use Rattle.rx_units.specs.declared.code_point.CodePoint.{CodePoint}
 use Rattle.rx_units.specs.Units.{values}
-use Rattle.rx_model.specs.Characters.UnicodeEscapes.{hex_behind, hex_number, four, BeginsWithTrail, SpellsUnicode, code_unit, alone, pair, braced, PassesHex, Decodes}
+use Rattle.rx_units.specs.Digits.{hex_behind, hex_number}
+use Rattle.rx_model.specs.Characters.UnicodeEscapes.{four, BeginsWithTrail, SpellsUnicode, code_unit, alone, pair, braced, PassesHex, Decodes}
 use Rattle.rx_model.specs.Characters.Decoding.{value, overflow, is_lead, is_trail, four_at, trail_at, run_step, run_at, braces_at, joined_at, behind_u, decoded}
 
 -- which way a choice went

@@ -5,12 +5,13 @@ use Rattle.std.proofs.lemmas.Bool.Decides.{nat_tests}
 use Rattle.std.proofs.lemmas.Option.{option_and_then_some}
 use Rattle.rx_tables.specs.Characters.{control_escape_value, control_letter_value, hex_digit_value, is_decimal_digit}
 use Rattle.rx_ast.specs.declared.leaf.CharacterKind.{CharacterKind}
+use Rattle.rx_units.specs.Digits.{front_is, hex_number}
 use Rattle.rx_ast.specs.declared.leaf.CharacterKind.TheVariants as kinds
 use Rattle.rx_model.specs.Characters.Decoding.{Decoded, value, invalid, overflow, decoded}
 use Rattle.rx_model.specs.Inputs.Environment.{Environment, is_unicode}
-use Rattle.rx_model.specs.Characters.Escapes.{front_is, is_identity_escape, SpellsEscape, control, letter, null, hexadecimal, unicode, identity}
+use Rattle.rx_model.specs.Characters.Escapes.{is_identity_escape, SpellsEscape, control, letter, null, hexadecimal, unicode, identity}
 use Rattle.rx_model.specs.Reading.Fronts.{EscapeRead, escaped, nothing, too_many, no_unicode, escaped_if, unicode_read, letter_at, two_at, escape_behind, escape_at}
-use Rattle.rx_model.specs.Characters.UnicodeEscapes.{hex_number, SpellsUnicode, code_unit, alone, pair, braced, PassesHex, Decodes}
+use Rattle.rx_model.specs.Characters.UnicodeEscapes.{SpellsUnicode, code_unit, alone, pair, braced, PassesHex, Decodes}
 use Rattle.rx_model.proofs.Characters.Decodings.{chosen, both, spelled_read, read_spelled, read_overflow, overflow_read, value_law, value_is_code_point, decoded_some}
 
 -- no row above that of identity escapes begins with the character

@@ -5,14 +5,14 @@ use Rattle.std.proofs.lemmas.Bool.Decides.{nat_tests}
 use Rattle.std.proofs.lemmas.List.Elements.{All-head}
 use Rattle.rx_tables.specs.Characters.{control_escape_value, control_letter_value, is_decimal_digit, is_octal_digit, is_within}
 use Rattle.rx_ast.specs.declared.leaf.CharacterKind.{CharacterKind}
+use Rattle.rx_units.specs.Digits.{front_is, octal, hex_number}
 use Rattle.rx_ast.specs.declared.leaf.CharacterKind.TheVariants as kinds
 use Rattle.rx_model.specs.Characters.Decoding.{four_at, behind_u}
 use Rattle.rx_model.specs.Inputs.Environment.{Environment, is_unicode}
-use Rattle.rx_model.specs.Characters.Escapes.{front_is, SpellsEscape}
+use Rattle.rx_model.specs.Characters.Escapes.{SpellsEscape}
 use Rattle.rx_model.specs.Characters.EscapeFronts.{EscapeRead, escaped, nothing, too_many, no_unicode, escaped_if, unicode_read, two_at, escape_behind, escape_at, control_behind, octal_at, digit_at, legacy_at, or_legacy, any_escape_at, class_escape_at}
-use Rattle.rx_model.specs.Characters.LegacyEscapes.{is_free, two_next, four_next, is_class_control, is_control, octal, IsIdentity, SpellsLegacy, lone, class_control, octal_zero, octal1, octal2_low, octal2_high, octal3, identity}
+use Rattle.rx_model.specs.Characters.LegacyEscapes.{is_free, two_next, four_next, is_class_control, is_control, IsIdentity, SpellsLegacy, lone, class_control, octal_zero, octal1, octal2_low, octal2_high, octal3, identity}
 use Rattle.rx_model.specs.Refusals.Stops.{is_one_of}
-use Rattle.rx_model.specs.Characters.UnicodeEscapes.{hex_number}
 use Rattle.rx_model.proofs.Characters.Decodings.{chosen, both}
 use Rattle.rx_model.proofs.Characters.Escapes.{EscapeFront, escape_no_limit, escape_spelled, spelled_escape, spelled_small}
 

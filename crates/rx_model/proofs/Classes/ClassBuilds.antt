@@ -209,7 +209,7 @@ level_is : (s : Span) (negative may : Bool) (kind : CharacterClassContentsKind) 
     class_of_level (level_of negative held (forget_members same_kind ms)) ≡ forget_class same_kind (class s negative may kind ms)
 level_is s negative may kind ms held k flag =
     let plain = forget_members same_kind ms in
-    ap (λ kind. class nowhere negative (may_contain_strings kind plain) kind plain) k ∙ ap (λ may. class nowhere negative may kind plain) (may_forget kind ms ∙ sym flag)
+    ap (λ kind. class nowhere negative (may_contain_strings kind plain) kind plain) k ∙ ap (λ may. class nowhere negative may kind plain) (may_forget same_kind kind ms ∙ sym flag)
 
 -- the tokens of a class from behind its bracket on
 class_rest : (s : Span) (negative may : Bool) (kind : CharacterClassContentsKind) (ms : Members) (outer : List Level) → AllBuild ms → FitsKind kind ms → may ≡ may_contain_strings kind ms → (ss : List ClassToken) →
@@ -228,7 +228,7 @@ class_rest s negative may kind ms outer all fits flag ss =
 -- class strings as a member
 strings_member_is : (d : ClassStringDisjunction) → d.strings ≡ list_any (λ s. s.strings) d.body → strings_member (map plain_string d.body) ≡ forget_member same_kind (tree.strings d)
 strings_member_is d flag =
-    ap (λ b. tree.strings (record { span = nowhere; strings = b; body = map plain_string d.body })) (unspanned.some_strings d.body ∙ sym flag)
+    ap (λ b. tree.strings (record { span = nowhere; strings = b; body = map plain_string d.body })) (unspanned.some_strings same_kind d.body ∙ sym flag)
 
 strings_member_builds : (d : ClassStringDisjunction) (s : ClassString) (more : List ClassString) → d.body ≡ s ∷ more → IsFlaggedMember (tree.strings d) → Builds (tree.strings d)
 strings_member_builds d s more is flags negative held old outer after e ss =

@@ -6,15 +6,16 @@ use Rattle.rx_tables.specs.Characters.{is_decimal_digit, control_escape_value}
 use Rattle.rx_ast.specs.declared.leaf.CharacterKind.{CharacterKind}
 use Rattle.rx_units.specs.declared.code_point.CodePoint.{CodePoint}
 use Rattle.rx_units.specs.Units.{values}
+use Rattle.rx_units.specs.Digits.{front_is, is_hex_digit}
 use Rattle.rx_model.specs.declared.mode.Mode.{Mode}
 use Rattle.rx_model.specs.declared.mode.Mode.TheVariants.{Legacy, Unicode, Sets}
 use Rattle.rx_model.specs.Classes.ClassFronts.{no_atom, atom_at, character_atom, escape_in_class}
 use Rattle.rx_model.specs.Inputs.Environment.{Environment, is_sets, is_unicode}
 use Rattle.rx_model.specs.Characters.EscapeFronts.{EscapeRead, escaped, nothing, too_many, no_unicode, escape_at, class_escape_at}
-use Rattle.rx_model.specs.Characters.Escapes.{front_is, is_identity_escape, SpellsEscape, control, letter, null, hexadecimal, unicode, identity}
+use Rattle.rx_model.specs.Characters.Escapes.{is_identity_escape, SpellsEscape, control, letter, null, hexadecimal, unicode, identity}
 use Rattle.rx_model.specs.Properties.PropertyForms.{begins_property}
 use Rattle.rx_model.specs.Refusals.Reached.{text_environment}
-use Rattle.rx_model.specs.Refusals.Stops.{begins_class_escape, is_hex_digit, is_letter, is_one_of, two_hex_digits}
+use Rattle.rx_model.specs.Refusals.Stops.{begins_class_escape, is_letter, is_one_of, two_hex_digits}
 use Rattle.rx_model.proofs.Classes.ClassFronts.{at_backslash}
 use Rattle.rx_model.proofs.Characters.Escapes.{begins_with_u, escape_spelled}
 use Rattle.rx_model.proofs.Characters.LegacyEscapes.{any_in_unicode}

@@ -6,6 +6,7 @@ use Rattle.std.proofs.lemmas.List.{append-nil, length-map}
 use Rattle.std.proofs.lemmas.List.Elements.{All-cons, All-head, All-map, All-nil, All-tail}
 use Rattle.rx_base.specs.declared.span.Span.{Span}
 use Rattle.rx_ast.specs.declared.leaf.Character.{Character}
+use Rattle.rx_ast.specs.declared.leaf.CharacterKind.{CharacterKind}
 use Rattle.rx_ast.specs.declared.class.CharacterClassContentsKind.{CharacterClassContentsKind}
 use Rattle.rx_ast.specs.declared.class.CharacterClassContentsKind.TheVariants.{Union, Intersection, Subtraction}
 use Rattle.rx_ast.specs.declared.class.ClassString.{ClassString}
@@ -87,33 +88,38 @@ mutual
       (both_tokens (member_events (forget_member same_kind m)) (more_members_events operator (forget_members same_kind ms)) (member_events m) (more_members_events operator ms)
       (member_forget m) (more_forget operator ms))
 
--- MayContainStrings does not depend on spans.
-member_may : (m : Member) → member_strings (forget_member same_kind m) ≡ member_strings m
-member_may (tree.range r) = refl
-member_may (tree.escape e) = refl
-member_may (tree.property p) = refl
-member_may (tree.character c) = refl
-member_may (tree.nested (class s negative may kind ms)) = refl
-member_may (tree.strings d) = refl
+-- MayContainStrings depends neither on spans nor on the kinds of characters.
+module _ (kept : CharacterKind → CharacterKind) where
+  member_may : (m : Member) → member_strings (forget_member kept m) ≡ member_strings m
+  member_may (tree.range r) = refl
+  member_may (tree.escape e) = refl
+  member_may (tree.property p) = refl
+  member_may (tree.character c) = refl
+  member_may (tree.nested (class s negative may kind ms)) = refl
+  member_may (tree.strings d) = refl
 
-any_may : (ms : Members) → any_strings (forget_members same_kind ms) ≡ any_strings ms
-any_may no_member = refl
-any_may (member m ms) = ap₂ (λ a b. a || b) (member_may m) (any_may ms)
+  any_may : (ms : Members) → any_strings (forget_members kept ms) ≡ any_strings ms
+  any_may no_member = refl
+  any_may (member m ms) = ap₂ (λ a b. a || b) (member_may m) (any_may ms)
 
-all_may : (ms : Members) → all_strings (forget_members same_kind ms) ≡ all_strings ms
-all_may no_member = refl
-all_may (member m ms) = ap₂ (λ a b. a && b) (member_may m) (all_may ms)
+  all_may : (ms : Members) → all_strings (forget_members kept ms) ≡ all_strings ms
+  all_may no_member = refl
+  all_may (member m ms) = ap₂ (λ a b. a && b) (member_may m) (all_may ms)
 
-first_may : (ms : Members) → first_strings (forget_members same_kind ms) ≡ first_strings ms
-first_may no_member = refl
-first_may (member m ms) = member_may m
+  first_may : (ms : Members) → first_strings (forget_members kept ms) ≡ first_strings ms
+  first_may no_member = refl
+  first_may (member m ms) = member_may m
 
-pub may_forget : (kind : CharacterClassContentsKind) (ms : Members) → may_contain_strings kind (forget_members same_kind ms) ≡ may_contain_strings kind ms
-may_forget Union ms = any_may ms
-may_forget Intersection ms = all_may ms
-may_forget Subtraction ms = first_may ms
+  pub may_forget : (kind : CharacterClassContentsKind) (ms : Members) → may_contain_strings kind (forget_members kept ms) ≡ may_contain_strings kind ms
+  may_forget Union ms = any_may ms
+  may_forget Intersection ms = all_may ms
+  may_forget Subtraction ms = first_may ms
 
--- Nor do the early errors.
+  pub some_strings : (ss : List ClassString) → list_any (λ s. s.strings) (map (forget_string kept) ss) ≡ list_any (λ s. s.strings) ss
+  some_strings [] = refl
+  some_strings (s ∷ ss) = ap (λ b. s.strings || b) (some_strings ss)
+
+-- Nor do the early errors depend on spans.
 early_string : (s : ClassString) → IsEarlyString s → IsEarlyString (forget_string same_kind s)
 early_string s h =
     (h.0 ∙ ap (λ n. not (n == 1)) (sym (length-map s.body (forget_character same_kind))), All-map (λ (c : Character). IsCodePoint c.value) (forget_character same_kind) s.body h.1)
@@ -123,10 +129,6 @@ early_each [] h = All-nil IsEarlyString
 early_each (s ∷ ss) h =
     All-cons IsEarlyString (forget_string same_kind s) (map (forget_string same_kind) ss) (early_string s (All-head IsEarlyString s ss h)) (early_each ss (All-tail IsEarlyString s ss h))
 
-pub some_strings : (ss : List ClassString) → list_any (λ s. s.strings) (map (forget_string same_kind) ss) ≡ list_any (λ s. s.strings) ss
-some_strings [] = refl
-some_strings (s ∷ ss) = ap (λ b. s.strings || b) (some_strings ss)
-
 mutual
   early_member : (m : Member) → IsEarlyMember m → IsEarlyMember (forget_member same_kind m)
   early_member (tree.range r) h = h
@@ -134,14 +136,14 @@ mutual
   early_member (tree.property p) h = h
   early_member (tree.character c) h = h
   early_member (tree.nested c) h = early_forget c h
-  early_member (tree.strings d) h = (h.0 ∙ sym (some_strings d.body), early_each d.body h.1)
+  early_member (tree.strings d) h = (h.0 ∙ sym (some_strings same_kind d.body), early_each d.body h.1)
 
   early_members : (ms : Members) → AreEarlyMembers ms → AreEarlyMembers (forget_members same_kind ms)
   early_members no_member h = h
   early_members (member m ms) h = (early_member m h.0, early_members ms h.1)
 
   pub early_forget : (c : Class) → IsEarlyClass c → IsEarlyClass (forget_class same_kind c)
-  early_forget (class s negative may kind ms) h = (h.0 ∙ sym (may_forget kind ms), h.1, early_members ms h.2)
+  early_forget (class s negative may kind ms) h = (h.0 ∙ sym (may_forget same_kind kind ms), h.1, early_members ms h.2)
 
 -- Nor does what a class owes to the grammar.
 operand_forget : (m : Member) → IsOperand m → IsOperand (forget_member same_kind m)
@@ -201,14 +203,14 @@ mutual
   flagged_member (tree.property p) h = h
   flagged_member (tree.character c) h = h
   flagged_member (tree.nested c) h = flagged_forget c h
-  flagged_member (tree.strings d) h = (h.0 ∙ sym (some_strings d.body), flagged_each d.body h.1)
+  flagged_member (tree.strings d) h = (h.0 ∙ sym (some_strings same_kind d.body), flagged_each d.body h.1)
 
   flagged_members : (ms : Members) → AreFlagged ms → AreFlagged (forget_members same_kind ms)
   flagged_members no_member h = h
   flagged_members (member m ms) h = (flagged_member m h.0, flagged_members ms h.1)
 
   flagged_forget : (c : Class) → IsFlagged c → IsFlagged (forget_class same_kind c)
-  flagged_forget (class s negative may kind ms) h = (h.0 ∙ sym (may_forget kind ms), flagged_members ms h.1)
+  flagged_forget (class s negative may kind ms) h = (h.0 ∙ sym (may_forget same_kind kind ms), flagged_members ms h.1)
 
 pub shape_forget : (c : Class) → IsClassShape c → IsClassShape (forget_class same_kind c)
 shape_forget c h = (fitting_forget c h.0, flagged_forget c h.1)

@@ -18,6 +18,7 @@ use Rattle.rx_ast.specs.ClassTree as tree
 use Rattle.rx_ast.specs.ClassTree.{Member, Members, Class, no_member, member, class}
 use Rattle.rx_units.specs.declared.code_point.CodePoint.{CodePoint}
 use Rattle.rx_units.specs.Units.{values}
+use Rattle.rx_units.specs.Digits.{front_is, hex_behind}
 use Rattle.rx_model.specs.declared.mode.Mode.{Mode}
 use Rattle.rx_model.specs.declared.mode.Mode.TheVariants.{Legacy, Unicode, Sets}
 use Rattle.rx_model.specs.Classes.ClassRows.{stands_raw_in_class, SpellsInClassAlone, SpellsClassCharacter, SpellsAtom, SpellsBracket, SpellsInClass, ClassTokenRow, IsClass, Place, outside, fresh, at_dash, at_high, at_second, at_third, behind_meet, behind_less, in_strings, behind, behind_item, has_threes, is_dashed}
@@ -26,13 +27,13 @@ use Rattle.rx_model.specs.Spelling.ClassText.{class_escape_text, property_opener
 use Rattle.rx_model.specs.Classes.ClassTokens.{Atom, character, escape, property, ClassToken, bracket, closer, item, low, dash, high, meet, less, strings, letter, string_bar, strings_end, ClassEvents, enter, leave, token, class_tokens, class_tokens_of, within, letters_events, string_events, barred_strings_events, strings_events, range_events, operator_events, member_events, class_events, members_events, more_members_events}
 use Rattle.rx_model.specs.Inputs.Environment.{Environment, is_sets, is_unicode}
 use Rattle.rx_model.specs.Characters.Escapes as escapes
-use Rattle.rx_model.specs.Characters.Escapes.{SpellsEscape, control, null, hexadecimal, unicode, identity, front_is}
+use Rattle.rx_model.specs.Characters.Escapes.{SpellsEscape, control, null, hexadecimal, unicode, identity}
 use Rattle.rx_model.specs.Characters.LegacyEscapes as legacy
 use Rattle.rx_model.specs.Characters.LegacyEscapes.{SpellsLegacy, is_class_control}
 use Rattle.rx_model.specs.FirstPass.Marks.{other, class_rest, mark_front, marks, marks_behind}
 use Rattle.rx_model.specs.FirstPass.MarkTexts.{is_class_mark}
 use Rattle.rx_model.specs.Properties.PropertyEscapes.{IsProperty}
-use Rattle.rx_model.specs.Characters.UnicodeEscapes.{hex_behind, SpellsUnicode, code_unit, alone, pair, braced}
+use Rattle.rx_model.specs.Characters.UnicodeEscapes.{SpellsUnicode, code_unit, alone, pair, braced}
 use Rattle.rx_model.proofs.Characters.Decodings.{both}
 use Rattle.rx_model.proofs.FirstPass.ClassRest.{escaped_rest, inside_begins, inside_ends, unit_rest}
 use Rattle.rx_model.proofs.FirstPass.OpenerMarks.{marks_after}

@@ -13,6 +13,7 @@ use Rattle.rx_ast.specs.declared.leaf.LookAroundAssertionKind.{LookAroundAsserti
 use Rattle.rx_ast.specs.declared.leaf.LookAroundAssertionKind.TheVariants.{Lookahead, NegativeLookahead, Lookbehind, NegativeLookbehind}
 use Rattle.rx_units.specs.declared.code_point.CodePoint.{CodePoint}
 use Rattle.rx_units.specs.Units.{values}
+use Rattle.rx_units.specs.Digits.{front_is}
 use Rattle.rx_model.specs.declared.mode.Mode.{Mode}
 use Rattle.rx_model.specs.declared.mode.Mode.TheVariants.{Legacy, Unicode, Sets}
 use Rattle.rx_model.specs.Reading.Boundaries.{boundary_text}
@@ -20,7 +21,7 @@ use Rattle.rx_model.specs.Classes.ClassRows.{IsClass}
 use Rattle.rx_model.specs.Spelling.ClassText.{class_escape_text, property_opener}
 use Rattle.rx_model.specs.FirstPass.Cuts.{AreMarksOf, AreOthers, IsCut, IsOpening}
 use Rattle.rx_model.specs.Inputs.Environment.{Environment, is_unicode}
-use Rattle.rx_model.specs.Characters.Escapes.{front_is, SpellsEscape, control, letter, null, hexadecimal, unicode, identity}
+use Rattle.rx_model.specs.Characters.Escapes.{SpellsEscape, control, letter, null, hexadecimal, unicode, identity}
 use Rattle.rx_model.specs.Groups.Groups.{IsIndexed, IsModified, IsNamed, IsNaming, SpellsOpener}
 use Rattle.rx_model.specs.Characters.LegacyEscapes as legacy
 use Rattle.rx_model.specs.Characters.LegacyEscapes.{SpellsLegacy, lone, class_control, octal_zero, octal1, octal2_low, octal2_high, octal3, is_class_control}

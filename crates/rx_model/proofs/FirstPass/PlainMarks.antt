@@ -5,13 +5,14 @@ use Rattle.std.proofs.lemmas.Bool.Decides.{nat_tests}
 use Rattle.std.proofs.lemmas.List.Elements.{All-nil, All-cons, All-append}
 use Rattle.std.proofs.lemmas.Option.{option_and_then_some}
 use Rattle.rx_tables.specs.Characters.{hex_digit_value}
+use Rattle.rx_units.specs.Digits.{hex_behind}
 use Rattle.rx_model.specs.declared.mode.Mode.{Mode}
 use Rattle.rx_model.specs.FirstPass.Cuts.{AreOthers}
 use Rattle.rx_model.specs.Groups.GroupNames.{is_in_name, SpellsNameCharacter, one_unit, by_escape, raw_pair, SpellsNameParts, no_part, part, SpellsName, whole_name}
 use Rattle.rx_model.specs.FirstPass.Marks.{Mark, other, mark_front, marks, marks_behind}
 use Rattle.rx_model.specs.Inputs.Environment.{is_unicode}
 use Rattle.rx_model.specs.Quantifiers.Quantifiers.{decimal_digit_value, decimal_behind, AreDigits, SpellsBraces, exactly, at_least, between, SpellsCounts, star, plus, optional, braces, lazy_mark}
-use Rattle.rx_model.specs.Characters.UnicodeEscapes.{hex_behind, SpellsUnicode, code_unit, alone, pair, braced}
+use Rattle.rx_model.specs.Characters.UnicodeEscapes.{SpellsUnicode, code_unit, alone, pair, braced}
 use Rattle.rx_model.proofs.Characters.Decodings.{both}
 
 -- no unit that begins an escape or a class, opens or closes a group, or is a bar

@@ -8,8 +8,8 @@ use Rattle.rx_ast.specs.declared.leaf.LookAroundAssertionKind.{LookAroundAsserti
 use Rattle.rx_ast.specs.declared.leaf.LookAroundAssertionKind.TheVariants as look
 use Rattle.rx_units.specs.declared.code_point.CodePoint.{CodePoint}
 use Rattle.rx_units.specs.Units.{values}
+use Rattle.rx_units.specs.Digits.{front_is}
 use Rattle.rx_model.specs.Inputs.Environment.{Environment, is_unicode}
-use Rattle.rx_model.specs.Characters.Escapes.{front_is}
 use Rattle.rx_model.specs.Reading.Fronts.{named_token, backslash_front}
 use Rattle.rx_model.specs.Groups.GroupFronts.{closed_name, name_front, sides_at, modified_group, named_group, angle_group, question_group, group_front, reference_front}
 use Rattle.rx_model.specs.Groups.GroupNameReading.{NameRow, row, name_at}

@@ -4,7 +4,6 @@ use Rattle.std.specs.List.{list_all}
 use Rattle.std.proofs.Math.Seq.{drop-drop, drop-append_seam, take-append_seam, take-add}
 use Rattle.std.proofs.lemmas.Bool.{cases_Bool, cond-true, cond-false, cond_both, eqb-true, eq-eqb, or_from, or_left, or_right, and_from, and_parts, not_from_false, true≢false}
 use Rattle.std.proofs.lemmas.List.Folds.{list_any-append}
-use Rattle.rx_model.specs.Characters.Escapes.{front_is}
 use Rattle.rx_model.specs.FirstPass.Marks.{starts}
 use Rattle.rx_model.specs.Groups.GroupFronts.{letters_at, SidesRead, sides, sides_at, modified_group}
 use Rattle.rx_model.specs.Groups.Groups.{is_mark}
@@ -16,6 +15,7 @@ use Rattle.rx_model.proofs.Characters.Decodings.{chosen}
 use Rattle.rx_model.proofs.Groups.ModifierBits.{no_letters, share}
 use Rattle.rx_model.proofs.Groups.Modifiers.{SidesFront, sides_spelled}
 use Rattle.rx_model.proofs.Reading.Splits.{starts_there}
+use Rattle.rx_units.specs.Digits.{front_is}
 
 -- Behind `(?` stand modifiers of n units, which are wrong in this way.
 pub data AreWrong : List ℕ → ℕ → ModifiersHalt → Type 0 where

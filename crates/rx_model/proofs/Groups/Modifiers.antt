@@ -4,7 +4,6 @@ use Rattle.std.proofs.Math.Seq.{drop-append_seam, drop-append-add, take-append_s
 use Rattle.std.proofs.lemmas.Bool.{cond-true, cond-false, and_from, or_left, cases_Bool, not-true, true≢false}
 use Rattle.std.proofs.lemmas.Bool.Decides.{nat_tests}
 use Rattle.std.specs.List.{list_all}
-use Rattle.rx_model.specs.Characters.Escapes.{front_is}
 use Rattle.rx_model.specs.Groups.GroupFronts.{letters_at, SidesRead, sides, second_side, sides_at, modified_group}
 use Rattle.rx_model.specs.Groups.Groups.{is_mark}
 use Rattle.rx_model.specs.FirstPass.Marks.{starts}
@@ -12,6 +11,7 @@ use Rattle.rx_model.specs.Groups.Modifiers.{is_modifier, has_twice, letters_bits
 use Rattle.rx_model.specs.Trees.Token.{Opener, ignoring}
 use Rattle.rx_model.proofs.Characters.Decodings.{chosen, both}
 use Rattle.rx_model.proofs.Reading.Splits.{starts_there}
+use Rattle.rx_units.specs.Digits.{front_is}
 
 -- letters are read to their end
 pub letters_read : (w rest : List ℕ) → list_all is_modifier w ≡ true → front_is is_modifier rest ≡ false → letters_at (w ++ rest) ≡ length w

@@ -2,7 +2,7 @@
 use Rattle.std.proofs.Common.{◌≡◌, ℕ, Bool, true, false, List, [], ◌∷◌, ◌++◌, refl, sym, ap, ◌∙◌, subst}
 use Rattle.std.specs.List.{list_all}
 use Rattle.rx_tables.specs.Characters.{is_unicode_property_name_character, is_unicode_property_value_character}
-use Rattle.rx_model.specs.Characters.Escapes.{front_is}
+use Rattle.rx_units.specs.Digits.{front_is}
 use Rattle.rx_model.specs.Properties.PropertyForms.{HasPair, IsValueRun}
 use Rattle.rx_model.proofs.Characters.Decodings.{both}
 

@@ -3,7 +3,7 @@ use Rattle.std.proofs.Common.{◌≡◌, ℕ, zero, suc, ◌+◌, ◌-◌, ◌*�
 use Rattle.std.proofs.lemmas.Bool.{eqb-true, cond-true}
 use Rattle.std.proofs.lemmas.Option.{option_and_then_some}
 use Rattle.rx_tables.specs.Characters.{is_decimal_digit}
-use Rattle.rx_model.specs.Characters.Escapes.{front_is}
+use Rattle.rx_units.specs.Digits.{front_is}
 use Rattle.rx_model.specs.Reading.Fronts.{Digits, digits, digits_behind, counts, no_counts, greatest_of, counts_behind_comma, counts_in_braces, counts_at}
 use Rattle.rx_model.specs.Quantifiers.Quantifiers.{decimal_digit_value, decimal_behind, AreDigits, SpellsBraces, exactly, at_least, between, SpellsCounts, star, plus, optional, braces, BeginsWithBraces}
 use Rattle.rx_model.proofs.Characters.Decodings.{chosen}

@@ -7,7 +7,7 @@ use Rattle.rx_ast.specs.declared.leaf.BoundaryAssertionKind.{BoundaryAssertionKi
 use Rattle.rx_ast.specs.declared.leaf.CharacterClassEscapeKind.{CharacterClassEscapeKind}
 use Rattle.rx_units.specs.declared.code_point.CodePoint.{CodePoint}
 use Rattle.rx_units.specs.Units.{values}
-use Rattle.rx_model.specs.Characters.Escapes.{front_is}
+use Rattle.rx_units.specs.Digits.{front_is}
 use Rattle.rx_model.specs.Characters.UnicodeEscapes.{PassesHex}
 use Rattle.rx_model.specs.FirstPass.Marks.{starts}
 use Rattle.rx_model.specs.Groups.GroupFronts.{angle_group, group_front, modified_group, name_front, named_group, question_group, reference_front, sides_at}

@@ -13,6 +13,7 @@ use Rattle.rx_ast.specs.declared.leaf.CharacterKind.{CharacterKind}
 use Rattle.rx_ast.specs.ClassTree.{Class}
 use Rattle.rx_units.specs.declared.code_point.CodePoint.{CodePoint}
 use Rattle.rx_units.specs.Units.{values}
+use Rattle.rx_units.specs.Digits.{front_is}
 use Rattle.rx_model.specs.declared.mode.Mode.{Mode}
 use Rattle.rx_model.specs.declared.mode.Mode.TheVariants.{Legacy, Unicode, Sets}
 use Rattle.rx_model.specs.Reading.Boundaries.{boundary_text}
@@ -20,7 +21,7 @@ use Rattle.rx_model.specs.Spelling.ClassText.{class_escape_text}
 use Rattle.rx_model.specs.Classes.ClassFronts.{class_front}
 use Rattle.rx_model.specs.Classes.ClassRows.{IsClass}
 use Rattle.rx_model.specs.Inputs.Environment.{Environment, is_unicode}
-use Rattle.rx_model.specs.Characters.Escapes.{front_is, SpellsEscape}
+use Rattle.rx_model.specs.Characters.Escapes.{SpellsEscape}
 use Rattle.rx_model.specs.Reading.Fronts.{EscapeRead, escaped, nothing, too_many, no_unicode, any_escape_at, is_reference, are_counts, is_raw_at, boundary_at, class_escape_at, escaped_token, backslash_token, backslash_front, Counts, counts, no_counts, counts_at, quantifier_token, opener_token, bracket_token, property_token, Digits, digits, digits_behind, indexed_token, named_token, syntax_front, front}
 use Rattle.rx_model.specs.Groups.GroupFronts.{group_front, reference_front}
 use Rattle.rx_model.specs.Characters.LegacyEscapes.{SpellsLegacy, run_number}

@@ -6,12 +6,12 @@ use Rattle.std.proofs.Math.Seq.{drop-append_seam, drop-append-add, take-append_s
 use Rattle.std.proofs.lemmas.Bool.{and_from, true≢false, cond-false, eqb-true, eq-eqb, false_from_ne_true, or_cases, or_from, or_left, or_right}
 use Rattle.rx_units.specs.declared.code_point.CodePoint.{CodePoint}
 use Rattle.rx_units.specs.Units.{values}
+use Rattle.rx_units.specs.Digits.{front_is}
 use Rattle.rx_model.specs.declared.mode.Mode.{Mode}
 use Rattle.rx_model.specs.Refusals.Causes.{LeadNowhere}
 use Rattle.rx_model.specs.Characters.Decoding.{Decoded, value, invalid, overflow, decoded}
 use Rattle.rx_model.specs.Inputs.Environment.{Environment, is_unicode}
 use Rattle.rx_model.specs.Characters.EscapeFronts.{EscapeRead, escaped, nothing, too_many, no_unicode, or_legacy}
-use Rattle.rx_model.specs.Characters.Escapes.{front_is}
 use Rattle.rx_model.specs.Reading.Fronts.{escape_at, escaped_token, unicode_read, backslash_front, named_token, opener_token, front}
 use Rattle.rx_model.specs.Groups.GroupFronts.{closed_name, name_front, reference_front, named_group, modified_group, question_group, group_front, sides, sides_at}
 use Rattle.rx_model.specs.Groups.GroupNameReading.{row}

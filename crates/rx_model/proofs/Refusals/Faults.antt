@@ -13,13 +13,13 @@ use Rattle.rx_base.specs.declared.span.Span.{Span}
 use Rattle.rx_tables.specs.Characters.{is_decimal_digit, is_within}
 use Rattle.rx_units.specs.declared.code_point.CodePoint.{CodePoint}
 use Rattle.rx_units.specs.Units.{values}
+use Rattle.rx_units.specs.Digits.{front_is}
 use Rattle.rx_model.specs.declared.mode.Mode.{Mode}
 use Rattle.rx_model.specs.Refusals.Causes.{BeginsWithPair, LeadNowhere}
 use Rattle.rx_model.specs.Characters.Decoding.{Decoded, value, invalid, overflow, decoded}
 use Rattle.rx_model.specs.Inputs.Environment.{Environment, is_unicode}
 use Rattle.rx_model.specs.Refusals.EscapeCauses as escape
 use Rattle.rx_model.specs.Refusals.EscapeCauses.{IsEscapeCause}
-use Rattle.rx_model.specs.Characters.Escapes.{front_is}
 use Rattle.rx_model.specs.Reading.Fronts.{front, named_token, backslash_front}
 use Rattle.rx_model.specs.Groups.GroupFronts.{SidesRead, sides, sides_at, reference_front}
 use Rattle.rx_model.specs.Groups.GroupNameReading.{NameRow, row, name_at}

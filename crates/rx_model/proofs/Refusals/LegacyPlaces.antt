@@ -11,9 +11,9 @@ use Rattle.std.proofs.lemmas.Option.{option_and_then_some}
 use Rattle.rx_base.specs.declared.diagnostic.Diagnostic.{Diagnostic}
 use Rattle.rx_units.specs.declared.code_point.CodePoint.{CodePoint}
 use Rattle.rx_units.specs.Units.{values}
+use Rattle.rx_units.specs.Digits.{front_is}
 use Rattle.rx_model.specs.declared.mode.Mode.TheVariants.{Legacy}
 use Rattle.rx_model.specs.Characters.Decoding.{Decoded, value, invalid, overflow, decoded}
-use Rattle.rx_model.specs.Characters.Escapes.{front_is}
 use Rattle.rx_model.specs.Characters.UnitKinds.{unit_kind}
 use Rattle.rx_model.specs.FirstPass.Marks.{starts}
 use Rattle.rx_model.specs.Groups.GroupFronts.{angle_group, closed_name, group_front, name_front, named_group, question_group, reference_front}

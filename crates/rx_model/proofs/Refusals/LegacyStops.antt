@@ -6,19 +6,18 @@ use Rattle.rx_tables.specs.Characters.{control_escape_value, control_letter_valu
 use Rattle.rx_ast.specs.declared.leaf.BoundaryAssertionKind.{BoundaryAssertionKind}
 use Rattle.rx_ast.specs.declared.leaf.CharacterClassEscapeKind.{CharacterClassEscapeKind}
 use Rattle.rx_ast.specs.declared.leaf.CharacterKind.{CharacterKind}
+use Rattle.rx_units.specs.Digits.{front_is, hex_number}
 use Rattle.rx_ast.specs.declared.leaf.CharacterKind.TheVariants as kinds
 use Rattle.rx_model.specs.Classes.ClassFronts.{AtomRead, atom_read, no_atom, character_atom, escape_atom, escape_in_class}
 use Rattle.rx_model.specs.Classes.ClassTokens.{Atom}
 use Rattle.rx_model.specs.Characters.Decoding.{four_at, behind_u}
 use Rattle.rx_model.specs.Inputs.Environment.{Environment, is_sets, is_unicode}
-use Rattle.rx_model.specs.Characters.Escapes.{front_is}
 use Rattle.rx_model.specs.Characters.EscapeFronts.{EscapeRead, escaped, nothing, too_many, no_unicode, escaped_if, unicode_read, two_at, escape_behind, escape_at, control_behind, octal_at, digit_at, legacy_at, or_legacy, any_escape_at, class_escape_at}
 use Rattle.rx_model.specs.Reading.Fronts.{boundary_at, backslash_token, backslash_front, escaped_token, is_reference, indexed_token, digits, digits_behind, Digits}
 use Rattle.rx_model.specs.Characters.LegacyEscapes.{is_free, two_next, four_next, is_class_control}
 use Rattle.rx_model.specs.Properties.PropertyForms.{begins_property}
 use Rattle.rx_model.specs.Refusals.Stops.{is_one_of, is_hyphen_escaped, begins_class_escape}
 use Rattle.rx_model.specs.Trees.Token.{Token}
-use Rattle.rx_model.specs.Characters.UnicodeEscapes.{hex_number}
 use Rattle.rx_model.proofs.Characters.Backslashes.{no_right}
 use Rattle.rx_model.proofs.Characters.Decodings.{chosen, both}
 use Rattle.rx_model.proofs.Characters.Escapes.{escape_no_limit}

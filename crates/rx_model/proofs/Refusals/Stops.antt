@@ -10,16 +10,16 @@ use Rattle.rx_ast.specs.declared.leaf.CharacterKind.{CharacterKind}
 use Rattle.rx_ast.specs.declared.leaf.CharacterKind.TheVariants as kinds
 use Rattle.rx_units.specs.declared.code_point.CodePoint.{CodePoint}
 use Rattle.rx_units.specs.Units.{values}
+use Rattle.rx_units.specs.Digits.{front_is, is_hex_digit, hex_number}
 use Rattle.rx_model.specs.Reading.Boundaries.{has_buffers}
 use Rattle.rx_model.specs.Inputs.Environment.{Environment, is_unicode}
-use Rattle.rx_model.specs.Characters.Escapes.{front_is, is_identity_escape, SpellsEscape, control, letter, null, hexadecimal, unicode, identity}
+use Rattle.rx_model.specs.Characters.Escapes.{is_identity_escape, SpellsEscape, control, letter, null, hexadecimal, unicode, identity}
 use Rattle.rx_model.specs.Reading.Fronts.{EscapeRead, escaped, nothing, too_many, no_unicode, any_escape_at, or_legacy, escape_at, legacy_at, boundary_at, class_escape_at, escaped_token, backslash_token, backslash_front, Counts, counts, no_counts, counts_at, quantifier_token, front}
 use Rattle.rx_model.specs.FirstPass.Marks.{starts}
 use Rattle.rx_model.specs.Quantifiers.Quantifiers.{SpellsCounts, star, plus, optional, braces, BeginsWithBraces}
 use Rattle.rx_model.specs.Reading.Rows.{Spells}
-use Rattle.rx_model.specs.Refusals.Stops.{is_one_of, is_letter, is_hex_digit, two_hex_digits, begins_escape, IsStop, at_end, at_closer, at_bracket, at_brace, behind_backslash}
+use Rattle.rx_model.specs.Refusals.Stops.{is_one_of, is_letter, two_hex_digits, begins_escape, IsStop, at_end, at_closer, at_bracket, at_brace, behind_backslash}
 use Rattle.rx_model.specs.Trees.Token.{Token, character, closer}
-use Rattle.rx_model.specs.Characters.UnicodeEscapes.{hex_number}
 use Rattle.rx_model.specs.Properties.PropertyForms.{begins_property}
 use Rattle.rx_model.proofs.Characters.Backslashes.{unreferred, escape_token}
 use Rattle.rx_model.proofs.Characters.Decodings.{both}

@@ -14,6 +14,7 @@ use Rattle.rx_tables.specs.Characters.{is_within, is_decimal_digit, is_syntax_ch
 use Rattle.rx_ast.specs.ClassTree.{Class}
 use Rattle.rx_units.specs.declared.code_point.CodePoint.{CodePoint}
 use Rattle.rx_units.specs.Units.{literal_units, values}
+use Rattle.rx_units.specs.Digits.{front_is}
 use Rattle.rx_model.specs.declared.mode.Mode.{Mode}
 use Rattle.rx_model.specs.declared.mode.Mode.TheVariants.{Legacy, Unicode, Sets}
 use Rattle.rx_model.specs.Reading.Boundaries.{boundary_text}
@@ -21,7 +22,6 @@ use Rattle.rx_model.specs.Spelling.CharacterText.{two_digits, four_digits, brace
 use Rattle.rx_model.specs.Spelling.ClassText.{class_escape_text, property_text, class_text}
 use Rattle.rx_model.specs.Trees.Early.{Obeys, IsEarlyOpener, greatest_count, most_groups, IsGreatest}
 use Rattle.rx_model.specs.Inputs.Environment.{Environment, is_unicode}
-use Rattle.rx_model.specs.Characters.Escapes.{front_is}
 use Rattle.rx_model.specs.Groups.GroupNames.{SpellsName}
 use Rattle.rx_model.specs.Groups.Groups.{IsNaming, IsNamed, SpellsOpener}
 use Rattle.rx_model.specs.FirstPass.Marks.{starts}

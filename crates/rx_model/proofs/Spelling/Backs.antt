@@ -16,6 +16,7 @@ use Rattle.rx_tables.proofs.Digits.{hex_digit_value-hex_digit}
 use Rattle.rx_units.specs.declared.code_point.EscapeKind.TheVariants as escape
 use Rattle.rx_units.specs.declared.code_point.CodePoint.{CodePoint}
 use Rattle.rx_units.specs.Units.{unit, literal_units, values}
+use Rattle.rx_units.specs.Digits.{hex_behind, hex_number}
 use Rattle.rx_model.specs.declared.mode.Mode.{Mode}
 use Rattle.rx_model.specs.declared.mode.Mode.TheVariants.{Legacy, Unicode, Sets}
 use Rattle.rx_model.specs.Spelling.CharacterText.{control_letter, two_digits, four_digits, hex, braced, surrogate_text, greatest_raw, outside, character_text}
@@ -26,7 +27,7 @@ use Rattle.rx_model.specs.Characters.LegacyEscapes.{IsIdentity}
 use Rattle.rx_model.specs.Quantifiers.Quantifiers.{BeginsWithBraces, SpellsBraces, exactly, at_least, between, decimal_digit_value, decimal_behind, AreDigits}
 use Rattle.rx_model.specs.Reading.Rows.{Spells, is_legacy_syntax, stands_raw}
 use Rattle.rx_model.specs.Trees.Token.{character}
-use Rattle.rx_model.specs.Characters.UnicodeEscapes.{hex_behind, hex_number, SpellsUnicode, code_unit, alone, BeginsWithTrail}
+use Rattle.rx_model.specs.Characters.UnicodeEscapes.{SpellsUnicode, code_unit, alone, BeginsWithTrail}
 use Rattle.rx_model.specs.Characters.UnicodeEscapes as in_escape
 use Rattle.rx_model.proofs.Characters.Choices.{choose_both}
 use Rattle.rx_model.proofs.Characters.Decodings.{both}

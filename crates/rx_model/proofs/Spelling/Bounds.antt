@@ -8,6 +8,7 @@ use Rattle.rx_tables.specs.Characters.{control_escape_value, control_letter_valu
 use Rattle.rx_ast.specs.declared.leaf.CharacterKind.{CharacterKind}
 use Rattle.rx_units.specs.declared.code_point.CodePoint.{CodePoint}
 use Rattle.rx_units.specs.Units.{values}
+use Rattle.rx_units.specs.Digits.{octal, hex_number}
 use Rattle.rx_model.specs.declared.mode.Mode.{Mode}
 use Rattle.rx_model.specs.declared.mode.Mode.TheVariants.{Legacy}
 use Rattle.rx_model.specs.Classes.ClassRows as spelled
@@ -16,11 +17,11 @@ use Rattle.rx_model.specs.Inputs.Environment.{Environment, is_unicode}
 use Rattle.rx_model.specs.Characters.Escapes.{SpellsEscape, control, letter, null, hexadecimal, unicode, identity}
 use Rattle.rx_model.specs.Groups.GroupNames.{SpellsNameCharacter, one_unit, by_escape, raw_pair, SpellsNameParts, no_part, part, SpellsName, whole_name}
 use Rattle.rx_model.specs.Characters.LegacyEscapes as legacy
-use Rattle.rx_model.specs.Characters.LegacyEscapes.{SpellsLegacy, octal}
+use Rattle.rx_model.specs.Characters.LegacyEscapes.{SpellsLegacy}
 use Rattle.rx_model.specs.Spelling.ReadBack.{AreCodeUnits, FitIn}
 use Rattle.rx_model.specs.Reading.Rows.{Spells}
 use Rattle.rx_model.specs.Trees.Token.{character}
-use Rattle.rx_model.specs.Characters.UnicodeEscapes.{hex_number, SpellsUnicode, code_unit, alone, pair, braced}
+use Rattle.rx_model.specs.Characters.UnicodeEscapes.{SpellsUnicode, code_unit, alone, pair, braced}
 use Rattle.rx_model.proofs.Characters.Decodings.{spelled_read, value_is_code_point}
 
 -- a value of a mode: with neither `u` nor `v` it has 16 bits

@@ -19,6 +19,7 @@ use Rattle.rx_tables.specs.Characters.{is_within, is_class_set_syntax_character,
 use Rattle.rx_units.specs.declared.code_point.CodePoint.{CodePoint}
 use Rattle.rx_units.specs.declared.code_point.EscapeKind.TheVariants as escape_kind
 use Rattle.rx_units.specs.Units.{unit, literal_units, values}
+use Rattle.rx_units.specs.Digits.{front_is}
 use Rattle.rx_model.specs.declared.mode.Mode.{Mode}
 use Rattle.rx_model.specs.declared.mode.Mode.TheVariants.{Legacy, Unicode, Sets}
 use Rattle.rx_model.specs.Spelling.CharacterText.{control_letter, two_digits, four_digits, hex, braced, surrogate_text, greatest_raw, is_escaped, in_class, character_text}
@@ -29,7 +30,7 @@ use Rattle.rx_model.specs.Spelling.ClassText.{barred_strings_text, characters_te
 use Rattle.rx_model.specs.Classes.ClassTokens.{Atom, character, escape, property, ClassToken, bracket, closer, item, low, dash, high, meet, less, strings, letter, string_bar, strings_end, leave, token, class_tokens, class_tokens_of, strings_events}
 use Rattle.rx_model.specs.Trees.Early.{AreCodePoints, AreEarlyMembers, IsCodePoint, IsEarlyClass, IsEarlyMember, IsEarlyString}
 use Rattle.rx_model.specs.Inputs.Environment.{Environment, is_sets, is_unicode}
-use Rattle.rx_model.specs.Characters.Escapes.{front_is, SpellsEscape, control, hexadecimal, unicode, identity}
+use Rattle.rx_model.specs.Characters.Escapes.{SpellsEscape, control, hexadecimal, unicode, identity}
 use Rattle.rx_model.specs.Characters.LegacyEscapes as legacy
 use Rattle.rx_model.specs.Characters.LegacyEscapes.{IsIdentity}
 use Rattle.rx_model.specs.FirstPass.Marks.{starts}

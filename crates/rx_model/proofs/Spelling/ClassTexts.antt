@@ -6,13 +6,13 @@ use Rattle.rx_ast.specs.declared.leaf.CharacterClassEscapeKind.TheVariants.{D, N
 use Rattle.rx_ast.specs.ClassTree as tree
 use Rattle.rx_ast.specs.ClassTree.{Member, Members, Class, no_member, member, class}
 use Rattle.rx_tables.specs.Characters.{is_within, is_class_set_reserved_double_punctuator, is_class_set_syntax_character}
+use Rattle.rx_units.specs.Digits.{front_is}
 use Rattle.rx_model.specs.declared.mode.Mode.{Mode}
 use Rattle.rx_model.specs.declared.mode.Mode.TheVariants.{Legacy, Unicode, Sets}
 use Rattle.rx_model.specs.Spelling.CharacterText.{two_digits, four_digits, braced, surrogate_text, greatest_raw, is_escaped, in_class, character_text}
 use Rattle.rx_model.specs.Classes.ClassRows.{is_dashed, stands_raw_in_class}
 use Rattle.rx_model.specs.Spelling.ClassText.{class_escape_text, class_text, in_class_text, member_text, members_text, more_members_text, property_text}
 use Rattle.rx_model.specs.Inputs.Environment.{is_sets}
-use Rattle.rx_model.specs.Characters.Escapes.{front_is}
 use Rattle.rx_model.specs.FirstPass.Marks.{starts}
 use Rattle.rx_model.proofs.Characters.LegacyEscapes.{and_no}
 use Rattle.rx_model.proofs.Groups.GroupNames.{differs}

@@ -10,10 +10,11 @@ use Rattle.rx_units.specs.Units.{literal_units}
 use Rattle.rx_model.specs.declared.mode.Mode.{Mode}
 use Rattle.rx_model.specs.Trees.Early.{Obeys, IsEarly, most_groups}
 use Rattle.rx_model.specs.Inputs.Environment.{is_unicode, environment, environment_with, has_some}
+use Rattle.rx_model.specs.Inputs.Texts.{literal_text}
 use Rattle.rx_model.specs.Trees.Events.{tokens, alternatives_events}
 use Rattle.rx_model.specs.Trees.Names.{groups, names, alternatives_groups, alternatives_names, once_behind, AreAlternativesApart}
 use Rattle.rx_model.specs.Spelling.ReadBack.{FitIn, IsReadBack}
-use Rattle.rx_model.specs.Reading.Reading.{Reads, literal_text, units_of}
+use Rattle.rx_model.specs.Reading.Reading.{Reads}
 use Rattle.rx_model.specs.Reading.Rows.{TokenRow}
 use Rattle.rx_model.specs.Trees.Shapes.{HasAlternatives, IsWellMade}
 use Rattle.rx_model.specs.Spelling.Spelling.{spelling}
@@ -108,8 +109,8 @@ pub spelled_is_read_back : (mode : Mode) (p : Pattern) (us : List CodePoint) →
 spelled_is_read_back mode p us r fit h =
     let e = environment mode p in
     let some = some_tokens e false (tokens p) (are_known e (tokens p) us [] fit r.spelled.row) (has_tokens e (tokens p) us r.spelled.row h) in
-    let units : literal_units (is_unicode mode) 0 (tokens_text mode false (tokens p)) ≡ units_of mode (spelling (bare p) mode) =
-    ap (literal_units (is_unicode mode) 0) (sym (literal_text_same (tokens_text mode false (tokens p)) some)) ∙ ap (units_of mode) (sym (spelled_by_tokens mode p)) in
+    let units : literal_units (is_unicode mode) 0 (tokens_text mode false (tokens p)) ≡ literal_units (is_unicode mode) 0 (literal_text (spelling (bare p) mode)) =
+    ap (literal_units (is_unicode mode) 0) (sym (literal_text_same (tokens_text mode false (tokens p)) some) ∙ ap literal_text (sym (spelled_by_tokens mode p))) in
     record {
       again = again mode p;
       same = its_bare mode p;

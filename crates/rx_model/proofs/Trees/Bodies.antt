@@ -5,10 +5,10 @@ use Rattle.std.proofs.lemmas.Bool.{eqb-true}
 use Rattle.rx_ast.specs.declared.term.Pattern.{Pattern}
 use Rattle.rx_units.specs.declared.code_point.CodePoint.{CodePoint}
 use Rattle.rx_units.specs.Units.{values}
+use Rattle.rx_units.specs.Digits.{front_is}
 use Rattle.rx_model.specs.declared.mode.Mode.{Mode}
 use Rattle.rx_model.specs.Trees.Bodies.{BeginsWithQuantifier, BeginsWithoutQuantifier, AreQuantified}
 use Rattle.rx_model.specs.Inputs.Environment.{Environment, environment}
-use Rattle.rx_model.specs.Characters.Escapes.{front_is}
 use Rattle.rx_model.specs.Trees.Events.{tokens}
 use Rattle.rx_model.specs.Trees.OpenGroups.{EndsQuantifiable}
 use Rattle.rx_model.specs.Quantifiers.Quantifiers.{SpellsCounts, IsQuantifier, is_question, lazy_mark}

@@ -12,7 +12,7 @@ use Rattle.rx_model.specs.Trees.Shapes.{IsNode, AreNodes, HasAlternatives, AreAl
 use Rattle.rx_model.proofs.Trees.Flat.{before, before-append, before_leaf, before_quantified, before_group, before_alternative, tokens_are}
 
 -- the first in turned order, in front of the second
-abbrev onto : Nodes → Nodes → Nodes
+abbrev pub onto : Nodes → Nodes → Nodes
 onto no_node ms = ms
 onto (node n ns) ms = onto ns (node n ms)
 
@@ -20,7 +20,7 @@ abbrev joined : Nodes → Nodes → Nodes
 joined no_node ms = ms
 joined (node n ns) ms = node n (joined ns ms)
 
-abbrev alternatives_onto : Alternatives → Alternatives → Alternatives
+abbrev pub alternatives_onto : Alternatives → Alternatives → Alternatives
 alternatives_onto no_alternative more = more
 alternatives_onto (alternative s ns rest) more = alternatives_onto rest (alternative s ns more)
 
@@ -36,28 +36,28 @@ turned_twice : (ns : Nodes) → onto (onto ns no_node) no_node ≡ ns
 turned_twice ns = onto-onto ns no_node no_node ∙ joined_none ns
 
 -- An open group: what it began with, and what stood before it, the last first.
-record Waiting : Type 0 where
-  begun : tree.Opener
-  alternatives : Alternatives
-  nodes : Nodes
+pub record Waiting : Type 0 where
+  pub begun : tree.Opener
+  pub alternatives : Alternatives
+  pub nodes : Nodes
 
 -- the open groups, the innermost first, and what has been read in it, the last first
-record State : Type 0 where
-  waiting : List Waiting
-  alternatives : Alternatives
-  nodes : Nodes
+pub record State : Type 0 where
+  pub waiting : List Waiting
+  pub alternatives : Alternatives
+  pub nodes : Nodes
 
-abbrev at : List Waiting → Alternatives → Nodes → State
+abbrev pub at : List Waiting → Alternatives → Nodes → State
 at waiting more ns = record { waiting = waiting; alternatives = more; nodes = ns }
 
 -- the disjunction that ends here
-abbrev ended : Alternatives → Nodes → Alternatives
+abbrev pub ended : Alternatives → Nodes → Alternatives
 ended more ns = alternatives_onto more (alternative nowhere (onto ns no_node) no_alternative)
 
 abbrev some_bits : ℕ × ℕ → Modifiers
 some_bits b = record { span = nowhere; enabling = record { 0 = b.0 }; disabling = record { 0 = b.1 } }
 
-abbrev opener_tree : Opener → tree.Opener
+abbrev pub opener_tree : Opener → tree.Opener
 opener_tree (capturing name) = tree.capturing name
 opener_tree (ignoring None) = tree.ignoring None
 opener_tree (ignoring (Some b)) = tree.ignoring (Some (some_bits b))
@@ -72,15 +72,15 @@ opener_tree_of (tree.looking kind) = refl
 abbrev push : Leaf → State → State
 push l s = at s.waiting s.alternatives (node (leaf l) s.nodes)
 
-abbrev close : List Waiting → Alternatives → Nodes → State
+abbrev pub close : List Waiting → Alternatives → Nodes → State
 close [] more ns = at [] more ns
 close (w ∷ waiting) more ns = at waiting w.alternatives (node (group nowhere w.begun nowhere (ended more ns)) w.nodes)
 
-abbrev quantify : ℕ → Option ℕ → Bool → List Waiting → Alternatives → Nodes → State
+abbrev pub quantify : ℕ → Option ℕ → Bool → List Waiting → Alternatives → Nodes → State
 quantify min max greedy waiting more no_node = at waiting more no_node
 quantify min max greedy waiting more (node n ns) = at waiting more (node (quantified nowhere min max greedy n) ns)
 
-abbrev step : Token → State → State
+abbrev pub step : Token → State → State
 step (boundary kind) s = push (tree.boundary (record { span = nowhere; kind = kind })) s
 step (character kind value) s = push (tree.character (record { span = nowhere; kind = kind; value = value })) s
 step dot s = push (tree.dot (record { span = nowhere })) s
@@ -94,7 +94,7 @@ step closer s = close s.waiting s.alternatives s.nodes
 step bar s = at s.waiting (alternative nowhere (onto s.nodes no_node) s.alternatives) no_node
 step (quantifier min max greedy) s = quantify min max greedy s.waiting s.alternatives s.nodes
 
-abbrev build : List Token → State → State
+abbrev pub build : List Token → State → State
 build [] s = s
 build (t ∷ ts) s = build ts (step t s)
 

@@ -2,7 +2,7 @@
 use Rattle.std.specs.Prelude.{ℕ, Bool, ◌+◌, ◌*◌, ◌^◌, ◌==◌, ◌&&◌, List, [], ◌∷◌, Option, option_map, Some, None, option_and_then, nat_lt, nat_le, if◌then◌else◌}
 use Rattle.rx_base.specs.SurrogatePair.{surrogate_pair}
 use Rattle.rx_tables.specs.Characters.{hex_digit_value, is_within}
-use Rattle.rx_model.specs.Characters.UnicodeEscapes.{hex_number}
+use Rattle.rx_units.specs.Digits.{hex_number}
 
 -- a code point in n characters; none; digits that pass 32 bits, after n digits that do not
 pub data Decoded : Type 0 where

@@ -4,13 +4,13 @@ use Rattle.rx_tables.specs.Characters.{control_escape_value, control_letter_valu
 use Rattle.rx_ast.specs.declared.leaf.CharacterClassEscapeKind.{CharacterClassEscapeKind}
 use Rattle.rx_ast.specs.declared.leaf.CharacterClassEscapeKind.TheVariants as class_kind
 use Rattle.rx_ast.specs.declared.leaf.CharacterKind.{CharacterKind}
+use Rattle.rx_units.specs.Digits.{front_is, octal, hex_number}
 use Rattle.rx_ast.specs.declared.leaf.CharacterKind.TheVariants as kind
 use Rattle.rx_model.specs.Characters.Decoding.{Decoded, value, invalid, overflow, decoded}
 use Rattle.rx_model.specs.Inputs.Environment.{Environment, is_unicode}
-use Rattle.rx_model.specs.Characters.Escapes.{front_is, is_identity_escape}
-use Rattle.rx_model.specs.Characters.LegacyEscapes.{four_next, is_class_control, is_free, octal, two_next}
+use Rattle.rx_model.specs.Characters.Escapes.{is_identity_escape}
+use Rattle.rx_model.specs.Characters.LegacyEscapes.{four_next, is_class_control, is_free, two_next}
 use Rattle.rx_model.specs.Refusals.Stops.{is_one_of}
-use Rattle.rx_model.specs.Characters.UnicodeEscapes.{hex_number}
 
 -- what stands behind a backslash: a character of a kind, in n characters; nothing; digits that pass 32 bits; `u` without a unicode escape
 pub data EscapeRead : Type 0 where

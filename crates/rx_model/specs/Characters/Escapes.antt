@@ -3,14 +3,10 @@
 use Rattle.std.specs.Prelude.{◌≡◌, ℕ, Bool, true, false, ◌==◌, ◌||◌, List, [], ◌∷◌, Some}
 use Rattle.rx_tables.specs.Characters.{control_escape_value, control_letter_value, is_decimal_digit, is_syntax_character}
 use Rattle.rx_ast.specs.declared.leaf.CharacterKind.{CharacterKind}
+use Rattle.rx_units.specs.Digits.{hex_number, front_is}
 use Rattle.rx_ast.specs.declared.leaf.CharacterKind.TheVariants as kind
 use Rattle.rx_model.specs.Inputs.Environment.{Environment, is_unicode}
-use Rattle.rx_model.specs.Characters.UnicodeEscapes.{hex_number, SpellsUnicode}
-
--- whether the first of these characters is there, and in the set
-abbrev pub front_is : (ℕ → Bool) → List ℕ → Bool
-front_is set [] = false
-front_is set (c ∷ cs) = set c
+use Rattle.rx_model.specs.Characters.UnicodeEscapes.{SpellsUnicode}
 
 -- IdentityEscape with `u` or `v`: a SyntaxCharacter or `/`
 abbrev pub is_identity_escape : ℕ → Bool

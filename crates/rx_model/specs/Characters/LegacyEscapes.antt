@@ -3,11 +3,10 @@
 use Rattle.std.specs.Prelude.{◌≡◌, ℕ, ◌+◌, ◌-◌, ◌*◌, ◌%◌, Bool, true, false, not, is_some, ◌==◌, ◌&&◌, ◌||◌, List, [], ◌∷◌, Option, None, codes, nat_le, if◌then◌else◌}
 use Rattle.rx_tables.specs.Characters.{control_letter_value, is_decimal_digit, is_octal_digit, is_within}
 use Rattle.rx_ast.specs.declared.leaf.CharacterKind.{CharacterKind}
+use Rattle.rx_units.specs.Digits.{front_is, hex_number, octal}
 use Rattle.rx_ast.specs.declared.leaf.CharacterKind.TheVariants as kind
 use Rattle.rx_model.specs.Inputs.Environment.{Environment}
-use Rattle.rx_model.specs.Characters.Escapes.{front_is}
 use Rattle.rx_model.specs.Refusals.Stops.{is_one_of}
-use Rattle.rx_model.specs.Characters.UnicodeEscapes.{hex_number}
 
 -- the number of the decimal digits that stand next, behind a number
 abbrev pub run_number : ℕ → List ℕ → ℕ
@@ -46,9 +45,6 @@ is_class_control c = is_decimal_digit c || c == 95
 -- what makes of `\c` an escape: an AsciiLetter, in a class also a ClassControlLetter
 abbrev pub is_control : Bool → ℕ → Bool
 is_control inside c = is_some (control_letter_value c) || (inside && is_class_control c)
-
-abbrev pub octal : ℕ → ℕ
-octal c = c - 48
 
 -- The character behind a backslash stands for itself (IdentityEscape, SourceCharacterIdentityEscape): it is no `c`, and no `k` where `\k` is a reference, and
 -- no other escape, no reference, no assertion and no class escape begins with it.

@@ -1,15 +1,8 @@
 -- What stands behind the backslash of a unicode escape (RegExpUnicodeEscapeSequence, 22.2.1).
-use Rattle.std.specs.Prelude.{◌≡◌, ℕ, ◌+◌, ◌*◌, ◌^◌, ◌<◌, ◌≤◌, Bool, true, false, List, [], ◌∷◌, ◌++◌, length, Option, Some, option_and_then}
+use Rattle.std.specs.Prelude.{◌≡◌, ℕ, ◌+◌, ◌*◌, ◌^◌, ◌<◌, ◌≤◌, Bool, true, false, List, [], ◌∷◌, ◌++◌, length, Some}
 use Rattle.rx_base.specs.SurrogatePair.{IsLeadSurrogate, IsTrailSurrogate, surrogate_pair}
 use Rattle.rx_tables.specs.Characters.{hex_digit_value}
-
--- the number that hexadecimal digits spell behind a number, or none where one is no digit
-abbrev pub hex_behind : ℕ → List ℕ → Option ℕ
-hex_behind n [] = Some n
-hex_behind n (c ∷ cs) = option_and_then (λ d. hex_behind (16 * n + d) cs) (hex_digit_value c)
-
-abbrev pub hex_number : List ℕ → Option ℕ
-hex_number = hex_behind 0
+use Rattle.rx_units.specs.Digits.{hex_number}
 
 -- `u` and four hexadecimal digits
 abbrev pub four : ℕ → ℕ → ℕ → ℕ → List ℕ

@@ -2,12 +2,12 @@
 -- the values of units, and `.. w rest` says that w is a thing before all that follows it, rest. Marks has the functions that find them.
 use Rattle.std.specs.Prelude.{◌≡◌, ℕ, ◌+◌, Bool, false, true, ◌==◌, ◌&&◌, ◌||◌, Contains, None, Some, List, [], ◌∷◌, ◌++◌, length}
 use Rattle.rx_model.specs.declared.mode.Mode.{Mode}
-use Rattle.rx_model.specs.Characters.Escapes.{front_is}
 use Rattle.rx_model.specs.Groups.GroupNames.{SpellsName}
 use Rattle.rx_model.specs.Groups.Groups.{is_mark, looks}
 use Rattle.rx_model.specs.FirstPass.Marks.{Mark, other, bar, closer, quiet, capturing}
 use Rattle.rx_model.specs.Inputs.Environment.{is_sets, is_unicode}
 use Rattle.rx_model.specs.Quantifiers.Quantifiers.{is_question}
+use Rattle.rx_units.specs.Digits.{front_is}
 
 -- whether a unit of a class is more than a unit: a backslash, a `]` or, with `v`, a `[`
 abbrev pub is_class_mark : Mode → ℕ → Bool

@@ -1,8 +1,6 @@
 -- Flags texts.
-use Rattle.std.specs.Prelude.{ℕ, Bool, true, ◌==◌, ◌&&◌, ◌||◌, not, List, [], ◌∷◌, Option, Some, None, if◌then◌else◌}
+use Rattle.std.specs.Prelude.{ℕ, Bool, true, ◌==◌, ◌&&◌, ◌||◌, not, List, [], ◌∷◌, if◌then◌else◌}
 use Rattle.std.specs.List.{list_any}
-use Rattle.rx_units.specs.declared.code_point.CodePoint.{CodePoint}
-use Rattle.rx_units.specs.Units.{literal_units}
 use Rattle.rx_model.specs.declared.mode.Mode.{Mode}
 use Rattle.rx_model.specs.declared.mode.Mode.TheVariants.{Legacy, Unicode, Sets}
 
@@ -28,12 +26,3 @@ mode_of fs = if holds fs 118 then Sets else (if holds fs 117 then Unicode else L
 -- whether the flags ask for a unicode mode, and for sets mode
 abbrev pub modes_of : List ℕ → Bool × Bool
 modes_of fs = (holds fs 118 || holds fs 117, holds fs 118)
-
--- the units of flags, which are never split
-abbrev pub flag_units : List ℕ → List CodePoint
-flag_units fs = literal_units true 0 fs
-
--- no flags text is no flags
-abbrev pub flags_of : Option (List ℕ) → List ℕ
-flags_of None = []
-flags_of (Some fs) = fs

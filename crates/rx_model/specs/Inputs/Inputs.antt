@@ -1,14 +1,17 @@
--- What a reader of patterns is given.
-use Rattle.std.specs.Prelude.{ℕ, List, [], ◌∷◌, Option, Some}
+-- What a reader of patterns is given, and what it asks to read.
+use Rattle.std.specs.Prelude.{◌≡◌, ℕ, true, List, [], ◌∷◌, Option, Some}
 use Rattle.rx_units.specs.declared.code_point.CodePoint.{CodePoint}
+use Rattle.rx_units.specs.Units.{values}
 use Rattle.rx_model.specs.declared.form.Form.{Form}
 use Rattle.rx_model.specs.declared.form.Form.TheVariants.{Literal}
 use Rattle.rx_model.specs.declared.mode.Mode.{Mode}
 use Rattle.rx_model.specs.declared.mode.Mode.TheVariants.{Legacy, Unicode, Sets}
-use Rattle.rx_model.specs.Inputs.Flags.{flags_of, mode_of}
-use Rattle.rx_model.specs.Reading.Reading.{units_of}
+use Rattle.rx_model.specs.Inputs.Environment.{is_unicode}
+use Rattle.rx_model.specs.Inputs.Flags.{flags_ok, mode_of}
+use Rattle.rx_model.specs.Inputs.Texts.{AreFlagUnits, AreUnits, stand_in}
 
 -- A text and its flags, in characters, and what is added to each offset that an answer has in the text or in the flags. The flags text may be absent.
+-- In the form of a constructor both have their quotes.
 pub record Input : Type 0 where
   pub form : Form
   pub text : List ℕ
@@ -16,13 +19,17 @@ pub record Input : Type 0 where
   pub text_offset : ℕ
   pub flags_offset : ℕ
 
--- the mode that its flags ask for
-abbrev pub mode_asked : Input → Mode
-mode_asked input = mode_of (flags_of input.flags)
+-- The flags of the input are right, and ask for this mode.
+pub record AsksFor (input : Input) (mode : Mode) : Type 0 where
+  pub flags : List CodePoint
+  pub flags_are : AreFlagUnits input.form input.flags flags
+  pub are_right : flags_ok (values flags) ≡ true
+  pub mode_is : mode ≡ mode_of (values flags)
 
--- the units of a literal's text, in that mode
-abbrev pub units_asked : Input → List CodePoint
-units_asked input = units_of (mode_asked input) input.text
+-- The input asks to read these units in this mode (22.2.3.3, RegExpInitialize): by code points with `u` or `v`, else by code units.
+pub record Asks (input : Input) (mode : Mode) (us : List CodePoint) : Type 0 where
+  pub mode_asked : AsksFor input mode
+  pub units_are : AreUnits (is_unicode mode) (stand_in input.form input.text) input.form us
 
 -- flags that ask for a mode and for nothing else
 abbrev pub flags_for : Mode → List ℕ

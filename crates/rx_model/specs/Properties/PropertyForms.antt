@@ -3,9 +3,9 @@ use Rattle.std.specs.Prelude.{◌≡◌, ◌≢◌, ℕ, Bool, true, false, ◌=
 use Rattle.std.specs.List.{list_all}
 use Rattle.rx_tables.specs.Characters.{is_unicode_property_name_character, is_unicode_property_value_character}
 use Rattle.rx_tables.specs.Properties.{binary_properties, general_category_values, properties_of_strings}
+use Rattle.rx_units.specs.Digits.{front_is}
 use Rattle.rx_model.specs.declared.mode.Mode.{Mode}
 use Rattle.rx_model.specs.declared.mode.Mode.TheVariants.{Sets}
-use Rattle.rx_model.specs.Characters.Escapes.{front_is}
 
 -- what a property escape begins with behind its backslash: `p` or `P`
 abbrev pub begins_property : ℕ → Bool

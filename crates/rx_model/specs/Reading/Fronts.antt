@@ -7,12 +7,12 @@ use Rattle.rx_ast.specs.declared.leaf.CharacterClassEscapeKind.{CharacterClassEs
 use Rattle.rx_ast.specs.ClassTree.{Class}
 use Rattle.rx_units.specs.declared.code_point.CodePoint.{CodePoint}
 use Rattle.rx_units.specs.Units.{values}
+use Rattle.rx_units.specs.Digits.{front_is}
 use Rattle.rx_model.specs.Reading.Boundaries.{has_buffers}
 use Rattle.rx_model.specs.Classes.ClassFronts.{class_front}
 use Rattle.rx_model.specs.Inputs.Environment.{Environment, is_unicode}
 pub use Rattle.rx_model.specs.Characters.EscapeFronts.{EscapeRead, escaped, nothing, too_many, no_unicode, escaped_if, unicode_read, letter_at, two_at, escape_behind, control_behind, octal_at, digit_at, or_legacy, any_escape_at, class_escape_at}
 unfoldable pub use Rattle.rx_model.specs.Characters.EscapeFronts.{escape_at, legacy_at}
-use Rattle.rx_model.specs.Characters.Escapes.{front_is}
 use Rattle.rx_model.specs.Groups.GroupFronts.{group_front, reference_front}
 use Rattle.rx_model.specs.Characters.LegacyEscapes.{begins_run, run_number}
 use Rattle.rx_model.specs.Properties.PropertyFronts.{PropertyRead, property_read, no_property, property_front}

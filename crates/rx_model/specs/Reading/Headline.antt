@@ -1,44 +1,68 @@
--- What a reader answers to a literal: Ok on valid input and on no other, with the only tree and its spelling; else the first refusal, or out of memory.
-use Rattle.std.specs.Prelude.{◌≡◌, ℕ, ◌<◌, ◌^◌, true, List, length, encode_utf8_all, Result, IfOk, IfErr, OnOk, MatchResult}
+-- What a reader of patterns answers: Ok on valid input and on no other, with the only tree and its spelling; else the first refusal, or out of memory.
+use Rattle.std.specs.Prelude.{◌≡◌, ℕ, ◌+◌, ◌<◌, ◌^◌, true, List, length, encode_utf8_all, Some, Result, IfOk, IfErr, OnOk, MatchResult}
 use Rattle.rx_base.specs.declared.diagnostic.Diagnostic.{Diagnostic as Refusal}
+use Rattle.rx_base.specs.declared.diagnostic.Diagnostic.TheVariants.{InvalidInput}
 use Rattle.rx_base.specs.declared.fault.Fault.{Fault}
 use Rattle.rx_base.specs.declared.fault.Fault.TheVariants.{OutOfMemory, Diagnostic}
+use Rattle.rx_base.specs.declared.span.Span.{Span}
 use Rattle.rx_ast.specs.declared.term.Pattern.{Pattern}
 use Rattle.rx_ast.specs.Forget.{bare}
+use Rattle.rx_units.specs.declared.code_point.CodePoint.{CodePoint}
 use Rattle.rx_model.specs.declared.mode.Mode.{Mode}
 use Rattle.rx_model.specs.FirstPass.Cuts.{TellsGroups}
 use Rattle.rx_model.specs.Refusals.Firsts.{IsFirst}
 use Rattle.rx_model.specs.Refusals.FlagCauses.{IsFlagCause}
-use Rattle.rx_model.specs.Inputs.Flags.{flag_units, flags_of, flags_ok}
-use Rattle.rx_model.specs.Inputs.Inputs.{Input, literal_alone, mode_asked, units_asked}
-use Rattle.rx_model.specs.Reading.Reading.{IsOnly, IsSpanned, IsValid, Reads}
+use Rattle.rx_model.specs.Inputs.Environment.{is_unicode}
+use Rattle.rx_model.specs.Inputs.Inputs.{Asks, AsksFor, Input, literal_alone}
+use Rattle.rx_model.specs.Inputs.Texts.{AreFlagUnits, HasNoUnits, first_offset, stand_in}
+use Rattle.rx_model.specs.Reading.Reading.{IsOnly, IsSpanned, Reads}
 use Rattle.rx_model.specs.Spelling.Spelling.{spelling}
 
--- The input is read as this tree: under the mode of the flags the text spells it, and no other tree but for spans; it is free of early errors; each of
--- its nodes has the span of what it spells; and the first pass of the text finds its groups and their names.
-pub record IsReadAs (input : Input) (tree : Pattern) : Type 0 where
-  pub reads : Reads (mode_asked input) tree (units_asked input)
-  pub only : IsOnly (mode_asked input) tree (units_asked input)
-  pub spanned : IsSpanned (mode_asked input) tree (units_asked input) 0 input.text_offset
-  pub groups : TellsGroups (mode_asked input) tree (units_asked input)
+-- The input is valid: it asks to read units in a mode, and some tree reads them.
+pub record IsValid (input : Input) : Type 0 where
+  pub mode : Mode
+  pub units : List CodePoint
+  pub asked : Asks input mode units
+  pub pattern : Pattern
+  pub reads : Reads mode pattern units
 
--- The diagnostic is the first refusal of this input: of its flags, or where they are right of its text.
+-- The input is read as this tree, in this mode: the units that it asks to read spell the tree, and no other tree but for spans; it is free of early errors;
+-- each of its nodes has the span of what it spells; and the first pass of the units finds its groups and their names.
+pub record IsReadAs (input : Input) (mode : Mode) (tree : Pattern) : Type 0 where
+  pub units : List CodePoint
+  pub asked : Asks input mode units
+  pub reads : Reads mode tree units
+  pub only : IsOnly mode tree units
+  pub spanned : IsSpanned mode tree units (first_offset input.form) input.text_offset
+  pub groups : TellsGroups mode tree units
+
+-- the span of a whole text, so much being added
+abbrev pub whole_span : List ℕ → ℕ → Span
+whole_span text added = record { start = added; end = length (encode_utf8_all text) + added }
+
+-- The diagnostic is the first refusal of this input: of its flags, or where they are right of its text. A quoted text that is decoded to no units is
+-- refused as a whole.
 pub data IsFirstRefusal (input : Input) : Refusal → Type 0 where
-  of_flags : {refusal : Refusal} → IsFlagCause (flag_units (flags_of input.flags)) 0 input.flags_offset refusal → IsFirstRefusal input refusal
-  of_text : {refusal : Refusal} → flags_ok (flags_of input.flags) ≡ true → IsFirst (mode_asked input) (units_asked input) 0 input.text_offset refusal → IsFirstRefusal input refusal
+  no_flags_text : {text : List ℕ} → input.flags ≡ Some text → HasNoUnits true text input.form → IsFirstRefusal input (InvalidInput (whole_span text input.flags_offset))
+  of_flags : {refusal : Refusal} {flags : List CodePoint} → AreFlagUnits input.form input.flags flags
+      → IsFlagCause flags (first_offset input.form) input.flags_offset refusal → IsFirstRefusal input refusal
+  no_text : {mode : Mode} → AsksFor input mode → HasNoUnits (is_unicode mode) (stand_in input.form input.text) input.form
+      → IsFirstRefusal input (InvalidInput (whole_span input.text input.text_offset))
+  of_text : {refusal : Refusal} {mode : Mode} {us : List CodePoint} → Asks input mode us
+      → IsFirst mode us (first_offset input.form) input.text_offset refusal → IsFirstRefusal input refusal
 
--- Memory is wanting, or this input is refused.
+-- Out of memory, or this input is refused.
 pub data IsFaultOf (input : Input) : Fault → Type 0 where
   no_memory : IsFaultOf input OutOfMemory
   refused : {refusal : Refusal} → IsFirstRefusal input refusal → IsFaultOf input (Diagnostic refusal)
 
--- What a parser of literals may answer, where an Ok answer has a tree.
+-- What a parser may answer to an input, where an Ok answer has a tree.
 pub record IsParsed {A : Type 0} (tree : A → Pattern) (input : Input) (answer : Result A Fault) : Type 0 where
   -- Ok comes on valid input and on no other: on valid input all that may come besides is out of memory.
-  pub valid : OnOk answer (IsValid input.text input.flags)
-  pub complete : IsValid input.text input.flags → IfErr answer (λ fault. fault ≡ OutOfMemory)
-  -- It has the only tree.
-  pub read : IfOk answer (λ it. IsReadAs input (tree it))
+  pub valid : OnOk answer (IsValid input)
+  pub complete : IsValid input → IfErr answer (λ fault. fault ≡ OutOfMemory)
+  -- It has the only tree, in the mode that the flags ask for.
+  pub read : IfOk answer (λ it. (mode : Mode) × IsReadAs input mode (tree it))
   -- Each other answer is the first refusal, or out of memory.
   pub refused : IfErr answer (IsFaultOf input)
 
@@ -52,10 +76,10 @@ pub record Spelled : Type 0 where
   pub mode : Mode
   pub text : List ℕ
 
--- What a reader of literals may answer that spells canonically what it reads.
+-- What a reader may answer to an input that spells canonically what it reads.
 pub record IsAnswered {A : Type 0} (spelled : A → Spelled) (input : Input) (answer : Result A Fault) : Type 0 where
   pub parsed : IsParsed (λ it. (spelled it).pattern) input answer
-  pub mode_is : IfOk answer (λ it. (spelled it).mode ≡ mode_asked input)
+  pub mode_is : IfOk answer (λ it. AsksFor input (spelled it).mode)
   pub text_is : IfOk answer (λ it. (spelled it).text ≡ spelling (bare (spelled it).pattern) (spelled it).mode)
   -- Of the spelling, where its length fits 32 bits, whatever a parser of literals answers under the same mode is the same tree, or out of memory.
   pub again : IfOk answer (λ it. length (encode_utf8_all (spelled it).text) < 2 ^ 32

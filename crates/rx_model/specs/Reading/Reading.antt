@@ -1,14 +1,13 @@
 -- What it means that a text is a pattern.
-use Rattle.std.specs.Prelude.{◌≡◌, ℕ, ◌+◌, true, List, [], ◌∷◌, Option, length}
+use Rattle.std.specs.Prelude.{◌≡◌, ℕ, ◌+◌, List, [], length}
 use Rattle.rx_ast.specs.declared.term.Pattern.{Pattern}
 use Rattle.rx_ast.specs.Forget.{unspanned}
 use Rattle.rx_units.specs.declared.code_point.CodePoint.{CodePoint}
-use Rattle.rx_units.specs.Units.{literal_units, offset_at}
+use Rattle.rx_units.specs.Units.{offset_at}
 use Rattle.rx_model.specs.declared.mode.Mode.{Mode}
 use Rattle.rx_model.specs.Trees.Early.{IsEarly}
-use Rattle.rx_model.specs.Inputs.Environment.{environment, is_unicode}
+use Rattle.rx_model.specs.Inputs.Environment.{environment}
 use Rattle.rx_model.specs.Trees.Events.{events, tokens}
-use Rattle.rx_model.specs.Inputs.Flags.{flags_ok, flags_of, mode_of}
 use Rattle.rx_model.specs.Reading.Rows.{TokenRow, Row}
 use Rattle.rx_model.specs.Trees.Shapes.{IsWellMade}
 
@@ -23,15 +22,6 @@ abbrev pub IsSpanned : Mode → Pattern → List CodePoint → ℕ → ℕ → T
 IsSpanned mode p us first added =
     Row (environment mode p) (λ place. offset_at first us place + added) (events p) 0 us (length us) []
 
--- the empty literal is read as `(?:)`
-abbrev pub literal_text : List ℕ → List ℕ
-literal_text [] = 40 ∷ 63 ∷ 58 ∷ 41 ∷ []
-literal_text (c ∷ cs) = c ∷ cs
-
--- the units of the text of a literal in a mode
-abbrev pub units_of : Mode → List ℕ → List CodePoint
-units_of mode text = literal_units (is_unicode mode) 0 (literal_text text)
-
 -- A tree that the text spells under the mode, free of early errors.
 pub record Reads (mode : Mode) (p : Pattern) (us : List CodePoint) : Type 0 where
   pub spelled : IsSpelled mode p us
@@ -40,9 +30,3 @@ pub record Reads (mode : Mode) (p : Pattern) (us : List CodePoint) : Type 0 wher
 -- The only one but for spans.
 abbrev pub IsOnly : Mode → Pattern → List CodePoint → Type 0
 IsOnly mode p us = (q : Pattern) → Reads mode q us → unspanned q ≡ unspanned p
-
--- The text and the flags of a literal are valid: the flags are, and some tree reads the text.
-pub record IsValid (text : List ℕ) (flags : Option (List ℕ)) : Type 0 where
-  pub flags_are : flags_ok (flags_of flags) ≡ true
-  pub pattern : Pattern
-  pub reads : Reads (mode_of (flags_of flags)) pattern (units_of (mode_of (flags_of flags)) text)

@@ -9,11 +9,11 @@ use Rattle.rx_base.specs.declared.span.Span.{Span}
 use Rattle.rx_base.specs.SurrogatePair.{IsLeadSurrogate, IsTrailSurrogate}
 use Rattle.rx_units.specs.declared.code_point.CodePoint.{CodePoint}
 use Rattle.rx_units.specs.Units.{values}
+use Rattle.rx_units.specs.Digits.{front_is}
 use Rattle.rx_model.specs.declared.mode.Mode.{Mode}
 use Rattle.rx_model.specs.Refusals.ClassCauses.{IsClassCause}
 use Rattle.rx_model.specs.Trees.Early.{greatest_count, most_groups}
 use Rattle.rx_model.specs.Inputs.Environment.{is_unicode}
-use Rattle.rx_model.specs.Characters.Escapes.{front_is}
 use Rattle.rx_model.specs.Groups.Groups.{EndsName, is_mark}
 use Rattle.rx_model.specs.FirstPass.Marks.{IsFirstClash, marks, name_places, starts}
 use Rattle.rx_model.specs.Groups.Modifiers.{AreSides, has_twice, is_modifier, occurs, share_some}

@@ -1,14 +1,15 @@
 -- Where terms end: neither a Term nor a `|` can stand there (22.2.1), so that a group or the pattern has to end.
 use Rattle.std.specs.Prelude.{◌≡◌, ℕ, Bool, true, false, not, is_some, ◌==◌, ◌&&◌, ◌||◌, List, [], ◌∷◌, codes}
 use Rattle.std.specs.List.{list_any}
-use Rattle.rx_tables.specs.Characters.{is_within, is_decimal_digit, control_letter_value, hex_digit_value}
+use Rattle.rx_tables.specs.Characters.{is_within, is_decimal_digit, control_letter_value}
 use Rattle.rx_units.specs.declared.code_point.CodePoint.{CodePoint}
 use Rattle.rx_units.specs.Units.{values}
+use Rattle.rx_units.specs.Digits.{front_is, is_hex_digit}
 use Rattle.rx_model.specs.declared.mode.Mode.{Mode}
 use Rattle.rx_model.specs.declared.mode.Mode.TheVariants.{Legacy, Unicode, Sets}
 use Rattle.rx_model.specs.Reading.Boundaries.{has_buffers}
 use Rattle.rx_model.specs.Inputs.Environment.{Environment, is_unicode}
-use Rattle.rx_model.specs.Characters.Escapes.{front_is, is_identity_escape}
+use Rattle.rx_model.specs.Characters.Escapes.{is_identity_escape}
 use Rattle.rx_model.specs.Quantifiers.Quantifiers.{BeginsWithBraces, PassesLimit}
 
 abbrev pub is_one_of : List ℕ → ℕ → Bool
@@ -16,9 +17,6 @@ is_one_of cs c = list_any (λ d. d == c) cs
 
 abbrev pub is_letter : ℕ → Bool
 is_letter c = is_some (control_letter_value c)
-
-abbrev pub is_hex_digit : ℕ → Bool
-is_hex_digit c = is_some (hex_digit_value c)
 
 abbrev pub two_hex_digits : List ℕ → Bool
 two_hex_digits [] = false

@@ -3,9 +3,12 @@ use Rattle.std.specs.Prelude.{◌≡◌, ◌≤◌, List, [], ◌∷◌}
 use Rattle.rx_ast.specs.declared.term.Pattern.{Pattern}
 use Rattle.rx_ast.specs.Forget.{bare}
 use Rattle.rx_units.specs.declared.code_point.CodePoint.{CodePoint}
+use Rattle.rx_units.specs.Units.{literal_units}
 use Rattle.rx_model.specs.declared.mode.Mode.{Mode}
 use Rattle.rx_model.specs.declared.mode.Mode.TheVariants.{Legacy}
-use Rattle.rx_model.specs.Reading.Reading.{Reads, units_of}
+use Rattle.rx_model.specs.Inputs.Environment.{is_unicode}
+use Rattle.rx_model.specs.Inputs.Texts.{literal_text}
+use Rattle.rx_model.specs.Reading.Reading.{Reads}
 use Rattle.rx_model.specs.Spelling.Spelling.{spelling}
 
 -- Each unit is a UTF-16 code unit, as those of a text are with neither `u` nor `v`.
@@ -21,4 +24,4 @@ FitIn mode us = mode ≡ Legacy → AreCodeUnits us
 pub record IsReadBack (mode : Mode) (p : Pattern) : Type 0 where
   pub again : Pattern
   pub same : bare again ≡ bare p
-  pub reads : Reads mode again (units_of mode (spelling (bare p) mode))
+  pub reads : Reads mode again (literal_units (is_unicode mode) 0 (literal_text (spelling (bare p) mode)))

@@ -27,8 +27,8 @@ unit_character-character-requires-clause-no_backslash c =
     ap (λ us. stands_alone (values us)) (sym c.remaining_code_points-units.ensures.units) ∙ sym c.stands_alone.ensures ∙ c.if-stands_alone.true in
     alone_begins (values (rest c.args.reader.now)) alone
 
-pub returns-in_err-push-clause-refused : goal.returns-in_err-push-clause-refused
-returns-in_err-push-clause-refused c =
+pub returns-in_err-push_one-clause-refused : goal.returns-in_err-push_one-clause-refused
+returns-in_err-push_one-clause-refused c =
     handed (IsRefused (environment_of c.args.state.now) c.args.spans.now c.args.reader.now c.unit_character-character.new.reader) c.from_residual.ensures.1
     (no_memory (moved_keeps 1 _ _ c.unit_character-character.ensures.reader))
 
@@ -40,20 +40,20 @@ returns-then-stands_alone-clause-added c =
     record {
       it = _;
       gives = lone_gives (environment_of c.args.state.now) c.args.spans.now c.args.reader.now c.requires.no_sets (character.ensures.atom _ c.requires.no_sets) character.ensures.reader alone (character_is character.result);
-      adds = c.in_ok-push.ensures.ok;
+      adds = c.in_ok-push_one.ensures;
     }
 
 pub returns-in_err-range_contents-clause-refused : goal.returns-in_err-range_contents-clause-refused
 returns-in_err-range_contents-clause-refused c =
     handed (IsRefused (environment_of c.args.state.now) c.args.spans.now c.args.reader.now c.unit_range-range.new.reader) c.from_residual-in_err-range_contents.ensures.1 (no_memory c.unit_range-range.ensures.reader)
 
-pub returns-in_err-push-2-clause-refused : goal.returns-in_err-push-2-clause-refused
-returns-in_err-push-2-clause-refused c =
-    handed (IsRefused (environment_of c.args.state.now) c.args.spans.now c.args.reader.now c.unit_range-range.new.reader) c.from_residual-in_err-push-2.ensures.1 (no_memory c.unit_range-range.ensures.reader)
+pub returns-in_err-push_one-2-clause-refused : goal.returns-in_err-push_one-2-clause-refused
+returns-in_err-push_one-2-clause-refused c =
+    handed (IsRefused (environment_of c.args.state.now) c.args.spans.now c.args.reader.now c.unit_range-range.new.reader) c.from_residual-in_err-push_one-2.ensures.1 (no_memory c.unit_range-range.ensures.reader)
 
 pub returns-then-stands_range-clause-added : goal.returns-then-stands_range-clause-added
 returns-then-stands_range-clause-added c =
-    record { it = _; gives = c.unit_range-range.ensures.item _ c.in_ok-range_contents.field-0 c.requires.no_sets c.in_ok-range_contents.ensures; adds = c.in_ok-push-2.ensures.ok }
+    record { it = _; gives = c.unit_range-range.ensures.item _ c.in_ok-range_contents.field-0 c.requires.no_sets c.in_ok-range_contents.ensures; adds = c.in_ok-push_one-2.ensures }
 
 pub returns-in_err-push_item-clause-refused : goal.returns-in_err-push_item-clause-refused
 returns-in_err-push_item-clause-refused c =

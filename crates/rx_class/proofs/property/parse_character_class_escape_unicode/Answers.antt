@@ -1,6 +1,6 @@
 use Rattle.std.proofs.Common.{ap, inr, refl, sym, ◌∙◌}
 use Rattle.rx_units.specs.Units.{values}
-use Rattle.rx_model.specs.Characters.Escapes.{front_is}
+use Rattle.rx_units.specs.Digits.{front_is}
 use Rattle.rx_model.specs.Properties.PropertyForms.{begins_property}
 use Rattle.rx_class.specs.PropertyAnswers.{none}
 use Rattle.rx_class.proofs.property.parse_character_class_escape_unicode.Goals as goal

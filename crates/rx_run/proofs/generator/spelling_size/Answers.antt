@@ -6,7 +6,6 @@ use Rattle.rx_model.specs.Inputs.Inputs.{Input}
 use Rattle.rx_model.specs.Reading.Headline.{IsAnswered}
 use Rattle.rx_tools.specs.declared.outcome.Canonical.{Canonical}
 use Rattle.rx_tools.specs.Spelled.{spelled_of}
-use Rattle.rx_tools.proofs.CanonicalAnswers.{never_later}
 use Rattle.rx_run.specs.Generator.{asked}
 use Rattle.rx_run.proofs.Generating.{asked_is, none_refused, pattern_short, read_sized, text_short}
 use Rattle.rx_run.proofs.generator.spelling_size.Goals as goal
@@ -30,15 +29,12 @@ pub returns-in-Ok : goal.returns-in-Ok
 returns-in-Ok c =
     let at = c.default.ensures in
     read_sized c.args.pattern.now c.in-Ok.it c.as_str-in-Ok.result.now c.as_str-in-Ok.utf8 c.as_str-in-Ok.ensures
-    (alone (Ok c.in-Ok.it) c.args.pattern.now c.as_str.result.now _ _ c.as_str.ensures at.0 at.1 (c.in-Ok.ensures.headline refl))
+    (alone (Ok c.in-Ok.it) c.args.pattern.now c.as_str.result.now _ _ c.as_str.ensures at.0 at.1 c.in-Ok.ensures.headline)
 
-pub unreachable-requires-in-Err-Diagnostic : goal.unreachable-requires-in-Err-Diagnostic
-unreachable-requires-in-Err-Diagnostic c =
+pub unreachable-requires : goal.unreachable-requires
+unreachable-requires c =
     let at = c.default.ensures in
     let arm = c.in-Err-Diagnostic in
     none_refused c.args.pattern.now arm.field-0-0 c.requires
     (subst (λ (f : Fault). IsAnswered spelled_of (asked c.args.pattern.now) (Err f)) arm.field-0-is
-    (alone (Err arm.field-0) c.args.pattern.now c.as_str.result.now _ _ c.as_str.ensures at.0 at.1 (arm.ensures.headline refl)))
-
-pub unreachable-requires : goal.unreachable-requires
-unreachable-requires c = never_later spelled_of _ (rw c.in-Err-NotYet.field-0-is at c.in-Err-NotYet.ensures.headline refl)
+    (alone (Err arm.field-0) c.args.pattern.now c.as_str.result.now _ _ c.as_str.ensures at.0 at.1 arm.ensures.headline))

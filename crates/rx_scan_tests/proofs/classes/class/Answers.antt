@@ -1,4 +1,4 @@
-use Rattle.std.proofs.Common.{◌∙◌, sym, subst, ◌+◌, ◌-◌, ◌<◌, ◌^◌, true, arith, rules, length}
+use Rattle.std.proofs.Common.{refl, ◌∙◌, sym, subst, ◌+◌, ◌-◌, ◌<◌, ◌^◌, true, arith, rules, length}
 use Rattle.rx_units.specs.Cursor.{Cursor}
 use Rattle.rx_class.specs.ClassAnswers.{HoldsFirstPass}
 use Rattle.rx_class.proofs.FirstPasses.{holds_first_pass, without_err}
@@ -19,4 +19,4 @@ parse_character_class-found-requires-clause-pass c =
 pub parse_character_class-found-requires-clause-fits : goal.parse_character_class-found-requires-clause-fits
 parse_character_class-found-requires-clause-fits c =
     let fits : c.new.result + length c.args.text.now < 2 ^ 32 = omega (arith, c.requires, c.new.ensures) in
-    made_are_fitting true c.args.text.now c.new.result c.initialize_with_parsing.new.reader c.utf8.text fits (c.initialize_with_parsing.ensures.reader ∙ c.in_ok-reader.ensures)
+    made_are_fitting true c.args.text.now c.new.result c.initialize_with_parsing.new.reader c.utf8.text fits (c.initialize_with_parsing.ensures.reader ∙ c.in_ok-reader.ensures.literal refl)

@@ -1,24 +1,26 @@
-use Rattle.std.proofs.Common.{ap, sym, ◌∙◌, subst, ℕ, List}
-use Rattle.std.specs.Borrow.{Bor}
-use Rattle.std.proofs.lemmas.Result.{IfOk-weaker}
-use Rattle.rx_model.specs.declared.form.Form.TheVariants.{Literal}
-use Rattle.rx_model.specs.Inputs.Flags.{flags_of, mode_of}
-use Rattle.rx_model.specs.Reading.Headline.{IsParsed}
-use Rattle.rx_parser.specs.Literals.{flags_chars, input_of}
-use Rattle.rx_tools.proofs.CanonicalAnswers.{text_points, with_spelling}
+use Rattle.rx_model.specs.declared.form.Form.TheVariants.{Literal, Constructor}
+use Rattle.rx_parser.specs.Inputs.{input_of}
+use Rattle.rx_tools.proofs.CanonicalAnswers.{parser_answers, same_input, text_points}
 use Rattle.rx_tools.proofs.reading.read_pattern.Goals as goal
 
-pub returns-in-Literal-clause-headline : goal.returns-in-Literal-clause-headline
-returns-in-Literal-clause-headline c = λ literal.
-    let input = input_of c.args.form c.args.pattern_text.now c.args.flags_text c.args.options in
-    let text = c.args.pattern_text.now in
+pub returns-in-Literal : goal.returns-in-Literal
+returns-in-Literal c =
+    let it = c.args in
+    let made = c.new.result in
     let given = c.new.ensures in
-    let answer = c.parse_with_mode.result in
-    let told = c.parse_with_mode.ensures.answered in
-    let parsed : IsParsed (λ it. it.0) input answer =
-    subst (λ form. IsParsed (λ it. it.0) (input_of form text c.args.flags_text c.args.options) answer) (sym c.in-Literal.is)
-    (subst (λ options. IsParsed (λ it. it.0) (input_of Literal text c.args.flags_text options) answer) given.options
-    (subst (λ flags. IsParsed (λ it. it.0) (input_of Literal text flags c.new.result.options) answer) given.flags_text
-    (subst (λ (text : Bor (List ℕ)). IsParsed (λ it. it.0) (input_of Literal text.now c.new.result.flags_text c.new.result.options) answer) given.pattern_text told))) in
-    with_spelling input (text_points text c.utf8.pattern_text) answer parsed
-    (IfOk-weaker answer _ _ (λ it mode. mode ∙ ap (λ flags. mode_of (flags_of (flags_chars flags))) given.flags_text) c.parse_with_mode.ensures.mode)
+    record {
+      headline = parser_answers (input_of Literal made.pattern_text.now made.flags_text made.options) (input_of it.form it.pattern_text.now it.flags_text it.options)
+          (same_input Literal it.form made.pattern_text it.pattern_text made.flags_text it.flags_text made.options it.options c.in-Literal.is given.pattern_text given.flags_text given.options)
+          (text_points it.pattern_text.now c.utf8.pattern_text) c.parse_with_mode.result c.parse_with_mode.ensures.answered c.parse_with_mode.ensures.mode;
+    }
+
+pub returns-in-Constructor : goal.returns-in-Constructor
+returns-in-Constructor c =
+    let it = c.args in
+    let made = c.new-in-Constructor.result in
+    let given = c.new-in-Constructor.ensures in
+    record {
+      headline = parser_answers (input_of Constructor made.pattern_text.now made.flags_text made.options) (input_of it.form it.pattern_text.now it.flags_text it.options)
+          (same_input Constructor it.form made.pattern_text it.pattern_text made.flags_text it.flags_text made.options it.options c.in-Constructor.is given.pattern_text given.flags_text given.options)
+          (text_points it.pattern_text.now c.utf8.pattern_text) c.parse_with_mode-in-Constructor.result c.parse_with_mode-in-Constructor.ensures.answered c.parse_with_mode-in-Constructor.ensures.mode;
+    }

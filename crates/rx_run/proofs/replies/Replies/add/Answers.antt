@@ -1,31 +1,21 @@
-use Rattle.std.proofs.Common.{◌≡◌, ◌∙◌, refl, sym, ap, subst, ℕ, Result, Ok, Err, Bool, false, ◌&&◌, rules}
+use Rattle.std.proofs.Common.{◌≡◌, ◌∙◌, refl, sym, ap, subst, Ok, Err, Bool, false, ◌&&◌, rules}
 use Rattle.std.specs.Str.{chars}
 use Rattle.std.proofs.lemmas.Bool.{and_right}
 use Rattle.std.proofs.lemmas.Result.{on_ok_weaker}
 use Rattle.std.proofs.Math.Bool.{and-true}
 use Rattle.rx_base.specs.declared.fault.Fault.TheVariants as fault
-use Rattle.rx_base.specs.declared.fault.Fault.{Fault}
 use Rattle.rx_ast.specs.declared.term.Pattern.{Pattern}
 use Rattle.rx_ast.specs.Forget.{bare}
-use Rattle.rx_model.specs.declared.form.Form.TheVariants.{Constructor}
 use Rattle.rx_model.specs.declared.mode.Mode.{Mode}
 use Rattle.rx_model.specs.Reading.Headline.{IsAnswered}
 use Rattle.rx_model.specs.Spelling.Spelling.{spelling}
 use Rattle.rx_tools.specs.Spelled.{read_of}
-use Rattle.rx_tools.proofs.CanonicalAnswers.{is_constructor, is_literal}
-use Rattle.rx_parser.specs.Literals.{flags_chars}
+use Rattle.rx_tools.proofs.CanonicalAnswers.{by_itself}
+use Rattle.rx_parser.specs.Inputs.{flags_chars}
 use Rattle.rx_run.specs.Request.{Request}
-use Rattle.rx_run.specs.Reply.{bad, later, bad_reply, later_reply, ok_reply, err_reply, input_of}
+use Rattle.rx_run.specs.Reply.{bad, bad_reply, ok_reply, err_reply, input_of}
 use Rattle.rx_run.proofs.Answering.{err_reply_is, ok_reply_is}
 use Rattle.rx_run.proofs.replies.Replies.add.Goals as goal
-
--- an answer at offsets that are 0
-by_itself : (request : Request) (answer : Result (Pattern × Mode) Fault) (text_offset flags_offset : ℕ) → text_offset ≡ 0 → flags_offset ≡ 0
-    → IsAnswered read_of (record { form = request.form; text = request.text; flags = request.flags; text_offset = text_offset; flags_offset = flags_offset }) answer
-    → IsAnswered read_of (input_of request) answer
-by_itself request answer text_offset flags_offset text_is flags_is answered =
-    subst (λ n. IsAnswered read_of (record { form = request.form; text = request.text; flags = request.flags; text_offset = 0; flags_offset = n }) answer) flags_is
-    (subst (λ n. IsAnswered read_of (record { form = request.form; text = request.text; flags = request.flags; text_offset = n; flags_offset = flags_offset }) answer) text_is answered)
 
 -- a refusal turns the flag
 turned : (new old : Bool) → new ≡ false → new ≡ (old && false)
@@ -40,12 +30,11 @@ pub returns-in-Ok : goal.returns-in-Ok
 returns-in-Ok c =
     let request : Request = record { form = c.in-Some.request.form; flags = flags_chars c.in-Some.request.flags; text = chars c.in-Some.request.text.now } in
     let it : Pattern × Mode = (c.in-Ok.pattern, c.in-Ok.mode) in
-    let literal = is_literal request.form (Ok it) c.in-Ok.ensures.not_yet (λ e. cc) in
     on_ok_weaker c.add_ok.result
     (λ added. (
       ok_reply it.1 (spelling (bare it.0) it.1),
-      ok_reply_is c.args.line.now request it c.in-Some.ensures.asked literal
-          (by_itself request (Ok it) c.default-options.result.pattern_span_offset c.default-options.result.flags_span_offset (search rules) (search rules) (c.in-Ok.ensures.headline literal)),
+      ok_reply_is c.args.line.now request it c.in-Some.ensures.asked
+          (by_itself read_of request.form request.text request.flags (Ok it) c.default-options.result.pattern_span_offset c.default-options.result.flags_span_offset (search rules) (search rules) c.in-Ok.ensures.headline),
       added,
       c.add_ok.ensures.all_ok ∙ sym (and-true c.args.self.now.all_ok),
     ))
@@ -56,22 +45,11 @@ returns-in-Err-Diagnostic c =
     let request : Request = record { form = c.in-Some.request.form; flags = flags_chars c.in-Some.request.flags; text = chars c.in-Some.request.text.now } in
     let cause = c.in-Err-Diagnostic.cause in
     let is : c.read_pattern.result ≡ Err (fault.Diagnostic cause) = c.in-Err-Diagnostic.is ∙ ap Err c.in-Err-Diagnostic.field-0-is in
-    let literal = is_literal request.form c.read_pattern.result c.read_pattern.ensures.not_yet (λ e. let e' = sym is ∙ e in cc) in
     let options = c.default-options.result in
     let answered : IsAnswered read_of (input_of request) (Err (fault.Diagnostic cause)) =
-    by_itself request (Err (fault.Diagnostic cause)) options.pattern_span_offset options.flags_span_offset (search rules) (search rules)
+    by_itself read_of request.form request.text request.flags (Err (fault.Diagnostic cause)) options.pattern_span_offset options.flags_span_offset (search rules) (search rules)
     (subst (λ r. IsAnswered read_of (record { form = request.form; text = request.text; flags = request.flags; text_offset = options.pattern_span_offset; flags_offset = options.flags_span_offset }) r)
-    is (c.read_pattern.ensures.headline literal)) in
+    is c.read_pattern.ensures.headline) in
     let add = c.add_err in
-    on_ok_weaker add.result (λ added. (err_reply cause, err_reply_is c.args.line.now request cause c.in-Some.ensures.asked literal answered, added, turned add.new.self.all_ok c.args.self.now.all_ok add.ensures.all_ok))
+    on_ok_weaker add.result (λ added. (err_reply cause, err_reply_is c.args.line.now request cause c.in-Some.ensures.asked answered, added, turned add.new.self.all_ok c.args.self.now.all_ok add.ensures.all_ok))
     (rw c.in-Err-Diagnostic.field-0-is at add.ensures.bytes)
-
-pub returns-in-Err-NotYet : goal.returns-in-Err-NotYet
-returns-in-Err-NotYet c =
-    let request : Request = record { form = c.in-Some.request.form; flags = flags_chars c.in-Some.request.flags; text = chars c.in-Some.request.text.now } in
-    let options = c.default-options.result in
-    let constructor : request.form ≡ Constructor =
-    is_constructor read_of (record { form = request.form; text = request.text; flags = request.flags; text_offset = options.pattern_span_offset; flags_offset = options.flags_span_offset })
-    (λ literal. rw c.in-Err-NotYet.field-0-is at c.in-Err-NotYet.ensures.headline literal) in
-    let add = c.add_refusal-in-Err-NotYet in
-    on_ok_weaker add.result (λ added. (later_reply, later request c.in-Some.ensures.asked constructor, added, turned add.new.self.all_ok c.args.self.now.all_ok add.ensures.all_ok)) add.ensures.bytes

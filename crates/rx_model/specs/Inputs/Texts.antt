@@ -1,0 +1,45 @@
+-- The texts that are read as the text of a pattern or as flags, in both forms: of a literal, and of a quoted argument of RegExp.
+use Rattle.std.specs.Prelude.{ℕ, Bool, true, ◌==◌, ◌&&◌, ◌||◌, List, [], ◌∷◌, Option, Some, None, if◌then◌else◌}
+use Rattle.rx_units.specs.declared.code_point.CodePoint.{CodePoint}
+use Rattle.rx_units.specs.Sources.{Decodes}
+use Rattle.rx_units.specs.Units.{literal_units}
+use Rattle.rx_model.specs.declared.form.Form.{Form}
+use Rattle.rx_model.specs.declared.form.Form.TheVariants.{Literal, Constructor}
+
+-- the empty literal is read as `(?:)`
+abbrev pub literal_text : List ℕ → List ℕ
+literal_text [] = 40 ∷ 63 ∷ 58 ∷ 41 ∷ []
+literal_text (c ∷ cs) = c ∷ cs
+
+-- " or ' or a grave accent
+abbrev pub is_quote : ℕ → Bool
+is_quote c = c == 34 || (c == 39 || c == 96)
+
+-- two quotes of one kind are read as "(?:)"
+abbrev pub quoted_text : List ℕ → List ℕ
+quoted_text (c ∷ d ∷ []) = if is_quote c && c == d then 34 ∷ 40 ∷ 63 ∷ 58 ∷ 41 ∷ 34 ∷ [] else c ∷ d ∷ []
+quoted_text text = text
+
+-- the text of a pattern, or what stands in for an empty one (EscapeRegExpPattern, 22.2.6.13.1)
+abbrev pub stand_in : Form → List ℕ → List ℕ
+stand_in Literal text = literal_text text
+stand_in Constructor text = quoted_text text
+
+-- the offset at place 0: a quote is one byte
+abbrev pub first_offset : Form → ℕ
+first_offset Literal = 0
+first_offset Constructor = 1
+
+-- The units of a text in a form, a character past FFFF being one of them or not: those of a literal, or those to which a quoted text is decoded.
+pub data AreUnits (joined : Bool) (text : List ℕ) : Form → List CodePoint → Type 0 where
+  of_literal : AreUnits joined text Literal (literal_units joined 0 text)
+  of_quoted : {us : List CodePoint} → Decodes joined text us → AreUnits joined text Constructor us
+
+-- No units are those of the text in this form.
+abbrev pub HasNoUnits : Bool → List ℕ → Form → Type 0
+HasNoUnits joined text form = (us : List CodePoint) → AreUnits joined text form us → ⊥
+
+-- The units of flags, in which no character is split. No flags text is no flags.
+pub data AreFlagUnits (form : Form) : Option (List ℕ) → List CodePoint → Type 0 where
+  no_flags : AreFlagUnits form None []
+  some_flags : {text : List ℕ} {us : List CodePoint} → AreUnits true text form us → AreFlagUnits form (Some text) us

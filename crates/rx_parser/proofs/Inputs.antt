@@ -1,0 +1,107 @@
+-- From what is answered to flags and to units, to what is answered to an input.
+use Rattle.std.proofs.Common.{◌≡◌, refl, ap, sym, ◌∙◌, subst, ℕ, Bool, true, false, ◌||◌, ◌⊎◌, List, Some, Result, Ok, Err, IsErrAnd, inl, inr}
+use Rattle.std.specs.Prelude.{if◌then◌else◌}
+use Rattle.std.proofs.lemmas.Result.{err_from_is_err_and}
+use Rattle.rx_ast.specs.declared.term.Pattern.{Pattern}
+use Rattle.rx_base.specs.declared.diagnostic.Diagnostic.{Diagnostic}
+use Rattle.rx_base.specs.declared.diagnostic.Diagnostic.TheVariants.{InvalidInput}
+use Rattle.rx_base.specs.declared.fault.Fault.{Fault}
+use Rattle.rx_base.specs.declared.fault.Fault.TheVariants as fault
+use Rattle.rx_units.specs.declared.code_point.CodePoint.{CodePoint}
+use Rattle.rx_units.specs.Units.{values}
+use Rattle.rx_model.specs.declared.mode.Mode.{Mode}
+use Rattle.rx_model.specs.declared.mode.Mode.TheVariants.{Legacy, Unicode, Sets}
+use Rattle.rx_model.specs.Inputs.Environment.{is_unicode}
+use Rattle.rx_model.specs.Inputs.Flags.{flags_ok, holds, mode_of, modes_of}
+use Rattle.rx_model.specs.Inputs.Inputs.{Asks, AsksFor, Input}
+use Rattle.rx_model.specs.Inputs.Modes.{mode_by}
+use Rattle.rx_model.specs.Inputs.Texts.{AreFlagUnits, AreUnits, HasNoUnits, first_offset, some_flags, stand_in}
+use Rattle.rx_model.specs.Reading.Headline.{IsFaultOf, IsFirstRefusal, IsParsed, IsValid, no_flags_text, no_memory, no_text, of_flags, of_text, refused, whole_span}
+use Rattle.rx_model.specs.Refusals.FlagCauses.{IsFlagCause}
+use Rattle.rx_model.proofs.Refusals.OneRefusal.{none_of_valid}
+use Rattle.rx_parser.specs.Parsing.{AnswersUnits, IsRefused}
+use Rattle.rx_parser.proofs.StandIns.{none_stands_in}
+
+-- what is passed on is the fault
+pub passed_on : {A : Type 0} (r : Result A Fault) (it : Fault) → IsErrAnd r (λ e. e ≡ it) → r ≡ Err it
+passed_on r it h = let p = err_from_is_err_and r h in p.1 ∙ ap Err p.2
+
+modes_give : (sets unicode : Bool) → mode_by (sets || unicode) sets ≡ (if sets then Sets else (if unicode then Unicode else Legacy))
+modes_give true unicode = refl
+modes_give false true = refl
+modes_give false false = refl
+
+-- the mode of the two truth values that flags give
+pub mode_of_modes : (flags : List ℕ) (modes : Bool × Bool) → modes ≡ modes_of flags → mode_by modes.0 modes.1 ≡ mode_of flags
+mode_of_modes flags modes h =
+    ap (λ (p : Bool × Bool). mode_by p.0 p.1) h ∙ modes_give (holds flags 118) (holds flags 117)
+
+module _ (input : Input) where
+  -- on valid input memory is wanting
+  no_other : (it : Fault) → IsFaultOf input it → IsValid input → it ≡ fault.OutOfMemory
+  no_other it no_memory valid = refl
+  no_other it (refused {refusal = d} h) valid = absurd (none_of_valid input d h valid)
+
+  pub fault_parsed : (it : Fault) → IsFaultOf input it → IsParsed (λ (p : Pattern × Mode). p.0) input (Err it)
+  fault_parsed it h = record { valid = tt; complete = no_other it h; read = tt; refused = h }
+
+  -- the tree without the mode
+  pub tree_alone : (p : Pattern) (m : Mode) → IsParsed (λ (p : Pattern × Mode). p.0) input (Ok (p, m)) → IsParsed (λ p. p) input (Ok p)
+  tree_alone p m parsed = record { valid = parsed.valid; complete = λ _. tt; read = parsed.read; refused = tt }
+
+  -- A text that is not decoded is refused as a whole,
+  unread_fault : (it : Fault) (d : Diagnostic) (Unread : Type 0) → (Unread → IsFirstRefusal input d) → (it ≡ fault.OutOfMemory) ⊎ ((it ≡ fault.Diagnostic d) × Unread) → IsFaultOf input it
+  unread_fault it d Unread says (inl e) = subst (IsFaultOf input) (sym e) no_memory
+  unread_fault it d Unread says (inr h) = subst (IsFaultOf input) (sym h.0) (refused (says h.1))
+
+  -- be it that of the flags,
+  pub unread_flags : (text : List ℕ) (it : Fault) → input.flags ≡ Some text
+      → (it ≡ fault.OutOfMemory) ⊎ ((it ≡ fault.Diagnostic (InvalidInput (whole_span text input.flags_offset))) × HasNoUnits true text input.form) → IsFaultOf input it
+  unread_flags text it given h = unread_fault it (InvalidInput (whole_span text input.flags_offset)) (HasNoUnits true text input.form) (no_flags_text given) h
+
+  -- or that of the pattern, for which nothing stood in.
+  pub unread_text : (mode : Mode) (joined : Bool) (text : List ℕ) (it : Fault) → AsksFor input mode → is_unicode mode ≡ joined → text ≡ stand_in input.form input.text
+      → (it ≡ fault.OutOfMemory) ⊎ ((it ≡ fault.Diagnostic (InvalidInput (whole_span text input.text_offset))) × HasNoUnits joined text input.form) → IsFaultOf input it
+  unread_text mode joined text it asks unicode stands h =
+      unread_fault it (InvalidInput (whole_span text input.text_offset)) (HasNoUnits joined text input.form) (λ none.
+      let none_too : HasNoUnits (is_unicode mode) (stand_in input.form input.text) input.form =
+      subst (λ j. HasNoUnits j (stand_in input.form input.text) input.form) (sym unicode) (subst (λ t. HasNoUnits joined t input.form) stands none) in
+      let own : text ≡ input.text = stands ∙ none_stands_in (is_unicode mode) input.form input.text none_too in
+      subst (λ t. IsFirstRefusal input (InvalidInput (whole_span t input.text_offset))) (sym own) (no_text asks none_too)) h
+
+  -- flags that are read, and wrong
+  pub wrong_flags : (text : List ℕ) (us : List CodePoint) (d : Diagnostic) → input.flags ≡ Some text → AreUnits true text input.form us
+      → IsFlagCause us (first_offset input.form) input.flags_offset d → IsFaultOf input (fault.Diagnostic d)
+  wrong_flags text us d given units cause = refused (of_flags (subst (λ flags. AreFlagUnits input.form flags us) (sym given) (some_flags units)) cause)
+
+  -- flags that are right
+  pub right_flags : (text : List ℕ) (us : List CodePoint) (modes : Bool × Bool) → input.flags ≡ Some text → AreUnits true text input.form us → flags_ok (values us) ≡ true
+      → modes ≡ modes_of (values us) → AsksFor input (mode_by modes.0 modes.1)
+  right_flags text us modes given units right gives = record {
+    flags = us;
+    flags_are = subst (λ flags. AreFlagUnits input.form flags us) (sym given) (some_flags units);
+    are_right = right;
+    mode_is = mode_of_modes (values us) modes gives;
+  }
+
+  -- the units of a text, or of what stands in for it
+  pub text_asked : (mode : Mode) (joined : Bool) (text : List ℕ) (us : List CodePoint) → AsksFor input mode → is_unicode mode ≡ joined → text ≡ stand_in input.form input.text
+      → AreUnits joined text input.form us → Asks input mode us
+  text_asked mode joined text us asks unicode stands units = record {
+    mode_asked = asks;
+    units_are = subst (λ j. AreUnits j (stand_in input.form input.text) input.form us) (sym unicode) (subst (λ t. AreUnits joined t input.form us) stands units);
+  }
+
+  -- a text that is read, and its units
+  module _ (mode : Mode) (us : List CodePoint) (asked : Asks input mode us) where
+    pub units_fault : (it : Fault) → IsRefused mode us (first_offset input.form) input.text_offset it → IsFaultOf input it
+    units_fault fault.OutOfMemory h = no_memory
+    units_fault (fault.Diagnostic d) h = refused (of_text asked h)
+
+    pub units_parsed : (p : Pattern) (m : Mode) → AnswersUnits mode us (first_offset input.form) input.text_offset (Ok p) → IsParsed (λ (p : Pattern × Mode). p.0) input (Ok (p, m))
+    units_parsed p m a = record {
+      valid = record { mode = mode; units = us; asked = asked; pattern = p; reads = a.whole.reads };
+      complete = λ _. tt;
+      read = (mode, record { units = us; asked = asked; reads = a.whole.reads; only = a.only; spanned = a.whole.spanned; groups = a.groups });
+      refused = tt;
+    }

@@ -1,0 +1,28 @@
+-- What a parser of a form is given, as an input.
+use Rattle.std.specs.Prelude.{ℕ, List, Option, Some, None, length}
+use Rattle.std.specs.Borrow.{Bor}
+use Rattle.std.specs.Str.{chars}
+use Rattle.rx_model.specs.declared.form.Form.{Form}
+use Rattle.rx_model.specs.declared.form.Form.TheVariants.{Literal, Constructor}
+use Rattle.rx_model.specs.Inputs.Inputs.{Input}
+use Rattle.rx_parser.specs.declared.options.Options.{Options}
+
+-- the flags, if there is a flags text
+abbrev pub flags_chars : Option (Bor (List ℕ)) → Option (List ℕ)
+flags_chars None = None
+flags_chars (Some flags) = Some (chars flags.now)
+
+-- in bytes
+abbrev pub flags_length : Option (Bor (List ℕ)) → ℕ
+flags_length None = 0
+flags_length (Some flags) = length flags.now
+
+-- how many bytes stand in for an empty text
+abbrev pub stand_in_length : Form → ℕ
+stand_in_length Literal = 4
+stand_in_length Constructor = 6
+
+-- what is to be read of a form, a text and a flags text
+abbrev pub input_of : Form → List ℕ → Option (Bor (List ℕ)) → Options → Input
+input_of form text flags options =
+    record { form = form; text = chars text; flags = flags_chars flags; text_offset = options.pattern_span_offset; flags_offset = options.flags_span_offset }

@@ -1,0 +1,20 @@
+-- Tests, and choices by them.
+use Rattle.std.proofs.Common.{◌≡◌, Bool, true, false, cond, is_some, ◌&&◌, Option, Some, None, refl, ◌⊎◌, inl, inr}
+
+-- which way a choice went
+pub chosen : {A : Type 0} {x y z : A} (b : Bool) → cond b x y ≡ z → ((b ≡ true) × (x ≡ z)) ⊎ ((b ≡ false) × (y ≡ z))
+chosen true h = inl (refl, h)
+chosen false h = inr (refl, h)
+
+-- what holds of both ways of a choice
+pub either_way : {A : Type 0} (P : A → Type 0) (b : Bool) (x y : A) → P x → P y → P (cond b x y)
+either_way P true x y h k = h
+either_way P false x y h k = k
+
+pub both : (a b : Bool) → (a && b) ≡ true → (a ≡ true) × (b ≡ true)
+both true b h = (refl, h)
+both false b h = absurd (let k : ⊥ = cc in k)
+
+pub is_none : {A : Type 0} (o : Option A) → is_some o ≡ false → o ≡ None
+is_none None h = refl
+is_none (Some x) h = absurd (let no : ⊥ = cc h in no)

@@ -1,0 +1,147 @@
+-- What stands where reading stops, against what is decoded and against the faults.
+use Rattle.std.proofs.Common.{◌≡◌, ℕ, ◌+◌, ◌==◌, Bool, true, false, is_some, ◌&&◌, ◌||◌, List, [], ◌∷◌, length, take, drop, Option, Some, None, refl, sym, ap, ◌∙◌, subst, arith, inl, inr}
+use Rattle.std.proofs.lemmas.Bool.{eqb-true}
+use Rattle.rx_units.specs.declared.code_point.CodePoint.{CodePoint}
+use Rattle.rx_units.specs.declared.quoted_text.element.Element.{Element}
+use Rattle.rx_units.specs.declared.quoted_text.literal.Literal.{Literal}
+use Rattle.rx_units.specs.declared.quoted_text.literal.Literal.TheVariants as literals
+use Rattle.rx_units.specs.declared.options.Options.{Options}
+use Rattle.rx_units.specs.declared.quoted_text.reading.Stop.{Stop}
+use Rattle.rx_units.specs.declared.string_literal_parser.LegacyKind.{LegacyKind}
+use Rattle.rx_units.specs.declared.string_literal_parser.StringLiteralKind.{StringLiteralKind}
+use Rattle.rx_units.specs.declared.string_literal_parser.StringLiteralKind.TheVariants as quotes
+use Rattle.rx_units.specs.Quoted.Answers.{IsStop, legacy_fault, string_fault_at}
+use Rattle.rx_units.specs.Quoted.Elements.{quote_of}
+use Rattle.rx_units.specs.Quoted.Faults.{PassesHex, IsStringFault, nothing, followed, legacy, too_large, from_to}
+use Rattle.rx_units.specs.declared.string_literal_parser.StringFault.TheVariants as string_fault
+use Rattle.rx_units.specs.Quoted.Found.{is_closer, seen_front}
+use Rattle.rx_units.specs.Quoted.Fronts as read
+use Rattle.rx_units.specs.Quoted.Texts.{Given, Place, IsReached, IsDecoded, byte_count}
+use Rattle.rx_units.proofs.Quoted.Choices.{chosen}
+use Rattle.rx_units.proofs.Quoted.Escapes.{Passes, passes_found}
+use Rattle.rx_units.proofs.Quoted.Fronts.{closer_found, nothing_stands, passes_front}
+use Rattle.rx_units.proofs.Quoted.ReadForms.{legacy_read}
+use Rattle.rx_units.proofs.Quoted.Turns.{place}
+use Rattle.rx_units.proofs.Quoted.Widths.{taken}
+
+abbrev is_large : read.Front → Bool
+is_large (read.too_large n) = true
+is_large _ = false
+
+abbrev NoLarge : read.Front → Type 0
+NoLarge r = is_large r ≡ false
+
+no_large : (r : read.Front) (n : ℕ) → NoLarge r → r ≡ read.too_large n → ⊥
+no_large r n h e = let k : true ≡ false = sym (ap is_large e) ∙ h in cc k
+
+-- Digits that pass 32 bits stand here.
+pub record Large (n : ℕ) (us : List ℕ) : Type 0 where
+  pub digits : List ℕ
+  pub over : PassesHex us digits
+  pub count : n ≡ length digits + 3
+
+large_of : (n m : ℕ) (w : List ℕ) → Passes m w → read.too_large m ≡ read.too_large n → Large n (92 ∷ w)
+large_of n m w p h = record {
+  digits = p.digits;
+  over = p.over;
+  count = (let k : n ≡ m = cc h in k) ∙ p.count;
+}
+
+escape_large : (w : List ℕ) (n : ℕ) (r : read.EscapeRead) → read.escape_at w ≡ r → read.string_escape r w ≡ read.too_large n → Large n (92 ∷ w)
+escape_large w n (read.escaped v k m) e h = absurd (let no : ⊥ = cc h in no)
+escape_large w n read.digit e h = absurd (no_large (read.legacy_at w) n (legacy_read NoLarge (λ e n. refl) refl w) h)
+escape_large w n read.unended e h = absurd (let no : ⊥ = cc h in no)
+escape_large w n (read.no_hex m) e h = absurd (let no : ⊥ = cc h in no)
+escape_large w n (read.no_unicode m) e h = absurd (let no : ⊥ = cc h in no)
+escape_large w n (read.passes m) e h = large_of n m w (passes_found m w e) h
+
+string_large : (quote : ℕ) (us : List ℕ) (n : ℕ) → read.string_front quote us ≡ read.too_large n → Large n us
+string_large quote [] n h = absurd (let no : ⊥ = cc h in no)
+string_large quote (c ∷ w) n h = elim (chosen (c == quote) h) [
+  | inl p ↦ absurd (let no : ⊥ = cc p.1 in no)
+  | inr p ↦ elim (chosen (c == 92) p.1) [
+    | inl q ↦ subst (λ c. Large n (c ∷ w)) (sym (eqb-true c 92 q.0)) (escape_large w n (read.escape_at w) refl q.1)
+    | inr q ↦ elim (chosen (c == 13 || c == 10) q.1) [ inl r ↦ absurd (let no : ⊥ = cc r.1 in no) | inr r ↦ absurd (let no : ⊥ = cc r.1 in no) ]
+  ]
+]
+
+pub large_found : (k : StringLiteralKind) (us : List ℕ) (n : ℕ) → read.front (literals.String k) us ≡ read.too_large n → Large n us
+unfolding read.front
+large_found quotes.Double us n h = string_large 34 us n h
+large_found quotes.Single us n h = string_large 39 us n h
+
+-- at a closing quote that does not end the text
+pub followed_there : (l : Literal) (us : List ℕ) → read.front l us ≡ read.closer → (length us == 1) ≡ false → (c : ℕ) × (cs : List ℕ) × (us ≡ quote_of l ∷ c ∷ cs)
+followed_there l us h no_end = let found = closer_found l us h in go found.0 found.1
+  where
+    go : (more : List ℕ) → us ≡ quote_of l ∷ more → (c : ℕ) × (cs : List ℕ) × (us ≡ quote_of l ∷ c ∷ cs)
+    go [] e = let no : true ≡ false = sym (ap (λ us. length us == 1) e) ∙ no_end in absurd (let k : ⊥ = cc no in k)
+    go (c ∷ cs) e = (c, cs, e)
+
+module _ (k : StringLiteralKind) (o : Options) (text : List ℕ) (p : Place) (reached : IsReached (literals.String k) o text p) where
+  legacy_stands : (e : Element) (n : ℕ) → read.front (literals.String k) p.rest ≡ read.element e n → o.strict_mode ≡ true → (m : Option LegacyKind) → e.legacy ≡ m → is_some m ≡ true
+      → IsStringFault o text (legacy_fault m p.offset (p.offset + byte_count (take n p.rest)))
+  legacy_stands e n h strict (Some what) is some = let t = taken (literals.String k) p.rest e n h in legacy e (take n p.rest) (drop n p.rest) reached t.whole t.spells strict is
+  legacy_stands e n h strict None is some = absurd (let no : ⊥ = cc some in no)
+
+  large_stands : (n : ℕ) → Large n p.rest → IsStringFault o text (string_fault.TooLargeUnicodeEscapeSequence (from_to p.offset (p.offset + n)))
+  large_stands n l =
+      subst (λ (end : ℕ). IsStringFault o text (string_fault.TooLargeUnicodeEscapeSequence (from_to p.offset end))) (let e : p.offset + 3 + length l.digits ≡ p.offset + n = omega (arith, l.count) in e)
+      (too_large reached l.over)
+
+  nothing_here : (f : read.Front) → f ≡ read.front (literals.String k) p.rest → ((e : Element) (n : ℕ) → f ≡ read.element e n → ⊥) → (f ≡ read.closer → ⊥) → ((n : ℕ) → f ≡ read.too_large n → ⊥)
+      → IsStringFault o text (string_fault.InvalidInput (from_to p.offset p.offset))
+  nothing_here f h no_element no_closer no_large =
+      nothing reached (nothing_stands (literals.String k) p.rest (λ e n x. no_element e n (h ∙ x)) (λ x. no_closer (h ∙ x)))
+      (λ digits x. no_large (length digits + 3) (h ∙ passes_front (literals.String k) p.rest digits x))
+
+  -- where a string is not decoded, its fault stands
+  pub string_fault_stands : (f : read.Front) → f ≡ read.front (literals.String k) p.rest
+      → ((e : Element) (n : ℕ) → read.front (literals.String k) p.rest ≡ read.element e n → (o.strict_mode ≡ true) × (is_some e.legacy ≡ true))
+      → (is_closer f && (length p.rest == 1)) ≡ false → IsStringFault o text (string_fault_at f p.offset p.rest)
+  string_fault_stands (read.element e n) h ends no_end = let x = ends e n (sym h) in legacy_stands e n (sym h) x.0 e.legacy refl x.1
+  string_fault_stands read.closer h ends no_end = let c = followed_there (literals.String k) p.rest (sym h) no_end in followed reached c.2
+  string_fault_stands (read.nothing n) h ends no_end = nothing_here (read.nothing n) h (λ e n x. let no : ⊥ = cc x in no) (λ x. let no : ⊥ = cc x in no) (λ n x. let no : ⊥ = cc x in no)
+  string_fault_stands read.substitution h ends no_end = nothing_here read.substitution h (λ e n x. let no : ⊥ = cc x in no) (λ x. let no : ⊥ = cc x in no) (λ n x. let no : ⊥ = cc x in no)
+  string_fault_stands (read.invalid_hex m) h ends no_end = nothing_here (read.invalid_hex m) h (λ e n x. let no : ⊥ = cc x in no) (λ x. let no : ⊥ = cc x in no) (λ n x. let no : ⊥ = cc x in no)
+  string_fault_stands (read.invalid_unicode m) h ends no_end = nothing_here (read.invalid_unicode m) h (λ e n x. let no : ⊥ = cc x in no) (λ x. let no : ⊥ = cc x in no) (λ n x. let no : ⊥ = cc x in no)
+  string_fault_stands (read.too_large n) h ends no_end = large_stands n (large_found k p.rest n (sym h))
+
+-- at the closing quote that ends the text
+pub end_there : (l : Literal) (rest : List ℕ) (f : read.Front) → f ≡ read.front l rest → (is_closer f && (length rest == 1)) ≡ true → rest ≡ quote_of l ∷ []
+end_there l rest read.closer h e = let c = closer_found l rest (sym h) in go c.0 c.1 (eqb-true (length rest) 1 e)
+  where
+    go : (more : List ℕ) → rest ≡ quote_of l ∷ more → length rest ≡ 1 → rest ≡ quote_of l ∷ []
+    go [] h n = h
+    go (c ∷ cs) h n = absurd (omega (arith, n, ap length h))
+end_there l rest (read.element x n) h e = absurd (let no : ⊥ = cc e in no)
+end_there l rest (read.nothing n) h e = absurd (let no : ⊥ = cc e in no)
+end_there l rest read.substitution h e = absurd (let no : ⊥ = cc e in no)
+end_there l rest (read.invalid_hex n) h e = absurd (let no : ⊥ = cc e in no)
+end_there l rest (read.invalid_unicode n) h e = absurd (let no : ⊥ = cc e in no)
+end_there l rest (read.too_large n) h e = absurd (let no : ⊥ = cc e in no)
+
+-- where elements lead behind an opening quote
+pub stop_reached : (l : Literal) (o : Options) (text inner : List ℕ) (stop : Stop) → text ≡ quote_of l ∷ inner → IsStop l o inner stop → IsReached l o text (place stop.units stop.offset stop.rest.now)
+stop_reached l o text inner stop h s = record {
+  inner = inner;
+  opens = h;
+  leads = s.leads;
+}
+
+-- a text that ends where reading stops is decoded
+pub decoded_there : (l : Literal) (o : Options) (text inner : List ℕ) (stop : Stop) → text ≡ quote_of l ∷ inner → IsStop l o inner stop
+    → (is_closer (seen_front stop.found) && (length stop.rest.now == 1)) ≡ true → IsDecoded l o text stop.units
+decoded_there l o text inner stop h s end = record {
+  last = place stop.units stop.offset stop.rest.now;
+  reached = stop_reached l o text inner stop h s;
+  closes = end_there l stop.rest.now (seen_front stop.found) s.found end;
+  units_are = refl;
+}
+
+abbrev pub given : List ℕ → Options → Given
+given text o = record { text = text; options = o }
+
+-- what a parser is given is what it holds
+pub given_decoded : (l : Literal) (o : Options) (text held : List ℕ) (g : Given) (us : List CodePoint) → text ≡ held → given held o ≡ g → IsDecoded l g.options g.text us → IsDecoded l o text us
+given_decoded l o text held g us h same d = subst (λ (g : Given). IsDecoded l g.options g.text us) (sym (ap (λ text. given text o) h ∙ same)) d

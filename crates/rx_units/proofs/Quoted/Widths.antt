@@ -1,0 +1,157 @@
+-- What an element takes of a text, and how large its value is.
+use Rattle.std.proofs.Common.{◌≡◌, ℕ, suc, zero, ◌+◌, ◌*◌, ◌<◌, ◌≤◌, true, List, [], ◌∷◌, ◌++◌, length, take, drop, Some, refl, sym, ap, ◌∙◌, subst, arith, inl, inr, length-append}
+use Rattle.std.proofs.lemmas.Bool.Decides.{nat_tests}
+use Rattle.std.proofs.lemmas.List.Elements.{All-cons, All-head, All-nil, All-tail, All-take}
+use Rattle.std.proofs.lemmas.Option.{option_and_then_some}
+use Rattle.std.specs.Char.{len_utf8}
+use Rattle.std.proofs.Math.Utf8.{scalar_cases}
+use Rattle.std.proofs.lemmas.Str.{length-encode, encodes-chars, scalars-chars}
+use Rattle.std.specs.Prelude.{All}
+use Rattle.std.specs.Str.{IsUtf8, chars}
+use lib.ListN.{take-append-drop}
+use lib.Utf8.{encode, encodes, scalar, scalars}
+use Rattle.rx_tables.specs.Characters.{hex_digit_value, is_within}
+use Rattle.rx_units.specs.declared.code_point.EscapeKind.{EscapeKind}
+use Rattle.rx_units.specs.declared.quoted_text.element.Element.{Element}
+use Rattle.rx_units.specs.declared.quoted_text.literal.Literal.{Literal}
+use Rattle.rx_units.specs.declared.quoted_text.literal.Literal.TheVariants as literals
+use Rattle.rx_units.specs.declared.string_literal_parser.StringLiteralKind.TheVariants as quotes
+use Rattle.rx_units.specs.Quoted.Escapes.{SpellsTerminator, alone, carriage_return, carriage_return_line_feed, SpellsEscape, single, non_escape, null, hexadecimal, four_digits, braced, continuation}
+use Rattle.rx_units.specs.Quoted.Elements.{SpellsElement, SpellsInString, SpellsInTemplate, octal_zero, octal1, octal2_low, octal2_high, octal3, non_octal, dollar, terminator, zero_digit, digit, character, escape}
+use Rattle.rx_units.specs.Quoted.Fronts.{element, front}
+use Rattle.rx_units.specs.Quoted.Texts.{byte_count}
+use Rattle.rx_units.proofs.Quoted.Choices.{both}
+use Rattle.rx_units.proofs.Quoted.Fronts.{front_spelled}
+use Rattle.rx_units.proofs.Quoted.Rows.{some_characters}
+use Rattle.rx_units.specs.Digits.{hex_number, octal}
+
+abbrev pub AreCharacters : List ℕ → Type 0
+AreCharacters us = All (λ c. c ≤ 0x10FFFF) us
+
+first_small : (c : ℕ) (w : List ℕ) → AreCharacters (c ∷ w) → c ≤ 0x10FFFF
+first_small c w h = All-head (λ c. c ≤ 0x10FFFF) c w h
+
+digit_small : (c d : ℕ) → hex_digit_value c ≡ Some d → d < 16
+digit_small c d h = grind (arith, nat_tests)
+
+two_small : (a b v : ℕ) → hex_number (a ∷ b ∷ []) ≡ Some v → v ≤ 0x10FFFF
+two_small a b v h =
+    option_and_then_some _ (hex_digit_value a) v h (λ i ia h.
+    option_and_then_some _ (hex_digit_value b) v h (λ j jb h.
+    let same : 16 * (16 * 0 + i) + j ≡ v = cc h in
+    omega (arith, digit_small a i ia, digit_small b j jb)))
+
+four_small : (a b c d v : ℕ) → hex_number (a ∷ b ∷ c ∷ d ∷ []) ≡ Some v → v ≤ 0x10FFFF
+four_small a b c d v h =
+    option_and_then_some _ (hex_digit_value a) v h (λ i ia h.
+    option_and_then_some _ (hex_digit_value b) v h (λ j jb h.
+    option_and_then_some _ (hex_digit_value c) v h (λ k kc h.
+    option_and_then_some _ (hex_digit_value d) v h (λ l ld h.
+    let same : 16 * (16 * (16 * (16 * 0 + i) + j) + k) + l ≡ v = cc h in
+    omega (arith, digit_small a i ia, digit_small b j jb, digit_small c k kc, digit_small d l ld)))))
+
+terminator_small : (c : ℕ) (w rest : List ℕ) → SpellsTerminator c w rest → c ≤ 0x10FFFF
+terminator_small c _ rest (alone h) = grind (arith, nat_tests)
+terminator_small _ _ rest (carriage_return h) = omega arith
+terminator_small _ _ rest carriage_return_line_feed = omega arith
+
+escape_small : (v : ℕ) (k : EscapeKind) (w rest : List ℕ) → SpellsEscape v k w rest → AreCharacters w → v ≤ 0x10FFFF
+escape_small v _ _ rest (single {c} h) a = grind (arith, nat_tests)
+escape_small c _ _ rest (non_escape h) a = first_small c [] a
+escape_small _ _ _ rest (null h) a = omega arith
+escape_small v _ _ rest (hexadecimal {a} {b} h) _ = two_small a b v h
+escape_small v _ _ rest (four_digits {a} {b} {c} {d} h) _ = four_small a b c d v h
+escape_small v _ _ rest (braced x xs h top) a = top
+escape_small c _ w rest (continuation t) a = terminator_small c w rest t
+
+octal_small : (c : ℕ) → is_within 48 55 c ≡ true → octal c < 8
+octal_small c h = grind (arith, nat_tests)
+
+string_small : (quote : ℕ) (e : Element) (w rest : List ℕ) → SpellsInString quote e w rest → AreCharacters w → e.value ≤ 0x10FFFF
+string_small quote _ _ rest (character {c} h) a = first_small c [] a
+string_small quote _ _ rest (escape {v} {k} {w} p) a = escape_small v k w rest p (All-tail (λ c. c ≤ 0x10FFFF) 92 w a)
+string_small quote _ _ rest (octal_zero h) a = omega arith
+string_small quote _ _ rest (octal1 {c} h k) a = let x = octal_small c (grind (arith, nat_tests)) in omega arith
+string_small quote _ _ rest (octal2_low {c} {d} h k n) a = let x = octal_small c (grind (arith, nat_tests)) in let y = octal_small d k in omega arith
+string_small quote _ _ rest (octal2_high {c} {d} h k) a = let x = octal_small c (grind (arith, nat_tests)) in let y = octal_small d k in omega arith
+string_small quote _ _ rest (octal3 {c} {d} {f} h k l) a = let x = octal_small c (grind (arith, nat_tests)) in let y = octal_small d k in let z = octal_small f l in omega arith
+string_small quote _ _ rest (non_octal {c} h) a = first_small c [] (All-tail (λ c. c ≤ 0x10FFFF) 92 (c ∷ []) a)
+
+template_small : (e : Element) (w rest : List ℕ) → SpellsInTemplate e w rest → AreCharacters w → e.value ≤ 0x10FFFF
+template_small _ _ rest (character {c} h) a = first_small c [] a
+template_small _ _ rest (dollar h) a = omega arith
+template_small _ w rest (terminator {c} t) a = terminator_small c w rest t
+template_small _ _ rest (escape {v} {k} {w} p) a = escape_small v k w rest p (All-tail (λ c. c ≤ 0x10FFFF) 92 w a)
+template_small _ _ rest (zero_digit {c} h) a = first_small c [] (All-tail (λ c. c ≤ 0x10FFFF) 48 (c ∷ []) (All-tail (λ c. c ≤ 0x10FFFF) 92 (48 ∷ c ∷ []) a))
+template_small _ _ rest (digit {c} h) a = first_small c [] (All-tail (λ c. c ≤ 0x10FFFF) 92 (c ∷ []) a)
+
+element_small : (l : Literal) (e : Element) (w rest : List ℕ) → SpellsElement l e w rest → AreCharacters w → e.value ≤ 0x10FFFF
+element_small (literals.String quotes.Double) e w rest s a = string_small 34 e w rest s a
+element_small (literals.String quotes.Single) e w rest s a = string_small 39 e w rest s a
+element_small literals.Template e w rest s a = template_small e w rest s a
+
+-- bytes of a part and of what is left
+pub byte_split : (n : ℕ) (us : List ℕ) → byte_count (take n us) + byte_count (drop n us) ≡ byte_count us
+byte_split zero us = omega arith
+byte_split (suc n) [] = refl
+byte_split (suc n) (u ∷ us) = omega (arith, byte_split n us)
+
+one_byte : (c : ℕ) → 0 < len_utf8 c
+one_byte c = grind (arith, nat_tests)
+
+pub length_le_bytes : (us : List ℕ) → length us ≤ byte_count us
+length_le_bytes [] = omega arith
+length_le_bytes (u ∷ us) = omega (arith, one_byte u, length_le_bytes us)
+
+pub take_whole : (w rest : List ℕ) → take (length w) (w ++ rest) ≡ w
+take_whole [] rest = refl
+take_whole (c ∷ w) rest = ap (λ w. c ∷ w) (take_whole w rest)
+
+drop_whole : (w rest : List ℕ) → drop (length w) (w ++ rest) ≡ rest
+drop_whole [] rest = refl
+drop_whole (c ∷ w) rest = drop_whole w rest
+
+-- what stands next, cut from the text
+pub record Taken (l : Literal) (e : Element) (n : ℕ) (us : List ℕ) : Type 0 where
+  pub within : n ≤ length us
+  pub some : 0 < n
+  pub whole : us ≡ take n us ++ drop n us
+  pub spells : SpellsElement l e (take n us) (drop n us)
+  pub small : AreCharacters us → e.value ≤ 0x10FFFF
+
+some_length : (l : Literal) (e : Element) (w rest : List ℕ) → SpellsElement l e w rest → 0 < length w
+some_length l e [] rest s = absurd (some_characters l e rest s)
+some_length l e (c ∷ w) rest s = omega arith
+
+taken_front : (l : Literal) (e : Element) (n : ℕ) (w rest : List ℕ) → SpellsElement l e w rest → length w ≡ n → Taken l e n (w ++ rest)
+taken_front l e n w rest s c =
+    let t : take n (w ++ rest) ≡ w = ap (λ (k : ℕ). take k (w ++ rest)) (sym c) ∙ take_whole w rest in
+    let d : drop n (w ++ rest) ≡ rest = ap (λ (k : ℕ). drop k (w ++ rest)) (sym c) ∙ drop_whole w rest in
+    record {
+      within = omega (arith, length-append w rest, c);
+      some = omega (arith, some_length l e w rest s, c);
+      whole = sym (take-append-drop n (w ++ rest));
+      spells = subst (λ v. SpellsElement l e v (drop n (w ++ rest))) (sym t) (subst (SpellsElement l e w) (sym d) s);
+      small = λ a. element_small l e w rest s (subst AreCharacters t (All-take (λ c. c ≤ 0x10FFFF) n (w ++ rest) a));
+    }
+
+pub taken : (l : Literal) (us : List ℕ) (e : Element) (n : ℕ) → front l us ≡ element e n → Taken l e n us
+taken l us e n h = let f = front_spelled l us e n h in subst (Taken l e n) (sym f.whole) (taken_front l e n f.spelled f.rest f.spells f.count)
+
+-- the bytes of a text are those of its characters
+bytes_encoded : (cs : List ℕ) → byte_count cs ≡ length (encodes cs)
+bytes_encoded [] = refl
+bytes_encoded (c ∷ cs) = omega (arith, bytes_encoded cs, length-append (encode c) (encodes cs), length-encode c)
+
+pub byte_text : (text : List ℕ) → IsUtf8 text → byte_count (chars text) ≡ length text
+byte_text text h = bytes_encoded (chars text) ∙ ap length (encodes-chars text h)
+
+scalar_small : (c : ℕ) → scalar c ≡ true → c ≤ 0x10FFFF
+scalar_small c h = elim (scalar_cases c h) [ inl p ↦ omega arith | inr p ↦ omega arith ]
+
+scalars_small : (cs : List ℕ) → scalars cs ≡ true → AreCharacters cs
+scalars_small [] h = All-nil (λ c. c ≤ 0x10FFFF)
+scalars_small (c ∷ cs) h = let b = both (scalar c) (scalars cs) h in All-cons (λ c. c ≤ 0x10FFFF) c cs (scalar_small c b.0) (scalars_small cs b.1)
+
+pub text_characters : (text : List ℕ) → IsUtf8 text → AreCharacters (chars text)
+text_characters text h = scalars_small (chars text) (scalars-chars text h)

@@ -1,0 +1,7 @@
+pub mod Escapes
+pub mod Elements
+pub mod Texts
+pub mod Faults
+pub mod Fronts
+pub mod Found
+pub mod Answers

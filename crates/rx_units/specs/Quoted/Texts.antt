@@ -1,0 +1,63 @@
+-- A quoted text: a quote, elements one after another, the same quote, and the end (StringLiteral, ECMA-262, 12.9.4; NoSubstitutionTemplate, 12.9.6).
+use Rattle.std.specs.Prelude.{◌≡◌, ℕ, ◌+◌, Bool, true, List, [], ◌∷◌, ◌++◌, None}
+use Rattle.std.specs.Char.{len_utf8}
+use Rattle.rx_units.specs.declared.code_point.CodePoint.{CodePoint}
+use Rattle.rx_units.specs.Units.{character_units}
+use Rattle.rx_units.specs.declared.options.Options.{Options}
+use Rattle.rx_units.specs.declared.quoted_text.element.Element.{Element}
+use Rattle.rx_units.specs.declared.quoted_text.literal.Literal.{Literal}
+use Rattle.rx_units.specs.Quoted.Elements.{quote_of, SpellsElement}
+
+-- how many bytes characters take
+abbrev pub byte_count : List ℕ → ℕ
+byte_count [] = 0
+byte_count (c ∷ cs) = len_utf8 c + byte_count cs
+
+-- A place in a quoted text.
+pub record Place : Type 0 where
+  -- what the elements before it give
+  pub units : List CodePoint
+  -- the byte at which it stands, with the offset of the text
+  pub offset : ℕ
+  -- the characters behind it
+  pub rest : List ℕ
+
+-- The place behind an element, which is one unit, or where pairs are not joined and its value is past FFFF a lead and a trail. They share its span.
+abbrev pub behind : Options → Place → Element → List ℕ → List ℕ → Place
+behind o p e w rest = record {
+  units = p.units ++ character_units o.combine_surrogate_pair p.offset (p.offset + byte_count w) e.value e.escape_kind;
+  offset = p.offset + byte_count w;
+  rest = rest;
+}
+
+-- An early error in strict mode code: a legacy escape (12.9.4.1).
+abbrev pub IsAllowed : Bool → Element → Type 0
+IsAllowed strict e = strict ≡ true → e.legacy ≡ None
+
+-- Elements that are allowed lead from a place to a place.
+pub data Leads (literal : Literal) (o : Options) (from : Place) : Place → Type 0 where
+  no_element : Leads literal o from from
+  one_more : {p : Place} (e : Element) (w rest : List ℕ) → Leads literal o from p → p.rest ≡ w ++ rest → SpellsElement literal e w rest → IsAllowed o.strict_mode e
+      → Leads literal o from (behind o p e w rest)
+
+-- the place behind the opening quote, before some characters
+abbrev pub opened : Options → List ℕ → Place
+opened o inner = record { units = []; offset = o.span_offset + 1; rest = inner }
+
+-- The opening quote and elements lead to a place.
+pub record IsReached (literal : Literal) (o : Options) (text : List ℕ) (p : Place) : Type 0 where
+  pub inner : List ℕ
+  pub opens : text ≡ quote_of literal ∷ inner
+  pub leads : Leads literal o (opened o inner) p
+
+-- A text is decoded to these units: at a place that is reached the closing quote stands, and then the text ends.
+pub record IsDecoded (literal : Literal) (o : Options) (text : List ℕ) (units : List CodePoint) : Type 0 where
+  pub last : Place
+  pub reached : IsReached literal o text last
+  pub closes : last.rest ≡ quote_of literal ∷ []
+  pub units_are : units ≡ last.units
+
+-- What a decoder is given.
+pub record Given : Type 0 where
+  pub text : List ℕ
+  pub options : Options

@@ -1,0 +1,114 @@
+ghost use Rattle.std.specs.Prelude.{◌≡◌, ◌<◌, IfSome};
+ghost use Rattle.rx_tables.specs.Characters.{hex_digit_value};
+ghost use Rattle.rx_units.specs.Quoted.Found.{seen_escape};
+ghost use Rattle.rx_units.specs.Quoted.Fronts.{braces_at, digits_at, four_at, front_digit, hex_at, unicode_behind};
+
+use crate::EscapeKind;
+use crate::quoted_text::found::EscapeFound;
+use rx_tables::map_hex_digit;
+
+#[tactic(auto, using(rx_tables::proofs::Digits::hex_digit_value_small))]
+fn hex_digit(c: char) -> Option<u32>
+    ensures value { result ≡ hex_digit_value c }
+    ensures small { IfSome result (λ digit. digit < 16) }
+{
+    map_hex_digit(c as u32)
+}
+
+/// The number of the hexadecimal digit that stands next.
+fn front_digit(chars: &[char]) -> Option<u32>
+    ensures value { result ≡ front_digit chars.now }
+    ensures small { IfSome result (λ digit. digit < 16) }
+{
+    match chars {
+        [first, ..] => hex_digit(*first),
+        [] => None,
+    }
+}
+
+/// Two hexadecimal digits, behind `x`.
+pub(crate) fn hex_escape(chars: &[char]) -> EscapeFound
+    ensures { seen_escape result ≡ hex_at chars.now }
+{
+    let [first, rest @ ..] = chars else {
+        return EscapeFound::InvalidHex { length: 2 };
+    };
+    let Some(high) = hex_digit(*first) else {
+        return EscapeFound::InvalidHex { length: 2 };
+    };
+    let Some(low) = front_digit(rest) else {
+        return EscapeFound::InvalidHex { length: 3 };
+    };
+    EscapeFound::Escaped {
+        value: 16 * high + low,
+        escape_kind: EscapeKind::Hexadecimal,
+        length: 4,
+    }
+}
+
+/// Four hexadecimal digits, or some in braces, behind `u`.
+pub(crate) fn unicode_escape(chars: &[char]) -> EscapeFound
+    ensures { seen_escape result ≡ unicode_behind (four_at chars.now) chars.now }
+{
+    match four_digits(chars) {
+        Some(value) => EscapeFound::Escaped {
+            value,
+            escape_kind: EscapeKind::Unicode,
+            length: 6,
+        },
+        None => braced_digits(chars),
+    }
+}
+
+/// The number of four hexadecimal digits.
+#[tactic(auto, using(crate::proofs::Quoted::Steps::short_four))]
+fn four_digits(chars: &[char]) -> Option<u32>
+    ensures { result ≡ four_at chars.now }
+{
+    match chars {
+        [a, b, c, d, ..] => {
+            let a = hex_digit(*a)?;
+            let b = hex_digit(*b)?;
+            let c = hex_digit(*c)?;
+            let d = hex_digit(*d)?;
+            Some(16 * (16 * (16 * a + b) + c) + d)
+        }
+        _ => None,
+    }
+}
+
+fn braced_digits(chars: &[char]) -> EscapeFound
+    ensures { seen_escape result ≡ braces_at chars.now }
+{
+    match chars {
+        [brace, digits @ ..] if *brace == '{' => digits_to_brace(digits),
+        _ => EscapeFound::InvalidUnicode { length: 2 },
+    }
+}
+
+fn digits_to_brace(chars: &[char]) -> EscapeFound
+    ensures { seen_escape result ≡ digits_at 0 0 chars.now }
+{
+    let mut value = 0u32;
+    for (count, c) in chars.iter().enumerate() {
+        match hex_digit(*c) {
+            Some(digit) => match value.checked_mul(16).and_then(|v| v.checked_add(digit)) {
+                Some(next) => value = next,
+                None => return EscapeFound::TooLarge { length: count + 3 },
+            },
+            None => {
+                if *c == '}' && count > 0 && value <= 0x10FFFF {
+                    return EscapeFound::Escaped {
+                        value,
+                        escape_kind: EscapeKind::Unicode,
+                        length: count + 4,
+                    };
+                }
+                return EscapeFound::InvalidUnicode { length: count + 3 };
+            }
+        }
+    }
+    EscapeFound::InvalidUnicode {
+        length: chars.len() + 3,
+    }
+}

@@ -1,0 +1,97 @@
+ghost use Rattle.std.specs.Prelude.{◌≡◌, true};
+ghost use Rattle.rx_units.specs.Quoted.Escapes.{is_line_feed, single_escape_value};
+ghost use Rattle.rx_units.specs.Quoted.Found.{seen_escape};
+ghost use Rattle.rx_units.specs.Quoted.Fronts.{escape_at, line_behind};
+ghost use Rattle.rx_units.specs.Digits.{front_is};
+ghost use Rattle.rx_tables.specs.Characters.{is_decimal_digit};
+
+use crate::quoted_text::digits::{hex_escape, unicode_escape};
+use crate::quoted_text::found::EscapeFound;
+use crate::{CR, EscapeKind, LF, is_line_terminator};
+
+/// What stands behind a backslash: an EscapeSequence or a LineContinuation of ECMA-262, 12.9.4, but for the digits that are no null.
+#[tactic(auto, unfolding(crate::specs::Quoted::Fronts::escape_at))]
+pub(crate) fn escape_at(chars: &[char]) -> EscapeFound
+    ensures { seen_escape result ≡ escape_at chars.now }
+{
+    let [first, rest @ ..] = chars else {
+        return EscapeFound::Unended;
+    };
+    let first = *first;
+    if let Some(value) = single_escape_value(first) {
+        return escaped(value, 2);
+    }
+    if first.is_ascii_digit() {
+        return if first == '0' && !begins_with_digit(rest) {
+            escaped(0, 2)
+        } else {
+            EscapeFound::Digit
+        };
+    }
+    if first == 'x' {
+        return hex_escape(rest);
+    }
+    if first == 'u' {
+        return unicode_escape(rest);
+    }
+    if is_line_terminator(first) {
+        return line_escape(first, rest);
+    }
+    escaped(first as u32, 2)
+}
+
+/// A value that is written as no number.
+fn escaped(value: u32, length: usize) -> EscapeFound
+    ensures { result ≡ EscapeFound.Escaped value EscapeKind.None length }
+{
+    EscapeFound::Escaped {
+        value,
+        escape_kind: EscapeKind::None,
+        length,
+    }
+}
+
+/// What a SingleEscapeCharacter stands for (ECMA-262, 12.9.4).
+fn single_escape_value(c: char) -> Option<u32>
+    ensures { result ≡ single_escape_value c }
+{
+    match c {
+        '\'' | '"' | '\\' => Some(c as u32),
+        'b' => Some(0x08),
+        't' => Some(0x09),
+        'n' => Some(0x0a),
+        'v' => Some(0x0b),
+        'f' => Some(0x0c),
+        'r' => Some(0x0d),
+        _ => None,
+    }
+}
+
+fn begins_with_digit(chars: &[char]) -> bool
+    ensures { result ≡ front_is is_decimal_digit chars.now }
+{
+    match chars {
+        [first, ..] => first.is_ascii_digit(),
+        [] => false,
+    }
+}
+
+pub(crate) fn begins_with_line_feed(chars: &[char]) -> bool
+    ensures { result ≡ front_is is_line_feed chars.now }
+{
+    match chars {
+        [first, ..] => *first == LF,
+        [] => false,
+    }
+}
+
+/// A LineTerminatorSequence (ECMA-262, 12.3), by its first character and those behind it.
+fn line_escape(first: char, rest: &[char]) -> EscapeFound
+    ensures { seen_escape result ≡ line_behind first rest.now }
+{
+    if first == CR && begins_with_line_feed(rest) {
+        escaped(LF as u32, 3)
+    } else {
+        escaped(first as u32, 2)
+    }
+}

@@ -1,0 +1,62 @@
+ghost use Rattle.std.specs.Prelude.{◌≡◌};
+ghost use Rattle.rx_units.specs.Quoted.Elements.{plain};
+ghost use Rattle.rx_units.specs.Quoted.Found.{seen_front};
+ghost use Rattle.rx_units.specs.Quoted.Fronts.{element};
+
+use crate::EscapeKind;
+use crate::quoted_text::Element;
+
+/// What stands behind a backslash. Lengths count characters from the backslash on.
+#[derive(Clone, Copy, Debug)]
+pub(crate) enum EscapeFound {
+    Escaped {
+        value: u32,
+        escape_kind: EscapeKind,
+        length: usize,
+    },
+    /// A digit that is no null.
+    Digit,
+    /// The text ends.
+    Unended,
+    InvalidHex {
+        length: usize,
+    },
+    InvalidUnicode {
+        length: usize,
+    },
+    /// The digits behind `u{` pass 32 bits.
+    TooLarge {
+        length: usize,
+    },
+}
+
+/// What stands at a place. Lengths count characters from there.
+#[derive(Clone, Copy, Debug)]
+pub(crate) enum Found {
+    Element { element: Element, length: usize },
+    /// The closing quote.
+    Closer,
+    /// No element.
+    Nothing { length: usize },
+    /// `${`
+    Substitution,
+    InvalidHex { length: usize },
+    InvalidUnicode { length: usize },
+    TooLarge { length: usize },
+}
+
+impl Found {
+    /// An element that every code allows.
+    pub(crate) fn plain(value: u32, escape_kind: EscapeKind, length: usize) -> Found
+        ensures { seen_front result ≡ element (plain value escape_kind) length }
+    {
+        Found::Element {
+            element: Element {
+                value,
+                escape_kind,
+                legacy: None,
+            },
+            length,
+        }
+    }
+}

@@ -1,0 +1,180 @@
+ghost use Rattle.std.specs.Prelude.{◌≡◌, ◌+◌, ◌<◌, ◌≤◌, ◌^◌, ℕ, All, IfOk, MatchOption, true, is_some, length, take, drop, ◌==◌, ◌&&◌};
+ghost use Rattle.std.specs.Str.{chars};
+ghost use Rattle.rx_units.specs.declared.quoted_text.element.Element.{Element as ElementValue};
+ghost use Rattle.rx_units.specs.Quoted.Answers.{IsStop};
+ghost use Rattle.rx_units.specs.Quoted.Faults.{empty_at, from_to};
+ghost use Rattle.rx_units.specs.Quoted.Found.{is_closer, seen_front};
+ghost use Rattle.rx_units.specs.Quoted.Fronts.{element, front};
+ghost use Rattle.rx_units.specs.Quoted.Texts.{IsAllowed, byte_count};
+
+use crate::quoted_text::found::Found;
+use crate::quoted_text::string_front::string_front;
+use crate::quoted_text::template_front::template_front;
+use crate::quoted_text::{Element, Literal};
+use crate::string_literal_parser::StringLiteralKind;
+use crate::{CodePoint, Options, handle_code_point};
+use rx_base::{List, OutOfMemory, Span};
+use std::alloc::{AllocError, Global};
+use std::marker::Model;
+
+/// A text, character by character, and how it is decoded.
+#[derive(Drop)]
+pub(crate) struct Source {
+    pub alloc: Global,
+    pub text: Vec<char>,
+    pub options: Options,
+}
+
+impl Model for Source {
+    ghost use Rattle.rx_units.specs.Quoted.Answers.{IsGiven};
+    ghost use Rattle.rx_units.specs.Quoted.Texts.{Given};
+
+    ghost Value = { Given };
+
+    ghost view = { λ s. record { text = s.text.items; options = s.options } };
+
+    ghost invariant = { λ s. IsGiven s.text.items s.options };
+}
+
+impl Source {
+    pub(crate) fn new(
+        alloc: Global,
+        source_text: &str,
+        options: Options,
+    ) -> Result<Source, OutOfMemory>
+        requires { options.span_offset + length source_text.now < 2 ^ 32 }
+        ensures { IfOk result (λ source. source ≡ record { text = chars source_text.now; options = options }) }
+    {
+        let text = characters(alloc, source_text)?;
+        Ok(Source {
+            alloc,
+            text,
+            options,
+        })
+    }
+}
+
+fn characters(alloc: Global, text: &str) -> Result<Vec<char>, AllocError>
+    ensures { IfOk result (λ characters. characters.items ≡ chars text.now) }
+{
+    text.chars().collect(alloc)
+}
+
+/// The place behind elements at which none stands, or one that strict mode code does not allow.
+#[derive(Drop)]
+pub(crate) struct Stop<'a> {
+    pub units: List<CodePoint>,
+    pub offset: u32,
+    pub rest: &'a [char],
+    pub found: Found,
+}
+
+impl Stop<'_> {
+    /// Whether the closing quote stands here, and then the text ends.
+    pub(crate) fn is_end(&self) -> bool
+        ensures { result ≡ (is_closer (seen_front self.now.found) && (length self.now.rest.now == 1)) }
+    {
+        matches!(self.found, Found::Closer) && self.rest.len() == 1
+    }
+
+    /// Covers some characters from here on, of one byte each.
+    pub(crate) fn span(&self, length: usize) -> Span
+        requires { self.now.offset + length < 2 ^ 32 }
+        ensures { result ≡ from_to self.now.offset (self.now.offset + length) }
+    {
+        Span::sized(self.offset, length as u32)
+    }
+
+    /// Covers nothing, behind some characters of one byte each.
+    pub(crate) fn empty_span(&self, length: usize) -> Span
+        requires { self.now.offset + length < 2 ^ 32 }
+        ensures { result ≡ empty_at (self.now.offset + length) }
+    {
+        Span::empty(self.offset + length as u32)
+    }
+}
+
+/// Reads the elements behind an opening quote.
+pub(crate) fn elements<'a>(
+    alloc: Global,
+    literal: Literal,
+    inner: &'a [char],
+    options: Options,
+) -> Result<Stop<'a>, OutOfMemory>
+    requires fits { options.span_offset + 1 + byte_count inner.now < 2 ^ 32 }
+    requires code_points { All (λ c. c ≤ 0x10FFFF) inner.now }
+    ensures { IfOk result (IsStop literal options inner.now) }
+{
+    let mut units = List::new(alloc);
+    let mut offset = options.span_offset + 1;
+    let mut rest = inner;
+    while let Some((element, length)) = next_element(literal, rest, options.strict_mode) {
+        let end = offset + width(rest, length);
+        let code_point = ((offset, end), element.value, element.escape_kind);
+        handle_code_point(&mut units, code_point, 0, options.combine_surrogate_pair)?;
+        offset = end;
+        rest = behind(rest, length);
+    }
+    let found = front(literal, rest);
+    Ok(Stop {
+        units,
+        offset,
+        rest,
+        found,
+    })
+}
+
+/// The element that stands next, and how many characters spell it, where it is allowed.
+fn next_element(literal: Literal, chars: &[char], strict_mode: bool) -> Option<(Element, usize)>
+    ensures { MatchOption result
+        ((e : ElementValue) (n : ℕ) → front literal chars.now ≡ element e n → (strict_mode ≡ true) × (is_some e.legacy ≡ true))
+        (λ next. (front literal chars.now ≡ element next.0 next.1) × IsAllowed strict_mode next.0) }
+{
+    match front(literal, chars) {
+        Found::Element { element, length } if !strict_mode || element.legacy.is_none() => {
+            Some((element, length))
+        }
+        _ => None,
+    }
+}
+
+/// What stands next.
+#[tactic(auto, unfolding(crate::specs::Quoted::Fronts::front))]
+fn front(literal: Literal, chars: &[char]) -> Found
+    ensures { seen_front result ≡ front literal chars.now }
+{
+    match literal {
+        Literal::String(StringLiteralKind::Double) => string_front('"', chars),
+        Literal::String(StringLiteralKind::Single) => string_front('\'', chars),
+        Literal::Template => template_front(chars),
+    }
+}
+
+/// How many bytes the first characters take.
+pub(crate) fn width(chars: &[char], count: usize) -> u32
+    requires within { count ≤ length chars.now }
+    requires bytes { byte_count chars.now < 2 ^ 32 }
+    ensures { result ≡ byte_count (take count chars.now) }
+{
+    byte_count(&chars[..count])
+}
+
+/// The characters behind the first ones.
+fn behind(chars: &[char], count: usize) -> &[char]
+    requires { count ≤ length chars.now }
+    ensures { result.now ≡ drop count chars.now }
+{
+    &chars[count..]
+}
+
+/// How many bytes characters take.
+pub(crate) fn byte_count(chars: &[char]) -> u32
+    requires { byte_count chars.now < 2 ^ 32 }
+    ensures { result ≡ byte_count chars.now }
+{
+    let mut count = 0;
+    for c in chars {
+        count += c.len_utf8() as u32;
+    }
+    count
+}

@@ -1,0 +1,169 @@
+ghost use Rattle.std.specs.Prelude.{◌≡◌, ◌∷◌, ◌+◌, ◌<◌, ◌^◌, ◌⊎◌, false, length, IfErr, IfOk, List, MatchOption, MatchResult};
+ghost use Rattle.std.specs.Str.{chars};
+ghost use Rattle.rx_units.specs.declared.code_point.CodePoint.{CodePoint as UnitValue};
+ghost use Rattle.rx_units.specs.declared.quoted_text.literal.Literal.TheVariants as literal;
+ghost use Rattle.rx_units.specs.declared.template_literal_parser.TemplateFault.{TemplateFault as FaultValue};
+ghost use Rattle.rx_units.specs.Quoted.Answers.{IsGiven, IsTemplateOf, template_fault_at};
+ghost use Rattle.rx_units.specs.Quoted.Faults.{IsTemplateFault, is_grave_accent};
+ghost use Rattle.rx_units.specs.Quoted.Found.{seen_front};
+ghost use Rattle.rx_units.specs.Quoted.Fronts.{front};
+ghost use Rattle.rx_units.specs.Quoted.Texts.{IsDecoded, byte_count};
+ghost use Rattle.rx_units.specs.Digits.{front_is};
+
+use crate::quoted_text::Literal;
+use crate::quoted_text::found::Found;
+use crate::quoted_text::reading::{Source, Stop, byte_count, elements};
+use crate::{CodePoint, Options};
+use rx_base::{List, OutOfMemory, Span};
+use std::alloc::Global;
+use std::marker::Model;
+use thiserror::Error;
+
+/// NoSubstitutionTemplate of ECMA-262, 12.9.6, as units.
+#[derive(Debug, Drop)]
+pub struct TemplateLiteral {
+    pub span: Span,
+    pub body: List<CodePoint>,
+}
+
+/// Why a template was not decoded.
+#[derive(Clone, Copy, Debug, PartialEq, Eq, Error)]
+pub enum TemplateFault {
+    #[error("Out of memory")]
+    OutOfMemory,
+    #[error("Template literal should be wrapped with ` or escaped properly")]
+    InvalidInput { span: Span },
+    #[error("Template literal should not contain unescaped `${{}}`")]
+    TemplateSubstitution { span: Span },
+    #[error("Too large unicode escape sequence")]
+    TooLargeUnicodeEscapeSequence { span: Span },
+    #[error("Invalid hex escape sequence")]
+    InvalidHexEscape { span: Span },
+    #[error("Invalid unicode escape sequence")]
+    InvalidUnicodeEscape { span: Span },
+}
+
+impl From<OutOfMemory> for TemplateFault {
+    ghost use Rattle.std.specs.Prelude.{◌≡◌};
+    ghost use Rattle.rx_units.specs.declared.template_literal_parser.TemplateFault.TheVariants as fault;
+
+    ghost from_gives = { λ _ e. e ≡ fault.OutOfMemory };
+
+    fn from(_: OutOfMemory) -> TemplateFault {
+        TemplateFault::OutOfMemory
+    }
+}
+
+/// Decodes a template.
+#[derive(Drop)]
+pub struct Parser {
+    source: Source,
+}
+
+impl Model for Parser {
+    ghost use Rattle.rx_units.specs.Quoted.Texts.{Given};
+
+    ghost Value = { Given };
+
+    ghost view = { λ p. p.source };
+}
+
+impl Parser {
+    /// Takes a text with its grave accents. It is refused for want of memory alone.
+    pub fn new(alloc: Global, source_text: &str, options: Options) -> Result<Parser, TemplateFault>
+        requires { options.span_offset + length source_text.now < 2 ^ 32 }
+        ensures ok { IfOk result (λ parser. parser ≡ record { text = chars source_text.now; options = options }) }
+        ensures err { IfErr result (λ fault. fault ≡ TemplateFault.OutOfMemory) }
+    {
+        let source = Source::new(alloc, source_text, options)?;
+        Ok(Parser { source })
+    }
+
+    /// Decodes the text, or says where it is no template without substitutions. No escape of a template is legacy, so strict mode changes nothing.
+    pub fn parse(self) -> Result<TemplateLiteral, TemplateFault>
+        ensures ok { IfOk result (IsTemplateOf self) }
+        ensures err { IfErr result (λ fault. (fault ≡ TemplateFault.OutOfMemory) ⊎ IsTemplateFault self.options self.text fault) }
+        ensures decodes { (units : List UnitValue) → IsDecoded literal.Template self.options self.text units → IfErr result (λ fault. fault ≡ TemplateFault.OutOfMemory) }
+        ensures refuses { (f : FaultValue) → IsTemplateFault self.options self.text f → MatchResult result (λ it. ⊥) (λ fault. (fault ≡ TemplateFault.OutOfMemory) ⊎ (fault ≡ f)) }
+    {
+        let source = &self.source;
+        decode(source.alloc, source.text.as_slice(), source.options)
+    }
+}
+
+/// The template that a text is decoded to.
+fn decode(alloc: Global, text: &[char], options: Options) -> Result<TemplateLiteral, TemplateFault>
+    requires { IsGiven text.now options }
+    ensures ok { IfOk result (IsTemplateOf (record { text = text.now; options = options })) }
+    ensures err { IfErr result (λ fault. (fault ≡ TemplateFault.OutOfMemory) ⊎ IsTemplateFault options text.now fault) }
+    ensures decodes { (units : List UnitValue) → IsDecoded literal.Template options text.now units → IfErr result (λ fault. fault ≡ TemplateFault.OutOfMemory) }
+    ensures refuses { (f : FaultValue) → IsTemplateFault options text.now f → MatchResult result (λ it. ⊥) (λ fault. (fault ≡ TemplateFault.OutOfMemory) ⊎ (fault ≡ f)) }
+{
+    decode_text(alloc, text, options)
+}
+
+fn decode_text(
+    alloc: Global,
+    text: &[char],
+    options: Options,
+) -> Result<TemplateLiteral, TemplateFault>
+    requires { IsGiven text.now options }
+    ensures ok { IfOk result (IsTemplateOf (record { text = text.now; options = options })) }
+    ensures err { IfErr result (λ fault. (fault ≡ TemplateFault.OutOfMemory) ⊎ IsTemplateFault options text.now fault) }
+{
+    let start = options.span_offset;
+    let Some(inner) = opening(text) else {
+        let span = Span::empty(start);
+        return Err(TemplateFault::InvalidInput { span });
+    };
+    let stop = elements(alloc, Literal::Template, inner, options)?;
+    if !stop.is_end() {
+        return Err(fault(&stop));
+    }
+    let span = Span::new(start, start + byte_count(text));
+    Ok(TemplateLiteral {
+        span,
+        body: stop.units,
+    })
+}
+
+/// The characters behind the opening grave accent.
+fn opening(text: &[char]) -> Option<&[char]>
+    ensures { MatchOption result (front_is is_grave_accent text.now ≡ false) (λ inner. text.now ≡ 96 ∷ inner.now) }
+{
+    match text {
+        ['`', inner @ ..] => Some(inner),
+        _ => None,
+    }
+}
+
+/// The fault by what stands where reading stops.
+fn fault(stop: &Stop<'_>) -> TemplateFault
+    requires found { seen_front stop.now.found ≡ front literal.Template stop.now.rest.now }
+    requires fits { stop.now.offset + byte_count stop.now.rest.now < 2 ^ 32 }
+    ensures { result ≡ template_fault_at (seen_front stop.now.found) stop.now.offset }
+{
+    match stop.found {
+        Found::Element { .. } => TemplateFault::InvalidInput {
+            span: Span::empty(stop.offset),
+        },
+        Found::Closer => TemplateFault::InvalidInput {
+            span: stop.empty_span(1),
+        },
+        Found::Nothing { length } => TemplateFault::InvalidInput {
+            span: stop.empty_span(length),
+        },
+        Found::Substitution => TemplateFault::TemplateSubstitution {
+            span: Span::empty(stop.offset),
+        },
+        Found::InvalidHex { length } => TemplateFault::InvalidHexEscape {
+            span: stop.empty_span(length),
+        },
+        Found::InvalidUnicode { length } => TemplateFault::InvalidUnicodeEscape {
+            span: stop.span(length),
+        },
+        Found::TooLarge { length } => TemplateFault::TooLargeUnicodeEscapeSequence {
+            span: stop.span(length),
+        },
+    }
+}
