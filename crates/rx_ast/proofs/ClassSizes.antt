@@ -1,5 +1,5 @@
 -- Sizes of classes and of what is in them.
-use Rattle.std.proofs.Common.{◌≡◌, refl, ap, ◌∙◌, ◌+◌, ◌<◌, List, [], ◌∷◌, ◌++◌, arith}
+use Rattle.std.proofs.Common.{◌≡◌, refl, ap, ◌∙◌, ℕ, zero, suc, ◌+◌, ◌<◌, ◌≤◌, List, [], ◌∷◌, ◌++◌, length, get_or, arith}
 use Rattle.std.specs.declared.alloc.Global.{Global}
 use Rattle.std.specs.declared.boxed.Box.{Box}
 use Rattle.rx_ast.specs.declared.class.CharacterClass.{CharacterClass}
@@ -21,6 +21,13 @@ pub contents_last : (cs : List CharacterClassContents) (c : CharacterClassConten
 unfolding all_contents_size contents_size
 contents_last [] c = omega arith
 contents_last (b ∷ cs) c = let h = contents_last cs c in omega arith
+
+-- contents at an index are no larger than all
+pub contents_within : (cs : List CharacterClassContents) (i : ℕ) (c : CharacterClassContents) → i < length cs → c ≡ get_or cs i c → contents_size c ≤ all_contents_size cs
+unfolding contents_size all_contents_size
+contents_within [] i c h e = absurd (omega arith)
+contents_within (b ∷ cs) zero c h e = rw e (omega arith)
+contents_within (b ∷ cs) (suc i) c h e = let within = contents_within cs i c (omega arith) e in omega arith
 
 member_positive : (m : Member) → 0 < member_size m
 member_positive (range r) = omega arith

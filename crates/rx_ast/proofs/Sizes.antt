@@ -1,5 +1,5 @@
 -- Sizes, node by node.
-use Rattle.std.proofs.Common.{◌≡◌, refl, ap, ◌+◌, ◌<◌, List, [], ◌∷◌, ◌++◌, arith}
+use Rattle.std.proofs.Common.{◌≡◌, refl, ap, ℕ, zero, suc, ◌+◌, ◌<◌, ◌≤◌, List, [], ◌∷◌, ◌++◌, length, map, get_or, arith}
 use Rattle.std.specs.declared.alloc.Global.{Global}
 use Rattle.std.specs.declared.boxed.Box.{Box}
 use Rattle.rx_ast.specs.declared.term.Alternative.{Alternative}
@@ -11,7 +11,7 @@ use Rattle.rx_ast.specs.declared.term.Quantifier.{Quantifier}
 use Rattle.rx_ast.specs.declared.term.Term.{Term}
 use Rattle.rx_ast.specs.declared.term.Term.TheVariants as term
 use Rattle.rx_ast.specs.Size.{node_size, alternatives_size, term_size, terms_size, disjunction_size, disjunctions_size, all_alternatives_size}
-use Rattle.rx_ast.specs.Tree.{Node, leaf, quantified, group, alternatives, mirror_term}
+use Rattle.rx_ast.specs.Tree.{Node, leaf, quantified, group, alternatives, mirror_term, mirror_alternative}
 use Rattle.rx_ast.proofs.Equations.{tree_of_quantifier, tree_of_capturing, tree_of_ignore, tree_of_look, disjunction_is, alternative_is}
 
 pub size_of_quantifier : (q : Box Quantifier Global) → term_size (term.Quantifier q) ≡ 1 + term_size q.value.body
@@ -60,6 +60,20 @@ pub alternatives_last : (as' : List Alternative) (a : Alternative) → all_alter
 unfolding terms_size all_alternatives_size
 alternatives_last [] a = let e = ap (λ m. alternatives_size (alternatives (m ∷ []))) (alternative_is a) in omega arith
 alternatives_last (b ∷ as') a = let h = alternatives_last as' a in omega arith
+
+-- the terms of an alternative at an index are fewer than all nodes
+pub alternative_within : (as' : List Alternative) (i : ℕ) (a : Alternative) → i < length as' → a ≡ get_or as' i a → terms_size a.body < all_alternatives_size as'
+unfolding terms_size all_alternatives_size
+alternative_within [] i a h e = absurd (omega arith)
+alternative_within (b ∷ as') zero a h e = rw e (let is = ap (λ m. alternatives_size (alternatives (m ∷ map mirror_alternative as'))) (alternative_is b) in omega arith)
+alternative_within (b ∷ as') (suc i) a h e = let within = alternative_within as' i a (omega arith) e in let is = ap (λ m. alternatives_size (alternatives (m ∷ map mirror_alternative as'))) (alternative_is b) in omega arith
+
+-- a term at an index is no larger than all
+pub term_within : (ts : List Term) (i : ℕ) (t : Term) → i < length ts → t ≡ get_or ts i t → term_size t ≤ terms_size ts
+unfolding terms_size term_size
+term_within [] i t h e = absurd (omega arith)
+term_within (s ∷ ts) zero t h e = rw e (omega arith)
+term_within (s ∷ ts) (suc i) t h e = let within = term_within ts i t (omega arith) e in omega arith
 
 node_positive : (n : Node) → 0 < node_size n
 node_positive (leaf l) = omega arith

@@ -1,4 +1,5 @@
 pub mod Messages
 pub mod Moves
+pub mod Pairwise
 pub mod Texts
 pub mod Writings

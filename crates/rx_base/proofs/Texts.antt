@@ -17,6 +17,10 @@ chars_pushed old new c text is_scalar grown =
     let one : chars (encode c) ≡ c ∷ [] = ap chars (sym (append-nil (encode c))) ∙ chars-encodes (c ∷ []) (rw is_scalar refl) in
     chars_grown old new (encode c) text grown ∙ ap (λ cs. chars old ++ cs) one
 
+-- characters are spelled by one text
+pub one_text : {a b : List ℕ} → IsUtf8 a → IsUtf8 b → chars a ≡ chars b → a ≡ b
+one_text {a = a} {b = b} first second same = sym (encodes-chars a first) ∙ ap encode_utf8_all same ∙ encodes-chars b second
+
 -- the bytes of a text that grew by another
 pub encodes_grown : (old new added : List ℕ) → IsUtf8 added → new ≡ old ++ chars added → encode_utf8_all new ≡ encode_utf8_all old ++ added
 encodes_grown old new added text grown = ap encode_utf8_all grown ∙ encodes-append old (chars added) ∙ ap (λ bytes. encode_utf8_all old ++ bytes) (encodes-chars added text)

@@ -3,6 +3,7 @@
 #![tactic(auto)]
 
 mod clean;
+mod content_eq;
 mod diagnostic;
 mod ends;
 mod fault;
@@ -17,6 +18,7 @@ mod text_sink;
 mod write;
 
 pub use clean::{CleanSink, CleanSource};
+pub use content_eq::ContentEq;
 pub use diagnostic::{Diagnostic, DigitsKind, PropertyPart, RangeKind, SetOperator, Unterminated};
 pub use ends::{Failed, Sink, Source};
 pub use fault::Fault;

@@ -5,7 +5,7 @@ use rx_ast::{
     CharacterClassContentsKind, CharacterClassRange, CharacterKind, Disjunction, Dot, Modifier,
     Pattern, Quantifier, Term,
 };
-use rx_base::{GetSpan, List, OutOfMemory, Span, Text};
+use rx_base::{ContentEq, GetSpan, List, OutOfMemory, Span, Text};
 use std::alloc::Global;
 
 const DEEP: u32 = 500_000;
@@ -87,6 +87,45 @@ fn a_clone_has_the_same_spans_and_values(rt: HostRuntime) -> Result<(), OutOfMem
     };
     assert_eq!(rt; range.span, Span::new(6, 9));
     assert_eq!(rt; (range.min.value, range.max.value), (97, 99));
+    Ok(())
+}
+
+#[test]
+fn content_leaves_out_spans_alone(rt: HostRuntime) -> Result<(), OutOfMemory> {
+    let pattern = pattern_by_hand(rt.alloc())?;
+    let mut copy = pattern.clone(rt.alloc())?;
+    copy.span = Span::empty(9);
+    copy.body.span = Span::empty(9);
+    assert!(rt; pattern.content_eq(&copy));
+    let dot = disjunction_of(
+        rt.alloc(),
+        pattern.span,
+        Term::Dot(Dot { span: pattern.span }),
+    )?;
+    assert!(rt; !pattern.body.content_eq(&dot));
+    Ok(())
+}
+
+#[test]
+fn content_of_characters_has_their_kind(rt: HostRuntime) {
+    let character = symbol(0, 97);
+    assert!(rt; character.content_eq(&symbol(5, 97)));
+    assert!(rt; !character.content_eq(&symbol(0, 98)));
+    let mut escaped = character;
+    escaped.kind = CharacterKind::HexadecimalEscape;
+    assert!(rt; !character.content_eq(&escaped));
+    assert!(rt; Modifier::I.content_eq(&Modifier::from_bits_retain(0b1001)));
+    assert!(rt; !Modifier::I.content_eq(&Modifier::M));
+}
+
+#[test]
+fn content_of_names(rt: HostRuntime) -> Result<(), OutOfMemory> {
+    let name = Some(Text::from_str(rt.alloc(), "n")?);
+    let same = Some(Text::from_str(rt.alloc(), "n")?);
+    let other = Some(Text::from_str(rt.alloc(), "m")?);
+    assert!(rt; name.content_eq(&same));
+    assert!(rt; !name.content_eq(&other));
+    assert!(rt; !name.content_eq(&None));
     Ok(())
 }
 

@@ -34,7 +34,7 @@ use Rattle.rx_model.specs.Characters.Escapes.{SpellsEscape, control, hexadecimal
 use Rattle.rx_model.specs.Properties.PropertyForms.{begins_property}
 use Rattle.rx_model.specs.Refusals.Reached.{span_between, text_environment}
 use Rattle.rx_model.specs.Refusals.Stops.{begins_class_escape, is_hyphen_escaped, is_letter, is_one_of, two_hex_digits}
-use Rattle.rx_model.proofs.Characters.Decodings.{both, chosen}
+use Rattle.rx_units.proofs.Choices.{both, chosen}
 use Rattle.rx_class.specs.declared.class_atom.ClassAtom.{ClassAtom}
 use Rattle.rx_class.specs.declared.class_atom.ClassAtom.TheVariants as atom
 use Rattle.rx_class.specs.EscapeAnswers.{GivesClassEscape, IsBehindBackslash, from_backslash, span_to}
@@ -48,7 +48,7 @@ use Rattle.rx_class.specs.PropertyAnswers as given_property
 use Rattle.rx_class.proofs.Keeping.{keeps_placed, stays_keeps}
 use Rattle.rx_class.proofs.PropertySpans.{cut_off, next_span}
 use Rattle.rx_model.specs.FirstPass.Marks.{starts}
-use Rattle.rx_model.proofs.Characters.Backslashes.{class_found, no_right}
+use Rattle.rx_model.proofs.Characters.Backslashes.{class_found}
 use Rattle.rx_model.proofs.Characters.Escapes.{escape_nothing}
 use Rattle.rx_model.proofs.Characters.LegacyEscapes.{IsCharacterOrNothing, any_in_unicode, any_read, any_refused, any_spelled}
 use Rattle.rx_model.proofs.Classes.ClassFronts.{any_there, class_letter}
@@ -58,6 +58,7 @@ use Rattle.rx_class.proofs.Behind.{StandsBehind, stands, stands_within}
 use Rattle.rx_class.proofs.Gives.{nothing_in_legacy, refusal_cause, refusal_keeps}
 use Rattle.rx_class.proofs.ClassSteps.{property_place}
 use Rattle.rx_class.proofs.Modes.{hyphen_without_sets, raw_without_sets}
+use Rattle.std.proofs.Math.Bool.{and-false}
 
 -- no class escape stands behind a backslash
 abbrev BeginsNoClassEscape : List ℕ → Type 0
@@ -117,7 +118,7 @@ module _ (e : Environment) (unicode : is_unicode e.mode ≡ true) where
       let no_null = false_from_ne_true (c == 48 && not (front_is is_decimal_digit w)) (λ t.
       let p = both (c == 48) (not (front_is is_decimal_digit w)) t in with_first c 48 w p.0 none kinds.Null 0 (48 ∷ []) w refl (null (not-true _ p.1))) in
       let no_x = false_from_ne_true (c == 120 && two_hex_digits w) (λ t. let p = both (c == 120) (two_hex_digits w) t in no_digits w (with_first c 120 w p.0 none) p.1) in
-      rw (no_letter_begins c u (b.no_letter unicode) out.0 no_class no_control, no_identity, hyphen, no_c, no_null, no_x, unicode, no_right (is_hyphen_escaped e.mode)) refl
+      rw (no_letter_begins c u (b.no_letter unicode) out.0 no_class no_control, no_identity, hyphen, no_c, no_null, no_x, unicode, and-false (is_hyphen_escaped e.mode)) refl
 
 -- the same in every mode, by what is read
 module _ (e : Environment) where
@@ -131,7 +132,7 @@ module _ (e : Environment) where
     | inr m ↦
         let no_class = none_there (class_escape_at c) (λ kind h. b.no_class kind (c ∷ []) w (class_found kind c h) refl) in
         let k = both (c == 107) e.named (nothing_in_legacy e c w m (not_alone (is_unicode e.mode) c w b.no_alone).0 no_class h) in
-        rw (eqb-true c 107 k.0, k.1, m, no_right (is_hyphen_escaped e.mode)) refl
+        rw (eqb-true c 107 k.0, k.1, m, and-false (is_hyphen_escaped e.mode)) refl
   ]
 
 -- what is answered where one is refused

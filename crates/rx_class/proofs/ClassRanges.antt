@@ -1,6 +1,6 @@
 -- An item of a class is an atom, or a range of two atoms with a `-` between them.
 use Rattle.std.proofs.Common.{◌≡◌, refl, sym, ap, ◌∙◌, subst, ℕ, ◌+◌, ◌<◌, ◌≤◌, ◌==◌, Bool, true, false, not, ◌&&◌, Some, Ok, Err, List, [], ◌∷◌, ◌++◌, length, arith, inl, inr, append_assoc, length-append}
-use Rattle.std.proofs.lemmas.Bool.{eqb-true, leb-true, true≢false}
+use Rattle.std.proofs.lemmas.Bool.{eqb-true, leb-true, true≢false, not-true}
 use Rattle.std.proofs.lemmas.Bool.Decides.{nat_tests}
 use Rattle.rx_base.specs.declared.diagnostic.Diagnostic.{Diagnostic}
 use Rattle.rx_base.specs.declared.fault.Fault.{Fault}
@@ -25,7 +25,7 @@ use Rattle.rx_model.specs.Classes.ClassTokens.{Atom, character, item, leave, mem
 use Rattle.rx_model.specs.Trees.Early.{IsEarlyMember, member_strings}
 use Rattle.rx_model.specs.Inputs.Environment.{Environment, is_sets, is_unicode}
 use Rattle.rx_model.specs.Refusals.Reached.{span_between, text_environment}
-use Rattle.rx_model.proofs.Characters.Decodings.{both}
+use Rattle.rx_units.proofs.Choices.{both}
 use Rattle.rx_model.proofs.Classes.ClassFronts.{atom_some, behind_first, behind_one}
 use Rattle.rx_model.proofs.Inputs.Modes.{unicode_alone}
 use Rattle.rx_class.specs.declared.class_atom.ClassAtom.{ClassAtom}
@@ -41,10 +41,6 @@ use Rattle.rx_class.proofs.Keeping.{Passes, keeps_from, passes_keeps, passes_mov
 use Rattle.rx_class.proofs.ClassSteps.{operand_place}
 use Rattle.rx_class.proofs.Modes.{legacy_threes, no_strings}
 use Rattle.rx_class.proofs.PropertySpans.{next_span}
-
-not_true : (b : Bool) → not b ≡ true → b ≡ false
-not_true true h = absurd (let no : ⊥ = cc h in no)
-not_true false h = refl
 
 -- Two atoms that are no range are three items but with `u`.
 unless_three : {unicode characters : Bool} → characters ≡ false → (not unicode && not characters) ≡ false → unicode ≡ true
@@ -76,7 +72,7 @@ dash_front (u ∷ v ∷ us) h =
       behind = v ∷ us;
       whole = refl;
       hyphen_is = eqb-true u.value 45 b.0;
-      stands = record { some = λ e. let no : ⊥ = cc e in no; no_closer = not_true (v.value == 93) b.1 };
+      stands = record { some = λ e. let no : ⊥ = cc e in no; no_closer = not-true (v.value == 93) b.1 };
     }
 
 -- Before another character than a `-` no range goes on.
@@ -88,7 +84,7 @@ undashed u (v ∷ us) h = ap (λ b. b && not (v.value == 93)) h
 pub alone_begins : (w : List ℕ) → stands_alone w ≡ true → starts 92 w ≡ false
 alone_begins [] h = refl
 alone_begins (c ∷ []) h = absurd (let no : ⊥ = cc h in no)
-alone_begins (c ∷ d ∷ w) h = not_true (c == 92) (both (not (c == 92)) (not (d == 45)) h).0
+alone_begins (c ∷ d ∷ w) h = not-true (c == 92) (both (not (c == 92)) (not (d == 45)) h).0
 
 -- A range of two units stands next, and other readers stand behind its first unit and behind the `-`.
 pub record RangeFront (old to mid : Cursor) : Type 0 where
@@ -147,7 +143,7 @@ module _ {old to mid : Cursor} (f : RangeFront old to mid) where
       omega (arith, f.ordered, is_min, is_max)
 
 -- An atom as a member of a class.
-atom_events : (a : ClassAtom) → member_events (atom_member a) ≡ within (atom_span a) (token (item (atom_of a)) ∷ [])
+pub atom_events : (a : ClassAtom) → member_events (atom_member a) ≡ within (atom_span a) (token (item (atom_of a)) ∷ [])
 atom_events (atom.Character c) = refl
 atom_events (atom.Escape c) = refl
 atom_events (atom.Property p) = refl
@@ -155,7 +151,7 @@ atom_events (atom.Property p) = refl
 atom_early : (a : ClassAtom) → atom_obeys (atom_of a) ≡ true → IsEarlyMember (atom_member a)
 atom_early (atom.Character c) o = leb-true c.value 0x10FFFF o
 atom_early (atom.Escape c) o = tt
-atom_early (atom.Property p) o = not_true (p.negative && p.strings) o
+atom_early (atom.Property p) o = not-true (p.negative && p.strings) o
 
 atom_plain : (a : ClassAtom) → IsPlain (atom_member a)
 atom_plain (atom.Character c) = tt
@@ -221,7 +217,7 @@ module _ (e : Environment) (added : ℕ) (old : Cursor) where
   lone_undashed new (u ∷ []) whole moves h = absurd (let no : ⊥ = cc h in no)
   lone_undashed new (u ∷ v ∷ us) whole moves h =
       ap (λ us. is_dashed (values us)) (passes_moved old new (u ∷ []) (v ∷ us) whole (omega arith) moves).1
-      ∙ undashed v us (not_true (v.value == 45) (both (not (u.value == 92)) (not (v.value == 45)) h).1)
+      ∙ undashed v us (not-true (v.value == 45) (both (not (u.value == 92)) (not (v.value == 45)) h).1)
 
   pub lone_gives : {new : Cursor} {it : ClassAtom} {given : CharacterClassContents} → is_sets e.mode ≡ false → GivesAtom e added old new (Ok it) → new ≡ moved 1 old → stands_alone (values (rest old)) ≡ true
       → mirror_contents given ≡ atom_member it → GivesItem e added old new (Ok (given_item.One given))
@@ -476,6 +472,6 @@ module _ (e : Environment) (added : ℕ) (old : Cursor) where
           hyphen_is = p.hyphen_is;
           dashed = p.dashed;
           spelled = p.high_is;
-          apart = not_true _ tests.1;
-          threes = legacy_threes e.mode (not_true _ tests.0);
+          apart = not-true _ tests.1;
+          threes = legacy_threes e.mode (not-true _ tests.0);
         }

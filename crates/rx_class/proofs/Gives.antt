@@ -18,8 +18,7 @@ use Rattle.rx_model.specs.Refusals.Firsts.{of_character}
 use Rattle.rx_model.specs.Refusals.Stops.{is_hyphen_escaped}
 use Rattle.rx_model.specs.Reading.Fronts.{EscapeRead, any_escape_at, class_escape_at, escape_at, escaped, escaped_if, letter_at, nothing, no_unicode, too_many}
 use Rattle.rx_model.specs.Refusals.Reached.{span_between}
-use Rattle.rx_model.proofs.Characters.Backslashes.{no_right}
-use Rattle.rx_model.proofs.Characters.Decodings.{chosen}
+use Rattle.rx_units.proofs.Choices.{chosen}
 use Rattle.rx_model.proofs.Characters.Escapes.{escape_no_unicode, escape_nothing, escape_spelled, escape_too_many, spelled_escape}
 use Rattle.rx_model.proofs.Characters.LegacyEscapes.{IsCharacterOrNothing, any_in_unicode, any_legacy_read, any_read, any_refused, any_spelled}
 use Rattle.rx_model.proofs.Reading.Splits.{split_values}
@@ -31,6 +30,7 @@ use Rattle.rx_class.specs.Found.{AnswersFound, many_digits, no_escape_of_u, none
 use Rattle.rx_class.specs.Keeping.{KeepsUnits}
 use Rattle.rx_class.proofs.Behind.{from_backslash_values}
 use Rattle.rx_class.proofs.Keeping.{keeps_on, moved_keeps}
+use Rattle.std.proofs.Math.Bool.{and-false}
 
 -- some places on, where n units are left
 moved_within : (n : ℕ) (r : Cursor) → 1 ≤ n → n ≤ length (rest r) → min (r.place + n) (length r.units) ≡ r.place + n
@@ -68,7 +68,7 @@ module _ (e : Environment) where
   pub nothing_in_legacy : (c : ℕ) (w : List ℕ) → is_unicode e.mode ≡ false → (c == 98) ≡ false → class_escape_at c ≡ None → any_escape_at true e (c ∷ w) ≡ nothing → (c == 107 && e.named) ≡ true
   nothing_in_legacy c w m b d h = elim (cases_Bool (c == 107 && e.named)) [
     | inl k ↦ k
-    | inr k ↦ let t = atom_behind_backslash e m c w k in let no : ⊥ = grind (arith, m, b, d, h, t.2, no_right (is_hyphen_escaped e.mode)) in absurd no
+    | inr k ↦ let t = atom_behind_backslash e m c w k in let no : ⊥ = grind (arith, m, b, d, h, t.2, and-false (is_hyphen_escaped e.mode)) in absurd no
   ]
 
   u_begins_one : (w : List ℕ) → any_escape_at true e (117 ∷ w) ≡ nothing → ⊥

@@ -1,18 +1,18 @@
 -- What a bracket holds with one member or one operator more: its events, its members, and whether they may match strings.
 use Rattle.std.proofs.Common.{◌≡◌, refl, ap, sym, ◌∙◌, subst, Bool, true, Some, List, [], ◌∷◌, ◌++◌, append-nil}
-use Rattle.std.proofs.Math.Bool.{or-false}
+use Rattle.std.proofs.Math.Bool.{or-false, and-true}
 use Rattle.rx_ast.specs.ClassTree.{Member, Members, no_member, member, members}
 use Rattle.rx_ast.specs.ClassTree as tree
 use Rattle.rx_model.specs.Classes.ClassRuns.{Held, empty, single, several, meeting, met, lessening, lessened, is_whole, less_by, met_by, operand, ranged, with_strings}
 use Rattle.rx_model.specs.Classes.ClassShapes.{AreTwo, FitsKind, IsOperand}
 use Rattle.rx_model.specs.Classes.ClassTokens.{ClassEvents, ClassToken, token, meet, less, member_events, members_events, operator_events}
 use Rattle.rx_model.specs.Trees.Early.{all_strings, any_strings, first_strings, may_contain_strings, member_strings}
-use Rattle.rx_model.proofs.Characters.Decodings.{Some-inj}
+use Rattle.rx_units.proofs.Choices.{Some-inj}
 use Rattle.rx_model.proofs.Classes.ClassWholes.{IsUnion}
 use Rattle.rx_class.specs.ClassBuilding.{last_operator, with_member}
 use Rattle.rx_class.specs.HeldMirror.{kind_of}
 use Rattle.rx_class.specs.WellBuilt.{AreHeld, AreOne, AreSome}
-use Rattle.rx_class.proofs.MembersPushed.{pushed, operand_events, union_events, operands_pushed, two_pushed, and-true, any_pushed, all_pushed, first_pushed}
+use Rattle.rx_class.proofs.MembersPushed.{pushed, operand_events, union_events, operands_pushed, two_pushed, any_pushed, all_pushed, first_pushed}
 
 -- what is in a bracket that holds this
 abbrev pub held_events : Held → Members → ClassEvents

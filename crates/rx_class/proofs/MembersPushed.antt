@@ -1,6 +1,6 @@
 -- The members of a class with one more at the end: their events, and what holds of them.
-use Rattle.std.proofs.Common.{◌≡◌, refl, ap, sym, ◌∙◌, Bool, true, false, List, [], ◌∷◌, ◌++◌, append_assoc, append-nil, ◌&&◌, ◌||◌}
-use Rattle.std.proofs.Math.Bool.{and_assoc, or-false, or_assoc}
+use Rattle.std.proofs.Common.{◌≡◌, refl, ap, sym, ◌∙◌, List, [], ◌∷◌, ◌++◌, append_assoc, append-nil, ◌&&◌, ◌||◌}
+use Rattle.std.proofs.Math.Bool.{and_assoc, or-false, or_assoc, and-true}
 use Rattle.rx_ast.specs.ClassTree.{Member, Members, members}
 use Rattle.rx_model.specs.Classes.ClassShapes.{AreFitting, AreFlagged, AreOperands, AreTwo, IsFittingMember, IsFlaggedMember, IsOperand}
 use Rattle.rx_model.specs.Classes.ClassTokens.{ClassEvents, member_events, members_events, more_members_events}
@@ -49,10 +49,6 @@ pub two_pushed : (ms : List Member) (m : Member) → AreSome (members ms) → Ar
 two_pushed [] m some = absurd some
 two_pushed (n ∷ []) m some = tt
 two_pushed (n ∷ l ∷ ms) m some = tt
-
-pub and-true : (b : Bool) → (b && true) ≡ b
-and-true true = refl
-and-true false = refl
 
 pub any_pushed : (ms : List Member) (m : Member) → any_strings (pushed ms m) ≡ (any_strings (members ms) || member_strings m)
 any_pushed [] m = or-false (member_strings m)

@@ -1,7 +1,7 @@
 -- What is found behind `\p{` and `\P{` is what stands there, in a mode that has properties.
 use Rattle.std.proofs.Common.{◌≡◌, ◌≢◌, ℕ, ◌+◌, ◌-◌, ◌<◌, ◌≤◌, ◌==◌, ◌⊎◌, get_or, take, drop, inl, inr, Bool, true, false, ◌&&◌, List, [], ◌∷◌, ◌++◌, Option, Some, length, refl, sym, ap, ◌∙◌, subst, arith, length-append}
 use Rattle.std.proofs.lemmas.Bool.{eqb-true, false_from_ne_true}
-use Rattle.std.proofs.lemmas.List.{append_assoc, length-map, take_all}
+use Rattle.std.proofs.lemmas.List.{append_assoc, take_all}
 use Rattle.std.proofs.Math.Bool.{and-false}
 use Rattle.rx_tables.specs.Properties.{IsValidUnicodeProperty}
 use Rattle.rx_units.specs.declared.code_point.CodePoint.{CodePoint}
@@ -19,9 +19,7 @@ use Rattle.rx_model.proofs.Classes.ClassFronts.{sets_is}
 use Rattle.rx_model.proofs.Inputs.Modes.{not_sets, unicode_alone}
 use Rattle.rx_model.proofs.Reading.Splits.{starts_there}
 use Rattle.rx_class.specs.PropertyFound.{HasProperties, IsLone, IsPropertyBehind, IsPropertyHalt, is_known, property_letter, unknown_halt}
-
-count_values : (us : List CodePoint) → length (values us) ≡ length us
-count_values us = length-map us (λ (u : CodePoint). u.value)
+use Rattle.rx_scan.proofs.MarkSteps.{values_length}
 
 letter_begins : (negative : Bool) → begins_property (property_letter negative) ≡ true
 letter_begins true = refl
@@ -61,24 +59,24 @@ module _ {sets : Bool} {mode : Mode} (has : HasProperties sets mode) (negative :
     pub pair_unclosed : IsValidUnicodeProperty (values name) (values value) → starts 125 (values behind) ≡ false
         → IsPropertyHalt mode (property_letter negative ∷ 123 ∷ w) (halt.Unterminated (3 + length name + length value))
     pair_unclosed valid unclosed us rest first added place whole =
-        let e : place + 1 + (3 + length name + length value) ≡ place + 4 + length (values name) + length (values value) = omega (arith, count_values name, count_values value) in
+        let e : place + 1 + (3 + length name + length value) ≡ place + 4 + length (values name) + length (values value) = omega (arith, values_length name, values_length value) in
         rw e (unclosed_pair w (values name) (values value) (values behind) (begins rest w whole) p valid unclosed)
 
     pub pair_unknown : (IsValidUnicodeProperty (values name) (values value) → ⊥) → IsPropertyHalt mode (property_letter negative ∷ 123 ∷ w) (halt.Name (3 + length name) (length value))
     pair_unknown unknown us rest first added place whole =
-        let e : place + 1 + (3 + length name) ≡ place + 4 + length (values name) = omega (arith, count_values name) in
-        rw (e, sym (count_values value)) (unknown_pair w (values name) (values value) (values behind) (begins rest w whole) p unknown)
+        let e : place + 1 + (3 + length name) ≡ place + 4 + length (values name) = omega (arith, values_length name) in
+        rw (e, sym (values_length value)) (unknown_pair w (values name) (values value) (values behind) (begins rest w whole) p unknown)
 
     pub pair_spelled : IsValidUnicodeProperty (values name) (values value) → starts 125 (values behind) ≡ true
         → IsPropertyBehind mode (property_letter negative ∷ 123 ∷ w) negative false (values name) (Some (values value)) (4 + length name + length value)
     pair_spelled valid closed =
         let whole = p.whole ∙ ap (λ v. values name ++ (61 ∷ v)) p.run.whole ∙ sym (append_assoc (values name) (61 ∷ values value) (values behind)) in
         spelled_before false (values name) (Some (values value)) (values name ++ (61 ∷ values value)) w (values behind) (4 + length name + length value) whole closed (pair valid)
-        (omega (arith, length-append (values name) (61 ∷ values value), count_values name, count_values value)) (and-false negative)
+        (omega (arith, length-append (values name) (61 ∷ values value), values_length name, values_length value)) (and-false negative)
 
   module _ (w : List ℕ) (run behind : List CodePoint) (r : HasRun w (values run) (values behind)) where
     cut_off_at : (place : ℕ) → place + 1 + (2 + length run) ≡ place + 3 + length (values run)
-    cut_off_at place = omega (arith, count_values run)
+    cut_off_at place = omega (arith, values_length run)
 
     pub run_unterminated : (values run ≡ []) ⊎ (values behind ≡ []) → IsPropertyHalt mode (property_letter negative ∷ 123 ∷ w) (halt.Unterminated (2 + length run))
     run_unterminated short us rest first added place whole = rw (cut_off_at place) (unterminated_run w (values run) (values behind) (begins rest w whole) r short)
@@ -92,12 +90,12 @@ module _ {sets : Bool} {mode : Mode} (has : HasProperties sets mode) (negative :
     run_unknown lone.Binary named some more unknown us rest first added place whole = absurd (let no : ⊥ = cc unknown in no)
     run_unknown lone.OfStrings named some more unknown us rest first added place whole =
         let no_sets = has.sets_is ∙ unknown in
-        rw (sym (count_values run)) (of_strings w (values run) (values behind) (unicode_alone mode no_sets has.unicode) (begins rest w whole) r more (λ known. elim known [
+        rw (sym (values_length run)) (of_strings w (values run) (values behind) (unicode_alone mode no_sets has.unicode) (begins rest w whole) r more (λ known. elim known [
           | inl h ↦ named.0 h
           | inr h ↦ elim h [ inl k ↦ named.1 k | inr k ↦ not_sets mode no_sets k.0 ]
         ]) named.2)
     run_unknown lone.Nothing named some more unknown us rest first added place whole =
-        rw (sym (count_values run)) (unknown_run w (values run) (values behind) (begins rest w whole) r some more (λ known. elim known [
+        rw (sym (values_length run)) (unknown_run w (values run) (values behind) (begins rest w whole) r some more (λ known. elim known [
           | inl h ↦ named.0 h
           | inr h ↦ elim h [ inl k ↦ named.1 k | inr k ↦ named.2 k.1 ]
         ]) named.2)

@@ -11,18 +11,16 @@ use Rattle.rx_units.specs.Units.{values}
 use Rattle.std.proofs.lemmas.List.Elements.{All-get_or, All-weaker}
 use Rattle.std.proofs.lemmas.List.Sums.{AllPass-from_list_all}
 use Rattle.rx_tables.specs.Characters.{is_unicode_property_value_character}
+use Rattle.std.proofs.lemmas.Bool.{ltb-true}
 
 pub no_true : {b : Bool} → b ≡ false → b ≡ true → ⊥
 no_true is_false is_true = let e : false ≡ true = sym is_false ∙ is_true in cc e
-
-small_byte : (b : ℕ) → nat_lt b 128 ≡ true → b < 128
-small_byte b h = grind (arith, nat_tests)
 
 -- its characters as a text
 pub category_text : chars (codes "General_Category") ≡ codes "General_Category"
 category_text =
     let word = codes "General_Category" in
-    chars-IsAscii word (IsAscii-from_all word (All-weaker (λ b. nat_lt b 128 ≡ true) (λ b. b < 128) small_byte word (AllPass-from_list_all (λ b. nat_lt b 128) word refl)))
+    chars-IsAscii word (IsAscii-from_all word (All-weaker (λ b. nat_lt b 128 ≡ true) (λ b. b < 128) (λ b. ltb-true b 128) word (AllPass-from_list_all (λ b. nat_lt b 128) word refl)))
 
 -- a value's character is small
 small : (c : ℕ) → is_unicode_property_value_character c ≡ true → c < 128

@@ -1,6 +1,6 @@
 -- Characters and ends of ranges in a class with `v`: what is spelled is read, and what is read is spelled.
-use Rattle.std.proofs.Common.{◌≡◌, refl, sym, ap, ◌∙◌, subst, ℕ, ◌+◌, ◌≤◌, ◌==◌, Bool, true, false, not, cond, All, List, [], ◌∷◌, ◌++◌, length, arith, inl, inr, length-append}
-use Rattle.std.proofs.lemmas.Bool.{cases_Bool, eqb-true, cond-true, cond-false, and_from}
+use Rattle.std.proofs.Common.{◌≡◌, refl, sym, ap, ◌∙◌, subst, ℕ, ◌+◌, ◌≤◌, ◌==◌, true, false, not, All, List, [], ◌∷◌, ◌++◌, length, arith, inl, inr, length-append}
+use Rattle.std.proofs.lemmas.Bool.{cases_Bool, eqb-true, cond-true, cond-false, and_from, cond_both}
 use Rattle.std.proofs.lemmas.Bool.Decides.{nat_tests}
 use Rattle.std.proofs.lemmas.List.{length-map, map-append}
 use Rattle.std.proofs.lemmas.List.Elements.{All-head}
@@ -23,19 +23,11 @@ use Rattle.rx_model.specs.Refusals.EscapeCauses.{IsEscapeCause, invalid_escape, 
 use Rattle.rx_model.specs.Refusals.Reached.{span_between}
 use Rattle.rx_model.proofs.Characters.Backslashes.{begins}
 use Rattle.rx_model.proofs.Characters.Escapes.{NoUnicode, escape_no_unicode, escape_nothing, escape_spelled, escape_too_many, spelled_escape, spelled_small}
-use Rattle.rx_model.proofs.Classes.ClassFronts.{sets_is}
+use Rattle.rx_model.proofs.Classes.ClassFronts.{sets_is, punctuator_no_b}
 use Rattle.rx_model.proofs.Classes.RefusedAtoms.{escape_first}
 use Rattle.rx_model.proofs.Groups.GroupNames.{differs}
 use Rattle.rx_model.proofs.Reading.Splits.{split_values}
 use Rattle.rx_class.specs.SetFronts.{EndsRange, IsRangeEnd, behind_backslash, range_end_at, set_character_at, set_escape_at}
-
--- what holds of either of two holds of the one that is chosen
-pub either : {A : Type 0} (P : A → Type 0) (b : Bool) (x y : A) → (b ≡ true → P x) → (b ≡ false → P y) → P (cond b x y)
-either P true x y p q = p refl
-either P false x y p q = q refl
-
-punctuator_no_b : (c : ℕ) → is_reserved_punctuator c ≡ true → (c == 98) ≡ false
-punctuator_no_b c h = grind (arith, nat_tests)
 
 module _ (e : Environment) (sets : is_sets e.mode ≡ true) where
   pub mode_is : e.mode ≡ Sets
@@ -132,7 +124,7 @@ module _ (e : Environment) (sets : is_sets e.mode ≡ true) where
   behind_says : (us : List CodePoint) → SaysBehind us (set_escape_at (values us))
   behind_says [] = tt
   behind_says (u ∷ us) =
-      either (SaysBehind (u ∷ us)) (u.value == 98) _ _
+      cond_both (u.value == 98) _ _ (SaysBehind (u ∷ us))
       (λ h. record {
         w = u ∷ [];
         rest = us;
@@ -140,7 +132,7 @@ module _ (e : Environment) (sets : is_sets e.mode ≡ true) where
         count = refl;
         spelled = λ backslash is. row.escaped_in_class backslash (u ∷ []) is (subst (λ c. SpellsInClassAlone e.mode kinds.SingleEscape 8 (c ∷ [])) (sym (eqb-true u.value 98 h)) row.backspace);
       })
-      (λ no_b. either (SaysBehind (u ∷ us)) (is_reserved_punctuator u.value) _ _
+      (λ no_b. cond_both (is_reserved_punctuator u.value) _ _ (SaysBehind (u ∷ us))
       (λ h. record {
         w = u ∷ [];
         rest = us;
@@ -166,9 +158,9 @@ module _ (e : Environment) (sets : is_sets e.mode ≡ true) where
   unfolding set_character_at
   set_character_says [] = tt
   set_character_says (u ∷ us) =
-      either (Says (u ∷ us)) (u.value == 92) _ _
+      cond_both (u.value == 92) _ _ (Says (u ∷ us))
       (λ h. from_behind u us (eqb-true u.value 92 h) (set_escape_at (values us)) (behind_says us))
-      (λ other. either (Says (u ∷ us)) (stands_raw_in_class Sets u.value (values us)) _ _
+      (λ other. cond_both (stands_raw_in_class Sets u.value (values us)) _ _ (Says (u ∷ us))
       (λ h. record { w = u ∷ []; rest = us; whole = refl; count = refl; spelled = row.raw u (raw_in_sets u.value (values us) ∙ h) })
       (λ h. tt))
 
@@ -268,7 +260,7 @@ module _ (e : Environment) (sets : is_sets e.mode ≡ true) where
     nothing_behind = λ hyphen more whole is. absurd (let no : ⊥ = cc whole in no);
   }
   range_end_says (u ∷ us) =
-      either (IsRangeEnd e (u ∷ us)) (u.value == 45) _ _ (λ h. by (eqb-true u.value 45 h) (set_character_at us) refl)
+      cond_both (u.value == 45) _ _ (IsRangeEnd e (u ∷ us)) (λ h. by (eqb-true u.value 45 h) (set_character_at us) refl)
       (λ other. record {
         none_high = λ b. let same : u ≡ b.hyphen = cc b.whole in let no : true ≡ false = sym (ap (λ c. c == 45) (ap (λ (u : CodePoint). u.value) same ∙ b.hyphen_is)) ∙ other in let k : ⊥ = cc no in k;
         nothing_behind = λ hyphen more whole is.

@@ -1,7 +1,6 @@
 -- What stands next in a class with `v`: what is read is what stands there, and no other token is spelled.
-use Rattle.std.proofs.Common.{◌≡◌, refl, sym, ap, ◌∙◌, subst, ℕ, ◌+◌, ◌==◌, ◌&&◌, Bool, true, false, cond, Option, Some, None, List, [], ◌∷◌, arith, inl, inr, is_some}
-use Rattle.std.proofs.lemmas.Bool.{cases_Bool, eqb-true, cond-true, cond-false, and_left, and_from}
-use Rattle.std.proofs.lemmas.Bool.Decides.{nat_tests}
+use Rattle.std.proofs.Common.{◌≡◌, refl, sym, ap, ◌∙◌, subst, ℕ, ◌+◌, ◌==◌, ◌&&◌, Bool, true, false, cond, Option, Some, None, List, [], ◌∷◌, inl, inr, is_some}
+use Rattle.std.proofs.lemmas.Bool.{cases_Bool, eqb-true, cond-true, cond-false, and_left, and_from, cond_both}
 use Rattle.rx_tables.specs.Characters.{is_reserved_punctuator}
 use Rattle.rx_ast.specs.declared.leaf.CharacterClassEscapeKind.{CharacterClassEscapeKind}
 use Rattle.rx_units.specs.declared.code_point.CodePoint.{CodePoint}
@@ -18,17 +17,15 @@ use Rattle.rx_model.specs.Properties.PropertyForms.{begins_property}
 use Rattle.rx_model.specs.Properties.PropertyFronts.{PropertyRead, no_property, property_front, property_read}
 use Rattle.rx_model.specs.Refusals.Stops.{is_hyphen_escaped}
 use Rattle.rx_model.specs.Spelling.ClassText.{class_escape_text}
-use Rattle.rx_model.proofs.Characters.Backslashes.{class_found, no_right}
-use Rattle.rx_model.proofs.Characters.Decodings.{both}
-use Rattle.rx_model.proofs.Classes.ClassFronts.{at_backslash, atom_is_read, letter_no_b}
+use Rattle.rx_model.proofs.Characters.Backslashes.{class_found}
+use Rattle.rx_units.proofs.Choices.{both}
+use Rattle.rx_model.proofs.Classes.ClassFronts.{at_backslash, atom_is_read, letter_no_b, letter_no_punctuator}
 use Rattle.rx_model.proofs.Groups.GroupNames.{differs}
 use Rattle.rx_class.specs.Found.{class_escape_front}
 use Rattle.rx_class.specs.SetFronts.{Begins, BeginsBracket, FrontRead, IsItem, IsOfCharacter, IsSetFront, NoneRefused, bracket_next, character_front, closer_next, escape_front, escape_next, escaped_front, less_next, meet_next, property_next, behind_backslash, set_character_at, set_escape_at, set_front_at, strings_next}
-use Rattle.rx_class.proofs.SetCharacters.{either, mode_is, u_is_read, unicode_is}
+use Rattle.rx_class.proofs.SetCharacters.{mode_is, u_is_read, unicode_is}
 use Rattle.rx_class.proofs.SetTokens.{IsOther, OfToken, Only, atom_of, atom_only, backslash_atom, no_backslash_refused, none_refused_by, of_character, of_escape, of_property, only_of, other_none, set_character_behind, token_of_none, unit_atom}
-
-letter_no_punctuator : (c : ℕ) → begins_property c ≡ true → is_reserved_punctuator c ≡ false
-letter_no_punctuator c h = grind (arith, nat_tests)
+use Rattle.std.proofs.Math.Bool.{and-false}
 
 module _ (e : Environment) (sets : is_sets e.mode ≡ true) where
   -- one unit with the value c
@@ -200,13 +197,13 @@ module _ (e : Environment) (sets : is_sets e.mode ≡ true) where
                 at_backslash e u (v ∷ us) is
                 ∙ cond-false (v.value == 98) _ _ (letter_no_b v.value h)
                 ∙ cond-false (is_hyphen_escaped e.mode && v.value == 45) _ _ (ap (λ mode. is_hyphen_escaped mode && v.value == 45) (mode_is e sets))
-                ∙ cond-false (is_sets e.mode && is_reserved_punctuator v.value) _ _ (ap (λ b. is_sets e.mode && b) (letter_no_punctuator v.value h) ∙ no_right (is_sets e.mode))
+                ∙ cond-false (is_sets e.mode && is_reserved_punctuator v.value) _ _ (ap (λ b. is_sets e.mode && b) (letter_no_punctuator v.value h) ∙ and-false (is_sets e.mode))
                 ∙ cond-true (begins_property v.value && is_unicode e.mode) _ _ (and_from (begins_property v.value) (is_unicode e.mode) h (unicode_is e sets))
                 ∙ ap property_atom f
 
             property_only : (r : PropertyRead) → property_front e.mode (values (v ∷ us)) ≡ r → Only e sets (u ∷ v ∷ us) IsItem
             property_only no_property f =
-                other_none e sets IsItem (u ∷ v ∷ us) (is_other u (v ∷ us) is (ap (λ b. (u.value == 92) && b) s ∙ no_right (u.value == 92))) (read no_property f)
+                other_none e sets IsItem (u ∷ v ∷ us) (is_other u (v ∷ us) is (ap (λ b. (u.value == 92) && b) s ∙ and-false (u.value == 92))) (read no_property f)
             property_only (property_read negative may name value n) f =
                 atom_only e sets IsItem (u ∷ v ∷ us) (property negative may name value) (n + 1) (read (property_read negative may name value n) f) (of_property (property negative may name value) refl)
 
@@ -234,14 +231,14 @@ module _ (e : Environment) (sets : is_sets e.mode ≡ true) where
 
     escaped_front_is : IsSetFront e (u ∷ us) (escaped_front (values us))
     escaped_front_is =
-        either (IsSetFront e (u ∷ us)) (are_next 113 123 (values us)) _ _ strings_front
-        (λ s. either (IsSetFront e (u ∷ us)) (front_is begins_property (values us)) _ _ (λ h. property_front_is h s) (λ p. by s p (class_escape_front (values us)) refl))
+        cond_both (are_next 113 123 (values us)) _ _ (IsSetFront e (u ∷ us)) strings_front
+        (λ s. cond_both (front_is begins_property (values us)) _ _ (IsSetFront e (u ∷ us)) (λ h. property_front_is h s) (λ p. by s p (class_escape_front (values us)) refl))
       where
         by : are_next 113 123 (values us) ≡ false → front_is begins_property (values us) ≡ false → (o : Option CharacterClassEscapeKind) → class_escape_front (values us) ≡ o → IsSetFront e (u ∷ us) (escape_front o (set_escape_at (values us)))
         by s p (Some k) f = escape_front_is k f p
         by s p None f =
             let read = set_character_behind u us is in
-            character_stands (u ∷ us) (behind_backslash (set_escape_at (values us))) read (is_other u us is (ap (λ b. (u.value == 92) && b) s ∙ no_right (u.value == 92)))
+            character_stands (u ∷ us) (behind_backslash (set_escape_at (values us))) read (is_other u us is (ap (λ b. (u.value == 92) && b) s ∙ and-false (u.value == 92)))
             (backslash_atom e sets u us is p f ∙ ap atom_of read) (λ n. none_refused_behind p (read ∙ n))
 
   nothing_at_end : atom_at e [] ≡ no_atom
@@ -257,11 +254,11 @@ module _ (e : Environment) (sets : is_sets e.mode ≡ true) where
     none_refused = λ f. none_refused_by e sets [] (λ c w whole. absurd (let no : ⊥ = cc whole in no)) (λ c w whole. absurd (let no : ⊥ = cc whole in no));
   }
   front_says (u ∷ us) =
-      either P (u.value == 93) _ _ (λ h. closer_front u us (eqb-true u.value 93 h))
-      (λ no_closer. either P (u.value == 91) _ _ (λ h. bracket_front u us (eqb-true u.value 91 h))
-      (λ no_bracket. either P (u.value == 38 && starts 38 (values us)) _ _ (meet_front u us)
-      (λ no_meet. either P (u.value == 45 && starts 45 (values us)) _ _ (less_front u us)
-      (λ no_less. either P (u.value == 92) _ _ (λ h. escaped_front_is u us (eqb-true u.value 92 h))
+      cond_both (u.value == 93) _ _ P (λ h. closer_front u us (eqb-true u.value 93 h))
+      (λ no_closer. cond_both (u.value == 91) _ _ P (λ h. bracket_front u us (eqb-true u.value 91 h))
+      (λ no_bracket. cond_both (u.value == 38 && starts 38 (values us)) _ _ P (meet_front u us)
+      (λ no_meet. cond_both (u.value == 45 && starts 45 (values us)) _ _ P (less_front u us)
+      (λ no_less. cond_both (u.value == 92) _ _ P (λ h. escaped_front_is u us (eqb-true u.value 92 h))
       (λ h.
       let other : IsOther (u ∷ us) =
       record { no_closer = no_closer; no_bracket = no_bracket; no_meet = no_meet; no_less = no_less; no_strings = and_left _ (are_next 113 123 (values us)) h } in

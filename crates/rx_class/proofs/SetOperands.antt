@@ -22,7 +22,7 @@ use Rattle.rx_units.specs.Cursor.{Cursor, moved, offset_of, rest}
 use Rattle.rx_units.specs.Units.{values}
 use Rattle.rx_units.specs.Digits.{front_is}
 use Rattle.rx_model.specs.declared.mode.Mode.{Mode}
-use Rattle.rx_model.specs.declared.mode.Mode.TheVariants.{Legacy, Unicode, Sets}
+use Rattle.rx_model.specs.declared.mode.Mode.TheVariants.{Sets}
 use Rattle.rx_model.specs.Characters.EscapeFronts.{EscapeRead, nothing}
 use Rattle.rx_model.specs.Classes.ClassRows.{BeforeHigh, ClassRow, Place, SpellsAtom, SpellsInClass, behind, behind_item, has_threes, outside, fresh, at_dash, at_high, at_second, at_third, behind_meet, behind_less, in_strings, is_dashed}
 use Rattle.rx_model.specs.Classes.ClassRuns.{Held, empty, single, several, meeting, met, lessening, lessened, is_union, operand, ranged}
@@ -39,7 +39,7 @@ use Rattle.rx_model.specs.Refusals.EscapeCauses.{IsEscapeCause, IsPropertyCause}
 use Rattle.rx_model.specs.Refusals.Firsts.{no_item, yielding}
 use Rattle.rx_model.specs.Refusals.Reached.{text_environment}
 use Rattle.rx_model.specs.Spelling.ClassText.{class_escape_text}
-use Rattle.rx_model.proofs.Classes.ClassFronts.{atom_some, class_letter, token_some}
+use Rattle.rx_model.proofs.Classes.ClassFronts.{atom_some, class_letter, token_some, sets_is}
 use Rattle.rx_model.proofs.Classes.ClassStates.{row_shorter}
 use Rattle.rx_model.proofs.Classes.ClassTokens.{tokens_append}
 use Rattle.rx_model.proofs.Classes.ClassUnspanned.{class_row_tokens, within_tokens}
@@ -62,13 +62,15 @@ use Rattle.rx_class.specs.SetFronts.{Begins, BeginsProperty, EndsRange, set_char
 use Rattle.rx_class.specs.SetReading as turn
 use Rattle.rx_class.specs.SetReading.{AddsToSets, GivesTurn, IsInSets, IsOfSets, IsRangeNext, IsSetRange, RefusesNoEnd, held_in, offset_in, place_of}
 use Rattle.rx_class.specs.WellBuilt.{IsSound, IsWellBuilt}
-use Rattle.rx_class.proofs.ClassRanges.{DashStands, PairStands, atom_stands, dash_at, dash_given, dash_whole, pair_given, range_is}
+use Rattle.rx_class.proofs.ClassRanges.{DashStands, PairStands, atom_stands, dash_at, dash_given, dash_whole, pair_given, range_is, atom_events}
 use Rattle.rx_class.proofs.Keeping.{Passes, keeps_on, moved_keeps, passes_keeps, passes_moved, passes_over}
 use Rattle.rx_class.proofs.SetCharacters.{no_escape_refused, unicode_is}
-use Rattle.rx_class.proofs.SetPlaces.{begins_place, item_before, item_here, no_range_no_union, operand_fresh, ranged_fresh, ranged_union}
+use Rattle.rx_class.proofs.SetPlaces.{begins_place, item_before, item_here, no_range_no_union, operand_fresh, ranged_fresh}
 use Rattle.rx_class.proofs.SetRefusals.{by_text, said_gives}
 use Rattle.rx_class.proofs.SetSteps.{adds_by, last_no_character}
 use Rattle.rx_class.proofs.StringsRead.{escape_says_more}
+use Rattle.rx_model.proofs.Classes.FurtherItems.{ranged_union}
+use Rattle.rx_model.proofs.Reading.Splits.{starts_front}
 
 -- some environment of sets mode
 abbrev pub some_sets : Environment
@@ -76,13 +78,8 @@ some_sets = record { mode = Sets; groups = 0; named = true; buffer_boundaries = 
 
 -- With `v` an item leads to where the next may begin.
 behind_fresh : (mode : Mode) (q : Place) (a : Atom) (left : List CodePoint) → begins_item q ≡ true → is_sets mode ≡ true → behind mode q (item a) left ≡ fresh
-behind_fresh mode q a left begins sets = ap (behind_item q) (never (is_dashed (values left)) (has_threes mode) (none mode sets)) ∙ by q begins
+behind_fresh mode q a left begins sets = ap (behind_item q) (never (is_dashed (values left)) (has_threes mode) (ap has_threes (sets_is mode sets))) ∙ by q begins
   where
-    none : (mode : Mode) → is_sets mode ≡ true → has_threes mode ≡ false
-    none Legacy h = absurd (true≢false (sym h))
-    none Unicode h = refl
-    none Sets h = refl
-
     never : (a b : Bool) → b ≡ false → (a && b) ≡ false
     never true b h = h
     never false b h = refl
@@ -115,16 +112,6 @@ item_row : (e : Environment) (o : ℕ → ℕ) (i : ℕ) (q : Place) (a : Atom) 
     ClassRow e o (within s (token (item a) ∷ [])) q i (w ++ left) fresh (i + length w) left
 item_row e o i q a s w left spelled behind covers = (ap (λ (s : Span). s.start) covers, (w, left, refl, spelled, (ap (λ (s : Span). s.end) covers, (behind, refl, refl))))
 
--- An atom as a member.
-member_within : (a : ClassAtom) → member_events (atom_member a) ≡ within (atom_span a) (token (item (atom_of a)) ∷ [])
-member_within (atom.Character c) = refl
-member_within (atom.Escape c) = refl
-member_within (atom.Property p) = refl
-
-first_unit : (c : ℕ) (w left : List CodePoint) → 0 < length w → starts c (values (w ++ left)) ≡ starts c (values w)
-first_unit c [] left some = absurd (omega (arith, some))
-first_unit c (u ∷ w) left some = refl
-
 module _ (added : ℕ) (old new : Cursor) (before after : ClassBuilder) (held : HeldState) (takes : operand (held_in before) ≡ Some (held_of held)) (with : held_in after ≡ held_of held) (well : IsWellBuilt after) where
   -- an operand
   pub member_adds : (e : Environment) (m : Member) (w left : List CodePoint) → rest old ≡ w ++ left → 0 < length w → new ≡ moved (length w) old → builder_events after ≡ builder_events before ++ member_events m →
@@ -142,9 +129,9 @@ module _ (added : ℕ) (old new : Cursor) (before after : ClassBuilder) (held : 
       let some = atom_some e (atom_of it) s.w (rest new) s.spelled in
       let begins = begins_place (held_in before) in
       member_adds e (atom_member it) s.w (rest new) passes.whole some (passes_over passes) events
-      (rw (member_within it)
+      (rw (atom_events it)
       (item_row e (offset_in added old) old.place q (atom_of it) (atom_span it) s.w (rest new)
-      (item_there e q (atom_of it) s.w (rest new) begins of.sets s.spelled none (λ meets. sym (first_unit 38 s.w (rest new) some) ∙ ap (λ us. starts 38 (values us)) (sym passes.whole) ∙ third meets))
+      (item_there e q (atom_of it) s.w (rest new) begins of.sets s.spelled none (λ meets. sym (starts_front 38 s.w (rest new) some) ∙ ap (λ us. starts 38 (values us)) (sym passes.whole) ∙ third meets))
       (behind_fresh e.mode q (atom_of it) (rest new) begins of.sets) s.span))
       ends
 
@@ -193,7 +180,7 @@ module _ (added start : ℕ) (old new : Cursor) (kind : CharacterClassEscapeKind
       let it : ClassAtom = atom.Escape (record { span = span; kind = kind }) in
       let letter = class_letter kind in
       let third : starts 38 (values (rest old)) ≡ false =
-      ap (λ us. starts 38 (values us)) front.whole ∙ first_unit 38 front.w front.rest (omega (arith, ap length (front.text_is ∙ letter.text), length-map front.w (λ (u : CodePoint). u.value))) ∙ ap (starts 38) (front.text_is ∙ letter.text) in
+      ap (λ us. starts 38 (values us)) front.whole ∙ starts_front 38 front.w front.rest (omega (arith, ap length (front.text_is ∙ letter.text), length-map front.w (λ (u : CodePoint). u.value))) ∙ ap (starts 38) (front.text_is ∙ letter.text) in
       atom_adds added old new before after held takes with well it e of (escape_read front at moves covers e) events (λ at is high. true≢false (sym is)) (λ meets. third)
       (last_no_character e new before after (member_events (atom_member it)) [] (item (atom_of it)) events refl (no_character_item (item (atom_of it)) refl))
 

@@ -10,8 +10,7 @@ use Rattle.rx_model.specs.Classes.ClassRuns.{Bracket, Brackets, Held, empty, sin
 use Rattle.rx_model.specs.Classes.ClassTokens.{ClassEvents, enter, leave, token, class_tokens_of}
 use Rattle.rx_model.specs.Inputs.Environment.{Environment}
 use Rattle.rx_model.specs.Refusals.ClassPlaces.{IsInBracket, IsItemPlace, begins_item, nested, of_class}
-use Rattle.rx_model.proofs.Characters.Decodings.{Some-inj}
-use Rattle.rx_model.proofs.Classes.ClassStates.{run_in}
+use Rattle.rx_units.proofs.Choices.{Some-inj}
 use Rattle.rx_model.proofs.Classes.ClassTokens.{tokens_append}
 use Rattle.rx_model.proofs.Classes.ClassUnspanned.{class_row_tokens}
 use Rattle.rx_model.proofs.Classes.ClassWholes.{class_opened-append, class_run-append}
@@ -61,16 +60,6 @@ ranged_fresh met after h = absurd (let no : ⊥ = cc h in no)
 ranged_fresh lessening after h = absurd (let no : ⊥ = cc h in no)
 ranged_fresh lessened after h = absurd (let no : ⊥ = cc h in no)
 
--- A range stands in a union.
-pub ranged_union : (held after : Held) → ranged held ≡ Some after → is_union held ≡ true
-ranged_union empty after h = refl
-ranged_union single after h = refl
-ranged_union several after h = refl
-ranged_union meeting after h = absurd (let no : ⊥ = cc h in no)
-ranged_union met after h = absurd (let no : ⊥ = cc h in no)
-ranged_union lessening after h = absurd (let no : ⊥ = cc h in no)
-ranged_union lessened after h = absurd (let no : ⊥ = cc h in no)
-
 -- An operand behind which no union is stands where no range may.
 pub no_range_no_union : (held after : Held) → operand held ≡ Some after → ranged held ≡ None → is_union after ≡ false
 no_range_no_union empty after h none = absurd (let no : ⊥ = cc none in no)
@@ -112,7 +101,7 @@ record Opens (o : Option Brackets) : Type 0 where
 opens_in : (b : OpenBracket) (d : Bracket) (ds : Brackets) → IsWellHeld b → takes_operand d.held ≡ true → class_run (class_tokens_of (bracket_events b)) (d ∷ ds) ≡ Some (bracket_at b ∷ d ∷ ds)
 opens_in b d ds well takes =
     let ts = class_tokens_of (bracket_events b) in
-    run_in ts d [] ds (bracket_at b) (d ∷ []) (nested_run ts d (bracket_at b) takes well.opens)
+    nested_run ts d (bracket_at b) ds takes well.opens
 
 all_open : (bs : List OpenBracket) (d : Bracket) (ds : Brackets) → All IsAround bs → takes_operand d.held ≡ true → Opens (class_run (class_tokens_of (flat_map bracket_events bs)) (d ∷ ds))
 all_open [] d ds all takes = record { inner = d; outer = ds; opened = refl; takes = takes }

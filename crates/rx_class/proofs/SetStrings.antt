@@ -3,7 +3,6 @@ use Rattle.std.proofs.Common.{◌≡◌, refl, sym, ap, ◌∙◌, subst, ℕ, �
 use Rattle.std.specs.Prelude.{IfErr}
 use Rattle.std.specs.List.{list_any}
 use Rattle.std.proofs.Math.Bool.{or-false}
-use Rattle.std.proofs.lemmas.Bool.{eqb-true}
 use Rattle.std.proofs.lemmas.List.Elements.{All-nil, All-push}
 use Rattle.std.proofs.lemmas.List.Folds.{list_any-append}
 use Rattle.rx_base.specs.declared.diagnostic.Diagnostic.{Diagnostic}
@@ -35,15 +34,11 @@ use Rattle.rx_class.specs.SetFronts.{set_character_at}
 use Rattle.rx_class.specs.SetStrings.{AddsPart, AreSoundStrings, RefusesPart, ended_events, ends, escape, last_string, read_events, with_string}
 use Rattle.rx_class.proofs.Keeping.{moved_keeps, passes_moved, stays_keeps}
 use Rattle.rx_class.proofs.SetCharacters.{no_escape_refused, spelled_set_character}
+use Rattle.rx_class.proofs.SetRefusals.{unit_next}
 
 -- what is said of a failure to read a part
 abbrev pub IsRefusedPart : ℕ → ℕ → Cursor → Cursor → Result (Unit {0}) Fault → Type 0
 IsRefusedPart added start old new r = IfErr r (λ fault. (e : Environment) → is_sets e.mode ≡ true → RefusesPart e added start old new fault)
-
--- the unit that stands next
-pub unit_there : (c : ℕ) (us : List CodePoint) → starts c (values us) ≡ true → (u : CodePoint) × (more : List CodePoint) × (us ≡ u ∷ more) × (u.value ≡ c)
-unit_there c [] h = absurd (let no : ⊥ = cc h in no)
-unit_there c (u ∷ us) h = (u, us, refl, eqb-true u.value c h)
 
 -- Events that are read one after another.
 pub letters_push : (cs : List Character) (c : Character) → letters_events (cs ++ (c ∷ [])) ≡ letters_events cs ++ (enter c.span.start ∷ token (letter c.kind c.value) ∷ leave c.span.end ∷ [])
@@ -102,7 +97,7 @@ module _ (e : Environment) (sets : is_sets e.mode ≡ true) (added : ℕ) (old n
   pub bar_adds : (b ended after : StringsBuilder) (before_bar behind_bar : Span) → starts 124 (values (rest old)) ≡ true → new ≡ moved 1 old → before_bar ≡ span_to added (offset_of old) old → behind_bar ≡ span_to added (offset_of new) new
       → ended ≡ with_string b before_bar.start → after ≡ record ended { start = behind_bar.start } → Adds b after
   bar_adds b ended after before_bar behind_bar bar moves before_is behind_is ended_is is =
-      let t = unit_there 124 (rest old) bar in
+      let t = unit_next 124 (rest old) bar in
       let p = passes_moved old new (t.0 ∷ []) t.1 t.2 (omega arith) moves in
       let here : before_bar.start ≡ offset_of old + added = ap (λ (s : Span). s.start) before_is in
       let there : behind_bar.start ≡ offset_at old.first old.units (old.place + 1) + added =

@@ -1,6 +1,6 @@
 -- Which tokens are spelled in a class with `v` where an item or an operand may begin, by the atom that is read there; and where no escape is refused.
 use Rattle.std.proofs.Common.{◌≡◌, refl, sym, ap, ◌∙◌, subst, ℕ, ◌==◌, ◌&&◌, Bool, true, false, Some, None, List, [], ◌∷◌, ◌++◌, drop, inl, inr}
-use Rattle.std.proofs.lemmas.Bool.{cases_Bool, cond-true, cond-false, and_left, and_from}
+use Rattle.std.proofs.lemmas.Bool.{cases_Bool, cond-true, cond-false, and_left, and_from, cond_both}
 use Rattle.rx_tables.specs.Characters.{is_reserved_punctuator}
 use Rattle.rx_ast.specs.declared.leaf.CharacterClassEscapeKind.{CharacterClassEscapeKind}
 use Rattle.rx_ast.specs.declared.leaf.CharacterKind.{CharacterKind}
@@ -17,14 +17,14 @@ use Rattle.rx_model.specs.Inputs.Environment.{Environment, is_sets, is_unicode}
 use Rattle.rx_model.specs.Properties.PropertyForms.{begins_property}
 use Rattle.rx_model.specs.Refusals.ClassPlaces.{begins_item}
 use Rattle.rx_model.specs.Refusals.Stops.{is_hyphen_escaped}
-use Rattle.rx_model.proofs.Characters.Backslashes.{no_right}
 use Rattle.rx_model.proofs.Characters.LegacyEscapes.{any_in_unicode}
 use Rattle.rx_model.proofs.Classes.ClassFronts.{at_backslash, class_token_is}
 use Rattle.rx_model.proofs.Classes.RefusedAtoms.{escape_first}
 use Rattle.rx_model.proofs.Properties.PropertyRefusals.{property_first}
 use Rattle.rx_class.specs.Found.{class_escape_front}
 use Rattle.rx_class.specs.SetFronts.{IsItem, IsOfCharacter, NoneRefused, behind_backslash, set_character_at, set_escape_at}
-use Rattle.rx_class.proofs.SetCharacters.{either, mode_is, raw_in_sets, unicode_is}
+use Rattle.rx_class.proofs.SetCharacters.{mode_is, raw_in_sets, unicode_is}
+use Rattle.std.proofs.Math.Bool.{and-false}
 
 -- Which tokens are spelled where an item or an operand may begin.
 abbrev pub OfToken : (ClassToken → Type 0) → TokenRead → Type 0
@@ -107,10 +107,10 @@ of_property a other t h = absurd h
 module _ (e : Environment) (sets : is_sets e.mode ≡ true) where
   dashed_of_atom : (a : Atom) (n : ℕ) (r : AtomRead) → OfToken (OfAtom a) (dashed_of e.mode a n r)
   dashed_of_atom a n no_atom = item_where_of (is_sets e.mode) a n
-  dashed_of_atom a n (atom_read b m) = either (OfToken (OfAtom a)) (is_character a && is_character b) _ _ (λ h. low_of_atom a n) (λ h. item_where_of _ a n)
+  dashed_of_atom a n (atom_read b m) = cond_both (is_character a && is_character b) _ _ (OfToken (OfAtom a)) (λ h. low_of_atom a n) (λ h. item_where_of _ a n)
 
   item_before_of : (a : Atom) (n : ℕ) (rest : List CodePoint) → OfToken (OfAtom a) (item_before e a n rest)
-  item_before_of a n rest = either (OfToken (OfAtom a)) (is_dashed (values rest)) _ _ (λ h. dashed_of_atom a n (atom_at e (drop 1 rest))) (λ h. refl)
+  item_before_of a n rest = cond_both (is_dashed (values rest)) _ _ (OfToken (OfAtom a)) (λ h. dashed_of_atom a n (atom_at e (drop 1 rest))) (λ h. refl)
 
   -- an atom is read
   token_of_atom : (a : Atom) (n : ℕ) (us : List CodePoint) (q : Place) → begins_item q ≡ true → atom_at e us ≡ atom_read a n → OfToken (OfAtom a) (class_token_at e q us)
@@ -126,7 +126,7 @@ module _ (e : Environment) (sets : is_sets e.mode ≡ true) where
   unfolding class_token_at
   token_of_none P us h c s o fresh b =
       subst (λ r. OfToken P (fresh_token e r us)) (sym h)
-      (either (OfToken P) (starts 93 (values us)) _ _ c (λ no_closer. either (OfToken P) (is_sets e.mode) _ _ (λ m. s) (λ m. tt)))
+      (cond_both (starts 93 (values us)) _ _ (OfToken P) c (λ no_closer. cond_both (is_sets e.mode) _ _ (OfToken P) (λ m. s) (λ m. tt)))
   token_of_none P us h c s o behind_meet b = where_of P _ _ (subst (λ r. OfToken P (operand_of r (values us))) (sym h) o)
   token_of_none P us h c s o behind_less b = where_of P _ _ (subst (λ r. OfToken P (operand_of r (values us))) (sym h) o)
   token_of_none P us h c s o q b = absurd (let no : ⊥ = cc b in no)
@@ -163,7 +163,7 @@ module _ (e : Environment) (sets : is_sets e.mode ≡ true) where
               cond-true (is_sets e.mode && is_reserved_punctuator c) _ _ (and_from (is_sets e.mode) (is_reserved_punctuator c) sets k)
               ∙ sym (ap Atomed (cond-false (c == 98) _ _ h ∙ cond-true (is_reserved_punctuator c) _ _ k))
           | inr k ↦
-              cond-false (is_sets e.mode && is_reserved_punctuator c) _ _ (ap (λ b. is_sets e.mode && b) k ∙ no_right (is_sets e.mode))
+              cond-false (is_sets e.mode && is_reserved_punctuator c) _ _ (ap (λ b. is_sets e.mode && b) k ∙ and-false (is_sets e.mode))
               ∙ cond-false (begins_property c && is_unicode e.mode) _ _ (and_left _ (is_unicode e.mode) p)
               ∙ ap (λ o. escape_atom o (any_escape_at true e (c ∷ w))) none
               ∙ character_atom_of (any_escape_at true e (c ∷ w))

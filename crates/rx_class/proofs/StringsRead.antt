@@ -44,7 +44,8 @@ use Rattle.rx_class.specs.SetStrings.{AddsPart, AreSoundStrings, RefusesPart, en
 use Rattle.rx_class.specs.WellBuilt.{IsSound}
 use Rattle.rx_class.proofs.ClassItems.{rows_append}
 use Rattle.rx_class.proofs.Keeping.{Passes, keeps_on, passes_keeps, passes_moved, passes_on, passes_over}
-use Rattle.rx_class.proofs.SetStrings.{string_ends, three_more, unit_there}
+use Rattle.rx_class.proofs.SetStrings.{string_ends, three_more}
+use Rattle.rx_class.proofs.SetRefusals.{unit_next}
 
 -- the offset of a place of a reader's text
 abbrev pub offset_in : ℕ → Cursor → ℕ → ℕ
@@ -206,7 +207,7 @@ module _ (e : Environment) (sets : is_sets e.mode ≡ true) (added : ℕ) (old :
 
     pub strings_give : GivesStrings e added old new (Ok it)
     strings_give =
-        let t = unit_there 125 (rest mid) closes in
+        let t = unit_next 125 (rest mid) closes in
         let p = (passes_moved mid new (t.0 ∷ []) t.1 t.2 (omega arith) moves).0 in
         let all = passes_on h.passes p in
         let w = (h.opener ++ h.w) ++ (t.0 ∷ []) in

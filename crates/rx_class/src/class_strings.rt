@@ -103,7 +103,15 @@ fn string_part(
     if begins_with(reader.remaining_code_points(), '|') {
         return Ok(next_string(alloc, reader, spans, builder)?);
     }
-    letter(reader, spans, start, builder)
+    let found = set_character_at(reader.remaining_code_points());
+    match answer_ahead(reader, spans, found)? {
+        Some(character) => Ok(builder.letters.push(character)?),
+        None => {
+            let span = span_to_here(reader, spans, start);
+            let what = Unterminated::ClassStringDisjunction;
+            Err(Fault::Diagnostic(Diagnostic::UnterminatedPattern { span, what }))
+        }
+    }
 }
 
 /// Ends a string before the `|` that stands next, and moves over it.
@@ -122,30 +130,4 @@ fn next_string(
     reader.advance();
     builder.start = here(reader, spans).start;
     Ok(())
-}
-
-/// Reads a character of a class string, and moves over it.
-fn letter(
-    reader: &mut Reader<'_>,
-    spans: &SpanFactory,
-    start: u32,
-    builder: &mut StringsBuilder,
-) -> Result<(), Fault>
-    requires goes_on { starts 125 (values (rest reader.old)) ≡ false }
-    requires no_bar { starts 124 (values (rest reader.old)) ≡ false }
-    requires within { reader.old.place ≤ length reader.old.units }
-    requires start { start + spans.now < 2 ^ 32 }
-    requires fits { AreFitting spans.now reader.old }
-    ensures added { OnOk result ((e : Environment) → is_sets e.mode ≡ true → AddsPart e spans.now reader.old reader.new builder.old builder.new) }
-    ensures refused { IfErr result (λ fault. (e : Environment) → is_sets e.mode ≡ true → RefusesPart e spans.now start reader.old reader.new fault) }
-{
-    let found = set_character_at(reader.remaining_code_points());
-    match answer_ahead(reader, spans, found)? {
-        Some(character) => Ok(builder.letters.push(character)?),
-        None => {
-            let span = span_to_here(reader, spans, start);
-            let what = Unterminated::ClassStringDisjunction;
-            Err(Fault::Diagnostic(Diagnostic::UnterminatedPattern { span, what }))
-        }
-    }
 }

@@ -3,6 +3,7 @@ pub mod AgainTrees
 pub mod BackRows
 pub mod Backs
 pub mod Bounds
+pub mod CharacterText
 pub mod ClassAgain
 pub mod ClassBacks
 pub mod ClassKnown
@@ -11,6 +12,7 @@ pub mod ClassTrees
 pub mod Known
 pub mod Narrows
 pub mod OneLines
+pub mod PrintableTexts
 pub mod ReadBacks
 pub mod SameAgain
 pub mod SomeTexts

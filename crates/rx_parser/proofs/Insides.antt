@@ -1,8 +1,6 @@
 -- What stands so far in the innermost open group: it opens and closes groups of its own alone.
 use Rattle.std.proofs.Common.{◌≡◌, refl, ap, sym, ◌∙◌, subst, ℕ, ◌+◌, Bool, false, Some, List, [], ◌∷◌, ◌++◌, map, length, drop, append_assoc, length-append, length-drop, arith}
-use Rattle.std.specs.Prelude.{All}
 use Rattle.std.proofs.lemmas.List.{append-nil}
-use Rattle.std.proofs.lemmas.List.Elements.{All-head, All-tail, All-nil, All-cons}
 use Rattle.rx_ast.specs.declared.term.Alternative.{Alternative}
 use Rattle.rx_ast.specs.declared.term.Term.{Term}
 use Rattle.rx_ast.specs.Tree as tree
@@ -31,6 +29,7 @@ use Rattle.rx_parser.specs.Levels.{barred, level_events, strung}
 use Rattle.rx_parser.specs.Parsing.{IsParsing}
 use Rattle.rx_parser.proofs.FrameEvents.{frames_push}
 use Rattle.rx_parser.proofs.Goods.{frames_split}
+use Rattle.rx_model.proofs.Refusals.InnermostGroups.{first_all}
 
 module _ (mode : Mode) where
   -- one row of events behind another
@@ -101,11 +100,6 @@ row_places e o ((modified m) ∷ es) i us j rest r = omega (arith, row_places e 
 
 row_from_start : (e : Environment) (o : ℕ → ℕ) (es : Events) (us : List CodePoint) (j : ℕ) (rest : List CodePoint) → Row e o es 0 us j rest → length us ≡ j + length rest
 row_from_start e o es us j rest r = let k = row_places e o es 0 us j rest r in omega (arith, k)
-
--- what holds of all holds of the first
-first_all : {A : Type 0} (P : A → Type 0) (xs ys : List A) → All P (xs ++ ys) → All P xs
-first_all P [] ys h = All-nil P
-first_all P (x ∷ xs) ys h = All-cons P x xs (All-head P x (xs ++ ys) h) (first_all P xs ys (All-tail P x (xs ++ ys) h))
 
 module _ (b : Builder) (outer : List Frame) (group : Frame) (e : b.frames ≡ outer ++ (group ∷ [])) where
   -- what has been read before the innermost group

@@ -12,8 +12,9 @@ use Rattle.rx_model.specs.Groups.Modifiers.{is_modifier, occurs, has_twice, lett
 use Rattle.rx_model.specs.Groups.ModifierFronts.{are_bits}
 use Rattle.rx_model.proofs.Groups.ModifierBits.{and_three, or_three, three}
 use Rattle.rx_parser.specs.Modifiers.{modifier_bit}
-use Rattle.rx_model.proofs.Characters.Decodings.{chosen}
-use Rattle.rx_parser.proofs.TextUnits.{values_front, values_more}
+use Rattle.rx_units.proofs.Choices.{chosen}
+use Rattle.rx_parser.proofs.TextUnits.{values_more}
+use Rattle.rx_scan.proofs.MarkSteps.{values_at}
 
 -- What holds of each letter and its bit.
 by_letter : (P : ℕ → ℕ → Type 0) (c bit : ℕ) → P 105 1 → P 109 2 → P 115 4 → modifier_bit c ≡ Some bit → P c bit
@@ -115,7 +116,7 @@ module _ (us : List CodePoint) (i : ℕ) (d : CodePoint) (within : i < length us
   parted =
       ap values (sym (take-append-drop i us))
       ∙ map-append (λ (u : CodePoint). u.value) (take i us) (drop i us)
-      ∙ ap (λ w. values (take i us) ++ w) (values_front us i d within)
+      ∙ ap (λ w. values (take i us) ++ w) (values_at us i d within)
 
   -- a letter whose bit is set already
   pub no_bits_twice : (bit : ℕ) → Some bit ≡ modifier_bit letter → bit_and (letters_bits (values (take i us))) bit ≡ bit → None ≡ are_bits (values us)

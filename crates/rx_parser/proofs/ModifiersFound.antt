@@ -8,8 +8,8 @@ use Rattle.rx_units.specs.declared.code_point.CodePoint.{CodePoint}
 use Rattle.rx_units.specs.Units.{values}
 use Rattle.rx_model.specs.Groups.GroupFronts.{letters_at, sides, second_side, sides_at}
 use Rattle.rx_model.specs.FirstPass.Marks.{starts}
-use Rattle.rx_model.specs.Groups.Modifiers.{is_modifier, AreSides, one_side, two_sides}
-use Rattle.rx_model.proofs.Groups.Modifiers.{sides_spelled}
+use Rattle.rx_model.specs.Groups.Modifiers.{is_modifier}
+use Rattle.rx_model.proofs.Groups.Modifiers.{sides_spelled, sides_letters}
 
 -- the units from a place on, as a slice has them
 abbrev pub from : ℕ → List CodePoint → List CodePoint
@@ -54,10 +54,6 @@ module _ (us : List CodePoint) (n : ℕ) (letters : n ≡ letters_at (values us)
       ∙ ap (λ n. second_side (values us) n (drop (n + 1) (values us))) letters
       ∙ sym (cond-true (starts 45 (drop (letters_at (values us)) (values us))) _ _
       (ap (λ n. starts 45 (drop n (values us))) (sym letters) ∙ ap (starts 45) (sym (values_from n us)) ∙ starts_first 45 (from n us) d l h))
-
-sides_letters : (w v text : List ℕ) → AreSides w v text → (list_all is_modifier w ≡ true) × (list_all is_modifier v ≡ true)
-sides_letters w _ _ (one_side h) = (h, refl)
-sides_letters _ _ _ (two_sides w v h k) = (h, k)
 
 -- the letters on both sides of modifiers that are read
 pub letters_there : (us : List CodePoint) (w v : List ℕ) (n : ℕ) → sides w v n ≡ sides_at (values us) → (list_all is_modifier w ≡ true) × (list_all is_modifier v ≡ true)

@@ -6,7 +6,7 @@ use Rattle.rx_units.specs.declared.code_point.CodePoint.{CodePoint}
 use Rattle.rx_units.specs.Units.{values}
 use Rattle.rx_model.specs.Characters.LegacyEscapes.{run_number}
 use Rattle.rx_model.specs.Reading.Fronts.{digits, digits_behind}
-use Rattle.rx_model.proofs.Characters.Decodings.{chosen}
+use Rattle.rx_units.proofs.Choices.{chosen}
 
 -- The digits before a place are read, and their number stands still at the greatest of 32 bits.
 pub record NumberRead (us : List CodePoint) (found count : ℕ) : Type 0 where

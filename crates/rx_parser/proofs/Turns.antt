@@ -34,7 +34,7 @@ use Rattle.rx_model.specs.Refusals.Reached.{AreObeying, IsPlace, IsReached, span
 use Rattle.rx_model.specs.Reading.Rows.{Row, Spells}
 use Rattle.rx_model.specs.Trees.Shapes.{group_takes, run, takes}
 use Rattle.rx_model.specs.Trees.Token.{Token, Opener, bar, capturing, class, closer, ignoring, letter_bits, named, opener, opener_of, quantifier}
-use Rattle.rx_model.proofs.Properties.PropertyFronts.{among}
+use Rattle.rx_model.proofs.Trees.Names.{among}
 use Rattle.rx_model.proofs.Trees.Flat.{tokens_of-append}
 use Rattle.rx_model.proofs.Reading.Fronts.{Front, front_spelled, spelled_some}
 use Rattle.rx_scan.specs.declared.state.State.{State}

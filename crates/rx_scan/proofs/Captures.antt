@@ -3,6 +3,7 @@ use Rattle.std.proofs.Common.{◌≡◌, ap, sym, ◌∙◌, subst, ℕ, suc, �
 use Rattle.std.specs.BTreeMap.{get_by_text}
 use Rattle.std.specs.Str.{IsUtf8, bytes_eq, chars}
 use Rattle.std.proofs.lemmas.List.{map-append}
+use Rattle.rx_units.proofs.Choices.{Some-inj}
 use Rattle.rx_model.specs.FirstPass.Marks.{capturing, mark_name, name_length}
 use Rattle.rx_scan.specs.OpenGroups.{group_states_of}
 use Rattle.rx_scan.specs.FirstPass.{Captures, KnowsLast, Steps, entries, entry_of, first_clash, with_name}
@@ -22,9 +23,6 @@ pub record Added (old mid new : FirstPass) (opening : Opening) (bytes : List ℕ
   pub text : IsUtf8 bytes
   pub spells : chars bytes ≡ opening.name
 
-some_is : (x y : List ℕ) → Some x ≡ Some y → x ≡ y
-some_is x y e = cc
-
 pub added : (old mid new : FirstPass) (opening : Opening) (bytes : List ℕ) → Added old mid new opening bytes → KnowsLast (entries old) old.last_openings → first_clash (group_states_of old.groups) opening.name (entries old) ≡ None → Captures old new (Some opening.name) opening.start opening.end opening.mark
 added old mid new opening bytes a knows none =
     let next : opening.mark + 1 ≡ suc opening.mark = omega arith in
@@ -38,7 +36,7 @@ added old mid new opening bytes a knows none =
       listed_are = es;
       knows = subst (λ z. KnowsLast z new.last_openings) (sym es)
           (knows_more (entries old) (entry_of opening) old.last_openings new.last_openings bytes knows (λ cs. a.sets cs ∙ ap (λ m. cond (bytes_eq bytes cs) (Some opening.mark) (get_by_text m.last_openings.marks cs)) a.renamed) a.text a.spells);
-      fresh = λ n e. let same : opening.name ≡ n = some_is opening.name n e in subst (λ z. first_clash (group_states_of old.groups) z (entries old) ≡ None) same none;
+      fresh = λ n e. let same : opening.name ≡ n = Some-inj e in subst (λ z. first_clash (group_states_of old.groups) z (entries old) ≡ None) same none;
     }
 
 pub captured_steps : (old new : FirstPass) (units : Option (List ℕ)) (name : Option (List ℕ)) (at k : ℕ) → mark_name old.mode (capturing units) ≡ name → Captures old new name (at + 3) (at + 3 + name_length (capturing units)) k → Steps old new (capturing units) at k

@@ -2,6 +2,7 @@
 use Rattle.std.proofs.Common.{◌≡◌, refl, ap, sym, ◌∙◌, subst, ℕ, zero, suc, ◌-◌, ◌<◌, ◌≤◌, Bool, true, false, ◌&&◌, ◌||◌, List, [], ◌∷◌, ◌++◌, get_or, length, arith}
 use Rattle.std.specs.Prelude.{nat_le, nat_lt}
 use Rattle.std.proofs.lemmas.Bool.{le-leb, lt-leb, le-ltb}
+use Rattle.std.proofs.Math.Bool.{or-false}
 use Rattle.rx_model.specs.FirstPass.GroupStates.{GroupState, Nests, drop_top}
 use Rattle.rx_scan.specs.declared.open_groups.OpenGroup.{OpenGroup}
 use Rattle.rx_scan.specs.OpenGroups.{pair, onto, Splits, no_group, hides, hides_one, any_hides}
@@ -26,12 +27,8 @@ hides_onto : (a : ℕ) (cs : List OpenGroup) (fs : List GroupState) → hides a 
 hides_onto a [] fs = refl
 hides_onto a (c ∷ cs) fs = hides_onto a cs (pair c ∷ fs) ∙ or_turn (hides_one a (pair c)) (any_hides a cs) (hides a fs)
 
-or_none : (a : Bool) → (a || false) ≡ a
-or_none true = refl
-or_none false = refl
-
 pub hides_outer : (a : ℕ) (f : GroupState) (cs : List OpenGroup) → hides_one a f ≡ false → hides a (f ∷ onto cs []) ≡ any_hides a cs
-hides_outer a f cs e = ap (λ b. b || hides a (onto cs [])) e ∙ hides_onto a cs [] ∙ or_none (any_hides a cs)
+hides_outer a f cs e = ap (λ b. b || hides a (onto cs [])) e ∙ hides_onto a cs [] ∙ or-false (any_hides a cs)
 
 -- the same of group states with the outermost first, all before t
 abbrev Rises : List OpenGroup → ℕ → Type 0
@@ -91,9 +88,9 @@ start_below c (d ∷ cs) t (suc n) r l = let h = start_below d cs t n r.2 (omega
 
 found_split : (a t n : ℕ) (cs : List OpenGroup) → Rises cs t → suc n ≤ length cs → (get_or cs n no_group).start ≤ a → (suc n < length cs → a < (get_or cs (suc n) no_group).start) → any_hides a cs ≡ nat_lt a (get_or cs n no_group).bar
 found_split a t n [] r l le lt = absurd (omega arith)
-found_split a t zero (c ∷ []) r l le lt = ap (λ b. (b && nat_lt a c.bar) || false) (le-leb c.start a le) ∙ or_none (nat_lt a c.bar)
+found_split a t zero (c ∷ []) r l le lt = ap (λ b. (b && nat_lt a c.bar) || false) (le-leb c.start a le) ∙ or-false (nat_lt a c.bar)
 found_split a t zero (c ∷ d ∷ cs) r l le lt =
-    ap (λ b. (b && nat_lt a c.bar) || any_hides a (d ∷ cs)) (le-leb c.start a le) ∙ ap (λ b. nat_lt a c.bar || b) (early a t (d ∷ cs) r.2 (λ z. lt (omega arith))) ∙ or_none (nat_lt a c.bar)
+    ap (λ b. (b && nat_lt a c.bar) || any_hides a (d ∷ cs)) (le-leb c.start a le) ∙ ap (λ b. nat_lt a c.bar || b) (early a t (d ∷ cs) r.2 (λ z. lt (omega arith))) ∙ or-false (nat_lt a c.bar)
 found_split a t (suc n) (c ∷ []) r l le lt = absurd (omega arith)
 found_split a t (suc n) (c ∷ d ∷ cs) r l le lt =
     let s = start_below d cs t n r.2 (omega arith) in let g = r.1 in
@@ -101,8 +98,8 @@ found_split a t (suc n) (c ∷ d ∷ cs) r l le lt =
 
 pub hides_top : (a : ℕ) (f : GroupState) (cs : List OpenGroup) → Nests (f ∷ onto cs []) → f.0 ≤ a → nat_lt a f.1 ≡ hides a (f ∷ onto cs [])
 hides_top a f cs n le =
-    let e : hides a (onto cs []) ≡ false = hides_onto a cs [] ∙ or_none (any_hides a cs) ∙ late_start a f.0 cs (nests_rise cs [] f n).0 le in
-    sym (ap (λ b. (b && nat_lt a f.1) || hides a (onto cs [])) (le-leb f.0 a le) ∙ ap (λ b. nat_lt a f.1 || b) e ∙ or_none (nat_lt a f.1))
+    let e : hides a (onto cs []) ≡ false = hides_onto a cs [] ∙ or-false (any_hides a cs) ∙ late_start a f.0 cs (nests_rise cs [] f n).0 le in
+    sym (ap (λ b. (b && nat_lt a f.1) || hides a (onto cs [])) (le-leb f.0 a le) ∙ ap (λ b. nat_lt a f.1 || b) e ∙ or-false (nat_lt a f.1))
 
 hides_low : (a : ℕ) (f : GroupState) (cs : List OpenGroup) → a < f.0 → hides a (f ∷ onto cs []) ≡ any_hides a cs
 hides_low a f cs lt = hides_outer a f cs (ap (λ b. b && nat_lt a f.1) (lt-leb f.0 a lt))

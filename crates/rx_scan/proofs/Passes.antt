@@ -3,9 +3,11 @@ use Rattle.std.proofs.Common.{◌≡◌, refl, ap, sym, ◌∙◌, subst, ℕ, z
 use Rattle.std.specs.Prelude.{nat_le, nat_lt, option_map}
 use Rattle.std.specs.BTreeMap.{get_by_text}
 use Rattle.std.specs.Str.{IsUtf8, bytes_eq, chars}
-use Rattle.std.proofs.lemmas.Bool.{cases_lt, false≢true, ltb-true, lt-ltb, leb-true, le-leb}
+use Rattle.std.proofs.lemmas.Bool.{cases_lt, false≢true, ltb-true, lt-ltb, leb-true, le-leb, not-true, cases_Bool, or_cases}
 use Rattle.std.proofs.lemmas.List.Folds.{list_any-append}
 use Rattle.std.proofs.Math.Seq.{drop-length}
+use Rattle.std.proofs.Math.Bool.{or-true}
+use Rattle.rx_units.proofs.Choices.{Some-inj, both}
 use Rattle.rx_model.specs.declared.mode.Mode.{Mode}
 use Rattle.rx_model.specs.FirstPass.GroupStates.{GroupState, Hides, Nests, group_states, step}
 use Rattle.rx_model.specs.FirstPass.Marks.{Mark, Clash, IsFirstClash, other, bar, closer, quiet, capturing, count, listed, mark_at, mark_count, mark_front, mark_name, marks, marks_behind, name_length, name_places, names, mark_place, places, places_behind}
@@ -42,25 +44,6 @@ drop_more : (k n : ℕ) (us : List ℕ) → drop n (drop k us) ≡ drop (k + n) 
 drop_more zero n us = let e : n ≡ 0 + n = omega arith in ap (λ j. drop j us) e
 drop_more (suc k) n [] = drop_none n ∙ sym (drop_none (suc k + n))
 drop_more (suc k) n (u ∷ us) = let e : suc (k + n) ≡ suc k + n = omega arith in drop_more k n us ∙ ap (λ j. drop j (u ∷ us)) e
-
-bool_is : (b : Bool) → (b ≡ true) ⊎ (b ≡ false)
-bool_is true = inl refl
-bool_is false = inr refl
-
-both_true : (a b : Bool) → (a && b) ≡ true → (a ≡ true) × (b ≡ true)
-both_true true b e = (refl, e)
-both_true false b e = absurd (false≢true e)
-
-either_true : (a b : Bool) → (a || b) ≡ true → (a ≡ true) ⊎ (b ≡ true)
-either_true true b e = inl refl
-either_true false b e = inr e
-
-or_true : (a : Bool) → (a || true) ≡ true
-or_true true = refl
-or_true false = refl
-
-Some-inj : {A : Type 0} {x y : A} → Some x ≡ Some y → x ≡ y
-Some-inj e = cc
 
 -- the mark that stands at a place, and what follows it
 record Turn (mode : Mode) (us : List ℕ) (at : ℕ) (m : Mark) (taken : ℕ) : Type 0 where
@@ -110,26 +93,26 @@ same_self : (xs : List ℕ) → same_name xs xs ≡ true
 same_self xs = (same_name_Decides xs xs).1 refl
 
 one_true : (a : ℕ) (f : GroupState) → hides_one a f ≡ true → (f.0 ≤ a) × (a < f.1)
-one_true a f e = let h = both_true (nat_le f.0 a) (nat_lt a f.1) e in (leb-true f.0 a h.0, ltb-true a f.1 h.1)
+one_true a f e = let h = both (nat_le f.0 a) (nat_lt a f.1) e in (leb-true f.0 a h.0, ltb-true a f.1 h.1)
 
 one_is : (a : ℕ) (f : GroupState) → f.0 ≤ a → a < f.1 → hides_one a f ≡ true
 one_is a f l g = ap (λ b. b && nat_lt a f.1) (le-leb f.0 a l) ∙ lt-ltb a f.1 g
 
 hides_true : (a : ℕ) (fs : List GroupState) → hides a fs ≡ true → Hides a fs
 hides_true a [] e = absurd (false≢true e)
-hides_true a (f ∷ fs) e = elim (either_true (hides_one a f) (hides a fs) e) [ inl h ↦ inl (one_true a f h) | inr h ↦ inr (hides_true a fs h) ]
+hides_true a (f ∷ fs) e = elim (or_cases (hides_one a f) (hides a fs) e) [ inl h ↦ inl (one_true a f h) | inr h ↦ inr (hides_true a fs h) ]
 
 hides_is : (a : ℕ) (fs : List GroupState) → Hides a fs → hides a fs ≡ true
 hides_is a [] h = absurd h
 hides_is a (f ∷ fs) (inl h) = ap (λ b. b || hides a fs) (one_is a f h.0 h.1)
-hides_is a (f ∷ fs) (inr h) = ap (λ b. hides_one a f || b) (hides_is a fs h) ∙ or_true (hides_one a f)
+hides_is a (f ∷ fs) (inr h) = ap (λ b. hides_one a f || b) (hides_is a fs h) ∙ or-true (hides_one a f)
 
 abbrev test : List GroupState → List ℕ → Entry → Bool
 test fs n e = same_name e.name n && not (hides e.index fs)
 
 none_both : (fs : List GroupState) (n : List ℕ) (xs ys : List Entry) → first_clash fs n (xs ++ ys) ≡ None → (first_clash fs n xs ≡ None) × (first_clash fs n ys ≡ None)
 none_both fs n [] ys h = (refl, h)
-none_both fs n (e ∷ xs) ys h = elim (bool_is (test fs n e)) [
+none_both fs n (e ∷ xs) ys h = elim (cases_Bool (test fs n e)) [
   | inl t ↦ let g : Some e ≡ None = sym (ap (λ b. cond b (Some e) (first_clash fs n (xs ++ ys))) t) ∙ h in cc
   | inr f ↦ let g : first_clash fs n (xs ++ ys) ≡ None = sym (ap (λ b. cond b (Some e) (first_clash fs n (xs ++ ys))) f) ∙ h in
       let i = none_both fs n xs ys g in (ap (λ b. cond b (Some e) (first_clash fs n xs)) f ∙ i.0, i.1)
@@ -137,7 +120,7 @@ none_both fs n (e ∷ xs) ys h = elim (bool_is (test fs n e)) [
 
 some_either : (fs : List GroupState) (n : List ℕ) (xs ys : List Entry) (x : Entry) → first_clash fs n (xs ++ ys) ≡ Some x → (first_clash fs n xs ≡ Some x) ⊎ ((first_clash fs n xs ≡ None) × (first_clash fs n ys ≡ Some x))
 some_either fs n [] ys x h = inr (refl, h)
-some_either fs n (e ∷ xs) ys x h = elim (bool_is (test fs n e)) [
+some_either fs n (e ∷ xs) ys x h = elim (cases_Bool (test fs n e)) [
   | inl t ↦ let g : Some e ≡ Some x = sym (ap (λ b. cond b (Some e) (first_clash fs n (xs ++ ys))) t) ∙ h in inl (ap (λ b. cond b (Some e) (first_clash fs n xs)) t ∙ g)
   | inr f ↦ let g : first_clash fs n (xs ++ ys) ≡ Some x = sym (ap (λ b. cond b (Some e) (first_clash fs n (xs ++ ys))) f) ∙ h in
       let back = ap (λ b. cond b (Some e) (first_clash fs n xs)) f in
@@ -149,7 +132,7 @@ abbrev AllHidden : Mode → List ℕ → List GroupState → List ℕ → ℕ �
 AllHidden mode us fs n k = (a : ℕ) → a < k → mark_name mode (mark_at (marks mode us) a) ≡ Some n → hides a fs ≡ true
 
 entry_hidden : (fs : List GroupState) (n : List ℕ) (k from to : ℕ) (o : Option (List ℕ)) → o ≡ Some n → first_clash fs n (entry_for k from to o) ≡ None → hides k fs ≡ true
-entry_hidden fs n k from to o e h = elim (bool_is (hides k fs)) [
+entry_hidden fs n k from to o e h = elim (cases_Bool (hides k fs)) [
   | inl t ↦ t
   | inr f ↦
       let x : Entry = record { index = k; name = n; from = from; to = to } in
@@ -184,21 +167,17 @@ record Found (mode : Mode) (us : List ℕ) (fs : List GroupState) (n : List ℕ)
   places_are : span_of e ≡ name_places mode us e.index
   first : AllHidden mode us fs n e.index
 
-not_true : (b : Bool) → not b ≡ true → b ≡ false
-not_true true e = absurd (false≢true e)
-not_true false e = refl
-
 found_last : (mode : Mode) (us : List ℕ) (fs : List GroupState) (n : List ℕ) (k : ℕ) (e : Entry) (o : Option (List ℕ)) → name_at mode us k ≡ o → AllHidden mode us fs n k → first_clash fs n (entry_for k (start_of mode us k) (end_of mode us k) o) ≡ Some e → Found mode us fs n (suc k) e
 found_last mode us fs n k e None m all h = cc
 found_last mode us fs n k e (Some v) m all h =
     let x : Entry = record { index = k; name = v; from = start_of mode us k; to = end_of mode us k } in
-    elim (bool_is (test fs n x)) [
+    elim (cases_Bool (test fs n x)) [
       | inl t ↦
           let same : x ≡ e = Some-inj (sym (ap (λ b. cond b (Some x) None) t) ∙ h) in
-          let b = both_true (same_name v n) (not (hides k fs)) t in
+          let b = both (same_name v n) (not (hides k fs)) t in
           let q : v ≡ n = same_is v n b.0 in
           subst (Found mode us fs n (suc k)) same
-          (record { before = omega arith; is = m ∙ ap Some q; seen_there = not_true (hides k fs) b.1; places_are = refl; first = all })
+          (record { before = omega arith; is = m ∙ ap Some q; seen_there = not-true (hides k fs) b.1; places_are = refl; first = all })
       | inr f ↦ let g : None ≡ Some e = sym (ap (λ b. cond b (Some x) None) f) ∙ h in cc
     ]
 
@@ -233,7 +212,7 @@ same_more xs ys n s m =
 
 pub once_in_order : (ns xs ys : List (List ℕ)) → SameNames xs ys → with_names xs ns ≡ xs ++ once_behind ys ns
 once_in_order [] xs ys s = sym (append-nil xs)
-once_in_order (n ∷ ns) xs ys s = elim (bool_is (is_among xs n)) [
+once_in_order (n ∷ ns) xs ys s = elim (cases_Bool (is_among xs n)) [
   | inl t ↦
       ap (λ b. with_names (cond b xs (xs ++ n ∷ [])) ns) t ∙ once_in_order ns xs ys s
       ∙ ap (λ b. xs ++ cond b (once_behind ys ns) (n ∷ once_behind (n ∷ ys) ns)) (sym (sym (s n) ∙ t))
@@ -399,7 +378,7 @@ none_last : (fs : List GroupState) (n : List ℕ) (es : List Entry) → last_nam
 none_last fs n [] h = refl
 none_last fs n (e ∷ es) h =
     let g = last_or_none (last_named n es) (cond (same_name e.name n) (Some e) None) h in
-    elim (bool_is (same_name e.name n)) [
+    elim (cases_Bool (same_name e.name n)) [
       | inl t ↦ let k : Some e ≡ None = sym (ap (λ b. cond b (Some e) None) t) ∙ g.1 in cc
       | inr f ↦ ap (λ b. cond (b && not (hides e.index fs)) (Some e) (first_clash fs n es)) f ∙ none_last fs n es g.0
     ]
@@ -429,7 +408,7 @@ entry_last : (n : List ℕ) (k from to : ℕ) (o : Option (List ℕ)) (e : Entry
 entry_last n k from to None e h = cc
 entry_last n k from to (Some v) e h =
     let x : Entry = record { index = k; name = v; from = from; to = to } in
-    elim (bool_is (same_name v n)) [
+    elim (cases_Bool (same_name v n)) [
       | inl t ↦ let q : x ≡ e = Some-inj (sym (ap (λ b. cond b (Some x) None) t) ∙ h) in (sym (ap (λ z. z.index) q), ap Some (same_is v n t))
       | inr f ↦ let g : None ≡ Some e = sym (ap (λ b. cond b (Some x) None) f) ∙ h in cc
     ]

@@ -19,9 +19,10 @@ use Rattle.rx_units.specs.Quoted.Texts.{IsReached, Leads, Place, behind, byte_co
 use Rattle.rx_units.specs.Sources.{Decodes, plain_options}
 use Rattle.rx_units.specs.Units.{character_units, end_of}
 use Rattle.rx_units.proofs.CodePoints.{AreCodePoints, character_code_points, character_narrow}
-use Rattle.rx_units.proofs.Ends.{both_true, end_more, ends_more}
+use Rattle.rx_units.proofs.Ends.{end_more, ends_more}
 use Rattle.rx_units.proofs.Quoted.Fronts.{spelled_front}
 use Rattle.rx_units.proofs.Quoted.Widths.{AreCharacters, byte_text, taken}
+use Rattle.rx_units.proofs.Choices.{both}
 
 -- What holds of the units of each character holds of all.
 module _ (l : Literal) (o : Options) (P : CodePoint → Type 0) (each : (start end c : ℕ) (k : EscapeKind) → c ≤ 0x10FFFF → All P (character_units o.combine_surrogate_pair start end c k)) where
@@ -53,9 +54,9 @@ decoded_narrow {text} {us} small d = decoded_units (λ u. u.value < 0x10000) fal
 scalar_parts : (w rest : List ℕ) → scalars (w ++ rest) ≡ true → (scalars w ≡ true) × (scalars rest ≡ true)
 scalar_parts [] rest h = (refl, h)
 scalar_parts (c ∷ w) rest h =
-    let both = both_true (scalar c) (scalars (w ++ rest)) h in
-    let parts = scalar_parts w rest both.1 in
-    (ap (λ b. b && scalars w) both.0 ∙ parts.0, parts.1)
+    let first = both (scalar c) (scalars (w ++ rest)) h in
+    let parts = scalar_parts w rest first.1 in
+    (ap (λ b. b && scalars w) first.0 ∙ parts.0, parts.1)
 
 bytes_of : (w : List ℕ) → scalars w ≡ true → byte_count w ≡ length (encodes w)
 bytes_of w h = ap byte_count (sym (chars-encodes w h)) ∙ byte_text (encodes w) (w, (h, refl))
@@ -99,7 +100,7 @@ module _ (bytes : List ℕ) where
     quote_first = sym (encodes-chars bytes utf8) ∙ ap encodes d.decoded.reached.opens ∙ ap (λ q. q ++ encodes d.decoded.reached.inner) (quote_encoded d.literal)
 
     scalars_inside : scalars d.decoded.reached.inner ≡ true
-    scalars_inside = (both_true (scalar (quote_of d.literal)) (scalars d.decoded.reached.inner) (ap scalars (sym d.decoded.reached.opens) ∙ scalars-chars bytes utf8)).1
+    scalars_inside = (both (scalar (quote_of d.literal)) (scalars d.decoded.reached.inner) (ap scalars (sym d.decoded.reached.opens) ∙ scalars-chars bytes utf8)).1
 
     -- Behind the quote the text may be cut.
     pub decoded_start : IsCharBoundary bytes 1

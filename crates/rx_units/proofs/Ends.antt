@@ -1,5 +1,5 @@
 -- Where units end, and what that says of offsets.
-use Rattle.std.proofs.Common.{◌≡◌, ℕ, zero, suc, ◌+◌, ◌≤◌, Bool, true, false, ◌&&◌, ◌||◌, cond, nat_lt, List, [], ◌∷◌, ◌++◌, length, refl, sym, ◌∙◌, arith, append-nil, append_assoc, length-append, subst}
+use Rattle.std.proofs.Common.{◌≡◌, ℕ, zero, suc, ◌+◌, ◌≤◌, Bool, true, false, ◌||◌, cond, nat_lt, List, [], ◌∷◌, ◌++◌, length, refl, sym, ◌∙◌, arith, append-nil, append_assoc, length-append, subst}
 use Rattle.std.proofs.lemmas.Str.{length-encode, IsCharBoundary-at_seam, scalars-chars, encodes-chars}
 use Rattle.std.proofs.lemmas.List.Elements.{All-cons, All-nil}
 use Rattle.std.specs.Char.{len_utf8}
@@ -11,10 +11,7 @@ use Rattle.rx_units.specs.declared.code_point.EscapeKind.{EscapeKind}
 use Rattle.rx_units.specs.declared.code_point.EscapeKind.TheVariants as kind
 use Rattle.rx_units.specs.Cursor.{AreEnds}
 use Rattle.rx_units.specs.Units.{character_units, end_of, lead_of, literal_units, offset_at, trail_of, unit}
-
-pub both_true : (a b : Bool) → (a && b) ≡ true → (a ≡ true) × (b ≡ true)
-both_true true b h = (refl, h)
-both_true false b h = absurd (let k : ⊥ = cc h in k)
+use Rattle.rx_units.proofs.Choices.{both}
 
 -- the units of one character before others
 AreEnds-character : (text : List ℕ) (joined : Bool) (start end c : ℕ) (k : EscapeKind) (us : List CodePoint) → start ≤ end → IsCharBoundary text end → AreEnds text end us → AreEnds text start (character_units joined start end c k ++ us)
@@ -47,7 +44,7 @@ module _ (text : List ℕ) (joined : Bool) (first start end c : ℕ) (k : Escape
 AreEnds-literal : (text behind cs : List ℕ) (joined : Bool) (at : ℕ) → at ≡ length behind → scalars cs ≡ true → text ≡ behind ++ encodes cs → AreEnds text at (literal_units joined at cs)
 AreEnds-literal text behind [] joined at is s h = tt
 AreEnds-literal text behind (c ∷ cs) joined at is s h =
-    let more = both_true (scalar c) (scalars cs) s in
+    let more = both (scalar c) (scalars cs) s in
     let e : at + len_utf8 c ≡ length (behind ++ encode c) = omega (arith, length-append behind (encode c), length-encode c) in
     let t = h ∙ sym (append_assoc behind (encode c) (encodes cs)) in
     AreEnds-character text joined at (at + len_utf8 c) c kind.None _ (omega arith)

@@ -1,3 +1,5 @@
+pub mod Choices
+pub mod Digits
 pub mod Literals
 pub mod Offsets
 pub mod Ends

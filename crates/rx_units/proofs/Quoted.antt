@@ -1,5 +1,4 @@
 pub mod Steps
-pub mod Choices
 pub mod ReadForms
 pub mod HexDigits
 pub mod Escapes

@@ -3,6 +3,7 @@ use Rattle.std.proofs.Common.{◌≡◌, ℕ, ◌+◌, ◌*◌, ◌-◌, ◌==�
 use Rattle.std.proofs.lemmas.Bool.{eqb-true, cond-true, cond-false, and_left, and_from, not-true}
 use Rattle.std.proofs.lemmas.Bool.Decides.{nat_tests}
 use Rattle.std.proofs.lemmas.Option.{option_and_then_some}
+use Rattle.std.proofs.Math.Bool.{and-false}
 use Rattle.rx_tables.specs.Characters.{is_decimal_digit, is_reserved_punctuator, is_within}
 use Rattle.rx_ast.specs.declared.leaf.BoundaryAssertionKind.{BoundaryAssertionKind}
 use Rattle.rx_ast.specs.declared.leaf.BoundaryAssertionKind.TheVariants as boundaries
@@ -10,6 +11,7 @@ use Rattle.rx_ast.specs.declared.leaf.CharacterClassEscapeKind.{CharacterClassEs
 use Rattle.rx_ast.specs.declared.leaf.CharacterClassEscapeKind.TheVariants as classes
 use Rattle.rx_ast.specs.declared.leaf.CharacterKind.{CharacterKind}
 use Rattle.rx_units.specs.Digits.{front_is}
+use Rattle.rx_units.proofs.Choices.{chosen}
 use Rattle.rx_model.specs.Reading.Boundaries.{boundary_text, has_buffers, has_boundary}
 use Rattle.rx_model.specs.Spelling.ClassText.{class_escape_text}
 use Rattle.rx_model.specs.Inputs.Environment.{Environment, is_unicode}
@@ -22,11 +24,11 @@ use Rattle.rx_model.specs.FirstPass.Marks.{starts}
 use Rattle.rx_model.specs.Quantifiers.Quantifiers.{decimal_digit_value, decimal_behind, AreDigits}
 use Rattle.rx_model.specs.Trees.Token.{character, class_escape, indexed}
 use Rattle.rx_model.specs.Properties.PropertyForms.{begins_property}
-use Rattle.rx_model.proofs.Characters.Decodings.{chosen}
 use Rattle.rx_model.proofs.Characters.Escapes.{begins_with_u}
 use Rattle.rx_model.proofs.Characters.LegacyEscapes.{any_read, any_legacy_read, legacy_begins}
-use Rattle.rx_model.proofs.Quantifiers.Quantifiers.{digit_there, digits_read, digits_found}
+use Rattle.rx_model.proofs.Quantifiers.Quantifiers.{digits_read, digits_found}
 use Rattle.rx_model.proofs.Reading.Splits.{TextFront}
+use Rattle.rx_model.proofs.Quantifiers.DecimalDigits.{digit_there}
 
 -- the character begins neither a reference nor a boundary nor a class escape nor a property escape, and is no reserved punctuator, of which `-` is one
 pub record BeginsEscape (e : Environment) (w : List ℕ) : Type 0 where
@@ -41,10 +43,6 @@ pub record BeginsEscape (e : Environment) (w : List ℕ) : Type 0 where
   pub no_b : (first == 98) ≡ false
   pub no_hyphen : (first == 45) ≡ false
   pub no_reserved : is_reserved_punctuator first ≡ false
-
-pub no_right : (b : Bool) → (b && false) ≡ false
-no_right true = refl
-no_right false = refl
 
 same_both : {A : Type 0} (b : Bool) (x : A) → cond b x x ≡ x
 same_both true x = refl
@@ -267,7 +265,7 @@ legacy_token e kind v w rest m s =
     ap (backslash_front e) b.whole
     ∙ cond-false (is_reference e (b.first ∷ b.behind)) _ _ (no_reference e (b.first ∷ b.behind) m b.free)
     ∙ cond-false (b.first == 107 && e.named) _ _ b.no_k
-    ∙ cond-false (begins_property b.first && is_unicode e.mode) _ _ (ap (λ u. begins_property b.first && u) m ∙ no_right (begins_property b.first))
+    ∙ cond-false (begins_property b.first && is_unicode e.mode) _ _ (ap (λ u. begins_property b.first && u) m ∙ and-false (begins_property b.first))
     ∙ ap (λ x. backslash_token x (class_escape_at b.first) (any_escape_at false e (b.first ∷ b.behind))) (no_assertion e b.first m b.no_b b.no_boundary)
     ∙ ap (λ x. backslash_token None x (any_escape_at false e (b.first ∷ b.behind))) b.no_class
     ∙ ap (λ w. escaped_token (any_escape_at false e w)) (sym b.whole)

@@ -1,28 +1,22 @@
 -- How a unicode escape is read, against what it means.
-use Rattle.std.proofs.Common.{◌≡◌, ◌↔◌, ℕ, ◌+◌, ◌*◌, ◌^◌, ◌<◌, ◌≤◌, ◌==◌, Bool, true, false, cond, ◌&&◌, List, [], ◌∷◌, ◌++◌, length, Option, Some, None, refl, sym, ap, ◌∙◌, subst, arith, inl, inr, ◌⊎◌, nat_lt, nat_le, lit<, option_and_then, option_map, append_assoc, length-append}
-use Rattle.std.proofs.lemmas.Bool.Decides.{nat_tests}
-use Rattle.std.proofs.lemmas.Bool.{eqb-true, ltb-true, leb-true, lt-ltb, ltb-false, le-ltb, le-leb}
+use Rattle.std.proofs.Common.{◌≡◌, ◌↔◌, ℕ, ◌+◌, ◌-◌, ◌*◌, ◌^◌, ◌<◌, ◌≤◌, ◌==◌, Bool, true, false, cond, ◌&&◌, List, [], ◌∷◌, ◌++◌, length, Option, Some, None, refl, sym, ap, ◌∙◌, subst, arith, inl, inr, nat_lt, nat_le, lit<, option_and_then, option_map, append_assoc, length-append}
+use Rattle.std.proofs.lemmas.Bool.{eqb-true, leb-true, le-leb}
 use Rattle.std.proofs.lemmas.Option.{option_and_then_some}
 use Rattle.std.proofs.lemmas.List.{length-map}
 use Rattle.rx_base.specs.SurrogatePair.{IsLeadSurrogate, surrogate_pair}
 use Rattle.rx_tables.specs.Characters.{hex_digit_value, is_within}
 use Rattle.rx_units.specs.declared.code_point.CodePoint.{CodePoint}
 use Rattle.rx_units.specs.Units.{values}
-use Rattle.rx_units.specs.Digits.{hex_behind, hex_number}
+use Rattle.rx_units.specs.Digits.{hex_number}
+use Rattle.rx_units.specs.declared.code_point.EscapeKind.{EscapeKind}
+use Rattle.rx_units.specs.declared.code_point.EscapeKind.TheVariants as kind
+use Rattle.rx_units.specs.Quoted.Fronts.{EscapeRead, escaped, no_unicode, passes, digit_step, digits_at}
+use Rattle.rx_units.proofs.Choices.{both, chosen}
+use Rattle.rx_units.proofs.Digits.{four_small}
+use Rattle.rx_units.proofs.Quoted.HexDigits.{Over, Run, run_again, run_found, run_over, run_over_again}
 use Rattle.rx_model.specs.Characters.UnicodeEscapes.{four, BeginsWithTrail, SpellsUnicode, code_unit, alone, pair, braced, PassesHex, Decodes}
-use Rattle.rx_model.specs.Characters.Decoding.{value, overflow, is_lead, is_trail, four_at, trail_at, run_step, run_at, braces_at, joined_at, behind_u, decoded}
-
--- which way a choice went
-pub chosen : {A : Type 0} {x y z : A} (b : Bool) → cond b x y ≡ z → ((b ≡ true) × (x ≡ z)) ⊎ ((b ≡ false) × (y ≡ z))
-chosen true h = inl (refl, h)
-chosen false h = inr (refl, h)
-
-pub Some-inj : {A : Type 0} {x y : A} → Some x ≡ Some y → x ≡ y
-Some-inj h = cc
-
-pub both : (a b : Bool) → (a && b) ≡ true → (a ≡ true) × (b ≡ true)
-both true b h = (refl, h)
-both false b h = absurd (let k : ⊥ = cc in k)
+use Rattle.rx_model.specs.Characters.Decoding.{value, invalid, overflow, Decoded, is_lead, is_trail, four_at, trail_at, run_step, run_at, braces_at, joined_at, behind_u, decoded}
+use Rattle.rx_model.proofs.Characters.Choices.{choose_both}
 
 in_range : (low high c : ℕ) → is_within low high c ≡ true → (low ≤ c) × (c ≤ high)
 in_range low high c h = let p = both (nat_le low c) (nat_le c high) h in (leb-true low c p.0, leb-true c high p.1)
@@ -30,66 +24,21 @@ in_range low high c h = let p = both (nat_le low c) (nat_le c high) h in (leb-tr
 within : (low high c : ℕ) → low ≤ c → c ≤ high → is_within low high c ≡ true
 within low high c from to = ap (λ b. b && nat_le c high) (le-leb low c from) ∙ le-leb c high to
 
--- a run of digits up to a brace
-record Run (n count : ℕ) (w : List ℕ) (v m : ℕ) : Type 0 where
-  digits : List ℕ
-  rest : List ℕ
-  number : hex_behind n digits ≡ Some v
-  whole : w ≡ digits ++ 125 ∷ rest
-  top : v ≤ 0x10FFFF
-  some : 0 < count + length digits
-  count_is : m ≡ count + length digits + 3
+-- how digits in braces are read in quoted texts, as they are read here
+abbrev of_digits : EscapeRead → Decoded
+of_digits (escaped v k n) = value v (n - 1)
+of_digits (passes n) = overflow (n - 3)
+of_digits _ = invalid
 
-run_found_step : (n count x : ℕ) (xs : List ℕ) (v m : ℕ) → ((k : ℕ) → run_at k (count + 1) xs ≡ value v m → Run k (count + 1) xs v m) → (o : Option ℕ) → hex_digit_value x ≡ o → run_step o n count x (λ k. run_at k (count + 1) xs) ≡ value v m → Run n count (x ∷ xs) v m
-run_found_step n count x xs v m again (Some d) e h = elim (chosen (nat_lt (16 * n + d) (2 ^ 32)) h) [
-  | inl p ↦ let r = again (16 * n + d) p.1 in record {
-    digits = x ∷ r.digits;
-    rest = r.rest;
-    number = ap (option_and_then (λ d. hex_behind (16 * n + d) r.digits)) e ∙ r.number;
-    whole = ap (λ ys. x ∷ ys) r.whole;
-    top = r.top;
-    some = omega arith;
-    count_is = omega (arith, r.count_is);
-  }
-  | inr p ↦ absurd (let k : ⊥ = cc p.1 in k)
-]
-run_found_step n count x xs v m again None e h = elim (chosen ((x == 125) && (nat_lt 0 count && nat_le n 0x10FFFF)) h) [
-  | inl p ↦
-      let q = both (x == 125) _ p.0 in
-      let r = both (nat_lt 0 count) _ q.1 in
-      let same : (n ≡ v) × (count + 3 ≡ m) = (cc p.1, cc p.1) in
-      record {
-        digits = [];
-        rest = xs;
-        number = ap Some same.0;
-        whole = ap (λ y. y ∷ xs) (eqb-true x 125 q.0);
-        top = omega (arith, ltb-true 0 count r.0, leb-true n 0x10FFFF r.1);
-        some = omega (arith, ltb-true 0 count r.0, leb-true n 0x10FFFF r.1);
-        count_is = omega arith;
-      }
-  | inr p ↦ absurd (let k : ⊥ = cc p.1 in k)
-]
+run_is_step : (n count x : ℕ) (o : Option ℕ) (here : ℕ → Decoded) (quoted : ℕ → EscapeRead) → ((m : ℕ) → here m ≡ of_digits (quoted m)) → run_step o n count x here ≡ of_digits (digit_step o n count x quoted)
+run_is_step n count x (Some d) here quoted same =
+    choose_both (λ r s. r ≡ of_digits s) (nat_lt (16 * n + d) (2 ^ 32)) (here (16 * n + d)) (overflow count) (quoted (16 * n + d)) (passes (count + 3)) (λ _. same (16 * n + d)) (λ _. ap overflow (omega arith))
+run_is_step n count x None here quoted same =
+    choose_both (λ r s. r ≡ of_digits s) ((x == 125) && (nat_lt 0 count && nat_le n 0x10FFFF)) (value n (count + 3)) invalid (escaped n kind.Unicode (count + 4)) (no_unicode (count + 3)) (λ _. ap (value n) (omega arith)) (λ _. refl)
 
-run_found : (n count : ℕ) (w : List ℕ) (v m : ℕ) → run_at n count w ≡ value v m → Run n count w v m
-run_found n count [] v m h = absurd (let k : ⊥ = cc h in k)
-run_found n count (x ∷ xs) v m h = run_found_step n count x xs v m (λ k. run_found k (count + 1) xs v m) (hex_digit_value x) refl h
-
--- digits only add to a number
-hex_le : (n : ℕ) (ds : List ℕ) (v : ℕ) → hex_behind n ds ≡ Some v → n ≤ v
-hex_le n [] v h = let e : n ≡ v = cc h in omega arith
-hex_le n (x ∷ ds) v h = option_and_then_some (λ d. hex_behind (16 * n + d) ds) (hex_digit_value x) v h (λ d e f. let k = hex_le (16 * n + d) ds v f in omega (arith, k))
-
-run_again : (n count : ℕ) (ds rest : List ℕ) (v : ℕ) → hex_behind n ds ≡ Some v → v ≤ 0x10FFFF → 0 < count + length ds → run_at n count (ds ++ 125 ∷ rest) ≡ value v (count + length ds + 3)
-run_again n count [] rest v h top some =
-    let e : n ≡ v = cc h in
-    grind (arith, nat_tests)
-run_again n count (x ∷ ds) rest v h top some =
-    option_and_then_some (λ d. hex_behind (16 * n + d) ds) (hex_digit_value x) v h (λ d e f.
-    let k = hex_le (16 * n + d) ds v f in
-    let i = run_again (16 * n + d) (count + 1) ds rest v f top (omega arith) in
-    ap (λ o. run_step o n count x (λ m. run_at m (count + 1) (ds ++ 125 ∷ rest))) e
-    ∙ ap (λ b. cond b (run_at (16 * n + d) (count + 1) (ds ++ 125 ∷ rest)) (overflow count)) (lt-ltb _ _ (let l : 16 * n + d < 2 ^ 32 = omega arith in l))
-    ∙ i ∙ ap (value v) (omega arith))
+run_is : (n count : ℕ) (w : List ℕ) → run_at n count w ≡ of_digits (digits_at n count w)
+run_is n count [] = refl
+run_is n count (x ∷ xs) = run_is_step n count x (hex_digit_value x) (λ m. run_at m (count + 1) xs) (λ m. digits_at m (count + 1) xs) (λ m. run_is m (count + 1) xs)
 
 -- four digits at the front
 record Four (w : List ℕ) (v : ℕ) (rest : List ℕ) : Type 0 where
@@ -159,23 +108,29 @@ trail_again w b =
     ∙ ap (λ o. option_and_then (λ (t : ℕ × List ℕ). cond (is_trail t.0) (Some t.0) None) (option_map (λ v. (v, b.rest)) o)) b.number
     ∙ ap (λ c. cond c (Some b.trail) None) (within 0xDC00 0xDFFF b.trail b.is_trail.0 b.is_trail.1)
 
-braces_run : (x : ℕ) (xs : List ℕ) (v n : ℕ) → x ≡ 123 → Run 0 0 xs v n → Decodes true (117 ∷ x ∷ xs) v n
-braces_run x xs v n here r = go r.digits refl
+braces_run : (xs : List ℕ) (v m : ℕ) (k : EscapeKind) → Run 0 0 xs v k m → Decodes true (117 ∷ 123 ∷ xs) v (m - 1)
+braces_run xs v m k r = go r.digits refl
   where
-    go : (ds : List ℕ) → r.digits ≡ ds → Decodes true (117 ∷ x ∷ xs) v n
+    go : (ds : List ℕ) → r.digits ≡ ds → Decodes true (117 ∷ 123 ∷ xs) v (m - 1)
     go [] e = absurd (omega (arith, r.some, ap length e))
     go (y ∷ ys) e = record {
       spelled = 117 ∷ 123 ∷ y ∷ (ys ++ 125 ∷ []);
       rest = r.rest;
       spells = braced y ys (rw e at r.number) r.top;
-      whole = rw here (ap (λ w. 117 ∷ 123 ∷ w) (r.whole ∙ ap (λ ds. ds ++ 125 ∷ r.rest) e ∙ ap (λ w. y ∷ w) (sym (append_assoc ys (125 ∷ []) r.rest))));
+      whole = ap (λ w. 117 ∷ 123 ∷ w) (r.whole ∙ ap (λ ds. ds ++ 125 ∷ r.rest) e ∙ ap (λ w. y ∷ w) (sym (append_assoc ys (125 ∷ []) r.rest)));
       count = omega (arith, r.count_is, ap length e, length-append ys (125 ∷ []));
     }
+
+digits_found : (xs : List ℕ) (v n : ℕ) (r : EscapeRead) → digits_at 0 0 xs ≡ r → of_digits r ≡ value v n → Decodes true (117 ∷ 123 ∷ xs) v n
+digits_found xs v n (escaped u k m) e h =
+    subst (λ v. Decodes true (117 ∷ 123 ∷ xs) v n) (let same : u ≡ v = cc h in same)
+    (subst (Decodes true (117 ∷ 123 ∷ xs) u) (let same : m - 1 ≡ n = cc h in same) (braces_run xs u m k (run_found 0 0 xs u k m e)))
+digits_found xs v n r e h = absurd (let no : ⊥ = cc h in no)
 
 braces_found : (w : List ℕ) (v n : ℕ) → braces_at w ≡ value v n → Decodes true (117 ∷ w) v n
 braces_found [] v n h = absurd (let k : ⊥ = cc h in k)
 braces_found (x ∷ xs) v n h = elim (chosen (x == 123) h) [
-  | inl p ↦ braces_run x xs v n (eqb-true x 123 p.0) (run_found 0 0 xs v n p.1)
+  | inl p ↦ rw (eqb-true x 123 p.0) (digits_found xs v n (digits_at 0 0 xs) refl (sym (run_is 0 0 xs) ∙ p.1))
   | inr p ↦ absurd (let k : ⊥ = cc p.1 in k)
 ]
 
@@ -278,77 +233,12 @@ spelled_read _ _ _ rest (pair {a} {b} {c} {d} {e} {f} {g} {h} {lead} {trail} fir
 spelled_read _ v _ rest (braced x xs number top) =
     ap (λ o. behind_u true o (123 ∷ x ∷ (xs ++ 125 ∷ [] ++ rest))) (brace_no_four (x ∷ (xs ++ 125 ∷ [] ++ rest)))
     ∙ ap (λ w. run_at 0 0 (x ∷ w)) (append_assoc xs (125 ∷ []) rest)
-    ∙ run_again 0 0 (x ∷ xs) rest v number top (omega arith)
+    ∙ run_is 0 0 (x ∷ (xs ++ 125 ∷ rest))
+    ∙ ap of_digits (run_again 0 0 (x ∷ xs) rest v number top (omega arith))
     ∙ ap (value v) (omega (arith, length-append xs (125 ∷ [])))
 
--- a run of digits that passes the limit
-record Over (n count : ℕ) (w : List ℕ) (m : ℕ) : Type 0 where
-  digits : List ℕ
-  next : ℕ
-  rest : List ℕ
-  number : ℕ
-  digit : ℕ
-  whole : w ≡ digits ++ next ∷ rest
-  count_is : m ≡ count + length digits
-  number_is : hex_behind n digits ≡ Some number
-  digit_is : hex_digit_value next ≡ Some digit
-  fits : number < 2 ^ 32
-  passes : 2 ^ 32 ≤ 16 * number + digit
-
-run_over_step : (n count x : ℕ) (xs : List ℕ) (m : ℕ) → n < 2 ^ 32 → ((k : ℕ) → k < 2 ^ 32 → run_at k (count + 1) xs ≡ overflow m → Over k (count + 1) xs m) → (o : Option ℕ) → hex_digit_value x ≡ o → run_step o n count x (λ k. run_at k (count + 1) xs) ≡ overflow m → Over n count (x ∷ xs) m
-run_over_step n count x xs m low again (Some d) e h = elim (chosen (nat_lt (16 * n + d) (2 ^ 32)) h) [
-  | inl p ↦ let r = again (16 * n + d) (ltb-true _ _ p.0) p.1 in record {
-    digits = x ∷ r.digits;
-    next = r.next;
-    rest = r.rest;
-    number = r.number;
-    digit = r.digit;
-    whole = ap (λ ys. x ∷ ys) r.whole;
-    count_is = omega (arith, r.count_is);
-    number_is = ap (option_and_then (λ d. hex_behind (16 * n + d) r.digits)) e ∙ r.number_is;
-    digit_is = r.digit_is;
-    fits = r.fits;
-    passes = r.passes;
-  }
-  | inr p ↦ record {
-    digits = [];
-    next = x;
-    rest = xs;
-    number = n;
-    digit = d;
-    whole = refl;
-    count_is = let k : count ≡ m = cc p.1 in omega arith;
-    number_is = refl;
-    digit_is = e;
-    fits = low;
-    passes = ltb-false _ _ p.0;
-  }
-]
-run_over_step n count x xs m low again None e h = elim (chosen ((x == 125) && (nat_lt 0 count && nat_le n 0x10FFFF)) h) [
-  | inl p ↦ absurd (let k : ⊥ = cc p.1 in k)
-  | inr p ↦ absurd (let k : ⊥ = cc p.1 in k)
-]
-
-run_over : (n count : ℕ) (w : List ℕ) (m : ℕ) → n < 2 ^ 32 → run_at n count w ≡ overflow m → Over n count w m
-run_over n count [] m low h = absurd (let k : ⊥ = cc h in k)
-run_over n count (x ∷ xs) m low h = run_over_step n count x xs m low (λ k l. run_over k (count + 1) xs m l) (hex_digit_value x) refl h
-
-run_over_again : (n count : ℕ) (ds : List ℕ) (x : ℕ) (rest : List ℕ) (number digit : ℕ) → hex_behind n ds ≡ Some number → hex_digit_value x ≡ Some digit → number < 2 ^ 32 → 2 ^ 32 ≤ 16 * number + digit → run_at n count (ds ++ x ∷ rest) ≡ overflow (count + length ds)
-run_over_again n count [] x rest number digit h e low high =
-    let same : n ≡ number = cc h in
-    ap (λ o. run_step o n count x (λ m. run_at m (count + 1) rest)) e
-    ∙ ap (λ b. cond b (run_at (16 * n + digit) (count + 1) rest) (overflow count)) (le-ltb _ _ (let l : 2 ^ 32 ≤ 16 * n + digit = omega arith in l))
-    ∙ ap overflow (omega arith)
-run_over_again n count (y ∷ ds) x rest number digit h e low high =
-    option_and_then_some (λ d. hex_behind (16 * n + d) ds) (hex_digit_value y) number h (λ d f g.
-    let k = hex_le (16 * n + d) ds number g in
-    ap (λ o. run_step o n count y (λ m. run_at m (count + 1) (ds ++ x ∷ rest))) f
-    ∙ ap (λ b. cond b (run_at (16 * n + d) (count + 1) (ds ++ x ∷ rest)) (overflow count)) (lt-ltb _ _ (let l : 16 * n + d < 2 ^ 32 = omega arith in l))
-    ∙ run_over_again (16 * n + d) (count + 1) ds x rest number digit g e low high
-    ∙ ap overflow (omega arith))
-
-passes_from_over : (w : List ℕ) (n : ℕ) → Over 0 0 w n → PassesHex (117 ∷ 123 ∷ w) n
-passes_from_over w n r = record {
+passes_from_over : (xs : List ℕ) (n : ℕ) → Over 0 0 xs n → PassesHex (117 ∷ 123 ∷ xs) (n - 3)
+passes_from_over xs n r = record {
   digits = r.digits;
   next = r.next;
   rest = r.rest;
@@ -359,8 +249,12 @@ passes_from_over w n r = record {
   number_is = r.number_is;
   digit_is = r.digit_is;
   fits = r.fits;
-  passes = r.passes;
+  passes = r.over;
 }
+
+digits_over : (xs : List ℕ) (n : ℕ) (r : EscapeRead) → digits_at 0 0 xs ≡ r → of_digits r ≡ overflow n → PassesHex (117 ∷ 123 ∷ xs) n
+digits_over xs n (passes m) e h = subst (PassesHex (117 ∷ 123 ∷ xs)) (let same : m - 3 ≡ n = cc h in same) (passes_from_over xs m (run_over 0 0 xs m (lit< tt) e))
+digits_over xs n r e h = absurd (let no : ⊥ = cc h in no)
 
 joined_no_over : (v n : ℕ) (o : Option ℕ) → joined_at v o ≡ overflow n → ⊥
 joined_no_over v n None h = cc h
@@ -369,7 +263,7 @@ joined_no_over v n (Some t) h = cc h
 braces_over : (w : List ℕ) (n : ℕ) → braces_at w ≡ overflow n → PassesHex (117 ∷ w) n
 braces_over [] n h = absurd (let k : ⊥ = cc h in k)
 braces_over (x ∷ xs) n h = elim (chosen (x == 123) h) [
-  | inl p ↦ rw (eqb-true x 123 p.0) (passes_from_over xs n (run_over 0 0 xs n (lit< tt) p.1))
+  | inl p ↦ rw (eqb-true x 123 p.0) (digits_over xs n (digits_at 0 0 xs) refl (sym (run_is 0 0 xs) ∙ p.1))
   | inr p ↦ absurd (let k : ⊥ = cc p.1 in k)
 ]
 
@@ -392,7 +286,8 @@ pub overflow_read : (w : List ℕ) (n : ℕ) → PassesHex w n → decoded true 
 overflow_read w n p =
     ap (decoded true) p.whole
     ∙ ap (λ o. behind_u true o (123 ∷ (p.digits ++ p.next ∷ p.rest))) (brace_no_four (p.digits ++ p.next ∷ p.rest))
-    ∙ run_over_again 0 0 p.digits p.next p.rest p.number p.digit p.number_is p.digit_is p.fits p.passes
+    ∙ run_is 0 0 (p.digits ++ p.next ∷ p.rest)
+    ∙ ap of_digits (run_over_again 0 0 p.digits p.next p.rest p.number p.digit p.number_is p.digit_is p.fits p.passes)
     ∙ ap overflow (omega (arith, p.count_is))
 
 pub value_law : (unicode_mode : Bool) (w : List ℕ) (v n : ℕ) → (decoded unicode_mode w ≡ value v n) ↔ Decodes unicode_mode w v n
@@ -410,19 +305,6 @@ pub overflow_within : (unicode_mode : Bool) (us : List CodePoint) (n : ℕ) → 
 overflow_within unicode_mode us n h =
     let p = (read_overflow unicode_mode (values us) n h).1 in
     omega (arith, p.count_is, length-append p.digits (p.next ∷ p.rest), ap length p.whole, length-map us (λ (u : CodePoint). u.value))
-
-digit_small : (c d : ℕ) → hex_digit_value c ≡ Some d → d < 16
-digit_small c d h = grind (arith, nat_tests)
-
--- n digits are below that power of 16
-four_small : (a b c d v : ℕ) → hex_number (a ∷ b ∷ c ∷ d ∷ []) ≡ Some v → v ≤ 0xFFFF
-four_small a b c d v h =
-    option_and_then_some _ (hex_digit_value a) v h (λ i ia h.
-    option_and_then_some _ (hex_digit_value b) v h (λ j jb h.
-    option_and_then_some _ (hex_digit_value c) v h (λ k kc h.
-    option_and_then_some _ (hex_digit_value d) v h (λ l ld h.
-    let same : 16 * (16 * (16 * (16 * 0 + i) + j) + k) + l ≡ v = cc h in
-    omega (arith, digit_small a i ia, digit_small b j jb, digit_small c k kc, digit_small d l ld)))))
 
 spelled_small : (unicode_mode : Bool) (v : ℕ) (w rest : List ℕ) → SpellsUnicode unicode_mode v w rest → v ≤ 0x10FFFF
 spelled_small _ v _ rest (code_unit {a} {b} {c} {d} number) = let k = four_small a b c d v number in omega arith

@@ -1,18 +1,19 @@
 -- Character escapes: what is spelled is read, and what is read is spelled.
-use Rattle.std.proofs.Common.{◌≡◌, ℕ, ◌+◌, ◌*◌, ◌==◌, ◌<◌, ◌≤◌, Bool, true, false, cond, ◌&&◌, List, [], ◌∷◌, ◌++◌, length, Option, Some, None, refl, sym, ap, ◌∙◌, subst, arith, ◌⊎◌, inl, inr}
+use Rattle.std.proofs.Common.{◌≡◌, ℕ, ◌==◌, ◌<◌, ◌≤◌, Bool, true, false, cond, ◌&&◌, List, [], ◌∷◌, ◌++◌, length, Option, Some, None, refl, sym, ap, ◌∙◌, subst, arith, ◌⊎◌, inl, inr}
 use Rattle.std.proofs.lemmas.Bool.{eqb-true, cond-true, cond-false, cond_both, cases_Bool, and_from}
 use Rattle.std.proofs.lemmas.Bool.Decides.{nat_tests}
-use Rattle.std.proofs.lemmas.Option.{option_and_then_some}
-use Rattle.rx_tables.specs.Characters.{control_escape_value, control_letter_value, hex_digit_value, is_decimal_digit}
+use Rattle.rx_tables.specs.Characters.{control_escape_value, control_letter_value, is_decimal_digit}
 use Rattle.rx_ast.specs.declared.leaf.CharacterKind.{CharacterKind}
 use Rattle.rx_units.specs.Digits.{front_is, hex_number}
 use Rattle.rx_ast.specs.declared.leaf.CharacterKind.TheVariants as kinds
+use Rattle.rx_units.proofs.Digits.{two_small}
+use Rattle.rx_units.proofs.Choices.{chosen, both}
 use Rattle.rx_model.specs.Characters.Decoding.{Decoded, value, invalid, overflow, decoded}
 use Rattle.rx_model.specs.Inputs.Environment.{Environment, is_unicode}
 use Rattle.rx_model.specs.Characters.Escapes.{is_identity_escape, SpellsEscape, control, letter, null, hexadecimal, unicode, identity}
 use Rattle.rx_model.specs.Reading.Fronts.{EscapeRead, escaped, nothing, too_many, no_unicode, escaped_if, unicode_read, letter_at, two_at, escape_behind, escape_at}
 use Rattle.rx_model.specs.Characters.UnicodeEscapes.{SpellsUnicode, code_unit, alone, pair, braced, PassesHex, Decodes}
-use Rattle.rx_model.proofs.Characters.Decodings.{chosen, both, spelled_read, read_spelled, read_overflow, overflow_read, value_law, value_is_code_point, decoded_some}
+use Rattle.rx_model.proofs.Characters.Decodings.{spelled_read, read_spelled, read_overflow, overflow_read, value_law, value_is_code_point, decoded_some}
 
 -- no row above that of identity escapes begins with the character
 record Others (c : ℕ) : Type 0 where
@@ -37,18 +38,12 @@ begins_with_u (alone h k) = (_, refl)
 begins_with_u (pair h k l m) = (_, refl)
 begins_with_u (braced x xs h k) = (_, refl)
 
-hex_digit_small : (c d : ℕ) → hex_digit_value c ≡ Some d → d < 16
-hex_digit_small c d h = grind (arith, nat_tests)
-
 letter_small : (c v : ℕ) → control_letter_value c ≡ Some v → v ≤ 0x10FFFF
 letter_small c v h = grind (arith, nat_tests)
 
-two_small : (a b v : ℕ) → hex_number (a ∷ b ∷ []) ≡ Some v → v ≤ 0x10FFFF
-two_small a b v h =
-    option_and_then_some _ (hex_digit_value a) v h (λ i at_a h.
-    option_and_then_some _ (hex_digit_value b) v h (λ j at_b h.
-    let same : 16 * (16 * 0 + i) + j ≡ v = cc h in
-    omega (arith, hex_digit_small a i at_a, hex_digit_small b j at_b)))
+pub escape_u : (w : List ℕ) → escape_at true (117 ∷ w) ≡ unicode_read (decoded true (117 ∷ w))
+unfolding escape_at
+escape_u w = refl
 
 module _ (e : Environment) where
   -- spelled → read
@@ -147,7 +142,7 @@ module _ (e : Environment) where
   spelled_small _ v _ rest (control {c} h) = grind (arith, nat_tests)
   spelled_small _ v _ rest (letter {c} h) = letter_small c v h
   spelled_small _ _ _ rest (null h) = omega arith
-  spelled_small _ v _ rest (hexadecimal {a} {b} h) = two_small a b v h
+  spelled_small _ v _ rest (hexadecimal {a} {b} h) = omega (arith, two_small a b v h)
   spelled_small _ v w rest (unicode s) = value_is_code_point (is_unicode e.mode) (w ++ rest) v (length w) (spelled_read (is_unicode e.mode) v w rest s)
   spelled_small _ _ _ rest (identity {c} u h) = grind (arith, nat_tests)
 

@@ -1,55 +1,25 @@
 -- Escapes with neither `u` nor `v`: what is spelled is read, and what is read is spelled.
-use Rattle.std.proofs.Common.{◌≡◌, ℕ, ◌+◌, ◌≤◌, ◌*◌, All, ◌%◌, ◌==◌, Bool, true, false, cond, not, is_some, ◌||◌, ◌&&◌, List, [], ◌∷◌, ◌++◌, length, Option, Some, None, codes, refl, sym, ap, ◌∙◌, subst, arith, ◌⊎◌, inl, inr, nat_le, length-append}
-use Rattle.std.proofs.lemmas.Bool.{eqb-true, cond-true, cond-false, cases_Bool, leb-true}
+use Rattle.std.proofs.Common.{◌≡◌, ℕ, ◌+◌, ◌≤◌, ◌*◌, All, ◌%◌, ◌==◌, Bool, true, false, cond, not, is_some, ◌||◌, ◌&&◌, List, [], ◌∷◌, ◌++◌, length, None, codes, refl, sym, ap, ◌∙◌, subst, arith, ◌⊎◌, inl, inr, nat_le, length-append}
+use Rattle.std.proofs.lemmas.Bool.{eqb-true, cond-true, cond-false, cases_Bool, leb-true, not-false}
 use Rattle.std.proofs.lemmas.Bool.Decides.{nat_tests}
 use Rattle.std.proofs.lemmas.List.Elements.{All-head}
+use Rattle.std.proofs.Math.Bool.{and-false, or-true}
 use Rattle.rx_tables.specs.Characters.{control_escape_value, control_letter_value, is_decimal_digit, is_octal_digit, is_within}
 use Rattle.rx_ast.specs.declared.leaf.CharacterKind.{CharacterKind}
 use Rattle.rx_units.specs.Digits.{front_is, octal, hex_number}
 use Rattle.rx_ast.specs.declared.leaf.CharacterKind.TheVariants as kinds
+use Rattle.rx_units.proofs.Choices.{both, chosen, is_none, low_next}
+use Rattle.rx_units.proofs.Digits.{high_octal, nonzero_octal, zero_next}
 use Rattle.rx_model.specs.Characters.Decoding.{four_at, behind_u}
 use Rattle.rx_model.specs.Inputs.Environment.{Environment, is_unicode}
 use Rattle.rx_model.specs.Characters.Escapes.{SpellsEscape}
 use Rattle.rx_model.specs.Characters.EscapeFronts.{EscapeRead, escaped, nothing, too_many, no_unicode, escaped_if, unicode_read, two_at, escape_behind, escape_at, control_behind, octal_at, digit_at, legacy_at, or_legacy, any_escape_at, class_escape_at}
 use Rattle.rx_model.specs.Characters.LegacyEscapes.{is_free, two_next, four_next, is_class_control, is_control, IsIdentity, SpellsLegacy, lone, class_control, octal_zero, octal1, octal2_low, octal2_high, octal3, identity}
 use Rattle.rx_model.specs.Refusals.Stops.{is_one_of}
-use Rattle.rx_model.proofs.Characters.Decodings.{chosen, both}
 use Rattle.rx_model.proofs.Characters.Escapes.{EscapeFront, escape_no_limit, escape_spelled, spelled_escape, spelled_small}
 
--- small facts on tests
-not_test : (b : Bool) → not b ≡ true → b ≡ false
-not_test b h = grind arith
-
-yes_test : (b : Bool) → not b ≡ false → b ≡ true
-yes_test b h = grind arith
-
-pub and_no : (b : Bool) → (b && false) ≡ false
-and_no true = refl
-and_no false = refl
-
-or_yes : (b : Bool) → (b || true) ≡ true
-or_yes true = refl
-or_yes false = refl
-
-swapped : (a b : Bool) → (a && b) ≡ false → (b && a) ≡ false
+pub swapped : (a b : Bool) → (a && b) ≡ false → (b && a) ≡ false
 swapped a b h = grind arith
-
-low_next : (a b : Bool) → a ≡ true → (a && b) ≡ false → b ≡ false
-low_next a b e h = grind arith
-
-zero_next : (c : ℕ) (w : List ℕ) → (c == 48) ≡ true → (c == 48 && not (front_is is_decimal_digit w)) ≡ false → front_is is_octal_digit w ≡ false → front_is (is_within 56 57) w ≡ true
-zero_next c [] e z x = grind (arith, nat_tests)
-zero_next c (d ∷ w) e z x = grind (arith, nat_tests)
-
-nonzero : (c : ℕ) → is_octal_digit c ≡ true → (c == 48) ≡ false → is_within 49 55 c ≡ true
-nonzero c o e = grind (arith, nat_tests)
-
-high : (c : ℕ) → is_octal_digit c ≡ true → is_within 48 51 c ≡ false → is_within 52 55 c ≡ true
-high c o e = grind (arith, nat_tests)
-
-no_letter_there : (o : Option ℕ) → is_some o ≡ false → o ≡ None
-no_letter_there None h = refl
-no_letter_there (Some v) h = absurd (let no : ⊥ = cc h in no)
 
 no_control : (inside : Bool) (c : ℕ) → (is_some (control_letter_value c) || (inside && is_class_control c)) ≡ false → (is_some (control_letter_value c) ≡ false) × ((inside && is_class_control c) ≡ false)
 no_control inside c h = (grind arith, grind arith)
@@ -144,21 +114,21 @@ module _ (inside : Bool) (e : Environment) where
   zero_or_one c w kind v n o f z x h = elim (cases_Bool (c == 48)) [
     | inl s ↦ subst (λ c. LegacyFront kind v n (c ∷ w)) (sym (eqb-true c 48 s))
         (give (48 ∷ []) w (octal_zero (zero_next c w s z x)) refl (ap (λ c. escaped kinds.Octal1 (octal c) 1) (sym (eqb-true c 48 s)) ∙ h))
-    | inr s ↦ give (c ∷ []) w (octal1 (nonzero c o s) x f) refl h
+    | inr s ↦ give (c ∷ []) w (octal1 (nonzero_octal c o s) x f) refl h
   ]
 
   two_digits : (c d : ℕ) (w : List ℕ) (kind : CharacterKind) (v n : ℕ) → is_octal_digit c ≡ true → is_octal_digit d ≡ true → is_free inside e.groups (c ∷ d ∷ w) ≡ true →
       (is_within 48 51 c && front_is is_octal_digit w) ≡ false → escaped kinds.Octal2 (8 * octal c + octal d) 2 ≡ escaped kind v n → LegacyFront kind v n (c ∷ d ∷ w)
   two_digits c d w kind v n o p f z h = elim (cases_Bool (is_within 48 51 c)) [
     | inl s ↦ give (c ∷ d ∷ []) w (octal2_low s p (low_next _ _ s z) f) refl h
-    | inr s ↦ give (c ∷ d ∷ []) w (octal2_high (high c o s) p f) refl h
+    | inr s ↦ give (c ∷ d ∷ []) w (octal2_high (high_octal c o s) p f) refl h
   ]
 
   octal_found : (c : ℕ) (w : List ℕ) (kind : CharacterKind) (v n : ℕ) → is_octal_digit c ≡ true → is_free inside e.groups (c ∷ w) ≡ true → (c == 48 && not (front_is is_decimal_digit w)) ≡ false →
       octal_at c w ≡ escaped kind v n → LegacyFront kind v n (c ∷ w)
   octal_found c [] kind v n o f z h = zero_or_one c [] kind v n o f z refl h
   octal_found c (d ∷ []) kind v n o f z h = elim (chosen (is_octal_digit d) h) [
-    | inl p ↦ two_digits c d [] kind v n o p.0 f (and_no (is_within 48 51 c)) p.1
+    | inl p ↦ two_digits c d [] kind v n o p.0 f (and-false (is_within 48 51 c)) p.1
     | inr p ↦ zero_or_one c (d ∷ []) kind v n o f z p.0 p.1
   ]
   octal_found c (d ∷ g ∷ w) kind v n o f z h = elim (chosen (is_octal_digit d) h) [
@@ -186,8 +156,8 @@ module _ (inside : Bool) (e : Environment) where
     | inr p ↦ elim (chosen (c == 48 && not (front_is is_decimal_digit w)) p.1) [
       | inl q ↦ absurd (let no : ⊥ = cc q.1 in no)
       | inr q ↦ elim (chosen (is_octal_digit c) q.1) [
-        | inl r ↦ octal_found c w kind v n r.0 (yes_test _ p.0) q.0 r.1
-        | inr r ↦ give (c ∷ []) w (identity (digit_identity c w d r.0 (yes_test _ p.0))) refl r.1
+        | inl r ↦ octal_found c w kind v n r.0 (not-false _ p.0) q.0 r.1
+        | inr r ↦ give (c ∷ []) w (identity (digit_identity c w d r.0 (not-false _ p.0))) refl r.1
       ]
     ]
   ]
@@ -232,7 +202,7 @@ Unread w = (escape_at false w ≡ nothing) ⊎ (escape_at false w ≡ no_unicode
 unread_control : (inside : Bool) (w : List ℕ) → front_is (λ c. is_some (control_letter_value c)) w ≡ false → Unread (99 ∷ w)
 unfolding escape_at
 unread_control inside [] h = inl refl
-unread_control inside (c ∷ w) h = inl (ap (escaped_if kinds.ControlLetter 2) (no_letter_there (control_letter_value c) h))
+unread_control inside (c ∷ w) h = inl (ap (escaped_if kinds.ControlLetter 2) (is_none (control_letter_value c) h))
 
 front_no_letter : (inside : Bool) (w : List ℕ) → front_is (is_control inside) w ≡ false → front_is (λ c. is_some (control_letter_value c)) w ≡ false
 front_no_letter inside [] h = refl
@@ -262,14 +232,14 @@ unread_low c d w h k = elim (cases_Bool (c == 48)) [
 two_none : (w : List ℕ) → is_some (two_next w) ≡ false → two_at w ≡ None
 two_none [] h = refl
 two_none (a ∷ []) h = refl
-two_none (a ∷ b ∷ w) h = no_letter_there (hex_number (a ∷ b ∷ [])) h
+two_none (a ∷ b ∷ w) h = is_none (hex_number (a ∷ b ∷ [])) h
 
 four_none : (w : List ℕ) → is_some (four_next w) ≡ false → four_at w ≡ None
 four_none [] h = refl
 four_none (a ∷ []) h = refl
 four_none (a ∷ b ∷ []) h = refl
 four_none (a ∷ b ∷ c ∷ []) h = refl
-four_none (a ∷ b ∷ c ∷ d ∷ w) h = rw (no_letter_there (hex_number (a ∷ b ∷ c ∷ d ∷ [])) h) refl
+four_none (a ∷ b ∷ c ∷ d ∷ w) h = rw (is_none (hex_number (a ∷ b ∷ c ∷ d ∷ [])) h) refl
 
 no_value : (c : ℕ) → is_one_of (codes "cdDsSwWfnrtvb") c ≡ false → control_escape_value c ≡ None
 no_value c h = grind (arith, nat_tests)
@@ -383,7 +353,7 @@ module _ (inside : Bool) (e : Environment) where
     pub no_class : class_escape_at first ≡ None
 
   begins_with_c : (w : List ℕ) → LegacyBeginning (99 ∷ w)
-  begins_with_c w = record { first = 99; behind = w; whole = refl; free = or_yes inside; no_k = refl; no_boundary = and_no (not inside); no_b = refl; no_class = refl }
+  begins_with_c w = record { first = 99; behind = w; whole = refl; free = or-true inside; no_k = refl; no_boundary = and-false (not inside); no_b = refl; no_class = refl }
 
   begins_with_digit : (c : ℕ) (w : List ℕ) → is_decimal_digit c ≡ true → is_free inside e.groups (c ∷ w) ≡ true → LegacyBeginning (c ∷ w)
   begins_with_digit c w d f = record {
@@ -406,7 +376,7 @@ module _ (inside : Bool) (e : Environment) where
   pub legacy_begins : (kind : CharacterKind) (v : ℕ) (w rest : List ℕ) → SpellsLegacy inside e kind v w rest → LegacyBeginning (w ++ rest)
   legacy_begins _ _ _ _ (lone {rest} h) = begins_with_c rest
   legacy_begins _ _ _ rest (class_control {c} h k) = begins_with_c (c ∷ rest)
-  legacy_begins _ _ _ rest (octal_zero h) = begins_with_digit 48 rest refl (or_yes inside)
+  legacy_begins _ _ _ rest (octal_zero h) = begins_with_digit 48 rest refl (or-true inside)
   legacy_begins _ _ _ rest (octal1 {c} h k f) = begins_with_digit c rest (grind (arith, nat_tests)) f
   legacy_begins _ _ _ rest (octal2_low {c} {d} h k n f) = begins_with_digit c (d ∷ rest) (grind (arith, nat_tests)) f
   legacy_begins _ _ _ rest (octal2_high {c} {d} h k f) = begins_with_digit c (d ∷ rest) (grind (arith, nat_tests)) f

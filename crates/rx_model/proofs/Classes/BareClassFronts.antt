@@ -7,6 +7,7 @@ use Rattle.rx_ast.specs.ClassTree.{Class}
 use Rattle.rx_ast.specs.Forget.{forget_class, no_kind}
 use Rattle.rx_units.specs.declared.code_point.CodePoint.{CodePoint}
 use Rattle.rx_units.specs.Units.{values}
+use Rattle.rx_units.proofs.Choices.{Some-inj}
 use Rattle.rx_model.specs.Classes.ClassBuilds.{class_of_tokens}
 use Rattle.rx_model.specs.Classes.ClassFronts.{AtomRead, atom_read, no_atom, escape_in_class, atom_at, TokenRead, item_where, item_of, high_of, dashed_of, item_before, bracket_at, set_token, fresh_token, operand_of, string_token, token_where, class_token_at, TokensRead, with_token, tokens_on, tokens_from, class_tokens_at, class_in, class_of, class_front}
 use Rattle.rx_model.specs.Classes.ClassRows.{Place, outside, fresh, at_dash, at_high, at_second, at_third, behind_meet, behind_less, in_strings, behind_item, has_hyphen, has_threes, is_dashed, stands_raw_in_class}
@@ -15,7 +16,6 @@ use Rattle.rx_model.specs.Inputs.Environment.{Environment, is_sets}
 use Rattle.rx_model.specs.FirstPass.Marks.{starts}
 use Rattle.rx_model.specs.Reading.ElementKinds.{NestedPlace, behind_of_class}
 use Rattle.rx_model.specs.Characters.UnitKinds.{unit_kind}
-use Rattle.rx_model.proofs.Characters.Decodings.{Some-inj}
 use Rattle.rx_model.proofs.Classes.BareClasses.{bare_atom, bare_class_token, class_bare}
 
 -- what is read, without the kinds of characters

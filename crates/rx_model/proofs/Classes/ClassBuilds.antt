@@ -13,13 +13,13 @@ use Rattle.rx_ast.specs.declared.class.ClassStringDisjunction.{ClassStringDisjun
 use Rattle.rx_ast.specs.ClassTree.{Class, Member, Members, no_member, member, class}
 use Rattle.rx_ast.specs.ClassTree as tree
 use Rattle.rx_ast.specs.Forget.{nowhere, forget_character, forget_string, forget_member, forget_members, forget_class, same_kind}
+use Rattle.rx_units.proofs.Choices.{Some-inj}
 use Rattle.rx_model.specs.Classes.ClassBuilds.{string_of, strings_member, with_last, kind_of, Level, level_of, class_of_level, nothing_begun, inside_strings, Building, inside_class, no_class, holding_member, class_closed, operated, build_class, class_built, class_of_tokens}
 use Rattle.rx_model.specs.Classes.ClassRuns.{Held, empty, single, several, meeting, met, lessening, lessened, is_whole, less_by, met_by, operand, ranged}
 use Rattle.rx_model.specs.Classes.ClassShapes.{AreFitting, AreFlagged, AreOperands, FitsKind, IsFitting, IsFittingMember, IsFlagged, IsFlaggedMember, IsFlaggedString, IsOperand}
 use Rattle.rx_model.specs.Classes.ClassTokens.{ClassToken, closer, meet, less, strings, strings_end, token, leave, class_tokens, class_tokens_of, strings_events}
 use Rattle.rx_model.specs.Trees.Early.{may_contain_strings}
 use Rattle.rx_model.proofs.Classes.ClassShapes.{IsGrowing, IsLessening, IsMeeting, barred_tokens, between_by, class_tokens_by, contents_tokens, first_after, further_tokens, growing_whole, lessens, letters_tokens, meets, more_after, operand_of, operand_tokens, some_strings, strings_are, with_member}
-use Rattle.rx_model.proofs.Characters.Decodings.{Some-inj}
 use Rattle.rx_model.proofs.Classes.ClassUnspanned as unspanned
 use Rattle.rx_model.proofs.Classes.ClassUnspanned.{may_forget}
 

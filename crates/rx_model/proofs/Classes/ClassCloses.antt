@@ -3,15 +3,16 @@ use Rattle.std.proofs.Common.{◌≡◌, refl, sym, ap, ◌∙◌, subst, ◌+�
 use Rattle.std.proofs.lemmas.Bool.{and_parts}
 use Rattle.rx_ast.specs.ClassTree.{Class, Member, no_member}
 use Rattle.rx_units.specs.declared.code_point.CodePoint.{CodePoint}
+use Rattle.rx_units.proofs.Choices.{Some-inj}
 use Rattle.rx_model.specs.Classes.ClassBuilds.{Level, level_of, Begun, nothing_begun, behind_low, behind_dash, inside_strings, Building, before_class, inside_class, whole_class, no_class, holding_member, class_closed, operated, build_in, build_class, class_built}
 use Rattle.rx_model.specs.Classes.ClassRows.{Place, outside, fresh, at_dash, at_high, at_second, at_third, behind_meet, behind_less, in_strings, behind_item, behind, SpellsInClass, SpellsOperand, ClassTokenRow, IsClass}
-use Rattle.rx_model.specs.Classes.ClassRuns.{Held, empty, Bracket, Brackets, atom_may, atom_obeys, any_string, behind_step, bracket_of, class_opened, class_run, closed, held_on, holding, in_bracket, is_whole, less_by, may_close, met_by, operand, ranged, where_may, where_true}
+use Rattle.rx_model.specs.Classes.ClassRuns.{Held, empty, Bracket, Brackets, atom_may, atom_obeys, any_string, behind_step, bracket_of, class_opened, class_run, closed, held_on, holding, in_bracket, is_whole, less_by, may_close, met_by, operand, ranged}
 use Rattle.rx_model.specs.Classes.ClassTokens.{ClassToken, bracket, closer, item, low, dash, high, meet, less, strings, letter, string_bar, strings_end, class_tokens}
 use Rattle.rx_model.specs.Inputs.Environment.{Environment}
 use Rattle.rx_model.specs.Trees.Early.{IsEarlyClass}
-use Rattle.rx_model.proofs.Characters.Decodings.{Some-inj}
 use Rattle.rx_model.proofs.Classes.ClassBuilt.{built_has_tokens}
 use Rattle.rx_model.proofs.Classes.ClassShapes.{closes_early}
+use Rattle.rx_model.proofs.Classes.ClassStates.{where_true_both, where_may_is}
 
 -- what may have begun at a place
 abbrev BegunAt : Place → Begun → Type 0
@@ -64,14 +65,6 @@ Agrees [] q (whole_class c) = Unit {0}
 Agrees [] q s = ⊥
 Agrees (r ∷ outer) q (inside_class l levels b) = (r.held ≡ l.held) × AreSame outer levels × BegunAt q b
 Agrees (r ∷ outer) q s = ⊥
-
-where_true_is : (b : Bool) (o : Option Brackets) (after : Brackets) → where_true b o ≡ Some after → (b ≡ true) × (o ≡ Some after)
-where_true_is true o after h = (refl, h)
-where_true_is false o after h = absurd (let no : ⊥ = cc h in no)
-
-where_may_is : (o : Option Held) (bs after : Brackets) → where_may o bs ≡ Some after → bs ≡ after
-where_may_is None bs after h = absurd (let no : ⊥ = cc h in no)
-where_may_is (Some held) bs after h = cc h
 
 now : (brackets after : Brackets) (q : Place) (s : Building) → brackets ≡ after → Agrees brackets q s → Agrees after q s
 now brackets after q s e a = subst (λ after. Agrees after q s) e a
@@ -161,15 +154,15 @@ module _ (e : Environment) where
   step_agrees q (bracket negative) w more r outer after l levels nothing_begun h k s b = now (bracket_of negative empty false ∷ r ∷ outer) after fresh (inside_class (level_of negative empty no_member) (l ∷ levels) nothing_begun) (where_may_is (operand r.held) _ after h) (refl, (k, s), tt)
   step_agrees q closer w more r outer after l levels nothing_begun h k s b = closer_agrees r outer after l levels (may_close r) refl h k s
   step_agrees q (item a) w more r outer after l levels nothing_begun h k s b =
-      member_agrees r outer (atom_may a) (operand r.held) after (behind e.mode q (item a) more) l levels _ (operand l.held) (where_true_is (atom_obeys a) _ after h).1 (ap operand k) s (item_begins q _)
+      member_agrees r outer (atom_may a) (operand r.held) after (behind e.mode q (item a) more) l levels _ (operand l.held) (where_true_both (atom_obeys a) _ after h).1 (ap operand k) s (item_begins q _)
   step_agrees q (low k v) w more r outer after l levels nothing_begun h same s b = now (record r { low_end = v } ∷ outer) after at_dash (inside_class l levels (behind_low k v)) (where_may_is (ranged r.held) _ after h) (same, s, tt)
   step_agrees q dash w more r outer after l levels (behind_low k v) h same s b = now (r ∷ outer) after at_high (inside_class l levels (behind_dash k v)) (Some-inj h) (same, s, tt)
   step_agrees q (high j x) w more r outer after l levels (behind_dash k v) h same s b =
-      member_agrees r outer false (ranged r.held) after fresh l levels _ (ranged l.held) (where_true_is _ _ after h).1 (ap ranged same) s tt
+      member_agrees r outer false (ranged r.held) after fresh l levels _ (ranged l.held) (where_true_both _ _ after h).1 (ap ranged same) s tt
   step_agrees q meet w more r outer after l levels nothing_begun h k s b = operator_agrees r outer (met_by r.held) after behind_meet l levels (met_by l.held) h (ap met_by k) s tt
   step_agrees q less w more r outer after l levels nothing_begun h k s b = operator_agrees r outer (less_by r.held) after behind_less l levels (less_by l.held) h (ap less_by k) s tt
   step_agrees q strings w more r outer after l levels nothing_begun h k s b = now (record r { count = 0; any = false } ∷ outer) after in_strings (inside_class l levels (inside_strings [] [])) (where_may_is (operand r.held) _ after h) (k, s, tt)
-  step_agrees q (letter k v) w more r outer after l levels (inside_strings ss cs) h same s b = now (record r { count = r.count + 1 } ∷ outer) after in_strings (build_in (letter k v) (inside_strings ss cs) l levels) (Some-inj (where_true_is _ _ after h).1) (same, s, tt)
+  step_agrees q (letter k v) w more r outer after l levels (inside_strings ss cs) h same s b = now (record r { count = r.count + 1 } ∷ outer) after in_strings (build_in (letter k v) (inside_strings ss cs) l levels) (Some-inj (where_true_both _ _ after h).1) (same, s, tt)
   step_agrees q string_bar w more r outer after l levels (inside_strings ss cs) h same s b = now (record r { count = 0; any = any_string r } ∷ outer) after in_strings (build_in string_bar (inside_strings ss cs) l levels) (Some-inj h) (same, s, tt)
   step_agrees q strings_end w more r outer after l levels (inside_strings ss cs) h same s b =
       member_agrees r outer (any_string r) (operand r.held) after fresh l levels _ (operand l.held) h (ap operand same) s tt

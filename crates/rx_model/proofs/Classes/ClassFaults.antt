@@ -10,22 +10,24 @@ use Rattle.rx_base.specs.declared.diagnostic.kinds.Unterminated.TheVariants as w
 use Rattle.rx_units.specs.declared.code_point.CodePoint.{CodePoint}
 use Rattle.rx_units.specs.Units.{values}
 use Rattle.rx_model.specs.declared.mode.Mode.{Mode}
-use Rattle.rx_model.specs.declared.mode.Mode.TheVariants.{Legacy, Unicode, Sets}
+use Rattle.rx_model.specs.declared.mode.Mode.TheVariants.{Unicode}
 use Rattle.rx_model.specs.Refusals.ClassCauses as class_cause
 use Rattle.rx_model.specs.Refusals.ClassCauses.{IsClassCause, NothingFollows, StandsRange, of_negative, unterminated}
 use Rattle.rx_model.specs.Refusals.ClassPlaces.{BeginsBracket, IsAtomPlace, IsInBracket, IsItemPlace, IsOfStrings, IsOperandPlace, IsSecondPlace, IsStringPlace, begins_item, nested, of_class}
 use Rattle.rx_model.specs.Classes.ClassRows.{behind, behind_item, ClassTokenRow, Place, SpellsAtom, SpellsBracket, SpellsInClass, at_dash, at_high, at_second, at_third, behind_less, behind_meet, fresh, has_threes, in_strings, is_dashed, outside}
-use Rattle.rx_model.specs.Classes.ClassRuns.{Bracket, Brackets, Held, empty, atom_may, atom_obeys, behind_step, bracket_of, class_opened, class_run, class_step, holding, is_union, is_whole, may_follow, operand, operator_of, takes_operand, where_may, where_true, with_strings}
+use Rattle.rx_model.specs.Classes.ClassRuns.{Bracket, Brackets, Held, empty, atom_may, atom_obeys, behind_step, bracket_of, class_opened, class_run, class_step, holding, is_union, is_whole, may_follow, operand, operator_of, takes_operand, where_true, with_strings}
 use Rattle.rx_model.specs.Classes.ClassTokens.{Atom, character, escape, property, is_character, ClassToken, bracket, item, strings}
 use Rattle.rx_model.specs.Inputs.Environment.{Environment, is_sets}
 use Rattle.rx_model.specs.FirstPass.Marks.{starts}
 use Rattle.rx_model.specs.Refusals.EscapeCauses.{IsEscapeCause}
 use Rattle.rx_model.specs.Refusals.Reached.{span_between, text_environment}
 use Rattle.rx_model.proofs.Classes.ClassEnds.{class_row_append}
-use Rattle.rx_model.proofs.Classes.ClassStates.{Fits, none_follows, opened_fits, opened_union, operand_union, run_in, union_more}
+use Rattle.rx_model.proofs.Classes.ClassStates.{Fits, none_follows, opened_fits, opened_union, operand_union, union_more}
 use Rattle.rx_model.proofs.Classes.ClassStops.{AtomFault, bad_escape, in_escape, in_property, IsBlockedItem, IsDead, backslash_first, closer_dead, dash_dead, dead_blocked, ends_dead, fault_dead, fresh_union, is_between, item_between, no_item_there, range_blocked, second_dead, third_dead}
 use Rattle.rx_model.proofs.Classes.ClassWholes.{class_opened-append}
 use Rattle.rx_model.proofs.Reading.Prefixes.{first_in_class}
+use Rattle.rx_model.proofs.Classes.ClassFronts.{sets_is}
+use Rattle.rx_model.proofs.Classes.OpenBrackets.{nested_run}
 
 -- A reading of a class has come to a place, with these tokens and these open brackets.
 pub record State : Type 0 where
@@ -202,18 +204,6 @@ module _ (mode : Mode) (us : List CodePoint) (start added from : ℕ) (at_class 
   nested_row ((bracket negative) ∷ ts) q us r rest cs begins sets h row = (row.0, row.1, row.2, nested_bracket q negative row.0 row.1 begins sets row.3, row.4)
   nested_row (t ∷ ts) q us r rest cs begins sets h row = absurd (let no : ⊥ = cc h in no)
 
-  -- So are the brackets.
-  nested_run : (ts : List ClassToken) (outer : Bracket) (around : Brackets) (c : Bracket) → takes_operand outer.held ≡ true → class_opened ts ≡ Some (c ∷ []) → class_run ts (outer ∷ around) ≡ Some (c ∷ outer ∷ around)
-  nested_run [] outer around c takes h = absurd (let no : ⊥ = cc h in no)
-  nested_run ((bracket negative) ∷ ts) outer around c takes h =
-      let first = bracket_of negative empty false in
-      ap (λ o. behind_step o (λ bs. class_run ts bs)) (may (operand outer.held) takes (first ∷ outer ∷ around)) ∙ run_in ts first [] (outer ∷ around) c [] h
-    where
-      may : (o : Option Held) → is_some o ≡ true → (bs : Brackets) → where_may o bs ≡ Some bs
-      may None h bs = absurd (true≢false (sym h))
-      may (Some held) h bs = refl
-  nested_run (t ∷ ts) outer around c takes h = absurd (let no : ⊥ = cc h in no)
-
   some_tokens : (ts : List ClassToken) (cs : Brackets) → class_opened ts ≡ Some cs → true ≡ is_some_token ts
   some_tokens [] cs h = absurd (let no : ⊥ = cc h in no)
   some_tokens (t ∷ ts) cs h = refl
@@ -246,7 +236,7 @@ module _ (mode : Mode) (us : List CodePoint) (start added from : ℕ) (at_class 
         tokens = p.tokens ++ i.tokens;
         outer = p.inner ∷ p.outer;
         row = class_row_append here p.tokens i.tokens outside at_class p.at at_bracket i.at rest p.row (nested_row i.tokens p.at at_bracket i.at rest (i.inner ∷ []) p.begins sets opened i.row);
-        accepted = class_opened-append p.tokens i.tokens (p.inner ∷ p.outer) p.accepted ∙ nested_run i.tokens p.inner p.outer i.inner o.takes opened;
+        accepted = class_opened-append p.tokens i.tokens (p.inner ∷ p.outer) p.accepted ∙ nested_run i.tokens p.inner i.inner p.outer o.takes opened;
         place_is = p.place_is ∙ i.place_is;
         opens = record {
           before = p.tokens;
@@ -346,12 +336,7 @@ module _ (mode : Mode) (us : List CodePoint) (start added from : ℕ) (at_class 
   )
 
   behind_operand : (a : Atom) (us : List CodePoint) → is_sets mode ≡ true → is_dashed (values us) ≡ true → behind mode fresh (item a) us ≡ fresh
-  behind_operand a us sets dashed = ap₂ (λ dashed threes. behind_item fresh (dashed && threes)) dashed (none mode sets)
-    where
-      none : (mode : Mode) → is_sets mode ≡ true → has_threes mode ≡ false
-      none Legacy h = absurd (true≢false (sym h))
-      none Unicode h = refl
-      none Sets h = refl
+  behind_operand a us sets dashed = ap₂ (λ dashed threes. behind_item fresh (dashed && threes)) dashed (ap has_threes (sets_is mode sets))
 
   -- With `v` an escape that is refused is to end a range.
   second_in_sets : (f : ℕ) (rest : List CodePoint) (d : Diagnostic) → (i : IsSecondPlace here from at_class f rest) → is_sets mode ≡ true → IsEscapeCause mode us start added (i.first + length i.w + 1) rest d → (b : Bool) → atom_obeys i.atom ≡ b →

@@ -4,6 +4,7 @@ use Rattle.std.proofs.Math.Seq.{drop-append_seam}
 use Rattle.std.proofs.lemmas.Bool.{cases_Bool, eqb-true, cond-true, cond-false, and_left, and_from, not-true}
 use Rattle.std.proofs.lemmas.Bool.Decides.{nat_tests}
 use Rattle.std.proofs.lemmas.List.{length-map, map-append}
+use Rattle.std.proofs.Math.Bool.{and-false}
 use Rattle.rx_tables.specs.Characters.{is_reserved_punctuator}
 use Rattle.rx_ast.specs.declared.leaf.CharacterClassEscapeKind.{CharacterClassEscapeKind}
 use Rattle.rx_ast.specs.declared.leaf.CharacterClassEscapeKind.TheVariants as classes
@@ -11,6 +12,7 @@ use Rattle.rx_ast.specs.declared.leaf.CharacterKind.{CharacterKind}
 use Rattle.rx_ast.specs.declared.leaf.CharacterKind.TheVariants as kinds
 use Rattle.rx_units.specs.declared.code_point.CodePoint.{CodePoint}
 use Rattle.rx_units.specs.Units.{values}
+use Rattle.rx_units.proofs.Choices.{chosen, both, Some-inj}
 use Rattle.rx_model.specs.declared.mode.Mode.{Mode}
 use Rattle.rx_model.specs.declared.mode.Mode.TheVariants.{Legacy, Unicode, Sets}
 use Rattle.rx_model.specs.Classes.ClassFronts.{AtomRead, atom_read, no_atom, property_atom, character_atom, escape_atom, escape_in_class, atom_at, TokenRead, item_where, item_of, low_of, high_of, dashed_of, item_before, bracket_at, are_next, begins_strings, operand_token, set_token, fresh_token, operand_of, string_token, token_where, class_token_at}
@@ -28,11 +30,10 @@ use Rattle.rx_model.specs.Properties.PropertyFronts.{PropertyRead, property_read
 use Rattle.rx_model.specs.Refusals.Stops.{is_hyphen_escaped}
 use Rattle.rx_model.specs.Characters.UnitKinds.{unit_kind}
 use Rattle.rx_model.specs.Properties.PropertyForms.{begins_property}
-use Rattle.rx_model.proofs.Characters.Backslashes.{begins, class_found, no_right}
-use Rattle.rx_model.proofs.Characters.Decodings.{chosen, both, Some-inj}
+use Rattle.rx_model.proofs.Characters.Backslashes.{begins, class_found}
 use Rattle.rx_model.proofs.Characters.LegacyEscapes.{AnyFront, any_in_unicode, any_read, any_legacy_read, any_spelled, legacy_begins}
 use Rattle.rx_model.proofs.Properties.PropertyFronts.{property_row, property_text}
-use Rattle.rx_model.proofs.Reading.Splits.{split_values}
+use Rattle.rx_model.proofs.Reading.Splits.{split_values, starts_there, one_value, starts_front}
 
 backslash_not_raw : (mode : Mode) (w : List ℕ) → stands_raw_in_class mode 92 w ≡ false
 backslash_not_raw Legacy w = refl
@@ -88,10 +89,10 @@ hyphen_not_raw Sets w = refl
 pub letter_no_b : (c : ℕ) → begins_property c ≡ true → (c == 98) ≡ false
 letter_no_b c h = grind (arith, nat_tests)
 
-letter_no_punctuator : (c : ℕ) → begins_property c ≡ true → is_reserved_punctuator c ≡ false
+pub letter_no_punctuator : (c : ℕ) → begins_property c ≡ true → is_reserved_punctuator c ≡ false
 letter_no_punctuator c h = grind (arith, nat_tests)
 
-punctuator_no_b : (c : ℕ) → is_reserved_punctuator c ≡ true → (c == 98) ≡ false
+pub punctuator_no_b : (c : ℕ) → is_reserved_punctuator c ≡ true → (c == 98) ≡ false
 punctuator_no_b c h = grind (arith, nat_tests)
 
 pub letter_no_hyphen : (c : ℕ) → begins_property c ≡ true → (c == 45) ≡ false
@@ -159,7 +160,7 @@ module _ (e : Environment) where
       ∙ cond-false (b.first == 98) _ _ b.no_b
       ∙ cond-false (is_hyphen_escaped e.mode && b.first == 45) _ _ (no_legacy_hyphen e.mode b.first m)
       ∙ cond-false (is_sets e.mode && is_reserved_punctuator b.first) _ _ (no_legacy_punctuator e.mode b.first m)
-      ∙ cond-false (begins_property b.first && is_unicode e.mode) _ _ (ap (λ u. begins_property b.first && u) m ∙ no_right (begins_property b.first))
+      ∙ cond-false (begins_property b.first && is_unicode e.mode) _ _ (ap (λ u. begins_property b.first && u) m ∙ and-false (begins_property b.first))
       ∙ ap (λ o. escape_atom o (any_escape_at true e (b.first ∷ b.behind))) b.no_class
       ∙ ap (λ w. character_atom (any_escape_at true e w)) (sym b.whole)
       ∙ ap character_atom (any_legacy_read true e k v w rest m s)
@@ -280,9 +281,6 @@ module _ (e : Environment) where
   class_escape_there a n u v us h (Some k) f q =
       atom_of (escape k) 2 (u ∷ v ∷ us) (u ∷ v ∷ []) us refl refl (ap (λ c. c ∷ v.value ∷ []) h ∙ class_found k v.value f) q
   class_escape_there a n u v us h None f q = character_there a n u (v ∷ us) h (any_escape_at true e (values (v ∷ us))) refl q
-
-  one_value : (v : CodePoint) (c : ℕ) → (v.value == c) ≡ true → values (v ∷ []) ≡ c ∷ []
-  one_value v c h = ap (λ x. x ∷ []) (eqb-true v.value c h)
 
   escape_there : (a : Atom) (n : ℕ) (u : CodePoint) (us : List CodePoint) → u.value ≡ 92 → escape_in_class e (values us) ≡ atom_read a n → AtomFront a n (u ∷ us)
   escape_there a n u [] h q = absurd (let no : ⊥ = cc q in no)
@@ -464,10 +462,6 @@ module _ (e : Environment) where
   operand_some strings w rest s = omega (arith, units w (92 ∷ 113 ∷ 123 ∷ []) s)
   operand_some t w rest s = absurd s
 
-  starts_front : (c : ℕ) (w rest : List CodePoint) → 0 < length w → starts c (values (w ++ rest)) ≡ starts c (values w)
-  starts_front c [] rest l = absurd (omega (arith, l))
-  starts_front c (u ∷ w) rest l = refl
-
   token_there : (b : Bool) (r : TokenRead) → b ≡ true → token_where b r ≡ r
   token_there b r h = ap (λ b. token_where b r) h
 
@@ -563,10 +557,6 @@ module _ (e : Environment) where
   next_are c d (x ∷ []) h = absurd (let no : ⊥ = grind (arith, h) in no)
   next_are c d (x ∷ y ∷ w) h = let b = both (x == c) (y == d) h in (w, ap₂ (λ a b. a ∷ b ∷ w) (eqb-true x c b.0) (eqb-true y d b.1))
 
-  starts_with : (c : ℕ) (w : List ℕ) → starts c w ≡ true → (more : List ℕ) × (w ≡ c ∷ more)
-  starts_with c [] h = absurd (let no : ⊥ = cc h in no)
-  starts_with c (x ∷ w) h = (w, ap (λ x. x ∷ w) (eqb-true x c h))
-
   strings_are : (w : List ℕ) → begins_strings w ≡ true → (more : List ℕ) × (w ≡ 92 ∷ 113 ∷ 123 ∷ more)
   strings_are [] h = absurd (let no : ⊥ = cc h in no)
   strings_are (c ∷ w) h =
@@ -599,7 +589,7 @@ module _ (e : Environment) where
   bracket_found us read (c ∷ r) f h = elim (chosen (c == 91) h) [
     | inl p ↦ elim (chosen (starts 94 r) p.1) [
       | inl q ↦
-          let s = starts_with 94 r q.0 in
+          let s = starts_there 94 r q.0 in
           front_text (SpellsInClass e outside) us read (bracket true) (91 ∷ 94 ∷ []) s.0 (f ∙ ap₂ (λ c r. c ∷ r) (eqb-true c 91 p.0) s.1) (λ w rest first others. first) q.1
       | inr q ↦
           front_text (SpellsInClass e outside) us read (bracket false) (91 ∷ []) r (f ∙ ap (λ c. c ∷ r) (eqb-true c 91 p.0)) (λ w rest first others. (first, ap (starts 94) others ∙ q.0)) q.1
@@ -625,9 +615,9 @@ module _ (e : Environment) where
   of_strings_found us read (atom_read (escape k) n) f h = absurd (let no : ⊥ = cc h in no)
   of_strings_found us read (atom_read (property negative may name value) n) f h = absurd (let no : ⊥ = cc h in no)
   of_strings_found us read no_atom f h = elim (chosen (starts 124 (values us)) h) [
-    | inl p ↦ let s = starts_with 124 (values us) p.0 in front_text (SpellsOfStrings e) us read string_bar (124 ∷ []) s.0 s.1 (λ w rest first others. first) p.1
+    | inl p ↦ let s = starts_there 124 (values us) p.0 in front_text (SpellsOfStrings e) us read string_bar (124 ∷ []) s.0 s.1 (λ w rest first others. first) p.1
     | inr p ↦ elim (chosen (starts 125 (values us)) p.1) [
-      | inl q ↦ let s = starts_with 125 (values us) q.0 in front_text (SpellsOfStrings e) us read strings_end (125 ∷ []) s.0 s.1 (λ w rest first others. first) q.1
+      | inl q ↦ let s = starts_there 125 (values us) q.0 in front_text (SpellsOfStrings e) us read strings_end (125 ∷ []) s.0 s.1 (λ w rest first others. first) q.1
       | inr q ↦ absurd (let k = q.1 in let no : ⊥ = cc k in no)
     ]
   ]
@@ -712,7 +702,7 @@ module _ (e : Environment) where
   ]
 
   closer_found : (us : List CodePoint) (read : ClassToken × ℕ) → starts 93 (values us) ≡ true → Some (closer, 1) ≡ Some read → FreshFront us read
-  closer_found us read c h = let s = starts_with 93 (values us) c in front_text (SpellsInClass e fresh) us read closer (93 ∷ []) s.0 s.1 (λ w rest first others. first) h
+  closer_found us read c h = let s = starts_there 93 (values us) c in front_text (SpellsInClass e fresh) us read closer (93 ∷ []) s.0 s.1 (λ w rest first others. first) h
 
   fresh_found : (us : List CodePoint) (read : ClassToken × ℕ) (r : AtomRead) → atom_at e us ≡ r → fresh_token e r us ≡ Some read → FreshFront us read
   fresh_found us read (atom_read a n) f h =
@@ -732,7 +722,7 @@ module _ (e : Environment) where
       token_where (starts c (values us)) (Some (t, 1)) ≡ Some read → Front (SpellsInClass e q) us read
   unit_found q us read c t make h =
       let p = where_true_is (starts c (values us)) (Some (t, 1)) read h in
-      let s = starts_with c (values us) p.0 in
+      let s = starts_there c (values us) p.0 in
       front_text (SpellsInClass e q) us read t (c ∷ []) s.0 s.1 (λ w rest first others. make w rest first) p.1
 
   high_found : (us : List CodePoint) (read : ClassToken × ℕ) (r : AtomRead) → atom_at e us ≡ r → high_of r ≡ Some read → Front (SpellsInClass e at_high) us read

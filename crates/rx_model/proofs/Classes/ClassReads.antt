@@ -3,6 +3,7 @@ use Rattle.std.proofs.Common.{◌≡◌, refl, sym, ap, ap₂, ◌∙◌, subst,
 use Rattle.std.proofs.Math.Seq.{drop-append_seam}
 use Rattle.rx_ast.specs.ClassTree.{Class, class}
 use Rattle.rx_units.specs.declared.code_point.CodePoint.{CodePoint}
+use Rattle.rx_units.proofs.Choices.{Some-inj}
 use Rattle.rx_model.specs.Classes.ClassBuilds.{class_of_tokens}
 use Rattle.rx_model.specs.Classes.ClassFronts.{TokenRead, TokensRead, class_token_at, with_token, tokens_on, tokens_from, class_tokens_at, class_in, class_of, class_front}
 use Rattle.rx_model.specs.Classes.ClassRows.{outside, fresh, SpellsBracket, SpellsInClass, ClassTokenRow, IsClass}
@@ -14,7 +15,6 @@ use Rattle.rx_model.proofs.Classes.ClassBuilt.{built_has_tokens}
 use Rattle.rx_model.proofs.Classes.ClassEnds.{OfClass, class_ends, none_behind_end, row_of_elements}
 use Rattle.rx_model.proofs.Classes.ClassShapes.{class_tokens_by}
 use Rattle.rx_model.proofs.Classes.ClassFronts.{class_token_found, class_token_is, token_some}
-use Rattle.rx_model.proofs.Characters.Decodings.{Some-inj}
 
 module _ (e : Environment) where
   after_skipped : (p : NestedPlace) (n : ℕ) (us : List CodePoint) → class_tokens_at e p n us ≡ class_tokens_at e p 0 (drop n us)

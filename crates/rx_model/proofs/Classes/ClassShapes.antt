@@ -3,7 +3,7 @@ use Rattle.std.proofs.Common.{◌≡◌, ◌≢◌, refl, sym, ap, ◌∙◌, su
 use Rattle.std.proofs.lemmas.Bool.{le-leb, and_from, and_parts, not-true}
 use Rattle.std.proofs.lemmas.List.Elements.{All-cons, All-head, All-nil, All-tail}
 use Rattle.std.proofs.lemmas.Bool.Decides.{nat_tests}
-use Rattle.std.proofs.Math.Bool.{and_assoc, or_assoc}
+use Rattle.std.proofs.Math.Bool.{and_assoc, or_assoc, or-false}
 use Rattle.std.proofs.Math.Nat.{le_trans}
 use Rattle.std.specs.List.{list_any}
 use Rattle.rx_base.specs.declared.span.Span.{Span}
@@ -265,10 +265,6 @@ lessens meeting g = absurd g
 lessens met g = absurd g
 lessens lessening g = absurd g
 
-or_none : (b : Bool) → (b || false) ≡ b
-or_none true = refl
-or_none false = refl
-
 and_all : (b : Bool) → (b && true) ≡ b
 and_all true = refl
 and_all false = refl
@@ -288,7 +284,7 @@ then_more m ts ss bs = ap (λ x. class_run x bs) (append_assoc (operand_tokens m
 
 union_on : (ms : Members) → AllOut ms → (negative : Bool) (held : Held) (may : Bool) (outer : Brackets) → IsGrowing held → Contents (further_tokens [] ms) negative held may outer (may || any_strings ms)
 union_on no_member all negative held may outer g =
-    (held, growing_whole held g, λ ss. ap (λ b. class_run ss (bracket_of negative held b ∷ outer)) (sym (or_none may)))
+    (held, growing_whole held g, λ ss. ap (λ b. class_run ss (bracket_of negative held b ∷ outer)) (sym (or-false may)))
 union_on (member m ms) all negative held may outer g =
     let more = union_on ms all.1 negative several (with_strings held may (member_strings m)) outer tt in (
       more.0,

@@ -1,8 +1,9 @@
 -- Which brackets are open where rows of a class's tokens lead: rows of one class, and rows of a class that is nested in one.
-use Rattle.std.proofs.Common.{◌≡◌, refl, ap, sym, ◌∙◌, subst, ◌+◌, ◌≤◌, ◌&&◌, Bool, true, false, not, is_some, Option, Some, None, List, [], ◌∷◌, ◌++◌, length, nat_le, arith, length-append}
+use Rattle.std.proofs.Common.{◌≡◌, refl, ap, sym, ◌∙◌, subst, ◌+◌, ◌≤◌, ◌&&◌, Bool, true, false, not, Option, Some, None, List, [], ◌∷◌, ◌++◌, length, nat_le, arith, length-append}
 use Rattle.std.proofs.lemmas.Bool.{true≢false}
 use Rattle.rx_units.specs.declared.code_point.CodePoint.{CodePoint}
 use Rattle.rx_units.specs.Units.{values}
+use Rattle.rx_units.proofs.Choices.{Some-inj, is_none}
 use Rattle.rx_model.specs.declared.mode.Mode.{Mode}
 use Rattle.rx_model.specs.Classes.ClassRows.{ClassTokenRow, Place, SpellsInClass, outside, fresh, at_dash, at_high, at_second, at_third, behind_meet, behind_less, in_strings, behind, behind_item, has_threes, is_dashed}
 use Rattle.rx_model.specs.Classes.ClassRuns.{Held, empty, single, several, meeting, met, lessening, lessened, Bracket, Brackets, any_string, atom_may, atom_obeys, behind_step, bracket_of, class_opened, class_run, class_step, closed, held_on, holding, is_union, is_whole, less_by, may_close, may_follow, met_by, operand, ranged, takes_operand, where_may, where_true, with_strings}
@@ -29,17 +30,17 @@ steps t ts bs c cs h = go (class_step t bs) refl
     go (Some []) e = absurd (none_behind_class ts c cs (ap (λ o. behind_step o (λ bs. class_run ts bs)) (sym e) ∙ h))
     go (Some (m ∷ ms)) e = record { inner = m; outer = ms; first = e; others = ap (λ o. behind_step o (λ bs. class_run ts bs)) (sym e) ∙ h }
 
-some_is : {A : Type 0} {x y : A} → Some x ≡ Some y → x ≡ y
-some_is h = cc
-
 -- What a token makes of the innermost bracket, with those around it.
-where_may_is : (o : Option Held) (bs cs : Brackets) → where_may o bs ≡ Some cs → bs ≡ cs
+pub where_may_is : (o : Option Held) (bs cs : Brackets) → where_may o bs ≡ Some cs → bs ≡ cs
 where_may_is None bs cs h = absurd (let no : ⊥ = cc h in no)
-where_may_is (Some held) bs cs h = some_is h
+where_may_is (Some held) bs cs h = Some-inj h
+
+pub where_true_both : (b : Bool) (o : Option Brackets) (cs : Brackets) → where_true b o ≡ Some cs → (b ≡ true) × (o ≡ Some cs)
+where_true_both true o cs h = (refl, h)
+where_true_both false o cs h = absurd (let no : ⊥ = cc h in no)
 
 where_true_is : (b : Bool) (o : Option Brackets) (cs : Brackets) → where_true b o ≡ Some cs → o ≡ Some cs
-where_true_is true o cs h = h
-where_true_is false o cs h = absurd (let no : ⊥ = cc h in no)
+where_true_is b o cs h = (where_true_both b o cs h).1
 
 -- a bracket that holds this, and those around it
 record Holds (held : Held) (outer : Brackets) (cs : Brackets) : Type 0 where
@@ -54,11 +55,11 @@ record Grown (o : Option Held) (outer : Brackets) (cs : Brackets) : Type 0 where
 
 holding_is : (r : Bracket) (outer : Brackets) (may : Bool) (o : Option Held) (cs : Brackets) → holding r outer may o ≡ Some cs → Grown o outer cs
 holding_is r outer may None cs h = absurd (let no : ⊥ = cc h in no)
-holding_is r outer may (Some held) cs h = record { held = held; is = refl; holds = record { it = bracket_of r.negative held (with_strings r.held r.may may); held_is = refl; are = some_is h } }
+holding_is r outer may (Some held) cs h = record { held = held; is = refl; holds = record { it = bracket_of r.negative held (with_strings r.held r.may may); held_is = refl; are = Some-inj h } }
 
 held_on_is : (r : Bracket) (outer : Brackets) (o : Option Held) (cs : Brackets) → held_on r outer o ≡ Some cs → Grown o outer cs
 held_on_is r outer None cs h = absurd (let no : ⊥ = cc h in no)
-held_on_is r outer (Some held) cs h = record { held = held; is = refl; holds = record { it = bracket_of r.negative held r.may; held_is = refl; are = some_is h } }
+held_on_is r outer (Some held) cs h = record { held = held; is = refl; holds = record { it = bracket_of r.negative held r.may; held_is = refl; are = Some-inj h } }
 
 inner_is : (held : Held) (outer : Brackets) (c : Bracket) (cs : Brackets) → Holds held outer (c ∷ cs) → c.held ≡ held
 inner_is held outer c cs h = let same = h.are in let it : h.it ≡ c = cc same in ap (λ b. b.held) (sym it) ∙ h.held_is
@@ -67,27 +68,27 @@ outer_is : (held : Held) (outer : Brackets) (c : Bracket) (cs : Brackets) → Ho
 outer_is held outer c cs h = let same = h.are in cc same
 
 operand_whole : (h k : Held) → operand h ≡ Some k → is_whole k ≡ true
-operand_whole empty k e = let s : single ≡ k = some_is e in ap is_whole (sym s)
-operand_whole single k e = let s : several ≡ k = some_is e in ap is_whole (sym s)
-operand_whole several k e = let s : several ≡ k = some_is e in ap is_whole (sym s)
-operand_whole meeting k e = let s : met ≡ k = some_is e in ap is_whole (sym s)
+operand_whole empty k e = let s : single ≡ k = Some-inj e in ap is_whole (sym s)
+operand_whole single k e = let s : several ≡ k = Some-inj e in ap is_whole (sym s)
+operand_whole several k e = let s : several ≡ k = Some-inj e in ap is_whole (sym s)
+operand_whole meeting k e = let s : met ≡ k = Some-inj e in ap is_whole (sym s)
 operand_whole met k e = absurd (let no : ⊥ = cc e in no)
-operand_whole lessening k e = let s : lessened ≡ k = some_is e in ap is_whole (sym s)
+operand_whole lessening k e = let s : lessened ≡ k = Some-inj e in ap is_whole (sym s)
 operand_whole lessened k e = absurd (let no : ⊥ = cc e in no)
 
 pub operand_union : (h k : Held) → is_union h ≡ true → operand h ≡ Some k → is_union k ≡ true
-operand_union empty k u e = let s : single ≡ k = some_is e in ap is_union (sym s)
-operand_union single k u e = let s : several ≡ k = some_is e in ap is_union (sym s)
-operand_union several k u e = let s : several ≡ k = some_is e in ap is_union (sym s)
+operand_union empty k u e = let s : single ≡ k = Some-inj e in ap is_union (sym s)
+operand_union single k u e = let s : several ≡ k = Some-inj e in ap is_union (sym s)
+operand_union several k u e = let s : several ≡ k = Some-inj e in ap is_union (sym s)
 operand_union meeting k u e = absurd (let no : ⊥ = cc u in no)
 operand_union met k u e = absurd (let no : ⊥ = cc u in no)
 operand_union lessening k u e = absurd (let no : ⊥ = cc u in no)
 operand_union lessened k u e = absurd (let no : ⊥ = cc u in no)
 
 ranged_several : (h k : Held) → ranged h ≡ Some k → k ≡ several
-ranged_several empty k e = sym (some_is e)
-ranged_several single k e = sym (some_is e)
-ranged_several several k e = sym (some_is e)
+ranged_several empty k e = sym (Some-inj e)
+ranged_several single k e = sym (Some-inj e)
+ranged_several several k e = sym (Some-inj e)
 ranged_several meeting k e = absurd (let no : ⊥ = cc e in no)
 ranged_several met k e = absurd (let no : ⊥ = cc e in no)
 ranged_several lessening k e = absurd (let no : ⊥ = cc e in no)
@@ -95,21 +96,21 @@ ranged_several lessened k e = absurd (let no : ⊥ = cc e in no)
 
 met_is : (h k : Held) → met_by h ≡ Some k → k ≡ meeting
 met_is empty k e = absurd (let no : ⊥ = cc e in no)
-met_is single k e = sym (some_is e)
+met_is single k e = sym (Some-inj e)
 met_is several k e = absurd (let no : ⊥ = cc e in no)
 met_is meeting k e = absurd (let no : ⊥ = cc e in no)
-met_is met k e = sym (some_is e)
+met_is met k e = sym (Some-inj e)
 met_is lessening k e = absurd (let no : ⊥ = cc e in no)
 met_is lessened k e = absurd (let no : ⊥ = cc e in no)
 
 less_is : (h k : Held) → less_by h ≡ Some k → k ≡ lessening
 less_is empty k e = absurd (let no : ⊥ = cc e in no)
-less_is single k e = sym (some_is e)
+less_is single k e = sym (Some-inj e)
 less_is several k e = absurd (let no : ⊥ = cc e in no)
 less_is meeting k e = absurd (let no : ⊥ = cc e in no)
 less_is met k e = absurd (let no : ⊥ = cc e in no)
 less_is lessening k e = absurd (let no : ⊥ = cc e in no)
-less_is lessened k e = sym (some_is e)
+less_is lessened k e = sym (Some-inj e)
 
 -- Some thing more may be held.
 pub union_more : (h : Held) → is_union h ≡ true → (takes_operand h ≡ true) × ((k : Held) × (ranged h ≡ Some k))
@@ -177,7 +178,7 @@ step_fits mode q strings_end rest b bs c cs h = grown_whole b.held bs c cs (hold
 row_fits : (e : Environment) (ts : List ClassToken) (q : Place) (us : List CodePoint) (r : Place) (rest : List CodePoint) (b : Bracket) (bs : Brackets) (c : Bracket) (cs : Brackets) → ClassTokenRow e ts q us r rest →
     class_run ts (b ∷ bs) ≡ Some (c ∷ cs) → Fits q b.held → Fits r c.held
 row_fits e [] q us r rest b bs c cs row run f =
-    let same = some_is run in
+    let same = Some-inj run in
     let it : b ≡ c = cc same in
     subst (λ r. Fits r c.held) row.0 (subst (λ b. Fits q b.held) it f)
 row_fits e (t ∷ ts) q us r rest b bs c cs row run f =
@@ -194,31 +195,15 @@ record IsAlone (c : Bracket) (cs : Brackets) : Type 0 where
   pub union : is_union c.held ≡ true
   pub alone : cs ≡ []
 
+-- behind no token stands the class's own bracket
 pub behind_inside : (mode : Mode) (q : Place) (t : ClassToken) (rest : List CodePoint) → behind mode q t rest ≡ outside → ⊥
-behind_inside mode q (bracket negative) rest h = cc h
-behind_inside mode q closer rest h = cc h
 behind_inside mode q (item a) rest h = behind_item_inside q (is_dashed (values rest) && has_threes mode) h
   where
     behind_item_inside : (q : Place) (first : Bool) → behind_item q first ≡ outside → ⊥
     behind_item_inside fresh true h = cc h
     behind_item_inside fresh false h = cc h
-    behind_item_inside at_second first h = cc h
-    behind_item_inside at_third first h = cc h
-    behind_item_inside outside first h = cc h
-    behind_item_inside at_dash first h = cc h
-    behind_item_inside at_high first h = cc h
-    behind_item_inside behind_meet first h = cc h
-    behind_item_inside behind_less first h = cc h
-    behind_item_inside in_strings first h = cc h
-behind_inside mode q (low k v) rest h = cc h
-behind_inside mode q dash rest h = cc h
-behind_inside mode q (high k v) rest h = cc h
-behind_inside mode q meet rest h = cc h
-behind_inside mode q less rest h = cc h
-behind_inside mode q strings rest h = cc h
-behind_inside mode q (letter k v) rest h = cc h
-behind_inside mode q string_bar rest h = cc h
-behind_inside mode q strings_end rest h = cc h
+    behind_item_inside q first h = cc h
+behind_inside mode q t rest h = cc h
 
 alone_by : (held : Held) (outer : Brackets) (c : Bracket) (cs : Brackets) → outer ≡ [] → is_union held ≡ true → Holds held outer (c ∷ cs) → IsAlone c cs
 alone_by held outer c cs none u h = record { union = ap is_union (inner_is held outer c cs h) ∙ u; alone = sym (outer_is held outer c cs h) ∙ none }
@@ -243,7 +228,7 @@ step_alone e n fresh inside (bracket negative) w rest b c cs s h u = absurd (tru
 step_alone e n fresh inside strings w rest b c cs s h u = absurd (true≢false (sym s.0 ∙ n))
 step_alone e n fresh inside meet w rest b c cs s h u = absurd (true≢false (sym s.0 ∙ n))
 step_alone e n fresh inside less w rest b c cs s h u = absurd (true≢false (sym s.0 ∙ n))
-step_alone e n at_dash inside dash w rest b c cs s h u = alone_by b.held [] c cs refl u (record { it = b; held_is = refl; are = some_is h })
+step_alone e n at_dash inside dash w rest b c cs s h u = alone_by b.held [] c cs refl u (record { it = b; held_is = refl; are = Some-inj h })
 step_alone e n at_high inside (high k v) w rest b c cs s h u =
     let g = holding_is b [] false (ranged b.held) (c ∷ cs) (where_true_is (nat_le b.low_end v && nat_le v 0x10FFFF) (holding b [] false (ranged b.held)) (c ∷ cs) h) in
     alone_by g.held [] c cs refl (ap is_union (ranged_several b.held g.held g.is)) g.holds
@@ -258,7 +243,7 @@ step_alone e n q inside t w rest b c cs s h u = absurd s
 
 row_alone : (e : Environment) → is_sets e.mode ≡ false → (ts : List ClassToken) (q : Place) → (q ≡ outside → ⊥) → (us : List CodePoint) (r : Place) (rest : List CodePoint) (b c : Bracket) (cs : Brackets) → ClassTokenRow e ts q us r rest →
     class_run ts (b ∷ []) ≡ Some (c ∷ cs) → is_union b.held ≡ true → IsAlone c cs
-row_alone e n [] q inside us r rest b c cs row run u = alone_by b.held [] c cs refl u (record { it = b; held_is = refl; are = some_is run })
+row_alone e n [] q inside us r rest b c cs row run u = alone_by b.held [] c cs refl u (record { it = b; held_is = refl; are = Some-inj run })
 row_alone e n (t ∷ ts) q inside us r rest b c cs row run u =
     let s = steps t ts (b ∷ []) c cs run in
     let a = step_alone e n q inside t row.0 row.1 b s.inner s.outer row.3 s.first u in
@@ -278,14 +263,7 @@ opened_union e n ts us r rest c cs row h = (opened_alone e n ts us r rest c cs r
 not_in_strings : (q : Place) (first : Bool) → behind_item q first ≡ in_strings → ⊥
 not_in_strings fresh true h = cc h
 not_in_strings fresh false h = cc h
-not_in_strings at_second first h = cc h
-not_in_strings at_third first h = cc h
-not_in_strings outside first h = cc h
-not_in_strings at_dash first h = cc h
-not_in_strings at_high first h = cc h
-not_in_strings behind_meet first h = cc h
-not_in_strings behind_less first h = cc h
-not_in_strings in_strings first h = cc h
+not_in_strings q first h = cc h
 
 no_strings_behind : (e : Environment) → is_sets e.mode ≡ false → (q : Place) (t : ClassToken) (w rest : List CodePoint) → SpellsInClass e q t w rest → behind e.mode q t rest ≡ in_strings → ⊥
 no_strings_behind e n q (bracket negative) w rest s h = cc h
@@ -332,11 +310,11 @@ around bs outer = Some (bs ++ outer)
 
 holding_in : (r : Bracket) (bs outer : Brackets) (may : Bool) (o : Option Held) (cs : Brackets) → holding r bs may o ≡ Some cs → holding r (bs ++ outer) may o ≡ around cs outer
 holding_in r bs outer may None cs h = absurd (let no : ⊥ = cc h in no)
-holding_in r bs outer may (Some held) cs h = ap (λ cs. around cs outer) (some_is h)
+holding_in r bs outer may (Some held) cs h = ap (λ cs. around cs outer) (Some-inj h)
 
 held_on_in : (r : Bracket) (bs outer : Brackets) (o : Option Held) (cs : Brackets) → held_on r bs o ≡ Some cs → held_on r (bs ++ outer) o ≡ around cs outer
 held_on_in r bs outer None cs h = absurd (let no : ⊥ = cc h in no)
-held_on_in r bs outer (Some held) cs h = ap (λ cs. around cs outer) (some_is h)
+held_on_in r bs outer (Some held) cs h = ap (λ cs. around cs outer) (Some-inj h)
 
 closed_in : (may close : Bool) (bs outer : Brackets) (m : Bracket) (ms : Brackets) → closed may close bs ≡ Some (m ∷ ms) → closed may close (bs ++ outer) ≡ around (m ∷ ms) outer
 closed_in may false bs outer m ms h = absurd (let no : ⊥ = cc h in no)
@@ -354,7 +332,7 @@ step_in (item a) b bs outer m ms h =
 step_in (low k v) b bs outer m ms h =
     where_may_in (ranged b.held) (record b { low_end = v } ∷ bs) (m ∷ ms) h (record b { low_end = v } ∷ (bs ++ outer))
     ∙ ap (λ cs. around cs outer) (where_may_is (ranged b.held) (record b { low_end = v } ∷ bs) (m ∷ ms) h)
-step_in dash b bs outer m ms h = ap (λ cs. around cs outer) (some_is h)
+step_in dash b bs outer m ms h = ap (λ cs. around cs outer) (Some-inj h)
 step_in (high k v) b bs outer m ms h =
     where_true_in (nat_le b.low_end v && nat_le v 0x10FFFF) (holding b bs false (ranged b.held)) (m ∷ ms) h (holding b (bs ++ outer) false (ranged b.held))
     ∙ holding_in b bs outer false (ranged b.held) (m ∷ ms) (where_true_is (nat_le b.low_end v && nat_le v 0x10FFFF) (holding b bs false (ranged b.held)) (m ∷ ms) h)
@@ -365,39 +343,30 @@ step_in strings b bs outer m ms h =
     ∙ ap (λ cs. around cs outer) (where_may_is (operand b.held) (record b { count = 0; any = false } ∷ bs) (m ∷ ms) h)
 step_in (letter k v) b bs outer m ms h =
     where_true_in (nat_le v 0x10FFFF) (Some (record b { count = b.count + 1 } ∷ bs)) (m ∷ ms) h (Some (record b { count = b.count + 1 } ∷ (bs ++ outer)))
-    ∙ ap (λ cs. around cs outer) (some_is (where_true_is (nat_le v 0x10FFFF) (Some (record b { count = b.count + 1 } ∷ bs)) (m ∷ ms) h))
-step_in string_bar b bs outer m ms h = ap (λ cs. around cs outer) (some_is h)
+    ∙ ap (λ cs. around cs outer) (Some-inj (where_true_is (nat_le v 0x10FFFF) (Some (record b { count = b.count + 1 } ∷ bs)) (m ∷ ms) h))
+step_in string_bar b bs outer m ms h = ap (λ cs. around cs outer) (Some-inj h)
 step_in strings_end b bs outer m ms h = holding_in b bs outer (any_string b) (operand b.held) (m ∷ ms) h
 
 pub run_in : (ts : List ClassToken) (b : Bracket) (bs outer : Brackets) (c : Bracket) (cs : Brackets) → class_run ts (b ∷ bs) ≡ Some (c ∷ cs) → class_run ts (b ∷ (bs ++ outer)) ≡ Some (c ∷ (cs ++ outer))
-run_in [] b bs outer c cs h = ap (λ cs. around cs outer) (some_is h)
+run_in [] b bs outer c cs h = ap (λ cs. around cs outer) (Some-inj h)
 run_in (t ∷ ts) b bs outer c cs h =
     let s = steps t ts (b ∷ bs) c cs h in
     ap (λ o. behind_step o (λ bs. class_run ts bs)) (step_in t b bs outer s.inner s.outer s.first) ∙ run_in ts s.inner s.outer outer c cs s.others
 
--- What may not follow is not accepted.
-is_none : {A : Type 0} (o : Option A) → is_some o ≡ false → o ≡ None
-is_none None h = refl
-is_none (Some x) h = absurd (true≢false h)
-
 not_whole : (r : Bracket) → is_whole r.held ≡ false → may_close r ≡ false
 not_whole r h = ap (λ b. b && not (r.negative && r.may)) h
+
+none_true : (b : Bool) → where_true b None ≡ None
+none_true true = refl
+none_true false = refl
 
 pub none_follows : (t : ClassToken) (r : Bracket) (outer : Brackets) → may_follow r.held t ≡ false → class_step t (r ∷ outer) ≡ None
 none_follows (bracket negative) r outer h = ap (λ o. where_may o (bracket_of negative empty false ∷ r ∷ outer)) (is_none (operand r.held) h)
 none_follows closer r outer h = ap (λ b. closed r.may b outer) (not_whole r h)
 none_follows (item a) r outer h = ap (λ o. where_true (atom_obeys a) (holding r outer (atom_may a) o)) (is_none (operand r.held) h) ∙ none_true (atom_obeys a)
-  where
-    none_true : (b : Bool) → where_true b None ≡ None
-    none_true true = refl
-    none_true false = refl
 none_follows (low k v) r outer h = ap (λ o. where_may o (record r { low_end = v } ∷ outer)) (is_none (ranged r.held) h)
 none_follows dash r outer h = absurd (true≢false h)
 none_follows (high k v) r outer h = ap (λ o. where_true (nat_le r.low_end v && nat_le v 0x10FFFF) (holding r outer false o)) (is_none (ranged r.held) h) ∙ none_true (nat_le r.low_end v && nat_le v 0x10FFFF)
-  where
-    none_true : (b : Bool) → where_true b None ≡ None
-    none_true true = refl
-    none_true false = refl
 none_follows meet r outer h = ap (held_on r outer) (is_none (met_by r.held) h)
 none_follows less r outer h = ap (held_on r outer) (is_none (less_by r.held) h)
 none_follows strings r outer h = ap (λ o. where_may o (record r { count = 0; any = false } ∷ outer)) (is_none (operand r.held) h)

@@ -4,6 +4,7 @@ use Rattle.std.proofs.lemmas.Bool.{and_from, cases_Bool, eqb-true, le-leb, true�
 use Rattle.std.proofs.lemmas.Bool.Decides.{nat_tests}
 use Rattle.std.proofs.lemmas.List.{map-append}
 use Rattle.std.proofs.lemmas.List.Elements.{All-append, All-cons, All-nil}
+use Rattle.std.proofs.Math.Bool.{and-false}
 use Rattle.rx_base.specs.declared.diagnostic.Diagnostic.{Diagnostic}
 use Rattle.rx_ast.specs.ClassTree.{Class}
 use Rattle.rx_ast.specs.declared.leaf.CharacterKind.{CharacterKind}
@@ -26,9 +27,8 @@ use Rattle.rx_model.specs.Refusals.ClassPlaces.{IsItemPlace, IsOfStrings, IsStri
 use Rattle.rx_model.specs.Refusals.EscapeCauses.{IsPropertyCause, negative_of_strings}
 use Rattle.rx_model.specs.Refusals.Reached.{text_environment}
 use Rattle.rx_model.specs.Trees.Early.{IsEarlyClass}
-use Rattle.rx_model.proofs.Characters.Backslashes.{no_right}
 use Rattle.rx_model.proofs.Classes.ClassCloses.{closed_class}
-use Rattle.rx_model.proofs.Classes.ClassFronts.{atom_some, behind_first, behind_one, class_token_found, class_token_is, single as one_unit, token_some}
+use Rattle.rx_model.proofs.Classes.ClassFronts.{atom_some, behind_first, behind_one, class_token_found, class_token_is, single as one_unit, token_some, sets_is}
 use Rattle.rx_model.proofs.Classes.ClassEnds.{class_row_append}
 use Rattle.rx_model.proofs.Classes.ClassStates.{opened_union}
 use Rattle.rx_model.proofs.Classes.ClassValues.{AreSmall, character_small, small_back}
@@ -38,18 +38,13 @@ use Rattle.rx_model.proofs.Properties.PropertyRefusals.{lone_run}
 use Rattle.rx_model.proofs.Properties.PropertyTables.{strings_word}
 use Rattle.rx_model.proofs.Reading.Prefixes.{first_in_class}
 
-no_threes : (mode : Mode) → is_sets mode ≡ true → has_threes mode ≡ false
-no_threes Legacy h = absurd (true≢false (sym h))
-no_threes Unicode h = refl
-no_threes Sets h = refl
-
 threes_legacy : (mode : Mode) → has_threes mode ≡ true → (is_unicode mode ≡ false) × (is_sets mode ≡ false)
 threes_legacy Legacy h = (refl, refl)
 threes_legacy Unicode h = absurd (true≢false (sym h))
 threes_legacy Sets h = absurd (true≢false (sym h))
 
 -- A range stands in a union alone; a union takes an operand and is one still.
-ranged_union : (h k : Held) → ranged h ≡ Some k → is_union h ≡ true
+pub ranged_union : (h k : Held) → ranged h ≡ Some k → is_union h ≡ true
 ranged_union empty k e = refl
 ranged_union single k e = refl
 ranged_union several k e = refl
@@ -126,7 +121,7 @@ module _ (mode : Mode) (us : List CodePoint) (start added from : ℕ) (at_class 
   fresh_view : (a : Atom) (w more : List CodePoint) → SpellsAtom here a w more → StandsBefore here a more → TokenView fresh w more (item a)
   fresh_view a w more s (inl d) = one a s (behind_one here a more d)
   fresh_view a w more s (inr (inl t)) = first a s (behind_first here a more t) t
-  fresh_view a w more s (inr (inr n)) = one a s (ap (λ b. behind_item fresh b) (ap (λ threes. is_dashed (values more) && threes) (no_threes mode n.sets) ∙ no_right (is_dashed (values more))))
+  fresh_view a w more s (inr (inr n)) = one a s (ap (λ b. behind_item fresh b) (ap (λ threes. is_dashed (values more) && threes) (ap has_threes (sets_is mode n.sets)) ∙ and-false (is_dashed (values more))))
 
   view : (q : Place) → begins_item q ≡ true → (t : ClassToken) (w more : List CodePoint) → SpellsInClass here q t w more → TokenView q w more t
   view fresh b closer w more s = closes s

@@ -4,6 +4,7 @@ use Rattle.std.proofs.lemmas.Bool.{both_ways, cases_Bool, eqb-true}
 use Rattle.rx_base.specs.declared.diagnostic.Diagnostic.{Diagnostic}
 use Rattle.rx_units.specs.declared.code_point.CodePoint.{CodePoint}
 use Rattle.rx_units.specs.Units.{values}
+use Rattle.rx_units.proofs.Choices.{both}
 use Rattle.rx_model.specs.declared.mode.Mode.{Mode}
 use Rattle.rx_model.specs.declared.mode.Mode.TheVariants.{Legacy, Unicode, Sets}
 use Rattle.rx_model.specs.Classes.ClassFronts.{atom_read, no_atom, atom_at}
@@ -15,7 +16,6 @@ use Rattle.rx_model.specs.Refusals.EscapeCauses.{IsEscapeCause}
 use Rattle.rx_model.specs.Refusals.Firsts.{IsCauseOfEscape, of_character, of_property}
 use Rattle.rx_model.specs.Refusals.Stops.{begins_class_escape, is_hyphen_escaped}
 use Rattle.rx_model.proofs.Classes.ClassFronts.{at_backslash, atom_found, atom_is_read}
-use Rattle.rx_model.proofs.Characters.Decodings.{both}
 use Rattle.rx_model.proofs.Properties.PropertyRefusals.{cause_unicode}
 use Rattle.rx_model.proofs.Refusals.LegacyStops.{atom_behind_backslash, no_atom_behind_backslash}
 

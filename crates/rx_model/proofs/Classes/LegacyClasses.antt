@@ -4,6 +4,7 @@ use Rattle.std.proofs.lemmas.Bool.{cases_Bool, eqb-true, false_from_ne_true, not
 use Rattle.rx_ast.specs.declared.leaf.CharacterKind.TheVariants as kinds
 use Rattle.rx_units.specs.declared.code_point.CodePoint.{CodePoint}
 use Rattle.rx_units.specs.Units.{values}
+use Rattle.rx_units.proofs.Choices.{both}
 use Rattle.rx_model.specs.declared.mode.Mode.TheVariants.{Legacy}
 use Rattle.rx_model.specs.Classes.ClassFronts.{AtomRead, atom_at, atom_read, no_atom}
 use Rattle.rx_model.specs.Classes.ClassRows as spelled
@@ -16,7 +17,6 @@ use Rattle.rx_model.specs.Refusals.ClassCauses.{NothingFollows}
 use Rattle.rx_model.specs.Refusals.Reached.{text_environment}
 use Rattle.rx_model.specs.Refusals.Stops.{begins_class_escape}
 use Rattle.rx_model.specs.Spelling.ReadBack.{AreCodeUnits}
-use Rattle.rx_model.proofs.Characters.Decodings.{both}
 use Rattle.rx_model.proofs.Classes.ClassFronts.{atom_found, atom_is_read}
 use Rattle.rx_model.proofs.Classes.ClassStates.{Fits, opened_fits, opened_union, union_more}
 use Rattle.rx_model.proofs.Classes.ClassStops.{fresh_union}

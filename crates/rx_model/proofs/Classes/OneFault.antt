@@ -3,6 +3,7 @@ use Rattle.std.proofs.Common.{◌≡◌, ◌⊎◌, refl, ap, sym, ◌∙◌, su
 use Rattle.std.specs.Prelude.{All}
 use Rattle.std.proofs.lemmas.Bool.{both_ways, cases_Bool, cond-false, cond-true, eqb-true, or_cases, true≢false}
 use Rattle.std.proofs.lemmas.List.Elements.{All-head}
+use Rattle.std.proofs.Math.Bool.{and-false}
 use Rattle.rx_base.specs.declared.diagnostic.Diagnostic.{Diagnostic}
 use Rattle.rx_base.specs.declared.diagnostic.Diagnostic.TheVariants.{UnterminatedPattern, ClassSetExpressionInvalidCharacter}
 use Rattle.rx_base.specs.declared.diagnostic.kinds.SetOperator.{SetOperator}
@@ -153,16 +154,12 @@ front_at mode at w =
 front_other : (mode : Mode) (at : Place) (c : ℕ) (w : List ℕ) → at ≡ fresh → (c == 93) ≡ false → (is_sets mode ≡ true → (c == 45) ≡ false) → front_at mode at (c ∷ w) ≡ before_other
 front_other mode at c w is no_closer no_dash =
     cond-false (c == 93) _ _ no_closer
-    ∙ cond-false (c == 38 && is_meet_place at) _ _ (ap (λ at. c == 38 && is_meet_place at) is ∙ never (c == 38))
+    ∙ cond-false (c == 38 && is_meet_place at) _ _ (ap (λ at. c == 38 && is_meet_place at) is ∙ and-false (c == 38))
     ∙ cond-false (c == 45 && is_sets mode) _ _ (by (is_sets mode) refl)
   where
-    never : (b : Bool) → (b && false) ≡ false
-    never true = refl
-    never false = refl
-
     by : (b : Bool) → is_sets mode ≡ b → (c == 45 && is_sets mode) ≡ false
     by true sets = ap (λ b. b && is_sets mode) (no_dash sets)
-    by false sets = ap (λ b. c == 45 && b) sets ∙ never (c == 45)
+    by false sets = ap (λ b. c == 45 && b) sets ∙ and-false (c == 45)
 
 module _ (mode : Mode) (us : List CodePoint) (start added from : ℕ) (at_class : List CodePoint) where
   abbrev here : Environment

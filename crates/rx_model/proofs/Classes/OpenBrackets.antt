@@ -2,14 +2,14 @@
 use Rattle.std.proofs.Common.{◌≡◌, refl, ap, sym, ◌∙◌, subst, ℕ, ◌+◌, ◌-◌, ◌&&◌, Bool, true, false, is_some, Option, Some, None, List, [], ◌∷◌, ◌++◌, length, nat_le, arith, append_assoc}
 use Rattle.std.proofs.lemmas.Bool.{true≢false}
 use Rattle.rx_units.specs.declared.code_point.CodePoint.{CodePoint}
+use Rattle.rx_units.proofs.Choices.{Some-inj}
 use Rattle.rx_model.specs.Refusals.ClassPlaces.{IsInBracket, IsItemPlace, begins_item, nested, of_class}
 use Rattle.rx_model.specs.Classes.ClassRows.{ClassTokenRow, Place, SpellsBracket, SpellsInClass, behind, behind_less, behind_meet, fresh, in_strings, outside}
 use Rattle.rx_model.specs.Classes.ClassRuns.{Bracket, Brackets, Held, empty, any_string, atom_may, atom_obeys, behind_step, bracket_of, class_opened, class_run, class_step, closed, held_on, holding, less_by, may_close, met_by, operand, ranged, takes_operand, where_may, where_true, with_strings}
 use Rattle.rx_model.specs.Classes.ClassTokens.{ClassToken, bracket, closer, item, low, dash, high, meet, less, strings, letter, string_bar, strings_end}
 use Rattle.rx_model.specs.Inputs.Environment.{Environment, is_sets}
-use Rattle.rx_model.proofs.Characters.Decodings.{Some-inj}
 use Rattle.rx_model.proofs.Classes.ClassEnds.{class_row_split}
-use Rattle.rx_model.proofs.Classes.ClassStates.{behind_inside, row_shorter, run_in, steps}
+use Rattle.rx_model.proofs.Classes.ClassStates.{behind_inside, row_shorter, run_in, steps, where_true_both}
 use Rattle.rx_model.proofs.Classes.ClassWholes.{class_opened-append, class_run-append}
 
 -- The innermost bracket that is open behind some tokens is the class's own, or began where the bracket around it takes an operand.
@@ -24,16 +24,16 @@ further _ ss _ m _ (within before inside c d ds o there takes h) run =
     subst (λ ts. Opened ts (m ∷ d ∷ ds)) (sym (append_assoc before inside ss)) (within before (inside ++ ss) m d ds o there takes (class_opened-append inside ss (c ∷ []) h ∙ run))
 
 -- A nested class is an operand.
-pub nested_run : (ts : List ClassToken) (d c : Bracket) → takes_operand d.held ≡ true → class_opened ts ≡ Some (c ∷ []) → class_run ts (d ∷ []) ≡ Some (c ∷ d ∷ [])
-nested_run [] d c takes h = absurd (let no : ⊥ = cc h in no)
-nested_run ((bracket negative) ∷ ts) d c takes h =
+pub nested_run : (ts : List ClassToken) (d c : Bracket) (ds : Brackets) → takes_operand d.held ≡ true → class_opened ts ≡ Some (c ∷ []) → class_run ts (d ∷ ds) ≡ Some (c ∷ d ∷ ds)
+nested_run [] d c ds takes h = absurd (let no : ⊥ = cc h in no)
+nested_run ((bracket negative) ∷ ts) d c ds takes h =
     let first = bracket_of negative empty false in
-    ap (λ o. behind_step o (λ bs. class_run ts bs)) (may (operand d.held) takes (first ∷ d ∷ [])) ∙ run_in ts first [] (d ∷ []) c [] h
+    ap (λ o. behind_step o (λ bs. class_run ts bs)) (may (operand d.held) takes (first ∷ d ∷ ds)) ∙ run_in ts first [] (d ∷ ds) c [] h
   where
     may : (o : Option Held) → is_some o ≡ true → (bs : Brackets) → where_may o bs ≡ Some bs
     may None h bs = absurd (true≢false (sym h))
     may (Some held) h bs = refl
-nested_run (t ∷ ts) d c takes h = absurd (let no : ⊥ = cc h in no)
+nested_run (t ∷ ts) d c ds takes h = absurd (let no : ⊥ = cc h in no)
 
 -- one token more, which is neither a bracket nor a closer
 record InnermostOnly (t : ClassToken) (c : Bracket) (cs : Brackets) (m : Bracket) (ms : Brackets) : Type 0 where
@@ -55,10 +55,6 @@ may_only : (t : ClassToken) (c n : Bracket) (cs : Brackets) (o : Option Held) (m
 may_only t c n cs None m ms step h = absurd (let no : ⊥ = cc h in no)
 may_only t c n cs (Some held) m ms step h = only_by t c cs n m ms step (Some-inj h)
 
-where_true_is : (b : Bool) (o : Option Brackets) (cs : Brackets) → where_true b o ≡ Some cs → (b ≡ true) × (o ≡ Some cs)
-where_true_is true o cs h = (refl, h)
-where_true_is false o cs h = absurd (let no : ⊥ = cc h in no)
-
 abbrev IsBracketOrCloser : ClassToken → Type 0
 IsBracketOrCloser (bracket negative) = Unit {0}
 IsBracketOrCloser closer = Unit {0}
@@ -68,18 +64,18 @@ innermost_only : (t : ClassToken) (c : Bracket) (cs : Brackets) (m : Bracket) (m
 innermost_only (bracket negative) c cs m ms other h = absurd (other tt)
 innermost_only closer c cs m ms other h = absurd (other tt)
 innermost_only (item a) c cs m ms other h =
-    let p = where_true_is (atom_obeys a) (holding c cs (atom_may a) (operand c.held)) (m ∷ ms) h in
+    let p = where_true_both (atom_obeys a) (holding c cs (atom_may a) (operand c.held)) (m ∷ ms) h in
     holding_only (item a) c cs (atom_may a) (operand c.held) m ms (ap (λ b. where_true b (holding c [] (atom_may a) (operand c.held))) p.0) p.1
 innermost_only (low k v) c cs m ms other h = may_only (low k v) c (record c { low_end = v }) cs (ranged c.held) m ms refl h
 innermost_only dash c cs m ms other h = only_by dash c cs c m ms refl (Some-inj h)
 innermost_only (high k v) c cs m ms other h =
-    let p = where_true_is (nat_le c.low_end v && nat_le v 0x10FFFF) (holding c cs false (ranged c.held)) (m ∷ ms) h in
+    let p = where_true_both (nat_le c.low_end v && nat_le v 0x10FFFF) (holding c cs false (ranged c.held)) (m ∷ ms) h in
     holding_only (high k v) c cs false (ranged c.held) m ms (ap (λ b. where_true b (holding c [] false (ranged c.held))) p.0) p.1
 innermost_only meet c cs m ms other h = operator_only meet c cs (met_by c.held) m ms refl h
 innermost_only less c cs m ms other h = operator_only less c cs (less_by c.held) m ms refl h
 innermost_only strings c cs m ms other h = may_only strings c (record c { count = 0; any = false }) cs (operand c.held) m ms refl h
 innermost_only (letter k v) c cs m ms other h =
-    let p = where_true_is (nat_le v 0x10FFFF) (Some (record c { count = c.count + 1 } ∷ cs)) (m ∷ ms) h in
+    let p = where_true_both (nat_le v 0x10FFFF) (Some (record c { count = c.count + 1 } ∷ cs)) (m ∷ ms) h in
     only_by (letter k v) c cs (record c { count = c.count + 1 }) m ms (ap (λ b. where_true b (Some (record c { count = c.count + 1 } ∷ []))) p.0) (Some-inj p.1)
 innermost_only string_bar c cs m ms other h = only_by string_bar c cs (record c { count = 0; any = any_string c }) m ms refl (Some-inj h)
 innermost_only strings_end c cs m ms other h = holding_only strings_end c cs (any_string c) (operand c.held) m ms refl h
@@ -111,7 +107,7 @@ closer_closes _ _ _ m ms (own inside c h) step = absurd (none (may_close c) step
 closer_closes _ _ _ m ms (within before inside c d ds opened there takes h) step =
     let p = closer_of c (may_close c) d ds m ms step in
     let run : class_run (inside ++ (closer ∷ [])) (d ∷ []) ≡ Some (m ∷ []) =
-    class_run-append inside (closer ∷ []) (d ∷ []) (c ∷ d ∷ []) (nested_run inside d c takes h) ∙ ap (λ o. behind_step o (λ bs. class_run [] bs)) p.0 in
+    class_run-append inside (closer ∷ []) (d ∷ []) (c ∷ d ∷ []) (nested_run inside d c [] takes h) ∙ ap (λ o. behind_step o (λ bs. class_run [] bs)) p.0 in
     subst (λ ts. Opened ts (m ∷ ms)) (sym (append_assoc before inside (closer ∷ [])))
     (subst (λ ms. Opened (before ++ (inside ++ (closer ∷ []))) (m ∷ ms)) p.1 (further before (inside ++ (closer ∷ [])) d m ds opened run))
 

@@ -29,7 +29,7 @@ use Rattle.rx_model.specs.Spelling.ClassText.{class_escape_text, property_opener
 use Rattle.rx_model.proofs.Groups.GroupNames.{differs}
 use Rattle.rx_model.proofs.Classes.ClassFronts.{class_letter}
 use Rattle.rx_model.proofs.Characters.Decodings.{value_law}
-use Rattle.rx_model.proofs.Characters.Escapes.{begins_with_u, spelled_escape, too_many_escape}
+use Rattle.rx_model.proofs.Characters.Escapes.{begins_with_u, spelled_escape, too_many_escape, escape_u}
 use Rattle.rx_model.proofs.Properties.PropertyRefusals.{cause_begins_no_property, cause_unicode, property_first}
 
 -- what a character that stands for itself is not
@@ -142,10 +142,6 @@ module _ (e : Environment) where
   value_there (decoding.value x m) k v n h = (x, m, refl)
   value_there decoding.invalid k v n h = absurd (let no : ⊥ = cc h in no)
   value_there (decoding.overflow m) k v n h = absurd (let no : ⊥ = cc h in no)
-
-  escape_u : (w : List ℕ) → escape_at true (117 ∷ w) ≡ unicode_read (decoded true (117 ∷ w))
-  unfolding escape_at
-  escape_u w = refl
 
   no_digits_behind : is_unicode e.mode ≡ true → (k : CharacterKind) (v count : ℕ) (behind : List ℕ) → PassesHex behind count → Escapes k v behind → ⊥
   no_digits_behind u k v count behind p (everywhere w rest s h) =

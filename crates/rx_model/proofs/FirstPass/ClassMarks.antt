@@ -1,5 +1,5 @@
 -- A class is one mark: what stands in it ends no class but its closer.
-use Rattle.std.proofs.Common.{◌≡◌, refl, ap, sym, ◌∙◌, subst, ℕ, suc, ◌+◌, ◌*◌, ◌||◌, ◌&&◌, Bool, true, false, not, is_some, Option, Some, List, [], ◌∷◌, ◌++◌, length, length-append, append_assoc, arith}
+use Rattle.std.proofs.Common.{◌≡◌, refl, ap, sym, ◌∙◌, subst, ℕ, suc, ◌+◌, ◌*◌, ◌||◌, Bool, true, false, not, is_some, Option, Some, List, [], ◌∷◌, ◌++◌, length, length-append, append_assoc, arith}
 use Rattle.std.specs.List.{list_all}
 use Rattle.std.proofs.lemmas.Bool.Decides.{nat_tests}
 use Rattle.std.proofs.lemmas.List.{map-append}
@@ -19,9 +19,10 @@ use Rattle.rx_ast.specs.ClassTree.{Member, Members, Class, no_member, member, cl
 use Rattle.rx_units.specs.declared.code_point.CodePoint.{CodePoint}
 use Rattle.rx_units.specs.Units.{values}
 use Rattle.rx_units.specs.Digits.{front_is, hex_behind}
+use Rattle.rx_units.proofs.Choices.{both}
 use Rattle.rx_model.specs.declared.mode.Mode.{Mode}
 use Rattle.rx_model.specs.declared.mode.Mode.TheVariants.{Legacy, Unicode, Sets}
-use Rattle.rx_model.specs.Classes.ClassRows.{stands_raw_in_class, SpellsInClassAlone, SpellsClassCharacter, SpellsAtom, SpellsBracket, SpellsInClass, ClassTokenRow, IsClass, Place, outside, fresh, at_dash, at_high, at_second, at_third, behind_meet, behind_less, in_strings, behind, behind_item, has_threes, is_dashed}
+use Rattle.rx_model.specs.Classes.ClassRows.{stands_raw_in_class, SpellsInClassAlone, SpellsClassCharacter, SpellsAtom, SpellsBracket, SpellsInClass, ClassTokenRow, IsClass, Place, outside, fresh, at_dash, at_high, at_second, at_third, behind_meet, behind_less, in_strings, behind}
 use Rattle.rx_model.specs.Classes.ClassRows as spelled
 use Rattle.rx_model.specs.Spelling.ClassText.{class_escape_text, property_opener}
 use Rattle.rx_model.specs.Classes.ClassTokens.{Atom, character, escape, property, ClassToken, bracket, closer, item, low, dash, high, meet, less, strings, letter, string_bar, strings_end, ClassEvents, enter, leave, token, class_tokens, class_tokens_of, within, letters_events, string_events, barred_strings_events, strings_events, range_events, operator_events, member_events, class_events, members_events, more_members_events}
@@ -34,10 +35,10 @@ use Rattle.rx_model.specs.FirstPass.Marks.{other, class_rest, mark_front, marks,
 use Rattle.rx_model.specs.FirstPass.MarkTexts.{is_class_mark}
 use Rattle.rx_model.specs.Properties.PropertyEscapes.{IsProperty}
 use Rattle.rx_model.specs.Characters.UnicodeEscapes.{SpellsUnicode, code_unit, alone, pair, braced}
-use Rattle.rx_model.proofs.Characters.Decodings.{both}
 use Rattle.rx_model.proofs.FirstPass.ClassRest.{escaped_rest, inside_begins, inside_ends, unit_rest}
 use Rattle.rx_model.proofs.FirstPass.OpenerMarks.{marks_after}
 use Rattle.rx_model.proofs.Properties.PropertyWords.{is_property_unit, property_units}
+use Rattle.rx_model.proofs.Classes.ClassStates.{behind_inside}
 
 module _ (mode : Mode) where
   -- These units end no class before the rest, however many are open in it.
@@ -210,33 +211,6 @@ before_none ((token t) ∷ es) = ap (λ ts. t ∷ ts) (before_none es)
 before_within : (s : Span) (es : ClassEvents) (ts : List ClassToken) → before (within s es) ts ≡ before es ts
 before_within s es ts = before_append es (leave s.end ∷ []) ts
 
--- behind no token stands the class's own bracket
-never_outside : (mode : Mode) (q : Place) (t : ClassToken) (rest : List CodePoint) → behind mode q t rest ≡ outside → ⊥
-never_outside mode q (bracket negative) rest h = cc h
-never_outside mode q closer rest h = cc h
-never_outside mode q (item a) rest h = item_inside q (is_dashed (values rest) && has_threes mode) h
-  where
-    item_inside : (q : Place) (first : Bool) → behind_item q first ≡ outside → ⊥
-    item_inside outside first h = cc h
-    item_inside fresh true h = cc h
-    item_inside fresh false h = cc h
-    item_inside at_dash first h = cc h
-    item_inside at_high first h = cc h
-    item_inside at_second first h = cc h
-    item_inside at_third first h = cc h
-    item_inside behind_meet first h = cc h
-    item_inside behind_less first h = cc h
-    item_inside in_strings first h = cc h
-never_outside mode q (low k v) rest h = cc h
-never_outside mode q dash rest h = cc h
-never_outside mode q (high k v) rest h = cc h
-never_outside mode q meet rest h = cc h
-never_outside mode q less rest h = cc h
-never_outside mode q strings rest h = cc h
-never_outside mode q (letter k v) rest h = cc h
-never_outside mode q string_bar rest h = cc h
-never_outside mode q strings_end rest h = cc h
-
 module _ (e : Environment) where
   -- Where these tokens end, the class ends in which n classes are open before them.
   abbrev End : ℕ → List ClassToken → Type 0
@@ -248,7 +222,7 @@ module _ (e : Environment) where
 
   passing_ends : (t : ClassToken) (n : ℕ) (ts : List ClassToken) → IsPassing t → End n ts → End n (t ∷ ts)
   passing_ends t n ts p h q inside us rest r =
-      units_end e.mode n n us r.0 r.1 rest r.2 (p q r.0 r.1 r.3 n) (h (behind e.mode q t r.1) (never_outside e.mode q t r.1) r.1 rest r.4)
+      units_end e.mode n n us r.0 r.1 rest r.2 (p q r.0 r.1 r.3 n) (h (behind e.mode q t r.1) (behind_inside e.mode q t r.1) r.1 rest r.4)
 
   -- these units
   text_passed : (text : List ℕ) (w more : List CodePoint) → IsPassed e.mode text → values w ≡ text → IsPassedBefore e.mode (values w) (values more)

@@ -14,6 +14,7 @@ use Rattle.rx_ast.specs.declared.leaf.LookAroundAssertionKind.TheVariants.{Looka
 use Rattle.rx_units.specs.declared.code_point.CodePoint.{CodePoint}
 use Rattle.rx_units.specs.Units.{values}
 use Rattle.rx_units.specs.Digits.{front_is}
+use Rattle.rx_units.proofs.Choices.{both}
 use Rattle.rx_model.specs.declared.mode.Mode.{Mode}
 use Rattle.rx_model.specs.declared.mode.Mode.TheVariants.{Legacy, Unicode, Sets}
 use Rattle.rx_model.specs.Reading.Boundaries.{boundary_text}
@@ -33,7 +34,6 @@ use Rattle.rx_model.specs.Reading.Rows.{IsEscaped, IsLegacyEscaped, IsRaw, Spell
 use Rattle.rx_model.specs.Spelling.Spelling.{look_text}
 use Rattle.rx_model.specs.Trees.Token.{Token, Opener, boundary, character, dot, class_escape, property, class, indexed, named, opener, closer, bar, quantifier, capturing, ignoring, looking}
 use Rattle.rx_model.proofs.FirstPass.ClassMarks.{class_marks}
-use Rattle.rx_model.proofs.Characters.Decodings.{both}
 use Rattle.rx_model.proofs.Groups.GroupNames.{group_name_read, name_anywhere}
 use Rattle.rx_model.proofs.FirstPass.OpenerMarks.{modifier_marks, naming_marks}
 use Rattle.rx_model.proofs.FirstPass.PlainMarks.{is_plain, plain_in, GiveOthers, nothing_others, plain_others, escape_others, append_others, all_plain_others, hex_others, escaped_digits_others, unicode_others, name_others, counts_others, lazy_others}

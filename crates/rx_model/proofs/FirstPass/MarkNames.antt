@@ -1,11 +1,6 @@
 -- The names that the first pass lists are those that the named openings of a text spell.
-use Rattle.std.proofs.Common.{◌≡◌, refl, ap, sym, ◌∙◌, subst, ℕ, zero, suc, ◌+◌, false, Contains, Decides, Option, Some, None, List, [], ◌∷◌, ◌++◌, append_assoc, length, length-append, get_or, eqb, arith, ◌⊎◌, inl, inr, ◌↔◌}
-use Rattle.std.specs.List.{list_any}
-use lib.Pointwise.{pointwise}
-use Rattle.std.proofs.lemmas.Bool.Decides.{Decides-by_or}
-use Rattle.std.proofs.lemmas.List.Elements.{Decides-contains}
-use Rattle.std.proofs.lemmas.Slice.Eq.{bytes_eq-Decides}
-use Rattle.std.proofs.lemmas.Bool.{cases_Bool, cond-true, cond-false, false_from_ne_true}
+use Rattle.std.proofs.Common.{◌≡◌, refl, ap, sym, ◌∙◌, subst, ℕ, zero, suc, ◌+◌, Contains, Option, Some, None, List, [], ◌∷◌, ◌++◌, append_assoc, length, length-append, get_or, arith, ◌⊎◌, inl, inr, ◌↔◌}
+use Rattle.std.proofs.lemmas.Bool.{cases_Bool, cond-true, cond-false}
 use Rattle.std.proofs.lemmas.List.{append-nil}
 use Rattle.rx_model.specs.declared.mode.Mode.{Mode}
 use Rattle.rx_model.specs.Groups.GroupNameReading.{name_of}
@@ -16,6 +11,7 @@ use Rattle.rx_model.specs.Trees.Names.{is_among, once_behind}
 use Rattle.rx_model.proofs.Groups.GroupNames.{read_group_name, group_name_read, name_anywhere}
 use Rattle.rx_model.proofs.FirstPass.MarkTexts.{spelled_mark, row_of, first_place}
 use Rattle.rx_model.proofs.FirstPass.OpenerMarks.{naming_marks}
+use Rattle.rx_model.proofs.Trees.Names.{among, found_among, not_among}
 
 module _ (mode : Mode) where
   -- a mark's name is what its units spell
@@ -129,14 +125,6 @@ module _ (mode : Mode) where
       IsNameBetween mode us name (name_places mode us k).0 (name_places mode us k).1
   name_between us k name e = between [] us (marks mode us) k name (row_of mode us) e
 
--- a search among names
-among_decides : (names : List (List ℕ)) (name : List ℕ) → Decides (is_among names name) (Contains names name)
-among_decides names name =
-    Decides-contains names name _ (Decides-by_or (λ w. pointwise eqb w name) (λ w. w ≡ name) (list_any (λ w. pointwise eqb w name)) (λ w. bytes_eq-Decides w name) refl (λ _ _. refl) names)
-
-not_among : (names : List (List ℕ)) (name : List ℕ) → (Contains names name → ⊥) → is_among names name ≡ false
-not_among names name h = false_from_ne_true _ (λ t. h ((among_decides names name).0 t))
-
 -- a name is one of those that were seen, or of those that come
 abbrev IsOld : List (List ℕ) → List (List ℕ) → List ℕ → Type 0
 IsOld before names name = Contains before name ⊎ Contains names name
@@ -169,10 +157,10 @@ old_unmoved before names x name (inr c) = inr (contains_more x names name c)
 
 -- a known name that comes last adds nothing
 known_last : (before names : List (List ℕ)) (name : List ℕ) → IsOld before names name → once_behind before (names ++ (name ∷ [])) ≡ once_behind before names
-known_last before [] name (inl c) = cond-true (is_among before name) [] (name ∷ []) ((among_decides before name).1 c)
+known_last before [] name (inl c) = cond-true (is_among before name) [] (name ∷ []) (among before name c)
 known_last before [] name (inr (k, l, e)) = absurd (omega arith)
 known_last before (x ∷ names) name h = elim (cases_Bool (is_among before x)) [
-  | inl seen ↦ rw seen (known_last before names name (old_again before names x name ((among_decides before x).0 seen) h))
+  | inl seen ↦ rw seen (known_last before names name (old_again before names x name (found_among before x seen) h))
   | inr new ↦ rw new (ap (λ ns. x ∷ ns) (known_last (x ∷ before) names name (old_moved before names x name h)))
 ]
 
@@ -195,9 +183,9 @@ once_are _ _ (known {names} {once} name r c) = once_are names once r ∙ sym (kn
 
 one_last : (names : List (List ℕ)) (name : List ℕ) → AreOnce names (once_behind [] names) → AreOnce (names ++ (name ∷ [])) (once_behind [] (names ++ (name ∷ [])))
 one_last names name r = elim (cases_Bool (is_among names name)) [
-  | inl h ↦ let c = (among_decides names name).0 h in subst (AreOnce (names ++ (name ∷ []))) (sym (known_last [] names name (inr c))) (known name r c)
+  | inl h ↦ let c = found_among names name h in subst (AreOnce (names ++ (name ∷ []))) (sym (known_last [] names name (inr c))) (known name r c)
   | inr h ↦
-      let none : Contains names name → ⊥ = λ c. let yes = (among_decides names name).1 c in let no : ⊥ = cc (yes, h) in no in
+      let none : Contains names name → ⊥ = λ c. let yes = among names name c in let no : ⊥ = cc (yes, h) in no in
       subst (AreOnce (names ++ (name ∷ []))) (sym (fresh_last [] names name (none_before names name none))) (fresh name r none)
 ]
 

@@ -9,10 +9,10 @@ use Rattle.rx_model.specs.Groups.Groups.{is_mark, looks}
 use Rattle.rx_model.specs.FirstPass.MarkTexts.{begins_mark, SpellsMark, escape, last_backslash, class, open_class, plain, ignoring, ahead, not_ahead, behind, not_behind, modifying, named, unclosed, closing, parting, one_unit, IsMarkRow, no_mark, mark, ArePlaces, no_place, place}
 use Rattle.rx_model.specs.FirstPass.Marks.{Mark, other, quiet, capturing, starts, escape_rest, class_rest, has_close, specifier_front, behind_angle, question_front, open_front, mark_front, marks, marks_behind, places, places_behind}
 use Rattle.rx_model.specs.Quantifiers.Quantifiers.{is_question}
-use Rattle.rx_model.proofs.Characters.Decodings.{chosen}
 use Rattle.rx_model.proofs.FirstPass.ClassRest.{ClassFound, ended, held, class_ends, class_found, class_held}
 use Rattle.rx_model.proofs.FirstPass.OpenerMarks.{marks_after, no_close_before, close_found, before_found}
 use Rattle.rx_units.specs.Digits.{front_is}
+use Rattle.rx_units.proofs.Choices.{chosen}
 
 neither : (c d f : ℕ) → (c == d) ≡ false → (c == f) ≡ false → (c == d || c == f) ≡ false
 neither c d f h k = rw (h, k) refl

@@ -7,13 +7,13 @@ use Rattle.std.proofs.lemmas.List.Folds.{list_all-append}
 use Rattle.std.proofs.lemmas.Option.{option_and_then_some}
 use Rattle.rx_tables.specs.Characters.{hex_digit_value}
 use Rattle.rx_units.specs.Digits.{hex_behind}
+use Rattle.rx_units.proofs.Choices.{chosen, both}
 use Rattle.rx_model.specs.declared.mode.Mode.{Mode}
 use Rattle.rx_model.specs.Groups.GroupNames.{is_in_name, SpellsNameCharacter, one_unit, by_escape, raw_pair, SpellsNameParts, no_part, part, SpellsName, whole_name}
 use Rattle.rx_model.specs.FirstPass.Marks.{quiet, capturing, starts, before_close, has_close, mark_front, marks, marks_behind}
 use Rattle.rx_model.specs.Inputs.Environment.{is_unicode}
 use Rattle.rx_model.specs.Groups.Modifiers.{is_modifier, AreSides, one_side, two_sides}
 use Rattle.rx_model.specs.Characters.UnicodeEscapes.{SpellsUnicode, alone, pair, braced}
-use Rattle.rx_model.proofs.Characters.Decodings.{chosen, both}
 use Rattle.rx_model.proofs.Groups.GroupNames.{differs}
 use Rattle.rx_model.proofs.FirstPass.PlainMarks.{is_plain, plain_in, GiveOthers, all_plain_others, append_others}
 

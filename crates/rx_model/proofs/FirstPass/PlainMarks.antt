@@ -6,6 +6,7 @@ use Rattle.std.proofs.lemmas.List.Elements.{All-nil, All-cons, All-append}
 use Rattle.std.proofs.lemmas.Option.{option_and_then_some}
 use Rattle.rx_tables.specs.Characters.{hex_digit_value}
 use Rattle.rx_units.specs.Digits.{hex_behind}
+use Rattle.rx_units.proofs.Choices.{both}
 use Rattle.rx_model.specs.declared.mode.Mode.{Mode}
 use Rattle.rx_model.specs.FirstPass.Cuts.{AreOthers}
 use Rattle.rx_model.specs.Groups.GroupNames.{is_in_name, SpellsNameCharacter, one_unit, by_escape, raw_pair, SpellsNameParts, no_part, part, SpellsName, whole_name}
@@ -13,7 +14,6 @@ use Rattle.rx_model.specs.FirstPass.Marks.{Mark, other, mark_front, marks, marks
 use Rattle.rx_model.specs.Inputs.Environment.{is_unicode}
 use Rattle.rx_model.specs.Quantifiers.Quantifiers.{decimal_digit_value, decimal_behind, AreDigits, SpellsBraces, exactly, at_least, between, SpellsCounts, star, plus, optional, braces, lazy_mark}
 use Rattle.rx_model.specs.Characters.UnicodeEscapes.{SpellsUnicode, code_unit, alone, pair, braced}
-use Rattle.rx_model.proofs.Characters.Decodings.{both}
 
 -- no unit that begins an escape or a class, opens or closes a group, or is a bar
 abbrev pub is_plain : ℕ → Bool

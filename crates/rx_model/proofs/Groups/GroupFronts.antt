@@ -9,6 +9,7 @@ use Rattle.rx_ast.specs.declared.leaf.LookAroundAssertionKind.TheVariants as loo
 use Rattle.rx_units.specs.declared.code_point.CodePoint.{CodePoint}
 use Rattle.rx_units.specs.Units.{values}
 use Rattle.rx_units.specs.Digits.{front_is}
+use Rattle.rx_units.proofs.Choices.{chosen, Some-inj}
 use Rattle.rx_model.specs.Inputs.Environment.{Environment, is_unicode}
 use Rattle.rx_model.specs.Reading.Fronts.{named_token, backslash_front}
 use Rattle.rx_model.specs.Groups.GroupFronts.{closed_name, name_front, sides_at, modified_group, named_group, angle_group, question_group, group_front, reference_front}
@@ -20,7 +21,6 @@ use Rattle.rx_model.specs.Groups.Modifiers.{SpellsModifiers}
 use Rattle.rx_model.specs.Quantifiers.Quantifiers.{is_question}
 use Rattle.rx_model.specs.Spelling.Spelling.{look_text}
 use Rattle.rx_model.specs.Trees.Token.{Opener, capturing, ignoring, looking, named}
-use Rattle.rx_model.proofs.Characters.Decodings.{chosen, Some-inj}
 use Rattle.rx_model.proofs.Groups.GroupNames.{differs, name_at_law, name_before_closer}
 use Rattle.rx_model.proofs.Groups.Modifiers.{no_mark, modified_read, ModifiersFront, modified_spelled}
 use Rattle.rx_model.proofs.Reading.Splits.{starts_there, TextFront}

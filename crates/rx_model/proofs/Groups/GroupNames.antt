@@ -3,12 +3,14 @@ use Rattle.std.proofs.Common.{◌≡◌, ◌↔◌, ℕ, zero, suc, ◌+◌, ◌
 use Rattle.std.proofs.lemmas.Bool.{eqb-true, eq-eqb, leb-true, false_from_ne_true}
 use Rattle.std.proofs.lemmas.Bool.Decides.{nat_tests}
 use Rattle.std.proofs.lemmas.List.{append-nil}
+use Rattle.std.proofs.Math.Seq.{drop-append_seam}
 use Rattle.rx_base.specs.SurrogatePair.{IsLeadSurrogate, IsTrailSurrogate, surrogate_pair}
+use Rattle.rx_units.proofs.Choices.{chosen, both}
 use Rattle.rx_model.specs.Characters.Decoding.{Decoded, value, invalid, overflow, decoded, is_lead, is_trail}
 use Rattle.rx_model.specs.Groups.GroupNames.{is_in_name, is_pair_in_name, IsNameRow, no_name, some_name, SpellsNameCharacter, one_unit, by_escape, raw_pair, SpellsNameParts, no_part, part, SpellsName, whole_name, IsGroupName, BeginsWithName}
 use Rattle.rx_model.specs.Groups.GroupNameReading.{NameCharacter, character, no_character, NameRow, row, tested, escape_in_name, pair_at, name_character_at, row_behind, row_from, row_after, name_at, all_of, name_of}
 use Rattle.rx_model.specs.Characters.UnicodeEscapes.{SpellsUnicode, alone, pair, braced}
-use Rattle.rx_model.proofs.Characters.Decodings.{chosen, both, spelled_read, read_spelled}
+use Rattle.rx_model.proofs.Characters.Decodings.{spelled_read, read_spelled}
 
 -- what one set of characters holds is none of what it does not
 pub differs : (set : ℕ → Bool) (c d : ℕ) → set d ≡ false → set c ≡ true → (c == d) ≡ false
@@ -43,10 +45,6 @@ codes_of (row cs n) = cs
 
 abbrev units_of : NameRow → ℕ
 units_of (row cs n) = n
-
-drop_front : (w rest : List ℕ) → drop (length w) (w ++ rest) ≡ rest
-drop_front [] rest = refl
-drop_front (x ∷ w) rest = drop_front w rest
 
 pub row_behind_none : (r : NameRow) → row_behind [] 0 r ≡ r
 row_behind_none (row cs n) = ap (row cs) (omega arith)
@@ -165,7 +163,7 @@ module _ (unicode_mode : Bool) where
       row_after unicode_mode first 0 (w ++ rest) ≡ row_behind (c ∷ []) (length w) (row_after unicode_mode false 0 rest)
   row_one first c w rest spells =
       row_steps first (w ++ rest) c (length w) (spelled_character first c w rest spells) (character_some first c w rest spells)
-      ∙ ap (λ us. row_behind (c ∷ []) (length w) (row_after unicode_mode false 0 us)) (drop_front w rest)
+      ∙ ap (λ us. row_behind (c ∷ []) (length w) (row_after unicode_mode false 0 us)) (drop-append_seam w rest)
 
   -- code points that are spelled, and the row behind them
   pub row_parts : (cs w rest : List ℕ) → SpellsNameParts unicode_mode cs w rest →
@@ -223,7 +221,7 @@ module _ (unicode_mode : Bool) where
   rest_is first c zero x w f some = absurd (omega arith)
   rest_is first c (suc n) x w f some =
       let less : suc n - 1 ≡ n = omega arith in
-      ap (λ m. drop m w) less ∙ ap (λ m. drop m (x ∷ w)) (sym f.count) ∙ ap (drop (length f.spelled)) f.whole ∙ drop_front f.spelled f.rest
+      ap (λ m. drop m w) less ∙ ap (λ m. drop m (x ∷ w)) (sym f.count) ∙ ap (drop (length f.spelled)) f.whole ∙ drop-append_seam f.spelled f.rest
 
   front_found : (x : ℕ) (w : List ℕ) → ((n : ℕ) → PartsFront (drop n w) (row_after unicode_mode false n w)) → (o : NameCharacter) → name_character_at unicode_mode false (x ∷ w) ≡ o →
       PartsFront (x ∷ w) (row_from o (λ n. row_after unicode_mode false n w))
@@ -267,7 +265,7 @@ module _ (unicode_mode : Bool) where
       go (character d k) e =
           let f = character_spelled true us d k e in
           let some = read_some true us d k e in
-          let same : drop k us ≡ f.rest = ap (λ m. drop m us) (sym f.count) ∙ ap (drop (length f.spelled)) f.whole ∙ drop_front f.spelled f.rest in
+          let same : drop k us ≡ f.rest = ap (λ m. drop m us) (sym f.count) ∙ ap (drop (length f.spelled)) f.whole ∙ drop-append_seam f.spelled f.rest in
           name_found us c cs n d k f (row_after unicode_mode false 0 (drop k us)) (subst (λ rest. PartsFront rest (row_after unicode_mode false 0 (drop k us))) same (parts_found 0 (drop k us))) (sym (row_steps true us d k e some) ∙ h)
 
   pub name_read : (us name : List ℕ) (n : ℕ) → BeginsWithName unicode_mode us name n → name_at unicode_mode us ≡ row name n

@@ -1,6 +1,5 @@
 -- What is read of modifiers behind `(?` stands there.
 use Rattle.std.proofs.Common.{◌≡◌, ◌≢◌, refl, sym, ap, ap₂, ◌∙◌, subst, ℕ, suc, ◌+◌, Bool, true, false, not, ◌==◌, ◌&&◌, ◌||◌, ◌⊎◌, cond, Option, Some, None, List, [], ◌∷◌, ◌++◌, length, take, drop, bit_and, arith, inl, inr}
-use Rattle.std.specs.List.{list_all}
 use Rattle.std.proofs.Math.Seq.{drop-drop, drop-append_seam, take-append_seam, take-add}
 use Rattle.std.proofs.lemmas.Bool.{cases_Bool, cond-true, cond-false, cond_both, eqb-true, eq-eqb, or_from, or_left, or_right, and_from, and_parts, not_from_false, true≢false}
 use Rattle.std.proofs.lemmas.List.Folds.{list_any-append}
@@ -11,11 +10,11 @@ use Rattle.rx_model.specs.Groups.ModifierFronts.{ModifiersHalt, no_colon, letter
 use Rattle.rx_model.specs.Groups.Modifiers.{is_modifier, occurs, has_twice, share_some, letters_bits, AreSides, one_side, two_sides}
 use Rattle.rx_model.specs.Refusals.Causes.{LeadNowhere}
 use Rattle.rx_model.specs.Trees.Token.{Opener, ignoring}
-use Rattle.rx_model.proofs.Characters.Decodings.{chosen}
 use Rattle.rx_model.proofs.Groups.ModifierBits.{no_letters, share}
-use Rattle.rx_model.proofs.Groups.Modifiers.{SidesFront, sides_spelled}
+use Rattle.rx_model.proofs.Groups.Modifiers.{SidesFront, sides_spelled, sides_letters}
 use Rattle.rx_model.proofs.Reading.Splits.{starts_there}
 use Rattle.rx_units.specs.Digits.{front_is}
+use Rattle.rx_units.proofs.Choices.{chosen}
 
 -- Behind `(?` stand modifiers of n units, which are wrong in this way.
 pub data AreWrong : List ℕ → ℕ → ModifiersHalt → Type 0 where
@@ -102,10 +101,6 @@ module _ (all : List ℕ) (other : front_is is_mark all ≡ false) (w v : List �
         no_colon = ap (starts 58) (sym after) ∙ none;
         no_mark = λ empty. ap (front_is is_mark) (ap (λ w. w ++ at_front.rest) (sym empty) ∙ sym at_front.whole) ∙ other;
       }))
-
-  sides_letters : (w v text : List ℕ) → AreSides w v text → (list_all is_modifier w ≡ true) × (list_all is_modifier v ≡ true)
-  sides_letters w _ _ (one_side h) = (h, refl)
-  sides_letters _ _ _ (two_sides w v h k) = (h, k)
 
   module _ (there : starts 58 (drop n all) ≡ true) where
     closed : (behind : List ℕ) × (at_front.rest ≡ 58 ∷ behind)

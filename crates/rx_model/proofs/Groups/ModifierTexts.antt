@@ -1,34 +1,22 @@
 -- The bits of modifiers, and their canonical letters, which spell them.
-use Rattle.std.proofs.Common.{◌≡◌, ◌≢◌, refl, sym, subst, ℕ, ◌+◌, ◌%◌, ◌<◌, Bool, true, false, cond, ◌==◌, List, [], ◌++◌, codes, arith}
+use Rattle.std.proofs.Common.{◌≡◌, ◌≢◌, refl, sym, subst, ℕ, ◌+◌, ◌%◌, ◌<◌, true, false, ◌==◌, List, [], ◌++◌, codes, arith}
 use Rattle.std.specs.List.{list_all}
 use Rattle.std.proofs.lemmas.Bool.{cond_both, eqb-true}
 use Rattle.std.proofs.lemmas.Bool.Decides.{nat_tests}
 use Rattle.std.proofs.lemmas.List.{append-nil}
-use Rattle.rx_model.specs.Groups.Modifiers.{is_modifier, occurs, has_twice, letters_bits, AreSides, one_side, two_sides, SpellsModifiers}
+use Rattle.rx_model.specs.Groups.Modifiers.{is_modifier, has_twice, letters_bits, AreSides, one_side, two_sides, SpellsModifiers}
 use Rattle.rx_model.specs.Spelling.Spelling.{three_letters, letters, dash}
 use Rattle.rx_model.proofs.Spelling.SomeTexts.{some, some-append, some_behind}
+use Rattle.rx_model.proofs.Groups.ModifierBits.{bits_small}
 
 -- Bits of three letters, on both sides.
 abbrev pub AreThreeBits : ℕ × ℕ → Type 0
 AreThreeBits bits = (bits.0 < 8) × (bits.1 < 8)
 
-three_low : (i m s : Bool) → cond i 1 0 + cond m 2 0 + cond s 4 0 < 8
-three_low true true true = omega arith
-three_low true true false = omega arith
-three_low true false true = omega arith
-three_low true false false = omega arith
-three_low false true true = omega arith
-three_low false true false = omega arith
-three_low false false true = omega arith
-three_low false false false = omega arith
-
-letters_low : (w : List ℕ) → letters_bits w < 8
-letters_low w = three_low (occurs 105 w) (occurs 109 w) (occurs 115 w)
-
 -- the bits of what is spelled
 pub modifiers_known : (enabling disabling : ℕ) (text : List ℕ) → SpellsModifiers enabling disabling text → AreThreeBits (enabling, disabling)
 modifiers_known enabling disabling text s =
-    (subst (λ n. n < 8) (sym s.enabling_is) (letters_low s.enabled), subst (λ n. n < 8) (sym s.disabling_is) (letters_low s.disabled))
+    (subst (λ n. n < 8) (sym s.enabling_is) (bits_small s.enabled), subst (λ n. n < 8) (sym s.disabling_is) (bits_small s.disabled))
 
 seven : (n : ℕ) → n < 8 → (n == 0) ≡ false → (n == 1) ≡ false → (n == 2) ≡ false → (n == 3) ≡ false → (n == 4) ≡ false → (n == 5) ≡ false → (n == 6) ≡ false → n ≡ 7
 seven n low a b c d e f g = grind (arith, nat_tests)

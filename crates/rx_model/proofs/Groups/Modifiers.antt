@@ -9,9 +9,9 @@ use Rattle.rx_model.specs.Groups.Groups.{is_mark}
 use Rattle.rx_model.specs.FirstPass.Marks.{starts}
 use Rattle.rx_model.specs.Groups.Modifiers.{is_modifier, has_twice, letters_bits, AreSides, one_side, two_sides, SpellsModifiers}
 use Rattle.rx_model.specs.Trees.Token.{Opener, ignoring}
-use Rattle.rx_model.proofs.Characters.Decodings.{chosen, both}
 use Rattle.rx_model.proofs.Reading.Splits.{starts_there}
 use Rattle.rx_units.specs.Digits.{front_is}
+use Rattle.rx_units.proofs.Choices.{chosen, both}
 
 -- letters are read to their end
 pub letters_read : (w rest : List ℕ) → list_all is_modifier w ≡ true → front_is is_modifier rest ≡ false → letters_at (w ++ rest) ≡ length w
@@ -144,6 +144,11 @@ pub record ModifiersFront (p : Opener × ℕ) (all : List ℕ) : Type 0 where
   pub spelled : SpellsModifiers enabling disabling text
   pub whole : all ≡ text ++ (58 ∷ rest)
   pub is_so : Some (ignoring (Some (enabling, disabling)), length text + 3) ≡ Some p
+
+-- the sides are letters
+pub sides_letters : (w v text : List ℕ) → AreSides w v text → (list_all is_modifier w ≡ true) × (list_all is_modifier v ≡ true)
+sides_letters w _ _ (one_side h) = (h, refl)
+sides_letters _ _ _ (two_sides w v h k) = (h, k)
 
 modified_found : (all w v : List ℕ) (n : ℕ) (p : Opener × ℕ) → starts 58 all ≡ false → SidesFront w v n all → starts 58 (drop n all) ≡ true → (has_twice w || has_twice v) ≡ false →
     Some (ignoring (Some (letters_bits w, letters_bits v)), n + 3) ≡ Some p → ModifiersFront p all

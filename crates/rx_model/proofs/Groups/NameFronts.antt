@@ -1,6 +1,8 @@
 -- A name that is read behind `(?<` and `\k<` stands there, and where none is read this is for the reason that is said.
 use Rattle.std.proofs.Common.{◌≡◌, refl, sym, ap, ◌∙◌, subst, ℕ, ◌+◌, ◌<◌, Bool, true, false, not, ◌==◌, ◌&&◌, nat_lt, cond, Some, List, [], ◌∷◌, drop, arith}
 use Rattle.std.proofs.lemmas.Bool.{and_parts, both_ways, cond-true, cond_both, eqb-true, false_from_ne_true, ltb-true, true≢false}
+use Rattle.std.proofs.Math.Bool.{and-false}
+use Rattle.rx_units.proofs.Choices.{both}
 use Rattle.rx_model.specs.Characters.Decoding.{Decoded, value, invalid, overflow, decoded, is_lead, is_trail}
 use Rattle.rx_model.specs.Characters.UnicodeEscapes.{Decodes, PassesHex}
 use Rattle.rx_model.specs.FirstPass.Marks.{starts}
@@ -9,7 +11,7 @@ use Rattle.rx_model.specs.Groups.GroupNameReading.{NameRow, row, name_at}
 use Rattle.rx_model.specs.Groups.GroupNames.{BeginsWithName, IsNameRow, no_name, some_name, SpellsName, whole_name}
 use Rattle.rx_model.specs.Groups.NameFronts.{NameHalt, begins_pair, unterminated, misplaced_pair, misplaced, no_escape, no_escape_of_u, many_digits, NameRead, name_read, no_name_read, escape_halt, read_behind_name, read_from_row, name_read_at}
 use Rattle.rx_model.specs.Refusals.Causes.{BeginsWithPair}
-use Rattle.rx_model.proofs.Characters.Decodings.{both, value_law, overflow_law}
+use Rattle.rx_model.proofs.Characters.Decodings.{value_law, overflow_law}
 use Rattle.rx_model.proofs.Groups.GroupNames.{lead_seen, name_read as name_row_read, name_row_law, seen_lead, seen_trail, trail_seen}
 
 -- a raw pair stands next, or none
@@ -48,10 +50,6 @@ abbrev pub SaysName : Bool → List ℕ → NameRead → Type 0
 SaysName m w (name_read name n) = BeginsWithName m w name n × (starts 62 (drop n w) ≡ true)
 SaysName m w (no_name_read it) = SaysNameHalt m w it
 
-no_right : (b : Bool) → (b && false) ≡ false
-no_right true = refl
-no_right false = refl
-
 module _ (m : Bool) (w : List ℕ) where
   escape_said : (count : ℕ) (behind : List ℕ) → EscapeBehind m w count behind → (d : Decoded) → decoded true behind ≡ d → SaysNameHalt m w (escape_halt m count behind d)
   escape_said count behind b (value v n) e = (behind, b, v, (value_law true behind v n).0 e)
@@ -70,7 +68,7 @@ module _ (m : Bool) (w : List ℕ) where
       (subst (λ name. BeginsWithName m w name n) (sym same) b, closed)
 
   behind_said : (name : List ℕ) (n : ℕ) → name_at m w ≡ row name n → (rest : List ℕ) → drop n w ≡ rest → SaysName m w (read_behind_name m name n rest)
-  behind_said name n e [] f = (name_row_law m w name n e, ap (starts 92) f, ap (λ v. not m && begins_pair v) f ∙ no_right (not m), λ closed. absurd (true≢false (sym closed ∙ ap (starts 62) f)))
+  behind_said name n e [] f = (name_row_law m w name n e, ap (starts 92) f, ap (λ v. not m && begins_pair v) f ∙ and-false (not m), λ closed. absurd (true≢false (sym closed ∙ ap (starts 62) f)))
   behind_said name n e (c ∷ v) f =
       let row = name_row_law m w name n e in
       let raw : NameRead = cond (not m && begins_pair (c ∷ v)) (no_name_read (misplaced_pair n)) (no_name_read (unterminated n)) in

@@ -3,8 +3,8 @@ use Rattle.std.proofs.Common.{◌≡◌, refl, ap, ℕ, Bool, true, false, ◌==
 use Rattle.std.specs.List.{list_all}
 use Rattle.std.proofs.lemmas.Bool.{and_from}
 use Rattle.rx_base.specs.SurrogatePair.{surrogate_pair}
+use Rattle.rx_units.proofs.Choices.{both}
 use Rattle.rx_model.specs.Groups.GroupNames.{is_in_name, is_pair_in_name, SpellsNameCharacter, one_unit, by_escape, raw_pair, SpellsNameParts, no_part, part, SpellsName, whole_name}
-use Rattle.rx_model.proofs.Characters.Decodings.{both}
 
 -- A character that begins names, and characters that go on in them.
 abbrev pub IsName : List ℕ → Type 0

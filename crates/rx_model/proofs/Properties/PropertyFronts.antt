@@ -1,17 +1,15 @@
 -- Property escapes: what is spelled is read, and what is read is spelled.
-use Rattle.std.proofs.Common.{◌≡◌, refl, sym, ap, ap₂, ◌∙◌, subst, ℕ, ◌+◌, ◌==◌, Bool, true, false, not, ◌&&◌, Option, Some, List, [], ◌∷◌, ◌++◌, length, arith, inl, inr, Contains, Decides, append_assoc, length-append}
-use Rattle.std.specs.Prelude.{eqb}
-use Rattle.std.specs.List.{list_all, list_any}
-use Rattle.std.proofs.lemmas.Bool.{eqb-true, cond-true, cond-false, and_from, or_cases, false_from_ne_true, not-true, or_left, or_right}
-use Rattle.std.proofs.lemmas.Bool.Decides.{Decides-by_or, nat_tests}
-use Rattle.std.proofs.lemmas.List.Elements.{Decides-contains, All-contains}
+use Rattle.std.proofs.Common.{◌≡◌, refl, sym, ap, ap₂, ◌∙◌, subst, ℕ, ◌+◌, ◌==◌, Bool, true, false, not, ◌&&◌, Option, Some, List, [], ◌∷◌, ◌++◌, length, arith, inl, inr, Contains, append_assoc, length-append}
+use Rattle.std.specs.List.{list_all}
+use Rattle.std.proofs.lemmas.Bool.{eqb-true, cond-true, cond-false, and_from, or_cases, not-true, or_left, or_right}
+use Rattle.std.proofs.lemmas.Bool.Decides.{nat_tests}
+use Rattle.std.proofs.lemmas.List.Elements.{All-contains}
 use Rattle.std.proofs.lemmas.List.Folds.{list_all-append}
 use Rattle.std.proofs.lemmas.List.Sums.{AllPass-from_list_all}
-use Rattle.std.proofs.lemmas.Slice.Eq.{bytes_eq-Decides}
-use lib.Pointwise.{pointwise}
 use Rattle.rx_tables.specs.Properties.{IsValidUnicodeProperty, binary_properties, general_category_names, general_category_values, properties_of_strings, script_names, script_values}
 use Rattle.rx_units.specs.declared.code_point.CodePoint.{CodePoint}
 use Rattle.rx_units.specs.Units.{values}
+use Rattle.rx_units.proofs.Choices.{chosen, both}
 use Rattle.rx_model.specs.declared.mode.Mode.{Mode}
 use Rattle.rx_model.specs.declared.mode.Mode.TheVariants.{Legacy, Unicode, Sets}
 use Rattle.rx_model.specs.Spelling.ClassText.{property_opener}
@@ -20,22 +18,8 @@ use Rattle.rx_model.specs.Trees.Names.{is_among}
 use Rattle.rx_model.specs.Properties.PropertyEscapes.{SpellsProperty, pair, category, binary, of_strings, IsProperty}
 use Rattle.rx_model.specs.Properties.PropertyFronts.{before, onward, Meaning, means, unknown, property_read, is_pair, reads_strings, lone_meaning, parts_meaning, text_meaning, property_of, closed_property, braced_property, property_front}
 use Rattle.rx_model.specs.Properties.PropertyForms.{begins_property}
-use Rattle.rx_model.proofs.Characters.Decodings.{chosen, both}
 use Rattle.rx_model.proofs.Reading.Splits.{TextFront}
-
--- a search among names
-among_decides : (names : List (List ℕ)) (name : List ℕ) → Decides (is_among names name) (Contains names name)
-among_decides names name =
-    Decides-contains names name _ (Decides-by_or (λ w. pointwise eqb w name) (λ w. w ≡ name) (list_any (λ w. pointwise eqb w name)) (λ w. bytes_eq-Decides w name) refl (λ _ _. refl) names)
-
-pub among : (names : List (List ℕ)) (name : List ℕ) → Contains names name → is_among names name ≡ true
-among names name h = (among_decides names name).1 h
-
-pub found_among : (names : List (List ℕ)) (name : List ℕ) → is_among names name ≡ true → Contains names name
-found_among names name h = (among_decides names name).0 h
-
-not_among : (names : List (List ℕ)) (name : List ℕ) → (Contains names name → ⊥) → is_among names name ≡ false
-not_among names name h = false_from_ne_true _ (λ t. h (found_among names name t))
+use Rattle.rx_model.proofs.Trees.Names.{among, found_among, not_among}
 
 absent : (names : List (List ℕ)) (name : List ℕ) → is_among names name ≡ false → Contains names name → ⊥
 absent names name h k = let no : true ≡ false = sym (among names name k) ∙ h in let f : ⊥ = cc no in f

@@ -8,6 +8,7 @@ use Rattle.rx_tables.specs.Characters.{is_decimal_digit, is_unicode_property_nam
 use Rattle.rx_tables.specs.Properties.{IsValidUnicodeProperty, binary_properties, general_category_values}
 use Rattle.rx_units.specs.declared.code_point.CodePoint.{CodePoint}
 use Rattle.rx_units.specs.Units.{values}
+use Rattle.rx_units.proofs.Choices.{both}
 use Rattle.rx_model.specs.declared.mode.Mode.{Mode}
 use Rattle.rx_model.specs.Spelling.ClassText.{property_opener}
 use Rattle.rx_model.specs.Inputs.Environment.{Environment, is_unicode}
@@ -16,7 +17,6 @@ use Rattle.rx_model.specs.FirstPass.Marks.{starts}
 use Rattle.rx_model.specs.Properties.PropertyEscapes.{SpellsProperty, pair, category, binary, of_strings as strings_alone}
 use Rattle.rx_model.specs.Properties.PropertyEscapes.{IsProperty}
 use Rattle.rx_model.specs.Properties.PropertyForms.{HasPair, HasRun, IsKnownRun, begins_property}
-use Rattle.rx_model.proofs.Characters.Decodings.{both}
 use Rattle.rx_model.proofs.Properties.PropertyRuns.{one_pair, one_run, same_run}
 use Rattle.rx_model.proofs.Properties.PropertyTables.{IsWordOf, binary_word, category_word, strings_word, valid_words}
 

@@ -3,8 +3,8 @@ use Rattle.std.proofs.Common.{◌≡◌, ℕ, Bool, true, false, List, [], ◌�
 use Rattle.std.specs.List.{list_all}
 use Rattle.rx_tables.specs.Characters.{is_unicode_property_name_character, is_unicode_property_value_character}
 use Rattle.rx_units.specs.Digits.{front_is}
+use Rattle.rx_units.proofs.Choices.{both}
 use Rattle.rx_model.specs.Properties.PropertyForms.{HasPair, IsValueRun}
-use Rattle.rx_model.proofs.Characters.Decodings.{both}
 
 module _ (set : ℕ → Bool) where
   -- two runs of one text that end where the set does are one

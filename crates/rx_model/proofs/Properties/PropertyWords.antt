@@ -5,9 +5,9 @@ use Rattle.std.proofs.lemmas.Bool.{and_from}
 use Rattle.std.proofs.lemmas.List.Elements.{All-nil, All-cons, All-contains}
 use Rattle.rx_tables.specs.Characters.{is_unicode_property_value_character}
 use Rattle.rx_tables.specs.Properties.{IsValidUnicodeProperty, binary_properties, general_category_names, general_category_values, properties_of_strings, script_names, script_values}
+use Rattle.rx_units.proofs.Choices.{both}
 use Rattle.rx_model.specs.declared.mode.Mode.{Mode}
 use Rattle.rx_model.specs.Properties.PropertyEscapes.{SpellsProperty, pair, category, binary, of_strings}
-use Rattle.rx_model.proofs.Characters.Decodings.{both}
 
 -- letters, digits and `_` alone
 abbrev pub IsWord : List ℕ → Type 0

@@ -5,21 +5,21 @@ use Rattle.rx_units.specs.declared.code_point.CodePoint.{CodePoint}
 use Rattle.rx_units.specs.Units.{values}
 use Rattle.rx_units.specs.Digits.{front_is}
 use Rattle.rx_tables.specs.Characters.{is_decimal_digit}
+use Rattle.rx_units.proofs.Choices.{chosen}
 use Rattle.rx_model.specs.declared.mode.Mode.{Mode}
 use Rattle.rx_model.specs.Refusals.Causes.{HasBraces, IsOutOfOrder, IsTooLarge}
 use Rattle.rx_model.specs.Trees.Early.{Obeys}
 use Rattle.rx_model.specs.Inputs.Environment.{Environment, is_unicode}
 use Rattle.rx_model.specs.Reading.Fronts.{Digits, digits, digits_behind, Counts, counts, no_counts, counts_at, counts_in_braces, counts_behind_comma, greatest_of, quantifier_token, front}
 use Rattle.rx_model.specs.FirstPass.Marks.{starts}
-use Rattle.rx_model.specs.Quantifiers.Quantifiers.{BeginsWithBraces, SpellsBraces, exactly, at_least, between, braces, AreDigits, PassesDecimal, PassesLimit, first, second, is_question}
+use Rattle.rx_model.specs.Quantifiers.Quantifiers.{BeginsWithBraces, SpellsBraces, exactly, at_least, between, braces, PassesDecimal, PassesLimit, first, second, is_question}
 use Rattle.rx_model.specs.Refusals.Reached.{text_environment, text_groups, text_names}
 use Rattle.rx_model.specs.Reading.Rows.{Spells}
 use Rattle.rx_model.specs.Trees.Token.{Token, quantifier}
-use Rattle.rx_model.proofs.Characters.Decodings.{chosen}
 use Rattle.rx_model.proofs.Reading.Fronts.{front_by_unicode, spelled_front}
 use Rattle.rx_model.proofs.Reading.Splits.{split_values, starts_there}
 use Rattle.rx_model.proofs.Quantifiers.Quantifiers.{spelled_counts, digits_read}
-use Rattle.rx_model.proofs.Quantifiers.DecimalDigits.{digit_there, digits_past, digits_le}
+use Rattle.rx_model.proofs.Quantifiers.DecimalDigits.{digit_there, digits_past, digits_le, some_length}
 use Rattle.rx_model.proofs.Refusals.BlockedPlaces.{IsBlocked, blocked_token, next, same_token}
 
 -- The counts of a quantifier that stands next do not obey.
@@ -172,9 +172,6 @@ some_passed ds next rest n end behind p h =
     let k = digits_more (10 * p.number + (next - 48)) (0 + length ds + 1) rest n end behind e in
     omega (arith, k)
 
-some_count : (n : ℕ) (ds : List ℕ) → AreDigits n ds → (k : ℕ) × (length ds ≡ suc k)
-some_count n ds a = (length a.more, ap length a.some)
-
 -- what is read behind `{` where digits pass
 pub record Passing (w : List ℕ) : Type 0 where
   pub behind : List ℕ
@@ -189,7 +186,7 @@ passing _ _ _ (first ds next rest p) = record {
   blocked = blocked_first (digits_behind 0 0 (ds ++ next ∷ rest)) (λ n end behind h. passed ds next rest n end behind p h);
 }
 passing _ _ _ (second {n} ds es next rest a small p) =
-    let l = some_count n ds a in
+    let l = some_length n ds a in
     let more : List ℕ = es ++ (next ∷ rest) in
     let read : counts_at (123 ∷ (ds ++ (44 ∷ more))) ≡ counts_behind_comma n (suc l.0) (digits_behind 0 0 more) =
     ap counts_in_braces (digits_read 0 0 ds (44 ∷ more) n a.number refl ∙ ap (λ c. digits n c (44 ∷ more)) (let z : 0 + length ds ≡ suc l.0 = omega (arith, l.1) in z)) in

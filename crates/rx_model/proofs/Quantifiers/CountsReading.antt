@@ -5,12 +5,12 @@ use Rattle.std.proofs.lemmas.Option.{option_and_then_some}
 use Rattle.rx_tables.specs.Characters.{is_decimal_digit}
 use Rattle.rx_units.specs.declared.code_point.CodePoint.{CodePoint}
 use Rattle.rx_units.specs.Units.{values}
+use Rattle.rx_units.proofs.Choices.{chosen}
 use Rattle.rx_model.specs.FirstPass.Marks.{starts}
 use Rattle.rx_model.specs.Reading.Fronts.{digits, digits_behind, Counts, counts, no_counts, counts_at, counts_in_braces, counts_behind_comma}
 use Rattle.rx_model.specs.Quantifiers.CountsReading.{DigitsRead, fitting, passing, digits_read_at, CountsRead, counts_read, no_counts_read, many_digits, read_behind_comma, read_behind_least, read_in_braces, counts_read_at}
 use Rattle.rx_model.specs.Quantifiers.Quantifiers.{BeginsWithBraces, decimal_digit_value, decimal_behind, AreDigits, SpellsBraces, SpellsCounts, star, plus, optional, braces, PassesDecimal, PassesLimit, first, second}
 use Rattle.rx_model.specs.Refusals.Causes.{HasBraces, IsOutOfOrder, IsTooLarge}
-use Rattle.rx_model.proofs.Characters.Decodings.{chosen}
 use Rattle.rx_model.proofs.Quantifiers.DecimalDigits.{digit_there}
 use Rattle.rx_model.proofs.Quantifiers.Quantifiers.{counts_spelled}
 

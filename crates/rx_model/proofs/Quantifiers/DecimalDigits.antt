@@ -1,11 +1,11 @@
 -- Decimal digits as they are read.
-use Rattle.std.proofs.Common.{◌≡◌, ℕ, ◌+◌, ◌-◌, ◌*◌, ◌≤◌, inl, inr, true, List, [], ◌∷◌, ◌++◌, length, Some, ap, ◌∙◌, arith}
+use Rattle.std.proofs.Common.{◌≡◌, ℕ, suc, ◌+◌, ◌-◌, ◌*◌, ◌≤◌, inl, inr, true, List, [], ◌∷◌, ◌++◌, length, Some, ap, ◌∙◌, arith}
 use Rattle.std.proofs.lemmas.Bool.{cond-true}
 use Rattle.std.proofs.lemmas.Option.{option_and_then_some}
 use Rattle.rx_tables.specs.Characters.{is_decimal_digit}
+use Rattle.rx_units.proofs.Choices.{chosen}
 use Rattle.rx_model.specs.Reading.Fronts.{digits, digits_behind}
-use Rattle.rx_model.specs.Quantifiers.Quantifiers.{decimal_digit_value, decimal_behind}
-use Rattle.rx_model.proofs.Characters.Decodings.{chosen}
+use Rattle.rx_model.specs.Quantifiers.Quantifiers.{decimal_digit_value, decimal_behind, AreDigits}
 
 -- a digit and its value
 pub digit_there : (c d : ℕ) → decimal_digit_value c ≡ Some d → (is_decimal_digit c ≡ true) × (c - 48 ≡ d)
@@ -13,6 +13,10 @@ digit_there c d h = elim (chosen (is_decimal_digit c) h) [
   | inl p ↦ (p.0, (let k : c - 48 ≡ d = cc p.1 in k))
   | inr p ↦ absurd (let k : ⊥ = cc p.1 in k)
 ]
+
+-- There is a digit.
+pub some_length : (n : ℕ) (ds : List ℕ) → AreDigits n ds → (k : ℕ) × (length ds ≡ suc k)
+some_length n ds a = (length a.more, ap length a.some)
 
 -- digits only add to a number
 pub digits_le : (m count : ℕ) (w : List ℕ) (n end : ℕ) (rest : List ℕ) → digits_behind m count w ≡ digits n end rest → m ≤ n

@@ -7,6 +7,7 @@ use Rattle.rx_base.specs.declared.span.Span.{Span}
 use Rattle.std.proofs.lemmas.List.Elements.{All-head}
 use Rattle.rx_units.specs.declared.code_point.CodePoint.{CodePoint}
 use Rattle.rx_units.specs.Units.{values}
+use Rattle.rx_units.proofs.Choices.{Some-inj}
 use Rattle.rx_model.specs.declared.mode.Mode.{Mode}
 use Rattle.rx_model.specs.Refusals.Causes.{HasBraces, IsOutOfOrder, IsTooLarge}
 use Rattle.rx_model.specs.Trees.Early.{Obeys}
@@ -20,7 +21,6 @@ use Rattle.rx_model.specs.Trees.Token.{quantifier}
 use Rattle.rx_model.proofs.Quantifiers.CountsReading.{limit_read}
 use Rattle.rx_model.proofs.Quantifiers.BlockedCounts.{blocked_limit, blocked_numbers, not_in_order, not_small}
 use Rattle.rx_model.proofs.Refusals.BlockedPlaces.{IsBlocked, next}
-use Rattle.rx_model.proofs.Characters.Decodings.{Some-inj}
 use Rattle.rx_model.proofs.Reading.Fronts.{spelled_front}
 use Rattle.rx_model.proofs.Quantifiers.Quantifiers.{spelled_counts}
 

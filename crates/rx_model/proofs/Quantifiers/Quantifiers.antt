@@ -4,16 +4,10 @@ use Rattle.std.proofs.lemmas.Bool.{eqb-true, cond-true}
 use Rattle.std.proofs.lemmas.Option.{option_and_then_some}
 use Rattle.rx_tables.specs.Characters.{is_decimal_digit}
 use Rattle.rx_units.specs.Digits.{front_is}
+use Rattle.rx_units.proofs.Choices.{chosen}
 use Rattle.rx_model.specs.Reading.Fronts.{Digits, digits, digits_behind, counts, no_counts, greatest_of, counts_behind_comma, counts_in_braces, counts_at}
 use Rattle.rx_model.specs.Quantifiers.Quantifiers.{decimal_digit_value, decimal_behind, AreDigits, SpellsBraces, exactly, at_least, between, SpellsCounts, star, plus, optional, braces, BeginsWithBraces}
-use Rattle.rx_model.proofs.Characters.Decodings.{chosen}
-
--- a digit and its value
-pub digit_there : (c d : ℕ) → decimal_digit_value c ≡ Some d → (is_decimal_digit c ≡ true) × (c - 48 ≡ d)
-digit_there c d h = elim (chosen (is_decimal_digit c) h) [
-  | inl p ↦ (p.0, (let k : c - 48 ≡ d = cc p.1 in k))
-  | inr p ↦ absurd (let k : ⊥ = cc p.1 in k)
-]
+use Rattle.rx_model.proofs.Quantifiers.DecimalDigits.{digit_there, some_length}
 
 -- digits are read to their end
 pub digits_read : (m count : ℕ) (ds rest : List ℕ) (n : ℕ) → decimal_behind m ds ≡ Some n → front_is is_decimal_digit rest ≡ false → digits_behind m count (ds ++ rest) ≡ digits n (count + length ds) rest
@@ -62,10 +56,6 @@ digits_found m count (c ∷ w) n end rest h = elim (chosen (is_decimal_digit c) 
 braces_read : (n : ℕ) (ds rest : List ℕ) → AreDigits n ds → front_is is_decimal_digit rest ≡ false → counts_at (123 ∷ (ds ++ rest)) ≡ counts_in_braces (digits n (length ds) rest)
 unfolding counts_at
 braces_read n ds rest a k = ap counts_in_braces (digits_read 0 0 ds rest n a.number k ∙ ap (λ c. digits n c rest) (omega arith))
-
--- There is a digit.
-some_length : (n : ℕ) (ds : List ℕ) → AreDigits n ds → (k : ℕ) × (length ds ≡ suc k)
-some_length n ds a = (length a.more, ap length a.some)
 
 spelled_braces : (min : ℕ) (max : Option ℕ) (w rest : List ℕ) → SpellsBraces min max w → counts_at (w ++ rest) ≡ counts min max (length w)
 spelled_braces _ _ _ rest (exactly {n} ds a) =

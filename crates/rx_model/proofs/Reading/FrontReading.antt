@@ -8,6 +8,7 @@ use Rattle.rx_ast.specs.declared.leaf.CharacterClassEscapeKind.{CharacterClassEs
 use Rattle.rx_units.specs.declared.code_point.CodePoint.{CodePoint}
 use Rattle.rx_units.specs.Units.{values}
 use Rattle.rx_units.specs.Digits.{front_is}
+use Rattle.rx_units.proofs.Choices.{chosen}
 use Rattle.rx_model.specs.Characters.UnicodeEscapes.{PassesHex}
 use Rattle.rx_model.specs.FirstPass.Marks.{starts}
 use Rattle.rx_model.specs.Groups.GroupFronts.{angle_group, group_front, modified_group, name_front, named_group, question_group, reference_front, sides_at}
@@ -28,7 +29,6 @@ use Rattle.rx_model.specs.Refusals.Stops.{IsStop, begins_escape, at_end, at_brac
 use Rattle.rx_model.specs.Trees.Early.{Obeys, greatest_count}
 use Rattle.rx_model.specs.Trees.Token.{Token, Opener, property, class, indexed, named, opener, quantifier, capturing}
 use Rattle.rx_model.proofs.Characters.Choices.{choose_both}
-use Rattle.rx_model.proofs.Characters.Decodings.{chosen}
 use Rattle.rx_model.proofs.Characters.Escapes.{NoUnicode, escape_no_unicode, escape_nothing, escape_too_many}
 use Rattle.rx_model.proofs.Characters.LegacyEscapes.{any_in_unicode, any_small}
 use Rattle.rx_model.proofs.Groups.GroupNames.{differs}

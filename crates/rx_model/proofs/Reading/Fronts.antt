@@ -4,6 +4,7 @@ use Rattle.std.proofs.Math.Seq.{drop-append_seam}
 use Rattle.std.proofs.lemmas.Bool.{eqb-true, cond-true, cond-false, cases_Bool, and_left, and_from, false_from_ne_true, not-true, true≢false}
 use Rattle.std.proofs.lemmas.Bool.Decides.{nat_tests}
 use Rattle.std.proofs.lemmas.List.{append-nil, length-map, map-append}
+use Rattle.std.proofs.Math.Bool.{and-false}
 use Rattle.rx_tables.specs.Characters.{is_syntax_character, is_within}
 use Rattle.rx_ast.specs.declared.leaf.BoundaryAssertionKind.{BoundaryAssertionKind}
 use Rattle.rx_ast.specs.declared.leaf.BoundaryAssertionKind.TheVariants as boundaries
@@ -14,6 +15,7 @@ use Rattle.rx_ast.specs.ClassTree.{Class}
 use Rattle.rx_units.specs.declared.code_point.CodePoint.{CodePoint}
 use Rattle.rx_units.specs.Units.{values}
 use Rattle.rx_units.specs.Digits.{front_is}
+use Rattle.rx_units.proofs.Choices.{chosen, Some-inj, both}
 use Rattle.rx_model.specs.declared.mode.Mode.{Mode}
 use Rattle.rx_model.specs.declared.mode.Mode.TheVariants.{Legacy, Unicode, Sets}
 use Rattle.rx_model.specs.Reading.Boundaries.{boundary_text}
@@ -31,14 +33,13 @@ use Rattle.rx_model.specs.Characters.UnitKinds.{unit_kind}
 use Rattle.rx_model.specs.Reading.Rows.{is_legacy_syntax, stands_raw, IsRaw, IsEscaped, IsLegacyEscaped, IsBoundary, Spells}
 use Rattle.rx_model.specs.Trees.Token.{Token, Opener, boundary, character, dot, class_escape, property, class, indexed, named, opener, closer, bar, quantifier}
 use Rattle.rx_model.specs.Properties.PropertyForms.{begins_property}
-use Rattle.rx_model.proofs.Characters.Backslashes.{no_right, escape_token, legacy_token, boundary_found, class_found, buffer_token, class_token, indexed_front, indexed_spelled, property_front_token}
+use Rattle.rx_model.proofs.Characters.Backslashes.{escape_token, legacy_token, boundary_found, class_found, buffer_token, class_token, indexed_front, indexed_spelled, property_front_token}
 use Rattle.rx_model.proofs.Classes.ClassReads.{class_opens, class_read, class_spelled, class_takes_some}
-use Rattle.rx_model.proofs.Characters.Decodings.{chosen, Some-inj, both}
 use Rattle.rx_model.proofs.Characters.LegacyEscapes.{AnyFront, any_spelled}
 use Rattle.rx_model.proofs.Groups.GroupFronts.{opener_read, opener_spelled, named_read, named_spelled}
 use Rattle.rx_model.proofs.Properties.PropertyFronts.{property_row, property_text}
 use Rattle.rx_model.proofs.Quantifiers.Quantifiers.{spelled_counts, counts_spelled, no_braces}
-use Rattle.rx_model.proofs.Reading.Splits.{split_values, TextFront}
+use Rattle.rx_model.proofs.Reading.Splits.{split_values, TextFront, one_value}
 
 pub legacy_syntax : (c : ℕ) → is_legacy_syntax c ≡ true → is_syntax_character c ≡ true
 legacy_syntax c h = grind (arith, nat_tests)
@@ -184,7 +185,7 @@ module _ (e : Environment) where
   brace_not_raw : (w : List ℕ) → are_counts (counts_at (123 ∷ w)) ≡ true → is_raw_at e 123 w ≡ false
   brace_not_raw w h = elim (cases_Bool (is_unicode e.mode)) [
     | inl m ↦ not_raw_at e 123 w (unicode_not_raw e.mode 123 m refl)
-    | inr m ↦ rw (m, h) (no_right (stands_raw e.mode 123))
+    | inr m ↦ rw (m, h) (and-false (stands_raw e.mode 123))
   ]
 
   braces_beginning : (min : ℕ) (max : Option ℕ) (prefix : List ℕ) → SpellsBraces min max prefix → Beginning prefix
@@ -314,10 +315,6 @@ module _ (e : Environment) where
   front_of : {p : Token × ℕ} (t : Token) (n : ℕ) (us w rest : List CodePoint) → us ≡ w ++ rest → length w ≡ n → Spells e t w rest → Some (t, n) ≡ Some p → FrontOf us p
   front_of t n us w rest h l s k = subst (FrontOf us) (Some-inj k) (record { w = w; rest = rest; whole = h; count = l; spells = s })
 
-  -- one unit of this value
-  one_unit : (u : CodePoint) (c : ℕ) → (u.value == c) ≡ true → values (u ∷ []) ≡ c ∷ []
-  one_unit u c h = ap (λ v. v ∷ []) (eqb-true u.value c h)
-
   quantifier_at : (us : List CodePoint) (p : Token × ℕ) (c : Counts) → counts_at (values us) ≡ c → quantifier_token c (values us) ≡ Some p → FrontOf us p
   quantifier_at us p no_counts h k = absurd (let f : ⊥ = cc k in f)
   quantifier_at us p (counts min max n) h k =
@@ -350,17 +347,17 @@ module _ (e : Environment) where
 
   syntax_found : (u : CodePoint) (us : List CodePoint) (p : Token × ℕ) → syntax_front e u.value (values us) ≡ Some p → FrontOf (u ∷ us) p
   syntax_found u us p h = elim (chosen (u.value == 46) h) [
-    | inl q ↦ front_of dot 1 (u ∷ us) (u ∷ []) us refl refl (one_unit u 46 q.0) q.1
+    | inl q ↦ front_of dot 1 (u ∷ us) (u ∷ []) us refl refl (one_value u 46 q.0) q.1
     | inr q ↦ elim (chosen (u.value == 40) q.1) [
       | inl q ↦ opener_at u us p (eqb-true u.value 40 q.0) (group_front (is_unicode e.mode) (values us)) refl q.1
       | inr q ↦ elim (chosen (u.value == 41) q.1) [
-        | inl q ↦ front_of closer 1 (u ∷ us) (u ∷ []) us refl refl (one_unit u 41 q.0) q.1
+        | inl q ↦ front_of closer 1 (u ∷ us) (u ∷ []) us refl refl (one_value u 41 q.0) q.1
         | inr q ↦ elim (chosen (u.value == 124) q.1) [
-          | inl q ↦ front_of bar 1 (u ∷ us) (u ∷ []) us refl refl (one_unit u 124 q.0) q.1
+          | inl q ↦ front_of bar 1 (u ∷ us) (u ∷ []) us refl refl (one_value u 124 q.0) q.1
           | inr q ↦ elim (chosen (u.value == 94) q.1) [
-            | inl q ↦ front_of (boundary boundaries.Start) 1 (u ∷ us) (u ∷ []) us refl refl (record { text = one_unit u 94 q.0; there = refl }) q.1
+            | inl q ↦ front_of (boundary boundaries.Start) 1 (u ∷ us) (u ∷ []) us refl refl (record { text = one_value u 94 q.0; there = refl }) q.1
             | inr q ↦ elim (chosen (u.value == 36) q.1) [
-              | inl q ↦ front_of (boundary boundaries.End) 1 (u ∷ us) (u ∷ []) us refl refl (record { text = one_unit u 36 q.0; there = refl }) q.1
+              | inl q ↦ front_of (boundary boundaries.End) 1 (u ∷ us) (u ∷ []) us refl refl (record { text = one_value u 36 q.0; there = refl }) q.1
               | inr q ↦ quantifier_at (u ∷ us) p (counts_at (values (u ∷ us))) refl q.1
             ]
           ]

@@ -9,6 +9,7 @@ use Rattle.rx_units.specs.declared.code_point.CodePoint.{CodePoint}
 use Rattle.rx_units.specs.Units.{values}
 use Rattle.rx_model.specs.Reading.Boundaries.{has_buffers, has_boundary}
 use Rattle.rx_ast.specs.ClassTree.{Class}
+use Rattle.rx_units.proofs.Choices.{Some-inj}
 use Rattle.rx_model.specs.Classes.ClassRows as in_class
 use Rattle.rx_model.specs.Classes.ClassRows.{stands_raw_in_class, SpellsInClassAlone, SpellsClassCharacter, SpellsAtom, BeforeHigh, BeforeThird, BeginsNoRange, StandsBefore, Place, outside, fresh, at_dash, at_high, at_second, at_third, behind_meet, behind_less, in_strings, has_hyphen, has_threes, SpellsOperand, SpellsOfStrings, SpellsInClass, ClassTokenRow, IsClass}
 use Rattle.rx_model.specs.Classes.ClassTokens as tokens
@@ -25,7 +26,6 @@ use Rattle.rx_model.specs.Reading.Rows.{IsRaw, IsEscaped, IsLegacyEscaped, Spell
 use Rattle.rx_model.specs.Reading.Sequences.{ElementRow}
 use Rattle.rx_model.specs.Trees.Token.{Token, Opener, capturing, ignoring, looking, boundary, character, dot, class_escape, property, class, indexed, named, opener, closer, bar, quantifier}
 use Rattle.rx_model.specs.Characters.UnicodeEscapes.{SpellsUnicode}
-use Rattle.rx_model.proofs.Characters.Decodings.{Some-inj}
 use Rattle.rx_model.proofs.Reading.Fronts.{spelled_front}
 use Rattle.rx_model.proofs.Reading.Sequences.{longest, one}
 

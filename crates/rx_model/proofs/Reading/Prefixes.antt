@@ -2,6 +2,7 @@
 use Rattle.std.proofs.Common.{◌≡◌, ◌⊎◌, ap, ap₂, sym, ◌∙◌, List, ◌++◌, length, drop, inl, inr}
 use Rattle.std.proofs.Math.Seq.{drop-append_seam}
 use Rattle.rx_units.specs.declared.code_point.CodePoint.{CodePoint}
+use Rattle.rx_units.proofs.Choices.{Some-inj}
 use Rattle.rx_model.specs.Classes.ClassFronts.{class_token_at}
 use Rattle.rx_model.specs.Classes.ClassRows.{Place, behind, SpellsInClass, ClassTokenRow}
 use Rattle.rx_model.specs.Classes.ClassTokens.{ClassToken}
@@ -10,7 +11,6 @@ use Rattle.rx_model.specs.Reading.Prefixes.{GoesOn, GoesOnInClass}
 use Rattle.rx_model.specs.Reading.Rows.{TokenRow}
 use Rattle.rx_model.specs.Trees.Token.{Token}
 use Rattle.rx_model.proofs.Classes.ClassFronts.{class_token_is}
-use Rattle.rx_model.proofs.Characters.Decodings.{Some-inj}
 use Rattle.rx_model.proofs.Reading.OneRow.{token_at, behind_token, first_token, elements, of_elements}
 use Rattle.rx_model.proofs.Reading.Sequences as sequences
 

@@ -6,6 +6,7 @@ use Rattle.rx_ast.specs.ClassTree.{Class}
 use Rattle.rx_ast.specs.Forget.{bare}
 use Rattle.rx_units.specs.declared.code_point.CodePoint.{CodePoint}
 use Rattle.rx_units.specs.Units.{values}
+use Rattle.rx_units.proofs.Choices.{Some-inj}
 use Rattle.rx_model.specs.declared.mode.Mode.{Mode}
 use Rattle.rx_model.specs.Classes.ClassFronts.{class_front}
 use Rattle.rx_model.specs.FirstPass.Marks.{count, marks, seen}
@@ -17,7 +18,6 @@ use Rattle.rx_model.specs.Refusals.Reached.{text_environment, text_groups, text_
 use Rattle.rx_model.specs.Trees.Events.{tokens}
 use Rattle.rx_model.specs.Trees.Token.{Token, character}
 use Rattle.rx_model.specs.Characters.UnitKinds.{unit_kind}
-use Rattle.rx_model.proofs.Characters.Decodings.{Some-inj}
 use Rattle.rx_model.proofs.Classes.BareClassFronts.{bare_class_read, class_same, drop_values}
 use Rattle.rx_model.proofs.FirstPass.OwnGroups.{own_environment}
 use Rattle.rx_model.proofs.Reading.Fronts.{spelled_front}

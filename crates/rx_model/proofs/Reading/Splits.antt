@@ -1,5 +1,5 @@
 -- What a text begins with, and units whose values are two lists, one after the other.
-use Rattle.std.proofs.Common.{◌≡◌, refl, ap, ◌∙◌, ℕ, true, List, [], ◌∷◌, ◌++◌, length}
+use Rattle.std.proofs.Common.{◌≡◌, refl, ap, ◌∙◌, ℕ, ◌<◌, ◌==◌, true, arith, List, [], ◌∷◌, ◌++◌, length}
 use Rattle.std.proofs.lemmas.Bool.{eqb-true}
 use Rattle.rx_units.specs.declared.code_point.CodePoint.{CodePoint}
 use Rattle.rx_units.specs.Units.{values}
@@ -43,3 +43,12 @@ pub record TextFront (S : List CodePoint → List CodePoint → Type 0) (n : ℕ
 pub starts_there : (c : ℕ) (w : List ℕ) → starts c w ≡ true → (rest : List ℕ) × (w ≡ c ∷ rest)
 starts_there c [] h = absurd (let no : ⊥ = cc h in no)
 starts_there c (x ∷ w) h = (w, ap (λ x. x ∷ w) (eqb-true x c h))
+
+-- one unit of this value
+pub one_value : (u : CodePoint) (c : ℕ) → (u.value == c) ≡ true → values (u ∷ []) ≡ c ∷ []
+one_value u c h = ap (λ v. v ∷ []) (eqb-true u.value c h)
+
+-- what units start with, others behind them
+pub starts_front : (c : ℕ) (w rest : List CodePoint) → 0 < length w → starts c (values (w ++ rest)) ≡ starts c (values w)
+starts_front c [] rest some = absurd (omega (arith, some))
+starts_front c (u ∷ w) rest some = refl

@@ -45,6 +45,9 @@ blocked_beyond mode us f rest a d g back b l =
     let h = ahead mode us a.reached b.reached l in
     none_goes_on mode us rest back d h.t h.more h.row h.obey
 
+pub no_angle : (behind : List ℕ) (count : ℕ) → starts 62 (92 ∷ behind) ≡ true → count ≡ 0
+no_angle behind count h = absurd (let no : ⊥ = cc h in no)
+
 module _ (mode : Mode) where
   -- Nothing closes outside groups, and nothing repeats where nothing may be repeated.
   no_closer : (t : Token) (ts : List Token) (ready : Bool) (after : List Opener × Bool) → t ≡ closer → run mode (t ∷ ts) [] ready ≡ Some after → ⊥
@@ -161,9 +164,6 @@ module _ (mode : Mode) (us : List CodePoint) where
   name_ends f count rest behind p n h =
       let b = name_first (values rest) n.behind n.begins in
       blocked_ends f rest b.0 b.1 b.2 p (blocked_name mode us rest (values rest) n.behind count refl n.begins n.longest (λ t. h (ap (starts 62) n.rest_is ∙ t)))
-
-  no_angle : (behind : List ℕ) (count : ℕ) → starts 62 (92 ∷ behind) ≡ true → count ≡ 0
-  no_angle behind count h = absurd (let no : ⊥ = cc h in no)
 
   escape_ends : (f : ℕ) (rest : List CodePoint) (first added : ℕ) (d : Diagnostic) → IsPlace mode us f rest → IsEscapeCause mode us first added f rest d → Ends mode us f
   escape_ends f rest first added _ p (escape.too_many_hex_digits count behind m h limit) = blocked_ends f rest 92 behind h p (blocked_hex mode us m rest behind count h limit)

@@ -7,6 +7,7 @@ use Rattle.std.proofs.lemmas.Bool.{and_from, true≢false, cond-false, eqb-true,
 use Rattle.rx_units.specs.declared.code_point.CodePoint.{CodePoint}
 use Rattle.rx_units.specs.Units.{values}
 use Rattle.rx_units.specs.Digits.{front_is}
+use Rattle.rx_units.proofs.Choices.{both}
 use Rattle.rx_model.specs.declared.mode.Mode.{Mode}
 use Rattle.rx_model.specs.Refusals.Causes.{LeadNowhere}
 use Rattle.rx_model.specs.Characters.Decoding.{Decoded, value, invalid, overflow, decoded}
@@ -22,13 +23,13 @@ use Rattle.rx_model.specs.Groups.Modifiers.{AreSides, one_side, two_sides, Spell
 use Rattle.rx_model.specs.Refusals.Reached.{text_environment, text_groups}
 use Rattle.rx_model.specs.Trees.Token.{indexed, opener, ignoring}
 use Rattle.rx_model.specs.Characters.UnicodeEscapes.{Decodes, PassesHex}
-use Rattle.rx_model.proofs.Characters.Decodings.{both, value_law}
-use Rattle.rx_model.proofs.Characters.Escapes.{too_many_escape}
+use Rattle.rx_model.proofs.Characters.Decodings.{value_law}
+use Rattle.rx_model.proofs.Characters.Escapes.{too_many_escape, escape_u}
 use Rattle.rx_model.proofs.Reading.Fronts.{front_by_values}
 use Rattle.rx_model.proofs.Groups.GroupFronts.{angle_named, question_modified}
 use Rattle.rx_model.proofs.Groups.GroupNames.{character_some, differs, name_read, no_name_law}
 use Rattle.rx_model.proofs.Groups.ModifierBits.{and_three, three_zero}
-use Rattle.rx_model.proofs.Groups.Modifiers.{letters_read, modified_read, modifiers_begin, not_mark, sides_read}
+use Rattle.rx_model.proofs.Groups.Modifiers.{letters_read, modified_read, modifiers_begin, not_mark, sides_read, sides_letters}
 use Rattle.rx_model.proofs.Refusals.BlockedPlaces.{IsBlocked, blocked_none, blocked_token}
 
 -- no whole name stands where none begins
@@ -133,10 +134,6 @@ letter_shared w v s e = elim (or_cases (s.letter == 105 || s.letter == 109) (s.l
         let same = eqb-true s.letter c q in
         true≢false (sym (and_from (occurs c w) (occurs c v) (ap (λ c. occurs c w) (sym same) ∙ s.here) (ap (λ c. occurs c v) (sym same) ∙ s.there)) ∙ none)
 
-sides_letters : (w v text : List ℕ) → AreSides w v text → list_all is_modifier w ≡ true
-sides_letters w _ _ (one_side h) = h
-sides_letters _ _ _ (two_sides w v h k) = h
-
 -- with `u` or `v` nothing is added to the escapes
 or_unicode : (r legacy : EscapeRead) → or_legacy r true legacy ≡ r
 or_unicode (escaped k v n) legacy = refl
@@ -170,10 +167,6 @@ module _ (mode : Mode) (us : List CodePoint) where
   no_unicode_token w no_value no_limit (value v n) h = absurd (no_value v n ((value_law true w v n).0 h))
   no_unicode_token w no_value no_limit invalid h = refl
   no_unicode_token w no_value no_limit (overflow n) h = refl
-
-  escape_u : (v : List ℕ) → escape_at true (117 ∷ v) ≡ unicode_read (decoded true (117 ∷ v))
-  unfolding escape_at
-  escape_u v = refl
 
   pub blocked_escape : is_unicode mode ≡ true → (rest : List CodePoint) (behind : List ℕ) → values rest ≡ 92 ∷ 117 ∷ behind → ((v n : ℕ) → Decodes true (117 ∷ behind) v n → ⊥) → ((count : ℕ) → PassesHex (117 ∷ behind) count → ⊥)
       → IsBlocked mode us rest
@@ -225,4 +218,4 @@ module _ (mode : Mode) (us : List CodePoint) where
       let spelled : SpellsModifiers (letters_bits w) (letters_bits v) text = record { enabled = w; disabled = v; sides = s; some = some; once = once; enabling_is = refl; disabling_is = refl } in
       blocked_token mode us rest (opener (ignoring (Some (letters_bits w, letters_bits v)))) (length text + 3)
       (front_question rest (text ++ (58 ∷ behind)) e ∙ ap opener_token (question_sides (is_unicode mode) w v text (58 ∷ behind) s some ∙ modified_read (letters_bits w) (letters_bits v) text behind spelled))
-      (λ o. letter_shared w v (shared w v (sides_letters w v text s) h) o.0)
+      (λ o. letter_shared w v (shared w v (sides_letters w v text s).0 h) o.0)

@@ -4,6 +4,7 @@ use Rattle.std.specs.Prelude.{All}
 use Rattle.std.proofs.lemmas.List.Elements.{All-head, All-tail}
 use Rattle.rx_ast.specs.declared.term.Pattern.{Pattern}
 use Rattle.rx_units.specs.declared.code_point.CodePoint.{CodePoint}
+use Rattle.rx_units.proofs.Choices.{Some-inj}
 use Rattle.rx_model.specs.declared.mode.Mode.{Mode}
 use Rattle.rx_model.specs.Trees.Early.{Obeys}
 use Rattle.rx_model.specs.Trees.Events.{tokens}
@@ -23,12 +24,9 @@ IsBlocked mode us rest = (t : Token) (n : ℕ) → front (text_environment mode 
 abbrev pub next : Token → ℕ → Option (Token × ℕ)
 next t n = Some (t, n)
 
-one_of : {A : Type 0} {x y : A} → Some x ≡ Some y → x ≡ y
-one_of h = cc
-
 -- one token stands next
 pub same_token : (s t : Token) (n k : ℕ) → next s n ≡ next t k → s ≡ t
-same_token s t n k h = ap (λ x. x.0) (one_of h)
+same_token s t n k h = ap (λ x. x.0) (Some-inj h)
 
 pub blocked_none : (mode : Mode) (us rest : List CodePoint) → front (text_environment mode us) rest ≡ None → IsBlocked mode us rest
 blocked_none mode us rest e t n f o = let no : ⊥ = cc (e, f) in no

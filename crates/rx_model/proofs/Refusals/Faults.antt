@@ -14,6 +14,7 @@ use Rattle.rx_tables.specs.Characters.{is_decimal_digit, is_within}
 use Rattle.rx_units.specs.declared.code_point.CodePoint.{CodePoint}
 use Rattle.rx_units.specs.Units.{values}
 use Rattle.rx_units.specs.Digits.{front_is}
+use Rattle.rx_units.proofs.Digits.{nonzero_digit}
 use Rattle.rx_model.specs.declared.mode.Mode.{Mode}
 use Rattle.rx_model.specs.Refusals.Causes.{BeginsWithPair, LeadNowhere}
 use Rattle.rx_model.specs.Characters.Decoding.{Decoded, value, invalid, overflow, decoded}
@@ -67,9 +68,6 @@ digit_cases c h = (grind (arith, nat_tests), grind (arith, nat_tests), grind (ar
 
 escape_cases : (c : ℕ) → is_one_of (codes "upPkbBdDsSwWfnrtv") c ≡ false → ((c == 117) ≡ false) × ((c == 107) ≡ false) × (begins_property c ≡ false)
 escape_cases c h = (grind (arith, nat_tests), grind (arith, nat_tests), grind (arith, nat_tests))
-
-not_zero : (c : ℕ) → is_decimal_digit c ≡ true → (c == 48) ≡ false → is_within 49 57 c ≡ true
-not_zero c h k = grind (arith, nat_tests)
 
 first_digit : (c : ℕ) (ds : List ℕ) (n : ℕ) → decimal_behind 0 (c ∷ ds) ≡ Some n → is_decimal_digit c ≡ true
 first_digit c ds n h = option_and_then_some (λ d. decimal_behind (10 * 0 + d) ds) (decimal_digit_value c) n h (λ d e f. (digit_there c d e).0)
@@ -199,7 +197,7 @@ module _ (mode : Mode) (us : List CodePoint) (start added : ℕ) where
   index_is f n w more s =
       let d = s.number in
       let text : values (w ++ more) ≡ 92 ∷ d.first ∷ (d.more ++ values more) = map-append (λ (u : CodePoint). u.value) w more ∙ ap (λ v. v ++ values more) (s.whole ∙ ap (λ ds. 92 ∷ ds) d.some) in
-      let is = not_zero d.first (first_digit d.first d.more n (ap (decimal_behind 0) (sym d.some) ∙ d.number)) (ap (starts 48) (sym d.some) ∙ s.not_zero) in
+      let is = nonzero_digit d.first (first_digit d.first d.more n (ap (decimal_behind 0) (sym d.some) ∙ d.number)) (ap (starts 48) (sym d.some) ∙ s.not_zero) in
       let c = digit_cases d.first is in
       ap (answer_by f (front here (w ++ more))) text ∙ rw (c.0, c.1, c.2, is) (ap (λ t. told (index_fault f t)) (spelled_front here (indexed n) w more s))
 

@@ -19,7 +19,7 @@ use Rattle.rx_model.proofs.Trees.OpenGroups.{accepted_whole}
 use Rattle.rx_model.proofs.Trees.Runs.{run-append}
 
 -- what holds of all holds of the first
-first_all : {A : Type 0} (P : A → Type 0) (xs ys : List A) → All P (xs ++ ys) → All P xs
+pub first_all : {A : Type 0} (P : A → Type 0) (xs ys : List A) → All P (xs ++ ys) → All P xs
 first_all P [] ys h = All-nil P
 first_all P (x ∷ xs) ys h = All-cons P x xs (All-head P x (xs ++ ys) h) (first_all P xs ys (All-tail P x (xs ++ ys) h))
 

@@ -2,7 +2,7 @@
 -- which no mode changes.
 use Rattle.std.proofs.Common.{◌≡◌, ◌⊎◌, refl, ap, ap₂, sym, ◌∙◌, subst, ℕ, suc, ◌+◌, ◌-◌, ◌*◌, ◌<◌, ◌≤◌, ◌==◌, ◌&&◌, ◌||◌, Bool, true, false, not, nat_le, cond, Option, Some, None, List, [], ◌∷◌, ◌++◌, length, drop, codes, arith, inl, inr, length-append, append_assoc}
 use Rattle.std.specs.Prelude.{Contains}
-use Rattle.std.proofs.lemmas.Bool.{both_ways, cases_Bool, cond-false, cond-true, eqb-true, leb-true, or_cases}
+use Rattle.std.proofs.lemmas.Bool.{both_ways, cases_Bool, cond-false, cond-true, eqb-true, leb-true, or_cases, not-false}
 use Rattle.std.proofs.lemmas.Bool.Decides.{nat_tests}
 use Rattle.std.proofs.lemmas.List.{map-append}
 use Rattle.std.proofs.lemmas.List.Elements.{All-append, All-cons, All-nil}
@@ -12,6 +12,7 @@ use Rattle.rx_base.specs.declared.diagnostic.Diagnostic.{Diagnostic}
 use Rattle.rx_units.specs.declared.code_point.CodePoint.{CodePoint}
 use Rattle.rx_units.specs.Units.{values}
 use Rattle.rx_units.specs.Digits.{front_is}
+use Rattle.rx_units.proofs.Choices.{both, chosen}
 use Rattle.rx_model.specs.declared.mode.Mode.TheVariants.{Legacy}
 use Rattle.rx_model.specs.Characters.Decoding.{Decoded, value, invalid, overflow, decoded}
 use Rattle.rx_model.specs.Characters.UnitKinds.{unit_kind}
@@ -27,7 +28,7 @@ use Rattle.rx_model.specs.Quantifiers.Quantifiers.{AreDigits, SpellsBraces, Spel
 use Rattle.rx_model.specs.Reading.Fronts.{Counts, backslash_front, counts, counts_at, front, named_token, no_counts, opener_token, quantifier_token, syntax_front}
 use Rattle.rx_model.specs.Reading.Rows.{Spells, is_legacy_syntax}
 use Rattle.rx_model.specs.Refusals.Causes as cause
-use Rattle.rx_model.specs.Refusals.Causes.{BeginsWithPair, HasBraces, begins_modifiers, IsCauseAtPlace, IsOutOfOrder, IsTooLarge}
+use Rattle.rx_model.specs.Refusals.Causes.{HasBraces, begins_modifiers, IsCauseAtPlace, IsOutOfOrder, IsTooLarge}
 use Rattle.rx_model.specs.Refusals.Reached.{IsPlace, IsReached, text_environment, text_groups, text_names}
 use Rattle.rx_model.specs.Refusals.Stops as stop
 use Rattle.rx_model.specs.Refusals.Stops.{is_one_of}
@@ -35,7 +36,7 @@ use Rattle.rx_model.specs.Spelling.ReadBack.{AreCodeUnits}
 use Rattle.rx_model.specs.Trees.Early.{IsGreatest, Obeys, greatest_count}
 use Rattle.rx_model.specs.Trees.Shapes.{run}
 use Rattle.rx_model.specs.Trees.Token.{Token, Opener, boundary, character, dot, class_escape, property, class, indexed, named, opener, closer, bar, quantifier, capturing, ignoring, looking}
-use Rattle.rx_model.proofs.Characters.Decodings.{both, chosen, overflow_read, read_overflow, value_law}
+use Rattle.rx_model.proofs.Characters.Decodings.{overflow_read, read_overflow, value_law}
 use Rattle.rx_model.proofs.Classes.ClassReads.{class_opens}
 use Rattle.rx_model.proofs.Classes.LegacyClasses.{class_or_refusal}
 use Rattle.rx_model.proofs.Groups.GroupNames.{name_row_law, no_name_read}
@@ -350,11 +351,7 @@ module _ (us : List CodePoint) (start added : ℕ) where
     where
       behind : (w : List ℕ) → values rest ≡ 40 ∷ 63 ∷ w → begins_modifiers (40 ∷ 63 ∷ w) ≡ false → opener_token (question_group false w) ≡ None → Refused
       behind [] text other h = absurd (let no : ⊥ = cc other in no)
-      behind (d ∷ v) text other h = question_there place rest p d v text (no_no (is_mark d) other) h
-        where
-          no_no : (b : Bool) → not b ≡ false → b ≡ true
-          no_no true h = refl
-          no_no false h = absurd (let no : ⊥ = cc h in no)
+      behind (d ∷ v) text other h = question_there place rest p d v text (not-false (is_mark d) other) h
 
   -- Behind a backslash a token stands, or a reference by name is refused, or the text ends.
   reference_none : (o : Option (List ℕ × ℕ)) → named_token o ≡ None → o ≡ None

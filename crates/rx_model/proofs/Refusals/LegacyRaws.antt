@@ -1,6 +1,7 @@
 -- With neither `u` nor `v` each unit that ExtendedPatternCharacter does not leave out stands for itself, where no braces begin a quantifier.
-use Rattle.std.proofs.Common.{◌≡◌, refl, ap, ℕ, ◌||◌, Bool, true, false, not, List, [], ◌∷◌, codes, arith, inl}
+use Rattle.std.proofs.Common.{◌≡◌, refl, ap, ℕ, ◌||◌, true, false, not, List, [], ◌∷◌, codes, arith, inl}
 use Rattle.std.proofs.lemmas.Bool.Decides.{nat_tests}
+use Rattle.std.proofs.Math.Bool.{or-false}
 use Rattle.rx_units.specs.declared.code_point.CodePoint.{CodePoint}
 use Rattle.rx_units.specs.Units.{values}
 use Rattle.rx_model.specs.declared.mode.Mode.{Mode}
@@ -33,8 +34,4 @@ pub control_in_class : (c : ℕ) → is_control true c ≡ (is_letter c || is_on
 control_in_class c = ap (λ b. is_letter c || b) (class_control_is c)
 
 pub control_outside : (c : ℕ) → is_control false c ≡ is_letter c
-control_outside c = or_none (is_letter c)
-  where
-    or_none : (b : Bool) → (b || false) ≡ b
-    or_none true = refl
-    or_none false = refl
+control_outside c = or-false (is_letter c)

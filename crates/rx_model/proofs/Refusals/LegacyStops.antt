@@ -1,13 +1,15 @@
 -- With neither `u` nor `v` an escape begins at each backslash, but at one that ends the text, and before a `k` where `\k` is a reference.
 use Rattle.std.proofs.Common.{◌≡◌, ℕ, ◌==◌, Bool, true, false, cond, not, is_some, ◌||◌, ◌&&◌, List, [], ◌∷◌, Option, option_map, Some, None, codes, refl, ap, ◌∙◌, subst, arith, inl, inr}
-use Rattle.std.proofs.lemmas.Bool.{eqb-true, cond-true, cond-false, cases_Bool, not-true, or_parts}
+use Rattle.std.proofs.lemmas.Bool.{eqb-true, cond-true, cond-false, cases_Bool, not-true, or_parts, not-false}
 use Rattle.std.proofs.lemmas.Bool.Decides.{nat_tests}
+use Rattle.std.proofs.Math.Bool.{and-false}
 use Rattle.rx_tables.specs.Characters.{control_escape_value, control_letter_value, is_decimal_digit, is_octal_digit, is_reserved_punctuator, is_within}
 use Rattle.rx_ast.specs.declared.leaf.BoundaryAssertionKind.{BoundaryAssertionKind}
 use Rattle.rx_ast.specs.declared.leaf.CharacterClassEscapeKind.{CharacterClassEscapeKind}
 use Rattle.rx_ast.specs.declared.leaf.CharacterKind.{CharacterKind}
 use Rattle.rx_units.specs.Digits.{front_is, hex_number}
 use Rattle.rx_ast.specs.declared.leaf.CharacterKind.TheVariants as kinds
+use Rattle.rx_units.proofs.Choices.{both, chosen, low_next}
 use Rattle.rx_model.specs.Classes.ClassFronts.{AtomRead, atom_read, no_atom, character_atom, escape_atom, escape_in_class}
 use Rattle.rx_model.specs.Classes.ClassTokens.{Atom}
 use Rattle.rx_model.specs.Characters.Decoding.{four_at, behind_u}
@@ -18,18 +20,14 @@ use Rattle.rx_model.specs.Characters.LegacyEscapes.{is_free, two_next, four_next
 use Rattle.rx_model.specs.Properties.PropertyForms.{begins_property}
 use Rattle.rx_model.specs.Refusals.Stops.{is_one_of, is_hyphen_escaped, begins_class_escape}
 use Rattle.rx_model.specs.Trees.Token.{Token}
-use Rattle.rx_model.proofs.Characters.Backslashes.{no_right}
-use Rattle.rx_model.proofs.Characters.Decodings.{chosen, both}
 use Rattle.rx_model.proofs.Characters.Escapes.{escape_no_limit}
 use Rattle.rx_model.proofs.Classes.ClassFronts.{no_legacy_hyphen, no_legacy_punctuator}
+use Rattle.rx_model.proofs.Refusals.Stops.{some_there}
+use Rattle.rx_model.proofs.Characters.LegacyEscapes.{swapped}
 
 -- some escape is read
 abbrev IsRead : EscapeRead → Type 0
 IsRead r = (k : CharacterKind) × (v : ℕ) × (n : ℕ) × (r ≡ escaped k v n)
-
-some_there : (o : Option ℕ) → is_some o ≡ true → (v : ℕ) × (o ≡ Some v)
-some_there None h = absurd (let no : ⊥ = cc h in no)
-some_there (Some v) h = (v, refl)
 
 -- none of the escapes of every mode is read
 abbrev NotEscaped : List ℕ → Type 0
@@ -128,9 +126,6 @@ module _ (inside : Bool) (e : Environment) where
     ]
   ]
     where
-      swapped : (a b : Bool) → (a && b) ≡ false → (b && a) ≡ false
-      swapped a b h = grind arith
-
       others_none : (c : ℕ) → is_one_of (codes "dDsSwWfnrtvb") c ≡ false → (c == 107 && e.named) ≡ false → (not inside && c == 66) ≡ false →
           (is_one_of (codes "dDsSwWfnrtvb") c || ((e.named && c == 107) || (not inside && c == 66))) ≡ false
       others_none c h k b = rw (h, b, swapped (c == 107) e.named k) refl
@@ -183,7 +178,7 @@ module _ (e : Environment) (m : is_unicode e.mode ≡ false) where
         let t = kinds_token c w k h (boundary_at e c) refl (class_escape_at c) refl in (
           t.0,
           cond-false (is_reference e (c ∷ w)) _ _ h ∙ cond-false (c == 107 && e.named) _ _ k
-              ∙ cond-false (begins_property c && is_unicode e.mode) _ _ (ap (λ u. begins_property c && u) m ∙ no_right (begins_property c)) ∙ t.1,
+              ∙ cond-false (begins_property c && is_unicode e.mode) _ _ (ap (λ u. begins_property c && u) m ∙ and-false (begins_property c)) ∙ t.1,
         )
   ]
 
@@ -210,7 +205,7 @@ module _ (e : Environment) (m : is_unicode e.mode ≡ false) where
           t.1,
           cond-false (c == 98) _ _ h ∙ cond-false (is_hyphen_escaped e.mode && c == 45) _ _ (no_legacy_hyphen e.mode c m)
               ∙ cond-false (is_sets e.mode && is_reserved_punctuator c) _ _ (no_legacy_punctuator e.mode c m)
-              ∙ cond-false (begins_property c && is_unicode e.mode) _ _ (ap (λ u. begins_property c && u) m ∙ no_right (begins_property c)) ∙ t.2,
+              ∙ cond-false (begins_property c && is_unicode e.mode) _ _ (ap (λ u. begins_property c && u) m ∙ and-false (begins_property c)) ∙ t.2,
         )
   ]
 
@@ -220,16 +215,10 @@ module _ (e : Environment) (m : is_unicode e.mode ≡ false) where
   no_atom_behind_backslash [] h = refl
   no_atom_behind_backslash (c ∷ w) h =
       let last = (or_parts _ (not (is_unicode e.mode) && not (c == 107 && e.named)) h).1 in
-      let k : (c == 107 && e.named) ≡ true = yes_test _ (low_next (not (is_unicode e.mode)) _ (ap not m) last) in
+      let k : (c == 107 && e.named) ≡ true = not-false _ (low_next (not (is_unicode e.mode)) _ (ap not m) last) in
       let p = both (c == 107) e.named k in
       ap (λ c. escape_in_class e (c ∷ w)) (eqb-true c 107 p.0)
       ∙ cond-false (is_hyphen_escaped e.mode && 107 == 45) _ _ (no_legacy_hyphen e.mode 107 m)
       ∙ cond-false (is_sets e.mode && is_reserved_punctuator 107) _ _ (no_legacy_punctuator e.mode 107 m)
       ∙ ap (λ u. character_atom (or_legacy (escape_at u (107 ∷ w)) u (legacy_at true e (107 ∷ w)))) m
       ∙ ap (λ b. character_atom (cond ((b && true) || false) nothing (escaped kinds.Identifier 107 1))) p.1
-    where
-      yes_test : (b : Bool) → not b ≡ false → b ≡ true
-      yes_test b h = grind arith
-
-      low_next : (a b : Bool) → a ≡ true → (a && b) ≡ false → b ≡ false
-      low_next a b e h = grind arith

@@ -11,12 +11,12 @@ use Rattle.rx_model.specs.Refusals.ClassCauses.{IsClassCause}
 use Rattle.rx_model.specs.Inputs.Environment.{Environment, is_sets, is_unicode}
 use Rattle.rx_model.specs.Refusals.Firsts.{IsFirst, IsFirstInClass, IsFirstOf, NoneBeyond, no_item, of_groups, of_places, yielding}
 use Rattle.rx_model.specs.Reading.Fronts.{front}
-use Rattle.rx_model.specs.FirstPass.Marks.{IsFirstClash, marks, starts}
+use Rattle.rx_model.specs.FirstPass.Marks.{IsFirstClash, marks}
 use Rattle.rx_model.specs.Refusals.Reached.{AreObeying, HasNoClash, IsPlace, span_between, text_environment, text_groups}
 use Rattle.rx_model.specs.Reading.Rows.{Spells}
 use Rattle.rx_model.specs.Trees.Early.{most_groups}
 use Rattle.rx_model.specs.Trees.Token.{quantifier}
-use Rattle.rx_model.proofs.Refusals.Beyond.{ClassLaws, blocked_beyond, inside_reached, limit_first, pair_no_closer}
+use Rattle.rx_model.proofs.Refusals.Beyond.{ClassLaws, blocked_beyond, inside_reached, limit_first, pair_no_closer, no_angle}
 use Rattle.rx_model.proofs.Quantifiers.BlockedCounts.{brace_first}
 use Rattle.rx_model.proofs.Refusals.BlockedPlaces.{next}
 use Rattle.rx_model.proofs.Refusals.OnlyFirst.{AreCompared, most_is_first, one_first_of, only_is_first}
@@ -45,9 +45,6 @@ module _ (mode : Mode) (us : List CodePoint) (start added : ℕ) (laws : ClassLa
   data Located (f : ℕ) (d : Diagnostic) : Type 0 where
     at_place : (rest : List CodePoint) → IsPlace mode us f rest → Row f rest d → Located f d
     in_class : (from : ℕ) (at_class : List CodePoint) → IsPlace mode us from at_class → IsClassCause mode us start added from at_class f d → Located f d
-
-  no_angle : (behind : List ℕ) (count : ℕ) → starts 62 (92 ∷ behind) ≡ true → count ≡ 0
-  no_angle behind count h = absurd (let no : ⊥ = cc h in no)
 
   braces_are : (f count min : ℕ) (max : Option ℕ) (rest : List CodePoint) → HasBraces min max count rest → answer mode us start added f rest ≡ by_quantifier
   braces_are f count min max rest h = let b = brace_first min max h.prefix h.spelled in brace_is mode us start added f rest (b.0 ++ h.behind) (h.whole ∙ ap (λ w. w ++ h.behind) b.1)

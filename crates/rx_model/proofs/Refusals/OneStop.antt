@@ -3,6 +3,7 @@ use Rattle.std.proofs.Common.{◌≡◌, refl, ap, sym, ◌∙◌, subst, ℕ, �
 use Rattle.rx_base.specs.declared.diagnostic.Diagnostic.{Diagnostic}
 use Rattle.rx_base.specs.declared.diagnostic.Diagnostic.TheVariants.{ParsePatternIncomplete, UnterminatedPattern}
 use Rattle.rx_units.specs.declared.code_point.CodePoint.{CodePoint}
+use Rattle.rx_units.proofs.Choices.{Some-inj}
 use Rattle.rx_model.specs.declared.mode.Mode.{Mode}
 use Rattle.rx_model.specs.Refusals.Causes.{unterminated}
 use Rattle.rx_model.specs.Inputs.Environment.{Environment}
@@ -12,7 +13,6 @@ use Rattle.rx_model.specs.Trees.Shapes.{run, group_takes}
 use Rattle.rx_model.specs.Refusals.Stops.{IsStop}
 use Rattle.rx_model.specs.Trees.Token.{Token, Opener, boundary, character, dot, class_escape, property, class, indexed, named, opener, closer, bar, quantifier}
 use Rattle.rx_model.proofs.Refusals.Beyond.{inside_reached, run_in}
-use Rattle.rx_model.proofs.Characters.Decodings.{Some-inj}
 use Rattle.rx_model.proofs.Refusals.Faults.{stop_units}
 use Rattle.rx_model.proofs.Refusals.Places.{same_place}
 use Rattle.rx_model.proofs.Reading.Prefixes.{prefixes}

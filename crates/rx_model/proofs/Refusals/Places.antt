@@ -2,6 +2,7 @@
 use Rattle.std.proofs.Common.{◌≡◌, refl, ap, sym, ◌∙◌, subst, ℕ, ◌<◌, ◌≤◌, Bool, false, Option, Some, List, [], ◌∷◌, ◌++◌, length, arith, inl, inr, length-append, append-nil}
 use Rattle.rx_ast.specs.declared.term.Pattern.{Pattern}
 use Rattle.rx_units.specs.declared.code_point.CodePoint.{CodePoint}
+use Rattle.rx_units.proofs.Choices.{Some-inj}
 use Rattle.rx_model.specs.declared.mode.Mode.{Mode}
 use Rattle.rx_model.specs.Trees.Early.{Obeys}
 use Rattle.rx_model.specs.Inputs.Environment.{Environment}
@@ -11,7 +12,6 @@ use Rattle.rx_model.specs.Reading.Reading.{Reads}
 use Rattle.rx_model.specs.Reading.Rows.{TokenRow}
 use Rattle.rx_model.specs.Trees.Shapes.{run}
 use Rattle.rx_model.specs.Trees.Token.{Token, Opener}
-use Rattle.rx_model.proofs.Characters.Decodings.{Some-inj}
 use Rattle.rx_model.proofs.Refusals.BlockedPlaces.{last_all, tree_obeys}
 use Rattle.rx_model.proofs.Reading.Fronts.{spelled_some}
 use Rattle.rx_model.proofs.FirstPass.OwnGroups.{own_environment}

@@ -11,6 +11,7 @@ use Rattle.rx_ast.specs.declared.leaf.CharacterKind.TheVariants as kinds
 use Rattle.rx_units.specs.declared.code_point.CodePoint.{CodePoint}
 use Rattle.rx_units.specs.Units.{values}
 use Rattle.rx_units.specs.Digits.{front_is, is_hex_digit, hex_number}
+use Rattle.rx_units.proofs.Choices.{both}
 use Rattle.rx_model.specs.Reading.Boundaries.{has_buffers}
 use Rattle.rx_model.specs.Inputs.Environment.{Environment, is_unicode}
 use Rattle.rx_model.specs.Characters.Escapes.{is_identity_escape, SpellsEscape, control, letter, null, hexadecimal, unicode, identity}
@@ -22,7 +23,6 @@ use Rattle.rx_model.specs.Refusals.Stops.{is_one_of, is_letter, two_hex_digits, 
 use Rattle.rx_model.specs.Trees.Token.{Token, character, closer}
 use Rattle.rx_model.specs.Properties.PropertyForms.{begins_property}
 use Rattle.rx_model.proofs.Characters.Backslashes.{unreferred, escape_token}
-use Rattle.rx_model.proofs.Characters.Decodings.{both}
 use Rattle.rx_model.proofs.Characters.Escapes.{begins_with_u, escape_spelled}
 use Rattle.rx_model.proofs.Reading.Fronts.{front_by_values, front_by_unicode, spelled_front}
 use Rattle.rx_model.proofs.Quantifiers.Quantifiers.{counts_spelled}

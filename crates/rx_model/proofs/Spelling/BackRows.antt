@@ -1,5 +1,5 @@
 -- The canonical text of the known tokens of a pattern is a row of them, but for the kinds of characters.
-use Rattle.std.proofs.Common.{◌≡◌, ◌≢◌, ℕ, ◌<◌, ◌≤◌, Bool, true, false, ◌==◌, ◌&&◌, ◌||◌, nat_lt, nat_le, Option, Some, None, List, [], ◌∷◌, ◌++◌, length, get_or, refl, sym, ap, ◌∙◌, subst, append_assoc, arith}
+use Rattle.std.proofs.Common.{◌≡◌, ◌≢◌, ℕ, ◌<◌, ◌≤◌, Bool, true, false, ◌==◌, ◌&&◌, ◌||◌, nat_le, Option, Some, None, List, [], ◌∷◌, ◌++◌, length, get_or, refl, sym, ap, ◌∙◌, subst, append_assoc, arith}
 use Rattle.std.specs.List.{All}
 use Rattle.std.specs.Fmt.{decimal}
 use Rattle.std.proofs.lemmas.Bool.{cond_both, eqb-true, true≢false}
@@ -10,15 +10,16 @@ use Rattle.rx_ast.specs.declared.leaf.BoundaryAssertionKind.{BoundaryAssertionKi
 use Rattle.rx_ast.specs.declared.leaf.BoundaryAssertionKind.TheVariants as boundaries
 use Rattle.rx_ast.specs.declared.leaf.LookAroundAssertionKind.{LookAroundAssertionKind}
 use Rattle.rx_ast.specs.declared.leaf.LookAroundAssertionKind.TheVariants as look
-use Rattle.rx_tables.specs.Characters.{is_within, is_decimal_digit, is_syntax_character}
+use Rattle.rx_tables.specs.Characters.{is_decimal_digit, is_syntax_character}
 use Rattle.rx_ast.specs.ClassTree.{Class}
 use Rattle.rx_units.specs.declared.code_point.CodePoint.{CodePoint}
 use Rattle.rx_units.specs.Units.{literal_units, values}
 use Rattle.rx_units.specs.Digits.{front_is}
+use Rattle.rx_units.proofs.Choices.{both}
 use Rattle.rx_model.specs.declared.mode.Mode.{Mode}
 use Rattle.rx_model.specs.declared.mode.Mode.TheVariants.{Legacy, Unicode, Sets}
 use Rattle.rx_model.specs.Reading.Boundaries.{boundary_text}
-use Rattle.rx_model.specs.Spelling.CharacterText.{two_digits, four_digits, braced, surrogate_text, greatest_raw, outside, character_text}
+use Rattle.rx_model.specs.Spelling.CharacterText.{two_digits, four_digits, braced, outside, character_text}
 use Rattle.rx_model.specs.Spelling.ClassText.{class_escape_text, property_text, class_text}
 use Rattle.rx_model.specs.Trees.Early.{Obeys, IsEarlyOpener, greatest_count, most_groups, IsGreatest}
 use Rattle.rx_model.specs.Inputs.Environment.{Environment, is_unicode}
@@ -36,13 +37,14 @@ use Rattle.rx_model.proofs.Spelling.ClassAgain.{again_class}
 use Rattle.rx_model.proofs.Spelling.ClassBacks.{property_spelled, class_spelled_again}
 use Rattle.rx_model.proofs.Spelling.ClassTexts.{BeginsOutside, class_escape_outside, property_outside, class_outside}
 use Rattle.rx_model.proofs.Spelling.ClassKnown.{IsKnownClass}
-use Rattle.rx_model.proofs.Characters.Decodings.{both}
 use Rattle.rx_model.proofs.Spelling.Known.{NameFits, IsKnownOpener, Known, AreKnown}
 use Rattle.rx_model.proofs.Groups.ModifierTexts.{modifiers_spelled}
 use Rattle.rx_model.proofs.Groups.NameTexts.{IsName, name_spelled}
-use Rattle.rx_model.proofs.Spelling.Narrows.{IsNarrow, character_narrow, class_narrow, class_escape_narrow, boundary_narrow, quantifier_narrow, decimal_narrow, look_narrow, modifiers_are_narrow}
+use Rattle.rx_model.proofs.Spelling.Narrows.{IsNarrow, character_narrow, class_narrow, narrow_by}
 use Rattle.rx_model.proofs.Spelling.Wides.{wide, values_wide, narrow_units, front_wide, wide-append, wide_closed, wide_name_spelled}
 use Rattle.rx_model.proofs.Spelling.TokenTexts.{opened_text, token_text, token_refers, tokens_text}
+use Rattle.rx_model.proofs.Spelling.CharacterText.{by_form}
+use Rattle.rx_model.proofs.Spelling.PrintableTexts.{boundary_printable, class_escape_printable, decimal_printable, look_printable, modifiers_are_printable, quantifier_printable}
 
 -- the token that the canonical text is read as; the flag says whether an unquantified indexed reference stands right before
 abbrev pub again_token : Mode → Bool → Token → Token
@@ -92,37 +94,16 @@ lazy_same false = refl
 not_question : (c : ℕ) → (is_syntax_character c || c == 47) ≡ false → is_question c ≡ false
 not_question c h = grind (arith, nat_tests)
 
-surrogate_no_question : (mode : Mode) (c : ℕ) (more : List ℕ) → front_is is_question (surrogate_text mode c ++ more) ≡ false
-unfolding four_digits braced
-surrogate_no_question Legacy c more = refl
-surrogate_no_question Unicode c more = refl
-surrogate_no_question Sets c more = refl
-
-surrogate_no_digit : (mode : Mode) (c : ℕ) (more : List ℕ) → front_is is_decimal_digit (surrogate_text mode c ++ more) ≡ false
-unfolding four_digits braced
-surrogate_no_digit Legacy c more = refl
-surrogate_no_digit Unicode c more = refl
-surrogate_no_digit Sets c more = refl
-
 -- no character's text begins with a question mark
 character_no_question : (mode : Mode) (c : ℕ) (more : List ℕ) → front_is is_question (character_text mode (outside false) c ++ more) ≡ false
-unfolding character_text two_digits four_digits braced
+unfolding two_digits four_digits braced
 character_no_question mode c more =
-    let P : List ℕ → Type 0 = λ text. front_is is_question (text ++ more) ≡ false in
-    cond_both (is_within 9 13 c) _ _ P (λ _. refl) (λ _. cond_both (nat_lt c 32 || is_within 127 159 c) _ _ P (λ _. refl)
-    (λ _. cond_both (c == 0x2028 || c == 0x2029) _ _ P (λ _. refl) (λ _. cond_both (is_within 0xD800 0xDFFF c) _ _ P (λ _. surrogate_no_question mode c more)
-    (λ _. cond_both (nat_lt (greatest_raw mode) c) _ _ P (λ _. refl) (λ _. cond_both (is_syntax_character c || c == 47) _ _ P (λ _. refl)
-    (λ raw. not_question c raw))))))
+    by_form (λ text. front_is is_question (text ++ more) ≡ false) mode (outside false) c refl refl refl refl (λ _. refl) (λ _. refl) (λ raw. not_question c raw.unescaped)
 
 -- right behind a reference no character's text begins with a digit
 character_no_digit : (mode : Mode) (c : ℕ) (more : List ℕ) → front_is is_decimal_digit (character_text mode (outside true) c ++ more) ≡ false
-unfolding character_text two_digits four_digits braced
-character_no_digit mode c more =
-    let P : List ℕ → Type 0 = λ text. front_is is_decimal_digit (text ++ more) ≡ false in
-    cond_both (is_within 9 13 c) _ _ P (λ _. refl) (λ _. cond_both (nat_lt c 32 || is_within 127 159 c) _ _ P (λ _. refl)
-    (λ _. cond_both (c == 0x2028 || c == 0x2029) _ _ P (λ _. refl) (λ _. cond_both (is_within 0xD800 0xDFFF c) _ _ P (λ _. surrogate_no_digit mode c more)
-    (λ _. cond_both (nat_lt (greatest_raw mode) c) _ _ P (λ _. refl) (λ _. cond_both (is_syntax_character c || c == 47) _ _ P (λ _. refl)
-    (λ _. cond_both (is_decimal_digit c) _ _ P (λ _. refl) (λ other. other)))))))
+unfolding two_digits four_digits braced
+character_no_digit mode c more = by_form (λ text. front_is is_decimal_digit (text ++ more) ≡ false) mode (outside true) c refl refl refl refl (λ _. refl) (λ _. refl) (λ raw. raw.alone)
 
 -- the set holds none of these: $ ( \ ^
 module _ (set : ℕ → Bool) (dollar : set 36 ≡ false) (parenthesis : set 40 ≡ false) (backslash : set 92 ≡ false) (caret : set 94 ≡ false) where
@@ -312,7 +293,7 @@ module _ (e : Environment) (mode : Mode) (m : e.mode ≡ mode) (count : ℕ) (gr
   as_units t at text rest n s = subst (λ us. Spells e t us rest) (same_units mode at text n) s
 
   character_in : (md : Mode) (after_reference : Bool) (c : ℕ) → FitsIn md c → md ≡ Legacy → IsNarrow (character_text md (outside after_reference) c)
-  character_in Legacy after_reference c f l = character_narrow after_reference c (f refl)
+  character_in Legacy after_reference c f l = character_narrow (outside after_reference) c (f refl)
   character_in Unicode after_reference c f l = absurd (let no : ⊥ = cc l in no)
   character_in Sets after_reference c f l = absurd (let no : ⊥ = cc l in no)
 
@@ -330,29 +311,29 @@ module _ (e : Environment) (mode : Mode) (m : e.mode ≡ mode) (count : ℕ) (gr
   opener_again (capturing None) k h at rest f = as_units (opener (capturing None)) at (opened_text (capturing None)) rest (λ _. refl) (refl, f)
   opener_again (capturing (Some name)) k h at rest f = naming_again mode m name k.0 k.1 at rest
   opener_again (ignoring None) k h at rest f = as_units (opener (ignoring None)) at (opened_text (ignoring None)) rest (λ _. refl) refl
-  opener_again (ignoring (Some bits)) k h at rest f = as_units (opener (ignoring (Some bits))) at (opened_text (ignoring (Some bits))) rest (λ _. modifiers_are_narrow bits) (record {
+  opener_again (ignoring (Some bits)) k h at rest f = as_units (opener (ignoring (Some bits))) at (opened_text (ignoring (Some bits))) rest (λ _. narrow_by (opened_text (ignoring (Some bits))) (modifiers_are_printable bits)) (record {
     text = letters bits.0 ++ (dash bits.1 ++ letters bits.1);
     whole = values_literal at (opened_text (ignoring (Some bits)));
     spelled = modifiers_spelled bits k h.1;
   })
-  opener_again (looking kind) k h at rest f = as_units (opener (looking kind)) at (look_text kind) rest (λ _. look_narrow kind) (values_literal at (look_text kind))
+  opener_again (looking kind) k h at rest f = as_units (opener (looking kind)) at (look_text kind) rest (λ _. narrow_by (look_text kind) (look_printable kind)) (values_literal at (look_text kind))
 
   -- the units of a token's canonical text spell it again
   token_again : (after_reference : Bool) (t : Token) → Known e t → Obeys count names t → (at : ℕ) (rest : List CodePoint) → Follows t (values rest) →
       Spells e (again_token mode after_reference t) (literal_units (is_unicode mode) at (token_text mode after_reference t)) rest
   token_again after_reference (boundary kind) k h at rest f =
-      as_units (boundary kind) at (boundary_text kind) rest (λ _. boundary_narrow kind) (record { text = values_literal at (boundary_text kind); there = k })
+      as_units (boundary kind) at (boundary_text kind) rest (λ _. narrow_by (boundary_text kind) (boundary_printable kind)) (record { text = values_literal at (boundary_text kind); there = k })
   token_again after_reference (character kind value) k h at rest f =
       as_units (character (spelled_kind mode after_reference value) value) at (character_text mode (outside after_reference) value) rest
       (character_in mode after_reference value (λ l. k (m ∙ l))) (character_spelled e mode m after_reference value h (λ l. k (m ∙ l)) at rest)
   token_again after_reference dot k h at rest f = as_units (dot) at (46 ∷ []) rest (λ _. refl) refl
   token_again after_reference (class_escape kind) k h at rest f =
-      as_units (class_escape kind) at (class_escape_text kind) rest (λ _. class_escape_narrow kind) (values_literal at (class_escape_text kind))
+      as_units (class_escape kind) at (class_escape_text kind) rest (λ _. narrow_by (class_escape_text kind) (class_escape_printable kind)) (values_literal at (class_escape_text kind))
   token_again after_reference (property negative strings name value) k h at rest f =
       as_units (property negative strings name value) at (property_text negative name value) rest (λ l. no_legacy k.0 l) (property_spelled e mode m negative strings name value k.0 k.1 at)
   token_again after_reference (class c) k h at rest f =
       as_units (class (again_class mode c)) at (class_text mode c) rest (class_in mode c (subst (λ mode. IsKnownClass mode c) m k)) (class_spelled_again e mode m c k h at rest)
-  token_again after_reference (indexed n) k h at rest f = as_units (indexed n) at (indexed_text n) rest (λ _. decimal_narrow n (omega (arith, h.1, in_limit))) (record {
+  token_again after_reference (indexed n) k h at rest f = as_units (indexed n) at (indexed_text n) rest (λ _. narrow_by (indexed_text n) (decimal_printable n (omega (arith, h.1, in_limit)))) (record {
     digits = decimal n;
     whole = values_literal at (indexed_text n);
     number = decimal_digits n (omega (arith, h.1, in_limit));
@@ -369,7 +350,7 @@ module _ (e : Environment) (mode : Mode) (m : e.mode ≡ mode) (count : ℕ) (gr
   token_again after_reference closer k h at rest f = as_units (closer) at (41 ∷ []) rest (λ _. refl) refl
   token_again after_reference bar k h at rest f = as_units (bar) at (124 ∷ []) rest (λ _. refl) refl
   token_again after_reference (quantifier min max greedy) k h at rest f =
-      as_units (quantifier min max greedy) at (quantifier_text min max greedy) rest (λ _. quantifier_narrow min max greedy h.0 h.1) (record {
+      as_units (quantifier min max greedy) at (quantifier_text min max greedy) rest (λ _. narrow_by (quantifier_text min max greedy) (quantifier_printable min max greedy h.0 h.1)) (record {
         prefix = counts_text min max;
         counts = counts_spelled min max h.0 h.1;
         whole = values_literal at (counts_text min max ++ lazy_text greedy) ∙ ap (λ mark. counts_text min max ++ mark) (lazy_same greedy);

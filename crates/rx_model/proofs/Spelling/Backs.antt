@@ -1,5 +1,5 @@
 -- The canonical text of known tokens is a row of them, but for the kinds of characters.
-use Rattle.std.proofs.Common.{◌≡◌, ◌≢◌, ℕ, suc, zero, ◌+◌, ◌*◌, ◌-◌, ◌/◌, ◌%◌, ◌<◌, ◌≤◌, Bool, true, false, not, ◌==◌, ◌&&◌, ◌||◌, nat_lt, cond, Option, Some, None, option_and_then, List, [], ◌∷◌, ◌++◌, refl, sym, ap, ◌∙◌, subst, arith, inl, inr}
+use Rattle.std.proofs.Common.{◌≡◌, ◌≢◌, ℕ, suc, zero, ◌+◌, ◌*◌, ◌-◌, ◌/◌, ◌%◌, ◌<◌, ◌≤◌, Bool, true, false, not, ◌==◌, ◌&&◌, ◌||◌, nat_lt, cond, Some, None, option_and_then, List, [], ◌∷◌, ◌++◌, refl, sym, ap, ◌∙◌, subst, arith, inl, inr}
 use Rattle.std.specs.Char.{digit_value, len_utf8}
 use Rattle.std.specs.Int.{IsInRange}
 use Rattle.std.specs.Str.Parse.{AllDigits, digits_value_after}
@@ -17,6 +17,7 @@ use Rattle.rx_units.specs.declared.code_point.EscapeKind.TheVariants as escape
 use Rattle.rx_units.specs.declared.code_point.CodePoint.{CodePoint}
 use Rattle.rx_units.specs.Units.{unit, literal_units, values}
 use Rattle.rx_units.specs.Digits.{hex_behind, hex_number}
+use Rattle.rx_units.proofs.Choices.{both}
 use Rattle.rx_model.specs.declared.mode.Mode.{Mode}
 use Rattle.rx_model.specs.declared.mode.Mode.TheVariants.{Legacy, Unicode, Sets}
 use Rattle.rx_model.specs.Spelling.CharacterText.{control_letter, two_digits, four_digits, hex, braced, surrogate_text, greatest_raw, outside, character_text}
@@ -24,14 +25,14 @@ use Rattle.rx_model.specs.Inputs.Environment.{Environment, is_unicode}
 use Rattle.rx_model.specs.Characters.Escapes.{SpellsEscape, control, hexadecimal, unicode, identity}
 use Rattle.rx_model.specs.Characters.LegacyEscapes as legacy
 use Rattle.rx_model.specs.Characters.LegacyEscapes.{IsIdentity}
-use Rattle.rx_model.specs.Quantifiers.Quantifiers.{BeginsWithBraces, SpellsBraces, exactly, at_least, between, decimal_digit_value, decimal_behind, AreDigits}
+use Rattle.rx_model.specs.Quantifiers.Quantifiers.{BeginsWithBraces, decimal_digit_value, decimal_behind, AreDigits}
 use Rattle.rx_model.specs.Reading.Rows.{Spells, is_legacy_syntax, stands_raw}
 use Rattle.rx_model.specs.Trees.Token.{character}
-use Rattle.rx_model.specs.Characters.UnicodeEscapes.{SpellsUnicode, code_unit, alone, BeginsWithTrail}
+use Rattle.rx_model.specs.Characters.UnicodeEscapes.{SpellsUnicode, code_unit, alone}
 use Rattle.rx_model.specs.Characters.UnicodeEscapes as in_escape
 use Rattle.rx_model.proofs.Characters.Choices.{choose_both}
-use Rattle.rx_model.proofs.Characters.Decodings.{both}
 use Rattle.rx_model.proofs.Spelling.SomeTexts.{some_behind}
+use Rattle.rx_model.proofs.Quantifiers.BlockedCounts.{brace_first}
 
 pub values_literal : (at : ℕ) (text : List ℕ) → values (literal_units true at text) ≡ text
 values_literal at [] = refl
@@ -122,11 +123,6 @@ raw_allowed : (mode : Mode) (c : ℕ) → (is_syntax_character c || c == 47) ≡
 raw_allowed Legacy c h = ap not (raw_legacy c h)
 raw_allowed Unicode c h = first_false (is_syntax_character c) (c == 47) h
 raw_allowed Sets c h = first_false (is_syntax_character c) (c == 47) h
-
-brace_first : (min : ℕ) (max : Option ℕ) (prefix : List ℕ) → SpellsBraces min max prefix → (w : List ℕ) × (prefix ≡ 123 ∷ w)
-brace_first _ _ _ (exactly ds a) = (_, refl)
-brace_first _ _ _ (at_least ds a) = (_, refl)
-brace_first _ _ _ (between ds es a b) = (_, refl)
 
 only_brace : (c : ℕ) (w : List ℕ) → (is_syntax_character c || c == 47) ≡ false → BeginsWithBraces (c ∷ w) → ⊥
 only_brace c w h b =

@@ -1,14 +1,14 @@
 -- With neither `u` nor `v`, where each unit is a UTF-16 code unit, each character is one too, and each character of a name is a code point.
-use Rattle.std.proofs.Common.{◌≡◌, sym, ap, ◌∙◌, subst, ℕ, ◌+◌, ◌*◌, ◌<◌, ◌≤◌, Bool, true, false, Some, List, [], ◌∷◌, ◌++◌, length, arith, inl, inr}
+use Rattle.std.proofs.Common.{◌≡◌, sym, ap, ◌∙◌, subst, ℕ, ◌≤◌, Bool, true, false, Some, List, [], ◌∷◌, ◌++◌, length, arith, inl, inr}
 use Rattle.std.proofs.lemmas.Bool.{true≢false}
 use Rattle.std.proofs.lemmas.Bool.Decides.{nat_tests}
-use Rattle.std.proofs.lemmas.Option.{option_and_then_some}
 use Rattle.rx_base.specs.SurrogatePair.{IsLeadSurrogate, IsTrailSurrogate, surrogate_pair}
-use Rattle.rx_tables.specs.Characters.{control_escape_value, control_letter_value, hex_digit_value, is_octal_digit, is_reserved_punctuator, is_within}
+use Rattle.rx_tables.specs.Characters.{control_escape_value, control_letter_value, is_reserved_punctuator, is_within}
 use Rattle.rx_ast.specs.declared.leaf.CharacterKind.{CharacterKind}
 use Rattle.rx_units.specs.declared.code_point.CodePoint.{CodePoint}
 use Rattle.rx_units.specs.Units.{values}
-use Rattle.rx_units.specs.Digits.{octal, hex_number}
+use Rattle.rx_units.specs.Digits.{octal}
+use Rattle.rx_units.proofs.Digits.{four_small, octal_small, two_small}
 use Rattle.rx_model.specs.declared.mode.Mode.{Mode}
 use Rattle.rx_model.specs.declared.mode.Mode.TheVariants.{Legacy}
 use Rattle.rx_model.specs.Classes.ClassRows as spelled
@@ -64,27 +64,8 @@ pub narrow_back : (w v : List ℕ) → Narrow (w ++ v) → Narrow v
 narrow_back [] v h = h
 narrow_back (c ∷ w) v h = narrow_back w v h.1
 
-digit_low : (c d : ℕ) → hex_digit_value c ≡ Some d → d < 16
-digit_low c d h = grind (arith, nat_tests)
-
-two_low : (a b v : ℕ) → hex_number (a ∷ b ∷ []) ≡ Some v → v ≤ 0xFFFF
-two_low a b v h =
-    option_and_then_some _ (hex_digit_value a) v h (λ i at_a h.
-    option_and_then_some _ (hex_digit_value b) v h (λ j at_b h.
-    let same : 16 * (16 * 0 + i) + j ≡ v = cc h in
-    omega (arith, digit_low a i at_a, digit_low b j at_b)))
-
-four_low : (a b c d v : ℕ) → hex_number (a ∷ b ∷ c ∷ d ∷ []) ≡ Some v → v ≤ 0xFFFF
-four_low a b c d v h =
-    option_and_then_some _ (hex_digit_value a) v h (λ i at_a h.
-    option_and_then_some _ (hex_digit_value b) v h (λ j at_b h.
-    option_and_then_some _ (hex_digit_value c) v h (λ k at_c h.
-    option_and_then_some _ (hex_digit_value d) v h (λ l at_d h.
-    let same : 16 * (16 * (16 * (16 * 0 + i) + j) + k) + l ≡ v = cc h in
-    omega (arith, digit_low a i at_a, digit_low b j at_b, digit_low c k at_c, digit_low d l at_d)))))
-
 unicode_low : (u : Bool) (v : ℕ) (w rest : List ℕ) → u ≡ false → SpellsUnicode u v w rest → v ≤ 0xFFFF
-unicode_low _ v _ rest m (code_unit {a} {b} {c} {d} h) = four_low a b c d v h
+unicode_low _ v _ rest m (code_unit {a} {b} {c} {d} h) = four_small a b c d v h
 unicode_low _ v _ rest m (alone h k) = absurd (true≢false m)
 unicode_low _ _ _ rest m (pair h k l t) = absurd (true≢false m)
 unicode_low _ v _ rest m (braced x xs h k) = absurd (true≢false m)
@@ -95,9 +76,6 @@ control_low c v h = grind (arith, nat_tests)
 letter_low : (c v : ℕ) → control_letter_value c ≡ Some v → v ≤ 0xFFFF
 letter_low c v h = grind (arith, nat_tests)
 
-octal_low : (c : ℕ) → is_octal_digit c ≡ true → octal c ≤ 7
-octal_low c h = grind (arith, nat_tests)
-
 first_octal : (low high c : ℕ) → is_within low high c ≡ true → high ≤ 55 → octal c ≤ 7
 first_octal low high c h k = grind (arith, nat_tests)
 
@@ -106,7 +84,7 @@ module _ (e : Environment) (m : e.mode ≡ Legacy) where
   escape_low _ v _ rest (control {c} h) = control_low c v h
   escape_low _ v _ rest (letter {c} h) = letter_low c v h
   escape_low _ _ _ rest (null h) = omega arith
-  escape_low _ v _ rest (hexadecimal {a} {b} h) = two_low a b v h
+  escape_low _ v _ rest (hexadecimal {a} {b} h) = omega (arith, two_small a b v h)
   escape_low _ v w rest (unicode s) = unicode_low (is_unicode e.mode) v w rest (ap is_unicode m) s
   escape_low _ _ _ rest (identity u h) = absurd (true≢false (sym u ∙ ap is_unicode m))
 
@@ -115,10 +93,10 @@ legacy_low inside e _ _ _ _ (legacy.lone h) n = omega arith
 legacy_low inside e _ _ _ rest (legacy.class_control {c} h k) n = omega arith
 legacy_low inside e _ _ _ rest (legacy.octal_zero h) n = omega arith
 legacy_low inside e _ _ _ rest (legacy.octal1 {c} h k f) n = let a = first_octal 49 55 c h (omega arith) in omega (arith, a)
-legacy_low inside e _ _ _ rest (legacy.octal2_low {c} {d} h k l f) n = let a = first_octal 48 51 c h (omega arith) in let b = octal_low d k in omega (arith, a, b)
-legacy_low inside e _ _ _ rest (legacy.octal2_high {c} {d} h k f) n = let a = first_octal 52 55 c h (omega arith) in let b = octal_low d k in omega (arith, a, b)
+legacy_low inside e _ _ _ rest (legacy.octal2_low {c} {d} h k l f) n = let a = first_octal 48 51 c h (omega arith) in let b = octal_small d k in omega (arith, a, b)
+legacy_low inside e _ _ _ rest (legacy.octal2_high {c} {d} h k f) n = let a = first_octal 52 55 c h (omega arith) in let b = octal_small d k in omega (arith, a, b)
 legacy_low inside e _ _ _ rest (legacy.octal3 {c} {d} {f} h k l x) n =
-    let a = first_octal 48 51 c h (omega arith) in let b = octal_low d k in let g = octal_low f l in omega (arith, a, b, g)
+    let a = first_octal 48 51 c h (omega arith) in let b = octal_small d k in let g = octal_small f l in omega (arith, a, b, g)
 legacy_low inside e _ _ _ rest (legacy.identity {c} h) n = n.0
 
 -- a character, outside classes and in them

@@ -6,6 +6,7 @@ use Rattle.std.proofs.lemmas.Bool.{cases_Bool, cond_both, true≢false}
 use Rattle.std.proofs.lemmas.Bool.Decides.{nat_tests}
 use Rattle.std.proofs.lemmas.List.{map-append}
 use Rattle.std.proofs.lemmas.List.Elements.{All-head, All-tail}
+use Rattle.std.proofs.Math.Bool.{and-false}
 use Rattle.rx_base.specs.declared.span.Span.{Span}
 use Rattle.rx_ast.specs.declared.leaf.Character.{Character}
 use Rattle.rx_ast.specs.declared.leaf.CharacterKind.{CharacterKind}
@@ -41,10 +42,10 @@ use Rattle.rx_model.proofs.Spelling.Bounds.{FitsIn}
 use Rattle.rx_model.proofs.Characters.Choices.{choose_both}
 use Rattle.rx_model.proofs.Spelling.ClassAgain.{kind_of_hyphen, class_kind, again_in_class, again_string, again_member, again_members, again_class, unspanned_class, shape_again}
 use Rattle.rx_model.proofs.Spelling.ClassKnown.{AreKnownMembers, IsKnownClass, IsKnownKind, IsKnownMember, IsKnownTree}
-use Rattle.rx_model.proofs.Spelling.ClassTexts.{BeginsOutside, class_escape_outside, dashed, in_class_outside, members_outside, no_raw_ampersand, no_raw_caret, no_raw_closer, no_raw_hyphen, property_outside, raw_in_class, some_in_class, starts_not, undashed}
-use Rattle.rx_model.proofs.Characters.LegacyEscapes.{and_no}
+use Rattle.rx_model.proofs.Spelling.ClassTexts.{BeginsOutside, class_escape_outside, dashed, in_class_outside, members_outside, no_raw_ampersand, no_raw_caret, no_raw_closer, no_raw_hyphen, property_outside, raw_in_class, some_character, starts_not, undashed}
 use Rattle.rx_model.proofs.Classes.ClassShapes.{barred_tokens, between_by, class_tokens_by, contents_tokens, further_tokens, letters_tokens, operand_tokens, strings_are}
 use Rattle.rx_model.proofs.Spelling.SomeTexts.{some_behind}
+use Rattle.rx_model.proofs.Classes.ClassFronts.{sets_is}
 
 -- what is escaped in a class is a `-` or escaped everywhere; with `v` it is a reserved punctuator or escaped everywhere
 not_hyphen : (c : ℕ) → (is_syntax_character c || c == 47 || c == 45) ≡ true → (c == 45) ≡ false → (is_syntax_character c || c == 47) ≡ true
@@ -55,12 +56,6 @@ is_hyphen c h = grind (arith, nat_tests)
 
 is_reserved : (c : ℕ) → (is_syntax_character c || c == 47 || is_reserved_punctuator c) ≡ true → (is_syntax_character c || c == 47) ≡ false → is_reserved_punctuator c ≡ true
 is_reserved c h k = grind (arith, nat_tests)
-
--- sets mode is the mode of `v`
-sets_only : (mode : Mode) → is_sets mode ≡ true → mode ≡ Sets
-sets_only Legacy h = absurd (let no : ⊥ = cc h in no)
-sets_only Unicode h = absurd (let no : ⊥ = cc h in no)
-sets_only Sets h = refl
 
 sets_fit : (mode : Mode) (c : ℕ) → is_sets mode ≡ true → FitsIn mode c
 sets_fit mode c h l = absurd (true≢false (sym h ∙ ap is_sets l))
@@ -82,11 +77,11 @@ sets_raw c b h = grind (arith, nat_tests)
 
 module _ (e : Environment) (sets : is_sets e.mode ≡ true) where
   no_raw_dash : (unit : CodePoint) (rest : List CodePoint) → stands_raw_in_class e.mode unit.value (values rest) ≡ true → (unit.value == 45) ≡ false
-  no_raw_dash unit rest h = sets_raw unit.value _ (ap (λ mode. stands_raw_in_class mode unit.value (values rest)) (sym (sets_only e.mode sets)) ∙ h)
+  no_raw_dash unit rest h = sets_raw unit.value _ (ap (λ mode. stands_raw_in_class mode unit.value (values rest)) (sym (sets_is e.mode sets)) ∙ h)
 
   no_dash : (k : CharacterKind) (v : ℕ) (w rest more : List CodePoint) → SpellsClassCharacter e k v w rest → starts 45 (values (w ++ more)) ≡ false
   no_dash _ _ _ rest more (spelled.raw unit h) = no_raw_dash unit rest h
-  no_dash _ _ _ rest more (spelled.hyphen unit h is) = absurd (true≢false (sym h ∙ ap has_hyphen (sets_only e.mode sets)))
+  no_dash _ _ _ rest more (spelled.hyphen unit h is) = absurd (true≢false (sym h ∙ ap has_hyphen (sets_is e.mode sets)))
   no_dash _ _ _ rest more (spelled.escaped backslash behind is s) = ap (λ c. c == 45) is
   no_dash _ _ _ rest more (spelled.escaped_in_class backslash behind is s) = ap (λ c. c == 45) is
   no_dash _ _ _ rest more (spelled.escaped_in_legacy backslash behind is u s) = ap (λ c. c == 45) is
@@ -99,7 +94,7 @@ module _ (e : Environment) (sets : is_sets e.mode ≡ true) where
       true≢false (sym (ap (starts 45) second) ∙ no_dash b.kind b.value b.w b.more b.more b.spelled)
 
   no_threes : has_threes e.mode ≡ false
-  no_threes = ap has_threes (sets_only e.mode sets)
+  no_threes = ap has_threes (sets_is e.mode sets)
 
 module _ (e : Environment) (mode : Mode) (m : e.mode ≡ mode) where
   -- The text spells a character of this kind in a class, before anything.
@@ -146,7 +141,7 @@ module _ (e : Environment) (mode : Mode) (m : e.mode ≡ mode) where
 
   -- an escape with a backslash alone
   hyphen_identity : (rest : List ℕ) → IsIdentity true e 45 rest
-  hyphen_identity rest = record { no_letter = refl; no_octal = refl; no_k = and_no e.named; no_boundary = refl; no_reference = refl; no_x = refl; no_u = refl }
+  hyphen_identity rest = record { no_letter = refl; no_octal = refl; no_k = and-false e.named; no_boundary = refl; no_reference = refl; no_x = refl; no_u = refl }
 
   identity_spelled : (md : Mode) → e.mode ≡ md → (c : ℕ) → (is_syntax_character c || c == 47) ≡ true → SpellsHere c kinds.Identifier (92 ∷ c ∷ [])
   identity_spelled Legacy l c h at rest =
@@ -234,7 +229,7 @@ module _ (e : Environment) (mode : Mode) (m : e.mode ≡ mode) where
       let us = literal_units true between text ++ rest in
       let dashes : values us ≡ 45 ∷ 45 ∷ (more ++ values rest) = values_before between text rest ∙ ap (λ text. text ++ values rest) is in (
         inr (inr (record { sets = sets; none = λ _ high. no_high e sets us (more ++ values rest) dashes high })),
-        ap (λ b. behind_item fresh (is_dashed (values us) && b)) (no_threes e sets) ∙ ap (behind_item fresh) (and_no (is_dashed (values us))),
+        ap (λ b. behind_item fresh (is_dashed (values us) && b)) (no_threes e sets) ∙ ap (behind_item fresh) (and-false (is_dashed (values us))),
       )
 
   item_there : (q : Place) → TakesOperand q → (a : Atom) (w more : List CodePoint) → SpellsAtom e a w more → (is_sets e.mode ≡ true → starts 38 (values w) ≡ false) →
@@ -447,7 +442,7 @@ module _ (e : Environment) (mode : Mode) (m : e.mode ≡ mode) where
         subst (λ q. AgainAt q own ((first ++ (45 ∷ last)) ++ text)) (sym takes)
         (subst (AgainHere own) (sym (append_assoc first (45 ∷ last) text))
         (range_again (class_kind mode r.min.value) (class_kind mode r.max.value) r.min.value r.max.value first last ts text
-        (in_class_spelled r.min.value h.0 (fits_here r.min.value k.0)) (in_class_spelled r.max.value h.1 (fits_here r.max.value k.1)) (some_in_class mode r.max.value)
+        (in_class_spelled r.min.value h.0 (fits_here r.min.value k.0)) (in_class_spelled r.max.value h.1 (fits_here r.max.value k.1)) (some_character mode in_class r.max.value)
         (in_class_outside mode (λ c. c == 93) refl (no_raw_closer mode) r.max.value) again))
     member_again q (tree.escape c) ts text takes k h f ends again =
         item_again q takes (escape c.kind) (class_escape_text c.kind) ts text (λ at rest. values_literal at (class_escape_text c.kind)) (λ _. class_escape_outside (λ c. c == 38) refl c.kind) ends again

@@ -1,5 +1,5 @@
 -- What is known of a class that some units spell.
-use Rattle.std.proofs.Common.{◌≡◌, refl, subst, ℕ, ◌≤◌, arith, ◌&&◌, Bool, true, false, Option, List, [], ◌∷◌, ◌++◌, append_assoc}
+use Rattle.std.proofs.Common.{◌≡◌, refl, subst, ℕ, ◌≤◌, arith, Bool, true, Option, List, [], ◌∷◌, ◌++◌, append_assoc}
 use Rattle.rx_ast.specs.declared.leaf.CharacterKind.{CharacterKind}
 use Rattle.rx_ast.specs.declared.leaf.CharacterKind.TheVariants as kinds
 use Rattle.rx_ast.specs.declared.class.CharacterClassContentsKind.{CharacterClassContentsKind}
@@ -8,9 +8,8 @@ use Rattle.rx_ast.specs.ClassTree as tree
 use Rattle.rx_ast.specs.ClassTree.{Member, Members, Class, no_member, member, class}
 use Rattle.rx_ast.specs.Forget.{forget_class, same_kind}
 use Rattle.rx_units.specs.declared.code_point.CodePoint.{CodePoint}
-use Rattle.rx_units.specs.Units.{values}
 use Rattle.rx_model.specs.declared.mode.Mode.{Mode}
-use Rattle.rx_model.specs.Classes.ClassRows.{ClassTokenRow, SpellsClassCharacter, SpellsInClass, IsClassShape, IsClass, Place, outside, fresh, at_second, at_third, behind_meet, behind_less, in_strings, behind, behind_item, has_threes, is_dashed}
+use Rattle.rx_model.specs.Classes.ClassRows.{ClassTokenRow, SpellsClassCharacter, SpellsInClass, IsClassShape, IsClass, Place, outside, fresh, at_second, at_third, behind_meet, behind_less, in_strings, behind}
 use Rattle.rx_model.specs.Classes.ClassShapes.{AreFitting, FitsKind, IsFitting, IsFittingMember}
 use Rattle.rx_model.specs.Spelling.ClassText.{property_body}
 use Rattle.rx_model.specs.Classes.ClassTokens.{character, property, ClassToken, bracket, closer, item, low, dash, high, meet, less, strings, class_tokens}
@@ -20,6 +19,7 @@ use Rattle.rx_model.specs.Spelling.ReadBack.{FitIn}
 use Rattle.rx_model.proofs.Spelling.Bounds.{FitsIn, fit_front, fit_back, class_character_low}
 use Rattle.rx_model.proofs.Classes.ClassShapes.{operand_tokens, further_tokens, contents_tokens, between_by, class_tokens_by}
 use Rattle.rx_model.proofs.Properties.PropertyTexts.{property_again}
+use Rattle.rx_model.proofs.Classes.ClassStates.{behind_inside}
 
 -- `&&` and `--` stand in classes with `v` alone
 abbrev pub IsKnownKind : Mode → CharacterClassContentsKind → Type 0
@@ -54,15 +54,6 @@ module _ (e : Environment) where
   -- what stands in a class
   abbrev IsWithin : Place → Type 0
   IsWithin q = q ≡ outside → ⊥
-
-  behind_within : (q : Place) (first : Bool) → IsWithin (behind_item q first)
-  behind_within fresh true h = cc h
-  behind_within fresh false h = cc h
-  behind_within q first h = cc h
-
-  token_within : (q : Place) (t : ClassToken) (more : List CodePoint) → IsWithin (behind e.mode q t more)
-  token_within q (item a) more h = behind_within q (is_dashed (values more) && has_threes e.mode) h
-  token_within q t more h = cc h
 
   -- the characters of a range
   low_there : (q : Place) (k : CharacterKind) (v : ℕ) (w more : List CodePoint) → SpellsInClass e q (low k v) w more → SpellsClassCharacter e k v w more
@@ -132,7 +123,7 @@ module _ (e : Environment) where
     RowOn ts = (q : Place) × (us : List CodePoint) × IsWithin q × FitIn e.mode us × ClassTokenRow e ts q us fresh rest
 
     token_on : (t : ClassToken) (ts : List ClassToken) → RowOn (t ∷ ts) → RowOn ts
-    token_on t ts (q, us, n, f, (w, more, whole, s, row)) = (behind e.mode q t more, more, token_within q t more, fit_back e.mode us w more whole f, row)
+    token_on t ts (q, us, n, f, (w, more, whole, s, row)) = (behind e.mode q t more, more, behind_inside e.mode q t more, fit_back e.mode us w more whole f, row)
 
     tokens_on : (own ts : List ClassToken) → RowOn (own ++ ts) → RowOn ts
     tokens_on [] ts r = r

@@ -1,22 +1,22 @@
 -- What the canonical texts in a class begin with: so that what is spelled behind a text leaves it what it is.
-use Rattle.std.proofs.Common.{◌≡◌, ◌≢◌, refl, ap, ◌∙◌, ℕ, ◌==◌, ◌||◌, Bool, true, false, not, nat_lt, Option, List, [], ◌∷◌, ◌++◌, append_assoc}
-use Rattle.std.proofs.lemmas.Bool.{cond_both}
+use Rattle.std.proofs.Common.{◌≡◌, ◌≢◌, refl, ap, ◌∙◌, ℕ, ◌==◌, ◌||◌, Bool, true, false, not, Option, List, [], ◌∷◌, ◌++◌, append_assoc}
+use Rattle.std.proofs.Math.Bool.{and-false}
 use Rattle.rx_ast.specs.declared.leaf.CharacterClassEscapeKind.{CharacterClassEscapeKind}
 use Rattle.rx_ast.specs.declared.leaf.CharacterClassEscapeKind.TheVariants.{D, NegativeD, S, NegativeS, W, NegativeW}
 use Rattle.rx_ast.specs.ClassTree as tree
 use Rattle.rx_ast.specs.ClassTree.{Member, Members, Class, no_member, member, class}
-use Rattle.rx_tables.specs.Characters.{is_within, is_class_set_reserved_double_punctuator, is_class_set_syntax_character}
+use Rattle.rx_tables.specs.Characters.{is_class_set_reserved_double_punctuator, is_class_set_syntax_character}
 use Rattle.rx_units.specs.Digits.{front_is}
 use Rattle.rx_model.specs.declared.mode.Mode.{Mode}
 use Rattle.rx_model.specs.declared.mode.Mode.TheVariants.{Legacy, Unicode, Sets}
-use Rattle.rx_model.specs.Spelling.CharacterText.{two_digits, four_digits, braced, surrogate_text, greatest_raw, is_escaped, in_class, character_text}
+use Rattle.rx_model.specs.Spelling.CharacterText.{Place, two_digits, four_digits, braced, is_escaped, in_class, character_text}
 use Rattle.rx_model.specs.Classes.ClassRows.{is_dashed, stands_raw_in_class}
 use Rattle.rx_model.specs.Spelling.ClassText.{class_escape_text, class_text, in_class_text, member_text, members_text, more_members_text, property_text}
 use Rattle.rx_model.specs.Inputs.Environment.{is_sets}
 use Rattle.rx_model.specs.FirstPass.Marks.{starts}
-use Rattle.rx_model.proofs.Characters.LegacyEscapes.{and_no}
 use Rattle.rx_model.proofs.Groups.GroupNames.{differs}
 use Rattle.rx_model.proofs.Spelling.SomeTexts.{some}
+use Rattle.rx_model.proofs.Spelling.CharacterText.{by_form}
 
 -- Some set holds no character that this text begins with.
 abbrev pub BeginsOutside : (ℕ → Bool) → List ℕ → Type 0
@@ -62,7 +62,7 @@ no_double : (c d : ℕ) → is_escaped Sets in_class c ≡ false → is_class_se
 no_double c d h =
     let other : (d : ℕ) → is_escaped Sets in_class d ≡ true → (c == d) ≡ false = λ d is. unescaped_differs Sets c d is h in
     rw (other 38 refl, other 33 refl, other 35 refl, other 36 refl, other 37 refl, other 42 refl, other 43 refl, other 44 refl, other 46 refl, other 58 refl, other 59 refl, other 60 refl, other 61 refl, other 62 refl, other 63 refl, other 64 refl, other 94 refl, other 96 refl, other 126 refl)
-    (and_no (c == d))
+    (and-false (c == d))
 
 no_double_front : (c : ℕ) (w : List ℕ) → is_escaped Sets in_class c ≡ false → front_is (is_class_set_reserved_double_punctuator c) w ≡ false
 no_double_front c [] h = refl
@@ -97,20 +97,10 @@ class_outside mode set h (class s false may kind ms) more = h
 
 -- a set that holds no backslash, and nothing that is not escaped in classes
 module _ (mode : Mode) (set : ℕ → Bool) (backslash : set 92 ≡ false) (raw : (c : ℕ) → is_escaped mode in_class c ≡ false → set c ≡ false) where
-  surrogate_outside : (md : Mode) (c : ℕ) → BeginsOutside set (surrogate_text md c)
-  unfolding four_digits braced
-  surrogate_outside Legacy c more = backslash
-  surrogate_outside Unicode c more = backslash
-  surrogate_outside Sets c more = backslash
-
   pub in_class_outside : (c : ℕ) → BeginsOutside set (character_text mode in_class c)
-  unfolding character_text two_digits four_digits braced
+  unfolding two_digits four_digits braced
   in_class_outside c more =
-      let P : List ℕ → Type 0 = λ text. front_is set (text ++ more) ≡ false in
-      cond_both (is_within 9 13 c) _ _ P (λ _. backslash) (λ _. cond_both (nat_lt c 32 || is_within 127 159 c) _ _ P (λ _. backslash)
-      (λ _. cond_both (c == 0x2028 || c == 0x2029) _ _ P (λ _. backslash) (λ _. cond_both (is_within 0xD800 0xDFFF c) _ _ P (λ _. surrogate_outside mode c more)
-      (λ _. cond_both (nat_lt (greatest_raw mode) c) _ _ P (λ _. backslash) (λ _. cond_both (is_escaped mode in_class c) _ _ P (λ _. backslash)
-      (λ r. raw c r))))))
+      by_form (λ text. front_is set (text ++ more) ≡ false) mode in_class c backslash backslash backslash backslash (λ _. backslash) (λ _. backslash) (λ r. raw c r.unescaped)
 
   -- nor a bracket
   pub member_outside : set 91 ≡ false → (m : Member) → BeginsOutside set (member_text mode m)
@@ -155,16 +145,6 @@ dashed [] more some h = absurd (some refl)
 dashed (c ∷ text) more some h = rw h refl
 
 -- a character has some text
-pub some_surrogate : (mode : Mode) (c : ℕ) → surrogate_text mode c ≢ []
-unfolding four_digits braced
-some_surrogate Legacy c = some 92 _
-some_surrogate Unicode c = some 92 _
-some_surrogate Sets c = some 92 _
-
-pub some_in_class : (mode : Mode) (c : ℕ) → character_text mode in_class c ≢ []
-unfolding character_text two_digits four_digits braced
-some_in_class mode c =
-    let P : List ℕ → Type 0 = λ text. text ≢ [] in
-    cond_both (is_within 9 13 c) _ _ P (λ _. some 92 _) (λ _. cond_both (nat_lt c 32 || is_within 127 159 c) _ _ P (λ _. some 92 _)
-    (λ _. cond_both (c == 0x2028 || c == 0x2029) _ _ P (λ _. some 92 _) (λ _. cond_both (is_within 0xD800 0xDFFF c) _ _ P (λ _. some_surrogate mode c)
-    (λ _. cond_both (nat_lt (greatest_raw mode) c) _ _ P (λ _. some 92 _) (λ _. cond_both (is_escaped mode in_class c) _ _ P (λ _. some 92 _) (λ _. some c []))))))
+pub some_character : (mode : Mode) (place : Place) (c : ℕ) → character_text mode place c ≢ []
+unfolding two_digits four_digits braced
+some_character mode place c = by_form (λ text. text ≢ []) mode place c (some 92 _) (some 92 _) (some 92 _) (some 92 _) (λ _. some 92 _) (λ _. some 92 _) (λ _. some c [])

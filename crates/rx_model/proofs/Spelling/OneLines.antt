@@ -1,15 +1,11 @@
 -- The canonical spelling stands in one line.
-use Rattle.std.proofs.Common.{◌≡◌, ◌≢◌, subst, ℕ, suc, zero, ◌/◌, ◌%◌, ◌<◌, ◌≤◌, Bool, true, false, not, ◌==◌, ◌&&◌, ◌||◌, nat_lt, cond, Option, Some, None, List, [], ◌∷◌, ◌++◌, refl, sym, ◌∙◌, arith}
+use Rattle.std.proofs.Common.{◌≡◌, ◌≢◌, subst, ℕ, ◌≤◌, Bool, true, false, not, ◌==◌, ◌&&◌, ◌||◌, Option, Some, None, List, [], ◌∷◌, ◌++◌, refl, sym, ◌∙◌, arith}
 use Rattle.std.specs.List.{list_all, All}
-use Rattle.std.specs.Char.{digit_value}
 use Rattle.std.specs.Fmt.{decimal}
-use Rattle.std.specs.Str.Parse.{AllDigits}
-use Rattle.std.proofs.lemmas.Bool.{and_from, cond_both}
+use Rattle.std.proofs.lemmas.Bool.{and_from, cond_both, not-true}
 use Rattle.std.proofs.lemmas.Bool.Decides.{nat_tests}
-use Rattle.std.proofs.lemmas.Fmt.{decimal_is_IsNumeral}
 use Rattle.std.proofs.lemmas.List.Elements.{All-nil, All-cons, All-head, All-tail}
 use Rattle.std.proofs.lemmas.List.Folds.{list_all-append}
-use Rattle.std.proofs.lemmas.Str.Parse.{digit_from_value}
 use Rattle.rx_ast.specs.declared.leaf.BoundaryAssertionKind.{BoundaryAssertionKind}
 use Rattle.rx_ast.specs.declared.leaf.BoundaryAssertionKind.TheVariants as boundaries
 use Rattle.rx_ast.specs.declared.leaf.Character.{Character}
@@ -24,15 +20,15 @@ use Rattle.rx_ast.specs.declared.class.CharacterClassContentsKind.{CharacterClas
 use Rattle.rx_ast.specs.declared.class.CharacterClassContentsKind.TheVariants.{Union, Intersection, Subtraction}
 use Rattle.rx_ast.specs.declared.class.ClassString.{ClassString}
 use Rattle.rx_ast.specs.Forget.{bare}
-use Rattle.rx_tables.specs.Characters.{is_within, is_decimal_digit, is_syntax_character, hex_digit}
+use Rattle.rx_tables.specs.Characters.{is_within}
 use Rattle.rx_tables.proofs.Separators.{line_separator_starts_none, line_separator_in_none, paragraph_separator_starts_none, paragraph_separator_in_none}
 use Rattle.rx_units.specs.declared.code_point.CodePoint.{CodePoint}
+use Rattle.rx_units.proofs.Choices.{both}
 use Rattle.rx_model.specs.declared.mode.Mode.{Mode}
-use Rattle.rx_model.specs.declared.mode.Mode.TheVariants.{Legacy, Unicode, Sets}
 use Rattle.rx_model.specs.Reading.Boundaries.{boundary_text}
-use Rattle.rx_model.specs.Spelling.CharacterText.{control_letter, two_digits, four_digits, hex, braced, surrogate_text, greatest_raw, is_reserved_in_class, outside, in_class, character_text}
+use Rattle.rx_model.specs.Spelling.CharacterText.{Place, outside, in_class, character_text}
 use Rattle.rx_model.specs.Spelling.ClassText.{class_escape_text, property_body, property_text, class_opener, operator_text, in_class_text, characters_text, barred_strings_text, strings_text, member_text, members_text, more_members_text, class_text}
-use Rattle.rx_model.specs.Trees.Early.{Obeys, greatest_count, most_groups, IsGreatest}
+use Rattle.rx_model.specs.Trees.Early.{Obeys, most_groups}
 use Rattle.rx_model.specs.Inputs.Environment.{Environment, environment}
 use Rattle.rx_model.specs.Trees.Events.{tokens}
 use Rattle.rx_model.specs.Trees.Names.{groups, names}
@@ -41,17 +37,17 @@ use Rattle.rx_model.specs.Properties.PropertyEscapes.{SpellsProperty}
 use Rattle.rx_model.specs.Spelling.ReadBack.{FitIn}
 use Rattle.rx_model.specs.Reading.Reading.{Reads}
 use Rattle.rx_model.specs.Groups.GroupNames.{is_in_name}
-use Rattle.rx_model.specs.Spelling.Spelling.{letters, dash, look_text, counts_text, lazy_text, quantifier_text, spelling}
+use Rattle.rx_model.specs.Spelling.Spelling.{look_text, counts_text, lazy_text, quantifier_text, spelling}
 use Rattle.rx_model.specs.Trees.Token.{Token, Opener, boundary, character, dot, class_escape, property, class, indexed, named, opener, closer, bar, quantifier, capturing, ignoring, looking}
-use Rattle.rx_model.proofs.Spelling.ClassTexts.{some_surrogate}
+use Rattle.rx_model.proofs.Spelling.ClassTexts.{some_character}
 use Rattle.rx_model.proofs.Spelling.ClassKnown.{IsKnownMember, AreKnownMembers, IsKnownTree, IsKnownClass}
 use Rattle.rx_model.proofs.Properties.PropertyWords.{is_property_unit, property_units}
 use Rattle.rx_model.proofs.Spelling.TokenTexts.{opened_text, token_text, token_refers, tokens_text, spelled_by_tokens}
-use Rattle.rx_model.proofs.Characters.Decodings.{both}
 use Rattle.rx_model.proofs.Groups.GroupNames.{differs}
 use Rattle.rx_model.proofs.Spelling.Known.{IsKnownOpener, Known, AreKnown, are_known, has_tokens}
 use Rattle.rx_model.proofs.Groups.NameTexts.{IsName}
 use Rattle.rx_model.proofs.Spelling.SomeTexts.{some, some-append}
+use Rattle.rx_model.proofs.Spelling.PrintableTexts.{ArePassing, IsPrintable, boundary_printable, character_passes, class_escape_printable, decimal_printable, look_printable, modifiers_are_printable, passes, quantifier_printable}
 
 abbrev stays : ℕ → Bool
 stays c = not (ends_column c)
@@ -65,112 +61,17 @@ stays-append u v p q = list_all-append stays u v ∙ and_from _ _ p q
 stays_cons : (c : ℕ) (text : List ℕ) → stays c ≡ true → Stays text → Stays (c ∷ text)
 stays_cons c text p q = and_from _ _ p q
 
-digit_stays : (d : ℕ) → d < 16 → stays (hex_digit d) ≡ true
-digit_stays d h = grind (arith, nat_tests)
+printable_stays : ArePassing stays
+printable_stays c h = grind (arith, nat_tests)
 
-rest_stays : (n : ℕ) → stays (hex_digit (n % 16)) ≡ true
-rest_stays n = digit_stays (n % 16) (omega arith)
-
-letter_stays : (c : ℕ) → stays (control_letter c) ≡ true
-letter_stays c =
-    let P : ℕ → Type 0 = λ letter. stays letter ≡ true in
-    cond_both (c == 9) _ _ P (λ _. refl) (λ _. cond_both (c == 10) _ _ P (λ _. refl) (λ _. cond_both (c == 11) _ _ P (λ _. refl) (λ _. cond_both (c == 12) _ _ P (λ _. refl) (λ _. refl))))
-
-hex_stays : (k n : ℕ) → Stays (hex k n)
-hex_stays zero n = refl
-hex_stays (suc k) n =
-    stays-append (cond (nat_lt n 16) [] (hex k (n / 16))) (hex_digit (n % 16) ∷ []) (cond_both (nat_lt n 16) _ _ Stays (λ _. refl) (λ _. hex_stays k (n / 16)))
-    (stays_cons (hex_digit (n % 16)) [] (rest_stays n) refl)
-
-two_stays : (c : ℕ) → Stays (two_digits c)
-unfolding two_digits
-two_stays c = stays_cons (hex_digit (c / 16 % 16)) (hex_digit (c % 16) ∷ []) (rest_stays (c / 16)) (stays_cons (hex_digit (c % 16)) [] (rest_stays c) refl)
-
-four_stays : (c : ℕ) → Stays (four_digits c)
-unfolding four_digits
-four_stays c =
-    stays_cons (hex_digit (c / 4096 % 16)) (hex_digit (c / 256 % 16) ∷ hex_digit (c / 16 % 16) ∷ hex_digit (c % 16) ∷ []) (rest_stays (c / 4096)) (stays_cons (hex_digit (c / 256 % 16)) (hex_digit (c / 16 % 16) ∷ hex_digit (c % 16) ∷ []) (rest_stays (c / 256))
-    (stays_cons (hex_digit (c / 16 % 16)) (hex_digit (c % 16) ∷ []) (rest_stays (c / 16)) (stays_cons (hex_digit (c % 16)) [] (rest_stays c) refl)))
-
-braced_stays : (c : ℕ) → Stays (braced c)
-unfolding braced
-braced_stays c = stays-append (hex 8 c) (125 ∷ []) (hex_stays 8 c) refl
-
-syntax_stays : (c : ℕ) → (is_syntax_character c || c == 47) ≡ true → stays c ≡ true
-syntax_stays c h = grind (arith, nat_tests)
+stays_by : (text : List ℕ) → IsPrintable text → Stays text
+stays_by = passes stays printable_stays
 
 raw_stays : (c : ℕ) → is_within 9 13 c ≡ false → (c == 0x2028 || c == 0x2029) ≡ false → stays c ≡ true
 raw_stays c h k = grind (arith, nat_tests)
 
-surrogate_stays : (mode : Mode) (c : ℕ) → Stays (surrogate_text mode c)
-surrogate_stays Legacy c = four_stays c
-surrogate_stays Unicode c = braced_stays c
-surrogate_stays Sets c = braced_stays c
-
-pub character_stays : (mode : Mode) (after_reference : Bool) (c : ℕ) → Stays (character_text mode (outside after_reference) c)
-unfolding character_text
-character_stays mode after_reference c =
-    cond_both (is_within 9 13 c) _ _ Stays (λ _. stays_cons (control_letter c) [] (letter_stays c) refl)
-    (λ within. cond_both (nat_lt c 32 || is_within 127 159 c) _ _ Stays (λ _. two_stays c)
-    (λ _. cond_both (c == 0x2028 || c == 0x2029) _ _ Stays (λ _. four_stays c)
-    (λ separators. cond_both (is_within 0xD800 0xDFFF c) _ _ Stays (λ _. surrogate_stays mode c)
-    (λ _. cond_both (nat_lt (greatest_raw mode) c) _ _ Stays (λ _. braced_stays c)
-    (λ _. cond_both (is_syntax_character c || c == 47) _ _ Stays (λ syntax. stays_cons c [] (syntax_stays c syntax) refl)
-    (λ _. let stays : stays c ≡ true = raw_stays c within separators in
-    cond_both (after_reference && is_decimal_digit c) _ _ Stays (λ _. stays_cons c [] stays refl) (λ _. stays_cons c [] stays refl)))))))
-
-decimal_digit_stays : (c : ℕ) → digit_value c < 10 → stays c ≡ true
-decimal_digit_stays c h = let r = digit_from_value c h in grind (arith, nat_tests, r)
-
-digits_stay : (ds : List ℕ) → AllDigits 10 ds → Stays ds
-digits_stay [] h = refl
-digits_stay (d ∷ ds) h = stays_cons d ds (decimal_digit_stays d h.0) (digits_stay ds h.1)
-
-decimal_stays : (n : ℕ) → n ≤ greatest_count → Stays (decimal n)
-decimal_stays n h = digits_stay (decimal n) (decimal_is_IsNumeral n (omega (arith, h))).0.1
-
--- digits between texts
-numbered : (n : ℕ) (text : List ℕ) → n ≤ greatest_count → Stays text → Stays (decimal n ++ text)
-numbered n text h p = stays-append (decimal n) text (decimal_stays n h) p
-
-counts_stay : (min : ℕ) (max : Option ℕ) → min ≤ greatest_count → IsGreatest min max → Stays (counts_text min max)
-counts_stay min None h k = cond_both (min == 0) _ _ Stays (λ _. refl) (λ _. cond_both (min == 1) _ _ Stays (λ _. refl) (λ _. numbered min (44 ∷ 125 ∷ []) h refl))
-counts_stay min (Some max) h k =
-    cond_both (min == 0 && max == 1) _ _ Stays (λ _. refl) (λ _. cond_both (min == max) _ _ Stays (λ _. numbered min (125 ∷ []) h refl)
-    (λ _. numbered min (44 ∷ (decimal max ++ (125 ∷ []))) h (numbered max (125 ∷ []) k.1 refl)))
-
-lazy_stays : (greedy : Bool) → Stays (lazy_text greedy)
-lazy_stays true = refl
-lazy_stays false = refl
-
-pub quantifier_stays : (min : ℕ) (max : Option ℕ) (greedy : Bool) → min ≤ greatest_count → IsGreatest min max → Stays (quantifier_text min max greedy)
-quantifier_stays min max greedy h k = stays-append (counts_text min max) (lazy_text greedy) (counts_stay min max h k) (lazy_stays greedy)
-
-pub boundary_stays : (kind : BoundaryAssertionKind) → Stays (boundary_text kind)
-boundary_stays boundaries.Start = refl
-boundary_stays boundaries.End = refl
-boundary_stays boundaries.Boundary = refl
-boundary_stays boundaries.NegativeBoundary = refl
-boundary_stays boundaries.StartBuffer = refl
-boundary_stays boundaries.EndBuffer = refl
-boundary_stays boundaries.EndBufferOptionalNewline = refl
-
-pub class_escape_stays : (kind : CharacterClassEscapeKind) → Stays (class_escape_text kind)
-class_escape_stays D = refl
-class_escape_stays NegativeD = refl
-class_escape_stays S = refl
-class_escape_stays NegativeS = refl
-class_escape_stays W = refl
-class_escape_stays NegativeW = refl
-
-some_character : (mode : Mode) (after_reference : Bool) (c : ℕ) → character_text mode (outside after_reference) c ≢ []
-unfolding character_text two_digits four_digits braced
-some_character mode after_reference c =
-    let P : List ℕ → Type 0 = λ text. text ≢ [] in
-    cond_both (is_within 9 13 c) _ _ P (λ _. some 92 _) (λ _. cond_both (nat_lt c 32 || is_within 127 159 c) _ _ P (λ _. some 92 _)
-    (λ _. cond_both (c == 0x2028 || c == 0x2029) _ _ P (λ _. some 92 _) (λ _. cond_both (is_within 0xD800 0xDFFF c) _ _ P (λ _. some_surrogate mode c)
-    (λ _. cond_both (nat_lt (greatest_raw mode) c) _ _ P (λ _. some 92 _) (λ _. cond_both (is_syntax_character c || c == 47) _ _ P (λ _. some 92 _)
-    (λ _. cond_both (after_reference && is_decimal_digit c) _ _ P (λ _. some 92 _) (λ _. some c [])))))))
+character_stays : (mode : Mode) (place : Place) (c : ℕ) → Stays (character_text mode place c)
+character_stays mode place c = character_passes stays printable_stays mode place c (λ raw. raw_stays c raw.no_control raw.no_separator)
 
 some_counts : (min : ℕ) (max : Option ℕ) → counts_text min max ≢ []
 some_counts min None =
@@ -197,16 +98,6 @@ some_class_escape NegativeS = some 92 _
 some_class_escape W = some 92 _
 some_class_escape NegativeW = some 92 _
 
-no_end : (b : Bool) → not b ≡ true → b ≡ false
-no_end true h = absurd (let k : ⊥ = cc h in k)
-no_end false h = refl
-
-look_stays : (kind : LookAroundAssertionKind) → Stays (look_text kind)
-look_stays look.Lookahead = refl
-look_stays look.NegativeLookahead = refl
-look_stays look.Lookbehind = refl
-look_stays look.NegativeLookbehind = refl
-
 -- what no set holds that ends a column stays
 stays_in : (set : ℕ → Bool) (c : ℕ) → set 9 ≡ false → set 10 ≡ false → set 13 ≡ false → set 0x2028 ≡ false → set 0x2029 ≡ false → set c ≡ true → stays c ≡ true
 stays_in set c tab feed return line paragraph h =
@@ -224,25 +115,12 @@ name_stays : (name : List ℕ) → IsName name → Stays name
 name_stays [] h = absurd h
 name_stays (c ∷ cs) h = stays_cons c cs (in_name_stays true c h.0) (parts_stay cs h.1)
 
-letters_stay : (bits : ℕ) → Stays (letters bits)
-unfolding letters
-letters_stay bits =
-    let n = bits % 8 in
-    cond_both (n == 0) _ _ Stays (λ _. refl) (λ _. cond_both (n == 1) _ _ Stays (λ _. refl) (λ _. cond_both (n == 2) _ _ Stays (λ _. refl)
-    (λ _. cond_both (n == 3) _ _ Stays (λ _. refl) (λ _. cond_both (n == 4) _ _ Stays (λ _. refl) (λ _. cond_both (n == 5) _ _ Stays (λ _. refl)
-    (λ _. cond_both (n == 6) _ _ Stays (λ _. refl) (λ _. refl)))))))
-
-dash_stays : (bits : ℕ) → Stays (dash bits)
-dash_stays bits = cond_both (bits % 8 == 0) _ _ Stays (λ _. refl) (λ _. refl)
-
 opened_stays : (mode : Mode) (o : Opener) → IsKnownOpener mode o → Stays (opened_text o)
 opened_stays mode (capturing None) k = refl
 opened_stays mode (capturing (Some name)) k = stays-append name (62 ∷ []) (name_stays name k.0) refl
 opened_stays mode (ignoring None) k = refl
-opened_stays mode (ignoring (Some bits)) k =
-    stays-append (letters bits.0 ++ (dash bits.1 ++ letters bits.1)) (58 ∷ [])
-    (stays-append (letters bits.0) (dash bits.1 ++ letters bits.1) (letters_stay bits.0) (stays-append (dash bits.1) (letters bits.1) (dash_stays bits.1) (letters_stay bits.1))) refl
-opened_stays mode (looking kind) k = look_stays kind
+opened_stays mode (ignoring (Some bits)) k = stays_by (opened_text (ignoring (Some bits))) (modifiers_are_printable bits)
+opened_stays mode (looking kind) k = stays_by (look_text kind) (look_printable kind)
 
 some_look : (kind : LookAroundAssertionKind) → look_text kind ≢ []
 some_look look.Lookahead = some 40 _
@@ -274,28 +152,9 @@ property_stays mode true strings name value k =
 property_stays mode false strings name value k =
     stays-append (property_body name value) (125 ∷ []) (property_units_stay (property_body name value) (property_units mode strings name value (property_body name value) k)) refl
 
-escaped_in_class_stays : (c : ℕ) → (is_syntax_character c || c == 47 || c == 45) ≡ true → stays c ≡ true
-escaped_in_class_stays c h = grind (arith, nat_tests)
-
-reserved_stays : (mode : Mode) (c : ℕ) → (is_syntax_character c || c == 47 || is_reserved_in_class mode c) ≡ true → stays c ≡ true
-reserved_stays Legacy c h = escaped_in_class_stays c h
-reserved_stays Unicode c h = escaped_in_class_stays c h
-reserved_stays Sets c h = grind (arith, nat_tests)
-
-in_class_stays : (mode : Mode) (c : ℕ) → Stays (character_text mode in_class c)
-unfolding character_text
-in_class_stays mode c =
-    cond_both (is_within 9 13 c) _ _ Stays (λ _. stays_cons (control_letter c) [] (letter_stays c) refl)
-    (λ within. cond_both (nat_lt c 32 || is_within 127 159 c) _ _ Stays (λ _. two_stays c)
-    (λ _. cond_both (c == 0x2028 || c == 0x2029) _ _ Stays (λ _. four_stays c)
-    (λ separators. cond_both (is_within 0xD800 0xDFFF c) _ _ Stays (λ _. surrogate_stays mode c)
-    (λ _. cond_both (nat_lt (greatest_raw mode) c) _ _ Stays (λ _. braced_stays c)
-    (λ _. cond_both (is_syntax_character c || c == 47 || is_reserved_in_class mode c) _ _ Stays (λ syntax. stays_cons c [] (reserved_stays mode c syntax) refl)
-    (λ _. stays_cons c [] (raw_stays c within separators) refl))))))
-
 characters_stay : (mode : Mode) (cs : List Character) → Stays (characters_text mode cs)
 characters_stay mode [] = refl
-characters_stay mode (c ∷ cs) = stays-append (in_class_text mode c) (characters_text mode cs) (in_class_stays mode c.value) (characters_stay mode cs)
+characters_stay mode (c ∷ cs) = stays-append (in_class_text mode c) (characters_text mode cs) (character_stays mode in_class c.value) (characters_stay mode cs)
 
 barred_strings_stay : (mode : Mode) (ss : List ClassString) → Stays (barred_strings_text mode ss)
 barred_strings_stay mode [] = refl
@@ -317,10 +176,10 @@ operator_stays Subtraction = refl
 mutual
   member_stays : (mode : Mode) (m : Member) → IsKnownMember mode m → Stays (member_text mode m)
   member_stays mode (in_tree.range r) k =
-      stays-append (in_class_text mode r.min) (45 ∷ in_class_text mode r.max) (in_class_stays mode r.min.value) (in_class_stays mode r.max.value)
-  member_stays mode (in_tree.escape c) k = class_escape_stays c.kind
+      stays-append (in_class_text mode r.min) (45 ∷ in_class_text mode r.max) (character_stays mode in_class r.min.value) (character_stays mode in_class r.max.value)
+  member_stays mode (in_tree.escape c) k = stays_by (class_escape_text c.kind) (class_escape_printable c.kind)
   member_stays mode (in_tree.property p) k = property_stays mode p.negative p.strings p.name p.value k.1
-  member_stays mode (in_tree.character c) k = in_class_stays mode c.value
+  member_stays mode (in_tree.character c) k = character_stays mode in_class c.value
   member_stays mode (in_tree.nested c) k = tree_stays mode c k.1
   member_stays mode (in_tree.strings d) k = stays-append (strings_text mode d.body) (125 ∷ []) (strings_stay mode d.body) refl
 
@@ -352,18 +211,18 @@ some_class mode (in_tree.class s false may kind ms) = some 91 _
 
 module _ (e : Environment) (count : ℕ) (in_limit : count ≤ most_groups) (names : List (List ℕ)) where
   token_stays : (after_reference : Bool) (t : Token) → Known e t → Obeys count names t → Stays (token_text e.mode after_reference t)
-  token_stays after_reference (boundary kind) k h = boundary_stays kind
-  token_stays after_reference (character kind value) k h = character_stays e.mode after_reference value
+  token_stays after_reference (boundary kind) k h = stays_by (boundary_text kind) (boundary_printable kind)
+  token_stays after_reference (character kind value) k h = character_stays e.mode (outside after_reference) value
   token_stays after_reference dot k h = refl
-  token_stays after_reference (class_escape kind) k h = class_escape_stays kind
+  token_stays after_reference (class_escape kind) k h = stays_by (class_escape_text kind) (class_escape_printable kind)
   token_stays after_reference (property negative strings name value) k h = property_stays e.mode negative strings name value k.1
   token_stays after_reference (class c) k h = class_stays e.mode c k
-  token_stays after_reference (indexed n) k h = decimal_stays n (omega (arith, h.1, in_limit))
+  token_stays after_reference (indexed n) k h = stays_by (decimal n) (decimal_printable n (omega (arith, h.1, in_limit)))
   token_stays after_reference (named name) k h = stays-append name (62 ∷ []) (name_stays name k.0.0) refl
   token_stays after_reference (opener o) k h = opened_stays e.mode o k
   token_stays after_reference closer k h = refl
   token_stays after_reference bar k h = refl
-  token_stays after_reference (quantifier min max greedy) k h = quantifier_stays min max greedy h.0 h.1
+  token_stays after_reference (quantifier min max greedy) k h = stays_by (quantifier_text min max greedy) (quantifier_printable min max greedy h.0 h.1)
 
   tokens_stay : (after_reference : Bool) (ts : List Token) → AreKnown e ts → All (Obeys count names) ts → Stays (tokens_text e.mode after_reference ts)
   tokens_stay after_reference [] k h = refl
@@ -374,7 +233,7 @@ module _ (e : Environment) (count : ℕ) (in_limit : count ≤ most_groups) (nam
 module _ (e : Environment) where
   some_token : (after_reference : Bool) (t : Token) → Known e t → token_text e.mode after_reference t ≢ []
   some_token after_reference (boundary kind) k = some_boundary kind
-  some_token after_reference (character kind value) k = some_character e.mode after_reference value
+  some_token after_reference (character kind value) k = some_character e.mode (outside after_reference) value
   some_token after_reference dot k = some 46 []
   some_token after_reference (class_escape kind) k = some_class_escape kind
   some_token after_reference (property negative strings name value) k = some_property negative name value
@@ -393,7 +252,7 @@ module _ (e : Environment) where
 -- each by itself
 all_stay : (text : List ℕ) → Stays text → All (λ c. ends_column c ≡ false) text
 all_stay [] h = All-nil (λ c. ends_column c ≡ false)
-all_stay (c ∷ text) h = let k = both (stays c) (list_all stays text) h in All-cons (λ c. ends_column c ≡ false) c text (no_end (ends_column c) k.0) (all_stay text k.1)
+all_stay (c ∷ text) h = let k = both (stays c) (list_all stays text) h in All-cons (λ c. ends_column c ≡ false) c text (not-true (ends_column c) k.0) (all_stay text k.1)
 
 pub spelled_in_one_line : (mode : Mode) (p : Pattern) (us : List CodePoint) → Reads mode p us → FitIn mode us → us ≢ [] → IsOneLine (spelling (bare p) mode)
 spelled_in_one_line mode p us r f h =

@@ -9,9 +9,9 @@ use Rattle.rx_base.specs.SurrogatePair.{IsLeadSurrogate, IsTrailSurrogate, surro
 use Rattle.rx_units.specs.declared.code_point.EscapeKind.TheVariants as escape
 use Rattle.rx_units.specs.Units.{unit, lead_of, trail_of, character_units, literal_units, values}
 use Rattle.rx_units.specs.Digits.{front_is}
+use Rattle.rx_units.proofs.Choices.{both}
 use Rattle.rx_model.specs.Groups.GroupNames.{is_in_name, is_pair_in_name, SpellsNameCharacter, one_unit, raw_pair, SpellsNameParts, no_part, part, SpellsName, whole_name}
 use Rattle.rx_model.proofs.Spelling.Bounds.{AreCodePoints}
-use Rattle.rx_model.proofs.Characters.Decodings.{both}
 use Rattle.rx_model.proofs.Groups.NameTexts.{IsName}
 use Rattle.rx_model.proofs.Spelling.Narrows.{IsNarrow}
 

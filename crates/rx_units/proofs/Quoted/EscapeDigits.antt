@@ -6,10 +6,10 @@ use Rattle.rx_units.specs.Characters.{is_line_terminator}
 use Rattle.rx_units.specs.declared.code_point.EscapeKind.TheVariants as kind
 use Rattle.rx_units.specs.Quoted.Escapes.{is_line_feed, single_escape_value}
 use Rattle.rx_units.specs.Quoted.Fronts.{EscapeRead, escaped, digit, four_at, escape_behind, escape_at}
-use Rattle.rx_units.proofs.Quoted.Choices.{chosen, either_way}
 use Rattle.rx_units.proofs.Quoted.ReadForms.{hex_read, unicode_read}
 use Rattle.rx_units.specs.Digits.{front_is}
 use Rattle.rx_tables.specs.Characters.{is_decimal_digit}
+use Rattle.rx_units.proofs.Choices.{chosen, either_way}
 
 abbrev is_digit_read : EscapeRead → Bool
 is_digit_read digit = true

@@ -1,7 +1,7 @@
 -- Escapes of strings and templates: what is spelled is read, and what is read is spelled.
 use Rattle.std.proofs.Common.{◌≡◌, ℕ, ◌+◌, ◌*◌, ◌<◌, ◌≤◌, ◌^◌, ◌==◌, Bool, true, false, cond, not, ◌&&◌, ◌||◌, List, [], ◌∷◌, ◌++◌, length, Option, Some, None, refl, sym, ap, ◌∙◌, subst, arith, inl, inr, lit<, append_assoc, length-append}
 use Rattle.std.proofs.lemmas.Bool.Decides.{nat_tests}
-use Rattle.std.proofs.lemmas.Bool.{eqb-true, cond-true, cond-false}
+use Rattle.std.proofs.lemmas.Bool.{eqb-true, cond-true, cond-false, not-true}
 use Rattle.std.proofs.lemmas.Option.{option_and_then_some}
 use Rattle.rx_tables.specs.Characters.{hex_digit_value, is_decimal_digit}
 use Rattle.rx_units.specs.Characters.{is_line_terminator, is_non_escape_character, is_single_escape_character}
@@ -10,10 +10,10 @@ use Rattle.rx_units.specs.declared.code_point.EscapeKind.TheVariants as kind
 use Rattle.rx_units.specs.Quoted.Escapes.{is_line_feed, single_escape_value, SpellsTerminator, alone, carriage_return, carriage_return_line_feed, SpellsEscape, single, non_escape, null, hexadecimal, four_digits, braced, continuation}
 use Rattle.rx_units.specs.Quoted.Faults.{PassesHex}
 use Rattle.rx_units.specs.Quoted.Fronts.{EscapeRead, escaped, digit, passes, hex_pair, hex_at, four_at, digits_at, braces_at, unicode_behind, line_behind, escape_behind, escape_at}
-use Rattle.rx_units.proofs.Quoted.Choices.{chosen, either_way, both}
 use Rattle.rx_units.proofs.Quoted.HexDigits.{Run, run_found, run_again, run_over, run_over_again}
 use Rattle.rx_units.proofs.Quoted.ReadForms.{hex_read}
 use Rattle.rx_units.specs.Digits.{front_is, hex_number}
+use Rattle.rx_units.proofs.Choices.{chosen, either_way, both}
 
 -- no row above that of other characters begins with the character
 record Others (c : ℕ) : Type 0 where
@@ -212,10 +212,7 @@ line_found c w v k n l h = go (c == 13 && front_is is_line_feed w) refl h
     go false e h = let f = line_front c w l false e in subst (EscapeFront v k n) (sym f.whole) (give f.spelled f.rest (continuation f.spells) (ap (λ n. n + 1) f.count) h)
 
 null_next : (c : ℕ) (w : List ℕ) → (c == 48 && not (front_is is_decimal_digit w)) ≡ true → (c ≡ 48) × (front_is is_decimal_digit w ≡ false)
-null_next c w h = let q = both (c == 48) _ h in (eqb-true c 48 q.0, no_test (front_is is_decimal_digit w) q.1)
-  where
-    no_test : (b : Bool) → not b ≡ true → b ≡ false
-    no_test b h = grind arith
+null_next c w h = let q = both (c == 48) _ h in (eqb-true c 48 q.0, not-true (front_is is_decimal_digit w) q.1)
 
 behind_found : (c : ℕ) (w : List ℕ) (v : ℕ) (k : EscapeKind) (n : ℕ) (o : Option ℕ) → single_escape_value c ≡ o → escape_behind o c w ≡ escaped v k n → EscapeFront v k n (c ∷ w)
 behind_found c w v k n (Some x) e h = give (c ∷ []) w (single e) refl h

@@ -1,6 +1,7 @@
 -- At most one fault stands in a string, and none in one that is decoded.
 use Rattle.std.proofs.Common.{◌≡◌, ℕ, ◌+◌, true, List, [], ◌∷◌, ◌++◌, length, take, Some, None, refl, sym, ap, ◌∙◌, arith, ◌⊎◌}
 use Rattle.std.specs.Prelude.{Result, IfOk, IfErr, MatchResult}
+use Rattle.std.proofs.Math.Seq.{take-append_seam}
 use Rattle.rx_units.specs.declared.code_point.CodePoint.{CodePoint}
 use Rattle.rx_units.specs.declared.quoted_text.element.Element.{Element}
 use Rattle.rx_units.specs.declared.quoted_text.literal.Literal.TheVariants as literals
@@ -20,7 +21,6 @@ use Rattle.rx_units.proofs.Quoted.Fronts.{spelled_front, front_spelled, quote_fr
 use Rattle.rx_units.proofs.Quoted.Outcomes.{large_found}
 use Rattle.rx_units.proofs.Quoted.Rows.{IsStuck}
 use Rattle.rx_units.proofs.Quoted.Stops.{Cause, outside, inside, one_cause, no_cause, without_closer, stops_without, stops_followed, answers_right, answers_fault}
-use Rattle.rx_units.proofs.Quoted.Widths.{take_whole}
 
 opens_with : (k : StringLiteralKind) → is_string_quote (quote_of (literals.String k)) ≡ true
 opens_with quotes.Double = refl
@@ -52,7 +52,7 @@ module _ (k : StringLiteralKind) (p : Place) where
       → string_fault.LegacyInStrictMode what (from_to p.offset (p.offset + byte_count w)) ≡ fault_at (read.element e (length w)) p
   legacy_is e w rest what h is =
       ap (λ m. legacy_fault m p.offset (p.offset + byte_count w)) (sym is)
-      ∙ ap (λ v. legacy_fault e.legacy p.offset (p.offset + byte_count v)) (sym (ap (take (length w)) h ∙ take_whole w rest))
+      ∙ ap (λ v. legacy_fault e.legacy p.offset (p.offset + byte_count v)) (sym (ap (take (length w)) h ∙ take-append_seam w rest))
 
 module _ (o : Options) (text : List ℕ) where
   abbrev StringCause : StringFault → Type 0

@@ -14,10 +14,10 @@ use Rattle.rx_units.specs.Quoted.Elements.{plain, is_open_brace}
 use Rattle.rx_units.specs.Quoted.Found.{seen_front}
 use Rattle.rx_units.specs.Quoted.Fronts.{EscapeRead, escaped, digit, unended, no_hex, no_unicode, passes, Front, element, closer, nothing, substitution, invalid_hex, invalid_unicode, too_large, hex_pair, hex_at, four_at, digit_step, digits_at, braces_at, unicode_behind, line_behind, escape_behind, escape_at, string_escape, string_front, template_escape, raw_line, template_front, front}
 use Rattle.rx_units.specs.Quoted.Texts.{byte_count}
-use Rattle.rx_units.proofs.Quoted.Choices.{either_way, both}
 use Rattle.rx_units.proofs.Quoted.ReadForms.{legacy_read, digit_read}
 use Rattle.rx_units.proofs.Quoted.Widths.{length_le_bytes}
 use Rattle.rx_units.specs.Digits.{front_is}
+use Rattle.rx_units.proofs.Choices.{either_way, both}
 
 abbrev read_extent : EscapeRead → ℕ
 read_extent (escaped v k n) = n

@@ -11,12 +11,12 @@ use Rattle.rx_units.specs.Quoted.Elements.{quote_of, SpellsElement, is_open_brac
 use Rattle.rx_units.specs.Quoted.Faults.{NothingStands, PassesHex}
 use Rattle.rx_units.specs.Quoted.Found.{is_closer}
 use Rattle.rx_units.specs.Quoted.Fronts.{EscapeRead, escaped, digit, unended, no_hex, no_unicode, passes, Front, element, closer, too_large, escape_at, string_escape, string_front, template_escape, template_front, front}
-use Rattle.rx_units.proofs.Quoted.Choices.{chosen}
 use Rattle.rx_units.proofs.Quoted.Escapes.{passes_read}
 use Rattle.rx_units.proofs.Quoted.ReadForms.{legacy_read, digit_read}
 use Rattle.rx_units.proofs.Quoted.StringFronts.{spelled_string, string_spelled}
 use Rattle.rx_units.proofs.Quoted.TemplateFronts.{spelled_template, template_spelled}
 use Rattle.rx_units.specs.Digits.{front_is}
+use Rattle.rx_units.proofs.Choices.{chosen}
 
 -- an element that stands at the front
 pub record ElementFront (l : Literal) (e : Element) (n : ℕ) (us : List ℕ) : Type 0 where

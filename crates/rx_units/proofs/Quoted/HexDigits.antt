@@ -8,8 +8,9 @@ use Rattle.rx_units.specs.declared.code_point.EscapeKind.{EscapeKind}
 use Rattle.rx_units.specs.declared.code_point.EscapeKind.TheVariants as kind
 use Rattle.rx_units.specs.Quoted.Faults.{is_close_brace}
 use Rattle.rx_units.specs.Quoted.Fronts.{escaped, no_unicode, passes, digit_step, digits_at}
-use Rattle.rx_units.proofs.Quoted.Choices.{chosen, both, is_none}
 use Rattle.rx_units.specs.Digits.{front_is, hex_behind, is_hex_digit}
+use Rattle.rx_units.proofs.Choices.{chosen, both, is_none}
+use Rattle.rx_units.proofs.Digits.{hex_le}
 
 -- digits up to a brace
 pub record Run (n count : ℕ) (w : List ℕ) (v : ℕ) (k : EscapeKind) (m : ℕ) : Type 0 where
@@ -58,11 +59,6 @@ run_found_step n count x xs v k m again None e h = elim (chosen ((x == 125) && (
 pub run_found : (n count : ℕ) (w : List ℕ) (v : ℕ) (k : EscapeKind) (m : ℕ) → digits_at n count w ≡ escaped v k m → Run n count w v k m
 run_found n count [] v k m h = absurd (let no : ⊥ = cc h in no)
 run_found n count (x ∷ xs) v k m h = run_found_step n count x xs v k m (λ j. run_found j (count + 1) xs v k m) (hex_digit_value x) refl h
-
--- digits only add to a number
-pub hex_le : (n : ℕ) (ds : List ℕ) (v : ℕ) → hex_behind n ds ≡ Some v → n ≤ v
-hex_le n [] v h = let e : n ≡ v = cc h in omega arith
-hex_le n (x ∷ ds) v h = option_and_then_some (λ d. hex_behind (16 * n + d) ds) (hex_digit_value x) v h (λ d e f. let k = hex_le (16 * n + d) ds v f in omega (arith, k))
 
 pub run_again : (n count : ℕ) (ds rest : List ℕ) (v : ℕ) → hex_behind n ds ≡ Some v → v ≤ 0x10FFFF → 0 < count + length ds → digits_at n count (ds ++ 125 ∷ rest) ≡ escaped v kind.Unicode (count + length ds + 4)
 run_again n count [] rest v h top some =

@@ -17,12 +17,12 @@ use Rattle.rx_units.specs.declared.string_literal_parser.StringFault.TheVariants
 use Rattle.rx_units.specs.Quoted.Found.{is_closer, seen_front}
 use Rattle.rx_units.specs.Quoted.Fronts as read
 use Rattle.rx_units.specs.Quoted.Texts.{Given, Place, IsReached, IsDecoded, byte_count}
-use Rattle.rx_units.proofs.Quoted.Choices.{chosen}
 use Rattle.rx_units.proofs.Quoted.Escapes.{Passes, passes_found}
 use Rattle.rx_units.proofs.Quoted.Fronts.{closer_found, nothing_stands, passes_front}
 use Rattle.rx_units.proofs.Quoted.ReadForms.{legacy_read}
 use Rattle.rx_units.proofs.Quoted.Turns.{place}
 use Rattle.rx_units.proofs.Quoted.Widths.{taken}
+use Rattle.rx_units.proofs.Choices.{chosen}
 
 abbrev is_large : read.Front → Bool
 is_large (read.too_large n) = true

@@ -7,8 +7,8 @@ use Rattle.rx_units.specs.declared.quoted_text.element.Element.{Element}
 use Rattle.rx_units.specs.declared.string_literal_parser.LegacyKind.TheVariants as legacy_kind
 use Rattle.rx_units.specs.Quoted.Elements.{plain, old}
 use Rattle.rx_units.specs.Quoted.Fronts.{EscapeRead, escaped, no_hex, no_unicode, passes, Front, element, nothing, front_digit, hex_pair, hex_at, digit_step, digits_at, unicode_behind, octal_at, legacy_at, digit_behind, digit_at}
-use Rattle.rx_units.proofs.Quoted.Choices.{either_way}
 use Rattle.rx_units.specs.Digits.{octal}
+use Rattle.rx_units.proofs.Choices.{either_way}
 
 module _ (P : EscapeRead → Type 0) (spelled : (v : ℕ) (k : EscapeKind) (n : ℕ) → P (escaped v k n)) where
   pair_read : ((n : ℕ) → P (no_hex n)) → (o p : Option ℕ) → P (hex_pair o p)

@@ -1,17 +1,19 @@
 -- The elements of strings: what is spelled is read, and what is read is spelled.
-use Rattle.std.proofs.Common.{◌≡◌, ℕ, ◌+◌, ◌*◌, ◌==◌, Bool, true, false, not, ◌&&◌, ◌||◌, List, [], ◌∷◌, ◌++◌, length, refl, sym, ap, ◌∙◌, subst, arith, inl, inr}
+use Rattle.std.proofs.Common.{◌≡◌, ℕ, ◌+◌, ◌*◌, ◌==◌, true, false, not, ◌&&◌, ◌||◌, List, [], ◌∷◌, ◌++◌, length, refl, sym, ap, ◌∙◌, subst, arith, inl, inr}
 use Rattle.std.proofs.lemmas.Bool.Decides.{nat_tests}
 use Rattle.std.proofs.lemmas.Bool.{eqb-true, cond-false, cases_Bool}
+use Rattle.std.proofs.Math.Bool.{and-false}
 use Rattle.rx_tables.specs.Characters.{is_octal_digit, is_within, is_decimal_digit}
 use Rattle.rx_units.specs.declared.code_point.EscapeKind.{EscapeKind}
 use Rattle.rx_units.specs.declared.quoted_text.element.Element.{Element}
 use Rattle.rx_units.specs.declared.string_literal_parser.LegacyKind.TheVariants as legacy_kind
 use Rattle.rx_units.specs.Quoted.Elements.{plain, old, is_string_character, SpellsInString, character, escape, octal_zero, octal1, octal2_low, octal2_high, octal3, non_octal}
 use Rattle.rx_units.specs.Quoted.Fronts.{EscapeRead, escaped, digit, unended, no_hex, no_unicode, passes, element, escape_at, octal_at, legacy_at, string_escape, string_front}
-use Rattle.rx_units.proofs.Quoted.Choices.{chosen, both}
 use Rattle.rx_units.proofs.Quoted.Escapes.{EscapeFront, escape_spelled, spelled_escape}
 use Rattle.rx_units.proofs.Quoted.EscapeDigits.{BeginsWithDigit, digit_escape, digit_found}
 use Rattle.rx_units.specs.Digits.{front_is, octal}
+use Rattle.rx_units.proofs.Choices.{both, chosen, low_next}
+use Rattle.rx_units.proofs.Digits.{high_octal, nonzero_octal, zero_next}
 
 -- a digit of a legacy escape
 record Legacy (c : ℕ) (w : List ℕ) : Type 0 where
@@ -117,42 +119,25 @@ module _ (quote : ℕ) (apart : (92 == quote) ≡ false) where
     count = l ∙ (let same : m ≡ n = cc h in same);
   }
 
-  zero_next : (c : ℕ) (w : List ℕ) → (c == 48) ≡ true → (c == 48 && not (front_is is_decimal_digit w)) ≡ false → front_is is_octal_digit w ≡ false → front_is (is_within 56 57) w ≡ true
-  zero_next c [] e z x = grind (arith, nat_tests)
-  zero_next c (d ∷ w) e z x = grind (arith, nat_tests)
-
-  nonzero : (c : ℕ) → is_octal_digit c ≡ true → (c == 48) ≡ false → is_within 49 55 c ≡ true
-  nonzero c o e = grind (arith, nat_tests)
-
-  high : (c : ℕ) → is_octal_digit c ≡ true → is_within 48 51 c ≡ false → is_within 52 55 c ≡ true
-  high c o e = grind (arith, nat_tests)
-
-  low_next : (a b : Bool) → a ≡ true → (a && b) ≡ false → b ≡ false
-  low_next a b e h = grind arith
-
-  and_no : (b : Bool) → (b && false) ≡ false
-  and_no true = refl
-  and_no false = refl
-
   one_digit : (c : ℕ) (w : List ℕ) (e : Element) (n : ℕ) → is_octal_digit c ≡ true → (c == 48 && not (front_is is_decimal_digit w)) ≡ false → front_is is_octal_digit w ≡ false
       → element (old legacy_kind.Octal (octal c)) 2 ≡ element e n → StringFront e n (92 ∷ c ∷ w)
   one_digit c w e n o z x h = elim (cases_Bool (c == 48)) [
     | inl s ↦ subst (λ c. StringFront e n (92 ∷ c ∷ w)) (sym (eqb-true c 48 s))
         (give (92 ∷ 48 ∷ []) w (octal_zero (zero_next c w s z x)) refl (ap (λ (c : ℕ). element (old legacy_kind.Octal (octal c)) 2) (sym (eqb-true c 48 s)) ∙ h))
-    | inr s ↦ give (92 ∷ c ∷ []) w (octal1 (nonzero c o s) x) refl h
+    | inr s ↦ give (92 ∷ c ∷ []) w (octal1 (nonzero_octal c o s) x) refl h
   ]
 
   two_digits : (c d : ℕ) (w : List ℕ) (e : Element) (n : ℕ) → is_octal_digit c ≡ true → is_octal_digit d ≡ true → (is_within 48 51 c && front_is is_octal_digit w) ≡ false
       → element (old legacy_kind.Octal (8 * octal c + octal d)) 3 ≡ element e n → StringFront e n (92 ∷ c ∷ d ∷ w)
   two_digits c d w e n o p z h = elim (cases_Bool (is_within 48 51 c)) [
     | inl s ↦ give (92 ∷ c ∷ d ∷ []) w (octal2_low s p (low_next _ _ s z)) refl h
-    | inr s ↦ give (92 ∷ c ∷ d ∷ []) w (octal2_high (high c o s) p) refl h
+    | inr s ↦ give (92 ∷ c ∷ d ∷ []) w (octal2_high (high_octal c o s) p) refl h
   ]
 
   octal_found : (c : ℕ) (w : List ℕ) (e : Element) (n : ℕ) → is_octal_digit c ≡ true → (c == 48 && not (front_is is_decimal_digit w)) ≡ false → octal_at c w ≡ element e n → StringFront e n (92 ∷ c ∷ w)
   octal_found c [] e n o z h = one_digit c [] e n o z refl h
   octal_found c (d ∷ []) e n o z h = elim (chosen (is_octal_digit d) h) [
-    | inl p ↦ two_digits c d [] e n o p.0 (and_no (is_within 48 51 c)) p.1
+    | inl p ↦ two_digits c d [] e n o p.0 (and-false (is_within 48 51 c)) p.1
     | inr p ↦ one_digit c (d ∷ []) e n o z p.0 p.1
   ]
   octal_found c (d ∷ f ∷ w) e n o z h = elim (chosen (is_octal_digit d) h) [

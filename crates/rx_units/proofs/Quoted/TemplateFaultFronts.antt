@@ -5,10 +5,10 @@ use Rattle.rx_units.specs.declared.quoted_text.literal.Literal.TheVariants as li
 use Rattle.rx_units.specs.Quoted.Elements.{is_open_brace}
 use Rattle.rx_units.specs.Quoted.Faults.{IsNoCodePoint}
 use Rattle.rx_units.specs.Quoted.Fronts.{EscapeRead, unended, no_hex, no_unicode, nothing, substitution, invalid_hex, invalid_unicode, front_digit, hex_pair, hex_at, four_at, digits_at, braces_at, unicode_behind, escape_at, template_escape, front}
-use Rattle.rx_units.proofs.Quoted.Choices.{is_none}
 use Rattle.rx_units.proofs.Quoted.HexDigits.{no_run_again}
 use Rattle.rx_units.proofs.Quoted.Escapes.{brace_no_four}
 use Rattle.rx_units.specs.Digits.{front_is, hex_number, is_hex_digit}
+use Rattle.rx_units.proofs.Choices.{is_none}
 
 no_digit_read : (w : List ℕ) → front_is is_hex_digit w ≡ false → front_digit w ≡ None
 no_digit_read [] h = refl

@@ -15,7 +15,6 @@ use Rattle.rx_units.specs.Quoted.Faults.{PassesHex, IsNoCodePoint, IsTemplateFau
 use Rattle.rx_units.specs.Quoted.Found.{is_closer}
 use Rattle.rx_units.specs.Quoted.Fronts as read
 use Rattle.rx_units.specs.Quoted.Texts.{Place, IsReached}
-use Rattle.rx_units.proofs.Quoted.Choices.{chosen, either_way}
 use Rattle.rx_units.proofs.Quoted.HexDigits.{NoRun, no_run}
 use Rattle.rx_units.proofs.Quoted.Escapes.{Passes, passes_found}
 use Rattle.rx_units.proofs.Quoted.EscapeDigits.{digit_found}
@@ -23,6 +22,7 @@ use Rattle.rx_units.proofs.Quoted.Outcomes.{followed_there}
 use Rattle.rx_units.proofs.Quoted.ReadForms.{hex_read, unicode_read, digit_behind_read}
 use Rattle.rx_units.proofs.Quoted.TemplateFronts.{template_spelled}
 use Rattle.rx_units.specs.Digits.{front_is, hex_number, is_hex_digit}
+use Rattle.rx_units.proofs.Choices.{chosen, either_way}
 
 -- no element of a template is legacy
 no_legacy : (e : Element) (w rest : List ℕ) → SpellsInTemplate e w rest → is_some e.legacy ≡ false

@@ -11,10 +11,11 @@ use Rattle.rx_units.specs.Quoted.Escapes.{is_line_feed, SpellsTerminator, alone,
 use Rattle.rx_units.specs.Quoted.Elements.{plain, is_open_brace, is_template_character, SpellsInTemplate, character, dollar, terminator, escape, zero_digit, digit}
 use Rattle.rx_units.specs.Quoted.Fronts.{EscapeRead, escaped, unended, no_hex, no_unicode, passes, element, substitution, escape_at, digit_behind, digit_at, template_escape, raw_line, template_front}
 use Rattle.rx_units.specs.Quoted.Fronts.{digit as digit_read}
-use Rattle.rx_units.proofs.Quoted.Choices.{chosen}
 use Rattle.rx_units.proofs.Quoted.Escapes.{EscapeFront, escape_spelled, spelled_escape, line_front}
 use Rattle.rx_units.proofs.Quoted.EscapeDigits.{digit_escape, digit_found}
 use Rattle.rx_units.specs.Digits.{front_is}
+use Rattle.rx_units.proofs.Choices.{chosen}
+use Rattle.rx_units.proofs.Digits.{nonzero_digit}
 
 -- a character that stands for itself
 record Plain (c : ℕ) : Type 0 where
@@ -102,17 +103,14 @@ give {x} {e} {m} {n} s rest p l h = record {
 from_zero : (b c : Bool) → b ≡ true → (b && not c) ≡ false → c ≡ true
 from_zero b c h k = grind arith
 
-digit_nonzero : (c : ℕ) → is_decimal_digit c ≡ true → (c == 48) ≡ false → is_within 49 57 c ≡ true
-digit_nonzero c h k = grind (arith, nat_tests)
-
 and_yes : (b : Bool) → (b && true) ≡ false → b ≡ false
 and_yes b h = grind arith
 
 digit_spelled : (c : ℕ) (w : List ℕ) (e : Element) (n : ℕ) → is_decimal_digit c ≡ true → (c == 48 && not (front_is is_decimal_digit w)) ≡ false → digit_behind c w ≡ element e n → TemplateFront e n (92 ∷ c ∷ w)
-digit_spelled c [] e n d z h = give (92 ∷ c ∷ []) [] (digit (digit_nonzero c d (and_yes (c == 48) z))) refl h
+digit_spelled c [] e n d z h = give (92 ∷ c ∷ []) [] (digit (nonzero_digit c d (and_yes (c == 48) z))) refl h
 digit_spelled c (x ∷ w) e n d z h = elim (chosen (c == 48) h) [
   | inl p ↦ rw (eqb-true c 48 p.0) (give (92 ∷ 48 ∷ x ∷ []) w (zero_digit (from_zero (c == 48) (is_decimal_digit x) p.0 z)) refl p.1)
-  | inr p ↦ give (92 ∷ c ∷ []) (x ∷ w) (digit (digit_nonzero c d p.0)) refl p.1
+  | inr p ↦ give (92 ∷ c ∷ []) (x ∷ w) (digit (nonzero_digit c d p.0)) refl p.1
 ]
 
 escape_in_template : (v m : ℕ) (w : List ℕ) (k : EscapeKind) (e : Element) (n : ℕ) → EscapeFront v k m w → element (plain v k) m ≡ element e n → TemplateFront e n (92 ∷ w)

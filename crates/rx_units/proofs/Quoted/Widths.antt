@@ -1,16 +1,15 @@
 -- What an element takes of a text, and how large its value is.
-use Rattle.std.proofs.Common.{◌≡◌, ℕ, suc, zero, ◌+◌, ◌*◌, ◌<◌, ◌≤◌, true, List, [], ◌∷◌, ◌++◌, length, take, drop, Some, refl, sym, ap, ◌∙◌, subst, arith, inl, inr, length-append}
+use Rattle.std.proofs.Common.{◌≡◌, ℕ, suc, zero, ◌+◌, ◌<◌, ◌≤◌, true, List, [], ◌∷◌, ◌++◌, length, take, drop, refl, sym, ap, ◌∙◌, subst, arith, inl, inr, length-append}
 use Rattle.std.proofs.lemmas.Bool.Decides.{nat_tests}
 use Rattle.std.proofs.lemmas.List.Elements.{All-cons, All-head, All-nil, All-tail, All-take}
-use Rattle.std.proofs.lemmas.Option.{option_and_then_some}
 use Rattle.std.specs.Char.{len_utf8}
 use Rattle.std.proofs.Math.Utf8.{scalar_cases}
 use Rattle.std.proofs.lemmas.Str.{length-encode, encodes-chars, scalars-chars}
 use Rattle.std.specs.Prelude.{All}
 use Rattle.std.specs.Str.{IsUtf8, chars}
+use Rattle.std.proofs.Math.Seq.{drop-append_seam, take-append_seam}
 use lib.ListN.{take-append-drop}
 use lib.Utf8.{encode, encodes, scalar, scalars}
-use Rattle.rx_tables.specs.Characters.{hex_digit_value, is_within}
 use Rattle.rx_units.specs.declared.code_point.EscapeKind.{EscapeKind}
 use Rattle.rx_units.specs.declared.quoted_text.element.Element.{Element}
 use Rattle.rx_units.specs.declared.quoted_text.literal.Literal.{Literal}
@@ -20,35 +19,16 @@ use Rattle.rx_units.specs.Quoted.Escapes.{SpellsTerminator, alone, carriage_retu
 use Rattle.rx_units.specs.Quoted.Elements.{SpellsElement, SpellsInString, SpellsInTemplate, octal_zero, octal1, octal2_low, octal2_high, octal3, non_octal, dollar, terminator, zero_digit, digit, character, escape}
 use Rattle.rx_units.specs.Quoted.Fronts.{element, front}
 use Rattle.rx_units.specs.Quoted.Texts.{byte_count}
-use Rattle.rx_units.proofs.Quoted.Choices.{both}
 use Rattle.rx_units.proofs.Quoted.Fronts.{front_spelled}
 use Rattle.rx_units.proofs.Quoted.Rows.{some_characters}
-use Rattle.rx_units.specs.Digits.{hex_number, octal}
+use Rattle.rx_units.proofs.Choices.{both}
+use Rattle.rx_units.proofs.Digits.{four_small, octal_small, two_small}
 
 abbrev pub AreCharacters : List ℕ → Type 0
 AreCharacters us = All (λ c. c ≤ 0x10FFFF) us
 
 first_small : (c : ℕ) (w : List ℕ) → AreCharacters (c ∷ w) → c ≤ 0x10FFFF
 first_small c w h = All-head (λ c. c ≤ 0x10FFFF) c w h
-
-digit_small : (c d : ℕ) → hex_digit_value c ≡ Some d → d < 16
-digit_small c d h = grind (arith, nat_tests)
-
-two_small : (a b v : ℕ) → hex_number (a ∷ b ∷ []) ≡ Some v → v ≤ 0x10FFFF
-two_small a b v h =
-    option_and_then_some _ (hex_digit_value a) v h (λ i ia h.
-    option_and_then_some _ (hex_digit_value b) v h (λ j jb h.
-    let same : 16 * (16 * 0 + i) + j ≡ v = cc h in
-    omega (arith, digit_small a i ia, digit_small b j jb)))
-
-four_small : (a b c d v : ℕ) → hex_number (a ∷ b ∷ c ∷ d ∷ []) ≡ Some v → v ≤ 0x10FFFF
-four_small a b c d v h =
-    option_and_then_some _ (hex_digit_value a) v h (λ i ia h.
-    option_and_then_some _ (hex_digit_value b) v h (λ j jb h.
-    option_and_then_some _ (hex_digit_value c) v h (λ k kc h.
-    option_and_then_some _ (hex_digit_value d) v h (λ l ld h.
-    let same : 16 * (16 * (16 * (16 * 0 + i) + j) + k) + l ≡ v = cc h in
-    omega (arith, digit_small a i ia, digit_small b j jb, digit_small c k kc, digit_small d l ld)))))
 
 terminator_small : (c : ℕ) (w rest : List ℕ) → SpellsTerminator c w rest → c ≤ 0x10FFFF
 terminator_small c _ rest (alone h) = grind (arith, nat_tests)
@@ -59,13 +39,10 @@ escape_small : (v : ℕ) (k : EscapeKind) (w rest : List ℕ) → SpellsEscape v
 escape_small v _ _ rest (single {c} h) a = grind (arith, nat_tests)
 escape_small c _ _ rest (non_escape h) a = first_small c [] a
 escape_small _ _ _ rest (null h) a = omega arith
-escape_small v _ _ rest (hexadecimal {a} {b} h) _ = two_small a b v h
-escape_small v _ _ rest (four_digits {a} {b} {c} {d} h) _ = four_small a b c d v h
+escape_small v _ _ rest (hexadecimal {a} {b} h) _ = omega (arith, two_small a b v h)
+escape_small v _ _ rest (four_digits {a} {b} {c} {d} h) _ = omega (arith, four_small a b c d v h)
 escape_small v _ _ rest (braced x xs h top) a = top
 escape_small c _ w rest (continuation t) a = terminator_small c w rest t
-
-octal_small : (c : ℕ) → is_within 48 55 c ≡ true → octal c < 8
-octal_small c h = grind (arith, nat_tests)
 
 string_small : (quote : ℕ) (e : Element) (w rest : List ℕ) → SpellsInString quote e w rest → AreCharacters w → e.value ≤ 0x10FFFF
 string_small quote _ _ rest (character {c} h) a = first_small c [] a
@@ -103,14 +80,6 @@ pub length_le_bytes : (us : List ℕ) → length us ≤ byte_count us
 length_le_bytes [] = omega arith
 length_le_bytes (u ∷ us) = omega (arith, one_byte u, length_le_bytes us)
 
-pub take_whole : (w rest : List ℕ) → take (length w) (w ++ rest) ≡ w
-take_whole [] rest = refl
-take_whole (c ∷ w) rest = ap (λ w. c ∷ w) (take_whole w rest)
-
-drop_whole : (w rest : List ℕ) → drop (length w) (w ++ rest) ≡ rest
-drop_whole [] rest = refl
-drop_whole (c ∷ w) rest = drop_whole w rest
-
 -- what stands next, cut from the text
 pub record Taken (l : Literal) (e : Element) (n : ℕ) (us : List ℕ) : Type 0 where
   pub within : n ≤ length us
@@ -125,8 +94,8 @@ some_length l e (c ∷ w) rest s = omega arith
 
 taken_front : (l : Literal) (e : Element) (n : ℕ) (w rest : List ℕ) → SpellsElement l e w rest → length w ≡ n → Taken l e n (w ++ rest)
 taken_front l e n w rest s c =
-    let t : take n (w ++ rest) ≡ w = ap (λ (k : ℕ). take k (w ++ rest)) (sym c) ∙ take_whole w rest in
-    let d : drop n (w ++ rest) ≡ rest = ap (λ (k : ℕ). drop k (w ++ rest)) (sym c) ∙ drop_whole w rest in
+    let t : take n (w ++ rest) ≡ w = ap (λ (k : ℕ). take k (w ++ rest)) (sym c) ∙ take-append_seam w rest in
+    let d : drop n (w ++ rest) ≡ rest = ap (λ (k : ℕ). drop k (w ++ rest)) (sym c) ∙ drop-append_seam w rest in
     record {
       within = omega (arith, length-append w rest, c);
       some = omega (arith, some_length l e w rest s, c);

@@ -1,8 +1,37 @@
+use Rattle.std.proofs.Common.{◌≡◌, false, refl, sym, ap, ◌∙◌}
+use Rattle.rx_units.specs.Units.{values}
+use Rattle.rx_model.specs.FirstPass.Marks.{starts}
 use Rattle.rx_class.specs.SetStrings.{no_memory}
 use Rattle.rx_class.proofs.Keeping.{handed}
-use Rattle.rx_class.proofs.SetStrings.{IsRefusedPart}
+use Rattle.rx_class.proofs.SetGives.{with_v}
+use Rattle.rx_class.proofs.SetStrings.{IsRefusedPart, character_keeps, escape_refuses, letter_adds, none_fitting, none_refuses}
 use Rattle.rx_class.proofs.class_strings.string_part.Goals as goal
 
 pub returns-in_err-next_string-clause-refused : goal.returns-in_err-next_string-clause-refused
 returns-in_err-next_string-clause-refused c =
     handed (IsRefusedPart c.args.spans.now c.args.start c.args.reader.now c.next_string.new.reader) c.from_residual.ensures.1 (λ e sets. no_memory c.in_err-next_string.ensures.keeps)
+
+pub returns-in_err-character-clause-refused : goal.returns-in_err-character-clause-refused
+returns-in_err-character-clause-refused c =
+    handed (IsRefusedPart c.args.spans.now c.args.start c.args.reader.now c.answer_ahead.new.reader) c.from_residual-in_err-character.ensures.1
+    (λ e sets. escape_refuses e sets c.args.spans.now c.args.reader.now c.answer_ahead.new.reader c.args.start _ (c.in_err-character.ensures e sets))
+
+pub returns-in_err-push-in-Some-clause-refused : goal.returns-in_err-push-in-Some-clause-refused
+returns-in_err-push-in-Some-clause-refused c =
+    handed (IsRefusedPart c.args.spans.now c.args.start c.args.reader.now c.answer_ahead.new.reader) c.from_residual-in_err-push-in-Some.ensures.1
+    (λ e sets. no_memory (character_keeps e sets c.args.spans.now c.args.reader.now c.answer_ahead.new.reader c.in-Some.character (rw c.in-Some.is at (c.in_ok-character.ensures e sets))))
+
+pub span_to_here-span-requires-clause-fits : goal.span_to_here-span-requires-clause-fits
+span_to_here-span-requires-clause-fits c =
+    none_fitting with_v refl c.args.spans.now c.args.reader.now c.answer_ahead.new.reader c.requires.fits (rw c.in-None.is at (c.in_ok-character.ensures with_v refl))
+
+pub returns-in_ok-push-in-Some-clause-added : goal.returns-in_ok-push-in-Some-clause-added
+returns-in_ok-push-in-Some-clause-added c = λ e sets.
+    letter_adds e sets c.args.spans.now c.args.reader.now c.answer_ahead.new.reader c.args.builder.now _ c.in-Some.character (rw c.in-Some.is at (c.in_ok-character.ensures e sets))
+    (ap (λ letters. record c.args.builder.now { letters = letters }) c.in_ok-push-in-Some.ensures.ok)
+
+pub returns-in-None-clause-refused : goal.returns-in-None-clause-refused
+returns-in-None-clause-refused c = λ e sets.
+    let no_bar : starts 124 (values c.remaining_code_points.result.now) ≡ false = sym c.begins_with.ensures ∙ c.if-begins_with.false in
+    none_refuses e sets c.args.spans.now c.args.reader.now c.answer_ahead.new.reader c.args.start _ c.requires.goes_on
+    (sym (ap (λ us. starts 124 (values us)) c.remaining_code_points.ensures.units) ∙ no_bar) (rw c.in-None.is at (c.in_ok-character.ensures e sets)) c.requires.within c.span_to_here-span.ensures

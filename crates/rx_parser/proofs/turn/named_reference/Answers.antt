@@ -3,7 +3,7 @@ use Rattle.rx_base.specs.declared.fault.Fault.TheVariants.{Diagnostic}
 use Rattle.rx_base.specs.declared.diagnostic.Diagnostic.TheVariants.{InvalidNamedReference}
 use Rattle.rx_model.specs.Trees.Names.{is_among}
 use Rattle.rx_model.specs.Trees.Token.{named}
-use Rattle.rx_model.proofs.Properties.PropertyFronts.{found_among}
+use Rattle.rx_model.proofs.Trees.Names.{found_among}
 use Rattle.rx_parser.specs.Parsing.{IsRefused}
 use Rattle.rx_parser.proofs.Turns.{leaf_turned, name_refused, named_passed}
 use Rattle.rx_parser.proofs.turn.named_reference.Goals as goal

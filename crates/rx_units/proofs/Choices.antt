@@ -1,5 +1,5 @@
 -- Tests, and choices by them.
-use Rattle.std.proofs.Common.{◌≡◌, Bool, true, false, cond, is_some, ◌&&◌, Option, Some, None, refl, ◌⊎◌, inl, inr}
+use Rattle.std.proofs.Common.{◌≡◌, Bool, true, false, cond, is_some, ◌&&◌, Option, Some, None, refl, ◌⊎◌, inl, inr, arith}
 
 -- which way a choice went
 pub chosen : {A : Type 0} {x y z : A} (b : Bool) → cond b x y ≡ z → ((b ≡ true) × (x ≡ z)) ⊎ ((b ≡ false) × (y ≡ z))
@@ -15,6 +15,12 @@ pub both : (a b : Bool) → (a && b) ≡ true → (a ≡ true) × (b ≡ true)
 both true b h = (refl, h)
 both false b h = absurd (let k : ⊥ = cc in k)
 
+pub low_next : (a b : Bool) → a ≡ true → (a && b) ≡ false → b ≡ false
+low_next a b e h = grind arith
+
 pub is_none : {A : Type 0} (o : Option A) → is_some o ≡ false → o ≡ None
 is_none None h = refl
 is_none (Some x) h = absurd (let no : ⊥ = cc h in no)
+
+pub Some-inj : {A : Type 0} {x y : A} → Some x ≡ Some y → x ≡ y
+Some-inj h = cc

@@ -1,0 +1,4 @@
+pub mod Finding
+pub mod Flags
+pub mod Patterns
+pub mod Visits
