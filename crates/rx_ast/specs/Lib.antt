@@ -2,6 +2,8 @@ pub mod ClassTree
 pub mod Forget
 pub mod Kinds
 pub mod MirrorKinds
+pub mod Shown
 pub mod Size
 pub mod Spans
+pub mod Texts
 pub mod Tree

@@ -4,6 +4,8 @@
 #[cfg(test)]
 mod diagnostics;
 #[cfg(test)]
+mod display;
+#[cfg(test)]
 mod memory;
 #[cfg(test)]
 mod quoted;

@@ -7,6 +7,7 @@ use rx_ast::{
 };
 use rx_base::{ContentEq, GetSpan, List, OutOfMemory, Span, Text};
 use std::alloc::Global;
+use std::test::Fail;
 
 const DEEP: u32 = 500_000;
 
@@ -126,6 +127,14 @@ fn content_of_names(rt: HostRuntime) -> Result<(), OutOfMemory> {
     assert!(rt; name.content_eq(&same));
     assert!(rt; !name.content_eq(&other));
     assert!(rt; !name.content_eq(&None));
+    Ok(())
+}
+
+#[test]
+fn a_pattern_is_shown(rt: HostRuntime) -> Result<(), Fail> {
+    let pattern = pattern_by_hand(rt.alloc())?;
+    let text = format!(in rt.alloc(); "{pattern}")?;
+    assert_eq!(rt; text.as_str(), "(?<n>[a-c]){2,3}?");
     Ok(())
 }
 

@@ -26,7 +26,7 @@ use Rattle.rx_model.specs.Classes.ClassRows.{SpellsAtom, SpellsClassCharacter, S
 use Rattle.rx_model.specs.Classes.ClassRows as row
 use Rattle.rx_model.specs.Classes.ClassRuns.{atom_obeys}
 use Rattle.rx_model.specs.Classes.ClassTokens.{character}
-use Rattle.rx_model.specs.Spelling.ClassText.{class_escape_text}
+use Rattle.rx_ast.specs.Texts.{class_escape_text}
 use Rattle.rx_model.specs.Inputs.Environment.{Environment, is_sets, is_unicode}
 use Rattle.rx_model.specs.Characters.EscapeFronts.{EscapeRead, any_escape_at, class_escape_at, escaped, nothing}
 use Rattle.rx_model.specs.Characters.EscapeFronts.{escape_at}

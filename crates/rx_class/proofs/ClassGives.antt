@@ -5,7 +5,7 @@ use Rattle.rx_ast.specs.declared.leaf.CharacterClassEscapeKind.{CharacterClassEs
 use Rattle.rx_units.specs.declared.code_point.CodePoint.{CodePoint}
 use Rattle.rx_units.specs.Cursor.{Cursor, moved, rest}
 use Rattle.rx_units.specs.Units.{values}
-use Rattle.rx_model.specs.Spelling.ClassText.{class_escape_text}
+use Rattle.rx_ast.specs.Texts.{class_escape_text}
 use Rattle.rx_model.proofs.Characters.Backslashes.{class_found}
 use Rattle.rx_model.proofs.Classes.ClassFronts.{class_letter}
 use Rattle.rx_class.specs.EscapeAnswers.{GivesClassEscape, some, none, span_to}

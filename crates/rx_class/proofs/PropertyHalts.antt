@@ -7,7 +7,7 @@ use Rattle.rx_tables.specs.Properties.{IsValidUnicodeProperty}
 use Rattle.rx_units.specs.declared.code_point.CodePoint.{CodePoint}
 use Rattle.rx_units.specs.Units.{values}
 use Rattle.rx_model.specs.declared.mode.Mode.{Mode}
-use Rattle.rx_model.specs.Spelling.ClassText.{property_opener}
+use Rattle.rx_ast.specs.Texts.{property_opener}
 use Rattle.rx_model.specs.Refusals.EscapeCauses.{BeginsProperty, no_property, unterminated_run, unclosed_run, unclosed_pair, unknown_pair, unknown_run, of_strings, negative_of_strings}
 use Rattle.rx_model.specs.FirstPass.Marks.{starts}
 use Rattle.rx_model.specs.Properties.PropertyEscapes.{SpellsProperty, pair}

@@ -16,7 +16,7 @@ use Rattle.rx_model.specs.Inputs.Environment.{Environment, is_sets, is_unicode}
 use Rattle.rx_model.specs.Properties.PropertyForms.{begins_property}
 use Rattle.rx_model.specs.Properties.PropertyFronts.{PropertyRead, no_property, property_front, property_read}
 use Rattle.rx_model.specs.Refusals.Stops.{is_hyphen_escaped}
-use Rattle.rx_model.specs.Spelling.ClassText.{class_escape_text}
+use Rattle.rx_ast.specs.Texts.{class_escape_text}
 use Rattle.rx_model.proofs.Characters.Backslashes.{class_found}
 use Rattle.rx_units.proofs.Choices.{both}
 use Rattle.rx_model.proofs.Classes.ClassFronts.{at_backslash, atom_is_read, letter_no_b, letter_no_punctuator}

@@ -38,7 +38,7 @@ use Rattle.rx_model.specs.Refusals.EscapeCauses as escape_cause
 use Rattle.rx_model.specs.Refusals.EscapeCauses.{IsEscapeCause, IsPropertyCause}
 use Rattle.rx_model.specs.Refusals.Firsts.{no_item, yielding}
 use Rattle.rx_model.specs.Refusals.Reached.{text_environment}
-use Rattle.rx_model.specs.Spelling.ClassText.{class_escape_text}
+use Rattle.rx_ast.specs.Texts.{class_escape_text}
 use Rattle.rx_model.proofs.Classes.ClassFronts.{atom_some, class_letter, token_some, sets_is}
 use Rattle.rx_model.proofs.Classes.ClassStates.{row_shorter}
 use Rattle.rx_model.proofs.Classes.ClassTokens.{tokens_append}

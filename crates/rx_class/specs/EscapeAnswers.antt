@@ -10,7 +10,7 @@ use Rattle.rx_ast.specs.declared.leaf.Character.{Character}
 use Rattle.rx_ast.specs.declared.leaf.CharacterClassEscape.{CharacterClassEscape}
 use Rattle.rx_ast.specs.declared.leaf.CharacterClassEscapeKind.{CharacterClassEscapeKind}
 use Rattle.rx_ast.specs.declared.leaf.CharacterKind.{CharacterKind}
-use Rattle.rx_model.specs.Spelling.ClassText.{class_escape_text}
+use Rattle.rx_ast.specs.Texts.{class_escape_text}
 use Rattle.rx_model.specs.Inputs.Environment.{Environment, environment_with, has_some, is_unicode}
 use Rattle.rx_model.specs.Refusals.EscapeCauses.{IsEscapeCause}
 use Rattle.rx_model.specs.Characters.Escapes.{SpellsEscape}

@@ -9,7 +9,7 @@ use Rattle.rx_units.specs.declared.code_point.CodePoint.{CodePoint}
 use Rattle.rx_units.specs.Units.{values}
 use Rattle.rx_units.specs.Digits.{front_is}
 use Rattle.rx_model.specs.declared.mode.Mode.{Mode}
-use Rattle.rx_model.specs.Spelling.ClassText.{property_opener}
+use Rattle.rx_ast.specs.Texts.{property_opener}
 use Rattle.rx_model.specs.Refusals.EscapeCauses.{IsPropertyCause}
 use Rattle.rx_model.specs.Properties.PropertyEscapes.{SpellsProperty}
 use Rattle.rx_model.specs.Properties.PropertyForms.{HasPair, begins_property}

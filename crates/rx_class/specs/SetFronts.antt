@@ -19,7 +19,7 @@ use Rattle.rx_model.specs.Inputs.Environment.{Environment}
 use Rattle.rx_model.specs.Properties.PropertyForms.{begins_property}
 use Rattle.rx_model.specs.Refusals.ClassPlaces.{begins_item}
 use Rattle.rx_model.specs.Refusals.EscapeCauses.{IsEscapeCause, IsPropertyCause}
-use Rattle.rx_model.specs.Spelling.ClassText.{class_escape_text}
+use Rattle.rx_ast.specs.Texts.{class_escape_text}
 use Rattle.rx_class.specs.Found.{class_escape_front}
 
 -- the character behind a backslash

@@ -8,7 +8,7 @@ ghost use Rattle.rx_model.specs.Classes.ClassRows.{behind_meet};
 ghost use Rattle.rx_model.specs.Classes.ClassRuns.{operand, ranged as after_range};
 ghost use Rattle.rx_model.specs.FirstPass.Marks.{starts};
 ghost use Rattle.rx_model.specs.Inputs.Environment.{Environment, is_sets};
-ghost use Rattle.rx_model.specs.Spelling.ClassText.{class_escape_text};
+ghost use Rattle.rx_ast.specs.Texts.{class_escape_text};
 ghost use Rattle.rx_class.specs.EscapeAnswers.{environment_of};
 ghost use Rattle.rx_class.specs.Fitting.{AreFitting};
 ghost use Rattle.rx_class.specs.Found.{seen_escape};

@@ -4,25 +4,24 @@ use Rattle.std.specs.Char.{is_ascii_digit}
 use Rattle.std.specs.List.{list_all}
 use Rattle.std.specs.Option.{MatchOption}
 use Rattle.std.specs.Result.{OkIff, result_ok}
-use Rattle.std.specs.Str.{all_ascii_digits, chars, encode_utf8_all, IsUtf8}
+use Rattle.std.specs.Str.{all_ascii_digits, chars, IsUtf8}
 use Rattle.std.specs.Str.Parse.{ParsesUnsigned, digits_value}
 use Rattle.std.proofs.lemmas.Bool.{false≢true}
 use Rattle.std.proofs.lemmas.Fmt.{IsAscii-from_digits}
 use Rattle.std.proofs.lemmas.Str.{chars-IsAscii, encodes-chars, encodes-IsAscii}
 use Rattle.std.proofs.lemmas.Str.Parse.{IsNumeralModel, numerals_by_value, tells_all_ascii_digits, digits_value_short, parse_digits}
-use Rattle.rx_tools.proofs.Equal.{plain_bytes}
-use Rattle.rx_run.specs.Command.{IsDecimal, IsGen}
+use Rattle.rx_run.specs.declared.answer.Answering.{Answering}
+use Rattle.rx_run.specs.declared.answer.Answering.TheVariants.{Canonical, Display, Support}
+use Rattle.rx_run.specs.declared.command.Command.{Command}
+use Rattle.rx_run.specs.declared.command.Command.TheVariants.{Serve, Generate, Print}
+use Rattle.rx_run.specs.declared.features.Features.{Features}
+use Rattle.rx_run.specs.declared.notice.Notice.TheVariants.{Help, Version}
+use Rattle.rx_run.specs.Command.{IsCommand, IsDecimal, IsGen, IsServing, IsSupport}
+use Rattle.rx_run.specs.Features.{IsFeatureList}
+use Rattle.rx_run.proofs.FeatureLists.{features_once}
 
 pub digits_model : IsNumeralModel (λ ds. all_ascii_digits ds ≡ true) (digits_value 10)
 digits_model = numerals_by_value (λ ds. all_ascii_digits ds ≡ true) tells_all_ascii_digits
-
--- the word `gen`, by its bytes
-pub gen_chars : (bytes : List ℕ) → bytes ≡ codes "gen" → chars bytes ≡ codes "gen"
-unfolding chars
-gen_chars bytes is = ap chars is
-
-pub gen_bytes : (bytes : List ℕ) → IsUtf8 bytes → chars bytes ≡ codes "gen" → bytes ≡ codes "gen"
-gen_bytes bytes text is = sym (encodes-chars bytes text) ∙ ap encode_utf8_all is ∙ plain_bytes (codes "gen") refl
 
 -- digits are their own bytes
 pub digit_bytes : (bytes : List ℕ) → IsUtf8 bytes → all_ascii_digits (chars bytes) ≡ true → chars bytes ≡ bytes
@@ -60,14 +59,43 @@ digits_parsed {E = E} bytes r all short parses = go r (parse_digits digits_model
         let some : 1 ≤ length (chars bytes) = is.some in
         h (omega (arith, ap length (digit_chars bytes digits)), omega (arith, digits_value_short digits_model bytes 10 digits short))
 
--- a decimal has one value
-decimal_once : (word word' : List ℕ) (n n' : ℕ) → word ≡ word' → IsDecimal word n → IsDecimal word' n' → n ≡ n'
-decimal_once word word' n n' same is is' = is.value ∙ ap (digits_value 10) same ∙ sym is'.value
+-- ---- words that mean nothing
 
--- the words of `gen` have one seed and one count
-pub gen_once : (words : List (List ℕ)) (seed count seed' count' : ℕ) → IsGen words seed count → IsGen words seed' count' → (seed ≡ seed') × (count ≡ count')
-gen_once words seed count seed' count' is is' =
+pub alone_means_nothing : (word : List ℕ) → ¬ (word ≡ codes "display") → ¬ (word ≡ codes "--help") → ¬ (word ≡ codes "--version") → (command : Command) → ¬ IsCommand (word ∷ []) command
+alone_means_nothing word display help version (Serve Canonical) is = cc
+alone_means_nothing word display help version (Serve Display) is = display (cc)
+alone_means_nothing word display help version (Serve (Support features)) is = let two = is.words_are in cc
+alone_means_nothing word display help version (Generate seed count) is = let three = is.words_are in cc
+alone_means_nothing word display help version (Print Help) is = help (cc)
+alone_means_nothing word display help version (Print Version) is = version (cc)
+
+pub two_mean_nothing : (name list : List ℕ) → ((features : Features) → ¬ IsSupport (name ∷ list ∷ []) features) → (command : Command) → ¬ IsCommand (name ∷ list ∷ []) command
+two_mean_nothing name list none (Serve Canonical) is = cc
+two_mean_nothing name list none (Serve Display) is = cc
+two_mean_nothing name list none (Serve (Support features)) is = none features is
+two_mean_nothing name list none (Generate seed count) is = let three = is.words_are in cc
+two_mean_nothing name list none (Print notice) is = cc
+
+pub three_mean_nothing : (name seed count : List ℕ) → ((seed_value count_value : ℕ) → ¬ IsGen (name ∷ seed ∷ count ∷ []) seed_value count_value) → (command : Command)
+    → ¬ IsCommand (name ∷ seed ∷ count ∷ []) command
+three_mean_nothing name seed count none (Serve Canonical) is = cc
+three_mean_nothing name seed count none (Serve Display) is = cc
+three_mean_nothing name seed count none (Serve (Support features)) is = let two = is.words_are in cc
+three_mean_nothing name seed count none (Generate seed_value count_value) is = none seed_value count_value is
+three_mean_nothing name seed count none (Print notice) is = cc
+
+-- ---- words have one meaning
+
+pub serving_once : (words : List (List ℕ)) (one other : Answering) → IsServing words one → IsServing words other → one ≡ other
+serving_once words Canonical Canonical is is' = refl
+serving_once words Canonical Display is is' = cc
+serving_once words Canonical (Support features) is is' = let two = is'.words_are in cc
+serving_once words Display Canonical is is' = cc
+serving_once words Display Display is is' = refl
+serving_once words Display (Support features) is is' = let two = is'.words_are in cc
+serving_once words (Support features) Canonical is is' = let two = is.words_are in cc
+serving_once words (Support features) Display is is' = let two = is.words_are in cc
+serving_once words (Support features) (Support features') is is' =
     let same = sym is.words_are ∙ is'.words_are in
-    let seeds : is.seed_word ≡ is'.seed_word = cc in
-    let counts : is.count_word ≡ is'.count_word = cc in
-    (decimal_once _ _ seed seed' seeds is.seed_is is'.seed_is, decimal_once _ _ count count' counts is.count_is is'.count_is)
+    let lists : is.list_word ≡ is'.list_word = cc in
+    ap Support (features_once is'.list_word features features' (subst (λ word. IsFeatureList word features) lists is.list_is) is'.list_is)

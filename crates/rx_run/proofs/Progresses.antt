@@ -2,6 +2,7 @@
 use Rattle.std.proofs.Common.{◌≡◌, sym, subst, ℕ, Bool, true, List, [], ◌++◌, append-nil, length-append, Option, arith}
 use Rattle.std.proofs.KnownBytes.{Appends-nil, Appends-trans, Consumes-nil, Consumes-trans}
 use Rattle.std.specs.Io.KnownBytes.{Appends}
+use Rattle.rx_run.specs.declared.answer.Answering.{Answering}
 use Rattle.rx_run.specs.Outcome.{IsAnswered, IsBegun, Reads, ReadsAndWrites}
 use Rattle.rx_run.specs.Serving.{Serves, Halts, Ends, Progress}
 use Rattle.rx_run.proofs.Servings.{serves_nothing, serves_then, serves_halts, serves_ends, halts_nothing, ends-answered, halts-begun}
@@ -15,52 +16,53 @@ reads_then {a = a} {b = b} {c = c} xs ys h g = record {
   counted = omega (arith, h.counted, g.counted, length-append xs ys);
 }
 
-pub progress_start : (left taken : Option (List ℕ)) (drawn : ℕ) (line : List ℕ) (ok : Bool) → line ≡ [] → ok ≡ true → Progress left left drawn drawn taken taken line ok
-progress_start left taken drawn line ok none all =
-    let P : List ℕ → Type 0 = λ x. Serves [] true [] [] x ok in
-    let Q : Bool → Type 0 = λ x. Serves [] true [] [] [] x in
-    record {
-      read = [];
-      written = [];
-      reads = reads_nothing left drawn;
-      appends = Appends-nil taken;
-      serves = subst P (sym none) (subst Q (sym all) (serves_nothing [] true));
+module _ {answering : Answering} where
+  pub progress_start : (left taken : Option (List ℕ)) (drawn : ℕ) (line : List ℕ) (ok : Bool) → line ≡ [] → ok ≡ true → Progress answering left left drawn drawn taken taken line ok
+  progress_start left taken drawn line ok none all =
+      let P : List ℕ → Type 0 = λ x. Serves answering [] true [] [] x ok in
+      let Q : Bool → Type 0 = λ x. Serves answering [] true [] [] [] x in
+      record {
+        read = [];
+        written = [];
+        reads = reads_nothing left drawn;
+        appends = Appends-nil taken;
+        serves = subst P (sym none) (subst Q (sym all) (serves_nothing [] true));
+      }
+
+  -- Before: from a to b was read, and from d to e was written. Then from b to c is read, and from e to f is written.
+  module _ {a b c d e : Option (List ℕ)} (f : Option (List ℕ)) {k m n : ℕ} {line : List ℕ} {ok : Bool} (p : Progress answering a b k m d e line ok) where
+    pub progress_more : (bytes line' : List ℕ) (ok' : Bool) → Reads b c m n bytes → ((new : List ℕ) × Appends e f new × Serves answering line ok bytes new line' ok')
+        → Progress answering a c k n d f line' ok'
+    progress_more bytes line' ok' r w = record {
+      read = p.read ++ bytes;
+      written = p.written ++ w.0;
+      reads = reads_then p.read bytes p.reads r;
+      appends = Appends-trans d e f p.written w.0 p.appends w.1;
+      serves = serves_then p.serves w.2;
     }
 
--- Before: from a to b was read, and from d to e was written. Then from b to c is read, and from e to f is written.
-module _ {a b c d e : Option (List ℕ)} (f : Option (List ℕ)) {k m n : ℕ} {line : List ℕ} {ok : Bool} (p : Progress a b k m d e line ok) where
-  pub progress_more : (bytes line' : List ℕ) (ok' : Bool) → Reads b c m n bytes → ((new : List ℕ) × Appends e f new × Serves line ok bytes new line' ok')
-      → Progress a c k n d f line' ok'
-  progress_more bytes line' ok' r w = record {
-    read = p.read ++ bytes;
-    written = p.written ++ w.0;
-    reads = reads_then p.read bytes p.reads r;
-    appends = Appends-trans d e f p.written w.0 p.appends w.1;
-    serves = serves_then p.serves w.2;
-  }
+    pub progress_halts : (bytes : List ℕ) (least : ℕ) → Reads b c m n bytes → ((part : List ℕ) × Appends e f part × Halts answering line bytes part least)
+        → ReadsAndWrites a c k n d f (λ read written. IsBegun answering read written least)
+    progress_halts bytes least r w = (
+      p.read ++ bytes,
+      p.written ++ w.0,
+      reads_then p.read bytes p.reads r,
+      Appends-trans d e f p.written w.0 p.appends w.1,
+      halts-begun (serves_halts p.serves w.2),
+    )
 
-  pub progress_halts : (bytes : List ℕ) (least : ℕ) → Reads b c m n bytes → ((part : List ℕ) × Appends e f part × Halts line bytes part least)
-      → ReadsAndWrites a c k n d f (λ read written. IsBegun read written least)
-  progress_halts bytes least r w = (
-    p.read ++ bytes,
-    p.written ++ w.0,
-    reads_then p.read bytes p.reads r,
-    Appends-trans d e f p.written w.0 p.appends w.1,
-    halts-begun (serves_halts p.serves w.2),
-  )
+    pub progress_ends : (ok' : Bool) → Reads b c m n [] → ((new : List ℕ) × Appends e f new × Ends answering line ok new ok')
+        → ReadsAndWrites a c k n d f (λ read written. IsAnswered answering read written ok')
+    progress_ends ok' r w =
+        let P : List ℕ → Type 0 = λ x. Reads a c k n x in (
+          p.read,
+          p.written ++ w.0,
+          subst P (append-nil p.read) (reads_then p.read [] p.reads r),
+          Appends-trans d e f p.written w.0 p.appends w.1,
+          ends-answered (serves_ends p.serves w.2),
+        )
 
-  pub progress_ends : (ok' : Bool) → Reads b c m n [] → ((new : List ℕ) × Appends e f new × Ends line ok new ok')
-      → ReadsAndWrites a c k n d f (λ read written. IsAnswered read written ok')
-  progress_ends ok' r w =
-      let P : List ℕ → Type 0 = λ x. Reads a c k n x in (
-        p.read,
-        p.written ++ w.0,
-        subst P (append-nil p.read) (reads_then p.read [] p.reads r),
-        Appends-trans d e f p.written w.0 p.appends w.1,
-        ends-answered (serves_ends p.serves w.2),
-      )
-
--- nothing more was written
-pub progress_stops : {a b c d e : Option (List ℕ)} {k m n : ℕ} {line : List ℕ} {ok : Bool} (p : Progress a b k m d e line ok) (bytes : List ℕ) → Reads b c m n bytes
-    → ReadsAndWrites a c k n d e (λ read written. IsBegun read written 0)
-progress_stops {e = e} {line = line} p bytes r = progress_halts e p bytes 0 r ([], Appends-nil e, halts_nothing line bytes)
+  -- nothing more was written
+  pub progress_stops : {a b c d e : Option (List ℕ)} {k m n : ℕ} {line : List ℕ} {ok : Bool} (p : Progress answering a b k m d e line ok) (bytes : List ℕ) → Reads b c m n bytes
+      → ReadsAndWrites a c k n d e (λ read written. IsBegun answering read written 0)
+  progress_stops {e = e} {line = line} p bytes r = progress_halts e p bytes 0 r ([], Appends-nil e, halts_nothing line bytes)

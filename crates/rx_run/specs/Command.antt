@@ -2,8 +2,13 @@
 use Rattle.std.specs.Prelude.{◌≡◌, ◌≤◌, ◌<◌, ℕ, IsTrue, List, [], ◌∷◌, length, codes}
 use Rattle.std.specs.Str.{all_ascii_digits}
 use Rattle.std.specs.Str.Parse.{digits_value}
+use Rattle.rx_run.specs.declared.answer.Answering.{Answering}
+use Rattle.rx_run.specs.declared.answer.Answering.TheVariants.{Canonical, Display, Support}
 use Rattle.rx_run.specs.declared.command.Command.{Command}
-use Rattle.rx_run.specs.declared.command.Command.TheVariants.{Serve, Generate}
+use Rattle.rx_run.specs.declared.command.Command.TheVariants.{Serve, Generate, Print}
+use Rattle.rx_run.specs.declared.features.Features.{Features}
+use Rattle.rx_run.specs.Features.{IsFeatureList}
+use Rattle.rx_run.specs.Notices.{notice_word}
 
 -- The word is a decimal without sign, of 1 to 10 digits.
 pub record IsDecimal (word : List ℕ) (n : ℕ) : Type 0 where
@@ -23,10 +28,23 @@ pub record IsGen (words : List (List ℕ)) (seed count : ℕ) : Type 0 where
   pub some : 1 ≤ count
   pub count_within : count ≤ 20000
 
+-- The words are `support LIST`.
+pub record IsSupport (words : List (List ℕ)) (features : Features) : Type 0 where
+  pub list_word : List ℕ
+  pub words_are : words ≡ codes "support" ∷ list_word ∷ []
+  pub list_is : IsFeatureList list_word features
+
+-- the words with which lines are answered
+abbrev pub IsServing : List (List ℕ) → Answering → Type 0
+IsServing words Canonical = words ≡ []
+IsServing words Display = words ≡ codes "display" ∷ []
+IsServing words (Support features) = IsSupport words features
+
 -- the words of a command
 abbrev pub IsCommand : List (List ℕ) → Command → Type 0
-IsCommand words Serve = words ≡ []
+IsCommand words (Serve answering) = IsServing words answering
 IsCommand words (Generate seed count) = IsGen words seed count
+IsCommand words (Print notice) = words ≡ notice_word notice ∷ []
 
 -- the words are one of the stated lists
 abbrev pub IsStated : List (List ℕ) → Type 0

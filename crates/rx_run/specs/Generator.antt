@@ -1,9 +1,7 @@
 -- The patterns that the command `gen` makes, and what it writes.
-use Rattle.std.specs.Prelude.{◌≡◌, ℕ, zero, suc, ◌+◌, ◌*◌, ◌/◌, ◌%◌, List, [], ◌∷◌, ◌++◌, length, slice_index_or, codes, encode_utf8_all, Option}
+use Rattle.std.specs.Prelude.{◌≡◌, ℕ, zero, suc, ◌+◌, ◌*◌, ◌/◌, ◌%◌, List, [], ◌∷◌, ◌++◌, length, slice_index_or, codes, encode_utf8_all}
 use Rattle.std.specs.Fmt.{decimal}
 use Rattle.std.specs.List.{AllZip, sum}
-use Rattle.std.specs.Io.KnownBytes.{Appends}
-use Rattle.rx_base.specs.Writing.{AppendsFront}
 use Rattle.rx_ast.specs.declared.term.Pattern.{Pattern}
 use Rattle.rx_ast.specs.Forget.{bare}
 use Rattle.rx_model.specs.declared.mode.Mode.TheVariants.{Unicode}
@@ -81,15 +79,3 @@ pub record IsGenOutput (seed count : ℕ) (line : List ℕ) : Type 0 where
   pub bytes : ℕ
   pub sized : AreSized (patterns count seed) bytes
   pub line_is : line ≡ gen_line count bytes
-
--- The line was written whole.
-pub record IsGenWritten (seed count : ℕ) (taken taken' : Option (List ℕ)) : Type 0 where
-  pub line : List ℕ
-  pub output : IsGenOutput seed count line
-  pub appended : Appends taken taken' line
-
--- Only a front of the line was written, of which at least one byte is missing.
-pub record IsGenBegun (seed count : ℕ) (taken taken' : Option (List ℕ)) : Type 0 where
-  pub line : List ℕ
-  pub output : IsGenOutput seed count line
-  pub part : AppendsFront taken taken' line

@@ -1,15 +1,25 @@
 -- What a line is answered.
-use Rattle.std.specs.Prelude.{ℕ, Bool, nat_eq, List, ◌++◌, codes, encode_utf8_all}
+use Rattle.std.specs.Prelude.{◌≡◌, ⊤, ℕ, Bool, true, false, nat_eq, List, [], ◌++◌, length, codes, encode_utf8_all, Option, Some, None}
+use Rattle.std.specs.Fmt.{decimal}
 use Rattle.std.specs.List.{starts_with}
 use Rattle.rx_base.specs.declared.diagnostic.Diagnostic.{Diagnostic}
 use Rattle.rx_base.specs.Diagnostic.{name_of}
 use Rattle.rx_ast.specs.declared.term.Pattern.{Pattern}
 use Rattle.rx_ast.specs.Forget.{bare}
+use Rattle.rx_ast.specs.Kinds.{order, pattern as pattern_kind}
+use Rattle.rx_ast.specs.Tree.{mirror}
+use Rattle.rx_visit.specs.Flags.{are_refused_flags}
+use Rattle.rx_visit.specs.Patterns.{is_refused_pattern}
+use Rattle.rx_ast.specs.Shown.{pattern_shown}
+use Rattle.rx_model.specs.declared.form.Form.{Form}
+use Rattle.rx_model.specs.declared.form.Form.TheVariants.{Literal}
 use Rattle.rx_model.specs.declared.mode.Mode.{Mode}
 use Rattle.rx_model.specs.declared.mode.Mode.TheVariants.{Legacy, Unicode, Sets}
 use Rattle.rx_model.specs.Reading.Headline.{IsFirstRefusal, IsReadAs, IsValid}
 use Rattle.rx_model.specs.Inputs.Inputs.{Input}
 use Rattle.rx_model.specs.Spelling.Spelling.{spelling}
+use Rattle.rx_run.specs.declared.answer.Answering.{Answering}
+use Rattle.rx_run.specs.declared.answer.Answering.TheVariants.{Canonical, Display, Support}
 use Rattle.rx_run.specs.Request.{Request, IsRequest}
 use Rattle.rx_run.specs.Spans.{spans_text}
 
@@ -22,8 +32,32 @@ abbrev pub bad_reply : List ℕ
 bad_reply = codes "bad\n"
 
 -- the mode, and the spelling of a pattern
-abbrev pub ok_reply : Mode → List ℕ → List ℕ
-ok_reply mode text = codes "ok\t" ++ mode_name mode ++ codes "\t" ++ encode_utf8_all text ++ codes "\n"
+abbrev pub canonical_reply : Mode → List ℕ → List ℕ
+canonical_reply mode text = codes "ok\t" ++ mode_name mode ++ codes "\t" ++ encode_utf8_all text ++ codes "\n"
+
+-- the mode, the number of the bytes of a text, and the text
+abbrev pub display_reply : Mode → List ℕ → List ℕ
+display_reply mode bytes = codes "ok\t" ++ mode_name mode ++ codes "\t" ++ decimal (length bytes) ++ codes "\t" ++ bytes ++ codes "\n"
+
+abbrev pub truth_digit : Bool → List ℕ
+truth_digit false = codes "0"
+truth_digit true = codes "1"
+
+-- whether something of the flags, and whether something of the tree, is not supported
+abbrev pub support_reply : Bool → Bool → List ℕ
+support_reply flags pattern = codes "ok\t" ++ truth_digit flags ++ codes "\t" ++ truth_digit pattern ++ codes "\n"
+
+-- the bytes of the flags, none where there is no flags text
+abbrev pub flags_bytes : Option (List ℕ) → List ℕ
+flags_bytes None = []
+flags_bytes (Some flags) = encode_utf8_all flags
+
+-- what is said of a request that is read as this tree, in this mode
+abbrev pub ok_reply : Answering → Request → Mode → Pattern → List ℕ
+ok_reply Canonical request mode pattern = canonical_reply mode (spelling (bare pattern) mode)
+ok_reply Display request mode pattern = display_reply mode (encode_utf8_all (pattern_shown pattern))
+ok_reply (Support features) request mode pattern =
+    support_reply (are_refused_flags features.flags (flags_bytes request.flags)) (is_refused_pattern features.patterns (order (pattern_kind (mirror pattern))))
 
 -- the name and the spans of a refusal
 abbrev pub err_reply : Diagnostic → List ℕ
@@ -33,14 +67,25 @@ err_reply cause = codes "err\t" ++ name_of cause ++ codes "\t" ++ spans_text cau
 abbrev pub input_of : Request → Input
 input_of request = record { form = request.form; text = request.text; flags = request.flags; text_offset = 0; flags_offset = 0 }
 
--- The reply to a line: there is no request in it, or one that is read, or one whose flags or text are refused, so that it is no valid one, with the first
--- refusal.
-pub data IsReply (line : List ℕ) : List ℕ → Type 0 where
-  bad : ((request : Request) → ¬ IsRequest line request) → IsReply line bad_reply
-  ok : (request : Request) (mode : Mode) (pattern : Pattern) → IsRequest line request → IsReadAs (input_of request) mode pattern
-      → IsReply line (ok_reply mode (spelling (bare pattern) mode))
-  err : (request : Request) (refusal : Diagnostic) → IsRequest line request → ¬ IsValid (input_of request) → IsFirstRefusal (input_of request) refusal
-      → IsReply line (err_reply refusal)
+-- the forms that are answered: `support` takes the flags as they stand in the field, where a literal has them
+abbrev pub IsAnswerable : Answering → Form → Type 0
+IsAnswerable Canonical form = ⊤
+IsAnswerable Display form = ⊤
+IsAnswerable (Support features) form = form ≡ Literal
+
+-- The line asks for this, in a form that is answered.
+pub record IsAsked (answering : Answering) (line : List ℕ) (request : Request) : Type 0 where
+  pub asked : IsRequest line request
+  pub answerable : IsAnswerable answering request.form
+
+-- The reply to a line: nothing that is answered is asked in it; or what is asked is read; or its flags or text are refused, so that it is no valid one, with
+-- the first refusal.
+pub data IsReply (answering : Answering) (line : List ℕ) : List ℕ → Type 0 where
+  bad : ((request : Request) → ¬ IsAsked answering line request) → IsReply answering line bad_reply
+  ok : (request : Request) (mode : Mode) (pattern : Pattern) → IsAsked answering line request → IsReadAs (input_of request) mode pattern
+      → IsReply answering line (ok_reply answering request mode pattern)
+  err : (request : Request) (refusal : Diagnostic) → IsAsked answering line request → ¬ IsValid (input_of request) → IsFirstRefusal (input_of request) refusal
+      → IsReply answering line (err_reply refusal)
 
 -- a reply that says `ok`
 abbrev pub begins_ok : List ℕ → Bool

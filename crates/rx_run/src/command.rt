@@ -3,8 +3,12 @@ ghost use Rattle.std.specs.Char.{is_ascii_digit};
 ghost use Rattle.std.specs.List.{list_all};
 ghost use Rattle.std.specs.Str.{chars};
 ghost use Rattle.rx_run.specs.declared.command.Command.{Command as Commands};
-ghost use Rattle.rx_run.specs.Command.{IsCommand, IsDecimal, IsGen};
+ghost use Rattle.rx_run.specs.declared.features.Features.{Features as Listed};
+ghost use Rattle.rx_run.specs.Command.{IsCommand, IsDecimal, IsGen, IsSupport};
 
+use crate::answer::Answering;
+use crate::features::Features;
+use crate::notice::Notice;
 use rx_base::Text;
 
 /// The longest decimal that is read, in digits.
@@ -17,13 +21,16 @@ const SEED_LIMIT: u64 = 2147483648;
 const COUNT_LIMIT: u64 = 20000;
 
 /// What the words after the program's name ask for.
-#[derive(Clone, Copy, Debug, PartialEq, Eq)]
+#[derive(Debug, Drop)]
 pub enum Command {
-    /// No words: the lines of the input are answered.
-    Serve,
+    /// No words, `display`, or `support LIST`: the lines of the input are answered.
+    Serve(Answering),
 
     /// `gen SEED COUNT`: n patterns are made from this seed, and spelled.
     Generate { seed: u32, count: u32 },
+
+    /// `--help` or `--version`: a text is written.
+    Print(Notice),
 }
 
 impl Command {
@@ -34,11 +41,46 @@ impl Command {
             (λ command. IsCommand words.now command) }
     {
         match words {
-            [] => Some(Command::Serve),
+            [] => Some(Command::Serve(Answering::Canonical)),
+            [word] => one_word(word.as_str()),
+            [name, list] => support(name.as_str(), list.as_str()),
             [name, seed, count] => generation(name.as_str(), seed.as_str(), count.as_str()),
             _ => None,
         }
     }
+}
+
+/// The command with this word, or none where it is none of those that stand alone.
+fn one_word(word: &str) -> Option<Command>
+    ensures { MatchOption result
+        ((command : Commands) → ¬ IsCommand (chars word.now ∷ []) command)
+        (λ command. IsCommand (chars word.now ∷ []) command) }
+{
+    match word {
+        "display" => Some(Command::Serve(Answering::Display)),
+        "--help" => Some(Command::Print(Notice::Help)),
+        "--version" => Some(Command::Print(Notice::Version)),
+        _ => None,
+    }
+}
+
+/// The command with these two words, or none where they are not `support` and a list of features.
+fn support(name: &str, list: &str) -> Option<Command>
+    ensures { MatchOption result
+        ((features : Listed) → ¬ IsSupport (chars name.now ∷ chars list.now ∷ []) features)
+        (λ command. IsCommand (chars name.now ∷ chars list.now ∷ []) command) }
+{
+    if !is_support(name) {
+        return None;
+    }
+    let features = Features::parse(list)?;
+    Some(Command::Serve(Answering::Support(features)))
+}
+
+fn is_support(word: &str) -> bool
+    ensures { IsTrue result ↔ (word.now ≡ codes "support") }
+{
+    word == "support"
 }
 
 /// The command with these three words, or none where they are not `gen`, a seed and a count.

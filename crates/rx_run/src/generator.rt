@@ -1,7 +1,8 @@
 ghost use Rattle.std.specs.Prelude.{◌≡◌, ◌<◌, ◌≤◌, ◌++◌, OnOk, IfOk, IsErrOf};
 ghost use Rattle.std.specs.Str.{chars};
 ghost use Rattle.rx_base.specs.FaultCounts.{Rose};
-ghost use Rattle.rx_run.specs.Generator.{AreSized, IsGenBegun, IsGenWritten, IsGenerated, IsSized, drawn, gen_line, next_state, pattern_text, patterns, pieces_text, state_after, state_after_pattern};
+ghost use Rattle.rx_run.specs.Generator.{AreSized, IsGenOutput, IsGenerated, IsSized, drawn, gen_line, next_state, pattern_text, patterns, pieces_text, state_after, state_after_pattern};
+ghost use Rattle.rx_run.specs.Printing.{IsPrinted, IsPrintBegun};
 ghost use Rattle.rx_run.specs.Generator.{piece as piece_text};
 
 use crate::decimal::add_decimal;
@@ -121,8 +122,8 @@ pub fn generate<K: Sink>(
     sink: &mut K,
 ) -> Result<(), ReplyFault>
     requires { count ≤ 20000 }
-    ensures ok { OnOk result (IsGenWritten seed count (K.taken sink.old) (K.taken sink.new)) }
-    ensures begun { IsErrOf result ReplyFault.Write → IsGenBegun seed count (K.taken sink.old) (K.taken sink.new) }
+    ensures ok { OnOk result (IsPrinted (IsGenOutput seed count) (K.taken sink.old) (K.taken sink.new)) }
+    ensures begun { IsErrOf result ReplyFault.Write → IsPrintBegun (IsGenOutput seed count) (K.taken sink.old) (K.taken sink.new) }
     ensures rose { IsErrOf result ReplyFault.Write → Rose (K.faults sink.old) (K.faults sink.new) }
     ensures unwritten { IsErrOf result ReplyFault.OutOfMemory → K.taken sink.new ≡ K.taken sink.old }
     ensures fixed { K.fixed sink.new ≡ K.fixed sink.old }

@@ -1,14 +1,27 @@
-ghost use Rattle.std.specs.Prelude.{◌≡◌, ◌++◌, ◌&&◌, ℕ, List as Sequence, [], true, false, OnOk, codes};
+ghost use Rattle.std.specs.Prelude.{◌≡◌, ◌++◌, ◌&&◌, ℕ, List as Sequence, [], true, false, OnOk, codes, encode_utf8_all};
+ghost use Rattle.std.specs.Str.{chars};
 ghost use Rattle.rx_base.specs.Writing.{Written};
 ghost use Rattle.rx_ast.specs.Forget.{bare};
+ghost use Rattle.rx_ast.specs.Kinds.{order, pattern as pattern_kind};
+ghost use Rattle.rx_ast.specs.Tree.{mirror};
+ghost use Rattle.rx_visit.specs.Flags.{are_refused_flags};
+ghost use Rattle.rx_visit.specs.Patterns.{is_refused_pattern};
+ghost use Rattle.rx_ast.specs.Shown.{pattern_shown};
 ghost use Rattle.rx_model.specs.Spelling.Spelling.{spelling};
-ghost use Rattle.rx_run.specs.Reply.{IsReply, begins_ok, err_reply, mode_name, ok_reply};
+ghost use Rattle.rx_parser.specs.Inputs.{flags_chars};
+ghost use Rattle.rx_run.specs.Reply.{IsReply, begins_ok, canonical_reply, display_reply, err_reply, mode_name, ok_reply, support_reply};
 
+use crate::answer::Answering;
+use crate::decimal::add_decimal;
+use crate::features::Features;
 use crate::request::Request;
 use crate::spans::add_spans;
 use rx_ast::Pattern;
 use rx_base::{Diagnostic, Failed, Fault, List, OutOfMemory, Sink, write_all};
-use rx_tools::{Mode, Options, append_canonical, read_pattern};
+use rx_tools::support::{
+    has_unsupported_regular_expression_flags, has_unsupported_regular_expression_pattern_in,
+};
+use rx_tools::{Mode, Options, append_canonical, display_text, read_pattern};
 use std::alloc::Global;
 
 /// The replies that are to be written next, and whether all replies so far begin with `ok`. The memory is used again after a write.
@@ -30,16 +43,21 @@ impl Replies {
     }
 
     /// Adds the reply to a line. After a refusal a part of the reply may stand at the end.
-    pub fn add(&mut self, alloc: Global, line: &[u8]) -> Result<(), OutOfMemory>
-        ensures { OnOk result ((reply : Sequence ℕ) × IsReply line.now reply
+    pub fn add(
+        &mut self,
+        alloc: Global,
+        answering: &Answering,
+        line: &[u8],
+    ) -> Result<(), OutOfMemory>
+        ensures { OnOk result ((reply : Sequence ℕ) × IsReply answering.now line.now reply
             × (self.new.bytes ≡ self.old.bytes ++ reply) × (self.new.all_ok ≡ (self.old.all_ok && begins_ok reply))) }
     {
-        let Some(request) = Request::parse(line) else {
+        let Some(request) = answering.asked(line) else {
             return self.add_refusal(b"bad\n");
         };
         let options = Options::default();
         match read_pattern(alloc, request.form, request.text, request.flags, options) {
-            Ok((pattern, mode)) => self.add_ok(alloc, &pattern, mode),
+            Ok((pattern, mode)) => self.add_ok(alloc, answering, &request, &pattern, mode),
             Err(Fault::Diagnostic(cause)) => self.add_err(&cause),
             Err(Fault::OutOfMemory) => Err(OutOfMemory),
         }
@@ -54,14 +72,89 @@ impl Replies {
         self.bytes.extend_from_slice(reply)
     }
 
-    /// Adds the reply with this mode and the spelling of a tree. After an error a part of it may stand at the end.
-    fn add_ok(&mut self, alloc: Global, pattern: &Pattern, mode: Mode) -> Result<(), OutOfMemory>
-        ensures bytes { OnOk result (self.new.bytes ≡ self.old.bytes ++ ok_reply mode (spelling (bare pattern.now) mode)) }
+    /// Adds the reply to a request that is read as this tree. After an error a part of it may stand at the end.
+    fn add_ok(
+        &mut self,
+        alloc: Global,
+        answering: &Answering,
+        request: &Request<'_>,
+        pattern: &Pattern,
+        mode: Mode,
+    ) -> Result<(), OutOfMemory>
+        ensures bytes { OnOk result (self.new.bytes ≡ self.old.bytes ++ ok_reply answering.now
+            (record { form = request.now.form; flags = flags_chars request.now.flags; text = chars request.now.text.now }) mode pattern.now) }
+        ensures all_ok { self.new.all_ok ≡ self.old.all_ok }
+    {
+        match answering {
+            Answering::Canonical => self.add_canonical(alloc, pattern, mode),
+            Answering::Display => self.add_display(alloc, pattern, mode),
+            Answering::Support(features) => {
+                self.add_support(alloc, features, request.flags_field(), pattern)
+            }
+        }
+    }
+
+    /// Adds the reply with this mode and the canonical spelling of a tree.
+    fn add_canonical(
+        &mut self,
+        alloc: Global,
+        pattern: &Pattern,
+        mode: Mode,
+    ) -> Result<(), OutOfMemory>
+        ensures bytes { OnOk result (self.new.bytes ≡ self.old.bytes ++ canonical_reply mode (spelling (bare pattern.now) mode)) }
         ensures all_ok { self.new.all_ok ≡ self.old.all_ok }
     {
         self.bytes.extend_from_slice(ok_front(mode).as_bytes())?;
         append_canonical(alloc, &mut self.bytes, pattern, mode)?;
         self.bytes.extend_from_slice(b"\n")
+    }
+
+    /// Adds the reply with this mode and the text that `Display` writes of a tree.
+    fn add_display(
+        &mut self,
+        alloc: Global,
+        pattern: &Pattern,
+        mode: Mode,
+    ) -> Result<(), OutOfMemory>
+        ensures bytes { OnOk result (self.new.bytes ≡ self.old.bytes ++ display_reply mode (encode_utf8_all (pattern_shown pattern.now))) }
+        ensures all_ok { self.new.all_ok ≡ self.old.all_ok }
+    {
+        let text = display_text(alloc, pattern)?;
+        self.add_text(text.as_str(), mode)
+    }
+
+    /// Adds the reply with this mode and a text, with the number of its bytes before it.
+    fn add_text(&mut self, text: &str, mode: Mode) -> Result<(), OutOfMemory>
+        ensures bytes { OnOk result (self.new.bytes ≡ self.old.bytes ++ display_reply mode text.now) }
+        ensures all_ok { self.new.all_ok ≡ self.old.all_ok }
+    {
+        self.bytes.extend_from_slice(ok_front(mode).as_bytes())?;
+        add_decimal(&mut self.bytes, text.len())?;
+        self.bytes.extend_from_slice(b"\t")?;
+        self.bytes.extend_from_slice(text.as_bytes())?;
+        self.bytes.extend_from_slice(b"\n")
+    }
+
+    /// Adds the reply that says whether something of these flags, and of a tree, is not supported.
+    fn add_support(
+        &mut self,
+        alloc: Global,
+        features: &Features,
+        flags: &str,
+        pattern: &Pattern,
+    ) -> Result<(), OutOfMemory>
+        ensures bytes { OnOk result (self.new.bytes ≡ self.old.bytes ++ support_reply
+            (are_refused_flags features.now.flags flags.now) (is_refused_pattern features.now.patterns (order (pattern_kind (mirror pattern.now))))) }
+        ensures all_ok { self.new.all_ok ≡ self.old.all_ok }
+    {
+        let of_flags = has_unsupported_regular_expression_flags(flags, &features.flags);
+        let of_pattern = has_unsupported_regular_expression_pattern_in(
+            alloc,
+            pattern,
+            &features.patterns,
+        )?;
+        self.bytes
+            .extend_from_slice(support_reply(of_flags, of_pattern).as_bytes())
     }
 
     /// Adds the reply with the name and the spans of a refusal.
@@ -88,7 +181,7 @@ impl Replies {
     }
 }
 
-/// What an `ok` reply begins with.
+/// What an `ok` reply with a mode begins with.
 fn ok_front(mode: Mode) -> &'static str
     ensures { result.now ≡ codes "ok\t" ++ mode_name mode ++ codes "\t" }
 {
@@ -96,5 +189,17 @@ fn ok_front(mode: Mode) -> &'static str
         Mode::Legacy => "ok\tlegacy\t",
         Mode::Unicode => "ok\tunicode\t",
         Mode::Sets => "ok\tsets\t",
+    }
+}
+
+/// The reply that says what is not supported.
+fn support_reply(of_flags: bool, of_pattern: bool) -> &'static str
+    ensures { result.now ≡ support_reply of_flags of_pattern }
+{
+    match (of_flags, of_pattern) {
+        (false, false) => "ok\t0\t0\n",
+        (false, true) => "ok\t0\t1\n",
+        (true, false) => "ok\t1\t0\n",
+        (true, true) => "ok\t1\t1\n",
     }
 }

@@ -2,6 +2,7 @@ ghost use Rattle.std.specs.Prelude.{◌≡◌, ◌≤◌, MatchOption, IfSome, l
 ghost use Rattle.std.specs.Str.{chars};
 ghost use Rattle.rx_model.specs.declared.form.Form.{Form as Forms};
 ghost use Rattle.rx_parser.specs.Inputs.{flags_chars, flags_length};
+ghost use Rattle.rx_run.specs.Reply.{flags_bytes};
 ghost use Rattle.rx_run.specs.Request.{IsRequest, form_field, flags_text};
 ghost use Rattle.rx_run.specs.Request.{Request as Asked};
 
@@ -41,6 +42,13 @@ fn flags(field: &str) -> Option<&str>
 }
 
 impl<'a> Request<'a> {
+    /// The field of the flags, which is empty where there is no flags text.
+    pub fn flags_field(&self) -> &'a str
+        ensures { result.now ≡ flags_bytes (flags_chars self.now.flags) }
+    {
+        self.flags.unwrap_or("")
+    }
+
     /// What a line asks for, or none where the line is longer than the limit, or is no UTF-8, or has fewer than two TABs, or its
     /// first field is neither `L` nor `C`.
     pub fn parse(line: &'a [u8]) -> Option<Request<'a>>

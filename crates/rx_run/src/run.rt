@@ -1,16 +1,21 @@
 ghost use Rattle.std.specs.Prelude.{◌≡◌, ◌≢◌, ◌≤◌, ◌<◌, ◌+◌, ◌↔◌, ℕ, [], OnOk, IsErrOf};
 ghost use Rattle.std.specs.Io.KnownBytes.{IsAtEnd};
 ghost use Rattle.rx_base.specs.FaultCounts.{Rose};
-ghost use Rattle.rx_run.specs.Command.{IsGen, IsStated};
+ghost use Rattle.rx_run.specs.declared.answer.Answering.{Answering as Answers};
+ghost use Rattle.rx_run.specs.declared.notice.Notice.{Notice as Notices};
+ghost use Rattle.rx_run.specs.Command.{IsCommand, IsGen, IsStated};
+ghost use Rattle.rx_run.specs.Generator.{IsGenOutput};
+ghost use Rattle.rx_run.specs.Notices.{notice_text};
 ghost use Rattle.rx_run.specs.Outcome.{ReadsAndWrites};
-ghost use Rattle.rx_run.specs.Status.{Generates, GenOutcome, Outcome, IsFinished, number_of};
+ghost use Rattle.rx_run.specs.Status.{Outcome, IsFinished, PrintOutcome, Prints, number_of};
 ghost use Rattle.rx_run.specs.Served.{IsServed};
 
+use crate::answer::Answering;
 use crate::command::Command;
 use crate::generator::generate;
 use crate::input::{Input, InputFault};
 use crate::server::{ReplyFault, Server};
-use rx_base::{OutOfMemory, Sink, Source, Text};
+use rx_base::{Failed, OutOfMemory, Sink, Source, Text, write_all};
 use std::alloc::Global;
 
 /// How much is read at once, in bytes.
@@ -61,11 +66,12 @@ impl From<ReplyFault> for Interruption {
 /// How a run of the program ended.
 #[derive(Clone, Copy, Debug, PartialEq, Eq)]
 pub enum Status {
-    /// The input was read to its end, every reply was written, and every reply begins with `ok`. Of `gen`: its line was written.
+    /// The input was read to its end, every reply was written, and every reply begins with `ok`. Of the commands
+    /// that read nothing: what they write was written.
     AllOk,
 
-    /// The input was read to its end, every reply was written, and some reply does not begin with `ok`. Not of `gen`, whose
-    /// patterns are all valid.
+    /// The input was read to its end, every reply was written, and some reply does not begin with `ok`. Not of the
+    /// commands that read nothing.
     SomeRefused,
 
     /// The words are none of the stated lists.
@@ -115,11 +121,12 @@ impl From<OutOfMemory> for Status {
 /// Reads the input to its end, answers each line, and says whether each reply begins with `ok`.
 fn serve<S: Source, K: Sink>(
     alloc: Global,
+    answering: &Answering,
     source: &mut S,
     sink: &mut K,
 ) -> Result<bool, Interruption>
     ensures content { ReadsAndWrites (S.left source.old) (S.left source.new) (S.drawn source.old) (S.drawn source.new)
-        (K.taken sink.old) (K.taken sink.new) (IsServed result) }
+        (K.taken sink.old) (K.taken sink.new) (IsServed answering.now result) }
     ensures end { OnOk result (IsAtEnd (S.left source.new)) }
 
     ensures fixed { K.fixed sink.new ≡ K.fixed sink.old }
@@ -132,17 +139,22 @@ fn serve<S: Source, K: Sink>(
     'chunks: loop {
         let count = input.fill(source)?;
         if count == 0 {
-            let all_ok = server.finish(alloc, sink)?;
+            let all_ok = server.finish(alloc, answering, sink)?;
             return Ok(all_ok);
         }
-        server.feed(alloc, input.bytes(count), sink)?;
+        server.feed(alloc, answering, input.bytes(count), sink)?;
     }
 }
 
-/// Answers the lines of the input, as the program does without words.
-fn run_serve<S: Source, K: Sink>(alloc: Global, source: &mut S, sink: &mut K) -> Status
+/// Answers the lines of the input.
+fn run_serve<S: Source, K: Sink>(
+    alloc: Global,
+    answering: &Answering,
+    source: &mut S,
+    sink: &mut K,
+) -> Status
     ensures content { ReadsAndWrites (S.left source.old) (S.left source.new) (S.drawn source.old) (S.drawn source.new)
-        (K.taken sink.old) (K.taken sink.new) (Outcome result) }
+        (K.taken sink.old) (K.taken sink.new) (Outcome answering.now result) }
     ensures end { IsFinished result → IsAtEnd (S.left source.new) }
     ensures usage { result ≢ Status.Usage }
     ensures fixed { K.fixed sink.new ≡ K.fixed sink.old }
@@ -150,7 +162,7 @@ fn run_serve<S: Source, K: Sink>(alloc: Global, source: &mut S, sink: &mut K) ->
     ensures write_fault { result ≡ Status.WriteFault → Rose (K.faults sink.old) (K.faults sink.new) }
     ensures too_much { (result ≡ Status.TooMuch) ↔ (S.drawn source.old + 67108864 < S.drawn source.new) }
 {
-    match serve(alloc, source, sink) {
+    match serve(alloc, answering, source, sink) {
         Ok(true) => Status::AllOk,
         Ok(false) => Status::SomeRefused,
         Err(Interruption::OutOfMemory) => Status::OutOfMemory,
@@ -164,7 +176,7 @@ fn run_serve<S: Source, K: Sink>(alloc: Global, source: &mut S, sink: &mut K) ->
 /// Makes patterns and writes what came of them, as the program does with the words of `gen`.
 fn run_generate<K: Sink>(alloc: Global, seed: u32, count: u32, sink: &mut K) -> Status
     requires { count ≤ 20000 }
-    ensures written { GenOutcome result seed count (K.taken sink.old) (K.taken sink.new) }
+    ensures written { PrintOutcome (IsGenOutput seed count) result (K.taken sink.old) (K.taken sink.new) }
     ensures fixed { K.fixed sink.new ≡ K.fixed sink.old }
     ensures write_fault { result ≡ Status.WriteFault → Rose (K.faults sink.old) (K.faults sink.new) }
 {
@@ -175,21 +187,40 @@ fn run_generate<K: Sink>(alloc: Global, seed: u32, count: u32, sink: &mut K) -> 
     }
 }
 
-/// Does all that the program does, for the words after its name. The stated lists of words are none, and `gen SEED COUNT`.
+/// Writes a text.
+fn run_print<K: Sink>(text: &str, sink: &mut K) -> Status
+    ensures written { PrintOutcome (λ written. written ≡ text.now) result (K.taken sink.old) (K.taken sink.new) }
+    ensures memory { result ≢ Status.OutOfMemory }
+    ensures fixed { K.fixed sink.new ≡ K.fixed sink.old }
+    ensures write_fault { result ≡ Status.WriteFault → Rose (K.faults sink.old) (K.faults sink.new) }
+{
+    match write_all(sink, text.as_bytes()) {
+        Ok(()) => Status::AllOk,
+        Err(Failed) => Status::WriteFault,
+    }
+}
+
+/// Does all that the program does, for the words after its name. The stated lists of words are none, `display`, `support LIST`,
+/// `gen SEED COUNT`, `--help` and `--version`.
 pub fn run<S: Source, K: Sink>(
     alloc: Global,
     words: &[Text],
     source: &mut S,
     sink: &mut K,
 ) -> Status
-    // What was read and written without words: where the input was read to its end, one reply to each line, in order, and nothing
-    // else; else the front of the replies to the first lines.
-    ensures content { words.now ≡ [] → ReadsAndWrites (S.left source.old) (S.left source.new) (S.drawn source.old) (S.drawn source.new)
-        (K.taken sink.old) (K.taken sink.new) (Outcome result) }
-    ensures end { words.now ≡ [] → IsFinished result → IsAtEnd (S.left source.new) }
+    // What was read and written where the lines are answered: where the input was read to its end, one reply to each line, in order, and
+    // nothing else; else the front of the replies to the first lines.
+    ensures content { (answering : Answers) → IsCommand words.now (Command.Serve answering)
+        → ReadsAndWrites (S.left source.old) (S.left source.new) (S.drawn source.old) (S.drawn source.new)
+        (K.taken sink.old) (K.taken sink.new) (Outcome answering result) }
+    ensures end { (answering : Answers) → IsCommand words.now (Command.Serve answering) → IsFinished result → IsAtEnd (S.left source.new) }
 
     // With the words of `gen` nothing is read, and the line is written, or a front of it, or nothing.
-    ensures generated { (seed count : ℕ) → IsGen words.now seed count → Generates K.taken source.old source.new sink.old sink.new seed count result }
+    ensures generated { (seed count : ℕ) → IsGen words.now seed count → Prints K.taken source.old source.new sink.old sink.new (IsGenOutput seed count) result }
+
+    // With `--help` and `--version` nothing is read, and the text is written, or after a fault a front of it; no memory is taken.
+    ensures printed { (notice : Notices) → IsCommand words.now (Command.Print notice)
+        → Prints K.taken source.old source.new sink.old sink.new (λ text. text ≡ notice_text notice) result × (result ≢ Status.OutOfMemory) }
 
     // When each status comes. So where none of these facts holds, memory ran out, or the input was answered, or the line written.
     ensures usage { (result ≡ Status.Usage) ↔ ¬ IsStated words.now }
@@ -201,7 +232,8 @@ pub fn run<S: Source, K: Sink>(
 {
     match Command::parse(words) {
         None => Status::Usage,
-        Some(Command::Serve) => run_serve(alloc, source, sink),
+        Some(Command::Serve(answering)) => run_serve(alloc, &answering, source, sink),
         Some(Command::Generate { seed, count }) => run_generate(alloc, seed, count, sink),
+        Some(Command::Print(notice)) => run_print(notice.text(), sink),
     }
 }

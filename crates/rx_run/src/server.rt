@@ -6,6 +6,7 @@ ghost use Rattle.rx_run.specs.Reply.{IsReply, begins_ok};
 ghost use Rattle.rx_run.specs.Serving.{Serves, Halts, Ends};
 ghost use Rattle.rx_run.specs.Served.{least_missing};
 
+use crate::answer::Answering;
 use crate::line::Line;
 use crate::pieces::split_at_byte;
 use crate::replies::Replies;
@@ -64,38 +65,49 @@ impl Server {
     }
 
     /// Takes the last piece of a line, and answers the line.
-    fn end_line(&mut self, alloc: Global, piece: &[u8]) -> Result<(), OutOfMemory>
+    fn end_line(
+        &mut self,
+        alloc: Global,
+        answering: &Answering,
+        piece: &[u8],
+    ) -> Result<(), OutOfMemory>
         requires { IsTrue (lacks 10 piece.now) }
         ensures { OnOk result ((new : Sequence ℕ) × (self.new.replies.bytes ≡ self.old.replies.bytes ++ new)
-            × Serves self.old.line.bytes self.old.replies.all_ok (piece.now ++ 10 ∷ []) new self.new.line.bytes self.new.replies.all_ok) }
+            × Serves answering.now self.old.line.bytes self.old.replies.all_ok (piece.now ++ 10 ∷ []) new self.new.line.bytes self.new.replies.all_ok) }
     {
         if self.line.is_empty() {
-            return self.replies.add(alloc, piece);
+            return self.replies.add(alloc, answering, piece);
         }
         self.line.keep(piece)?;
-        self.answer(alloc)
+        self.answer(alloc, answering)
     }
 
     /// Answers the line, and begins the next.
-    fn answer(&mut self, alloc: Global) -> Result<(), OutOfMemory>
-        ensures reply { OnOk result ((reply : Sequence ℕ) × IsReply self.old.line.bytes reply
+    fn answer(&mut self, alloc: Global, answering: &Answering) -> Result<(), OutOfMemory>
+        ensures reply { OnOk result ((reply : Sequence ℕ) × IsReply answering.now self.old.line.bytes reply
             × (self.new.replies.bytes ≡ self.old.replies.bytes ++ reply)
             × (self.new.replies.all_ok ≡ (self.old.replies.all_ok && begins_ok reply))) }
         ensures line { OnOk result (self.new.line.bytes ≡ []) }
     {
-        self.replies.add(alloc, self.line.bytes.as_slice())?;
+        self.replies
+            .add(alloc, answering, self.line.bytes.as_slice())?;
         self.line.clear();
         Ok(())
     }
 
     /// Takes the next bytes of the input, and answers each line that ends in them.
-    fn answer_lines(&mut self, alloc: Global, bytes: &[u8]) -> Result<(), OutOfMemory>
+    fn answer_lines(
+        &mut self,
+        alloc: Global,
+        answering: &Answering,
+        bytes: &[u8],
+    ) -> Result<(), OutOfMemory>
         ensures { OnOk result ((new : Sequence ℕ) × (self.new.replies.bytes ≡ self.old.replies.bytes ++ new)
-            × Serves self.old.line.bytes self.old.replies.all_ok bytes.now new self.new.line.bytes self.new.replies.all_ok) }
+            × Serves answering.now self.old.line.bytes self.old.replies.all_ok bytes.now new self.new.line.bytes self.new.replies.all_ok) }
     {
         let mut rest = bytes;
         'lines: while let Some((piece, after)) = split_at_byte(b'\n', rest) {
-            self.end_line(alloc, piece)?;
+            self.end_line(alloc, answering, piece)?;
             rest = after;
         }
         self.line.keep(rest)
@@ -105,31 +117,37 @@ impl Server {
     pub fn feed<K: Sink>(
         &mut self,
         alloc: Global,
+        answering: &Answering,
         bytes: &[u8],
         sink: &mut K,
     ) -> Result<(), ReplyFault>
         requires { self.old.replies.bytes ≡ [] }
         ensures ok { OnOk result ((new : Sequence ℕ) × Appends (K.taken sink.old) (K.taken sink.new) new
-            × Serves self.old.line.bytes self.old.replies.all_ok bytes.now new self.new.line.bytes self.new.replies.all_ok) }
+            × Serves answering.now self.old.line.bytes self.old.replies.all_ok bytes.now new self.new.line.bytes self.new.replies.all_ok) }
         ensures done { OnOk result (self.new.replies.bytes ≡ []) }
         ensures err { IfErr result (λ fault. (part : Sequence ℕ) × Appends (K.taken sink.old) (K.taken sink.new) part
-            × Halts self.old.line.bytes bytes.now part (least_missing fault)) }
+            × Halts answering.now self.old.line.bytes bytes.now part (least_missing fault)) }
         ensures fixed { K.fixed sink.new ≡ K.fixed sink.old }
         ensures later { K.faults sink.old ≤ K.faults sink.new }
         ensures write { IsErrOf result ReplyFault.Write → Rose (K.faults sink.old) (K.faults sink.new) }
     {
-        self.answer_lines(alloc, bytes)?;
+        self.answer_lines(alloc, answering, bytes)?;
         self.replies.write(sink)?;
         Ok(())
     }
 
     /// Answers a last line with no LF, and says whether every reply begins with `ok`.
-    pub fn finish<K: Sink>(&mut self, alloc: Global, sink: &mut K) -> Result<bool, ReplyFault>
+    pub fn finish<K: Sink>(
+        &mut self,
+        alloc: Global,
+        answering: &Answering,
+        sink: &mut K,
+    ) -> Result<bool, ReplyFault>
         requires { self.old.replies.bytes ≡ [] }
         ensures ok { IfOk result (λ ok. (new : Sequence ℕ) × Appends (K.taken sink.old) (K.taken sink.new) new
-            × Ends self.old.line.bytes self.old.replies.all_ok new ok) }
+            × Ends answering.now self.old.line.bytes self.old.replies.all_ok new ok) }
         ensures err { IfErr result (λ fault. (part : Sequence ℕ) × Appends (K.taken sink.old) (K.taken sink.new) part
-            × Halts self.old.line.bytes [] part (least_missing fault)) }
+            × Halts answering.now self.old.line.bytes [] part (least_missing fault)) }
         ensures fixed { K.fixed sink.new ≡ K.fixed sink.old }
         ensures later { K.faults sink.old ≤ K.faults sink.new }
         ensures write { IsErrOf result ReplyFault.Write → Rose (K.faults sink.old) (K.faults sink.new) }
@@ -137,7 +155,7 @@ impl Server {
         if self.line.is_empty() {
             return Ok(self.replies.all_ok);
         }
-        self.answer(alloc)?;
+        self.answer(alloc, answering)?;
         self.replies.write(sink)?;
         Ok(self.replies.all_ok)
     }

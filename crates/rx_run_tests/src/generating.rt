@@ -1,21 +1,12 @@
 //! The command `gen`: its words and its line, and writes of it that are short or fail.
 ghost use Rattle.std.specs.Prelude.{◌<◌};
 
-use crate::memory::bytes_of;
-use rx_base::{List, MemorySink, MemorySource, OutOfMemory, Source, Text};
+use crate::memory::{bytes_of, words_of};
+use rx_base::{List, MemorySink, MemorySource, Source};
 use rx_rows::{Call, agree};
 use rx_run::run::run;
 use std::alloc::Global;
 use std::test::Fail;
-
-/// The words of a text, which stand between single spaces.
-fn words_of(alloc: Global, text: &str) -> Result<List<Text>, OutOfMemory> {
-    let mut words = List::new(alloc);
-    for word in text.split(' ') {
-        words.push(Text::from_str(alloc, word)?)?;
-    }
-    Ok(words)
-}
 
 /// The status of a run with these words that reads nothing, and in brackets what it wrote, with `$` for a LF at the end.
 fn outcome(alloc: Global, words: &str, step: usize, fails: List<u64>) -> Result<String, Fail>

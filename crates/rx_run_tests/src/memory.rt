@@ -11,6 +11,15 @@ pub fn bytes_of(alloc: Global, text: &[u8]) -> Result<List<u8>, OutOfMemory> {
     Ok(bytes)
 }
 
+/// The words of a text, which stand between single spaces.
+pub fn words_of(alloc: Global, text: &str) -> Result<List<Text>, OutOfMemory> {
+    let mut words = List::new(alloc);
+    for word in text.split(' ') {
+        words.push(Text::from_str(alloc, word)?)?;
+    }
+    Ok(words)
+}
+
 /// Runs the program without words, from and to n bytes at a time.
 pub fn run_in_steps(
     alloc: Global,

@@ -3,13 +3,13 @@ use Rattle.std.proofs.Common.{◌≡◌, refl, ℕ, ◌+◌, ◌*◌, List, [], 
 use Rattle.rx_ast.specs.declared.class.CharacterClass.{CharacterClass}
 use Rattle.rx_ast.specs.declared.class.CharacterClassContents.{CharacterClassContents}
 use Rattle.rx_ast.specs.ClassTree.{members, mirror_class, mirror_contents}
-use Rattle.rx_ast.specs.Size.{all_contents_size, contents_size}
 use Rattle.rx_ast.proofs.ClassEquations.{class_is}
 use Rattle.rx_model.specs.declared.mode.Mode.{Mode}
-use Rattle.rx_model.specs.Spelling.ClassText.{class_opener, class_text, member_text, more_members_text, operator_text}
+use Rattle.rx_ast.specs.Texts.{class_opener, operator_text}
+use Rattle.rx_model.specs.Spelling.ClassText.{class_text, member_text, more_members_text}
 use Rattle.rx_tools.specs.declared.class_task.ClassTask.{ClassTask}
 use Rattle.rx_tools.specs.ClassTasks.{class_pending, class_task_size, class_task_text, class_weight}
-use Rattle.rx_tools.proofs.Tasks.{last_first, last_weighs}
+use Rattle.rx_display.proofs.Tasks.{last_first, last_weighs}
 
 pub class_pending-last : (mode : Mode) (before between : List ClassTask) (t : ClassTask) → before ≡ between ++ (t ∷ []) → class_pending mode before ≡ class_task_text mode t ++ class_pending mode between
 unfolding class_pending
@@ -22,11 +22,6 @@ class_pending-nil mode = refl
 pub class_weight-last : (before between : List ClassTask) (t : ClassTask) → before ≡ between ++ (t ∷ []) → class_weight before ≡ class_weight between + (1 + 2 * class_task_size t)
 unfolding class_weight
 class_weight-last before between t same = rw same (last_weighs (λ s. 1 + 2 * class_task_size s) between t)
-
-pub first_contents_size : (all : List CharacterClassContents) (first : CharacterClassContents) (others : List CharacterClassContents) → all ≡ first ∷ others →
-    all_contents_size all ≡ contents_size first + all_contents_size others
-unfolding all_contents_size contents_size
-first_contents_size all first others cut = rw cut refl
 
 -- what a task for the rest of a class is to write
 abbrev pub rest_of_class : Mode → List ℕ → List CharacterClassContents → List ℕ

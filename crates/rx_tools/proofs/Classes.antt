@@ -1,5 +1,5 @@
 -- The contents of a class, and the characters and the strings in it, from an index on.
-use Rattle.std.proofs.Common.{◌≡◌, refl, ap, sym, ◌∙◌, ℕ, zero, suc, ◌+◌, ◌<◌, ◌≤◌, arith, Bool, true, false, List, [], ◌∷◌, ◌++◌, length, drop, get_or, add-one, codes, map}
+use Rattle.std.proofs.Common.{◌≡◌, refl, ap, sym, ◌∙◌, ℕ, suc, ◌+◌, ◌<◌, ◌≤◌, Bool, true, false, List, [], ◌++◌, length, drop, get_or, add-one, codes, map}
 use Rattle.std.specs.Prelude.{if◌then◌else◌}
 use Rattle.std.proofs.Math.Seq.{drop-cons}
 use Rattle.std.proofs.lemmas.List.{drop_all}
@@ -8,10 +8,10 @@ use Rattle.rx_ast.specs.declared.class.CharacterClass.{CharacterClass}
 use Rattle.rx_ast.specs.declared.class.CharacterClassContents.{CharacterClassContents}
 use Rattle.rx_ast.specs.declared.class.ClassString.{ClassString}
 use Rattle.rx_ast.specs.ClassTree.{Members, no_member, member, members, mirror_contents, mirror_class}
-use Rattle.rx_ast.specs.Size.{contents_size, all_contents_size}
 use Rattle.rx_ast.proofs.ClassEquations.{class_is}
 use Rattle.rx_model.specs.declared.mode.Mode.{Mode}
-use Rattle.rx_model.specs.Spelling.ClassText.{in_class_text, characters_text, barred_strings_text, class_opener, operator_text, class_text, member_text, members_text, more_members_text}
+use Rattle.rx_ast.specs.Texts.{class_opener, operator_text}
+use Rattle.rx_model.specs.Spelling.ClassText.{in_class_text, characters_text, barred_strings_text, class_text, member_text, members_text, more_members_text}
 use Rattle.rx_tools.specs.Leaves.{is_nested, are_flat, is_flat}
 
 pub characters_next : (mode : Mode) (cs : List Character) (i : ℕ) (d : Character) → i < length cs →
@@ -73,13 +73,6 @@ neither false rest h = (refl, h)
 pub flat_parts : (cs : List CharacterClassContents) (i : ℕ) (c : CharacterClassContents) → i < length cs → c ≡ get_or cs i c → are_flat (members (map mirror_contents (drop i cs))) ≡ true →
     (is_nested (mirror_contents c) ≡ false) × (are_flat (members (map mirror_contents (drop (i + 1) cs))) ≡ true)
 flat_parts cs i c h e flat = neither _ _ (sym (flat_next cs i c h e) ∙ flat)
-
--- contents at an index are no larger than all
-pub contents_within : (cs : List CharacterClassContents) (i : ℕ) (c : CharacterClassContents) → i < length cs → c ≡ get_or cs i c → contents_size c ≤ all_contents_size cs
-unfolding contents_size all_contents_size
-contents_within [] i c h e = absurd (omega arith)
-contents_within (b ∷ cs) zero c h e = rw e (omega arith)
-contents_within (b ∷ cs) (suc i) c h e = let within = contents_within cs i c (omega arith) e in omega arith
 
 pub class_texts : (mode : Mode) (c : CharacterClass) → class_text mode (mirror_class c) ≡ class_opener c.negative ++ (members_text mode (operator_text c.kind) (members (map mirror_contents c.body)) ++ codes "]")
 class_texts mode c = ap (λ m. class_text mode m) (class_is c)

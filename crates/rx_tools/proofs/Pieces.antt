@@ -1,13 +1,13 @@
 -- The bytes of pieces and of characters.
-use Rattle.std.proofs.Common.{◌≡◌, refl, ap, sym, ◌∙◌, ℕ, suc, ◌+◌, ◌<◌, ◌≤◌, List, [], ◌∷◌, ◌++◌, Bor, Option, Result, Ok, Err, length, drop, get_or, arith, nat_lt, true, add-one, append-nil, append_assoc}
+use Rattle.std.proofs.Common.{◌≡◌, refl, ap, sym, ◌∙◌, ℕ, suc, ◌+◌, ◌<◌, ◌≤◌, List, [], ◌∷◌, ◌++◌, Bor, Option, Result, Ok, Err, length, drop, get_or, add-one, append-nil, append_assoc}
 use Rattle.std.proofs.Math.Seq.{drop-cons}
-use Rattle.std.proofs.lemmas.Bool.Decides.{nat_tests}
 use Rattle.std.proofs.lemmas.List.{drop_all}
 use Rattle.std.proofs.lemmas.Str.{encodes-append, encodes-chars, encodes_same, chars-encodes, chars-nil}
 use Rattle.std.specs.Char.{encode_utf8}
 use Rattle.std.specs.List.{flat_map}
 use Rattle.std.specs.Str.{chars, IsUtf8}
 use Rattle.std.specs.Result.{IsErr, IsErrAnd}
+use Rattle.rx_ast.proofs.Plain.{chars-plain}
 use Rattle.rx_base.specs.Writing.{Written}
 use Rattle.rx_base.proofs.Writings.{written_then, written_stop}
 use Rattle.rx_tools.specs.Utf8.{utf8}
@@ -62,15 +62,6 @@ failed_from (Err e) P cause = refl
 pub same_text : {K T E : Type 0} {taken : K → Option (List ℕ)} {fixed : K → List ℕ} {faults : K → ℕ} {old new : K} {result : Result T E} {text wanted : List ℕ} →
     wanted ≡ text → Written taken fixed faults old new result (utf8 text) → Written taken fixed faults old new result (utf8 wanted)
 same_text e written = rw e written
-
-is_plain : (b : ℕ) → b < 128 → nat_lt b 128 ≡ true
-is_plain b h = grind (arith, nat_tests)
-
--- an ASCII character is its own byte
-pub chars-plain : (b : ℕ) (bs : List ℕ) → b < 128 → chars (b ∷ bs) ≡ b ∷ chars bs
-unfolding chars
-chars-plain b [] h = rw (is_plain b h) refl
-chars-plain b (c ∷ bs) h = rw (is_plain b h) refl
 
 pub text_next : (rest next after : List ℕ) → rest ≡ next ++ after → utf8 rest ≡ utf8 next ++ utf8 after
 text_next rest next after cut = ap utf8 cut ∙ utf8-append next after

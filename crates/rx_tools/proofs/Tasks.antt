@@ -1,8 +1,5 @@
 -- The texts and the weight of tasks.
-use Rattle.std.proofs.Common.{◌≡◌, refl, ap, sym, ◌∙◌, ℕ, Bool, false, codes, ◌+◌, ◌*◌, arith, List, [], ◌∷◌, ◌++◌, append_assoc, map, reverse}
-use Rattle.std.specs.List.{flat_map, sum_by}
-use Rattle.std.proofs.lemmas.List.{reverse-append}
-use Rattle.std.proofs.lemmas.List.Sums.{sum_by-append}
+use Rattle.std.proofs.Common.{◌≡◌, refl, ap, sym, ◌∙◌, ℕ, Bool, false, codes, ◌+◌, ◌*◌, List, [], ◌∷◌, ◌++◌, append_assoc, map}
 use Rattle.std.specs.declared.alloc.Global.{Global}
 use Rattle.std.specs.declared.boxed.Box.{Box}
 use Rattle.rx_ast.specs.declared.term.Alternative.{Alternative}
@@ -17,18 +14,13 @@ use Rattle.rx_ast.specs.declared.term.Term.TheVariants as term
 use Rattle.rx_ast.specs.Forget.{bare}
 use Rattle.rx_ast.specs.Tree.{capturing, ignoring, looking, mirror_disjunction, mirror_term, nodes}
 use Rattle.rx_ast.proofs.Equations.{alternative_is, disjunction_is, tree_of_quantifier, tree_of_capturing, tree_of_ignore, tree_of_look}
+use Rattle.rx_display.proofs.Tasks.{last_first, last_weighs}
 use Rattle.rx_model.specs.declared.mode.Mode.{Mode}
-use Rattle.rx_model.specs.Spelling.Spelling.{alternatives_text, barred_text, node_text, nodes_text, opener_text, quantifier_text, refers, spelling}
+use Rattle.rx_ast.specs.Texts.{opener_text, quantifier_text}
+use Rattle.rx_model.specs.Spelling.Spelling.{alternatives_text, barred_text, node_text, nodes_text, refers, spelling}
 use Rattle.rx_model.proofs.Spelling.Spellings.{spelling_bare}
 use Rattle.rx_tools.specs.declared.task.Task.{Task}
 use Rattle.rx_tools.specs.Tasks.{task_text, task_size, pending, weight, tree_of}
-
--- The last of some tasks comes first.
-pub last_first : {T : Type 0} (text : T → List ℕ) (ts : List T) (t : T) → flat_map text (reverse (ts ++ (t ∷ []))) ≡ text t ++ flat_map text (reverse ts)
-last_first text ts t = rw (reverse-append ts (t ∷ [])) refl
-
-pub last_weighs : {T : Type 0} (size : T → ℕ) (ts : List T) (t : T) → sum_by size (ts ++ (t ∷ [])) ≡ sum_by size ts + size t
-last_weighs size ts t = let e = sum_by-append size ts (t ∷ []) in omega arith
 
 pub pending-last : (mode : Mode) (before between : List Task) (t : Task) → before ≡ between ++ (t ∷ []) → pending mode before ≡ task_text mode t ++ pending mode between
 unfolding pending

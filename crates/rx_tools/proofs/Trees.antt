@@ -1,10 +1,8 @@
 -- Terms and alternatives in order: their texts and their sizes.
-use Rattle.std.proofs.Common.{◌≡◌, refl, ap, ℕ, zero, suc, ◌+◌, ◌<◌, ◌≤◌, arith, false, List, [], ◌∷◌, ◌++◌, length, drop, get_or, add-one, codes, map}
+use Rattle.std.proofs.Common.{◌≡◌, refl, ap, ℕ, suc, ◌+◌, ◌<◌, ◌≤◌, false, List, [], ◌++◌, length, drop, get_or, add-one, codes, map}
 use Rattle.std.proofs.Math.Seq.{drop-cons}
 use Rattle.std.proofs.lemmas.List.{drop_all}
 use Rattle.rx_ast.specs.declared.term.Alternative.{Alternative}
-use Rattle.rx_ast.specs.declared.term.Term.{Term}
-use Rattle.rx_ast.specs.Size.{term_size, terms_size, all_alternatives_size, alternatives_size}
 use Rattle.rx_ast.specs.Tree.{Alternatives, no_alternative, alternative, alternatives, nodes, mirror_term, mirror_alternative}
 use Rattle.rx_ast.proofs.Equations.{alternative_is}
 use Rattle.rx_model.specs.declared.mode.Mode.{Mode}
@@ -32,17 +30,3 @@ alternatives_next mode before as' i a h e =
 
 pub alternatives_none : (mode : Mode) (before : List ℕ) (as' : List Alternative) (i : ℕ) → length as' ≤ i → alternatives_behind mode before (alternatives (map mirror_alternative (drop i as'))) ≡ []
 alternatives_none mode before as' i h = rw (drop_all i as') refl
-
-pub alternatives_first : (a : Alternative) (as' : List Alternative) → all_alternatives_size (a ∷ as') ≡ 1 + terms_size a.body + all_alternatives_size as'
-unfolding terms_size all_alternatives_size
-alternatives_first a as' = ap (λ m. alternatives_size (alternatives (m ∷ map mirror_alternative as'))) (alternative_is a)
-
--- the terms of an alternative at an index are fewer than all nodes
-pub alternative_within : (as' : List Alternative) (i : ℕ) (a : Alternative) → i < length as' → a ≡ get_or as' i a → terms_size a.body < all_alternatives_size as'
-alternative_within [] i a h e = absurd (omega arith)
-alternative_within (b ∷ as') zero a h e = rw e (omega (arith, alternatives_first b as'))
-alternative_within (b ∷ as') (suc i) a h e = let within = alternative_within as' i a (omega arith) e in omega (arith, alternatives_first b as')
-
-pub terms_first : (t : Term) (ts : List Term) → terms_size (t ∷ ts) ≡ term_size t + terms_size ts
-unfolding terms_size term_size
-terms_first t ts = refl

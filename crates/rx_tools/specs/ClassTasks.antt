@@ -3,7 +3,8 @@ use Rattle.std.specs.Prelude.{ℕ, ◌+◌, ◌*◌, List, ◌++◌, map, revers
 use Rattle.rx_ast.specs.ClassTree.{members, mirror_contents, mirror_class}
 use Rattle.rx_ast.specs.Size.{all_contents_size}
 use Rattle.rx_model.specs.declared.mode.Mode.{Mode}
-use Rattle.rx_model.specs.Spelling.ClassText.{class_text, more_members_text, operator_text}
+use Rattle.rx_ast.specs.Texts.{operator_text}
+use Rattle.rx_model.specs.Spelling.ClassText.{class_text, more_members_text}
 use Rattle.rx_tools.specs.declared.class_task.ClassTask.{ClassTask}
 use Rattle.rx_tools.specs.declared.class_task.ClassTask.TheVariants as task
 

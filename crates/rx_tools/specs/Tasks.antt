@@ -4,7 +4,8 @@ use Rattle.rx_ast.specs.Size.{terms_size, all_alternatives_size}
 use Rattle.rx_ast.specs.Tree.{Alternatives, alternatives, mirror_alternative}
 use Rattle.rx_ast.specs.declared.term.Alternative.{Alternative}
 use Rattle.rx_model.specs.declared.mode.Mode.{Mode}
-use Rattle.rx_model.specs.Spelling.Spelling.{alternatives_text, barred_text, quantifier_text}
+use Rattle.rx_ast.specs.Texts.{quantifier_text}
+use Rattle.rx_model.specs.Spelling.Spelling.{alternatives_text, barred_text}
 use Rattle.rx_tools.specs.declared.task.Task.{Task}
 use Rattle.rx_tools.specs.declared.task.Task.TheVariants as task
 use Rattle.rx_tools.specs.Leaves.{rest_text}

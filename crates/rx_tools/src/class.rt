@@ -1,39 +1,21 @@
 ghost use Rattle.std.specs.Prelude.{◌≡◌, true, false, map};
-ghost use Rattle.std.specs.Str.{chars};
 ghost use Rattle.rx_ast.specs.ClassTree.{members, mirror_contents, mirror_class, range, strings as disjunction};
 ghost use Rattle.rx_base.specs.Writing.{Written};
-ghost use Rattle.rx_model.specs.Spelling.ClassText.{class_opener as opener, operator_text as operator, member_text, members_text, class_text, characters_text, strings_text, barred_strings_text};
+ghost use Rattle.rx_ast.specs.Texts.{operator_text as operator};
+ghost use Rattle.rx_model.specs.Spelling.ClassText.{member_text, members_text, class_text, characters_text, strings_text, barred_strings_text};
 ghost use Rattle.rx_tools.specs.Leaves.{is_nested as is_class, are_flat, is_flat as flat};
 ghost use Rattle.rx_tools.specs.Utf8.{utf8};
 
 use crate::character::{Place, write_character};
-use crate::property::{class_escape_text, write_property};
+use crate::property::write_property;
 use crate::write::write_str;
+use rx_ast::parts::{class_escape_text, class_opener, operator_text};
 use rx_ast::{
     Character, CharacterClass, CharacterClassContents, CharacterClassContentsKind,
     CharacterClassRange, ClassString, ClassStringDisjunction,
 };
 use rx_base::{Failed, TextSink};
 use rx_model::Mode;
-
-#[tactic(auto, using(crate::proofs::Pieces::in_pieces))]
-pub fn class_opener(negative: bool) -> &'static str
-    ensures { chars result.now ≡ opener negative }
-{
-    if negative { "[^" } else { "[" }
-}
-
-/// What stands between the contents.
-#[tactic(auto, using(crate::proofs::Pieces::in_pieces))]
-pub fn operator_text(kind: CharacterClassContentsKind) -> &'static str
-    ensures { chars result.now ≡ operator kind }
-{
-    match kind {
-        CharacterClassContentsKind::Union => "",
-        CharacterClassContentsKind::Intersection => "&&",
-        CharacterClassContentsKind::Subtraction => "--",
-    }
-}
 
 fn write_range<W: TextSink>(
     sink: &mut W,

@@ -3,13 +3,15 @@ ghost use Rattle.std.specs.Io.KnownBytes.{Appends};
 ghost use Rattle.rx_ast.specs.ClassTree.{members, mirror_class, mirror_contents};
 ghost use Rattle.rx_ast.specs.Size.{all_contents_size, contents_size};
 ghost use Rattle.rx_model.specs.declared.mode.Mode.{Mode};
-ghost use Rattle.rx_model.specs.Spelling.ClassText.{class_text, member_text, more_members_text, operator_text as operator};
+ghost use Rattle.rx_ast.specs.Texts.{operator_text as operator};
+ghost use Rattle.rx_model.specs.Spelling.ClassText.{class_text, member_text, more_members_text};
 ghost use Rattle.rx_tools.specs.ClassTasks.{class_pending, class_task_size, class_task_text, class_weight};
 ghost use Rattle.rx_tools.specs.Goes.{Goes};
 ghost use Rattle.rx_tools.specs.Utf8.{utf8};
 
-use crate::class::{class_opener, operator_text, write_contents};
+use crate::class::write_contents;
 use crate::write::write_str;
+use rx_ast::parts::{class_opener, operator_text};
 use rx_ast::{CharacterClass, CharacterClassContents, CharacterClassContentsKind};
 use rx_base::{Failed, List, OutOfMemory, TextSink};
 use rx_model::Mode;

@@ -8,10 +8,11 @@ ghost use Rattle.rx_tools.specs.Utf8.{utf8};
 
 use crate::character::{Place, write_character};
 use crate::class::{is_flat, write_flat_class};
-use crate::property::{class_escape_text, write_property};
+use crate::property::write_property;
 use crate::quantifier::write_quantifier;
-use crate::term::{boundary_text, refers, write_indexed, write_named};
+use crate::term::{refers, write_indexed, write_named};
 use crate::write::write_str;
+use rx_ast::parts::{boundary_text, class_escape_text};
 use rx_ast::{Quantifier, Term};
 use rx_base::{Failed, TextSink};
 use rx_model::Mode;

@@ -3,18 +3,12 @@ ghost use Rattle.std.specs.Fmt.{decimal};
 ghost use Rattle.std.specs.Str.{chars};
 ghost use Rattle.rx_base.specs.Writing.{Written};
 ghost use Rattle.rx_tools.specs.Utf8.{utf8};
-ghost use Rattle.rx_model.specs.Spelling.Spelling.{quantifier_text, lazy_text as suffix};
+ghost use Rattle.rx_ast.specs.Texts.{quantifier_text};
 
 use crate::write::write_pieces;
 use itoa::Buffer;
+use rx_ast::parts::lazy_text;
 use rx_base::{Failed, TextSink};
-
-#[tactic(auto, using(crate::proofs::Pieces::in_pieces))]
-fn lazy_text(greedy: bool) -> &'static str
-    ensures { chars result.now ≡ suffix greedy }
-{
-    if greedy { "" } else { "?" }
-}
 
 /// The number in decimal.
 pub fn decimal_text(buffer: &mut Buffer, n: u64) -> &str

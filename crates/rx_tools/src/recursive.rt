@@ -3,15 +3,17 @@ ghost use Rattle.rx_ast.specs.ClassTree.{members, mirror_contents, mirror_class}
 ghost use Rattle.rx_ast.specs.Forget.{bare};
 ghost use Rattle.rx_ast.specs.Tree.{nodes, alternatives as alternatives_of, mirror_term, mirror_quantifier, mirror_alternative, mirror_disjunction};
 ghost use Rattle.rx_base.specs.Writing.{Written};
-ghost use Rattle.rx_model.specs.Spelling.ClassText.{operator_text as operator, member_text, members_text, class_text};
+ghost use Rattle.rx_ast.specs.Texts.{operator_text as operator};
+ghost use Rattle.rx_model.specs.Spelling.ClassText.{member_text, members_text, class_text};
 ghost use Rattle.rx_model.specs.Spelling.Spelling.{alternatives_text, node_text, nodes_text, spelling};
 ghost use Rattle.rx_tools.specs.Utf8.{utf8};
 
-use crate::class::{class_opener, operator_text, write_contents};
+use crate::class::write_contents;
 use crate::leaf::{Rest, write_leaf, write_leaves};
 use crate::quantifier::write_quantifier;
-use crate::term::{look_text, refers, write_capturing, write_ignoring};
+use crate::term::{refers, write_capturing, write_ignoring};
 use crate::write::write_str;
+use rx_ast::parts::{class_opener, look_text, operator_text};
 use rx_ast::{
     Alternative, CharacterClass, CharacterClassContents, CharacterClassContentsKind, Disjunction,
     Pattern, Quantifier, Term,

@@ -2,7 +2,8 @@ ghost use Rattle.std.specs.Prelude.{◌≡◌, ◌++◌, ◌+◌, ◌*◌, ◌�
 ghost use Rattle.rx_ast.specs.Size.{all_alternatives_size, disjunction_size, terms_size};
 ghost use Rattle.rx_ast.specs.Tree.{mirror_disjunction};
 ghost use Rattle.rx_model.specs.declared.mode.Mode.{Mode};
-ghost use Rattle.rx_model.specs.Spelling.Spelling.{alternatives_text, barred_text, quantifier_text};
+ghost use Rattle.rx_ast.specs.Texts.{quantifier_text};
+ghost use Rattle.rx_model.specs.Spelling.Spelling.{alternatives_text, barred_text};
 ghost use Rattle.rx_tools.specs.Leaves.{rest_text};
 ghost use Rattle.rx_tools.specs.Tasks.{pending, task_size, task_text, tree_of, weight};
 

@@ -6,10 +6,14 @@ mod contents;
 #[cfg(test)]
 mod deep;
 #[cfg(test)]
+mod displaying;
+#[cfg(test)]
 mod made;
 #[cfg(test)]
 mod printing;
 #[cfg(test)]
 mod signs;
+#[cfg(test)]
+mod walking;
 #[cfg(test)]
 mod writing;

@@ -7,7 +7,7 @@ use rx_ast::{
     Quantifier, Term, UnicodePropertyEscape,
 };
 use rx_base::{List, MemorySink, OutOfMemory, Span, Text};
-use rx_tools::{Mode, append_canonical, canonical_text, write_canonical};
+use rx_tools::{Mode, append_canonical, canonical_text, display_text, write_canonical};
 use std::alloc::Global;
 
 /// Past this many bytes a spelling is of a deep tree, which `write_canonical` is not for.
@@ -15,6 +15,38 @@ const LONG: usize = 10_000;
 
 pub fn nowhere() -> Span {
     Span::empty(0)
+}
+
+/// The text that `Display` writes of these alternatives. Where it is not of a deep tree, `{}` has to write it too.
+pub fn displayed_disjunction(alloc: Global, body: List<Alternative>) -> Result<Text, OutOfMemory> {
+    let span = nowhere();
+    let pattern = Pattern {
+        span,
+        body: Disjunction { span, body },
+    };
+    let text = display_text(alloc, &pattern)?;
+    if text.as_str().len() > LONG || shows(alloc, &pattern, text.as_str()) {
+        return Ok(text);
+    }
+    Text::from_str(alloc, "the printers differ")
+}
+
+/// Whether `{}` writes this text.
+fn shows(alloc: Global, pattern: &Pattern, text: &str) -> bool {
+    match format!(in alloc; "{pattern}") {
+        Ok(shown) => shown.as_str() == text,
+        Err(_) => false,
+    }
+}
+
+/// The text that `Display` writes of this term.
+pub fn displayed_term(alloc: Global, term: Term) -> Result<Text, OutOfMemory> {
+    let span = nowhere();
+    let mut body = List::new(alloc);
+    body.push(term)?;
+    let mut alternatives = List::new(alloc);
+    alternatives.push(Alternative { span, body })?;
+    displayed_disjunction(alloc, alternatives)
 }
 
 /// The canonical spelling of these alternatives.

@@ -1,7 +1,8 @@
 //! Trees as texts of signs, each of which stands for a term.
 use crate::made::{
-    boundary, character, class_escape, class_term, dot, group_of, ignoring, in_class, looking,
-    modified, named, nowhere, of_kind, quantified, reference, spelled, spelled_disjunction, union,
+    boundary, character, class_escape, class_term, displayed_disjunction, dot, group_of, ignoring,
+    in_class, looking, modified, named, nowhere, of_kind, quantified, reference, spelled,
+    spelled_disjunction, union,
 };
 use rx_ast::{
     Alternative, BoundaryAssertionKind, CharacterClassEscapeKind, CharacterKind,
@@ -21,15 +22,30 @@ pub struct SpellingCall {
 
 impl Call for SpellingCall {
     fn answer(&self, alloc: Global, asked: &str) -> Result<String, Fail> {
-        let mut alternatives = List::new(alloc);
-        for signs in asked.split('|') {
-            let body = terms_of(alloc, signs)?;
-            let span = nowhere();
-            alternatives.push(Alternative { span, body })?;
-        }
-        let text = spelled_disjunction(alloc, self.mode, alternatives)?;
+        let text = spelled_disjunction(alloc, self.mode, alternatives_of(alloc, asked)?)?;
         Ok(String::from_str(alloc, text.as_str())?)
     }
+}
+
+/// The text that `Display` writes of alternatives, with bars between them.
+#[derive(Clone, Copy)]
+pub struct DisplayCall;
+
+impl Call for DisplayCall {
+    fn answer(&self, alloc: Global, asked: &str) -> Result<String, Fail> {
+        let text = displayed_disjunction(alloc, alternatives_of(alloc, asked)?)?;
+        Ok(String::from_str(alloc, text.as_str())?)
+    }
+}
+
+fn alternatives_of(alloc: Global, asked: &str) -> Result<List<Alternative>, OutOfMemory> {
+    let mut alternatives = List::new(alloc);
+    for signs in asked.split('|') {
+        let body = terms_of(alloc, signs)?;
+        let span = nowhere();
+        alternatives.push(Alternative { span, body })?;
+    }
+    Ok(alternatives)
 }
 
 /// One term for each sign.

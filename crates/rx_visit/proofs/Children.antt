@@ -7,18 +7,10 @@ use Rattle.rx_ast.specs.declared.term.Disjunction.{Disjunction, out-Disjunction}
 use Rattle.rx_ast.specs.declared.term.Term.{Term}
 use Rattle.rx_ast.specs.ClassTree.{members, mirror_contents, mirror_class}
 use Rattle.rx_ast.specs.Tree.{nodes, alternatives, mirror_term, mirror_alternative, mirror_disjunction}
-use Rattle.rx_ast.specs.Kinds.{Kind, disjunction, alternative, term, class, class_contents, each_term, each_alternative, each_contents, children}
+use Rattle.rx_ast.specs.Kinds.{disjunction, alternative, class, each_term, each_alternative, each_contents, children}
+use Rattle.rx_visit.specs.Siblings.{alternative_kind, contents_kind, term_kind}
 use Rattle.rx_ast.proofs.ClassEquations.{class_is}
 use Rattle.rx_ast.proofs.Equations.{alternative_is, disjunction_is}
-
-abbrev pub contents_kind : CharacterClassContents → Kind
-contents_kind c = class_contents (mirror_contents c)
-
-abbrev pub term_kind : Term → Kind
-term_kind t = term (mirror_term t)
-
-abbrev pub alternative_kind : Alternative → Kind
-alternative_kind a = alternative (mirror_alternative a)
 
 all_contents : (cs : List CharacterClassContents) → each_contents (members (map mirror_contents cs)) ≡ map contents_kind cs
 all_contents [] = refl

@@ -76,7 +76,7 @@ reached_one v w true false is e = inl (omega (arith, e))
 reached_one v w false true is e = let large : 2 ≤ v = grind (arith, nat_tests) in inr (omega (arith, e, large), omega (arith, large))
 reached_one v w false false is e = inl (omega (arith, e))
 
-count_both : (name : List ℕ) (ks more : List Kind) → count_named name (ks ++ more) ≡ count_named name ks + count_named name more
+pub count_both : (name : List ℕ) (ks more : List Kind) → count_named name (ks ++ more) ≡ count_named name ks + count_named name more
 count_both name [] more = omega arith
 count_both name (k ∷ ks) more = let rest = count_both name ks more in omega (arith, rest)
 

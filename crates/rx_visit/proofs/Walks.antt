@@ -1,6 +1,6 @@
 -- How visits are put together.
 use Rattle.std.proofs.Common.{◌≡◌, refl, ap, sym, ◌∙◌, subst, ℕ, ◌+◌, ◌<◌, ◌≤◌, Bool, true, false, List, [], ◌∷◌, ◌++◌, length, take, map, get_or}
-use Rattle.std.proofs.lemmas.List.{take_more, take_all}
+use Rattle.std.proofs.lemmas.List.{map-append, take_more, take_all}
 use Rattle.rx_ast.specs.Kinds.{Kind, children}
 use Rattle.rx_visit.specs.Visits.{Visited, VisitedAll, descend, pass, none, next}
 
@@ -32,16 +32,15 @@ last : {V : Type 0} {entered : V → Kind → Bool → V → Type 0} {left : V �
 last (none v) visit = next _ _ _ _ _ visit (none _)
 last (next v k m ks w first others) visit = next v k m _ _ first (last others visit)
 
-map_last : {X : Type 0} (f : X → Kind) (xs : List X) (x : X) → map f (xs ++ (x ∷ [])) ≡ map f xs ++ (f x ∷ [])
-map_last f [] x = refl
-map_last f (y ∷ xs) x = ap (λ ks. f y ∷ ks) (map_last f xs x)
+-- one more of the nodes that a loop goes over
+pub taken : {X : Type 0} (f : X → Kind) (xs : List X) (i : ℕ) (x : X) → i < length xs → x ≡ get_or xs i x → map f (take (i + 1) xs) ≡ map f (take i xs) ++ (f x ∷ [])
+taken f xs i x within is = ap (λ ys. map f ys) (take_more xs i x within) ∙ map-append f (take i xs) (get_or xs i x ∷ []) ∙ ap (λ y. map f (take i xs) ++ (f y ∷ [])) (sym is)
 
 -- a turn of a loop over nodes
 pub turned : {V X : Type 0} {entered : V → Kind → Bool → V → Type 0} {left : V → Kind → V → Type 0} {v m w : V} (f : X → Kind) (xs : List X) (i : ℕ) (x : X)
     → i < length xs → x ≡ get_or xs i x → VisitedAll entered left v (map f (take i xs)) m → Visited entered left m (f x) w → VisitedAll entered left v (map f (take (i + 1) xs)) w
 turned {V} {X} {entered} {left} {v} {m} {w} f xs i x within is so_far visit =
-    let more = ap (λ ys. map f ys) (take_more xs i x within) ∙ map_last f (take i xs) (get_or xs i x) ∙ ap (λ y. map f (take i xs) ++ (f y ∷ [])) (sym is) in
-    subst (λ ks. VisitedAll entered left v ks w) (sym more) (last so_far visit)
+    subst (λ ks. VisitedAll entered left v ks w) (sym (taken f xs i x within is)) (last so_far visit)
 
 -- the end of a loop over nodes
 pub looped : {V X : Type 0} {entered : V → Kind → Bool → V → Type 0} {left : V → Kind → V → Type 0} {v w : V} (f : X → Kind) (xs : List X) (i : ℕ)

@@ -1,4 +1,6 @@
 pub mod Finding
 pub mod Flags
+pub mod Names
 pub mod Patterns
+pub mod Siblings
 pub mod Visits

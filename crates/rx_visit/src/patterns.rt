@@ -1,9 +1,12 @@
 ghost use Rattle.std.specs.Prelude.{◌≡◌};
+ghost use Rattle.std.specs.Option.{option_map};
 ghost use Rattle.rx_ast.specs.Kinds.{pattern as pattern_kind, order};
 ghost use Rattle.rx_ast.specs.MirrorKinds.{mirror_kind};
 ghost use Rattle.rx_ast.specs.Tree.{mirror};
+ghost use Rattle.rx_visit.specs.Names.{is_name_twice, is_refused_alone};
 ghost use Rattle.rx_visit.specs.Patterns.{same_name, is_named, is_twice, is_refused, is_refused_pattern, looks_behind};
 
+use crate::names::name_of;
 use crate::term::walk_pattern;
 use crate::visit::Visit;
 use rx_ast::{LookAroundAssertionKind, Pattern, RegExpAstKind};
@@ -76,14 +79,18 @@ fn is_refused(
 ) -> bool
     ensures { result ≡ is_refused unsupported.now (order (pattern_kind (mirror pattern.now))) (mirror_kind kind.entry) }
 {
+    is_refused_alone(kind, unsupported)
+        || (unsupported.duplicate_named_capture_groups && is_name_twice(name_of(kind), pattern))
+}
+
+/// Whether a node is not supported whatever stands beside it.
+pub fn is_refused_alone(kind: RegExpAstKind<'_>, unsupported: &RegexUnsupportedPatterns) -> bool
+    ensures { result ≡ is_refused_alone unsupported.now (mirror_kind kind.entry) }
+{
     match kind {
-        RegExpAstKind::CapturingGroup(it) => match &it.name {
-            None => false,
-            Some(name) => {
-                unsupported.named_capture_groups
-                    || (unsupported.duplicate_named_capture_groups && is_twice(name, pattern))
-            }
-        },
+        RegExpAstKind::CapturingGroup(it) => {
+            unsupported.named_capture_groups && it.name.is_some()
+        }
         RegExpAstKind::UnicodePropertyEscape(_) => unsupported.unicode_property_escapes,
         RegExpAstKind::LookAroundAssertion(it) => {
             unsupported.look_behind_assertions && looks_behind(it.kind)
@@ -92,6 +99,16 @@ fn is_refused(
             unsupported.pattern_modifiers && it.modifiers.is_some()
         }
         _ => false,
+    }
+}
+
+/// Whether there is a name and two groups of a pattern have it.
+fn is_name_twice(name: Option<&Text>, pattern: &Pattern) -> bool
+    ensures { result ≡ is_name_twice (order (pattern_kind (mirror pattern.now))) (option_map (λ name. name.now) name.entry) }
+{
+    match name {
+        Some(name) => is_twice(name, pattern),
+        None => false,
     }
 }
 

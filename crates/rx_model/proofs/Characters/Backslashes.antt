@@ -12,8 +12,8 @@ use Rattle.rx_ast.specs.declared.leaf.CharacterClassEscapeKind.TheVariants as cl
 use Rattle.rx_ast.specs.declared.leaf.CharacterKind.{CharacterKind}
 use Rattle.rx_units.specs.Digits.{front_is}
 use Rattle.rx_units.proofs.Choices.{chosen}
-use Rattle.rx_model.specs.Reading.Boundaries.{boundary_text, has_buffers, has_boundary}
-use Rattle.rx_model.specs.Spelling.ClassText.{class_escape_text}
+use Rattle.rx_ast.specs.Texts.{boundary_text, class_escape_text}
+use Rattle.rx_model.specs.Reading.Boundaries.{has_buffers, has_boundary}
 use Rattle.rx_model.specs.Inputs.Environment.{Environment, is_unicode}
 use Rattle.rx_model.specs.Characters.Escapes.{SpellsEscape, control, letter, null, hexadecimal, unicode, identity}
 use Rattle.rx_model.specs.Reading.Fronts.{any_escape_at, is_reference, buffer_at, boundary_at, class_escape_at, escaped_token, backslash_token, digits, digits_behind, indexed_token, property_token, backslash_front}

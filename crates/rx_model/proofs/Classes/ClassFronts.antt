@@ -18,7 +18,7 @@ use Rattle.rx_model.specs.declared.mode.Mode.TheVariants.{Legacy, Unicode, Sets}
 use Rattle.rx_model.specs.Classes.ClassFronts.{AtomRead, atom_read, no_atom, property_atom, character_atom, escape_atom, escape_in_class, atom_at, TokenRead, item_where, item_of, low_of, high_of, dashed_of, item_before, bracket_at, are_next, begins_strings, operand_token, set_token, fresh_token, operand_of, string_token, token_where, class_token_at}
 use Rattle.rx_model.specs.Classes.ClassRows.{stands_raw_in_class, SpellsInClassAlone, backspace, SpellsClassCharacter, raw, escaped_in_class, escaped_in_legacy, SpellsAtom, has_hyphen, has_threes, is_dashed, BeforeHigh, BeforeThird, BeginsNoRange, StandsBefore, Place, outside, fresh, at_dash, at_high, at_second, at_third, behind_meet, behind_less, in_strings, behind, behind_item, SpellsBracket, SpellsOperand, SpellsOfStrings, SpellsInClass}
 use Rattle.rx_model.specs.Classes.ClassRows as row
-use Rattle.rx_model.specs.Spelling.ClassText.{class_escape_text}
+use Rattle.rx_ast.specs.Texts.{class_escape_text}
 use Rattle.rx_model.specs.Classes.ClassTokens.{Atom, ClassToken, is_character, character, escape, property, bracket, closer, item, low, dash, high, meet, less, strings, letter, string_bar, strings_end}
 use Rattle.rx_model.specs.Inputs.Environment.{Environment, is_sets, is_unicode}
 use Rattle.rx_model.specs.Characters.EscapeFronts.{EscapeRead, escaped, nothing, too_many, no_unicode, any_escape_at, class_escape_at, escape_at}

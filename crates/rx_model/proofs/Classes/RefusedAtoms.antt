@@ -25,7 +25,7 @@ use Rattle.rx_model.specs.Inputs.Environment.{Environment, is_sets, is_unicode}
 use Rattle.rx_model.specs.Properties.PropertyForms.{begins_property}
 use Rattle.rx_model.specs.Refusals.EscapeCauses as escapes
 use Rattle.rx_model.specs.Refusals.EscapeCauses.{IsEscapeCause, IsPropertyCause}
-use Rattle.rx_model.specs.Spelling.ClassText.{class_escape_text, property_opener}
+use Rattle.rx_ast.specs.Texts.{class_escape_text, property_opener}
 use Rattle.rx_model.proofs.Groups.GroupNames.{differs}
 use Rattle.rx_model.proofs.Classes.ClassFronts.{class_letter}
 use Rattle.rx_model.proofs.Characters.Decodings.{value_law}

@@ -24,7 +24,7 @@ use Rattle.rx_model.specs.declared.mode.Mode.{Mode}
 use Rattle.rx_model.specs.declared.mode.Mode.TheVariants.{Legacy, Unicode, Sets}
 use Rattle.rx_model.specs.Classes.ClassRows.{stands_raw_in_class, SpellsInClassAlone, SpellsClassCharacter, SpellsAtom, SpellsBracket, SpellsInClass, ClassTokenRow, IsClass, Place, outside, fresh, at_dash, at_high, at_second, at_third, behind_meet, behind_less, in_strings, behind}
 use Rattle.rx_model.specs.Classes.ClassRows as spelled
-use Rattle.rx_model.specs.Spelling.ClassText.{class_escape_text, property_opener}
+use Rattle.rx_ast.specs.Texts.{class_escape_text, property_opener}
 use Rattle.rx_model.specs.Classes.ClassTokens.{Atom, character, escape, property, ClassToken, bracket, closer, item, low, dash, high, meet, less, strings, letter, string_bar, strings_end, ClassEvents, enter, leave, token, class_tokens, class_tokens_of, within, letters_events, string_events, barred_strings_events, strings_events, range_events, operator_events, member_events, class_events, members_events, more_members_events}
 use Rattle.rx_model.specs.Inputs.Environment.{Environment, is_sets, is_unicode}
 use Rattle.rx_model.specs.Characters.Escapes as escapes

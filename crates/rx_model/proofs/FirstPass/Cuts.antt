@@ -17,9 +17,8 @@ use Rattle.rx_units.specs.Digits.{front_is}
 use Rattle.rx_units.proofs.Choices.{both}
 use Rattle.rx_model.specs.declared.mode.Mode.{Mode}
 use Rattle.rx_model.specs.declared.mode.Mode.TheVariants.{Legacy, Unicode, Sets}
-use Rattle.rx_model.specs.Reading.Boundaries.{boundary_text}
+use Rattle.rx_ast.specs.Texts.{boundary_text, class_escape_text, property_opener, look_text}
 use Rattle.rx_model.specs.Classes.ClassRows.{IsClass}
-use Rattle.rx_model.specs.Spelling.ClassText.{class_escape_text, property_opener}
 use Rattle.rx_model.specs.FirstPass.Cuts.{AreMarksOf, AreOthers, IsCut, IsOpening}
 use Rattle.rx_model.specs.Inputs.Environment.{Environment, is_unicode}
 use Rattle.rx_model.specs.Characters.Escapes.{SpellsEscape, control, letter, null, hexadecimal, unicode, identity}
@@ -31,7 +30,6 @@ use Rattle.rx_model.specs.FirstPass.Marks.{Mark, mark_front, marks}
 use Rattle.rx_model.specs.Properties.PropertyEscapes.{IsProperty}
 use Rattle.rx_model.specs.Quantifiers.Quantifiers.{is_question, lazy_mark}
 use Rattle.rx_model.specs.Reading.Rows.{IsEscaped, IsLegacyEscaped, IsRaw, Spells, is_legacy_syntax, stands_raw}
-use Rattle.rx_model.specs.Spelling.Spelling.{look_text}
 use Rattle.rx_model.specs.Trees.Token.{Token, Opener, boundary, character, dot, class_escape, property, class, indexed, named, opener, closer, bar, quantifier, capturing, ignoring, looking}
 use Rattle.rx_model.proofs.FirstPass.ClassMarks.{class_marks}
 use Rattle.rx_model.proofs.Groups.GroupNames.{group_name_read, name_anywhere}

@@ -19,7 +19,7 @@ use Rattle.rx_model.specs.Groups.Groups.{IsNamed, is_mark, looks, SpellsOpener}
 use Rattle.rx_model.specs.FirstPass.Marks.{starts}
 use Rattle.rx_model.specs.Groups.Modifiers.{SpellsModifiers}
 use Rattle.rx_model.specs.Quantifiers.Quantifiers.{is_question}
-use Rattle.rx_model.specs.Spelling.Spelling.{look_text}
+use Rattle.rx_ast.specs.Texts.{look_text}
 use Rattle.rx_model.specs.Trees.Token.{Opener, capturing, ignoring, looking, named}
 use Rattle.rx_model.proofs.Groups.GroupNames.{differs, name_at_law, name_before_closer}
 use Rattle.rx_model.proofs.Groups.Modifiers.{no_mark, modified_read, ModifiersFront, modified_spelled}

@@ -5,7 +5,7 @@ use Rattle.std.proofs.lemmas.Bool.{cond_both, eqb-true}
 use Rattle.std.proofs.lemmas.Bool.Decides.{nat_tests}
 use Rattle.std.proofs.lemmas.List.{append-nil}
 use Rattle.rx_model.specs.Groups.Modifiers.{is_modifier, has_twice, letters_bits, AreSides, one_side, two_sides, SpellsModifiers}
-use Rattle.rx_model.specs.Spelling.Spelling.{three_letters, letters, dash}
+use Rattle.rx_ast.specs.Texts.{three_letters, letters, dash}
 use Rattle.rx_model.proofs.Spelling.SomeTexts.{some, some-append, some_behind}
 use Rattle.rx_model.proofs.Groups.ModifierBits.{bits_small}
 

@@ -12,7 +12,7 @@ use Rattle.rx_units.specs.Units.{values}
 use Rattle.rx_units.proofs.Choices.{chosen, both}
 use Rattle.rx_model.specs.declared.mode.Mode.{Mode}
 use Rattle.rx_model.specs.declared.mode.Mode.TheVariants.{Legacy, Unicode, Sets}
-use Rattle.rx_model.specs.Spelling.ClassText.{property_opener}
+use Rattle.rx_ast.specs.Texts.{property_opener}
 use Rattle.rx_model.specs.Inputs.Environment.{Environment, is_unicode}
 use Rattle.rx_model.specs.Trees.Names.{is_among}
 use Rattle.rx_model.specs.Properties.PropertyEscapes.{SpellsProperty, pair, category, binary, of_strings, IsProperty}

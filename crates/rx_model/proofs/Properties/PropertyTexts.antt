@@ -4,7 +4,7 @@ use Rattle.std.proofs.lemmas.Bool.{cond_both}
 use Rattle.std.proofs.lemmas.Slice.Eq.{bytes_eq-Decides}
 use Rattle.rx_tables.specs.Properties.{IsValidUnicodeProperty, general_category_values, script_names}
 use Rattle.rx_model.specs.declared.mode.Mode.{Mode}
-use Rattle.rx_model.specs.Spelling.ClassText.{are_same, property_body}
+use Rattle.rx_ast.specs.Texts.{are_same, property_body}
 use Rattle.rx_model.specs.Properties.PropertyEscapes.{SpellsProperty, pair, category, binary, of_strings}
 use Rattle.rx_model.proofs.Properties.PropertyWords.{in_table}
 

@@ -18,9 +18,9 @@ use Rattle.rx_units.specs.Digits.{front_is}
 use Rattle.rx_units.proofs.Choices.{both}
 use Rattle.rx_model.specs.declared.mode.Mode.{Mode}
 use Rattle.rx_model.specs.declared.mode.Mode.TheVariants.{Legacy, Unicode, Sets}
-use Rattle.rx_model.specs.Reading.Boundaries.{boundary_text}
+use Rattle.rx_ast.specs.Texts.{boundary_text, class_escape_text, property_text, letters, dash, look_text, indexed_text, named_text, counts_text, lazy_text, quantifier_text}
 use Rattle.rx_model.specs.Spelling.CharacterText.{two_digits, four_digits, braced, outside, character_text}
-use Rattle.rx_model.specs.Spelling.ClassText.{class_escape_text, property_text, class_text}
+use Rattle.rx_model.specs.Spelling.ClassText.{class_text}
 use Rattle.rx_model.specs.Trees.Early.{Obeys, IsEarlyOpener, greatest_count, most_groups, IsGreatest}
 use Rattle.rx_model.specs.Inputs.Environment.{Environment, is_unicode}
 use Rattle.rx_model.specs.Groups.GroupNames.{SpellsName}
@@ -29,7 +29,6 @@ use Rattle.rx_model.specs.FirstPass.Marks.{starts}
 use Rattle.rx_model.specs.Quantifiers.Quantifiers.{AreDigits, SpellsCounts, star, plus, optional, braces, exactly, at_least, between, lazy_mark, is_question}
 use Rattle.rx_model.specs.Reading.Rows.{Spells, TokenRow}
 use Rattle.rx_model.specs.Trees.Shapes.{run, group_takes}
-use Rattle.rx_model.specs.Spelling.Spelling.{letters, dash, look_text, indexed_text, named_text, counts_text, lazy_text, quantifier_text}
 use Rattle.rx_model.specs.Trees.Token.{Token, Opener, boundary, character, dot, class_escape, property, class, indexed, named, opener, closer, bar, quantifier, capturing, ignoring, looking}
 use Rattle.rx_model.proofs.Spelling.Backs.{spelled_kind, values_literal, units-append, character_spelled, are_digits}
 use Rattle.rx_model.proofs.Spelling.Bounds.{FitsIn}

@@ -27,7 +27,8 @@ use Rattle.rx_model.specs.Spelling.CharacterText.{control_letter, two_digits, fo
 use Rattle.rx_model.specs.Classes.ClassRows.{BeforeHigh, ClassTokenRow, IsClass, Place, SpellsAtom, SpellsBracket, SpellsClassCharacter, SpellsInClass, StandsBefore, behind, behind_item, behind_less, behind_meet, fresh, has_hyphen, has_threes, in_strings, is_dashed, outside, stands_raw_in_class}
 use Rattle.rx_model.specs.Classes.ClassRows as spelled
 use Rattle.rx_model.specs.Classes.ClassShapes.{AreFitting, AreOperands, FitsKind, IsFitting, IsFittingMember, IsOperand}
-use Rattle.rx_model.specs.Spelling.ClassText.{barred_strings_text, characters_text, class_escape_text, class_opener, class_text, in_class_text, member_text, members_text, more_members_text, operator_text, property_body, property_text, strings_text}
+use Rattle.rx_ast.specs.Texts.{class_escape_text, class_opener, operator_text, property_body, property_text}
+use Rattle.rx_model.specs.Spelling.ClassText.{barred_strings_text, characters_text, class_text, in_class_text, member_text, members_text, more_members_text, strings_text}
 use Rattle.rx_model.specs.Classes.ClassTokens.{Atom, character, escape, property, ClassToken, bracket, closer, item, low, dash, high, meet, less, strings, letter, string_bar, strings_end, leave, token, class_tokens, class_tokens_of, strings_events}
 use Rattle.rx_model.specs.Trees.Early.{AreCodePoints, AreEarlyMembers, IsCodePoint, IsEarlyClass, IsEarlyMember, IsEarlyString}
 use Rattle.rx_model.specs.Inputs.Environment.{Environment, is_sets, is_unicode}

@@ -11,7 +11,7 @@ use Rattle.rx_units.specs.declared.code_point.CodePoint.{CodePoint}
 use Rattle.rx_model.specs.declared.mode.Mode.{Mode}
 use Rattle.rx_model.specs.Classes.ClassRows.{ClassTokenRow, SpellsClassCharacter, SpellsInClass, IsClassShape, IsClass, Place, outside, fresh, at_second, at_third, behind_meet, behind_less, in_strings, behind}
 use Rattle.rx_model.specs.Classes.ClassShapes.{AreFitting, FitsKind, IsFitting, IsFittingMember}
-use Rattle.rx_model.specs.Spelling.ClassText.{property_body}
+use Rattle.rx_ast.specs.Texts.{property_body}
 use Rattle.rx_model.specs.Classes.ClassTokens.{character, property, ClassToken, bracket, closer, item, low, dash, high, meet, less, strings, class_tokens}
 use Rattle.rx_model.specs.Inputs.Environment.{Environment, is_sets, is_unicode}
 use Rattle.rx_model.specs.Properties.PropertyEscapes.{SpellsProperty}

@@ -11,7 +11,8 @@ use Rattle.rx_model.specs.declared.mode.Mode.{Mode}
 use Rattle.rx_model.specs.declared.mode.Mode.TheVariants.{Legacy, Unicode, Sets}
 use Rattle.rx_model.specs.Spelling.CharacterText.{Place, two_digits, four_digits, braced, is_escaped, in_class, character_text}
 use Rattle.rx_model.specs.Classes.ClassRows.{is_dashed, stands_raw_in_class}
-use Rattle.rx_model.specs.Spelling.ClassText.{class_escape_text, class_text, in_class_text, member_text, members_text, more_members_text, property_text}
+use Rattle.rx_ast.specs.Texts.{class_escape_text, property_text}
+use Rattle.rx_model.specs.Spelling.ClassText.{class_text, in_class_text, member_text, members_text, more_members_text}
 use Rattle.rx_model.specs.Inputs.Environment.{is_sets}
 use Rattle.rx_model.specs.FirstPass.Marks.{starts}
 use Rattle.rx_model.proofs.Groups.GroupNames.{differs}

@@ -5,7 +5,7 @@ use Rattle.rx_units.specs.Units.{values}
 use Rattle.rx_model.specs.declared.mode.Mode.{Mode}
 use Rattle.rx_model.specs.declared.mode.Mode.TheVariants.{Legacy}
 use Rattle.rx_model.specs.Reading.Boundaries.{has_boundary}
-use Rattle.rx_model.specs.Spelling.ClassText.{property_body}
+use Rattle.rx_ast.specs.Texts.{property_body}
 use Rattle.rx_model.specs.Inputs.Environment.{Environment, is_unicode}
 use Rattle.rx_model.specs.Groups.GroupNames.{SpellsName}
 use Rattle.rx_model.specs.Groups.Groups.{SpellsOpener}

@@ -9,7 +9,8 @@ use Rattle.rx_ast.specs.ClassTree.{Member, Members, Class, no_member, member}
 use Rattle.rx_ast.specs.declared.class.CharacterClassContentsKind.TheVariants.{Union, Intersection, Subtraction}
 use Rattle.rx_model.specs.declared.mode.Mode.TheVariants.{Legacy}
 use Rattle.rx_model.specs.Spelling.CharacterText.{Place, in_class, character_text}
-use Rattle.rx_model.specs.Spelling.ClassText.{class_escape_text, in_class_text, member_text, members_text, more_members_text, class_text}
+use Rattle.rx_ast.specs.Texts.{class_escape_text}
+use Rattle.rx_model.specs.Spelling.ClassText.{in_class_text, member_text, members_text, more_members_text, class_text}
 use Rattle.rx_model.proofs.Spelling.ClassTexts.{union_text}
 use Rattle.rx_model.proofs.Spelling.ClassKnown.{IsKnownMember, AreKnownMembers, IsKnownTree, IsKnownClass}
 use Rattle.rx_model.proofs.Spelling.PrintableTexts.{ArePassing, IsPrintable, character_passes, class_escape_printable, passes}

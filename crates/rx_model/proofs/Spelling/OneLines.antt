@@ -25,9 +25,9 @@ use Rattle.rx_tables.proofs.Separators.{line_separator_starts_none, line_separat
 use Rattle.rx_units.specs.declared.code_point.CodePoint.{CodePoint}
 use Rattle.rx_units.proofs.Choices.{both}
 use Rattle.rx_model.specs.declared.mode.Mode.{Mode}
-use Rattle.rx_model.specs.Reading.Boundaries.{boundary_text}
+use Rattle.rx_ast.specs.Texts.{boundary_text, class_escape_text, property_body, property_text, class_opener, operator_text, look_text, counts_text, lazy_text, quantifier_text}
 use Rattle.rx_model.specs.Spelling.CharacterText.{Place, outside, in_class, character_text}
-use Rattle.rx_model.specs.Spelling.ClassText.{class_escape_text, property_body, property_text, class_opener, operator_text, in_class_text, characters_text, barred_strings_text, strings_text, member_text, members_text, more_members_text, class_text}
+use Rattle.rx_model.specs.Spelling.ClassText.{in_class_text, characters_text, barred_strings_text, strings_text, member_text, members_text, more_members_text, class_text}
 use Rattle.rx_model.specs.Trees.Early.{Obeys, most_groups}
 use Rattle.rx_model.specs.Inputs.Environment.{Environment, environment}
 use Rattle.rx_model.specs.Trees.Events.{tokens}
@@ -37,7 +37,7 @@ use Rattle.rx_model.specs.Properties.PropertyEscapes.{SpellsProperty}
 use Rattle.rx_model.specs.Spelling.ReadBack.{FitIn}
 use Rattle.rx_model.specs.Reading.Reading.{Reads}
 use Rattle.rx_model.specs.Groups.GroupNames.{is_in_name}
-use Rattle.rx_model.specs.Spelling.Spelling.{look_text, counts_text, lazy_text, quantifier_text, spelling}
+use Rattle.rx_model.specs.Spelling.Spelling.{spelling}
 use Rattle.rx_model.specs.Trees.Token.{Token, Opener, boundary, character, dot, class_escape, property, class, indexed, named, opener, closer, bar, quantifier, capturing, ignoring, looking}
 use Rattle.rx_model.proofs.Spelling.ClassTexts.{some_character}
 use Rattle.rx_model.proofs.Spelling.ClassKnown.{IsKnownMember, AreKnownMembers, IsKnownTree, IsKnownClass}

@@ -17,11 +17,9 @@ use Rattle.rx_ast.specs.declared.leaf.CharacterClassEscapeKind.TheVariants.{D, N
 use Rattle.rx_ast.specs.declared.leaf.LookAroundAssertionKind.{LookAroundAssertionKind}
 use Rattle.rx_ast.specs.declared.leaf.LookAroundAssertionKind.TheVariants as look
 use Rattle.rx_units.proofs.Choices.{both}
-use Rattle.rx_model.specs.Reading.Boundaries.{boundary_text}
+use Rattle.rx_ast.specs.Texts.{boundary_text, class_escape_text, letters, dash, look_text, counts_text, lazy_text, quantifier_text}
 use Rattle.rx_model.specs.Spelling.CharacterText.{Place, control_letter, two_digits, four_digits, hex, braced, is_escaped, outside, in_class, character_text}
-use Rattle.rx_model.specs.Spelling.ClassText.{class_escape_text}
 use Rattle.rx_model.specs.Trees.Early.{greatest_count, IsGreatest}
-use Rattle.rx_model.specs.Spelling.Spelling.{letters, dash, look_text, counts_text, lazy_text, quantifier_text}
 use Rattle.rx_model.specs.Trees.Token.{ignoring}
 use Rattle.rx_model.specs.declared.mode.Mode.{Mode}
 use Rattle.rx_model.specs.declared.mode.Mode.TheVariants.{Legacy, Unicode, Sets}

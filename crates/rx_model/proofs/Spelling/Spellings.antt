@@ -10,8 +10,9 @@ use Rattle.rx_ast.specs.Tree as tree
 use Rattle.rx_ast.specs.Tree.{Leaf, Opener, Node, Nodes, Alternatives, leaf, quantified, group, no_node, node, no_alternative, alternative, mirror_disjunction}
 use Rattle.rx_ast.specs.Forget.{forget_character, forget_string, forget_member, forget_members, forget_class, forget_leaf, forget_opener, forget_node, forget_nodes, forget_alternatives, no_kind, bare}
 use Rattle.rx_model.specs.declared.mode.Mode.{Mode}
-use Rattle.rx_model.specs.Spelling.ClassText.{characters_text, strings_text, barred_strings_text, in_class_text, class_opener, operator_text, member_text, class_text, members_text, more_members_text}
-use Rattle.rx_model.specs.Spelling.Spelling.{letters, dash, three_letters, opener_text, leaf_text, refers, quantifier_text, node_text, nodes_text, alternatives_text, barred_text, spelling}
+use Rattle.rx_ast.specs.Texts.{class_opener, operator_text, letters, dash, three_letters, opener_text, quantifier_text}
+use Rattle.rx_model.specs.Spelling.ClassText.{characters_text, strings_text, barred_strings_text, in_class_text, member_text, class_text, members_text, more_members_text}
+use Rattle.rx_model.specs.Spelling.Spelling.{leaf_text, refers, node_text, nodes_text, alternatives_text, barred_text, spelling}
 
 three_bits_once : (n : ℕ) → n % 8 % 8 ≡ n % 8
 three_bits_once n = omega arith

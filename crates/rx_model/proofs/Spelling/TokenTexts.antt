@@ -7,11 +7,11 @@ use Rattle.rx_ast.specs.Forget.{same_kind, bare}
 use Rattle.rx_ast.specs.Tree as tree
 use Rattle.rx_ast.specs.Tree.{Leaf, Node, Nodes, Alternatives, leaf, quantified, group, no_node, node, no_alternative, alternative, mirror_disjunction}
 use Rattle.rx_model.specs.declared.mode.Mode.{Mode}
-use Rattle.rx_model.specs.Reading.Boundaries.{boundary_text}
+use Rattle.rx_ast.specs.Texts.{boundary_text, class_escape_text, property_text, letters, dash, look_text, opener_text, quantifier_text, indexed_text, named_text}
 use Rattle.rx_model.specs.Spelling.CharacterText.{outside, character_text}
-use Rattle.rx_model.specs.Spelling.ClassText.{class_escape_text, property_text, class_text}
+use Rattle.rx_model.specs.Spelling.ClassText.{class_text}
 use Rattle.rx_model.specs.Trees.Events.{Events, within, node_events, nodes_events, alternatives_events, barred_events, tokens}
-use Rattle.rx_model.specs.Spelling.Spelling.{letters, dash, look_text, opener_text, quantifier_text, indexed_text, named_text, leaf_text, leaf_refers, refers, node_text, nodes_text, alternatives_text, barred_text, spelling}
+use Rattle.rx_model.specs.Spelling.Spelling.{leaf_text, leaf_refers, refers, node_text, nodes_text, alternatives_text, barred_text, spelling}
 use Rattle.rx_model.specs.Trees.Token.{Token, Opener, boundary, character, dot, class_escape, property, class, indexed, named, opener, closer, bar, quantifier, capturing, ignoring, looking, opener_of, leaf_token}
 use Rattle.rx_model.proofs.Trees.Flat.{before, before-append, before_leaf, before_quantified, before_group, before_alternative, tokens_are}
 use Rattle.rx_model.proofs.Spelling.Spellings.{letters_forget, dash_forget, class_text_forget, spelling_bare}

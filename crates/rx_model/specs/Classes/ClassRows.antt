@@ -11,7 +11,7 @@ use Rattle.rx_units.specs.Units.{values}
 use Rattle.rx_units.specs.Digits.{front_is}
 use Rattle.rx_model.specs.declared.mode.Mode.{Mode}
 use Rattle.rx_model.specs.declared.mode.Mode.TheVariants.{Legacy, Unicode, Sets}
-use Rattle.rx_model.specs.Spelling.ClassText.{class_escape_text}
+use Rattle.rx_ast.specs.Texts.{class_escape_text}
 use Rattle.rx_model.specs.Classes.ClassTokens.{Atom, character, escape, property, is_character, ClassToken, bracket, closer, item, low, dash, high, meet, less, strings, letter, string_bar, strings_end, ClassEvents, enter, leave, token, class_events, class_tokens}
 use Rattle.rx_model.specs.Classes.ClassShapes.{IsFitting, IsFlagged}
 use Rattle.rx_model.specs.Inputs.Environment.{Environment, is_sets, is_unicode}

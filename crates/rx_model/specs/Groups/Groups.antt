@@ -10,7 +10,7 @@ use Rattle.rx_model.specs.Groups.GroupNames.{IsNameRow, SpellsName}
 use Rattle.rx_model.specs.FirstPass.Marks.{starts}
 use Rattle.rx_model.specs.Groups.Modifiers.{SpellsModifiers}
 use Rattle.rx_model.specs.Quantifiers.Quantifiers.{AreDigits, is_question}
-use Rattle.rx_model.specs.Spelling.Spelling.{look_text}
+use Rattle.rx_ast.specs.Texts.{look_text}
 use Rattle.rx_model.specs.Trees.Token.{Opener, capturing, ignoring, looking, letter_bits}
 
 -- A backslash and a DecimalEscape (22.2.1): a digit that is not 0, and all further digits. With neither `u` nor `v` the number is at most that of the

@@ -5,7 +5,7 @@ use Rattle.rx_units.specs.declared.code_point.CodePoint.{CodePoint}
 use Rattle.rx_units.specs.Units.{values}
 use Rattle.rx_model.specs.declared.mode.Mode.{Mode}
 use Rattle.rx_model.specs.declared.mode.Mode.TheVariants.{Sets}
-use Rattle.rx_model.specs.Spelling.ClassText.{property_opener}
+use Rattle.rx_ast.specs.Texts.{property_opener}
 use Rattle.rx_model.specs.Inputs.Environment.{Environment, is_unicode}
 
 -- Between the braces: whether it is a property of strings, its name and its value, and the text.

@@ -1,17 +1,8 @@
--- The assertions that hold nothing (Assertion, 22.2.1), and the buffer boundaries of their proposal.
-use Rattle.std.specs.Prelude.{ℕ, Bool, true, ◌&&◌, List, codes}
+-- Which assertions there are of those that hold nothing (Assertion, 22.2.1); the buffer boundaries are of their proposal.
+use Rattle.std.specs.Prelude.{Bool, true, ◌&&◌}
 use Rattle.rx_ast.specs.declared.leaf.BoundaryAssertionKind.{BoundaryAssertionKind}
 use Rattle.rx_ast.specs.declared.leaf.BoundaryAssertionKind.TheVariants as boundary
 use Rattle.rx_model.specs.Inputs.Environment.{Environment, is_unicode}
-
-abbrev pub boundary_text : BoundaryAssertionKind → List ℕ
-boundary_text boundary.Start = codes "^"
-boundary_text boundary.End = codes "$"
-boundary_text boundary.Boundary = codes "\\b"
-boundary_text boundary.NegativeBoundary = codes "\\B"
-boundary_text boundary.StartBuffer = codes "\\A"
-boundary_text boundary.EndBuffer = codes "\\z"
-boundary_text boundary.EndBufferOptionalNewline = codes "\\Z"
 
 -- whether `\A`, `\z` and `\Z` are boundaries: with `u` or `v` (RegExp Buffer Boundaries)
 abbrev pub has_buffers : Environment → Bool

@@ -7,9 +7,9 @@ use Rattle.rx_units.specs.declared.code_point.CodePoint.{CodePoint}
 use Rattle.rx_units.specs.Units.{values}
 use Rattle.rx_model.specs.declared.mode.Mode.{Mode}
 use Rattle.rx_model.specs.declared.mode.Mode.TheVariants.{Legacy, Unicode, Sets}
-use Rattle.rx_model.specs.Reading.Boundaries.{boundary_text, has_boundary}
+use Rattle.rx_ast.specs.Texts.{boundary_text, class_escape_text}
+use Rattle.rx_model.specs.Reading.Boundaries.{has_boundary}
 use Rattle.rx_model.specs.Classes.ClassRows.{IsClass, IsClassSpanned}
-use Rattle.rx_model.specs.Spelling.ClassText.{class_escape_text}
 use Rattle.rx_model.specs.Inputs.Environment.{Environment, is_unicode}
 use Rattle.rx_model.specs.Characters.Escapes.{SpellsEscape}
 use Rattle.rx_model.specs.Trees.Events.{Events, enter, leave, token, inside, modified}

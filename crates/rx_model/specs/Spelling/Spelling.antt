@@ -1,70 +1,11 @@
 -- The canonical spelling of a tree: of the values that one text can spell, the one text that is written. It looks at no span and at no character kind.
-use Rattle.std.specs.Prelude.{ℕ, ◌%◌, Bool, true, false, ◌==◌, ◌&&◌, List, [], ◌++◌, Option, Some, None, codes, if◌then◌else◌}
-use Rattle.std.specs.Fmt.{decimal}
-use Rattle.rx_ast.specs.declared.leaf.LookAroundAssertionKind.{LookAroundAssertionKind}
-use Rattle.rx_ast.specs.declared.leaf.LookAroundAssertionKind.TheVariants as look
-use Rattle.rx_ast.specs.declared.leaf.Modifiers.{Modifiers}
+use Rattle.std.specs.Prelude.{ℕ, Bool, true, false, List, [], ◌++◌, codes}
+use Rattle.rx_ast.specs.Texts.{boundary_text, class_escape_text, indexed_text, named_text, opener_text, property_text, quantifier_text}
 use Rattle.rx_ast.specs.Tree as tree
-use Rattle.rx_ast.specs.Tree.{Leaf, Opener, Node, Nodes, Alternatives, leaf, quantified, group, no_node, node, no_alternative, alternative}
+use Rattle.rx_ast.specs.Tree.{Leaf, Node, Nodes, Alternatives, leaf, quantified, group, no_node, node, no_alternative, alternative}
 use Rattle.rx_model.specs.declared.mode.Mode.{Mode}
-use Rattle.rx_model.specs.Reading.Boundaries.{boundary_text}
 use Rattle.rx_model.specs.Spelling.CharacterText.{outside, character_text}
-use Rattle.rx_model.specs.Spelling.ClassText.{class_escape_text, property_text, class_text}
-
-abbrev pub look_text : LookAroundAssertionKind → List ℕ
-look_text look.Lookahead = codes "(?="
-look_text look.NegativeLookahead = codes "(?!"
-look_text look.Lookbehind = codes "(?<="
-look_text look.NegativeLookbehind = codes "(?<!"
-
--- the letters of three bits, in the order i, m, s
-abbrev pub three_letters : ℕ → List ℕ
-three_letters n =
-    if n == 0 then []
-    else (if n == 1 then codes "i"
-    else (if n == 2 then codes "m"
-    else (if n == 3 then codes "im"
-    else (if n == 4 then codes "s"
-    else (if n == 5 then codes "is"
-    else (if n == 6 then codes "ms"
-    else codes "ims"))))))
-
-unfoldable pub letters : ℕ → List ℕ
-letters bits = three_letters (bits % 8)
-
-abbrev pub dash : ℕ → List ℕ
-dash bits = if bits % 8 == 0 then [] else codes "-"
-
-abbrev pub modifiers_text : Modifiers → List ℕ
-modifiers_text m = letters m.enabling.0 ++ (dash m.disabling.0 ++ letters m.disabling.0)
-
-abbrev pub opener_text : Opener → List ℕ
-opener_text (tree.capturing None) = codes "("
-opener_text (tree.capturing (Some name)) = codes "(?<" ++ (name ++ codes ">")
-opener_text (tree.ignoring None) = codes "(?:"
-opener_text (tree.ignoring (Some m)) = codes "(?" ++ (modifiers_text m ++ codes ":")
-opener_text (tree.looking kind) = look_text kind
-
--- the first that fits of `*`, `+`, `?`, `{n}`, `{n,m}`, `{n,}`
-abbrev pub counts_text : ℕ → Option ℕ → List ℕ
-counts_text min None = if min == 0 then codes "*" else (if min == 1 then codes "+" else codes "{" ++ (decimal min ++ codes ",}"))
-counts_text min (Some max) =
-    if min == 0 && max == 1 then codes "?"
-    else (if min == max then codes "{" ++ (decimal min ++ codes "}")
-    else codes "{" ++ (decimal min ++ (codes "," ++ (decimal max ++ codes "}"))))
-
-abbrev pub lazy_text : Bool → List ℕ
-lazy_text true = []
-lazy_text false = codes "?"
-
-abbrev pub quantifier_text : ℕ → Option ℕ → Bool → List ℕ
-quantifier_text min max greedy = counts_text min max ++ lazy_text greedy
-
-abbrev pub indexed_text : ℕ → List ℕ
-indexed_text index = codes "\\" ++ decimal index
-
-abbrev pub named_text : List ℕ → List ℕ
-named_text name = codes "\\k<" ++ (name ++ codes ">")
+use Rattle.rx_model.specs.Spelling.ClassText.{class_text}
 
 -- The flag says whether an unquantified indexed reference stands right before.
 abbrev pub leaf_text : Mode → Bool → Leaf → List ℕ

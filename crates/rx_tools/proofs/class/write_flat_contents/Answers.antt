@@ -3,7 +3,8 @@ use Rattle.std.specs.Str.{chars}
 use Rattle.std.proofs.lemmas.Str.{IsUtf8-nil}
 use Rattle.rx_ast.specs.ClassTree.{mirror_contents}
 use Rattle.rx_base.proofs.Writings.{left_all, left_then, left_stop, left_none}
-use Rattle.rx_model.specs.Spelling.ClassText.{operator_text, member_text}
+use Rattle.rx_ast.specs.Texts.{operator_text}
+use Rattle.rx_model.specs.Spelling.ClassText.{member_text}
 use Rattle.rx_tools.specs.Utf8.{utf8}
 use Rattle.rx_tools.proofs.Classes.{behind_nothing, contents_next, contents_none, flat_parts}
 use Rattle.rx_tools.proofs.Pieces.{utf8-nil, text_next, failed_from}

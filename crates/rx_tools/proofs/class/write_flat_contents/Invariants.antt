@@ -4,7 +4,8 @@ use Rattle.std.proofs.Common.{◌≡◌, true, drop, map}
 use Rattle.std.specs.Str.{chars}
 use Rattle.rx_ast.specs.ClassTree.{members, mirror_contents}
 use Rattle.rx_base.proofs.Writings.{Left}
-use Rattle.rx_model.specs.Spelling.ClassText.{operator_text, members_text}
+use Rattle.rx_ast.specs.Texts.{operator_text}
+use Rattle.rx_model.specs.Spelling.ClassText.{members_text}
 use Rattle.rx_tools.specs.Leaves.{are_flat}
 use Rattle.rx_tools.specs.Utf8.{utf8}
 use Rattle.rx_tools.proofs.Classes.{contents_behind}

@@ -3,10 +3,12 @@ use Rattle.std.proofs.lemmas.Result.{on_ok_weaker}
 use Rattle.std.specs.Str.{chars}
 use Rattle.rx_ast.specs.ClassTree.{mirror_contents}
 use Rattle.rx_ast.specs.Size.{all_contents_size}
-use Rattle.rx_model.specs.Spelling.ClassText.{class_opener, member_text}
+use Rattle.rx_ast.specs.Texts.{class_opener}
+use Rattle.rx_model.specs.Spelling.ClassText.{member_text}
 use Rattle.rx_tools.proofs.Goes.{goes_last, goes_then, goes_whole}
 use Rattle.rx_tools.specs.ClassTasks.{class_pending}
-use Rattle.rx_tools.proofs.ClassTasks.{class_cut, class_none, first_contents_size}
+use Rattle.rx_display.proofs.ClassTasks.{first_contents_size}
+use Rattle.rx_tools.proofs.ClassTasks.{class_cut, class_none}
 use Rattle.rx_tools.proofs.Lists.{none_long}
 use Rattle.rx_tools.proofs.class_task.open_class.Goals as goal
 

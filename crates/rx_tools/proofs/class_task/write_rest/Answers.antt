@@ -2,10 +2,12 @@ use Rattle.std.proofs.Common.{ap, sym, ◌∙◌, ◌++◌, arith, codes}
 use Rattle.std.proofs.lemmas.Result.{on_ok_weaker}
 use Rattle.std.specs.Str.{chars}
 use Rattle.rx_ast.specs.ClassTree.{mirror_contents}
-use Rattle.rx_model.specs.Spelling.ClassText.{member_text, operator_text}
+use Rattle.rx_ast.specs.Texts.{operator_text}
+use Rattle.rx_model.specs.Spelling.ClassText.{member_text}
 use Rattle.rx_tools.proofs.Goes.{goes_last, goes_none, goes_then, goes_whole}
 use Rattle.rx_tools.specs.ClassTasks.{class_pending}
-use Rattle.rx_tools.proofs.ClassTasks.{first_contents_size, rest_cut, rest_of_class}
+use Rattle.rx_display.proofs.ClassTasks.{first_contents_size}
+use Rattle.rx_tools.proofs.ClassTasks.{rest_cut, rest_of_class}
 use Rattle.rx_tools.proofs.Lists.{none_long}
 use Rattle.rx_tools.proofs.class_task.write_rest.Goals as goal
 

@@ -6,7 +6,7 @@ use Rattle.rx_model.specs.Spelling.Spelling.{refers, node_text, nodes_text}
 use Rattle.rx_tools.specs.Leaves.{rest_text}
 use Rattle.rx_tools.proofs.Leaves.{front_none, front_then, front_written, front_fails, front_rest, unless_wrote, unless_not}
 use Rattle.rx_tools.proofs.Pieces.{same_text, text_stop, failed_from}
-use Rattle.rx_tools.proofs.Trees.{terms_first}
+use Rattle.rx_display.proofs.Tasks.{terms_first}
 use Rattle.rx_tools.proofs.leaf.write_leaves.Goals as goal
 
 pub loop-first-init : goal.loop-first-init

@@ -7,7 +7,7 @@ use Rattle.rx_tools.specs.Tasks.{pending}
 use Rattle.rx_tools.proofs.Goes.{goes_as, goes_none}
 use Rattle.rx_tools.proofs.Lists.{none_long}
 use Rattle.rx_tools.proofs.Tasks.{terms_cut}
-use Rattle.rx_tools.proofs.Trees.{terms_first}
+use Rattle.rx_display.proofs.Tasks.{terms_first}
 use Rattle.rx_tools.proofs.printing.open_first.Goals as goal
 
 pub returns-clause-text : goal.returns-clause-text

@@ -3,7 +3,7 @@ use Rattle.std.specs.Str.{chars}
 use Rattle.rx_ast.specs.Size.{all_alternatives_size, terms_size}
 use Rattle.rx_tools.proofs.Goes.{goes_none, goes_then, goes_whole}
 use Rattle.rx_tools.proofs.Tasks.{barred_cut}
-use Rattle.rx_tools.proofs.Trees.{alternatives_first}
+use Rattle.rx_display.proofs.Tasks.{alternatives_first}
 use Rattle.rx_tools.proofs.printing.write_alternatives.Goals as goal
 
 pub loop-first-init : goal.loop-first-init

@@ -6,7 +6,7 @@ use Rattle.rx_tools.specs.Tasks.{pending, tree_of}
 use Rattle.rx_tools.proofs.Lists.{none_long}
 use Rattle.rx_tools.proofs.Goes.{goes_as, goes_none, goes_then}
 use Rattle.rx_tools.proofs.Tasks.{disjunction_cut}
-use Rattle.rx_tools.proofs.Trees.{alternatives_first}
+use Rattle.rx_display.proofs.Tasks.{alternatives_first}
 use Rattle.rx_tools.proofs.printing.write_disjunction.Goals as goal
 
 pub returns-clause-text : goal.returns-clause-text

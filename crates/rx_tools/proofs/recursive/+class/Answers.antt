@@ -3,9 +3,11 @@ use Rattle.std.specs.Str.{chars}
 use Rattle.std.proofs.lemmas.Str.{IsUtf8-nil}
 use Rattle.rx_ast.specs.ClassTree.{mirror_contents}
 use Rattle.rx_base.proofs.Writings.{left_all, left_then, left_stop, left_none}
-use Rattle.rx_model.specs.Spelling.ClassText.{operator_text, member_text}
+use Rattle.rx_ast.specs.Texts.{operator_text}
+use Rattle.rx_model.specs.Spelling.ClassText.{member_text}
 use Rattle.rx_tools.specs.Utf8.{utf8}
-use Rattle.rx_tools.proofs.Classes.{behind_nothing, class_texts, contents_next, contents_none, contents_within}
+use Rattle.rx_ast.proofs.ClassSizes.{contents_within}
+use Rattle.rx_tools.proofs.Classes.{behind_nothing, class_texts, contents_next, contents_none}
 use Rattle.rx_tools.proofs.Pieces.{utf8-nil, same_text, text_next, text_then, text_stop, failed_from}
 use Rattle.rx_tools.proofs.recursive.+class.Goals as goal
 

@@ -5,7 +5,8 @@ use Rattle.std.specs.Str.{chars}
 use Rattle.rx_ast.specs.Size.{contents_size, all_contents_size}
 use Rattle.rx_ast.specs.ClassTree.{members, mirror_contents}
 use Rattle.rx_base.proofs.Writings.{Left}
-use Rattle.rx_model.specs.Spelling.ClassText.{operator_text, members_text}
+use Rattle.rx_ast.specs.Texts.{operator_text}
+use Rattle.rx_model.specs.Spelling.ClassText.{members_text}
 use Rattle.rx_tools.specs.Utf8.{utf8}
 use Rattle.rx_tools.proofs.Classes.{contents_behind}
 use Rattle.rx_tools.proofs.recursive.+class.Given as goal

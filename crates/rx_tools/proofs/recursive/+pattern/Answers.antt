@@ -4,7 +4,7 @@ use Rattle.std.proofs.lemmas.Str.{IsUtf8-nil}
 use Rattle.rx_ast.specs.Size.{terms_size}
 use Rattle.rx_ast.specs.Tree.{nodes, mirror_term}
 use Rattle.rx_ast.proofs.Equations.{quantifier_is, disjunction_is, tree_of_capturing, tree_of_ignore, tree_of_look}
-use Rattle.rx_ast.proofs.Sizes.{term_positive}
+use Rattle.rx_ast.proofs.Sizes.{alternative_within, term_positive}
 use Rattle.rx_base.specs.declared.ends.Failed.{Failed}
 use Rattle.rx_base.proofs.Writings.{left_all, left_then, left_stop, left_none}
 use Rattle.rx_model.specs.Spelling.Spelling.{node_text, nodes_text, alternatives_text, refers}
@@ -13,7 +13,8 @@ use Rattle.rx_tools.specs.Leaves.{rest_text}
 use Rattle.rx_tools.specs.Utf8.{utf8}
 use Rattle.rx_tools.proofs.Leaves.{fails_front, front_then, front_written, front_rest}
 use Rattle.rx_tools.proofs.Pieces.{utf8-nil, same_text, text_next, text_then, text_stop, failed_from}
-use Rattle.rx_tools.proofs.Trees.{behind_nothing, alternatives_next, alternatives_none, alternative_within, terms_first}
+use Rattle.rx_display.proofs.Tasks.{terms_first}
+use Rattle.rx_tools.proofs.Trees.{behind_nothing, alternatives_next, alternatives_none}
 use Rattle.rx_tools.proofs.recursive.+pattern.Goals as goal
 
 pub write_alternatives-loop-alternative-init : goal.write_alternatives-loop-alternative-init

@@ -2,7 +2,8 @@ use Rattle.std.proofs.Common.{refl, ap, rules, arith}
 use Rattle.rx_ast.specs.Size.{all_contents_size}
 use Rattle.rx_ast.proofs.ClassSizes.{contents_within}
 use Rattle.rx_visit.specs.Visits.{none}
-use Rattle.rx_visit.proofs.Children.{contents_kind, in_class}
+use Rattle.rx_visit.specs.Siblings.{contents_kind}
+use Rattle.rx_visit.proofs.Children.{in_class}
 use Rattle.rx_visit.proofs.Walks.{descended, passed, one, turned, looped}
 use Rattle.rx_visit.proofs.class.+class.Goals as goal
 use Rattle.rx_visit.proofs.class.+class.Goals.{walk_character_class-then-enter_node+else-loop-contents-test, walk_character_class-else-enter_node, walk_character_class_contents-then-enter_node, walk_character_class_contents-else-enter_node}

@@ -1,7 +1,7 @@
 use Rattle.std.proofs.Common.{◌+◌, ◌*◌, take, map}
 use Rattle.rx_ast.specs.Size.{contents_size, all_contents_size}
 use Rattle.rx_visit.specs.Visits.{VisitedAll}
-use Rattle.rx_visit.proofs.Children.{contents_kind}
+use Rattle.rx_visit.specs.Siblings.{contents_kind}
 use Rattle.rx_visit.proofs.class.+class.Given as goal
 
 abbrev pub decreases-walk_character_class : goal.decreases-walk_character_class

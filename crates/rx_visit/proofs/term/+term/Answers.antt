@@ -2,7 +2,8 @@ use Rattle.std.proofs.Common.{refl, ap, rules, arith}
 use Rattle.rx_ast.specs.Size.{terms_size, all_alternatives_size}
 use Rattle.rx_ast.proofs.Sizes.{size_of_disjunction, alternative_within, term_within}
 use Rattle.rx_visit.specs.Visits.{none}
-use Rattle.rx_visit.proofs.Children.{term_kind, alternative_kind, in_alternative, in_disjunction}
+use Rattle.rx_visit.specs.Siblings.{term_kind, alternative_kind}
+use Rattle.rx_visit.proofs.Children.{in_alternative, in_disjunction}
 use Rattle.rx_visit.proofs.Walks.{descended, passed, one, turned, looped}
 use Rattle.rx_visit.proofs.term.+term.Goals as goal
 use Rattle.rx_visit.proofs.term.+term.Goals.{walk_disjunction-then-enter_node+else-loop-alternative-test, walk_disjunction-else-enter_node, walk_alternative-then-enter_node+else-loop-term-test, walk_alternative-else-enter_node, walk_term-then-enter_node, walk_term-else-enter_node, walk_lookaround_assertion-then-enter_node, walk_lookaround_assertion-else-enter_node, walk_quantifier-then-enter_node, walk_quantifier-else-enter_node, walk_capturing_group-then-enter_node, walk_capturing_group-else-enter_node, walk_ignore_group-then-enter_node, walk_ignore_group-else-enter_node}

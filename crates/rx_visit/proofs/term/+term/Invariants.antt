@@ -4,7 +4,7 @@ use Rattle.rx_ast.specs.declared.term.IgnoreGroup.{out-IgnoreGroup}
 use Rattle.rx_ast.specs.declared.term.LookAroundAssertion.{out-LookAroundAssertion}
 use Rattle.rx_ast.specs.Size.{term_size, terms_size, disjunction_size}
 use Rattle.rx_visit.specs.Visits.{VisitedAll}
-use Rattle.rx_visit.proofs.Children.{term_kind, alternative_kind}
+use Rattle.rx_visit.specs.Siblings.{term_kind, alternative_kind}
 use Rattle.rx_visit.proofs.term.+term.Given as goal
 
 abbrev pub decreases-walk_disjunction : goal.decreases-walk_disjunction

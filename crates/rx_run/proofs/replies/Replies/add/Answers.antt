@@ -5,16 +5,14 @@ use Rattle.std.proofs.lemmas.Result.{on_ok_weaker}
 use Rattle.std.proofs.Math.Bool.{and-true}
 use Rattle.rx_base.specs.declared.fault.Fault.TheVariants as fault
 use Rattle.rx_ast.specs.declared.term.Pattern.{Pattern}
-use Rattle.rx_ast.specs.Forget.{bare}
 use Rattle.rx_model.specs.declared.mode.Mode.{Mode}
 use Rattle.rx_model.specs.Reading.Headline.{IsAnswered}
-use Rattle.rx_model.specs.Spelling.Spelling.{spelling}
 use Rattle.rx_tools.specs.Spelled.{read_of}
 use Rattle.rx_tools.proofs.CanonicalAnswers.{by_itself}
 use Rattle.rx_parser.specs.Inputs.{flags_chars}
 use Rattle.rx_run.specs.Request.{Request}
 use Rattle.rx_run.specs.Reply.{bad, bad_reply, ok_reply, err_reply, input_of}
-use Rattle.rx_run.proofs.Answering.{err_reply_is, ok_reply_is}
+use Rattle.rx_run.proofs.Answering.{err_reply_is, ok_begins_ok, ok_reply_is}
 use Rattle.rx_run.proofs.replies.Replies.add.Goals as goal
 
 -- a refusal turns the flag
@@ -32,11 +30,11 @@ returns-in-Ok c =
     let it : Pattern × Mode = (c.in-Ok.pattern, c.in-Ok.mode) in
     on_ok_weaker c.add_ok.result
     (λ added. (
-      ok_reply it.1 (spelling (bare it.0) it.1),
+      ok_reply c.args.answering.now request it.1 it.0,
       ok_reply_is c.args.line.now request it c.in-Some.ensures.asked
           (by_itself read_of request.form request.text request.flags (Ok it) c.default-options.result.pattern_span_offset c.default-options.result.flags_span_offset (search rules) (search rules) c.in-Ok.ensures.headline),
       added,
-      c.add_ok.ensures.all_ok ∙ sym (and-true c.args.self.now.all_ok),
+      c.add_ok.ensures.all_ok ∙ sym (ap (λ (b : Bool). c.args.self.now.all_ok && b) (ok_begins_ok c.args.answering.now request it.1 it.0) ∙ and-true c.args.self.now.all_ok),
     ))
     c.add_ok.ensures.bytes
 

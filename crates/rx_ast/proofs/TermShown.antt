@@ -1,0 +1,38 @@
+-- Terms and alternatives as they are written one after the other.
+use Rattle.std.proofs.Common.{◌≡◌, refl, ap, ℕ, suc, ◌+◌, ◌<◌, Bool, false, List, [], ◌∷◌, ◌++◌, length, drop, get_or, add-one, codes, map, Option}
+use Rattle.std.specs.Prelude.{if◌then◌else◌, is_some}
+use Rattle.std.proofs.Math.Seq.{drop-cons}
+use Rattle.rx_ast.specs.declared.term.Alternative.{Alternative}
+use Rattle.rx_ast.specs.declared.term.Term.{Term}
+use Rattle.rx_ast.specs.Shown.{alternatives_shown, barred_shown, node_pair, node_shown, nodes_shown, pair_or}
+use Rattle.rx_ast.specs.Size.{term_size, terms_size}
+use Rattle.rx_ast.specs.Tree.{Alternatives, no_alternative, alternative, alternatives, nodes, mirror_term, mirror_alternative}
+use Rattle.rx_ast.proofs.Equations.{alternative_is}
+
+pub terms_next : (joined : Bool) (pair : Option ℕ) (t : Term) (ts : List Term) → pair ≡ node_pair (mirror_term t) (nodes (map mirror_term ts)) →
+    nodes_shown joined (nodes (map mirror_term (t ∷ ts))) ≡ (if joined then [] else pair_or pair (node_shown (mirror_term t))) ++ nodes_shown (is_some pair) (nodes (map mirror_term ts))
+terms_next joined pair t ts is = rw is refl
+
+-- alternatives, the first behind this text and each other one behind a bar
+abbrev pub alternatives_behind : List ℕ → Alternatives → List ℕ
+alternatives_behind before no_alternative = []
+alternatives_behind before (alternative s ns more) = before ++ (nodes_shown false ns ++ barred_shown more)
+
+pub behind_nothing : (more : Alternatives) → alternatives_shown more ≡ alternatives_behind [] more
+behind_nothing no_alternative = refl
+behind_nothing (alternative s ns more) = refl
+
+behind_bar : (more : Alternatives) → barred_shown more ≡ alternatives_behind (codes "|") more
+behind_bar no_alternative = refl
+behind_bar (alternative s ns more) = refl
+
+pub alternatives_next : (before : List ℕ) (as' : List Alternative) (i : ℕ) (a : Alternative) → i < length as' → a ≡ get_or as' i a →
+    alternatives_behind before (alternatives (map mirror_alternative (drop i as'))) ≡
+    before ++ (nodes_shown false (nodes (map mirror_term a.body)) ++ alternatives_behind (codes "|") (alternatives (map mirror_alternative (drop (i + 1) as'))))
+alternatives_next before as' i a h e =
+    rw (add-one, drop-cons as' i a, ← e, alternative_is a)
+    (ap (λ rest. before ++ (nodes_shown false (nodes (map mirror_term a.body)) ++ rest)) (behind_bar (alternatives (map mirror_alternative (drop (suc i) as')))))
+
+pub terms_cons : (t : Term) (ts : List Term) → terms_size (t ∷ ts) ≡ term_size t + terms_size ts
+unfolding terms_size term_size
+terms_cons t ts = refl

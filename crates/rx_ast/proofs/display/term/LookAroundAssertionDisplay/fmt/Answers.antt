@@ -1,0 +1,8 @@
+use Rattle.std.proofs.Common.{ap, sym}
+use Rattle.rx_ast.specs.Shown.{node_shown}
+use Rattle.rx_ast.proofs.Equations.{look_is}
+use Rattle.rx_ast.proofs.Shows.{same_shown}
+use Rattle.rx_ast.proofs.display.term.LookAroundAssertionDisplay.fmt.Goals as goal
+
+pub returns-clause-writes : goal.returns-clause-writes
+returns-clause-writes g c = same_shown _ (sym (ap (λ n. node_shown n) (look_is c.args.self.now))) c.write_look_around.ensures

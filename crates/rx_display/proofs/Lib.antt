@@ -1,0 +1,4 @@
+pub mod ClassTasks
+pub mod Goes
+pub mod Tasks
+pub mod Writers

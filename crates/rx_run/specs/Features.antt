@@ -1,0 +1,39 @@
+-- Lists of what an engine may not support.
+use Rattle.std.specs.Prelude.{◌≡◌, ◌≢◌, ◌≤◌, ◌↔◌, ℕ, Bool, IsTrue, List, length, map, codes, AllPairs, Contains}
+use Rattle.std.specs.List.{join_with_byte}
+use Rattle.rx_run.specs.declared.features.Feature.{Feature}
+use Rattle.rx_run.specs.declared.features.Feature.TheVariants.{Sticky, Unicode, DotAll, MatchIndices, UnicodeSets, NamedCaptureGroups, DuplicateNamedCaptureGroups, UnicodePropertyEscapes, LookBehindAssertions, PatternModifiers}
+use Rattle.rx_run.specs.declared.features.Features.{Features}
+
+abbrev pub feature_name : Feature → List ℕ
+feature_name Sticky = codes "sticky"
+feature_name Unicode = codes "unicode"
+feature_name DotAll = codes "dot_all"
+feature_name MatchIndices = codes "match_indices"
+feature_name UnicodeSets = codes "unicode_sets"
+feature_name NamedCaptureGroups = codes "named_capture_groups"
+feature_name DuplicateNamedCaptureGroups = codes "duplicate_named_capture_groups"
+feature_name UnicodePropertyEscapes = codes "unicode_property_escapes"
+feature_name LookBehindAssertions = codes "look_behind_assertions"
+feature_name PatternModifiers = codes "pattern_modifiers"
+
+-- whether the field of a feature is set
+abbrev pub has_feature : Features → Feature → Bool
+has_feature set Sticky = set.flags.sticky
+has_feature set Unicode = set.flags.unicode
+has_feature set DotAll = set.flags.dot_all
+has_feature set MatchIndices = set.flags.match_indices
+has_feature set UnicodeSets = set.flags.unicode_sets
+has_feature set NamedCaptureGroups = set.patterns.named_capture_groups
+has_feature set DuplicateNamedCaptureGroups = set.patterns.duplicate_named_capture_groups
+has_feature set UnicodePropertyEscapes = set.patterns.unicode_property_escapes
+has_feature set LookBehindAssertions = set.patterns.look_behind_assertions
+has_feature set PatternModifiers = set.patterns.pattern_modifiers
+
+-- The word is the names of some features with commas between, at least one feature and none twice, and exactly their fields are set.
+pub record IsFeatureList (word : List ℕ) (features : Features) : Type 0 where
+  pub listed : List Feature
+  pub some : 1 ≤ length listed
+  pub once : AllPairs (λ one other. one ≢ other) listed
+  pub word_is : word ≡ join_with_byte 44 (map feature_name listed)
+  pub set_are : (feature : Feature) → IsTrue (has_feature features feature) ↔ Contains listed feature

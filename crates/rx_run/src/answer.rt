@@ -1,0 +1,49 @@
+ghost use Rattle.std.specs.Prelude.{◌↔◌, ◌≡◌, ◌≤◌, IsTrue, MatchOption, IfSome, length};
+ghost use Rattle.rx_parser.specs.Inputs.{flags_chars, flags_length};
+ghost use Rattle.std.specs.Str.{chars};
+ghost use Rattle.rx_run.specs.Reply.{IsAnswerable, IsAsked};
+ghost use Rattle.rx_run.specs.Request.{Request as Asked};
+
+use crate::features::Features;
+use crate::request::Request;
+use rx_tools::Form;
+
+/// What is said of a request that is read.
+#[derive(Debug, Drop)]
+pub enum Answering {
+    /// Its mode and its canonical spelling.
+    Canonical,
+
+    /// Its mode, and the text that `Display` writes of its tree, with the number of the text's bytes.
+    Display,
+
+    /// Whether its flags have one of these features, or are wrong, and whether its tree has one.
+    Support(Features),
+}
+
+impl Answering {
+    /// Whether requests of this form are answered.
+    fn takes(&self, form: Form) -> bool
+        ensures { IsTrue result ↔ IsAnswerable self.now form }
+    {
+        match self {
+            Answering::Canonical | Answering::Display => true,
+            Answering::Support(_) => matches!(form, Form::Literal),
+        }
+    }
+
+    /// What a line asks for, or none where it asks for nothing that is answered.
+    pub fn asked<'a>(&self, line: &'a [u8]) -> Option<Request<'a>>
+        ensures asked { MatchOption result
+            ((asked : Asked) → ¬ IsAsked self.now line.now asked)
+            (λ it. IsAsked self.now line.now (record { form = it.form; flags = flags_chars it.flags; text = chars it.text.now })) }
+        ensures flags { IfSome result (λ it. flags_length it.flags ≤ 1048576) }
+        ensures text { IfSome result (λ it. length it.text.now ≤ 1048576) }
+    {
+        let request = Request::parse(line)?;
+        if !self.takes(request.form) {
+            return None;
+        }
+        Some(request)
+    }
+}

@@ -1,0 +1,114 @@
+ghost use Rattle.std.specs.Prelude.{◌≡◌, ◌||◌, ◌↔◌, ◌⊎◌, IsTrue, MatchOption, false};
+ghost use Rattle.rx_run.specs.declared.features.Feature.{Feature as Named};
+ghost use Rattle.rx_run.specs.declared.features.Features.{Features as Listed};
+ghost use Rattle.rx_run.specs.Features.{IsFeatureList, feature_name, has_feature};
+
+use rx_tools::support::{RegexUnsupportedFlags, RegexUnsupportedPatterns};
+
+/// What an engine may not support of flags and of patterns.
+#[derive(Clone, Copy)]
+enum Feature {
+    Sticky,
+    Unicode,
+    DotAll,
+    MatchIndices,
+    UnicodeSets,
+    NamedCaptureGroups,
+    DuplicateNamedCaptureGroups,
+    UnicodePropertyEscapes,
+    LookBehindAssertions,
+    PatternModifiers,
+}
+
+impl Feature {
+    /// The feature of this name, or none.
+    fn named(name: &str) -> Option<Feature>
+        ensures { MatchOption result
+            ((feature : Named) → ¬ (name.now ≡ feature_name feature))
+            (λ feature. name.now ≡ feature_name feature) }
+    {
+        match name {
+            "sticky" => Some(Feature::Sticky),
+            "unicode" => Some(Feature::Unicode),
+            "dot_all" => Some(Feature::DotAll),
+            "match_indices" => Some(Feature::MatchIndices),
+            "unicode_sets" => Some(Feature::UnicodeSets),
+            "named_capture_groups" => Some(Feature::NamedCaptureGroups),
+            "duplicate_named_capture_groups" => Some(Feature::DuplicateNamedCaptureGroups),
+            "unicode_property_escapes" => Some(Feature::UnicodePropertyEscapes),
+            "look_behind_assertions" => Some(Feature::LookBehindAssertions),
+            "pattern_modifiers" => Some(Feature::PatternModifiers),
+            _ => None,
+        }
+    }
+}
+
+/// Features that are not supported.
+#[derive(Debug, Default, Drop)]
+pub struct Features {
+    pub flags: RegexUnsupportedFlags,
+    pub patterns: RegexUnsupportedPatterns,
+}
+
+impl Features {
+    /// No features.
+    fn none() -> Features
+        ensures { (feature : Named) → has_feature result feature ≡ false }
+    {
+        Features::default()
+    }
+
+    /// The features of a list, or none where the word is none of the lists.
+    pub fn parse(word: &str) -> Option<Features>
+        ensures { MatchOption result
+            ((features : Listed) → ¬ IsFeatureList word.now features)
+            (λ features. IsFeatureList word.now features) }
+    {
+        let mut features = Features::none();
+        for name in word.split(',') {
+            let feature = Feature::named(name)?;
+            if features.has(feature) {
+                return None;
+            }
+            features.insert(feature);
+        }
+        Some(features)
+    }
+
+    fn has(&self, feature: Feature) -> bool
+        ensures { result ≡ has_feature self.now feature }
+    {
+        match feature {
+            Feature::Sticky => self.flags.sticky,
+            Feature::Unicode => self.flags.unicode,
+            Feature::DotAll => self.flags.dot_all,
+            Feature::MatchIndices => self.flags.match_indices,
+            Feature::UnicodeSets => self.flags.unicode_sets,
+            Feature::NamedCaptureGroups => self.patterns.named_capture_groups,
+            Feature::DuplicateNamedCaptureGroups => self.patterns.duplicate_named_capture_groups,
+            Feature::UnicodePropertyEscapes => self.patterns.unicode_property_escapes,
+            Feature::LookBehindAssertions => self.patterns.look_behind_assertions,
+            Feature::PatternModifiers => self.patterns.pattern_modifiers,
+        }
+    }
+
+    /// Sets the field of a feature, and no other.
+    fn insert(&mut self, feature: Feature)
+        ensures { (other : Named) → IsTrue (has_feature self.new other) ↔ ((other ≡ feature) ⊎ IsTrue (has_feature self.old other)) }
+    {
+        match feature {
+            Feature::Sticky => self.flags.sticky = true,
+            Feature::Unicode => self.flags.unicode = true,
+            Feature::DotAll => self.flags.dot_all = true,
+            Feature::MatchIndices => self.flags.match_indices = true,
+            Feature::UnicodeSets => self.flags.unicode_sets = true,
+            Feature::NamedCaptureGroups => self.patterns.named_capture_groups = true,
+            Feature::DuplicateNamedCaptureGroups => {
+                self.patterns.duplicate_named_capture_groups = true;
+            }
+            Feature::UnicodePropertyEscapes => self.patterns.unicode_property_escapes = true,
+            Feature::LookBehindAssertions => self.patterns.look_behind_assertions = true,
+            Feature::PatternModifiers => self.patterns.pattern_modifiers = true,
+        }
+    }
+}

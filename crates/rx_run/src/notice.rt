@@ -1,0 +1,67 @@
+ghost use Rattle.std.specs.Prelude.{◌≡◌};
+ghost use Rattle.rx_run.specs.Notices.{notice_text};
+
+/// What `--help` writes.
+pub const HELP: &str =
+    r"regexp reads patterns of ECMAScript regular expressions, and says how each is read, or why it is refused.
+
+Without words it reads lines from standard input, and writes one reply to each, in order. A line is
+  FORM <TAB> FLAGS <TAB> PATTERN
+FORM is L for a literal, whose pattern is the text between the slashes, or C for arguments of RegExp, where
+flags and pattern have their quotes, as in the source. No flags are an empty field.
+
+Replies:
+  ok <TAB> MODE <TAB> SPELLING    the pattern is read: its mode (legacy, unicode or sets) and its canonical spelling
+  err <TAB> NAME <TAB> SPANS      the flags or the pattern are refused; a span is start..end, in bytes of the field
+  bad                             the line is longer than 1048576 bytes, or is not UTF-8, or has fewer than two TABs,
+                                  or its form is neither L nor C
+
+Words:
+  display          as without words, but an ok reply is  ok <TAB> MODE <TAB> LENGTH <TAB> TEXT
+                   with the text that Display writes of the pattern, and the number of its bytes
+  support LIST     as without words, but an ok reply is  ok <TAB> F <TAB> P
+                   F is 1 where a flag is of the list, P is 1 where something of the pattern is; else 0. A line of
+                   form C is bad. LIST is one or more of these, with commas between, none twice:
+                   sticky, unicode, dot_all, match_indices, unicode_sets, named_capture_groups,
+                   duplicate_named_capture_groups, unicode_property_escapes, look_behind_assertions, pattern_modifiers
+  gen SEED COUNT   reads nothing; makes COUNT patterns (1 to 20000) from a SEED below 2147483648, reads and spells each,
+                   and writes how many there were, how many were read, and how many bytes their spellings have
+  --help           writes this text
+  --version        writes the version
+
+Status:
+  0  the input was read to its end, and every reply begins with ok; or what was asked for was written
+  1  the input was read to its end, and some reply does not begin with ok
+  2  the words are none of the above; nothing is read or written
+  3, 4, 5  a fault of reading; a fault of writing; out of memory
+  6  the input is longer than 67108864 bytes
+
+Examples:
+  printf 'L\tu\t\\x41{1,}\n' | regexp                          writes  ok <TAB> unicode <TAB> A+
+  printf 'L\ty\t(?<=a)b\n' | regexp support sticky,dot_all     writes  ok <TAB> 1 <TAB> 0
+";
+
+/// What `--version` writes.
+pub const VERSION: &str = "regexp 0.156.0 (a port of oxc_regular_expression 0.156.0)\n";
+
+/// A text in which the program tells of itself.
+#[derive(Clone, Copy, Debug, PartialEq, Eq)]
+pub enum Notice {
+    /// What the program reads and writes.
+    Help,
+
+    /// Its version.
+    Version,
+}
+
+impl Notice {
+    #[tactic(auto, unfolding(crate::specs::Notices::notice_text))]
+    pub fn text(self) -> &'static str
+        ensures { result.now ≡ notice_text self }
+    {
+        match self {
+            Notice::Help => HELP,
+            Notice::Version => VERSION,
+        }
+    }
+}

@@ -1,0 +1,185 @@
+//! The commands `display` and `support`, the texts of `--help` and `--version`, and words that are none of the stated lists.
+use crate::memory::{bytes_of, words_of};
+use rx_base::{List, MemorySink, MemorySource, OutOfMemory, Source};
+use rx_rows::{Call, agree, text_of};
+use rx_run::run::run;
+use std::alloc::Global;
+use std::test::Fail;
+
+/// What a run ended with, and its ends.
+#[derive(Drop)]
+struct Ran {
+    number: u8,
+    source: MemorySource,
+    sink: MemorySink,
+}
+
+/// Runs the program with these words, where these calls of the sink fail.
+fn run_words(
+    alloc: Global,
+    words: &str,
+    input: &[u8],
+    fails: List<u64>,
+) -> Result<Ran, OutOfMemory> {
+    let words = words_of(alloc, words)?;
+    let mut source = MemorySource::new(bytes_of(alloc, input)?, List::new(alloc), 65536);
+    let mut sink = MemorySink::new(alloc, 1100000, fails, 65536)?;
+    let number = run(alloc, words.as_slice(), &mut source, &mut sink).number();
+    Ok(Ran {
+        number,
+        source,
+        sink,
+    })
+}
+
+/// The status of a run, and in brackets what it wrote, where `«9»` stands for a TAB and `«A»` for a LF.
+fn outcome(alloc: Global, ran: &Ran) -> Result<String, Fail> {
+    let written = str::from_utf8(ran.sink.bytes()).ok().ok_or("no text")?;
+    let mut shown = String::new(alloc);
+    for c in written.chars() {
+        match c {
+            '\t' => shown.push_str("«9»")?,
+            '\n' => shown.push_str("«A»")?,
+            _ => shown.push(c)?,
+        }
+    }
+    Ok(format!(in alloc; "{} [{shown}]", ran.number)?)
+}
+
+/// A run with the words before the first bar on the line behind it.
+#[derive(Drop)]
+struct Line;
+
+impl Call for Line {
+    fn answer(&self, alloc: Global, asked: &str) -> Result<String, Fail> {
+        let (words, line) = asked.split_once(" | ").ok_or("no line")?;
+        let line = text_of(alloc, line)?.ok_or("no text")?;
+        outcome(
+            alloc,
+            &run_words(alloc, words, line.as_bytes(), List::new(alloc))?,
+        )
+    }
+}
+
+const LINES: &str = r#"display | C«9»«9»"\n" => 0 [ok«9»legacy«9»1«9»«A»«A»]
+display | L«9»«9»\477 => 0 [ok«9»legacy«9»4«9»\477«A»]
+display | L«9»«9»\0022 => 0 [ok«9»legacy«9»5«9»\0022«A»]
+display | L«9»«9»\cA => 0 [ok«9»legacy«9»3«9»\cA«A»]
+display | L«9»u«9»\x41\u0042\u{43}\u{1F600} => 0 [ok«9»unicode«9»25«9»\x41\u0042\u0043\u{1F600}«A»]
+display | L«9»u«9»é => 0 [ok«9»unicode«9»2«9»é«A»]
+display | L«9»u«9»(?<a>x)(?<a>y) => 1 [err«9»duplicated_capturing_group_names«9»3..4,10..11«A»]
+display | R«9»«9»a => 1 [bad«A»]
+display | L«9»u«9»a«A»L«9»gg«9»a«A»X => 1 [ok«9»unicode«9»1«9»a«A»err«9»duplicated_flags«9»1..2«A»bad«A»]
+support look_behind_assertions,sticky | L«9»y«9»(?<=a)b => 0 [ok«9»1«9»1«A»]
+support sticky,look_behind_assertions | L«9»«9»(?=a)b => 0 [ok«9»0«9»0«A»]
+support pattern_modifiers | L«9»g«9»(?i:a) => 0 [ok«9»0«9»1«A»]
+support match_indices | L«9»d«9»(?i:a) => 0 [ok«9»1«9»0«A»]
+support dot_all,unicode,unicode_sets | L«9»v«9»a«A»L«9»u«9»a«A»L«9»s«9»a«A»L«9»y«9»a => 0 [ok«9»1«9»0«A»ok«9»1«9»0«A»ok«9»1«9»0«A»ok«9»0«9»0«A»]
+support named_capture_groups | L«9»«9»(?<a>b) => 0 [ok«9»0«9»1«A»]
+support duplicate_named_capture_groups | L«9»«9»(?<a>b)|(?<a>c)«A»L«9»«9»(?<a>b) => 0 [ok«9»0«9»1«A»ok«9»0«9»0«A»]
+support unicode_property_escapes | L«9»u«9»[\p{Lu}] => 0 [ok«9»0«9»1«A»]
+support sticky | C«9»«9»"a" => 1 [bad«A»]
+support sticky | L«9»u«9»(?<a>x)(?<a>y) => 1 [err«9»duplicated_capturing_group_names«9»3..4,10..11«A»]
+support sticky | L«9»u«9»é*+ => 1 [err«9»lone_quantifier«9»3..4«A»]
+support sticky | L«9»gg«9»a => 1 [err«9»duplicated_flags«9»1..2«A»]
+support sticky | L«9»y => 1 [bad«A»]"#;
+
+#[test]
+fn lines_are_answered(rt: HostRuntime) -> Result<(), Fail> {
+    agree(rt.alloc(), &Line, LINES)
+}
+
+/// A run with these words that reads nothing.
+#[derive(Drop)]
+struct Words;
+
+impl Call for Words {
+    fn answer(&self, alloc: Global, asked: &str) -> Result<String, Fail> {
+        let mut ran = run_words(alloc, asked, b"L\t\ta\n", List::new(alloc))?;
+        if ran.source.read(&mut [0u8; 9]) != Ok(5) {
+            return Err(Fail::new("some input was read"));
+        }
+        outcome(alloc, &ran)
+    }
+}
+
+const WORDS: &str = r"support sticky,sticky => 2 []
+support sticky,dot_all,sticky => 2 []
+support => 2 []
+support  => 2 []
+support , => 2 []
+support ,sticky => 2 []
+support sticky, => 2 []
+support sticky,,dot_all => 2 []
+support Sticky => 2 []
+support sticky;dot_all => 2 []
+support sticky dot_all => 2 []
+support sticky,other => 2 []
+Support sticky => 2 []
+display x => 2 []
+Display => 2 []
+--help x => 2 []
+--Help => 2 []
+help => 2 []
+-h => 2 []
+--version => 0 [regexp 0.156.0 (a port of oxc_regular_expression 0.156.0)«A»]
+--version x => 2 []";
+
+#[test]
+fn words_are_told_apart(rt: HostRuntime) -> Result<(), Fail> {
+    agree(rt.alloc(), &Words, WORDS)
+}
+
+#[test]
+fn help_is_a_text_of_few_lines(rt: HostRuntime) -> Result<(), Fail> {
+    let mut ran = run_words(rt.alloc(), "--help", b"L\t\ta\n", List::new(rt.alloc()))?;
+    assert_eq!(rt; ran.number, 0);
+    assert_eq!(rt; ran.source.read(&mut [0u8; 9]), Ok(5));
+    let text = str::from_utf8(ran.sink.bytes()).ok().ok_or("no text")?;
+    assert!(rt; text.ends_with("\n"));
+    assert!(rt; text.lines().count() <= 40);
+    for word in [
+        "display",
+        "support",
+        "gen",
+        "--help",
+        "--version",
+        "Status:",
+        "Examples:",
+    ] {
+        assert!(rt; text.contains(word), "{word}");
+    }
+    Ok(())
+}
+
+#[test]
+fn texts_are_written_to_no_broken_sink(rt: HostRuntime) -> Result<(), Fail> {
+    for words in ["--help", "--version"] {
+        let mut fails = List::new(rt.alloc());
+        fails.push(1)?;
+        let ran = run_words(rt.alloc(), words, b"", fails)?;
+        assert_eq!(rt; ran.number, 4);
+        assert!(rt; ran.sink.bytes().is_empty());
+    }
+    Ok(())
+}
+
+#[test]
+fn deep_groups_are_answered(rt: HostRuntime) -> Result<(), Fail> {
+    let openers = "(".repeat(rt.alloc(), 500000)?;
+    let closers = ")".repeat(rt.alloc(), 500000)?;
+    let line = format!(in rt.alloc(); "L\t\t{openers}{closers}")?;
+    let shown = format!(in rt.alloc(); "ok\tlegacy\t1000000\t{openers}{closers}\n")?;
+    for (words, reply) in [
+        ("display", shown.as_str()),
+        (
+            "support duplicate_named_capture_groups,look_behind_assertions",
+            "ok\t0\t0\n",
+        ),
+    ] {
+        let ran = run_words(rt.alloc(), words, line.as_bytes(), List::new(rt.alloc()))?;
+        assert_eq!(rt; ran.number, 0);
+        assert!(rt; ran.sink.bytes() == reply.as_bytes(), "{words}");
+    }
+    Ok(())
+}

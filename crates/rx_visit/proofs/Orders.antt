@@ -1,0 +1,65 @@
+-- The nodes that are still to be listed.
+use Rattle.std.proofs.Common.{◌≡◌, refl, ap, sym, ◌∙◌, ℕ, ◌+◌, ◌*◌, ◌<◌, arith, List, [], ◌∷◌, ◌++◌, append-nil, append_assoc, length, map, reverse}
+use Rattle.std.specs.List.{flat_map}
+use Rattle.std.proofs.lemmas.List.{length-append, map-append, reverse-append}
+use Rattle.rx_ast.specs.Kinds.{Kind, children, order}
+use Rattle.rx_ast.specs.MirrorKinds.{mirror_kind}
+use Rattle.rx_ast.specs.declared.ast_kind.RegExpAstKind.{RegExpAstKind}
+use Rattle.rx_ast.proofs.Orders.{order_is}
+use Rattle.rx_visit.specs.Siblings.{in_order}
+use Rattle.rx_visit.specs.declared.siblings.Siblings.{Siblings}
+use Rattle.rx_visit.specs.declared.siblings.Siblings.TheVariants as are
+
+-- the last siblings first, each node with all that stand in it
+unfoldable pub to_come : List Siblings → List Kind
+to_come left = flat_map (λ s. flat_map order (in_order s)) (reverse left)
+
+pub none_to_come : to_come [] ≡ []
+unfolding to_come
+none_to_come = refl
+
+to_come-last : (left : List Siblings) (s : Siblings) → to_come (left ++ (s ∷ [])) ≡ flat_map order (in_order s) ++ to_come left
+unfolding to_come
+to_come-last left s = rw (reverse-append left (s ∷ [])) refl
+
+pub to_come-first : (none left : List Siblings) (node : RegExpAstKind) → none ≡ [] → left ≡ none ++ (are.Node node ∷ []) → to_come left ≡ order (mirror_kind node)
+to_come-first none left node empty pushed =
+    ap to_come pushed ∙ to_come-last none (are.Node node) ∙ ap (λ ks. (order (mirror_kind node) ++ []) ++ ks) (ap to_come empty ∙ none_to_come) ∙ append-nil _ ∙ append-nil _
+
+-- no siblings are left of the last ones
+pub to_come-past : (before left : List Siblings) (s : Siblings) → before ≡ left ++ (s ∷ []) → in_order s ≡ [] → to_come before ≡ to_come left
+to_come-past before left s popped none = ap to_come popped ∙ to_come-last left s ∙ ap (λ ks. flat_map order ks ++ to_come left) none
+
+-- the first of the last siblings is listed
+pub to_come-next : (before left one both : List Siblings) (s behind within : Siblings) (k : Kind) →
+    before ≡ left ++ (s ∷ []) → in_order s ≡ k ∷ in_order behind → one ≡ left ++ (behind ∷ []) → both ≡ one ++ (within ∷ []) → in_order within ≡ children k →
+    to_come before ≡ k ∷ to_come both
+to_come-next before left one both s behind within k popped cut pushed entered in_it =
+    let now : to_come before ≡ (order k ++ flat_map order (in_order behind)) ++ to_come left =
+    ap to_come popped ∙ to_come-last left s ∙ ap (λ ks. flat_map order ks ++ to_come left) cut in
+    let later : to_come both ≡ flat_map order (children k) ++ (flat_map order (in_order behind) ++ to_come left) =
+    ap to_come entered ∙ to_come-last one within ∙ ap (λ ks. flat_map order ks ++ to_come one) in_it ∙ ap (λ ks. flat_map order (children k) ++ ks) (ap to_come pushed ∙ to_come-last left behind) in
+    now ∙ append_assoc (order k) (flat_map order (in_order behind)) (to_come left) ∙ ap (λ ks. ks ++ (flat_map order (in_order behind) ++ to_come left)) (order_is k) ∙ ap (λ ks. k ∷ ks) (sym later)
+
+pub one_listed : {T : Type 0} (f : T → Kind) (done : List T) (node : T) (ks : List Kind) → map f done ++ (f node ∷ ks) ≡ map f (done ++ (node ∷ [])) ++ ks
+one_listed f done node ks = sym (ap (λ ns. ns ++ ks) (map-append f done (node ∷ [])) ∙ append_assoc (map f done) (f node ∷ []) ks)
+
+-- a number that falls with each turn
+abbrev pub turns : List Siblings → ℕ
+turns left = 2 * length (to_come left) + length left
+
+pub fewer-past : (before left : List Siblings) (s : Siblings) → before ≡ left ++ (s ∷ []) → in_order s ≡ [] → turns left < turns before
+fewer-past before left s popped none =
+    let same = ap length (to_come-past before left s popped none) in
+    let shorter = ap length popped ∙ length-append left (s ∷ []) in
+    omega arith
+
+pub fewer-next : (before left one both : List Siblings) (s behind within : Siblings) (k : Kind) →
+    before ≡ left ++ (s ∷ []) → in_order s ≡ k ∷ in_order behind → one ≡ left ++ (behind ∷ []) → both ≡ one ++ (within ∷ []) → in_order within ≡ children k →
+    turns both < turns before
+fewer-next before left one both s behind within k popped cut pushed entered in_it =
+    let listed = ap length (to_come-next before left one both s behind within k popped cut pushed entered in_it) in
+    let a = ap length popped ∙ length-append left (s ∷ []) in
+    let b = ap length pushed ∙ length-append left (behind ∷ []) in
+    let c = ap length entered ∙ length-append one (within ∷ []) in
+    omega arith
