@@ -10,6 +10,8 @@ mod memory;
 #[cfg(test)]
 mod quoted;
 #[cfg(test)]
+mod steps;
+#[cfg(test)]
 mod trees;
 #[cfg(test)]
 mod units;

@@ -7,6 +7,7 @@ pub mod ClassGives
 pub mod ClassItems
 pub mod ClassRanges
 pub mod ClassSteps
+pub mod EscapeSteps
 pub mod FirstPasses
 pub mod Fitting
 pub mod Gives
@@ -21,12 +22,15 @@ pub mod PropertyGives
 pub mod PropertyHalts
 pub mod PropertyRuns
 pub mod PropertySpans
+pub mod PropertySteps
 pub mod PropertyTables
+pub mod ReadingSteps
 pub mod SetCharacters
 pub mod SetClasses
 pub mod SetFronts
 pub mod SetGives
 pub mod SetOperands
+pub mod SetPaces
 pub mod SetPlaces
 pub mod SetRefusals
 pub mod SetSteps

@@ -2,6 +2,7 @@ pub mod ClassAnswers
 pub mod ClassBuilding
 pub mod ClassItems
 pub mod EscapeAnswers
+pub mod EscapeSteps
 pub mod Fitting
 pub mod Found
 pub mod FrontSeen
@@ -9,8 +10,11 @@ pub mod HeldMirror
 pub mod Keeping
 pub mod PropertyAnswers
 pub mod PropertyFound
+pub mod PropertySteps
+pub mod ReadingSteps
 pub mod SetAnswers
 pub mod SetFronts
+pub mod SetSteps
 pub mod SetStrings
 pub mod SetReading
 pub mod Turns

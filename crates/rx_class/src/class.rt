@@ -1,5 +1,6 @@
 ghost use Rattle.std.specs.Prelude.{◌≡◌, Err, MatchResult, Ok, Some, false, true};
 ghost use Rattle.rx_units.specs.Cursor.{rest};
+ghost use Rattle.rx_units.specs.Pace.{TakesSteps};
 ghost use Rattle.rx_units.specs.Units.{values};
 ghost use Rattle.rx_model.specs.FirstPass.Marks.{starts};
 ghost use Rattle.rx_model.specs.Inputs.Environment.{is_sets};
@@ -7,12 +8,13 @@ ghost use Rattle.rx_class.specs.EscapeAnswers.{environment_of};
 ghost use Rattle.rx_class.specs.ClassAnswers.{GivesClass, HoldsFirstPass};
 ghost use Rattle.rx_class.specs.ClassItems.{IsOfText};
 ghost use Rattle.rx_class.specs.Fitting.{AreFitting};
+ghost use Rattle.rx_class.specs.ReadingSteps.{IsReading};
 
 use crate::class_item::add_item;
 use crate::set_class::set_class;
 use crate::spans::span_to_here;
 use rx_ast::{CharacterClass, CharacterClassContentsKind};
-use rx_base::{Diagnostic, Fault, List, Unterminated};
+use rx_base::{Counter, Diagnostic, Fault, List, Unterminated};
 use rx_scan::{SpanFactory, State};
 use rx_units::Reader;
 use std::alloc::Global;
@@ -30,41 +32,45 @@ use std::alloc::Global;
 /// operand nor `]` stands that may follow an operator or what is behind one; by `UnterminatedPattern` where class strings or a bracket
 /// do not end; by `CharacterClassRangeOutOfOrder`; and by `InvalidCharacterClass` or, where it is nested, by
 /// `CharacterClassContentsInvalidOperands` where a negative class may contain strings.
-pub fn parse_character_class(
+pub fn parse_character_class<C: Counter>(
     alloc: Global,
     reader: &mut Reader<'_>,
     state: &State,
     spans: &SpanFactory,
+    steps: &mut C,
 ) -> Result<Option<CharacterClass>, Fault>
     requires pass { HoldsFirstPass state.now reader.old.units }
     requires fits { AreFitting spans.now reader.old }
-    ensures { GivesClass (environment_of state.now) spans.now reader.old reader.new result }
+    ensures gives { GivesClass (environment_of state.now) spans.now reader.old reader.new result }
+    ensures steps { IsReading 6 (C.count steps.old) (C.count steps.new) reader.old reader.new result }
 {
     if reader.peek() != Some('[' as u32) {
         return Ok(None);
     }
     if state.unicode_sets_mode {
-        return Ok(Some(set_class(alloc, reader, state, spans)?));
+        return Ok(Some(set_class(alloc, reader, state, spans, steps)?));
     }
-    Ok(Some(items_class(alloc, reader, state, spans)?))
+    Ok(Some(items_class(alloc, reader, state, spans, steps)?))
 }
 
 /// Reads the class without `v` (CharacterClass and NonemptyClassRanges of ECMA-262, 22.2.1) whose `[` stands next, and moves over it.
-fn items_class(
+fn items_class<C: Counter>(
     alloc: Global,
     reader: &mut Reader<'_>,
     state: &State,
     spans: &SpanFactory,
+    steps: &mut C,
 ) -> Result<CharacterClass, Fault>
     requires bracket { starts 91 (values (rest reader.old)) ≡ true }
     requires no_sets { is_sets (environment_of state.now).mode ≡ false }
     requires environment { IsOfText (environment_of state.now) reader.old }
     requires fits { AreFitting spans.now reader.old }
-    ensures { MatchResult result (λ it. GivesClass (environment_of state.now) spans.now reader.old reader.new (Ok (Some it))) (λ fault. GivesClass (environment_of state.now) spans.now reader.old reader.new (Err fault)) }
+    ensures gives { MatchResult result (λ it. GivesClass (environment_of state.now) spans.now reader.old reader.new (Ok (Some it))) (λ fault. GivesClass (environment_of state.now) spans.now reader.old reader.new (Err fault)) }
+    ensures steps { TakesSteps 6 (C.count steps.old) (C.count steps.new) reader.old reader.new result }
 {
     let start = reader.offset();
-    reader.advance();
-    let negative = reader.eat('^');
+    reader.advance_counted(steps);
+    let negative = reader.eat_counted('^', steps);
     let mut body = List::new(alloc);
     while reader.peek() != Some(']' as u32) {
         if reader.peek().is_none() {
@@ -72,9 +78,9 @@ fn items_class(
             let what = Unterminated::CharacterClass;
             return Err(Fault::Diagnostic(Diagnostic::UnterminatedPattern { span, what }));
         }
-        add_item(alloc, reader, state, spans, &mut body)?;
+        add_item(alloc, reader, state, spans, &mut body, steps)?;
     }
-    reader.advance();
+    reader.advance_counted(steps);
     Ok(CharacterClass {
         span: span_to_here(reader, spans, start),
         negative,

@@ -1,6 +1,7 @@
 ghost use Rattle.std.specs.Prelude.{◌≡◌, IfOk, Ok, Some, false};
 ghost use Rattle.rx_ast.specs.ClassTree.{mirror_contents};
 ghost use Rattle.rx_units.specs.Cursor.{front, moved, rest};
+ghost use Rattle.rx_units.specs.Pace.{IsMove, TakesSteps};
 ghost use Rattle.rx_units.specs.Units.{values};
 ghost use Rattle.rx_model.specs.Characters.UnitKinds.{unit_kind};
 ghost use Rattle.rx_model.specs.FirstPass.Marks.{starts};
@@ -15,7 +16,7 @@ use crate::spans::span_to_here;
 use rx_ast::{
     Character, CharacterClassContents, CharacterClassEscape, CharacterKind, UnicodePropertyEscape,
 };
-use rx_base::{Diagnostic, Fault, OutOfMemory, Span};
+use rx_base::{Counter, Diagnostic, Fault, OutOfMemory, Span};
 use rx_scan::{SpanFactory, State};
 use rx_units::{CodePoint, EscapeKind, Reader};
 use std::alloc::Global;
@@ -56,40 +57,47 @@ impl ClassAtom {
 }
 
 /// Reads the atom that stands next in a class without `v`, and moves over it.
-pub fn class_atom(
+pub fn class_atom<C: Counter>(
     alloc: Global,
     reader: &mut Reader<'_>,
     state: &State,
     spans: &SpanFactory,
+    steps: &mut C,
 ) -> Result<ClassAtom, Fault>
     requires stands { StandsItem (rest reader.old) }
     requires no_sets { is_sets (environment_of state.now).mode ≡ false }
     requires environment { IsOfText (environment_of state.now) reader.old }
     requires fits { AreFitting spans.now reader.old }
-    ensures { GivesAtom (environment_of state.now) spans.now reader.old reader.new result }
+    ensures gives { GivesAtom (environment_of state.now) spans.now reader.old reader.new result }
+    ensures steps { TakesSteps 6 (C.count steps.old) (C.count steps.new) reader.old reader.new result }
 {
     let unit = reader.remaining_code_points()[0];
     if unit.value == '\\' as u32 {
         let start = reader.offset();
-        reader.advance();
-        return escaped_atom(alloc, reader, state, spans, start);
+        reader.advance_counted(steps);
+        return escaped_atom(alloc, reader, state, spans, start, steps);
     }
-    Ok(ClassAtom::Character(unit_character(reader, spans)))
+    Ok(ClassAtom::Character(unit_character(reader, spans, steps)))
 }
 
 /// Reads the character that is one unit of a class, no backslash, and moves over it.
 #[inline]
-pub fn unit_character(reader: &mut Reader<'_>, spans: &SpanFactory) -> Character
+pub fn unit_character<C: Counter>(
+    reader: &mut Reader<'_>,
+    spans: &SpanFactory,
+    steps: &mut C,
+) -> Character
     requires stands { StandsItem (rest reader.old) }
     requires no_backslash { starts 92 (values (rest reader.old)) ≡ false }
     requires fits { AreFitting spans.now reader.old }
     ensures atom { (e : Environment) → is_sets e.mode ≡ false → GivesAtom e spans.now reader.old reader.new (Ok (ClassAtom.Character result)) }
     ensures value { front (rest reader.old) ≡ Some result.value }
     ensures reader { reader.new ≡ moved 1 reader.old }
+    ensures steps { IsMove (C.count steps.old) (C.count steps.new) reader.old reader.new }
 {
     let start = reader.offset();
     let unit = reader.remaining_code_points()[0];
-    reader.advance();
+    reader.advance_counted(steps);
     Character {
         span: span_to_here(reader, spans, start),
         kind: kind_in_class(unit),
@@ -123,34 +131,36 @@ pub fn unit_kind(escape_kind: EscapeKind) -> CharacterKind
 
 /// Reads the atom that a backslash begins (ClassEscape of ECMA-262, 22.2.1). The backslash was read, and the atom begins at `start`,
 /// in bytes.
-fn escaped_atom(
+fn escaped_atom<C: Counter>(
     alloc: Global,
     reader: &mut Reader<'_>,
     state: &State,
     spans: &SpanFactory,
     start: u32,
+    steps: &mut C,
 ) -> Result<ClassAtom, Fault>
     requires backslash { IsBehindBackslash reader.old start }
     requires no_sets { is_sets (environment_of state.now).mode ≡ false }
     requires environment { IsOfText (environment_of state.now) reader.old }
     requires fits { AreFitting spans.now reader.old }
-    ensures { GivesAtom (environment_of state.now) spans.now (back reader.old) reader.new result }
+    ensures gives { GivesAtom (environment_of state.now) spans.now (back reader.old) reader.new result }
+    ensures steps { TakesSteps 6 (C.count steps.old) (C.count steps.new) reader.old reader.new result }
 {
     if let Some(value) = alone_in_class(reader.remaining_code_points(), is_unicode(state)) {
-        reader.advance();
+        reader.advance_counted(steps);
         let span = span_to_here(reader, spans, start);
         let kind = CharacterKind::SingleEscape;
         return Ok(ClassAtom::Character(Character { span, kind, value }));
     }
-    if let Some(escape) = parse_character_class_escape(reader, spans, start) {
+    if let Some(escape) = parse_character_class_escape(reader, spans, start, steps) {
         return Ok(ClassAtom::Escape(escape));
     }
     if let Some(escape) = parse_character_class_escape_unicode(
-        alloc, reader, state, spans, start,
+        alloc, reader, state, spans, start, steps,
     )? {
         return Ok(ClassAtom::Property(escape));
     }
-    if let Some(character) = character_in_class(reader, state, spans, start)? {
+    if let Some(character) = character_in_class(reader, state, spans, start, steps)? {
         return Ok(ClassAtom::Character(character));
     }
     let span = span_to_here(reader, spans, start);

@@ -2,6 +2,7 @@ ghost use Rattle.std.specs.Prelude.{◌≡◌, ◌&&◌, ◌++◌, ◌∷◌, []
 ghost use Rattle.rx_ast.specs.ClassTree as ClassTree;
 ghost use Rattle.rx_ast.specs.ClassTree.{mirror_contents};
 ghost use Rattle.rx_units.specs.Cursor.{rest};
+ghost use Rattle.rx_units.specs.Pace.{IsMove, TakesSteps};
 ghost use Rattle.rx_units.specs.Units.{values};
 ghost use Rattle.rx_model.specs.Classes.ClassRows.{is_dashed};
 ghost use Rattle.rx_model.specs.Classes.ClassTokens.{is_character};
@@ -15,7 +16,7 @@ use crate::class_atom::{ClassAtom, class_atom, unit_character};
 use crate::escape::is_unicode;
 use crate::spans::span_to_here;
 use rx_ast::{Character, CharacterClassContents, CharacterClassRange, CharacterKind};
-use rx_base::{Diagnostic, Fault, List, OutOfMemory, RangeKind, Span};
+use rx_base::{Counter, Diagnostic, Fault, List, OutOfMemory, RangeKind, Span};
 use rx_scan::{SpanFactory, State};
 use rx_units::{CodePoint, Reader};
 use std::alloc::Global;
@@ -33,12 +34,13 @@ pub enum ClassItem {
 }
 
 /// Reads the item that stands next in a class without `v`, moves over it, and adds what it is to the contents.
-pub fn add_item(
+pub fn add_item<C: Counter>(
     alloc: Global,
     reader: &mut Reader<'_>,
     state: &State,
     spans: &SpanFactory,
     body: &mut List<CharacterClassContents>,
+    steps: &mut C,
 ) -> Result<(), Fault>
     requires stands { StandsItem (rest reader.old) }
     requires no_sets { is_sets (environment_of state.now).mode ≡ false }
@@ -46,17 +48,18 @@ pub fn add_item(
     requires fits { AreFitting spans.now reader.old }
     ensures added { OnOk result (AddsItem (environment_of state.now) spans.now reader.old reader.new body.old body.new) }
     ensures refused { IfErr result (λ fault. GivesItem (environment_of state.now) spans.now reader.old reader.new (Err fault)) }
+    ensures steps { TakesSteps 6 (C.count steps.old) (C.count steps.new) reader.old reader.new result }
 {
     let units = reader.remaining_code_points();
     if stands_alone(units) {
-        let character = unit_character(reader, spans);
+        let character = unit_character(reader, spans, steps);
         return Ok(push_one(body, reader, CharacterClassContents::Character(character))?);
     }
     if stands_range(units) {
-        let range = unit_range(reader, spans);
+        let range = unit_range(reader, spans, steps);
         return Ok(push_one(body, reader, range_contents(alloc, range)?)?);
     }
-    let item = class_item(alloc, reader, state, spans)?;
+    let item = class_item(alloc, reader, state, spans, steps)?;
     Ok(push_item(body, reader, item)?)
 }
 
@@ -87,16 +90,21 @@ fn stands_range(units: &[CodePoint]) -> bool
 
 /// Reads the range of two units that stands next, and moves over it.
 #[tactic(auto, using(crate::proofs::Fitting::moved_are_fitting))]
-fn unit_range(reader: &mut Reader<'_>, spans: &SpanFactory) -> CharacterClassRange
+fn unit_range<C: Counter>(
+    reader: &mut Reader<'_>,
+    spans: &SpanFactory,
+    steps: &mut C,
+) -> CharacterClassRange
     requires stands { StandsItem (rest reader.old) }
     requires range { stands_range (values (rest reader.old)) ≡ true }
     requires fits { AreFitting spans.now reader.old }
     ensures item { (e : Environment) (item : CharacterClassContents) → is_sets e.mode ≡ false → mirror_contents item ≡ ClassTree.range result → GivesItem e spans.now reader.old reader.new (Ok (ClassItem.One item)) }
     ensures reader { KeepsUnits reader.old reader.new }
+    ensures steps { IsMove (C.count steps.old) (C.count steps.new) reader.old reader.new }
 {
-    let min = unit_character(reader, spans);
-    reader.advance();
-    let max = unit_character(reader, spans);
+    let min = unit_character(reader, spans, steps);
+    reader.advance_counted(steps);
+    let max = unit_character(reader, spans, steps);
     let span = Span::new(min.span.start, max.span.end);
     CharacterClassRange { span, min, max }
 }
@@ -140,26 +148,28 @@ fn push_item(
 
 /// Reads the item that stands next in a class, an atom or a range (NonemptyClassRanges of ECMA-262, 22.2.1), and moves over it. With
 /// neither `u` nor `v` two atoms with a `-` between, of which one is no character, are three items (CharacterRangeOrUnion, B.1.2).
-fn class_item(
+fn class_item<C: Counter>(
     alloc: Global,
     reader: &mut Reader<'_>,
     state: &State,
     spans: &SpanFactory,
+    steps: &mut C,
 ) -> Result<ClassItem, Fault>
     requires stands { StandsItem (rest reader.old) }
     requires no_sets { is_sets (environment_of state.now).mode ≡ false }
     requires environment { IsOfText (environment_of state.now) reader.old }
     requires fits { AreFitting spans.now reader.old }
-    ensures { GivesItem (environment_of state.now) spans.now reader.old reader.new result }
+    ensures gives { GivesItem (environment_of state.now) spans.now reader.old reader.new result }
+    ensures steps { TakesSteps 6 (C.count steps.old) (C.count steps.new) reader.old reader.new result }
 {
-    let low = class_atom(alloc, reader, state, spans)?;
+    let low = class_atom(alloc, reader, state, spans, steps)?;
     if !is_dashed(reader.remaining_code_points()) {
         return Ok(ClassItem::One(low.into_contents(alloc)?));
     }
     let start = reader.offset();
-    reader.advance();
+    reader.advance_counted(steps);
     let hyphen = span_to_here(reader, spans, start);
-    let high = class_atom(alloc, reader, state, spans)?;
+    let high = class_atom(alloc, reader, state, spans, steps)?;
     if are_three(&low, &high, is_unicode(state)) {
         return Ok(three_items(alloc, low, hyphen, high)?);
     }

@@ -1,5 +1,6 @@
 ghost use Rattle.std.specs.Prelude.{◌≡◌, ◌++◌, ◌∷◌, [], All, IfErr, OnOk, false, true, ◌+◌, ◌<◌, ◌≤◌, ◌^◌, length};
 ghost use Rattle.rx_units.specs.Cursor.{offset_of, rest};
+ghost use Rattle.rx_units.specs.Pace.{TakesSteps};
 ghost use Rattle.rx_units.specs.Units.{values};
 ghost use Rattle.rx_model.specs.FirstPass.Marks.{starts};
 ghost use Rattle.rx_model.specs.Inputs.Environment.{Environment, is_sets};
@@ -13,7 +14,7 @@ use crate::escape::answer_ahead;
 use crate::set_front::{begins_with, set_character_at};
 use crate::spans::{here, span_to_here};
 use rx_ast::{Character, ClassString, ClassStringDisjunction};
-use rx_base::{Diagnostic, Fault, List, OutOfMemory, Span, Unterminated};
+use rx_base::{Counter, Diagnostic, Fault, List, OutOfMemory, Span, Unterminated};
 use rx_scan::SpanFactory;
 use rx_units::Reader;
 use std::alloc::Global;
@@ -61,23 +62,25 @@ impl StringsBuilder {
 /// Reads the class strings (ClassStringDisjunction of ECMA-262, 22.2.1) that stand next, from their `\q{` on, and moves over them.
 ///
 /// They are refused by `UnterminatedPattern` where neither a character nor a `|` nor a `}` stands, and as character escapes are.
-pub fn class_strings(
+pub fn class_strings<C: Counter>(
     alloc: Global,
     reader: &mut Reader<'_>,
     spans: &SpanFactory,
+    steps: &mut C,
 ) -> Result<ClassStringDisjunction, Fault>
     requires opener { Begins (rest reader.old) (92 ∷ 113 ∷ 123 ∷ []) }
     requires fits { AreFitting spans.now reader.old }
-    ensures { (e : Environment) → is_sets e.mode ≡ true → GivesStrings e spans.now reader.old reader.new result }
+    ensures gives { (e : Environment) → is_sets e.mode ≡ true → GivesStrings e spans.now reader.old reader.new result }
+    ensures steps { TakesSteps 6 (C.count steps.old) (C.count steps.new) reader.old reader.new result }
 {
     let start = reader.offset();
-    reader.skip(3);
+    reader.skip_counted(3, steps);
     let mut builder = StringsBuilder::new(alloc, here(reader, spans).start);
     while !begins_with(reader.remaining_code_points(), '}') {
-        string_part(alloc, reader, spans, start, &mut builder)?;
+        string_part(alloc, reader, spans, start, &mut builder, steps)?;
     }
     builder.end_string(alloc, here(reader, spans).start)?;
-    reader.advance();
+    reader.advance_counted(steps);
     Ok(ClassStringDisjunction {
         span: span_to_here(reader, spans, start),
         strings: builder.may,
@@ -86,12 +89,13 @@ pub fn class_strings(
 }
 
 /// Reads a character of a class string, or the `|` behind one. The class strings begin at `start`, in bytes.
-fn string_part(
+fn string_part<C: Counter>(
     alloc: Global,
     reader: &mut Reader<'_>,
     spans: &SpanFactory,
     start: u32,
     builder: &mut StringsBuilder,
+    steps: &mut C,
 ) -> Result<(), Fault>
     requires goes_on { starts 125 (values (rest reader.old)) ≡ false }
     requires within { reader.old.place ≤ length reader.old.units }
@@ -99,12 +103,13 @@ fn string_part(
     requires fits { AreFitting spans.now reader.old }
     ensures added { OnOk result ((e : Environment) → is_sets e.mode ≡ true → AddsPart e spans.now reader.old reader.new builder.old builder.new) }
     ensures refused { IfErr result (λ fault. (e : Environment) → is_sets e.mode ≡ true → RefusesPart e spans.now start reader.old reader.new fault) }
+    ensures steps { TakesSteps 6 (C.count steps.old) (C.count steps.new) reader.old reader.new result }
 {
     if begins_with(reader.remaining_code_points(), '|') {
-        return Ok(next_string(alloc, reader, spans, builder)?);
+        return Ok(next_string(alloc, reader, spans, builder, steps)?);
     }
-    let found = set_character_at(reader.remaining_code_points());
-    match answer_ahead(reader, spans, found)? {
+    let found = set_character_at(reader.remaining_code_points(), steps);
+    match answer_ahead(reader, spans, found, steps)? {
         Some(character) => Ok(builder.letters.push(character)?),
         None => {
             let span = span_to_here(reader, spans, start);
@@ -115,19 +120,21 @@ fn string_part(
 }
 
 /// Ends a string before the `|` that stands next, and moves over it.
-fn next_string(
+fn next_string<C: Counter>(
     alloc: Global,
     reader: &mut Reader<'_>,
     spans: &SpanFactory,
     builder: &mut StringsBuilder,
+    steps: &mut C,
 ) -> Result<(), OutOfMemory>
     requires bar { starts 124 (values (rest reader.old)) ≡ true }
     requires fits { AreFitting spans.now reader.old }
     ensures added { OnOk result ((e : Environment) → is_sets e.mode ≡ true → AddsPart e spans.now reader.old reader.new builder.old builder.new) }
     ensures keeps { KeepsUnits reader.old reader.new }
+    ensures steps { TakesSteps 6 (C.count steps.old) (C.count steps.new) reader.old reader.new result }
 {
     builder.end_string(alloc, here(reader, spans).start)?;
-    reader.advance();
+    reader.advance_counted(steps);
     builder.start = here(reader, spans).start;
     Ok(())
 }

@@ -1,21 +1,25 @@
 ghost use Rattle.std.specs.Prelude.{◌≡◌, ◌+◌, ◌<◌, ◌≤◌, ◌==◌, ◌^◌, All, true, length};
+ghost use Rattle.rx_base.specs.Rising.{Rises};
 ghost use Rattle.rx_units.specs.Cursor.{moved, offset_of, rest};
+ghost use Rattle.rx_units.specs.Pace.{IsMove};
 ghost use Rattle.rx_units.specs.Units.{values};
 ghost use Rattle.rx_units.specs.Digits.{front_is};
 ghost use Rattle.rx_model.specs.Characters.EscapeFronts.{any_escape_at};
 ghost use Rattle.rx_model.specs.Inputs.Environment.{Environment, is_sets, is_unicode};
 ghost use Rattle.rx_model.specs.Refusals.Reached.{span_between};
 ghost use Rattle.rx_class.specs.EscapeAnswers.{GivesCharacter, GivesClassEscape, IsBehindBackslash, environment_of};
+ghost use Rattle.rx_class.specs.EscapeSteps.{few_looks};
 ghost use Rattle.rx_class.specs.Fitting.{AreFitting};
 ghost use Rattle.rx_class.specs.Found.{AnswersFound, IsWithin, seen_escape, shared_escape_at};
 ghost use Rattle.rx_class.specs.Keeping.{KeepsUnits};
+ghost use Rattle.rx_class.specs.ReadingSteps.{IsReading};
 ghost use Rattle.rx_class.specs.SetAnswers.{GivesSetCharacter};
 ghost use Rattle.rx_class.specs.SetFronts.{set_character_at};
 
 use crate::spans::span_to_here;
 use crate::{EscapeFound, LegacyContext, any_escape_at, character_escape_at, class_escape_at};
 use rx_ast::{Character, CharacterClassEscape};
-use rx_base::{Diagnostic, DigitsKind, Span};
+use rx_base::{Counter, Diagnostic, DigitsKind, Span};
 use rx_scan::{SpanFactory, State};
 use rx_units::{CodePoint, Reader};
 
@@ -29,46 +33,51 @@ use rx_units::{CodePoint, Reader};
 /// With `u` or `v` it is refused by `TooLargeNumberDigits` where the digits in braces pass 32 bits: the span is that of the digits
 /// before the one that does. It is refused by `InvalidUnicodeEscapeSequence` where `u` begins no unicode escape: the span is that
 /// of the `u`.
-pub fn parse_character_escape(
+pub fn parse_character_escape<C: Counter>(
     reader: &mut Reader<'_>,
     state: &State,
     spans: &SpanFactory,
     span_start: u32,
+    steps: &mut C,
 ) -> Result<Option<Character>, Diagnostic>
     requires backslash { IsBehindBackslash reader.old span_start }
     requires fits { AreFitting spans.now reader.old }
-    ensures { GivesCharacter (environment_of state.now) spans.now span_start reader.old reader.new result }
+    ensures gives { GivesCharacter (environment_of state.now) spans.now span_start reader.old reader.new result }
+    ensures steps { IsReading 6 (C.count steps.old) (C.count steps.new) reader.old reader.new result }
 {
-    let found = shared_escape(reader.remaining_code_points(), state);
-    answer(reader, spans, span_start, found)
+    let found = shared_escape(reader.remaining_code_points(), state, steps);
+    answer(reader, spans, span_start, found, steps)
 }
 
 /// Reads the escape of a character (ClassEscape of ECMA-262, 22.2.1) behind a backslash in a class, but for `\b` and `\-`, and moves over it.
-pub fn character_in_class(
+pub fn character_in_class<C: Counter>(
     reader: &mut Reader<'_>,
     state: &State,
     spans: &SpanFactory,
     span_start: u32,
+    steps: &mut C,
 ) -> Result<Option<Character>, Diagnostic>
     requires backslash { IsBehindBackslash reader.old span_start }
     requires fits { AreFitting spans.now reader.old }
-    ensures { AnswersFound spans.now span_start reader.old reader.new (any_escape_at true (environment_of state.now) (values (rest reader.old))) result }
+    ensures found { AnswersFound spans.now span_start reader.old reader.new (any_escape_at true (environment_of state.now) (values (rest reader.old))) result }
+    ensures steps { IsReading 6 (C.count steps.old) (C.count steps.new) reader.old reader.new result }
 {
     let units = reader.remaining_code_points();
-    let found = any_escape_at(units, is_unicode(state), context_in_class(state));
-    answer(reader, spans, span_start, found)
+    let found = any_escape_at(units, is_unicode(state), context_in_class(state), steps);
+    answer(reader, spans, span_start, found, steps)
 }
 
 /// The escape that units begin with behind a backslash, in and out of classes.
-fn shared_escape(units: &[CodePoint], state: &State) -> EscapeFound
+fn shared_escape<C: Counter>(units: &[CodePoint], state: &State, steps: &mut C) -> EscapeFound
     requires code_points { All (λ unit. unit.value ≤ 0x10FFFF) units.now }
     ensures read { seen_escape result ≡ shared_escape_at (environment_of state.now) (values units.now) }
     ensures within { IsWithin (length units.now) result }
+    ensures steps { Rises (C.count steps.old) (C.count steps.new) 0 (few_looks (length units.now) result) }
 {
     if begins_with_c(units) {
-        character_escape_at(units, is_unicode(state))
+        character_escape_at(units, is_unicode(state), steps)
     } else {
-        any_escape_at(units, is_unicode(state), context_in_class(state))
+        any_escape_at(units, is_unicode(state), context_in_class(state), steps)
     }
 }
 
@@ -100,16 +109,18 @@ fn context_in_class(state: &State) -> LegacyContext
 }
 
 /// The answer to what was found where the reader stands. The reader moves over a character.
-fn answer(
+fn answer<C: Counter>(
     reader: &mut Reader<'_>,
     spans: &SpanFactory,
     span_start: u32,
     found: EscapeFound,
+    steps: &mut C,
 ) -> Result<Option<Character>, Diagnostic>
     requires backslash { IsBehindBackslash reader.old span_start }
     requires fits { AreFitting spans.now reader.old }
     requires within { IsWithin (length (rest reader.old)) found }
-    ensures { AnswersFound spans.now span_start reader.old reader.new (seen_escape found) result }
+    ensures found { AnswersFound spans.now span_start reader.old reader.new (seen_escape found) result }
+    ensures steps { IsMove (C.count steps.old) (C.count steps.new) reader.old reader.new }
 {
     match found {
         EscapeFound::Character {
@@ -117,34 +128,36 @@ fn answer(
             value,
             length,
         } => {
-            reader.skip(length);
+            reader.skip_counted(length, steps);
             let span = span_to_here(reader, spans, span_start);
             Ok(Some(Character { span, kind, value }))
         }
         EscapeFound::Nothing => Ok(None),
         EscapeFound::TooMany { digits } => {
-            reader.skip(2);
-            let span = next_span(reader, spans, digits);
+            reader.skip_counted(2, steps);
+            let span = next_span(reader, spans, digits, steps);
             let what = DigitsKind::Hex;
             Err(Diagnostic::TooLargeNumberDigits { span, what })
         }
         EscapeFound::Invalid => {
-            let span = next_span(reader, spans, 1);
+            let span = next_span(reader, spans, 1, steps);
             Err(Diagnostic::InvalidUnicodeEscapeSequence { span })
         }
     }
 }
 
 /// The answer to what was found from where the reader stands on, with its backslash. The reader moves over a character.
-pub fn answer_ahead(
+pub fn answer_ahead<C: Counter>(
     reader: &mut Reader<'_>,
     spans: &SpanFactory,
     found: EscapeFound,
+    steps: &mut C,
 ) -> Result<Option<Character>, Diagnostic>
     requires found { seen_escape found ≡ set_character_at (rest reader.old) }
     requires code_points { All (λ unit. unit.value ≤ 0x10FFFF) (rest reader.old) }
     requires fits { AreFitting spans.now reader.old }
-    ensures { (e : Environment) → is_sets e.mode ≡ true → GivesSetCharacter e spans.now reader.old reader.new result }
+    ensures gives { (e : Environment) → is_sets e.mode ≡ true → GivesSetCharacter e spans.now reader.old reader.new result }
+    ensures steps { IsMove (C.count steps.old) (C.count steps.new) reader.old reader.new }
 {
     match found {
         EscapeFound::Character {
@@ -153,51 +166,59 @@ pub fn answer_ahead(
             length,
         } => {
             let start = reader.offset();
-            reader.skip(length);
+            reader.skip_counted(length, steps);
             let span = span_to_here(reader, spans, start);
             Ok(Some(Character { span, kind, value }))
         }
         EscapeFound::Nothing => Ok(None),
         EscapeFound::TooMany { digits } => {
-            reader.skip(3);
-            let span = next_span(reader, spans, digits);
+            reader.skip_counted(3, steps);
+            let span = next_span(reader, spans, digits, steps);
             let what = DigitsKind::Hex;
             Err(Diagnostic::TooLargeNumberDigits { span, what })
         }
         EscapeFound::Invalid => {
-            reader.advance();
-            let span = next_span(reader, spans, 1);
+            reader.advance_counted(steps);
+            let span = next_span(reader, spans, 1, steps);
             Err(Diagnostic::InvalidUnicodeEscapeSequence { span })
         }
     }
 }
 
 /// The span of n units from the reader's place on. The reader moves over them.
-pub fn next_span(reader: &mut Reader<'_>, spans: &SpanFactory, count: usize) -> Span
+pub fn next_span<C: Counter>(
+    reader: &mut Reader<'_>,
+    spans: &SpanFactory,
+    count: usize,
+    steps: &mut C,
+) -> Span
     requires fits { AreFitting spans.now reader.old }
     requires within { reader.old.place + count ≤ length reader.old.units }
     ensures span { result ≡ span_between reader.old.units reader.old.first spans.now reader.old.place (reader.old.place + count) }
     ensures reader { KeepsUnits reader.old reader.new }
+    ensures steps { IsMove (C.count steps.old) (C.count steps.new) reader.old reader.new }
 {
     let start = reader.offset();
-    reader.skip(count);
+    reader.skip_counted(count, steps);
     span_to_here(reader, spans, start)
 }
 
 /// Reads the class escape (CharacterClassEscape of ECMA-262, 22.2.1) behind a backslash that was read, if it names no property, and
 /// moves over its unit. Its span, in bytes, begins at `span_start`, before the backslash. Where none stands the answer is
 /// `None`, and the reader stays.
-pub fn parse_character_class_escape(
+pub fn parse_character_class_escape<C: Counter>(
     reader: &mut Reader<'_>,
     spans: &SpanFactory,
     span_start: u32,
+    steps: &mut C,
 ) -> Option<CharacterClassEscape>
     requires backslash { IsBehindBackslash reader.old span_start }
     requires fits { AreFitting spans.now reader.old }
-    ensures { GivesClassEscape spans.now span_start reader.old reader.new result }
+    ensures gives { GivesClassEscape spans.now span_start reader.old reader.new result }
+    ensures steps { IsMove (C.count steps.old) (C.count steps.new) reader.old reader.new }
 {
     let kind = class_escape_at(reader.remaining_code_points())?;
-    reader.advance();
+    reader.advance_counted(steps);
     let span = span_to_here(reader, spans, span_start);
     Some(CharacterClassEscape { span, kind })
 }

@@ -1,4 +1,6 @@
-ghost use Rattle.std.specs.Prelude.{◌≡◌, ◌≤◌, All, length, if◌then◌else◌};
+ghost use Rattle.std.specs.Prelude.{◌≡◌, ◌+◌, ◌≤◌, All, IsTrue, length, if◌then◌else◌};
+ghost use Rattle.std.specs.List.{prefix_len};
+ghost use Rattle.rx_base.specs.Rising.{Rises};
 ghost use Rattle.rx_units.specs.Units.{values};
 ghost use Rattle.rx_units.specs.Digits.{front_is};
 ghost use Rattle.rx_tables.specs.Characters.{is_decimal_digit};
@@ -7,11 +9,13 @@ ghost use Rattle.rx_model.specs.Characters.EscapeFronts.{any_escape_at};
 ghost use Rattle.rx_model.specs.Characters.Escapes.{is_identity_escape};
 ghost use Rattle.rx_model.specs.Inputs.Environment.{Environment, is_unicode};
 ghost use Rattle.rx_model.specs.Reading.Fronts.{escape_at, escaped, escaped_if, letter_at, nothing, two_at, unicode_read};
+ghost use Rattle.rx_class.specs.EscapeSteps.{few_looks, most_looks};
 ghost use Rattle.rx_class.specs.Found.{IsWithin, class_escape_front, seen_escape};
 
 use crate::{LegacyContext, legacy_escape_at};
 use rx_ast::{CharacterClassEscapeKind, CharacterKind};
-use rx_scan::{UnicodeEscape, decode};
+use rx_base::Counter;
+use rx_scan::{UnicodeEscape, decode_counted};
 use rx_tables::{
     is_decimal_digit, is_syntax_character, map_c_ascii_letter, map_control_escape, map_hex_digit,
 };
@@ -39,41 +43,65 @@ pub enum EscapeFound {
 /// The character escape (CharacterEscape of ECMA-262, 22.2.1) that the units behind a backslash begin with in a mode: with neither
 /// `u` nor `v` those of B.1.2 are read too.
 #[tactic(auto, using(crate::proofs::Bounds::any_within))]
-pub fn any_escape_at(units: &[CodePoint], unicode_mode: bool, context: LegacyContext) -> EscapeFound
+pub fn any_escape_at<C: Counter>(
+    units: &[CodePoint],
+    unicode_mode: bool,
+    context: LegacyContext,
+    steps: &mut C,
+) -> EscapeFound
     ensures read { (e : Environment) → is_unicode e.mode ≡ unicode_mode → e.groups ≡ context.groups → e.named ≡ context.named
         → seen_escape result ≡ any_escape_at context.inside e (values units.now) }
     ensures within { All (λ unit. unit.value ≤ 0x10FFFF) units.now → IsWithin (length units.now) result }
+    ensures steps { Rises (C.count steps.old) (C.count steps.new) 0 (most_looks unicode_mode (length units.now) result
+        + (if context.inside then 0 else prefix_len (λ u. is_decimal_digit u.value) units.now + 1)) }
+    ensures few { IsTrue context.inside → Rises (C.count steps.old) (C.count steps.new) 0 (few_looks (length units.now) result) }
 {
-    escape_of_mode(units, unicode_mode, context)
+    escape_of_mode(units, unicode_mode, context, steps)
 }
 
-fn escape_of_mode(units: &[CodePoint], unicode_mode: bool, context: LegacyContext) -> EscapeFound
-    ensures { (e : Environment) → is_unicode e.mode ≡ unicode_mode → e.groups ≡ context.groups → e.named ≡ context.named
+fn escape_of_mode<C: Counter>(
+    units: &[CodePoint],
+    unicode_mode: bool,
+    context: LegacyContext,
+    steps: &mut C,
+) -> EscapeFound
+    ensures read { (e : Environment) → is_unicode e.mode ≡ unicode_mode → e.groups ≡ context.groups → e.named ≡ context.named
         → seen_escape result ≡ any_escape_at context.inside e (values units.now) }
+    ensures steps { Rises (C.count steps.old) (C.count steps.new) 0 (most_looks unicode_mode (length units.now) result
+        + (if context.inside then 0 else prefix_len (λ u. is_decimal_digit u.value) units.now + 1)) }
+    ensures few { IsTrue context.inside → Rises (C.count steps.old) (C.count steps.new) 0 (few_looks (length units.now) result) }
 {
-    let found = character_escape_at(units, unicode_mode);
+    let found = character_escape_at(units, unicode_mode, steps);
     if unicode_mode {
         return found;
     }
     match found {
         EscapeFound::Character { .. } | EscapeFound::TooMany { .. } => found,
-        EscapeFound::Nothing | EscapeFound::Invalid => legacy_escape_at(units, context),
+        EscapeFound::Nothing | EscapeFound::Invalid => legacy_escape_at(units, context, steps),
     }
 }
 
 /// The character escape (CharacterEscape of ECMA-262, 22.2.1) that the units behind a backslash begin with. It never fails: what is
 /// no escape is an answer too.
 #[tactic(auto, using(crate::proofs::Bounds::read_within))]
-pub fn character_escape_at(units: &[CodePoint], unicode_mode: bool) -> EscapeFound
+pub fn character_escape_at<C: Counter>(
+    units: &[CodePoint],
+    unicode_mode: bool,
+    steps: &mut C,
+) -> EscapeFound
     ensures read { seen_escape result ≡ escape_at unicode_mode (values units.now) }
     ensures within { IsWithin (length units.now) result }
+    ensures steps { Rises (C.count steps.old) (C.count steps.new) 0 (most_looks unicode_mode (length units.now) result) }
+    ensures few { Rises (C.count steps.old) (C.count steps.new) 0 (few_looks (length units.now) result) }
 {
-    first_escape(units, unicode_mode)
+    first_escape(units, unicode_mode, steps)
 }
 
 #[tactic(auto, unfolding(rx_model::specs::Reading::Fronts::escape_at))]
-fn first_escape(units: &[CodePoint], unicode_mode: bool) -> EscapeFound
-    ensures { seen_escape result ≡ escape_at unicode_mode (values units.now) }
+fn first_escape<C: Counter>(units: &[CodePoint], unicode_mode: bool, steps: &mut C) -> EscapeFound
+    ensures read { seen_escape result ≡ escape_at unicode_mode (values units.now) }
+    ensures steps { Rises (C.count steps.old) (C.count steps.new) 0 (most_looks unicode_mode (length units.now) result) }
+    ensures few { Rises (C.count steps.old) (C.count steps.new) 0 (few_looks (length units.now) result) }
 {
     let [first, rest @ ..] = units else {
         return EscapeFound::Nothing;
@@ -86,7 +114,7 @@ fn first_escape(units: &[CodePoint], unicode_mode: bool) -> EscapeFound
         Some('c') => control_letter(rest),
         Some('0') => null(rest),
         Some('x') => hexadecimal(rest),
-        Some('u') => unicode(units, unicode_mode),
+        Some('u') => unicode(units, unicode_mode, steps),
         _ if unicode_mode && is_identity_escape(cp) => character(CharacterKind::Identifier, cp, 1),
         _ => EscapeFound::Nothing,
     }
@@ -150,10 +178,12 @@ fn two_hex_digits(units: &[CodePoint]) -> Option<u32>
 }
 
 /// `u`, which the units begin with.
-fn unicode(units: &[CodePoint], unicode_mode: bool) -> EscapeFound
-    ensures { seen_escape result ≡ unicode_read (decoded unicode_mode (values units.now)) }
+fn unicode<C: Counter>(units: &[CodePoint], unicode_mode: bool, steps: &mut C) -> EscapeFound
+    ensures read { seen_escape result ≡ unicode_read (decoded unicode_mode (values units.now)) }
+    ensures steps { Rises (C.count steps.old) (C.count steps.new) 0 (most_looks unicode_mode (length units.now) result) }
+    ensures few { Rises (C.count steps.old) (C.count steps.new) 0 (few_looks (length units.now) result) }
 {
-    match decode(units, unicode_mode) {
+    match decode_counted(units, unicode_mode, steps) {
         UnicodeEscape::Value { code_point, length } => {
             character(CharacterKind::UnicodeEscape, code_point, length)
         }

@@ -1,4 +1,6 @@
-ghost use Rattle.std.specs.Prelude.{◌≡◌, ◌==◌, ◌∷◌, ◌&&◌, ◌||◌, true, not, ℕ, List, is_some, nat_le, codes};
+ghost use Rattle.std.specs.Prelude.{◌≡◌, ◌+◌, ◌≤◌, ◌==◌, ◌∷◌, ◌&&◌, ◌||◌, true, not, IsTrue, ℕ, List, is_some, nat_le, codes, if◌then◌else◌};
+ghost use Rattle.std.specs.List.{prefix_len};
+ghost use Rattle.rx_base.specs.Rising.{Rises};
 ghost use Rattle.rx_units.specs.Units.{values};
 ghost use Rattle.rx_units.specs.Digits.{front_is, octal, is_hex_digit};
 ghost use Rattle.rx_model.specs.Characters.EscapeFronts.{control_behind, digit_at, legacy_at, octal_at};
@@ -11,6 +13,7 @@ ghost use Rattle.rx_class.specs.Found.{seen_escape};
 use crate::EscapeFound;
 use crate::escape_found::character;
 use rx_ast::CharacterKind;
+use rx_base::Counter;
 use rx_tables::{is_decimal_digit, is_octal_digit, map_c_ascii_letter, map_hex_digit};
 use rx_units::CodePoint;
 
@@ -28,8 +31,13 @@ pub struct LegacyContext {
 /// The escape that the units behind a backslash begin with, of those that are one with neither `u` nor `v` alone (CharacterEscape and ClassEscape of
 /// ECMA-262, B.1.2).
 #[tactic(auto, unfolding(rx_model::specs::Characters::EscapeFronts::legacy_at))]
-pub fn legacy_escape_at(units: &[CodePoint], context: LegacyContext) -> EscapeFound
-    ensures { (e : Environment) → e.groups ≡ context.groups → e.named ≡ context.named → seen_escape result ≡ legacy_at context.inside e (values units.now) }
+pub fn legacy_escape_at<C: Counter>(
+    units: &[CodePoint],
+    context: LegacyContext,
+    steps: &mut C,
+) -> EscapeFound
+    ensures read { (e : Environment) → e.groups ≡ context.groups → e.named ≡ context.named → seen_escape result ≡ legacy_at context.inside e (values units.now) }
+    ensures steps { Rises (C.count steps.old) (C.count steps.new) 0 (if context.inside then 0 else prefix_len (λ u. is_decimal_digit u.value) units.now + 1) }
 {
     let [first, rest @ ..] = units else {
         return EscapeFound::Nothing;
@@ -39,7 +47,7 @@ pub fn legacy_escape_at(units: &[CodePoint], context: LegacyContext) -> EscapeFo
         return control(rest, context.inside);
     }
     if is_decimal_digit(cp) {
-        return digit(units, context);
+        return digit(units, context, steps);
     }
     if begins_another(cp, context) || is_hexadecimal(cp, rest) || is_unicode(cp, rest) {
         return EscapeFound::Nothing;
@@ -71,13 +79,14 @@ fn is_class_control(cp: u32) -> bool
 }
 
 /// A digit, which the units begin with: an octal escape or the digit itself, where it begins no reference.
-fn digit(units: &[CodePoint], context: LegacyContext) -> EscapeFound
-    ensures { (c : ℕ) (w : List ℕ) → values units.now ≡ c ∷ w → seen_escape result ≡ digit_at context.inside context.groups c w }
+fn digit<C: Counter>(units: &[CodePoint], context: LegacyContext, steps: &mut C) -> EscapeFound
+    ensures read { (c : ℕ) (w : List ℕ) → values units.now ≡ c ∷ w → seen_escape result ≡ digit_at context.inside context.groups c w }
+    ensures steps { Rises (C.count steps.old) (C.count steps.new) 0 (if context.inside then 0 else prefix_len (λ u. is_decimal_digit u.value) units.now + 1) }
 {
     let [first, rest @ ..] = units else {
         return EscapeFound::Nothing;
     };
-    if !context.inside && refers(units, context.groups) {
+    if !context.inside && refers(units, context.groups, steps) {
         return EscapeFound::Nothing;
     }
     if first.value == '0' as u32 && !begins_with_digit(rest) {
@@ -126,21 +135,25 @@ fn octal(digit: u32) -> u32
 }
 
 /// Whether the units begin with a decimal number that does not begin with 0 and is at most that of the groups (DecimalEscape of ECMA-262, 22.2.1).
-fn refers(units: &[CodePoint], groups: u32) -> bool
-    ensures { result ≡ refers groups (values units.now) }
+fn refers<C: Counter>(units: &[CodePoint], groups: u32, steps: &mut C) -> bool
+    ensures value { result ≡ refers groups (values units.now) }
+    ensures steps { Rises (C.count steps.old) (C.count steps.new) 0 (prefix_len (λ u. is_decimal_digit u.value) units.now + 1) }
 {
     let [first, ..] = units else {
         return false;
     };
-    is_decimal_digit(first.value) && first.value != '0' as u32 && is_at_most(units, groups)
+    is_decimal_digit(first.value) && first.value != '0' as u32 && is_at_most(units, groups, steps)
 }
 
 /// Whether the number of the decimal digits that the units begin with is at most a limit.
-fn is_at_most(units: &[CodePoint], limit: u32) -> bool
-    ensures { result ≡ nat_le (run_number 0 (values units.now)) limit }
+fn is_at_most<C: Counter>(units: &[CodePoint], limit: u32, steps: &mut C) -> bool
+    ensures value { result ≡ nat_le (run_number 0 (values units.now)) limit }
+    ensures steps { Rises (C.count steps.old) (C.count steps.new) 0 (prefix_len (λ u. is_decimal_digit u.value) units.now + 1) }
+    ensures all { IsTrue result → C.count steps.old + prefix_len (λ u. is_decimal_digit u.value) units.now ≤ C.count steps.new }
 {
     let mut number = 0u64;
     for unit in units {
+        steps.tick();
         if !is_decimal_digit(unit.value) {
             return true;
         }

@@ -4,6 +4,8 @@ ghost use Rattle.rx_class.specs.Fitting.{AreFitting};
 ghost use Rattle.rx_class.specs.Keeping.{KeepsUnits};
 ghost use Rattle.rx_class.specs.PropertyAnswers.{GivesProperty};
 ghost use Rattle.rx_class.specs.PropertyFound.{property_refusal};
+ghost use Rattle.rx_class.specs.ReadingSteps.{IsReading};
+ghost use Rattle.rx_units.specs.Pace.{IsMove};
 ghost use Rattle.rx_units.specs.Units.{values};
 ghost use Rattle.rx_units.specs.Digits.{front_is};
 ghost use Rattle.rx_model.specs.Properties.PropertyForms.{begins_property};
@@ -13,7 +15,7 @@ use crate::escape::is_unicode;
 use crate::property_found::{PropertyFound, PropertyHalt, property_at};
 use crate::spans::span_to_here;
 use rx_ast::UnicodePropertyEscape;
-use rx_base::{Diagnostic, Fault, PropertyPart, Span, Unterminated};
+use rx_base::{Counter, Diagnostic, Fault, PropertyPart, Span, Unterminated};
 use rx_scan::{SpanFactory, State};
 use rx_units::{CodePoint, Reader};
 use std::alloc::Global;
@@ -26,21 +28,23 @@ use std::alloc::Global;
 /// `InvalidUnicodeProperty` where a name, a value or both together are in no table; where a property of strings is named, by
 /// `InvalidUnicodePropertyOfStrings` with `u`, and with `v` by `InvalidUnicodePropertyNameNegativeStrings` behind `\P`.
 #[inline]
-pub fn parse_character_class_escape_unicode(
+pub fn parse_character_class_escape_unicode<C: Counter>(
     alloc: Global,
     reader: &mut Reader<'_>,
     state: &State,
     spans: &SpanFactory,
     span_start: u32,
+    steps: &mut C,
 ) -> Result<Option<UnicodePropertyEscape>, Fault>
     requires backslash { IsBehindBackslash reader.old span_start }
     requires fits { AreFitting spans.now reader.old }
-    ensures { GivesProperty (environment_of state.now) spans.now span_start reader.old reader.new result }
+    ensures gives { GivesProperty (environment_of state.now) spans.now span_start reader.old reader.new result }
+    ensures steps { IsReading 6 (C.count steps.old) (C.count steps.new) reader.old reader.new result }
 {
     if !begins_property(reader.remaining_code_points()) {
         return Ok(None);
     }
-    property_escape(alloc, reader, state, spans, span_start)
+    property_escape(alloc, reader, state, spans, span_start, steps)
 }
 
 /// Whether `p` or `P` stands first.
@@ -52,16 +56,18 @@ fn begins_property(units: &[CodePoint]) -> bool
 }
 
 /// The same, by all of what stands there.
-fn property_escape(
+fn property_escape<C: Counter>(
     alloc: Global,
     reader: &mut Reader<'_>,
     state: &State,
     spans: &SpanFactory,
     span_start: u32,
+    steps: &mut C,
 ) -> Result<Option<UnicodePropertyEscape>, Fault>
     requires backslash { IsBehindBackslash reader.old span_start }
     requires fits { AreFitting spans.now reader.old }
-    ensures { GivesProperty (environment_of state.now) spans.now span_start reader.old reader.new result }
+    ensures gives { GivesProperty (environment_of state.now) spans.now span_start reader.old reader.new result }
+    ensures steps { IsReading 6 (C.count steps.old) (C.count steps.new) reader.old reader.new result }
 {
     if !is_unicode(state) {
         return Ok(None);
@@ -70,6 +76,7 @@ fn property_escape(
         alloc,
         reader.remaining_code_points(),
         state.unicode_sets_mode,
+        steps,
     )?;
     match found {
         PropertyFound::Property {
@@ -79,7 +86,7 @@ fn property_escape(
             value,
             length,
         } => {
-            reader.skip(length);
+            reader.skip_counted(length, steps);
             let span = span_to_here(reader, spans, span_start);
             Ok(Some(UnicodePropertyEscape {
                 span,
@@ -91,60 +98,69 @@ fn property_escape(
         }
         PropertyFound::Nothing => Ok(None),
         PropertyFound::Halt(halt) => {
-            Err(Fault::Diagnostic(refusal(reader, spans, span_start, halt)))
+            Err(Fault::Diagnostic(refusal(reader, spans, span_start, halt, steps)))
         }
     }
 }
 
 /// The refusal that a halt is. The reader moves.
-fn refusal(
+fn refusal<C: Counter>(
     reader: &mut Reader<'_>,
     spans: &SpanFactory,
     span_start: u32,
     halt: PropertyHalt,
+    steps: &mut C,
 ) -> Diagnostic
     requires backslash { IsBehindBackslash reader.old span_start }
     requires fits { AreFitting spans.now reader.old }
     ensures refusal { result ≡ property_refusal reader.old.units reader.old.first spans.now (reader.old.place - 1) halt }
     ensures reader { KeepsUnits reader.old reader.new }
+    ensures steps { IsMove (C.count steps.old) (C.count steps.new) reader.old reader.new }
 {
     match halt {
         PropertyHalt::Unterminated { end } => {
-            reader.skip(end);
+            reader.skip_counted(end, steps);
             let span = span_to_here(reader, spans, span_start);
             let what = Unterminated::PropertyEscape;
             Diagnostic::UnterminatedPattern { span, what }
         }
         PropertyHalt::Name { start, length } => {
-            let span = span_ahead(reader, spans, start, length);
+            let span = span_ahead(reader, spans, start, length, steps);
             let what = PropertyPart::Name;
             Diagnostic::InvalidUnicodeProperty { span, what }
         }
         PropertyHalt::NameOrValue { length } => {
-            let span = span_ahead(reader, spans, 2, length);
+            let span = span_ahead(reader, spans, 2, length, steps);
             let what = PropertyPart::NameOrValue;
             Diagnostic::InvalidUnicodeProperty { span, what }
         }
         PropertyHalt::NegativeOfStrings { name, end } => {
-            reader.skip(end);
+            reader.skip_counted(end, steps);
             let span = span_to_here(reader, spans, span_start);
             Diagnostic::InvalidUnicodePropertyNameNegativeStrings { span, name }
         }
         PropertyHalt::OfStrings { name, length } => {
-            let span = span_ahead(reader, spans, 2, length);
+            let span = span_ahead(reader, spans, 2, length, steps);
             Diagnostic::InvalidUnicodePropertyOfStrings { span, name }
         }
     }
 }
 
 /// The span of `count` units that stand `ahead` units on. The reader moves over them.
-fn span_ahead(reader: &mut Reader<'_>, spans: &SpanFactory, ahead: usize, count: usize) -> Span
+fn span_ahead<C: Counter>(
+    reader: &mut Reader<'_>,
+    spans: &SpanFactory,
+    ahead: usize,
+    count: usize,
+    steps: &mut C,
+) -> Span
     requires fits { AreFitting spans.now reader.old }
     ensures span { result ≡ span_between reader.old.units reader.old.first spans.now (reader.old.place + ahead) (reader.old.place + ahead + count) }
     ensures reader { KeepsUnits reader.old reader.new }
+    ensures steps { IsMove (C.count steps.old) (C.count steps.new) reader.old reader.new }
 {
-    reader.skip(ahead);
+    reader.skip_counted(ahead, steps);
     let start = reader.offset();
-    reader.skip(count);
+    reader.skip_counted(count, steps);
     span_to_here(reader, spans, start)
 }

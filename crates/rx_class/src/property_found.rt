@@ -1,14 +1,16 @@
-ghost use Rattle.std.specs.Prelude.{◌≡◌, ◌<◌, ◌^◌, ℕ, Bool, ◌∷◌, List, length, true, IfOk};
+ghost use Rattle.std.specs.Prelude.{◌≡◌, ◌+◌, ◌<◌, ◌^◌, ℕ, Bool, ◌∷◌, List, length, true, IfOk};
 ghost use Rattle.std.specs.List.{list_all};
 ghost use Rattle.std.specs.Str.{chars};
+ghost use Rattle.rx_base.specs.Rising.{Rises};
 ghost use Rattle.rx_units.specs.Units.{values};
 ghost use Rattle.rx_tables.specs.Characters.{is_unicode_property_value_character};
 ghost use Rattle.rx_model.specs.FirstPass.Marks.{starts};
 ghost use Rattle.rx_model.specs.Properties.PropertyForms.{HasPair, HasRun};
 ghost use Rattle.rx_class.specs.PropertyFound.{IsLone, IsPropertyFound, is_known, property_letter, unknown_halt};
+ghost use Rattle.rx_class.specs.PropertySteps.{IsClosedIn, IsSpelledIn, property_looks};
 
 use crate::property_form::{pair_at, run_at};
-use rx_base::{OutOfMemory, Text};
+use rx_base::{Counter, OutOfMemory, Text};
 use rx_tables::{
     is_general_category_value, is_valid_lone_unicode_property,
     is_valid_lone_unicode_property_of_strings, is_valid_unicode_property,
@@ -61,33 +63,37 @@ pub enum Lone {
 }
 
 /// The property escape (CharacterClassEscape of ECMA-262, 22.2.1) that the units behind a backslash begin with, in sets mode or not.
-pub fn property_at(
+pub fn property_at<C: Counter>(
     alloc: Global,
     units: &[CodePoint],
     sets: bool,
+    steps: &mut C,
 ) -> Result<PropertyFound, OutOfMemory>
-    ensures { IfOk result (IsPropertyFound sets (values units.now)) }
+    ensures found { IfOk result (IsPropertyFound sets (values units.now)) }
+    ensures steps { Rises (C.count steps.old) (C.count steps.new) 0 (property_looks (length units.now) result) }
 {
     let [letter, behind @ ..] = units else {
         return Ok(PropertyFound::Nothing);
     };
     if letter.value == 'p' as u32 {
-        return expression_at(alloc, false, behind, sets);
+        return expression_at(alloc, false, behind, sets, steps);
     }
     if letter.value == 'P' as u32 {
-        return expression_at(alloc, true, behind, sets);
+        return expression_at(alloc, true, behind, sets, steps);
     }
     Ok(PropertyFound::Nothing)
 }
 
 /// The same by the units behind `p` or `P`.
-fn expression_at(
+fn expression_at<C: Counter>(
     alloc: Global,
     negative: bool,
     units: &[CodePoint],
     sets: bool,
+    steps: &mut C,
 ) -> Result<PropertyFound, OutOfMemory>
-    ensures { IfOk result (IsPropertyFound sets (property_letter negative ∷ values units.now)) }
+    ensures found { IfOk result (IsPropertyFound sets (property_letter negative ∷ values units.now)) }
+    ensures steps { Rises (C.count steps.old) (C.count steps.new) 0 (property_looks (length units.now) result) }
 {
     let [brace, behind @ ..] = units else {
         return Ok(unterminated(1));
@@ -95,11 +101,11 @@ fn expression_at(
     if brace.value != '{' as u32 {
         return Ok(unterminated(1));
     }
-    match pair_at(behind) {
-        Some(pair) => pair_found(alloc, negative, pair.name, pair.value, pair.behind),
+    match pair_at(behind, steps) {
+        Some(pair) => pair_found(alloc, negative, pair.name, pair.value, pair.behind, steps),
         None => {
-            let (run, behind) = run_at(behind);
-            run_found(alloc, negative, run, behind, sets)
+            let (run, behind) = run_at(behind, steps);
+            run_found(alloc, negative, run, behind, sets, steps)
         }
     }
 }
@@ -111,19 +117,22 @@ fn unterminated(end: usize) -> PropertyFound
 }
 
 /// The same by a name and a value, in every mode.
-fn pair_found(
+fn pair_found<C: Counter>(
     alloc: Global,
     negative: bool,
     name: &[CodePoint],
     value: &[CodePoint],
     behind: &[CodePoint],
+    steps: &mut C,
 ) -> Result<PropertyFound, OutOfMemory>
     requires { (w : List ℕ) × HasPair w (values name.now) (values value.now) (values behind.now) }
-    ensures { IfOk result (λ found. (sets : Bool) (w : List ℕ) → HasPair w (values name.now) (values value.now) (values behind.now)
+    ensures found { IfOk result (λ found. (sets : Bool) (w : List ℕ) → HasPair w (values name.now) (values value.now) (values behind.now)
         → IsPropertyFound sets (property_letter negative ∷ 123 ∷ w) found) }
+    ensures steps { Rises (C.count steps.old) (C.count steps.new) 0 (length name.now + length value.now) }
+    ensures closed { IfOk result (IsClosedIn (4 + length name.now + length value.now) (values behind.now)) }
 {
-    let name_text = text_of(alloc, name)?;
-    let value_text = text_of(alloc, value)?;
+    let name_text = text_of(alloc, name, steps)?;
+    let value_text = text_of(alloc, value, steps)?;
     if !is_valid_unicode_property(name_text.as_str(), value_text.as_str()) {
         return Ok(PropertyFound::Halt(PropertyHalt::Name {
             start: 3 + name.len(),
@@ -143,21 +152,24 @@ fn pair_found(
 }
 
 /// The same by a run of a value's characters.
-fn run_found(
+fn run_found<C: Counter>(
     alloc: Global,
     negative: bool,
     run: &[CodePoint],
     behind: &[CodePoint],
     sets: bool,
+    steps: &mut C,
 ) -> Result<PropertyFound, OutOfMemory>
     requires { (w : List ℕ) × HasRun w (values run.now) (values behind.now) }
-    ensures { IfOk result (λ found. (w : List ℕ) → HasRun w (values run.now) (values behind.now)
+    ensures found { IfOk result (λ found. (w : List ℕ) → HasRun w (values run.now) (values behind.now)
         → IsPropertyFound sets (property_letter negative ∷ 123 ∷ w) found) }
+    ensures steps { Rises (C.count steps.old) (C.count steps.new) 0 (length run.now) }
+    ensures closed { IfOk result (IsClosedIn (3 + length run.now) (values behind.now)) }
 {
     if run.is_empty() || behind.is_empty() {
         return Ok(unterminated(2 + run.len()));
     }
-    let word = text_of(alloc, run)?;
+    let word = text_of(alloc, run, steps)?;
     let lone = named_alone(word.as_str());
     if !is_known(lone, sets) {
         return Ok(PropertyFound::Halt(unknown(lone, word, run.len())));
@@ -201,8 +213,9 @@ fn known_found(
     requires known { (sets : Bool) × (is_known lone sets ≡ true) }
     requires count { count ≡ length word }
     requires small { count < 2 ^ 63 }
-    ensures { IfOk result (λ found. (sets : Bool) (w behind : List ℕ) → is_known lone sets ≡ true → HasRun w word behind → starts 125 behind ≡ true
+    ensures found { IfOk result (λ found. (sets : Bool) (w behind : List ℕ) → is_known lone sets ≡ true → HasRun w word behind → starts 125 behind ≡ true
         → IsPropertyFound sets (property_letter negative ∷ 123 ∷ w) found) }
+    ensures length { IfOk result (IsSpelledIn (3 + count)) }
 {
     match lone {
         Lone::Category => Ok(PropertyFound::Property {
@@ -257,13 +270,20 @@ fn is_closed(units: &[CodePoint]) -> bool
 
 /// The characters that some units are.
 #[tactic(auto, using(crate::proofs::PropertyTables::small_value))]
-fn text_of(alloc: Global, units: &[CodePoint]) -> Result<Text, OutOfMemory>
+fn text_of<C: Counter>(
+    alloc: Global,
+    units: &[CodePoint],
+    steps: &mut C,
+) -> Result<Text, OutOfMemory>
     requires { list_all is_unicode_property_value_character (values units.now) ≡ true }
-    ensures { IfOk result (λ text. text ≡ values units.now) }
+    ensures text { IfOk result (λ text. text ≡ values units.now) }
+    ensures steps { Rises (C.count steps.old) (C.count steps.new) 0 (length units.now) }
+    ensures whole { IfOk result (λ text. C.count steps.new ≡ C.count steps.old + length units.now) }
 {
     let mut text = Text::from_str(alloc, "")?;
     let mut place = 0;
     while place < units.len() {
+        steps.tick();
         match char::from_u32(units[place].value) {
             Some(character) => text.push(character)?,
             None => unreachable!(),

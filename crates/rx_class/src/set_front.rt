@@ -1,18 +1,22 @@
 ghost use Rattle.std.specs.Prelude.{◌≡◌, true, length};
+ghost use Rattle.rx_base.specs.Rising.{Rises};
 ghost use Rattle.rx_units.specs.Units.{values};
 ghost use Rattle.rx_model.specs.declared.mode.Mode.TheVariants.{Sets};
 ghost use Rattle.rx_model.specs.Classes.ClassFronts.{are_next};
 ghost use Rattle.rx_model.specs.Classes.ClassRows.{stands_raw_in_class};
 ghost use Rattle.rx_model.specs.FirstPass.Marks.{starts};
 ghost use Rattle.rx_model.specs.Inputs.Environment.{Environment, is_sets};
+ghost use Rattle.rx_class.specs.EscapeSteps.{most_looks};
 ghost use Rattle.rx_class.specs.Found.{IsWithin, seen_escape};
 ghost use Rattle.rx_class.specs.FrontSeen.{seen_front};
 ghost use Rattle.rx_class.specs.SetFronts.{IsRangeEnd, IsSetFront, behind_backslash, character_front, escaped_front, range_end_at, set_character_at, set_escape_at, set_front_at};
+ghost use Rattle.rx_class.specs.SetSteps.{most_behind_backslash, most_end_looks, most_front_behind, most_front_looks, most_set_looks};
 
 use crate::class_atom::unit_kind;
 use crate::escape_found::character;
 use crate::{EscapeFound, character_escape_at, class_escape_at};
 use rx_ast::{CharacterClassEscapeKind, CharacterKind};
+use rx_base::Counter;
 use rx_tables::{
     is_class_set_reserved_double_punctuator, is_class_set_reserved_punctuator,
     is_class_set_syntax_character,
@@ -42,15 +46,17 @@ pub enum SetFront {
 }
 
 /// What the units begin with.
-pub fn set_front_at(units: &[CodePoint]) -> SetFront
-    ensures { (e : Environment) → is_sets e.mode ≡ true → IsSetFront e units.now (seen_front result) }
+pub fn set_front_at<C: Counter>(units: &[CodePoint], steps: &mut C) -> SetFront
+    ensures front { (e : Environment) → is_sets e.mode ≡ true → IsSetFront e units.now (seen_front result) }
+    ensures steps { Rises (C.count steps.old) (C.count steps.new) 0 (most_front_looks units.now (seen_front result)) }
 {
-    first_front(units)
+    first_front(units, steps)
 }
 
 #[tactic(auto, unfolding(crate::specs::SetFronts::set_front_at))]
-fn first_front(units: &[CodePoint]) -> SetFront
-    ensures { seen_front result ≡ set_front_at units.now }
+fn first_front<C: Counter>(units: &[CodePoint], steps: &mut C) -> SetFront
+    ensures front { seen_front result ≡ set_front_at units.now }
+    ensures steps { Rises (C.count steps.old) (C.count steps.new) 0 (most_front_looks units.now (seen_front result)) }
 {
     let [first, behind @ ..] = units else {
         return SetFront::Nothing;
@@ -62,14 +68,15 @@ fn first_front(units: &[CodePoint]) -> SetFront
         },
         Some('&') if begins_with(behind, '&') => SetFront::Meet,
         Some('-') if begins_with(behind, '-') => SetFront::Less,
-        Some('\\') => escaped_front(behind),
-        _ => character_front(set_character_at(units)),
+        Some('\\') => escaped_front(behind, steps),
+        _ => character_front(set_character_at(units, steps)),
     }
 }
 
 /// What stands behind a backslash.
-fn escaped_front(units: &[CodePoint]) -> SetFront
-    ensures { seen_front result ≡ escaped_front (values units.now) }
+fn escaped_front<C: Counter>(units: &[CodePoint], steps: &mut C) -> SetFront
+    ensures front { seen_front result ≡ escaped_front (values units.now) }
+    ensures steps { Rises (C.count steps.old) (C.count steps.new) 0 (most_front_behind (length units.now) (seen_front result)) }
 {
     if begins_strings(units) {
         return SetFront::Strings;
@@ -79,7 +86,7 @@ fn escaped_front(units: &[CodePoint]) -> SetFront
     }
     match class_escape_at(units) {
         Some(kind) => SetFront::Escape(kind),
-        None => character_front(behind_backslash(units)),
+        None => character_front(behind_backslash(units, steps)),
     }
 }
 
@@ -94,14 +101,15 @@ fn character_front(found: EscapeFound) -> SetFront
 
 /// The character (ClassSetCharacter of ECMA-262, 22.2.1) that the units begin with, with its backslash.
 #[tactic(auto, unfolding(crate::specs::SetFronts::set_character_at))]
-pub fn set_character_at(units: &[CodePoint]) -> EscapeFound
-    ensures { seen_escape result ≡ set_character_at units.now }
+pub fn set_character_at<C: Counter>(units: &[CodePoint], steps: &mut C) -> EscapeFound
+    ensures read { seen_escape result ≡ set_character_at units.now }
+    ensures steps { Rises (C.count steps.old) (C.count steps.new) 0 (most_set_looks units.now (seen_escape result)) }
 {
     let [first, behind @ ..] = units else {
         return EscapeFound::Nothing;
     };
     if first.value == '\\' as u32 {
-        return behind_backslash(behind);
+        return behind_backslash(behind, steps);
     }
     if stands_raw(first.value, behind) {
         character(unit_kind(first.escape_kind), first.value, 1)
@@ -111,10 +119,11 @@ pub fn set_character_at(units: &[CodePoint]) -> EscapeFound
 }
 
 /// The character that the units behind a backslash stand for in a class, from the backslash on.
-fn behind_backslash(units: &[CodePoint]) -> EscapeFound
-    ensures { seen_escape result ≡ behind_backslash (set_escape_at (values units.now)) }
+fn behind_backslash<C: Counter>(units: &[CodePoint], steps: &mut C) -> EscapeFound
+    ensures read { seen_escape result ≡ behind_backslash (set_escape_at (values units.now)) }
+    ensures steps { Rises (C.count steps.old) (C.count steps.new) 0 (most_behind_backslash (length units.now) (seen_escape result)) }
 {
-    let found = set_escape_at(units);
+    let found = set_escape_at(units, steps);
     match found {
         EscapeFound::Character {
             kind,
@@ -126,9 +135,10 @@ fn behind_backslash(units: &[CodePoint]) -> EscapeFound
 }
 
 /// The same without the backslash.
-fn set_escape_at(units: &[CodePoint]) -> EscapeFound
+fn set_escape_at<C: Counter>(units: &[CodePoint], steps: &mut C) -> EscapeFound
     ensures read { seen_escape result ≡ set_escape_at (values units.now) }
     ensures within { IsWithin (length units.now) result }
+    ensures steps { Rises (C.count steps.old) (C.count steps.new) 0 (most_looks true (length units.now) result) }
 {
     let [first, ..] = units else {
         return EscapeFound::Nothing;
@@ -139,7 +149,7 @@ fn set_escape_at(units: &[CodePoint]) -> EscapeFound
     if is_class_set_reserved_punctuator(first.value) {
         return character(CharacterKind::Identifier, first.value, 1);
     }
-    character_escape_at(units, true)
+    character_escape_at(units, true, steps)
 }
 
 /// Whether a value stands for itself before some units: it is no ClassSetSyntaxCharacter, and begins no ClassSetReservedDoublePunctuator.
@@ -154,17 +164,19 @@ fn stands_raw(value: u32, behind: &[CodePoint]) -> bool
 
 /// What stands behind a character as the end of a range: a `-` and a character. Lengths count from behind the `-` on.
 #[tactic(auto, using(crate::proofs::SetCharacters::range_end_is))]
-pub fn range_end_at(units: &[CodePoint]) -> EscapeFound
-    ensures { (e : Environment) → is_sets e.mode ≡ true → IsRangeEnd e units.now (seen_escape result) }
+pub fn range_end_at<C: Counter>(units: &[CodePoint], steps: &mut C) -> EscapeFound
+    ensures end { (e : Environment) → is_sets e.mode ≡ true → IsRangeEnd e units.now (seen_escape result) }
+    ensures steps { Rises (C.count steps.old) (C.count steps.new) 0 (most_end_looks units.now (seen_escape result)) }
 {
-    behind_hyphen(units)
+    behind_hyphen(units, steps)
 }
 
-fn behind_hyphen(units: &[CodePoint]) -> EscapeFound
-    ensures { seen_escape result ≡ range_end_at units.now }
+fn behind_hyphen<C: Counter>(units: &[CodePoint], steps: &mut C) -> EscapeFound
+    ensures end { seen_escape result ≡ range_end_at units.now }
+    ensures steps { Rises (C.count steps.old) (C.count steps.new) 0 (most_end_looks units.now (seen_escape result)) }
 {
     match units {
-        [hyphen, behind @ ..] if hyphen.value == '-' as u32 => set_character_at(behind),
+        [hyphen, behind @ ..] if hyphen.value == '-' as u32 => set_character_at(behind, steps),
         _ => EscapeFound::Nothing,
     }
 }

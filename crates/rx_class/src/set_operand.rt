@@ -1,7 +1,9 @@
 ghost use Rattle.std.specs.Prelude.{◌≡◌, ◌≢◌, ◌≤◌, ◌∷◌, [], All, IfOk, Ok, Some, false, true};
 ghost use Rattle.rx_ast.specs.ClassTree as ClassTree;
 ghost use Rattle.rx_ast.specs.ClassTree.{mirror_contents};
+ghost use Rattle.rx_base.specs.Rising.{Rises};
 ghost use Rattle.rx_units.specs.Cursor.{Cursor, rest};
+ghost use Rattle.rx_units.specs.Pace.{TakesSteps};
 ghost use Rattle.rx_units.specs.Units.{values};
 ghost use Rattle.rx_model.specs.Characters.EscapeFronts.{nothing};
 ghost use Rattle.rx_model.specs.Classes.ClassRows.{behind_meet};
@@ -16,6 +18,7 @@ ghost use Rattle.rx_class.specs.HeldMirror.{held_of};
 ghost use Rattle.rx_class.specs.SetAnswers.{GivesSetCharacter};
 ghost use Rattle.rx_class.specs.SetFronts.{Begins, BeginsProperty, EndsRange, set_character_at};
 ghost use Rattle.rx_class.specs.SetReading.{GivesTurn, IsOfSets, IsRangeNext, IsSetRange, held_in, place_of};
+ghost use Rattle.rx_class.specs.SetSteps.{TakesStepsBehind, most_end_looks, most_next_looks, most_set_looks};
 ghost use Rattle.rx_class.specs.WellBuilt.{IsWellBuilt};
 
 use crate::EscapeFound;
@@ -32,26 +35,28 @@ use rx_ast::{
     Character, CharacterClassContents, CharacterClassEscape, CharacterClassEscapeKind,
     CharacterClassRange, ClassStringDisjunction,
 };
-use rx_base::{Diagnostic, Fault, OutOfMemory, RangeKind, Span};
+use rx_base::{Counter, Diagnostic, Fault, OutOfMemory, RangeKind, Span};
 use rx_scan::{SpanFactory, State};
 use rx_units::{CodePoint, Reader};
 use std::alloc::Global;
 
 /// Reads the class strings that stand next as an operand, with which the innermost bracket holds what is given.
-pub fn strings(
+pub fn strings<C: Counter>(
     alloc: Global,
     reader: &mut Reader<'_>,
     spans: &SpanFactory,
     builder: &mut ClassBuilder,
     after: Held,
+    steps: &mut C,
 ) -> Result<(), Fault>
     requires front { Begins (rest reader.old) (92 ∷ 113 ∷ 123 ∷ []) }
     requires held { operand (held_in builder.old) ≡ Some (held_of after) }
     requires well { IsWellBuilt builder.old }
     requires fits { AreFitting spans.now reader.old }
-    ensures { (e : Environment) → IsOfSets e reader.old → GivesTurn e spans.now reader.old reader.new builder.old builder.new result }
+    ensures gives { (e : Environment) → IsOfSets e reader.old → GivesTurn e spans.now reader.old reader.new builder.old builder.new result }
+    ensures steps { TakesSteps 6 (C.count steps.old) (C.count steps.new) reader.old reader.new result }
 {
-    let strings = class_strings(alloc, reader, spans)?;
+    let strings = class_strings(alloc, reader, spans, steps)?;
     let may = strings.strings;
     let contents = strings_contents(alloc, strings)?;
     Ok(builder.push(contents, may, after)?)
@@ -69,21 +74,23 @@ fn strings_contents(
 }
 
 /// Reads the class escape that stands next as an operand, with which the innermost bracket holds what is given.
-pub fn escape(
+pub fn escape<C: Counter>(
     reader: &mut Reader<'_>,
     spans: &SpanFactory,
     builder: &mut ClassBuilder,
     kind: CharacterClassEscapeKind,
     after: Held,
+    steps: &mut C,
 ) -> Result<(), Fault>
     requires front { Begins (rest reader.old) (class_escape_text kind) }
     requires held { operand (held_in builder.old) ≡ Some (held_of after) }
     requires well { IsWellBuilt builder.old }
     requires fits { AreFitting spans.now reader.old }
-    ensures { (e : Environment) → IsOfSets e reader.old → GivesTurn e spans.now reader.old reader.new builder.old builder.new result }
+    ensures gives { (e : Environment) → IsOfSets e reader.old → GivesTurn e spans.now reader.old reader.new builder.old builder.new result }
+    ensures steps { TakesSteps 6 (C.count steps.old) (C.count steps.new) reader.old reader.new result }
 {
     let start = reader.offset();
-    reader.skip(2);
+    reader.skip_counted(2, steps);
     let span = span_to_here(reader, spans, start);
     let contents = CharacterClassContents::CharacterClassEscape(CharacterClassEscape {
         span,
@@ -93,24 +100,27 @@ pub fn escape(
 }
 
 /// Reads the property escape that stands next as an operand, with which the innermost bracket holds what is given.
-pub fn property(
+pub fn property<C: Counter>(
     alloc: Global,
     reader: &mut Reader<'_>,
     state: &State,
     spans: &SpanFactory,
     builder: &mut ClassBuilder,
     after: Held,
+    steps: &mut C,
 ) -> Result<(), Fault>
     requires front { BeginsProperty (rest reader.old) }
     requires held { operand (held_in builder.old) ≡ Some (held_of after) }
     requires well { IsWellBuilt builder.old }
     requires sets { IsOfSets (environment_of state.now) reader.old }
     requires fits { AreFitting spans.now reader.old }
-    ensures { GivesTurn (environment_of state.now) spans.now reader.old reader.new builder.old builder.new result }
+    ensures gives { GivesTurn (environment_of state.now) spans.now reader.old reader.new builder.old builder.new result }
+    ensures steps { TakesSteps 6 (C.count steps.old) (C.count steps.new) reader.old reader.new result }
 {
     let start = reader.offset();
-    reader.advance();
-    let Some(it) = parse_character_class_escape_unicode(alloc, reader, state, spans, start)? else {
+    reader.advance_counted(steps);
+    let Some(it) = parse_character_class_escape_unicode(alloc, reader, state, spans, start, steps)?
+    else {
         unreachable!();
     };
     let may = it.strings;
@@ -120,13 +130,14 @@ pub fn property(
 
 /// Reads the character that was found to stand next as an operand, with which the innermost bracket holds what is given, or in a
 /// union the range that it begins.
-pub fn character_item(
+pub fn character_item<C: Counter>(
     alloc: Global,
     reader: &mut Reader<'_>,
     spans: &SpanFactory,
     builder: &mut ClassBuilder,
     found: EscapeFound,
     after: Held,
+    steps: &mut C,
 ) -> Result<(), Fault>
     requires front { set_character_at (rest reader.old) ≡ seen_escape found }
     requires some { seen_escape found ≢ nothing }
@@ -135,30 +146,38 @@ pub fn character_item(
     requires held { operand (held_in builder.old) ≡ Some (held_of after) }
     requires well { IsWellBuilt builder.old }
     requires fits { AreFitting spans.now reader.old }
-    ensures { (e : Environment) → IsOfSets e reader.old → GivesTurn e spans.now reader.old reader.new builder.old builder.new result }
+    ensures gives { (e : Environment) → IsOfSets e reader.old → GivesTurn e spans.now reader.old reader.new builder.old builder.new result }
+    ensures steps { TakesStepsBehind (most_set_looks (rest reader.old) (seen_escape found)) 6 (C.count steps.old) (C.count steps.new) reader.old reader.new result }
 {
-    let Some(low) = answer_ahead(reader, spans, found)? else {
+    let Some(low) = answer_ahead(reader, spans, found, steps)? else {
         unreachable!();
     };
-    match range_next(builder, reader.remaining_code_points()) {
-        Some((end, ranged)) => range_item(alloc, reader, spans, builder, low, end, ranged),
+    match range_next(builder, reader.remaining_code_points(), steps) {
+        Some((end, ranged)) => {
+            range_item(alloc, reader, spans, builder, low, end, ranged, steps)
+        }
         None => Ok(builder.push(CharacterClassContents::Character(low), false, after)?),
     }
 }
 
 /// What was found as the end of a range behind a character, and what the innermost bracket holds with the range; or that the character begins none.
-fn range_next(builder: &ClassBuilder, units: &[CodePoint]) -> Option<(EscapeFound, Held)>
-    ensures { (e : Environment) → is_sets e.mode ≡ true → IsRangeNext e units.now (held_in builder.now) result }
+fn range_next<C: Counter>(
+    builder: &ClassBuilder,
+    units: &[CodePoint],
+    steps: &mut C,
+) -> Option<(EscapeFound, Held)>
+    ensures next { (e : Environment) → is_sets e.mode ≡ true → IsRangeNext e units.now (held_in builder.now) result }
+    ensures steps { Rises (C.count steps.old) (C.count steps.new) 0 (most_next_looks units.now result) }
 {
     let ranged = builder.inner.held.with_range()?;
-    match range_end_at(units) {
+    match range_end_at(units, steps) {
         EscapeFound::Nothing => None,
         end => Some((end, ranged)),
     }
 }
 
 /// Reads the range that a character begins which was read, behind which its end was found.
-fn range_item(
+fn range_item<C: Counter>(
     alloc: Global,
     reader: &mut Reader<'_>,
     spans: &SpanFactory,
@@ -166,6 +185,7 @@ fn range_item(
     low: Character,
     end: EscapeFound,
     ranged: Held,
+    steps: &mut C,
 ) -> Result<(), Fault>
     requires low { low.value ≤ 0x10FFFF }
     requires front { EndsRange (rest reader.old) (seen_escape end) }
@@ -174,10 +194,11 @@ fn range_item(
     requires held { after_range (held_in builder.old) ≡ Some (held_of ranged) }
     requires well { IsWellBuilt builder.old }
     requires fits { AreFitting spans.now reader.old }
-    ensures { (e : Environment) (start : Cursor) → IsOfSets e start → GivesSetCharacter e spans.now start reader.old (Ok (Some low)) → GivesTurn e spans.now start reader.new builder.old builder.new result }
+    ensures gives { (e : Environment) (start : Cursor) → IsOfSets e start → GivesSetCharacter e spans.now start reader.old (Ok (Some low)) → GivesTurn e spans.now start reader.new builder.old builder.new result }
+    ensures steps { TakesStepsBehind (most_end_looks (rest reader.old) (seen_escape end)) 6 (C.count steps.old) (C.count steps.new) reader.old reader.new result }
 {
-    reader.advance();
-    let Some(high) = answer_ahead(reader, spans, end)? else {
+    reader.advance_counted(steps);
+    let Some(high) = answer_ahead(reader, spans, end, steps)? else {
         unreachable!();
     };
     let contents = range_contents(alloc, range(low, high)?)?;

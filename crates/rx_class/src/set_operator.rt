@@ -1,5 +1,6 @@
 ghost use Rattle.std.specs.Prelude.{◌≡◌, ◌≢◌, ◌∷◌, ℕ, [], IsSome, Some, length, true};
 ghost use Rattle.rx_units.specs.Cursor.{rest};
+ghost use Rattle.rx_units.specs.Pace.{IsMove, TakesSteps};
 ghost use Rattle.rx_units.specs.Units.{values};
 ghost use Rattle.rx_model.specs.Classes.ClassRuns.{is_whole, less_by, met_by, operand};
 ghost use Rattle.rx_model.specs.FirstPass.Marks.{starts};
@@ -14,49 +15,63 @@ use crate::class_builder::ClassBuilder;
 use crate::held::Held;
 use crate::set_refusal::refuse_negative_strings;
 use crate::spans::here;
-use rx_base::Fault;
+use rx_base::{Counter, Fault};
 use rx_scan::SpanFactory;
 use rx_units::Reader;
 use std::alloc::Global;
 
 /// Reads the `&&` that stands next, with which the innermost bracket holds what is given.
-pub fn meet(reader: &mut Reader<'_>, builder: &mut ClassBuilder, after: Held)
+pub fn meet<C: Counter>(
+    reader: &mut Reader<'_>,
+    builder: &mut ClassBuilder,
+    after: Held,
+    steps: &mut C,
+)
     requires front { Begins (rest reader.old) (38 ∷ 38 ∷ []) }
     requires held { met_by (held_in builder.old) ≡ Some (held_of after) }
     requires well { IsWellBuilt builder.old }
-    ensures { (e : Environment) (added : ℕ) → IsOfSets e reader.old → AddsToSets e added reader.old reader.new builder.old builder.new }
+    ensures added { (e : Environment) (added : ℕ) → IsOfSets e reader.old → AddsToSets e added reader.old reader.new builder.old builder.new }
+    ensures steps { IsMove (C.count steps.old) (C.count steps.new) reader.old reader.new }
 {
-    reader.skip(2);
+    reader.skip_counted(2, steps);
     builder.meet(after);
 }
 
 /// Reads the `--` that stands next, with which the innermost bracket holds what is given.
-pub fn less(reader: &mut Reader<'_>, builder: &mut ClassBuilder, after: Held)
+pub fn less<C: Counter>(
+    reader: &mut Reader<'_>,
+    builder: &mut ClassBuilder,
+    after: Held,
+    steps: &mut C,
+)
     requires front { Begins (rest reader.old) (45 ∷ 45 ∷ []) }
     requires held { less_by (held_in builder.old) ≡ Some (held_of after) }
     requires well { IsWellBuilt builder.old }
-    ensures { (e : Environment) (added : ℕ) → IsOfSets e reader.old → AddsToSets e added reader.old reader.new builder.old builder.new }
+    ensures added { (e : Environment) (added : ℕ) → IsOfSets e reader.old → AddsToSets e added reader.old reader.new builder.old builder.new }
+    ensures steps { IsMove (C.count steps.old) (C.count steps.new) reader.old reader.new }
 {
-    reader.skip(2);
+    reader.skip_counted(2, steps);
     builder.less(after);
 }
 
 /// Reads the bracket that stands next, and opens it.
-pub fn open(
+pub fn open<C: Counter>(
     alloc: Global,
     reader: &mut Reader<'_>,
     spans: &SpanFactory,
     builder: &mut ClassBuilder,
     negative: bool,
+    steps: &mut C,
 ) -> Result<(), Fault>
     requires front { BeginsBracket (rest reader.old) negative }
     requires operand { IsSome (operand (held_in builder.old)) }
     requires well { IsWellBuilt builder.old }
     requires fits { AreFitting spans.now reader.old }
-    ensures { (e : Environment) → IsOfSets e reader.old → GivesTurn e spans.now reader.old reader.new builder.old builder.new result }
+    ensures gives { (e : Environment) → IsOfSets e reader.old → GivesTurn e spans.now reader.old reader.new builder.old builder.new result }
+    ensures steps { TakesSteps 6 (C.count steps.old) (C.count steps.new) reader.old reader.new result }
 {
     let start = here(reader, spans).start;
-    reader.skip(bracket_length(negative));
+    reader.skip_counted(bracket_length(negative), steps);
     Ok(builder.open(alloc, start, negative)?)
 }
 
@@ -68,20 +83,22 @@ fn bracket_length(negative: bool) -> usize
 }
 
 /// Reads the `]` that stands next, and closes the innermost bracket, which is nested.
-pub fn close(
+pub fn close<C: Counter>(
     alloc: Global,
     reader: &mut Reader<'_>,
     spans: &SpanFactory,
     builder: &mut ClassBuilder,
+    steps: &mut C,
 ) -> Result<(), Fault>
     requires front { Begins (rest reader.old) (93 ∷ []) }
     requires nested { builder.old.outer ≢ [] }
     requires whole { is_whole (held_in builder.old) ≡ true }
     requires well { IsWellBuilt builder.old }
     requires fits { AreFitting spans.now reader.old }
-    ensures { (e : Environment) → IsOfSets e reader.old → GivesTurn e spans.now reader.old reader.new builder.old builder.new result }
+    ensures gives { (e : Environment) → IsOfSets e reader.old → GivesTurn e spans.now reader.old reader.new builder.old builder.new result }
+    ensures steps { TakesSteps 6 (C.count steps.old) (C.count steps.new) reader.old reader.new result }
 {
-    refuse_negative_strings(builder, reader, spans)?;
-    reader.advance();
+    refuse_negative_strings(builder, reader, spans, steps)?;
+    reader.advance_counted(steps);
     Ok(builder.close(alloc, here(reader, spans).start)?)
 }

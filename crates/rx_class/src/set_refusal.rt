@@ -1,5 +1,6 @@
 ghost use Rattle.std.specs.Prelude.{◌≡◌, ◌&&◌, ◌∷◌, [], Err, MatchResult, false, true};
 ghost use Rattle.rx_units.specs.Cursor.{rest};
+ghost use Rattle.rx_units.specs.Pace.{IsMove, TakesSteps};
 ghost use Rattle.rx_units.specs.Units.{values};
 ghost use Rattle.rx_model.specs.Classes.ClassRuns.{is_whole, meeting};
 ghost use Rattle.rx_model.specs.FirstPass.Marks.{starts};
@@ -13,38 +14,42 @@ ghost use Rattle.rx_class.specs.WellBuilt.{IsWellBuilt};
 use crate::class_builder::ClassBuilder;
 use crate::escape::next_span;
 use crate::spans::here;
-use rx_base::{Diagnostic, Fault, Span, Unterminated};
+use rx_base::{Counter, Diagnostic, Fault, Span, Unterminated};
 use rx_scan::SpanFactory;
 use rx_units::Reader;
 
 /// Refuses the `&` that stands next, behind a `&&`.
-pub fn third_ampersand(
+pub fn third_ampersand<C: Counter>(
     builder: &ClassBuilder,
     reader: &mut Reader<'_>,
     spans: &SpanFactory,
+    steps: &mut C,
 ) -> Fault
     requires ampersand { starts 38 (values (rest reader.old)) ≡ true }
     requires held { held_in builder.now ≡ meeting }
     requires fits { AreFitting spans.now reader.old }
-    ensures { (e : Environment) → IsOfSets e reader.old → GivesTurn e spans.now reader.old reader.new builder.now builder.now (Err result) }
+    ensures gives { (e : Environment) → IsOfSets e reader.old → GivesTurn e spans.now reader.old reader.new builder.now builder.now (Err result) }
+    ensures steps { IsMove (C.count steps.old) (C.count steps.new) reader.old reader.new }
 {
-    let span = next_span(reader, spans, 1);
+    let span = next_span(reader, spans, 1, steps);
     Fault::Diagnostic(Diagnostic::ClassIntersectionUnexpectedAmpersand { span })
 }
 
 /// Refuses a bracket that is negative and may contain strings, whose `]` stands next.
-pub fn refuse_negative_strings(
+pub fn refuse_negative_strings<C: Counter>(
     builder: &ClassBuilder,
     reader: &mut Reader<'_>,
     spans: &SpanFactory,
+    steps: &mut C,
 ) -> Result<(), Fault>
     requires front { Begins (rest reader.old) (93 ∷ []) }
     requires whole { is_whole (held_in builder.now) ≡ true }
     requires fits { AreFitting spans.now reader.old }
-    ensures { MatchResult result (λ none. (reader.new ≡ reader.old) × ((builder.now.inner.negative && builder.now.inner.strings) ≡ false)) (λ fault. (e : Environment) → IsOfSets e reader.old → GivesTurn e spans.now reader.old reader.new builder.now builder.now (Err fault)) }
+    ensures gives { MatchResult result (λ none. (reader.new ≡ reader.old) × ((builder.now.inner.negative && builder.now.inner.strings) ≡ false)) (λ fault. (e : Environment) → IsOfSets e reader.old → GivesTurn e spans.now reader.old reader.new builder.now builder.now (Err fault)) }
+    ensures steps { TakesSteps 6 (C.count steps.old) (C.count steps.new) reader.old reader.new result }
 {
     if builder.inner.is_refused() {
-        reader.advance();
+        reader.advance_counted(steps);
         let span = Span::new(builder.inner.start, here(reader, spans).end);
         return Err(Fault::Diagnostic(of_negative(builder, span)));
     }

@@ -10,6 +10,7 @@ pub mod Inputs
 pub mod Modifiers
 pub mod Names
 pub mod GroupKinds
+pub mod Pace
 pub mod Parsing
 pub mod Progress
 pub mod Turns

@@ -1,10 +1,13 @@
-ghost use Rattle.std.specs.Prelude.{◌≡◌, ℕ, suc, ◌+◌, ◌^◌, ◌<◌, ◌≤◌, length};
+ghost use Rattle.std.specs.Prelude.{◌≡◌, ℕ, suc, ◌+◌, ◌^◌, ◌<◌, ◌≤◌, drop, length};
+ghost use Rattle.rx_base.specs.Rising.{Rises};
 ghost use Rattle.rx_units.specs.Units.{values};
 ghost use Rattle.rx_model.specs.Quantifiers.CountsReading.{digits_read_at, read_behind_comma, read_behind_least, read_in_braces, counts_read_at};
 ghost use Rattle.rx_model.specs.Reading.Fronts.{are_counts, counts_at, counts_behind_comma, counts_in_braces, digits, digits_behind};
 ghost use Rattle.rx_parser.specs.CountsFound.{seen_digits, digits_counted, seen_counts};
+ghost use Rattle.rx_parser.specs.Pace.{count_looks, plain};
 
 use crate::ahead::{number_at, tail};
+use rx_base::Counter;
 use rx_tables::is_decimal_digit;
 use rx_units::CodePoint;
 
@@ -33,12 +36,14 @@ pub enum CountsFound {
     },
 }
 
-fn digits_at(units: &[CodePoint]) -> DigitsFound
+fn digits_at<C: Counter>(units: &[CodePoint], steps: &mut C) -> DigitsFound
     ensures read { seen_digits units.now result ≡ digits_read_at 0 0 (values units.now) }
     ensures within { digits_counted result ≤ length units.now }
+    ensures steps { Rises (C.count steps.old) (C.count steps.new) (digits_counted result) (digits_counted result + 1) }
 {
     let mut value = 0u64;
     for (count, unit) in units.iter().enumerate() {
+        steps.tick();
         if !is_decimal_digit(unit.value) {
             return DigitsFound::Digits { value, count };
         }
@@ -57,12 +62,18 @@ fn digits_at(units: &[CodePoint]) -> DigitsFound
     }
 }
 
-/// The counts behind `{`, a number of n digits and `,`.
-fn behind_comma(min: u64, count: usize, units: &[CodePoint]) -> CountsFound
+/// The counts behind `{`, a number of n digits and `,`. The steps are with n + 2, for the number and the `,`.
+fn behind_comma<C: Counter>(
+    min: u64,
+    count: usize,
+    units: &[CodePoint],
+    steps: &mut C,
+) -> CountsFound
     requires { count + 2 + length units.now < 2 ^ 64 }
-    ensures { seen_counts result ≡ read_behind_comma min count (digits_read_at 0 0 (values units.now)) }
+    ensures read { seen_counts result ≡ read_behind_comma min count (digits_read_at 0 0 (values units.now)) }
+    ensures steps { Rises (C.count steps.old) (C.count steps.new + (count + 2)) (count + 2) (count_looks (length units.now + (count + 3)) result) }
 {
-    let (value, more) = match digits_at(units) {
+    let (value, more) = match digits_at(units, steps) {
         DigitsFound::Digits { value, count } => (value, count),
         DigitsFound::TooMany { digits } => {
             return CountsFound::TooMany {
@@ -81,10 +92,16 @@ fn behind_comma(min: u64, count: usize, units: &[CodePoint]) -> CountsFound
     }
 }
 
-/// The counts behind `{` and a number of n digits.
-fn behind_least(min: u64, count: usize, units: &[CodePoint]) -> CountsFound
+/// The counts behind `{` and a number of n digits. The steps are with n + 1, for the number.
+fn behind_least<C: Counter>(
+    min: u64,
+    count: usize,
+    units: &[CodePoint],
+    steps: &mut C,
+) -> CountsFound
     requires { count + 1 + length units.now < 2 ^ 64 }
-    ensures { seen_counts result ≡ read_behind_least min count (values units.now) }
+    ensures read { seen_counts result ≡ read_behind_least min count (values units.now) }
+    ensures steps { Rises (C.count steps.old) (C.count steps.new + (count + 1)) (count + 1) (count_looks (length units.now + (count + 1)) result) }
 {
     if count == 0 {
         return CountsFound::Nothing;
@@ -95,26 +112,30 @@ fn behind_least(min: u64, count: usize, units: &[CodePoint]) -> CountsFound
             max: Some(min),
             length: count + 2,
         },
-        [comma, more @ ..] if comma.value == ',' as u32 => behind_comma(min, count, more),
+        [comma, more @ ..] if comma.value == ',' as u32 => behind_comma(min, count, more, steps),
         _ => CountsFound::Nothing,
     }
 }
 
 /// The counts behind `{`.
-fn in_braces(units: &[CodePoint]) -> CountsFound
+fn in_braces<C: Counter>(units: &[CodePoint], steps: &mut C) -> CountsFound
     requires { 1 + length units.now < 2 ^ 64 }
-    ensures { seen_counts result ≡ read_in_braces (digits_read_at 0 0 (values units.now)) }
+    ensures read { seen_counts result ≡ read_in_braces (digits_read_at 0 0 (values units.now)) }
+    ensures steps { Rises (C.count steps.old) (C.count steps.new) 0 (count_looks (length units.now + 1) result) }
 {
-    match digits_at(units) {
-        DigitsFound::Digits { value, count } => behind_least(value, count, tail(units, count)),
+    match digits_at(units, steps) {
+        DigitsFound::Digits { value, count } => {
+            behind_least(value, count, tail(units, count), steps)
+        }
         DigitsFound::TooMany { digits } => CountsFound::TooMany { start: 1, digits },
     }
 }
 
 /// The quantifier's prefix that the units begin with.
 #[tactic(auto, unfolding(rx_model::specs::Quantifiers::CountsReading::counts_read_at))]
-pub fn counts_at(units: &[CodePoint]) -> CountsFound
-    ensures { seen_counts result ≡ counts_read_at (values units.now) }
+pub fn counts_at<C: Counter>(units: &[CodePoint], steps: &mut C) -> CountsFound
+    ensures read { seen_counts result ≡ counts_read_at (values units.now) }
+    ensures steps { Rises (C.count steps.old) (C.count steps.new) 0 (count_looks (length units.now) result) }
 {
     let [first, behind @ ..] = units else {
         return CountsFound::Nothing;
@@ -123,50 +144,57 @@ pub fn counts_at(units: &[CodePoint]) -> CountsFound
         Some('*') => counts(0, None),
         Some('+') => counts(1, None),
         Some('?') => counts(0, Some(1)),
-        Some('{') => in_braces(behind),
+        Some('{') => in_braces(behind, steps),
         _ => CountsFound::Nothing,
     }
 }
 
 /// Whether a quantifier's prefix stands first, whatever its numbers are.
 #[tactic(auto, unfolding(rx_model::specs::Reading::Fronts::counts_at))]
-pub fn begins_with_counts(units: &[CodePoint]) -> bool
-    ensures { result ≡ are_counts (counts_at (values units.now)) }
+pub fn begins_with_counts<C: Counter>(units: &[CodePoint], steps: &mut C) -> bool
+    ensures counts { result ≡ are_counts (counts_at (values units.now)) }
+    ensures steps { Rises (C.count steps.old) (C.count steps.new) 0 (plain (drop 1 units.now) + 1) }
 {
     let [first, behind @ ..] = units else {
         return false;
     };
     match char::from_u32(first.value) {
         Some('*' | '+' | '?') => true,
-        Some('{') => are_braces(behind),
+        Some('{') => are_braces(behind, steps),
         _ => false,
     }
 }
 
 /// Whether a quantifier in braces goes on behind its `{`.
-fn are_braces(units: &[CodePoint]) -> bool
-    ensures { result ≡ are_counts (counts_in_braces (digits_behind 0 0 (values units.now))) }
+#[tactic(auto, using(crate::proofs::Paces::run_plain))]
+fn are_braces<C: Counter>(units: &[CodePoint], steps: &mut C) -> bool
+    ensures counts { result ≡ are_counts (counts_in_braces (digits_behind 0 0 (values units.now))) }
+    ensures steps { Rises (C.count steps.old) (C.count steps.new) 0 (plain units.now + 1) }
 {
-    let (_, count) = number_at(units);
-    count > 0 && end_braces(tail(units, count))
+    let (_, count) = number_at(units, steps);
+    count > 0 && end_braces(tail(units, count), steps)
 }
 
 /// Whether a quantifier in braces goes on behind its first number.
-fn end_braces(units: &[CodePoint]) -> bool
-    ensures { (number more : ℕ) → result ≡ are_counts (counts_in_braces (digits number (suc more) (values units.now))) }
+#[tactic(auto, using(crate::proofs::Paces::comma_plain))]
+fn end_braces<C: Counter>(units: &[CodePoint], steps: &mut C) -> bool
+    ensures counts { (number more : ℕ) → result ≡ are_counts (counts_in_braces (digits number (suc more) (values units.now))) }
+    ensures steps { Rises (C.count steps.old) (C.count steps.new) 0 (plain units.now) }
 {
     match units {
         [brace, ..] if brace.value == '}' as u32 => true,
-        [comma, more @ ..] if comma.value == ',' as u32 => end_behind_comma(more),
+        [comma, more @ ..] if comma.value == ',' as u32 => end_behind_comma(more, steps),
         _ => false,
     }
 }
 
 /// Whether a quantifier in braces goes on behind its comma.
-fn end_behind_comma(units: &[CodePoint]) -> bool
-    ensures { (number count : ℕ) → result ≡ are_counts (counts_behind_comma number count (digits_behind 0 0 (values units.now))) }
+#[tactic(auto, using(crate::proofs::Paces::run_under_plain))]
+fn end_behind_comma<C: Counter>(units: &[CodePoint], steps: &mut C) -> bool
+    ensures counts { (number count : ℕ) → result ≡ are_counts (counts_behind_comma number count (digits_behind 0 0 (values units.now))) }
+    ensures steps { Rises (C.count steps.old) (C.count steps.new) 0 (plain units.now + 1) }
 {
-    let (_, more) = number_at(units);
+    let (_, more) = number_at(units, steps);
     matches!(tail(units, more), [brace, ..] if brace.value == '}' as u32)
 }
 

@@ -1,4 +1,5 @@
 ghost use Rattle.std.specs.Prelude.{◌≡◌, ◌+◌, ◌^◌, ◌<◌, ◌≤◌};
+ghost use Rattle.rx_base.specs.Rising.{Rises};
 ghost use Rattle.rx_units.specs.Cursor.{offset_of};
 ghost use Rattle.rx_model.specs.Refusals.Reached.{span_between};
 ghost use Rattle.rx_class.specs.Fitting.{AreFitting};
@@ -7,30 +8,32 @@ ghost use Rattle.rx_parser.specs.HaltPlaces.{halt_end, halt_start};
 
 use crate::builder::Builder;
 use crate::found::{Halt, ModifiersFault};
-use rx_base::{Diagnostic, DigitsKind, Fault, Span, Unterminated};
+use rx_base::{Counter, Diagnostic, DigitsKind, Fault, Span, Unterminated};
 use rx_model::Mode;
 use rx_scan::SpanFactory;
 use rx_units::Reader;
 
 /// Why a pattern is refused that halts where the reader stands. It has n groups.
 #[cold]
-pub fn fault(
+pub fn fault<C: Counter>(
     reader: &mut Reader<'_>,
     spans: &SpanFactory,
     builder: &Builder,
     groups: u32,
     halt: Halt,
+    steps: &mut C,
 ) -> Fault
     requires small { IsSmall halt }
     requires fits { AreFitting spans.now reader.old }
-    ensures { IsHaltFault reader.old.units reader.old.first spans.now reader.old.place builder.now groups halt result }
+    ensures fault { IsHaltFault reader.old.units reader.old.first spans.now reader.old.place builder.now groups halt result }
+    ensures steps { Rises (C.count steps.old) (C.count steps.new) 0 (halt_end halt) }
 {
     if let Halt::Stop { behind } = halt {
-        reader.skip(behind);
+        reader.skip_counted(behind, steps);
         return ended(reader, spans, builder);
     }
     let (from, to) = named_places(halt);
-    let span = span_ahead(reader, spans, from, to);
+    let span = span_ahead(reader, spans, from, to, steps);
     Fault::Diagnostic(refusal(halt, span, groups))
 }
 
@@ -137,16 +140,23 @@ pub fn here(reader: &Reader<'_>, spans: &SpanFactory) -> u32
 }
 
 /// The span from one place ahead to another, in units from where the reader stands. The reader stays there.
-pub fn span_ahead(reader: &mut Reader<'_>, spans: &SpanFactory, from: usize, to: usize) -> Span
+pub fn span_ahead<C: Counter>(
+    reader: &mut Reader<'_>,
+    spans: &SpanFactory,
+    from: usize,
+    to: usize,
+    steps: &mut C,
+) -> Span
     requires order { from ≤ to }
     requires fits { AreFitting spans.now reader.old }
     ensures span { result ≡ span_between reader.old.units reader.old.first spans.now (reader.old.place + from) (reader.old.place + to) }
     ensures reader { reader.new ≡ reader.old }
+    ensures steps { Rises (C.count steps.old) (C.count steps.new) 0 to }
 {
     let checkpoint = reader.checkpoint();
-    reader.skip(from);
+    reader.skip_counted(from, steps);
     let start = reader.offset();
-    reader.skip(to - from);
+    reader.skip_counted(to - from, steps);
     let end = reader.offset();
     reader.rewind(checkpoint);
     spans.create(start, end)

@@ -1,4 +1,5 @@
-ghost use Rattle.std.specs.Prelude.{◌≡◌, ◌-◌, ◌^◌, ◌≤◌, ◌<◌, ◌∷◌, ℕ, Bool, false, All, length, if◌then◌else◌};
+ghost use Rattle.std.specs.Prelude.{◌≡◌, ◌+◌, ◌-◌, ◌^◌, ◌≤◌, ◌<◌, ◌∷◌, ℕ, Bool, false, All, drop, length, if◌then◌else◌};
+ghost use Rattle.rx_base.specs.Rising.{Rises};
 ghost use Rattle.rx_units.specs.Units.{values};
 ghost use Rattle.rx_ast.specs.declared.leaf.CharacterKind.{CharacterKind};
 ghost use Rattle.rx_class.specs.Found.{class_escape_front, seen_escape};
@@ -12,6 +13,7 @@ ghost use Rattle.rx_model.specs.Reading.Fronts.{is_raw_at};
 ghost use Rattle.rx_model.specs.Reading.Rows.{is_legacy_syntax, stands_raw};
 ghost use Rattle.rx_parser.specs.Environments.{seen_environment};
 ghost use Rattle.rx_parser.specs.Found.{IsFound, boundary_front, found_front, found_halt};
+ghost use Rattle.rx_parser.specs.Pace.{LooksAtEscape, LooksAtSyntax, MayFind, escape_looks, looks, plain};
 
 use crate::ahead::stands_at;
 use crate::counts::{CountsFound, begins_with_counts, counts_at};
@@ -20,6 +22,7 @@ use crate::found::{Found, Halt, Leaf};
 use crate::group::group_at;
 use crate::reference::{indexed_at, is_reference, named_at};
 use rx_ast::BoundaryAssertionKind;
+use rx_base::Counter;
 use rx_class::{
     EscapeFound, LegacyContext, character_escape_at, class_escape_at, legacy_escape_at, unit_kind,
 };
@@ -28,30 +31,32 @@ use rx_tables::is_syntax_character;
 use rx_units::CodePoint;
 
 /// What the units begin with, outside classes.
-pub fn front_at(units: &[CodePoint], environment: Environment) -> Found
+pub fn front_at<C: Counter>(units: &[CodePoint], environment: Environment, steps: &mut C) -> Found
     requires few { environment.groups < 2 ^ 32 - 1 }
     requires code_points { All (λ unit. unit.value ≤ 0x10FFFF) units.now }
-    ensures { IsFound (seen_environment environment) units.now result }
+    ensures found { IsFound (seen_environment environment) units.now result }
+    ensures steps { Rises (C.count steps.old) (C.count steps.new) 0 (looks (drop 1 units.now) result) }
 {
-    first_of(units, environment)
+    first_of(units, environment, steps)
 }
 
 /// The same, by how the front is read.
 #[tactic(auto, unfolding(rx_model::specs::Reading::FrontReading::front_read))]
-fn first_of(units: &[CodePoint], environment: Environment) -> Found
+fn first_of<C: Counter>(units: &[CodePoint], environment: Environment, steps: &mut C) -> Found
     requires few { environment.groups < 2 ^ 32 - 1 }
-    ensures { result ≡ found_front (front_read (seen_environment environment) units.now) }
+    ensures found { result ≡ found_front (front_read (seen_environment environment) units.now) }
+    ensures steps { Rises (C.count steps.old) (C.count steps.new) 0 (looks (drop 1 units.now) result) }
 {
     let [first, behind @ ..] = units else {
         return Found::Halt(Halt::Stop { behind: 0 });
     };
     if first.value == '\\' as u32 {
-        return backslash_at(behind, environment);
+        return backslash_at(behind, environment, steps);
     }
     if first.value == '[' as u32 {
         return Found::Class;
     }
-    if is_raw(first.value, behind, units, environment.mode) {
+    if is_raw(first.value, behind, units, environment.mode, steps) {
         return Found::Leaf {
             leaf: Leaf::Character {
                 kind: unit_kind(first.escape_kind),
@@ -60,15 +65,22 @@ fn first_of(units: &[CodePoint], environment: Environment) -> Found
             length: 1,
         };
     }
-    syntax_at(first.value, behind, units, environment.mode)
+    syntax_at(first.value, behind, units, environment.mode, steps)
 }
 
 /// Whether the first unit stands for itself. With neither `u` nor `v` a brace does, where no quantifier begins there.
-fn is_raw(first: u32, behind: &[CodePoint], units: &[CodePoint], mode: Mode) -> bool
+fn is_raw<C: Counter>(
+    first: u32,
+    behind: &[CodePoint],
+    units: &[CodePoint],
+    mode: Mode,
+    steps: &mut C,
+) -> bool
     requires { values units.now ≡ first ∷ values behind.now }
-    ensures { (groups : ℕ) (has_names : Bool) → result ≡ is_raw_at (environment_with mode groups has_names) first (values behind.now) }
+    ensures raw { (groups : ℕ) (has_names : Bool) → result ≡ is_raw_at (environment_with mode groups has_names) first (values behind.now) }
+    ensures steps { Rises (C.count steps.old) (C.count steps.new) 0 (plain (drop 1 units.now) + 1) }
 {
-    stands_raw(first, mode) && (mode.is_unicode() || !begins_with_counts(units))
+    stands_raw(first, mode) && (mode.is_unicode() || !begins_with_counts(units, steps))
 }
 
 /// Whether a value may stand for itself (PatternCharacter of ECMA-262, 22.2.1, and ExtendedPatternCharacter of B.1.2).
@@ -106,23 +118,24 @@ fn boundary_at(behind: &[CodePoint], mode: Mode) -> Option<BoundaryAssertionKind
 }
 
 /// What a backslash and the units behind it begin with.
-fn backslash_at(behind: &[CodePoint], environment: Environment) -> Found
+fn backslash_at<C: Counter>(behind: &[CodePoint], environment: Environment, steps: &mut C) -> Found
     requires few { environment.groups < 2 ^ 32 - 1 }
-    ensures { result ≡ found_front (backslash_read (seen_environment environment) (values behind.now)) }
+    ensures found { result ≡ found_front (backslash_read (seen_environment environment) (values behind.now)) }
+    ensures steps { Rises (C.count steps.old) (C.count steps.new) 0 (looks behind.now result) }
 {
     let [first, more @ ..] = behind else {
         return Found::Halt(behind_last_backslash(environment.mode));
     };
-    if is_reference(behind, environment) {
-        return indexed_at(behind, environment.groups);
+    if is_reference(behind, environment, steps) {
+        return indexed_at(behind, environment.groups, steps);
     }
     if first.value == 'k' as u32 && environment.is_named() {
-        return named_at(more, environment.mode.is_unicode());
+        return named_at(more, environment.mode.is_unicode(), steps);
     }
     if begins_property(first.value) && environment.mode.is_unicode() {
         return Found::Property;
     }
-    escape_at(behind, environment)
+    escape_at(behind, environment, steps)
 }
 
 /// Why no token begins with a backslash at the end of the text.
@@ -144,8 +157,9 @@ fn begins_property(value: u32) -> bool
 }
 
 /// What a backslash and the units behind it, which are neither a reference nor a property, begin with.
-fn escape_at(behind: &[CodePoint], environment: Environment) -> Found
-    ensures { result ≡ found_front (one_of_escapes (boundary_front (seen_environment environment) (values behind.now)) (class_escape_front (values behind.now)) (any_escape_at false (seen_environment environment) (values behind.now))) }
+fn escape_at<C: Counter>(behind: &[CodePoint], environment: Environment, steps: &mut C) -> Found
+    ensures found { result ≡ found_front (one_of_escapes (boundary_front (seen_environment environment) (values behind.now)) (class_escape_front (values behind.now)) (any_escape_at false (seen_environment environment) (values behind.now))) }
+    ensures steps { LooksAtEscape (C.count steps.old) (C.count steps.new) behind.now result }
 {
     if let Some(kind) = boundary_at(behind, environment.mode) {
         return Found::Leaf {
@@ -159,14 +173,15 @@ fn escape_at(behind: &[CodePoint], environment: Environment) -> Found
             length: 2,
         };
     }
-    character_at(behind, environment)
+    character_at(behind, environment, steps)
 }
 
 /// What a backslash and the units behind it, which are neither a boundary nor a class escape, begin with.
-fn character_at(behind: &[CodePoint], environment: Environment) -> Found
-    ensures { result ≡ found_front (escape_read (any_escape_at false (seen_environment environment) (values behind.now))) }
+fn character_at<C: Counter>(behind: &[CodePoint], environment: Environment, steps: &mut C) -> Found
+    ensures found { result ≡ found_front (escape_read (any_escape_at false (seen_environment environment) (values behind.now))) }
+    ensures steps { LooksAtEscape (C.count steps.old) (C.count steps.new) behind.now result }
 {
-    match any_escape_at(behind, environment) {
+    match any_escape_at(behind, environment, steps) {
         EscapeFound::Character {
             kind,
             value,
@@ -187,41 +202,58 @@ fn character_at(behind: &[CodePoint], environment: Environment) -> Found
 }
 
 /// The character escape that the units behind a backslash begin with, outside classes: with neither `u` nor `v` also one of ECMA-262, B.1.2.
-fn any_escape_at(behind: &[CodePoint], environment: Environment) -> EscapeFound
+fn any_escape_at<C: Counter>(
+    behind: &[CodePoint],
+    environment: Environment,
+    steps: &mut C,
+) -> EscapeFound
     ensures read { seen_escape result ≡ any_escape_at false (seen_environment environment) (values behind.now) }
     ensures within { (kind : CharacterKind) (value n : ℕ) → result ≡ EscapeFound.Character kind value n → n ≤ length behind.now }
+    ensures steps { Rises (C.count steps.old) (C.count steps.new) 0 (escape_looks behind.now result) }
 {
-    escape_in_mode(behind, environment)
+    escape_in_mode(behind, environment, steps)
 }
 
-fn escape_in_mode(behind: &[CodePoint], environment: Environment) -> EscapeFound
-    ensures { seen_escape result ≡ any_escape_at false (seen_environment environment) (values behind.now) }
+fn escape_in_mode<C: Counter>(
+    behind: &[CodePoint],
+    environment: Environment,
+    steps: &mut C,
+) -> EscapeFound
+    ensures read { seen_escape result ≡ any_escape_at false (seen_environment environment) (values behind.now) }
+    ensures steps { Rises (C.count steps.old) (C.count steps.new) 0 (escape_looks behind.now result) }
 {
     let unicode_mode = environment.mode.is_unicode();
-    match character_escape_at(behind, unicode_mode) {
+    match character_escape_at(behind, unicode_mode, steps) {
         EscapeFound::Nothing | EscapeFound::Invalid if !unicode_mode => {
             let context = LegacyContext {
                 inside: false,
                 groups: environment.groups,
                 named: environment.is_named(),
             };
-            legacy_escape_at(behind, context)
+            legacy_escape_at(behind, context, steps)
         }
         found => found,
     }
 }
 
 /// What the units begin with, whose first is neither a backslash nor `[` nor stands for itself.
-fn syntax_at(first: u32, behind: &[CodePoint], units: &[CodePoint], mode: Mode) -> Found
+fn syntax_at<C: Counter>(
+    first: u32,
+    behind: &[CodePoint],
+    units: &[CodePoint],
+    mode: Mode,
+    steps: &mut C,
+) -> Found
     requires { values units.now ≡ first ∷ values behind.now }
-    ensures { (groups : ℕ) (has_names : Bool) → result ≡ found_front (syntax_read (environment_with mode groups has_names) first (values behind.now)) }
+    ensures found { (groups : ℕ) (has_names : Bool) → result ≡ found_front (syntax_read (environment_with mode groups has_names) first (values behind.now)) }
+    ensures steps { LooksAtSyntax (C.count steps.old) (C.count steps.new) (length behind.now) result }
 {
     match char::from_u32(first) {
         Some('.') => Found::Leaf {
             leaf: Leaf::Dot,
             length: 1,
         },
-        Some('(') => group_at(behind, mode.is_unicode()),
+        Some('(') => group_at(behind, mode.is_unicode(), steps),
         Some(')') => Found::Close,
         Some('|') => Found::Bar,
         Some('^') => Found::Leaf {
@@ -232,15 +264,16 @@ fn syntax_at(first: u32, behind: &[CodePoint], units: &[CodePoint], mode: Mode) 
             leaf: Leaf::Boundary(BoundaryAssertionKind::End),
             length: 1,
         },
-        _ => quantifier_at(units),
+        _ => quantifier_at(units, steps),
     }
 }
 
 /// The quantifier that the units begin with.
-fn quantifier_at(units: &[CodePoint]) -> Found
-    ensures { result ≡ found_front (quantifier_read (counts_read_at (values units.now)) (values units.now)) }
+fn quantifier_at<C: Counter>(units: &[CodePoint], steps: &mut C) -> Found
+    ensures found { result ≡ found_front (quantifier_read (counts_read_at (values units.now)) (values units.now)) }
+    ensures steps { LooksAtSyntax (C.count steps.old) (C.count steps.new) (length units.now - 1) result }
 {
-    match counts_at(units) {
+    match counts_at(units, steps) {
         CountsFound::Counts { min, max, length } => quantifier(units, min, max, length),
         CountsFound::Nothing => Found::Halt(Halt::Stop { behind: 0 }),
         CountsFound::TooMany { start, digits } => {
@@ -251,7 +284,8 @@ fn quantifier_at(units: &[CodePoint]) -> Found
 
 /// The quantifier of these counts, in n units; or why they may not stand in braces.
 fn quantifier(units: &[CodePoint], min: u64, max: Option<u64>, length: usize) -> Found
-    ensures { result ≡ found_front (quantifier_read (counts_read min max length) (values units.now)) }
+    ensures found { result ≡ found_front (quantifier_read (counts_read min max length) (values units.now)) }
+    ensures looks { MayFind length units.now result }
 {
     if is_out_of_order(min, max) {
         return Found::Halt(Halt::OutOfOrder { length });

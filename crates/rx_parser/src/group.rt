@@ -1,23 +1,27 @@
-ghost use Rattle.std.specs.Prelude.{◌≡◌};
+ghost use Rattle.std.specs.Prelude.{◌≡◌, length};
 ghost use Rattle.rx_units.specs.Units.{values};
 ghost use Rattle.rx_model.specs.Groups.NameFronts.{name_read_at};
 ghost use Rattle.rx_model.specs.Reading.FrontReading.{angle_read, group_read, named_group_read, question_read};
 ghost use Rattle.rx_parser.specs.Found.{found_front};
+ghost use Rattle.rx_parser.specs.Pace.{LooksAtSyntax};
 
 use crate::found::{Found, OpenerFound};
 use crate::modifiers::modifiers_at;
 use crate::name::{NameFound, name_at};
 use rx_ast::LookAroundAssertionKind;
+use rx_base::Counter;
 use rx_units::CodePoint;
 
 /// The group or look-around that `(` and the units behind it begin (Atom and Assertion of ECMA-262, 22.2.1), or why they begin none.
-pub fn group_at(behind: &[CodePoint], unicode_mode: bool) -> Found
-    ensures { result ≡ found_front (group_read unicode_mode (values behind.now)) }
+pub fn group_at<C: Counter>(behind: &[CodePoint], unicode_mode: bool, steps: &mut C) -> Found
+    ensures found { result ≡ found_front (group_read unicode_mode (values behind.now)) }
+    ensures steps { LooksAtSyntax (C.count steps.old) (C.count steps.new) (length behind.now) result }
 {
     match behind {
         [question, more @ ..] if question.value == '?' as u32 => behind_question(
             more,
             unicode_mode,
+            steps,
         ),
         _ => opens(OpenerFound::Capturing, 1),
     }
@@ -30,8 +34,9 @@ fn opens(opener: OpenerFound, length: usize) -> Found
 }
 
 /// The group behind `(?`.
-fn behind_question(units: &[CodePoint], unicode_mode: bool) -> Found
-    ensures { result ≡ found_front (question_read unicode_mode (values units.now)) }
+fn behind_question<C: Counter>(units: &[CodePoint], unicode_mode: bool, steps: &mut C) -> Found
+    ensures found { result ≡ found_front (question_read unicode_mode (values units.now)) }
+    ensures steps { LooksAtSyntax (C.count steps.old) (C.count steps.new) (length units.now) result }
 {
     match units {
         [mark, ..] if mark.value == ':' as u32 => opens(OpenerFound::Ignoring, 3),
@@ -43,8 +48,8 @@ fn behind_question(units: &[CodePoint], unicode_mode: bool) -> Found
             LookAroundAssertionKind::NegativeLookahead,
             3,
         ),
-        [mark, more @ ..] if mark.value == '<' as u32 => behind_angle(more, unicode_mode),
-        _ => modifiers_at(units),
+        [mark, more @ ..] if mark.value == '<' as u32 => behind_angle(more, unicode_mode, steps),
+        _ => modifiers_at(units, steps),
     }
 }
 
@@ -55,8 +60,9 @@ fn look_around(kind: LookAroundAssertionKind, length: usize) -> Found
 }
 
 /// The group behind `(?<`.
-fn behind_angle(units: &[CodePoint], unicode_mode: bool) -> Found
-    ensures { result ≡ found_front (angle_read unicode_mode (values units.now)) }
+fn behind_angle<C: Counter>(units: &[CodePoint], unicode_mode: bool, steps: &mut C) -> Found
+    ensures found { result ≡ found_front (angle_read unicode_mode (values units.now)) }
+    ensures steps { LooksAtSyntax (C.count steps.old) (C.count steps.new) (length units.now) result }
 {
     match units {
         [mark, ..] if mark.value == '=' as u32 => look_around(
@@ -67,15 +73,16 @@ fn behind_angle(units: &[CodePoint], unicode_mode: bool) -> Found
             LookAroundAssertionKind::NegativeLookbehind,
             4,
         ),
-        _ => named(units, unicode_mode),
+        _ => named(units, unicode_mode, steps),
     }
 }
 
 /// The group behind `(?<`, where no look behind begins.
-fn named(units: &[CodePoint], unicode_mode: bool) -> Found
-    ensures { result ≡ found_front (named_group_read (name_read_at unicode_mode (values units.now))) }
+fn named<C: Counter>(units: &[CodePoint], unicode_mode: bool, steps: &mut C) -> Found
+    ensures found { result ≡ found_front (named_group_read (name_read_at unicode_mode (values units.now))) }
+    ensures steps { LooksAtSyntax (C.count steps.old) (C.count steps.new) (length units.now) result }
 {
-    match name_at(units, unicode_mode) {
+    match name_at(units, unicode_mode, steps) {
         NameFound::Name { length } => opens(OpenerFound::Named, length + 4),
         NameFound::Halt(halt) => Found::Halt(halt),
     }

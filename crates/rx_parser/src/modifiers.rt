@@ -1,5 +1,6 @@
-ghost use Rattle.std.specs.Prelude.{◌≡◌, ◌+◌, ◌^◌, ◌<◌, ◌≤◌, true, length, option_map};
+ghost use Rattle.std.specs.Prelude.{◌≡◌, ◌+◌, ◌*◌, ◌^◌, ◌<◌, ◌≤◌, true, MatchOption, length, option_map};
 ghost use Rattle.std.specs.List.{list_all};
+ghost use Rattle.rx_base.specs.Rising.{Rises};
 ghost use Rattle.rx_units.specs.Units.{values};
 ghost use Rattle.rx_model.specs.Groups.GroupFronts.{letters_at, sides_at};
 ghost use Rattle.rx_model.specs.Groups.ModifierFronts.{are_bits, modifiers_read_at, read_bits};
@@ -7,10 +8,12 @@ ghost use Rattle.rx_model.specs.Groups.Modifiers.{is_modifier};
 ghost use Rattle.rx_model.specs.Reading.FrontReading.{modified_read};
 ghost use Rattle.rx_parser.specs.Found.{found_front};
 ghost use Rattle.rx_parser.specs.Modifiers.{modifier_bit, seen_sides};
+ghost use Rattle.rx_parser.specs.Pace.{LooksAtSyntax};
 
 use crate::ahead::stands_at;
 use crate::found::{Found, Halt, ModifiersFault, OpenerFound};
 use rx_ast::Modifier;
+use rx_base::Counter;
 use rx_units::CodePoint;
 
 /// The two sides of modifiers (RegularExpressionModifiers of ECMA-262, 22.2.1) that stand next, and how many units both are, a `-` among them.
@@ -22,16 +25,17 @@ struct Sides<'a> {
 }
 
 /// The group that `(?` and the modifiers behind it begin; or why they may not stand there.
-pub fn modifiers_at(units: &[CodePoint]) -> Found
-    ensures { result ≡ found_front (modified_read (modifiers_read_at (values units.now))) }
+pub fn modifiers_at<C: Counter>(units: &[CodePoint], steps: &mut C) -> Found
+    ensures found { result ≡ found_front (modified_read (modifiers_read_at (values units.now))) }
+    ensures steps { LooksAtSyntax (C.count steps.old) (C.count steps.new) (length units.now) result }
 {
-    let sides = sides_at(units);
+    let sides = sides_at(units, steps);
     if !stands_at(units, sides.length, ':') {
         return halt(ModifiersFault::Unknown, sides.length);
     }
     modified(
-        bits_of(sides.enabling),
-        bits_of(sides.disabling),
+        bits_of(sides.enabling, steps),
+        bits_of(sides.disabling, steps),
         sides.length,
     )
 }
@@ -66,14 +70,16 @@ fn halt(fault: ModifiersFault, length: usize) -> Found
 }
 
 /// The modifiers that the units begin with.
-fn sides_at(units: &[CodePoint]) -> Sides<'_>
+fn sides_at<'a, C: Counter>(units: &'a [CodePoint], steps: &mut C) -> Sides<'a>
     ensures sides { seen_sides result ≡ sides_at (values units.now) }
     ensures within { result.length ≤ length units.now }
+    ensures parts { length result.enabling.now + length result.disabling.now ≤ result.length }
+    ensures steps { Rises (C.count steps.old) (C.count steps.new) 0 (result.length + 1) }
 {
-    let count = letters_at(units);
+    let count = letters_at(units, steps);
     match &units[count..] {
         [dash, behind @ ..] if dash.value == '-' as u32 => {
-            let more = letters_at(behind);
+            let more = letters_at(behind, steps);
             Sides {
                 enabling: &units[..count],
                 disabling: &behind[..more],
@@ -89,11 +95,13 @@ fn sides_at(units: &[CodePoint]) -> Sides<'_>
 }
 
 /// How many letters of modifiers the units begin with.
-fn letters_at(units: &[CodePoint]) -> usize
+fn letters_at<C: Counter>(units: &[CodePoint], steps: &mut C) -> usize
     ensures letters { result ≡ letters_at (values units.now) }
     ensures within { result ≤ length units.now }
+    ensures steps { Rises (C.count steps.old) (C.count steps.new) result (result + 1) }
 {
     for (count, unit) in units.iter().enumerate() {
+        steps.tick();
         if modifier_of(unit.value).is_none() {
             return count;
         }
@@ -102,12 +110,14 @@ fn letters_at(units: &[CodePoint]) -> usize
 }
 
 /// The bits of letters, or none where one is there twice.
-fn bits_of(letters: &[CodePoint]) -> Option<Modifier>
+fn bits_of<C: Counter>(letters: &[CodePoint], steps: &mut C) -> Option<Modifier>
     requires { list_all is_modifier (values letters.now) ≡ true }
-    ensures { option_map (λ it. it.0) result ≡ are_bits (values letters.now) }
+    ensures bits { option_map (λ it. it.0) result ≡ are_bits (values letters.now) }
+    ensures steps { MatchOption result (Rises (C.count steps.old) (C.count steps.new) 1 (length letters.now)) (λ _. C.count steps.new ≡ C.count steps.old + length letters.now) }
 {
     let mut bits = Modifier::empty();
     for letter in letters {
+        steps.tick();
         let bit = modifier_of(letter.value)?;
         if bits.contains(bit) {
             return None;

@@ -1,15 +1,18 @@
-ghost use Rattle.std.specs.Prelude.{◌≡◌, IsTrue, true, ℕ, ◌+◌, ◌^◌, ◌<◌, ◌≤◌, List, length};
+ghost use Rattle.std.specs.Prelude.{◌≡◌, IsTrue, true, false, ℕ, ◌+◌, ◌^◌, ◌<◌, ◌≤◌, List, length};
+ghost use Rattle.rx_base.specs.Rising.{Rises};
 ghost use Rattle.rx_units.specs.Units.{values};
 ghost use Rattle.rx_model.specs.Characters.Decoding.{decoded};
 ghost use Rattle.rx_model.specs.FirstPass.Marks.{starts};
 ghost use Rattle.rx_model.specs.Groups.NameFronts.{begins_pair, escape_halt, name_read_at, read_behind_name};
 ghost use Rattle.rx_parser.specs.HaltPlaces.{halt_end};
 ghost use Rattle.rx_parser.specs.Names.{found_name, found_name_halt, name_end};
+ghost use Rattle.rx_parser.specs.Pace.{halt_looks, name_looks};
+ghost use Rattle.rx_parser.specs.declared.name.NameFound.{NameFound};
 
 use crate::ahead::tail;
 use crate::found::Halt;
-use rx_base::{is_lead_surrogate, is_trail_surrogate};
-use rx_scan::{UnicodeEscape, decode, group_name_length};
+use rx_base::{Counter, is_lead_surrogate, is_trail_surrogate};
+use rx_scan::{UnicodeEscape, decode_counted, group_name_length_counted};
 use rx_units::CodePoint;
 
 /// What stands behind `(?<` or `\k<`.
@@ -22,24 +25,32 @@ pub enum NameFound {
 }
 
 /// The name behind `(?<` or `\k<` (GroupName of ECMA-262, 22.2.1), or why there is none.
-pub fn name_at(units: &[CodePoint], unicode_mode: bool) -> NameFound
+pub fn name_at<C: Counter>(units: &[CodePoint], unicode_mode: bool, steps: &mut C) -> NameFound
     ensures read { result ≡ found_name (name_read_at unicode_mode (values units.now)) }
     ensures within { name_end result ≤ length units.now + 3 }
+    ensures steps { Rises (C.count steps.old) (C.count steps.new) 0 (name_looks (length units.now) result) }
 {
-    let length = group_name_length(units, unicode_mode);
-    behind_name(length, tail(units, length), unicode_mode)
+    let length = group_name_length_counted(units, unicode_mode, steps);
+    behind_name(length, tail(units, length), unicode_mode, steps)
 }
 
 /// What stands behind n units of a name.
-fn behind_name(count: usize, units: &[CodePoint], unicode_mode: bool) -> NameFound
+fn behind_name<C: Counter>(
+    count: usize,
+    units: &[CodePoint],
+    unicode_mode: bool,
+    steps: &mut C,
+) -> NameFound
     requires { count + 6 + length units.now < 2 ^ 64 }
     ensures read { (name : List ℕ) → result ≡ found_name (read_behind_name unicode_mode name count (values units.now)) }
     ensures within { name_end result ≤ count + length units.now + 3 }
+    ensures ends { (n : ℕ) → result ≡ NameFound.Name n → (n ≡ count) × (starts 92 (values units.now) ≡ false) }
+    ensures steps { Rises (C.count steps.old) (C.count steps.new) 0 (halt_looks (length units.now) result) }
 {
     match units {
         [end, ..] if count > 0 && end.value == '>' as u32 => NameFound::Name { length: count },
         [backslash, behind @ ..] if backslash.value == '\\' as u32 => {
-            NameFound::Halt(escape_in_name(count, behind, unicode_mode))
+            NameFound::Halt(escape_in_name(count, behind, unicode_mode, steps))
         }
         _ if !unicode_mode && begins_with_pair(units) => {
             NameFound::Halt(Halt::MisplacedPair { start: count + 3 })
@@ -60,12 +71,18 @@ fn begins_with_pair(units: &[CodePoint]) -> bool
 }
 
 /// Why what stands behind n units of a name and a backslash is none of the name's characters.
-fn escape_in_name(count: usize, behind: &[CodePoint], unicode_mode: bool) -> Halt
+fn escape_in_name<C: Counter>(
+    count: usize,
+    behind: &[CodePoint],
+    unicode_mode: bool,
+    steps: &mut C,
+) -> Halt
     requires { count + 6 + length behind.now < 2 ^ 64 }
     ensures read { result ≡ found_name_halt (escape_halt unicode_mode count (values behind.now) (decoded true (values behind.now))) }
     ensures within { halt_end result ≤ count + 4 + length behind.now }
+    ensures steps { Rises (C.count steps.old) (C.count steps.new) 0 (length behind.now + 4) }
 {
-    match decode(behind, true) {
+    match decode_counted(behind, true, steps) {
         UnicodeEscape::Value { length: escape, .. } => Halt::InvalidEscape {
             start: count + 3,
             length: escape + 1,

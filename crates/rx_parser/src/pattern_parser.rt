@@ -1,4 +1,4 @@
-ghost use Rattle.std.specs.Prelude.{◌≡◌, ◌+◌, ◌<◌, ◌^◌, All, IfErr, IfOk, OnOk};
+ghost use Rattle.std.specs.Prelude.{◌≡◌, ◌+◌, ◌*◌, ◌<◌, ◌≤◌, ◌^◌, All, IfErr, IfOk, OnOk, length};
 ghost use Rattle.rx_scan.specs.StateFaults.{mode_of_state};
 ghost use Rattle.rx_class.specs.Fitting.{AreFitting};
 ghost use Rattle.rx_parser.specs.Parsing.{AnswersUnits, HoldsPass, IsRefused, IsWhole};
@@ -7,11 +7,13 @@ use crate::builder::Builder;
 use crate::fault::{ended, here};
 use crate::turn::turn;
 use rx_ast::Pattern;
-use rx_base::{Diagnostic, Fault};
+use rx_base::{Counter, Diagnostic, Fault, Steps};
 use rx_model::Mode;
 use rx_scan::{SpanFactory, State, StateFault};
 use rx_units::Reader;
 use std::alloc::Global;
+use std::marker::Brand;
+use std::sync::ledger::{Blank, Ledger};
 
 /// Reads a pattern from the units of a reader.
 #[derive(Drop)]
@@ -52,6 +54,20 @@ impl<'a> PatternParser<'a> {
 
         ensures { AnswersUnits (mode_of_state self.entry.state) self.entry.reader.units self.entry.reader.first self.entry.spans result }
     {
+        parse_alone::<Brand>(self, Blank::new(1))
+    }
+
+    /// Reads the pattern as `parse` does, and counts each unit that is moved over, and each turn of a loop that looks ahead: at most eight steps for each
+    /// unit, and eight more; of a pattern that is read at least two for each unit.
+    pub fn parse_counted<C: Counter>(self, steps: &mut C) -> Result<Pattern, Fault>
+        requires start { self.reader.place ≡ 0 }
+        requires first { self.reader.first + self.spans < 2 ^ 32 }
+        requires fits { All (λ unit. unit.span.end + self.spans < 2 ^ 32) self.reader.units }
+
+        ensures answer { AnswersUnits (mode_of_state self.entry.state) self.entry.reader.units self.entry.reader.first self.entry.spans result }
+        ensures steps { C.count steps.new ≤ C.count steps.old + 8 * (length self.entry.reader.units + 1) }
+        ensures all { OnOk result (C.count steps.old + 2 * length self.entry.reader.units ≤ C.count steps.new) }
+    {
         let PatternParser {
             alloc,
             mut reader,
@@ -59,20 +75,40 @@ impl<'a> PatternParser<'a> {
             spans,
         } = self;
         let mode = Mode::of(state.unicode_mode, state.unicode_sets_mode);
-        first_pass(&mut state, &mut reader, &spans)?;
-        read_pattern(alloc, &mut reader, &state, &spans, mode)
+        first_pass(&mut state, &mut reader, &spans, steps)?;
+        read_pattern(alloc, &mut reader, &state, &spans, mode, steps)
     }
 }
 
+/// Reads the pattern with a counter that no one sees.
+fn parse_alone<L: Ledger>(parser: PatternParser<'_>, blank: Blank) -> Result<Pattern, Fault>
+    requires name { blank.name ≡ L.name }
+    requires parts { blank.parts ≡ L.parts }
+    requires one { blank.parts ≡ 1 }
+    requires start { parser.reader.place ≡ 0 }
+    requires first { parser.reader.first + parser.spans < 2 ^ 32 }
+    requires fits { All (λ unit. unit.span.end + parser.spans < 2 ^ 32) parser.reader.units }
+    ensures { AnswersUnits (mode_of_state parser.entry.state) parser.entry.reader.units parser.entry.reader.first parser.entry.spans result }
+{
+    parser.parse_counted(&mut Steps::<L>::new(blank))
+}
+
 /// Counts the groups of the text and lists their names, or tells why the text is refused for them.
-fn first_pass(state: &mut State, reader: &mut Reader<'_>, spans: &SpanFactory) -> Result<(), Fault>
+fn first_pass<C: Counter>(
+    state: &mut State,
+    reader: &mut Reader<'_>,
+    spans: &SpanFactory,
+    steps: &mut C,
+) -> Result<(), Fault>
     requires start { reader.old.place ≡ 0 }
     requires fits { AreFitting spans.now reader.old }
     ensures reader { reader.new ≡ reader.old }
     ensures pass { OnOk result (HoldsPass (mode_of_state state.old) reader.old.units state.new) }
     ensures refused { IfErr result (IsRefused (mode_of_state state.old) reader.old.units reader.old.first spans.now) }
+    ensures steps { C.count steps.new ≤ C.count steps.old + length reader.old.units }
+    ensures all { OnOk result (C.count steps.new ≡ C.count steps.old + length reader.old.units) }
 {
-    match state.initialize_with_parsing(reader) {
+    match state.initialize_with_parsing_counted(reader, steps) {
         Ok(()) if state.num_of_capturing_groups < u32::MAX => Ok(()),
         Ok(()) => {
             let span = spans.create(0, 0);
@@ -92,23 +128,26 @@ fn first_pass(state: &mut State, reader: &mut Reader<'_>, spans: &SpanFactory) -
 const TERMS_RESERVED: usize = 16;
 
 /// The tree of a text that is read already, and whose groups are counted.
-fn read_pattern(
+fn read_pattern<C: Counter>(
     alloc: Global,
     reader: &mut Reader<'_>,
     state: &State,
     spans: &SpanFactory,
     mode: Mode,
+    steps: &mut C,
 ) -> Result<Pattern, Fault>
     requires start { reader.old.place ≡ 0 }
     requires fits { AreFitting spans.now reader.old }
     requires pass { HoldsPass mode reader.old.units state.now }
     ensures whole { IfOk result (IsWhole mode reader.old.units reader.old.first spans.now) }
     ensures refused { IfErr result (IsRefused mode reader.old.units reader.old.first spans.now) }
+    ensures steps { C.count steps.new ≤ C.count steps.old + 7 * length reader.old.units + 8 }
+    ensures all { OnOk result (C.count steps.old + length reader.old.units ≤ C.count steps.new) }
 {
     let capacity = reader.remaining_code_points().len().min(TERMS_RESERVED);
     let mut builder = Builder::with_capacity(alloc, mode, here(reader, spans), capacity)?;
     while !reader.remaining_code_points().is_empty() {
-        turn(alloc, reader, state, spans, &mut builder)?;
+        turn(alloc, reader, state, spans, &mut builder, steps)?;
     }
     if !builder.is_whole() {
         return Err(ended(reader, spans, &builder));

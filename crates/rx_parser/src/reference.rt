@@ -1,4 +1,5 @@
-ghost use Rattle.std.specs.Prelude.{◌≡◌, ◌-◌, ◌^◌, ◌<◌, nat_le};
+ghost use Rattle.std.specs.Prelude.{◌≡◌, ◌+◌, ◌*◌, ◌-◌, ◌^◌, ◌<◌, ◌≤◌, IsTrue, length, min, nat_le};
+ghost use Rattle.rx_base.specs.Rising.{Rises};
 ghost use Rattle.rx_units.specs.Units.{values};
 ghost use Rattle.rx_model.specs.Groups.NameFronts.{name_read_at};
 ghost use Rattle.rx_model.specs.Reading.FrontReading.{indexed_read, reference_read, with_name};
@@ -7,46 +8,57 @@ ghost use Rattle.rx_model.specs.Reading.Fronts.{digits_behind, is_reference};
 ghost use Rattle.rx_model.specs.Trees.Token.{named};
 ghost use Rattle.rx_parser.specs.Environments.{seen_environment};
 ghost use Rattle.rx_parser.specs.Found.{found_front};
+ghost use Rattle.rx_parser.specs.Pace.{LooksAtSyntax, digit_run};
 
 use crate::ahead::number_at;
 use crate::environment::Environment;
 use crate::found::{Found, Halt, Leaf};
 use crate::name::{NameFound, name_at};
+use rx_base::Counter;
 use rx_tables::is_decimal_digit;
 use rx_units::CodePoint;
 
 /// Whether a reference by number stands behind a backslash (DecimalEscape of ECMA-262, 22.2.1): with neither `u` nor `v` one whose number is at most that
 /// of the groups (B.1.2).
-pub fn is_reference(behind: &[CodePoint], environment: Environment) -> bool
+pub fn is_reference<C: Counter>(
+    behind: &[CodePoint],
+    environment: Environment,
+    steps: &mut C,
+) -> bool
     requires few { environment.groups < 2 ^ 32 - 1 }
-    ensures { result ≡ is_reference (seen_environment environment) (values behind.now) }
+    ensures reference { result ≡ is_reference (seen_environment environment) (values behind.now) }
+    ensures steps { Rises (C.count steps.old) (C.count steps.new) 0 (min (2 * digit_run behind.now) (digit_run behind.now + 1)) }
 {
     begins_with_first_digit(behind)
-        && (environment.mode.is_unicode() || is_at_most(behind, environment.groups))
+        && (environment.mode.is_unicode() || is_at_most(behind, environment.groups, steps))
 }
 
 /// Whether a digit from 1 to 9 stands first.
+#[tactic(auto, using(crate::proofs::Paces::run_begins))]
 fn begins_with_first_digit(units: &[CodePoint]) -> bool
-    ensures { result ≡ begins_run (values units.now) }
+    ensures run { result ≡ begins_run (values units.now) }
+    ensures some { IsTrue result → 1 ≤ digit_run units.now }
 {
     units.first().is_some_and(|unit| is_decimal_digit(unit.value) && unit.value != '0' as u32)
 }
 
 /// Whether the number of the digits that the units begin with is at most that of the groups.
-fn is_at_most(units: &[CodePoint], groups: u32) -> bool
+fn is_at_most<C: Counter>(units: &[CodePoint], groups: u32, steps: &mut C) -> bool
     requires few { groups < 2 ^ 32 - 1 }
-    ensures { result ≡ nat_le (run_number 0 (values units.now)) groups }
+    ensures most { result ≡ nat_le (run_number 0 (values units.now)) groups }
+    ensures steps { Rises (C.count steps.old) (C.count steps.new) 0 (digit_run units.now + 1) }
 {
-    let (number, _) = number_at(units);
+    let (number, _) = number_at(units, steps);
     number <= groups
 }
 
 /// The reference behind a backslash, whose number begins with a digit that is not 0 (DecimalEscape of ECMA-262, 22.2.1), in a pattern with n groups.
-pub fn indexed_at(behind: &[CodePoint], groups: u32) -> Found
+pub fn indexed_at<C: Counter>(behind: &[CodePoint], groups: u32, steps: &mut C) -> Found
     requires few { groups < 2 ^ 32 - 1 }
-    ensures { result ≡ found_front (indexed_read groups (digits_behind 0 0 (values behind.now))) }
+    ensures found { result ≡ found_front (indexed_read groups (digits_behind 0 0 (values behind.now))) }
+    ensures steps { LooksAtSyntax (C.count steps.old) (C.count steps.new) (length behind.now) result }
 {
-    let (index, count) = number_at(behind);
+    let (index, count) = number_at(behind, steps);
     let length = count + 1;
     if index > groups {
         return Found::Halt(Halt::NoSuchGroup { length });
@@ -58,20 +70,22 @@ pub fn indexed_at(behind: &[CodePoint], groups: u32) -> Found
 }
 
 /// The reference by name behind `\k` (AtomEscape of ECMA-262, 22.2.1).
-pub fn named_at(behind: &[CodePoint], unicode_mode: bool) -> Found
-    ensures { result ≡ found_front (reference_read unicode_mode (values behind.now)) }
+pub fn named_at<C: Counter>(behind: &[CodePoint], unicode_mode: bool, steps: &mut C) -> Found
+    ensures found { result ≡ found_front (reference_read unicode_mode (values behind.now)) }
+    ensures steps { LooksAtSyntax (C.count steps.old) (C.count steps.new) (length behind.now) result }
 {
     match behind {
-        [angle, name @ ..] if angle.value == '<' as u32 => named(name, unicode_mode),
+        [angle, name @ ..] if angle.value == '<' as u32 => named(name, unicode_mode, steps),
         _ => Found::Halt(Halt::NoGroupName),
     }
 }
 
 /// The reference by name behind `\k<`.
-fn named(units: &[CodePoint], unicode_mode: bool) -> Found
-    ensures { result ≡ found_front (with_name named (name_read_at unicode_mode (values units.now))) }
+fn named<C: Counter>(units: &[CodePoint], unicode_mode: bool, steps: &mut C) -> Found
+    ensures found { result ≡ found_front (with_name named (name_read_at unicode_mode (values units.now))) }
+    ensures steps { LooksAtSyntax (C.count steps.old) (C.count steps.new) (length units.now) result }
 {
-    match name_at(units, unicode_mode) {
+    match name_at(units, unicode_mode, steps) {
         NameFound::Name { length } => Found::NamedReference { length: length + 4 },
         NameFound::Halt(halt) => Found::Halt(halt),
     }

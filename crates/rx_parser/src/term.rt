@@ -1,4 +1,4 @@
-ghost use Rattle.std.specs.Prelude.{◌≡◌, ℕ, IfOk, List};
+ghost use Rattle.std.specs.Prelude.{◌≡◌, ◌+◌, ◌-◌, ◌*◌, ◌≤◌, ℕ, IfOk, List, OnOk};
 ghost use Rattle.rx_ast.specs.ClassTree.{mirror_class};
 ghost use Rattle.rx_ast.specs.Tree as tree;
 ghost use Rattle.rx_ast.specs.Tree.{leaf, mirror_term};
@@ -17,9 +17,9 @@ use rx_ast::{
     BoundaryAssertion, Character, CharacterClass, CharacterClassEscape, Dot, IndexedReference,
     Modifiers, NamedReference, Term, UnicodePropertyEscape,
 };
-use rx_base::{OutOfMemory, Span, Text};
+use rx_base::{Counter, OutOfMemory, Span, Text};
 use rx_model::Mode;
-use rx_scan::{SpanFactory, capturing_group_name};
+use rx_scan::{SpanFactory, capturing_group_name_counted};
 use rx_units::{CodePoint, Reader};
 use std::alloc::Global;
 
@@ -62,40 +62,46 @@ pub fn class_term(alloc: Global, class: CharacterClass) -> Result<Term, OutOfMem
 }
 
 /// The name in what n units are, a group's beginning or a reference: it stands between the third unit and the `>` at their end.
-pub fn name_in(
+pub fn name_in<C: Counter>(
     alloc: Global,
     units: &[CodePoint],
     length: usize,
     unicode_mode: bool,
+    steps: &mut C,
 ) -> Result<Text, OutOfMemory>
     requires { (name : List ℕ) × HoldsName unicode_mode units.now name length }
-    ensures { IfOk result (λ it. HoldsName unicode_mode units.now it length) }
+    ensures name { IfOk result (λ it. HoldsName unicode_mode units.now it length) }
+    ensures steps { C.count steps.new ≤ C.count steps.old + 2 * (length - 1) }
+    ensures least { OnOk result (C.count steps.old ≤ C.count steps.new) }
 {
-    match capturing_group_name(alloc, &units[3..length - 1], unicode_mode)? {
+    match capturing_group_name_counted(alloc, &units[3..length - 1], unicode_mode, steps)? {
         Some(name) => Ok(name),
         None => unreachable!(),
     }
 }
 
 /// What a group or look-around of n units, which stands next, begins with. The reader stays where it stands.
-pub fn group_kind(
+pub fn group_kind<C: Counter>(
     alloc: Global,
     reader: &mut Reader<'_>,
     spans: &SpanFactory,
     mode: Mode,
     opener: OpenerFound,
     length: usize,
+    steps: &mut C,
 ) -> Result<GroupKind, OutOfMemory>
     requires fits { AreFitting spans.now reader.old }
     requires found { IsFound (text_environment mode reader.old.units) (rest reader.old) (Found.Open opener length) }
     ensures group_kind { IfOk result (IsGroupKindOf mode reader.old spans.now length opener) }
     ensures reader { reader.new ≡ reader.old }
+    ensures steps { C.count steps.new ≤ C.count steps.old + 2 * (length - 1) }
+    ensures least { OnOk result (C.count steps.old ≤ C.count steps.new) }
 {
     match opener {
         OpenerFound::Capturing => Ok(GroupKind::Capturing(None)),
         OpenerFound::Named => {
             let units = reader.remaining_code_points();
-            let name = name_in(alloc, units, length, mode.is_unicode())?;
+            let name = name_in(alloc, units, length, mode.is_unicode(), steps)?;
             Ok(GroupKind::Capturing(Some(name)))
         }
         OpenerFound::Ignoring => Ok(GroupKind::Ignoring(None)),
@@ -103,7 +109,7 @@ pub fn group_kind(
             enabling,
             disabling,
         } => {
-            let span = span_ahead(reader, spans, 2, length - 1);
+            let span = span_ahead(reader, spans, 2, length - 1, steps);
             Ok(GroupKind::Ignoring(Some(Modifiers {
                 span,
                 enabling,

@@ -12,4 +12,6 @@ mod script;
 #[cfg(test)]
 mod shown;
 #[cfg(test)]
+mod steps;
+#[cfg(test)]
 mod trees;

@@ -25,6 +25,13 @@ pub at_place : (unicode_mode : Bool) (us : List CodePoint) (place : ℕ) (o : Na
 at_place unicode_mode us place o h =
     h ∙ ap (λ (ws : List CodePoint). name_character_at unicode_mode (place == 0) (values ws)) (take_all (length us - place) (drop place us) (le_of_eq (length-drop place us)))
 
+pub rest_values : (us : List CodePoint) (place : ℕ) → values (take (length us - place) (drop place us)) ≡ drop place (values us)
+rest_values us place =
+    ap (λ (ws : List CodePoint). values ws) (take_all (length us - place) (drop place us) (le_of_eq (length-drop place us))) ∙ sym (drop-map (λ (u : CodePoint). u.value) place us)
+
+pub rest_length : (us : List CodePoint) (place : ℕ) → length (take (length us - place) (drop place us)) ≡ length us - place
+rest_length us place = ap length (take_all (length us - place) (drop place us) (le_of_eq (length-drop place us))) ∙ length-drop place us
+
 -- before the first character no name is read
 pub no_name_yet : (unicode_mode : Bool) (us : List CodePoint) (name : List ℕ) → name ≡ [] → name_at unicode_mode (values us) ≡ row_behind name 0 (row_after unicode_mode true 0 (values us))
 no_name_yet unicode_mode us name none = sym (row_behind_none (name_at unicode_mode (values us))) ∙ ap (λ cs. row_behind cs 0 (name_at unicode_mode (values us))) (sym none)

@@ -4,6 +4,8 @@ pub mod GroupNames
 pub mod Modes
 pub mod Fits
 pub mod Steps
+pub mod EscapeAnswers
+pub mod EscapeCounts
 pub mod MarkSteps
 pub mod GroupSteps
 pub mod KnownNames

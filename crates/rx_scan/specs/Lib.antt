@@ -1,3 +1,4 @@
+pub mod DecodingSteps
 pub mod EscapeDecoding
 pub mod FirstPass
 pub mod GroupNames

@@ -12,7 +12,7 @@ use crate::last_openings::LastOpenings;
 use crate::mark::{Mark, is_plain, read_mark};
 use crate::open_groups::OpenGroups;
 use crate::{Names, capturing_group_name};
-use rx_base::{List, OutOfMemory, Text};
+use rx_base::{Counter, List, OutOfMemory, Text};
 use rx_model::Mode;
 use rx_units::CodePoint;
 use std::alloc::Global;
@@ -69,25 +69,33 @@ fn tail(units: &[CodePoint], place: usize) -> &[CodePoint]
 
 impl FirstPass {
     /// Counts the groups of a text and lists their names (CountLeftCapturingParensWithin of ECMA-262, 22.2.1.2), or finds the first
-    /// two equal names of which no bar parts the one from the other (22.2.1.1).
+    /// two equal names of which no bar parts the one from the other (22.2.1.1). Counts one for each unit that it goes over.
     #[tactic(auto, unfolding(rx_model::specs::Refusals::Reached::text_groups, rx_model::specs::Refusals::Reached::text_names))]
-    pub fn over(alloc: Global, units: &[CodePoint], mode: Mode) -> Result<FirstPass, PassFault>
+    pub fn over<C: Counter>(
+        alloc: Global,
+        units: &[CodePoint],
+        mode: Mode,
+        steps: &mut C,
+    ) -> Result<FirstPass, PassFault>
         ensures mode { IfOk result (λ pass. pass.mode ≡ mode) }
         ensures count { IfOk result (λ pass. pass.count ≡ text_groups mode units.now) }
         ensures names { IfOk result (λ pass. pass.names ≡ text_names mode units.now) }
         ensures clean { IfOk result (λ pass. HasNoClash mode units.now) }
         ensures fault { IfErr result (IsPassFault mode (values units.now)) }
+        ensures all { OnOk result (C.count steps.new ≡ C.count steps.old + length units.now) }
+        ensures most { C.count steps.new ≤ C.count steps.old + length units.now }
     {
         let mut pass = FirstPass::new(alloc, mode);
         let mut place = 0usize;
         let mut index = 0usize;
         while place < units.len() {
             if is_plain(units[place].value) {
+                steps.tick();
                 place += 1;
                 index += 1;
                 continue;
             }
-            let (mark, taken) = read_mark(tail(units, place), mode);
+            let (mark, taken) = read_mark(tail(units, place), mode, steps);
             match pass.step(alloc, mark, place, index) {
                 Ok(()) => {}
                 Err(fault) => return Err(fault),

@@ -1,18 +1,25 @@
-ghost use Rattle.std.specs.Prelude.{◌≡◌, ◌↔◌, ◌≤◌, ℕ, true, List, Some, None, IfOk, length, if◌then◌else◌};
+ghost use Rattle.std.specs.Prelude.{◌≡◌, ◌↔◌, ◌+◌, ◌*◌, ◌<◌, ◌≤◌, ℕ, false, true, drop, List, Some, None, IfOk, IfSome, length, if◌then◌else◌};
+ghost use Rattle.rx_base.specs.Rising.{Rises};
 ghost use Rattle.rx_base.specs.SurrogatePair.{surrogate_pair};
 ghost use Rattle.rx_units.specs.Units.{values};
 ghost use Rattle.rx_model.specs.Characters.Decoding.{decoded};
+ghost use Rattle.rx_model.specs.FirstPass.Marks.{starts};
 ghost use Rattle.rx_model.specs.Groups.GroupNameReading.{escape_in_name, name_at, name_character_at, name_of, pair_at, raw_at, row};
 ghost use Rattle.rx_model.specs.Groups.GroupNames.{IsGroupName, IsNameRow, is_in_name, is_pair_in_name};
 ghost use Rattle.rx_scan.specs.GroupNames.{seen_character};
 
-use crate::{UnicodeEscape, decode};
-use rx_base::{OutOfMemory, Text, combine_surrogate_pair, is_lead_surrogate, is_trail_surrogate};
+use crate::{UnicodeEscape, decode_counted};
+use rx_base::{
+    Counter, OutOfMemory, Steps, Text, combine_surrogate_pair, is_lead_surrogate,
+    is_trail_surrogate,
+};
 use rx_tables::{
     is_identifier_part_char, is_identifier_start_char, is_unicode_id_continue, is_unicode_id_start,
 };
 use rx_units::CodePoint;
 use std::alloc::Global;
+use std::marker::Brand;
+use std::sync::ledger::{Blank, Ledger};
 
 /// The name that all units spell (RegExpIdentifierName of ECMA-262, 22.2.1), with its escapes read; none where they spell
 /// no name. The units are code points in unicode mode, else UTF-16 code units.
@@ -24,13 +31,45 @@ pub fn capturing_group_name(
     ensures read { IfOk result (λ found. found ≡ name_of unicode_mode (values units.now)) }
     ensures name { IfOk result (λ found. (name : List ℕ) → (found ≡ Some name) ↔ IsGroupName unicode_mode (values units.now) name) }
 {
+    name_alone::<Brand>(alloc, units, unicode_mode, Blank::new(1))
+}
+
+/// The same, with a counter of its own.
+fn name_alone<L: Ledger>(
+    alloc: Global,
+    units: &[CodePoint],
+    unicode_mode: bool,
+    blank: Blank,
+) -> Result<Option<Text>, OutOfMemory>
+    requires name { blank.name ≡ L.name }
+    requires parts { blank.parts ≡ L.parts }
+    requires one { blank.parts ≡ 1 }
+    ensures read { IfOk result (λ found. found ≡ name_of unicode_mode (values units.now)) }
+    ensures name { IfOk result (λ found. (name : List ℕ) → (found ≡ Some name) ↔ IsGroupName unicode_mode (values units.now) name) }
+{
+    capturing_group_name_counted(alloc, units, unicode_mode, &mut Steps::<L>::new(blank))
+}
+
+/// Reads a name as `capturing_group_name` does, and counts one for each of its characters, and the digits of an escape as `decode_counted` does.
+pub fn capturing_group_name_counted<C: Counter>(
+    alloc: Global,
+    units: &[CodePoint],
+    unicode_mode: bool,
+    steps: &mut C,
+) -> Result<Option<Text>, OutOfMemory>
+    ensures read { IfOk result (λ found. found ≡ name_of unicode_mode (values units.now)) }
+    ensures name { IfOk result (λ found. (name : List ℕ) → (found ≡ Some name) ↔ IsGroupName unicode_mode (values units.now) name) }
+    ensures steps { Rises (C.count steps.old) (C.count steps.new) 0 (2 * length units.now + 4) }
+    ensures least { IfOk result (λ found. IfSome found (λ _. length units.now + 2 * C.count steps.old ≤ 2 * C.count steps.new)) }
+{
     if units.is_empty() {
         return Ok(None);
     }
     let mut name = Text::from_str(alloc, "")?;
     let mut place = 0;
     while place < units.len() {
-        match name_character(&units[place..], unicode_mode, place == 0) {
+        steps.tick();
+        match name_character(&units[place..], unicode_mode, place == 0, steps) {
             Some((character, length)) => {
                 name.push(character)?;
                 place += length;
@@ -42,15 +81,24 @@ pub fn capturing_group_name(
 }
 
 /// How many units the longest row of a name's characters (RegExpIdentifierName of ECMA-262, 22.2.1) takes at the front of the units: none where no
-/// name stands there. The units are code points in unicode mode, else UTF-16 code units.
-pub fn group_name_length(units: &[CodePoint], unicode_mode: bool) -> usize
+/// name stands there. The units are code points in unicode mode, else UTF-16 code units. Counts one for each character that is looked at, and the
+/// digits of an escape as `decode_counted` does.
+pub fn group_name_length_counted<C: Counter>(
+    units: &[CodePoint],
+    unicode_mode: bool,
+    steps: &mut C,
+) -> usize
     ensures within { result ≤ length units.now }
     ensures read { (name : List ℕ) × (name_at unicode_mode (values units.now) ≡ row name result) }
     ensures longest { IsNameRow unicode_mode (values units.now) result }
+    ensures ends { starts 92 (drop result (values units.now)) ≡ false → C.count steps.new ≤ C.count steps.old + 2 * result + 1 }
+    ensures most { C.count steps.new ≤ C.count steps.old + length units.now + result + 4 }
+    ensures least { result + 2 * C.count steps.old ≤ 2 * C.count steps.new }
 {
     let mut length = 0;
     while length < units.len() {
-        match name_character(&units[length..], unicode_mode, length == 0) {
+        steps.tick();
+        match name_character(&units[length..], unicode_mode, length == 0, steps) {
             Some((_, count)) => length += count,
             None => return length,
         }
@@ -59,11 +107,21 @@ pub fn group_name_length(units: &[CodePoint], unicode_mode: bool) -> usize
 }
 
 /// The character of a name that the units begin with, and how many units spell it.
-fn name_character(units: &[CodePoint], unicode_mode: bool, first: bool) -> Option<(char, usize)>
-    ensures { seen_character result ≡ name_character_at unicode_mode first (values units.now) }
+fn name_character<C: Counter>(
+    units: &[CodePoint],
+    unicode_mode: bool,
+    first: bool,
+    steps: &mut C,
+) -> Option<(char, usize)>
+    ensures read { seen_character result ≡ name_character_at unicode_mode first (values units.now) }
+
+    // With the step of the turn in which it is read.
+    ensures found { IfSome result (λ read. (read.1 + 2 * C.count steps.old ≤ 2 * (C.count steps.new + 1)) × (C.count steps.new + 1 ≤ C.count steps.old + 2 * read.1)) }
+    ensures steps { Rises (C.count steps.old) (C.count steps.new) 0 (length units.now + 3) }
+    ensures raw { starts 92 (values units.now) ≡ false → C.count steps.new ≡ C.count steps.old }
 {
     match units {
-        [backslash, escape @ ..] if backslash.value == '\\' as u32 => escaped(escape, first),
+        [backslash, escape @ ..] if backslash.value == '\\' as u32 => escaped(escape, first, steps),
         [unit, rest @ ..] => raw(unit.value, rest, unicode_mode, first),
         [] => None,
     }
@@ -71,7 +129,8 @@ fn name_character(units: &[CodePoint], unicode_mode: bool, first: bool) -> Optio
 
 /// The character of a name that a unit is, by itself or with the next.
 fn raw(value: u32, behind: &[CodePoint], unicode_mode: bool, first: bool) -> Option<(char, usize)>
-    ensures { seen_character result ≡ raw_at unicode_mode first value (values behind.now) }
+    ensures read { seen_character result ≡ raw_at unicode_mode first value (values behind.now) }
+    ensures count { IfSome result (λ read. (0 < read.1) × (read.1 ≤ 2)) }
 {
     match in_name(value, first) {
         Some(character) => Some((character, 1)),
@@ -81,10 +140,12 @@ fn raw(value: u32, behind: &[CodePoint], unicode_mode: bool, first: bool) -> Opt
 }
 
 /// The character of a name that the units behind a backslash spell, and how many units spell it with the backslash.
-fn escaped(units: &[CodePoint], first: bool) -> Option<(char, usize)>
-    ensures { seen_character result ≡ escape_in_name first (decoded true (values units.now)) }
+fn escaped<C: Counter>(units: &[CodePoint], first: bool, steps: &mut C) -> Option<(char, usize)>
+    ensures read { seen_character result ≡ escape_in_name first (decoded true (values units.now)) }
+    ensures found { IfSome result (λ read. (read.1 + 2 * C.count steps.old ≤ 2 * (C.count steps.new + 1)) × (C.count steps.new + 1 ≤ C.count steps.old + 2 * read.1)) }
+    ensures steps { Rises (C.count steps.old) (C.count steps.new) 0 (length units.now + 4) }
 {
-    match decode(units, true) {
+    match decode_counted(units, true, steps) {
         UnicodeEscape::Value { code_point, length } => {
             Some((in_name(code_point, first)?, length + 1))
         }
@@ -94,7 +155,8 @@ fn escaped(units: &[CodePoint], first: bool) -> Option<(char, usize)>
 
 /// The character of a name that a unit and the next are, as a surrogate pair.
 fn raw_pair(lead: u32, units: &[CodePoint], first: bool) -> Option<(char, usize)>
-    ensures { seen_character result ≡ pair_at first lead (values units.now) }
+    ensures read { seen_character result ≡ pair_at first lead (values units.now) }
+    ensures count { IfSome result (λ read. read.1 ≡ 2) }
 {
     let trail = units.first()?.value;
     if !is_lead_surrogate(lead) || !is_trail_surrogate(trail) {

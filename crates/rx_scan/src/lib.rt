@@ -13,8 +13,10 @@ mod state;
 mod unicode_escape;
 
 pub use flags_parser::FlagsParser;
-pub use group_name::{capturing_group_name, group_name_length};
+pub use group_name::{
+    capturing_group_name, capturing_group_name_counted, group_name_length_counted,
+};
 pub use names::Names;
 pub use span_factory::SpanFactory;
 pub use state::{State, StateFault};
-pub use unicode_escape::{UnicodeEscape, decode};
+pub use unicode_escape::{UnicodeEscape, decode, decode_counted};

@@ -1,9 +1,10 @@
-ghost use Rattle.std.specs.Prelude.{◌≡◌, ◌≤◌, ◌<◌, ◌+◌, length, false, option_map, IfSome};
+ghost use Rattle.std.specs.Prelude.{◌≡◌, ◌≤◌, ◌<◌, ◌+◌, length, false, option_map, IfSome, MatchOption};
 ghost use Rattle.rx_units.specs.Units.{values};
 ghost use Rattle.rx_model.specs.Inputs.Environment.{is_sets};
 ghost use Rattle.rx_model.specs.FirstPass.Marks.{behind_angle, class_rest, escape_rest, mark_front, name_length, open_front, question_front, specifier_front, starts};
 ghost use Rattle.rx_scan.specs.MarkReading.{closed_part, front, is_plain, seen_front, seen_mark};
 
+use rx_base::Counter;
 use rx_model::Mode;
 use rx_units::CodePoint;
 
@@ -20,18 +21,24 @@ pub enum Mark<'a> {
     Capturing(Option<&'a [CodePoint]>),
 }
 
-/// The mark with which the units begin, and how many of them it takes.
+/// The mark with which the units begin, and how many of them it takes. Each is a step.
 #[tactic(auto, unfolding(crate::specs::MarkReading::front))]
-pub fn read_mark(units: &[CodePoint], mode: Mode) -> (Mark<'_>, usize)
+pub fn read_mark<'a, C: Counter>(
+    units: &'a [CodePoint],
+    mode: Mode,
+    steps: &mut C,
+) -> (Mark<'a>, usize)
     requires { 0 < length units.now }
     ensures value { seen_front result ≡ front mode (values units.now) }
     ensures within { result.1 ≤ length units.now }
     ensures moves { 0 < result.1 }
     ensures name { name_length (seen_mark result.0) ≤ result.1 }
+    ensures steps { C.count steps.new ≡ C.count steps.old + result.1 }
 {
     match units {
         [unit, rest @ ..] => {
-            let (mark, count) = behind(unit.value, rest, mode);
+            steps.tick();
+            let (mark, count) = behind(unit.value, rest, mode, steps);
             (mark, count + 1)
         }
         _ => (Mark::Other, 0),
@@ -51,17 +58,23 @@ pub fn is_plain(unit: u32) -> bool
 
 /// The mark that begins with a unit, and how many of the units behind it are the mark's.
 #[tactic(auto, unfolding(rx_model::specs::FirstPass::Marks::mark_front))]
-fn behind(unit: u32, units: &[CodePoint], mode: Mode) -> (Mark<'_>, usize)
+fn behind<'a, C: Counter>(
+    unit: u32,
+    units: &'a [CodePoint],
+    mode: Mode,
+    steps: &mut C,
+) -> (Mark<'a>, usize)
     ensures value { seen_front result ≡ mark_front mode unit (values units.now) }
     ensures within { result.1 ≤ length units.now }
     ensures name { name_length (seen_mark result.0) ≤ result.1 }
+    ensures steps { C.count steps.new ≡ C.count steps.old + result.1 }
 {
     if unit == '\\' as u32 {
-        (Mark::Other, escape_rest(units))
+        (Mark::Other, escape_rest(units, steps))
     } else if unit == '[' as u32 {
-        (Mark::Other, class_rest(units, mode))
+        (Mark::Other, class_rest(units, mode, steps))
     } else if unit == '(' as u32 {
-        behind_parenthesis(units)
+        behind_parenthesis(units, steps)
     } else if unit == ')' as u32 {
         (Mark::Closer, 0)
     } else if unit == '|' as u32 {
@@ -71,34 +84,41 @@ fn behind(unit: u32, units: &[CodePoint], mode: Mode) -> (Mark<'_>, usize)
     }
 }
 
-fn escape_rest(units: &[CodePoint]) -> usize
+fn escape_rest<C: Counter>(units: &[CodePoint], steps: &mut C) -> usize
     ensures value { result ≡ escape_rest (values units.now) }
     ensures within { result ≤ length units.now }
+    ensures steps { C.count steps.new ≡ C.count steps.old + result }
 {
     match units {
-        [_, ..] => 1,
+        [_, ..] => {
+            steps.tick();
+            1
+        }
         _ => 0,
     }
 }
 
 /// How many units a class has behind its `[`.
-fn class_rest(units: &[CodePoint], mode: Mode) -> usize
+fn class_rest<C: Counter>(units: &[CodePoint], mode: Mode, steps: &mut C) -> usize
     ensures value { result ≡ class_rest mode false 0 (values units.now) }
     ensures within { result ≤ length units.now }
+    ensures steps { C.count steps.new ≡ C.count steps.old + result }
 {
     match mode {
-        Mode::Legacy | Mode::Unicode => flat_class_rest(units),
-        Mode::Sets => nested_class_rest(units),
+        Mode::Legacy | Mode::Unicode => flat_class_rest(units, steps),
+        Mode::Sets => nested_class_rest(units, steps),
     }
 }
 
 /// The same without `v`: a class has no class in it.
-fn flat_class_rest(units: &[CodePoint]) -> usize
+fn flat_class_rest<C: Counter>(units: &[CodePoint], steps: &mut C) -> usize
     ensures value { (mode : Mode) → is_sets mode ≡ false → result ≡ class_rest mode false 0 (values units.now) }
     ensures within { result ≤ length units.now }
+    ensures steps { C.count steps.new ≡ C.count steps.old + result }
 {
     let mut escaped = false;
     for (place, unit) in units.iter().enumerate() {
+        steps.tick();
         if escaped {
             escaped = false;
         } else if unit.value == ']' as u32 {
@@ -111,13 +131,15 @@ fn flat_class_rest(units: &[CodePoint]) -> usize
 }
 
 /// The same with `v`: classes may be open in it.
-fn nested_class_rest(units: &[CodePoint]) -> usize
+fn nested_class_rest<C: Counter>(units: &[CodePoint], steps: &mut C) -> usize
     ensures value { result ≡ class_rest Mode.Sets false 0 (values units.now) }
     ensures within { result ≤ length units.now }
+    ensures steps { C.count steps.new ≡ C.count steps.old + result }
 {
     let mut escaped = false;
     let mut open = 0usize;
     for (place, unit) in units.iter().enumerate() {
+        steps.tick();
         if escaped {
             escaped = false;
         } else if unit.value == '\\' as u32 {
@@ -134,29 +156,33 @@ fn nested_class_rest(units: &[CodePoint]) -> usize
     units.len()
 }
 
-fn behind_parenthesis(units: &[CodePoint]) -> (Mark<'_>, usize)
+fn behind_parenthesis<'a, C: Counter>(units: &'a [CodePoint], steps: &mut C) -> (Mark<'a>, usize)
     ensures value { seen_front result ≡ open_front (values units.now) }
     ensures within { result.1 ≤ length units.now }
     ensures name { name_length (seen_mark result.0) ≤ result.1 }
+    ensures steps { C.count steps.new ≡ C.count steps.old + result.1 }
 {
     match units {
-        [unit, rest @ ..] if unit.value == '?' as u32 => behind_question(rest),
+        [unit, rest @ ..] if unit.value == '?' as u32 => behind_question(rest, steps),
         _ => (Mark::Capturing(None), 0),
     }
 }
 
 /// What stands behind `(?`.
-fn behind_question(units: &[CodePoint]) -> (Mark<'_>, usize)
+fn behind_question<'a, C: Counter>(units: &'a [CodePoint], steps: &mut C) -> (Mark<'a>, usize)
     ensures value { seen_front result ≡ question_front (values units.now) }
     ensures within { result.1 ≤ length units.now + 1 }
     ensures name { name_length (seen_mark result.0) ≤ result.1 }
+    ensures steps { C.count steps.new ≡ C.count steps.old + result.1 }
 {
     match units {
-        [unit, rest @ ..] if unit.value == '<' as u32 => behind_angle(rest),
+        [unit, rest @ ..] if unit.value == '<' as u32 => behind_angle(rest, steps),
         _ => {
             if starts(units, ':') || starts(units, '=') || starts(units, '!') {
+                steps.add(2);
                 (Mark::Quiet, 2)
             } else {
+                steps.tick();
                 (Mark::Quiet, 1)
             }
         }
@@ -164,36 +190,43 @@ fn behind_question(units: &[CodePoint]) -> (Mark<'_>, usize)
 }
 
 /// What stands behind `(?<`.
-fn behind_angle(units: &[CodePoint]) -> (Mark<'_>, usize)
+fn behind_angle<'a, C: Counter>(units: &'a [CodePoint], steps: &mut C) -> (Mark<'a>, usize)
     ensures value { seen_front result ≡ behind_angle (values units.now) }
     ensures within { result.1 ≤ length units.now + 2 }
     ensures name { name_length (seen_mark result.0) ≤ result.1 }
+    ensures steps { C.count steps.new ≡ C.count steps.old + result.1 }
 {
     if starts(units, '=') || starts(units, '!') {
+        steps.add(3);
         (Mark::Quiet, 3)
     } else {
-        group_specifier(units)
+        group_specifier(units, steps)
     }
 }
 
 /// A capturing opening whose name, if it has one, begins here.
-fn group_specifier(units: &[CodePoint]) -> (Mark<'_>, usize)
+fn group_specifier<'a, C: Counter>(units: &'a [CodePoint], steps: &mut C) -> (Mark<'a>, usize)
     ensures value { seen_front result ≡ specifier_front (values units.now) }
     ensures within { result.1 ≤ length units.now + 2 }
     ensures name { name_length (seen_mark result.0) ≤ result.1 }
+    ensures steps { C.count steps.new ≡ C.count steps.old + result.1 }
 {
-    match closed_part(units) {
+    steps.add(2);
+    match closed_part(units, steps) {
         Some(name) => (Mark::Capturing(Some(name)), name.len() + 3),
         None => (Mark::Capturing(None), units.len() + 2),
     }
 }
 
 /// The units before the next `>`, where one stands.
-fn closed_part(units: &[CodePoint]) -> Option<&[CodePoint]>
+fn closed_part<'a, C: Counter>(units: &'a [CodePoint], steps: &mut C) -> Option<&'a [CodePoint]>
     ensures value { option_map (λ part. values part.now) result ≡ closed_part (values units.now) }
     ensures within { IfSome result (λ part. length part.now < length units.now) }
+    ensures steps { MatchOption result (C.count steps.new ≡ C.count steps.old + length units.now)
+        (λ part. C.count steps.new ≡ C.count steps.old + length part.now + 1) }
 {
     for (place, unit) in units.iter().enumerate() {
+        steps.tick();
         if unit.value == '>' as u32 {
             return Some(&units[..place]);
         }

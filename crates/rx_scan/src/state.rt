@@ -1,4 +1,4 @@
-ghost use Rattle.std.specs.Prelude.{◌≡◌, ◌-◌, ◌^◌, ◌||◌, [], false, min, IfErr, OnErr, OnOk};
+ghost use Rattle.std.specs.Prelude.{◌≡◌, ◌+◌, ◌-◌, ◌^◌, ◌≤◌, ◌||◌, [], false, length, min, IfErr, OnErr, OnOk};
 ghost use Rattle.rx_units.specs.Units.{offset_at};
 ghost use Rattle.rx_model.specs.Inputs.Environment.{has_some, is_unicode};
 ghost use Rattle.rx_model.specs.Refusals.Reached.{HasNoClash, text_environment, text_groups, text_names};
@@ -6,9 +6,12 @@ ghost use Rattle.rx_scan.specs.StateFaults.{IsStateFault, mode_of_state};
 
 use crate::Names;
 use crate::first_pass::{FirstPass, PassFault};
+use rx_base::{Counter, Steps};
 use rx_model::Mode;
 use rx_units::{CodePoint, Reader};
 use std::alloc::Global;
+use std::marker::Brand;
+use std::sync::ledger::{Blank, Ledger};
 
 /// What a pattern is read under.
 #[derive(Debug, Drop)]
@@ -73,11 +76,56 @@ impl State {
         ensures refused { IfErr result (IsStateFault (mode_of_state self.old) reader.old) }
         ensures unchanged { OnErr result (self.new ≡ self.old) }
     {
+        self.initialize_alone::<Brand>(reader, Blank::new(1))
+    }
+
+    /// The same, with a counter of its own.
+    fn initialize_alone<L: Ledger>(
+        &mut self,
+        reader: &mut Reader<'_>,
+        blank: Blank,
+    ) -> Result<(), StateFault>
+        requires start { reader.old.place ≡ 0 }
+        requires name { blank.name ≡ L.name }
+        requires parts { blank.parts ≡ L.parts }
+        requires one { blank.parts ≡ 1 }
+        ensures reader { reader.new ≡ reader.old }
+        ensures unicode_mode { self.new.unicode_mode ≡ self.old.unicode_mode }
+        ensures unicode_sets_mode { self.new.unicode_sets_mode ≡ self.old.unicode_sets_mode }
+        ensures groups { OnOk result (self.new.num_of_capturing_groups ≡ min (text_groups (mode_of_state self.old) reader.old.units) (2 ^ 32 - 1)) }
+        ensures names { OnOk result (self.new.capturing_group_names ≡ text_names (mode_of_state self.old) reader.old.units) }
+        ensures named { OnOk result (self.new.named_capture_groups ≡ (text_environment (mode_of_state self.old) reader.old.units).named) }
+        ensures apart { OnOk result (HasNoClash (mode_of_state self.old) reader.old.units) }
+        ensures refused { IfErr result (IsStateFault (mode_of_state self.old) reader.old) }
+        ensures unchanged { OnErr result (self.new ≡ self.old) }
+    {
+        self.initialize_with_parsing_counted(reader, &mut Steps::<L>::new(blank))
+    }
+
+    /// Goes over the pattern as `initialize_with_parsing` does, and counts one for each of its units that it goes over.
+    pub fn initialize_with_parsing_counted<C: Counter>(
+        &mut self,
+        reader: &mut Reader<'_>,
+        steps: &mut C,
+    ) -> Result<(), StateFault>
+        requires start { reader.old.place ≡ 0 }
+        ensures reader { reader.new ≡ reader.old }
+        ensures unicode_mode { self.new.unicode_mode ≡ self.old.unicode_mode }
+        ensures unicode_sets_mode { self.new.unicode_sets_mode ≡ self.old.unicode_sets_mode }
+        ensures groups { OnOk result (self.new.num_of_capturing_groups ≡ min (text_groups (mode_of_state self.old) reader.old.units) (2 ^ 32 - 1)) }
+        ensures names { OnOk result (self.new.capturing_group_names ≡ text_names (mode_of_state self.old) reader.old.units) }
+        ensures named { OnOk result (self.new.named_capture_groups ≡ (text_environment (mode_of_state self.old) reader.old.units).named) }
+        ensures apart { OnOk result (HasNoClash (mode_of_state self.old) reader.old.units) }
+        ensures refused { IfErr result (IsStateFault (mode_of_state self.old) reader.old) }
+        ensures unchanged { OnErr result (self.new ≡ self.old) }
+        ensures all { OnOk result (C.count steps.new ≡ C.count steps.old + length reader.old.units) }
+        ensures most { C.count steps.new ≤ C.count steps.old + length reader.old.units }
+    {
         let alloc = self.capturing_group_names.allocator();
         let units = reader.remaining_code_points();
         let start = reader.offset();
         let mode = Mode::of(self.unicode_mode, self.unicode_sets_mode);
-        match FirstPass::over(alloc, units, mode) {
+        match FirstPass::over(alloc, units, mode, steps) {
             Ok(pass) => {
                 self.keep(pass);
                 Ok(())

@@ -1,14 +1,19 @@
-ghost use Rattle.std.specs.Prelude.{◌≡◌, ◌↔◌, ℕ, ◌+◌, ◌<◌, ◌≤◌, true, length, option_map, IfSome};
+ghost use Rattle.std.specs.Prelude.{◌≡◌, ◌↔◌, ℕ, ◌+◌, ◌*◌, ◌<◌, ◌≤◌, false, true, is_some, length, option_map, IfSome, MatchOption, if◌then◌else◌};
+ghost use Rattle.rx_base.specs.Rising.{Rises};
 ghost use Rattle.rx_base.specs.SurrogatePair.{IsLeadSurrogate, IsTrailSurrogate};
 ghost use Rattle.rx_tables.specs.Characters.{hex_digit_value};
 ghost use Rattle.rx_units.specs.Units.{values};
 ghost use Rattle.rx_model.specs.Characters.Decoding.{behind_u, braces_at, decoded, four_at, joined_at, run_at, trail_at};
 ghost use Rattle.rx_model.specs.Characters.UnicodeEscapes.{Decodes, PassesHex};
+ghost use Rattle.rx_model.specs.FirstPass.Marks.{starts};
+ghost use Rattle.rx_scan.specs.DecodingSteps.{escape_length, least_digits, most_digits};
 ghost use Rattle.rx_scan.specs.EscapeDecoding.{seen_escape};
 
-use rx_base::{combine_surrogate_pair, is_lead_surrogate, is_trail_surrogate};
+use rx_base::{Counter, Steps, combine_surrogate_pair, is_lead_surrogate, is_trail_surrogate};
 use rx_tables::map_hex_digit;
 use rx_units::CodePoint;
+use std::marker::Brand;
+use std::sync::ledger::{Blank, Ledger};
 
 /// What a unicode escape stands for (RegExpUnicodeEscapeSequence of ECMA-262, 22.2.1).
 #[derive(Clone, Copy, Debug, PartialEq, Eq)]
@@ -32,25 +37,61 @@ pub fn decode(units: &[CodePoint], unicode_mode: bool) -> UnicodeEscape
     ensures within { (v n : ℕ) → result ≡ UnicodeEscape.Value v n → (n ≤ length units.now) × (v ≤ 0x10FFFF) }
     ensures digits { (n : ℕ) → result ≡ UnicodeEscape.Overflow n → n + 2 ≤ length units.now }
 {
-    decode_units(units, unicode_mode)
+    decode_alone::<Brand>(units, unicode_mode, Blank::new(1))
 }
 
-fn decode_units(units: &[CodePoint], unicode_mode: bool) -> UnicodeEscape
+/// The same, with a counter of its own.
+fn decode_alone<L: Ledger>(units: &[CodePoint], unicode_mode: bool, blank: Blank) -> UnicodeEscape
+    requires name { blank.name ≡ L.name }
+    requires parts { blank.parts ≡ L.parts }
+    requires one { blank.parts ≡ 1 }
     ensures { seen_escape result ≡ decoded unicode_mode (values units.now) }
 {
+    decode_units(units, unicode_mode, &mut Steps::<L>::new(blank))
+}
+
+/// Decodes as `decode` does, and counts one for each hexadecimal digit that is found where four are looked for, and one for each unit that is
+/// looked at behind an opening brace.
+pub fn decode_counted<C: Counter>(
+    units: &[CodePoint],
+    unicode_mode: bool,
+    steps: &mut C,
+) -> UnicodeEscape
+    ensures value { (v n : ℕ) → (result ≡ UnicodeEscape.Value v n) ↔ Decodes unicode_mode (values units.now) v n }
+    ensures overflow { (n : ℕ) → (result ≡ UnicodeEscape.Overflow n) ↔ ((unicode_mode ≡ true) × PassesHex (values units.now) n) }
+    ensures invalid { (result ≡ UnicodeEscape.Invalid) ↔ (((v n : ℕ) → Decodes unicode_mode (values units.now) v n → ⊥)
+        × ((n : ℕ) → (unicode_mode ≡ true) × PassesHex (values units.now) n → ⊥)) }
+    ensures read { seen_escape result ≡ decoded unicode_mode (values units.now) }
+    ensures within { (v n : ℕ) → result ≡ UnicodeEscape.Value v n → (n ≤ length units.now) × (v ≤ 0x10FFFF) }
+    ensures digits { (n : ℕ) → result ≡ UnicodeEscape.Overflow n → n + 2 ≤ length units.now }
+    ensures steps { Rises (C.count steps.old) (C.count steps.new) (least_digits result) (most_digits unicode_mode (length units.now) result) }
+
+    // At least half a step for each unit of an escape.
+    ensures half { escape_length result + 2 * C.count steps.old ≤ 2 * C.count steps.new }
+{
+    decode_units(units, unicode_mode, steps)
+}
+
+fn decode_units<C: Counter>(units: &[CodePoint], unicode_mode: bool, steps: &mut C) -> UnicodeEscape
+    ensures read { seen_escape result ≡ decoded unicode_mode (values units.now) }
+    ensures steps { Rises (C.count steps.old) (C.count steps.new) (least_digits result) (most_digits unicode_mode (length units.now) result) }
+    ensures half { escape_length result + 2 * C.count steps.old ≤ 2 * C.count steps.new }
+{
     match units {
-        [u, digits @ ..] if u.value == 'u' as u32 => behind_u(digits, unicode_mode),
+        [u, digits @ ..] if u.value == 'u' as u32 => behind_u(digits, unicode_mode, steps),
         _ => UnicodeEscape::Invalid,
     }
 }
 
-fn behind_u(units: &[CodePoint], unicode_mode: bool) -> UnicodeEscape
-    ensures { seen_escape result ≡ behind_u unicode_mode (four_at (values units.now)) (values units.now) }
+fn behind_u<C: Counter>(units: &[CodePoint], unicode_mode: bool, steps: &mut C) -> UnicodeEscape
+    ensures read { seen_escape result ≡ behind_u unicode_mode (four_at (values units.now)) (values units.now) }
+    ensures steps { Rises (C.count steps.old) (C.count steps.new) (least_digits result) (most_digits unicode_mode (length units.now) result) }
+    ensures half { escape_length result + 2 * C.count steps.old ≤ 2 * C.count steps.new }
 {
-    match fixed_hex_digits(units) {
+    match fixed_hex_digits(units, steps) {
         Some((value, rest)) => {
             if unicode_mode && is_lead_surrogate(value) {
-                return joined(value, rest);
+                return joined(value, rest, steps);
             }
             UnicodeEscape::Value {
                 code_point: value,
@@ -59,7 +100,7 @@ fn behind_u(units: &[CodePoint], unicode_mode: bool) -> UnicodeEscape
         }
         None => {
             if unicode_mode {
-                braced_digits(units)
+                braced_digits(units, steps)
             } else {
                 UnicodeEscape::Invalid
             }
@@ -69,35 +110,54 @@ fn behind_u(units: &[CodePoint], unicode_mode: bool) -> UnicodeEscape
 
 /// The number of four hexadecimal digits, and the units behind them.
 #[tactic(auto, using(crate::proofs::Steps::short_four))]
-fn fixed_hex_digits(units: &[CodePoint]) -> Option<(u32, &[CodePoint])>
-    ensures { option_map (λ r. (r.0, values r.1.now)) result ≡ four_at (values units.now) }
+fn fixed_hex_digits<'a, C: Counter>(
+    units: &'a [CodePoint],
+    steps: &mut C,
+) -> Option<(u32, &'a [CodePoint])>
+    ensures value { option_map (λ r. (r.0, values r.1.now)) result ≡ four_at (values units.now) }
+    ensures steps { MatchOption result (Rises (C.count steps.old) (C.count steps.new) 0 3 × (C.count steps.new ≤ C.count steps.old + length units.now))
+        (λ _. C.count steps.new ≡ C.count steps.old + 4) }
+    ensures brace { starts 123 (values units.now) ≡ true → C.count steps.new ≡ C.count steps.old }
 {
     match units {
         [a, b, c, d, rest @ ..] => {
-            let a = hex_digit(a)?;
-            let b = hex_digit(b)?;
-            let c = hex_digit(c)?;
-            let d = hex_digit(d)?;
+            let a = hex_digit(a, steps)?;
+            let b = hex_digit(b, steps)?;
+            let c = hex_digit(c, steps)?;
+            let d = hex_digit(d, steps)?;
             Some((16 * (16 * (16 * a + b) + c) + d, rest))
         }
         _ => None,
     }
 }
 
+/// What a hexadecimal digit stands for: a step where the unit is one.
+fn hex_digit<C: Counter>(unit: &CodePoint, steps: &mut C) -> Option<u32>
+    ensures value { result ≡ hex_digit_value unit.now.value }
+    ensures small { IfSome result (λ digit. digit < 16) }
+    ensures steps { MatchOption result (C.count steps.new ≡ C.count steps.old) (λ _. C.count steps.new ≡ C.count steps.old + 1) }
+{
+    let digit = digit_value(unit)?;
+    steps.tick();
+    Some(digit)
+}
+
 #[tactic(auto, using(rx_tables::proofs::Digits::hex_digit_value_small))]
-fn hex_digit(unit: &CodePoint) -> Option<u32>
+fn digit_value(unit: &CodePoint) -> Option<u32>
     ensures value { result ≡ hex_digit_value unit.now.value }
     ensures small { IfSome result (λ digit. digit < 16) }
 {
     map_hex_digit(unit.value)
 }
 
-/// A lead surrogate by itself, or the code point of it and the trail surrogate that is escaped next.
-fn joined(lead: u32, units: &[CodePoint]) -> UnicodeEscape
+/// A lead surrogate by itself, or the code point of it and the trail surrogate that is escaped next. Its own four digits are counted before.
+fn joined<C: Counter>(lead: u32, units: &[CodePoint], steps: &mut C) -> UnicodeEscape
     requires { IsLeadSurrogate lead }
-    ensures { seen_escape result ≡ joined_at lead (trail_at (values units.now)) }
+    ensures read { seen_escape result ≡ joined_at lead (trail_at (values units.now)) }
+    ensures steps { Rises (C.count steps.old) (C.count steps.new + 4) (least_digits result) (most_digits true 0 result) }
+    ensures half { escape_length result + 2 * C.count steps.old ≤ 2 * (C.count steps.new + 4) }
 {
-    match escaped_trail(units) {
+    match escaped_trail(units, steps) {
         Some(trail) => UnicodeEscape::Value {
             code_point: combine_surrogate_pair(lead, trail),
             length: 11,
@@ -111,34 +171,41 @@ fn joined(lead: u32, units: &[CodePoint]) -> UnicodeEscape
 
 /// The trail surrogate that is escaped next, in four digits.
 #[tactic(auto, using(crate::proofs::Steps::short_trail))]
-fn escaped_trail(units: &[CodePoint]) -> Option<u32>
+fn escaped_trail<C: Counter>(units: &[CodePoint], steps: &mut C) -> Option<u32>
     ensures value { result ≡ trail_at (values units.now) }
     ensures trail { IfSome result (λ trail. IsTrailSurrogate trail) }
+    ensures steps { Rises (C.count steps.old) (C.count steps.new) (if is_some result then 4 else 0) 4 }
 {
     match units {
         [backslash, u, digits @ ..] if backslash.value == '\\' as u32 && u.value == 'u' as u32 => {
-            let (trail, _) = fixed_hex_digits(digits)?;
+            let (trail, _) = fixed_hex_digits(digits, steps)?;
             is_trail_surrogate(trail).then_some(trail)
         }
         _ => None,
     }
 }
 
-fn braced_digits(units: &[CodePoint]) -> UnicodeEscape
-    ensures { seen_escape result ≡ braces_at (values units.now) }
+fn braced_digits<C: Counter>(units: &[CodePoint], steps: &mut C) -> UnicodeEscape
+    ensures read { seen_escape result ≡ braces_at (values units.now) }
+    ensures steps { Rises (C.count steps.old) (C.count steps.new) (least_digits result) (most_digits true (length units.now) result) }
+    ensures half { escape_length result + 2 * C.count steps.old ≤ 2 * C.count steps.new }
+    ensures none { starts 123 (values units.now) ≡ false → (result ≡ UnicodeEscape.Invalid) × (C.count steps.new ≡ C.count steps.old) }
 {
     match units {
-        [brace, digits @ ..] if brace.value == '{' as u32 => digits_to_brace(digits),
+        [brace, digits @ ..] if brace.value == '{' as u32 => digits_to_brace(digits, steps),
         _ => UnicodeEscape::Invalid,
     }
 }
 
-fn digits_to_brace(units: &[CodePoint]) -> UnicodeEscape
-    ensures { seen_escape result ≡ run_at 0 0 (values units.now) }
+fn digits_to_brace<C: Counter>(units: &[CodePoint], steps: &mut C) -> UnicodeEscape
+    ensures read { seen_escape result ≡ run_at 0 0 (values units.now) }
+    ensures steps { Rises (C.count steps.old) (C.count steps.new) (least_digits result) (most_digits true (length units.now) result) }
+    ensures half { escape_length result + 2 * C.count steps.old ≤ 2 * C.count steps.new }
 {
     let mut value = 0u32;
     for (count, unit) in units.iter().enumerate() {
-        match hex_digit(unit) {
+        steps.tick();
+        match digit_value(unit) {
             Some(digit) => match value.checked_mul(16).and_then(|v| v.checked_add(digit)) {
                 Some(next) => value = next,
                 None => return UnicodeEscape::Overflow { digits: count },

@@ -1,12 +1,16 @@
-ghost use Rattle.std.specs.Prelude.{◌+◌, ◌<◌, ◌^◌, length};
+ghost use Rattle.std.specs.Prelude.{◌≡◌, ◌+◌, ◌<◌, ◌^◌, length};
+ghost use Rattle.rx_class.specs.ClassAnswers.{HoldsFirstPass};
+ghost use Rattle.rx_class.specs.Fitting.{AreFitting};
 
 use rx_ast::{CharacterClass, CharacterClassContents};
-use rx_base::{Fault, GetSpan};
+use rx_base::{Fault, GetSpan, Steps};
 use rx_class::parse_character_class;
 use rx_rows::{Call, agree, refusal, short};
 use rx_scan::{SpanFactory, State};
 use rx_units::Reader;
 use std::alloc::Global;
+use std::marker::Brand;
+use std::sync::ledger::{Blank, Ledger};
 use std::test::Fail;
 
 /// What stands where the text begins as a class, its spans 10 bytes on, and the offset where the reader is left.
@@ -21,8 +25,26 @@ fn class(alloc: Global, text: &str) -> Result<(Result<Option<CharacterClass>, Fa
     if state.num_of_capturing_groups == u32::MAX {
         return Err(Fail::from("too many groups"));
     }
-    let found = parse_character_class(alloc, &mut reader, &state, &SpanFactory::new(10));
+    let spans = SpanFactory::new(10);
+    let found = counted_class::<Brand>(alloc, &mut reader, &state, &spans, Blank::new(1));
     Ok((found, reader.offset()))
+}
+
+/// Reads it with a counter that nobody reads.
+fn counted_class<L: Ledger>(
+    alloc: Global,
+    reader: &mut Reader<'_>,
+    state: &State,
+    spans: &SpanFactory,
+    blank: Blank,
+) -> Result<Option<CharacterClass>, Fault>
+    requires pass { HoldsFirstPass state.now reader.old.units }
+    requires fits { AreFitting spans.now reader.old }
+    requires name { blank.name ≡ L.name }
+    requires parts { blank.parts ≡ L.parts }
+    requires one { blank.parts ≡ 1 }
+{
+    parse_character_class(alloc, reader, state, spans, &mut Steps::<L>::new(blank))
 }
 
 #[derive(Clone, Copy)]

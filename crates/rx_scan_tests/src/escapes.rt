@@ -1,7 +1,9 @@
-ghost use Rattle.std.specs.Prelude.{◌+◌, ◌<◌, ◌^◌, length};
+ghost use Rattle.std.specs.Prelude.{◌≡◌, ◌+◌, ◌<◌, ◌^◌, length};
+ghost use Rattle.rx_class.specs.EscapeAnswers.{IsBehindBackslash};
+ghost use Rattle.rx_class.specs.Fitting.{AreFitting};
 
 use rx_ast::{Character, CharacterClassEscape, UnicodePropertyEscape};
-use rx_base::{Diagnostic, Fault, PropertyPart, Unterminated};
+use rx_base::{Diagnostic, Fault, PropertyPart, Steps, Unterminated};
 use rx_class::{
     parse_character_class_escape, parse_character_class_escape_unicode, parse_character_escape,
 };
@@ -9,6 +11,8 @@ use rx_rows::{Call, agree, refusal, short};
 use rx_scan::{SpanFactory, State};
 use rx_units::Reader;
 use std::alloc::Global;
+use std::marker::Brand;
+use std::sync::ledger::{Blank, Ledger};
 use std::test::Fail;
 
 /// What stands behind the backslash that the text begins with, its spans 10 bytes on.
@@ -21,7 +25,25 @@ fn character(alloc: Global, text: &str) -> Result<Result<Option<Character>, Diag
         return Err(Fail::from("no backslash"));
     }
     let state = State::new(alloc, true, false);
-    Ok(parse_character_escape(&mut reader, &state, &SpanFactory::new(10), start))
+    let spans = SpanFactory::new(10);
+    Ok(counted_character::<Brand>(&mut reader, &state, &spans, start, Blank::new(1)))
+}
+
+/// Reads it with a counter that nobody reads.
+fn counted_character<L: Ledger>(
+    reader: &mut Reader<'_>,
+    state: &State,
+    spans: &SpanFactory,
+    start: u32,
+    blank: Blank,
+) -> Result<Option<Character>, Diagnostic>
+    requires backslash { IsBehindBackslash reader.old start }
+    requires fits { AreFitting spans.now reader.old }
+    requires name { blank.name ≡ L.name }
+    requires parts { blank.parts ≡ L.parts }
+    requires one { blank.parts ≡ 1 }
+{
+    parse_character_escape(reader, state, spans, start, &mut Steps::<L>::new(blank))
 }
 
 #[derive(Clone, Copy)]
@@ -95,7 +117,23 @@ fn class_escape(alloc: Global, text: &str) -> Result<Option<CharacterClassEscape
     if !reader.eat('\\') {
         return Err(Fail::from("no backslash"));
     }
-    Ok(parse_character_class_escape(&mut reader, &SpanFactory::new(10), start))
+    let spans = SpanFactory::new(10);
+    Ok(counted_class_escape::<Brand>(&mut reader, &spans, start, Blank::new(1)))
+}
+
+fn counted_class_escape<L: Ledger>(
+    reader: &mut Reader<'_>,
+    spans: &SpanFactory,
+    start: u32,
+    blank: Blank,
+) -> Option<CharacterClassEscape>
+    requires backslash { IsBehindBackslash reader.old start }
+    requires fits { AreFitting spans.now reader.old }
+    requires name { blank.name ≡ L.name }
+    requires parts { blank.parts ≡ L.parts }
+    requires one { blank.parts ≡ 1 }
+{
+    parse_character_class_escape(reader, spans, start, &mut Steps::<L>::new(blank))
 }
 
 #[derive(Clone, Copy)]
@@ -137,7 +175,25 @@ fn property(
     }
     let state = State::new(alloc, unicode_mode, false);
     let spans = SpanFactory::new(0);
-    Ok(parse_character_class_escape_unicode(alloc, &mut reader, &state, &spans, start))
+    Ok(counted_property::<Brand>(alloc, &mut reader, &state, &spans, start, Blank::new(1)))
+}
+
+fn counted_property<L: Ledger>(
+    alloc: Global,
+    reader: &mut Reader<'_>,
+    state: &State,
+    spans: &SpanFactory,
+    start: u32,
+    blank: Blank,
+) -> Result<Option<UnicodePropertyEscape>, Fault>
+    requires backslash { IsBehindBackslash reader.old start }
+    requires fits { AreFitting spans.now reader.old }
+    requires name { blank.name ≡ L.name }
+    requires parts { blank.parts ≡ L.parts }
+    requires one { blank.parts ≡ 1 }
+{
+    let mut steps = Steps::<L>::new(blank);
+    parse_character_class_escape_unicode(alloc, reader, state, spans, start, &mut steps)
 }
 
 /// Property escapes with or without `u`.

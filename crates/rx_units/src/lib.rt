@@ -3,6 +3,7 @@
 
 mod characters;
 mod code_point;
+mod counted;
 pub mod laws;
 mod literal;
 mod options;

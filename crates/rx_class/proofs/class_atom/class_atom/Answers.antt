@@ -6,8 +6,8 @@ use Rattle.rx_class.proofs.ClassAtoms.{begins_otherwise}
 use Rattle.rx_class.proofs.class_atom.class_atom.Goals as goal
 
 pub unit_character-requires-clause-no_backslash : goal.unit_character-requires-clause-no_backslash
-unit_character-requires-clause-no_backslash c =
+unit_character-requires-clause-no_backslash g c =
     ap (λ us. starts 92 (values us)) (sym c.remaining_code_points.ensures.units) ∙ begins_otherwise c.remaining_code_points.result.now _ c.if-unit.false
 
-pub returns : goal.returns
-returns c = c.unit_character.ensures.atom (environment_of c.args.state.now) c.requires.no_sets
+pub returns-clause-gives : goal.returns-clause-gives
+returns-clause-gives g c = c.unit_character.ensures.atom (environment_of c.args.state.now) c.requires.no_sets

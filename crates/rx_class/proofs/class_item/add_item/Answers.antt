@@ -11,6 +11,7 @@ use Rattle.rx_class.specs.EscapeAnswers.{environment_of}
 use Rattle.rx_class.specs.Keeping.{KeepsUnits}
 use Rattle.rx_class.proofs.ClassRanges.{alone_begins, lone_gives}
 use Rattle.rx_class.proofs.Keeping.{handed, moved_keeps}
+use Rattle.rx_class.proofs.ReadingSteps.{item_paced}
 use Rattle.rx_class.proofs.class_item.add_item.Goals as goal
 
 -- A reader that moved over an item keeps what it reads.
@@ -22,18 +23,18 @@ abbrev IsRefused : Environment → ℕ → Cursor → Cursor → Result (Unit {0
 IsRefused e added old new r = IfErr r (λ fault. GivesItem e added old new (Err fault))
 
 pub unit_character-character-requires-clause-no_backslash : goal.unit_character-character-requires-clause-no_backslash
-unit_character-character-requires-clause-no_backslash c =
+unit_character-character-requires-clause-no_backslash g c =
     let alone : stands_alone (values (rest c.args.reader.now)) ≡ true =
     ap (λ us. stands_alone (values us)) (sym c.remaining_code_points-units.ensures.units) ∙ sym c.stands_alone.ensures ∙ c.if-stands_alone.true in
     alone_begins (values (rest c.args.reader.now)) alone
 
 pub returns-in_err-push_one-clause-refused : goal.returns-in_err-push_one-clause-refused
-returns-in_err-push_one-clause-refused c =
+returns-in_err-push_one-clause-refused g c =
     handed (IsRefused (environment_of c.args.state.now) c.args.spans.now c.args.reader.now c.unit_character-character.new.reader) c.from_residual.ensures.1
     (no_memory (moved_keeps 1 _ _ c.unit_character-character.ensures.reader))
 
 pub returns-then-stands_alone-clause-added : goal.returns-then-stands_alone-clause-added
-returns-then-stands_alone-clause-added c =
+returns-then-stands_alone-clause-added g c =
     let character = c.unit_character-character in
     let alone : stands_alone (values (rest c.args.reader.now)) ≡ true =
     ap (λ us. stands_alone (values us)) (sym c.remaining_code_points-units.ensures.units) ∙ sym c.stands_alone.ensures ∙ c.if-stands_alone.true in
@@ -44,17 +45,22 @@ returns-then-stands_alone-clause-added c =
     }
 
 pub returns-in_err-range_contents-clause-refused : goal.returns-in_err-range_contents-clause-refused
-returns-in_err-range_contents-clause-refused c =
+returns-in_err-range_contents-clause-refused g c =
     handed (IsRefused (environment_of c.args.state.now) c.args.spans.now c.args.reader.now c.unit_range-range.new.reader) c.from_residual-in_err-range_contents.ensures.1 (no_memory c.unit_range-range.ensures.reader)
 
 pub returns-in_err-push_one-2-clause-refused : goal.returns-in_err-push_one-2-clause-refused
-returns-in_err-push_one-2-clause-refused c =
+returns-in_err-push_one-2-clause-refused g c =
     handed (IsRefused (environment_of c.args.state.now) c.args.spans.now c.args.reader.now c.unit_range-range.new.reader) c.from_residual-in_err-push_one-2.ensures.1 (no_memory c.unit_range-range.ensures.reader)
 
 pub returns-then-stands_range-clause-added : goal.returns-then-stands_range-clause-added
-returns-then-stands_range-clause-added c =
+returns-then-stands_range-clause-added g c =
     record { it = _; gives = c.unit_range-range.ensures.item _ c.in_ok-range_contents.field-0 c.requires.no_sets c.in_ok-range_contents.ensures; adds = c.in_ok-push_one-2.ensures }
 
 pub returns-in_err-push_item-clause-refused : goal.returns-in_err-push_item-clause-refused
-returns-in_err-push_item-clause-refused c =
-    handed (IsRefused (environment_of c.args.state.now) c.args.spans.now c.args.reader.now c.class_item.new.reader) c.from_residual-in_err-push_item.ensures.1 (no_memory (item_keeps c.in_ok-item.ensures))
+returns-in_err-push_item-clause-refused g c =
+    handed (IsRefused (environment_of c.args.state.now) c.args.spans.now c.args.reader.now c.class_item.new.reader) c.from_residual-in_err-push_item.ensures.1 (no_memory (item_keeps c.in_ok-item.ensures.gives))
+
+pub returns-then-stands_range-clause-steps : goal.returns-then-stands_range-clause-steps
+returns-then-stands_range-clause-steps g c =
+    item_paced (g.C.Counter.count c.args.steps.now) (g.C.Counter.count c.unit_range-range.new.steps) (c.unit_range-range.ensures.item (environment_of c.args.state.now) c.in_ok-range_contents.field-0 c.requires.no_sets c.in_ok-range_contents.ensures)
+    c.unit_range-range.ensures.steps

@@ -7,27 +7,27 @@ use Rattle.rx_class.proofs.Keeping.{keeps_on, moved_keeps}
 use Rattle.rx_class.proofs.class_item.unit_range.Goals as goal
 
 pub unit_character-min-requires-clause-no_backslash : goal.unit_character-min-requires-clause-no_backslash
-unit_character-min-requires-clause-no_backslash c =
+unit_character-min-requires-clause-no_backslash g c =
     let r = c.args.reader.now in
     range_begins (range_front r (moved 1 r) (moved 1 (moved 1 r)) (rest r) refl c.requires.range refl refl)
 
 pub unit_character-max-requires-clause-stands : goal.unit_character-max-requires-clause-stands
-unit_character-max-requires-clause-stands c =
-    range_high_stands (range_front c.args.reader.now c.unit_character-min.new.reader c.advance.new.self _ refl c.requires.range c.unit_character-min.ensures.reader c.advance.ensures)
+unit_character-max-requires-clause-stands g c =
+    range_high_stands (range_front c.args.reader.now c.unit_character-min.new.reader c.advance_counted.new.self _ refl c.requires.range c.unit_character-min.ensures.reader c.advance_counted.ensures.reader)
 
 pub unit_character-max-requires-clause-no_backslash : goal.unit_character-max-requires-clause-no_backslash
-unit_character-max-requires-clause-no_backslash c =
-    range_goes_on (range_front c.args.reader.now c.unit_character-min.new.reader c.advance.new.self _ refl c.requires.range c.unit_character-min.ensures.reader c.advance.ensures)
+unit_character-max-requires-clause-no_backslash g c =
+    range_goes_on (range_front c.args.reader.now c.unit_character-min.new.reader c.advance_counted.new.self _ refl c.requires.range c.unit_character-min.ensures.reader c.advance_counted.ensures.reader)
 
 pub returns-clause-item : goal.returns-clause-item
-returns-clause-item c = λ e item no_sets is.
+returns-clause-item g c = λ e item no_sets is.
     let min = c.unit_character-min in
     let max = c.unit_character-max in
-    let front = range_front c.args.reader.now min.new.reader c.advance.new.self _ refl c.requires.range min.ensures.reader c.advance.ensures in
-    units_range_gives e c.args.spans.now c.args.reader.now max.new.reader front (min.ensures.atom e no_sets) c.advance.ensures (max.ensures.atom e no_sets)
+    let front = range_front c.args.reader.now min.new.reader c.advance_counted.new.self _ refl c.requires.range min.ensures.reader c.advance_counted.ensures.reader in
+    units_range_gives e c.args.spans.now c.args.reader.now max.new.reader front (min.ensures.atom e no_sets) c.advance_counted.ensures.reader (max.ensures.atom e no_sets)
     (range_ordered front min.result.value max.result.value min.ensures.value max.ensures.value)
     (is ∙ ap (λ (s : Span). range (record { span = s; min = min.result; max = max.result })) c.new-span.ensures)
 
 pub returns-clause-reader : goal.returns-clause-reader
-returns-clause-reader c =
-    keeps_on (moved_keeps 1 _ _ c.unit_character-min.ensures.reader) (keeps_on (moved_keeps 1 _ _ c.advance.ensures) (moved_keeps 1 _ _ c.unit_character-max.ensures.reader))
+returns-clause-reader g c =
+    keeps_on (moved_keeps 1 _ _ c.unit_character-min.ensures.reader) (keeps_on (moved_keeps 1 _ _ c.advance_counted.ensures.reader) (moved_keeps 1 _ _ c.unit_character-max.ensures.reader))

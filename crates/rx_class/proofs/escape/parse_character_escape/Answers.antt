@@ -1,8 +1,15 @@
 use Rattle.rx_class.specs.EscapeAnswers.{environment_of}
 use Rattle.rx_class.proofs.Gives.{character_gives}
+use Rattle.rx_class.proofs.ReadingSteps.{found_reading}
 use Rattle.rx_class.proofs.escape.parse_character_escape.Goals as goal
 
-pub returns : goal.returns
-returns c =
+pub returns-clause-gives : goal.returns-clause-gives
+returns-clause-gives g c =
     character_gives (environment_of c.args.state.now) c.args.spans.now c.args.span_start c.args.reader.now _ c.requires.backslash _ _ c.remaining_code_points.ensures.units c.shared_escape-found.ensures.read
-    c.answer.ensures
+    c.answer.ensures.found
+
+pub returns-clause-steps : goal.returns-clause-steps
+returns-clause-steps g c =
+    let found = c.shared_escape-found in
+    found_reading c.args.spans.now c.args.span_start c.args.reader.now c.answer.new.reader (g.C.Counter.count c.args.steps.now) (g.C.Counter.count found.new.steps) (g.C.Counter.count c.answer.new.steps)
+    c.answer.ensures.steps _ found.result c.answer.result c.remaining_code_points.ensures.units c.answer.ensures.found found.ensures.within found.ensures.steps

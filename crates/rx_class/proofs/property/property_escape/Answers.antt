@@ -1,45 +1,76 @@
-use Rattle.std.proofs.Common.{inl, inr, refl, sym, ◌∙◌}
+use Rattle.std.proofs.Common.{arith, inl, inr, refl, sym, ◌∙◌}
+use Rattle.std.proofs.lemmas.List.{length-map}
+use Rattle.rx_units.specs.declared.code_point.CodePoint.{CodePoint}
+use Rattle.rx_units.specs.Cursor.{rest}
 use Rattle.rx_model.specs.Inputs.Modes.{mode_by}
 use Rattle.rx_class.specs.EscapeAnswers.{environment_of}
+use Rattle.rx_class.specs.ReadingSteps.{IsReading}
 use Rattle.rx_class.specs.PropertyAnswers.{GivesProperty, no_memory, none}
 use Rattle.rx_class.proofs.Behind.{stands_within}
 use Rattle.rx_class.proofs.Keeping.{handed, stays_keeps}
 use Rattle.rx_class.proofs.Modes.{state_has_properties}
 use Rattle.rx_class.proofs.PropertyGives.{halt_gives, property_gives}
 use Rattle.rx_class.proofs.Fitting.{start_fits}
+use Rattle.rx_class.proofs.PropertySteps.{property_within}
+use Rattle.rx_class.proofs.ReadingSteps.{looked_then_moved}
 use Rattle.rx_class.proofs.property.property_escape.Goals as goal
 
 pub span_to_here-span-requires-clause-start : goal.span_to_here-span-requires-clause-start
-span_to_here-span-requires-clause-start c = start_fits c.args.spans.now c.args.span_start c.args.reader.now c.requires.fits c.requires.backslash
+span_to_here-span-requires-clause-start g c = start_fits c.args.spans.now c.args.span_start c.args.reader.now c.requires.fits c.requires.backslash
 
-pub returns-then-not-is_unicode : goal.returns-then-not-is_unicode
-returns-then-not-is_unicode c = none refl (inl (sym c.is_unicode.ensures ∙ c.if-not-is_unicode.true))
+pub returns-then-not-is_unicode-clause-gives : goal.returns-then-not-is_unicode-clause-gives
+returns-then-not-is_unicode-clause-gives g c = none refl (inl (sym c.is_unicode.ensures ∙ c.if-not-is_unicode.true))
 
-pub returns-in_err-found : goal.returns-in_err-found
-returns-in_err-found c =
+pub returns-in_err-found-clause-gives : goal.returns-in_err-found-clause-gives
+returns-in_err-found-clause-gives g c =
     let old = c.args.reader.now in
     handed (GivesProperty (environment_of c.args.state.now) c.args.spans.now c.args.span_start old old) c.from_residual.ensures.1
     (no_memory (stays_keeps old old (stands_within old c.args.span_start c.requires.backslash) refl))
 
-pub returns-in-Property : goal.returns-in-Property
-returns-in-Property c =
+pub returns-in-Property-clause-gives : goal.returns-in-Property-clause-gives
+returns-in-Property-clause-gives g c =
     let state = c.args.state.now in
     let has = state_has_properties state.unicode_mode state.unicode_sets_mode (sym c.is_unicode.ensures ∙ c.if-not-is_unicode.false) in
-    let found = rw (c.remaining_code_points.ensures.units, c.in-Property.is) at c.in_ok-found.ensures in
-    property_gives (environment_of state) c.args.spans.now c.args.span_start c.args.reader.now c.requires.backslash has _ c.skip.new.self c.in-Property.length
-    (found (mode_by state.unicode_mode state.unicode_sets_mode) has) c.span_to_here-span.ensures c.skip.ensures
+    let found = rw (c.remaining_code_points.ensures.units, c.in-Property.is) at c.in_ok-found.ensures.found in
+    property_gives (environment_of state) c.args.spans.now c.args.span_start c.args.reader.now c.requires.backslash has _ c.skip_counted.new.self c.in-Property.length
+    (found (mode_by state.unicode_mode state.unicode_sets_mode) has) c.span_to_here-span.ensures c.skip_counted.ensures.reader
 
-pub returns-in-Nothing : goal.returns-in-Nothing
-returns-in-Nothing c =
+pub returns-in-Nothing-clause-gives : goal.returns-in-Nothing-clause-gives
+returns-in-Nothing-clause-gives g c =
     let state = c.args.state.now in
     let has = state_has_properties state.unicode_mode state.unicode_sets_mode (sym c.is_unicode.ensures ∙ c.if-not-is_unicode.false) in
-    let found = rw (c.remaining_code_points.ensures.units, c.in-Nothing.is) at c.in_ok-found.ensures in
+    let found = rw (c.remaining_code_points.ensures.units, c.in-Nothing.is) at c.in_ok-found.ensures.found in
     none refl (inr (found (mode_by state.unicode_mode state.unicode_sets_mode) has))
 
-pub returns-in-Halt : goal.returns-in-Halt
-returns-in-Halt c =
+pub returns-in-Halt-clause-gives : goal.returns-in-Halt-clause-gives
+returns-in-Halt-clause-gives g c =
     let state = c.args.state.now in
     let has = state_has_properties state.unicode_mode state.unicode_sets_mode (sym c.is_unicode.ensures ∙ c.if-not-is_unicode.false) in
-    let found = rw (c.remaining_code_points.ensures.units, c.in-Halt.is) at c.in_ok-found.ensures in
+    let found = rw (c.remaining_code_points.ensures.units, c.in-Halt.is) at c.in_ok-found.ensures.found in
     halt_gives (environment_of state) c.args.spans.now c.args.span_start c.args.reader.now c.requires.backslash _ _ _ (found (mode_by state.unicode_mode state.unicode_sets_mode) has)
     c.refusal.ensures.refusal c.refusal.ensures.reader
+
+pub returns-in_err-found-clause-steps : goal.returns-in_err-found-clause-steps
+returns-in_err-found-clause-steps g c =
+    let old = c.args.reader.now in
+    let steps = rw c.remaining_code_points.ensures.units at c.in_err-found.ensures.steps in
+    handed (IsReading 6 (g.C.Counter.count c.args.steps.now) (g.C.Counter.count c.property_at.new.steps) old old) c.from_residual.ensures.1 (omega (arith, steps.1))
+
+pub returns-in-Property-clause-steps : goal.returns-in-Property-clause-steps
+returns-in-Property-clause-steps g c =
+    let state = c.args.state.now in
+    let old = c.args.reader.now in
+    let has = state_has_properties state.unicode_mode state.unicode_sets_mode (sym c.is_unicode.ensures ∙ c.if-not-is_unicode.false) in
+    let found = rw (c.remaining_code_points.ensures.units, c.in-Property.is) at c.in_ok-found.ensures.found in
+    let steps = rw c.in-Property.is at c.in_ok-found.ensures.steps in
+    let within = property_within (found (mode_by state.unicode_mode state.unicode_sets_mode) has) in
+    looked_then_moved c.in-Property.length old c.skip_counted.new.self (g.C.Counter.count c.args.steps.now) (g.C.Counter.count c.property_at.new.steps) (g.C.Counter.count c.skip_counted.new.steps)
+    (omega (arith, within, length-map (rest old) (λ (u : CodePoint). u.value))) c.skip_counted.ensures.reader (omega (arith, steps.0)) (omega (arith, steps.1)) c.skip_counted.ensures.steps
+
+pub returns-in-Nothing-clause-steps : goal.returns-in-Nothing-clause-steps
+returns-in-Nothing-clause-steps g c = let steps = rw c.in-Nothing.is at c.in_ok-found.ensures.steps in omega (arith, steps.0, steps.1)
+
+pub returns-in-Halt-clause-steps : goal.returns-in-Halt-clause-steps
+returns-in-Halt-clause-steps g c =
+    let steps = rw (c.in-Halt.is, c.remaining_code_points.ensures.units) at c.in_ok-found.ensures.steps in
+    omega (arith, steps.1, c.refusal.ensures.steps)

@@ -6,14 +6,14 @@ use Rattle.rx_class.proofs.Keeping.{handed, moved_keeps}
 use Rattle.rx_class.proofs.SetSteps.{close_adds}
 use Rattle.rx_class.proofs.set_operator.close.Goals as goal
 
-pub returns-in_err-close : goal.returns-in_err-close
-returns-in_err-close c = λ e of.
-    handed (GivesTurn e c.args.spans.now c.args.reader.now c.advance.new.self c.args.builder.now c.close.new.self) c.from_residual-in_err-close.ensures.1
-    (no_memory (moved_keeps 1 c.args.reader.now c.advance.new.self (c.advance.ensures ∙ ap (moved 1) c.in_ok-refuse_negative_strings.ensures.0)))
+pub returns-in_err-close-clause-gives : goal.returns-in_err-close-clause-gives
+returns-in_err-close-clause-gives g c = λ e of.
+    handed (GivesTurn e c.args.spans.now c.args.reader.now c.advance_counted.new.self c.args.builder.now c.close.new.self) c.from_residual-in_err-close.ensures.1
+    (no_memory (moved_keeps 1 c.args.reader.now c.advance_counted.new.self (c.advance_counted.ensures.reader ∙ ap (moved 1) c.in_ok-refuse_negative_strings.ensures.gives.0)))
 
-pub returns : goal.returns
-returns c = λ e of.
+pub returns-clause-gives : goal.returns-clause-gives
+returns-clause-gives g c = λ e of.
     let is = c.in_ok-close.ensures in
     adds
-    (close_adds c.args.spans.now c.args.reader.now c.advance.new.self c.args.builder.now c.close.new.self is.well c.here.result.start c.requires.front c.requires.whole is.held is.events
-    (ap (λ (s : Span). s.start) c.here.ensures) (c.advance.ensures ∙ ap (moved 1) c.in_ok-refuse_negative_strings.ensures.0) e of)
+    (close_adds c.args.spans.now c.args.reader.now c.advance_counted.new.self c.args.builder.now c.close.new.self is.well c.here.result.start c.requires.front c.requires.whole is.held is.events
+    (ap (λ (s : Span). s.start) c.here.ensures) (c.advance_counted.ensures.reader ∙ ap (moved 1) c.in_ok-refuse_negative_strings.ensures.gives.0) e of)

@@ -5,13 +5,13 @@ use Rattle.rx_class.proofs.Keeping.{handed, moved_keeps}
 use Rattle.rx_class.proofs.SetSteps.{open_adds}
 use Rattle.rx_class.proofs.set_operator.open.Goals as goal
 
-pub returns-in_err-open : goal.returns-in_err-open
-returns-in_err-open c = λ e of.
-    handed (GivesTurn e c.args.spans.now c.args.reader.now c.skip.new.self c.args.builder.now c.open.new.self) c.from_residual.ensures.1 (no_memory (moved_keeps c.bracket_length.result _ _ c.skip.ensures))
+pub returns-in_err-open-clause-gives : goal.returns-in_err-open-clause-gives
+returns-in_err-open-clause-gives g c = λ e of.
+    handed (GivesTurn e c.args.spans.now c.args.reader.now c.skip_counted.new.self c.args.builder.now c.open.new.self) c.from_residual.ensures.1 (no_memory (moved_keeps c.bracket_length.result _ _ c.skip_counted.ensures.reader))
 
-pub returns : goal.returns
-returns c = λ e of.
+pub returns-clause-gives : goal.returns-clause-gives
+returns-clause-gives g c = λ e of.
     let is = c.in_ok-open.ensures in
     adds
-    (open_adds c.args.spans.now c.args.reader.now c.skip.new.self c.args.builder.now c.open.new.self is.well c.args.negative c.here-start.result.start c.bracket_length.result c.requires.front is.held is.events
-    (ap (λ (s : Span). s.start) c.here-start.ensures) c.bracket_length.ensures c.skip.ensures e of)
+    (open_adds c.args.spans.now c.args.reader.now c.skip_counted.new.self c.args.builder.now c.open.new.self is.well c.args.negative c.here-start.result.start c.bracket_length.result c.requires.front is.held is.events
+    (ap (λ (s : Span). s.start) c.here-start.ensures) c.bracket_length.ensures c.skip_counted.ensures.reader e of)

@@ -4,7 +4,7 @@ use Rattle.rx_class.specs.ClassItems.{between}
 use Rattle.rx_class.proofs.SetRefusals.{negative_gives}
 use Rattle.rx_class.proofs.set_refusal.refuse_negative_strings.Goals as goal
 
-pub returns-then-is_refused : goal.returns-then-is_refused
-returns-then-is_refused c =
+pub returns-then-is_refused-clause-gives : goal.returns-then-is_refused-clause-gives
+returns-then-is_refused-clause-gives g c =
     negative_gives _ _ _ _ _ _ c.requires.front c.requires.whole (sym c.is_refused.ensures ∙ c.if-is_refused.true) c.of_negative.ensures
-    (c.new-span.ensures ∙ ap (λ (s : Span). between c.args.builder.now.inner.start s.end) c.here.ensures) c.advance.ensures
+    (c.new-span.ensures ∙ ap (λ (s : Span). between c.args.builder.now.inner.start s.end) c.here.ensures) c.advance_counted.ensures.reader

@@ -4,13 +4,13 @@ use Rattle.rx_class.proofs.Fitting.{offset_fits}
 use Rattle.rx_parser.proofs.fault.span_ahead.Goals as goal
 
 pub create-requires-clause-start : goal.create-requires-clause-start
-create-requires-clause-start c =
+create-requires-clause-start g c =
     let r = c.args.reader.now in
-    let is = c.offset-start.ensures.value ∙ ap offset_of c.skip.ensures in
+    let is = c.offset-start.ensures.value ∙ ap offset_of c.skip_counted.ensures.reader in
     subst (λ n. n + c.args.spans.now < 2 ^ 32) (sym is) (offset_fits c.args.spans.now r.first r.units _ c.requires.fits.first c.requires.fits.ends)
 
 pub create-requires-clause-end : goal.create-requires-clause-end
-create-requires-clause-end c =
+create-requires-clause-end g c =
     let r = c.args.reader.now in
-    let is = c.offset-end.ensures.value ∙ ap offset_of (c.skip-2.ensures ∙ ap (moved _) c.skip.ensures) in
+    let is = c.offset-end.ensures.value ∙ ap offset_of (c.skip_counted-2.ensures.reader ∙ ap (moved _) c.skip_counted.ensures.reader) in
     subst (λ n. n + c.args.spans.now < 2 ^ 32) (sym is) (offset_fits c.args.spans.now r.first r.units _ c.requires.fits.first c.requires.fits.ends)

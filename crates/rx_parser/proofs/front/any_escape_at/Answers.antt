@@ -8,7 +8,7 @@ use Rattle.rx_parser.specs.Environments.{seen_environment}
 use Rattle.rx_parser.proofs.front.any_escape_at.Goals as goal
 
 pub returns-clause-within : goal.returns-clause-within
-returns-clause-within c = λ kind value n is.
+returns-clause-within g c = λ kind value n is.
     let us = c.args.behind.now in
-    let l = any_within false (seen_environment c.args.environment) kind value n (values us) (sym c.escape_in_mode.ensures ∙ ap seen_escape is) in
+    let l = any_within false (seen_environment c.args.environment) kind value n (values us) (sym c.escape_in_mode.ensures.read ∙ ap seen_escape is) in
     omega (arith, l, length-map us (λ (u : CodePoint). u.value))

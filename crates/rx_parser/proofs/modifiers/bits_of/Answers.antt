@@ -5,19 +5,20 @@ use Rattle.rx_units.specs.declared.code_point.EscapeKind.TheVariants as kind
 use Rattle.rx_parser.proofs.ModifierBits.{some_bit, no_bits_twice, once_next, bits_next}
 use Rattle.rx_parser.proofs.modifiers.bits_of.Goals as goal
 
-pub returns-in_err-bit : goal.returns-in_err-bit
-returns-in_err-bit c = absurd (some_bit c.args.letters.now c.loop-letter.letter-index (unit 0 0 0 kind.None) (omega arith) c.requires c.in_err-bit.ensures)
+pub returns-in_err-bit-clause-bits : goal.returns-in_err-bit-clause-bits
+returns-in_err-bit-clause-bits g c = absurd (some_bit c.args.letters.now c.loop-letter.letter-index (unit 0 0 0 kind.None) (omega arith) c.requires c.in_err-bit.ensures)
 
-pub returns-then-contains : goal.returns-then-contains
-returns-then-contains c =
+pub returns-then-contains-clause-bits : goal.returns-then-contains-clause-bits
+returns-then-contains-clause-bits g c =
     let bit = c.in_ok-bit.bit.0 in
     no_bits_twice c.args.letters.now c.loop-letter.letter-index (unit 0 0 0 kind.None) (omega arith) bit c.in_ok-bit.ensures
     (ap (λ b. bit_and b bit) (sym c.loop-letter.invariant.bits) ∙ c.contains.ensures.0 c.if-contains.true)
 
 pub loop-letter-preserved : goal.loop-letter-preserved
-loop-letter-preserved c =
+loop-letter-preserved g c =
     let bit = c.in_ok-bit.bit.0 in record {
       once = once_next c.args.letters.now c.loop-letter.letter-index (unit 0 0 0 kind.None) (omega arith) bit c.in_ok-bit.ensures
           (λ h. iff_false c.contains.ensures c.if-contains.false (ap (λ b. bit_and b bit) c.loop-letter.invariant.bits ∙ h)) c.loop-letter.invariant.once;
       bits = c.insert.ensures ∙ ap (λ b. bit_or b bit) c.loop-letter.invariant.bits ∙ bits_next c.args.letters.now c.loop-letter.letter-index (unit 0 0 0 kind.None) (omega arith) bit c.in_ok-bit.ensures;
+      steps = omega (arith, c.loop-letter.invariant.steps);
     }

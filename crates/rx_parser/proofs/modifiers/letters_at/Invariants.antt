@@ -4,4 +4,7 @@ use Rattle.rx_model.specs.Groups.GroupFronts.{letters_at}
 use Rattle.rx_parser.proofs.modifiers.letters_at.Given as goal
 
 abbrev pub invariant-loop-count : goal.invariant-loop-count
-invariant-loop-count l = letters_at (values l.units) ≡ l.count + letters_at (values (drop l.count l.units))
+invariant-loop-count g l = record {
+  letters : letters_at (values l.units) ≡ l.count + letters_at (values (drop l.count l.units));
+  steps : g.C.Counter.count l.steps ≡ g.C.Counter.count l.fn.steps + l.count;
+}

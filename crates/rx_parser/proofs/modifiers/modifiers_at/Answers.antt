@@ -7,8 +7,8 @@ use Rattle.rx_parser.specs.Found.{found_front}
 use Rattle.rx_parser.proofs.ModifiersFound.{letters_there}
 use Rattle.rx_parser.proofs.modifiers.modifiers_at.Goals as goal
 
-pub returns-then-not-stands_at : goal.returns-then-not-stands_at
-returns-then-not-stands_at c =
+pub returns-then-not-stands_at-clause-found : goal.returns-then-not-stands_at-clause-found
+returns-then-not-stands_at-clause-found g c =
     let us = values c.args.units.now in
     let s = c.sides_at-sides.result in
     let there : starts 58 (drop s.length us) ≡ false = sym c.if-not-stands_at.ensures.there in
@@ -17,21 +17,21 @@ returns-then-not-stands_at c =
     ∙ ap (λ r. found_front (modified_read (read_sides r us))) c.sides_at-sides.ensures.sides
 
 pub bits_of-requires : goal.bits_of-requires
-bits_of-requires c =
+bits_of-requires g c =
     let s = c.sides_at-sides.result in
     (letters_there c.args.units.now (values s.enabling.now) (values s.disabling.now) s.length c.sides_at-sides.ensures.sides).0
 
 pub bits_of-requires-2 : goal.bits_of-requires-2
-bits_of-requires-2 c =
+bits_of-requires-2 g c =
     let s = c.sides_at-sides.result in
     (letters_there c.args.units.now (values s.enabling.now) (values s.disabling.now) s.length c.sides_at-sides.ensures.sides).1
 
-pub returns : goal.returns
-returns c =
+pub returns-clause-found : goal.returns-clause-found
+returns-clause-found g c =
     let us = values c.args.units.now in
     let s = c.sides_at-sides.result in
     let there : starts 58 (drop s.length us) ≡ true = sym c.if-not-stands_at.ensures.there in
     c.modified.ensures
-    ∙ ap₂ (λ a b. found_front (modified_read (read_bits a b s.length))) c.bits_of.ensures c.bits_of-2.ensures
+    ∙ ap₂ (λ a b. found_front (modified_read (read_bits a b s.length))) c.bits_of.ensures.bits c.bits_of-2.ensures.bits
     ∙ ap (λ b. found_front (modified_read (cond b (read_bits (are_bits (values s.enabling.now)) (are_bits (values s.disabling.now)) s.length) (no_modifiers_read no_colon s.length)))) (sym there)
     ∙ ap (λ r. found_front (modified_read (read_sides r us))) c.sides_at-sides.ensures.sides

@@ -22,30 +22,30 @@ name_fits mode added r f k span e =
     subst (λ span. (span.0 + added < 2 ^ 32) × (span.1 + added < 2 ^ 32)) (sym e) (offset_fits added r.first r.units places.0 f.first f.ends, offset_fits added r.first r.units places.1 f.first f.ends)
 
 pub create-requires : goal.create-requires
-create-requires c =
+create-requires g c =
     let told = subst (IsStateFault (mode_of_state c.args.state.now) c.args.reader.now) c.in-Err-Duplicated.field-0-is c.in-Err-Duplicated.ensures.refused in
     let fits = name_fits (mode_of_state c.args.state.now) c.args.spans.now c.args.reader.now c.requires.fits told.0 c.in-Err-Duplicated.first told.3 in
     record { start = fits.0; end = fits.1 }
 
 pub create-requires-in-Err-Duplicated : goal.create-requires-in-Err-Duplicated
-create-requires-in-Err-Duplicated c =
+create-requires-in-Err-Duplicated g c =
     let told = subst (IsStateFault (mode_of_state c.args.state.now) c.args.reader.now) c.in-Err-Duplicated.field-0-is c.in-Err-Duplicated.ensures.refused in
     let fits = name_fits (mode_of_state c.args.state.now) c.args.spans.now c.args.reader.now c.requires.fits told.1 c.in-Err-Duplicated.second told.4 in
     record { start = fits.0; end = fits.1 }
 
 pub returns-in-Ok-clause-pass : goal.returns-in-Ok-clause-pass
-returns-in-Ok-clause-pass c =
+returns-in-Ok-clause-pass g c =
     let it = c.in-Ok.ensures in
-    let new = c.initialize_with_parsing.new.self in
+    let new = c.initialize_with_parsing_counted.new.self in
     let small : new.num_of_capturing_groups < 2 ^ 32 - 1 = search rules in
     holds_pass c.args.reader.now.units c.args.state.now new it.unicode_mode it.unicode_sets_mode it.groups it.names it.apart small
 
 pub returns-in-Ok-2-clause-refused : goal.returns-in-Ok-2-clause-refused
-returns-in-Ok-2-clause-refused c =
+returns-in-Ok-2-clause-refused g c =
     let r = c.args.reader.now in
     let state = c.args.state.now in
     let it = c.in-Ok.ensures in
-    let groups = c.initialize_with_parsing.new.self.num_of_capturing_groups in
+    let groups = c.initialize_with_parsing_counted.new.self.num_of_capturing_groups in
     let added = c.args.spans.now in
     let none : 0 + added ≡ added = omega arith in
     let large : 2 ^ 32 - 1 ≤ groups = search rules in
@@ -53,7 +53,7 @@ returns-in-Ok-2-clause-refused c =
     (many_refused r.units state r.first added groups it.apart it.groups large)
 
 pub returns-in-Err-Duplicated-clause-refused : goal.returns-in-Err-Duplicated-clause-refused
-returns-in-Err-Duplicated-clause-refused c =
+returns-in-Err-Duplicated-clause-refused g c =
     let r = c.args.reader.now in
     let state = c.args.state.now in
     let mode = mode_of_state state in

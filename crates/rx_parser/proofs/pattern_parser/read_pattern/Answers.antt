@@ -6,10 +6,12 @@ use Rattle.rx_parser.specs.Frames.{openers}
 use Rattle.rx_parser.specs.Parsing.{HoldsPass, IsParsing, IsRefused}
 use Rattle.rx_parser.proofs.Endings.{parsing_begun, parsing_ended}
 use Rattle.rx_parser.proofs.Halts.{ended_refused}
+use Rattle.rx_parser.proofs.Paces.{plain_within}
+use Rattle.rx_parser.proofs.TokenPaces.{turns_paced}
 use Rattle.rx_parser.proofs.pattern_parser.read_pattern.Goals as goal
 
 pub loop-alloc-init : goal.loop-alloc-init
-loop-alloc-init c =
+loop-alloc-init g c =
     let r = c.args.reader.now in
     let b = c.in_ok-builder in
     record {
@@ -17,10 +19,11 @@ loop-alloc-init c =
           (parsing_begun r.units r.first c.args.spans.now c.here.result b.builder (c.here.ensures ∙ ap (λ k. offset_of (record r { place = k }) + c.args.spans.now) c.requires.start)
           b.ensures.events b.ensures.openers b.ensures.ready b.ensures.good b.ensures.mode);
       same = refl;
+      pace = (omega arith, omega arith);
     }
 
 pub turn-requires : goal.turn-requires
-turn-requires c =
+turn-requires g c =
     let l = c.loop-alloc.reader in
     let it = c.loop-alloc.invariant in
     let some : length (drop l.place l.units) ≡ 0 → ⊥ = search rules in
@@ -35,22 +38,23 @@ turn-requires c =
     }
 
 pub loop-alloc-smaller : goal.loop-alloc-smaller
-loop-alloc-smaller c =
+loop-alloc-smaller g c =
     let it = c.in_ok-turn.ensures.turned in
     omega (arith, it.moved, it.parsing.within, ap (λ (r : Cursor). length r.units) it.same)
 
 pub loop-alloc-preserved : goal.loop-alloc-preserved
-loop-alloc-preserved c =
+loop-alloc-preserved g c =
     let it = c.in_ok-turn.ensures.turned in
     let r = c.turn.new.reader in
     let was = c.loop-alloc.invariant in
     record {
       parsing = subst (λ mode. IsParsing mode r.units r.first c.args.spans.now c.turn.new.builder r.place) was.parsing.at.mode it.parsing;
       same = it.same ∙ ap (λ (k : Cursor). record k { place = r.place }) was.same;
+      pace = turns_paced c.args.reader.now c.loop-alloc.reader r (g.C.Counter.count c.args.steps.now) (g.C.Counter.count c.loop-alloc.steps) (g.C.Counter.count c.turn.new.steps) was.pace c.in_ok-turn.ensures.steps;
     }
 
 pub returns-in_err-turn-clause-refused : goal.returns-in_err-turn-clause-refused
-returns-in_err-turn-clause-refused c =
+returns-in_err-turn-clause-refused g c =
     let r = c.args.reader.now in
     let it = c.loop-alloc.invariant in
     let fault = c.in_err-turn.field-0.0 in
@@ -60,10 +64,10 @@ returns-in_err-turn-clause-refused c =
     search rules
 
 pub here-requires-2 : goal.here-requires-2
-here-requires-2 c = record { fits = subst (AreFitting c.args.spans.now) (sym c.loop-alloc.invariant.same) (record { first = c.requires.fits.first; ends = c.requires.fits.ends }) }
+here-requires-2 g c = record { fits = subst (AreFitting c.args.spans.now) (sym c.loop-alloc.invariant.same) (record { first = c.requires.fits.first; ends = c.requires.fits.ends }) }
 
 pub returns-then-not-is_whole-clause-refused : goal.returns-then-not-is_whole-clause-refused
-returns-then-not-is_whole-clause-refused c =
+returns-then-not-is_whole-clause-refused g c =
     let r = c.args.reader.now in
     let l = c.loop-alloc.reader in
     let b = c.loop-alloc.builder in
@@ -77,7 +81,7 @@ returns-then-not-is_whole-clause-refused c =
     (subst (λ (k : Cursor). IsEndedFault k.units k.first c.args.spans.now l.place b c.ended.result) same c.ended.ensures)
 
 pub returns-clause-whole : goal.returns-clause-whole
-returns-clause-whole c =
+returns-clause-whole g c =
     let r = c.args.reader.now in
     let l = c.loop-alloc.reader in
     let it = c.in_ok-finish in
@@ -87,3 +91,24 @@ returns-clause-whole c =
     (subst (λ (k : Cursor). IsParsing c.args.mode k.units k.first c.args.spans.now c.loop-alloc.builder l.place) same c.loop-alloc.invariant.parsing)
     (omega (arith, left, length-drop l.place l.units, ap (λ (k : Cursor). length k.units) same))
     (c.here-2.ensures ∙ ap (λ k. offset_of k + c.args.spans.now) same) it.ensures.events it.ensures.good
+
+pub returns-then-not-is_whole-clause-steps : goal.returns-then-not-is_whole-clause-steps
+returns-then-not-is_whole-clause-steps g c =
+    let r = c.args.reader.now in
+    let l = c.loop-alloc.reader in
+    let none : length (drop l.place l.units) ≡ 0 = search rules in
+    omega (arith, none, c.loop-alloc.invariant.pace.1, plain_within (drop l.place l.units), length-drop r.place r.units)
+
+pub returns-in_err-finish-clause-steps : goal.returns-in_err-finish-clause-steps
+returns-in_err-finish-clause-steps g c =
+    let r = c.args.reader.now in
+    let l = c.loop-alloc.reader in
+    let none : length (drop l.place l.units) ≡ 0 = search rules in
+    omega (arith, none, c.loop-alloc.invariant.pace.1, plain_within (drop l.place l.units), length-drop r.place r.units)
+
+pub returns-clause-steps : goal.returns-clause-steps
+returns-clause-steps g c =
+    let r = c.args.reader.now in
+    let l = c.loop-alloc.reader in
+    let none : length (drop l.place l.units) ≡ 0 = search rules in
+    omega (arith, none, c.loop-alloc.invariant.pace.1, plain_within (drop l.place l.units), length-drop r.place r.units)

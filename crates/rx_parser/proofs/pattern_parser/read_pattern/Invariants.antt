@@ -1,12 +1,14 @@
 use Rattle.std.proofs.Common.{◌≡◌, ◌-◌, length}
+use Rattle.rx_parser.specs.Pace.{IsTurnPaced}
 use Rattle.rx_parser.specs.Parsing.{IsParsing}
 use Rattle.rx_parser.proofs.pattern_parser.read_pattern.Given as goal
 
 abbrev pub invariant-loop-alloc : goal.invariant-loop-alloc
-invariant-loop-alloc l = record {
+invariant-loop-alloc g l = record {
   parsing : IsParsing l.fn.mode l.reader.units l.reader.first l.spans l.builder l.reader.place;
   same : l.reader ≡ record l.fn.reader { place = l.reader.place };
+  pace : IsTurnPaced (g.C.Counter.count l.fn.steps) (g.C.Counter.count l.steps) l.fn.reader l.reader;
 }
 
 abbrev pub decreases-loop-alloc : goal.decreases-loop-alloc
-decreases-loop-alloc l = length l.reader.units - l.reader.place
+decreases-loop-alloc g l = length l.reader.units - l.reader.place

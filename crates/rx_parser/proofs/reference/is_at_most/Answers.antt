@@ -3,8 +3,8 @@ use Rattle.rx_units.specs.Units.{values}
 use Rattle.rx_parser.proofs.NumberFound.{least_number, number_run}
 use Rattle.rx_parser.proofs.reference.is_at_most.Goals as goal
 
-pub returns : goal.returns
-returns c =
+pub returns-clause-most : goal.returns-clause-most
+returns-clause-most g c =
     let it = c.number_at-number in
     let read = it.ensures.number in
     let w = values c.args.units.now in

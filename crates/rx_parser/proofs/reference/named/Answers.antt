@@ -6,8 +6,8 @@ use Rattle.rx_parser.specs.Found.{found_front}
 use Rattle.rx_parser.proofs.NameFound.{halt_answered, name_answered}
 use Rattle.rx_parser.proofs.reference.named.Goals as goal
 
-pub returns-in-Name : goal.returns-in-Name
-returns-in-Name c = ap found_front (sym (name_answered named (name_read_at c.args.unicode_mode (values c.args.units.now)) c.in-Name.length c.in-Name.ensures.read).1)
+pub returns-in-Name-clause-found : goal.returns-in-Name-clause-found
+returns-in-Name-clause-found g c = ap found_front (sym (name_answered named (name_read_at c.args.unicode_mode (values c.args.units.now)) c.in-Name.length c.in-Name.ensures.read).1)
 
-pub returns-in-Halt : goal.returns-in-Halt
-returns-in-Halt c = halt_answered named (name_read_at c.args.unicode_mode (values c.args.units.now)) c.in-Halt.halt c.in-Halt.ensures.read
+pub returns-in-Halt-clause-found : goal.returns-in-Halt-clause-found
+returns-in-Halt-clause-found g c = halt_answered named (name_read_at c.args.unicode_mode (values c.args.units.now)) c.in-Halt.halt c.in-Halt.ensures.read

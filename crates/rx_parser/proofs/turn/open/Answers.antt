@@ -4,12 +4,12 @@ use Rattle.rx_model.specs.Refusals.Reached.{text_names}
 use Rattle.rx_parser.proofs.Turns.{open_turned, passed}
 use Rattle.rx_parser.proofs.turn.open.Goals as goal
 
-pub returns : goal.returns
-returns c =
+pub returns-clause-turned : goal.returns-clause-turned
+returns-clause-turned g c =
     let h = c.requires.before in
     let found = c.requires.found in
     let begun = c.in_ok-group_kind in
     let it = c.in_ok-open.ensures in
-    open_turned h c.open.new.self c.skip.new.self c.args.opener begun.group_kind found.0 c.args.length c.here-at.result c.here.result found.2 begun.ensures.group_kind
-    (passed h found.1 c.here-at.ensures c.here.ensures (c.skip.ensures ∙ ap (moved c.args.length) begun.ensures.reader)) (found.1.2 (text_names c.args.builder.now.mode c.args.reader.now.units))
+    open_turned h c.open.new.self c.skip_counted.new.self c.args.opener begun.group_kind found.0 c.args.length c.here-at.result c.here.result found.2 begun.ensures.group_kind
+    (passed h found.1 c.here-at.ensures c.here.ensures (c.skip_counted.ensures.reader ∙ ap (moved c.args.length) begun.ensures.reader)) (found.1.2 (text_names c.args.builder.now.mode c.args.reader.now.units))
     (record { events = it.events; openers_are = it.openers; ready_is = it.ready; good = it.good; mode = it.mode })

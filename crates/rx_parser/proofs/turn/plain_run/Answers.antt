@@ -13,13 +13,13 @@ use Rattle.rx_parser.proofs.PlainRuns.{Takes, run_on, unit_end, unit_is, unit_pl
 use Rattle.rx_parser.proofs.turn.plain_run.Goals as goal
 
 pub create-span-requires-clause-start : goal.create-span-requires-clause-start
-create-span-requires-clause-start c =
+create-span-requires-clause-start g c =
     let r = c.args.reader.now in
     subst (λ k. k + c.args.spans.now < 2 ^ 32) (sym c.loop-unit.invariant.start)
     (offset_fits c.args.spans.now r.first r.units (r.place + c.loop-unit.unit-index) c.requires.before.fits.first c.requires.before.fits.ends)
 
 pub loop-unit-preserved : goal.loop-unit-preserved
-loop-unit-preserved c =
+loop-unit-preserved g c =
     let r = c.args.reader.now in
     let us = c.remaining_code_points.result.now in
     let left = c.remaining_code_points.ensures.units in
@@ -42,4 +42,5 @@ loop-unit-preserved c =
       parsing = run_on c.requires.before i u some is c.loop-unit.builder c.leaf.new.self c.term.result c.loop-unit.start (subst (All (λ (u : CodePoint). u.value ≤ 0x10FFFF)) left c.remaining_code_points.ensures.code_points)
           (unit_plain r us c.args.count i d left inside within c.requires.plain) c.loop-unit.invariant.parsing c.loop-unit.invariant.start taken;
       start = unit_end c.requires.before i u some is;
+      steps = omega (arith, c.loop-unit.invariant.steps);
     }

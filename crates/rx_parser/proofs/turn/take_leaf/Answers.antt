@@ -4,14 +4,14 @@ use Rattle.rx_parser.specs.Found.{leaf_token}
 use Rattle.rx_parser.proofs.Turns.{leaf_turned, passed}
 use Rattle.rx_parser.proofs.turn.take_leaf.Goals as goal
 
-pub returns : goal.returns
-returns c =
+pub returns-clause-turned : goal.returns-clause-turned
+returns-clause-turned g c =
     let h = c.requires.before in
     let b = c.args.builder.now in
     let span = c.new-span in
     let its = c.term.ensures in
     let it = c.in_ok-leaf.ensures in
-    leaf_turned h c.leaf.new.self c.skip.new.self (leaf_token c.args.leaf) c.args.length span.result.start span.result.end c.term.result
-    (passed h c.requires.found (ap (λ s. s.start) span.ensures ∙ c.here-at.ensures) (ap (λ s. s.end) span.ensures ∙ c.here.ensures) c.skip.ensures)
+    leaf_turned h c.leaf.new.self c.skip_counted.new.self (leaf_token c.args.leaf) c.args.length span.result.start span.result.end c.term.result
+    (passed h c.requires.found (ap (λ s. s.start) span.ensures ∙ c.here-at.ensures) (ap (λ s. s.end) span.ensures ∙ c.here.ensures) c.skip_counted.ensures.reader)
     (c.requires.found.2 (text_names b.mode c.args.reader.now.units)) its
     (record { events = it.events; openers_are = it.openers; ready_is = it.ready; good = it.good (its.good b.mode); mode = it.mode })

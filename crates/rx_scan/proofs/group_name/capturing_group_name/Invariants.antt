@@ -1,13 +1,4 @@
-use Rattle.std.proofs.Common.{◌≡◌, ◌-◌, ◌≤◌, ◌==◌, drop, length}
-use Rattle.rx_units.specs.Units.{values}
-use Rattle.rx_model.specs.Groups.GroupNameReading.{name_at, row_after, row_behind}
 use Rattle.rx_scan.proofs.group_name.capturing_group_name.Given as goal
 
-abbrev pub invariant-loop-place : goal.invariant-loop-place
-invariant-loop-place l = record {
-  within : l.place ≤ length l.units;
-  read : name_at l.unicode_mode (values l.units) ≡ row_behind l.name l.place (row_after l.unicode_mode (l.place == 0) 0 (values (drop l.place l.units)));
-}
-
-abbrev pub decreases-loop-place : goal.decreases-loop-place
-decreases-loop-place l = length l.units - l.place
+abbrev pub ghosts-name_alone : goal.ghosts-name_alone
+ghosts-name_alone a = record { name = a.blank.name; parts = a.blank.parts }

@@ -1,7 +1,10 @@
-use Rattle.std.proofs.Common.{◌≡◌, drop}
+use Rattle.std.proofs.Common.{◌≡◌, ◌+◌, drop}
 use Rattle.rx_units.specs.Units.{values}
 use Rattle.rx_model.specs.Characters.Decoding.{run_at}
 use Rattle.rx_scan.proofs.unicode_escape.digits_to_brace.Given as goal
 
 abbrev pub invariant-loop-count : goal.invariant-loop-count
-invariant-loop-count l = run_at l.value l.count (values (drop l.count l.units)) ≡ run_at 0 0 (values l.units)
+invariant-loop-count g l = record {
+  read : run_at l.value l.count (values (drop l.count l.units)) ≡ run_at 0 0 (values l.units);
+  turns : g.C.Counter.count l.steps ≡ g.C.Counter.count l.fn.steps + l.count;
+}

@@ -5,8 +5,8 @@ use Rattle.rx_class.proofs.FirstPasses.{holds_first_pass, without_err}
 use Rattle.rx_class.proofs.TextFits.{made_are_fitting}
 use Rattle.rx_scan_tests.proofs.classes.class.Goals as goal
 
-pub parse_character_class-found-requires-clause-pass : goal.parse_character_class-found-requires-clause-pass
-parse_character_class-found-requires-clause-pass c =
+pub counted_class-found-requires-clause-pass : goal.counted_class-found-requires-clause-pass
+counted_class-found-requires-clause-pass c =
     let it = c.initialize_with_parsing.ensures in
     let call = c.initialize_with_parsing.result in
     let no_err = sym c.if-is_err.ensures.value in
@@ -16,7 +16,7 @@ parse_character_class-found-requires-clause-pass c =
     (holds_first_pass c.in_ok-reader.reader.units c.new-state.result new it.unicode_mode it.unicode_sets_mode
     (without_err call no_err it.groups) (without_err call no_err it.names) small)
 
-pub parse_character_class-found-requires-clause-fits : goal.parse_character_class-found-requires-clause-fits
-parse_character_class-found-requires-clause-fits c =
-    let fits : c.new.result + length c.args.text.now < 2 ^ 32 = omega (arith, c.requires, c.new.ensures) in
-    made_are_fitting true c.args.text.now c.new.result c.initialize_with_parsing.new.reader c.utf8.text fits (c.initialize_with_parsing.ensures.reader ∙ c.in_ok-reader.ensures.literal refl)
+pub counted_class-found-requires-clause-fits : goal.counted_class-found-requires-clause-fits
+counted_class-found-requires-clause-fits c =
+    let fits : c.new-spans.result + length c.args.text.now < 2 ^ 32 = omega (arith, c.requires, c.new-spans.ensures) in
+    made_are_fitting true c.args.text.now c.new-spans.result c.initialize_with_parsing.new.reader c.utf8.text fits (c.initialize_with_parsing.ensures.reader ∙ c.in_ok-reader.ensures.literal refl)

@@ -2,18 +2,18 @@ use Rattle.std.proofs.Common.{IfErr, IfOk, rules}
 use Rattle.rx_scan.specs.StateFaults.{mode_of_state}
 use Rattle.rx_parser.specs.Parsing.{IsRefused, IsWhole}
 use Rattle.rx_parser.proofs.Refused.{answered}
-use Rattle.rx_parser.proofs.pattern_parser.PatternParser.parse.Goals as goal
+use Rattle.rx_parser.proofs.pattern_parser.PatternParser.parse_counted.Goals as goal
 
-pub returns-in_err-first_pass : goal.returns-in_err-first_pass
-returns-in_err-first_pass c =
+pub returns-in_err-first_pass-clause-answer : goal.returns-in_err-first_pass-clause-answer
+returns-in_err-first_pass-clause-answer g c =
     let it = c.args.self in
     let mode = mode_of_state it.state in
     let none : IfOk c.from_residual.result (IsWhole mode it.reader.units it.reader.first it.spans) = search rules in
     let refused : IfErr c.from_residual.result (IsRefused mode it.reader.units it.reader.first it.spans) = search rules in
     answered mode it.reader.units it.reader.first it.spans c.from_residual.result none refused
 
-pub returns : goal.returns
-returns c =
+pub returns-clause-answer : goal.returns-clause-answer
+returns-clause-answer g c =
     let it = c.args.self in
     let mode = mode_of_state it.state in
     let whole : IfOk c.read_pattern.result (IsWhole mode it.reader.units it.reader.first it.spans) = search rules in

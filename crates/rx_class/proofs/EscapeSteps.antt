@@ -1,0 +1,129 @@
+-- What bounds the steps of looking at an escape.
+use Rattle.std.proofs.Common.{◌≡◌, ℕ, ◌+◌, ◌≤◌, ◌==◌, Bool, true, false, cond, is_some, Option, Some, None, List, [], ◌∷◌, length, refl, sym, ap, ◌∙◌, ◌⊎◌, inl, inr, arith, length-append}
+use Rattle.std.proofs.Math.Bool.{and-false, or-true}
+use Rattle.std.proofs.lemmas.Bool.{eqb-true}
+use Rattle.rx_base.specs.Rising.{Rises}
+use Rattle.rx_tables.specs.Characters.{control_escape_value, is_decimal_digit}
+use Rattle.rx_ast.specs.declared.leaf.CharacterKind.{CharacterKind}
+use Rattle.rx_ast.specs.declared.leaf.CharacterKind.TheVariants as kinds
+use Rattle.rx_units.specs.declared.code_point.CodePoint.{CodePoint}
+use Rattle.rx_units.specs.Units.{values}
+use Rattle.rx_units.specs.Digits.{front_is, hex_number}
+use Rattle.rx_units.proofs.Choices.{chosen}
+use Rattle.rx_model.specs.Characters.Decoding.{four_at, behind_u}
+use Rattle.rx_model.specs.Characters.EscapeFronts.{escaped, nothing, no_unicode, escaped_if, unicode_read, letter_at, two_at, escape_behind, escape_at, legacy_at}
+use Rattle.rx_model.specs.Characters.LegacyEscapes.{four_next, identity}
+use Rattle.rx_model.specs.Characters.UnicodeEscapes.{Decodes, SpellsUnicode, alone, braced, code_unit, pair}
+use Rattle.rx_model.specs.Inputs.Environment.{Environment}
+use Rattle.rx_model.specs.Inputs.Modes.{mode_by}
+use Rattle.rx_model.proofs.Characters.LegacyEscapes.{spelled_legacy}
+use Rattle.rx_class.specs.EscapeSteps.{few_looks, most_looks}
+use Rattle.rx_class.specs.Found.{seen_escape}
+use Rattle.rx_class.specs.declared.escape_found.EscapeFound.{EscapeFound}
+use Rattle.rx_class.specs.declared.escape_found.EscapeFound.TheVariants as found
+use Rattle.rx_class.specs.declared.legacy_escape.LegacyContext.{LegacyContext}
+
+-- A unicode escape takes four units at least.
+spelled_long : (u : Bool) (v : ℕ) (w rest : List ℕ) → SpellsUnicode u v w rest → 4 ≤ length w
+spelled_long _ _ _ _ (code_unit h) = omega arith
+spelled_long _ _ _ _ (alone h n) = omega arith
+spelled_long _ _ _ _ (pair h k l t) = omega arith
+spelled_long _ _ _ _ (braced x xs h s) = omega (arith, length-append xs (125 ∷ []))
+
+pub long_value : (u : Bool) (w : List ℕ) (v n : ℕ) → Decodes u w v n → 4 ≤ n
+long_value u w v n d = omega (arith, d.count, spelled_long u v d.spelled d.rest d.spells)
+
+-- An escape that is no unicode escape begins with `u`.
+if_some : (k : CharacterKind) (n : ℕ) (o : Option ℕ) → escaped_if k n o ≡ no_unicode → ⊥
+if_some k n None h = cc h
+if_some k n (Some v) h = cc h
+
+null_some : (b : Bool) → cond b nothing (escaped kinds.Null 0 1) ≡ no_unicode → ⊥
+null_some true h = cc h
+null_some false h = cc h
+
+u_behind : (c : ℕ) (w : List ℕ) (o : Option ℕ) → escape_behind false o c w ≡ no_unicode → (c == 117) ≡ true
+u_behind c w (Some v) h = absurd (let no : ⊥ = cc h in no)
+u_behind c w None h = elim (chosen (c == 99) h) [
+  | inl p ↦ absurd (if_some kinds.ControlLetter 2 (letter_at w) p.1)
+  | inr p ↦ elim (chosen (c == 48) p.1) [
+    | inl q ↦ absurd (null_some (front_is is_decimal_digit w) q.1)
+    | inr q ↦ elim (chosen (c == 120) q.1) [
+      | inl r ↦ absurd (if_some kinds.HexadecimalEscape 3 (two_at w) r.1)
+      | inr r ↦ elim (chosen (c == 117) r.1) [
+        | inl s ↦ s.0
+        | inr s ↦ absurd (let no : ⊥ = cc s.1 in no)
+      ]
+    ]
+  ]
+]
+
+-- and no four digits follow it
+no_number : (rest : List ℕ) (a b c d : ℕ) (o : Option ℕ) → hex_number (a ∷ b ∷ c ∷ d ∷ []) ≡ o → unicode_read (behind_u false (four_at (a ∷ b ∷ c ∷ d ∷ rest)) (a ∷ b ∷ c ∷ d ∷ rest)) ≡ no_unicode → is_some o ≡ false
+no_number rest a b c d None e h = refl
+no_number rest a b c d (Some v) e h = absurd (let k = rw e at h in let no : ⊥ = cc k in no)
+
+no_four : (w : List ℕ) → unicode_read (behind_u false (four_at w) w) ≡ no_unicode → is_some (four_next w) ≡ false
+no_four [] h = refl
+no_four (a ∷ []) h = refl
+no_four (a ∷ b ∷ []) h = refl
+no_four (a ∷ b ∷ c ∷ []) h = refl
+no_four (a ∷ b ∷ c ∷ d ∷ w) h = no_number w a b c d (hex_number (a ∷ b ∷ c ∷ d ∷ [])) refl h
+
+u_alone : (inside : Bool) (e : Environment) (w : List ℕ) → is_some (four_next w) ≡ false → legacy_at inside e (117 ∷ w) ≡ escaped kinds.Identifier 117 1
+u_alone inside e w h = spelled_legacy inside e kinds.Identifier 117 (117 ∷ []) w (identity record {
+  no_letter = refl;
+  no_octal = refl;
+  no_k = and-false e.named;
+  no_boundary = and-false _;
+  no_reference = or-true inside;
+  no_x = refl;
+  no_u = h;
+})
+
+at_u : (inside : Bool) (e : Environment) (c : ℕ) (w : List ℕ) → c ≡ 117 → escape_at false (c ∷ w) ≡ no_unicode → legacy_at inside e (c ∷ w) ≡ escaped kinds.Identifier 117 1
+unfolding escape_at
+at_u inside e c w is h = let k = rw is at h in rw is (u_alone inside e w (no_four w k))
+
+-- With neither `u` nor `v` such a `u` stands for itself.
+pub stands_for_itself : (inside : Bool) (e : Environment) (w : List ℕ) → escape_at false w ≡ no_unicode → legacy_at inside e w ≡ escaped kinds.Identifier 117 1
+unfolding escape_at
+stands_for_itself inside e [] h = absurd (let no : ⊥ = cc h in no)
+stands_for_itself inside e (c ∷ w) h = at_u inside e c w (eqb-true c 117 (u_behind c w (control_escape_value c) h)) h
+
+-- A character that was found is known by what is seen of it.
+character_seen : (k : CharacterKind) (v n : ℕ) (answer : EscapeFound) → seen_escape answer ≡ escaped k v n → answer ≡ found.Character k v n
+character_seen k v n (found.Character j w m) h = let same : found.Character j w m ≡ found.Character k v n = cc h in same
+character_seen k v n found.Nothing h = absurd (let no : ⊥ = cc h in no)
+character_seen k v n (found.TooMany m) h = absurd (let no : ⊥ = cc h in no)
+character_seen k v n found.Invalid h = absurd (let no : ⊥ = cc h in no)
+
+-- Where no escape of every mode is found, the escapes with neither `u` nor `v` alone are looked at.
+pub record LooksOn (us : List CodePoint) (context : LegacyContext) (first answer : EscapeFound) (a b d more : ℕ) : Type 0 where
+  pub none : (first ≡ found.Nothing) ⊎ (first ≡ found.Invalid)
+  pub first_read : seen_escape first ≡ escape_at false (values us)
+  pub first_most : Rises a b 0 (most_looks false (length us) first)
+  pub first_few : Rises a b 0 (few_looks (length us) first)
+  pub read : (e : Environment) → e.groups ≡ context.groups → e.named ≡ context.named → seen_escape answer ≡ legacy_at context.inside e (values us)
+  pub rises : Rises b d 0 more
+  pub inside : context.inside ≡ true → more ≡ 0
+
+module _ {us : List CodePoint} {context : LegacyContext} {first answer : EscapeFound} {a b d more : ℕ} (h : LooksOn us context first answer a b d more) where
+  letter : first ≡ found.Invalid → answer ≡ found.Character kinds.Identifier 117 1
+  letter is =
+      let e : Environment = record { mode = mode_by false false; groups = context.groups; named = context.named; buffer_boundaries = true } in
+      character_seen kinds.Identifier 117 1 answer (h.read e refl refl ∙ stands_for_itself context.inside e (values us) (sym h.first_read ∙ ap seen_escape is))
+
+  pub most_on : Rises a d 0 (most_looks false (length us) answer + more)
+  most_on = elim h.none [
+    | inl is ↦ let few = rw is at h.first_few in (omega (arith, few.0, h.rises.0), omega (arith, few.1, h.rises.1))
+    | inr is ↦ let most = rw is at h.first_most in rw (letter is) (omega (arith, most.0, h.rises.0), omega (arith, most.1, h.rises.1))
+  ]
+
+  pub few_on : context.inside ≡ true → Rises a d 0 (few_looks (length us) answer)
+  few_on i =
+      let none = h.inside i in
+      elim h.none [
+        | inl is ↦ let few = rw is at h.first_few in (omega (arith, few.0, h.rises.0), omega (arith, few.1, h.rises.1, none))
+        | inr is ↦ let most = rw is at h.first_most in rw (letter is) (omega (arith, most.0, h.rises.0), omega (arith, most.1, h.rises.1, none))
+      ]

@@ -1,0 +1,112 @@
+-- How many steps the readers of tokens take, where a step is a unit that is moved over, or a turn of a loop that looks ahead.
+use Rattle.std.specs.Prelude.{ℕ, ◌+◌, ◌-◌, ◌*◌, ◌≤◌, ◌==◌, not, List, length, drop, min, Result, MatchResult, if◌then◌else◌}
+use Rattle.std.specs.List.{prefix_len}
+use Rattle.rx_base.specs.Rising.{Rises}
+use Rattle.rx_tables.specs.Characters.{is_decimal_digit, is_syntax_character}
+use Rattle.rx_units.specs.declared.code_point.CodePoint.{CodePoint}
+use Rattle.rx_units.specs.Cursor.{Cursor, rest}
+use Rattle.rx_units.specs.Pace.{left}
+use Rattle.rx_class.specs.declared.escape_found.EscapeFound.{EscapeFound}
+use Rattle.rx_class.specs.declared.escape_found.EscapeFound.TheVariants as escape
+use Rattle.rx_parser.specs.declared.counts.CountsFound.{CountsFound}
+use Rattle.rx_parser.specs.declared.counts.CountsFound.TheVariants as counts
+use Rattle.rx_parser.specs.declared.found.Found.{Found}
+use Rattle.rx_parser.specs.declared.found.Found.TheVariants as found
+use Rattle.rx_parser.specs.declared.name.NameFound.{NameFound}
+use Rattle.rx_parser.specs.declared.name.NameFound.TheVariants as name
+
+-- how many units at the front are no SyntaxCharacter, and so stand for themselves in every mode
+unfoldable pub plain : List CodePoint → ℕ
+plain us = prefix_len (λ u. not (is_syntax_character u.value)) us
+
+-- how many decimal digits stand at the front
+unfoldable pub digit_run : List CodePoint → ℕ
+digit_run us = prefix_len (λ u. is_decimal_digit u.value) us
+
+-- at most so many looks at a quantifier's prefix, of so many units: each of its own units once
+abbrev pub count_looks : ℕ → CountsFound → ℕ
+count_looks units (counts.Counts least most n) = min n units
+count_looks units counts.Nothing = units
+count_looks units (counts.TooMany start many) = units
+
+-- at most so many at a name and its `>`, of so many units
+abbrev pub name_looks : ℕ → NameFound → ℕ
+name_looks units (name.Name n) = 2 * n + 1
+name_looks units (name.Halt it) = 2 * units + 8
+
+-- at most so many behind a name, of so many units: none where it ends there
+abbrev pub halt_looks : ℕ → NameFound → ℕ
+halt_looks units (name.Name n) = 0
+halt_looks units (name.Halt it) = units + 4
+
+-- at most so many at a character escape, of the units behind its backslash: a lone backslash stands before no digit
+abbrev pub escape_looks : List CodePoint → EscapeFound → ℕ
+escape_looks behind (escape.Character kind value n) = if n == 0 then 5 else n + digit_run behind + 5
+escape_looks behind escape.Nothing = length behind + 5
+escape_looks behind (escape.TooMany many) = length behind + 5
+escape_looks behind escape.Invalid = length behind + 5
+
+-- A token that is no escape takes so many, or why none is read, of so many units from its second one on. A property and a class are not among these.
+abbrev pub LooksAtSyntax : ℕ → ℕ → ℕ → Found → Type 0
+LooksAtSyntax old new units (found.Leaf leaf n) = Rises old new 0 (2 * n)
+LooksAtSyntax old new units (found.NamedReference n) = Rises old new 0 (2 * n)
+LooksAtSyntax old new units found.Property = ⊥
+LooksAtSyntax old new units found.Class = ⊥
+LooksAtSyntax old new units (found.Open opener n) = Rises old new 0 (2 * n)
+LooksAtSyntax old new units found.Close = Rises old new 0 0
+LooksAtSyntax old new units found.Bar = Rises old new 0 0
+LooksAtSyntax old new units (found.Quantifier least most greedy n) = Rises old new 0 (2 * n)
+LooksAtSyntax old new units (found.Halt it) = Rises old new 0 (2 * units + 8)
+
+-- Where a look takes at most so many steps, and at most one for each of some units, this is what it may find.
+abbrev pub MayFind : ℕ → List CodePoint → Found → Type 0
+MayFind most us it = (old new : ℕ) → old ≤ new → new ≤ old + most → new ≤ old + length us → LooksAtSyntax old new (length us - 1) it
+
+-- An escape that is a token of n units takes so many, or why none is read, of the units behind its backslash.
+abbrev pub LooksAtEscape : ℕ → ℕ → List CodePoint → Found → Type 0
+LooksAtEscape old new behind (found.Leaf leaf n) = (1 ≤ n) × Rises old new 0 (if n == 1 then 5 else n + digit_run behind + 4)
+LooksAtEscape old new behind (found.NamedReference n) = ⊥
+LooksAtEscape old new behind found.Property = ⊥
+LooksAtEscape old new behind found.Class = ⊥
+LooksAtEscape old new behind (found.Open opener n) = ⊥
+LooksAtEscape old new behind found.Close = ⊥
+LooksAtEscape old new behind found.Bar = ⊥
+LooksAtEscape old new behind (found.Quantifier least most greedy n) = ⊥
+LooksAtEscape old new behind (found.Halt it) = Rises old new 0 (length behind + 5)
+
+-- At most so many at a token of n units, of the units behind its first one. The looks that pass over units behind the token stop at the first that does not
+-- stand for itself.
+abbrev pub token_looks : List CodePoint → ℕ → ℕ
+token_looks behind n = 4 * n + 2 * plain (drop (n - 1) behind) + 1
+
+-- At most so many at what is found, of the units behind the first one. A property and a class are looked at by their readers.
+abbrev pub looks : List CodePoint → Found → ℕ
+looks behind (found.Leaf leaf n) = token_looks behind n
+looks behind (found.NamedReference n) = token_looks behind n
+looks behind found.Property = 0
+looks behind found.Class = 0
+looks behind (found.Open opener n) = token_looks behind n
+looks behind found.Close = token_looks behind 1
+looks behind found.Bar = token_looks behind 1
+looks behind (found.Quantifier least most greedy n) = token_looks behind n
+looks behind (found.Halt it) = 3 * length behind + 9
+
+-- A token takes at least a step for each of its units, and at most seven, with one left over. Units that stand for themselves behind it have been looked at.
+abbrev pub IsTokenPaced : ℕ → ℕ → Cursor → Cursor → Type 0
+IsTokenPaced old new from to =
+    (old + left from ≤ new + left to) × (new + 1 + 7 * left to ≤ old + 7 * left from + 2 * plain (rest to))
+
+-- A call that ends well reads a token at this pace, and one that is refused is bounded.
+abbrev pub TakesToken : {A E : Type 0} → ℕ → ℕ → Cursor → Cursor → Result A E → Type 0
+TakesToken old new from to result = MatchResult result (λ _. IsTokenPaced old new from to) (λ _. new ≤ old + 7 * left from + 7)
+
+-- A turn takes at least a step for each unit that it moves over, and at most seven. What was looked at by the turns before, the units that stand for
+-- themselves, is looked at no more behind them: each of these may have been looked at twice.
+abbrev pub IsTurnPaced : ℕ → ℕ → Cursor → Cursor → Type 0
+IsTurnPaced old new from to =
+    (old + left from ≤ new + left to) × (new + 7 * left to + 2 * plain (rest from) ≤ old + 7 * left from + 2 * plain (rest to))
+
+-- A turn that ends well keeps the pace, and one that is refused is bounded.
+abbrev pub TakesTurn : {A E : Type 0} → ℕ → ℕ → Cursor → Cursor → Result A E → Type 0
+TakesTurn old new from to result =
+    MatchResult result (λ _. IsTurnPaced old new from to) (λ _. new + 2 * plain (rest from) ≤ old + 7 * left from + 8)
