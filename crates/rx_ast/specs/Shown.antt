@@ -1,4 +1,5 @@
--- The text that `Display` writes of a node. It shows how each character was escaped, and joins surrogates that stand one behind the other.
+-- The text that `Display` writes of a node. It shows how each character was escaped, and joins surrogates that stand one behind the other. ECMA-262 has no such
+-- text: the format is that of the Rust crate.
 use Rattle.std.specs.Prelude.{ℕ, ◌+◌, ◌-◌, Bool, true, false, ◌==◌, ◌&&◌, ◌||◌, nat_lt, nat_le, if◌then◌else◌, List, [], ◌∷◌, ◌++◌, length, replicate, Option, Some, None, is_some, codes}
 use Rattle.std.specs.Fmt.{digits}
 use Rattle.rx_base.specs.SurrogatePair.{surrogate_pair}

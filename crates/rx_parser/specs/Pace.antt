@@ -58,7 +58,7 @@ LooksAtSyntax old new units found.Bar = Rises old new 0 0
 LooksAtSyntax old new units (found.Quantifier least most greedy n) = Rises old new 0 (2 * n)
 LooksAtSyntax old new units (found.Halt it) = Rises old new 0 (2 * units + 8)
 
--- Where a look takes at most so many steps, and at most one for each of some units, this is what it may find.
+-- What a look may find that takes at most so many steps, and at most one for each of some units: by `LooksAtSyntax`, so many are not too many for it.
 abbrev pub MayFind : ℕ → List CodePoint → Found → Type 0
 MayFind most us it = (old new : ℕ) → old ≤ new → new ≤ old + most → new ≤ old + length us → LooksAtSyntax old new (length us - 1) it
 

@@ -1,4 +1,4 @@
--- Flags that are not supported.
+-- Flags that are not valid (ParsePattern and RegExpInitialize, 22.2.3.3), or not supported.
 use Rattle.std.specs.Prelude.{ℕ, Bool, true, false, ◌==◌, ◌&&◌, ◌||◌, not, List, [], ◌∷◌, if◌then◌else◌}
 use Rattle.std.specs.List.{list_any}
 use Rattle.rx_visit.specs.declared.flags.RegexUnsupportedFlags.{RegexUnsupportedFlags}
