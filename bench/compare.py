@@ -3,7 +3,7 @@
 
     bench/compare.py BEFORE AFTER [ROUNDS]
 
-The inputs are those of the other scripts, cut so that a run takes some 5 to 45 milliseconds. Each program runs ROUNDS times (25 where it is not given) on each input, BEFORE
+The inputs are those of the other scripts, cut so that a run takes a few milliseconds, at most some 50. Each program runs ROUNDS times (25 where it is not given) on each input, BEFORE
 also as a third program, so that the noise is seen beside the difference: of each the fastest run counts. Nothing here is a test: times depend on the machine.
 """
 import os
@@ -23,9 +23,9 @@ import set_patterns
 COUNT = 10_000
 
 
-def many(make):
+def many(make, count=COUNT):
     source = random.Random(2026)
-    return [make(source) for _ in range(COUNT)]
+    return [make(source) for _ in range(count)]
 
 
 def flat(source):
@@ -53,7 +53,7 @@ def inputs():
     for times in (1, 8):
         yield f"one flat pattern {times} times", "u", [one * times], 400 // times
     for depth in (1, 10):
-        yield f"{depth} deep", "u", many(lambda source: nested_patterns.nested(source, depth))[: 6_000 // depth], 1
+        yield f"{depth} deep", "u", many(lambda source: nested_patterns.nested(source, depth), 6_000 // depth), 1
     yield "1000 names", "u", [nested_patterns.many_names(1000)], 10
     yield "1000 groups of one name", "u", [nested_patterns.one_name(1000)], 20
 
@@ -69,7 +69,10 @@ def all_inputs():
 def processor_time(program, given, out):
     given.seek(0)
     actions = [(os.POSIX_SPAWN_DUP2, given.fileno(), 0), (os.POSIX_SPAWN_DUP2, out.fileno(), 1)]
-    used = os.wait4(os.posix_spawn(program, [program], {}, file_actions=actions), 0)[2]
+    _, ended, used = os.wait4(os.posix_spawn(program, [program], {}, file_actions=actions), 0)
+    status = os.waitstatus_to_exitcode(ended)
+    if status not in (0, 1):
+        sys.exit(f"{program}: status {status}")
     return used.ru_utime + used.ru_stime
 
 
