@@ -13,13 +13,14 @@ use rx_units::{
 use std::alloc::Global;
 use std::test::Fail;
 
-/// How a text is decoded: as a template or as a string, which stands in strict mode code or not, at byte 0 or at byte 10.
+/// How a text is decoded: as a template or as a string, which stands in strict mode code or not, at byte 0 or at byte 10, and as the standard has it or not.
 #[derive(Clone, Copy)]
 struct Decoder {
     template: bool,
     strict_mode: bool,
     at_ten: bool,
     joined: bool,
+    standard: bool,
 }
 
 const STRING: Decoder = Decoder {
@@ -27,6 +28,7 @@ const STRING: Decoder = Decoder {
     strict_mode: false,
     at_ten: false,
     joined: true,
+    standard: false,
 };
 
 const TEMPLATE: Decoder = Decoder {
@@ -42,6 +44,7 @@ impl Decoder {
             strict_mode: self.strict_mode,
             span_offset: if self.at_ten { 10 } else { 0 },
             combine_surrogate_pair: self.joined,
+            standard_strings: self.standard,
         }
     }
 
@@ -112,6 +115,7 @@ fn template_fault(alloc: Global, fault: TemplateFault) -> Result<String, Fail> {
         TemplateFault::TooLargeUnicodeEscapeSequence { span } => ("too large", span),
         TemplateFault::InvalidHexEscape { span } => ("hex", span),
         TemplateFault::InvalidUnicodeEscape { span } => ("unicode", span),
+        TemplateFault::NotEscapeSequence { span } => ("no escape", span),
     };
     Ok(format!(in alloc; "{name} {}..{}", span.start, span.end)?)
 }
@@ -462,6 +466,70 @@ fn surrogates(rt: HostRuntime) -> Result<(), Fail> {
     Ok(())
 }
 
+fn in_quotes(quotes: Between, joined: bool) -> Between {
+    let decoder = Decoder {
+        joined,
+        standard: true,
+        ..quotes.decoder
+    };
+    Between { decoder, ..quotes }
+}
+
+#[test]
+fn values_as_the_standard_has_them(rt: HostRuntime) -> Result<(), Fail> {
+    let code_points = r"a\«A»b => 0..6: 61@1..2 62@4..5
+\«D»«A»a => 0..6: 61@4..5
+\«2028»\«2029» => 0..10:
+\«D» => 0..4:
+\uD83D\uDE00 => 0..14: 1F600@1..13u
+\uD83D\«A»\uDE00 => 0..16: 1F600@1..15u
+\uD83Da\uDE00 => 0..15: D83D@1..7u 61@7..8 DE00@8..14u
+\uD83D => 0..8: D83D@1..7u
+\uDE00\uD83D => 0..14: DE00@1..7u D83D@7..13u
+\uD83D\uD83D\uDE00 => 0..20: D83D@1..7u 1F600@7..19u
+\uD83D\uDE00\uDE00 => 0..20: 1F600@1..13u DE00@13..19u
+\u{D83D}\uDE00 => 0..16: 1F600@1..15u
+\uD83D\u{00DE00} => 0..18: 1F600@1..17u
+😀\uDE00 => 0..12: 1F600@1..5 DE00@5..11u
+\uD83D😀 => 0..12: D83D@1..7u 1F600@7..11
+\u{1F600} => 0..11: 1F600@1..10u
+\uDBFF\uDFFF => 0..14: 10FFFF@1..13u
+\uDBFF\uE000 => 0..14: DBFF@1..7u E000@7..13u";
+    let code_units = r"\uD83D\uDE00 => 0..14: D83D@1..7u DE00@7..13u
+😀 => 0..6: D83D@1..5 DE00@1..5
+\uD83D\«A»\uDE00 => 0..16: D83D@1..7u DE00@9..15u";
+    for quotes in ALL_QUOTES {
+        agree(rt.alloc(), &in_quotes(quotes, true), code_points)?;
+        agree(rt.alloc(), &in_quotes(quotes, false), code_units)?;
+    }
+    Ok(())
+}
+
+#[test]
+fn templates_as_the_standard_has_them(rt: HostRuntime) -> Result<(), Fail> {
+    let rows = r"a«D»b => 0..5: 61@1..2 A@2..3 62@3..4
+«D»«A» => 0..4: A@1..3
+«D»«D»«A» => 0..5: A@1..2 A@2..4
+«A»«D» => 0..4: A@1..2 A@2..3
+\r«D» => 0..5: D@1..3 A@3..4
+«2028»«2029» => 0..8: 2028@1..4 2029@4..7
+\0a\0 => 0..7: 0@1..3 61@3..4 0@4..6
+\00 => no escape 1..4
+\08 => no escape 1..4
+\1 => no escape 1..3
+\12 => no escape 1..3
+a\9 => no escape 2..4
+\1\x => no escape 1..3
+\x\1 => hex 3..3";
+    agree(rt.alloc(), &in_quotes(GRAVE_ACCENTS, true), rows)?;
+    agree(rt.alloc(), &in_quotes(GRAVE_ACCENTS, false), rows)?;
+    agree(
+        rt.alloc(),
+        &in_quotes(DOUBLE_QUOTES, true),
+        r"\1\8 => 0..6: 1@1..3 38@3..5",
+    )
+}
+
 #[test]
 fn spans_with_an_offset(rt: HostRuntime) -> Result<(), Fail> {
     let string = Decoder {
@@ -497,6 +565,7 @@ const LAST: Options = Options {
     strict_mode: false,
     span_offset: 4294967290,
     combine_surrogate_pair: false,
+    standard_strings: false,
 };
 
 #[test]
@@ -633,6 +702,10 @@ fn messages_of_faults_of_templates(rt: HostRuntime) -> Result<(), Fail> {
         (
             TemplateFault::InvalidUnicodeEscape { span },
             "Invalid unicode escape sequence",
+        ),
+        (
+            TemplateFault::NotEscapeSequence { span },
+            "Octal escapes, `\\8` and `\\9` are not allowed in template literals",
         ),
     ] {
         assert_eq!(rt; format!(in rt.alloc(); "{fault}")?.as_str(), message);

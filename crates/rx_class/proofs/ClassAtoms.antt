@@ -32,7 +32,7 @@ use Rattle.rx_model.specs.Characters.EscapeFronts.{EscapeRead, any_escape_at, cl
 use Rattle.rx_model.specs.Characters.EscapeFronts.{escape_at}
 use Rattle.rx_model.specs.Characters.Escapes.{SpellsEscape, control, hexadecimal, identity, is_identity_escape, letter, null}
 use Rattle.rx_model.specs.Properties.PropertyForms.{begins_property}
-use Rattle.rx_model.specs.Refusals.Reached.{span_between, text_environment}
+use Rattle.rx_model.specs.Refusals.Reached.{span_between, class_environment}
 use Rattle.rx_model.specs.Refusals.Stops.{begins_class_escape, is_hyphen_escaped, is_letter, is_one_of, two_hex_digits}
 use Rattle.rx_units.proofs.Choices.{both, chosen}
 use Rattle.rx_class.specs.declared.class_atom.ClassAtom.{ClassAtom}
@@ -203,7 +203,7 @@ module _ (e : Environment) (no_sets : is_sets e.mode ≡ false) (added start : �
 
   -- What they refuse is refused in the class.
   module _ (same : IsOfText e old) where
-    in_text : (from : ℕ) (at_class us : List CodePoint) → IsAtomPlace e from at_class (old.place - 1) us → IsAtomPlace (text_environment e.mode old.units) from at_class (old.place - 1) us
+    in_text : (from : ℕ) (at_class us : List CodePoint) → IsAtomPlace e from at_class (old.place - 1) us → IsAtomPlace (class_environment e.mode old.units) from at_class (old.place - 1) us
     in_text from at_class us place = subst (λ t. IsAtomPlace t from at_class (old.place - 1) us) same place
 
     pub property_refused : (f : Fault) (new : Cursor) → GivesProperty e added start old new (Err f) → GivesAtom e added (back old) new (Err f)

@@ -25,7 +25,7 @@ use Rattle.rx_model.specs.Classes.ClassTokens.{bracket, closer, leave, token, me
 use Rattle.rx_model.specs.Inputs.Environment.{Environment, environment_with, has_some, is_sets}
 use Rattle.rx_model.specs.Inputs.Modes.{mode_by}
 use Rattle.rx_model.specs.FirstPass.Marks.{starts}
-use Rattle.rx_model.specs.Refusals.Reached.{span_between, text_environment}
+use Rattle.rx_model.specs.Refusals.Reached.{span_between, class_environment}
 use Rattle.rx_model.proofs.Classes.ClassBeyond.{no_class}
 use Rattle.rx_model.proofs.Classes.ClassFaults.{stuck}
 use Rattle.rx_model.proofs.Classes.ClassFronts.{token_some}
@@ -111,7 +111,7 @@ module _ (e : Environment) (added : ℕ) (old : Cursor) where
 
 -- What a state says of the environment is what the whole text says.
 pub environment_is : (state : State) (r : Cursor) → HoldsFirstPass state r.units → IsOfText (environment_of state) r
-environment_is state r pass = ap₂ (λ groups names. environment_with (mode_by state.unicode_mode state.unicode_sets_mode) groups (has_some names)) pass.groups pass.names
+environment_is state r pass = ap₂ (λ groups names. environment_with (mode_by state.unicode_mode state.unicode_sets_mode) true groups (has_some names)) pass.groups pass.names
 
 -- the end of the text
 pub nothing_stands : (us : List CodePoint) → is_some (front us) ≡ false → us ≡ []
@@ -129,7 +129,7 @@ closer_stands (Some c) h = ap Some (eqb-true c 93 (is_true (c == 93) h))
 
 -- Where a refusal of a class holds no class stands.
 pub no_class_there : (mode : Mode) (us : List CodePoint) (first added from place : ℕ) (at_class : List CodePoint) (d : Diagnostic) → IsClassCause mode us first added from at_class place d
-    → BeginsNoClass (text_environment mode us) at_class
+    → BeginsNoClass (class_environment mode us) at_class
 no_class_there mode us first added from place at_class d cause = no_class mode us first added from at_class place d (stuck mode us first added from at_class place d cause)
 
 -- At the end of the text nothing follows.
@@ -174,7 +174,7 @@ module _ {e : Environment} {added : ℕ} {old mid : Cursor} {negative : Bool} {m
     unterminated_gives start span none s is =
         rw covers (first_gives mid mid.place _ ends (passes_keeps h.passes))
       where
-        in_class : IsInBracket (text_environment e.mode old.units) old.place (rest old) false old.place mid.place []
+        in_class : IsInBracket (class_environment e.mode old.units) old.place (rest old) false old.place mid.place []
         in_class =
             subst (λ t. IsInBracket t old.place (rest old) false old.place mid.place []) same (subst (IsInBracket e old.place (rest old) false old.place mid.place) none in_bracket)
 
@@ -182,8 +182,8 @@ module _ {e : Environment} {added : ℕ} {old mid : Cursor} {negative : Bool} {m
         ends =
             let i = in_class.item_place in
             unterminated_class false old.place mid.place [] in_class
-            (opened_union (text_environment e.mode old.units) no_sets i.tokens in_class.at_bracket i.at [] i.inner i.outer i.row i.accepted)
-            (nothing_follows (text_environment e.mode old.units) i.at i.inner.held) (λ sets empties. refl) (λ no. refl)
+            (opened_union (class_environment e.mode old.units) no_sets i.tokens in_class.at_bracket i.at [] i.inner i.outer i.row i.accepted)
+            (nothing_follows (class_environment e.mode old.units) i.at i.inner.held) (λ sets empties. refl) (λ no. refl)
 
         covers : span ≡ span_between old.units old.first added old.place mid.place
         covers =

@@ -24,7 +24,7 @@ use Rattle.rx_model.specs.Classes.ClassRuns.{atom_obeys}
 use Rattle.rx_model.specs.Classes.ClassTokens.{Atom, character, item, leave, member_events, token, within}
 use Rattle.rx_model.specs.Trees.Early.{IsEarlyMember, member_strings}
 use Rattle.rx_model.specs.Inputs.Environment.{Environment, is_sets, is_unicode}
-use Rattle.rx_model.specs.Refusals.Reached.{span_between, text_environment}
+use Rattle.rx_model.specs.Refusals.Reached.{span_between, class_environment}
 use Rattle.rx_units.proofs.Choices.{both}
 use Rattle.rx_model.proofs.Classes.ClassFronts.{atom_some, behind_first, behind_one}
 use Rattle.rx_model.proofs.Inputs.Modes.{unicode_alone}
@@ -337,7 +337,7 @@ module _ (e : Environment) (added : ℕ) (old : Cursor) where
     -- Why two atoms are no range is why there is no item.
     module _ (no_sets : is_sets e.mode ≡ false) (same : IsOfText e old) where
       abbrev text : Environment
-      text = text_environment e.mode old.units
+      text = class_environment e.mode old.units
 
       here : {low high : ClassAtom} {h : Span} (p : PairStands new low high h) (from : ℕ) (at_class : List CodePoint) → IsItemPlace e from at_class old.place (rest old)
           → IsItemPlace text from at_class old.place (p.w ++ (p.hyphen ∷ (p.v ++ (rest new))))

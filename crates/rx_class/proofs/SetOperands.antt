@@ -37,7 +37,7 @@ use Rattle.rx_model.specs.Refusals.ClassPlaces.{IsOperandPlace, IsSecondPlace, b
 use Rattle.rx_model.specs.Refusals.EscapeCauses as escape_cause
 use Rattle.rx_model.specs.Refusals.EscapeCauses.{IsEscapeCause, IsPropertyCause}
 use Rattle.rx_model.specs.Refusals.Firsts.{no_item, yielding}
-use Rattle.rx_model.specs.Refusals.Reached.{text_environment}
+use Rattle.rx_model.specs.Refusals.Reached.{class_environment}
 use Rattle.rx_ast.specs.Texts.{class_escape_text}
 use Rattle.rx_model.proofs.Classes.ClassFronts.{atom_some, class_letter, token_some, sets_is}
 use Rattle.rx_model.proofs.Classes.ClassStates.{row_shorter}
@@ -356,7 +356,7 @@ keeps_fitting added old new keeps fits = subst (AreFitting added) (sym keeps.sam
 -- a range
 module _ (mode : Mode) (added : ℕ) (old new : Cursor) (before : ClassBuilder) (after : Held) (ranges : ranged (held_in before) ≡ Some after) where
   abbrev here : Environment
-  here = text_environment mode old.units
+  here = class_environment mode old.units
 
   -- The end of a range is refused.
   end_cause : {low : Character} {h : Span} (s : DashStands here added old new (atom.Character low) h) (d : Diagnostic) → IsEscapeCause mode new.units new.first added new.place (rest new) d → (from : Cursor) → IsInSets here added from old before →

@@ -16,7 +16,7 @@ use Rattle.rx_model.specs.Inputs.Environment.{Environment, is_sets}
 use Rattle.rx_model.specs.Refusals.ClassCauses as class_cause
 use Rattle.rx_model.specs.Refusals.ClassCauses.{IsClassCause, of_negative, unterminated}
 use Rattle.rx_model.specs.Refusals.Firsts.{no_item, yielding}
-use Rattle.rx_model.specs.Refusals.Reached.{span_between, text_environment}
+use Rattle.rx_model.specs.Refusals.Reached.{span_between, class_environment}
 use Rattle.rx_model.proofs.Classes.ClassFronts.{single as one_unit}
 use Rattle.rx_model.proofs.Classes.ClassStops.{item_between}
 use Rattle.rx_model.proofs.Classes.NothingFirst.{silent_is_first}
@@ -31,7 +31,7 @@ use Rattle.rx_class.proofs.Keeping.{passes_keeps, passes_moved, stays_keeps}
 use Rattle.rx_class.proofs.SetPlaces.{begins_place, innermost_here, item_before, item_here}
 
 -- What holds by the environment of the whole text holds by the reader's.
-pub by_text : {e : Environment} {r : Cursor} (P : Environment → Type 0) → IsOfSets e r → P (text_environment e.mode r.units) → P e
+pub by_text : {e : Environment} {r : Cursor} (P : Environment → Type 0) → IsOfSets e r → P (class_environment e.mode r.units) → P e
 by_text P of p = subst P (sym of.text) p
 
 -- A refusal that says what stands there is the first.
@@ -47,7 +47,7 @@ unit_next c (u ∷ us) h = (u, us, refl, eqb-true u.value c h)
 
 module _ (mode : Mode) (added : ℕ) (r : Cursor) (b : ClassBuilder) where
   abbrev here : Environment
-  here = text_environment mode r.units
+  here = class_environment mode r.units
 
   -- a third `&`
   ampersand_cause : starts 38 (values (rest r)) ≡ true → held_in b ≡ meeting → (from : Cursor) → IsInSets here added from r b →

@@ -27,7 +27,7 @@ use Rattle.rx_model.specs.Refusals.ClassCauses.{EndsStrings, escape_in_class}
 use Rattle.rx_model.specs.Refusals.ClassPlaces.{IsOfStrings, IsOperandPlace, IsStringPlace, begins_item}
 use Rattle.rx_model.specs.Refusals.EscapeCauses.{IsEscapeCause, invalid_escape, too_many_hex_digits}
 use Rattle.rx_model.specs.Refusals.Firsts.{IsFirstInClass, no_item, yielding}
-use Rattle.rx_model.specs.Refusals.Reached.{text_environment}
+use Rattle.rx_model.specs.Refusals.Reached.{class_environment}
 use Rattle.rx_model.specs.Trees.Early.{IsCodePoint, IsEarlyString}
 use Rattle.rx_model.proofs.Classes.ClassUnspanned.{class_row_tokens}
 use Rattle.rx_model.proofs.Classes.NothingFirst.{unterminated_strings_first}
@@ -254,7 +254,7 @@ module _ (e : Environment) (sets : is_sets e.mode ≡ true) (added : ℕ) (old :
     abbrev IsFirstHere : Diagnostic → Type 0
     IsFirstHere d = (from : ℕ) (at_class : List CodePoint) → IsOperandPlace e from at_class old.place (rest old) → IsFirstInClass e.mode r.units r.first added from at_class d
 
-    in_text : IsOfText e r → (from : ℕ) (at_class : List CodePoint) → IsOperandPlace e from at_class old.place (rest old) → IsStringPlace (text_environment e.mode r.units) from at_class old.place r.place (rest r)
+    in_text : IsOfText e r → (from : ℕ) (at_class : List CodePoint) → IsOperandPlace e from at_class old.place (rest old) → IsStringPlace (class_environment e.mode r.units) from at_class old.place r.place (rest r)
     in_text text from at_class p = subst (λ e. IsStringPlace e from at_class old.place r.place (rest r)) text (string_place from at_class p)
 
     escape_first_here : (d : Diagnostic) → IsOfText e r → IsEscapeCause e.mode r.units r.first added r.place (rest r) d → IsFirstHere d
@@ -274,7 +274,7 @@ module _ (e : Environment) (sets : is_sets e.mode ≡ true) (added : ℕ) (old :
         given.refused
         (λ text from at_class p.
         subst (λ (c : Cursor). IsFirstInClass e.mode c.units c.first added from at_class d) (sym back)
-        (first (text ∙ ap (λ (c : Cursor). text_environment e.mode c.units) back) from at_class p))
+        (first (text ∙ ap (λ (c : Cursor). class_environment e.mode c.units) back) from at_class p))
         (keeps_on (passes_keeps h.passes) keeps)
 
     pub strings_refuse : (new : Cursor) (start : ℕ) (f : Fault) → start ≡ offset_of old → RefusesPart e added start r new f → GivesStrings e added old new (Err f)

@@ -24,7 +24,7 @@ use Rattle.rx_model.specs.Classes.ClassTokens.{Atom, character, escape, property
 use Rattle.rx_model.specs.Trees.Early.{AreEarlyMembers, any_strings}
 use Rattle.rx_model.specs.Inputs.Environment.{Environment}
 use Rattle.rx_model.specs.FirstPass.Marks.{starts}
-use Rattle.rx_model.specs.Refusals.Reached.{span_between, text_environment}
+use Rattle.rx_model.specs.Refusals.Reached.{span_between, class_environment}
 use Rattle.rx_model.specs.Characters.UnitKinds.{unit_kind}
 use Rattle.rx_class.specs.declared.class_atom.ClassAtom.{ClassAtom}
 use Rattle.rx_class.specs.declared.class_atom.ClassAtom.TheVariants as atom
@@ -60,7 +60,7 @@ alone_in_class unicode (c ∷ w) = if c == 98 then Some 8 else (if unicode && c 
 
 -- the environment is that of the text that a reader reads
 abbrev pub IsOfText : Environment → Cursor → Type 0
-IsOfText e r = e ≡ text_environment e.mode r.units
+IsOfText e r = e ≡ class_environment e.mode r.units
 
 -- the reader one unit before
 abbrev pub back : Cursor → Cursor

@@ -20,10 +20,10 @@ use Rattle.rx_scan.specs.StateFaults.{mode_of_state}
 use Rattle.rx_scan.specs.declared.state.State.{State}
 use Rattle.rx_class.specs.Keeping.{KeepsUnits}
 
--- what a state says of the environment: its mode, the number of groups, and whether some have names
+-- what a state says of the environment of escapes and classes, which is the same whether buffer boundaries are read or not: its mode, the number of groups, and whether some have names
 abbrev pub environment_of : State → Environment
 environment_of state =
-    environment_with (mode_of_state state) state.num_of_capturing_groups (has_some state.capturing_group_names)
+    environment_with (mode_of_state state) true state.num_of_capturing_groups (has_some state.capturing_group_names)
 
 -- The reader stands behind a backslash, and the span begins before it.
 pub record IsBehindBackslash (r : Cursor) (span_start : ℕ) : Type 0 where

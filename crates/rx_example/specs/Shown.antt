@@ -1,5 +1,5 @@
 -- What is shown of a literal.
-use Rattle.std.specs.Prelude.{◌≡◌, ℕ, List, Option}
+use Rattle.std.specs.Prelude.{◌≡◌, ℕ, List, Option, true, false}
 use Rattle.std.specs.Str.{encode_utf8_all}
 use Rattle.std.specs.String.{string_bytes}
 use Rattle.rx_ast.specs.declared.term.Pattern.{Pattern}
@@ -16,10 +16,15 @@ use Rattle.rx_model.specs.Spelling.Spelling.{spelling}
 use Rattle.rx_example.specs.declared.finding.Finding.{Finding}
 use Rattle.rx_example.specs.declared.finding.Finding.TheVariants as finding
 use Rattle.rx_example.specs.declared.finding.Refused.{Refused}
+use Rattle.rx_model.specs.declared.rules.Rules.{Rules}
+
+-- both rules
+abbrev pub both_rules : Rules
+both_rules = record { duplicate_names = true; buffer_boundaries = true }
 
 -- a literal by itself: its text and its flags
 abbrev pub literal : List ℕ → Option (List ℕ) → Input
-literal text flags = record { form = Literal; text = text; flags = flags; text_offset = 0; flags_offset = 0 }
+literal text flags = record { form = Literal; text = text; flags = flags; text_offset = 0; flags_offset = 0; rules = both_rules; standard_strings = false }
 
 -- The input is valid, n groups of its tree capture, and this is its canonical spelling.
 pub record IsRead (input : Input) (count : ℕ) (spelled : List ℕ) : Type 0 where

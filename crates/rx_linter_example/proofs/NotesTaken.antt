@@ -1,12 +1,11 @@
 -- What notes a walk leaves.
-use Rattle.std.proofs.Common.{◌≡◌, refl, ap, sym, ◌∙◌, subst, Bool, true, false, List, [], ◌∷◌, ◌++◌, append-nil, append_assoc}
+use Rattle.std.proofs.Common.{◌≡◌, ap, sym, ◌∙◌, subst, Bool, true, false, List, [], ◌∷◌, ◌++◌, append-nil, append_assoc}
 use Rattle.std.specs.List.{filter_map, flat_map}
 use Rattle.std.proofs.lemmas.Bool.{false≢true}
 use Rattle.std.proofs.lemmas.List.Elements.{filter_map-append}
 use Rattle.rx_ast.specs.Kinds.{Kind, children, order}
 use Rattle.rx_ast.proofs.Orders.{order_is}
 use Rattle.rx_visit.specs.Visits.{Visited, VisitedAll, descend, pass, none, next}
-use Rattle.rx_linter_example.specs.declared.note.Note.{Note}
 use Rattle.rx_linter_example.specs.declared.visitor.Notes.{Notes}
 use Rattle.rx_linter_example.specs.Notes.{note_of}
 use Rattle.rx_linter_example.specs.Visitor.{TakesNote}

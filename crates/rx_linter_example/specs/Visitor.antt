@@ -1,5 +1,5 @@
 -- What the visitor that takes notes does at a node.
-use Rattle.std.specs.Prelude.{◌≡◌, Bool, true, false, List, [], ◌∷◌, ◌++◌}
+use Rattle.std.specs.Prelude.{◌≡◌, Bool, true, false, [], ◌∷◌, ◌++◌}
 use Rattle.std.specs.List.{filter_map}
 use Rattle.rx_ast.specs.Kinds.{Kind}
 use Rattle.rx_linter_example.specs.declared.visitor.Notes.{Notes}

@@ -1,4 +1,5 @@
 pub mod Apart
+pub mod Distinct
 pub mod ClassMarks
 pub mod ClassRest
 pub mod Cuts

@@ -31,10 +31,11 @@ ghost use Rattle.rx_model.specs.Inputs.Flags.{flags_ok};
 ghost use Rattle.rx_model.specs.Reading.ElementKinds.{NestedPlace};
 ghost use Rattle.rx_model.specs.Reading.Headline.{IsFirstRefusal, IsParsed, IsReadAs, IsSameAgain, IsValid};
 ghost use Rattle.rx_model.specs.Inputs.Inputs.{Asks, AsksFor, Input};
+ghost use Rattle.rx_model.specs.declared.rules.Rules.{Rules};
 ghost use Rattle.rx_model.specs.Inputs.Texts.{AreUnits};
 ghost use Rattle.rx_model.specs.Groups.GroupNames.{BeginsWithName, SpellsName};
 ghost use Rattle.rx_model.specs.Reading.Prefixes.{GoesOn, GoesOnInClass};
-ghost use Rattle.rx_model.specs.Refusals.Reached.{IsInside, IsPlace, IsReached, text_environment};
+ghost use Rattle.rx_model.specs.Refusals.Reached.{IsInside, IsPlace, IsReached, class_environment};
 ghost use Rattle.rx_model.specs.Trees.Events.{tokens};
 ghost use Rattle.rx_model.specs.Refusals.FlagCauses.{IsFlagCause};
 ghost use Rattle.rx_model.specs.FirstPass.Marks.{starts};
@@ -54,9 +55,9 @@ ghost use Rattle.rx_model.specs.Characters.UnitKinds.{unit_kind};
 
 use crate::sequence::{ClassTokens, ElementKind, NameCharacters, PatternTokens};
 
-/// Two patterns that one text reads as are equal but for spans.
+/// Two patterns that one text reads as, in one mode and under the same rules, are equal but for spans.
 pub fn unique_reading()
-    ensures { (mode : Mode) (p q : Pattern) (us : List CodePoint) → Reads mode p us → Reads mode q us → unspanned p ≡ unspanned q }
+    ensures { (mode : Mode) (rules : Rules) (p q : Pattern) (us : List CodePoint) → Reads mode rules p us → Reads mode rules q us → unspanned p ≡ unspanned q }
 {}
 
 /// The tokens that a text begins with are the first of all its tokens, and the others follow them.
@@ -77,55 +78,55 @@ pub fn class_row_prefixes()
 
 /// No tree reads a text that is refused.
 pub fn refused()
-    ensures { (mode : Mode) (us : List CodePoint) (start added : ℕ) (d : Diagnostic) → IsCause mode us start added d → (p : Pattern) → Reads mode p us → ⊥ }
+    ensures { (mode : Mode) (rules : Rules) (us : List CodePoint) (start added : ℕ) (d : Diagnostic) → IsCause mode rules us start added d → (p : Pattern) → Reads mode rules p us → ⊥ }
 {}
 
 /// No place is reached beyond one at which a refusal holds.
 pub fn none_beyond()
-    ensures { (mode : Mode) (us : List CodePoint) (start added place : ℕ) (d : Diagnostic) → IsCauseAtPlace mode us start added place d → NoneBeyond mode us place }
+    ensures { (mode : Mode) (rules : Rules) (us : List CodePoint) (start added place : ℕ) (d : Diagnostic) → IsCauseAtPlace mode rules us start added place d → NoneBeyond mode rules us place }
 {}
 
 /// In a class that is refused no item can begin beyond that place, and no place beyond the class's bracket is reached.
 pub fn none_beyond_in_class()
-    ensures { (mode : Mode) (us : List CodePoint) (start added from : ℕ) (at_class : List CodePoint) (place : ℕ) (d : Diagnostic) →
+    ensures { (mode : Mode) (rules : Rules) (us : List CodePoint) (start added from : ℕ) (at_class : List CodePoint) (place : ℕ) (d : Diagnostic) →
         IsClassCause mode us start added from at_class place d →
-        NoneBeyondInClass (text_environment mode us) from at_class place × (IsPlace mode us from at_class → NoneBeyond mode us from) }
+        NoneBeyondInClass (class_environment mode us) from at_class place × (IsPlace mode rules us from at_class → NoneBeyond mode rules us from) }
 {}
 
 /// Without `v` at most one refusal holds of a text, with its spans and what it says.
 pub fn one_cause()
-    ensures { (mode : Mode) → is_sets mode ≡ false → (us : List CodePoint) (start added : ℕ) (d e : Diagnostic) → IsCause mode us start added d → IsCause mode us start added e → d ≡ e }
+    ensures { (mode : Mode) (rules : Rules) → is_sets mode ≡ false → (us : List CodePoint) (start added : ℕ) (d e : Diagnostic) → IsCause mode rules us start added d → IsCause mode rules us start added e → d ≡ e }
 {}
 
 /// Without `v` a refusal that holds is the first of its text.
 pub fn cause_is_first()
-    ensures { (mode : Mode) → is_sets mode ≡ false → (us : List CodePoint) (start added : ℕ) (d : Diagnostic) → IsCause mode us start added d → IsFirst mode us start added d }
+    ensures { (mode : Mode) (rules : Rules) → is_sets mode ≡ false → (us : List CodePoint) (start added : ℕ) (d : Diagnostic) → IsCause mode rules us start added d → IsFirst mode rules us start added d }
 {}
 
 /// Without `v` at most one refusal holds at places, and it holds at one place.
 pub fn one_place()
-    ensures { (mode : Mode) → is_sets mode ≡ false → (us : List CodePoint) (start added f g : ℕ) (d e : Diagnostic) →
-        IsCauseAtPlace mode us start added f d → IsCauseAtPlace mode us start added g e → (f ≡ g) × (d ≡ e) }
+    ensures { (mode : Mode) (rules : Rules) → is_sets mode ≡ false → (us : List CodePoint) (start added f g : ℕ) (d e : Diagnostic) →
+        IsCauseAtPlace mode rules us start added f d → IsCauseAtPlace mode rules us start added g e → (f ≡ g) × (d ≡ e) }
 {}
 
 /// At most one refusal is the first of a text.
 pub fn one_first()
-    ensures { (mode : Mode) (us : List CodePoint) (start added : ℕ) (d e : Diagnostic) → IsFirst mode us start added d → IsFirst mode us start added e → d ≡ e }
+    ensures { (mode : Mode) (rules : Rules) (us : List CodePoint) (start added : ℕ) (d e : Diagnostic) → IsFirst mode rules us start added d → IsFirst mode rules us start added e → d ≡ e }
 {}
 
 /// A refusal that holds at a place is the first of its text where it gives way to none, since it says what stands there; and so is the first of a class that begins
 /// at a place that is reached.
 pub fn first_at_places()
-    ensures said { (mode : Mode) (us : List CodePoint) (start added place : ℕ) (d : Diagnostic) → IsCauseAtPlace mode us start added place d → yielding d ≢ no_item →
-        IsFirstOf (IsCauseAtPlace mode us start added) d }
-    ensures in_class { (mode : Mode) (us : List CodePoint) (start added from : ℕ) (at_class : List CodePoint) (d : Diagnostic) → IsPlace mode us from at_class →
-        IsFirstInClass mode us start added from at_class d → IsFirstOf (IsCauseAtPlace mode us start added) d }
+    ensures said { (mode : Mode) (rules : Rules) (us : List CodePoint) (start added place : ℕ) (d : Diagnostic) → IsCauseAtPlace mode rules us start added place d → yielding d ≢ no_item →
+        IsFirstOf (IsCauseAtPlace mode rules us start added) d }
+    ensures in_class { (mode : Mode) (rules : Rules) (us : List CodePoint) (start added from : ℕ) (at_class : List CodePoint) (d : Diagnostic) → IsPlace mode rules us from at_class →
+        IsFirstInClass mode us start added from at_class d → IsFirstOf (IsCauseAtPlace mode rules us start added) d }
 {}
 
-/// A text has at most one list of units in a form, and a literal has one.
+/// A text has at most one list of units in a form, as the standard decodes it or as the Rust crate does, and a literal has one.
 pub fn one_text()
-    ensures one { (joined : Bool) (text : List ℕ) (form : Form) (us vs : List CodePoint) → AreUnits joined text form us → AreUnits joined text form vs → us ≡ vs }
-    ensures of_literal { (joined : Bool) (text : List ℕ) → (us : List CodePoint) × AreUnits joined text form.Literal us }
+    ensures one { (standard joined : Bool) (text : List ℕ) (form : Form) (us vs : List CodePoint) → AreUnits standard joined text form us → AreUnits standard joined text form vs → us ≡ vs }
+    ensures of_literal { (standard joined : Bool) (text : List ℕ) → (us : List CodePoint) × AreUnits standard joined text form.Literal us }
 {}
 
 /// An input asks to read at most one list of units, in one mode.
@@ -196,39 +197,40 @@ pub fn cut()
 
 /// The number of groups and the names that the first pass of a text finds are those of any tree that it spells.
 pub fn own_groups()
-    ensures { (mode : Mode) (p : Pattern) (us : List CodePoint) → IsSpelled mode p us → TellsGroups mode p us }
+    ensures { (mode : Mode) (rules : Rules) (p : Pattern) (us : List CodePoint) → IsSpelled mode rules p us → TellsGroups mode p us }
 {}
 
-/// The first pass finds no two groups of one name that might both take part exactly where the tree holds none (ECMA-262, 22.2.1.1).
+/// No two names clash by the first pass exactly where the tree keeps the early rule on names (ECMA-262, 22.2.1.1), whether two groups may have one name or not.
 pub fn names_apart()
-    ensures { (mode : Mode) (p : Pattern) (us : List CodePoint) → IsSpelled mode p us → TellsApart mode p us }
+    ensures { (mode : Mode) (rules : Rules) (p : Pattern) (us : List CodePoint) → IsSpelled mode rules p us → TellsApart mode rules.duplicate_names p us }
 {}
 
 /// The canonical spelling of a pattern is one line: not empty, and with no tab and no LineTerminator (ECMA-262, 12.3) in it. With neither `u` nor `v` each unit
 /// of a text is a UTF-16 code unit.
 pub fn one_line()
-    ensures { (mode : Mode) (p : Pattern) (us : List CodePoint) → Reads mode p us → FitIn mode us → us ≢ [] → IsOneLine (spelling (bare p) mode) }
+    ensures { (mode : Mode) (rules : Rules) (p : Pattern) (us : List CodePoint) → Reads mode rules p us → FitIn mode us → us ≢ [] → IsOneLine (spelling (bare p) mode) }
 {}
 
 /// The canonical spelling of a pattern reads as a pattern that is equal but for spans and character kinds.
 pub fn read_back()
-    ensures { (mode : Mode) (p : Pattern) (us : List CodePoint) → Reads mode p us → FitIn mode us → us ≢ [] → IsReadBack mode p }
+    ensures { (mode : Mode) (rules : Rules) (p : Pattern) (us : List CodePoint) → Reads mode rules p us → FitIn mode us → us ≢ [] → IsReadBack mode rules p }
 {}
 
 /// So whatever a parser answers to the canonical spelling of a pattern is that pattern, but for spans and character kinds, or out of memory.
 pub fn again()
     ensures { (input : Input) (mode : Mode) (answer : Result Pattern Fault) → IsParsed (λ p. p) input answer → input.form ≡ form.Literal → AsksFor input mode →
-        (p : Pattern) (us : List CodePoint) → Reads mode p us → FitIn mode us → us ≢ [] → input.text ≡ spelling (bare p) mode → IsSameAgain p answer }
+        (p : Pattern) (us : List CodePoint) → Reads mode input.rules p us → FitIn mode us → us ≢ [] → input.text ≡ spelling (bare p) mode → IsSameAgain p answer }
 {}
 
-/// Two trees that read units of equal values, under one mode, are equal but for spans and character kinds.
+/// Two trees that read units of equal values, under one mode and the same rules, are equal but for spans and character kinds.
 pub fn same_values()
-    ensures { (mode : Mode) (p q : Pattern) (us vs : List CodePoint) → Reads mode p us → Reads mode q vs → values us ≡ values vs → bare p ≡ bare q }
+    ensures { (mode : Mode) (rules : Rules) (p q : Pattern) (us vs : List CodePoint) → Reads mode rules p us → Reads mode rules q vs → values us ≡ values vs → bare p ≡ bare q }
 {}
 
-/// So it is with two inputs, in whatever forms, that ask to read units of equal values in one mode: of a literal, say, and of a quoted text.
+/// So it is with two inputs, in whatever forms and however their quoted texts are decoded, that ask to read units of equal values in one mode and under the same
+/// rules: of a literal, say, and of a quoted text.
 pub fn same_inputs()
-    ensures { (a b : Input) (mode : Mode) (p q : Pattern) (read : IsReadAs a mode p) (read_too : IsReadAs b mode q) → values read.units ≡ values read_too.units → bare p ≡ bare q }
+    ensures { (a b : Input) (mode : Mode) (p q : Pattern) (read : IsReadAs a mode p) (read_too : IsReadAs b mode q) → a.rules ≡ b.rules → values read.units ≡ values read_too.units → bare p ≡ bare q }
 {}
 
 /// With neither `u` nor `v` some token begins at each backslash that does not end the text, but at one before a `k` where `\k` is a reference.
@@ -349,16 +351,16 @@ pub fn atom_places()
 pub fn quantifiers_stand()
     ensures only { (e : Environment) (t : Token) (w rest : List CodePoint) (min : ℕ) (max : Option ℕ) → Spells e t w rest → BeginsWithQuantifier (w ++ rest) min max →
         (greedy : Bool) × (t ≡ quantifier min max greedy) }
-    ensures next { (mode : Mode) (p : Pattern) (us : List CodePoint) → IsSpelled mode p us → (before after : List Token) (rest : List CodePoint) (min : ℕ) (max : Option ℕ) →
-        tokens p ≡ before ++ after → TokenRow (environment mode p) before us rest → BeginsWithQuantifier rest min max → AreQuantified mode before after min max }
-    ensures none { (mode : Mode) (p : Pattern) (us : List CodePoint) → IsSpelled mode p us → (before after : List Token) (rest : List CodePoint) →
-        tokens p ≡ before ++ after → TokenRow (environment mode p) before us rest → BeginsWithoutQuantifier after → (min : ℕ) (max : Option ℕ) → BeginsWithQuantifier rest min max → ⊥ }
+    ensures next { (mode : Mode) (rules : Rules) (p : Pattern) (us : List CodePoint) → IsSpelled mode rules p us → (before after : List Token) (rest : List CodePoint) (min : ℕ) (max : Option ℕ) →
+        tokens p ≡ before ++ after → TokenRow (environment mode rules p) before us rest → BeginsWithQuantifier rest min max → AreQuantified mode before after min max }
+    ensures none { (mode : Mode) (rules : Rules) (p : Pattern) (us : List CodePoint) → IsSpelled mode rules p us → (before after : List Token) (rest : List CodePoint) →
+        tokens p ≡ before ++ after → TokenRow (environment mode rules p) before us rest → BeginsWithoutQuantifier after → (min : ℕ) (max : Option ℕ) → BeginsWithQuantifier rest min max → ⊥ }
 {}
 
 /// A quantifier that has nothing to stand behind has a refusal of its own with `u` or `v`; and with `u` alone a range is refused since an end of it is no
 /// character (ECMA-262, 22.2.1.1 and B.1).
 pub fn legacy_refusals()
-    ensures lone { (mode : Mode) (us : List CodePoint) (start added place : ℕ) (span : Span) → IsCauseAtPlace mode us start added place (LoneQuantifier span) → is_unicode mode ≡ true }
+    ensures lone { (mode : Mode) (rules : Rules) (us : List CodePoint) (start added place : ℕ) (span : Span) → IsCauseAtPlace mode rules us start added place (LoneQuantifier span) → is_unicode mode ≡ true }
     ensures range { (mode : Mode) (us : List CodePoint) (start added from : ℕ) (at_class : List CodePoint) (place : ℕ) (span : Span) →
         IsClassCause mode us start added from at_class place (CharacterClassRangeInvalidAtom span) → mode ≡ Unicode }
 {}
@@ -379,29 +381,29 @@ pub fn legacy_controls()
 /// With neither `u` nor `v` a class stands where a `[` does that is free of early errors, or a refusal holds in it.
 pub fn legacy_classes()
     ensures { (us : List CodePoint) (start added from : ℕ) (u : CodePoint) (text : List CodePoint) → u.value ≡ 91 → AreCodeUnits text →
-        ((c : Class) × (w : List CodePoint) × (rest : List CodePoint) × (u ∷ text ≡ w ++ rest) × IsClass (text_environment Legacy us) c w rest × IsEarlyClass c)
+        ((c : Class) × (w : List CodePoint) × (rest : List CodePoint) × (u ∷ text ≡ w ++ rest) × IsClass (class_environment Legacy us) c w rest × IsEarlyClass c)
         ⊎ ((f : ℕ) × (d : Diagnostic) × IsClassCause Legacy us start added from (u ∷ text) f d) }
 {}
 
 /// With `v` a class stands where a `[` does that is free of early errors, or a refusal holds in it.
 pub fn classes_or_refusals()
     ensures { (us : List CodePoint) (start added from : ℕ) (u : CodePoint) (text : List CodePoint) → u.value ≡ 91 → All (λ u. IsCodePoint u.value) text →
-        ((c : Class) × (w : List CodePoint) × (rest : List CodePoint) × (u ∷ text ≡ w ++ rest) × IsClass (text_environment Sets us) c w rest × IsEarlyClass c)
+        ((c : Class) × (w : List CodePoint) × (rest : List CodePoint) × (u ∷ text ≡ w ++ rest) × IsClass (class_environment Sets us) c w rest × IsEarlyClass c)
         ⊎ ((f : ℕ) × (d : Diagnostic) × IsClassCause Sets us start added from (u ∷ text) f d) }
 {}
 
 /// With neither `u` nor `v`, at a place that is reached, the text ends with no group open, a further place is reached, or a refusal holds; but for modifiers, which
 /// no mode changes.
 pub fn legacy_places()
-    ensures { (us : List CodePoint) (start added place : ℕ) (open_groups : List Opener) (ready : Bool) (rest : List CodePoint) → AreCodeUnits rest →
-        IsReached Legacy us place open_groups ready rest → begins_modifiers (values rest) ≡ false →
+    ensures { (rules : Rules) (us : List CodePoint) (start added place : ℕ) (open_groups : List Opener) (ready : Bool) (rest : List CodePoint) → AreCodeUnits rest →
+        IsReached Legacy rules us place open_groups ready rest → begins_modifiers (values rest) ≡ false →
         ((rest ≡ []) × (open_groups ≡ []))
-        ⊎ (((further : ℕ) × (back : List CodePoint) × (place < further) × IsPlace Legacy us further back)
-        ⊎ ((f : ℕ) × (d : Diagnostic) × IsCauseAtPlace Legacy us start added f d)) }
+        ⊎ (((further : ℕ) × (back : List CodePoint) × (place < further) × IsPlace Legacy rules us further back)
+        ⊎ ((f : ℕ) × (d : Diagnostic) × IsCauseAtPlace Legacy rules us start added f d)) }
 {}
 
 /// Where a group is open at a place that is reached, the innermost began at such a place, and what stands in it opens and closes groups of its own alone.
 pub fn innermost_group()
-    ensures { (mode : Mode) (us : List CodePoint) (place : ℕ) (group : Opener) (open_groups : List Opener) (ready : Bool) (rest : List CodePoint) →
-        IsReached mode us place (group ∷ open_groups) ready rest → (from : ℕ) × IsInside mode us from group place rest }
+    ensures { (mode : Mode) (rules : Rules) (us : List CodePoint) (place : ℕ) (group : Opener) (open_groups : List Opener) (ready : Bool) (rest : List CodePoint) →
+        IsReached mode rules us place (group ∷ open_groups) ready rest → (from : ℕ) × IsInside mode rules us from group place rest }
 {}

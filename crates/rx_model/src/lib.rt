@@ -5,7 +5,9 @@ mod form;
 pub mod laws;
 pub mod mark_laws;
 mod mode;
+mod rules;
 pub mod sequence;
 
 pub use form::Form;
 pub use mode::Mode;
+pub use rules::Rules;

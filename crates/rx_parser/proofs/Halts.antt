@@ -50,6 +50,7 @@ use Rattle.rx_parser.specs.Parsing.{IsParsing, IsRefused}
 use Rattle.rx_parser.proofs.Insides.{inside}
 use Rattle.rx_parser.proofs.Places.{reached, some_left}
 use Rattle.rx_parser.proofs.Refused.{cause_refused}
+use Rattle.rx_model.specs.declared.rules.Rules.{Rules}
 
 -- a group that is not ended
 says_group : (o : Opener) (span : Span) → yielding (UnterminatedPattern span (unterminated o)) ≢ no_item
@@ -64,7 +65,7 @@ says_modifiers fault.Duplicated span e = cc e
 says_modifiers fault.Empty span e = cc e
 says_modifiers fault.Invalid span e = cc e
 
-module _ {mode : Mode} (us : List CodePoint) (first added : ℕ) (b : Builder) (place : ℕ) (h : IsParsing mode us first added b place) where
+module _ {mode : Mode} {rules : Rules} (us : List CodePoint) (first added : ℕ) (b : Builder) (place : ℕ) (h : IsParsing mode rules us first added b place) where
   abbrev unicode_mode : Bool
   unicode_mode = is_unicode mode
 
@@ -72,13 +73,13 @@ module _ {mode : Mode} (us : List CodePoint) (first added : ℕ) (b : Builder) (
   left = drop place us
 
   abbrev here : Environment
-  here = text_environment mode us
+  here = text_environment mode rules us
 
-  at_left : IsPlace mode us place left
+  at_left : IsPlace mode rules us place left
   at_left = record { open_groups = openers b; ready = ready b; reached = reached us first added b place h }
 
   abbrev Causes : Refusal → Type 0
-  Causes cause = IsCauseAtPlace mode us first added place cause
+  Causes cause = IsCauseAtPlace mode rules us first added place cause
 
   abbrev between : ℕ → ℕ → Span
   between from to = span_between us first added from to
@@ -147,7 +148,7 @@ module _ {mode : Mode} (us : List CodePoint) (first added : ℕ) (b : Builder) (
   index_cause n k e large =
       let f = front_spelled here left (indexed k) n e in
       placed (λ span. InvalidIndexedReference span (text_groups mode us)) place (place + length f.w) (place + 0) (place + n) (omega arith) (ap (λ n. place + n) f.count)
-      (no_such_group place k f.w f.rest (subst (IsPlace mode us place) f.whole at_left) f.spells large)
+      (no_such_group place k f.w f.rest (subst (IsPlace mode rules us place) f.whole at_left) f.spells large)
 
   modifiers_cause : (it : ModifiersHalt) (n : ℕ) (behind : List ℕ) → values left ≡ 40 ∷ 63 ∷ behind → AreWrong behind n it → Refuses (halt.Modifiers (found_fault it) n)
   modifiers_cause _ _ _ whole (unknown text behind l) =
@@ -171,7 +172,7 @@ module _ {mode : Mode} (us : List CodePoint) (first added : ℕ) (b : Builder) (
     where
       pattern : b.frames ≡ [] → fault ≡ Diagnostic (ParsePatternIncomplete (between at at)) → IsOfCause fault
       pattern none is =
-          let r : IsReached mode us place [] (ready b) left = subst (λ fs. IsReached mode us place (opened fs []) (ready b) left) none (reached us first added b place h) in (
+          let r : IsReached mode rules us place [] (ready b) left = subst (λ fs. IsReached mode rules us place (opened fs []) (ready b) left) none (reached us first added b place h) in (
             ParsePatternIncomplete (between at at),
             is,
             (λ e. cc e),
@@ -193,16 +194,16 @@ module _ {mode : Mode} (us : List CodePoint) (first added : ℕ) (b : Builder) (
                 (unterminated_group i.0 place behind (opener_of (opener_tree it.group_kind)) left i.1 stop not_closed)),
           )
 
-  module _ (no_clash : HasNoClash mode us) (limit : text_groups mode us ≤ most_groups) where
-    refused : (cause : Refusal) → yielding cause ≢ no_item → Causes cause → (fault : Fault) → fault ≡ Diagnostic cause → IsRefused mode us first added fault
-    refused cause says c fault e = subst (IsRefused mode us first added) (sym e) (cause_refused mode us first added no_clash limit place cause says c)
+  module _ (no_clash : HasNoClash mode rules.duplicate_names us) (limit : text_groups mode us ≤ most_groups) where
+    refused : (cause : Refusal) → yielding cause ≢ no_item → Causes cause → (fault : Fault) → fault ≡ Diagnostic cause → IsRefused mode rules us first added fault
+    refused cause says c fault e = subst (IsRefused mode rules us first added) (sym e) (cause_refused mode rules us first added no_clash limit place cause says c)
 
     -- why the text is refused where the reading halts
-    pub halt_refused : place < length us → (fault : Fault) (it : Halt) → IsHalt here left it → IsHaltFault us first added place b (text_groups mode us) it fault → IsRefused mode us first added fault
+    pub halt_refused : place < length us → (fault : Fault) (it : Halt) → IsHalt here left it → IsHaltFault us first added place b (text_groups mode us) it fault → IsRefused mode rules us first added fault
     halt_refused l fault it h f =
         go h.0 (subst (Says here left (front here left)) h.1 (front_said here (ap (λ u. u || has_some (text_names mode us))) left)) (subst (λ it. IsHaltFault us first added place b (text_groups mode us) it fault) h.2 f)
       where
-        name : (it : NameHalt) → Refuses (found_name_halt it) → IsHaltFault us first added place b (text_groups mode us) (found_name_halt it) fault → IsRefused mode us first added fault
+        name : (it : NameHalt) → Refuses (found_name_halt it) → IsHaltFault us first added place b (text_groups mode us) (found_name_halt it) fault → IsRefused mode rules us first added fault
         name (unterminated_row n) c f = refused _ (λ e. cc e) c fault f
         name (misplaced_pair_row n) c f = refused _ (λ e. cc e) c fault f
         name (misplaced count n) c f = refused _ (λ e. cc e) c fault f
@@ -210,12 +211,12 @@ module _ {mode : Mode} (us : List CodePoint) (first added : ℕ) (b : Builder) (
         name (no_escape_of_u count) c f = refused _ (λ e. cc e) c fault f
         name (many_digits count many) c f = refused _ (λ e. cc e) c fault f
 
-        go : (it : FrontHalt) → SaysHalt here left (front here left) it → IsHaltFault us first added place b (text_groups mode us) (found_halt it) fault → IsRefused mode us first added fault
+        go : (it : FrontHalt) → SaysHalt here left (front here left) it → IsHaltFault us first added place b (text_groups mode us) (found_halt it) fault → IsRefused mode rules us first added fault
         go (ends_here behind) s f =
             let c = ended_cause behind (place + behind) fault s.0 s.1 (λ none. some_left us place l) refl f in
             refused c.0 c.2 c.3 fault c.1
         go reading.last_backslash s f =
-            refused _ (λ e. cc e) (from_here InvalidExtendedAtomEscape (place + 1) (last_backslash place s.1 (subst (IsPlace mode us place) s.2 at_left) s.0 s.3)) fault f
+            refused _ (λ e. cc e) (from_here InvalidExtendedAtomEscape (place + 1) (last_backslash place s.1 (subst (IsPlace mode rules us place) s.2 at_left) s.0 s.3)) fault f
         go (reading.out_of_order n) s f = refused _ (λ e. cc e) (from_here BracedQuantifierOutOfOrder (place + n) (out_of_order place n s.0 s.1 left at_left s.2 s.3)) fault f
         go (reading.too_large n) s f = refused _ (λ e. cc e) (from_here TooLargeNumberInBracedQuantifier (place + n) (too_large place n s.0 s.1 left at_left s.2 s.3.0 s.3.1)) fault f
         go (many_decimal_digits start many) s f = refused _ (λ e. cc e) (limit_cause start many s.0 s.1) fault f
@@ -227,7 +228,7 @@ module _ {mode : Mode} (us : List CodePoint) (first added : ℕ) (b : Builder) (
         go (in_modifiers it n) s f = refused _ (says_modifiers (found_fault it) _) (modifiers_cause it n s.0 s.1 s.2) fault f
 
     -- a group is open at the end of the text
-    pub ended_refused : place ≡ length us → (openers b ≡ [] → ⊥) → (fault : Fault) → IsEndedFault us first added place b fault → IsRefused mode us first added fault
+    pub ended_refused : place ≡ length us → (openers b ≡ [] → ⊥) → (fault : Fault) → IsEndedFault us first added place b fault → IsRefused mode rules us first added fault
     ended_refused e some fault f =
         let none : left ≡ [] = drop_all place us (omega (arith, e)) in
         let stop : IsStop here left 0 = subst (λ rest. IsStop here rest 0) (sym none) at_end in
@@ -235,14 +236,14 @@ module _ {mode : Mode} (us : List CodePoint) (first added : ℕ) (b : Builder) (
         refused c.0 c.2 c.3 fault c.1
 
     -- a `)` where no group is open
-    pub closer_refused : Stands here left closer 1 → openers b ≡ [] → IsRefused mode us first added (Diagnostic (ParsePatternIncomplete (between place place)))
+    pub closer_refused : Stands here left closer 1 → openers b ≡ [] → IsRefused mode rules us first added (Diagnostic (ParsePatternIncomplete (between place place)))
     closer_refused s none =
         let f = front_spelled here left closer 1 s.0 in
         let stop : IsStop here left 0 = subst (λ rest. IsStop here rest 0) (sym f.whole) (closer_stops f.w f.rest f.spells) in
         let some : left ≡ [] → ⊥ = λ e. omega (arith, ap length e, ap length f.whole, length-append f.w f.rest, f.count) in
-        let r : IsReached mode us place [] (ready b) left = subst (λ os. IsReached mode us place os (ready b) left) none (reached us first added b place h) in
+        let r : IsReached mode rules us place [] (ready b) left = subst (λ os. IsReached mode rules us place os (ready b) left) none (reached us first added b place h) in
         let here_is : place + 0 ≡ place = omega arith in
-        cause_refused mode us first added no_clash limit place (ParsePatternIncomplete (between place place)) (λ e. cc e)
+        cause_refused mode rules us first added no_clash limit place (ParsePatternIncomplete (between place place)) (λ e. cc e)
         (placed ParsePatternIncomplete (place + 0) (place + 0) place place here_is here_is (incomplete place 0 (ready b) left r stop some))
       where
         closer_stops : (w rest : List CodePoint) → values w ≡ 41 ∷ [] → IsStop here (w ++ rest) 0

@@ -15,7 +15,7 @@ use Rattle.rx_model.specs.Inputs.Environment.{is_unicode}
 use Rattle.rx_model.specs.Inputs.Flags.{flags_ok, holds, mode_of, modes_of}
 use Rattle.rx_model.specs.Inputs.Inputs.{Asks, AsksFor, Input}
 use Rattle.rx_model.specs.Inputs.Modes.{mode_by}
-use Rattle.rx_model.specs.Inputs.Texts.{AreFlagUnits, AreUnits, HasNoUnits, first_offset, some_flags, stand_in}
+use Rattle.rx_model.specs.Inputs.Texts.{AreFlagUnits, AreUnits, HasNoUnits, first_offset, some_flags, some_units, stand_in}
 use Rattle.rx_model.specs.Reading.Headline.{IsFaultOf, IsFirstRefusal, IsParsed, IsValid, no_flags_text, no_memory, no_text, of_flags, of_text, refused, whole_span}
 use Rattle.rx_model.specs.Refusals.FlagCauses.{IsFlagCause}
 use Rattle.rx_model.proofs.Refusals.OneRefusal.{none_of_valid}
@@ -56,49 +56,51 @@ module _ (input : Input) where
 
   -- be it that of the flags,
   pub unread_flags : (text : List ℕ) (it : Fault) → input.flags ≡ Some text
-      → (it ≡ fault.OutOfMemory) ⊎ ((it ≡ fault.Diagnostic (InvalidInput (whole_span text input.flags_offset))) × HasNoUnits true text input.form) → IsFaultOf input it
-  unread_flags text it given h = unread_fault it (InvalidInput (whole_span text input.flags_offset)) (HasNoUnits true text input.form) (no_flags_text given) h
+      → (it ≡ fault.OutOfMemory) ⊎ ((it ≡ fault.Diagnostic (InvalidInput (whole_span text input.flags_offset))) × HasNoUnits input.standard_strings true text input.form) → IsFaultOf input it
+  unread_flags text it given h = unread_fault it (InvalidInput (whole_span text input.flags_offset)) (HasNoUnits input.standard_strings true text input.form) (no_flags_text given) h
 
   -- or that of the pattern, for which nothing stood in.
   pub unread_text : (mode : Mode) (joined : Bool) (text : List ℕ) (it : Fault) → AsksFor input mode → is_unicode mode ≡ joined → text ≡ stand_in input.form input.text
-      → (it ≡ fault.OutOfMemory) ⊎ ((it ≡ fault.Diagnostic (InvalidInput (whole_span text input.text_offset))) × HasNoUnits joined text input.form) → IsFaultOf input it
+      → (it ≡ fault.OutOfMemory) ⊎ ((it ≡ fault.Diagnostic (InvalidInput (whole_span text input.text_offset))) × HasNoUnits input.standard_strings joined text input.form) → IsFaultOf input it
   unread_text mode joined text it asks unicode stands h =
-      unread_fault it (InvalidInput (whole_span text input.text_offset)) (HasNoUnits joined text input.form) (λ none.
-      let none_too : HasNoUnits (is_unicode mode) (stand_in input.form input.text) input.form =
-      subst (λ j. HasNoUnits j (stand_in input.form input.text) input.form) (sym unicode) (subst (λ t. HasNoUnits joined t input.form) stands none) in
-      let own : text ≡ input.text = stands ∙ none_stands_in (is_unicode mode) input.form input.text none_too in
+      unread_fault it (InvalidInput (whole_span text input.text_offset)) (HasNoUnits input.standard_strings joined text input.form) (λ none.
+      let none_too : HasNoUnits input.standard_strings (is_unicode mode) (stand_in input.form input.text) input.form =
+      subst (λ j. HasNoUnits input.standard_strings j (stand_in input.form input.text) input.form) (sym unicode) (subst (λ t. HasNoUnits input.standard_strings joined t input.form) stands none) in
+      let own : text ≡ input.text = stands ∙ none_stands_in input.standard_strings (is_unicode mode) input.form input.text none_too in
       subst (λ t. IsFirstRefusal input (InvalidInput (whole_span t input.text_offset))) (sym own) (no_text asks none_too)) h
 
   -- flags that are read, and wrong
-  pub wrong_flags : (text : List ℕ) (us : List CodePoint) (d : Diagnostic) → input.flags ≡ Some text → AreUnits true text input.form us
+  pub wrong_flags : (text : List ℕ) (us : List CodePoint) (d : Diagnostic) → input.flags ≡ Some text → AreUnits input.standard_strings true text input.form us
       → IsFlagCause us (first_offset input.form) input.flags_offset d → IsFaultOf input (fault.Diagnostic d)
-  wrong_flags text us d given units cause = refused (of_flags (subst (λ flags. AreFlagUnits input.form flags us) (sym given) (some_flags units)) cause)
+  wrong_flags text us d given units cause = refused (of_flags (subst (λ flags. AreFlagUnits input.standard_strings input.form flags us) (sym given) (some_flags units)) cause)
 
   -- flags that are right
-  pub right_flags : (text : List ℕ) (us : List CodePoint) (modes : Bool × Bool) → input.flags ≡ Some text → AreUnits true text input.form us → flags_ok (values us) ≡ true
+  pub right_flags : (text : List ℕ) (us : List CodePoint) (modes : Bool × Bool) → input.flags ≡ Some text → AreUnits input.standard_strings true text input.form us → flags_ok (values us) ≡ true
       → modes ≡ modes_of (values us) → AsksFor input (mode_by modes.0 modes.1)
   right_flags text us modes given units right gives = record {
     flags = us;
-    flags_are = subst (λ flags. AreFlagUnits input.form flags us) (sym given) (some_flags units);
+    flags_are = subst (λ flags. AreFlagUnits input.standard_strings input.form flags us) (sym given) (some_flags units);
     are_right = right;
     mode_is = mode_of_modes (values us) modes gives;
   }
 
   -- the units of a text, or of what stands in for it
-  pub text_asked : (mode : Mode) (joined : Bool) (text : List ℕ) (us : List CodePoint) → AsksFor input mode → is_unicode mode ≡ joined → text ≡ stand_in input.form input.text
-      → AreUnits joined text input.form us → Asks input mode us
-  text_asked mode joined text us asks unicode stands units = record {
+  pub text_asked : (mode : Mode) (joined : Bool) (text : List ℕ) (own us : List CodePoint) → AsksFor input mode → is_unicode mode ≡ joined → text ≡ stand_in input.form input.text
+      → AreUnits input.standard_strings joined text input.form own → us ≡ some_units own → Asks input mode us
+  text_asked mode joined text own us asks unicode stands units is = record {
     mode_asked = asks;
-    units_are = subst (λ j. AreUnits j (stand_in input.form input.text) input.form us) (sym unicode) (subst (λ t. AreUnits joined t input.form us) stands units);
+    own = own;
+    own_are = subst (λ j. AreUnits input.standard_strings j (stand_in input.form input.text) input.form own) (sym unicode) (subst (λ t. AreUnits input.standard_strings joined t input.form own) stands units);
+    units_are = is;
   }
 
   -- a text that is read, and its units
   module _ (mode : Mode) (us : List CodePoint) (asked : Asks input mode us) where
-    pub units_fault : (it : Fault) → IsRefused mode us (first_offset input.form) input.text_offset it → IsFaultOf input it
+    pub units_fault : (it : Fault) → IsRefused mode input.rules us (first_offset input.form) input.text_offset it → IsFaultOf input it
     units_fault fault.OutOfMemory h = no_memory
     units_fault (fault.Diagnostic d) h = refused (of_text asked h)
 
-    pub units_parsed : (p : Pattern) (m : Mode) → AnswersUnits mode us (first_offset input.form) input.text_offset (Ok p) → IsParsed (λ (p : Pattern × Mode). p.0) input (Ok (p, m))
+    pub units_parsed : (p : Pattern) (m : Mode) → AnswersUnits mode input.rules us (first_offset input.form) input.text_offset (Ok p) → IsParsed (λ (p : Pattern × Mode). p.0) input (Ok (p, m))
     units_parsed p m a = record {
       valid = record { mode = mode; units = us; asked = asked; pattern = p; reads = a.whole.reads };
       complete = λ _. tt;

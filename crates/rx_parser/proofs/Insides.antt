@@ -30,6 +30,7 @@ use Rattle.rx_parser.specs.Parsing.{IsParsing}
 use Rattle.rx_parser.proofs.FrameEvents.{frames_push}
 use Rattle.rx_parser.proofs.Goods.{frames_split}
 use Rattle.rx_model.proofs.Refusals.InnermostGroups.{first_all}
+use Rattle.rx_model.specs.declared.rules.Rules.{Rules}
 
 module _ (mode : Mode) where
   -- one row of events behind another
@@ -141,10 +142,10 @@ module _ (b : Builder) (outer : List Frame) (group : Frame) (e : b.frames ≡ ou
       (p.0, ap (λ ts. run b.mode ts [] false) (sym (append-nil (tokens_of (level_events b.level)))) ∙ p.1 [])
 
 -- the innermost group begins at some place, and all behind it stands in it
-pub inside : {mode : Mode} (us : List CodePoint) (first added : ℕ) (b : Builder) (place : ℕ) → IsParsing mode us first added b place → (outer : List Frame) (group : Frame) → b.frames ≡ outer ++ (group ∷ [])
-    → (from : ℕ) × IsInside mode us from (opener_of (opener_tree group.group_kind)) place (drop place us) × (group.start ≡ offset_at first us from + added)
-inside {mode} us first added b place h outer group e =
-    let env : Environment = text_environment mode us in
+pub inside : {mode : Mode} {rules : Rules} (us : List CodePoint) (first added : ℕ) (b : Builder) (place : ℕ) → IsParsing mode rules us first added b place → (outer : List Frame) (group : Frame) → b.frames ≡ outer ++ (group ∷ [])
+    → (from : ℕ) × IsInside mode rules us from (opener_of (opener_tree group.group_kind)) place (drop place us) × (group.start ≡ offset_at first us from + added)
+inside {mode} {rules} us first added b place h outer group e =
+    let env : Environment = text_environment mode rules us in
     let o : ℕ → ℕ = λ i. offset_at first us i + added in
     let rest : List CodePoint = drop place us in
     let it = opener_tree group.group_kind in
@@ -157,7 +158,7 @@ inside {mode} us first added b place h outer group e =
     let shown = opener_tokens it (level_events b.level) in
     let group_kind = head_open b outer group e h.at.good in
     let closed = inside_closed b outer group e h.at.good in
-    let reached : IsReached mode us s.0 (opened outer []) group_kind.0 s.1 = record {
+    let reached : IsReached mode rules us s.0 (opened outer []) group_kind.0 s.1 = record {
       tokens = tokens_of before_group;
       row = row_tokens env o before_group 0 us s.0 s.1 s.2;
       place_is = row_from_start env o before_group us s.0 s.1 s.2;

@@ -9,14 +9,15 @@ use Rattle.rx_model.proofs.Trees.Joins.{row_tokens}
 use Rattle.rx_parser.specs.declared.builder.Builder.{Builder}
 use Rattle.rx_parser.specs.Frames.{builder_events, openers, ready}
 use Rattle.rx_parser.specs.Parsing.{IsParsing}
+use Rattle.rx_model.specs.declared.rules.Rules.{Rules}
 
 pub some_left : (us : List CodePoint) (place : ℕ) → place < length us → drop place us ≡ [] → ⊥
 some_left us place l e = omega (arith, length-drop place us, ap length e)
 
-pub reached : {mode : Mode} (us : List CodePoint) (first added : ℕ) (b : Builder) (place : ℕ) → IsParsing mode us first added b place → IsReached mode us place (openers b) (ready b) (drop place us)
-reached {mode} us first added b place h = record {
+pub reached : {mode : Mode} {rules : Rules} (us : List CodePoint) (first added : ℕ) (b : Builder) (place : ℕ) → IsParsing mode rules us first added b place → IsReached mode rules us place (openers b) (ready b) (drop place us)
+reached {mode} {rules} us first added b place h = record {
   tokens = tokens_of (builder_events b);
-  row = row_tokens (text_environment mode us) (λ i. offset_at first us i + added) (builder_events b) 0 us place (drop place us) h.at.row;
+  row = row_tokens (text_environment mode rules us) (λ i. offset_at first us i + added) (builder_events b) 0 us place (drop place us) h.at.row;
   place_is = omega (arith, h.within, length-drop place us);
   accepted = h.at.state;
   obey = h.obey;

@@ -41,7 +41,7 @@ pub record Takes (b c : Builder) (u : CodePoint) (term : Term) (at after : ℕ) 
 unit_turned : {added : ℕ} {b : Builder} {r : Cursor} → IsBefore added b r → (c : Builder) (u : CodePoint) (term : Term) (at after : ℕ) → AreCodePoints r → 1 ≤ length (rest r) → u ≡ get_or (rest r) 0 u
     → is_syntax_character u.value ≡ false → at ≡ offset_of r + added → after ≡ offset_of (moved 1 r) + added → Takes b c u term at after → IsTurned added b c r (moved 1 r)
 unit_turned {added} {b} {r} h c u term at after small some is plain start end t =
-    let e = text_environment b.mode r.units in
+    let e = text_environment b.mode b.rules r.units in
     let found : IsFound e (rest r) (Leaf (Character (unit_kind u.escape_kind) u.value) 1) =
     subst (λ (v : CodePoint). IsFound e (rest r) (Leaf (Character (unit_kind v.escape_kind) v.value) 1)) (sym is)
     (plain_found e (rest r) u (ap (λ always. always || has_some (text_names b.mode r.units))) small some (subst (λ (v : CodePoint). is_syntax_character v.value ≡ false) is plain)) in
@@ -76,15 +76,16 @@ module _ {added : ℕ} {b : Builder} {r : Cursor} (h : IsBefore added b r) where
         ap (λ (v : CodePoint). v.span.end) (is ∙ get_or-drop r.place r.units i u ∙ ap (λ n. get_or r.units n u) before) ∙ sym k
 
     -- the builder takes it
-    pub run_on : (l c : Builder) (term : Term) (start : ℕ) → AreCodePoints r → is_syntax_character u.value ≡ false → IsParsing b.mode r.units r.first added l (r.place + i) → start ≡ offset_at r.first r.units (r.place + i)
-        → Takes l c u term (start + added) (u.span.end + added) → IsParsing b.mode r.units r.first added c (r.place + (i + 1))
+    pub run_on : (l c : Builder) (term : Term) (start : ℕ) → AreCodePoints r → is_syntax_character u.value ≡ false → IsParsing b.mode b.rules r.units r.first added l (r.place + i) → start ≡ offset_at r.first r.units (r.place + i)
+        → Takes l c u term (start + added) (u.span.end + added) → IsParsing b.mode b.rules r.units r.first added c (r.place + (i + 1))
     run_on l c term start small plain parsing from t =
         let s : Cursor = record r { place = r.place + i } in
         let within : r.place + i < length r.units = omega (arith, some, length-drop r.place r.units, h.parsing.within) in
         let same : drop i (rest r) ≡ rest s = drop-drop i r.place r.units in
         let mode : b.mode ≡ l.mode = sym parsing.at.mode in
+        let same_rules : b.rules ≡ l.rules = sym parsing.rules_are in
         let before : IsBefore added l s = record {
-          parsing = subst (λ m. IsParsing m r.units r.first added l (r.place + i)) mode parsing;
+          parsing = subst (λ m. IsParsing m l.rules r.units r.first added l (r.place + i)) mode (subst (λ it. IsParsing b.mode it r.units r.first added l (r.place + i)) same_rules parsing);
           left = within;
           fits = record { first = h.fits.first; ends = h.fits.ends };
         } in
@@ -94,10 +95,11 @@ module _ {added : ℕ} {b : Builder} {r : Cursor} (h : IsBefore added b r) where
         let here : u ≡ get_or (rest s) 0 u = is ∙ ap (λ n. get_or (rest r) n u) first ∙ sym (get_or-drop i (rest r) 0 u) ∙ ap (λ us. get_or us 0 u) same in
         let turned = unit_turned before c u term (start + added) (u.span.end + added) code_points (omega (arith, within, length-drop (r.place + i) r.units)) here plain
         (ap (λ k. k + added) from) (ap (λ k. k + added) (unit_end ∙ ap (offset_at r.first r.units) (sym next))) t in
-        subst (λ m. IsParsing m r.units r.first added c (r.place + (i + 1))) (sym mode) (subst (IsParsing l.mode r.units r.first added c) next turned.parsing)
+        subst (λ it. IsParsing b.mode it r.units r.first added c (r.place + (i + 1))) (sym same_rules)
+        (subst (λ m. IsParsing m l.rules r.units r.first added c (r.place + (i + 1))) (sym mode) (subst (IsParsing l.mode l.rules r.units r.first added c) next turned.parsing))
 
   -- The whole run is read.
-  pub run_turned : (c : Builder) (s : Cursor) (count : ℕ) → 0 < count → count ≤ length (rest r) → s ≡ moved count r → IsParsing b.mode r.units r.first added c (r.place + count) → IsTurned added b c r s
+  pub run_turned : (c : Builder) (s : Cursor) (count : ℕ) → 0 < count → count ≤ length (rest r) → s ≡ moved count r → IsParsing b.mode b.rules r.units r.first added c (r.place + count) → IsTurned added b c r s
   run_turned c s count some within e parsing =
       let it : min (r.place + count) (length r.units) ≡ r.place + count = omega (arith, within, length-drop r.place r.units, h.parsing.within) in
       subst (IsTurned added b c r) (sym (e ∙ ap (λ k. record r { place = k }) it)) (record { parsing = parsing; moved = omega (arith, some); same = refl })

@@ -1,22 +1,26 @@
 -- What stands in for an empty text, and that it is read.
-use Rattle.std.proofs.Common.{◌≡◌, refl, ap, sym, ◌∙◌, subst, ℕ, Bool, true, false, ◌==◌, ◌&&◌, ◌||◌, ◌⊎◌, inl, inr, List, [], ◌∷◌}
-use Rattle.std.specs.Prelude.{if◌then◌else◌}
+use Rattle.std.proofs.Common.{◌≡◌, refl, ap, sym, ◌∙◌, subst, ℕ, Bool, true, false, ◌==◌, ◌&&◌, ◌||◌, ◌⊎◌, inl, inr, List, [], ◌∷◌, None}
+use Rattle.std.specs.Prelude.{drop, if◌then◌else◌}
 use Rattle.std.specs.Str.{chars, IsUtf8}
 use Rattle.std.proofs.lemmas.Bool.{and_parts, eqb-true, or_cases}
 use Rattle.std.proofs.lemmas.Str.{encodes-chars}
 use lib.Utf8.{encode, encodes}
 use Rattle.rx_units.specs.declared.code_point.CodePoint.{CodePoint}
-use Rattle.rx_units.specs.declared.code_point.EscapeKind.TheVariants as kind
 use Rattle.rx_units.specs.declared.options.Options.{Options}
+use Rattle.rx_units.specs.declared.quoted_text.element.Writing.TheVariants.{Plain}
 use Rattle.rx_units.specs.declared.quoted_text.literal.Literal.{Literal}
 use Rattle.rx_units.specs.declared.quoted_text.literal.Literal.TheVariants as literals
 use Rattle.rx_units.specs.declared.string_literal_parser.StringLiteralKind.TheVariants as quotes
-use Rattle.rx_units.specs.Quoted.Elements.{character, is_string_character, plain}
+use Rattle.rx_units.specs.Quoted.Elements.{character, is_string_character, written}
 use Rattle.rx_units.specs.Quoted.Texts.{behind, opened, IsDecoded, Leads, Place, no_element, one_more}
-use Rattle.rx_units.specs.Sources.{plain_options}
+use Rattle.rx_units.specs.Quoted.Values.{text_units}
+use Rattle.rx_units.specs.Cursor.{Cursor, front, rest}
+use Rattle.rx_units.specs.Sources.{Decodes, plain_options}
+use Rattle.rx_units.proofs.Sources.{one_decodes}
 use Rattle.rx_model.specs.declared.form.Form.{Form}
 use Rattle.rx_model.specs.declared.form.Form.TheVariants.{Literal as of_slashes, Constructor}
-use Rattle.rx_model.specs.Inputs.Texts.{HasNoUnits, is_quote, literal_text, of_literal, of_quoted, quoted_text, stand_in}
+use Rattle.rx_model.specs.Inputs.Texts.{AreUnits, HasNoUnits, is_quote, literal_text, of_literal, of_quoted, quoted_text, some_units, stand_in}
+use Rattle.rx_model.proofs.Inputs.Asked.{some_literal}
 
 -- in double quotes
 abbrev string : Literal
@@ -25,8 +29,8 @@ string = literals.String quotes.Double
 module _ (o : Options) (from : Place) where
   -- one more character that stands for itself
   character_more : (p : Place) (c : ℕ) (rest : List ℕ) → Leads string o from p → p.rest ≡ c ∷ rest → is_string_character 34 c ≡ true
-      → Leads string o from (behind o p (plain c kind.None) (c ∷ []) rest)
-  character_more p c rest leads stands is = one_more (plain c kind.None) (c ∷ []) rest leads stands (character is) (λ strict. refl)
+      → Leads string o from (behind o p (written c Plain) (c ∷ []) rest)
+  character_more p c rest leads stands is = one_more (written c Plain) (c ∷ []) rest leads stands (character is) refl
 
 -- `"(?:)"`
 abbrev pub empty_group : List ℕ
@@ -36,15 +40,15 @@ group_decoded : (o : Options) → (us : List CodePoint) × IsDecoded string o em
 group_decoded o =
     let inner : List ℕ = 40 ∷ 63 ∷ 58 ∷ 41 ∷ 34 ∷ [] in
     let p0 = opened o inner in
-    let p1 = behind o p0 (plain 40 kind.None) (40 ∷ []) (63 ∷ 58 ∷ 41 ∷ 34 ∷ []) in
-    let p2 = behind o p1 (plain 63 kind.None) (63 ∷ []) (58 ∷ 41 ∷ 34 ∷ []) in
-    let p3 = behind o p2 (plain 58 kind.None) (58 ∷ []) (41 ∷ 34 ∷ []) in
-    let p4 = behind o p3 (plain 41 kind.None) (41 ∷ []) (34 ∷ []) in
+    let p1 = behind o p0 (written 40 Plain) (40 ∷ []) (63 ∷ 58 ∷ 41 ∷ 34 ∷ []) in
+    let p2 = behind o p1 (written 63 Plain) (63 ∷ []) (58 ∷ 41 ∷ 34 ∷ []) in
+    let p3 = behind o p2 (written 58 Plain) (58 ∷ []) (41 ∷ 34 ∷ []) in
+    let p4 = behind o p3 (written 41 Plain) (41 ∷ []) (34 ∷ []) in
     let one = character_more o p0 p0 40 (63 ∷ 58 ∷ 41 ∷ 34 ∷ []) no_element refl refl in
     let two = character_more o p0 p1 63 (58 ∷ 41 ∷ 34 ∷ []) one refl refl in
     let three = character_more o p0 p2 58 (41 ∷ 34 ∷ []) two refl refl in
     let four = character_more o p0 p3 41 (34 ∷ []) three refl refl in
-    (p4.units, record { last = p4; reached = record { inner = inner; opens = refl; leads = four }; closes = refl; units_are = refl })
+    (text_units o p4.units, record { last = p4; reached = record { inner = inner; opens = refl; leads = four }; closes = refl; units_are = refl })
 
 -- what stands in where a test holds
 either_of : (b : Bool) (text other : List ℕ) → ((if b then other else text) ≡ text) ⊎ ((if b then other else text) ≡ other)
@@ -57,23 +61,49 @@ either (c ∷ []) = inl refl
 either (c ∷ d ∷ []) = either_of (is_quote c && c == d) (c ∷ d ∷ []) empty_group
 either (c ∷ d ∷ e ∷ rest) = inl refl
 
+group_decodes : (standard joined : Bool) → Decodes standard joined empty_group (group_decoded (plain_options standard joined)).0
+group_decodes standard joined = record { literal = string; decoded = (group_decoded (plain_options standard joined)).1 }
+
 -- for a text that is not read nothing stands in
-pub none_stands_in : (joined : Bool) (form : Form) (text : List ℕ) → HasNoUnits joined (stand_in form text) form → stand_in form text ≡ text
-none_stands_in joined of_slashes text none = absurd (none _ of_literal)
-none_stands_in joined Constructor text none = elim (either text) [
+pub none_stands_in : (standard joined : Bool) (form : Form) (text : List ℕ) → HasNoUnits standard joined (stand_in form text) form → stand_in form text ≡ text
+none_stands_in standard joined of_slashes text none = absurd (none _ of_literal)
+none_stands_in standard joined Constructor text none = elim (either text) [
   | inl e ↦ e
-  | inr e ↦
-      let g = group_decoded (plain_options joined) in
-      absurd (none g.0 (of_quoted record { literal = string; decoded = subst (λ t. IsDecoded string (plain_options joined) t g.0) (sym e) g.1 }))
+  | inr e ↦ absurd (none _ (of_quoted (subst (λ t. Decodes standard joined t (group_decoded (plain_options standard joined)).0) (sym e) (group_decodes standard joined))))
 ]
 
+-- It is decoded to the units of `(?:)` after a quote,
+group_units : (standard joined : Bool) → (group_decoded (plain_options standard joined)).0 ≡ some_units []
+unfolding group_decoded
+group_units true true = refl
+group_units true false = refl
+group_units false true = refl
+group_units false false = refl
+
+pub group_read : (standard joined : Bool) (us : List CodePoint) → Decodes standard joined (chars empty_group) us → us ≡ some_units []
+unfolding chars
+group_read standard joined us d = one_decodes d (group_decodes standard joined) ∙ group_units standard joined
+
+-- which a text in quotes alone may be read from.
+pub none_quoted : (standard joined : Bool) (form : Form) (text : List ℕ) (us : List CodePoint) → AreUnits standard joined (stand_in form text) form us → us ≡ [] → form ≡ Constructor
+none_quoted standard joined of_slashes text _ of_literal e = absurd (some_literal joined text e)
+none_quoted standard joined Constructor text us units e = refl
+
+-- A reader at its start that sees nothing has no units.
+none_in_front : (us : List CodePoint) → front us ≡ None → us ≡ []
+none_in_front [] e = refl
+none_in_front (u ∷ us) e = absurd (let no : ⊥ = cc e in no)
+
+pub none_left : (r : Cursor) → r.place ≡ 0 → front (rest r) ≡ None → r.units ≡ []
+none_left r start left = none_in_front r.units (ap (λ n. front (drop n r.units)) (sym start) ∙ left)
+
 -- The characters of a text that is empty, and of one that is not:
-some_literal : (cs : List ℕ) → (cs ≡ [] → ⊥) → cs ≡ literal_text cs
-some_literal [] some = absurd (some refl)
-some_literal (c ∷ cs) some = refl
+own_literal : (cs : List ℕ) → (cs ≡ [] → ⊥) → cs ≡ literal_text cs
+own_literal [] some = absurd (some refl)
+own_literal (c ∷ cs) some = refl
 
 pub literal_stands : (bytes : List ℕ) → IsUtf8 bytes → (bytes ≡ [] → ⊥) → chars bytes ≡ literal_text (chars bytes)
-literal_stands bytes utf8 some = some_literal (chars bytes) (λ e. some (sym (encodes-chars bytes utf8) ∙ ap encodes e))
+literal_stands bytes utf8 some = own_literal (chars bytes) (λ e. some (sym (encodes-chars bytes utf8) ∙ ap encodes e))
 
 pub empty_literal : (bytes : List ℕ) → bytes ≡ [] → chars (40 ∷ 63 ∷ 58 ∷ 41 ∷ []) ≡ literal_text (chars bytes)
 unfolding chars

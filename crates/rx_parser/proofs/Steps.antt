@@ -28,6 +28,7 @@ pub record Grows (b c : Builder) (es : Events) (open_groups : List Opener) (read
   pub ready_is : ready c ≡ ready_then
   pub good : IsGood b → IsGood c
   pub mode : c.mode ≡ b.mode
+  pub rules : c.rules ≡ b.rules
 
 -- A builder has made the last node the body of a quantifier.
 pub record Quantifies (b c : Builder) (min : ℕ) (max : Option ℕ) (greedy : Bool) (after : ℕ) : Type 0 where
@@ -37,6 +38,7 @@ pub record Quantifies (b c : Builder) (min : ℕ) (max : Option ℕ) (greedy : B
   pub ready_is : ready c ≡ false
   pub good : IsGood b → IsGood c
   pub mode : c.mode ≡ b.mode
+  pub rules : c.rules ≡ b.rules
 
 abbrev state : List Opener → Bool → Option (List Opener × Bool)
 state open_groups ready = Some (open_groups, ready)

@@ -25,7 +25,7 @@ use Rattle.rx_model.specs.Refusals.Causes.{IsCauseAtPlace, lone, lone_in_legacy,
 use Rattle.rx_model.specs.Refusals.Firsts.{no_item, yielding}
 use Rattle.rx_model.specs.Classes.ClassRows.{IsClassSpanned}
 use Rattle.rx_model.specs.Trees.Early.{IsEarlyClass, IsEarlyOpener, Obeys}
-use Rattle.rx_model.specs.Inputs.Environment.{Environment, is_unicode}
+use Rattle.rx_model.specs.Inputs.Environment.{for_classes, Environment, is_unicode}
 use Rattle.rx_model.specs.Trees.Events.{Events, enter, inside, leave, modified, token, opener_event, term_events, tokens_of}
 use Rattle.rx_model.specs.Reading.Fronts.{front}
 use Rattle.rx_model.specs.Groups.Groups.{IsModified, IsModifying}
@@ -55,10 +55,11 @@ use Rattle.rx_parser.proofs.Leaves.{leaf_events, leaf_runs}
 use Rattle.rx_parser.proofs.Places.{reached}
 use Rattle.rx_parser.proofs.Refused.{cause_refused}
 use Rattle.rx_parser.proofs.Steps.{Grows, Quantifies, class_end, class_start, moves, quantifier_adds, repeats}
+use Rattle.rx_model.specs.declared.rules.Rules.{Rules}
 
 -- The token stands next between two offsets, and the other reader has moved over it.
 pub record IsPassed (added : ℕ) (b : Builder) (r s : Cursor) (t : Token) (n at after : ℕ) : Type 0 where
-  pub next : Front (text_environment b.mode r.units) t n (rest r)
+  pub next : Front (text_environment b.mode b.rules r.units) t n (rest r)
   pub start : at ≡ offset_of r + added
   pub end : after ≡ offset_of s + added
   pub moved_on : s ≡ moved n r
@@ -84,9 +85,9 @@ pub one_name : {unicode_mode : Bool} {us : List CodePoint} {name other : List �
 one_name {name = name} {other = other} h k = let same : Some name ≡ Some other = sym h.name_is ∙ k.name_is in cc same
 
 -- a quantifier behind nothing that may have one
-lone_cause : {us : List CodePoint} {first added : ℕ} (mode : Mode) (place min : ℕ) (max : Option ℕ) (greedy : Bool) (open_groups : List Opener) (w more : List CodePoint) → IsReached mode us place open_groups false (w ++ more)
-    → Spells (text_environment mode us) (quantifier min max greedy) w more → AreObeying mode us (quantifier min max greedy ∷ [])
-    → IsCauseAtPlace mode us first added place (lone_refusal mode (span_between us first added place (place + length w)))
+lone_cause : {us : List CodePoint} {first added : ℕ} {rules : Rules} (mode : Mode) (place min : ℕ) (max : Option ℕ) (greedy : Bool) (open_groups : List Opener) (w more : List CodePoint) → IsReached mode rules us place open_groups false (w ++ more)
+    → Spells (text_environment mode rules us) (quantifier min max greedy) w more → AreObeying mode us (quantifier min max greedy ∷ [])
+    → IsCauseAtPlace mode rules us first added place (lone_refusal mode (span_between us first added place (place + length w)))
 lone_cause Legacy place min max greedy open_groups w more r s o = lone_in_legacy place min max greedy open_groups w more r refl s o
 lone_cause Unicode place min max greedy open_groups w more r s o = lone place min max greedy open_groups w more r refl s o
 lone_cause Sets place min max greedy open_groups w more r s o = lone place min max greedy open_groups w more r refl s o
@@ -103,7 +104,7 @@ modified_length bits w m = omega (arith, ap length m.whole, length-map w (λ (u 
 module _ {added : ℕ} {b : Builder} {r : Cursor} (h : IsBefore added b r) where
   -- the environment of the text
   abbrev text : Environment
-  text = text_environment b.mode r.units
+  text = text_environment b.mode b.rules r.units
 
   -- the offset of a place
   abbrev offset : ℕ → ℕ
@@ -146,14 +147,15 @@ module _ {added : ℕ} {b : Builder} {r : Cursor} (h : IsBefore added b r) where
   -- a token that the builder takes
   turned : (c : Builder) (s : Cursor) (t : Token) (n : ℕ) (next : IsNext t n) → IsObeying t → s ≡ moved n r
       → (IsAt text offset b r.units r.place (next.w ++ next.rest) → IsAt text offset c r.units (r.place + length next.w) next.rest)
-      → tokens_of (builder_events c) ≡ tokens_of (builder_events b) ++ (t ∷ []) → IsTurned added b c r s
-  turned c s t n next obeys e takes adds =
+      → tokens_of (builder_events c) ≡ tokens_of (builder_events b) ++ (t ∷ []) → c.rules ≡ b.rules → IsTurned added b c r s
+  turned c s t n next obeys e takes adds same_rules =
       let k : ℕ = r.place + length next.w in
       let left : drop k r.units ≡ next.rest = sym (drop-drop (length next.w) r.place r.units) ∙ ap (drop (length next.w)) next.whole ∙ drop-append_seam next.w next.rest in
       subst (IsTurned added b c r) (sym (stands_behind next e)) (record {
         parsing = record {
           at = subst (IsAt text offset c r.units k) (sym left) (takes (subst (IsAt text offset b r.units r.place) next.whole h.parsing.at));
           within = omega (arith, ap length next.whole, length-append next.w next.rest, length-drop r.place r.units, h.parsing.within);
+          rules_are = same_rules;
           obey = subst (All IsObeying) (sym adds) (All-append IsObeying (tokens_of (builder_events b)) (t ∷ []) h.parsing.obey (All-cons IsObeying t [] obeys (All-nil IsObeying)));
         };
         moved = omega (arith, spelled_some text t next.w next.rest next.spells);
@@ -167,7 +169,7 @@ module _ {added : ℕ} {b : Builder} {r : Cursor} (h : IsBefore added b r) where
   grown c s t n es open_groups ready_then next obeys e g one row runs =
       turned c s t n next obeys e
       (moves text offset b c es r.units r.place (r.place + length next.w) (next.w ++ next.rest) next.rest open_groups ready_then g row (ap (λ ts. run b.mode ts (openers b) (ready b)) one ∙ runs))
-      (ap tokens_of g.events ∙ tokens_of-append (builder_events b) es ∙ ap (λ ts. tokens_of (builder_events b) ++ ts) one)
+      (ap tokens_of g.events ∙ tokens_of-append (builder_events b) es ∙ ap (λ ts. tokens_of (builder_events b) ++ ts) one) g.rules
 
   pub leaf_turned : (c : Builder) (s : Cursor) (t : Token) (n at after : ℕ) (term : Term) → IsPassedBy s t n at after → IsObeying t → IsLeafOf term t at after
       → Grows b c (term_events term) (openers b) (takes b.mode (mirror_term term)) → IsTurned added b c r s
@@ -178,13 +180,13 @@ module _ {added : ℕ} {b : Builder} {r : Cursor} (h : IsBefore added b r) where
 
   -- a class, which has the span of what it spells
   pub class_turned : (c : Builder) (s : Cursor) (n : ℕ) (it : Class) (term : Term) (next : IsNext (class (forget_class same_kind it)) n) → IsEarlyClass (forget_class same_kind it) → s ≡ moved n r → mirror_term term ≡ leaf (tree.class it)
-      → IsClassSpanned text offset r.place it next.w next.rest → Grows b c (term_events term) (openers b) (takes b.mode (mirror_term term)) → IsTurned added b c r s
+      → IsClassSpanned (for_classes text) offset r.place it next.w next.rest → Grows b c (term_events term) (openers b) (takes b.mode (mirror_term term)) → IsTurned added b c r s
   class_turned c s n it term next early e m spelled g =
       let span = class_span it in
       let es : Events = enter span.start ∷ inside it ∷ leave span.end ∷ [] in
       grown c s (class (forget_class same_kind it)) n es (openers b) true next early e
       (subst (Grows b c es (openers b)) (ap (takes b.mode) m) (subst (λ es. Grows b c es (openers b) (takes b.mode (mirror_term term))) (leaf_events term (tree.class it) m) g)) refl
-      (class_start text offset r.place it next.w next.rest spelled, (next.w, next.rest, refl, spelled, (class_end text offset r.place it next.w next.rest spelled, (refl, refl))))
+      (class_start (for_classes text) offset r.place it next.w next.rest spelled, (next.w, next.rest, refl, spelled, (class_end (for_classes text) offset r.place it next.w next.rest spelled, (refl, refl))))
       (leaf_runs b.mode (tree.class it) [] (openers b) (ready b))
 
   pub bar_turned : (c : Builder) (s : Cursor) (at after : ℕ) → IsPassedBy s bar 1 at after → Grows b c (leave at ∷ token bar ∷ enter after ∷ []) (openers b) false → IsTurned added b c r s
@@ -200,7 +202,7 @@ module _ {added : ℕ} {b : Builder} {r : Cursor} (h : IsBefore added b r) where
   pub quantifier_turned : (c : Builder) (s : Cursor) (min : ℕ) (max : Option ℕ) (greedy : Bool) (n at after : ℕ) → IsPassedBy s (quantifier min max greedy) n at after
       → IsObeying (quantifier min max greedy) → Quantifies b c min max greedy after → IsTurned added b c r s
   quantifier_turned c s min max greedy n at after k obeys q =
-      turned c s (quantifier min max greedy) n k.next obeys k.moved_on (repeats text offset b c min max greedy after r.units r.place k.next.w k.next.rest q (behind k) k.next.spells) (quantifier_adds q)
+      turned c s (quantifier min max greedy) n k.next obeys k.moved_on (repeats text offset b c min max greedy after r.units r.place k.next.w k.next.rest q (behind k) k.next.spells) (quantifier_adds q) q.rules
 
   -- a group that begins with a token
   plain_opened : (c : Builder) (s : Cursor) (begun made : GroupKind) (o : Opener) (n at after : ℕ) → begun ≡ made → HasToken made → opener_of (opener_tree made) ≡ o → IsPassedBy s (opener o) n at after
@@ -234,35 +236,35 @@ module _ {added : ℕ} {b : Builder} {r : Cursor} (h : IsBefore added b r) where
       modified_opened c s m n at after (subst (λ x. IsPassedBy s (opener x) n at after) f.0 k) (subst IsEarlyOpener f.0 early) refl (subst (λ x. Opens b c x at after) is g)
   open_turned c s (opener_found.LookAround kind) begun o n at after f is k early g = plain_opened c s begun _ o n at after is refl (sym f) k early g
 
-  module _ {state : State} (pass : HoldsPass b.mode r.units state) where
+  module _ {state : State} (pass : HoldsPass b.mode b.rules r.units state) where
     -- Where this is a cause of a token that stands next, the text is refused.
     refused : {s : Cursor} {t : Token} {n at after : ℕ} (k : IsPassedBy s t n at after) (cause : Span → Refusal) → ((span : Span) → yielding (cause span) ≢ no_item)
-        → IsCauseAtPlace b.mode r.units r.first added r.place (cause (span_between r.units r.first added r.place (r.place + length k.next.w)))
-        → IsRefused b.mode r.units r.first added (Diagnostic (cause (between at after)))
+        → IsCauseAtPlace b.mode b.rules r.units r.first added r.place (cause (span_between r.units r.first added r.place (r.place + length k.next.w)))
+        → IsRefused b.mode b.rules r.units r.first added (Diagnostic (cause (between at after)))
     refused {at = at} {after = after} k cause says c =
-        cause_refused b.mode r.units r.first added pass.no_clash pass.in_limit r.place (cause (between at after)) (says (between at after))
-        (subst (λ x. IsCauseAtPlace b.mode r.units r.first added r.place (cause x)) (sym (span_is k)) c)
+        cause_refused b.mode b.rules r.units r.first added pass.no_clash pass.in_limit r.place (cause (between at after)) (says (between at after))
+        (subst (λ x. IsCauseAtPlace b.mode b.rules r.units r.first added r.place (cause x)) (sym (span_is k)) c)
 
     -- the place, where the token is left
-    at_token : {t : Token} {n : ℕ} (next : IsNext t n) → IsReached b.mode r.units r.place (openers b) (ready b) (next.w ++ next.rest)
-    at_token next = subst (IsReached b.mode r.units r.place (openers b) (ready b)) next.whole (reached r.units r.first added b r.place h.parsing)
+    at_token : {t : Token} {n : ℕ} (next : IsNext t n) → IsReached b.mode b.rules r.units r.place (openers b) (ready b) (next.w ++ next.rest)
+    at_token next = subst (IsReached b.mode b.rules r.units r.place (openers b) (ready b)) next.whole (reached r.units r.first added b r.place h.parsing)
 
     -- A quantifier stands where none may follow.
     pub lone_refused : (s : Cursor) (min : ℕ) (max : Option ℕ) (greedy : Bool) (n at after : ℕ) → IsPassedBy s (quantifier min max greedy) n at after → IsObeying (quantifier min max greedy) → ready b ≡ false
-        → IsRefused b.mode r.units r.first added (Diagnostic (lone_refusal b.mode (between at after)))
+        → IsRefused b.mode b.rules r.units r.first added (Diagnostic (lone_refusal b.mode (between at after)))
     lone_refused s min max greedy n at after k obeys none =
         let w = k.next.w in
         let more = k.next.rest in
         refused k (lone_refusal b.mode) (lone_says b.mode)
-        (lone_cause b.mode r.place min max greedy (openers b) w more (subst (λ q. IsReached b.mode r.units r.place (openers b) q (w ++ more)) none (at_token k.next)) k.next.spells
+        (lone_cause b.mode r.place min max greedy (openers b) w more (subst (λ q. IsReached b.mode b.rules r.units r.place (openers b) q (w ++ more)) none (at_token k.next)) k.next.spells
         (All-cons IsObeying (quantifier min max greedy) [] obeys (All-nil IsObeying)))
 
     -- A reference has a name that no group has.
     pub name_refused : (s : Cursor) (name : List ℕ) (n at after : ℕ) → IsPassedBy s (named name) n at after → is_among state.capturing_group_names name ≡ false
-        → IsRefused b.mode r.units r.first added (Diagnostic (InvalidNamedReference (between at after) state.capturing_group_names))
+        → IsRefused b.mode b.rules r.units r.first added (Diagnostic (InvalidNamedReference (between at after) state.capturing_group_names))
     name_refused s name n at after k none =
         let held = text_names b.mode r.units in
         let unknown : Contains held name → ⊥ = λ c. true≢false (sym (among held name c) ∙ ap (λ names. is_among names name) (sym pass.names) ∙ none) in
-        let here : IsPlace b.mode r.units r.place (k.next.w ++ k.next.rest) = record { open_groups = openers b; ready = ready b; reached = at_token k.next } in
-        subst (λ names. IsRefused b.mode r.units r.first added (Diagnostic (InvalidNamedReference (between at after) names))) (sym pass.names)
+        let here : IsPlace b.mode b.rules r.units r.place (k.next.w ++ k.next.rest) = record { open_groups = openers b; ready = ready b; reached = at_token k.next } in
+        subst (λ names. IsRefused b.mode b.rules r.units r.first added (Diagnostic (InvalidNamedReference (between at after) names))) (sym pass.names)
         (refused k (λ span. InvalidNamedReference span held) (λ span e. cc e) (no_such_name r.place name k.next.w k.next.rest here k.next.spells unknown))

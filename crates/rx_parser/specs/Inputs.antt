@@ -5,6 +5,7 @@ use Rattle.std.specs.Str.{chars}
 use Rattle.rx_model.specs.declared.form.Form.{Form}
 use Rattle.rx_model.specs.declared.form.Form.TheVariants.{Literal, Constructor}
 use Rattle.rx_model.specs.Inputs.Inputs.{Input}
+use Rattle.rx_model.specs.declared.rules.Rules.{Rules}
 use Rattle.rx_parser.specs.declared.options.Options.{Options}
 
 -- the flags, if there is a flags text
@@ -22,7 +23,18 @@ abbrev pub stand_in_length : Form → ℕ
 stand_in_length Literal = 4
 stand_in_length Constructor = 6
 
+-- the rules among the options
+abbrev pub rules_of : Options → Rules
+rules_of options = record { duplicate_names = options.duplicate_names; buffer_boundaries = options.buffer_boundaries }
+
 -- what is to be read of a form, a text and a flags text
 abbrev pub input_of : Form → List ℕ → Option (Bor (List ℕ)) → Options → Input
-input_of form text flags options =
-    record { form = form; text = chars text; flags = flags_chars flags; text_offset = options.pattern_span_offset; flags_offset = options.flags_span_offset }
+input_of form text flags options = record {
+  form = form;
+  text = chars text;
+  flags = flags_chars flags;
+  text_offset = options.pattern_span_offset;
+  flags_offset = options.flags_span_offset;
+  rules = rules_of options;
+  standard_strings = options.standard_strings;
+}

@@ -1,5 +1,5 @@
 -- How far a parse has come, and what its faults say.
-use Rattle.std.specs.Prelude.{◌≡◌, ℕ, ◌+◌, ◌≤◌, List, length, drop, Result, IfErr, IfOk}
+use Rattle.std.specs.Prelude.{◌≡◌, ℕ, Bool, ◌+◌, ◌≤◌, List, length, drop, Result, IfErr, IfOk}
 use Rattle.rx_base.specs.declared.fault.Fault.{Fault}
 use Rattle.rx_base.specs.declared.fault.Fault.TheVariants.{OutOfMemory, Diagnostic}
 use Rattle.rx_ast.specs.declared.term.Pattern.{Pattern}
@@ -14,41 +14,47 @@ use Rattle.rx_model.specs.Reading.Reading.{IsOnly, IsSpanned, Reads}
 use Rattle.rx_model.specs.Refusals.Reached.{AreObeying, HasNoClash, text_environment, text_groups, text_names}
 use Rattle.rx_scan.specs.StateFaults.{mode_of_state}
 use Rattle.rx_scan.specs.declared.state.State.{State}
+use Rattle.rx_model.specs.declared.rules.Rules.{Rules}
 use Rattle.rx_parser.specs.Frames.{builder_events}
 use Rattle.rx_parser.specs.Progress.{IsAt}
 use Rattle.rx_parser.specs.declared.builder.Builder.{Builder}
 
+-- the rules of a state, where buffer boundaries are read or not
+abbrev pub rules_of_state : State → Bool → Rules
+rules_of_state state buffers = record { duplicate_names = state.duplicate_names; buffer_boundaries = buffers }
+
 -- The state holds what the first pass of the units finds (CountLeftCapturingParensWithin, 22.2.1.2), which refuses nothing.
-pub record HoldsPass (mode : Mode) (us : List CodePoint) (state : State) : Type 0 where
+pub record HoldsPass (mode : Mode) (rules : Rules) (us : List CodePoint) (state : State) : Type 0 where
   pub mode_is : mode_of_state state ≡ mode
   pub groups : state.num_of_capturing_groups ≡ text_groups mode us
   pub names : state.capturing_group_names ≡ text_names mode us
-  pub no_clash : HasNoClash mode us
+  pub no_clash : HasNoClash mode rules.duplicate_names us
   pub in_limit : text_groups mode us ≤ most_groups
 
 -- The units before the place are a row of tokens, which the builder holds.
-pub record IsParsing (mode : Mode) (us : List CodePoint) (first added : ℕ) (b : Builder) (place : ℕ) : Type 0 where
-  pub at : IsAt (text_environment mode us) (λ i. offset_at first us i + added) b us place (drop place us)
+pub record IsParsing (mode : Mode) (rules : Rules) (us : List CodePoint) (first added : ℕ) (b : Builder) (place : ℕ) : Type 0 where
+  pub at : IsAt (text_environment mode rules us) (λ i. offset_at first us i + added) b us place (drop place us)
   pub within : place ≤ length us
+  pub rules_are : b.rules ≡ rules
   pub obey : AreObeying mode us (tokens_of (builder_events b))
 
 -- The tree is what the units read as, and each of its nodes has the span of what it spells.
-pub record IsWhole (mode : Mode) (us : List CodePoint) (first added : ℕ) (p : Pattern) : Type 0 where
-  pub reads : Reads mode p us
-  pub spanned : IsSpanned mode p us first added
+pub record IsWhole (mode : Mode) (rules : Rules) (us : List CodePoint) (first added : ℕ) (p : Pattern) : Type 0 where
+  pub reads : Reads mode rules p us
+  pub spanned : IsSpanned mode rules p us first added
 
 -- memory is wanting, or the text is refused with its first cause
-abbrev pub IsRefused : Mode → List CodePoint → ℕ → ℕ → Fault → Type 0
-IsRefused mode us first added OutOfMemory = Unit {0}
-IsRefused mode us first added (Diagnostic cause) = IsFirst mode us first added cause
+abbrev pub IsRefused : Mode → Rules → List CodePoint → ℕ → ℕ → Fault → Type 0
+IsRefused mode rules us first added OutOfMemory = Unit {0}
+IsRefused mode rules us first added (Diagnostic cause) = IsFirst mode rules us first added cause
 
--- What is answered to units that are to be read in a mode.
-pub record AnswersUnits (mode : Mode) (us : List CodePoint) (first added : ℕ) (answer : Result Pattern Fault) : Type 0 where
+-- What is answered to units that are to be read in a mode and under rules.
+pub record AnswersUnits (mode : Mode) (rules : Rules) (us : List CodePoint) (first added : ℕ) (answer : Result Pattern Fault) : Type 0 where
   -- The tree is spelled by the units and the only one but for spans, and each of its nodes has the span of what it spells.
-  pub whole : IfOk answer (IsWhole mode us first added)
-  pub only : IfOk answer (λ it. IsOnly mode it us)
+  pub whole : IfOk answer (IsWhole mode rules us first added)
+  pub only : IfOk answer (λ it. IsOnly mode rules it us)
   -- The groups and the names that the first pass of the units finds are the tree's.
   pub groups : IfOk answer (λ it. TellsGroups mode it us)
   -- Each other answer is the first refusal of the text, or out of memory. On what some tree reads the answer is Ok, or memory ran out.
-  pub refused : IfErr answer (IsRefused mode us first added)
-  pub complete : (p : Pattern) → Reads mode p us → IfErr answer (λ fault. fault ≡ OutOfMemory)
+  pub refused : IfErr answer (IsRefused mode rules us first added)
+  pub complete : (p : Pattern) → Reads mode rules p us → IfErr answer (λ fault. fault ≡ OutOfMemory)

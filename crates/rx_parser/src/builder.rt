@@ -11,7 +11,7 @@ ghost use Rattle.rx_parser.specs.Levels.{Repeats};
 use crate::{Frame, GroupKind, Level};
 use rx_ast::{Pattern, Term};
 use rx_base::{List, OutOfMemory, Span};
-use rx_model::Mode;
+use rx_model::{Mode, Rules};
 use std::alloc::Global;
 
 /// All that has been read of a pattern (ECMA-262, 22.2.1): the open groups, the outermost first, and the innermost
@@ -19,6 +19,7 @@ use std::alloc::Global;
 #[derive(Drop)]
 pub struct Builder {
     pub mode: Mode,
+    pub rules: Rules,
     pub start: u32,
     pub frames: List<Frame>,
     pub level: Level,
@@ -26,16 +27,18 @@ pub struct Builder {
 
 impl Builder {
     /// A pattern of which nothing has been read, from the byte `start` on.
-    pub fn new(alloc: Global, mode: Mode, start: u32) -> Builder
+    pub fn new(alloc: Global, mode: Mode, rules: Rules, start: u32) -> Builder
         ensures events { builder_events result ≡ enter start ∷ enter start ∷ enter start ∷ [] }
         ensures openers { openers result ≡ [] }
         ensures ready { ready result ≡ false }
         ensures good { IsGood result }
         ensures mode { result.mode ≡ mode }
+        ensures rules { result.rules ≡ rules }
         ensures start { result.start ≡ start }
     {
         Builder {
             mode,
+            rules,
             start,
             frames: List::new(alloc),
             level: Level::new(alloc, start),
@@ -46,6 +49,7 @@ impl Builder {
     pub fn with_capacity(
         alloc: Global,
         mode: Mode,
+        rules: Rules,
         start: u32,
         capacity: usize,
     ) -> Result<Builder, OutOfMemory>
@@ -54,10 +58,12 @@ impl Builder {
         ensures ready { IfOk result (λ it. ready it ≡ false) }
         ensures good { IfOk result IsGood }
         ensures mode { IfOk result (λ it. it.mode ≡ mode) }
+        ensures rules { IfOk result (λ it. it.rules ≡ rules) }
         ensures start { IfOk result (λ it. it.start ≡ start) }
     {
         Ok(Builder {
             mode,
+            rules,
             start,
             frames: List::new(alloc),
             level: Level::with_capacity(alloc, start, capacity)?,
@@ -72,6 +78,7 @@ impl Builder {
         ensures ready { OnOk result (ready self.new ≡ takes self.old.mode (mirror_term term)) }
         ensures good { OnOk result (IsGoodTerm self.old.mode term → IsGood self.old → IsGood self.new) }
         ensures mode { self.new.mode ≡ self.old.mode }
+        ensures rules { self.new.rules ≡ self.old.rules }
         ensures start { self.new.start ≡ self.old.start }
     {
         self.level.push(term)
@@ -84,6 +91,7 @@ impl Builder {
         ensures ready { OnOk result (ready self.new ≡ false) }
         ensures good { OnOk result (IsGood self.old → IsGood self.new) }
         ensures mode { self.new.mode ≡ self.old.mode }
+        ensures rules { self.new.rules ≡ self.old.rules }
         ensures start { self.new.start ≡ self.old.start }
     {
         self.level.bar(alloc, at, after)
@@ -102,6 +110,7 @@ impl Builder {
         ensures ready { OnOk result (ready self.new ≡ false) }
         ensures good { OnOk result (IsGood self.old → IsGood self.new) }
         ensures mode { self.new.mode ≡ self.old.mode }
+        ensures rules { self.new.rules ≡ self.old.rules }
         ensures start { self.new.start ≡ self.old.start }
     {
         let outer = std::mem::replace(&mut self.level, Level::new(alloc, after));
@@ -120,6 +129,7 @@ impl Builder {
         ensures none { IfOk result (λ it. it ≡ false → openers self.old ≡ []) }
         ensures kept { IfOk result (λ it. it ≡ false → self.new ≡ self.old) }
         ensures mode { self.new.mode ≡ self.old.mode }
+        ensures rules { self.new.rules ≡ self.old.rules }
         ensures start { self.new.start ≡ self.old.start }
     {
         let Some(frame) = self.frames.pop() else {
@@ -154,6 +164,7 @@ impl Builder {
         ensures good { IfOk result (λ it. IsTrue it → IsGood self.old → IsGood self.new) }
         ensures kept { IfOk result (λ it. it ≡ false → self.new ≡ self.old) }
         ensures mode { self.new.mode ≡ self.old.mode }
+        ensures rules { self.new.rules ≡ self.old.rules }
         ensures start { self.new.start ≡ self.old.start }
     {
         self.level

@@ -22,7 +22,8 @@ pub struct ConstructorParser<'a> {
 }
 
 impl<'a> ConstructorParser<'a> {
-    /// A parser of these texts. The flags text is absent where there are no flags; the options hold what is added to each offset of an answer, in bytes.
+    /// A parser of these texts. The flags text is absent where there are no flags. The options hold what is added to each offset of an answer, in bytes, and
+    /// say what is read.
     pub fn new(
         alloc: Global,
         pattern_text: &'a str,
@@ -41,7 +42,10 @@ impl<'a> ConstructorParser<'a> {
         }
     }
 
-    /// The tree of the pattern (ECMA-262, 22.2.3.4). A text of two equal quotes is read as `"(?:)"`. Spans are those in the quoted texts.
+    /// The tree of the pattern (ECMA-262, 22.2.3.4). A text of two equal quotes is read as `"(?:)"`, and so is one whose value is empty: then spans are those in
+    /// that text, also where the argument is shorter. Else they are those in the quoted text, in bytes: of the character or the escape that a unit stands for. With
+    /// `standard_strings` a unit may cover two of them, the lead and the trail of a pair, and the line continuations between them, and a node after a line
+    /// continuation begins where the unit before it ends.
     pub fn parse(self) -> Result<Pattern, Fault>
         requires pattern { self.options.pattern_span_offset + max (length self.pattern_text.now) 6 < 2 ^ 32 }
         requires flags { self.options.flags_span_offset + flags_length self.flags_text < 2 ^ 32 }

@@ -1,5 +1,6 @@
 ghost use Rattle.std.specs.Prelude.{◌≡◌};
 ghost use Rattle.rx_model.specs.Inputs.Environment.{is_unicode};
+ghost use Rattle.rx_model.specs.Reading.Boundaries.{has_buffers};
 ghost use Rattle.rx_parser.specs.Environments.{seen_environment};
 
 use rx_model::Mode;
@@ -8,6 +9,8 @@ use rx_model::Mode;
 #[derive(Clone, Copy, Debug)]
 pub struct Environment {
     pub mode: Mode,
+    /// Whether the buffer boundaries are read with `u` or `v`.
+    pub buffer_boundaries: bool,
     /// The number of the pattern's groups.
     pub groups: u32,
     /// Whether some group has a name.
@@ -20,5 +23,12 @@ impl Environment {
         ensures { result ≡ (seen_environment self.now).named }
     {
         self.mode.is_unicode() || self.has_names
+    }
+
+    /// Whether `\A`, `\z` and `\Z` are boundaries (regular expression buffer boundaries).
+    pub fn has_buffers(&self) -> bool
+        ensures { result ≡ has_buffers (seen_environment self.now) }
+    {
+        self.mode.is_unicode() && self.buffer_boundaries
     }
 }

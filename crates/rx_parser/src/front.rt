@@ -77,7 +77,7 @@ fn is_raw<C: Counter>(
     steps: &mut C,
 ) -> bool
     requires { values units.now ≡ first ∷ values behind.now }
-    ensures raw { (groups : ℕ) (has_names : Bool) → result ≡ is_raw_at (environment_with mode groups has_names) first (values behind.now) }
+    ensures raw { (buffers : Bool) (groups : ℕ) (has_names : Bool) → result ≡ is_raw_at (environment_with mode buffers groups has_names) first (values behind.now) }
     ensures steps { Rises (C.count steps.old) (C.count steps.new) 0 (plain (drop 1 units.now) + 1) }
 {
     stands_raw(first, mode) && (mode.is_unicode() || !begins_with_counts(units, steps))
@@ -104,15 +104,17 @@ fn is_legacy_syntax(value: u32) -> bool
 }
 
 /// The boundary that the unit behind a backslash is.
-fn boundary_at(behind: &[CodePoint], mode: Mode) -> Option<BoundaryAssertionKind>
-    ensures { (groups : ℕ) (has_names : Bool) → result ≡ boundary_front (environment_with mode groups has_names) (values behind.now) }
+fn boundary_at(behind: &[CodePoint], environment: Environment) -> Option<BoundaryAssertionKind>
+    ensures { result ≡ boundary_front (seen_environment environment) (values behind.now) }
 {
     match char::from_u32(behind.first()?.value) {
         Some('b') => Some(BoundaryAssertionKind::Boundary),
         Some('B') => Some(BoundaryAssertionKind::NegativeBoundary),
-        Some('A') if mode.is_unicode() => Some(BoundaryAssertionKind::StartBuffer),
-        Some('z') if mode.is_unicode() => Some(BoundaryAssertionKind::EndBuffer),
-        Some('Z') if mode.is_unicode() => Some(BoundaryAssertionKind::EndBufferOptionalNewline),
+        Some('A') if environment.has_buffers() => Some(BoundaryAssertionKind::StartBuffer),
+        Some('z') if environment.has_buffers() => Some(BoundaryAssertionKind::EndBuffer),
+        Some('Z') if environment.has_buffers() => {
+            Some(BoundaryAssertionKind::EndBufferOptionalNewline)
+        }
         _ => None,
     }
 }
@@ -161,7 +163,7 @@ fn escape_at<C: Counter>(behind: &[CodePoint], environment: Environment, steps: 
     ensures found { result ≡ found_front (one_of_escapes (boundary_front (seen_environment environment) (values behind.now)) (class_escape_front (values behind.now)) (any_escape_at false (seen_environment environment) (values behind.now))) }
     ensures steps { LooksAtEscape (C.count steps.old) (C.count steps.new) behind.now result }
 {
-    if let Some(kind) = boundary_at(behind, environment.mode) {
+    if let Some(kind) = boundary_at(behind, environment) {
         return Found::Leaf {
             leaf: Leaf::Boundary(kind),
             length: 2,
@@ -245,7 +247,7 @@ fn syntax_at<C: Counter>(
     steps: &mut C,
 ) -> Found
     requires { values units.now ≡ first ∷ values behind.now }
-    ensures found { (groups : ℕ) (has_names : Bool) → result ≡ found_front (syntax_read (environment_with mode groups has_names) first (values behind.now)) }
+    ensures found { (buffers : Bool) (groups : ℕ) (has_names : Bool) → result ≡ found_front (syntax_read (environment_with mode buffers groups has_names) first (values behind.now)) }
     ensures steps { LooksAtSyntax (C.count steps.old) (C.count steps.new) (length behind.now) result }
 {
     match char::from_u32(first) {

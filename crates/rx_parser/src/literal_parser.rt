@@ -21,7 +21,8 @@ pub struct LiteralParser<'a> {
 }
 
 impl<'a> LiteralParser<'a> {
-    /// A parser of these texts. The flags text is absent where there are no flags; the options hold what is added to each offset of an answer, in bytes.
+    /// A parser of these texts. The flags text is absent where there are no flags. The options hold what is added to each offset of an answer, in bytes, and
+    /// say what is read. Literals have no quotes, so `standard_strings` changes nothing.
     pub fn new(
         alloc: Global,
         pattern_text: &'a str,

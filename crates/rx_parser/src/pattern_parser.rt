@@ -1,14 +1,14 @@
-ghost use Rattle.std.specs.Prelude.{◌≡◌, ◌+◌, ◌*◌, ◌<◌, ◌≤◌, ◌^◌, All, IfErr, IfOk, OnOk, length};
+ghost use Rattle.std.specs.Prelude.{◌≡◌, Bool, ◌+◌, ◌*◌, ◌<◌, ◌≤◌, ◌^◌, All, IfErr, IfOk, OnOk, length};
 ghost use Rattle.rx_scan.specs.StateFaults.{mode_of_state};
 ghost use Rattle.rx_class.specs.Fitting.{AreFitting};
-ghost use Rattle.rx_parser.specs.Parsing.{AnswersUnits, HoldsPass, IsRefused, IsWhole};
+ghost use Rattle.rx_parser.specs.Parsing.{AnswersUnits, HoldsPass, IsRefused, IsWhole, rules_of_state};
 
 use crate::builder::Builder;
 use crate::fault::{ended, here};
 use crate::turn::turn;
 use rx_ast::Pattern;
 use rx_base::{Counter, Diagnostic, Fault, Steps};
-use rx_model::Mode;
+use rx_model::{Mode, Rules};
 use rx_scan::{SpanFactory, State, StateFault};
 use rx_units::Reader;
 use std::alloc::Global;
@@ -22,27 +22,33 @@ pub struct PatternParser<'a> {
     pub reader: Reader<'a>,
     pub state: State,
     pub spans: SpanFactory,
+    /// Whether the buffer boundaries are read with `u` or `v`.
+    pub buffer_boundaries: bool,
 }
 
 impl<'a> PatternParser<'a> {
     /// A parser of what the reader holds. The modes are whether it is a unicode mode and whether it is sets mode; `span_offset` is added to each offset
-    /// of an answer, in bytes.
+    /// of an answer, in bytes. The rules are whether two groups may have one name where they never both take part, and whether the buffer boundaries are read.
     pub fn new(
         alloc: Global,
         reader: Reader<'a>,
         modes: (bool, bool),
         span_offset: u32,
+        rules: (bool, bool),
     ) -> PatternParser<'a>
         ensures reader { result.reader ≡ reader.entry }
         ensures modes { (result.state.unicode_mode, result.state.unicode_sets_mode) ≡ modes }
         ensures offset { result.spans ≡ span_offset }
+        ensures rules { (result.state.duplicate_names, result.buffer_boundaries) ≡ rules }
     {
         let (unicode_mode, unicode_sets_mode) = modes;
+        let (duplicate_names, buffer_boundaries) = rules;
         PatternParser {
             alloc,
             reader,
-            state: State::new(alloc, unicode_mode, unicode_sets_mode),
+            state: State::new(alloc, unicode_mode, unicode_sets_mode, duplicate_names),
             spans: SpanFactory::new(span_offset),
+            buffer_boundaries,
         }
     }
 
@@ -52,7 +58,7 @@ impl<'a> PatternParser<'a> {
         requires first { self.reader.first + self.spans < 2 ^ 32 }
         requires fits { All (λ unit. unit.span.end + self.spans < 2 ^ 32) self.reader.units }
 
-        ensures { AnswersUnits (mode_of_state self.entry.state) self.entry.reader.units self.entry.reader.first self.entry.spans result }
+        ensures { AnswersUnits (mode_of_state self.entry.state) (rules_of_state self.entry.state self.entry.buffer_boundaries) self.entry.reader.units self.entry.reader.first self.entry.spans result }
     {
         parse_alone::<Brand>(self, Blank::new(1))
     }
@@ -64,7 +70,7 @@ impl<'a> PatternParser<'a> {
         requires first { self.reader.first + self.spans < 2 ^ 32 }
         requires fits { All (λ unit. unit.span.end + self.spans < 2 ^ 32) self.reader.units }
 
-        ensures answer { AnswersUnits (mode_of_state self.entry.state) self.entry.reader.units self.entry.reader.first self.entry.spans result }
+        ensures answer { AnswersUnits (mode_of_state self.entry.state) (rules_of_state self.entry.state self.entry.buffer_boundaries) self.entry.reader.units self.entry.reader.first self.entry.spans result }
         ensures steps { C.count steps.new ≤ C.count steps.old + 8 * (length self.entry.reader.units + 1) }
         ensures all { OnOk result (C.count steps.old + 2 * length self.entry.reader.units ≤ C.count steps.new) }
     {
@@ -73,10 +79,15 @@ impl<'a> PatternParser<'a> {
             mut reader,
             mut state,
             spans,
+            buffer_boundaries,
         } = self;
         let mode = Mode::of(state.unicode_mode, state.unicode_sets_mode);
+        let rules = Rules {
+            duplicate_names: state.duplicate_names,
+            buffer_boundaries,
+        };
         first_pass(&mut state, &mut reader, &spans, steps)?;
-        read_pattern(alloc, &mut reader, &state, &spans, mode, steps)
+        read_pattern(alloc, &mut reader, &state, &spans, mode, rules, steps)
     }
 }
 
@@ -88,7 +99,7 @@ fn parse_alone<L: Ledger>(parser: PatternParser<'_>, blank: Blank) -> Result<Pat
     requires start { parser.reader.place ≡ 0 }
     requires first { parser.reader.first + parser.spans < 2 ^ 32 }
     requires fits { All (λ unit. unit.span.end + parser.spans < 2 ^ 32) parser.reader.units }
-    ensures { AnswersUnits (mode_of_state parser.entry.state) parser.entry.reader.units parser.entry.reader.first parser.entry.spans result }
+    ensures { AnswersUnits (mode_of_state parser.entry.state) (rules_of_state parser.entry.state parser.entry.buffer_boundaries) parser.entry.reader.units parser.entry.reader.first parser.entry.spans result }
 {
     parser.parse_counted(&mut Steps::<L>::new(blank))
 }
@@ -103,8 +114,8 @@ fn first_pass<C: Counter>(
     requires start { reader.old.place ≡ 0 }
     requires fits { AreFitting spans.now reader.old }
     ensures reader { reader.new ≡ reader.old }
-    ensures pass { OnOk result (HoldsPass (mode_of_state state.old) reader.old.units state.new) }
-    ensures refused { IfErr result (IsRefused (mode_of_state state.old) reader.old.units reader.old.first spans.now) }
+    ensures pass { (buffers : Bool) → OnOk result (HoldsPass (mode_of_state state.old) (rules_of_state state.old buffers) reader.old.units state.new) }
+    ensures refused { (buffers : Bool) → IfErr result (IsRefused (mode_of_state state.old) (rules_of_state state.old buffers) reader.old.units reader.old.first spans.now) }
     ensures steps { C.count steps.new ≤ C.count steps.old + length reader.old.units }
     ensures all { OnOk result (C.count steps.new ≡ C.count steps.old + length reader.old.units) }
 {
@@ -134,18 +145,19 @@ fn read_pattern<C: Counter>(
     state: &State,
     spans: &SpanFactory,
     mode: Mode,
+    rules: Rules,
     steps: &mut C,
 ) -> Result<Pattern, Fault>
     requires start { reader.old.place ≡ 0 }
     requires fits { AreFitting spans.now reader.old }
-    requires pass { HoldsPass mode reader.old.units state.now }
-    ensures whole { IfOk result (IsWhole mode reader.old.units reader.old.first spans.now) }
-    ensures refused { IfErr result (IsRefused mode reader.old.units reader.old.first spans.now) }
+    requires pass { HoldsPass mode rules reader.old.units state.now }
+    ensures whole { IfOk result (IsWhole mode rules reader.old.units reader.old.first spans.now) }
+    ensures refused { IfErr result (IsRefused mode rules reader.old.units reader.old.first spans.now) }
     ensures steps { C.count steps.new ≤ C.count steps.old + 7 * length reader.old.units + 8 }
     ensures all { OnOk result (C.count steps.old + length reader.old.units ≤ C.count steps.new) }
 {
     let capacity = reader.remaining_code_points().len().min(TERMS_RESERVED);
-    let mut builder = Builder::with_capacity(alloc, mode, here(reader, spans), capacity)?;
+    let mut builder = Builder::with_capacity(alloc, mode, rules, here(reader, spans), capacity)?;
     while !reader.remaining_code_points().is_empty() {
         turn(alloc, reader, state, spans, &mut builder, steps)?;
     }

@@ -5,6 +5,7 @@ ghost use Rattle.rx_ast.specs.Tree.{leaf, mirror_term};
 ghost use Rattle.rx_units.specs.Cursor.{rest};
 ghost use Rattle.rx_model.specs.Refusals.Reached.{text_environment};
 ghost use Rattle.rx_model.specs.Trees.Token.{named, property};
+ghost use Rattle.rx_model.specs.declared.rules.Rules.{Rules};
 ghost use Rattle.rx_class.specs.Fitting.{AreFitting};
 ghost use Rattle.rx_parser.specs.Found.{HoldsName, IsFound, leaf_token};
 ghost use Rattle.rx_parser.specs.GroupKinds.{IsGroupKindOf};
@@ -91,7 +92,7 @@ pub fn group_kind<C: Counter>(
     steps: &mut C,
 ) -> Result<GroupKind, OutOfMemory>
     requires fits { AreFitting spans.now reader.old }
-    requires found { IsFound (text_environment mode reader.old.units) (rest reader.old) (Found.Open opener length) }
+    requires found { (rules : Rules) × IsFound (text_environment mode rules reader.old.units) (rest reader.old) (Found.Open opener length) }
     ensures group_kind { IfOk result (IsGroupKindOf mode reader.old spans.now length opener) }
     ensures reader { reader.new ≡ reader.old }
     ensures steps { C.count steps.new ≤ C.count steps.old + 2 * (length - 1) }

@@ -37,9 +37,9 @@ pub fn turn<C: Counter>(
     steps: &mut C,
 ) -> Result<(), Fault>
     requires before { IsBefore spans.now builder.old reader.old }
-    requires pass { HoldsPass builder.old.mode reader.old.units state.now }
+    requires pass { HoldsPass builder.old.mode builder.old.rules reader.old.units state.now }
     ensures turned { OnOk result (IsTurned spans.now builder.old builder.new reader.old reader.new) }
-    ensures refused { IfErr result (IsRefused builder.old.mode reader.old.units reader.old.first spans.now) }
+    ensures refused { IfErr result (IsRefused builder.old.mode builder.old.rules reader.old.units reader.old.first spans.now) }
     ensures steps { TakesTurn (C.count steps.old) (C.count steps.new) reader.old reader.new result }
 {
     let count = plain_length(reader.remaining_code_points(), steps);
@@ -110,9 +110,9 @@ fn take_found<C: Counter>(
     steps: &mut C,
 ) -> Result<(), Fault>
     requires before { IsBefore spans.now builder.old reader.old }
-    requires pass { HoldsPass builder.old.mode reader.old.units state.now }
+    requires pass { HoldsPass builder.old.mode builder.old.rules reader.old.units state.now }
     ensures turned { OnOk result (IsTurned spans.now builder.old builder.new reader.old reader.new) }
-    ensures refused { IfErr result (IsRefused builder.old.mode reader.old.units reader.old.first spans.now) }
+    ensures refused { IfErr result (IsRefused builder.old.mode builder.old.rules reader.old.units reader.old.first spans.now) }
     ensures steps { TakesToken (C.count steps.old) (C.count steps.new) reader.old reader.new result }
 {
     let at = here(reader, spans);
@@ -164,13 +164,14 @@ fn found_here<C: Counter>(
     builder: &Builder,
     steps: &mut C,
 ) -> Found
-    requires pass { HoldsPass builder.now.mode reader.now.units state.now }
-    ensures found { IsFound (text_environment builder.now.mode reader.now.units) (rest reader.now) result }
+    requires pass { HoldsPass builder.now.mode builder.now.rules reader.now.units state.now }
+    ensures found { IsFound (text_environment builder.now.mode builder.now.rules reader.now.units) (rest reader.now) result }
     ensures small { (halt : Halt) → result ≡ Found.Halt halt → IsSmall halt }
     ensures steps { Rises (C.count steps.old) (C.count steps.new) 0 (looks (drop 1 (rest reader.now)) result) }
 {
     let environment = Environment {
         mode: builder.mode,
+        buffer_boundaries: builder.rules.buffer_boundaries,
         groups: state.num_of_capturing_groups,
         has_names: has_names(state),
     };
@@ -196,7 +197,7 @@ fn take_leaf<C: Counter>(
     steps: &mut C,
 ) -> Result<(), OutOfMemory>
     requires before { IsBefore spans.now builder.old reader.old }
-    requires found { IsFound (text_environment builder.old.mode reader.old.units) (rest reader.old) (Found.Leaf leaf length) }
+    requires found { IsFound (text_environment builder.old.mode builder.old.rules reader.old.units) (rest reader.old) (Found.Leaf leaf length) }
     ensures turned { OnOk result (IsTurned spans.now builder.old builder.new reader.old reader.new) }
     ensures reader { reader.new ≡ moved length reader.old }
     ensures steps { IsMove (C.count steps.old) (C.count steps.new) reader.old reader.new }
@@ -220,10 +221,10 @@ fn named_reference<C: Counter>(
     steps: &mut C,
 ) -> Result<(), Fault>
     requires before { IsBefore spans.now builder.old reader.old }
-    requires pass { HoldsPass builder.old.mode reader.old.units state.now }
-    requires found { IsFound (text_environment builder.old.mode reader.old.units) (rest reader.old) (Found.NamedReference size) }
+    requires pass { HoldsPass builder.old.mode builder.old.rules reader.old.units state.now }
+    requires found { IsFound (text_environment builder.old.mode builder.old.rules reader.old.units) (rest reader.old) (Found.NamedReference size) }
     ensures turned { OnOk result (IsTurned spans.now builder.old builder.new reader.old reader.new) }
-    ensures refused { IfErr result (IsRefused builder.old.mode reader.old.units reader.old.first spans.now) }
+    ensures refused { IfErr result (IsRefused builder.old.mode builder.old.rules reader.old.units reader.old.first spans.now) }
     ensures reader { OnOk result (reader.new ≡ moved size reader.old) }
     ensures steps { C.count steps.new + left reader.new ≤ C.count steps.old + left reader.old + 2 * (size - 1) }
     ensures least { OnOk result (C.count steps.old + left reader.old ≤ C.count steps.new + left reader.new) }
@@ -267,10 +268,10 @@ fn property<C: Counter>(
     steps: &mut C,
 ) -> Result<(), Fault>
     requires before { IsBefore spans.now builder.old reader.old }
-    requires pass { HoldsPass builder.old.mode reader.old.units state.now }
-    requires found { IsFound (text_environment builder.old.mode reader.old.units) (rest reader.old) Found.Property }
+    requires pass { HoldsPass builder.old.mode builder.old.rules reader.old.units state.now }
+    requires found { IsFound (text_environment builder.old.mode builder.old.rules reader.old.units) (rest reader.old) Found.Property }
     ensures turned { OnOk result (IsTurned spans.now builder.old builder.new reader.old reader.new) }
-    ensures refused { IfErr result (IsRefused builder.old.mode reader.old.units reader.old.first spans.now) }
+    ensures refused { IfErr result (IsRefused builder.old.mode builder.old.rules reader.old.units reader.old.first spans.now) }
     ensures steps { TakesSteps 6 (C.count steps.old) (C.count steps.new) reader.old reader.new result }
 {
     let start = reader.offset();
@@ -294,10 +295,10 @@ fn class<C: Counter>(
     steps: &mut C,
 ) -> Result<(), Fault>
     requires before { IsBefore spans.now builder.old reader.old }
-    requires pass { HoldsPass builder.old.mode reader.old.units state.now }
-    requires found { IsFound (text_environment builder.old.mode reader.old.units) (rest reader.old) Found.Class }
+    requires pass { HoldsPass builder.old.mode builder.old.rules reader.old.units state.now }
+    requires found { IsFound (text_environment builder.old.mode builder.old.rules reader.old.units) (rest reader.old) Found.Class }
     ensures turned { OnOk result (IsTurned spans.now builder.old builder.new reader.old reader.new) }
-    ensures refused { IfErr result (IsRefused builder.old.mode reader.old.units reader.old.first spans.now) }
+    ensures refused { IfErr result (IsRefused builder.old.mode builder.old.rules reader.old.units reader.old.first spans.now) }
     ensures steps { TakesSteps 6 (C.count steps.old) (C.count steps.new) reader.old reader.new result }
 {
     match parse_character_class(alloc, reader, state, spans, steps)? {
@@ -321,7 +322,7 @@ fn open<C: Counter>(
     steps: &mut C,
 ) -> Result<(), OutOfMemory>
     requires before { IsBefore spans.now builder.old reader.old }
-    requires found { IsFound (text_environment builder.old.mode reader.old.units) (rest reader.old) (Found.Open opener length) }
+    requires found { IsFound (text_environment builder.old.mode builder.old.rules reader.old.units) (rest reader.old) (Found.Open opener length) }
     ensures turned { OnOk result (IsTurned spans.now builder.old builder.new reader.old reader.new) }
     ensures reader { OnOk result (reader.new ≡ moved length reader.old) }
     ensures steps { C.count steps.new + left reader.new ≤ C.count steps.old + left reader.old + 2 * (length - 1) }
@@ -344,7 +345,7 @@ fn bar<C: Counter>(
     steps: &mut C,
 ) -> Result<(), OutOfMemory>
     requires before { IsBefore spans.now builder.old reader.old }
-    requires found { IsFound (text_environment builder.old.mode reader.old.units) (rest reader.old) Found.Bar }
+    requires found { IsFound (text_environment builder.old.mode builder.old.rules reader.old.units) (rest reader.old) Found.Bar }
     ensures turned { OnOk result (IsTurned spans.now builder.old builder.new reader.old reader.new) }
     ensures reader { reader.new ≡ moved 1 reader.old }
     ensures steps { IsMove (C.count steps.old) (C.count steps.new) reader.old reader.new }

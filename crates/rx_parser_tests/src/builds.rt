@@ -2,14 +2,20 @@ use crate::script::follow;
 use crate::shown::{outline, quantified};
 use rx_ast::Pattern;
 use rx_base::OutOfMemory;
-use rx_model::Mode;
+use rx_model::{Mode, Rules};
 use rx_parser::Builder;
 use std::alloc::Global;
 use std::test::Fail;
 
+/// Both rules, at which a builder does not look.
+const RULES: Rules = Rules {
+    duplicate_names: true,
+    buffer_boundaries: true,
+};
+
 /// Which closers and quantifiers of a script are taken.
 fn taken(alloc: Global, mode: Mode, script: &str) -> Result<String, OutOfMemory> {
-    let mut builder = Builder::new(alloc, mode, 0);
+    let mut builder = Builder::new(alloc, mode, RULES, 0);
     let (taken, _) = follow(alloc, &mut builder, script, 0)?;
     Ok(taken)
 }
@@ -21,7 +27,7 @@ fn built(
     script: &str,
     start: u32,
 ) -> Result<Option<Pattern>, OutOfMemory> {
-    let mut builder = Builder::new(alloc, mode, start);
+    let mut builder = Builder::new(alloc, mode, RULES, start);
     let (taken, end) = follow(alloc, &mut builder, script, start)?;
     if taken.contains('-') || !builder.is_whole() {
         return Ok(None);

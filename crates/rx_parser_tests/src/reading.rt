@@ -41,6 +41,7 @@ impl Call for CanonicalCall {
         let options = Options {
             pattern_span_offset: 0,
             flags_span_offset: if self.at_seven { 7 } else { 0 },
+            ..Options::default()
         };
         shown(
             alloc,
@@ -152,6 +153,7 @@ fn spans_end_at_the_greatest_offset(rt: HostRuntime) -> Result<(), Fail> {
     let options = Options {
         pattern_span_offset: 4294967291,
         flags_span_offset: 0,
+        ..Options::default()
     };
     let answer = canonical(rt.alloc(), Form::Literal, "", Some("u"), options);
     let text = shown(rt.alloc(), answer)?;
@@ -164,6 +166,7 @@ fn spans_of_flags_end_at_the_greatest_offset(rt: HostRuntime) -> Result<(), Fail
     let options = Options {
         pattern_span_offset: 0,
         flags_span_offset: 4294967294,
+        ..Options::default()
     };
     let answer = canonical(rt.alloc(), Form::Literal, "a", Some("x"), options);
     let text = shown(rt.alloc(), answer)?;
@@ -179,6 +182,7 @@ fn spans_of_arguments_end_at_the_greatest_offset(rt: HostRuntime) -> Result<(), 
     let options = Options {
         pattern_span_offset: 4294967289,
         flags_span_offset: 4294967292,
+        ..Options::default()
     };
     let empty = canonical(rt.alloc(), Form::Constructor, "\"\"", None, options);
     let text = shown(rt.alloc(), empty)?;

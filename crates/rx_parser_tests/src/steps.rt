@@ -15,7 +15,7 @@ fn steps_of(alloc: Global, text: &str, modes: (bool, bool)) -> Result<u64, Fail>
     requires { length text.now < 2 ^ 32 }
 {
     let reader = Reader::initialize(alloc, text, modes.0, false)?;
-    let parser = PatternParser::new(alloc, reader, modes, 0);
+    let parser = PatternParser::new(alloc, reader, modes, 0, (true, true));
     Ok(counted::<Brand>(parser, Blank::new(1)))
 }
 

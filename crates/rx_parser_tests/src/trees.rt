@@ -12,6 +12,7 @@ fn read(alloc: Global, pattern: &str, pattern_span_offset: u32) -> Result<Canoni
     let options = Options {
         pattern_span_offset: pattern_span_offset.min(1000),
         flags_span_offset: 0,
+        ..Options::default()
     };
     let answer = canonical(alloc, Form::Literal, short(pattern)?, Some("u"), options);
     match answer {
@@ -134,14 +135,27 @@ fn characters_with_no_flags(rt: HostRuntime) -> Result<(), Fail> {
 
 /// Asked are the flags of an argument, `-` where there are none, a blank and the argument; the answer has the terms of the first alternative.
 #[derive(Clone, Copy)]
-struct ArgumentTermsCall;
+struct ArgumentTermsCall {
+    standard_strings: bool,
+}
+
+const AS_THE_CRATE: ArgumentTermsCall = ArgumentTermsCall {
+    standard_strings: false,
+};
+
+const AS_THE_STANDARD: ArgumentTermsCall = ArgumentTermsCall {
+    standard_strings: true,
+};
 
 impl Call for ArgumentTermsCall {
     fn answer(&self, alloc: Global, asked: &str) -> Result<String, Fail> {
         let text = text_of(alloc, asked)?.ok_or("no such character")?;
         let (flags, pattern) = text.split_once(' ').ok_or("no blank")?;
         let flags = given(short(flags)?);
-        let options = Options::default();
+        let options = Options {
+            standard_strings: self.standard_strings,
+            ..Options::default()
+        };
         let parser = ConstructorParser::new(alloc, short(pattern)?, flags, options);
         Ok(terms(alloc, &parser.parse()?)?)
     }
@@ -167,7 +181,7 @@ fn characters_of_arguments(rt: HostRuntime) -> Result<(), Fail> {
 "u" "\\x41" => 1..6 HexadecimalEscape 41;
 "u" "\\$" => 1..4 Identifier 24;
 "u" "\\\x24" => 1..7 Identifier 24;"#;
-    agree(rt.alloc(), &ArgumentTermsCall, rows)
+    agree(rt.alloc(), &AS_THE_CRATE, rows)
 }
 
 #[test]
@@ -182,7 +196,7 @@ fn surrogates_of_arguments(rt: HostRuntime) -> Result<(), Fail> {
 "u" "\\uD83D\\uDE00" => 1..15 UnicodeEscape 1f600;
 "u" "\\uD83D\uDE00" => 1..8 UnicodeEscape d83d; 8..14 UnicodeEscape de00;
 "u" "a\uDE00" => 1..2 Symbol 61; 2..8 UnicodeEscape de00;"#;
-    agree(rt.alloc(), &ArgumentTermsCall, rows)
+    agree(rt.alloc(), &AS_THE_CRATE, rows)
 }
 
 #[test]
@@ -190,5 +204,26 @@ fn groups_of_arguments(rt: HostRuntime) -> Result<(), Fail> {
     let rows =
         r#""u" "(?<\x61>.)\\k<a>\\1" => 1..11 a 9..10; 11..17 reference a; 17..20 reference 1;
 "u" "(?\x69-m:b)" => 1..12 3..9 1 2;"#;
-    agree(rt.alloc(), &ArgumentTermsCall, rows)
+    agree(rt.alloc(), &AS_THE_CRATE, rows)
+}
+
+#[test]
+fn arguments_as_the_standard_has_them(rt: HostRuntime) -> Result<(), Fail> {
+    let rows = r#"- "" => 1..5
+- "\«A»" => 1..5
+- `\«D»«A»` => 1..5
+- "a\«A»b" => 1..2 Symbol 61; 2..5 Symbol 62;
+- "\«D»«A»a" => 1..5 Symbol 61;
+- `a«D»b` => 1..2 Symbol 61; 2..3 Symbol a; 3..4 Symbol 62;
+- `a«D»«A»b` => 1..2 Symbol 61; 2..4 Symbol a; 4..5 Symbol 62;
+- "\uD83D\uDE00" => 1..7 UnicodeEscape d83d; 7..13 UnicodeEscape de00;
+- "😀" => 1..5 Symbol d83d; 5..5 Symbol de00;
+"u" "😀" => 1..5 Symbol 1f600;
+"u" "\uD83D\uDE00" => 1..13 UnicodeEscape 1f600;
+"u" "\uD83D\«A»\uDE00" => 1..15 UnicodeEscape 1f600;
+"u" "\uD83D\u{DE00}a" => 1..15 UnicodeEscape 1f600; 15..16 Symbol 61;
+"u" "\uD83Da\uDE00" => 1..7 UnicodeEscape d83d; 7..8 Symbol 61; 8..14 UnicodeEscape de00;
+"u" "\\uD83D\uDE00" => 1..8 UnicodeEscape d83d; 8..14 UnicodeEscape de00;
+"\«A»u" "\uD83D\uDE00" => 1..13 UnicodeEscape 1f600;"#;
+    agree(rt.alloc(), &AS_THE_STANDARD, rows)
 }

@@ -3,6 +3,7 @@
 pub enum Line<'a> {
     Row { pattern: &'a str, reply: &'a str },
     Heading(&'a str),
+    Words(&'a str),
     Form(&'a str),
     Flags(&'a str),
     Empty,
@@ -18,6 +19,9 @@ impl<'a> Line<'a> {
         }
         if let Some(heading) = text.strip_prefix("# ") {
             return Line::Heading(heading);
+        }
+        if let Some(words) = text.strip_prefix("words:") {
+            return Line::Words(words.trim());
         }
         if let Some(form) = text.strip_prefix("form:") {
             return Line::Form(form.trim());

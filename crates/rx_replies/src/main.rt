@@ -4,10 +4,11 @@
 //!
 //! - `# HEADING` says what the rows behind it are about.
 //! - `PATTERN` TAB `REPLY` is a row. The pattern ends at the first TAB, and the reply is all that the program writes for it.
-//! - `form: C` and `flags: iu` say how the rows behind them are asked, up to the next heading, where the form is `L` again and the flags are `u`.
+//! - `form: C` and `flags: iu` say how the rows after them are asked, up to the next heading, where the form is `L` again and the flags are `u`.
+//! - `words: strict` says with which words the program is run for the rows after it, up to the next heading, where there are none again. Single spaces stand between two words.
 //! - An empty line says nothing.
 //!
-//! In a row `«9»` stands for the character U+0009, and so on: for each character that ends a line or a pattern, or that one would not see.
+//! In a row and in flags `«9»` stands for the character U+0009, and so on: for each character that ends a line or a pattern, or that one would not see.
 #![tactic(auto)]
 
 mod line;

@@ -1,14 +1,18 @@
-use rx_base::{MemorySink, OutOfMemory};
-use rx_run::over_memory::replies;
-use rx_run::run::Status;
+use rx_base::{CleanSource, List, MemorySink, OutOfMemory, Text};
+use rx_run::run::{Status, run};
 use std::alloc::Global;
 
 /// Room for one reply, in bytes.
 const ROOM: usize = 65536;
 
+/// How much the program writes at once, in bytes.
+const STEP: usize = 4096;
+
 /// A pattern and how it is asked.
 #[derive(Clone, Copy)]
 pub struct Question<'a> {
+    /// The words that the program is run with, with single spaces between.
+    pub words: &'a str,
     pub form: &'a str,
     pub flags: &'a str,
     pub pattern: &'a str,
@@ -21,9 +25,24 @@ impl Question<'_> {
         let flags = self.flags;
         let pattern = self.pattern;
         let line = format!(in alloc; "{form}\t{flags}\t{pattern}\n")?;
-        let (status, sink) = replies(alloc, line.as_bytes(), ROOM)?;
+        let words = words_of(alloc, self.words)?;
+        let mut source = CleanSource::new(line.as_bytes());
+        let mut sink = MemorySink::new(alloc, ROOM, List::new(alloc), STEP)?;
+        let status = run(alloc, words.as_slice(), &mut source, &mut sink);
         Ok(Answer { status, sink })
     }
+}
+
+/// The words of a text, which stand between single spaces. An empty text has none.
+fn words_of(alloc: Global, text: &str) -> Result<List<Text>, OutOfMemory> {
+    let mut words = List::new(alloc);
+    if text.is_empty() {
+        return Ok(words);
+    }
+    for word in text.split(' ') {
+        words.push(Text::from_str(alloc, word)?)?;
+    }
+    Ok(words)
 }
 
 /// What the program wrote for one line, and the status that it ended with.

@@ -9,6 +9,7 @@ use std::process::ExitCode;
 #[derive(Clone, Copy)]
 pub struct Report<'a> {
     heading: &'a str,
+    words: &'a str,
     form: &'a str,
     flags: &'a str,
     rows: u64,
@@ -21,6 +22,7 @@ impl<'a> Report<'a> {
     pub fn new() -> Report<'a> {
         Report {
             heading: "",
+            words: "",
             form: "L",
             flags: "u",
             rows: 0,
@@ -35,6 +37,7 @@ impl<'a> Report<'a> {
         match Line::of(text) {
             Line::Row { pattern, reply } => self.ask(rt, pattern, reply)?,
             Line::Heading(heading) => self.begin(rt, heading)?,
+            Line::Words(words) => self.words = words,
             Line::Form(form) => self.form = form,
             Line::Flags(flags) => self.flags = flags,
             Line::Empty => {}
@@ -48,6 +51,7 @@ impl<'a> Report<'a> {
         self.end_heading(rt)?;
         *self = Report {
             heading,
+            words: "",
             form: "L",
             flags: "u",
             rows: 0,
@@ -67,6 +71,9 @@ impl<'a> Report<'a> {
     ) -> io::Result<()> {
         self.rows = self.rows.saturating_add(1);
         let alloc = rt.alloc();
+        let Some(flags) = text_of(alloc, self.flags)? else {
+            return self.refuse(rt, self.flags);
+        };
         let Some(asked) = text_of(alloc, pattern)? else {
             return self.refuse(rt, pattern);
         };
@@ -74,8 +81,9 @@ impl<'a> Report<'a> {
             return self.refuse(rt, reply);
         };
         let question = Question {
+            words: self.words,
             form: self.form,
-            flags: self.flags,
+            flags: &flags,
             pattern: &asked,
         };
         match question.answer(alloc) {

@@ -12,6 +12,7 @@ use Rattle.rx_tools.specs.Utf8.{utf8}
 use Rattle.rx_tools.proofs.CanonicalAnswers.{first_of, read_as}
 use Rattle.rx_run.specs.declared.answer.Answering.{Answering}
 use Rattle.rx_run.specs.declared.answer.Answering.TheVariants.{Canonical, Display, Support}
+use Rattle.rx_run.specs.declared.service.Service.{Service}
 use Rattle.rx_run.specs.Request.{Request}
 use Rattle.rx_run.specs.Reply.{IsAsked, IsReply, bad, ok, err, bad_reply, begins_ok, canonical_reply, err_reply, input_of, mode_name, ok_reply}
 use Rattle.rx_run.specs.Serving.{kept}
@@ -39,45 +40,45 @@ ok_begins_ok Canonical request mode pattern = refl
 ok_begins_ok Display request mode pattern = refl
 ok_begins_ok (Support features) request mode pattern = refl
 
-module _ {answering : Answering} where
+-- in a line past the limit nothing is asked
+long_asks_nothing : (answering : Answering) (line : List ℕ) (request : Request) → 1048576 < length line → IsAsked answering line request → ⊥
+long_asks_nothing answering line request long is = let short : length line ≤ 1048576 = is.asked.within in omega arith
+
+module _ {service : Service} where
   -- an `ok` reply, as it was made
-  pub ok_reply_is : (line : List ℕ) (request : Request) (it : Pattern × Mode) → IsAsked answering line request → IsAnswered read_of (input_of request) (Ok it)
-      → IsReply answering line (ok_reply answering request it.1 it.0)
-  ok_reply_is line request it asked answered = ok request it.1 it.0 asked (read_as read_of (input_of request) it answered)
+  pub ok_reply_is : (line : List ℕ) (request : Request) (it : Pattern × Mode) → IsAsked service.answering line request → IsAnswered read_of (input_of service.dialect request) (Ok it)
+      → IsReply service line (ok_reply service.answering request it.1 it.0)
+  ok_reply_is line request it asked answered = ok request it.1 it.0 asked (read_as read_of (input_of service.dialect request) it answered)
 
   -- an `err` reply, as it was made
-  pub err_reply_is : (line : List ℕ) (request : Request) (refusal : Diagnostic) → IsAsked answering line request
-      → IsAnswered read_of (input_of request) (Err (fault.Diagnostic refusal)) → IsReply answering line (err_reply refusal)
+  pub err_reply_is : (line : List ℕ) (request : Request) (refusal : Diagnostic) → IsAsked service.answering line request
+      → IsAnswered read_of (input_of service.dialect request) (Err (fault.Diagnostic refusal)) → IsReply service line (err_reply refusal)
   err_reply_is line request refusal asked answered =
       let parsed = answered.parsed in
-      err request refusal asked (λ valid. let e = parsed.complete valid in let no : ⊥ = cc e in no) (first_of (input_of request) refusal parsed.refused)
+      err request refusal asked (λ valid. let e = parsed.complete valid in let no : ⊥ = cc e in no) (first_of (input_of service.dialect request) refusal parsed.refused)
 
-  -- in a line past the limit nothing is asked
-  long_asks_nothing : (line : List ℕ) (request : Request) → 1048576 < length line → IsAsked answering line request → ⊥
-  long_asks_nothing line request long is = let short : length line ≤ 1048576 = is.asked.within in omega arith
+  -- a line past the limit has exactly the reply `bad`
+  long_is_bad : (line : List ℕ) → 1048576 < length line → IsReply service line bad_reply
+  long_is_bad line long = bad (λ request is. long_asks_nothing service.answering line request long is)
 
-  -- so it has exactly the reply `bad`
-  long_is_bad : (line : List ℕ) → 1048576 < length line → IsReply answering line bad_reply
-  long_is_bad line long = bad (λ request is. long_asks_nothing line request long is)
-
-  bad_if_long : (line reply : List ℕ) → 1048576 < length line → IsReply answering line reply → reply ≡ bad_reply
+  bad_if_long : (line reply : List ℕ) → 1048576 < length line → IsReply service line reply → reply ≡ bad_reply
   bad_if_long line reply long (bad none) = refl
-  bad_if_long line reply long (ok request mode pattern asked read) = absurd (long_asks_nothing line request long asked)
-  bad_if_long line reply long (err request refusal asked none first) = absurd (long_asks_nothing line request long asked)
+  bad_if_long line reply long (ok request mode pattern asked read) = absurd (long_asks_nothing service.answering line request long asked)
+  bad_if_long line reply long (err request refusal asked none first) = absurd (long_asks_nothing service.answering line request long asked)
 
-  long_alike : (line line' reply : List ℕ) → 1048576 < length line → 1048576 < length line' → IsReply answering line reply → IsReply answering line' reply
+  long_alike : (line line' reply : List ℕ) → 1048576 < length line → 1048576 < length line' → IsReply service line reply → IsReply service line' reply
   long_alike line line' reply long long' is =
-      let P : List ℕ → Type 0 = λ r. IsReply answering line' r in subst P (sym (bad_if_long line reply long is)) (long_is_bad line' long')
+      let P : List ℕ → Type 0 = λ r. IsReply service line' r in subst P (sym (bad_if_long line reply long is)) (long_is_bad line' long')
 
   -- the line and as much of it as is kept have the same replies
-  pub IsReply-kept : (line reply : List ℕ) → IsReply answering (kept line) reply → IsReply answering line reply
+  pub IsReply-kept : (line reply : List ℕ) → IsReply service (kept line) reply → IsReply service line reply
   IsReply-kept line reply is = elim (cases_lt 1048577 (length line)) [
     | inl long ↦ long_alike (kept line) line reply (let len : length (kept line) ≡ 1048577 = length-kept line (omega arith) in omega arith) (omega arith) is
-    | inr short ↦ let P : List ℕ → Type 0 = λ x. IsReply answering x reply in subst P (kept-short line short) is
+    | inr short ↦ let P : List ℕ → Type 0 = λ x. IsReply service x reply in subst P (kept-short line short) is
   ]
 
-  pub IsReply-of_kept : (line reply : List ℕ) → IsReply answering line reply → IsReply answering (kept line) reply
+  pub IsReply-of_kept : (line reply : List ℕ) → IsReply service line reply → IsReply service (kept line) reply
   IsReply-of_kept line reply is = elim (cases_lt 1048577 (length line)) [
     | inl long ↦ long_alike line (kept line) reply (omega arith) (let len : length (kept line) ≡ 1048577 = length-kept line (omega arith) in omega arith) is
-    | inr short ↦ let P : List ℕ → Type 0 = λ x. IsReply answering x reply in subst P (sym (kept-short line short)) is
+    | inr short ↦ let P : List ℕ → Type 0 = λ x. IsReply service x reply in subst P (sym (kept-short line short)) is
   ]

@@ -1,5 +1,5 @@
 -- Words of the command line.
-use Rattle.std.proofs.Common.{◌≡◌, ◌∙◌, ◌<◌, ◌≤◌, ◌^◌, refl, sym, ap, subst, ℕ, Bool, true, false, ◌&&◌, List, [], ◌∷◌, length, codes, Result, Ok, Err, arith}
+use Rattle.std.proofs.Common.{◌≡◌, ◌∙◌, ◌↔◌, ◌<◌, ◌≤◌, ◌^◌, refl, sym, ap, subst, ℕ, Bool, true, false, ◌&&◌, List, [], ◌∷◌, ◌++◌, length, codes, Result, Ok, Err, arith}
 use Rattle.std.specs.Char.{is_ascii_digit}
 use Rattle.std.specs.List.{list_all}
 use Rattle.std.specs.Option.{MatchOption}
@@ -14,10 +14,15 @@ use Rattle.rx_run.specs.declared.answer.Answering.{Answering}
 use Rattle.rx_run.specs.declared.answer.Answering.TheVariants.{Canonical, Display, Support}
 use Rattle.rx_run.specs.declared.command.Command.{Command}
 use Rattle.rx_run.specs.declared.command.Command.TheVariants.{Serve, Generate, Print}
+use Rattle.rx_run.specs.declared.dialect.Dialect.{Dialect}
+use Rattle.rx_run.specs.declared.dialect.Dialect.TheVariants.{Default, Strict, Standard}
 use Rattle.rx_run.specs.declared.features.Features.{Features}
+use Rattle.rx_run.specs.declared.notice.Notice.{Notice}
 use Rattle.rx_run.specs.declared.notice.Notice.TheVariants.{Help, Version}
-use Rattle.rx_run.specs.Command.{IsCommand, IsDecimal, IsGen, IsServing, IsSupport}
+use Rattle.rx_run.specs.declared.service.Service.{Service}
+use Rattle.rx_run.specs.Command.{IsCommand, IsDecimal, IsGen, IsServing, dialect_words}
 use Rattle.rx_run.specs.Features.{IsFeatureList}
+use Rattle.rx_run.specs.Notices.{notice_word}
 use Rattle.rx_run.proofs.FeatureLists.{features_once}
 
 pub digits_model : IsNumeralModel (λ ds. all_ascii_digits ds ≡ true) (digits_value 10)
@@ -59,43 +64,137 @@ digits_parsed {E = E} bytes r all short parses = go r (parse_digits digits_model
         let some : 1 ≤ length (chars bytes) = is.some in
         h (omega (arith, ap length (digit_chars bytes digits)), omega (arith, digits_value_short digits_model bytes 10 digits short))
 
+-- ---- the word for the options
+
+-- what words say after the word for the options
+parted : (words : List (List ℕ)) (dialect : Dialect) (answering : Answering) → IsServing words dialect answering
+    → (rest : List (List ℕ)) × (words ≡ dialect_words dialect ++ rest) × IsServing rest Default answering
+parted words Default answering is = (words, refl, is)
+parted words Strict Canonical is = ([], is, refl)
+parted words Strict Display is = (codes "display" ∷ [], is, refl)
+parted words Strict (Support features) is = (codes "support" ∷ is.0 ∷ [], is.1, (is.0, refl, is.2))
+parted words Standard Canonical is = ([], is, refl)
+parted words Standard Display is = (codes "display" ∷ [], is, refl)
+parted words Standard (Support features) is = (codes "support" ∷ is.0 ∷ [], is.1, (is.0, refl, is.2))
+
+joined : (words rest : List (List ℕ)) (dialect : Dialect) (answering : Answering) → words ≡ dialect_words dialect ++ rest → IsServing rest Default answering
+    → IsServing words dialect answering
+joined words rest Default answering e is = subst (λ ws. IsServing ws Default answering) (sym e) is
+joined words rest Strict Canonical e is = e ∙ ap (λ (ws : List (List ℕ)). codes "strict" ∷ ws) is
+joined words rest Strict Display e is = e ∙ ap (λ (ws : List (List ℕ)). codes "strict" ∷ ws) is
+joined words rest Strict (Support features) e is = (is.0, e ∙ ap (λ (ws : List (List ℕ)). codes "strict" ∷ ws) is.1, is.2)
+joined words rest Standard Canonical e is = e ∙ ap (λ (ws : List (List ℕ)). codes "standard" ∷ ws) is
+joined words rest Standard Display e is = e ∙ ap (λ (ws : List (List ℕ)). codes "standard" ∷ ws) is
+joined words rest Standard (Support features) e is = (is.0, e ∙ ap (λ (ws : List (List ℕ)). codes "standard" ∷ ws) is.1, is.2)
+
+-- words that no word for the options precedes do not begin with one
+begins_otherwise : (rest more : List (List ℕ)) (word : List ℕ) (answering : Answering) (dialect : Dialect) → IsServing rest Default answering → rest ≡ word ∷ more → dialect_words dialect ≡ word ∷ [] → ⊥
+begins_otherwise rest more word Canonical dialect is e named = cc
+begins_otherwise rest more word Display Default is e named = cc
+begins_otherwise rest more word Display Strict is e named = let no : codes "strict" ≡ codes "display" = cc in cc no
+begins_otherwise rest more word Display Standard is e named = let no : codes "standard" ≡ codes "display" = cc in cc no
+begins_otherwise rest more word (Support features) Default is e named = cc
+begins_otherwise rest more word (Support features) Strict is e named = let words = is.1 in let no : codes "strict" ≡ codes "support" = cc in cc no
+begins_otherwise rest more word (Support features) Standard is e named = let words = is.1 in let no : codes "standard" ≡ codes "support" = cc in cc no
+
+one_dialect : (words rest more : List (List ℕ)) (word : List ℕ) (dialect dialect' : Dialect) (answering : Answering) → words ≡ word ∷ more → dialect_words dialect' ≡ word ∷ [] → words ≡ dialect_words dialect ++ rest
+    → IsServing rest Default answering → (dialect ≡ dialect') × (rest ≡ more)
+one_dialect words rest more word Default dialect' answering first named e is = absurd (begins_otherwise rest more word answering dialect' is (cc) named)
+one_dialect words rest more word Strict Default answering first named e is = cc
+one_dialect words rest more word Strict Strict answering first named e is = (refl, cc)
+one_dialect words rest more word Strict Standard answering first named e is = let no : codes "strict" ≡ codes "standard" = cc in cc no
+one_dialect words rest more word Standard Default answering first named e is = cc
+one_dialect words rest more word Standard Strict answering first named e is = let no : codes "strict" ≡ codes "standard" = cc in cc no
+one_dialect words rest more word Standard Standard answering first named e is = (refl, cc)
+
+-- words that begin with a word for the options
+pub split_after : (words more : List (List ℕ)) (word : List ℕ) (dialect' : Dialect) → words ≡ word ∷ more → dialect_words dialect' ≡ word ∷ []
+    → (dialect : Dialect) (answering : Answering) → IsServing words dialect answering ↔ ((dialect ≡ dialect') × IsServing more Default answering)
+split_after words more word dialect' first named dialect answering = (
+  λ is.
+      let p = parted words dialect answering is in
+      let one = one_dialect words p.0 more word dialect dialect' answering first named p.1 p.2 in
+      (one.0, subst (λ ws. IsServing ws Default answering) one.1 p.2),
+  λ both. joined words more dialect answering (first ∙ ap (λ (ws : List (List ℕ)). ws ++ more) (sym named) ∙ ap (λ d. dialect_words d ++ more) (sym both.0)) both.1,
+)
+
+-- words that do not
+pub split_none : (words : List (List ℕ)) → ((word : List ℕ) (more : List (List ℕ)) (dialect : Dialect) → words ≡ word ∷ more → ¬ (dialect_words dialect ≡ word ∷ []))
+    → (dialect : Dialect) (answering : Answering) → IsServing words dialect answering ↔ ((dialect ≡ Default) × IsServing words Default answering)
+split_none words none dialect answering = (
+  λ is. by dialect (parted words dialect answering is) is,
+  λ both. subst (λ d. IsServing words d answering) (sym both.0) both.1,
+)
+  where
+    by : (dialect : Dialect) → (rest : List (List ℕ)) × (words ≡ dialect_words dialect ++ rest) × IsServing rest Default answering → IsServing words dialect answering
+        → (dialect ≡ Default) × IsServing words Default answering
+    by Default p is = (refl, is)
+    by Strict p is = absurd (none (codes "strict") p.0 Strict p.1 refl)
+    by Standard p is = absurd (none (codes "standard") p.0 Standard p.1 refl)
+
 -- ---- words that mean nothing
 
-pub alone_means_nothing : (word : List ℕ) → ¬ (word ≡ codes "display") → ¬ (word ≡ codes "--help") → ¬ (word ≡ codes "--version") → (command : Command) → ¬ IsCommand (word ∷ []) command
-alone_means_nothing word display help version (Serve Canonical) is = cc
-alone_means_nothing word display help version (Serve Display) is = display (cc)
-alone_means_nothing word display help version (Serve (Support features)) is = let two = is.words_are in cc
-alone_means_nothing word display help version (Generate seed count) is = let three = is.words_are in cc
-alone_means_nothing word display help version (Print Help) is = help (cc)
-alone_means_nothing word display help version (Print Version) is = version (cc)
+pub no_dialect : (word : List ℕ) → ¬ (word ≡ codes "strict") → ¬ (word ≡ codes "standard") → (dialect : Dialect) → ¬ (dialect_words dialect ≡ word ∷ [])
+no_dialect word strict standard Default is = cc
+no_dialect word strict standard Strict is = strict (cc)
+no_dialect word strict standard Standard is = standard (cc)
 
-pub two_mean_nothing : (name list : List ℕ) → ((features : Features) → ¬ IsSupport (name ∷ list ∷ []) features) → (command : Command) → ¬ IsCommand (name ∷ list ∷ []) command
-two_mean_nothing name list none (Serve Canonical) is = cc
-two_mean_nothing name list none (Serve Display) is = cc
-two_mean_nothing name list none (Serve (Support features)) is = none features is
-two_mean_nothing name list none (Generate seed count) is = let three = is.words_are in cc
-two_mean_nothing name list none (Print notice) is = cc
+pub no_notice : (word : List ℕ) → ¬ (word ≡ codes "--help") → ¬ (word ≡ codes "--version") → (notice : Notice) → ¬ (word ≡ notice_word notice)
+no_notice word help version Help is = help is
+no_notice word help version Version is = version is
 
-pub three_mean_nothing : (name seed count : List ℕ) → ((seed_value count_value : ℕ) → ¬ IsGen (name ∷ seed ∷ count ∷ []) seed_value count_value) → (command : Command)
-    → ¬ IsCommand (name ∷ seed ∷ count ∷ []) command
-three_mean_nothing name seed count none (Serve Canonical) is = cc
-three_mean_nothing name seed count none (Serve Display) is = cc
-three_mean_nothing name seed count none (Serve (Support features)) is = let two = is.words_are in cc
-three_mean_nothing name seed count none (Generate seed_value count_value) is = none seed_value count_value is
-three_mean_nothing name seed count none (Print notice) is = cc
+pub one_says_nothing : (word : List ℕ) → ¬ (word ≡ codes "display") → (answering : Answering) → ¬ IsServing (word ∷ []) Default answering
+one_says_nothing word display Canonical is = cc
+one_says_nothing word display Display is = display (cc)
+one_says_nothing word display (Support features) is = let two = is.1 in cc
+
+pub two_say_nothing : (name list : List ℕ) → ((features : Features) → name ≡ codes "support" → ¬ IsFeatureList list features) → (answering : Answering) → ¬ IsServing (name ∷ list ∷ []) Default answering
+two_say_nothing name list none Canonical is = cc
+two_say_nothing name list none Display is = cc
+two_say_nothing name list none (Support features) is =
+    let words = is.1 in
+    let lists : is.0 ≡ list = cc in
+    none features (cc) (subst (λ word. IsFeatureList word features) lists is.2)
+
+pub means_nothing : (words : List (List ℕ)) → ((notice : Notice) → ¬ (words ≡ notice_word notice ∷ [])) → ((seed count : ℕ) → ¬ IsGen words seed count)
+    → ((service : Service) → ¬ IsServing words service.dialect service.answering) → (command : Command) → ¬ IsCommand words command
+means_nothing words notices gens services (Serve service) is = services service is
+means_nothing words notices gens services (Generate seed count) is = gens seed count is
+means_nothing words notices gens services (Print notice) is = notices notice is
 
 -- ---- words have one meaning
 
-pub serving_once : (words : List (List ℕ)) (one other : Answering) → IsServing words one → IsServing words other → one ≡ other
-serving_once words Canonical Canonical is is' = refl
-serving_once words Canonical Display is is' = cc
-serving_once words Canonical (Support features) is is' = let two = is'.words_are in cc
-serving_once words Display Canonical is is' = cc
-serving_once words Display Display is is' = refl
-serving_once words Display (Support features) is is' = let two = is'.words_are in cc
-serving_once words (Support features) Canonical is is' = let two = is.words_are in cc
-serving_once words (Support features) Display is is' = let two = is.words_are in cc
-serving_once words (Support features) (Support features') is is' =
-    let same = sym is.words_are ∙ is'.words_are in
-    let lists : is.list_word ≡ is'.list_word = cc in
-    ap Support (features_once is'.list_word features features' (subst (λ word. IsFeatureList word features) lists is.list_is) is'.list_is)
+answering_once : (words : List (List ℕ)) (one other : Answering) → IsServing words Default one → IsServing words Default other → one ≡ other
+answering_once words Canonical Canonical is is' = refl
+answering_once words Canonical Display is is' = cc
+answering_once words Canonical (Support features) is is' = let two = is'.1 in cc
+answering_once words Display Canonical is is' = cc
+answering_once words Display Display is is' = refl
+answering_once words Display (Support features) is is' = let two = is'.1 in cc
+answering_once words (Support features) Canonical is is' = let two = is.1 in cc
+answering_once words (Support features) Display is is' = let two = is.1 in cc
+answering_once words (Support features) (Support features') is is' =
+    let same = sym is.1 ∙ is'.1 in
+    let lists : is.0 ≡ is'.0 = cc in
+    ap Support (features_once is'.0 features features' (subst (λ word. IsFeatureList word features) lists is.2) is'.2)
+
+serving_once : (words : List (List ℕ)) (one other : Dialect) (answering answering' : Answering) → IsServing words one answering → IsServing words other answering' → (one ≡ other) × (answering ≡ answering')
+serving_once words Default Default answering answering' is is' = (refl, answering_once words answering answering' is is')
+serving_once words Default Strict answering answering' is is' =
+    let p = parted words Strict answering' is' in absurd (begins_otherwise words p.0 (codes "strict") answering Strict is p.1 refl)
+serving_once words Default Standard answering answering' is is' =
+    let p = parted words Standard answering' is' in absurd (begins_otherwise words p.0 (codes "standard") answering Standard is p.1 refl)
+serving_once words Strict other answering answering' is is' =
+    let p = parted words Strict answering is in
+    let both = (split_after words p.0 (codes "strict") Strict p.1 refl other answering').0 is' in
+    (sym both.0, answering_once p.0 answering answering' p.2 both.1)
+serving_once words Standard other answering answering' is is' =
+    let p = parted words Standard answering is in
+    let both = (split_after words p.0 (codes "standard") Standard p.1 refl other answering').0 is' in
+    (sym both.0, answering_once p.0 answering answering' p.2 both.1)
+
+pub service_once : (words : List (List ℕ)) (one other : Service) → IsServing words one.dialect one.answering → IsServing words other.dialect other.answering → one ≡ other
+service_once words one other is is' =
+    let same = serving_once words one.dialect other.dialect one.answering other.answering is is' in
+    let of : Dialect → Answering → Service = λ dialect answering. record { dialect = dialect; answering = answering } in
+    ap (λ dialect. of dialect one.answering) same.0 ∙ ap (λ answering. of other.dialect answering) same.1

@@ -10,7 +10,7 @@ use Rattle.std.proofs.lemmas.List.Splits.{join_with_byte-slice_split, length-sli
 use Rattle.std.proofs.lemmas.Str.{IsAscii-append}
 use Rattle.std.proofs.lemmas.Str.Ascii.{IsAscii-nil}
 use Rattle.rx_run.specs.declared.features.Feature.{Feature}
-use Rattle.rx_run.specs.declared.features.Feature.TheVariants.{Sticky, Unicode, DotAll, MatchIndices, UnicodeSets, NamedCaptureGroups, DuplicateNamedCaptureGroups, UnicodePropertyEscapes, LookBehindAssertions, PatternModifiers}
+use Rattle.rx_run.specs.declared.features.Feature.TheVariants.{Sticky, Unicode, DotAll, MatchIndices, UnicodeSets, NamedCaptureGroups, DuplicateNamedCaptureGroups, UnicodePropertyEscapes, LookBehindAssertions, PatternModifiers, BufferBoundaries}
 use Rattle.rx_run.specs.declared.features.Features.{Features}
 use Rattle.rx_run.specs.Lines.{lacks}
 use Rattle.rx_run.proofs.Plain.{plain_text, word_bytes, word_chars}
@@ -27,7 +27,7 @@ at_key : ℕ → Option Feature
 at_key n =
     cond (eqb n 3685) (Some Sticky) (cond (eqb n 3750) (Some Unicode) (cond (eqb n 3206) (Some DotAll) (cond (eqb n 3500) (Some MatchIndices) (cond (eqb n 3755) (Some UnicodeSets)
     (cond (eqb n 3539) (Some NamedCaptureGroups) (cond (eqb n 3229) (Some DuplicateNamedCaptureGroups) (cond (eqb n 3767) (Some UnicodePropertyEscapes)
-    (cond (eqb n 3477) (Some LookBehindAssertions) (cond (eqb n 3600) (Some PatternModifiers) None)))))))))
+    (cond (eqb n 3477) (Some LookBehindAssertions) (cond (eqb n 3600) (Some PatternModifiers) (cond (eqb n 3152) (Some BufferBoundaries) None))))))))))
 
 named : (feature : Feature) → at_key (key (feature_name feature)) ≡ Some feature
 unfolding at_key key
@@ -41,6 +41,7 @@ named DuplicateNamedCaptureGroups = refl
 named UnicodePropertyEscapes = refl
 named LookBehindAssertions = refl
 named PatternModifiers = refl
+named BufferBoundaries = refl
 
 pub one_name : (one other : Feature) → feature_name one ≡ feature_name other → one ≡ other
 one_name one other same =
@@ -65,6 +66,7 @@ no_comma DuplicateNamedCaptureGroups = none_from_lacks (feature_name DuplicateNa
 no_comma UnicodePropertyEscapes = none_from_lacks (feature_name UnicodePropertyEscapes) refl
 no_comma LookBehindAssertions = none_from_lacks (feature_name LookBehindAssertions) refl
 no_comma PatternModifiers = none_from_lacks (feature_name PatternModifiers) refl
+no_comma BufferBoundaries = none_from_lacks (feature_name BufferBoundaries) refl
 
 -- ---- pieces
 
@@ -268,6 +270,7 @@ plain_name DuplicateNamedCaptureGroups = plain_text (feature_name DuplicateNamed
 plain_name UnicodePropertyEscapes = plain_text (feature_name UnicodePropertyEscapes) refl
 plain_name LookBehindAssertions = plain_text (feature_name LookBehindAssertions) refl
 plain_name PatternModifiers = plain_text (feature_name PatternModifiers) refl
+plain_name BufferBoundaries = plain_text (feature_name BufferBoundaries) refl
 
 plain_list : (listed : List Feature) → IsAscii (join_with_byte 44 (map feature_name listed))
 plain_list [] = IsAscii-nil
@@ -296,8 +299,8 @@ one_list (f ∷ one) (g ∷ other) same =
     let first : f ≡ g = one_name f g (cc) in
     let rest : one ≡ other = one_list one other (cc) in cc
 
-fields : (sticky unicode dot_all match_indices unicode_sets named duplicate property behind modifiers : Bool) → Features
-fields sticky unicode dot_all match_indices unicode_sets named duplicate property behind modifiers = record {
+fields : (sticky unicode dot_all match_indices unicode_sets named duplicate property behind modifiers buffers : Bool) → Features
+fields sticky unicode dot_all match_indices unicode_sets named duplicate property behind modifiers buffers = record {
   flags = record { sticky = sticky; unicode = unicode; dot_all = dot_all; match_indices = match_indices; unicode_sets = unicode_sets };
   patterns = record {
     named_capture_groups = named;
@@ -306,14 +309,15 @@ fields sticky unicode dot_all match_indices unicode_sets named duplicate propert
     look_behind_assertions = behind;
     pattern_modifiers = modifiers;
   };
+  buffer_boundaries = buffers;
 }
 
--- features, from their ten fields
+-- features, from their fields
 abbrev from_fields : Features → Features
 from_fields set =
     fields (has_feature set Sticky) (has_feature set Unicode) (has_feature set DotAll) (has_feature set MatchIndices) (has_feature set UnicodeSets)
     (has_feature set NamedCaptureGroups) (has_feature set DuplicateNamedCaptureGroups) (has_feature set UnicodePropertyEscapes)
-    (has_feature set LookBehindAssertions) (has_feature set PatternModifiers)
+    (has_feature set LookBehindAssertions) (has_feature set PatternModifiers) (has_feature set BufferBoundaries)
 
 fields_are : (set : Features) → from_fields set ≡ set
 unfolding fields
@@ -336,6 +340,7 @@ same_features one other same =
     let e8 = same UnicodePropertyEscapes in
     let e9 = same LookBehindAssertions in
     let e10 = same PatternModifiers in
+    let e11 = same BufferBoundaries in
     let both : from_fields one ≡ from_fields other = cc in
     sym (fields_are one) ∙ both ∙ fields_are other
 

@@ -44,18 +44,20 @@ use Rattle.rx_model.proofs.Refusals.FlagCauses.{cause_refuses}
 use Rattle.rx_model.proofs.Refusals.Places.{same_place}
 use Rattle.rx_model.proofs.Refusals.Refusals.{class_laws}
 use Rattle.rx_model.proofs.Spelling.Backs.{units-append, values_literal}
+use Rattle.rx_model.specs.declared.rules.Rules.{Rules}
+use Rattle.rx_run.specs.Reply.{both_rules}
 use Rattle.rx_run.specs.Generator.{asked, drawn, next_state, pattern_text, piece, pieces_text}
 
 -- Where the end of a text is reached with no group open no refusal holds at a place.
-ended_refuses : (mode : Mode) (us : List CodePoint) (start added : ℕ) (ready : Bool) → IsReached mode us (length us) [] ready [] →
-    (place : ℕ) (d : Diagnostic) → IsCauseAtPlace mode us start added place d → ⊥
-ended_refuses mode us start added ready end place d c = by (cause_ends mode us start added (class_laws mode us start added) place d c)
+ended_refuses : (mode : Mode) (rules : Rules) (us : List CodePoint) (start added : ℕ) (ready : Bool) → IsReached mode rules us (length us) [] ready [] →
+    (place : ℕ) (d : Diagnostic) → IsCauseAtPlace mode rules us start added place d → ⊥
+ended_refuses mode rules us start added ready end place d c = by (cause_ends mode rules us start added (class_laws mode rules us start added) place d c)
   where
-    in_group : (group : Opener) (open_groups : List Opener) (ready_in : Bool) (rest : List CodePoint) → IsReached mode us place (group ∷ open_groups) ready_in rest → place < length us
-    in_group group open_groups ready_in [] r = let same = (same_place mode us r end (omega (arith, r.place_is))).open_is in cc same
+    in_group : (group : Opener) (open_groups : List Opener) (ready_in : Bool) (rest : List CodePoint) → IsReached mode rules us place (group ∷ open_groups) ready_in rest → place < length us
+    in_group group open_groups ready_in [] r = let same = (same_place mode rules us r end (omega (arith, r.place_is))).open_is in cc same
     in_group group open_groups ready_in (u ∷ rest) r = omega (arith, r.place_is)
 
-    by : Ends mode us place → ⊥
+    by : Ends mode rules us place → ⊥
     by (passes k le less none) = none (length us) [] (record { open_groups = []; ready = ready; reached = end }) less
     by (left_open group open_groups ready_in rest r none) =
         none (length us) [] (record { open_groups = []; ready = ready; reached = end }) (in_group group open_groups ready_in rest r)
@@ -79,7 +81,7 @@ no_question_next (suc n) x = no_question (drawn (next_state x)) (pieces_text n (
 
 module _ (groups : ℕ) (names : List (List ℕ)) (has_names : Bool) where
   abbrev here : Environment
-  here = environment_with Unicode groups has_names
+  here = environment_with Unicode true groups has_names
 
   -- Tokens, each of n units, lead from some units to others, and each is early by itself.
   abbrev AreRead : List (Token × ℕ) → List CodePoint → List CodePoint → Type 0
@@ -240,37 +242,37 @@ module _ (n x : ℕ) (few : n < 8) where
   unfolding us
   units_are = values_literal 0 (pieces_text (suc n) x)
 
-  no_clash : HasNoClash Unicode us
+  no_clash : HasNoClash Unicode true us
   no_clash a b clash = unnamed (marks Unicode (values us)) a clash.name (ap (λ w. mark.names Unicode (marks Unicode w)) units_are ∙ (pieces_marks (suc n) x).1) clash.first
 
   few_groups : text_groups Unicode us ≤ most_groups
   unfolding text_groups
   few_groups = omega (arith, few, ap (λ w. count (marks Unicode w)) units_are, (pieces_marks (suc n) x).0)
 
-  end_reached : (ready : Bool) × IsReached Unicode us (length us) [] ready []
+  end_reached : (ready : Bool) × IsReached Unicode both_rules us (length us) [] ready []
   unfolding us
   end_reached =
       let r = pieces_row (text_groups Unicode us) (text_names Unicode us) (has_some (text_names Unicode us)) (suc n) x 0 in
       let after = r.accepted false in
       (after.0, record { tokens = r.tokens; row = r.row; place_is = omega arith; accepted = after.1; obey = r.obey })
 
-  none_first : (added : ℕ) (refusal : Diagnostic) → IsFirst Unicode us 0 added refusal → ⊥
+  none_first : (added : ℕ) (refusal : Diagnostic) → IsFirst Unicode both_rules us 0 added refusal → ⊥
   none_first added refusal (of_groups cause amiss) = amiss no_clash few_groups
-  none_first added refusal (of_places none few first) = ended_refuses Unicode us 0 added end_reached.0 end_reached.1 first.place refusal first.holds
+  none_first added refusal (of_places none few first) = ended_refuses Unicode both_rules us 0 added end_reached.0 end_reached.1 first.place refusal first.holds
 
   pieces_not_refused : {refusal : Diagnostic} → IsFirstRefusal (asked (pieces_text (suc n) x)) refusal → ⊥
   unfolding us
   pieces_not_refused {refusal} (no_flags_text e none) = none _ of_literal
   pieces_not_refused {refusal} (of_flags {flags} are cause) =
-      let right = one_flags Literal (Some (117 ∷ [])) (literal_units true 0 (117 ∷ [])) flags (some_flags of_literal) are in
+      let right = one_flags false Literal (Some (117 ∷ [])) (literal_units true 0 (117 ∷ [])) flags (some_flags of_literal) are in
       let no : true ≡ false = ap (λ flags. flags_ok (values flags)) right ∙ cause_refuses flags 0 0 refusal cause in
       cc no
   pieces_not_refused {refusal} (no_text asks none) = none _ of_literal
   pieces_not_refused {refusal} (of_text {mode} {us = asked_units} asks first) =
       let text = pieces_text (suc n) x in
-      let one = one_asked (asked text) mode Unicode asked_units (literal_units true 0 (literal_text text)) asks (alone_asks text Unicode) in
-      none_first 0 refusal (subst (λ w. IsFirst Unicode (literal_units true 0 w) 0 0 refusal) (pieces_some n x)
-      (subst (λ vs. IsFirst Unicode vs 0 0 refusal) one.1 (subst (λ m. IsFirst m asked_units 0 0 refusal) one.0 first)))
+      let one = one_asked (asked text) mode Unicode asked_units (literal_units true 0 (literal_text text)) asks (alone_asks text Unicode both_rules false) in
+      none_first 0 refusal (subst (λ w. IsFirst Unicode both_rules (literal_units true 0 w) 0 0 refusal) (pieces_some n x)
+      (subst (λ vs. IsFirst Unicode both_rules vs 0 0 refusal) one.1 (subst (λ m. IsFirst m both_rules asked_units 0 0 refusal) one.0 first)))
 
 -- no pattern of `gen` is refused
 pub not_refused : (x : ℕ) {refusal : Diagnostic} → IsFirstRefusal (asked (pattern_text x)) refusal → ⊥

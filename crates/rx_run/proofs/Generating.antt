@@ -1,5 +1,5 @@
 -- How the patterns of `gen` are made, and what their answers add up to.
-use Rattle.std.proofs.Common.{◌≡◌, ◌∙◌, ◌<◌, ◌≤◌, ◌+◌, ◌-◌, ◌*◌, refl, sym, ap, subst, ℕ, zero, suc, List, [], ◌∷◌, ◌++◌, length, length-append, append_assoc, append-nil, Some, Ok, Err, arith}
+use Rattle.std.proofs.Common.{◌≡◌, ◌∙◌, ◌<◌, ◌≤◌, ◌+◌, ◌-◌, ◌*◌, refl, sym, ap, subst, ℕ, Bool, false, zero, suc, List, [], ◌∷◌, ◌++◌, length, length-append, append_assoc, append-nil, Some, Ok, Err, arith}
 use Rattle.std.specs.Char.{len_utf8}
 use Rattle.std.specs.Str.{IsUtf8, chars, encode_utf8_all}
 use Rattle.std.proofs.Math.Utf8.{encode, encodes}
@@ -20,6 +20,8 @@ use Rattle.rx_tools.proofs.CanonicalAnswers.{first_of, read_as}
 use Rattle.rx_run.specs.Generator.{AreSized, IsGenerated, IsSized, asked, drawn, next_state, pattern_text, patterns, piece, pieces_text, state_after, state_after_pattern}
 use Rattle.rx_run.proofs.Generated.{not_refused}
 use Rattle.rx_run.proofs.Servings.{AllZip-append}
+use Rattle.rx_model.specs.declared.rules.Rules.{Rules}
+use Rattle.rx_run.specs.Reply.{both_rules}
 
 -- one more piece of those that are to come
 pub pieces_more : (n i x x' : ℕ) (text more all : List ℕ) → i < n → text ++ pieces_text (n - i) x ≡ all → x' ≡ next_state x → more ≡ text ++ piece (drawn x')
@@ -79,14 +81,14 @@ pub text_short : (bytes text : List ℕ) → IsUtf8 bytes → chars bytes ≡ te
 text_short bytes text utf8 is = omega (arith, encodes_short (chars bytes), ap length (encodes-chars bytes utf8), ap length is)
 
 -- a literal alone under `u`, from its parts
-pub asked_is : (text bytes flags : List ℕ) (a b : ℕ) → chars bytes ≡ text → flags ≡ 117 ∷ [] → a ≡ 0 → b ≡ 0
-    → (record { form = Literal; text = chars bytes; flags = Some flags; text_offset = a; flags_offset = b }) ≡ asked text
-asked_is text bytes flags a b text_is flags_are a_is b_is = cc
+pub asked_is : (text bytes flags : List ℕ) (a b : ℕ) (under : Rules) (standard : Bool) → chars bytes ≡ text → flags ≡ 117 ∷ [] → a ≡ 0 → b ≡ 0 → under ≡ both_rules → standard ≡ false
+    → (record { form = Literal; text = chars bytes; flags = Some flags; text_offset = a; flags_offset = b; rules = under; standard_strings = standard }) ≡ asked text
+asked_is text bytes flags a b under standard text_is flags_are a_is b_is rules_are standard_is = cc
 
 -- an answer, by the bytes of its spelling
 pub read_sized : (text : List ℕ) (it : Canonical) (bytes : List ℕ) → IsUtf8 bytes → chars bytes ≡ it.text → IsAnswered spelled_of (asked text) (Ok it) → IsSized text (length bytes)
 read_sized text it bytes utf8 is answered =
-    let mode : it.mode ≡ Unicode = one_mode (asked text) it.mode Unicode answered.mode_is (alone_asks text Unicode).mode_asked in
+    let mode : it.mode ≡ Unicode = one_mode (asked text) it.mode Unicode answered.mode_is (alone_asks text Unicode both_rules false).mode_asked in
     let spelled : it.text ≡ spelling (bare it.pattern) Unicode = answered.text_is ∙ ap (spelling (bare it.pattern)) mode in
     let same : bytes ≡ encode_utf8_all (spelling (bare it.pattern) Unicode) = sym (encodes-chars bytes utf8) ∙ ap encode_utf8_all (is ∙ spelled) in
     record { pattern = it.pattern; read = subst (λ m. IsReadAs (asked text) m it.pattern) mode (read_as spelled_of (asked text) it answered); size_is = ap length same }

@@ -2,7 +2,7 @@
 use Rattle.std.proofs.Common.{◌≡◌, sym, subst, ℕ, Bool, true, List, [], ◌++◌, append-nil, length-append, Option, arith}
 use Rattle.std.proofs.KnownBytes.{Appends-nil, Appends-trans, Consumes-nil, Consumes-trans}
 use Rattle.std.specs.Io.KnownBytes.{Appends}
-use Rattle.rx_run.specs.declared.answer.Answering.{Answering}
+use Rattle.rx_run.specs.declared.service.Service.{Service}
 use Rattle.rx_run.specs.Outcome.{IsAnswered, IsBegun, Reads, ReadsAndWrites}
 use Rattle.rx_run.specs.Serving.{Serves, Halts, Ends, Progress}
 use Rattle.rx_run.proofs.Servings.{serves_nothing, serves_then, serves_halts, serves_ends, halts_nothing, ends-answered, halts-begun}
@@ -16,11 +16,11 @@ reads_then {a = a} {b = b} {c = c} xs ys h g = record {
   counted = omega (arith, h.counted, g.counted, length-append xs ys);
 }
 
-module _ {answering : Answering} where
-  pub progress_start : (left taken : Option (List ℕ)) (drawn : ℕ) (line : List ℕ) (ok : Bool) → line ≡ [] → ok ≡ true → Progress answering left left drawn drawn taken taken line ok
+module _ {service : Service} where
+  pub progress_start : (left taken : Option (List ℕ)) (drawn : ℕ) (line : List ℕ) (ok : Bool) → line ≡ [] → ok ≡ true → Progress service left left drawn drawn taken taken line ok
   progress_start left taken drawn line ok none all =
-      let P : List ℕ → Type 0 = λ x. Serves answering [] true [] [] x ok in
-      let Q : Bool → Type 0 = λ x. Serves answering [] true [] [] [] x in
+      let P : List ℕ → Type 0 = λ x. Serves service [] true [] [] x ok in
+      let Q : Bool → Type 0 = λ x. Serves service [] true [] [] [] x in
       record {
         read = [];
         written = [];
@@ -30,9 +30,9 @@ module _ {answering : Answering} where
       }
 
   -- Before: from a to b was read, and from d to e was written. Then from b to c is read, and from e to f is written.
-  module _ {a b c d e : Option (List ℕ)} (f : Option (List ℕ)) {k m n : ℕ} {line : List ℕ} {ok : Bool} (p : Progress answering a b k m d e line ok) where
-    pub progress_more : (bytes line' : List ℕ) (ok' : Bool) → Reads b c m n bytes → ((new : List ℕ) × Appends e f new × Serves answering line ok bytes new line' ok')
-        → Progress answering a c k n d f line' ok'
+  module _ {a b c d e : Option (List ℕ)} (f : Option (List ℕ)) {k m n : ℕ} {line : List ℕ} {ok : Bool} (p : Progress service a b k m d e line ok) where
+    pub progress_more : (bytes line' : List ℕ) (ok' : Bool) → Reads b c m n bytes → ((new : List ℕ) × Appends e f new × Serves service line ok bytes new line' ok')
+        → Progress service a c k n d f line' ok'
     progress_more bytes line' ok' r w = record {
       read = p.read ++ bytes;
       written = p.written ++ w.0;
@@ -41,8 +41,8 @@ module _ {answering : Answering} where
       serves = serves_then p.serves w.2;
     }
 
-    pub progress_halts : (bytes : List ℕ) (least : ℕ) → Reads b c m n bytes → ((part : List ℕ) × Appends e f part × Halts answering line bytes part least)
-        → ReadsAndWrites a c k n d f (λ read written. IsBegun answering read written least)
+    pub progress_halts : (bytes : List ℕ) (least : ℕ) → Reads b c m n bytes → ((part : List ℕ) × Appends e f part × Halts service line bytes part least)
+        → ReadsAndWrites a c k n d f (λ read written. IsBegun service read written least)
     progress_halts bytes least r w = (
       p.read ++ bytes,
       p.written ++ w.0,
@@ -51,8 +51,8 @@ module _ {answering : Answering} where
       halts-begun (serves_halts p.serves w.2),
     )
 
-    pub progress_ends : (ok' : Bool) → Reads b c m n [] → ((new : List ℕ) × Appends e f new × Ends answering line ok new ok')
-        → ReadsAndWrites a c k n d f (λ read written. IsAnswered answering read written ok')
+    pub progress_ends : (ok' : Bool) → Reads b c m n [] → ((new : List ℕ) × Appends e f new × Ends service line ok new ok')
+        → ReadsAndWrites a c k n d f (λ read written. IsAnswered service read written ok')
     progress_ends ok' r w =
         let P : List ℕ → Type 0 = λ x. Reads a c k n x in (
           p.read,
@@ -63,6 +63,6 @@ module _ {answering : Answering} where
         )
 
   -- nothing more was written
-  pub progress_stops : {a b c d e : Option (List ℕ)} {k m n : ℕ} {line : List ℕ} {ok : Bool} (p : Progress answering a b k m d e line ok) (bytes : List ℕ) → Reads b c m n bytes
-      → ReadsAndWrites a c k n d e (λ read written. IsBegun answering read written 0)
+  pub progress_stops : {a b c d e : Option (List ℕ)} {k m n : ℕ} {line : List ℕ} {ok : Bool} (p : Progress service a b k m d e line ok) (bytes : List ℕ) → Reads b c m n bytes
+      → ReadsAndWrites a c k n d e (λ read written. IsBegun service read written 0)
   progress_stops {e = e} {line = line} p bytes r = progress_halts e p bytes 0 r ([], Appends-nil e, halts_nothing line bytes)

@@ -2,7 +2,7 @@
 use Rattle.std.proofs.Common.{◌≡◌, ◌∙◌, sym, ap, refl, subst, ℕ, ◌<◌, Bool, true, false, ◌&&◌, List, [], ◌∷◌, ◌++◌, append-nil, append_assoc, length, take, map, Result, Ok, Err, OnOk, arith}
 use Rattle.std.specs.List.{AllZip, list_all, concat}
 use Rattle.std.proofs.lemmas.List.Folds.{concat-append, list_all-append}
-use Rattle.rx_run.specs.declared.answer.Answering.{Answering}
+use Rattle.rx_run.specs.declared.service.Service.{Service}
 use Rattle.rx_run.specs.Lines.{lines_of, lacks}
 use Rattle.rx_run.specs.Reply.{IsReply, begins_ok}
 use Rattle.rx_run.specs.Outcome.{IsAnswered, IsBegun}
@@ -52,15 +52,15 @@ pub on_ok_both : {T E P Q R : Type 0} (r : Result T E) → OnOk r P → OnOk r Q
 on_ok_both (Ok x) p q f = f p q
 on_ok_both (Err e) p q f = tt
 
-module _ (answering : Answering) where
+module _ (service : Service) where
   -- ---- what answers the lines as far as they are kept answers the lines
 
-  answered-more : (x reply : List ℕ) (lines replies : List (List ℕ)) → IsReply answering x reply → ((front later : List (List ℕ)) × (lines ≡ front ++ later) × AllZip (IsReply answering) front replies)
-      → (front later : List (List ℕ)) × (x ∷ lines ≡ front ++ later) × AllZip (IsReply answering) front (reply ∷ replies)
+  answered-more : (x reply : List ℕ) (lines replies : List (List ℕ)) → IsReply service x reply → ((front later : List (List ℕ)) × (lines ≡ front ++ later) × AllZip (IsReply service) front replies)
+      → (front later : List (List ℕ)) × (x ∷ lines ≡ front ++ later) × AllZip (IsReply service) front (reply ∷ replies)
   answered-more x reply lines replies is r = (x ∷ r.0, r.1, ap (λ (y : List (List ℕ)). x ∷ y) r.2, (is, r.3))
 
-  answered-front : (lines front later replies : List (List ℕ)) → map kept lines ≡ front ++ later → AllZip (IsReply answering) front replies
-      → (front' later' : List (List ℕ)) × (lines ≡ front' ++ later') × AllZip (IsReply answering) front' replies
+  answered-front : (lines front later replies : List (List ℕ)) → map kept lines ≡ front ++ later → AllZip (IsReply service) front replies
+      → (front' later' : List (List ℕ)) × (lines ≡ front' ++ later') × AllZip (IsReply service) front' replies
   answered-front lines [] later [] e h = ([], lines, refl, tt)
   answered-front lines [] later (reply ∷ replies) e h = absurd h
   answered-front lines (line ∷ front) later [] e h = absurd h
@@ -68,19 +68,19 @@ module _ (answering : Answering) where
   answered-front (x ∷ lines) (line ∷ front) later (reply ∷ replies) e h =
       let head : kept x ≡ line = cc in
       let tail : map kept lines ≡ front ++ later = cc in
-      let P : List ℕ → Type 0 = λ y. IsReply answering y reply in
+      let P : List ℕ → Type 0 = λ y. IsReply service y reply in
       answered-more x reply lines replies (IsReply-kept x reply (subst P (sym head) h.0)) (answered-front lines front later replies tail h.1)
 
-  answered-all : (lines replies : List (List ℕ)) → AllZip (IsReply answering) (map kept lines) replies → AllZip (IsReply answering) lines replies
+  answered-all : (lines replies : List (List ℕ)) → AllZip (IsReply service) (map kept lines) replies → AllZip (IsReply service) lines replies
   answered-all [] [] h = tt
   answered-all [] (reply ∷ replies) h = absurd h
   answered-all (line ∷ lines) [] h = absurd h
   answered-all (line ∷ lines) (reply ∷ replies) h = (IsReply-kept line reply h.0, answered-all lines replies h.1)
 
-module _ {answering : Answering} where
+module _ {service : Service} where
   -- ---- bytes came
 
-  pub serves_nothing : (line : List ℕ) (ok : Bool) → Serves answering line ok [] [] line ok
+  pub serves_nothing : (line : List ℕ) (ok : Bool) → Serves service line ok [] [] line ok
   serves_nothing line ok = record {
     lines = [];
     replies = [];
@@ -91,7 +91,7 @@ module _ {answering : Answering} where
   }
 
   -- bytes with no LF
-  serves_piece : (line piece : List ℕ) (ok : Bool) → lacks 10 line ≡ true → lacks 10 piece ≡ true → Serves answering line ok piece [] (kept (line ++ piece)) ok
+  serves_piece : (line piece : List ℕ) (ok : Bool) → lacks 10 line ≡ true → lacks 10 piece ≡ true → Serves service line ok piece [] (kept (line ++ piece)) ok
   serves_piece line piece ok h g = record {
     lines = [];
     replies = [];
@@ -102,7 +102,7 @@ module _ {answering : Answering} where
   }
 
   -- an LF behind a line
-  serves_line : (line reply : List ℕ) (ok : Bool) → lacks 10 line ≡ true → IsReply answering line reply → Serves answering line ok (10 ∷ []) reply [] (ok && begins_ok reply)
+  serves_line : (line reply : List ℕ) (ok : Bool) → lacks 10 line ≡ true → IsReply service line reply → Serves service line ok (10 ∷ []) reply [] (ok && begins_ok reply)
   serves_line line reply ok h is = record {
     lines = kept line ∷ [];
     replies = reply ∷ [];
@@ -113,7 +113,7 @@ module _ {answering : Answering} where
   }
 
   -- bytes, and then more
-  pub serves_then : {l l' l'' b b' w w' : List ℕ} {o o' o'' : Bool} → Serves answering l o b w l' o' → Serves answering l' o' b' w' l'' o'' → Serves answering l o (b ++ b') (w ++ w') l'' o''
+  pub serves_then : {l l' l'' b b' w w' : List ℕ} {o o' o'' : Bool} → Serves service l o b w l' o' → Serves service l' o' b' w' l'' o'' → Serves service l o (b ++ b') (w ++ w') l'' o''
   serves_then {l = l} {l' = l'} {l'' = l''} {b = b} {b' = b'} {o = o} s t = record {
     lines = s.lines ++ t.lines;
     replies = s.replies ++ t.replies;
@@ -123,7 +123,7 @@ module _ {answering : Answering} where
         ∙ ap (λ (x : List ℕ). s.lines ++ kept_lines x) (sym (append_assoc l' b' more))
         ∙ ap (λ (x : List (List ℕ)). s.lines ++ x) (t.lines_are more)
         ∙ sym (append_assoc s.lines t.lines (kept_lines (l'' ++ more)));
-    answered = AllZip-append (IsReply answering) s.lines s.replies t.lines t.replies s.answered t.answered;
+    answered = AllZip-append (IsReply service) s.lines s.replies t.lines t.replies s.answered t.answered;
     written_is = let e = s.written_is in let e' = t.written_is in rw (e, e', concat-append s.replies t.replies);
     judged = t.judged ∙ ap (λ (x : Bool). x && list_all begins_ok t.replies) s.judged
         ∙ and_assoc o (list_all begins_ok s.replies) (list_all begins_ok t.replies)
@@ -132,19 +132,19 @@ module _ {answering : Answering} where
 
   -- a line's last piece and its LF, where the line had begun
   pub serves_end : (line piece line1 reply line2 : List ℕ) (ok ok1 ok2 : Bool) → lacks 10 line ≡ true → lacks 10 piece ≡ true
-      → line1 ≡ kept (line ++ piece) → ok1 ≡ ok → IsReply answering line1 reply → line2 ≡ [] → ok2 ≡ (ok1 && begins_ok reply)
-      → Serves answering line ok (piece ++ 10 ∷ []) reply line2 ok2
+      → line1 ≡ kept (line ++ piece) → ok1 ≡ ok → IsReply service line1 reply → line2 ≡ [] → ok2 ≡ (ok1 && begins_ok reply)
+      → Serves service line ok (piece ++ 10 ∷ []) reply line2 ok2
   serves_end line piece line1 reply line2 ok ok1 ok2 h g l1 o1 is l2 o2 =
-      let P : List ℕ → Type 0 = λ x. IsReply answering x reply in
+      let P : List ℕ → Type 0 = λ x. IsReply service x reply in
       let whole : ok2 ≡ (ok && begins_ok reply) = o2 ∙ ap (λ (b : Bool). b && begins_ok reply) o1 in
-      let Q : List ℕ → Type 0 = λ x. Serves answering line ok (piece ++ 10 ∷ []) reply x ok2 in
-      let R : Bool → Type 0 = λ b. Serves answering line ok (piece ++ 10 ∷ []) reply [] b in
+      let Q : List ℕ → Type 0 = λ x. Serves service line ok (piece ++ 10 ∷ []) reply x ok2 in
+      let R : Bool → Type 0 = λ b. Serves service line ok (piece ++ 10 ∷ []) reply [] b in
       let both : lacks 10 (line ++ piece) ≡ true = lacks-append 10 line piece h g in
       subst Q (sym l2) (subst R (sym whole) (serves_then (serves_piece line piece ok h g)
       (serves_line (kept (line ++ piece)) reply ok (lacks-kept (line ++ piece) both) (subst P l1 is))))
 
   -- a whole line and its LF
-  pub serves_whole : (line piece reply : List ℕ) (ok ok' : Bool) → line ≡ [] → lacks 10 piece ≡ true → IsReply answering piece reply → ok' ≡ (ok && begins_ok reply) → Serves answering line ok (piece ++ 10 ∷ []) reply line ok'
+  pub serves_whole : (line piece reply : List ℕ) (ok ok' : Bool) → line ≡ [] → lacks 10 piece ≡ true → IsReply service piece reply → ok' ≡ (ok && begins_ok reply) → Serves service line ok (piece ++ 10 ∷ []) reply line ok'
   serves_whole line piece reply ok ok' none h is e = record {
     lines = kept piece ∷ [];
     replies = reply ∷ [];
@@ -158,9 +158,9 @@ module _ {answering : Answering} where
 
   -- one more line of the bytes, with the replies before and after
   pub serves_lines_more : (start before end bytes done new rest piece after new' l l' l'' : List ℕ) (o o' o'' : Bool)
-      → bytes ≡ done ++ rest → before ≡ start ++ new → Serves answering l o done new l' o'
-      → rest ≡ piece ++ 10 ∷ after → end ≡ before ++ new' → Serves answering l' o' (piece ++ 10 ∷ []) new' l'' o''
-      → (done' written : List ℕ) × (bytes ≡ done' ++ after) × (end ≡ start ++ written) × Serves answering l o done' written l'' o''
+      → bytes ≡ done ++ rest → before ≡ start ++ new → Serves service l o done new l' o'
+      → rest ≡ piece ++ 10 ∷ after → end ≡ before ++ new' → Serves service l' o' (piece ++ 10 ∷ []) new' l'' o''
+      → (done' written : List ℕ) × (bytes ≡ done' ++ after) × (end ≡ start ++ written) × Serves service l o done' written l'' o''
   serves_lines_more start before end bytes done new rest piece after new' l l' l'' o o' o'' e h s e' h' s' = (
     done ++ (piece ++ 10 ∷ []),
     new ++ new',
@@ -171,44 +171,44 @@ module _ {answering : Answering} where
 
   -- the rest of the bytes, in which no line ends
   pub serves_lines_last : (start end bytes done new rest l l' l'' : List ℕ) (o o' o'' : Bool)
-      → bytes ≡ done ++ rest → end ≡ start ++ new → Serves answering l o done new l' o' → lacks 10 l' ≡ true → lacks 10 rest ≡ true
+      → bytes ≡ done ++ rest → end ≡ start ++ new → Serves service l o done new l' o' → lacks 10 l' ≡ true → lacks 10 rest ≡ true
       → l'' ≡ kept (l' ++ rest) → o'' ≡ o'
-      → (written : List ℕ) × (end ≡ start ++ written) × Serves answering l o bytes written l'' o''
+      → (written : List ℕ) × (end ≡ start ++ written) × Serves service l o bytes written l'' o''
   serves_lines_last start end bytes done new rest l l' l'' o o' o'' e h s g g' l2 o2 =
-      let P : List ℕ → Type 0 = λ x. Serves answering l o x new l'' o'' in
-      let Q : List ℕ → Type 0 = λ x. Serves answering l o (done ++ rest) x l'' o'' in
-      let R : List ℕ → Type 0 = λ x. Serves answering l o (done ++ rest) (new ++ []) x o'' in
-      let T : Bool → Type 0 = λ x. Serves answering l o (done ++ rest) (new ++ []) (kept (l' ++ rest)) x in
+      let P : List ℕ → Type 0 = λ x. Serves service l o x new l'' o'' in
+      let Q : List ℕ → Type 0 = λ x. Serves service l o (done ++ rest) x l'' o'' in
+      let R : List ℕ → Type 0 = λ x. Serves service l o (done ++ rest) (new ++ []) x o'' in
+      let T : Bool → Type 0 = λ x. Serves service l o (done ++ rest) (new ++ []) (kept (l' ++ rest)) x in
       (new, h, subst P (sym e) (subst Q (append-nil new) (subst R (sym l2) (subst T (sym o2) (serves_then s (serves_piece l' rest o' g g'))))))
 
   -- ---- the input ended
 
-  pub ends_nothing : (line : List ℕ) (ok : Bool) → line ≡ [] → Ends answering line ok [] ok
+  pub ends_nothing : (line : List ℕ) (ok : Bool) → line ≡ [] → Ends service line ok [] ok
   ends_nothing line ok none = record {
     replies = [];
-    answered = let P : List (List ℕ) → Type 0 = λ x. AllZip (IsReply answering) x [] in subst P (sym (ap kept_lines none ∙ kept_lines-nil)) tt;
+    answered = let P : List (List ℕ) → Type 0 = λ x. AllZip (IsReply service) x [] in subst P (sym (ap kept_lines none ∙ kept_lines-nil)) tt;
     written_is = refl;
     judged = sym (and_true ok);
   }
 
   -- with a last line
-  pub ends_last : (line reply : List ℕ) (ok ok' : Bool) → lacks 10 line ≡ true → ¬ (line ≡ []) → IsReply answering line reply → ok' ≡ (ok && begins_ok reply) → Ends answering line ok reply ok'
+  pub ends_last : (line reply : List ℕ) (ok ok' : Bool) → lacks 10 line ≡ true → ¬ (line ≡ []) → IsReply service line reply → ok' ≡ (ok && begins_ok reply) → Ends service line ok reply ok'
   ends_last [] reply ok ok' h some is e = absurd (some refl)
   ends_last (b ∷ line) reply ok ok' h some is e = record {
     replies = reply ∷ [];
-    answered = let P : List (List ℕ) → Type 0 = λ x. AllZip (IsReply answering) x (reply ∷ []) in subst P (sym (kept_lines-last b line h)) (IsReply-of_kept (b ∷ line) reply is, tt);
+    answered = let P : List (List ℕ) → Type 0 = λ x. AllZip (IsReply service) x (reply ∷ []) in subst P (sym (kept_lines-last b line h)) (IsReply-of_kept (b ∷ line) reply is, tt);
     written_is = sym (append-nil reply);
     judged = e ∙ ap (λ (x : Bool). ok && x) (sym (and_true (begins_ok reply)));
   }
 
-  pub serves_ends : {l l' b w w' : List ℕ} {o o' o'' : Bool} → Serves answering l o b w l' o' → Ends answering l' o' w' o'' → Ends answering (l ++ b) o (w ++ w') o''
+  pub serves_ends : {l l' b w w' : List ℕ} {o o' o'' : Bool} → Serves service l o b w l' o' → Ends service l' o' w' o'' → Ends service (l ++ b) o (w ++ w') o''
   serves_ends {l = l} {l' = l'} {b = b} {o = o} s t = record {
     replies = s.replies ++ t.replies;
     answered =
         let lines : kept_lines (l ++ b) ≡ s.lines ++ kept_lines l' =
         ap kept_lines (sym (append-nil (l ++ b))) ∙ s.lines_are [] ∙ ap (λ (x : List ℕ). s.lines ++ kept_lines x) (append-nil l') in
-        let P : List (List ℕ) → Type 0 = λ x. AllZip (IsReply answering) x (s.replies ++ t.replies) in
-        subst P (sym lines) (AllZip-append (IsReply answering) s.lines s.replies (kept_lines l') t.replies s.answered t.answered);
+        let P : List (List ℕ) → Type 0 = λ x. AllZip (IsReply service) x (s.replies ++ t.replies) in
+        subst P (sym lines) (AllZip-append (IsReply service) s.lines s.replies (kept_lines l') t.replies s.answered t.answered);
     written_is = let e = s.written_is in let e' = t.written_is in rw (e, e', concat-append s.replies t.replies);
     judged = t.judged ∙ ap (λ (x : Bool). x && list_all begins_ok t.replies) s.judged
         ∙ and_assoc o (list_all begins_ok s.replies) (list_all begins_ok t.replies)
@@ -217,7 +217,7 @@ module _ {answering : Answering} where
 
   -- ---- the replies were not written whole
 
-  pub halts_nothing : (line bytes : List ℕ) → Halts answering line bytes [] 0
+  pub halts_nothing : (line bytes : List ℕ) → Halts service line bytes [] 0
   halts_nothing line bytes = record {
     lines = [];
     later = kept_lines (line ++ bytes);
@@ -230,7 +230,7 @@ module _ {answering : Answering} where
   }
 
   -- a front of the replies to the bytes
-  pub halts_serving : {l bytes new l' : List ℕ} {o o' : Bool} (front back : List ℕ) → Serves answering l o bytes new l' o' → new ≡ front ++ back → 0 < length back → Halts answering l bytes front 1
+  pub halts_serving : {l bytes new l' : List ℕ} {o o' : Bool} (front back : List ℕ) → Serves service l o bytes new l' o' → new ≡ front ++ back → 0 < length back → Halts service l bytes front 1
   halts_serving {l = l} {bytes = bytes} {l' = l'} front back s h some = record {
     lines = s.lines;
     later = kept_lines l';
@@ -243,7 +243,7 @@ module _ {answering : Answering} where
   }
 
   -- a front of the replies at the end
-  pub halts_ending : {line new : List ℕ} {ok ok' : Bool} (front back : List ℕ) → Ends answering line ok new ok' → new ≡ front ++ back → 0 < length back → Halts answering line [] front 1
+  pub halts_ending : {line new : List ℕ} {ok ok' : Bool} (front back : List ℕ) → Ends service line ok new ok' → new ≡ front ++ back → 0 < length back → Halts service line [] front 1
   halts_ending {line = line} front back s h some = record {
     lines = kept_lines line;
     later = [];
@@ -256,7 +256,7 @@ module _ {answering : Answering} where
   }
 
   -- bytes came and were answered, and then the replies to the rest were not written whole
-  pub serves_halts : {l l' b b' w w' : List ℕ} {o o' : Bool} {least : ℕ} → Serves answering l o b w l' o' → Halts answering l' b' w' least → Halts answering l (b ++ b') (w ++ w') least
+  pub serves_halts : {l l' b b' w w' : List ℕ} {o o' : Bool} {least : ℕ} → Serves service l o b w l' o' → Halts service l' b' w' least → Halts service l (b ++ b') (w ++ w') least
   serves_halts {l = l} {l' = l'} {b = b} {b' = b'} {w = w} {w' = w'} s t = record {
     lines = s.lines ++ t.lines;
     later = t.later;
@@ -264,7 +264,7 @@ module _ {answering : Answering} where
     unwritten = t.unwritten;
     lines_are = ap kept_lines (sym (append_assoc l b b')) ∙ s.lines_are b' ∙ ap (λ (x : List (List ℕ)). s.lines ++ x) t.lines_are
         ∙ sym (append_assoc s.lines t.lines t.later);
-    answered = AllZip-append (IsReply answering) s.lines s.replies t.lines t.replies s.answered t.answered;
+    answered = AllZip-append (IsReply service) s.lines s.replies t.lines t.replies s.answered t.answered;
     front = concat-append s.replies t.replies ∙ ap (λ (x : List ℕ). x ++ concat t.replies) (sym s.written_is)
         ∙ ap (λ (x : List ℕ). w ++ x) t.front ∙ sym (append_assoc w w' t.unwritten);
     missing = t.missing;
@@ -272,19 +272,19 @@ module _ {answering : Answering} where
 
   -- ---- to the end of the input
 
-  pub ends-answered : {bytes written : List ℕ} {ok : Bool} → Ends answering bytes true written ok → IsAnswered answering bytes written ok
+  pub ends-answered : {bytes written : List ℕ} {ok : Bool} → Ends service bytes true written ok → IsAnswered service bytes written ok
   unfolding kept_lines
   ends-answered {bytes = bytes} e = record {
     replies = e.replies;
-    answered = answered-all answering (lines_of bytes) e.replies e.answered;
+    answered = answered-all service (lines_of bytes) e.replies e.answered;
     written_is = e.written_is;
     judged = e.judged;
   }
 
-  pub halts-begun : {bytes written : List ℕ} {least : ℕ} → Halts answering [] bytes written least → IsBegun answering bytes written least
+  pub halts-begun : {bytes written : List ℕ} {least : ℕ} → Halts service [] bytes written least → IsBegun service bytes written least
   unfolding kept_lines
   halts-begun {bytes = bytes} e =
-      let r = answered-front answering (lines_of bytes) e.lines e.later e.replies e.lines_are e.answered in
+      let r = answered-front service (lines_of bytes) e.lines e.later e.replies e.lines_are e.answered in
       record {
         lines = r.0;
         later = r.1;

@@ -6,7 +6,8 @@ use Rattle.rx_run.specs.declared.answer.Answering.{Answering}
 use Rattle.rx_run.specs.declared.answer.Answering.TheVariants.{Canonical, Display, Support}
 use Rattle.rx_run.specs.declared.command.Command.{Command}
 use Rattle.rx_run.specs.declared.command.Command.TheVariants.{Serve, Generate, Print}
-use Rattle.rx_run.specs.declared.features.Features.{Features}
+use Rattle.rx_run.specs.declared.dialect.Dialect.{Dialect}
+use Rattle.rx_run.specs.declared.dialect.Dialect.TheVariants.{Default, Strict, Standard}
 use Rattle.rx_run.specs.Features.{IsFeatureList}
 use Rattle.rx_run.specs.Notices.{notice_word}
 
@@ -28,21 +29,27 @@ pub record IsGen (words : List (List ℕ)) (seed count : ℕ) : Type 0 where
   pub some : 1 ≤ count
   pub count_within : count ≤ 20000
 
--- The words are `support LIST`.
-pub record IsSupport (words : List (List ℕ)) (features : Features) : Type 0 where
-  pub list_word : List ℕ
-  pub words_are : words ≡ codes "support" ∷ list_word ∷ []
-  pub list_is : IsFeatureList list_word features
+-- the word for the options, if there is one
+abbrev pub dialect_words : Dialect → List (List ℕ)
+dialect_words Default = []
+dialect_words Strict = codes "strict" ∷ []
+dialect_words Standard = codes "standard" ∷ []
 
--- the words with which lines are answered
-abbrev pub IsServing : List (List ℕ) → Answering → Type 0
-IsServing words Canonical = words ≡ []
-IsServing words Display = words ≡ codes "display" ∷ []
-IsServing words (Support features) = IsSupport words features
+-- the lists of words with which lines are answered
+abbrev pub IsServing : List (List ℕ) → Dialect → Answering → Type 0
+IsServing words Default Canonical = words ≡ []
+IsServing words Default Display = words ≡ codes "display" ∷ []
+IsServing words Default (Support features) = (list : List ℕ) × (words ≡ codes "support" ∷ list ∷ []) × IsFeatureList list features
+IsServing words Strict Canonical = words ≡ codes "strict" ∷ []
+IsServing words Strict Display = words ≡ codes "strict" ∷ codes "display" ∷ []
+IsServing words Strict (Support features) = (list : List ℕ) × (words ≡ codes "strict" ∷ codes "support" ∷ list ∷ []) × IsFeatureList list features
+IsServing words Standard Canonical = words ≡ codes "standard" ∷ []
+IsServing words Standard Display = words ≡ codes "standard" ∷ codes "display" ∷ []
+IsServing words Standard (Support features) = (list : List ℕ) × (words ≡ codes "standard" ∷ codes "support" ∷ list ∷ []) × IsFeatureList list features
 
 -- the words of a command
 abbrev pub IsCommand : List (List ℕ) → Command → Type 0
-IsCommand words (Serve answering) = IsServing words answering
+IsCommand words (Serve service) = IsServing words service.dialect service.answering
 IsCommand words (Generate seed count) = IsGen words seed count
 IsCommand words (Print notice) = words ≡ notice_word notice ∷ []
 

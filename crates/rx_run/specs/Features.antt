@@ -1,8 +1,11 @@
 -- Lists of what an engine may not support.
-use Rattle.std.specs.Prelude.{◌≡◌, ◌≢◌, ◌≤◌, ◌↔◌, ℕ, Bool, IsTrue, List, length, map, codes, AllPairs, Contains}
+use Rattle.std.specs.Prelude.{◌≡◌, ◌≢◌, ◌≤◌, ◌↔◌, ℕ, Bool, ◌&&◌, ◌||◌, IsTrue, List, length, map, codes, AllPairs, Contains}
 use Rattle.std.specs.List.{join_with_byte}
+use Rattle.rx_ast.specs.Kinds.{Kind}
+use Rattle.rx_visit.specs.Buffers.{has_buffer_boundaries}
+use Rattle.rx_visit.specs.Patterns.{is_refused_pattern}
 use Rattle.rx_run.specs.declared.features.Feature.{Feature}
-use Rattle.rx_run.specs.declared.features.Feature.TheVariants.{Sticky, Unicode, DotAll, MatchIndices, UnicodeSets, NamedCaptureGroups, DuplicateNamedCaptureGroups, UnicodePropertyEscapes, LookBehindAssertions, PatternModifiers}
+use Rattle.rx_run.specs.declared.features.Feature.TheVariants.{Sticky, Unicode, DotAll, MatchIndices, UnicodeSets, NamedCaptureGroups, DuplicateNamedCaptureGroups, UnicodePropertyEscapes, LookBehindAssertions, PatternModifiers, BufferBoundaries}
 use Rattle.rx_run.specs.declared.features.Features.{Features}
 
 abbrev pub feature_name : Feature → List ℕ
@@ -16,6 +19,7 @@ feature_name DuplicateNamedCaptureGroups = codes "duplicate_named_capture_groups
 feature_name UnicodePropertyEscapes = codes "unicode_property_escapes"
 feature_name LookBehindAssertions = codes "look_behind_assertions"
 feature_name PatternModifiers = codes "pattern_modifiers"
+feature_name BufferBoundaries = codes "buffer_boundaries"
 
 -- whether the field of a feature is set
 abbrev pub has_feature : Features → Feature → Bool
@@ -29,6 +33,7 @@ has_feature set DuplicateNamedCaptureGroups = set.patterns.duplicate_named_captu
 has_feature set UnicodePropertyEscapes = set.patterns.unicode_property_escapes
 has_feature set LookBehindAssertions = set.patterns.look_behind_assertions
 has_feature set PatternModifiers = set.patterns.pattern_modifiers
+has_feature set BufferBoundaries = set.buffer_boundaries
 
 -- The word is the names of some features with commas between, at least one feature and none twice, and exactly their fields are set.
 pub record IsFeatureList (word : List ℕ) (features : Features) : Type 0 where
@@ -37,3 +42,7 @@ pub record IsFeatureList (word : List ℕ) (features : Features) : Type 0 where
   pub once : AllPairs (λ one other. one ≢ other) listed
   pub word_is : word ≡ join_with_byte 44 (map feature_name listed)
   pub set_are : (feature : Feature) → IsTrue (has_feature features feature) ↔ Contains listed feature
+
+-- one of these nodes of a pattern has one of the features
+abbrev pub needs_feature : Features → List Kind → Bool
+needs_feature features ks = is_refused_pattern features.patterns ks || (features.buffer_boundaries && has_buffer_boundaries ks)

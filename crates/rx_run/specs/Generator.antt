@@ -1,5 +1,5 @@
 -- The patterns that the command `gen` makes, and what it writes.
-use Rattle.std.specs.Prelude.{◌≡◌, ℕ, zero, suc, ◌+◌, ◌*◌, ◌/◌, ◌%◌, List, [], ◌∷◌, ◌++◌, length, slice_index_or, codes, encode_utf8_all}
+use Rattle.std.specs.Prelude.{◌≡◌, ℕ, zero, suc, ◌+◌, ◌*◌, ◌/◌, ◌%◌, false, List, [], ◌∷◌, ◌++◌, length, slice_index_or, codes, encode_utf8_all}
 use Rattle.std.specs.Fmt.{decimal}
 use Rattle.std.specs.List.{AllZip, sum}
 use Rattle.rx_ast.specs.declared.term.Pattern.{Pattern}
@@ -8,6 +8,7 @@ use Rattle.rx_model.specs.declared.mode.Mode.TheVariants.{Unicode}
 use Rattle.rx_model.specs.Inputs.Inputs.{Input, literal_alone}
 use Rattle.rx_model.specs.Reading.Headline.{IsReadAs}
 use Rattle.rx_model.specs.Spelling.Spelling.{spelling}
+use Rattle.rx_run.specs.Reply.{both_rules}
 
 -- what a draw makes of the state
 abbrev pub next_state : ℕ → ℕ
@@ -52,7 +53,7 @@ patterns (suc n) x = pattern_text x ∷ patterns n (state_after_pattern x)
 
 -- what is to be read: a literal by itself, under the flag `u`
 abbrev pub asked : List ℕ → Input
-asked text = literal_alone text Unicode
+asked text = literal_alone text Unicode both_rules false
 
 -- some draws make this pattern
 abbrev pub IsGenerated : List ℕ → Type 0

@@ -9,17 +9,21 @@ use Rattle.rx_ast.specs.Forget.{bare}
 use Rattle.rx_ast.specs.Kinds.{order, pattern as pattern_kind}
 use Rattle.rx_ast.specs.Tree.{mirror}
 use Rattle.rx_visit.specs.Flags.{are_refused_flags}
-use Rattle.rx_visit.specs.Patterns.{is_refused_pattern}
 use Rattle.rx_ast.specs.Shown.{pattern_shown}
 use Rattle.rx_model.specs.declared.form.Form.{Form}
 use Rattle.rx_model.specs.declared.form.Form.TheVariants.{Literal}
 use Rattle.rx_model.specs.declared.mode.Mode.{Mode}
 use Rattle.rx_model.specs.declared.mode.Mode.TheVariants.{Legacy, Unicode, Sets}
+use Rattle.rx_model.specs.declared.rules.Rules.{Rules}
 use Rattle.rx_model.specs.Reading.Headline.{IsFirstRefusal, IsReadAs, IsValid}
 use Rattle.rx_model.specs.Inputs.Inputs.{Input}
 use Rattle.rx_model.specs.Spelling.Spelling.{spelling}
 use Rattle.rx_run.specs.declared.answer.Answering.{Answering}
 use Rattle.rx_run.specs.declared.answer.Answering.TheVariants.{Canonical, Display, Support}
+use Rattle.rx_run.specs.declared.dialect.Dialect.{Dialect}
+use Rattle.rx_run.specs.declared.dialect.Dialect.TheVariants.{Default, Strict, Standard}
+use Rattle.rx_run.specs.declared.service.Service.{Service}
+use Rattle.rx_run.specs.Features.{needs_feature}
 use Rattle.rx_run.specs.Request.{Request, IsRequest}
 use Rattle.rx_run.specs.Spans.{spans_text}
 
@@ -57,15 +61,34 @@ abbrev pub ok_reply : Answering → Request → Mode → Pattern → List ℕ
 ok_reply Canonical request mode pattern = canonical_reply mode (spelling (bare pattern) mode)
 ok_reply Display request mode pattern = display_reply mode (encode_utf8_all (pattern_shown pattern))
 ok_reply (Support features) request mode pattern =
-    support_reply (are_refused_flags features.flags (flags_bytes request.flags)) (is_refused_pattern features.patterns (order (pattern_kind (mirror pattern))))
+    support_reply (are_refused_flags features.flags (flags_bytes request.flags)) (needs_feature features (order (pattern_kind (mirror pattern))))
 
 -- the name and the spans of a refusal
 abbrev pub err_reply : Diagnostic → List ℕ
 err_reply cause = codes "err\t" ++ name_of cause ++ codes "\t" ++ spans_text cause ++ codes "\n"
 
+-- both rules, and neither
+abbrev pub both_rules : Rules
+both_rules = record { duplicate_names = true; buffer_boundaries = true }
+
+abbrev pub neither_rule : Rules
+neither_rule = record { duplicate_names = false; buffer_boundaries = false }
+
+-- the rules that requests are read under
+abbrev pub rules_for : Dialect → Rules
+rules_for Default = both_rules
+rules_for Strict = neither_rule
+rules_for Standard = both_rules
+
+-- whether the arguments of RegExp are read as the standard has them
+abbrev pub is_standard : Dialect → Bool
+is_standard Default = false
+is_standard Strict = false
+is_standard Standard = true
+
 -- what is to be read: the request's text and flags, by themselves
-abbrev pub input_of : Request → Input
-input_of request = record { form = request.form; text = request.text; flags = request.flags; text_offset = 0; flags_offset = 0 }
+abbrev pub input_of : Dialect → Request → Input
+input_of dialect request = record { form = request.form; text = request.text; flags = request.flags; text_offset = 0; flags_offset = 0; rules = rules_for dialect; standard_strings = is_standard dialect }
 
 -- the forms that are answered: `support` takes the flags as they stand in the field, where a literal has them
 abbrev pub IsAnswerable : Answering → Form → Type 0
@@ -80,12 +103,16 @@ pub record IsAsked (answering : Answering) (line : List ℕ) (request : Request)
 
 -- The reply to a line: nothing that is answered is asked in it; or what is asked is read; or its flags or text are refused, so that it is no valid one, with
 -- the first refusal.
-pub data IsReply (answering : Answering) (line : List ℕ) : List ℕ → Type 0 where
-  bad : ((request : Request) → ¬ IsAsked answering line request) → IsReply answering line bad_reply
-  ok : (request : Request) (mode : Mode) (pattern : Pattern) → IsAsked answering line request → IsReadAs (input_of request) mode pattern
-      → IsReply answering line (ok_reply answering request mode pattern)
-  err : (request : Request) (refusal : Diagnostic) → IsAsked answering line request → ¬ IsValid (input_of request) → IsFirstRefusal (input_of request) refusal
-      → IsReply answering line (err_reply refusal)
+pub data IsReply (service : Service) (line : List ℕ) : List ℕ → Type 0 where
+  bad : ((request : Request) → ¬ IsAsked service.answering line request) → IsReply service line bad_reply
+  ok : (request : Request) (mode : Mode) (pattern : Pattern) → IsAsked service.answering line request → IsReadAs (input_of service.dialect request) mode pattern
+      → IsReply service line (ok_reply service.answering request mode pattern)
+  err : (request : Request) (refusal : Diagnostic) → IsAsked service.answering line request → ¬ IsValid (input_of service.dialect request) → IsFirstRefusal (input_of service.dialect request) refusal
+      → IsReply service line (err_reply refusal)
+
+-- how lines are answered without words
+abbrev pub without_words : Service
+without_words = record { dialect = Default; answering = Canonical }
 
 -- a reply that says `ok`
 abbrev pub begins_ok : List ℕ → Bool

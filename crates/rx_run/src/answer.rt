@@ -1,11 +1,15 @@
-ghost use Rattle.std.specs.Prelude.{◌↔◌, ◌≡◌, ◌≤◌, IsTrue, MatchOption, IfSome, length};
+ghost use Rattle.std.specs.Prelude.{◌↔◌, ◌≡◌, ◌≤◌, ◌∷◌, [], IsTrue, MatchOption, IfSome, codes, length};
 ghost use Rattle.rx_parser.specs.Inputs.{flags_chars, flags_length};
 ghost use Rattle.std.specs.Str.{chars};
+ghost use Rattle.rx_run.specs.declared.answer.Answering.{Answering as Answers};
+ghost use Rattle.rx_run.specs.declared.dialect.Dialect.TheVariants.{Default};
+ghost use Rattle.rx_run.specs.Command.{IsServing};
 ghost use Rattle.rx_run.specs.Reply.{IsAnswerable, IsAsked};
 ghost use Rattle.rx_run.specs.Request.{Request as Asked};
 
 use crate::features::Features;
 use crate::request::Request;
+use rx_base::Text;
 use rx_tools::Form;
 
 /// What is said of a request that is read.
@@ -22,6 +26,20 @@ pub enum Answering {
 }
 
 impl Answering {
+    /// What is said with these words, which no word for options precedes, or none where the words are not of those lists.
+    pub fn parse(words: &[Text]) -> Option<Answering>
+        ensures { MatchOption result
+            ((answering : Answers) → ¬ IsServing words.now Default answering)
+            (λ answering. IsServing words.now Default answering) }
+    {
+        match words {
+            [] => Some(Answering::Canonical),
+            [word] => display(word.as_str()),
+            [name, list] => support(name.as_str(), list.as_str()),
+            _ => None,
+        }
+    }
+
     /// Whether requests of this form are answered.
     fn takes(&self, form: Form) -> bool
         ensures { IsTrue result ↔ IsAnswerable self.now form }
@@ -46,4 +64,35 @@ impl Answering {
         }
         Some(request)
     }
+}
+
+/// What is said with this word, or none where it is not `display`.
+fn display(word: &str) -> Option<Answering>
+    ensures { MatchOption result
+        ((answering : Answers) → ¬ IsServing (chars word.now ∷ []) Default answering)
+        (λ answering. IsServing (chars word.now ∷ []) Default answering) }
+{
+    match word {
+        "display" => Some(Answering::Display),
+        _ => None,
+    }
+}
+
+/// What is said with these two words, or none where they are not `support` and a list of features.
+fn support(name: &str, list: &str) -> Option<Answering>
+    ensures { MatchOption result
+        ((answering : Answers) → ¬ IsServing (chars name.now ∷ chars list.now ∷ []) Default answering)
+        (λ answering. IsServing (chars name.now ∷ chars list.now ∷ []) Default answering) }
+{
+    if !is_support(name) {
+        return None;
+    }
+    let features = Features::parse(list)?;
+    Some(Answering::Support(features))
+}
+
+fn is_support(word: &str) -> bool
+    ensures { IsTrue result ↔ (word.now ≡ codes "support") }
+{
+    word == "support"
 }

@@ -3,12 +3,12 @@ ghost use Rattle.std.specs.Char.{is_ascii_digit};
 ghost use Rattle.std.specs.List.{list_all};
 ghost use Rattle.std.specs.Str.{chars};
 ghost use Rattle.rx_run.specs.declared.command.Command.{Command as Commands};
-ghost use Rattle.rx_run.specs.declared.features.Features.{Features as Listed};
-ghost use Rattle.rx_run.specs.Command.{IsCommand, IsDecimal, IsGen, IsSupport};
+ghost use Rattle.rx_run.specs.declared.notice.Notice.{Notice as Notices};
+ghost use Rattle.rx_run.specs.Command.{IsCommand, IsDecimal, IsGen};
+ghost use Rattle.rx_run.specs.Notices.{notice_word};
 
-use crate::answer::Answering;
-use crate::features::Features;
 use crate::notice::Notice;
+use crate::service::Service;
 use rx_base::Text;
 
 /// The longest decimal that is read, in digits.
@@ -23,8 +23,8 @@ const COUNT_LIMIT: u64 = 20000;
 /// What the words after the program's name ask for.
 #[derive(Debug, Drop)]
 pub enum Command {
-    /// No words, `display`, or `support LIST`: the lines of the input are answered.
-    Serve(Answering),
+    /// No words, `display` or `support LIST`, or `strict` or `standard` and one of these lists: the lines of the input are answered.
+    Serve(Service),
 
     /// `gen SEED COUNT`: n patterns are made from this seed, and spelled.
     Generate { seed: u32, count: u32 },
@@ -40,51 +40,43 @@ impl Command {
             ((command : Commands) → ¬ IsCommand words.now command)
             (λ command. IsCommand words.now command) }
     {
-        match words {
-            [] => Some(Command::Serve(Answering::Canonical)),
-            [word] => one_word(word.as_str()),
-            [name, list] => support(name.as_str(), list.as_str()),
-            [name, seed, count] => generation(name.as_str(), seed.as_str(), count.as_str()),
-            _ => None,
+        if let Some(notice) = notice(words) {
+            return Some(Command::Print(notice));
         }
+        if let Some(command) = generation(words) {
+            return Some(command);
+        }
+        let service = Service::parse(words)?;
+        Some(Command::Serve(service))
     }
 }
 
-/// The command with this word, or none where it is none of those that stand alone.
-fn one_word(word: &str) -> Option<Command>
+/// The text that these words ask for, or none where they ask for none.
+fn notice(words: &[Text]) -> Option<Notice>
     ensures { MatchOption result
-        ((command : Commands) → ¬ IsCommand (chars word.now ∷ []) command)
-        (λ command. IsCommand (chars word.now ∷ []) command) }
+        ((notice : Notices) → ¬ (words.now ≡ notice_word notice ∷ []))
+        (λ notice. words.now ≡ notice_word notice ∷ []) }
 {
-    match word {
-        "display" => Some(Command::Serve(Answering::Display)),
-        "--help" => Some(Command::Print(Notice::Help)),
-        "--version" => Some(Command::Print(Notice::Version)),
+    match words {
+        [word] => Notice::named(word.as_str()),
         _ => None,
     }
 }
 
-/// The command with these two words, or none where they are not `support` and a list of features.
-fn support(name: &str, list: &str) -> Option<Command>
+/// The command with these words, or none where they are not `gen`, a seed and a count.
+fn generation(words: &[Text]) -> Option<Command>
     ensures { MatchOption result
-        ((features : Listed) → ¬ IsSupport (chars name.now ∷ chars list.now ∷ []) features)
-        (λ command. IsCommand (chars name.now ∷ chars list.now ∷ []) command) }
+        ((seed count : ℕ) → ¬ IsGen words.now seed count)
+        (λ command. IsCommand words.now command) }
 {
-    if !is_support(name) {
-        return None;
+    match words {
+        [name, seed, count] => three_words(name.as_str(), seed.as_str(), count.as_str()),
+        _ => None,
     }
-    let features = Features::parse(list)?;
-    Some(Command::Serve(Answering::Support(features)))
-}
-
-fn is_support(word: &str) -> bool
-    ensures { IsTrue result ↔ (word.now ≡ codes "support") }
-{
-    word == "support"
 }
 
 /// The command with these three words, or none where they are not `gen`, a seed and a count.
-fn generation(name: &str, seed: &str, count: &str) -> Option<Command>
+fn three_words(name: &str, seed: &str, count: &str) -> Option<Command>
     ensures { MatchOption result
         ((seed_value count_value : ℕ) → ¬ IsGen (chars name.now ∷ chars seed.now ∷ chars count.now ∷ []) seed_value count_value)
         (λ command. IsCommand (chars name.now ∷ chars seed.now ∷ chars count.now ∷ []) command) }

@@ -1,9 +1,17 @@
-ghost use Rattle.std.specs.Prelude.{◌≡◌, ◌||◌, ◌↔◌, ◌⊎◌, IsTrue, MatchOption, false};
+ghost use Rattle.std.specs.Prelude.{◌≡◌, ◌||◌, ◌↔◌, ◌⊎◌, IsTrue, MatchOption, IfOk, false};
+ghost use Rattle.rx_ast.specs.Kinds.{order, pattern as pattern_kind};
+ghost use Rattle.rx_ast.specs.Tree.{mirror};
 ghost use Rattle.rx_run.specs.declared.features.Feature.{Feature as Named};
 ghost use Rattle.rx_run.specs.declared.features.Features.{Features as Listed};
-ghost use Rattle.rx_run.specs.Features.{IsFeatureList, feature_name, has_feature};
+ghost use Rattle.rx_run.specs.Features.{IsFeatureList, feature_name, has_feature, needs_feature};
 
-use rx_tools::support::{RegexUnsupportedFlags, RegexUnsupportedPatterns};
+use rx_ast::Pattern;
+use rx_base::OutOfMemory;
+use rx_tools::support::{
+    RegexUnsupportedFlags, RegexUnsupportedPatterns, has_buffer_boundaries_in,
+    has_unsupported_regular_expression_pattern_in,
+};
+use std::alloc::Global;
 
 /// What an engine may not support of flags and of patterns.
 #[derive(Clone, Copy)]
@@ -18,6 +26,7 @@ enum Feature {
     UnicodePropertyEscapes,
     LookBehindAssertions,
     PatternModifiers,
+    BufferBoundaries,
 }
 
 impl Feature {
@@ -38,6 +47,7 @@ impl Feature {
             "unicode_property_escapes" => Some(Feature::UnicodePropertyEscapes),
             "look_behind_assertions" => Some(Feature::LookBehindAssertions),
             "pattern_modifiers" => Some(Feature::PatternModifiers),
+            "buffer_boundaries" => Some(Feature::BufferBoundaries),
             _ => None,
         }
     }
@@ -48,6 +58,9 @@ impl Feature {
 pub struct Features {
     pub flags: RegexUnsupportedFlags,
     pub patterns: RegexUnsupportedPatterns,
+
+    /// `\A`, `\z` and `\Z`
+    pub buffer_boundaries: bool,
 }
 
 impl Features {
@@ -75,6 +88,20 @@ impl Features {
         Some(features)
     }
 
+    /// Whether a pattern needs one of these features.
+    pub fn are_needed(&self, alloc: Global, pattern: &Pattern) -> Result<bool, OutOfMemory>
+        ensures { IfOk result (λ needed. needed ≡ needs_feature self.now (order (pattern_kind (mirror pattern.now)))) }
+    {
+        if has_unsupported_regular_expression_pattern_in(alloc, pattern, &self.patterns)? {
+            return Ok(true);
+        }
+        if self.buffer_boundaries {
+            has_buffer_boundaries_in(alloc, pattern)
+        } else {
+            Ok(false)
+        }
+    }
+
     fn has(&self, feature: Feature) -> bool
         ensures { result ≡ has_feature self.now feature }
     {
@@ -89,6 +116,7 @@ impl Features {
             Feature::UnicodePropertyEscapes => self.patterns.unicode_property_escapes,
             Feature::LookBehindAssertions => self.patterns.look_behind_assertions,
             Feature::PatternModifiers => self.patterns.pattern_modifiers,
+            Feature::BufferBoundaries => self.buffer_boundaries,
         }
     }
 
@@ -109,6 +137,7 @@ impl Features {
             Feature::UnicodePropertyEscapes => self.patterns.unicode_property_escapes = true,
             Feature::LookBehindAssertions => self.patterns.look_behind_assertions = true,
             Feature::PatternModifiers => self.patterns.pattern_modifiers = true,
+            Feature::BufferBoundaries => self.buffer_boundaries = true,
         }
     }
 }

@@ -1,5 +1,7 @@
-ghost use Rattle.std.specs.Prelude.{◌≡◌};
-ghost use Rattle.rx_run.specs.Notices.{notice_text};
+ghost use Rattle.std.specs.Prelude.{◌≡◌, MatchOption};
+ghost use Rattle.std.specs.Str.{chars};
+ghost use Rattle.rx_run.specs.declared.notice.Notice.{Notice as Notices};
+ghost use Rattle.rx_run.specs.Notices.{notice_text, notice_word};
 
 /// What `--help` writes.
 pub const HELP: &str =
@@ -21,9 +23,11 @@ Words:
                    with the text that Display writes of the pattern, and the number of its bytes
   support LIST     as without words, but an ok reply is  ok <TAB> F <TAB> P
                    F is 1 where a flag is of the list, P is 1 where something of the pattern is; else 0. A line of
-                   form C is bad. LIST is one or more of these, with commas between, none twice:
-                   sticky, unicode, dot_all, match_indices, unicode_sets, named_capture_groups,
-                   duplicate_named_capture_groups, unicode_property_escapes, look_behind_assertions, pattern_modifiers
+                   form C is bad. LIST is one or more of these, with commas between, none twice: sticky, unicode, dot_all,
+                   match_indices, unicode_sets, named_capture_groups, duplicate_named_capture_groups,
+                   unicode_property_escapes, look_behind_assertions, pattern_modifiers, buffer_boundaries
+  strict           before one of these, or alone: no two groups may have one name, and \A, \z and \Z are no boundaries
+  standard         before one of these, or alone: the arguments of a line of form C are read as ECMA-262 has them
   gen SEED COUNT   reads nothing; makes COUNT patterns (1 to 20000) from a SEED below 2147483648, reads and spells each,
                    and writes how many there were, how many were read, and how many bytes their spellings have
   --help           writes this text
@@ -55,6 +59,19 @@ pub enum Notice {
 }
 
 impl Notice {
+    /// The text that this word asks for, or none.
+    pub fn named(word: &str) -> Option<Notice>
+        ensures { MatchOption result
+            ((notice : Notices) → ¬ (chars word.now ≡ notice_word notice))
+            (λ notice. chars word.now ≡ notice_word notice) }
+    {
+        match word {
+            "--help" => Some(Notice::Help),
+            "--version" => Some(Notice::Version),
+            _ => None,
+        }
+    }
+
     #[tactic(auto, unfolding(crate::specs::Notices::notice_text))]
     pub fn text(self) -> &'static str
         ensures { result.now ≡ notice_text self }

@@ -1,10 +1,9 @@
 //! The program over memory: what its statuses say there.
 ghost use Rattle.std.specs.Prelude.{◌≡◌, ◌≢◌, ◌<◌, ℕ, List as Sequence, true, false, IfOk, length, ◌++◌};
 ghost use Rattle.std.specs.List.{AllZip, concat};
-ghost use Rattle.rx_run.specs.declared.answer.Answering.TheVariants.{Canonical};
 ghost use Rattle.rx_run.specs.Outcome.{IsAnswered};
 ghost use Rattle.rx_run.specs.Lines.{lines_of};
-ghost use Rattle.rx_run.specs.Reply.{IsReply};
+ghost use Rattle.rx_run.specs.Reply.{IsReply, without_words};
 
 use crate::run::{Status, run};
 use rx_base::{CleanSink, CleanSource, List, MemorySink, OutOfMemory, Text};
@@ -26,15 +25,15 @@ pub fn replies(
     input: &[u8],
     room: usize,
 ) -> Result<(Status, MemorySink), OutOfMemory>
-    ensures all_ok { IfOk result (λ p. p.0 ≡ Status.AllOk → IsAnswered Canonical input.now p.1.taken true) }
-    ensures some_refused { IfOk result (λ p. p.0 ≡ Status.SomeRefused → IsAnswered Canonical input.now p.1.taken false) }
+    ensures all_ok { IfOk result (λ p. p.0 ≡ Status.AllOk → IsAnswered without_words input.now p.1.taken true) }
+    ensures some_refused { IfOk result (λ p. p.0 ≡ Status.SomeRefused → IsAnswered without_words input.now p.1.taken false) }
     ensures usage { IfOk result (λ p. p.0 ≢ Status.Usage) }
     ensures read_fault { IfOk result (λ p. p.0 ≢ Status.ReadFault) }
     ensures too_much { IfOk result (λ p. p.0 ≡ Status.TooMuch → 67108864 < length input.now) }
 
     // The replies to the first lines take more than the room.
     ensures write_fault { IfOk result (λ p. p.0 ≡ Status.WriteFault → (read left : Sequence ℕ) × (lines later replies : Sequence (Sequence ℕ))
-        × (input.now ≡ read ++ left) × (lines_of read ≡ lines ++ later) × AllZip (IsReply Canonical) lines replies × (room < length (concat replies))) }
+        × (input.now ≡ read ++ left) × (lines_of read ≡ lines ++ later) × AllZip (IsReply without_words) lines replies × (room < length (concat replies))) }
 {
     let words: List<Text> = List::new(alloc);
     let mut source = CleanSource::new(input);

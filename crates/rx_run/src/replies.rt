@@ -5,23 +5,22 @@ ghost use Rattle.rx_ast.specs.Forget.{bare};
 ghost use Rattle.rx_ast.specs.Kinds.{order, pattern as pattern_kind};
 ghost use Rattle.rx_ast.specs.Tree.{mirror};
 ghost use Rattle.rx_visit.specs.Flags.{are_refused_flags};
-ghost use Rattle.rx_visit.specs.Patterns.{is_refused_pattern};
 ghost use Rattle.rx_ast.specs.Shown.{pattern_shown};
 ghost use Rattle.rx_model.specs.Spelling.Spelling.{spelling};
 ghost use Rattle.rx_parser.specs.Inputs.{flags_chars};
 ghost use Rattle.rx_run.specs.Reply.{IsReply, begins_ok, canonical_reply, display_reply, err_reply, mode_name, ok_reply, support_reply};
+ghost use Rattle.rx_run.specs.Features.{needs_feature};
 
 use crate::answer::Answering;
 use crate::decimal::add_decimal;
 use crate::features::Features;
 use crate::request::Request;
+use crate::service::Service;
 use crate::spans::add_spans;
 use rx_ast::Pattern;
 use rx_base::{Diagnostic, Failed, Fault, List, OutOfMemory, Sink, write_all};
-use rx_tools::support::{
-    has_unsupported_regular_expression_flags, has_unsupported_regular_expression_pattern_in,
-};
-use rx_tools::{Mode, Options, append_canonical, display_text, read_pattern};
+use rx_tools::support::has_unsupported_regular_expression_flags;
+use rx_tools::{Mode, append_canonical, display_text, read_pattern};
 use std::alloc::Global;
 
 /// The replies that are to be written next, and whether all replies so far begin with `ok`. The memory is used again after a write.
@@ -43,21 +42,16 @@ impl Replies {
     }
 
     /// Adds the reply to a line. After a refusal a part of the reply may stand at the end.
-    pub fn add(
-        &mut self,
-        alloc: Global,
-        answering: &Answering,
-        line: &[u8],
-    ) -> Result<(), OutOfMemory>
-        ensures { OnOk result ((reply : Sequence ℕ) × IsReply answering.now line.now reply
+    pub fn add(&mut self, alloc: Global, service: &Service, line: &[u8]) -> Result<(), OutOfMemory>
+        ensures { OnOk result ((reply : Sequence ℕ) × IsReply service.now line.now reply
             × (self.new.bytes ≡ self.old.bytes ++ reply) × (self.new.all_ok ≡ (self.old.all_ok && begins_ok reply))) }
     {
-        let Some(request) = answering.asked(line) else {
+        let Some(request) = service.answering.asked(line) else {
             return self.add_refusal(b"bad\n");
         };
-        let options = Options::default();
+        let options = service.dialect.options();
         match read_pattern(alloc, request.form, request.text, request.flags, options) {
-            Ok((pattern, mode)) => self.add_ok(alloc, answering, &request, &pattern, mode),
+            Ok((pattern, mode)) => self.add_ok(alloc, &service.answering, &request, &pattern, mode),
             Err(Fault::Diagnostic(cause)) => self.add_err(&cause),
             Err(Fault::OutOfMemory) => Err(OutOfMemory),
         }
@@ -144,15 +138,11 @@ impl Replies {
         pattern: &Pattern,
     ) -> Result<(), OutOfMemory>
         ensures bytes { OnOk result (self.new.bytes ≡ self.old.bytes ++ support_reply
-            (are_refused_flags features.now.flags flags.now) (is_refused_pattern features.now.patterns (order (pattern_kind (mirror pattern.now))))) }
+            (are_refused_flags features.now.flags flags.now) (needs_feature features.now (order (pattern_kind (mirror pattern.now))))) }
         ensures all_ok { self.new.all_ok ≡ self.old.all_ok }
     {
         let of_flags = has_unsupported_regular_expression_flags(flags, &features.flags);
-        let of_pattern = has_unsupported_regular_expression_pattern_in(
-            alloc,
-            pattern,
-            &features.patterns,
-        )?;
+        let of_pattern = features.are_needed(alloc, pattern)?;
         self.bytes
             .extend_from_slice(support_reply(of_flags, of_pattern).as_bytes())
     }

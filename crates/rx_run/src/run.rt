@@ -1,7 +1,7 @@
 ghost use Rattle.std.specs.Prelude.{◌≡◌, ◌≢◌, ◌≤◌, ◌<◌, ◌+◌, ◌↔◌, ℕ, [], OnOk, IsErrOf};
 ghost use Rattle.std.specs.Io.KnownBytes.{IsAtEnd};
 ghost use Rattle.rx_base.specs.FaultCounts.{Rose};
-ghost use Rattle.rx_run.specs.declared.answer.Answering.{Answering as Answers};
+ghost use Rattle.rx_run.specs.declared.service.Service.{Service as Services};
 ghost use Rattle.rx_run.specs.declared.notice.Notice.{Notice as Notices};
 ghost use Rattle.rx_run.specs.Command.{IsCommand, IsGen, IsStated};
 ghost use Rattle.rx_run.specs.Generator.{IsGenOutput};
@@ -10,11 +10,11 @@ ghost use Rattle.rx_run.specs.Outcome.{ReadsAndWrites};
 ghost use Rattle.rx_run.specs.Status.{Outcome, IsFinished, PrintOutcome, Prints, number_of};
 ghost use Rattle.rx_run.specs.Served.{IsServed};
 
-use crate::answer::Answering;
 use crate::command::Command;
 use crate::generator::generate;
 use crate::input::{Input, InputFault};
 use crate::server::{ReplyFault, Server};
+use crate::service::Service;
 use rx_base::{Failed, OutOfMemory, Sink, Source, Text, write_all};
 use std::alloc::Global;
 
@@ -121,12 +121,12 @@ impl From<OutOfMemory> for Status {
 /// Reads the input to its end, answers each line, and says whether each reply begins with `ok`.
 fn serve<S: Source, K: Sink>(
     alloc: Global,
-    answering: &Answering,
+    service: &Service,
     source: &mut S,
     sink: &mut K,
 ) -> Result<bool, Interruption>
     ensures content { ReadsAndWrites (S.left source.old) (S.left source.new) (S.drawn source.old) (S.drawn source.new)
-        (K.taken sink.old) (K.taken sink.new) (IsServed answering.now result) }
+        (K.taken sink.old) (K.taken sink.new) (IsServed service.now result) }
     ensures end { OnOk result (IsAtEnd (S.left source.new)) }
 
     ensures fixed { K.fixed sink.new ≡ K.fixed sink.old }
@@ -139,22 +139,22 @@ fn serve<S: Source, K: Sink>(
     'chunks: loop {
         let count = input.fill(source)?;
         if count == 0 {
-            let all_ok = server.finish(alloc, answering, sink)?;
+            let all_ok = server.finish(alloc, service, sink)?;
             return Ok(all_ok);
         }
-        server.feed(alloc, answering, input.bytes(count), sink)?;
+        server.feed(alloc, service, input.bytes(count), sink)?;
     }
 }
 
 /// Answers the lines of the input.
 fn run_serve<S: Source, K: Sink>(
     alloc: Global,
-    answering: &Answering,
+    service: &Service,
     source: &mut S,
     sink: &mut K,
 ) -> Status
     ensures content { ReadsAndWrites (S.left source.old) (S.left source.new) (S.drawn source.old) (S.drawn source.new)
-        (K.taken sink.old) (K.taken sink.new) (Outcome answering.now result) }
+        (K.taken sink.old) (K.taken sink.new) (Outcome service.now result) }
     ensures end { IsFinished result → IsAtEnd (S.left source.new) }
     ensures usage { result ≢ Status.Usage }
     ensures fixed { K.fixed sink.new ≡ K.fixed sink.old }
@@ -162,7 +162,7 @@ fn run_serve<S: Source, K: Sink>(
     ensures write_fault { result ≡ Status.WriteFault → Rose (K.faults sink.old) (K.faults sink.new) }
     ensures too_much { (result ≡ Status.TooMuch) ↔ (S.drawn source.old + 67108864 < S.drawn source.new) }
 {
-    match serve(alloc, answering, source, sink) {
+    match serve(alloc, service, source, sink) {
         Ok(true) => Status::AllOk,
         Ok(false) => Status::SomeRefused,
         Err(Interruption::OutOfMemory) => Status::OutOfMemory,
@@ -200,8 +200,8 @@ fn run_print<K: Sink>(text: &str, sink: &mut K) -> Status
     }
 }
 
-/// Does all that the program does, for the words after its name. The stated lists of words are none, `display`, `support LIST`,
-/// `gen SEED COUNT`, `--help` and `--version`.
+/// Does all that the program does, for the words after its name. The stated lists of words are none, `display` and `support LIST`, each
+/// also after `strict` or `standard`; and `gen SEED COUNT`, `--help` and `--version`.
 pub fn run<S: Source, K: Sink>(
     alloc: Global,
     words: &[Text],
@@ -210,10 +210,10 @@ pub fn run<S: Source, K: Sink>(
 ) -> Status
     // What was read and written where the lines are answered: where the input was read to its end, one reply to each line, in order, and
     // nothing else; else the front of the replies to the first lines.
-    ensures content { (answering : Answers) → IsCommand words.now (Command.Serve answering)
+    ensures content { (service : Services) → IsCommand words.now (Command.Serve service)
         → ReadsAndWrites (S.left source.old) (S.left source.new) (S.drawn source.old) (S.drawn source.new)
-        (K.taken sink.old) (K.taken sink.new) (Outcome answering result) }
-    ensures end { (answering : Answers) → IsCommand words.now (Command.Serve answering) → IsFinished result → IsAtEnd (S.left source.new) }
+        (K.taken sink.old) (K.taken sink.new) (Outcome service result) }
+    ensures end { (service : Services) → IsCommand words.now (Command.Serve service) → IsFinished result → IsAtEnd (S.left source.new) }
 
     // With the words of `gen` nothing is read, and the line is written, or a front of it, or nothing.
     ensures generated { (seed count : ℕ) → IsGen words.now seed count → Prints K.taken source.old source.new sink.old sink.new (IsGenOutput seed count) result }
@@ -232,7 +232,7 @@ pub fn run<S: Source, K: Sink>(
 {
     match Command::parse(words) {
         None => Status::Usage,
-        Some(Command::Serve(answering)) => run_serve(alloc, &answering, source, sink),
+        Some(Command::Serve(service)) => run_serve(alloc, &service, source, sink),
         Some(Command::Generate { seed, count }) => run_generate(alloc, seed, count, sink),
         Some(Command::Print(notice)) => run_print(notice.text(), sink),
     }

@@ -6,10 +6,10 @@ ghost use Rattle.rx_run.specs.Reply.{IsReply, begins_ok};
 ghost use Rattle.rx_run.specs.Serving.{Serves, Halts, Ends};
 ghost use Rattle.rx_run.specs.Served.{least_missing};
 
-use crate::answer::Answering;
 use crate::line::Line;
 use crate::pieces::split_at_byte;
 use crate::replies::Replies;
+use crate::service::Service;
 use rx_base::{Failed, OutOfMemory, Sink};
 use std::alloc::Global;
 
@@ -68,29 +68,29 @@ impl Server {
     fn end_line(
         &mut self,
         alloc: Global,
-        answering: &Answering,
+        service: &Service,
         piece: &[u8],
     ) -> Result<(), OutOfMemory>
         requires { IsTrue (lacks 10 piece.now) }
         ensures { OnOk result ((new : Sequence ℕ) × (self.new.replies.bytes ≡ self.old.replies.bytes ++ new)
-            × Serves answering.now self.old.line.bytes self.old.replies.all_ok (piece.now ++ 10 ∷ []) new self.new.line.bytes self.new.replies.all_ok) }
+            × Serves service.now self.old.line.bytes self.old.replies.all_ok (piece.now ++ 10 ∷ []) new self.new.line.bytes self.new.replies.all_ok) }
     {
         if self.line.is_empty() {
-            return self.replies.add(alloc, answering, piece);
+            return self.replies.add(alloc, service, piece);
         }
         self.line.keep(piece)?;
-        self.answer(alloc, answering)
+        self.answer(alloc, service)
     }
 
     /// Answers the line, and begins the next.
-    fn answer(&mut self, alloc: Global, answering: &Answering) -> Result<(), OutOfMemory>
-        ensures reply { OnOk result ((reply : Sequence ℕ) × IsReply answering.now self.old.line.bytes reply
+    fn answer(&mut self, alloc: Global, service: &Service) -> Result<(), OutOfMemory>
+        ensures reply { OnOk result ((reply : Sequence ℕ) × IsReply service.now self.old.line.bytes reply
             × (self.new.replies.bytes ≡ self.old.replies.bytes ++ reply)
             × (self.new.replies.all_ok ≡ (self.old.replies.all_ok && begins_ok reply))) }
         ensures line { OnOk result (self.new.line.bytes ≡ []) }
     {
         self.replies
-            .add(alloc, answering, self.line.bytes.as_slice())?;
+            .add(alloc, service, self.line.bytes.as_slice())?;
         self.line.clear();
         Ok(())
     }
@@ -99,15 +99,15 @@ impl Server {
     fn answer_lines(
         &mut self,
         alloc: Global,
-        answering: &Answering,
+        service: &Service,
         bytes: &[u8],
     ) -> Result<(), OutOfMemory>
         ensures { OnOk result ((new : Sequence ℕ) × (self.new.replies.bytes ≡ self.old.replies.bytes ++ new)
-            × Serves answering.now self.old.line.bytes self.old.replies.all_ok bytes.now new self.new.line.bytes self.new.replies.all_ok) }
+            × Serves service.now self.old.line.bytes self.old.replies.all_ok bytes.now new self.new.line.bytes self.new.replies.all_ok) }
     {
         let mut rest = bytes;
         'lines: while let Some((piece, after)) = split_at_byte(b'\n', rest) {
-            self.end_line(alloc, answering, piece)?;
+            self.end_line(alloc, service, piece)?;
             rest = after;
         }
         self.line.keep(rest)
@@ -117,21 +117,21 @@ impl Server {
     pub fn feed<K: Sink>(
         &mut self,
         alloc: Global,
-        answering: &Answering,
+        service: &Service,
         bytes: &[u8],
         sink: &mut K,
     ) -> Result<(), ReplyFault>
         requires { self.old.replies.bytes ≡ [] }
         ensures ok { OnOk result ((new : Sequence ℕ) × Appends (K.taken sink.old) (K.taken sink.new) new
-            × Serves answering.now self.old.line.bytes self.old.replies.all_ok bytes.now new self.new.line.bytes self.new.replies.all_ok) }
+            × Serves service.now self.old.line.bytes self.old.replies.all_ok bytes.now new self.new.line.bytes self.new.replies.all_ok) }
         ensures done { OnOk result (self.new.replies.bytes ≡ []) }
         ensures err { IfErr result (λ fault. (part : Sequence ℕ) × Appends (K.taken sink.old) (K.taken sink.new) part
-            × Halts answering.now self.old.line.bytes bytes.now part (least_missing fault)) }
+            × Halts service.now self.old.line.bytes bytes.now part (least_missing fault)) }
         ensures fixed { K.fixed sink.new ≡ K.fixed sink.old }
         ensures later { K.faults sink.old ≤ K.faults sink.new }
         ensures write { IsErrOf result ReplyFault.Write → Rose (K.faults sink.old) (K.faults sink.new) }
     {
-        self.answer_lines(alloc, answering, bytes)?;
+        self.answer_lines(alloc, service, bytes)?;
         self.replies.write(sink)?;
         Ok(())
     }
@@ -140,14 +140,14 @@ impl Server {
     pub fn finish<K: Sink>(
         &mut self,
         alloc: Global,
-        answering: &Answering,
+        service: &Service,
         sink: &mut K,
     ) -> Result<bool, ReplyFault>
         requires { self.old.replies.bytes ≡ [] }
         ensures ok { IfOk result (λ ok. (new : Sequence ℕ) × Appends (K.taken sink.old) (K.taken sink.new) new
-            × Ends answering.now self.old.line.bytes self.old.replies.all_ok new ok) }
+            × Ends service.now self.old.line.bytes self.old.replies.all_ok new ok) }
         ensures err { IfErr result (λ fault. (part : Sequence ℕ) × Appends (K.taken sink.old) (K.taken sink.new) part
-            × Halts answering.now self.old.line.bytes [] part (least_missing fault)) }
+            × Halts service.now self.old.line.bytes [] part (least_missing fault)) }
         ensures fixed { K.fixed sink.new ≡ K.fixed sink.old }
         ensures later { K.faults sink.old ≤ K.faults sink.new }
         ensures write { IsErrOf result ReplyFault.Write → Rose (K.faults sink.old) (K.faults sink.new) }
@@ -155,7 +155,7 @@ impl Server {
         if self.line.is_empty() {
             return Ok(self.replies.all_ok);
         }
-        self.answer(alloc, answering)?;
+        self.answer(alloc, service)?;
         self.replies.write(sink)?;
         Ok(self.replies.all_ok)
     }

@@ -1,4 +1,4 @@
-//! The commands `display` and `support`, the texts of `--help` and `--version`, and words that are none of the stated lists.
+//! The commands `display` and `support`, with `strict` and `standard` before them and alone, the texts of `--help` and `--version`, and words that are none of the stated lists.
 use crate::memory::{bytes_of, words_of};
 use rx_base::{List, MemorySink, MemorySource, OutOfMemory, Source};
 use rx_rows::{Call, agree, text_of};
@@ -61,7 +61,18 @@ impl Call for Line {
     }
 }
 
-const LINES: &str = r#"display | C«9»«9»"\n" => 0 [ok«9»legacy«9»1«9»«A»«A»]
+const LINES: &str =
+    r#"strict | L«9»u«9»(?<a>x)|(?<a>y) => 1 [err«9»duplicated_capturing_group_names«9»3..4,11..12«A»]
+strict | L«9»u«9»\A => 1 [err«9»parse_pattern_incomplete«9»1..1«A»]
+strict | L«9»u«9»(\z) => 1 [err«9»unterminated_pattern«9»0..2«A»]
+strict | L«9»«9»\Ab => 0 [ok«9»legacy«9»Ab«A»]
+strict | L«9»u«9»\x41{1,} => 0 [ok«9»unicode«9»A+«A»]
+strict display | L«9»u«9»\x41{1,}«A»L«9»v«9»\Z => 1 [ok«9»unicode«9»6«9»\x41{1,}«A»err«9»parse_pattern_incomplete«9»1..1«A»]
+strict support sticky,named_capture_groups | L«9»y«9»(?<a>b)«A»L«9»«9»(?<a>b)|(?<a>c) => 1 [ok«9»1«9»1«A»err«9»duplicated_capturing_group_names«9»3..4,10..11«A»]
+standard | L«9»u«9»(?<a>x)|(?<a>y)\z«A»C«9»«9»"\x41" => 0 [ok«9»unicode«9»(?<a>x)|(?<a>y)\z«A»ok«9»legacy«9»A«A»]
+standard display | L«9»u«9»\x41\A => 0 [ok«9»unicode«9»6«9»\x41\A«A»]
+standard support buffer_boundaries | L«9»u«9»\A«A»C«9»«9»"a" => 1 [ok«9»0«9»1«A»bad«A»]
+display | C«9»«9»"\n" => 0 [ok«9»legacy«9»1«9»«A»«A»]
 display | L«9»«9»\477 => 0 [ok«9»legacy«9»4«9»\477«A»]
 display | L«9»«9»\0022 => 0 [ok«9»legacy«9»5«9»\0022«A»]
 display | L«9»«9»\cA => 0 [ok«9»legacy«9»3«9»\cA«A»]
@@ -78,6 +89,9 @@ support dot_all,unicode,unicode_sets | L«9»v«9»a«A»L«9»u«9»a«A»L«9�
 support named_capture_groups | L«9»«9»(?<a>b) => 0 [ok«9»0«9»1«A»]
 support duplicate_named_capture_groups | L«9»«9»(?<a>b)|(?<a>c)«A»L«9»«9»(?<a>b) => 0 [ok«9»0«9»1«A»ok«9»0«9»0«A»]
 support unicode_property_escapes | L«9»u«9»[\p{Lu}] => 0 [ok«9»0«9»1«A»]
+support buffer_boundaries | L«9»u«9»\A«A»L«9»v«9»(?:a|\z)*«A»L«9»u«9»(?<=\Z)a => 0 [ok«9»0«9»1«A»ok«9»0«9»1«A»ok«9»0«9»1«A»]
+support buffer_boundaries,sticky | L«9»y«9»\A\z\Z«A»L«9»u«9»^\b\B$«A»L«9»u«9»[\\Az] => 0 [ok«9»1«9»0«A»ok«9»0«9»0«A»ok«9»0«9»0«A»]
+support look_behind_assertions | L«9»u«9»\A => 0 [ok«9»0«9»0«A»]
 support sticky | C«9»«9»"a" => 1 [bad«A»]
 support sticky | L«9»u«9»(?<a>x)(?<a>y) => 1 [err«9»duplicated_capturing_group_names«9»3..4,10..11«A»]
 support sticky | L«9»u«9»é*+ => 1 [err«9»lone_quantifier«9»3..4«A»]
@@ -116,8 +130,32 @@ support sticky;dot_all => 2 []
 support sticky dot_all => 2 []
 support sticky,other => 2 []
 Support sticky => 2 []
+support buffer_boundaries,buffer_boundaries => 2 []
+support buffer_boundary => 2 []
 display x => 2 []
 Display => 2 []
+display strict => 2 []
+display display => 2 []
+display standard => 2 []
+strict x => 2 []
+Strict => 2 []
+strict strict => 2 []
+strict standard => 2 []
+strict support => 2 []
+strict support sticky,sticky => 2 []
+strict support sticky sticky => 2 []
+strict display display => 2 []
+strict gen 1 1 => 2 []
+strict --help => 2 []
+strict --version => 2 []
+Standard => 2 []
+standard x => 2 []
+standard standard => 2 []
+standard strict => 2 []
+standard strict display => 2 []
+standard support => 2 []
+standard gen 1 1 => 2 []
+support sticky strict => 2 []
 --help x => 2 []
 --Help => 2 []
 help => 2 []
@@ -139,6 +177,8 @@ fn help_is_a_text_of_few_lines(rt: HostRuntime) -> Result<(), Fail> {
     assert!(rt; text.ends_with("\n"));
     assert!(rt; text.lines().count() <= 40);
     for word in [
+        "strict",
+        "standard",
         "display",
         "support",
         "gen",

@@ -1,5 +1,5 @@
 -- One more mark of the first pass.
-use Rattle.std.proofs.Common.{◌≡◌, refl, ap, sym, ◌∙◌, subst, ℕ, zero, suc, ◌+◌, ◌<◌, ◌≤◌, Bool, true, false, cond, not, ◌&&◌, ◌||◌, ◌==◌, Option, Some, None, List, [], ◌∷◌, ◌++◌, append_assoc, append-nil, drop, drop-cons, add-one, get_or, length, arith, ◌⊎◌, inl, inr, map}
+use Rattle.std.proofs.Common.{◌≡◌, refl, ap, ap₂, sym, ◌∙◌, subst, ℕ, zero, suc, ◌+◌, ◌<◌, ◌≤◌, Bool, true, false, cond, not, ◌&&◌, ◌||◌, ◌==◌, Option, Some, None, List, [], ◌∷◌, ◌++◌, append_assoc, append-nil, drop, drop-cons, add-one, get_or, length, arith, ◌⊎◌, inl, inr, map}
 use Rattle.std.specs.Prelude.{nat_le, nat_lt, option_map}
 use Rattle.std.specs.BTreeMap.{get_by_text}
 use Rattle.std.specs.Str.{IsUtf8, bytes_eq, chars}
@@ -10,12 +10,12 @@ use Rattle.std.proofs.Math.Bool.{or-true}
 use Rattle.rx_units.proofs.Choices.{Some-inj, both}
 use Rattle.rx_model.specs.declared.mode.Mode.{Mode}
 use Rattle.rx_model.specs.FirstPass.GroupStates.{GroupState, Hides, Nests, group_states, step}
-use Rattle.rx_model.specs.FirstPass.Marks.{Mark, Clash, IsFirstClash, other, bar, closer, quiet, capturing, count, listed, mark_at, mark_count, mark_front, mark_name, marks, marks_behind, name_length, name_places, names, mark_place, places, places_behind}
+use Rattle.rx_model.specs.FirstPass.Marks.{Mark, Clash, IsFirstClash, IsParted, other, bar, closer, quiet, capturing, count, listed, mark_at, mark_count, mark_front, mark_name, marks, marks_behind, name_length, name_places, names, mark_place, places, places_behind}
 use Rattle.rx_model.specs.Trees.Names.{is_among, once_behind}
 use Rattle.rx_model.proofs.FirstPass.PartedMarks.{hidden_parted, parted_hidden, last_seen, nests}
 use Rattle.rx_scan.specs.MarkReading.{front, is_plain}
-use Rattle.rx_scan.specs.OpenGroups.{group_states_of, hides, hides_one}
-use Rattle.rx_scan.specs.FirstPass.{Entry, IsPassFault, IsStart, KnowsLast, LastTells, Refuses, Steps, entries, entry_at, entry_for, entry_of, first_clash, last_named, last_or, named, same_name, span_of, with_name, with_names}
+use Rattle.rx_scan.specs.OpenGroups.{group_states_of, hides, hides_one, parting}
+use Rattle.rx_scan.specs.FirstPass.{Entry, IsPassFault, IsStart, KnowsLast, LastTells, Refuses, Steps, entries, entry_at, entry_for, entry_of, first_clash, last_named, last_or, named, parts_of, same_name, span_of, with_name, with_names}
 use Rattle.rx_scan.specs.Walked.{IsAt}
 use Rattle.rx_scan.specs.declared.first_pass.FirstPass.{FirstPass}
 use Rattle.rx_scan.specs.declared.first_pass.PassFault.{PassFault}
@@ -229,13 +229,20 @@ count_one closer = omega arith
 count_one quiet = omega arith
 count_one (capturing units) = omega arith
 
--- what the mark at index k clashes with is in no alternative that has ended
-clash_seen : (mode : Mode) (ms : List Mark) (a k : ℕ) → Clash mode ms a k → hides a (group_states ms k) ≡ true → ⊥
-clash_seen mode ms a k c h = c.together (hidden_parted ms a k (hides_true a (group_states ms k) h))
+-- what the mark at index k clashes with is in no alternative that has ended, where bars part names
+clash_seen : (mode : Mode) (duplicate_names : Bool) (ms : List Mark) (a k : ℕ) → Clash mode duplicate_names ms a k → hides a (parting duplicate_names (group_states ms k)) ≡ true → ⊥
+clash_seen mode true ms a k c h = c.together refl (hidden_parted ms a k (hides_true a (group_states ms k) h))
+clash_seen mode false ms a k c h = false≢true h
 
-pub start_at : (mode : Mode) (us : List ℕ) (s : FirstPass) → IsStart mode s → IsAt mode us 0 0 s
-start_at mode us s w = record {
+-- and what bars do not part does not part from it
+seen_together : (duplicate_names : Bool) (ms : List Mark) (a k : ℕ) → hides a (parting duplicate_names (group_states ms k)) ≡ false → duplicate_names ≡ true → IsParted ms a k → ⊥
+seen_together true ms a k h is p = false≢true (sym h ∙ hides_is a (group_states ms k) (parted_hidden ms a k p))
+seen_together false ms a k h is p = false≢true is
+
+pub start_at : (mode : Mode) (duplicate_names : Bool) (us : List ℕ) (s : FirstPass) → IsStart mode duplicate_names s → IsAt mode duplicate_names us 0 0 s
+start_at mode duplicate_names us s w = record {
   mode_is = w.mode_is;
+  rule_is = w.rule_is;
   within = omega arith;
   few = omega arith;
   fewer = (let c = w.counted in omega arith);
@@ -249,8 +256,12 @@ start_at mode us s w = record {
   clean = λ a b l c. absurd (omega arith);
 }
 
-pub advanced : (mode : Mode) (us : List ℕ) (at k : ℕ) (x : Mark × ℕ) (old new : FirstPass) → at < length us → at + x.1 ≤ length us → 0 < x.1 → x ≡ front mode (drop at us) → Steps old new x.0 at k → IsAt mode us at k old → IsAt mode us (at + x.1) (k + 1) new
-advanced mode us at k x old new lt le pos e s w =
+-- the group states by which bars part names
+parts_are : (mode : Mode) (duplicate_names : Bool) (us : List ℕ) (at k : ℕ) (s : FirstPass) → IsAt mode duplicate_names us at k s → parts_of s ≡ parting duplicate_names (group_states (marks mode us) k)
+parts_are mode duplicate_names us at k s w = ap₂ parting w.rule_is w.opened
+
+pub advanced : (mode : Mode) (duplicate_names : Bool) (us : List ℕ) (at k : ℕ) (x : Mark × ℕ) (old new : FirstPass) → at < length us → at + x.1 ≤ length us → 0 < x.1 → x ≡ front mode (drop at us) → Steps old new x.0 at k → IsAt mode duplicate_names us at k old → IsAt mode duplicate_names us (at + x.1) (k + 1) new
+advanced mode duplicate_names us at k x old new lt le pos e s w =
     let ms = marks mode us in
     let m = x.0 in
     let taken = x.1 in
@@ -263,6 +274,7 @@ advanced mode us at k x old new lt le pos e s w =
     let few = w.few in let fewer = w.fewer in let one = count_one m in let counted = s.counted in
     record {
       mode_is = s.mode_is ∙ w.mode_is;
+      rule_is = s.rule_is ∙ w.rule_is;
       within = le;
       few = omega arith;
       fewer = omega arith;
@@ -277,16 +289,18 @@ advanced mode us at k x old new lt le pos e s w =
         | inl h ↦ w.clean a b h c
         | inr g ↦
             let q : b ≡ k = omega arith in
-            let d : Clash mode ms a k = subst (Clash mode ms a) q c in
+            let d : Clash mode duplicate_names ms a k = subst (Clash mode duplicate_names ms a) q c in
+            let fs = parting duplicate_names (group_states ms k) in
             let f = s.fresh d.name (ap (λ z. mark_name z m) w.mode_is ∙ ap (mark_name mode) (sym here) ∙ d.second) in
-            let h = none_all mode us (group_states ms k) d.name k (ap (λ z. first_clash (group_states ms k) d.name z) (sym w.listed_are) ∙ ap (λ z. first_clash z d.name (entries old)) (sym w.opened) ∙ f) in
-            clash_seen mode ms a k d (h a d.in_order d.first)
+            let h = none_all mode us fs d.name k (ap (λ z. first_clash fs d.name z) (sym w.listed_are) ∙ ap (λ z. first_clash z d.name (entries old)) (sym (parts_are mode duplicate_names us at k old w)) ∙ f) in
+            clash_seen mode duplicate_names ms a k d (h a d.in_order d.first)
       ];
     }
 
 unmoved : (s : FirstPass) (at k : ℕ) → KnowsLast (entries s) s.last_openings → Steps s s other at k
 unmoved s at k knows = record {
   mode_is = refl;
+  rule_is = refl;
   counted = omega arith;
   named_by = refl;
   opened = refl;
@@ -308,48 +322,49 @@ unfolding mark_front
 plain_front mode u us h = none_of (u == 92) (u == 91) (u == 40) (u == 41) (u == 124) _ _ _ _ _ (other, 0) h
 
 -- over a unit that opens and closes nothing
-pub passed : (mode : Mode) (us : List ℕ) (at k u : ℕ) (more : List ℕ) (s : FirstPass) → at < length us → drop at us ≡ u ∷ more → is_plain u ≡ true → IsAt mode us at k s → IsAt mode us (at + 1) (k + 1) s
+pub passed : (mode : Mode) (duplicate_names : Bool) (us : List ℕ) (at k u : ℕ) (more : List ℕ) (s : FirstPass) → at < length us → drop at us ≡ u ∷ more → is_plain u ≡ true → IsAt mode duplicate_names us at k s → IsAt mode duplicate_names us (at + 1) (k + 1) s
 unfolding front
-passed mode us at k u more s lt d plain w =
-    advanced mode us at k (other, 1) s s lt (omega arith) (omega arith)
+passed mode duplicate_names us at k u more s lt d plain w =
+    advanced mode duplicate_names us at k (other, 1) s s lt (omega arith) (omega arith)
     (sym (ap (front mode) d ∙ ap (λ (q : Mark × ℕ). (q.0, q.1 + 1)) (plain_front mode u more plain))) (unmoved s at k w.knows) w
 
 places_at : (mode : Mode) (us : List ℕ) (at k : ℕ) (m : Mark) → mark_place mode us k ≡ at → mark_at (marks mode us) k ≡ m → (at + 3, at + 3 + name_length m) ≡ name_places mode us k
 places_at mode us at k m pl here = ap (λ z. (z + 3, z + 3 + name_length m)) (sym pl) ∙ ap (λ z. (mark_place mode us k + 3, mark_place mode us k + 3 + name_length z)) (sym here)
 
-duplicated : (mode : Mode) (us : List ℕ) (at k : ℕ) (m : Mark) (old : FirstPass) (f g : ℕ × ℕ) → mark_place mode us k ≡ at → mark_at (marks mode us) k ≡ m → Refuses old m at (Duplicated f g) → IsAt mode us at k old → IsPassFault mode us (Duplicated f g)
-duplicated mode us at k m old f g pl here r w =
+duplicated : (mode : Mode) (duplicate_names : Bool) (us : List ℕ) (at k : ℕ) (m : Mark) (old : FirstPass) (f g : ℕ × ℕ) → mark_place mode us k ≡ at → mark_at (marks mode us) k ≡ m → Refuses old m at (Duplicated f g) → IsAt mode duplicate_names us at k old → IsPassFault mode duplicate_names us (Duplicated f g)
+duplicated mode duplicate_names us at k m old f g pl here r w =
     let ms = marks mode us in
+    let fs = parting duplicate_names (group_states ms k) in
     let n = r.0 in
     let e = r.2.0 in
-    let d = some_found mode us (group_states ms k) n k e (ap (λ z. first_clash (group_states ms k) n z) (sym w.listed_are) ∙ ap (λ z. first_clash z n (entries old)) (sym w.opened) ∙ r.2.1) in
+    let d = some_found mode us fs n k e (ap (λ z. first_clash fs n z) (sym w.listed_are) ∙ ap (λ z. first_clash z n (entries old)) (sym (parts_are mode duplicate_names us at k old w)) ∙ r.2.1) in
     let name_is : name_at mode us k ≡ Some n = ap (mark_name mode) here ∙ ap (λ z. mark_name z m) (sym w.mode_is) ∙ r.1 in
-    let clash : Clash mode ms e.index k = record {
+    let clash : Clash mode duplicate_names ms e.index k = record {
       in_order = d.before;
       name = n;
       first = d.is;
       second = name_is;
-      together = λ p. false≢true (sym d.seen_there ∙ hides_is e.index (group_states ms k) (parted_hidden ms e.index k p));
+      together = seen_together duplicate_names ms e.index k d.seen_there;
     } in
-    let first : IsFirstClash mode ms e.index k = record {
+    let first : IsFirstClash mode duplicate_names ms e.index k = record {
       clash = clash;
       second_least = λ x y c. elim (cases_lt y k) [ inl l ↦ absurd (w.clean x y l c) | inr l ↦ l ];
       first_least = λ x c. elim (cases_lt x e.index) [
         | inl l ↦
             let q : c.name ≡ n = Some-inj (sym c.second ∙ name_is) in
-            absurd (clash_seen mode ms x k c (d.first x l (c.first ∙ ap Some q)))
+            absurd (clash_seen mode duplicate_names ms x k c (d.first x l (c.first ∙ ap Some q)))
         | inr l ↦ l
       ];
     } in
     (e.index, k, first, r.2.2 ∙ d.places_are, r.2.3 ∙ places_at mode us at k m pl here)
 
-pub refused : (mode : Mode) (us : List ℕ) (at k : ℕ) (x : Mark × ℕ) (old : FirstPass) (f : PassFault) → at < length us → x ≡ front mode (drop at us) → Refuses old x.0 at f → IsAt mode us at k old → IsPassFault mode us f
-refused mode us at k x old OutOfMemory lt e r w = tt
-refused mode us at k x old (Duplicated f g) lt e r w =
+pub refused : (mode : Mode) (duplicate_names : Bool) (us : List ℕ) (at k : ℕ) (x : Mark × ℕ) (old : FirstPass) (f : PassFault) → at < length us → x ≡ front mode (drop at us) → Refuses old x.0 at f → IsAt mode duplicate_names us at k old → IsPassFault mode duplicate_names us f
+refused mode duplicate_names us at k x old OutOfMemory lt e r w = tt
+refused mode duplicate_names us at k x old (Duplicated f g) lt e r w =
     let m = x.0 in
     let taken = x.1 in
     let t = turn mode us at x lt e in
-    duplicated mode us at k m old f g
+    duplicated mode duplicate_names us at k m old f g
     (place_here (places mode us) k at (places_behind mode (at + taken) 0 (drop (at + taken) us)) (w.places ∙ t.places_are))
     (mark_here (marks mode us) k m (marks mode (drop (at + taken) us)) (w.rest ∙ t.marks_are)) r w
 
@@ -359,14 +374,14 @@ nothing_at (m ∷ ms) zero e b l = cc
 nothing_at (m ∷ ms) (suc k) e zero l = absurd (omega arith)
 nothing_at (m ∷ ms) (suc k) e (suc b) l = nothing_at ms k e b (omega arith)
 
-at_end : (mode : Mode) (us : List ℕ) (at k : ℕ) (s : FirstPass) → length us ≤ at → IsAt mode us at k s → drop at us ≡ []
-at_end mode us at k s le w = let h = w.within in let e : at ≡ length us = omega arith in ap (λ j. drop j us) e ∙ drop-length us
+at_end : (mode : Mode) (duplicate_names : Bool) (us : List ℕ) (at k : ℕ) (s : FirstPass) → length us ≤ at → IsAt mode duplicate_names us at k s → drop at us ≡ []
+at_end mode duplicate_names us at k s le w = let h = w.within in let e : at ≡ length us = omega arith in ap (λ j. drop j us) e ∙ drop-length us
 
-pub all_clean : (mode : Mode) (us : List ℕ) (at k : ℕ) (s : FirstPass) → length us ≤ at → IsAt mode us at k s → (a b : ℕ) → Clash mode (marks mode us) a b → ⊥
-all_clean mode us at k s le w a b c = elim (cases_lt b k) [
+pub all_clean : (mode : Mode) (duplicate_names : Bool) (us : List ℕ) (at k : ℕ) (s : FirstPass) → length us ≤ at → IsAt mode duplicate_names us at k s → (a b : ℕ) → Clash mode duplicate_names (marks mode us) a b → ⊥
+all_clean mode duplicate_names us at k s le w a b c = elim (cases_lt b k) [
   | inl l ↦ w.clean a b l c
   | inr l ↦
-      let d : drop k (marks mode us) ≡ [] = w.rest ∙ ap (marks mode) (at_end mode us at k s le w) in
+      let d : drop k (marks mode us) ≡ [] = w.rest ∙ ap (marks mode) (at_end mode duplicate_names us at k s le w) in
       let m = nothing_at (marks mode us) k d b l in let q : None ≡ Some c.name = sym (ap (mark_name mode) m) ∙ c.second in cc
 ]
 
@@ -437,7 +452,7 @@ last_found mode us n (suc k) e h =
           }
     ]
 
-tells_case : (mode : Mode) (us : List ℕ) (n : List ℕ) (k : ℕ) (e : Entry) → ((a b : ℕ) → b < k → Clash mode (marks mode us) a b → ⊥) → Last mode us n k e → hides e.index (group_states (marks mode us) k) ≡ true → (o : Option Entry) → first_clash (group_states (marks mode us) k) n (named mode us k) ≡ o → o ≡ None
+tells_case : (mode : Mode) (us : List ℕ) (n : List ℕ) (k : ℕ) (e : Entry) → ((a b : ℕ) → b < k → Clash mode true (marks mode us) a b → ⊥) → Last mode us n k e → hides e.index (group_states (marks mode us) k) ≡ true → (o : Option Entry) → first_clash (group_states (marks mode us) k) n (named mode us k) ≡ o → o ≡ None
 tells_case mode us n k e clean l h None s = refl
 tells_case mode us n k e clean l h (Some x) s =
     let ms = marks mode us in
@@ -449,19 +464,26 @@ tells_case mode us n k e clean l h (Some x) s =
         name = n;
         first = f.is;
         second = l.is;
-        together = λ p. last_seen ms x.index e.index k lt l.before (hides_true e.index (group_states ms k) h) (λ z. false≢true (sym f.seen_there ∙ hides_is x.index (group_states ms k) z)) p;
+        together = λ _ p. last_seen ms x.index e.index k lt l.before (hides_true e.index (group_states ms k) h) (λ z. false≢true (sym f.seen_there ∙ hides_is x.index (group_states ms k) z)) p;
       })
       | inr ge ↦ let q : x.index ≡ e.index = omega arith in false≢true (sym f.seen_there ∙ ap (λ j. hides j (group_states ms k)) q ∙ h)
     ])
 
-pub tells : (mode : Mode) (us : List ℕ) (at k : ℕ) (s : FirstPass) → IsAt mode us at k s → (n : List ℕ) → LastTells (group_states_of s.groups) n (entries s)
-tells mode us at k s w n e h y =
-    let fs = group_states (marks mode us) k in
-    let l = last_found mode us n k e (ap (last_named n) (sym w.listed_are) ∙ h) in
-    ap (λ z. first_clash z n (entries s)) w.opened ∙ ap (first_clash fs n) w.listed_are ∙ tells_case mode us n k e w.clean l (ap (hides e.index) (sym w.opened) ∙ y) (first_clash fs n (named mode us k)) refl
+-- where bars part names, and where none does
+tells_by : (mode : Mode) (duplicate_names : Bool) (us : List ℕ) (n : List ℕ) (k : ℕ) (e : Entry) → ((a b : ℕ) → b < k → Clash mode duplicate_names (marks mode us) a b → ⊥) → Last mode us n k e →
+    hides e.index (parting duplicate_names (group_states (marks mode us) k)) ≡ true → first_clash (parting duplicate_names (group_states (marks mode us) k)) n (named mode us k) ≡ None
+tells_by mode true us n k e clean l h = tells_case mode us n k e clean l h (first_clash (group_states (marks mode us) k) n (named mode us k)) refl
+tells_by mode false us n k e clean l h = absurd (false≢true h)
 
-pub nests_at : (mode : Mode) (us : List ℕ) (at k : ℕ) (s : FirstPass) → IsAt mode us at k s → Nests (group_states_of s.groups)
-nests_at mode us at k s w = subst Nests (sym w.opened) (nests (marks mode us) k)
+pub tells : (mode : Mode) (duplicate_names : Bool) (us : List ℕ) (at k : ℕ) (s : FirstPass) → IsAt mode duplicate_names us at k s → (n : List ℕ) → LastTells (parts_of s) n (entries s)
+tells mode duplicate_names us at k s w n e h y =
+    let fs = parting duplicate_names (group_states (marks mode us) k) in
+    let parts = parts_are mode duplicate_names us at k s w in
+    let l = last_found mode us n k e (ap (last_named n) (sym w.listed_are) ∙ h) in
+    ap (λ z. first_clash z n (entries s)) parts ∙ ap (first_clash fs n) w.listed_are ∙ tells_by mode duplicate_names us n k e w.clean l (ap (hides e.index) (sym parts) ∙ y)
+
+pub nests_at : (mode : Mode) (duplicate_names : Bool) (us : List ℕ) (at k : ℕ) (s : FirstPass) → IsAt mode duplicate_names us at k s → Nests (group_states_of s.groups)
+nests_at mode duplicate_names us at k s w = subst Nests (sym w.opened) (nests (marks mode us) k)
 
 no_index : (o : Option Entry) → None ≡ option_map (λ (e : Entry). e.index) o → o ≡ None
 no_index None h = refl

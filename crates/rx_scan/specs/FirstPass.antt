@@ -7,7 +7,7 @@ use Rattle.rx_model.specs.declared.mode.Mode.{Mode}
 use Rattle.rx_model.specs.FirstPass.GroupStates.{GroupState, step}
 use Rattle.rx_model.specs.FirstPass.Marks.{IsFirstClash, Mark, listed, mark_at, mark_count, mark_name, mark_place, marks, name_length, name_places}
 use Rattle.rx_model.specs.Trees.Names.{is_among}
-use Rattle.rx_scan.specs.OpenGroups.{group_states_of, hides}
+use Rattle.rx_scan.specs.OpenGroups.{group_states_of, hides, parting}
 use Rattle.rx_scan.specs.declared.first_pass.FirstPass.{FirstPass}
 use Rattle.rx_scan.specs.declared.first_pass.Opening.{Opening}
 use Rattle.rx_scan.specs.declared.first_pass.PassFault.{PassFault}
@@ -84,9 +84,14 @@ abbrev pub with_names : List (List ℕ) → List (List ℕ) → List (List ℕ)
 with_names names [] = names
 with_names names (name ∷ more) = with_names (with_name names name) more
 
+-- the group states by which bars part the names that it keeps
+abbrev pub parts_of : FirstPass → List GroupState
+parts_of pass = parting pass.duplicate_names (group_states_of pass.groups)
+
 -- before the first mark
-pub record IsStart (mode : Mode) (pass : FirstPass) : Type 0 where
+pub record IsStart (mode : Mode) (duplicate_names : Bool) (pass : FirstPass) : Type 0 where
   pub mode_is : pass.mode ≡ mode
+  pub rule_is : pass.duplicate_names ≡ duplicate_names
   pub counted : pass.count ≡ 0
   pub named_by : pass.names ≡ []
   pub opened : group_states_of pass.groups ≡ (0, 0) ∷ []
@@ -96,28 +101,30 @@ pub record IsStart (mode : Mode) (pass : FirstPass) : Type 0 where
 -- A capturing group opens at index k, with or without a name.
 pub record Captures (old new : FirstPass) (name : Option (List ℕ)) (from to k : ℕ) : Type 0 where
   pub mode_is : new.mode ≡ old.mode
+  pub rule_is : new.duplicate_names ≡ old.duplicate_names
   pub counted : new.count ≡ old.count + 1
   pub named_by : new.names ≡ with_names old.names (listed name)
   pub opened : group_states_of new.groups ≡ (suc k, suc k) ∷ group_states_of old.groups
   pub listed_are : entries new ≡ entries old ++ entry_for k from to name
   pub knows : KnowsLast (entries new) new.last_openings
-  pub fresh : (n : List ℕ) → name ≡ Some n → first_clash (group_states_of old.groups) n (entries old) ≡ None
+  pub fresh : (n : List ℕ) → name ≡ Some n → first_clash (parts_of old) n (entries old) ≡ None
 
 -- The mark with index k, which begins at a place, leads from old to new.
 pub record Steps (old new : FirstPass) (m : Mark) (at k : ℕ) : Type 0 where
   pub mode_is : new.mode ≡ old.mode
+  pub rule_is : new.duplicate_names ≡ old.duplicate_names
   pub counted : new.count ≡ old.count + mark_count m
   pub named_by : new.names ≡ with_names old.names (listed (mark_name old.mode m))
   pub opened : group_states_of new.groups ≡ step k m (group_states_of old.groups)
   pub listed_are : entries new ≡ entries old ++ entry_at old.mode at k m
   pub knows : KnowsLast (entries new) new.last_openings
-  pub fresh : (n : List ℕ) → mark_name old.mode m ≡ Some n → first_clash (group_states_of old.groups) n (entries old) ≡ None
+  pub fresh : (n : List ℕ) → mark_name old.mode m ≡ Some n → first_clash (parts_of old) n (entries old) ≡ None
 
 -- An opening with this name between these places clashes with an earlier one.
 abbrev pub ClashesWith : FirstPass → List ℕ → ℕ → ℕ → PassFault → Type 0
 ClashesWith old name from to OutOfMemory = Unit {0}
 ClashesWith old name from to (Duplicated first second) =
-    (e : Entry) × (first_clash (group_states_of old.groups) name (entries old) ≡ Some e) × (first ≡ span_of e) × (second ≡ (from, to))
+    (e : Entry) × (first_clash (parts_of old) name (entries old) ≡ Some e) × (first ≡ span_of e) × (second ≡ (from, to))
 
 -- The mark that begins at a place is such an opening.
 abbrev pub Refuses : FirstPass → Mark → ℕ → PassFault → Type 0
@@ -127,7 +134,7 @@ Refuses old m at (Duplicated first second) =
     × ClashesWith old name (at + 3) (at + 3 + name_length m) (Duplicated first second)
 
 -- The fault names the first clash.
-abbrev pub IsPassFault : Mode → List ℕ → PassFault → Type 0
-IsPassFault mode us OutOfMemory = Unit {0}
-IsPassFault mode us (Duplicated first second) =
-    (a : ℕ) × (b : ℕ) × IsFirstClash mode (marks mode us) a b × (first ≡ name_places mode us a) × (second ≡ name_places mode us b)
+abbrev pub IsPassFault : Mode → Bool → List ℕ → PassFault → Type 0
+IsPassFault mode duplicate_names us OutOfMemory = Unit {0}
+IsPassFault mode duplicate_names us (Duplicated first second) =
+    (a : ℕ) × (b : ℕ) × IsFirstClash mode duplicate_names (marks mode us) a b × (first ≡ name_places mode us a) × (second ≡ name_places mode us b)

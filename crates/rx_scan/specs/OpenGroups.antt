@@ -1,5 +1,5 @@
 -- The open groups that the first pass keeps, as the group states of a text's marks.
-use Rattle.std.specs.Prelude.{ℕ, ◌-◌, ◌<◌, ◌≤◌, Bool, false, nat_le, nat_lt, ◌&&◌, ◌||◌, List, [], ◌∷◌, length, get_or}
+use Rattle.std.specs.Prelude.{ℕ, ◌-◌, ◌<◌, ◌≤◌, Bool, true, false, nat_le, nat_lt, ◌&&◌, ◌||◌, List, [], ◌∷◌, length, get_or}
 use Rattle.rx_model.specs.FirstPass.GroupStates.{GroupState}
 use Rattle.rx_scan.specs.declared.open_groups.OpenGroup.{OpenGroup}
 use Rattle.rx_scan.specs.declared.open_groups.OpenGroups.{OpenGroups}
@@ -25,6 +25,11 @@ hides_one a f = nat_le f.0 a && nat_lt a f.1
 abbrev pub hides : ℕ → List GroupState → Bool
 hides a [] = false
 hides a (f ∷ fs) = hides_one a f || hides a fs
+
+-- the group states by which bars part names: none, where no two groups may have one name
+abbrev pub parting : Bool → List GroupState → List GroupState
+parting true fs = fs
+parting false fs = []
 
 -- the same of groups with the outermost first
 abbrev pub any_hides : ℕ → List OpenGroup → Bool

@@ -1,5 +1,5 @@
--- The mode of a state, and which fault tells that two groups of one name might both take part.
-use Rattle.std.specs.Prelude.{◌≡◌, ℕ}
+-- The mode of a state, and which fault tells that two names clash.
+use Rattle.std.specs.Prelude.{◌≡◌, ℕ, Bool}
 use Rattle.rx_units.specs.Cursor.{Cursor}
 use Rattle.rx_units.specs.Units.{offset_at, values}
 use Rattle.rx_model.specs.declared.mode.Mode.{Mode}
@@ -22,7 +22,7 @@ abbrev pub name_offsets : Mode → Cursor → ℕ → ℕ × ℕ
 name_offsets mode r k = offsets_at r (name_places mode (values r.units) k)
 
 -- The fault tells the first clash of the reader's text: the second of the two openings is the least, and then the first.
-abbrev pub IsStateFault : Mode → Cursor → StateFault → Type 0
-IsStateFault mode r OutOfMemory = Unit {0}
-IsStateFault mode r (Duplicated first second) =
-    (a : ℕ) × (b : ℕ) × IsFirstClash mode (marks mode (values r.units)) a b × (first ≡ name_offsets mode r a) × (second ≡ name_offsets mode r b)
+abbrev pub IsStateFault : Mode → Bool → Cursor → StateFault → Type 0
+IsStateFault mode duplicate_names r OutOfMemory = Unit {0}
+IsStateFault mode duplicate_names r (Duplicated first second) =
+    (a : ℕ) × (b : ℕ) × IsFirstClash mode duplicate_names (marks mode (values r.units)) a b × (first ≡ name_offsets mode r a) × (second ≡ name_offsets mode r b)

@@ -1,5 +1,5 @@
 -- How far the first pass has come.
-use Rattle.std.specs.Prelude.{◌≡◌, ℕ, ◌+◌, ◌<◌, ◌≤◌, List, length, drop}
+use Rattle.std.specs.Prelude.{◌≡◌, Bool, ℕ, ◌+◌, ◌<◌, ◌≤◌, List, length, drop}
 use Rattle.rx_model.specs.declared.mode.Mode.{Mode}
 use Rattle.rx_model.specs.FirstPass.GroupStates.{group_states}
 use Rattle.rx_model.specs.FirstPass.Marks.{Clash, count, marks, names, places, places_behind, seen}
@@ -8,8 +8,9 @@ use Rattle.rx_scan.specs.FirstPass.{KnowsLast, entries, named, with_names}
 use Rattle.rx_scan.specs.declared.first_pass.FirstPass.{FirstPass}
 
 -- After the first k marks, of which the last ends at a place, what has been found and what is left make what is to be found.
-pub record IsAt (mode : Mode) (us : List ℕ) (at : ℕ) (k : ℕ) (pass : FirstPass) : Type 0 where
+pub record IsAt (mode : Mode) (duplicate_names : Bool) (us : List ℕ) (at : ℕ) (k : ℕ) (pass : FirstPass) : Type 0 where
   pub mode_is : pass.mode ≡ mode
+  pub rule_is : pass.duplicate_names ≡ duplicate_names
   pub within : at ≤ length us
   pub few : k ≤ at
   pub fewer : pass.count ≤ k
@@ -20,4 +21,4 @@ pub record IsAt (mode : Mode) (us : List ℕ) (at : ℕ) (k : ℕ) (pass : First
   pub knows : KnowsLast (entries pass) pass.last_openings
   pub counted : pass.count + count (marks mode (drop at us)) ≡ count (marks mode us)
   pub named_by : with_names pass.names (names mode (marks mode (drop at us))) ≡ seen mode (marks mode us)
-  pub clean : (a b : ℕ) → b < k → Clash mode (marks mode us) a b → ⊥
+  pub clean : (a b : ℕ) → b < k → Clash mode duplicate_names (marks mode us) a b → ⊥

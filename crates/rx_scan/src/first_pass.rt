@@ -5,8 +5,8 @@ ghost use Rattle.rx_model.specs.FirstPass.GroupStates.{Nests};
 ghost use Rattle.rx_model.specs.FirstPass.Marks.{name_length};
 ghost use Rattle.rx_model.specs.Refusals.Reached.{HasNoClash, text_groups, text_names};
 ghost use Rattle.rx_scan.specs.MarkReading.{seen_mark, seen_capturing};
-ghost use Rattle.rx_scan.specs.OpenGroups.{group_states_of};
-ghost use Rattle.rx_scan.specs.FirstPass.{Captures, ClashesWith, IsPassFault, IsStart, KnowsLast, LastTells, Refuses, Steps, entries, entry_of, first_clash, same_name, span_of, with_name};
+ghost use Rattle.rx_scan.specs.OpenGroups.{group_states_of, hides, parting};
+ghost use Rattle.rx_scan.specs.FirstPass.{Captures, ClashesWith, IsPassFault, IsStart, KnowsLast, LastTells, Refuses, Steps, entries, entry_of, first_clash, parts_of, same_name, span_of, with_name};
 
 use crate::last_openings::LastOpenings;
 use crate::mark::{Mark, is_plain, read_mark};
@@ -52,6 +52,8 @@ impl From<OutOfMemory> for PassFault {
 #[derive(Debug, Drop)]
 pub struct FirstPass {
     pub mode: Mode,
+    /// Whether two groups may have one name where a bar parts them.
+    pub duplicate_names: bool,
     /// How many groups capture.
     pub count: usize,
     pub names: Names,
@@ -69,23 +71,24 @@ fn tail(units: &[CodePoint], place: usize) -> &[CodePoint]
 
 impl FirstPass {
     /// Counts the groups of a text and lists their names (CountLeftCapturingParensWithin of ECMA-262, 22.2.1.2), or finds the first
-    /// two equal names of which no bar parts the one from the other (22.2.1.1). Counts one for each unit that it goes over.
+    /// two equal names that clash: where two groups may have one name, two of which no bar parts the one from the other (22.2.1.1). Counts one for each unit that it goes over.
     #[tactic(auto, unfolding(rx_model::specs::Refusals::Reached::text_groups, rx_model::specs::Refusals::Reached::text_names))]
     pub fn over<C: Counter>(
         alloc: Global,
         units: &[CodePoint],
         mode: Mode,
+        duplicate_names: bool,
         steps: &mut C,
     ) -> Result<FirstPass, PassFault>
         ensures mode { IfOk result (λ pass. pass.mode ≡ mode) }
         ensures count { IfOk result (λ pass. pass.count ≡ text_groups mode units.now) }
         ensures names { IfOk result (λ pass. pass.names ≡ text_names mode units.now) }
-        ensures clean { IfOk result (λ pass. HasNoClash mode units.now) }
-        ensures fault { IfErr result (IsPassFault mode (values units.now)) }
+        ensures clean { IfOk result (λ pass. HasNoClash mode duplicate_names units.now) }
+        ensures fault { IfErr result (IsPassFault mode duplicate_names (values units.now)) }
         ensures all { OnOk result (C.count steps.new ≡ C.count steps.old + length units.now) }
         ensures most { C.count steps.new ≤ C.count steps.old + length units.now }
     {
-        let mut pass = FirstPass::new(alloc, mode);
+        let mut pass = FirstPass::new(alloc, mode, duplicate_names);
         let mut place = 0usize;
         let mut index = 0usize;
         while place < units.len() {
@@ -106,11 +109,12 @@ impl FirstPass {
         Ok(pass)
     }
 
-    fn new(alloc: Global, mode: Mode) -> FirstPass
-        ensures { IsStart mode result }
+    fn new(alloc: Global, mode: Mode, duplicate_names: bool) -> FirstPass
+        ensures { IsStart mode duplicate_names result }
     {
         FirstPass {
             mode,
+            duplicate_names,
             count: 0,
             names: Names::new(alloc),
             openings: List::new(alloc),
@@ -130,7 +134,7 @@ impl FirstPass {
         requires few { self.old.count + 1 < 2 ^ 64 }
         requires room { place + 3 + name_length (seen_mark mark) < 2 ^ 64 }
         requires after { index + 1 < 2 ^ 64 }
-        requires tells { (name : List ℕ) → LastTells (group_states_of self.old.groups) name (entries self.old) }
+        requires tells { (name : List ℕ) → LastTells (parts_of self.old) name (entries self.old) }
         requires nests { Nests (group_states_of self.old.groups) }
         requires knows { KnowsLast (entries self.old) self.old.last_openings }
         ensures ok { OnOk result (Steps self.old self.new (seen_mark mark.entry) place index) }
@@ -157,7 +161,7 @@ impl FirstPass {
         requires few { self.old.count + 1 < 2 ^ 64 }
         requires room { place + 3 + name_length (seen_capturing units) < 2 ^ 64 }
         requires after { index + 1 < 2 ^ 64 }
-        requires tells { (name : List ℕ) → LastTells (group_states_of self.old.groups) name (entries self.old) }
+        requires tells { (name : List ℕ) → LastTells (parts_of self.old) name (entries self.old) }
         requires nests { Nests (group_states_of self.old.groups) }
         requires knows { KnowsLast (entries self.old) self.old.last_openings }
         ensures ok { OnOk result (Steps self.old self.new (seen_capturing units.entry) place index) }
@@ -197,7 +201,7 @@ impl FirstPass {
     fn capture_named(&mut self, alloc: Global, opening: Opening) -> Result<(), PassFault>
         requires few { self.old.count + 1 < 2 ^ 64 }
         requires after { opening.mark + 1 < 2 ^ 64 }
-        requires tells { LastTells (group_states_of self.old.groups) opening.name (entries self.old) }
+        requires tells { LastTells (parts_of self.old) opening.name (entries self.old) }
         requires nests { Nests (group_states_of self.old.groups) }
         requires knows { KnowsLast (entries self.old) self.old.last_openings }
         ensures ok { OnOk result (Captures self.old self.new (Some opening.name) opening.start opening.end opening.mark) }
@@ -230,31 +234,49 @@ impl FirstPass {
     /// Where the name of the first opening stands with which a new one of this name clashes, where none clashed before. All openings
     /// are looked at only where some clash.
     fn clash(&self, name: &str) -> Option<(usize, usize)>
-        requires tells { LastTells (group_states_of self.now.groups) (chars name.now) (entries self.now) }
+        requires tells { LastTells (parts_of self.now) (chars name.now) (entries self.now) }
         requires nests { Nests (group_states_of self.now.groups) }
         requires knows { KnowsLast (entries self.now) self.now.last_openings }
-        ensures { result ≡ option_map span_of (first_clash (group_states_of self.now.groups) (chars name.now) (entries self.now)) }
+        ensures { result ≡ option_map span_of (first_clash (parts_of self.now) (chars name.now) (entries self.now)) }
     {
         match self.last_openings.get(name) {
             None => None,
             Some(last) => {
-                if self.groups.hides(last) {
+                if is_parted(&self.groups, self.duplicate_names, last) {
                     None
                 } else {
-                    first_clash(self.openings.as_slice(), &self.groups, name)
+                    first_clash(
+                        self.openings.as_slice(),
+                        &self.groups,
+                        self.duplicate_names,
+                        name,
+                    )
                 }
             }
         }
     }
 }
 
-/// Where the name of the first opening of this name stands that is in no alternative that has ended.
-fn first_clash(openings: &[Opening], groups: &OpenGroups, name: &str) -> Option<(usize, usize)>
+/// Whether the mark with this index is in an alternative that has ended, of a group that is open, where two groups may have one name.
+fn is_parted(groups: &OpenGroups, duplicate_names: bool, mark: usize) -> bool
     requires { Nests (group_states_of groups.now) }
-    ensures { result ≡ option_map span_of (first_clash (group_states_of groups.now) (chars name.now) (map entry_of openings.now)) }
+    ensures { result ≡ hides mark (parting duplicate_names (group_states_of groups.now)) }
+{
+    duplicate_names && groups.hides(mark)
+}
+
+/// Where the name of the first opening of this name stands that no bar parts.
+fn first_clash(
+    openings: &[Opening],
+    groups: &OpenGroups,
+    duplicate_names: bool,
+    name: &str,
+) -> Option<(usize, usize)>
+    requires { Nests (group_states_of groups.now) }
+    ensures { result ≡ option_map span_of (first_clash (parting duplicate_names (group_states_of groups.now)) (chars name.now) (map entry_of openings.now)) }
 {
     for opening in openings {
-        if is_named(opening, name) && !groups.hides(opening.mark) {
+        if is_named(opening, name) && !is_parted(groups, duplicate_names, opening.mark) {
             return Some((opening.start, opening.end));
         }
     }

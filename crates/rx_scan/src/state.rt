@@ -1,7 +1,7 @@
 ghost use Rattle.std.specs.Prelude.{◌≡◌, ◌+◌, ◌-◌, ◌^◌, ◌≤◌, ◌||◌, [], false, length, min, IfErr, OnErr, OnOk};
 ghost use Rattle.rx_units.specs.Units.{offset_at};
 ghost use Rattle.rx_model.specs.Inputs.Environment.{has_some, is_unicode};
-ghost use Rattle.rx_model.specs.Refusals.Reached.{HasNoClash, text_environment, text_groups, text_names};
+ghost use Rattle.rx_model.specs.Refusals.Reached.{HasNoClash, text_groups, text_names};
 ghost use Rattle.rx_scan.specs.StateFaults.{IsStateFault, mode_of_state};
 
 use crate::Names;
@@ -20,6 +20,8 @@ pub struct State {
     pub unicode_mode: bool,
     /// Whether classes are read as sets: with flag `v` (ECMA-262, 22.2.3.4).
     pub unicode_sets_mode: bool,
+    /// Whether two groups may have one name where they never both take part (ECMA-262, 22.2.1.1); else no two may.
+    pub duplicate_names: bool,
     /// Whether `\k` is always a reference (the parameter NamedCaptureGroups of ECMA-262, 22.2.1): in unicode mode, or where some
     /// group has a name.
     pub named_capture_groups: bool,
@@ -34,8 +36,8 @@ pub struct State {
 pub enum StateFault {
     /// There was not enough memory.
     OutOfMemory,
-    /// Two groups of one name might both take part (ECMA-262, 22.2.1.1). Each pair is the offsets, in bytes, before and after a
-    /// name, between its `<` and its `>`.
+    /// Two names clash: no two groups may have one, or where two may, both might take part (ECMA-262, 22.2.1.1). Each pair is the
+    /// offsets, in bytes, before and after a name, between its `<` and its `>`.
     Duplicated {
         first: (u32, u32),
         second: (u32, u32),
@@ -45,9 +47,15 @@ pub enum StateFault {
 impl State {
     /// The state before the pattern is read: no groups are counted. Takes no memory; the allocator is for the names that the
     /// pattern holds.
-    pub fn new(alloc: Global, unicode_mode: bool, unicode_sets_mode: bool) -> State
+    pub fn new(
+        alloc: Global,
+        unicode_mode: bool,
+        unicode_sets_mode: bool,
+        duplicate_names: bool,
+    ) -> State
         ensures unicode_mode { result.unicode_mode ≡ unicode_mode }
         ensures unicode_sets_mode { result.unicode_sets_mode ≡ unicode_sets_mode }
+        ensures duplicate_names { result.duplicate_names ≡ duplicate_names }
         ensures named { result.named_capture_groups ≡ false }
         ensures groups { result.num_of_capturing_groups ≡ 0 }
         ensures names { result.capturing_group_names ≡ [] }
@@ -55,6 +63,7 @@ impl State {
         State {
             unicode_mode,
             unicode_sets_mode,
+            duplicate_names,
             named_capture_groups: false,
             num_of_capturing_groups: 0,
             capturing_group_names: Names::new(alloc),
@@ -62,18 +71,19 @@ impl State {
     }
 
     /// Goes over the whole pattern once, and counts its groups (CountLeftCapturingParensWithin of ECMA-262, 22.2.1.2) and lists their
-    /// names, or refuses the first two equal names that might both take part (22.2.1.1). The reader stays at place 0. A refusal
+    /// names, or refuses the first two equal names that clash (22.2.1.1). The reader stays at place 0. A refusal
     /// leaves the state as it was.
     pub fn initialize_with_parsing(&mut self, reader: &mut Reader<'_>) -> Result<(), StateFault>
         requires start { reader.old.place ≡ 0 }
         ensures reader { reader.new ≡ reader.old }
         ensures unicode_mode { self.new.unicode_mode ≡ self.old.unicode_mode }
         ensures unicode_sets_mode { self.new.unicode_sets_mode ≡ self.old.unicode_sets_mode }
+        ensures duplicate_names { self.new.duplicate_names ≡ self.old.duplicate_names }
         ensures groups { OnOk result (self.new.num_of_capturing_groups ≡ min (text_groups (mode_of_state self.old) reader.old.units) (2 ^ 32 - 1)) }
         ensures names { OnOk result (self.new.capturing_group_names ≡ text_names (mode_of_state self.old) reader.old.units) }
-        ensures named { OnOk result (self.new.named_capture_groups ≡ (text_environment (mode_of_state self.old) reader.old.units).named) }
-        ensures apart { OnOk result (HasNoClash (mode_of_state self.old) reader.old.units) }
-        ensures refused { IfErr result (IsStateFault (mode_of_state self.old) reader.old) }
+        ensures named { OnOk result (self.new.named_capture_groups ≡ (is_unicode (mode_of_state self.old) || has_some (text_names (mode_of_state self.old) reader.old.units))) }
+        ensures apart { OnOk result (HasNoClash (mode_of_state self.old) self.old.duplicate_names reader.old.units) }
+        ensures refused { IfErr result (IsStateFault (mode_of_state self.old) self.old.duplicate_names reader.old) }
         ensures unchanged { OnErr result (self.new ≡ self.old) }
     {
         self.initialize_alone::<Brand>(reader, Blank::new(1))
@@ -92,11 +102,12 @@ impl State {
         ensures reader { reader.new ≡ reader.old }
         ensures unicode_mode { self.new.unicode_mode ≡ self.old.unicode_mode }
         ensures unicode_sets_mode { self.new.unicode_sets_mode ≡ self.old.unicode_sets_mode }
+        ensures duplicate_names { self.new.duplicate_names ≡ self.old.duplicate_names }
         ensures groups { OnOk result (self.new.num_of_capturing_groups ≡ min (text_groups (mode_of_state self.old) reader.old.units) (2 ^ 32 - 1)) }
         ensures names { OnOk result (self.new.capturing_group_names ≡ text_names (mode_of_state self.old) reader.old.units) }
-        ensures named { OnOk result (self.new.named_capture_groups ≡ (text_environment (mode_of_state self.old) reader.old.units).named) }
-        ensures apart { OnOk result (HasNoClash (mode_of_state self.old) reader.old.units) }
-        ensures refused { IfErr result (IsStateFault (mode_of_state self.old) reader.old) }
+        ensures named { OnOk result (self.new.named_capture_groups ≡ (is_unicode (mode_of_state self.old) || has_some (text_names (mode_of_state self.old) reader.old.units))) }
+        ensures apart { OnOk result (HasNoClash (mode_of_state self.old) self.old.duplicate_names reader.old.units) }
+        ensures refused { IfErr result (IsStateFault (mode_of_state self.old) self.old.duplicate_names reader.old) }
         ensures unchanged { OnErr result (self.new ≡ self.old) }
     {
         self.initialize_with_parsing_counted(reader, &mut Steps::<L>::new(blank))
@@ -112,11 +123,12 @@ impl State {
         ensures reader { reader.new ≡ reader.old }
         ensures unicode_mode { self.new.unicode_mode ≡ self.old.unicode_mode }
         ensures unicode_sets_mode { self.new.unicode_sets_mode ≡ self.old.unicode_sets_mode }
+        ensures duplicate_names { self.new.duplicate_names ≡ self.old.duplicate_names }
         ensures groups { OnOk result (self.new.num_of_capturing_groups ≡ min (text_groups (mode_of_state self.old) reader.old.units) (2 ^ 32 - 1)) }
         ensures names { OnOk result (self.new.capturing_group_names ≡ text_names (mode_of_state self.old) reader.old.units) }
-        ensures named { OnOk result (self.new.named_capture_groups ≡ (text_environment (mode_of_state self.old) reader.old.units).named) }
-        ensures apart { OnOk result (HasNoClash (mode_of_state self.old) reader.old.units) }
-        ensures refused { IfErr result (IsStateFault (mode_of_state self.old) reader.old) }
+        ensures named { OnOk result (self.new.named_capture_groups ≡ (is_unicode (mode_of_state self.old) || has_some (text_names (mode_of_state self.old) reader.old.units))) }
+        ensures apart { OnOk result (HasNoClash (mode_of_state self.old) self.old.duplicate_names reader.old.units) }
+        ensures refused { IfErr result (IsStateFault (mode_of_state self.old) self.old.duplicate_names reader.old) }
         ensures unchanged { OnErr result (self.new ≡ self.old) }
         ensures all { OnOk result (C.count steps.new ≡ C.count steps.old + length reader.old.units) }
         ensures most { C.count steps.new ≤ C.count steps.old + length reader.old.units }
@@ -125,7 +137,7 @@ impl State {
         let units = reader.remaining_code_points();
         let start = reader.offset();
         let mode = Mode::of(self.unicode_mode, self.unicode_sets_mode);
-        match FirstPass::over(alloc, units, mode, steps) {
+        match FirstPass::over(alloc, units, mode, self.duplicate_names, steps) {
             Ok(pass) => {
                 self.keep(pass);
                 Ok(())
@@ -142,6 +154,7 @@ impl State {
     fn keep(&mut self, pass: FirstPass)
         ensures unicode_mode { self.new.unicode_mode ≡ self.old.unicode_mode }
         ensures unicode_sets_mode { self.new.unicode_sets_mode ≡ self.old.unicode_sets_mode }
+        ensures duplicate_names { self.new.duplicate_names ≡ self.old.duplicate_names }
         ensures groups { self.new.num_of_capturing_groups ≡ min pass.count (2 ^ 32 - 1) }
         ensures names { self.new.capturing_group_names ≡ pass.names }
         ensures named { self.new.named_capture_groups ≡ (is_unicode pass.mode || has_some pass.names) }

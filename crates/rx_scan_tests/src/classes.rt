@@ -18,7 +18,7 @@ fn class(alloc: Global, text: &str) -> Result<(Result<Option<CharacterClass>, Fa
     requires { length text.now + 10 < 2 ^ 32 }
 {
     let mut reader = Reader::initialize(alloc, text, true, false)?;
-    let mut state = State::new(alloc, true, false);
+    let mut state = State::new(alloc, true, false, true);
     if state.initialize_with_parsing(&mut reader).is_err() {
         return Err(Fail::from("no first pass"));
     }

@@ -24,7 +24,7 @@ fn character(alloc: Global, text: &str) -> Result<Result<Option<Character>, Diag
     if !reader.eat('\\') {
         return Err(Fail::from("no backslash"));
     }
-    let state = State::new(alloc, true, false);
+    let state = State::new(alloc, true, false, true);
     let spans = SpanFactory::new(10);
     Ok(counted_character::<Brand>(&mut reader, &state, &spans, start, Blank::new(1)))
 }
@@ -173,7 +173,7 @@ fn property(
     if !reader.eat('\\') {
         return Err(Fail::from("no backslash"));
     }
-    let state = State::new(alloc, unicode_mode, false);
+    let state = State::new(alloc, unicode_mode, false, true);
     let spans = SpanFactory::new(0);
     Ok(counted_property::<Brand>(alloc, &mut reader, &state, &spans, start, Blank::new(1)))
 }

@@ -10,27 +10,42 @@ use std::test::Fail;
 struct FirstPassCall {
     unicode_mode: bool,
     unicode_sets_mode: bool,
+    duplicate_names: bool,
 }
 
 const WITH_V: FirstPassCall = FirstPassCall {
     unicode_mode: true,
     unicode_sets_mode: true,
+    duplicate_names: true,
 };
 
 const WITH_U: FirstPassCall = FirstPassCall {
     unicode_mode: true,
     unicode_sets_mode: false,
+    duplicate_names: true,
 };
 
 const WITHOUT_U: FirstPassCall = FirstPassCall {
     unicode_mode: false,
     unicode_sets_mode: false,
+    duplicate_names: true,
+};
+
+const ALL_DISTINCT: FirstPassCall = FirstPassCall {
+    unicode_mode: true,
+    unicode_sets_mode: false,
+    duplicate_names: false,
 };
 
 impl Call for FirstPassCall {
     fn answer(&self, alloc: Global, asked: &str) -> Result<String, Fail> {
         let mut reader = Reader::initialize(alloc, short(asked)?, self.unicode_mode, false)?;
-        let mut state = State::new(alloc, self.unicode_mode, self.unicode_sets_mode);
+        let mut state = State::new(
+            alloc,
+            self.unicode_mode,
+            self.unicode_sets_mode,
+            self.duplicate_names,
+        );
         match state.initialize_with_parsing(&mut reader) {
             Ok(()) => counted(alloc, &state),
             Err(StateFault::Duplicated { first, second }) => Ok(format!(in alloc;
@@ -83,6 +98,16 @@ fn lists_names_once(rt: HostRuntime) -> Result<(), Fail> {
 }
 
 #[test]
+fn refuses_each_name_that_is_there_twice(rt: HostRuntime) -> Result<(), Fail> {
+    let rows = "(?<a>)|(?<b>) => 2 true a b
+(?<a>)|(?<a>) => 3..4 10..11
+(?<a>(?<a>)) => 3..4 8..9
+(?<a>)|(?<b>)|(?<b>)|(?<a>) => 10..11 17..18
+(?:(?<a>)|b)(?:c|(?<a>)) => 6..7 20..21";
+    agree(rt.alloc(), &ALL_DISTINCT, rows)
+}
+
+#[test]
 fn nests_classes(rt: HostRuntime) -> Result<(), Fail> {
     let rows = "[(] => 0 true
 [[(]]( => 1 true
@@ -113,7 +138,7 @@ fn nests_classes(rt: HostRuntime) -> Result<(), Fail> {
 #[test]
 fn names_that_are_not_there(rt: HostRuntime) -> Result<(), Fail> {
     let mut reader = Reader::initialize(rt.alloc(), "(?<b>)(?<1>)", true, false)?;
-    let mut state = State::new(rt.alloc(), true, false);
+    let mut state = State::new(rt.alloc(), true, false, true);
     assert!(rt; state.initialize_with_parsing(&mut reader).is_ok());
     let names = &state.capturing_group_names;
     assert!(rt; names.contains("b") && !names.contains("1") && !names.contains(""));

@@ -1,5 +1,5 @@
 -- What is answered, by what the parser answers.
-use Rattle.std.proofs.Common.{◌≡◌, refl, sym, subst, ℕ, true, inl, inr, List, Option, Result, Ok, Err, [], ◌∷◌, arith}
+use Rattle.std.proofs.Common.{◌≡◌, refl, sym, subst, ℕ, Bool, true, inl, inr, List, Option, Result, Ok, Err, [], ◌∷◌, arith}
 use Rattle.std.specs.Prelude.{◌<◌, ◌^◌, length, encode_utf8_all, IfOk}
 use Rattle.std.specs.Borrow.{Bor}
 use Rattle.std.specs.Str.{IsUtf8, chars}
@@ -14,12 +14,13 @@ use Rattle.rx_ast.specs.declared.term.Pattern.{Pattern}
 use Rattle.rx_ast.specs.Forget.{bare}
 use Rattle.rx_model.specs.declared.form.Form.{Form}
 use Rattle.rx_model.specs.declared.mode.Mode.{Mode}
+use Rattle.rx_model.specs.declared.rules.Rules.{Rules}
 use Rattle.rx_model.specs.Reading.Headline.{IsAnswered, IsFaultOf, IsFirstRefusal, IsParsed, IsReadAs, IsSameAgain, Spelled, no_memory, refused}
 use Rattle.rx_model.specs.Inputs.Inputs.{AsksFor, Input, literal_alone}
 use Rattle.rx_model.specs.Spelling.Spelling.{spelling}
-use Rattle.rx_model.proofs.Inputs.Asked.{one_mode}
+use Rattle.rx_model.proofs.Inputs.Asked.{asked_some, one_mode}
 use Rattle.rx_model.proofs.Spelling.Bounds.{AreCodePoints}
-use Rattle.rx_model.proofs.Spelling.SameAgain.{asked_fits, asked_some, spelled_again}
+use Rattle.rx_model.proofs.Spelling.SameAgain.{asked_fits, spelled_again}
 use Rattle.rx_parser.specs.Inputs.{input_of}
 use Rattle.rx_parser.specs.declared.options.Options.{Options}
 use Rattle.rx_tools.specs.declared.outcome.Canonical.{Canonical}
@@ -49,13 +50,16 @@ read_as spelled input it answered =
 pub first_of : (input : Input) (refusal : Diagnostic) → IsFaultOf input (fault.Diagnostic refusal) → IsFirstRefusal input refusal
 first_of input refusal (refused first) = first
 
--- an answer at offsets that are 0
-pub by_itself : {A : Type 0} (spelled : A → Spelled) (form : Form) (text : List ℕ) (flags : Option (List ℕ)) (answer : Result A Fault) (text_offset flags_offset : ℕ) → text_offset ≡ 0 → flags_offset ≡ 0
-    → IsAnswered spelled (record { form = form; text = text; flags = flags; text_offset = text_offset; flags_offset = flags_offset }) answer
-    → IsAnswered spelled (record { form = form; text = text; flags = flags; text_offset = 0; flags_offset = 0 }) answer
-by_itself spelled form text flags answer text_offset flags_offset text_is flags_is answered =
-    subst (λ n. IsAnswered spelled (record { form = form; text = text; flags = flags; text_offset = 0; flags_offset = n }) answer) flags_is
-    (subst (λ n. IsAnswered spelled (record { form = form; text = text; flags = flags; text_offset = n; flags_offset = flags_offset }) answer) text_is answered)
+-- an answer at offsets that are 0, under given rules, and by a given way to read arguments
+pub by_itself : {A : Type 0} (spelled : A → Spelled) (form : Form) (text : List ℕ) (flags : Option (List ℕ)) (answer : Result A Fault) (text_offset flags_offset : ℕ) (given under : Rules)
+    (given_standard standard : Bool) → text_offset ≡ 0 → flags_offset ≡ 0 → given ≡ under → given_standard ≡ standard
+    → IsAnswered spelled (record { form = form; text = text; flags = flags; text_offset = text_offset; flags_offset = flags_offset; rules = given; standard_strings = given_standard }) answer
+    → IsAnswered spelled (record { form = form; text = text; flags = flags; text_offset = 0; flags_offset = 0; rules = under; standard_strings = standard }) answer
+by_itself spelled form text flags answer text_offset flags_offset given under given_standard standard text_is flags_is rules_are standard_is answered =
+    subst (λ b. IsAnswered spelled (record { form = form; text = text; flags = flags; text_offset = 0; flags_offset = 0; rules = under; standard_strings = b }) answer) standard_is
+    (subst (λ r. IsAnswered spelled (record { form = form; text = text; flags = flags; text_offset = 0; flags_offset = 0; rules = r; standard_strings = given_standard }) answer) rules_are
+    (subst (λ n. IsAnswered spelled (record { form = form; text = text; flags = flags; text_offset = 0; flags_offset = n; rules = given; standard_strings = given_standard }) answer) flags_is
+    (subst (λ n. IsAnswered spelled (record { form = form; text = text; flags = flags; text_offset = n; flags_offset = flags_offset; rules = given; standard_strings = given_standard }) answer) text_is answered)))
 
 -- the inputs of equal texts and options
 pub same_input : (given form : Form) (given_text text : Bor (List ℕ)) (given_flags flags : Option (Bor (List ℕ))) (given_options options : Options)
@@ -91,7 +95,7 @@ module _ (input : Input) where
     parsed = record { valid = read.parsed.valid; complete = read.parsed.complete; read = read.parsed.read; refused = tt };
     mode_is = read.mode_is;
     text_is = text;
-    again = subst (λ w. length (encode_utf8_all w) < 2 ^ 32 → (again : Result Pattern Fault) → IsParsed (λ p. p) (literal_alone w it.mode) again → IsSameAgain it.pattern again) (sym text) read.again;
+    again = subst (λ w. length (encode_utf8_all w) < 2 ^ 32 → (again : Result Pattern Fault) → IsParsed (λ p. p) (literal_alone w it.mode input.rules input.standard_strings) again → IsSameAgain it.pattern again) (sym text) read.again;
   }
 
   pub refused_too : (fault : Fault) → IsAnswered read_of input (Err fault) → IsAnswered spelled_of input (Err fault)

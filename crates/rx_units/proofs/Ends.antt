@@ -14,10 +14,10 @@ use Rattle.rx_units.specs.Units.{character_units, end_of, lead_of, literal_units
 use Rattle.rx_units.proofs.Choices.{both}
 
 -- the units of one character before others
-AreEnds-character : (text : List ℕ) (joined : Bool) (start end c : ℕ) (k : EscapeKind) (us : List CodePoint) → start ≤ end → IsCharBoundary text end → AreEnds text end us → AreEnds text start (character_units joined start end c k ++ us)
-AreEnds-character text joined start end c k us order cut more =
+AreEnds-character : (text : List ℕ) (joined : Bool) (first start end c : ℕ) (k : EscapeKind) (us : List CodePoint) → first ≤ end → IsCharBoundary text end → AreEnds text end us → AreEnds text first (character_units joined start end c k ++ us)
+AreEnds-character text joined first start end c k us order cut more =
     let e : end ≤ end = omega arith in
-    elim (joined || nat_lt c 0x10000) as (λ b. AreEnds text start (cond b (unit start end c k ∷ []) (unit start end (lead_of c) k ∷ unit start end (trail_of c) k ∷ []) ++ us)) [ true ↦ (order, cut, more) | false ↦ (order, cut, (e, cut, more)) ]
+    elim (joined || nat_lt c 0x10000) as (λ b. AreEnds text first (cond b (unit start end c k ∷ []) (unit start end (lead_of c) k ∷ unit start end (trail_of c) k ∷ []) ++ us)) [ true ↦ (order, cut, more) | false ↦ (order, cut, (e, cut, more)) ]
 
 AreEnds-append : (text : List ℕ) (first : ℕ) (us vs : List CodePoint) → AreEnds text first us → AreEnds text (end_of first us) vs → AreEnds text first (us ++ vs)
 AreEnds-append text first [] vs ends more = more
@@ -33,10 +33,10 @@ end_of-character joined first start end c k =
 
 -- the units of one character behind others
 module _ (text : List ℕ) (joined : Bool) (first start end c : ℕ) (k : EscapeKind) (us : List CodePoint) where
-  pub ends_more : AreEnds text first us → end_of first us ≡ start → start ≤ end → IsCharBoundary text end → AreEnds text first (us ++ character_units joined start end c k)
-  ends_more ends at order cut =
-      let one = subst (AreEnds text start) (append-nil (character_units joined start end c k)) (AreEnds-character text joined start end c k [] order cut tt) in
-      AreEnds-append text first us (character_units joined start end c k) ends (subst (λ (n : ℕ). AreEnds text n (character_units joined start end c k)) (sym at) one)
+  pub ends_more : AreEnds text first us → end_of first us ≤ end → IsCharBoundary text end → AreEnds text first (us ++ character_units joined start end c k)
+  ends_more ends order cut =
+      AreEnds-append text first us (character_units joined start end c k) ends
+      (subst (AreEnds text (end_of first us)) (append-nil (character_units joined start end c k)) (AreEnds-character text joined (end_of first us) start end c k [] order cut tt))
 
   pub end_more : end_of first (us ++ character_units joined start end c k) ≡ end
   end_more = end_of-append first us (character_units joined start end c k) ∙ end_of-character joined (end_of first us) start end c k
@@ -47,7 +47,7 @@ AreEnds-literal text behind (c ∷ cs) joined at is s h =
     let more = both (scalar c) (scalars cs) s in
     let e : at + len_utf8 c ≡ length (behind ++ encode c) = omega (arith, length-append behind (encode c), length-encode c) in
     let t = h ∙ sym (append_assoc behind (encode c) (encodes cs)) in
-    AreEnds-character text joined at (at + len_utf8 c) c kind.None _ (omega arith)
+    AreEnds-character text joined at at (at + len_utf8 c) c kind.None _ (omega arith)
     (rw e (IsCharBoundary-at_seam text (behind ++ encode c) (encodes cs) t (cs, (more.1, refl))))
     (AreEnds-literal text (behind ++ encode c) cs joined (at + len_utf8 c) e more.1 t)
 

@@ -1,7 +1,6 @@
--- A quoted text is decoded in one way, or it has one fault; and only two quotes are decoded to nothing.
-use Rattle.std.proofs.Common.{◌≡◌, ℕ, ◌+◌, ◌==◌, Bool, true, false, cond, ◌||◌, nat_lt, List, [], ◌∷◌, ◌++◌, refl, sym, ap, ◌∙◌, subst, ◌⊎◌, inl, inr}
+-- A quoted text is decoded in one way, or it has one fault.
+use Rattle.std.proofs.Common.{◌≡◌, ℕ, Bool, true, false, List, refl, sym, ap, ◌∙◌, subst, ◌⊎◌, inl, inr}
 use Rattle.rx_units.specs.declared.code_point.CodePoint.{CodePoint}
-use Rattle.rx_units.specs.declared.code_point.EscapeKind.{EscapeKind}
 use Rattle.rx_units.specs.declared.options.Options.{Options}
 use Rattle.rx_units.specs.declared.quoted_text.literal.Literal.{Literal}
 use Rattle.rx_units.specs.declared.quoted_text.literal.Literal.TheVariants as literals
@@ -12,11 +11,9 @@ use Rattle.rx_units.specs.declared.string_literal_parser.StringFault.TheVariants
 use Rattle.rx_units.specs.declared.string_literal_parser.StringLiteralKind.TheVariants as quotes
 use Rattle.rx_units.specs.declared.template_literal_parser.TemplateFault.{TemplateFault}
 use Rattle.rx_units.specs.declared.template_literal_parser.TemplateFault.TheVariants as template_fault
-use Rattle.rx_units.specs.Quoted.Elements.{quote_of}
 use Rattle.rx_units.specs.Quoted.Faults.{IsStringFault, IsTemplateFault, is_grave_accent}
-use Rattle.rx_units.specs.Quoted.Texts.{IsDecoded, Leads, Place, byte_count, no_element, one_more, opened}
+use Rattle.rx_units.specs.Quoted.Texts.{IsDecoded}
 use Rattle.rx_units.specs.Sources.{Decodes, IsQuotedFault, of_string, of_template, plain_options, string_refusal, template_refusal}
-use Rattle.rx_units.specs.Units.{character_units, lead_of, trail_of, unit}
 use Rattle.rx_units.proofs.Quoted.Exactness as strings
 use Rattle.rx_units.proofs.Quoted.Rows.{one_decoding}
 use Rattle.rx_units.proofs.Quoted.Stops.{one_literal}
@@ -24,9 +21,9 @@ use Rattle.rx_units.specs.Digits.{front_is}
 use Rattle.rx_units.proofs.Quoted.TemplateExactness as templates
 
 -- A text is decoded in one way, in whatever quotes it stands.
-pub one_decodes : {joined : Bool} {text : List ℕ} {us vs : List CodePoint} → Decodes joined text us → Decodes joined text vs → us ≡ vs
-one_decodes {joined} {text} {us} {vs} a b =
-    let o = plain_options joined in
+pub one_decodes : {standard joined : Bool} {text : List ℕ} {us vs : List CodePoint} → Decodes standard joined text us → Decodes standard joined text vs → us ≡ vs
+one_decodes {standard} {joined} {text} {us} {vs} a b =
+    let o = plain_options standard joined in
     let same = one_literal a.literal b.literal o text a.decoded.last b.decoded.last a.decoded.reached b.decoded.reached in
     one_decoding a.literal o text us vs a.decoded (subst (λ l. IsDecoded l o text vs) (sym same) b.decoded)
 
@@ -44,66 +41,37 @@ module _ (o : Options) (text : List ℕ) (us : List CodePoint) where
   no_template_fault literals.Template f d h x = templates.no_fault_decoded o text us f d x
 
 -- No text that is decoded has a fault.
-pub no_units_faulty : {joined : Bool} {text : List ℕ} {f : ReaderFault} {us : List CodePoint} → IsQuotedFault joined text f → Decodes joined text us → ⊥
-no_units_faulty {joined} {text} {us = us} (of_string {what} h x) d = no_string_fault (plain_options joined) text us d.literal what d.decoded h x
-no_units_faulty {joined} {text} {us = us} (of_template {what} h x) d = no_template_fault (plain_options joined) text us d.literal what d.decoded h x
+pub no_units_faulty : {standard joined : Bool} {text : List ℕ} {f : ReaderFault} {us : List CodePoint} → IsQuotedFault standard joined text f → Decodes standard joined text us → ⊥
+no_units_faulty {standard} {joined} {text} {us = us} (of_string {what} h x) d = no_string_fault (plain_options standard joined) text us d.literal what d.decoded h x
+no_units_faulty {standard} {joined} {text} {us = us} (of_template {what} h x) d = no_template_fault (plain_options standard joined) text us d.literal what d.decoded h x
 
 -- At most one fault stands in a text.
-pub one_quoted_fault : {joined : Bool} {text : List ℕ} {f g : ReaderFault} → IsQuotedFault joined text f → IsQuotedFault joined text g → f ≡ g
-one_quoted_fault {joined} {text} (of_string {what} h x) (of_string {what = other} k y) = ap fault.String (strings.one_fault (plain_options joined) text what other x y)
+pub one_quoted_fault : {standard joined : Bool} {text : List ℕ} {f g : ReaderFault} → IsQuotedFault standard joined text f → IsQuotedFault standard joined text g → f ≡ g
+one_quoted_fault {standard} {joined} {text} (of_string {what} h x) (of_string {what = other} k y) = ap fault.String (strings.one_fault (plain_options standard joined) text what other x y)
 one_quoted_fault (of_string h x) (of_template k y) = clash k h
 one_quoted_fault (of_template h x) (of_string k y) = clash h k
-one_quoted_fault {joined} {text} (of_template {what} h x) (of_template {what = other} k y) = ap fault.Template (templates.one_fault (plain_options joined) text what other x y)
-
-abbrev is_nothing : List CodePoint → Bool
-is_nothing [] = true
-is_nothing (u ∷ us) = false
-
-some_behind : (us vs : List CodePoint) → is_nothing vs ≡ false → is_nothing (us ++ vs) ≡ false
-some_behind [] vs h = h
-some_behind (u ∷ us) vs h = refl
-
-some_units : (joined : Bool) (start end c : ℕ) (k : EscapeKind) → is_nothing (character_units joined start end c k) ≡ false
-some_units joined start end c k =
-    elim (joined || nat_lt c 0x10000) as (λ b. is_nothing (cond b (unit start end c k ∷ []) (unit start end (lead_of c) k ∷ unit start end (trail_of c) k ∷ [])) ≡ false) [ true ↦ refl | false ↦ refl ]
-
-no_step : (l : Literal) (o : Options) (inner : List ℕ) (p : Place) → Leads l o (opened o inner) p → p.units ≡ [] → p.rest ≡ inner
-no_step l o inner _ no_element h = refl
-no_step l o inner _ (one_more {p} e w rest a g s k) h =
-    let units : List CodePoint = character_units o.combine_surrogate_pair p.offset (p.offset + byte_count w) e.value e.escape_kind in
-    clash (ap is_nothing h) (some_behind p.units units (some_units o.combine_surrogate_pair p.offset (p.offset + byte_count w) e.value e.escape_kind))
-
-is_quote : (l : Literal) → (quote_of l == 34 || (quote_of l == 39 || quote_of l == 96)) ≡ true
-is_quote (literals.String quotes.Double) = refl
-is_quote (literals.String quotes.Single) = refl
-is_quote literals.Template = refl
-
--- Only two quotes of one kind are decoded to nothing.
-pub decoded_some : {joined : Bool} {text : List ℕ} {us : List CodePoint} → Decodes joined text us → us ≡ [] → (c : ℕ) × (text ≡ c ∷ c ∷ []) × ((c == 34 || (c == 39 || c == 96)) ≡ true)
-decoded_some {joined} {text} {us} d h =
-    let r = d.decoded.reached in
-    let inner : quote_of d.literal ∷ [] ≡ r.inner = sym d.decoded.closes ∙ no_step d.literal (plain_options joined) r.inner d.decoded.last r.leads (sym d.decoded.units_are ∙ h) in
-    (quote_of d.literal, r.opens ∙ ap (λ w. quote_of d.literal ∷ w) (sym inner), is_quote d.literal)
+one_quoted_fault {standard} {joined} {text} (of_template {what} h x) (of_template {what = other} k y) = ap fault.Template (templates.one_fault (plain_options standard joined) text what other x y)
 
 -- What is said for the fault of a decoder is the fault of the text, or that memory ran out.
-module _ (joined : Bool) (text : List ℕ) where
-  pub string_stands : (f : StringFault) → front_is is_grave_accent text ≡ false → (f ≡ string_fault.OutOfMemory) ⊎ IsStringFault (plain_options joined) text f → (string_refusal f ≡ fault.OutOfMemory) ⊎ IsQuotedFault joined text (string_refusal f)
+module _ (standard joined : Bool) (text : List ℕ) where
+  pub string_stands : (f : StringFault) → front_is is_grave_accent text ≡ false → (f ≡ string_fault.OutOfMemory) ⊎ IsStringFault (plain_options standard joined) text f → (string_refusal f ≡ fault.OutOfMemory) ⊎ IsQuotedFault standard joined text (string_refusal f)
   string_stands string_fault.OutOfMemory h s = inl refl
   string_stands (string_fault.InvalidInput span) h s = elim s [ inl m ↦ absurd (let no : ⊥ = cc m in no) | inr x ↦ inr (of_string h x) ]
   string_stands (string_fault.LegacyInStrictMode what span) h s = elim s [ inl m ↦ absurd (let no : ⊥ = cc m in no) | inr x ↦ inr (of_string h x) ]
   string_stands (string_fault.TooLargeUnicodeEscapeSequence span) h s = elim s [ inl m ↦ absurd (let no : ⊥ = cc m in no) | inr x ↦ inr (of_string h x) ]
 
-  pub template_stands : (f : TemplateFault) → front_is is_grave_accent text ≡ true → (f ≡ template_fault.OutOfMemory) ⊎ IsTemplateFault (plain_options joined) text f → (template_refusal f ≡ fault.OutOfMemory) ⊎ IsQuotedFault joined text (template_refusal f)
+  pub template_stands : (f : TemplateFault) → front_is is_grave_accent text ≡ true → (f ≡ template_fault.OutOfMemory) ⊎ IsTemplateFault (plain_options standard joined) text f → (template_refusal f ≡ fault.OutOfMemory) ⊎ IsQuotedFault standard joined text (template_refusal f)
   template_stands template_fault.OutOfMemory h s = inl refl
   template_stands (template_fault.InvalidInput span) h s = elim s [ inl m ↦ absurd (let no : ⊥ = cc m in no) | inr x ↦ inr (of_template h x) ]
   template_stands (template_fault.TemplateSubstitution span) h s = elim s [ inl m ↦ absurd (let no : ⊥ = cc m in no) | inr x ↦ inr (of_template h x) ]
   template_stands (template_fault.TooLargeUnicodeEscapeSequence span) h s = elim s [ inl m ↦ absurd (let no : ⊥ = cc m in no) | inr x ↦ inr (of_template h x) ]
   template_stands (template_fault.InvalidHexEscape span) h s = elim s [ inl m ↦ absurd (let no : ⊥ = cc m in no) | inr x ↦ inr (of_template h x) ]
   template_stands (template_fault.InvalidUnicodeEscape span) h s = elim s [ inl m ↦ absurd (let no : ⊥ = cc m in no) | inr x ↦ inr (of_template h x) ]
+  template_stands (template_fault.NotEscapeSequence span) h s = elim s [ inl m ↦ absurd (let no : ⊥ = cc m in no) | inr x ↦ inr (of_template h x) ]
 
 -- Where a fault stands or memory ran out: for a text that is decoded it ran out, and for one with a fault that is the fault.
-pub memory_alone : {joined : Bool} {text : List ℕ} {f : ReaderFault} {us : List CodePoint} → (f ≡ fault.OutOfMemory) ⊎ IsQuotedFault joined text f → Decodes joined text us → f ≡ fault.OutOfMemory
+pub memory_alone : {standard joined : Bool} {text : List ℕ} {f : ReaderFault} {us : List CodePoint} → (f ≡ fault.OutOfMemory) ⊎ IsQuotedFault standard joined text f → Decodes standard joined text us → f ≡ fault.OutOfMemory
 memory_alone s d = elim s [ inl m ↦ m | inr x ↦ absurd (no_units_faulty x d) ]
 
-pub fault_alone : {joined : Bool} {text : List ℕ} {f g : ReaderFault} → (f ≡ fault.OutOfMemory) ⊎ IsQuotedFault joined text f → IsQuotedFault joined text g → (f ≡ fault.OutOfMemory) ⊎ (f ≡ g)
+pub fault_alone : {standard joined : Bool} {text : List ℕ} {f g : ReaderFault} → (f ≡ fault.OutOfMemory) ⊎ IsQuotedFault standard joined text f → IsQuotedFault standard joined text g → (f ≡ fault.OutOfMemory) ⊎ (f ≡ g)
 fault_alone s x = elim s [ inl m ↦ inl m | inr y ↦ inr (one_quoted_fault y x) ]

@@ -1,5 +1,6 @@
 pub mod Escapes
 pub mod Elements
+pub mod Values
 pub mod Texts
 pub mod Faults
 pub mod Fronts

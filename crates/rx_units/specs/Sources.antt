@@ -14,18 +14,18 @@ use Rattle.rx_units.specs.Quoted.Texts.{IsDecoded}
 use Rattle.rx_units.specs.Digits.{front_is}
 
 -- not in strict mode code, the first byte standing at 0
-abbrev pub plain_options : Bool → Options
-plain_options joined = record { strict_mode = false; span_offset = 0; combine_surrogate_pair = joined }
+abbrev pub plain_options : Bool → Bool → Options
+plain_options standard joined = record { strict_mode = false; span_offset = 0; combine_surrogate_pair = joined; standard_strings = standard }
 
 -- The text is a string or a template, and is decoded to these units.
-pub record Decodes (joined : Bool) (text : List ℕ) (units : List CodePoint) : Type 0 where
+pub record Decodes (standard joined : Bool) (text : List ℕ) (units : List CodePoint) : Type 0 where
   pub literal : Literal
-  pub decoded : IsDecoded literal (plain_options joined) text units
+  pub decoded : IsDecoded literal (plain_options standard joined) text units
 
 -- Why a text is not decoded: one that begins with a grave accent as a template, each other as a string.
-pub data IsQuotedFault (joined : Bool) (text : List ℕ) : ReaderFault → Type 0 where
-  of_string : {what : StringFault} → front_is is_grave_accent text ≡ false → IsStringFault (plain_options joined) text what → IsQuotedFault joined text (fault.String what)
-  of_template : {what : TemplateFault} → front_is is_grave_accent text ≡ true → IsTemplateFault (plain_options joined) text what → IsQuotedFault joined text (fault.Template what)
+pub data IsQuotedFault (standard joined : Bool) (text : List ℕ) : ReaderFault → Type 0 where
+  of_string : {what : StringFault} → front_is is_grave_accent text ≡ false → IsStringFault (plain_options standard joined) text what → IsQuotedFault standard joined text (fault.String what)
+  of_template : {what : TemplateFault} → front_is is_grave_accent text ≡ true → IsTemplateFault (plain_options standard joined) text what → IsQuotedFault standard joined text (fault.Template what)
 
 -- what a reader says for the fault of a decoder: where memory ran out, just that
 abbrev pub string_refusal : StringFault → ReaderFault

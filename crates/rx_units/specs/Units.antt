@@ -8,7 +8,7 @@ use Rattle.rx_units.specs.declared.code_point.EscapeKind.TheVariants as kind
 abbrev pub unit : ℕ → ℕ → ℕ → EscapeKind → CodePoint
 unit start end value escape_kind = record { span = record { start = start; end = end }; value = value; escape_kind = escape_kind }
 
--- The two UTF-16 code units of a code point past FFFF (11.1.3).
+-- The two UTF-16 code units of a code point past FFFF (11.1.1).
 abbrev pub lead_of : ℕ → ℕ
 lead_of c = 0xd800 + (c - 0x10000) / 0x400
 

@@ -8,6 +8,7 @@ mod literal;
 pub(crate) mod reading;
 pub(crate) mod string_front;
 pub(crate) mod template_front;
+pub(crate) mod value;
 
-pub use element::Element;
+pub use element::{Element, Writing};
 pub use literal::Literal;

@@ -1,4 +1,4 @@
-ghost use Rattle.std.specs.Prelude.{◌≡◌, ℕ, ◌∷◌, [], ◌<◌, ◌≤◌, ◌^◌, ◌↔◌, length, IfErr, IfOk, IsFalse, IsTrue, All, Any, List, MatchResult, ◌⊎◌, if◌then◌else◌, slice_range};
+ghost use Rattle.std.specs.Prelude.{◌≡◌, ℕ, ◌∷◌, [], ◌<◌, ◌≤◌, ◌^◌, ◌↔◌, false, length, true, IfErr, IfOk, IsFalse, IsTrue, All, Any, List, MatchResult, ◌⊎◌, if◌then◌else◌, slice_range};
 ghost use Rattle.std.specs.Str.{IsCharBoundary, chars};
 ghost use Rattle.rx_units.specs.Cursor.{AreEnds, IsOffset, begins, front, front_kind, moved, offset_of, rest, second};
 ghost use Rattle.rx_units.specs.declared.code_point.CodePoint.{CodePoint as UnitValue};
@@ -54,22 +54,62 @@ impl<'a> Reader<'a> {
 
         // A text in quotes is read as what it is decoded to, from behind its quote on; else it is refused for its fault, or memory ran out.
         ensures quoted { IsTrue parse_string_or_template_literal → MatchResult result
-            (λ reader. Decodes unicode_mode (chars source_text.now) reader.units × (reader.place ≡ 0) × (reader.first ≡ 1) × (reader.text ≡ source_text.now))
-            (λ fault. (fault ≡ ReaderFault.OutOfMemory) ⊎ IsQuotedFault unicode_mode (chars source_text.now) fault) }
-        ensures decodes { IsTrue parse_string_or_template_literal → (units : List UnitValue) → Decodes unicode_mode (chars source_text.now) units →
+            (λ reader. Decodes false unicode_mode (chars source_text.now) reader.units × (reader.place ≡ 0) × (reader.first ≡ 1) × (reader.text ≡ source_text.now))
+            (λ fault. (fault ≡ ReaderFault.OutOfMemory) ⊎ IsQuotedFault false unicode_mode (chars source_text.now) fault) }
+        ensures decodes { IsTrue parse_string_or_template_literal → (units : List UnitValue) → Decodes false unicode_mode (chars source_text.now) units →
             IfErr result (λ fault. fault ≡ ReaderFault.OutOfMemory) }
-        ensures refuses { IsTrue parse_string_or_template_literal → (f : FaultValue) → IsQuotedFault unicode_mode (chars source_text.now) f →
+        ensures refuses { IsTrue parse_string_or_template_literal → (f : FaultValue) → IsQuotedFault false unicode_mode (chars source_text.now) f →
             MatchResult result (λ reader. ⊥) (λ fault. (fault ≡ ReaderFault.OutOfMemory) ⊎ (fault ≡ f)) }
 
         // No unit ends behind the text.
         ensures within { IfOk result (λ reader. All (λ unit. unit.span.end ≤ length source_text.now) reader.units) }
     {
         if parse_string_or_template_literal {
-            let units = quoted_units(alloc, source_text, unicode_mode)?;
-            return Ok(Reader::at_start(source_text, units, 1));
+            return Reader::quoted(alloc, source_text, unicode_mode, false);
         }
         let units = parse_regexp_literal(alloc, source_text, 0, unicode_mode)?;
         Ok(Reader::at_start(source_text, units, 0))
+    }
+
+    /// Reads a text in quotes as the standard has it: the units are those of its value (ECMA-262, 12.9.4.2 and 12.9.6.1), in unicode mode its code points
+    /// (11.1.5), else its code units.
+    pub fn initialize_standard(
+        alloc: Global,
+        source_text: &'a str,
+        unicode_mode: bool,
+    ) -> Result<Reader<'a>, ReaderFault>
+        requires { length source_text.now < 2 ^ 32 }
+        ensures quoted { MatchResult result
+            (λ reader. Decodes true unicode_mode (chars source_text.now) reader.units × (reader.place ≡ 0) × (reader.first ≡ 1) × (reader.text ≡ source_text.now))
+            (λ fault. (fault ≡ ReaderFault.OutOfMemory) ⊎ IsQuotedFault true unicode_mode (chars source_text.now) fault) }
+        ensures decodes { (units : List UnitValue) → Decodes true unicode_mode (chars source_text.now) units → IfErr result (λ fault. fault ≡ ReaderFault.OutOfMemory) }
+        ensures refuses { (f : FaultValue) → IsQuotedFault true unicode_mode (chars source_text.now) f →
+            MatchResult result (λ reader. ⊥) (λ fault. (fault ≡ ReaderFault.OutOfMemory) ⊎ (fault ≡ f)) }
+
+        // No unit ends behind the text.
+        ensures within { IfOk result (λ reader. All (λ unit. unit.span.end ≤ length source_text.now) reader.units) }
+    {
+        Reader::quoted(alloc, source_text, unicode_mode, true)
+    }
+
+    /// Reads a text in quotes, as the standard has it or as the Rust crate does.
+    fn quoted(
+        alloc: Global,
+        source_text: &'a str,
+        unicode_mode: bool,
+        standard: bool,
+    ) -> Result<Reader<'a>, ReaderFault>
+        requires { length source_text.now < 2 ^ 32 }
+        ensures quoted { MatchResult result
+            (λ reader. Decodes standard unicode_mode (chars source_text.now) reader.units × (reader.place ≡ 0) × (reader.first ≡ 1) × (reader.text ≡ source_text.now))
+            (λ fault. (fault ≡ ReaderFault.OutOfMemory) ⊎ IsQuotedFault standard unicode_mode (chars source_text.now) fault) }
+        ensures decodes { (units : List UnitValue) → Decodes standard unicode_mode (chars source_text.now) units → IfErr result (λ fault. fault ≡ ReaderFault.OutOfMemory) }
+        ensures refuses { (f : FaultValue) → IsQuotedFault standard unicode_mode (chars source_text.now) f →
+            MatchResult result (λ reader. ⊥) (λ fault. (fault ≡ ReaderFault.OutOfMemory) ⊎ (fault ≡ f)) }
+        ensures within { IfOk result (λ reader. All (λ unit. unit.span.end ≤ length source_text.now) reader.units) }
+    {
+        let units = quoted_units(alloc, source_text, unicode_mode, standard)?;
+        Ok(Reader::at_start(source_text, units, 1))
     }
 
     /// A reader before the first of some units, whose offset is `first`.
@@ -278,17 +318,19 @@ fn quoted_units(
     alloc: Global,
     source_text: &str,
     joined: bool,
+    standard: bool,
 ) -> Result<List<CodePoint>, ReaderFault>
     requires { length source_text.now < 2 ^ 32 }
-    ensures ok { IfOk result (Decodes joined (chars source_text.now)) }
-    ensures err { IfErr result (λ fault. (fault ≡ ReaderFault.OutOfMemory) ⊎ IsQuotedFault joined (chars source_text.now) fault) }
-    ensures decodes { (units : List UnitValue) → Decodes joined (chars source_text.now) units → IfErr result (λ fault. fault ≡ ReaderFault.OutOfMemory) }
-    ensures refuses { (f : FaultValue) → IsQuotedFault joined (chars source_text.now) f → MatchResult result (λ units. ⊥) (λ fault. (fault ≡ ReaderFault.OutOfMemory) ⊎ (fault ≡ f)) }
+    ensures ok { IfOk result (Decodes standard joined (chars source_text.now)) }
+    ensures err { IfErr result (λ fault. (fault ≡ ReaderFault.OutOfMemory) ⊎ IsQuotedFault standard joined (chars source_text.now) fault) }
+    ensures decodes { (units : List UnitValue) → Decodes standard joined (chars source_text.now) units → IfErr result (λ fault. fault ≡ ReaderFault.OutOfMemory) }
+    ensures refuses { (f : FaultValue) → IsQuotedFault standard joined (chars source_text.now) f → MatchResult result (λ units. ⊥) (λ fault. (fault ≡ ReaderFault.OutOfMemory) ⊎ (fault ≡ f)) }
 {
     let options = Options {
         strict_mode: false,
         span_offset: 0,
         combine_surrogate_pair: joined,
+        standard_strings: standard,
     };
     if is_template(source_text) {
         let template = template_literal_parser::Parser::new(alloc, source_text, options)?;

@@ -14,7 +14,8 @@ ghost use Rattle.rx_units.specs.Digits.{front_is};
 
 use crate::quoted_text::found::Found;
 use crate::quoted_text::reading::{Source, Stop, byte_count, elements, width};
-use crate::quoted_text::{Element, Literal};
+use crate::quoted_text::value::text_units;
+use crate::quoted_text::{Element, Literal, Writing};
 use crate::{CodePoint, Options};
 use rx_base::{List, OutOfMemory, Span};
 use std::alloc::Global;
@@ -142,14 +143,11 @@ fn decode_text(alloc: Global, text: &[char], options: Options) -> Result<StringL
         return Err(fault(kind, &stop));
     }
     let span = Span::new(start, start + byte_count(text));
-    Ok(StringLiteral {
-        span,
-        kind,
-        body: stop.units,
-    })
+    let body = text_units(alloc, stop.units, options)?;
+    Ok(StringLiteral { span, kind, body })
 }
 
-/// In which quotes a string stands, and the characters behind the opening one.
+/// In which quotes a string stands, and the characters after the opening one.
 fn opening(text: &[char]) -> Option<(StringLiteralKind, &[char])>
     ensures { MatchOption result (front_is is_string_quote text.now ≡ false) (λ it. text.now ≡ quote_of (literal.String it.0) ∷ it.1.now) }
 {
@@ -170,7 +168,7 @@ fn fault(kind: StringLiteralKind, stop: &Stop<'_>) -> StringFault
     match stop.found {
         Found::Element {
             element: Element {
-                legacy: Some(what),
+                writing: Writing::Legacy(what),
                 ..
             },
             length,

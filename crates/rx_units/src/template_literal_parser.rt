@@ -10,9 +10,10 @@ ghost use Rattle.rx_units.specs.Quoted.Fronts.{front};
 ghost use Rattle.rx_units.specs.Quoted.Texts.{IsDecoded, byte_count};
 ghost use Rattle.rx_units.specs.Digits.{front_is};
 
-use crate::quoted_text::Literal;
 use crate::quoted_text::found::Found;
-use crate::quoted_text::reading::{Source, Stop, byte_count, elements};
+use crate::quoted_text::reading::{Source, Stop, byte_count, elements, width};
+use crate::quoted_text::value::text_units;
+use crate::quoted_text::{Element, Literal, Writing};
 use crate::{CodePoint, Options};
 use rx_base::{List, OutOfMemory, Span};
 use std::alloc::Global;
@@ -41,6 +42,8 @@ pub enum TemplateFault {
     InvalidHexEscape { span: Span },
     #[error("Invalid unicode escape sequence")]
     InvalidUnicodeEscape { span: Span },
+    #[error("Octal escapes, `\\8` and `\\9` are not allowed in template literals")]
+    NotEscapeSequence { span: Span },
 }
 
 impl From<OutOfMemory> for TemplateFault {
@@ -79,7 +82,7 @@ impl Parser {
         Ok(Parser { source })
     }
 
-    /// Decodes the text, or says where it is no template without substitutions. No escape of a template is legacy, so strict mode changes nothing.
+    /// Decodes the text, or says where it is no template without substitutions. Strict mode changes nothing.
     pub fn parse(self) -> Result<TemplateLiteral, TemplateFault>
         ensures ok { IfOk result (IsTemplateOf self) }
         ensures err { IfErr result (λ fault. (fault ≡ TemplateFault.OutOfMemory) ⊎ IsTemplateFault self.options self.text fault) }
@@ -121,13 +124,11 @@ fn decode_text(
         return Err(fault(&stop));
     }
     let span = Span::new(start, start + byte_count(text));
-    Ok(TemplateLiteral {
-        span,
-        body: stop.units,
-    })
+    let body = text_units(alloc, stop.units, options)?;
+    Ok(TemplateLiteral { span, body })
 }
 
-/// The characters behind the opening grave accent.
+/// The characters after the opening grave accent.
 fn opening(text: &[char]) -> Option<&[char]>
     ensures { MatchOption result (front_is is_grave_accent text.now ≡ false) (λ inner. text.now ≡ 96 ∷ inner.now) }
 {
@@ -141,11 +142,21 @@ fn opening(text: &[char]) -> Option<&[char]>
 fn fault(stop: &Stop<'_>) -> TemplateFault
     requires found { seen_front stop.now.found ≡ front literal.Template stop.now.rest.now }
     requires fits { stop.now.offset + byte_count stop.now.rest.now < 2 ^ 32 }
-    ensures { result ≡ template_fault_at (seen_front stop.now.found) stop.now.offset }
+    ensures { result ≡ template_fault_at (seen_front stop.now.found) stop.now.offset stop.now.rest.now }
 {
+    let start = stop.offset;
     match stop.found {
+        Found::Element {
+            element: Element {
+                writing: Writing::NotEscape,
+                ..
+            },
+            length,
+        } => TemplateFault::NotEscapeSequence {
+            span: Span::new(start, start + width(stop.rest, length)),
+        },
         Found::Element { .. } => TemplateFault::InvalidInput {
-            span: Span::empty(stop.offset),
+            span: Span::empty(start),
         },
         Found::Closer => TemplateFault::InvalidInput {
             span: stop.empty_span(1),
@@ -154,7 +165,7 @@ fn fault(stop: &Stop<'_>) -> TemplateFault
             span: stop.empty_span(length),
         },
         Found::Substitution => TemplateFault::TemplateSubstitution {
-            span: Span::empty(stop.offset),
+            span: Span::empty(start),
         },
         Found::InvalidHex { length } => TemplateFault::InvalidHexEscape {
             span: stop.empty_span(length),

@@ -9,9 +9,11 @@ use Rattle.std.proofs.lemmas.List.Folds.{list_any-append}
 use Rattle.rx_ast.specs.Kinds.{Kind, pattern, children, order}
 use Rattle.rx_ast.specs.Tree.{mirror}
 use Rattle.rx_ast.proofs.Orders.{order_is}
+use Rattle.rx_visit.specs.declared.buffers.BufferFinder.{BufferFinder}
 use Rattle.rx_visit.specs.declared.patterns.Finder.{Finder}
 use Rattle.rx_visit.specs.declared.patterns.NameCounter.{NameCounter}
-use Rattle.rx_visit.specs.Finding.{Finds, Counts}
+use Rattle.rx_visit.specs.Finding.{Finds, FindsBuffers, Counts}
+use Rattle.rx_visit.specs.Buffers.{has_buffer_boundaries, is_buffer_boundary}
 use Rattle.rx_visit.specs.Patterns.{is_named, count_named, is_refused}
 use Rattle.rx_visit.specs.Visits.{Visited, VisitedAll, descend, pass, none, next}
 
@@ -19,39 +21,62 @@ use Rattle.rx_visit.specs.Visits.{Visited, VisitedAll, descend, pass, none, next
 abbrev pub Stays : {V : Type 0} → V → Kind → V → Type 0
 Stays v k w = w ≡ v
 
-abbrev tests : Finder → Kind → Bool
-tests v = is_refused v.unsupported.now (order (pattern (mirror v.pattern.now)))
-
--- One of the nodes is not supported, or one was found before.
-abbrev pub Found : Finder → List Kind → Finder → Type 0
-Found v ks w = (tests w ≡ tests v) × (w.found ≡ (v.found || list_any (tests v) ks))
-
-same_tests : (v : Finder) (k : Kind) (b : Bool) (w : Finder) → Finds v k b w → tests w ≡ tests v
-same_tests v k b w f =
-    ap (λ p. is_refused w.unsupported.now (order (pattern (mirror p.now)))) f.pattern_kept ∙ ap (λ u. is_refused u.now (order (pattern (mirror v.pattern.now)))) f.unsupported_kept
-
-found_one : (v : Finder) (k : Kind) (b : Bool) (w : Finder) → Finds v k b w → Found v (k ∷ []) w
-found_one v k b w f = (same_tests v k b w f, f.found ∙ ap (λ z. v.found || z) (sym (or-false (tests v k))))
-
-found_next : (v m w : Finder) (ks more : List Kind) → Found v ks m → Found m more w → Found v (ks ++ more) w
-found_next v m w ks more a b =
-    (b.0 ∙ a.0, b.1 ∙ ap (λ t. m.found || list_any t more) a.0 ∙ ap (λ f. f || list_any (tests v) more) a.1 ∙ or_assoc v.found (list_any (tests v) ks) (list_any (tests v) more) ∙ ap (λ z. v.found || z) (sym (list_any-append (tests v) ks more)))
+-- What a visitor does that looks for a node of which a test holds: the tests stay, and one is found where one was found or this is one.
+record Looks {V : Type 0} (found : V → Bool) (tests : V → Kind → Bool) (v : V) (k : Kind) (answer : Bool) (w : V) : Type 0 where
+  same : tests w ≡ tests v
+  finds : found w ≡ (found v || tests v k)
+  answers : answer ≡ not (found w)
 
 found_already : (f t : Bool) (more : Bool) (m : Bool) → m ≡ (f || t) → false ≡ not m → m ≡ (f || (t || more))
 found_already true t more m is stop = is
 found_already false true more m is stop = is
 found_already false false more m is stop = absurd (false≢true (stop ∙ ap not is))
 
-mutual
-  pub finder_visit : (v : Finder) (k : Kind) (w : Finder) → Visited Finds Stays v k w → Found v (order k) w
-  finder_visit v k w (descend _ _ m n _ enters visits leaves) =
-      subst (λ s. Found v (order k) s) (sym leaves) (subst (λ ks. Found v ks n) (sym (order_is k)) (found_next v m n (k ∷ []) (flat_map order (children k)) (found_one v k true m enters) (finder_visits m (children k) n visits)))
-  finder_visit v k w (pass _ _ m _ enters leaves) =
-      subst (λ s. Found v (order k) s) (sym leaves) (subst (λ ks. Found v ks m) (sym (order_is k)) (same_tests v k false m enters, found_already v.found (tests v k) _ m.found enters.found enters.answered))
+module _ {V : Type 0} (entered : V → Kind → Bool → V → Type 0) (found : V → Bool) (tests : V → Kind → Bool)
+    (looks : (v : V) (k : Kind) (answer : Bool) (w : V) → entered v k answer w → Looks found tests v k answer w) where
+  -- The test holds of one of the nodes, or one was found before.
+  abbrev Found : V → List Kind → V → Type 0
+  Found v ks w = (tests w ≡ tests v) × (found w ≡ (found v || list_any (tests v) ks))
 
-  finder_visits : (v : Finder) (ks : List Kind) (w : Finder) → VisitedAll Finds Stays v ks w → Found v (flat_map order ks) w
-  finder_visits v _ _ (none _) = (refl, sym (or-false v.found))
-  finder_visits v _ w (next _ k m ks _ first others) = found_next v m w (order k) (flat_map order ks) (finder_visit v k m first) (finder_visits m ks w others)
+  found_one : (v : V) (k : Kind) (answer : Bool) (w : V) → entered v k answer w → Found v (k ∷ []) w
+  found_one v k answer w enters =
+      let l = looks v k answer w enters in (l.same, l.finds ∙ ap (λ z. found v || z) (sym (or-false (tests v k))))
+
+  found_next : (v m w : V) (ks more : List Kind) → Found v ks m → Found m more w → Found v (ks ++ more) w
+  found_next v m w ks more a b = (
+    b.0 ∙ a.0,
+    b.1 ∙ ap (λ t. found m || list_any t more) a.0 ∙ ap (λ f. f || list_any (tests v) more) a.1 ∙ or_assoc (found v) (list_any (tests v) ks) (list_any (tests v) more)
+        ∙ ap (λ z. found v || z) (sym (list_any-append (tests v) ks more)),
+  )
+
+  mutual
+    looking_visit : (v : V) (k : Kind) (w : V) → Visited entered Stays v k w → Found v (order k) w
+    looking_visit v k w (descend _ _ m n _ enters visits leaves) =
+        subst (λ s. Found v (order k) s) (sym leaves)
+        (subst (λ ks. Found v ks n) (sym (order_is k)) (found_next v m n (k ∷ []) (flat_map order (children k)) (found_one v k true m enters) (looking_visits m (children k) n visits)))
+    looking_visit v k w (pass _ _ m _ enters leaves) =
+        let l = looks v k false m enters in
+        subst (λ s. Found v (order k) s) (sym leaves) (subst (λ ks. Found v ks m) (sym (order_is k)) (l.same, found_already (found v) (tests v k) _ (found m) l.finds l.answers))
+
+    looking_visits : (v : V) (ks : List Kind) (w : V) → VisitedAll entered Stays v ks w → Found v (flat_map order ks) w
+    looking_visits v _ _ (none _) = (refl, sym (or-false (found v)))
+    looking_visits v _ w (next _ k m ks _ first others) = found_next v m w (order k) (flat_map order ks) (looking_visit v k m first) (looking_visits m ks w others)
+
+  visit_finds : (v : V) (k : Kind) (w : V) → Visited entered Stays v k w → found w ≡ (found v || list_any (tests v) (order k))
+  visit_finds v k w visit = (looking_visit v k w visit).1
+
+abbrev tests : Finder → Kind → Bool
+tests v = is_refused v.unsupported.now (order (pattern (mirror v.pattern.now)))
+
+pub finder_visit : (v : Finder) (k : Kind) (w : Finder) → Visited Finds Stays v k w → w.found ≡ (v.found || list_any (tests v) (order k))
+finder_visit = visit_finds Finds (λ v. v.found) tests (λ v k answer w f. record {
+  same = ap (λ p. is_refused w.unsupported.now (order (pattern (mirror p.now)))) f.pattern_kept ∙ ap (λ u. is_refused u.now (order (pattern (mirror v.pattern.now)))) f.unsupported_kept;
+  finds = f.found;
+  answers = f.answered;
+})
+
+pub buffers_visit : (v : BufferFinder) (k : Kind) (w : BufferFinder) → Visited FindsBuffers Stays v k w → w.found ≡ (v.found || has_buffer_boundaries (order k))
+buffers_visit = visit_finds FindsBuffers (λ v. v.found) (λ v. is_buffer_boundary) (λ v k answer w f. record { same = refl; finds = f.found; answers = f.answered })
 
 -- So many of the nodes are groups of the name as the count rose by; or the count is two at least, and so would it be.
 abbrev Reached : ℕ → ℕ → ℕ → Type 0

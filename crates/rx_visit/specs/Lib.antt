@@ -1,3 +1,4 @@
+pub mod Buffers
 pub mod Finding
 pub mod Flags
 pub mod Names

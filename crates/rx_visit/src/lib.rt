@@ -1,6 +1,7 @@
 //! Walks over the tree of a pattern, and what an engine may not support of it.
 #![tactic(auto)]
 
+mod buffers;
 mod class;
 mod flags;
 mod leaf;
@@ -13,6 +14,7 @@ mod term;
 mod visit;
 mod walk_in;
 
+pub use buffers::{has_buffer_boundaries, has_buffer_boundaries_in};
 pub use class::{
     walk_character_class, walk_character_class_contents, walk_character_class_range,
     walk_character_class_string, walk_character_class_string_disjunction,

@@ -44,7 +44,7 @@ pub record BeginsEscape (e : Environment) (w : List ℕ) : Type 0 where
   pub no_hyphen : (first == 45) ≡ false
   pub no_reserved : is_reserved_punctuator first ≡ false
 
-same_both : {A : Type 0} (b : Bool) (x : A) → cond b x x ≡ x
+pub same_both : {A : Type 0} (b : Bool) (x : A) → cond b x x ≡ x
 same_both true x = refl
 same_both false x = refl
 

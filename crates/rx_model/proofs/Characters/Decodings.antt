@@ -8,8 +8,8 @@ use Rattle.rx_tables.specs.Characters.{hex_digit_value, is_within}
 use Rattle.rx_units.specs.declared.code_point.CodePoint.{CodePoint}
 use Rattle.rx_units.specs.Units.{values}
 use Rattle.rx_units.specs.Digits.{hex_number}
-use Rattle.rx_units.specs.declared.code_point.EscapeKind.{EscapeKind}
-use Rattle.rx_units.specs.declared.code_point.EscapeKind.TheVariants as kind
+use Rattle.rx_units.specs.declared.quoted_text.element.Writing.{Writing}
+use Rattle.rx_units.specs.declared.quoted_text.element.Writing.TheVariants as writing
 use Rattle.rx_units.specs.Quoted.Fronts.{EscapeRead, escaped, no_unicode, passes, digit_step, digits_at}
 use Rattle.rx_units.proofs.Choices.{both, chosen}
 use Rattle.rx_units.proofs.Digits.{four_small}
@@ -34,7 +34,7 @@ run_is_step : (n count x : ℕ) (o : Option ℕ) (here : ℕ → Decoded) (quote
 run_is_step n count x (Some d) here quoted same =
     choose_both (λ r s. r ≡ of_digits s) (nat_lt (16 * n + d) (2 ^ 32)) (here (16 * n + d)) (overflow count) (quoted (16 * n + d)) (passes (count + 3)) (λ _. same (16 * n + d)) (λ _. ap overflow (omega arith))
 run_is_step n count x None here quoted same =
-    choose_both (λ r s. r ≡ of_digits s) ((x == 125) && (nat_lt 0 count && nat_le n 0x10FFFF)) (value n (count + 3)) invalid (escaped n kind.Unicode (count + 4)) (no_unicode (count + 3)) (λ _. ap (value n) (omega arith)) (λ _. refl)
+    choose_both (λ r s. r ≡ of_digits s) ((x == 125) && (nat_lt 0 count && nat_le n 0x10FFFF)) (value n (count + 3)) invalid (escaped n writing.Unicode (count + 4)) (no_unicode (count + 3)) (λ _. ap (value n) (omega arith)) (λ _. refl)
 
 run_is : (n count : ℕ) (w : List ℕ) → run_at n count w ≡ of_digits (digits_at n count w)
 run_is n count [] = refl
@@ -108,7 +108,7 @@ trail_again w b =
     ∙ ap (λ o. option_and_then (λ (t : ℕ × List ℕ). cond (is_trail t.0) (Some t.0) None) (option_map (λ v. (v, b.rest)) o)) b.number
     ∙ ap (λ c. cond c (Some b.trail) None) (within 0xDC00 0xDFFF b.trail b.is_trail.0 b.is_trail.1)
 
-braces_run : (xs : List ℕ) (v m : ℕ) (k : EscapeKind) → Run 0 0 xs v k m → Decodes true (117 ∷ 123 ∷ xs) v (m - 1)
+braces_run : (xs : List ℕ) (v m : ℕ) (k : Writing) → Run 0 0 xs v k m → Decodes true (117 ∷ 123 ∷ xs) v (m - 1)
 braces_run xs v m k r = go r.digits refl
   where
     go : (ds : List ℕ) → r.digits ≡ ds → Decodes true (117 ∷ 123 ∷ xs) v (m - 1)

@@ -10,10 +10,11 @@ use Rattle.rx_model.specs.Classes.ClassRows.{ClassTokenRow, IsClass, Place, fres
 use Rattle.rx_model.specs.Classes.ClassRuns.{Bracket, Brackets, class_opened}
 use Rattle.rx_model.specs.Classes.ClassTokens.{ClassToken, bracket, class_tokens}
 use Rattle.rx_model.specs.Inputs.Environment.{Environment}
+use Rattle.rx_model.specs.declared.rules.Rules.{Rules}
 use Rattle.rx_model.specs.Reading.Fronts.{bracket_token, front}
 use Rattle.rx_model.specs.Reading.Rows.{Spells}
 use Rattle.rx_model.specs.Refusals.ClassPlaces.{IsItemPlace}
-use Rattle.rx_model.specs.Refusals.Reached.{text_environment, text_groups, text_names}
+use Rattle.rx_model.specs.Refusals.Reached.{class_environment, text_environment, text_groups, text_names}
 use Rattle.rx_model.specs.Trees.Early.{IsEarlyClass, Obeys}
 use Rattle.rx_model.specs.Trees.Token as token
 use Rattle.rx_model.proofs.Classes.ClassFaults.{Stuck}
@@ -43,7 +44,7 @@ first_bracket e (t ∷ ts) us q rest open_brackets h r = absurd (let no : ⊥ = 
 
 module _ (mode : Mode) (us : List CodePoint) (start added from : ℕ) (at_class : List CodePoint) where
   abbrev here : Environment
-  here = text_environment mode us
+  here = class_environment mode us
 
   abbrev Stops : ℕ → Diagnostic → Type 0
   Stops = Stuck mode us start added from at_class
@@ -97,9 +98,12 @@ module _ (mode : Mode) (us : List CodePoint) (start added from : ℕ) (at_class 
       off (t ∷ ts) e =
           let no : None ≡ opens_as (x.state.inner ∷ x.state.outer) = sym (class_opened-append (class_tokens c) (t ∷ ts) [] closes) ∙ ap class_opened (sym e) ∙ x.is_stuck.accepted in cc no
 
-  pub class_blocked : (f : ℕ) (d : Diagnostic) → Stops f d → IsBlocked mode us at_class
-  class_blocked f d x t n h o = go (class_front here (b.0 ∷ b.1)) (sym h ∙ ap (front here) b.2 ∙ at_bracket here b.0 b.1 b.3)
+  pub class_blocked : (rules : Rules) (f : ℕ) (d : Diagnostic) → Stops f d → IsBlocked mode rules us at_class
+  class_blocked rules f d x t n h o = go (class_front here (b.0 ∷ b.1)) (sym h ∙ ap (front there) b.2 ∙ at_bracket there b.0 b.1 b.3)
     where
+      there : Environment
+      there = text_environment mode rules us
+
       b : (u : CodePoint) × (more : List CodePoint) × (at_class ≡ u ∷ more) × (u.value ≡ 91)
       b = at_bracket_is f d x
 
@@ -107,5 +111,5 @@ module _ (mode : Mode) (us : List CodePoint) (start added from : ℕ) (at_class 
       go None k = cc k
       go (Some c) k =
           let same : t ≡ token.class c.0 = same_token t (token.class c.0) n c.1 k in
-          let y = front_spelled here at_class t n h in
-          no_class f d x c.0 y.w y.rest y.whole (subst (λ t. Spells here t y.w y.rest) same y.spells) (subst (Obeys (text_groups mode us) (text_names mode us)) same o)
+          let y = front_spelled there at_class t n h in
+          no_class f d x c.0 y.w y.rest y.whole (subst (λ t. Spells there t y.w y.rest) same y.spells) (subst (Obeys (text_groups mode us) (text_names mode us)) same o)

@@ -14,7 +14,7 @@ use Rattle.rx_model.specs.Inputs.Environment.{Environment, is_sets, is_unicode}
 use Rattle.rx_model.specs.Characters.EscapeFronts.{EscapeRead, escaped, nothing, too_many, no_unicode, escape_at, class_escape_at}
 use Rattle.rx_model.specs.Characters.Escapes.{is_identity_escape, SpellsEscape, control, letter, null, hexadecimal, unicode, identity}
 use Rattle.rx_model.specs.Properties.PropertyForms.{begins_property}
-use Rattle.rx_model.specs.Refusals.Reached.{text_environment}
+use Rattle.rx_model.specs.Refusals.Reached.{class_environment}
 use Rattle.rx_model.specs.Refusals.Stops.{begins_class_escape, is_letter, is_one_of, two_hex_digits}
 use Rattle.rx_model.proofs.Classes.ClassFronts.{at_backslash}
 use Rattle.rx_model.proofs.Characters.Escapes.{begins_with_u, escape_spelled}
@@ -36,7 +36,7 @@ no_class c h = grind (arith, nat_tests)
 
 module _ (us : List CodePoint) where
   abbrev here : Environment
-  here = text_environment Unicode us
+  here = class_environment Unicode us
 
   -- what does not stand behind a backslash that begins no escape in a class
   record NoBeginning (c : ℕ) (w : List ℕ) : Type 0 where
@@ -90,7 +90,7 @@ module _ (us : List CodePoint) where
 
 -- In every mode but that of `v` no atom of a class stands where no escape begins.
 pub no_escape_atom : (mode : Mode) → is_sets mode ≡ false → (us : List CodePoint) (backslash : CodePoint) (rest : List CodePoint) → backslash.value ≡ 92 →
-    begins_class_escape (text_environment mode us) (values rest) ≡ false → atom_at (text_environment mode us) (backslash ∷ rest) ≡ no_atom
-no_escape_atom Legacy no_sets us backslash rest h none = at_backslash (text_environment Legacy us) backslash rest h ∙ no_atom_behind_backslash (text_environment Legacy us) refl (values rest) none
+    begins_class_escape (class_environment mode us) (values rest) ≡ false → atom_at (class_environment mode us) (backslash ∷ rest) ≡ no_atom
+no_escape_atom Legacy no_sets us backslash rest h none = at_backslash (class_environment Legacy us) backslash rest h ∙ no_atom_behind_backslash (class_environment Legacy us) refl (values rest) none
 no_escape_atom Unicode no_sets us backslash rest h none = no_escape_in_unicode us backslash rest h none
 no_escape_atom Sets no_sets us backslash rest h none = absurd (let no : ⊥ = cc no_sets in no)

@@ -20,7 +20,7 @@ use Rattle.rx_model.specs.Classes.ClassTokens.{Atom, character, escape, property
 use Rattle.rx_model.specs.Inputs.Environment.{Environment, is_sets}
 use Rattle.rx_model.specs.FirstPass.Marks.{starts}
 use Rattle.rx_model.specs.Refusals.EscapeCauses.{IsEscapeCause}
-use Rattle.rx_model.specs.Refusals.Reached.{span_between, text_environment}
+use Rattle.rx_model.specs.Refusals.Reached.{span_between, class_environment}
 use Rattle.rx_model.proofs.Classes.ClassEnds.{class_row_append}
 use Rattle.rx_model.proofs.Classes.ClassStates.{Fits, none_follows, opened_fits, opened_union, operand_union, union_more}
 use Rattle.rx_model.proofs.Classes.ClassStops.{AtomFault, bad_escape, in_escape, in_property, IsBlockedItem, IsDead, backslash_first, closer_dead, dash_dead, dead_blocked, ends_dead, fault_dead, fresh_union, is_between, item_between, no_item_there, range_blocked, second_dead, third_dead}
@@ -61,7 +61,7 @@ pub record IsStuck (e : Environment) (from : ℕ) (at_class : List CodePoint) (s
 
 module _ (mode : Mode) (us : List CodePoint) (start added from : ℕ) (at_class : List CodePoint) where
   abbrev here : Environment
-  here = text_environment mode us
+  here = class_environment mode us
 
   abbrev pub EscapeFault : ℕ → List CodePoint → Diagnostic → Type 0
   EscapeFault = AtomFault mode us start added

@@ -20,7 +20,7 @@ use Rattle.rx_model.specs.Inputs.Environment.{Environment, is_sets, is_unicode}
 use Rattle.rx_model.specs.FirstPass.Marks.{starts}
 use Rattle.rx_model.specs.Properties.PropertyForms.{begins_property}
 use Rattle.rx_model.specs.Refusals.EscapeCauses.{IsEscapeCause, IsPropertyCause}
-use Rattle.rx_model.specs.Refusals.Reached.{span_between, text_environment}
+use Rattle.rx_model.specs.Refusals.Reached.{span_between, class_environment}
 use Rattle.rx_model.specs.Refusals.Stops.{begins_class_escape}
 use Rattle.rx_model.proofs.Classes.ClassStates.{Fits}
 use Rattle.rx_model.proofs.Classes.ClassWholes.{only_sets}
@@ -143,7 +143,7 @@ none_other c d same other is = true≢false (sym is ∙ ap (λ c. c == 92 || (c 
 
 module _ (mode : Mode) (us : List CodePoint) (start added : ℕ) where
   abbrev here : Environment
-  here = text_environment mode us
+  here = class_environment mode us
 
   -- An escape that is refused is to stand here.
   pub data AtomFault (f : ℕ) (rest : List CodePoint) : Diagnostic → Type 0 where

@@ -25,7 +25,7 @@ use Rattle.rx_model.specs.Refusals.ClassCauses as class_cause
 use Rattle.rx_model.specs.Refusals.ClassCauses.{IsClassCause, NothingFollows, StandsRange}
 use Rattle.rx_model.specs.Refusals.ClassPlaces.{IsItemPlace, IsOfStrings, IsStringPlace, begins_item}
 use Rattle.rx_model.specs.Refusals.EscapeCauses.{IsPropertyCause, negative_of_strings}
-use Rattle.rx_model.specs.Refusals.Reached.{text_environment}
+use Rattle.rx_model.specs.Refusals.Reached.{class_environment}
 use Rattle.rx_model.specs.Trees.Early.{IsEarlyClass}
 use Rattle.rx_model.proofs.Classes.ClassCloses.{closed_class}
 use Rattle.rx_model.proofs.Classes.ClassFronts.{atom_some, behind_first, behind_one, class_token_found, class_token_is, single as one_unit, token_some, sets_is}
@@ -92,7 +92,7 @@ range_run k j v x r outer held e order small =
 
 module _ (mode : Mode) (us : List CodePoint) (start added from : ℕ) (at_class : List CodePoint) where
   abbrev pub here : Environment
-  here = text_environment mode us
+  here = class_environment mode us
 
   abbrev pub Item : ℕ → List CodePoint → Type 0
   Item place rest = IsItemPlace here from at_class place rest

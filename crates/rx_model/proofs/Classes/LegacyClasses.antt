@@ -14,7 +14,7 @@ use Rattle.rx_model.specs.Classes.ClassTokens.{Atom, ClassToken, character, clos
 use Rattle.rx_model.specs.Inputs.Environment.{Environment}
 use Rattle.rx_model.specs.Refusals.ClassCauses as class_cause
 use Rattle.rx_model.specs.Refusals.ClassCauses.{NothingFollows}
-use Rattle.rx_model.specs.Refusals.Reached.{text_environment}
+use Rattle.rx_model.specs.Refusals.Reached.{class_environment}
 use Rattle.rx_model.specs.Refusals.Stops.{begins_class_escape}
 use Rattle.rx_model.specs.Spelling.ReadBack.{AreCodeUnits}
 use Rattle.rx_model.proofs.Classes.ClassFronts.{atom_found, atom_is_read}
@@ -44,7 +44,7 @@ dashed (u ∷ v ∷ rest) h =
 
 module _ (us : List CodePoint) (start added from : ℕ) (at_class : List CodePoint) where
   abbrev here : Environment
-  here = text_environment Legacy us
+  here = class_environment Legacy us
 
   abbrev There : ℕ → List CodePoint → Type 0
   There = Item Legacy us start added from at_class

@@ -17,7 +17,7 @@ use Rattle.rx_model.specs.Refusals.ClassCauses.{EndsStrings, IsClassCause, Nothi
 use Rattle.rx_model.specs.Refusals.ClassPlaces.{IsStringPlace, begins_item}
 use Rattle.rx_model.specs.Refusals.EscapeCauses.{IsEscapeCause, IsPropertyCause}
 use Rattle.rx_model.specs.Refusals.Firsts.{IsFirstInClass}
-use Rattle.rx_model.specs.Refusals.Reached.{span_between, text_environment}
+use Rattle.rx_model.specs.Refusals.Reached.{span_between, class_environment}
 use Rattle.rx_model.proofs.Classes.ClassFaults.{State, IsStuck, IsBehindLow, Nothing, at_atom, behind_range, of_range, Said, elsewhere, behind_dash, ampersand, closing, Fault, nothing, said, operand_there, stuck}
 use Rattle.rx_model.proofs.Classes.ClassStates.{Fits, none_follows, opened_fits, union_more}
 use Rattle.rx_model.proofs.Classes.ClassStops.{AtomFault, bad_escape, in_escape, in_property, dead_blocked, is_between, low_there}
@@ -34,7 +34,7 @@ NoneRefused mode rest =
 
 module _ (mode : Mode) (us : List CodePoint) (start added from : ℕ) (at_class : List CodePoint) where
   abbrev here : Environment
-  here = text_environment mode us
+  here = class_environment mode us
 
   -- Nothing that may follow stands where a reading has come to, and no escape is refused that may stand there.
   pub record IsSilent (s : State) : Type 0 where

@@ -1,13 +1,13 @@
 -- A text begins with at most one class, whose tokens are a list that ends before a stop.
-use Rattle.std.proofs.Common.{◌≡◌, Option, Some, None, List, ◌++◌}
+use Rattle.std.proofs.Common.{◌≡◌, refl, Option, Some, None, List, ◌++◌}
 use Rattle.rx_ast.specs.ClassTree.{Class}
 use Rattle.rx_units.specs.declared.code_point.CodePoint.{CodePoint}
 use Rattle.rx_model.specs.Classes.ClassRows.{IsClass}
 use Rattle.rx_model.specs.Classes.ClassTokens.{ClassToken}
 use Rattle.rx_model.specs.Reading.ElementKinds.{NestedPlace, SpellsOfClass}
-use Rattle.rx_model.specs.Inputs.Environment.{Environment}
+use Rattle.rx_model.specs.Inputs.Environment.{Environment, for_classes}
 use Rattle.rx_model.specs.Trees.Token as token
-use Rattle.rx_model.proofs.Reading.OneRow.{first_token}
+use Rattle.rx_model.proofs.Reading.OneRow.{class_same, first_token}
 use Rattle.rx_model.proofs.Reading.Prefixes.{first_in_class}
 
 module _ (e : Environment) where
@@ -17,6 +17,8 @@ module _ (e : Environment) where
 
   pub one_class : (c d : Class) (w rest v back : List CodePoint) → IsClass e c w rest → IsClass e d v back → w ++ rest ≡ v ++ back → (c ≡ d) × (rest ≡ back)
   one_class c d w rest v back a b h =
-      let f = first_token e tt (token.class c) (token.class d) w rest v back h a b in
+      let f =
+      first_token e tt (token.class c) (token.class d) w rest v back h (class_same e (for_classes e) c w rest refl refl (λ _. refl) a)
+      (class_same e (for_classes e) d v back refl refl (λ _. refl) b) in
       let same : token.class c ≡ token.class d = f.0 in
       (cc same, f.1)

@@ -20,7 +20,7 @@ use Rattle.rx_model.specs.Inputs.Environment.{Environment, is_sets}
 use Rattle.rx_model.specs.FirstPass.Marks.{starts}
 use Rattle.rx_model.specs.Properties.PropertyForms.{begins_property}
 use Rattle.rx_model.specs.Refusals.EscapeCauses.{IsEscapeCause, IsPropertyCause}
-use Rattle.rx_model.specs.Refusals.Reached.{span_between, text_environment}
+use Rattle.rx_model.specs.Refusals.Reached.{span_between, class_environment}
 use Rattle.rx_model.specs.Refusals.Stops.{begins_class_escape}
 use Rattle.rx_model.proofs.Classes.ClassFaults.{State, Opens, Strings, Nothing, in_class, no_operand, no_operator, in_class_strings, RangeFault, range_fault, Elsewhere, at_atom, behind_range, of_range, Said, elsewhere, behind_dash, ampersand, closing, Fault, is_some_token}
 use Rattle.rx_model.proofs.Classes.ClassStates.{run_in}
@@ -163,7 +163,7 @@ front_other mode at c w is no_closer no_dash =
 
 module _ (mode : Mode) (us : List CodePoint) (start added from : ℕ) (at_class : List CodePoint) where
   abbrev here : Environment
-  here = text_environment mode us
+  here = class_environment mode us
 
   abbrev EscapeFault : ℕ → List CodePoint → Diagnostic → Type 0
   EscapeFault = AtomFault mode us start added

@@ -14,7 +14,7 @@ use Rattle.rx_model.specs.Classes.ClassTokens.{ClassToken, is_character}
 use Rattle.rx_model.specs.Inputs.Environment.{Environment, is_sets}
 use Rattle.rx_model.specs.FirstPass.Marks.{starts}
 use Rattle.rx_model.specs.Refusals.Firsts.{IsFirstInClass, no_item, yielding}
-use Rattle.rx_model.specs.Refusals.Reached.{span_between, text_environment}
+use Rattle.rx_model.specs.Refusals.Reached.{span_between, class_environment}
 use Rattle.rx_model.proofs.Classes.ClassFaults.{State, IsStuck, Opens, Nothing, in_class, no_operand, no_operator, in_class_strings, RangeFault, Elsewhere, at_atom, behind_range, of_range, Said, elsewhere, behind_dash, ampersand, closing, Fault, nothing, said, stuck, value_of}
 use Rattle.rx_model.proofs.Classes.ClassStates.{none_in_strings, opened_union}
 use Rattle.rx_model.proofs.Classes.OneFault.{one_nothing, one_said, some_brackets, union_no_operator}
@@ -29,7 +29,7 @@ made tokens at inner outer place rest = record { tokens = tokens; at = at; inner
 
 module _ (mode : Mode) (us : List CodePoint) (start added from : ℕ) (at_class : List CodePoint) where
   abbrev here : Environment
-  here = text_environment mode us
+  here = class_environment mode us
 
   abbrev EscapeFault : ℕ → List CodePoint → Diagnostic → Type 0
   EscapeFault = AtomFault mode us start added

@@ -13,7 +13,7 @@ use Rattle.rx_model.specs.Inputs.Environment.{Environment}
 use Rattle.rx_model.specs.Refusals.ClassCauses as class_cause
 use Rattle.rx_model.specs.Refusals.ClassCauses.{NothingFollows}
 use Rattle.rx_model.specs.Refusals.ClassPlaces.{begins_item}
-use Rattle.rx_model.specs.Refusals.Reached.{text_environment}
+use Rattle.rx_model.specs.Refusals.Reached.{class_environment}
 use Rattle.rx_model.proofs.Classes.ClassValues.{all_small}
 use Rattle.rx_model.proofs.Classes.FurtherItems as items
 use Rattle.rx_model.proofs.Classes.FurtherItems.{Item, Refused, RefusesNothing, StandsClass, same_place}
@@ -21,7 +21,7 @@ use Rattle.rx_model.proofs.Classes.OpenBrackets.{innermost}
 
 module _ (us : List CodePoint) (start added from : ℕ) (at_class : List CodePoint) where
   abbrev here : Environment
-  here = text_environment Sets us
+  here = class_environment Sets us
 
   abbrev There : ℕ → List CodePoint → Type 0
   There = Item Sets us start added from at_class

@@ -1,22 +1,25 @@
 -- The first pass finds two groups of one name that might both take part exactly where the tree holds such.
-use Rattle.std.proofs.Common.{◌≡◌, refl, ◌∙◌, subst, ℕ, suc, ◌≤◌, List, [], ◌∷◌, drop, arith}
+use Rattle.std.proofs.Common.{◌≡◌, refl, sym, Bool, true, false, ◌∙◌, subst, ℕ, suc, ◌≤◌, List, [], ◌∷◌, drop, arith}
 use Rattle.rx_ast.specs.declared.term.Pattern.{Pattern}
 use Rattle.rx_ast.specs.Tree.{Node, Nodes, Alternatives, leaf, quantified, group, no_node, node, no_alternative, alternative, mirror_disjunction}
 use Rattle.rx_units.specs.declared.code_point.CodePoint.{CodePoint}
 use Rattle.rx_units.specs.Units.{values}
 use Rattle.rx_model.specs.declared.mode.Mode.{Mode}
 use Rattle.rx_model.specs.FirstPass.Cuts.{AreMarksOfAll, TellsApart}
-use Rattle.rx_model.specs.Inputs.Environment.{environment}
+use Rattle.rx_model.specs.Inputs.Environment.{Environment, environment}
 use Rattle.rx_model.specs.Trees.Events.{node_events, nodes_events, alternatives_events, barred_events, tokens}
 use Rattle.rx_model.specs.FirstPass.GroupStates.{GroupState, group_states}
 use Rattle.rx_model.specs.FirstPass.Marks.{Mark, Clash, mark_at, marks}
-use Rattle.rx_model.specs.Trees.Names.{node_names, nodes_names, alternatives_names, IsNodeApart, AreNodesApart, AreAlternativesApart}
+use Rattle.rx_model.specs.Trees.Names.{AreDistinct, node_names, nodes_names, alternatives_names, IsNodeApart, AreNodesApart, AreAlternativesApart}
 use Rattle.rx_model.specs.Reading.Reading.{IsSpelled}
 use Rattle.rx_model.specs.Trees.Token.{Token, closer, quantifier}
+use Rattle.rx_model.specs.declared.rules.Rules.{Rules}
 use Rattle.rx_model.proofs.Trees.Flat.{before, before-append, before_leaf, before_quantified, before_group, before_alternative, tokens_are}
 use Rattle.rx_model.proofs.FirstPass.GroupStretches.{SeesAsBefore, IsBody, no_body, alternative_body, bar_body, after_bar, after_opening, group_stretch}
 use Rattle.rx_model.proofs.FirstPass.MarkRows.{AreFrom, no_mark, past_end, named_before_end, leaf_then, quantifier_then, opener_then, closer_then, bar_then, opening_step}
-use Rattle.rx_model.proofs.FirstPass.OwnGroups.{row_marks}
+use Rattle.rx_model.proofs.FirstPass.OwnGroups.{all_names, row_marks}
+use Rattle.rx_model.proofs.FirstPass.Distinct.{are_distinct, none_twice}
+use Rattle.rx_model.specs.Reading.Rows.{TokenRow}
 use Rattle.rx_model.proofs.FirstPass.PartedMarks.{hidden_parted, parted_hidden}
 use Rattle.rx_model.proofs.FirstPass.Stretches.{AreClear, IsStretch, others_stretch, others_after, stretches}
 
@@ -81,39 +84,50 @@ module _ (mode : Mode) (ms : List Mark) where
         )
 
   -- marks without a clash are clear
-  clear_from : (j : ℕ) → ((a b : ℕ) → Clash mode ms a b → ⊥) → AreClear mode ms 0 j
-  clear_from j f b name l g h v = f v.0 b (record { in_order = v.1; name = name; first = v.2; second = h; together = λ p. v.3 (parted_hidden ms v.0 b p) })
+  clear_from : (j : ℕ) → ((a b : ℕ) → Clash mode true ms a b → ⊥) → AreClear mode ms 0 j
+  clear_from j f b name l g h v = f v.0 b (record { in_order = v.1; name = name; first = v.2; second = h; together = λ _ p. v.3 (parted_hidden ms v.0 b p) })
 
   -- and clear marks are without a clash
-  no_clash_from : (j : ℕ) → drop j ms ≡ [] → AreClear mode ms 0 j → (a b : ℕ) → Clash mode ms a b → ⊥
+  no_clash_from : (j : ℕ) → drop j ms ≡ [] → AreClear mode ms 0 j → (a b : ℕ) → Clash mode true ms a b → ⊥
   no_clash_from j e f a b c =
       let end = past_end ms j e in
       let here = named_before_end mode ms b c.name c.second in
-      f b c.name (omega arith) (omega arith) c.second (a, c.in_order, c.first, λ h. c.together (hidden_parted ms a b h))
+      f b c.name (omega arith) (omega arith) c.second (a, c.in_order, c.first, λ h. c.together refl (hidden_parted ms a b h))
 
   -- the alternatives of a whole text are a body in no group
   whole_apart : (more : Alternatives) → AreFrom mode ms 0 (before (alternatives_events more) []) → BodyThen 0 [] 0 [] (AreAlternativesApart more) (alternatives_names more)
   whole_apart more c = alternatives_apart more 0 [] 0 [] refl (omega arith) (λ name. (λ v. let l = v.1 in absurd (omega arith), λ v. let l = v.1 in absurd (omega arith))) c
 
 -- where the marks of a whole text do not clash, the names of its tree are apart
-apart_from : (mode : Mode) (ms : List Mark) (more : Alternatives) → AreFrom mode ms 0 (before (alternatives_events more) []) → ((a b : ℕ) → Clash mode ms a b → ⊥) → AreAlternativesApart more
+apart_from : (mode : Mode) (ms : List Mark) (more : Alternatives) → AreFrom mode ms 0 (before (alternatives_events more) []) → ((a b : ℕ) → Clash mode true ms a b → ⊥) → AreAlternativesApart more
 apart_from mode ms more c f = let b = whole_apart mode ms more c in (b.2.sound (clear_from mode ms b.0 f)).0
 
 -- and where they are apart, the marks do not clash
-no_clash_of : (mode : Mode) (ms : List Mark) (more : Alternatives) → AreFrom mode ms 0 (before (alternatives_events more) []) → AreAlternativesApart more → (a b : ℕ) → Clash mode ms a b → ⊥
+no_clash_of : (mode : Mode) (ms : List Mark) (more : Alternatives) → AreFrom mode ms 0 (before (alternatives_events more) []) → AreAlternativesApart more → (a b : ℕ) → Clash mode true ms a b → ⊥
 no_clash_of mode ms more c r =
     let b = whole_apart mode ms more c in
     no_clash_from mode ms b.0 b.1 (b.2.whole r (λ name h v. let l = v.1 in absurd (omega arith)))
 
 -- the marks of a text are those of the alternatives of its tree
-alternatives_marks : (mode : Mode) (p : Pattern) (us : List CodePoint) → IsSpelled mode p us →
-    AreFrom mode (marks mode (values us)) 0 (before (alternatives_events (mirror_disjunction p.body).1) [])
-alternatives_marks mode p us r =
-    subst (λ ts. AreMarksOfAll mode ts (marks mode (values us))) (tokens_are p) (row_marks (environment mode p) (tokens p) us r.row)
+alternatives_marks : (e : Environment) (p : Pattern) (us : List CodePoint) → TokenRow e (tokens p) us [] →
+    AreFrom e.mode (marks e.mode (values us)) 0 (before (alternatives_events (mirror_disjunction p.body).1) [])
+alternatives_marks e p us row =
+    subst (λ ts. AreMarksOfAll e.mode ts (marks e.mode (values us))) (tokens_are p) (row_marks e (tokens p) us row)
 
-pub tells_apart : (mode : Mode) (p : Pattern) (us : List CodePoint) → IsSpelled mode p us → TellsApart mode p us
-tells_apart mode p us r =
-    let c = alternatives_marks mode p us r in record {
-      apart = apart_from mode (marks mode (values us)) (mirror_disjunction p.body).1 c;
-      no_clash = no_clash_of mode (marks mode (values us)) (mirror_disjunction p.body).1 c;
+-- where two groups may have one name, and where none may
+apart_by : (duplicate_names : Bool) (e : Environment) (p : Pattern) (us : List CodePoint) → TokenRow e (tokens p) us [] → TellsApart e.mode duplicate_names p us
+apart_by true e p us row =
+    let c = alternatives_marks e p us row in record {
+      apart = apart_from e.mode (marks e.mode (values us)) (mirror_disjunction p.body).1 c;
+      no_clash = no_clash_of e.mode (marks e.mode (values us)) (mirror_disjunction p.body).1 c;
     }
+apart_by false e p us row =
+    let ms = marks e.mode (values us) in
+    let found = all_names e p us row in record {
+      apart = λ none. subst AreDistinct found (are_distinct e.mode ms (λ a b name l h k.
+          none a b (record { in_order = l; name = name; first = h; second = k; together = λ no. absurd (let never : ⊥ = cc no in never) })));
+      no_clash = λ d a b c. none_twice e.mode ms (subst AreDistinct (sym found) d) a b c.name c.in_order c.first c.second;
+    }
+
+pub tells_apart : (mode : Mode) (rules : Rules) (p : Pattern) (us : List CodePoint) → IsSpelled mode rules p us → TellsApart mode rules.duplicate_names p us
+tells_apart mode rules p us r = apart_by rules.duplicate_names (environment mode rules p) p us r.row

@@ -20,7 +20,7 @@ use Rattle.rx_model.specs.declared.mode.Mode.TheVariants.{Legacy, Unicode, Sets}
 use Rattle.rx_ast.specs.Texts.{boundary_text, class_escape_text, property_opener, look_text}
 use Rattle.rx_model.specs.Classes.ClassRows.{IsClass}
 use Rattle.rx_model.specs.FirstPass.Cuts.{AreMarksOf, AreOthers, IsCut, IsOpening}
-use Rattle.rx_model.specs.Inputs.Environment.{Environment, is_unicode}
+use Rattle.rx_model.specs.Inputs.Environment.{Environment, for_classes, is_unicode}
 use Rattle.rx_model.specs.Characters.Escapes.{SpellsEscape, control, letter, null, hexadecimal, unicode, identity}
 use Rattle.rx_model.specs.Groups.Groups.{IsIndexed, IsModified, IsNamed, IsNaming, SpellsOpener}
 use Rattle.rx_model.specs.Characters.LegacyEscapes as legacy
@@ -234,7 +234,7 @@ token_cut e dot w rest s = others_cut e.mode dot w rest (subst (GiveOthers e.mod
 token_cut e (class_escape kind) w rest s = others_cut e.mode (class_escape kind) w rest (subst (GiveOthers e.mode) (sym s) (class_escape_others e.mode kind)) (λ ms h. h)
 token_cut e (property negative strings name value) w rest s =
     others_cut e.mode (property negative strings name value) w rest (property_others e negative strings name value w s) (λ ms h. h)
-token_cut e (class c) w rest s = class_cut e c w rest s
+token_cut e (class c) w rest s = class_cut (for_classes e) c w rest s
 token_cut e (indexed n) w rest s = others_cut e.mode (indexed n) w rest (indexed_others e n w rest s) (λ ms h. h)
 token_cut e (named name) w rest s = others_cut e.mode (named name) w rest (named_others e name w rest s) (λ ms h. h)
 token_cut e (opener o) w rest s = opener_cut e o w rest s

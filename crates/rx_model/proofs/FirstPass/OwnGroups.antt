@@ -19,6 +19,7 @@ use Rattle.rx_model.specs.Refusals.Reached.{text_environment, text_groups, text_
 use Rattle.rx_model.specs.Reading.Reading.{IsSpelled}
 use Rattle.rx_model.specs.Reading.Rows.{TokenRow}
 use Rattle.rx_model.specs.Trees.Token.{Token, Opener, boundary, character, dot, class_escape, property, class, indexed, named, opener, closer, bar, quantifier, capturing, ignoring, looking, opener_of, leaf_token}
+use Rattle.rx_model.specs.declared.rules.Rules.{Rules}
 use Rattle.rx_model.proofs.FirstPass.Cuts.{token_cut}
 use Rattle.rx_model.proofs.Trees.Flat.{before, before-append, before_leaf, before_quantified, before_group, before_alternative, tokens_are}
 
@@ -232,6 +233,14 @@ mutual
       more_behind bar (before (within s (nodes_events ns) ++ barred_events all) ts) ts (nodes_groups ns + alternatives_groups all) (nodes_names ns ++ alternatives_names all) refl refl
       (alternative_more s ns all ts (nodes_more ns (before (barred_events all) ts)) (barred_more all ts))
 
+-- all the names that the marks open, in order
+pub all_names : (e : Environment) (p : Pattern) (us : List CodePoint) → TokenRow e (tokens p) us [] → mark.names e.mode (marks e.mode (values us)) ≡ alternatives_names (mirror_disjunction p.body).1
+all_names e p us row =
+    let all = (mirror_disjunction p.body).1 in
+    let marked = row_counted e.mode (tokens p) (marks e.mode (values us)) (row_marks e (tokens p) us row) in
+    let more = subst (λ ts. HasMore ts [] (alternatives_groups all) (alternatives_names all)) (sym (tokens_are p)) (alternatives_more all []) in
+    marked.names_are ∙ more.names_more ∙ append-nil (alternatives_names all)
+
 -- whatever the environment of the row
 tells_by : (e : Environment) (p : Pattern) (us : List CodePoint) → TokenRow e (tokens p) us [] → TellsGroups e.mode p us
 unfolding text_groups text_names
@@ -241,17 +250,17 @@ tells_by e p us row =
     let more = subst (λ ts. HasMore ts [] (alternatives_groups all) (alternatives_names all)) (sym (tokens_are p)) (alternatives_more all []) in
     record {
       groups_are = omega (arith, marked.count_is, more.groups_more);
-      names_are = ap (once_behind []) (marked.names_are ∙ more.names_more ∙ append-nil (alternatives_names all));
+      names_are = ap (once_behind []) (all_names e p us row);
     }
 
-pub tells_groups : (mode : Mode) (p : Pattern) (us : List CodePoint) → IsSpelled mode p us → TellsGroups mode p us
-tells_groups mode p us s = tells_by (environment mode p) p us s.row
+pub tells_groups : (mode : Mode) (rules : Rules) (p : Pattern) (us : List CodePoint) → IsSpelled mode rules p us → TellsGroups mode p us
+tells_groups mode rules p us s = tells_by (environment mode rules p) p us s.row
 
 -- so the environment of a text is that of the tree whose tokens it spells
-pub environment_by : (e : Environment) (p : Pattern) (us : List CodePoint) → TokenRow e (tokens p) us [] → text_environment e.mode us ≡ environment e.mode p
-environment_by e p us row =
+pub environment_by : (rules : Rules) (e : Environment) (p : Pattern) (us : List CodePoint) → TokenRow e (tokens p) us [] → text_environment e.mode rules us ≡ environment e.mode rules p
+environment_by rules e p us row =
     let t = tells_by e p us row in
-    ap₂ (λ n found. environment_with e.mode n (has_some found)) t.groups_are t.names_are
+    ap₂ (λ n found. environment_with e.mode rules.buffer_boundaries n (has_some found)) t.groups_are t.names_are
 
-pub own_environment : (mode : Mode) (p : Pattern) (us : List CodePoint) → IsSpelled mode p us → text_environment mode us ≡ environment mode p
-own_environment mode p us s = environment_by (environment mode p) p us s.row
+pub own_environment : (mode : Mode) (rules : Rules) (p : Pattern) (us : List CodePoint) → IsSpelled mode rules p us → text_environment mode rules us ≡ environment mode rules p
+own_environment mode rules p us s = environment_by rules (environment mode rules p) p us s.row

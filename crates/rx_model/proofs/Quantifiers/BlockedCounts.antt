@@ -16,6 +16,7 @@ use Rattle.rx_model.specs.Quantifiers.Quantifiers.{BeginsWithBraces, SpellsBrace
 use Rattle.rx_model.specs.Refusals.Reached.{text_environment, text_groups, text_names}
 use Rattle.rx_model.specs.Reading.Rows.{Spells}
 use Rattle.rx_model.specs.Trees.Token.{Token, quantifier}
+use Rattle.rx_model.specs.declared.rules.Rules.{Rules}
 use Rattle.rx_model.proofs.Reading.Fronts.{front_by_unicode, spelled_front}
 use Rattle.rx_model.proofs.Reading.Splits.{split_values, starts_there}
 use Rattle.rx_model.proofs.Quantifiers.Quantifiers.{spelled_counts, digits_read}
@@ -35,8 +36,8 @@ token_blocked mode us min max n w not t k h o =
       | inr p ↦ not true (subst owed (sym (same_token (quantifier min max true) t n k p.1)) o)
     ]
 
-front_braces : (mode : Mode) → is_unicode mode ≡ true → (us rest : List CodePoint) (v : List ℕ) → values rest ≡ 123 ∷ v → front (text_environment mode us) rest ≡ quantifier_token (counts_at (123 ∷ v)) (123 ∷ v)
-front_braces mode u us rest v e = front_by_unicode (text_environment mode us) rest 123 v u refl e
+front_braces : (mode : Mode) (rules : Rules) → is_unicode mode ≡ true → (us rest : List CodePoint) (v : List ℕ) → values rest ≡ 123 ∷ v → front (text_environment mode rules us) rest ≡ quantifier_token (counts_at (123 ∷ v)) (123 ∷ v)
+front_braces mode rules u us rest v e = front_by_unicode (text_environment mode rules us) rest 123 v u refl e
 
 -- whatever the counts, they do not obey
 abbrev pub AreBlocked : Counts → Type 0
@@ -46,8 +47,8 @@ blocked_counts : (mode : Mode) (us : List CodePoint) (c : Counts) (w : List ℕ)
 blocked_counts mode us no_counts w d t k h o = let f : ⊥ = cc h in f
 blocked_counts mode us (counts min max n) w d t k h o = token_blocked mode us min max n w (d min max n refl) t k h o
 
-blocked_braces : (mode : Mode) → is_unicode mode ≡ true → (us rest : List CodePoint) (v : List ℕ) → values rest ≡ 123 ∷ v → AreBlocked (counts_at (123 ∷ v)) → IsBlocked mode us rest
-blocked_braces mode u us rest v e d t n f o = blocked_counts mode us (counts_at (123 ∷ v)) (123 ∷ v) d t n (sym (front_braces mode u us rest v e) ∙ f) o
+blocked_braces : (mode : Mode) (rules : Rules) → is_unicode mode ≡ true → (us rest : List CodePoint) (v : List ℕ) → values rest ≡ 123 ∷ v → AreBlocked (counts_at (123 ∷ v)) → IsBlocked mode rules us rest
+blocked_braces mode rules u us rest v e d t n f o = blocked_counts mode us (counts_at (123 ∷ v)) (123 ∷ v) d t n (sym (front_braces mode rules u us rest v e) ∙ f) o
 
 pub brace_first : (min : ℕ) (max : Option ℕ) (prefix : List ℕ) → SpellsBraces min max prefix → (v : List ℕ) × (prefix ≡ 123 ∷ v)
 brace_first _ _ _ (exactly ds a) = (_, refl)
@@ -90,14 +91,14 @@ standing e min max prefix behind rest s h = elim (cases_Bool (starts 63 behind))
     no_question (c ∷ w) h = h
 
 -- Braces whose numbers do not obey stand next.
-blocked_standing : (mode : Mode) (us rest : List CodePoint) (min : ℕ) (max : Option ℕ) (prefix behind : List ℕ) → SpellsBraces min max prefix → values rest ≡ prefix ++ behind → DoNotObey min max → IsBlocked mode us rest
-blocked_standing mode us rest min max prefix behind s h not =
-    let e = text_environment mode us in
+blocked_standing : (mode : Mode) (rules : Rules) (us rest : List CodePoint) (min : ℕ) (max : Option ℕ) (prefix behind : List ℕ) → SpellsBraces min max prefix → values rest ≡ prefix ++ behind → DoNotObey min max → IsBlocked mode rules us rest
+blocked_standing mode rules us rest min max prefix behind s h not =
+    let e = text_environment mode rules us in
     let q = standing e min max prefix behind rest s h in
-    blocked_token mode us rest (quantifier min max q.greedy) (length q.w) (ap (front e) q.whole ∙ spelled_front e (quantifier min max q.greedy) q.w q.more q.spelled) (not q.greedy)
+    blocked_token mode rules us rest (quantifier min max q.greedy) (length q.w) (ap (front e) q.whole ∙ spelled_front e (quantifier min max q.greedy) q.w q.more q.spelled) (not q.greedy)
 
-pub blocked_numbers : (mode : Mode) (us rest : List CodePoint) (min : ℕ) (max : Option ℕ) (n : ℕ) → HasBraces min max n rest → DoNotObey min max → IsBlocked mode us rest
-blocked_numbers mode us rest min max n h = blocked_standing mode us rest min max h.prefix h.behind h.spelled h.whole
+pub blocked_numbers : (mode : Mode) (rules : Rules) (us rest : List CodePoint) (min : ℕ) (max : Option ℕ) (n : ℕ) → HasBraces min max n rest → DoNotObey min max → IsBlocked mode rules us rest
+blocked_numbers mode rules us rest min max n h = blocked_standing mode rules us rest min max h.prefix h.behind h.spelled h.whole
 
 -- numbers out of order, or too large
 pub not_in_order : (min : ℕ) (max : Option ℕ) → IsOutOfOrder min max → DoNotObey min max
@@ -196,15 +197,15 @@ passing _ _ _ (second {n} ds es next rest a small p) =
       blocked = subst AreBlocked (sym read) (blocked_second n (suc l.0) (digits_behind 0 0 more) (λ m end behind h. (passed es next rest m end behind p h, some_passed es next rest m end behind p h)));
     }
 
-pub blocked_limit : (mode : Mode) (us rest : List CodePoint) (start count : ℕ) → PassesLimit (values rest) start count → (is_unicode mode ≡ false → BeginsWithBraces (values rest)) → IsBlocked mode us rest
-blocked_limit mode us rest start count p in_legacy = by (is_unicode mode) refl
+pub blocked_limit : (mode : Mode) (rules : Rules) (us rest : List CodePoint) (start count : ℕ) → PassesLimit (values rest) start count → (is_unicode mode ≡ false → BeginsWithBraces (values rest)) → IsBlocked mode rules us rest
+blocked_limit mode rules us rest start count p in_legacy = by (is_unicode mode) refl
   where
     k : Passing (values rest)
     k = passing (values rest) start count p
 
-    by : (u : Bool) → is_unicode mode ≡ u → IsBlocked mode us rest
-    by true u = blocked_braces mode u us rest k.behind k.whole k.blocked
+    by : (u : Bool) → is_unicode mode ≡ u → IsBlocked mode rules us rest
+    by true u = blocked_braces mode rules u us rest k.behind k.whole k.blocked
     by false u =
         let b = in_legacy u in
         let read : counts_at (123 ∷ k.behind) ≡ counts b.min b.max (length b.prefix) = ap counts_at (sym k.whole ∙ b.whole) ∙ spelled_counts b.min b.max b.prefix b.rest (braces b.spelled) in
-        blocked_standing mode us rest b.min b.max b.prefix b.rest b.spelled b.whole (k.blocked b.min b.max (length b.prefix) read)
+        blocked_standing mode rules us rest b.min b.max b.prefix b.rest b.spelled b.whole (k.blocked b.min b.max (length b.prefix) read)

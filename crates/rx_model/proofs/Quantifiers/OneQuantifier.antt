@@ -18,6 +18,7 @@ use Rattle.rx_model.specs.Quantifiers.Quantifiers.{BeginsWithBraces, PassesLimit
 use Rattle.rx_model.specs.Refusals.Reached.{AreObeying, span_between, text_environment, text_groups, text_names}
 use Rattle.rx_model.specs.Reading.Rows.{Spells}
 use Rattle.rx_model.specs.Trees.Token.{quantifier}
+use Rattle.rx_model.specs.declared.rules.Rules.{Rules}
 use Rattle.rx_model.proofs.Quantifiers.CountsReading.{limit_read}
 use Rattle.rx_model.proofs.Quantifiers.BlockedCounts.{blocked_limit, blocked_numbers, not_in_order, not_small}
 use Rattle.rx_model.proofs.Refusals.BlockedPlaces.{IsBlocked, next}
@@ -35,9 +36,9 @@ abbrev pub lone_refusal : Bool → Span → Diagnostic
 lone_refusal true span = LoneQuantifier span
 lone_refusal false span = InvalidBracedQuantifier span
 
-module _ (mode : Mode) (us : List CodePoint) (start added : ℕ) where
+module _ (mode : Mode) (rules : Rules) (us : List CodePoint) (start added : ℕ) where
   abbrev here : Environment
-  here = text_environment mode us
+  here = text_environment mode rules us
 
   -- the refusals of a quantifier at a place that is reached
   pub data QuantifierRow (f : ℕ) (rest : List CodePoint) : Diagnostic → Type 0 where
@@ -62,7 +63,7 @@ module _ (mode : Mode) (us : List CodePoint) (start added : ℕ) where
       record { least_is = cc same; greatest_is = cc same; count_is = h.count_is ∙ lengths ∙ sym k.count_is }
 
   -- A quantifier that obeys is no blocked place.
-  alive : (rest : List CodePoint) (min : ℕ) (max : Option ℕ) (greedy : Bool) (w more : List CodePoint) → rest ≡ w ++ more → Spells here (quantifier min max greedy) w more → AreObeying mode us (quantifier min max greedy ∷ []) → IsBlocked mode us rest → ⊥
+  alive : (rest : List CodePoint) (min : ℕ) (max : Option ℕ) (greedy : Bool) (w more : List CodePoint) → rest ≡ w ++ more → Spells here (quantifier min max greedy) w more → AreObeying mode us (quantifier min max greedy ∷ []) → IsBlocked mode rules us rest → ⊥
   alive rest min max greedy w more h s o blocked =
       blocked (quantifier min max greedy) (length w) (ap (front here) h ∙ spelled_front here (quantifier min max greedy) w more s)
       (All-head (Obeys (text_groups mode us) (text_names mode us)) (quantifier min max greedy) [] o)
@@ -75,20 +76,20 @@ module _ (mode : Mode) (us : List CodePoint) (start added : ℕ) where
       let same : next (quantifier min max greedy) (length w) ≡ next (quantifier other also lazy) (length v) =
       sym (ap (front here) h ∙ spelled_front here (quantifier min max greedy) w more s) ∙ ap (front here) k ∙ spelled_front here (quantifier other also lazy) v back t in
       ap (λ n. lone_refusal (is_unicode mode) (span_between us start added f (f + n))) (ap (λ x. x.1) (Some-inj same))
-  one_quantifier f rest _ _ (lone min max greedy w more h s o) (out_of_order count other also b out) = absurd (alive rest min max greedy w more h s o (blocked_numbers mode us rest other also count b (not_in_order other also out)))
-  one_quantifier f rest _ _ (lone min max greedy w more h s o) (too_large count other also b order large) = absurd (alive rest min max greedy w more h s o (blocked_numbers mode us rest other also count b (not_small other also large)))
-  one_quantifier f rest _ _ (lone min max greedy w more h s o) (too_many_digits from count p in_legacy) = absurd (alive rest min max greedy w more h s o (blocked_limit mode us rest from count p in_legacy))
-  one_quantifier f rest _ _ (out_of_order count other also b out) (lone min max greedy w more h s o) = absurd (alive rest min max greedy w more h s o (blocked_numbers mode us rest other also count b (not_in_order other also out)))
+  one_quantifier f rest _ _ (lone min max greedy w more h s o) (out_of_order count other also b out) = absurd (alive rest min max greedy w more h s o (blocked_numbers mode rules us rest other also count b (not_in_order other also out)))
+  one_quantifier f rest _ _ (lone min max greedy w more h s o) (too_large count other also b order large) = absurd (alive rest min max greedy w more h s o (blocked_numbers mode rules us rest other also count b (not_small other also large)))
+  one_quantifier f rest _ _ (lone min max greedy w more h s o) (too_many_digits from count p in_legacy) = absurd (alive rest min max greedy w more h s o (blocked_limit mode rules us rest from count p in_legacy))
+  one_quantifier f rest _ _ (out_of_order count other also b out) (lone min max greedy w more h s o) = absurd (alive rest min max greedy w more h s o (blocked_numbers mode rules us rest other also count b (not_in_order other also out)))
   one_quantifier f rest _ _ (out_of_order count min max b out) (out_of_order many other also c out') = ap (λ n. BracedQuantifierOutOfOrder (span_between us start added f (f + n))) (same_braces rest b c).count_is
   one_quantifier f rest _ _ (out_of_order count min max b out) (too_large many other also c order large) =
       let s = same_braces rest b c in absurd (order (same_order min other max also s.least_is s.greatest_is out))
   one_quantifier f rest _ _ (out_of_order count min max b out) (too_many_digits from many p in_legacy) = absurd (b.in_limit from many p)
-  one_quantifier f rest _ _ (too_large count other also b order large) (lone min max greedy w more h s o) = absurd (alive rest min max greedy w more h s o (blocked_numbers mode us rest other also count b (not_small other also large)))
+  one_quantifier f rest _ _ (too_large count other also b order large) (lone min max greedy w more h s o) = absurd (alive rest min max greedy w more h s o (blocked_numbers mode rules us rest other also count b (not_small other also large)))
   one_quantifier f rest _ _ (too_large many other also c order large) (out_of_order count min max b out) =
       let s = same_braces rest b c in absurd (order (same_order min other max also s.least_is s.greatest_is out))
   one_quantifier f rest _ _ (too_large count min max b order large) (too_large many other also c order' large') = ap (λ n. TooLargeNumberInBracedQuantifier (span_between us start added f (f + n))) (same_braces rest b c).count_is
   one_quantifier f rest _ _ (too_large count min max b order large) (too_many_digits from many p in_legacy) = absurd (b.in_limit from many p)
-  one_quantifier f rest _ _ (too_many_digits from count p in_legacy) (lone min max greedy w more h s o) = absurd (alive rest min max greedy w more h s o (blocked_limit mode us rest from count p in_legacy))
+  one_quantifier f rest _ _ (too_many_digits from count p in_legacy) (lone min max greedy w more h s o) = absurd (alive rest min max greedy w more h s o (blocked_limit mode rules us rest from count p in_legacy))
   one_quantifier f rest _ _ (too_many_digits from many p in_legacy) (out_of_order count min max b out) = absurd (b.in_limit from many p)
   one_quantifier f rest _ _ (too_many_digits from many p in_legacy) (too_large count min max b order large) = absurd (b.in_limit from many p)
   one_quantifier f rest _ _ (too_many_digits from count p in_legacy) (too_many_digits also many q also_in_legacy) =

@@ -21,7 +21,7 @@ use Rattle.rx_model.specs.declared.mode.Mode.TheVariants.{Legacy, Unicode, Sets}
 use Rattle.rx_ast.specs.Texts.{boundary_text, class_escape_text}
 use Rattle.rx_model.specs.Classes.ClassFronts.{class_front}
 use Rattle.rx_model.specs.Classes.ClassRows.{IsClass}
-use Rattle.rx_model.specs.Inputs.Environment.{Environment, is_unicode}
+use Rattle.rx_model.specs.Inputs.Environment.{Environment, for_classes, is_unicode}
 use Rattle.rx_model.specs.Characters.Escapes.{SpellsEscape}
 use Rattle.rx_model.specs.Reading.Fronts.{EscapeRead, escaped, nothing, too_many, no_unicode, any_escape_at, is_reference, are_counts, is_raw_at, boundary_at, class_escape_at, escaped_token, backslash_token, backslash_front, Counts, counts, no_counts, counts_at, quantifier_token, opener_token, bracket_token, property_token, Digits, digits, digits_behind, indexed_token, named_token, syntax_front, front}
 use Rattle.rx_model.specs.Groups.GroupFronts.{group_front, reference_front}
@@ -225,17 +225,17 @@ module _ (e : Environment) where
       ∙ ap (λ v. Some (quantifier min max greedy, length v)) text)
 
   -- a `[` at the front
-  pub at_bracket : (u : CodePoint) (us : List CodePoint) → u.value ≡ 91 → front e (u ∷ us) ≡ bracket_token (class_front e (u ∷ us))
+  pub at_bracket : (u : CodePoint) (us : List CodePoint) → u.value ≡ 91 → front e (u ∷ us) ≡ bracket_token (class_front (for_classes e) (u ∷ us))
   unfolding front
   at_bracket u us h =
       cond-false (is_raw_at e u.value (values us)) _ _ (not_raw_at e u.value (values us) (ap (stands_raw e.mode) h ∙ syntax_not_raw e.mode 91 refl))
       ∙ cond-false (u.value == 92) _ _ (ap (λ c. c == 92) h)
       ∙ cond-true (u.value == 91) _ _ (ap (λ c. c == 91) h)
 
-  bracket_front : (c : Class) (w rest : List CodePoint) → IsClass e c w rest → front e (w ++ rest) ≡ Some (class c, length w)
+  bracket_front : (c : Class) (w rest : List CodePoint) → IsClass (for_classes e) c w rest → front e (w ++ rest) ≡ Some (class c, length w)
   bracket_front c w rest s =
-      let b = class_opens e c w rest s in
-      ap (front e) b.2 ∙ at_bracket b.0 b.1 b.3 ∙ ap (λ us. bracket_token (class_front e us)) (sym b.2) ∙ ap bracket_token (class_read e c w rest s)
+      let b = class_opens (for_classes e) c w rest s in
+      ap (front e) b.2 ∙ at_bracket b.0 b.1 b.3 ∙ ap (λ us. bracket_token (class_front (for_classes e) us)) (sym b.2) ∙ ap bracket_token (class_read (for_classes e) c w rest s)
 
   -- spelled → read
   pub spelled_front : (t : Token) (w rest : List CodePoint) → Spells e t w rest → front e (w ++ rest) ≡ Some (t, length w)
@@ -286,7 +286,7 @@ module _ (e : Environment) where
   spelled_none (boundary kind) rest s = boundary_some kind s.text
   spelled_none (class_escape kind) rest s = class_some kind s
   spelled_none (property negative strings name value) rest s = let h = (property_row e negative strings name value [] rest s).whole in cc h
-  spelled_none (class c) rest s = omega (arith, class_takes_some e c [] rest s)
+  spelled_none (class c) rest s = omega (arith, class_takes_some (for_classes e) c [] rest s)
   spelled_none (indexed n) rest s = let h = s.whole in cc
   spelled_none (named name) rest s = let h = s.whole in cc
   spelled_none (opener o) rest s = let h = (opener_read e o [] rest s).whole in cc
@@ -443,9 +443,9 @@ module _ (e : Environment) where
     ]
   ]
 
-  class_at : (u : CodePoint) (us : List CodePoint) (p : Token × ℕ) → (r : Option (Class × ℕ)) → class_front e (u ∷ us) ≡ r → bracket_token r ≡ Some p → FrontOf (u ∷ us) p
+  class_at : (u : CodePoint) (us : List CodePoint) (p : Token × ℕ) → (r : Option (Class × ℕ)) → class_front (for_classes e) (u ∷ us) ≡ r → bracket_token r ≡ Some p → FrontOf (u ∷ us) p
   class_at u us p None f q = absurd (let k : ⊥ = cc q in k)
-  class_at u us p (Some c) f q = let s = class_spelled e (u ∷ us) c.0 c.1 f in front_of (class c.0) c.1 (u ∷ us) s.w s.rest s.whole s.count s.spelled q
+  class_at u us p (Some c) f q = let s = class_spelled (for_classes e) (u ∷ us) c.0 c.1 f in front_of (class c.0) c.1 (u ∷ us) s.w s.rest s.whole s.count s.spelled q
 
   none_there : (r : Counts) → are_counts r ≡ false → r ≡ no_counts
   none_there no_counts h = refl
@@ -465,7 +465,7 @@ module _ (e : Environment) where
     | inr q ↦ elim (chosen (u.value == 92) q.1) [
       | inl q ↦ backslash_found u us p (eqb-true u.value 92 q.0) q.1
       | inr q ↦ elim (chosen (u.value == 91) q.1) [
-        | inl r ↦ class_at u us p (class_front e (u ∷ us)) refl r.1
+        | inl r ↦ class_at u us p (class_front (for_classes e) (u ∷ us)) refl r.1
         | inr r ↦ syntax_found u us p r.1
       ]
     ]

@@ -14,7 +14,7 @@ use Rattle.rx_model.specs.Classes.ClassRows as in_class
 use Rattle.rx_model.specs.Classes.ClassRows.{stands_raw_in_class, SpellsInClassAlone, SpellsClassCharacter, SpellsAtom, BeforeHigh, BeforeThird, BeginsNoRange, StandsBefore, Place, outside, fresh, at_dash, at_high, at_second, at_third, behind_meet, behind_less, in_strings, has_hyphen, has_threes, SpellsOperand, SpellsOfStrings, SpellsInClass, ClassTokenRow, IsClass}
 use Rattle.rx_model.specs.Classes.ClassTokens as tokens
 use Rattle.rx_model.specs.Classes.ClassTokens.{Atom, ClassToken, bracket, item, low, dash, high, meet, less, strings, letter, string_bar, strings_end, class_tokens}
-use Rattle.rx_model.specs.Inputs.Environment.{Environment, is_sets, is_unicode}
+use Rattle.rx_model.specs.Inputs.Environment.{Environment, for_classes, is_sets, is_unicode}
 use Rattle.rx_model.specs.Characters.Escapes.{SpellsEscape, control, letter, null, hexadecimal, unicode, identity}
 use Rattle.rx_model.specs.Reading.Fronts.{front}
 use Rattle.rx_model.specs.Groups.GroupNames.{SpellsName}
@@ -145,7 +145,7 @@ opener_same e d (ignoring None) w rest m s = s
 opener_same e d (ignoring (Some bits)) w rest m s = s
 opener_same e d (looking kind) w rest m s = s
 
-property_same : (e d : Environment) (negative may : Bool) (name : List ℕ) (value : Option (List ℕ)) (w : List CodePoint) → e.mode ≡ d.mode →
+pub property_same : (e d : Environment) (negative may : Bool) (name : List ℕ) (value : Option (List ℕ)) (w : List CodePoint) → e.mode ≡ d.mode →
     IsProperty e negative may name value w → IsProperty d negative may name value w
 property_same e d negative may name value w m s = record {
   unicode = ap is_unicode (sym m) ∙ s.unicode;
@@ -249,7 +249,7 @@ class_row_same e d (t ∷ ts) q us r rest m n g s = (
   subst (λ mode. ClassTokenRow d ts (in_class.behind mode q t s.1) s.1 r rest) m (class_row_same e d ts (in_class.behind e.mode q t s.1) s.1 r rest m n g s.4),
 )
 
-class_same : (e d : Environment) (c : Class) (w rest : List CodePoint) → e.mode ≡ d.mode → e.named ≡ d.named → AgreeOnGroups e d → IsClass e c w rest → IsClass d c w rest
+pub class_same : (e d : Environment) (c : Class) (w rest : List CodePoint) → e.mode ≡ d.mode → e.named ≡ d.named → AgreeOnGroups e d → IsClass e c w rest → IsClass d c w rest
 class_same e d c w rest m n g s = record {
   no_spans = s.no_spans;
   shape = s.shape;
@@ -269,7 +269,7 @@ Spells-mode e d bar w rest m b n g s = s
 Spells-mode e d (boundary kind) w rest m b n g s = record { text = s.text; there = sym (boundary_same e d kind m b) ∙ s.there }
 Spells-mode e d (class_escape kind) w rest m b n g s = s
 Spells-mode e d (property negative may name value) w rest m b n g s = property_same e d negative may name value w m s
-Spells-mode e d (class c) w rest m b n g s = class_same e d c w rest m n g s
+Spells-mode e d (class c) w rest m b n g s = class_same (for_classes e) (for_classes d) c w rest m n g s
 Spells-mode e d (indexed index) w rest m b n g s = indexed_same e d index w rest m g s
 Spells-mode e d (named name) w rest m b n g s = named_same e d name w rest m n s
 Spells-mode e d (opener o) w rest m b n g s = opener_same e d o w rest m s

@@ -10,7 +10,7 @@ use Rattle.rx_units.proofs.Choices.{Some-inj}
 use Rattle.rx_model.specs.declared.mode.Mode.{Mode}
 use Rattle.rx_model.specs.Classes.ClassFronts.{class_front}
 use Rattle.rx_model.specs.FirstPass.Marks.{count, marks, seen}
-use Rattle.rx_model.specs.Inputs.Environment.{Environment, environment, environment_with, has_some}
+use Rattle.rx_model.specs.Inputs.Environment.{Environment, for_classes, environment, environment_with, has_some}
 use Rattle.rx_model.specs.Reading.Fronts.{backslash_front, bracket_token, front, is_raw_at, syntax_front}
 use Rattle.rx_model.specs.Reading.Reading.{Reads}
 use Rattle.rx_model.specs.Reading.Rows.{Spells, TokenRow}
@@ -18,6 +18,7 @@ use Rattle.rx_model.specs.Refusals.Reached.{text_environment, text_groups, text_
 use Rattle.rx_model.specs.Trees.Events.{tokens}
 use Rattle.rx_model.specs.Trees.Token.{Token, character}
 use Rattle.rx_model.specs.Characters.UnitKinds.{unit_kind}
+use Rattle.rx_model.specs.declared.rules.Rules.{Rules}
 use Rattle.rx_model.proofs.Classes.BareClassFronts.{bare_class_read, class_same, drop_values}
 use Rattle.rx_model.proofs.FirstPass.OwnGroups.{own_environment}
 use Rattle.rx_model.proofs.Reading.Fronts.{spelled_front}
@@ -58,8 +59,8 @@ module _ (e : Environment) where
       let same : u.value ≡ v.value = cc h in
       let more : values us ≡ values vs = cc h in
       front_by_same (is_raw_at e u.value (values us)) (u.value == 92) (u.value == 91) (character (unit_kind u.escape_kind) u.value) (character (unit_kind v.escape_kind) u.value)
-      (backslash_front e (values us)) (class_front e (u ∷ us)) (class_front e (v ∷ vs)) (syntax_front e u.value (values us)) refl (class_same e (u ∷ us) (v ∷ vs) h)
-      ∙ ap₂ (λ c w. bare_read (front_by (is_raw_at e c w) (c == 92) (c == 91) (character (unit_kind v.escape_kind) c) (backslash_front e w) (class_front e (v ∷ vs)) (syntax_front e c w)))
+      (backslash_front e (values us)) (class_front (for_classes e) (u ∷ us)) (class_front (for_classes e) (v ∷ vs)) (syntax_front e u.value (values us)) refl (class_same (for_classes e) (u ∷ us) (v ∷ vs) h)
+      ∙ ap₂ (λ c w. bare_read (front_by (is_raw_at e c w) (c == 92) (c == 91) (character (unit_kind v.escape_kind) c) (backslash_front e w) (class_front (for_classes e) (v ∷ vs)) (syntax_front e c w)))
       same more
 
   token_same : (t s : Token) (w more v rest : List CodePoint) → values (w ++ more) ≡ values (v ++ rest) → Spells e t w more → Spells e s v rest →
@@ -84,14 +85,14 @@ module _ (e : Environment) where
       let first = token_same t s r.0 r.1 q.0 q.1 (ap values (sym r.2) ∙ h ∙ ap values q.2) r.3 q.3 in
       ap₂ (λ t ts. t ∷ ts) first.0 (row_same ts ss r.1 q.1 first.1 r.4 q.4)
 
-environment_same : (mode : Mode) (us vs : List CodePoint) → values us ≡ values vs → text_environment mode us ≡ text_environment mode vs
+environment_same : (mode : Mode) (rules : Rules) (us vs : List CodePoint) → values us ≡ values vs → text_environment mode rules us ≡ text_environment mode rules vs
 unfolding text_groups text_names
-environment_same mode us vs h = ap (λ w. environment_with mode (count (marks mode w)) (has_some (seen mode (marks mode w)))) h
+environment_same mode rules us vs h = ap (λ w. environment_with mode rules.buffer_boundaries (count (marks mode w)) (has_some (seen mode (marks mode w)))) h
 
 -- Trees that units of equal values spell are equal but for spans and kinds.
-pub same_values : (mode : Mode) (p q : Pattern) (us vs : List CodePoint) → Reads mode p us → Reads mode q vs → values us ≡ values vs → bare p ≡ bare q
-same_values mode p q us vs r s h =
-    let same : environment mode p ≡ environment mode q =
-    sym (own_environment mode p us r.spelled) ∙ environment_same mode us vs h ∙ own_environment mode q vs s.spelled in
+pub same_values : (mode : Mode) (rules : Rules) (p q : Pattern) (us vs : List CodePoint) → Reads mode rules p us → Reads mode rules q vs → values us ≡ values vs → bare p ≡ bare q
+same_values mode rules p q us vs r s h =
+    let same : environment mode rules p ≡ environment mode rules q =
+    sym (own_environment mode rules p us r.spelled) ∙ environment_same mode rules us vs h ∙ own_environment mode rules q vs s.spelled in
     one_bare_tree mode p q r.spelled.shape s.spelled.shape
-    (row_same (environment mode q) (tokens p) (tokens q) us vs h (subst (λ e. TokenRow e (tokens p) us []) same r.spelled.row) s.spelled.row)
+    (row_same (environment mode rules q) (tokens p) (tokens q) us vs h (subst (λ e. TokenRow e (tokens p) us []) same r.spelled.row) s.spelled.row)

@@ -1,9 +1,10 @@
 -- No token that obeys stands where an escape, a name, a reference or modifiers are wrong.
-use Rattle.std.proofs.Common.{◌≡◌, ◌≢◌, refl, ap, sym, ◌∙◌, subst, ℕ, ◌+◌, ◌<◌, Bool, true, false, ◌&&◌, ◌||◌, Some, None, List, [], ◌∷◌, ◌++◌, ◌==◌, length, drop, inl, inr, arith, append_assoc, length-append}
+use Rattle.std.proofs.Common.{◌≡◌, ◌≢◌, refl, ap, sym, ◌∙◌, subst, ℕ, ◌+◌, ◌<◌, Bool, true, false, ◌&&◌, ◌||◌, Option, Some, None, List, [], ◌∷◌, ◌++◌, ◌==◌, length, drop, inl, inr, arith, append_assoc, length-append}
 use Rattle.std.specs.Int.RustNames.{bit_and}
 use Rattle.std.specs.List.{list_all}
 use Rattle.std.proofs.Math.Seq.{drop-append_seam, drop-append-add, take-append_seam}
 use Rattle.std.proofs.lemmas.Bool.{and_from, true≢false, cond-false, eqb-true, eq-eqb, false_from_ne_true, or_cases, or_from, or_left, or_right}
+use Rattle.rx_ast.specs.declared.leaf.BoundaryAssertionKind.{BoundaryAssertionKind}
 use Rattle.rx_units.specs.declared.code_point.CodePoint.{CodePoint}
 use Rattle.rx_units.specs.Units.{values}
 use Rattle.rx_units.specs.Digits.{front_is}
@@ -23,6 +24,7 @@ use Rattle.rx_model.specs.Groups.Modifiers.{AreSides, one_side, two_sides, Spell
 use Rattle.rx_model.specs.Refusals.Reached.{text_environment, text_groups}
 use Rattle.rx_model.specs.Trees.Token.{indexed, opener, ignoring}
 use Rattle.rx_model.specs.Characters.UnicodeEscapes.{Decodes, PassesHex}
+use Rattle.rx_model.specs.declared.rules.Rules.{Rules}
 use Rattle.rx_model.proofs.Characters.Decodings.{value_law}
 use Rattle.rx_model.proofs.Characters.Escapes.{too_many_escape, escape_u}
 use Rattle.rx_model.proofs.Reading.Fronts.{front_by_values}
@@ -30,6 +32,7 @@ use Rattle.rx_model.proofs.Groups.GroupFronts.{angle_named, question_modified}
 use Rattle.rx_model.proofs.Groups.GroupNames.{character_some, differs, name_read, no_name_law}
 use Rattle.rx_model.proofs.Groups.ModifierBits.{and_three, three_zero}
 use Rattle.rx_model.proofs.Groups.Modifiers.{letters_read, modified_read, modifiers_begin, not_mark, sides_read, sides_letters}
+use Rattle.rx_model.proofs.Characters.Backslashes.{same_both}
 use Rattle.rx_model.proofs.Refusals.BlockedPlaces.{IsBlocked, blocked_none, blocked_token}
 
 -- no whole name stands where none begins
@@ -141,26 +144,26 @@ or_unicode nothing legacy = refl
 or_unicode (too_many n) legacy = refl
 or_unicode no_unicode legacy = refl
 
-module _ (mode : Mode) (us : List CodePoint) where
+module _ (mode : Mode) (rules : Rules) (us : List CodePoint) where
   abbrev here : Environment
-  here = text_environment mode us
+  here = text_environment mode rules us
 
   front_backslash : (rest : List CodePoint) (v : List ℕ) → values rest ≡ 92 ∷ v → front here rest ≡ backslash_front here v
   front_backslash rest v e = front_by_values here rest 92 v refl e
 
   backslash_u : is_unicode mode ≡ true → (v : List ℕ) → backslash_front here (117 ∷ v) ≡ escaped_token (escape_at true (117 ∷ v))
   unfolding backslash_front
-  backslash_u u v = rw u (ap escaped_token (or_unicode (escape_at true (117 ∷ v)) _))
+  backslash_u u v = rw (u, same_both {A = Option BoundaryAssertionKind} rules.buffer_boundaries None) (ap escaped_token (or_unicode (escape_at true (117 ∷ v)) _))
 
   pub backslash_k : here.named ≡ true → (w : List ℕ) → backslash_front here (107 ∷ w) ≡ named_token (reference_front (is_unicode mode) w)
   unfolding backslash_front
   backslash_k there w = rw there refl
 
   -- behind a backslash, `u` with digits that pass 32 bits, or without a unicode escape
-  pub blocked_hex : is_unicode mode ≡ true → (rest : List CodePoint) (behind : List ℕ) (count : ℕ) → values rest ≡ 92 ∷ behind → PassesHex behind count → IsBlocked mode us rest
+  pub blocked_hex : is_unicode mode ≡ true → (rest : List CodePoint) (behind : List ℕ) (count : ℕ) → values rest ≡ 92 ∷ behind → PassesHex behind count → IsBlocked mode rules us rest
   blocked_hex u rest behind count e p =
       let more : List ℕ = 123 ∷ (p.digits ++ p.next ∷ p.rest) in
-      blocked_none mode us rest (front_backslash rest behind e ∙ ap (backslash_front here) p.whole ∙ backslash_u u more
+      blocked_none mode rules us rest (front_backslash rest behind e ∙ ap (backslash_front here) p.whole ∙ backslash_u u more
       ∙ ap (λ w. escaped_token (escape_at true w)) (sym p.whole) ∙ ap escaped_token (too_many_escape behind count p))
 
   no_unicode_token : (w : List ℕ) → ((v n : ℕ) → Decodes true w v n → ⊥) → ((count : ℕ) → PassesHex w count → ⊥) → (d : Decoded) → decoded true w ≡ d → escaped_token (unicode_read d) ≡ None
@@ -169,19 +172,19 @@ module _ (mode : Mode) (us : List CodePoint) where
   no_unicode_token w no_value no_limit (overflow n) h = refl
 
   pub blocked_escape : is_unicode mode ≡ true → (rest : List CodePoint) (behind : List ℕ) → values rest ≡ 92 ∷ 117 ∷ behind → ((v n : ℕ) → Decodes true (117 ∷ behind) v n → ⊥) → ((count : ℕ) → PassesHex (117 ∷ behind) count → ⊥)
-      → IsBlocked mode us rest
+      → IsBlocked mode rules us rest
   blocked_escape u rest behind e no_value no_limit =
-      blocked_none mode us rest (front_backslash rest (117 ∷ behind) e ∙ backslash_u u behind ∙ ap escaped_token (escape_u behind)
+      blocked_none mode rules us rest (front_backslash rest (117 ∷ behind) e ∙ backslash_u u behind ∙ ap escaped_token (escape_u behind)
       ∙ no_unicode_token (117 ∷ behind) no_value no_limit (decoded true (117 ∷ behind)) refl)
 
   -- a name that does not end, or has in it what may not stand there
-  pub blocked_name : (rest : List CodePoint) (w behind : List ℕ) (count : ℕ) → values rest ≡ w → BeginsName here w behind → IsNameRow (is_unicode mode) behind count → (starts 62 (drop count behind) ≡ true → count ≡ 0) → IsBlocked mode us rest
+  pub blocked_name : (rest : List CodePoint) (w behind : List ℕ) (count : ℕ) → values rest ≡ w → BeginsName here w behind → IsNameRow (is_unicode mode) behind count → (starts 62 (drop count behind) ≡ true → count ≡ 0) → IsBlocked mode rules us rest
   unfolding group_front reference_front backslash_front
   blocked_name rest _ behind count e (of_group look) longest ends =
-      blocked_none mode us rest (front_by_values here rest 40 (63 ∷ 60 ∷ behind) refl e
+      blocked_none mode rules us rest (front_by_values here rest 40 (63 ∷ 60 ∷ behind) refl e
       ∙ ap opener_token (angle_named (is_unicode mode) behind look ∙ ap named_group (no_name_front (is_unicode mode) behind count longest ends)))
   blocked_name rest _ behind count e (of_reference there) longest ends =
-      blocked_none mode us rest (front_by_values here rest 92 (107 ∷ 60 ∷ behind) refl e ∙ backslash_k there (60 ∷ behind) ∙ ap named_token (no_name_front (is_unicode mode) behind count longest ends))
+      blocked_none mode rules us rest (front_by_values here rest 92 (107 ∷ 60 ∷ behind) refl e ∙ backslash_k there (60 ∷ behind) ∙ ap named_token (no_name_front (is_unicode mode) behind count longest ends))
 
   no_angle : (m : Bool) (behind : List ℕ) → starts 60 behind ≡ false → reference_front m behind ≡ None
   unfolding reference_front
@@ -189,33 +192,33 @@ module _ (mode : Mode) (us : List CodePoint) where
   no_angle m (c ∷ w) h = cond-false (c == 60) _ _ h
 
   -- `\k` without a name
-  pub blocked_reference : here.named ≡ true → (rest : List CodePoint) (behind : List ℕ) → values rest ≡ 92 ∷ 107 ∷ behind → starts 60 behind ≡ false → IsBlocked mode us rest
+  pub blocked_reference : here.named ≡ true → (rest : List CodePoint) (behind : List ℕ) → values rest ≡ 92 ∷ 107 ∷ behind → starts 60 behind ≡ false → IsBlocked mode rules us rest
   unfolding backslash_front
-  blocked_reference there rest behind e h = blocked_none mode us rest (front_backslash rest (107 ∷ behind) e ∙ backslash_k there behind ∙ ap named_token (no_angle (is_unicode mode) behind h))
+  blocked_reference there rest behind e h = blocked_none mode rules us rest (front_backslash rest (107 ∷ behind) e ∙ backslash_k there behind ∙ ap named_token (no_angle (is_unicode mode) behind h))
 
   -- a reference to no group
-  pub blocked_index : (rest : List CodePoint) (k n : ℕ) → front here rest ≡ Some (indexed k, n) → text_groups mode us < k → IsBlocked mode us rest
-  blocked_index rest k n e large = blocked_token mode us rest (indexed k) n e (λ o. omega (arith, large, o.1))
+  pub blocked_index : (rest : List CodePoint) (k n : ℕ) → front here rest ≡ Some (indexed k, n) → text_groups mode us < k → IsBlocked mode rules us rest
+  blocked_index rest k n e large = blocked_token mode rules us rest (indexed k) n e (λ o. omega (arith, large, o.1))
 
   pub front_question : (rest : List CodePoint) (behind : List ℕ) → values rest ≡ 40 ∷ 63 ∷ behind → front here rest ≡ opener_token (question_group (is_unicode mode) behind)
   unfolding group_front
   front_question rest behind e = front_by_values here rest 40 (63 ∷ behind) refl e
 
   -- modifiers that no `:` ends, or with a letter twice on one side, or with none, or with a letter on both sides
-  pub blocked_unknown : (rest : List CodePoint) (text behind : List ℕ) → values rest ≡ 40 ∷ 63 ∷ (text ++ behind) → LeadNowhere text behind → IsBlocked mode us rest
-  blocked_unknown rest text behind e l = blocked_none mode us rest (front_question rest (text ++ behind) e ∙ ap opener_token (question_lead (is_unicode mode) text behind l))
+  pub blocked_unknown : (rest : List CodePoint) (text behind : List ℕ) → values rest ≡ 40 ∷ 63 ∷ (text ++ behind) → LeadNowhere text behind → IsBlocked mode rules us rest
+  blocked_unknown rest text behind e l = blocked_none mode rules us rest (front_question rest (text ++ behind) e ∙ ap opener_token (question_lead (is_unicode mode) text behind l))
 
-  pub blocked_duplicated : (rest : List CodePoint) (w v text behind : List ℕ) → values rest ≡ 40 ∷ 63 ∷ (text ++ (58 ∷ behind)) → AreSides w v text → (has_twice w || has_twice v) ≡ true → IsBlocked mode us rest
-  blocked_duplicated rest w v text behind e s h = blocked_none mode us rest (front_question rest (text ++ (58 ∷ behind)) e ∙ ap opener_token (twice_none (is_unicode mode) w v text behind s h))
+  pub blocked_duplicated : (rest : List CodePoint) (w v text behind : List ℕ) → values rest ≡ 40 ∷ 63 ∷ (text ++ (58 ∷ behind)) → AreSides w v text → (has_twice w || has_twice v) ≡ true → IsBlocked mode rules us rest
+  blocked_duplicated rest w v text behind e s h = blocked_none mode rules us rest (front_question rest (text ++ (58 ∷ behind)) e ∙ ap opener_token (twice_none (is_unicode mode) w v text behind s h))
 
-  pub blocked_empty : (rest : List CodePoint) (behind : List ℕ) → values rest ≡ 40 ∷ 63 ∷ 45 ∷ 58 ∷ behind → IsBlocked mode us rest
-  blocked_empty rest behind e = blocked_token mode us rest (opener (ignoring (Some (0, 0)))) 4 (front_question rest (45 ∷ 58 ∷ behind) e) (λ o. o.1 refl)
+  pub blocked_empty : (rest : List CodePoint) (behind : List ℕ) → values rest ≡ 40 ∷ 63 ∷ 45 ∷ 58 ∷ behind → IsBlocked mode rules us rest
+  blocked_empty rest behind e = blocked_token mode rules us rest (opener (ignoring (Some (0, 0)))) 4 (front_question rest (45 ∷ 58 ∷ behind) e) (λ o. o.1 refl)
 
   pub blocked_shared : (rest : List CodePoint) (w v text behind : List ℕ) → values rest ≡ 40 ∷ 63 ∷ (text ++ (58 ∷ behind)) → AreSides w v text → (has_twice w || has_twice v) ≡ false → share_some w v ≡ true
-      → IsBlocked mode us rest
+      → IsBlocked mode rules us rest
   blocked_shared rest w v text behind e s once h =
       let some = sides_some w v text s (shared_some w v h) in
       let spelled : SpellsModifiers (letters_bits w) (letters_bits v) text = record { enabled = w; disabled = v; sides = s; some = some; once = once; enabling_is = refl; disabling_is = refl } in
-      blocked_token mode us rest (opener (ignoring (Some (letters_bits w, letters_bits v)))) (length text + 3)
+      blocked_token mode rules us rest (opener (ignoring (Some (letters_bits w, letters_bits v)))) (length text + 3)
       (front_question rest (text ++ (58 ∷ behind)) e ∙ ap opener_token (question_sides (is_unicode mode) w v text (58 ∷ behind) s some ∙ modified_read (letters_bits w) (letters_bits v) text behind spelled))
       (λ o. letter_shared w v (shared w v (sides_letters w v text s).0 h) o.0)

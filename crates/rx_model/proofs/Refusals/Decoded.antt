@@ -18,6 +18,7 @@ use Rattle.rx_model.specs.Refusals.ClassCauses.{IsClassCause}
 use Rattle.rx_model.specs.Refusals.EscapeCauses as escape
 use Rattle.rx_model.specs.Refusals.EscapeCauses.{IsEscapeCause, IsPropertyCause}
 use Rattle.rx_model.specs.Refusals.FlagCauses.{IsFlagCause, unknown}
+use Rattle.rx_model.specs.declared.rules.Rules.{Rules}
 use Rattle.rx_model.proofs.Inputs.Asked.{literal_has_units}
 use Rattle.rx_model.proofs.Refusals.OneRefusal.{first_is_cause}
 
@@ -29,7 +30,7 @@ flags_say_other : (us : List CodePoint) (start added : ℕ) (d : Diagnostic) →
 flags_say_other us start added _ (unknown before unit offence no_flag) = refl
 flags_say_other us start added _ c = refl
 
-module _ (mode : Mode) (us : List CodePoint) (start added : ℕ) where
+module _ (mode : Mode) (rules : Rules) (us : List CodePoint) (start added : ℕ) where
   escape_says_other : (place : ℕ) (rest : List CodePoint) (d : Diagnostic) → IsEscapeCause mode us start added place rest d → is_invalid_input d ≡ false
   escape_says_other place rest _ (escape.invalid_escape behind unicode whole no_value no_limit) = refl
   escape_says_other place rest _ c = refl
@@ -44,29 +45,29 @@ module _ (mode : Mode) (us : List CodePoint) (start added : ℕ) where
   class_says_other from at_class place _ (class_cause.negative_strings false begin _ rest in_bracket closer whole strings) = refl
   class_says_other from at_class place _ c = refl
 
-  place_says_other : (place : ℕ) (d : Diagnostic) → IsCauseAtPlace mode us start added place d → is_invalid_input d ≡ false
+  place_says_other : (place : ℕ) (d : Diagnostic) → IsCauseAtPlace mode rules us start added place d → is_invalid_input d ≡ false
   place_says_other place d (cause.of_escape _ rest at c) = escape_says_other place rest d c
   place_says_other place d (cause.of_property _ rest at c) = property_says_other place rest d c
   place_says_other place d (cause.of_class from _ at_class at c) = class_says_other from at_class place d c
   place_says_other place _ c = refl
 
-  text_says_other : (d : Diagnostic) → IsCause mode us start added d → is_invalid_input d ≡ false
+  text_says_other : (d : Diagnostic) → IsCause mode rules us start added d → is_invalid_input d ≡ false
   text_says_other d (cause.at_place place none few c) = place_says_other place d c
   text_says_other _ c = refl
 
 -- A literal has units.
-has_units : (joined : Bool) (text : List ℕ) (form : Form) → form ≡ Literal → HasNoUnits joined text form → ⊥
-has_units joined text form literal none =
-    let some = literal_has_units joined text in
-    none some.0 (subst (λ it. AreUnits joined text it some.0) (sym literal) some.1)
+has_units : (standard joined : Bool) (text : List ℕ) (form : Form) → form ≡ Literal → HasNoUnits standard joined text form → ⊥
+has_units standard joined text form literal none =
+    let some = literal_has_units standard joined text in
+    none some.0 (subst (λ it. AreUnits standard joined text it some.0) (sym literal) some.1)
 
 literal_says_other : (input : Input) (d : Diagnostic) → input.form ≡ Literal → IsFirstRefusal input d → is_invalid_input d ≡ false
-literal_says_other input _ literal (no_flags_text {text} is none) = absurd (has_units true text input.form literal none)
+literal_says_other input _ literal (no_flags_text {text} is none) = absurd (has_units input.standard_strings true text input.form literal none)
 literal_says_other input d literal (of_flags {flags} are c) = flags_say_other flags (first_offset input.form) input.flags_offset d c
-literal_says_other input _ literal (no_text {mode} asks none) = absurd (has_units (is_unicode mode) (stand_in input.form input.text) input.form literal none)
+literal_says_other input _ literal (no_text {mode} asks none) = absurd (has_units input.standard_strings (is_unicode mode) (stand_in input.form input.text) input.form literal none)
 literal_says_other input d literal (of_text {mode} {us} asked first) =
     let start = first_offset input.form in
-    text_says_other mode us start input.text_offset d (first_is_cause mode us start input.text_offset d first)
+    text_says_other mode input.rules us start input.text_offset d (first_is_cause mode input.rules us start input.text_offset d first)
 
 pub literals_are_decoded : (input : Input) (span : Span) → input.form ≡ Literal → IsFirstRefusal input (InvalidInput span) → ⊥
 literals_are_decoded input span literal first = let no : true ≡ false = literal_says_other input (InvalidInput span) literal first in cc no

@@ -36,6 +36,7 @@ use Rattle.rx_model.specs.Reading.Rows.{Spells}
 use Rattle.rx_model.specs.Refusals.Stops.{IsStop, at_end, at_closer, at_bracket, at_brace, behind_backslash, begins_escape, is_one_of}
 use Rattle.rx_model.specs.Trees.Token.{Token, indexed, named, quantifier}
 use Rattle.rx_model.specs.Characters.UnicodeEscapes.{Decodes, PassesHex}
+use Rattle.rx_model.specs.declared.rules.Rules.{Rules}
 use Rattle.rx_model.proofs.Quantifiers.DecimalDigits.{digit_there}
 use Rattle.rx_model.proofs.Quantifiers.BlockedCounts.{brace_first}
 use Rattle.rx_model.proofs.Refusals.BlockedFronts.{backslash_k, no_name_begins, no_name_front, sides_lead}
@@ -72,9 +73,9 @@ escape_cases c h = (grind (arith, nat_tests), grind (arith, nat_tests), grind (a
 first_digit : (c : ℕ) (ds : List ℕ) (n : ℕ) → decimal_behind 0 (c ∷ ds) ≡ Some n → is_decimal_digit c ≡ true
 first_digit c ds n h = option_and_then_some (λ d. decimal_behind (10 * 0 + d) ds) (decimal_digit_value c) n h (λ d e f. (digit_there c d e).0)
 
-module _ (mode : Mode) (us : List CodePoint) (start added : ℕ) where
+module _ (mode : Mode) (rules : Rules) (us : List CodePoint) (start added : ℕ) where
   abbrev here : Environment
-  here = text_environment mode us
+  here = text_environment mode rules us
 
   abbrev pub span : ℕ → ℕ → Span
   span a b = span_between us start added a b
@@ -170,7 +171,7 @@ module _ (mode : Mode) (us : List CodePoint) (start added : ℕ) where
   unfolding reference_front backslash_front
   name_by f count rest _ behind d h (of_group look) longest ends e = ap (answer_by f (front here rest)) h ∙ ap told (name_there f count behind d longest e)
   name_by f count rest _ behind d h (of_reference there) longest ends e =
-      let none : front here rest ≡ None = front_by_values here rest 92 (107 ∷ 60 ∷ behind) refl h ∙ backslash_k mode us there (60 ∷ behind) ∙ ap named_token (no_name_front (is_unicode mode) behind count longest ends) in
+      let none : front here rest ≡ None = front_by_values here rest 92 (107 ∷ 60 ∷ behind) refl h ∙ backslash_k mode rules us there (60 ∷ behind) ∙ ap named_token (no_name_front (is_unicode mode) behind count longest ends) in
       ap (answer_by f (front here rest)) h ∙ ap (λ t. told (angle_fault f t behind)) none ∙ ap told (name_there f count behind d longest e)
 
   pub name_is : (f count : ℕ) (rest : List CodePoint) (behind : List ℕ) (d : Option Diagnostic) → EndsName here (values rest) count behind → (starts 62 behind ≡ true → count ≡ 0) → behind_name f count behind ≡ d → answer f rest ≡ told d

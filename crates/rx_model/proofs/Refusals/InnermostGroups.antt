@@ -11,6 +11,7 @@ use Rattle.rx_model.specs.Trees.Early.{Obeys}
 use Rattle.rx_model.specs.Trees.OpenGroups.{AreClosed, further, group, none}
 use Rattle.rx_model.specs.Trees.Shapes.{group_takes, run}
 use Rattle.rx_model.specs.Trees.Token.{Token, Opener, boundary, character, dot, class_escape, property, class, indexed, named, opener, closer, bar, quantifier}
+use Rattle.rx_model.specs.declared.rules.Rules.{Rules}
 use Rattle.rx_model.proofs.Refusals.Beyond.{run_in}
 use Rattle.rx_model.proofs.Refusals.BlockedPlaces.{last_all}
 use Rattle.rx_model.proofs.Refusals.OneStop.{run_none}
@@ -27,7 +28,7 @@ row_split : (e : Environment) (ts ss : List Token) (us rest : List CodePoint) �
 row_split e [] ss us rest r = (us, refl, r)
 row_split e (t ∷ ts) ss us rest r = let s = row_split e ts ss r.1 rest r.4 in (s.0, (r.0, r.1, r.2, r.3, s.1), s.2)
 
-module _ (mode : Mode) where
+module _ (mode : Mode) (rules : Rules) where
   abbrev state : List Opener → Bool → Option (List Opener × Bool)
   state os ready = Some (os, ready)
 
@@ -42,7 +43,7 @@ module _ (mode : Mode) where
   run_split ts ss os ready after ready_after h = by (run mode ts os ready) refl
     where
       by : (r : Option (List Opener × Bool)) → run mode ts os ready ≡ r → Between ts ss os ready (state after ready_after)
-      by None e = absurd (let no : None ≡ state after ready_after = sym (run_none mode ts ss os ready e) ∙ h in let f : ⊥ = cc no in f)
+      by None e = absurd (let no : None ≡ state after ready_after = sym (run_none mode rules ts ss os ready e) ∙ h in let f : ⊥ = cc no in f)
       by (Some r) e = record { groups = r.0; between = r.1; first = e; second = sym (run-append mode ts ss os ready r.0 r.1 e) ∙ h }
 
   -- Tokens that open and close groups of their own alone leave the same groups open, and are accepted in none.
@@ -84,12 +85,12 @@ module _ (mode : Mode) where
       let behind = closed_alone more m os (group_takes mode o) after ready_after rest in
       record {
         same = behind.same;
-        alone = run-append mode inside (closer ∷ more) (o ∷ []) false (o ∷ []) s.between (run_in mode inside [] (o ∷ []) false [] s.between within.alone) ∙ behind.alone;
+        alone = run-append mode inside (closer ∷ more) (o ∷ []) false (o ∷ []) s.between (run_in mode rules inside [] (o ∷ []) false [] s.between within.alone) ∙ behind.alone;
       }
 
-  pub innermost : (us : List CodePoint) (place : ℕ) (o : Opener) (os : List Opener) (ready : Bool) (rest : List CodePoint) → IsReached mode us place (o ∷ os) ready rest → (from : ℕ) × IsInside mode us from o place rest
+  pub innermost : (us : List CodePoint) (place : ℕ) (o : Opener) (os : List Opener) (ready : Bool) (rest : List CodePoint) → IsReached mode rules us place (o ∷ os) ready rest → (from : ℕ) × IsInside mode rules us from o place rest
   innermost us place o os ready rest r =
-      let here = text_environment mode us in
+      let here = text_environment mode rules us in
       let owed = Obeys (text_groups mode us) (text_names mode us) in
       let opens = (accepted_whole mode r.tokens (o ∷ os) ready r.accepted).openers in
       let before = opens.0 in

@@ -22,7 +22,7 @@ use Rattle.rx_model.specs.Groups.GroupNameReading.{NameRow, row, name_at}
 use Rattle.rx_model.specs.Groups.GroupNames.{IsNameRow}
 use Rattle.rx_model.specs.Groups.NameFronts.{begins_pair}
 use Rattle.rx_model.specs.Groups.Groups.{BeginsName, EndsName, of_group, of_reference, is_mark}
-use Rattle.rx_model.specs.Inputs.Environment.{Environment}
+use Rattle.rx_model.specs.Inputs.Environment.{Environment, for_classes}
 use Rattle.rx_model.specs.Quantifiers.CountsReading.{CountsRead, counts_read, no_counts_read, many_digits, counts_read_at}
 use Rattle.rx_model.specs.Quantifiers.Quantifiers.{AreDigits, SpellsBraces, SpellsCounts, braces, decimal_behind, decimal_digit_value, lazy_mark, optional, plus, star}
 use Rattle.rx_model.specs.Reading.Fronts.{Counts, backslash_front, counts, counts_at, front, named_token, no_counts, opener_token, quantifier_token, syntax_front}
@@ -36,6 +36,7 @@ use Rattle.rx_model.specs.Spelling.ReadBack.{AreCodeUnits}
 use Rattle.rx_model.specs.Trees.Early.{IsGreatest, Obeys, greatest_count}
 use Rattle.rx_model.specs.Trees.Shapes.{run}
 use Rattle.rx_model.specs.Trees.Token.{Token, Opener, boundary, character, dot, class_escape, property, class, indexed, named, opener, closer, bar, quantifier, capturing, ignoring, looking}
+use Rattle.rx_model.specs.declared.rules.Rules.{Rules}
 use Rattle.rx_model.proofs.Characters.Decodings.{overflow_read, read_overflow, value_law}
 use Rattle.rx_model.proofs.Classes.ClassReads.{class_opens}
 use Rattle.rx_model.proofs.Classes.LegacyClasses.{class_or_refusal}
@@ -136,18 +137,18 @@ some_syntax e c w h = elim (or_cases (94 == c) _ h) [
     at : (d : ℕ) → (d == c) ≡ true → IsSome (syntax_front e d w) → IsSome (syntax_front e c w)
     at d p s = subst (λ c. IsSome (syntax_front e c w)) (eqb-true d c p) s
 
-module _ (us : List CodePoint) (start added : ℕ) where
+module _ (rules : Rules) (us : List CodePoint) (start added : ℕ) where
   abbrev here : Environment
-  here = text_environment Legacy us
+  here = text_environment Legacy rules us
 
   abbrev Further : ℕ → Type 0
-  Further place = (further : ℕ) × (back : List CodePoint) × (place < further) × IsPlace Legacy us further back
+  Further place = (further : ℕ) × (back : List CodePoint) × (place < further) × IsPlace Legacy rules us further back
 
   abbrev Refused : Type 0
-  Refused = (f : ℕ) × (d : Diagnostic) × IsCauseAtPlace Legacy us start added f d
+  Refused = (f : ℕ) × (d : Diagnostic) × IsCauseAtPlace Legacy rules us start added f d
 
   -- A token that stands, is accepted and obeys leads to a further place.
-  on : {place : ℕ} {open_groups : List Opener} {ready : Bool} {rest : List CodePoint} → IsReached Legacy us place open_groups ready rest → (t : Token) (w more : List CodePoint) (open_after : List Opener) (ready_after : Bool) →
+  on : {place : ℕ} {open_groups : List Opener} {ready : Bool} {rest : List CodePoint} → IsReached Legacy rules us place open_groups ready rest → (t : Token) (w more : List CodePoint) (open_after : List Opener) (ready_after : Bool) →
       rest ≡ w ++ more → Spells here t w more → run Legacy (t ∷ []) open_groups ready ≡ Some (open_after, ready_after) → Obeys (text_groups Legacy us) (text_names Legacy us) t → Further place
   on {place} {open_groups} {ready} {rest} r t w more open_after ready_after whole s run_is o =
       let owed = Obeys (text_groups Legacy us) (text_names Legacy us) in (
@@ -168,7 +169,7 @@ module _ (us : List CodePoint) (start added : ℕ) where
       )
 
   -- the same place, whatever was accepted
-  its_place : {place : ℕ} {open_groups : List Opener} {ready : Bool} {rest : List CodePoint} → IsReached Legacy us place open_groups ready rest → IsPlace Legacy us place rest
+  its_place : {place : ℕ} {open_groups : List Opener} {ready : Bool} {rest : List CodePoint} → IsReached Legacy rules us place open_groups ready rest → IsPlace Legacy rules us place rest
   its_place {place} {open_groups} {ready} r = record { open_groups = open_groups; ready = ready; reached = r }
 
   index_is : (n : ℕ) (ds : List ℕ) → AreDigits n ds → starts 48 ds ≡ false → 1 ≤ n
@@ -182,18 +183,18 @@ module _ (us : List CodePoint) (start added : ℕ) where
           omega (arith, t.1, l, some))
 
   -- A quantifier leads on, or is refused.
-  quantifier_there : {place : ℕ} {open_groups : List Opener} {ready : Bool} {rest : List CodePoint} → IsReached Legacy us place open_groups ready rest → (min : ℕ) (max : Option ℕ) (greedy : Bool) (w more : List CodePoint) → rest ≡ w ++ more →
+  quantifier_there : {place : ℕ} {open_groups : List Opener} {ready : Bool} {rest : List CodePoint} → IsReached Legacy rules us place open_groups ready rest → (min : ℕ) (max : Option ℕ) (greedy : Bool) (w more : List CodePoint) → rest ≡ w ++ more →
       Spells here (quantifier min max greedy) w more → Further place ⊎ Refused
   quantifier_there {place} {open_groups} {ready} {rest} r min max greedy w more whole s = by (numbers min max)
     where
       text : values rest ≡ s.prefix ++ (lazy_mark greedy ++ values more)
       text = ap values whole ∙ map-append (λ (u : CodePoint). u.value) w more ∙ ap (λ v. v ++ values more) s.whole ∙ append_assoc s.prefix (lazy_mark greedy) (values more)
 
-      obeyed : (b : Bool) → IsReached Legacy us place open_groups b rest → Obeys (text_groups Legacy us) (text_names Legacy us) (quantifier min max greedy) → Further place ⊎ Refused
+      obeyed : (b : Bool) → IsReached Legacy rules us place open_groups b rest → Obeys (text_groups Legacy us) (text_names Legacy us) (quantifier min max greedy) → Further place ⊎ Refused
       obeyed true at o = inl (on at (quantifier min max greedy) w more open_groups false whole s refl o)
       obeyed false at o =
           let owed = Obeys (text_groups Legacy us) (text_names Legacy us) in
-          inr (place, _, cause.lone_in_legacy place min max greedy open_groups w more (subst (IsReached Legacy us place open_groups false) whole at) refl s (All-cons owed (quantifier min max greedy) [] o (All-nil owed)))
+          inr (place, _, cause.lone_in_legacy place min max greedy open_groups w more (subst (IsReached Legacy rules us place open_groups false) whole at) refl s (All-cons owed (quantifier min max greedy) [] o (All-nil owed)))
 
       bad_by : IsOutOfOrder min max ⊎ IsTooLarge min max → (HasBraces min max (length s.prefix) rest → Refused) → (c : CountsRead) → counts_read_at (values rest) ≡ c → Refused
       bad_by bad refuse (counts_read low high n) h = refuse (record {
@@ -225,13 +226,13 @@ module _ (us : List CodePoint) (start added : ℕ) where
       by (obeying low high) = obeyed ready r (low, high)
 
   -- A class leads on, or is refused.
-  class_there : {place : ℕ} {open_groups : List Opener} {ready : Bool} (u : CodePoint) (rest : List CodePoint) → IsReached Legacy us place open_groups ready (u ∷ rest) → u.value ≡ 91 → AreCodeUnits rest → Further place ⊎ Refused
+  class_there : {place : ℕ} {open_groups : List Opener} {ready : Bool} (u : CodePoint) (rest : List CodePoint) → IsReached Legacy rules us place open_groups ready (u ∷ rest) → u.value ≡ 91 → AreCodeUnits rest → Further place ⊎ Refused
   class_there {place} {open_groups} {ready} u rest r h units = elim (class_or_refusal us start added place (u ∷ rest) u rest refl h units) [
     | inl c ↦ inl (on r (class c.0) c.1 c.2 open_groups true c.3 c.4 refl c.5)
     | inr c ↦ inr (c.0, c.1, cause.of_class place c.0 (u ∷ rest) (its_place r) c.2)
   ]
 
-  closer_there : (place : ℕ) (open_groups : List Opener) (ready : Bool) (u : CodePoint) (rest : List CodePoint) → IsReached Legacy us place open_groups ready (u ∷ rest) → (w more : List CodePoint) → u ∷ rest ≡ w ++ more → Spells here closer w more →
+  closer_there : (place : ℕ) (open_groups : List Opener) (ready : Bool) (u : CodePoint) (rest : List CodePoint) → IsReached Legacy rules us place open_groups ready (u ∷ rest) → (w more : List CodePoint) → u ∷ rest ≡ w ++ more → Spells here closer w more →
       Further place ⊎ Refused
   closer_there place [] ready u rest r w more whole s =
       let text : values (u ∷ rest) ≡ 41 ∷ values more = ap values whole ∙ map-append (λ (u : CodePoint). u.value) w more ∙ ap (λ v. v ++ values more) s in
@@ -240,7 +241,7 @@ module _ (us : List CodePoint) (start added : ℕ) where
   closer_there place (o ∷ open_groups) ready u rest r w more whole s = inl (on r closer w more open_groups _ whole s refl tt)
 
   -- A token that stands leads on, or is refused.
-  token_there : {place : ℕ} {open_groups : List Opener} {ready : Bool} (u : CodePoint) (rest : List CodePoint) → IsReached Legacy us place open_groups ready (u ∷ rest) → AreCodeUnits (u ∷ rest) → begins_modifiers (values (u ∷ rest)) ≡ false →
+  token_there : {place : ℕ} {open_groups : List Opener} {ready : Bool} (u : CodePoint) (rest : List CodePoint) → IsReached Legacy rules us place open_groups ready (u ∷ rest) → AreCodeUnits (u ∷ rest) → begins_modifiers (values (u ∷ rest)) ≡ false →
       (t : Token) (w more : List CodePoint) → u ∷ rest ≡ w ++ more → Spells here t w more → Further place ⊎ Refused
   token_there {place} {open_groups} {ready} u rest r units other (boundary kind) w more whole s = inl (on r (boundary kind) w more open_groups false whole s refl tt)
   token_there {place} {open_groups} {ready} u rest r units other (character kind v) w more whole s =
@@ -250,7 +251,7 @@ module _ (us : List CodePoint) (start added : ℕ) where
   token_there {place} {open_groups} {ready} u rest r units other (class_escape kind) w more whole s = inl (on r (class_escape kind) w more open_groups true whole s refl tt)
   token_there u rest r units other (property negative strings name v) w more whole s = absurd (let no = s.unicode in let f : ⊥ = cc no in f)
   token_there u rest r units other (class c) w more whole s =
-      let k = class_opens here c w more s in
+      let k = class_opens (for_classes here) c w more s in
       let first : u ∷ rest ≡ k.0 ∷ k.1 = whole ∙ k.2 in
       let same : u ≡ k.0 = cc first in
       class_there u rest r (ap (λ u. u.value) same ∙ k.3) units.1
@@ -258,7 +259,7 @@ module _ (us : List CodePoint) (start added : ℕ) where
       inl (on r (indexed n) w more open_groups true whole s refl (index_is n s.digits s.number s.not_zero, leb-true n (text_groups Legacy us) s.refers))
   token_there {place} {open_groups} {ready} u rest r units other (named name) w more whole s = elim (among (text_names Legacy us) name) [
     | inl there ↦ inl (on r (named name) w more open_groups true whole s refl there)
-    | inr none ↦ inr (place, _, cause.no_such_name place name w more (subst (IsPlace Legacy us place) whole (its_place r)) s none)
+    | inr none ↦ inr (place, _, cause.no_such_name place name w more (subst (IsPlace Legacy rules us place) whole (its_place r)) s none)
   ]
   token_there {place} {open_groups} {ready} u rest r units other (opener (capturing name)) w more whole s = inl (on r (opener (capturing name)) w more (capturing name ∷ open_groups) false whole s refl tt)
   token_there {place} {open_groups} {ready} u rest r units other (opener (ignoring None)) w more whole s = inl (on r (opener (ignoring None)) w more (ignoring None ∷ open_groups) false whole s refl tt)
@@ -273,7 +274,7 @@ module _ (us : List CodePoint) (start added : ℕ) where
   token_there u rest r units other (quantifier min max greedy) w more whole s = quantifier_there r min max greedy w more whole s
 
   -- A name that is not whole is refused.
-  name_there : (place : ℕ) (rest : List CodePoint) → IsPlace Legacy us place rest → (w behind : List ℕ) → values rest ≡ w → BeginsName here w behind → name_front false behind ≡ None → Refused
+  name_there : (place : ℕ) (rest : List CodePoint) → IsPlace Legacy rules us place rest → (w behind : List ℕ) → values rest ≡ w → BeginsName here w behind → name_front false behind ≡ None → Refused
   name_there place rest p w behind text begins none = by (name_at false behind) refl none
     where
       ends_with : (n : ℕ) (back : List ℕ) → IsNameRow false behind n → drop n behind ≡ back → EndsName here (values rest) n back
@@ -311,7 +312,7 @@ module _ (us : List CodePoint) (start added : ℕ) where
   named_none (Some n) h = absurd (let no : ⊥ = cc h in no)
 
   -- Behind `(` a token stands, or a name is refused.
-  angle_there : (place : ℕ) (rest : List CodePoint) → IsPlace Legacy us place rest → (v : List ℕ) → values rest ≡ 40 ∷ 63 ∷ 60 ∷ v → opener_token (angle_group false v) ≡ None → Refused
+  angle_there : (place : ℕ) (rest : List CodePoint) → IsPlace Legacy rules us place rest → (v : List ℕ) → values rest ≡ 40 ∷ 63 ∷ 60 ∷ v → opener_token (angle_group false v) ≡ None → Refused
   angle_there place rest p [] text h = name_there place rest p _ [] text (of_group refl) refl
   angle_there place rest p (x ∷ y) text h = elim (chosen (x == 61) (ap (λ o. o) (sym (if_opener (x == 61) _ _) ∙ h))) [
     | inl q ↦ absurd (let no : ⊥ = cc q.1 in no)
@@ -325,7 +326,7 @@ module _ (us : List CodePoint) (start added : ℕ) where
       if_opener true s t = refl
       if_opener false s t = refl
 
-  question_there : (place : ℕ) (rest : List CodePoint) → IsPlace Legacy us place rest → (d : ℕ) (v : List ℕ) → values rest ≡ 40 ∷ 63 ∷ d ∷ v → is_mark d ≡ true → opener_token (question_group false (d ∷ v)) ≡ None → Refused
+  question_there : (place : ℕ) (rest : List CodePoint) → IsPlace Legacy rules us place rest → (d : ℕ) (v : List ℕ) → values rest ≡ 40 ∷ 63 ∷ d ∷ v → is_mark d ≡ true → opener_token (question_group false (d ∷ v)) ≡ None → Refused
   question_there place rest p d v text mark h = elim (or_cases (d == 58 || d == 61 || d == 33) (d == 60) mark) [
     | inl m ↦ elim (or_cases (d == 58 || d == 61) (d == 33) m) [
       | inl n ↦ elim (or_cases (d == 58) (d == 61) n) [
@@ -340,7 +341,7 @@ module _ (us : List CodePoint) (start added : ℕ) where
       at : (c : ℕ) → (d == c) ≡ true → opener_token (question_group false (c ∷ v)) ≡ None
       at c k = subst (λ d. opener_token (question_group false (d ∷ v)) ≡ None) (eqb-true d c k) h
 
-  paren_there : (place : ℕ) (rest : List CodePoint) → IsPlace Legacy us place rest → (w : List ℕ) → values rest ≡ 40 ∷ w → begins_modifiers (40 ∷ w) ≡ false → opener_token (group_front false w) ≡ None → Refused
+  paren_there : (place : ℕ) (rest : List CodePoint) → IsPlace Legacy rules us place rest → (w : List ℕ) → values rest ≡ 40 ∷ w → begins_modifiers (40 ∷ w) ≡ false → opener_token (group_front false w) ≡ None → Refused
   unfolding group_front
   paren_there place rest p [] text other h = absurd (let no : ⊥ = cc h in no)
   paren_there place rest p (c ∷ w) text other h = elim (cases_Bool (c == 63)) [
@@ -358,7 +359,7 @@ module _ (us : List CodePoint) (start added : ℕ) where
   reference_none None h = refl
   reference_none (Some n) h = absurd (let no : ⊥ = cc h in no)
 
-  reference_there : (place : ℕ) (rest : List CodePoint) → IsPlace Legacy us place rest → here.named ≡ true → (w : List ℕ) → values rest ≡ 92 ∷ 107 ∷ w → reference_front false w ≡ None → Refused
+  reference_there : (place : ℕ) (rest : List CodePoint) → IsPlace Legacy rules us place rest → here.named ≡ true → (w : List ℕ) → values rest ≡ 92 ∷ 107 ∷ w → reference_front false w ≡ None → Refused
   unfolding reference_front
   reference_there place rest p there [] text h = (place, _, cause.no_group_name place rest [] p there text refl)
   reference_there place rest p there (c ∷ w) text h = elim (cases_Bool (c == 60)) [
@@ -366,14 +367,14 @@ module _ (us : List CodePoint) (start added : ℕ) where
     | inr q ↦ (place, _, cause.no_group_name place rest (c ∷ w) p there text q)
   ]
 
-  backslash_there : (place : ℕ) (u : CodePoint) (rest : List CodePoint) → IsPlace Legacy us place (u ∷ rest) → u.value ≡ 92 → backslash_front here (values rest) ≡ None → Refused
+  backslash_there : (place : ℕ) (u : CodePoint) (rest : List CodePoint) → IsPlace Legacy rules us place (u ∷ rest) → u.value ≡ 92 → backslash_front here (values rest) ≡ None → Refused
   backslash_there place u [] p h none = (place, _, cause.last_backslash place u p refl h)
   backslash_there place u (v ∷ rest) p h none = elim (cases_Bool (v.value == 107 && here.named)) [
     | inl k ↦
         let q = both (v.value == 107) here.named k in
         let is = eqb-true v.value 107 q.0 in
         reference_there place (u ∷ v ∷ rest) p q.1 (values rest) (ap₂ (λ a b. a ∷ b ∷ values rest) h is)
-        (reference_none (reference_front false (values rest)) (sym (backslash_k Legacy us q.1 (values rest)) ∙ ap (λ c. backslash_front here (c ∷ values rest)) (sym is) ∙ none))
+        (reference_none (reference_front false (values rest)) (sym (backslash_k Legacy rules us q.1 (values rest)) ∙ ap (λ c. backslash_front here (c ∷ values rest)) (sym is) ∙ none))
     | inr k ↦ let s = backslash_read here refl v.value (values rest) k in absurd (let no : None ≡ Some s.0 = sym none ∙ s.1 in let f : ⊥ = cc no in f)
   ]
 
@@ -405,7 +406,7 @@ module _ (us : List CodePoint) (start added : ℕ) where
       let no : None ≡ Some s.0 = sym none ∙ front_by_values here (u ∷ rest) u.value (values rest) k refl ∙ cond-false (u.value == 92) _ _ other ∙ s.1 in
       cc no
 
-  none_here : {place : ℕ} {open_groups : List Opener} {ready : Bool} (u : CodePoint) (rest : List CodePoint) → IsReached Legacy us place open_groups ready (u ∷ rest) → AreCodeUnits rest → begins_modifiers (values (u ∷ rest)) ≡ false →
+  none_here : {place : ℕ} {open_groups : List Opener} {ready : Bool} (u : CodePoint) (rest : List CodePoint) → IsReached Legacy rules us place open_groups ready (u ∷ rest) → AreCodeUnits rest → begins_modifiers (values (u ∷ rest)) ≡ false →
       front here (u ∷ rest) ≡ None → Further place ⊎ Refused
   none_here {place} u rest r units other none = elim (cases_Bool (u.value == 92)) [
     | inl h ↦
@@ -426,15 +427,15 @@ module _ (us : List CodePoint) (start added : ℕ) where
     ]
   ]
 
-  further_at : (place : ℕ) (open_groups : List Opener) (ready : Bool) (u : CodePoint) (rest : List CodePoint) → AreCodeUnits (u ∷ rest) → IsReached Legacy us place open_groups ready (u ∷ rest) → begins_modifiers (values (u ∷ rest)) ≡ false →
+  further_at : (place : ℕ) (open_groups : List Opener) (ready : Bool) (u : CodePoint) (rest : List CodePoint) → AreCodeUnits (u ∷ rest) → IsReached Legacy rules us place open_groups ready (u ∷ rest) → begins_modifiers (values (u ∷ rest)) ≡ false →
       (o : Option (Token × ℕ)) → front here (u ∷ rest) ≡ o → Further place ⊎ Refused
   further_at place open_groups ready u rest units r other None h = none_here u rest r units.1 other h
   further_at place open_groups ready u rest units r other (Some p) h =
       let f = front_spelled here (u ∷ rest) p.0 p.1 h in token_there u rest r units other p.0 f.w f.rest f.whole f.spells
 
-  pub ends_or_goes : (place : ℕ) (open_groups : List Opener) (ready : Bool) (rest : List CodePoint) → AreCodeUnits rest → IsReached Legacy us place open_groups ready rest → begins_modifiers (values rest) ≡ false →
+  pub ends_or_goes : (place : ℕ) (open_groups : List Opener) (ready : Bool) (rest : List CodePoint) → AreCodeUnits rest → IsReached Legacy rules us place open_groups ready rest → begins_modifiers (values rest) ≡ false →
       ((rest ≡ []) × (open_groups ≡ [])) ⊎ (Further place ⊎ Refused)
   ends_or_goes place [] ready [] units r other = inl (refl, refl)
   ends_or_goes place (o ∷ open_groups) ready [] units r other =
-      let i = innermost Legacy us place o open_groups ready [] r in inr (inr (place, _, cause.unterminated_group i.0 place 0 o [] i.1 stop.at_end refl))
+      let i = innermost Legacy rules us place o open_groups ready [] r in inr (inr (place, _, cause.unterminated_group i.0 place 0 o [] i.1 stop.at_end refl))
   ends_or_goes place open_groups ready (u ∷ rest) units r other = inr (further_at place open_groups ready u rest units r other (front here (u ∷ rest)) refl)

@@ -14,6 +14,7 @@ use Rattle.rx_model.specs.Refusals.EscapeCauses.{IsEscapeCause, IsPropertyCause}
 use Rattle.rx_model.specs.Refusals.EscapeCauses as escape_cause
 use Rattle.rx_model.specs.Inputs.Environment.{is_unicode}
 use Rattle.rx_model.specs.Refusals.Firsts.{of_character, of_property}
+use Rattle.rx_model.specs.declared.rules.Rules.{Rules}
 use Rattle.rx_model.proofs.Classes.LegacyClassEscapes.{none_refused}
 
 -- whether a refusal says this
@@ -56,7 +57,7 @@ ends_refused mode us start added from at_class _ _ (class_cause.invalid_atom pla
 ends_refused mode us start added from at_class _ d (class_cause.escape_in_class place rest p c) is = absurd (no_escape mode us start added place rest d c is)
 ends_refused mode us start added from at_class _ d (class_cause.property_in_class place rest p c) is = absurd (no_property mode us start added place rest d c is)
 
-module _ (mode : Mode) (m : is_unicode mode ≡ false) (us : List CodePoint) (start added : ℕ) where
+module _ (mode : Mode) (rules : Rules) (m : is_unicode mode ≡ false) (us : List CodePoint) (start added : ℕ) where
   not_lone_in_class : (from : ℕ) (at_class : List CodePoint) (f : ℕ) (d : Diagnostic) → IsClassCause mode us start added from at_class f d → IsLone d → ⊥
   not_lone_in_class from at_class _ _ (class_cause.unterminated_class nested begin place rest p union none sets_empty no_sets) is = is
   not_lone_in_class from at_class _ _ (class_cause.no_operand place rest p sets empty none some) is = is
@@ -74,7 +75,7 @@ module _ (mode : Mode) (m : is_unicode mode ≡ false) (us : List CodePoint) (st
   not_lone_in_class from at_class _ d (class_cause.property_in_class place rest p c) is = none_refused mode m us start added place rest place d (of_property c)
 
   -- The refusal of a quantifier that has nothing to stand behind is another with `u` or `v`.
-  pub not_lone : (f : ℕ) (d : Diagnostic) → IsCauseAtPlace mode us start added f d → IsLone d → ⊥
+  pub not_lone : (f : ℕ) (d : Diagnostic) → IsCauseAtPlace mode rules us start added f d → IsLone d → ⊥
   not_lone _ _ (cause.incomplete place behind ready rest r s some) is = is
   not_lone _ _ (cause.lone place min max greedy open_groups w more r k s o) is = both_ways (is_unicode mode) m k
   not_lone _ _ (cause.lone_in_legacy place min max greedy open_groups w more r k s o) is = is

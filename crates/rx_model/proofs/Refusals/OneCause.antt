@@ -30,72 +30,73 @@ use Rattle.rx_model.proofs.Refusals.Places.{same_place}
 use Rattle.rx_model.proofs.Properties.PropertyRefusals.{property_first}
 use Rattle.rx_model.proofs.Refusals.Refusals.{none_beyond}
 use Rattle.rx_model.specs.Refusals.EscapeCauses.{IsPropertyCause}
+use Rattle.rx_model.specs.declared.rules.Rules.{Rules}
 
-module _ (mode : Mode) (us : List CodePoint) (start added : ℕ) (laws : ClassLaws mode us start added) where
+module _ (mode : Mode) (rules : Rules) (us : List CodePoint) (start added : ℕ) (laws : ClassLaws mode rules us start added) where
   abbrev here : Environment
-  here = text_environment mode us
+  here = text_environment mode rules us
 
   -- a refusal of what stands at a place that is reached, outside classes
   data Row (f : ℕ) (rest : List CodePoint) (d : Diagnostic) : Type 0 where
-    told_row : answer mode us start added f rest ≡ told (Some d) → Row f rest d
-    property_row : answer mode us start added f rest ≡ by_property → IsPropertyCause mode us start added f rest d → Row f rest d
-    quantifier_row : answer mode us start added f rest ≡ by_quantifier → QuantifierRow mode us start added f rest d → Row f rest d
-    stop_row : StopRow mode us start added f rest d → Row f rest d
+    told_row : answer mode rules us start added f rest ≡ told (Some d) → Row f rest d
+    property_row : answer mode rules us start added f rest ≡ by_property → IsPropertyCause mode us start added f rest d → Row f rest d
+    quantifier_row : answer mode rules us start added f rest ≡ by_quantifier → QuantifierRow mode rules us start added f rest d → Row f rest d
+    stop_row : StopRow mode rules us start added f rest d → Row f rest d
 
   data Located (f : ℕ) (d : Diagnostic) : Type 0 where
-    at_place : (rest : List CodePoint) → IsPlace mode us f rest → Row f rest d → Located f d
-    in_class : (from : ℕ) (at_class : List CodePoint) → IsPlace mode us from at_class → IsClassCause mode us start added from at_class f d → Located f d
+    at_place : (rest : List CodePoint) → IsPlace mode rules us f rest → Row f rest d → Located f d
+    in_class : (from : ℕ) (at_class : List CodePoint) → IsPlace mode rules us from at_class → IsClassCause mode us start added from at_class f d → Located f d
 
-  braces_are : (f count min : ℕ) (max : Option ℕ) (rest : List CodePoint) → HasBraces min max count rest → answer mode us start added f rest ≡ by_quantifier
-  braces_are f count min max rest h = let b = brace_first min max h.prefix h.spelled in brace_is mode us start added f rest (b.0 ++ h.behind) (h.whole ∙ ap (λ w. w ++ h.behind) b.1)
+  braces_are : (f count min : ℕ) (max : Option ℕ) (rest : List CodePoint) → HasBraces min max count rest → answer mode rules us start added f rest ≡ by_quantifier
+  braces_are f count min max rest h = let b = brace_first min max h.prefix h.spelled in brace_is mode rules us start added f rest (b.0 ++ h.behind) (h.whole ∙ ap (λ w. w ++ h.behind) b.1)
 
   lone_row : (f min : ℕ) (max : Option ℕ) (greedy : Bool) (w more : List CodePoint) (u : Bool) → is_unicode mode ≡ u → Spells here (quantifier min max greedy) w more → AreObeying mode us (quantifier min max greedy ∷ []) →
       Row f (w ++ more) (lone_refusal u (span_between us start added f (f + length w)))
   lone_row f min max greedy w more u m s o =
       subst (λ u. Row f (w ++ more) (lone_refusal u (span_between us start added f (f + length w)))) m
-      (quantifier_row (quantifier_is mode us start added f min max greedy w more s) (lone min max greedy w more refl s o))
+      (quantifier_row (quantifier_is mode rules us start added f min max greedy w more s) (lone min max greedy w more refl s o))
 
-  located : (f : ℕ) (d : Diagnostic) → IsCauseAtPlace mode us start added f d → Located f d
+  located : (f : ℕ) (d : Diagnostic) → IsCauseAtPlace mode rules us start added f d → Located f d
   located _ _ (cause.incomplete place behind ready rest r s some) = at_place rest (record { open_groups = []; ready = ready; reached = r }) (stop_row (outside behind ready r s))
   located _ _ (cause.lone place min max greedy open_groups w more r m s o) =
       at_place (w ++ more) (record { open_groups = open_groups; ready = false; reached = r }) (lone_row place min max greedy w more true m s o)
   located _ _ (cause.lone_in_legacy place min max greedy open_groups w more r m s o) =
       at_place (w ++ more) (record { open_groups = open_groups; ready = false; reached = r }) (lone_row place min max greedy w more false m s o)
-  located _ _ (cause.last_backslash place backslash p m h) = at_place (backslash ∷ []) p (told_row (last_is mode us start added place backslash m h))
+  located _ _ (cause.last_backslash place backslash p m h) = at_place (backslash ∷ []) p (told_row (last_is mode rules us start added place backslash m h))
   located _ _ (cause.out_of_order place count min max rest p h out) = at_place rest p (quantifier_row (braces_are place count min max rest h) (out_of_order count min max h out))
   located _ _ (cause.too_large place count min max rest p h order large) = at_place rest p (quantifier_row (braces_are place count min max rest h) (too_large count min max h order large))
-  located _ _ (cause.too_many_digits place from count rest p limit in_legacy) = at_place rest p (quantifier_row (let b = limit_first mode us (values rest) from count limit in brace_is mode us start added place rest b.0 b.1) (too_many_digits from count limit in_legacy))
-  located _ d (cause.of_escape place rest p c) = at_place rest p (told_row (escape_is mode us start added place rest d c))
+  located _ _ (cause.too_many_digits place from count rest p limit in_legacy) = at_place rest p (quantifier_row (let b = limit_first mode rules us (values rest) from count limit in brace_is mode rules us start added place rest b.0 b.1) (too_many_digits from count limit in_legacy))
+  located _ d (cause.of_escape place rest p c) = at_place rest p (told_row (escape_is mode rules us start added place rest d c))
   located _ d (cause.of_property place rest p c) =
-      let b = property_first mode us start added place rest d c in at_place rest p (property_row (property_is mode us start added place rest b.0 b.1 b.2 b.3) c)
+      let b = property_first mode us start added place rest d c in at_place rest p (property_row (property_is mode rules us start added place rest b.0 b.1 b.2 b.3) c)
   located _ d (cause.of_class from place at_class p c) = in_class from at_class p c
   located _ _ (cause.unterminated_group from place behind group rest g s other) =
-      at_place rest (record { open_groups = group ∷ g.open_groups; ready = g.ready_inside; reached = inside_reached mode us from group place rest g }) (stop_row (inside from behind group g s))
+      at_place rest (record { open_groups = group ∷ g.open_groups; ready = g.ready_inside; reached = inside_reached mode rules us from group place rest g }) (stop_row (inside from behind group g s))
   located _ d (cause.unterminated_name place count rest behind p m n none ends) =
-      at_place rest p (told_row (name_is mode us start added place count rest behind (Some d) n ends (unterminated_is mode us start added place count behind none (rw m refl))))
+      at_place rest p (told_row (name_is mode rules us start added place count rest behind (Some d) n ends (unterminated_is mode rules us start added place count behind none (rw m refl))))
   located _ d (cause.unterminated_name_in_legacy place count rest behind p m n none no_pair ends) =
-      at_place rest p (told_row (name_is mode us start added place count rest behind (Some d) n ends (unterminated_is mode us start added place count behind none (rw (m, no_pair_begins behind no_pair) refl))))
+      at_place rest p (told_row (name_is mode rules us start added place count rest behind (Some d) n ends (unterminated_is mode rules us start added place count behind none (rw (m, no_pair_begins behind no_pair) refl))))
   located _ d (cause.misplaced_pair place count rest behind p m n pair) =
-      at_place rest p (told_row (name_is mode us start added place count rest behind (Some d) n (pair_no_closer mode us behind count pair) (pair_is mode us start added place count behind m pair)))
+      at_place rest p (told_row (name_is mode rules us start added place count rest behind (Some d) n (pair_no_closer mode rules us behind count pair) (pair_is mode rules us start added place count behind m pair)))
   located _ d (cause.too_many_digits_in_name place count many rest behind p n limit) =
-      at_place rest p (told_row (name_is mode us start added place count rest (92 ∷ behind) (Some d) n (no_angle behind count) (overflow_is mode us start added place count many behind limit)))
+      at_place rest p (told_row (name_is mode rules us start added place count rest (92 ∷ behind) (Some d) n (no_angle behind count) (overflow_is mode rules us start added place count many behind limit)))
   located _ d (cause.misplaced_in_name place count value n rest behind p ends decodes) =
-      at_place rest p (told_row (name_is mode us start added place count rest (92 ∷ behind) (Some d) ends (no_angle behind count) (misplaced_is mode us start added place count value n behind decodes)))
+      at_place rest p (told_row (name_is mode rules us start added place count rest (92 ∷ behind) (Some d) ends (no_angle behind count) (misplaced_is mode rules us start added place count value n behind decodes)))
   located _ d (cause.invalid_in_name place count rest behind p n no_value no_limit begun) =
-      at_place rest p (told_row (name_is mode us start added place count rest (92 ∷ behind) (Some d) n (no_angle behind count) (invalid_is mode us start added place count behind false _ refl no_value no_limit begun)))
+      at_place rest p (told_row (name_is mode rules us start added place count rest (92 ∷ behind) (Some d) n (no_angle behind count) (invalid_is mode rules us start added place count behind false _ refl no_value no_limit begun)))
   located _ d (cause.invalid_u_in_name place count rest behind p n no_value no_limit begun) =
-      at_place rest p (told_row (name_is mode us start added place count rest (92 ∷ behind) (Some d) n (no_angle behind count) (invalid_is mode us start added place count behind true _ refl no_value no_limit begun)))
-  located _ _ (cause.no_such_group place n w more p s large) = at_place (w ++ more) p (told_row (index_is mode us start added place n w more s))
-  located _ _ (cause.no_group_name place rest behind p there h other) = at_place rest p (told_row (reference_is mode us start added place rest behind h other))
-  located _ _ (cause.no_such_name place name w more p s unknown) = at_place (w ++ more) p (told_row (named_is mode us start added place name w more s))
-  located _ _ (cause.unknown_modifiers place rest text behind p h l) = at_place rest p (told_row (unknown_is mode us start added place rest text behind h l))
-  located _ _ (cause.duplicated_modifiers place rest enabled disabled text behind p h s twice) = at_place rest p (told_row (duplicated_is mode us start added place rest enabled disabled text behind h s twice))
-  located _ _ (cause.empty_modifiers place rest behind p h) = at_place rest p (told_row (empty_is mode us start added place rest behind h))
+      at_place rest p (told_row (name_is mode rules us start added place count rest (92 ∷ behind) (Some d) n (no_angle behind count) (invalid_is mode rules us start added place count behind true _ refl no_value no_limit begun)))
+  located _ _ (cause.no_such_group place n w more p s large) = at_place (w ++ more) p (told_row (index_is mode rules us start added place n w more s))
+  located _ _ (cause.no_group_name place rest behind p there h other) = at_place rest p (told_row (reference_is mode rules us start added place rest behind h other))
+  located _ _ (cause.no_such_name place name w more p s unknown) = at_place (w ++ more) p (told_row (named_is mode rules us start added place name w more s))
+  located _ _ (cause.unknown_modifiers place rest text behind p h l) = at_place rest p (told_row (unknown_is mode rules us start added place rest text behind h l))
+  located _ _ (cause.duplicated_modifiers place rest enabled disabled text behind p h s twice) = at_place rest p (told_row (duplicated_is mode rules us start added place rest enabled disabled text behind h s twice))
+  located _ _ (cause.empty_modifiers place rest behind p h) = at_place rest p (told_row (empty_is mode rules us start added place rest behind h))
   located _ _ (cause.invalid_modifiers place rest enabled disabled text behind p h s once share) =
-      at_place rest p (told_row (shared_is mode us start added place rest enabled disabled text behind h s once share))
+      at_place rest p (told_row (shared_is mode rules us start added place rest enabled disabled text behind h s once share))
 
   -- No quantifier stands where terms end at a brace.
-  no_quantifier_row : (f : ℕ) (rest : List CodePoint) (d : Diagnostic) → NoBraces mode us start added rest → QuantifierRow mode us start added f rest d → ⊥
+  no_quantifier_row : (f : ℕ) (rest : List CodePoint) (d : Diagnostic) → NoBraces mode rules us start added rest → QuantifierRow mode rules us start added f rest d → ⊥
   no_quantifier_row f rest _ n (lone min max greedy w more h s o) =
       let no : None ≡ next (quantifier min max greedy) (length w) = sym n.no_token ∙ ap (front here) h ∙ spelled_front here (quantifier min max greedy) w more s in
       cc no
@@ -117,20 +118,20 @@ module _ (mode : Mode) (us : List CodePoint) (start added : ℕ) (laws : ClassLa
   })
   no_quantifier_row f rest _ n (too_many_digits from count limit in_legacy) = n.in_limit from count limit
 
-  no_stop_told : (f : ℕ) (rest : List CodePoint) (d : Diagnostic) (r : Option Diagnostic) → StopRow mode us start added f rest d → answer mode us start added f rest ≡ told r → ⊥
-  no_stop_told f rest d r s h = let i = stops_at mode us start added s in elim (stop_is mode us start added f i.0 rest i.1) [
+  no_stop_told : (f : ℕ) (rest : List CodePoint) (d : Diagnostic) (r : Option Diagnostic) → StopRow mode rules us start added f rest d → answer mode rules us start added f rest ≡ told r → ⊥
+  no_stop_told f rest d r s h = let i = stops_at mode rules us start added s in elim (stop_is mode rules us start added f i.0 rest i.1) [
     | inl p ↦ (let no : stopping ≡ told r = sym p ∙ h in cc no)
     | inr p ↦ (let no : by_quantifier ≡ told r = sym p.0 ∙ h in cc no)
   ]
 
-  no_stop_property : (f : ℕ) (rest : List CodePoint) (d : Diagnostic) → StopRow mode us start added f rest d → answer mode us start added f rest ≡ by_property → ⊥
-  no_stop_property f rest d s h = let i = stops_at mode us start added s in elim (stop_is mode us start added f i.0 rest i.1) [
+  no_stop_property : (f : ℕ) (rest : List CodePoint) (d : Diagnostic) → StopRow mode rules us start added f rest d → answer mode rules us start added f rest ≡ by_property → ⊥
+  no_stop_property f rest d s h = let i = stops_at mode rules us start added s in elim (stop_is mode rules us start added f i.0 rest i.1) [
     | inl p ↦ (let no : stopping ≡ by_property = sym p ∙ h in cc no)
     | inr p ↦ (let no : by_quantifier ≡ by_property = sym p.0 ∙ h in cc no)
   ]
 
-  no_stop_quantifier : (f : ℕ) (rest : List CodePoint) (d e : Diagnostic) → StopRow mode us start added f rest d → answer mode us start added f rest ≡ by_quantifier → QuantifierRow mode us start added f rest e → ⊥
-  no_stop_quantifier f rest d e s h q = let i = stops_at mode us start added s in elim (stop_is mode us start added f i.0 rest i.1) [
+  no_stop_quantifier : (f : ℕ) (rest : List CodePoint) (d e : Diagnostic) → StopRow mode rules us start added f rest d → answer mode rules us start added f rest ≡ by_quantifier → QuantifierRow mode rules us start added f rest e → ⊥
+  no_stop_quantifier f rest d e s h q = let i = stops_at mode rules us start added s in elim (stop_is mode rules us start added f i.0 rest i.1) [
     | inl p ↦ (let no : stopping ≡ by_quantifier = sym p ∙ h in cc no)
     | inr p ↦ no_quantifier_row f rest e p.1 q
   ]
@@ -146,67 +147,67 @@ module _ (mode : Mode) (us : List CodePoint) (start added : ℕ) (laws : ClassLa
   one_row f rest d e (property_row h c) (stop_row s) = absurd (no_stop_property f rest e s h)
   one_row f rest d e (quantifier_row h q) (told_row k) = absurd (let no : by_quantifier ≡ told (Some e) = sym h ∙ k in let f : ⊥ = cc no in f)
   one_row f rest d e (quantifier_row h q) (property_row k c) = absurd (let no : by_quantifier ≡ by_property = sym h ∙ k in let f : ⊥ = cc no in f)
-  one_row f rest d e (quantifier_row h q) (quantifier_row k r) = one_quantifier mode us start added f rest d e q r
+  one_row f rest d e (quantifier_row h q) (quantifier_row k r) = one_quantifier mode rules us start added f rest d e q r
   one_row f rest d e (quantifier_row h q) (stop_row s) = absurd (no_stop_quantifier f rest e d s h q)
   one_row f rest d e (stop_row s) (told_row k) = absurd (no_stop_told f rest d (Some e) s k)
   one_row f rest d e (stop_row s) (property_row k c) = absurd (no_stop_property f rest d s k)
   one_row f rest d e (stop_row s) (quantifier_row k q) = absurd (no_stop_quantifier f rest d e s k q)
-  one_row f rest d e (stop_row s) (stop_row t) = one_stop mode us start added f rest d e s t
+  one_row f rest d e (stop_row s) (stop_row t) = one_stop mode rules us start added f rest d e s t
 
   -- No refusal outside classes holds at a `[`.
   no_row_at_bracket : (f : ℕ) (rest : List CodePoint) (w : List ℕ) (d : Diagnostic) → values rest ≡ 91 ∷ w → Row f rest d → ⊥
-  no_row_at_bracket f rest w d h (told_row k) = let no : stopping ≡ told (Some d) = sym (bracket_is mode us start added f rest w h) ∙ k in cc no
-  no_row_at_bracket f rest w d h (property_row k c) = let no : stopping ≡ by_property = sym (bracket_is mode us start added f rest w h) ∙ k in cc no
-  no_row_at_bracket f rest w d h (quantifier_row k q) = let no : stopping ≡ by_quantifier = sym (bracket_is mode us start added f rest w h) ∙ k in cc no
-  no_row_at_bracket f rest w d h (stop_row s) = let i = stops_at mode us start added s in no_stop mode us start added i.0 rest w h i.1
+  no_row_at_bracket f rest w d h (told_row k) = let no : stopping ≡ told (Some d) = sym (bracket_is mode rules us start added f rest w h) ∙ k in cc no
+  no_row_at_bracket f rest w d h (property_row k c) = let no : stopping ≡ by_property = sym (bracket_is mode rules us start added f rest w h) ∙ k in cc no
+  no_row_at_bracket f rest w d h (quantifier_row k q) = let no : stopping ≡ by_quantifier = sym (bracket_is mode rules us start added f rest w h) ∙ k in cc no
+  no_row_at_bracket f rest w d h (stop_row s) = let i = stops_at mode rules us start added s in no_stop mode rules us start added i.0 rest w h i.1
 
   -- Of two places, neither beyond the other, each is the other.
-  same_if : (f g : ℕ) (rest back : List CodePoint) → NoneBeyond mode us f → NoneBeyond mode us g → IsPlace mode us f rest → IsPlace mode us g back → f ≡ g
+  same_if : (f g : ℕ) (rest back : List CodePoint) → NoneBeyond mode rules us f → NoneBeyond mode rules us g → IsPlace mode rules us f rest → IsPlace mode rules us g back → f ≡ g
   same_if f g rest back n m p q = equal (n g back q) (m f rest p)
     where
       equal : (f < g → ⊥) → (g < f → ⊥) → f ≡ g
       equal h k = omega (arith, h, k)
 
-  rests : (f g : ℕ) (rest back : List CodePoint) → f ≡ g → IsPlace mode us f rest → IsPlace mode us g back → rest ≡ back
-  rests f g rest back e p q = (same_place mode us p.reached q.reached e).rest_is
+  rests : (f g : ℕ) (rest back : List CodePoint) → f ≡ g → IsPlace mode rules us f rest → IsPlace mode rules us g back → rest ≡ back
+  rests f g rest back e p q = (same_place mode rules us p.reached q.reached e).rest_is
 
   at_class_bracket : (from f : ℕ) (at_class : List CodePoint) (d : Diagnostic) → IsClassCause mode us start added from at_class f d → (w : List ℕ) × (values at_class ≡ 91 ∷ w)
   at_class_bracket from f at_class d c =
       laws.at_bracket c
 
-  row_against_class : (f from g : ℕ) (rest at_class : List CodePoint) (d e : Diagnostic) → NoneBeyond mode us f → IsPlace mode us f rest → Row f rest d → IsPlace mode us from at_class →
+  row_against_class : (f from g : ℕ) (rest at_class : List CodePoint) (d e : Diagnostic) → NoneBeyond mode rules us f → IsPlace mode rules us f rest → Row f rest d → IsPlace mode rules us from at_class →
       IsClassCause mode us start added from at_class g e → ⊥
   row_against_class f from g rest at_class d e n p x q c =
-      let m = blocked_beyond mode us from at_class q (laws.blocked c) in
+      let m = blocked_beyond mode rules us from at_class q (laws.blocked c) in
       let same = same_if f from rest at_class n m p q in
       let b = at_class_bracket from g at_class e c in
       no_row_at_bracket f rest b.0 d (ap values (rests f from rest at_class same p q) ∙ b.1) x
 
   -- Two classes that are refused are one.
-  in_one_class : (from other f g : ℕ) (at_class also : List CodePoint) (d e : Diagnostic) → IsPlace mode us from at_class → IsClassCause mode us start added from at_class f d → IsPlace mode us other also →
+  in_one_class : (from other f g : ℕ) (at_class also : List CodePoint) (d e : Diagnostic) → IsPlace mode rules us from at_class → IsClassCause mode us start added from at_class f d → IsPlace mode rules us other also →
       IsClassCause mode us start added other also g e → IsClassCause mode us start added other also f d
   in_one_class from other f g at_class also d e p x q y =
-      let same = same_if from other at_class also (blocked_beyond mode us from at_class p (laws.blocked x)) (blocked_beyond mode us other also q (laws.blocked y)) p q in
+      let same = same_if from other at_class also (blocked_beyond mode rules us from at_class p (laws.blocked x)) (blocked_beyond mode rules us other also q (laws.blocked y)) p q in
       subst (λ from. IsClassCause mode us start added from also f d) same (subst (λ at_class. IsClassCause mode us start added from at_class f d) (rests from other at_class also same p q) x)
 
   -- Of two refusals that hold at places one gives way to the other, or they are one.
-  pub two_at_places : (f g : ℕ) (d e : Diagnostic) → IsCauseAtPlace mode us start added f d → IsCauseAtPlace mode us start added g e → AreCompared f d g e
+  pub two_at_places : (f g : ℕ) (d e : Diagnostic) → IsCauseAtPlace mode rules us start added f d → IsCauseAtPlace mode rules us start added g e → AreCompared f d g e
   two_at_places f g d e c k = by (located f d c) (located g e k)
     where
       by : Located f d → Located g e → AreCompared f d g e
       by (at_place rest p x) (at_place back q y) =
-          let same = same_if f g rest back (none_beyond mode us start added laws f d c) (none_beyond mode us start added laws g e k) p q in
+          let same = same_if f g rest back (none_beyond mode rules us start added laws f d c) (none_beyond mode rules us start added laws g e k) p q in
           inl (same, one_row g back d e (subst (λ f. Row f back d) same (subst (λ rest. Row f rest d) (rests f g rest back same p q) x)) y)
-      by (at_place rest p x) (in_class from at_class q y) = absurd (row_against_class f from g rest at_class d e (none_beyond mode us start added laws f d c) p x q y)
-      by (in_class from at_class p x) (at_place back q y) = absurd (row_against_class g from f back at_class e d (none_beyond mode us start added laws g e k) q y p x)
+      by (at_place rest p x) (in_class from at_class q y) = absurd (row_against_class f from g rest at_class d e (none_beyond mode rules us start added laws f d c) p x q y)
+      by (in_class from at_class p x) (at_place back q y) = absurd (row_against_class g from f back at_class e d (none_beyond mode rules us start added laws g e k) q y p x)
       by (in_class from at_class p x) (in_class other also q y) = laws.two (in_one_class from other f g at_class also d e p x q y) y
 
   -- A refusal that says more than that nothing stands there is the first.
-  pub said_is_first : (place : ℕ) (d : Diagnostic) → IsCauseAtPlace mode us start added place d → yielding d ≢ no_item → IsFirstOf (IsCauseAtPlace mode us start added) d
-  said_is_first place d c says = most_is_first (IsCauseAtPlace mode us start added) place d c (λ further e k. two_at_places place further d e c k) says
+  pub said_is_first : (place : ℕ) (d : Diagnostic) → IsCauseAtPlace mode rules us start added place d → yielding d ≢ no_item → IsFirstOf (IsCauseAtPlace mode rules us start added) d
+  said_is_first place d c says = most_is_first (IsCauseAtPlace mode rules us start added) place d c (λ further e k. two_at_places place further d e c k) says
 
   -- So is the first of a class that begins at a place that is reached.
-  pub class_is_first : (from : ℕ) (at_class : List CodePoint) (d : Diagnostic) → IsPlace mode us from at_class → IsFirstInClass mode us start added from at_class d → IsFirstOf (IsCauseAtPlace mode us start added) d
+  pub class_is_first : (from : ℕ) (at_class : List CodePoint) (d : Diagnostic) → IsPlace mode rules us from at_class → IsFirstInClass mode us start added from at_class d → IsFirstOf (IsCauseAtPlace mode rules us start added) d
   class_is_first from at_class d p x = record {
     place = x.place;
     holds = cause.of_class from x.place at_class p x.holds;
@@ -214,26 +215,26 @@ module _ (mode : Mode) (us : List CodePoint) (start added : ℕ) (laws : ClassLa
     none_over = λ e k. x.none_over e (in_this x.place e k);
   }
     where
-      in_this : (further : ℕ) (e : Diagnostic) → IsCauseAtPlace mode us start added further e → IsClassCause mode us start added from at_class further e
+      in_this : (further : ℕ) (e : Diagnostic) → IsCauseAtPlace mode rules us start added further e → IsClassCause mode us start added from at_class further e
       in_this further e k = by (located further e k)
         where
           by : Located further e → IsClassCause mode us start added from at_class further e
-          by (at_place back q y) = absurd (row_against_class further from x.place back at_class e d (none_beyond mode us start added laws further e k) q y p x.holds)
+          by (at_place back q y) = absurd (row_against_class further from x.place back at_class e d (none_beyond mode rules us start added laws further e k) q y p x.holds)
           by (in_class other also q y) = in_one_class other from further x.place also at_class e d q y p x.holds
 
   -- Without `v` they are one.
-  pub one_cause_at_places : is_sets mode ≡ false → (f g : ℕ) (d e : Diagnostic) → IsCauseAtPlace mode us start added f d → IsCauseAtPlace mode us start added g e → (f ≡ g) × (d ≡ e)
+  pub one_cause_at_places : is_sets mode ≡ false → (f g : ℕ) (d e : Diagnostic) → IsCauseAtPlace mode rules us start added f d → IsCauseAtPlace mode rules us start added g e → (f ≡ g) × (d ≡ e)
   one_cause_at_places no_sets f g d e c k = by (located f d c) (located g e k)
     where
       by : Located f d → Located g e → (f ≡ g) × (d ≡ e)
       by (at_place rest p x) (at_place back q y) =
-          let same = same_if f g rest back (none_beyond mode us start added laws f d c) (none_beyond mode us start added laws g e k) p q in
+          let same = same_if f g rest back (none_beyond mode rules us start added laws f d c) (none_beyond mode rules us start added laws g e k) p q in
           (same, one_row g back d e (subst (λ f. Row f back d) same (subst (λ rest. Row f rest d) (rests f g rest back same p q) x)) y)
-      by (at_place rest p x) (in_class from at_class q y) = absurd (row_against_class f from g rest at_class d e (none_beyond mode us start added laws f d c) p x q y)
-      by (in_class from at_class p x) (at_place back q y) = absurd (row_against_class g from f back at_class e d (none_beyond mode us start added laws g e k) q y p x)
+      by (at_place rest p x) (in_class from at_class q y) = absurd (row_against_class f from g rest at_class d e (none_beyond mode rules us start added laws f d c) p x q y)
+      by (in_class from at_class p x) (at_place back q y) = absurd (row_against_class g from f back at_class e d (none_beyond mode rules us start added laws g e k) q y p x)
       by (in_class from at_class p x) (in_class other also q y) = laws.one no_sets (in_one_class from other f g at_class also d e p x q y) y
 
-  one_clash : (a b x y : ℕ) → IsFirstClash mode (marks mode (values us)) a b → IsFirstClash mode (marks mode (values us)) x y →
+  one_clash : (a b x y : ℕ) → IsFirstClash mode rules.duplicate_names (marks mode (values us)) a b → IsFirstClash mode rules.duplicate_names (marks mode (values us)) x y →
       DuplicatedCapturingGroupNames (name_span mode us start added a) (name_span mode us start added b) ≡ DuplicatedCapturingGroupNames (name_span mode us start added x) (name_span mode us start added y)
   one_clash a b x y c k =
       let l = c.second_least x y k.clash in
@@ -243,15 +244,15 @@ module _ (mode : Mode) (us : List CodePoint) (start added : ℕ) (laws : ClassLa
       ap (λ a. DuplicatedCapturingGroupNames (name_span mode us start added a) (name_span mode us start added b)) firsts
       ∙ ap (λ b. DuplicatedCapturingGroupNames (name_span mode us start added x) (name_span mode us start added b)) seconds
     where
-      first_is : (a b x y : ℕ) → b ≡ y → IsFirstClash mode (marks mode (values us)) a b → IsFirstClash mode (marks mode (values us)) x y → a ≡ x
+      first_is : (a b x y : ℕ) → b ≡ y → IsFirstClash mode rules.duplicate_names (marks mode (values us)) a b → IsFirstClash mode rules.duplicate_names (marks mode (values us)) x y → a ≡ x
       first_is a b x y e c k =
-          let also = subst (λ y. IsFirstClash mode (marks mode (values us)) x y) (sym e) k in
+          let also = subst (λ y. IsFirstClash mode rules.duplicate_names (marks mode (values us)) x y) (sym e) k in
           let l = c.first_least x also.clash in
           let m = also.first_least a c.clash in
           omega (arith, l, m)
 
   -- Of two refusals of the text, they are one where those at places are.
-  one_by : (d e : Diagnostic) → (HasNoClash mode us → text_groups mode us ≤ most_groups → (f g : ℕ) → IsCauseAtPlace mode us start added f d → IsCauseAtPlace mode us start added g e → d ≡ e) → IsCause mode us start added d → IsCause mode us start added e → d ≡ e
+  one_by : (d e : Diagnostic) → (HasNoClash mode rules.duplicate_names us → text_groups mode us ≤ most_groups → (f g : ℕ) → IsCauseAtPlace mode rules us start added f d → IsCauseAtPlace mode rules us start added g e → d ≡ e) → IsCause mode rules us start added d → IsCause mode rules us start added e → d ≡ e
   one_by _ _ places (cause.duplicated_names a b c) (cause.duplicated_names x y k) = one_clash a b x y c k
   one_by _ _ places (cause.duplicated_names a b c) (cause.too_many_groups none many) = absurd (none a b c.clash)
   one_by _ e places (cause.duplicated_names a b c) (cause.at_place place none few k) = absurd (none a b c.clash)
@@ -263,19 +264,19 @@ module _ (mode : Mode) (us : List CodePoint) (start added : ℕ) (laws : ClassLa
   one_by d e places (cause.at_place place none few c) (cause.at_place further also too k) = places none few place further c k
 
   -- Without `v` at most one refusal holds.
-  pub one_cause : is_sets mode ≡ false → (d e : Diagnostic) → IsCause mode us start added d → IsCause mode us start added e → d ≡ e
+  pub one_cause : is_sets mode ≡ false → (d e : Diagnostic) → IsCause mode rules us start added d → IsCause mode rules us start added e → d ≡ e
   one_cause no_sets d e c k = one_by d e (λ none few f g c k. (one_cause_at_places no_sets f g d e c k).1) c k
 
   -- At most one is the first.
-  pub one_first : (d e : Diagnostic) → IsFirst mode us start added d → IsFirst mode us start added e → d ≡ e
+  pub one_first : (d e : Diagnostic) → IsFirst mode rules us start added d → IsFirst mode rules us start added e → d ≡ e
   one_first d e (of_groups c other) (of_groups k other') = one_by d e (λ none few f g c k. absurd (other none few)) c k
   one_first d e (of_groups c other) (of_places none few k) = absurd (other none few)
   one_first d e (of_places none few c) (of_groups k other) = absurd (other none few)
-  one_first d e (of_places none few c) (of_places none' few' k) = one_first_of (IsCauseAtPlace mode us start added) d e c k (λ f g d e c k. two_at_places f g d e c k)
+  one_first d e (of_places none few c) (of_places none' few' k) = one_first_of (IsCauseAtPlace mode rules us start added) d e c k (λ f g d e c k. two_at_places f g d e c k)
 
   -- So a refusal is the first without `v`, since it is the only one.
-  pub cause_is_first : is_sets mode ≡ false → (d : Diagnostic) → IsCause mode us start added d → IsFirst mode us start added d
+  pub cause_is_first : is_sets mode ≡ false → (d : Diagnostic) → IsCause mode rules us start added d → IsFirst mode rules us start added d
   cause_is_first no_sets _ (cause.duplicated_names a b c) = of_groups (cause.duplicated_names a b c) (λ none few. none a b c.clash)
   cause_is_first no_sets _ (cause.too_many_groups none many) = of_groups (cause.too_many_groups none many) (λ also few. omega (arith, many, few))
   cause_is_first no_sets d (cause.at_place place none few c) =
-      of_places none few (only_is_first (IsCauseAtPlace mode us start added) place d c (λ further e k. one_cause_at_places no_sets place further d e c k))
+      of_places none few (only_is_first (IsCauseAtPlace mode rules us start added) place d c (λ further e k. one_cause_at_places no_sets place further d e c k))

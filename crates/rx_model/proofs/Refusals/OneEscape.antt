@@ -1,8 +1,9 @@
 -- At most one refusal holds of an escape that is to stand at a place.
-use Rattle.std.proofs.Common.{◌≡◌, ◌≢◌, refl, sym, ◌∙◌, ℕ, Some, List}
+use Rattle.std.proofs.Common.{◌≡◌, ◌≢◌, refl, sym, ◌∙◌, true, ℕ, Some, List}
 use Rattle.rx_base.specs.declared.diagnostic.Diagnostic.{Diagnostic}
 use Rattle.rx_units.specs.declared.code_point.CodePoint.{CodePoint}
 use Rattle.rx_model.specs.declared.mode.Mode.{Mode}
+use Rattle.rx_model.specs.declared.rules.Rules.{Rules}
 use Rattle.rx_model.specs.Refusals.EscapeCauses as escape
 use Rattle.rx_model.specs.Refusals.EscapeCauses.{IsEscapeCause, IsPropertyCause}
 use Rattle.rx_model.specs.Refusals.Firsts.{IsCauseOfEscape, IsFirstOfEscape, no_item, of_character, of_property, yielding}
@@ -11,15 +12,19 @@ use Rattle.rx_model.proofs.Properties.OneProperty.{one_property}
 use Rattle.rx_model.proofs.Refusals.OnlyFirst.{only_is_first}
 use Rattle.rx_model.proofs.Properties.PropertyRefusals.{property_first}
 
+-- What is said of an escape is the same under any rules.
+abbrev any_rules : Rules
+any_rules = record { duplicate_names = true; buffer_boundaries = true }
+
 module _ (mode : Mode) (us : List CodePoint) (start added place : ℕ) (rest : List CodePoint) where
   pub not_both : (d e : Diagnostic) → IsEscapeCause mode us start added place rest d → IsPropertyCause mode us start added place rest e → ⊥
   not_both d e c k =
       let p = property_first mode us start added place rest e k in
-      let no : told (Some d) ≡ by_property = sym (escape_is mode us start added place rest d c) ∙ property_is mode us start added place rest p.0 p.1 p.2 p.3 in
+      let no : told (Some d) ≡ by_property = sym (escape_is mode any_rules us start added place rest d c) ∙ property_is mode any_rules us start added place rest p.0 p.1 p.2 p.3 in
       cc no
 
   pub one_escape : (d e : Diagnostic) → IsEscapeCause mode us start added place rest d → IsEscapeCause mode us start added place rest e → d ≡ e
-  one_escape d e c k = let same : told (Some d) ≡ told (Some e) = sym (escape_is mode us start added place rest d c) ∙ escape_is mode us start added place rest e k in cc same
+  one_escape d e c k = let same : told (Some d) ≡ told (Some e) = sym (escape_is mode any_rules us start added place rest d c) ∙ escape_is mode any_rules us start added place rest e k in cc same
 
   pub one_of_escape : (f g : ℕ) (d e : Diagnostic) → IsCauseOfEscape mode us start added place rest f d → IsCauseOfEscape mode us start added place rest g e → (f ≡ g) × (d ≡ e)
   one_of_escape _ _ d e (of_character c) (of_character k) = (refl, one_escape d e c k)

@@ -12,6 +12,7 @@ use Rattle.rx_model.specs.Reading.Rows.{TokenRow}
 use Rattle.rx_model.specs.Trees.Shapes.{run, group_takes}
 use Rattle.rx_model.specs.Refusals.Stops.{IsStop}
 use Rattle.rx_model.specs.Trees.Token.{Token, Opener, boundary, character, dot, class_escape, property, class, indexed, named, opener, closer, bar, quantifier}
+use Rattle.rx_model.specs.declared.rules.Rules.{Rules}
 use Rattle.rx_model.proofs.Refusals.Beyond.{inside_reached, run_in}
 use Rattle.rx_model.proofs.Refusals.Faults.{stop_units}
 use Rattle.rx_model.proofs.Refusals.Places.{same_place}
@@ -29,7 +30,7 @@ same_rest e ts us a b r s = elim (prefixes e ts ts us a b r s) [
   | inr p ↦ sym (subst (λ xs. TokenRow e xs b a) (nothing_more ts p.0 p.1) p.2)
 ]
 
-module _ (mode : Mode) where
+module _ (mode : Mode) (rules : Rules) where
   pub run_none : (ts ss : List Token) (os : List Opener) (ready : Bool) → run mode ts os ready ≡ None → run mode (ts ++ ss) os ready ≡ None
   run_none [] ss os ready h = absurd (let no : ⊥ = cc h in no)
   run_none (closer ∷ ts) ss [] ready h = refl
@@ -57,7 +58,7 @@ module _ (mode : Mode) where
       go : (r : Option (List Opener × Bool)) → run mode ts os ready ≡ r → ⊥
       go None e = let no : None ≡ state [] after = sym (run_none ts (opener o ∷ ss) os ready e) ∙ h in cc no
       go (Some r) e =
-          let no : state (o ∷ r.0) ended ≡ state [] after = sym (run_in mode ss [] (o ∷ r.0) false [] ended k) ∙ sym (run-append mode ts (opener o ∷ ss) os ready r.0 r.1 e) ∙ h in
+          let no : state (o ∷ r.0) ended ≡ state [] after = sym (run_in mode rules ss [] (o ∷ r.0) false [] ended k) ∙ sym (run-append mode ts (opener o ∷ ss) os ready r.0 r.1 e) ∙ h in
           let none : o ∷ r.0 ≡ [] = ap (λ x. x.0) (Some-inj no) in
           cc none
 
@@ -79,23 +80,23 @@ module _ (mode : Mode) where
       let i = one_opener ts us ss vs o p after ended (cc e) h k in
       record { before = ap (λ t. t ∷ ts) first ∙ ap (λ ts. s ∷ ts) i.before; openers = i.openers }
 
-module _ (mode : Mode) (us : List CodePoint) (start added : ℕ) where
+module _ (mode : Mode) (rules : Rules) (us : List CodePoint) (start added : ℕ) where
   abbrev here : Environment
-  here = text_environment mode us
+  here = text_environment mode rules us
 
   -- the refusals of what does not end, at a place that is reached
   pub data StopRow (f : ℕ) (rest : List CodePoint) : Diagnostic → Type 0 where
-    outside : (i : ℕ) (ready : Bool) → IsReached mode us f [] ready rest → IsStop here rest i → StopRow f rest (ParsePatternIncomplete (span_between us start added (f + i) (f + i)))
-    inside : (from i : ℕ) (group : Opener) → IsInside mode us from group f rest → IsStop here rest i → StopRow f rest (UnterminatedPattern (span_between us start added from (f + i)) (unterminated group))
+    outside : (i : ℕ) (ready : Bool) → IsReached mode rules us f [] ready rest → IsStop here rest i → StopRow f rest (ParsePatternIncomplete (span_between us start added (f + i) (f + i)))
+    inside : (from i : ℕ) (group : Opener) → IsInside mode rules us from group f rest → IsStop here rest i → StopRow f rest (UnterminatedPattern (span_between us start added from (f + i)) (unterminated group))
 
   record IsSameGroup (from other : ℕ) (group also : Opener) : Type 0 where
     places : from ≡ other
     groups : group ≡ also
 
-  same_group : (from other f : ℕ) (group also : Opener) (rest : List CodePoint) → IsInside mode us from group f rest → IsInside mode us other also f rest → IsSameGroup from other group also
+  same_group : (from other f : ℕ) (group also : Opener) (rest : List CodePoint) → IsInside mode rules us from group f rest → IsInside mode rules us other also f rest → IsSameGroup from other group also
   same_group from other f group also rest i j =
-      let s = same_place mode us (inside_reached mode us from group f rest i) (inside_reached mode us other also f rest j) refl in
-      let o = one_opener mode i.reached.tokens i.inside j.reached.tokens j.inside group also i.ready_inside j.ready_inside s.tokens_are i.accepted j.accepted in
+      let s = same_place mode rules us (inside_reached mode rules us from group f rest i) (inside_reached mode rules us other also f rest j) refl in
+      let o = one_opener mode rules i.reached.tokens i.inside j.reached.tokens j.inside group also i.ready_inside j.ready_inside s.tokens_are i.accepted j.accepted in
       let back = same_rest here j.reached.tokens us i.at_group j.at_group (subst (λ ts. TokenRow here ts us i.at_group) o.before i.reached.row) j.reached.row in
       record { places = omega (arith, ap length back, i.reached.place_is, j.reached.place_is); groups = o.openers }
 
@@ -104,14 +105,14 @@ module _ (mode : Mode) (us : List CodePoint) (start added : ℕ) where
   stops_at (inside from i group g s) = (i, s)
 
   same_units : (i j : ℕ) (rest : List CodePoint) → IsStop here rest i → IsStop here rest j → i ≡ j
-  same_units i j rest s t = stop_units mode us start added i rest s ∙ sym (stop_units mode us start added j rest t)
+  same_units i j rest s t = stop_units mode rules us start added i rest s ∙ sym (stop_units mode rules us start added j rest t)
 
   pub one_stop : (f : ℕ) (rest : List CodePoint) (d e : Diagnostic) → StopRow f rest d → StopRow f rest e → d ≡ e
   one_stop f rest _ _ (outside i ready r s) (outside j also q t) = ap (λ i. ParsePatternIncomplete (span_between us start added (f + i) (f + i))) (same_units i j rest s t)
   one_stop f rest _ _ (outside i ready r s) (inside from j group g t) =
-      let o = (same_place mode us r (inside_reached mode us from group f rest g) refl).open_is in absurd (let no : ⊥ = cc o in no)
+      let o = (same_place mode rules us r (inside_reached mode rules us from group f rest g) refl).open_is in absurd (let no : ⊥ = cc o in no)
   one_stop f rest _ _ (inside from j group g t) (outside i ready r s) =
-      let o = (same_place mode us r (inside_reached mode us from group f rest g) refl).open_is in absurd (let no : ⊥ = cc o in no)
+      let o = (same_place mode rules us r (inside_reached mode rules us from group f rest g) refl).open_is in absurd (let no : ⊥ = cc o in no)
   one_stop f rest _ _ (inside from i group g s) (inside other j also h t) =
       let k = same_group from other f group also rest g h in
       ap (λ i. UnterminatedPattern (span_between us start added from (f + i)) (unterminated group)) (same_units i j rest s t)

@@ -12,6 +12,7 @@ use Rattle.rx_model.specs.Reading.Reading.{Reads}
 use Rattle.rx_model.specs.Reading.Rows.{TokenRow}
 use Rattle.rx_model.specs.Trees.Shapes.{run}
 use Rattle.rx_model.specs.Trees.Token.{Token, Opener}
+use Rattle.rx_model.specs.declared.rules.Rules.{Rules}
 use Rattle.rx_model.proofs.Refusals.BlockedPlaces.{last_all, tree_obeys}
 use Rattle.rx_model.proofs.Reading.Fronts.{spelled_some}
 use Rattle.rx_model.proofs.FirstPass.OwnGroups.{own_environment}
@@ -29,26 +30,26 @@ module _ (e : Environment) where
   row_same (t ∷ ts) us rest r l = absurd (omega (arith, spelled_some e t r.0 r.1 r.3, row_shorter ts r.1 rest r.4, ap length r.2, length-append r.0 r.1, l))
 
 -- Tokens, one at least, lead from one place to another.
-pub record GoesAhead (mode : Mode) (us : List CodePoint) (open_groups : List Opener) (ready : Bool) (rest : List CodePoint) (open_after : List Opener) (ready_after : Bool) (back : List CodePoint) : Type 0 where
+pub record GoesAhead (mode : Mode) (rules : Rules) (us : List CodePoint) (open_groups : List Opener) (ready : Bool) (rest : List CodePoint) (open_after : List Opener) (ready_after : Bool) (back : List CodePoint) : Type 0 where
   pub t : Token
   pub more : List Token
-  pub row : TokenRow (text_environment mode us) (t ∷ more) rest back
+  pub row : TokenRow (text_environment mode rules us) (t ∷ more) rest back
   pub accepted : run mode (t ∷ more) open_groups ready ≡ Some (open_after, ready_after)
   pub obey : AreObeying mode us (t ∷ more)
 
-module _ (mode : Mode) (us : List CodePoint) where
+module _ (mode : Mode) (rules : Rules) (us : List CodePoint) where
   abbrev here : Environment
-  here = text_environment mode us
+  here = text_environment mode rules us
 
   -- from a place that is reached to one beyond it
-  pub ahead : {f g : ℕ} {open_groups open_after : List Opener} {ready ready_after : Bool} {rest back : List CodePoint} → IsReached mode us f open_groups ready rest → IsReached mode us g open_after ready_after back →
-      f < g → GoesAhead mode us open_groups ready rest open_after ready_after back
+  pub ahead : {f g : ℕ} {open_groups open_after : List Opener} {ready ready_after : Bool} {rest back : List CodePoint} → IsReached mode rules us f open_groups ready rest → IsReached mode rules us g open_after ready_after back →
+      f < g → GoesAhead mode rules us open_groups ready rest open_after ready_after back
   ahead {f} {g} {open_groups} {open_after} {ready} {ready_after} {rest} {back} a b l = elim (prefixes here a.tokens b.tokens us rest back a.row b.row) [
     | inl p ↦ go p.0 p.1 p.2
     | inr p ↦ absurd (omega (arith, row_shorter here p.0 back rest p.2, a.place_is, b.place_is, l))
   ]
     where
-      go : (xs : List Token) → b.tokens ≡ a.tokens ++ xs → TokenRow here xs rest back → GoesAhead mode us open_groups ready rest open_after ready_after back
+      go : (xs : List Token) → b.tokens ≡ a.tokens ++ xs → TokenRow here xs rest back → GoesAhead mode rules us open_groups ready rest open_after ready_after back
       go [] e r = absurd (omega (arith, ap length r, a.place_is, b.place_is, l))
       go (t ∷ more) e r = record {
         t = t;
@@ -75,7 +76,7 @@ module _ (mode : Mode) (us : List CodePoint) where
       let k : here ≡ there = Some-inj h in
       (ap (λ x. x.0) k, ap (λ x. x.1) k)
 
-  pub same_place : {f g : ℕ} {open_groups open_after : List Opener} {ready ready_after : Bool} {rest back : List CodePoint} → (a : IsReached mode us f open_groups ready rest) → (b : IsReached mode us g open_after ready_after back) →
+  pub same_place : {f g : ℕ} {open_groups open_after : List Opener} {ready ready_after : Bool} {rest back : List CodePoint} → (a : IsReached mode rules us f open_groups ready rest) → (b : IsReached mode rules us g open_after ready_after back) →
       f ≡ g → IsSamePlace open_groups ready rest open_after ready_after back a.tokens b.tokens
   same_place {f} {g} {open_groups} {open_after} {ready} {ready_after} {rest} {back} a b l = elim (prefixes here a.tokens b.tokens us rest back a.row b.row) [
     | inl p ↦
@@ -94,15 +95,15 @@ module _ (mode : Mode) (us : List CodePoint) where
           record { open_is = s.0; ready_is = s.1; rest_is = r; tokens_are = e }
 
   -- Where a tree reads a text its end is reached, with no group open.
-  pub read_to_end : (p : Pattern) → Reads mode p us → (ready : Bool) × IsReached mode us (length us) [] ready []
+  pub read_to_end : (p : Pattern) → Reads mode rules p us → (ready : Bool) × IsReached mode rules us (length us) [] ready []
   read_to_end p r =
       let runs = pattern_runs mode p r.spelled.shape in (
         runs.0,
         record {
           tokens = tokens p;
-          row = subst (λ e. TokenRow e (tokens p) us []) (sym (own_environment mode p us r.spelled)) r.spelled.row;
+          row = subst (λ e. TokenRow e (tokens p) us []) (sym (own_environment mode rules p us r.spelled)) r.spelled.row;
           place_is = omega arith;
           accepted = runs.1;
-          obey = tree_obeys mode us p r;
+          obey = tree_obeys mode rules us p r;
         },
       )

@@ -22,7 +22,7 @@ use Rattle.rx_ast.specs.Texts.{boundary_text, class_escape_text, property_text, 
 use Rattle.rx_model.specs.Spelling.CharacterText.{two_digits, four_digits, braced, outside, character_text}
 use Rattle.rx_model.specs.Spelling.ClassText.{class_text}
 use Rattle.rx_model.specs.Trees.Early.{Obeys, IsEarlyOpener, greatest_count, most_groups, IsGreatest}
-use Rattle.rx_model.specs.Inputs.Environment.{Environment, is_unicode}
+use Rattle.rx_model.specs.Inputs.Environment.{for_classes, Environment, is_unicode}
 use Rattle.rx_model.specs.Groups.GroupNames.{SpellsName}
 use Rattle.rx_model.specs.Groups.Groups.{IsNaming, IsNamed, SpellsOpener}
 use Rattle.rx_model.specs.FirstPass.Marks.{starts}
@@ -331,7 +331,7 @@ module _ (e : Environment) (mode : Mode) (m : e.mode ≡ mode) (count : ℕ) (gr
   token_again after_reference (property negative strings name value) k h at rest f =
       as_units (property negative strings name value) at (property_text negative name value) rest (λ l. no_legacy k.0 l) (property_spelled e mode m negative strings name value k.0 k.1 at)
   token_again after_reference (class c) k h at rest f =
-      as_units (class (again_class mode c)) at (class_text mode c) rest (class_in mode c (subst (λ mode. IsKnownClass mode c) m k)) (class_spelled_again e mode m c k h at rest)
+      as_units (class (again_class mode c)) at (class_text mode c) rest (class_in mode c (subst (λ mode. IsKnownClass mode c) m k)) (class_spelled_again (for_classes e) mode m c k h at rest)
   token_again after_reference (indexed n) k h at rest f = as_units (indexed n) at (indexed_text n) rest (λ _. narrow_by (indexed_text n) (decimal_printable n (omega (arith, h.1, in_limit)))) (record {
     digits = decimal n;
     whole = values_literal at (indexed_text n);

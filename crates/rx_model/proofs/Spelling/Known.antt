@@ -6,7 +6,7 @@ use Rattle.rx_model.specs.declared.mode.Mode.{Mode}
 use Rattle.rx_model.specs.declared.mode.Mode.TheVariants.{Legacy}
 use Rattle.rx_model.specs.Reading.Boundaries.{has_boundary}
 use Rattle.rx_ast.specs.Texts.{property_body}
-use Rattle.rx_model.specs.Inputs.Environment.{Environment, is_unicode}
+use Rattle.rx_model.specs.Inputs.Environment.{for_classes, Environment, is_unicode}
 use Rattle.rx_model.specs.Groups.GroupNames.{SpellsName}
 use Rattle.rx_model.specs.Groups.Groups.{SpellsOpener}
 use Rattle.rx_model.specs.Properties.PropertyEscapes.{SpellsProperty}
@@ -71,7 +71,7 @@ known e (character kind value) w rest f s = character_low e kind value w rest s 
 known e dot w rest f s = tt
 known e (class_escape kind) w rest f s = tt
 known e (property negative strings name value) w rest f s = (s.unicode, property_again e.mode strings name value s.text s.spelled)
-known e (class c) w rest f s = class_known e c w rest f s
+known e (class c) w rest f s = class_known (for_classes e) c w rest f s
 known e (indexed n) w rest f s = tt
 known e (named name) w rest f s = (
   (

@@ -39,6 +39,7 @@ use Rattle.rx_model.specs.Reading.Reading.{Reads}
 use Rattle.rx_model.specs.Groups.GroupNames.{is_in_name}
 use Rattle.rx_model.specs.Spelling.Spelling.{spelling}
 use Rattle.rx_model.specs.Trees.Token.{Token, Opener, boundary, character, dot, class_escape, property, class, indexed, named, opener, closer, bar, quantifier, capturing, ignoring, looking}
+use Rattle.rx_model.specs.declared.rules.Rules.{Rules}
 use Rattle.rx_model.proofs.Spelling.ClassTexts.{some_character}
 use Rattle.rx_model.proofs.Spelling.ClassKnown.{IsKnownMember, AreKnownMembers, IsKnownTree, IsKnownClass}
 use Rattle.rx_model.proofs.Properties.PropertyWords.{is_property_unit, property_units}
@@ -254,9 +255,9 @@ all_stay : (text : List ℕ) → Stays text → All (λ c. ends_column c ≡ fal
 all_stay [] h = All-nil (λ c. ends_column c ≡ false)
 all_stay (c ∷ text) h = let k = both (stays c) (list_all stays text) h in All-cons (λ c. ends_column c ≡ false) c text (not-true (ends_column c) k.0) (all_stay text k.1)
 
-pub spelled_in_one_line : (mode : Mode) (p : Pattern) (us : List CodePoint) → Reads mode p us → FitIn mode us → us ≢ [] → IsOneLine (spelling (bare p) mode)
-spelled_in_one_line mode p us r f h =
-    let e = environment mode p in
+pub spelled_in_one_line : (mode : Mode) (rules : Rules) (p : Pattern) (us : List CodePoint) → Reads mode rules p us → FitIn mode us → us ≢ [] → IsOneLine (spelling (bare p) mode)
+spelled_in_one_line mode rules p us r f h =
+    let e = environment mode rules p in
     let k = are_known e (tokens p) us [] f r.spelled.row in
     subst IsOneLine (sym (spelled_by_tokens mode p)) (record {
       some = some_tokens e false (tokens p) k (has_tokens e (tokens p) us r.spelled.row h);

@@ -16,6 +16,7 @@ use Rattle.rx_model.specs.Reading.Reading.{IsSpelled}
 use Rattle.rx_model.specs.Reading.Rows.{Spells, TokenRow}
 use Rattle.rx_model.specs.Trees.Shapes.{run}
 use Rattle.rx_model.specs.Trees.Token.{Token, Opener, quantifier}
+use Rattle.rx_model.specs.declared.rules.Rules.{Rules}
 use Rattle.rx_model.proofs.Reading.OneRow.{first_token, none_at_end, row_prefix}
 use Rattle.rx_model.proofs.Refusals.OneStop.{run_none}
 use Rattle.rx_model.proofs.Trees.OpenGroups.{accepted_whole}
@@ -71,7 +72,7 @@ module _ (e : Environment) where
 same_after : (before after more : List Token) → before ++ after ≡ before ++ more → after ≡ more
 same_after before after more h = sym (drop-append_seam before after) ∙ ap (drop (length before)) h ∙ drop-append_seam before more
 
-module _ (mode : Mode) where
+module _ (mode : Mode) (rules : Rules) where
   -- Before a quantifier stands what it may follow.
   ready_before : (before more : List Token) (min : ℕ) (max : Option ℕ) (greedy : Bool) (end : List Opener × Bool) → run mode (before ++ (quantifier min max greedy ∷ more)) [] false ≡ Some end →
       EndsQuantifiable mode before
@@ -82,14 +83,14 @@ module _ (mode : Mode) where
       behind os false e r = absurd (let no : ⊥ = cc r in no)
 
       go : (o : Option (List Opener × Bool)) → run mode before [] false ≡ o → EndsQuantifiable mode before
-      go None e = absurd (let none = run_none mode before (quantifier min max greedy ∷ more) [] false e in let no : ⊥ = cc (none, h) in no)
+      go None e = absurd (let none = run_none mode rules before (quantifier min max greedy ∷ more) [] false e in let no : ⊥ = cc (none, h) in no)
       go (Some (os, ready)) e = behind os ready e (sym (run-append mode before (quantifier min max greedy ∷ more) [] false os ready e) ∙ h)
 
-  pub quantified_next : (p : Pattern) (us : List CodePoint) → IsSpelled mode p us → (before after : List Token) (rest : List CodePoint) (min : ℕ) (max : Option ℕ) → tokens p ≡ before ++ after →
-      TokenRow (environment mode p) before us rest → BeginsWithQuantifier rest min max → AreQuantified mode before after min max
+  pub quantified_next : (p : Pattern) (us : List CodePoint) → IsSpelled mode rules p us → (before after : List Token) (rest : List CodePoint) (min : ℕ) (max : Option ℕ) → tokens p ≡ before ++ after →
+      TokenRow (environment mode rules p) before us rest → BeginsWithQuantifier rest min max → AreQuantified mode before after min max
   quantified_next p us s before after rest min max whole r b =
-      let x = row_prefix (environment mode p) before (tokens p) us rest r s.row in
-      let q = first_quantifier (environment mode p) x.0 rest min max x.2 b in
+      let x = row_prefix (environment mode rules p) before (tokens p) us rest r s.row in
+      let q = first_quantifier (environment mode rules p) x.0 rest min max x.2 b in
       let next = same_after before after x.0 (sym whole ∙ x.1) ∙ q.2 in
       let ran = pattern_runs mode p s.shape in
       record {
@@ -99,7 +100,7 @@ module _ (mode : Mode) where
         body = ready_before before q.1 min max q.0 ([], ran.0) (ap (λ ts. run mode ts [] false) (ap (λ ts. before ++ ts) (sym next) ∙ sym whole) ∙ ran.1);
       }
 
-  pub no_quantifier_next : (p : Pattern) (us : List CodePoint) → IsSpelled mode p us → (before after : List Token) (rest : List CodePoint) → tokens p ≡ before ++ after →
-      TokenRow (environment mode p) before us rest → BeginsWithoutQuantifier after → (min : ℕ) (max : Option ℕ) → BeginsWithQuantifier rest min max → ⊥
+  pub no_quantifier_next : (p : Pattern) (us : List CodePoint) → IsSpelled mode rules p us → (before after : List Token) (rest : List CodePoint) → tokens p ≡ before ++ after →
+      TokenRow (environment mode rules p) before us rest → BeginsWithoutQuantifier after → (min : ℕ) (max : Option ℕ) → BeginsWithQuantifier rest min max → ⊥
   no_quantifier_next p us s before after rest whole r without min max b =
       let q = quantified_next p us s before after rest min max whole r b in subst BeginsWithoutQuantifier q.next without

@@ -1,7 +1,7 @@
 -- Rows join and part, and a row of events is a row of its tokens.
 use Rattle.std.proofs.Common.{refl, sym, subst, ℕ, ◌+◌, List, [], ◌∷◌, ◌++◌, length}
 use Rattle.rx_units.specs.declared.code_point.CodePoint.{CodePoint}
-use Rattle.rx_model.specs.Inputs.Environment.{Environment}
+use Rattle.rx_model.specs.Inputs.Environment.{Environment, for_classes}
 use Rattle.rx_model.specs.Trees.Events.{Events, enter, leave, token, inside, modified, tokens_of}
 use Rattle.rx_model.specs.Trees.Token.{Token}
 use Rattle.rx_model.specs.Reading.Rows.{TokenRow, Row}
@@ -22,7 +22,7 @@ module _ (e : Environment) where
     row_tokens ((enter n) ∷ es) i us j rest r = row_tokens es i us j rest r.1
     row_tokens ((leave n) ∷ es) i us j rest r = row_tokens es i us j rest r.1
     row_tokens ((token t) ∷ es) i us j rest r = (r.0, r.1, r.2, r.3, row_tokens es (i + length r.0) r.1 j rest r.4)
-    row_tokens ((inside c) ∷ es) i us j rest r = (r.0, r.1, r.2, class_unspanned e o i c r.0 r.1 r.3, row_tokens es (i + length r.0) r.1 j rest r.4)
+    row_tokens ((inside c) ∷ es) i us j rest r = (r.0, r.1, r.2, class_unspanned (for_classes e) o i c r.0 r.1 r.3, row_tokens es (i + length r.0) r.1 j rest r.4)
     row_tokens ((modified m) ∷ es) i us j rest r = (r.0, r.1, r.2, r.3.modified, row_tokens es (i + length r.0) r.1 j rest r.4)
 
     pub row_append : (es fs : Events) (i : ℕ) (us : List CodePoint) (j : ℕ) (more : List CodePoint) (k : ℕ) (rest : List CodePoint) →

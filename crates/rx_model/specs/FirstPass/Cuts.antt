@@ -1,6 +1,6 @@
 -- The cut of a text into marks is that of its tokens: each token is a whole row of marks, whatever the environment. So the marks tell the groups and
 -- their names before any token is read.
-use Rattle.std.specs.Prelude.{◌≡◌, ℕ, Some, None, List, [], ◌∷◌, ◌++◌, All}
+use Rattle.std.specs.Prelude.{◌≡◌, ℕ, Bool, Some, None, List, [], ◌∷◌, ◌++◌, All}
 use Rattle.rx_ast.specs.declared.term.Pattern.{Pattern}
 use Rattle.rx_ast.specs.Tree.{mirror_disjunction}
 use Rattle.rx_units.specs.declared.code_point.CodePoint.{CodePoint}
@@ -10,7 +10,7 @@ use Rattle.rx_model.specs.Groups.GroupNameReading.{name_of}
 use Rattle.rx_model.specs.FirstPass.Marks as mark
 use Rattle.rx_model.specs.FirstPass.Marks.{Mark, marks}
 use Rattle.rx_model.specs.Inputs.Environment.{is_unicode}
-use Rattle.rx_model.specs.Trees.Names.{groups, names, AreAlternativesApart}
+use Rattle.rx_model.specs.Trees.Names.{groups, names, AreNamesEarly}
 use Rattle.rx_model.specs.Refusals.Reached.{HasNoClash, text_groups, text_names}
 use Rattle.rx_model.specs.Trees.Token.{Token, Opener, boundary, character, dot, class_escape, property, class, indexed, named, opener, closer, bar, quantifier, capturing, ignoring, looking}
 
@@ -57,7 +57,7 @@ pub record TellsGroups (mode : Mode) (p : Pattern) (us : List CodePoint) : Type 
   pub groups_are : text_groups mode us ≡ groups p
   pub names_are : text_names mode us ≡ names p
 
--- No two groups of one name might both take part, by the first pass of the text and by the tree alike.
-pub record TellsApart (mode : Mode) (p : Pattern) (us : List CodePoint) : Type 0 where
-  pub apart : HasNoClash mode us → AreAlternativesApart (mirror_disjunction p.body).1
-  pub no_clash : AreAlternativesApart (mirror_disjunction p.body).1 → HasNoClash mode us
+-- No two names clash, by the first pass of the text, exactly where the tree keeps the early rule on names.
+pub record TellsApart (mode : Mode) (duplicate_names : Bool) (p : Pattern) (us : List CodePoint) : Type 0 where
+  pub apart : HasNoClash mode duplicate_names us → AreNamesEarly duplicate_names (mirror_disjunction p.body).1
+  pub no_clash : AreNamesEarly duplicate_names (mirror_disjunction p.body).1 → HasNoClash mode duplicate_names us

@@ -176,19 +176,20 @@ abbrev pub IsParted : List Mark → ℕ → ℕ → Type 0
 IsParted ms a b =
     (o : Option ℕ) × (k : ℕ) × IsCommon ms o a b × (a < k) × (k < b) × (mark_at ms k ≡ bar) × IsInner ms o k
 
--- Two named openings of equal names might both take part (22.2.1.1, 22.2.1.4 MightBothParticipate): no bar parts them.
-pub record Clash (mode : Mode) (ms : List Mark) (a : ℕ) (b : ℕ) : Type 0 where
+-- Two named openings of equal names clash. Where two groups may have one name, they clash only if no bar parts them, so that both might take part
+-- (22.2.1.1, 22.2.1.4 MightBothParticipate).
+pub record Clash (mode : Mode) (duplicate_names : Bool) (ms : List Mark) (a : ℕ) (b : ℕ) : Type 0 where
   pub in_order : a < b
   pub name : List ℕ
   pub first : mark_name mode (mark_at ms a) ≡ Some name
   pub second : mark_name mode (mark_at ms b) ≡ Some name
-  pub together : IsParted ms a b → ⊥
+  pub together : duplicate_names ≡ true → IsParted ms a b → ⊥
 
 -- The first clash: the second of the two is the least, and then the first.
-pub record IsFirstClash (mode : Mode) (ms : List Mark) (a : ℕ) (b : ℕ) : Type 0 where
-  pub clash : Clash mode ms a b
-  pub second_least : (x y : ℕ) → Clash mode ms x y → b ≤ y
-  pub first_least : (x : ℕ) → Clash mode ms x b → a ≤ x
+pub record IsFirstClash (mode : Mode) (duplicate_names : Bool) (ms : List Mark) (a : ℕ) (b : ℕ) : Type 0 where
+  pub clash : Clash mode duplicate_names ms a b
+  pub second_least : (x y : ℕ) → Clash mode duplicate_names ms x y → b ≤ y
+  pub first_least : (x : ℕ) → Clash mode duplicate_names ms x b → a ≤ x
 
 -- how many units stand between the `<` and the `>` of a mark
 abbrev pub name_length : Mark → ℕ

@@ -3,6 +3,7 @@ use Rattle.std.specs.Prelude.{ℕ, Bool, true, false, ◌||◌, List, [], ◌∷
 use Rattle.rx_ast.specs.declared.term.Pattern.{Pattern}
 use Rattle.rx_model.specs.declared.mode.Mode.{Mode}
 use Rattle.rx_model.specs.declared.mode.Mode.TheVariants.{Legacy, Unicode, Sets}
+use Rattle.rx_model.specs.declared.rules.Rules.{Rules}
 use Rattle.rx_model.specs.Trees.Names.{groups, names}
 
 -- with `u` or `v` (the parameter UnicodeMode of the grammar)
@@ -29,15 +30,19 @@ pub record Environment : Type 0 where
   pub named : Bool
   pub buffer_boundaries : Bool
 
--- with n groups, of which some have names or none has
-abbrev pub environment_with : Mode → ℕ → Bool → Environment
-environment_with mode groups has_names = record {
+-- with n groups, of which some have names or none has, where buffer boundaries are read or not
+abbrev pub environment_with : Mode → Bool → ℕ → Bool → Environment
+environment_with mode buffers groups has_names = record {
   mode = mode;
   groups = groups;
   named = is_unicode mode || has_names;
-  buffer_boundaries = true;
+  buffer_boundaries = buffers;
 }
 
 -- the environment in which a whole pattern is spelled: by its own groups and names
-abbrev pub environment : Mode → Pattern → Environment
-environment mode p = environment_with mode (groups p) (has_some (names p))
+abbrev pub environment : Mode → Rules → Pattern → Environment
+environment mode rules p = environment_with mode rules.buffer_boundaries (groups p) (has_some (names p))
+
+-- The environment in which a class of the pattern is spelled. No boundary stands in a class, so it is the same whatever the rules say.
+abbrev pub for_classes : Environment → Environment
+for_classes e = record { mode = e.mode; groups = e.groups; named = e.named; buffer_boundaries = true }

@@ -30,16 +30,23 @@ abbrev pub first_offset : Form → ℕ
 first_offset Literal = 0
 first_offset Constructor = 1
 
--- The units of a text in a form, a character past FFFF being one of them or not: those of a literal, or those to which a quoted text is decoded.
-pub data AreUnits (joined : Bool) (text : List ℕ) : Form → List CodePoint → Type 0 where
-  of_literal : AreUnits joined text Literal (literal_units joined 0 text)
-  of_quoted : {us : List CodePoint} → Decodes joined text us → AreUnits joined text Constructor us
+-- The units of a text in a form, a character past FFFF being one of them or not: those of a literal, or those to which a quoted text is decoded, as the
+-- standard has it or as the Rust crate does.
+pub data AreUnits (standard joined : Bool) (text : List ℕ) : Form → List CodePoint → Type 0 where
+  of_literal : AreUnits standard joined text Literal (literal_units joined 0 text)
+  of_quoted : {us : List CodePoint} → Decodes standard joined text us → AreUnits standard joined text Constructor us
 
 -- No units are those of the text in this form.
-abbrev pub HasNoUnits : Bool → List ℕ → Form → Type 0
-HasNoUnits joined text form = (us : List CodePoint) → AreUnits joined text form us → ⊥
+abbrev pub HasNoUnits : Bool → Bool → List ℕ → Form → Type 0
+HasNoUnits standard joined text form = (us : List CodePoint) → AreUnits standard joined text form us → ⊥
 
 -- The units of flags, in which no character is split. No flags text is no flags.
-pub data AreFlagUnits (form : Form) : Option (List ℕ) → List CodePoint → Type 0 where
-  no_flags : AreFlagUnits form None []
-  some_flags : {text : List ℕ} {us : List CodePoint} → AreUnits true text form us → AreFlagUnits form (Some text) us
+pub data AreFlagUnits (standard : Bool) (form : Form) : Option (List ℕ) → List CodePoint → Type 0 where
+  no_flags : AreFlagUnits standard form None []
+  some_flags : {text : List ℕ} {us : List CodePoint} → AreUnits standard true text form us → AreFlagUnits standard form (Some text) us
+
+-- The units that a pattern is read from: its own, or where there are none those of `(?:)`, with the spans that they have in `"(?:)"` (EscapeRegExpPattern,
+-- 22.2.6.13.1). Only a quoted text of line continuations alone has none, with strings as the standard has them; two quotes were replaced before.
+abbrev pub some_units : List CodePoint → List CodePoint
+some_units [] = literal_units true 1 (40 ∷ 63 ∷ 58 ∷ 41 ∷ [])
+some_units (u ∷ us) = u ∷ us

@@ -10,7 +10,7 @@ use Rattle.rx_units.specs.Units.{values}
 use Rattle.rx_units.specs.Digits.{front_is}
 use Rattle.rx_model.specs.Reading.Boundaries.{has_buffers}
 use Rattle.rx_model.specs.Classes.ClassFronts.{class_front}
-use Rattle.rx_model.specs.Inputs.Environment.{Environment, is_unicode}
+use Rattle.rx_model.specs.Inputs.Environment.{Environment, for_classes, is_unicode}
 pub use Rattle.rx_model.specs.Characters.EscapeFronts.{EscapeRead, escaped, nothing, too_many, no_unicode, escaped_if, unicode_read, letter_at, two_at, escape_behind, control_behind, octal_at, digit_at, or_legacy, any_escape_at, class_escape_at}
 unfoldable pub use Rattle.rx_model.specs.Characters.EscapeFronts.{escape_at, legacy_at}
 use Rattle.rx_model.specs.Groups.GroupFronts.{group_front, reference_front}
@@ -149,4 +149,4 @@ front e [] = None
 front e (u ∷ us) =
     if is_raw_at e u.value (values us) then Some (character (unit_kind u.escape_kind) u.value, 1)
     else (if u.value == 92 then backslash_front e (values us)
-    else (if u.value == 91 then bracket_token (class_front e (u ∷ us)) else syntax_front e u.value (values us)))
+    else (if u.value == 91 then bracket_token (class_front (for_classes e) (u ∷ us)) else syntax_front e u.value (values us)))

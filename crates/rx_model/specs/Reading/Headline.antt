@@ -24,32 +24,32 @@ pub record IsValid (input : Input) : Type 0 where
   pub units : List CodePoint
   pub asked : Asks input mode units
   pub pattern : Pattern
-  pub reads : Reads mode pattern units
+  pub reads : Reads mode input.rules pattern units
 
 -- The input is read as this tree, in this mode: the units that it asks to read spell the tree, and no other tree but for spans; it is free of early errors;
 -- each of its nodes has the span of what it spells; and the first pass of the units finds its groups and their names.
 pub record IsReadAs (input : Input) (mode : Mode) (tree : Pattern) : Type 0 where
   pub units : List CodePoint
   pub asked : Asks input mode units
-  pub reads : Reads mode tree units
-  pub only : IsOnly mode tree units
-  pub spanned : IsSpanned mode tree units (first_offset input.form) input.text_offset
+  pub reads : Reads mode input.rules tree units
+  pub only : IsOnly mode input.rules tree units
+  pub spanned : IsSpanned mode input.rules tree units (first_offset input.form) input.text_offset
   pub groups : TellsGroups mode tree units
 
 -- the span of a whole text, so much being added
 abbrev pub whole_span : List ℕ → ℕ → Span
 whole_span text added = record { start = added; end = length (encode_utf8_all text) + added }
 
--- The diagnostic is the first refusal of this input: of its flags, or where they are right of its text. A quoted text that is decoded to no units is
+-- The diagnostic is the first refusal of this input: of its flags, or where they are right of its text. A quoted text that is not decoded is
 -- refused as a whole.
 pub data IsFirstRefusal (input : Input) : Refusal → Type 0 where
-  no_flags_text : {text : List ℕ} → input.flags ≡ Some text → HasNoUnits true text input.form → IsFirstRefusal input (InvalidInput (whole_span text input.flags_offset))
-  of_flags : {refusal : Refusal} {flags : List CodePoint} → AreFlagUnits input.form input.flags flags
+  no_flags_text : {text : List ℕ} → input.flags ≡ Some text → HasNoUnits input.standard_strings true text input.form → IsFirstRefusal input (InvalidInput (whole_span text input.flags_offset))
+  of_flags : {refusal : Refusal} {flags : List CodePoint} → AreFlagUnits input.standard_strings input.form input.flags flags
       → IsFlagCause flags (first_offset input.form) input.flags_offset refusal → IsFirstRefusal input refusal
-  no_text : {mode : Mode} → AsksFor input mode → HasNoUnits (is_unicode mode) (stand_in input.form input.text) input.form
+  no_text : {mode : Mode} → AsksFor input mode → HasNoUnits input.standard_strings (is_unicode mode) (stand_in input.form input.text) input.form
       → IsFirstRefusal input (InvalidInput (whole_span input.text input.text_offset))
   of_text : {refusal : Refusal} {mode : Mode} {us : List CodePoint} → Asks input mode us
-      → IsFirst mode us (first_offset input.form) input.text_offset refusal → IsFirstRefusal input refusal
+      → IsFirst mode input.rules us (first_offset input.form) input.text_offset refusal → IsFirstRefusal input refusal
 
 -- Out of memory, or this input is refused.
 pub data IsFaultOf (input : Input) : Fault → Type 0 where
@@ -81,6 +81,6 @@ pub record IsAnswered {A : Type 0} (spelled : A → Spelled) (input : Input) (an
   pub parsed : IsParsed (λ it. (spelled it).pattern) input answer
   pub mode_is : IfOk answer (λ it. AsksFor input (spelled it).mode)
   pub text_is : IfOk answer (λ it. (spelled it).text ≡ spelling (bare (spelled it).pattern) (spelled it).mode)
-  -- Of the spelling, where its length fits 32 bits, whatever a parser of literals answers under the same mode is the same tree, or out of memory.
+  -- Of the spelling, where its length fits 32 bits, whatever a parser of literals answers under the same mode and the same options is the same tree, or out of memory.
   pub again : IfOk answer (λ it. length (encode_utf8_all (spelled it).text) < 2 ^ 32
-      → (again : Result Pattern Fault) → IsParsed (λ p. p) (literal_alone (spelled it).text (spelled it).mode) again → IsSameAgain (spelled it).pattern again)
+      → (again : Result Pattern Fault) → IsParsed (λ p. p) (literal_alone (spelled it).text (spelled it).mode input.rules input.standard_strings) again → IsSameAgain (spelled it).pattern again)

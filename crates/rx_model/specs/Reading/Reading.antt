@@ -7,26 +7,29 @@ use Rattle.rx_units.specs.Units.{offset_at}
 use Rattle.rx_model.specs.declared.mode.Mode.{Mode}
 use Rattle.rx_model.specs.Trees.Early.{IsEarly}
 use Rattle.rx_model.specs.Inputs.Environment.{environment}
+use Rattle.rx_model.specs.declared.rules.Rules.{Rules}
 use Rattle.rx_model.specs.Trees.Events.{events, tokens}
 use Rattle.rx_model.specs.Reading.Rows.{TokenRow, Row}
 use Rattle.rx_model.specs.Trees.Shapes.{IsWellMade}
 
 -- The units spell the tree: all of them, before nothing.
-pub record IsSpelled (mode : Mode) (p : Pattern) (us : List CodePoint) : Type 0 where
+pub record IsSpelled (mode : Mode) (rules : Rules) (p : Pattern) (us : List CodePoint) : Type 0 where
   pub shape : IsWellMade mode p
-  pub row : TokenRow (environment mode p) (tokens p) us []
+  pub row : TokenRow (environment mode rules p) (tokens p) us []
 
 -- In that spelling each node has the span of the units that it spells: from the offset before its first unit to the offset after its last. `first` is
--- the offset at place 0, and `added` is added to each.
-abbrev pub IsSpanned : Mode → Pattern → List CodePoint → ℕ → ℕ → Type 0
-IsSpanned mode p us first added =
-    Row (environment mode p) (λ place. offset_at first us place + added) (events p) 0 us (length us) []
+-- the offset at place 0, and `added` is added to each. The offset at a place is the end of the unit before it. With strings as the standard
+-- has them a unit may cover two elements of the text, the lead and the trail of a pair, and the line continuations between them; and the bytes of a line
+-- continuation, which gives no unit, are in the span of what begins after it.
+abbrev pub IsSpanned : Mode → Rules → Pattern → List CodePoint → ℕ → ℕ → Type 0
+IsSpanned mode rules p us first added =
+    Row (environment mode rules p) (λ place. offset_at first us place + added) (events p) 0 us (length us) []
 
--- A tree that the text spells under the mode, free of early errors.
-pub record Reads (mode : Mode) (p : Pattern) (us : List CodePoint) : Type 0 where
-  pub spelled : IsSpelled mode p us
-  pub early : IsEarly p
+-- A tree that the text spells under the mode and the rules, free of early errors.
+pub record Reads (mode : Mode) (rules : Rules) (p : Pattern) (us : List CodePoint) : Type 0 where
+  pub spelled : IsSpelled mode rules p us
+  pub early : IsEarly rules p
 
 -- The only one but for spans.
-abbrev pub IsOnly : Mode → Pattern → List CodePoint → Type 0
-IsOnly mode p us = (q : Pattern) → Reads mode q us → unspanned q ≡ unspanned p
+abbrev pub IsOnly : Mode → Rules → Pattern → List CodePoint → Type 0
+IsOnly mode rules p us = (q : Pattern) → Reads mode rules q us → unspanned q ≡ unspanned p

@@ -10,7 +10,7 @@ use Rattle.rx_model.specs.declared.mode.Mode.TheVariants.{Legacy, Unicode, Sets}
 use Rattle.rx_ast.specs.Texts.{boundary_text, class_escape_text}
 use Rattle.rx_model.specs.Reading.Boundaries.{has_boundary}
 use Rattle.rx_model.specs.Classes.ClassRows.{IsClass, IsClassSpanned}
-use Rattle.rx_model.specs.Inputs.Environment.{Environment, is_unicode}
+use Rattle.rx_model.specs.Inputs.Environment.{Environment, for_classes, is_unicode}
 use Rattle.rx_model.specs.Characters.Escapes.{SpellsEscape}
 use Rattle.rx_model.specs.Trees.Events.{Events, enter, leave, token, inside, modified}
 use Rattle.rx_model.specs.Characters.LegacyEscapes.{SpellsLegacy}
@@ -70,7 +70,7 @@ Spells e bar w rest = values w ≡ 124 ∷ []
 Spells e (boundary kind) w rest = IsBoundary e kind w
 Spells e (class_escape kind) w rest = values w ≡ class_escape_text kind
 Spells e (property negative strings name value) w rest = IsProperty e negative strings name value w
-Spells e (class c) w rest = IsClass e c w rest
+Spells e (class c) w rest = IsClass (for_classes e) c w rest
 Spells e (indexed n) w rest = IsIndexed e n w rest
 Spells e (named name) w rest = IsNamed e name w rest
 Spells e (opener o) w rest = SpellsOpener e o w rest
@@ -92,6 +92,6 @@ Row e o ((leave n) ∷ es) i us j rest = (n ≡ o i) × Row e o es i us j rest
 Row e o ((token t) ∷ es) i us j rest =
     (w : List CodePoint) × (more : List CodePoint) × (us ≡ w ++ more) × Spells e t w more × Row e o es (i + length w) more j rest
 Row e o ((inside c) ∷ es) i us j rest =
-    (w : List CodePoint) × (more : List CodePoint) × (us ≡ w ++ more) × IsClassSpanned e o i c w more × Row e o es (i + length w) more j rest
+    (w : List CodePoint) × (more : List CodePoint) × (us ≡ w ++ more) × IsClassSpanned (for_classes e) o i c w more × Row e o es (i + length w) more j rest
 Row e o ((modified m) ∷ es) i us j rest =
     (w : List CodePoint) × (more : List CodePoint) × (us ≡ w ++ more) × IsModifying o i m w × Row e o es (i + length w) more j rest

@@ -20,6 +20,7 @@ use Rattle.rx_model.specs.Groups.Modifiers.{AreSides, has_twice, is_modifier, oc
 use Rattle.rx_model.specs.Refusals.EscapeCauses.{IsEscapeCause, IsPropertyCause}
 use Rattle.rx_model.specs.Quantifiers.Quantifiers.{BeginsWithBraces, SpellsBraces, PassesLimit}
 use Rattle.rx_model.specs.Refusals.Reached.{AreObeying, HasNoClash, IsInside, IsPlace, IsReached, span_between, text_environment, text_groups, text_names}
+use Rattle.rx_model.specs.declared.rules.Rules.{Rules}
 use Rattle.rx_model.specs.Reading.Rows.{Spells}
 use Rattle.rx_model.specs.Refusals.Stops.{IsStop}
 use Rattle.rx_model.specs.Trees.Token.{Opener, capturing, ignoring, looking, indexed, named, quantifier}
@@ -81,102 +82,102 @@ pub record BeginsWithPair (w : List ℕ) : Type 0 where
 
 -- The diagnostic is a refusal of what stands at this place, in a text whose first offset is `first`, `added` being added to each: a place that is reached,
 -- or one in a class that begins at such a place.
-pub data IsCauseAtPlace (mode : Mode) (us : List CodePoint) (first added : ℕ) : ℕ → Diagnostic → Type 0 where
+pub data IsCauseAtPlace (mode : Mode) (rules : Rules) (us : List CodePoint) (first added : ℕ) : ℕ → Diagnostic → Type 0 where
   -- Outside groups terms end before the end of the text.
-  incomplete : (place behind : ℕ) (ready : Bool) (rest : List CodePoint) → IsReached mode us place [] ready rest → IsStop (text_environment mode us) rest behind → rest ≢ []
-      → IsCauseAtPlace mode us first added place (ParsePatternIncomplete (span_between us first added (place + behind) (place + behind)))
+  incomplete : (place behind : ℕ) (ready : Bool) (rest : List CodePoint) → IsReached mode rules us place [] ready rest → IsStop (text_environment mode rules us) rest behind → rest ≢ []
+      → IsCauseAtPlace mode rules us first added place (ParsePatternIncomplete (span_between us first added (place + behind) (place + behind)))
   -- A quantifier stands where there is nothing that may have one (Term, 22.2.1).
-  lone : (place min : ℕ) (max : Option ℕ) (greedy : Bool) (open_groups : List Opener) (w more : List CodePoint) → IsReached mode us place open_groups false (w ++ more)
-      → is_unicode mode ≡ true → Spells (text_environment mode us) (quantifier min max greedy) w more → AreObeying mode us (quantifier min max greedy ∷ [])
-      → IsCauseAtPlace mode us first added place (LoneQuantifier (span_between us first added place (place + length w)))
+  lone : (place min : ℕ) (max : Option ℕ) (greedy : Bool) (open_groups : List Opener) (w more : List CodePoint) → IsReached mode rules us place open_groups false (w ++ more)
+      → is_unicode mode ≡ true → Spells (text_environment mode rules us) (quantifier min max greedy) w more → AreObeying mode us (quantifier min max greedy ∷ [])
+      → IsCauseAtPlace mode rules us first added place (LoneQuantifier (span_between us first added place (place + length w)))
   -- The same with neither `u` nor `v` (InvalidBracedQuantifier, and Term, B.1.2).
-  lone_in_legacy : (place min : ℕ) (max : Option ℕ) (greedy : Bool) (open_groups : List Opener) (w more : List CodePoint) → IsReached mode us place open_groups false (w ++ more)
-      → is_unicode mode ≡ false → Spells (text_environment mode us) (quantifier min max greedy) w more → AreObeying mode us (quantifier min max greedy ∷ [])
-      → IsCauseAtPlace mode us first added place (InvalidBracedQuantifier (span_between us first added place (place + length w)))
+  lone_in_legacy : (place min : ℕ) (max : Option ℕ) (greedy : Bool) (open_groups : List Opener) (w more : List CodePoint) → IsReached mode rules us place open_groups false (w ++ more)
+      → is_unicode mode ≡ false → Spells (text_environment mode rules us) (quantifier min max greedy) w more → AreObeying mode us (quantifier min max greedy ∷ [])
+      → IsCauseAtPlace mode rules us first added place (InvalidBracedQuantifier (span_between us first added place (place + length w)))
   -- With neither `u` nor `v` a backslash ends the text.
-  last_backslash : (place : ℕ) (backslash : CodePoint) → IsPlace mode us place (backslash ∷ []) → is_unicode mode ≡ false → backslash.value ≡ 92
-      → IsCauseAtPlace mode us first added place (InvalidExtendedAtomEscape (span_between us first added place (place + 1)))
+  last_backslash : (place : ℕ) (backslash : CodePoint) → IsPlace mode rules us place (backslash ∷ []) → is_unicode mode ≡ false → backslash.value ≡ 92
+      → IsCauseAtPlace mode rules us first added place (InvalidExtendedAtomEscape (span_between us first added place (place + 1)))
   -- The greatest number is below the least (22.2.1.1, QuantifierPrefix).
-  out_of_order : (place count min : ℕ) (max : Option ℕ) (rest : List CodePoint) → IsPlace mode us place rest → HasBraces min max count rest → IsOutOfOrder min max
-      → IsCauseAtPlace mode us first added place (BracedQuantifierOutOfOrder (span_between us first added place (place + count)))
+  out_of_order : (place count min : ℕ) (max : Option ℕ) (rest : List CodePoint) → IsPlace mode rules us place rest → HasBraces min max count rest → IsOutOfOrder min max
+      → IsCauseAtPlace mode rules us first added place (BracedQuantifierOutOfOrder (span_between us first added place (place + count)))
   -- A number is above 2^53 - 1, and they are not out of order.
-  too_large : (place count min : ℕ) (max : Option ℕ) (rest : List CodePoint) → IsPlace mode us place rest → HasBraces min max count rest → (IsOutOfOrder min max → ⊥) → IsTooLarge min max
-      → IsCauseAtPlace mode us first added place (TooLargeNumberInBracedQuantifier (span_between us first added place (place + count)))
+  too_large : (place count min : ℕ) (max : Option ℕ) (rest : List CodePoint) → IsPlace mode rules us place rest → HasBraces min max count rest → (IsOutOfOrder min max → ⊥) → IsTooLarge min max
+      → IsCauseAtPlace mode rules us first added place (TooLargeNumberInBracedQuantifier (span_between us first added place (place + count)))
   -- The digits of a number behind `{` pass 64 bits; with neither `u` nor `v` this is so in a complete quantifier alone, since another brace is a character.
-  too_many_digits : (place start count : ℕ) (rest : List CodePoint) → IsPlace mode us place rest → PassesLimit (values rest) start count
+  too_many_digits : (place start count : ℕ) (rest : List CodePoint) → IsPlace mode rules us place rest → PassesLimit (values rest) start count
       → (is_unicode mode ≡ false → BeginsWithBraces (values rest))
-      → IsCauseAtPlace mode us first added place (TooLargeNumberDigits (span_between us first added (place + start) (place + start + count)) digits.Decimal)
+      → IsCauseAtPlace mode rules us first added place (TooLargeNumberDigits (span_between us first added (place + start) (place + start + count)) digits.Decimal)
   -- A character escape is refused.
-  of_escape : (place : ℕ) (rest : List CodePoint) {diagnostic : Diagnostic} → IsPlace mode us place rest → IsEscapeCause mode us first added place rest diagnostic
-      → IsCauseAtPlace mode us first added place diagnostic
+  of_escape : (place : ℕ) (rest : List CodePoint) {diagnostic : Diagnostic} → IsPlace mode rules us place rest → IsEscapeCause mode us first added place rest diagnostic
+      → IsCauseAtPlace mode rules us first added place diagnostic
   -- A property escape is refused.
-  of_property : (place : ℕ) (rest : List CodePoint) {diagnostic : Diagnostic} → IsPlace mode us place rest → IsPropertyCause mode us first added place rest diagnostic
-      → IsCauseAtPlace mode us first added place diagnostic
+  of_property : (place : ℕ) (rest : List CodePoint) {diagnostic : Diagnostic} → IsPlace mode rules us place rest → IsPropertyCause mode us first added place rest diagnostic
+      → IsCauseAtPlace mode rules us first added place diagnostic
   -- A class is refused, at a place in it.
-  of_class : (from place : ℕ) (at_class : List CodePoint) {diagnostic : Diagnostic} → IsPlace mode us from at_class → IsClassCause mode us first added from at_class place diagnostic
-      → IsCauseAtPlace mode us first added place diagnostic
+  of_class : (from place : ℕ) (at_class : List CodePoint) {diagnostic : Diagnostic} → IsPlace mode rules us from at_class → IsClassCause mode us first added from at_class place diagnostic
+      → IsCauseAtPlace mode rules us first added place diagnostic
   -- A group or a look-around is open where terms end, and no `)` stands there.
-  unterminated_group : (from place behind : ℕ) (group : Opener) (rest : List CodePoint) → IsInside mode us from group place rest → IsStop (text_environment mode us) rest behind
-      → starts 41 (values rest) ≡ false → IsCauseAtPlace mode us first added place (UnterminatedPattern (span_between us first added from (place + behind)) (unterminated group))
+  unterminated_group : (from place behind : ℕ) (group : Opener) (rest : List CodePoint) → IsInside mode rules us from group place rest → IsStop (text_environment mode rules us) rest behind
+      → starts 41 (values rest) ≡ false → IsCauseAtPlace mode rules us first added place (UnterminatedPattern (span_between us first added from (place + behind)) (unterminated group))
   -- With `u` or `v` behind `<` and the longest row of a name's characters there is neither an escape nor, behind some, a `>`.
-  unterminated_name : (place count : ℕ) (rest : List CodePoint) (behind : List ℕ) → IsPlace mode us place rest → is_unicode mode ≡ true
-      → EndsName (text_environment mode us) (values rest) count behind → starts 92 behind ≡ false → (starts 62 behind ≡ true → count ≡ 0)
-      → IsCauseAtPlace mode us first added place (UnterminatedPattern (span_between us first added (place + 2) (place + 3 + count)) what.GroupName)
+  unterminated_name : (place count : ℕ) (rest : List CodePoint) (behind : List ℕ) → IsPlace mode rules us place rest → is_unicode mode ≡ true
+      → EndsName (text_environment mode rules us) (values rest) count behind → starts 92 behind ≡ false → (starts 62 behind ≡ true → count ≡ 0)
+      → IsCauseAtPlace mode rules us first added place (UnterminatedPattern (span_between us first added (place + 2) (place + 3 + count)) what.GroupName)
   -- With neither `u` nor `v` nor a raw pair either.
-  unterminated_name_in_legacy : (place count : ℕ) (rest : List CodePoint) (behind : List ℕ) → IsPlace mode us place rest → is_unicode mode ≡ false
-      → EndsName (text_environment mode us) (values rest) count behind → starts 92 behind ≡ false → (BeginsWithPair behind → ⊥) → (starts 62 behind ≡ true → count ≡ 0)
-      → IsCauseAtPlace mode us first added place (UnterminatedPattern (span_between us first added (place + 2) (place + 3 + count)) what.GroupName)
+  unterminated_name_in_legacy : (place count : ℕ) (rest : List CodePoint) (behind : List ℕ) → IsPlace mode rules us place rest → is_unicode mode ≡ false
+      → EndsName (text_environment mode rules us) (values rest) count behind → starts 92 behind ≡ false → (BeginsWithPair behind → ⊥) → (starts 62 behind ≡ true → count ≡ 0)
+      → IsCauseAtPlace mode rules us first added place (UnterminatedPattern (span_between us first added (place + 2) (place + 3 + count)) what.GroupName)
   -- With neither `u` nor `v` a raw pair stands in a name that may not stand there.
-  misplaced_pair : (place count : ℕ) (rest : List CodePoint) (behind : List ℕ) → IsPlace mode us place rest → is_unicode mode ≡ false
-      → EndsName (text_environment mode us) (values rest) count behind → BeginsWithPair behind
-      → IsCauseAtPlace mode us first added place (InvalidSurrogatePair (span_between us first added (place + 3 + count) (place + 5 + count)))
+  misplaced_pair : (place count : ℕ) (rest : List CodePoint) (behind : List ℕ) → IsPlace mode rules us place rest → is_unicode mode ≡ false
+      → EndsName (text_environment mode rules us) (values rest) count behind → BeginsWithPair behind
+      → IsCauseAtPlace mode rules us first added place (InvalidSurrogatePair (span_between us first added (place + 3 + count) (place + 5 + count)))
   -- In a name the digits of a unicode escape pass 32 bits.
-  too_many_digits_in_name : (place count many : ℕ) (rest : List CodePoint) (behind : List ℕ) → IsPlace mode us place rest
-      → EndsName (text_environment mode us) (values rest) count (92 ∷ behind) → PassesHex behind many
-      → IsCauseAtPlace mode us first added place (TooLargeNumberDigits (span_between us first added (place + 6 + count) (place + 6 + count + many)) digits.Hex)
+  too_many_digits_in_name : (place count many : ℕ) (rest : List CodePoint) (behind : List ℕ) → IsPlace mode rules us place rest
+      → EndsName (text_environment mode rules us) (values rest) count (92 ∷ behind) → PassesHex behind many
+      → IsCauseAtPlace mode rules us first added place (TooLargeNumberDigits (span_between us first added (place + 6 + count) (place + 6 + count + many)) digits.Hex)
   -- In a name stands a unicode escape of what may not stand there.
-  misplaced_in_name : (place count value n : ℕ) (rest : List CodePoint) (behind : List ℕ) → IsPlace mode us place rest
-      → EndsName (text_environment mode us) (values rest) count (92 ∷ behind) → Decodes true behind value n
-      → IsCauseAtPlace mode us first added place (InvalidUnicodeEscapeSequence (span_between us first added (place + 3 + count) (place + 4 + count + n)))
+  misplaced_in_name : (place count value n : ℕ) (rest : List CodePoint) (behind : List ℕ) → IsPlace mode rules us place rest
+      → EndsName (text_environment mode rules us) (values rest) count (92 ∷ behind) → Decodes true behind value n
+      → IsCauseAtPlace mode rules us first added place (InvalidUnicodeEscapeSequence (span_between us first added (place + 3 + count) (place + 4 + count + n)))
   -- In a name a backslash begins no unicode escape; with `u` or `v` a `u` behind it has the span.
-  invalid_in_name : (place count : ℕ) (rest : List CodePoint) (behind : List ℕ) → IsPlace mode us place rest
-      → EndsName (text_environment mode us) (values rest) count (92 ∷ behind) → ((value n : ℕ) → Decodes true behind value n → ⊥) → ((many : ℕ) → PassesHex behind many → ⊥)
+  invalid_in_name : (place count : ℕ) (rest : List CodePoint) (behind : List ℕ) → IsPlace mode rules us place rest
+      → EndsName (text_environment mode rules us) (values rest) count (92 ∷ behind) → ((value n : ℕ) → Decodes true behind value n → ⊥) → ((many : ℕ) → PassesHex behind many → ⊥)
       → (is_unicode mode && starts 117 behind) ≡ false
-      → IsCauseAtPlace mode us first added place (InvalidUnicodeEscapeSequence (span_between us first added (place + 3 + count) (place + 4 + count)))
-  invalid_u_in_name : (place count : ℕ) (rest : List CodePoint) (behind : List ℕ) → IsPlace mode us place rest
-      → EndsName (text_environment mode us) (values rest) count (92 ∷ behind) → ((value n : ℕ) → Decodes true behind value n → ⊥) → ((many : ℕ) → PassesHex behind many → ⊥)
+      → IsCauseAtPlace mode rules us first added place (InvalidUnicodeEscapeSequence (span_between us first added (place + 3 + count) (place + 4 + count)))
+  invalid_u_in_name : (place count : ℕ) (rest : List CodePoint) (behind : List ℕ) → IsPlace mode rules us place rest
+      → EndsName (text_environment mode rules us) (values rest) count (92 ∷ behind) → ((value n : ℕ) → Decodes true behind value n → ⊥) → ((many : ℕ) → PassesHex behind many → ⊥)
       → (is_unicode mode && starts 117 behind) ≡ true
-      → IsCauseAtPlace mode us first added place (InvalidUnicodeEscapeSequence (span_between us first added (place + 4 + count) (place + 5 + count)))
+      → IsCauseAtPlace mode rules us first added place (InvalidUnicodeEscapeSequence (span_between us first added (place + 4 + count) (place + 5 + count)))
   -- A reference has a number above that of the groups (22.2.1.1).
-  no_such_group : (place n : ℕ) (w more : List CodePoint) → IsPlace mode us place (w ++ more) → Spells (text_environment mode us) (indexed n) w more → text_groups mode us < n
-      → IsCauseAtPlace mode us first added place (InvalidIndexedReference (span_between us first added place (place + length w)) (text_groups mode us))
+  no_such_group : (place n : ℕ) (w more : List CodePoint) → IsPlace mode rules us place (w ++ more) → Spells (text_environment mode rules us) (indexed n) w more → text_groups mode us < n
+      → IsCauseAtPlace mode rules us first added place (InvalidIndexedReference (span_between us first added place (place + length w)) (text_groups mode us))
   -- Where `\k` is a reference, no `<` follows.
-  no_group_name : (place : ℕ) (rest : List CodePoint) (behind : List ℕ) → IsPlace mode us place rest → (text_environment mode us).named ≡ true → values rest ≡ 92 ∷ 107 ∷ behind
-      → starts 60 behind ≡ false → IsCauseAtPlace mode us first added place (EmptyGroupSpecifier (span_between us first added place (place + 2)))
+  no_group_name : (place : ℕ) (rest : List CodePoint) (behind : List ℕ) → IsPlace mode rules us place rest → (text_environment mode rules us).named ≡ true → values rest ≡ 92 ∷ 107 ∷ behind
+      → starts 60 behind ≡ false → IsCauseAtPlace mode rules us first added place (EmptyGroupSpecifier (span_between us first added place (place + 2)))
   -- A reference has a name that no group has (22.2.1.1).
-  no_such_name : (place : ℕ) (name : List ℕ) (w more : List CodePoint) → IsPlace mode us place (w ++ more) → Spells (text_environment mode us) (named name) w more
-      → (Contains (text_names mode us) name → ⊥) → IsCauseAtPlace mode us first added place (InvalidNamedReference (span_between us first added place (place + length w)) (text_names mode us))
+  no_such_name : (place : ℕ) (name : List ℕ) (w more : List CodePoint) → IsPlace mode rules us place (w ++ more) → Spells (text_environment mode rules us) (named name) w more
+      → (Contains (text_names mode us) name → ⊥) → IsCauseAtPlace mode rules us first added place (InvalidNamedReference (span_between us first added place (place + length w)) (text_names mode us))
   -- Behind `(?` no `:` ends the modifiers.
-  unknown_modifiers : (place : ℕ) (rest : List CodePoint) (text behind : List ℕ) → IsPlace mode us place rest → values rest ≡ 40 ∷ 63 ∷ (text ++ behind) → LeadNowhere text behind
-      → IsCauseAtPlace mode us first added place (UnknownModifiers (span_between us first added (place + 2) (place + 2 + length text)))
+  unknown_modifiers : (place : ℕ) (rest : List CodePoint) (text behind : List ℕ) → IsPlace mode rules us place rest → values rest ≡ 40 ∷ 63 ∷ (text ++ behind) → LeadNowhere text behind
+      → IsCauseAtPlace mode rules us first added place (UnknownModifiers (span_between us first added (place + 2) (place + 2 + length text)))
   -- A letter is there twice on one side of the modifiers (22.2.1.1).
-  duplicated_modifiers : (place : ℕ) (rest : List CodePoint) (enabled disabled text behind : List ℕ) → IsPlace mode us place rest → values rest ≡ 40 ∷ 63 ∷ (text ++ (58 ∷ behind))
+  duplicated_modifiers : (place : ℕ) (rest : List CodePoint) (enabled disabled text behind : List ℕ) → IsPlace mode rules us place rest → values rest ≡ 40 ∷ 63 ∷ (text ++ (58 ∷ behind))
       → AreSides enabled disabled text → (has_twice enabled || has_twice disabled) ≡ true
-      → IsCauseAtPlace mode us first added place (DuplicatedModifiers (span_between us first added (place + 2) (place + 2 + length text)))
+      → IsCauseAtPlace mode rules us first added place (DuplicatedModifiers (span_between us first added (place + 2) (place + 2 + length text)))
   -- Modifiers are a `-` alone (22.2.1.1).
-  empty_modifiers : (place : ℕ) (rest : List CodePoint) (behind : List ℕ) → IsPlace mode us place rest → values rest ≡ 40 ∷ 63 ∷ 45 ∷ 58 ∷ behind
-      → IsCauseAtPlace mode us first added place (EmptyModifiers (span_between us first added (place + 2) (place + 3)))
+  empty_modifiers : (place : ℕ) (rest : List CodePoint) (behind : List ℕ) → IsPlace mode rules us place rest → values rest ≡ 40 ∷ 63 ∷ 45 ∷ 58 ∷ behind
+      → IsCauseAtPlace mode rules us first added place (EmptyModifiers (span_between us first added (place + 2) (place + 3)))
   -- A letter is on both sides of the modifiers, and none twice on one (22.2.1.1).
-  invalid_modifiers : (place : ℕ) (rest : List CodePoint) (enabled disabled text behind : List ℕ) → IsPlace mode us place rest → values rest ≡ 40 ∷ 63 ∷ (text ++ (58 ∷ behind))
+  invalid_modifiers : (place : ℕ) (rest : List CodePoint) (enabled disabled text behind : List ℕ) → IsPlace mode rules us place rest → values rest ≡ 40 ∷ 63 ∷ (text ++ (58 ∷ behind))
       → AreSides enabled disabled text → (has_twice enabled || has_twice disabled) ≡ false → share_some enabled disabled ≡ true
-      → IsCauseAtPlace mode us first added place (InvalidModifiers (span_between us first added (place + 2) (place + 2 + length text)))
+      → IsCauseAtPlace mode rules us first added place (InvalidModifiers (span_between us first added (place + 2) (place + 2 + length text)))
 
 -- The diagnostic is a refusal of this text, whose first offset is `first`, `added` being added to each. The groups come before all else.
-pub data IsCause (mode : Mode) (us : List CodePoint) (first added : ℕ) : Diagnostic → Type 0 where
-  -- Two groups of one name might both take part (22.2.1.1): the second of the two names is the first that clashes with one before it, and the first is the
+pub data IsCause (mode : Mode) (rules : Rules) (us : List CodePoint) (first added : ℕ) : Diagnostic → Type 0 where
+  -- Two names clash (22.2.1.1): the second of the two names is the first that clashes with one before it, and the first is the
   -- first with which it does.
-  duplicated_names : (a b : ℕ) → IsFirstClash mode (marks mode (values us)) a b
-      → IsCause mode us first added (DuplicatedCapturingGroupNames (name_span mode us first added a) (name_span mode us first added b))
+  duplicated_names : (a b : ℕ) → IsFirstClash mode rules.duplicate_names (marks mode (values us)) a b
+      → IsCause mode rules us first added (DuplicatedCapturingGroupNames (name_span mode us first added a) (name_span mode us first added b))
   -- There are 2^32 - 1 groups or more (22.2.1.1, Pattern).
-  too_many_groups : HasNoClash mode us → most_groups < text_groups mode us → IsCause mode us first added (TooMayCapturingGroups (record { start = added; end = added }))
-  at_place : (place : ℕ) {diagnostic : Diagnostic} → HasNoClash mode us → text_groups mode us ≤ most_groups → IsCauseAtPlace mode us first added place diagnostic → IsCause mode us first added diagnostic
+  too_many_groups : HasNoClash mode rules.duplicate_names us → most_groups < text_groups mode us → IsCause mode rules us first added (TooMayCapturingGroups (record { start = added; end = added }))
+  at_place : (place : ℕ) {diagnostic : Diagnostic} → HasNoClash mode rules.duplicate_names us → text_groups mode us ≤ most_groups → IsCauseAtPlace mode rules us first added place diagnostic → IsCause mode rules us first added diagnostic

@@ -20,7 +20,7 @@ pub use Rattle.rx_model.specs.Classes.ClassTokens.{is_character}
 use Rattle.rx_model.specs.FirstPass.Marks.{starts}
 use Rattle.rx_model.specs.Inputs.Environment.{Environment, is_sets}
 use Rattle.rx_model.specs.Refusals.EscapeCauses.{IsEscapeCause, IsPropertyCause}
-use Rattle.rx_model.specs.Refusals.Reached.{span_between, text_environment}
+use Rattle.rx_model.specs.Refusals.Reached.{span_between, class_environment}
 use Rattle.rx_model.specs.Refusals.Stops.{begins_class_escape}
 
 -- A character, a `-` and a character stand next.
@@ -52,52 +52,52 @@ of_negative true span = CharacterClassContentsInvalidOperands span
 -- The diagnostic is a refusal of what stands at this place of the class: for a range that of its first atom. Spans are in a text whose first offset is `first`, `added` being added to each.
 pub data IsClassCause (mode : Mode) (us : List CodePoint) (first added from : ℕ) (at_class : List CodePoint) : ℕ → Diagnostic → Type 0 where
   -- Nothing stands in a bracket and the text ends, or behind the items of a union stands neither an item nor `]`; without `v` the text ends there.
-  unterminated_class : (nested : Bool) (begin place : ℕ) (rest : List CodePoint) (in_bracket : IsInBracket (text_environment mode us) from at_class nested begin place rest)
-      → is_union in_bracket.item_place.inner.held ≡ true → NothingFollows (text_environment mode us) in_bracket.item_place.at in_bracket.item_place.inner.held rest
+  unterminated_class : (nested : Bool) (begin place : ℕ) (rest : List CodePoint) (in_bracket : IsInBracket (class_environment mode us) from at_class nested begin place rest)
+      → is_union in_bracket.item_place.inner.held ≡ true → NothingFollows (class_environment mode us) in_bracket.item_place.at in_bracket.item_place.inner.held rest
       → (is_sets mode ≡ true → in_bracket.item_place.inner.held ≡ empty → rest ≡ []) → (is_sets mode ≡ false → rest ≡ [])
       → IsClassCause mode us first added from at_class place (UnterminatedPattern (span_between us first added begin place) (unterminated nested))
   -- With `v` a bracket begins with no operand, and the text goes on.
-  no_operand : (place : ℕ) (rest : List CodePoint) (item_place : IsItemPlace (text_environment mode us) from at_class place rest) → is_sets mode ≡ true → item_place.inner.held ≡ empty
-      → NothingFollows (text_environment mode us) item_place.at item_place.inner.held rest → rest ≢ []
+  no_operand : (place : ℕ) (rest : List CodePoint) (item_place : IsItemPlace (class_environment mode us) from at_class place rest) → is_sets mode ≡ true → item_place.inner.held ≡ empty
+      → NothingFollows (class_environment mode us) item_place.at item_place.inner.held rest → rest ≢ []
       → IsClassCause mode us first added from at_class place (EmptyClassSetExpression (span_between us first added place place))
   -- A `&` stands right behind `&&` (ClassIntersection).
-  third_ampersand : (place : ℕ) (unit : CodePoint) (rest : List CodePoint) (item_place : IsItemPlace (text_environment mode us) from at_class place (unit ∷ rest)) → item_place.at ≡ behind_meet
+  third_ampersand : (place : ℕ) (unit : CodePoint) (rest : List CodePoint) (item_place : IsItemPlace (class_environment mode us) from at_class place (unit ∷ rest)) → item_place.at ≡ behind_meet
       → unit.value ≡ 38 → IsClassCause mode us first added from at_class place (ClassIntersectionUnexpectedAmpersand (span_between us first added place (place + 1)))
   -- In an intersection or a subtraction stands behind an operand neither `]` nor the operator, or behind the operator no operand.
-  no_operator : (operator : SetOperator) (place : ℕ) (rest : List CodePoint) (item_place : IsItemPlace (text_environment mode us) from at_class place rest)
-      → operator_of item_place.inner.held ≡ Some operator → NothingFollows (text_environment mode us) item_place.at item_place.inner.held rest
+  no_operator : (operator : SetOperator) (place : ℕ) (rest : List CodePoint) (item_place : IsItemPlace (class_environment mode us) from at_class place rest)
+      → operator_of item_place.inner.held ≡ Some operator → NothingFollows (class_environment mode us) item_place.at item_place.inner.held rest
       → (item_place.at ≡ behind_meet → starts 38 (values rest) ≡ false)
       → IsClassCause mode us first added from at_class place (ClassSetExpressionInvalidCharacter (span_between us first added place place) operator)
   -- Class strings do not end.
-  unterminated_strings : (opener place : ℕ) (rest : List CodePoint) → IsStringPlace (text_environment mode us) from at_class opener place rest → EndsStrings (text_environment mode us) rest
+  unterminated_strings : (opener place : ℕ) (rest : List CodePoint) → IsStringPlace (class_environment mode us) from at_class opener place rest → EndsStrings (class_environment mode us) rest
       → IsClassCause mode us first added from at_class place (UnterminatedPattern (span_between us first added opener place) what.ClassStringDisjunction)
   -- A negative class may contain strings (22.2.1.1), and its `]` stands here.
-  negative_strings : (nested : Bool) (begin place : ℕ) (rest : List CodePoint) (in_bracket : IsInBracket (text_environment mode us) from at_class nested begin place rest)
+  negative_strings : (nested : Bool) (begin place : ℕ) (rest : List CodePoint) (in_bracket : IsInBracket (class_environment mode us) from at_class nested begin place rest)
       → starts 93 (values rest) ≡ true → is_whole in_bracket.item_place.inner.held ≡ true → (in_bracket.item_place.inner.negative && in_bracket.item_place.inner.may) ≡ true
       → IsClassCause mode us first added from at_class place (of_negative nested (span_between us first added begin (place + 1)))
   -- The end of a range is below its start (22.2.1.1), and is no `-`.
-  range_out_of_order : (place low high : ℕ) (w v more : List CodePoint) (hyphen : CodePoint) → is_sets mode ≡ false → IsItemPlace (text_environment mode us) from at_class place (w ++ (hyphen ∷ (v ++ more)))
-      → StandsRange (text_environment mode us) low w hyphen high v more → high < low → high ≢ 45
+  range_out_of_order : (place low high : ℕ) (w v more : List CodePoint) (hyphen : CodePoint) → is_sets mode ≡ false → IsItemPlace (class_environment mode us) from at_class place (w ++ (hyphen ∷ (v ++ more)))
+      → StandsRange (class_environment mode us) low w hyphen high v more → high < low → high ≢ 45
       → IsClassCause mode us first added from at_class place (CharacterClassRangeOutOfOrder (span_between us first added (place + length w) (place + length w + 1 + length v)) range.ClassAtom)
   -- The end of a range is a `-`, and below its start.
-  dash_out_of_order : (place low : ℕ) (w v more : List CodePoint) (hyphen : CodePoint) → is_sets mode ≡ false → IsItemPlace (text_environment mode us) from at_class place (w ++ (hyphen ∷ (v ++ more)))
-      → StandsRange (text_environment mode us) low w hyphen 45 v more → 45 < low
+  dash_out_of_order : (place low : ℕ) (w v more : List CodePoint) (hyphen : CodePoint) → is_sets mode ≡ false → IsItemPlace (class_environment mode us) from at_class place (w ++ (hyphen ∷ (v ++ more)))
+      → StandsRange (class_environment mode us) low w hyphen 45 v more → 45 < low
       → IsClassCause mode us first added from at_class place (CharacterClassRangeDashNotSubtraction (span_between us first added (place + length w) (place + length w + 1 + length v)))
   -- With `v` the end of a range is below its start, in a union.
   set_range_out_of_order : (place low high : ℕ) (w v more : List CodePoint) (hyphen : CodePoint) → is_sets mode ≡ true
-      → (item_place : IsItemPlace (text_environment mode us) from at_class place (w ++ (hyphen ∷ (v ++ more)))) → is_union item_place.inner.held ≡ true
-      → StandsRange (text_environment mode us) low w hyphen high v more → high < low
+      → (item_place : IsItemPlace (class_environment mode us) from at_class place (w ++ (hyphen ∷ (v ++ more)))) → is_union item_place.inner.held ≡ true
+      → StandsRange (class_environment mode us) low w hyphen high v more → high < low
       → IsClassCause mode us first added from at_class place (CharacterClassRangeOutOfOrder (span_between us first added place (place + length w + 1 + length v)) range.ClassSet)
   -- With `u` an end of a range is no character (22.2.1.1).
-  invalid_range : (place : ℕ) (a b : Atom) (w v more : List CodePoint) (hyphen : CodePoint) → IsItemPlace (text_environment mode us) from at_class place (w ++ (hyphen ∷ (v ++ more))) → mode ≡ Unicode
-      → SpellsAtom (text_environment mode us) a w (hyphen ∷ (v ++ more)) → hyphen.value ≡ 45 → SpellsAtom (text_environment mode us) b v more → (is_character a && is_character b) ≡ false
+  invalid_range : (place : ℕ) (a b : Atom) (w v more : List CodePoint) (hyphen : CodePoint) → IsItemPlace (class_environment mode us) from at_class place (w ++ (hyphen ∷ (v ++ more))) → mode ≡ Unicode
+      → SpellsAtom (class_environment mode us) a w (hyphen ∷ (v ++ more)) → hyphen.value ≡ 45 → SpellsAtom (class_environment mode us) b v more → (is_character a && is_character b) ≡ false
       → IsClassCause mode us first added from at_class place (CharacterClassRangeInvalidAtom (span_between us first added place (place + length w + 1 + length v)))
   -- Without `v` a backslash begins no escape that a class may hold, or ends the text.
-  invalid_atom : (place : ℕ) (backslash : CodePoint) (rest : List CodePoint) → is_sets mode ≡ false → IsAtomPlace (text_environment mode us) from at_class place (backslash ∷ rest) → backslash.value ≡ 92
-      → begins_class_escape (text_environment mode us) (values rest) ≡ false
+  invalid_atom : (place : ℕ) (backslash : CodePoint) (rest : List CodePoint) → is_sets mode ≡ false → IsAtomPlace (class_environment mode us) from at_class place (backslash ∷ rest) → backslash.value ≡ 92
+      → begins_class_escape (class_environment mode us) (values rest) ≡ false
       → IsClassCause mode us first added from at_class place (InvalidClassAtom (span_between us first added place (place + 1)))
   -- A character escape in the class is refused, or a property escape.
-  escape_in_class : (place : ℕ) (rest : List CodePoint) {diagnostic : Diagnostic} → IsAtomPlace (text_environment mode us) from at_class place rest
+  escape_in_class : (place : ℕ) (rest : List CodePoint) {diagnostic : Diagnostic} → IsAtomPlace (class_environment mode us) from at_class place rest
       → IsEscapeCause mode us first added place rest diagnostic → IsClassCause mode us first added from at_class place diagnostic
-  property_in_class : (place : ℕ) (rest : List CodePoint) {diagnostic : Diagnostic} → IsPropertyPlace (text_environment mode us) from at_class place rest
+  property_in_class : (place : ℕ) (rest : List CodePoint) {diagnostic : Diagnostic} → IsPropertyPlace (class_environment mode us) from at_class place rest
       → IsPropertyCause mode us first added place rest diagnostic → IsClassCause mode us first added from at_class place diagnostic

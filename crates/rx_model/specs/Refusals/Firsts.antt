@@ -10,12 +10,13 @@ use Rattle.rx_model.specs.Refusals.ClassCauses.{IsClassCause}
 use Rattle.rx_model.specs.Refusals.ClassPlaces.{IsItemPlace}
 use Rattle.rx_model.specs.Trees.Early.{most_groups}
 use Rattle.rx_model.specs.Inputs.Environment.{Environment}
+use Rattle.rx_model.specs.declared.rules.Rules.{Rules}
 use Rattle.rx_model.specs.Refusals.EscapeCauses.{IsEscapeCause, IsPropertyCause}
 use Rattle.rx_model.specs.Refusals.Reached.{HasNoClash, IsPlace, text_groups}
 
 -- No place beyond this one is reached.
-abbrev pub NoneBeyond : Mode → List CodePoint → ℕ → Type 0
-NoneBeyond mode us place = (further : ℕ) (rest : List CodePoint) → IsPlace mode us further rest → place < further → ⊥
+abbrev pub NoneBeyond : Mode → Rules → List CodePoint → ℕ → Type 0
+NoneBeyond mode rules us place = (further : ℕ) (rest : List CodePoint) → IsPlace mode rules us further rest → place < further → ⊥
 
 -- In a class that begins at place `from` no item can begin beyond this place.
 abbrev pub NoneBeyondInClass : Environment → ℕ → List CodePoint → ℕ → Type 0
@@ -67,9 +68,9 @@ pub record IsFirstOf (Holds : ℕ → Diagnostic → Type 0) (diagnostic : Diagn
   pub none_over : (other : Diagnostic) → Holds place other → yields (yielding diagnostic) (yielding other) ≡ false
 
 -- The refusal is the first of this text. Those of the groups of the whole text come before all else.
-pub data IsFirst (mode : Mode) (us : List CodePoint) (start added : ℕ) : Diagnostic → Type 0 where
-  of_groups : {diagnostic : Diagnostic} → IsCause mode us start added diagnostic → (HasNoClash mode us → text_groups mode us ≤ most_groups → ⊥) → IsFirst mode us start added diagnostic
-  of_places : {diagnostic : Diagnostic} → HasNoClash mode us → text_groups mode us ≤ most_groups → IsFirstOf (IsCauseAtPlace mode us start added) diagnostic → IsFirst mode us start added diagnostic
+pub data IsFirst (mode : Mode) (rules : Rules) (us : List CodePoint) (start added : ℕ) : Diagnostic → Type 0 where
+  of_groups : {diagnostic : Diagnostic} → IsCause mode rules us start added diagnostic → (HasNoClash mode rules.duplicate_names us → text_groups mode us ≤ most_groups → ⊥) → IsFirst mode rules us start added diagnostic
+  of_places : {diagnostic : Diagnostic} → HasNoClash mode rules.duplicate_names us → text_groups mode us ≤ most_groups → IsFirstOf (IsCauseAtPlace mode rules us start added) diagnostic → IsFirst mode rules us start added diagnostic
 
 -- The refusal is the first of the class that begins at place `from`, where `at_class` is left.
 abbrev pub IsFirstInClass : Mode → List CodePoint → ℕ → ℕ → ℕ → List CodePoint → Diagnostic → Type 0

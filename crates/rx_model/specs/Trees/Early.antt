@@ -11,10 +11,11 @@ use Rattle.rx_ast.specs.declared.class.ClassStringDisjunction.{ClassStringDisjun
 use Rattle.rx_ast.specs.declared.term.Pattern.{Pattern}
 use Rattle.rx_ast.specs.ClassTree.{Member, Members, Class, range, escape, property, character, nested, strings, no_member, member, class}
 use Rattle.rx_ast.specs.Tree.{mirror_disjunction}
+use Rattle.rx_model.specs.declared.rules.Rules.{Rules}
 use Rattle.rx_model.specs.Trees.Token.{Token, Opener, opener, closer, bar, quantifier, capturing, ignoring, looking}
 use Rattle.rx_model.specs.Trees.Token as token
 use Rattle.rx_model.specs.Trees.Events.{tokens}
-use Rattle.rx_model.specs.Trees.Names.{groups, names, AreAlternativesApart}
+use Rattle.rx_model.specs.Trees.Names.{groups, names, AreNamesEarly}
 
 -- the greatest number of a braced quantifier: a limit of this project, and none of the standard
 abbrev pub greatest_count : ℕ
@@ -116,7 +117,8 @@ Obeys count names (quantifier min max greedy) = (min ≤ greatest_count) × IsGr
 abbrev pub most_groups : ℕ
 most_groups = 2 ^ 32 - 2
 
-pub record IsEarly (p : Pattern) : Type 0 where
+-- The pattern is free of early errors, under the rules.
+pub record IsEarly (rules : Rules) (p : Pattern) : Type 0 where
   pub tokens_obey : All (Obeys (groups p) (names p)) (tokens p)
-  pub apart : AreAlternativesApart (mirror_disjunction p.body).1
+  pub apart : AreNamesEarly rules.duplicate_names (mirror_disjunction p.body).1
   pub in_limit : groups p ≤ most_groups

@@ -1,5 +1,5 @@
 -- The groups of a tree and their names.
-use Rattle.std.specs.Prelude.{ℕ, ◌+◌, Some, None, List, [], ◌∷◌, ◌++◌, Contains, Bool, if◌then◌else◌, eqb}
+use Rattle.std.specs.Prelude.{ℕ, ◌+◌, Some, None, List, [], ◌∷◌, ◌++◌, Contains, Bool, true, false, if◌then◌else◌, eqb}
 use Rattle.std.specs.List.{list_any}
 use lib.Pointwise.{pointwise}
 use Rattle.rx_ast.specs.declared.term.Pattern.{Pattern}
@@ -69,7 +69,7 @@ names p = once_behind [] (alternatives_names (mirror_disjunction p.body).1)
 abbrev pub AreApart : List (List ℕ) → List (List ℕ) → Type 0
 AreApart some others = (name : List ℕ) → Contains some name → Contains others name → ⊥
 
--- Two groups of one name never take part both (22.2.1.1, 22.2.1.4 MightBothParticipate): in each alternative the names held by
+-- Two groups of one name never both take part (22.2.1.1, 22.2.1.4 MightBothParticipate): in each alternative the names held by
 -- its terms are apart, and no group's name occurs in the group.
 abbrev mutual
   pub IsNodeApart : Node → Type 0
@@ -84,3 +84,13 @@ abbrev mutual
   pub AreAlternativesApart : Alternatives → Type 0
   AreAlternativesApart no_alternative = Unit {0}
   AreAlternativesApart (alternative s ns more) = AreNodesApart ns × AreAlternativesApart more
+
+-- no name is there twice
+abbrev pub AreDistinct : List (List ℕ) → Type 0
+AreDistinct [] = Unit {0}
+AreDistinct (name ∷ names) = (Contains names name → ⊥) × AreDistinct names
+
+-- The early rule on the names of a tree's groups: where two groups may have one name, no two of one name ever both take part; else all names differ.
+abbrev pub AreNamesEarly : Bool → Alternatives → Type 0
+AreNamesEarly true all = AreAlternativesApart all
+AreNamesEarly false all = AreDistinct (alternatives_names all)

@@ -3,7 +3,7 @@ use Rattle.std.proofs.Common.{◌≡◌, ℕ, ◌==◌, Bool, true, false, not, 
 use Rattle.std.proofs.lemmas.Bool.Decides.{nat_tests}
 use Rattle.std.proofs.lemmas.Bool.{cond-true, cond-false}
 use Rattle.rx_units.specs.Characters.{is_line_terminator}
-use Rattle.rx_units.specs.declared.code_point.EscapeKind.TheVariants as kind
+use Rattle.rx_units.specs.declared.quoted_text.element.Writing.TheVariants as writing
 use Rattle.rx_units.specs.Quoted.Escapes.{is_line_feed, single_escape_value}
 use Rattle.rx_units.specs.Quoted.Fronts.{EscapeRead, escaped, digit, four_at, escape_behind, escape_at}
 use Rattle.rx_units.proofs.Quoted.ReadForms.{hex_read, unicode_read}
@@ -54,7 +54,7 @@ digit_behind_found c w None h = elim (chosen (is_decimal_digit c) h) [
     | inr q ↦ elim (chosen (c == 117) q.1) [
       | inl r ↦ absurd (no_digit _ r.1 (unicode_read NoDigit (λ v k n. refl) (λ n. refl) (λ n. refl) (four_at w) w))
       | inr r ↦ elim (chosen (is_line_terminator c) r.1) [
-        | inl s ↦ absurd (no_digit _ s.1 (either_way NoDigit (c == 13 && front_is is_line_feed w) (escaped 10 kind.None 3) (escaped c kind.None 2) refl refl))
+        | inl s ↦ absurd (no_digit _ s.1 (either_way NoDigit (c == 13 && front_is is_line_feed w) (escaped 10 writing.LineContinuation 3) (escaped c writing.LineContinuation 2) refl refl))
         | inr s ↦ absurd (let n : ⊥ = cc s.1 in n)
       ]
     ]

@@ -5,8 +5,8 @@ use Rattle.std.proofs.lemmas.Bool.{eqb-true, cond-true, cond-false, not-true}
 use Rattle.std.proofs.lemmas.Option.{option_and_then_some}
 use Rattle.rx_tables.specs.Characters.{hex_digit_value, is_decimal_digit}
 use Rattle.rx_units.specs.Characters.{is_line_terminator, is_non_escape_character, is_single_escape_character}
-use Rattle.rx_units.specs.declared.code_point.EscapeKind.{EscapeKind}
-use Rattle.rx_units.specs.declared.code_point.EscapeKind.TheVariants as kind
+use Rattle.rx_units.specs.declared.quoted_text.element.Writing.{Writing}
+use Rattle.rx_units.specs.declared.quoted_text.element.Writing.TheVariants as writing
 use Rattle.rx_units.specs.Quoted.Escapes.{is_line_feed, single_escape_value, SpellsTerminator, alone, carriage_return, carriage_return_line_feed, SpellsEscape, single, non_escape, null, hexadecimal, four_digits, braced, continuation}
 use Rattle.rx_units.specs.Quoted.Faults.{PassesHex}
 use Rattle.rx_units.specs.Quoted.Fronts.{EscapeRead, escaped, digit, passes, hex_pair, hex_at, four_at, digits_at, braces_at, unicode_behind, line_behind, escape_behind, escape_at}
@@ -66,50 +66,50 @@ brace_no_four (a ∷ []) = refl
 brace_no_four (a ∷ b ∷ []) = refl
 brace_no_four (a ∷ b ∷ c ∷ w) = refl
 
-pair_read : (a b v : ℕ) → hex_number (a ∷ b ∷ []) ≡ Some v → hex_pair (hex_digit_value a) (hex_digit_value b) ≡ escaped v kind.Hexadecimal 4
+pair_read : (a b v : ℕ) → hex_number (a ∷ b ∷ []) ≡ Some v → hex_pair (hex_digit_value a) (hex_digit_value b) ≡ escaped v writing.Hexadecimal 4
 pair_read a b v h =
     option_and_then_some _ (hex_digit_value a) v h (λ i ia h.
     option_and_then_some _ (hex_digit_value b) v h (λ j jb h.
     let same : 16 * (16 * 0 + i) + j ≡ v = cc h in
-    ap (λ o. hex_pair o (hex_digit_value b)) ia ∙ ap (λ o. hex_pair (Some i) o) jb ∙ ap (λ (n : ℕ). escaped n kind.Hexadecimal 4) (omega arith)))
+    ap (λ o. hex_pair o (hex_digit_value b)) ia ∙ ap (λ o. hex_pair (Some i) o) jb ∙ ap (λ (n : ℕ). escaped n writing.Hexadecimal 4) (omega arith)))
 
-terminator_read : (c : ℕ) (w rest : List ℕ) → SpellsTerminator c w rest → escape_at (w ++ rest) ≡ escaped c kind.None (length w + 1)
+terminator_read : (c : ℕ) (w rest : List ℕ) → SpellsTerminator c w rest → escape_at (w ++ rest) ≡ escaped c writing.LineContinuation (length w + 1)
 unfolding escape_at
 terminator_read c _ rest (alone h) =
     let l = lines c h in
     ap (λ o. escape_behind o c rest) l.no_single
     ∙ cond-false _ _ _ l.no_digit ∙ cond-false _ _ _ l.no_x ∙ cond-false _ _ _ l.no_u ∙ cond-true _ _ _ l.line
-    ∙ ap (λ b. cond (b && front_is is_line_feed rest) (escaped 10 kind.None 3) (escaped c kind.None 2)) l.no_return
-terminator_read _ _ rest (carriage_return h) = ap (λ b. cond b (escaped 10 kind.None 3) (escaped 13 kind.None 2)) h
+    ∙ ap (λ b. cond (b && front_is is_line_feed rest) (escaped 10 writing.LineContinuation 3) (escaped c writing.LineContinuation 2)) l.no_return
+terminator_read _ _ rest (carriage_return h) = ap (λ b. cond b (escaped 10 writing.LineContinuation 3) (escaped 13 writing.LineContinuation 2)) h
 terminator_read _ _ rest carriage_return_line_feed = refl
 
 -- spelled → read
-pub spelled_escape : (v : ℕ) (k : EscapeKind) (w rest : List ℕ) → SpellsEscape v k w rest → escape_at (w ++ rest) ≡ escaped v k (length w + 1)
+pub spelled_escape : (v : ℕ) (k : Writing) (w rest : List ℕ) → SpellsEscape v k w rest → escape_at (w ++ rest) ≡ escaped v k (length w + 1)
 unfolding escape_at
 spelled_escape v _ _ rest (single {c} h) = ap (λ o. escape_behind o c rest) h
 spelled_escape c _ _ rest (non_escape h) =
     let o = others c h in
     ap (λ x. escape_behind x c rest) o.no_single
     ∙ cond-false _ _ _ o.no_digit ∙ cond-false _ _ _ o.no_x ∙ cond-false _ _ _ o.no_u ∙ cond-false _ _ _ o.no_line
-spelled_escape _ _ _ rest (null h) = ap (λ b. cond (not b) (escaped 0 kind.None 2) digit) h
+spelled_escape _ _ _ rest (null h) = ap (λ b. cond (not b) (escaped 0 writing.Plain 2) digit) h
 spelled_escape v _ _ rest (hexadecimal {a} {b} h) = pair_read a b v h
 spelled_escape v _ _ rest (four_digits {a} {b} {c} {d} h) = ap (λ o. unicode_behind o (a ∷ b ∷ c ∷ d ∷ rest)) h
 spelled_escape v _ _ rest (braced x xs h top) =
     ap (λ o. unicode_behind o (123 ∷ x ∷ (xs ++ 125 ∷ [] ++ rest))) (brace_no_four (x ∷ (xs ++ 125 ∷ [] ++ rest)))
     ∙ ap (λ w. digits_at 0 0 (x ∷ w)) (append_assoc xs (125 ∷ []) rest)
     ∙ run_again 0 0 (x ∷ xs) rest v h top (omega arith)
-    ∙ ap (escaped v kind.Unicode) (omega (arith, length-append xs (125 ∷ [])))
+    ∙ ap (escaped v writing.Unicode) (omega (arith, length-append xs (125 ∷ [])))
 spelled_escape c _ w rest (continuation t) = terminator_read c w rest t
 
 -- an escape that stands at the front, in n characters with its backslash
-pub record EscapeFront (v : ℕ) (k : EscapeKind) (n : ℕ) (w : List ℕ) : Type 0 where
+pub record EscapeFront (v : ℕ) (k : Writing) (n : ℕ) (w : List ℕ) : Type 0 where
   pub spelled : List ℕ
   pub rest : List ℕ
   pub spells : SpellsEscape v k spelled rest
   pub whole : w ≡ spelled ++ rest
   pub count : length spelled + 1 ≡ n
 
-give : {x v : ℕ} {j k : EscapeKind} {m n : ℕ} (s rest : List ℕ) → SpellsEscape x j s rest → length s + 1 ≡ m → escaped x j m ≡ escaped v k n → EscapeFront v k n (s ++ rest)
+give : {x v : ℕ} {j k : Writing} {m n : ℕ} (s rest : List ℕ) → SpellsEscape x j s rest → length s + 1 ≡ m → escaped x j m ≡ escaped v k n → EscapeFront v k n (s ++ rest)
 give {x} {v} {j} {k} {m} {n} s rest p l h = record {
   spelled = s;
   rest = rest;
@@ -118,21 +118,21 @@ give {x} {v} {j} {k} {m} {n} s rest p l h = record {
   count = l ∙ (let same : m ≡ n = cc h in same);
 }
 
-hex_found_pair : (a b : ℕ) (w : List ℕ) (v : ℕ) (k : EscapeKind) (n : ℕ) (o p : Option ℕ) → hex_digit_value a ≡ o → hex_digit_value b ≡ p → hex_pair o p ≡ escaped v k n → EscapeFront v k n (120 ∷ a ∷ b ∷ w)
+hex_found_pair : (a b : ℕ) (w : List ℕ) (v : ℕ) (k : Writing) (n : ℕ) (o p : Option ℕ) → hex_digit_value a ≡ o → hex_digit_value b ≡ p → hex_pair o p ≡ escaped v k n → EscapeFront v k n (120 ∷ a ∷ b ∷ w)
 hex_found_pair a b w v k n None p e f h = absurd (let no : ⊥ = cc h in no)
 hex_found_pair a b w v k n (Some i) None e f h = absurd (let no : ⊥ = cc h in no)
 hex_found_pair a b w v k n (Some i) (Some j) e f h = give (120 ∷ a ∷ b ∷ []) w (hexadecimal (grind (arith, e, f))) refl h
 
-hex_found_one : (v : ℕ) (k : EscapeKind) (n : ℕ) (o : Option ℕ) → hex_pair o None ≡ escaped v k n → ⊥
+hex_found_one : (v : ℕ) (k : Writing) (n : ℕ) (o : Option ℕ) → hex_pair o None ≡ escaped v k n → ⊥
 hex_found_one v k n None h = cc h
 hex_found_one v k n (Some i) h = cc h
 
-hex_found : (w : List ℕ) (v : ℕ) (k : EscapeKind) (n : ℕ) → hex_at w ≡ escaped v k n → EscapeFront v k n (120 ∷ w)
+hex_found : (w : List ℕ) (v : ℕ) (k : Writing) (n : ℕ) → hex_at w ≡ escaped v k n → EscapeFront v k n (120 ∷ w)
 hex_found [] v k n h = absurd (let no : ⊥ = cc h in no)
 hex_found (a ∷ []) v k n h = absurd (hex_found_one v k n (hex_digit_value a) h)
 hex_found (a ∷ b ∷ w) v k n h = hex_found_pair a b w v k n (hex_digit_value a) (hex_digit_value b) refl refl h
 
-braces_run : (x : ℕ) (xs : List ℕ) (v : ℕ) (k : EscapeKind) (n : ℕ) → x ≡ 123 → Run 0 0 xs v k n → EscapeFront v k n (117 ∷ x ∷ xs)
+braces_run : (x : ℕ) (xs : List ℕ) (v : ℕ) (k : Writing) (n : ℕ) → x ≡ 123 → Run 0 0 xs v k n → EscapeFront v k n (117 ∷ x ∷ xs)
 braces_run x xs v k n here r = go r.digits refl
   where
     go : (ds : List ℕ) → r.digits ≡ ds → EscapeFront v k n (117 ∷ x ∷ xs)
@@ -145,21 +145,21 @@ braces_run x xs v k n here r = go r.digits refl
       count = omega (arith, r.count_is, ap length e, length-append ys (125 ∷ []));
     }
 
-braces_found : (w : List ℕ) (v : ℕ) (k : EscapeKind) (n : ℕ) → braces_at w ≡ escaped v k n → EscapeFront v k n (117 ∷ w)
+braces_found : (w : List ℕ) (v : ℕ) (k : Writing) (n : ℕ) → braces_at w ≡ escaped v k n → EscapeFront v k n (117 ∷ w)
 braces_found [] v k n h = absurd (let no : ⊥ = cc h in no)
 braces_found (x ∷ xs) v k n h = elim (chosen (x == 123) h) [
   | inl p ↦ braces_run x xs v k n (eqb-true x 123 p.0) (run_found 0 0 xs v k n p.1)
   | inr p ↦ absurd (let no : ⊥ = cc p.1 in no)
 ]
 
-four_found : (w : List ℕ) (x v : ℕ) (k : EscapeKind) (n : ℕ) → four_at w ≡ Some x → escaped x kind.Unicode 6 ≡ escaped v k n → EscapeFront v k n (117 ∷ w)
+four_found : (w : List ℕ) (x v : ℕ) (k : Writing) (n : ℕ) → four_at w ≡ Some x → escaped x writing.Unicode 6 ≡ escaped v k n → EscapeFront v k n (117 ∷ w)
 four_found [] x v k n e h = absurd (let no : ⊥ = cc e in no)
 four_found (a ∷ []) x v k n e h = absurd (let no : ⊥ = cc e in no)
 four_found (a ∷ b ∷ []) x v k n e h = absurd (let no : ⊥ = cc e in no)
 four_found (a ∷ b ∷ c ∷ []) x v k n e h = absurd (let no : ⊥ = cc e in no)
 four_found (a ∷ b ∷ c ∷ d ∷ w) x v k n e h = give (117 ∷ a ∷ b ∷ c ∷ d ∷ []) w (four_digits e) refl h
 
-unicode_found : (w : List ℕ) (v : ℕ) (k : EscapeKind) (n : ℕ) (o : Option ℕ) → four_at w ≡ o → unicode_behind o w ≡ escaped v k n → EscapeFront v k n (117 ∷ w)
+unicode_found : (w : List ℕ) (v : ℕ) (k : Writing) (n : ℕ) (o : Option ℕ) → four_at w ≡ o → unicode_behind o w ≡ escaped v k n → EscapeFront v k n (117 ∷ w)
 unicode_found w v k n (Some x) e h = four_found w x v k n e h
 unicode_found w v k n None e h = braces_found w v k n h
 
@@ -204,17 +204,17 @@ line_front c w l false e = go (c == 13) refl
       count = refl;
     }
 
-line_found : (c : ℕ) (w : List ℕ) (v : ℕ) (k : EscapeKind) (n : ℕ) → is_line_terminator c ≡ true → line_behind c w ≡ escaped v k n → EscapeFront v k n (c ∷ w)
+line_found : (c : ℕ) (w : List ℕ) (v : ℕ) (k : Writing) (n : ℕ) → is_line_terminator c ≡ true → line_behind c w ≡ escaped v k n → EscapeFront v k n (c ∷ w)
 line_found c w v k n l h = go (c == 13 && front_is is_line_feed w) refl h
   where
-    go : (b : Bool) → (c == 13 && front_is is_line_feed w) ≡ b → cond b (escaped 10 kind.None 3) (escaped c kind.None 2) ≡ escaped v k n → EscapeFront v k n (c ∷ w)
+    go : (b : Bool) → (c == 13 && front_is is_line_feed w) ≡ b → cond b (escaped 10 writing.LineContinuation 3) (escaped c writing.LineContinuation 2) ≡ escaped v k n → EscapeFront v k n (c ∷ w)
     go true e h = let f = line_front c w l true e in subst (EscapeFront v k n) (sym f.whole) (give f.spelled f.rest (continuation f.spells) (ap (λ n. n + 1) f.count) h)
     go false e h = let f = line_front c w l false e in subst (EscapeFront v k n) (sym f.whole) (give f.spelled f.rest (continuation f.spells) (ap (λ n. n + 1) f.count) h)
 
 null_next : (c : ℕ) (w : List ℕ) → (c == 48 && not (front_is is_decimal_digit w)) ≡ true → (c ≡ 48) × (front_is is_decimal_digit w ≡ false)
 null_next c w h = let q = both (c == 48) _ h in (eqb-true c 48 q.0, not-true (front_is is_decimal_digit w) q.1)
 
-behind_found : (c : ℕ) (w : List ℕ) (v : ℕ) (k : EscapeKind) (n : ℕ) (o : Option ℕ) → single_escape_value c ≡ o → escape_behind o c w ≡ escaped v k n → EscapeFront v k n (c ∷ w)
+behind_found : (c : ℕ) (w : List ℕ) (v : ℕ) (k : Writing) (n : ℕ) (o : Option ℕ) → single_escape_value c ≡ o → escape_behind o c w ≡ escaped v k n → EscapeFront v k n (c ∷ w)
 behind_found c w v k n (Some x) e h = give (c ∷ []) w (single e) refl h
 behind_found c w v k n None e h = elim (chosen (is_decimal_digit c) h) [
   | inl p ↦ elim (chosen (c == 48 && not (front_is is_decimal_digit w)) p.1) [
@@ -234,7 +234,7 @@ behind_found c w v k n None e h = elim (chosen (is_decimal_digit c) h) [
 ]
 
 -- read → spelled
-pub escape_spelled : (v : ℕ) (k : EscapeKind) (n : ℕ) (w : List ℕ) → escape_at w ≡ escaped v k n → EscapeFront v k n w
+pub escape_spelled : (v : ℕ) (k : Writing) (n : ℕ) (w : List ℕ) → escape_at w ≡ escaped v k n → EscapeFront v k n w
 unfolding escape_at
 escape_spelled v k n [] h = absurd (let no : ⊥ = cc h in no)
 escape_spelled v k n (c ∷ w) h = behind_found c w v k n (single_escape_value c) refl h
@@ -283,13 +283,13 @@ unicode_passes w n None h = braces_pass w n h
 behind_passes : (c : ℕ) (w : List ℕ) (n : ℕ) (o : Option ℕ) → escape_behind o c w ≡ passes n → Passes n (c ∷ w)
 behind_passes c w n (Some x) h = absurd (let no : ⊥ = cc h in no)
 behind_passes c w n None h = elim (chosen (is_decimal_digit c) h) [
-  | inl p ↦ absurd (no_passes _ n (either_way NoPasses (c == 48 && not (front_is is_decimal_digit w)) (escaped 0 kind.None 2) digit refl refl) p.1)
+  | inl p ↦ absurd (no_passes _ n (either_way NoPasses (c == 48 && not (front_is is_decimal_digit w)) (escaped 0 writing.Plain 2) digit refl refl) p.1)
   | inr p ↦ elim (chosen (c == 120) p.1) [
     | inl q ↦ absurd (no_passes _ n (hex_read NoPasses (λ v k n. refl) (λ n. refl) w) q.1)
     | inr q ↦ elim (chosen (c == 117) q.1) [
       | inl r ↦ rw (eqb-true c 117 r.0) (unicode_passes w n (four_at w) r.1)
       | inr r ↦ elim (chosen (is_line_terminator c) r.1) [
-        | inl s ↦ absurd (no_passes _ n (either_way NoPasses (c == 13 && front_is is_line_feed w) (escaped 10 kind.None 3) (escaped c kind.None 2) refl refl) s.1)
+        | inl s ↦ absurd (no_passes _ n (either_way NoPasses (c == 13 && front_is is_line_feed w) (escaped 10 writing.LineContinuation 3) (escaped c writing.LineContinuation 2) refl refl) s.1)
         | inr s ↦ absurd (let no : ⊥ = cc s.1 in no)
       ]
     ]

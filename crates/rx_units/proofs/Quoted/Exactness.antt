@@ -1,9 +1,11 @@
 -- At most one fault stands in a string, and none in one that is decoded.
-use Rattle.std.proofs.Common.{◌≡◌, ℕ, ◌+◌, true, List, [], ◌∷◌, ◌++◌, length, take, Some, None, refl, sym, ap, ◌∙◌, arith, ◌⊎◌}
+use Rattle.std.proofs.Common.{◌≡◌, ℕ, ◌+◌, true, false, List, [], ◌∷◌, ◌++◌, length, take, refl, sym, ap, ◌∙◌, arith, ◌⊎◌}
 use Rattle.std.specs.Prelude.{Result, IfOk, IfErr, MatchResult}
 use Rattle.std.proofs.Math.Seq.{take-append_seam}
 use Rattle.rx_units.specs.declared.code_point.CodePoint.{CodePoint}
 use Rattle.rx_units.specs.declared.quoted_text.element.Element.{Element}
+use Rattle.rx_units.specs.declared.quoted_text.element.Writing.{Writing}
+use Rattle.rx_units.specs.declared.quoted_text.element.Writing.TheVariants as writing
 use Rattle.rx_units.specs.declared.quoted_text.literal.Literal.TheVariants as literals
 use Rattle.rx_units.specs.declared.options.Options.{Options}
 use Rattle.rx_units.specs.declared.string_literal_parser.LegacyKind.{LegacyKind}
@@ -12,11 +14,11 @@ use Rattle.rx_units.specs.declared.string_literal_parser.StringFault.TheVariants
 use Rattle.rx_units.specs.declared.string_literal_parser.StringLiteral.{StringLiteral}
 use Rattle.rx_units.specs.declared.string_literal_parser.StringLiteralKind.{StringLiteralKind}
 use Rattle.rx_units.specs.declared.string_literal_parser.StringLiteralKind.TheVariants as quotes
-use Rattle.rx_units.specs.Quoted.Answers.{IsStringOf, legacy_fault, string_fault_at}
+use Rattle.rx_units.specs.Quoted.Answers.{IsStringOf, string_element_fault, string_fault_at}
 use Rattle.rx_units.specs.Quoted.Elements.{quote_of}
 use Rattle.rx_units.specs.Quoted.Faults.{is_string_quote, NothingStands, PassesHex, IsStringFault, unopened, nothing, followed, legacy, too_large, from_to, empty_at}
 use Rattle.rx_units.specs.Quoted.Fronts as read
-use Rattle.rx_units.specs.Quoted.Texts.{Place, IsDecoded, byte_count}
+use Rattle.rx_units.specs.Quoted.Texts.{Place, IsDecoded, byte_count, is_refused}
 use Rattle.rx_units.proofs.Quoted.Fronts.{spelled_front, front_spelled, quote_front, closer_found, passes_front}
 use Rattle.rx_units.proofs.Quoted.Outcomes.{large_found}
 use Rattle.rx_units.proofs.Quoted.Rows.{IsStuck}
@@ -41,18 +43,18 @@ module _ (k : StringLiteralKind) (p : Place) where
   nothing_fault (read.too_large n) h s l = let x = large_found k p.rest n h in absurd (l x.digits x.over)
 
   -- in strict mode code a legacy escape is no element that is allowed
-  stuck_at_legacy : (o : Options) (e : Element) (n : ℕ) (what : LegacyKind) → read.front (literals.String k) p.rest ≡ read.element e n → o.strict_mode ≡ true → e.legacy ≡ Some what → IsStuck (literals.String k) o p
+  stuck_at_legacy : (o : Options) (e : Element) (n : ℕ) (what : LegacyKind) → read.front (literals.String k) p.rest ≡ read.element e n → o.strict_mode ≡ true → e.writing ≡ writing.Legacy what → IsStuck (literals.String k) o p
   stuck_at_legacy o e n what h strict is x v more g t allowed =
       let same : read.element x (length v) ≡ read.element e n = sym (spelled_front (literals.String k) x v more t) ∙ ap (read.front (literals.String k)) (sym g) ∙ h in
       let one : x ≡ e = cc same in
-      let no : None ≡ Some what = sym (allowed strict) ∙ ap (λ (e : Element). e.legacy) one ∙ is in
+      let no : true ≡ false = sym strict ∙ sym (ap (λ (e : Element). is_refused o e.writing) one ∙ ap (is_refused o) is) ∙ allowed in
       cc no
 
-  legacy_is : (e : Element) (w rest : List ℕ) (what : LegacyKind) → p.rest ≡ w ++ rest → e.legacy ≡ Some what
+  legacy_is : (e : Element) (w rest : List ℕ) (what : LegacyKind) → p.rest ≡ w ++ rest → e.writing ≡ writing.Legacy what
       → string_fault.LegacyInStrictMode what (from_to p.offset (p.offset + byte_count w)) ≡ fault_at (read.element e (length w)) p
   legacy_is e w rest what h is =
-      ap (λ m. legacy_fault m p.offset (p.offset + byte_count w)) (sym is)
-      ∙ ap (λ v. legacy_fault e.legacy p.offset (p.offset + byte_count v)) (sym (ap (take (length w)) h ∙ take-append_seam w rest))
+      ap (λ (m : Writing). string_element_fault m p.offset (p.offset + byte_count w)) (sym is)
+      ∙ ap (λ v. string_element_fault e.writing p.offset (p.offset + byte_count v)) (sym (ap (take (length w)) h ∙ take-append_seam w rest))
 
 module _ (o : Options) (text : List ℕ) where
   abbrev StringCause : StringFault → Type 0

@@ -3,14 +3,14 @@ use Rattle.std.proofs.Common.{◌≡◌, ℕ, suc, ◌+◌, ◌*◌, ◌^◌, �
 use Rattle.std.proofs.lemmas.Bool.{cond_both}
 use Rattle.rx_tables.specs.Characters.{hex_digit_value, is_decimal_digit}
 use Rattle.rx_units.specs.Characters.{is_line_terminator}
-use Rattle.rx_units.specs.declared.code_point.EscapeKind.TheVariants as kind
+use Rattle.rx_units.specs.declared.quoted_text.element.Writing.TheVariants as writing
 use Rattle.rx_units.specs.declared.quoted_text.found.Found.{Found}
 use Rattle.rx_units.specs.declared.quoted_text.literal.Literal.{Literal}
 use Rattle.rx_units.specs.declared.quoted_text.literal.Literal.TheVariants as literals
 use Rattle.rx_units.specs.declared.quoted_text.reading.Stop.{Stop}
 use Rattle.rx_units.specs.declared.string_literal_parser.StringLiteralKind.TheVariants as quotes
 use Rattle.rx_units.specs.Quoted.Escapes.{is_line_feed, single_escape_value}
-use Rattle.rx_units.specs.Quoted.Elements.{plain, is_open_brace}
+use Rattle.rx_units.specs.Quoted.Elements.{written, is_open_brace}
 use Rattle.rx_units.specs.Quoted.Found.{seen_front}
 use Rattle.rx_units.specs.Quoted.Fronts.{EscapeRead, escaped, digit, unended, no_hex, no_unicode, passes, Front, element, closer, nothing, substitution, invalid_hex, invalid_unicode, too_large, hex_pair, hex_at, four_at, digit_step, digits_at, braces_at, unicode_behind, line_behind, escape_behind, escape_at, string_escape, string_front, template_escape, raw_line, template_front, front}
 use Rattle.rx_units.specs.Quoted.Texts.{byte_count}
@@ -46,7 +46,7 @@ hex_extent (a ∷ b ∷ w) = let h = hex_two (hex_digit_value a) (hex_digit_valu
 
 step_extent : (o : Option ℕ) (n count x : ℕ) (xs : List ℕ) → ((m : ℕ) → read_extent (digits_at m (count + 1) xs) ≤ count + 4 + length xs) → read_extent (digit_step o n count x (λ m. digits_at m (count + 1) xs)) ≤ count + 4 + length xs
 step_extent (Some d) n count x xs again = either_way (ReadWithin (count + 4 + length xs)) (nat_lt (16 * n + d) (2 ^ 32)) (digits_at (16 * n + d) (count + 1) xs) (passes (count + 3)) (again (16 * n + d)) (omega arith)
-step_extent None n count x xs again = either_way (ReadWithin (count + 4 + length xs)) ((x == 125) && (nat_lt 0 count && nat_le n 0x10FFFF)) (escaped n kind.Unicode (count + 4)) (no_unicode (count + 3)) (omega arith) (omega arith)
+step_extent None n count x xs again = either_way (ReadWithin (count + 4 + length xs)) ((x == 125) && (nat_lt 0 count && nat_le n 0x10FFFF)) (escaped n writing.Unicode (count + 4)) (no_unicode (count + 3)) (omega arith) (omega arith)
 
 digits_extent : (n count : ℕ) (w : List ℕ) → read_extent (digits_at n count w) ≤ count + 3 + length w
 digits_extent n count [] = omega arith
@@ -72,21 +72,21 @@ feed_some (c ∷ w) h = omega arith
 
 line_extent : (c : ℕ) (w : List ℕ) → read_extent (line_behind c w) ≤ length w + 2
 line_extent c w =
-    cond_both (c == 13 && front_is is_line_feed w) (escaped 10 kind.None 3) (escaped c kind.None 2) (ReadWithin (length w + 2))
+    cond_both (c == 13 && front_is is_line_feed w) (escaped 10 writing.LineContinuation 3) (escaped c writing.LineContinuation 2) (ReadWithin (length w + 2))
     (λ h. let k = feed_some w (both (c == 13) _ h).1 in omega arith) (λ h. omega arith)
 
 behind_extent : (c : ℕ) (w : List ℕ) (o : Option ℕ) → read_extent (escape_behind o c w) ≤ length w + 2
 behind_extent c w (Some v) = omega arith
 behind_extent c w None =
     let m = length w + 2 in
-    let last = cond (is_line_terminator c) (line_behind c w) (escaped c kind.None 2) in
+    let last = cond (is_line_terminator c) (line_behind c w) (escaped c writing.Plain 2) in
     let by_u = cond (c == 117) (unicode_behind (four_at w) w) last in
     let by_x = cond (c == 120) (hex_at w) by_u in
-    either_way (ReadWithin m) (is_decimal_digit c) (cond (c == 48 && not (front_is is_decimal_digit w)) (escaped 0 kind.None 2) digit) by_x
-    (either_way (ReadWithin m) (c == 48 && not (front_is is_decimal_digit w)) (escaped 0 kind.None 2) digit (omega arith) (omega arith))
+    either_way (ReadWithin m) (is_decimal_digit c) (cond (c == 48 && not (front_is is_decimal_digit w)) (escaped 0 writing.Plain 2) digit) by_x
+    (either_way (ReadWithin m) (c == 48 && not (front_is is_decimal_digit w)) (escaped 0 writing.Plain 2) digit (omega arith) (omega arith))
     (either_way (ReadWithin m) (c == 120) (hex_at w) by_u (hex_extent w)
     (either_way (ReadWithin m) (c == 117) (unicode_behind (four_at w) w) last (unicode_extent w (four_at w) refl)
-    (either_way (ReadWithin m) (is_line_terminator c) (line_behind c w) (escaped c kind.None 2) (line_extent c w) (omega arith))))
+    (either_way (ReadWithin m) (is_line_terminator c) (line_behind c w) (escaped c writing.Plain 2) (line_extent c w) (omega arith))))
 
 escape_extent : (w : List ℕ) → read_extent (escape_at w) ≤ length w + 1
 unfolding escape_at
@@ -119,10 +119,10 @@ string_extent quote [] = omega arith
 string_extent quote (c ∷ w) =
     let e = string_escape_extent (escape_at w) w (escape_extent w) in
     let m = suc (length w) in
-    let last = cond (c == 13 || c == 10) (nothing 0) (element (plain c kind.None) 1) in
+    let last = cond (c == 13 || c == 10) (nothing 0) (element (written c writing.Plain) 1) in
     either_way (Within m) (c == quote) closer (cond (c == 92) (string_escape (escape_at w) w) last) (omega arith)
     (either_way (Within m) (c == 92) (string_escape (escape_at w) w) last (omega arith)
-    (either_way (Within m) (c == 13 || c == 10) (nothing 0) (element (plain c kind.None) 1) (omega arith) (omega arith)))
+    (either_way (Within m) (c == 13 || c == 10) (nothing 0) (element (written c writing.Plain) 1) (omega arith) (omega arith)))
 
 template_escape_extent : (r : EscapeRead) (w : List ℕ) → read_extent r ≤ length w + 1 → extent (template_escape r w) ≤ length w + 1
 template_escape_extent (escaped v k n) w h = omega arith
@@ -137,14 +137,14 @@ template_extent [] = omega arith
 template_extent (c ∷ w) =
     let e = template_escape_extent (escape_at w) w (escape_extent w) in
     let m = suc (length w) in
-    let own = element (plain c kind.None) 1 in
+    let own = element (written c writing.Plain) 1 in
     let last = cond (is_line_terminator c) (raw_line c w) own in
     let by_dollar = cond (c == 36) (cond (front_is is_open_brace w) substitution own) last in
     let by_backslash = cond (c == 92) (template_escape (escape_at w) w) by_dollar in
     either_way (Within m) (c == 96) closer by_backslash (omega arith)
     (either_way (Within m) (c == 92) (template_escape (escape_at w) w) by_dollar (omega arith)
     (either_way (Within m) (c == 36) (cond (front_is is_open_brace w) substitution own) last (either_way (Within m) (front_is is_open_brace w) substitution own (omega arith) (omega arith))
-    (either_way (Within m) (is_line_terminator c) (raw_line c w) own (either_way (Within m) (c == 13 && front_is is_line_feed w) (element (plain 10 kind.None) 2) own (omega arith) (omega arith)) (omega arith))))
+    (either_way (Within m) (is_line_terminator c) (raw_line c w) own (either_way (Within m) (c == 13 && front_is is_line_feed w) (element (written 10 writing.LineTerminator) 2) (element (written c writing.LineTerminator) 1) (omega arith) (omega arith)) (omega arith))))
 
 pub front_extent : (l : Literal) (us : List ℕ) → extent (front l us) ≤ length us
 unfolding front

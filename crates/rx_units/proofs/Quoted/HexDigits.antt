@@ -4,8 +4,8 @@ use Rattle.std.proofs.lemmas.Bool.Decides.{nat_tests}
 use Rattle.std.proofs.lemmas.Bool.{eqb-true, ltb-true, leb-true, lt-ltb, ltb-false, le-ltb}
 use Rattle.std.proofs.lemmas.Option.{option_and_then_some}
 use Rattle.rx_tables.specs.Characters.{hex_digit_value}
-use Rattle.rx_units.specs.declared.code_point.EscapeKind.{EscapeKind}
-use Rattle.rx_units.specs.declared.code_point.EscapeKind.TheVariants as kind
+use Rattle.rx_units.specs.declared.quoted_text.element.Writing.{Writing}
+use Rattle.rx_units.specs.declared.quoted_text.element.Writing.TheVariants as writing
 use Rattle.rx_units.specs.Quoted.Faults.{is_close_brace}
 use Rattle.rx_units.specs.Quoted.Fronts.{escaped, no_unicode, passes, digit_step, digits_at}
 use Rattle.rx_units.specs.Digits.{front_is, hex_behind, is_hex_digit}
@@ -13,7 +13,7 @@ use Rattle.rx_units.proofs.Choices.{chosen, both, is_none}
 use Rattle.rx_units.proofs.Digits.{hex_le}
 
 -- digits up to a brace
-pub record Run (n count : ℕ) (w : List ℕ) (v : ℕ) (k : EscapeKind) (m : ℕ) : Type 0 where
+pub record Run (n count : ℕ) (w : List ℕ) (v : ℕ) (k : Writing) (m : ℕ) : Type 0 where
   pub digits : List ℕ
   pub rest : List ℕ
   pub number : hex_behind n digits ≡ Some v
@@ -21,9 +21,9 @@ pub record Run (n count : ℕ) (w : List ℕ) (v : ℕ) (k : EscapeKind) (m : �
   pub top : v ≤ 0x10FFFF
   pub some : 0 < count + length digits
   pub count_is : m ≡ count + length digits + 4
-  pub kind_is : k ≡ kind.Unicode
+  pub kind_is : k ≡ writing.Unicode
 
-run_found_step : (n count x : ℕ) (xs : List ℕ) (v : ℕ) (k : EscapeKind) (m : ℕ) → ((j : ℕ) → digits_at j (count + 1) xs ≡ escaped v k m → Run j (count + 1) xs v k m) → (o : Option ℕ) → hex_digit_value x ≡ o
+run_found_step : (n count x : ℕ) (xs : List ℕ) (v : ℕ) (k : Writing) (m : ℕ) → ((j : ℕ) → digits_at j (count + 1) xs ≡ escaped v k m → Run j (count + 1) xs v k m) → (o : Option ℕ) → hex_digit_value x ≡ o
     → digit_step o n count x (λ j. digits_at j (count + 1) xs) ≡ escaped v k m → Run n count (x ∷ xs) v k m
 run_found_step n count x xs v k m again (Some d) e h = elim (chosen (nat_lt (16 * n + d) (2 ^ 32)) h) [
   | inl p ↦ let r = again (16 * n + d) p.1 in record {
@@ -51,16 +51,16 @@ run_found_step n count x xs v k m again None e h = elim (chosen ((x == 125) && (
         top = omega (arith, ltb-true 0 count r.0, leb-true n 0x10FFFF r.1);
         some = omega (arith, ltb-true 0 count r.0, leb-true n 0x10FFFF r.1);
         count_is = omega arith;
-        kind_is = let j : kind.Unicode ≡ k = cc p.1 in sym j;
+        kind_is = let j : writing.Unicode ≡ k = cc p.1 in sym j;
       }
   | inr p ↦ absurd (let no : ⊥ = cc p.1 in no)
 ]
 
-pub run_found : (n count : ℕ) (w : List ℕ) (v : ℕ) (k : EscapeKind) (m : ℕ) → digits_at n count w ≡ escaped v k m → Run n count w v k m
+pub run_found : (n count : ℕ) (w : List ℕ) (v : ℕ) (k : Writing) (m : ℕ) → digits_at n count w ≡ escaped v k m → Run n count w v k m
 run_found n count [] v k m h = absurd (let no : ⊥ = cc h in no)
 run_found n count (x ∷ xs) v k m h = run_found_step n count x xs v k m (λ j. run_found j (count + 1) xs v k m) (hex_digit_value x) refl h
 
-pub run_again : (n count : ℕ) (ds rest : List ℕ) (v : ℕ) → hex_behind n ds ≡ Some v → v ≤ 0x10FFFF → 0 < count + length ds → digits_at n count (ds ++ 125 ∷ rest) ≡ escaped v kind.Unicode (count + length ds + 4)
+pub run_again : (n count : ℕ) (ds rest : List ℕ) (v : ℕ) → hex_behind n ds ≡ Some v → v ≤ 0x10FFFF → 0 < count + length ds → digits_at n count (ds ++ 125 ∷ rest) ≡ escaped v writing.Unicode (count + length ds + 4)
 run_again n count [] rest v h top some =
     let e : n ≡ v = cc h in
     grind (arith, nat_tests)
@@ -70,7 +70,7 @@ run_again n count (x ∷ ds) rest v h top some =
     let i = run_again (16 * n + d) (count + 1) ds rest v f top (omega arith) in
     ap (λ o. digit_step o n count x (λ m. digits_at m (count + 1) (ds ++ 125 ∷ rest))) e
     ∙ ap (λ b. cond b (digits_at (16 * n + d) (count + 1) (ds ++ 125 ∷ rest)) (passes (count + 3))) (lt-ltb _ _ (let l : 16 * n + d < 2 ^ 32 = omega arith in l))
-    ∙ i ∙ ap (escaped v kind.Unicode) (omega arith))
+    ∙ i ∙ ap (escaped v writing.Unicode) (omega arith))
 
 -- digits that pass the limit
 pub record Over (n count : ℕ) (w : List ℕ) (m : ℕ) : Type 0 where
@@ -218,7 +218,7 @@ no_run_again n count [] (x ∷ xs) number h low all wrong =
     let same : n ≡ number = cc h in
     let fails = brace_fails x count n (λ some top. wrong (omega (arith, some)) (omega (arith, top, same))) in
     ap (λ o. digit_step o n count x (λ m. digits_at m (count + 1) xs)) (is_none (hex_digit_value x) all)
-    ∙ ap (λ b. cond b (escaped n kind.Unicode (count + 4)) (no_unicode (count + 3))) fails
+    ∙ ap (λ b. cond b (escaped n writing.Unicode (count + 4)) (no_unicode (count + 3))) fails
     ∙ ap no_unicode (omega arith)
 no_run_again n count (y ∷ ds) rest number h low all wrong =
     option_and_then_some (λ d. hex_behind (16 * n + d) ds) (hex_digit_value y) number h (λ d f g.

@@ -1,22 +1,27 @@
 -- What stands where reading stops, against what is decoded and against the faults.
-use Rattle.std.proofs.Common.{◌≡◌, ℕ, ◌+◌, ◌==◌, Bool, true, false, is_some, ◌&&◌, ◌||◌, List, [], ◌∷◌, length, take, drop, Option, Some, None, refl, sym, ap, ◌∙◌, subst, arith, inl, inr}
+use Rattle.std.proofs.Common.{◌≡◌, ℕ, ◌+◌, ◌==◌, Bool, true, false, ◌&&◌, ◌||◌, List, [], ◌∷◌, length, take, drop, refl, sym, ap, ◌∙◌, subst, arith, inl, inr}
 use Rattle.std.proofs.lemmas.Bool.{eqb-true}
 use Rattle.rx_units.specs.declared.code_point.CodePoint.{CodePoint}
 use Rattle.rx_units.specs.declared.quoted_text.element.Element.{Element}
+use Rattle.rx_units.specs.declared.quoted_text.element.Writing.{Writing}
+use Rattle.rx_units.specs.declared.quoted_text.element.Writing.TheVariants as writing
+use Rattle.rx_units.specs.declared.string_literal_parser.LegacyKind.{LegacyKind}
+use Rattle.rx_units.specs.declared.string_literal_parser.LegacyKind.TheVariants as legacy_kind
 use Rattle.rx_units.specs.declared.quoted_text.literal.Literal.{Literal}
 use Rattle.rx_units.specs.declared.quoted_text.literal.Literal.TheVariants as literals
 use Rattle.rx_units.specs.declared.options.Options.{Options}
 use Rattle.rx_units.specs.declared.quoted_text.reading.Stop.{Stop}
-use Rattle.rx_units.specs.declared.string_literal_parser.LegacyKind.{LegacyKind}
 use Rattle.rx_units.specs.declared.string_literal_parser.StringLiteralKind.{StringLiteralKind}
 use Rattle.rx_units.specs.declared.string_literal_parser.StringLiteralKind.TheVariants as quotes
-use Rattle.rx_units.specs.Quoted.Answers.{IsStop, legacy_fault, string_fault_at}
-use Rattle.rx_units.specs.Quoted.Elements.{quote_of}
+use Rattle.rx_units.specs.Quoted.Answers.{IsStop, string_element_fault, string_fault_at}
+use Rattle.rx_units.specs.Quoted.Elements.{quote_of, SpellsElement, SpellsInString, character, escape, octal_zero, octal1, octal2_low, octal2_high, octal3, non_octal}
+use Rattle.rx_units.specs.Quoted.Escapes.{SpellsEscape, single, non_escape, null, hexadecimal, four_digits, braced, continuation}
 use Rattle.rx_units.specs.Quoted.Faults.{PassesHex, IsStringFault, nothing, followed, legacy, too_large, from_to}
 use Rattle.rx_units.specs.declared.string_literal_parser.StringFault.TheVariants as string_fault
 use Rattle.rx_units.specs.Quoted.Found.{is_closer, seen_front}
 use Rattle.rx_units.specs.Quoted.Fronts as read
-use Rattle.rx_units.specs.Quoted.Texts.{Given, Place, IsReached, IsDecoded, byte_count}
+use Rattle.rx_units.specs.Quoted.Texts.{Given, Place, IsReached, IsDecoded, byte_count, is_refused}
+use Rattle.rx_units.specs.Quoted.Values.{text_units}
 use Rattle.rx_units.proofs.Quoted.Escapes.{Passes, passes_found}
 use Rattle.rx_units.proofs.Quoted.Fronts.{closer_found, nothing_stands, passes_front}
 use Rattle.rx_units.proofs.Quoted.ReadForms.{legacy_read}
@@ -78,11 +83,48 @@ followed_there l us h no_end = let found = closer_found l us h in go found.0 fou
     go [] e = let no : true ≡ false = sym (ap (λ us. length us == 1) e) ∙ no_end in absurd (let k : ⊥ = cc no in k)
     go (c ∷ cs) e = (c, cs, e)
 
+-- An escape that strings and templates share is allowed.
+pub escape_allowed : (o : Options) (v : ℕ) (k : Writing) (w rest : List ℕ) → SpellsEscape v k w rest → is_refused o k ≡ false
+escape_allowed o v _ _ rest (single h) = refl
+escape_allowed o v _ _ rest (non_escape h) = refl
+escape_allowed o _ _ _ rest (null h) = refl
+escape_allowed o v _ _ rest (hexadecimal h) = refl
+escape_allowed o v _ _ rest (four_digits h) = refl
+escape_allowed o v _ _ rest (braced x xs h top) = refl
+escape_allowed o v _ w rest (continuation t) = refl
+
+-- a legacy escape in strict mode code
+record StrictLegacy (o : Options) (e : Element) : Type 0 where
+  what : LegacyKind
+  strict : o.strict_mode ≡ true
+  is : e.writing ≡ writing.Legacy what
+
+pub allowed_refused : {A : Type 0} {b : Bool} → b ≡ false → b ≡ true → A
+allowed_refused h k = let no : false ≡ true = sym h ∙ k in absurd (let n : ⊥ = cc no in n)
+
+-- What is not allowed in a string is one.
+string_refused : (o : Options) (quote : ℕ) (e : Element) (w rest : List ℕ) → SpellsInString quote e w rest → is_refused o e.writing ≡ true → StrictLegacy o e
+string_refused o quote _ _ rest (character h) r = allowed_refused refl r
+string_refused o quote _ _ rest (escape {v} {k} {w} p) r = allowed_refused (escape_allowed o v k w rest p) r
+string_refused o quote _ _ rest (octal_zero h) r = record { what = legacy_kind.Octal; strict = r; is = refl }
+string_refused o quote _ _ rest (octal1 h k) r = record { what = legacy_kind.Octal; strict = r; is = refl }
+string_refused o quote _ _ rest (octal2_low h k l) r = record { what = legacy_kind.Octal; strict = r; is = refl }
+string_refused o quote _ _ rest (octal2_high h k) r = record { what = legacy_kind.Octal; strict = r; is = refl }
+string_refused o quote _ _ rest (octal3 h k l) r = record { what = legacy_kind.Octal; strict = r; is = refl }
+string_refused o quote _ _ rest (non_octal h) r = record { what = legacy_kind.NonOctalDecimal; strict = r; is = refl }
+
+each_refused : (o : Options) (k : StringLiteralKind) (e : Element) (w rest : List ℕ) → SpellsElement (literals.String k) e w rest → is_refused o e.writing ≡ true → StrictLegacy o e
+each_refused o quotes.Double e w rest s r = string_refused o 34 e w rest s r
+each_refused o quotes.Single e w rest s r = string_refused o 39 e w rest s r
+
 module _ (k : StringLiteralKind) (o : Options) (text : List ℕ) (p : Place) (reached : IsReached (literals.String k) o text p) where
-  legacy_stands : (e : Element) (n : ℕ) → read.front (literals.String k) p.rest ≡ read.element e n → o.strict_mode ≡ true → (m : Option LegacyKind) → e.legacy ≡ m → is_some m ≡ true
-      → IsStringFault o text (legacy_fault m p.offset (p.offset + byte_count (take n p.rest)))
-  legacy_stands e n h strict (Some what) is some = let t = taken (literals.String k) p.rest e n h in legacy e (take n p.rest) (drop n p.rest) reached t.whole t.spells strict is
-  legacy_stands e n h strict None is some = absurd (let no : ⊥ = cc some in no)
+  refused_stands : (e : Element) (n : ℕ) → read.front (literals.String k) p.rest ≡ read.element e n → is_refused o e.writing ≡ true
+      → IsStringFault o text (string_element_fault e.writing p.offset (p.offset + byte_count (take n p.rest)))
+  refused_stands e n h r =
+      let t = taken (literals.String k) p.rest e n h in
+      let l = each_refused o k e (take n p.rest) (drop n p.rest) t.spells r in
+      subst (λ (m : Writing). IsStringFault o text (string_element_fault m p.offset (p.offset + byte_count (take n p.rest)))) (sym l.is)
+      (legacy e (take n p.rest) (drop n p.rest) reached t.whole t.spells l.strict l.is)
 
   large_stands : (n : ℕ) → Large n p.rest → IsStringFault o text (string_fault.TooLargeUnicodeEscapeSequence (from_to p.offset (p.offset + n)))
   large_stands n l =
@@ -97,9 +139,9 @@ module _ (k : StringLiteralKind) (o : Options) (text : List ℕ) (p : Place) (re
 
   -- where a string is not decoded, its fault stands
   pub string_fault_stands : (f : read.Front) → f ≡ read.front (literals.String k) p.rest
-      → ((e : Element) (n : ℕ) → read.front (literals.String k) p.rest ≡ read.element e n → (o.strict_mode ≡ true) × (is_some e.legacy ≡ true))
+      → ((e : Element) (n : ℕ) → read.front (literals.String k) p.rest ≡ read.element e n → is_refused o e.writing ≡ true)
       → (is_closer f && (length p.rest == 1)) ≡ false → IsStringFault o text (string_fault_at f p.offset p.rest)
-  string_fault_stands (read.element e n) h ends no_end = let x = ends e n (sym h) in legacy_stands e n (sym h) x.0 e.legacy refl x.1
+  string_fault_stands (read.element e n) h ends no_end = refused_stands e n (sym h) (ends e n (sym h))
   string_fault_stands read.closer h ends no_end = let c = followed_there (literals.String k) p.rest (sym h) no_end in followed reached c.2
   string_fault_stands (read.nothing n) h ends no_end = nothing_here (read.nothing n) h (λ e n x. let no : ⊥ = cc x in no) (λ x. let no : ⊥ = cc x in no) (λ n x. let no : ⊥ = cc x in no)
   string_fault_stands read.substitution h ends no_end = nothing_here read.substitution h (λ e n x. let no : ⊥ = cc x in no) (λ x. let no : ⊥ = cc x in no) (λ n x. let no : ⊥ = cc x in no)
@@ -131,7 +173,7 @@ stop_reached l o text inner stop h s = record {
 
 -- a text that ends where reading stops is decoded
 pub decoded_there : (l : Literal) (o : Options) (text inner : List ℕ) (stop : Stop) → text ≡ quote_of l ∷ inner → IsStop l o inner stop
-    → (is_closer (seen_front stop.found) && (length stop.rest.now == 1)) ≡ true → IsDecoded l o text stop.units
+    → (is_closer (seen_front stop.found) && (length stop.rest.now == 1)) ≡ true → IsDecoded l o text (text_units o stop.units)
 decoded_there l o text inner stop h s end = record {
   last = place stop.units stop.offset stop.rest.now;
   reached = stop_reached l o text inner stop h s;

@@ -9,6 +9,7 @@ use Rattle.rx_units.specs.declared.string_literal_parser.StringLiteralKind.TheVa
 use Rattle.rx_units.specs.Quoted.Escapes.{SpellsTerminator, alone, carriage_return, carriage_return_line_feed}
 use Rattle.rx_units.specs.Quoted.Elements.{quote_of, SpellsElement, SpellsInString, SpellsInTemplate, character, escape, octal_zero, octal1, octal2_low, octal2_high, octal3, non_octal, dollar, terminator, zero_digit, digit}
 use Rattle.rx_units.specs.Quoted.Fronts.{element, closer, front}
+use Rattle.rx_units.specs.Quoted.Values.{text_units}
 use Rattle.rx_units.specs.Quoted.Texts.{Place, behind, IsAllowed, Leads, no_element, one_more, opened, IsReached, IsDecoded}
 use Rattle.rx_units.proofs.Quoted.Fronts.{spelled_front, quote_front}
 
@@ -76,7 +77,7 @@ module _ (l : Literal) (o : Options) where
     rest : List ℕ
     whole : from.rest ≡ w ++ rest
     spells : SpellsElement l e w rest
-    allowed : IsAllowed o.strict_mode e
+    allowed : IsAllowed o e
     more : Leads l o (behind o from e w rest) q
 
   first_step : {from q : Place} → Leads l o from q → (from ≡ q) ⊎ FirstStep from q
@@ -104,7 +105,7 @@ module _ (l : Literal) (o : Options) where
 
   -- no element that is allowed stands at a place
   abbrev pub IsStuck : Place → Type 0
-  IsStuck p = (e : Element) (w rest : List ℕ) → p.rest ≡ w ++ rest → SpellsElement l e w rest → IsAllowed o.strict_mode e → ⊥
+  IsStuck p = (e : Element) (w rest : List ℕ) → p.rest ≡ w ++ rest → SpellsElement l e w rest → IsAllowed o e → ⊥
 
   same_step : {p q : Place} (e : Element) (w rest : List ℕ) → p.rest ≡ w ++ rest → SpellsElement l e w rest → FirstStep p q → Leads l o (behind o p e w rest) q
   same_step {p} {q} e w rest h s f =
@@ -145,4 +146,4 @@ module _ (l : Literal) (o : Options) where
   pub one_decoding : (text : List ℕ) (us vs : List CodePoint) → IsDecoded l o text us → IsDecoded l o text vs → us ≡ vs
   one_decoding text us vs a b =
       let same = one_reached text a.last b.last a.reached b.reached (stuck_at_quote a.last [] a.closes) (stuck_at_quote b.last [] b.closes) in
-      a.units_are ∙ ap (λ (p : Place). p.units) same ∙ sym b.units_are
+      a.units_are ∙ ap (λ (p : Place). text_units o p.units) same ∙ sym b.units_are

@@ -4,10 +4,11 @@ use Rattle.std.proofs.lemmas.Bool.Decides.{nat_tests}
 use Rattle.std.proofs.lemmas.Bool.{eqb-true, cond-false, cases_Bool}
 use Rattle.std.proofs.Math.Bool.{and-false}
 use Rattle.rx_tables.specs.Characters.{is_octal_digit, is_within, is_decimal_digit}
-use Rattle.rx_units.specs.declared.code_point.EscapeKind.{EscapeKind}
+use Rattle.rx_units.specs.declared.quoted_text.element.Writing.{Writing}
+use Rattle.rx_units.specs.declared.quoted_text.element.Writing.TheVariants as writing
 use Rattle.rx_units.specs.declared.quoted_text.element.Element.{Element}
 use Rattle.rx_units.specs.declared.string_literal_parser.LegacyKind.TheVariants as legacy_kind
-use Rattle.rx_units.specs.Quoted.Elements.{plain, old, is_string_character, SpellsInString, character, escape, octal_zero, octal1, octal2_low, octal2_high, octal3, non_octal}
+use Rattle.rx_units.specs.Quoted.Elements.{written, is_string_character, SpellsInString, character, escape, octal_zero, octal1, octal2_low, octal2_high, octal3, non_octal}
 use Rattle.rx_units.specs.Quoted.Fronts.{EscapeRead, escaped, digit, unended, no_hex, no_unicode, passes, element, escape_at, octal_at, legacy_at, string_escape, string_front}
 use Rattle.rx_units.proofs.Quoted.Escapes.{EscapeFront, escape_spelled, spelled_escape}
 use Rattle.rx_units.proofs.Quoted.EscapeDigits.{BeginsWithDigit, digit_escape, digit_found}
@@ -27,7 +28,7 @@ module _ (quote : ℕ) (apart : (92 == quote) ≡ false) where
   legacy_read : (c : ℕ) (w : List ℕ) → Legacy c w → string_front quote (92 ∷ c ∷ w) ≡ legacy_at (c ∷ w)
   legacy_read c w l = at_backslash (c ∷ w) digit (digit_escape c w l.is_digit l.no_null)
 
-  zero_row : (rest : List ℕ) → front_is (is_within 56 57) rest ≡ true → (Legacy 48 rest) × (octal_at 48 rest ≡ element (old legacy_kind.Octal 0) 2)
+  zero_row : (rest : List ℕ) → front_is (is_within 56 57) rest ≡ true → (Legacy 48 rest) × (octal_at 48 rest ≡ element (written 0 (writing.Legacy legacy_kind.Octal)) 2)
   zero_row [] h = absurd (let no : ⊥ = cc h in no)
   zero_row (d ∷ []) h = (
     record {
@@ -44,23 +45,23 @@ module _ (quote : ℕ) (apart : (92 == quote) ≡ false) where
     grind (arith, nat_tests),
   )
 
-  one_row : (c : ℕ) (rest : List ℕ) → is_within 49 55 c ≡ true → front_is is_octal_digit rest ≡ false → legacy_at (c ∷ rest) ≡ element (old legacy_kind.Octal (octal c)) 2
+  one_row : (c : ℕ) (rest : List ℕ) → is_within 49 55 c ≡ true → front_is is_octal_digit rest ≡ false → legacy_at (c ∷ rest) ≡ element (written (octal c) (writing.Legacy legacy_kind.Octal)) 2
   one_row c [] h k = grind (arith, nat_tests)
   one_row c (d ∷ []) h k = grind (arith, nat_tests)
   one_row c (d ∷ f ∷ rest) h k = grind (arith, nat_tests)
 
-  two_low_row : (c d : ℕ) (rest : List ℕ) → is_within 48 51 c ≡ true → is_octal_digit d ≡ true → front_is is_octal_digit rest ≡ false → legacy_at (c ∷ d ∷ rest) ≡ element (old legacy_kind.Octal (8 * octal c + octal d)) 3
+  two_low_row : (c d : ℕ) (rest : List ℕ) → is_within 48 51 c ≡ true → is_octal_digit d ≡ true → front_is is_octal_digit rest ≡ false → legacy_at (c ∷ d ∷ rest) ≡ element (written (8 * octal c + octal d) (writing.Legacy legacy_kind.Octal)) 3
   two_low_row c d [] h k n = grind (arith, nat_tests)
   two_low_row c d (f ∷ rest) h k n = grind (arith, nat_tests)
 
-  two_high_row : (c d : ℕ) (rest : List ℕ) → is_within 52 55 c ≡ true → is_octal_digit d ≡ true → legacy_at (c ∷ d ∷ rest) ≡ element (old legacy_kind.Octal (8 * octal c + octal d)) 3
+  two_high_row : (c d : ℕ) (rest : List ℕ) → is_within 52 55 c ≡ true → is_octal_digit d ≡ true → legacy_at (c ∷ d ∷ rest) ≡ element (written (8 * octal c + octal d) (writing.Legacy legacy_kind.Octal)) 3
   two_high_row c d [] h k = grind (arith, nat_tests)
   two_high_row c d (f ∷ rest) h k = grind (arith, nat_tests)
 
-  three_row : (c d f : ℕ) (rest : List ℕ) → is_within 48 51 c ≡ true → is_octal_digit d ≡ true → is_octal_digit f ≡ true → legacy_at (c ∷ d ∷ f ∷ rest) ≡ element (old legacy_kind.Octal (64 * octal c + 8 * octal d + octal f)) 4
+  three_row : (c d f : ℕ) (rest : List ℕ) → is_within 48 51 c ≡ true → is_octal_digit d ≡ true → is_octal_digit f ≡ true → legacy_at (c ∷ d ∷ f ∷ rest) ≡ element (written (64 * octal c + 8 * octal d + octal f) (writing.Legacy legacy_kind.Octal)) 4
   three_row c d f rest h k l = grind (arith, nat_tests)
 
-  last_row : (c : ℕ) (rest : List ℕ) → is_within 56 57 c ≡ true → legacy_at (c ∷ rest) ≡ element (old legacy_kind.NonOctalDecimal c) 2
+  last_row : (c : ℕ) (rest : List ℕ) → is_within 56 57 c ≡ true → legacy_at (c ∷ rest) ≡ element (written c (writing.Legacy legacy_kind.NonOctalDecimal)) 2
   last_row c rest h = grind (arith, nat_tests)
 
   digit_there : (c : ℕ) (w : List ℕ) → is_within 49 57 c ≡ true → Legacy c w
@@ -94,7 +95,7 @@ module _ (quote : ℕ) (apart : (92 == quote) ≡ false) where
   -- spelled → read
   pub spelled_string : (e : Element) (w rest : List ℕ) → SpellsInString quote e w rest → string_front quote (w ++ rest) ≡ element e (length w)
   spelled_string _ _ rest (character {c} h) = let p = is_plain c h in cond-false _ _ _ p.no_quote ∙ cond-false _ _ _ p.no_backslash ∙ cond-false _ _ _ p.no_line
-  spelled_string _ _ rest (escape {v} {k} {w} p) = at_backslash (w ++ rest) (escaped v k (length w + 1)) (spelled_escape v k w rest p) ∙ ap (element (plain v k)) (omega arith)
+  spelled_string _ _ rest (escape {v} {k} {w} p) = at_backslash (w ++ rest) (escaped v k (length w + 1)) (spelled_escape v k w rest p) ∙ ap (element (written v k)) (omega arith)
   spelled_string _ _ rest (octal_zero h) = let z = zero_row rest h in legacy_read 48 rest z.0 ∙ z.1
   spelled_string _ _ rest (octal1 {c} h k) = legacy_read c rest (digit_there c rest (grind (arith, nat_tests))) ∙ one_row c rest h k
   spelled_string _ _ rest (octal2_low {c} {d} h k n) = legacy_read c (d ∷ rest) (pair_there c d rest (grind (arith, nat_tests)) k) ∙ two_low_row c d rest h k n
@@ -120,15 +121,15 @@ module _ (quote : ℕ) (apart : (92 == quote) ≡ false) where
   }
 
   one_digit : (c : ℕ) (w : List ℕ) (e : Element) (n : ℕ) → is_octal_digit c ≡ true → (c == 48 && not (front_is is_decimal_digit w)) ≡ false → front_is is_octal_digit w ≡ false
-      → element (old legacy_kind.Octal (octal c)) 2 ≡ element e n → StringFront e n (92 ∷ c ∷ w)
+      → element (written (octal c) (writing.Legacy legacy_kind.Octal)) 2 ≡ element e n → StringFront e n (92 ∷ c ∷ w)
   one_digit c w e n o z x h = elim (cases_Bool (c == 48)) [
     | inl s ↦ subst (λ c. StringFront e n (92 ∷ c ∷ w)) (sym (eqb-true c 48 s))
-        (give (92 ∷ 48 ∷ []) w (octal_zero (zero_next c w s z x)) refl (ap (λ (c : ℕ). element (old legacy_kind.Octal (octal c)) 2) (sym (eqb-true c 48 s)) ∙ h))
+        (give (92 ∷ 48 ∷ []) w (octal_zero (zero_next c w s z x)) refl (ap (λ (c : ℕ). element (written (octal c) (writing.Legacy legacy_kind.Octal)) 2) (sym (eqb-true c 48 s)) ∙ h))
     | inr s ↦ give (92 ∷ c ∷ []) w (octal1 (nonzero_octal c o s) x) refl h
   ]
 
   two_digits : (c d : ℕ) (w : List ℕ) (e : Element) (n : ℕ) → is_octal_digit c ≡ true → is_octal_digit d ≡ true → (is_within 48 51 c && front_is is_octal_digit w) ≡ false
-      → element (old legacy_kind.Octal (8 * octal c + octal d)) 3 ≡ element e n → StringFront e n (92 ∷ c ∷ d ∷ w)
+      → element (written (8 * octal c + octal d) (writing.Legacy legacy_kind.Octal)) 3 ≡ element e n → StringFront e n (92 ∷ c ∷ d ∷ w)
   two_digits c d w e n o p z h = elim (cases_Bool (is_within 48 51 c)) [
     | inl s ↦ give (92 ∷ c ∷ d ∷ []) w (octal2_low s p (low_next _ _ s z)) refl h
     | inr s ↦ give (92 ∷ c ∷ d ∷ []) w (octal2_high (high_octal c o s) p) refl h
@@ -157,7 +158,7 @@ module _ (quote : ℕ) (apart : (92 == quote) ≡ false) where
     | inr p ↦ give (92 ∷ d.c ∷ []) d.rest (non_octal (is_last d.c d.is_digit p.0)) refl p.1
   ])
 
-  escape_in_string : (v m : ℕ) (w : List ℕ) (k : EscapeKind) (e : Element) (n : ℕ) → EscapeFront v k m w → element (plain v k) m ≡ element e n → StringFront e n (92 ∷ w)
+  escape_in_string : (v m : ℕ) (w : List ℕ) (k : Writing) (e : Element) (n : ℕ) → EscapeFront v k m w → element (written v k) m ≡ element e n → StringFront e n (92 ∷ w)
   escape_in_string v m w k e n f h = subst (λ w. StringFront e n (92 ∷ w)) (sym f.whole) (give (92 ∷ f.spelled) f.rest (escape f.spells) (omega (arith, f.count)) h)
 
   escape_found : (w : List ℕ) (e : Element) (n : ℕ) (r : EscapeRead) → escape_at w ≡ r → string_escape r w ≡ element e n → StringFront e n (92 ∷ w)

@@ -1,27 +1,46 @@
 -- At most one fault stands in a template, and none in one that is decoded.
-use Rattle.std.proofs.Common.{◌≡◌, ℕ, ◌+◌, false, List, ◌∷◌, length, refl, sym, ap, ◌∙◌, arith, ◌⊎◌}
+use Rattle.std.proofs.Common.{◌≡◌, ℕ, ◌+◌, true, false, List, ◌∷◌, ◌++◌, length, take, refl, sym, ap, ◌∙◌, arith, ◌⊎◌}
 use Rattle.std.specs.Prelude.{Result, IfOk, IfErr, MatchResult}
+use Rattle.std.proofs.Math.Seq.{take-append_seam}
 use Rattle.rx_units.specs.declared.code_point.CodePoint.{CodePoint}
+use Rattle.rx_units.specs.declared.quoted_text.element.Element.{Element}
+use Rattle.rx_units.specs.declared.quoted_text.element.Writing.{Writing}
+use Rattle.rx_units.specs.declared.quoted_text.element.Writing.TheVariants as writing
 use Rattle.rx_units.specs.declared.quoted_text.literal.Literal.TheVariants as literals
 use Rattle.rx_units.specs.declared.options.Options.{Options}
 use Rattle.rx_units.specs.declared.template_literal_parser.TemplateFault.{TemplateFault}
 use Rattle.rx_units.specs.declared.template_literal_parser.TemplateFault.TheVariants as template_fault
 use Rattle.rx_units.specs.declared.template_literal_parser.TemplateLiteral.{TemplateLiteral}
-use Rattle.rx_units.specs.Quoted.Answers.{IsTemplateOf, template_fault_at}
-use Rattle.rx_units.specs.Quoted.Faults.{is_grave_accent, IsTemplateFault, unopened, ends, ends_escape, followed, substitution, no_hex_digit, one_hex_digit, no_four_digits, no_code_point, too_large, from_to, empty_at}
+use Rattle.rx_units.specs.Quoted.Answers.{IsTemplateOf, template_element_fault, template_fault_at}
+use Rattle.rx_units.specs.Quoted.Faults.{is_grave_accent, IsTemplateFault, unopened, ends, ends_escape, followed, substitution, not_escape, no_hex_digit, one_hex_digit, no_four_digits, no_code_point, too_large, from_to, empty_at}
 use Rattle.rx_units.specs.Quoted.Found.{is_closer}
 use Rattle.rx_units.specs.Quoted.Fronts as read
-use Rattle.rx_units.specs.Quoted.Texts.{Place, IsReached, IsDecoded}
-use Rattle.rx_units.proofs.Quoted.Fronts.{quote_front, passes_front}
-use Rattle.rx_units.proofs.Quoted.Stops.{Cause, outside, inside, is_element, one_cause, no_cause, stops_without, stops_followed, answers_right, answers_fault}
+use Rattle.rx_units.specs.Quoted.Texts.{Place, IsReached, IsDecoded, byte_count, is_refused}
+use Rattle.rx_units.proofs.Quoted.Fronts.{quote_front, passes_front, spelled_front}
+use Rattle.rx_units.proofs.Quoted.Rows.{IsStuck}
+use Rattle.rx_units.proofs.Quoted.Stops.{Cause, outside, inside, is_element, one_cause, no_cause, without_closer, stops_without, stops_followed, answers_right, answers_fault}
 use Rattle.rx_units.proofs.Quoted.TemplateFaultFronts.{end_read, escape_end_read, substitution_read, no_hex_read, one_hex_read, no_digits_read, no_code_point_read}
 
 abbrev fault_at : read.Front → Place → TemplateFault
-fault_at r p = template_fault_at r p.offset
+fault_at r p = template_fault_at r p.offset p.rest
 
 module _ (o : Options) (text : List ℕ) where
   abbrev TemplateCause : TemplateFault → Type 0
   TemplateCause = Cause is_grave_accent (template_fault.InvalidInput (empty_at o.span_offset)) fault_at o text
+
+  -- With strings as the standard has them digits that are no escape are no element that is allowed.
+  stuck_at_digits : (p : Place) (e : Element) (n : ℕ) → read.front literals.Template p.rest ≡ read.element e n → o.standard_strings ≡ true → e.writing ≡ writing.NotEscape → IsStuck literals.Template o p
+  stuck_at_digits p e n h standard is x v more g t allowed =
+      let same : read.element x (length v) ≡ read.element e n = sym (spelled_front literals.Template x v more t) ∙ ap (read.front literals.Template) (sym g) ∙ h in
+      let one : x ≡ e = cc same in
+      let no : true ≡ false = sym standard ∙ sym (ap (λ (e : Element). is_refused o e.writing) one ∙ ap (is_refused o) is) ∙ allowed in
+      cc no
+
+  digits_are : (p : Place) (e : Element) (w rest : List ℕ) → p.rest ≡ w ++ rest → e.writing ≡ writing.NotEscape
+      → template_fault.NotEscapeSequence (from_to p.offset (p.offset + byte_count w)) ≡ fault_at (read.element e (length w)) p
+  digits_are p e w rest h is =
+      ap (λ (m : Writing). template_element_fault m p.offset (p.offset + byte_count w)) (sym is)
+      ∙ ap (λ v. template_element_fault e.writing p.offset (p.offset + byte_count v)) (sym (ap (take (length w)) h ∙ take-append_seam w rest))
 
   -- the fault of a place at which this is read
   caused : (p : Place) (r : read.Front) (f : TemplateFault) → IsReached literals.Template o text p → read.front literals.Template p.rest ≡ r → is_element r ≡ false → is_closer r ≡ false → f ≡ fault_at r p → TemplateCause f
@@ -37,6 +56,15 @@ module _ (o : Options) (text : List ℕ) where
       inside literals.Template p refl (stops_followed literals.Template o p text c cs a h)
       (ap (λ r. fault_at r p) (sym (quote_front literals.Template (c ∷ cs)) ∙ ap (read.front literals.Template) (sym h)))
   cause _ (substitution {p} {rest} a h) = caused p read.substitution (template_fault.TemplateSubstitution (empty_at p.offset)) a (substitution_read p.rest rest h) refl refl refl
+  cause _ (not_escape {p} e w rest a h s standard is) =
+      let front_is = ap (read.front literals.Template) h ∙ spelled_front literals.Template e w rest s in
+      inside literals.Template p refl
+      (record {
+        reached = a;
+        stuck = stuck_at_digits p e (length w) front_is standard is;
+        unended = without_closer literals.Template o p (read.element e (length w)) front_is refl;
+      })
+      (digits_are p e w rest h is ∙ ap (λ r. fault_at r p) (sym front_is))
   cause _ (no_hex_digit {p} {rest} a h none) = caused p (read.invalid_hex 2) (template_fault.InvalidHexEscape (empty_at (p.offset + 2))) a (no_hex_read p.rest rest h none) refl refl refl
   cause _ (one_hex_digit {p} {c} {rest} a h one none) =
       caused p (read.invalid_hex 3) (template_fault.InvalidHexEscape (empty_at (p.offset + 3))) a (one_hex_read p.rest c rest h one none) refl refl refl

@@ -1,37 +1,38 @@
 -- Where a template is not decoded, its fault stands.
-use Rattle.std.proofs.Common.{◌≡◌, ℕ, ◌+◌, ◌<◌, ◌==◌, Bool, true, false, cond, not, is_some, ◌&&◌, List, [], ◌∷◌, length, Option, Some, None, refl, sym, ap, ◌∙◌, subst, arith, inl, inr, ◌⊎◌, lit<}
+use Rattle.std.proofs.Common.{◌≡◌, ℕ, ◌+◌, ◌<◌, ◌==◌, Bool, true, false, cond, not, is_some, ◌&&◌, List, [], ◌∷◌, length, take, drop, Option, Some, None, refl, sym, ap, ◌∙◌, subst, arith, inl, inr, ◌⊎◌, lit<}
 use Rattle.std.proofs.lemmas.Bool.{eqb-true}
 use Rattle.rx_tables.specs.Characters.{hex_digit_value, is_decimal_digit}
 use Rattle.rx_units.specs.Characters.{is_line_terminator}
-use Rattle.rx_units.specs.declared.code_point.EscapeKind.TheVariants as kind
+use Rattle.rx_units.specs.declared.quoted_text.element.Writing.{Writing}
+use Rattle.rx_units.specs.declared.quoted_text.element.Writing.TheVariants as writing
 use Rattle.rx_units.specs.declared.quoted_text.element.Element.{Element}
 use Rattle.rx_units.specs.declared.quoted_text.literal.Literal.TheVariants as literals
 use Rattle.rx_units.specs.declared.options.Options.{Options}
 use Rattle.rx_units.specs.declared.template_literal_parser.TemplateFault.TheVariants as template_fault
-use Rattle.rx_units.specs.Quoted.Answers.{template_fault_at}
+use Rattle.rx_units.specs.Quoted.Answers.{template_element_fault, template_fault_at}
 use Rattle.rx_units.specs.Quoted.Escapes.{is_line_feed, single_escape_value}
-use Rattle.rx_units.specs.Quoted.Elements.{plain, is_open_brace, SpellsInTemplate, character, dollar, terminator, escape, zero_digit, digit}
-use Rattle.rx_units.specs.Quoted.Faults.{PassesHex, IsNoCodePoint, IsTemplateFault, ends, ends_escape, followed, substitution, no_hex_digit, one_hex_digit, no_four_digits, no_code_point, too_large, from_to}
+use Rattle.rx_units.specs.Quoted.Elements.{written, is_open_brace, SpellsInTemplate, character, dollar, terminator, escape, zero_digit, digit}
+use Rattle.rx_units.specs.Quoted.Faults.{PassesHex, IsNoCodePoint, IsTemplateFault, ends, ends_escape, followed, substitution, not_escape, no_hex_digit, one_hex_digit, no_four_digits, no_code_point, too_large, from_to}
 use Rattle.rx_units.specs.Quoted.Found.{is_closer}
 use Rattle.rx_units.specs.Quoted.Fronts as read
-use Rattle.rx_units.specs.Quoted.Texts.{Place, IsReached}
+use Rattle.rx_units.specs.Quoted.Texts.{Place, IsReached, byte_count, is_refused}
 use Rattle.rx_units.proofs.Quoted.HexDigits.{NoRun, no_run}
 use Rattle.rx_units.proofs.Quoted.Escapes.{Passes, passes_found}
 use Rattle.rx_units.proofs.Quoted.EscapeDigits.{digit_found}
-use Rattle.rx_units.proofs.Quoted.Outcomes.{followed_there}
+use Rattle.rx_units.proofs.Quoted.Outcomes.{allowed_refused, escape_allowed, followed_there}
 use Rattle.rx_units.proofs.Quoted.ReadForms.{hex_read, unicode_read, digit_behind_read}
-use Rattle.rx_units.proofs.Quoted.TemplateFronts.{template_spelled}
+use Rattle.rx_units.proofs.Quoted.Widths.{taken}
 use Rattle.rx_units.specs.Digits.{front_is, hex_number, is_hex_digit}
 use Rattle.rx_units.proofs.Choices.{chosen, either_way}
 
--- no element of a template is legacy
-no_legacy : (e : Element) (w rest : List ℕ) → SpellsInTemplate e w rest → is_some e.legacy ≡ false
-no_legacy _ _ rest (character h) = refl
-no_legacy _ _ rest (dollar h) = refl
-no_legacy _ _ rest (terminator h) = refl
-no_legacy _ _ rest (escape h) = refl
-no_legacy _ _ rest (zero_digit h) = refl
-no_legacy _ _ rest (digit h) = refl
+-- What is not allowed in a template are digits that are no escape, with strings as the standard has them.
+template_refused : (o : Options) (e : Element) (w rest : List ℕ) → SpellsInTemplate e w rest → is_refused o e.writing ≡ true → (e.writing ≡ writing.NotEscape) × (o.standard_strings ≡ true)
+template_refused o _ _ rest (character h) r = allowed_refused refl r
+template_refused o _ _ rest (dollar h) r = allowed_refused refl r
+template_refused o _ _ rest (terminator h) r = allowed_refused refl r
+template_refused o _ _ rest (escape {v} {k} {w} p) r = allowed_refused (escape_allowed o v k w rest p) r
+template_refused o _ _ rest (zero_digit h) r = (refl, r)
+template_refused o _ _ rest (digit h) r = (refl, r)
 
 -- what is read where an escape is none
 abbrev is_bad : read.EscapeRead → Bool
@@ -47,17 +48,17 @@ no_bad r s h e k = let n : false ≡ true = sym h ∙ ap is_bad e ∙ k in cc n
 
 behind_bad : (c : ℕ) (w : List ℕ) (r : read.EscapeRead) (o : Option ℕ) → is_bad r ≡ true → read.escape_behind o c w ≡ r
     → ((c ≡ 120) × (read.hex_at w ≡ r)) ⊎ ((c ≡ 117) × (read.unicode_behind (read.four_at w) w ≡ r))
-behind_bad c w r (Some x) b h = absurd (no_bad (read.escaped x kind.None 2) r refl h b)
+behind_bad c w r (Some x) b h = absurd (no_bad (read.escaped x writing.Plain 2) r refl h b)
 behind_bad c w r None b h = elim (chosen (is_decimal_digit c) h) [
-  | inl p ↦ absurd (no_bad (cond (c == 48 && not (front_is is_decimal_digit w)) (read.escaped 0 kind.None 2) read.digit) r
-      (either_way NoBad (c == 48 && not (front_is is_decimal_digit w)) (read.escaped 0 kind.None 2) read.digit refl refl) p.1 b)
+  | inl p ↦ absurd (no_bad (cond (c == 48 && not (front_is is_decimal_digit w)) (read.escaped 0 writing.Plain 2) read.digit) r
+      (either_way NoBad (c == 48 && not (front_is is_decimal_digit w)) (read.escaped 0 writing.Plain 2) read.digit refl refl) p.1 b)
   | inr p ↦ elim (chosen (c == 120) p.1) [
     | inl q ↦ inl (eqb-true c 120 q.0, q.1)
     | inr q ↦ elim (chosen (c == 117) q.1) [
       | inl s ↦ inr (eqb-true c 117 s.0, s.1)
       | inr s ↦ elim (chosen (is_line_terminator c) s.1) [
-        | inl t ↦ absurd (no_bad (read.line_behind c w) r (either_way NoBad (c == 13 && front_is is_line_feed w) (read.escaped 10 kind.None 3) (read.escaped c kind.None 2) refl refl) t.1 b)
-        | inr t ↦ absurd (no_bad (read.escaped c kind.None 2) r refl t.1 b)
+        | inl t ↦ absurd (no_bad (read.line_behind c w) r (either_way NoBad (c == 13 && front_is is_line_feed w) (read.escaped 10 writing.LineContinuation 3) (read.escaped c writing.LineContinuation 2) refl refl) t.1 b)
+        | inr t ↦ absurd (no_bad (read.escaped c writing.Plain 2) r refl t.1 b)
       ]
     ]
   ]
@@ -125,11 +126,11 @@ without_found (c ∷ w) f b h = elim (chosen (c == 96) h) [
     | inr q ↦ elim (chosen (c == 36) q.1) [
       | inl r ↦ elim (chosen (front_is is_open_brace w) r.1) [
         | inl s ↦ let t = brace_there w s.0 in at_substitution t.0 (ap (λ c. c ∷ w) (eqb-true c 36 r.0) ∙ ap (λ w. 36 ∷ w) t.1) s.1
-        | inr s ↦ absurd (no_fault (read.element (plain c kind.None) 1) f refl s.1 b)
+        | inr s ↦ absurd (no_fault (read.element (written c writing.Plain) 1) f refl s.1 b)
       ]
       | inr r ↦ elim (chosen (is_line_terminator c) r.1) [
-        | inl s ↦ absurd (no_fault (read.raw_line c w) f (either_way NoFault (c == 13 && front_is is_line_feed w) (read.element (plain 10 kind.None) 2) (read.element (plain c kind.None) 1) refl refl) s.1 b)
-        | inr s ↦ absurd (no_fault (read.element (plain c kind.None) 1) f refl s.1 b)
+        | inl s ↦ absurd (no_fault (read.raw_line c w) f (either_way NoFault (c == 13 && front_is is_line_feed w) (read.element (written 10 writing.LineTerminator) 2) (read.element (written c writing.LineTerminator) 1) refl refl) s.1 b)
+        | inr s ↦ absurd (no_fault (read.element (written c writing.Plain) 1) f refl s.1 b)
       ]
     ]
   ]
@@ -144,7 +145,7 @@ front_of _ = read.closer
 
 -- a fault of an escape is what is read of it
 escape_fault : (w : List ℕ) (f : read.Front) (r : read.EscapeRead) → is_fault f ≡ true → read.escape_at w ≡ r → read.template_escape r w ≡ f → (is_bad r ≡ true) × (front_of r ≡ f)
-escape_fault w f (read.escaped v k n) b e h = absurd (no_fault (read.element (plain v k) n) f refl h b)
+escape_fault w f (read.escaped v k n) b e h = absurd (no_fault (read.element (written v k) n) f refl h b)
 escape_fault w f read.digit b e h =
     let d = digit_found w e in
     let some : NoFault (read.digit_at w) = subst (λ w. NoFault (read.digit_at w)) (sym d.whole) (digit_behind_read NoFault (λ e n. refl) d.c d.rest) in
@@ -216,7 +217,7 @@ module _ (o : Options) (text : List ℕ) (p : Place) (reached : IsReached litera
       subst (λ (end : ℕ). IsTemplateFault o text (template_fault.TooLargeUnicodeEscapeSequence (from_to p.offset end))) (let k : p.offset + 3 + length l.digits ≡ p.offset + n = omega (arith, l.count) in k)
       (too_large reached (subst (λ us. PassesHex us l.digits) (sym e) l.over))
 
-  bad_stands : (w : List ℕ) (r : read.EscapeRead) → read.escape_at w ≡ r → is_bad r ≡ true → p.rest ≡ 92 ∷ w → Bad w r → IsTemplateFault o text (template_fault_at (front_of r) p.offset)
+  bad_stands : (w : List ℕ) (r : read.EscapeRead) → read.escape_at w ≡ r → is_bad r ≡ true → p.rest ≡ 92 ∷ w → Bad w r → IsTemplateFault o text (template_fault_at (front_of r) p.offset p.rest)
   bad_stands w (read.escaped v k n) is b e x = absurd (let no : ⊥ = cc b in no)
   bad_stands w read.digit is b e x = absurd (let no : ⊥ = cc b in no)
   bad_stands w read.unended is b e (at_end h k) = ends_escape reached (e ∙ ap (λ w. 92 ∷ w) h)
@@ -230,25 +231,27 @@ module _ (o : Options) (text : List ℕ) (p : Place) (reached : IsReached litera
   bad_stands w (read.no_unicode n) is b e (at_unicode t h k) = unicode_stands t n (e ∙ ap (λ w. 92 ∷ w) h) (read.four_at t) refl k
   bad_stands w (read.passes n) is b e x = large_stands w n e (passes_found n w is)
 
-  without_stands : (f : read.Front) → is_fault f ≡ true → Without p.rest f → IsTemplateFault o text (template_fault_at f p.offset)
+  without_stands : (f : read.Front) → is_fault f ≡ true → Without p.rest f → IsTemplateFault o text (template_fault_at f p.offset p.rest)
   without_stands f b (at_text_end e h) =
-      subst (λ f. IsTemplateFault o text (template_fault_at f p.offset)) h
+      subst (λ f. IsTemplateFault o text (template_fault_at f p.offset p.rest)) h
       (subst (λ (at : ℕ). IsTemplateFault o text (template_fault.InvalidInput (from_to at at))) (let k : p.offset ≡ p.offset + 0 = omega arith in k) (ends reached e))
-  without_stands f b (at_substitution t e h) = subst (λ f. IsTemplateFault o text (template_fault_at f p.offset)) h (substitution reached e)
+  without_stands f b (at_substitution t e h) = subst (λ f. IsTemplateFault o text (template_fault_at f p.offset p.rest)) h (substitution reached e)
   without_stands f b (at_escape w e h) =
       let x = escape_fault w f (read.escape_at w) b refl h in
-      subst (λ f. IsTemplateFault o text (template_fault_at f p.offset)) x.1 (bad_stands w (read.escape_at w) refl x.0 e (bad_found w (read.escape_at w) x.0 refl))
+      subst (λ f. IsTemplateFault o text (template_fault_at f p.offset p.rest)) x.1 (bad_stands w (read.escape_at w) refl x.0 e (bad_found w (read.escape_at w) x.0 refl))
 
-  element_absurd : (e : Element) (n : ℕ) → read.front literals.Template p.rest ≡ read.element e n → is_some e.legacy ≡ true → ⊥
-  element_absurd e n h some =
-      let f = template_spelled p.rest e n (sym (template_is p.rest) ∙ h) in
-      let no : false ≡ true = sym (no_legacy e f.spelled f.rest f.spells) ∙ some in
-      cc no
+  refused_stands : (e : Element) (n : ℕ) → read.front literals.Template p.rest ≡ read.element e n → is_refused o e.writing ≡ true
+      → IsTemplateFault o text (template_element_fault e.writing p.offset (p.offset + byte_count (take n p.rest)))
+  refused_stands e n h r =
+      let t = taken literals.Template p.rest e n h in
+      let d = template_refused o e (take n p.rest) (drop n p.rest) t.spells r in
+      subst (λ (m : Writing). IsTemplateFault o text (template_element_fault m p.offset (p.offset + byte_count (take n p.rest)))) (sym d.0)
+      (not_escape e (take n p.rest) (drop n p.rest) reached t.whole t.spells d.1 d.0)
 
   pub template_fault_stands : (f : read.Front) → f ≡ read.front literals.Template p.rest
-      → ((e : Element) (n : ℕ) → read.front literals.Template p.rest ≡ read.element e n → (o.strict_mode ≡ true) × (is_some e.legacy ≡ true))
-      → (is_closer f && (length p.rest == 1)) ≡ false → IsTemplateFault o text (template_fault_at f p.offset)
-  template_fault_stands (read.element e n) h last no_end = absurd (element_absurd e n (sym h) (last e n (sym h)).1)
+      → ((e : Element) (n : ℕ) → read.front literals.Template p.rest ≡ read.element e n → is_refused o e.writing ≡ true)
+      → (is_closer f && (length p.rest == 1)) ≡ false → IsTemplateFault o text (template_fault_at f p.offset p.rest)
+  template_fault_stands (read.element e n) h last no_end = refused_stands e n (sym h) (last e n (sym h))
   template_fault_stands read.closer h last no_end = let c = followed_there literals.Template p.rest (sym h) no_end in followed reached c.2
   template_fault_stands (read.nothing n) h last no_end = without_stands (read.nothing n) refl (without_found p.rest (read.nothing n) refl (sym (h ∙ template_is p.rest)))
   template_fault_stands read.substitution h last no_end = without_stands read.substitution refl (without_found p.rest read.substitution refl (sym (h ∙ template_is p.rest)))

@@ -4,11 +4,11 @@ use Rattle.std.proofs.lemmas.Bool.Decides.{nat_tests}
 use Rattle.std.proofs.lemmas.Bool.{eqb-true, cond-true, cond-false}
 use Rattle.rx_tables.specs.Characters.{is_within, is_decimal_digit}
 use Rattle.rx_units.specs.Characters.{is_line_terminator}
-use Rattle.rx_units.specs.declared.code_point.EscapeKind.{EscapeKind}
-use Rattle.rx_units.specs.declared.code_point.EscapeKind.TheVariants as kind
+use Rattle.rx_units.specs.declared.quoted_text.element.Writing.{Writing}
+use Rattle.rx_units.specs.declared.quoted_text.element.Writing.TheVariants as writing
 use Rattle.rx_units.specs.declared.quoted_text.element.Element.{Element}
 use Rattle.rx_units.specs.Quoted.Escapes.{is_line_feed, SpellsTerminator, alone, carriage_return, carriage_return_line_feed}
-use Rattle.rx_units.specs.Quoted.Elements.{plain, is_open_brace, is_template_character, SpellsInTemplate, character, dollar, terminator, escape, zero_digit, digit}
+use Rattle.rx_units.specs.Quoted.Elements.{written, is_open_brace, is_template_character, SpellsInTemplate, character, dollar, terminator, escape, zero_digit, digit}
 use Rattle.rx_units.specs.Quoted.Fronts.{EscapeRead, escaped, unended, no_hex, no_unicode, passes, element, substitution, escape_at, digit_behind, digit_at, template_escape, raw_line, template_front}
 use Rattle.rx_units.specs.Quoted.Fronts.{digit as digit_read}
 use Rattle.rx_units.proofs.Quoted.Escapes.{EscapeFront, escape_spelled, spelled_escape, line_front}
@@ -52,12 +52,12 @@ is_line c h = record {
   no_return = grind (arith, nat_tests);
 }
 
-terminator_read : (c : ℕ) (w rest : List ℕ) → SpellsTerminator c w rest → template_front (w ++ rest) ≡ element (plain c kind.None) (length w)
+terminator_read : (c : ℕ) (w rest : List ℕ) → SpellsTerminator c w rest → template_front (w ++ rest) ≡ element (written c writing.LineTerminator) (length w)
 terminator_read c _ rest (alone h) =
     let l = is_line c h in
     cond-false _ _ _ l.no_quote ∙ cond-false _ _ _ l.no_backslash ∙ cond-false _ _ _ l.no_dollar ∙ cond-true _ _ _ l.line
-    ∙ ap (λ b. cond (b && front_is is_line_feed rest) (element (plain 10 kind.None) 2) (element (plain c kind.None) 1)) l.no_return
-terminator_read _ _ rest (carriage_return h) = ap (λ b. cond b (element (plain 10 kind.None) 2) (element (plain 13 kind.None) 1)) h
+    ∙ ap (λ b. cond (b && front_is is_line_feed rest) (element (written 10 writing.LineTerminator) 2) (element (written c writing.LineTerminator) 1)) l.no_return
+terminator_read _ _ rest (carriage_return h) = ap (λ b. cond b (element (written 10 writing.LineTerminator) 2) (element (written 13 writing.LineTerminator) 1)) h
 terminator_read _ _ rest carriage_return_line_feed = refl
 
 nonzero : (c : ℕ) → is_within 49 57 c ≡ true → (is_decimal_digit c ≡ true) × ((c == 48) ≡ false)
@@ -66,7 +66,7 @@ nonzero c h = (grind (arith, nat_tests), grind (arith, nat_tests))
 no_null : (c : ℕ) (b : Bool) → (c == 48) ≡ false → (c == 48 && b) ≡ false
 no_null c b h = ap (λ a. a && b) h
 
-digit_row : (c : ℕ) (rest : List ℕ) → (c == 48) ≡ false → digit_behind c rest ≡ element (plain c kind.None) 2
+digit_row : (c : ℕ) (rest : List ℕ) → (c == 48) ≡ false → digit_behind c rest ≡ element (written c writing.NotEscape) 2
 digit_row c [] h = refl
 digit_row c (d ∷ rest) h = cond-false _ _ _ h
 
@@ -75,9 +75,9 @@ pub spelled_template : (e : Element) (w rest : List ℕ) → SpellsInTemplate e 
 spelled_template _ _ rest (character {c} h) =
     let p = is_plain c h in
     cond-false _ _ _ p.no_quote ∙ cond-false _ _ _ p.no_backslash ∙ cond-false _ _ _ p.no_dollar ∙ cond-false _ _ _ p.no_line
-spelled_template _ _ rest (dollar h) = ap (λ b. cond b substitution (element (plain 36 kind.None) 1)) h
+spelled_template _ _ rest (dollar h) = ap (λ b. cond b substitution (element (written 36 writing.Plain) 1)) h
 spelled_template _ w rest (terminator {c} t) = terminator_read c w rest t
-spelled_template _ _ rest (escape {v} {k} {w} p) = ap (λ r. template_escape r (w ++ rest)) (spelled_escape v k w rest p) ∙ ap (element (plain v k)) (omega arith)
+spelled_template _ _ rest (escape {v} {k} {w} p) = ap (λ r. template_escape r (w ++ rest)) (spelled_escape v k w rest p) ∙ ap (element (written v k)) (omega arith)
 spelled_template _ _ rest (zero_digit {c} h) = ap (λ r. template_escape r (48 ∷ c ∷ rest)) (digit_escape 48 (c ∷ rest) refl (ap not h))
 spelled_template _ _ rest (digit {c} h) =
     let d = nonzero c h in
@@ -113,7 +113,7 @@ digit_spelled c (x ∷ w) e n d z h = elim (chosen (c == 48) h) [
   | inr p ↦ give (92 ∷ c ∷ []) (x ∷ w) (digit (nonzero_digit c d p.0)) refl p.1
 ]
 
-escape_in_template : (v m : ℕ) (w : List ℕ) (k : EscapeKind) (e : Element) (n : ℕ) → EscapeFront v k m w → element (plain v k) m ≡ element e n → TemplateFront e n (92 ∷ w)
+escape_in_template : (v m : ℕ) (w : List ℕ) (k : Writing) (e : Element) (n : ℕ) → EscapeFront v k m w → element (written v k) m ≡ element e n → TemplateFront e n (92 ∷ w)
 escape_in_template v m w k e n f h = subst (λ w. TemplateFront e n (92 ∷ w)) (sym f.whole) (give (92 ∷ f.spelled) f.rest (escape f.spells) (omega (arith, f.count)) h)
 
 escape_found : (w : List ℕ) (e : Element) (n : ℕ) (r : EscapeRead) → escape_at w ≡ r → template_escape r w ≡ element e n → TemplateFront e n (92 ∷ w)
@@ -129,7 +129,7 @@ escape_found w e n (passes m) f h = absurd (let no : ⊥ = cc h in no)
 line_spelled : (c : ℕ) (w : List ℕ) (e : Element) (n : ℕ) → is_line_terminator c ≡ true → raw_line c w ≡ element e n → TemplateFront e n (c ∷ w)
 line_spelled c w e n l h = go (c == 13 && front_is is_line_feed w) refl h
   where
-    go : (b : Bool) → (c == 13 && front_is is_line_feed w) ≡ b → cond b (element (plain 10 kind.None) 2) (element (plain c kind.None) 1) ≡ element e n → TemplateFront e n (c ∷ w)
+    go : (b : Bool) → (c == 13 && front_is is_line_feed w) ≡ b → cond b (element (written 10 writing.LineTerminator) 2) (element (written c writing.LineTerminator) 1) ≡ element e n → TemplateFront e n (c ∷ w)
     go true f h = let t = line_front c w l true f in subst (TemplateFront e n) (sym t.whole) (give t.spelled t.rest (terminator t.spells) t.count h)
     go false f h = let t = line_front c w l false f in subst (TemplateFront e n) (sym t.whole) (give t.spelled t.rest (terminator t.spells) t.count h)
 
@@ -143,7 +143,7 @@ template_spelled (c ∷ w) e n h = elim (chosen (c == 96) h) [
     | inr q ↦ elim (chosen (c == 36) q.1) [
       | inl r ↦ elim (chosen (front_is is_open_brace w) r.1) [
         | inl s ↦ absurd (let no : ⊥ = cc s.1 in no)
-        | inr s ↦ rw (eqb-true c 36 r.0) (give (36 ∷ []) w (dollar s.0) refl (ap (λ (c : ℕ). element (plain c kind.None) 1) (sym (eqb-true c 36 r.0)) ∙ s.1))
+        | inr s ↦ rw (eqb-true c 36 r.0) (give (36 ∷ []) w (dollar s.0) refl (ap (λ (c : ℕ). element (written c writing.Plain) 1) (sym (eqb-true c 36 r.0)) ∙ s.1))
       ]
       | inr r ↦ elim (chosen (is_line_terminator c) r.1) [
         | inl s ↦ line_spelled c w e n s.0 s.1

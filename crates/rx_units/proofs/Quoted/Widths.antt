@@ -10,7 +10,7 @@ use Rattle.std.specs.Str.{IsUtf8, chars}
 use Rattle.std.proofs.Math.Seq.{drop-append_seam, take-append_seam}
 use lib.ListN.{take-append-drop}
 use lib.Utf8.{encode, encodes, scalar, scalars}
-use Rattle.rx_units.specs.declared.code_point.EscapeKind.{EscapeKind}
+use Rattle.rx_units.specs.declared.quoted_text.element.Writing.{Writing}
 use Rattle.rx_units.specs.declared.quoted_text.element.Element.{Element}
 use Rattle.rx_units.specs.declared.quoted_text.literal.Literal.{Literal}
 use Rattle.rx_units.specs.declared.quoted_text.literal.Literal.TheVariants as literals
@@ -35,7 +35,7 @@ terminator_small c _ rest (alone h) = grind (arith, nat_tests)
 terminator_small _ _ rest (carriage_return h) = omega arith
 terminator_small _ _ rest carriage_return_line_feed = omega arith
 
-escape_small : (v : ℕ) (k : EscapeKind) (w rest : List ℕ) → SpellsEscape v k w rest → AreCharacters w → v ≤ 0x10FFFF
+escape_small : (v : ℕ) (k : Writing) (w rest : List ℕ) → SpellsEscape v k w rest → AreCharacters w → v ≤ 0x10FFFF
 escape_small v _ _ rest (single {c} h) a = grind (arith, nat_tests)
 escape_small c _ _ rest (non_escape h) a = first_small c [] a
 escape_small _ _ _ rest (null h) a = omega arith

@@ -1,11 +1,12 @@
 -- What the readers of quoted texts are given, and what they may answer.
-use Rattle.std.specs.Prelude.{◌≡◌, ℕ, ◌+◌, ◌<◌, ◌≤◌, ◌^◌, true, is_some, All, List, Option, Some, None, take}
+use Rattle.std.specs.Prelude.{◌≡◌, ℕ, ◌+◌, ◌<◌, ◌≤◌, ◌^◌, true, All, List, take}
 use Rattle.rx_units.specs.declared.quoted_text.element.Element.{Element}
+use Rattle.rx_units.specs.declared.quoted_text.element.Writing.{Writing}
+use Rattle.rx_units.specs.declared.quoted_text.element.Writing.TheVariants.{Legacy, NotEscape}
 use Rattle.rx_units.specs.declared.quoted_text.literal.Literal.{Literal}
 use Rattle.rx_units.specs.declared.quoted_text.literal.Literal.TheVariants as literals
 use Rattle.rx_units.specs.declared.options.Options.{Options}
 use Rattle.rx_units.specs.declared.quoted_text.reading.Stop.{Stop}
-use Rattle.rx_units.specs.declared.string_literal_parser.LegacyKind.{LegacyKind}
 use Rattle.rx_units.specs.declared.string_literal_parser.StringFault.{StringFault}
 use Rattle.rx_units.specs.declared.string_literal_parser.StringFault.TheVariants as string_fault
 use Rattle.rx_units.specs.declared.string_literal_parser.StringLiteral.{StringLiteral}
@@ -15,7 +16,7 @@ use Rattle.rx_units.specs.declared.template_literal_parser.TemplateLiteral.{Temp
 use Rattle.rx_units.specs.Quoted.Faults.{empty_at, from_to}
 use Rattle.rx_units.specs.Quoted.Found.{seen_front}
 use Rattle.rx_units.specs.Quoted.Fronts.{Front, element, closer, nothing, substitution, invalid_hex, invalid_unicode, too_large, front}
-use Rattle.rx_units.specs.Quoted.Texts.{Given, byte_count, opened, IsDecoded, Leads}
+use Rattle.rx_units.specs.Quoted.Texts.{Given, byte_count, opened, is_refused, IsDecoded, Leads}
 
 -- The text is of code points, and its spans fit.
 pub record IsGiven (text : List ℕ) (o : Options) : Type 0 where
@@ -26,7 +27,7 @@ pub record IsGiven (text : List ℕ) (o : Options) : Type 0 where
 pub record IsStop (literal : Literal) (o : Options) (inner : List ℕ) (stop : Stop) : Type 0 where
   pub leads : Leads literal o (opened o inner) (record { units = stop.units; offset = stop.offset; rest = stop.rest.now })
   pub found : seen_front stop.found ≡ front literal stop.rest.now
-  pub ends : (e : Element) (n : ℕ) → front literal stop.rest.now ≡ element e n → (o.strict_mode ≡ true) × (is_some e.legacy ≡ true)
+  pub ends : (e : Element) (n : ℕ) → front literal stop.rest.now ≡ element e n → is_refused o e.writing ≡ true
   pub bytes : stop.offset + byte_count stop.rest.now ≡ o.span_offset + 1 + byte_count inner
 
 -- A string is what its text is decoded to, and covers the text.
@@ -39,23 +40,28 @@ pub record IsTemplateOf (given : Given) (it : TemplateLiteral) : Type 0 where
   pub decoded : IsDecoded literals.Template given.options given.text it.body
   pub span_is : it.span ≡ from_to given.options.span_offset (given.options.span_offset + byte_count given.text)
 
-abbrev pub legacy_fault : Option LegacyKind → ℕ → ℕ → StringFault
-legacy_fault (Some what) start end = string_fault.LegacyInStrictMode what (from_to start end)
-legacy_fault None start end = string_fault.InvalidInput (empty_at start)
+-- the fault of an element that is not allowed, by how it is written
+abbrev pub string_element_fault : Writing → ℕ → ℕ → StringFault
+string_element_fault (Legacy what) start end = string_fault.LegacyInStrictMode what (from_to start end)
+string_element_fault _ start end = string_fault.InvalidInput (empty_at start)
+
+abbrev pub template_element_fault : Writing → ℕ → ℕ → TemplateFault
+template_element_fault NotEscape start end = template_fault.NotEscapeSequence (from_to start end)
+template_element_fault _ start end = template_fault.InvalidInput (empty_at start)
 
 -- the fault of a string at a place, by what stands there
 abbrev pub string_fault_at : Front → ℕ → List ℕ → StringFault
-string_fault_at (element e n) at us = legacy_fault e.legacy at (at + byte_count (take n us))
+string_fault_at (element e n) at us = string_element_fault e.writing at (at + byte_count (take n us))
 string_fault_at closer at us = string_fault.InvalidInput (empty_at (at + 1))
 string_fault_at (too_large n) at us = string_fault.TooLargeUnicodeEscapeSequence (from_to at (at + n))
 string_fault_at _ at us = string_fault.InvalidInput (empty_at at)
 
 -- the fault of a template at a place, by what stands there
-abbrev pub template_fault_at : Front → ℕ → TemplateFault
-template_fault_at (element e n) at = template_fault.InvalidInput (empty_at at)
-template_fault_at closer at = template_fault.InvalidInput (empty_at (at + 1))
-template_fault_at (nothing n) at = template_fault.InvalidInput (empty_at (at + n))
-template_fault_at substitution at = template_fault.TemplateSubstitution (empty_at at)
-template_fault_at (invalid_hex n) at = template_fault.InvalidHexEscape (empty_at (at + n))
-template_fault_at (invalid_unicode n) at = template_fault.InvalidUnicodeEscape (from_to at (at + n))
-template_fault_at (too_large n) at = template_fault.TooLargeUnicodeEscapeSequence (from_to at (at + n))
+abbrev pub template_fault_at : Front → ℕ → List ℕ → TemplateFault
+template_fault_at (element e n) at us = template_element_fault e.writing at (at + byte_count (take n us))
+template_fault_at closer at us = template_fault.InvalidInput (empty_at (at + 1))
+template_fault_at (nothing n) at us = template_fault.InvalidInput (empty_at (at + n))
+template_fault_at substitution at us = template_fault.TemplateSubstitution (empty_at at)
+template_fault_at (invalid_hex n) at us = template_fault.InvalidHexEscape (empty_at (at + n))
+template_fault_at (invalid_unicode n) at us = template_fault.InvalidUnicodeEscape (from_to at (at + n))
+template_fault_at (too_large n) at us = template_fault.TooLargeUnicodeEscapeSequence (from_to at (at + n))

@@ -1,9 +1,10 @@
 -- Why a quoted text is not decoded, and where: at a place that is reached, at which neither an element nor the closing quote stands, or an element that
--- strict mode code does not allow (12.9.4.1); or outside the quotes.
+-- is not allowed; or outside the quotes.
 use Rattle.std.specs.Prelude.{◌≡◌, ℕ, ◌+◌, ◌*◌, ◌^◌, ◌<◌, ◌≤◌, Bool, true, false, ◌==◌, ◌||◌, List, [], ◌∷◌, ◌++◌, length, Some}
 use Rattle.rx_base.specs.declared.span.Span.{Span}
 use Rattle.rx_tables.specs.Characters.{hex_digit_value}
 use Rattle.rx_units.specs.declared.quoted_text.element.Element.{Element}
+use Rattle.rx_units.specs.declared.quoted_text.element.Writing.TheVariants as writing
 use Rattle.rx_units.specs.declared.quoted_text.literal.Literal.{Literal}
 use Rattle.rx_units.specs.declared.quoted_text.literal.Literal.TheVariants as literals
 use Rattle.rx_units.specs.declared.options.Options.{Options}
@@ -63,7 +64,7 @@ pub data IsStringFault (o : Options) (text : List ℕ) : StringFault → Type 0 
       → IsStringFault o text (string_fault.InvalidInput (empty_at (p.offset + 1)))
   -- a legacy escape in strict mode code
   legacy : {k : StringLiteralKind} {p : Place} {what : LegacyKind} (e : Element) (w rest : List ℕ) → IsReached (literals.String k) o text p → p.rest ≡ w ++ rest → SpellsElement (literals.String k) e w rest
-      → o.strict_mode ≡ true → e.legacy ≡ Some what → IsStringFault o text (string_fault.LegacyInStrictMode what (from_to p.offset (p.offset + byte_count w)))
+      → o.strict_mode ≡ true → e.writing ≡ writing.Legacy what → IsStringFault o text (string_fault.LegacyInStrictMode what (from_to p.offset (p.offset + byte_count w)))
   -- a number of more than 32 bits: from the backslash to before the digit that makes it so
   too_large : {k : StringLiteralKind} {p : Place} {digits : List ℕ} → IsReached (literals.String k) o text p → PassesHex p.rest digits
       → IsStringFault o text (string_fault.TooLargeUnicodeEscapeSequence (from_to p.offset (p.offset + 3 + length digits)))
@@ -90,6 +91,9 @@ pub data IsTemplateFault (o : Options) (text : List ℕ) : TemplateFault → Typ
   followed : {p : Place} {c : ℕ} {cs : List ℕ} → IsReached literals.Template o text p → p.rest ≡ 96 ∷ c ∷ cs → IsTemplateFault o text (template_fault.InvalidInput (empty_at (p.offset + 1)))
   -- `$` before `{`
   substitution : {p : Place} {rest : List ℕ} → IsReached literals.Template o text p → p.rest ≡ 36 ∷ 123 ∷ rest → IsTemplateFault o text (template_fault.TemplateSubstitution (empty_at p.offset))
+  -- with strings as the standard has them a NotEscapeSequence of digits (13.2.8.1)
+  not_escape : {p : Place} (e : Element) (w rest : List ℕ) → IsReached literals.Template o text p → p.rest ≡ w ++ rest → SpellsElement literals.Template e w rest → o.standard_strings ≡ true
+      → e.writing ≡ writing.NotEscape → IsTemplateFault o text (template_fault.NotEscapeSequence (from_to p.offset (p.offset + byte_count w)))
   -- `\x` before no HexDigit
   no_hex_digit : {p : Place} {rest : List ℕ} → IsReached literals.Template o text p → p.rest ≡ 92 ∷ 120 ∷ rest → front_is is_hex_digit rest ≡ false
       → IsTemplateFault o text (template_fault.InvalidHexEscape (empty_at (p.offset + 2)))

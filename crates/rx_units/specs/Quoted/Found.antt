@@ -7,7 +7,7 @@ use Rattle.rx_units.specs.declared.quoted_text.found.Found.TheVariants as found
 use Rattle.rx_units.specs.Quoted.Fronts.{EscapeRead, escaped, digit, unended, no_hex, no_unicode, passes, Front, element, closer, nothing, substitution, invalid_hex, invalid_unicode, too_large}
 
 abbrev pub seen_escape : EscapeFound → EscapeRead
-seen_escape (escape.Escaped value escape_kind length) = escaped value escape_kind length
+seen_escape (escape.Escaped value how length) = escaped value how length
 seen_escape escape.Digit = digit
 seen_escape escape.Unended = unended
 seen_escape (escape.InvalidHex length) = no_hex length

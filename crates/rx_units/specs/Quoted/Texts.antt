@@ -1,12 +1,14 @@
 -- A quoted text: a quote, elements one after another, the same quote, and the end (StringLiteral, ECMA-262, 12.9.4; NoSubstitutionTemplate, 12.9.6).
-use Rattle.std.specs.Prelude.{◌≡◌, ℕ, ◌+◌, Bool, true, List, [], ◌∷◌, ◌++◌, None}
+use Rattle.std.specs.Prelude.{◌≡◌, ℕ, ◌+◌, Bool, false, List, [], ◌∷◌, ◌++◌}
 use Rattle.std.specs.Char.{len_utf8}
 use Rattle.rx_units.specs.declared.code_point.CodePoint.{CodePoint}
-use Rattle.rx_units.specs.Units.{character_units}
 use Rattle.rx_units.specs.declared.options.Options.{Options}
 use Rattle.rx_units.specs.declared.quoted_text.element.Element.{Element}
+use Rattle.rx_units.specs.declared.quoted_text.element.Writing.{Writing}
+use Rattle.rx_units.specs.declared.quoted_text.element.Writing.TheVariants.{Plain, Hexadecimal, Unicode, Legacy, NotEscape, LineTerminator, LineContinuation}
 use Rattle.rx_units.specs.declared.quoted_text.literal.Literal.{Literal}
 use Rattle.rx_units.specs.Quoted.Elements.{quote_of, SpellsElement}
+use Rattle.rx_units.specs.Quoted.Values.{element_units, text_units}
 
 -- how many bytes characters take
 abbrev pub byte_count : List ℕ → ℕ
@@ -22,22 +24,31 @@ pub record Place : Type 0 where
   -- the characters behind it
   pub rest : List ℕ
 
--- The place behind an element, which is one unit, or where pairs are not joined and its value is past FFFF a lead and a trail. They share its span.
+-- The place after an element, with the units that it gives.
 abbrev pub behind : Options → Place → Element → List ℕ → List ℕ → Place
 behind o p e w rest = record {
-  units = p.units ++ character_units o.combine_surrogate_pair p.offset (p.offset + byte_count w) e.value e.escape_kind;
+  units = p.units ++ element_units o p.offset (p.offset + byte_count w) e;
   offset = p.offset + byte_count w;
   rest = rest;
 }
 
--- An early error in strict mode code: a legacy escape (12.9.4.1).
-abbrev pub IsAllowed : Bool → Element → Type 0
-IsAllowed strict e = strict ≡ true → e.legacy ≡ None
+-- What is not allowed: in strict mode code a legacy escape (12.9.4.1), and with strings as the standard has them a NotEscapeSequence (13.2.8.1).
+abbrev pub is_refused : Options → Writing → Bool
+is_refused o (Legacy what) = o.strict_mode
+is_refused o NotEscape = o.standard_strings
+is_refused o Plain = false
+is_refused o Hexadecimal = false
+is_refused o Unicode = false
+is_refused o LineTerminator = false
+is_refused o LineContinuation = false
+
+abbrev pub IsAllowed : Options → Element → Type 0
+IsAllowed o e = is_refused o e.writing ≡ false
 
 -- Elements that are allowed lead from a place to a place.
 pub data Leads (literal : Literal) (o : Options) (from : Place) : Place → Type 0 where
   no_element : Leads literal o from from
-  one_more : {p : Place} (e : Element) (w rest : List ℕ) → Leads literal o from p → p.rest ≡ w ++ rest → SpellsElement literal e w rest → IsAllowed o.strict_mode e
+  one_more : {p : Place} (e : Element) (w rest : List ℕ) → Leads literal o from p → p.rest ≡ w ++ rest → SpellsElement literal e w rest → IsAllowed o e
       → Leads literal o from (behind o p e w rest)
 
 -- the place behind the opening quote, before some characters
@@ -55,7 +66,7 @@ pub record IsDecoded (literal : Literal) (o : Options) (text : List ℕ) (units 
   pub last : Place
   pub reached : IsReached literal o text last
   pub closes : last.rest ≡ quote_of literal ∷ []
-  pub units_are : units ≡ last.units
+  pub units_are : units ≡ text_units o last.units
 
 -- What a decoder is given.
 pub record Given : Type 0 where

@@ -3,7 +3,7 @@ ghost use Rattle.rx_tables.specs.Characters.{hex_digit_value};
 ghost use Rattle.rx_units.specs.Quoted.Found.{seen_escape};
 ghost use Rattle.rx_units.specs.Quoted.Fronts.{braces_at, digits_at, four_at, front_digit, hex_at, unicode_behind};
 
-use crate::EscapeKind;
+use crate::quoted_text::Writing;
 use crate::quoted_text::found::EscapeFound;
 use rx_tables::map_hex_digit;
 
@@ -41,7 +41,7 @@ pub(crate) fn hex_escape(chars: &[char]) -> EscapeFound
     };
     EscapeFound::Escaped {
         value: 16 * high + low,
-        escape_kind: EscapeKind::Hexadecimal,
+        writing: Writing::Hexadecimal,
         length: 4,
     }
 }
@@ -53,7 +53,7 @@ pub(crate) fn unicode_escape(chars: &[char]) -> EscapeFound
     match four_digits(chars) {
         Some(value) => EscapeFound::Escaped {
             value,
-            escape_kind: EscapeKind::Unicode,
+            writing: Writing::Unicode,
             length: 6,
         },
         None => braced_digits(chars),
@@ -100,7 +100,7 @@ fn digits_to_brace(chars: &[char]) -> EscapeFound
                 if *c == '}' && count > 0 && value <= 0x10FFFF {
                     return EscapeFound::Escaped {
                         value,
-                        escape_kind: EscapeKind::Unicode,
+                        writing: Writing::Unicode,
                         length: count + 4,
                     };
                 }

@@ -1,13 +1,14 @@
-ghost use Rattle.std.specs.Prelude.{◌≡◌, true};
+ghost use Rattle.std.specs.Prelude.{◌≡◌};
 ghost use Rattle.rx_units.specs.Quoted.Escapes.{is_line_feed, single_escape_value};
 ghost use Rattle.rx_units.specs.Quoted.Found.{seen_escape};
 ghost use Rattle.rx_units.specs.Quoted.Fronts.{escape_at, line_behind};
 ghost use Rattle.rx_units.specs.Digits.{front_is};
 ghost use Rattle.rx_tables.specs.Characters.{is_decimal_digit};
 
+use crate::quoted_text::Writing;
 use crate::quoted_text::digits::{hex_escape, unicode_escape};
 use crate::quoted_text::found::EscapeFound;
-use crate::{CR, EscapeKind, LF, is_line_terminator};
+use crate::{CR, LF, is_line_terminator};
 
 /// What stands behind a backslash: an EscapeSequence or a LineContinuation of ECMA-262, 12.9.4, but for the digits that are no null.
 #[tactic(auto, unfolding(crate::specs::Quoted::Fronts::escape_at))]
@@ -42,11 +43,11 @@ pub(crate) fn escape_at(chars: &[char]) -> EscapeFound
 
 /// A value that is written as no number.
 fn escaped(value: u32, length: usize) -> EscapeFound
-    ensures { result ≡ EscapeFound.Escaped value EscapeKind.None length }
+    ensures { result ≡ EscapeFound.Escaped value Writing.Plain length }
 {
     EscapeFound::Escaped {
         value,
-        escape_kind: EscapeKind::None,
+        writing: Writing::Plain,
         length,
     }
 }
@@ -85,13 +86,23 @@ pub(crate) fn begins_with_line_feed(chars: &[char]) -> bool
     }
 }
 
-/// A LineTerminatorSequence (ECMA-262, 12.3), by its first character and those behind it.
+/// A LineContinuation (ECMA-262, 12.9.4), by the first character of its LineTerminatorSequence and those after it.
 fn line_escape(first: char, rest: &[char]) -> EscapeFound
     ensures { seen_escape result ≡ line_behind first rest.now }
 {
     if first == CR && begins_with_line_feed(rest) {
-        escaped(LF as u32, 3)
+        continued(LF, 3)
     } else {
-        escaped(first as u32, 2)
+        continued(first, 2)
+    }
+}
+
+fn continued(terminator: char, length: usize) -> EscapeFound
+    ensures { result ≡ EscapeFound.Escaped terminator Writing.LineContinuation length }
+{
+    EscapeFound::Escaped {
+        value: terminator as u32,
+        writing: Writing::LineContinuation,
+        length,
     }
 }

@@ -1,17 +1,16 @@
 ghost use Rattle.std.specs.Prelude.{◌≡◌};
-ghost use Rattle.rx_units.specs.Quoted.Elements.{plain};
+ghost use Rattle.rx_units.specs.Quoted.Elements.{written};
 ghost use Rattle.rx_units.specs.Quoted.Found.{seen_front};
 ghost use Rattle.rx_units.specs.Quoted.Fronts.{element};
 
-use crate::EscapeKind;
-use crate::quoted_text::Element;
+use crate::quoted_text::{Element, Writing};
 
 /// What stands behind a backslash. Lengths count characters from the backslash on.
 #[derive(Clone, Copy, Debug)]
 pub(crate) enum EscapeFound {
     Escaped {
         value: u32,
-        escape_kind: EscapeKind,
+        writing: Writing,
         length: usize,
     },
     /// A digit that is no null.
@@ -46,16 +45,11 @@ pub(crate) enum Found {
 }
 
 impl Found {
-    /// An element that every code allows.
-    pub(crate) fn plain(value: u32, escape_kind: EscapeKind, length: usize) -> Found
-        ensures { seen_front result ≡ element (plain value escape_kind) length }
+    pub(crate) fn element(value: u32, writing: Writing, length: usize) -> Found
+        ensures { seen_front result ≡ element (written value writing) length }
     {
         Found::Element {
-            element: Element {
-                value,
-                escape_kind,
-                legacy: None,
-            },
+            element: Element { value, writing },
             length,
         }
     }

@@ -1,18 +1,19 @@
-ghost use Rattle.std.specs.Prelude.{◌≡◌, ◌+◌, ◌<◌, ◌≤◌, ◌^◌, ℕ, All, IfOk, MatchOption, true, is_some, length, take, drop, ◌==◌, ◌&&◌};
+ghost use Rattle.std.specs.Prelude.{◌≡◌, ◌+◌, ◌<◌, ◌≤◌, ◌^◌, ℕ, All, IfOk, MatchOption, true, length, take, drop, ◌==◌, ◌&&◌};
 ghost use Rattle.std.specs.Str.{chars};
 ghost use Rattle.rx_units.specs.declared.quoted_text.element.Element.{Element as ElementValue};
 ghost use Rattle.rx_units.specs.Quoted.Answers.{IsStop};
 ghost use Rattle.rx_units.specs.Quoted.Faults.{empty_at, from_to};
 ghost use Rattle.rx_units.specs.Quoted.Found.{is_closer, seen_front};
 ghost use Rattle.rx_units.specs.Quoted.Fronts.{element, front};
-ghost use Rattle.rx_units.specs.Quoted.Texts.{IsAllowed, byte_count};
+ghost use Rattle.rx_units.specs.Quoted.Texts.{IsAllowed, byte_count, is_refused};
 
 use crate::quoted_text::found::Found;
 use crate::quoted_text::string_front::string_front;
 use crate::quoted_text::template_front::template_front;
-use crate::quoted_text::{Element, Literal};
+use crate::quoted_text::value::push_element;
+use crate::quoted_text::{Element, Literal, Writing};
 use crate::string_literal_parser::StringLiteralKind;
-use crate::{CodePoint, Options, handle_code_point};
+use crate::{CodePoint, Options};
 use rx_base::{List, OutOfMemory, Span};
 use std::alloc::{AllocError, Global};
 use std::marker::Model;
@@ -60,7 +61,7 @@ fn characters(alloc: Global, text: &str) -> Result<Vec<char>, AllocError>
     text.chars().collect(alloc)
 }
 
-/// The place behind elements at which none stands, or one that strict mode code does not allow.
+/// The place after elements at which none stands, or one that is not allowed.
 #[derive(Drop)]
 pub(crate) struct Stop<'a> {
     pub units: List<CodePoint>,
@@ -85,7 +86,7 @@ impl Stop<'_> {
         Span::sized(self.offset, length as u32)
     }
 
-    /// Covers nothing, behind some characters of one byte each.
+    /// Covers nothing, after some characters of one byte each.
     pub(crate) fn empty_span(&self, length: usize) -> Span
         requires { self.now.offset + length < 2 ^ 32 }
         ensures { result ≡ empty_at (self.now.offset + length) }
@@ -94,7 +95,7 @@ impl Stop<'_> {
     }
 }
 
-/// Reads the elements behind an opening quote.
+/// Reads the elements after an opening quote.
 pub(crate) fn elements<'a>(
     alloc: Global,
     literal: Literal,
@@ -108,10 +109,9 @@ pub(crate) fn elements<'a>(
     let mut units = List::new(alloc);
     let mut offset = options.span_offset + 1;
     let mut rest = inner;
-    while let Some((element, length)) = next_element(literal, rest, options.strict_mode) {
+    while let Some((element, length)) = next_element(literal, rest, options) {
         let end = offset + width(rest, length);
-        let code_point = ((offset, end), element.value, element.escape_kind);
-        handle_code_point(&mut units, code_point, 0, options.combine_surrogate_pair)?;
+        push_element(&mut units, element, (offset, end), options)?;
         offset = end;
         rest = behind(rest, length);
     }
@@ -125,16 +125,27 @@ pub(crate) fn elements<'a>(
 }
 
 /// The element that stands next, and how many characters spell it, where it is allowed.
-fn next_element(literal: Literal, chars: &[char], strict_mode: bool) -> Option<(Element, usize)>
+fn next_element(literal: Literal, chars: &[char], options: Options) -> Option<(Element, usize)>
     ensures { MatchOption result
-        ((e : ElementValue) (n : ℕ) → front literal chars.now ≡ element e n → (strict_mode ≡ true) × (is_some e.legacy ≡ true))
-        (λ next. (front literal chars.now ≡ element next.0 next.1) × IsAllowed strict_mode next.0) }
+        ((e : ElementValue) (n : ℕ) → front literal chars.now ≡ element e n → is_refused options e.writing ≡ true)
+        (λ next. (front literal chars.now ≡ element next.0 next.1) × IsAllowed options next.0) }
 {
     match front(literal, chars) {
-        Found::Element { element, length } if !strict_mode || element.legacy.is_none() => {
+        Found::Element { element, length } if !is_refused(element.writing, options) => {
             Some((element, length))
         }
         _ => None,
+    }
+}
+
+/// Whether an element is not allowed: in strict mode code a legacy escape, and with strings as the standard has them digits that are no escape.
+fn is_refused(writing: Writing, options: Options) -> bool
+    ensures { result ≡ is_refused options writing }
+{
+    match writing {
+        Writing::Legacy(_) => options.strict_mode,
+        Writing::NotEscape => options.standard_strings,
+        _ => false,
     }
 }
 
@@ -159,7 +170,7 @@ pub(crate) fn width(chars: &[char], count: usize) -> u32
     byte_count(&chars[..count])
 }
 
-/// The characters behind the first ones.
+/// The characters after the first ones.
 fn behind(chars: &[char], count: usize) -> &[char]
     requires { count ≤ length chars.now }
     ensures { result.now ≡ drop count chars.now }

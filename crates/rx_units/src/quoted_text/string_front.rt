@@ -1,15 +1,15 @@
 ghost use Rattle.std.specs.Prelude.{◌≡◌, ◌<◌, true};
 ghost use Rattle.rx_tables.specs.Characters.{is_octal_digit};
-ghost use Rattle.rx_units.specs.Quoted.Elements.{old};
+ghost use Rattle.rx_units.specs.Quoted.Elements.{written};
 ghost use Rattle.rx_units.specs.Quoted.Found.{seen_escape, seen_front};
 ghost use Rattle.rx_units.specs.Quoted.Fronts.{element, legacy_at, octal_at, string_escape, string_front};
 ghost use Rattle.rx_units.specs.Digits.{octal};
 
-use crate::quoted_text::Element;
+use crate::quoted_text::Writing;
 use crate::quoted_text::escape::escape_at;
 use crate::quoted_text::found::{EscapeFound, Found};
 use crate::string_literal_parser::LegacyKind;
-use crate::{CR, EscapeKind, LF};
+use crate::{CR, LF};
 
 /// What stands at a place of a string in these quotes (DoubleStringCharacter and SingleStringCharacter of ECMA-262, 12.9.4).
 pub(crate) fn string_front(quote: char, chars: &[char]) -> Found
@@ -28,7 +28,7 @@ pub(crate) fn string_front(quote: char, chars: &[char]) -> Found
     if first == CR || first == LF {
         return Found::Nothing { length: 0 };
     }
-    Found::plain(first as u32, EscapeKind::None, 1)
+    Found::element(first as u32, Writing::Plain, 1)
 }
 
 /// An escape, by what stands behind its backslash.
@@ -38,9 +38,9 @@ fn string_escape(escape: EscapeFound, chars: &[char]) -> Found
     match escape {
         EscapeFound::Escaped {
             value,
-            escape_kind,
+            writing,
             length,
-        } => Found::plain(value, escape_kind, length),
+        } => Found::element(value, writing, length),
         EscapeFound::Digit => legacy_escape(chars),
         EscapeFound::TooLarge { length } => Found::TooLarge { length },
         EscapeFound::Unended
@@ -83,16 +83,9 @@ fn octal_escape(first: char, rest: &[char]) -> Found
 
 /// An element that strict mode code does not allow.
 fn legacy(what: LegacyKind, value: u32, length: usize) -> Found
-    ensures { seen_front result ≡ element (old what value) length }
+    ensures { seen_front result ≡ element (written value (Writing.Legacy what)) length }
 {
-    Found::Element {
-        element: Element {
-            value,
-            escape_kind: EscapeKind::None,
-            legacy: Some(what),
-        },
-        length,
-    }
+    Found::element(value, Writing::Legacy(what), length)
 }
 
 fn is_octal_digit(c: char) -> bool

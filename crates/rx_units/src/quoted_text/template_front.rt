@@ -1,12 +1,13 @@
 ghost use Rattle.std.specs.Prelude.{◌≡◌};
-ghost use Rattle.rx_units.specs.Quoted.Elements.{is_open_brace, plain};
+ghost use Rattle.rx_units.specs.Quoted.Elements.{is_open_brace};
 ghost use Rattle.rx_units.specs.Quoted.Found.{seen_escape, seen_front};
 ghost use Rattle.rx_units.specs.Quoted.Fronts.{digit_at, element, raw_line, template_escape, template_front};
 ghost use Rattle.rx_units.specs.Digits.{front_is};
 
+use crate::quoted_text::Writing;
 use crate::quoted_text::escape::{begins_with_line_feed, escape_at};
 use crate::quoted_text::found::{EscapeFound, Found};
-use crate::{CR, EscapeKind, LF, is_line_terminator};
+use crate::{CR, LF, is_line_terminator};
 
 /// What stands at a place of a template (TemplateCharacter of ECMA-262, 12.9.6).
 pub(crate) fn template_front(chars: &[char]) -> Found
@@ -28,14 +29,7 @@ pub(crate) fn template_front(chars: &[char]) -> Found
     if is_line_terminator(first) {
         return raw_line(first, rest);
     }
-    plain(first, 1)
-}
-
-/// A character that stands for itself.
-fn plain(c: char, length: usize) -> Found
-    ensures { seen_front result ≡ element (plain c EscapeKind.None) length }
-{
-    Found::plain(c as u32, EscapeKind::None, length)
+    Found::element(first as u32, Writing::Plain, 1)
 }
 
 fn begins_with_brace(chars: &[char]) -> bool
@@ -47,14 +41,14 @@ fn begins_with_brace(chars: &[char]) -> bool
     }
 }
 
-/// A LineTerminatorSequence (ECMA-262, 12.3), by its first character and those behind it.
+/// A LineTerminatorSequence (ECMA-262, 12.3), by its first character and those after it.
 fn raw_line(first: char, rest: &[char]) -> Found
     ensures { seen_front result ≡ raw_line first rest.now }
 {
     if first == CR && begins_with_line_feed(rest) {
-        plain(LF, 2)
+        Found::element(LF as u32, Writing::LineTerminator, 2)
     } else {
-        plain(first, 1)
+        Found::element(first as u32, Writing::LineTerminator, 1)
     }
 }
 
@@ -65,9 +59,9 @@ fn template_escape(escape: EscapeFound, chars: &[char]) -> Found
     match escape {
         EscapeFound::Escaped {
             value,
-            escape_kind,
+            writing,
             length,
-        } => Found::plain(value, escape_kind, length),
+        } => Found::element(value, writing, length),
         EscapeFound::Digit => digit(chars),
         EscapeFound::Unended => Found::Nothing { length: 1 },
         EscapeFound::InvalidHex { length } => Found::InvalidHex { length },
@@ -76,13 +70,13 @@ fn template_escape(escape: EscapeFound, chars: &[char]) -> Found
     }
 }
 
-/// A NotEscapeSequence of digits (ECMA-262, 12.9.4), which gives its last digit.
+/// A NotEscapeSequence of digits (ECMA-262, 12.9.6), which gives its last digit where it is allowed.
 fn digit(chars: &[char]) -> Found
     ensures { seen_front result ≡ digit_at chars.now }
 {
     match chars {
-        ['0', second, ..] => plain(*second, 3),
-        [first, ..] => plain(*first, 2),
+        ['0', second, ..] => Found::element(*second as u32, Writing::NotEscape, 3),
+        [first, ..] => Found::element(*first as u32, Writing::NotEscape, 2),
         [] => Found::Nothing { length: 0 },
     }
 }

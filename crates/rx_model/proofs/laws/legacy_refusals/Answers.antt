@@ -5,11 +5,11 @@ use Rattle.rx_model.proofs.Refusals.LegacyRefusals.{ends_refused, not_lone}
 use Rattle.rx_model.proofs.laws.legacy_refusals.Goals as goal
 
 pub returns-clause-lone : goal.returns-clause-lone
-returns-clause-lone c mode us start added place span h = with_unicode (is_unicode mode) refl
+returns-clause-lone c mode rules us start added place span h = with_unicode (is_unicode mode) refl
   where
     with_unicode : (b : Bool) → is_unicode mode ≡ b → is_unicode mode ≡ true
     with_unicode true e = e
-    with_unicode false e = absurd (not_lone mode e us start added place (LoneQuantifier span) h tt)
+    with_unicode false e = absurd (not_lone mode rules e us start added place (LoneQuantifier span) h tt)
 
 pub returns-clause-range : goal.returns-clause-range
 returns-clause-range c mode us start added from at_class place span h =

@@ -3,4 +3,4 @@ use Rattle.rx_model.proofs.Refusals.Refusals.{class_laws}
 use Rattle.rx_model.proofs.laws.one_cause.Goals as goal
 
 pub returns : goal.returns
-returns c mode no_sets us start added = one_cause mode us start added (class_laws mode us start added) no_sets
+returns c mode rules no_sets us start added = one_cause mode rules us start added (class_laws mode rules us start added) no_sets

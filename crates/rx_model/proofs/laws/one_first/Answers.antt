@@ -3,4 +3,4 @@ use Rattle.rx_model.proofs.Refusals.Refusals.{class_laws}
 use Rattle.rx_model.proofs.laws.one_first.Goals as goal
 
 pub returns : goal.returns
-returns c mode us start added = one_first mode us start added (class_laws mode us start added)
+returns c mode rules us start added = one_first mode rules us start added (class_laws mode rules us start added)

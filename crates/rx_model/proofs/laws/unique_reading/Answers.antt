@@ -8,7 +8,7 @@ use Rattle.rx_model.proofs.FirstPass.OwnGroups.{own_environment}
 use Rattle.rx_model.proofs.laws.unique_reading.Goals as goal
 
 pub returns : goal.returns
-returns c mode p q us r s =
-    let same = sym (own_environment mode p us r.spelled) ∙ own_environment mode q us s.spelled in
+returns c mode rules p q us r s =
+    let same = sym (own_environment mode rules p us r.spelled) ∙ own_environment mode rules q us s.spelled in
     one_tree mode mode p q r.spelled.shape s.spelled.shape
-    (one_row (environment mode q) (tokens p) (tokens q) us (subst (λ e. TokenRow e (tokens p) us []) same r.spelled.row) s.spelled.row)
+    (one_row (environment mode rules q) (tokens p) (tokens q) us (subst (λ e. TokenRow e (tokens p) us []) same r.spelled.row) s.spelled.row)

@@ -22,14 +22,14 @@ pub returns-then-is_raw-clause-found : goal.returns-then-is_raw-clause-found
 returns-then-is_raw-clause-found g c =
     let e = c.args.environment in
     ap (λ k. Leaf (Character k (get_or c.args.units.now 0 (unit 0 0 0 kind.None)).value) 1) c.unit_kind.ensures
-    ∙ ap found_front (sym (raw_alone (seen_environment e) c.args.units.now (unit 0 0 0 kind.None) c.in-len1-up.len_at_least (sym (c.is_raw.ensures.raw e.groups e.has_names) ∙ c.if-is_raw.true)))
+    ∙ ap found_front (sym (raw_alone (seen_environment e) c.args.units.now (unit 0 0 0 kind.None) c.in-len1-up.len_at_least (sym (c.is_raw.ensures.raw e.buffer_boundaries e.groups e.has_names) ∙ c.if-is_raw.true)))
 
 pub returns-clause-found : goal.returns-clause-found
 returns-clause-found g c =
     let e = c.args.environment in
-    c.syntax_at.ensures.found e.groups e.has_names
+    c.syntax_at.ensures.found e.buffer_boundaries e.groups e.has_names
     ∙ ap found_front (sym (syntax_alone (seen_environment e) c.args.units.now (unit 0 0 0 kind.None) c.in-len1-up.len_at_least
-    (sym (c.is_raw.ensures.raw e.groups e.has_names) ∙ c.if-is_raw.false) c.if-first.false c.if-first-2.false))
+    (sym (c.is_raw.ensures.raw e.buffer_boundaries e.groups e.has_names) ∙ c.if-is_raw.false) c.if-first.false c.if-first-2.false))
 
 pub returns-clause-steps : goal.returns-clause-steps
 returns-clause-steps g c =

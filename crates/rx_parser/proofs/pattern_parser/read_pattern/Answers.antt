@@ -15,9 +15,9 @@ loop-alloc-init g c =
     let r = c.args.reader.now in
     let b = c.in_ok-builder in
     record {
-      parsing = subst (IsParsing c.args.mode r.units r.first c.args.spans.now b.builder) (sym c.requires.start)
+      parsing = subst (IsParsing c.args.mode c.args.rules r.units r.first c.args.spans.now b.builder) (sym c.requires.start)
           (parsing_begun r.units r.first c.args.spans.now c.here.result b.builder (c.here.ensures ∙ ap (λ k. offset_of (record r { place = k }) + c.args.spans.now) c.requires.start)
-          b.ensures.events b.ensures.openers b.ensures.ready b.ensures.good b.ensures.mode);
+          b.ensures.events b.ensures.openers b.ensures.ready b.ensures.good b.ensures.mode b.ensures.rules);
       same = refl;
       pace = (omega arith, omega arith);
     }
@@ -28,13 +28,16 @@ turn-requires g c =
     let it = c.loop-alloc.invariant in
     let some : length (drop l.place l.units) ≡ 0 → ⊥ = search rules in
     let mode = sym it.parsing.at.mode in
+    let same_rules = sym it.parsing.rules_are in
     record {
       before = record {
-        parsing = subst (λ mode. IsParsing mode l.units l.first c.args.spans.now c.loop-alloc.builder l.place) mode it.parsing;
+        parsing = subst (λ mode. IsParsing mode c.loop-alloc.builder.rules l.units l.first c.args.spans.now c.loop-alloc.builder l.place) mode
+            (subst (λ same. IsParsing c.args.mode same l.units l.first c.args.spans.now c.loop-alloc.builder l.place) same_rules it.parsing);
         left = omega (arith, some, length-drop l.place l.units, it.parsing.within);
         fits = subst (AreFitting c.args.spans.now) (sym it.same) (record { first = c.requires.fits.first; ends = c.requires.fits.ends });
       };
-      pass = subst (λ mode. HoldsPass mode l.units c.args.state.now) mode (subst (λ (k : Cursor). HoldsPass c.args.mode k.units c.args.state.now) (sym it.same) c.requires.pass);
+      pass = subst (λ mode. HoldsPass mode c.loop-alloc.builder.rules l.units c.args.state.now) mode
+          (subst (λ same. HoldsPass c.args.mode same l.units c.args.state.now) same_rules (subst (λ (k : Cursor). HoldsPass c.args.mode c.args.rules k.units c.args.state.now) (sym it.same) c.requires.pass));
     }
 
 pub loop-alloc-smaller : goal.loop-alloc-smaller
@@ -48,7 +51,8 @@ loop-alloc-preserved g c =
     let r = c.turn.new.reader in
     let was = c.loop-alloc.invariant in
     record {
-      parsing = subst (λ mode. IsParsing mode r.units r.first c.args.spans.now c.turn.new.builder r.place) was.parsing.at.mode it.parsing;
+      parsing = subst (λ same. IsParsing c.args.mode same r.units r.first c.args.spans.now c.turn.new.builder r.place) was.parsing.rules_are
+          (subst (λ mode. IsParsing mode c.loop-alloc.builder.rules r.units r.first c.args.spans.now c.turn.new.builder r.place) was.parsing.at.mode it.parsing);
       same = it.same ∙ ap (λ (k : Cursor). record k { place = r.place }) was.same;
       pace = turns_paced c.args.reader.now c.loop-alloc.reader r (g.C.Counter.count c.args.steps.now) (g.C.Counter.count c.loop-alloc.steps) (g.C.Counter.count c.turn.new.steps) was.pace c.in_ok-turn.ensures.steps;
     }
@@ -58,9 +62,10 @@ returns-in_err-turn-clause-refused g c =
     let r = c.args.reader.now in
     let it = c.loop-alloc.invariant in
     let fault = c.in_err-turn.field-0.0 in
-    let refused : IsRefused c.args.mode r.units r.first c.args.spans.now fault =
-    subst (λ (r : Cursor). IsRefused c.args.mode r.units r.first c.args.spans.now fault) it.same
-    (subst (λ mode. IsRefused mode c.loop-alloc.reader.units c.loop-alloc.reader.first c.args.spans.now fault) it.parsing.at.mode c.in_err-turn.ensures.refused) in
+    let refused : IsRefused c.args.mode c.args.rules r.units r.first c.args.spans.now fault =
+    subst (λ (r : Cursor). IsRefused c.args.mode c.args.rules r.units r.first c.args.spans.now fault) it.same
+    (subst (λ same. IsRefused c.args.mode same c.loop-alloc.reader.units c.loop-alloc.reader.first c.args.spans.now fault) it.parsing.rules_are
+    (subst (λ mode. IsRefused mode c.loop-alloc.builder.rules c.loop-alloc.reader.units c.loop-alloc.reader.first c.args.spans.now fault) it.parsing.at.mode c.in_err-turn.ensures.refused)) in
     search rules
 
 pub here-requires-2 : goal.here-requires-2
@@ -74,8 +79,8 @@ returns-then-not-is_whole-clause-refused g c =
     let same = c.loop-alloc.invariant.same in
     let left : length (drop l.place l.units) ≡ 0 = search rules in
     let some : openers b ≡ [] → ⊥ = search rules in
-    let parsing : IsParsing c.args.mode r.units r.first c.args.spans.now b l.place =
-    subst (λ (k : Cursor). IsParsing c.args.mode k.units k.first c.args.spans.now b l.place) same c.loop-alloc.invariant.parsing in
+    let parsing : IsParsing c.args.mode c.args.rules r.units r.first c.args.spans.now b l.place =
+    subst (λ (k : Cursor). IsParsing c.args.mode c.args.rules k.units k.first c.args.spans.now b l.place) same c.loop-alloc.invariant.parsing in
     ended_refused r.units r.first c.args.spans.now b l.place parsing c.requires.pass.no_clash c.requires.pass.in_limit
     (omega (arith, left, length-drop l.place l.units, parsing.within, ap (λ (k : Cursor). length k.units) same)) some c.ended.result
     (subst (λ (k : Cursor). IsEndedFault k.units k.first c.args.spans.now l.place b c.ended.result) same c.ended.ensures)
@@ -87,8 +92,8 @@ returns-clause-whole g c =
     let it = c.in_ok-finish in
     let left : length (drop l.place l.units) ≡ 0 = search rules in
     let same = c.loop-alloc.invariant.same in
-    parsing_ended c.args.mode r.units r.first c.args.spans.now it.field-0 c.requires.pass.no_clash c.requires.pass.in_limit c.loop-alloc.builder l.place c.here-2.result
-    (subst (λ (k : Cursor). IsParsing c.args.mode k.units k.first c.args.spans.now c.loop-alloc.builder l.place) same c.loop-alloc.invariant.parsing)
+    parsing_ended c.args.mode c.args.rules r.units r.first c.args.spans.now it.field-0 c.requires.pass.no_clash c.requires.pass.in_limit c.loop-alloc.builder l.place c.here-2.result
+    (subst (λ (k : Cursor). IsParsing c.args.mode c.args.rules k.units k.first c.args.spans.now c.loop-alloc.builder l.place) same c.loop-alloc.invariant.parsing)
     (omega (arith, left, length-drop l.place l.units, ap (λ (k : Cursor). length k.units) same))
     (c.here-2.ensures ∙ ap (λ k. offset_of k + c.args.spans.now) same) it.ensures.events it.ensures.good
 

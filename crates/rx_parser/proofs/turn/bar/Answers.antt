@@ -6,4 +6,4 @@ returns-clause-turned g c =
     let it = c.in_ok-bar.ensures in
     bar_turned c.requires.before c.bar.new.self c.advance_counted.new.self c.here-at.result c.here.result
     (passed c.requires.before c.requires.found c.here-at.ensures c.here.ensures c.advance_counted.ensures.reader)
-    (record { events = it.events; openers_are = it.openers; ready_is = it.ready; good = it.good; mode = it.mode })
+    (record { events = it.events; openers_are = it.openers; ready_is = it.ready; good = it.good; mode = it.mode; rules = it.rules })

@@ -12,4 +12,4 @@ returns-clause-turned g c =
     let it = c.in_ok-open.ensures in
     open_turned h c.open.new.self c.skip_counted.new.self c.args.opener begun.group_kind found.0 c.args.length c.here-at.result c.here.result found.2 begun.ensures.group_kind
     (passed h found.1 c.here-at.ensures c.here.ensures (c.skip_counted.ensures.reader ∙ ap (moved c.args.length) begun.ensures.reader)) (found.1.2 (text_names c.args.builder.now.mode c.args.reader.now.units))
-    (record { events = it.events; openers_are = it.openers; ready_is = it.ready; good = it.good; mode = it.mode })
+    (record { events = it.events; openers_are = it.openers; ready_is = it.ready; good = it.good; mode = it.mode; rules = it.rules })

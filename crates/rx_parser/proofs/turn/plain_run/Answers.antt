@@ -36,7 +36,7 @@ loop-unit-preserved g c =
     subst (λ (s : Span). IsLeafOf c.term.result (character c.unit_kind.result u.value) s.start s.end) c.create-span.ensures its in
     let taken : Takes c.loop-unit.builder c.leaf.new.self u c.term.result (c.loop-unit.start + c.args.spans.now) (u.span.end + c.args.spans.now) = record {
       leaf = subst (λ (k : CharacterKind). IsLeafOf c.term.result (character k u.value) (c.loop-unit.start + c.args.spans.now) (u.span.end + c.args.spans.now)) c.unit_kind.ensures spanned;
-      grows = record { events = it.events; openers_are = it.openers; ready_is = it.ready; good = it.good (its.good c.loop-unit.builder.mode); mode = it.mode };
+      grows = record { events = it.events; openers_are = it.openers; ready_is = it.ready; good = it.good (its.good c.loop-unit.builder.mode); mode = it.mode; rules = it.rules };
     } in
     record {
       parsing = run_on c.requires.before i u some is c.loop-unit.builder c.leaf.new.self c.term.result c.loop-unit.start (subst (All (λ (u : CodePoint). u.value ≤ 0x10FFFF)) left c.remaining_code_points.ensures.code_points)

@@ -16,7 +16,7 @@ returns-then-not-branch-clause-refused g c =
     let r = c.args.reader.now in
     let it = c.in_ok-close-in-Close in
     let none : it.field-0 ≡ false = cc in
-    subst (λ s. IsRefused c.args.builder.now.mode r.units r.first c.args.spans.now (Diagnostic (ParsePatternIncomplete s))) (sym (c.empty-span.ensures ∙ ap empty_at c.here-at.ensures))
+    subst (λ s. IsRefused c.args.builder.now.mode c.args.builder.now.rules r.units r.first c.args.spans.now (Diagnostic (ParsePatternIncomplete s))) (sym (c.empty-span.ensures ∙ ap empty_at c.here-at.ensures))
     (closer_refused r.units r.first c.args.spans.now c.args.builder.now r.place c.requires.before.parsing c.requires.pass.no_clash c.requires.pass.in_limit c.in-Close.ensures.found (it.ensures.none none))
 
 pub returns-else-not-branch-clause-turned : goal.returns-else-not-branch-clause-turned
@@ -26,7 +26,7 @@ returns-else-not-branch-clause-turned g c =
     let closed = it.ensures.openers some in
     close_turned c.requires.before c.close.new.self c.advance_counted.new.self c.here-at.result c.here.result closed.0
     (passed c.requires.before c.in-Close.ensures.found c.here-at.ensures c.here.ensures c.advance_counted.ensures.reader) closed.1
-    (record { events = it.ensures.events some; openers_are = refl; ready_is = closed.2; good = it.ensures.good some; mode = it.ensures.mode })
+    (record { events = it.ensures.events some; openers_are = refl; ready_is = closed.2; good = it.ensures.good some; mode = it.ensures.mode; rules = it.ensures.rules })
 
 pub returns-then-not-branch-2-clause-refused : goal.returns-then-not-branch-2-clause-refused
 returns-then-not-branch-2-clause-refused g c =
@@ -34,7 +34,7 @@ returns-then-not-branch-2-clause-refused g c =
     let it = c.in_ok-quantify-in-Quantifier in
     let r = c.args.reader.now in
     let none : it.field-0 ≡ false = cc in
-    subst (λ it. IsRefused c.args.builder.now.mode r.units r.first c.args.spans.now (Diagnostic it)) (sym (c.lone_quantifier.ensures ∙ ap (lone_refusal c.args.builder.now.mode) c.new-span.ensures))
+    subst (λ it. IsRefused c.args.builder.now.mode c.args.builder.now.rules r.units r.first c.args.spans.now (Diagnostic it)) (sym (c.lone_quantifier.ensures ∙ ap (lone_refusal c.args.builder.now.mode) c.new-span.ensures))
     (lone_refused c.requires.before c.requires.pass c.skip_counted.new.self q.min q.max q.greedy q.length c.here-at.result c.here-after.result
     (passed c.requires.before q.ensures.found c.here-at.ensures c.here-after.ensures c.skip_counted.ensures.reader) (q.ensures.found.2 (text_names c.args.builder.now.mode r.units)) (it.ensures.answer ∙ none))
 
@@ -52,6 +52,7 @@ returns-else-not-branch-2-clause-turned g c =
       ready_is = it.ensures.ready some;
       good = it.ensures.good some;
       mode = it.ensures.mode;
+      rules = it.ensures.rules;
     })
 
 pub fault-requires-clause-small : goal.fault-requires-clause-small

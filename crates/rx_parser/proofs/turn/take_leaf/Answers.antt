@@ -14,4 +14,4 @@ returns-clause-turned g c =
     leaf_turned h c.leaf.new.self c.skip_counted.new.self (leaf_token c.args.leaf) c.args.length span.result.start span.result.end c.term.result
     (passed h c.requires.found (ap (λ s. s.start) span.ensures ∙ c.here-at.ensures) (ap (λ s. s.end) span.ensures ∙ c.here.ensures) c.skip_counted.ensures.reader)
     (c.requires.found.2 (text_names b.mode c.args.reader.now.units)) its
-    (record { events = it.events; openers_are = it.openers; ready_is = it.ready; good = it.good (its.good b.mode); mode = it.mode })
+    (record { events = it.events; openers_are = it.openers; ready_is = it.ready; good = it.good (its.good b.mode); mode = it.mode; rules = it.rules })

@@ -2,19 +2,18 @@ use Rattle.std.proofs.Common.{◌≡◌, ◌∙◌, ◌<◌, ◌≤◌, ◌++◌
 use Rattle.std.specs.List.{AllZip, concat}
 use Rattle.std.proofs.lemmas.Grind.{common_steps}
 use Rattle.rx_base.specs.FaultCounts.{Rose}
-use Rattle.rx_run.specs.declared.answer.Answering.TheVariants.{Canonical}
 use Rattle.rx_run.specs.declared.command.Command.TheVariants.{Serve}
 use Rattle.rx_run.specs.declared.run.Status.{Status}
 use Rattle.rx_run.specs.Lines.{lines_of}
 use Rattle.rx_run.specs.Outcome.{IsBegun, Reads, ReadsAndWrites}
-use Rattle.rx_run.specs.Reply.{IsReply}
+use Rattle.rx_run.specs.Reply.{IsReply, without_words}
 use Rattle.rx_run.specs.Status.{Outcome}
 use Rattle.rx_run.proofs.over_memory.replies.Goals as goal
 
 -- all room was taken, and some bytes are missing
 past_room : (input left taken : List ℕ) (drawn drawn' room : ℕ) → length taken ≡ room
-    → ReadsAndWrites (Some input) (Some left) drawn drawn' (Some []) (Some taken) (λ read written. IsBegun Canonical read written 1)
-    → (read left : List ℕ) × (lines later replies : List (List ℕ)) × (input ≡ read ++ left) × (lines_of read ≡ lines ++ later) × AllZip (IsReply Canonical) lines replies × (room < length (concat replies))
+    → ReadsAndWrites (Some input) (Some left) drawn drawn' (Some []) (Some taken) (λ read written. IsBegun without_words read written 1)
+    → (read left : List ℕ) × (lines later replies : List (List ℕ)) × (input ≡ read ++ left) × (lines_of read ≡ lines ++ later) × AllZip (IsReply without_words) lines replies × (room < length (concat replies))
 past_room input left taken drawn drawn' room full r =
     let begun = r.4 in
     let written : taken ≡ r.1 = r.3 in
@@ -36,27 +35,27 @@ returns-clause-write_fault c = λ is.
     let room : sink.room ≡ c.args.room = cc (run.fixed, made) in
     let fault : 0 < sink.faults = rose_above sink.faults (rw made at run.write_fault is) in
     let full : length sink.taken ≡ c.args.room = c.bytes.ensures.full fails fault ∙ room in
-    let P : Status → Type 0 = λ s. ReadsAndWrites (Some c.args.input.now) (Some source.left) 0 source.drawn (Some []) (Some sink.taken) (Outcome Canonical s) in
-    past_room c.args.input.now source.left sink.taken 0 source.drawn c.args.room full (subst P is (rw (made, c.new-source.ensures) at (run.content Canonical none)))
+    let P : Status → Type 0 = λ s. ReadsAndWrites (Some c.args.input.now) (Some source.left) 0 source.drawn (Some []) (Some sink.taken) (Outcome without_words s) in
+    past_room c.args.input.now source.left sink.taken 0 source.drawn c.args.room full (subst P is (rw (made, c.new-source.ensures) at (run.content without_words none)))
 
 pub returns-clause-all_ok : goal.returns-clause-all_ok
 returns-clause-all_ok c =
     let none : c.as_slice.result.now ≡ [] = c.as_slice.ensures ∙ c.new-words.ensures in
-    let content = c.run-status.ensures.content Canonical none in
-    let end = c.run-status.ensures.end Canonical none in
+    let content = c.run-status.ensures.content without_words none in
+    let end = c.run-status.ensures.end without_words none in
     search rules
 
 pub returns-clause-some_refused : goal.returns-clause-some_refused
 returns-clause-some_refused c =
     let none : c.as_slice.result.now ≡ [] = c.as_slice.ensures ∙ c.new-words.ensures in
-    let content = c.run-status.ensures.content Canonical none in
-    let end = c.run-status.ensures.end Canonical none in
+    let content = c.run-status.ensures.content without_words none in
+    let end = c.run-status.ensures.end without_words none in
     grind (arith, common_steps)
 
 pub returns-clause-usage : goal.returns-clause-usage
 returns-clause-usage c = λ is.
     let none : c.as_slice.result.now ≡ [] = c.as_slice.ensures ∙ c.new-words.ensures in
-    c.run-status.ensures.usage.0 is (Serve Canonical, none)
+    c.run-status.ensures.usage.0 is (Serve without_words, none)
 
 -- more than the limit was read
 past_limit : (input left read : List ℕ) (drawn : ℕ) → Reads (Some input) (Some left) 0 drawn read → 67108864 < drawn → 67108864 < length input
@@ -68,6 +67,6 @@ pub returns-clause-too_much : goal.returns-clause-too_much
 returns-clause-too_much c = λ is.
     let none : c.as_slice.result.now ≡ [] = c.as_slice.ensures ∙ c.new-words.ensures in
     let source = c.run-status.new.source in
-    let content = rw c.new-source.ensures at (c.run-status.ensures.content Canonical none) in
+    let content = rw c.new-source.ensures at (c.run-status.ensures.content without_words none) in
     let past = rw c.new-source.ensures at (c.run-status.ensures.too_much.0 is) in
     past_limit c.args.input.now source.left content.0 source.drawn content.2 past

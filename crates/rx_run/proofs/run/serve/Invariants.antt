@@ -4,7 +4,7 @@ use Rattle.rx_run.proofs.run.serve.Given as goal
 
 abbrev pub invariant-chunks : goal.invariant-chunks
 invariant-chunks g l = record {
-  content : Progress l.fn.answering (g.S.Source.left l.fn.source) (g.S.Source.left l.source) (g.S.Source.drawn l.fn.source) (g.S.Source.drawn l.source)
+  content : Progress l.fn.service (g.S.Source.left l.fn.source) (g.S.Source.left l.source) (g.S.Source.drawn l.fn.source) (g.S.Source.drawn l.source)
       (g.K.Sink.taken l.fn.sink) (g.K.Sink.taken l.sink) l.server.line.bytes l.server.replies.all_ok;
   written : l.server.replies.bytes ≡ [];
   drawn : g.S.Source.drawn l.source ≡ g.S.Source.drawn l.fn.source + l.input.total;

@@ -8,6 +8,7 @@ use Rattle.rx_units.specs.declared.string_literal_parser.StringFault.TheVariants
 use Rattle.rx_units.specs.Quoted.Elements.{quote_of}
 use Rattle.rx_units.specs.Quoted.Faults.{IsStringFault, unopened, from_to}
 use Rattle.rx_units.specs.Quoted.Found.{is_closer, seen_front}
+use Rattle.rx_units.specs.Quoted.Texts.{IsDecoded}
 use Rattle.rx_units.proofs.Quoted.Outcomes.{string_fault_stands, stop_reached, decoded_there}
 use Rattle.rx_units.proofs.Quoted.Turns.{place}
 use Rattle.rx_units.proofs.string_literal_parser.decode_text.Goals as goal
@@ -24,7 +25,8 @@ returns-clause-ok c =
     let stop = c.in_ok-stop.stop in
     let end : (is_closer (seen_front stop.found) && (length stop.rest.now == 1)) ≡ true = grind (arith, c.is_end.ensures, c.if-not-is_end.false) in
     record {
-      decoded = decoded_there (literals.String c.in-Some.kind) c.args.options c.args.text.now c.in-Some.inner.now stop c.in-Some.ensures c.in_ok-stop.ensures end;
+      decoded = subst (λ us. IsDecoded (literals.String c.in-Some.kind) c.args.options c.args.text.now us) (sym c.in_ok-body.ensures)
+          (decoded_there (literals.String c.in-Some.kind) c.args.options c.args.text.now c.in-Some.inner.now stop c.in-Some.ensures c.in_ok-stop.ensures end);
       span_is = c.new-span.ensures ∙ ap (λ (n : ℕ). from_to c.args.options.span_offset (c.args.options.span_offset + n)) c.byte_count.ensures;
     }
 

@@ -7,15 +7,15 @@ use Rattle.rx_units.proofs.string_literal_parser.fault.Goals as goal
 
 pub width-requires-clause-within : goal.width-requires-clause-within
 width-requires-clause-within c =
-    let t = taken (literals.String c.args.kind) c.args.stop.now.rest.now c.in-Element-Some-default.element c.in-Element-Some-default.length (sym c.requires.found ∙ ap seen_front c.in-Element-Some-default.is) in
+    let t = taken (literals.String c.args.kind) c.args.stop.now.rest.now c.in-Element-Legacy-default.element c.in-Element-Legacy-default.length (sym c.requires.found ∙ ap seen_front c.in-Element-Legacy-default.is) in
     t.within
 
 pub width-requires-clause-bytes : goal.width-requires-clause-bytes
-width-requires-clause-bytes c = omega (arith, byte_split c.in-Element-Some-default.length c.args.stop.now.rest.now, c.requires.fits)
+width-requires-clause-bytes c = omega (arith, byte_split c.in-Element-Legacy-default.length c.args.stop.now.rest.now, c.requires.fits)
 
 pub overflow_add-start : goal.overflow_add-start
 overflow_add-start c =
-    let part = byte_split c.in-Element-Some-default.length c.args.stop.now.rest.now in
+    let part = byte_split c.in-Element-Legacy-default.length c.args.stop.now.rest.now in
     let small : c.args.stop.now.offset + c.width.result < 2 ^ 32 = omega (arith, part, c.requires.fits, c.width.ensures) in
     search (rules, small)
 

@@ -7,6 +7,7 @@ use Rattle.rx_units.specs.declared.template_literal_parser.TemplateFault.{Templa
 use Rattle.rx_units.specs.declared.template_literal_parser.TemplateFault.TheVariants as template_fault
 use Rattle.rx_units.specs.Quoted.Faults.{IsTemplateFault, unopened, from_to}
 use Rattle.rx_units.specs.Quoted.Found.{is_closer, seen_front}
+use Rattle.rx_units.specs.Quoted.Texts.{IsDecoded}
 use Rattle.rx_units.proofs.Quoted.Outcomes.{stop_reached, decoded_there}
 use Rattle.rx_units.proofs.Quoted.TemplateFaults.{template_fault_stands}
 use Rattle.rx_units.proofs.Quoted.Turns.{place}
@@ -23,7 +24,8 @@ returns-clause-ok c =
     let stop = c.in_ok-stop.stop in
     let end : (is_closer (seen_front stop.found) && (length stop.rest.now == 1)) ≡ true = grind (arith, c.is_end.ensures, c.if-not-is_end.false) in
     record {
-      decoded = decoded_there literals.Template c.args.options c.args.text.now c.in-Some.inner.now stop c.in-Some.ensures c.in_ok-stop.ensures end;
+      decoded = subst (λ us. IsDecoded literals.Template c.args.options c.args.text.now us) (sym c.in_ok-body.ensures)
+          (decoded_there literals.Template c.args.options c.args.text.now c.in-Some.inner.now stop c.in-Some.ensures c.in_ok-stop.ensures end);
       span_is = c.new-span.ensures ∙ ap (λ (n : ℕ). from_to c.args.options.span_offset (c.args.options.span_offset + n)) c.byte_count.ensures;
     }
 

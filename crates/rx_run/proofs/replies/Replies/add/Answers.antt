@@ -9,9 +9,9 @@ use Rattle.rx_model.specs.declared.mode.Mode.{Mode}
 use Rattle.rx_model.specs.Reading.Headline.{IsAnswered}
 use Rattle.rx_tools.specs.Spelled.{read_of}
 use Rattle.rx_tools.proofs.CanonicalAnswers.{by_itself}
-use Rattle.rx_parser.specs.Inputs.{flags_chars}
+use Rattle.rx_parser.specs.Inputs.{flags_chars, rules_of}
 use Rattle.rx_run.specs.Request.{Request}
-use Rattle.rx_run.specs.Reply.{bad, bad_reply, ok_reply, err_reply, input_of}
+use Rattle.rx_run.specs.Reply.{bad, bad_reply, ok_reply, err_reply, input_of, is_standard, rules_for}
 use Rattle.rx_run.proofs.Answering.{err_reply_is, ok_begins_ok, ok_reply_is}
 use Rattle.rx_run.proofs.replies.Replies.add.Goals as goal
 
@@ -28,13 +28,16 @@ pub returns-in-Ok : goal.returns-in-Ok
 returns-in-Ok c =
     let request : Request = record { form = c.in-Some.request.form; flags = flags_chars c.in-Some.request.flags; text = chars c.in-Some.request.text.now } in
     let it : Pattern × Mode = (c.in-Ok.pattern, c.in-Ok.mode) in
+    let options = c.options-options.result in
     on_ok_weaker c.add_ok.result
     (λ added. (
-      ok_reply c.args.answering.now request it.1 it.0,
+      ok_reply c.args.service.now.answering request it.1 it.0,
       ok_reply_is c.args.line.now request it c.in-Some.ensures.asked
-          (by_itself read_of request.form request.text request.flags (Ok it) c.default-options.result.pattern_span_offset c.default-options.result.flags_span_offset (search rules) (search rules) c.in-Ok.ensures.headline),
+          (by_itself read_of request.form request.text request.flags (Ok it) options.pattern_span_offset options.flags_span_offset (rules_of options) (rules_for c.args.service.now.dialect)
+          options.standard_strings (is_standard c.args.service.now.dialect) c.options-options.ensures.pattern_span_offset c.options-options.ensures.flags_span_offset c.options-options.ensures.rules
+          c.options-options.ensures.standard_strings c.in-Ok.ensures.headline),
       added,
-      c.add_ok.ensures.all_ok ∙ sym (ap (λ (b : Bool). c.args.self.now.all_ok && b) (ok_begins_ok c.args.answering.now request it.1 it.0) ∙ and-true c.args.self.now.all_ok),
+      c.add_ok.ensures.all_ok ∙ sym (ap (λ (b : Bool). c.args.self.now.all_ok && b) (ok_begins_ok c.args.service.now.answering request it.1 it.0) ∙ and-true c.args.self.now.all_ok),
     ))
     c.add_ok.ensures.bytes
 
@@ -43,10 +46,12 @@ returns-in-Err-Diagnostic c =
     let request : Request = record { form = c.in-Some.request.form; flags = flags_chars c.in-Some.request.flags; text = chars c.in-Some.request.text.now } in
     let cause = c.in-Err-Diagnostic.cause in
     let is : c.read_pattern.result ≡ Err (fault.Diagnostic cause) = c.in-Err-Diagnostic.is ∙ ap Err c.in-Err-Diagnostic.field-0-is in
-    let options = c.default-options.result in
-    let answered : IsAnswered read_of (input_of request) (Err (fault.Diagnostic cause)) =
-    by_itself read_of request.form request.text request.flags (Err (fault.Diagnostic cause)) options.pattern_span_offset options.flags_span_offset (search rules) (search rules)
-    (subst (λ r. IsAnswered read_of (record { form = request.form; text = request.text; flags = request.flags; text_offset = options.pattern_span_offset; flags_offset = options.flags_span_offset }) r)
+    let options = c.options-options.result in
+    let answered : IsAnswered read_of (input_of c.args.service.now.dialect request) (Err (fault.Diagnostic cause)) =
+    by_itself read_of request.form request.text request.flags (Err (fault.Diagnostic cause)) options.pattern_span_offset options.flags_span_offset (rules_of options) (rules_for c.args.service.now.dialect)
+    options.standard_strings (is_standard c.args.service.now.dialect) c.options-options.ensures.pattern_span_offset c.options-options.ensures.flags_span_offset c.options-options.ensures.rules
+    c.options-options.ensures.standard_strings
+    (subst (λ r. IsAnswered read_of (record { form = request.form; text = request.text; flags = request.flags; text_offset = options.pattern_span_offset; flags_offset = options.flags_span_offset; rules = rules_of options; standard_strings = options.standard_strings }) r)
     is c.read_pattern.ensures.headline) in
     let add = c.add_err in
     on_ok_weaker add.result (λ added. (err_reply cause, err_reply_is c.args.line.now request cause c.in-Some.ensures.asked answered, added, turned add.new.self.all_ok c.args.self.now.all_ok add.ensures.all_ok))

@@ -1,6 +1,5 @@
 use Rattle.std.proofs.Common.{refl, ap, ◌∙◌, option_map}
-use Rattle.rx_scan.specs.OpenGroups.{group_states_of}
-use Rattle.rx_scan.specs.FirstPass.{entries, first_clash, span_of, with_name}
+use Rattle.rx_scan.specs.FirstPass.{entries, first_clash, parts_of, span_of, with_name}
 use Rattle.rx_scan.proofs.Passes.{clash_not}
 use Rattle.rx_scan.proofs.Captures.{added}
 use Rattle.rx_scan.proofs.first_pass.FirstPass.capture_named.Goals as goal
@@ -13,6 +12,7 @@ returns-clause-ok c =
     (record {
       renamed = c.in_ok-add_name.ensures ∙ ap (λ name. record old { names = with_name old.names name }) c.as_str-2.ensures;
       mode_is = refl;
+      rule_is = refl;
       counted = refl;
       named_by = refl;
       opened = c.in_ok-open.ensures;
@@ -22,4 +22,4 @@ returns-clause-ok c =
       spells = c.as_str-3.ensures;
     })
     c.requires.knows
-    (clash_not (group_states_of old.groups) opening.name (entries old) (c.in_default.ensures ∙ ap (λ name. option_map span_of (first_clash (group_states_of old.groups) name (entries old))) c.as_str.ensures))
+    (clash_not (parts_of old) opening.name (entries old) (c.in_default.ensures ∙ ap (λ name. option_map span_of (first_clash (parts_of old) name (entries old))) c.as_str.ensures))

@@ -6,19 +6,19 @@ use Rattle.rx_scan.proofs.MarkSteps.{values_at, values_drop, values_length}
 use Rattle.rx_scan.proofs.first_pass.FirstPass.over.Goals as goal
 
 pub loop-place-init : goal.loop-place-init
-loop-place-init g c = record { at = start_at c.args.mode (values c.args.units.now) c.new-pass.result c.new-pass.ensures; units_over = omega arith }
+loop-place-init g c = record { at = start_at c.args.mode c.args.duplicate_names (values c.args.units.now) c.new-pass.result c.new-pass.ensures; units_over = omega arith }
 
 pub step-requires-clause-tells : goal.step-requires-clause-tells
-step-requires-clause-tells g c = tells c.args.mode (values c.args.units.now) c.loop-place.place c.loop-place.index c.loop-place.pass c.loop-place.invariant.at
+step-requires-clause-tells g c = tells c.args.mode c.args.duplicate_names (values c.args.units.now) c.loop-place.place c.loop-place.index c.loop-place.pass c.loop-place.invariant.at
 
 pub step-requires-clause-nests : goal.step-requires-clause-nests
-step-requires-clause-nests g c = nests_at c.args.mode (values c.args.units.now) c.loop-place.place c.loop-place.index c.loop-place.pass c.loop-place.invariant.at
+step-requires-clause-nests g c = nests_at c.args.mode c.args.duplicate_names (values c.args.units.now) c.loop-place.place c.loop-place.index c.loop-place.pass c.loop-place.invariant.at
 
 pub returns-in-Err-clause-fault : goal.returns-in-Err-clause-fault
 returns-in-Err-clause-fault g c =
     let us = c.args.units.now in
     let at = c.loop-place.place in
-    refused c.args.mode (values us) at c.loop-place.index (seen_front c.read_mark-taken.result) c.loop-place.pass c.in-Err.fault
+    refused c.args.mode c.args.duplicate_names (values us) at c.loop-place.index (seen_front c.read_mark-taken.result) c.loop-place.pass c.in-Err.fault
     (subst (λ n. at < n) (sym (values_length us)) c.loop-place-test.true)
     (c.read_mark-taken.ensures.value ∙ ap (λ ws. front c.args.mode (values ws)) c.tail.ensures ∙ ap (front c.args.mode) (values_drop at us)) c.in-Err.ensures.err c.loop-place.invariant.at
 
@@ -27,7 +27,7 @@ loop-place-preserved-then-is_plain g c =
     let us = c.args.units.now in
     let at = c.loop-place.place in
     record {
-      at = passed c.args.mode (values us) at c.loop-place.index _ _ c.loop-place.pass
+      at = passed c.args.mode c.args.duplicate_names (values us) at c.loop-place.index _ _ c.loop-place.pass
           (subst (λ n. at < n) (sym (values_length us)) c.loop-place-test.true)
           (sym (values_drop at us) ∙ values_at us at _ c.loop-place-test.true) (sym c.is_plain.ensures ∙ c.if-is_plain.true) c.loop-place.invariant.at;
       units_over = omega arith;
@@ -45,7 +45,7 @@ loop-place-preserved g c =
     let i = c.loop-place.invariant.at.within in
     let le : at + c.read_mark-taken.result.1 ≤ length (values us) = omega arith in
     record {
-      at = advanced c.args.mode (values us) at c.loop-place.index (seen_front c.read_mark-taken.result) c.loop-place.pass c.step.new.self
+      at = advanced c.args.mode c.args.duplicate_names (values us) at c.loop-place.index (seen_front c.read_mark-taken.result) c.loop-place.pass c.step.new.self
           (subst (λ n. at < n) (sym n) t) le p
           (c.read_mark-taken.ensures.value ∙ ap (λ ws. front c.args.mode (values ws)) c.tail.ensures ∙ ap (front c.args.mode) (values_drop at us)) c.in-Ok.ensures.ok c.loop-place.invariant.at;
       units_over = omega arith;
@@ -53,5 +53,5 @@ loop-place-preserved g c =
 
 pub returns-clause-clean : goal.returns-clause-clean
 returns-clause-clean g c =
-    all_clean c.args.mode (values c.args.units.now) c.loop-place.place c.loop-place.index c.loop-place.pass
+    all_clean c.args.mode c.args.duplicate_names (values c.args.units.now) c.loop-place.place c.loop-place.index c.loop-place.pass
     (subst (λ n. n ≤ c.loop-place.place) (sym (values_length c.args.units.now)) c.loop-place-test.false) c.loop-place.invariant.at

@@ -5,7 +5,7 @@ use Rattle.rx_scan.proofs.first_pass.FirstPass.over.Given as goal
 
 abbrev pub invariant-loop-place : goal.invariant-loop-place
 invariant-loop-place g l = record {
-  at : IsAt l.mode (values l.units) l.place l.index l.pass;
+  at : IsAt l.mode l.duplicate_names (values l.units) l.place l.index l.pass;
   units_over : g.C.Counter.count l.steps ≡ g.C.Counter.count l.fn.steps + l.place;
 }
 

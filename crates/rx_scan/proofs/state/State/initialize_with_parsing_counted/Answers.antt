@@ -6,4 +6,4 @@ pub returns-in-Ok-clause-apart : goal.returns-in-Ok-clause-apart
 returns-in-Ok-clause-apart g c =
     let reader = c.args.reader.now in
     let all = c.remaining_code_points-units.ensures.units ∙ ap (λ place. drop place reader.units) c.requires.start in
-    subst (λ mode. HasNoClash mode reader.units) c.of-mode.ensures (subst (HasNoClash c.of-mode.result) all c.in-Ok.ensures.clean)
+    subst (λ mode. HasNoClash mode c.args.self.now.duplicate_names reader.units) c.of-mode.ensures (subst (HasNoClash c.of-mode.result c.args.self.now.duplicate_names) all c.in-Ok.ensures.clean)

@@ -25,13 +25,8 @@ overflow_add-end c =
     let small : c.loop-element.offset + c.width.result < 2 ^ 32 = omega (arith, part, c.loop-element.invariant.bytes, c.requires.fits, c.width.ensures) in
     search (rules, small)
 
-pub handle_code_point-requires-clause-value : goal.handle_code_point-requires-clause-value
-handle_code_point-requires-clause-value c = (taken c.args.literal c.loop-element.rest.now c.in-Some.element c.in-Some.length c.in-Some.ensures.0).small c.loop-element.invariant.code_points
-
-pub handle_code_point-requires-clause-offset : goal.handle_code_point-requires-clause-offset
-handle_code_point-requires-clause-offset c =
-    let part = byte_split c.in-Some.length c.loop-element.rest.now in
-    omega (arith, part, c.loop-element.invariant.bytes, c.requires.fits, c.width.ensures)
+pub push_element-requires-clause-value : goal.push_element-requires-clause-value
+push_element-requires-clause-value c = (taken c.args.literal c.loop-element.rest.now c.in-Some.element c.in-Some.length c.in-Some.ensures.0).small c.loop-element.invariant.code_points
 
 pub behind-rest-requires : goal.behind-rest-requires
 behind-rest-requires c = (taken c.args.literal c.loop-element.rest.now c.in-Some.element c.in-Some.length c.in-Some.ensures.0).within
@@ -46,8 +41,8 @@ loop-element-preserved c =
     let part = byte_split c.in-Some.length c.loop-element.rest.now in
     record {
       leads = turn c.args.literal c.args.options (opened c.args.options c.args.inner.now) c.loop-element.units c.loop-element.offset c.loop-element.rest.now c.in-Some.element c.in-Some.length
-          c.handle_code_point.new.body (c.loop-element.offset + c.width.result) c.behind-rest.result.now c.loop-element.invariant.leads c.in-Some.ensures.0 c.in-Some.ensures.1
-          (omega (arith, c.width.ensures)) c.behind-rest.ensures c.in_ok-handle_code_point.ensures.ok;
+          c.push_element.new.units (c.loop-element.offset + c.width.result) c.behind-rest.result.now c.loop-element.invariant.leads c.in-Some.ensures.0 c.in-Some.ensures.1
+          (omega (arith, c.width.ensures)) c.behind-rest.ensures c.in_ok-push_element.ensures.ok;
       bytes = omega (arith, part, c.loop-element.invariant.bytes, c.width.ensures, ap byte_count c.behind-rest.ensures);
       code_points = subst (All (λ c. c ≤ 0x10FFFF)) (sym c.behind-rest.ensures) (All-drop (λ c. c ≤ 0x10FFFF) c.in-Some.length c.loop-element.rest.now c.loop-element.invariant.code_points);
     }
