@@ -14,6 +14,8 @@ mod printing;
 #[cfg(test)]
 mod signs;
 #[cfg(test)]
+mod supporting;
+#[cfg(test)]
 mod walking;
 #[cfg(test)]
 mod writing;
