@@ -10,16 +10,16 @@ What node is asked: whether each source text is one literal that it evaluates, i
 spelling of the program, between slashes. The program is asked again for node's values: as a literal, or as strings where a literal would not fit a line. Its reply must
 be the same, but that the spans of a refusal are those of the same units in the request.
 """
-import argparse
 import collections
 import json
-import os
 import random
 import re
 import subprocess
 import sys
 
-TOP = os.path.dirname(os.path.dirname(os.path.abspath(__file__)))
+sys.dont_write_bytecode = True
+import engine
+
 BATCH = 40_000
 EXCUSED = {
     "buffer boundary": r"`\A`, `\z` or `\Z` under u or v: a proposal that node lacks",
@@ -328,8 +328,7 @@ def request(source):
 
 
 def ask_node(what, items):
-    ran = subprocess.run(["node", "-e", NODE], input=json.dumps({"what": what, "items": items}), stdout=subprocess.PIPE, text=True, check=True)
-    return json.loads(ran.stdout)
+    return engine.ask_node(NODE, {"what": what, "items": items})
 
 
 def ask_program(command, lines):
@@ -480,17 +479,12 @@ class Comparison:
         print(f"{len(self.lines)} lines; by node: " + ", ".join(f"{count} {state}" for state, count in sorted(self.states.items())))
         for kind, count in sorted(self.excused.items()):
             print(f"excused: {count} of {kind} ({EXCUSED[kind]})")
-        print(f"{len(self.differences)} differences")
-        for difference in self.differences:
-            print(difference)
-        return 1 if self.differences else 0
+        return engine.tell(self.differences)
 
 
 def main():
-    words = argparse.ArgumentParser(description=__doc__, formatter_class=argparse.RawDescriptionHelpFormatter)
+    words = engine.words_of(__doc__)
     words.add_argument("--count", type=int, default=40_000)
-    words.add_argument("--seed", type=int, default=2026)
-    words.add_argument("--program", default=f"{TOP}/regexp")
     words.add_argument("--words", default="standard")
     given = words.parse_args()
     source = random.Random(given.seed)

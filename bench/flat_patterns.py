@@ -36,8 +36,8 @@ def pattern(source, pieces):
     return re.sub(r"\\0(?=\d)", r"\\0a", "".join(made))
 
 
-def seconds(program, lines):
-    """The least of three runs, and the status."""
+def seconds(program, lines, words=()):
+    """The least of three runs with these words, and the status."""
     with tempfile.NamedTemporaryFile() as it:
         it.write(lines)
         it.flush()
@@ -45,7 +45,7 @@ def seconds(program, lines):
         for _ in range(3):
             with open(it.name, "rb") as given, open(os.devnull, "wb") as out:
                 began = time.perf_counter()
-                status = subprocess.run([program], stdin=given, stdout=out).returncode
+                status = subprocess.run([program, *words], stdin=given, stdout=out).returncode
                 took = time.perf_counter() - began
             best = took if best is None else min(best, took)
         return best, status

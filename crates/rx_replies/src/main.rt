@@ -8,7 +8,8 @@
 //! - `words: strict` says with which words the program is run for the rows after it, up to the next heading, where there are none again. Single spaces stand between two words.
 //! - An empty line says nothing.
 //!
-//! In a row and in flags `«9»` stands for the character U+0009, and so on: for each character that ends a line or a pattern, or that one would not see.
+//! In a row, in flags and in words `«9»` stands for the character U+0009, and so on: for each character that ends a line, a pattern or a word, or that one would not
+//! see. `«»` is an empty word.
 #![tactic(auto)]
 
 mod line;

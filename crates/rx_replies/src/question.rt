@@ -1,4 +1,5 @@
 use rx_base::{CleanSource, List, MemorySink, OutOfMemory, Text};
+use rx_rows::text_of;
 use rx_run::run::{Status, run};
 use std::alloc::Global;
 
@@ -11,7 +12,7 @@ const STEP: usize = 4096;
 /// A pattern and how it is asked.
 #[derive(Clone, Copy)]
 pub struct Question<'a> {
-    /// The words that the program is run with, with single spaces between.
+    /// The words that the program is run with, as a table writes them, with single spaces between.
     pub words: &'a str,
     pub form: &'a str,
     pub flags: &'a str,
@@ -19,30 +20,46 @@ pub struct Question<'a> {
 }
 
 impl Question<'_> {
-    /// What the program writes for the pattern, and the status that it ends with.
-    pub fn answer(&self, alloc: Global) -> Result<Answer, OutOfMemory> {
+    /// What the program writes for the pattern, and the status that it ends with; or none where the words are not written as a table writes them.
+    pub fn answer(&self, alloc: Global) -> Result<Option<Answer>, OutOfMemory> {
         let form = self.form;
         let flags = self.flags;
         let pattern = self.pattern;
         let line = format!(in alloc; "{form}\t{flags}\t{pattern}\n")?;
-        let words = words_of(alloc, self.words)?;
+        let Some(words) = words_of(alloc, self.words)? else {
+            return Ok(None);
+        };
         let mut source = CleanSource::new(line.as_bytes());
         let mut sink = MemorySink::new(alloc, ROOM, List::new(alloc), STEP)?;
         let status = run(alloc, words.as_slice(), &mut source, &mut sink);
-        Ok(Answer { status, sink })
+        Ok(Some(Answer { status, sink }))
     }
 }
 
-/// The words of a text, which stand between single spaces. An empty text has none.
-fn words_of(alloc: Global, text: &str) -> Result<List<Text>, OutOfMemory> {
+/// The words that a text stands for, with single spaces between. An empty text has none.
+fn words_of(alloc: Global, text: &str) -> Result<Option<List<Text>>, OutOfMemory> {
     let mut words = List::new(alloc);
     if text.is_empty() {
-        return Ok(words);
+        return Ok(Some(words));
     }
-    for word in text.split(' ') {
-        words.push(Text::from_str(alloc, word)?)?;
+    for written in text.split(' ') {
+        let Some(word) = word_of(alloc, written)? else {
+            return Ok(None);
+        };
+        words.push(word)?;
     }
-    Ok(words)
+    Ok(Some(words))
+}
+
+/// The word that a part of a text stands for. `«»` stands for an empty one.
+fn word_of(alloc: Global, written: &str) -> Result<Option<Text>, OutOfMemory> {
+    if written == "«»" {
+        return Ok(Some(Text::from_str(alloc, "")?));
+    }
+    let Some(word) = text_of(alloc, written)? else {
+        return Ok(None);
+    };
+    Ok(Some(Text::from_str(alloc, &word)?))
 }
 
 /// What the program wrote for one line, and the status that it ended with.

@@ -87,8 +87,9 @@ impl<'a> Report<'a> {
             pattern: &asked,
         };
         match question.answer(alloc) {
-            Ok(answer) if answer.is(&wanted) => Ok(()),
-            Ok(answer) => self.tell(rt, pattern, reply, &answer),
+            Ok(Some(answer)) if answer.is(&wanted) => Ok(()),
+            Ok(Some(answer)) => self.tell(rt, pattern, reply, &answer),
+            Ok(None) => self.refuse(rt, self.words),
             Err(OutOfMemory) => Err(io::Error::from(ErrorKind::OutOfMemory)),
         }
     }

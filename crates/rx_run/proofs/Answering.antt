@@ -1,7 +1,9 @@
 -- What replies are made of, and the replies to lines past the limit.
-use Rattle.std.proofs.Common.{◌≡◌, ◌<◌, ◌≤◌, refl, sym, ap, ◌∙◌, subst, inl, inr, ℕ, true, Ok, Err, List, ◌++◌, append_assoc, codes, encode_utf8_all, length, arith}
+use Rattle.std.proofs.Common.{◌≡◌, ◌<◌, ◌≤◌, refl, sym, ap, ◌∙◌, subst, inl, inr, ℕ, Bool, true, ◌&&◌, Ok, Err, List, ◌++◌, append_assoc, codes, drop, encode_utf8_all, length, length-append, arith}
 use Rattle.std.proofs.lemmas.Bool.{cases_lt}
 use Rattle.std.proofs.lemmas.List.{take_all, length-take-le}
+use Rattle.std.proofs.Math.Bool.{and-true}
+use Rattle.std.proofs.Math.Seq.{drop-append_seam}
 use Rattle.rx_base.specs.declared.diagnostic.Diagnostic.{Diagnostic}
 use Rattle.rx_base.specs.declared.fault.Fault.TheVariants as fault
 use Rattle.rx_ast.specs.declared.term.Pattern.{Pattern}
@@ -11,10 +13,9 @@ use Rattle.rx_tools.specs.Spelled.{read_of}
 use Rattle.rx_tools.specs.Utf8.{utf8}
 use Rattle.rx_tools.proofs.CanonicalAnswers.{first_of, read_as}
 use Rattle.rx_run.specs.declared.answer.Answering.{Answering}
-use Rattle.rx_run.specs.declared.answer.Answering.TheVariants.{Canonical, Display, Support}
 use Rattle.rx_run.specs.declared.service.Service.{Service}
 use Rattle.rx_run.specs.Request.{Request}
-use Rattle.rx_run.specs.Reply.{IsAsked, IsReply, bad, ok, err, bad_reply, begins_ok, canonical_reply, err_reply, input_of, mode_name, ok_reply}
+use Rattle.rx_run.specs.Reply.{IsAsked, IsReply, IsSaid, bad, said, err, bad_reply, begins_ok, canonical_reply, err_reply, input_of, mode_name}
 use Rattle.rx_run.specs.Serving.{kept}
 
 -- the parts of a reply with the spelling, added behind one another
@@ -34,21 +35,31 @@ pub length-kept : (line : List ℕ) → 1048577 ≤ length line → length (kept
 unfolding kept
 length-kept line long = length-take-le 1048577 line long
 
--- each `ok` reply begins with `ok`
-pub ok_begins_ok : (answering : Answering) (request : Request) (mode : Mode) (pattern : Pattern) → begins_ok (ok_reply answering request mode pattern) ≡ true
-ok_begins_ok Canonical request mode pattern = refl
-ok_begins_ok Display request mode pattern = refl
-ok_begins_ok (Support features) request mode pattern = refl
+-- a reply that begins with `ok` leaves the flag
+pub ok_added : (P : List ℕ → Type 0) (reply old new : List ℕ) (was is : Bool) → P reply → begins_ok reply ≡ true → is ≡ was → new ≡ old ++ reply
+    → (reply : List ℕ) × P reply × (new ≡ old ++ reply) × (is ≡ (was && begins_ok reply))
+ok_added P reply old new was is holds begins kept added = (reply, holds, added, kept ∙ sym (ap (λ (b : Bool). was && b) begins ∙ and-true was))
+
+-- where an added reply begins
+pub judged_start : {P : List ℕ → Type 0} (old new : List ℕ) (start : ℕ) → start ≡ length old → (reply : List ℕ) × P reply × (new ≡ old ++ reply) → start ≤ length new
+judged_start old new start at added = let longer = ap length added.2 ∙ length-append old added.0 in omega arith
+
+-- a reply that was added, and then judged
+pub judged : {P : List ℕ → Type 0} (old new last : List ℕ) (start : ℕ) (was is : Bool) → start ≡ length old → (reply : List ℕ) × P reply × (new ≡ old ++ reply) → last ≡ new → is ≡ (was && begins_ok (drop start new))
+    → (reply : List ℕ) × P reply × (last ≡ old ++ reply) × (is ≡ (was && begins_ok reply))
+judged old new last start was is at added kept noted =
+    let left : drop start new ≡ added.0 = ap (λ k. drop k new) at ∙ ap (drop (length old)) added.2 ∙ drop-append_seam old added.0 in
+    (added.0, added.1, kept ∙ added.2, noted ∙ ap (λ reply. was && begins_ok reply) left)
 
 -- in a line past the limit nothing is asked
 long_asks_nothing : (answering : Answering) (line : List ℕ) (request : Request) → 1048576 < length line → IsAsked answering line request → ⊥
 long_asks_nothing answering line request long is = let short : length line ≤ 1048576 = is.asked.within in omega arith
 
 module _ {service : Service} where
-  -- an `ok` reply, as it was made
-  pub ok_reply_is : (line : List ℕ) (request : Request) (it : Pattern × Mode) → IsAsked service.answering line request → IsAnswered read_of (input_of service.dialect request) (Ok it)
-      → IsReply service line (ok_reply service.answering request it.1 it.0)
-  ok_reply_is line request it asked answered = ok request it.1 it.0 asked (read_as read_of (input_of service.dialect request) it answered)
+  -- what is said of a tree, as it was made
+  pub said_is : (line : List ℕ) (request : Request) (it : Pattern × Mode) (reply : List ℕ) → IsAsked service.answering line request → IsAnswered read_of (input_of service.dialect request) (Ok it)
+      → IsSaid service.answering request it.1 it.0 reply → IsReply service line reply
+  said_is line request it reply asked answered is = said request it.1 it.0 reply asked (read_as read_of (input_of service.dialect request) it answered) is
 
   -- an `err` reply, as it was made
   pub err_reply_is : (line : List ℕ) (request : Request) (refusal : Diagnostic) → IsAsked service.answering line request
@@ -63,7 +74,7 @@ module _ {service : Service} where
 
   bad_if_long : (line reply : List ℕ) → 1048576 < length line → IsReply service line reply → reply ≡ bad_reply
   bad_if_long line reply long (bad none) = refl
-  bad_if_long line reply long (ok request mode pattern asked read) = absurd (long_asks_nothing service.answering line request long asked)
+  bad_if_long line reply long (said request mode pattern _ asked read is) = absurd (long_asks_nothing service.answering line request long asked)
   bad_if_long line reply long (err request refusal asked none first) = absurd (long_asks_nothing service.answering line request long asked)
 
   long_alike : (line line' reply : List ℕ) → 1048576 < length line → 1048576 < length line' → IsReply service line reply → IsReply service line' reply

@@ -3,7 +3,7 @@ use Rattle.std.specs.Prelude.{◌≡◌, ◌≤◌, ◌<◌, ℕ, IsTrue, List, 
 use Rattle.std.specs.Str.{all_ascii_digits}
 use Rattle.std.specs.Str.Parse.{digits_value}
 use Rattle.rx_run.specs.declared.answer.Answering.{Answering}
-use Rattle.rx_run.specs.declared.answer.Answering.TheVariants.{Canonical, Display, Support}
+use Rattle.rx_run.specs.declared.answer.Answering.TheVariants.{Canonical, Display, Support, Match, Steps}
 use Rattle.rx_run.specs.declared.command.Command.{Command}
 use Rattle.rx_run.specs.declared.command.Command.TheVariants.{Serve, Generate, Print}
 use Rattle.rx_run.specs.declared.dialect.Dialect.{Dialect}
@@ -11,11 +11,11 @@ use Rattle.rx_run.specs.declared.dialect.Dialect.TheVariants.{Default, Strict, S
 use Rattle.rx_run.specs.Features.{IsFeatureList}
 use Rattle.rx_run.specs.Notices.{notice_word}
 
--- The word is a decimal without sign, of 1 to 10 digits.
-pub record IsDecimal (word : List ℕ) (n : ℕ) : Type 0 where
+-- The word is a decimal without sign, of at least one digit and so many at most.
+pub record IsDecimal (longest : ℕ) (word : List ℕ) (n : ℕ) : Type 0 where
   pub digits : IsTrue (all_ascii_digits word)
   pub some : 1 ≤ length word
-  pub within : length word ≤ 10
+  pub within : length word ≤ longest
   pub value : n ≡ digits_value 10 word
 
 -- The words are `gen SEED COUNT`.
@@ -23,8 +23,8 @@ pub record IsGen (words : List (List ℕ)) (seed count : ℕ) : Type 0 where
   pub seed_word : List ℕ
   pub count_word : List ℕ
   pub words_are : words ≡ codes "gen" ∷ seed_word ∷ count_word ∷ []
-  pub seed_is : IsDecimal seed_word seed
-  pub count_is : IsDecimal count_word count
+  pub seed_is : IsDecimal 10 seed_word seed
+  pub count_is : IsDecimal 10 count_word count
   pub seed_within : seed < 2147483648
   pub some : 1 ≤ count
   pub count_within : count ≤ 20000
@@ -40,12 +40,18 @@ abbrev pub IsServing : List (List ℕ) → Dialect → Answering → Type 0
 IsServing words Default Canonical = words ≡ []
 IsServing words Default Display = words ≡ codes "display" ∷ []
 IsServing words Default (Support features) = (list : List ℕ) × (words ≡ codes "support" ∷ list ∷ []) × IsFeatureList list features
+IsServing words Default (Match budget text) = (word : List ℕ) × (words ≡ codes "match" ∷ word ∷ text ∷ []) × IsDecimal 10 word budget
+IsServing words Default (Steps text most) = (word : List ℕ) × (words ≡ codes "steps" ∷ text ∷ word ∷ []) × IsDecimal 19 word most
 IsServing words Strict Canonical = words ≡ codes "strict" ∷ []
 IsServing words Strict Display = words ≡ codes "strict" ∷ codes "display" ∷ []
 IsServing words Strict (Support features) = (list : List ℕ) × (words ≡ codes "strict" ∷ codes "support" ∷ list ∷ []) × IsFeatureList list features
+IsServing words Strict (Match budget text) = (word : List ℕ) × (words ≡ codes "strict" ∷ codes "match" ∷ word ∷ text ∷ []) × IsDecimal 10 word budget
+IsServing words Strict (Steps text most) = (word : List ℕ) × (words ≡ codes "strict" ∷ codes "steps" ∷ text ∷ word ∷ []) × IsDecimal 19 word most
 IsServing words Standard Canonical = words ≡ codes "standard" ∷ []
 IsServing words Standard Display = words ≡ codes "standard" ∷ codes "display" ∷ []
 IsServing words Standard (Support features) = (list : List ℕ) × (words ≡ codes "standard" ∷ codes "support" ∷ list ∷ []) × IsFeatureList list features
+IsServing words Standard (Match budget text) = (word : List ℕ) × (words ≡ codes "standard" ∷ codes "match" ∷ word ∷ text ∷ []) × IsDecimal 10 word budget
+IsServing words Standard (Steps text most) = (word : List ℕ) × (words ≡ codes "standard" ∷ codes "steps" ∷ text ∷ word ∷ []) × IsDecimal 19 word most
 
 -- the words of a command
 abbrev pub IsCommand : List (List ℕ) → Command → Type 0

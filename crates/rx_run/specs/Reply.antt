@@ -18,8 +18,9 @@ use Rattle.rx_model.specs.declared.rules.Rules.{Rules}
 use Rattle.rx_model.specs.Reading.Headline.{IsFirstRefusal, IsReadAs, IsValid}
 use Rattle.rx_model.specs.Inputs.Inputs.{Input}
 use Rattle.rx_model.specs.Spelling.Spelling.{spelling}
+use Rattle.rx_match_reply.specs.Replies.{IsMatchReply, IsTicksReply}
 use Rattle.rx_run.specs.declared.answer.Answering.{Answering}
-use Rattle.rx_run.specs.declared.answer.Answering.TheVariants.{Canonical, Display, Support}
+use Rattle.rx_run.specs.declared.answer.Answering.TheVariants.{Canonical, Display, Support, Match, Steps}
 use Rattle.rx_run.specs.declared.dialect.Dialect.{Dialect}
 use Rattle.rx_run.specs.declared.dialect.Dialect.TheVariants.{Default, Strict, Standard}
 use Rattle.rx_run.specs.declared.service.Service.{Service}
@@ -57,11 +58,13 @@ flags_bytes None = []
 flags_bytes (Some flags) = encode_utf8_all flags
 
 -- what is said of a request that is read as this tree, in this mode
-abbrev pub ok_reply : Answering → Request → Mode → Pattern → List ℕ
-ok_reply Canonical request mode pattern = canonical_reply mode (spelling (bare pattern) mode)
-ok_reply Display request mode pattern = display_reply mode (encode_utf8_all (pattern_shown pattern))
-ok_reply (Support features) request mode pattern =
-    support_reply (are_refused_flags features.flags (flags_bytes request.flags)) (needs_feature features (order (pattern_kind (mirror pattern))))
+abbrev pub IsSaid : Answering → Request → Mode → Pattern → List ℕ → Type 0
+IsSaid Canonical request mode pattern reply = reply ≡ canonical_reply mode (spelling (bare pattern) mode)
+IsSaid Display request mode pattern reply = reply ≡ display_reply mode (encode_utf8_all (pattern_shown pattern))
+IsSaid (Support features) request mode pattern reply =
+    reply ≡ support_reply (are_refused_flags features.flags (flags_bytes request.flags)) (needs_feature features (order (pattern_kind (mirror pattern))))
+IsSaid (Match budget text) request mode pattern reply = IsMatchReply (flags_bytes request.flags) text (mirror pattern) budget reply
+IsSaid (Steps text most) request mode pattern reply = IsTicksReply (flags_bytes request.flags) text (mirror pattern) most reply
 
 -- the name and the spans of a refusal
 abbrev pub err_reply : Diagnostic → List ℕ
@@ -90,23 +93,25 @@ is_standard Standard = true
 abbrev pub input_of : Dialect → Request → Input
 input_of dialect request = record { form = request.form; text = request.text; flags = request.flags; text_offset = 0; flags_offset = 0; rules = rules_for dialect; standard_strings = is_standard dialect }
 
--- the forms that are answered: `support` takes the flags as they stand in the field, where a literal has them
+-- the forms that are answered: `support`, `match` and `steps` take the flags as they stand in the field, where a literal has them
 abbrev pub IsAnswerable : Answering → Form → Type 0
 IsAnswerable Canonical form = ⊤
 IsAnswerable Display form = ⊤
 IsAnswerable (Support features) form = form ≡ Literal
+IsAnswerable (Match budget text) form = form ≡ Literal
+IsAnswerable (Steps text most) form = form ≡ Literal
 
 -- The line asks for this, in a form that is answered.
 pub record IsAsked (answering : Answering) (line : List ℕ) (request : Request) : Type 0 where
   pub asked : IsRequest line request
   pub answerable : IsAnswerable answering request.form
 
--- The reply to a line: nothing that is answered is asked in it; or what is asked is read; or its flags or text are refused, so that it is no valid one, with
--- the first refusal.
+-- The reply to a line: nothing that is answered is asked in it; or what is asked is read, and this is said of it; or its flags or text are refused, so that it
+-- is no valid one, with the first refusal.
 pub data IsReply (service : Service) (line : List ℕ) : List ℕ → Type 0 where
   bad : ((request : Request) → ¬ IsAsked service.answering line request) → IsReply service line bad_reply
-  ok : (request : Request) (mode : Mode) (pattern : Pattern) → IsAsked service.answering line request → IsReadAs (input_of service.dialect request) mode pattern
-      → IsReply service line (ok_reply service.answering request mode pattern)
+  said : (request : Request) (mode : Mode) (pattern : Pattern) (reply : List ℕ) → IsAsked service.answering line request → IsReadAs (input_of service.dialect request) mode pattern
+      → IsSaid service.answering request mode pattern reply → IsReply service line reply
   err : (request : Request) (refusal : Diagnostic) → IsAsked service.answering line request → ¬ IsValid (input_of service.dialect request) → IsFirstRefusal (input_of service.dialect request) refusal
       → IsReply service line (err_reply refusal)
 

@@ -8,13 +8,21 @@ ghost use Rattle.rx_run.specs.Reply.{IsAnswerable, IsAsked};
 ghost use Rattle.rx_run.specs.Request.{Request as Asked};
 
 use crate::features::Features;
+use crate::number::decimal_value;
 use crate::request::Request;
+use crate::subject::Subject;
 use rx_base::Text;
 use rx_tools::Form;
 
+/// The longest budget of `match`, in digits.
+const BUDGET_DIGITS: usize = 10;
+
+/// The longest number of `steps`, in digits.
+const MOST_DIGITS: usize = 19;
+
 /// What is said of a request that is read.
 #[derive(Debug, Drop)]
-pub enum Answering {
+pub enum Answering<'a> {
     /// Its mode and its canonical spelling.
     Canonical,
 
@@ -23,11 +31,17 @@ pub enum Answering {
 
     /// Whether its flags have one of these features, or are wrong, and whether its tree has one.
     Support(Features),
+
+    /// What it matches first in this text, within a budget of Ticks.
+    Match { budget: u64, text: Subject<'a> },
+
+    /// How many Ticks it takes to say what it matches first in this text, where they are so many at most.
+    Steps { text: Subject<'a>, most: u64 },
 }
 
-impl Answering {
+impl<'a> Answering<'a> {
     /// What is said with these words, which no word for options precedes, or none where the words are not of those lists.
-    pub fn parse(words: &[Text]) -> Option<Answering>
+    pub fn parse(words: &'a [Text]) -> Option<Answering<'a>>
         ensures { MatchOption result
             ((answering : Answers) → ¬ IsServing words.now Default answering)
             (λ answering. IsServing words.now Default answering) }
@@ -36,17 +50,22 @@ impl Answering {
             [] => Some(Answering::Canonical),
             [word] => display(word.as_str()),
             [name, list] => support(name.as_str(), list.as_str()),
+            [name, first, second] => matching(name.as_str(), first.as_str(), second.as_str()),
             _ => None,
         }
     }
+}
 
+impl Answering<'_> {
     /// Whether requests of this form are answered.
     fn takes(&self, form: Form) -> bool
         ensures { IsTrue result ↔ IsAnswerable self.now form }
     {
         match self {
             Answering::Canonical | Answering::Display => true,
-            Answering::Support(_) => matches!(form, Form::Literal),
+            Answering::Support(_) | Answering::Match { .. } | Answering::Steps { .. } => {
+                matches!(form, Form::Literal)
+            }
         }
     }
 
@@ -67,7 +86,7 @@ impl Answering {
 }
 
 /// What is said with this word, or none where it is not `display`.
-fn display(word: &str) -> Option<Answering>
+fn display(word: &str) -> Option<Answering<'_>>
     ensures { MatchOption result
         ((answering : Answers) → ¬ IsServing (chars word.now ∷ []) Default answering)
         (λ answering. IsServing (chars word.now ∷ []) Default answering) }
@@ -79,7 +98,7 @@ fn display(word: &str) -> Option<Answering>
 }
 
 /// What is said with these two words, or none where they are not `support` and a list of features.
-fn support(name: &str, list: &str) -> Option<Answering>
+fn support<'a>(name: &'a str, list: &'a str) -> Option<Answering<'a>>
     ensures { MatchOption result
         ((answering : Answers) → ¬ IsServing (chars name.now ∷ chars list.now ∷ []) Default answering)
         (λ answering. IsServing (chars name.now ∷ chars list.now ∷ []) Default answering) }
@@ -95,4 +114,25 @@ fn is_support(word: &str) -> bool
     ensures { IsTrue result ↔ (word.now ≡ codes "support") }
 {
     word == "support"
+}
+
+/// What is said with these three words, or none where they are not `match`, a budget and a text, or `steps`, a text and a number.
+fn matching<'a>(name: &'a str, first: &'a str, second: &'a str) -> Option<Answering<'a>>
+    ensures { MatchOption result
+        ((answering : Answers) → ¬ IsServing (chars name.now ∷ chars first.now ∷ chars second.now ∷ []) Default answering)
+        (λ answering. IsServing (chars name.now ∷ chars first.now ∷ chars second.now ∷ []) Default answering) }
+{
+    match name {
+        "match" => {
+            let budget = decimal_value(first, BUDGET_DIGITS)?;
+            let text = Subject::new(second);
+            Some(Answering::Match { budget, text })
+        }
+        "steps" => {
+            let most = decimal_value(second, MOST_DIGITS)?;
+            let text = Subject::new(first);
+            Some(Answering::Steps { text, most })
+        }
+        _ => None,
+    }
 }

@@ -1,17 +1,16 @@
 ghost use Rattle.std.specs.Prelude.{◌≡◌, ◌↔◌, ◌∷◌, ℕ, [], IsTrue, MatchOption, codes};
-ghost use Rattle.std.specs.Char.{is_ascii_digit};
-ghost use Rattle.std.specs.List.{list_all};
 ghost use Rattle.std.specs.Str.{chars};
 ghost use Rattle.rx_run.specs.declared.command.Command.{Command as Commands};
 ghost use Rattle.rx_run.specs.declared.notice.Notice.{Notice as Notices};
-ghost use Rattle.rx_run.specs.Command.{IsCommand, IsDecimal, IsGen};
+ghost use Rattle.rx_run.specs.Command.{IsCommand, IsGen};
 ghost use Rattle.rx_run.specs.Notices.{notice_word};
 
 use crate::notice::Notice;
+use crate::number::decimal_value;
 use crate::service::Service;
 use rx_base::Text;
 
-/// The longest decimal that is read, in digits.
+/// The longest seed and the longest count, in digits.
 const DIGITS: usize = 10;
 
 /// What each seed is below.
@@ -22,9 +21,10 @@ const COUNT_LIMIT: u64 = 20000;
 
 /// What the words after the program's name ask for.
 #[derive(Debug, Drop)]
-pub enum Command {
-    /// No words, `display` or `support LIST`, or `strict` or `standard` and one of these lists: the lines of the input are answered.
-    Serve(Service),
+pub enum Command<'a> {
+    /// No words, `display`, `support LIST`, `match BUDGET TEXT` or `steps TEXT MOST`, or `strict` or `standard` and one of these lists: the lines of the input
+    /// are answered.
+    Serve(Service<'a>),
 
     /// `gen SEED COUNT`: n patterns are made from this seed, and spelled.
     Generate { seed: u32, count: u32 },
@@ -33,9 +33,9 @@ pub enum Command {
     Print(Notice),
 }
 
-impl Command {
+impl<'a> Command<'a> {
     /// The command that has these words, or none where they are none of the stated lists.
-    pub fn parse(words: &[Text]) -> Option<Command>
+    pub fn parse(words: &'a [Text]) -> Option<Command<'a>>
         ensures { MatchOption result
             ((command : Commands) → ¬ IsCommand words.now command)
             (λ command. IsCommand words.now command) }
@@ -64,7 +64,7 @@ fn notice(words: &[Text]) -> Option<Notice>
 }
 
 /// The command with these words, or none where they are not `gen`, a seed and a count.
-fn generation(words: &[Text]) -> Option<Command>
+fn generation(words: &[Text]) -> Option<Command<'_>>
     ensures { MatchOption result
         ((seed count : ℕ) → ¬ IsGen words.now seed count)
         (λ command. IsCommand words.now command) }
@@ -76,7 +76,7 @@ fn generation(words: &[Text]) -> Option<Command>
 }
 
 /// The command with these three words, or none where they are not `gen`, a seed and a count.
-fn three_words(name: &str, seed: &str, count: &str) -> Option<Command>
+fn three_words<'a>(name: &'a str, seed: &'a str, count: &'a str) -> Option<Command<'a>>
     ensures { MatchOption result
         ((seed_value count_value : ℕ) → ¬ IsGen (chars name.now ∷ chars seed.now ∷ chars count.now ∷ []) seed_value count_value)
         (λ command. IsCommand (chars name.now ∷ chars seed.now ∷ chars count.now ∷ []) command) }
@@ -84,8 +84,8 @@ fn three_words(name: &str, seed: &str, count: &str) -> Option<Command>
     if !is_gen(name) {
         return None;
     }
-    let seed = decimal_value(seed)?;
-    let count = decimal_value(count)?;
+    let seed = decimal_value(seed, DIGITS)?;
+    let count = decimal_value(count, DIGITS)?;
     if seed >= SEED_LIMIT || count == 0 || count > COUNT_LIMIT {
         return None;
     }
@@ -99,25 +99,4 @@ fn is_gen(word: &str) -> bool
     ensures { IsTrue result ↔ (word.now ≡ codes "gen") }
 {
     word == "gen"
-}
-
-fn are_digits(bytes: &[u8]) -> bool
-    ensures { result ≡ list_all is_ascii_digit bytes.now }
-{
-    bytes.iter().all(|byte| byte.is_ascii_digit())
-}
-
-/// The value of a decimal without sign, or none where the word is none, or has more digits than are read.
-fn decimal_value(word: &str) -> Option<u64>
-    ensures { MatchOption result
-        ((n : ℕ) → ¬ IsDecimal (chars word.now) n)
-        (λ n. IsDecimal (chars word.now) n) }
-{
-    if word.len() > DIGITS {
-        return None;
-    }
-    if !are_digits(word.as_bytes()) {
-        return None;
-    }
-    word.parse::<u64>().ok()
 }

@@ -5,9 +5,9 @@ ghost use Rattle.rx_run.specs.Generator.{AreSized, IsGenOutput, IsGenerated, IsS
 ghost use Rattle.rx_run.specs.Printing.{IsPrinted, IsPrintBegun};
 ghost use Rattle.rx_run.specs.Generator.{piece as piece_text};
 
-use crate::decimal::add_decimal;
 use crate::server::ReplyFault;
 use rx_base::{Fault, List, OutOfMemory, Sink, Text, write_all};
+use rx_match_reply::add_decimal;
 use rx_tools::{Form, Options, canonical};
 use std::alloc::Global;
 

@@ -21,22 +21,24 @@ Replies:
 Words:
   display          as without words, but an ok reply is  ok <TAB> MODE <TAB> LENGTH <TAB> TEXT
                    with the text that Display writes of the pattern, and the number of its bytes
-  support LIST     as without words, but an ok reply is  ok <TAB> F <TAB> P
-                   F is 1 where a flag is of the list, P is 1 where something of the pattern is; else 0. A line of
-                   form C is bad. LIST is one or more of these, with commas between, none twice: sticky, unicode, dot_all,
-                   match_indices, unicode_sets, named_capture_groups, duplicate_named_capture_groups,
-                   unicode_property_escapes, look_behind_assertions, pattern_modifiers, buffer_boundaries
+  support LIST     as without words, but form C is bad, and an ok reply is  ok <TAB> F <TAB> P  where F is 1 where a flag is
+                   of the list, and P where something of the pattern is; else 0. LIST is one or more of these, with commas
+                   between, none twice: sticky, unicode, dot_all, match_indices, unicode_sets, named_capture_groups,
+                   duplicate_named_capture_groups, unicode_property_escapes, look_behind_assertions, pattern_modifiers, buffer_boundaries
+  match BUDGET TEXT  as without words, but form C is bad, and of a pattern that is read it is said what it matches first in
+                   TEXT within a BUDGET of Ticks, in 1 to 10 digits:  ok <TAB> START..END <TAB> SLOTS  or  ok <TAB> none  or
+                   spent  or  unsupported <TAB> flag (i) or SPAN. A group's slot is START..END too, or -
+  steps TEXT MOST  the same, but it is said how many Ticks that takes:  ok <TAB> TICKS  or, above MOST, in 1 to 19 digits,  more
   strict           before one of these, or alone: no two groups may have one name, and \A, \z and \Z are no boundaries
   standard         before one of these, or alone: the arguments of a line of form C are read as ECMA-262 has them
   gen SEED COUNT   reads nothing; makes COUNT patterns (1 to 20000) from a SEED below 2147483648, reads and spells each,
                    and writes how many there were, how many were read, and how many bytes their spellings have
-  --help           writes this text
-  --version        writes the version
+  --help, --version  writes this text, the version
 
 Status:
   0  the input was read to its end, and every reply begins with ok; or what was asked for was written
   1  the input was read to its end, and some reply does not begin with ok
-  2  the words are none of the above; nothing is read or written
+  2  the words are none of the above, or not UTF-8; nothing is read or written
   3, 4, 5  a fault of reading; a fault of writing; out of memory
   6  the input is longer than 67108864 bytes
 

@@ -1,4 +1,4 @@
-ghost use Rattle.std.specs.Prelude.{◌≡◌, ◌++◌, ◌&&◌, ℕ, List as Sequence, [], true, false, OnOk, codes, encode_utf8_all};
+ghost use Rattle.std.specs.Prelude.{◌≡◌, ◌≤◌, ◌++◌, ◌&&◌, ℕ, List as Sequence, [], true, false, OnOk, codes, drop, encode_utf8_all, length};
 ghost use Rattle.std.specs.Str.{chars};
 ghost use Rattle.rx_base.specs.Writing.{Written};
 ghost use Rattle.rx_ast.specs.Forget.{bare};
@@ -8,17 +8,18 @@ ghost use Rattle.rx_visit.specs.Flags.{are_refused_flags};
 ghost use Rattle.rx_ast.specs.Shown.{pattern_shown};
 ghost use Rattle.rx_model.specs.Spelling.Spelling.{spelling};
 ghost use Rattle.rx_parser.specs.Inputs.{flags_chars};
-ghost use Rattle.rx_run.specs.Reply.{IsReply, begins_ok, canonical_reply, display_reply, err_reply, mode_name, ok_reply, support_reply};
+ghost use Rattle.rx_match_reply.specs.Replies.{IsMatchReply, IsTicksReply};
+ghost use Rattle.rx_run.specs.Reply.{IsReply, IsSaid, begins_ok, canonical_reply, display_reply, err_reply, mode_name, support_reply};
 ghost use Rattle.rx_run.specs.Features.{needs_feature};
 
 use crate::answer::Answering;
-use crate::decimal::add_decimal;
 use crate::features::Features;
 use crate::request::Request;
 use crate::service::Service;
 use crate::spans::add_spans;
 use rx_ast::Pattern;
 use rx_base::{Diagnostic, Failed, Fault, List, OutOfMemory, Sink, write_all};
+use rx_match_reply::{add_decimal, add_match, add_ticks};
 use rx_tools::support::has_unsupported_regular_expression_flags;
 use rx_tools::{Mode, append_canonical, display_text, read_pattern};
 use std::alloc::Global;
@@ -42,7 +43,12 @@ impl Replies {
     }
 
     /// Adds the reply to a line. After a refusal a part of the reply may stand at the end.
-    pub fn add(&mut self, alloc: Global, service: &Service, line: &[u8]) -> Result<(), OutOfMemory>
+    pub fn add(
+        &mut self,
+        alloc: Global,
+        service: &Service<'_>,
+        line: &[u8],
+    ) -> Result<(), OutOfMemory>
         ensures { OnOk result ((reply : Sequence ℕ) × IsReply service.now line.now reply
             × (self.new.bytes ≡ self.old.bytes ++ reply) × (self.new.all_ok ≡ (self.old.all_ok && begins_ok reply))) }
     {
@@ -51,7 +57,9 @@ impl Replies {
         };
         let options = service.dialect.options();
         match read_pattern(alloc, request.form, request.text, request.flags, options) {
-            Ok((pattern, mode)) => self.add_ok(alloc, &service.answering, &request, &pattern, mode),
+            Ok((pattern, mode)) => {
+                self.add_said(alloc, &service.answering, &request, &pattern, mode)
+            }
             Err(Fault::Diagnostic(cause)) => self.add_err(&cause),
             Err(Fault::OutOfMemory) => Err(OutOfMemory),
         }
@@ -66,18 +74,18 @@ impl Replies {
         self.bytes.extend_from_slice(reply)
     }
 
-    /// Adds the reply to a request that is read as this tree. After an error a part of it may stand at the end.
-    fn add_ok(
+    /// Adds what is said of a request that is read as this tree. After an error a part of it may stand at the end.
+    fn add_said(
         &mut self,
         alloc: Global,
-        answering: &Answering,
+        answering: &Answering<'_>,
         request: &Request<'_>,
         pattern: &Pattern,
         mode: Mode,
     ) -> Result<(), OutOfMemory>
-        ensures bytes { OnOk result (self.new.bytes ≡ self.old.bytes ++ ok_reply answering.now
-            (record { form = request.now.form; flags = flags_chars request.now.flags; text = chars request.now.text.now }) mode pattern.now) }
-        ensures all_ok { self.new.all_ok ≡ self.old.all_ok }
+        ensures { OnOk result ((reply : Sequence ℕ)
+            × IsSaid answering.now (record { form = request.now.form; flags = flags_chars request.now.flags; text = chars request.now.text.now }) mode pattern.now reply
+            × (self.new.bytes ≡ self.old.bytes ++ reply) × (self.new.all_ok ≡ (self.old.all_ok && begins_ok reply))) }
     {
         match answering {
             Answering::Canonical => self.add_canonical(alloc, pattern, mode),
@@ -85,7 +93,65 @@ impl Replies {
             Answering::Support(features) => {
                 self.add_support(alloc, features, request.flags_field(), pattern)
             }
+            Answering::Match { budget, text } => {
+                self.add_match(
+                    alloc,
+                    pattern,
+                    request.flags_field(),
+                    text.as_str(),
+                    *budget,
+                )
+            }
+            Answering::Steps { text, most } => {
+                self.add_steps(alloc, pattern, request.flags_field(), text.as_str(), *most)
+            }
         }
+    }
+
+    /// Adds the reply that says what a tree matches in a text.
+    fn add_match(
+        &mut self,
+        alloc: Global,
+        pattern: &Pattern,
+        flags: &str,
+        text: &str,
+        budget: u64,
+    ) -> Result<(), OutOfMemory>
+        ensures { OnOk result ((reply : Sequence ℕ) × IsMatchReply flags.now (chars text.now) (mirror pattern.now) budget reply
+            × (self.new.bytes ≡ self.old.bytes ++ reply) × (self.new.all_ok ≡ (self.old.all_ok && begins_ok reply))) }
+    {
+        let start = self.bytes.len();
+        add_match(alloc, &mut self.bytes, pattern, flags, text, budget)?;
+        self.judge_from(start);
+        Ok(())
+    }
+
+    /// Adds the reply that says how many Ticks it takes to say so.
+    fn add_steps(
+        &mut self,
+        alloc: Global,
+        pattern: &Pattern,
+        flags: &str,
+        text: &str,
+        most: u64,
+    ) -> Result<(), OutOfMemory>
+        ensures { OnOk result ((reply : Sequence ℕ) × IsTicksReply flags.now (chars text.now) (mirror pattern.now) most reply
+            × (self.new.bytes ≡ self.old.bytes ++ reply) × (self.new.all_ok ≡ (self.old.all_ok && begins_ok reply))) }
+    {
+        let start = self.bytes.len();
+        add_ticks(alloc, &mut self.bytes, pattern, flags, text, most)?;
+        self.judge_from(start);
+        Ok(())
+    }
+
+    /// Notes whether the reply that begins at this place of the bytes begins with `ok`.
+    fn judge_from(&mut self, start: usize)
+        requires { start ≤ length self.old.bytes }
+        ensures bytes { self.new.bytes ≡ self.old.bytes }
+        ensures all_ok { self.new.all_ok ≡ (self.old.all_ok && begins_ok (drop start self.old.bytes)) }
+    {
+        let is_ok = self.bytes.as_slice()[start..].starts_with(b"ok");
+        self.all_ok = self.all_ok && is_ok;
     }
 
     /// Adds the reply with this mode and the canonical spelling of a tree.

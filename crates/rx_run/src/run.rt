@@ -121,7 +121,7 @@ impl From<OutOfMemory> for Status {
 /// Reads the input to its end, answers each line, and says whether each reply begins with `ok`.
 fn serve<S: Source, K: Sink>(
     alloc: Global,
-    service: &Service,
+    service: &Service<'_>,
     source: &mut S,
     sink: &mut K,
 ) -> Result<bool, Interruption>
@@ -149,7 +149,7 @@ fn serve<S: Source, K: Sink>(
 /// Answers the lines of the input.
 fn run_serve<S: Source, K: Sink>(
     alloc: Global,
-    service: &Service,
+    service: &Service<'_>,
     source: &mut S,
     sink: &mut K,
 ) -> Status
@@ -200,8 +200,8 @@ fn run_print<K: Sink>(text: &str, sink: &mut K) -> Status
     }
 }
 
-/// Does all that the program does, for the words after its name. The stated lists of words are none, `display` and `support LIST`, each
-/// also after `strict` or `standard`; and `gen SEED COUNT`, `--help` and `--version`.
+/// Does all that the program does, for the words after its name. The stated lists of words are none, `display`, `support LIST`,
+/// `match BUDGET TEXT` and `steps TEXT MOST`, each also after `strict` or `standard`; and `gen SEED COUNT`, `--help` and `--version`.
 pub fn run<S: Source, K: Sink>(
     alloc: Global,
     words: &[Text],

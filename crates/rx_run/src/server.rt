@@ -68,7 +68,7 @@ impl Server {
     fn end_line(
         &mut self,
         alloc: Global,
-        service: &Service,
+        service: &Service<'_>,
         piece: &[u8],
     ) -> Result<(), OutOfMemory>
         requires { IsTrue (lacks 10 piece.now) }
@@ -99,7 +99,7 @@ impl Server {
     fn answer_lines(
         &mut self,
         alloc: Global,
-        service: &Service,
+        service: &Service<'_>,
         bytes: &[u8],
     ) -> Result<(), OutOfMemory>
         ensures { OnOk result ((new : Sequence ℕ) × (self.new.replies.bytes ≡ self.old.replies.bytes ++ new)
@@ -117,7 +117,7 @@ impl Server {
     pub fn feed<K: Sink>(
         &mut self,
         alloc: Global,
-        service: &Service,
+        service: &Service<'_>,
         bytes: &[u8],
         sink: &mut K,
     ) -> Result<(), ReplyFault>
@@ -140,7 +140,7 @@ impl Server {
     pub fn finish<K: Sink>(
         &mut self,
         alloc: Global,
-        service: &Service,
+        service: &Service<'_>,
         sink: &mut K,
     ) -> Result<bool, ReplyFault>
         requires { self.old.replies.bytes ≡ [] }

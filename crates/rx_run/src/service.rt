@@ -8,14 +8,14 @@ use rx_base::Text;
 
 /// How lines are answered: with which options they are read, and what is said of them.
 #[derive(Debug, Drop)]
-pub struct Service {
+pub struct Service<'a> {
     pub dialect: Dialect,
-    pub answering: Answering,
+    pub answering: Answering<'a>,
 }
 
-impl Service {
+impl<'a> Service<'a> {
     /// How lines are answered with these words, or none where the words are not of those lists.
-    pub fn parse(words: &[Text]) -> Option<Service>
+    pub fn parse(words: &'a [Text]) -> Option<Service<'a>>
         ensures { MatchOption result
             ((service : Services) → ¬ IsServing words.now service.dialect service.answering)
             (λ service. IsServing words.now service.dialect service.answering) }

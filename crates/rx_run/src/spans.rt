@@ -1,8 +1,8 @@
 ghost use Rattle.std.specs.Prelude.{◌≡◌, ◌++◌, OnOk};
-ghost use Rattle.rx_run.specs.Spans.{span_text, second_text, spans_text};
+ghost use Rattle.rx_run.specs.Spans.{second_text, spans_text};
 
-use crate::decimal::add_decimal;
 use rx_base::{Diagnostic, List, OutOfMemory, Span};
+use rx_match_reply::add_span;
 
 /// Adds the spans of a refusal. After an error a part of them may stand at the end.
 pub fn add_spans(bytes: &mut List<u8>, cause: &Diagnostic) -> Result<(), OutOfMemory>
@@ -20,12 +20,4 @@ fn add_second_span(bytes: &mut List<u8>, second: Option<Span>) -> Result<(), Out
     };
     bytes.extend_from_slice(b",")?;
     add_span(bytes, span)
-}
-
-fn add_span(bytes: &mut List<u8>, span: Span) -> Result<(), OutOfMemory>
-    ensures { OnOk result (bytes.new ≡ bytes.old ++ span_text span) }
-{
-    add_decimal(bytes, span.start)?;
-    bytes.extend_from_slice(b"..")?;
-    add_decimal(bytes, span.end)
 }

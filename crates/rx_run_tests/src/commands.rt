@@ -1,4 +1,4 @@
-//! The commands `display` and `support`, with `strict` and `standard` before them and alone, the texts of `--help` and `--version`, and words that are none of the stated lists.
+//! The commands `display`, `support`, `match` and `steps`, with `strict` and `standard` before them and alone, the texts of `--help` and `--version`, and words that are none of the stated lists.
 use crate::memory::{bytes_of, words_of};
 use rx_base::{List, MemorySink, MemorySource, OutOfMemory, Source};
 use rx_rows::{Call, agree, text_of};
@@ -96,7 +96,26 @@ support sticky | C«9»«9»"a" => 1 [bad«A»]
 support sticky | L«9»u«9»(?<a>x)(?<a>y) => 1 [err«9»duplicated_capturing_group_names«9»3..4,10..11«A»]
 support sticky | L«9»u«9»é*+ => 1 [err«9»lone_quantifier«9»3..4«A»]
 support sticky | L«9»gg«9»a => 1 [err«9»duplicated_flags«9»1..2«A»]
-support sticky | L«9»y => 1 [bad«A»]"#;
+support sticky | L«9»y => 1 [bad«A»]
+match 2 b | L«9»u«9»a|b => 0 [ok«9»0..1«9»«A»]
+match 1 b | L«9»u«9»a|b => 1 [spent«A»]
+match 4 b | L«9»u«9»(a*)* => 0 [ok«9»0..0«9»-«A»]
+match 3 b | L«9»u«9»(a*)* => 1 [spent«A»]
+match 1000 1053 | L«9»u«9»(?<=(\d+)(\d+))$ => 0 [ok«9»4..4«9»0..1,1..4«A»]
+match 9 a | L«9»u«9»a\p{L} => 1 [unsupported«9»1..6«A»]
+match 9 a | L«9»gi«9»a«A»L«9»iu«9»\p{L} => 1 [unsupported«9»flag«A»unsupported«9»flag«A»]
+match 9 a | L«9»u«9»(?:b|(?-i:a))«A»L«9»v«9»b[\q{ab}] => 1 [unsupported«9»7..9«A»unsupported«9»2..8«A»]
+match 0000000009 a | L«9»«9»a«A»L«9»«9»b«A»L«9»«9»(b)?|a => 0 [ok«9»0..1«9»«A»ok«9»none«A»ok«9»0..0«9»-«A»]
+match 0 a | L«9»«9»(?:)«A»L«9»«9»a => 1 [spent«A»spent«A»]
+match 9 😀 | L«9»«9»$«A»L«9»u«9»$«A»L«9»v«9».«A»L«9»«9». => 0 [ok«9»2..2«9»«A»ok«9»1..1«9»«A»ok«9»0..1«9»«A»ok«9»0..1«9»«A»]
+match 9 a | C«9»«9»"a"«A»L«9»u«9»(a«A»L«9»gg«9»a => 1 [bad«A»err«9»unterminated_pattern«9»0..2«A»err«9»duplicated_flags«9»1..2«A»]
+strict match 9 y | L«9»u«9»(?<a>x)|(?<a>y) => 1 [err«9»duplicated_capturing_group_names«9»3..4,11..12«A»]
+standard match 9 y | L«9»u«9»(?<a>x)|(?<a>y) => 0 [ok«9»0..1«9»-,0..1«A»]
+steps b 2 | L«9»u«9»a|b«A»L«9»u«9»(a*)* => 1 [ok«9»2«A»more«A»]
+steps aaaaaaaaaa 1000000000000000000 | L«9»«9»a*b«A»L«9»«9»a* => 0 [ok«9»143«A»ok«9»12«A»]
+steps aaaaaaaaaa 142 | L«9»«9»a*b«A»L«9»i«9»a*b«A»L«9»u«9»\P{L}a => 1 [more«A»unsupported«9»flag«A»unsupported«9»0..5«A»]
+strict steps b 9 | L«9»«9»a|b => 0 [ok«9»2«A»]
+standard steps b 9 | L«9»«9»a|b«A»C«9»«9»"b" => 1 [ok«9»2«A»bad«A»]"#;
 
 #[test]
 fn lines_are_answered(rt: HostRuntime) -> Result<(), Fail> {
@@ -156,6 +175,27 @@ standard strict display => 2 []
 standard support => 2 []
 standard gen 1 1 => 2 []
 support sticky strict => 2 []
+match => 2 []
+match 1 => 2 []
+match 1 a b => 2 []
+match a 1 => 2 []
+match -1 a => 2 []
+match +1 a => 2 []
+match  a => 2 []
+match 1a a => 2 []
+match 12345678901 a => 2 []
+Match 1 a => 2 []
+match strict 1 a => 2 []
+match display 1 a => 2 []
+strict match 1 => 2 []
+strict standard match 1 a => 2 []
+steps => 2 []
+steps a => 2 []
+steps 1 a => 2 []
+steps a 1 1 => 2 []
+steps a -1 => 2 []
+steps a 12345678901234567890 => 2 []
+standard steps 1 a => 2 []
 --help x => 2 []
 --Help => 2 []
 help => 2 []
@@ -181,6 +221,8 @@ fn help_is_a_text_of_few_lines(rt: HostRuntime) -> Result<(), Fail> {
         "standard",
         "display",
         "support",
+        "match",
+        "steps",
         "gen",
         "--help",
         "--version",

@@ -2,7 +2,6 @@ use Rattle.std.proofs.Common.{◌≡◌, ◌∙◌, refl, sym, ap, subst, Ok, Er
 use Rattle.std.specs.Str.{chars}
 use Rattle.std.proofs.lemmas.Bool.{and_right}
 use Rattle.std.proofs.lemmas.Result.{on_ok_weaker}
-use Rattle.std.proofs.Math.Bool.{and-true}
 use Rattle.rx_base.specs.declared.fault.Fault.TheVariants as fault
 use Rattle.rx_ast.specs.declared.term.Pattern.{Pattern}
 use Rattle.rx_model.specs.declared.mode.Mode.{Mode}
@@ -11,8 +10,8 @@ use Rattle.rx_tools.specs.Spelled.{read_of}
 use Rattle.rx_tools.proofs.CanonicalAnswers.{by_itself}
 use Rattle.rx_parser.specs.Inputs.{flags_chars, rules_of}
 use Rattle.rx_run.specs.Request.{Request}
-use Rattle.rx_run.specs.Reply.{bad, bad_reply, ok_reply, err_reply, input_of, is_standard, rules_for}
-use Rattle.rx_run.proofs.Answering.{err_reply_is, ok_begins_ok, ok_reply_is}
+use Rattle.rx_run.specs.Reply.{bad, bad_reply, err_reply, input_of, is_standard, rules_for}
+use Rattle.rx_run.proofs.Answering.{err_reply_is, said_is}
 use Rattle.rx_run.proofs.replies.Replies.add.Goals as goal
 
 -- a refusal turns the flag
@@ -29,17 +28,17 @@ returns-in-Ok c =
     let request : Request = record { form = c.in-Some.request.form; flags = flags_chars c.in-Some.request.flags; text = chars c.in-Some.request.text.now } in
     let it : Pattern × Mode = (c.in-Ok.pattern, c.in-Ok.mode) in
     let options = c.options-options.result in
-    on_ok_weaker c.add_ok.result
+    on_ok_weaker c.add_said.result
     (λ added. (
-      ok_reply c.args.service.now.answering request it.1 it.0,
-      ok_reply_is c.args.line.now request it c.in-Some.ensures.asked
+      added.0,
+      said_is c.args.line.now request it added.0 c.in-Some.ensures.asked
           (by_itself read_of request.form request.text request.flags (Ok it) options.pattern_span_offset options.flags_span_offset (rules_of options) (rules_for c.args.service.now.dialect)
           options.standard_strings (is_standard c.args.service.now.dialect) c.options-options.ensures.pattern_span_offset c.options-options.ensures.flags_span_offset c.options-options.ensures.rules
-          c.options-options.ensures.standard_strings c.in-Ok.ensures.headline),
-      added,
-      c.add_ok.ensures.all_ok ∙ sym (ap (λ (b : Bool). c.args.self.now.all_ok && b) (ok_begins_ok c.args.service.now.answering request it.1 it.0) ∙ and-true c.args.self.now.all_ok),
+          c.options-options.ensures.standard_strings c.in-Ok.ensures.headline) added.1,
+      added.2,
+      added.3,
     ))
-    c.add_ok.ensures.bytes
+    c.add_said.ensures
 
 pub returns-in-Err-Diagnostic : goal.returns-in-Err-Diagnostic
 returns-in-Err-Diagnostic c =

@@ -1,0 +1,87 @@
+-- What is left where a look-around was matched.
+use Rattle.std.proofs.Common.{◌≡◌, refl, ap, sym, ◌∙◌, subst, ℕ, suc, ◌≤◌, Bool, Option, Some, None, List, [], ◌∷◌, ◌++◌, append_assoc, reverse, arith}
+use Rattle.std.proofs.lemmas.List.{reverse-reverse}
+use Rattle.rx_ast.specs.declared.leaf.LookAroundAssertionKind.{LookAroundAssertionKind}
+use Rattle.rx_match.specs.declared.answer.Slot.{Slot}
+use Rattle.rx_match.specs.declared.step.Backtrack.{Backtrack}
+use Rattle.rx_match.specs.declared.step.Backtrack.TheVariants as backtrack
+use Rattle.rx_match.specs.Sound.{PlacedOf, ArePlaced, depth_of, depth_in, cut_of, cut_back, cut_in, top_of, top_in}
+use Rattle.rx_match.proofs.Frames.{reverse-last}
+
+-- one entry less
+pub record Fewer (old before : List Backtrack) (kept : List Backtrack) : Type 0 where
+  pub top : top_in old ≡ top_in before
+  pub cut : cut_back old ≡ kept ++ cut_back before
+
+pub fewer_none : (old : List Backtrack) → Fewer old old []
+fewer_none old = record { top = refl; cut = refl }
+
+pub fewer_choice : (old before between kept : List Backtrack) (p e i h fs : ℕ) → before ≡ between ++ (backtrack.Choice p e i h fs ∷ []) → Fewer old before kept → Fewer old between kept
+unfolding cut_back top_in
+fewer_choice old before between kept p e i h fs is f = record { top = f.top ∙ ap top_of (reverse-last before between (backtrack.Choice p e i h fs) is); cut = f.cut ∙ ap (λ r. kept ++ cut_of r) (reverse-last before between (backtrack.Choice p e i h fs) is) }
+
+pub fewer_turn : (old before between kept : List Backtrack) (p i min : ℕ) (max : Option ℕ) (h fs : ℕ) → before ≡ between ++ (backtrack.Turn p i min max h fs ∷ []) → Fewer old before kept → Fewer old between kept
+unfolding cut_back top_in
+fewer_turn old before between kept p i min max h fs is f = record { top = f.top ∙ ap top_of (reverse-last before between (backtrack.Turn p i min max h fs) is); cut = f.cut ∙ ap (λ r. kept ++ cut_of r) (reverse-last before between (backtrack.Turn p i min max h fs) is) }
+
+pub fewer_restore : (old before between kept more : List Backtrack) (k : ℕ) (was : Slot) (fs : ℕ) → before ≡ between ++ (backtrack.RestoreSlot k was fs ∷ []) → more ≡ kept ++ (backtrack.RestoreSlot k was fs ∷ []) → Fewer old before kept → Fewer old between more
+unfolding cut_back top_in
+fewer_restore old before between kept more k was fs is kept_is f = record {
+  top = f.top ∙ ap top_of (reverse-last before between (backtrack.RestoreSlot k was fs) is);
+  cut = f.cut ∙ ap (λ r. kept ++ cut_of r) (reverse-last before between (backtrack.RestoreSlot k was fs) is)
+      ∙ sym (append_assoc kept (backtrack.RestoreSlot k was fs ∷ []) (cut_of (reverse between))) ∙ ap (λ ks. ks ++ cut_of (reverse between)) (sym kept_is);
+}
+
+pub look_around_top : (old before between kept : List Backtrack) (p : ℕ) (kind : LookAroundAssertionKind) (i h fs : ℕ) (back : Bool) → before ≡ between ++ (backtrack.LookAround p kind i h fs back ∷ []) → Fewer old before kept
+    → top_in old ≡ Some (backtrack.LookAround p kind i h fs back)
+unfolding top_in
+look_around_top old before between kept p kind i h fs back is f = f.top ∙ ap top_of (reverse-last before between (backtrack.LookAround p kind i h fs back) is)
+
+pub look_around_cut : (old before between kept after : List Backtrack) (p : ℕ) (kind : LookAroundAssertionKind) (i h fs : ℕ) (back : Bool) → before ≡ between ++ (backtrack.LookAround p kind i h fs back ∷ []) → Fewer old before kept
+    → after ≡ reverse (kept ++ reverse between) → after ≡ cut_in old
+unfolding cut_back
+look_around_cut old before between kept after p kind i h fs back is f put = put ∙ sym (ap reverse (f.cut ∙ ap (λ r. kept ++ cut_of r) (reverse-last before between (backtrack.LookAround p kind i h fs back) is)))
+
+pub none_top : (old kept : List Backtrack) → Fewer old [] kept → top_in old ≡ None
+unfolding top_in
+none_top old kept f = f.top
+
+-- kept entries are put back
+pub put_one : (kept before between entries more : List Backtrack) (e : Backtrack) → before ≡ between ++ (e ∷ []) → more ≡ entries ++ (e ∷ []) → before ++ reverse entries ≡ between ++ reverse more
+put_one kept before between entries more e is pushed = ap (λ k. k ++ reverse entries) is ∙ append_assoc between (e ∷ []) (reverse entries) ∙ ap (λ r. between ++ r) (sym (reverse-last more entries e pushed))
+
+-- what the last barrier says
+cut-placed : (n f : ℕ) (r : List Backtrack) (p : ℕ) (kind : LookAroundAssertionKind) (i h fs : ℕ) (back : Bool) → top_of r ≡ Some (backtrack.LookAround p kind i h fs back) → PlacedOf n f r → (p ≤ n) × (h ≤ fs) × (fs ≤ f) × PlacedOf n fs (cut_of r)
+cut-placed n f [] p kind i h fs back is placed = absurd (cc)
+cut-placed n f (backtrack.Choice p' e' i' h' fs' ∷ more) p kind i h fs back is placed =
+    let it = cut-placed n fs' more p kind i h fs back is placed.3 in
+    (it.0, it.1, omega arith, it.3)
+cut-placed n f (backtrack.Turn p' i' min max h' fs' ∷ more) p kind i h fs back is placed =
+    let it = cut-placed n fs' more p kind i h fs back is placed.3 in
+    (it.0, it.1, omega arith, it.3)
+cut-placed n f (backtrack.RestoreSlot k old fs' ∷ more) p kind i h fs back is placed =
+    let it = cut-placed n placed.0 more p kind i h fs back is placed.3 in
+    (it.0, it.1, omega arith, (fs, omega arith, omega arith, it.3))
+cut-placed n f (backtrack.LookAround p' kind' i' h' fs' back' ∷ more) p kind i h fs back is placed =
+    let ps : p' ≡ p = cc in
+    let hs : h' ≡ h = cc in
+    let same : fs' ≡ fs = cc in
+    (subst (λ q. q ≤ n) ps placed.0, omega arith, omega arith, subst (λ q. PlacedOf n q more) same placed.3)
+
+cut-depth : (r : List Backtrack) (p : ℕ) (kind : LookAroundAssertionKind) (i h fs : ℕ) (back : Bool) → top_of r ≡ Some (backtrack.LookAround p kind i h fs back) → depth_of r ≡ suc (depth_of (cut_of r))
+cut-depth [] p kind i h fs back is = absurd (cc)
+cut-depth (backtrack.Choice p' e' i' h' fs' ∷ more) p kind i h fs back is = cut-depth more p kind i h fs back is
+cut-depth (backtrack.Turn p' i' min max h' fs' ∷ more) p kind i h fs back is = cut-depth more p kind i h fs back is
+cut-depth (backtrack.RestoreSlot k old fs' ∷ more) p kind i h fs back is = cut-depth more p kind i h fs back is
+cut-depth (backtrack.LookAround p' kind' i' h' fs' back' ∷ more) p kind i h fs back is = refl
+
+pub placed-cut : (n f : ℕ) (entries : List Backtrack) (p : ℕ) (kind : LookAroundAssertionKind) (i h fs : ℕ) (back : Bool) → top_in entries ≡ Some (backtrack.LookAround p kind i h fs back) → ArePlaced n f entries
+    → (p ≤ n) × (h ≤ fs) × (fs ≤ f) × ArePlaced n fs (cut_in entries)
+unfolding ArePlaced cut_back top_in
+placed-cut n f entries p kind i h fs back is placed =
+    let it = cut-placed n f (reverse entries) p kind i h fs back is placed in
+    (it.0, it.1, it.2, subst (PlacedOf n fs) (sym (reverse-reverse (cut_of (reverse entries)))) it.3)
+
+pub depth-cut : (entries : List Backtrack) (p : ℕ) (kind : LookAroundAssertionKind) (i h fs : ℕ) (back : Bool) → top_in entries ≡ Some (backtrack.LookAround p kind i h fs back) → depth_in entries ≡ suc (depth_in (cut_in entries))
+unfolding depth_in cut_back top_in
+depth-cut entries p kind i h fs back is = cut-depth (reverse entries) p kind i h fs back is ∙ ap (λ r. suc (depth_of r)) (sym (reverse-reverse (cut_of (reverse entries))))

@@ -1,0 +1,10 @@
+use Rattle.rx_match.proofs.Repeating.{sound_restored, takes_begin}
+use Rattle.rx_match.proofs.machine.Machine.begin_turn.Goals as goal
+
+pub push_frame-requires : goal.push_frame-requires
+push_frame-requires c = sound_restored c.args.self.now c.unset_slots.new.entries c.unset_slots.new.slots c.requires.sound c.in_ok-unset_slots.ensures.restored
+
+pub returns : goal.returns
+returns c =
+    takes_begin c.args.self.now c.push_frame.new.self c.unset_slots.new.entries c.unset_slots.new.slots c.args.repeat c.args.it.turns c.args.it.body c.args.it.next c.args.min c.args.max c.requires.sound c.requires.step
+    c.in_ok-unset_slots.ensures.restored c.in_ok-unset_slots.ensures.slots c.in_ok-push_frame.ensures

@@ -1,0 +1,14 @@
+use Rattle.std.proofs.Common.{sym, ◌∙◌}
+use Rattle.rx_match.proofs.Steps.{repeats_of, no_repeat_of, takes_no_begin}
+use Rattle.rx_match.proofs.machine.Machine.on_begin_turn.Goals as goal
+
+pub returns-in_default : goal.returns-in_default
+returns-in_default c =
+    let m = c.args.self.now in
+    takes_no_begin m c.args.repeat c.args.min c.args.max c.requires (no_repeat_of m c.args.repeat c.requires (sym c.repetition_at.ensures ∙ c.in_default.is))
+
+pub begin_turn-requires-clause-step : goal.begin_turn-requires-clause-step
+begin_turn-requires-clause-step c = repeats_of c.args.self.now c.args.repeat c.in-Some.it c.requires (sym c.repetition_at.ensures ∙ c.in-Some.is)
+
+pub turn_over_unit-requires-clause-step : goal.turn_over_unit-requires-clause-step
+turn_over_unit-requires-clause-step c = repeats_of c.args.self.now c.args.repeat c.in-Some.it c.requires (sym c.repetition_at.ensures ∙ c.in-Some.is)

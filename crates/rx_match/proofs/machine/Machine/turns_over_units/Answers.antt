@@ -1,0 +1,32 @@
+use Rattle.std.proofs.Common.{◌≡◌, ap, sym, subst, ◌∙◌, suc, ◌-◌, ◌+◌, arith}
+use Rattle.rx_match.specs.declared.machine.Machine.{Machine}
+use Rattle.rx_match.specs.declared.machine.Action.TheVariants as action
+use Rattle.rx_match.specs.Codes.{AreHeld}
+use Rattle.rx_match.specs.Kinds.{fewer}
+use Rattle.rx_match.specs.Machines.{test_holds}
+use Rattle.rx_match.specs.Running.{remaining, with_turns, TakesMarks}
+use Rattle.rx_match.proofs.UnitTurns.{payable}
+use Rattle.rx_match.proofs.UnitMoves.{budget_with_turns, takes_turns}
+use Rattle.rx_match.proofs.machine.Machine.turns_over_units.Goals as goal
+
+pub returns : goal.returns
+returns c =
+    let m = c.args.self.now in
+    let a = c.args in
+    let q = c.place_after_units-place.result in
+    let k = q - m.place in
+    let free = c.if-turns-eq0.false in
+    let held = subst (λ most. AreHeld m.input.now (test_holds a.test) m.place most q) c.most_turns-most.ensures c.place_after_units-place.ensures in
+    let order = held.order in
+    let few = held.most_of in
+    let most = payable a.max m.budget in
+    let some : k ≡ suc (k - 1) = omega arith in
+    let at : q ≡ m.place + suc (k - 1) = omega arith in
+    let left : c.saturating_sub.result ≡ suc (k - 1) - a.min = c.saturating_sub.ensures ∙ ap (λ n. n - a.min) some in
+    let v : Machine = with_turns m q (suc (k - 1) - a.min) a.it.next in
+    let same : c.leave_turns.new.self ≡ v = c.in_ok-leave_turns.ensures ∙ ap (λ free. with_turns m q free a.it.next) left in
+    let kept = budget_with_turns m q (suc (k - 1) - a.min) a.it.next in
+    subst (λ x. TakesMarks m (record x { place = q; budget = x.budget - k }) (remaining m (action.Repeat a.repeat a.min a.max)) (remaining (record x { place = q; budget = x.budget - k }) (action.Repeat a.repeat c.saturating_sub-2.result c.less_by.result)))
+    (sym same)
+    (takes_turns m a.repeat a.it a.test a.min a.max c.requires.sound c.requires.step c.requires.units (k - 1) q c.saturating_sub-2.result (v.budget - k) c.less_by.result held at
+    (c.saturating_sub-2.ensures ∙ ap (λ n. a.min - n) some) (c.less_by.ensures ∙ ap (fewer a.max) some) (omega arith))

@@ -1,0 +1,5 @@
+use Rattle.std.proofs.Common.{length}
+use Rattle.rx_match.proofs.searching.clear_frames.Given as goal
+
+abbrev pub decreases-loop : goal.decreases-loop
+decreases-loop l = length l.frames

@@ -1,0 +1,7 @@
+use Rattle.std.proofs.Common.{◌≡◌}
+use Rattle.rx_match.specs.Groups.{unset_slots as unset_all}
+use Rattle.rx_match.specs.Restored.{IsRestored}
+use Rattle.rx_match.proofs.slots.unset_slots.Given as goal
+
+abbrev pub invariant-loop-k : goal.invariant-loop-k
+invariant-loop-k l = record { slots : l.slots.items ≡ unset_all l.from l.k l.fn.slots.items; restored : IsRestored l.fn.entries l.fn.slots.items l.entries l.slots.items }

@@ -1,0 +1,105 @@
+-- What holds of a machine's program and its stacks.
+use Rattle.std.specs.Prelude.{ℕ, suc, ◌≤◌, ◌<◌, Option, Some, None, List, [], ◌∷◌, length, reverse}
+use Rattle.rx_match.specs.declared.step.Step.{Step}
+use Rattle.rx_match.specs.declared.step.Step.TheVariants as step
+use Rattle.rx_match.specs.declared.step.Frame.{Frame}
+use Rattle.rx_match.specs.declared.step.Backtrack.{Backtrack}
+use Rattle.rx_match.specs.declared.step.Backtrack.TheVariants as backtrack
+use Rattle.rx_match.specs.declared.step.OpenLookAround.{OpenLookAround}
+
+-- the steps that a step names stand below a number
+abbrev pub NamesBelow : ℕ → Step → Type 0
+NamesBelow n step.Accept = Unit {0}
+NamesBelow n step.Reject = Unit {0}
+NamesBelow n (step.Consume t next) = next < n
+NamesBelow n (step.Assert kind multiline next) = next < n
+NamesBelow n (step.Refer number next) = next < n
+NamesBelow n (step.ReferByName numbers next) = next < n
+NamesBelow n (step.EnterGroup next) = next < n
+NamesBelow n (step.Choose first other) = (first < n) × (other < n)
+NamesBelow n (step.Sequence first second) = (first < n) × (second < n)
+NamesBelow n (step.Capture g body next) = (body < n) × (next < n)
+NamesBelow n (step.LookAround kind body next) = (body < n) × (next < n)
+NamesBelow n (step.Repeat t body next) = (body < n) × (next < n)
+
+-- of steps from the last to the first, each names such before it
+abbrev pub OrderedOf : List Step → Type 0
+OrderedOf [] = Unit {0}
+OrderedOf (s ∷ before) = NamesBelow (length before) s × OrderedOf before
+
+unfoldable pub AreOrdered : List Step → Type 0
+AreOrdered steps = OrderedOf (reverse steps)
+
+-- what waits below a frame stands before it
+abbrev pub StackedOf : List Frame → Type 0
+StackedOf [] = Unit {0}
+StackedOf (f ∷ before) = (f.below ≤ length before) × StackedOf before
+
+unfoldable pub AreStacked : List Frame → Type 0
+AreStacked frames = StackedOf (reverse frames)
+
+-- how many barriers there are
+abbrev pub depth_of : List Backtrack → ℕ
+depth_of [] = 0
+depth_of (backtrack.Choice p e i h fs ∷ more) = depth_of more
+depth_of (backtrack.Turn p i min max h fs ∷ more) = depth_of more
+depth_of (backtrack.RestoreSlot k old fs ∷ more) = depth_of more
+depth_of (backtrack.LookAround p kind i h fs back ∷ more) = suc (depth_of more)
+
+unfoldable pub depth_in : List Backtrack → ℕ
+depth_in entries = depth_of (reverse entries)
+
+-- Places are in the input, and heads among the frames that there were. Those below name no frame that came later, and none that a slot to be restored does not
+-- count.
+abbrev pub PlacedOf : ℕ → ℕ → List Backtrack → Type 0
+PlacedOf n frames [] = Unit {0}
+PlacedOf n frames (backtrack.Choice p e i h fs ∷ more) = ((p ≤ n) × (e ≤ p)) × (h ≤ fs) × (fs ≤ frames) × PlacedOf n fs more
+PlacedOf n frames (backtrack.Turn p i min max h fs ∷ more) = (p ≤ n) × (h ≤ fs) × (fs ≤ frames) × PlacedOf n fs more
+PlacedOf n frames (backtrack.RestoreSlot k old fs ∷ more) = (least : ℕ) × (least ≤ fs) × (least ≤ frames) × PlacedOf n least more
+PlacedOf n frames (backtrack.LookAround p kind i h fs back ∷ more) = (p ≤ n) × (h ≤ fs) × (fs ≤ frames) × PlacedOf n fs more
+
+unfoldable pub ArePlaced : ℕ → ℕ → List Backtrack → Type 0
+ArePlaced n frames entries = PlacedOf n frames (reverse entries)
+
+-- how many frames entries may come back to, by the last of them
+abbrev pub frames_in : Backtrack → ℕ
+frames_in (backtrack.Choice p e i h fs) = fs
+frames_in (backtrack.Turn p i min max h fs) = fs
+frames_in (backtrack.RestoreSlot k old fs) = fs
+frames_in (backtrack.LookAround p kind i h fs back) = fs
+
+abbrev pub kept_of : List Backtrack → ℕ
+kept_of [] = 0
+kept_of (e ∷ more) = frames_in e
+
+unfoldable pub kept_in : List Backtrack → ℕ
+kept_in entries = kept_of (reverse entries)
+
+-- What a look-around leaves that was matched: the slots to be restored, and what stands below the barrier.
+abbrev pub cut_of : List Backtrack → List Backtrack
+cut_of [] = []
+cut_of (backtrack.Choice p e i h fs ∷ more) = cut_of more
+cut_of (backtrack.Turn p i min max h fs ∷ more) = cut_of more
+cut_of (backtrack.RestoreSlot k old fs ∷ more) = backtrack.RestoreSlot k old fs ∷ cut_of more
+cut_of (backtrack.LookAround p kind i h fs back ∷ more) = more
+
+-- the entry of a look-around that is open
+abbrev pub entry_of : OpenLookAround → Backtrack
+entry_of it = backtrack.LookAround it.place it.kind it.next it.head it.frames it.back
+
+-- the last barrier
+abbrev pub top_of : List Backtrack → Option Backtrack
+top_of [] = None
+top_of (backtrack.Choice p e i h fs ∷ more) = top_of more
+top_of (backtrack.Turn p i min max h fs ∷ more) = top_of more
+top_of (backtrack.RestoreSlot k old fs ∷ more) = top_of more
+top_of (backtrack.LookAround p kind i h fs back ∷ more) = Some (backtrack.LookAround p kind i h fs back)
+
+unfoldable pub cut_back : List Backtrack → List Backtrack
+cut_back entries = cut_of (reverse entries)
+
+abbrev pub cut_in : List Backtrack → List Backtrack
+cut_in entries = reverse (cut_back entries)
+
+unfoldable pub top_in : List Backtrack → Option Backtrack
+top_in entries = top_of (reverse entries)

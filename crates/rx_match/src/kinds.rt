@@ -1,0 +1,160 @@
+ghost use Rattle.std.specs.Prelude.{◌≡◌, ◌==◌, bit_and, not, slice_get, IfSome};
+ghost use Rattle.std.specs.Option.{option_copied};
+ghost use Rattle.rx_match.specs.Codes.{is_negative as says_no};
+ghost use Rattle.rx_match.specs.Matching.{looks_back as looks_behind};
+ghost use Rattle.rx_match.specs.Kinds.{IsUnit, allowed_within, fewer, repetition_in, repetition_of, ticks_in};
+ghost use Rattle.rx_match.specs.Repeats.{is_over as over, one_less as less};
+ghost use Rattle.rx_match.specs.Sound.{AreOrdered};
+
+use crate::step::{Step, Test, Turns};
+use rx_ast::{LookAroundAssertionKind, Modifier};
+
+pub fn is_negative(kind: LookAroundAssertionKind) -> bool
+    ensures { result ≡ says_no kind }
+{
+    match kind {
+        LookAroundAssertionKind::Lookahead => false,
+        LookAroundAssertionKind::NegativeLookahead => true,
+        LookAroundAssertionKind::Lookbehind => false,
+        LookAroundAssertionKind::NegativeLookbehind => true,
+    }
+}
+
+pub fn looks_back(kind: LookAroundAssertionKind) -> bool
+    ensures { result ≡ looks_behind kind }
+{
+    match kind {
+        LookAroundAssertionKind::Lookahead => false,
+        LookAroundAssertionKind::NegativeLookahead => false,
+        LookAroundAssertionKind::Lookbehind => true,
+        LookAroundAssertionKind::NegativeLookbehind => true,
+    }
+}
+
+/// Whether a bit is set.
+pub fn has_bit(modifier: Modifier, bit: Modifier) -> bool
+    ensures { result ≡ not (bit_and modifier.0 bit.0 == 0) }
+{
+    modifier.intersects(bit)
+}
+
+/// Whether one more turn is not allowed.
+pub fn is_over(max: Option<u64>) -> bool
+    ensures { result ≡ over max }
+{
+    match max {
+        None => false,
+        Some(max) => max == 0,
+    }
+}
+
+/// The bound with one turn less.
+pub fn one_less(max: Option<u64>) -> Option<u64>
+    ensures { result ≡ less max }
+{
+    match max {
+        None => None,
+        Some(max) => Some(max.saturating_sub(1)),
+    }
+}
+
+/// The bound with so many turns less.
+pub fn less_by(max: Option<u64>, turns: u64) -> Option<u64>
+    ensures { result ≡ fewer max turns }
+{
+    match max {
+        None => None,
+        Some(max) => Some(max.saturating_sub(turns)),
+    }
+}
+
+/// How many turns are allowed and can be paid.
+pub fn most_turns(max: Option<u64>, budget: u64) -> u64
+    ensures { result ≡ allowed_within max budget }
+{
+    match max {
+        None => budget,
+        Some(max) => max.min(budget),
+    }
+}
+
+/// A repetition's parts.
+#[derive(Clone, Copy)]
+pub struct Repeated {
+    pub turns: Turns,
+    pub body: usize,
+    pub next: usize,
+}
+
+pub fn repetition(step: &Step<'_>) -> Option<Repeated>
+    ensures { result ≡ repetition_in step.now }
+{
+    match *step {
+        Step::Accept => None,
+        Step::Reject => None,
+        Step::Consume { .. } => None,
+        Step::Assert { .. } => None,
+        Step::Refer { .. } => None,
+        Step::ReferByName { .. } => None,
+        Step::EnterGroup { .. } => None,
+        Step::Choose { .. } => None,
+        Step::Sequence { .. } => None,
+        Step::Capture { .. } => None,
+        Step::LookAround { .. } => None,
+        Step::Repeat { turns, body, next } => Some(Repeated { turns, body, next }),
+    }
+}
+
+/// The repetition of a number, if there is one.
+pub fn repetition_at(program: &[Step<'_>], i: usize) -> Option<Repeated>
+    ensures { result ≡ repetition_of (slice_get program.now i) }
+{
+    match program.get(i) {
+        None => None,
+        Some(step) => repetition(step),
+    }
+}
+
+/// The test of a repetition's body, where that is one unit.
+pub fn unit_test<'a>(program: &[Step<'a>], it: Repeated) -> Option<Test<'a>>
+    requires { AreOrdered program.now }
+    ensures { IfSome result (λ test. IsUnit program.now it test) }
+{
+    if it.turns.count > 0 {
+        return None;
+    }
+    let Some(Step::Consume { test, next }) = step_at(program, it.body) else {
+        return None;
+    };
+    let Some(Step::Accept) = step_at(program, *next) else {
+        return None;
+    };
+    Some(*test)
+}
+
+/// Whether a step begins with a Tick.
+pub fn does_tick(step: &Step<'_>) -> bool
+    ensures { result ≡ ticks_in step.now }
+{
+    match step {
+        Step::Accept => false,
+        Step::Reject => false,
+        Step::Consume { .. } => true,
+        Step::Assert { .. } => true,
+        Step::Refer { .. } => true,
+        Step::ReferByName { .. } => true,
+        Step::EnterGroup { .. } => true,
+        Step::Choose { .. } => false,
+        Step::Sequence { .. } => false,
+        Step::Capture { .. } => true,
+        Step::LookAround { .. } => true,
+        Step::Repeat { .. } => true,
+    }
+}
+
+/// The step of a number, if there is one.
+pub fn step_at<'p, 'a>(program: &'p [Step<'a>], i: usize) -> Option<&'p Step<'a>>
+    ensures { option_copied result ≡ slice_get program.now i }
+{
+    program.get(i)
+}

@@ -1,0 +1,241 @@
+ghost use Rattle.std.specs.Prelude.{◌≡◌, ◌≤◌, ◌-◌, [], IfOk, OnOk, length, replicate};
+ghost use Rattle.rx_ast.specs.Tree.{mirror};
+ghost use Rattle.rx_match.specs.Answers.{IsAnswer, IsTickCount};
+ghost use Rattle.rx_match.specs.Programs.{IsOutcome, IsOutcomeOf, IsRunFrom, trace_of};
+ghost use Rattle.rx_match.specs.Sound.{AreOrdered};
+ghost use Rattle.rx_match.specs.declared.answer.Slot.TheVariants.{Unset};
+
+use crate::answer::{Found, MatchFault, MatchFlags, Slot};
+use crate::builder::Setting;
+use crate::classes::class_rows;
+use crate::compile::compile;
+use crate::machine::{Machine, Progress};
+use crate::names::GroupNames;
+use crate::step::{Backtrack, Frame, Step};
+use crate::survey::{Survey, survey_tree};
+use rx_ast::Pattern;
+use rx_base::{List, OutOfMemory};
+use std::alloc::Global;
+
+/// What a search came to: a match, if there is one, and how many Ticks came before it, or in all.
+#[derive(Drop)]
+struct Outcome {
+    found: Option<Found>,
+    ticks: u64,
+}
+
+/// Leaves so many slots, none of them set. What memory there is stays.
+fn unset(slots: &mut Vec<Slot>, groups: usize) -> Result<(), OutOfMemory>
+    ensures { OnOk result (slots.new.items ≡ replicate groups Unset) }
+{
+    slots.clear();
+    for i in 0..groups {
+        slots.push(Slot::Unset)?;
+    }
+    Ok(())
+}
+
+fn clear_frames(frames: &mut List<Frame>)
+    ensures { frames.new ≡ [] }
+{
+    while let Some(_) = frames.pop() {}
+}
+
+fn clear_entries(entries: &mut List<Backtrack>)
+    ensures { entries.new ≡ [] }
+{
+    while let Some(_) = entries.pop() {}
+}
+
+impl<'a> Machine<'a> {
+    /// A machine before its first run.
+    fn new(alloc: Global, program: &'a [Step<'a>], input: &'a [u32], budget: u64) -> Machine<'a>
+        ensures program { result.program.now ≡ program.now }
+        ensures input { result.input.now ≡ input.now }
+        ensures budget { result.budget ≡ budget }
+    {
+        Machine {
+            program,
+            input,
+            frames: List::new(alloc),
+            entries: List::new(alloc),
+            slots: Vec::new(alloc),
+            place: 0,
+            step: 0,
+            head: 0,
+            back: false,
+            depth: 0,
+            budget,
+        }
+    }
+
+    /// Runs a program from a place of the input, with nothing left of an earlier run but the memory and the budget.
+    fn run_from(
+        &mut self,
+        entry: usize,
+        groups: usize,
+        place: usize,
+    ) -> Result<Progress, OutOfMemory>
+        requires ordered { AreOrdered self.old.program.now }
+        requires within { place ≤ length self.old.input.now }
+        ensures { IfOk result (λ it. IsRunFrom self.old self.new (trace_of self.old.input.now self.old.program.now entry groups place) it) }
+    {
+        clear_frames(&mut self.frames);
+        clear_entries(&mut self.entries);
+        unset(&mut self.slots, groups)?;
+        self.place = place;
+        self.step = entry;
+        self.head = 0;
+        self.back = false;
+        self.depth = 0;
+        self.run()
+    }
+}
+
+/// The match that a machine came to, from a place on.
+fn found_from(place: usize, machine: Machine<'_>) -> Found
+    ensures { result ≡ record { start = place; end = machine.entry.place; groups = machine.entry.slots.items } }
+{
+    let Machine {
+        place: end,
+        slots,
+        ..
+    } = machine;
+    Found {
+        start: place,
+        end,
+        groups: List::from_vec(slots),
+    }
+}
+
+/// Runs a program from each place up to the last, up to the first match.
+fn match_program(
+    alloc: Global,
+    program: &[Step<'_>],
+    entry: usize,
+    groups: usize,
+    input: &[u32],
+    start: usize,
+    last: usize,
+    budget: u64,
+) -> Result<Outcome, MatchFault>
+    requires ordered { AreOrdered program.now }
+    requires start { start ≤ last }
+    requires last { last ≤ length input.now }
+    ensures { IsOutcome (trace_of input.now program.now entry groups) (last - start) start budget result }
+{
+    let mut machine = Machine::new(alloc, program, input, budget);
+    let mut place = start;
+    loop {
+        match machine.run_from(entry, groups, place)? {
+            Progress::Match => {
+                let ticks = budget - machine.budget;
+                let found = Some(found_from(place, machine));
+                return Ok(Outcome { found, ticks });
+            }
+            Progress::Spent => return Err(MatchFault::Spent),
+            Progress::NoMatch => {}
+            Progress::Continue(_) => unreachable!(),
+        }
+        if place == last {
+            let ticks = budget - machine.budget;
+            return Ok(Outcome { found: None, ticks });
+        }
+        place += 1;
+    }
+}
+
+/// Matches a pattern from each place up to the last, up to the first match.
+fn answer(
+    alloc: Global,
+    pattern: &Pattern,
+    flags: MatchFlags,
+    input: &[u32],
+    start: usize,
+    last: usize,
+    budget: u64,
+) -> Result<Outcome, MatchFault>
+    requires start { start ≤ last }
+    requires last { last ≤ length input.now }
+    ensures { IsOutcomeOf flags (mirror pattern.now) input.now (last - start) start budget result }
+{
+    if flags.ignore_case {
+        return Err(MatchFault::IgnoreCase);
+    }
+    let names = match survey_tree(alloc, &pattern.body)? {
+        Survey::Unsupported(span) => return Err(MatchFault::Unsupported { span }),
+        Survey::Names(names) => names,
+    };
+    let groups = GroupNames::new(alloc, names)?;
+    let setting = Setting {
+        multiline: flags.multiline,
+        dot_all: flags.dot_all,
+        back: false,
+    };
+    let classes = class_rows(alloc, &pattern.body)?;
+    let rows = classes.as_slice();
+    let program = compile(alloc, &groups, rows, &pattern.body, setting)?;
+    let steps = program.steps.as_slice();
+    match_program(
+        alloc,
+        steps,
+        program.entry,
+        groups.len(),
+        input,
+        start,
+        last,
+        budget,
+    )
+}
+
+/// The first outcome of a pattern from a place of the input, or none, within a budget of Ticks. A flag or a node that is not supported is refused first.
+pub fn match_at(
+    alloc: Global,
+    pattern: &Pattern,
+    flags: MatchFlags,
+    input: &[u32],
+    start: usize,
+    budget: u64,
+) -> Result<Option<Found>, MatchFault>
+    requires { start ≤ length input.now }
+    ensures { IsAnswer flags (mirror pattern.now) input.now 0 start budget result }
+{
+    let outcome = answer(alloc, pattern, flags, input, start, start, budget)?;
+    Ok(outcome.found)
+}
+
+/// The first outcome of a pattern from a place of the input, or from the next place, and so on to the end of the input. All share the budget of Ticks.
+pub fn search(
+    alloc: Global,
+    pattern: &Pattern,
+    flags: MatchFlags,
+    input: &[u32],
+    start: usize,
+    budget: u64,
+) -> Result<Option<Found>, MatchFault>
+    requires { start ≤ length input.now }
+    ensures { IsAnswer flags (mirror pattern.now) input.now (length input.now - start) start budget result }
+{
+    let outcome = answer(alloc, pattern, flags, input, start, input.len(), budget)?;
+    Ok(outcome.found)
+}
+
+/// How many Ticks `search` takes from a place of the input, which is the least budget that it does not find spent; or none where they are more than `most`.
+/// What `search` refuses is refused.
+pub fn ticks_of_search(
+    alloc: Global,
+    pattern: &Pattern,
+    flags: MatchFlags,
+    input: &[u32],
+    start: usize,
+    most: u64,
+) -> Result<Option<u64>, MatchFault>
+    requires { start ≤ length input.now }
+    ensures { IsTickCount flags (mirror pattern.now) input.now (length input.now - start) start most result }
+{
+    match answer(alloc, pattern, flags, input, start, input.len(), most) {
+        Ok(outcome) => Ok(Some(outcome.ticks)),
+        Err(MatchFault::Spent) => Ok(None),
+        Err(fault) => Err(fault),
+    }
+}

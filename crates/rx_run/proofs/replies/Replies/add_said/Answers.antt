@@ -1,0 +1,34 @@
+use Rattle.std.proofs.Common.{◌≡◌, refl, sym, subst, List, ℕ, encode_utf8_all}
+use Rattle.std.specs.Str.{chars}
+use Rattle.std.proofs.lemmas.Result.{on_ok_weaker}
+use Rattle.rx_ast.specs.Forget.{bare}
+use Rattle.rx_ast.specs.Kinds.{order, pattern as pattern_kind}
+use Rattle.rx_ast.specs.Shown.{pattern_shown}
+use Rattle.rx_ast.specs.Tree.{mirror}
+use Rattle.rx_visit.specs.Flags.{are_refused_flags}
+use Rattle.rx_model.specs.Spelling.Spelling.{spelling}
+use Rattle.rx_parser.specs.Inputs.{flags_chars}
+use Rattle.rx_run.specs.declared.answer.Answering.{Answering}
+use Rattle.rx_run.specs.Features.{needs_feature}
+use Rattle.rx_run.specs.Reply.{IsSaid, canonical_reply, display_reply, flags_bytes, support_reply}
+use Rattle.rx_run.specs.Request.{Request}
+use Rattle.rx_run.proofs.Answering.{ok_added}
+use Rattle.rx_run.proofs.replies.Replies.add_said.Goals as goal
+
+pub returns-in-Canonical : goal.returns-in-Canonical
+returns-in-Canonical c =
+    let request : Request = record { form = c.args.request.now.form; flags = flags_chars c.args.request.now.flags; text = chars c.args.request.now.text.now } in
+    let reply = canonical_reply c.args.mode (spelling (bare c.args.pattern.now) c.args.mode) in
+    on_ok_weaker c.add_canonical.result
+    (ok_added (IsSaid c.args.answering.now request c.args.mode c.args.pattern.now) reply c.args.self.now.bytes c.add_canonical.new.self.bytes c.args.self.now.all_ok c.add_canonical.new.self.all_ok
+    (subst (λ (a : Answering). IsSaid a request c.args.mode c.args.pattern.now reply) (sym c.in-Canonical.is) refl) refl c.add_canonical.ensures.all_ok)
+    c.add_canonical.ensures.bytes
+
+pub returns-in-Display : goal.returns-in-Display
+returns-in-Display c =
+    let request : Request = record { form = c.args.request.now.form; flags = flags_chars c.args.request.now.flags; text = chars c.args.request.now.text.now } in
+    let reply = display_reply c.args.mode (encode_utf8_all (pattern_shown c.args.pattern.now)) in
+    on_ok_weaker c.add_display.result
+    (ok_added (IsSaid c.args.answering.now request c.args.mode c.args.pattern.now) reply c.args.self.now.bytes c.add_display.new.self.bytes c.args.self.now.all_ok c.add_display.new.self.all_ok
+    (subst (λ (a : Answering). IsSaid a request c.args.mode c.args.pattern.now reply) (sym c.in-Display.is) refl) refl c.add_display.ensures.all_ok)
+    c.add_display.ensures.bytes
