@@ -57,6 +57,8 @@ def searches():
     yield none("a large number, a short text", "a{1000000000}", 14, text="aaa")
     yield found("empty turns that are owed", "(?:){999999999}", 1_000_000_000, 0)
     yield found("empty turns that are not owed", "(?:){0,999999999}", 2, 0)
+    yield found("a group that is set again and again", "(){999999999}", 1_000_000_000, 0, ["0..0"])
+    yield found("the same, after a choice", "(?:|a)(){999999999}", 1_000_000_001, 0, ["0..0"])
     yield found("large numbers in one another", "(?:a{0,1000}){0,1000}", 1 + turns * 1002 + 3, MANY)
     yield none("the same, and what is not there", "(?:a{0,1000}){0,1000}b", FOREVER)
     yield found("nested groups", nested("(?:", MANY), MANY, 0)

@@ -5,7 +5,7 @@ use Rattle.rx_ast.specs.declared.leaf.LookAroundAssertionKind.{LookAroundAsserti
 use Rattle.rx_match.specs.declared.answer.Slot.{Slot}
 use Rattle.rx_match.specs.declared.step.Backtrack.{Backtrack}
 use Rattle.rx_match.specs.declared.step.Backtrack.TheVariants as backtrack
-use Rattle.rx_match.specs.Sound.{PlacedOf, ArePlaced, depth_of, depth_in, cut_of, cut_back, cut_in, top_of, top_in}
+use Rattle.rx_match.specs.Sound.{row_of, PlacedOf, ArePlaced, depth_of, depth_in, cut_of, cut_back, cut_in, top_of, top_in}
 use Rattle.rx_match.proofs.Frames.{reverse-last}
 
 -- one entry less
@@ -24,12 +24,12 @@ pub fewer_turn : (old before between kept : List Backtrack) (p i min : ℕ) (max
 unfolding cut_back top_in
 fewer_turn old before between kept p i min max h fs is f = record { top = f.top ∙ ap top_of (reverse-last before between (backtrack.Turn p i min max h fs) is); cut = f.cut ∙ ap (λ r. kept ++ cut_of r) (reverse-last before between (backtrack.Turn p i min max h fs) is) }
 
-pub fewer_restore : (old before between kept more : List Backtrack) (k : ℕ) (was : Slot) (fs : ℕ) → before ≡ between ++ (backtrack.RestoreSlot k was fs ∷ []) → more ≡ kept ++ (backtrack.RestoreSlot k was fs ∷ []) → Fewer old before kept → Fewer old between more
+pub fewer_restore : (old before between kept more : List Backtrack) (k : ℕ) (was : Slot) (fs row : ℕ) → before ≡ between ++ (backtrack.RestoreSlot k was fs row ∷ []) → more ≡ kept ++ (backtrack.RestoreSlot k was fs row ∷ []) → Fewer old before kept → Fewer old between more
 unfolding cut_back top_in
-fewer_restore old before between kept more k was fs is kept_is f = record {
-  top = f.top ∙ ap top_of (reverse-last before between (backtrack.RestoreSlot k was fs) is);
-  cut = f.cut ∙ ap (λ r. kept ++ cut_of r) (reverse-last before between (backtrack.RestoreSlot k was fs) is)
-      ∙ sym (append_assoc kept (backtrack.RestoreSlot k was fs ∷ []) (cut_of (reverse between))) ∙ ap (λ ks. ks ++ cut_of (reverse between)) (sym kept_is);
+fewer_restore old before between kept more k was fs row is kept_is f = record {
+  top = f.top ∙ ap top_of (reverse-last before between (backtrack.RestoreSlot k was fs row) is);
+  cut = f.cut ∙ ap (λ r. kept ++ cut_of r) (reverse-last before between (backtrack.RestoreSlot k was fs row) is)
+      ∙ sym (append_assoc kept (backtrack.RestoreSlot k was fs row ∷ []) (cut_of (reverse between))) ∙ ap (λ ks. ks ++ cut_of (reverse between)) (sym kept_is);
 }
 
 pub look_around_top : (old before between kept : List Backtrack) (p : ℕ) (kind : LookAroundAssertionKind) (i h fs : ℕ) (back : Bool) → before ≡ between ++ (backtrack.LookAround p kind i h fs back ∷ []) → Fewer old before kept
@@ -50,7 +50,15 @@ none_top old kept f = f.top
 pub put_one : (kept before between entries more : List Backtrack) (e : Backtrack) → before ≡ between ++ (e ∷ []) → more ≡ entries ++ (e ∷ []) → before ++ reverse entries ≡ between ++ reverse more
 put_one kept before between entries more e is pushed = ap (λ k. k ++ reverse entries) is ∙ append_assoc between (e ∷ []) (reverse entries) ∙ ap (λ r. between ++ r) (sym (reverse-last more entries e pushed))
 
--- what the last barrier says
+-- Where choices go, no fewer entries that restore slots stand in a row.
+row-cut : (r : List Backtrack) → row_of r ≤ row_of (cut_of r)
+row-cut [] = omega arith
+row-cut (backtrack.Choice p e i h fs ∷ more) = omega arith
+row-cut (backtrack.Turn p i min max h fs ∷ more) = omega arith
+row-cut (backtrack.RestoreSlot k old fs row ∷ more) = omega arith
+row-cut (backtrack.LookAround p kind i h fs back ∷ more) = omega arith
+
+-- what the last look-around that is open says
 cut-placed : (n f : ℕ) (r : List Backtrack) (p : ℕ) (kind : LookAroundAssertionKind) (i h fs : ℕ) (back : Bool) → top_of r ≡ Some (backtrack.LookAround p kind i h fs back) → PlacedOf n f r → (p ≤ n) × (h ≤ fs) × (fs ≤ f) × PlacedOf n fs (cut_of r)
 cut-placed n f [] p kind i h fs back is placed = absurd (cc)
 cut-placed n f (backtrack.Choice p' e' i' h' fs' ∷ more) p kind i h fs back is placed =
@@ -59,9 +67,11 @@ cut-placed n f (backtrack.Choice p' e' i' h' fs' ∷ more) p kind i h fs back is
 cut-placed n f (backtrack.Turn p' i' min max h' fs' ∷ more) p kind i h fs back is placed =
     let it = cut-placed n fs' more p kind i h fs back is placed.3 in
     (it.0, it.1, omega arith, it.3)
-cut-placed n f (backtrack.RestoreSlot k old fs' ∷ more) p kind i h fs back is placed =
-    let it = cut-placed n placed.0 more p kind i h fs back is placed.3 in
-    (it.0, it.1, omega arith, (fs, omega arith, omega arith, it.3))
+cut-placed n f (backtrack.RestoreSlot k old fs' row ∷ more) p kind i h fs back is placed =
+    let it = cut-placed n placed.0 more p kind i h fs back is placed.4 in
+    let few = placed.3 in
+    let kept = row-cut more in
+    (it.0, it.1, omega arith, (fs, omega arith, omega arith, omega arith, it.3))
 cut-placed n f (backtrack.LookAround p' kind' i' h' fs' back' ∷ more) p kind i h fs back is placed =
     let ps : p' ≡ p = cc in
     let hs : h' ≡ h = cc in
@@ -72,7 +82,7 @@ cut-depth : (r : List Backtrack) (p : ℕ) (kind : LookAroundAssertionKind) (i h
 cut-depth [] p kind i h fs back is = absurd (cc)
 cut-depth (backtrack.Choice p' e' i' h' fs' ∷ more) p kind i h fs back is = cut-depth more p kind i h fs back is
 cut-depth (backtrack.Turn p' i' min max h' fs' ∷ more) p kind i h fs back is = cut-depth more p kind i h fs back is
-cut-depth (backtrack.RestoreSlot k old fs' ∷ more) p kind i h fs back is = cut-depth more p kind i h fs back is
+cut-depth (backtrack.RestoreSlot k old fs' row ∷ more) p kind i h fs back is = cut-depth more p kind i h fs back is
 cut-depth (backtrack.LookAround p' kind' i' h' fs' back' ∷ more) p kind i h fs back is = refl
 
 pub placed-cut : (n f : ℕ) (entries : List Backtrack) (p : ℕ) (kind : LookAroundAssertionKind) (i h fs : ℕ) (back : Bool) → top_in entries ≡ Some (backtrack.LookAround p kind i h fs back) → ArePlaced n f entries

@@ -20,7 +20,7 @@ use Rattle.rx_match.specs.Codes.{Mark, Run, marked, silent, ticked, reaches, bin
 use Rattle.rx_match.specs.Machines.{pending_continuation, code_at, continuations_at, turn_run, turns_run, continuation_run, code_then, stack_run}
 use Rattle.rx_match.specs.Sound.{AreStacked, ArePlaced, depth_in, cut_in, top_in}
 use Rattle.rx_match.specs.Restored.{IsRestored}
-use Rattle.rx_match.specs.Running.{state_of, with_backtracking, continuation_of, run_of, remaining, with_entry, with_earlier, returned, IsSound, TakesMarks, Resumes, ForgetsFrames, ReachesState, HasNoMore}
+use Rattle.rx_match.specs.Running.{state_of, with_backtracking, continuation_of, run_of, remaining, with_entry, with_earlier, returned, IsSound, KeepsBacktracking, TakesMarks, Resumes, ForgetsFrames, ReachesState, HasNoMore}
 use Rattle.rx_match.proofs.Frames.{frames-none, frames-is, below-is}
 use Rattle.rx_match.proofs.StackRuns.{stack_run-silent, stack_run-nil, stack_run-choice, stack_run-turn, stack_run-restore, stack_run-look_around, stack_run-cut, stack_run-reaches}
 use Rattle.rx_match.proofs.Entries.{placed-more, placed-choice, choice-placed, turn-placed, restore-placed, look_around-placed, depth-choice, depth-turn, depth-restore, depth-look_around}
@@ -64,11 +64,11 @@ takes_next m i f next sound top is w =
       sound = record { ordered = low.ordered; stacked = low.stacked; head = low.head; placed = low.placed; depth = low.depth; place = low.place };
     }
 
-pub takes_close : (m : Machine) (i : ℕ) (f : Frame) (group start next : ℕ) (entries : List Backtrack) (slots : Vec Slot Global) → IsSound m → m.head ≡ suc i → slice_get m.frames i ≡ Some f → f.pending ≡ pending.CloseGroup group start next
+pub takes_close : (m : Machine) (i : ℕ) (f : Frame) (group start next : ℕ) (entries : List Backtrack) (slots : Vec Slot Global) (saved : Vec ℕ Global) → IsSound m → m.head ≡ suc i → slice_get m.frames i ≡ Some f → f.pending ≡ pending.CloseGroup group start next
     → IsRestored m.entries m.slots.items entries slots.items → slots.items ≡ set m.slots.items group (Set (min start m.place) (max start m.place))
-    → TakesMarks m (record m { head = f.below; step = next; entries = entries; slots = slots }) (run_of m accept) (remaining (record m { head = f.below; step = next; entries = entries; slots = slots }) action.Step)
-takes_close m i f group start next entries slots sound top is w restored filled =
-    let low = sound_restored (lowered m f.below) entries slots (sound_lowered m i f sound top is) restored in
+    → TakesMarks m (record m { head = f.below; step = next; entries = entries; slots = slots; saved = saved }) (run_of m accept) (remaining (record m { head = f.below; step = next; entries = entries; slots = slots; saved = saved }) action.Step)
+takes_close m i f group start next entries slots saved sound top is w restored filled =
+    let low = sound_restored (lowered m f.below) entries slots saved (sound_lowered m i f sound top is) restored in
     let rest : List Slot → Run = λ sl. bind (code_run m.input.now (code_at m.program.now next) m.back (record { place = m.place; slots = sl })) (continuation_run m.input.now m.back (continuations_at m.program.now m.frames f.below)) in
     record {
       ticks = false;
@@ -285,20 +285,12 @@ takes_unmatched_not m entries p kind i h fs back depth sound popped lower negati
       sound = record { ordered = sound.ordered; stacked = sound.stacked; head = omega arith; placed = placed-more (length m.input.now) fs (length m.frames) entries at'.2 at'.3; depth = omega arith; place = at'.0 };
     }
 
--- While slots are restored, the same is to be done.
-pub record Same (old m : Machine) : Type 0 where
-  pub same : with_backtracking old [] ≡ with_backtracking m []
-  pub paid : old.budget ≡ m.budget
-  pub input : m.input ≡ old.input
-  pub program : m.program ≡ old.program
-  pub sound : IsSound m
-
-pub same_restored : (old m : Machine) (entries : List Backtrack) (slots : Vec Slot Global) (k : ℕ) (was : Slot) (fs : ℕ) → Same old m → m.entries ≡ entries ++ (backtrack.RestoreSlot k was fs ∷ []) → slots.items ≡ set m.slots.items k was
-    → Same old (record m { entries = entries; slots = slots })
-same_restored old m entries slots k was fs it popped is =
+pub same_restored : (old m : Machine) (entries : List Backtrack) (slots : Vec Slot Global) (k : ℕ) (was : Slot) (fs row : ℕ) → KeepsBacktracking old m → m.entries ≡ entries ++ (backtrack.RestoreSlot k was fs row ∷ []) → slots.items ≡ set m.slots.items k was
+    → KeepsBacktracking old (record m { entries = entries; slots = slots })
+same_restored old m entries slots k was fs row it popped is =
     let sound = it.sound in
     record {
-      same = it.same ∙ stack_run-restore m.input.now m.program.now m.frames m.entries entries k was fs m.back m.slots.items [] popped
+      same = it.same ∙ stack_run-restore m.input.now m.program.now m.frames m.entries entries k was fs row m.back m.slots.items [] popped
           ∙ ap (λ sl. stack_run m.input.now m.program.now m.frames entries m.back sl []) (sym is);
       paid = it.paid;
       input = it.input;
@@ -307,16 +299,16 @@ same_restored old m entries slots k was fs it popped is =
         ordered = sound.ordered;
         stacked = sound.stacked;
         head = sound.head;
-        placed = restore-placed (length m.input.now) (length m.frames) k was fs m.entries entries popped sound.placed;
-        depth = sound.depth ∙ depth-restore k was fs m.entries entries popped;
+        placed = restore-placed (length m.input.now) (length m.frames) k was fs row m.entries entries popped sound.placed;
+        depth = sound.depth ∙ depth-restore k was fs row m.entries entries popped;
         place = sound.place;
       };
     }
 
-pub takes_after : (old m new : Machine) (s : Run) → Same old m → TakesMarks m new (with_backtracking m []) s → TakesMarks old new (with_backtracking old []) s
+pub takes_after : (old m new : Machine) (s : Run) → KeepsBacktracking old m → TakesMarks m new (with_backtracking m []) s → TakesMarks old new (with_backtracking old []) s
 takes_after old m new s same takes = record { ticks = takes.ticks; more = takes.more; cut = same.same ∙ takes.cut; paid = same.paid ∙ takes.paid; input = takes.input ∙ same.input; program = takes.program ∙ same.program; sound = takes.sound }
 
-pub nothing_left : (old m : Machine) (entries : List Backtrack) → Same old m → m.entries ≡ [] → HasNoMore old (record m { entries = entries }) (with_backtracking old [])
+pub nothing_left : (old m : Machine) (entries : List Backtrack) → KeepsBacktracking old m → m.entries ≡ [] → HasNoMore old (record m { entries = entries }) (with_backtracking old [])
 nothing_left old m entries it none = record {
   is = it.same ∙ ap (λ e. stack_run m.input.now m.program.now m.frames e m.back m.slots.items []) none ∙ stack_run-nil m.input.now m.program.now m.frames m.back m.slots.items [];
   paid = it.paid;
@@ -407,9 +399,17 @@ resumes_unmatched_not m p kind i h fs back depth sound lower negative =
 before_pop : (m : Machine) (entries : List Backtrack) (e : Backtrack) → m.entries ≡ entries ++ (e ∷ []) → m ≡ with_entry (record m { entries = entries }) e
 before_pop m entries e popped = ap (λ es. record m { entries = es }) popped
 
-pub sound_before_pop : (old m : Machine) (entries : List Backtrack) (e : Backtrack) → Same old m → m.entries ≡ entries ++ (e ∷ []) → IsSound (with_entry (record m { entries = entries }) e)
+pub sound_before_pop : (old m : Machine) (entries : List Backtrack) (e : Backtrack) → KeepsBacktracking old m → m.entries ≡ entries ++ (e ∷ []) → IsSound (with_entry (record m { entries = entries }) e)
 sound_before_pop old m entries e same popped = subst IsSound (before_pop m entries e popped) same.sound
 
-pub takes_popped : (old m new : Machine) (entries : List Backtrack) (e : Backtrack) (a : Action) → Same old m → m.entries ≡ entries ++ (e ∷ []) → Resumes (record m { entries = entries }) e new a → TakesMarks old new (with_backtracking old []) (remaining new a)
+pub takes_popped : (old m new : Machine) (entries : List Backtrack) (e : Backtrack) (a : Action) → KeepsBacktracking old m → m.entries ≡ entries ++ (e ∷ []) → Resumes (record m { entries = entries }) e new a → TakesMarks old new (with_backtracking old []) (remaining new a)
 takes_popped old m new entries e a same popped resumes =
     takes_after old m new (remaining new a) same (subst (λ x. TakesMarks x new (with_backtracking x []) (remaining new a)) (sym (before_pop m entries e popped)) resumes)
+
+pub keeps_popped : (old m new : Machine) (entries : List Backtrack) (e : Backtrack) → KeepsBacktracking old m → m.entries ≡ entries ++ (e ∷ []) → KeepsBacktracking (with_entry (record m { entries = entries }) e) new → KeepsBacktracking old new
+keeps_popped old m new entries e same popped then' =
+    let it = subst (λ x. KeepsBacktracking x new) (sym (before_pop m entries e popped)) then' in
+    record { same = same.same ∙ it.same; paid = same.paid ∙ it.paid; input = it.input ∙ same.input; program = it.program ∙ same.program; sound = it.sound }
+
+pub keeps_itself : (m : Machine) → IsSound m → KeepsBacktracking m m
+keeps_itself m sound = record { same = refl; paid = refl; input = refl; program = refl; sound = sound }

@@ -110,8 +110,8 @@ turn_is input back min max s c min' max' greedy from count body next is =
     subst (λ c. turn_run input back min max s c ≡ silent ∷ bind (code_run input body back (unset_in from count s)) (turn_end_run min s.place (λ w. turns_run input back (min - 1) (one_less max) w c))) (sym is) refl
 
 -- slots were unset
-pub sound_restored : (m : Machine) (entries : List Backtrack) (slots : Vec Slot Global) → IsSound m → IsRestored m.entries m.slots.items entries slots.items → IsSound (record m { entries = entries; slots = slots })
-sound_restored m entries slots sound restored = record {
+pub sound_restored : (m : Machine) (entries : List Backtrack) (slots : Vec Slot Global) (saved : Vec ℕ Global) → IsSound m → IsRestored m.entries m.slots.items entries slots.items → IsSound (record m { entries = entries; slots = slots; saved = saved })
+sound_restored m entries slots saved sound restored = record {
   ordered = sound.ordered;
   stacked = sound.stacked;
   head = sound.head;
@@ -121,14 +121,14 @@ sound_restored m entries slots sound restored = record {
 }
 
 -- a turn begins: m with its slots unset is u, and u with what waits is v
-pub takes_begin : (m v : Machine) (entries : List Backtrack) (slots : Vec Slot Global) (i : ℕ) (t : Turns) (body next min : ℕ) (max : Option ℕ) → IsSound m → IsRepetitionAt m i t body next
+pub takes_begin : (m v : Machine) (entries : List Backtrack) (slots : Vec Slot Global) (saved : Vec ℕ Global) (i : ℕ) (t : Turns) (body next min : ℕ) (max : Option ℕ) → IsSound m → IsRepetitionAt m i t body next
     → IsRestored m.entries m.slots.items entries slots.items → slots.items ≡ unset_slots t.from t.count m.slots.items
-    → PushesFrame (record m { entries = entries; slots = slots }) v (pending.EndTurn min max m.place i)
+    → PushesFrame (record m { entries = entries; slots = slots; saved = saved }) v (pending.EndTurn min max m.place i)
     → TakesMarks m (record v { step = body }) (remaining m (action.BeginTurn i min max)) (remaining (record v { step = body }) action.Step)
-takes_begin m v entries slots i t body next min max sound is restored unset pushed_frame =
+takes_begin m v entries slots saved i t body next min max sound is restored unset pushed_frame =
     let input = m.input.now in
     let steps = m.program.now in
-    let u : Machine = record m { entries = entries; slots = slots } in
+    let u : Machine = record m { entries = entries; slots = slots; saved = saved } in
     let c = code_at steps i in
     let bodied = code_run input (code_at steps body) m.back in
     let full' : State → Run = λ w. turns_run input m.back (min - 1) (one_less max) w c in
@@ -147,5 +147,5 @@ takes_begin m v entries slots i t body next min max sound is restored unset push
       paid = refl;
       input = refl;
       program = refl;
-      sound = sound_with_frame u v (pending.EndTurn min max m.place i) body (sound_restored m entries slots sound restored) pushed_frame;
+      sound = sound_with_frame u v (pending.EndTurn min max m.place i) body (sound_restored m entries slots saved sound restored) pushed_frame;
     })

@@ -23,7 +23,7 @@ module _ (input : List ℕ) (steps : List Step) where
   silent-first frames [] back slots now = refl
   silent-first frames (backtrack.Choice p e i h fs ∷ more) back slots now = silent-first frames more back slots _
   silent-first frames (backtrack.Turn p i min max h fs ∷ more) back slots now = silent-first frames more back slots _
-  silent-first frames (backtrack.RestoreSlot k old fs ∷ more) back slots now = silent-first frames more back (set slots k old) now
+  silent-first frames (backtrack.RestoreSlot k old fs row ∷ more) back slots now = silent-first frames more back (set slots k old) now
   silent-first frames (backtrack.LookAround p kind i h fs outer_back ∷ more) back slots now =
       ap (λ x. stack_run_of input steps frames more outer_back slots x) (look_around-silent (is_negative kind) now (at p slots) _) ∙ silent-first frames more outer_back slots _
     where
@@ -35,7 +35,7 @@ module _ (input : List ℕ) (steps : List Step) where
   ticked-first frames [] back slots now = refl
   ticked-first frames (backtrack.Choice p e i h fs ∷ more) back slots now = ticked-first frames more back slots _
   ticked-first frames (backtrack.Turn p i min max h fs ∷ more) back slots now = ticked-first frames more back slots _
-  ticked-first frames (backtrack.RestoreSlot k old fs ∷ more) back slots now = ticked-first frames more back (set slots k old) now
+  ticked-first frames (backtrack.RestoreSlot k old fs row ∷ more) back slots now = ticked-first frames more back (set slots k old) now
   ticked-first frames (backtrack.LookAround p kind i h fs outer_back ∷ more) back slots now =
       ap (λ x. stack_run_of input steps frames more outer_back slots x) (look_around-ticked (is_negative kind) now (at p slots) _) ∙ ticked-first frames more outer_back slots _
     where
@@ -71,10 +71,10 @@ module _ (input : List ℕ) (steps : List Step) where
   unfolding stack_run
   stack_run-turn frames before between p i min max h fs back slots now is = ap (λ r. stack_run_of input steps frames r back slots now) (reverse-last before between (backtrack.Turn p i min max h fs) is)
 
-  pub stack_run-restore : (frames : List Frame) (before between : List Backtrack) (k : ℕ) (old : Slot) (fs : ℕ) (back : Bool) (slots : List Slot) (now : Run) → before ≡ between ++ (backtrack.RestoreSlot k old fs ∷ [])
+  pub stack_run-restore : (frames : List Frame) (before between : List Backtrack) (k : ℕ) (old : Slot) (fs row : ℕ) (back : Bool) (slots : List Slot) (now : Run) → before ≡ between ++ (backtrack.RestoreSlot k old fs row ∷ [])
       → stack_run input steps frames before back slots now ≡ stack_run input steps frames between back (set slots k old) now
   unfolding stack_run
-  stack_run-restore frames before between k old fs back slots now is = ap (λ r. stack_run_of input steps frames r back slots now) (reverse-last before between (backtrack.RestoreSlot k old fs) is)
+  stack_run-restore frames before between k old fs row back slots now is = ap (λ r. stack_run_of input steps frames r back slots now) (reverse-last before between (backtrack.RestoreSlot k old fs row) is)
 
   pub stack_run-look_around : (frames : List Frame) (before between : List Backtrack) (p : ℕ) (kind : LookAroundAssertionKind) (i h fs : ℕ) (outer_back : Bool) (back : Bool) (slots : List Slot) (now : Run)
       → before ≡ between ++ (backtrack.LookAround p kind i h fs outer_back ∷ [])
@@ -93,8 +93,8 @@ module _ (input : List ℕ) (steps : List Step) where
   more-frames before between f n (backtrack.Turn p i min max h fs ∷ more) back slots now is placed =
       ap (λ ks. stack_run_of input steps before more back slots (now ++ (silent ∷ bind (turn_run input back min max (at p slots) (code_at steps i)) (continuation_run input back ks)))) (let within : h ≤ length between = omega arith in frames-more steps before between f h is within)
       ∙ more-frames before between f n more back slots _ is (more-of n fs (length between) more placed.2 placed.3)
-  more-frames before between f n (backtrack.RestoreSlot k old fs ∷ more) back slots now is placed =
-      more-frames before between f n more back (set slots k old) now is (more-of n placed.0 (length between) more placed.2 placed.3)
+  more-frames before between f n (backtrack.RestoreSlot k old fs row ∷ more) back slots now is placed =
+      more-frames before between f n more back (set slots k old) now is (more-of n placed.0 (length between) more placed.2 placed.4)
   more-frames before between f n (backtrack.LookAround p kind i h fs outer_back ∷ more) back slots now is placed =
       ap (λ ks. stack_run_of input steps before more outer_back slots (look_around_run (is_negative kind) now (at p slots) (code_then input outer_back (code_at steps i) ks))) (let within : h ≤ length between = omega arith in frames-more steps before between f h is within)
       ∙ more-frames before between f n more outer_back slots _ is (more-of n fs (length between) more placed.2 placed.3)
@@ -104,7 +104,7 @@ module _ (input : List ℕ) (steps : List Step) where
   unfolding stack_run ArePlaced
   stack_run-frames before between f n entries back slots now is placed = more-frames before between f n (reverse entries) back slots now is placed
 
-  -- at the last barrier
+  -- at the last look-around that is open
   cut-true : (frames : List Frame) (r : List Backtrack) (p : ℕ) (kind : LookAroundAssertionKind) (i h fs : ℕ) (ob : Bool) (back : Bool) (slots : List Slot) (w : State) (now : Run)
       → top_of r ≡ Some (backtrack.LookAround p kind i h fs ob)
       → stack_run_of input steps frames r back slots (reaches w ∷ now)
@@ -112,7 +112,7 @@ module _ (input : List ℕ) (steps : List Step) where
   cut-true frames [] p kind i h fs ob back slots w now is = absurd (cc)
   cut-true frames (backtrack.Choice p' e' i' h' fs' ∷ more) p kind i h fs ob back slots w now is = cut-true frames more p kind i h fs ob back slots w _ is
   cut-true frames (backtrack.Turn p' i' min max h' fs' ∷ more) p kind i h fs ob back slots w now is = cut-true frames more p kind i h fs ob back slots w _ is
-  cut-true frames (backtrack.RestoreSlot k old fs' ∷ more) p kind i h fs ob back slots w now is = cut-true frames more p kind i h fs ob back (set slots k old) w now is
+  cut-true frames (backtrack.RestoreSlot k old fs' row ∷ more) p kind i h fs ob back slots w now is = cut-true frames more p kind i h fs ob back (set slots k old) w now is
   cut-true frames (backtrack.LookAround p' kind' i' h' fs' ob' ∷ more) p kind i h fs ob back slots w now is =
       ap (λ x. stack_run_of input steps frames more ob' slots x) (look_around-here (is_negative kind') now (at p' slots) (code_then input ob' (code_at steps i') (continuations_at steps frames h')))
       ∙ same-fields (λ p kind i h fs ob. stack_run_of input steps frames more ob slots (if is_negative kind then silent ∷ [] else silent ∷ code_then input ob (code_at steps i) (continuations_at steps frames h) (at_place p w))) is
@@ -133,7 +133,7 @@ module _ (input : List ℕ) (steps : List Step) where
       cut-true frames (reverse entries) p kind i h fs ob back slots w now is
       ∙ ap (λ r. stack_run_of input steps frames r ob slots (if is_negative kind then silent ∷ [] else silent ∷ code_then input ob (code_at steps i) (continuations_at steps frames h) (at_place p w))) (sym (reverse-reverse (cut_of (reverse entries))))
 
-  -- no barrier, and the state is the first
+  -- no look-around is open, and the state is the first
   pub record Arrives (w : State) (r : Run) : Type 0 where
     pub rest : Run
     pub is : r ≡ reaches w ∷ rest
@@ -142,7 +142,7 @@ module _ (input : List ℕ) (steps : List Step) where
   arrive-first frames [] back slots w now none = record { rest = now; is = refl }
   arrive-first frames (backtrack.Choice p e i h fs ∷ more) back slots w now none = arrive-first frames more back slots w _ none
   arrive-first frames (backtrack.Turn p i min max h fs ∷ more) back slots w now none = arrive-first frames more back slots w _ none
-  arrive-first frames (backtrack.RestoreSlot k old fs ∷ more) back slots w now none = arrive-first frames more back (set slots k old) w now none
+  arrive-first frames (backtrack.RestoreSlot k old fs row ∷ more) back slots w now none = arrive-first frames more back (set slots k old) w now none
   arrive-first frames (backtrack.LookAround p kind i h fs outer_back ∷ more) back slots w now none = absurd (omega arith)
 
   pub stack_run-reaches : (frames : List Frame) (entries : List Backtrack) (back : Bool) (slots : List Slot) (w : State) (now : Run) → depth_in entries ≡ 0 → Arrives w (stack_run input steps frames entries back slots (reaches w ∷ now))

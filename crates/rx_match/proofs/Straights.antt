@@ -1,5 +1,5 @@
 -- A straight tree takes at most a Tick for each of its terms.
-use Rattle.std.proofs.Common.{◌≡◌, refl, ap, sym, ◌∙◌, subst, ℕ, zero, suc, ◌+◌, ◌≤◌, Bool, true, false, Option, Some, None, List, [], ◌∷◌, ◌++◌, append-nil, arith}
+use Rattle.std.proofs.Common.{◌≡◌, refl, ap, sym, ◌∙◌, subst, ℕ, zero, suc, ◌+◌, ◌*◌, ◌≤◌, Bool, true, false, Option, Some, None, List, [], ◌∷◌, ◌++◌, append-nil, arith}
 use Rattle.rx_ast.specs.declared.leaf.LookAroundAssertionKind.{LookAroundAssertionKind}
 use Rattle.rx_ast.specs.declared.leaf.LookAroundAssertionKind.TheVariants as look_kind
 use Rattle.rx_ast.specs.Tree as tree
@@ -10,6 +10,8 @@ use Rattle.rx_match.specs.Traces.{State, Trace, tick, reached, and_then, front, 
 use Rattle.rx_match.specs.Holding.{boundary_holds}
 use Rattle.rx_match.specs.Groups.{Names, groups_in, captured}
 use Rattle.rx_match.specs.Matching.{Settings, changed, moved_to, if_holds, with_slots_of, where_none, look_around_trace, looks_back, over_unit, back_reference_trace, leaf_trace, node_trace, nodes_trace, alternatives_trace}
+use Rattle.std.proofs.Math.Nat.{suc-mul}
+use Rattle.rx_match.specs.Answers.{each_trace}
 use Rattle.rx_match.specs.Straight.{IsStraight, AreStraight, IsStraightOne, terms_in, terms_in_all, terms_in_each}
 
 -- at most so many Ticks, and at most one state, which is last
@@ -25,6 +27,21 @@ short-cost zero (tick ∷ t) short = absurd short
 short-cost (suc n) (tick ∷ t) short = let e = short-cost n t short in omega arith
 short-cost zero (reached s ∷ t) short = omega arith
 short-cost (suc n) (reached s ∷ t) short = omega arith
+
+cost-append : (t u : Trace) → cost (t ++ u) ≤ cost t + cost u
+cost-append [] u = omega arith
+cost-append (tick ∷ t) u = let e = cost-append t u in omega arith
+cost-append (reached s ∷ t) u = omega arith
+
+-- the traces from a place and from so many places after it
+pub each-cost : (at : ℕ → Trace) (n more p : ℕ) → ((q : ℕ) → cost (at q) ≤ n) → cost (each_trace at more p) ≤ suc more * n
+each-cost at n zero p few = let e = few p in let one : 1 * n ≡ n = omega arith in omega arith
+each-cost at n (suc more) p few =
+    let e = few p in
+    let rest = each-cost at n more (p + 1) few in
+    let both = cost-append (at p) (each_trace at more (p + 1)) in
+    let sum = suc-mul (suc more) n in
+    omega arith
 
 short-more : (n k : ℕ) (t : Trace) → n ≤ k → IsShort n t → IsShort k t
 short-more n k [] more short = tt

@@ -1,4 +1,4 @@
--- The code of a tree, and what a machine does with it: a trace with quiet marks, of which each turn of the machine takes one.
+-- The code of a tree, and what a machine does with it: a trace with silent marks too, of which each turn of the machine takes one at least.
 use Rattle.std.specs.Prelude.{◌≡◌, ℕ, zero, suc, ◌+◌, ◌-◌, ◌≤◌, ◌<◌, Bool, true, false, ◌==◌, if◌then◌else◌, Option, Some, None, List, [], ◌∷◌, ◌++◌, length, take, drop}
 use Rattle.rx_ast.specs.declared.leaf.BoundaryAssertionKind.{BoundaryAssertionKind}
 use Rattle.rx_ast.specs.declared.leaf.LookAroundAssertionKind.{LookAroundAssertionKind}
@@ -25,7 +25,7 @@ bind (silent ∷ r) f = silent ∷ bind r f
 bind (ticked ∷ r) f = ticked ∷ bind r f
 bind (reaches s ∷ r) f = f s ++ bind r f
 
--- without the quiet marks
+-- without the silent marks
 abbrev pub visible : Run → Trace
 visible [] = []
 visible (silent ∷ r) = visible r

@@ -61,16 +61,6 @@ abbrev pub is_set : Slot → Bool
 is_set Unset = false
 is_set (Set start end) = true
 
--- the name of the group of a number less 1, if there is one
-abbrev pub name_at : Names → ℕ → Option (List ℕ)
-name_at [] i = None
-name_at (n ∷ ns) zero = n
-name_at (n ∷ ns) (suc i) = name_at ns i
-
-abbrev pub is_slot_of : List ℕ → Names → ℕ → Slot → Bool
-is_slot_of name names i Unset = false
-is_slot_of name names i (Set start end) = is_named name (name_at names i)
-
 -- the slot of the least group of a name that is set
 abbrev pub slot_named : List ℕ → Names → List Slot → Slot
 slot_named name [] slots = Unset

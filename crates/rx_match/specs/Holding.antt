@@ -41,6 +41,7 @@ turned true holds = not holds
 turned false holds = holds
 
 abbrev mutual
+  -- CompileToCharSet (22.2.2.9) of what stands in a class. Property escapes and strings are refused before (Supported.antt).
   pub member_holds : Member → ℕ → Bool
   member_holds (in_class.range r) c = is_within r.min.value r.max.value c
   member_holds (in_class.escape e) c = escape_holds e.kind c
@@ -61,6 +62,7 @@ abbrev mutual
   first_holds no_member c = false
   first_holds (member m ms) c = member_holds m c && not (any_holds ms c)
 
+  -- CompileCharacterClass (22.2.2.8)
   pub class_holds : Class → ℕ → Bool
   class_holds (in_class.class s negative strings made.Union ms) c = turned negative (any_holds ms c)
   class_holds (in_class.class s negative strings made.Intersection ms) c = turned negative (all_hold ms c)

@@ -116,7 +116,7 @@ module _ (input : List ℕ) where
       stack_run_of steps frames more back slots (now ++ choices_run (λ q. code_then back (code_at steps i) (continuations_at steps frames h) (record { place = q; slots = slots })) e p)
   stack_run_of steps frames (backtrack.Turn p i min max h fs ∷ more) back slots now =
       stack_run_of steps frames more back slots (now ++ (silent ∷ bind (turn_run back min max (record { place = p; slots = slots }) (code_at steps i)) (continuation_run back (continuations_at steps frames h))))
-  stack_run_of steps frames (backtrack.RestoreSlot k old fs ∷ more) back slots now = stack_run_of steps frames more back (set slots k old) now
+  stack_run_of steps frames (backtrack.RestoreSlot k old fs row ∷ more) back slots now = stack_run_of steps frames more back (set slots k old) now
   stack_run_of steps frames (backtrack.LookAround p kind i h fs outer_back ∷ more) back slots now =
       stack_run_of steps frames more outer_back slots (look_around_run (is_negative kind) now (record { place = p; slots = slots }) (code_then outer_back (code_at steps i) (continuations_at steps frames h)))
 

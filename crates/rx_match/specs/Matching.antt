@@ -2,14 +2,16 @@
 --
 -- | node | after the Tick, from a state s at a place p | section |
 -- |---|---|---|
--- | Character, Dot, class escape, class | forward over the unit at p, backward over the unit before p, where there is one and it is held; else nothing | 22.2.2.7.1 |
--- | boundary | s where it holds, else nothing | 22.2.2.4 |
+-- | Character, Dot, class escape, class | forward over the unit at p, backward over the unit before p, where there is one and it is held; else nothing | 22.2.2.7.1, 22.2.2.9 |
+-- | boundary | s where it holds, else nothing | 22.2.2.4; of `\A`, `\z`, `\Z` a proposal |
 -- | lookahead, lookbehind | the Ticks of the body up to its first state, and p with the slots of that state, if there is one | 22.2.2.4 |
 -- | negative look-around | the Ticks of the body up to its first state, and s where there is none | 22.2.2.4 |
 -- | capturing group | the body, in each state of which its slot is set from the lesser to the greater of p and the place there | 22.2.2.7 |
 -- | other group | the body, under the settings that its modifiers give | 22.2.2.7, 22.2.2.7.4 |
 -- | reference | s where the slot is unset or missing; else over units equal to the slot's, where they stand there; else nothing | 22.2.2.7.2 |
--- | quantifier | turns of its body | 22.2.2.3.1 |
+-- | quantifier | turns of its body | 22.2.2.3, 22.2.2.3.1 |
+--
+-- The alternatives of a disjunction follow one another, and so do the terms of an alternative (22.2.2.3, 22.2.2.3.3, 22.2.2.3.4). UpdateModifiers is of the 16th edition.
 use Rattle.std.specs.Prelude.{ℕ, suc, ◌+◌, ◌-◌, ◌==◌, ◌&&◌, ◌||◌, not, nat_le, Bool, true, false, if◌then◌else◌, Option, Some, None, List, [], ◌∷◌, ◌++◌, length, take, drop, bit_and}
 use Rattle.rx_ast.specs.declared.leaf.Modifiers.{Modifiers}
 use Rattle.rx_ast.specs.declared.leaf.LookAroundAssertionKind.{LookAroundAssertionKind}
@@ -36,6 +38,7 @@ switched enabled disabled was = if disabled == 0 then (if enabled == 0 then was 
 abbrev pub changed : Option Modifiers → Settings → Settings
 changed None e = e
 changed (Some m) e = record {
+  -- the bit of `m` is 2, that of `s` is 4
   multiline = switched (bit_and m.enabling.0 2) (bit_and m.disabling.0 2) e.multiline;
   dot_all = switched (bit_and m.enabling.0 4) (bit_and m.disabling.0 4) e.dot_all;
 }
@@ -45,7 +48,7 @@ abbrev pub moved_to : Option ℕ → State → Trace
 moved_to None s = []
 moved_to (Some p) s = reached (record { place = p; slots = s.slots }) ∷ []
 
--- a place, where there is a unit and it is held
+-- the place to go to, where there is a unit and it is held
 abbrev pub held_to : (ℕ → Bool) → ℕ → Option ℕ → Option ℕ
 held_to holds p None = None
 held_to holds p (Some c) = if holds c then Some p else None
@@ -96,7 +99,7 @@ module _ (input : List ℕ) where
   back_reference_trace back (Set start end) s = moved_to (place_over back (take (end - start) (drop start input)) s.place) s
 
 module _ (input : List ℕ) (names : Names) where
-  -- CompileAtom (22.2.2.7) and CompileAssertion (22.2.2.4) where no term is inside
+  -- CompileAtom (22.2.2.7) and CompileAssertion (22.2.2.4) where no term is inside. A property escape is refused before (Supported.antt).
   abbrev pub leaf_trace : Settings → Bool → Leaf → State → Trace
   leaf_trace e back (tree.boundary b) s = if_holds (boundary_holds e.multiline input b.kind s.place) s
   leaf_trace e back (tree.character c) s = over_unit input back (λ u. u == c.value) s

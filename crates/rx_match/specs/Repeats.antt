@@ -24,8 +24,8 @@ in_turn zero false s turn = reached s ∷ turn
 
 module _ (body : State → Trace) (unset : State → State) (greedy : Bool) where
   -- Turns of the body, each from a state in which the captures inside it are unset (step 4). No more are allowed where max is 0 (step 1).
-  -- In one direction no trace moves back, and an empty turn that is not owed goes on to nothing. So no more turns follow one another than are owed and the
-  -- input has units: the number of turns that are counted down is never what ends a repetition.
+  -- In one direction no trace moves back, and an empty turn that is not owed goes on to nothing. So no more turns follow one another than are owed,
+  -- plus the units of the input: the number of turns that are counted down is never what ends a repetition.
   abbrev pub repeat_trace : ℕ → ℕ → Option ℕ → State → Trace
   repeat_trace zero min max s =
       if is_over max then reached s ∷ [] else in_turn min greedy s (and_then (body (unset s)) (after_turn min s (λ w. [])))

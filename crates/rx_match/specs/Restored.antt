@@ -1,14 +1,20 @@
 -- Slots were set, and entries say what they are to be restored to.
-use Rattle.std.specs.Prelude.{◌≡◌, ℕ, Bool, List}
+use Rattle.std.specs.Prelude.{◌≡◌, ℕ, suc, ◌≤◌, Bool, List, [], ◌∷◌, ◌++◌}
 use Rattle.rx_match.specs.declared.answer.Slot.{Slot}
 use Rattle.rx_match.specs.declared.step.Step.{Step}
 use Rattle.rx_match.specs.declared.step.Frame.{Frame}
 use Rattle.rx_match.specs.declared.step.Backtrack.{Backtrack}
+use Rattle.rx_match.specs.declared.step.Backtrack.TheVariants as backtrack
 use Rattle.rx_match.specs.Codes.{Run}
 use Rattle.rx_match.specs.Machines.{stack_run}
-use Rattle.rx_match.specs.Sound.{ArePlaced, depth_in}
+use Rattle.rx_match.specs.Sound.{IsSaved, ArePlaced, kept_in, row_in, depth_in}
 
 pub record IsRestored (old : List Backtrack) (were : List Slot) (new : List Backtrack) (are : List Slot) : Type 0 where
   pub same : (input : List ℕ) (steps : List Step) (frames : List Frame) (back : Bool) (now : Run) → stack_run input steps frames new back are now ≡ stack_run input steps frames old back were now
   pub placed : (n frames : ℕ) → ArePlaced n frames old → ArePlaced n frames new
   pub depth : depth_in new ≡ depth_in old
+
+-- What a slot was is saved by a new last entry, or an entry restores it anyway.
+pub data Saves (old : List Backtrack) (k : ℕ) (was : Slot) (new : List Backtrack) : Type 0 where
+  again : IsSaved old k → new ≡ old → Saves old k was new
+  once : (frames row : ℕ) → new ≡ old ++ (backtrack.RestoreSlot k was frames row ∷ []) → frames ≡ kept_in old → row ≤ suc (row_in old) → Saves old k was new

@@ -137,9 +137,22 @@ pub record TakesMarks (old new : Machine) (r s : Run) : Type 0 where
   pub program : new.program ≡ old.program
   pub sound : IsSound new
 
+-- A slot was restored, and the same is left for later.
+pub record KeepsBacktracking (old new : Machine) : Type 0 where
+  pub same : with_backtracking old [] ≡ with_backtracking new []
+  pub paid : old.budget ≡ new.budget
+  pub input : new.input ≡ old.input
+  pub program : new.program ≡ old.program
+  pub sound : IsSound new
+
 -- What was left for later is taken up, where its entry was taken out.
 abbrev pub Resumes : Machine → Backtrack → Machine → Action → Type 0
 Resumes old e new now = TakesMarks (with_entry old e) new (with_backtracking (with_entry old e) []) (remaining new now)
+
+-- what comes of an entry that was taken out: nothing but a slot that is restored, or what was left for later
+abbrev pub TakesUp : Machine → Backtrack → Machine → Option Action → Type 0
+TakesUp old e new None = KeepsBacktracking (with_entry old e) new × (new.entries ≡ old.entries)
+TakesUp old e new (Some now) = Resumes old e new now
 
 -- What was to be done is no more than a state, which was reached.
 pub record ReachesState (old m : Machine) (r : Run) : Type 0 where

@@ -1,5 +1,5 @@
 -- What holds of a machine's program and its stacks.
-use Rattle.std.specs.Prelude.{ℕ, suc, ◌≤◌, ◌<◌, Option, Some, None, List, [], ◌∷◌, length, reverse}
+use Rattle.std.specs.Prelude.{◌≡◌, ℕ, suc, ◌+◌, ◌≤◌, ◌<◌, slice_get, Bool, true, false, ◌==◌, Option, Some, None, List, [], ◌∷◌, length, reverse}
 use Rattle.rx_match.specs.declared.step.Step.{Step}
 use Rattle.rx_match.specs.declared.step.Step.TheVariants as step
 use Rattle.rx_match.specs.declared.step.Frame.{Frame}
@@ -38,34 +38,52 @@ StackedOf (f ∷ before) = (f.below ≤ length before) × StackedOf before
 unfoldable pub AreStacked : List Frame → Type 0
 AreStacked frames = StackedOf (reverse frames)
 
--- how many barriers there are
+-- how many look-arounds are open
 abbrev pub depth_of : List Backtrack → ℕ
 depth_of [] = 0
 depth_of (backtrack.Choice p e i h fs ∷ more) = depth_of more
 depth_of (backtrack.Turn p i min max h fs ∷ more) = depth_of more
-depth_of (backtrack.RestoreSlot k old fs ∷ more) = depth_of more
+depth_of (backtrack.RestoreSlot k old fs row ∷ more) = depth_of more
 depth_of (backtrack.LookAround p kind i h fs back ∷ more) = suc (depth_of more)
 
 unfoldable pub depth_in : List Backtrack → ℕ
 depth_in entries = depth_of (reverse entries)
 
--- Places are in the input, and heads among the frames that there were. Those below name no frame that came later, and none that a slot to be restored does not
--- count.
+-- how many entries stand in a row at the end that restore slots, by what the last of them says
+abbrev pub own_row : Backtrack → ℕ
+own_row (backtrack.Choice p e i h fs) = 0
+own_row (backtrack.Turn p i min max h fs) = 0
+own_row (backtrack.RestoreSlot k old fs row) = row
+own_row (backtrack.LookAround p kind i h fs back) = 0
+
+abbrev pub row_of : List Backtrack → ℕ
+row_of [] = 0
+row_of (e ∷ more) = own_row e
+
+unfoldable pub row_in : List Backtrack → ℕ
+row_in entries = row_of (reverse entries)
+
+-- Places are in the input, and heads among the frames that there were. The entries below one name no frame past those that
+-- it counts. An entry that restores a slot says of no more such entries in a row than there are.
 abbrev pub PlacedOf : ℕ → ℕ → List Backtrack → Type 0
 PlacedOf n frames [] = Unit {0}
 PlacedOf n frames (backtrack.Choice p e i h fs ∷ more) = ((p ≤ n) × (e ≤ p)) × (h ≤ fs) × (fs ≤ frames) × PlacedOf n fs more
 PlacedOf n frames (backtrack.Turn p i min max h fs ∷ more) = (p ≤ n) × (h ≤ fs) × (fs ≤ frames) × PlacedOf n fs more
-PlacedOf n frames (backtrack.RestoreSlot k old fs ∷ more) = (least : ℕ) × (least ≤ fs) × (least ≤ frames) × PlacedOf n least more
+PlacedOf n frames (backtrack.RestoreSlot k old fs row ∷ more) = (least : ℕ) × (least ≤ fs) × (least ≤ frames) × (row ≤ suc (row_of more)) × PlacedOf n least more
 PlacedOf n frames (backtrack.LookAround p kind i h fs back ∷ more) = (p ≤ n) × (h ≤ fs) × (fs ≤ frames) × PlacedOf n fs more
 
 unfoldable pub ArePlaced : ℕ → ℕ → List Backtrack → Type 0
 ArePlaced n frames entries = PlacedOf n frames (reverse entries)
 
+-- entries that are placed in some input and over some frames
+abbrev pub AreEntries : List Backtrack → Type 0
+AreEntries entries = (n : ℕ) × (frames : ℕ) × ArePlaced n frames entries
+
 -- how many frames entries may come back to, by the last of them
 abbrev pub frames_in : Backtrack → ℕ
 frames_in (backtrack.Choice p e i h fs) = fs
 frames_in (backtrack.Turn p i min max h fs) = fs
-frames_in (backtrack.RestoreSlot k old fs) = fs
+frames_in (backtrack.RestoreSlot k old fs row) = fs
 frames_in (backtrack.LookAround p kind i h fs back) = fs
 
 abbrev pub kept_of : List Backtrack → ℕ
@@ -75,24 +93,24 @@ kept_of (e ∷ more) = frames_in e
 unfoldable pub kept_in : List Backtrack → ℕ
 kept_in entries = kept_of (reverse entries)
 
--- What a look-around leaves that was matched: the slots to be restored, and what stands below the barrier.
+-- What a look-around leaves that was matched: the slots to be restored, and what stands below its own entry.
 abbrev pub cut_of : List Backtrack → List Backtrack
 cut_of [] = []
 cut_of (backtrack.Choice p e i h fs ∷ more) = cut_of more
 cut_of (backtrack.Turn p i min max h fs ∷ more) = cut_of more
-cut_of (backtrack.RestoreSlot k old fs ∷ more) = backtrack.RestoreSlot k old fs ∷ cut_of more
+cut_of (backtrack.RestoreSlot k old fs row ∷ more) = backtrack.RestoreSlot k old fs row ∷ cut_of more
 cut_of (backtrack.LookAround p kind i h fs back ∷ more) = more
 
 -- the entry of a look-around that is open
 abbrev pub entry_of : OpenLookAround → Backtrack
 entry_of it = backtrack.LookAround it.place it.kind it.next it.head it.frames it.back
 
--- the last barrier
+-- the last look-around that is open
 abbrev pub top_of : List Backtrack → Option Backtrack
 top_of [] = None
 top_of (backtrack.Choice p e i h fs ∷ more) = top_of more
 top_of (backtrack.Turn p i min max h fs ∷ more) = top_of more
-top_of (backtrack.RestoreSlot k old fs ∷ more) = top_of more
+top_of (backtrack.RestoreSlot k old fs row ∷ more) = top_of more
 top_of (backtrack.LookAround p kind i h fs back ∷ more) = Some (backtrack.LookAround p kind i h fs back)
 
 unfoldable pub cut_back : List Backtrack → List Backtrack
@@ -103,3 +121,18 @@ cut_in entries = reverse (cut_back entries)
 
 unfoldable pub top_in : List Backtrack → Option Backtrack
 top_in entries = top_of (reverse entries)
+
+-- an entry restores the slot of a number
+abbrev pub restores_slot : ℕ → Backtrack → Bool
+restores_slot k (backtrack.Choice p e i h fs) = false
+restores_slot k (backtrack.Turn p i min max h fs) = false
+restores_slot k (backtrack.RestoreSlot j old fs row) = j == k
+restores_slot k (backtrack.LookAround p kind i h fs back) = false
+
+-- The slot of a number is restored by an entry of the last ones in a row that restore slots, so that it need not be saved again.
+pub record IsSaved (entries : List Backtrack) (k : ℕ) : Type 0 where
+  pub at : ℕ
+  pub entry : Backtrack
+  pub is : slice_get entries at ≡ Some entry
+  pub restores : restores_slot k entry ≡ true
+  pub last : length entries < suc at + row_in entries

@@ -3,7 +3,7 @@
 use Rattle.std.specs.Prelude.{ℕ, ◌+◌, Option, Some, None, List, [], ◌∷◌, ◌++◌}
 use Rattle.rx_match.specs.declared.answer.Slot.{Slot}
 
--- MatchState (22.2.2.1.3): a place of the input, endIndex, and the captures, one slot for each capturing group in order of opening
+-- MatchState (22.2.2.1): a place of the input, endIndex, and the captures, one slot for each capturing group in order of opening
 pub record State : Type 0 where
   pub place : ℕ
   pub slots : List Slot
@@ -15,7 +15,7 @@ pub data Event : Type 0 where
 abbrev pub Trace : Type 0
 Trace = List Event
 
--- The trace with each state s replaced by the trace f(s): f is the MatcherContinuation (22.2.2.1.4) that is called there.
+-- The trace with each state s replaced by the trace f(s): f is the MatcherContinuation (22.2.2.1) that is called there.
 abbrev pub and_then : Trace → (State → Trace) → Trace
 and_then [] f = []
 and_then (tick ∷ t) f = tick ∷ and_then t f
@@ -27,7 +27,7 @@ front [] = []
 front (tick ∷ t) = tick ∷ front t
 front (reached s ∷ t) = []
 
--- how many Ticks come before the first state
+-- how many Ticks come before the first state, or in all where there is none
 abbrev pub cost : Trace → ℕ
 cost [] = 0
 cost (tick ∷ t) = 1 + cost t

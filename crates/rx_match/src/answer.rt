@@ -6,6 +6,7 @@ pub struct MatchFlags {
     pub ignore_case: bool,
     pub multiline: bool,
     pub dot_all: bool,
+    /// Whether the units of the input are characters: for `units_of`. A match does not look at it.
     pub unicode_mode: bool,
 }
 

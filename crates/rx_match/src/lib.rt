@@ -1,4 +1,4 @@
-//! A matcher of patterns with a budget: the first of a pattern's outcomes on an input, in a stated number of steps.
+//! A matcher of patterns with a budget: the first of a pattern's outcomes on an input, in a stated number of Ticks (docs/MATCH.md).
 #![tactic(auto)]
 
 mod answer;

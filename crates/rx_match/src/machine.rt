@@ -5,7 +5,7 @@ ghost use Rattle.rx_match.specs.Holding.{boundary_holds as boundary_at};
 ghost use Rattle.rx_match.specs.Kinds.{ticks_in};
 ghost use Rattle.rx_match.specs.Machines.{code_at, test_holds};
 ghost use Rattle.rx_match.specs.Repeats.{is_over as over};
-ghost use Rattle.rx_match.specs.Running.{ForgetsFrames, KeepsRun, IsOverUnit, IsOverUnits, IsRun, IsRepetitionAt, IsSound, Progresses, Resumes, TakesMarks, PushesFrame, continuation_of, run_of, remaining, returned, state_of, run_after_tick, with_backtracking, with_earlier, with_entry, with_turns};
+ghost use Rattle.rx_match.specs.Running.{ForgetsFrames, KeepsRun, IsOverUnit, IsOverUnits, IsRun, IsRepetitionAt, IsSound, Progresses, Resumes, TakesMarks, TakesUp, PushesFrame, continuation_of, run_of, remaining, returned, state_of, run_after_tick, with_backtracking, with_earlier, with_entry, with_turns};
 
 use crate::answer::Slot;
 use crate::cut::{cut, cut_frames, kept_frames};
@@ -28,6 +28,7 @@ pub struct Machine<'a> {
     pub frames: List<Frame>,
     pub entries: List<Backtrack>,
     pub slots: Vec<Slot>,
+    pub saved: Vec<usize>,
     pub place: usize,
     pub step: usize,
     pub head: usize,
@@ -254,6 +255,7 @@ impl<'a> Machine<'a> {
         unset_slots(
             &mut self.entries,
             &mut self.slots,
+            &mut self.saved,
             it.turns.from,
             it.turns.count,
         )?;
@@ -435,7 +437,13 @@ impl<'a> Machine<'a> {
                     start: start.min(end),
                     end: start.max(end),
                 };
-                set_slot(&mut self.entries, &mut self.slots, group, slot)?;
+                set_slot(
+                    &mut self.entries,
+                    &mut self.slots,
+                    &mut self.saved,
+                    group,
+                    slot,
+                )?;
                 self.step = next;
                 Ok(Action::Step)
             }
@@ -499,47 +507,50 @@ impl<'a> Machine<'a> {
         ensures { IfOk result (λ it. Progresses self.old self.new (with_backtracking self.old []) it) }
     {
         while let Some(entry) = self.entries.pop() {
-            match entry {
-                Backtrack::RestoreSlot { slot, old, .. } => restore_slot(
-                    &mut self.slots,
-                    slot,
-                    old,
-                ),
-                Backtrack::Choice {
-                    place,
-                    earlier,
-                    step,
-                    head,
-                    frames,
-                } => {
-                    let action = self.take_choice(place, earlier, step, head, frames)?;
-                    return Ok(Progress::Continue(action));
-                }
-                Backtrack::Turn {
-                    place,
-                    repeat,
-                    min,
-                    max,
-                    head,
-                    frames,
-                } => {
-                    self.return_to(place, head, frames);
-                    return Ok(Progress::Continue(Action::BeginTurn { repeat, min, max }));
-                }
-                Backtrack::LookAround {
-                    place,
-                    kind,
-                    next,
-                    head,
-                    frames,
-                    back,
-                } => {
-                    let action = self.end_look_around(place, kind, next, head, frames, back);
-                    return Ok(Progress::Continue(action));
-                }
+            if let Some(action) = self.take_up(entry)? {
+                return Ok(Progress::Continue(action));
             }
         }
         Ok(Progress::NoMatch)
+    }
+
+    /// Takes up what an entry left for later, if it does not only restore a slot.
+    fn take_up(&mut self, entry: Backtrack) -> Result<Option<Action>, OutOfMemory>
+        requires { IsSound (with_entry self.old entry) }
+        ensures { IfOk result (λ now. TakesUp self.old entry self.new now) }
+    {
+        match entry {
+            Backtrack::RestoreSlot { slot, old, .. } => {
+                restore_slot(&mut self.slots, slot, old);
+                Ok(None)
+            }
+            Backtrack::Choice {
+                place,
+                earlier,
+                step,
+                head,
+                frames,
+            } => Ok(Some(self.take_choice(place, earlier, step, head, frames)?)),
+            Backtrack::Turn {
+                place,
+                repeat,
+                min,
+                max,
+                head,
+                frames,
+            } => {
+                self.return_to(place, head, frames);
+                Ok(Some(Action::BeginTurn { repeat, min, max }))
+            }
+            Backtrack::LookAround {
+                place,
+                kind,
+                next,
+                head,
+                frames,
+                back,
+            } => Ok(Some(self.end_look_around(place, kind, next, head, frames, back))),
+        }
     }
 
     /// Stands at a place, with so many frames, of which one is the last that waits.
@@ -623,6 +634,7 @@ impl<'a> Machine<'a> {
     fn act_after_tick(&mut self, step: &Step<'a>) -> Result<Action, OutOfMemory>
         requires sound { IsSound self.old }
         requires at { slice_get self.old.program.now self.old.step ≡ Some step.now }
+        requires ticks { ticks_in step.now ≡ true }
         ensures { IfOk result (λ now. KeepsRun self.old self.new (run_after_tick self.old step.now) (remaining self.new now)) }
     {
         match *step {
@@ -651,10 +663,10 @@ impl<'a> Machine<'a> {
                 min: turns.min,
                 max: turns.max,
             }),
-            Step::Accept => Ok(Action::Backtrack),
-            Step::Reject => Ok(Action::Backtrack),
-            Step::Choose { .. } => Ok(Action::Backtrack),
-            Step::Sequence { .. } => Ok(Action::Backtrack),
+            Step::Accept => unreachable!(),
+            Step::Reject => unreachable!(),
+            Step::Choose { .. } => unreachable!(),
+            Step::Sequence { .. } => unreachable!(),
         }
     }
 
@@ -734,14 +746,14 @@ impl<'a> Machine<'a> {
                 first, second,
             )?)),
             Step::Reject => Ok(Progress::Continue(Action::Backtrack)),
-            Step::Consume { .. } => Ok(Progress::NoMatch),
-            Step::Assert { .. } => Ok(Progress::NoMatch),
-            Step::Refer { .. } => Ok(Progress::NoMatch),
-            Step::ReferByName { .. } => Ok(Progress::NoMatch),
-            Step::EnterGroup { .. } => Ok(Progress::NoMatch),
-            Step::Capture { .. } => Ok(Progress::NoMatch),
-            Step::LookAround { .. } => Ok(Progress::NoMatch),
-            Step::Repeat { .. } => Ok(Progress::NoMatch),
+            Step::Consume { .. } => unreachable!(),
+            Step::Assert { .. } => unreachable!(),
+            Step::Refer { .. } => unreachable!(),
+            Step::ReferByName { .. } => unreachable!(),
+            Step::EnterGroup { .. } => unreachable!(),
+            Step::Capture { .. } => unreachable!(),
+            Step::LookAround { .. } => unreachable!(),
+            Step::Repeat { .. } => unreachable!(),
         }
     }
 

@@ -35,6 +35,14 @@ fn unset(slots: &mut Vec<Slot>, groups: usize) -> Result<(), OutOfMemory>
     Ok(())
 }
 
+/// Has so many numbers at least.
+fn fill(saved: &mut Vec<usize>, groups: usize) -> Result<(), OutOfMemory> {
+    for _ in saved.len()..groups {
+        saved.push(0)?;
+    }
+    Ok(())
+}
+
 fn clear_frames(frames: &mut List<Frame>)
     ensures { frames.new ≡ [] }
 {
@@ -60,6 +68,7 @@ impl<'a> Machine<'a> {
             frames: List::new(alloc),
             entries: List::new(alloc),
             slots: Vec::new(alloc),
+            saved: Vec::new(alloc),
             place: 0,
             step: 0,
             head: 0,
@@ -83,6 +92,7 @@ impl<'a> Machine<'a> {
         clear_frames(&mut self.frames);
         clear_entries(&mut self.entries);
         unset(&mut self.slots, groups)?;
+        fill(&mut self.saved, groups)?;
         self.place = place;
         self.step = entry;
         self.head = 0;

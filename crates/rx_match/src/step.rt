@@ -119,10 +119,12 @@ pub enum Backtrack {
         head: usize,
         frames: usize,
     },
+    /// A slot, and how many such entries stand in a row that ends here, at most.
     RestoreSlot {
         slot: usize,
         old: Slot,
         frames: usize,
+        row: usize,
     },
     LookAround {
         place: usize,

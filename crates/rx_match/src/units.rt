@@ -6,7 +6,7 @@ ghost use Rattle.rx_units.specs.Units.{literal_units, values};
 use rx_base::{List, OutOfMemory};
 use std::alloc::Global;
 
-/// The units that a pattern is matched on: the characters of a text, or without `unicode_mode` its UTF-16 code units (ECMA-262, 22.2.7.2, step 13).
+/// The units that a pattern is matched on: the characters of a text, or without `unicode_mode` its UTF-16 code units (ECMA-262, 22.2.7.2).
 pub fn units_of(alloc: Global, text: &str, unicode_mode: bool) -> Result<List<u32>, OutOfMemory>
     ensures { IfOk result (λ units. units ≡ values (literal_units unicode_mode 0 (chars text.now))) }
 {

@@ -12,7 +12,7 @@ loop-entry-preserved-in-Turn c =
 
 pub loop-entry-preserved : goal.loop-entry-preserved
 loop-entry-preserved c =
-    fewer_restore c.args.entries.now c.loop-entry.entries c.pop.new.self c.loop-entry.kept c.push.new.self _ _ _ (c.in-Some.ensures ∙ ap (λ s. c.pop.new.self ++ (s ∷ [])) c.in-RestoreSlot.is)
+    fewer_restore c.args.entries.now c.loop-entry.entries c.pop.new.self c.loop-entry.kept c.push.new.self _ _ _ _ (c.in-Some.ensures ∙ ap (λ s. c.pop.new.self ++ (s ∷ [])) c.in-RestoreSlot.is)
     (c.in_ok-push-in-RestoreSlot.ensures.ok ∙ ap (λ s. c.loop-entry.kept ++ (s ∷ [])) c.in-RestoreSlot.is) c.loop-entry.invariant
 
 pub returns-in-LookAround-clause-top : goal.returns-in-LookAround-clause-top

@@ -11,3 +11,6 @@ loop-k-preserved c = record {
   slots = rw add-one (c.in_ok-unset_slot.ensures.slots ∙ ap (λ sl. set sl (c.args.from + c.loop-k.k) Unset) c.loop-k.invariant.slots);
   restored = restored_then c.loop-k.invariant.restored c.in_ok-unset_slot.ensures.restored;
 }
+
+pub unset_slot-requires : goal.unset_slot-requires
+unset_slot-requires c = (c.requires.0, c.requires.1, c.loop-k.invariant.restored.placed c.requires.0 c.requires.1 c.requires.2)

@@ -1,10 +1,14 @@
+use Rattle.std.proofs.Common.{length}
 use Rattle.rx_match.proofs.Repeating.{sound_restored, takes_begin}
 use Rattle.rx_match.proofs.machine.Machine.begin_turn.Goals as goal
 
 pub push_frame-requires : goal.push_frame-requires
-push_frame-requires c = sound_restored c.args.self.now c.unset_slots.new.entries c.unset_slots.new.slots c.requires.sound c.in_ok-unset_slots.ensures.restored
+push_frame-requires c = sound_restored c.args.self.now c.unset_slots.new.entries c.unset_slots.new.slots c.unset_slots.new.saved c.requires.sound c.in_ok-unset_slots.ensures.restored
 
 pub returns : goal.returns
 returns c =
-    takes_begin c.args.self.now c.push_frame.new.self c.unset_slots.new.entries c.unset_slots.new.slots c.args.repeat c.args.it.turns c.args.it.body c.args.it.next c.args.min c.args.max c.requires.sound c.requires.step
+    takes_begin c.args.self.now c.push_frame.new.self c.unset_slots.new.entries c.unset_slots.new.slots c.unset_slots.new.saved c.args.repeat c.args.it.turns c.args.it.body c.args.it.next c.args.min c.args.max c.requires.sound c.requires.step
     c.in_ok-unset_slots.ensures.restored c.in_ok-unset_slots.ensures.slots c.in_ok-push_frame.ensures
+
+pub unset_slots-requires : goal.unset_slots-requires
+unset_slots-requires c = let m = c.args.self.now in (length m.input.now, length m.frames, c.requires.sound.placed)
