@@ -1,14 +1,15 @@
 -- Frames that nothing names may be cut back.
 use Rattle.std.proofs.Common.{◌≡◌, refl, ap, sym, ◌∙◌, subst, ℕ, ◌≤◌, Bool, List, [], ◌∷◌, ◌++◌, append_assoc, append-nil, length, length-append, take, drop, arith}
 use Rattle.std.proofs.lemmas.List.{take-append-drop, length-take-le}
-use Rattle.rx_match.specs.declared.answer.Slot.{Slot}
-use Rattle.rx_match.specs.declared.step.Step.{Step}
-use Rattle.rx_match.specs.declared.step.Frame.{Frame}
-use Rattle.rx_match.specs.declared.step.Backtrack.{Backtrack}
-use Rattle.rx_match.specs.Codes.{Run}
+use Rattle.rx_trace.specs.declared.answer.Slot.{Slot}
+use Rattle.rx_program.specs.declared.step.Step.{Step}
+use Rattle.rx_match.specs.declared.entry.Frame.{Frame}
+use Rattle.rx_match.specs.declared.entry.Backtrack.{Backtrack}
+use Rattle.rx_match.specs.Runs.{Run}
 use Rattle.rx_match.specs.Machines.{continuations_at, stack_run}
 use Rattle.rx_match.specs.Sound.{StackedOf, AreStacked, ArePlaced}
-use Rattle.rx_match.proofs.Frames.{reverse-last, frames-more}
+use Rattle.rx_program.proofs.Lists.{reverse-last}
+use Rattle.rx_match.proofs.Frames.{frames-more}
 use Rattle.rx_match.proofs.Entries.{placed-more}
 use Rattle.rx_match.proofs.StackRuns.{stack_run-frames}
 

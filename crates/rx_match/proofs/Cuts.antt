@@ -2,11 +2,11 @@
 use Rattle.std.proofs.Common.{◌≡◌, refl, ap, sym, ◌∙◌, subst, ℕ, suc, ◌≤◌, Bool, Option, Some, None, List, [], ◌∷◌, ◌++◌, append_assoc, reverse, arith}
 use Rattle.std.proofs.lemmas.List.{reverse-reverse}
 use Rattle.rx_ast.specs.declared.leaf.LookAroundAssertionKind.{LookAroundAssertionKind}
-use Rattle.rx_match.specs.declared.answer.Slot.{Slot}
-use Rattle.rx_match.specs.declared.step.Backtrack.{Backtrack}
-use Rattle.rx_match.specs.declared.step.Backtrack.TheVariants as backtrack
+use Rattle.rx_trace.specs.declared.answer.Slot.{Slot}
+use Rattle.rx_match.specs.declared.entry.Backtrack.{Backtrack}
+use Rattle.rx_match.specs.declared.entry.Backtrack.TheVariants as backtrack
 use Rattle.rx_match.specs.Sound.{row_of, PlacedOf, ArePlaced, depth_of, depth_in, cut_of, cut_back, cut_in, top_of, top_in}
-use Rattle.rx_match.proofs.Frames.{reverse-last}
+use Rattle.rx_program.proofs.Lists.{reverse-last}
 
 -- one entry less
 pub record Fewer (old before : List Backtrack) (kept : List Backtrack) : Type 0 where

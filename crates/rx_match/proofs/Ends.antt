@@ -5,19 +5,21 @@ use Rattle.std.proofs.lemmas.Bool.{eq-eqb}
 use Rattle.std.specs.declared.vec.Vec.{Vec}
 use Rattle.std.specs.declared.alloc.Global.{Global}
 use Rattle.rx_ast.specs.declared.leaf.LookAroundAssertionKind.{LookAroundAssertionKind}
-use Rattle.rx_match.specs.declared.answer.Slot.{Slot}
-use Rattle.rx_match.specs.declared.answer.Slot.TheVariants.{Set}
+use Rattle.rx_trace.specs.declared.answer.Slot.{Slot}
+use Rattle.rx_trace.specs.declared.answer.Slot.TheVariants.{Set}
 use Rattle.rx_match.specs.declared.machine.Machine.{Machine}
 use Rattle.rx_match.specs.declared.machine.Action.{Action}
 use Rattle.rx_match.specs.declared.machine.Action.TheVariants as action
-use Rattle.rx_match.specs.declared.step.Frame.{Frame}
-use Rattle.rx_match.specs.declared.step.Pending.TheVariants as pending
-use Rattle.rx_match.specs.declared.step.Backtrack.{Backtrack}
-use Rattle.rx_match.specs.declared.step.Backtrack.TheVariants as backtrack
-use Rattle.rx_match.specs.Traces.{State}
-use Rattle.rx_match.specs.Repeats.{one_less}
-use Rattle.rx_match.specs.Codes.{Mark, Run, marked, silent, ticked, reaches, bind, turn_end_run, Code, accept, code_run, is_negative}
-use Rattle.rx_match.specs.Machines.{pending_continuation, code_at, continuations_at, turn_run, turns_run, continuation_run, code_then, stack_run}
+use Rattle.rx_match.specs.declared.entry.Frame.{Frame}
+use Rattle.rx_match.specs.declared.entry.Pending.TheVariants as pending
+use Rattle.rx_match.specs.declared.entry.Backtrack.{Backtrack}
+use Rattle.rx_match.specs.declared.entry.Backtrack.TheVariants as backtrack
+use Rattle.rx_trace.specs.Traces.{State}
+use Rattle.rx_trace.specs.Repeats.{one_less}
+use Rattle.rx_match.specs.Runs.{Mark, Run, marked, silent, ticked, reaches, bind, turn_end_run, code_run, is_negative}
+use Rattle.rx_program.specs.Codes.{Code, accept}
+use Rattle.rx_match.specs.Machines.{pending_continuation, continuations_at, turn_run, turns_run, continuation_run, code_then, stack_run}
+use Rattle.rx_program.specs.Steps.{code_at}
 use Rattle.rx_match.specs.Sound.{AreStacked, ArePlaced, depth_in, cut_in, top_in}
 use Rattle.rx_match.specs.Restored.{IsRestored}
 use Rattle.rx_match.specs.Running.{state_of, with_backtracking, continuation_of, run_of, remaining, with_entry, with_earlier, returned, IsSound, KeepsBacktracking, TakesMarks, Resumes, ForgetsFrames, ReachesState, HasNoMore}
@@ -259,7 +261,7 @@ takes_unmatched m entries p kind i h fs back depth sound popped lower positive =
       ticks = false;
       more = [];
       cut = stack_run-look_around m.input.now m.program.now m.frames m.entries entries p kind i h fs back m.back m.slots.items [] popped
-          ∙ ap (λ b. stack_run m.input.now m.program.now m.frames entries back m.slots.items (Rattle.rx_match.specs.Codes.look_around_run b [] (record { place = p; slots = m.slots.items }) (code_then m.input.now back (code_at m.program.now i) (continuations_at m.program.now m.frames h)))) positive
+          ∙ ap (λ b. stack_run m.input.now m.program.now m.frames entries back m.slots.items (Rattle.rx_match.specs.Runs.look_around_run b [] (record { place = p; slots = m.slots.items }) (code_then m.input.now back (code_at m.program.now i) (continuations_at m.program.now m.frames h)))) positive
           ∙ stack_run-silent m.input.now m.program.now m.frames entries back m.slots.items [];
       paid = refl;
       input = refl;
@@ -277,7 +279,7 @@ takes_unmatched_not m entries p kind i h fs back depth sound popped lower negati
       ticks = false;
       more = [];
       cut = stack_run-look_around m.input.now m.program.now m.frames m.entries entries p kind i h fs back m.back m.slots.items [] popped
-          ∙ ap (λ b. stack_run m.input.now m.program.now m.frames entries back m.slots.items (Rattle.rx_match.specs.Codes.look_around_run b [] (record { place = p; slots = m.slots.items }) (code_then m.input.now back (code_at m.program.now i) (continuations_at m.program.now m.frames h)))) negative
+          ∙ ap (λ b. stack_run m.input.now m.program.now m.frames entries back m.slots.items (Rattle.rx_match.specs.Runs.look_around_run b [] (record { place = p; slots = m.slots.items }) (code_then m.input.now back (code_at m.program.now i) (continuations_at m.program.now m.frames h)))) negative
           ∙ stack_run-silent m.input.now m.program.now m.frames entries back m.slots.items _;
       paid = refl;
       input = refl;

@@ -2,11 +2,11 @@
 use Rattle.std.proofs.Common.{◌≡◌, refl, ap, sym, subst, ℕ, suc, ◌≤◌, ◌<◌, Bool, Option, List, [], ◌∷◌, ◌++◌, length, reverse, arith, Some, None}
 use Rattle.std.proofs.lemmas.List.{length-reverse}
 use Rattle.rx_ast.specs.declared.leaf.LookAroundAssertionKind.{LookAroundAssertionKind}
-use Rattle.rx_match.specs.declared.answer.Slot.{Slot}
-use Rattle.rx_match.specs.declared.step.Backtrack.{Backtrack}
-use Rattle.rx_match.specs.declared.step.Backtrack.TheVariants as backtrack
+use Rattle.rx_trace.specs.declared.answer.Slot.{Slot}
+use Rattle.rx_match.specs.declared.entry.Backtrack.{Backtrack}
+use Rattle.rx_match.specs.declared.entry.Backtrack.TheVariants as backtrack
 use Rattle.rx_match.specs.Sound.{PlacedOf, ArePlaced, frames_in, kept_of, kept_in, own_row, row_of, row_in, depth_of, depth_in, top_of, top_in}
-use Rattle.rx_match.proofs.Frames.{reverse-last}
+use Rattle.rx_program.proofs.Lists.{reverse-last}
 
 pub more-of : (n f g : ℕ) (r : List Backtrack) → f ≤ g → PlacedOf n f r → PlacedOf n g r
 more-of n f g [] more placed = tt

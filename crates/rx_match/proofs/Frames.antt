@@ -3,17 +3,12 @@ use Rattle.std.proofs.Common.{◌≡◌, refl, ap, sym, ◌∙◌, subst, ℕ, s
 use Rattle.std.specs.Prelude.{slice_get}
 use Rattle.std.proofs.lemmas.Bool.{eqb-true, eq-eqb}
 use Rattle.std.proofs.lemmas.List.{reverse-append, length-reverse}
-use Rattle.rx_match.specs.declared.step.Step.{Step}
-use Rattle.rx_match.specs.declared.step.Frame.{Frame}
+use Rattle.rx_program.specs.declared.step.Step.{Step}
+use Rattle.rx_match.specs.declared.entry.Frame.{Frame}
 use Rattle.rx_match.specs.Machines.{pending_continuation, continuations_in, continuations_at}
 use Rattle.rx_match.specs.Sound.{StackedOf, AreStacked}
-use Rattle.rx_match.proofs.Programs.{apart-test, read_of, read_is}
-
-pub reverse-last : {A : Type 0} (before between : List A) (x : A) → before ≡ between ++ (x ∷ []) → reverse before ≡ x ∷ reverse between
-reverse-last before between x is = ap reverse is ∙ reverse-append between (x ∷ [])
-
-pub length-last : {A : Type 0} (before between : List A) (x : A) → before ≡ between ++ (x ∷ []) → length before ≡ suc (length between)
-length-last before between x is = let e = ap length is ∙ length-append between (x ∷ []) in omega arith
+use Rattle.rx_program.proofs.Programs.{apart-test, read_of, read_is}
+use Rattle.rx_program.proofs.Lists.{reverse-last, length-last}
 
 module _ (steps : List Step) where
   pub frames-none : (frames : List Frame) → continuations_at steps frames 0 ≡ []

@@ -3,20 +3,23 @@ use Rattle.std.proofs.Common.{◌≡◌, refl, ap, sym, ◌∙◌, subst, ℕ, �
 use Rattle.rx_ast.specs.declared.leaf.LookAroundAssertionKind.{LookAroundAssertionKind}
 use Rattle.rx_match.specs.declared.machine.Machine.{Machine}
 use Rattle.rx_match.specs.declared.machine.Action.TheVariants as action
-use Rattle.rx_match.specs.declared.step.Step.TheVariants as step
-use Rattle.rx_match.specs.declared.step.Frame.{Frame}
-use Rattle.rx_match.specs.declared.step.Pending.{Pending}
-use Rattle.rx_match.specs.declared.step.Pending.TheVariants as pending
-use Rattle.rx_match.specs.declared.step.Backtrack.{Backtrack}
-use Rattle.rx_match.specs.declared.step.Backtrack.TheVariants as backtrack
-use Rattle.rx_match.specs.Traces.{State}
-use Rattle.rx_match.specs.Groups.{captured}
-use Rattle.rx_match.specs.Matching.{looks_back}
-use Rattle.rx_match.specs.Codes.{Run, silent, bind, look_around_run, continued, choose, sequence, code_run, is_negative}
-use Rattle.rx_match.specs.Machines.{pending_continuation, code_at, continuations_at, continuation_run, stack_run}
+use Rattle.rx_program.specs.declared.step.Step.TheVariants as step
+use Rattle.rx_match.specs.declared.entry.Frame.{Frame}
+use Rattle.rx_match.specs.declared.entry.Pending.{Pending}
+use Rattle.rx_match.specs.declared.entry.Pending.TheVariants as pending
+use Rattle.rx_match.specs.declared.entry.Backtrack.{Backtrack}
+use Rattle.rx_match.specs.declared.entry.Backtrack.TheVariants as backtrack
+use Rattle.rx_trace.specs.Traces.{State}
+use Rattle.rx_trace.specs.Groups.{captured}
+use Rattle.rx_trace.specs.Matching.{looks_back}
+use Rattle.rx_match.specs.Runs.{Run, silent, bind, look_around_run, continued, code_run, is_negative}
+use Rattle.rx_program.specs.Codes.{choose, sequence}
+use Rattle.rx_match.specs.Machines.{pending_continuation, continuations_at, continuation_run, stack_run}
+use Rattle.rx_program.specs.Steps.{code_at}
 use Rattle.rx_match.specs.Running.{state_of, with_backtracking, continuation_of, run_of, run_after_tick, remaining, IsSound, PushesFrame, KeepsRun, TakesMarks}
 use Rattle.rx_match.proofs.Runs.{bind-append, bind-bind, bind-reaches, bind-each, look_around-bind}
-use Rattle.rx_match.proofs.Frames.{frames-none, frames-new, length-last, stacked-more}
+use Rattle.rx_match.proofs.Frames.{frames-none, frames-new, stacked-more}
+use Rattle.rx_program.proofs.Lists.{length-last}
 use Rattle.rx_match.proofs.StackRuns.{stack_run-silent, stack_run-choice, stack_run-look_around, stack_run-frames}
 use Rattle.rx_match.proofs.Entries.{placed-more, placed-choice, placed-look_around, depth-choice, depth-look_around}
 

@@ -3,14 +3,15 @@ use Rattle.std.proofs.Common.{◌≡◌, refl, ap, ℕ, zero, suc, ◌+◌, ◌-
 use Rattle.std.specs.Prelude.{nat_le}
 use Rattle.std.proofs.lemmas.Bool.{false≢true}
 use Rattle.std.proofs.lemmas.Option.{slice_get_within}
-use Rattle.rx_match.specs.declared.answer.Slot.{Slot}
-use Rattle.rx_match.specs.declared.answer.Slot.TheVariants.{Unset, Set}
-use Rattle.rx_match.specs.Traces.{State}
-use Rattle.rx_match.specs.Holding.{ahead, behind, boundary_holds}
-use Rattle.rx_match.specs.Repeats.{is_over, one_less}
-use Rattle.rx_match.specs.Groups.{same_units, unset_in, captured}
-use Rattle.rx_match.specs.Matching.{held_to, looks_back, place_over}
-use Rattle.rx_match.specs.Codes.{Run, silent, bind, continued, turn_end_run, in_turn_run, repetition_run, Code, accept, reject, consume, assert, refer, enter_group, choose, sequence, capture, look_around, repeat, unit_to, slot_to, code_run, is_negative, at_place}
+use Rattle.rx_trace.specs.declared.answer.Slot.{Slot}
+use Rattle.rx_trace.specs.declared.answer.Slot.TheVariants.{Unset, Set}
+use Rattle.rx_trace.specs.Traces.{State}
+use Rattle.rx_trace.specs.Holding.{ahead, behind, boundary_holds}
+use Rattle.rx_trace.specs.Repeats.{is_over, one_less}
+use Rattle.rx_trace.specs.Groups.{same_units, unset_in, captured}
+use Rattle.rx_trace.specs.Matching.{held_to, looks_back, place_over}
+use Rattle.rx_match.specs.Runs.{Run, silent, bind, continued, turn_end_run, in_turn_run, repetition_run, unit_to, slot_to, code_run, is_negative, at_place}
+use Rattle.rx_program.specs.Codes.{Code, accept, reject, consume, assert, refer, enter_group, choose, sequence, capture, look_around, repeat}
 use Rattle.rx_match.proofs.Runs.{EachReached, reaches-append, reaches-bind, reaches-weaker, reaches-peek}
 use Rattle.rx_match.proofs.Repetitions.{Moves, inside}
 

@@ -1,20 +1,22 @@
 -- The turns of a repetition.
 use Rattle.std.proofs.Common.{◌≡◌, refl, ap, sym, ◌∙◌, subst, ℕ, zero, suc, ◌-◌, ◌≤◌, ◌<◌, Bool, true, false, if◌then◌else◌, Option, List, [], ◌∷◌, ◌++◌, length, arith}
-use Rattle.rx_match.specs.declared.answer.Slot.{Slot}
+use Rattle.rx_trace.specs.declared.answer.Slot.{Slot}
 use Rattle.rx_match.specs.declared.machine.Machine.{Machine}
 use Rattle.rx_match.specs.declared.machine.Action.{Action}
 use Rattle.rx_match.specs.declared.machine.Action.TheVariants as action
-use Rattle.rx_match.specs.declared.step.Turns.{Turns}
-use Rattle.rx_match.specs.declared.step.Pending.TheVariants as pending
-use Rattle.rx_match.specs.declared.step.Backtrack.{Backtrack}
-use Rattle.rx_match.specs.declared.step.Backtrack.TheVariants as backtrack
+use Rattle.rx_program.specs.declared.step.Turns.{Turns}
+use Rattle.rx_match.specs.declared.entry.Pending.TheVariants as pending
+use Rattle.rx_match.specs.declared.entry.Backtrack.{Backtrack}
+use Rattle.rx_match.specs.declared.entry.Backtrack.TheVariants as backtrack
 use Rattle.std.specs.declared.vec.Vec.{Vec}
 use Rattle.std.specs.declared.alloc.Global.{Global}
-use Rattle.rx_match.specs.Traces.{State}
-use Rattle.rx_match.specs.Repeats.{is_over, one_less}
-use Rattle.rx_match.specs.Groups.{unset_slots, unset_in}
-use Rattle.rx_match.specs.Codes.{Run, silent, bind, turn_end_run, in_turn_run, Code, repeat, code_run}
-use Rattle.rx_match.specs.Machines.{code_at, turn_run, turns_run}
+use Rattle.rx_trace.specs.Traces.{State}
+use Rattle.rx_trace.specs.Repeats.{is_over, one_less}
+use Rattle.rx_trace.specs.Groups.{unset_slots, unset_in}
+use Rattle.rx_match.specs.Runs.{Run, silent, bind, turn_end_run, in_turn_run, code_run}
+use Rattle.rx_program.specs.Codes.{Code, repeat}
+use Rattle.rx_program.specs.Steps.{code_at}
+use Rattle.rx_match.specs.Machines.{turn_run, turns_run}
 use Rattle.rx_match.specs.Restored.{IsRestored}
 use Rattle.rx_match.specs.Running.{state_of, with_backtracking, continuation_of, remaining, IsSound, IsRepetitionAt, PushesFrame, TakesMarks}
 use Rattle.rx_match.proofs.Runs.{bind-append}

@@ -1,9 +1,9 @@
 -- A repetition does not depend on how many turns it is allowed, where these are enough.
 use Rattle.std.proofs.Common.{◌≡◌, ◌≢◌, refl, ap, ◌∙◌, ℕ, zero, suc, ◌+◌, ◌-◌, ◌≤◌, ◌<◌, Bool, true, false, ◌==◌, if◌then◌else◌, Option, [], ◌∷◌, arith}
 use Rattle.std.proofs.lemmas.Bool.{eqb-false}
-use Rattle.rx_match.specs.Traces.{State}
-use Rattle.rx_match.specs.Repeats.{is_over, one_less}
-use Rattle.rx_match.specs.Codes.{Run, silent, bind, turn_end_run, in_turn_run, repetition_run}
+use Rattle.rx_trace.specs.Traces.{State}
+use Rattle.rx_trace.specs.Repeats.{is_over, one_less}
+use Rattle.rx_match.specs.Runs.{Run, silent, bind, turn_end_run, in_turn_run, repetition_run}
 use Rattle.rx_match.proofs.Runs.{EachReached, bind-same}
 
 -- how far a place is from where its direction ends

@@ -2,17 +2,17 @@
 use Rattle.std.proofs.Common.{◌≡◌, ◌≢◌, refl, ap, sym, ◌∙◌, subst, ℕ, suc, ◌+◌, ◌≤◌, ◌<◌, Bool, true, false, ◌==◌, if◌then◌else◌, Some, List, [], ◌∷◌, ◌++◌, length, reverse, get_or, set, arith}
 use Rattle.std.proofs.lemmas.Bool.{eqb-true, eqb-false, false≢true}
 use Rattle.std.proofs.lemmas.List.{set-get_or, set-set, set_comm, length-reverse}
-use Rattle.rx_match.specs.declared.answer.Slot.{Slot}
-use Rattle.rx_match.specs.declared.step.Step.{Step}
-use Rattle.rx_match.specs.declared.step.Frame.{Frame}
-use Rattle.rx_match.specs.declared.step.Backtrack.{Backtrack}
-use Rattle.rx_match.specs.declared.step.Backtrack.TheVariants as backtrack
-use Rattle.rx_match.specs.Codes.{Run}
+use Rattle.rx_trace.specs.declared.answer.Slot.{Slot}
+use Rattle.rx_program.specs.declared.step.Step.{Step}
+use Rattle.rx_match.specs.declared.entry.Frame.{Frame}
+use Rattle.rx_match.specs.declared.entry.Backtrack.{Backtrack}
+use Rattle.rx_match.specs.declared.entry.Backtrack.TheVariants as backtrack
+use Rattle.rx_match.specs.Runs.{Run}
 use Rattle.rx_match.specs.Machines.{stack_run_of, stack_run}
 use Rattle.rx_match.specs.Sound.{PlacedOf, ArePlaced, AreEntries, IsSaved, restores_slot, kept_in, row_of, row_in, depth_of, depth_in}
 use Rattle.rx_match.specs.Restored.{IsRestored, Saves, again, once}
-use Rattle.rx_match.proofs.Programs.{read_of, read_is}
-use Rattle.rx_match.proofs.Frames.{reverse-last}
+use Rattle.rx_program.proofs.Programs.{read_of, read_is}
+use Rattle.rx_program.proofs.Lists.{reverse-last}
 use Rattle.rx_match.proofs.Entries.{placed-restore}
 use Rattle.rx_match.proofs.StackRuns.{stack_run-restore}
 

@@ -1,7 +1,7 @@
 -- Laws of runs.
 use Rattle.std.proofs.Common.{◌≡◌, refl, ap, sym, ◌∙◌, Bool, true, false, [], ◌∷◌, ◌++◌, append_assoc}
-use Rattle.rx_match.specs.Traces.{State}
-use Rattle.rx_match.specs.Codes.{Run, silent, ticked, reaches, bind, look_around_run, at_place}
+use Rattle.rx_trace.specs.Traces.{State}
+use Rattle.rx_match.specs.Runs.{Run, silent, ticked, reaches, bind, look_around_run, at_place}
 
 pub bind-append : (a b : Run) (f : State → Run) → bind (a ++ b) f ≡ bind a f ++ bind b f
 bind-append [] b f = refl

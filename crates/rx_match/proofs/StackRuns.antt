@@ -2,16 +2,18 @@
 use Rattle.std.proofs.Common.{◌≡◌, refl, ap, sym, ◌∙◌, ℕ, ◌≤◌, Bool, true, false, if◌then◌else◌, Option, Some, List, [], ◌∷◌, ◌++◌, length, reverse, set, arith}
 use Rattle.std.proofs.lemmas.List.{reverse-reverse}
 use Rattle.rx_ast.specs.declared.leaf.LookAroundAssertionKind.{LookAroundAssertionKind}
-use Rattle.rx_match.specs.declared.answer.Slot.{Slot}
-use Rattle.rx_match.specs.declared.step.Step.{Step}
-use Rattle.rx_match.specs.declared.step.Frame.{Frame}
-use Rattle.rx_match.specs.declared.step.Backtrack.{Backtrack}
-use Rattle.rx_match.specs.declared.step.Backtrack.TheVariants as backtrack
-use Rattle.rx_match.specs.Traces.{State}
-use Rattle.rx_match.specs.Codes.{Run, marked, silent, ticked, reaches, bind, look_around_run, is_negative, at_place}
-use Rattle.rx_match.specs.Machines.{code_at, continuations_at, choices_run, turn_run, continuation_run, code_then, stack_run_of, stack_run}
+use Rattle.rx_trace.specs.declared.answer.Slot.{Slot}
+use Rattle.rx_program.specs.declared.step.Step.{Step}
+use Rattle.rx_match.specs.declared.entry.Frame.{Frame}
+use Rattle.rx_match.specs.declared.entry.Backtrack.{Backtrack}
+use Rattle.rx_match.specs.declared.entry.Backtrack.TheVariants as backtrack
+use Rattle.rx_trace.specs.Traces.{State}
+use Rattle.rx_match.specs.Runs.{Run, marked, silent, ticked, reaches, bind, look_around_run, is_negative, at_place}
+use Rattle.rx_program.specs.Steps.{code_at}
+use Rattle.rx_match.specs.Machines.{continuations_at, choices_run, turn_run, continuation_run, code_then, stack_run_of, stack_run}
 use Rattle.rx_match.specs.Sound.{PlacedOf, ArePlaced, depth_of, depth_in, cut_of, cut_back, cut_in, top_of, top_in}
-use Rattle.rx_match.proofs.Frames.{reverse-last, frames-more}
+use Rattle.rx_program.proofs.Lists.{reverse-last}
+use Rattle.rx_match.proofs.Frames.{frames-more}
 use Rattle.rx_match.proofs.Entries.{more-of}
 
 abbrev pub at : ℕ → List Slot → State

@@ -1,16 +1,18 @@
 -- Where a machine starts.
 use Rattle.std.proofs.Common.{◌≡◌, ap, sym, ◌∙◌, subst, ℕ, ◌+◌, ◌≤◌, List, [], length, arith}
 use Rattle.std.specs.Prelude.{replicate}
-use Rattle.rx_match.specs.declared.answer.Slot.TheVariants.{Unset}
+use Rattle.rx_trace.specs.declared.answer.Slot.TheVariants.{Unset}
 use Rattle.rx_match.specs.declared.machine.Machine.{Machine}
-use Rattle.rx_match.specs.declared.step.Step.{Step}
+use Rattle.rx_program.specs.declared.step.Step.{Step}
 use Rattle.rx_match.specs.declared.machine.Action.TheVariants as action
 use Rattle.rx_match.specs.declared.machine.Progress.{Progress}
 use Rattle.rx_match.specs.declared.machine.Progress.TheVariants as progress
-use Rattle.rx_match.specs.Traces.{Trace, first, cost}
-use Rattle.rx_match.specs.Codes.{Run, visible, bind, code_run}
-use Rattle.rx_match.specs.Machines.{code_at, continuations_at, continuation_run}
-use Rattle.rx_match.specs.Sound.{AreOrdered, AreStacked, ArePlaced, depth_in}
+use Rattle.rx_trace.specs.Traces.{Trace, first, cost}
+use Rattle.rx_match.specs.Runs.{Run, visible, bind, code_run}
+use Rattle.rx_program.specs.Steps.{code_at}
+use Rattle.rx_match.specs.Machines.{continuations_at, continuation_run}
+use Rattle.rx_program.specs.Steps.{AreOrdered}
+use Rattle.rx_match.specs.Sound.{AreStacked, ArePlaced, depth_in}
 use Rattle.rx_match.specs.Running.{state_of, remaining, IsSound, IsRun}
 use Rattle.rx_match.specs.Programs.{trace_of, IsRunFrom}
 use Rattle.rx_match.proofs.Runs.{bind-reaches}

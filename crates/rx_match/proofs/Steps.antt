@@ -5,17 +5,19 @@ use Rattle.std.proofs.lemmas.Bool.{false≢true}
 use Rattle.rx_match.specs.declared.kinds.Repeated.{Repeated}
 use Rattle.rx_match.specs.declared.machine.Machine.{Machine}
 use Rattle.rx_match.specs.declared.machine.Action.TheVariants as action
-use Rattle.rx_match.specs.declared.step.Step.{Step}
-use Rattle.rx_match.specs.declared.step.Step.TheVariants as step
+use Rattle.rx_program.specs.declared.step.Step.{Step}
+use Rattle.rx_program.specs.declared.step.Step.TheVariants as step
 use Rattle.std.specs.Prelude.{IfSome}
-use Rattle.rx_match.specs.declared.answer.Slot.{Slot}
-use Rattle.rx_match.specs.declared.step.Turns.{Turns}
-use Rattle.rx_match.specs.Traces.{State, cost, first}
-use Rattle.rx_match.specs.Codes.{Run, visible, marked, paid_by, slot_to, silent, ticked, bind, Code, reject, code_run}
+use Rattle.rx_trace.specs.declared.answer.Slot.{Slot}
+use Rattle.rx_program.specs.declared.step.Turns.{Turns}
+use Rattle.rx_trace.specs.Traces.{State, cost, first}
+use Rattle.rx_match.specs.Runs.{Run, visible, marked, paid_by, slot_to, silent, ticked, bind, code_run}
+use Rattle.rx_program.specs.Codes.{Code, reject}
 use Rattle.rx_match.specs.Kinds.{repetition_in, repetition_of, ticks_in}
-use Rattle.rx_match.specs.Machines.{step_code, code_in, code_at, turns_run, of_repetition}
+use Rattle.rx_program.specs.Steps.{step_code, code_in, code_at}
+use Rattle.rx_match.specs.Machines.{turns_run, of_repetition}
 use Rattle.rx_match.specs.Running.{state_of, with_backtracking, continuation_of, run_of, after_tick, run_after_tick, remaining, IsSound, IsRepetitionAt, KeepsRun, TakesMarks, IsSpent, HasNoMore, ReachesState}
-use Rattle.rx_match.proofs.Programs.{code_is, read_of, read_is}
+use Rattle.rx_program.proofs.Programs.{code_is, read_of, read_is}
 use Rattle.rx_match.proofs.Moving.{MovesTo, slot-moves}
 use Rattle.rx_match.proofs.Repetitions.{inside}
 use Rattle.rx_match.proofs.StackRuns.{stack_run-silent, stack_run-ticked}

@@ -3,16 +3,18 @@ use Rattle.std.proofs.Common.{◌≡◌, refl, ap, sym, ◌∙◌, subst, ℕ, z
 use Rattle.rx_match.specs.declared.kinds.Repeated.{Repeated}
 use Rattle.rx_match.specs.declared.machine.Machine.{Machine}
 use Rattle.rx_match.specs.declared.machine.Action.TheVariants as action
-use Rattle.rx_match.specs.declared.step.Backtrack.{Backtrack}
-use Rattle.rx_match.specs.declared.step.Backtrack.TheVariants as backtrack
-use Rattle.rx_match.specs.declared.step.Test.{Test}
-use Rattle.rx_match.specs.Traces.{State}
-use Rattle.rx_match.specs.Repeats.{one_less}
-use Rattle.rx_match.specs.Holding.{behind}
-use Rattle.rx_match.specs.Matching.{held_to}
+use Rattle.rx_match.specs.declared.entry.Backtrack.{Backtrack}
+use Rattle.rx_match.specs.declared.entry.Backtrack.TheVariants as backtrack
+use Rattle.rx_program.specs.declared.step.Test.{Test}
+use Rattle.rx_trace.specs.Traces.{State}
+use Rattle.rx_trace.specs.Repeats.{one_less}
+use Rattle.rx_trace.specs.Holding.{behind}
+use Rattle.rx_trace.specs.Matching.{held_to}
 use Rattle.rx_match.specs.Kinds.{IsUnit, fewer, allowed_within}
-use Rattle.rx_match.specs.Codes.{Run, silent, marked, bind, accept, consume, repeat, unit_to, code_run, AreHeld}
-use Rattle.rx_match.specs.Machines.{test_holds, code_at, continuations_at, continuation_run, turns_run, choices_run}
+use Rattle.rx_match.specs.Runs.{Run, silent, marked, bind, unit_to, code_run, AreHeld}
+use Rattle.rx_program.specs.Codes.{accept, consume, repeat}
+use Rattle.rx_program.specs.Steps.{test_holds, code_at}
+use Rattle.rx_match.specs.Machines.{continuations_at, continuation_run, turns_run, choices_run}
 use Rattle.rx_match.specs.Running.{state_of, with_backtracking, continuation_of, remaining, IsSound, IsRepetitionAt, with_turns, IsOverUnits, TakesMarks}
 use Rattle.rx_match.proofs.Repetitions.{inside}
 use Rattle.rx_match.proofs.Moving.{MovesTo, unit-moves}
@@ -22,7 +24,7 @@ use Rattle.rx_match.proofs.UnitTurns.{turn_marks, turns_paid, allows, turn_held,
 
 -- a unit leads to another place of the input
 unit_apart : (input : List ℕ) (back : Bool) (holds : ℕ → Bool) (p q : ℕ) → unit_to input back holds p ≡ Some q → q ≡ p → ⊥
-unit_apart input false holds p q is same = let e = by_option (Rattle.rx_match.specs.Holding.ahead input p) is in omega arith
+unit_apart input false holds p q is same = let e = by_option (Rattle.rx_trace.specs.Holding.ahead input p) is in omega arith
   where
     by_option : (o : Option ℕ) → held_to holds (p + 1) o ≡ Some q → q ≡ p + 1
     by_option None is = absurd (cc)

@@ -1,13 +1,14 @@
 -- Turns of a repetition whose body is one unit.
 use Rattle.std.proofs.Common.{◌≡◌, refl, ap, sym, ◌∙◌, ℕ, zero, suc, ◌+◌, ◌-◌, ◌≤◌, ◌<◌, Bool, true, false, if◌then◌else◌, Option, Some, None, List, [], ◌∷◌, ◌++◌, append_assoc, append-nil, length, arith}
-use Rattle.rx_match.specs.declared.answer.Slot.{Slot}
-use Rattle.rx_match.specs.Traces.{State}
-use Rattle.rx_match.specs.Repeats.{is_over, one_less}
-use Rattle.rx_match.specs.Groups.{unset_in}
+use Rattle.rx_trace.specs.declared.answer.Slot.{Slot}
+use Rattle.rx_trace.specs.Traces.{State}
+use Rattle.rx_trace.specs.Repeats.{is_over, one_less}
+use Rattle.rx_trace.specs.Groups.{unset_in}
 use Rattle.rx_match.specs.Kinds.{fewer, allowed_within}
-use Rattle.rx_match.specs.Codes.{Run, silent, ticked, marked, paid_by, bind, continued, at_place, turn_end_run, in_turn_run, Code, accept, consume, repeat, unit_to, code_run}
+use Rattle.rx_match.specs.Runs.{Run, silent, ticked, marked, paid_by, bind, continued, at_place, turn_end_run, in_turn_run, unit_to, code_run}
+use Rattle.rx_program.specs.Codes.{Code, accept, consume, repeat}
 use Rattle.rx_match.specs.Machines.{turn_run, turns_run, choices_run}
-use Rattle.rx_match.proofs.Programs.{apart-test}
+use Rattle.rx_program.proofs.Programs.{apart-test}
 use Rattle.rx_match.proofs.Runs.{bind-append}
 use Rattle.rx_match.proofs.Repeating.{looped_is, turn_is}
 

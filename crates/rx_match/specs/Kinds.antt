@@ -1,11 +1,11 @@
 -- Which steps repeat, which begin with a Tick, and bounds of a repetition.
 use Rattle.std.specs.Prelude.{◌≡◌, ℕ, ◌-◌, Bool, true, false, Option, Some, None, List, min}
 use Rattle.rx_match.specs.declared.kinds.Repeated.{Repeated}
-use Rattle.rx_match.specs.declared.step.Step.{Step}
-use Rattle.rx_match.specs.declared.step.Step.TheVariants as step
-use Rattle.rx_match.specs.declared.step.Test.{Test}
-use Rattle.rx_match.specs.Codes.{accept, consume}
-use Rattle.rx_match.specs.Machines.{code_at, test_holds}
+use Rattle.rx_program.specs.declared.step.Step.{Step}
+use Rattle.rx_program.specs.declared.step.Step.TheVariants as step
+use Rattle.rx_program.specs.declared.step.Test.{Test}
+use Rattle.rx_program.specs.Codes.{accept, consume}
+use Rattle.rx_program.specs.Steps.{code_at, test_holds}
 
 abbrev pub repetition_in : Step → Option Repeated
 repetition_in step.Accept = None

@@ -1,52 +1,18 @@
 -- What a machine still has to do, from its program and its stacks.
-use Rattle.std.specs.Prelude.{ℕ, zero, suc, ◌+◌, ◌-◌, Bool, false, ◌==◌, ◌||◌, not, if◌then◌else◌, Option, List, [], ◌∷◌, ◌++◌, length, reverse, set}
-use Rattle.rx_match.specs.declared.answer.Slot.{Slot}
-use Rattle.rx_match.specs.declared.step.Test.{Test}
-use Rattle.rx_match.specs.declared.step.Test.TheVariants as test
-use Rattle.rx_match.specs.declared.step.Step.{Step}
-use Rattle.rx_match.specs.declared.step.Step.TheVariants as step
-use Rattle.rx_match.specs.declared.step.Pending.{Pending}
-use Rattle.rx_match.specs.declared.step.Pending.TheVariants as pending
-use Rattle.rx_match.specs.declared.step.Frame.{Frame}
-use Rattle.rx_match.specs.declared.step.Backtrack.{Backtrack}
-use Rattle.rx_match.specs.declared.step.Backtrack.TheVariants as backtrack
-use Rattle.rx_match.specs.Traces.{State}
-use Rattle.rx_match.specs.Checks.{row_holds}
-use Rattle.rx_match.specs.Holding.{is_line_terminator, escape_holds}
-use Rattle.rx_match.specs.Repeats.{one_less}
-use Rattle.rx_match.specs.Groups.{slot_of, unset_in, captured}
-use Rattle.rx_match.specs.Named.{slot_among}
-use Rattle.rx_match.specs.Codes.{Run, silent, reaches, bind, look_around_run, turn_end_run, repetition_run, Code, accept, reject, consume, assert, refer, enter_group, choose, sequence, capture, look_around, repeat, code_run, is_negative}
-
-abbrev pub test_holds : Test → ℕ → Bool
-test_holds (test.Character c) u = u == c
-test_holds (test.Dot dot_all) u = dot_all || not (is_line_terminator u)
-test_holds (test.Escape k) u = escape_holds k u
-test_holds (test.Class row) u = row_holds row.now u
-test_holds test.Never u = false
-
--- the code of a step, where the steps that it names have theirs
-abbrev pub step_code : Step → (ℕ → Code) → Code
-step_code step.Accept f = accept
-step_code step.Reject f = reject
-step_code (step.Consume t next) f = consume (test_holds t) (f next)
-step_code (step.Assert kind multiline next) f = assert kind multiline (f next)
-step_code (step.Refer number next) f = refer (λ slots. slot_of slots number) (f next)
-step_code (step.ReferByName numbers next) f = refer (slot_among numbers.now) (f next)
-step_code (step.EnterGroup next) f = enter_group (f next)
-step_code (step.Choose first other) f = choose (f first) (f other)
-step_code (step.Sequence first second) f = sequence (f first) (f second)
-step_code (step.Capture g body next) f = capture g (f body) (f next)
-step_code (step.LookAround kind body next) f = look_around kind (f body) (f next)
-step_code (step.Repeat t body next) f = repeat t.min t.max t.greedy t.from t.count (f body) (f next)
-
--- the code of the step of a number, of steps from the last to the first
-abbrev pub code_in : List Step → ℕ → Code
-code_in [] i = reject
-code_in (s ∷ before) i = if i == length before then step_code s (code_in before) else code_in before i
-
-unfoldable pub code_at : List Step → ℕ → Code
-code_at steps i = code_in (reverse steps) i
+use Rattle.std.specs.Prelude.{ℕ, zero, suc, ◌+◌, ◌-◌, Bool, ◌==◌, if◌then◌else◌, Option, List, [], ◌∷◌, ◌++◌, length, reverse, set}
+use Rattle.rx_trace.specs.declared.answer.Slot.{Slot}
+use Rattle.rx_program.specs.declared.step.Step.{Step}
+use Rattle.rx_match.specs.declared.entry.Pending.{Pending}
+use Rattle.rx_match.specs.declared.entry.Pending.TheVariants as pending
+use Rattle.rx_match.specs.declared.entry.Frame.{Frame}
+use Rattle.rx_match.specs.declared.entry.Backtrack.{Backtrack}
+use Rattle.rx_match.specs.declared.entry.Backtrack.TheVariants as backtrack
+use Rattle.rx_trace.specs.Traces.{State}
+use Rattle.rx_trace.specs.Repeats.{one_less}
+use Rattle.rx_trace.specs.Groups.{unset_in, captured}
+use Rattle.rx_match.specs.Runs.{Run, silent, reaches, bind, look_around_run, turn_end_run, repetition_run, code_run, is_negative}
+use Rattle.rx_program.specs.Codes.{Code, accept, reject, consume, assert, refer, enter_group, choose, sequence, capture, look_around, repeat}
+use Rattle.rx_program.specs.Steps.{code_at}
 
 pub data Continuation : Type 0 where
   close_group : ℕ → ℕ → Code → Continuation

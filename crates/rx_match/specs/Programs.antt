@@ -1,18 +1,18 @@
 -- What a program is run to, and what a search comes to.
 use Rattle.std.specs.Prelude.{◌≡◌, ℕ, ◌+◌, ◌<◌, false, Some, None, Result, Ok, Err, List, replicate}
 use Rattle.rx_ast.specs.Tree.{Whole}
-use Rattle.rx_match.specs.declared.answer.MatchFault.{MatchFault}
-use Rattle.rx_match.specs.declared.answer.MatchFlags.{MatchFlags}
-use Rattle.rx_match.specs.declared.answer.Slot.TheVariants.{Unset}
+use Rattle.rx_trace.specs.declared.answer.MatchFault.{MatchFault}
+use Rattle.rx_trace.specs.declared.answer.MatchFlags.{MatchFlags}
+use Rattle.rx_trace.specs.declared.answer.Slot.TheVariants.{Unset}
 use Rattle.rx_match.specs.declared.machine.Machine.{Machine}
 use Rattle.rx_match.specs.declared.machine.Progress.{Progress}
 use Rattle.rx_match.specs.declared.machine.Progress.TheVariants as progress
 use Rattle.rx_match.specs.declared.searching.Outcome.{Outcome}
-use Rattle.rx_match.specs.declared.step.Step.{Step}
-use Rattle.rx_match.specs.Traces.{Trace, cost, first}
-use Rattle.rx_match.specs.Answers.{IsAnswer, IsFound, each_trace, pattern_trace}
-use Rattle.rx_match.specs.Codes.{visible, code_run}
-use Rattle.rx_match.specs.Machines.{code_at}
+use Rattle.rx_program.specs.declared.step.Step.{Step}
+use Rattle.rx_trace.specs.Traces.{Trace, cost, first}
+use Rattle.rx_trace.specs.Answers.{IsAnswer, IsFirstOutcome, each_trace, pattern_trace}
+use Rattle.rx_match.specs.Runs.{visible, code_run}
+use Rattle.rx_program.specs.Steps.{code_at}
 use Rattle.rx_match.specs.Running.{state_of}
 
 -- the trace of a program from a place, forward, with all slots unset
@@ -28,8 +28,8 @@ IsRunFrom old new t progress.Spent = old.budget < cost t
 
 -- The answer to a search over traces, and how many Ticks it took.
 abbrev pub IsOutcome : (ℕ → Trace) → ℕ → ℕ → ℕ → Result Outcome MatchFault → Type 0
-IsOutcome from more start budget (Ok it) = IsFound from more start budget (Ok it.found) × (it.ticks ≡ cost (each_trace from more start))
-IsOutcome from more start budget (Err fault) = IsFound from more start budget (Err fault)
+IsOutcome from more start budget (Ok it) = IsFirstOutcome from more start budget (Ok it.found) × (it.ticks ≡ cost (each_trace from more start))
+IsOutcome from more start budget (Err fault) = IsFirstOutcome from more start budget (Err fault)
 
 -- The answer to a search for a pattern, and how many Ticks it took.
 abbrev pub IsOutcomeOf : MatchFlags → Whole → List ℕ → ℕ → ℕ → ℕ → Result Outcome MatchFault → Type 0

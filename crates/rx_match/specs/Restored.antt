@@ -1,11 +1,11 @@
 -- Slots were set, and entries say what they are to be restored to.
 use Rattle.std.specs.Prelude.{◌≡◌, ℕ, suc, ◌≤◌, Bool, List, [], ◌∷◌, ◌++◌}
-use Rattle.rx_match.specs.declared.answer.Slot.{Slot}
-use Rattle.rx_match.specs.declared.step.Step.{Step}
-use Rattle.rx_match.specs.declared.step.Frame.{Frame}
-use Rattle.rx_match.specs.declared.step.Backtrack.{Backtrack}
-use Rattle.rx_match.specs.declared.step.Backtrack.TheVariants as backtrack
-use Rattle.rx_match.specs.Codes.{Run}
+use Rattle.rx_trace.specs.declared.answer.Slot.{Slot}
+use Rattle.rx_program.specs.declared.step.Step.{Step}
+use Rattle.rx_match.specs.declared.entry.Frame.{Frame}
+use Rattle.rx_match.specs.declared.entry.Backtrack.{Backtrack}
+use Rattle.rx_match.specs.declared.entry.Backtrack.TheVariants as backtrack
+use Rattle.rx_match.specs.Runs.{Run}
 use Rattle.rx_match.specs.Machines.{stack_run}
 use Rattle.rx_match.specs.Sound.{IsSaved, ArePlaced, kept_in, row_in, depth_in}
 

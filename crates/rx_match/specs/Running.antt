@@ -6,21 +6,24 @@ use Rattle.rx_match.specs.declared.machine.Action.TheVariants as action
 use Rattle.rx_match.specs.declared.machine.Progress.{Progress}
 use Rattle.rx_match.specs.declared.machine.Progress.TheVariants as progress
 use Rattle.rx_match.specs.declared.kinds.Repeated.{Repeated}
-use Rattle.rx_match.specs.declared.step.Backtrack.{Backtrack}
-use Rattle.rx_match.specs.declared.step.Backtrack.TheVariants as backtrack
-use Rattle.rx_match.specs.declared.step.Step.{Step}
-use Rattle.rx_match.specs.declared.step.Test.{Test}
-use Rattle.rx_match.specs.declared.step.Turns.{Turns}
-use Rattle.rx_match.specs.declared.step.Pending.{Pending}
-use Rattle.rx_match.specs.Traces.{State, cost, first}
-use Rattle.rx_match.specs.Holding.{boundary_holds}
+use Rattle.rx_match.specs.declared.entry.Backtrack.{Backtrack}
+use Rattle.rx_match.specs.declared.entry.Backtrack.TheVariants as backtrack
+use Rattle.rx_program.specs.declared.step.Step.{Step}
+use Rattle.rx_program.specs.declared.step.Test.{Test}
+use Rattle.rx_program.specs.declared.step.Turns.{Turns}
+use Rattle.rx_match.specs.declared.entry.Pending.{Pending}
+use Rattle.rx_trace.specs.Traces.{State, cost, first}
+use Rattle.rx_trace.specs.Holding.{boundary_holds}
 use Rattle.rx_match.specs.Kinds.{IsUnit}
-use Rattle.rx_match.specs.Repeats.{is_over}
-use Rattle.rx_match.specs.Groups.{unset_in, captured}
-use Rattle.rx_match.specs.Matching.{looks_back}
-use Rattle.rx_match.specs.Codes.{Run, marked, paid_by, visible, silent, ticked, reaches, bind, look_around_run, continued, repetition_run, Code, accept, reject, consume, assert, refer, enter_group, choose, sequence, capture, look_around, repeat, unit_to, slot_to, code_run, is_negative}
-use Rattle.rx_match.specs.Machines.{step_code, pending_continuation, code_at, continuations_at, turn_run, turns_run, continuation_run, code_then, stack_run}
-use Rattle.rx_match.specs.Sound.{AreOrdered, AreStacked, ArePlaced, depth_in}
+use Rattle.rx_trace.specs.Repeats.{is_over}
+use Rattle.rx_trace.specs.Groups.{unset_in, captured}
+use Rattle.rx_trace.specs.Matching.{looks_back}
+use Rattle.rx_match.specs.Runs.{Run, marked, paid_by, visible, silent, ticked, reaches, bind, look_around_run, continued, repetition_run, unit_to, slot_to, code_run, is_negative}
+use Rattle.rx_program.specs.Codes.{Code, accept, reject, consume, assert, refer, enter_group, choose, sequence, capture, look_around, repeat}
+use Rattle.rx_program.specs.Steps.{step_code, code_at}
+use Rattle.rx_match.specs.Machines.{pending_continuation, continuations_at, turn_run, turns_run, continuation_run, code_then, stack_run}
+use Rattle.rx_program.specs.Steps.{AreOrdered}
+use Rattle.rx_match.specs.Sound.{AreStacked, ArePlaced, depth_in}
 
 abbrev pub state_of : Machine → State
 state_of m = record { place = m.place; slots = m.slots.items }

@@ -1,34 +1,11 @@
--- What holds of a machine's program and its stacks.
+-- What holds of a machine's stacks.
 use Rattle.std.specs.Prelude.{◌≡◌, ℕ, suc, ◌+◌, ◌≤◌, ◌<◌, slice_get, Bool, true, false, ◌==◌, Option, Some, None, List, [], ◌∷◌, length, reverse}
-use Rattle.rx_match.specs.declared.step.Step.{Step}
-use Rattle.rx_match.specs.declared.step.Step.TheVariants as step
-use Rattle.rx_match.specs.declared.step.Frame.{Frame}
-use Rattle.rx_match.specs.declared.step.Backtrack.{Backtrack}
-use Rattle.rx_match.specs.declared.step.Backtrack.TheVariants as backtrack
-use Rattle.rx_match.specs.declared.step.OpenLookAround.{OpenLookAround}
-
--- the steps that a step names stand below a number
-abbrev pub NamesBelow : ℕ → Step → Type 0
-NamesBelow n step.Accept = Unit {0}
-NamesBelow n step.Reject = Unit {0}
-NamesBelow n (step.Consume t next) = next < n
-NamesBelow n (step.Assert kind multiline next) = next < n
-NamesBelow n (step.Refer number next) = next < n
-NamesBelow n (step.ReferByName numbers next) = next < n
-NamesBelow n (step.EnterGroup next) = next < n
-NamesBelow n (step.Choose first other) = (first < n) × (other < n)
-NamesBelow n (step.Sequence first second) = (first < n) × (second < n)
-NamesBelow n (step.Capture g body next) = (body < n) × (next < n)
-NamesBelow n (step.LookAround kind body next) = (body < n) × (next < n)
-NamesBelow n (step.Repeat t body next) = (body < n) × (next < n)
-
--- of steps from the last to the first, each names such before it
-abbrev pub OrderedOf : List Step → Type 0
-OrderedOf [] = Unit {0}
-OrderedOf (s ∷ before) = NamesBelow (length before) s × OrderedOf before
-
-unfoldable pub AreOrdered : List Step → Type 0
-AreOrdered steps = OrderedOf (reverse steps)
+use Rattle.rx_program.specs.declared.step.Step.{Step}
+use Rattle.rx_program.specs.declared.step.Step.TheVariants as step
+use Rattle.rx_match.specs.declared.entry.Frame.{Frame}
+use Rattle.rx_match.specs.declared.entry.Backtrack.{Backtrack}
+use Rattle.rx_match.specs.declared.entry.Backtrack.TheVariants as backtrack
+use Rattle.rx_match.specs.declared.entry.OpenLookAround.{OpenLookAround}
 
 -- what waits below a frame stands before it
 abbrev pub StackedOf : List Frame → Type 0

@@ -1,7 +1,7 @@
 ghost use Rattle.std.specs.Prelude.{◌≡◌, ◌++◌, IfOk, OnOk, ◌≤◌, IsSome, length, option_map, reverse, take};
 ghost use Rattle.rx_match.specs.Sound.{cut_in, entry_of, frames_in, kept_in, top_in};
 
-use crate::step::{Backtrack, Frame, OpenLookAround};
+use crate::entry::{Backtrack, Frame, OpenLookAround};
 use rx_base::{List, OutOfMemory};
 
 /// Takes the entries down to the last look-around out, and puts those back that restore slots. Gives the look-around, if one is open.

@@ -1,55 +1,13 @@
 ghost use Rattle.std.specs.Prelude.{◌≡◌, ◌==◌, ◌≤◌, ◌<◌, ◌-◌, false, length, slice_get, take, drop};
-ghost use Rattle.rx_match.specs.Codes.{AreHeld, slot_to as slot_leads, unit_to as unit_leads};
-ghost use Rattle.rx_match.specs.Holding.{ahead as unit_ahead, behind as unit_behind, boundary_holds as boundary_at, differ, escape_holds as escape_holds_it, holds_at, is_last_line as last_line_at, is_line_terminator as terminates, is_space as is_space_unit, is_word as is_word_unit};
-ghost use Rattle.rx_match.specs.Groups.{same_units};
-ghost use Rattle.rx_match.specs.Machines.{test_holds as test_holds_it};
-ghost use Rattle.rx_match.specs.Matching.{place_over as place_over_it};
+ghost use Rattle.rx_match.specs.Runs.{AreHeld, slot_to as slot_leads, unit_to as unit_leads};
+ghost use Rattle.rx_trace.specs.Holding.{ahead as unit_ahead, behind as unit_behind, boundary_holds as boundary_at, differ, escape_holds as escape_holds_it, holds_at, is_last_line as last_line_at, is_line_terminator as terminates, is_space as is_space_unit, is_word as is_word_unit};
+ghost use Rattle.rx_trace.specs.Groups.{same_units};
+ghost use Rattle.rx_program.specs.Steps.{test_holds as test_holds_it};
+ghost use Rattle.rx_trace.specs.Matching.{place_over as place_over_it};
 
-use crate::answer::Slot;
-use crate::checks::row_holds;
-use crate::step::Test;
-use rx_ast::{BoundaryAssertionKind, CharacterClassEscapeKind};
-
-pub fn is_line_terminator(c: u32) -> bool
-    ensures { result ≡ terminates c }
-{
-    c == 10 || c == 13 || c == 0x2028 || c == 0x2029
-}
-
-fn is_word(c: u32) -> bool
-    ensures { result ≡ is_word_unit c }
-{
-    (65 <= c && c <= 90) || (97 <= c && c <= 122) || (48 <= c && c <= 57) || c == 95
-}
-
-fn is_space(c: u32) -> bool
-    ensures { result ≡ is_space_unit c }
-{
-    (9 <= c && c <= 13)
-        || c == 32
-        || c == 0xA0
-        || c == 0x1680
-        || (0x2000 <= c && c <= 0x200A)
-        || c == 0x2028
-        || c == 0x2029
-        || c == 0x202F
-        || c == 0x205F
-        || c == 0x3000
-        || c == 0xFEFF
-}
-
-pub fn escape_holds(kind: CharacterClassEscapeKind, c: u32) -> bool
-    ensures { result ≡ escape_holds_it kind c }
-{
-    match kind {
-        CharacterClassEscapeKind::D => 48 <= c && c <= 57,
-        CharacterClassEscapeKind::NegativeD => !(48 <= c && c <= 57),
-        CharacterClassEscapeKind::S => is_space(c),
-        CharacterClassEscapeKind::NegativeS => !is_space(c),
-        CharacterClassEscapeKind::W => is_word(c),
-        CharacterClassEscapeKind::NegativeW => !is_word(c),
-    }
-}
+use rx_ast::BoundaryAssertionKind;
+use rx_program::{Test, is_line_terminator, is_word, test_holds};
+use rx_trace::Slot;
 
 pub fn ahead(input: &[u32], place: usize) -> Option<u32>
     ensures { result ≡ unit_ahead input.now place }
@@ -67,18 +25,6 @@ pub fn behind(input: &[u32], place: usize) -> Option<u32>
         return None;
     }
     ahead(input, place - 1)
-}
-
-pub fn test_holds(test: Test<'_>, c: u32) -> bool
-    ensures { result ≡ test_holds_it test.entry c }
-{
-    match test {
-        Test::Character(value) => c == value,
-        Test::Dot { dot_all } => dot_all || !is_line_terminator(c),
-        Test::Escape(kind) => escape_holds(kind, c),
-        Test::Class(row) => row_holds(row, c),
-        Test::Never => false,
-    }
 }
 
 /// Where a term leads over the unit at a place, or before it.

@@ -1,13 +1,12 @@
-ghost use Rattle.std.specs.Prelude.{◌≡◌, ◌==◌, bit_and, not, slice_get, IfSome};
+ghost use Rattle.std.specs.Prelude.{◌≡◌, slice_get, IfSome};
 ghost use Rattle.std.specs.Option.{option_copied};
-ghost use Rattle.rx_match.specs.Codes.{is_negative as says_no};
-ghost use Rattle.rx_match.specs.Matching.{looks_back as looks_behind};
+ghost use Rattle.rx_match.specs.Runs.{is_negative as says_no};
 ghost use Rattle.rx_match.specs.Kinds.{IsUnit, allowed_within, fewer, repetition_in, repetition_of, ticks_in};
-ghost use Rattle.rx_match.specs.Repeats.{is_over as over, one_less as less};
-ghost use Rattle.rx_match.specs.Sound.{AreOrdered};
+ghost use Rattle.rx_trace.specs.Repeats.{is_over as over, one_less as less};
+ghost use Rattle.rx_program.specs.Steps.{AreOrdered};
 
-use crate::step::{Step, Test, Turns};
-use rx_ast::{LookAroundAssertionKind, Modifier};
+use rx_ast::LookAroundAssertionKind;
+use rx_program::{Step, Test, Turns};
 
 pub fn is_negative(kind: LookAroundAssertionKind) -> bool
     ensures { result ≡ says_no kind }
@@ -18,24 +17,6 @@ pub fn is_negative(kind: LookAroundAssertionKind) -> bool
         LookAroundAssertionKind::Lookbehind => false,
         LookAroundAssertionKind::NegativeLookbehind => true,
     }
-}
-
-pub fn looks_back(kind: LookAroundAssertionKind) -> bool
-    ensures { result ≡ looks_behind kind }
-{
-    match kind {
-        LookAroundAssertionKind::Lookahead => false,
-        LookAroundAssertionKind::NegativeLookahead => false,
-        LookAroundAssertionKind::Lookbehind => true,
-        LookAroundAssertionKind::NegativeLookbehind => true,
-    }
-}
-
-/// Whether a bit is set.
-pub fn has_bit(modifier: Modifier, bit: Modifier) -> bool
-    ensures { result ≡ not (bit_and modifier.0 bit.0 == 0) }
-{
-    modifier.intersects(bit)
 }
 
 /// Whether one more turn is not allowed.

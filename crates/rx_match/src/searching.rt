@@ -1,20 +1,16 @@
-ghost use Rattle.std.specs.Prelude.{◌≡◌, ◌≤◌, ◌-◌, [], IfOk, OnOk, length, replicate};
+ghost use Rattle.std.specs.Prelude.{◌≡◌, ◌≤◌, ◌-◌, [], false, IfOk, OnOk, length, replicate};
 ghost use Rattle.rx_ast.specs.Tree.{mirror};
-ghost use Rattle.rx_match.specs.Answers.{IsAnswer, IsTickCount};
+ghost use Rattle.rx_trace.specs.Answers.{IsAnswer, IsTickCount};
 ghost use Rattle.rx_match.specs.Programs.{IsOutcome, IsOutcomeOf, IsRunFrom, trace_of};
-ghost use Rattle.rx_match.specs.Sound.{AreOrdered};
-ghost use Rattle.rx_match.specs.declared.answer.Slot.TheVariants.{Unset};
+ghost use Rattle.rx_program.specs.Steps.{AreOrdered};
+ghost use Rattle.rx_trace.specs.declared.answer.Slot.TheVariants.{Unset};
 
-use crate::answer::{Found, MatchFault, MatchFlags, Slot};
-use crate::builder::Setting;
-use crate::classes::class_rows;
-use crate::compile::compile;
+use crate::entry::{Backtrack, Frame};
 use crate::machine::{Machine, Progress};
-use crate::names::GroupNames;
-use crate::step::{Backtrack, Frame, Step};
-use crate::survey::{Survey, survey_tree};
 use rx_ast::Pattern;
 use rx_base::{List, OutOfMemory};
+use rx_program::{GroupNames, Setting, Step, Survey, class_rows, compile, survey_tree};
+use rx_trace::{Found, MatchFault, MatchFlags, Slot};
 use std::alloc::Global;
 
 /// What a search came to: a match, if there is one, and how many Ticks came before it, or in all.
@@ -155,6 +151,17 @@ fn match_program(
     }
 }
 
+/// How a whole pattern is compiled under these flags.
+fn forward(flags: MatchFlags) -> Setting
+    ensures { result ≡ record { multiline = flags.multiline; dot_all = flags.dot_all; back = false } }
+{
+    Setting {
+        multiline: flags.multiline,
+        dot_all: flags.dot_all,
+        back: false,
+    }
+}
+
 /// Matches a pattern from each place up to the last, up to the first match.
 fn answer(
     alloc: Global,
@@ -177,14 +184,9 @@ fn answer(
         Survey::Names(names) => names,
     };
     let groups = GroupNames::new(alloc, names)?;
-    let setting = Setting {
-        multiline: flags.multiline,
-        dot_all: flags.dot_all,
-        back: false,
-    };
     let classes = class_rows(alloc, &pattern.body)?;
     let rows = classes.as_slice();
-    let program = compile(alloc, &groups, rows, &pattern.body, setting)?;
+    let program = compile(alloc, &groups, rows, &pattern.body, forward(flags))?;
     let steps = program.steps.as_slice();
     match_program(
         alloc,

@@ -1,12 +1,12 @@
 ghost use Rattle.std.specs.Prelude.{true, ◌≡◌, ◌<◌, ◌≤◌, ◌^◌, ◌+◌, OnOk, length, set};
-ghost use Rattle.rx_match.specs.Groups.{unset_slots as unset_all};
+ghost use Rattle.rx_trace.specs.Groups.{unset_slots as unset_all};
 ghost use Rattle.rx_match.specs.Restored.{IsRestored, Saves};
 ghost use Rattle.rx_match.specs.Sound.{AreEntries, IsSaved, own_row, restores_slot, row_in};
 
-use crate::answer::Slot;
 use crate::cut::kept_frames;
-use crate::step::Backtrack;
+use crate::entry::Backtrack;
 use rx_base::{List, OutOfMemory};
+use rx_trace::Slot;
 
 /// Sets a slot, so that it is restored where this fails. Of each slot it is noted how many entries there were when it was last saved.
 pub fn set_slot(

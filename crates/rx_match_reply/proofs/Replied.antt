@@ -1,10 +1,10 @@
 -- The replies to what the matcher answers.
 use Rattle.std.proofs.Common.{◌≡◌, ◌∙◌, refl, sym, ap, subst, ℕ, ◌-◌, List, ◌++◌, length, Option, Some, None, Result, arith}
 use Rattle.rx_ast.specs.Tree.{Whole}
-use Rattle.rx_match.specs.declared.answer.Found.{Found}
-use Rattle.rx_match.specs.declared.answer.MatchFlags.{MatchFlags}
-use Rattle.rx_match.specs.declared.answer.MatchFault.{MatchFault}
-use Rattle.rx_match.specs.Answers.{IsAnswer, IsTickCount}
+use Rattle.rx_trace.specs.declared.answer.Found.{Found}
+use Rattle.rx_trace.specs.declared.answer.MatchFlags.{MatchFlags}
+use Rattle.rx_trace.specs.declared.answer.MatchFault.{MatchFault}
+use Rattle.rx_trace.specs.Answers.{IsAnswer, IsTickCount}
 use Rattle.rx_match_reply.specs.Replies.{IsAdded, IsMatchReply, IsTicksReply, answer_reply, ticks_reply, match_flags, units_under}
 
 added_reply : (o : Option (List ℕ)) (old new : List ℕ) → IsAdded o old new → (reply : List ℕ) × (o ≡ Some reply) × (new ≡ old ++ reply)

@@ -4,11 +4,11 @@ use Rattle.std.specs.Fmt.{decimal}
 use Rattle.rx_ast.specs.Tree.{Whole}
 use Rattle.rx_units.specs.Units.{literal_units, values}
 use Rattle.rx_visit.specs.Flags.{holds}
-use Rattle.rx_match.specs.declared.answer.Found.{Found}
-use Rattle.rx_match.specs.declared.answer.MatchFlags.{MatchFlags}
-use Rattle.rx_match.specs.declared.answer.MatchFault.{MatchFault}
-use Rattle.rx_match.specs.declared.answer.MatchFault.TheVariants as fault
-use Rattle.rx_match.specs.Answers.{IsAnswer, IsTickCount}
+use Rattle.rx_trace.specs.declared.answer.Found.{Found}
+use Rattle.rx_trace.specs.declared.answer.MatchFlags.{MatchFlags}
+use Rattle.rx_trace.specs.declared.answer.MatchFault.{MatchFault}
+use Rattle.rx_trace.specs.declared.answer.MatchFault.TheVariants as fault
+use Rattle.rx_trace.specs.Answers.{IsAnswer, IsTickCount}
 use Rattle.rx_match_reply.specs.Found.{found_reply}
 use Rattle.rx_match_reply.specs.Places.{span_text}
 

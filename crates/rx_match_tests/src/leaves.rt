@@ -2,7 +2,7 @@ use crate::searches::found;
 use std::test::Fail;
 
 #[test]
-fn leaves_hold_or_not(rt: HostRuntime) -> Result<(), Fail> {
+fn characters_and_dots(rt: HostRuntime) -> Result<(), Fail> {
     found(
         rt.alloc(),
         " ~ a ~ 1000 ~ a => 0..1
@@ -16,8 +16,15 @@ fn leaves_hold_or_not(rt: HostRuntime) -> Result<(), Fail> {
  ~ . ~ 1000 ~ x => 0..1
  ~ . ~ 1000 ~ «A»«85» => 1..2
 s ~ . ~ 1000 ~ «A» => 0..1
-s ~ . ~ 1000 ~ «2028» => 0..1
- ~ \\d ~ 1000 ~ x7 => 1..2
+s ~ . ~ 1000 ~ «2028» => 0..1",
+    )
+}
+
+#[test]
+fn class_escapes(rt: HostRuntime) -> Result<(), Fail> {
+    found(
+        rt.alloc(),
+        " ~ \\d ~ 1000 ~ x7 => 1..2
  ~ \\d ~ 1000 ~ /: => none
  ~ \\D ~ 1000 ~ 7x => 1..2
  ~ \\D ~ 1000 ~ 78 => none
@@ -35,8 +42,15 @@ s ~ . ~ 1000 ~ «2028» => 0..1
  ~ \\s ~ 1000 ~ «3000» => 0..1
  ~ \\s ~ 1000 ~ «1680» => 0..1
  ~ \\S ~ 1000 ~  «9». => 2..3
- ~ \\S ~ 1000 ~ «2000»«200A»«202F»«205F» => none
- ~ [a-c] ~ 1000 ~ d => none
+ ~ \\S ~ 1000 ~ «2000»«200A»«202F»«205F» => none",
+    )
+}
+
+#[test]
+fn classes_hold_or_not(rt: HostRuntime) -> Result<(), Fail> {
+    found(
+        rt.alloc(),
+        " ~ [a-c] ~ 1000 ~ d => none
  ~ [a-c] ~ 1000 ~ xc => 1..2
  ~ [^a-c] ~ 1000 ~ abcd => 3..4
  ~ [^a-c] ~ 1000 ~ abc => none
@@ -57,8 +71,15 @@ v ~ [[a-z]&&\\d] ~ 1000 ~ a1 => none
 v ~ [^\\w&&\\d] ~ 1000 ~ 1a => 1..2
 v ~ [^\\w&&\\d] ~ 1000 ~ 1 => none
 v ~ [[^a][^b]] ~ 1000 ~ a => 0..1
-v ~ [a&&a] ~ 1000 ~ ba => 1..2
- ~ ^a ~ 1000 ~ ba => none
+v ~ [a&&a] ~ 1000 ~ ba => 1..2",
+    )
+}
+
+#[test]
+fn ends_of_lines(rt: HostRuntime) -> Result<(), Fail> {
+    found(
+        rt.alloc(),
+        " ~ ^a ~ 1000 ~ ba => none
  ~ ^a ~ 1000 ~ ab => 0..1
 m ~ ^a ~ 1000 ~ b«A»a => 2..3
 m ~ ^a ~ 1000 ~ b«2028»a => 2..3
@@ -69,8 +90,15 @@ m ~ a$ ~ 1000 ~ a«A»b => 0..1
 m ~ a$ ~ 1000 ~ a«2029» => 0..1
  ~ $ ~ 1000 ~  => 0..0
  ~ $ ~ 1000 ~ a => 1..1
-m ~ ^$ ~ 1000 ~ a«A»«A»b => 2..2
- ~ \\b ~ 1000 ~  => none
+m ~ ^$ ~ 1000 ~ a«A»«A»b => 2..2",
+    )
+}
+
+#[test]
+fn ends_of_words(rt: HostRuntime) -> Result<(), Fail> {
+    found(
+        rt.alloc(),
+        " ~ \\b ~ 1000 ~  => none
  ~ \\b ~ 1000 ~ ab => 0..0
  ~ \\b ~ 1000 ~ -a => 1..1
  ~ \\b ~ 1000 ~  ab- => 1..1
@@ -82,8 +110,15 @@ m ~ ^$ ~ 1000 ~ a«A»«A»b => 2..2
  ~ a\\b ~ 1000 ~ a => 0..1
  ~ \\Ba ~ 1000 ~ ba => 1..2
  ~ \\Ba ~ 1000 ~ a ba => 3..4
- ~ (?<=\\b)a ~ 1000 ~ -a => 1..2
-u ~ . ~ 1000 ~ «1F600» => 0..1
+ ~ (?<=\\b)a ~ 1000 ~ -a => 1..2",
+    )
+}
+
+#[test]
+fn astral_units(rt: HostRuntime) -> Result<(), Fail> {
+    found(
+        rt.alloc(),
+        "u ~ . ~ 1000 ~ «1F600» => 0..1
  ~ . ~ 1000 ~ «1F600» => 0..1
 u ~ \\u{1F600} ~ 1000 ~ x«1F600» => 1..2
  ~ \\ud83d ~ 1000 ~ «1F600» => 0..1

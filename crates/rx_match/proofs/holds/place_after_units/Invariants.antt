@@ -1,6 +1,6 @@
 use Rattle.std.proofs.Common.{◌≡◌, ℕ, false, ◌+◌, ◌≤◌, ◌<◌, Some, length}
-use Rattle.rx_match.specs.Codes.{unit_to}
-use Rattle.rx_match.specs.Machines.{test_holds}
+use Rattle.rx_match.specs.Runs.{unit_to}
+use Rattle.rx_program.specs.Steps.{test_holds}
 use Rattle.rx_match.proofs.holds.place_after_units.Given as goal
 
 abbrev pub invariant-loop-left : goal.invariant-loop-left

@@ -1,9 +1,9 @@
 use Rattle.std.proofs.Common.{ap, sym, ◌∙◌, Some, arith}
 use Rattle.std.specs.Option.{option_copied}
-use Rattle.rx_match.specs.Codes.{consume}
-use Rattle.rx_match.specs.Machines.{test_holds}
-use Rattle.rx_match.specs.declared.step.Step.TheVariants as step
-use Rattle.rx_match.proofs.Programs.{code_is}
+use Rattle.rx_program.specs.Codes.{consume}
+use Rattle.rx_program.specs.Steps.{test_holds}
+use Rattle.rx_program.specs.declared.step.Step.TheVariants as step
+use Rattle.rx_program.proofs.Programs.{code_is}
 use Rattle.rx_match.proofs.kinds.unit_test.Goals as goal
 
 pub returns : goal.returns

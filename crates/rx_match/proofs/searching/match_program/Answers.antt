@@ -1,10 +1,10 @@
 use Rattle.std.proofs.Common.{ap, sym, ◌∙◌, subst, ◌<◌, Some, length, arith}
-use Rattle.rx_match.specs.declared.answer.Found.{Found}
+use Rattle.rx_trace.specs.declared.answer.Found.{Found}
 use Rattle.rx_match.specs.declared.machine.Progress.TheVariants as progress
 use Rattle.rx_match.specs.Programs.{trace_of, IsRunFrom}
-use Rattle.rx_match.specs.Sound.{AreOrdered}
+use Rattle.rx_program.specs.Steps.{AreOrdered}
 use Rattle.rx_match.proofs.Starts.{ran_here}
-use Rattle.rx_match.proofs.Places.{Searches, searches_none, searches_on, searched_all, searched_found, searched_spent}
+use Rattle.rx_trace.proofs.Places.{Searches, searches_none, searches_on, searched_all, searched_found, searched_spent}
 use Rattle.rx_match.proofs.searching.match_program.Goals as goal
 
 pub loop-machine-init : goal.loop-machine-init

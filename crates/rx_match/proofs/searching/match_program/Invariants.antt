@@ -1,6 +1,6 @@
 use Rattle.std.proofs.Common.{◌≡◌, ◌-◌}
 use Rattle.rx_match.specs.Programs.{trace_of}
-use Rattle.rx_match.proofs.Places.{Searches}
+use Rattle.rx_trace.proofs.Places.{Searches}
 use Rattle.rx_match.proofs.searching.match_program.Given as goal
 
 abbrev pub invariant-loop-machine : goal.invariant-loop-machine

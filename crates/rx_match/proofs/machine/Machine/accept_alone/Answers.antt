@@ -1,8 +1,8 @@
 use Rattle.std.proofs.Common.{◌≡◌, refl, ap, sym, ◌∙◌, subst, suc, ◌-◌, ◌<◌, Some, IsSome, length, take, arith}
 use Rattle.std.specs.Prelude.{option_map}
 use Rattle.rx_match.specs.declared.machine.Action.TheVariants as action
-use Rattle.rx_match.specs.declared.step.Backtrack.TheVariants as backtrack
-use Rattle.rx_match.specs.Codes.{accept}
+use Rattle.rx_match.specs.declared.entry.Backtrack.TheVariants as backtrack
+use Rattle.rx_program.specs.Codes.{accept}
 use Rattle.rx_match.specs.Sound.{ArePlaced, depth_in, entry_of, top_in}
 use Rattle.rx_match.specs.Running.{run_of, remaining, TakesMarks}
 use Rattle.rx_match.proofs.Cuts.{placed-cut}

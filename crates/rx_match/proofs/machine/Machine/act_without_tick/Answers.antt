@@ -1,5 +1,5 @@
 use Rattle.std.proofs.Common.{ap, sym, ◌∙◌, subst, IfOk}
-use Rattle.rx_match.specs.Machines.{step_code, code_at}
+use Rattle.rx_program.specs.Steps.{step_code, code_at}
 use Rattle.rx_match.specs.Running.{run_of, remaining, TakesMarks, Progresses}
 use Rattle.rx_match.proofs.Steps.{steps_to, takes_reject}
 use Rattle.rx_match.proofs.machine.Machine.act_without_tick.Goals as goal

@@ -1,5 +1,5 @@
 use Rattle.std.proofs.Common.{ap, ◌∙◌, ◌++◌, ◌∷◌, []}
-use Rattle.rx_match.specs.declared.step.Backtrack.TheVariants as backtrack
+use Rattle.rx_match.specs.declared.entry.Backtrack.TheVariants as backtrack
 use Rattle.rx_match.proofs.Machines.{takes_choose}
 use Rattle.rx_match.proofs.machine.Machine.choose.Goals as goal
 

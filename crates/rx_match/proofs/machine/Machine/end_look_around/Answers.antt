@@ -1,6 +1,6 @@
 use Rattle.std.proofs.Common.{◌≡◌, refl, sym, ◌∙◌, subst, suc, ◌-◌, length, arith}
 use Rattle.rx_match.specs.declared.machine.Action.TheVariants as action
-use Rattle.rx_match.specs.declared.step.Backtrack.TheVariants as backtrack
+use Rattle.rx_match.specs.declared.entry.Backtrack.TheVariants as backtrack
 use Rattle.rx_match.specs.Running.{Resumes, with_entry}
 use Rattle.rx_match.proofs.Entries.{look_around-placed, depth-look_around}
 use Rattle.rx_match.proofs.Ends.{resumes_unmatched, resumes_unmatched_not}

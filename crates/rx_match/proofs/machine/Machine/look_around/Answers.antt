@@ -1,5 +1,5 @@
 use Rattle.std.proofs.Common.{ap, ◌∙◌, ◌++◌, ◌∷◌, [], refl, arith}
-use Rattle.rx_match.specs.declared.step.Backtrack.TheVariants as backtrack
+use Rattle.rx_match.specs.declared.entry.Backtrack.TheVariants as backtrack
 use Rattle.rx_match.proofs.Entries.{depth-look_around, depth-within}
 use Rattle.rx_match.proofs.Machines.{keeps_look}
 use Rattle.rx_match.proofs.machine.Machine.look_around.Goals as goal

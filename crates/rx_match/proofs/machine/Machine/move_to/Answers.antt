@@ -1,6 +1,6 @@
 use Rattle.std.proofs.Common.{ap, sym, subst, ◌≤◌, length, IfSome}
-use Rattle.rx_match.specs.Codes.{continued, bind, code_run}
-use Rattle.rx_match.specs.Machines.{code_at}
+use Rattle.rx_match.specs.Runs.{continued, bind, code_run}
+use Rattle.rx_program.specs.Steps.{code_at}
 use Rattle.rx_match.specs.Running.{KeepsRun, state_of, continuation_of, with_backtracking, remaining}
 use Rattle.rx_match.specs.declared.machine.Action.TheVariants as action
 use Rattle.rx_match.proofs.Machines.{keeps_move, keeps_fail}

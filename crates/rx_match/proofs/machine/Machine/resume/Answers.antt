@@ -1,5 +1,5 @@
 use Rattle.std.proofs.Common.{◌≡◌, ap, ◌∙◌, suc, ◌-◌, length, arith, rules, min, set}
-use Rattle.rx_match.specs.declared.answer.Slot.TheVariants.{Set}
+use Rattle.rx_trace.specs.declared.answer.Slot.TheVariants.{Set}
 use Rattle.rx_match.proofs.machine.Machine.resume.Goals.{else-min-eq0-via-then-min-eq0+else-self-start, else-min-eq0-via-else-min-eq0}
 use Rattle.rx_match.proofs.Ends.{takes_next, takes_close, takes_empty, takes_again}
 use Rattle.rx_match.proofs.machine.Machine.resume.Goals as goal

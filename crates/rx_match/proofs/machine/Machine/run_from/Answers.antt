@@ -1,7 +1,7 @@
 use Rattle.std.proofs.Common.{refl, ap, false}
 use Rattle.std.proofs.lemmas.Result.{IfOk-weaker}
 use Rattle.rx_match.specs.declared.machine.Machine.{Machine}
-use Rattle.rx_match.specs.Codes.{visible}
+use Rattle.rx_match.specs.Runs.{visible}
 use Rattle.rx_match.proofs.Starts.{sound_start, start_is, ran_from}
 use Rattle.rx_match.proofs.machine.Machine.run_from.Goals as goal
 

@@ -1,6 +1,6 @@
 use Rattle.std.proofs.Common.{◌≡◌, refl, ap, sym, ◌∙◌, subst, ◌≤◌, length}
 use Rattle.rx_match.specs.declared.machine.Action.TheVariants as action
-use Rattle.rx_match.specs.declared.step.Backtrack.TheVariants as backtrack
+use Rattle.rx_match.specs.declared.entry.Backtrack.TheVariants as backtrack
 use Rattle.rx_match.specs.Running.{Resumes, returned, with_earlier, with_entry}
 use Rattle.rx_match.proofs.Entries.{choice-placed}
 use Rattle.rx_match.proofs.Ends.{resumes_choice, frames_with_earlier}

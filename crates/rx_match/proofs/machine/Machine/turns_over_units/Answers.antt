@@ -1,9 +1,9 @@
 use Rattle.std.proofs.Common.{◌≡◌, ap, sym, subst, ◌∙◌, suc, ◌-◌, ◌+◌, arith}
 use Rattle.rx_match.specs.declared.machine.Machine.{Machine}
 use Rattle.rx_match.specs.declared.machine.Action.TheVariants as action
-use Rattle.rx_match.specs.Codes.{AreHeld}
+use Rattle.rx_match.specs.Runs.{AreHeld}
 use Rattle.rx_match.specs.Kinds.{fewer}
-use Rattle.rx_match.specs.Machines.{test_holds}
+use Rattle.rx_program.specs.Steps.{test_holds}
 use Rattle.rx_match.specs.Running.{remaining, with_turns, TakesMarks}
 use Rattle.rx_match.proofs.UnitTurns.{payable}
 use Rattle.rx_match.proofs.UnitMoves.{budget_with_turns, takes_turns}

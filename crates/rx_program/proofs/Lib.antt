@@ -1,0 +1,15 @@
+pub mod Asking
+pub mod Builders
+pub mod Building
+pub mod Cutting
+pub mod Finding
+pub mod Growing
+pub mod Lists
+pub mod Looking
+pub mod Named
+pub mod Performing
+pub mod Programs
+pub mod RowMaking
+pub mod Surveying
+pub mod Tables
+pub mod TestOrder

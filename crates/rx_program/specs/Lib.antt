@@ -1,0 +1,11 @@
+pub mod Built
+pub mod Checks
+pub mod ClassTests
+pub mod ClassesFound
+pub mod Codes
+pub mod Compiled
+pub mod Named
+pub mod RowParts
+pub mod Steps
+pub mod Surveyed
+pub mod Works

@@ -1,0 +1,343 @@
+ghost use Rattle.std.specs.Prelude.{◌≡◌, ◌≢◌, ◌≤◌, ◌-◌, ◌∷◌, [], true, false, bit_and, length, OnOk, IfOk};
+ghost use Rattle.rx_ast.specs.Tree.{mirror_capturing, mirror_disjunction, mirror_ignore, mirror_look, mirror_quantifier};
+ghost use Rattle.rx_program.specs.ClassTests.{each_tests, row_tests};
+ghost use Rattle.rx_program.specs.Compiled.{each_code};
+ghost use Rattle.rx_program.specs.Codes.{accept};
+ghost use Rattle.rx_trace.specs.Groups.{groups_in_each};
+ghost use Rattle.rx_program.specs.Steps.{code_at};
+ghost use Rattle.rx_trace.specs.Matching.{changed as changed_by, switched as switched_by};
+ghost use Rattle.rx_program.specs.Steps.{AreOrdered};
+ghost use Rattle.rx_program.specs.Works.{all_worked, groups_left, capturing, repeating, term};
+ghost use Rattle.rx_program.specs.Built.{Builds, IsBuilding, codes_of, disjunction_work, earlier_work, settings_of, term_work, terms_work, work_of, works};
+
+use crate::builder::{Builder, Setting, Task};
+use crate::checks::ClassRow;
+use crate::kinds::{has_bit, looks_back};
+use crate::names::GroupNames;
+use crate::step::{Step, Test, Turns};
+use rx_ast::{
+    Alternative, CapturingGroup, Disjunction, IgnoreGroup, LookAroundAssertion, Modifier,
+    Modifiers, Quantifier, Term,
+};
+use rx_base::{List, OutOfMemory};
+use std::alloc::Global;
+
+/// The steps of a program, and the number of the first.
+#[derive(Drop)]
+pub struct Program<'a> {
+    pub steps: List<Step<'a>>,
+    pub entry: usize,
+}
+
+/// A setting after a modifier on either side.
+fn switched(modifiers: &Modifiers, bit: Modifier, was: bool) -> bool
+    ensures { result ≡ switched_by (bit_and modifiers.now.enabling.0 bit.0) (bit_and modifiers.now.disabling.0 bit.0) was }
+{
+    let on = has_bit(modifiers.enabling, bit);
+    let off = has_bit(modifiers.disabling, bit);
+    if off {
+        return false;
+    }
+    if on {
+        return true;
+    }
+    was
+}
+
+/// The settings in a group with modifiers.
+fn changed(modifiers: &Option<Modifiers>, setting: Setting) -> Setting
+    ensures settings { settings_of result ≡ changed_by modifiers.now (settings_of setting) }
+    ensures back { result.back ≡ setting.back }
+{
+    match modifiers {
+        None => setting,
+        Some(modifiers) => Setting {
+            multiline: switched(modifiers, Modifier::M, setting.multiline),
+            dot_all: switched(modifiers, Modifier::S, setting.dot_all),
+            back: setting.back,
+        },
+    }
+}
+
+/// Alternatives, from the last to the first.
+impl<'a> Builder<'a> {
+    fn disjunction(
+        &mut self,
+        setting: Setting,
+        alternatives: &'a [Alternative],
+    ) -> Result<(), OutOfMemory>
+        requires sound { IsBuilding self.old (disjunction_work setting alternatives.now ∷ works self.old) }
+        requires codes { 1 ≤ length self.old.codes }
+        ensures { OnOk result (Builds self.old (disjunction_work setting alternatives.now) self.new) }
+    {
+        let Some((last, alternatives)) = alternatives.split_last() else {
+            return self.reject();
+        };
+        let next = self.pop_code();
+        self.push_code(next)?;
+        self.push_code(next)?;
+        let terms = last.body.as_slice();
+        self.push_task(Task::Earlier {
+            setting,
+            alternatives,
+        })?;
+        self.push_task(Task::Terms { setting, terms })
+    }
+
+    fn earlier(
+        &mut self,
+        setting: Setting,
+        alternatives: &'a [Alternative],
+    ) -> Result<(), OutOfMemory>
+        requires sound { IsBuilding self.old (earlier_work setting alternatives.now ∷ works self.old) }
+        requires codes { 2 ≤ length self.old.codes }
+        ensures { OnOk result (Builds self.old (earlier_work setting alternatives.now) self.new) }
+    {
+        let entry = self.pop_code();
+        let next = self.pop_code();
+        let Some((last, alternatives)) = alternatives.split_last() else {
+            return self.push_code(entry);
+        };
+        self.push_code(next)?;
+        self.push_code(entry)?;
+        self.push_code(next)?;
+        let terms = last.body.as_slice();
+        self.push_task(Task::Earlier {
+            setting,
+            alternatives,
+        })?;
+        self.push_task(Task::Choose)?;
+        self.push_task(Task::Terms { setting, terms })
+    }
+}
+
+/// Terms, from the last to the first, or backward from the first to the last.
+impl<'a> Builder<'a> {
+    fn terms_ahead(&mut self, setting: Setting, terms: &'a [Term]) -> Result<(), OutOfMemory>
+        requires sound { IsBuilding self.old (terms_work setting terms.now ∷ works self.old) }
+        requires ahead { setting.back ≡ false }
+        ensures { OnOk result (Builds self.old (terms_work setting terms.now) self.new) }
+    {
+        let Some((term, terms)) = terms.split_last() else {
+            return Ok(());
+        };
+        self.push_task(Task::Terms { setting, terms })?;
+        self.push_task(Task::Term { setting, term })
+    }
+
+    fn terms_behind(&mut self, setting: Setting, terms: &'a [Term]) -> Result<(), OutOfMemory>
+        requires sound { IsBuilding self.old (terms_work setting terms.now ∷ works self.old) }
+        requires back { setting.back ≡ true }
+        ensures { OnOk result (Builds self.old (terms_work setting terms.now) self.new) }
+    {
+        let Some((term, terms)) = terms.split_first() else {
+            return Ok(());
+        };
+        self.push_code(0)?;
+        self.push_task(Task::Sequence)?;
+        self.push_task(Task::Term { setting, term })?;
+        self.push_task(Task::Swap)?;
+        self.push_task(Task::Terms { setting, terms })
+    }
+
+    fn terms(&mut self, setting: Setting, terms: &'a [Term]) -> Result<(), OutOfMemory>
+        requires sound { IsBuilding self.old (terms_work setting terms.now ∷ works self.old) }
+        ensures { OnOk result (Builds self.old (terms_work setting terms.now) self.new) }
+    {
+        if setting.back {
+            self.terms_behind(setting, terms)
+        } else {
+            self.terms_ahead(setting, terms)
+        }
+    }
+}
+
+pub fn body_of(it: &Quantifier) -> &Term
+    ensures { result.now ≡ it.now.body }
+{
+    &it.body
+}
+
+/// Terms with a body, which is compiled first.
+impl<'a> Builder<'a> {
+    fn look_around_body(
+        &mut self,
+        setting: Setting,
+        it: &'a LookAroundAssertion,
+    ) -> Result<(), OutOfMemory>
+        requires sound { IsBuilding self.old (term (settings_of setting) setting.back (mirror_look it.now) ∷ works self.old) }
+        ensures { OnOk result (Builds self.old (term (settings_of setting) setting.back (mirror_look it.now)) self.new) }
+    {
+        let inside = Setting {
+            multiline: setting.multiline,
+            dot_all: setting.dot_all,
+            back: looks_back(it.kind),
+        };
+        self.push_code(0)?;
+        self.push_task(Task::LookAround { kind: it.kind })?;
+        let alternatives = it.body.body.as_slice();
+        self.push_task(Task::Disjunction {
+            setting: inside,
+            alternatives,
+        })
+    }
+
+    fn quantifier_body(&mut self, setting: Setting, it: &'a Quantifier) -> Result<(), OutOfMemory>
+        requires sound { IsBuilding self.old (term (settings_of setting) setting.back (mirror_quantifier it.now) ∷ works self.old) }
+        ensures { OnOk result (Builds self.old (term (settings_of setting) setting.back (mirror_quantifier it.now)) self.new) }
+    {
+        let end = self.before;
+        self.push_code(0)?;
+        self.push_task(Task::Repeat {
+            quantifier: it,
+            end,
+        })?;
+        let term = body_of(it);
+        self.push_task(Task::Term { setting, term })
+    }
+
+    fn capturing_body(
+        &mut self,
+        setting: Setting,
+        it: &'a CapturingGroup,
+    ) -> Result<(), OutOfMemory>
+        requires sound { IsBuilding self.old (term (settings_of setting) setting.back (mirror_capturing it.now) ∷ works self.old) }
+        ensures { OnOk result (Builds self.old (term (settings_of setting) setting.back (mirror_capturing it.now)) self.new) }
+    {
+        self.push_code(0)?;
+        self.push_task(Task::Capture)?;
+        let alternatives = it.body.body.as_slice();
+        self.push_task(Task::Disjunction {
+            setting,
+            alternatives,
+        })
+    }
+
+    fn ignored_body(&mut self, setting: Setting, it: &'a IgnoreGroup) -> Result<(), OutOfMemory>
+        requires sound { IsBuilding self.old (term (settings_of setting) setting.back (mirror_ignore it.now) ∷ works self.old) }
+        ensures { OnOk result (Builds self.old (term (settings_of setting) setting.back (mirror_ignore it.now)) self.new) }
+    {
+        let inside = changed(&it.modifiers, setting);
+        self.push_task(Task::EnterGroup)?;
+        let alternatives = it.body.body.as_slice();
+        self.push_task(Task::Disjunction {
+            setting: inside,
+            alternatives,
+        })
+    }
+
+    #[tactic(auto, using(rx_ast::proofs::Equations::mirrors))]
+    fn term(&mut self, setting: Setting, term: &'a Term) -> Result<(), OutOfMemory>
+        requires sound { IsBuilding self.old (term_work setting term.now ∷ works self.old) }
+        requires codes { 1 ≤ length self.old.codes }
+        ensures { OnOk result (Builds self.old (term_work setting term.now) self.new) }
+    {
+        match term {
+            Term::BoundaryAssertion(it) => self.assert(it.kind, setting.multiline),
+            Term::LookAroundAssertion(it) => self.look_around_body(setting, it),
+            Term::Quantifier(it) => self.quantifier_body(setting, it),
+            Term::Character(it) => self.consume(Test::Character(it.value)),
+            Term::Dot(_) => self.consume(Test::Dot {
+                dot_all: setting.dot_all,
+            }),
+            Term::CharacterClassEscape(it) => self.consume(Test::Escape(it.kind)),
+            Term::UnicodePropertyEscape(_) => self.consume(Test::Never),
+            Term::CharacterClass(_) => {
+                let row = self.pop_row();
+                self.consume(Test::Class(row))
+            }
+            Term::CapturingGroup(it) => self.capturing_body(setting, it),
+            Term::IgnoreGroup(it) => self.ignored_body(setting, it),
+            Term::IndexedReference(it) => self.refer(it.index as usize),
+            Term::NamedReference(it) => self.refer_by_name(&it.name),
+        }
+    }
+}
+
+impl<'a> Builder<'a> {
+    fn close_group(&mut self) -> Result<(), OutOfMemory>
+        requires sound { IsBuilding self.old (capturing ∷ works self.old) }
+        requires codes { 2 ≤ length self.old.codes }
+        ensures { OnOk result (Builds self.old capturing self.new) }
+    {
+        self.before -= 1;
+        self.capture(self.before)
+    }
+
+    fn close_quantifier(&mut self, it: &Quantifier, end: usize) -> Result<(), OutOfMemory>
+        requires sound { IsBuilding self.old (repeating it.now.min it.now.max it.now.greedy (end - self.old.before) ∷ works self.old) }
+        requires codes { 2 ≤ length self.old.codes }
+        ensures { OnOk result (Builds self.old (repeating it.now.min it.now.max it.now.greedy (end - self.old.before)) self.new) }
+    {
+        self.repeat(Turns {
+            min: it.min,
+            max: it.max,
+            greedy: it.greedy,
+            from: self.before,
+            count: end.saturating_sub(self.before),
+        })
+    }
+
+    /// Does a task, or cuts it into smaller ones.
+    fn perform(&mut self, task: Task<'a>) -> Result<(), OutOfMemory>
+        requires sound { IsBuilding self.old (work_of (groups_left (works self.old)) task ∷ works self.old) }
+        requires made { all_worked self.old.names.now (work_of (groups_left (works self.old)) task ∷ works self.old) (codes_of self.old) ≢ [] }
+        ensures { OnOk result (Builds self.old (work_of (groups_left (works self.old)) task.entry) self.new) }
+    {
+        match task {
+            Task::Disjunction {
+                setting,
+                alternatives,
+            } => self.disjunction(setting, alternatives),
+            Task::Earlier {
+                setting,
+                alternatives,
+            } => self.earlier(setting, alternatives),
+            Task::Terms { setting, terms } => self.terms(setting, terms),
+            Task::Term { setting, term } => self.term(setting, term),
+            Task::Capture => self.close_group(),
+            Task::LookAround { kind } => self.look_around(kind),
+            Task::Repeat { quantifier, end } => self.close_quantifier(quantifier, end),
+            Task::EnterGroup => self.enter_group(),
+            Task::Choose => self.choose(),
+            Task::Swap => self.swap(),
+            Task::Sequence => self.sequence(),
+        }
+    }
+}
+
+/// The program of a disjunction in which groups of these names open, in order, and whose classes have these rows, from the last to the first.
+pub fn compile<'a>(
+    alloc: Global,
+    names: &'a GroupNames,
+    rows: &'a [ClassRow],
+    body: &'a Disjunction,
+    setting: Setting,
+) -> Result<Program<'a>, OutOfMemory>
+    requires names { length names.now ≡ groups_in_each (mirror_disjunction body.now).1 }
+    requires rows { row_tests rows.now ≡ each_tests (mirror_disjunction body.now).1 [] }
+    ensures ordered { IfOk result (λ it. AreOrdered it.steps) }
+    ensures code { IfOk result (λ it. code_at it.steps it.entry ≡ each_code names.now (mirror_disjunction body.now).1 (settings_of setting) setting.back 0 accept) }
+{
+    let mut builder = Builder {
+        names,
+        rows,
+        steps: List::new(alloc),
+        tasks: List::new(alloc),
+        codes: List::new(alloc),
+        before: names.len(),
+    };
+    builder.steps.push(Step::Accept)?;
+    builder.codes.push(0)?;
+    let alternatives = body.body.as_slice();
+    builder.tasks.push(Task::Disjunction {
+        setting,
+        alternatives,
+    })?;
+    while let Some(task) = builder.tasks.pop() {
+        builder.perform(task)?;
+    }
+    let entry = builder.pop_code();
+    let Builder { steps, .. } = builder;
+    Ok(Program { steps, entry })
+}

@@ -1,0 +1,6 @@
+pub mod Bits
+pub mod Characters
+pub mod EqualUnits
+pub mod Places
+pub mod Rows
+pub mod Straights

@@ -1,0 +1,9 @@
+pub mod Answers
+pub mod Groups
+pub mod Holding
+pub mod Matching
+pub mod Repeats
+pub mod Straight
+pub mod Supported
+pub mod Traces
+pub mod Units
