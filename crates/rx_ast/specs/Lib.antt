@@ -1,7 +1,9 @@
 pub mod ClassTree
+pub mod Forest
 pub mod Forget
 pub mod Kinds
 pub mod MirrorKinds
+pub mod Parts
 pub mod Shown
 pub mod Size
 pub mod Spans

@@ -4,4 +4,5 @@ pub mod OneRow
 pub mod Prefixes
 pub mod SameValues
 pub mod Sequences
+pub mod Spanned
 pub mod Splits

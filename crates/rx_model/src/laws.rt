@@ -1,15 +1,17 @@
 //! Laws of the definitions. The functions do nothing: each contract is a law.
 
-ghost use Rattle.std.specs.Prelude.{◌<◌, ◌≡◌, ◌≢◌, ◌==◌, ◌&&◌, ◌⊎◌, false, true, ℕ, List, [], ◌∷◌, ◌++◌, Result, ◌↔◌, Bool, Option, Some, ◌+◌, length, ◌||◌, codes, All};
+ghost use Rattle.std.specs.Prelude.{◌<◌, ◌≤◌, ◌≡◌, ◌≢◌, ◌==◌, ◌&&◌, ◌⊎◌, false, true, ℕ, List, [], ◌∷◌, ◌++◌, Result, ◌↔◌, Bool, Option, Some, ◌+◌, length, ◌||◌, codes, All};
 ghost use Rattle.rx_base.specs.declared.diagnostic.Diagnostic.{Diagnostic};
 ghost use Rattle.rx_base.specs.declared.fault.Fault.{Fault};
 ghost use Rattle.rx_base.specs.declared.diagnostic.Diagnostic.TheVariants.{CharacterClassRangeInvalidAtom, InvalidInput, LoneQuantifier};
 ghost use Rattle.rx_base.specs.declared.span.Span.{Span};
 ghost use Rattle.rx_ast.specs.ClassTree.{Class};
 ghost use Rattle.rx_ast.specs.Forget.{bare, unspanned};
+ghost use Rattle.rx_ast.specs.Parts.{IsNestedPattern};
+ghost use Rattle.rx_ast.specs.Tree.{mirror};
 ghost use Rattle.rx_ast.specs.declared.term.Pattern.{Pattern};
 ghost use Rattle.rx_units.specs.declared.code_point.CodePoint.{CodePoint};
-ghost use Rattle.rx_units.specs.Units.{values};
+ghost use Rattle.rx_units.specs.Units.{offset_at, values};
 ghost use Rattle.rx_model.specs.declared.form.Form.{Form};
 ghost use Rattle.rx_model.specs.declared.form.Form.TheVariants as form;
 ghost use Rattle.rx_model.specs.declared.mode.Mode.{Mode};
@@ -42,7 +44,7 @@ ghost use Rattle.rx_model.specs.FirstPass.Marks.{starts};
 ghost use Rattle.rx_model.specs.Spelling.OneLine.{IsOneLine};
 ghost use Rattle.rx_model.specs.Trees.OpenGroups.{AreOpen, EndsQuantifiable};
 ghost use Rattle.rx_model.specs.Spelling.ReadBack.{AreCodeUnits, FitIn, IsReadBack};
-ghost use Rattle.rx_model.specs.Reading.Reading.{IsSpelled, Reads};
+ghost use Rattle.rx_model.specs.Reading.Reading.{IsSpanned, IsSpelled, Reads};
 ghost use Rattle.rx_model.specs.Reading.Rows.{Spells, TokenRow};
 ghost use Rattle.rx_model.specs.Reading.Sequences.{ElementRow, ElementsGoOn};
 ghost use Rattle.rx_model.specs.Spelling.Spelling.{spelling};
@@ -406,4 +408,9 @@ pub fn legacy_places()
 pub fn innermost_group()
     ensures { (mode : Mode) (rules : Rules) (us : List CodePoint) (place : ℕ) (group : Opener) (open_groups : List Opener) (ready : Bool) (rest : List CodePoint) →
         IsReached mode rules us place (group ∷ open_groups) ready rest → (from : ℕ) × IsInside mode rules us from group place rest }
+{}
+
+/// A pattern that is spanned over offsets that do not fall is nested.
+pub fn spanned_is_nested()
+    ensures { (mode : Mode) (rules : Rules) (p : Pattern) (us : List CodePoint) (first added : ℕ) → ((i j : ℕ) → i ≤ j → offset_at first us i ≤ offset_at first us j) → IsSpanned mode rules p us first added → IsNestedPattern (mirror p) }
 {}

@@ -1,5 +1,6 @@
 -- Words of the command line.
-use Rattle.std.proofs.Common.{◌≡◌, ◌∙◌, ◌↔◌, ◌<◌, ◌≤◌, ◌^◌, refl, sym, ap, subst, ℕ, Bool, true, false, ◌&&◌, ◌==◌, List, [], ◌∷◌, ◌++◌, length, get_or, codes, Result, Ok, Err, arith}
+use Rattle.std.proofs.Common.{◌≡◌, ◌∙◌, ◌↔◌, ◌<◌, ◌≤◌, ◌^◌, refl, sym, ap, subst, ℕ, ◌+◌, Bool, true, false, ◌&&◌, ◌==◌, List, [], ◌∷◌, ◌++◌, length, get_or, codes, Option, Some, None, Result, Ok, Err, if◌then◌else◌, eqb, arith}
+use lib.Pointwise.{pointwise}
 use Rattle.std.specs.Char.{is_ascii_digit}
 use Rattle.std.specs.List.{list_all}
 use Rattle.std.specs.Option.{MatchOption}
@@ -11,7 +12,7 @@ use Rattle.std.proofs.lemmas.Fmt.{IsAscii-from_digits}
 use Rattle.std.proofs.lemmas.Str.{chars-IsAscii, encodes-chars, encodes-IsAscii}
 use Rattle.std.proofs.lemmas.Str.Parse.{IsNumeralModel, numerals_by_value, tells_all_ascii_digits, digits_value_short, parse_digits}
 use Rattle.rx_run.specs.declared.answer.Answering.{Answering}
-use Rattle.rx_run.specs.declared.answer.Answering.TheVariants.{Canonical, Display, Support, Match, Steps}
+use Rattle.rx_run.specs.declared.answer.Answering.TheVariants.{Canonical, Display, Support, Match, Steps, Paint, PaintColor}
 use Rattle.rx_run.specs.declared.command.Command.{Command}
 use Rattle.rx_run.specs.declared.command.Command.TheVariants.{Serve, Generate, Print}
 use Rattle.rx_run.specs.declared.dialect.Dialect.{Dialect}
@@ -20,7 +21,7 @@ use Rattle.rx_run.specs.declared.features.Features.{Features}
 use Rattle.rx_run.specs.declared.notice.Notice.{Notice}
 use Rattle.rx_run.specs.declared.notice.Notice.TheVariants.{Help, Version}
 use Rattle.rx_run.specs.declared.service.Service.{Service}
-use Rattle.rx_run.specs.Command.{IsCommand, IsDecimal, IsGen, IsServing, dialect_words}
+use Rattle.rx_run.specs.Command.{IsAnswering, IsCommand, IsDecimal, IsGen, IsServing, dialect_words}
 use Rattle.rx_run.specs.Features.{IsFeatureList}
 use Rattle.rx_run.specs.Notices.{notice_word}
 use Rattle.rx_run.proofs.FeatureLists.{features_once}
@@ -67,53 +68,26 @@ digits_parsed {E = E} longest bytes r fits all short parses = go r (parse_digits
 
 -- ---- the word for the options
 
--- what words say after the word for the options
-parted : (words : List (List ℕ)) (dialect : Dialect) (answering : Answering) → IsServing words dialect answering
-    → (rest : List (List ℕ)) × (words ≡ dialect_words dialect ++ rest) × IsServing rest Default answering
-parted words Default answering is = (words, refl, is)
-parted words Strict Canonical is = ([], is, refl)
-parted words Strict Display is = (codes "display" ∷ [], is, refl)
-parted words Strict (Support features) is = (codes "support" ∷ is.0 ∷ [], is.1, (is.0, refl, is.2))
-parted words Strict (Match budget text) is = (codes "match" ∷ is.0 ∷ text ∷ [], is.1, (is.0, refl, is.2))
-parted words Strict (Steps text most) is = (codes "steps" ∷ text ∷ is.0 ∷ [], is.1, (is.0, refl, is.2))
-parted words Standard Canonical is = ([], is, refl)
-parted words Standard Display is = (codes "display" ∷ [], is, refl)
-parted words Standard (Support features) is = (codes "support" ∷ is.0 ∷ [], is.1, (is.0, refl, is.2))
-parted words Standard (Match budget text) is = (codes "match" ∷ is.0 ∷ text ∷ [], is.1, (is.0, refl, is.2))
-parted words Standard (Steps text most) is = (codes "steps" ∷ text ∷ is.0 ∷ [], is.1, (is.0, refl, is.2))
-
-joined : (words rest : List (List ℕ)) (dialect : Dialect) (answering : Answering) → words ≡ dialect_words dialect ++ rest → IsServing rest Default answering
-    → IsServing words dialect answering
-joined words rest Default answering e is = subst (λ ws. IsServing ws Default answering) (sym e) is
-joined words rest Strict Canonical e is = e ∙ ap (λ (ws : List (List ℕ)). codes "strict" ∷ ws) is
-joined words rest Strict Display e is = e ∙ ap (λ (ws : List (List ℕ)). codes "strict" ∷ ws) is
-joined words rest Strict (Support features) e is = (is.0, e ∙ ap (λ (ws : List (List ℕ)). codes "strict" ∷ ws) is.1, is.2)
-joined words rest Strict (Match budget text) e is = (is.0, e ∙ ap (λ (ws : List (List ℕ)). codes "strict" ∷ ws) is.1, is.2)
-joined words rest Strict (Steps text most) e is = (is.0, e ∙ ap (λ (ws : List (List ℕ)). codes "strict" ∷ ws) is.1, is.2)
-joined words rest Standard Canonical e is = e ∙ ap (λ (ws : List (List ℕ)). codes "standard" ∷ ws) is
-joined words rest Standard Display e is = e ∙ ap (λ (ws : List (List ℕ)). codes "standard" ∷ ws) is
-joined words rest Standard (Support features) e is = (is.0, e ∙ ap (λ (ws : List (List ℕ)). codes "standard" ∷ ws) is.1, is.2)
-joined words rest Standard (Match budget text) e is = (is.0, e ∙ ap (λ (ws : List (List ℕ)). codes "standard" ∷ ws) is.1, is.2)
-joined words rest Standard (Steps text most) e is = (is.0, e ∙ ap (λ (ws : List (List ℕ)). codes "standard" ∷ ws) is.1, is.2)
-
--- words that no word for the options precedes do not begin with one
-begins_otherwise : (rest more : List (List ℕ)) (word : List ℕ) (answering : Answering) (dialect : Dialect) → IsServing rest Default answering → rest ≡ word ∷ more → dialect_words dialect ≡ word ∷ [] → ⊥
-begins_otherwise rest more word Canonical dialect is e named = cc
-begins_otherwise rest more word Display Default is e named = cc
+-- Words that ask for what is said do not begin with a word for the options.
+begins_otherwise : (rest more : List (List ℕ)) (word : List ℕ) (answering : Answering) (dialect : Dialect) → IsAnswering rest answering → rest ≡ word ∷ more → dialect_words dialect ≡ word ∷ [] → ⊥
+begins_otherwise rest more word answering Default is e named = cc
+begins_otherwise rest more word Canonical Strict is e named = cc
+begins_otherwise rest more word Canonical Standard is e named = cc
 begins_otherwise rest more word Display Strict is e named = let no : codes "strict" ≡ codes "display" = cc in cc no
 begins_otherwise rest more word Display Standard is e named = let no : codes "standard" ≡ codes "display" = cc in cc no
-begins_otherwise rest more word (Support features) Default is e named = cc
 begins_otherwise rest more word (Support features) Strict is e named = let words = is.1 in let no : codes "strict" ≡ codes "support" = cc in cc no
 begins_otherwise rest more word (Support features) Standard is e named = let words = is.1 in let no : codes "standard" ≡ codes "support" = cc in cc no
-begins_otherwise rest more word (Match budget text) Default is e named = cc
 begins_otherwise rest more word (Match budget text) Strict is e named = let words = is.1 in let no : codes "strict" ≡ codes "match" = cc in cc no
 begins_otherwise rest more word (Match budget text) Standard is e named = let words = is.1 in let no : codes "standard" ≡ codes "match" = cc in cc no
-begins_otherwise rest more word (Steps text most) Default is e named = cc
 begins_otherwise rest more word (Steps text most) Strict is e named = let words = is.1 in let no : codes "strict" ≡ codes "steps" = cc in cc no
 begins_otherwise rest more word (Steps text most) Standard is e named = let words = is.1 in let no : codes "standard" ≡ codes "steps" = cc in cc no
+begins_otherwise rest more word Paint Strict is e named = let no : codes "strict" ≡ codes "paint" = cc in cc no
+begins_otherwise rest more word Paint Standard is e named = let no : codes "standard" ≡ codes "paint" = cc in cc no
+begins_otherwise rest more word PaintColor Strict is e named = let no : codes "strict" ≡ codes "paint" = cc in cc no
+begins_otherwise rest more word PaintColor Standard is e named = let no : codes "standard" ≡ codes "paint" = cc in cc no
 
 one_dialect : (words rest more : List (List ℕ)) (word : List ℕ) (dialect dialect' : Dialect) (answering : Answering) → words ≡ word ∷ more → dialect_words dialect' ≡ word ∷ [] → words ≡ dialect_words dialect ++ rest
-    → IsServing rest Default answering → (dialect ≡ dialect') × (rest ≡ more)
+    → IsAnswering rest answering → (dialect ≡ dialect') × (rest ≡ more)
 one_dialect words rest more word Default dialect' answering first named e is = absurd (begins_otherwise rest more word answering dialect' is (cc) named)
 one_dialect words rest more word Strict Default answering first named e is = cc
 one_dialect words rest more word Strict Strict answering first named e is = (refl, cc)
@@ -124,33 +98,38 @@ one_dialect words rest more word Standard Standard answering first named e is = 
 
 -- words that begin with a word for the options
 pub split_after : (words more : List (List ℕ)) (word : List ℕ) (dialect' : Dialect) → words ≡ word ∷ more → dialect_words dialect' ≡ word ∷ []
-    → (dialect : Dialect) (answering : Answering) → IsServing words dialect answering ↔ ((dialect ≡ dialect') × IsServing more Default answering)
+    → (dialect : Dialect) (answering : Answering) → IsServing words dialect answering ↔ ((dialect ≡ dialect') × IsAnswering more answering)
 split_after words more word dialect' first named dialect answering = (
   λ is.
-      let p = parted words dialect answering is in
-      let one = one_dialect words p.0 more word dialect dialect' answering first named p.1 p.2 in
-      (one.0, subst (λ ws. IsServing ws Default answering) one.1 p.2),
-  λ both. joined words more dialect answering (first ∙ ap (λ (ws : List (List ℕ)). ws ++ more) (sym named) ∙ ap (λ d. dialect_words d ++ more) (sym both.0)) both.1,
+      let one = one_dialect words is.rest more word dialect dialect' answering first named is.words_are is.says in
+      (one.0, subst (λ ws. IsAnswering ws answering) one.1 is.says),
+  λ both. record {
+    rest = more;
+    words_are = first ∙ ap (λ (ws : List (List ℕ)). ws ++ more) (sym named) ∙ ap (λ d. dialect_words d ++ more) (sym both.0);
+    says = both.1;
+  },
 )
 
 -- words that do not
 pub split_none : (words : List (List ℕ)) → ((word : List ℕ) (more : List (List ℕ)) (dialect : Dialect) → words ≡ word ∷ more → ¬ (dialect_words dialect ≡ word ∷ []))
-    → (dialect : Dialect) (answering : Answering) → IsServing words dialect answering ↔ ((dialect ≡ Default) × IsServing words Default answering)
+    → (dialect : Dialect) (answering : Answering) → IsServing words dialect answering ↔ ((dialect ≡ Default) × IsAnswering words answering)
 split_none words none dialect answering = (
-  λ is. by dialect (parted words dialect answering is) is,
-  λ both. subst (λ d. IsServing words d answering) (sym both.0) both.1,
+  λ is. by dialect is,
+  λ both. record { rest = words; words_are = sym (ap (λ d. dialect_words d ++ words) both.0); says = both.1 },
 )
   where
-    by : (dialect : Dialect) → (rest : List (List ℕ)) × (words ≡ dialect_words dialect ++ rest) × IsServing rest Default answering → IsServing words dialect answering
-        → (dialect ≡ Default) × IsServing words Default answering
-    by Default p is = (refl, is)
-    by Strict p is = absurd (none (codes "strict") p.0 Strict p.1 refl)
-    by Standard p is = absurd (none (codes "standard") p.0 Standard p.1 refl)
+    by : (dialect : Dialect) → IsServing words dialect answering → (dialect ≡ Default) × IsAnswering words answering
+    by Default is = (refl, subst (λ ws. IsAnswering ws answering) (sym is.words_are) is.says)
+    by Strict is = absurd (none (codes "strict") is.rest Strict is.words_are refl)
+    by Standard is = absurd (none (codes "standard") is.rest Standard is.words_are refl)
 
 -- ---- words that mean nothing
 
 pub match_not_steps : codes "match" ≡ codes "steps" → ⊥
 match_not_steps same = false≢true (sym (ap (λ (text : List ℕ). get_or text 0 0 == 109) same))
+
+pub paint_not_support : codes "paint" ≡ codes "support" → ⊥
+paint_not_support same = false≢true (sym (ap (λ (text : List ℕ). get_or text 0 0 == 112) same))
 
 pub no_dialect : (word : List ℕ) → ¬ (word ≡ codes "strict") → ¬ (word ≡ codes "standard") → (dialect : Dialect) → ¬ (dialect_words dialect ≡ word ∷ [])
 no_dialect word strict standard Default is = cc
@@ -161,25 +140,38 @@ pub no_notice : (word : List ℕ) → ¬ (word ≡ codes "--help") → ¬ (word 
 no_notice word help version Help is = help is
 no_notice word help version Version is = version is
 
-pub one_says_nothing : (word : List ℕ) → ¬ (word ≡ codes "display") → (answering : Answering) → ¬ IsServing (word ∷ []) Default answering
-one_says_nothing word display Canonical is = cc
-one_says_nothing word display Display is = display (cc)
-one_says_nothing word display (Support features) is = let two = is.1 in cc
-one_says_nothing word display (Match budget text) is = let three = is.1 in cc
-one_says_nothing word display (Steps text most) is = let three = is.1 in cc
+pub one_says_nothing : (word : List ℕ) → ¬ (word ≡ codes "display") → ¬ (word ≡ codes "paint") → (answering : Answering) → ¬ IsAnswering (word ∷ []) answering
+one_says_nothing word display paint Canonical is = cc
+one_says_nothing word display paint Display is = display (cc)
+one_says_nothing word display paint (Support features) is = let two = is.1 in cc
+one_says_nothing word display paint (Match budget text) is = let three = is.1 in cc
+one_says_nothing word display paint (Steps text most) is = let three = is.1 in cc
+one_says_nothing word display paint Paint is = paint (cc)
+one_says_nothing word display paint PaintColor is = cc
 
-pub two_say_nothing : (name list : List ℕ) → ((features : Features) → name ≡ codes "support" → ¬ IsFeatureList list features) → (answering : Answering) → ¬ IsServing (name ∷ list ∷ []) Default answering
-two_say_nothing name list none Canonical is = cc
-two_say_nothing name list none Display is = cc
-two_say_nothing name list none (Support features) is =
+pub two_say_nothing : (name second : List ℕ) → ((features : Features) → name ≡ codes "support" → ¬ IsFeatureList second features) → (name ≡ codes "paint" → ¬ (second ≡ codes "color"))
+    → (answering : Answering) → ¬ IsAnswering (name ∷ second ∷ []) answering
+two_say_nothing name second none no_color Canonical is = cc
+two_say_nothing name second none no_color Display is = cc
+two_say_nothing name second none no_color (Support features) is =
     let words = is.1 in
-    let lists : is.0 ≡ list = cc in
+    let lists : is.0 ≡ second = cc in
     none features (cc) (subst (λ word. IsFeatureList word features) lists is.2)
-two_say_nothing name list none (Match budget text) is = let three = is.1 in cc
-two_say_nothing name list none (Steps text most) is = let three = is.1 in cc
+two_say_nothing name second none no_color (Match budget text) is = let three = is.1 in cc
+two_say_nothing name second none no_color (Steps text most) is = let three = is.1 in cc
+two_say_nothing name second none no_color Paint is = cc
+two_say_nothing name second none no_color PaintColor is = no_color (cc) (cc)
+
+-- what is said with `paint` and a word, by the bytes of the word
+pub said_with_paint : (name second bytes : List ℕ) (r : Option Answering) → name ≡ codes "paint" → (bytes ≡ codes "color" → second ≡ codes "color") → (second ≡ codes "color" → bytes ≡ codes "color")
+    → MatchOption r (¬ (bytes ≡ codes "color")) (λ answering. (bytes ≡ codes "color") × (answering ≡ PaintColor))
+    → MatchOption r ((answering : Answering) → ¬ IsAnswering (name ∷ second ∷ []) answering) (λ answering. IsAnswering (name ∷ second ∷ []) answering)
+said_with_paint name second bytes None is to from none = two_say_nothing name second (λ features support list. paint_not_support (sym is ∙ support)) (λ paint color. none (from color))
+said_with_paint name second bytes (Some answering) is to from some =
+    subst (λ a. IsAnswering (name ∷ second ∷ []) a) (sym some.1) (ap (λ (n : List ℕ). n ∷ second ∷ []) is ∙ ap (λ (word : List ℕ). codes "paint" ∷ word ∷ []) (to some.0))
 
 pub three_say_nothing : (name first second : List ℕ) → ((budget : ℕ) → name ≡ codes "match" → ¬ IsDecimal 10 first budget) → ((most : ℕ) → name ≡ codes "steps" → ¬ IsDecimal 19 second most)
-    → (answering : Answering) → ¬ IsServing (name ∷ first ∷ second ∷ []) Default answering
+    → (answering : Answering) → ¬ IsAnswering (name ∷ first ∷ second ∷ []) answering
 three_say_nothing name first second no_match no_steps Canonical is = cc
 three_say_nothing name first second no_match no_steps Display is = cc
 three_say_nothing name first second no_match no_steps (Support features) is = let two = is.1 in cc
@@ -191,13 +183,17 @@ three_say_nothing name first second no_match no_steps (Steps text most) is =
     let words = is.1 in
     let numbers : is.0 ≡ second = cc in
     no_steps most (cc) (subst (λ word. IsDecimal 19 word most) numbers is.2)
+three_say_nothing name first second no_match no_steps Paint is = cc
+three_say_nothing name first second no_match no_steps PaintColor is = cc
 
-pub more_say_nothing : (words : List (List ℕ)) → 3 < length words → (answering : Answering) → ¬ IsServing words Default answering
+pub more_say_nothing : (words : List (List ℕ)) → 3 < length words → (answering : Answering) → ¬ IsAnswering words answering
 more_say_nothing words more Canonical is = omega (arith, ap length is)
 more_say_nothing words more Display is = omega (arith, ap length is)
 more_say_nothing words more (Support features) is = omega (arith, ap length is.1)
 more_say_nothing words more (Match budget text) is = omega (arith, ap length is.1)
 more_say_nothing words more (Steps text most) is = omega (arith, ap length is.1)
+more_say_nothing words more Paint is = omega (arith, ap length is)
+more_say_nothing words more PaintColor is = omega (arith, ap length is)
 
 pub means_nothing : (words : List (List ℕ)) → ((notice : Notice) → ¬ (words ≡ notice_word notice ∷ [])) → ((seed count : ℕ) → ¬ IsGen words seed count)
     → ((service : Service) → ¬ IsServing words service.dialect service.answering) → (command : Command) → ¬ IsCommand words command
@@ -210,62 +206,66 @@ means_nothing words notices gens services (Print notice) is = notices notice is
 number_once : (longest : ℕ) (word word' : List ℕ) (n n' : ℕ) → word ≡ word' → IsDecimal longest word n → IsDecimal longest word' n' → n ≡ n'
 number_once longest word word' n n' same is is' = is.value ∙ ap (digits_value 10) same ∙ sym is'.value
 
-answering_once : (words : List (List ℕ)) (one other : Answering) → IsServing words Default one → IsServing words Default other → one ≡ other
-answering_once words Canonical Canonical is is' = refl
-answering_once words Canonical Display is is' = cc
-answering_once words Canonical (Support features) is is' = let two = is'.1 in cc
-answering_once words Canonical (Match budget text) is is' = let three = is'.1 in cc
-answering_once words Canonical (Steps text most) is is' = let three = is'.1 in cc
-answering_once words Display Canonical is is' = cc
-answering_once words Display Display is is' = refl
-answering_once words Display (Support features) is is' = let two = is'.1 in cc
-answering_once words Display (Match budget text) is is' = let three = is'.1 in cc
-answering_once words Display (Steps text most) is is' = let three = is'.1 in cc
-answering_once words (Support features) Canonical is is' = let two = is.1 in cc
-answering_once words (Support features) Display is is' = let two = is.1 in cc
-answering_once words (Support features) (Support features') is is' =
-    let same = sym is.1 ∙ is'.1 in
-    let lists : is.0 ≡ is'.0 = cc in
-    ap Support (features_once is'.0 features features' (subst (λ word. IsFeatureList word features) lists is.2) is'.2)
-answering_once words (Support features) (Match budget text) is is' = let same = sym is.1 ∙ is'.1 in cc
-answering_once words (Support features) (Steps text most) is is' = let same = sym is.1 ∙ is'.1 in cc
-answering_once words (Match budget text) Canonical is is' = let three = is.1 in cc
-answering_once words (Match budget text) Display is is' = let three = is.1 in cc
-answering_once words (Match budget text) (Support features) is is' = let same = sym is.1 ∙ is'.1 in cc
-answering_once words (Match budget text) (Match budget' text') is is' =
-    let same = sym is.1 ∙ is'.1 in
-    let numbers : is.0 ≡ is'.0 = cc in
-    let texts : text ≡ text' = cc in
-    ap (λ n. Match n text) (number_once 10 is.0 is'.0 budget budget' numbers is.2 is'.2) ∙ ap (λ t. Match budget' t) texts
-answering_once words (Match budget text) (Steps text' most) is is' =
-    let same = sym is.1 ∙ is'.1 in
-    let no : codes "match" ≡ codes "steps" = cc in absurd (match_not_steps no)
-answering_once words (Steps text most) Canonical is is' = let three = is.1 in cc
-answering_once words (Steps text most) Display is is' = let three = is.1 in cc
-answering_once words (Steps text most) (Support features) is is' = let same = sym is.1 ∙ is'.1 in cc
-answering_once words (Steps text most) (Match budget text') is is' =
-    let same = sym is.1 ∙ is'.1 in
-    let no : codes "match" ≡ codes "steps" = cc in absurd (match_not_steps no)
-answering_once words (Steps text most) (Steps text' most') is is' =
-    let same = sym is.1 ∙ is'.1 in
-    let numbers : is.0 ≡ is'.0 = cc in
-    let texts : text ≡ text' = cc in
-    ap (λ n. Steps text n) (number_once 19 is.0 is'.0 most most' numbers is.2 is'.2) ∙ ap (λ t. Steps t most') texts
+-- a number for the words that ask for each thing that is said
+abbrev word_number : List (List ℕ) → ℕ
+word_number [] = 0
+word_number (word ∷ words) =
+    if pointwise eqb word (codes "display") then 1 else if pointwise eqb word (codes "support") then 2 else if pointwise eqb word (codes "match") then 3
+    else if pointwise eqb word (codes "steps") then 4 else 5 + length words
+
+abbrev answering_number : Answering → ℕ
+answering_number Canonical = 0
+answering_number Display = 1
+answering_number (Support features) = 2
+answering_number (Match budget text) = 3
+answering_number (Steps text most) = 4
+answering_number Paint = 5
+answering_number PaintColor = 6
+
+numbered : (words : List (List ℕ)) (answering : Answering) → IsAnswering words answering → word_number words ≡ answering_number answering
+numbered words Canonical is = ap word_number is
+numbered words Display is = ap word_number is
+numbered words (Support features) is = ap word_number is.1
+numbered words (Match budget text) is = ap word_number is.1
+numbered words (Steps text most) is = ap word_number is.1
+numbered words Paint is = ap word_number is
+numbered words PaintColor is = ap word_number is
+
+answering_once : (words : List (List ℕ)) (one other : Answering) → IsAnswering words one → IsAnswering words other → one ≡ other
+answering_once words one other is is' = by one other (sym (numbered words one is) ∙ numbered words other is') is is'
+  where
+    by : (one other : Answering) → answering_number one ≡ answering_number other → IsAnswering words one → IsAnswering words other → one ≡ other
+    by Canonical Canonical same is is' = refl
+    by Display Display same is is' = refl
+    by Paint Paint same is is' = refl
+    by PaintColor PaintColor same is is' = refl
+    by (Support features) (Support features') same is is' =
+        let words_same = sym is.1 ∙ is'.1 in
+        let lists : is.0 ≡ is'.0 = cc in
+        ap Support (features_once is'.0 features features' (subst (λ word. IsFeatureList word features) lists is.2) is'.2)
+    by (Match budget text) (Match budget' text') same is is' =
+        let words_same = sym is.1 ∙ is'.1 in
+        let numbers : is.0 ≡ is'.0 = cc in
+        let texts : text ≡ text' = cc in
+        ap (λ n. Match n text) (number_once 10 is.0 is'.0 budget budget' numbers is.2 is'.2) ∙ ap (λ t. Match budget' t) texts
+    by (Steps text most) (Steps text' most') same is is' =
+        let words_same = sym is.1 ∙ is'.1 in
+        let numbers : is.0 ≡ is'.0 = cc in
+        let texts : text ≡ text' = cc in
+        ap (λ n. Steps text n) (number_once 19 is.0 is'.0 most most' numbers is.2 is'.2) ∙ ap (λ t. Steps t most') texts
+    by one other same is is' = absurd (omega (arith, same))
 
 serving_once : (words : List (List ℕ)) (one other : Dialect) (answering answering' : Answering) → IsServing words one answering → IsServing words other answering' → (one ≡ other) × (answering ≡ answering')
-serving_once words Default Default answering answering' is is' = (refl, answering_once words answering answering' is is')
-serving_once words Default Strict answering answering' is is' =
-    let p = parted words Strict answering' is' in absurd (begins_otherwise words p.0 (codes "strict") answering Strict is p.1 refl)
-serving_once words Default Standard answering answering' is is' =
-    let p = parted words Standard answering' is' in absurd (begins_otherwise words p.0 (codes "standard") answering Standard is p.1 refl)
+serving_once words Default Default answering answering' is is' =
+    (refl, answering_once words answering answering' (subst (λ ws. IsAnswering ws answering) (sym is.words_are) is.says) (subst (λ ws. IsAnswering ws answering') (sym is'.words_are) is'.says))
+serving_once words Default Strict answering answering' is is' = absurd (begins_otherwise is.rest is'.rest (codes "strict") answering Strict is.says (sym is.words_are ∙ is'.words_are) refl)
+serving_once words Default Standard answering answering' is is' = absurd (begins_otherwise is.rest is'.rest (codes "standard") answering Standard is.says (sym is.words_are ∙ is'.words_are) refl)
 serving_once words Strict other answering answering' is is' =
-    let p = parted words Strict answering is in
-    let both = (split_after words p.0 (codes "strict") Strict p.1 refl other answering').0 is' in
-    (sym both.0, answering_once p.0 answering answering' p.2 both.1)
+    let both = (split_after words is.rest (codes "strict") Strict is.words_are refl other answering').0 is' in
+    (sym both.0, answering_once is.rest answering answering' is.says both.1)
 serving_once words Standard other answering answering' is is' =
-    let p = parted words Standard answering is in
-    let both = (split_after words p.0 (codes "standard") Standard p.1 refl other answering').0 is' in
-    (sym both.0, answering_once p.0 answering answering' p.2 both.1)
+    let both = (split_after words is.rest (codes "standard") Standard is.words_are refl other answering').0 is' in
+    (sym both.0, answering_once is.rest answering answering' is.says both.1)
 
 pub service_once : (words : List (List ℕ)) (one other : Service) → IsServing words one.dialect one.answering → IsServing words other.dialect other.answering → one ≡ other
 service_once words one other is is' =

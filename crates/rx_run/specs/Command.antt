@@ -1,9 +1,9 @@
 -- The words of the command line, and what they ask for.
-use Rattle.std.specs.Prelude.{◌≡◌, ◌≤◌, ◌<◌, ℕ, IsTrue, List, [], ◌∷◌, length, codes}
+use Rattle.std.specs.Prelude.{◌≡◌, ◌≤◌, ◌<◌, ℕ, IsTrue, List, [], ◌∷◌, ◌++◌, length, codes}
 use Rattle.std.specs.Str.{all_ascii_digits}
 use Rattle.std.specs.Str.Parse.{digits_value}
 use Rattle.rx_run.specs.declared.answer.Answering.{Answering}
-use Rattle.rx_run.specs.declared.answer.Answering.TheVariants.{Canonical, Display, Support, Match, Steps}
+use Rattle.rx_run.specs.declared.answer.Answering.TheVariants.{Canonical, Display, Support, Match, Steps, Paint, PaintColor}
 use Rattle.rx_run.specs.declared.command.Command.{Command}
 use Rattle.rx_run.specs.declared.command.Command.TheVariants.{Serve, Generate, Print}
 use Rattle.rx_run.specs.declared.dialect.Dialect.{Dialect}
@@ -35,23 +35,21 @@ dialect_words Default = []
 dialect_words Strict = codes "strict" ∷ []
 dialect_words Standard = codes "standard" ∷ []
 
--- the lists of words with which lines are answered
-abbrev pub IsServing : List (List ℕ) → Dialect → Answering → Type 0
-IsServing words Default Canonical = words ≡ []
-IsServing words Default Display = words ≡ codes "display" ∷ []
-IsServing words Default (Support features) = (list : List ℕ) × (words ≡ codes "support" ∷ list ∷ []) × IsFeatureList list features
-IsServing words Default (Match budget text) = (word : List ℕ) × (words ≡ codes "match" ∷ word ∷ text ∷ []) × IsDecimal 10 word budget
-IsServing words Default (Steps text most) = (word : List ℕ) × (words ≡ codes "steps" ∷ text ∷ word ∷ []) × IsDecimal 19 word most
-IsServing words Strict Canonical = words ≡ codes "strict" ∷ []
-IsServing words Strict Display = words ≡ codes "strict" ∷ codes "display" ∷ []
-IsServing words Strict (Support features) = (list : List ℕ) × (words ≡ codes "strict" ∷ codes "support" ∷ list ∷ []) × IsFeatureList list features
-IsServing words Strict (Match budget text) = (word : List ℕ) × (words ≡ codes "strict" ∷ codes "match" ∷ word ∷ text ∷ []) × IsDecimal 10 word budget
-IsServing words Strict (Steps text most) = (word : List ℕ) × (words ≡ codes "strict" ∷ codes "steps" ∷ text ∷ word ∷ []) × IsDecimal 19 word most
-IsServing words Standard Canonical = words ≡ codes "standard" ∷ []
-IsServing words Standard Display = words ≡ codes "standard" ∷ codes "display" ∷ []
-IsServing words Standard (Support features) = (list : List ℕ) × (words ≡ codes "standard" ∷ codes "support" ∷ list ∷ []) × IsFeatureList list features
-IsServing words Standard (Match budget text) = (word : List ℕ) × (words ≡ codes "standard" ∷ codes "match" ∷ word ∷ text ∷ []) × IsDecimal 10 word budget
-IsServing words Standard (Steps text most) = (word : List ℕ) × (words ≡ codes "standard" ∷ codes "steps" ∷ text ∷ word ∷ []) × IsDecimal 19 word most
+-- the words that ask for what is said, without a word for the options
+abbrev pub IsAnswering : List (List ℕ) → Answering → Type 0
+IsAnswering words Canonical = words ≡ []
+IsAnswering words Display = words ≡ codes "display" ∷ []
+IsAnswering words (Support features) = (list : List ℕ) × (words ≡ codes "support" ∷ list ∷ []) × IsFeatureList list features
+IsAnswering words (Match budget text) = (word : List ℕ) × (words ≡ codes "match" ∷ word ∷ text ∷ []) × IsDecimal 10 word budget
+IsAnswering words (Steps text most) = (word : List ℕ) × (words ≡ codes "steps" ∷ text ∷ word ∷ []) × IsDecimal 19 word most
+IsAnswering words Paint = words ≡ codes "paint" ∷ []
+IsAnswering words PaintColor = words ≡ codes "paint" ∷ codes "color" ∷ []
+
+-- The words with which lines are answered: the word for the options, if there is one, and those that ask for what is said.
+pub record IsServing (words : List (List ℕ)) (dialect : Dialect) (answering : Answering) : Type 0 where
+  pub rest : List (List ℕ)
+  pub words_are : words ≡ dialect_words dialect ++ rest
+  pub says : IsAnswering rest answering
 
 -- the words of a command
 abbrev pub IsCommand : List (List ℕ) → Command → Type 0

@@ -17,10 +17,14 @@ use Rattle.rx_model.specs.declared.mode.Mode.TheVariants.{Legacy, Unicode, Sets}
 use Rattle.rx_model.specs.declared.rules.Rules.{Rules}
 use Rattle.rx_model.specs.Reading.Headline.{IsFirstRefusal, IsReadAs, IsValid}
 use Rattle.rx_model.specs.Inputs.Inputs.{Input}
+use Rattle.rx_model.specs.Inputs.Texts.{literal_text}
 use Rattle.rx_model.specs.Spelling.Spelling.{spelling}
 use Rattle.rx_match_reply.specs.Replies.{IsMatchReply, IsTicksReply}
+use Rattle.rx_paint.specs.Runs.{pattern_tokens}
+use Rattle.rx_paint_reply.specs.Colors.{color_reply}
+use Rattle.rx_paint_reply.specs.Tokens.{tokens_reply}
 use Rattle.rx_run.specs.declared.answer.Answering.{Answering}
-use Rattle.rx_run.specs.declared.answer.Answering.TheVariants.{Canonical, Display, Support, Match, Steps}
+use Rattle.rx_run.specs.declared.answer.Answering.TheVariants.{Canonical, Display, Support, Match, Steps, Paint, PaintColor}
 use Rattle.rx_run.specs.declared.dialect.Dialect.{Dialect}
 use Rattle.rx_run.specs.declared.dialect.Dialect.TheVariants.{Default, Strict, Standard}
 use Rattle.rx_run.specs.declared.service.Service.{Service}
@@ -65,6 +69,8 @@ IsSaid (Support features) request mode pattern reply =
     reply ≡ support_reply (are_refused_flags features.flags (flags_bytes request.flags)) (needs_feature features (order (pattern_kind (mirror pattern))))
 IsSaid (Match budget text) request mode pattern reply = IsMatchReply (flags_bytes request.flags) text (mirror pattern) budget reply
 IsSaid (Steps text most) request mode pattern reply = IsTicksReply (flags_bytes request.flags) text (mirror pattern) most reply
+IsSaid Paint request mode pattern reply = reply ≡ tokens_reply (pattern_tokens (mirror pattern))
+IsSaid PaintColor request mode pattern reply = reply ≡ color_reply (encode_utf8_all (literal_text request.text)) (pattern_tokens (mirror pattern))
 
 -- the name and the spans of a refusal
 abbrev pub err_reply : Diagnostic → List ℕ
@@ -93,13 +99,15 @@ is_standard Standard = true
 abbrev pub input_of : Dialect → Request → Input
 input_of dialect request = record { form = request.form; text = request.text; flags = request.flags; text_offset = 0; flags_offset = 0; rules = rules_for dialect; standard_strings = is_standard dialect }
 
--- the forms that are answered: `support`, `match` and `steps` take the flags as they stand in the field, where a literal has them
+-- the forms that are answered: what is said of a pattern besides its spelling and its tree is said of literals, whose flags and text stand in the fields as they are
 abbrev pub IsAnswerable : Answering → Form → Type 0
 IsAnswerable Canonical form = ⊤
 IsAnswerable Display form = ⊤
 IsAnswerable (Support features) form = form ≡ Literal
 IsAnswerable (Match budget text) form = form ≡ Literal
 IsAnswerable (Steps text most) form = form ≡ Literal
+IsAnswerable Paint form = form ≡ Literal
+IsAnswerable PaintColor form = form ≡ Literal
 
 -- The line asks for this, in a form that is answered.
 pub record IsAsked (answering : Answering) (line : List ℕ) (request : Request) : Type 0 where

@@ -2,8 +2,8 @@ ghost use Rattle.std.specs.Prelude.{◌↔◌, ◌≡◌, ◌≤◌, ◌∷◌, 
 ghost use Rattle.rx_parser.specs.Inputs.{flags_chars, flags_length};
 ghost use Rattle.std.specs.Str.{chars};
 ghost use Rattle.rx_run.specs.declared.answer.Answering.{Answering as Answers};
-ghost use Rattle.rx_run.specs.declared.dialect.Dialect.TheVariants.{Default};
-ghost use Rattle.rx_run.specs.Command.{IsServing};
+ghost use Rattle.rx_run.specs.declared.answer.Answering.TheVariants.{PaintColor};
+ghost use Rattle.rx_run.specs.Command.{IsAnswering};
 ghost use Rattle.rx_run.specs.Reply.{IsAnswerable, IsAsked};
 ghost use Rattle.rx_run.specs.Request.{Request as Asked};
 
@@ -37,19 +37,25 @@ pub enum Answering<'a> {
 
     /// How many Ticks it takes to say what it matches first in this text, where they are so many at most.
     Steps { text: Subject<'a>, most: u64 },
+
+    /// The tokens of its tree.
+    Paint,
+
+    /// Its text in the colours of a terminal.
+    PaintColor,
 }
 
 impl<'a> Answering<'a> {
     /// What is said with these words, which no word for options precedes, or none where the words are not of those lists.
     pub fn parse(words: &'a [Text]) -> Option<Answering<'a>>
         ensures { MatchOption result
-            ((answering : Answers) → ¬ IsServing words.now Default answering)
-            (λ answering. IsServing words.now Default answering) }
+            ((answering : Answers) → ¬ IsAnswering words.now answering)
+            (λ answering. IsAnswering words.now answering) }
     {
         match words {
             [] => Some(Answering::Canonical),
-            [word] => display(word.as_str()),
-            [name, list] => support(name.as_str(), list.as_str()),
+            [word] => one_word(word.as_str()),
+            [name, second] => two_words(name.as_str(), second.as_str()),
             [name, first, second] => matching(name.as_str(), first.as_str(), second.as_str()),
             _ => None,
         }
@@ -63,9 +69,11 @@ impl Answering<'_> {
     {
         match self {
             Answering::Canonical | Answering::Display => true,
-            Answering::Support(_) | Answering::Match { .. } | Answering::Steps { .. } => {
-                matches!(form, Form::Literal)
-            }
+            Answering::Support(_)
+            | Answering::Match { .. }
+            | Answering::Steps { .. }
+            | Answering::Paint
+            | Answering::PaintColor => matches!(form, Form::Literal),
         }
     }
 
@@ -85,42 +93,52 @@ impl Answering<'_> {
     }
 }
 
-/// What is said with this word, or none where it is not `display`.
-fn display(word: &str) -> Option<Answering<'_>>
+/// What is said with this word, or none where it is neither `display` nor `paint`.
+fn one_word(word: &str) -> Option<Answering<'_>>
     ensures { MatchOption result
-        ((answering : Answers) → ¬ IsServing (chars word.now ∷ []) Default answering)
-        (λ answering. IsServing (chars word.now ∷ []) Default answering) }
+        ((answering : Answers) → ¬ IsAnswering (chars word.now ∷ []) answering)
+        (λ answering. IsAnswering (chars word.now ∷ []) answering) }
 {
     match word {
         "display" => Some(Answering::Display),
+        "paint" => Some(Answering::Paint),
         _ => None,
     }
 }
 
-/// What is said with these two words, or none where they are not `support` and a list of features.
-fn support<'a>(name: &'a str, list: &'a str) -> Option<Answering<'a>>
+/// What is said with these two words, or none where they are neither `support` and a list of features nor `paint color`.
+fn two_words<'a>(name: &'a str, second: &'a str) -> Option<Answering<'a>>
     ensures { MatchOption result
-        ((answering : Answers) → ¬ IsServing (chars name.now ∷ chars list.now ∷ []) Default answering)
-        (λ answering. IsServing (chars name.now ∷ chars list.now ∷ []) Default answering) }
+        ((answering : Answers) → ¬ IsAnswering (chars name.now ∷ chars second.now ∷ []) answering)
+        (λ answering. IsAnswering (chars name.now ∷ chars second.now ∷ []) answering) }
 {
-    if !is_support(name) {
-        return None;
+    match name {
+        "support" => {
+            let features = Features::parse(second)?;
+            Some(Answering::Support(features))
+        }
+        "paint" => in_color(second),
+        _ => None,
     }
-    let features = Features::parse(list)?;
-    Some(Answering::Support(features))
 }
 
-fn is_support(word: &str) -> bool
-    ensures { IsTrue result ↔ (word.now ≡ codes "support") }
+/// What is said with this word after `paint`, or none where it is not `color`.
+fn in_color(word: &str) -> Option<Answering<'_>>
+    ensures { MatchOption result
+        (¬ (word.now ≡ codes "color"))
+        (λ answering. (word.now ≡ codes "color") × (answering ≡ PaintColor)) }
 {
-    word == "support"
+    match word {
+        "color" => Some(Answering::PaintColor),
+        _ => None,
+    }
 }
 
 /// What is said with these three words, or none where they are not `match`, a budget and a text, or `steps`, a text and a number.
 fn matching<'a>(name: &'a str, first: &'a str, second: &'a str) -> Option<Answering<'a>>
     ensures { MatchOption result
-        ((answering : Answers) → ¬ IsServing (chars name.now ∷ chars first.now ∷ chars second.now ∷ []) Default answering)
-        (λ answering. IsServing (chars name.now ∷ chars first.now ∷ chars second.now ∷ []) Default answering) }
+        ((answering : Answers) → ¬ IsAnswering (chars name.now ∷ chars first.now ∷ chars second.now ∷ []) answering)
+        (λ answering. IsAnswering (chars name.now ∷ chars first.now ∷ chars second.now ∷ []) answering) }
 {
     match name {
         "match" => {

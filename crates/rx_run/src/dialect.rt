@@ -3,7 +3,7 @@ ghost use Rattle.std.specs.Str.{chars};
 ghost use Rattle.rx_parser.specs.Inputs.{rules_of};
 ghost use Rattle.rx_run.specs.declared.answer.Answering.{Answering as Answers};
 ghost use Rattle.rx_run.specs.declared.dialect.Dialect.{Dialect as Dialects};
-ghost use Rattle.rx_run.specs.Command.{IsServing, dialect_words};
+ghost use Rattle.rx_run.specs.Command.{IsAnswering, IsServing, dialect_words};
 ghost use Rattle.rx_run.specs.Reply.{is_standard, rules_for};
 
 use rx_base::Text;
@@ -39,7 +39,7 @@ impl Dialect {
     /// The dialect that words begin with, and the words after it.
     pub fn split(words: &[Text]) -> (Dialect, &[Text])
         ensures { (dialect : Dialects) (answering : Answers)
-            → IsServing words.now dialect answering ↔ ((dialect ≡ result.0) × IsServing result.1.now Dialect.Default answering) }
+            → IsServing words.now dialect answering ↔ ((dialect ≡ result.0) × IsAnswering result.1.now answering) }
     {
         let Some((word, rest)) = words.split_first() else {
             return (Dialect::Default, words);

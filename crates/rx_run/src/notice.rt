@@ -29,6 +29,7 @@ Words:
                    TEXT within a BUDGET of Ticks, in 1 to 10 digits:  ok <TAB> START..END <TAB> SLOTS  or  ok <TAB> none  or
                    spent  or  unsupported <TAB> flag (i) or SPAN. A group's slot is START..END too, or -
   steps TEXT MOST  the same, but it is said how many Ticks that takes:  ok <TAB> TICKS  or, above MOST, in 1 to 19 digits,  more
+  paint [color]    as without words, but form C is bad, and after  ok <TAB>  come tokens, START..END=KIND; or the pattern in colours
   strict           before one of these, or alone: no two groups may have one name, and \A, \z and \Z are no boundaries
   standard         before one of these, or alone: the arguments of a line of form C are read as ECMA-262 has them
   gen SEED COUNT   reads nothing; makes COUNT patterns (1 to 20000) from a SEED below 2147483648, reads and spells each,
@@ -39,8 +40,7 @@ Status:
   0  the input was read to its end, and every reply begins with ok; or what was asked for was written
   1  the input was read to its end, and some reply does not begin with ok
   2  the words are none of the above, or not UTF-8; nothing is read or written
-  3, 4, 5  a fault of reading; a fault of writing; out of memory
-  6  the input is longer than 67108864 bytes
+  3, 4, 5, 6  a fault of reading; a fault of writing; out of memory; the input is longer than 67108864 bytes
 
 Examples:
   printf 'L\tu\t\\x41{1,}\n' | regexp                          writes  ok <TAB> unicode <TAB> A+

@@ -9,6 +9,11 @@ ghost use Rattle.rx_ast.specs.Shown.{pattern_shown};
 ghost use Rattle.rx_model.specs.Spelling.Spelling.{spelling};
 ghost use Rattle.rx_parser.specs.Inputs.{flags_chars};
 ghost use Rattle.rx_match_reply.specs.Replies.{IsMatchReply, IsTicksReply};
+ghost use Rattle.rx_ast.specs.Parts.{IsNestedPattern};
+ghost use Rattle.rx_model.specs.Inputs.Texts.{literal_text};
+ghost use Rattle.rx_paint.specs.Runs.{pattern_tokens};
+ghost use Rattle.rx_paint_reply.specs.Colors.{color_reply};
+ghost use Rattle.rx_paint_reply.specs.Tokens.{tokens_reply};
 ghost use Rattle.rx_run.specs.Reply.{IsReply, IsSaid, begins_ok, canonical_reply, display_reply, err_reply, mode_name, support_reply};
 ghost use Rattle.rx_run.specs.Features.{needs_feature};
 
@@ -20,6 +25,7 @@ use crate::spans::add_spans;
 use rx_ast::Pattern;
 use rx_base::{Diagnostic, Failed, Fault, List, OutOfMemory, Sink, write_all};
 use rx_match_reply::{add_decimal, add_match, add_ticks};
+use rx_paint_reply::{add_colors, add_tokens};
 use rx_tools::support::has_unsupported_regular_expression_flags;
 use rx_tools::{Mode, append_canonical, display_text, read_pattern};
 use std::alloc::Global;
@@ -56,7 +62,8 @@ impl Replies {
             return self.add_refusal(b"bad\n");
         };
         let options = service.dialect.options();
-        match read_pattern(alloc, request.form, request.text, request.flags, options) {
+        let text = request.text_field();
+        match read_pattern(alloc, request.form, text, request.flags, options) {
             Ok((pattern, mode)) => {
                 self.add_said(alloc, &service.answering, &request, &pattern, mode)
             }
@@ -83,6 +90,8 @@ impl Replies {
         pattern: &Pattern,
         mode: Mode,
     ) -> Result<(), OutOfMemory>
+        requires nested { IsNestedPattern (mirror pattern.now) }
+        requires within { answering.now ≡ Answering.PaintColor → pattern.now.span.end ≤ length (literal_text request.now.text.now) }
         ensures { OnOk result ((reply : Sequence ℕ)
             × IsSaid answering.now (record { form = request.now.form; flags = flags_chars request.now.flags; text = chars request.now.text.now }) mode pattern.now reply
             × (self.new.bytes ≡ self.old.bytes ++ reply) × (self.new.all_ok ≡ (self.old.all_ok && begins_ok reply))) }
@@ -105,7 +114,33 @@ impl Replies {
             Answering::Steps { text, most } => {
                 self.add_steps(alloc, pattern, request.flags_field(), text.as_str(), *most)
             }
+            Answering::Paint => self.add_tokens(alloc, pattern),
+            Answering::PaintColor => self.add_colors(alloc, pattern, request.text),
         }
+    }
+
+    /// Adds the reply that lists the tokens of a tree.
+    fn add_tokens(&mut self, alloc: Global, pattern: &Pattern) -> Result<(), OutOfMemory>
+        requires { IsNestedPattern (mirror pattern.now) }
+        ensures bytes { OnOk result (self.new.bytes ≡ self.old.bytes ++ tokens_reply (pattern_tokens (mirror pattern.now))) }
+        ensures all_ok { self.new.all_ok ≡ self.old.all_ok }
+    {
+        add_tokens(alloc, &mut self.bytes, pattern)
+    }
+
+    /// Adds the reply that shows a literal in colours, by the tokens of its tree.
+    fn add_colors(
+        &mut self,
+        alloc: Global,
+        pattern: &Pattern,
+        text: &str,
+    ) -> Result<(), OutOfMemory>
+        requires nested { IsNestedPattern (mirror pattern.now) }
+        requires within { pattern.now.span.end ≤ length (literal_text text.now) }
+        ensures bytes { OnOk result (self.new.bytes ≡ self.old.bytes ++ color_reply (encode_utf8_all (literal_text (chars text.now))) (pattern_tokens (mirror pattern.now))) }
+        ensures all_ok { self.new.all_ok ≡ self.old.all_ok }
+    {
+        add_colors(alloc, &mut self.bytes, pattern, text)
     }
 
     /// Adds the reply that says what a tree matches in a text.

@@ -49,6 +49,13 @@ impl<'a> Request<'a> {
         self.flags.unwrap_or("")
     }
 
+    /// The field of the pattern.
+    pub fn text_field(&self) -> &'a str
+        ensures { result.now ≡ self.now.text.now }
+    {
+        self.text
+    }
+
     /// What a line asks for, or none where the line is longer than the limit, or is no UTF-8, or has fewer than two TABs, or its
     /// first field is neither `L` nor `C`.
     pub fn parse(line: &'a [u8]) -> Option<Request<'a>>

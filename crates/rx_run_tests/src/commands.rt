@@ -1,4 +1,4 @@
-//! The commands `display`, `support`, `match` and `steps`, with `strict` and `standard` before them and alone, the texts of `--help` and `--version`, and words that are none of the stated lists.
+//! The commands `display`, `support`, `match`, `steps` and `paint`, with `strict` and `standard` before them and alone, the texts of `--help` and `--version`, and words that are none of the stated lists.
 use crate::memory::{bytes_of, words_of};
 use rx_base::{List, MemorySink, MemorySource, OutOfMemory, Source};
 use rx_rows::{Call, agree, text_of};
@@ -115,7 +115,10 @@ steps b 2 | L«9»u«9»a|b«A»L«9»u«9»(a*)* => 1 [ok«9»2«A»more«A»]
 steps aaaaaaaaaa 1000000000000000000 | L«9»«9»a*b«A»L«9»«9»a* => 0 [ok«9»143«A»ok«9»12«A»]
 steps aaaaaaaaaa 142 | L«9»«9»a*b«A»L«9»i«9»a*b«A»L«9»u«9»\P{L}a => 1 [more«A»unsupported«9»flag«A»unsupported«9»0..5«A»]
 strict steps b 9 | L«9»«9»a|b => 0 [ok«9»2«A»]
-standard steps b 9 | L«9»«9»a|b«A»C«9»«9»"b" => 1 [ok«9»2«A»bad«A»]"#;
+standard steps b 9 | L«9»«9»a|b«A»C«9»«9»"b" => 1 [ok«9»2«A»bad«A»]
+paint | L«9»u«9»(a|\.)+«A»C«9»«9»"a" => 1 [ok«9»0..1=group 1..2=char 2..3=bar 3..5=escape 5..6=group 6..7=quantifier«A»bad«A»]
+strict paint | L«9»«9» => 0 [ok«9»0..4=group«A»]
+standard paint color | L«9»u«9»(a«A»C«9»«9»"a" => 1 [err«9»unterminated_pattern«9»0..2«A»bad«A»]"#;
 
 #[test]
 fn lines_are_answered(rt: HostRuntime) -> Result<(), Fail> {
@@ -195,6 +198,12 @@ steps 1 a => 2 []
 steps a 1 1 => 2 []
 steps a -1 => 2 []
 steps a 12345678901234567890 => 2 []
+paint x => 2 []
+Paint => 2 []
+paint paint => 2 []
+paint color x => 2 []
+paint strict => 2 []
+color => 2 []
 standard steps 1 a => 2 []
 --help x => 2 []
 --Help => 2 []

@@ -27,6 +27,7 @@ pub use leaf::{
 pub use order::nodes_in_order;
 pub use patterns::{RegexUnsupportedPatterns, has_unsupported_regular_expression_pattern};
 pub use patterns_in::has_unsupported_regular_expression_pattern_in;
+pub use siblings::{Siblings, children_of};
 pub use term::{
     walk_alternative, walk_capturing_group, walk_disjunction, walk_ignore_group,
     walk_lookaround_assertion, walk_pattern, walk_quantifier, walk_term,

@@ -25,7 +25,7 @@ use Rattle.rx_model.proofs.Spelling.AgainTrees.{disjunction_made}
 use Rattle.rx_model.proofs.Spelling.BackRows.{again_token, again_tokens, tokens_again}
 use Rattle.rx_model.proofs.Spelling.ClassAgain.{early_class}
 use Rattle.rx_model.proofs.Trees.Flat.{before, tokens_are}
-use Rattle.rx_model.proofs.Spelling.Known.{are_known, has_tokens}
+use Rattle.rx_model.proofs.Spelling.Known.{AreKnown, are_known, has_tokens}
 use Rattle.rx_model.proofs.Spelling.OneLines.{some_tokens}
 use Rattle.rx_model.proofs.Trees.Runs.{pattern_runs}
 use Rattle.rx_model.proofs.Spelling.TokenTexts.{token_refers, tokens_text, spelled_by_tokens}
@@ -102,19 +102,18 @@ module _ (mode : Mode) (rules : Rules) (p : Pattern) where
   its_shape : IsWellMade mode p → IsWellMade mode again
   its_shape w = subst (HasAlternatives mode) (sym its_tree) (made_alternatives mode (mirror_disjunction p.body).1 w)
 
-  its_row : (us : List CodePoint) → FitIn mode us → Reads mode rules p us → TokenRow (environment mode rules again) (tokens again) (literal_units (is_unicode mode) 0 (tokens_text mode false (tokens p))) []
-  its_row us fit r =
+  its_row : IsEarly rules p → IsWellMade mode p → AreKnown (environment mode rules p) (tokens p) → TokenRow (environment mode rules again) (tokens again) (literal_units (is_unicode mode) 0 (tokens_text mode false (tokens p))) []
+  its_row early shape known =
       let e = environment mode rules p in
       let text = tokens_text mode false (tokens p) in
-      let end = pattern_runs mode p r.spelled.shape in
+      let end = pattern_runs mode p shape in
       subst (λ d. TokenRow d (tokens again) (literal_units (is_unicode mode) 0 text) []) (sym its_environment)
       (subst (λ ts. TokenRow e ts (literal_units (is_unicode mode) 0 text) []) (sym its_tokens)
-      (tokens_again e mode refl (groups p) refl r.early.in_limit (names p) false (tokens p) [] false ([], end.0) end.1 (are_known e (tokens p) us [] fit r.spelled.row) r.early.tokens_obey 0))
+      (tokens_again e mode refl (groups p) refl early.in_limit (names p) false (tokens p) [] false ([], end.0) end.1 known early.tokens_obey 0))
 
-pub spelled_is_read_back : (mode : Mode) (rules : Rules) (p : Pattern) (us : List CodePoint) → Reads mode rules p us → FitIn mode us → us ≢ [] → IsReadBack mode rules p
-spelled_is_read_back mode rules p us r fit h =
-    let e = environment mode rules p in
-    let some = some_tokens e false (tokens p) (are_known e (tokens p) us [] fit r.spelled.row) (has_tokens e (tokens p) us r.spelled.row h) in
+-- So is that of a tree which nothing spells as it is, where each of its tokens is known.
+pub known_is_read_back : (mode : Mode) (rules : Rules) (p : Pattern) → IsEarly rules p → IsWellMade mode p → AreKnown (environment mode rules p) (tokens p) → tokens_text mode false (tokens p) ≢ [] → IsReadBack mode rules p
+known_is_read_back mode rules p early shape known some =
     let units : literal_units (is_unicode mode) 0 (tokens_text mode false (tokens p)) ≡ literal_units (is_unicode mode) 0 (literal_text (spelling (bare p) mode)) =
     ap (literal_units (is_unicode mode) 0) (sym (literal_text_same (tokens_text mode false (tokens p)) some) ∙ ap literal_text (sym (spelled_by_tokens mode p))) in
     record {
@@ -122,9 +121,15 @@ spelled_is_read_back mode rules p us r fit h =
       same = its_bare mode rules p;
       reads = record {
         spelled = record {
-          shape = its_shape mode rules p r.spelled.shape;
-          row = subst (λ units. TokenRow (environment mode rules (again mode rules p)) (tokens (again mode rules p)) units []) units (its_row mode rules p us fit r);
+          shape = its_shape mode rules p shape;
+          row = subst (λ units. TokenRow (environment mode rules (again mode rules p)) (tokens (again mode rules p)) units []) units (its_row mode rules p early shape known);
         };
-        early = its_early mode rules p r.early;
+        early = its_early mode rules p early;
       };
     }
+
+pub spelled_is_read_back : (mode : Mode) (rules : Rules) (p : Pattern) (us : List CodePoint) → Reads mode rules p us → FitIn mode us → us ≢ [] → IsReadBack mode rules p
+spelled_is_read_back mode rules p us r fit h =
+    let e = environment mode rules p in
+    let known = are_known e (tokens p) us [] fit r.spelled.row in
+    known_is_read_back mode rules p r.early r.spelled.shape known (some_tokens e false (tokens p) known (has_tokens e (tokens p) us r.spelled.row h))

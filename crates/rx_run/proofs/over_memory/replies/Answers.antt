@@ -1,9 +1,10 @@
-use Rattle.std.proofs.Common.{◌≡◌, ◌∙◌, ◌<◌, ◌≤◌, ◌++◌, ap, subst, inl, inr, ℕ, List, [], Some, length, length-append, arith, rules}
+use Rattle.std.proofs.Common.{◌≡◌, ◌∙◌, ◌<◌, ◌≤◌, ◌++◌, refl, ap, subst, inl, inr, ℕ, List, [], Some, length, length-append, arith, rules}
 use Rattle.std.specs.List.{AllZip, concat}
 use Rattle.std.proofs.lemmas.Grind.{common_steps}
 use Rattle.rx_base.specs.FaultCounts.{Rose}
 use Rattle.rx_run.specs.declared.command.Command.TheVariants.{Serve}
 use Rattle.rx_run.specs.declared.run.Status.{Status}
+use Rattle.rx_run.specs.Command.{IsServing}
 use Rattle.rx_run.specs.Lines.{lines_of}
 use Rattle.rx_run.specs.Outcome.{IsBegun, Reads, ReadsAndWrites}
 use Rattle.rx_run.specs.Reply.{IsReply, without_words}
@@ -21,6 +22,10 @@ past_room input left taken drawn drawn' room full r =
     let past : room < length (concat begun.replies) = omega (arith, ap length begun.front, ap length written, length-append r.1 begun.unwritten) in
     (r.0, left, begun.lines, begun.later, begun.replies, r.2.consumed, begun.lines_are, begun.answered, past)
 
+-- no words ask for what is said without words
+no_words : (words : List (List ℕ)) → words ≡ [] → IsServing words without_words.dialect without_words.answering
+no_words words none = record { rest = []; words_are = none; says = refl }
+
 rose_above : (n : ℕ) → Rose 0 n → 0 < n
 rose_above n rose = elim rose [ inl above ↦ above | inr last ↦ omega arith ]
 
@@ -36,26 +41,26 @@ returns-clause-write_fault c = λ is.
     let fault : 0 < sink.faults = rose_above sink.faults (rw made at run.write_fault is) in
     let full : length sink.taken ≡ c.args.room = c.bytes.ensures.full fails fault ∙ room in
     let P : Status → Type 0 = λ s. ReadsAndWrites (Some c.args.input.now) (Some source.left) 0 source.drawn (Some []) (Some sink.taken) (Outcome without_words s) in
-    past_room c.args.input.now source.left sink.taken 0 source.drawn c.args.room full (subst P is (rw (made, c.new-source.ensures) at (run.content without_words none)))
+    past_room c.args.input.now source.left sink.taken 0 source.drawn c.args.room full (subst P is (rw (made, c.new-source.ensures) at (run.content without_words (no_words c.as_slice.result.now none))))
 
 pub returns-clause-all_ok : goal.returns-clause-all_ok
 returns-clause-all_ok c =
     let none : c.as_slice.result.now ≡ [] = c.as_slice.ensures ∙ c.new-words.ensures in
-    let content = c.run-status.ensures.content without_words none in
-    let end = c.run-status.ensures.end without_words none in
+    let content = c.run-status.ensures.content without_words (no_words c.as_slice.result.now none) in
+    let end = c.run-status.ensures.end without_words (no_words c.as_slice.result.now none) in
     search rules
 
 pub returns-clause-some_refused : goal.returns-clause-some_refused
 returns-clause-some_refused c =
     let none : c.as_slice.result.now ≡ [] = c.as_slice.ensures ∙ c.new-words.ensures in
-    let content = c.run-status.ensures.content without_words none in
-    let end = c.run-status.ensures.end without_words none in
+    let content = c.run-status.ensures.content without_words (no_words c.as_slice.result.now none) in
+    let end = c.run-status.ensures.end without_words (no_words c.as_slice.result.now none) in
     grind (arith, common_steps)
 
 pub returns-clause-usage : goal.returns-clause-usage
 returns-clause-usage c = λ is.
     let none : c.as_slice.result.now ≡ [] = c.as_slice.ensures ∙ c.new-words.ensures in
-    c.run-status.ensures.usage.0 is (Serve without_words, none)
+    c.run-status.ensures.usage.0 is (Serve without_words, no_words c.as_slice.result.now none)
 
 -- more than the limit was read
 past_limit : (input left read : List ℕ) (drawn : ℕ) → Reads (Some input) (Some left) 0 drawn read → 67108864 < drawn → 67108864 < length input
@@ -67,6 +72,6 @@ pub returns-clause-too_much : goal.returns-clause-too_much
 returns-clause-too_much c = λ is.
     let none : c.as_slice.result.now ≡ [] = c.as_slice.ensures ∙ c.new-words.ensures in
     let source = c.run-status.new.source in
-    let content = rw c.new-source.ensures at (c.run-status.ensures.content without_words none) in
+    let content = rw c.new-source.ensures at (c.run-status.ensures.content without_words (no_words c.as_slice.result.now none)) in
     let past = rw c.new-source.ensures at (c.run-status.ensures.too_much.0 is) in
     past_limit c.args.input.now source.left content.0 source.drawn content.2 past

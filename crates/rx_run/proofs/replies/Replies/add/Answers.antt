@@ -1,4 +1,4 @@
-use Rattle.std.proofs.Common.{◌≡◌, ◌∙◌, refl, sym, ap, subst, Ok, Err, Bool, false, ◌&&◌, rules}
+use Rattle.std.proofs.Common.{◌≡◌, ◌∙◌, refl, sym, ap, subst, Ok, Err, Bool, false, ◌&&◌, List, ℕ, length, arith, rules}
 use Rattle.std.specs.Str.{chars}
 use Rattle.std.proofs.lemmas.Bool.{and_right}
 use Rattle.std.proofs.lemmas.Result.{on_ok_weaker}
@@ -7,10 +7,14 @@ use Rattle.rx_ast.specs.declared.term.Pattern.{Pattern}
 use Rattle.rx_model.specs.declared.mode.Mode.{Mode}
 use Rattle.rx_model.specs.Reading.Headline.{IsAnswered}
 use Rattle.rx_tools.specs.Spelled.{read_of}
-use Rattle.rx_tools.proofs.CanonicalAnswers.{by_itself}
+use Rattle.rx_base.specs.declared.span.Span.{Span}
+use Rattle.rx_model.specs.declared.form.Form.TheVariants.{Literal}
+use Rattle.rx_model.specs.Inputs.Texts.{literal_text}
+use Rattle.rx_paint_reply.proofs.Nesting.{read_nested, read_span}
+use Rattle.rx_tools.proofs.CanonicalAnswers.{by_itself, read_as}
 use Rattle.rx_parser.specs.Inputs.{flags_chars, rules_of}
 use Rattle.rx_run.specs.Request.{Request}
-use Rattle.rx_run.specs.Reply.{bad, bad_reply, err_reply, input_of, is_standard, rules_for}
+use Rattle.rx_run.specs.Reply.{IsAnswerable, bad, bad_reply, err_reply, input_of, is_standard, rules_for}
 use Rattle.rx_run.proofs.Answering.{err_reply_is, said_is}
 use Rattle.rx_run.proofs.replies.Replies.add.Goals as goal
 
@@ -23,6 +27,31 @@ returns-in_default c =
     let add = c.add_refusal in
     on_ok_weaker add.result (λ added. (bad_reply, bad c.in_default.ensures.asked, added, turned add.new.self.all_ok c.args.self.now.all_ok add.ensures.all_ok)) add.ensures.bytes
 
+pub add_said-requires-clause-nested : goal.add_said-requires-clause-nested
+add_said-requires-clause-nested c =
+    let request : Request = record { form = c.in-Some.request.form; flags = flags_chars c.in-Some.request.flags; text = chars c.in-Some.request.text.now } in
+    let it : Pattern × Mode = (c.in-Ok.pattern, c.in-Ok.mode) in
+    let options = c.options-options.result in
+    read_nested (input_of c.args.service.now.dialect request) c.in-Ok.mode c.in-Ok.pattern c.text_field-text.result.now c.text_field-text.utf8 (ap chars (sym c.text_field-text.ensures))
+    (read_as read_of (input_of c.args.service.now.dialect request) it
+    (by_itself read_of request.form request.text request.flags (Ok it) options.pattern_span_offset options.flags_span_offset (rules_of options) (rules_for c.args.service.now.dialect)
+    options.standard_strings (is_standard c.args.service.now.dialect) c.options-options.ensures.pattern_span_offset c.options-options.ensures.flags_span_offset c.options-options.ensures.rules
+    c.options-options.ensures.standard_strings (subst (λ (t : List ℕ). IsAnswered read_of (record { form = request.form; text = chars t; flags = request.flags; text_offset = options.pattern_span_offset; flags_offset = options.flags_span_offset; rules = rules_of options; standard_strings = options.standard_strings }) (Ok it)) c.text_field-text.ensures c.in-Ok.ensures.headline)))
+
+pub add_said-requires-clause-within : goal.add_said-requires-clause-within
+add_said-requires-clause-within c = λ in_color.
+    let request : Request = record { form = c.in-Some.request.form; flags = flags_chars c.in-Some.request.flags; text = chars c.in-Some.request.text.now } in
+    let it : Pattern × Mode = (c.in-Ok.pattern, c.in-Ok.mode) in
+    let options = c.options-options.result in
+    let literal : request.form ≡ Literal = subst (λ answering. IsAnswerable answering request.form) in_color c.in-Some.ensures.asked.answerable in
+    let span = ap (λ (s : Span). s.end) (read_span (input_of c.args.service.now.dialect request) c.in-Ok.mode c.in-Ok.pattern c.text_field-text.result.now c.text_field-text.utf8 (ap chars (sym c.text_field-text.ensures)) literal refl
+    (read_as read_of (input_of c.args.service.now.dialect request) it
+    (by_itself read_of request.form request.text request.flags (Ok it) options.pattern_span_offset options.flags_span_offset (rules_of options) (rules_for c.args.service.now.dialect)
+    options.standard_strings (is_standard c.args.service.now.dialect) c.options-options.ensures.pattern_span_offset c.options-options.ensures.flags_span_offset c.options-options.ensures.rules
+    c.options-options.ensures.standard_strings (subst (λ (t : List ℕ). IsAnswered read_of (record { form = request.form; text = chars t; flags = request.flags; text_offset = options.pattern_span_offset; flags_offset = options.flags_span_offset; rules = rules_of options; standard_strings = options.standard_strings }) (Ok it)) c.text_field-text.ensures c.in-Ok.ensures.headline)))) in
+    let same = ap (λ (t : List ℕ). length (literal_text t)) c.text_field-text.ensures in
+    omega (arith, span, same)
+
 pub returns-in-Ok : goal.returns-in-Ok
 returns-in-Ok c =
     let request : Request = record { form = c.in-Some.request.form; flags = flags_chars c.in-Some.request.flags; text = chars c.in-Some.request.text.now } in
@@ -34,7 +63,7 @@ returns-in-Ok c =
       said_is c.args.line.now request it added.0 c.in-Some.ensures.asked
           (by_itself read_of request.form request.text request.flags (Ok it) options.pattern_span_offset options.flags_span_offset (rules_of options) (rules_for c.args.service.now.dialect)
           options.standard_strings (is_standard c.args.service.now.dialect) c.options-options.ensures.pattern_span_offset c.options-options.ensures.flags_span_offset c.options-options.ensures.rules
-          c.options-options.ensures.standard_strings c.in-Ok.ensures.headline) added.1,
+          c.options-options.ensures.standard_strings (subst (λ (t : List ℕ). IsAnswered read_of (record { form = request.form; text = chars t; flags = request.flags; text_offset = options.pattern_span_offset; flags_offset = options.flags_span_offset; rules = rules_of options; standard_strings = options.standard_strings }) (Ok it)) c.text_field-text.ensures c.in-Ok.ensures.headline)) added.1,
       added.2,
       added.3,
     ))
@@ -50,8 +79,9 @@ returns-in-Err-Diagnostic c =
     by_itself read_of request.form request.text request.flags (Err (fault.Diagnostic cause)) options.pattern_span_offset options.flags_span_offset (rules_of options) (rules_for c.args.service.now.dialect)
     options.standard_strings (is_standard c.args.service.now.dialect) c.options-options.ensures.pattern_span_offset c.options-options.ensures.flags_span_offset c.options-options.ensures.rules
     c.options-options.ensures.standard_strings
-    (subst (λ r. IsAnswered read_of (record { form = request.form; text = request.text; flags = request.flags; text_offset = options.pattern_span_offset; flags_offset = options.flags_span_offset; rules = rules_of options; standard_strings = options.standard_strings }) r)
-    is c.read_pattern.ensures.headline) in
+    (subst (λ (t : List ℕ). IsAnswered read_of (record { form = request.form; text = chars t; flags = request.flags; text_offset = options.pattern_span_offset; flags_offset = options.flags_span_offset; rules = rules_of options; standard_strings = options.standard_strings }) (Err (fault.Diagnostic cause))) c.text_field-text.ensures
+    (subst (λ r. IsAnswered read_of (record { form = request.form; text = chars c.text_field-text.result.now; flags = request.flags; text_offset = options.pattern_span_offset; flags_offset = options.flags_span_offset; rules = rules_of options; standard_strings = options.standard_strings }) r)
+    is c.read_pattern.ensures.headline)) in
     let add = c.add_err in
     on_ok_weaker add.result (λ added. (err_reply cause, err_reply_is c.args.line.now request cause c.in-Some.ensures.asked answered, added, turned add.new.self.all_ok c.args.self.now.all_ok add.ensures.all_ok))
     (rw c.in-Err-Diagnostic.field-0-is at add.ensures.bytes)

@@ -12,6 +12,10 @@ use Rattle.rx_run.specs.declared.answer.Answering.{Answering}
 use Rattle.rx_run.specs.Features.{needs_feature}
 use Rattle.rx_run.specs.Reply.{IsSaid, canonical_reply, display_reply, flags_bytes, support_reply}
 use Rattle.rx_run.specs.Request.{Request}
+use Rattle.rx_model.specs.Inputs.Texts.{literal_text}
+use Rattle.rx_paint.specs.Runs.{pattern_tokens}
+use Rattle.rx_paint_reply.specs.Colors.{color_reply}
+use Rattle.rx_paint_reply.specs.Tokens.{tokens_reply}
 use Rattle.rx_run.proofs.Answering.{ok_added}
 use Rattle.rx_run.proofs.replies.Replies.add_said.Goals as goal
 
@@ -32,3 +36,21 @@ returns-in-Display c =
     (ok_added (IsSaid c.args.answering.now request c.args.mode c.args.pattern.now) reply c.args.self.now.bytes c.add_display.new.self.bytes c.args.self.now.all_ok c.add_display.new.self.all_ok
     (subst (λ (a : Answering). IsSaid a request c.args.mode c.args.pattern.now reply) (sym c.in-Display.is) refl) refl c.add_display.ensures.all_ok)
     c.add_display.ensures.bytes
+
+pub returns-in-Paint : goal.returns-in-Paint
+returns-in-Paint c =
+    let request : Request = record { form = c.args.request.now.form; flags = flags_chars c.args.request.now.flags; text = chars c.args.request.now.text.now } in
+    let reply = tokens_reply (pattern_tokens (mirror c.args.pattern.now)) in
+    on_ok_weaker c.add_tokens.result
+    (ok_added (IsSaid c.args.answering.now request c.args.mode c.args.pattern.now) reply c.args.self.now.bytes c.add_tokens.new.self.bytes c.args.self.now.all_ok c.add_tokens.new.self.all_ok
+    (subst (λ (a : Answering). IsSaid a request c.args.mode c.args.pattern.now reply) (sym c.in-Paint.is) refl) refl c.add_tokens.ensures.all_ok)
+    c.add_tokens.ensures.bytes
+
+pub returns-in-PaintColor : goal.returns-in-PaintColor
+returns-in-PaintColor c =
+    let request : Request = record { form = c.args.request.now.form; flags = flags_chars c.args.request.now.flags; text = chars c.args.request.now.text.now } in
+    let reply = color_reply (encode_utf8_all (literal_text (chars c.args.request.now.text.now))) (pattern_tokens (mirror c.args.pattern.now)) in
+    on_ok_weaker c.add_colors.result
+    (ok_added (IsSaid c.args.answering.now request c.args.mode c.args.pattern.now) reply c.args.self.now.bytes c.add_colors.new.self.bytes c.args.self.now.all_ok c.add_colors.new.self.all_ok
+    (subst (λ (a : Answering). IsSaid a request c.args.mode c.args.pattern.now reply) (sym c.in-PaintColor.is) refl) refl c.add_colors.ensures.all_ok)
+    c.add_colors.ensures.bytes

@@ -1,0 +1,12 @@
+pub mod Deepest
+pub mod Edges
+pub mod Filled
+pub mod LongestRuns
+pub mod NestingWalk
+pub mod NoOther
+pub mod OneOwner
+pub mod Parts
+pub mod Patterns
+pub mod Relabelled
+pub mod Runs
+pub mod Steps
