@@ -4,7 +4,7 @@ use Rattle.std.specs.List.{join_with_byte}
 use Rattle.rx_trace.specs.declared.answer.Found.{Found}
 use Rattle.rx_trace.specs.declared.answer.Slot.{Slot}
 use Rattle.rx_trace.specs.declared.answer.Slot.TheVariants.{Unset, Set}
-use Rattle.rx_match_reply.specs.Places.{range_text}
+use Rattle.rx_reply.specs.Places.{range_text}
 
 abbrev pub slot_text : Slot → List ℕ
 slot_text Unset = codes "-"

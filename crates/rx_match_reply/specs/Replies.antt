@@ -10,7 +10,7 @@ use Rattle.rx_trace.specs.declared.answer.MatchFault.{MatchFault}
 use Rattle.rx_trace.specs.declared.answer.MatchFault.TheVariants as fault
 use Rattle.rx_trace.specs.Answers.{IsAnswer, IsTickCount}
 use Rattle.rx_match_reply.specs.Found.{found_reply}
-use Rattle.rx_match_reply.specs.Places.{span_text}
+use Rattle.rx_reply.specs.Places.{span_text}
 
 -- how a pattern with these flags is matched: `i`, `m` and `s` are flags of the match, and `u` and `v` say that its units are characters
 abbrev pub match_flags : List ℕ → MatchFlags

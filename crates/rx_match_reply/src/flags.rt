@@ -3,6 +3,7 @@ ghost use Rattle.rx_visit.specs.Flags.{holds};
 ghost use Rattle.rx_match_reply.specs.Replies.{match_flags};
 
 use rx_match::MatchFlags;
+use rx_reply::has_flag;
 
 /// How a pattern with these flags is matched.
 pub fn match_flags(letters: &str) -> MatchFlags
@@ -21,10 +22,4 @@ fn has_unicode_mode(letters: &[u8]) -> bool
     ensures { result ≡ (holds letters.now 117 || holds letters.now 118) }
 {
     has_flag(letters, b'u') || has_flag(letters, b'v')
-}
-
-fn has_flag(letters: &[u8], flag: u8) -> bool
-    ensures { result ≡ holds letters.now flag }
-{
-    letters.contains(&flag)
 }

@@ -1,9 +1,9 @@
 ghost use Rattle.std.specs.Prelude.{◌≡◌, ◌++◌, OnOk};
 ghost use Rattle.rx_match_reply.specs.Found.{found_reply, later_slots_text, slot_text, slots_text};
 
-use crate::places::add_range;
 use rx_base::{List, OutOfMemory};
 use rx_match::{Found, Slot};
+use rx_reply::add_range;
 
 /// Adds the reply that says where a match stands, and what each group matched.
 pub fn add_found(bytes: &mut List<u8>, found: &Found) -> Result<(), OutOfMemory>

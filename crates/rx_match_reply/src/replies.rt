@@ -1,16 +1,15 @@
 ghost use Rattle.std.specs.Prelude.{◌≡◌, ◌++◌, ℕ, List as Sequence, OnOk, codes, decimal};
 ghost use Rattle.std.specs.Str.{chars};
 ghost use Rattle.rx_ast.specs.Tree.{mirror};
-ghost use Rattle.rx_match_reply.specs.Places.{span_text};
+ghost use Rattle.rx_reply.specs.Places.{span_text};
 ghost use Rattle.rx_match_reply.specs.Replies.{IsAdded, IsMatchReply, IsTicksReply, answer_reply, fault_reply, ticks_reply};
 
-use crate::decimal::add_decimal;
 use crate::flags::match_flags;
 use crate::found::add_found;
-use crate::places::add_span;
 use rx_ast::Pattern;
 use rx_base::{List, OutOfMemory, Span};
 use rx_match::{Found, MatchFault, search, ticks_of_search, units_of};
+use rx_reply::{add_decimal, add_span};
 use std::alloc::Global;
 
 /// Adds the reply that says what a pattern with these flags matches first in a text, within a budget of Ticks. After an error a part of the reply may stand

@@ -28,6 +28,8 @@ use Rattle.rx_model.specs.Trees.Events as event
 use Rattle.rx_model.specs.Trees.Events.{Events, disjunction_events}
 use Rattle.rx_model.proofs.Inputs.Asked.{literal_asks, one_asked}
 use Rattle.rx_model.proofs.Reading.Spanned.{spanned_is_nested}
+use Rattle.rx_paint.specs.Runs.{HaveNoOther, pattern_tokens}
+use Rattle.rx_paint.proofs.NoOther.{no_token_is_other}
 
 -- units that end no earlier than those before them, nor than a first offset
 abbrev Rise : ℕ → List CodePoint → Type 0
@@ -75,9 +77,16 @@ asked_rise input mode us bytes utf8 is asks =
     (some_rise input.form asks.own (own_rise input.standard_strings (is_unicode mode) input.form cs (encodes cs) asks.own (cs, (s, refl)) (sym (chars-encodes cs s)) asks.own_are))
 
 module _ (input : Input) (mode : Mode) (p : Pattern) (bytes : List ℕ) (utf8 : IsUtf8 bytes) (is : input.text ≡ chars bytes) (read : IsReadAs input mode p) where
+  rising : (i j : ℕ) → i ≤ j → offset_at (first_offset input.form) read.units i ≤ offset_at (first_offset input.form) read.units j
+  rising = offsets_rise (first_offset input.form) read.units (asked_rise input mode read.units bytes utf8 is read.asked)
+
   -- A pattern that is read is nested.
   pub read_nested : IsNestedPattern (mirror p)
-  read_nested = spanned_is_nested mode input.rules p read.units (first_offset input.form) input.text_offset (offsets_rise (first_offset input.form) read.units (asked_rise input mode read.units bytes utf8 is read.asked)) read.spanned
+  read_nested = spanned_is_nested mode input.rules p read.units (first_offset input.form) input.text_offset rising read.spanned
+
+  -- It has no token Other.
+  pub read_no_other : HaveNoOther (pattern_tokens (mirror p))
+  read_no_other = no_token_is_other mode input.rules p read.units (first_offset input.form) input.text_offset rising read.spanned
 
 -- a row of events that ends with the end of a node leads to its offset
 row_end : (e : Environment) (o : ℕ → ℕ) (es : Events) (n i j : ℕ) (us rest : List CodePoint) → Row e o (es ++ (event.leave n ∷ [])) i us j rest → n ≡ o j

@@ -32,7 +32,7 @@ plain = rendition (codes "0")
 abbrev pub hex_digit : ℕ → ℕ
 hex_digit n = if nat_lt n 10 then 48 + n else 87 + n
 
--- A byte as it is shown: a control character, as LF or ESC, by the escape that matches it, `\x` and two hexadecimal digits; any other by itself.
+-- A byte as it is shown: a control character, as LF or ESC, as `\x` and two hexadecimal digits; any other by itself.
 abbrev pub shown_byte : ℕ → List ℕ
 shown_byte b = if nat_lt b 32 || nat_eq b 127 then codes "\\x" ++ (hex_digit (b / 16) ∷ hex_digit (b % 16) ∷ []) else b ∷ []
 

@@ -1,7 +1,7 @@
 -- How tokens are written, in bytes.
 use Rattle.std.specs.Prelude.{ℕ, List, [], ◌∷◌, ◌++◌, map, codes}
-use Rattle.std.specs.Fmt.{decimal}
 use Rattle.std.specs.List.{join_with_byte}
+use Rattle.rx_reply.specs.Places.{span_text}
 use Rattle.rx_paint.specs.declared.token.Kind.{Kind}
 use Rattle.rx_paint.specs.declared.token.Kind.TheVariants.{Char, Escape, Dot, Set, Class, Assert, Group, Modifier, Quantifier, Reference, Bar, Other}
 use Rattle.rx_paint.specs.declared.token.Token.{Token}
@@ -23,7 +23,7 @@ kind_name Other = codes "other"
 
 -- where a token stands, and its kind: `start..end=kind`
 abbrev pub token_text : Token → List ℕ
-token_text t = decimal t.span.start ++ codes ".." ++ decimal t.span.end ++ codes "=" ++ kind_name t.kind
+token_text t = span_text t.span ++ codes "=" ++ kind_name t.kind
 
 -- tokens with blanks (the byte 32) between
 abbrev pub tokens_text : List Token → List ℕ

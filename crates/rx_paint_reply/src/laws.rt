@@ -11,7 +11,7 @@ ghost use Rattle.rx_model.specs.Inputs.Inputs.{Input};
 ghost use Rattle.rx_model.specs.Inputs.Texts.{literal_text};
 ghost use Rattle.rx_model.specs.Reading.Headline.{IsReadAs};
 ghost use Rattle.rx_paint.specs.declared.token.Token.{Token};
-ghost use Rattle.rx_paint.specs.Runs.{Tile, pattern_tokens};
+ghost use Rattle.rx_paint.specs.Runs.{HaveNoOther, Tile, pattern_tokens};
 ghost use Rattle.rx_paint_reply.specs.Colors.{color_reply, shown_text};
 ghost use Rattle.rx_paint_reply.specs.Escapes.{HaveNoControl, without_escapes};
 
@@ -28,6 +28,11 @@ pub fn text_is_shown()
 /// A pattern that is read is nested.
 pub fn read_is_nested()
     ensures { (input : Input) (mode : Mode) (p : Pattern) (bytes : List ℕ) → IsUtf8 bytes → input.text ≡ chars bytes → IsReadAs input mode p → IsNestedPattern (mirror p) }
+{}
+
+/// A pattern that is read has no token Other.
+pub fn read_has_no_other()
+    ensures { (input : Input) (mode : Mode) (p : Pattern) (bytes : List ℕ) → IsUtf8 bytes → input.text ≡ chars bytes → IsReadAs input mode p → HaveNoOther (pattern_tokens (mirror p)) }
 {}
 
 /// A pattern that is read from a literal has the span of its text.

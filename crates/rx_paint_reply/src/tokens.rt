@@ -1,10 +1,9 @@
 ghost use Rattle.std.specs.Prelude.{◌≡◌, ◌++◌, OnOk};
-ghost use Rattle.std.specs.Fmt.{decimal};
 ghost use Rattle.rx_paint_reply.specs.Tokens.{kind_name, later_tokens_text, token_text, tokens_text};
 
-use itoa::Buffer;
 use rx_base::{List, OutOfMemory};
 use rx_paint::{Kind, Token};
+use rx_reply::add_span;
 
 /// Adds tokens, with blanks between.
 pub(crate) fn add_tokens_text(bytes: &mut List<u8>, tokens: &[Token]) -> Result<(), OutOfMemory>
@@ -32,19 +31,9 @@ fn add_later_tokens(bytes: &mut List<u8>, tokens: &[Token]) -> Result<(), OutOfM
 fn add_token(bytes: &mut List<u8>, token: Token) -> Result<(), OutOfMemory>
     ensures { OnOk result (bytes.new ≡ bytes.old ++ token_text token) }
 {
-    add_offset(bytes, token.span.start)?;
-    bytes.extend_from_slice(b"..")?;
-    add_offset(bytes, token.span.end)?;
+    add_span(bytes, token.span)?;
     bytes.extend_from_slice(b"=")?;
     bytes.extend_from_slice(kind_name(token.kind).as_bytes())
-}
-
-/// Adds an offset in decimal.
-fn add_offset(bytes: &mut List<u8>, offset: u32) -> Result<(), OutOfMemory>
-    ensures { OnOk result (bytes.new ≡ bytes.old ++ decimal offset) }
-{
-    let mut buffer = Buffer::new();
-    bytes.extend_from_slice(buffer.format(offset).as_bytes())
 }
 
 fn kind_name(kind: Kind) -> &'static str

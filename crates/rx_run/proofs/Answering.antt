@@ -12,8 +12,8 @@ use Rattle.rx_model.specs.Reading.Headline.{IsAnswered}
 use Rattle.rx_tools.specs.Spelled.{read_of}
 use Rattle.rx_tools.specs.Utf8.{utf8}
 use Rattle.rx_tools.proofs.CanonicalAnswers.{first_of, read_as}
-use Rattle.rx_run.specs.declared.answer.Answering.{Answering}
-use Rattle.rx_run.specs.declared.service.Service.{Service}
+use Rattle.rx_command.specs.declared.answer.Answering.{Answering}
+use Rattle.rx_command.specs.declared.service.Service.{Service}
 use Rattle.rx_run.specs.Request.{Request}
 use Rattle.rx_run.specs.Reply.{IsAsked, IsReply, IsSaid, bad, said, err, bad_reply, begins_ok, canonical_reply, err_reply, input_of, mode_name}
 use Rattle.rx_run.specs.Serving.{kept}

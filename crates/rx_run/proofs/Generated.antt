@@ -45,7 +45,8 @@ use Rattle.rx_model.proofs.Refusals.Places.{same_place}
 use Rattle.rx_model.proofs.Refusals.Refusals.{class_laws}
 use Rattle.rx_model.proofs.Spelling.Backs.{units-append, values_literal}
 use Rattle.rx_model.specs.declared.rules.Rules.{Rules}
-use Rattle.rx_run.specs.Reply.{both_rules}
+use Rattle.rx_command.specs.Dialects.{both_rules}
+use Rattle.rx_run.specs.Reply.{}
 use Rattle.rx_run.specs.Generator.{asked, drawn, next_state, pattern_text, piece, pieces_text}
 
 -- Where the end of a text is reached with no group open no refusal holds at a place.

@@ -21,7 +21,8 @@ use Rattle.rx_run.specs.Generator.{AreSized, IsGenerated, IsSized, asked, drawn,
 use Rattle.rx_run.proofs.Generated.{not_refused}
 use Rattle.rx_run.proofs.Servings.{AllZip-append}
 use Rattle.rx_model.specs.declared.rules.Rules.{Rules}
-use Rattle.rx_run.specs.Reply.{both_rules}
+use Rattle.rx_command.specs.Dialects.{both_rules}
+use Rattle.rx_run.specs.Reply.{}
 
 -- one more piece of those that are to come
 pub pieces_more : (n i x x' : ℕ) (text more all : List ℕ) → i < n → text ++ pieces_text (n - i) x ≡ all → x' ≡ next_state x → more ≡ text ++ piece (drawn x')

@@ -5,8 +5,5 @@ pub mod Answering
 pub mod Keeping
 pub mod Servings
 pub mod Progresses
-pub mod Plain
-pub mod FeatureLists
-pub mod Commands
 pub mod Generated
 pub mod Generating

@@ -2,7 +2,7 @@
 use Rattle.std.proofs.Common.{◌≡◌, sym, subst, ℕ, Bool, true, List, [], ◌++◌, append-nil, length-append, Option, arith}
 use Rattle.std.proofs.KnownBytes.{Appends-nil, Appends-trans, Consumes-nil, Consumes-trans}
 use Rattle.std.specs.Io.KnownBytes.{Appends}
-use Rattle.rx_run.specs.declared.service.Service.{Service}
+use Rattle.rx_command.specs.declared.service.Service.{Service}
 use Rattle.rx_run.specs.Outcome.{IsAnswered, IsBegun, Reads, ReadsAndWrites}
 use Rattle.rx_run.specs.Serving.{Serves, Halts, Ends, Progress}
 use Rattle.rx_run.proofs.Servings.{serves_nothing, serves_then, serves_halts, serves_ends, halts_nothing, ends-answered, halts-begun}

@@ -2,7 +2,7 @@
 use Rattle.std.proofs.Common.{◌≡◌, ◌∙◌, sym, ap, refl, subst, ℕ, ◌<◌, Bool, true, false, ◌&&◌, List, [], ◌∷◌, ◌++◌, append-nil, append_assoc, length, take, map, Result, Ok, Err, OnOk, arith}
 use Rattle.std.specs.List.{AllZip, list_all, concat}
 use Rattle.std.proofs.lemmas.List.Folds.{concat-append, list_all-append}
-use Rattle.rx_run.specs.declared.service.Service.{Service}
+use Rattle.rx_command.specs.declared.service.Service.{Service}
 use Rattle.rx_run.specs.Lines.{lines_of, lacks}
 use Rattle.rx_run.specs.Reply.{IsReply, begins_ok}
 use Rattle.rx_run.specs.Outcome.{IsAnswered, IsBegun}

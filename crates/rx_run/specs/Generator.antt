@@ -8,7 +8,7 @@ use Rattle.rx_model.specs.declared.mode.Mode.TheVariants.{Unicode}
 use Rattle.rx_model.specs.Inputs.Inputs.{Input, literal_alone}
 use Rattle.rx_model.specs.Reading.Headline.{IsReadAs}
 use Rattle.rx_model.specs.Spelling.Spelling.{spelling}
-use Rattle.rx_run.specs.Reply.{both_rules}
+use Rattle.rx_command.specs.Dialects.{both_rules}
 
 -- what a draw makes of the state
 abbrev pub next_state : ℕ → ℕ

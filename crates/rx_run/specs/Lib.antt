@@ -4,9 +4,6 @@ pub mod Spans
 pub mod Reply
 pub mod Serving
 pub mod Outcome
-pub mod Features
-pub mod Notices
-pub mod Command
 pub mod Generator
 pub mod Printing
 pub mod Status

@@ -2,7 +2,7 @@
 use Rattle.std.specs.Prelude.{◌≡◌, ◌≤◌, ℕ, ◌+◌, Bool, List, ◌++◌, length, Option}
 use Rattle.std.specs.List.{AllZip, list_all, concat}
 use Rattle.std.specs.Io.KnownBytes.{Consumes, Appends}
-use Rattle.rx_run.specs.declared.service.Service.{Service}
+use Rattle.rx_command.specs.declared.service.Service.{Service}
 use Rattle.rx_run.specs.Lines.{lines_of}
 use Rattle.rx_run.specs.Reply.{IsReply, begins_ok}
 

@@ -14,21 +14,24 @@ use Rattle.rx_model.specs.declared.form.Form.{Form}
 use Rattle.rx_model.specs.declared.form.Form.TheVariants.{Literal}
 use Rattle.rx_model.specs.declared.mode.Mode.{Mode}
 use Rattle.rx_model.specs.declared.mode.Mode.TheVariants.{Legacy, Unicode, Sets}
-use Rattle.rx_model.specs.declared.rules.Rules.{Rules}
 use Rattle.rx_model.specs.Reading.Headline.{IsFirstRefusal, IsReadAs, IsValid}
 use Rattle.rx_model.specs.Inputs.Inputs.{Input}
 use Rattle.rx_model.specs.Inputs.Texts.{literal_text}
 use Rattle.rx_model.specs.Spelling.Spelling.{spelling}
+use Rattle.rx_lint.specs.Findings.{findings}
+use Rattle.rx_lint_reply.specs.Findings.{findings_reply}
 use Rattle.rx_match_reply.specs.Replies.{IsMatchReply, IsTicksReply}
 use Rattle.rx_paint.specs.Runs.{pattern_tokens}
 use Rattle.rx_paint_reply.specs.Colors.{color_reply}
 use Rattle.rx_paint_reply.specs.Tokens.{tokens_reply}
-use Rattle.rx_run.specs.declared.answer.Answering.{Answering}
-use Rattle.rx_run.specs.declared.answer.Answering.TheVariants.{Canonical, Display, Support, Match, Steps, Paint, PaintColor}
-use Rattle.rx_run.specs.declared.dialect.Dialect.{Dialect}
-use Rattle.rx_run.specs.declared.dialect.Dialect.TheVariants.{Default, Strict, Standard}
-use Rattle.rx_run.specs.declared.service.Service.{Service}
-use Rattle.rx_run.specs.Features.{needs_feature}
+use Rattle.rx_rewrite_reply.specs.Replies.{IsRewriteReply}
+use Rattle.rx_command.specs.declared.answer.Answering.{Answering}
+use Rattle.rx_command.specs.declared.answer.Answering.TheVariants.{Canonical, Display, Support, Match, Steps, Paint, PaintColor, Lint, Rewrite}
+use Rattle.rx_command.specs.declared.dialect.Dialect.{Dialect}
+use Rattle.rx_command.specs.declared.dialect.Dialect.TheVariants.{Default}
+use Rattle.rx_command.specs.Dialects.{is_standard, rules_for}
+use Rattle.rx_command.specs.declared.service.Service.{Service}
+use Rattle.rx_command.specs.Features.{needs_feature}
 use Rattle.rx_run.specs.Request.{Request, IsRequest}
 use Rattle.rx_run.specs.Spans.{spans_text}
 
@@ -71,29 +74,12 @@ IsSaid (Match budget text) request mode pattern reply = IsMatchReply (flags_byte
 IsSaid (Steps text most) request mode pattern reply = IsTicksReply (flags_bytes request.flags) text (mirror pattern) most reply
 IsSaid Paint request mode pattern reply = reply ≡ tokens_reply (pattern_tokens (mirror pattern))
 IsSaid PaintColor request mode pattern reply = reply ≡ color_reply (encode_utf8_all (literal_text request.text)) (pattern_tokens (mirror pattern))
+IsSaid Lint request mode pattern reply = reply ≡ findings_reply (findings (mirror pattern))
+IsSaid (Rewrite wanted) request mode pattern reply = IsRewriteReply wanted (flags_bytes request.flags) mode (mirror pattern) reply
 
 -- the name and the spans of a refusal
 abbrev pub err_reply : Diagnostic → List ℕ
 err_reply cause = codes "err\t" ++ name_of cause ++ codes "\t" ++ spans_text cause ++ codes "\n"
-
--- both rules, and neither
-abbrev pub both_rules : Rules
-both_rules = record { duplicate_names = true; buffer_boundaries = true }
-
-abbrev pub neither_rule : Rules
-neither_rule = record { duplicate_names = false; buffer_boundaries = false }
-
--- the rules that requests are read under
-abbrev pub rules_for : Dialect → Rules
-rules_for Default = both_rules
-rules_for Strict = neither_rule
-rules_for Standard = both_rules
-
--- whether the arguments of RegExp are read as the standard has them
-abbrev pub is_standard : Dialect → Bool
-is_standard Default = false
-is_standard Strict = false
-is_standard Standard = true
 
 -- what is to be read: the request's text and flags, by themselves
 abbrev pub input_of : Dialect → Request → Input
@@ -108,6 +94,8 @@ IsAnswerable (Match budget text) form = form ≡ Literal
 IsAnswerable (Steps text most) form = form ≡ Literal
 IsAnswerable Paint form = form ≡ Literal
 IsAnswerable PaintColor form = form ≡ Literal
+IsAnswerable Lint form = form ≡ Literal
+IsAnswerable (Rewrite wanted) form = form ≡ Literal
 
 -- The line asks for this, in a form that is answered.
 pub record IsAsked (answering : Answering) (line : List ℕ) (request : Request) : Type 0 where

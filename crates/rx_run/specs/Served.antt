@@ -1,6 +1,6 @@
 -- What an answering of the whole input read and wrote, by its result.
 use Rattle.std.specs.Prelude.{ℕ, Bool, List, Result, Ok, Err}
-use Rattle.rx_run.specs.declared.service.Service.{Service}
+use Rattle.rx_command.specs.declared.service.Service.{Service}
 use Rattle.rx_run.specs.declared.run.Interruption.{Interruption}
 use Rattle.rx_run.specs.declared.run.Interruption.TheVariants as interruption
 use Rattle.rx_run.specs.declared.server.ReplyFault.{ReplyFault}

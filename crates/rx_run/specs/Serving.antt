@@ -2,7 +2,7 @@
 use Rattle.std.specs.Prelude.{◌≡◌, ℕ, ◌≤◌, Bool, true, ◌&&◌, List, [], ◌++◌, length, map, take, Option}
 use Rattle.std.specs.List.{AllZip, list_all, concat}
 use Rattle.std.specs.Io.KnownBytes.{Appends}
-use Rattle.rx_run.specs.declared.service.Service.{Service}
+use Rattle.rx_command.specs.declared.service.Service.{Service}
 use Rattle.rx_run.specs.Lines.{lines_of}
 use Rattle.rx_run.specs.Outcome.{Reads}
 use Rattle.rx_run.specs.Reply.{IsReply, begins_ok}

@@ -3,7 +3,7 @@ use Rattle.std.specs.Prelude.{ℕ, List, [], ◌++◌, codes, Option, Some, None
 use Rattle.rx_base.specs.declared.span.Span.{Span}
 use Rattle.rx_base.specs.declared.diagnostic.Diagnostic.{Diagnostic}
 use Rattle.rx_base.specs.Diagnostic.{first_span_of, second_span_of}
-use Rattle.rx_match_reply.specs.Places.{span_text}
+use Rattle.rx_reply.specs.Places.{span_text}
 
 -- a comma and the second span, if there is one
 abbrev pub second_text : Option Span → List ℕ

@@ -1,6 +1,6 @@
 -- The statuses that a run of the program ends with.
 use Rattle.std.specs.Prelude.{◌≡◌, ℕ, true, false, List, [], ◌⊎◌, Option}
-use Rattle.rx_run.specs.declared.service.Service.{Service}
+use Rattle.rx_command.specs.declared.service.Service.{Service}
 use Rattle.rx_run.specs.declared.run.Status.{Status}
 use Rattle.rx_run.specs.declared.run.Status.TheVariants.{AllOk, SomeRefused, Usage, ReadFault, WriteFault, OutOfMemory, TooMuch}
 use Rattle.rx_run.specs.Outcome.{IsAnswered, IsBegun}

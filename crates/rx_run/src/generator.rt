@@ -7,7 +7,7 @@ ghost use Rattle.rx_run.specs.Generator.{piece as piece_text};
 
 use crate::server::ReplyFault;
 use rx_base::{Fault, List, OutOfMemory, Sink, Text, write_all};
-use rx_match_reply::add_decimal;
+use rx_reply::add_decimal;
 use rx_tools::{Form, Options, canonical};
 use std::alloc::Global;
 

@@ -5,23 +5,16 @@
 //! With the words `gen SEED COUNT` it makes patterns, and writes how many of them are read; with `--help` and `--version` it tells of itself.
 #![tactic(auto)]
 
-mod answer;
-mod command;
-mod dialect;
-mod features;
+mod asking;
 mod generator;
 mod input;
 mod line;
-mod notice;
-mod number;
 pub mod over_memory;
 mod pieces;
 mod replies;
 mod request;
 pub mod run;
 mod server;
-mod service;
 mod spans;
 pub mod standard;
-mod subject;
 pub mod words;

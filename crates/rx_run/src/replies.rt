@@ -15,17 +15,26 @@ ghost use Rattle.rx_paint.specs.Runs.{pattern_tokens};
 ghost use Rattle.rx_paint_reply.specs.Colors.{color_reply};
 ghost use Rattle.rx_paint_reply.specs.Tokens.{tokens_reply};
 ghost use Rattle.rx_run.specs.Reply.{IsReply, IsSaid, begins_ok, canonical_reply, display_reply, err_reply, mode_name, support_reply};
-ghost use Rattle.rx_run.specs.Features.{needs_feature};
+ghost use Rattle.rx_command.specs.Dialects.{rules_for};
+ghost use Rattle.rx_command.specs.Features.{needs_feature};
+ghost use Rattle.rx_lint.specs.Findings.{findings};
+ghost use Rattle.rx_lint_reply.specs.Findings.{findings_reply};
+ghost use Rattle.rx_model.specs.Trees.Early.{IsEarly};
+ghost use Rattle.rx_rewrite.specs.Answers.{rules_of};
+ghost use Rattle.rx_rewrite_reply.specs.Replies.{IsRewriteReply};
 
-use crate::answer::Answering;
-use crate::features::Features;
+use crate::asking::asked;
 use crate::request::Request;
-use crate::service::Service;
 use crate::spans::add_spans;
 use rx_ast::Pattern;
 use rx_base::{Diagnostic, Failed, Fault, List, OutOfMemory, Sink, write_all};
-use rx_match_reply::{add_decimal, add_match, add_ticks};
+use rx_command::{Answering, Features, Service};
+use rx_lint_reply::add_findings;
+use rx_match_reply::{add_match, add_ticks};
 use rx_paint_reply::{add_colors, add_tokens};
+use rx_reply::add_decimal;
+use rx_rewrite::Wanted;
+use rx_rewrite_reply::add_rewritten;
 use rx_tools::support::has_unsupported_regular_expression_flags;
 use rx_tools::{Mode, append_canonical, display_text, read_pattern};
 use std::alloc::Global;
@@ -58,15 +67,13 @@ impl Replies {
         ensures { OnOk result ((reply : Sequence ℕ) × IsReply service.now line.now reply
             × (self.new.bytes ≡ self.old.bytes ++ reply) × (self.new.all_ok ≡ (self.old.all_ok && begins_ok reply))) }
     {
-        let Some(request) = service.answering.asked(line) else {
+        let Some(request) = asked(&service.answering, line) else {
             return self.add_refusal(b"bad\n");
         };
         let options = service.dialect.options();
         let text = request.text_field();
         match read_pattern(alloc, request.form, text, request.flags, options) {
-            Ok((pattern, mode)) => {
-                self.add_said(alloc, &service.answering, &request, &pattern, mode)
-            }
+            Ok((pattern, mode)) => { self.add_said(alloc, service, &request, &pattern, mode) }
             Err(Fault::Diagnostic(cause)) => self.add_err(&cause),
             Err(Fault::OutOfMemory) => Err(OutOfMemory),
         }
@@ -85,18 +92,19 @@ impl Replies {
     fn add_said(
         &mut self,
         alloc: Global,
-        answering: &Answering<'_>,
+        service: &Service<'_>,
         request: &Request<'_>,
         pattern: &Pattern,
         mode: Mode,
     ) -> Result<(), OutOfMemory>
+        requires early { IsEarly (rules_for service.now.dialect) pattern.now }
         requires nested { IsNestedPattern (mirror pattern.now) }
-        requires within { answering.now ≡ Answering.PaintColor → pattern.now.span.end ≤ length (literal_text request.now.text.now) }
+        requires within { service.now.answering ≡ Answering.PaintColor → pattern.now.span.end ≤ length (literal_text request.now.text.now) }
         ensures { OnOk result ((reply : Sequence ℕ)
-            × IsSaid answering.now (record { form = request.now.form; flags = flags_chars request.now.flags; text = chars request.now.text.now }) mode pattern.now reply
+            × IsSaid service.now.answering (record { form = request.now.form; flags = flags_chars request.now.flags; text = chars request.now.text.now }) mode pattern.now reply
             × (self.new.bytes ≡ self.old.bytes ++ reply) × (self.new.all_ok ≡ (self.old.all_ok && begins_ok reply))) }
     {
-        match answering {
+        match &service.answering {
             Answering::Canonical => self.add_canonical(alloc, pattern, mode),
             Answering::Display => self.add_display(alloc, pattern, mode),
             Answering::Support(features) => {
@@ -116,7 +124,40 @@ impl Replies {
             }
             Answering::Paint => self.add_tokens(alloc, pattern),
             Answering::PaintColor => self.add_colors(alloc, pattern, request.text),
+            Answering::Lint => self.add_findings(alloc, pattern),
+            Answering::Rewrite(wanted) => {
+                let rules = service.dialect.rules();
+                self.add_rewritten(alloc, pattern, mode, rules, request.flags_field(), *wanted)
+            }
         }
+    }
+
+    /// Adds the reply that lists the findings in a tree.
+    fn add_findings(&mut self, alloc: Global, pattern: &Pattern) -> Result<(), OutOfMemory>
+        ensures bytes { OnOk result (self.new.bytes ≡ self.old.bytes ++ findings_reply (findings (mirror pattern.now))) }
+        ensures all_ok { self.new.all_ok ≡ self.old.all_ok }
+    {
+        add_findings(alloc, &mut self.bytes, pattern)
+    }
+
+    /// Adds the reply with the plainer pattern, or with why there is none.
+    fn add_rewritten(
+        &mut self,
+        alloc: Global,
+        pattern: &Pattern,
+        mode: Mode,
+        rules: (bool, bool),
+        flags: &str,
+        wanted: Wanted,
+    ) -> Result<(), OutOfMemory>
+        requires { IsEarly (rules_of rules) pattern.now }
+        ensures { OnOk result ((reply : Sequence ℕ) × IsRewriteReply wanted flags.now mode (mirror pattern.now) reply
+            × (self.new.bytes ≡ self.old.bytes ++ reply) × (self.new.all_ok ≡ (self.old.all_ok && begins_ok reply))) }
+    {
+        let start = self.bytes.len();
+        add_rewritten(alloc, &mut self.bytes, pattern, mode, rules, flags, wanted)?;
+        self.judge_from(start);
+        Ok(())
     }
 
     /// Adds the reply that lists the tokens of a tree.

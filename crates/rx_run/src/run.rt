@@ -1,21 +1,20 @@
 ghost use Rattle.std.specs.Prelude.{◌≡◌, ◌≢◌, ◌≤◌, ◌<◌, ◌+◌, ◌↔◌, ℕ, [], OnOk, IsErrOf};
 ghost use Rattle.std.specs.Io.KnownBytes.{IsAtEnd};
 ghost use Rattle.rx_base.specs.FaultCounts.{Rose};
-ghost use Rattle.rx_run.specs.declared.service.Service.{Service as Services};
-ghost use Rattle.rx_run.specs.declared.notice.Notice.{Notice as Notices};
-ghost use Rattle.rx_run.specs.Command.{IsCommand, IsGen, IsStated};
+ghost use Rattle.rx_command.specs.declared.service.Service.{Service as Services};
+ghost use Rattle.rx_command.specs.declared.notice.Notice.{Notice as Notices};
+ghost use Rattle.rx_command.specs.Command.{IsCommand, IsGen, IsStated};
 ghost use Rattle.rx_run.specs.Generator.{IsGenOutput};
-ghost use Rattle.rx_run.specs.Notices.{notice_text};
+ghost use Rattle.rx_command.specs.Notices.{notice_text};
 ghost use Rattle.rx_run.specs.Outcome.{ReadsAndWrites};
 ghost use Rattle.rx_run.specs.Status.{Outcome, IsFinished, PrintOutcome, Prints, number_of};
 ghost use Rattle.rx_run.specs.Served.{IsServed};
 
-use crate::command::Command;
 use crate::generator::generate;
 use crate::input::{Input, InputFault};
 use crate::server::{ReplyFault, Server};
-use crate::service::Service;
 use rx_base::{Failed, OutOfMemory, Sink, Source, Text, write_all};
+use rx_command::{Command, Service};
 use std::alloc::Global;
 
 /// How much is read at once, in bytes.

@@ -9,8 +9,8 @@ ghost use Rattle.rx_run.specs.Served.{least_missing};
 use crate::line::Line;
 use crate::pieces::split_at_byte;
 use crate::replies::Replies;
-use crate::service::Service;
 use rx_base::{Failed, OutOfMemory, Sink};
+use rx_command::Service;
 use std::alloc::Global;
 
 /// Why the replies were not written whole.

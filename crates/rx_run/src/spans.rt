@@ -2,7 +2,7 @@ ghost use Rattle.std.specs.Prelude.{◌≡◌, ◌++◌, OnOk};
 ghost use Rattle.rx_run.specs.Spans.{second_text, spans_text};
 
 use rx_base::{Diagnostic, List, OutOfMemory, Span};
-use rx_match_reply::add_span;
+use rx_reply::add_span;
 
 /// Adds the spans of a refusal. After an error a part of them may stand at the end.
 pub fn add_spans(bytes: &mut List<u8>, cause: &Diagnostic) -> Result<(), OutOfMemory>

@@ -1,4 +1,4 @@
-//! The commands `display`, `support`, `match`, `steps` and `paint`, with `strict` and `standard` before them and alone, the texts of `--help` and `--version`, and words that are none of the stated lists.
+//! The commands `display`, `support`, `match`, `steps`, `paint`, `lint` and `rewrite`, with `strict` and `standard` before them and alone, the texts of `--help` and `--version`, and words that are none of the stated lists.
 use crate::memory::{bytes_of, words_of};
 use rx_base::{List, MemorySink, MemorySource, OutOfMemory, Source};
 use rx_rows::{Call, agree, text_of};
@@ -118,7 +118,15 @@ strict steps b 9 | L«9»«9»a|b => 0 [ok«9»2«A»]
 standard steps b 9 | L«9»«9»a|b«A»C«9»«9»"b" => 1 [ok«9»2«A»bad«A»]
 paint | L«9»u«9»(a|\.)+«A»C«9»«9»"a" => 1 [ok«9»0..1=group 1..2=char 2..3=bar 3..5=escape 5..6=group 6..7=quantifier«A»bad«A»]
 strict paint | L«9»«9» => 0 [ok«9»0..4=group«A»]
-standard paint color | L«9»u«9»(a«A»C«9»«9»"a" => 1 [err«9»unterminated_pattern«9»0..2«A»bad«A»]"#;
+standard paint color | L«9»u«9»(a«A»C«9»«9»"a" => 1 [err«9»unterminated_pattern«9»0..2«A»bad«A»]
+lint | L«9»u«9»[aba]|«A»L«9»u«9»a|b«A»C«9»«9»"a" => 1 [ok«9»repeated_member@3..4 empty_alternative@6..6«A»ok«9»«A»bad«A»]
+strict lint | L«9»u«9»(?<y>[])a{1} => 0 [ok«9»unused_name@0..8 empty_class@5..7 useless_quantifier@8..12«A»]
+standard lint | L«9»u«9»A|b|\x41«A»L«9»u«9»(a => 1 [ok«9»repeated_alternative@4..8«A»err«9»unterminated_pattern«9»0..2«A»]
+rewrite | L«9»su«9»(?<y>.)\k<y>2«A»L«9»m«9»^a$ => 0 [ok«9»u«9»([^])\1\x32«A»ok«9»«9»(?<![^\n\r\u2028\u2029])a(?![^\n\r\u2028\u2029])«A»]
+rewrite | L«9»u«9»(?<a>x)|(?<a>y)«A»C«9»«9»"a"«A»L«9»gg«9»a => 1 [err«9»name_used_twice«9»0..7,8..15«A»bad«A»err«9»duplicated_flags«9»1..2«A»]
+strict rewrite | L«9»u«9»(?<a>x)|(?<a>y) => 1 [err«9»duplicated_capturing_group_names«9»3..4,11..12«A»]
+rewrite dot_all,multiline | L«9»gms«9»(?<a>^.) => 0 [ok«9»g«9»(?<a>(?<![^\n\r\u2028\u2029])[^])«A»]
+standard rewrite pattern_modifiers | L«9»«9»a(?s-i:b)«A»L«9»s«9»(?-s:.) => 1 [err«9»unsupported«9»3..6«A»ok«9»s«9»(?:[^\n\r\u2028\u2029])«A»]"#;
 
 #[test]
 fn lines_are_answered(rt: HostRuntime) -> Result<(), Fail> {
@@ -204,6 +212,22 @@ paint paint => 2 []
 paint color x => 2 []
 paint strict => 2 []
 color => 2 []
+lint x => 2 []
+Lint => 2 []
+lint lint => 2 []
+lint strict => 2 []
+rewrite sticky => 2 []
+rewrite dot_all,dot_all => 2 []
+rewrite multiline,dot_all,multiline => 2 []
+rewrite , => 2 []
+rewrite dot_all, => 2 []
+rewrite  => 2 []
+rewrite dot_all multiline => 2 []
+rewrite all => 2 []
+Rewrite => 2 []
+rewrite strict => 2 []
+strict rewrite x => 2 []
+support multiline => 2 []
 standard steps 1 a => 2 []
 --help x => 2 []
 --Help => 2 []
@@ -232,11 +256,14 @@ fn help_is_a_text_of_few_lines(rt: HostRuntime) -> Result<(), Fail> {
         "support",
         "match",
         "steps",
+        "paint",
+        "lint",
+        "rewrite",
         "gen",
         "--help",
         "--version",
         "Status:",
-        "Examples:",
+        "Example:",
     ] {
         assert!(rt; text.contains(word), "{word}");
     }

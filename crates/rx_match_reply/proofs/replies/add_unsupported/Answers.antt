@@ -1,6 +1,6 @@
 use Rattle.std.proofs.Common.{codes}
 use Rattle.std.proofs.lemmas.Result.{on_ok_weaker}
-use Rattle.rx_match_reply.specs.Places.{span_text}
+use Rattle.rx_reply.specs.Places.{span_text}
 use Rattle.rx_match_reply.proofs.Parts.{three_added}
 use Rattle.rx_match_reply.proofs.replies.add_unsupported.Goals as goal
 

@@ -11,7 +11,8 @@ use Rattle.rx_run.proofs.Generating.{asked_is, none_refused, pattern_short, read
 use Rattle.rx_run.proofs.generator.spelling_size.Goals as goal
 use Rattle.rx_parser.specs.Inputs.{rules_of}
 use Rattle.rx_parser.specs.declared.options.Options.{Options}
-use Rattle.rx_run.specs.Reply.{both_rules}
+use Rattle.rx_command.specs.Dialects.{both_rules}
+use Rattle.rx_run.specs.Reply.{}
 
 flags_are : chars (codes "u") ≡ 117 ∷ []
 unfolding chars

@@ -2,9 +2,9 @@ use Rattle.std.proofs.Common.{◌≡◌, ◌∙◌, ◌<◌, ◌≤◌, ◌++◌
 use Rattle.std.specs.List.{AllZip, concat}
 use Rattle.std.proofs.lemmas.Grind.{common_steps}
 use Rattle.rx_base.specs.FaultCounts.{Rose}
-use Rattle.rx_run.specs.declared.command.Command.TheVariants.{Serve}
+use Rattle.rx_command.specs.declared.command.Command.TheVariants.{Serve}
 use Rattle.rx_run.specs.declared.run.Status.{Status}
-use Rattle.rx_run.specs.Command.{IsServing}
+use Rattle.rx_command.specs.Command.{IsServing}
 use Rattle.rx_run.specs.Lines.{lines_of}
 use Rattle.rx_run.specs.Outcome.{IsBegun, Reads, ReadsAndWrites}
 use Rattle.rx_run.specs.Reply.{IsReply, without_words}

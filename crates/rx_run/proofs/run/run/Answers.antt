@@ -1,9 +1,9 @@
 use Rattle.std.proofs.Common.{subst}
-use Rattle.rx_run.specs.declared.service.Service.{Service}
-use Rattle.rx_run.specs.declared.command.Command.TheVariants.{Generate, Print}
+use Rattle.rx_command.specs.declared.service.Service.{Service}
+use Rattle.rx_command.specs.declared.command.Command.TheVariants.{Generate, Print}
 use Rattle.rx_run.specs.Outcome.{ReadsAndWrites}
 use Rattle.rx_run.specs.Status.{Outcome}
-use Rattle.rx_run.proofs.Commands.{service_once}
+use Rattle.rx_command.proofs.Commands.{service_once}
 use Rattle.rx_run.proofs.run.run.Goals as goal
 
 pub returns-in-None-clause-generated : goal.returns-in-None-clause-generated

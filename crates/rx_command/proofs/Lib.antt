@@ -1,0 +1,5 @@
+pub mod Commands
+pub mod ConstructLists
+pub mod FeatureLists
+pub mod NameLists
+pub mod Plain

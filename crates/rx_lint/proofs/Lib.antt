@@ -1,0 +1,16 @@
+pub mod Sets
+pub mod Nodes
+pub mod Places
+pub mod NumberRows
+pub mod Bare
+pub mod SameBare
+pub mod EqualRules
+pub mod Numbering
+pub mod WholeRows
+pub mod Stairs
+pub mod HeldItems
+pub mod NamesHeld
+pub mod OtherNodes
+pub mod FoundAt
+pub mod Loop
+pub mod HeldEarlier

@@ -1,0 +1,11 @@
+pub mod Nodes
+pub mod Places
+pub mod Numbers
+pub mod Rules
+pub mod Findings
+pub mod Rows
+pub mod Names
+pub mod Coverage
+pub mod Items
+pub mod Earlier
+pub mod Found

@@ -1,0 +1,7 @@
+//! The reply to a pattern that is linted: its findings.
+#![tactic(auto)]
+
+mod findings;
+mod replies;
+
+pub use replies::add_findings;

@@ -1,0 +1,72 @@
+-- What a rewriter has made, and what comes out of it.
+use Rattle.std.specs.Prelude.{◌≡◌, ◌≢◌, ℕ, ◌+◌, ◌<◌, true, None, List, [], ◌∷◌, ◌++◌, map, reverse}
+use Rattle.std.specs.Str.{IsUtf8, chars}
+use Rattle.rx_ast.specs.Tree as tree
+use Rattle.rx_ast.specs.Tree.{Node, mirror_alternative, mirror_term}
+use Rattle.rx_trace.specs.Groups.{Names}
+use Rattle.rx_trace.specs.Matching.{Settings}
+use Rattle.rx_rewrite.specs.declared.numbers.GroupNumbers.{GroupNumbers}
+use Rattle.rx_rewrite.specs.declared.opener.Opener.{Opener}
+use Rattle.rx_rewrite.specs.declared.opener.Opener.TheVariants as opener
+use Rattle.rx_rewrite.specs.declared.rewriter.Rewriter.{Rewriter}
+use Rattle.rx_rewrite.specs.declared.rewriter.Task.{Task}
+use Rattle.rx_rewrite.specs.declared.rewriter.Task.TheVariants as task
+use Rattle.rx_rewrite.specs.declared.rewrites.Rewrites.{Rewrites}
+use Rattle.rx_rewrite.specs.declared.settings.Setting.{Setting}
+use Rattle.rx_rewrite.specs.Numbers.{number_at}
+use Rattle.rx_rewrite.specs.Rewriting.{number_of}
+use Rattle.rx_rewrite.specs.Works.{Made, Work, alternatives, terms, term, ending_alternative, ending_group, ending_quantifier, with_node, all_worked, weight, weights}
+
+abbrev pub settings_of : Setting → Settings
+settings_of setting = record { multiline = setting.multiline; dot_all = setting.dot_all }
+
+abbrev pub opener_of : Opener → tree.Opener
+opener_of (opener.Capturing name) = tree.capturing name
+opener_of (opener.Ignoring m) = tree.ignoring m
+opener_of (opener.LookAround kind) = tree.looking kind
+
+abbrev pub work_of : Task → Work
+work_of (task.Alternatives reading more) = alternatives (settings_of reading.old) (settings_of reading.new) (tree.alternatives (map mirror_alternative more.now))
+work_of (task.Terms reading ts) = terms (settings_of reading.old) (settings_of reading.new) (tree.nodes (map mirror_term ts.now))
+work_of (task.Term reading t) = term (settings_of reading.old) (settings_of reading.new) (mirror_term t.now)
+work_of (task.EndAlternative s outer) = ending_alternative s (map mirror_term outer)
+work_of (task.EndGroup s o d outer) = ending_group s (opener_of o) d (map mirror_alternative outer)
+work_of (task.EndQuantifier q) = ending_quantifier q.now.span q.now.min q.now.max q.now.greedy
+
+abbrev pub works_of : List Task → List Work
+works_of [] = []
+works_of (t ∷ ts) = work_of t ∷ works_of ts
+
+-- the next first
+abbrev pub works : Rewriter → List Work
+works r = works_of (reverse r.tasks)
+
+abbrev pub made_of : Rewriter → Made
+made_of r = record { terms = map mirror_term r.terms; alternatives = map mirror_alternative r.alternatives }
+
+abbrev pub with_task : Rewriter → Task → Rewriter
+with_task r t = record r { tasks = r.tasks ++ (t ∷ []) }
+
+-- A term with this mirror is added.
+pub record AddsTerm (r : Rewriter) (n : Node) (after : Rewriter) : Type 0 where
+  pub made : made_of after ≡ with_node (made_of r) n
+  pub tasks : after.tasks ≡ r.tasks
+  pub what : after.what ≡ r.what
+  pub numbers : after.numbers.now ≡ r.numbers.now
+
+-- Where names are to go, these are the numbers of the groups of these names.
+abbrev pub IsNumbered : Rewrites → Names → GroupNumbers → Type 0
+IsNumbered what names numbers = what.named_capture_groups ≡ true → (bytes : List ℕ) → IsUtf8 bytes → number_at numbers.groups bytes ≡ number_of (chars bytes) names
+
+-- Something comes out of these works.
+pub record IsReady (r : Rewriter) (ws : List Work) : Type 0 where
+  pub names : Names
+  pub numbered : IsNumbered r.what names r.numbers.now
+  pub some : all_worked r.what names ws (made_of r) ≢ None
+
+-- A work is done, or cut into smaller ones: the same comes out.
+pub record Performs (r : Rewriter) (w : Work) (after : Rewriter) : Type 0 where
+  pub what : after.what ≡ r.what
+  pub numbers : after.numbers.now ≡ r.numbers.now
+  pub same : (names : Names) → IsNumbered r.what names r.numbers.now → all_worked r.what names (w ∷ works r) (made_of r) ≡ all_worked r.what names (works after) (made_of after)
+  pub fewer : weights (works after) < weight w + weights (works r)

@@ -1,0 +1,12 @@
+pub mod Answers
+pub mod Asked
+pub mod Built
+pub mod ClassWorks
+pub mod Left
+pub mod Numbered
+pub mod Numbers
+pub mod Plain
+pub mod Promises
+pub mod Rewriting
+pub mod Wanted
+pub mod Works

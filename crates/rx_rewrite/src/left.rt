@@ -1,0 +1,54 @@
+ghost use Rattle.std.specs.Prelude.{◌≡◌, IfOk, MatchOption, None, map};
+ghost use Rattle.rx_ast.specs.MirrorKinds.{mirror_kind};
+ghost use Rattle.rx_ast.specs.Tree.{mirror};
+ghost use Rattle.rx_trace.specs.Supported.{unsupported_modifiers};
+ghost use Rattle.rx_rewrite.specs.Left.{first_left as first_left_of, left_at as left_at_node, left_in};
+
+use crate::settings::has_bit;
+use rx_ast::{Modifier, Modifiers, Pattern, RegExpAstKind};
+use rx_base::{OutOfMemory, Span};
+use rx_visit::nodes_in_order;
+use std::alloc::Global;
+
+/// The span of the first modifiers that turn the ignoring of case on or off, which no rewriting takes away.
+pub fn modifiers_left(alloc: Global, pattern: &Pattern) -> Result<Option<Span>, OutOfMemory>
+    ensures { IfOk result (λ it. it ≡ left_in (mirror pattern.now)) }
+{
+    let nodes = nodes_in_order(alloc, pattern)?;
+    Ok(first_left(nodes.as_slice()))
+}
+
+fn first_left(nodes: &[RegExpAstKind<'_>]) -> Option<Span>
+    ensures { result ≡ first_left_of (map mirror_kind nodes.now) }
+{
+    for node in nodes {
+        let left = left_at(*node);
+        if left.is_some() {
+            return left;
+        }
+    }
+    None
+}
+
+/// The span of the modifiers of a node, where they turn the ignoring of case on or off.
+fn left_at(node: RegExpAstKind<'_>) -> Option<Span>
+    ensures { result ≡ left_at_node (mirror_kind node.entry) }
+{
+    match node {
+        RegExpAstKind::IgnoreGroup(group) => left_of(&group.modifiers),
+        _ => None,
+    }
+}
+
+fn left_of(modifiers: &Option<Modifiers>) -> Option<Span>
+    ensures { MatchOption modifiers.now (result ≡ None) (λ m. result ≡ unsupported_modifiers m) }
+{
+    match modifiers {
+        None => None,
+        Some(it) => {
+            let on = has_bit(it.enabling, Modifier::I);
+            let off = has_bit(it.disabling, Modifier::I);
+            if on || off { Some(it.span) } else { None }
+        }
+    }
+}

@@ -1,0 +1,7 @@
+//! The replies to a pattern that is rewritten: the plainer pattern, or why there is none.
+#![tactic(auto)]
+
+mod flags;
+mod replies;
+
+pub use replies::add_rewritten;
