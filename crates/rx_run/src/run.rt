@@ -199,8 +199,9 @@ fn run_print<K: Sink>(text: &str, sink: &mut K) -> Status
     }
 }
 
-/// Does all that the program does, for the words after its name. The stated lists of words are none, `display`, `support LIST`,
-/// `match BUDGET TEXT` and `steps TEXT MOST`, each also after `strict` or `standard`; and `gen SEED COUNT`, `--help` and `--version`.
+/// Does all that the program does, for the words after its name. The stated lists of words are none, `display`, `support LIST`, `match BUDGET TEXT`,
+/// `steps TEXT MOST`, `paint`, `paint color`, `lint`, `rewrite` and `rewrite LIST`, each also after `strict` or `standard`; and `gen SEED COUNT`, `--help` and
+/// `--version`.
 pub fn run<S: Source, K: Sink>(
     alloc: Global,
     words: &[Text],
