@@ -1,11 +1,12 @@
 -- When a source or a sink may answer a fault.
-use Rattle.std.specs.Prelude.{◌≡◌, ℕ, ◌-◌, ◌^◌, ◌<◌, ◌≤◌, ◌⊎◌, Result, OnErr}
+use Rattle.std.specs.Prelude.{◌≡◌, ℕ, ◌-◌, ◌^◌, ◌<◌, ◌≤◌, ◌⊎◌, Result, OnErr, OnOk}
 
 -- A count of faults rose: it is higher now, or stands at the last number of a `u64`.
 abbrev pub Rose : ℕ → ℕ → Type 0
 Rose before now = (before < now) ⊎ (now ≡ 2 ^ 64 - 1)
 
--- A count of faults never falls, and rose where the call failed.
+-- A count of faults never falls, rose where the call failed, and stayed where it did not.
 pub record CountsFaults {T E : Type 0} (before now : ℕ) (result : Result T E) : Type 0 where
   pub later : before ≤ now
   pub failed : OnErr result (Rose before now)
+  pub same : OnOk result (now ≡ before)

@@ -11,7 +11,7 @@ pub struct Failed;
 ///
 /// `left` is the bytes still to come, where the source tells them. `drawn` is the number of bytes given so far, which every source
 /// tells. `faults` is a number that never falls. It *rose* in a call where it is higher at the call's end, or stands at
-/// 18446744073709551615 there.
+/// 18446744073709551615 there. In a call that does not fail it stays.
 pub trait Source {
     ghost left: { Self → Option (List ℕ) };
 

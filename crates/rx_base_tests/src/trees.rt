@@ -49,6 +49,8 @@ fn modifiers_are_sets_of_bits(rt: HostRuntime) {
     }
     assert_eq!(rt; Modifier::from_bits(7), Some(Modifier::all()));
     assert_eq!(rt; Modifier::from_bits(8), None);
+    assert_eq!(rt; Modifier::from_bits(9), None);
+    assert_eq!(rt; Modifier::from_bits_truncate(9), Modifier::I);
     assert_eq!(rt; Modifier::from_bits_truncate(0b1101).bits(), 0b101);
     assert!(rt; Modifier::from_bits_retain(0b1111).is_all());
     assert!(rt; !Modifier::from_bits_retain(0b1000).is_empty());

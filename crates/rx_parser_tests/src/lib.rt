@@ -2,7 +2,13 @@
 #![tactic(auto)]
 
 #[cfg(test)]
+mod answers;
+#[cfg(test)]
 mod builds;
+#[cfg(test)]
+mod causes;
+#[cfg(test)]
+mod hard;
 #[cfg(test)]
 mod reading;
 #[cfg(test)]

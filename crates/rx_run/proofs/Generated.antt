@@ -38,6 +38,7 @@ use Rattle.rx_model.specs.Trees.Early.{Obeys, most_groups}
 use Rattle.rx_model.specs.Trees.Shapes.{run}
 use Rattle.rx_model.specs.Trees.Token.{Token, Opener, character, dot, property, class, opener, closer, bar, quantifier, capturing, ignoring}
 use Rattle.rx_model.proofs.Inputs.Asked.{alone_asks, one_asked, one_flags}
+use Rattle.rx_model.proofs.Properties.PropertyFlags.{category_flag}
 use Rattle.rx_model.proofs.Reading.Fronts.{front_spelled}
 use Rattle.rx_model.proofs.Refusals.Beyond.{Ends, passes, left_open, cause_ends}
 use Rattle.rx_model.proofs.Refusals.FlagCauses.{cause_refuses}
@@ -136,7 +137,7 @@ module _ (groups : ℕ) (names : List (List ℕ)) (has_names : Bool) where
   }
   piece_read (suc (suc (suc (suc (suc (suc (suc zero))))))) at rest h = record {
     tokens = (property false false (codes "General_Category") (Some (codes "Lu")), 6) ∷ [];
-    read = (refl, refl, refl);
+    read = (refl, (category_flag, refl), refl);
     accepted = λ more ready. (true, refl);
   }
   piece_read (suc (suc (suc (suc (suc (suc (suc (suc number)))))))) at rest h = record {

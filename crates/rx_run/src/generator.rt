@@ -125,6 +125,7 @@ pub fn generate<K: Sink>(
     ensures ok { OnOk result (IsPrinted (IsGenOutput seed count) (K.taken sink.old) (K.taken sink.new)) }
     ensures begun { IsErrOf result ReplyFault.Write → IsPrintBegun (IsGenOutput seed count) (K.taken sink.old) (K.taken sink.new) }
     ensures rose { IsErrOf result ReplyFault.Write → Rose (K.faults sink.old) (K.faults sink.new) }
+    ensures same { ¬ IsErrOf result ReplyFault.Write → K.faults sink.new ≡ K.faults sink.old }
     ensures unwritten { IsErrOf result ReplyFault.OutOfMemory → K.taken sink.new ≡ K.taken sink.old }
     ensures fixed { K.fixed sink.new ≡ K.fixed sink.old }
 {

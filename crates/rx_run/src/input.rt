@@ -63,6 +63,7 @@ impl Input {
         ensures read { IsErrOf result InputFault.Read → (S.drawn source.new ≡ S.drawn source.old) × Rose (S.faults source.old) (S.faults source.new) }
         ensures too_much { IsErrOf result InputFault.TooMuch → S.drawn source.old + 67108864 < self.old.total + S.drawn source.new }
         ensures later { S.faults source.old ≤ S.faults source.new }
+        ensures same { ¬ IsErrOf result InputFault.Read → S.faults source.new ≡ S.faults source.old }
     {
         let count = source.read(self.buffer.as_mut_slice())?;
         if count as u64 > INPUT_LIMIT - self.total {

@@ -131,6 +131,8 @@ fn serve<S: Source, K: Sink>(
     ensures fixed { K.fixed sink.new ≡ K.fixed sink.old }
     ensures read_fault { IsErrOf result (Interruption.Input InputFault.Read) → Rose (S.faults source.old) (S.faults source.new) }
     ensures write_fault { IsErrOf result (Interruption.Reply ReplyFault.Write) → Rose (K.faults sink.old) (K.faults sink.new) }
+    ensures no_read_fault { ¬ IsErrOf result (Interruption.Input InputFault.Read) → S.faults source.new ≡ S.faults source.old }
+    ensures no_write_fault { ¬ IsErrOf result (Interruption.Reply ReplyFault.Write) → K.faults sink.new ≡ K.faults sink.old }
     ensures too_much { IsErrOf result (Interruption.Input InputFault.TooMuch) ↔ (S.drawn source.old + 67108864 < S.drawn source.new) }
 {
     let mut input = Input::new(alloc, CHUNK)?;
@@ -159,6 +161,8 @@ fn run_serve<S: Source, K: Sink>(
     ensures fixed { K.fixed sink.new ≡ K.fixed sink.old }
     ensures read_fault { result ≡ Status.ReadFault → Rose (S.faults source.old) (S.faults source.new) }
     ensures write_fault { result ≡ Status.WriteFault → Rose (K.faults sink.old) (K.faults sink.new) }
+    ensures no_read_fault { result ≢ Status.ReadFault → S.faults source.new ≡ S.faults source.old }
+    ensures no_write_fault { result ≢ Status.WriteFault → K.faults sink.new ≡ K.faults sink.old }
     ensures too_much { (result ≡ Status.TooMuch) ↔ (S.drawn source.old + 67108864 < S.drawn source.new) }
 {
     match serve(alloc, service, source, sink) {
@@ -178,6 +182,7 @@ fn run_generate<K: Sink>(alloc: Global, seed: u32, count: u32, sink: &mut K) -> 
     ensures written { PrintOutcome (IsGenOutput seed count) result (K.taken sink.old) (K.taken sink.new) }
     ensures fixed { K.fixed sink.new ≡ K.fixed sink.old }
     ensures write_fault { result ≡ Status.WriteFault → Rose (K.faults sink.old) (K.faults sink.new) }
+    ensures no_write_fault { result ≢ Status.WriteFault → K.faults sink.new ≡ K.faults sink.old }
 {
     match generate(alloc, seed, count, sink) {
         Ok(()) => Status::AllOk,
@@ -192,6 +197,7 @@ fn run_print<K: Sink>(text: &str, sink: &mut K) -> Status
     ensures memory { result ≢ Status.OutOfMemory }
     ensures fixed { K.fixed sink.new ≡ K.fixed sink.old }
     ensures write_fault { result ≡ Status.WriteFault → Rose (K.faults sink.old) (K.faults sink.new) }
+    ensures no_write_fault { result ≢ Status.WriteFault → K.faults sink.new ≡ K.faults sink.old }
 {
     match write_all(sink, text.as_bytes()) {
         Ok(()) => Status::AllOk,
@@ -222,12 +228,15 @@ pub fn run<S: Source, K: Sink>(
     ensures printed { (notice : Notices) → IsCommand words.now (Command.Print notice)
         → Prints K.taken source.old source.new sink.old sink.new (λ text. text ≡ notice_text notice) result × (result ≢ Status.OutOfMemory) }
 
-    // When each status comes. So where none of these facts holds, memory ran out, or the input was answered, or the line written.
+    // When each status comes. Where a status says nothing of a fault, there was none. So where none of these facts holds, memory ran out, or the input was
+    // answered, or the line written.
     ensures usage { (result ≡ Status.Usage) ↔ ¬ IsStated words.now }
     ensures untouched { result ≡ Status.Usage → (source.new ≡ source.old) × (sink.new ≡ sink.old) }
     ensures fixed { K.fixed sink.new ≡ K.fixed sink.old }
     ensures read_fault { result ≡ Status.ReadFault → Rose (S.faults source.old) (S.faults source.new) }
     ensures write_fault { result ≡ Status.WriteFault → Rose (K.faults sink.old) (K.faults sink.new) }
+    ensures no_read_fault { result ≢ Status.ReadFault → S.faults source.new ≡ S.faults source.old }
+    ensures no_write_fault { result ≢ Status.WriteFault → K.faults sink.new ≡ K.faults sink.old }
     ensures too_much { (result ≡ Status.TooMuch) ↔ (S.drawn source.old + 67108864 < S.drawn source.new) }
 {
     match Command::parse(words) {

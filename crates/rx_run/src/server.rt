@@ -129,6 +129,7 @@ impl Server {
             × Halts service.now self.old.line.bytes bytes.now part (least_missing fault)) }
         ensures fixed { K.fixed sink.new ≡ K.fixed sink.old }
         ensures later { K.faults sink.old ≤ K.faults sink.new }
+        ensures same { ¬ IsErrOf result ReplyFault.Write → K.faults sink.new ≡ K.faults sink.old }
         ensures write { IsErrOf result ReplyFault.Write → Rose (K.faults sink.old) (K.faults sink.new) }
     {
         self.answer_lines(alloc, service, bytes)?;
@@ -150,6 +151,7 @@ impl Server {
             × Halts service.now self.old.line.bytes [] part (least_missing fault)) }
         ensures fixed { K.fixed sink.new ≡ K.fixed sink.old }
         ensures later { K.faults sink.old ≤ K.faults sink.new }
+        ensures same { ¬ IsErrOf result ReplyFault.Write → K.faults sink.new ≡ K.faults sink.old }
         ensures write { IsErrOf result ReplyFault.Write → Rose (K.faults sink.old) (K.faults sink.new) }
     {
         if self.line.is_empty() {

@@ -12,11 +12,11 @@ use Rattle.rx_tools.proofs.Pieces.{utf8-nil, same_text, text_then}
 -- the same at another answer
 pub other_answer : {K T U E F : Type 0} {taken : K → Option (List ℕ)} {fixed : K → List ℕ} {faults : K → ℕ} {s t : K} {x : T} (y : U) {bytes : List ℕ} →
     Written {E = E} taken fixed faults s t (Ok x) bytes → Written {E = F} taken fixed faults s t (Ok y) bytes
-other_answer y a = record { whole = a.whole; part = tt; kept = a.kept; cause = record { later = a.cause.later; failed = tt } }
+other_answer y a = record { whole = a.whole; part = tt; kept = a.kept; cause = record { later = a.cause.later; failed = tt; same = a.cause.same } }
 
 other_fault : {K T U E F : Type 0} {taken : K → Option (List ℕ)} {fixed : K → List ℕ} {faults : K → ℕ} {s t : K} {e : E} (d : F) {bytes : List ℕ} →
     Written {T = T} taken fixed faults s t (Err e) bytes → Written {T = U} taken fixed faults s t (Err d) bytes
-other_fault d a = record { whole = tt; part = a.part; kept = a.kept; cause = record { later = a.cause.later; failed = a.cause.failed } }
+other_fault d a = record { whole = tt; part = a.part; kept = a.kept; cause = record { later = a.cause.later; failed = a.cause.failed; same = tt } }
 
 -- a fault in a text of which a call answers whether it wrote it
 pub unless_failed : {K T E F : Type 0} {taken : K → Option (List ℕ)} {fixed : K → List ℕ} {faults : K → ℕ} {s t : K} {e : E} {result : Result Bool F} (text : List ℕ) →
@@ -40,7 +40,7 @@ front_none taken fixed faults s x left_text = record {
   front = ([], rw utf8-nil (Appends-nil (taken s)), refl);
   part = tt;
   kept = refl;
-  cause = record { later = omega arith; failed = tt };
+  cause = record { later = omega arith; failed = tt; same = refl };
 }
 
 -- the front that was written
@@ -57,12 +57,12 @@ front_fails {result = Err e} a failed = record { front = tt; part = a.part; kept
 pub fails_front : {K T U E F : Type 0} {taken : K → Option (List ℕ)} {fixed : K → List ℕ} {faults : K → ℕ} {s t : K} {e : E} {result : Result U F} {text : List ℕ} {left_text : T → List ℕ} →
     WritesFront taken fixed faults s t (Err e) text left_text → IsErr result → Written taken fixed faults s t result (utf8 text)
 fails_front {result = Ok x} a failed = absurd (false≢true failed)
-fails_front {result = Err d} a failed = record { whole = tt; part = a.part; kept = a.kept; cause = record { later = a.cause.later; failed = a.cause.failed } }
+fails_front {result = Err d} a failed = record { whole = tt; part = a.part; kept = a.kept; cause = record { later = a.cause.later; failed = a.cause.failed; same = tt } }
 
 -- a text was written whole, and the rest is left
 pub front_written : {K T U E F : Type 0} {taken : K → Option (List ℕ)} {fixed : K → List ℕ} {faults : K → ℕ} {s t : K} {x : T} (y : U) {text : List ℕ} (next : List ℕ) {left_text : U → List ℕ} →
     Written {E = E} taken fixed faults s t (Ok x) (utf8 next) → text ≡ next ++ left_text y → WritesFront {E = F} taken fixed faults s t (Ok y) text left_text
-front_written y next a cut = record { front = (next, a.whole, cut); part = tt; kept = a.kept; cause = record { later = a.cause.later; failed = tt } }
+front_written y next a cut = record { front = (next, a.whole, cut); part = tt; kept = a.kept; cause = record { later = a.cause.later; failed = tt; same = a.cause.same } }
 
 -- a front, and then what was left, as far as it was written
 pub front_rest : {K T U E F : Type 0} {taken : K → Option (List ℕ)} {fixed : K → List ℕ} {faults : K → ℕ} {s t u : K} {x : T} {result : Result U F} {text : List ℕ} {left_text : T → List ℕ} →

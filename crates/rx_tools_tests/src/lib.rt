@@ -16,6 +16,8 @@ mod signs;
 #[cfg(test)]
 mod supporting;
 #[cfg(test)]
+mod unspelled;
+#[cfg(test)]
 mod walking;
 #[cfg(test)]
 mod writing;

@@ -190,24 +190,32 @@ pub fn group_of(alloc: Global, name: Option<Text>, term: Term) -> Result<Term, O
     Ok(Term::CapturingGroup(Box::new(alloc, group)?))
 }
 
-/// A group of a dot.
-pub fn ignoring(alloc: Global, modifiers: Option<Modifiers>) -> Result<Term, OutOfMemory> {
+pub fn ignoring(
+    alloc: Global,
+    modifiers: Option<Modifiers>,
+    term: Term,
+) -> Result<Term, OutOfMemory> {
     let group = IgnoreGroup {
         span: nowhere(),
         modifiers,
-        body: disjunction_of(alloc, dot())?,
+        body: disjunction_of(alloc, term)?,
     };
     Ok(Term::IgnoreGroup(Box::new(alloc, group)?))
 }
 
-/// A group of a dot with modifiers of these bits.
-pub fn modified(alloc: Global, enabling: u32, disabling: u32) -> Result<Term, OutOfMemory> {
+/// A group with modifiers of these bits.
+pub fn modified(
+    alloc: Global,
+    enabling: u32,
+    disabling: u32,
+    term: Term,
+) -> Result<Term, OutOfMemory> {
     let modifiers = Modifiers {
         span: nowhere(),
         enabling: modifier(enabling),
         disabling: modifier(disabling),
     };
-    ignoring(alloc, Some(modifiers))
+    ignoring(alloc, Some(modifiers), term)
 }
 
 fn modifier(bits: u32) -> Modifier {

@@ -1,6 +1,5 @@
 use crate::made::{
-    class_term, dot, in_class, modified, property, quantified, spelled, spelled_disjunction,
-    spelled_term, union,
+    class_term, dot, in_class, modified, property, quantified, spelled, spelled_term, union,
 };
 use crate::signs::{SpellingCall, characters_outside};
 use rx_ast::Term;
@@ -182,7 +181,7 @@ impl Call for ModifiersCall {
         let mut digits = asked.chars().filter_map(|digit| digit.to_digit(16));
         let enabling = digits.next().ok_or("no digit")?;
         let disabling = digits.next().ok_or("no second digit")?;
-        let term = modified(alloc, enabling, disabling)?;
+        let term = modified(alloc, enabling, disabling, dot())?;
         let text = spelled_term(alloc, Mode::Unicode, term)?;
         Ok(String::from_str(alloc, text.as_str())?)
     }
@@ -239,13 +238,5 @@ fn a_general_category_stands_alone(rt: HostRuntime) -> Result<(), Fail> {
 
 #[test]
 fn alternatives_stand_between_bars(rt: HostRuntime) -> Result<(), Fail> {
-    let none = spelled_disjunction(rt.alloc(), Mode::Unicode, List::new(rt.alloc()))?;
-    assert_eq!(rt; none.as_str(), "");
     agree(rt.alloc(), &UNICODE, "1|9|| => \\1|9||")
-}
-
-#[test]
-fn trees_that_no_text_spells(rt: HostRuntime) -> Result<(), Fail> {
-    let row = "02345678 => \\u{FFFFFFFF}A\\x1F.{5,2}.**(?:.)\\u{D83D}\\u{DE00}";
-    agree(rt.alloc(), &UNICODE, row)
 }

@@ -38,7 +38,7 @@ impl Call for DisplayCall {
     }
 }
 
-fn alternatives_of(alloc: Global, asked: &str) -> Result<List<Alternative>, OutOfMemory> {
+pub fn alternatives_of(alloc: Global, asked: &str) -> Result<List<Alternative>, OutOfMemory> {
     let mut alternatives = List::new(alloc);
     for signs in asked.split('|') {
         let body = terms_of(alloc, signs)?;
@@ -120,28 +120,29 @@ fn group_with(alloc: Global, sign: char) -> Result<Term, OutOfMemory> {
         'N' => group_of(alloc, Some(Text::from_str(alloc, "größe")?), dot()),
         'g' => group_of(alloc, None, character(0x39)),
         'h' => group_of(alloc, None, reference()),
-        ':' => ignoring(alloc, None),
+        ':' => ignoring(alloc, None, dot()),
         _ => unspelled(alloc, sign),
     }
 }
 
-/// A term that no text spells.
+/// A term that no text spells, or a character.
 fn unspelled(alloc: Global, sign: char) -> Result<Term, OutOfMemory> {
     match sign {
         '0' => Ok(character(0xFFFFFFFF)),
         '2' => Ok(of_kind(CharacterKind::Null, 0x41)),
         '3' => Ok(of_kind(CharacterKind::ControlLetter, 0x1F)),
-        '4' => quantified(alloc, 5, Some(2), true, dot()),
+        '4' => quantified(alloc, 5, Some(2), true, character(0x61)),
         '5' => quantified(
             alloc,
             0,
             None,
             true,
-            quantified(alloc, 0, None, true, dot())?,
+            quantified(alloc, 0, None, true, character(0x61))?,
         ),
-        '6' => modified(alloc, 0, 0xF8),
+        '6' => modified(alloc, 0, 0xF8, character(0x61)),
         '7' => Ok(character(0xD83D)),
-        _ => Ok(character(0xDE00)),
+        '8' => Ok(character(0xDE00)),
+        _ => Ok(character(sign as u32)),
     }
 }
 

@@ -22,8 +22,8 @@ chunks-init g c =
       drawn = omega (arith, c.in_ok-input.ensures);
       limit = omega arith;
       fixed = refl;
-      source = omega arith;
-      sink = omega arith;
+      source = refl;
+      sink = refl;
     }
 
 pub returns-in_err-count-clause-content : goal.returns-in_err-count-clause-content
@@ -58,8 +58,8 @@ chunks-preserved g c =
       drawn = omega (arith, ok.2, ok.3);
       limit = omega (arith, c.fill.new.self.in_limit);
       fixed = c.feed.ensures.fixed ∙ c.chunks.invariant.fixed;
-      source = omega arith;
-      sink = omega arith;
+      source = c.in_ok-count.ensures.same (λ is. cc) ∙ c.chunks.invariant.source;
+      sink = c.in_ok-feed.ensures.same (λ is. cc) ∙ c.chunks.invariant.sink;
     }
 
 pub returns-in_err-feed-clause-content : goal.returns-in_err-feed-clause-content

@@ -10,8 +10,8 @@ invariant-chunks g l = record {
   drawn : g.S.Source.drawn l.source ≡ g.S.Source.drawn l.fn.source + l.input.total;
   limit : l.input.total ≤ 67108864;
   fixed : g.K.Sink.fixed l.sink ≡ g.K.Sink.fixed l.fn.sink;
-  source : g.S.Source.faults l.fn.source ≤ g.S.Source.faults l.source;
-  sink : g.K.Sink.faults l.fn.sink ≤ g.K.Sink.faults l.sink;
+  source : g.S.Source.faults l.source ≡ g.S.Source.faults l.fn.source;
+  sink : g.K.Sink.faults l.sink ≡ g.K.Sink.faults l.fn.sink;
 }
 
 abbrev pub decreases-chunks : goal.decreases-chunks

@@ -9,7 +9,7 @@ returns-in-Ok c = record {
   whole = encodes_pushed c.args.self.now c.push.new.self c.args.c c.in-Ok.ensures.ok;
   part = tt;
   kept = refl;
-  cause = record { later = omega arith; failed = tt };
+  cause = record { later = omega arith; failed = tt; same = refl };
 }
 
 pub returns-in-Err : goal.returns-in-Err
@@ -23,5 +23,5 @@ returns-in-Err c = record {
     appended = ap encode_utf8_all c.in-Err.ensures.err ∙ sym (append-nil (encode_utf8_all c.args.self.now));
   };
   kept = refl;
-  cause = record { later = omega arith; failed = inr refl };
+  cause = record { later = omega arith; failed = inr refl; same = tt };
 }

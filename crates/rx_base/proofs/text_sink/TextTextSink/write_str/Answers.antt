@@ -7,5 +7,5 @@ returns-in-Ok c = record {
   whole = encodes_grown c.args.self.now c.push_str.new.self c.args.text.now c.utf8.text c.in-Ok.ensures.ok;
   part = tt;
   kept = refl;
-  cause = record { later = omega arith; failed = tt };
+  cause = record { later = omega arith; failed = tt; same = refl };
 }
