@@ -712,3 +712,22 @@ fn messages_of_faults_of_templates(rt: HostRuntime) -> Result<(), Fail> {
     }
     Ok(())
 }
+
+#[test]
+fn messages_of_faults_of_readers(rt: HostRuntime) -> Result<(), Fail> {
+    let span = Span::new(1, 2);
+    for (fault, message) in [
+        (ReaderFault::OutOfMemory, "Out of memory"),
+        (
+            ReaderFault::String(StringFault::TooLargeUnicodeEscapeSequence { span }),
+            "Too large unicode escape sequence",
+        ),
+        (
+            ReaderFault::Template(TemplateFault::InvalidHexEscape { span }),
+            "Invalid hex escape sequence",
+        ),
+    ] {
+        assert_eq!(rt; format!(in rt.alloc(); "{fault}")?.as_str(), message);
+    }
+    Ok(())
+}

@@ -32,7 +32,7 @@ member_holds negative from m u early plain none = let r = by m early plain none 
         (held : Held) × IsUnion held × (class_run (class_tokens_of (member_events m)) (bracket_of negative from false ∷ []) ≡ Some (bracket_of negative held false ∷ []))
     by (tree.range r) early plain none = range_runs negative from r.min.kind r.min.value r.max.kind r.max.value [] u early.2 early.1
     by (tree.escape e) early plain none = atom_runs negative from (escape e.kind) [] u refl refl
-    by (tree.property p) early plain none = atom_runs negative from (property p.negative p.strings p.name p.value) [] u (property_obeys p.negative p.strings early) none
+    by (tree.property p) early plain none = atom_runs negative from (property p.negative p.strings p.name p.value) [] u (property_obeys p.negative p.strings early.1) none
     by (tree.character c) early plain none = atom_runs negative from (character c.kind c.value) [] u (le-leb c.value 0x10FFFF early) refl
     by (tree.nested c) early plain none = absurd plain
     by (tree.strings d) early plain none = absurd plain
@@ -58,16 +58,16 @@ plain_fitting (tree.character c) plain = tt
 plain_fitting (tree.nested c) plain = absurd plain
 plain_fitting (tree.strings d) plain = absurd plain
 
-plain_flagged : (m : Member) → IsPlain m → IsFlaggedMember m
-plain_flagged (tree.range r) plain = tt
-plain_flagged (tree.escape e) plain = tt
-plain_flagged (tree.property p) plain = tt
-plain_flagged (tree.character c) plain = tt
-plain_flagged (tree.nested c) plain = absurd plain
-plain_flagged (tree.strings d) plain = absurd plain
+plain_flagged : (m : Member) → IsPlain m → IsEarlyMember m → IsFlaggedMember m
+plain_flagged (tree.range r) plain early = tt
+plain_flagged (tree.escape e) plain early = tt
+plain_flagged (tree.property p) plain early = early.0
+plain_flagged (tree.character c) plain early = tt
+plain_flagged (tree.nested c) plain early = absurd plain
+plain_flagged (tree.strings d) plain early = absurd plain
 
 plain_sound : (m : Member) → IsPlain m → IsEarlyMember m → IsSound m
-plain_sound m plain early = record { fitting = plain_fitting m plain; flagged = plain_flagged m plain; early = early }
+plain_sound m plain early = record { fitting = plain_fitting m plain; flagged = plain_flagged m plain early; early = early }
 
 sound_push : (xs ys : List Member) → AreSound (members xs) → ArePlain ys → AreEarlyMembers (members ys) → AreSound (members (xs ++ ys))
 sound_push xs [] sound plain early = subst (λ ms. AreSound (members ms)) (sym (append-nil xs)) sound

@@ -28,6 +28,7 @@ use Rattle.rx_model.specs.Refusals.Reached.{span_between, class_environment}
 use Rattle.rx_units.proofs.Choices.{both}
 use Rattle.rx_model.proofs.Classes.ClassFronts.{atom_some, behind_first, behind_one}
 use Rattle.rx_model.proofs.Inputs.Modes.{unicode_alone}
+use Rattle.rx_model.proofs.Properties.PropertyFlags.{strings_by_name}
 use Rattle.rx_class.specs.declared.class_atom.ClassAtom.{ClassAtom}
 use Rattle.rx_class.specs.declared.class_atom.ClassAtom.TheVariants as atom
 use Rattle.rx_class.specs.declared.class_item.ClassItem.{ClassItem}
@@ -148,10 +149,10 @@ atom_events (atom.Character c) = refl
 atom_events (atom.Escape c) = refl
 atom_events (atom.Property p) = refl
 
-atom_early : (a : ClassAtom) → atom_obeys (atom_of a) ≡ true → IsEarlyMember (atom_member a)
-atom_early (atom.Character c) o = leb-true c.value 0x10FFFF o
-atom_early (atom.Escape c) o = tt
-atom_early (atom.Property p) o = not-true (p.negative && p.strings) o
+atom_early : (e : Environment) (a : ClassAtom) (w more : List CodePoint) → SpellsAtom e (atom_of a) w more → atom_obeys (atom_of a) ≡ true → IsEarlyMember (atom_member a)
+atom_early e (atom.Character c) w more s o = leb-true c.value 0x10FFFF o
+atom_early e (atom.Escape c) w more s o = tt
+atom_early e (atom.Property p) w more s o = (strings_by_name e.mode p.strings p.name p.value s.text s.spelled, not-true (p.negative && p.strings) o)
 
 atom_plain : (a : ClassAtom) → IsPlain (atom_member a)
 atom_plain (atom.Character c) = tt
@@ -199,7 +200,7 @@ module _ (e : Environment) (added : ℕ) (old : Cursor) where
   alone_is it w more no_sets s o d is = record {
     some = atom_some e (atom_of it) w more s;
     row = rw (atom_events it) (alone_row (atom_of it) (atom_span it) w more s d is);
-    early = (atom_early it o, tt);
+    early = (atom_early e it w more s o, tt);
     plain = (atom_plain it, tt);
     no_strings = rw (atom_no_strings e it w more no_sets s) refl;
   }
@@ -448,7 +449,7 @@ module _ (e : Environment) (added : ℕ) (old : Cursor) where
           some = omega (arith, length-append p.w (p.hyphen ∷ p.v));
           row = rw (atom_events low, atom_events high, ← place, append_assoc p.w (p.hyphen ∷ p.v) (rest new))
               (three_row (atom_of low) (atom_of high) (atom_span low) h (atom_span high) p.w p.v (rest new) p.hyphen before p.low_is p.high_is p.hyphen_is p.low_span p.hyphen_span p.high_span);
-          early = (atom_early low p.low_obeys, (by_computing, (atom_early high p.high_obeys, tt)));
+          early = (atom_early e low p.w _ p.low_is p.low_obeys, (by_computing, (atom_early e high p.v _ p.high_is p.high_obeys, tt)));
           plain = (atom_plain low, (tt, (atom_plain high, tt)));
           no_strings = rw (atom_no_strings e low p.w _ no_sets p.low_is, atom_no_strings e high p.v _ no_sets p.high_is) refl;
         }) (passes_over p.passes)

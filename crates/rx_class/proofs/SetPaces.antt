@@ -11,6 +11,7 @@ use Rattle.rx_model.specs.Characters.EscapeFronts.{EscapeRead, escaped, nothing,
 use Rattle.rx_model.specs.Classes.ClassTokens.{character}
 use Rattle.rx_model.specs.Inputs.Environment.{Environment, is_sets}
 use Rattle.rx_model.proofs.Classes.ClassFronts.{atom_some}
+use Rattle.rx_model.proofs.Properties.PropertyFlags.{strings_by_name}
 use Rattle.rx_class.specs.declared.class_builder.ClassBuilder.{ClassBuilder}
 use Rattle.rx_class.specs.PropertyAnswers.{GivesProperty}
 use Rattle.rx_class.specs.PropertyAnswers as property_answer
@@ -36,7 +37,9 @@ pub property_left : {e : Environment} {added start : ℕ} {old new : Cursor} {it
 property_left {old = old} {new = new} (property_answer.some backslash w more whole spelled no_strings span moves) = moved_left (length w) old new moves
 
 pub property_sound : {e : Environment} {added start : ℕ} {old new : Cursor} {it : UnicodePropertyEscape} → GivesProperty e added start old new (Ok (Some it)) → IsSound (tree.property it)
-property_sound (property_answer.some backslash w more whole spelled no_strings span moves) = record { fitting = tt; flagged = tt; early = no_strings }
+property_sound {e = e} {it = it} (property_answer.some backslash w more whole spelled no_strings span moves) =
+    let flagged = strings_by_name e.mode it.strings it.name it.value spelled.text spelled.spelled in
+    record { fitting = tt; flagged = flagged; early = (flagged, no_strings) }
 
 pub adds_left : {e : Environment} {added : ℕ} {old new : Cursor} {before after : ClassBuilder} → AddsToSets e added old new before after → left new ≤ left old
 adds_left {e} {added} {old} {new} a =

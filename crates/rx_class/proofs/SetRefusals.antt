@@ -63,7 +63,12 @@ module _ (mode : Mode) (added : ℕ) (r : Cursor) (b : ClassBuilder) where
       let i = innermost_here h in
       let start : b.inner.start ≡ offset_in added r i.begin = i.start_is ∙ ap (λ (r : Cursor). offset_in added r i.begin) (sym h.keeps.same) in
       rw start
-      (class_cause.negative_strings (is_nested b) i.begin r.place (rest r) i.in_bracket closes (ap (λ b. is_whole b.held) i.inner_is ∙ whole) (ap (λ b. b.negative && b.may) i.inner_is ∙ strings))
+      (class_cause.negative_strings (is_nested b) i.begin r.place (rest r) record {
+        in_bracket = i.in_bracket;
+        closes = closes;
+        whole = ap (λ b. is_whole b.held) i.inner_is ∙ whole;
+        may = ap (λ b. b.negative && b.may) i.inner_is ∙ strings;
+      })
 
   -- Nothing follows.
   nothing_cause : (d : Diagnostic) → is_sets mode ≡ true → StandsNothing here r b → SaysNothing added r b d → (from : Cursor) → IsInSets here added from r b → IsClassCause mode r.units r.first added from.place (rest from) r.place d

@@ -1,4 +1,5 @@
 pub mod OneProperty
+pub mod PropertyFlags
 pub mod PropertyFronts
 pub mod PropertyRefusals
 pub mod PropertyRuns

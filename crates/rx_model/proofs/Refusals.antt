@@ -4,6 +4,7 @@ pub mod BlockedPlaces
 pub mod Decoded
 pub mod Faults
 pub mod FlagCauses
+pub mod FromStart
 pub mod InnermostGroups
 pub mod LegacyPlaces
 pub mod LegacyRaws

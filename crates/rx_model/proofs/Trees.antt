@@ -6,3 +6,4 @@ pub mod Joins
 pub mod Names
 pub mod OpenGroups
 pub mod Runs
+pub mod Unspanned

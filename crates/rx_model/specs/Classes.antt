@@ -1,7 +1,11 @@
+pub mod ClassBrackets
 pub mod ClassBuilds
 pub mod ClassContents
 pub mod ClassFronts
+pub mod ClassOperands
+pub mod ClassPieces
 pub mod ClassRows
 pub mod ClassRuns
 pub mod ClassShapes
+pub mod ClassStrings
 pub mod ClassTokens

@@ -1,3 +1,4 @@
+pub mod Alternatives
 pub mod Boundaries
 pub mod ElementKinds
 pub mod FrontReading
@@ -6,4 +7,3 @@ pub mod Headline
 pub mod Prefixes
 pub mod Reading
 pub mod Rows
-pub mod Sequences

@@ -4,5 +4,6 @@ pub mod ClassPlaces
 pub mod EscapeCauses
 pub mod Firsts
 pub mod FlagCauses
+pub mod FromStart
 pub mod Reached
 pub mod Stops

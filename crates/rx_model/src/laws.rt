@@ -5,31 +5,41 @@ ghost use Rattle.rx_base.specs.declared.diagnostic.Diagnostic.{Diagnostic};
 ghost use Rattle.rx_base.specs.declared.fault.Fault.{Fault};
 ghost use Rattle.rx_base.specs.declared.diagnostic.Diagnostic.TheVariants.{CharacterClassRangeInvalidAtom, InvalidInput, LoneQuantifier};
 ghost use Rattle.rx_base.specs.declared.span.Span.{Span};
-ghost use Rattle.rx_ast.specs.ClassTree.{Class};
-ghost use Rattle.rx_ast.specs.Forget.{bare, unspanned};
+ghost use Rattle.rx_ast.specs.ClassTree.{Class, strings};
+ghost use Rattle.rx_ast.specs.Forget.{bare, forget_alternatives, forget_member, same_kind, unspanned};
 ghost use Rattle.rx_ast.specs.Parts.{IsNestedPattern};
-ghost use Rattle.rx_ast.specs.Tree.{mirror};
+ghost use Rattle.rx_ast.specs.Tree.{Alternatives, Nodes, mirror};
+ghost use Rattle.rx_ast.specs.declared.class.CharacterClassContentsKind.{CharacterClassContentsKind};
+ghost use Rattle.rx_ast.specs.declared.class.CharacterClassContentsKind.TheVariants.{Intersection, Subtraction};
+ghost use Rattle.rx_ast.specs.declared.class.ClassString.{ClassString};
+ghost use Rattle.rx_ast.specs.declared.class.ClassStringDisjunction.{ClassStringDisjunction};
 ghost use Rattle.rx_ast.specs.declared.term.Pattern.{Pattern};
 ghost use Rattle.rx_units.specs.declared.code_point.CodePoint.{CodePoint};
+ghost use Rattle.rx_units.specs.Sequences.{ElementRow};
 ghost use Rattle.rx_units.specs.Units.{offset_at, values};
 ghost use Rattle.rx_model.specs.declared.form.Form.{Form};
 ghost use Rattle.rx_model.specs.declared.form.Form.TheVariants as form;
 ghost use Rattle.rx_model.specs.declared.mode.Mode.{Mode};
 ghost use Rattle.rx_model.specs.Trees.Bodies.{AreQuantified, BeginsWithQuantifier, BeginsWithoutQuantifier};
 ghost use Rattle.rx_model.specs.Refusals.Causes.{IsCause, IsCauseAtPlace, begins_modifiers};
-ghost use Rattle.rx_model.specs.Refusals.ClassCauses.{IsClassCause};
-ghost use Rattle.rx_model.specs.Classes.ClassRows.{ClassTokenRow, IsClass, Place, outside, SpellsAtom};
-ghost use Rattle.rx_model.specs.Classes.ClassTokens.{ClassToken, class_tokens, Atom};
+ghost use Rattle.rx_model.specs.Refusals.ClassCauses.{IsClassCause, IsNegativeWithStrings, of_negative};
+ghost use Rattle.rx_model.specs.Classes.ClassOperands.{IsClassOfOperands, IsClassOfUnion};
+ghost use Rattle.rx_model.specs.Classes.ClassPieces.{IsClassOfPieces};
+ghost use Rattle.rx_model.specs.Classes.ClassRows.{ClassTokenRow, IsClass, Place, fresh, outside, SpellsAtom};
+ghost use Rattle.rx_model.specs.Classes.ClassTokens.{ClassToken, class_tokens, class_tokens_of, member_events, Atom};
 ghost use Rattle.rx_model.specs.Classes.ClassContents.{AreContents, Thing, held_after};
 ghost use Rattle.rx_model.specs.Classes.ClassRuns.{Held, empty, is_whole, class_opened};
 ghost use Rattle.rx_model.specs.Refusals.ClassPlaces.{IsAtomPlace};
-ghost use Rattle.rx_model.specs.Classes.ClassShapes.{IsFitting, IsFlagged};
+ghost use Rattle.rx_model.specs.Classes.ClassShapes.{IsFitting, IsFlagged, IsFlaggedMember};
+ghost use Rattle.rx_model.specs.Classes.ClassStrings.{SpellsStrings};
 ghost use Rattle.rx_model.specs.FirstPass.Cuts.{IsCut, TellsApart, TellsGroups};
 ghost use Rattle.rx_model.specs.Trees.Early.{IsCodePoint, IsEarlyClass};
 ghost use Rattle.rx_model.specs.Inputs.Environment.{Environment, environment, is_sets, is_unicode};
 ghost use Rattle.rx_model.specs.declared.mode.Mode.TheVariants.{Legacy, Unicode, Sets};
 ghost use Rattle.rx_model.specs.Refusals.Firsts.{GivesWay, IsCauseOfEscape, IsFirst, IsFirstInClass, IsFirstOf, IsFirstOfEscape, NoneBeyond, NoneBeyondInClass, no_item, yielding};
+ghost use Rattle.rx_model.specs.Refusals.FromStart.{IsCauseFromStart, IsClassCauseFromStart};
 ghost use Rattle.rx_model.specs.Inputs.Flags.{flags_ok};
+ghost use Rattle.rx_model.specs.Reading.Alternatives.{SpellsAlternative, disjunction_of};
 ghost use Rattle.rx_model.specs.Reading.ElementKinds.{NestedPlace};
 ghost use Rattle.rx_model.specs.Reading.Headline.{IsFirstRefusal, IsParsed, IsReadAs, IsSameAgain, IsValid};
 ghost use Rattle.rx_model.specs.Inputs.Inputs.{Asks, AsksFor, Input};
@@ -37,8 +47,8 @@ ghost use Rattle.rx_model.specs.declared.rules.Rules.{Rules};
 ghost use Rattle.rx_model.specs.Inputs.Texts.{AreUnits};
 ghost use Rattle.rx_model.specs.Groups.GroupNames.{BeginsWithName, SpellsName};
 ghost use Rattle.rx_model.specs.Reading.Prefixes.{GoesOn, GoesOnInClass};
-ghost use Rattle.rx_model.specs.Refusals.Reached.{IsInside, IsPlace, IsReached, class_environment};
-ghost use Rattle.rx_model.specs.Trees.Events.{tokens};
+ghost use Rattle.rx_model.specs.Refusals.Reached.{IsInside, IsPlace, IsReached, class_environment, span_between};
+ghost use Rattle.rx_model.specs.Trees.Events.{alternatives_events, tokens, tokens_of};
 ghost use Rattle.rx_model.specs.Refusals.FlagCauses.{IsFlagCause};
 ghost use Rattle.rx_model.specs.FirstPass.Marks.{starts};
 ghost use Rattle.rx_model.specs.Spelling.OneLine.{IsOneLine};
@@ -46,16 +56,21 @@ ghost use Rattle.rx_model.specs.Trees.OpenGroups.{AreOpen, EndsQuantifiable};
 ghost use Rattle.rx_model.specs.Spelling.ReadBack.{AreCodeUnits, FitIn, IsReadBack};
 ghost use Rattle.rx_model.specs.Reading.Reading.{IsSpanned, IsSpelled, Reads};
 ghost use Rattle.rx_model.specs.Reading.Rows.{Spells, TokenRow};
-ghost use Rattle.rx_model.specs.Reading.Sequences.{ElementRow, ElementsGoOn};
 ghost use Rattle.rx_model.specs.Spelling.Spelling.{spelling};
 ghost use Rattle.rx_model.specs.Refusals.Stops.{IsStop, begins_class_escape, is_letter, is_one_of};
-ghost use Rattle.rx_model.specs.Trees.Shapes.{IsWellMade, run};
+ghost use Rattle.rx_model.specs.Trees.Shapes.{HasAlternatives, IsWellMade, run};
 ghost use Rattle.rx_model.specs.Trees.Token.{Opener, Token, quantifier, character};
 ghost use Rattle.rx_model.specs.Quantifiers.Quantifiers.{BeginsWithBraces};
 ghost use Rattle.rx_model.specs.Characters.LegacyEscapes.{is_control};
 ghost use Rattle.rx_model.specs.Characters.UnitKinds.{unit_kind};
 
-use crate::sequence::{ClassTokens, ElementKind, NameCharacters, PatternTokens};
+use crate::class_sequence::{
+    BarredStrings, ClassPieces, FurtherOperands, StringCharacters, UnionItems,
+};
+use crate::sequence::{
+    BarredAlternatives, ClassTokens, ElementKind, NameCharacters, PatternTokens,
+};
+pub use rx_units::laws::sequence;
 
 /// Two patterns that one text reads as, in one mode and under the same rules, are equal but for spans.
 pub fn unique_reading()
@@ -179,6 +194,18 @@ pub fn said_is_first_in_class()
         IsClassCause mode us start added from at_class place d → yielding d ≢ no_item → IsFirstInClass mode us start added from at_class d }
 {}
 
+/// Which refusal is the first of a class, or of a text, is the same where that of a negative class which may contain strings is said to hold at its `]` and where it
+/// is said to hold where the class begins, on the whole of which the early error stands (ECMA-262, 22.2.1.1); for no other refusal of the text holds then.
+pub fn negative_classes()
+    ensures in_class { (mode : Mode) (us : List CodePoint) (start added from : ℕ) (at_class : List CodePoint) (d : Diagnostic) →
+        IsFirstInClass mode us start added from at_class d ↔ IsFirstOf (IsClassCauseFromStart mode us start added from at_class) d }
+    ensures in_text { (mode : Mode) (rules : Rules) (us : List CodePoint) (start added : ℕ) (d : Diagnostic) →
+        IsFirstOf (IsCauseAtPlace mode rules us start added) d ↔ IsFirstOf (IsCauseFromStart mode rules us start added) d }
+    ensures only { (mode : Mode) (rules : Rules) (us : List CodePoint) (start added from : ℕ) (at_class : List CodePoint) (nested : Bool) (begin place : ℕ) (rest : List CodePoint) →
+        IsPlace mode rules us from at_class → IsNegativeWithStrings (class_environment mode us) from at_class nested begin place rest →
+        (f : ℕ) (d : Diagnostic) → IsCauseAtPlace mode rules us start added f d → (place ≡ f) × (of_negative nested (span_between us start added begin (place + 1)) ≡ d) }
+{}
+
 /// At most one refusal holds of the escape of a character or of a property that is to stand at a place, in every mode.
 pub fn one_of_escape()
     ensures { (mode : Mode) (us : List CodePoint) (start added place : ℕ) (rest : List CodePoint) (f g : ℕ) (d e : Diagnostic) →
@@ -207,10 +234,9 @@ pub fn names_apart()
     ensures { (mode : Mode) (rules : Rules) (p : Pattern) (us : List CodePoint) → IsSpelled mode rules p us → TellsApart mode rules.duplicate_names p us }
 {}
 
-/// The canonical spelling of a pattern is one line: not empty, and with no tab and no LineTerminator (ECMA-262, 12.3) in it. With neither `u` nor `v` each unit
-/// of a text is a UTF-16 code unit.
+/// The canonical spelling of a pattern of some units is one line: not empty, and with no tab and no LineTerminator (ECMA-262, 12.3) in it.
 pub fn one_line()
-    ensures { (mode : Mode) (rules : Rules) (p : Pattern) (us : List CodePoint) → Reads mode rules p us → FitIn mode us → us ≢ [] → IsOneLine (spelling (bare p) mode) }
+    ensures { (mode : Mode) (rules : Rules) (p : Pattern) (us : List CodePoint) → Reads mode rules p us → us ≢ [] → IsOneLine (spelling (bare p) mode) }
 {}
 
 /// The canonical spelling of a pattern reads as a pattern that is equal but for spans and character kinds.
@@ -241,25 +267,8 @@ pub fn legacy_backslash()
         (t : Token) × (w : List CodePoint) × (rest : List CodePoint) × (u ∷ v ∷ us ≡ w ++ rest) × Spells e t w rest }
 {}
 
-/// Of one text at most one list of elements of a kind ends before a stop, and it is the longest: each list that the text begins with is a front part of it. Of two
-/// lists that one text begins with one is a front part of the other, whatever they leave; they are one where they leave the same.
-pub fn sequence<S: ElementKind>()
-    ensures one { (e : S.Surroundings) (ts ss : List S.Element) (q : S.Place) (us : List S.TextUnit) (r : S.Place) (a : List S.TextUnit) (p : S.Place) (b : List S.TextUnit) →
-        ElementRow (S.spells e) (S.behind e) ts q us r a → S.is_stop e r a → ElementRow (S.spells e) (S.behind e) ss q us p b → S.is_stop e p b → (ts ≡ ss) × (r ≡ p) × (a ≡ b) }
-    ensures longest { (e : S.Surroundings) (ts ss : List S.Element) (q : S.Place) (us : List S.TextUnit) (r : S.Place) (a : List S.TextUnit) (p : S.Place) (b : List S.TextUnit) →
-        ElementRow (S.spells e) (S.behind e) ts q us r a → S.is_stop e r a → ElementRow (S.spells e) (S.behind e) ss q us p b → ElementsGoOn (S.spells e) (S.behind e) ss p b ts r a }
-    ensures prefixes { (e : S.Surroundings) (ts ss : List S.Element) (q : S.Place) (us : List S.TextUnit) (r : S.Place) (a : List S.TextUnit) (p : S.Place) (b : List S.TextUnit) →
-        ElementRow (S.spells e) (S.behind e) ts q us r a → ElementRow (S.spells e) (S.behind e) ss q us p b →
-        ElementsGoOn (S.spells e) (S.behind e) ts r a ss p b ⊎ ElementsGoOn (S.spells e) (S.behind e) ss p b ts r a }
-    ensures one_between { (e : S.Surroundings) (ts ss : List S.Element) (q : S.Place) (us : List S.TextUnit) (r p : S.Place) (rest : List S.TextUnit) →
-        ElementRow (S.spells e) (S.behind e) ts q us r rest → ElementRow (S.spells e) (S.behind e) ss q us p rest → (ts ≡ ss) × (r ≡ p) }
-{
-    S::some_units();
-    S::one_front();
-    S::none_at_stop();
-}
-
-/// Rows of tokens and the characters of a name are lists of elements, and so are the tokens of a class, which end before a stop.
+/// Rows of tokens and the characters of a name are lists of elements, and so are the tokens of a class, which end before a stop. A disjunction that ends before a
+/// stop, at a `)` or at the end of the text, is a first alternative and a list of further ones; so is a pattern.
 pub fn elements()
     ensures tokens { (e : Environment) (ts : List Token) (us rest : List CodePoint) →
         TokenRow e ts us rest ↔ ElementRow (⟦<PatternTokens as ElementKind>⟧.spells e) (⟦<PatternTokens as ElementKind>⟧.behind e) ts tt us tt rest }
@@ -269,6 +278,16 @@ pub fn elements()
     ensures names { (unicode_mode : Bool) (name us rest : List ℕ) →
         ((w : List ℕ) × (us ≡ w ++ rest) × SpellsName unicode_mode name w rest) ↔
         ElementRow (⟦<NameCharacters as ElementKind>⟧.spells unicode_mode) (⟦<NameCharacters as ElementKind>⟧.behind unicode_mode) name true us false rest }
+    ensures disjunctions { (e : Environment) (all : Alternatives) (us rest : List CodePoint) → ⟦<BarredAlternatives as ElementKind>⟧.is_stop e tt rest →
+        (HasAlternatives e.mode all × TokenRow e (tokens_of (alternatives_events all)) us rest) ↔
+        ((first : Nodes) × (others : List Nodes) × (w : List CodePoint) × (between : List CodePoint) × (us ≡ w ++ between) × (forget_alternatives same_kind all ≡ disjunction_of (first ∷ others)) ×
+        SpellsAlternative e first w between × ElementRow (⟦<BarredAlternatives as ElementKind>⟧.spells e) (⟦<BarredAlternatives as ElementKind>⟧.behind e) others tt between tt rest) }
+    ensures patterns { (mode : Mode) (rules : Rules) (p : Pattern) (us : List CodePoint) →
+        IsSpelled mode rules p us ↔
+        ((first : Nodes) × (others : List Nodes) × (w : List CodePoint) × (between : List CodePoint) × (us ≡ w ++ between) × (unspanned p ≡ disjunction_of (first ∷ others)) ×
+        SpellsAlternative (environment mode rules p) first w between ×
+        ElementRow (⟦<BarredAlternatives as ElementKind>⟧.spells (environment mode rules p)) (⟦<BarredAlternatives as ElementKind>⟧.behind (environment mode rules p)) others tt between tt []) }
+    ensures stops { (e : Environment) (u : CodePoint) (rest : List CodePoint) → ⟦<BarredAlternatives as ElementKind>⟧.is_stop e tt [] × (u.value ≡ 41 → ⟦<BarredAlternatives as ElementKind>⟧.is_stop e tt (u ∷ rest)) }
 {}
 
 /// A text begins with at most one class.
@@ -413,4 +432,39 @@ pub fn innermost_group()
 /// A pattern that is spanned over offsets that do not fall is nested.
 pub fn spanned_is_nested()
     ensures { (mode : Mode) (rules : Rules) (p : Pattern) (us : List CodePoint) (first added : ℕ) → ((i j : ℕ) → i ≤ j → offset_at first us i ≤ offset_at first us j) → IsSpanned mode rules p us first added → IsNestedPattern (mirror p) }
+{}
+
+/// Without `v` a class is pieces in brackets, and its members are what they give (NonemptyClassRanges, ECMA-262, 22.2.1; CharacterRangeOrUnion, B.1.2.8.1); and the
+/// pieces end before a stop.
+pub fn class_pieces()
+    ensures whole { (e : Environment) (c : Class) (w rest : List CodePoint) → is_sets e.mode ≡ false → (IsClass e c w rest ↔ IsClassOfPieces e c w rest) }
+    ensures elements { (e : Environment) (c : Class) (w rest : List CodePoint) (of : IsClassOfPieces e c w rest) →
+        ElementRow (⟦<ClassPieces as ElementKind>⟧.spells e) (⟦<ClassPieces as ElementKind>⟧.behind e) of.pieces tt of.brackets.inside tt (of.brackets.closer ∷ rest)
+        × ⟦<ClassPieces as ElementKind>⟧.is_stop e tt (of.brackets.closer ∷ rest) }
+{}
+
+/// Class strings in a class with `v`, of which there are some, without spans and with the right flags, are what their tokens spell (ClassStringDisjunction, ECMA-262,
+/// 22.2.1); the characters of the first end before a stop, and so do the others.
+pub fn class_strings()
+    ensures whole { (e : Environment) (d : ClassStringDisjunction) (w rest : List CodePoint) → d.body ≢ [] → IsFlaggedMember (strings d) → forget_member same_kind (strings d) ≡ strings d →
+        (SpellsStrings e d.body w rest ↔ ClassTokenRow e (class_tokens_of (member_events (strings d))) fresh (w ++ rest) fresh rest) }
+    ensures first { (e : Environment) (ss : List ClassString) (w rest : List CodePoint) (s : SpellsStrings e ss w rest) →
+        ElementRow (⟦<StringCharacters as ElementKind>⟧.spells e) (⟦<StringCharacters as ElementKind>⟧.behind e) s.first tt s.inside tt s.further
+        × ⟦<StringCharacters as ElementKind>⟧.is_stop e tt s.further }
+    ensures others { (e : Environment) (ss : List ClassString) (w rest : List CodePoint) (s : SpellsStrings e ss w rest) →
+        ElementRow (⟦<BarredStrings as ElementKind>⟧.spells e) (⟦<BarredStrings as ElementKind>⟧.behind e) s.more tt s.further tt (s.closer ∷ rest)
+        × ⟦<BarredStrings as ElementKind>⟧.is_stop e tt (s.closer ∷ rest) }
+{}
+
+/// With `v` a class is the items of a union in brackets, or the operands of an intersection or of a subtraction (ClassUnion, ClassIntersection and
+/// ClassSubtraction, ECMA-262, 22.2.1); and the items end before a stop, and so do the operands after the first. (A union has no operands of this kind.)
+pub fn class_operands()
+    ensures whole { (e : Environment) (c : Class) (w rest : List CodePoint) → is_sets e.mode ≡ true →
+        (IsClass e c w rest ↔ (IsClassOfUnion e c w rest ⊎ (IsClassOfOperands e Intersection c w rest ⊎ IsClassOfOperands e Subtraction c w rest))) }
+    ensures items { (e : Environment) (c : Class) (w rest : List CodePoint) (of : IsClassOfUnion e c w rest) →
+        ElementRow (⟦<UnionItems as ElementKind>⟧.spells e) (⟦<UnionItems as ElementKind>⟧.behind e) of.items tt of.brackets.inside tt (of.brackets.closer ∷ rest)
+        × ⟦<UnionItems as ElementKind>⟧.is_stop e tt (of.brackets.closer ∷ rest) }
+    ensures operands { (e : Environment) (kind : CharacterClassContentsKind) (c : Class) (w rest : List CodePoint) (of : IsClassOfOperands e kind c w rest) →
+        ElementRow (⟦<FurtherOperands as ElementKind>⟧.spells (e, kind)) (⟦<FurtherOperands as ElementKind>⟧.behind (e, kind)) of.more tt of.further tt (of.brackets.closer ∷ rest)
+        × ⟦<FurtherOperands as ElementKind>⟧.is_stop (e, kind) tt (of.brackets.closer ∷ rest) }
 {}

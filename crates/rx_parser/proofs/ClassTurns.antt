@@ -42,6 +42,7 @@ use Rattle.rx_parser.proofs.Refused.{cause_refused, class_refused}
 use Rattle.rx_parser.proofs.Steps.{Grows}
 use Rattle.rx_parser.proofs.Turns.{class_turned, leaf_turned}
 use Rattle.rx_model.specs.Refusals.Reached.{class_environment}
+use Rattle.rx_model.proofs.Properties.PropertyFlags.{strings_by_name}
 use Rattle.rx_model.proofs.Reading.OneRow.{property_same}
 
 -- behind the first of two values
@@ -134,7 +135,7 @@ module _ {added : ℕ} {b : Builder} {r : Cursor} {state : State} (h : IsBefore 
               end = ap (λ x. x.end) span;
               moved_on = new ∙ moved_twice (length w);
             })
-            obeys l g
+            (strings_by_name class_text.mode it.strings it.name it.value spelled.text spelled.spelled, obeys) l g
 
     -- Where a property escape is to stand, one is answered or refused.
     pub property_never_none : (answer : Option UnicodePropertyEscape) → IsFound text (rest r) found.Property → answer ≡ None → GivesProperty (environment_of state) added start old s (Ok answer) → ⊥

@@ -36,27 +36,27 @@ use Rattle.rx_rewrite.proofs.Patterns.{its_tree, all_names, its_shape}
 use Rattle.rx_rewrite.proofs.Replaced.{leaf-all}
 use Rattle.rx_rewrite.proofs.Tokens.{OfNode, kept-tokens, some-rewritten}
 
-known_all : (e : Environment) (ts : List Token) → AreKnown e ts → All (Known e) ts
-known_all e [] known = All-nil (Known e)
-known_all e (t ∷ ts) known = All-cons (Known e) t ts known.0 (known_all e ts known.1)
+known_all : (e : Environment) (ts : List Token) → AreKnown true e ts → All (Known true e) ts
+known_all e [] known = All-nil (Known true e)
+known_all e (t ∷ ts) known = All-cons (Known true e) t ts known.0 (known_all e ts known.1)
 
-all_known : (e : Environment) (ts : List Token) → All (Known e) ts → AreKnown e ts
+all_known : (e : Environment) (ts : List Token) → All (Known true e) ts → AreKnown true e ts
 all_known e [] known = tt
-all_known e (t ∷ ts) known = (All-head (Known e) t ts known, all_known e ts (All-tail (Known e) t ts known))
+all_known e (t ∷ ts) known = (All-head (Known true e) t ts known, all_known e ts (All-tail (Known true e) t ts known))
 
 -- The classes that are made can be spelled in each mode.
-any_known : (mode : Mode) (s : Span) → IsKnownClass mode (forget_class same_kind (any_unit s))
+any_known : (mode : Mode) (s : Span) → IsKnownClass true mode (forget_class same_kind (any_unit s))
 any_known mode s = record { no_spans = refl; shape = ((tt, tt), (refl, tt)); known = (tt, tt) }
 
-no_terminator_known : (mode : Mode) (s : Span) → IsKnownClass mode (forget_class same_kind (no_line_terminator s))
+no_terminator_known : (mode : Mode) (s : Span) → IsKnownClass true mode (forget_class same_kind (no_line_terminator s))
 no_terminator_known mode s = record {
   no_spans = refl;
   shape = ((tt, (tt, (tt, (tt, (tt, tt))))), (refl, (tt, (tt, (tt, (tt, tt))))));
-  known = (tt, (λ legacy. omega arith, (λ legacy. omega arith, (λ legacy. omega arith, (λ legacy. omega arith, tt)))));
+  known = (tt, (λ _ legacy. omega arith, (λ _ legacy. omega arith, (λ _ legacy. omega arith, (λ _ legacy. omega arith, tt)))));
 }
 
 -- Modifiers of a tree have three bits on each side that count.
-three_bits_known : (mode : Mode) (m : Option Modifiers) → IsKnownOpener mode (ignoring (bits m))
+three_bits_known : (mode : Mode) (m : Option Modifiers) → IsKnownOpener true mode (ignoring (bits m))
 three_bits_known mode None = tt
 three_bits_known mode (Some m) = (omega arith, omega arith)
 
@@ -73,35 +73,35 @@ module _ (what : Rewrites) (flags : MatchFlags) (p q : Pattern) (is : mirror q �
   boundary_known at.EndBuffer known = known
   boundary_known at.EndBufferOptionalNewline known = known
 
-  reference_known : (asked : Bool) → what.named_capture_groups ≡ asked → (r : NamedReference) → Known (environment mode rules p) (leaf_token (tree.named r)) →
-      Known (environment mode rules q) (leaf_token (if asked then tree.indexed (record { span = r.span; index = number_of r.name table }) else tree.named r))
+  reference_known : (asked : Bool) → what.named_capture_groups ≡ asked → (r : NamedReference) → Known true (environment mode rules p) (leaf_token (tree.named r)) →
+      Known true (environment mode rules q) (leaf_token (if asked then tree.indexed (record { span = r.span; index = number_of r.name table }) else tree.named r))
   reference_known true asked r known = tt
   reference_known false not_asked r known = (known.0, ap (λ ns. is_unicode mode || has_some ns) (all_names what flags p q is not_asked) ∙ known.1)
 
-  leaf_known : (old new : Settings) (l : Leaf) → Known (environment mode rules p) (leaf_token l) → OfNode (Known (environment mode rules q)) (leaf_rewritten what table old new l)
+  leaf_known : (old new : Settings) (l : Leaf) → Known true (environment mode rules p) (leaf_token l) → OfNode (Known true (environment mode rules q)) (leaf_rewritten what table old new l)
   leaf_known old new (tree.boundary b) known =
-      leaf-all what table (OfNode (Known (environment mode rules q))) old new (tree.boundary b)
+      leaf-all what table (OfNode (Known true (environment mode rules q))) old new (tree.boundary b)
       (boundary_known b.kind known, λ k. ((tt, ((no_terminator_known mode b.span, tt), tt)), (tt, ((any_known mode b.span, tt), tt))))
   leaf_known old new (tree.character c) known = known
   leaf_known old new (tree.dot d) known =
-      leaf-all what table (OfNode (Known (environment mode rules q))) old new (tree.dot d) (tt, any_known mode d.span, no_terminator_known mode d.span)
+      leaf-all what table (OfNode (Known true (environment mode rules q))) old new (tree.dot d) (tt, any_known mode d.span, no_terminator_known mode d.span)
   leaf_known old new (tree.class_escape k) known = tt
   leaf_known old new (tree.property it) known = known
   leaf_known old new (tree.class k) known = known
   leaf_known old new (tree.indexed r) known = tt
   leaf_known old new (tree.named r) known = reference_known what.named_capture_groups refl r known
 
-  name_known : (asked : Bool) (name : Option (List ℕ)) → IsKnownOpener mode (capturing name) → IsKnownOpener mode (capturing (if asked then None else name))
+  name_known : (asked : Bool) (name : Option (List ℕ)) → IsKnownOpener true mode (capturing name) → IsKnownOpener true mode (capturing (if asked then None else name))
   name_known true name known = tt
   name_known false name known = known
 
-  tokens_known : AreKnown (environment mode rules p) (tokens p) → AreKnown (environment mode rules q) (tokens q)
+  tokens_known : AreKnown true (environment mode rules p) (tokens p) → AreKnown true (environment mode rules q) (tokens q)
   unfolding table
   tokens_known known =
       let old = settings flags in
       let new = settings (flags_rewritten what flags) in
-      let P = Known (environment mode rules p) in
-      let Q = Known (environment mode rules q) in
+      let P = Known true (environment mode rules p) in
+      let Q = Known true (environment mode rules q) in
       all_known (environment mode rules q) (tokens q)
       (subst (All Q) (sym (tokens_are q ∙ ap (λ more. before (alternatives_events more) []) (its_tree what flags p q is)))
       (kept-tokens what table P Q leaf_known (λ min max greedy h. tt) (name_known what.named_capture_groups) (λ m h. three_bits_known mode _) (λ k h. tt) tt tt old new (mirror_disjunction p.body).1
@@ -117,6 +117,6 @@ module _ (what : Rewrites) (flags : MatchFlags) (p q : Pattern) (is : mirror q �
   rewritten_is_read_back us reads fit some =
       let e = environment mode rules p in
       let e_new = environment mode rules q in
-      let known = tokens_known (are_known e (tokens p) us [] fit reads.spelled.row) in
+      let known = tokens_known (are_known true e (tokens p) us [] (λ _. fit) reads.spelled.row) in
       known_is_read_back mode rules q (its_early what flags p q is rules reads.early) (its_shape what flags p q is mode reads.spelled.shape) known
-      (some_tokens e_new false (tokens q) known (some_left (has_tokens e (tokens p) us reads.spelled.row some)))
+      (some_tokens e_new false (tokens q) (some_left (has_tokens e (tokens p) us reads.spelled.row some)))

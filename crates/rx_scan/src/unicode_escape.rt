@@ -6,7 +6,7 @@ ghost use Rattle.rx_units.specs.Units.{values};
 ghost use Rattle.rx_model.specs.Characters.Decoding.{behind_u, braces_at, decoded, four_at, joined_at, run_at, trail_at};
 ghost use Rattle.rx_model.specs.Characters.UnicodeEscapes.{Decodes, PassesHex};
 ghost use Rattle.rx_model.specs.FirstPass.Marks.{starts};
-ghost use Rattle.rx_scan.specs.DecodingSteps.{escape_length, least_digits, most_digits};
+ghost use Rattle.rx_scan.specs.DecodingSteps.{digits_after_u, digits_in_braces, digits_looked_at, digits_of_four, digits_of_run, digits_of_trail, escape_length, least_digits, most_digits};
 ghost use Rattle.rx_scan.specs.EscapeDecoding.{seen_escape};
 
 use rx_base::{Counter, Steps, combine_surrogate_pair, is_lead_surrogate, is_trail_surrogate};
@@ -68,6 +68,9 @@ pub fn decode_counted<C: Counter>(
 
     // At least half a step for each unit of an escape.
     ensures half { escape_length result + 2 * C.count steps.old ≤ 2 * C.count steps.new }
+
+    // A step for each hexadecimal digit that is looked at, whatever the answer, and at most one besides: for a unit after a brace that is no digit.
+    ensures looked { Rises (C.count steps.old) (C.count steps.new) (digits_looked_at unicode_mode (values units.now)) (digits_looked_at unicode_mode (values units.now) + 1) }
 {
     decode_units(units, unicode_mode, steps)
 }
@@ -76,6 +79,7 @@ fn decode_units<C: Counter>(units: &[CodePoint], unicode_mode: bool, steps: &mut
     ensures read { seen_escape result ≡ decoded unicode_mode (values units.now) }
     ensures steps { Rises (C.count steps.old) (C.count steps.new) (least_digits result) (most_digits unicode_mode (length units.now) result) }
     ensures half { escape_length result + 2 * C.count steps.old ≤ 2 * C.count steps.new }
+    ensures looked { Rises (C.count steps.old) (C.count steps.new) (digits_looked_at unicode_mode (values units.now)) (digits_looked_at unicode_mode (values units.now) + 1) }
 {
     match units {
         [u, digits @ ..] if u.value == 'u' as u32 => behind_u(digits, unicode_mode, steps),
@@ -87,6 +91,7 @@ fn behind_u<C: Counter>(units: &[CodePoint], unicode_mode: bool, steps: &mut C) 
     ensures read { seen_escape result ≡ behind_u unicode_mode (four_at (values units.now)) (values units.now) }
     ensures steps { Rises (C.count steps.old) (C.count steps.new) (least_digits result) (most_digits unicode_mode (length units.now) result) }
     ensures half { escape_length result + 2 * C.count steps.old ≤ 2 * C.count steps.new }
+    ensures looked { Rises (C.count steps.old) (C.count steps.new) (digits_after_u unicode_mode (values units.now)) (digits_after_u unicode_mode (values units.now) + 1) }
 {
     match fixed_hex_digits(units, steps) {
         Some((value, rest)) => {
@@ -118,6 +123,7 @@ fn fixed_hex_digits<'a, C: Counter>(
     ensures steps { MatchOption result (Rises (C.count steps.old) (C.count steps.new) 0 3 × (C.count steps.new ≤ C.count steps.old + length units.now))
         (λ _. C.count steps.new ≡ C.count steps.old + 4) }
     ensures brace { starts 123 (values units.now) ≡ true → C.count steps.new ≡ C.count steps.old }
+    ensures looked { C.count steps.new ≡ digits_of_four (values units.now) + C.count steps.old }
 {
     match units {
         [a, b, c, d, rest @ ..] => {
@@ -156,6 +162,7 @@ fn joined<C: Counter>(lead: u32, units: &[CodePoint], steps: &mut C) -> UnicodeE
     ensures read { seen_escape result ≡ joined_at lead (trail_at (values units.now)) }
     ensures steps { Rises (C.count steps.old) (C.count steps.new + 4) (least_digits result) (most_digits true 0 result) }
     ensures half { escape_length result + 2 * C.count steps.old ≤ 2 * (C.count steps.new + 4) }
+    ensures looked { C.count steps.new ≡ digits_of_trail (values units.now) + C.count steps.old }
 {
     match escaped_trail(units, steps) {
         Some(trail) => UnicodeEscape::Value {
@@ -175,6 +182,7 @@ fn escaped_trail<C: Counter>(units: &[CodePoint], steps: &mut C) -> Option<u32>
     ensures value { result ≡ trail_at (values units.now) }
     ensures trail { IfSome result (λ trail. IsTrailSurrogate trail) }
     ensures steps { Rises (C.count steps.old) (C.count steps.new) (if is_some result then 4 else 0) 4 }
+    ensures looked { C.count steps.new ≡ digits_of_trail (values units.now) + C.count steps.old }
 {
     match units {
         [backslash, u, digits @ ..] if backslash.value == '\\' as u32 && u.value == 'u' as u32 => {
@@ -190,6 +198,7 @@ fn braced_digits<C: Counter>(units: &[CodePoint], steps: &mut C) -> UnicodeEscap
     ensures steps { Rises (C.count steps.old) (C.count steps.new) (least_digits result) (most_digits true (length units.now) result) }
     ensures half { escape_length result + 2 * C.count steps.old ≤ 2 * C.count steps.new }
     ensures none { starts 123 (values units.now) ≡ false → (result ≡ UnicodeEscape.Invalid) × (C.count steps.new ≡ C.count steps.old) }
+    ensures looked { Rises (C.count steps.old) (C.count steps.new) (digits_in_braces (values units.now)) (digits_in_braces (values units.now) + 1) }
 {
     match units {
         [brace, digits @ ..] if brace.value == '{' as u32 => digits_to_brace(digits, steps),
@@ -197,10 +206,12 @@ fn braced_digits<C: Counter>(units: &[CodePoint], steps: &mut C) -> UnicodeEscap
     }
 }
 
+#[tactic(auto, using(crate::proofs::LookedDigits::run_is_looked_at))]
 fn digits_to_brace<C: Counter>(units: &[CodePoint], steps: &mut C) -> UnicodeEscape
     ensures read { seen_escape result ≡ run_at 0 0 (values units.now) }
     ensures steps { Rises (C.count steps.old) (C.count steps.new) (least_digits result) (most_digits true (length units.now) result) }
     ensures half { escape_length result + 2 * C.count steps.old ≤ 2 * C.count steps.new }
+    ensures looked { Rises (C.count steps.old) (C.count steps.new) (digits_of_run (values units.now)) (digits_of_run (values units.now) + 1) }
 {
     let mut value = 0u32;
     for (count, unit) in units.iter().enumerate() {

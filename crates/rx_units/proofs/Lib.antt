@@ -4,6 +4,7 @@ pub mod Literals
 pub mod Offsets
 pub mod Ends
 pub mod CodePoints
+pub mod Sequences
 pub mod Quoted
 pub mod DecodedUnits
 pub mod Sources

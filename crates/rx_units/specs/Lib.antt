@@ -4,5 +4,7 @@ pub mod Cursor
 pub mod Digits
 pub mod Pace
 pub mod Bytes
+pub mod Sequences
 pub mod Quoted
 pub mod Sources
+pub mod Messages

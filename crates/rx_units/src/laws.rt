@@ -1,6 +1,6 @@
-//! Laws of quoted texts, for contracts alone. The functions do nothing: each contract is a law.
+//! Laws of lists of elements and of quoted texts, for contracts alone. The functions do nothing: each contract is a law.
 
-ghost use Rattle.std.specs.Prelude.{◌≡◌, ℕ, List, ◌++◌, ◌∷◌};
+ghost use Rattle.std.specs.Prelude.{◌≡◌, ◌⊎◌, ◌↔◌, ℕ, ◌+◌, List, [], ◌∷◌, All};
 ghost use Rattle.rx_units.specs.declared.code_point.CodePoint.{CodePoint};
 ghost use Rattle.rx_units.specs.declared.quoted_text.element.Element.{Element};
 ghost use Rattle.rx_units.specs.declared.quoted_text.literal.Literal.{Literal};
@@ -9,18 +9,38 @@ ghost use Rattle.rx_units.specs.declared.options.Options.{Options};
 ghost use Rattle.rx_units.specs.declared.string_literal_parser.StringFault.{StringFault};
 ghost use Rattle.rx_units.specs.declared.string_literal_parser.StringLiteralKind.{StringLiteralKind};
 ghost use Rattle.rx_units.specs.declared.template_literal_parser.TemplateFault.{TemplateFault};
-ghost use Rattle.rx_units.specs.Quoted.Elements.{SpellsElement, quote_of};
+ghost use Rattle.rx_units.specs.Quoted.Elements.{quote_of};
 ghost use Rattle.rx_units.specs.Quoted.Faults.{IsStringFault, IsTemplateFault};
-ghost use Rattle.rx_units.specs.Quoted.Texts.{IsDecoded};
+ghost use Rattle.rx_units.specs.Quoted.Texts.{IsAllowed, IsDecoded, after_elements, opened};
+ghost use Rattle.rx_units.specs.Quoted.Values.{text_units};
+ghost use Rattle.rx_units.specs.Sequences.{ElementRow, ElementsGoOn};
 
-/// Two elements that one text begins with are one, and leave the same rest.
-pub fn one_element()
-    ensures { (l : Literal) (e f : Element) (w v rest more : List ℕ) → w ++ rest ≡ v ++ more → SpellsElement l e w rest → SpellsElement l f v more → (e ≡ f) × (w ≡ v) × (rest ≡ more) }
-{}
+use crate::sequence::{ElementKind, QuotedElements};
 
-/// No element begins at the closing quote.
-pub fn none_at_quote()
-    ensures { (l : Literal) (e : Element) (w rest more : List ℕ) → quote_of l ∷ more ≡ w ++ rest → SpellsElement l e w rest → ⊥ }
+/// Of one text at most one list of elements of a kind ends before a stop, and it is the longest: each list that the text begins with is a front part of it. Of two
+/// lists that one text begins with one is a front part of the other, whatever they leave; they are one where they leave the same.
+pub fn sequence<S: ElementKind>()
+    ensures one { (e : S.Surroundings) (ts ss : List S.Element) (q : S.Place) (us : List S.TextUnit) (r : S.Place) (a : List S.TextUnit) (p : S.Place) (b : List S.TextUnit) →
+        ElementRow (S.spells e) (S.behind e) ts q us r a → S.is_stop e r a → ElementRow (S.spells e) (S.behind e) ss q us p b → S.is_stop e p b → (ts ≡ ss) × (r ≡ p) × (a ≡ b) }
+    ensures longest { (e : S.Surroundings) (ts ss : List S.Element) (q : S.Place) (us : List S.TextUnit) (r : S.Place) (a : List S.TextUnit) (p : S.Place) (b : List S.TextUnit) →
+        ElementRow (S.spells e) (S.behind e) ts q us r a → S.is_stop e r a → ElementRow (S.spells e) (S.behind e) ss q us p b → ElementsGoOn (S.spells e) (S.behind e) ss p b ts r a }
+    ensures prefixes { (e : S.Surroundings) (ts ss : List S.Element) (q : S.Place) (us : List S.TextUnit) (r : S.Place) (a : List S.TextUnit) (p : S.Place) (b : List S.TextUnit) →
+        ElementRow (S.spells e) (S.behind e) ts q us r a → ElementRow (S.spells e) (S.behind e) ss q us p b →
+        ElementsGoOn (S.spells e) (S.behind e) ts r a ss p b ⊎ ElementsGoOn (S.spells e) (S.behind e) ss p b ts r a }
+    ensures one_between { (e : S.Surroundings) (ts ss : List S.Element) (q : S.Place) (us : List S.TextUnit) (r p : S.Place) (rest : List S.TextUnit) →
+        ElementRow (S.spells e) (S.behind e) ts q us r rest → ElementRow (S.spells e) (S.behind e) ss q us p rest → (ts ≡ ss) × (r ≡ p) }
+{
+    S::some_units();
+    S::one_front();
+    S::none_at_stop();
+}
+
+/// A text is decoded to some units exactly where it is the opening quote, a list of elements that ends before the closing quote, and that quote at the end; where
+/// each element is allowed; and where the units are those that the elements give.
+pub fn elements()
+    ensures decoded { (l : Literal) (o : Options) (text : List ℕ) (us : List CodePoint) →
+        IsDecoded l o text us ↔ ((inner : List ℕ) × (es : List Element) × (row : ElementRow (⟦<QuotedElements as ElementKind>⟧.spells l) (⟦<QuotedElements as ElementKind>⟧.behind l) es tt inner tt (quote_of l ∷ [])) ×
+        ⟦<QuotedElements as ElementKind>⟧.is_stop l tt (quote_of l ∷ []) × (text ≡ quote_of l ∷ inner) × All (IsAllowed o) es × (us ≡ text_units o (after_elements l o (opened o inner) es (quote_of l ∷ []) row).units)) }
 {}
 
 /// A text is decoded in one way.

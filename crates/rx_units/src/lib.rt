@@ -10,6 +10,7 @@ mod options;
 pub mod quoted_text;
 mod reader;
 mod reader_fault;
+pub mod sequence;
 pub mod string_literal_parser;
 pub mod template_literal_parser;
 

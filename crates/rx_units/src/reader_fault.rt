@@ -1,17 +1,21 @@
 use crate::string_literal_parser::StringFault;
 use crate::template_literal_parser::TemplateFault;
 use rx_base::OutOfMemory;
+use thiserror::Error;
 
 /// Why a source text was not read.
-#[derive(Clone, Copy, Debug, PartialEq, Eq)]
+#[derive(Clone, Copy, Debug, PartialEq, Eq, Error)]
 pub enum ReaderFault {
     /// There was not enough memory.
+    #[error("Out of memory")]
     OutOfMemory,
 
     /// The text is no string.
+    #[error(transparent)]
     String(StringFault),
 
     /// The text begins with a grave accent, and is no template without substitutions.
+    #[error(transparent)]
     Template(TemplateFault),
 }
 

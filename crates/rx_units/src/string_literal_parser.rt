@@ -1,9 +1,10 @@
-ghost use Rattle.std.specs.Prelude.{◌≡◌, ◌∷◌, ◌+◌, ◌<◌, ◌^◌, ◌⊎◌, false, length, IfErr, IfOk, List, MatchOption, MatchResult};
-ghost use Rattle.std.specs.Str.{chars};
+ghost use Rattle.std.specs.Prelude.{◌≡◌, ◌∷◌, ◌+◌, ◌<◌, ◌^◌, ◌⊎◌, false, length, IfErr, IfOk, List, MatchOption, MatchResult, Some};
+ghost use Rattle.std.specs.Str.{chars, encode_utf8_all};
 ghost use Rattle.rx_units.specs.declared.code_point.CodePoint.{CodePoint as UnitValue};
 ghost use Rattle.rx_units.specs.declared.quoted_text.literal.Literal.TheVariants as literal;
 ghost use Rattle.rx_units.specs.declared.string_literal_parser.StringFault.{StringFault as FaultValue};
 ghost use Rattle.rx_units.specs.declared.string_literal_parser.StringLiteralKind.{StringLiteralKind as StringKind};
+ghost use Rattle.rx_units.specs.Messages.{legacy_name, string_message};
 ghost use Rattle.rx_units.specs.Quoted.Answers.{IsGiven, IsStringOf, string_fault_at};
 ghost use Rattle.rx_units.specs.Quoted.Elements.{quote_of};
 ghost use Rattle.rx_units.specs.Quoted.Faults.{IsStringFault, is_string_quote};
@@ -19,9 +20,9 @@ use crate::quoted_text::{Element, Literal, Writing};
 use crate::{CodePoint, Options};
 use rx_base::{List, OutOfMemory, Span};
 use std::alloc::Global;
+use std::error::Error;
 use std::fmt;
 use std::marker::Model;
-use thiserror::Error;
 
 /// StringLiteral of ECMA-262, 12.9.4, as units.
 #[derive(Debug, Drop)]
@@ -47,7 +48,12 @@ pub enum LegacyKind {
     NonOctalDecimal,
 }
 
+/// A width, a precision and the other options of a hole are ignored.
 impl fmt::Display for LegacyKind {
+    ghost output = { λ kind. Some (encode_utf8_all (legacy_name kind)) };
+
+    ghost styled_output = { λ kind _. Some (encode_utf8_all (legacy_name kind)) };
+
     fn fmt<W: fmt::Write>(&self, f: &mut fmt::Formatter<W>) -> fmt::Result {
         match self {
             LegacyKind::Octal => f.write_str("octal"),
@@ -57,17 +63,39 @@ impl fmt::Display for LegacyKind {
 }
 
 /// Why a string was not decoded.
-#[derive(Clone, Copy, Debug, PartialEq, Eq, Error)]
+#[derive(Clone, Copy, Debug, PartialEq, Eq)]
 pub enum StringFault {
-    #[error("Out of memory")]
     OutOfMemory,
-    #[error("String literal should be wrapped with ' or \", or escaped properly")]
     InvalidInput { span: Span },
-    #[error("Not allowed {what} escape sequence in strict mode")]
     LegacyInStrictMode { what: LegacyKind, span: Span },
-    #[error("Too large unicode escape sequence")]
     TooLargeUnicodeEscapeSequence { span: Span },
 }
+
+/// A width, a precision and the other options of a hole are ignored.
+impl fmt::Display for StringFault {
+    ghost output = { λ fault. Some (encode_utf8_all (string_message fault)) };
+
+    ghost styled_output = { λ fault _. Some (encode_utf8_all (string_message fault)) };
+
+    fn fmt<W: fmt::Write>(&self, f: &mut fmt::Formatter<W>) -> fmt::Result {
+        match self {
+            Self::OutOfMemory => f.write_str("Out of memory"),
+            Self::InvalidInput { .. } => f.write_str(
+                "String literal should be wrapped with ' or \", or escaped properly",
+            ),
+            Self::LegacyInStrictMode { what, .. } => {
+                f.write_str("Not allowed ")?;
+                what.fmt(f)?;
+                f.write_str(" escape sequence in strict mode")
+            }
+            Self::TooLargeUnicodeEscapeSequence { .. } => f.write_str(
+                "Too large unicode escape sequence",
+            ),
+        }
+    }
+}
+
+impl Error for StringFault {}
 
 impl From<OutOfMemory> for StringFault {
     ghost use Rattle.std.specs.Prelude.{◌≡◌};

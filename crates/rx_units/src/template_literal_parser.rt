@@ -1,8 +1,9 @@
-ghost use Rattle.std.specs.Prelude.{◌≡◌, ◌∷◌, ◌+◌, ◌<◌, ◌^◌, ◌⊎◌, false, length, IfErr, IfOk, List, MatchOption, MatchResult};
-ghost use Rattle.std.specs.Str.{chars};
+ghost use Rattle.std.specs.Prelude.{◌≡◌, ◌∷◌, ◌+◌, ◌<◌, ◌^◌, ◌⊎◌, false, length, IfErr, IfOk, List, MatchOption, MatchResult, Some};
+ghost use Rattle.std.specs.Str.{chars, encode_utf8_all};
 ghost use Rattle.rx_units.specs.declared.code_point.CodePoint.{CodePoint as UnitValue};
 ghost use Rattle.rx_units.specs.declared.quoted_text.literal.Literal.TheVariants as literal;
 ghost use Rattle.rx_units.specs.declared.template_literal_parser.TemplateFault.{TemplateFault as FaultValue};
+ghost use Rattle.rx_units.specs.Messages.{template_message};
 ghost use Rattle.rx_units.specs.Quoted.Answers.{IsGiven, IsTemplateOf, template_fault_at};
 ghost use Rattle.rx_units.specs.Quoted.Faults.{IsTemplateFault, is_grave_accent};
 ghost use Rattle.rx_units.specs.Quoted.Found.{seen_front};
@@ -17,8 +18,9 @@ use crate::quoted_text::{Element, Literal, Writing};
 use crate::{CodePoint, Options};
 use rx_base::{List, OutOfMemory, Span};
 use std::alloc::Global;
+use std::error::Error;
+use std::fmt;
 use std::marker::Model;
-use thiserror::Error;
 
 /// NoSubstitutionTemplate of ECMA-262, 12.9.6, as units.
 #[derive(Debug, Drop)]
@@ -28,23 +30,40 @@ pub struct TemplateLiteral {
 }
 
 /// Why a template was not decoded.
-#[derive(Clone, Copy, Debug, PartialEq, Eq, Error)]
+#[derive(Clone, Copy, Debug, PartialEq, Eq)]
 pub enum TemplateFault {
-    #[error("Out of memory")]
     OutOfMemory,
-    #[error("Template literal should be wrapped with ` or escaped properly")]
     InvalidInput { span: Span },
-    #[error("Template literal should not contain unescaped `${{}}`")]
     TemplateSubstitution { span: Span },
-    #[error("Too large unicode escape sequence")]
     TooLargeUnicodeEscapeSequence { span: Span },
-    #[error("Invalid hex escape sequence")]
     InvalidHexEscape { span: Span },
-    #[error("Invalid unicode escape sequence")]
     InvalidUnicodeEscape { span: Span },
-    #[error("Octal escapes, `\\8` and `\\9` are not allowed in template literals")]
     NotEscapeSequence { span: Span },
 }
+
+/// A width, a precision and the other options of a hole are ignored.
+impl fmt::Display for TemplateFault {
+    ghost output = { λ fault. Some (encode_utf8_all (template_message fault)) };
+
+    ghost styled_output = { λ fault _. Some (encode_utf8_all (template_message fault)) };
+
+    fn fmt<W: fmt::Write>(&self, f: &mut fmt::Formatter<W>) -> fmt::Result {
+        f.write_str(match self {
+            Self::OutOfMemory => "Out of memory",
+            Self::InvalidInput { .. } =>
+                "Template literal should be wrapped with ` or escaped properly",
+            Self::TemplateSubstitution { .. } =>
+                "Template literal should not contain unescaped `${}`",
+            Self::TooLargeUnicodeEscapeSequence { .. } => "Too large unicode escape sequence",
+            Self::InvalidHexEscape { .. } => "Invalid hex escape sequence",
+            Self::InvalidUnicodeEscape { .. } => "Invalid unicode escape sequence",
+            Self::NotEscapeSequence { .. } =>
+                "Octal escapes, `\\8` and `\\9` are not allowed in template literals",
+        })
+    }
+}
+
+impl Error for TemplateFault {}
 
 impl From<OutOfMemory> for TemplateFault {
     ghost use Rattle.std.specs.Prelude.{◌≡◌};

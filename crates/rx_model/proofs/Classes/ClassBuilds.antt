@@ -54,7 +54,7 @@ letters_build l outer whole (c ∷ cs) ds ts =
     letters_build l outer whole cs (ds ++ (plain_character c ∷ [])) ts
     ∙ ap (λ ds. build_class ts (inside_class l outer (inside_strings whole ds))) (append_assoc ds (plain_character c ∷ []) (map plain_character cs))
 
-string_is : (s : ClassString) → IsFlaggedString s → string_of (map plain_character s.body) ≡ plain_string s
+pub string_is : (s : ClassString) → IsFlaggedString s → string_of (map plain_character s.body) ≡ plain_string s
 string_is s flag = ap (λ b. record { span = nowhere; strings = b; body = map plain_character s.body }) (ap (λ n. not (n == 1)) (length-map s.body plain_character) ∙ sym flag)
 
 -- Class strings from the first on, behind others.
@@ -226,7 +226,7 @@ class_rest s negative may kind ms outer all fits flag ss =
     )
 
 -- class strings as a member
-strings_member_is : (d : ClassStringDisjunction) → d.strings ≡ list_any (λ s. s.strings) d.body → strings_member (map plain_string d.body) ≡ forget_member same_kind (tree.strings d)
+pub strings_member_is : (d : ClassStringDisjunction) → d.strings ≡ list_any (λ s. s.strings) d.body → strings_member (map plain_string d.body) ≡ forget_member same_kind (tree.strings d)
 strings_member_is d flag =
     ap (λ b. tree.strings (record { span = nowhere; strings = b; body = map plain_string d.body })) (unspanned.some_strings same_kind d.body ∙ sym flag)
 

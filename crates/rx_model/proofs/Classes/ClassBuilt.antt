@@ -15,6 +15,7 @@ use Rattle.rx_model.specs.Classes.ClassRuns.{Held, empty, single, several, meeti
 use Rattle.rx_model.specs.Classes.ClassShapes.{AreFitting, AreFlagged, AreOperands, AreTwo, FitsKind, IsFitting, IsFittingMember, IsFlagged, IsFlaggedMember, IsFlaggedString, IsOperand}
 use Rattle.rx_model.specs.Classes.ClassTokens.{Atom, character, escape, property, ClassToken, bracket, closer, item, low, dash, high, meet, less, strings, letter, string_bar, strings_end, class_tokens}
 use Rattle.rx_model.specs.Trees.Early.{may_contain_strings}
+use Rattle.rx_model.proofs.Classes.ClassFlags.{IsFlaggedAtom, IsFlaggedToken, AreFlaggedTokens}
 use Rattle.rx_model.proofs.Classes.ClassShapes.{barred_tokens, between_by, class_tokens_by, contents_tokens, further_tokens, letters_tokens, operand_tokens, strings_are}
 
 -- the tokens of contents with one member more
@@ -62,17 +63,17 @@ HoldsMembers lessening ms = IsSome ms × AreOperands ms
 HoldsMembers lessened ms = AreTwo ms × AreOperands ms
 
 -- a member that fits, with the right flags and without spans
-record IsPlainMember (m : Member) : Type 0 where
-  fits : IsFittingMember m
-  flagged : IsFlaggedMember m
-  plain : forget_member same_kind m ≡ m
+pub record IsPlainMember (m : Member) : Type 0 where
+  pub fits : IsFittingMember m
+  pub flagged : IsFlaggedMember m
+  pub plain : forget_member same_kind m ≡ m
 
-record ArePlain (ms : Members) : Type 0 where
-  fitting : AreFitting ms
-  flagged : AreFlagged ms
-  plain : forget_members same_kind ms ≡ ms
+pub record ArePlain (ms : Members) : Type 0 where
+  pub fitting : AreFitting ms
+  pub flagged : AreFlagged ms
+  pub plain : forget_members same_kind ms ≡ ms
 
-none_plain : ArePlain no_member
+pub none_plain : ArePlain no_member
 none_plain = record { fitting = tt; flagged = tt; plain = refl }
 
 plain_last : (ms : Members) (m : Member) → ArePlain ms → IsPlainMember m → ArePlain (with_last ms m)
@@ -336,17 +337,17 @@ strings_plain ss cs all some =
       plain = ap (λ ss. tree.strings (record { span = nowhere; strings = list_any (λ s. s.strings) body; body = ss })) (plain_strings body plain);
     }
 
-atom_tokens : (a : Atom) → item a ∷ [] ≡ operand_tokens (atom_member a)
+pub atom_tokens : (a : Atom) → item a ∷ [] ≡ operand_tokens (atom_member a)
 atom_tokens (character k v) = refl
 atom_tokens (escape k) = refl
 atom_tokens (property negative may name value) = refl
 
-atom_plain : (a : Atom) → IsPlainMember (atom_member a)
-atom_plain (character k v) = record { fits = tt; flagged = tt; plain = refl }
-atom_plain (escape k) = record { fits = tt; flagged = tt; plain = refl }
-atom_plain (property negative may name value) = record { fits = tt; flagged = tt; plain = refl }
+pub atom_plain : (a : Atom) → IsFlaggedAtom a → IsPlainMember (atom_member a)
+atom_plain (character k v) flagged = record { fits = tt; flagged = tt; plain = refl }
+atom_plain (escape k) flagged = record { fits = tt; flagged = tt; plain = refl }
+atom_plain (property negative may name value) flagged = record { fits = tt; flagged = flagged; plain = refl }
 
-atom_operand : (a : Atom) → IsOperand (atom_member a)
+pub atom_operand : (a : Atom) → IsOperand (atom_member a)
 atom_operand (character k v) = tt
 atom_operand (escape k) = tt
 atom_operand (property negative may name value) = tt
@@ -361,47 +362,47 @@ if_whole ts l outer true w h level levels = closes ts l outer h level levels w
 if_whole ts l outer false w h level levels = tt
 
 -- With one token more it is built from that too.
-in_built : (t : ClassToken) (begun : Begun) (ts : List ClassToken) (l : Level) (outer : List Level) → ts ≡ (levels_tokens outer ++ level_tokens l) ++ begun_tokens begun → IsLevel l → AreLevels outer → HasBegun begun →
+in_built : (t : ClassToken) (begun : Begun) (ts : List ClassToken) (l : Level) (outer : List Level) → IsFlaggedToken t → ts ≡ (levels_tokens outer ++ level_tokens l) ++ begun_tokens begun → IsLevel l → AreLevels outer → HasBegun begun →
     IsBuilding (ts ++ (t ∷ [])) (build_in t begun l outer)
-in_built (bracket negative) nothing_begun ts l outer h level levels b =
+in_built (bracket negative) nothing_begun ts l outer f h level levels b =
     (ap (λ ts. ts ++ (bracket negative ∷ [])) (h ∙ append-nil _) ∙ sym (append-nil _), record { holds = refl; plain = none_plain }, (level, levels), tt)
-in_built closer nothing_begun ts l outer h level levels b = if_whole ts l outer (is_whole l.held) refl h level levels
-in_built (item a) nothing_begun ts l outer h level levels b =
-    grown ts (item a ∷ []) l outer [] (atom_member a) (operand l.held) h (atom_tokens a) level levels (atom_plain a) (one_operand l.held l.members (atom_member a) (atom_operand a) level.holds)
-in_built (low k v) nothing_begun ts l outer h level levels b = (goes_on ts _ [] (low k v ∷ []) (low k v ∷ []) h refl, level, levels, tt)
-in_built dash (behind_low k v) ts l outer h level levels b = (goes_on ts _ (low k v ∷ []) (low k v ∷ dash ∷ []) (dash ∷ []) h refl, level, levels, tt)
-in_built (high j x) (behind_dash k v) ts l outer h level levels b =
+in_built closer nothing_begun ts l outer f h level levels b = if_whole ts l outer (is_whole l.held) refl h level levels
+in_built (item a) nothing_begun ts l outer f h level levels b =
+    grown ts (item a ∷ []) l outer [] (atom_member a) (operand l.held) h (atom_tokens a) level levels (atom_plain a f) (one_operand l.held l.members (atom_member a) (atom_operand a) level.holds)
+in_built (low k v) nothing_begun ts l outer f h level levels b = (goes_on ts _ [] (low k v ∷ []) (low k v ∷ []) h refl, level, levels, tt)
+in_built dash (behind_low k v) ts l outer f h level levels b = (goes_on ts _ (low k v ∷ []) (low k v ∷ dash ∷ []) (dash ∷ []) h refl, level, levels, tt)
+in_built (high j x) (behind_dash k v) ts l outer f h level levels b =
     grown ts (high j x ∷ []) l outer (low k v ∷ dash ∷ []) (range_member k v j x) (ranged l.held) h refl level levels (record { fits = tt; flagged = tt; plain = refl }) (one_range l.held l.members (range_member k v j x) level.holds)
-in_built meet nothing_begun ts l outer h level levels b = operator_grown ts meet l outer (met_by l.held) h level levels (one_meet l.held l.members level.holds)
-in_built less nothing_begun ts l outer h level levels b = operator_grown ts less l outer (less_by l.held) h level levels (one_less l.held l.members level.holds)
-in_built strings nothing_begun ts l outer h level levels b = (goes_on ts _ [] (strings ∷ []) (strings ∷ []) h refl, level, levels, (All-nil IsPlainString, All-nil IsPlainCharacter))
-in_built (letter k v) (inside_strings ss cs) ts l outer h level levels b = (
+in_built meet nothing_begun ts l outer f h level levels b = operator_grown ts meet l outer (met_by l.held) h level levels (one_meet l.held l.members level.holds)
+in_built less nothing_begun ts l outer f h level levels b = operator_grown ts less l outer (less_by l.held) h level levels (one_less l.held l.members level.holds)
+in_built strings nothing_begun ts l outer f h level levels b = (goes_on ts _ [] (strings ∷ []) (strings ∷ []) h refl, level, levels, (All-nil IsPlainString, All-nil IsPlainCharacter))
+in_built (letter k v) (inside_strings ss cs) ts l outer f h level levels b = (
   goes_on ts _ (strings ∷ strings_tokens ss cs) _ (letter k v ∷ []) h (ap (λ ts. strings ∷ ts) (sym (one_letter ss cs k v))),
   level,
   levels,
   (b.0, All-append IsPlainCharacter cs (character_of k v ∷ []) b.1 (All-cons IsPlainCharacter (character_of k v) [] refl (All-nil IsPlainCharacter))),
 )
-in_built string_bar (inside_strings ss cs) ts l outer h level levels b = (
+in_built string_bar (inside_strings ss cs) ts l outer f h level levels b = (
   goes_on ts _ (strings ∷ strings_tokens ss cs) _ (string_bar ∷ []) h (ap (λ ts. strings ∷ ts) (sym (one_bar ss cs))),
   level,
   levels,
   (one_string ss cs b.0 b.1, All-nil IsPlainCharacter),
 )
-in_built strings_end (inside_strings ss cs) ts l outer h level levels b =
+in_built strings_end (inside_strings ss cs) ts l outer f h level levels b =
     grown ts (strings_end ∷ []) l outer (strings ∷ strings_tokens ss cs) (strings_member (ss ++ (string_of cs ∷ []))) (operand l.held) h (strings_end_tokens ss cs) level levels (strings_plain ss cs b.0 b.1)
     (one_operand l.held l.members (strings_member (ss ++ (string_of cs ∷ []))) tt level.holds)
-in_built t begun ts l outer h level levels b = tt
+in_built t begun ts l outer f h level levels b = tt
 
-step_built : (t : ClassToken) (ts : List ClassToken) (s : Building) → IsBuilding ts s → IsBuilding (ts ++ (t ∷ [])) (build_step t s)
-step_built (bracket negative) ts before_class h = (ap (λ ts. ts ++ (bracket negative ∷ [])) h, record { holds = refl; plain = none_plain }, tt, tt)
-step_built t ts before_class h = tt
-step_built t ts (inside_class l outer begun) h = in_built t begun ts l outer h.0 h.1 h.2 h.3
-step_built t ts (whole_class c) h = tt
-step_built t ts no_class h = tt
+step_built : (t : ClassToken) (ts : List ClassToken) (s : Building) → IsFlaggedToken t → IsBuilding ts s → IsBuilding (ts ++ (t ∷ [])) (build_step t s)
+step_built (bracket negative) ts before_class f h = (ap (λ ts. ts ++ (bracket negative ∷ [])) h, record { holds = refl; plain = none_plain }, tt, tt)
+step_built t ts before_class f h = tt
+step_built t ts (inside_class l outer begun) f h = in_built t begun ts l outer f h.0 h.1 h.2 h.3
+step_built t ts (whole_class c) f h = tt
+step_built t ts no_class f h = tt
 
-built_on : (ts ss : List ClassToken) (s : Building) → IsBuilding ss s → IsBuilding (ss ++ ts) (build_class ts s)
-built_on [] ss s h = subst (λ ss. IsBuilding ss s) (sym (append-nil ss)) h
-built_on (t ∷ ts) ss s h = subst (λ ss. IsBuilding ss (build_class ts (build_step t s))) (append_assoc ss (t ∷ []) ts) (built_on ts (ss ++ (t ∷ [])) (build_step t s) (step_built t ss s h))
+built_on : (ts ss : List ClassToken) (s : Building) → AreFlaggedTokens ts → IsBuilding ss s → IsBuilding (ss ++ ts) (build_class ts s)
+built_on [] ss s f h = subst (λ ss. IsBuilding ss s) (sym (append-nil ss)) h
+built_on (t ∷ ts) ss s f h = subst (λ ss. IsBuilding ss (build_class ts (build_step t s))) (append_assoc ss (t ∷ []) ts) (built_on ts (ss ++ (t ∷ [])) (build_step t s) f.1 (step_built t ss s f.0 h))
 
 built_whole : (ts : List ClassToken) (s : Building) (c : Class) → IsBuilding ts s → class_built s ≡ Some c → HasTokens ts c
 built_whole ts before_class c h k = absurd (let no : ⊥ = cc k in no)
@@ -409,6 +410,6 @@ built_whole ts (inside_class l outer begun) c h k = absurd (let no : ⊥ = cc k 
 built_whole ts (whole_class d) c h k = subst (HasTokens ts) (let same : d ≡ c = cc k in same) h
 built_whole ts no_class c h k = absurd (let no : ⊥ = cc k in no)
 
--- A class that is built from tokens has them, fits, has the right flags and no spans.
-pub built_has_tokens : (ts : List ClassToken) (c : Class) → class_of_tokens ts ≡ Some c → HasTokens ts c
-built_has_tokens ts c h = built_whole ts (build_class ts before_class) c (built_on ts [] before_class refl) h
+-- A class that is built from tokens has them, fits, has the right flags and no spans, where the properties have the right flags.
+pub built_has_tokens : (ts : List ClassToken) (c : Class) → AreFlaggedTokens ts → class_of_tokens ts ≡ Some c → HasTokens ts c
+built_has_tokens ts c f h = built_whole ts (build_class ts before_class) c (built_on ts [] before_class f refl) h

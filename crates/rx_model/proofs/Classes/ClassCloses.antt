@@ -11,6 +11,7 @@ use Rattle.rx_model.specs.Classes.ClassTokens.{ClassToken, bracket, closer, item
 use Rattle.rx_model.specs.Inputs.Environment.{Environment}
 use Rattle.rx_model.specs.Trees.Early.{IsEarlyClass}
 use Rattle.rx_model.proofs.Classes.ClassBuilt.{built_has_tokens}
+use Rattle.rx_model.proofs.Classes.ClassFlags.{row_flagged}
 use Rattle.rx_model.proofs.Classes.ClassShapes.{closes_early}
 use Rattle.rx_model.proofs.Classes.ClassStates.{where_true_both, where_may_is}
 
@@ -211,7 +212,7 @@ module _ (e : Environment) where
   closed_class [] us rest row h = absurd (let no : ⊥ = cc h in no)
   closed_class ((bracket negative) ∷ ts) us rest row h =
       let b = builds_class ts (bracket_of negative empty false ∷ []) fresh (inside_class (level_of negative empty no_member) [] nothing_begun) row.1 rest row.4 h (refl, tt, tt) in
-      let t = built_has_tokens (bracket negative ∷ ts) b.0 (ap class_built b.1) in
+      let t = built_has_tokens (bracket negative ∷ ts) b.0 (row_flagged e (bracket negative ∷ ts) outside us fresh rest row) (ap class_built b.1) in
       let f = row_front (bracket negative ∷ ts) outside us fresh rest row in
       record {
         it = b.0;

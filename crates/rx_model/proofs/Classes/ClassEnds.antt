@@ -12,7 +12,7 @@ use Rattle.rx_model.specs.Classes.ClassRows.{Place, outside, fresh, at_dash, at_
 use Rattle.rx_model.specs.Classes.ClassTokens.{ClassToken, bracket, closer, item, low, dash, high, meet, less, strings, letter, string_bar, strings_end, ClassEvents, token, class_tokens_of, within, letters_events, string_events, barred_strings_events, strings_events, operator_events, member_events, class_events, members_events, more_members_events, class_tokens}
 use Rattle.rx_model.specs.Reading.ElementKinds.{NestedPlace, SpellsOfClass, behind_of_class, opened}
 use Rattle.rx_model.specs.Inputs.Environment.{Environment}
-use Rattle.rx_model.specs.Reading.Sequences.{ElementRow}
+use Rattle.rx_units.specs.Sequences.{ElementRow}
 use Rattle.rx_model.proofs.Classes.ClassShapes.{between_by, class_tokens_by, contents_are, contents_tokens}
 use Rattle.rx_model.proofs.Classes.ClassTokens.{tokens_append}
 use Rattle.rx_model.proofs.Classes.ClassUnspanned.{within_tokens}

@@ -12,7 +12,7 @@ use Rattle.rx_units.specs.Units.{values}
 use Rattle.rx_model.specs.declared.mode.Mode.{Mode}
 use Rattle.rx_model.specs.declared.mode.Mode.TheVariants.{Unicode}
 use Rattle.rx_model.specs.Refusals.ClassCauses as class_cause
-use Rattle.rx_model.specs.Refusals.ClassCauses.{IsClassCause, NothingFollows, StandsRange, of_negative, unterminated}
+use Rattle.rx_model.specs.Refusals.ClassCauses.{IsClassCause, IsNegativeWithStrings, NothingFollows, StandsRange, of_negative, unterminated}
 use Rattle.rx_model.specs.Refusals.ClassPlaces.{BeginsBracket, IsAtomPlace, IsInBracket, IsItemPlace, IsOfStrings, IsOperandPlace, IsSecondPlace, IsStringPlace, begins_item, nested, of_class}
 use Rattle.rx_model.specs.Classes.ClassRows.{behind, behind_item, ClassTokenRow, Place, SpellsAtom, SpellsBracket, SpellsInClass, at_dash, at_high, at_second, at_third, behind_less, behind_meet, fresh, has_threes, in_strings, is_dashed, outside}
 use Rattle.rx_model.specs.Classes.ClassRuns.{Bracket, Brackets, Held, empty, atom_may, atom_obeys, behind_step, bracket_of, class_opened, class_run, class_step, holding, is_union, is_whole, may_follow, operand, operator_of, takes_operand, where_true, with_strings}
@@ -285,6 +285,37 @@ module _ (mode : Mode) (us : List CodePoint) (start added from : ℕ) (at_class 
         fault = fault s refl refl refl refl r.opens;
       }
 
+  -- A negative bracket that may contain strings is stuck before its closer.
+  pub record Closing (is_nested : Bool) (begin place : ℕ) : Type 0 where
+    pub state : State
+    pub is_stuck : IsStuck here from at_class state
+    pub place_is : state.place ≡ place
+    pub opens : Opens state.tokens is_nested begin
+    pub begins : begins_item state.at ≡ true
+    pub closes : starts 93 (values state.rest) ≡ true
+    pub whole : is_whole state.inner.held ≡ true
+
+  pub negative_stuck : (is_nested : Bool) (begin place : ℕ) (rest : List CodePoint) → IsNegativeWithStrings here from at_class is_nested begin place rest → Closing is_nested begin place
+  negative_stuck is_nested begin place rest n =
+      let i = n.in_bracket in
+      let p = i.item_place in
+      let r = in_bracket is_nested begin place rest i in
+      record {
+        state = record { tokens = r.tokens; at = p.at; inner = p.inner; outer = r.outer; place = place; rest = rest };
+        is_stuck = record {
+          row = r.row;
+          accepted = r.accepted;
+          place_is = r.place_is;
+          between = item_between p.at p.begins;
+          blocked = dead_blocked here p.at (p.inner ∷ r.outer) rest (before_closer p.at p.inner r.outer rest (item_between p.at p.begins) n.closes n.may);
+        };
+        place_is = refl;
+        opens = r.opens;
+        begins = p.begins;
+        closes = n.closes;
+        whole = n.whole;
+      }
+
   strings_stuck : (f : ℕ) (d : Diagnostic) (opener place : ℕ) (rest : List CodePoint) → (i : IsStringPlace here from at_class opener place rest) → IsDead here in_strings (i.inner ∷ i.outer) rest →
       ((s : State) → s.at ≡ in_strings → s.rest ≡ rest → s.place ≡ place → Strings s.tokens opener → Fault s f d) → Stuck f d
   strings_stuck f d opener place rest i dead fault =
@@ -477,12 +508,15 @@ module _ (mode : Mode) (us : List CodePoint) (start added from : ℕ) (at_class 
       strings_stuck place (UnterminatedPattern (span_between us start added opener place) what.ClassStringDisjunction) opener place rest i (λ t w more whole s. absurd (ends t w more whole s)) (λ s at_is rest_is place_is opens.
       subst (λ place. Fault s place (UnterminatedPattern (span_between us start added opener place) what.ClassStringDisjunction)) place_is
       (nothing (λ t w more whole k. absurd (ends t w more (sym rest_is ∙ whole) (subst (λ q. SpellsInClass here q t w more) at_is k))) (in_class_strings opener at_is opens)))
-  stuck _ _ (class_cause.negative_strings is_nested begin place rest i closes whole may) =
-      let p = i.item_place in
-      in_bracket_stuck place (of_negative is_nested (span_between us start added begin (place + 1))) is_nested begin place rest i
-      (λ outer. dead_blocked here p.at (p.inner ∷ outer) rest (before_closer p.at p.inner outer rest (item_between p.at p.begins) closes may)) (λ s at_is inner_is rest_is place_is opens.
-      subst (λ place. Fault s place (of_negative is_nested (span_between us start added begin (place + 1)))) place_is
-      (said (closing is_nested begin opens (ap begins_item at_is ∙ p.begins) (ap (λ rest. starts 93 (values rest)) rest_is ∙ closes) (ap (λ b. is_whole b.held) inner_is ∙ whole))))
+  stuck _ _ (class_cause.negative_strings is_nested begin place rest n) =
+      let c = negative_stuck is_nested begin place rest n in
+      record {
+        state = c.state;
+        is_stuck = c.is_stuck;
+        fault =
+            subst (λ place. Fault c.state place (of_negative is_nested (span_between us start added begin (place + 1)))) c.place_is
+            (said (closing is_nested begin c.opens c.begins c.closes c.whole));
+      }
   stuck _ _ (class_cause.range_out_of_order place low_value high_value w v more hyphen no_sets i s below other) =
       range_stuck place (w ++ (hyphen ∷ (v ++ more))) _ i (item_union place (w ++ (hyphen ∷ (v ++ more))) i no_sets) (range_blocked mode us start added i.inner i.outer low_value high_value w v more hyphen s below)
       (range_there place low_value high_value w v more hyphen _ s

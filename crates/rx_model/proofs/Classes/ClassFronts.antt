@@ -99,8 +99,12 @@ pub letter_no_hyphen : (c : ℕ) → begins_property c ≡ true → (c == 45) �
 letter_no_hyphen c h = grind (arith, nat_tests)
 
 -- as many units as values
-units : (w : List CodePoint) (v : List ℕ) → values w ≡ v → length v ≡ length w
+pub units : (w : List CodePoint) (v : List ℕ) → values w ≡ v → length v ≡ length w
 units w v h = sym (ap length h) ∙ length-map w (λ u. u.value)
+
+-- what a text begins with
+pub text_of : (w rest : List CodePoint) (v : List ℕ) → values w ≡ v → values (w ++ rest) ≡ v ++ values rest
+text_of w rest v h = map-append (λ (u : CodePoint). u.value) w rest ∙ ap (λ v. v ++ values rest) h
 
 pub single : (w : List CodePoint) (c : ℕ) → values w ≡ c ∷ [] → (u : CodePoint) × (w ≡ u ∷ []) × (u.value ≡ c)
 single [] c h = absurd (let no : ⊥ = cc h in no)
@@ -321,9 +325,6 @@ module _ (e : Environment) where
   ]
 
   -- Tokens at their places, spelled → read.
-  text_of : (w rest : List CodePoint) (v : List ℕ) → values w ≡ v → values (w ++ rest) ≡ v ++ values rest
-  text_of w rest v h = map-append (λ (u : CodePoint). u.value) w rest ∙ ap (λ v. v ++ values rest) h
-
   -- no atom begins with a character that neither stands for itself nor is a `-` of its own nor a backslash
   no_atom_at : (u : CodePoint) (us : List CodePoint) → stands_raw_in_class e.mode u.value (values us) ≡ false → (has_hyphen e.mode && u.value == 45) ≡ false → (u.value == 92) ≡ false → atom_at e (u ∷ us) ≡ no_atom
   unfolding atom_at
@@ -334,7 +335,7 @@ module _ (e : Environment) where
       no_atom_at u us (ap (λ c. stands_raw_in_class e.mode c (values us)) h ∙ closer_not_raw e.mode (values us)) (no_hyphen e.mode u.value (ap (λ c. c == 45) h)) (ap (λ c. c == 92) h)
 
   -- With `v` no atom stands where another token does.
-  no_set_atom : (us : List CodePoint) (c : ℕ) (w : List ℕ) → is_sets e.mode ≡ true → values us ≡ c ∷ w → stands_raw_in_class Sets c w ≡ false → (c == 92) ≡ false → atom_at e us ≡ no_atom
+  pub no_set_atom : (us : List CodePoint) (c : ℕ) (w : List ℕ) → is_sets e.mode ≡ true → values us ≡ c ∷ w → stands_raw_in_class Sets c w ≡ false → (c == 92) ≡ false → atom_at e us ≡ no_atom
   no_set_atom [] c w m h r b = absurd (let no : ⊥ = cc h in no)
   no_set_atom (u ∷ us) c w m h r b =
       let first : u.value ≡ c = cc h in
@@ -343,7 +344,7 @@ module _ (e : Environment) where
       no_atom_at u us (ap₂ (λ c w. stands_raw_in_class e.mode c w) first others ∙ ap (λ mode. stands_raw_in_class mode c w) is ∙ r) (ap (λ mode. has_hyphen mode && u.value == 45) is)
       (ap (λ c. c == 92) first ∙ b)
 
-  no_strings_atom : (us : List CodePoint) (w : List ℕ) → is_sets e.mode ≡ true → values us ≡ 92 ∷ 113 ∷ w → atom_at e us ≡ no_atom
+  pub no_strings_atom : (us : List CodePoint) (w : List ℕ) → is_sets e.mode ≡ true → values us ≡ 92 ∷ 113 ∷ w → atom_at e us ≡ no_atom
   unfolding escape_at
   no_strings_atom [] w m h = absurd (let no : ⊥ = cc h in no)
   no_strings_atom (u ∷ us) w m h =

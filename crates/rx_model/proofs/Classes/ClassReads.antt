@@ -13,6 +13,7 @@ use Rattle.rx_model.specs.Inputs.Environment.{Environment}
 use Rattle.rx_model.proofs.Classes.ClassBuilds.{class_is_built}
 use Rattle.rx_model.proofs.Classes.ClassBuilt.{built_has_tokens}
 use Rattle.rx_model.proofs.Classes.ClassEnds.{OfClass, class_ends, none_behind_end, row_of_elements}
+use Rattle.rx_model.proofs.Classes.ClassFlags.{row_flagged}
 use Rattle.rx_model.proofs.Classes.ClassShapes.{class_tokens_by}
 use Rattle.rx_model.proofs.Classes.ClassFronts.{class_token_found, class_token_is, token_some}
 
@@ -198,7 +199,8 @@ module _ (e : Environment) where
       go (Some d) k h =
           let same : (d, r.1) ≡ (c, n) = Some-inj h in
           let g = tokens_found us (0, outside) 0 r.0 r.1 f in
-          let b = built_has_tokens r.0 c (k ∙ ap (λ x. Some x.0) same) in
+          let row = row_of_elements e r.0 0 outside us g.rest g.row in
+          let b = built_has_tokens r.0 c (row_flagged e r.0 outside us fresh g.rest row) (k ∙ ap (λ x. Some x.0) same) in
           record {
             w = g.front;
             rest = g.rest;
@@ -207,7 +209,7 @@ module _ (e : Environment) where
             spelled = record {
               no_spans = b.plain;
               shape = (b.fitting, b.flagged);
-              row = subst (λ ts. ClassTokenRow e ts outside (g.front ++ g.rest) fresh g.rest) (sym b.tokens) (subst (λ us. ClassTokenRow e r.0 outside us fresh g.rest) g.whole (row_of_elements e r.0 0 outside us g.rest g.row));
+              row = subst (λ ts. ClassTokenRow e ts outside (g.front ++ g.rest) fresh g.rest) (sym b.tokens) (subst (λ us. ClassTokenRow e r.0 outside us fresh g.rest) g.whole row);
             };
           }
 

@@ -376,7 +376,7 @@ mutual
       (and_from (nat_le r.min.value r.max.value) (nat_le r.max.value 0x10FFFF) (le-leb r.min.value r.max.value early.2) (le-leb r.max.value 0x10FFFF early.1)) ∙ holds b outer false (ranged held) after e)
   member_out (tree.escape x) fits early negative held may outer after e ss = goes ss (holds (bracket_of negative held may) outer false (operand held) after e)
   member_out (tree.property p) fits early negative held may outer after e ss =
-      goes ss (true_where (not (p.negative && p.strings)) (holding (bracket_of negative held may) outer p.strings (operand held)) (ap not early)
+      goes ss (true_where (not (p.negative && p.strings)) (holding (bracket_of negative held may) outer p.strings (operand held)) (ap not early.1)
       ∙ holds (bracket_of negative held may) outer p.strings (operand held) after e)
   member_out (tree.character c) fits early negative held may outer after e ss =
       goes ss (true_where (nat_le c.value 0x10FFFF) (holding (bracket_of negative held may) outer false (operand held)) (le-leb c.value 0x10FFFF early)
@@ -513,8 +513,10 @@ mutual
       let small = le_true r.max.value 0x10FFFF t.1 in
       (le_trans order small, small, order)
   member_early (tree.escape x) fits flags negative held may outer after e ss end h = tt
-  member_early (tree.property p) fits flags negative held may outer after e ss end h =
-      not-true (p.negative && p.strings) (true_first (not (p.negative && p.strings)) (holding (bracket_of negative held may) outer p.strings (operand held)) (λ after. class_run ss after) end h)
+  member_early (tree.property p) fits flags negative held may outer after e ss end h = (
+    flags,
+    not-true (p.negative && p.strings) (true_first (not (p.negative && p.strings)) (holding (bracket_of negative held may) outer p.strings (operand held)) (λ after. class_run ss after) end h),
+  )
   member_early (tree.character c) fits flags negative held may outer after e ss end h =
       le_true c.value 0x10FFFF (true_first (nat_le c.value 0x10FFFF) (holding (bracket_of negative held may) outer false (operand held)) (λ after. class_run ss after) end h)
   member_early (tree.nested c) fits flags negative held may outer after e ss end h = class_early c fits flags negative held may outer after e ss end h

@@ -307,8 +307,16 @@ module _ (mode : Mode) (us : List CodePoint) (start added from : ℕ) (at_class 
           negative_there whole_is n =
               let b = innermost here from at_class place rest i in
               let u = one_unit w 93 is in
-              let first : starts 93 (values rest) ≡ true = ap (λ us. starts 93 (values us)) (whole ∙ ap (λ w. w ++ more) u.1) ∙ ap (λ c. c == 93) u.2 in
-              (place, _, class_cause.negative_strings b.is_nested b.begin place rest b.in_bracket first (ap (λ r. is_whole r.held) b.inner_is ∙ whole_is) (ap (λ r. r.negative && r.may) b.inner_is ∙ n))
+              let first : starts 93 (values rest) ≡ true = ap (λ us. starts 93 (values us)) (whole ∙ ap (λ w. w ++ more) u.1) ∙ ap (λ c. c == 93) u.2 in (
+                place,
+                _,
+                class_cause.negative_strings b.is_nested b.begin place rest record {
+                  in_bracket = b.in_bracket;
+                  closes = first;
+                  whole = ap (λ r. is_whole r.held) b.inner_is ∙ whole_is;
+                  may = ap (λ r. r.negative && r.may) b.inner_is ∙ n;
+                },
+              )
 
           closed_by : may_close i.inner ≡ true → (outer : Brackets) → i.outer ≡ outer → StandsClass ⊎ Refused
           closed_by close [] none =

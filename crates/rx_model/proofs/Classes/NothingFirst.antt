@@ -83,6 +83,13 @@ module _ (mode : Mode) (us : List CodePoint) (start added from : ℕ) (at_class 
   closes [] h = absurd (true≢false (sym h))
   closes (u ∷ us) h = (u ∷ [], us, refl, ap (λ c. c ∷ []) (eqb-true u.value 93 h))
 
+  -- A bracket that may close goes on with its closer.
+  pub closer_follows : (s : State) → Fits s.at s.inner.held → begins_item s.at ≡ true → starts 93 (values s.rest) ≡ true → is_whole s.inner.held ≡ true → NothingFollows here s.at s.inner.held s.rest → ⊥
+  closer_follows s fits begins shut whole none =
+      let t = closes s.rest shut in
+      let at = fresh_whole s.at s.inner.held begins fits whole in
+      true≢false (sym whole ∙ none closer t.0 t.1 t.2 (subst (λ q. SpellsInClass here q closer t.0 t.1) (sym at) t.3))
+
   -- What is said of a place says that something stands there.
   no_said : (s : State) → Fits s.at s.inner.held → IsSilent s → (f : ℕ) (d : Diagnostic) → Said mode us start added from at_class s f d → ⊥
   no_said s fits i _ d (elsewhere (at_atom takes own c)) = no_fault s s.place d i.sets (i.none_refused takes) c
@@ -97,10 +104,7 @@ module _ (mode : Mode) (us : List CodePoint) (start added from : ℕ) (at_class 
       true≢false (ap is_some (sym ranges) ∙ i.follows (low t.0 t.1) r.w (r.hyphen ∷ (r.v ++ r.more)) r.whole (subst (λ q. SpellsInClass here q (low t.0 t.1) r.w (r.hyphen ∷ (r.v ++ r.more))) (sym at) t.2))
   no_said s fits i _ d (behind_dash hyphen rest of_low sets whole is c) = i.no_end of_low hyphen rest whole is d c
   no_said s fits i _ _ (ampersand unit rest at whole is) = true≢false (ap (λ c. c == 38) (sym is) ∙ ap (λ rest. starts 38 (values rest)) (sym whole) ∙ i.no_third at)
-  no_said s fits i _ _ (closing is_nested begin opens begins shut whole) =
-      let t = closes s.rest shut in
-      let at = fresh_whole s.at s.inner.held begins fits whole in
-      true≢false (sym whole ∙ i.follows closer t.0 t.1 t.2 (subst (λ q. SpellsInClass here q closer t.0 t.1) (sym at) t.3))
+  no_said s fits i _ _ (closing is_nested begin opens begins shut whole) = closer_follows s fits begins shut whole i.follows
 
   -- Where nothing is said of a place a refusal which says that nothing stands there is the first of the class.
   first_where_none : (s : State) → IsStuck here from at_class s → ((f : ℕ) (d : Diagnostic) → Said mode us start added from at_class s f d → ⊥) → (f : ℕ) (d : Diagnostic) → IsClassCause mode us start added from at_class f d → IsFirstInClass mode us start added from at_class d

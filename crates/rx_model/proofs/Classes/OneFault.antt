@@ -228,7 +228,7 @@ module _ (mode : Mode) (us : List CodePoint) (start added from : ℕ) (at_class 
     | inr i ↦ sym (subst (λ xs. ClassTokenRow here xs p b r a) (none_more ts i.0 i.1) i.2).1
   ]
 
-  one_opens : (tokens : List ClassToken) (m n : Bool) (f g : ℕ) → Opened tokens m f → Opened tokens n g → (m ≡ n) × (f ≡ g)
+  pub one_opens : (tokens : List ClassToken) (m n : Bool) (f g : ℕ) → Opened tokens m f → Opened tokens n g → (m ≡ n) × (f ≡ g)
   one_opens tokens m n f g x y =
       let same = one_opening x.before x.inside y.before y.inside x.inner y.inner (sym x.all ∙ y.all) x.alone y.alone in
       let back = same_rest y.before outside at_class x.at y.at x.at_bracket y.at_bracket (subst (λ ts. ClassTokenRow here ts outside at_class x.at x.at_bracket) same x.row) y.row in

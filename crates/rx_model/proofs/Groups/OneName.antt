@@ -6,9 +6,9 @@ use Rattle.rx_model.specs.Reading.ElementKinds.{IsNameEnd}
 use Rattle.rx_model.specs.Groups.GroupNames.{SpellsNameCharacter, SpellsNameParts, no_part, part, SpellsName, whole_name, BeginsWithName}
 use Rattle.rx_model.specs.Groups.GroupNameReading.{character, no_character, name_character_at}
 use Rattle.rx_model.specs.FirstPass.Marks.{starts}
-use Rattle.rx_model.specs.Reading.Sequences.{ElementRow}
+use Rattle.rx_units.specs.Sequences.{ElementRow}
 use Rattle.rx_model.proofs.Groups.GroupNames.{spelled_character, character_some, closer_ends}
-use Rattle.rx_model.proofs.Reading.Sequences.{one, one_between}
+use Rattle.rx_units.proofs.Sequences.{one, one_between}
 
 abbrev pub behind_character : Bool → ℕ → List ℕ → Bool
 behind_character first c rest = false

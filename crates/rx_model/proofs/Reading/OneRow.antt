@@ -23,11 +23,11 @@ use Rattle.rx_model.specs.Characters.LegacyEscapes as legacy
 use Rattle.rx_model.specs.Characters.LegacyEscapes.{IsIdentity, SpellsLegacy}
 use Rattle.rx_model.specs.Properties.PropertyEscapes.{SpellsProperty, IsProperty}
 use Rattle.rx_model.specs.Reading.Rows.{IsRaw, IsEscaped, IsLegacyEscaped, Spells, TokenRow}
-use Rattle.rx_model.specs.Reading.Sequences.{ElementRow}
+use Rattle.rx_units.specs.Sequences.{ElementRow}
 use Rattle.rx_model.specs.Trees.Token.{Token, Opener, capturing, ignoring, looking, boundary, character, dot, class_escape, property, class, indexed, named, opener, closer, bar, quantifier}
 use Rattle.rx_model.specs.Characters.UnicodeEscapes.{SpellsUnicode}
 use Rattle.rx_model.proofs.Reading.Fronts.{spelled_front}
-use Rattle.rx_model.proofs.Reading.Sequences.{longest, one}
+use Rattle.rx_units.proofs.Sequences.{longest, one}
 
 buffers_same : (e d : Environment) → e.mode ≡ d.mode → e.buffer_boundaries ≡ d.buffer_boundaries → has_buffers e ≡ has_buffers d
 buffers_same e d m b = ap (λ mode. is_unicode mode && e.buffer_boundaries) m ∙ ap (λ buffers. is_unicode d.mode && buffers) b

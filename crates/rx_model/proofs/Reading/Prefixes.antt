@@ -12,7 +12,7 @@ use Rattle.rx_model.specs.Reading.Rows.{TokenRow}
 use Rattle.rx_model.specs.Trees.Token.{Token}
 use Rattle.rx_model.proofs.Classes.ClassFronts.{class_token_is}
 use Rattle.rx_model.proofs.Reading.OneRow.{token_at, behind_token, first_token, elements, of_elements}
-use Rattle.rx_model.proofs.Reading.Sequences as sequences
+use Rattle.rx_units.proofs.Sequences as sequences
 
 module _ (e : Environment) where
   -- Two tokens that one text begins with at one place of a class are one.

@@ -52,3 +52,8 @@ one_value u c h = ap (λ v. v ∷ []) (eqb-true u.value c h)
 pub starts_front : (c : ℕ) (w rest : List CodePoint) → 0 < length w → starts c (values (w ++ rest)) ≡ starts c (values w)
 starts_front c [] rest some = absurd (omega (arith, some))
 starts_front c (u ∷ w) rest some = refl
+
+-- the unit that a text starts with
+pub starting_unit : (c : ℕ) (us : List CodePoint) → starts c (values us) ≡ true → (w : List CodePoint) × (more : List CodePoint) × (us ≡ w ++ more) × (values w ≡ c ∷ [])
+starting_unit c [] h = absurd (let no : ⊥ = cc h in no)
+starting_unit c (u ∷ us) h = (u ∷ [], us, refl, ap (λ v. v ∷ []) (eqb-true u.value c h))

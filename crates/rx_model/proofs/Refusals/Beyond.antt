@@ -181,7 +181,7 @@ module _ (mode : Mode) (rules : Rules) (us : List CodePoint) where
           let same : t ≡ property negative strings name value = same_token t (property negative strings name value) n (m + 1) k in
           let s = front_spelled here rest t n h in
           cause_begins_no_property here us first added f rest d c negative strings name value s.w s.rest s.whole (subst (λ t. Spells here t s.w s.rest) same s.spells)
-          (subst (Obeys (text_groups mode us) (text_names mode us)) same o)
+          (subst (Obeys (text_groups mode us) (text_names mode us)) same o).1
 
   property_ends : (f : ℕ) (rest : List CodePoint) (first added : ℕ) (d : Diagnostic) → IsPlace mode rules us f rest → IsPropertyCause mode us first added f rest d → Ends mode rules us f
   property_ends f rest first added d p c = let b = property_first mode us first added f rest d c in blocked_ends f rest 92 (b.0 ∷ b.1) b.2 p (property_blocked first added f rest d c)

@@ -42,7 +42,7 @@ module _ (mode : Mode) (rules : Rules) (us : List CodePoint) (start added : ℕ)
   class_says_other : (from : ℕ) (at_class : List CodePoint) (place : ℕ) (d : Diagnostic) → IsClassCause mode us start added from at_class place d → is_invalid_input d ≡ false
   class_says_other from at_class place d (class_cause.escape_in_class _ rest at c) = escape_says_other place rest d c
   class_says_other from at_class place d (class_cause.property_in_class _ rest at c) = property_says_other place rest d c
-  class_says_other from at_class place _ (class_cause.negative_strings false begin _ rest in_bracket closer whole strings) = refl
+  class_says_other from at_class place _ (class_cause.negative_strings false begin _ rest negative) = refl
   class_says_other from at_class place _ c = refl
 
   place_says_other : (place : ℕ) (d : Diagnostic) → IsCauseAtPlace mode rules us start added place d → is_invalid_input d ≡ false

@@ -47,8 +47,8 @@ ends_refused mode us start added from at_class _ _ (class_cause.no_operand place
 ends_refused mode us start added from at_class _ _ (class_cause.third_ampersand place unit rest p at is_ampersand) is = absurd is
 ends_refused mode us start added from at_class _ _ (class_cause.no_operator operator place rest p held none no_third) is = absurd is
 ends_refused mode us start added from at_class _ _ (class_cause.unterminated_strings opener place rest p none) is = absurd is
-ends_refused mode us start added from at_class _ _ (class_cause.negative_strings true begin place rest p closer whole negative) is = absurd is
-ends_refused mode us start added from at_class _ _ (class_cause.negative_strings false begin place rest p closer whole negative) is = absurd is
+ends_refused mode us start added from at_class _ _ (class_cause.negative_strings true begin place rest negative) is = absurd is
+ends_refused mode us start added from at_class _ _ (class_cause.negative_strings false begin place rest negative) is = absurd is
 ends_refused mode us start added from at_class _ _ (class_cause.range_out_of_order place low high w v more hyphen k p s less none) is = absurd is
 ends_refused mode us start added from at_class _ _ (class_cause.dash_out_of_order place low w v more hyphen k p s less) is = absurd is
 ends_refused mode us start added from at_class _ _ (class_cause.set_range_out_of_order place low high w v more hyphen k p union s less) is = absurd is
@@ -64,8 +64,8 @@ module _ (mode : Mode) (rules : Rules) (m : is_unicode mode ≡ false) (us : Lis
   not_lone_in_class from at_class _ _ (class_cause.third_ampersand place unit rest p at is_ampersand) is = is
   not_lone_in_class from at_class _ _ (class_cause.no_operator operator place rest p held none no_third) is = is
   not_lone_in_class from at_class _ _ (class_cause.unterminated_strings opener place rest p none) is = is
-  not_lone_in_class from at_class _ _ (class_cause.negative_strings true begin place rest p closer whole negative) is = is
-  not_lone_in_class from at_class _ _ (class_cause.negative_strings false begin place rest p closer whole negative) is = is
+  not_lone_in_class from at_class _ _ (class_cause.negative_strings true begin place rest negative) is = is
+  not_lone_in_class from at_class _ _ (class_cause.negative_strings false begin place rest negative) is = is
   not_lone_in_class from at_class _ _ (class_cause.range_out_of_order place low high w v more hyphen k p s less none) is = is
   not_lone_in_class from at_class _ _ (class_cause.dash_out_of_order place low w v more hyphen k p s less) is = is
   not_lone_in_class from at_class _ _ (class_cause.set_range_out_of_order place low high w v more hyphen k p union s less) is = is

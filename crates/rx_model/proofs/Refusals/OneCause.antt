@@ -184,11 +184,26 @@ module _ (mode : Mode) (rules : Rules) (us : List CodePoint) (start added : ℕ)
       no_row_at_bracket f rest b.0 d (ap values (rests f from rest at_class same p q) ∙ b.1) x
 
   -- Two classes that are refused are one.
+  pub one_class : (from other f g : ℕ) (at_class also : List CodePoint) (d e : Diagnostic) → IsPlace mode rules us from at_class → IsClassCause mode us start added from at_class f d → IsPlace mode rules us other also →
+      IsClassCause mode us start added other also g e → (from ≡ other) × (at_class ≡ also)
+  one_class from other f g at_class also d e p x q y =
+      let same = same_if from other at_class also (blocked_beyond mode rules us from at_class p (laws.blocked x)) (blocked_beyond mode rules us other also q (laws.blocked y)) p q in
+      (same, rests from other at_class also same p q)
+
   in_one_class : (from other f g : ℕ) (at_class also : List CodePoint) (d e : Diagnostic) → IsPlace mode rules us from at_class → IsClassCause mode us start added from at_class f d → IsPlace mode rules us other also →
       IsClassCause mode us start added other also g e → IsClassCause mode us start added other also f d
   in_one_class from other f g at_class also d e p x q y =
-      let same = same_if from other at_class also (blocked_beyond mode rules us from at_class p (laws.blocked x)) (blocked_beyond mode rules us other also q (laws.blocked y)) p q in
-      subst (λ from. IsClassCause mode us start added from also f d) same (subst (λ at_class. IsClassCause mode us start added from at_class f d) (rests from other at_class also same p q) x)
+      let same = one_class from other f g at_class also d e p x q y in
+      subst (λ from. IsClassCause mode us start added from also f d) same.0 (subst (λ at_class. IsClassCause mode us start added from at_class f d) same.1 x)
+
+  -- Where a refusal of a class holds, each that holds is of this class.
+  pub of_this_class : (from f g : ℕ) (at_class : List CodePoint) (d e : Diagnostic) → IsPlace mode rules us from at_class → IsClassCause mode us start added from at_class f d → IsCauseAtPlace mode rules us start added g e →
+      IsClassCause mode us start added from at_class g e
+  of_this_class from f g at_class d e p x k = by (located g e k)
+    where
+      by : Located g e → IsClassCause mode us start added from at_class g e
+      by (at_place back q y) = absurd (row_against_class g from f back at_class e d (none_beyond mode rules us start added laws g e k) q y p x)
+      by (in_class other also q y) = in_one_class other from g f also at_class e d q y p x
 
   -- Of two refusals that hold at places one gives way to the other, or they are one.
   pub two_at_places : (f g : ℕ) (d e : Diagnostic) → IsCauseAtPlace mode rules us start added f d → IsCauseAtPlace mode rules us start added g e → AreCompared f d g e
@@ -211,16 +226,9 @@ module _ (mode : Mode) (rules : Rules) (us : List CodePoint) (start added : ℕ)
   class_is_first from at_class d p x = record {
     place = x.place;
     holds = cause.of_class from x.place at_class p x.holds;
-    none_later = λ further e k less. x.none_later further e (in_this further e k) less;
-    none_over = λ e k. x.none_over e (in_this x.place e k);
+    none_later = λ further e k less. x.none_later further e (of_this_class from x.place further at_class d e p x.holds k) less;
+    none_over = λ e k. x.none_over e (of_this_class from x.place x.place at_class d e p x.holds k);
   }
-    where
-      in_this : (further : ℕ) (e : Diagnostic) → IsCauseAtPlace mode rules us start added further e → IsClassCause mode us start added from at_class further e
-      in_this further e k = by (located further e k)
-        where
-          by : Located further e → IsClassCause mode us start added from at_class further e
-          by (at_place back q y) = absurd (row_against_class further from x.place back at_class e d (none_beyond mode rules us start added laws further e k) q y p x.holds)
-          by (in_class other also q y) = in_one_class other from further x.place also at_class e d q y p x.holds
 
   -- Without `v` they are one.
   pub one_cause_at_places : is_sets mode ≡ false → (f g : ℕ) (d e : Diagnostic) → IsCauseAtPlace mode rules us start added f d → IsCauseAtPlace mode rules us start added g e → (f ≡ g) × (d ≡ e)

@@ -20,6 +20,35 @@ only_is_first Holds place d h only = record {
   none_over = λ e k. ap (λ e. yields (yielding d) (yielding e)) (sym (only place e k).1) ∙ yields_to_none (yielding d);
 }
 
+-- A refusal holds, and no other does.
+abbrev pub IsOnly : (ℕ → Diagnostic → Type 0) → ℕ → Diagnostic → Type 0
+IsOnly Holds place d = Holds place d × ((further : ℕ) (e : Diagnostic) → Holds further e → (place ≡ further) × (d ≡ e))
+
+-- What holds by one relation holds by the other at the same place, or is the only one that holds by either.
+abbrev pub Carries : (ℕ → Diagnostic → Type 0) → (ℕ → Diagnostic → Type 0) → Type 0
+Carries Holds Also = (place : ℕ) (d : Diagnostic) → Holds place d → Also place d ⊎ (IsOnly Holds place d × ((other : ℕ) × IsOnly Also other d))
+
+-- So the first by one is the first by the other, where each carries what holds over to the other.
+pub first_by_either : (Holds Also : ℕ → Diagnostic → Type 0) → Carries Holds Also → Carries Also Holds → (d : Diagnostic) → IsFirstOf Holds d → IsFirstOf Also d
+first_by_either Holds Also over back d x = by (over x.place d x.holds)
+  where
+    by : Also x.place d ⊎ (IsOnly Holds x.place d × ((other : ℕ) × IsOnly Also other d)) → IsFirstOf Also d
+    by (inr only) = let o = only.1 in only_is_first Also o.0 d o.1.0 o.1.1
+    by (inl holds) = record {
+      place = x.place;
+      holds = holds;
+      none_later = λ further e k less. later further e (back further e k) less;
+      none_over = λ e k. over_none e (back x.place e k);
+    }
+      where
+        later : (further : ℕ) (e : Diagnostic) → Holds further e ⊎ (IsOnly Also further e × ((other : ℕ) × IsOnly Holds other e)) → x.place < further → ⊥
+        later further e (inl h) less = x.none_later further e h less
+        later further e (inr only) less = let same = (only.0.1 x.place d holds).0 in omega (arith, same, less)
+
+        over_none : (e : Diagnostic) → Holds x.place e ⊎ (IsOnly Also x.place e × ((other : ℕ) × IsOnly Holds other e)) → yields (yielding d) (yielding e) ≡ false
+        over_none e (inl h) = x.none_over e h
+        over_none e (inr only) = ap (λ e. yields (yielding d) (yielding e)) (only.0.1 x.place d holds).1 ∙ yields_to_none (yielding d)
+
 -- What gives way yields.
 gives_way_yields : (f g : ℕ) (d e : Diagnostic) → GivesWay f d g e → yields (yielding d) (yielding e) ≡ true
 gives_way_yields f g d e w = by (yielding e) w.says_more (λ k. ap (λ other. yields other k) w.says_less)

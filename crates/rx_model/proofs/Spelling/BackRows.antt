@@ -179,7 +179,7 @@ high_digit c h = grind (arith, nat_tests, h)
 
 module _ (e : Environment) (mode : Mode) (m : e.mode ≡ mode) (count : ℕ) (groups_are : e.groups ≡ count) (in_limit : count ≤ most_groups) (names : List (List ℕ)) where
   -- no question mark comes where no quantifier may follow
-  no_question : (ts : List Token) (open_groups : List Opener) (end : List Opener × Bool) → run mode ts open_groups false ≡ Some end → AreKnown e ts →
+  no_question : (ts : List Token) (open_groups : List Opener) (end : List Opener × Bool) → run mode ts open_groups false ≡ Some end → AreKnown true e ts →
       front_is is_question (tokens_text mode false ts) ≡ false
   no_question [] open_groups end r k = refl
   no_question ((boundary kind) ∷ ts) open_groups end r k = boundary_outside is_question refl refl refl refl kind (tokens_text mode false ts)
@@ -196,7 +196,7 @@ module _ (e : Environment) (mode : Mode) (m : e.mode ≡ mode) (count : ℕ) (gr
   no_question ((quantifier min max greedy) ∷ ts) open_groups end r k = absurd (let f : ⊥ = cc r in f)
 
   -- no digit comes right behind a reference
-  no_digit : (ts : List Token) → AreKnown e ts → front_is is_decimal_digit (tokens_text mode true ts) ≡ false
+  no_digit : (ts : List Token) → AreKnown true e ts → front_is is_decimal_digit (tokens_text mode true ts) ≡ false
   no_digit [] k = refl
   no_digit ((boundary kind) ∷ ts) k = boundary_outside is_decimal_digit refl refl refl refl kind (tokens_text mode false ts)
   no_digit ((character kind value) ∷ ts) k = character_no_digit mode value (tokens_text mode false ts)
@@ -219,7 +219,7 @@ module _ (e : Environment) (mode : Mode) (m : e.mode ≡ mode) (count : ℕ) (gr
     follows : Follows t (tokens_text mode (token_refers t) ts)
 
   next : (t : Token) (ts : List Token) (open_groups : List Opener) (ready : Bool) (end : List Opener × Bool) → run mode (t ∷ ts) open_groups ready ≡ Some end →
-      AreKnown e (t ∷ ts) → Next t ts end
+      AreKnown true e (t ∷ ts) → Next t ts end
   next (boundary kind) ts open_groups ready end r k = record { open_after = open_groups; ready_after = false; run_after = r; follows = tt }
   next (character kind value) ts open_groups ready end r k = record { open_after = open_groups; ready_after = true; run_after = r; follows = tt }
   next dot ts open_groups ready end r k = record { open_after = open_groups; ready_after = true; run_after = r; follows = tt }
@@ -296,7 +296,7 @@ module _ (e : Environment) (mode : Mode) (m : e.mode ≡ mode) (count : ℕ) (gr
   character_in Unicode after_reference c f l = absurd (let no : ⊥ = cc l in no)
   character_in Sets after_reference c f l = absurd (let no : ⊥ = cc l in no)
 
-  class_in : (md : Mode) (c : Class) → IsKnownClass md c → md ≡ Legacy → IsNarrow (class_text md c)
+  class_in : (md : Mode) (c : Class) → IsKnownClass true md c → md ≡ Legacy → IsNarrow (class_text md c)
   class_in Legacy c k l = class_narrow c k
   class_in Unicode c k l = absurd (let no : ⊥ = cc l in no)
   class_in Sets c k l = absurd (let no : ⊥ = cc l in no)
@@ -305,10 +305,10 @@ module _ (e : Environment) (mode : Mode) (m : e.mode ≡ mode) (count : ℕ) (gr
   no_legacy u l = absurd (true≢false (sym u ∙ ap is_unicode (m ∙ l)))
 
   -- the units of an opener's canonical text spell it again
-  opener_again : (o : Opener) → IsKnownOpener mode o → IsEarlyOpener o → (at : ℕ) (rest : List CodePoint) → FollowsOpener o (values rest) →
+  opener_again : (o : Opener) → IsKnownOpener true mode o → IsEarlyOpener o → (at : ℕ) (rest : List CodePoint) → FollowsOpener o (values rest) →
       SpellsOpener e o (literal_units (is_unicode mode) at (opened_text o)) rest
   opener_again (capturing None) k h at rest f = as_units (opener (capturing None)) at (opened_text (capturing None)) rest (λ _. refl) (refl, f)
-  opener_again (capturing (Some name)) k h at rest f = naming_again mode m name k.0 k.1 at rest
+  opener_again (capturing (Some name)) k h at rest f = naming_again mode m name k.0 (k.1 refl) at rest
   opener_again (ignoring None) k h at rest f = as_units (opener (ignoring None)) at (opened_text (ignoring None)) rest (λ _. refl) refl
   opener_again (ignoring (Some bits)) k h at rest f = as_units (opener (ignoring (Some bits))) at (opened_text (ignoring (Some bits))) rest (λ _. narrow_by (opened_text (ignoring (Some bits))) (modifiers_are_printable bits)) (record {
     text = letters bits.0 ++ (dash bits.1 ++ letters bits.1);
@@ -318,20 +318,20 @@ module _ (e : Environment) (mode : Mode) (m : e.mode ≡ mode) (count : ℕ) (gr
   opener_again (looking kind) k h at rest f = as_units (opener (looking kind)) at (look_text kind) rest (λ _. narrow_by (look_text kind) (look_printable kind)) (values_literal at (look_text kind))
 
   -- the units of a token's canonical text spell it again
-  token_again : (after_reference : Bool) (t : Token) → Known e t → Obeys count names t → (at : ℕ) (rest : List CodePoint) → Follows t (values rest) →
+  token_again : (after_reference : Bool) (t : Token) → Known true e t → Obeys count names t → (at : ℕ) (rest : List CodePoint) → Follows t (values rest) →
       Spells e (again_token mode after_reference t) (literal_units (is_unicode mode) at (token_text mode after_reference t)) rest
   token_again after_reference (boundary kind) k h at rest f =
       as_units (boundary kind) at (boundary_text kind) rest (λ _. narrow_by (boundary_text kind) (boundary_printable kind)) (record { text = values_literal at (boundary_text kind); there = k })
   token_again after_reference (character kind value) k h at rest f =
       as_units (character (spelled_kind mode after_reference value) value) at (character_text mode (outside after_reference) value) rest
-      (character_in mode after_reference value (λ l. k (m ∙ l))) (character_spelled e mode m after_reference value h (λ l. k (m ∙ l)) at rest)
+      (character_in mode after_reference value (λ l. k refl (m ∙ l))) (character_spelled e mode m after_reference value h (λ l. k refl (m ∙ l)) at rest)
   token_again after_reference dot k h at rest f = as_units (dot) at (46 ∷ []) rest (λ _. refl) refl
   token_again after_reference (class_escape kind) k h at rest f =
       as_units (class_escape kind) at (class_escape_text kind) rest (λ _. narrow_by (class_escape_text kind) (class_escape_printable kind)) (values_literal at (class_escape_text kind))
   token_again after_reference (property negative strings name value) k h at rest f =
       as_units (property negative strings name value) at (property_text negative name value) rest (λ l. no_legacy k.0 l) (property_spelled e mode m negative strings name value k.0 k.1 at)
   token_again after_reference (class c) k h at rest f =
-      as_units (class (again_class mode c)) at (class_text mode c) rest (class_in mode c (subst (λ mode. IsKnownClass mode c) m k)) (class_spelled_again (for_classes e) mode m c k h at rest)
+      as_units (class (again_class mode c)) at (class_text mode c) rest (class_in mode c (subst (λ mode. IsKnownClass true mode c) m k)) (class_spelled_again (for_classes e) mode m c k h at rest)
   token_again after_reference (indexed n) k h at rest f = as_units (indexed n) at (indexed_text n) rest (λ _. narrow_by (indexed_text n) (decimal_printable n (omega (arith, h.1, in_limit)))) (record {
     digits = decimal n;
     whole = values_literal at (indexed_text n);
@@ -344,8 +344,8 @@ module _ (e : Environment) (mode : Mode) (m : e.mode ≡ mode) (count : ℕ) (gr
       refers_again : (u : Bool) (n : ℕ) → n ≤ count → (u || nat_le n e.groups) ≡ true
       refers_again true n h = refl
       refers_again false n h = ap (nat_le n) groups_are ∙ at_most n count h
-  token_again after_reference (named name) k h at rest f = reference_again mode m name k.0.0 (λ l. k.0.1 (m ∙ l)) k.1 at rest
-  token_again after_reference (opener o) k h at rest f = opener_again o (subst (λ mode. IsKnownOpener mode o) m k) h at rest f
+  token_again after_reference (named name) k h at rest f = reference_again mode m name k.0.0 (λ l. k.0.1 refl (m ∙ l)) k.1 at rest
+  token_again after_reference (opener o) k h at rest f = opener_again o (subst (λ mode. IsKnownOpener true mode o) m k) h at rest f
   token_again after_reference closer k h at rest f = as_units (closer) at (41 ∷ []) rest (λ _. refl) refl
   token_again after_reference bar k h at rest f = as_units (bar) at (124 ∷ []) rest (λ _. refl) refl
   token_again after_reference (quantifier min max greedy) k h at rest f =
@@ -390,7 +390,7 @@ module _ (e : Environment) (mode : Mode) (m : e.mode ≡ mode) (count : ℕ) (gr
   Again ts text = (at : ℕ) → TokenRow e ts (literal_units (is_unicode mode) at text) []
 
   -- one more token in front
-  further : (after_reference : Bool) (t : Token) (ts : List Token) → Known e t → Obeys count names t → Follows t (tokens_text mode (token_refers t) ts) →
+  further : (after_reference : Bool) (t : Token) (ts : List Token) → Known true e t → Obeys count names t → Follows t (tokens_text mode (token_refers t) ts) →
       Again (again_tokens mode (token_refers t) ts) (tokens_text mode (token_refers t) ts) →
       Again (again_tokens mode after_reference (t ∷ ts)) (tokens_text mode after_reference (t ∷ ts))
   further after_reference t ts k h f again at =
@@ -401,7 +401,7 @@ module _ (e : Environment) (mode : Mode) (m : e.mode ≡ mode) (count : ℕ) (gr
       (literal_units (is_unicode mode) at text, rest, u.1, token_again after_reference t k h at rest (followed (is_unicode mode) t u.0 more f), again u.0)
 
   pub tokens_again : (after_reference : Bool) (ts : List Token) (open_groups : List Opener) (ready : Bool) (end : List Opener × Bool) → run mode ts open_groups ready ≡ Some end →
-      AreKnown e ts → All (Obeys count names) ts → Again (again_tokens mode after_reference ts) (tokens_text mode after_reference ts)
+      AreKnown true e ts → All (Obeys count names) ts → Again (again_tokens mode after_reference ts) (tokens_text mode after_reference ts)
   tokens_again after_reference [] open_groups ready end r k h = λ at. refl
   tokens_again after_reference (t ∷ ts) open_groups ready end r k h =
       let n = next t ts open_groups ready end r k in

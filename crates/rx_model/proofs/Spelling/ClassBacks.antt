@@ -434,7 +434,7 @@ module _ (e : Environment) (mode : Mode) (m : e.mode ≡ mode) where
   no_meet sets c = in_class_outside mode (λ c. c == 38) refl (no_raw_ampersand mode (ap is_sets (sym m) ∙ sets)) c
 
   mutual
-    member_again : (q : Place) (mb : Member) (ts : List ClassToken) (text : List ℕ) → TakesMember q mb → IsKnownMember e.mode mb → IsEarlyMember mb → IsFittingMember mb → EndsItem text →
+    member_again : (q : Place) (mb : Member) (ts : List ClassToken) (text : List ℕ) → TakesMember q mb → IsKnownMember true e.mode mb → IsEarlyMember mb → IsFittingMember mb → EndsItem text →
         AgainHere ts text → AgainAt q (operand_tokens (again_member mode mb) ++ ts) (member_text mode mb ++ text)
     member_again q (tree.range r) ts text takes k h f ends again =
         let first = in_class_text mode r.min in
@@ -443,7 +443,7 @@ module _ (e : Environment) (mode : Mode) (m : e.mode ≡ mode) where
         subst (λ q. AgainAt q own ((first ++ (45 ∷ last)) ++ text)) (sym takes)
         (subst (AgainHere own) (sym (append_assoc first (45 ∷ last) text))
         (range_again (class_kind mode r.min.value) (class_kind mode r.max.value) r.min.value r.max.value first last ts text
-        (in_class_spelled r.min.value h.0 (fits_here r.min.value k.0)) (in_class_spelled r.max.value h.1 (fits_here r.max.value k.1)) (some_character mode in_class r.max.value)
+        (in_class_spelled r.min.value h.0 (fits_here r.min.value (k.0 refl))) (in_class_spelled r.max.value h.1 (fits_here r.max.value (k.1 refl))) (some_character mode in_class r.max.value)
         (in_class_outside mode (λ c. c == 93) refl (no_raw_closer mode) r.max.value) again))
     member_again q (tree.escape c) ts text takes k h f ends again =
         item_again q takes (escape c.kind) (class_escape_text c.kind) ts text (λ at rest. values_literal at (class_escape_text c.kind)) (λ _. class_escape_outside (λ c. c == 38) refl c.kind) ends again
@@ -451,11 +451,11 @@ module _ (e : Environment) (mode : Mode) (m : e.mode ≡ mode) where
         item_again q takes (property p.negative p.strings p.name p.value) (property_text p.negative p.name p.value) ts text
         (λ at rest. property_spelled p.negative p.strings p.name p.value k.0 k.1 at) (λ _. property_outside (λ c. c == 38) refl p.negative p.name p.value) ends again
     member_again q (tree.character c) ts text takes k h f ends again =
-        item_again q takes (character (class_kind mode c.value) c.value) (in_class_text mode c) ts text (in_class_spelled c.value h (fits_here c.value k)) (λ sets. no_meet sets c.value) ends again
+        item_again q takes (character (class_kind mode c.value) c.value) (in_class_text mode c) ts text (in_class_spelled c.value h (fits_here c.value (k refl))) (λ sets. no_meet sets c.value) ends again
     member_again q (tree.nested c) ts text takes k h f ends again = class_again q (nested_takes q takes k.0) c ts text k.1 h f again
     member_again q (tree.strings d) ts text takes k h f ends again = strings_again k q takes d.span d.body ts text f h.1 again
 
-    class_again : (q : Place) → TakesBracket q → (c : Class) (ts : List ClassToken) (text : List ℕ) → IsKnownTree e.mode c → IsEarlyClass c → IsFitting c → AgainHere ts text →
+    class_again : (q : Place) → TakesBracket q → (c : Class) (ts : List ClassToken) (text : List ℕ) → IsKnownTree true e.mode c → IsEarlyClass c → IsFitting c → AgainHere ts text →
         AgainAt q (class_tokens (again_class mode c) ++ ts) (class_text mode c ++ text)
     class_again q takes (class s negative may kind ms) ts text k h f again =
         let own = contents_tokens (between_by kind) (again_members mode ms) in
@@ -469,7 +469,7 @@ module _ (e : Environment) (mode : Mode) (m : e.mode ≡ mode) where
         (bracket_again q takes negative (own ++ (closer ∷ ts)) (mine ++ (93 ∷ text))
         (members_outside mode (λ c. c == 94) refl (no_raw_caret mode) refl refl (operator_text kind) ms text) (contents_again kind ms ts text k.0 k.1 h.2 f.0 f.1 again)))
 
-    contents_again : (kind : CharacterClassContentsKind) (ms : Members) (ts : List ClassToken) (text : List ℕ) → IsKnownKind e.mode kind → AreKnownMembers e.mode ms → AreEarlyMembers ms →
+    contents_again : (kind : CharacterClassContentsKind) (ms : Members) (ts : List ClassToken) (text : List ℕ) → IsKnownKind e.mode kind → AreKnownMembers true e.mode ms → AreEarlyMembers ms →
         FitsKind kind ms → AreFitting ms → AgainHere ts text →
         AgainHere (contents_tokens (between_by kind) (again_members mode ms) ++ (closer ∷ ts)) (members_text mode (operator_text kind) ms ++ (93 ∷ text))
     contents_again kind no_member ts text p k h fits f again = closer_again ts text again
@@ -484,7 +484,7 @@ module _ (e : Environment) (mode : Mode) (m : e.mode ≡ mode) where
         (further_again kind ms ts text p k.1 h.1 (taken kind mb ms p fits) f.1 again)))
 
     -- each behind the operator
-    further_again : (kind : CharacterClassContentsKind) (ms : Members) (ts : List ClassToken) (text : List ℕ) → IsKnownKind e.mode kind → AreKnownMembers e.mode ms → AreEarlyMembers ms →
+    further_again : (kind : CharacterClassContentsKind) (ms : Members) (ts : List ClassToken) (text : List ℕ) → IsKnownKind e.mode kind → AreKnownMembers true e.mode ms → AreEarlyMembers ms →
         AreTaken kind ms → AreFitting ms → AgainHere ts text →
         AgainHere (further_tokens (between_by kind) (again_members mode ms) ++ (closer ∷ ts)) (more_members_text mode (operator_text kind) ms ++ (93 ∷ text))
     further_again kind no_member ts text p k h takes f again = closer_again ts text again
@@ -504,7 +504,7 @@ module _ (e : Environment) (mode : Mode) (m : e.mode ≡ mode) where
         (further_again kind ms ts text p k.1 h.1 takes.1 f.1 again))))
 
   -- the class
-  pub class_spelled_again : (c : Class) → IsKnownClass e.mode c → IsEarlyClass c → (at : ℕ) (rest : List CodePoint) →
+  pub class_spelled_again : (c : Class) → IsKnownClass true e.mode c → IsEarlyClass c → (at : ℕ) (rest : List CodePoint) →
       IsClass e (again_class mode c) (literal_units true at (class_text mode c)) rest
   class_spelled_again c k h at rest = record {
     no_spans = unspanned_class mode c ∙ ap (again_class mode) k.no_spans;

@@ -27,28 +27,28 @@ IsKnownKind mode Union = Unit {0}
 IsKnownKind mode Intersection = is_sets mode ≡ true
 IsKnownKind mode Subtraction = is_sets mode ≡ true
 
--- What units of this mode may spell in a class, and in the classes in it.
+-- What units of this mode may spell in a class, and in the classes in it; where `bounded` is true, each character also has a value of the mode.
 abbrev mutual
-  pub IsKnownMember : Mode → Member → Type 0
-  IsKnownMember mode (tree.range r) = FitsIn mode r.min.value × FitsIn mode r.max.value
-  IsKnownMember mode (tree.escape e) = Unit {0}
-  IsKnownMember mode (tree.property p) = (is_unicode mode ≡ true) × SpellsProperty mode p.strings p.name p.value (property_body p.name p.value)
-  IsKnownMember mode (tree.character c) = FitsIn mode c.value
-  IsKnownMember mode (tree.nested c) = (is_sets mode ≡ true) × IsKnownTree mode c
-  IsKnownMember mode (tree.strings d) = is_sets mode ≡ true
+  pub IsKnownMember : Bool → Mode → Member → Type 0
+  IsKnownMember bounded mode (tree.range r) = (bounded ≡ true → FitsIn mode r.min.value) × (bounded ≡ true → FitsIn mode r.max.value)
+  IsKnownMember bounded mode (tree.escape e) = Unit {0}
+  IsKnownMember bounded mode (tree.property p) = (is_unicode mode ≡ true) × SpellsProperty mode p.strings p.name p.value (property_body p.name p.value)
+  IsKnownMember bounded mode (tree.character c) = bounded ≡ true → FitsIn mode c.value
+  IsKnownMember bounded mode (tree.nested c) = (is_sets mode ≡ true) × IsKnownTree bounded mode c
+  IsKnownMember bounded mode (tree.strings d) = is_sets mode ≡ true
 
-  pub AreKnownMembers : Mode → Members → Type 0
-  AreKnownMembers mode no_member = Unit {0}
-  AreKnownMembers mode (member m ms) = IsKnownMember mode m × AreKnownMembers mode ms
+  pub AreKnownMembers : Bool → Mode → Members → Type 0
+  AreKnownMembers bounded mode no_member = Unit {0}
+  AreKnownMembers bounded mode (member m ms) = IsKnownMember bounded mode m × AreKnownMembers bounded mode ms
 
-  pub IsKnownTree : Mode → Class → Type 0
-  IsKnownTree mode (class s negative may kind ms) = IsKnownKind mode kind × AreKnownMembers mode ms
+  pub IsKnownTree : Bool → Mode → Class → Type 0
+  IsKnownTree bounded mode (class s negative may kind ms) = IsKnownKind mode kind × AreKnownMembers bounded mode ms
 
 -- The class has no spans and the shape of a class, and is one that units of this mode may spell.
-pub record IsKnownClass (mode : Mode) (c : Class) : Type 0 where
+pub record IsKnownClass (bounded : Bool) (mode : Mode) (c : Class) : Type 0 where
   pub no_spans : forget_class same_kind c ≡ c
   pub shape : IsClassShape c
-  pub known : IsKnownTree mode c
+  pub known : IsKnownTree bounded mode c
 
 module _ (e : Environment) where
   -- what stands in a class
@@ -117,26 +117,26 @@ module _ (e : Environment) where
   less_sets q w more s = absurd s
 
   -- before what follows the class
-  module _ (rest : List CodePoint) where
+  module _ (bounded : Bool) (rest : List CodePoint) where
     -- from some place in the class the tokens are a row to its end
     abbrev RowOn : List ClassToken → Type 0
-    RowOn ts = (q : Place) × (us : List CodePoint) × IsWithin q × FitIn e.mode us × ClassTokenRow e ts q us fresh rest
+    RowOn ts = (q : Place) × (us : List CodePoint) × IsWithin q × (bounded ≡ true → FitIn e.mode us) × ClassTokenRow e ts q us fresh rest
 
     token_on : (t : ClassToken) (ts : List ClassToken) → RowOn (t ∷ ts) → RowOn ts
-    token_on t ts (q, us, n, f, (w, more, whole, s, row)) = (behind e.mode q t more, more, behind_inside e.mode q t more, fit_back e.mode us w more whole f, row)
+    token_on t ts (q, us, n, f, (w, more, whole, s, row)) = (behind e.mode q t more, more, behind_inside e.mode q t more, (λ b. fit_back e.mode us w more whole (f b)), row)
 
     tokens_on : (own ts : List ClassToken) → RowOn (own ++ ts) → RowOn ts
     tokens_on [] ts r = r
     tokens_on (t ∷ own) ts r = tokens_on own ts (token_on t (own ++ ts) r)
 
-    range_known : (k j : CharacterKind) (v u : ℕ) (ts : List ClassToken) → RowOn (low k v ∷ dash ∷ high j u ∷ ts) → FitsIn e.mode v × FitsIn e.mode u
-    range_known k j v u ts (q, us, n, f, (w, more, e0, s, (x, tail, e1, d, (y, last, e2, t, row)))) =
-        let f1 = fit_back e.mode us w more e0 f in
-        let f2 = fit_back e.mode more x tail e1 f1 in
-        (class_character_low e k v w more (low_there q k v w more s) (fit_front e.mode us w more e0 f), class_character_low e j u y last t (fit_front e.mode tail y last e2 f2))
+    range_known : (k j : CharacterKind) (v u : ℕ) (ts : List ClassToken) → RowOn (low k v ∷ dash ∷ high j u ∷ ts) → (bounded ≡ true → FitsIn e.mode v) × (bounded ≡ true → FitsIn e.mode u)
+    range_known k j v u ts (q, us, n, f, (w, more, e0, s, (x, tail, e1, d, (y, last, e2, t, row)))) = (
+      λ b. class_character_low e k v w more (low_there q k v w more s) (fit_front e.mode us w more e0 (f b)),
+      λ b. class_character_low e j u y last t (fit_front e.mode tail y last e2 (fit_back e.mode more x tail e1 (fit_back e.mode us w more e0 (f b)))),
+    )
 
-    character_known : (k : CharacterKind) (v : ℕ) (ts : List ClassToken) → RowOn (item (character k v) ∷ ts) → FitsIn e.mode v
-    character_known k v ts (q, us, n, f, (w, more, whole, s, row)) = character_there q k v w more (fit_front e.mode us w more whole f) s
+    character_known : (k : CharacterKind) (v : ℕ) (ts : List ClassToken) → RowOn (item (character k v) ∷ ts) → bounded ≡ true → FitsIn e.mode v
+    character_known k v ts (q, us, n, f, (w, more, whole, s, row)) b = character_there q k v w more (fit_front e.mode us w more whole (f b)) s
 
     property_known : (negative may : Bool) (name : List ℕ) (value : Option (List ℕ)) (ts : List ClassToken) → RowOn (item (property negative may name value) ∷ ts) →
         (is_unicode e.mode ≡ true) × SpellsProperty e.mode may name value (property_body name value)
@@ -163,7 +163,7 @@ module _ (e : Environment) where
     contents_on negative own ts r = subst RowOn (append_assoc own (closer ∷ []) ts) (token_on (bracket negative) ((own ++ (closer ∷ [])) ++ ts) r)
 
     mutual
-      member_known : (m : Member) (ts : List ClassToken) → IsFittingMember m → RowOn (operand_tokens m ++ ts) → IsKnownMember e.mode m
+      member_known : (m : Member) (ts : List ClassToken) → IsFittingMember m → RowOn (operand_tokens m ++ ts) → IsKnownMember bounded e.mode m
       member_known (tree.range r) ts h row = range_known r.min.kind r.max.kind r.min.value r.max.value ts row
       member_known (tree.escape k) ts h row = tt
       member_known (tree.property p) ts h row = property_known p.negative p.strings p.name p.value ts row
@@ -171,20 +171,20 @@ module _ (e : Environment) where
       member_known (tree.nested c) ts h row = nested_known c ts h row
       member_known (tree.strings d) ts h row = strings_sets row.0 row.4.0 row.4.1 row.4.3
 
-      nested_known : (c : Class) (ts : List ClassToken) → IsFitting c → RowOn (class_tokens c ++ ts) → (is_sets e.mode ≡ true) × IsKnownTree e.mode c
+      nested_known : (c : Class) (ts : List ClassToken) → IsFitting c → RowOn (class_tokens c ++ ts) → (is_sets e.mode ≡ true) × IsKnownTree bounded e.mode c
       nested_known (class s negative may kind ms) ts h row =
           let r = subst (λ own. RowOn (own ++ ts)) (class_tokens_by s negative may kind ms) row in
           (bracket_sets r.0 negative r.4.0 r.4.1 r.2 r.4.3, contents_known kind ms (closer ∷ ts) h.0 h.1 (contents_on negative (contents_tokens (between_by kind) ms) ts r))
 
       contents_known : (kind : CharacterClassContentsKind) (ms : Members) (ts : List ClassToken) → FitsKind kind ms → AreFitting ms → RowOn (contents_tokens (between_by kind) ms ++ ts) →
-          IsKnownKind e.mode kind × AreKnownMembers e.mode ms
+          IsKnownKind e.mode kind × AreKnownMembers bounded e.mode ms
       contents_known kind no_member ts fits h row = (kind_known kind no_member ts fits row, tt)
       contents_known kind (member m ms) ts fits h row =
           let own = further_tokens (between_by kind) ms in
           let r = member_apart m own ts row in
           (kind_known kind (member m ms) ts fits row, (member_known m (own ++ ts) h.0 r.0, further_known (between_by kind) ms ts h.1 r.1))
 
-      further_known : (between : List ClassToken) (ms : Members) (ts : List ClassToken) → AreFitting ms → RowOn (further_tokens between ms ++ ts) → AreKnownMembers e.mode ms
+      further_known : (between : List ClassToken) (ms : Members) (ts : List ClassToken) → AreFitting ms → RowOn (further_tokens between ms ++ ts) → AreKnownMembers bounded e.mode ms
       further_known between no_member ts h row = tt
       further_known between (member m ms) ts h row =
           let own = further_tokens between ms in
@@ -193,10 +193,11 @@ module _ (e : Environment) where
           (member_known m (own ++ ts) h.0 r.0, further_known between ms ts h.1 r.1)
 
   -- the class
-  tree_known : (c : Class) (us rest : List CodePoint) → FitIn e.mode us → IsFitting c → ClassTokenRow e (class_tokens c) outside us fresh rest → IsKnownTree e.mode c
-  tree_known (class s negative may kind ms) us rest f h row =
+  tree_known : (bounded : Bool) (c : Class) (us rest : List CodePoint) → (bounded ≡ true → FitIn e.mode us) → IsFitting c → ClassTokenRow e (class_tokens c) outside us fresh rest →
+      IsKnownTree bounded e.mode c
+  tree_known bounded (class s negative may kind ms) us rest f h row =
       let r = subst (λ ts. ClassTokenRow e ts outside us fresh rest) (class_tokens_by s negative may kind ms) row in
-      contents_known rest kind ms (closer ∷ []) h.0 h.1 (fresh, r.1, (λ h. cc h), fit_back e.mode us r.0 r.1 r.2 f, r.4)
+      contents_known bounded rest kind ms (closer ∷ []) h.0 h.1 (fresh, r.1, (λ h. cc h), (λ b. fit_back e.mode us r.0 r.1 r.2 (f b)), r.4)
 
-  pub class_known : (c : Class) (w rest : List CodePoint) → FitIn e.mode (w ++ rest) → IsClass e c w rest → IsKnownClass e.mode c
-  class_known c w rest f h = record { no_spans = h.no_spans; shape = h.shape; known = tree_known c (w ++ rest) rest f h.shape.0 h.row }
+  pub class_known : (bounded : Bool) (c : Class) (w rest : List CodePoint) → (bounded ≡ true → FitIn e.mode (w ++ rest)) → IsClass e c w rest → IsKnownClass bounded e.mode c
+  class_known bounded c w rest f h = record { no_spans = h.no_spans; shape = h.shape; known = tree_known bounded c (w ++ rest) rest f h.shape.0 h.row }

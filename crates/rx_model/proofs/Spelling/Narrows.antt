@@ -37,27 +37,27 @@ fits_narrow c h = grind (arith, nat_tests, h)
 pub character_narrow : (place : Place) (c : ℕ) → c ≤ 0xFFFF → IsNarrow (character_text Legacy place c)
 character_narrow place c fits = character_passes narrow printable_narrow Legacy place c (λ _. fits_narrow c fits)
 
-member_narrow : (m : Member) → IsKnownMember Legacy m → IsNarrow (member_text Legacy m)
+member_narrow : (m : Member) → IsKnownMember true Legacy m → IsNarrow (member_text Legacy m)
 member_narrow (in_tree.range r) k =
-    narrow-append (in_class_text Legacy r.min) (45 ∷ in_class_text Legacy r.max) (character_narrow in_class r.min.value (k.0 refl)) (character_narrow in_class r.max.value (k.1 refl))
+    narrow-append (in_class_text Legacy r.min) (45 ∷ in_class_text Legacy r.max) (character_narrow in_class r.min.value (k.0 refl refl)) (character_narrow in_class r.max.value (k.1 refl refl))
 member_narrow (in_tree.escape c) k = narrow_by (class_escape_text c.kind) (class_escape_printable c.kind)
 member_narrow (in_tree.property p) k = let u = k.0 in absurd (let no : ⊥ = cc u in no)
-member_narrow (in_tree.character c) k = character_narrow in_class c.value (k refl)
+member_narrow (in_tree.character c) k = character_narrow in_class c.value (k refl refl)
 member_narrow (in_tree.nested c) k = let u = k.0 in absurd (let no : ⊥ = cc u in no)
 member_narrow (in_tree.strings d) k = absurd (let no : ⊥ = cc k in no)
 
-members_are_narrow : (ms : Members) → AreKnownMembers Legacy ms → IsNarrow (more_members_text Legacy [] ms)
+members_are_narrow : (ms : Members) → AreKnownMembers true Legacy ms → IsNarrow (more_members_text Legacy [] ms)
 members_are_narrow no_member k = refl
 members_are_narrow (member m ms) k = narrow-append (member_text Legacy m) (more_members_text Legacy [] ms) (member_narrow m k.0) (members_are_narrow ms k.1)
 
-union_narrow : (ms : Members) → AreKnownMembers Legacy ms → IsNarrow (members_text Legacy [] ms ++ (93 ∷ []))
+union_narrow : (ms : Members) → AreKnownMembers true Legacy ms → IsNarrow (members_text Legacy [] ms ++ (93 ∷ []))
 union_narrow ms k = narrow-append (members_text Legacy [] ms) (93 ∷ []) (subst IsNarrow (sym (union_text Legacy ms)) (members_are_narrow ms k)) refl
 
-tree_narrow : (c : Class) → IsKnownTree Legacy c → IsNarrow (class_text Legacy c)
+tree_narrow : (c : Class) → IsKnownTree true Legacy c → IsNarrow (class_text Legacy c)
 tree_narrow (in_tree.class s true may Union ms) k = union_narrow ms k.1
 tree_narrow (in_tree.class s false may Union ms) k = union_narrow ms k.1
 tree_narrow (in_tree.class s negative may Intersection ms) k = let u = k.0 in absurd (let no : ⊥ = cc u in no)
 tree_narrow (in_tree.class s negative may Subtraction ms) k = let u = k.0 in absurd (let no : ⊥ = cc u in no)
 
-pub class_narrow : (c : Class) → IsKnownClass Legacy c → IsNarrow (class_text Legacy c)
+pub class_narrow : (c : Class) → IsKnownClass true Legacy c → IsNarrow (class_text Legacy c)
 class_narrow c k = tree_narrow c k.known

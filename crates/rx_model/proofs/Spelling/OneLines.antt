@@ -34,7 +34,6 @@ use Rattle.rx_model.specs.Trees.Events.{tokens}
 use Rattle.rx_model.specs.Trees.Names.{groups, names}
 use Rattle.rx_model.specs.Spelling.OneLine.{ends_column, IsOneLine}
 use Rattle.rx_model.specs.Properties.PropertyEscapes.{SpellsProperty}
-use Rattle.rx_model.specs.Spelling.ReadBack.{FitIn}
 use Rattle.rx_model.specs.Reading.Reading.{Reads}
 use Rattle.rx_model.specs.Groups.GroupNames.{is_in_name}
 use Rattle.rx_model.specs.Spelling.Spelling.{spelling}
@@ -116,7 +115,7 @@ name_stays : (name : List ℕ) → IsName name → Stays name
 name_stays [] h = absurd h
 name_stays (c ∷ cs) h = stays_cons c cs (in_name_stays true c h.0) (parts_stay cs h.1)
 
-opened_stays : (mode : Mode) (o : Opener) → IsKnownOpener mode o → Stays (opened_text o)
+opened_stays : (mode : Mode) (o : Opener) → IsKnownOpener false mode o → Stays (opened_text o)
 opened_stays mode (capturing None) k = refl
 opened_stays mode (capturing (Some name)) k = stays-append name (62 ∷ []) (name_stays name k.0) refl
 opened_stays mode (ignoring None) k = refl
@@ -175,7 +174,7 @@ operator_stays Intersection = refl
 operator_stays Subtraction = refl
 
 mutual
-  member_stays : (mode : Mode) (m : Member) → IsKnownMember mode m → Stays (member_text mode m)
+  member_stays : (mode : Mode) (m : Member) → IsKnownMember false mode m → Stays (member_text mode m)
   member_stays mode (in_tree.range r) k =
       stays-append (in_class_text mode r.min) (45 ∷ in_class_text mode r.max) (character_stays mode in_class r.min.value) (character_stays mode in_class r.max.value)
   member_stays mode (in_tree.escape c) k = stays_by (class_escape_text c.kind) (class_escape_printable c.kind)
@@ -184,22 +183,22 @@ mutual
   member_stays mode (in_tree.nested c) k = tree_stays mode c k.1
   member_stays mode (in_tree.strings d) k = stays-append (strings_text mode d.body) (125 ∷ []) (strings_stay mode d.body) refl
 
-  members_stay : (mode : Mode) (operator : List ℕ) (ms : Members) → Stays operator → AreKnownMembers mode ms → Stays (members_text mode operator ms)
+  members_stay : (mode : Mode) (operator : List ℕ) (ms : Members) → Stays operator → AreKnownMembers false mode ms → Stays (members_text mode operator ms)
   members_stay mode operator no_member o k = refl
   members_stay mode operator (member m ms) o k = stays-append (member_text mode m) (more_members_text mode operator ms) (member_stays mode m k.0) (more_members_stay mode operator ms o k.1)
 
-  more_members_stay : (mode : Mode) (operator : List ℕ) (ms : Members) → Stays operator → AreKnownMembers mode ms → Stays (more_members_text mode operator ms)
+  more_members_stay : (mode : Mode) (operator : List ℕ) (ms : Members) → Stays operator → AreKnownMembers false mode ms → Stays (more_members_text mode operator ms)
   more_members_stay mode operator no_member o k = refl
   more_members_stay mode operator (member m ms) o k =
       stays-append operator (member_text mode m ++ more_members_text mode operator ms) o
       (stays-append (member_text mode m) (more_members_text mode operator ms) (member_stays mode m k.0) (more_members_stay mode operator ms o k.1))
 
-  tree_stays : (mode : Mode) (c : Class) → IsKnownTree mode c → Stays (class_text mode c)
+  tree_stays : (mode : Mode) (c : Class) → IsKnownTree false mode c → Stays (class_text mode c)
   tree_stays mode (in_tree.class s negative may kind ms) k =
       let text = members_text mode (operator_text kind) ms in
       stays-append (class_opener negative) (text ++ (93 ∷ [])) (opener_stays negative) (stays-append text (93 ∷ []) (members_stay mode (operator_text kind) ms (operator_stays kind) k.1) refl)
 
-class_stays : (mode : Mode) (c : Class) → IsKnownClass mode c → Stays (class_text mode c)
+class_stays : (mode : Mode) (c : Class) → IsKnownClass false mode c → Stays (class_text mode c)
 class_stays mode c k = tree_stays mode c k.known
 
 some_property : (negative : Bool) (name : List ℕ) (value : Option (List ℕ)) → property_text negative name value ≢ []
@@ -211,7 +210,7 @@ some_class mode (in_tree.class s true may kind ms) = some 91 _
 some_class mode (in_tree.class s false may kind ms) = some 91 _
 
 module _ (e : Environment) (count : ℕ) (in_limit : count ≤ most_groups) (names : List (List ℕ)) where
-  token_stays : (after_reference : Bool) (t : Token) → Known e t → Obeys count names t → Stays (token_text e.mode after_reference t)
+  token_stays : (after_reference : Bool) (t : Token) → Known false e t → Obeys count names t → Stays (token_text e.mode after_reference t)
   token_stays after_reference (boundary kind) k h = stays_by (boundary_text kind) (boundary_printable kind)
   token_stays after_reference (character kind value) k h = character_stays e.mode (outside after_reference) value
   token_stays after_reference dot k h = refl
@@ -225,41 +224,41 @@ module _ (e : Environment) (count : ℕ) (in_limit : count ≤ most_groups) (nam
   token_stays after_reference bar k h = refl
   token_stays after_reference (quantifier min max greedy) k h = stays_by (quantifier_text min max greedy) (quantifier_printable min max greedy h.0 h.1)
 
-  tokens_stay : (after_reference : Bool) (ts : List Token) → AreKnown e ts → All (Obeys count names) ts → Stays (tokens_text e.mode after_reference ts)
+  tokens_stay : (after_reference : Bool) (ts : List Token) → AreKnown false e ts → All (Obeys count names) ts → Stays (tokens_text e.mode after_reference ts)
   tokens_stay after_reference [] k h = refl
   tokens_stay after_reference (t ∷ ts) k h =
       stays-append (token_text e.mode after_reference t) (tokens_text e.mode (token_refers t) ts)
       (token_stays after_reference t k.0 (All-head (Obeys count names) t ts h)) (tokens_stay (token_refers t) ts k.1 (All-tail (Obeys count names) t ts h))
 
 module _ (e : Environment) where
-  some_token : (after_reference : Bool) (t : Token) → Known e t → token_text e.mode after_reference t ≢ []
-  some_token after_reference (boundary kind) k = some_boundary kind
-  some_token after_reference (character kind value) k = some_character e.mode (outside after_reference) value
-  some_token after_reference dot k = some 46 []
-  some_token after_reference (class_escape kind) k = some_class_escape kind
-  some_token after_reference (property negative strings name value) k = some_property negative name value
-  some_token after_reference (class c) k = some_class e.mode c
-  some_token after_reference (indexed n) k = some 92 _
-  some_token after_reference (named name) k = some 92 _
-  some_token after_reference (opener o) k = some_opened o
-  some_token after_reference closer k = some 41 []
-  some_token after_reference bar k = some 124 []
-  some_token after_reference (quantifier min max greedy) k = some-append (counts_text min max) (lazy_text greedy) (some_counts min max)
+  some_token : (after_reference : Bool) (t : Token) → token_text e.mode after_reference t ≢ []
+  some_token after_reference (boundary kind) = some_boundary kind
+  some_token after_reference (character kind value) = some_character e.mode (outside after_reference) value
+  some_token after_reference dot = some 46 []
+  some_token after_reference (class_escape kind) = some_class_escape kind
+  some_token after_reference (property negative strings name value) = some_property negative name value
+  some_token after_reference (class c) = some_class e.mode c
+  some_token after_reference (indexed n) = some 92 _
+  some_token after_reference (named name) = some 92 _
+  some_token after_reference (opener o) = some_opened o
+  some_token after_reference closer = some 41 []
+  some_token after_reference bar = some 124 []
+  some_token after_reference (quantifier min max greedy) = some-append (counts_text min max) (lazy_text greedy) (some_counts min max)
 
-  pub some_tokens : (after_reference : Bool) (ts : List Token) → AreKnown e ts → ts ≢ [] → tokens_text e.mode after_reference ts ≢ []
-  some_tokens after_reference [] k h = absurd (h refl)
-  some_tokens after_reference (t ∷ ts) k h = some-append (token_text e.mode after_reference t) (tokens_text e.mode (token_refers t) ts) (some_token after_reference t k.0)
+  pub some_tokens : (after_reference : Bool) (ts : List Token) → ts ≢ [] → tokens_text e.mode after_reference ts ≢ []
+  some_tokens after_reference [] h = absurd (h refl)
+  some_tokens after_reference (t ∷ ts) h = some-append (token_text e.mode after_reference t) (tokens_text e.mode (token_refers t) ts) (some_token after_reference t)
 
 -- each by itself
 all_stay : (text : List ℕ) → Stays text → All (λ c. ends_column c ≡ false) text
 all_stay [] h = All-nil (λ c. ends_column c ≡ false)
 all_stay (c ∷ text) h = let k = both (stays c) (list_all stays text) h in All-cons (λ c. ends_column c ≡ false) c text (not-true (ends_column c) k.0) (all_stay text k.1)
 
-pub spelled_in_one_line : (mode : Mode) (rules : Rules) (p : Pattern) (us : List CodePoint) → Reads mode rules p us → FitIn mode us → us ≢ [] → IsOneLine (spelling (bare p) mode)
-spelled_in_one_line mode rules p us r f h =
+pub spelled_in_one_line : (mode : Mode) (rules : Rules) (p : Pattern) (us : List CodePoint) → Reads mode rules p us → us ≢ [] → IsOneLine (spelling (bare p) mode)
+spelled_in_one_line mode rules p us r h =
     let e = environment mode rules p in
-    let k = are_known e (tokens p) us [] f r.spelled.row in
+    let k = are_known false e (tokens p) us [] (λ b m. absurd (let no : ⊥ = cc b in no)) r.spelled.row in
     subst IsOneLine (sym (spelled_by_tokens mode p)) (record {
-      some = some_tokens e false (tokens p) k (has_tokens e (tokens p) us r.spelled.row h);
+      some = some_tokens e false (tokens p) (has_tokens e (tokens p) us r.spelled.row h);
       stays = all_stay (tokens_text mode false (tokens p)) (tokens_stay e (groups p) r.early.in_limit (names p) false (tokens p) k r.early.tokens_obey);
     })

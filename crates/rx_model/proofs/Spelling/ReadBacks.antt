@@ -102,7 +102,7 @@ module _ (mode : Mode) (rules : Rules) (p : Pattern) where
   its_shape : IsWellMade mode p → IsWellMade mode again
   its_shape w = subst (HasAlternatives mode) (sym its_tree) (made_alternatives mode (mirror_disjunction p.body).1 w)
 
-  its_row : IsEarly rules p → IsWellMade mode p → AreKnown (environment mode rules p) (tokens p) → TokenRow (environment mode rules again) (tokens again) (literal_units (is_unicode mode) 0 (tokens_text mode false (tokens p))) []
+  its_row : IsEarly rules p → IsWellMade mode p → AreKnown true (environment mode rules p) (tokens p) → TokenRow (environment mode rules again) (tokens again) (literal_units (is_unicode mode) 0 (tokens_text mode false (tokens p))) []
   its_row early shape known =
       let e = environment mode rules p in
       let text = tokens_text mode false (tokens p) in
@@ -112,7 +112,7 @@ module _ (mode : Mode) (rules : Rules) (p : Pattern) where
       (tokens_again e mode refl (groups p) refl early.in_limit (names p) false (tokens p) [] false ([], end.0) end.1 known early.tokens_obey 0))
 
 -- So is that of a tree which nothing spells as it is, where each of its tokens is known.
-pub known_is_read_back : (mode : Mode) (rules : Rules) (p : Pattern) → IsEarly rules p → IsWellMade mode p → AreKnown (environment mode rules p) (tokens p) → tokens_text mode false (tokens p) ≢ [] → IsReadBack mode rules p
+pub known_is_read_back : (mode : Mode) (rules : Rules) (p : Pattern) → IsEarly rules p → IsWellMade mode p → AreKnown true (environment mode rules p) (tokens p) → tokens_text mode false (tokens p) ≢ [] → IsReadBack mode rules p
 known_is_read_back mode rules p early shape known some =
     let units : literal_units (is_unicode mode) 0 (tokens_text mode false (tokens p)) ≡ literal_units (is_unicode mode) 0 (literal_text (spelling (bare p) mode)) =
     ap (literal_units (is_unicode mode) 0) (sym (literal_text_same (tokens_text mode false (tokens p)) some) ∙ ap literal_text (sym (spelled_by_tokens mode p))) in
@@ -131,5 +131,5 @@ known_is_read_back mode rules p early shape known some =
 pub spelled_is_read_back : (mode : Mode) (rules : Rules) (p : Pattern) (us : List CodePoint) → Reads mode rules p us → FitIn mode us → us ≢ [] → IsReadBack mode rules p
 spelled_is_read_back mode rules p us r fit h =
     let e = environment mode rules p in
-    let known = are_known e (tokens p) us [] fit r.spelled.row in
-    known_is_read_back mode rules p r.early r.spelled.shape known (some_tokens e false (tokens p) known (has_tokens e (tokens p) us r.spelled.row h))
+    let known = are_known true e (tokens p) us [] (λ _. fit) r.spelled.row in
+    known_is_read_back mode rules p r.early r.spelled.shape known (some_tokens e false (tokens p) (has_tokens e (tokens p) us r.spelled.row h))

@@ -1,5 +1,5 @@
 -- The tokens of a well made tree tell the tree but for spans: a stack machine builds it from them.
-use Rattle.std.proofs.Common.{◌≡◌, refl, ap, sym, ◌∙◌, ℕ, Bool, Option, Some, None, List, [], ◌∷◌}
+use Rattle.std.proofs.Common.{◌≡◌, refl, ap, sym, ◌∙◌, ℕ, Bool, Option, Some, None, List, [], ◌∷◌, append-nil}
 use Rattle.rx_ast.specs.declared.leaf.Modifiers.{Modifiers}
 use Rattle.rx_ast.specs.declared.term.Pattern.{Pattern}
 use Rattle.rx_ast.specs.Forget.{nowhere, forget_leaf, forget_opener, forget_node, forget_nodes, forget_alternatives, same_kind, unspanned}
@@ -7,7 +7,7 @@ use Rattle.rx_ast.specs.Tree as tree
 use Rattle.rx_ast.specs.Tree.{Leaf, Node, Nodes, Alternatives, leaf, quantified, group, no_node, node, no_alternative, alternative, mirror_disjunction}
 use Rattle.rx_model.specs.declared.mode.Mode.{Mode}
 use Rattle.rx_model.specs.Trees.Token.{Token, Opener, boundary, character, dot, class_escape, property, class, indexed, named, opener, closer, bar, quantifier, capturing, ignoring, looking, opener_of, leaf_token}
-use Rattle.rx_model.specs.Trees.Events.{Events, node_events, nodes_events, alternatives_events, barred_events, tokens}
+use Rattle.rx_model.specs.Trees.Events.{Events, tokens_of, node_events, nodes_events, alternatives_events, barred_events, tokens}
 use Rattle.rx_model.specs.Trees.Shapes.{IsNode, AreNodes, HasAlternatives, AreAlternatives, IsWellMade}
 use Rattle.rx_model.proofs.Trees.Flat.{before, before-append, before_leaf, before_quantified, before_group, before_alternative, tokens_are}
 
@@ -163,6 +163,17 @@ module _ (mode : Mode) where
               ∙ ap (λ ls. build (before (nodes_events ms) (before (barred_events more) ts)) (at waiting (alternative nowhere ls others) no_node)) (turned_twice ns)
               ∙ nodes_build ms w.0 (before (barred_events more) ts) waiting (alternative nowhere ns others) no_node ∙ h.3 ts,
         )
+
+nodes_built : (mode : Mode) (ns : Nodes) → AreNodes mode ns → onto (build (tokens_of (nodes_events ns)) (at [] no_alternative no_node)).nodes no_node ≡ forget_nodes same_kind ns
+nodes_built mode ns w =
+    ap (λ ts. onto (build ts (at [] no_alternative no_node)).nodes no_node) (sym (append-nil (tokens_of (nodes_events ns))))
+    ∙ ap (λ s. onto s.nodes no_node) (nodes_build mode ns w [] [] no_alternative no_node)
+    ∙ turned_twice (forget_nodes same_kind ns)
+
+-- Two alternatives with the same tokens are equal but for spans.
+pub one_alternative : (mode : Mode) (ns ms : Nodes) → AreNodes mode ns → AreNodes mode ms → tokens_of (nodes_events ns) ≡ tokens_of (nodes_events ms) → forget_nodes same_kind ns ≡ forget_nodes same_kind ms
+one_alternative mode ns ms v w e =
+    sym (nodes_built mode ns v) ∙ ap (λ ts. onto (build ts (at [] no_alternative no_node)).nodes no_node) e ∙ nodes_built mode ms w
 
 abbrev pub built : List Token → Alternatives
 built ts = let s = build ts (at [] no_alternative no_node) in ended s.alternatives s.nodes

@@ -79,7 +79,7 @@ pub record BeforeHigh (e : Environment) (rest : List CodePoint) : Type 0 where
   pub hyphen_is : hyphen.value ≡ 45
   pub spelled : SpellsClassCharacter e kind value w more
 
--- whether an atom, a `-` and an atom that make no range are three items: with neither `u` nor `v` (CharacterRangeOrUnion, B.1.4)
+-- whether an atom, a `-` and an atom that make no range are three items: with neither `u` nor `v` (CharacterRangeOrUnion, B.1.2.8.1)
 abbrev pub has_threes : Mode → Bool
 has_threes Legacy = true
 has_threes Unicode = false

@@ -5,7 +5,7 @@ use Rattle.rx_ast.specs.declared.class.CharacterClassContentsKind.{CharacterClas
 use Rattle.rx_ast.specs.declared.class.CharacterClassContentsKind.TheVariants.{Union, Intersection, Subtraction}
 use Rattle.rx_ast.specs.declared.class.ClassString.{ClassString}
 use Rattle.rx_ast.specs.ClassTree.{Member, Members, Class, range, escape, property, character, nested, strings, no_member, member, class}
-use Rattle.rx_model.specs.Trees.Early.{may_contain_strings}
+use Rattle.rx_model.specs.Trees.Early.{IsFlaggedProperty, may_contain_strings}
 
 -- whether a member is an operand (ClassSetOperand), which a range is not
 abbrev pub IsOperand : Member → Type 0
@@ -47,12 +47,12 @@ abbrev mutual
 abbrev pub IsFlaggedString : ClassString → Type 0
 IsFlaggedString s = s.strings ≡ not (length s.body == 1)
 
--- Each flag on strings is MayContainStrings (22.2.1.8), in the class and in all classes and class strings in it.
+-- Each flag on strings is MayContainStrings (22.2.1.8), in the class and in all classes, property escapes and class strings in it.
 abbrev mutual
   pub IsFlaggedMember : Member → Type 0
   IsFlaggedMember (range r) = Unit {0}
   IsFlaggedMember (escape e) = Unit {0}
-  IsFlaggedMember (property p) = Unit {0}
+  IsFlaggedMember (property p) = IsFlaggedProperty p.strings p.name
   IsFlaggedMember (character c) = Unit {0}
   IsFlaggedMember (nested c) = IsFlagged c
   IsFlaggedMember (strings d) = (d.strings ≡ list_any (λ s. s.strings) d.body) × All IsFlaggedString d.body

@@ -49,6 +49,13 @@ abbrev pub of_negative : Bool → Span → Diagnostic
 of_negative false span = InvalidCharacterClass span
 of_negative true span = CharacterClassContentsInvalidOperands span
 
+-- The innermost bracket that is open here, from place `begin` on, is negative and may contain strings (22.2.1.1), and its `]` stands next.
+pub record IsNegativeWithStrings (e : Environment) (from : ℕ) (at_class : List CodePoint) (nested : Bool) (begin place : ℕ) (rest : List CodePoint) : Type 0 where
+  pub in_bracket : IsInBracket e from at_class nested begin place rest
+  pub closes : starts 93 (values rest) ≡ true
+  pub whole : is_whole in_bracket.item_place.inner.held ≡ true
+  pub may : (in_bracket.item_place.inner.negative && in_bracket.item_place.inner.may) ≡ true
+
 -- The diagnostic is a refusal of what stands at this place of the class: for a range that of its first atom. Spans are in a text whose first offset is `first`, `added` being added to each.
 pub data IsClassCause (mode : Mode) (us : List CodePoint) (first added from : ℕ) (at_class : List CodePoint) : ℕ → Diagnostic → Type 0 where
   -- Nothing stands in a bracket and the text ends, or behind the items of a union stands neither an item nor `]`; without `v` the text ends there.
@@ -71,9 +78,8 @@ pub data IsClassCause (mode : Mode) (us : List CodePoint) (first added from : �
   -- Class strings do not end.
   unterminated_strings : (opener place : ℕ) (rest : List CodePoint) → IsStringPlace (class_environment mode us) from at_class opener place rest → EndsStrings (class_environment mode us) rest
       → IsClassCause mode us first added from at_class place (UnterminatedPattern (span_between us first added opener place) what.ClassStringDisjunction)
-  -- A negative class may contain strings (22.2.1.1), and its `]` stands here.
-  negative_strings : (nested : Bool) (begin place : ℕ) (rest : List CodePoint) (in_bracket : IsInBracket (class_environment mode us) from at_class nested begin place rest)
-      → starts 93 (values rest) ≡ true → is_whole in_bracket.item_place.inner.held ≡ true → (in_bracket.item_place.inner.negative && in_bracket.item_place.inner.may) ≡ true
+  -- A negative class may contain strings, and its `]` stands here.
+  negative_strings : (nested : Bool) (begin place : ℕ) (rest : List CodePoint) → IsNegativeWithStrings (class_environment mode us) from at_class nested begin place rest
       → IsClassCause mode us first added from at_class place (of_negative nested (span_between us first added begin (place + 1)))
   -- The end of a range is below its start (22.2.1.1), and is no `-`.
   range_out_of_order : (place low high : ℕ) (w v more : List CodePoint) (hyphen : CodePoint) → is_sets mode ≡ false → IsItemPlace (class_environment mode us) from at_class place (w ++ (hyphen ∷ (v ++ more)))

@@ -1,5 +1,5 @@
 -- The early errors (22.2.1.1) that a pattern is free of.
-use Rattle.std.specs.Prelude.{◌≡◌, ◌≢◌, ℕ, ◌+◌, ◌-◌, ◌^◌, ◌≤◌, Bool, true, false, not, ◌&&◌, ◌||◌, ◌==◌, Option, Some, None, List, length, All, Contains}
+use Rattle.std.specs.Prelude.{◌≡◌, ◌≢◌, ◌↔◌, ℕ, ◌+◌, ◌-◌, ◌^◌, ◌≤◌, Bool, true, false, not, ◌&&◌, ◌||◌, ◌==◌, Option, Some, None, List, length, All, Contains}
 use Rattle.std.specs.Int.RustNames.{bit_and}
 use Rattle.std.specs.List.{list_any}
 use Rattle.rx_ast.specs.declared.leaf.Character.{Character}
@@ -11,6 +11,7 @@ use Rattle.rx_ast.specs.declared.class.ClassStringDisjunction.{ClassStringDisjun
 use Rattle.rx_ast.specs.declared.term.Pattern.{Pattern}
 use Rattle.rx_ast.specs.ClassTree.{Member, Members, Class, range, escape, property, character, nested, strings, no_member, member, class}
 use Rattle.rx_ast.specs.Tree.{mirror_disjunction}
+use Rattle.rx_tables.specs.Properties.{properties_of_strings}
 use Rattle.rx_model.specs.declared.rules.Rules.{Rules}
 use Rattle.rx_model.specs.Trees.Token.{Token, Opener, opener, closer, bar, quantifier, capturing, ignoring, looking}
 use Rattle.rx_model.specs.Trees.Token as token
@@ -29,6 +30,14 @@ AreCodePoints cs = All (λ c. IsCodePoint c.value) cs
 
 abbrev pub IsEarlyRange : CharacterClassRange → Type 0
 IsEarlyRange r = IsCodePoint r.min.value × IsCodePoint r.max.value × (r.min.value ≤ r.max.value)
+
+-- MayContainStrings (22.2.1.8) of the expression of a property escape: where its name is a binary property of strings. No property with a value has such a name.
+abbrev pub IsFlaggedProperty : Bool → List ℕ → Type 0
+IsFlaggedProperty may name = (may ≡ true) ↔ Contains properties_of_strings name
+
+-- and no negative one has it (CharacterClassEscape, 22.2.1.1)
+abbrev pub IsEarlyProperty : Bool → Bool → List ℕ → Type 0
+IsEarlyProperty negative may name = IsFlaggedProperty may name × ((negative && may) ≡ false)
 
 -- MayContainStrings (22.2.1.8) of a class string: unless it is one character
 abbrev pub IsEarlyString : ClassString → Type 0
@@ -71,7 +80,7 @@ abbrev mutual
   pub IsEarlyMember : Member → Type 0
   IsEarlyMember (range r) = IsEarlyRange r
   IsEarlyMember (escape e) = Unit {0}
-  IsEarlyMember (property p) = (p.negative && p.strings) ≡ false
+  IsEarlyMember (property p) = IsEarlyProperty p.negative p.strings p.name
   IsEarlyMember (character c) = IsCodePoint c.value
   IsEarlyMember (nested c) = IsEarlyClass c
   IsEarlyMember (strings d) = IsEarlyStrings d
@@ -104,7 +113,7 @@ Obeys count names (token.boundary kind) = Unit {0}
 Obeys count names (token.character kind value) = IsCodePoint value
 Obeys count names token.dot = Unit {0}
 Obeys count names (token.class_escape kind) = Unit {0}
-Obeys count names (token.property negative may name value) = (negative && may) ≡ false
+Obeys count names (token.property negative may name value) = IsEarlyProperty negative may name
 Obeys count names (token.class c) = IsEarlyClass c
 Obeys count names (token.indexed n) = (1 ≤ n) × (n ≤ count)
 Obeys count names (token.named name) = Contains names name

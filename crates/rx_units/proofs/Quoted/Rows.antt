@@ -1,5 +1,7 @@
 -- Elements one after another: a text is decoded in one way, and no text with a fault is.
-use Rattle.std.proofs.Common.{◌≡◌, ℕ, List, [], ◌∷◌, ◌++◌, length, refl, sym, ap, ◌∙◌, subst, arith, ◌⊎◌, inl, inr}
+use Rattle.std.proofs.Common.{◌≡◌, ℕ, ◌-◌, List, [], ◌∷◌, ◌++◌, All, length, length-append, take, drop, refl, sym, ap, ap₂, ◌∙◌, subst, arith}
+use Rattle.std.proofs.Math.Seq.{drop-append_seam, take-append_seam}
+use Rattle.std.proofs.lemmas.List.Elements.{All-nil, All-cons, All-head, All-tail}
 use Rattle.rx_units.specs.declared.code_point.CodePoint.{CodePoint}
 use Rattle.rx_units.specs.declared.quoted_text.element.Element.{Element}
 use Rattle.rx_units.specs.declared.quoted_text.literal.Literal.{Literal}
@@ -10,18 +12,10 @@ use Rattle.rx_units.specs.Quoted.Escapes.{SpellsTerminator, alone, carriage_retu
 use Rattle.rx_units.specs.Quoted.Elements.{quote_of, SpellsElement, SpellsInString, SpellsInTemplate, character, escape, octal_zero, octal1, octal2_low, octal2_high, octal3, non_octal, dollar, terminator, zero_digit, digit}
 use Rattle.rx_units.specs.Quoted.Fronts.{element, closer, front}
 use Rattle.rx_units.specs.Quoted.Values.{text_units}
-use Rattle.rx_units.specs.Quoted.Texts.{Place, behind, IsAllowed, Leads, no_element, one_more, opened, IsReached, IsDecoded}
+use Rattle.rx_units.specs.Quoted.Texts.{Place, behind, IsAllowed, Leads, no_element, one_more, opened, IsReached, IsDecoded, QuotedRow, after_elements}
+use Rattle.rx_units.specs.Sequences.{ElementRow}
 use Rattle.rx_units.proofs.Quoted.Fronts.{spelled_front, quote_front}
-
-split_same : (w v rest more : List ℕ) → length w ≡ length v → w ++ rest ≡ v ++ more → (w ≡ v) × (rest ≡ more)
-split_same [] [] rest more l h = (refl, h)
-split_same [] (y ∷ v) rest more l h = absurd (omega arith)
-split_same (x ∷ w) [] rest more l h = absurd (omega arith)
-split_same (x ∷ w) (y ∷ v) rest more l h =
-    let head : x ≡ y = cc h in
-    let tail : w ++ rest ≡ v ++ more = cc h in
-    let r = split_same w v rest more (omega arith) tail in
-    (cc (head, r.0), r.1)
+use Rattle.rx_units.proofs.Sequences.{row_append, one}
 
 some_terminator : (c : ℕ) (w rest : List ℕ) → w ≡ [] → SpellsTerminator c w rest → ⊥
 some_terminator c _ rest h (alone k) = cc h
@@ -53,87 +47,57 @@ some_characters (literals.String quotes.Single) e rest s = none_in_string 39 e [
 some_characters literals.Template e rest s = none_in_template e [] rest refl s
 
 -- Two elements that one text begins with are one, and leave the same rest.
-pub one_front : (l : Literal) (e f : Element) (w v rest more : List ℕ) → w ++ rest ≡ v ++ more → SpellsElement l e w rest → SpellsElement l f v more → (e ≡ f) × (w ≡ v) × (rest ≡ more)
-one_front l e f w v rest more h s t =
+pub one_front : (l : Literal) (q : Unit {0}) (e f : Element) (w rest v more : List ℕ) → w ++ rest ≡ v ++ more → SpellsElement l e w rest → SpellsElement l f v more → (e ≡ f) × (rest ≡ more)
+one_front l q e f w rest v more h s t =
     let same : element e (length w) ≡ element f (length v) = sym (spelled_front l e w rest s) ∙ ap (front l) h ∙ spelled_front l f v more t in
-    let r = split_same w v rest more (cc same) h in
-    (cc same, r.0, r.1)
+    (cc same, sym (drop-append_seam w rest) ∙ ap₂ drop (cc same) h ∙ drop-append_seam v more)
 
 -- No element begins at the closing quote.
-pub none_at_quote : (l : Literal) (e : Element) (w rest more : List ℕ) → quote_of l ∷ more ≡ w ++ rest → SpellsElement l e w rest → ⊥
-none_at_quote l e w rest more h s =
-    let k : closer ≡ element e (length w) = sym (quote_front l more) ∙ ap (front l) h ∙ spelled_front l e w rest s in
+pub none_at_quote : (l : Literal) (us : List ℕ) → (more : List ℕ) × (us ≡ quote_of l ∷ more) → (e : Element) (w rest : List ℕ) → us ≡ w ++ rest → SpellsElement l e w rest → ⊥
+none_at_quote l us at_quote e w rest h s =
+    let k : closer ≡ element e (length w) = sym (quote_front l at_quote.0) ∙ ap (front l) (sym at_quote.1 ∙ h) ∙ spelled_front l e w rest s in
     cc k
 
 module _ (l : Literal) (o : Options) where
-  leads_on : {from p q : Place} → Leads l o from p → Leads l o p q → Leads l o from q
-  leads_on a no_element = a
-  leads_on a (one_more e w rest b h s k) = one_more e w rest (leads_on a b) h s k
+  -- As elements that are allowed stand one after another, a place says what those before it give.
+  abbrev AllowedAt : Place → Element → List ℕ → List ℕ → Type 0
+  AllowedAt p e w rest = (p.rest ≡ w ++ rest) × SpellsElement l e w rest × IsAllowed o e
 
-  -- the first element of some
-  pub record FirstStep (from q : Place) : Type 0 where
-    e : Element
-    w : List ℕ
-    rest : List ℕ
-    whole : from.rest ≡ w ++ rest
-    spells : SpellsElement l e w rest
-    allowed : IsAllowed o e
-    more : Leads l o (behind o from e w rest) q
+  -- the characters between a place and what follows an element
+  abbrev between : Place → List ℕ → List ℕ
+  between p rest = take (length p.rest - length rest) p.rest
 
-  first_step : {from q : Place} → Leads l o from q → (from ≡ q) ⊎ FirstStep from q
-  first_step no_element = inl refl
-  first_step {from} (one_more {p} e w rest a h s k) = elim (first_step a) [
-    | inl same ↦ inr (subst (λ p. FirstStep from (behind o p e w rest)) same (record {
-      e = e;
-      w = w;
-      rest = rest;
-      whole = ap (λ (p : Place). p.rest) same ∙ h;
-      spells = s;
-      allowed = k;
-      more = no_element;
-    }))
-    | inr f ↦ inr (record {
-      e = f.e;
-      w = f.w;
-      rest = f.rest;
-      whole = f.whole;
-      spells = f.spells;
-      allowed = f.allowed;
-      more = one_more e w rest f.more h s k;
-    })
-  ]
+  abbrev after_allowed : Place → Element → List ℕ → Place
+  after_allowed p e rest = behind o p e (between p rest) rest
+
+  are_between : (p : Place) (w rest : List ℕ) → p.rest ≡ w ++ rest → between p rest ≡ w
+  are_between p w rest h =
+      let n : length p.rest - length rest ≡ length w = omega (arith, ap length h, length-append w rest) in
+      ap₂ take n h ∙ take-append_seam w rest
+
+  abbrev AllowedRow : List Element → Place → Place → Type 0
+  AllowedRow es p q = ElementRow AllowedAt after_allowed es p p.rest q q.rest
+
+  leads_row : {from p : Place} → Leads l o from p → (es : List Element) × AllowedRow es from p
+  leads_row no_element = ([], (refl, refl))
+  leads_row {from} (one_more {p} e w rest a h s k) =
+      let r = leads_row a in
+      let same = are_between p w rest h in
+      (r.0 ++ (e ∷ []), row_append AllowedAt after_allowed r.0 (e ∷ []) from from.rest p p.rest (behind o p e w rest) rest r.1 (w, rest, h, (h, s, k), (ap (λ v. behind o p e v rest) same, refl)))
 
   -- no element that is allowed stands at a place
   abbrev pub IsStuck : Place → Type 0
   IsStuck p = (e : Element) (w rest : List ℕ) → p.rest ≡ w ++ rest → SpellsElement l e w rest → IsAllowed o e → ⊥
 
-  same_step : {p q : Place} (e : Element) (w rest : List ℕ) → p.rest ≡ w ++ rest → SpellsElement l e w rest → FirstStep p q → Leads l o (behind o p e w rest) q
-  same_step {p} {q} e w rest h s f =
-      let r = one_front l f.e e f.w w f.rest rest (sym f.whole ∙ h) f.spells s in
-      subst (λ rest. Leads l o (behind o p e w rest) q) r.2 (subst (λ w. Leads l o (behind o p e w f.rest) q) r.1 (subst (λ e. Leads l o (behind o p e f.w f.rest) q) r.0 f.more))
-
-  -- of two places that are reached, one leads to the other
-  compare : {from p q : Place} → Leads l o from p → Leads l o from q → Leads l o p q ⊎ Leads l o q p
-  compare no_element b = inl b
-  compare {q} (one_more {p} e w rest a h s k) b = elim (compare a b) [
-    | inl on ↦ elim (first_step on) [
-      | inl same ↦ inr (subst (λ q. Leads l o q (behind o p e w rest)) same (one_more e w rest no_element h s k))
-      | inr f ↦ inl (same_step e w rest h s f)
-    ]
-    | inr back ↦ inr (one_more e w rest back h s k)
-  ]
-
-  stuck_end : {p q : Place} → IsStuck p → Leads l o p q → p ≡ q
-  stuck_end {p} {q} stuck a = elim (first_step a) [
-    | inl same ↦ same
-    | inr f ↦ absurd (stuck f.e f.w f.rest f.whole f.spells f.allowed)
-  ]
-
   pub one_stop : {from p q : Place} → Leads l o from p → Leads l o from q → IsStuck p → IsStuck q → p ≡ q
-  one_stop a b stuck ended = elim (compare a b) [ inl on ↦ stuck_end stuck on | inr back ↦ sym (stuck_end ended back) ]
+  one_stop {from} {p} {q} a b stuck ended =
+      let r = leads_row a in
+      let s = leads_row b in
+      (one AllowedAt after_allowed (λ p e f w more v rest h x y. one_front l tt e f w more v rest h x.1 y.1) (λ p us. IsStuck p) (λ p us stuck e w rest h x. stuck e w rest x.0 x.1 x.2)
+      r.0 s.0 from from.rest p p.rest q q.rest r.1 stuck s.1 ended).1
 
   pub stuck_at_quote : (p : Place) (more : List ℕ) → p.rest ≡ quote_of l ∷ more → IsStuck p
-  stuck_at_quote p more h e w rest whole s k = none_at_quote l e w rest more (sym h ∙ whole) s
+  stuck_at_quote p more h e w rest whole s k = none_at_quote l p.rest (more, h) e w rest whole s
 
   same_inner : (text inner other : List ℕ) → text ≡ quote_of l ∷ inner → text ≡ quote_of l ∷ other → inner ≡ other
   same_inner text inner other h k = let e : quote_of l ∷ inner ≡ quote_of l ∷ other = sym h ∙ k in cc e
@@ -147,3 +111,41 @@ module _ (l : Literal) (o : Options) where
   one_decoding text us vs a b =
       let same = one_reached text a.last b.last a.reached b.reached (stuck_at_quote a.last [] a.closes) (stuck_at_quote b.last [] b.closes) in
       a.units_are ∙ ap (λ (p : Place). text_units o p.units) same ∙ sym b.units_are
+
+  of_allowed : (es : List Element) (p q : Place) → AllowedRow es p q → (row : QuotedRow l es p.rest q.rest) × All (IsAllowed o) es × (after_elements l o p es q.rest row ≡ q)
+  of_allowed [] p q r = ((refl, r.1), All-nil (IsAllowed o), r.0)
+  of_allowed (e ∷ es) p q r =
+      let same = ap (λ w. behind o p e w r.1) (are_between p r.0 r.1 r.2) in
+      let more = of_allowed es (behind o p e r.0 r.1) q (subst (λ from. ElementRow AllowedAt after_allowed es from r.1 q q.rest) same r.4) in
+      ((r.0, r.1, r.2, r.3.1, more.0), All-cons (IsAllowed o) e es r.3.2 more.1, more.2)
+
+  row_leads : {from : Place} (p : Place) → Leads l o from p → (es : List Element) (rest : List ℕ) (row : QuotedRow l es p.rest rest) → All (IsAllowed o) es →
+      Leads l o from (after_elements l o p es rest row) × ((after_elements l o p es rest row).rest ≡ rest)
+  row_leads p a [] rest row k = (a, row.1)
+  row_leads p a (e ∷ es) rest row k = row_leads (behind o p e row.0 row.1) (one_more e row.0 row.1 a row.2 row.3 (All-head (IsAllowed o) e es k)) es rest row.4 (All-tail (IsAllowed o) e es k)
+
+  -- What a text that is decoded is, in elements.
+  abbrev IsOfElements : List ℕ → List CodePoint → Type 0
+  IsOfElements text us = (inner : List ℕ) × (es : List Element) × (row : QuotedRow l es inner (quote_of l ∷ [])) ×
+      (text ≡ quote_of l ∷ inner) × All (IsAllowed o) es × (us ≡ text_units o (after_elements l o (opened o inner) es (quote_of l ∷ []) row).units)
+
+  pub elements_of : (text : List ℕ) (us : List CodePoint) → IsDecoded l o text us → IsOfElements text us
+  elements_of text us d = go d.last d.reached.leads d.closes d.units_are
+    where
+      go : (p : Place) → Leads l o (opened o d.reached.inner) p → p.rest ≡ quote_of l ∷ [] → us ≡ text_units o p.units → IsOfElements text us
+      go p a closes units_are =
+          let r = leads_row a in
+          let end : Place = record { units = p.units; offset = p.offset; rest = quote_of l ∷ [] } in
+          let same : p ≡ end = ap (λ rest. record { units = p.units; offset = p.offset; rest = rest }) closes in
+          let x = of_allowed r.0 (opened o d.reached.inner) end (subst (AllowedRow r.0 (opened o d.reached.inner)) same r.1) in
+          (d.reached.inner, r.0, x.0, d.reached.opens, x.1, units_are ∙ ap (λ (p : Place). text_units o p.units) (same ∙ sym x.2))
+
+  pub of_elements : (text : List ℕ) (us : List CodePoint) → IsOfElements text us → IsDecoded l o text us
+  of_elements text us x =
+      let a = row_leads (opened o x.0) no_element x.1 (quote_of l ∷ []) x.2 x.4 in
+      record {
+        last = after_elements l o (opened o x.0) x.1 (quote_of l ∷ []) x.2;
+        reached = record { inner = x.0; opens = x.3; leads = a.0 };
+        closes = a.1;
+        units_are = x.5;
+      }

@@ -9,6 +9,7 @@ use Rattle.rx_units.specs.declared.quoted_text.element.Writing.TheVariants.{Plai
 use Rattle.rx_units.specs.declared.quoted_text.literal.Literal.{Literal}
 use Rattle.rx_units.specs.Quoted.Elements.{quote_of, SpellsElement}
 use Rattle.rx_units.specs.Quoted.Values.{element_units, text_units}
+use Rattle.rx_units.specs.Sequences.{ElementRow}
 
 -- how many bytes characters take
 abbrev pub byte_count : List ℕ → ℕ
@@ -67,6 +68,15 @@ pub record IsDecoded (literal : Literal) (o : Options) (text : List ℕ) (units 
   pub reached : IsReached literal o text last
   pub closes : last.rest ≡ quote_of literal ∷ []
   pub units_are : units ≡ text_units o last.units
+
+-- The elements lead from these characters to the rest, each spelled before all that follows it.
+abbrev pub QuotedRow : Literal → List Element → List ℕ → List ℕ → Type 0
+QuotedRow literal es us rest = ElementRow (λ (q : Unit {0}). SpellsElement literal) (λ (q : Unit {0}) e more. tt) es tt us tt rest
+
+-- The place to which elements lead from a place, by a row of them.
+abbrev pub after_elements : (literal : Literal) (o : Options) (p : Place) (es : List Element) (rest : List ℕ) → QuotedRow literal es p.rest rest → Place
+after_elements literal o p [] rest row = p
+after_elements literal o p (e ∷ es) rest row = after_elements literal o (behind o p e row.0 row.1) es rest row.4
 
 -- What a decoder is given.
 pub record Given : Type 0 where

@@ -1,0 +1,5 @@
+use Rattle.rx_model.proofs.Classes.ClassOperands.{none_at_operands_end}
+use Rattle.rx_model.proofs.class_sequence.FurtherOperandsElementKind.none_at_stop.Goals as goal
+
+pub returns : goal.returns
+returns c = none_at_operands_end
