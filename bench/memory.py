@@ -1,9 +1,9 @@
 #!/usr/bin/env python3
 """Refuses the program memory: with each row below each call of malloc and realloc is refused in turn, first it alone, then it and all later ones.
 
-    bench/memory.py [PROGRAM]
+    bench/memory.py [--brief] [PROGRAM]
 
-PROGRAM is the program to run in place of the proved one. Each run must end with status 5, and a front of the right replies; or as with all memory, where the
+PROGRAM is the program to run in place of the proved one. With --brief only the last line is written, and what went wrong. Each run must end with status 5, and a front of the right replies; or as with all memory, where the
 program gets over what was refused. A row of the output has the words and the line, the number of calls, and how many refusals of each kind ended the program
 with status 5 and how many it got over. The status is 0 where all went as it must, else 1.
 
@@ -11,20 +11,15 @@ The calls are refused by bench/refuse.c, of which `cc` makes a library in a temp
 linked dynamically. Where there is no `cc` nothing is refused; this is said, and the status is 0.
 """
 import collections
-import fcntl
 import os
-import shutil
-import signal
 import subprocess
 import sys
-import tempfile
 
-TOP = os.path.dirname(os.path.dirname(os.path.realpath(__file__)))
-PROVED = f"{TOP}/crates/rx_cli/out/rx_cli"
+import refusing
+
+PROVED = f"{refusing.TOP}/crates/rx_cli/out/rx_cli"
 OUT_OF_MEMORY = 5
 LAST = 10 ** 9
-# how much a pipe may hold, and so how many reads
-ROOM = 1 << 18
 
 # Words, pieces of input that are read one by one, and how the program ends with all memory: its status and what it writes.
 Row = collections.namedtuple("Row", "words name pieces status replies")
@@ -128,22 +123,11 @@ def rows():
         yield Row(words, "", [], status, None if text is None else bytes_of(text))
 
 
-def input_of(pieces):
-    """The end of a pipe that holds these pieces, each of which is one read."""
-    source, sink = os.pipe2(os.O_CLOEXEC | os.O_DIRECT)
-    fcntl.fcntl(sink, fcntl.F_SETPIPE_SZ, ROOM)
-    for piece in pieces:
-        os.write(sink, piece)
-    os.close(sink)
-    return source
-
-
 def run(program, library, row, first=0, last=0):
     """A run in which the calls from first to last are refused."""
-    source = input_of(row.pieces)
-    log, to_log = os.pipe2(os.O_CLOEXEC)
-    fcntl.fcntl(to_log, fcntl.F_SETPIPE_SZ, ROOM)
-    told = {"LD_PRELOAD": library, "REFUSE_FIRST": str(first), "REFUSE_LAST": str(last), "REFUSE_LOG": str(to_log)}
+    source = refusing.input_of(row.pieces)
+    log, to_log = refusing.wide_pipe()
+    told = refusing.refusing(library, to_log, first, last)
     ran = subprocess.run([program, *row.words.split()], stdin=source, stdout=subprocess.PIPE, env=told, pass_fds=[to_log])
     os.close(source)
     os.close(to_log)
@@ -159,17 +143,11 @@ def fault(found, wanted):
     return None if same else f"status {found.status}, {found.replies}"
 
 
-def cell(text):
-    """A text as a cell of a table, its beginning where it is long. A grave accent in it asks for two around it."""
-    quote, text = "``" if "`" in text else "`", text if len(text) <= 60 else text[:20] + "..."
-    return f"{quote} {text} {quote}".replace("|", "\\|") if text else "none"
-
-
 class Refusals:
     """Runs in which memory is refused, and the faults that were found."""
 
-    def __init__(self, program, library):
-        self.program, self.library = program, library
+    def __init__(self, given, library):
+        self.program, self.brief, self.library = given.program, given.brief, library
         self.runs = self.faults = 0
 
     def tell(self, row, what):
@@ -191,7 +169,7 @@ class Refusals:
         return Tally(ended, survived)
 
     def check(self, row):
-        """Refuses each call of a row, and prints what came of it."""
+        """Refuses each call of a row, and tells what came of it."""
         wanted = run(self.program, self.library, row)
         if (wanted.status, wanted.replies) != (row.status, wanted.replies if row.replies is None else row.replies):
             self.tell(row, f"with all memory: status {wanted.status}, {wanted.replies}")
@@ -199,21 +177,16 @@ class Refusals:
             self.tell(row, "no call for memory was seen: is the program linked dynamically?")
         alone = self.tally(row, wanted, lambda first: first)
         later = self.tally(row, wanted, lambda _: LAST)
-        print(f"| {cell(row.words)} | {cell(row.name)} | {len(wanted.calls)} | {alone.ended} | {alone.survived} | {later.ended} | {later.survived} |", flush=True)
+        if not self.brief:
+            print(f"| {refusing.cell(row.words)} | {refusing.cell(row.name)} | {len(wanted.calls)} | {alone.ended} | {alone.survived} | {later.ended} | {later.survived} |", flush=True)
 
 
 def main():
-    program = sys.argv[1] if len(sys.argv) > 1 else PROVED
-    if not os.access(program, os.X_OK):
-        sys.exit("memory: the program is not built: run rt ci, or ./regexp")
-    if not shutil.which("cc"):
-        print("memory: NOT CHECKED: there is no C compiler, cc")
-        return 0
-    with tempfile.TemporaryDirectory() as folder:
-        library = f"{folder}/refuse.so"
-        subprocess.run(["cc", "-O1", "-shared", "-fPIC", "-o", library, f"{TOP}/bench/refuse.c", "-ldl"], check=True)
-        refusals = Refusals(os.path.abspath(program), library)
-        print("| words | line | calls | one refused: status 5 | got over | all later too: status 5 | got over |\n|---|---|---|---|---|---|---|")
+    given = refusing.words_of(__doc__, PROVED)
+    with refusing.library() as library:
+        refusals = Refusals(given, library)
+        if not given.brief:
+            print("| words | line | calls | one refused: status 5 | got over | all later too: status 5 | got over |\n|---|---|---|---|---|---|---|")
         for row in rows():
             refusals.check(row)
     print(f"memory: {refusals.runs} runs with memory refused, {refusals.faults} wrong")
@@ -221,6 +194,4 @@ def main():
 
 
 if __name__ == "__main__":
-    signal.signal(signal.SIGALRM, lambda *_: sys.exit("memory: this had not ended after 300 seconds"))
-    signal.alarm(300)
     sys.exit(main())
