@@ -4,7 +4,7 @@
     bench/flat_patterns.py [PROGRAM]
 
 PROGRAM is crates/rx_cli/out/rx_cli where it is not given; `./regexp </dev/null` builds it. `canonical` is measured by the patterns as they are; LiteralParser::parse
-by the same patterns with a `)` behind them, at which each is refused, so that all is read and nothing is spelled. Nothing here is a test: times depend on the machine.
+by the same patterns with a `)` after them, at which each is refused, so that all is read and nothing is spelled. Nothing here is a test: times depend on the machine.
 """
 import os
 import random
@@ -55,8 +55,8 @@ def main():
     program = sys.argv[1] if len(sys.argv) > 1 else os.path.join(HERE, "..", "crates", "rx_cli", "out", "rx_cli")
     source = random.Random(2026)
     texts = [pattern(source, source.randint(1, 24)) for _ in range(COUNT)]
-    for name, behind in (("canonical", ""), ("LiteralParser::parse", ")")):
-        lines = "".join(f"L\tu\t{text}{behind}\n" for text in texts).encode()
+    for name, after in (("canonical", ""), ("LiteralParser::parse", ")")):
+        lines = "".join(f"L\tu\t{text}{after}\n" for text in texts).encode()
         took, status = seconds(program, lines)
         print(f"{name}: {COUNT} patterns, {len(lines) / COUNT:.1f} bytes a line, status {status}: {took / COUNT * 1e9:.0f} ns a pattern, {len(lines) / took / 1e6:.1f} MB/s")
     one = pattern(random.Random(7), 400)

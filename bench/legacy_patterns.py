@@ -5,7 +5,7 @@ of all 24 joined by bars, and of braces that begin no quantifier.
     bench/legacy_patterns.py [PROGRAM]
 
 PROGRAM is crates/rx_cli/out/rx_cli where it is not given; `./regexp </dev/null` builds it. `canonical` is measured by the patterns as they are; LiteralParser::parse
-by the same patterns with a `)` behind them, at which each is refused, so that all is read and nothing is spelled. Nothing here is a test: times depend on the machine.
+by the same patterns with a `)` after them, at which each is refused, so that all is read and nothing is spelled. Nothing here is a test: times depend on the machine.
 """
 import os
 import random
@@ -61,8 +61,8 @@ def main():
     program = sys.argv[1] if len(sys.argv) > 1 else os.path.join(HERE, "..", "crates", "rx_cli", "out", "rx_cli")
     source = random.Random(2026)
     texts = [source.choice(MIX) for _ in range(COUNT)]
-    for name, behind in (("canonical", ""), ("LiteralParser::parse", ")")):
-        lines = b"".join(line(text + behind) for text in texts)
+    for name, after in (("canonical", ""), ("LiteralParser::parse", ")")):
+        lines = b"".join(line(text + after) for text in texts)
         took, status = seconds(program, lines)
         print(f"{name}: {COUNT} patterns, {len(lines) / COUNT:.1f} bytes a line, status {status}: {took / COUNT * 1e6:.2f} us a pattern, {len(lines) / took / 1e6:.1f} MB/s")
     growth(program, "the 24 patterns, joined", "|".join(MIX), "|")

@@ -97,7 +97,7 @@ COMMANDS = [
 PRINTS = [
     ("gen 1 2", 0, "lines 2 ok 2 bytes 71"),
     ("--help", 0, None),
-    ("--version", 0, "regexp 0.156.0 (a port of oxc_regular_expression 0.156.0)"),
+    ("--version", 0, "regexp 0.2.0 (a port of oxc_regular_expression 0.156.0)"),
     ("support sticky,sticky", 2, ""),
 ]
 

@@ -1,12 +1,12 @@
 #!/usr/bin/env python3
-"""Asks the program lines of all forms, modes and commands, through pipes in pieces of random sizes, and checks what README.md says of every reply.
+"""Asks the program lines of all forms, modes and commands, through pipes in pieces of random sizes, and checks what docs/PROGRAM.md says of every reply.
 
     bench/soak.py MINUTES SEED [PROGRAM] [--run N]
 
 It makes runs for so many minutes, from the seed; PROGRAM is `./regexp` where it is not given. With `--run` it makes one run, whatever the minutes: what goes wrong names
 its run, so that it can be seen again. In a run the lines are asked without a command, and then with one, in another order. Checked are:
 
-- there is one reply to each line, in order, of a form that README.md states; it is `bad`, or a refusal of the flags, exactly where it must be; the status is that of the
+- there is one reply to each line, in order, of a form that docs/PROGRAM.md states; it is `bad`, or a refusal of the flags, exactly where it must be; the status is that of the
   replies;
 - with a command it is another reply than without one only where the pattern is read;
 - a canonical spelling is read, and is its own; of it each command says what it says of the pattern;

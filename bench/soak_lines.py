@@ -149,7 +149,7 @@ def small_line(source):
 
 
 def binary_line(source):
-    """Bytes, some of them behind the two fields that make a request of them."""
+    """Bytes, some of them after the two fields that make a request of them."""
     some = range(256) if source.random() < 0.5 else b"()[]{}|\\?*+<>=!:-^$.\tabcuvLC\x00\r\"'`pqk01\xc3\xa9"
     return source.choice([b"", b"", b"L\t\t", b"L\tu\t", b"L\tv\t", b"C\t\t"]) + bytes(source.choices(some, k=source.choice([1, 5, 30, 300, 5000])))
 

@@ -3,11 +3,12 @@ use Rattle.std.proofs.Common.{◌≡◌, refl, ℕ, ◌+◌, ◌<◌, ◌≤◌,
 use Rattle.std.specs.Char.{encode_utf8, OutOfScalarRange, InScalarRange}
 use Rattle.std.specs.Str.{encode_utf8_all}
 use Rattle.std.proofs.lemmas.Bool.Decides.{nat_tests}
+use Rattle.rx_base.specs.Characters.{is_character}
 use Rattle.rx_base.proofs.Messages.{encoded_hex}
 use Rattle.rx_ast.specs.declared.leaf.Character.{Character}
 use Rattle.rx_ast.specs.declared.leaf.CharacterKind.{CharacterKind}
 use Rattle.rx_ast.specs.declared.leaf.CharacterKind.TheVariants as kind
-use Rattle.rx_ast.specs.Shown.{at_least, character_shown, control_shown, hexadecimal, hexadecimal_shown, is_no_character, kind_shown, octal, octal_shown, shows_number, unicode_shown}
+use Rattle.rx_ast.specs.Shown.{at_least, character_shown, control_shown, hexadecimal, hexadecimal_shown, kind_shown, octal, octal_shown, shows_number, unicode_shown}
 use Rattle.rx_ast.proofs.OwnBytes.{own_bytes_then, own_bytes_padded, own_bytes_octal}
 
 pub bytes_of_four : (v : ℕ) → v ≤ 0xFFFF → encode_utf8_all (unicode_shown v) ≡ codes "\\u" ++ at_least 4 (hexadecimal v)
@@ -57,11 +58,11 @@ never false = refl
 -- of a value that is a character
 pub shown_by_kind : (c : Character) → InScalarRange c.value → character_shown c ≡ kind_shown c.kind c.value
 unfolding character_shown
-shown_by_kind c is_character =
-    let test : is_no_character c.value ≡ false = grind (arith, nat_tests) in
+shown_by_kind c scalar =
+    let test : is_character c.value ≡ true = grind (arith, nat_tests) in
     rw (test, never (shows_number c.kind)) refl
 
-no_character : (v : ℕ) → OutOfScalarRange v → is_no_character v ≡ true
+no_character : (v : ℕ) → OutOfScalarRange v → is_character v ≡ false
 no_character v out = grind (arith, nat_tests)
 
 pub shown_by_number : (c : Character) → OutOfScalarRange c.value → shows_number c.kind ≡ true → character_shown c ≡ unicode_shown c.value

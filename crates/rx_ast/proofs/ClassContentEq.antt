@@ -32,9 +32,9 @@ abbrev first_or : Member → Members → Member
 first_or default no_member = default
 first_or default (member m ms) = m
 
-abbrev behind_first : Members → Members
-behind_first no_member = no_member
-behind_first (member m ms) = ms
+abbrev after_first : Members → Members
+after_first no_member = no_member
+after_first (member m ms) = ms
 
 abbrev has_some : Members → Bool
 has_some no_member = false
@@ -44,7 +44,7 @@ members_to_each : (xs ys : List CharacterClassContents) → members_of xs ≡ me
 members_to_each [] [] e = tt
 members_to_each [] (y ∷ ys) e = absurd (true≢false (sym (ap has_some e)))
 members_to_each (x ∷ xs) [] e = absurd (true≢false (ap has_some e))
-members_to_each (x ∷ xs) (y ∷ ys) e = (ap (first_or (member_of x)) e, members_to_each xs ys (ap behind_first e))
+members_to_each (x ∷ xs) (y ∷ ys) e = (ap (first_or (member_of x)) e, members_to_each xs ys (ap after_first e))
 
 abbrev of_class : {A : Type 0} → (Bool → Bool → CharacterClassContentsKind → Members → A) → Class → A
 of_class part (class s negative may_have_strings kind ms) = part negative may_have_strings kind ms

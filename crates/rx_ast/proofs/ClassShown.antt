@@ -19,26 +19,26 @@ pub strings_next : (ss : List ClassString) (i : ℕ) (s : ClassString) → i < l
     barred_strings_shown (drop i ss) ≡ (codes "|" ++ characters_shown s.body) ++ barred_strings_shown (drop (i + 1) ss)
 strings_next ss i s h e = rw (add-one, drop-cons ss i s, ← e) refl
 
--- contents, the first behind this text unless it is joined with what is before it, and each other one behind the operator
-abbrev pub contents_behind : List ℕ → List ℕ → Bool → Members → List ℕ
-contents_behind before operator joined no_member = []
-contents_behind before operator joined (member m ms) =
+-- contents, the first after this text unless it is joined with what is before it, and each other one after the operator
+abbrev pub contents_after : List ℕ → List ℕ → Bool → Members → List ℕ
+contents_after before operator joined no_member = []
+contents_after before operator joined (member m ms) =
     (if joined then [] else before ++ pair_or (member_pair m ms) (member_shown m)) ++ more_members_shown operator (is_some (member_pair m ms)) ms
 
-pub behind_nothing : (operator : List ℕ) (ms : Members) → members_shown operator ms ≡ contents_behind [] operator false ms
-behind_nothing operator no_member = refl
-behind_nothing operator (member m ms) = refl
+pub after_nothing : (operator : List ℕ) (ms : Members) → members_shown operator ms ≡ contents_after [] operator false ms
+after_nothing operator no_member = refl
+after_nothing operator (member m ms) = refl
 
-behind_operator : (operator : List ℕ) (joined : Bool) (ms : Members) → more_members_shown operator joined ms ≡ contents_behind operator operator joined ms
-behind_operator operator joined no_member = refl
-behind_operator operator joined (member m ms) = refl
+after_operator : (operator : List ℕ) (joined : Bool) (ms : Members) → more_members_shown operator joined ms ≡ contents_after operator operator joined ms
+after_operator operator joined no_member = refl
+after_operator operator joined (member m ms) = refl
 
 pub contents_next : (before operator : List ℕ) (joined : Bool) (pair : Option ℕ) (c : CharacterClassContents) (cs : List CharacterClassContents) → pair ≡ member_pair (mirror_contents c) (members (map mirror_contents cs)) →
-    contents_behind before operator joined (members (map mirror_contents (c ∷ cs))) ≡
-    (if joined then [] else before ++ pair_or pair (member_shown (mirror_contents c))) ++ contents_behind operator operator (is_some pair) (members (map mirror_contents cs))
+    contents_after before operator joined (members (map mirror_contents (c ∷ cs))) ≡
+    (if joined then [] else before ++ pair_or pair (member_shown (mirror_contents c))) ++ contents_after operator operator (is_some pair) (members (map mirror_contents cs))
 contents_next before operator joined pair c cs is =
     rw is (ap (λ rest. (if joined then [] else before ++ pair_or (member_pair (mirror_contents c) (members (map mirror_contents cs))) (member_shown (mirror_contents c))) ++ rest)
-    (behind_operator operator (is_some (member_pair (mirror_contents c) (members (map mirror_contents cs)))) (members (map mirror_contents cs))))
+    (after_operator operator (is_some (member_pair (mirror_contents c) (members (map mirror_contents cs)))) (members (map mirror_contents cs))))
 
 pub class_shown_is : (c : CharacterClass) → class_shown (mirror_class c) ≡ class_opener c.negative ++ (members_shown (operator_text c.kind) (members (map mirror_contents c.body)) ++ codes "]")
 class_shown_is c = ap (λ m. class_shown m) (class_is c)

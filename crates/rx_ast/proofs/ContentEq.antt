@@ -25,20 +25,20 @@ module _ {A B : Type 0} (content : A → B) where
   first_or default [] = default
   first_or default (c ∷ cs) = c
 
-  behind_first : List B → List B
-  behind_first [] = []
-  behind_first (c ∷ cs) = cs
+  after_first : List B → List B
+  after_first [] = []
+  after_first (c ∷ cs) = cs
 
   has_some : List B → Bool
   has_some [] = false
   has_some (c ∷ cs) = true
 
   pub to_each : (xs ys : List A) → map content xs ≡ map content ys → AllZip (λ x y. content x ≡ content y) xs ys
-  unfolding first_or behind_first has_some
+  unfolding first_or after_first has_some
   to_each [] [] e = tt
   to_each [] (y ∷ ys) e = absurd (true≢false (sym (ap has_some e)))
   to_each (x ∷ xs) [] e = absurd (true≢false (ap has_some e))
-  to_each (x ∷ xs) (y ∷ ys) e = (ap (first_or (content x)) e, to_each xs ys (ap behind_first e))
+  to_each (x ∷ xs) (y ∷ ys) e = (ap (first_or (content x)) e, to_each xs ys (ap after_first e))
 
   abbrev Same : A → A → Type 0
   Same x y = content x ≡ content y

@@ -1,4 +1,4 @@
--- The spans of nodes of whatever type.
+-- The span of any node.
 use Rattle.std.proofs.Common.{◌≡◌, refl}
 use Rattle.rx_ast.specs.declared.ast_kind.RegExpAstKind.{RegExpAstKind}
 use Rattle.rx_ast.specs.contracts.ast_kind.RegExpAstKindGetSpan.TheImpl as of_kind

@@ -11,7 +11,7 @@ use Rattle.std.proofs.lemmas.Bool.Decides.{nat_tests}
 use Rattle.rx_ast.specs.Shown.{at_least}
 use Rattle.rx_ast.specs.Texts.{counts_text}
 
--- one behind the other
+-- one after the other
 pub own_bytes_then : (first second : List ℕ) → encode_utf8_all first ≡ first → encode_utf8_all second ≡ second → encode_utf8_all (first ++ second) ≡ first ++ second
 own_bytes_then first second a b = encodes-append first second ∙ ap₂ (λ xs ys. xs ++ ys) a b
 
@@ -35,8 +35,8 @@ pub bytes_between : (min max : ℕ) → min < 2 ^ 64 → max < 2 ^ 64 → (min =
 unfolding encode_utf8
 bytes_between min max low high no_sign other =
     let end = own_bytes_then (decimal max) (codes "}") (own_bytes_decimal max high) refl in
-    let behind = own_bytes_then (codes ",") (decimal max ++ codes "}") refl end in
-    rw (no_sign, other) (own_bytes_then (codes "{") (decimal min ++ (codes "," ++ (decimal max ++ codes "}"))) refl (own_bytes_then (decimal min) (codes "," ++ (decimal max ++ codes "}")) (own_bytes_decimal min low) behind))
+    let following = own_bytes_then (codes ",") (decimal max ++ codes "}") refl end in
+    rw (no_sign, other) (own_bytes_then (codes "{") (decimal min ++ (codes "," ++ (decimal max ++ codes "}"))) refl (own_bytes_then (decimal min) (codes "," ++ (decimal max ++ codes "}")) (own_bytes_decimal min low) following))
 
 own_bytes_zeros : (n : ℕ) → encode_utf8_all (replicate n 48) ≡ replicate n 48
 unfolding encode_utf8

@@ -39,9 +39,9 @@ abbrev first_node_or : Node → Nodes → Node
 first_node_or default no_node = default
 first_node_or default (node n ns) = n
 
-abbrev behind_first_node : Nodes → Nodes
-behind_first_node no_node = no_node
-behind_first_node (node n ns) = ns
+abbrev after_first_node : Nodes → Nodes
+after_first_node no_node = no_node
+after_first_node (node n ns) = ns
 
 abbrev has_node : Nodes → Bool
 has_node no_node = false
@@ -51,7 +51,7 @@ nodes_to_each : (xs ys : List Term) → all_nodes xs ≡ all_nodes ys → SameTe
 nodes_to_each [] [] e = tt
 nodes_to_each [] (y ∷ ys) e = absurd (true≢false (sym (ap has_node e)))
 nodes_to_each (x ∷ xs) [] e = absurd (true≢false (ap has_node e))
-nodes_to_each (x ∷ xs) (y ∷ ys) e = (ap (first_node_or (node_of x)) e, nodes_to_each xs ys (ap behind_first_node e))
+nodes_to_each (x ∷ xs) (y ∷ ys) e = (ap (first_node_or (node_of x)) e, nodes_to_each xs ys (ap after_first_node e))
 
 nodes_of_is : (a : Alternative) → nodes_of a ≡ all_nodes a.body
 nodes_of_is a = ap (λ m. forget_nodes same_kind m.1) (alternative_is a)
@@ -75,9 +75,9 @@ abbrev first_alternative_or : Nodes → Alternatives → Nodes
 first_alternative_or default no_alternative = default
 first_alternative_or default (alternative s ns more) = ns
 
-abbrev behind_first_alternative : Alternatives → Alternatives
-behind_first_alternative no_alternative = no_alternative
-behind_first_alternative (alternative s ns more) = more
+abbrev after_first_alternative : Alternatives → Alternatives
+after_first_alternative no_alternative = no_alternative
+after_first_alternative (alternative s ns more) = more
 
 abbrev has_alternative : Alternatives → Bool
 has_alternative no_alternative = false
@@ -87,7 +87,7 @@ alternatives_to_each : (xs ys : List Alternative) → all_alternatives xs ≡ al
 alternatives_to_each [] [] e = tt
 alternatives_to_each [] (y ∷ ys) e = absurd (true≢false (sym (ap has_alternative e)))
 alternatives_to_each (x ∷ xs) [] e = absurd (true≢false (ap has_alternative e))
-alternatives_to_each (x ∷ xs) (y ∷ ys) e = (ap (first_alternative_or (nodes_of x)) e, alternatives_to_each xs ys (ap behind_first_alternative e))
+alternatives_to_each (x ∷ xs) (y ∷ ys) e = (ap (first_alternative_or (nodes_of x)) e, alternatives_to_each xs ys (ap after_first_alternative e))
 
 alternatives_of_is : (d : Disjunction) → alternatives_of d ≡ all_alternatives (out-Disjunction d).body
 alternatives_of_is d = ap (λ m. forget_alternatives same_kind m.1) (disjunction_is d)

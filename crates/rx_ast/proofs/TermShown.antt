@@ -13,25 +13,25 @@ pub terms_next : (joined : Bool) (pair : Option ℕ) (t : Term) (ts : List Term)
     nodes_shown joined (nodes (map mirror_term (t ∷ ts))) ≡ (if joined then [] else pair_or pair (node_shown (mirror_term t))) ++ nodes_shown (is_some pair) (nodes (map mirror_term ts))
 terms_next joined pair t ts is = rw is refl
 
--- alternatives, the first behind this text and each other one behind a bar
-abbrev pub alternatives_behind : List ℕ → Alternatives → List ℕ
-alternatives_behind before no_alternative = []
-alternatives_behind before (alternative s ns more) = before ++ (nodes_shown false ns ++ barred_shown more)
+-- alternatives, the first after this text and each other one after a bar
+abbrev pub alternatives_after : List ℕ → Alternatives → List ℕ
+alternatives_after before no_alternative = []
+alternatives_after before (alternative s ns more) = before ++ (nodes_shown false ns ++ barred_shown more)
 
-pub behind_nothing : (more : Alternatives) → alternatives_shown more ≡ alternatives_behind [] more
-behind_nothing no_alternative = refl
-behind_nothing (alternative s ns more) = refl
+pub after_nothing : (more : Alternatives) → alternatives_shown more ≡ alternatives_after [] more
+after_nothing no_alternative = refl
+after_nothing (alternative s ns more) = refl
 
-behind_bar : (more : Alternatives) → barred_shown more ≡ alternatives_behind (codes "|") more
-behind_bar no_alternative = refl
-behind_bar (alternative s ns more) = refl
+after_bar : (more : Alternatives) → barred_shown more ≡ alternatives_after (codes "|") more
+after_bar no_alternative = refl
+after_bar (alternative s ns more) = refl
 
 pub alternatives_next : (before : List ℕ) (as' : List Alternative) (i : ℕ) (a : Alternative) → i < length as' → a ≡ get_or as' i a →
-    alternatives_behind before (alternatives (map mirror_alternative (drop i as'))) ≡
-    before ++ (nodes_shown false (nodes (map mirror_term a.body)) ++ alternatives_behind (codes "|") (alternatives (map mirror_alternative (drop (i + 1) as'))))
+    alternatives_after before (alternatives (map mirror_alternative (drop i as'))) ≡
+    before ++ (nodes_shown false (nodes (map mirror_term a.body)) ++ alternatives_after (codes "|") (alternatives (map mirror_alternative (drop (i + 1) as'))))
 alternatives_next before as' i a h e =
     rw (add-one, drop-cons as' i a, ← e, alternative_is a)
-    (ap (λ rest. before ++ (nodes_shown false (nodes (map mirror_term a.body)) ++ rest)) (behind_bar (alternatives (map mirror_alternative (drop (suc i) as')))))
+    (ap (λ rest. before ++ (nodes_shown false (nodes (map mirror_term a.body)) ++ rest)) (after_bar (alternatives (map mirror_alternative (drop (suc i) as')))))
 
 pub terms_cons : (t : Term) (ts : List Term) → terms_size (t ∷ ts) ≡ term_size t + terms_size ts
 unfolding terms_size term_size

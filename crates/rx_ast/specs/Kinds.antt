@@ -1,4 +1,4 @@
--- The nodes of a tree, of whatever type, as plain data: which stand directly in a node, and which at any depth.
+-- Any node of a tree as plain data: which nodes stand directly in it, and which at any depth.
 use Rattle.std.specs.Prelude.{ℕ, Bool, Option, List, [], ◌∷◌, ◌++◌, map}
 use Rattle.rx_base.specs.declared.span.Span.{Span}
 use Rattle.rx_ast.specs.declared.leaf.LookAroundAssertionKind.{LookAroundAssertionKind}

@@ -94,7 +94,7 @@ abbrev mutual
 abbrev pub disjunction_forest : {L : Type 0} → (Part → L) → SpannedAlternatives → Forest L → Forest L
 disjunction_forest label d after = tree (label (node_part (kinds.disjunction d))) (alternatives_forest label d.1) after
 
--- a node of whatever type
+-- any node
 unfoldable pub forest : {L : Type 0} → (Part → L) → Kind → Forest L → Forest L
 forest label (kinds.pattern p) after = tree (label (node_part (kinds.pattern p))) (disjunction_forest label p.1 nothing) after
 forest label (kinds.disjunction d) after = disjunction_forest label d after

@@ -1,7 +1,9 @@
--- The text that `Display` writes of a node. It shows how each character was escaped, and joins surrogates that stand one behind the other. ECMA-262 has no such
--- text: the format is that of the Rust crate.
-use Rattle.std.specs.Prelude.{ℕ, ◌+◌, ◌-◌, Bool, true, false, ◌==◌, ◌&&◌, ◌||◌, nat_lt, nat_le, if◌then◌else◌, List, [], ◌∷◌, ◌++◌, length, replicate, Option, Some, None, is_some, codes}
+-- The text that `Display` writes of a node. It shows how each character was escaped, and joins surrogates that stand one after the other. ECMA-262 has no such
+-- text. The format is that of the Rust crate, but for control letters and for bits of modifiers that have no meaning (docs/DIFFERENCES.md).
+use Rattle.std.specs.Prelude.{ℕ, ◌+◌, ◌-◌, Bool, true, false, ◌==◌, ◌&&◌, not, nat_le, if◌then◌else◌, List, [], ◌∷◌, ◌++◌, length, replicate, Option, Some, None, is_some, codes}
 use Rattle.std.specs.Fmt.{digits}
+use Rattle.rx_base.specs.Ascii as ascii
+use Rattle.rx_base.specs.Characters.{is_character, is_lead, is_trail}
 use Rattle.rx_base.specs.SurrogatePair.{surrogate_pair}
 use Rattle.rx_ast.specs.declared.leaf.Character.{Character}
 use Rattle.rx_ast.specs.declared.leaf.CharacterKind.{CharacterKind}
@@ -20,7 +22,7 @@ use Rattle.rx_ast.specs.Tree.{Leaf, Node, Nodes, Alternatives, leaf, quantified,
 
 -- zeros before the digits, so that there are k of them at least
 abbrev pub at_least : ℕ → List ℕ → List ℕ
-at_least k ds = replicate (k - length ds) 48 ++ ds
+at_least k ds = replicate (k - length ds) ascii.zero ++ ds
 
 -- in upper case
 abbrev pub hexadecimal : ℕ → List ℕ
@@ -43,16 +45,16 @@ octal_shown k v = codes "\\" ++ at_least k (octal v)
 
 -- a backslash and the character
 abbrev pub escaped : ℕ → List ℕ
-escaped v = 92 ∷ v ∷ []
+escaped v = ascii.backslash ∷ v ∷ []
 
 unfoldable pub single_escape_shown : ℕ → List ℕ
 single_escape_shown v =
-    if v == 10 then codes "\\n"
-    else (if v == 13 then codes "\\r"
-    else (if v == 9 then codes "\\t"
-    else (if v == 11 then codes "\\v"
-    else (if v == 12 then codes "\\f"
-    else (if v == 8 then codes "\\b"
+    if v == ascii.line_feed then codes "\\n"
+    else (if v == ascii.carriage_return then codes "\\r"
+    else (if v == ascii.tab then codes "\\t"
+    else (if v == ascii.vertical_tab then codes "\\v"
+    else (if v == ascii.form_feed then codes "\\f"
+    else (if v == ascii.backspace then codes "\\b"
     else escaped v)))))
 
 -- `\c` and the capital letter of the number 1 to 26
@@ -61,7 +63,7 @@ control_shown v =
     if nat_le 1 v && nat_le v 26 then codes "\\c" ++ ((64 + v) ∷ [])
     else (if nat_le v 0xFF then hexadecimal_shown v else unicode_shown v)
 
--- by the kind, of a value that is a character
+-- the text of a character, by its kind
 abbrev pub kind_shown : CharacterKind → ℕ → List ℕ
 kind_shown kind.Symbol v = v ∷ []
 kind_shown kind.UnicodeEscape v = unicode_shown v
@@ -74,17 +76,7 @@ kind_shown kind.Octal1 v = octal_shown 1 v
 kind_shown kind.Octal2 v = octal_shown 2 v
 kind_shown kind.Octal3 v = octal_shown 3 v
 
-abbrev pub is_lead : ℕ → Bool
-is_lead v = nat_le 0xD800 v && nat_le v 0xDBFF
-
-abbrev pub is_trail : ℕ → Bool
-is_trail v = nat_le 0xDC00 v && nat_le v 0xDFFF
-
--- a surrogate, or past 10FFFF
-abbrev pub is_no_character : ℕ → Bool
-is_no_character v = (nat_le 0xD800 v && nat_le v 0xDFFF) || nat_lt 0x10FFFF v
-
--- whether a value that is no character is written by its number in this kind: in each but `\0`
+-- whether a value that is no character is written as a number: in every kind but `\0`
 abbrev pub shows_number : CharacterKind → Bool
 shows_number kind.Null = false
 shows_number kind.Symbol = true
@@ -99,9 +91,9 @@ shows_number kind.Octal3 = true
 
 -- a character by itself
 unfoldable pub character_shown : Character → List ℕ
-character_shown c = if shows_number c.kind && is_no_character c.value then unicode_shown c.value else kind_shown c.kind c.value
+character_shown c = if shows_number c.kind && not (is_character c.value) then unicode_shown c.value else kind_shown c.kind c.value
 
--- a lead surrogate of such a kind is joined with a trail surrogate right behind it
+-- a lead surrogate of such a kind is joined with a trail surrogate right after it
 abbrev pub may_join : CharacterKind → Bool
 may_join kind.Symbol = true
 may_join kind.UnicodeEscape = true
@@ -114,7 +106,7 @@ may_join kind.Octal1 = false
 may_join kind.Octal2 = false
 may_join kind.Octal3 = false
 
--- Two characters of an alternative or of a class, one right behind the other, are written together, as the one that the pair of surrogates stands for.
+-- Two characters of an alternative or of a class, one right after the other, are written together, as the one that the pair of surrogates stands for.
 unfoldable pub are_joined : Character → Character → Bool
 are_joined c d = (may_join c.kind && is_lead c.value) && is_trail d.value
 
@@ -155,7 +147,7 @@ abbrev pub first_of_members : Members → Option Character
 first_of_members no_member = None
 first_of_members (member m ms) = member_character m
 
--- the pair that it is written as with the first of those behind it
+-- the pair that it is written as with the first of those after it
 abbrev pub member_pair : Member → Members → Option ℕ
 member_pair m ms = joined_pair (member_character m) (first_of_members ms)
 
@@ -217,7 +209,7 @@ abbrev pub first_of_nodes : Nodes → Option Character
 first_of_nodes no_node = None
 first_of_nodes (node n ns) = node_character n
 
--- the pair that it is written as with the first of those behind it
+-- the pair that it is written as with the first of those after it
 abbrev pub node_pair : Node → Nodes → Option ℕ
 node_pair n ns = joined_pair (node_character n) (first_of_nodes ns)
 
@@ -244,7 +236,7 @@ abbrev mutual
 abbrev pub pattern_shown : Pattern → List ℕ
 pattern_shown p = alternatives_shown (mirror_disjunction p.body).1
 
--- of a node of whatever type
+-- the text of any node
 abbrev pub shown : Kind → List ℕ
 shown (kinds.pattern p) = alternatives_shown p.1.1
 shown (kinds.disjunction d) = alternatives_shown d.1

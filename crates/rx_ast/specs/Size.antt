@@ -50,7 +50,7 @@ all_alternatives_size as' = alternatives_size (alternatives (map mirror_alternat
 unfoldable pub disjunction_size : Disjunction → ℕ
 disjunction_size d = alternatives_size (mirror_disjunction d).1
 
--- Of some disjunctions, each counted as one more than it holds, as the group is that it stands in.
+-- The size of some disjunctions: each counts one more than it holds, for the group that it stands in.
 unfoldable pub disjunctions_size : List Disjunction → ℕ
 disjunctions_size [] = 0
 disjunctions_size (d ∷ ds) = 1 + disjunction_size d + disjunctions_size ds

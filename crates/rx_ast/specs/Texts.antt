@@ -1,7 +1,8 @@
--- How the parts of a pattern are written that are written alike by every printer. What differs, characters, stands where the printers are defined.
-use Rattle.std.specs.Prelude.{ℕ, ◌%◌, Bool, true, false, eqb, ◌==◌, ◌&&◌, List, [], ◌∷◌, ◌++◌, Option, Some, None, codes, if◌then◌else◌}
-use lib.Pointwise.{pointwise}
+-- The texts of those parts of a pattern that every printer writes alike. Characters, which printers write differently, stand where the printers are defined.
+use Rattle.std.specs.Prelude.{ℕ, ◌%◌, Bool, true, false, ◌==◌, ◌&&◌, List, [], ◌∷◌, ◌++◌, Option, Some, None, codes, if◌then◌else◌}
 use Rattle.std.specs.Fmt.{decimal}
+use Rattle.rx_base.specs.Ascii as ascii
+use Rattle.rx_base.specs.Texts.{are_same}
 use Rattle.rx_ast.specs.declared.leaf.BoundaryAssertionKind.{BoundaryAssertionKind}
 use Rattle.rx_ast.specs.declared.leaf.BoundaryAssertionKind.TheVariants as boundary
 use Rattle.rx_ast.specs.declared.leaf.LookAroundAssertionKind.{LookAroundAssertionKind}
@@ -24,7 +25,7 @@ boundary_text boundary.StartBuffer = codes "\\A"
 boundary_text boundary.EndBuffer = codes "\\z"
 boundary_text boundary.EndBufferOptionalNewline = codes "\\Z"
 
--- what a look-around begins with behind its parenthesis
+-- what a look-around begins with after its parenthesis
 abbrev pub look_sign : LookAroundAssertionKind → List ℕ
 look_sign look.Lookahead = codes "?="
 look_sign look.NegativeLookahead = codes "?!"
@@ -91,13 +92,10 @@ class_escape_text NegativeS = codes "\\S"
 class_escape_text W = codes "\\w"
 class_escape_text NegativeW = codes "\\W"
 
-abbrev pub are_same : List ℕ → List ℕ → Bool
-are_same cs ds = pointwise eqb cs ds
-
 -- a value of `General_Category` stands alone
 abbrev pub property_body : List ℕ → Option (List ℕ) → List ℕ
 property_body name None = name
-property_body name (Some value) = if are_same name (codes "General_Category") then value else name ++ (61 ∷ value)
+property_body name (Some value) = if are_same name (codes "General_Category") then value else name ++ (ascii.equals ∷ value)
 
 abbrev pub property_opener : Bool → List ℕ
 property_opener true = codes "\\P{"

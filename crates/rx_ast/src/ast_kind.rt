@@ -12,7 +12,7 @@ use crate::term::{
 };
 use rx_base::{GetSpan, Span};
 
-/// A node of a tree, of whatever type, by a reference to it.
+/// Any node of a tree, by a reference to it.
 #[derive(Clone, Copy)]
 pub enum RegExpAstKind<'a> {
     Pattern(&'a Pattern),

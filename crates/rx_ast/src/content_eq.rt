@@ -1,4 +1,4 @@
-//! Comparing nodes by content: they are the same but for where they stand, and of modifiers only the bits that have a meaning count.
+//! Comparing nodes by content: they are the same but for their spans, and of modifiers only the bits that have a meaning count.
 
 mod class;
 mod leaf;

@@ -1,4 +1,4 @@
-//! The text of a node, as `{}` writes it. It shows how each character was escaped, and joins surrogates that stand one behind the other. Nothing here
+//! The text of a node, as `{}` writes it. It shows how each character was escaped, and joins surrogates that stand one after the other. Nothing here
 //! takes memory.
 
 mod character;

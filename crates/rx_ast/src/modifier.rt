@@ -4,8 +4,8 @@ ghost use Rattle.std.specs.Int.RustNames.{bit_and, bit_or, bit_xor};
 use bitflags::{Flag, Flags};
 use std::ops::{BitAnd, BitOr, BitXor, Not, Sub};
 
-/// The modifiers before or after the `-` of a group, as a set of eight bits. Three of them have a meaning:
-/// RegularExpressionModifier of ECMA-262, 22.2.1.
+/// The modifiers before the `-` of a group, or those after it, such as the `i` or the `s` of `(?i-s:a)`: RegularExpressionModifiers of ECMA-262, 22.2.1.
+/// A set of eight bits, three of which have a meaning.
 #[derive(Clone, Copy, Debug, PartialEq, Eq, PartialOrd, Ord, Hash)]
 pub struct Modifier(u8);
 
@@ -123,7 +123,7 @@ impl Modifier {
         Flags::remove(self, other);
     }
 
-    /// Turns the bits of the other round.
+    /// Flips the bits of the other.
     pub fn toggle(&mut self, other: Modifier)
         ensures { self.new.0 ≡ bit_xor self.old.0 other.0 }
     {

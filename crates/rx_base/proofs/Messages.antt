@@ -1,10 +1,9 @@
 -- The bytes of a message.
-use Rattle.std.proofs.Common.{◌≡◌, ap, refl, subst, sym, ◌∙◌, ℕ, ◌<◌, ◌^◌, arith, List, [], ◌∷◌, ◌++◌, append_assoc, append-nil, codes, Option, Some, true, ◌||◌, nat_lt}
+use Rattle.std.proofs.Common.{◌≡◌, ap, refl, subst, sym, ◌∙◌, ℕ, ◌<◌, ◌^◌, arith, List, [], ◌∷◌, ◌++◌, append_assoc, append-nil, codes, Option, Some, true, false}
 use Rattle.std.specs.Char.{digit_value, encode_utf8, OutOfScalarRange}
 use Rattle.std.specs.Fmt.{digits, WritesText, ◌++?◌}
 use Rattle.std.specs.Fmt.InlineText.{inline_text, AppendsIfIntact, IsIntact}
 use Rattle.std.specs.declared.fmt.InlineText.{InlineText}
-use Rattle.std.specs.Int.{is_in_range}
 use Rattle.std.specs.List.{concat, FoldsTo}
 use Rattle.std.specs.Str.{chars, encode_utf8_all, IsAscii, IsUtf8}
 use Rattle.std.specs.Str.Parse.{AllDigits}
@@ -12,6 +11,7 @@ use Rattle.std.proofs.lemmas.Fmt.{digits_is_IsNumeral}
 use Rattle.std.proofs.lemmas.Bool.Decides.{nat_tests}
 use Rattle.std.proofs.lemmas.Str.{encodes-append, encodes-chars}
 use Rattle.std.proofs.lemmas.Str.Ascii.{encodes-IsAscii, IsAscii-cons, IsAscii-nil}
+use Rattle.rx_base.specs.Characters.{is_character}
 use Rattle.rx_base.specs.DiagnosticMessage.{flag_text}
 
 pub encoded_between : (before middle after : List ℕ) → encode_utf8_all (before ++ middle ++ after) ≡ encode_utf8_all before ++ (encode_utf8_all middle ++ encode_utf8_all after)
@@ -37,7 +37,7 @@ digits_small (c ∷ cs) all = IsAscii-cons c cs (digit_small c all.0) (digits_sm
 pub encoded_hex : (n : ℕ) → n < 2 ^ 32 → encode_utf8_all (digits 16 true n) ≡ digits 16 true n
 encoded_hex n small = encodes-IsAscii (digits 16 true n) (digits_small (digits 16 true n) (digits_is_IsNumeral 16 true (omega arith) (omega arith) n (omega arith)).0.1)
 
-out_of_range : (c : ℕ) → OutOfScalarRange c → (is_in_range 0xD800 0xDFFF c || nat_lt 0x10FFFF c) ≡ true
+out_of_range : (c : ℕ) → OutOfScalarRange c → is_character c ≡ false
 out_of_range c out = grind (arith, nat_tests)
 
 in_hex : (flag : ℕ) → OutOfScalarRange flag → flag_text flag ≡ codes "\\u{" ++ digits 16 true flag ++ codes "}"

@@ -8,9 +8,9 @@ use Rattle.rx_base.specs.FaultCounts.{CountsFaults}
 use Rattle.std.specs.Result.{IsErr}
 use Rattle.rx_base.specs.Writing.{Written, AppendsFront}
 
--- a front of the second bytes, behind the whole of the first
-front_behind : (o m n : Option (List ℕ)) (first second : List ℕ) → Appends o m first → AppendsFront m n second → AppendsFront o n (first ++ second)
-front_behind o m n first second a b = record {
+-- a front of the second bytes, after the whole of the first
+front_after : (o m n : Option (List ℕ)) (first second : List ℕ) → Appends o m first → AppendsFront m n second → AppendsFront o n (first ++ second)
+front_after o m n first second a b = record {
   front = first ++ b.front;
   back = b.back;
   cut = ap (λ xs. first ++ xs) b.cut ∙ sym (append_assoc first b.front b.back);
@@ -46,7 +46,7 @@ written_then {taken} {faults} {s} {t} {u} {result = Ok y} {first} {second} a b =
 }
 written_then {taken} {faults} {s} {t} {u} {result = Err e} {first} {second} a b = record {
   whole = tt;
-  part = front_behind (taken s) (taken t) (taken u) first second a.whole b.part;
+  part = front_after (taken s) (taken t) (taken u) first second a.whole b.part;
   kept = b.kept ∙ a.kept;
   cause = cause_from (faults s) (faults t) (faults u) (Err e) a.cause.same b.cause;
 }
@@ -90,7 +90,7 @@ pub left_stop : {K T U E F : Type 0} {taken : K → Option (List ℕ)} {fixed : 
 left_stop {result = Ok x} after left cut written failed = absurd (false≢true failed)
 left_stop {taken} {faults} {s} {t} {u} {result = Err d} {next} after left cut written failed = record {
   whole = tt;
-  part = rw (left.cut, cut) (front_behind (taken s) (taken t) (taken u) left.front (next ++ after) left.appended (front_before (taken t) (taken u) next after written.part));
+  part = rw (left.cut, cut) (front_after (taken s) (taken t) (taken u) left.front (next ++ after) left.appended (front_before (taken t) (taken u) next after written.part));
   kept = written.kept ∙ left.kept;
   cause = cause_from (faults s) (faults t) (faults u) (Err d) left.same (record { later = written.cause.later; failed = written.cause.failed; same = tt });
 }

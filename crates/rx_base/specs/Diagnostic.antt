@@ -1,8 +1,24 @@
 -- What is said of a refusal: its name and its spans.
-use Rattle.std.specs.Prelude.{ℕ, List, codes, Option, Some, None}
+use Rattle.std.specs.Prelude.{ℕ, Bool, true, false, List, codes, Option, Some, None}
 use Rattle.rx_base.specs.declared.span.Span.{Span}
 use Rattle.rx_base.specs.declared.diagnostic.Diagnostic.{Diagnostic}
 use Rattle.rx_base.specs.declared.diagnostic.Diagnostic.TheVariants.{InvalidInput, UnknownFlag, DuplicatedFlags, InvalidUnicodeFlags, DuplicatedCapturingGroupNames, TooMayCapturingGroups, ParsePatternIncomplete, LoneQuantifier, UnterminatedPattern, InvalidExtendedAtomEscape, InvalidBracedQuantifier, InvalidIndexedReference, EmptyGroupSpecifier, InvalidNamedReference, InvalidUnicodePropertyNameNegativeStrings, InvalidCharacterClass, CharacterClassRangeOutOfOrder, CharacterClassRangeDashNotSubtraction, CharacterClassRangeInvalidAtom, InvalidClassAtom, EmptyClassSetExpression, ClassIntersectionUnexpectedAmpersand, ClassSetExpressionInvalidCharacter, CharacterClassContentsInvalidOperands, TooLargeNumberInBracedQuantifier, BracedQuantifierOutOfOrder, TooLargeNumberDigits, InvalidUnicodeProperty, InvalidUnicodePropertyOfStrings, InvalidUnicodeEscapeSequence, InvalidSurrogatePair, DuplicatedModifiers, InvalidModifiers, EmptyModifiers, UnknownModifiers}
+
+-- What is refused is a class or a property of characters.
+abbrev pub is_of_class : Diagnostic → Bool
+is_of_class (InvalidUnicodePropertyNameNegativeStrings _ _) = true
+is_of_class (InvalidCharacterClass _) = true
+is_of_class (CharacterClassRangeOutOfOrder _ _) = true
+is_of_class (CharacterClassRangeDashNotSubtraction _) = true
+is_of_class (CharacterClassRangeInvalidAtom _) = true
+is_of_class (InvalidClassAtom _) = true
+is_of_class (EmptyClassSetExpression _) = true
+is_of_class (ClassIntersectionUnexpectedAmpersand _) = true
+is_of_class (ClassSetExpressionInvalidCharacter _ _) = true
+is_of_class (CharacterClassContentsInvalidOperands _) = true
+is_of_class (InvalidUnicodeProperty _ _) = true
+is_of_class (InvalidUnicodePropertyOfStrings _ _) = true
+is_of_class _ = false
 
 -- what it is called
 abbrev pub name_of : Diagnostic → List ℕ
@@ -42,7 +58,7 @@ name_of (InvalidModifiers _) = codes "invalid_modifiers"
 name_of (EmptyModifiers _) = codes "empty_modifiers"
 name_of (UnknownModifiers _) = codes "unknown_modifiers"
 
--- its span, or the first of the two
+-- its span, or the first of two
 abbrev pub first_span_of : Diagnostic → Span
 first_span_of (InvalidInput span) = span
 first_span_of (UnknownFlag span _) = span
@@ -80,40 +96,7 @@ first_span_of (InvalidModifiers span) = span
 first_span_of (EmptyModifiers span) = span
 first_span_of (UnknownModifiers span) = span
 
--- the second of two spans, which equal names of groups alone have
+-- the second of two spans, which only equal names of groups have
 abbrev pub second_span_of : Diagnostic → Option Span
-second_span_of (InvalidInput _) = None
-second_span_of (UnknownFlag _ _) = None
-second_span_of (DuplicatedFlags _ _) = None
-second_span_of (InvalidUnicodeFlags _) = None
 second_span_of (DuplicatedCapturingGroupNames _ second) = Some second
-second_span_of (TooMayCapturingGroups _) = None
-second_span_of (ParsePatternIncomplete _) = None
-second_span_of (LoneQuantifier _) = None
-second_span_of (UnterminatedPattern _ _) = None
-second_span_of (InvalidExtendedAtomEscape _) = None
-second_span_of (InvalidBracedQuantifier _) = None
-second_span_of (InvalidIndexedReference _ _) = None
-second_span_of (EmptyGroupSpecifier _) = None
-second_span_of (InvalidNamedReference _ _) = None
-second_span_of (InvalidUnicodePropertyNameNegativeStrings _ _) = None
-second_span_of (InvalidCharacterClass _) = None
-second_span_of (CharacterClassRangeOutOfOrder _ _) = None
-second_span_of (CharacterClassRangeDashNotSubtraction _) = None
-second_span_of (CharacterClassRangeInvalidAtom _) = None
-second_span_of (InvalidClassAtom _) = None
-second_span_of (EmptyClassSetExpression _) = None
-second_span_of (ClassIntersectionUnexpectedAmpersand _) = None
-second_span_of (ClassSetExpressionInvalidCharacter _ _) = None
-second_span_of (CharacterClassContentsInvalidOperands _) = None
-second_span_of (TooLargeNumberInBracedQuantifier _) = None
-second_span_of (BracedQuantifierOutOfOrder _) = None
-second_span_of (TooLargeNumberDigits _ _) = None
-second_span_of (InvalidUnicodeProperty _ _) = None
-second_span_of (InvalidUnicodePropertyOfStrings _ _) = None
-second_span_of (InvalidUnicodeEscapeSequence _) = None
-second_span_of (InvalidSurrogatePair _) = None
-second_span_of (DuplicatedModifiers _) = None
-second_span_of (InvalidModifiers _) = None
-second_span_of (EmptyModifiers _) = None
-second_span_of (UnknownModifiers _) = None
+second_span_of _ = None

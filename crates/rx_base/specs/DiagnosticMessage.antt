@@ -1,7 +1,7 @@
 -- What a refusal says, in characters.
-use Rattle.std.specs.Prelude.{ℕ, List, ◌∷◌, [], ◌++◌, codes, true, ◌||◌, nat_lt, if◌then◌else◌}
+use Rattle.std.specs.Prelude.{ℕ, List, ◌∷◌, [], ◌++◌, codes, true, if◌then◌else◌}
 use Rattle.std.specs.Fmt.{digits}
-use Rattle.std.specs.Int.{is_in_range}
+use Rattle.rx_base.specs.Characters.{is_character}
 use Rattle.rx_base.specs.declared.diagnostic.kinds.Unterminated.{Unterminated}
 use Rattle.rx_base.specs.declared.diagnostic.kinds.Unterminated.TheVariants.{LookAround, CapturingGroup, IgnoreGroup, GroupName, PropertyEscape, CharacterClass, NestedClass, ClassStringDisjunction}
 use Rattle.rx_base.specs.declared.diagnostic.kinds.RangeKind.{RangeKind}
@@ -15,9 +15,9 @@ use Rattle.rx_base.specs.declared.diagnostic.kinds.PropertyPart.TheVariants.{Nam
 use Rattle.rx_base.specs.declared.diagnostic.Diagnostic.{Diagnostic}
 use Rattle.rx_base.specs.declared.diagnostic.Diagnostic.TheVariants.{InvalidInput, UnknownFlag, DuplicatedFlags, InvalidUnicodeFlags, DuplicatedCapturingGroupNames, TooMayCapturingGroups, ParsePatternIncomplete, LoneQuantifier, UnterminatedPattern, InvalidExtendedAtomEscape, InvalidBracedQuantifier, InvalidIndexedReference, EmptyGroupSpecifier, InvalidNamedReference, InvalidUnicodePropertyNameNegativeStrings, InvalidCharacterClass, CharacterClassRangeOutOfOrder, CharacterClassRangeDashNotSubtraction, CharacterClassRangeInvalidAtom, InvalidClassAtom, EmptyClassSetExpression, ClassIntersectionUnexpectedAmpersand, ClassSetExpressionInvalidCharacter, CharacterClassContentsInvalidOperands, TooLargeNumberInBracedQuantifier, BracedQuantifierOutOfOrder, TooLargeNumberDigits, InvalidUnicodeProperty, InvalidUnicodePropertyOfStrings, InvalidUnicodeEscapeSequence, InvalidSurrogatePair, DuplicatedModifiers, InvalidModifiers, EmptyModifiers, UnknownModifiers}
 
--- A flag is shown as its character, and where its number is that of no character, a surrogate or a number past all of them, in hexadecimal.
+-- A flag is shown as its character, and where it is no character, as a surrogate or a number past all code points, by its number in hexadecimal.
 abbrev pub flag_text : ℕ → List ℕ
-flag_text flag = if is_in_range 0xD800 0xDFFF flag || nat_lt 0x10FFFF flag then codes "\\u{" ++ digits 16 true flag ++ codes "}" else flag ∷ []
+flag_text flag = if is_character flag then flag ∷ [] else codes "\\u{" ++ digits 16 true flag ++ codes "}"
 
 abbrev pub unterminated_reason : Unterminated → List ℕ
 unterminated_reason LookAround = codes "Unterminated lookaround assertion"

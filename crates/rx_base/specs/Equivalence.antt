@@ -9,7 +9,7 @@ pub record IsEquivalence {A : Type 0} (R : A → A → Type 0) : Type 0 where
   pub symmetric : (a b : A) → R a b → R b a
   pub transitive : (a b c : A) → R a b → R b c → R a c
 
--- to have one content
+-- Equal content is an equivalence.
 pub same_content : {A C : Type 0} (content : A → C) → IsEquivalence {A = A} (λ a b. content a ≡ content b)
 same_content content = record { reflexive = λ a. refl; symmetric = λ a b e. sym e; transitive = λ a b c e f. e ∙ f }
 
@@ -31,11 +31,11 @@ module _ {A : Type 0} (R : A → A → Type 0) where
   each_transitive t (x ∷ xs) (y ∷ ys) [] h k = absurd k
   each_transitive t (x ∷ xs) (y ∷ ys) (z ∷ zs) h k = (t x y z h.0 k.0, each_transitive t xs ys zs h.1 k.1)
 
-  -- to be related item by item
+  -- So is a relation item by item.
   pub each_equivalent : IsEquivalence R → IsEquivalence (AllZip R)
   each_equivalent is = record { reflexive = each_reflexive is.reflexive; symmetric = each_symmetric is.symmetric; transitive = each_transitive is.transitive }
 
-  -- neither is there, or both are and they are related
+  -- Both are `None`, or both are `Some` and related.
   abbrev pub BothOrNeither : Option A → Option A → Type 0
   BothOrNeither o p = MatchOption o (IsNone p) (λ x. IsSomeAnd p (R x))
 

@@ -1,7 +1,7 @@
--- What clauses see of a source and of a sink in memory, where some calls are to fail.
+-- What clauses see of a source and of a sink in memory, some of whose calls are to fail.
 use Rattle.std.specs.Prelude.{ℕ, ◌+◌, ◌-◌, ◌^◌, min, List}
 
--- the number after this one; the last number of a `u64` stays
+-- the number after this one, or the greatest `u64`
 abbrev pub next_number : ℕ → ℕ
 next_number n = min (n + 1) (2 ^ 64 - 1)
 

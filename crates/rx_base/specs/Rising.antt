@@ -1,6 +1,6 @@
 -- How far a count rises.
 use Rattle.std.specs.Prelude.{ℕ, ◌+◌, ◌≤◌}
 
--- from one number to another, by at least and at most so many
+-- It rises by at least `least` and at most `most`.
 abbrev pub Rises : ℕ → ℕ → ℕ → ℕ → Type 0
 Rises old new least most = (old + least ≤ new) × (new ≤ old + most)

@@ -11,8 +11,8 @@ pub record AppendsFront (old new : Option (List ℕ)) (bytes : List ℕ) : Type 
   pub missing : 0 < length back
   pub appended : Appends old new front
 
--- The bytes were written whole, or the sink had a fault and only their front was written. `taken`, `fixed` and `faults` are those of
--- the sink.
+-- All bytes were written, or the sink had a fault and only their front was written. `taken`, `fixed` and `faults` are those of the
+-- sink.
 pub record Written {K T E : Type 0} (taken : K → Option (List ℕ)) (fixed : K → List ℕ) (faults : K → ℕ) (old new : K) (result : Result T E) (bytes : List ℕ) : Type 0 where
   pub whole : OnOk result (Appends (taken old) (taken new) bytes)
   pub part : OnErr result (AppendsFront (taken old) (taken new) bytes)

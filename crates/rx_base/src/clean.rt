@@ -46,7 +46,7 @@ impl<'a> Source for CleanSource<'a> {
     }
 }
 
-/// A sink that drops its bytes and never fails.
+/// A sink that throws its bytes away and never fails.
 #[derive(Drop)]
 pub struct CleanSink;
 

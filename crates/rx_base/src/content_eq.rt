@@ -2,7 +2,7 @@ ghost use Rattle.std.specs.Prelude.{◌↔◌, IsTrue};
 
 use crate::{List, Text};
 
-/// Values that are compared by their content, which leaves out where they stand.
+/// Values that are compared by their content, without their spans.
 pub trait ContentEq {
     ghost use Rattle.rx_base.specs.Equivalence.{IsEquivalence};
 
@@ -31,7 +31,7 @@ impl ContentEq for Text {
     ghost laws = { same_content (λ a. a) };
 }
 
-/// Lists of equally many items, each the same as that of the other at its index.
+/// Lists of the same length whose items have the same content, index by index.
 impl<T: ContentEq> ContentEq for List<T> {
     ghost use Rattle.std.specs.List.{AllZip};
     ghost use Rattle.rx_base.specs.Equivalence.{each_equivalent};
@@ -54,7 +54,7 @@ impl<T: ContentEq> ContentEq for List<T> {
     ghost laws = { each_equivalent T.same T.laws };
 }
 
-/// Boxes that hold the same.
+/// Boxes of values with the same content.
 impl<T: ContentEq> ContentEq for Box<T> {
     ghost use Rattle.rx_base.specs.Equivalence.{IsEquivalence};
 
@@ -71,7 +71,7 @@ impl<T: ContentEq> ContentEq for Box<T> {
     } };
 }
 
-/// Neither is there, or both are and they are the same.
+/// Both are `None`, or both are `Some` with the same content.
 impl<T: ContentEq> ContentEq for Option<T> {
     ghost use Rattle.rx_base.specs.Equivalence.{BothOrNeither, both_equivalent};
 

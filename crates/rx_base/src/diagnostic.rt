@@ -1,5 +1,5 @@
-ghost use Rattle.std.specs.Prelude.{◌≡◌};
-ghost use Rattle.rx_base.specs.Diagnostic.{name_of, first_span_of, second_span_of};
+ghost use Rattle.std.specs.Prelude.{◌≡◌, true};
+ghost use Rattle.rx_base.specs.Diagnostic.{is_of_class, name_of, first_span_of, second_span_of};
 
 use crate::{List, Span, Text};
 
@@ -18,7 +18,7 @@ pub enum Diagnostic {
     /// `flag` is the code point that stands twice.
     DuplicatedFlags { span: Span, flag: u32 },
     InvalidUnicodeFlags { span: Span },
-    /// Where two groups have the same name and can take part in one match.
+    /// Two groups have the same name and can take part in one match.
     DuplicatedCapturingGroupNames { first: Span, second: Span },
     TooMayCapturingGroups { span: Span },
     ParsePatternIncomplete { span: Span },
@@ -26,10 +26,10 @@ pub enum Diagnostic {
     UnterminatedPattern { span: Span, what: Unterminated },
     InvalidExtendedAtomEscape { span: Span },
     InvalidBracedQuantifier { span: Span },
-    /// `max` is the count of capturing groups, which the number is larger than.
+    /// `max` is the count of capturing groups. The number is larger.
     InvalidIndexedReference { span: Span, max: u32 },
     EmptyGroupSpecifier { span: Span },
-    /// `names` are those that groups have.
+    /// `names` are the names of the groups.
     InvalidNamedReference { span: Span, names: List<Text> },
     InvalidUnicodePropertyNameNegativeStrings { span: Span, name: Text },
     InvalidCharacterClass { span: Span },
@@ -74,6 +74,26 @@ impl Diagnostic {
             Self::InvalidIndexedReference { .. } => "invalid_indexed_reference",
             Self::EmptyGroupSpecifier { .. } => "empty_group_specifier",
             Self::InvalidNamedReference { .. } => "invalid_named_reference",
+            Self::TooLargeNumberInBracedQuantifier { .. } =>
+                "too_large_number_in_braced_quantifier",
+            Self::BracedQuantifierOutOfOrder { .. } => "braced_quantifier_out_of_order",
+            Self::TooLargeNumberDigits { .. } => "too_large_number_digits",
+            Self::InvalidUnicodeEscapeSequence { .. } => "invalid_unicode_escape_sequence",
+            Self::InvalidSurrogatePair { .. } => "invalid_surrogate_pair",
+            Self::DuplicatedModifiers { .. } => "duplicated_modifiers",
+            Self::InvalidModifiers { .. } => "invalid_modifiers",
+            Self::EmptyModifiers { .. } => "empty_modifiers",
+            Self::UnknownModifiers { .. } => "unknown_modifiers",
+            _ => self.class_name(),
+        }
+    }
+
+    /// What a refusal of a class or of a property of characters is called.
+    fn class_name(&self) -> &'static str
+        requires { is_of_class self.now ≡ true }
+        ensures { result.now ≡ name_of self.now }
+    {
+        match self {
             Self::InvalidUnicodePropertyNameNegativeStrings { .. } =>
                 "invalid_unicode_property_name_negative_strings",
             Self::InvalidCharacterClass { .. } => "invalid_character_class",
@@ -89,18 +109,9 @@ impl Diagnostic {
                 "class_set_expression_invalid_character",
             Self::CharacterClassContentsInvalidOperands { .. } =>
                 "character_class_contents_invalid_operands",
-            Self::TooLargeNumberInBracedQuantifier { .. } =>
-                "too_large_number_in_braced_quantifier",
-            Self::BracedQuantifierOutOfOrder { .. } => "braced_quantifier_out_of_order",
-            Self::TooLargeNumberDigits { .. } => "too_large_number_digits",
             Self::InvalidUnicodeProperty { .. } => "invalid_unicode_property",
             Self::InvalidUnicodePropertyOfStrings { .. } => "invalid_unicode_property_of_strings",
-            Self::InvalidUnicodeEscapeSequence { .. } => "invalid_unicode_escape_sequence",
-            Self::InvalidSurrogatePair { .. } => "invalid_surrogate_pair",
-            Self::DuplicatedModifiers { .. } => "duplicated_modifiers",
-            Self::InvalidModifiers { .. } => "invalid_modifiers",
-            Self::EmptyModifiers { .. } => "empty_modifiers",
-            Self::UnknownModifiers { .. } => "unknown_modifiers",
+            _ => unreachable!(),
         }
     }
 
@@ -123,7 +134,26 @@ impl Diagnostic {
             | Self::InvalidIndexedReference { span, .. }
             | Self::EmptyGroupSpecifier { span }
             | Self::InvalidNamedReference { span, .. }
-            | Self::InvalidUnicodePropertyNameNegativeStrings { span, .. }
+            | Self::TooLargeNumberInBracedQuantifier { span }
+            | Self::BracedQuantifierOutOfOrder { span }
+            | Self::TooLargeNumberDigits { span, .. }
+            | Self::InvalidUnicodeEscapeSequence { span }
+            | Self::InvalidSurrogatePair { span }
+            | Self::DuplicatedModifiers { span }
+            | Self::InvalidModifiers { span }
+            | Self::EmptyModifiers { span }
+            | Self::UnknownModifiers { span } => *span,
+            _ => self.class_span(),
+        }
+    }
+
+    /// The span of a class or of a property of characters that is refused.
+    fn class_span(&self) -> Span
+        requires { is_of_class self.now ≡ true }
+        ensures { result ≡ first_span_of self.now }
+    {
+        match self {
+            Self::InvalidUnicodePropertyNameNegativeStrings { span, .. }
             | Self::InvalidCharacterClass { span }
             | Self::CharacterClassRangeOutOfOrder { span, .. }
             | Self::CharacterClassRangeDashNotSubtraction { span }
@@ -133,17 +163,9 @@ impl Diagnostic {
             | Self::ClassIntersectionUnexpectedAmpersand { span }
             | Self::ClassSetExpressionInvalidCharacter { span, .. }
             | Self::CharacterClassContentsInvalidOperands { span }
-            | Self::TooLargeNumberInBracedQuantifier { span }
-            | Self::BracedQuantifierOutOfOrder { span }
-            | Self::TooLargeNumberDigits { span, .. }
             | Self::InvalidUnicodeProperty { span, .. }
-            | Self::InvalidUnicodePropertyOfStrings { span, .. }
-            | Self::InvalidUnicodeEscapeSequence { span }
-            | Self::InvalidSurrogatePair { span }
-            | Self::DuplicatedModifiers { span }
-            | Self::InvalidModifiers { span }
-            | Self::EmptyModifiers { span }
-            | Self::UnknownModifiers { span } => *span,
+            | Self::InvalidUnicodePropertyOfStrings { span, .. } => *span,
+            _ => unreachable!(),
         }
     }
 

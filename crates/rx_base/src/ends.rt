@@ -10,8 +10,8 @@ pub struct Failed;
 /// Where bytes come from.
 ///
 /// `left` is the bytes still to come, where the source tells them. `drawn` is the number of bytes given so far, which every source
-/// tells. `faults` is a number that never falls. It *rose* in a call where it is higher at the call's end, or stands at
-/// 18446744073709551615 there. In a call that does not fail it stays.
+/// tells. `faults` is a number that never falls. It *rose* in a call if it is higher at the end of the call, or is
+/// 18446744073709551615 then. A call that does not fail leaves it as it was.
 pub trait Source {
     ghost left: { Self → Option (List ℕ) };
 
@@ -19,8 +19,8 @@ pub trait Source {
 
     ghost faults: { Self → ℕ };
 
-    /// Gives the next bytes, as the front of the buffer, and says how many. None for a buffer that is not empty means the end.
-    /// Answers `Failed` only where faults rose, and then gives none.
+    /// Puts the next bytes at the front of the buffer, and says how many. No bytes for a buffer that is not empty means the end.
+    /// Answers `Failed` only if `faults` rose, and then gives no bytes.
     fn read(&mut self, buf: &mut [u8]) -> Result<usize, Failed>
         ensures bound { ReadsAtMost result buf.new }
         ensures bytes { ReadConsumes (left self.old) (left self.new) result buf.new }
@@ -31,8 +31,8 @@ pub trait Source {
 
 /// Where bytes go.
 ///
-/// `taken` is the bytes accepted so far, where the sink tells them. `faults` is as that of a source. `fixed` is what no write
-/// changes, as the room of a sink.
+/// `taken` is the bytes accepted so far, where the sink tells them. `faults` is like that of a source. `fixed` is what no write
+/// changes, such as the room of a sink.
 pub trait Sink {
     ghost taken: { Self → Option (List ℕ) };
 
@@ -40,8 +40,8 @@ pub trait Sink {
 
     ghost faults: { Self → ℕ };
 
-    /// Takes the front of the piece, at least one byte where there is one, and says how many bytes. Answers `Failed` only where
-    /// faults rose, and then takes none.
+    /// Takes the front of the piece, at least one byte unless it is empty, and says how many bytes. Answers `Failed` only if
+    /// `faults` rose, and then takes none.
     fn write(&mut self, piece: &[u8]) -> Result<usize, Failed>
         ensures bound { WritesAtMost result piece.now }
         ensures moves { 0 < length piece.now → IfOk result (λ count. 0 < count) }

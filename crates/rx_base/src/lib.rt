@@ -8,6 +8,7 @@ mod diagnostic;
 mod ends;
 mod fault;
 mod fill;
+mod flags;
 mod list;
 mod memory;
 mod out_of_memory;
@@ -24,12 +25,15 @@ pub use content_eq::ContentEq;
 pub use diagnostic::{Diagnostic, DigitsKind, PropertyPart, RangeKind, SetOperator, Unterminated};
 pub use ends::{Failed, Sink, Source};
 pub use fault::Fault;
+pub use flags::is_flag;
 pub use list::List;
 pub use memory::{MemorySink, MemorySource};
 pub use out_of_memory::OutOfMemory;
 pub use span::{GetSpan, Span};
 pub use steps::{Counter, Steps};
-pub use surrogate_pair::{combine_surrogate_pair, is_lead_surrogate, is_trail_surrogate};
+pub use surrogate_pair::{
+    combine_surrogate_pair, is_lead_surrogate, is_surrogate, is_trail_surrogate,
+};
 pub use tally::Tally;
 pub use text::Text;
 pub use text_sink::TextSink;

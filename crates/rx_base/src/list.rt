@@ -5,7 +5,7 @@ use crate::OutOfMemory;
 use std::alloc::Global;
 use std::marker::Model;
 
-/// Items in order, which contracts see as the list of what was pushed and not popped.
+/// Items in order. Contracts see the list of what was pushed and not popped.
 #[derive(Debug, Drop)]
 pub struct List<T> {
     items: Vec<T>,
@@ -60,7 +60,7 @@ impl<T> List<T> {
         self.items.is_empty()
     }
 
-    /// The item at an index, or none exactly where the index is past the last.
+    /// The item at an index, or `None` exactly if the index is past the last.
     pub fn get(&self, i: usize) -> Option<&T>
         ensures value { option_copied result ≡ slice_get self.now i }
         ensures within { IsSome result ↔ (i < length self.now) }
@@ -74,7 +74,7 @@ impl<T> List<T> {
         self.items.as_slice()
     }
 
-    /// Takes the last item out, or gives none exactly where there is none.
+    /// Takes the last item out, or gives `None` exactly if the list is empty.
     pub fn pop(&mut self) -> Option<T>
         ensures { MatchOption result ((self.old ≡ []) × (self.new ≡ [])) (λ last. self.old ≡ self.new ++ last ∷ []) }
     {
@@ -98,7 +98,7 @@ impl<T> List<T> {
         *self.items.allocator()
     }
 
-    /// Gives up a list with no items, whose items need not be droppable.
+    /// Gives up an empty list, whose type of items need not be droppable.
     pub fn destroy_empty(self)
         requires { self ≡ [] }
     {
@@ -108,7 +108,7 @@ impl<T> List<T> {
 }
 
 impl<T: Drop> List<T> {
-    /// Takes memory for this many more items at once, where there is not enough already.
+    /// Takes memory for this many more items at once, unless there is enough already.
     pub fn reserve(&mut self, additional: usize) -> Result<(), OutOfMemory>
         ensures { self.new ≡ self.old }
     {

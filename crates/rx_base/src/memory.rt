@@ -45,7 +45,7 @@ impl Plan {
     }
 }
 
-/// Bytes in memory as a source, with calls that are to fail.
+/// Bytes in memory as a source. Some of its calls are to fail.
 #[derive(Drop)]
 pub struct MemorySource {
     bytes: List<u8>,
@@ -116,7 +116,7 @@ impl Source for MemorySource {
     }
 }
 
-/// A sink with room for n bytes, with calls that are to fail.
+/// A sink with room for so many bytes. Some of its calls are to fail.
 #[derive(Drop)]
 pub struct MemorySink {
     room: Vec<u8>,

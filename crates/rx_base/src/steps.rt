@@ -10,11 +10,11 @@ pub trait Counter {
     /// How many steps were counted.
     ghost count: { Self → ℕ };
 
-    /// Counts so many steps more.
+    /// Counts this many more steps.
     fn add(&mut self, steps: usize)
         ensures { Self.count self.new ≡ Self.count self.old + steps };
 
-    /// Counts one step more.
+    /// Counts one more step.
     fn tick(&mut self)
         ensures { Self.count self.new ≡ Self.count self.old + 1 }
     {
@@ -22,7 +22,7 @@ pub trait Counter {
     }
 }
 
-/// A counter that contracts alone see. It takes no bytes, and to count does nothing when the program runs.
+/// A counter that contracts alone see. It takes no bytes, and counting does nothing when the program runs.
 #[derive(Drop)]
 pub struct Steps<L: Ledger> {
     book: Book<L>,
@@ -40,7 +40,7 @@ impl<L: Ledger> Model for Steps<L> {
 }
 
 impl<L: Ledger> Steps<L> {
-    /// A counter that stands at 0. `Blank::new(1)` is what it is made of, in a function over `L`.
+    /// A counter at 0, made of `Blank::new(1)` in a function over `L`.
     pub fn new(blank: Blank) -> Steps<L>
         requires name { blank.name ≡ L.name }
         requires parts { blank.parts ≡ L.parts }

@@ -1,4 +1,5 @@
 ghost use Rattle.std.specs.Prelude.{◌≡◌, ◌↔◌, IsTrue};
+ghost use Rattle.rx_base.specs.Characters as set;
 ghost use Rattle.rx_base.specs.SurrogatePair.{IsLeadSurrogate, IsTrailSurrogate, surrogate_pair};
 
 /// Whether a code point is the first half of a pair.
@@ -13,6 +14,13 @@ pub fn is_trail_surrogate(cp: u32) -> bool
     ensures { IsTrue result ↔ IsTrailSurrogate cp }
 {
     0xDC00 <= cp && cp <= 0xDFFF
+}
+
+/// Whether a code point is either half of a pair.
+pub fn is_surrogate(cp: u32) -> bool
+    ensures { result ≡ set.is_surrogate cp }
+{
+    is_lead_surrogate(cp) || is_trail_surrogate(cp)
 }
 
 /// The code point of a pair.

@@ -9,7 +9,7 @@ use std::sync::ledger::{Blank, Ledger};
 pub struct Tally<L: Ledger> {
     steps: Steps<L>,
 
-    /// The steps, as far as the type goes.
+    /// The steps, or the greatest `u64` where there were more.
     told: u64,
 }
 
@@ -24,7 +24,7 @@ impl<L: Ledger> Model for Tally<L> {
 }
 
 impl<L: Ledger> Tally<L> {
-    /// A counter that stands at 0. `Blank::new(1)` is what it is made of, in a function over `L`.
+    /// A counter at 0, made of `Blank::new(1)` in a function over `L`.
     pub fn new(blank: Blank) -> Tally<L>
         requires name { blank.name ≡ L.name }
         requires parts { blank.parts ≡ L.parts }
@@ -37,7 +37,7 @@ impl<L: Ledger> Tally<L> {
         }
     }
 
-    /// How many steps were counted: the greatest number of the type where they pass it.
+    /// How many steps were counted, or the greatest `u64` where there were more.
     pub fn told(&self) -> u64
         ensures { result ≡ min self.now (2 ^ 64 - 1) }
     {

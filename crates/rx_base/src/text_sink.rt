@@ -4,9 +4,9 @@ ghost use Rattle.rx_base.specs.Writing.{Written};
 
 use crate::{Failed, List, OutOfMemory, Sink, Text, write_all};
 
-/// Where text goes: a sink, or a list or a text in memory, which fail where there is not enough memory.
+/// Where text goes: a sink, or a list or a text in memory. The latter two fail if there is not enough memory.
 ///
-/// The ghost members are those of a sink, of the text in UTF-8.
+/// The ghost members are those of a sink that takes the text in UTF-8.
 pub trait TextSink {
     ghost taken: { Self → Option (Sequence ℕ) };
 
@@ -45,7 +45,7 @@ impl TextSink for List<u8> {
 
     ghost taken = { λ bytes. Some bytes };
 
-    // At its last value a count allows a fault at any time.
+    // The last value of a count allows a fault at any time.
     ghost faults = { λ _. 2 ^ 64 - 1 };
 
     fn write_str(&mut self, text: &str) -> Result<(), Failed> {
@@ -79,7 +79,7 @@ impl TextSink for Text {
 
     ghost taken = { λ text. Some (encode_utf8_all text) };
 
-    // At its last value a count allows a fault at any time.
+    // The last value of a count allows a fault at any time.
     ghost faults = { λ _. 2 ^ 64 - 1 };
 
     fn write_str(&mut self, text: &str) -> Result<(), Failed> {

@@ -5,7 +5,7 @@ use std::alloc::Global;
 use std::process::Abort;
 use std::test::Fail;
 
-/// Asserts the name, the message behind its beginning, and the spans.
+/// Asserts the name, the message after its beginning, and the spans.
 fn assert_tells(
     rt: &impl Abort,
     alloc: Global,

@@ -1,4 +1,4 @@
-//! The decoders of quoted texts. A row asks for a text, and has its span and each unit that it is decoded to, with `x` or `u` behind one that was escaped
+//! The decoders of quoted texts. A row asks for a text, and has its span and each unit that it is decoded to, with `x` or `u` after one that was escaped
 //! so; or the fault and its span.
 ghost use Rattle.std.specs.Prelude.{◌+◌, ◌<◌, ◌≤◌, ◌^◌, length};
 
@@ -229,7 +229,7 @@ a«D»«A»b => 0..6: 61@1..2 A@2..4 62@4..5
 }
 
 #[test]
-fn digits_behind_backslashes_of_strings(rt: HostRuntime) -> Result<(), Fail> {
+fn digits_after_backslashes_of_strings(rt: HostRuntime) -> Result<(), Fail> {
     let rows = r"\00 => 0..5: 0@1..4
 \000 => 0..6: 0@1..5
 \0000 => 0..7: 0@1..5 30@5..6
@@ -260,7 +260,7 @@ fn digits_behind_backslashes_of_strings(rt: HostRuntime) -> Result<(), Fail> {
 }
 
 #[test]
-fn digits_behind_backslashes_of_templates(rt: HostRuntime) -> Result<(), Fail> {
+fn digits_after_backslashes_of_templates(rt: HostRuntime) -> Result<(), Fail> {
     let rows = r"\00 => 0..5: 30@1..4
 \000 => 0..6: 30@1..4 30@4..5
 \01 => 0..5: 31@1..4
@@ -590,7 +590,7 @@ fn kinds_of_strings(rt: HostRuntime) -> Result<(), Fail> {
 }
 
 #[test]
-fn readers_begin_behind_the_quote(rt: HostRuntime) -> Result<(), Fail> {
+fn readers_begin_after_the_quote(rt: HostRuntime) -> Result<(), Fail> {
     for text in [r#""\x41é""#, r"'\x41é'", r"`\x41é`"] {
         let mut reader = Reader::initialize(rt.alloc(), short(text)?, true, true)?;
         assert_eq!(rt; reader.checkpoint(), (0, 1));

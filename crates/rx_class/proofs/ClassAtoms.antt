@@ -1,9 +1,10 @@
--- What stands behind a backslash in a class, and what is answered of it.
+-- What stands after a backslash in a class, and what is answered of it.
 use Rattle.std.proofs.Common.{◌≡◌, ◌≢◌, refl, sym, ap, ◌∙◌, subst, ℕ, suc, ◌+◌, ◌-◌, ◌≤◌, ◌==◌, nat_le, Bool, true, false, not, ◌&&◌, Option, Some, None, Ok, Err, All, get_or, List, [], ◌∷◌, ◌++◌, length, min, codes, arith, inl, inr}
 use Rattle.std.proofs.lemmas.Bool.{cases_Bool, eqb-true, false_from_ne_true, not-true, true≢false}
 use Rattle.std.proofs.lemmas.Bool.Decides.{nat_tests}
 use Rattle.std.proofs.lemmas.List.{length-map}
 use Rattle.std.proofs.lemmas.List.Elements.{All-head}
+use Rattle.rx_base.specs.Characters.{is_one_of}
 use Rattle.rx_base.specs.declared.diagnostic.Diagnostic.{Diagnostic}
 use Rattle.rx_base.specs.declared.diagnostic.Diagnostic.TheVariants.{InvalidClassAtom}
 use Rattle.rx_base.specs.declared.fault.Fault.{Fault}
@@ -33,11 +34,11 @@ use Rattle.rx_model.specs.Characters.EscapeFronts.{escape_at}
 use Rattle.rx_model.specs.Characters.Escapes.{SpellsEscape, control, hexadecimal, identity, is_identity_escape, letter, null}
 use Rattle.rx_model.specs.Properties.PropertyForms.{begins_property}
 use Rattle.rx_model.specs.Refusals.Reached.{span_between, class_environment}
-use Rattle.rx_model.specs.Refusals.Stops.{begins_class_escape, is_hyphen_escaped, is_letter, is_one_of, two_hex_digits}
+use Rattle.rx_model.specs.Refusals.Stops.{begins_class_escape, is_hyphen_escaped, is_letter, two_hex_digits}
 use Rattle.rx_units.proofs.Choices.{both, chosen}
 use Rattle.rx_class.specs.declared.class_atom.ClassAtom.{ClassAtom}
 use Rattle.rx_class.specs.declared.class_atom.ClassAtom.TheVariants as atom
-use Rattle.rx_class.specs.EscapeAnswers.{GivesClassEscape, IsBehindBackslash, from_backslash, span_to}
+use Rattle.rx_class.specs.EscapeAnswers.{GivesClassEscape, IsAfterBackslash, from_backslash, span_to}
 use Rattle.rx_class.specs.EscapeAnswers as given
 use Rattle.rx_class.specs.ClassItems.{GivesAtom, StandsItem, IsOfText, alone_in_class, atom_of, atom_span, back, kind_in_class}
 use Rattle.rx_class.specs.ClassItems as answer
@@ -54,17 +55,17 @@ use Rattle.rx_model.proofs.Characters.LegacyEscapes.{IsCharacterOrNothing, any_i
 use Rattle.rx_model.proofs.Classes.ClassFronts.{any_there, class_letter}
 use Rattle.rx_model.proofs.Inputs.Modes.{unicode_alone}
 use Rattle.rx_model.proofs.Refusals.Stops.{some_there, two_number}
-use Rattle.rx_class.proofs.Behind.{StandsBehind, stands, stands_within}
+use Rattle.rx_class.proofs.After.{StandsAfter, stands, stands_within}
 use Rattle.rx_class.proofs.Gives.{nothing_in_legacy, refusal_cause, refusal_keeps}
 use Rattle.rx_class.proofs.ClassSteps.{property_place}
 use Rattle.rx_class.proofs.Modes.{hyphen_without_sets, raw_without_sets}
 use Rattle.std.proofs.Math.Bool.{and-false}
 
--- no class escape stands behind a backslash
+-- no class escape stands after a backslash
 abbrev BeginsNoClassEscape : List ℕ → Type 0
 BeginsNoClassEscape us = (kind : CharacterClassEscapeKind) (w more : List ℕ) → 92 ∷ w ≡ class_escape_text kind → us ≡ w ++ more → ⊥
 
--- Behind a backslash stands neither what is a character in classes alone, nor a class escape, nor the letter of a property escape.
+-- After a backslash stands neither what is a character in classes alone, nor a class escape, nor the letter of a property escape.
 pub record BeginsNone (e : Environment) (us : List ℕ) : Type 0 where
   pub no_alone : alone_in_class (is_unicode e.mode) us ≡ None
   pub no_class : BeginsNoClassEscape us
@@ -77,18 +78,18 @@ none_there : {A : Type 0} (o : Option A) → ((it : A) → o ≡ Some it → ⊥
 none_there None h = refl
 none_there (Some it) h = absurd (h it refl)
 
--- a class escape is one unit behind its backslash
+-- a class escape is one unit after its backslash
 one_unit : (kind : CharacterClassEscapeKind) (w : List CodePoint) → 92 ∷ values w ≡ class_escape_text kind → 1 ≡ length w
 one_unit kind w h = let letter = class_letter kind in omega (arith, ap length (h ∙ letter.text), length-map w (λ (u : CodePoint). u.value))
 
 no_letter_begins : (c : ℕ) → (c == 117) ≡ false → begins_property c ≡ false → (c == 98) ≡ false → class_escape_at c ≡ None → control_escape_value c ≡ None → is_one_of (codes "upPbdDsSwWfnrtv") c ≡ false
 no_letter_begins c u p b d f = grind (arith, nat_tests)
 
--- no escape is spelled behind a backslash
+-- no escape is spelled after a backslash
 abbrev SpellsNone : Environment → List ℕ → Type 0
 SpellsNone e us = (kind : CharacterKind) (v : ℕ) (w more : List ℕ) → us ≡ w ++ more → SpellsEscape e kind v w more → ⊥
 
--- Where nothing stands behind a backslash, no escape of a class begins.
+-- Where nothing stands after a backslash, no escape of a class begins.
 module _ (e : Environment) (unicode : is_unicode e.mode ≡ true) where
   no_control_letter : (w : List ℕ) → SpellsNone e (99 ∷ w) → front_is is_letter w ≡ true → ⊥
   no_control_letter [] none h = cc h
@@ -140,9 +141,9 @@ refusal_refuses : {added start : ℕ} {old new : Cursor} {read : EscapeRead} {d 
 refusal_refuses (found.many_digits keeps) h = h
 refusal_refuses (found.no_escape_of_u keeps) h = h
 
--- What is answered behind a backslash is answered from the backslash on.
-module _ (e : Environment) (no_sets : is_sets e.mode ≡ false) (added start : ℕ) (old : Cursor) (is : IsBehindBackslash old start) where
-  b : StandsBehind old
+-- What is answered after a backslash is answered from the backslash on.
+module _ (e : Environment) (no_sets : is_sets e.mode ≡ false) (added start : ℕ) (old : Cursor) (is : IsAfterBackslash old start) where
+  b : StandsAfter old
   b = stands old start is
 
   gives : (it : ClassAtom) (new : Cursor) (b : CodePoint) (w more : List CodePoint) → from_backslash old ≡ b ∷ (w ++ more) → SpellsAtom e (atom_of it) (b ∷ w) more → atom_obeys (atom_of it) ≡ true
@@ -153,13 +154,13 @@ module _ (e : Environment) (no_sets : is_sets e.mode ≡ false) (added start : �
       placed place = record old { place = min place (length old.units) }
 
       at : old.place + length w ≡ old.place - 1 + suc (length w)
-      at = omega (arith, is.behind)
+      at = omega (arith, is.following)
 
       span : atom_span it ≡ span_between old.units old.first added (old.place - 1) (old.place - 1 + suc (length w))
-      span = cut_off old new (length w) added start (atom_span it) is.behind is.start moves covers
+      span = cut_off old new (length w) added start (atom_span it) is.following is.start moves covers
           ∙ ap (span_between old.units old.first added (old.place - 1)) (let k : old.place - 1 + 1 + length w ≡ old.place - 1 + suc (length w) = omega arith in k)
 
-  -- a character that stands behind a backslash in classes alone
+  -- a character that stands after a backslash in classes alone
   alone_spelled : (c v : ℕ) (w : List ℕ) → alone_in_class (is_unicode e.mode) (c ∷ w) ≡ Some v → SpellsInClassAlone e.mode kinds.SingleEscape v (c ∷ []) × (nat_le v 0x10FFFF ≡ true)
   alone_spelled c v w h = elim (chosen (c == 98) h) [
     | inl p ↦ let eight : v ≡ 8 = cc p.1 in rw (eqb-true c 98 p.0, eight) (row.backspace, refl)
@@ -234,7 +235,7 @@ module _ (e : Environment) (no_sets : is_sets e.mode ≡ false) (added start : �
             covers
             ∙ ap (span_to added start) stays
             ∙ ap (λ n. record { start = n + added; end = offset_of old + added }) is.start
-            ∙ ap (span_between old.units old.first added (old.place - 1)) (let k : old.place ≡ old.place - 1 + 1 = omega (arith, is.behind) in k)
+            ∙ ap (span_between old.units old.first added (old.place - 1)) (let k : old.place ≡ old.place - 1 + 1 = omega (arith, is.following) in k)
 
 -- Where none is answered the reader stays.
 pub no_class_escape : {added start : ℕ} {old new : Cursor} → GivesClassEscape added start old new None → (new ≡ old) × BeginsNoClassEscape (values (rest old))
@@ -248,7 +249,7 @@ no_property_there : {e : Environment} {added start : ℕ} {old new : Cursor} →
 no_property_there (given_property.none stays (inl never)) = (stays, λ u. absurd (true≢false (sym u ∙ never)))
 no_property_there (given_property.none stays (inr never)) = (stays, λ u. never)
 
--- Behind the backslash stands no escape that was asked for so far.
+-- After the backslash stands no escape that was asked for so far.
 pub nothing_so_far : {e : Environment} {added start : ℕ} {old stayed new : Cursor} {us : List CodePoint} {o : Option UnicodePropertyEscape} → us ≡ rest old
     → None ≡ alone_in_class (is_unicode e.mode) (values us) → GivesClassEscape added start old stayed None → GivesProperty e added start stayed new (Ok o) → o ≡ None → (new ≡ old) × BeginsNone e (values (rest old))
 nothing_so_far {e} {added} {start} {old} {stayed} {new} {us} {o} whole alone class_gone property_gone is_none =

@@ -13,7 +13,7 @@ use Rattle.rx_class.specs.ClassBuilding.{bracket_events, builder_events}
 use Rattle.rx_class.specs.HeldMirror.{held_of}
 use Rattle.rx_class.specs.WellBuilt.{IsAround, IsWellBuilt, IsWellHeld}
 
--- a bracket behind others
+-- a bracket after others
 outer_events : (bs cs : List OpenBracket) (b : OpenBracket) → cs ≡ bs ++ (b ∷ []) → flat_map bracket_events cs ≡ flat_map bracket_events bs ++ bracket_events b
 outer_events bs cs b e =
     ap (flat_map bracket_events) e ∙ flat_map-append bracket_events bs (b ∷ []) ∙ ap (λ es. flat_map bracket_events bs ++ es) (append-nil (bracket_events b))

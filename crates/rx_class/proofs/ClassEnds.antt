@@ -94,7 +94,7 @@ module _ (e : Environment) (added : ℕ) (old : Cursor) where
     items = record { row = (refl, ap (λ (r : Cursor). r.place) (sym p.moves), refl); sound = record { fitting = tt; flagged = tt; early = tt }; no_strings = refl; holds = record { held = empty; union = tt; run = refl } };
   }
 
-  -- Behind its bracket the reader is in a class.
+  -- After its bracket the reader is in a class.
   pub begins_class : (mid new : Cursor) (negative : Bool) → starts 91 (values (rest old)) ≡ true → mid ≡ moved 1 old → negative ≡ begins (94 ∷ []) (rest mid) →
       new ≡ (if negative then moved 1 mid else mid) → IsInClass e added old new negative no_member
   begins_class mid new true h m n is =
@@ -197,7 +197,7 @@ module _ {e : Environment} {added : ℕ} {old mid : Cursor} {negative : Bool} {m
         first_gives new c.0 diagnostic c.1 (keeps_on (passes_keeps h.passes) keeps)
     refused_gives new _ (item_answer.no_memory keeps) = class_answer.no_memory (keeps_on (passes_keeps h.passes) keeps)
 
-  -- An item is read, and pushed behind the others: fewer units are left.
+  -- An item is read, and pushed after the others: fewer units are left.
   pub item_gives : (body : List CharacterClassContents) {new : Cursor} {it : ClassItem} → ms ≡ contents body → GivesItem e added mid new (Ok it) →
       IsInClass e added old new negative (contents (body ++ item_contents it)) × (length new.units - new.place < length mid.units - mid.place)
   item_gives body {new} {it} all (item_answer.some w more whole is moves) = (

@@ -1,4 +1,4 @@
--- Class escapes that are read behind a backslash.
+-- Class escapes that are read after a backslash.
 use Rattle.std.proofs.Common.{◌≡◌, ℕ, List, [], ◌∷◌, ◌++◌, Some, None, sym, ap, ◌∙◌, refl}
 use Rattle.rx_ast.specs.declared.leaf.CharacterClassEscape.{CharacterClassEscape}
 use Rattle.rx_ast.specs.declared.leaf.CharacterClassEscapeKind.{CharacterClassEscapeKind}

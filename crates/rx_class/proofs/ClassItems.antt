@@ -7,7 +7,7 @@ use Rattle.rx_ast.specs.declared.class.CharacterClassContents.{CharacterClassCon
 use Rattle.rx_ast.specs.ClassTree.{Member, Members, no_member, member, members, mirror_contents}
 use Rattle.rx_ast.specs.ClassTree as tree
 use Rattle.rx_units.specs.declared.code_point.CodePoint.{CodePoint}
-use Rattle.rx_model.specs.Classes.ClassRows.{Place, ClassRow, behind, fresh}
+use Rattle.rx_model.specs.Classes.ClassRows.{Place, ClassRow, next_place, fresh}
 use Rattle.rx_model.specs.Classes.ClassRuns.{Held, empty, bracket_of, class_run}
 use Rattle.rx_model.specs.Classes.ClassTokens.{character, escape, property, ClassToken, ClassEvents, enter, leave, token, class_tokens_of, member_events, more_members_events}
 use Rattle.rx_model.specs.Trees.Early.{AreEarlyMembers, IsEarlyMember, any_strings, member_strings}
@@ -83,7 +83,7 @@ module _ (e : Environment) (o : ℕ → ℕ) where
   rows_append ((enter n) ∷ es) fs q i us r j rest s k end h g = (h.0, rows_append es fs q i us r j rest s k end h.1 g)
   rows_append ((leave n) ∷ es) fs q i us r j rest s k end h g = (h.0, rows_append es fs q i us r j rest s k end h.1 g)
   rows_append ((token t) ∷ es) fs q i us r j rest s k end h g =
-      (h.0, h.1, h.2, h.3, rows_append es fs (behind e.mode q t h.1) (i + length h.0) h.1 r j rest s k end h.4 g)
+      (h.0, h.1, h.2, h.3, rows_append es fs (next_place e.mode q t h.1) (i + length h.0) h.1 r j rest s k end h.4 g)
 
   -- Items stand one after another from place i on to place j, where the rest is left.
   pub record AreItems (negative : Bool) (ms : Members) (i : ℕ) (us : List CodePoint) (j : ℕ) (rest : List CodePoint) : Type 0 where

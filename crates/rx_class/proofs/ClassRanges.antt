@@ -26,9 +26,10 @@ use Rattle.rx_model.specs.Trees.Early.{IsEarlyMember, member_strings}
 use Rattle.rx_model.specs.Inputs.Environment.{Environment, is_sets, is_unicode}
 use Rattle.rx_model.specs.Refusals.Reached.{span_between, class_environment}
 use Rattle.rx_units.proofs.Choices.{both}
-use Rattle.rx_model.proofs.Classes.ClassFronts.{atom_some, behind_first, behind_one}
+use Rattle.rx_model.proofs.Classes.ClassFronts.{atom_some, after_first, after_one}
 use Rattle.rx_model.proofs.Inputs.Modes.{unicode_alone}
 use Rattle.rx_model.proofs.Properties.PropertyFlags.{strings_by_name}
+use Rattle.rx_model.proofs.Classes.PieceClasses.{legacy_threes}
 use Rattle.rx_class.specs.declared.class_atom.ClassAtom.{ClassAtom}
 use Rattle.rx_class.specs.declared.class_atom.ClassAtom.TheVariants as atom
 use Rattle.rx_class.specs.declared.class_item.ClassItem.{ClassItem}
@@ -40,7 +41,7 @@ use Rattle.rx_class.specs.Fitting.{AreFitting}
 use Rattle.rx_class.proofs.Fitting.{moved_are_fitting}
 use Rattle.rx_class.proofs.Keeping.{Passes, keeps_from, passes_keeps, passes_moved, passes_on, passes_over}
 use Rattle.rx_class.proofs.ClassSteps.{operand_place}
-use Rattle.rx_class.proofs.Modes.{legacy_threes, no_strings}
+use Rattle.rx_class.proofs.Modes.{no_strings}
 use Rattle.rx_class.proofs.PropertySpans.{next_span}
 
 -- Two atoms that are no range are three items but with `u`.
@@ -51,17 +52,17 @@ unless_three {unicode} {characters} apart no_three = grind (arith, apart, no_thr
 pub three_test : {mode unicode test answer : Bool} (characters : Bool) → unicode ≡ mode → test ≡ (not unicode && not characters) → test ≡ answer → (not mode && not characters) ≡ answer
 three_test characters same is_test is_answer = ap (λ unicode. not unicode && not characters) (sym same) ∙ sym is_test ∙ is_answer
 
--- Behind an atom the reader's offsets fit as before it.
+-- After an atom the reader's offsets fit as before it.
 pub atom_fits : {e : Environment} {added : ℕ} {old new : Cursor} {it : ClassAtom} → GivesAtom e added old new (Ok it) → AreFitting added old → AreFitting added new
 atom_fits {added = added} {old = old} {new = new} (items.some w more whole spelled obeys span moves) fits = moved_are_fitting added (length w) old new fits moves
 
--- a `-` at the front, behind which an item may stand
+-- a `-` at the front, after which an item may stand
 record DashFront (us : List CodePoint) : Type 0 where
   hyphen : CodePoint
-  behind : List CodePoint
-  whole : us ≡ hyphen ∷ behind
+  following : List CodePoint
+  whole : us ≡ hyphen ∷ following
   hyphen_is : hyphen.value ≡ 45
-  stands : StandsItem behind
+  stands : StandsItem following
 
 dash_front : (us : List CodePoint) → is_dashed (values us) ≡ true → DashFront us
 dash_front [] h = absurd (let no : ⊥ = cc h in no)
@@ -70,7 +71,7 @@ dash_front (u ∷ v ∷ us) h =
     let b = both (u.value == 45) (not (v.value == 93)) h in
     record {
       hyphen = u;
-      behind = v ∷ us;
+      following = v ∷ us;
       whole = refl;
       hyphen_is = eqb-true u.value 45 b.0;
       stands = record { some = λ e. let no : ⊥ = cc e in no; no_closer = not-true (v.value == 93) b.1 };
@@ -87,12 +88,12 @@ alone_begins [] h = refl
 alone_begins (c ∷ []) h = absurd (let no : ⊥ = cc h in no)
 alone_begins (c ∷ d ∷ w) h = not-true (c == 92) (both (not (c == 92)) (not (d == 45)) h).0
 
--- A range of two units stands next, and other readers stand behind its first unit and behind the `-`.
+-- A range of two units stands next, and other readers stand after its first unit and after the `-`.
 pub record RangeFront (old to mid : Cursor) : Type 0 where
   pub low : CodePoint
   pub high : CodePoint
-  pub behind : List CodePoint
-  pub whole : rest mid ≡ high ∷ behind
+  pub following : List CodePoint
+  pub whole : rest mid ≡ high ∷ following
   pub first : rest old ≡ low ∷ rest to
   pub low_begins : (low.value == 92) ≡ false
   pub dashed : is_dashed (values (rest to)) ≡ true
@@ -115,7 +116,7 @@ range_front old to mid (u ∷ h ∷ d ∷ us) whole is t m =
     record {
       low = u;
       high = d;
-      behind = us;
+      following = us;
       whole = q.1;
       first = whole ∙ ap (λ us. u ∷ us) (sym p.1);
       low_begins = parts.0;
@@ -186,14 +187,14 @@ module _ (e : Environment) (added : ℕ) (old : Cursor) where
       let p = passes_moved (at place) new w more whole (atom_some e (atom_of it) w more spelled) moves in
       record { w = w; passes = p.0; spelled = subst (SpellsAtom e (atom_of it) w) (sym p.1) spelled; obeys = obeys; span = span }
 
-  -- Behind an atom memory ran out.
+  -- After an atom memory ran out.
   pub out_of_memory : {new : Cursor} {it : ClassAtom} → GivesAtom e added old new (Ok it) → GivesItem e added old new (Err fault.OutOfMemory)
   out_of_memory {new} {it} g = let f = atom_stands old.place new it g in items.no_memory (passes_keeps f.passes)
 
-  -- An atom with no range behind it is an item.
+  -- An atom with no range after it is an item.
   alone_row : (a : Atom) (s : Span) (w more : List CodePoint) → SpellsAtom e a w more → is_dashed (values more) ≡ false → s ≡ between (offset old.place) (offset (old.place + length w))
       → ClassRow e offset (within s (token (item a) ∷ [])) fresh old.place (w ++ more) fresh (old.place + length w) more
-  alone_row a s w more spells alone is = (ap (λ (s : Span). s.start) is, (w, more, refl, (spells, inl alone), (ap (λ (s : Span). s.end) is, (behind_one e a more alone, refl, refl))))
+  alone_row a s w more spells alone is = (ap (λ (s : Span). s.start) is, (w, more, refl, (spells, inl alone), (ap (λ (s : Span). s.end) is, (after_one e a more alone, refl, refl))))
 
   alone_is : (it : ClassAtom) (w more : List CodePoint) → is_sets e.mode ≡ false → SpellsAtom e (atom_of it) w more → atom_obeys (atom_of it) ≡ true → is_dashed (values more) ≡ false
       → atom_span it ≡ between (offset old.place) (offset (old.place + length w)) → IsItem e offset old.place (atom_member it ∷ []) w more
@@ -242,7 +243,7 @@ module _ (e : Environment) (added : ℕ) (old : Cursor) where
   dash_given {to} {new} {it} {us} {b} {start} {hyphen = hyphen_at} g same is_test is_true starts moves covers =
       let f = atom_stands old.place to it g in
       let d = dash_front us (sym is_test ∙ is_true) in
-      let p = passes_moved to new (d.hyphen ∷ []) d.behind (sym same ∙ d.whole) (omega arith) moves in
+      let p = passes_moved to new (d.hyphen ∷ []) d.following (sym same ∙ d.whole) (omega arith) moves in
       let hyphen = p.0 in
       record {
         w = f.w;
@@ -257,7 +258,7 @@ module _ (e : Environment) (added : ℕ) (old : Cursor) where
         hyphen_span = next_span to new added start hyphen_at starts moves covers ∙ ap (λ (r : Cursor). span_between r.units r.first added r.place (r.place + 1)) f.passes.moves;
       }
 
-  -- the place behind the `-`
+  -- the place after the `-`
   pub dash_at : {new : Cursor} {it : ClassAtom} {h : Span} (d : DashStands new it h) → new ≡ at (old.place + length d.w + 1)
   dash_at d = d.passes.moves ∙ ap at (omega (arith, length-append d.w (d.hyphen ∷ [])))
 
@@ -380,7 +381,7 @@ module _ (e : Environment) (added : ℕ) (old : Cursor) where
         let start = ap (λ (s : Span). s.start) p.low_span in
         let end = ap (λ (s : Span). s.end) p.high_span in
         let place : old.place + length p.w + 1 + length p.v ≡ old.place + length (p.w ++ (p.hyphen ∷ p.v)) = omega (arith, length-append p.w (p.hyphen ∷ p.v)) in
-        let behind = p.v ++ (rest new) in
+        let following = p.v ++ (rest new) in
         record {
           some = omega (arith, length-append p.w (p.hyphen ∷ p.v));
           row = (
@@ -389,14 +390,14 @@ module _ (e : Environment) (added : ℕ) (old : Cursor) where
               start,
               (
                 p.w,
-                p.hyphen ∷ behind,
+                p.hyphen ∷ following,
                 append_assoc p.w (p.hyphen ∷ p.v) (rest new),
                 (p.low_is, p.dashed, record { hyphen = p.hyphen; kind = max.kind; value = max.value; w = p.v; more = (rest new); whole = refl; hyphen_is = p.hyphen_is; spelled = p.high_is }),
                 (
                   ap (λ (s : Span). s.end) p.low_span,
                   (
                     p.hyphen ∷ [],
-                    behind,
+                    following,
                     refl,
                     ap (λ c. c ∷ []) p.hyphen_is,
                     (ap (λ (s : Span). s.start) p.high_span, (p.v, (rest new), refl, p.high_is, (end, (end, (refl, place, refl))))),
@@ -437,7 +438,7 @@ module _ (e : Environment) (added : ℕ) (old : Cursor) where
         (low, inr (inl before)),
         subst (λ q. ClassRow e offset (leave (offset (old.place + length w)) ∷ (within (between (offset (old.place + length w)) (offset (old.place + length w + 1))) (token (item (character kinds.Symbol 45)) ∷ [])
             ++ within (between (offset (old.place + length w + 1)) (offset (old.place + length w + 1 + length v))) (token (item b) ∷ []))) q (old.place + length w) (hyphen ∷ (v ++ more)) fresh
-            (old.place + length w + 1 + length v) more) (sym (behind_first e a (hyphen ∷ (v ++ more)) before))
+            (old.place + length w + 1 + length v) more) (sym (after_first e a (hyphen ∷ (v ++ more)) before))
             (refl, (refl, (hyphen ∷ [], v ++ more, refl, (refl, ap (λ c. c ∷ []) value), (refl, (refl, (v, more, refl, high, (refl, (refl, refl, refl)))))))),
       ),
     )

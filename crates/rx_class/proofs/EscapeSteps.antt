@@ -10,8 +10,8 @@ use Rattle.rx_units.specs.declared.code_point.CodePoint.{CodePoint}
 use Rattle.rx_units.specs.Units.{values}
 use Rattle.rx_units.specs.Digits.{front_is, hex_number}
 use Rattle.rx_units.proofs.Choices.{chosen}
-use Rattle.rx_model.specs.Characters.Decoding.{four_at, behind_u}
-use Rattle.rx_model.specs.Characters.EscapeFronts.{escaped, nothing, no_unicode, escaped_if, unicode_read, letter_at, two_at, escape_behind, escape_at, legacy_at}
+use Rattle.rx_model.specs.Characters.Decoding.{four_at, after_u}
+use Rattle.rx_model.specs.Characters.EscapeFronts.{escaped, nothing, no_unicode, escaped_if, unicode_read, letter_at, two_at, escape_after, escape_at, legacy_at}
 use Rattle.rx_model.specs.Characters.LegacyEscapes.{four_next, identity}
 use Rattle.rx_model.specs.Characters.UnicodeEscapes.{Decodes, SpellsUnicode, alone, braced, code_unit, pair}
 use Rattle.rx_model.specs.Inputs.Environment.{Environment}
@@ -42,9 +42,9 @@ null_some : (b : Bool) → cond b nothing (escaped kinds.Null 0 1) ≡ no_unicod
 null_some true h = cc h
 null_some false h = cc h
 
-u_behind : (c : ℕ) (w : List ℕ) (o : Option ℕ) → escape_behind false o c w ≡ no_unicode → (c == 117) ≡ true
-u_behind c w (Some v) h = absurd (let no : ⊥ = cc h in no)
-u_behind c w None h = elim (chosen (c == 99) h) [
+u_after : (c : ℕ) (w : List ℕ) (o : Option ℕ) → escape_after false o c w ≡ no_unicode → (c == 117) ≡ true
+u_after c w (Some v) h = absurd (let no : ⊥ = cc h in no)
+u_after c w None h = elim (chosen (c == 99) h) [
   | inl p ↦ absurd (if_some kinds.ControlLetter 2 (letter_at w) p.1)
   | inr p ↦ elim (chosen (c == 48) p.1) [
     | inl q ↦ absurd (null_some (front_is is_decimal_digit w) q.1)
@@ -59,11 +59,11 @@ u_behind c w None h = elim (chosen (c == 99) h) [
 ]
 
 -- and no four digits follow it
-no_number : (rest : List ℕ) (a b c d : ℕ) (o : Option ℕ) → hex_number (a ∷ b ∷ c ∷ d ∷ []) ≡ o → unicode_read (behind_u false (four_at (a ∷ b ∷ c ∷ d ∷ rest)) (a ∷ b ∷ c ∷ d ∷ rest)) ≡ no_unicode → is_some o ≡ false
+no_number : (rest : List ℕ) (a b c d : ℕ) (o : Option ℕ) → hex_number (a ∷ b ∷ c ∷ d ∷ []) ≡ o → unicode_read (after_u false (four_at (a ∷ b ∷ c ∷ d ∷ rest)) (a ∷ b ∷ c ∷ d ∷ rest)) ≡ no_unicode → is_some o ≡ false
 no_number rest a b c d None e h = refl
 no_number rest a b c d (Some v) e h = absurd (let k = rw e at h in let no : ⊥ = cc k in no)
 
-no_four : (w : List ℕ) → unicode_read (behind_u false (four_at w) w) ≡ no_unicode → is_some (four_next w) ≡ false
+no_four : (w : List ℕ) → unicode_read (after_u false (four_at w) w) ≡ no_unicode → is_some (four_next w) ≡ false
 no_four [] h = refl
 no_four (a ∷ []) h = refl
 no_four (a ∷ b ∷ []) h = refl
@@ -89,7 +89,7 @@ at_u inside e c w is h = let k = rw is at h in rw is (u_alone inside e w (no_fou
 pub stands_for_itself : (inside : Bool) (e : Environment) (w : List ℕ) → escape_at false w ≡ no_unicode → legacy_at inside e w ≡ escaped kinds.Identifier 117 1
 unfolding escape_at
 stands_for_itself inside e [] h = absurd (let no : ⊥ = cc h in no)
-stands_for_itself inside e (c ∷ w) h = at_u inside e c w (eqb-true c 117 (u_behind c w (control_escape_value c) h)) h
+stands_for_itself inside e (c ∷ w) h = at_u inside e c w (eqb-true c 117 (u_after c w (control_escape_value c) h)) h
 
 -- A character that was found is known by what is seen of it.
 character_seen : (k : CharacterKind) (v n : ℕ) (answer : EscapeFound) → seen_escape answer ≡ escaped k v n → answer ≡ found.Character k v n

@@ -5,7 +5,7 @@ use Rattle.std.proofs.lemmas.List.Elements.{All-head, All-tail}
 use Rattle.rx_units.specs.declared.code_point.CodePoint.{CodePoint}
 use Rattle.rx_units.specs.Cursor.{Cursor, moved, offset_of}
 use Rattle.rx_units.specs.Units.{end_of, offset_at}
-use Rattle.rx_class.specs.EscapeAnswers.{IsBehindBackslash}
+use Rattle.rx_class.specs.EscapeAnswers.{IsAfterBackslash}
 use Rattle.rx_class.specs.Fitting.{AreFitting}
 
 end_fits : (added first : ℕ) (us : List CodePoint) (n : ℕ) → first + added < 2 ^ 32 → All (λ unit. unit.span.end + added < 2 ^ 32) us → end_of first (take n us) + added < 2 ^ 32
@@ -33,7 +33,7 @@ pub offset_moved_fits : (added n offset : ℕ) (r s : Cursor) → AreFitting add
 offset_moved_fits added n offset r s f e is = subst (λ k. k + added < 2 ^ 32) (sym is) (moved_fits added n r s f e)
 
 -- and of the offset before the backslash
-pub start_fits : (added start : ℕ) (r : Cursor) → AreFitting added r → IsBehindBackslash r start → start + added < 2 ^ 32
+pub start_fits : (added start : ℕ) (r : Cursor) → AreFitting added r → IsAfterBackslash r start → start + added < 2 ^ 32
 start_fits added start r f is = subst (λ k. k + added < 2 ^ 32) (sym is.start) (offset_fits added r.first r.units (r.place - 1) f.first f.ends)
 
 -- A reader that moves stays so.

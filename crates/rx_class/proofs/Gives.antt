@@ -1,4 +1,4 @@
--- What is read behind a backslash is what is answered.
+-- What is read after a backslash is what is answered.
 use Rattle.std.proofs.Common.{◌≡◌, ℕ, ◌+◌, ◌-◌, ◌≤◌, ◌==◌, ◌&&◌, Bool, true, false, cond, Option, List, [], ◌∷◌, ◌++◌, length, min, Some, None, Result, Err, arith, inl, inr, sym, ap, ap₂, ◌∙◌, refl, subst, length-drop}
 use Rattle.std.proofs.lemmas.Bool.{cases_Bool, cond-false, eqb-true}
 use Rattle.std.proofs.lemmas.List.{length-map}
@@ -22,13 +22,13 @@ use Rattle.rx_units.proofs.Choices.{chosen}
 use Rattle.rx_model.proofs.Characters.Escapes.{escape_no_unicode, escape_nothing, escape_spelled, escape_too_many, spelled_escape}
 use Rattle.rx_model.proofs.Characters.LegacyEscapes.{IsCharacterOrNothing, any_in_unicode, any_legacy_read, any_read, any_refused, any_spelled}
 use Rattle.rx_model.proofs.Reading.Splits.{split_values}
-use Rattle.rx_model.proofs.Refusals.LegacyStops.{atom_behind_backslash}
+use Rattle.rx_model.proofs.Refusals.LegacyStops.{atom_after_backslash}
 use Rattle.rx_model.proofs.Refusals.OneEscape.{escape_is_first}
-use Rattle.rx_class.specs.EscapeAnswers.{BeginsNoEscape, GivesCharacter, IsBehindBackslash, SpellsCharacter, from_backslash, in_each_mode, in_legacy_mode, span_to}
+use Rattle.rx_class.specs.EscapeAnswers.{BeginsNoEscape, GivesCharacter, IsAfterBackslash, SpellsCharacter, from_backslash, in_each_mode, in_legacy_mode, span_to}
 use Rattle.rx_class.specs.EscapeAnswers as given
 use Rattle.rx_class.specs.Found.{AnswersFound, many_digits, no_escape_of_u, none, shared_escape_at, some}
 use Rattle.rx_class.specs.Keeping.{KeepsUnits}
-use Rattle.rx_class.proofs.Behind.{from_backslash_values}
+use Rattle.rx_class.proofs.After.{from_backslash_values}
 use Rattle.rx_class.proofs.Keeping.{keeps_on, moved_keeps}
 use Rattle.std.proofs.Math.Bool.{and-false}
 
@@ -37,13 +37,13 @@ moved_within : (n : ℕ) (r : Cursor) → 1 ≤ n → n ≤ length (rest r) → 
 moved_within n r one within = let left = length-drop r.place r.units in grind arith
 
 module _ (added start : ℕ) (old : Cursor) where
-  pub many_digits_answered : (count : ℕ) (behind new : Cursor) (span : Span) → count + 2 ≤ length (rest old) → behind ≡ moved 2 old
-      → span ≡ span_between behind.units behind.first added behind.place (behind.place + count) → KeepsUnits behind new
+  pub many_digits_answered : (count : ℕ) (following new : Cursor) (span : Span) → count + 2 ≤ length (rest old) → following ≡ moved 2 old
+      → span ≡ span_between following.units following.first added following.place (following.place + count) → KeepsUnits following new
       → AnswersFound added start old new (too_many count) (Err (TooLargeNumberDigits span Hex))
-  many_digits_answered count behind new span within moves covers keeps =
+  many_digits_answered count following new span within moves covers keeps =
       let on = ap (λ (r : Cursor). span_between r.units r.first added r.place (r.place + count)) moves in
       let place = ap (λ place. span_between old.units old.first added place (place + count)) (moved_within 2 old (omega arith) (omega arith)) in
-      rw (covers ∙ on ∙ place) (many_digits (keeps_on (moved_keeps 2 old behind moves) keeps))
+      rw (covers ∙ on ∙ place) (many_digits (keeps_on (moved_keeps 2 old following moves) keeps))
 
   pub invalid_answered : (new : Cursor) (span : Span) → span ≡ span_between old.units old.first added old.place (old.place + 1) → KeepsUnits old new
       → AnswersFound added start old new no_unicode (Err (InvalidUnicodeEscapeSequence span))
@@ -68,7 +68,7 @@ module _ (e : Environment) where
   pub nothing_in_legacy : (c : ℕ) (w : List ℕ) → is_unicode e.mode ≡ false → (c == 98) ≡ false → class_escape_at c ≡ None → any_escape_at true e (c ∷ w) ≡ nothing → (c == 107 && e.named) ≡ true
   nothing_in_legacy c w m b d h = elim (cases_Bool (c == 107 && e.named)) [
     | inl k ↦ k
-    | inr k ↦ let t = atom_behind_backslash e m c w k in let no : ⊥ = grind (arith, m, b, d, h, t.2, and-false (is_hyphen_escaped e.mode)) in absurd no
+    | inr k ↦ let t = atom_after_backslash e m c w k in let no : ⊥ = grind (arith, m, b, d, h, t.2, and-false (is_hyphen_escaped e.mode)) in absurd no
   ]
 
   u_begins_one : (w : List ℕ) → any_escape_at true e (117 ∷ w) ≡ nothing → ⊥
@@ -119,20 +119,20 @@ module _ (e : Environment) where
     | inr p ↦ any_refused true e w r p.1 never
   ]
 
-  module _ (added start : ℕ) (old new : Cursor) (is : IsBehindBackslash old start) where
+  module _ (added start : ℕ) (old new : Cursor) (is : IsAfterBackslash old start) where
     abbrev IsCauseHere : Diagnostic → Type 0
     IsCauseHere = IsEscapeCause e.mode old.units old.first added (old.place - 1) (from_backslash old)
 
     -- What is refused with `u` or `v` is refused for a cause.
     pub refusal_cause : (read : EscapeRead) (d : Diagnostic) → is_unicode e.mode ≡ true → escape_at true (values (rest old)) ≡ read → AnswersFound added start old new read (Err d) → IsCauseHere d
     refusal_cause _ _ unicode read (many_digits {count} keeps) =
-        subst (λ place. IsCauseHere (TooLargeNumberDigits (span_between old.units old.first added place (place + count)) Hex)) (let k : old.place - 1 + 3 ≡ old.place + 2 = omega (arith, is.behind) in k)
+        subst (λ place. IsCauseHere (TooLargeNumberDigits (span_between old.units old.first added place (place + count)) Hex)) (let k : old.place - 1 + 3 ≡ old.place + 2 = omega (arith, is.following) in k)
         (too_many_hex_digits count (values (rest old)) unicode (from_backslash_values old start is) (escape_too_many (values (rest old)) count read))
     refusal_cause _ _ unicode read (no_escape_of_u keeps) =
         let no = escape_no_unicode (values (rest old)) read in
-        let at = ap₂ (span_between old.units old.first added) (let k : old.place - 1 + 1 ≡ old.place = omega (arith, is.behind) in k) (let k : old.place - 1 + 2 ≡ old.place + 1 = omega (arith, is.behind) in k) in
+        let at = ap₂ (span_between old.units old.first added) (let k : old.place - 1 + 1 ≡ old.place = omega (arith, is.following) in k) (let k : old.place - 1 + 2 ≡ old.place + 1 = omega (arith, is.following) in k) in
         subst (λ span. IsCauseHere (InvalidUnicodeEscapeSequence span)) at
-        (invalid_escape no.behind unicode (from_backslash_values old start is ∙ ap (λ us. 92 ∷ us) no.whole) (rw no.whole at no.no_value) (rw no.whole at no.no_limit))
+        (invalid_escape no.following unicode (from_backslash_values old start is ∙ ap (λ us. 92 ∷ us) no.whole) (rw no.whole at no.no_value) (rw no.whole at no.no_limit))
 
     pub refusal_keeps : (read : EscapeRead) (d : Diagnostic) → AnswersFound added start old new read (Err d) → KeepsUnits old new
     refusal_keeps _ _ (many_digits keeps) = keeps

@@ -9,16 +9,16 @@ use Rattle.std.proofs.lemmas.Bool.Decides.{nat_tests}
 use Rattle.rx_tables.specs.Characters.{hex_digit_value, is_decimal_digit}
 use Rattle.rx_units.specs.declared.code_point.CodePoint.{CodePoint}
 use Rattle.rx_units.specs.Units.{values}
-use Rattle.rx_units.specs.Digits.{hex_behind, is_hex_digit}
+use Rattle.rx_units.specs.Digits.{hex_after, is_hex_digit}
 use Rattle.rx_model.specs.Characters.LegacyEscapes.{four_next, run_number, two_next}
 
 -- characters spell a number where all of them are digits
-digits_on : (n : ℕ) (w : List ℕ) (o : Option ℕ) → ((d : ℕ) → is_some (hex_behind (16 * n + d) w) ≡ list_all is_hex_digit w)
-    → is_some (option_and_then (λ d. hex_behind (16 * n + d) w) o) ≡ (is_some o && list_all is_hex_digit w)
+digits_on : (n : ℕ) (w : List ℕ) (o : Option ℕ) → ((d : ℕ) → is_some (hex_after (16 * n + d) w) ≡ list_all is_hex_digit w)
+    → is_some (option_and_then (λ d. hex_after (16 * n + d) w) o) ≡ (is_some o && list_all is_hex_digit w)
 digits_on n w None h = refl
 digits_on n w (Some d) h = h d
 
-all_hex : (n : ℕ) (w : List ℕ) → is_some (hex_behind n w) ≡ list_all is_hex_digit w
+all_hex : (n : ℕ) (w : List ℕ) → is_some (hex_after n w) ≡ list_all is_hex_digit w
 all_hex n [] = refl
 all_hex n (c ∷ w) = digits_on n w (hex_digit_value c) (λ d. all_hex (16 * n + d) w)
 

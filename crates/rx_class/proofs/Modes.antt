@@ -1,11 +1,13 @@
 -- What the truth values of a state say of its mode, and what classes hold without `v`.
-use Rattle.std.proofs.Common.{◌≡◌, refl, ℕ, ◌==◌, ◌||◌, not, Bool, true, false, Option, List}
+use Rattle.std.proofs.Common.{◌≡◌, refl, ℕ, ◌==◌, ◌||◌, not, Bool, true, false, Option, List, ap, codes, arith}
+use Rattle.std.proofs.lemmas.Bool.Decides.{nat_tests}
 use Rattle.rx_model.specs.declared.mode.Mode.{Mode}
 use Rattle.rx_model.specs.declared.mode.Mode.TheVariants.{Legacy, Unicode, Sets}
-use Rattle.rx_model.specs.Classes.ClassRows.{has_hyphen, has_threes, stands_raw_in_class}
+use Rattle.rx_model.specs.Classes.ClassRows.{has_hyphen, stands_raw_in_class}
 use Rattle.rx_model.specs.Inputs.Environment.{is_sets, is_unicode}
 use Rattle.rx_model.specs.Inputs.Modes.{mode_by}
 use Rattle.rx_model.specs.Properties.PropertyEscapes.{SpellsProperty}
+use Rattle.rx_base.specs.Characters.{is_one_of}
 use Rattle.rx_model.proofs.Classes.ClassWholes.{only_sets}
 use Rattle.rx_model.proofs.Inputs.Modes.{not_sets}
 use Rattle.rx_class.specs.PropertyFound.{HasProperties}
@@ -31,22 +33,19 @@ sets_by false false = refl
 pub state_has_properties : (u v : Bool) → is_unicode (mode_by u v) ≡ true → HasProperties v (mode_by u v)
 state_has_properties u v h = record { unicode = h; sets_is = sets_by u v }
 
+one_of_three : (c : ℕ) → is_one_of (codes "\\]-") c ≡ (c == 92 || c == 93 || c == 45)
+one_of_three c = grind (arith, nat_tests)
+
 -- Without `v` a unit that is neither a backslash, nor `]`, nor `-` stands for itself in a class, whatever follows it, and so does a `-`.
 pub raw_without_sets : (mode : Mode) (c : ℕ) (w : List ℕ) → is_sets mode ≡ false → stands_raw_in_class mode c w ≡ not (c == 92 || c == 93 || c == 45)
-raw_without_sets Legacy c w no_sets = refl
-raw_without_sets Unicode c w no_sets = refl
+raw_without_sets Legacy c w no_sets = ap not (one_of_three c)
+raw_without_sets Unicode c w no_sets = ap not (one_of_three c)
 raw_without_sets Sets c w no_sets = absurd (let no : ⊥ = cc no_sets in no)
 
 pub hyphen_without_sets : (mode : Mode) → is_sets mode ≡ false → has_hyphen mode ≡ true
 hyphen_without_sets Legacy no_sets = refl
 hyphen_without_sets Unicode no_sets = refl
 hyphen_without_sets Sets no_sets = absurd (let no : ⊥ = cc no_sets in no)
-
--- Where no escape is that of a unicode mode three items may stand.
-pub legacy_threes : (mode : Mode) → is_unicode mode ≡ false → has_threes mode ≡ true
-legacy_threes Legacy h = refl
-legacy_threes Unicode h = absurd (let no : ⊥ = cc h in no)
-legacy_threes Sets h = absurd (let no : ⊥ = cc h in no)
 
 -- No property is one of strings.
 pub no_strings : (mode : Mode) (strings : Bool) (name : List ℕ) (value : Option (List ℕ)) (text : List ℕ) → is_sets mode ≡ false → SpellsProperty mode strings name value text → strings ≡ false

@@ -11,7 +11,7 @@ use Rattle.rx_ast.specs.ClassTree as tree
 use Rattle.rx_ast.specs.ClassTree.{Member, members, nested, mirror_class, mirror_contents}
 use Rattle.rx_ast.proofs.ClassEquations.{nested_is}
 use Rattle.rx_model.specs.Classes.ClassRuns as runs
-use Rattle.rx_model.specs.Classes.ClassRuns.{Bracket, Brackets, behind_step, bracket_of, class_opened, class_run, class_step, is_whole, with_strings}
+use Rattle.rx_model.specs.Classes.ClassRuns.{Bracket, Brackets, after_step, bracket_of, class_opened, class_run, class_step, is_whole, with_strings}
 use Rattle.rx_model.specs.Classes.ClassTokens.{ClassEvents, ClassToken, enter, leave, token, bracket, closer, class_events, class_tokens_of, member_events, members_events}
 use Rattle.rx_model.specs.Classes.ClassTokens as tokens
 use Rattle.rx_model.specs.Trees.Early.{member_strings}
@@ -69,8 +69,8 @@ opens_on b es more cs is opens run =
     ap (λ es. class_opened (class_tokens_of es)) is ∙ ap class_opened (tokens_append (bracket_events b) more)
     ∙ class_opened-append (class_tokens_of (bracket_events b)) (class_tokens_of more) (bracket_at b ∷ []) opens ∙ run
 
-abbrev behind_bracket : OpenBracket → ClassEvents → ClassEvents
-behind_bracket b es = enter b.start ∷ token (bracket b.negative) ∷ es
+abbrev after_bracket : OpenBracket → ClassEvents → ClassEvents
+after_bracket b es = enter b.start ∷ token (bracket b.negative) ∷ es
 
 -- with an operand or a range more
 module _ (b : OpenBracket) (ys : List CharacterClassContents) (y : CharacterClassContents) (held : Held) (strings : Bool) (is : ys ≡ b.body ++ (y ∷ []))
@@ -80,7 +80,7 @@ module _ (b : OpenBracket) (ys : List CharacterClassContents) (y : CharacterClas
 
   pub push_events : bracket_events (record b { held = held; strings = strings; body = ys }) ≡ bracket_events b ++ member_events (mirror_contents y)
   unfolding bracket_events
-  push_events = ap (λ ms. behind_bracket b (held_events (held_of held) ms)) (contents_pushed b.body ys y is) ∙ ap (behind_bracket b) push_grows.events
+  push_events = ap (λ ms. after_bracket b (held_events (held_of held) ms)) (contents_pushed b.body ys y is) ∙ ap (after_bracket b) push_grows.events
 
   pub push_well : IsSound (mirror_contents y) → strings ≡ with_strings (held_of b.held) b.strings (member_strings (mirror_contents y)) →
       IsWellHeld (record b { held = held; strings = strings; body = ys })
@@ -102,7 +102,7 @@ module _ (b : OpenBracket) (held : Held) (operator : ClassToken) (well : IsWellH
     (steps : class_step operator (bracket_at b ∷ []) ≡ Some (bracket_at (record b { held = held }) ∷ [])) where
   pub operator_events : bracket_events (record b { held = held }) ≡ bracket_events b ++ (token operator ∷ [])
   unfolding bracket_events
-  operator_events = ap (behind_bracket b) grows.events
+  operator_events = ap (after_bracket b) grows.events
 
   pub operator_well : IsWellHeld (record b { held = held })
   operator_well = record {
@@ -111,7 +111,7 @@ module _ (b : OpenBracket) (held : Held) (operator : ClassToken) (well : IsWellH
     strings = well.strings ∙ sym grows.strings;
     opens =
         opens_on b (bracket_events (record b { held = held })) (token operator ∷ []) (bracket_at (record b { held = held }) ∷ []) operator_events well.opens
-        (ap (λ after. behind_step after (λ brackets. class_run [] brackets)) steps);
+        (ap (λ after. after_step after (λ brackets. class_run [] brackets)) steps);
   }
 
 -- the class that a whole bracket is
@@ -120,7 +120,7 @@ module _ (b : OpenBracket) (end : ℕ) (whole : is_whole (held_of b.held) ≡ tr
   unfolding bracket_events
   closed_events =
       let es : ClassEvents = members_events (tokens.operator_events (kind_of (held_of b.held))) (contents b.body) in
-      ap (behind_bracket b)
+      ap (after_bracket b)
       (append_assoc es (token closer ∷ []) (leave end ∷ [])
       ∙ ap (λ fs. fs ++ (token closer ∷ leave end ∷ [])) (sym (whole_fits (held_of b.held) (contents b.body) whole well.held).1))
 

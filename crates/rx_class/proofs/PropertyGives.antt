@@ -1,4 +1,4 @@
--- What is found behind a backslash is what the reader of property escapes answers.
+-- What is found after a backslash is what the reader of property escapes answers.
 use Rattle.std.proofs.Common.{◌≡◌, ℕ, ◌-◌, ◌∷◌, Some, Ok, Err, length, sym, ap, ◌∙◌, subst, arith, Bool}
 use Rattle.std.proofs.lemmas.List.{length-map}
 use Rattle.rx_base.specs.declared.diagnostic.Diagnostic.{Diagnostic}
@@ -11,17 +11,17 @@ use Rattle.rx_model.specs.Inputs.Environment.{Environment}
 use Rattle.rx_model.specs.Refusals.EscapeCauses.{IsPropertyCause}
 use Rattle.rx_model.specs.Refusals.Firsts.{of_property}
 use Rattle.rx_model.proofs.Refusals.OneEscape.{escape_is_first}
-use Rattle.rx_class.specs.EscapeAnswers.{IsBehindBackslash, from_backslash, span_to}
+use Rattle.rx_class.specs.EscapeAnswers.{IsAfterBackslash, from_backslash, span_to}
 use Rattle.rx_class.specs.Keeping.{KeepsUnits}
 use Rattle.rx_class.specs.PropertyAnswers.{GivesProperty, some, refused}
-use Rattle.rx_class.specs.PropertyFound.{HasProperties, IsPropertyBehind, IsPropertyHalt, property_refusal}
+use Rattle.rx_class.specs.PropertyFound.{HasProperties, IsPropertyAfter, IsPropertyHalt, property_refusal}
 use Rattle.rx_class.specs.declared.property_found.PropertyHalt.{PropertyHalt}
-use Rattle.rx_class.proofs.Behind.{from_backslash_values, stands}
+use Rattle.rx_class.proofs.After.{from_backslash_values, stands}
 use Rattle.rx_model.proofs.Reading.Splits.{split_values}
 use Rattle.rx_model.proofs.Properties.PropertyRefusals.{cause_begins_no_property}
 
-module _ (e : Environment) (added start : ℕ) (old : Cursor) (is : IsBehindBackslash old start) where
-  pub property_gives : {sets : Bool} → HasProperties sets e.mode → (it : UnicodePropertyEscape) (new : Cursor) (count : ℕ) → IsPropertyBehind e.mode (values (rest old)) it.negative it.strings it.name it.value count
+module _ (e : Environment) (added start : ℕ) (old : Cursor) (is : IsAfterBackslash old start) where
+  pub property_gives : {sets : Bool} → HasProperties sets e.mode → (it : UnicodePropertyEscape) (new : Cursor) (count : ℕ) → IsPropertyAfter e.mode (values (rest old)) it.negative it.strings it.name it.value count
       → it.span ≡ span_to added start new → new ≡ moved count old → GivesProperty e added start old new (Ok (Some it))
   property_gives has it new count found span moves =
       let b = stands old start is in

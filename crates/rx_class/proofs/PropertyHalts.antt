@@ -1,4 +1,4 @@
--- What is found behind `\p{` and `\P{` is what stands there, in a mode that has properties.
+-- What is found after `\p{` and `\P{` is what stands there, in a mode that has properties.
 use Rattle.std.proofs.Common.{◌≡◌, ◌≢◌, ℕ, ◌+◌, ◌-◌, ◌<◌, ◌≤◌, ◌==◌, ◌⊎◌, get_or, take, drop, inl, inr, Bool, true, false, ◌&&◌, List, [], ◌∷◌, ◌++◌, Option, Some, length, refl, sym, ap, ◌∙◌, subst, arith, length-append}
 use Rattle.std.proofs.lemmas.Bool.{eqb-true, false_from_ne_true}
 use Rattle.std.proofs.lemmas.List.{append_assoc, take_all}
@@ -18,7 +18,7 @@ use Rattle.rx_class.specs.declared.property_found.Lone.{Lone}
 use Rattle.rx_model.proofs.Classes.ClassFronts.{sets_is}
 use Rattle.rx_model.proofs.Inputs.Modes.{not_sets, unicode_alone}
 use Rattle.rx_model.proofs.Reading.Splits.{starts_there}
-use Rattle.rx_class.specs.PropertyFound.{HasProperties, IsLone, IsPropertyBehind, IsPropertyHalt, is_known, property_letter, unknown_halt}
+use Rattle.rx_class.specs.PropertyFound.{HasProperties, IsLone, IsPropertyAfter, IsPropertyHalt, is_known, property_letter, unknown_halt}
 use Rattle.rx_scan.proofs.MarkSteps.{values_length}
 
 letter_begins : (negative : Bool) → begins_property (property_letter negative) ≡ true
@@ -34,16 +34,16 @@ module _ {sets : Bool} {mode : Mode} (has : HasProperties sets mode) (negative :
   begins rest w whole = record { letter = property_letter negative; unicode = has.unicode; letter_is = letter_begins negative; whole = whole }
 
   -- no `{` follows
-  pub no_brace : (behind : List ℕ) → starts 123 behind ≡ false → IsPropertyHalt mode (property_letter negative ∷ behind) (halt.Unterminated 1)
-  no_brace behind other us rest first added place whole =
+  pub no_brace : (following : List ℕ) → starts 123 following ≡ false → IsPropertyHalt mode (property_letter negative ∷ following) (halt.Unterminated 1)
+  no_brace following other us rest first added place whole =
       let e : place + 1 + 1 ≡ place + 2 = omega arith in
-      rw e (no_property (property_letter negative) behind has.unicode whole (letter_begins negative) other)
+      rw e (no_property (property_letter negative) following has.unicode whole (letter_begins negative) other)
 
-  -- a text and the `}` behind it are a property
-  spelled_before : (strings : Bool) (name : List ℕ) (value : Option (List ℕ)) (text w behind : List ℕ) (n : ℕ) → w ≡ text ++ behind → starts 125 behind ≡ true → SpellsProperty mode strings name value text
-      → n ≡ 3 + length text → (negative && strings) ≡ false → IsPropertyBehind mode (property_letter negative ∷ 123 ∷ w) negative strings name value n
-  spelled_before strings name value text w behind n there closed spelled count obeys =
-      let close = starts_there 125 behind closed in
+  -- a text and the `}` after it are a property
+  spelled_before : (strings : Bool) (name : List ℕ) (value : Option (List ℕ)) (text w following : List ℕ) (n : ℕ) → w ≡ text ++ following → starts 125 following ≡ true → SpellsProperty mode strings name value text
+      → n ≡ 3 + length text → (negative && strings) ≡ false → IsPropertyAfter mode (property_letter negative ∷ 123 ∷ w) negative strings name value n
+  spelled_before strings name value text w following n there closed spelled count obeys =
+      let close = starts_there 125 following closed in
       record {
         text = text;
         spelled = spelled;
@@ -55,60 +55,60 @@ module _ {sets : Bool} {mode : Mode} (has : HasProperties sets mode) (negative :
         obeys = obeys;
       }
 
-  module _ (w : List ℕ) (name value behind : List CodePoint) (p : HasPair w (values name) (values value) (values behind)) where
-    pub pair_unclosed : IsValidUnicodeProperty (values name) (values value) → starts 125 (values behind) ≡ false
+  module _ (w : List ℕ) (name value following : List CodePoint) (p : HasPair w (values name) (values value) (values following)) where
+    pub pair_unclosed : IsValidUnicodeProperty (values name) (values value) → starts 125 (values following) ≡ false
         → IsPropertyHalt mode (property_letter negative ∷ 123 ∷ w) (halt.Unterminated (3 + length name + length value))
     pair_unclosed valid unclosed us rest first added place whole =
         let e : place + 1 + (3 + length name + length value) ≡ place + 4 + length (values name) + length (values value) = omega (arith, values_length name, values_length value) in
-        rw e (unclosed_pair w (values name) (values value) (values behind) (begins rest w whole) p valid unclosed)
+        rw e (unclosed_pair w (values name) (values value) (values following) (begins rest w whole) p valid unclosed)
 
     pub pair_unknown : (IsValidUnicodeProperty (values name) (values value) → ⊥) → IsPropertyHalt mode (property_letter negative ∷ 123 ∷ w) (halt.Name (3 + length name) (length value))
     pair_unknown unknown us rest first added place whole =
         let e : place + 1 + (3 + length name) ≡ place + 4 + length (values name) = omega (arith, values_length name) in
-        rw (e, sym (values_length value)) (unknown_pair w (values name) (values value) (values behind) (begins rest w whole) p unknown)
+        rw (e, sym (values_length value)) (unknown_pair w (values name) (values value) (values following) (begins rest w whole) p unknown)
 
-    pub pair_spelled : IsValidUnicodeProperty (values name) (values value) → starts 125 (values behind) ≡ true
-        → IsPropertyBehind mode (property_letter negative ∷ 123 ∷ w) negative false (values name) (Some (values value)) (4 + length name + length value)
+    pub pair_spelled : IsValidUnicodeProperty (values name) (values value) → starts 125 (values following) ≡ true
+        → IsPropertyAfter mode (property_letter negative ∷ 123 ∷ w) negative false (values name) (Some (values value)) (4 + length name + length value)
     pair_spelled valid closed =
-        let whole = p.whole ∙ ap (λ v. values name ++ (61 ∷ v)) p.run.whole ∙ sym (append_assoc (values name) (61 ∷ values value) (values behind)) in
-        spelled_before false (values name) (Some (values value)) (values name ++ (61 ∷ values value)) w (values behind) (4 + length name + length value) whole closed (pair valid)
+        let whole = p.whole ∙ ap (λ v. values name ++ (61 ∷ v)) p.run.whole ∙ sym (append_assoc (values name) (61 ∷ values value) (values following)) in
+        spelled_before false (values name) (Some (values value)) (values name ++ (61 ∷ values value)) w (values following) (4 + length name + length value) whole closed (pair valid)
         (omega (arith, length-append (values name) (61 ∷ values value), values_length name, values_length value)) (and-false negative)
 
-  module _ (w : List ℕ) (run behind : List CodePoint) (r : HasRun w (values run) (values behind)) where
+  module _ (w : List ℕ) (run following : List CodePoint) (r : HasRun w (values run) (values following)) where
     cut_off_at : (place : ℕ) → place + 1 + (2 + length run) ≡ place + 3 + length (values run)
     cut_off_at place = omega (arith, values_length run)
 
-    pub run_unterminated : (values run ≡ []) ⊎ (values behind ≡ []) → IsPropertyHalt mode (property_letter negative ∷ 123 ∷ w) (halt.Unterminated (2 + length run))
-    run_unterminated short us rest first added place whole = rw (cut_off_at place) (unterminated_run w (values run) (values behind) (begins rest w whole) r short)
+    pub run_unterminated : (values run ≡ []) ⊎ (values following ≡ []) → IsPropertyHalt mode (property_letter negative ∷ 123 ∷ w) (halt.Unterminated (2 + length run))
+    run_unterminated short us rest first added place whole = rw (cut_off_at place) (unterminated_run w (values run) (values following) (begins rest w whole) r short)
 
-    pub run_unclosed : IsKnownRun mode (values run) → values behind ≢ [] → starts 125 (values behind) ≡ false → IsPropertyHalt mode (property_letter negative ∷ 123 ∷ w) (halt.Unterminated (2 + length run))
-    run_unclosed known some unclosed us rest first added place whole = rw (cut_off_at place) (unclosed_run w (values run) (values behind) (begins rest w whole) r known some unclosed)
+    pub run_unclosed : IsKnownRun mode (values run) → values following ≢ [] → starts 125 (values following) ≡ false → IsPropertyHalt mode (property_letter negative ∷ 123 ∷ w) (halt.Unterminated (2 + length run))
+    run_unclosed known some unclosed us rest first added place whole = rw (cut_off_at place) (unclosed_run w (values run) (values following) (begins rest w whole) r known some unclosed)
 
-    pub run_unknown : (lone : Lone) → IsLone (values run) lone → values run ≢ [] → values behind ≢ [] → is_known lone sets ≡ false
+    pub run_unknown : (lone : Lone) → IsLone (values run) lone → values run ≢ [] → values following ≢ [] → is_known lone sets ≡ false
         → IsPropertyHalt mode (property_letter negative ∷ 123 ∷ w) (unknown_halt lone (values run) (length run))
     run_unknown lone.Category named some more unknown us rest first added place whole = absurd (let no : ⊥ = cc unknown in no)
     run_unknown lone.Binary named some more unknown us rest first added place whole = absurd (let no : ⊥ = cc unknown in no)
     run_unknown lone.OfStrings named some more unknown us rest first added place whole =
         let no_sets = has.sets_is ∙ unknown in
-        rw (sym (values_length run)) (of_strings w (values run) (values behind) (unicode_alone mode no_sets has.unicode) (begins rest w whole) r more (λ known. elim known [
+        rw (sym (values_length run)) (of_strings w (values run) (values following) (unicode_alone mode no_sets has.unicode) (begins rest w whole) r more (λ known. elim known [
           | inl h ↦ named.0 h
           | inr h ↦ elim h [ inl k ↦ named.1 k | inr k ↦ not_sets mode no_sets k.0 ]
         ]) named.2)
     run_unknown lone.Nothing named some more unknown us rest first added place whole =
-        rw (sym (values_length run)) (unknown_run w (values run) (values behind) (begins rest w whole) r some more (λ known. elim known [
+        rw (sym (values_length run)) (unknown_run w (values run) (values following) (begins rest w whole) r some more (λ known. elim known [
           | inl h ↦ named.0 h
           | inr h ↦ elim h [ inl k ↦ named.1 k | inr k ↦ named.2 k.1 ]
         ]) named.2)
 
   -- A word that names a property stands alone between the braces.
-  module _ (w word behind : List ℕ) (r : HasRun w word behind) (closed : starts 125 behind ≡ true) (n : ℕ) (count : n ≡ length word) where
+  module _ (w word following : List ℕ) (r : HasRun w word following) (closed : starts 125 following ≡ true) (n : ℕ) (count : n ≡ length word) where
     pub word_spelled : (strings : Bool) (name : List ℕ) (value : Option (List ℕ)) → SpellsProperty mode strings name value word → (negative && strings) ≡ false
-        → IsPropertyBehind mode (property_letter negative ∷ 123 ∷ w) negative strings name value (3 + n)
-    word_spelled strings name value spelled obeys = spelled_before strings name value word w behind (3 + n) r.is_run.whole closed spelled (omega (arith, count)) obeys
+        → IsPropertyAfter mode (property_letter negative ∷ 123 ∷ w) negative strings name value (3 + n)
+    word_spelled strings name value spelled obeys = spelled_before strings name value word w following (3 + n) r.is_run.whole closed spelled (omega (arith, count)) obeys
 
     pub negative_refused : negative ≡ true → sets ≡ true → IsLone word lone.OfStrings → IsPropertyHalt mode (property_letter negative ∷ 123 ∷ w) (halt.NegativeOfStrings word (3 + n))
     negative_refused is sets_too named us rest first added place whole =
-        let close = starts_there 125 behind closed in
+        let close = starts_there 125 following closed in
         let end : place + 1 + (3 + n) ≡ place + 4 + length word = omega (arith, count) in
         rw end (negative_of_strings w word close.0 (sets_is mode (has.sets_is ∙ sets_too)) (whole ∙ ap (λ negative. 92 ∷ property_letter negative ∷ 123 ∷ w) is) (subst (HasRun w word) close.1 r)
         named.0 named.1 named.2)

@@ -1,4 +1,4 @@
--- The runs of characters that stand behind `\p{` and `\P{`.
+-- The runs of characters that stand after `\p{` and `\P{`.
 use Rattle.std.proofs.Common.{◌≡◌, ℕ, ◌+◌, ◌≤◌, ◌&&◌, Bool, true, false, cond, suc, List, [], ◌∷◌, ◌++◌, length, take, drop, refl, sym, ap, ◌∙◌, subst, arith}
 use Rattle.std.specs.List.{list_all, prefix_len}
 use Rattle.std.proofs.lemmas.List.Sums.{prefix_len-le-length}

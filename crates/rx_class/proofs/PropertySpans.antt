@@ -24,9 +24,9 @@ twice_moved r a c =
 abbrev between : ℕ → ℕ → ℕ → Span
 between added s e = record { start = s + added; end = e + added }
 
-pub ahead_span : (r after behind : Cursor) (a c added s : ℕ) (span : Span) → after ≡ moved a r → s ≡ offset_of after → behind ≡ moved c after → span ≡ span_to added s behind
+pub ahead_span : (r after following : Cursor) (a c added s : ℕ) (span : Span) → after ≡ moved a r → s ≡ offset_of after → following ≡ moved c after → span ≡ span_to added s following
     → span ≡ span_between r.units r.first added (r.place + a) (r.place + a + c)
-ahead_span r after behind a c added s span moves start on is =
+ahead_span r after following a c added s span moves start on is =
     is ∙ ap₂ (between added) (start ∙ ap offset_of moves ∙ moved_offset r a) (ap offset_of (on ∙ ap (moved c) moves) ∙ twice_moved r a c)
 
 pub cut_off : (r after : Cursor) (n added s : ℕ) (span : Span) → 1 ≤ r.place → s ≡ offset_at r.first r.units (r.place - 1) → after ≡ moved n r → span ≡ span_to added s after

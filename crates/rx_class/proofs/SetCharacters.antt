@@ -12,11 +12,11 @@ use Rattle.rx_ast.specs.declared.leaf.CharacterKind.{CharacterKind}
 use Rattle.rx_ast.specs.declared.leaf.CharacterKind.TheVariants as kinds
 use Rattle.rx_units.specs.declared.code_point.CodePoint.{CodePoint}
 use Rattle.rx_units.specs.Units.{values}
+use Rattle.rx_units.specs.Digits.{PassesHex}
 use Rattle.rx_model.specs.declared.mode.Mode.TheVariants.{Unicode, Sets}
 use Rattle.rx_model.specs.Characters.EscapeFronts.{EscapeRead, escaped, nothing, too_many, no_unicode, escape_at}
 use Rattle.rx_model.specs.Characters.Escapes.{SpellsEscape}
-use Rattle.rx_model.specs.Characters.UnicodeEscapes.{PassesHex}
-use Rattle.rx_model.specs.Classes.ClassRows.{Place, outside, fresh, at_dash, at_high, at_second, at_third, behind_meet, behind_less, in_strings, SpellsClassCharacter, SpellsInClassAlone, SpellsInClass, BeforeHigh, has_hyphen, is_dashed, stands_raw_in_class}
+use Rattle.rx_model.specs.Classes.ClassRows.{Place, outside, fresh, at_dash, at_high, at_second, at_third, after_meet, after_less, in_strings, SpellsClassCharacter, SpellsInClassAlone, SpellsInClass, BeforeHigh, has_hyphen, is_dashed, stands_raw_in_class}
 use Rattle.rx_model.specs.Classes.ClassRows as row
 use Rattle.rx_model.specs.Inputs.Environment.{Environment, is_sets, is_unicode}
 use Rattle.rx_model.specs.Refusals.EscapeCauses.{IsEscapeCause, invalid_escape, too_many_hex_digits}
@@ -27,7 +27,7 @@ use Rattle.rx_model.proofs.Classes.ClassFronts.{sets_is, punctuator_no_b}
 use Rattle.rx_model.proofs.Classes.RefusedAtoms.{escape_first}
 use Rattle.rx_model.proofs.Groups.GroupNames.{differs}
 use Rattle.rx_model.proofs.Reading.Splits.{split_values}
-use Rattle.rx_class.specs.SetFronts.{EndsRange, IsRangeEnd, behind_backslash, range_end_at, set_character_at, set_escape_at}
+use Rattle.rx_class.specs.SetFronts.{EndsRange, IsRangeEnd, after_backslash, range_end_at, set_character_at, set_escape_at}
 
 module _ (e : Environment) (sets : is_sets e.mode ≡ true) where
   pub mode_is : e.mode ≡ Sets
@@ -52,14 +52,14 @@ module _ (e : Environment) (sets : is_sets e.mode ≡ true) where
   alone_read _ _ _ rest (row.hyphen m) = absurd (let no : Sets ≡ Unicode = sym mode_is ∙ m in let k : ⊥ = cc no in k)
   alone_read _ _ _ rest (row.reserved c m h) = cond-false (c == 98) _ _ (punctuator_no_b c h) ∙ cond-true (is_reserved_punctuator c) _ _ h
 
-  behind_read : (k : CharacterKind) (v : ℕ) (backslash : CodePoint) (behind rest : List CodePoint) → backslash.value ≡ 92
-      → set_escape_at (values behind ++ values rest) ≡ escaped k v (length (values behind)) → set_character_at (backslash ∷ (behind ++ rest)) ≡ escaped k v (length (backslash ∷ behind))
+  after_read : (k : CharacterKind) (v : ℕ) (backslash : CodePoint) (following rest : List CodePoint) → backslash.value ≡ 92
+      → set_escape_at (values following ++ values rest) ≡ escaped k v (length (values following)) → set_character_at (backslash ∷ (following ++ rest)) ≡ escaped k v (length (backslash ∷ following))
   unfolding set_character_at
-  behind_read k v backslash behind rest h read =
+  after_read k v backslash following rest h read =
       cond-true (backslash.value == 92) _ _ (ap (λ c. c == 92) h)
-      ∙ ap (λ w. behind_backslash (set_escape_at w)) (map-append (λ (u : CodePoint). u.value) behind rest)
-      ∙ ap behind_backslash read
-      ∙ ap (escaped k v) (omega (arith, length-map behind (λ (u : CodePoint). u.value)))
+      ∙ ap (λ w. after_backslash (set_escape_at w)) (map-append (λ (u : CodePoint). u.value) following rest)
+      ∙ ap after_backslash read
+      ∙ ap (escaped k v) (omega (arith, length-map following (λ (u : CodePoint). u.value)))
 
   pub raw_in_sets : (c : ℕ) (w : List ℕ) → stands_raw_in_class e.mode c w ≡ stands_raw_in_class Sets c w
   raw_in_sets c w = ap (λ mode. stands_raw_in_class mode c w) mode_is
@@ -72,9 +72,9 @@ module _ (e : Environment) (sets : is_sets e.mode ≡ true) where
       ∙ cond-true (stands_raw_in_class Sets unit.value (values rest)) _ _ raw_is
   spelled_set_character _ _ _ rest (row.hyphen unit there h) =
       absurd (let no : false ≡ true = ap has_hyphen (sym mode_is) ∙ there in let k : ⊥ = cc no in k)
-  spelled_set_character k v _ rest (row.escaped backslash behind h s) = behind_read k v backslash behind rest h (escape_read k v (values behind) (values rest) s)
-  spelled_set_character k v _ rest (row.escaped_in_class backslash behind h s) = behind_read k v backslash behind rest h (alone_read k v (values behind) (values rest) s)
-  spelled_set_character k v _ rest (row.escaped_in_legacy backslash behind h m s) =
+  spelled_set_character k v _ rest (row.escaped backslash following h s) = after_read k v backslash following rest h (escape_read k v (values following) (values rest) s)
+  spelled_set_character k v _ rest (row.escaped_in_class backslash following h s) = after_read k v backslash following rest h (alone_read k v (values following) (values rest) s)
+  spelled_set_character k v _ rest (row.escaped_in_legacy backslash following h m s) =
       absurd (let no : true ≡ false = sym unicode_is ∙ m in let k : ⊥ = cc no in k)
 
   -- Characters, read → spelled.
@@ -85,8 +85,8 @@ module _ (e : Environment) (sets : is_sets e.mode ≡ true) where
     pub count : length w ≡ n
     pub spelled : SpellsClassCharacter e k v w rest
 
-  -- the same behind a backslash
-  record BehindFront (k : CharacterKind) (v n : ℕ) (us : List CodePoint) : Type 0 where
+  -- the same after a backslash
+  record AfterFront (k : CharacterKind) (v n : ℕ) (us : List CodePoint) : Type 0 where
     w : List CodePoint
     rest : List CodePoint
     whole : us ≡ w ++ rest
@@ -96,16 +96,16 @@ module _ (e : Environment) (sets : is_sets e.mode ≡ true) where
   abbrev Says : List CodePoint → EscapeRead → Type 0
   Says us (escaped k v n) = SetCharacterFront k v n us
   Says us nothing = Unit {0}
-  Says us (too_many n) = (behind : List ℕ) × (values us ≡ 92 ∷ behind) × PassesHex behind n
-  Says us no_unicode = (behind : List ℕ) × (values us ≡ 92 ∷ behind) × NoUnicode behind
+  Says us (too_many n) = (following : List ℕ) × (values us ≡ 92 ∷ following) × PassesHex following n
+  Says us no_unicode = (following : List ℕ) × (values us ≡ 92 ∷ following) × NoUnicode following
 
-  abbrev SaysBehind : List CodePoint → EscapeRead → Type 0
-  SaysBehind us (escaped k v n) = BehindFront k v n us
-  SaysBehind us nothing = Unit {0}
-  SaysBehind us (too_many n) = PassesHex (values us) n
-  SaysBehind us no_unicode = NoUnicode (values us)
+  abbrev SaysAfter : List CodePoint → EscapeRead → Type 0
+  SaysAfter us (escaped k v n) = AfterFront k v n us
+  SaysAfter us nothing = Unit {0}
+  SaysAfter us (too_many n) = PassesHex (values us) n
+  SaysAfter us no_unicode = NoUnicode (values us)
 
-  escape_says : (us : List CodePoint) (r : EscapeRead) → escape_at true (values us) ≡ r → SaysBehind us r
+  escape_says : (us : List CodePoint) (r : EscapeRead) → escape_at true (values us) ≡ r → SaysAfter us r
   escape_says us (escaped k v n) h =
       let f = escape_spelled e k v n (values us) (ap (λ u. escape_at u (values us)) unicode_is ∙ h) in
       let s = split_values us f.spelled f.rest f.whole in
@@ -121,10 +121,10 @@ module _ (e : Environment) (sets : is_sets e.mode ≡ true) where
   escape_says us (too_many n) h = escape_too_many (values us) n h
   escape_says us no_unicode h = escape_no_unicode (values us) h
 
-  behind_says : (us : List CodePoint) → SaysBehind us (set_escape_at (values us))
-  behind_says [] = tt
-  behind_says (u ∷ us) =
-      cond_both (u.value == 98) _ _ (SaysBehind (u ∷ us))
+  after_says : (us : List CodePoint) → SaysAfter us (set_escape_at (values us))
+  after_says [] = tt
+  after_says (u ∷ us) =
+      cond_both (u.value == 98) _ _ (SaysAfter (u ∷ us))
       (λ h. record {
         w = u ∷ [];
         rest = us;
@@ -132,7 +132,7 @@ module _ (e : Environment) (sets : is_sets e.mode ≡ true) where
         count = refl;
         spelled = λ backslash is. row.escaped_in_class backslash (u ∷ []) is (subst (λ c. SpellsInClassAlone e.mode kinds.SingleEscape 8 (c ∷ [])) (sym (eqb-true u.value 98 h)) row.backspace);
       })
-      (λ no_b. cond_both (is_reserved_punctuator u.value) _ _ (SaysBehind (u ∷ us))
+      (λ no_b. cond_both (is_reserved_punctuator u.value) _ _ (SaysAfter (u ∷ us))
       (λ h. record {
         w = u ∷ [];
         rest = us;
@@ -142,24 +142,24 @@ module _ (e : Environment) (sets : is_sets e.mode ≡ true) where
       })
       (λ no_punctuator. escape_says (u ∷ us) (escape_at true (values (u ∷ us))) refl))
 
-  from_behind : (backslash : CodePoint) (us : List CodePoint) → backslash.value ≡ 92 → (r : EscapeRead) → SaysBehind us r → Says (backslash ∷ us) (behind_backslash r)
-  from_behind backslash us is (escaped k v n) f = record {
+  from_after : (backslash : CodePoint) (us : List CodePoint) → backslash.value ≡ 92 → (r : EscapeRead) → SaysAfter us r → Says (backslash ∷ us) (after_backslash r)
+  from_after backslash us is (escaped k v n) f = record {
     w = backslash ∷ f.w;
     rest = f.rest;
     whole = ap (λ us. backslash ∷ us) f.whole;
     count = omega (arith, f.count);
     spelled = f.spelled backslash is;
   }
-  from_behind backslash us is nothing f = tt
-  from_behind backslash us is (too_many n) f = (values us, ap (λ c. c ∷ values us) is, f)
-  from_behind backslash us is no_unicode f = (values us, ap (λ c. c ∷ values us) is, f)
+  from_after backslash us is nothing f = tt
+  from_after backslash us is (too_many n) f = (values us, ap (λ c. c ∷ values us) is, f)
+  from_after backslash us is no_unicode f = (values us, ap (λ c. c ∷ values us) is, f)
 
   pub set_character_says : (us : List CodePoint) → Says us (set_character_at us)
   unfolding set_character_at
   set_character_says [] = tt
   set_character_says (u ∷ us) =
       cond_both (u.value == 92) _ _ (Says (u ∷ us))
-      (λ h. from_behind u us (eqb-true u.value 92 h) (set_escape_at (values us)) (behind_says us))
+      (λ h. from_after u us (eqb-true u.value 92 h) (set_escape_at (values us)) (after_says us))
       (λ other. cond_both (stands_raw_in_class Sets u.value (values us)) _ _ (Says (u ∷ us))
       (λ h. record { w = u ∷ []; rest = us; whole = refl; count = refl; spelled = row.raw u (raw_in_sets u.value (values us) ∙ h) })
       (λ h. tt))
@@ -176,7 +176,7 @@ module _ (e : Environment) (sets : is_sets e.mode ≡ true) where
     no_unicode_refused h =
         let s = subst (Says us) h (set_character_says us) in
         let no = s.2 in
-        invalid_escape no.behind unicode_is (s.1 ∙ ap (λ w. 92 ∷ w) no.whole) (rw no.whole at no.no_value) (rw no.whole at no.no_limit)
+        invalid_escape no.following unicode_is (s.1 ∙ ap (λ w. 92 ∷ w) no.whole) (rw no.whole at no.no_value) (rw no.whole at no.no_limit)
 
   -- A backslash and `u` are read as something.
   pub u_is_read : (us : List CodePoint) (w : List ℕ) → values us ≡ 92 ∷ 117 ∷ w → set_character_at us ≡ nothing → ⊥
@@ -184,17 +184,17 @@ module _ (e : Environment) (sets : is_sets e.mode ≡ true) where
   u_is_read [] w h none = cc h
   u_is_read (u ∷ us) w h none =
       let value_is : u.value ≡ 92 = cc h in
-      let behind : values us ≡ 117 ∷ w = cc h in
-      let read : behind_backslash (escape_at true (117 ∷ w)) ≡ nothing =
-      ap (λ w. behind_backslash (set_escape_at w)) (sym behind) ∙ sym (cond-true (u.value == 92) _ _ (ap (λ c. c == 92) value_is)) ∙ none in
-      let no : true ≡ false = escape_nothing (117 ∷ w) (nothing_behind (escape_at true (117 ∷ w)) read) in
+      let following : values us ≡ 117 ∷ w = cc h in
+      let read : after_backslash (escape_at true (117 ∷ w)) ≡ nothing =
+      ap (λ w. after_backslash (set_escape_at w)) (sym following) ∙ sym (cond-true (u.value == 92) _ _ (ap (λ c. c == 92) value_is)) ∙ none in
+      let no : true ≡ false = escape_nothing (117 ∷ w) (nothing_after (escape_at true (117 ∷ w)) read) in
       cc no
     where
-      nothing_behind : (r : EscapeRead) → behind_backslash r ≡ nothing → r ≡ nothing
-      nothing_behind (escaped k v n) h = absurd (let no : ⊥ = cc h in no)
-      nothing_behind nothing h = refl
-      nothing_behind (too_many n) h = absurd (let no : ⊥ = cc h in no)
-      nothing_behind no_unicode h = absurd (let no : ⊥ = cc h in no)
+      nothing_after : (r : EscapeRead) → after_backslash r ≡ nothing → r ≡ nothing
+      nothing_after (escaped k v n) h = absurd (let no : ⊥ = cc h in no)
+      nothing_after nothing h = refl
+      nothing_after (too_many n) h = absurd (let no : ⊥ = cc h in no)
+      nothing_after no_unicode h = absurd (let no : ⊥ = cc h in no)
 
   -- Where nothing is read no escape is refused.
   pub no_escape_refused : (us : List CodePoint) → set_character_at us ≡ nothing → (text : List CodePoint) (first added place : ℕ) (d : Diagnostic) → IsEscapeCause e.mode text first added place us d → ⊥
@@ -209,9 +209,9 @@ module _ (e : Environment) (sets : is_sets e.mode ≡ true) where
   pub character_small : (k : CharacterKind) (v : ℕ) (w rest : List CodePoint) → SpellsClassCharacter e k v w rest → All (λ unit. unit.value ≤ 0x10FFFF) (w ++ rest) → v ≤ 0x10FFFF
   character_small _ _ _ rest (row.raw unit h) small = All-head (λ unit. unit.value ≤ 0x10FFFF) unit rest small
   character_small _ _ _ rest (row.hyphen unit there h) small = omega arith
-  character_small k v _ rest (row.escaped backslash behind h s) small = spelled_small e k v (values behind) (values rest) s
-  character_small k v _ rest (row.escaped_in_class backslash behind h s) small = alone_small k v (values behind) s
-  character_small k v _ rest (row.escaped_in_legacy backslash behind h m s) small = absurd (let no : true ≡ false = sym unicode_is ∙ m in let k : ⊥ = cc no in k)
+  character_small k v _ rest (row.escaped backslash following h s) small = spelled_small e k v (values following) (values rest) s
+  character_small k v _ rest (row.escaped_in_class backslash following h s) small = alone_small k v (values following) s
+  character_small k v _ rest (row.escaped_in_legacy backslash following h m s) small = absurd (let no : true ≡ false = sym unicode_is ∙ m in let k : ⊥ = cc no in k)
 
   pub set_too_many_within : (us : List CodePoint) (n : ℕ) → set_character_at us ≡ too_many n → n + 3 ≤ length us
   set_too_many_within us n h =
@@ -249,21 +249,21 @@ module _ (e : Environment) (sets : is_sets e.mode ≡ true) where
         more = us;
         whole = refl;
         hyphen_is = is;
-        behind = h;
+        following = h;
         dashed = ap (λ us. is_dashed (values (u ∷ us))) b.2 ∙ and_from (u.value == 45) (not (b.0.value == 93)) (ap (λ c. c == 45) is) (ap not b.3);
       }
 
-  -- What is read behind a character is an end of a range, or none stands there.
+  -- What is read after a character is an end of a range, or none stands there.
   pub range_end_says : (us : List CodePoint) → IsRangeEnd e us (range_end_at us)
   range_end_says [] = record {
     none_high = λ b. let no : ⊥ = cc b.whole in no;
-    nothing_behind = λ hyphen more whole is. absurd (let no : ⊥ = cc whole in no);
+    nothing_after = λ hyphen more whole is. absurd (let no : ⊥ = cc whole in no);
   }
   range_end_says (u ∷ us) =
       cond_both (u.value == 45) _ _ (IsRangeEnd e (u ∷ us)) (λ h. by (eqb-true u.value 45 h) (set_character_at us) refl)
       (λ other. record {
         none_high = λ b. let same : u ≡ b.hyphen = cc b.whole in let no : true ≡ false = sym (ap (λ c. c == 45) (ap (λ (u : CodePoint). u.value) same ∙ b.hyphen_is)) ∙ other in let k : ⊥ = cc no in k;
-        nothing_behind = λ hyphen more whole is.
+        nothing_after = λ hyphen more whole is.
             let same : u ≡ hyphen = cc whole in absurd (let no : true ≡ false = sym (ap (λ c. c == 45) (ap (λ (u : CodePoint). u.value) same ∙ is)) ∙ other in let k : ⊥ = cc no in k);
       })
     where
@@ -271,10 +271,10 @@ module _ (e : Environment) (sets : is_sets e.mode ≡ true) where
       by is (escaped k v n) h = range_there u us (escaped k v n) is h (λ no. let k : ⊥ = cc no in k)
       by is nothing h = record {
         none_high = λ b.
-            let behind : us ≡ b.w ++ b.more = cc b.whole in
-            let no : escaped b.kind b.value (length b.w) ≡ nothing = sym (spelled_set_character b.kind b.value b.w b.more b.spelled) ∙ ap set_character_at (sym behind) ∙ h in
+            let following : us ≡ b.w ++ b.more = cc b.whole in
+            let no : escaped b.kind b.value (length b.w) ≡ nothing = sym (spelled_set_character b.kind b.value b.w b.more b.spelled) ∙ ap set_character_at (sym following) ∙ h in
             let k : ⊥ = cc no in k;
-        nothing_behind = λ hyphen more whole hyphen_is. let behind : more ≡ us = cc (sym whole) in ap set_character_at behind ∙ h;
+        nothing_after = λ hyphen more whole hyphen_is. let following : more ≡ us = cc (sym whole) in ap set_character_at following ∙ h;
       }
       by is (too_many n) h = range_there u us (too_many n) is h (λ no. let k : ⊥ = cc no in k)
       by is no_unicode h = range_there u us no_unicode is h (λ no. let k : ⊥ = cc no in k)

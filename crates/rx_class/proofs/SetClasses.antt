@@ -6,7 +6,7 @@ use Rattle.rx_ast.specs.ClassTree.{no_member, mirror_class}
 use Rattle.rx_units.specs.declared.code_point.CodePoint.{CodePoint}
 use Rattle.rx_units.specs.Cursor.{Cursor, begins, moved, offset_of, rest}
 use Rattle.rx_units.specs.Units.{values}
-use Rattle.rx_model.specs.Classes.ClassRows.{ClassRow, Place, behind, fresh, outside}
+use Rattle.rx_model.specs.Classes.ClassRows.{ClassRow, Place, next_place, fresh, outside}
 use Rattle.rx_model.specs.Classes.ClassRuns.{empty}
 use Rattle.rx_model.specs.Classes.ClassShapes.{IsFitting, IsFlagged}
 use Rattle.rx_model.specs.Classes.ClassTokens.{ClassEvents, bracket, class_events, class_tokens_of, closer, enter, item, leave, token}
@@ -43,10 +43,10 @@ row_units e o [] q i us r j end h = ([], h.2, omega (arith, h.1))
 row_units e o ((enter n) ∷ es) q i us r j end h = row_units e o es q i us r j end h.1
 row_units e o ((leave n) ∷ es) q i us r j end h = row_units e o es q i us r j end h.1
 row_units e o ((token t) ∷ es) q i us r j end h =
-    let on = row_units e o es (behind e.mode q t h.1) (i + length h.0) h.1 r j end h.4 in
+    let on = row_units e o es (next_place e.mode q t h.1) (i + length h.0) h.1 r j end h.4 in
     (h.0 ++ on.0, h.2 ∙ ap (λ us. h.0 ++ us) on.1 ∙ sym (append_assoc h.0 on.0 end), omega (arith, on.2, length-append h.0 on.0))
 
--- Behind its bracket the reader is in a class, of which nothing was read.
+-- After its bracket the reader is in a class, of which nothing was read.
 pub begins_sets : (e : Environment) (added : ℕ) (old mid new : Cursor) (negative : Bool) (start : ℕ) (b : ClassBuilder) → starts 91 (values (rest old)) ≡ true → mid ≡ moved 1 old → negative ≡ begins (94 ∷ []) (rest mid) →
     new ≡ (if negative then moved 1 mid else mid) → start ≡ offset_of old + added → builder_events b ≡ enter start ∷ token (bracket negative) ∷ [] → held_in b ≡ empty → IsWellBuilt b → IsInSets e added old new b
 begins_sets e added old mid new negative start b stands moves says is at events held well = record {

@@ -22,9 +22,9 @@ use Rattle.rx_units.proofs.Choices.{both}
 use Rattle.rx_model.proofs.Classes.ClassFronts.{at_backslash, atom_is_read, letter_no_b, letter_no_punctuator}
 use Rattle.rx_model.proofs.Groups.GroupNames.{differs}
 use Rattle.rx_class.specs.Found.{class_escape_front}
-use Rattle.rx_class.specs.SetFronts.{Begins, BeginsBracket, FrontRead, IsItem, IsOfCharacter, IsSetFront, NoneRefused, bracket_next, character_front, closer_next, escape_front, escape_next, escaped_front, less_next, meet_next, property_next, behind_backslash, set_character_at, set_escape_at, set_front_at, strings_next}
+use Rattle.rx_class.specs.SetFronts.{Begins, BeginsBracket, FrontRead, IsItem, IsOfCharacter, IsSetFront, NoneRefused, bracket_next, character_front, closer_next, escape_front, escape_next, escaped_front, less_next, meet_next, property_next, after_backslash, set_character_at, set_escape_at, set_front_at, strings_next}
 use Rattle.rx_class.proofs.SetCharacters.{mode_is, u_is_read, unicode_is}
-use Rattle.rx_class.proofs.SetTokens.{IsOther, OfToken, Only, atom_of, atom_only, backslash_atom, no_backslash_refused, none_refused_by, of_character, of_escape, of_property, only_of, other_none, set_character_behind, token_of_none, unit_atom}
+use Rattle.rx_class.proofs.SetTokens.{IsOther, OfToken, Only, atom_of, atom_only, backslash_atom, no_backslash_refused, none_refused_by, of_character, of_escape, of_property, only_of, other_none, set_character_after, token_of_none, unit_atom}
 use Rattle.std.proofs.Math.Bool.{and-false}
 
 module _ (e : Environment) (sets : is_sets e.mode ≡ true) where
@@ -100,9 +100,9 @@ module _ (e : Environment) (sets : is_sets e.mode ≡ true) where
   two_only : (P : ClassToken → Type 0) (u : CodePoint) (us : List CodePoint) (c d : ℕ) → AreTwo u us c d → (c == 92) ≡ false → ((w : List ℕ) → stands_raw_in_class Sets c (d ∷ w) ≡ false) → ((c == 93) ≡ true → P closer)
       → ((w : List ℕ) → OfToken P (set_token (c ∷ d ∷ w))) → ((w : List ℕ) → OfToken P (operand_token (c ∷ d ∷ w))) → Only e sets (u ∷ us) P
   two_only P u us c d t h r closes s o =
-      let behind : d ∷ values t.others ≡ values us = sym (ap values t.whole ∙ ap (λ d. d ∷ values t.others) t.second_is) in
-      unit_only u us c t.first_is P h (subst (λ w. stands_raw_in_class Sets c w ≡ false) behind (r (values t.others))) closes (subst (λ w. OfToken P (set_token (c ∷ w))) behind (s (values t.others)))
-      (subst (λ w. OfToken P (operand_token (c ∷ w))) behind (o (values t.others)))
+      let following : d ∷ values t.others ≡ values us = sym (ap values t.whole ∙ ap (λ d. d ∷ values t.others) t.second_is) in
+      unit_only u us c t.first_is P h (subst (λ w. stands_raw_in_class Sets c w ≡ false) following (r (values t.others))) closes (subst (λ w. OfToken P (set_token (c ∷ w))) following (s (values t.others)))
+      (subst (λ w. OfToken P (operand_token (c ∷ w))) following (o (values t.others)))
 
   meet_front : (u : CodePoint) (us : List CodePoint) → are_next 38 38 (values (u ∷ us)) ≡ true → IsSetFront e (u ∷ us) meet_next
   meet_front u us h =
@@ -141,7 +141,7 @@ module _ (e : Environment) (sets : is_sets e.mode ≡ true) where
     none_refused = λ f. absurd (let no : ⊥ = cc f in no);
   }
 
-  -- Behind a backslash.
+  -- After a backslash.
   is_other : (u : CodePoint) (us : List CodePoint) → u.value ≡ 92 → begins_strings (values (u ∷ us)) ≡ false → IsOther (u ∷ us)
   is_other u us is h = record {
     no_closer = ap (λ c. c == 93) is;
@@ -152,8 +152,8 @@ module _ (e : Environment) (sets : is_sets e.mode ≡ true) where
   }
 
   module _ (u : CodePoint) (us : List CodePoint) (is : u.value ≡ 92) where
-    behind_is : (c : ℕ) (w : List ℕ) → values (u ∷ us) ≡ 92 ∷ c ∷ w → values us ≡ c ∷ w
-    behind_is c w h = cc h
+    after_is : (c : ℕ) (w : List ℕ) → values (u ∷ us) ≡ 92 ∷ c ∷ w → values us ≡ c ∷ w
+    after_is c w h = cc h
 
     strings_front : are_next 113 123 (values us) ≡ true → IsSetFront e (u ∷ us) strings_next
     unfolding set_character_at escape_at
@@ -167,7 +167,7 @@ module _ (e : Environment) (sets : is_sets e.mode ≡ true) where
             let all : values (u ∷ v ∷ us) ≡ 92 ∷ 113 ∷ 123 ∷ values t.others = ap (λ c. c ∷ values (v ∷ us)) is ∙ ap (λ w. 92 ∷ w) text in
             let none : atom_at e (u ∷ v ∷ us) ≡ no_atom =
             backslash_atom e sets u (v ∷ us) is (ap (front_is begins_property) text) (ap class_escape_front text)
-            ∙ ap atom_of (set_character_behind u (v ∷ us) is ∙ ap (λ w. behind_backslash (set_escape_at w)) text) in
+            ∙ ap atom_of (set_character_after u (v ∷ us) is ∙ ap (λ w. after_backslash (set_escape_at w)) text) in
             record {
               stands = record { w = u ∷ v ∷ t.second ∷ []; rest = t.others; whole = ap (λ us. u ∷ v ∷ us) t.whole; text_is = strings_text v t.second t.first_is t.second_is };
               only = only_of e sets (λ t. t ≡ strings) (u ∷ v ∷ us)
@@ -187,7 +187,7 @@ module _ (e : Environment) (sets : is_sets e.mode ≡ true) where
         go : (us : List CodePoint) → front_is begins_property (values us) ≡ true → are_next 113 123 (values us) ≡ false → IsSetFront e (u ∷ us) property_next
         go [] h s = absurd (let no : ⊥ = cc h in no)
         go (v ∷ us) h s = record {
-          stands = record { letter = v.value; behind = values us; whole = ap (λ c. c ∷ v.value ∷ values us) is; letter_is = h };
+          stands = record { letter = v.value; following = values us; whole = ap (λ c. c ∷ v.value ∷ values us) is; letter_is = h };
           only = property_only (property_front e.mode (values (v ∷ us))) refl;
           none_refused = λ k. absurd (let no : ⊥ = cc k in no);
         }
@@ -223,11 +223,11 @@ module _ (e : Environment) (sets : is_sets e.mode ≡ true) where
             }
 
     -- No escape is refused where nothing is read.
-    none_refused_behind : front_is begins_property (values us) ≡ false → set_character_at (u ∷ us) ≡ nothing → NoneRefused e (u ∷ us)
-    none_refused_behind p none =
+    none_refused_after : front_is begins_property (values us) ≡ false → set_character_at (u ∷ us) ≡ nothing → NoneRefused e (u ∷ us)
+    none_refused_after p none =
         none_refused_by e sets (u ∷ us)
         (λ c w whole. elim (cases_Bool (c == 117)) [ inl k ↦ absurd (u_is_read e sets (u ∷ us) w (whole ∙ ap (λ c. 92 ∷ c ∷ w) (eqb-true c 117 k)) none) | inr k ↦ k ])
-        (λ c w whole. ap (front_is begins_property) (sym (behind_is c w whole)) ∙ p)
+        (λ c w whole. ap (front_is begins_property) (sym (after_is c w whole)) ∙ p)
 
     escaped_front_is : IsSetFront e (u ∷ us) (escaped_front (values us))
     escaped_front_is =
@@ -237,9 +237,9 @@ module _ (e : Environment) (sets : is_sets e.mode ≡ true) where
         by : are_next 113 123 (values us) ≡ false → front_is begins_property (values us) ≡ false → (o : Option CharacterClassEscapeKind) → class_escape_front (values us) ≡ o → IsSetFront e (u ∷ us) (escape_front o (set_escape_at (values us)))
         by s p (Some k) f = escape_front_is k f p
         by s p None f =
-            let read = set_character_behind u us is in
-            character_stands (u ∷ us) (behind_backslash (set_escape_at (values us))) read (is_other u us is (ap (λ b. (u.value == 92) && b) s ∙ and-false (u.value == 92)))
-            (backslash_atom e sets u us is p f ∙ ap atom_of read) (λ n. none_refused_behind p (read ∙ n))
+            let read = set_character_after u us is in
+            character_stands (u ∷ us) (after_backslash (set_escape_at (values us))) read (is_other u us is (ap (λ b. (u.value == 92) && b) s ∙ and-false (u.value == 92)))
+            (backslash_atom e sets u us is p f ∙ ap atom_of read) (λ n. none_refused_after p (read ∙ n))
 
   nothing_at_end : atom_at e [] ≡ no_atom
   unfolding atom_at

@@ -28,7 +28,7 @@ module _ (old mid : Cursor) where
   moved_place : (n : ℕ) → n ≤ length (rest old) → 1 ≤ n → mid ≡ moved n old → (mid.place ≡ old.place + n) × (mid.units ≡ old.units) × (mid.first ≡ old.first)
   moved_place n left positive is =
       let place = ap (λ (r : Cursor). r.place) is in
-      let behind = length-drop old.place old.units in
+      let following = length-drop old.place old.units in
       let here : min (old.place + n) (length old.units) ≡ old.place + n = omega arith in
       (place ∙ here, ap (λ (r : Cursor). r.units) is, ap (λ (r : Cursor). r.first) is)
 

@@ -24,7 +24,7 @@ use Rattle.rx_units.specs.Digits.{front_is}
 use Rattle.rx_model.specs.declared.mode.Mode.{Mode}
 use Rattle.rx_model.specs.declared.mode.Mode.TheVariants.{Sets}
 use Rattle.rx_model.specs.Characters.EscapeFronts.{EscapeRead, nothing}
-use Rattle.rx_model.specs.Classes.ClassRows.{BeforeHigh, ClassRow, Place, SpellsAtom, SpellsInClass, behind, behind_item, has_threes, outside, fresh, at_dash, at_high, at_second, at_third, behind_meet, behind_less, in_strings, is_dashed}
+use Rattle.rx_model.specs.Classes.ClassRows.{BeforeHigh, ClassRow, Place, SpellsAtom, SpellsInClass, next_place, following_item, has_threes, outside, fresh, at_dash, at_high, at_second, at_third, after_meet, after_less, in_strings, is_dashed}
 use Rattle.rx_model.specs.Classes.ClassRuns.{Held, empty, single, several, meeting, met, lessening, lessened, is_union, operand, ranged}
 use Rattle.rx_model.specs.Classes.ClassTokens.{Atom, ClassEvents, ClassToken, is_character, item, leave, token, within, class_tokens_of, member_events, strings_events, strings, strings_end}
 use Rattle.rx_model.specs.Classes.ClassTokens.{low as low_end, dash as dash_token, high as high_end}
@@ -77,17 +77,17 @@ abbrev pub some_sets : Environment
 some_sets = record { mode = Sets; groups = 0; named = true; buffer_boundaries = true }
 
 -- With `v` an item leads to where the next may begin.
-behind_fresh : (mode : Mode) (q : Place) (a : Atom) (left : List CodePoint) → begins_item q ≡ true → is_sets mode ≡ true → behind mode q (item a) left ≡ fresh
-behind_fresh mode q a left begins sets = ap (behind_item q) (never (is_dashed (values left)) (has_threes mode) (ap has_threes (sets_is mode sets))) ∙ by q begins
+after_fresh : (mode : Mode) (q : Place) (a : Atom) (left : List CodePoint) → begins_item q ≡ true → is_sets mode ≡ true → next_place mode q (item a) left ≡ fresh
+after_fresh mode q a left begins sets = ap (following_item q) (never (is_dashed (values left)) (has_threes mode) (ap has_threes (sets_is mode sets))) ∙ by q begins
   where
     never : (a b : Bool) → b ≡ false → (a && b) ≡ false
     never true b h = h
     never false b h = refl
 
-    by : (q : Place) → begins_item q ≡ true → behind_item q false ≡ fresh
+    by : (q : Place) → begins_item q ≡ true → following_item q false ≡ fresh
     by fresh h = refl
-    by behind_meet h = refl
-    by behind_less h = refl
+    by after_meet h = refl
+    by after_less h = refl
     by outside h = absurd (true≢false (sym h))
     by at_dash h = absurd (true≢false (sym h))
     by at_high h = absurd (true≢false (sym h))
@@ -97,10 +97,10 @@ behind_fresh mode q a left begins sets = ap (behind_item q) (never (is_dashed (v
 
 -- An atom is an operand where an item may begin: no range begins with it, and no third `&`.
 item_there : (e : Environment) (q : Place) (a : Atom) (w left : List CodePoint) → begins_item q ≡ true → is_sets e.mode ≡ true → SpellsAtom e a w left → (q ≡ fresh → is_character a ≡ true → BeforeHigh e left → ⊥) →
-    (q ≡ behind_meet → starts 38 (values w) ≡ false) → SpellsInClass e q (item a) w left
+    (q ≡ after_meet → starts 38 (values w) ≡ false) → SpellsInClass e q (item a) w left
 item_there e fresh a w left begins sets s none third = (s, inr (inr record { sets = sets; none = none refl }))
-item_there e behind_meet a w left begins sets s none third = (sets, s, third refl)
-item_there e behind_less a w left begins sets s none third = (sets, s)
+item_there e after_meet a w left begins sets s none third = (sets, s, third refl)
+item_there e after_less a w left begins sets s none third = (sets, s)
 item_there e outside a w left begins sets s none third = absurd (true≢false (sym begins))
 item_there e at_dash a w left begins sets s none third = absurd (true≢false (sym begins))
 item_there e at_high a w left begins sets s none third = absurd (true≢false (sym begins))
@@ -108,9 +108,9 @@ item_there e at_second a w left begins sets s none third = absurd (true≢false 
 item_there e at_third a w left begins sets s none third = absurd (true≢false (sym begins))
 item_there e in_strings a w left begins sets s none third = absurd (true≢false (sym begins))
 
-item_row : (e : Environment) (o : ℕ → ℕ) (i : ℕ) (q : Place) (a : Atom) (s : Span) (w left : List CodePoint) → SpellsInClass e q (item a) w left → behind e.mode q (item a) left ≡ fresh → s ≡ between (o i) (o (i + length w)) →
+item_row : (e : Environment) (o : ℕ → ℕ) (i : ℕ) (q : Place) (a : Atom) (s : Span) (w left : List CodePoint) → SpellsInClass e q (item a) w left → next_place e.mode q (item a) left ≡ fresh → s ≡ between (o i) (o (i + length w)) →
     ClassRow e o (within s (token (item a) ∷ [])) q i (w ++ left) fresh (i + length w) left
-item_row e o i q a s w left spelled behind covers = (ap (λ (s : Span). s.start) covers, (w, left, refl, spelled, (ap (λ (s : Span). s.end) covers, (behind, refl, refl))))
+item_row e o i q a s w left spelled following covers = (ap (λ (s : Span). s.start) covers, (w, left, refl, spelled, (ap (λ (s : Span). s.end) covers, (following, refl, refl))))
 
 module _ (added : ℕ) (old new : Cursor) (before after : ClassBuilder) (held : HeldState) (takes : operand (held_in before) ≡ Some (held_of held)) (with : held_in after ≡ held_of held) (well : IsWellBuilt after) where
   -- an operand
@@ -120,7 +120,7 @@ module _ (added : ℕ) (old new : Cursor) (before after : ClassBuilder) (held : 
       adds_by e added old new before after (member_events m) w left (place_of (held_in before)) fresh whole some moves events refl (ap place_of with ∙ operand_fresh (held_in before) (held_of held) takes) row well ends
 
   pub atom_adds : (it : ClassAtom) (e : Environment) → IsOfSets e old → GivesAtom e added old new (Ok it) → builder_events after ≡ builder_events before ++ member_events (atom_member it) →
-      (place_of (held_in before) ≡ fresh → is_character (atom_of it) ≡ true → BeforeHigh e (rest new) → ⊥) → (place_of (held_in before) ≡ behind_meet → starts 38 (values (rest old)) ≡ false) → RefusesNoEnd e new after →
+      (place_of (held_in before) ≡ fresh → is_character (atom_of it) ≡ true → BeforeHigh e (rest new) → ⊥) → (place_of (held_in before) ≡ after_meet → starts 38 (values (rest old)) ≡ false) → RefusesNoEnd e new after →
       AddsToSets e added old new before after
   atom_adds it e of gives events none third ends =
       let s = atom_stands e added old old.place new it gives in
@@ -132,18 +132,18 @@ module _ (added : ℕ) (old new : Cursor) (before after : ClassBuilder) (held : 
       (rw (atom_events it)
       (item_row e (offset_in added old) old.place q (atom_of it) (atom_span it) s.w (rest new)
       (item_there e q (atom_of it) s.w (rest new) begins of.sets s.spelled none (λ meets. sym (starts_front 38 s.w (rest new) some) ∙ ap (λ us. starts 38 (values us)) (sym passes.whole) ∙ third meets))
-      (behind_fresh e.mode q (atom_of it) (rest new) begins of.sets) s.span))
+      (after_fresh e.mode q (atom_of it) (rest new) begins of.sets) s.span))
       ends
 
--- Where no range may stand an operand stands behind an operator.
-no_range_behind : (held after : Held) → operand held ≡ Some after → ranged held ≡ None → place_of held ≡ fresh → ⊥
-no_range_behind empty after h none at = cc none
-no_range_behind single after h none at = cc none
-no_range_behind several after h none at = cc none
-no_range_behind meeting after h none at = cc at
-no_range_behind met after h none at = cc h
-no_range_behind lessening after h none at = cc at
-no_range_behind lessened after h none at = cc h
+-- Where no range may stand an operand stands after an operator.
+no_range_after : (held after : Held) → operand held ≡ Some after → ranged held ≡ None → place_of held ≡ fresh → ⊥
+no_range_after empty after h none at = cc none
+no_range_after single after h none at = cc none
+no_range_after several after h none at = cc none
+no_range_after meeting after h none at = cc at
+no_range_after met after h none at = cc h
+no_range_after lessening after h none at = cc at
+no_range_after lessened after h none at = cc h
 
 -- the span of what the reader moved over
 moved_span : (added start : ℕ) (old new : Cursor) (w left : List CodePoint) (span : Span) → rest old ≡ w ++ left → 0 < length w → new ≡ moved (length w) old → start ≡ offset_of old → span ≡ span_to added start new →
@@ -196,36 +196,36 @@ escape_refused added old new before after held d takes e of cause keeps =
     (λ cause. said_gives d keeps (escape_says_more d cause) (λ from h. (old.place, class_cause.escape_in_class old.place (rest old) (inl (operand_here h takes)) cause))) cause
 
 property_says_more : {mode : Mode} {us : List CodePoint} {first added place : ℕ} {rest : List CodePoint} (d : Diagnostic) → IsPropertyCause mode us first added place rest d → yielding d ≢ no_item
-property_says_more _ (escape_cause.no_property c behind unicode whole is other) k = cc k
-property_says_more _ (escape_cause.unterminated_run w run behind b has short) k = cc k
-property_says_more _ (escape_cause.unclosed_run w run behind b has known goes other) k = cc k
-property_says_more _ (escape_cause.unclosed_pair w name value behind b has valid other) k = cc k
-property_says_more _ (escape_cause.unknown_pair w name value behind b has unknown) k = cc k
-property_says_more _ (escape_cause.unknown_run w run behind b has some goes unknown no_strings) k = cc k
-property_says_more _ (escape_cause.of_strings w run behind u b has goes unknown known) k = cc k
-property_says_more _ (escape_cause.negative_of_strings w run behind sets whole has no_category no_binary known) k = cc k
+property_says_more _ (escape_cause.no_property c following unicode whole is other) k = cc k
+property_says_more _ (escape_cause.unterminated_run w run following b has short) k = cc k
+property_says_more _ (escape_cause.unclosed_run w run following b has known goes other) k = cc k
+property_says_more _ (escape_cause.unclosed_pair w name value following b has valid other) k = cc k
+property_says_more _ (escape_cause.unknown_pair w name value following b has unknown) k = cc k
+property_says_more _ (escape_cause.unknown_run w run following b has some goes unknown no_strings) k = cc k
+property_says_more _ (escape_cause.of_strings w run following u b has goes unknown known) k = cc k
+property_says_more _ (escape_cause.negative_of_strings w run following sets whole has no_category no_binary known) k = cc k
 
 -- a property escape, whose backslash was read
 module _ (e : Environment) (added start : ℕ) (old mid new : Cursor) (front : BeginsProperty (rest old)) (moves : mid ≡ moved 1 old) where
   -- the backslash
-  record Behind : Type 0 where
+  record After : Type 0 where
     backslash : CodePoint
     others : List CodePoint
     whole : rest old ≡ backslash ∷ others
     left : rest mid ≡ others
     passes : Passes old mid (backslash ∷ [])
 
-  behind_backslash : Behind
-  behind_backslash = go (rest old) refl front.whole
+  after_backslash : After
+  after_backslash = go (rest old) refl front.whole
     where
-      go : (us : List CodePoint) → rest old ≡ us → values us ≡ 92 ∷ front.letter ∷ front.behind → Behind
+      go : (us : List CodePoint) → rest old ≡ us → values us ≡ 92 ∷ front.letter ∷ front.following → After
       go [] whole h = absurd (let no : ⊥ = cc h in no)
       go (u ∷ us) whole h =
           let p = passes_moved old mid (u ∷ []) us whole (omega arith) moves in
           record { backslash = u; others = us; whole = whole; left = p.1; passes = p.0 }
 
   mid_is : mid ≡ record old { place = old.place + 1 }
-  mid_is = let b = behind_backslash in let passes = b.passes in passes.moves
+  mid_is = let b = after_backslash in let passes = b.passes in passes.moves
 
   one_before : old.place + 1 - 1 ≡ old.place
   one_before = omega arith
@@ -241,9 +241,9 @@ module _ (e : Environment) (added start : ℕ) (old mid new : Cursor) (front : B
       go _ same (property_answer.some backslash w more whole spells obeys covers on) = cc same
       go _ same (property_answer.none stays (inl never)) = true≢false (sym (unicode_is e sets) ∙ never)
       go _ same (property_answer.none stays (inr other)) =
-          let b = behind_backslash in
-          let text : b.backslash.value ∷ values b.others ≡ 92 ∷ front.letter ∷ front.behind = ap values (sym b.whole) ∙ front.whole in
-          let letters : values b.others ≡ front.letter ∷ front.behind = cc text in
+          let b = after_backslash in
+          let text : b.backslash.value ∷ values b.others ≡ 92 ∷ front.letter ∷ front.following = ap values (sym b.whole) ∙ front.whole in
+          let letters : values b.others ≡ front.letter ∷ front.following = cc text in
           true≢false (sym front.letter_is ∙ ap (front_is begins_property) (sym letters) ∙ ap (λ us. front_is begins_property (values us)) (sym b.left) ∙ other)
 
   on_from : (n : ℕ) → new ≡ moved n mid → new ≡ moved (n + 1) old
@@ -282,8 +282,8 @@ module _ (e : Environment) (added : ℕ) (old new : Cursor) where
   strings_some o i j s es q w more row =
       let r = row.1 in
       let first = token_some e q strings r.0 r.1 r.3 in
-      let others = class_row_tokens e o (es ++ (leave s.end ∷ [])) (behind e.mode q strings r.1) (i + length r.0) r.1 fresh j more r.4 in
-      omega (arith, first, row_shorter e (class_tokens_of (es ++ (leave s.end ∷ []))) (behind e.mode q strings r.1) r.1 fresh more others, ap length r.2, length-append w more, length-append r.0 r.1)
+      let others = class_row_tokens e o (es ++ (leave s.end ∷ [])) (next_place e.mode q strings r.1) (i + length r.0) r.1 fresh j more r.4 in
+      omega (arith, first, row_shorter e (class_tokens_of (es ++ (leave s.end ∷ []))) (next_place e.mode q strings r.1) r.1 fresh more others, ap length r.2, length-append w more, length-append r.0 r.1)
 
   pub strings_adds : (before after : ClassBuilder) (held : HeldState) → operand (held_in before) ≡ Some (held_of held) → held_in after ≡ held_of held → IsWellBuilt after → (it : ClassStringDisjunction) →
       builder_events after ≡ builder_events before ++ member_events (tree.strings it) → GivesStrings e added old new (Ok it) → AddsToSets e added old new before after
@@ -325,30 +325,30 @@ character_refused {e} {added} {old} {new} before after held d takes of (given.re
 
 -- a character that begins no range
 pub character_adds : (e : Environment) (added : ℕ) (old new : Cursor) (before after : ClassBuilder) (held : HeldState) → operand (held_in before) ≡ Some (held_of held) → held_in after ≡ held_of held → IsWellBuilt after → (it : Character) → IsOfSets e old →
-    GivesSetCharacter e added old new (Ok (Some it)) → IsRangeNext e (rest new) (held_in before) None → (place_of (held_in before) ≡ behind_meet → starts 38 (values (rest old)) ≡ false) →
+    GivesSetCharacter e added old new (Ok (Some it)) → IsRangeNext e (rest new) (held_in before) None → (place_of (held_in before) ≡ after_meet → starts 38 (values (rest old)) ≡ false) →
     builder_events after ≡ builder_events before ++ member_events (tree.character it) → AddsToSets e added old new before after
 character_adds e added old new before after held takes with well it of gives none third events =
     atom_adds added old new before after held takes with well (atom.Character it) e of (character_atom gives) events (no_high none) third (no_end none)
   where
     no_high : IsRangeNext e (rest new) (held_in before) None → place_of (held_in before) ≡ fresh → true ≡ true → BeforeHigh e (rest new) → ⊥
-    no_high (inl none) at is high = no_range_behind (held_in before) (held_of held) takes none at
+    no_high (inl none) at is high = no_range_after (held_in before) (held_of held) takes none at
     no_high (inr ends) at is high = ends.none_high high
 
     no_end : IsRangeNext e (rest new) (held_in before) None → RefusesNoEnd e new after
     no_end (inl none) = λ union. absurd (true≢false (sym union ∙ ap is_union with ∙ no_range_no_union (held_in before) (held_of held) takes none))
-    no_end (inr ends) = λ union xs a tokens is hyphen behind whole hyphen_is us first_at added place d c.
-        no_escape_refused e of.sets behind (ends.nothing_behind hyphen behind whole hyphen_is) us first_at added place d c
+    no_end (inr ends) = λ union xs a tokens is hyphen following whole hyphen_is us first_at added place d c.
+        no_escape_refused e of.sets following (ends.nothing_after hyphen following whole hyphen_is) us first_at added place d c
 
--- The units behind the next are code points where all are.
-pub code_points_behind : (old new : Cursor) (u : CodePoint) (more : List CodePoint) → rest old ≡ u ∷ more → new ≡ moved 1 old → All (λ unit. unit.value ≤ 0x10FFFF) (rest old) → All (λ unit. unit.value ≤ 0x10FFFF) (rest new)
-code_points_behind old new u more whole moves all =
+-- The units after the next are code points where all are.
+pub code_points_after : (old new : Cursor) (u : CodePoint) (more : List CodePoint) → rest old ≡ u ∷ more → new ≡ moved 1 old → All (λ unit. unit.value ≤ 0x10FFFF) (rest old) → All (λ unit. unit.value ≤ 0x10FFFF) (rest new)
+code_points_after old new u more whole moves all =
     let p = passes_moved old new (u ∷ []) more whole (omega arith) moves in
     subst (All (λ unit. unit.value ≤ 0x10FFFF)) (sym p.1) (All-tail (λ (unit : CodePoint). unit.value ≤ 0x10FFFF) u more (subst (All (λ unit. unit.value ≤ 0x10FFFF)) whole all))
 
 pub next_read : (old new : Cursor) (read : EscapeRead) (front : EndsRange (rest old) read) → new ≡ moved 1 old → set_character_at (rest new) ≡ read
 next_read old new read front moves =
     let p = passes_moved old new (front.hyphen ∷ []) front.more front.whole (omega arith) moves in
-    ap set_character_at p.1 ∙ front.behind
+    ap set_character_at p.1 ∙ front.following
 
 pub keeps_fitting : (added : ℕ) (old new : Cursor) → KeepsUnits old new → AreFitting added old → AreFitting added new
 keeps_fitting added old new keeps fits = subst (AreFitting added) (sym keeps.same) record { first = fits.first; ends = fits.ends }
@@ -389,30 +389,30 @@ module _ (mode : Mode) (added : ℕ) (old new : Cursor) (before : ClassBuilder) 
       (item_before h (p.w ++ (p.hyphen ∷ (p.v ++ rest new))) (p.passes.whole ∙ append_assoc p.w (p.hyphen ∷ p.v) (rest new))) (ranged_union (held_in before) after ranges)
       record { low_kind = low.kind; low_is = p.low_is; hyphen_is = p.hyphen_is; high_kind = high.kind; high_is = p.high_is } below)
 
-module _ (e : Environment) (added : ℕ) (old mid behind new : Cursor) (before after : ClassBuilder) (held : HeldState) (ranges : ranged (held_in before) ≡ Some (held_of held)) (low : Character) (of : IsOfSets e old)
-    (low_gives : GivesSetCharacter e added old mid (Ok (Some low))) {read : EscapeRead} (front : EndsRange (rest mid) read) (moves : behind ≡ moved 1 mid) where
-  dash : DashStands e added old behind (atom.Character low) (span_to added (offset_of mid) behind)
+module _ (e : Environment) (added : ℕ) (old mid following new : Cursor) (before after : ClassBuilder) (held : HeldState) (ranges : ranged (held_in before) ≡ Some (held_of held)) (low : Character) (of : IsOfSets e old)
+    (low_gives : GivesSetCharacter e added old mid (Ok (Some low))) {read : EscapeRead} (front : EndsRange (rest mid) read) (moves : following ≡ moved 1 mid) where
+  dash : DashStands e added old following (atom.Character low) (span_to added (offset_of mid) following)
   dash = dash_given e added old (character_atom low_gives) refl refl front.dashed refl moves refl
 
-  pair : (high : Character) → GivesSetCharacter e added behind new (Ok (Some high)) → PairStands e added old new (atom.Character low) (atom.Character high) (span_to added (offset_of mid) behind)
+  pair : (high : Character) → GivesSetCharacter e added following new (Ok (Some high)) → PairStands e added old new (atom.Character low) (atom.Character high) (span_to added (offset_of mid) following)
   pair high gives = pair_given e added old dash (character_atom gives)
 
-  pub range_keeps : (high : Character) → GivesSetCharacter e added behind new (Ok (Some high)) → KeepsUnits old new
+  pub range_keeps : (high : Character) → GivesSetCharacter e added following new (Ok (Some high)) → KeepsUnits old new
   range_keeps high gives = let p = pair high gives in passes_keeps p.passes
 
-  pub end_refused : (d : Diagnostic) → GivesSetCharacter e added behind new (Err d) → GivesTurn e added old new before after (Err (fault.Diagnostic d))
+  pub end_refused : (d : Diagnostic) → GivesSetCharacter e added following new (Err d) → GivesTurn e added old new before after (Err (fault.Diagnostic d))
   end_refused d (given.refused cause keeps) =
-      by_text (λ e. DashStands e added old behind (atom.Character low) (span_to added (offset_of mid) behind) → IsEscapeCause e.mode behind.units behind.first added behind.place (rest behind) d →
+      by_text (λ e. DashStands e added old following (atom.Character low) (span_to added (offset_of mid) following) → IsEscapeCause e.mode following.units following.first added following.place (rest following) d →
       GivesTurn e added old new before after (Err (fault.Diagnostic d))) of
-      (λ s cause. said_gives d (keeps_on (passes_keeps s.passes) keeps) (escape_says_more d cause) (end_cause e.mode added old behind before (held_of held) ranges s d cause)) dash cause
+      (λ s cause. said_gives d (keeps_on (passes_keeps s.passes) keeps) (escape_says_more d cause) (end_cause e.mode added old following before (held_of held) ranges s d cause)) dash cause
 
-  pub range_refused : (high : Character) (d : Diagnostic) → GivesSetCharacter e added behind new (Ok (Some high)) → IsSetRange low high (Err d) → GivesTurn e added old new before after (Err (fault.Diagnostic d))
+  pub range_refused : (high : Character) (d : Diagnostic) → GivesSetCharacter e added following new (Ok (Some high)) → IsSetRange low high (Err d) → GivesTurn e added old new before after (Err (fault.Diagnostic d))
   range_refused high _ gives (turn.out_of_order below) =
       let d = CharacterClassRangeOutOfOrder (between low.span.start high.span.end) range_kind.ClassSet in
-      by_text (λ e. PairStands e added old new (atom.Character low) (atom.Character high) (span_to added (offset_of mid) behind) → GivesTurn e added old new before after (Err (fault.Diagnostic d))) of
+      by_text (λ e. PairStands e added old new (atom.Character low) (atom.Character high) (span_to added (offset_of mid) following) → GivesTurn e added old new before after (Err (fault.Diagnostic d))) of
       (λ p. said_gives d (passes_keeps p.passes) (λ k. let no : ⊥ = cc k in no) (λ from h. (old.place, order_cause e.mode added old new before (held_of held) ranges p of.sets below from h))) (pair high gives)
 
-  pub range_adds : (high : Character) (range : CharacterClassRange) → GivesSetCharacter e added behind new (Ok (Some high)) → IsSetRange low high (Ok range) → held_in after ≡ held_of held → IsWellBuilt after →
+  pub range_adds : (high : Character) (range : CharacterClassRange) → GivesSetCharacter e added following new (Ok (Some high)) → IsSetRange low high (Ok range) → held_in after ≡ held_of held → IsWellBuilt after →
       builder_events after ≡ builder_events before ++ member_events (tree.range range) → AddsToSets e added old new before after
   range_adds high _ gives (turn.range ordered) with well events =
       let p = pair high gives in

@@ -18,7 +18,7 @@ use Rattle.rx_class.specs.PropertyAnswers as property_answer
 use Rattle.rx_class.specs.SetAnswers.{GivesSetCharacter, some}
 use Rattle.rx_class.specs.SetFronts.{EndsRange, FrontRead, IsSetFront, bracket_next, character_front, character_next, closer_next, escape_next, less_next, meet_next, nothing_next, property_next, set_character_at, strings_next}
 use Rattle.rx_class.specs.SetReading.{AddsToSets}
-use Rattle.rx_class.specs.SetSteps.{TakesStepsBehind, most_behind_backslash, most_end_looks, most_front_behind, most_front_looks, most_set_looks}
+use Rattle.rx_class.specs.SetSteps.{TakesStepsAfter, most_after_backslash, most_end_looks, most_front_after, most_front_looks, most_set_looks}
 use Rattle.rx_class.specs.WellBuilt.{IsSound}
 use Rattle.rx_class.proofs.Keeping.{passes_moved}
 use Rattle.rx_class.proofs.SetCharacters.{set_character_spelled, set_too_many_within, spelled_set_character}
@@ -46,21 +46,21 @@ adds_left {e} {added} {old} {new} a =
     let keeps = a.keeps in
     omega (arith, a.goes_on, keeps.within, ap (λ (r : Cursor). length r.units) keeps.same, length-drop new.place new.units, length-drop old.place old.units)
 
--- The bound is met where it is met behind a backslash.
-looks_below : (us : List CodePoint) (read : EscapeRead) (n : ℕ) → ((units : ℕ) → units ≤ length us → most_behind_backslash units read ≤ n) → most_set_looks us read ≤ n
+-- The bound is met where it is met after a backslash.
+looks_below : (us : List CodePoint) (read : EscapeRead) (n : ℕ) → ((units : ℕ) → units ≤ length us → most_after_backslash units read ≤ n) → most_set_looks us read ≤ n
 looks_below [] read n h = omega arith
 looks_below (u ∷ us) read n h = cond_both (u.value == 92) _ _ (λ most. most ≤ n) (λ is. h (length us) (omega arith)) (λ other. omega arith)
 
-behind_fits : (us : List CodePoint) (read : EscapeRead) → set_character_at us ≡ read → (units : ℕ) → units ≤ length us → most_behind_backslash units read ≤ length us + 3
-behind_fits us (escaped k v n) h units few =
+after_fits : (us : List CodePoint) (read : EscapeRead) → set_character_at us ≡ read → (units : ℕ) → units ≤ length us → most_after_backslash units read ≤ length us + 3
+after_fits us (escaped k v n) h units few =
     let f = set_character_spelled with_v refl k v n us h in omega (arith, f.count, ap length f.whole, length-append f.w f.rest)
-behind_fits us nothing h units few = omega arith
-behind_fits us (too_many n) h units few = omega (arith, set_too_many_within with_v refl us n h)
-behind_fits us no_unicode h units few = omega arith
+after_fits us nothing h units few = omega arith
+after_fits us (too_many n) h units few = omega (arith, set_too_many_within with_v refl us n h)
+after_fits us no_unicode h units few = omega arith
 
 -- Whatever is found, not many more steps are taken than units are left.
 pub looks_fit : (us : List CodePoint) (read : EscapeRead) → set_character_at us ≡ read → most_set_looks us read ≤ length us + 3
-looks_fit us read h = looks_below us read (length us + 3) (behind_fits us read h)
+looks_fit us read h = looks_below us read (length us + 3) (after_fits us read h)
 
 -- So few steps are taken to look at a character over which the reader moves then.
 pub character_left : {e : Environment} {added : ℕ} {old new : Cursor} {it : Character} (us : List CodePoint) (read : EscapeRead) → us ≡ rest old → is_sets e.mode ≡ true → set_character_at us ≡ read → GivesSetCharacter e added old new (Ok (Some it)) →
@@ -72,19 +72,19 @@ character_left {e} {added} {old} {new} {it} us read here sets h (some w more who
     let few : most_set_looks us (escaped it.kind it.value (length w)) ≤ length w + 3 = looks_below us (escaped it.kind it.value (length w)) (length w + 3) (λ units some. omega arith) in
     subst (λ read. most_set_looks us read + 5 * left new ≤ 5 * left old) (sym is) (omega (arith, few, positive, ap length passes.whole, length-append w (rest new)))
 
--- the units behind the first
-abbrev pub units_behind : List CodePoint → List CodePoint
-units_behind us = take (length us - 1) (drop 1 us)
+-- the units after the first
+abbrev pub units_after : List CodePoint → List CodePoint
+units_after us = take (length us - 1) (drop 1 us)
 
--- behind a backslash, which units begin with
+-- after a backslash, which units begin with
 module _ (none : CodePoint) where
-  pub backslash_looks : (us : List CodePoint) (read : EscapeRead) → (get_or us 0 none).value ≡ 92 → 1 ≤ length us → most_set_looks us read ≡ most_behind_backslash (length (units_behind us)) read
+  pub backslash_looks : (us : List CodePoint) (read : EscapeRead) → (get_or us 0 none).value ≡ 92 → 1 ≤ length us → most_set_looks us read ≡ most_after_backslash (length (units_after us)) read
   backslash_looks [] read is first = absurd (omega arith)
   backslash_looks (u ∷ us) read is first =
       cond-true (u.value == 92) _ _ (ap (λ c. c == 92) is)
-      ∙ ap (λ units. most_behind_backslash units read) (let same : length us ≡ length (units_behind (u ∷ us)) = omega (arith, length-take (length (u ∷ us) - 1) us) in same)
+      ∙ ap (λ units. most_after_backslash units read) (let same : length us ≡ length (units_after (u ∷ us)) = omega (arith, length-take (length (u ∷ us) - 1) us) in same)
 
-  pub backslash_front_looks : (us : List CodePoint) (read : FrontRead) → (get_or us 0 none).value ≡ 92 → 1 ≤ length us → most_front_looks us read ≡ most_front_behind (length (units_behind us)) read
+  pub backslash_front_looks : (us : List CodePoint) (read : FrontRead) → (get_or us 0 none).value ≡ 92 → 1 ≤ length us → most_front_looks us read ≡ most_front_after (length (units_after us)) read
   backslash_front_looks us closer_next is first = refl
   backslash_front_looks us (bracket_next negative) is first = refl
   backslash_front_looks us strings_next is first = refl
@@ -115,7 +115,7 @@ front_fits us (escape_next kind) front = omega arith
 front_fits us property_next front = omega arith
 front_fits us nothing_next front = omega arith
 
--- The end of a range is looked at behind its `-`, over which the reader moves first.
+-- The end of a range is looked at after its `-`, over which the reader moves first.
 pub end_moves : (old mid : Cursor) (read : EscapeRead) (front : EndsRange (rest old) read) → mid ≡ moved 1 old → (most_end_looks (rest old) read ≡ most_set_looks (rest mid) read) × (left old ≡ left mid + 1)
 end_moves old mid read front moves =
     let there = (passes_moved old mid (front.hyphen ∷ []) front.more front.whole (omega arith) moves).1 in
@@ -123,13 +123,13 @@ end_moves old mid read front moves =
 
 module _ {A E : Type 0} (old mid new : ℕ) where
   -- Steps that were taken before a call, and those before it.
-  pub behind_steps : (before behind : ℕ) (from on to : Cursor) (result : Result A E) → old + left from ≤ mid + left on → before + mid + 6 * left on ≤ old + 6 * left from + behind →
-      TakesStepsBehind behind 6 mid new on to result → TakesStepsBehind before 6 old new from to result
-  behind_steps before behind from on to (Ok it) least most h = (omega (arith, h.0), omega (arith, h.1))
-  behind_steps before behind from on to (Err e) least most h = omega (arith, h)
+  pub after_steps : (before following : ℕ) (from on to : Cursor) (result : Result A E) → old + left from ≤ mid + left on → before + mid + 6 * left on ≤ old + 6 * left from + following →
+      TakesStepsAfter following 6 mid new on to result → TakesStepsAfter before 6 old new from to result
+  after_steps before following from on to (Ok it) least most h = (omega (arith, h.0), omega (arith, h.1))
+  after_steps before following from on to (Err e) least most h = omega (arith, h)
 
   -- A call to which so few looks belong keeps the pace with them.
-  pub with_looks : (looks : ℕ) (from to : Cursor) (result : Result A E) → old ≤ mid → mid ≤ old + looks → TakesStepsBehind looks 6 mid new from to result → TakesSteps 6 old new from to result
+  pub with_looks : (looks : ℕ) (from to : Cursor) (result : Result A E) → old ≤ mid → mid ≤ old + looks → TakesStepsAfter looks 6 mid new from to result → TakesSteps 6 old new from to result
   with_looks looks from to (Ok it) least most h = (omega (arith, h.0), omega (arith, h.1))
   with_looks looks from to (Err e) least most h = omega (arith, h)
 

@@ -5,7 +5,7 @@ use Rattle.std.specs.List.{flat_map}
 use Rattle.std.proofs.lemmas.List.Elements.{All-head, All-tail}
 use Rattle.rx_units.specs.declared.code_point.CodePoint.{CodePoint}
 use Rattle.rx_units.specs.Cursor.{Cursor, rest}
-use Rattle.rx_model.specs.Classes.ClassRows.{ClassRow, ClassTokenRow, Place, behind, outside, fresh, behind_meet, behind_less}
+use Rattle.rx_model.specs.Classes.ClassRows.{ClassRow, ClassTokenRow, Place, next_place, outside, fresh, after_meet, after_less}
 use Rattle.rx_model.specs.Classes.ClassRuns.{Bracket, Brackets, Held, empty, single, several, meeting, met, lessening, lessened, class_opened, class_run, is_union, is_whole, less_by, met_by, operand, ranged, takes_operand}
 use Rattle.rx_model.specs.Classes.ClassTokens.{ClassEvents, enter, leave, token, class_tokens_of}
 use Rattle.rx_model.specs.Inputs.Environment.{Environment}
@@ -14,7 +14,7 @@ use Rattle.rx_units.proofs.Choices.{Some-inj}
 use Rattle.rx_model.proofs.Classes.ClassTokens.{tokens_append}
 use Rattle.rx_model.proofs.Classes.ClassUnspanned.{class_row_tokens}
 use Rattle.rx_model.proofs.Classes.ClassWholes.{class_opened-append, class_run-append}
-use Rattle.rx_model.proofs.Classes.OpenBrackets.{behind_opened, nested_run, row_alone}
+use Rattle.rx_model.proofs.Classes.OpenBrackets.{after_opened, nested_run, row_alone}
 use Rattle.rx_class.specs.declared.class_builder.ClassBuilder.{ClassBuilder}
 use Rattle.rx_class.specs.declared.open_bracket.OpenBracket.{OpenBracket}
 use Rattle.rx_class.specs.ClassBuilding.{bracket_at, bracket_events, builder_events}
@@ -40,7 +40,7 @@ whole_fresh met h = refl
 whole_fresh lessening h = absurd (let no : ⊥ = cc h in no)
 whole_fresh lessened h = refl
 
--- behind an operand
+-- after an operand
 pub operand_fresh : (held after : Held) → operand held ≡ Some after → place_of after ≡ fresh
 operand_fresh empty after h = ap place_of (sym (Some-inj h))
 operand_fresh single after h = ap place_of (sym (Some-inj h))
@@ -50,7 +50,7 @@ operand_fresh met after h = absurd (let no : ⊥ = cc h in no)
 operand_fresh lessening after h = ap place_of (sym (Some-inj h))
 operand_fresh lessened after h = absurd (let no : ⊥ = cc h in no)
 
--- before and behind a range
+-- before and after a range
 pub ranged_fresh : (held after : Held) → ranged held ≡ Some after → (place_of held ≡ fresh) × (place_of after ≡ fresh)
 ranged_fresh empty after h = (refl, ap place_of (sym (Some-inj h)))
 ranged_fresh single after h = (refl, ap place_of (sym (Some-inj h)))
@@ -60,7 +60,7 @@ ranged_fresh met after h = absurd (let no : ⊥ = cc h in no)
 ranged_fresh lessening after h = absurd (let no : ⊥ = cc h in no)
 ranged_fresh lessened after h = absurd (let no : ⊥ = cc h in no)
 
--- An operand behind which no union is stands where no range may.
+-- An operand after which no union is stands where no range may.
 pub no_range_no_union : (held after : Held) → operand held ≡ Some after → ranged held ≡ None → is_union after ≡ false
 no_range_no_union empty after h none = absurd (let no : ⊥ = cc none in no)
 no_range_no_union single after h none = absurd (let no : ⊥ = cc none in no)
@@ -70,8 +70,8 @@ no_range_no_union met after h none = absurd (let no : ⊥ = cc h in no)
 no_range_no_union lessening after h none = ap is_union (sym (Some-inj h))
 no_range_no_union lessened after h none = absurd (let no : ⊥ = cc h in no)
 
--- before and behind `&&`
-pub met_places : (held after : Held) → met_by held ≡ Some after → (place_of held ≡ fresh) × (place_of after ≡ behind_meet)
+-- before and after `&&`
+pub met_places : (held after : Held) → met_by held ≡ Some after → (place_of held ≡ fresh) × (place_of after ≡ after_meet)
 met_places empty after h = absurd (let no : ⊥ = cc h in no)
 met_places single after h = (refl, ap place_of (sym (Some-inj h)))
 met_places several after h = absurd (let no : ⊥ = cc h in no)
@@ -80,8 +80,8 @@ met_places met after h = (refl, ap place_of (sym (Some-inj h)))
 met_places lessening after h = absurd (let no : ⊥ = cc h in no)
 met_places lessened after h = absurd (let no : ⊥ = cc h in no)
 
--- before and behind `--`
-pub less_places : (held after : Held) → less_by held ≡ Some after → (place_of held ≡ fresh) × (place_of after ≡ behind_less)
+-- before and after `--`
+pub less_places : (held after : Held) → less_by held ≡ Some after → (place_of held ≡ fresh) × (place_of after ≡ after_less)
 less_places empty after h = absurd (let no : ⊥ = cc h in no)
 less_places single after h = (refl, ap place_of (sym (Some-inj h)))
 less_places several after h = absurd (let no : ⊥ = cc h in no)
@@ -140,9 +140,9 @@ inner_alone : (b : ClassBuilder) → b.outer ≡ [] → builder_events b ≡ bra
 unfolding builder_events
 inner_alone b none = ap (λ bs. flat_map bracket_events bs ++ bracket_events b.inner) none
 
-inner_behind : (b : ClassBuilder) (bs : List OpenBracket) → b.outer ≡ bs → builder_events b ≡ flat_map bracket_events bs ++ bracket_events b.inner
+inner_after : (b : ClassBuilder) (bs : List OpenBracket) → b.outer ≡ bs → builder_events b ≡ flat_map bracket_events bs ++ bracket_events b.inner
 unfolding builder_events
-inner_behind b bs are = ap (λ bs. flat_map bracket_events bs ++ bracket_events b.inner) are
+inner_after b bs are = ap (λ bs. flat_map bracket_events bs ++ bracket_events b.inner) are
 
 pub built_opens : (b : ClassBuilder) → IsWellBuilt b → BuiltOpens b
 built_opens b well = go b.outer refl
@@ -157,7 +157,7 @@ built_opens b well = go b.outer refl
         let ts = class_tokens_of (flat_map bracket_events (x ∷ bs)) in record {
           outer = around.inner ∷ around.outer;
           opened =
-              ap (λ es. class_opened (class_tokens_of es)) (inner_behind b (x ∷ bs) are)
+              ap (λ es. class_opened (class_tokens_of es)) (inner_after b (x ∷ bs) are)
               ∙ ap class_opened (tokens_append (flat_map bracket_events (x ∷ bs)) (bracket_events b.inner))
               ∙ class_opened-append ts (class_tokens_of (bracket_events b.inner)) (around.inner ∷ around.outer) around.opened
               ∙ opens_in b.inner around.inner around.outer inner around.takes;
@@ -177,7 +177,7 @@ module _ (e : Environment) (o : ℕ → ℕ) where
   split_row ((enter n) ∷ es) fs q i us r j end h = let s = split_row es fs q i us r j end h.1 in record { at = s.at; place = s.place; left = s.left; first = (h.0, s.first); others = s.others }
   split_row ((leave n) ∷ es) fs q i us r j end h = let s = split_row es fs q i us r j end h.1 in record { at = s.at; place = s.place; left = s.left; first = (h.0, s.first); others = s.others }
   split_row ((token t) ∷ es) fs q i us r j end h =
-      let s = split_row es fs (behind e.mode q t h.1) (i + length h.0) h.1 r j end h.4 in
+      let s = split_row es fs (next_place e.mode q t h.1) (i + length h.0) h.1 r j end h.4 in
       record { at = s.at; place = s.place; left = s.left; first = (h.0, h.1, h.2, h.3, s.first); others = s.others }
 
   -- A row keeps the sum of its place and of what is left.
@@ -186,7 +186,7 @@ module _ (e : Environment) (o : ℕ → ℕ) where
   row_place ((enter n) ∷ es) q i us r j end h = row_place es q i us r j end h.1
   row_place ((leave n) ∷ es) q i us r j end h = row_place es q i us r j end h.1
   row_place ((token t) ∷ es) q i us r j end h =
-      omega (arith, row_place es (behind e.mode q t h.1) (i + length h.0) h.1 r j end h.4, ap length h.2, length-append h.0 h.1)
+      omega (arith, row_place es (next_place e.mode q t h.1) (i + length h.0) h.1 r j end h.4, ap length h.2, length-append h.0 h.1)
 
   -- An open bracket begins where its row does.
   begins_at : (b : OpenBracket) (q : Place) (i : ℕ) (us : List CodePoint) (r : Place) (j : ℕ) (end : List CodePoint) → ClassRow e o (bracket_events b) q i us r j end → b.start ≡ o i
@@ -268,11 +268,11 @@ module _ {e : Environment} {added : ℕ} {from r : Cursor} {b : ClassBuilder} (h
           }
       go (x ∷ bs) are =
           let before : ClassEvents = flat_map bracket_events (x ∷ bs) in
-          let row = subst (λ es. ClassRow e o es outside from.place (rest from) q r.place (rest r)) (inner_behind b (x ∷ bs) are) h.row in
+          let row = subst (λ es. ClassRow e o es outside from.place (rest from) q r.place (rest r)) (inner_after b (x ∷ bs) are) h.row in
           let s = split_row e o before own outside from.place (rest from) q r.place (rest r) row in
           let around = around_open x bs (subst (All IsAround) are well.outer) in
           let first = class_row_tokens e o before outside from.place (rest from) s.at s.place s.left s.first in
-          let inside = behind_opened e (class_tokens_of before) (around.inner ∷ around.outer) (rest from) s.at s.left around.opened first in
+          let inside = after_opened e (class_tokens_of before) (around.inner ∷ around.outer) (rest from) s.at s.left around.opened first in
           let on = row_alone e (class_tokens_of own) (bracket_at b.inner ∷ []) s.at s.left q (rest r) inner.opens inside (class_row_tokens e o own s.at s.place s.left q r.place (rest r) s.others) in record {
             begin = s.place;
             in_bracket = record {

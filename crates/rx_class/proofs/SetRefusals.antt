@@ -92,7 +92,7 @@ module _ (mode : Mode) (added : ℕ) (r : Cursor) (b : ClassBuilder) where
         follows = stands.follows;
         none_refused = λ takes. stands.none_refused (takes (begins_place (held_in b)));
         no_third = stands.no_third;
-        no_end = λ low hyphen behind whole is d c. h.ends low.of_union low.before low.atom low.tokens_are low.is_low hyphen behind whole is r.units r.first added (r.place + 1) d c;
+        no_end = λ low hyphen following whole is d c. h.ends low.of_union low.before low.atom low.tokens_are low.is_low hyphen following whole is r.units r.first added (r.place + 1) d c;
       }
       r.place d (nothing_cause d sets stands says from h)) (stays_keeps r r within refl)
 

@@ -5,7 +5,7 @@ use Rattle.std.proofs.lemmas.List.{length-map}
 use Rattle.rx_units.specs.declared.code_point.CodePoint.{CodePoint}
 use Rattle.rx_units.specs.Cursor.{Cursor, moved, offset_of, rest}
 use Rattle.rx_units.specs.Units.{values}
-use Rattle.rx_model.specs.Classes.ClassRows.{ClassRow, Place, SpellsBracket, SpellsInClass, behind, outside, fresh, at_dash, at_high, at_second, at_third, behind_meet, behind_less, in_strings}
+use Rattle.rx_model.specs.Classes.ClassRows.{ClassRow, Place, SpellsBracket, SpellsInClass, next_place, outside, fresh, at_dash, at_high, at_second, at_third, after_meet, after_less, in_strings}
 use Rattle.rx_model.specs.Classes.ClassRuns.{empty, is_whole, less_by, met_by}
 use Rattle.rx_model.specs.Classes.ClassTokens.{Atom, ClassEvents, ClassToken, bracket, closer, enter, is_character, item, leave, less, meet, token, class_tokens_of}
 use Rattle.rx_model.specs.Inputs.Environment.{Environment, is_sets}
@@ -29,7 +29,7 @@ last_same [] (b ∷ ys) x y h = absurd (omega (arith, ap length h, length-append
 last_same (a ∷ xs) [] x y h = absurd (omega (arith, ap length h, length-append xs (x ∷ [])))
 last_same (a ∷ xs) (b ∷ ys) x y h = last_same xs ys x y (let k : xs ++ (x ∷ []) ≡ ys ++ (y ∷ []) = cc h in k)
 
--- Behind another token than a character no range is begun.
+-- After another token than a character no range is begun.
 pub last_no_character : (e : Environment) (r : Cursor) (before after : ClassBuilder) (more : ClassEvents) (ts : List ClassToken) (t : ClassToken) → builder_events after ≡ builder_events before ++ more →
     class_tokens_of more ≡ ts ++ (t ∷ []) → ((a : Atom) → t ≡ item a → is_character a ≡ true → ⊥) → RefusesNoEnd e r after
 last_no_character e r before after more ts t events last other union xs a tokens is =
@@ -58,9 +58,9 @@ module _ (e : Environment) (added : ℕ) (old new : Cursor) (before after : Clas
 
   -- one token more
   pub adds_token : (t : ClassToken) (w left : List CodePoint) (q : Place) → rest old ≡ w ++ left → 0 < length w → new ≡ moved (length w) old → builder_events after ≡ builder_events before ++ (token t ∷ []) →
-      place_of (held_in before) ≡ q → place_of (held_in after) ≡ behind e.mode q t left → SpellsInClass e q t w left → IsWellBuilt after → ((a : Atom) → t ≡ item a → is_character a ≡ true → ⊥) → AddsToSets e added old new before after
+      place_of (held_in before) ≡ q → place_of (held_in after) ≡ next_place e.mode q t left → SpellsInClass e q t w left → IsWellBuilt after → ((a : Atom) → t ≡ item a → is_character a ≡ true → ⊥) → AddsToSets e added old new before after
   adds_token t w left q whole some moves events from to spelled well other =
-      adds_by (token t ∷ []) w left q (behind e.mode q t left) whole some moves events from to (w, left, refl, spelled, (refl, refl, refl)) well
+      adds_by (token t ∷ []) w left q (next_place e.mode q t left) whole some moves events from to (w, left, refl, spelled, (refl, refl, refl)) well
       (last_no_character e new before after (token t ∷ []) [] t events refl other)
 
 -- What was built so far goes on with more.
@@ -95,15 +95,15 @@ module _ (added : ℕ) (old new : Cursor) (before after : ClassBuilder) (held : 
       adds_token e added old new before after less front.w front.rest fresh front.whole (omega (arith, n)) (moves ∙ ap (λ n. moved n old) (sym n)) events places.0 (ap place_of with ∙ places.1) (of.sets, front.text_is) well
       (λ a same is. let no : ⊥ = cc same in no)
 
--- Behind an item, or an operator, a nested bracket may stand.
+-- After an item, or an operator, a nested bracket may stand.
 bracket_there : (e : Environment) (q : Place) (negative : Bool) (w left : List CodePoint) → begins_item q ≡ true → is_sets e.mode ≡ true → SpellsBracket negative w left → SpellsInClass e q (bracket negative) w left
 bracket_there e fresh negative w left begins sets s = (sets, s)
-bracket_there e behind_meet negative w left begins sets s = (sets, s, no_ampersand negative s)
+bracket_there e after_meet negative w left begins sets s = (sets, s, no_ampersand negative s)
   where
     no_ampersand : (negative : Bool) → SpellsBracket negative w left → starts 38 (values w) ≡ false
     no_ampersand true s = ap (starts 38) s
     no_ampersand false s = ap (starts 38) s.0
-bracket_there e behind_less negative w left begins sets s = (sets, s)
+bracket_there e after_less negative w left begins sets s = (sets, s)
 bracket_there e outside negative w left begins sets s = absurd (true≢false (sym begins))
 bracket_there e at_dash negative w left begins sets s = absurd (true≢false (sym begins))
 bracket_there e at_high negative w left begins sets s = absurd (true≢false (sym begins))

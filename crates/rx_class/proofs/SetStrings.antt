@@ -93,27 +93,27 @@ module _ (e : Environment) (sets : is_sets e.mode ≡ true) (added : ℕ) (old n
         sound = λ s. subst AreSoundStrings (sym is) record { early = s.early; letters = All-push (λ (c : Character). IsCodePoint c.value) b.letters c s.letters small; may = s.may };
       }
 
-  -- A bar more: a string ends before it, and the next begins behind it.
-  pub bar_adds : (b ended after : StringsBuilder) (before_bar behind_bar : Span) → starts 124 (values (rest old)) ≡ true → new ≡ moved 1 old → before_bar ≡ span_to added (offset_of old) old → behind_bar ≡ span_to added (offset_of new) new
-      → ended ≡ with_string b before_bar.start → after ≡ record ended { start = behind_bar.start } → Adds b after
-  bar_adds b ended after before_bar behind_bar bar moves before_is behind_is ended_is is =
+  -- A bar more: a string ends before it, and the next begins after it.
+  pub bar_adds : (b ended after : StringsBuilder) (before_bar after_bar : Span) → starts 124 (values (rest old)) ≡ true → new ≡ moved 1 old → before_bar ≡ span_to added (offset_of old) old → after_bar ≡ span_to added (offset_of new) new
+      → ended ≡ with_string b before_bar.start → after ≡ record ended { start = after_bar.start } → Adds b after
+  bar_adds b ended after before_bar after_bar bar moves before_is after_is ended_is is =
       let t = unit_next 124 (rest old) bar in
       let p = passes_moved old new (t.0 ∷ []) t.1 t.2 (omega arith) moves in
       let here : before_bar.start ≡ offset_of old + added = ap (λ (s : Span). s.start) before_is in
-      let there : behind_bar.start ≡ offset_at old.first old.units (old.place + 1) + added =
-      ap (λ (s : Span). s.start) behind_is ∙ ap (λ (r : Cursor). offset_of r + added) p.0.moves in
-      let all : after ≡ record (with_string b before_bar.start) { start = behind_bar.start } = is ∙ ap (λ (b : StringsBuilder). record b { start = behind_bar.start }) ended_is in
+      let there : after_bar.start ≡ offset_at old.first old.units (old.place + 1) + added =
+      ap (λ (s : Span). s.start) after_is ∙ ap (λ (r : Cursor). offset_of r + added) p.0.moves in
+      let all : after ≡ record (with_string b before_bar.start) { start = after_bar.start } = is ∙ ap (λ (b : StringsBuilder). record b { start = after_bar.start }) ended_is in
       record {
         w = t.0 ∷ [];
         some = omega arith;
         whole = p.0.whole;
         moves = moves;
-        events = leave before_bar.start ∷ token string_bar ∷ enter behind_bar.start ∷ [];
+        events = leave before_bar.start ∷ token string_bar ∷ enter after_bar.start ∷ [];
         row = (here, (t.0 ∷ [], rest new, refl, (sets, ap (λ c. c ∷ []) t.3), (there, (refl, refl, refl))));
         adds =
             ap read_events all
-            ∙ ap (λ es. es ++ (enter behind_bar.start ∷ [])) (ended_push b.strings (last_string b before_bar.start))
-            ∙ bar_events (ended_events b.strings) (letters_events b.letters) (enter b.start) (leave before_bar.start) (token string_bar) (enter behind_bar.start);
+            ∙ ap (λ es. es ++ (enter after_bar.start ∷ [])) (ended_push b.strings (last_string b before_bar.start))
+            ∙ bar_events (ended_events b.strings) (letters_events b.letters) (enter b.start) (leave before_bar.start) (token string_bar) (enter after_bar.start);
         sound = λ s. subst AreSoundStrings (sym all) (let k = string_ends b before_bar.start s in record { early = k.early; letters = k.letters; may = k.may });
       }
 

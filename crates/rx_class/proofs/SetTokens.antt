@@ -10,7 +10,7 @@ use Rattle.rx_units.specs.Digits.{front_is}
 use Rattle.rx_model.specs.declared.mode.Mode.TheVariants.{Sets}
 use Rattle.rx_model.specs.Characters.EscapeFronts.{EscapeRead, escaped, nothing, too_many, no_unicode, any_escape_at, escape_at}
 use Rattle.rx_model.specs.Classes.ClassFronts.{AtomRead, atom_read, no_atom, atom_at, character_atom, class_token_at, dashed_of, escape_atom, escape_in_class, item_before, item_where, low_of, operand_of, operand_token, bracket_at, are_next, begins_strings, set_token, token_where, fresh_token, TokenRead}
-use Rattle.rx_model.specs.Classes.ClassRows.{Place, fresh, behind_meet, behind_less, SpellsInClass, has_hyphen, is_dashed, stands_raw_in_class}
+use Rattle.rx_model.specs.Classes.ClassRows.{Place, fresh, after_meet, after_less, SpellsInClass, has_hyphen, is_dashed, stands_raw_in_class}
 use Rattle.rx_model.specs.Classes.ClassTokens.{Atom, ClassToken, is_character, character, escape, property, closer, item, low}
 use Rattle.rx_model.specs.FirstPass.Marks.{starts}
 use Rattle.rx_model.specs.Inputs.Environment.{Environment, is_sets, is_unicode}
@@ -22,7 +22,7 @@ use Rattle.rx_model.proofs.Classes.ClassFronts.{at_backslash, class_token_is}
 use Rattle.rx_model.proofs.Classes.RefusedAtoms.{escape_first}
 use Rattle.rx_model.proofs.Properties.PropertyRefusals.{property_first}
 use Rattle.rx_class.specs.Found.{class_escape_front}
-use Rattle.rx_class.specs.SetFronts.{IsItem, IsOfCharacter, NoneRefused, behind_backslash, set_character_at, set_escape_at}
+use Rattle.rx_class.specs.SetFronts.{IsItem, IsOfCharacter, NoneRefused, after_backslash, set_character_at, set_escape_at}
 use Rattle.rx_class.proofs.SetCharacters.{mode_is, raw_in_sets, unicode_is}
 use Rattle.std.proofs.Math.Bool.{and-false}
 
@@ -57,19 +57,19 @@ atom_of nothing = no_atom
 atom_of (too_many n) = no_atom
 atom_of no_unicode = no_atom
 
-character_atom_of : (r : EscapeRead) → character_atom r ≡ atom_of (behind_backslash r)
+character_atom_of : (r : EscapeRead) → character_atom r ≡ atom_of (after_backslash r)
 character_atom_of (escaped k v n) = refl
 character_atom_of nothing = refl
 character_atom_of (too_many n) = refl
 character_atom_of no_unicode = refl
 
--- one behind a backslash too, where no property escape begins and no class escape stands.
+-- one after a backslash too, where no property escape begins and no class escape stands.
 abbrev Atomed : EscapeRead → AtomRead
-Atomed r = atom_of (behind_backslash r)
+Atomed r = atom_of (after_backslash r)
 
-pub set_character_behind : (u : CodePoint) (us : List CodePoint) → u.value ≡ 92 → set_character_at (u ∷ us) ≡ behind_backslash (set_escape_at (values us))
+pub set_character_after : (u : CodePoint) (us : List CodePoint) → u.value ≡ 92 → set_character_at (u ∷ us) ≡ after_backslash (set_escape_at (values us))
 unfolding set_character_at
-set_character_behind u us h = cond-true (u.value == 92) _ _ (ap (λ c. c == 92) h)
+set_character_after u us h = cond-true (u.value == 92) _ _ (ap (λ c. c == 92) h)
 
 -- What neither `]` nor `[` nor an operator nor `\q{` begins.
 pub record IsOther (us : List CodePoint) : Type 0 where
@@ -116,8 +116,8 @@ module _ (e : Environment) (sets : is_sets e.mode ≡ true) where
   token_of_atom : (a : Atom) (n : ℕ) (us : List CodePoint) (q : Place) → begins_item q ≡ true → atom_at e us ≡ atom_read a n → OfToken (OfAtom a) (class_token_at e q us)
   unfolding class_token_at
   token_of_atom a n us fresh b h = subst (λ r. OfToken (OfAtom a) (fresh_token e r us)) (sym h) (item_before_of a n (drop n us))
-  token_of_atom a n us behind_meet b h = where_of (OfAtom a) _ _ (subst (λ r. OfToken (OfAtom a) (operand_of r (values us))) (sym h) refl)
-  token_of_atom a n us behind_less b h = where_of (OfAtom a) _ _ (subst (λ r. OfToken (OfAtom a) (operand_of r (values us))) (sym h) refl)
+  token_of_atom a n us after_meet b h = where_of (OfAtom a) _ _ (subst (λ r. OfToken (OfAtom a) (operand_of r (values us))) (sym h) refl)
+  token_of_atom a n us after_less b h = where_of (OfAtom a) _ _ (subst (λ r. OfToken (OfAtom a) (operand_of r (values us))) (sym h) refl)
   token_of_atom a n us q b h = absurd (let no : ⊥ = cc b in no)
 
   -- or none
@@ -127,8 +127,8 @@ module _ (e : Environment) (sets : is_sets e.mode ≡ true) where
   token_of_none P us h c s o fresh b =
       subst (λ r. OfToken P (fresh_token e r us)) (sym h)
       (cond_both (starts 93 (values us)) _ _ (OfToken P) c (λ no_closer. cond_both (is_sets e.mode) _ _ (OfToken P) (λ m. s) (λ m. tt)))
-  token_of_none P us h c s o behind_meet b = where_of P _ _ (subst (λ r. OfToken P (operand_of r (values us))) (sym h) o)
-  token_of_none P us h c s o behind_less b = where_of P _ _ (subst (λ r. OfToken P (operand_of r (values us))) (sym h) o)
+  token_of_none P us h c s o after_meet b = where_of P _ _ (subst (λ r. OfToken P (operand_of r (values us))) (sym h) o)
+  token_of_none P us h c s o after_less b = where_of P _ _ (subst (λ r. OfToken P (operand_of r (values us))) (sym h) o)
   token_of_none P us h c s o q b = absurd (let no : ⊥ = cc b in no)
 
   -- So no other token is spelled.
@@ -173,7 +173,7 @@ module _ (e : Environment) (sets : is_sets e.mode ≡ true) where
   ]
 
   pub backslash_atom : (u : CodePoint) (us : List CodePoint) → u.value ≡ 92 → front_is begins_property (values us) ≡ false → class_escape_front (values us) ≡ None → atom_at e (u ∷ us) ≡ atom_of (set_character_at (u ∷ us))
-  backslash_atom u us h p c = at_backslash e u us h ∙ escape_atom_of (values us) p c ∙ ap atom_of (sym (set_character_behind u us h))
+  backslash_atom u us h p c = at_backslash e u us h ∙ escape_atom_of (values us) p c ∙ ap atom_of (sym (set_character_after u us h))
 
   pub other_none : (P : ClassToken → Type 0) (us : List CodePoint) → IsOther us → atom_at e us ≡ no_atom → Only us P
   other_none P us o h =
@@ -183,7 +183,7 @@ module _ (e : Environment) (sets : is_sets e.mode ≡ true) where
   pub atom_only : (P : ClassToken → Type 0) (us : List CodePoint) (a : Atom) (n : ℕ) → atom_at e us ≡ atom_read a n → ((t : ClassToken) → OfAtom a t → P t) → Only us P
   atom_only P us a n h into q t w more b whole s = into t (only_of (OfAtom a) us (λ q b. token_of_atom a n us q b h) q t w more b whole s)
 
-  -- No escape is refused where no backslash stands, and none but behind a `u` and the letter of a property escape.
+  -- No escape is refused where no backslash stands, and none but after a `u` and the letter of a property escape.
   pub none_refused_by : (us : List CodePoint) → ((c : ℕ) (w : List ℕ) → values us ≡ 92 ∷ c ∷ w → (c == 117) ≡ false) → ((c : ℕ) (w : List ℕ) → values us ≡ 92 ∷ c ∷ w → begins_property c ≡ false) → NoneRefused e us
   none_refused_by us no_u no_letter text first added place d (inl c) =
       let f = escape_first e text first added place us d c in let no = no_u 117 f.0 f.1 in let k : ⊥ = cc no in k

@@ -3,7 +3,7 @@ use Rattle.std.proofs.Common.{◌≡◌, refl, ap, ◌∙◌, subst, ◌==◌, t
 use Rattle.rx_units.specs.declared.code_point.CodePoint.{CodePoint}
 use Rattle.rx_units.specs.Cursor.{Cursor, rest}
 use Rattle.rx_units.specs.Units.{values}
-use Rattle.rx_model.specs.Classes.ClassRows.{behind_meet}
+use Rattle.rx_model.specs.Classes.ClassRows.{after_meet}
 use Rattle.rx_model.specs.Classes.ClassRuns.{Held, empty, single, several, meeting, met, lessening, lessened}
 use Rattle.rx_model.specs.FirstPass.Marks.{starts}
 use Rattle.rx_model.specs.Inputs.Environment.{Environment}
@@ -27,8 +27,8 @@ begins_closer us b =
 pub closer_begins : (us : List CodePoint) → starts 93 (values us) ≡ true → Begins us (93 ∷ [])
 closer_begins us h = let u = unit_next 93 us h in record { w = u.0 ∷ []; rest = u.1; whole = u.2; text_is = ap (λ c. c ∷ []) u.3 }
 
--- Behind `&&` such a `&&` is held.
-pub meets_there : (held : Held) → place_of held ≡ behind_meet → held ≡ meeting
+-- After `&&` such a `&&` is held.
+pub meets_there : (held : Held) → place_of held ≡ after_meet → held ≡ meeting
 meets_there empty h = absurd (let no : ⊥ = cc h in no)
 meets_there single h = absurd (let no : ⊥ = cc h in no)
 meets_there several h = absurd (let no : ⊥ = cc h in no)
@@ -44,5 +44,5 @@ nothing_there {e} r b us read same h takes no_third =
     let front = subst (λ us. IsSetFront e us read) same h in record {
       follows = λ t w more whole spelled. takes.no_token t (front.only (place_of (held_in b)) t w more (begins_place (held_in b)) whole spelled);
       none_refused = λ operand. front.none_refused (takes.no_escape operand);
-      no_third = λ behind. no_third (meets_there (held_in b) behind);
+      no_third = λ following. no_third (meets_there (held_in b) following);
     }

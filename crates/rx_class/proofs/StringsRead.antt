@@ -17,9 +17,8 @@ use Rattle.rx_ast.specs.ClassTree as tree
 use Rattle.rx_units.specs.declared.code_point.CodePoint.{CodePoint}
 use Rattle.rx_units.specs.Cursor.{Cursor, moved, offset_of, rest}
 use Rattle.rx_units.specs.Units.{offset_at, values}
-use Rattle.rx_model.specs.Classes.ClassRows.{ClassRow, Place, SpellsInClass, fresh, behind_meet, behind_less, in_strings}
-use Rattle.rx_model.specs.Classes.ClassRuns.{Bracket, Brackets, Held, any_string, behind_step, class_run, operand, takes_operand, where_may, where_true}
-use Rattle.rx_model.specs.Classes.ClassShapes.{IsFlaggedString}
+use Rattle.rx_model.specs.Classes.ClassRows.{ClassRow, Place, SpellsInClass, fresh, after_meet, after_less, in_strings}
+use Rattle.rx_model.specs.Classes.ClassRuns.{Bracket, Brackets, Held, any_string, after_step, class_run, operand, takes_operand, where_may, where_true}
 use Rattle.rx_model.specs.Classes.ClassTokens.{ClassEvents, ClassToken, strings, letter, string_bar, strings_end, barred_strings_events, class_tokens_of, enter, leave, letters_events, string_events, strings_events, token}
 use Rattle.rx_model.specs.FirstPass.Marks.{starts}
 use Rattle.rx_model.specs.Inputs.Environment.{Environment, is_sets}
@@ -28,7 +27,7 @@ use Rattle.rx_model.specs.Refusals.ClassPlaces.{IsOfStrings, IsOperandPlace, IsS
 use Rattle.rx_model.specs.Refusals.EscapeCauses.{IsEscapeCause, invalid_escape, too_many_hex_digits}
 use Rattle.rx_model.specs.Refusals.Firsts.{IsFirstInClass, no_item, yielding}
 use Rattle.rx_model.specs.Refusals.Reached.{class_environment}
-use Rattle.rx_model.specs.Trees.Early.{IsCodePoint, IsEarlyString}
+use Rattle.rx_model.specs.Trees.Early.{IsCodePoint, IsEarlyString, IsFlaggedString}
 use Rattle.rx_model.proofs.Classes.ClassUnspanned.{class_row_tokens}
 use Rattle.rx_model.proofs.Classes.NothingFirst.{unterminated_strings_first}
 use Rattle.rx_model.proofs.Classes.OneInClass.{said_is_first}
@@ -77,7 +76,7 @@ small_run ((letter k v) ∷ ts) b outer h =
     let small = All-head IsSmallOfStrings (letter k v) ts h in
     let more : Bracket = record b { count = b.count + 1 } in
     let again = small_run ts more outer (All-tail IsSmallOfStrings (letter k v) ts h) in
-    (again.0, ap (λ x. behind_step (where_true x (Some (more ∷ outer))) (λ bs. class_run ts bs)) (le-leb v 0x10FFFF small) ∙ again.1)
+    (again.0, ap (λ x. after_step (where_true x (Some (more ∷ outer))) (λ bs. class_run ts bs)) (le-leb v 0x10FFFF small) ∙ again.1)
 small_run (string_bar ∷ ts) b outer h = small_run ts (record b { count = 0; any = any_string b }) outer (All-tail IsSmallOfStrings string_bar ts h)
 small_run (t ∷ ts) b outer h = absurd (All-head IsSmallOfStrings t ts h)
 
@@ -133,15 +132,15 @@ some_string (x ∷ ss) s h = cc h
 
 -- An escape that is refused says what stands there.
 pub escape_says_more : {mode : _} {us : List CodePoint} {first added place : ℕ} {rest : List CodePoint} (d : Diagnostic) → IsEscapeCause mode us first added place rest d → yielding d ≢ no_item
-escape_says_more _ (too_many_hex_digits count behind u h p) k = cc k
-escape_says_more _ (invalid_escape behind u h no_value no_limit) k = cc k
+escape_says_more _ (too_many_hex_digits count following u h p) k = cc k
+escape_says_more _ (invalid_escape following u h no_value no_limit) k = cc k
 
 module _ (e : Environment) (sets : is_sets e.mode ≡ true) (added : ℕ) (old : Cursor) where
   -- where an operand may stand class strings may begin
   opener_spelled : (q : Place) (w more : List CodePoint) → begins_item q ≡ true → values w ≡ 92 ∷ 113 ∷ 123 ∷ [] → SpellsInClass e q strings w more
   opener_spelled fresh w more b h = (sets, h)
-  opener_spelled behind_meet w more b h = (sets, h, ap (starts 38) h)
-  opener_spelled behind_less w more b h = (sets, h)
+  opener_spelled after_meet w more b h = (sets, h, ap (starts 38) h)
+  opener_spelled after_less w more b h = (sets, h)
   opener_spelled q w more b h = absurd (true≢false (sym b))
 
   pub strings_begin : (new : Cursor) (b : StringsBuilder) (here : Span) → Begins (rest old) (92 ∷ 113 ∷ 123 ∷ []) → new ≡ moved 3 old → here ≡ span_to added (offset_of new) new → b ≡ started here.start → IsInStrings e added old new b
@@ -246,7 +245,7 @@ module _ (e : Environment) (sets : is_sets e.mode ≡ true) (added : ℕ) (old :
           row = (h.opener, h.w ++ rest r, whole, opener_spelled i.at h.opener (h.w ++ rest r) i.begins h.opener_is, row);
           inner = run.0;
           outer = i.outer;
-          accepted = ap (λ o. behind_step o (λ bs. class_run inside bs)) (opens i.inner.held (record i.inner { count = 0; any = false } ∷ i.outer) p.takes) ∙ run.1;
+          accepted = ap (λ o. after_step o (λ bs. class_run inside bs)) (opens i.inner.held (record i.inner { count = 0; any = false } ∷ i.outer) p.takes) ∙ run.1;
           place_is = omega (arith, i.place_is, place, ap length h.passes.whole, length-append (h.opener ++ h.w) (rest r));
         }
 

@@ -1,5 +1,6 @@
 -- What the reader of classes answers, and where it leaves the reader. A span has an offset added to both its ends.
 use Rattle.std.specs.Prelude.{◌≡◌, ℕ, ◌+◌, false, Option, Some, None, Result, Ok, Err, List, ◌++◌, length}
+use Rattle.rx_base.specs.Ascii as ascii
 use Rattle.rx_base.specs.declared.diagnostic.Diagnostic.{Diagnostic}
 use Rattle.rx_base.specs.declared.fault.Fault.{Fault}
 use Rattle.rx_base.specs.declared.fault.Fault.TheVariants as fault
@@ -34,7 +35,7 @@ pub data GivesClass (e : Environment) (added : ℕ) (old new : Cursor) : Result 
       → IsClassSpanned e (λ i. offset_at old.first old.units i + added) old.place (mirror_class it) w more → IsEarlyClass (mirror_class it)
       → new ≡ moved (length w) old → GivesClass e added old new (Ok (Some it))
   -- no `[` stands there, and the reader stays
-  none : new ≡ old → starts 91 (values (rest old)) ≡ false → GivesClass e added old new (Ok None)
+  none : new ≡ old → starts ascii.left_bracket (values (rest old)) ≡ false → GivesClass e added old new (Ok None)
   -- none that is free of early errors is spelled, and the first refusal of the class is answered
   refused : {diagnostic : Diagnostic} → IsFirstInClass e.mode old.units old.first added old.place (rest old) diagnostic → BeginsNoClass e (rest old) → KeepsUnits old new
       → GivesClass e added old new (Err (fault.Diagnostic diagnostic))

@@ -1,5 +1,6 @@
 -- What the readers of a class's atoms and of its items answer, at a place where one is to stand, by the environment of the reader's whole text.
 use Rattle.std.specs.Prelude.{◌≡◌, ℕ, ◌+◌, ◌-◌, ◌<◌, ◌≤◌, ◌==◌, ◌&&◌, ◌≢◌, Bool, not, nat_le, false, true, Option, Some, None, Result, Ok, Err, List, [], ◌∷◌, ◌++◌, length, map, if◌then◌else◌}
+use Rattle.rx_base.specs.Ascii as ascii
 use Rattle.rx_base.specs.declared.diagnostic.Diagnostic.{Diagnostic}
 use Rattle.rx_base.specs.declared.diagnostic.Diagnostic.TheVariants.{CharacterClassRangeOutOfOrder, CharacterClassRangeDashNotSubtraction, CharacterClassRangeInvalidAtom}
 use Rattle.rx_base.specs.declared.diagnostic.kinds.RangeKind.TheVariants as range_kind
@@ -51,12 +52,12 @@ atom_member (atom.Property p) = tree.property p
 
 -- the kind of a character that is one unit of a class
 abbrev pub kind_in_class : CodePoint → CharacterKind
-kind_in_class u = if u.value == 45 then kind.Symbol else unit_kind u.escape_kind
+kind_in_class u = if u.value == ascii.hyphen then kind.Symbol else unit_kind u.escape_kind
 
--- the character that stands behind a backslash in classes alone, all by itself, with `u` or without
+-- the character that stands after a backslash in classes alone, all by itself, with `u` or without
 abbrev pub alone_in_class : Bool → List ℕ → Option ℕ
 alone_in_class unicode [] = None
-alone_in_class unicode (c ∷ w) = if c == 98 then Some 8 else (if unicode && c == 45 then Some 45 else None)
+alone_in_class unicode (c ∷ w) = if c == ascii.b then Some ascii.backspace else (if unicode && c == ascii.hyphen then Some ascii.hyphen else None)
 
 -- the environment is that of the text that a reader reads
 abbrev pub IsOfText : Environment → Cursor → Type 0
@@ -69,7 +70,7 @@ back r = record r { place = r.place - 1 }
 -- neither the end nor `]`
 pub record StandsItem (us : List CodePoint) : Type 0 where
   pub some : us ≡ [] → ⊥
-  pub no_closer : starts 93 (values us) ≡ false
+  pub no_closer : starts ascii.right_bracket (values us) ≡ false
 
 -- Of each class in which an atom may stand at the reader's place, this is a cause.
 abbrev pub IsAtomCause : Environment → ℕ → Cursor → Diagnostic → Type 0
@@ -91,9 +92,9 @@ between start end = record { start = start; end = end }
 pub data IsBetween : ClassAtom → ClassAtom → Result CharacterClassRange Diagnostic → Type 0 where
   range : {min max : Character} → min.value ≤ max.value
       → IsBetween (atom.Character min) (atom.Character max) (Ok (record { span = between min.span.start max.span.end; min = min; max = max }))
-  dash_out_of_order : {min max : Character} → max.value < min.value → max.value ≡ 45
+  dash_out_of_order : {min max : Character} → max.value < min.value → max.value ≡ ascii.hyphen
       → IsBetween (atom.Character min) (atom.Character max) (Err (CharacterClassRangeDashNotSubtraction (between min.span.end max.span.end)))
-  out_of_order : {min max : Character} → max.value < min.value → max.value ≢ 45
+  out_of_order : {min max : Character} → max.value < min.value → max.value ≢ ascii.hyphen
       → IsBetween (atom.Character min) (atom.Character max) (Err (CharacterClassRangeOutOfOrder (between min.span.end max.span.end) range_kind.ClassAtom))
   no_character : {low high : ClassAtom} → (is_character (atom_of low) && is_character (atom_of high)) ≡ false
       → IsBetween low high (Err (CharacterClassRangeInvalidAtom (between (atom_span low).start (atom_span high).end)))
@@ -134,7 +135,7 @@ item_members it = map mirror_contents (item_contents it)
 
 -- the `-` of three items
 abbrev pub hyphen_member : Span → Member
-hyphen_member span = tree.character (record { span = span; kind = kind.Symbol; value = 45 })
+hyphen_member span = tree.character (record { span = span; kind = kind.Symbol; value = ascii.hyphen })
 
 -- What stands at the reader's place is answered as an item of a class: an atom, or a range (NonemptyClassRanges, 22.2.1), or three items (CharacterRangeOrUnion, B.1.2).
 pub data GivesItem (e : Environment) (added : ℕ) (old new : Cursor) : Result ClassItem Fault → Type 0 where
@@ -143,7 +144,7 @@ pub data GivesItem (e : Environment) (added : ℕ) (old new : Cursor) : Result C
   refused : {diagnostic : Diagnostic} → IsItemCause e added old diagnostic → KeepsUnits old new → GivesItem e added old new (Err (fault.Diagnostic diagnostic))
   no_memory : KeepsUnits old new → GivesItem e added old new (Err fault.OutOfMemory)
 
--- An item is answered, and stands behind the contents before it.
+-- An item is answered, and stands after the contents before it.
 pub record AddsItem (e : Environment) (added : ℕ) (old new : Cursor) (before after : List CharacterClassContents) : Type 0 where
   pub it : ClassItem
   pub gives : GivesItem e added old new (Ok it)
@@ -153,14 +154,14 @@ pub record AddsItem (e : Environment) (added : ℕ) (old new : Cursor) (before a
 abbrev pub stands_alone : List ℕ → Bool
 stands_alone [] = false
 stands_alone (c ∷ []) = false
-stands_alone (c ∷ d ∷ w) = not (c == 92) && not (d == 45)
+stands_alone (c ∷ d ∷ w) = not (c == ascii.backslash) && not (d == ascii.hyphen)
 
 -- The first three characters are a range whose ends stand for themselves, in order.
 abbrev pub stands_range : List ℕ → Bool
 stands_range [] = false
 stands_range (c ∷ []) = false
 stands_range (c ∷ h ∷ []) = false
-stands_range (c ∷ h ∷ d ∷ w) = h == 45 && not (c == 92) && not (d == 92) && not (d == 93) && nat_le c d
+stands_range (c ∷ h ∷ d ∷ w) = h == ascii.hyphen && not (c == ascii.backslash) && not (d == ascii.backslash) && not (d == ascii.right_bracket) && nat_le c d
 
 -- the contents of a class
 abbrev pub contents : List CharacterClassContents → Members

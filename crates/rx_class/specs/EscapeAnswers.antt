@@ -1,5 +1,6 @@
--- What the readers of escapes answer behind a backslash, and where they leave the reader. A span has an offset added to both its ends.
+-- What the readers of escapes answer after a backslash, and where they leave the reader. A span has an offset added to both its ends.
 use Rattle.std.specs.Prelude.{◌≡◌, ℕ, ◌+◌, ◌-◌, ◌≤◌, true, false, ◌==◌, Option, Some, None, Result, Ok, Err, List, ◌∷◌, ◌++◌, length, drop}
+use Rattle.rx_base.specs.Ascii as ascii
 use Rattle.rx_base.specs.declared.diagnostic.Diagnostic.{Diagnostic}
 use Rattle.rx_base.specs.declared.span.Span.{Span}
 use Rattle.rx_units.specs.declared.code_point.CodePoint.{CodePoint}
@@ -25,23 +26,23 @@ abbrev pub environment_of : State → Environment
 environment_of state =
     environment_with (mode_of_state state) true state.num_of_capturing_groups (has_some state.capturing_group_names)
 
--- The reader stands behind a backslash, and the span begins before it.
-pub record IsBehindBackslash (r : Cursor) (span_start : ℕ) : Type 0 where
-  pub behind : 1 ≤ r.place
-  pub backslash : front (drop (r.place - 1) r.units) ≡ Some 92
+-- The reader stands after a backslash, and the span begins before it.
+pub record IsAfterBackslash (r : Cursor) (span_start : ℕ) : Type 0 where
+  pub following : 1 ≤ r.place
+  pub backslash : front (drop (r.place - 1) r.units) ≡ Some ascii.backslash
   pub start : span_start ≡ offset_at r.first r.units (r.place - 1)
 
 -- the units from the backslash before the reader's place on
 abbrev pub from_backslash : Cursor → List CodePoint
 from_backslash r = drop (r.place - 1) r.units
 
--- The kind and the value of a character that these characters spell before more, behind a backslash that may stand in a class and outside classes.
+-- The kind and the value of a character that these characters spell before more, after a backslash that may stand in a class and outside classes.
 pub data SpellsCharacter (e : Environment) (kind : CharacterKind) (value : ℕ) (w more : List ℕ) : Type 0 where
   -- CharacterEscape, 22.2.1
   in_each_mode : SpellsEscape e kind value w more → SpellsCharacter e kind value w more
   -- with neither `u` nor `v` LegacyOctalEscapeSequence and SourceCharacterIdentityEscape (B.1.2), as in a class, where no reference and no `\B` is read; of `c`
   -- the rows of CharacterEscape alone
-  in_legacy_mode : is_unicode e.mode ≡ false → front_is (λ c. c == 99) (w ++ more) ≡ false → SpellsLegacy true e kind value w more → SpellsCharacter e kind value w more
+  in_legacy_mode : is_unicode e.mode ≡ false → front_is (λ c. c == ascii.c) (w ++ more) ≡ false → SpellsLegacy true e kind value w more → SpellsCharacter e kind value w more
 
 -- no character escape stands at the front
 abbrev pub BeginsNoEscape : Environment → List ℕ → Type 0
@@ -57,7 +58,7 @@ pub data GivesCharacter (e : Environment) (added start : ℕ) (old new : Cursor)
   some : {it : Character} (w more : List CodePoint) → rest old ≡ w ++ more → SpellsCharacter e it.kind it.value (values w) (values more) → it.value ≤ 0x10FFFF
       → it.span ≡ span_to added start new → new ≡ moved (length w) old → GivesCharacter e added start old new (Ok (Some it))
   -- none stands, nor the `u` of one, and the reader stays
-  none : new ≡ old → BeginsNoEscape e (values (rest old)) → front_is (λ c. c == 117) (values (rest old)) ≡ false → GivesCharacter e added start old new (Ok None)
+  none : new ≡ old → BeginsNoEscape e (values (rest old)) → front_is (λ c. c == ascii.u) (values (rest old)) ≡ false → GivesCharacter e added start old new (Ok None)
   -- none is spelled, and the first refusal of the escape that the backslash begins is answered
   refused : {diagnostic : Diagnostic} → IsEscapeCause e.mode old.units old.first added (old.place - 1) (from_backslash old) diagnostic
       → IsFirstOfEscape e.mode old.units old.first added (old.place - 1) (from_backslash old) diagnostic → BeginsNoEscape e (values (rest old)) → KeepsUnits old new
@@ -66,8 +67,8 @@ pub data GivesCharacter (e : Environment) (added start : ℕ) (old new : Cursor)
 -- What stands at the reader's place is answered as a class escape (CharacterClassEscape, 22.2.1) that names no property.
 pub data GivesClassEscape (added start : ℕ) (old new : Cursor) : Option CharacterClassEscape → Type 0 where
   -- one is spelled, its backslash before it, and the reader moves over it
-  some : {it : CharacterClassEscape} (w more : List CodePoint) → 92 ∷ values w ≡ class_escape_text it.kind → rest old ≡ w ++ more
+  some : {it : CharacterClassEscape} (w more : List CodePoint) → ascii.backslash ∷ values w ≡ class_escape_text it.kind → rest old ≡ w ++ more
       → it.span ≡ span_to added start new → new ≡ moved 1 old → GivesClassEscape added start old new (Some it)
   -- none stands, and the reader stays
-  none : new ≡ old → ((kind : CharacterClassEscapeKind) (w more : List ℕ) → 92 ∷ w ≡ class_escape_text kind → values (rest old) ≡ w ++ more → ⊥)
+  none : new ≡ old → ((kind : CharacterClassEscapeKind) (w more : List ℕ) → ascii.backslash ∷ w ≡ class_escape_text kind → values (rest old) ≡ w ++ more → ⊥)
       → GivesClassEscape added start old new None

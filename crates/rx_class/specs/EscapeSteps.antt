@@ -3,14 +3,14 @@ use Rattle.std.specs.Prelude.{ℕ, ◌+◌, ◌*◌, Bool, if◌then◌else◌}
 use Rattle.rx_class.specs.declared.escape_found.EscapeFound.{EscapeFound}
 use Rattle.rx_class.specs.declared.escape_found.EscapeFound.TheVariants as found
 
--- at most, of so many units behind the backslash, in unicode mode or not
+-- at most, of so many units after the backslash, in unicode mode or not
 abbrev pub most_looks : Bool → ℕ → EscapeFound → ℕ
 most_looks unicode_mode units (found.Character kind value length) = length + 4
 most_looks unicode_mode units found.Nothing = if unicode_mode then 0 else 4
 most_looks unicode_mode units (found.TooMany digits) = digits + 1
 most_looks unicode_mode units found.Invalid = if unicode_mode then units else 4
 
--- The same by what spells the character: where nothing spells one, none; of so many units behind the backslash.
+-- The same by what spells the character: where nothing spells one, none; of so many units after the backslash.
 abbrev pub few_looks : ℕ → EscapeFound → ℕ
 few_looks units (found.Character kind value length) = 4 * length
 few_looks units found.Nothing = 0

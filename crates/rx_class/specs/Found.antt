@@ -1,5 +1,6 @@
--- What is found behind a backslash, as the reading that it says.
+-- What is found after a backslash, as the reading that it says.
 use Rattle.std.specs.Prelude.{◌≡◌, ℕ, ◌+◌, ◌≤◌, ◌==◌, true, Option, Some, None, Result, Ok, Err, List, [], ◌∷◌, if◌then◌else◌}
+use Rattle.rx_base.specs.Ascii as ascii
 use Rattle.rx_base.specs.declared.diagnostic.Diagnostic.{Diagnostic}
 use Rattle.rx_base.specs.declared.diagnostic.Diagnostic.TheVariants.{InvalidUnicodeEscapeSequence, TooLargeNumberDigits}
 use Rattle.rx_base.specs.declared.diagnostic.kinds.DigitsKind.TheVariants as digits
@@ -29,11 +30,11 @@ IsWithin units found.Nothing = Unit {0}
 IsWithin units (found.TooMany digits) = digits + 2 ≤ units
 IsWithin units found.Invalid = 1 ≤ units
 
--- the character escape behind a backslash, in a class and outside classes: `c` before a letter alone
+-- the character escape after a backslash, in a class and outside classes: `c` before a letter alone
 abbrev pub shared_escape_at : Environment → List ℕ → EscapeRead
-shared_escape_at e w = if front_is (λ c. c == 99) w then escape_at (is_unicode e.mode) w else any_escape_at true e w
+shared_escape_at e w = if front_is (λ c. c == ascii.c) w then escape_at (is_unicode e.mode) w else any_escape_at true e w
 
--- What is answered to what was found behind a backslash, and where that leaves the reader.
+-- What is answered to what was found after a backslash, and where that leaves the reader.
 pub data AnswersFound (added start : ℕ) (old new : Cursor) : EscapeRead → Result (Option Character) Diagnostic → Type 0 where
   some : {it : Character} {count : ℕ} → it.value ≤ 0x10FFFF → it.span ≡ span_to added start new → new ≡ moved count old
       → AnswersFound added start old new (escaped it.kind it.value count) (Ok (Some it))

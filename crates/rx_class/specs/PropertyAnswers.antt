@@ -1,4 +1,4 @@
--- What the reader of property escapes answers behind a backslash, and where it leaves the reader. A span has an offset added to both its ends.
+-- What the reader of property escapes answers after a backslash, and where it leaves the reader. A span has an offset added to both its ends.
 use Rattle.std.specs.Prelude.{◌≡◌, ℕ, ◌-◌, Bool, false, ◌&&◌, ◌⊎◌, Option, Some, None, Result, Ok, Err, List, ◌∷◌, ◌++◌, length}
 use Rattle.rx_base.specs.declared.diagnostic.Diagnostic.{Diagnostic}
 use Rattle.rx_base.specs.declared.fault.Fault.{Fault}

@@ -1,5 +1,6 @@
--- What is found behind a backslash where a property escape may stand.
-use Rattle.std.specs.Prelude.{◌≡◌, ℕ, ◌+◌, Bool, true, false, ◌&&◌, Option, Some, None, List, [], ◌∷◌, ◌++◌, Contains, length}
+-- What is found after a backslash where a property escape may stand.
+use Rattle.std.specs.Prelude.{◌≡◌, ℕ, ◌+◌, Bool, true, false, ◌&&◌, Option, Some, None, List, [], ◌∷◌, ◌++◌, Contains, length, codes}
+use Rattle.rx_base.specs.Ascii as ascii
 use Rattle.rx_base.specs.declared.diagnostic.Diagnostic.{Diagnostic}
 use Rattle.rx_base.specs.declared.diagnostic.Diagnostic.TheVariants.{UnterminatedPattern, InvalidUnicodeProperty, InvalidUnicodePropertyOfStrings, InvalidUnicodePropertyNameNegativeStrings}
 use Rattle.rx_base.specs.declared.diagnostic.kinds.PropertyPart.TheVariants as part
@@ -25,8 +26,8 @@ use Rattle.rx_class.specs.declared.property_form.Pair.{Pair}
 
 -- a name and a value at the front, or none
 abbrev pub IsPairFound : List ℕ → Option Pair → Type 0
-IsPairFound w None = (name value behind : List ℕ) → HasPair w name value behind → ⊥
-IsPairFound w (Some p) = HasPair w (values p.name.now) (values p.value.now) (values p.behind.now)
+IsPairFound w None = (name value following : List ℕ) → HasPair w name value following → ⊥
+IsPairFound w (Some p) = HasPair w (values p.name.now) (values p.value.now) (values p.following.now)
 
 -- what a word names that stands alone
 abbrev pub IsLone : List ℕ → Lone → Type 0
@@ -51,8 +52,8 @@ unknown_halt lone.Nothing word n = halt.NameOrValue n
 
 -- `P` or `p`
 abbrev pub property_letter : Bool → ℕ
-property_letter true = 80
-property_letter false = 112
+property_letter true = ascii.P
+property_letter false = ascii.p
 
 -- the refusal of a property escape whose backslash stands at a place
 abbrev pub property_refusal : List CodePoint → ℕ → ℕ → ℕ → PropertyHalt → Diagnostic
@@ -67,28 +68,28 @@ pub record HasProperties (sets : Bool) (mode : Mode) : Type 0 where
   pub unicode : is_unicode mode ≡ true
   pub sets_is : is_sets mode ≡ sets
 
--- With these characters behind its backslash a property escape is refused so, wherever it stands.
+-- With these characters after its backslash a property escape is refused so, wherever it stands.
 abbrev pub IsPropertyHalt : Mode → List ℕ → PropertyHalt → Type 0
-IsPropertyHalt mode behind h = (us rest : List CodePoint) (first added place : ℕ) → values rest ≡ 92 ∷ behind
+IsPropertyHalt mode following h = (us rest : List CodePoint) (first added place : ℕ) → values rest ≡ ascii.backslash ∷ following
     → IsPropertyCause mode us first added place rest (property_refusal us first added place h)
 
--- n of the characters behind a backslash spell a property with it, which is of no strings where it is negative.
-pub record IsPropertyBehind (mode : Mode) (behind : List ℕ) (negative strings : Bool) (name : List ℕ) (value : Option (List ℕ)) (count : ℕ) : Type 0 where
+-- n of the characters after a backslash spell a property with it, which is of no strings where it is negative.
+pub record IsPropertyAfter (mode : Mode) (following : List ℕ) (negative strings : Bool) (name : List ℕ) (value : Option (List ℕ)) (count : ℕ) : Type 0 where
   pub text : List ℕ
   pub spelled : SpellsProperty mode strings name value text
   pub front : List ℕ
   pub rest : List ℕ
-  pub front_is : 92 ∷ front ≡ property_opener negative ++ (text ++ (125 ∷ []))
-  pub whole : behind ≡ front ++ rest
+  pub front_is : ascii.backslash ∷ front ≡ property_opener negative ++ (text ++ (codes "}"))
+  pub whole : following ≡ front ++ rest
   pub count_is : length front ≡ count
   pub obeys : (negative && strings) ≡ false
 
--- what stands behind a backslash, in a mode
+-- what stands after a backslash, in a mode
 abbrev pub IsFoundIn : Mode → List ℕ → PropertyFound → Type 0
-IsFoundIn mode behind (found.Property negative strings name value length) = IsPropertyBehind mode behind negative strings name value length
-IsFoundIn mode behind found.Nothing = front_is begins_property behind ≡ false
-IsFoundIn mode behind (found.Halt h) = IsPropertyHalt mode behind h
+IsFoundIn mode following (found.Property negative strings name value length) = IsPropertyAfter mode following negative strings name value length
+IsFoundIn mode following found.Nothing = front_is begins_property following ≡ false
+IsFoundIn mode following (found.Halt h) = IsPropertyHalt mode following h
 
 -- the same in each mode that has property escapes, with `v` or without
 abbrev pub IsPropertyFound : Bool → List ℕ → PropertyFound → Type 0
-IsPropertyFound sets behind found = (mode : Mode) → HasProperties sets mode → IsFoundIn mode behind found
+IsPropertyFound sets following found = (mode : Mode) → HasProperties sets mode → IsFoundIn mode following found

@@ -1,5 +1,6 @@
 -- How what stands next in a class with `v` is read (ClassSetExpression, 22.2.1), and what each answer says of the units. Lengths count from the front on.
-use Rattle.std.specs.Prelude.{◌≡◌, ◌≢◌, ℕ, ◌+◌, ◌==◌, ◌&&◌, ◌⊎◌, Bool, true, false, Option, Some, None, List, [], ◌∷◌, ◌++◌, if◌then◌else◌}
+use Rattle.std.specs.Prelude.{◌≡◌, ◌≢◌, ℕ, ◌+◌, ◌==◌, ◌&&◌, ◌⊎◌, Bool, true, false, Option, Some, None, List, [], ◌∷◌, ◌++◌, if◌then◌else◌, codes}
+use Rattle.rx_base.specs.Ascii as ascii
 use Rattle.rx_base.specs.declared.diagnostic.Diagnostic.{Diagnostic}
 use Rattle.rx_tables.specs.Characters.{is_reserved_punctuator}
 use Rattle.rx_ast.specs.declared.leaf.CharacterClassEscapeKind.{CharacterClassEscapeKind}
@@ -22,30 +23,30 @@ use Rattle.rx_model.specs.Refusals.EscapeCauses.{IsEscapeCause, IsPropertyCause}
 use Rattle.rx_ast.specs.Texts.{class_escape_text}
 use Rattle.rx_class.specs.Found.{class_escape_front}
 
--- the character behind a backslash
+-- the character after a backslash
 abbrev pub set_escape_at : List ℕ → EscapeRead
 set_escape_at [] = nothing
 set_escape_at (c ∷ w) =
-    if c == 98 then escaped kind.SingleEscape 8 1 else (if is_reserved_punctuator c then escaped kind.Identifier c 1 else escape_at true (c ∷ w))
+    if c == ascii.b then escaped kind.SingleEscape ascii.backspace 1 else (if is_reserved_punctuator c then escaped kind.Identifier c 1 else escape_at true (c ∷ w))
 
 -- the same from the backslash on
-abbrev pub behind_backslash : EscapeRead → EscapeRead
-behind_backslash (escaped k v n) = escaped k v (n + 1)
-behind_backslash nothing = nothing
-behind_backslash (too_many n) = too_many n
-behind_backslash no_unicode = no_unicode
+abbrev pub after_backslash : EscapeRead → EscapeRead
+after_backslash (escaped k v n) = escaped k v (n + 1)
+after_backslash nothing = nothing
+after_backslash (too_many n) = too_many n
+after_backslash no_unicode = no_unicode
 
 -- the character (ClassSetCharacter) at the front
 unfoldable pub set_character_at : List CodePoint → EscapeRead
 set_character_at [] = nothing
 set_character_at (u ∷ us) =
-    if u.value == 92 then behind_backslash (set_escape_at (values us))
+    if u.value == ascii.backslash then after_backslash (set_escape_at (values us))
     else (if stands_raw_in_class Sets u.value (values us) then escaped (unit_kind u.escape_kind) u.value 1 else nothing)
 
--- a `-` and a character behind it; the count is from behind the `-` on
+-- a `-` and a character after it; the count is from after the `-` on
 abbrev pub range_end_at : List CodePoint → EscapeRead
 range_end_at [] = nothing
-range_end_at (u ∷ us) = if u.value == 45 then set_character_at us else nothing
+range_end_at (u ∷ us) = if u.value == ascii.hyphen then set_character_at us else nothing
 
 -- What stands next: `]`; `[`, which may be negative; `\q{`; `&&`; `--`; a character, or an escape of one that is refused; a class escape; what begins a
 -- property escape; nothing of these.
@@ -68,23 +69,23 @@ character_front no_unicode = character_next no_unicode
 
 abbrev pub escape_front : Option CharacterClassEscapeKind → EscapeRead → FrontRead
 escape_front (Some k) read = escape_next k
-escape_front None read = character_front (behind_backslash read)
+escape_front None read = character_front (after_backslash read)
 
--- behind a backslash
+-- after a backslash
 abbrev pub escaped_front : List ℕ → FrontRead
 escaped_front w =
-    if are_next 113 123 w then strings_next
+    if are_next ascii.q ascii.left_brace w then strings_next
     else (if front_is begins_property w then property_next
     else escape_front (class_escape_front w) (set_escape_at w))
 
 unfoldable pub set_front_at : List CodePoint → FrontRead
 set_front_at [] = nothing_next
 set_front_at (u ∷ us) =
-    if u.value == 93 then closer_next
-    else (if u.value == 91 then bracket_next (starts 94 (values us))
-    else (if u.value == 38 && starts 38 (values us) then meet_next
-    else (if u.value == 45 && starts 45 (values us) then less_next
-    else (if u.value == 92 then escaped_front (values us)
+    if u.value == ascii.right_bracket then closer_next
+    else (if u.value == ascii.left_bracket then bracket_next (starts ascii.caret (values us))
+    else (if u.value == ascii.ampersand && starts ascii.ampersand (values us) then meet_next
+    else (if u.value == ascii.hyphen && starts ascii.hyphen (values us) then less_next
+    else (if u.value == ascii.backslash then escaped_front (values us)
     else character_front (set_character_at (u ∷ us))))))
 
 -- The units begin with this text.
@@ -104,17 +105,17 @@ pub record BeginsBracket (us : List CodePoint) (negative : Bool) : Type 0 where
 -- `\p` or `\P` at the front
 pub record BeginsProperty (us : List CodePoint) : Type 0 where
   pub letter : ℕ
-  pub behind : List ℕ
-  pub whole : values us ≡ 92 ∷ letter ∷ behind
+  pub following : List ℕ
+  pub whole : values us ≡ ascii.backslash ∷ letter ∷ following
   pub letter_is : begins_property letter ≡ true
 
 -- what an answer says of the units
 abbrev pub StandsFront : List CodePoint → FrontRead → Type 0
-StandsFront us closer_next = Begins us (93 ∷ [])
+StandsFront us closer_next = Begins us (codes "]")
 StandsFront us (bracket_next negative) = BeginsBracket us negative
-StandsFront us strings_next = Begins us (92 ∷ 113 ∷ 123 ∷ [])
-StandsFront us meet_next = Begins us (38 ∷ 38 ∷ [])
-StandsFront us less_next = Begins us (45 ∷ 45 ∷ [])
+StandsFront us strings_next = Begins us (codes "\\q{")
+StandsFront us meet_next = Begins us (codes "&&")
+StandsFront us less_next = Begins us (codes "--")
 StandsFront us (character_next read) = (set_character_at us ≡ read) × (read ≢ nothing)
 StandsFront us (escape_next k) = Begins us (class_escape_text k)
 StandsFront us property_next = BeginsProperty us
@@ -168,18 +169,18 @@ pub record IsSetFront (e : Environment) (us : List CodePoint) (read : FrontRead)
 -- No `-` and end of a range stand next.
 pub record EndsNoRange (e : Environment) (us : List CodePoint) : Type 0 where
   pub none_high : BeforeHigh e us → ⊥
-  pub nothing_behind : (hyphen : CodePoint) (more : List CodePoint) → us ≡ hyphen ∷ more → hyphen.value ≡ 45 → set_character_at more ≡ nothing
+  pub nothing_after : (hyphen : CodePoint) (more : List CodePoint) → us ≡ hyphen ∷ more → hyphen.value ≡ ascii.hyphen → set_character_at more ≡ nothing
 
 -- A `-` and a character stand next, or one whose escape is refused.
 pub record EndsRange (us : List CodePoint) (read : EscapeRead) : Type 0 where
   pub hyphen : CodePoint
   pub more : List CodePoint
   pub whole : us ≡ hyphen ∷ more
-  pub hyphen_is : hyphen.value ≡ 45
-  pub behind : set_character_at more ≡ read
+  pub hyphen_is : hyphen.value ≡ ascii.hyphen
+  pub following : set_character_at more ≡ read
   pub dashed : is_dashed (values us) ≡ true
 
--- what was read behind a character, as the end of a range
+-- what was read after a character, as the end of a range
 abbrev pub IsRangeEnd : Environment → List CodePoint → EscapeRead → Type 0
 IsRangeEnd e us (escaped k v n) = EndsRange us (escaped k v n)
 IsRangeEnd e us nothing = EndsNoRange e us

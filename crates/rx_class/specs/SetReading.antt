@@ -1,6 +1,7 @@
 -- A class with `v` that is being read (ClassSetExpression, 22.2.1): what was built of it leads to where its reader stands, and what is answered to what stands
 -- there.
-use Rattle.std.specs.Prelude.{◌≡◌, ◌≢◌, ℕ, ◌+◌, ◌<◌, ◌≤◌, ◌⊎◌, Bool, true, false, Option, Some, None, Result, Ok, Err, List, [], ◌∷◌, ◌++◌, length}
+use Rattle.std.specs.Prelude.{◌≡◌, ◌≢◌, ℕ, ◌+◌, ◌<◌, ◌≤◌, ◌⊎◌, Bool, true, false, Option, Some, None, Result, Ok, Err, List, [], ◌∷◌, ◌++◌, length, codes}
+use Rattle.rx_base.specs.Ascii as ascii
 use Rattle.rx_base.specs.declared.diagnostic.Diagnostic.{Diagnostic}
 use Rattle.rx_base.specs.declared.diagnostic.Diagnostic.TheVariants.{CharacterClassRangeOutOfOrder, ClassSetExpressionInvalidCharacter, EmptyClassSetExpression, UnterminatedPattern}
 use Rattle.rx_base.specs.declared.diagnostic.kinds.RangeKind.TheVariants as range_kind
@@ -13,7 +14,7 @@ use Rattle.rx_units.specs.declared.code_point.CodePoint.{CodePoint}
 use Rattle.rx_units.specs.Cursor.{Cursor, offset_of, rest}
 use Rattle.rx_units.specs.Units.{offset_at, values}
 use Rattle.rx_model.specs.Characters.EscapeFronts.{nothing}
-use Rattle.rx_model.specs.Classes.ClassRows.{ClassRow, Place, outside, fresh, behind_meet, behind_less}
+use Rattle.rx_model.specs.Classes.ClassRows.{ClassRow, Place, outside, fresh, after_meet, after_less}
 use Rattle.rx_model.specs.Classes.ClassRuns.{Held, empty, single, several, meeting, met, lessening, lessened, is_union, is_whole, operator_of, ranged, takes_operand}
 use Rattle.rx_model.specs.Classes.ClassTokens.{Atom, ClassEvents, ClassToken, class_tokens_of, is_character, item}
 use Rattle.rx_model.specs.FirstPass.Marks.{starts}
@@ -45,9 +46,9 @@ abbrev pub place_of : Held → Place
 place_of empty = fresh
 place_of single = fresh
 place_of several = fresh
-place_of meeting = behind_meet
+place_of meeting = after_meet
 place_of met = fresh
-place_of lessening = behind_less
+place_of lessening = after_less
 place_of lessened = fresh
 
 -- what the innermost bracket holds
@@ -65,22 +66,22 @@ is_nested b = has_outer b.outer
 
 -- `[^`, or `[`
 abbrev pub bracket_text : Bool → List ℕ
-bracket_text true = 91 ∷ 94 ∷ []
-bracket_text false = 91 ∷ []
+bracket_text true = codes "[^"
+bracket_text false = codes "["
 
 -- the offset of a place of a reader's text
 abbrev pub offset_in : ℕ → Cursor → ℕ → ℕ
 offset_in added r i = offset_at r.first r.units i + added
 
--- No escape of a character is refused behind a `-` that stands next.
-abbrev pub NoneBehindDash : Environment → Cursor → Type 0
-NoneBehindDash e r =
-    (hyphen : CodePoint) (behind : List CodePoint) → rest r ≡ hyphen ∷ behind → hyphen.value ≡ 45 → (us : List CodePoint) (first added place : ℕ) (d : Diagnostic) → IsEscapeCause e.mode us first added place behind d → ⊥
+-- No escape of a character is refused after a `-` that stands next.
+abbrev pub NoneAfterDash : Environment → Cursor → Type 0
+NoneAfterDash e r =
+    (hyphen : CodePoint) (following : List CodePoint) → rest r ≡ hyphen ∷ following → hyphen.value ≡ ascii.hyphen → (us : List CodePoint) (first added place : ℕ) (d : Diagnostic) → IsEscapeCause e.mode us first added place following d → ⊥
 
 -- Where a character of a union was read last, no escape is refused that is to end a range which it begins.
 abbrev pub RefusesNoEnd : Environment → Cursor → ClassBuilder → Type 0
 RefusesNoEnd e r b =
-    is_union (held_in b) ≡ true → (before : List ClassToken) (a : Atom) → class_tokens_of (builder_events b) ≡ before ++ (item a ∷ []) → is_character a ≡ true → NoneBehindDash e r
+    is_union (held_in b) ≡ true → (before : List ClassToken) (a : Atom) → class_tokens_of (builder_events b) ≡ before ++ (item a ∷ []) → is_character a ≡ true → NoneAfterDash e r
 
 -- From the bracket of a class, at place `from`, all that was built leads to where the reader stands.
 pub record IsInSets (e : Environment) (added : ℕ) (from r : Cursor) (b : ClassBuilder) : Type 0 where
@@ -93,7 +94,7 @@ pub record IsInSets (e : Environment) (added : ℕ) (from r : Cursor) (b : Class
 abbrev pub IsSetRefusal : Environment → ℕ → Cursor → ClassBuilder → Diagnostic → Type 0
 IsSetRefusal e added r b diagnostic = (from : Cursor) → IsInSets e added from r b → IsFirstInClass e.mode r.units r.first added from.place (rest from) diagnostic
 
--- More is built behind what was, and the reader moved over it.
+-- More is built after what was, and the reader moved over it.
 pub record AddsToSets (e : Environment) (added : ℕ) (old new : Cursor) (before after : ClassBuilder) : Type 0 where
   pub keeps : KeepsUnits old new
   pub goes_on : old.place < new.place
@@ -113,7 +114,7 @@ pub data GivesTurn (e : Environment) (added : ℕ) (old new : Cursor) (before af
 pub record StandsNothing (e : Environment) (r : Cursor) (b : ClassBuilder) : Type 0 where
   pub follows : NothingFollows e (place_of (held_in b)) (held_in b) (rest r)
   pub none_refused : takes_operand (held_in b) ≡ true → NoneRefused e (rest r)
-  pub no_third : place_of (held_in b) ≡ behind_meet → starts 38 (values (rest r)) ≡ false
+  pub no_third : place_of (held_in b) ≡ after_meet → starts ascii.ampersand (values (rest r)) ≡ false
 
 -- Why nothing that stands next may follow in the innermost bracket.
 pub data SaysNothing (added : ℕ) (r : Cursor) (b : ClassBuilder) : Diagnostic → Type 0 where
@@ -121,12 +122,12 @@ pub data SaysNothing (added : ℕ) (r : Cursor) (b : ClassBuilder) : Diagnostic 
   no_operand : held_in b ≡ empty → rest r ≢ [] → SaysNothing added r b (EmptyClassSetExpression (span_to added (offset_of r) r))
   -- it does not end
   no_end : is_union (held_in b) ≡ true → (held_in b ≡ empty → rest r ≡ []) → SaysNothing added r b (UnterminatedPattern (between b.inner.start (offset_of r + added)) (unterminated (is_nested b)))
-  -- it goes on with no operator, or no operand behind one
+  -- it goes on with no operator, or no operand after one
   no_operator : (operator : SetOperator) → operator_of (held_in b) ≡ Some operator → SaysNothing added r b (ClassSetExpressionInvalidCharacter (span_to added (offset_of r) r) operator)
 
 -- The class's own `]` stands next, and its contents are whole.
 pub record EndsSets (r : Cursor) (b : ClassBuilder) : Type 0 where
-  pub closer : starts 93 (values (rest r)) ≡ true
+  pub closer : starts ascii.right_bracket (values (rest r)) ≡ true
   pub outermost : b.outer ≡ []
   pub whole : is_whole (held_in b) ≡ true
 
@@ -135,7 +136,7 @@ pub data IsSetRange (min max : Character) : Result CharacterClassRange Diagnosti
   range : min.value ≤ max.value → IsSetRange min max (Ok (record { span = between min.span.start max.span.end; min = min; max = max }))
   out_of_order : max.value < min.value → IsSetRange min max (Err (CharacterClassRangeOutOfOrder (between min.span.start max.span.end) range_kind.ClassSet))
 
--- What is found behind a character as the end of a range, and what a bracket that held this holds with the range.
+-- What is found after a character as the end of a range, and what a bracket that held this holds with the range.
 abbrev pub IsRangeNext : Environment → List CodePoint → Held → Option (EscapeFound × HeldState) → Type 0
 IsRangeNext e us held None = (ranged held ≡ None) ⊎ EndsNoRange e us
 IsRangeNext e us held (Some next) = EndsRange us (seen_escape next.0) × (seen_escape next.0 ≢ nothing) × (ranged held ≡ Some (held_of next.1))

@@ -37,7 +37,7 @@ abbrev pub ended_events : List ClassString → ClassEvents
 ended_events [] = []
 ended_events (s ∷ ss) = string_events s ++ (token string_bar ∷ ended_events ss)
 
--- all that has been read behind `\q{`
+-- all that has been read after `\q{`
 abbrev pub read_events : StringsBuilder → ClassEvents
 read_events b = ended_events b.strings ++ (enter b.start ∷ letters_events b.letters)
 

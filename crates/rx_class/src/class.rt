@@ -1,4 +1,5 @@
 ghost use Rattle.std.specs.Prelude.{◌≡◌, Err, MatchResult, Ok, Some, false, true};
+ghost use Rattle.rx_base.specs.Ascii as ascii;
 ghost use Rattle.rx_units.specs.Cursor.{rest};
 ghost use Rattle.rx_units.specs.Pace.{TakesSteps};
 ghost use Rattle.rx_units.specs.Units.{values};
@@ -28,8 +29,8 @@ use std::alloc::Global;
 /// of a class; and as the escapes in it are. Spans are in bytes.
 ///
 /// With `v` brackets nest, and it is refused too by `EmptyClassSetExpression` where a bracket begins with no operand; by
-/// `ClassIntersectionUnexpectedAmpersand` where a `&` stands behind `&&`; by `ClassSetExpressionInvalidCharacter` where neither an
-/// operand nor `]` stands that may follow an operator or what is behind one; by `UnterminatedPattern` where class strings or a bracket
+/// `ClassIntersectionUnexpectedAmpersand` where a `&` stands after `&&`; by `ClassSetExpressionInvalidCharacter` where neither an
+/// operand nor `]` stands that may follow an operator or what is after one; by `UnterminatedPattern` where class strings or a bracket
 /// do not end; by `CharacterClassRangeOutOfOrder`; and by `InvalidCharacterClass` or, where it is nested, by
 /// `CharacterClassContentsInvalidOperands` where a negative class may contain strings.
 pub fn parse_character_class<C: Counter>(
@@ -61,7 +62,7 @@ fn items_class<C: Counter>(
     spans: &SpanFactory,
     steps: &mut C,
 ) -> Result<CharacterClass, Fault>
-    requires bracket { starts 91 (values (rest reader.old)) ≡ true }
+    requires bracket { starts ascii.left_bracket (values (rest reader.old)) ≡ true }
     requires no_sets { is_sets (environment_of state.now).mode ≡ false }
     requires environment { IsOfText (environment_of state.now) reader.old }
     requires fits { AreFitting spans.now reader.old }

@@ -1,4 +1,5 @@
 ghost use Rattle.std.specs.Prelude.{◌≡◌, IfOk, Ok, Some, false};
+ghost use Rattle.rx_base.specs.Ascii as ascii;
 ghost use Rattle.rx_ast.specs.ClassTree.{mirror_contents};
 ghost use Rattle.rx_units.specs.Cursor.{front, moved, rest};
 ghost use Rattle.rx_units.specs.Pace.{IsMove, TakesSteps};
@@ -6,7 +7,7 @@ ghost use Rattle.rx_units.specs.Units.{values};
 ghost use Rattle.rx_model.specs.Characters.UnitKinds.{unit_kind};
 ghost use Rattle.rx_model.specs.FirstPass.Marks.{starts};
 ghost use Rattle.rx_model.specs.Inputs.Environment.{Environment, is_sets};
-ghost use Rattle.rx_class.specs.EscapeAnswers.{IsBehindBackslash, environment_of};
+ghost use Rattle.rx_class.specs.EscapeAnswers.{IsAfterBackslash, environment_of};
 ghost use Rattle.rx_class.specs.ClassItems.{GivesAtom, IsOfText, StandsItem, alone_in_class, atom_member, atom_span, back, kind_in_class};
 ghost use Rattle.rx_class.specs.Fitting.{AreFitting};
 
@@ -88,7 +89,7 @@ pub fn unit_character<C: Counter>(
     steps: &mut C,
 ) -> Character
     requires stands { StandsItem (rest reader.old) }
-    requires no_backslash { starts 92 (values (rest reader.old)) ≡ false }
+    requires no_backslash { starts ascii.backslash (values (rest reader.old)) ≡ false }
     requires fits { AreFitting spans.now reader.old }
     ensures atom { (e : Environment) → is_sets e.mode ≡ false → GivesAtom e spans.now reader.old reader.new (Ok (ClassAtom.Character result)) }
     ensures value { front (rest reader.old) ≡ Some result.value }
@@ -139,7 +140,7 @@ fn escaped_atom<C: Counter>(
     start: u32,
     steps: &mut C,
 ) -> Result<ClassAtom, Fault>
-    requires backslash { IsBehindBackslash reader.old start }
+    requires backslash { IsAfterBackslash reader.old start }
     requires no_sets { is_sets (environment_of state.now).mode ≡ false }
     requires environment { IsOfText (environment_of state.now) reader.old }
     requires fits { AreFitting spans.now reader.old }
@@ -167,7 +168,7 @@ fn escaped_atom<C: Counter>(
     Err(Fault::Diagnostic(Diagnostic::InvalidClassAtom { span }))
 }
 
-/// The character that the unit behind a backslash stands for in classes alone: `b` for a backspace and, with `u`, `-` for itself.
+/// The character that the unit after a backslash stands for in classes alone: `b` for a backspace and, with `u`, `-` for itself.
 fn alone_in_class(units: &[CodePoint], unicode: bool) -> Option<u32>
     ensures { result ≡ alone_in_class unicode (values units.now) }
 {

@@ -124,7 +124,7 @@ fn push_one(
     body.push(item)
 }
 
-/// Adds what an item is to the contents of a class, behind which the reader stands.
+/// Adds what an item is to the contents of a class, after which the reader stands.
 fn push_item(
     body: &mut List<CharacterClassContents>,
     reader: &Reader<'_>,
@@ -238,7 +238,7 @@ fn is_dashed(units: &[CodePoint]) -> bool
     }
 }
 
-/// The range from one atom to another, behind which it stands with a `-` between; or why they are no range.
+/// The range from one atom to another, after which it stands with a `-` between; or why they are no range.
 fn range_between(low: &ClassAtom, high: &ClassAtom) -> Result<CharacterClassRange, Diagnostic>
     ensures { IsBetween low.now high.now result }
 {

@@ -1,4 +1,5 @@
-ghost use Rattle.std.specs.Prelude.{◌≡◌, ◌++◌, ◌∷◌, [], All, IfErr, OnOk, false, true, ◌+◌, ◌<◌, ◌≤◌, ◌^◌, length};
+ghost use Rattle.std.specs.Prelude.{◌≡◌, ◌++◌, ◌∷◌, [], All, IfErr, OnOk, false, true, ◌+◌, ◌<◌, ◌≤◌, ◌^◌, length, codes};
+ghost use Rattle.rx_base.specs.Ascii as ascii;
 ghost use Rattle.rx_units.specs.Cursor.{offset_of, rest};
 ghost use Rattle.rx_units.specs.Pace.{TakesSteps};
 ghost use Rattle.rx_units.specs.Units.{values};
@@ -68,7 +69,7 @@ pub fn class_strings<C: Counter>(
     spans: &SpanFactory,
     steps: &mut C,
 ) -> Result<ClassStringDisjunction, Fault>
-    requires opener { Begins (rest reader.old) (92 ∷ 113 ∷ 123 ∷ []) }
+    requires opener { Begins (rest reader.old) (codes "\\q{") }
     requires fits { AreFitting spans.now reader.old }
     ensures gives { (e : Environment) → is_sets e.mode ≡ true → GivesStrings e spans.now reader.old reader.new result }
     ensures steps { TakesSteps 6 (C.count steps.old) (C.count steps.new) reader.old reader.new result }
@@ -88,7 +89,7 @@ pub fn class_strings<C: Counter>(
     })
 }
 
-/// Reads a character of a class string, or the `|` behind one. The class strings begin at `start`, in bytes.
+/// Reads a character of a class string, or the `|` after one. The class strings begin at `start`, in bytes.
 fn string_part<C: Counter>(
     alloc: Global,
     reader: &mut Reader<'_>,
@@ -97,7 +98,7 @@ fn string_part<C: Counter>(
     builder: &mut StringsBuilder,
     steps: &mut C,
 ) -> Result<(), Fault>
-    requires goes_on { starts 125 (values (rest reader.old)) ≡ false }
+    requires goes_on { starts ascii.right_brace (values (rest reader.old)) ≡ false }
     requires within { reader.old.place ≤ length reader.old.units }
     requires start { start + spans.now < 2 ^ 32 }
     requires fits { AreFitting spans.now reader.old }
@@ -127,7 +128,7 @@ fn next_string<C: Counter>(
     builder: &mut StringsBuilder,
     steps: &mut C,
 ) -> Result<(), OutOfMemory>
-    requires bar { starts 124 (values (rest reader.old)) ≡ true }
+    requires bar { starts ascii.vertical_bar (values (rest reader.old)) ≡ true }
     requires fits { AreFitting spans.now reader.old }
     ensures added { OnOk result ((e : Environment) → is_sets e.mode ≡ true → AddsPart e spans.now reader.old reader.new builder.old builder.new) }
     ensures keeps { KeepsUnits reader.old reader.new }

@@ -1,4 +1,5 @@
 ghost use Rattle.std.specs.Prelude.{◌≡◌, ◌+◌, ◌<◌, ◌≤◌, ◌==◌, ◌^◌, All, true, length};
+ghost use Rattle.rx_base.specs.Ascii as ascii;
 ghost use Rattle.rx_base.specs.Rising.{Rises};
 ghost use Rattle.rx_units.specs.Cursor.{moved, offset_of, rest};
 ghost use Rattle.rx_units.specs.Pace.{IsMove};
@@ -7,7 +8,7 @@ ghost use Rattle.rx_units.specs.Digits.{front_is};
 ghost use Rattle.rx_model.specs.Characters.EscapeFronts.{any_escape_at};
 ghost use Rattle.rx_model.specs.Inputs.Environment.{Environment, is_sets, is_unicode};
 ghost use Rattle.rx_model.specs.Refusals.Reached.{span_between};
-ghost use Rattle.rx_class.specs.EscapeAnswers.{GivesCharacter, GivesClassEscape, IsBehindBackslash, environment_of};
+ghost use Rattle.rx_class.specs.EscapeAnswers.{GivesCharacter, GivesClassEscape, IsAfterBackslash, environment_of};
 ghost use Rattle.rx_class.specs.EscapeSteps.{few_looks};
 ghost use Rattle.rx_class.specs.Fitting.{AreFitting};
 ghost use Rattle.rx_class.specs.Found.{AnswersFound, IsWithin, seen_escape, shared_escape_at};
@@ -23,7 +24,7 @@ use rx_base::{Counter, Diagnostic, DigitsKind, Span};
 use rx_scan::{SpanFactory, State};
 use rx_units::{CodePoint, Reader};
 
-/// Reads the character escape (CharacterEscape of ECMA-262, 22.2.1) behind a backslash that was read, and moves over its units. The
+/// Reads the character escape (CharacterEscape of ECMA-262, 22.2.1) after a backslash that was read, and moves over its units. The
 /// character's span, in bytes, begins at `span_start`, before the backslash. Where none stands the answer is `None`, and the
 /// reader stays.
 ///
@@ -40,7 +41,7 @@ pub fn parse_character_escape<C: Counter>(
     span_start: u32,
     steps: &mut C,
 ) -> Result<Option<Character>, Diagnostic>
-    requires backslash { IsBehindBackslash reader.old span_start }
+    requires backslash { IsAfterBackslash reader.old span_start }
     requires fits { AreFitting spans.now reader.old }
     ensures gives { GivesCharacter (environment_of state.now) spans.now span_start reader.old reader.new result }
     ensures steps { IsReading 6 (C.count steps.old) (C.count steps.new) reader.old reader.new result }
@@ -49,7 +50,7 @@ pub fn parse_character_escape<C: Counter>(
     answer(reader, spans, span_start, found, steps)
 }
 
-/// Reads the escape of a character (ClassEscape of ECMA-262, 22.2.1) behind a backslash in a class, but for `\b` and `\-`, and moves over it.
+/// Reads the escape of a character (ClassEscape of ECMA-262, 22.2.1) after a backslash in a class, but for `\b` and `\-`, and moves over it.
 pub fn character_in_class<C: Counter>(
     reader: &mut Reader<'_>,
     state: &State,
@@ -57,7 +58,7 @@ pub fn character_in_class<C: Counter>(
     span_start: u32,
     steps: &mut C,
 ) -> Result<Option<Character>, Diagnostic>
-    requires backslash { IsBehindBackslash reader.old span_start }
+    requires backslash { IsAfterBackslash reader.old span_start }
     requires fits { AreFitting spans.now reader.old }
     ensures found { AnswersFound spans.now span_start reader.old reader.new (any_escape_at true (environment_of state.now) (values (rest reader.old))) result }
     ensures steps { IsReading 6 (C.count steps.old) (C.count steps.new) reader.old reader.new result }
@@ -67,7 +68,7 @@ pub fn character_in_class<C: Counter>(
     answer(reader, spans, span_start, found, steps)
 }
 
-/// The escape that units begin with behind a backslash, in and out of classes.
+/// The escape that units begin with after a backslash, in and out of classes.
 fn shared_escape<C: Counter>(units: &[CodePoint], state: &State, steps: &mut C) -> EscapeFound
     requires code_points { All (λ unit. unit.value ≤ 0x10FFFF) units.now }
     ensures read { seen_escape result ≡ shared_escape_at (environment_of state.now) (values units.now) }
@@ -82,7 +83,7 @@ fn shared_escape<C: Counter>(units: &[CodePoint], state: &State, steps: &mut C) 
 }
 
 fn begins_with_c(units: &[CodePoint]) -> bool
-    ensures { result ≡ front_is (λ c. c == 99) (values units.now) }
+    ensures { result ≡ front_is (λ c. c == ascii.c) (values units.now) }
 {
     units.first().is_some_and(|unit| unit.value == 'c' as u32)
 }
@@ -116,7 +117,7 @@ fn answer<C: Counter>(
     found: EscapeFound,
     steps: &mut C,
 ) -> Result<Option<Character>, Diagnostic>
-    requires backslash { IsBehindBackslash reader.old span_start }
+    requires backslash { IsAfterBackslash reader.old span_start }
     requires fits { AreFitting spans.now reader.old }
     requires within { IsWithin (length (rest reader.old)) found }
     ensures found { AnswersFound spans.now span_start reader.old reader.new (seen_escape found) result }
@@ -203,7 +204,7 @@ pub fn next_span<C: Counter>(
     span_to_here(reader, spans, start)
 }
 
-/// Reads the class escape (CharacterClassEscape of ECMA-262, 22.2.1) behind a backslash that was read, if it names no property, and
+/// Reads the class escape (CharacterClassEscape of ECMA-262, 22.2.1) after a backslash that was read, if it names no property, and
 /// moves over its unit. Its span, in bytes, begins at `span_start`, before the backslash. Where none stands the answer is
 /// `None`, and the reader stays.
 pub fn parse_character_class_escape<C: Counter>(
@@ -212,7 +213,7 @@ pub fn parse_character_class_escape<C: Counter>(
     span_start: u32,
     steps: &mut C,
 ) -> Option<CharacterClassEscape>
-    requires backslash { IsBehindBackslash reader.old span_start }
+    requires backslash { IsAfterBackslash reader.old span_start }
     requires fits { AreFitting spans.now reader.old }
     ensures gives { GivesClassEscape spans.now span_start reader.old reader.new result }
     ensures steps { IsMove (C.count steps.old) (C.count steps.new) reader.old reader.new }

@@ -21,10 +21,10 @@ use rx_tables::{
 };
 use rx_units::CodePoint;
 
-/// What stands behind a backslash, in units.
+/// What stands after a backslash, in units.
 #[derive(Clone, Copy, Debug)]
 pub enum EscapeFound {
-    /// A character of a kind, and how many units spell it behind the backslash.
+    /// A character of a kind, and how many units spell it after the backslash.
     Character {
         kind: CharacterKind,
         value: u32,
@@ -32,7 +32,7 @@ pub enum EscapeFound {
     },
     /// No character escape.
     Nothing,
-    /// The digits behind `u{` pass 32 bits, after n digits that do not.
+    /// The digits after `u{` pass 32 bits, after n digits that do not.
     TooMany {
         digits: usize,
     },
@@ -40,7 +40,7 @@ pub enum EscapeFound {
     Invalid,
 }
 
-/// The character escape (CharacterEscape of ECMA-262, 22.2.1) that the units behind a backslash begin with in a mode: with neither
+/// The character escape (CharacterEscape of ECMA-262, 22.2.1) that the units after a backslash begin with in a mode: with neither
 /// `u` nor `v` those of B.1.2 are read too.
 #[tactic(auto, using(crate::proofs::Bounds::any_within))]
 pub fn any_escape_at<C: Counter>(
@@ -81,7 +81,7 @@ fn escape_of_mode<C: Counter>(
     }
 }
 
-/// The character escape (CharacterEscape of ECMA-262, 22.2.1) that the units behind a backslash begin with. It never fails: what is
+/// The character escape (CharacterEscape of ECMA-262, 22.2.1) that the units after a backslash begin with. It never fails: what is
 /// no escape is an answer too.
 #[tactic(auto, using(crate::proofs::Bounds::read_within))]
 pub fn character_escape_at<C: Counter>(
@@ -120,7 +120,7 @@ fn first_escape<C: Counter>(units: &[CodePoint], unicode_mode: bool, steps: &mut
     }
 }
 
-/// A character of a kind, in n units behind the backslash.
+/// A character of a kind, in n units after the backslash.
 pub fn character(kind: CharacterKind, value: u32, length: usize) -> EscapeFound
     ensures { result ≡ EscapeFound.Character kind value length }
 {
@@ -131,7 +131,7 @@ pub fn character(kind: CharacterKind, value: u32, length: usize) -> EscapeFound
     }
 }
 
-/// `c`, by the units behind it.
+/// `c`, by the units after it.
 fn control_letter(units: &[CodePoint]) -> EscapeFound
     ensures { seen_escape result ≡ escaped_if CharacterKind.ControlLetter 2 (letter_at (values units.now)) }
 {
@@ -144,7 +144,7 @@ fn control_letter(units: &[CodePoint]) -> EscapeFound
     }
 }
 
-/// `0`, by the units behind it: a digit there would be of the same number.
+/// `0`, by the units after it: a digit there would be of the same number.
 fn null(units: &[CodePoint]) -> EscapeFound
     ensures { seen_escape result ≡ (if front_is is_decimal_digit (values units.now) then nothing else escaped CharacterKind.Null 0 1) }
 {
@@ -154,7 +154,7 @@ fn null(units: &[CodePoint]) -> EscapeFound
     }
 }
 
-/// `x`, by the units behind it.
+/// `x`, by the units after it.
 fn hexadecimal(units: &[CodePoint]) -> EscapeFound
     ensures { seen_escape result ≡ escaped_if CharacterKind.HexadecimalEscape 3 (two_at (values units.now)) }
 {
@@ -198,7 +198,7 @@ fn is_identity_escape(cp: u32) -> bool
     is_syntax_character(cp) || cp == '/' as u32
 }
 
-/// The class escape (CharacterClassEscape of ECMA-262, 22.2.1) that the unit behind a backslash is, if it names no property.
+/// The class escape (CharacterClassEscape of ECMA-262, 22.2.1) that the unit after a backslash is, if it names no property.
 pub fn class_escape_at(units: &[CodePoint]) -> Option<CharacterClassEscapeKind>
     ensures { result ≡ class_escape_front (values units.now) }
 {

@@ -1,12 +1,13 @@
 ghost use Rattle.std.specs.Prelude.{◌≡◌, ◌+◌, ◌≤◌, ◌==◌, ◌∷◌, ◌&&◌, ◌||◌, true, not, IsTrue, ℕ, List, is_some, nat_le, codes, if◌then◌else◌};
 ghost use Rattle.std.specs.List.{prefix_len};
+ghost use Rattle.rx_base.specs.Ascii as ascii;
+ghost use Rattle.rx_base.specs.Characters.{is_one_of};
 ghost use Rattle.rx_base.specs.Rising.{Rises};
 ghost use Rattle.rx_units.specs.Units.{values};
 ghost use Rattle.rx_units.specs.Digits.{front_is, octal, is_hex_digit};
-ghost use Rattle.rx_model.specs.Characters.EscapeFronts.{control_behind, digit_at, legacy_at, octal_at};
+ghost use Rattle.rx_model.specs.Characters.EscapeFronts.{control_after, digit_at, legacy_at, octal_at};
 ghost use Rattle.rx_model.specs.Characters.LegacyEscapes.{four_next, is_class_control, refers, run_number, two_next};
 ghost use Rattle.rx_model.specs.Inputs.Environment.{Environment};
-ghost use Rattle.rx_model.specs.Refusals.Stops.{is_one_of};
 ghost use Rattle.rx_tables.specs.Characters.{is_decimal_digit, is_octal_digit};
 ghost use Rattle.rx_class.specs.Found.{seen_escape};
 
@@ -28,7 +29,7 @@ pub struct LegacyContext {
     pub named: bool,
 }
 
-/// The escape that the units behind a backslash begin with, of those that are one with neither `u` nor `v` alone (CharacterEscape and ClassEscape of
+/// The escape that the units after a backslash begin with, of those that are one with neither `u` nor `v` alone (CharacterEscape and ClassEscape of
 /// ECMA-262, B.1.2).
 #[tactic(auto, unfolding(rx_model::specs::Characters::EscapeFronts::legacy_at))]
 pub fn legacy_escape_at<C: Counter>(
@@ -55,9 +56,9 @@ pub fn legacy_escape_at<C: Counter>(
     character(CharacterKind::Identifier, cp, 1)
 }
 
-/// `c`, by the units behind it: in a class a ClassControlLetter follows; else the backslash stands for itself.
+/// `c`, by the units after it: in a class a ClassControlLetter follows; else the backslash stands for itself.
 fn control(units: &[CodePoint], inside: bool) -> EscapeFound
-    ensures { seen_escape result ≡ control_behind inside (values units.now) }
+    ensures { seen_escape result ≡ control_after inside (values units.now) }
 {
     let [letter, ..] = units else {
         return character(CharacterKind::Symbol, '\\' as u32, 0);
@@ -106,7 +107,7 @@ fn begins_with_digit(units: &[CodePoint]) -> bool
         .is_some_and(|unit| is_decimal_digit(unit.value))
 }
 
-/// LegacyOctalEscapeSequence, by its first digit and the units behind it.
+/// LegacyOctalEscapeSequence, by its first digit and the units after it.
 fn octal_escape(first: u32, rest: &[CodePoint]) -> EscapeFound
     requires { is_octal_digit first ≡ true }
     ensures { seen_escape result ≡ octal_at first (values rest.now) }
@@ -167,7 +168,7 @@ fn is_at_most<C: Counter>(units: &[CodePoint], limit: u32, steps: &mut C) -> boo
 
 /// Whether what begins with this value is no escape of a character, or one in every mode: a ControlEscape, a class escape, a boundary, or a reference by name.
 fn begins_another(cp: u32, context: LegacyContext) -> bool
-    ensures { result ≡ (is_one_of (codes "dDsSwWfnrtvb") cp || ((context.named && cp == 107) || (not context.inside && cp == 66))) }
+    ensures { result ≡ (is_one_of (codes "dDsSwWfnrtvb") cp || ((context.named && cp == ascii.k) || (not context.inside && cp == ascii.B))) }
 {
     is_lettered(cp) || context.named && cp == 'k' as u32 || !context.inside && cp == 'B' as u32
 }
@@ -181,9 +182,9 @@ fn is_lettered(cp: u32) -> bool
     )
 }
 
-/// Whether this is the `x` of a HexEscapeSequence, by the units behind it.
+/// Whether this is the `x` of a HexEscapeSequence, by the units after it.
 fn is_hexadecimal(cp: u32, rest: &[CodePoint]) -> bool
-    ensures { result ≡ (cp == 120 && is_some (two_next (values rest.now))) }
+    ensures { result ≡ (cp == ascii.x && is_some (two_next (values rest.now))) }
 {
     cp == 'x' as u32 && begin_with_two_hex_digits(rest)
 }
@@ -197,9 +198,9 @@ fn begin_with_two_hex_digits(units: &[CodePoint]) -> bool
     }
 }
 
-/// Whether this is the `u` of a RegExpUnicodeEscapeSequence of four digits, by the units behind it.
+/// Whether this is the `u` of a RegExpUnicodeEscapeSequence of four digits, by the units after it.
 fn is_unicode(cp: u32, rest: &[CodePoint]) -> bool
-    ensures { result ≡ (cp == 117 && is_some (four_next (values rest.now))) }
+    ensures { result ≡ (cp == ascii.u && is_some (four_next (values rest.now))) }
 {
     cp == 'u' as u32 && begin_with_four_hex_digits(rest)
 }

@@ -1,5 +1,5 @@
 ghost use Rattle.std.specs.Prelude.{◌≡◌, ◌+◌, ◌-◌};
-ghost use Rattle.rx_class.specs.EscapeAnswers.{IsBehindBackslash, environment_of};
+ghost use Rattle.rx_class.specs.EscapeAnswers.{IsAfterBackslash, environment_of};
 ghost use Rattle.rx_class.specs.Fitting.{AreFitting};
 ghost use Rattle.rx_class.specs.Keeping.{KeepsUnits};
 ghost use Rattle.rx_class.specs.PropertyAnswers.{GivesProperty};
@@ -20,13 +20,13 @@ use rx_scan::{SpanFactory, State};
 use rx_units::{CodePoint, Reader};
 use std::alloc::Global;
 
-/// Reads the property escape (CharacterClassEscape of ECMA-262, 22.2.1, that names a property) behind a backslash that was read, and
+/// Reads the property escape (CharacterClassEscape of ECMA-262, 22.2.1, that names a property) after a backslash that was read, and
 /// moves over its units. Its span, in bytes, begins at `span_start`, before the backslash. With neither `u` nor `v`, and where neither
 /// `p` nor `P` stands, the answer is `None`, and the reader stays.
 ///
 /// It is refused by `UnterminatedPattern` where no `{` follows, or a name or a value that is known is not followed by `}`; by
 /// `InvalidUnicodeProperty` where a name, a value or both together are in no table; where a property of strings is named, by
-/// `InvalidUnicodePropertyOfStrings` with `u`, and with `v` by `InvalidUnicodePropertyNameNegativeStrings` behind `\P`.
+/// `InvalidUnicodePropertyOfStrings` with `u`, and with `v` by `InvalidUnicodePropertyNameNegativeStrings` after `\P`.
 #[inline]
 pub fn parse_character_class_escape_unicode<C: Counter>(
     alloc: Global,
@@ -36,7 +36,7 @@ pub fn parse_character_class_escape_unicode<C: Counter>(
     span_start: u32,
     steps: &mut C,
 ) -> Result<Option<UnicodePropertyEscape>, Fault>
-    requires backslash { IsBehindBackslash reader.old span_start }
+    requires backslash { IsAfterBackslash reader.old span_start }
     requires fits { AreFitting spans.now reader.old }
     ensures gives { GivesProperty (environment_of state.now) spans.now span_start reader.old reader.new result }
     ensures steps { IsReading 6 (C.count steps.old) (C.count steps.new) reader.old reader.new result }
@@ -64,7 +64,7 @@ fn property_escape<C: Counter>(
     span_start: u32,
     steps: &mut C,
 ) -> Result<Option<UnicodePropertyEscape>, Fault>
-    requires backslash { IsBehindBackslash reader.old span_start }
+    requires backslash { IsAfterBackslash reader.old span_start }
     requires fits { AreFitting spans.now reader.old }
     ensures gives { GivesProperty (environment_of state.now) spans.now span_start reader.old reader.new result }
     ensures steps { IsReading 6 (C.count steps.old) (C.count steps.new) reader.old reader.new result }
@@ -111,7 +111,7 @@ fn refusal<C: Counter>(
     halt: PropertyHalt,
     steps: &mut C,
 ) -> Diagnostic
-    requires backslash { IsBehindBackslash reader.old span_start }
+    requires backslash { IsAfterBackslash reader.old span_start }
     requires fits { AreFitting spans.now reader.old }
     ensures refusal { result ≡ property_refusal reader.old.units reader.old.first spans.now (reader.old.place - 1) halt }
     ensures reader { KeepsUnits reader.old reader.new }

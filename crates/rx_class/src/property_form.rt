@@ -16,35 +16,35 @@ use rx_units::CodePoint;
 pub struct Pair<'a> {
     pub name: &'a [CodePoint],
     pub value: &'a [CodePoint],
-    pub behind: &'a [CodePoint],
+    pub following: &'a [CodePoint],
 }
 
-/// The name and the value that the units behind `{` begin with; none where one of them is empty, or nothing follows.
+/// The name and the value that the units after `{` begin with; none where one of them is empty, or nothing follows.
 pub fn pair_at<'a, C: Counter>(units: &'a [CodePoint], steps: &mut C) -> Option<Pair<'a>>
     ensures found { IsPairFound (values units.now) result }
     ensures steps { Rises (C.count steps.old) (C.count steps.new) 0 (pair_looks (values units.now) result) }
 {
-    let (name, behind) = units.split_at(name_length(units, steps));
-    let [equals, behind @ ..] = behind else {
+    let (name, following) = units.split_at(name_length(units, steps));
+    let [equals, following @ ..] = following else {
         return None;
     };
     if equals.value != '=' as u32 {
         return None;
     }
-    let (value, behind) = run_at(behind, steps);
+    let (value, following) = run_at(following, steps);
     if name.is_empty() {
         return None;
     }
     if value.is_empty() {
         return None;
     }
-    if behind.is_empty() {
+    if following.is_empty() {
         return None;
     }
     Some(Pair {
         name,
         value,
-        behind,
+        following,
     })
 }
 

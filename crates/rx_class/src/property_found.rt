@@ -1,6 +1,7 @@
 ghost use Rattle.std.specs.Prelude.{◌≡◌, ◌+◌, ◌<◌, ◌^◌, ℕ, Bool, ◌∷◌, List, length, true, IfOk};
 ghost use Rattle.std.specs.List.{list_all};
 ghost use Rattle.std.specs.Str.{chars};
+ghost use Rattle.rx_base.specs.Ascii as ascii;
 ghost use Rattle.rx_base.specs.Rising.{Rises};
 ghost use Rattle.rx_units.specs.Units.{values};
 ghost use Rattle.rx_tables.specs.Characters.{is_unicode_property_value_character};
@@ -18,10 +19,10 @@ use rx_tables::{
 use rx_units::CodePoint;
 use std::alloc::Global;
 
-/// What stands behind a backslash where a property escape may stand, in units.
+/// What stands after a backslash where a property escape may stand, in units.
 #[derive(Debug, Drop)]
 pub enum PropertyFound {
-    /// A property escape, and how many units spell it behind the backslash.
+    /// A property escape, and how many units spell it after the backslash.
     Property {
         negative: bool,
         strings: bool,
@@ -31,20 +32,20 @@ pub enum PropertyFound {
     },
     /// Neither `p` nor `P`.
     Nothing,
-    /// No property escape stands behind `p` or `P`.
+    /// No property escape stands after `p` or `P`.
     Halt(PropertyHalt),
 }
 
-/// Why no property escape stands behind `p` or `P`. Places count the units behind the backslash.
+/// Why no property escape stands after `p` or `P`. Places count the units after the backslash.
 #[derive(Debug, Drop)]
 pub enum PropertyHalt {
     /// It is cut off at a place.
     Unterminated { end: usize },
     /// A value does not go with its name.
     Name { start: usize, length: usize },
-    /// n units behind `{` are no name and no value.
+    /// n units after `{` are no name and no value.
     NameOrValue { length: usize },
-    /// n units behind `{` name a property of strings.
+    /// n units after `{` name a property of strings.
     OfStrings { name: Text, length: usize },
     /// A negative escape that ends at a place names a property of strings.
     NegativeOfStrings { name: Text, end: usize },
@@ -62,7 +63,7 @@ pub enum Lone {
     Nothing,
 }
 
-/// The property escape (CharacterClassEscape of ECMA-262, 22.2.1) that the units behind a backslash begin with, in sets mode or not.
+/// The property escape (CharacterClassEscape of ECMA-262, 22.2.1) that the units after a backslash begin with, in sets mode or not.
 pub fn property_at<C: Counter>(
     alloc: Global,
     units: &[CodePoint],
@@ -72,19 +73,19 @@ pub fn property_at<C: Counter>(
     ensures found { IfOk result (IsPropertyFound sets (values units.now)) }
     ensures steps { Rises (C.count steps.old) (C.count steps.new) 0 (property_looks (length units.now) result) }
 {
-    let [letter, behind @ ..] = units else {
+    let [letter, following @ ..] = units else {
         return Ok(PropertyFound::Nothing);
     };
     if letter.value == 'p' as u32 {
-        return expression_at(alloc, false, behind, sets, steps);
+        return expression_at(alloc, false, following, sets, steps);
     }
     if letter.value == 'P' as u32 {
-        return expression_at(alloc, true, behind, sets, steps);
+        return expression_at(alloc, true, following, sets, steps);
     }
     Ok(PropertyFound::Nothing)
 }
 
-/// The same by the units behind `p` or `P`.
+/// The same by the units after `p` or `P`.
 fn expression_at<C: Counter>(
     alloc: Global,
     negative: bool,
@@ -95,17 +96,24 @@ fn expression_at<C: Counter>(
     ensures found { IfOk result (IsPropertyFound sets (property_letter negative ∷ values units.now)) }
     ensures steps { Rises (C.count steps.old) (C.count steps.new) 0 (property_looks (length units.now) result) }
 {
-    let [brace, behind @ ..] = units else {
+    let [brace, following @ ..] = units else {
         return Ok(unterminated(1));
     };
     if brace.value != '{' as u32 {
         return Ok(unterminated(1));
     }
-    match pair_at(behind, steps) {
-        Some(pair) => pair_found(alloc, negative, pair.name, pair.value, pair.behind, steps),
+    match pair_at(following, steps) {
+        Some(pair) => pair_found(
+            alloc,
+            negative,
+            pair.name,
+            pair.value,
+            pair.following,
+            steps,
+        ),
         None => {
-            let (run, behind) = run_at(behind, steps);
-            run_found(alloc, negative, run, behind, sets, steps)
+            let (run, following) = run_at(following, steps);
+            run_found(alloc, negative, run, following, sets, steps)
         }
     }
 }
@@ -122,14 +130,14 @@ fn pair_found<C: Counter>(
     negative: bool,
     name: &[CodePoint],
     value: &[CodePoint],
-    behind: &[CodePoint],
+    following: &[CodePoint],
     steps: &mut C,
 ) -> Result<PropertyFound, OutOfMemory>
-    requires { (w : List ℕ) × HasPair w (values name.now) (values value.now) (values behind.now) }
-    ensures found { IfOk result (λ found. (sets : Bool) (w : List ℕ) → HasPair w (values name.now) (values value.now) (values behind.now)
-        → IsPropertyFound sets (property_letter negative ∷ 123 ∷ w) found) }
+    requires { (w : List ℕ) × HasPair w (values name.now) (values value.now) (values following.now) }
+    ensures found { IfOk result (λ found. (sets : Bool) (w : List ℕ) → HasPair w (values name.now) (values value.now) (values following.now)
+        → IsPropertyFound sets (property_letter negative ∷ ascii.left_brace ∷ w) found) }
     ensures steps { Rises (C.count steps.old) (C.count steps.new) 0 (length name.now + length value.now) }
-    ensures closed { IfOk result (IsClosedIn (4 + length name.now + length value.now) (values behind.now)) }
+    ensures closed { IfOk result (IsClosedIn (4 + length name.now + length value.now) (values following.now)) }
 {
     let name_text = text_of(alloc, name, steps)?;
     let value_text = text_of(alloc, value, steps)?;
@@ -139,7 +147,7 @@ fn pair_found<C: Counter>(
             length: value.len(),
         }));
     }
-    if !is_closed(behind) {
+    if !is_closed(following) {
         return Ok(unterminated(3 + name.len() + value.len()));
     }
     Ok(PropertyFound::Property {
@@ -156,17 +164,17 @@ fn run_found<C: Counter>(
     alloc: Global,
     negative: bool,
     run: &[CodePoint],
-    behind: &[CodePoint],
+    following: &[CodePoint],
     sets: bool,
     steps: &mut C,
 ) -> Result<PropertyFound, OutOfMemory>
-    requires { (w : List ℕ) × HasRun w (values run.now) (values behind.now) }
-    ensures found { IfOk result (λ found. (w : List ℕ) → HasRun w (values run.now) (values behind.now)
-        → IsPropertyFound sets (property_letter negative ∷ 123 ∷ w) found) }
+    requires { (w : List ℕ) × HasRun w (values run.now) (values following.now) }
+    ensures found { IfOk result (λ found. (w : List ℕ) → HasRun w (values run.now) (values following.now)
+        → IsPropertyFound sets (property_letter negative ∷ ascii.left_brace ∷ w) found) }
     ensures steps { Rises (C.count steps.old) (C.count steps.new) 0 (length run.now) }
-    ensures closed { IfOk result (IsClosedIn (3 + length run.now) (values behind.now)) }
+    ensures closed { IfOk result (IsClosedIn (3 + length run.now) (values following.now)) }
 {
-    if run.is_empty() || behind.is_empty() {
+    if run.is_empty() || following.is_empty() {
         return Ok(unterminated(2 + run.len()));
     }
     let word = text_of(alloc, run, steps)?;
@@ -174,7 +182,7 @@ fn run_found<C: Counter>(
     if !is_known(lone, sets) {
         return Ok(PropertyFound::Halt(unknown(lone, word, run.len())));
     }
-    if !is_closed(behind) {
+    if !is_closed(following) {
         return Ok(unterminated(2 + run.len()));
     }
     known_found(alloc, negative, lone, word, run.len())
@@ -213,8 +221,8 @@ fn known_found(
     requires known { (sets : Bool) × (is_known lone sets ≡ true) }
     requires count { count ≡ length word }
     requires small { count < 2 ^ 63 }
-    ensures found { IfOk result (λ found. (sets : Bool) (w behind : List ℕ) → is_known lone sets ≡ true → HasRun w word behind → starts 125 behind ≡ true
-        → IsPropertyFound sets (property_letter negative ∷ 123 ∷ w) found) }
+    ensures found { IfOk result (λ found. (sets : Bool) (w following : List ℕ) → is_known lone sets ≡ true → HasRun w word following → starts ascii.right_brace following ≡ true
+        → IsPropertyFound sets (property_letter negative ∷ ascii.left_brace ∷ w) found) }
     ensures length { IfOk result (IsSpelledIn (3 + count)) }
 {
     match lone {
@@ -263,7 +271,7 @@ fn named_alone(word: &str) -> Lone
 }
 
 fn is_closed(units: &[CodePoint]) -> bool
-    ensures { result ≡ starts 125 (values units.now) }
+    ensures { result ≡ starts ascii.right_brace (values units.now) }
 {
     units.first().is_some_and(|unit| unit.value == '}' as u32)
 }

@@ -1,4 +1,5 @@
 ghost use Rattle.std.specs.Prelude.{◌≡◌, ◌↔◌, Err, IsTrue, MatchResult, Ok, Some, true};
+ghost use Rattle.rx_base.specs.Ascii as ascii;
 ghost use Rattle.rx_units.specs.Cursor.{rest};
 ghost use Rattle.rx_units.specs.Pace.{TakesSteps};
 ghost use Rattle.rx_units.specs.Units.{values};
@@ -30,7 +31,7 @@ pub fn set_class<C: Counter>(
     spans: &SpanFactory,
     steps: &mut C,
 ) -> Result<CharacterClass, Fault>
-    requires bracket { starts 91 (values (rest reader.old)) ≡ true }
+    requires bracket { starts ascii.left_bracket (values (rest reader.old)) ≡ true }
     requires sets { IsOfSets (environment_of state.now) reader.old }
     requires fits { AreFitting spans.now reader.old }
     ensures gives { MatchResult result (λ it. GivesClass (environment_of state.now) spans.now reader.old reader.new (Ok (Some it))) (λ fault. GivesClass (environment_of state.now) spans.now reader.old reader.new (Err fault)) }

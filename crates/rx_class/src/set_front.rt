@@ -1,4 +1,5 @@
 ghost use Rattle.std.specs.Prelude.{◌≡◌, true, length};
+ghost use Rattle.rx_base.specs.Ascii as ascii;
 ghost use Rattle.rx_base.specs.Rising.{Rises};
 ghost use Rattle.rx_units.specs.Units.{values};
 ghost use Rattle.rx_model.specs.declared.mode.Mode.TheVariants.{Sets};
@@ -9,8 +10,8 @@ ghost use Rattle.rx_model.specs.Inputs.Environment.{Environment, is_sets};
 ghost use Rattle.rx_class.specs.EscapeSteps.{most_looks};
 ghost use Rattle.rx_class.specs.Found.{IsWithin, seen_escape};
 ghost use Rattle.rx_class.specs.FrontSeen.{seen_front};
-ghost use Rattle.rx_class.specs.SetFronts.{IsRangeEnd, IsSetFront, behind_backslash, character_front, escaped_front, range_end_at, set_character_at, set_escape_at, set_front_at};
-ghost use Rattle.rx_class.specs.SetSteps.{most_behind_backslash, most_end_looks, most_front_behind, most_front_looks, most_set_looks};
+ghost use Rattle.rx_class.specs.SetFronts.{IsRangeEnd, IsSetFront, after_backslash, character_front, escaped_front, range_end_at, set_character_at, set_escape_at, set_front_at};
+ghost use Rattle.rx_class.specs.SetSteps.{most_after_backslash, most_end_looks, most_front_after, most_front_looks, most_set_looks};
 
 use crate::class_atom::unit_kind;
 use crate::escape_found::character;
@@ -58,25 +59,25 @@ fn first_front<C: Counter>(units: &[CodePoint], steps: &mut C) -> SetFront
     ensures front { seen_front result ≡ set_front_at units.now }
     ensures steps { Rises (C.count steps.old) (C.count steps.new) 0 (most_front_looks units.now (seen_front result)) }
 {
-    let [first, behind @ ..] = units else {
+    let [first, following @ ..] = units else {
         return SetFront::Nothing;
     };
     match char::from_u32(first.value) {
         Some(']') => SetFront::Closer,
         Some('[') => SetFront::Bracket {
-            negative: begins_with(behind, '^'),
+            negative: begins_with(following, '^'),
         },
-        Some('&') if begins_with(behind, '&') => SetFront::Meet,
-        Some('-') if begins_with(behind, '-') => SetFront::Less,
-        Some('\\') => escaped_front(behind, steps),
+        Some('&') if begins_with(following, '&') => SetFront::Meet,
+        Some('-') if begins_with(following, '-') => SetFront::Less,
+        Some('\\') => escaped_front(following, steps),
         _ => character_front(set_character_at(units, steps)),
     }
 }
 
-/// What stands behind a backslash.
+/// What stands after a backslash.
 fn escaped_front<C: Counter>(units: &[CodePoint], steps: &mut C) -> SetFront
     ensures front { seen_front result ≡ escaped_front (values units.now) }
-    ensures steps { Rises (C.count steps.old) (C.count steps.new) 0 (most_front_behind (length units.now) (seen_front result)) }
+    ensures steps { Rises (C.count steps.old) (C.count steps.new) 0 (most_front_after (length units.now) (seen_front result)) }
 {
     if begins_strings(units) {
         return SetFront::Strings;
@@ -86,7 +87,7 @@ fn escaped_front<C: Counter>(units: &[CodePoint], steps: &mut C) -> SetFront
     }
     match class_escape_at(units) {
         Some(kind) => SetFront::Escape(kind),
-        None => character_front(behind_backslash(units, steps)),
+        None => character_front(after_backslash(units, steps)),
     }
 }
 
@@ -105,23 +106,23 @@ pub fn set_character_at<C: Counter>(units: &[CodePoint], steps: &mut C) -> Escap
     ensures read { seen_escape result ≡ set_character_at units.now }
     ensures steps { Rises (C.count steps.old) (C.count steps.new) 0 (most_set_looks units.now (seen_escape result)) }
 {
-    let [first, behind @ ..] = units else {
+    let [first, following @ ..] = units else {
         return EscapeFound::Nothing;
     };
     if first.value == '\\' as u32 {
-        return behind_backslash(behind, steps);
+        return after_backslash(following, steps);
     }
-    if stands_raw(first.value, behind) {
+    if stands_raw(first.value, following) {
         character(unit_kind(first.escape_kind), first.value, 1)
     } else {
         EscapeFound::Nothing
     }
 }
 
-/// The character that the units behind a backslash stand for in a class, from the backslash on.
-fn behind_backslash<C: Counter>(units: &[CodePoint], steps: &mut C) -> EscapeFound
-    ensures read { seen_escape result ≡ behind_backslash (set_escape_at (values units.now)) }
-    ensures steps { Rises (C.count steps.old) (C.count steps.new) 0 (most_behind_backslash (length units.now) (seen_escape result)) }
+/// The character that the units after a backslash stand for in a class, from the backslash on.
+fn after_backslash<C: Counter>(units: &[CodePoint], steps: &mut C) -> EscapeFound
+    ensures read { seen_escape result ≡ after_backslash (set_escape_at (values units.now)) }
+    ensures steps { Rises (C.count steps.old) (C.count steps.new) 0 (most_after_backslash (length units.now) (seen_escape result)) }
 {
     let found = set_escape_at(units, steps);
     match found {
@@ -153,37 +154,39 @@ fn set_escape_at<C: Counter>(units: &[CodePoint], steps: &mut C) -> EscapeFound
 }
 
 /// Whether a value stands for itself before some units: it is no ClassSetSyntaxCharacter, and begins no ClassSetReservedDoublePunctuator.
-fn stands_raw(value: u32, behind: &[CodePoint]) -> bool
-    ensures { result ≡ stands_raw_in_class Sets value (values behind.now) }
+fn stands_raw(value: u32, following: &[CodePoint]) -> bool
+    ensures { result ≡ stands_raw_in_class Sets value (values following.now) }
 {
     !is_class_set_syntax_character(value)
-        && !behind.first().is_some_and(|next| is_class_set_reserved_double_punctuator(
+        && !following.first().is_some_and(|next| is_class_set_reserved_double_punctuator(
             value, next.value,
         ))
 }
 
-/// What stands behind a character as the end of a range: a `-` and a character. Lengths count from behind the `-` on.
+/// What stands after a character as the end of a range: a `-` and a character. Lengths count from after the `-` on.
 #[tactic(auto, using(crate::proofs::SetCharacters::range_end_is))]
 pub fn range_end_at<C: Counter>(units: &[CodePoint], steps: &mut C) -> EscapeFound
     ensures end { (e : Environment) → is_sets e.mode ≡ true → IsRangeEnd e units.now (seen_escape result) }
     ensures steps { Rises (C.count steps.old) (C.count steps.new) 0 (most_end_looks units.now (seen_escape result)) }
 {
-    behind_hyphen(units, steps)
+    after_hyphen(units, steps)
 }
 
-fn behind_hyphen<C: Counter>(units: &[CodePoint], steps: &mut C) -> EscapeFound
+fn after_hyphen<C: Counter>(units: &[CodePoint], steps: &mut C) -> EscapeFound
     ensures end { seen_escape result ≡ range_end_at units.now }
     ensures steps { Rises (C.count steps.old) (C.count steps.new) 0 (most_end_looks units.now (seen_escape result)) }
 {
     match units {
-        [hyphen, behind @ ..] if hyphen.value == '-' as u32 => set_character_at(behind, steps),
+        [hyphen, following @ ..] if hyphen.value == '-' as u32 => set_character_at(
+            following, steps,
+        ),
         _ => EscapeFound::Nothing,
     }
 }
 
-/// Whether `q{` stands behind a backslash.
+/// Whether `q{` stands after a backslash.
 fn begins_strings(units: &[CodePoint]) -> bool
-    ensures { result ≡ are_next 113 123 (values units.now) }
+    ensures { result ≡ are_next ascii.q ascii.left_brace (values units.now) }
 {
     match units {
         [letter, brace, ..] => letter.value == 'q' as u32 && brace.value == '{' as u32,

@@ -1,4 +1,5 @@
-ghost use Rattle.std.specs.Prelude.{◌≡◌, ◌≢◌, ◌≤◌, ◌∷◌, [], All, IfOk, Ok, Some, false, true};
+ghost use Rattle.std.specs.Prelude.{◌≡◌, ◌≢◌, ◌≤◌, ◌∷◌, [], All, IfOk, Ok, Some, false, true, codes};
+ghost use Rattle.rx_base.specs.Ascii as ascii;
 ghost use Rattle.rx_ast.specs.ClassTree as ClassTree;
 ghost use Rattle.rx_ast.specs.ClassTree.{mirror_contents};
 ghost use Rattle.rx_base.specs.Rising.{Rises};
@@ -6,7 +7,7 @@ ghost use Rattle.rx_units.specs.Cursor.{Cursor, rest};
 ghost use Rattle.rx_units.specs.Pace.{TakesSteps};
 ghost use Rattle.rx_units.specs.Units.{values};
 ghost use Rattle.rx_model.specs.Characters.EscapeFronts.{nothing};
-ghost use Rattle.rx_model.specs.Classes.ClassRows.{behind_meet};
+ghost use Rattle.rx_model.specs.Classes.ClassRows.{after_meet};
 ghost use Rattle.rx_model.specs.Classes.ClassRuns.{operand, ranged as after_range};
 ghost use Rattle.rx_model.specs.FirstPass.Marks.{starts};
 ghost use Rattle.rx_model.specs.Inputs.Environment.{Environment, is_sets};
@@ -18,7 +19,7 @@ ghost use Rattle.rx_class.specs.HeldMirror.{held_of};
 ghost use Rattle.rx_class.specs.SetAnswers.{GivesSetCharacter};
 ghost use Rattle.rx_class.specs.SetFronts.{Begins, BeginsProperty, EndsRange, set_character_at};
 ghost use Rattle.rx_class.specs.SetReading.{GivesTurn, IsOfSets, IsRangeNext, IsSetRange, held_in, place_of};
-ghost use Rattle.rx_class.specs.SetSteps.{TakesStepsBehind, most_end_looks, most_next_looks, most_set_looks};
+ghost use Rattle.rx_class.specs.SetSteps.{TakesStepsAfter, most_end_looks, most_next_looks, most_set_looks};
 ghost use Rattle.rx_class.specs.WellBuilt.{IsWellBuilt};
 
 use crate::EscapeFound;
@@ -49,7 +50,7 @@ pub fn strings<C: Counter>(
     after: Held,
     steps: &mut C,
 ) -> Result<(), Fault>
-    requires front { Begins (rest reader.old) (92 ∷ 113 ∷ 123 ∷ []) }
+    requires front { Begins (rest reader.old) (codes "\\q{") }
     requires held { operand (held_in builder.old) ≡ Some (held_of after) }
     requires well { IsWellBuilt builder.old }
     requires fits { AreFitting spans.now reader.old }
@@ -142,12 +143,12 @@ pub fn character_item<C: Counter>(
     requires front { set_character_at (rest reader.old) ≡ seen_escape found }
     requires some { seen_escape found ≢ nothing }
     requires code_points { All (λ unit. unit.value ≤ 0x10FFFF) (rest reader.old) }
-    requires no_third { place_of (held_in builder.old) ≡ behind_meet → starts 38 (values (rest reader.old)) ≡ false }
+    requires no_third { place_of (held_in builder.old) ≡ after_meet → starts ascii.ampersand (values (rest reader.old)) ≡ false }
     requires held { operand (held_in builder.old) ≡ Some (held_of after) }
     requires well { IsWellBuilt builder.old }
     requires fits { AreFitting spans.now reader.old }
     ensures gives { (e : Environment) → IsOfSets e reader.old → GivesTurn e spans.now reader.old reader.new builder.old builder.new result }
-    ensures steps { TakesStepsBehind (most_set_looks (rest reader.old) (seen_escape found)) 6 (C.count steps.old) (C.count steps.new) reader.old reader.new result }
+    ensures steps { TakesStepsAfter (most_set_looks (rest reader.old) (seen_escape found)) 6 (C.count steps.old) (C.count steps.new) reader.old reader.new result }
 {
     let Some(low) = answer_ahead(reader, spans, found, steps)? else {
         unreachable!();
@@ -160,7 +161,7 @@ pub fn character_item<C: Counter>(
     }
 }
 
-/// What was found as the end of a range behind a character, and what the innermost bracket holds with the range; or that the character begins none.
+/// What was found as the end of a range after a character, and what the innermost bracket holds with the range; or that the character begins none.
 fn range_next<C: Counter>(
     builder: &ClassBuilder,
     units: &[CodePoint],
@@ -176,7 +177,7 @@ fn range_next<C: Counter>(
     }
 }
 
-/// Reads the range that a character begins which was read, behind which its end was found.
+/// Reads the range that a character begins which was read, after which its end was found.
 fn range_item<C: Counter>(
     alloc: Global,
     reader: &mut Reader<'_>,
@@ -195,7 +196,7 @@ fn range_item<C: Counter>(
     requires well { IsWellBuilt builder.old }
     requires fits { AreFitting spans.now reader.old }
     ensures gives { (e : Environment) (start : Cursor) → IsOfSets e start → GivesSetCharacter e spans.now start reader.old (Ok (Some low)) → GivesTurn e spans.now start reader.new builder.old builder.new result }
-    ensures steps { TakesStepsBehind (most_end_looks (rest reader.old) (seen_escape end)) 6 (C.count steps.old) (C.count steps.new) reader.old reader.new result }
+    ensures steps { TakesStepsAfter (most_end_looks (rest reader.old) (seen_escape end)) 6 (C.count steps.old) (C.count steps.new) reader.old reader.new result }
 {
     reader.advance_counted(steps);
     let Some(high) = answer_ahead(reader, spans, end, steps)? else {

@@ -1,4 +1,4 @@
-ghost use Rattle.std.specs.Prelude.{◌≡◌, ◌≢◌, ◌∷◌, ℕ, [], IsSome, Some, length, true};
+ghost use Rattle.std.specs.Prelude.{◌≡◌, ◌≢◌, ◌∷◌, ℕ, [], IsSome, Some, length, true, codes};
 ghost use Rattle.rx_units.specs.Cursor.{rest};
 ghost use Rattle.rx_units.specs.Pace.{IsMove, TakesSteps};
 ghost use Rattle.rx_units.specs.Units.{values};
@@ -27,7 +27,7 @@ pub fn meet<C: Counter>(
     after: Held,
     steps: &mut C,
 )
-    requires front { Begins (rest reader.old) (38 ∷ 38 ∷ []) }
+    requires front { Begins (rest reader.old) (codes "&&") }
     requires held { met_by (held_in builder.old) ≡ Some (held_of after) }
     requires well { IsWellBuilt builder.old }
     ensures added { (e : Environment) (added : ℕ) → IsOfSets e reader.old → AddsToSets e added reader.old reader.new builder.old builder.new }
@@ -44,7 +44,7 @@ pub fn less<C: Counter>(
     after: Held,
     steps: &mut C,
 )
-    requires front { Begins (rest reader.old) (45 ∷ 45 ∷ []) }
+    requires front { Begins (rest reader.old) (codes "--") }
     requires held { less_by (held_in builder.old) ≡ Some (held_of after) }
     requires well { IsWellBuilt builder.old }
     ensures added { (e : Environment) (added : ℕ) → IsOfSets e reader.old → AddsToSets e added reader.old reader.new builder.old builder.new }
@@ -90,7 +90,7 @@ pub fn close<C: Counter>(
     builder: &mut ClassBuilder,
     steps: &mut C,
 ) -> Result<(), Fault>
-    requires front { Begins (rest reader.old) (93 ∷ []) }
+    requires front { Begins (rest reader.old) (codes "]") }
     requires nested { builder.old.outer ≢ [] }
     requires whole { is_whole (held_in builder.old) ≡ true }
     requires well { IsWellBuilt builder.old }

@@ -1,4 +1,5 @@
-ghost use Rattle.std.specs.Prelude.{◌≡◌, ◌&&◌, ◌∷◌, [], Err, MatchResult, false, true};
+ghost use Rattle.std.specs.Prelude.{◌≡◌, ◌&&◌, ◌∷◌, [], Err, MatchResult, false, true, codes};
+ghost use Rattle.rx_base.specs.Ascii as ascii;
 ghost use Rattle.rx_units.specs.Cursor.{rest};
 ghost use Rattle.rx_units.specs.Pace.{IsMove, TakesSteps};
 ghost use Rattle.rx_units.specs.Units.{values};
@@ -18,14 +19,14 @@ use rx_base::{Counter, Diagnostic, Fault, Span, Unterminated};
 use rx_scan::SpanFactory;
 use rx_units::Reader;
 
-/// Refuses the `&` that stands next, behind a `&&`.
+/// Refuses the `&` that stands next, after a `&&`.
 pub fn third_ampersand<C: Counter>(
     builder: &ClassBuilder,
     reader: &mut Reader<'_>,
     spans: &SpanFactory,
     steps: &mut C,
 ) -> Fault
-    requires ampersand { starts 38 (values (rest reader.old)) ≡ true }
+    requires ampersand { starts ascii.ampersand (values (rest reader.old)) ≡ true }
     requires held { held_in builder.now ≡ meeting }
     requires fits { AreFitting spans.now reader.old }
     ensures gives { (e : Environment) → IsOfSets e reader.old → GivesTurn e spans.now reader.old reader.new builder.now builder.now (Err result) }
@@ -42,7 +43,7 @@ pub fn refuse_negative_strings<C: Counter>(
     spans: &SpanFactory,
     steps: &mut C,
 ) -> Result<(), Fault>
-    requires front { Begins (rest reader.old) (93 ∷ []) }
+    requires front { Begins (rest reader.old) (codes "]") }
     requires whole { is_whole (held_in builder.now) ≡ true }
     requires fits { AreFitting spans.now reader.old }
     ensures gives { MatchResult result (λ none. (reader.new ≡ reader.old) × ((builder.now.inner.negative && builder.now.inner.strings) ≡ false)) (λ fault. (e : Environment) → IsOfSets e reader.old → GivesTurn e spans.now reader.old reader.new builder.now builder.now (Err fault)) }

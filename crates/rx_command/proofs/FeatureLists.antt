@@ -67,14 +67,14 @@ feature_naming = record { one_name = one_name; no_comma = no_comma; plain = plai
 
 -- ---- a list has one meaning
 
-fields : (sticky unicode dot_all match_indices unicode_sets named duplicate property behind modifiers buffers : Bool) → Features
-fields sticky unicode dot_all match_indices unicode_sets named duplicate property behind modifiers buffers = record {
+fields : (sticky unicode dot_all match_indices unicode_sets named duplicate property lookbehind modifiers buffers : Bool) → Features
+fields sticky unicode dot_all match_indices unicode_sets named duplicate property lookbehind modifiers buffers = record {
   flags = record { sticky = sticky; unicode = unicode; dot_all = dot_all; match_indices = match_indices; unicode_sets = unicode_sets };
   patterns = record {
     named_capture_groups = named;
     duplicate_named_capture_groups = duplicate;
     unicode_property_escapes = property;
-    look_behind_assertions = behind;
+    look_behind_assertions = lookbehind;
     pattern_modifiers = modifiers;
   };
   buffer_boundaries = buffers;

@@ -48,7 +48,7 @@ Example:
 ";
 
 /// What `--version` writes.
-pub const VERSION: &str = "regexp 0.156.0 (a port of oxc_regular_expression 0.156.0)\n";
+pub const VERSION: &str = "regexp 0.2.0 (a port of oxc_regular_expression 0.156.0)\n";
 
 /// A text in which the program tells of itself.
 #[derive(Clone, Copy, Debug, PartialEq, Eq)]

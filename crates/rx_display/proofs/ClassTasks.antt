@@ -40,10 +40,10 @@ contents_pair first others = member_pair (mirror_contents first) (members (map m
 in_order : (opener first others closer more : List ℕ) → (opener ++ ((first ++ others) ++ closer)) ++ more ≡ opener ++ (first ++ ((others ++ closer) ++ more))
 in_order opener first others closer more = simp append_assoc
 
-behind_operator : (operator first others closer more : List ℕ) → (((operator ++ first) ++ others) ++ closer) ++ more ≡ operator ++ (first ++ ((others ++ closer) ++ more))
-behind_operator operator first others closer more = simp append_assoc
+after_operator : (operator first others closer more : List ℕ) → (((operator ++ first) ++ others) ++ closer) ++ more ≡ operator ++ (first ++ ((others ++ closer) ++ more))
+after_operator operator first others closer more = simp append_assoc
 
--- texts with more behind them, by the first of the contents and the others
+-- texts with more after them, by the first of the contents and the others
 pub class_cut : (c : CharacterClass) (all : List CharacterClassContents) (first : CharacterClassContents) (others : List CharacterClassContents) (more : List ℕ) →
     all ≡ c.body → all ≡ first ∷ others → let pair = contents_pair first others in
     class_shown (mirror_class c) ++ more ≡ class_opener c.negative ++ (pair_or pair (member_shown (mirror_contents first)) ++ (rest_of_class (operator_text c.kind) (is_some pair) others ++ more))
@@ -62,7 +62,7 @@ pub rest_cut : (operator : List ℕ) (joined : Bool) (all : List CharacterClassC
 rest_cut operator joined all first others more cut alone =
     let pair = contents_pair first others in
     rw (cut, alone)
-    (behind_operator operator (pair_or pair (member_shown (mirror_contents first))) (more_members_shown operator (is_some pair) (members (map mirror_contents others))) (codes "]") more)
+    (after_operator operator (pair_or pair (member_shown (mirror_contents first))) (more_members_shown operator (is_some pair) (members (map mirror_contents others))) (codes "]") more)
 
 -- The first was written together with the one before it.
 pub joined_rest_cut : (operator : List ℕ) (joined : Bool) (all : List CharacterClassContents) (first : CharacterClassContents) (others : List CharacterClassContents) (more : List ℕ) →

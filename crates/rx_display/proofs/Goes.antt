@@ -43,10 +43,10 @@ module _ {W : Type 0} {took : W → List ℕ → W → Type 0} where
   goes_last (Err e) front after kept writes = tt
 
   -- a text was written, and a last call leaves the rest
-  pub goes_left : (result : Result (Unit {0}) Error) {f g : Formatter W} (before front behind after : List ℕ) → before ≡ front ++ behind →
-      HasWritten took f (encode_utf8_all front) g → OnOk result (after ≡ behind) → OnOk result (Goes took f g before after)
-  goes_left (Ok x) before front behind after same written left = goes_whole front (same ∙ ap (λ text. front ++ text) (sym left)) written
-  goes_left (Err e) before front behind after same written left = tt
+  pub goes_left : (result : Result (Unit {0}) Error) {f g : Formatter W} (before front following after : List ℕ) → before ≡ front ++ following →
+      HasWritten took f (encode_utf8_all front) g → OnOk result (after ≡ following) → OnOk result (Goes took f g before after)
+  goes_left (Ok x) before front following after same written left = goes_whole front (same ∙ ap (λ text. front ++ text) (sym left)) written
+  goes_left (Err e) before front following after same written left = tt
 
   -- all was written
   pub goes_all : {f g : Formatter W} {before after : List ℕ} → Goes took f g before after → after ≡ [] → HasWritten took f (encode_utf8_all before) g

@@ -15,7 +15,7 @@ use Rattle.rx_ast.specs.declared.term.Quantifier.{Quantifier}
 use Rattle.rx_ast.specs.declared.term.Term.{Term}
 use Rattle.rx_ast.specs.declared.term.Term.TheVariants as term
 use Rattle.rx_ast.specs.Shown.{alternatives_shown, barred_shown, leaf_shown, node_pair, node_shown, nodes_shown, pair_or}
-use Rattle.rx_ast.specs.Size.{all_alternatives_size, alternatives_size, term_size, terms_size}
+use Rattle.rx_ast.specs.Size.{all_alternatives_size, alternatives_size, terms_size}
 use Rattle.rx_ast.specs.Texts.{opener_text, quantifier_text}
 use Rattle.rx_ast.specs.Tree.{Leaf, alternatives, capturing, ignoring, leaf, looking, mirror_alternative, mirror_disjunction, mirror_term, nodes}
 use Rattle.rx_ast.proofs.Equations.{alternative_is, tree_of_quantifier, tree_of_capturing, tree_of_ignore, tree_of_look}
@@ -45,17 +45,13 @@ pub alternatives_first : (a : Alternative) (as' : List Alternative) → all_alte
 unfolding terms_size all_alternatives_size
 alternatives_first a as' = ap (λ m. alternatives_size (alternatives (m ∷ map mirror_alternative as'))) (alternative_is a)
 
-pub terms_first : (t : Term) (ts : List Term) → terms_size (t ∷ ts) ≡ term_size t + terms_size ts
-unfolding terms_size term_size
-terms_first t ts = refl
-
--- texts with more behind them, by the first and the others
+-- texts with more after them, by the first and the others
 pub disjunction_cut : (all : List Alternative) (first : Alternative) (others : List Alternative) (more : List ℕ) → all ≡ first ∷ others →
     alternatives_shown (tree_of all) ++ more ≡ nodes_shown false (nodes (map mirror_term first.body)) ++ (barred_shown (tree_of others) ++ more)
 disjunction_cut all first others more cut =
     rw (cut, alternative_is first) (append_assoc (nodes_shown false (nodes (map mirror_term first.body))) (barred_shown (tree_of others)) more)
 
--- Alternatives that are to stand behind bars are written as others, behind one bar.
+-- Alternatives that are to stand after bars are written as others, after one bar.
 pub barred_cut : (all : List Alternative) → (length all ≡ 0 → ⊥) → barred_shown (tree_of all) ≡ codes "|" ++ alternatives_shown (tree_of all)
 barred_cut [] some = absurd (some refl)
 barred_cut (first ∷ others) some = refl
@@ -83,7 +79,7 @@ pub quantifier_cut : (q : Box Quantifier Global) (more : List ℕ) →
 quantifier_cut q more =
     rw (tree_of_quantifier q) (append_assoc (node_shown (mirror_term q.value.body)) (quantifier_text q.value.min q.value.max q.value.greedy) more)
 
--- what is behind the opener of a group
+-- what is after the opener of a group
 abbrev pub inside_text : Disjunction → List ℕ
 inside_text d = alternatives_shown (mirror_disjunction d).1 ++ codes ")"
 

@@ -21,7 +21,7 @@ enum ClassTask<'a> {
     /// A class.
     Class(&'a CharacterClass),
 
-    /// The rest of a class: contents, each behind the operator of that kind, and the closer. The first may have been written together
+    /// The rest of a class: contents, each after the operator of that kind, and the closer. The first may have been written together
     /// with the one before it.
     Rest {
         joined: bool,
@@ -93,7 +93,7 @@ fn open_class<'a, W: fmt::Write>(
     write_pair_or(f, tasks, pair, first)
 }
 
-/// Writes the next of the contents behind the operator, and leaves the rest for later; where there is none, the closer.
+/// Writes the next of the contents after the operator, and leaves the rest for later; where there is none, the closer.
 fn write_rest<'a, W: fmt::Write>(
     f: &mut fmt::Formatter<W>,
     tasks: &mut List<ClassTask<'a>>,
@@ -157,11 +157,7 @@ fn write_or_leave<'a, W: fmt::Write>(
         CharacterClassContents::NestedCharacterClass(class) => {
             leave(tasks, ClassTask::Class(class))
         }
-        CharacterClassContents::CharacterClassRange(it) => (**it).fmt(f),
-        CharacterClassContents::CharacterClassEscape(it) => it.fmt(f),
-        CharacterClassContents::UnicodePropertyEscape(it) => (**it).fmt(f),
-        CharacterClassContents::Character(it) => it.fmt(f),
-        CharacterClassContents::ClassStringDisjunction(it) => (**it).fmt(f),
+        _ => contents.fmt(f),
     }
 }
 

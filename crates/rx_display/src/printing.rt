@@ -66,7 +66,7 @@ fn write_task<'a, W: fmt::Write>(
     }
 }
 
-/// Writes the next of some alternatives behind a bar, and leaves the rest for later.
+/// Writes the next of some alternatives after a bar, and leaves the rest for later.
 fn write_alternatives<'a, W: fmt::Write>(
     f: &mut fmt::Formatter<W>,
     tasks: &mut List<Task<'a>>,
@@ -94,11 +94,11 @@ fn write_terms<'a, W: fmt::Write>(
     ensures text { OnOk result (Goes W.write_str_gives f.old f.new (nodes_shown joined (nodes (map mirror_term terms.now)) ++ pending tasks.old) (pending tasks.new)) }
     ensures size { OnOk result (weight tasks.new ≤ weight tasks.old + 3 * terms_size terms.now) }
 {
-    let Some((first, behind)) = terms.split_first() else {
+    let Some((first, following)) = terms.split_first() else {
         return Ok(());
     };
-    let pair = term_pair(first, behind);
-    leave_terms(tasks, pair.is_some(), behind)?;
+    let pair = term_pair(first, following);
+    leave_terms(tasks, pair.is_some(), following)?;
     if joined {
         return Ok(());
     }

@@ -11,7 +11,7 @@ use std::fmt;
 /// What is still to be written of a pattern.
 #[derive(Clone, Copy)]
 pub enum Task<'a> {
-    /// The rest of a disjunction, each alternative behind a bar.
+    /// The rest of a disjunction, each alternative after a bar.
     Alternatives(&'a [Alternative]),
 
     /// The rest of an alternative, and whether its first term was written together with the one before it.
@@ -20,7 +20,7 @@ pub enum Task<'a> {
     /// A term.
     Term(&'a Term),
 
-    /// A quantifier behind its body.
+    /// A quantifier after its body.
     Suffix(&'a Quantifier),
     GroupEnd,
 }
@@ -76,7 +76,7 @@ pub fn leave_disjunction<'a>(
     leave_terms(tasks, false, first.body.as_slice())
 }
 
-/// Leaves what is behind the opener of a group for later.
+/// Leaves what is after the opener of a group for later.
 #[tactic(auto, using(rx_ast::proofs::Sizes::sizes))]
 pub fn leave_group<'a>(tasks: &mut List<Task<'a>>, body: &'a Disjunction) -> fmt::Result
     ensures text { OnOk result (pending tasks.new ≡ (alternatives_shown (mirror_disjunction body.now).1 ++ codes ")") ++ pending tasks.old) }

@@ -1,4 +1,4 @@
--- The nodes of a tree as a forest, of whatever type: in each node its `children`, and all of them in their `order`. That they are this is said of their places, by two laws of `laws`.
+-- The nodes of a tree, of any type, as a forest: in each node its `children`, and all of them in their `order`. That they are this is said of their places, by two laws of `laws`.
 use Rattle.std.specs.Prelude.{List, [], ◌∷◌}
 use Rattle.rx_ast.specs.declared.leaf.Character.{Character}
 use Rattle.rx_ast.specs.declared.class.ClassString.{ClassString}

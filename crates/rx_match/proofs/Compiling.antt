@@ -7,7 +7,7 @@ use Rattle.rx_ast.specs.Tree.{Leaf, Opener, Node, Nodes, Alternatives, leaf, qua
 use Rattle.rx_trace.specs.declared.answer.Slot.{Slot}
 use Rattle.rx_trace.specs.declared.answer.Slot.TheVariants.{Unset, Set}
 use Rattle.rx_trace.specs.Traces.{State, Trace, tick, reached, and_then, front, first}
-use Rattle.rx_trace.specs.Holding.{ahead, behind, boundary_holds, class_holds, escape_holds, is_line_terminator}
+use Rattle.rx_trace.specs.Holding.{ahead, preceding, boundary_holds, class_holds, escape_holds, is_line_terminator}
 use Rattle.rx_trace.specs.Repeats.{is_over, one_less, after_turn, in_turn, repeat_trace}
 use Rattle.rx_trace.specs.Groups.{Names, groups_in, groups_in_all, slot_of, slot_named, unset_in, captured}
 use Rattle.rx_trace.specs.Matching.{Settings, changed, moved_to, held_to, if_holds, with_slots_of, where_none, look_around_trace, looks_back, over_unit, back_reference_trace, node_trace, nodes_trace, alternatives_trace}
@@ -161,7 +161,7 @@ module _ (input : List ℕ) (names : Names) where
           by_unit : (o : Option ℕ) → visible (continued (held_to (λ u. false) (s.place + 1) o) s (code_run input next false)) ≡ []
           by_unit None = refl
           by_unit (Some c) = refl
-      never true s next = by_unit (behind input s.place)
+      never true s next = by_unit (preceding input s.place)
         where
           by_unit : (o : Option ℕ) → visible (continued (held_to (λ u. false) (s.place - 1) o) s (code_run input next true)) ≡ []
           by_unit None = refl

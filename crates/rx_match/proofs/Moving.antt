@@ -6,7 +6,7 @@ use Rattle.std.proofs.lemmas.Option.{slice_get_within}
 use Rattle.rx_trace.specs.declared.answer.Slot.{Slot}
 use Rattle.rx_trace.specs.declared.answer.Slot.TheVariants.{Unset, Set}
 use Rattle.rx_trace.specs.Traces.{State}
-use Rattle.rx_trace.specs.Holding.{ahead, behind, boundary_holds}
+use Rattle.rx_trace.specs.Holding.{ahead, preceding, boundary_holds}
 use Rattle.rx_trace.specs.Repeats.{is_over, one_less}
 use Rattle.rx_trace.specs.Groups.{same_units, unset_in, captured}
 use Rattle.rx_trace.specs.Matching.{held_to, looks_back, place_over}
@@ -43,7 +43,7 @@ module _ (input : List ℕ) where
 
   pub unit-moves : (back : Bool) (holds : ℕ → Bool) (p : ℕ) → p ≤ length input → MovesTo back p (unit_to input back holds p)
   unit-moves false holds p within = held-moves holds false p (p + 1) (ahead input p) (λ c is. let below = slice_get_within input p c is in (omega arith, omega arith))
-  unit-moves true holds p within = held-moves holds true p (p - 1) (behind input p) (λ c is. (omega arith, omega arith))
+  unit-moves true holds p within = held-moves holds true p (p - 1) (preceding input p) (λ c is. (omega arith, omega arith))
 
   same-length : (a b : List ℕ) → same_units a b ≡ true → length a ≡ length b
   same-length [] [] same = refl
@@ -62,8 +62,8 @@ module _ (input : List ℕ) where
           (omega arith, omega arith)
       by_test false is = tt
 
-  pub slot-behind : (text : List ℕ) (p : ℕ) → p ≤ length input → MovesTo true p (place_over input true text p)
-  slot-behind text p within = by_test (nat_le (length text) p && same_units (take (length text) (drop (p - length text) input)) text)
+  pub slot-back : (text : List ℕ) (p : ℕ) → p ≤ length input → MovesTo true p (place_over input true text p)
+  slot-back text p within = by_test (nat_le (length text) p && same_units (take (length text) (drop (p - length text) input)) text)
     where
       by_test : (b : Bool) → MovesTo true p (if b then Some (p - length text) else None)
       by_test true = (omega arith, omega arith)
@@ -72,7 +72,7 @@ module _ (input : List ℕ) where
   pub slot-moves : (back : Bool) (sl : Slot) (p : ℕ) → p ≤ length input → MovesTo back p (slot_to input back sl p)
   slot-moves back Unset p within = stays-moves (length input) back p within
   slot-moves false (Set start end) p within = slot-ahead (take (end - start) (drop start input)) p within
-  slot-moves true (Set start end) p within = slot-behind (take (end - start) (drop start input)) p within
+  slot-moves true (Set start end) p within = slot-back (take (end - start) (drop start input)) p within
 
   go-moves : (back : Bool) (o : Option ℕ) (s : State) (k : State → Run) → MovesTo back s.place o
       → ((w : State) → Moves (length input) back s.place w.place → EachReached (λ v. Moves (length input) back w.place v.place) (k w)) → EachReached (λ v. Moves (length input) back s.place v.place) (continued o s k)

@@ -8,7 +8,7 @@ use Rattle.rx_match.specs.declared.entry.Backtrack.TheVariants as backtrack
 use Rattle.rx_program.specs.declared.step.Test.{Test}
 use Rattle.rx_trace.specs.Traces.{State}
 use Rattle.rx_trace.specs.Repeats.{one_less}
-use Rattle.rx_trace.specs.Holding.{behind}
+use Rattle.rx_trace.specs.Holding.{preceding}
 use Rattle.rx_trace.specs.Matching.{held_to}
 use Rattle.rx_match.specs.Kinds.{IsUnit, fewer, allowed_within}
 use Rattle.rx_match.specs.Runs.{Run, silent, marked, bind, unit_to, code_run, AreHeld}
@@ -34,7 +34,7 @@ unit_apart input false holds p q is same = let e = by_option (Rattle.rx_trace.sp
         by_test true is = cc
         by_test false is = absurd (cc)
 unit_apart input true holds zero q is same = absurd (cc)
-unit_apart input true holds (suc p) q is same = let e = by_option (behind input (suc p)) is in omega arith
+unit_apart input true holds (suc p) q is same = let e = by_option (preceding input (suc p)) is in omega arith
   where
     by_option : (o : Option ℕ) → held_to holds (suc p - 1) o ≡ Some q → q ≡ suc p - 1
     by_option None is = absurd (cc)

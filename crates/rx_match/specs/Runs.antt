@@ -6,7 +6,7 @@ use Rattle.rx_ast.specs.declared.leaf.LookAroundAssertionKind.TheVariants as loo
 use Rattle.rx_trace.specs.declared.answer.Slot.{Slot}
 use Rattle.rx_trace.specs.declared.answer.Slot.TheVariants.{Unset, Set}
 use Rattle.rx_trace.specs.Traces.{State, Trace, tick, reached}
-use Rattle.rx_trace.specs.Holding.{ahead, behind, boundary_holds}
+use Rattle.rx_trace.specs.Holding.{ahead, preceding, boundary_holds}
 use Rattle.rx_trace.specs.Repeats.{is_over, one_less}
 use Rattle.rx_trace.specs.Groups.{unset_in, captured}
 use Rattle.rx_trace.specs.Matching.{held_to, looks_back, place_over}
@@ -86,7 +86,7 @@ module _ (input : List ℕ) where
   -- where a term leads over the unit at a place, or before it
   abbrev pub unit_to : Bool → (ℕ → Bool) → ℕ → Option ℕ
   unit_to false holds p = held_to holds (p + 1) (ahead input p)
-  unit_to true holds p = held_to holds (p - 1) (behind input p)
+  unit_to true holds p = held_to holds (p - 1) (preceding input p)
 
   -- The units from place p to place q are held, ahead. They are at most so many, and where they are fewer the next is not.
   pub record AreHeld (holds : ℕ → Bool) (p most q : ℕ) : Type 0 where

@@ -3,11 +3,10 @@ ghost use Rattle.rx_program.specs.Codes.{accept};
 ghost use Rattle.rx_match.specs.Running.{ForgetsFrames, IsSound, Progresses, Resumes, TakesMarks, TakesUp, run_of, remaining, returned, with_backtracking, with_earlier, with_entry};
 
 use crate::cut::{cut, cut_frames, kept_frames};
-use crate::entry::{Backtrack, Frame, Pending};
+use crate::entry::{Backtrack, Frame, OpenLookAround, Pending};
 use crate::kinds::{is_negative, one_less};
 use crate::machine::{Action, Machine, Progress};
 use crate::slots::{restore_slot, set_slot};
-use rx_ast::LookAroundAssertionKind;
 use rx_base::OutOfMemory;
 use rx_program::Step;
 use rx_trace::Slot;
@@ -159,7 +158,14 @@ impl<'a> Machine<'a> {
                 head,
                 frames,
                 back,
-            } => Ok(Some(self.end_look_around(place, kind, next, head, frames, back))),
+            } => Ok(Some(self.end_look_around(OpenLookAround {
+                place,
+                kind,
+                next,
+                head,
+                frames,
+                back,
+            }))),
         }
     }
 
@@ -216,23 +222,15 @@ impl<'a> Machine<'a> {
     }
 
     /// The body of a look-around has no match.
-    fn end_look_around(
-        &mut self,
-        place: usize,
-        kind: LookAroundAssertionKind,
-        next: usize,
-        head: usize,
-        frames: usize,
-        back: bool,
-    ) -> Action
-        requires { IsSound (with_entry self.old (Backtrack.LookAround place kind next head frames back)) }
-        ensures { Resumes self.old (Backtrack.LookAround place kind next head frames back) self.new result }
+    fn end_look_around(&mut self, it: OpenLookAround) -> Action
+        requires { IsSound (with_entry self.old (Backtrack.LookAround it.place it.kind it.next it.head it.frames it.back)) }
+        ensures { Resumes self.old (Backtrack.LookAround it.place it.kind it.next it.head it.frames it.back) self.new result }
     {
         self.depth -= 1;
-        self.back = back;
-        if is_negative(kind) {
-            self.return_to(place, head, frames);
-            self.step = next;
+        self.back = it.back;
+        if is_negative(it.kind) {
+            self.return_to(it.place, it.head, it.frames);
+            self.step = it.next;
             return Action::Step;
         }
         Action::Backtrack

@@ -20,6 +20,15 @@ struct Outcome {
     ticks: u64,
 }
 
+/// Where a match may begin in an input, from the first place to the last, and within how many Ticks it has to be found.
+#[derive(Clone, Copy)]
+struct Attempts<'a> {
+    input: &'a [u32],
+    start: usize,
+    last: usize,
+    budget: u64,
+}
+
 /// Leaves so many slots, none of them set. What memory there is stays.
 fn unset(slots: &mut Vec<Slot>, groups: usize) -> Result<(), OutOfMemory>
     ensures { OnOk result (slots.new.items ≡ replicate groups Unset) }
@@ -120,22 +129,19 @@ fn match_program(
     program: &[Step<'_>],
     entry: usize,
     groups: usize,
-    input: &[u32],
-    start: usize,
-    last: usize,
-    budget: u64,
+    attempts: Attempts<'_>,
 ) -> Result<Outcome, MatchFault>
     requires ordered { AreOrdered program.now }
-    requires start { start ≤ last }
-    requires last { last ≤ length input.now }
-    ensures { IsOutcome (trace_of input.now program.now entry groups) (last - start) start budget result }
+    requires start { attempts.start ≤ attempts.last }
+    requires last { attempts.last ≤ length attempts.input.now }
+    ensures { IsOutcome (trace_of attempts.entry.input.now program.now entry groups) (attempts.entry.last - attempts.entry.start) attempts.entry.start attempts.entry.budget result }
 {
-    let mut machine = Machine::new(alloc, program, input, budget);
-    let mut place = start;
+    let mut machine = Machine::new(alloc, program, attempts.input, attempts.budget);
+    let mut place = attempts.start;
     loop {
         match machine.run_from(entry, groups, place)? {
             Progress::Match => {
-                let ticks = budget - machine.budget;
+                let ticks = attempts.budget - machine.budget;
                 let found = Some(found_from(place, machine));
                 return Ok(Outcome { found, ticks });
             }
@@ -143,8 +149,8 @@ fn match_program(
             Progress::NoMatch => {}
             Progress::Continue(_) => unreachable!(),
         }
-        if place == last {
-            let ticks = budget - machine.budget;
+        if place == attempts.last {
+            let ticks = attempts.budget - machine.budget;
             return Ok(Outcome { found: None, ticks });
         }
         place += 1;
@@ -167,14 +173,11 @@ fn answer(
     alloc: Global,
     pattern: &Pattern,
     flags: MatchFlags,
-    input: &[u32],
-    start: usize,
-    last: usize,
-    budget: u64,
+    attempts: Attempts<'_>,
 ) -> Result<Outcome, MatchFault>
-    requires start { start ≤ last }
-    requires last { last ≤ length input.now }
-    ensures { IsOutcomeOf flags (mirror pattern.now) input.now (last - start) start budget result }
+    requires start { attempts.start ≤ attempts.last }
+    requires last { attempts.last ≤ length attempts.input.now }
+    ensures { IsOutcomeOf flags (mirror pattern.now) attempts.entry.input.now (attempts.entry.last - attempts.entry.start) attempts.entry.start attempts.entry.budget result }
 {
     if flags.ignore_case {
         return Err(MatchFault::IgnoreCase);
@@ -188,16 +191,7 @@ fn answer(
     let rows = classes.as_slice();
     let program = compile(alloc, &groups, rows, &pattern.body, forward(flags))?;
     let steps = program.steps.as_slice();
-    match_program(
-        alloc,
-        steps,
-        program.entry,
-        groups.len(),
-        input,
-        start,
-        last,
-        budget,
-    )
+    match_program(alloc, steps, program.entry, groups.len(), attempts)
 }
 
 /// The first outcome of a pattern from a place of the input, or none, within a budget of Ticks. A flag or a node that is not supported is refused first.
@@ -212,7 +206,13 @@ pub fn match_at(
     requires { start ≤ length input.now }
     ensures { IsAnswer flags (mirror pattern.now) input.now 0 start budget result }
 {
-    let outcome = answer(alloc, pattern, flags, input, start, start, budget)?;
+    let here = Attempts {
+        input,
+        start,
+        last: start,
+        budget,
+    };
+    let outcome = answer(alloc, pattern, flags, here)?;
     Ok(outcome.found)
 }
 
@@ -228,7 +228,13 @@ pub fn search(
     requires { start ≤ length input.now }
     ensures { IsAnswer flags (mirror pattern.now) input.now (length input.now - start) start budget result }
 {
-    let outcome = answer(alloc, pattern, flags, input, start, input.len(), budget)?;
+    let onward = Attempts {
+        input,
+        start,
+        last: input.len(),
+        budget,
+    };
+    let outcome = answer(alloc, pattern, flags, onward)?;
     Ok(outcome.found)
 }
 
@@ -245,7 +251,13 @@ pub fn ticks_of_search(
     requires { start ≤ length input.now }
     ensures { IsTickCount flags (mirror pattern.now) input.now (length input.now - start) start most result }
 {
-    match answer(alloc, pattern, flags, input, start, input.len(), most) {
+    let onward = Attempts {
+        input,
+        start,
+        last: input.len(),
+        budget: most,
+    };
+    match answer(alloc, pattern, flags, onward) {
         Ok(outcome) => Ok(Some(outcome.ticks)),
         Err(MatchFault::Spent) => Ok(None),
         Err(fault) => Err(fault),

@@ -1,6 +1,7 @@
 -- How a match is written.
 use Rattle.std.specs.Prelude.{ℕ, List, [], ◌∷◌, ◌++◌, map, codes}
 use Rattle.std.specs.List.{join_with_byte}
+use Rattle.rx_base.specs.Ascii as ascii
 use Rattle.rx_trace.specs.declared.answer.Found.{Found}
 use Rattle.rx_trace.specs.declared.answer.Slot.{Slot}
 use Rattle.rx_trace.specs.declared.answer.Slot.TheVariants.{Unset, Set}
@@ -12,7 +13,7 @@ slot_text (Set start end) = range_text start end
 
 -- slots with commas (the byte 44) between
 abbrev pub slots_text : List Slot → List ℕ
-slots_text slots = join_with_byte 44 (map slot_text slots)
+slots_text slots = join_with_byte ascii.comma (map slot_text slots)
 
 -- slots with a comma before each
 abbrev pub later_slots_text : List Slot → List ℕ

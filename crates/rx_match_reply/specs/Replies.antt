@@ -1,9 +1,10 @@
 -- What `match` and `steps` answer of a pattern that is read.
 use Rattle.std.specs.Prelude.{◌≡◌, ℕ, Bool, ◌||◌, nat_eq, List, ◌++◌, length, codes, Option, Some, None, Result, Ok, Err}
 use Rattle.std.specs.Fmt.{decimal}
+use Rattle.rx_base.specs.Ascii as ascii
+use Rattle.rx_base.specs.Flags.{holds}
 use Rattle.rx_ast.specs.Tree.{Whole}
 use Rattle.rx_units.specs.Units.{literal_units, values}
-use Rattle.rx_visit.specs.Flags.{holds}
 use Rattle.rx_trace.specs.declared.answer.Found.{Found}
 use Rattle.rx_trace.specs.declared.answer.MatchFlags.{MatchFlags}
 use Rattle.rx_trace.specs.declared.answer.MatchFault.{MatchFault}
@@ -14,7 +15,7 @@ use Rattle.rx_reply.specs.Places.{span_text}
 
 -- how a pattern with these flags is matched: `i`, `m` and `s` are flags of the match, and `u` and `v` say that its units are characters
 abbrev pub match_flags : List ℕ → MatchFlags
-match_flags letters = record { ignore_case = holds letters 105; multiline = holds letters 109; dot_all = holds letters 115; unicode_mode = holds letters 117 || holds letters 118 }
+match_flags letters = record { ignore_case = holds letters ascii.i; multiline = holds letters ascii.m; dot_all = holds letters ascii.s; unicode_mode = holds letters ascii.u || holds letters ascii.v }
 
 -- the units of a text that a pattern with these flags is matched on
 abbrev pub units_under : List ℕ → List ℕ → List ℕ

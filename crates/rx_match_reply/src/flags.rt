@@ -1,5 +1,6 @@
 ghost use Rattle.std.specs.Prelude.{◌≡◌, ◌||◌};
-ghost use Rattle.rx_visit.specs.Flags.{holds};
+ghost use Rattle.rx_base.specs.Ascii as ascii;
+ghost use Rattle.rx_base.specs.Flags.{holds};
 ghost use Rattle.rx_match_reply.specs.Replies.{match_flags};
 
 use rx_match::MatchFlags;
@@ -19,7 +20,7 @@ pub fn match_flags(letters: &str) -> MatchFlags
 }
 
 fn has_unicode_mode(letters: &[u8]) -> bool
-    ensures { result ≡ (holds letters.now 117 || holds letters.now 118) }
+    ensures { result ≡ (holds letters.now ascii.u || holds letters.now ascii.v) }
 {
     has_flag(letters, b'u') || has_flag(letters, b'v')
 }

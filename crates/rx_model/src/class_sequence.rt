@@ -22,7 +22,7 @@ impl ElementKind for ClassPieces {
 
     ghost spells = { λ e q. SpellsPiece e };
 
-    ghost behind = { λ e q p rest. tt };
+    ghost following = { λ e q p rest. tt };
 
     ghost is_stop = { λ e q us. IsPiecesEnd us };
 
@@ -52,7 +52,7 @@ impl ElementKind for StringCharacters {
 
     ghost spells = { λ e q. SpellsSetCharacter e };
 
-    ghost behind = { λ e q c rest. tt };
+    ghost following = { λ e q c rest. tt };
 
     ghost is_stop = { λ e q us. IsStringEnd us };
 
@@ -82,7 +82,7 @@ impl ElementKind for BarredStrings {
 
     ghost spells = { λ e q. SpellsBarredString e };
 
-    ghost behind = { λ e q s rest. tt };
+    ghost following = { λ e q s rest. tt };
 
     ghost is_stop = { λ e q us. IsDisjunctionEnd us };
 
@@ -112,7 +112,7 @@ impl ElementKind for UnionItems {
 
     ghost spells = { λ e q. SpellsUnionItem e };
 
-    ghost behind = { λ e q m rest. tt };
+    ghost following = { λ e q m rest. tt };
 
     ghost is_stop = { λ e q us. IsOperandsEnd us };
 
@@ -143,7 +143,7 @@ impl ElementKind for FurtherOperands {
 
     ghost spells = { λ e q. SpellsFurtherOperand e.0 e.1 };
 
-    ghost behind = { λ e q m rest. tt };
+    ghost following = { λ e q m rest. tt };
 
     ghost is_stop = { λ e q us. IsOperandsEnd us };
 

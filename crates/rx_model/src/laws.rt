@@ -1,6 +1,8 @@
 //! Laws of the definitions. The functions do nothing: each contract is a law.
 
 ghost use Rattle.std.specs.Prelude.{◌<◌, ◌≤◌, ◌≡◌, ◌≢◌, ◌==◌, ◌&&◌, ◌⊎◌, false, true, ℕ, List, [], ◌∷◌, ◌++◌, Result, ◌↔◌, Bool, Option, Some, ◌+◌, length, ◌||◌, codes, All};
+ghost use Rattle.rx_base.specs.Ascii as ascii;
+ghost use Rattle.rx_base.specs.Characters.{is_one_of};
 ghost use Rattle.rx_base.specs.declared.diagnostic.Diagnostic.{Diagnostic};
 ghost use Rattle.rx_base.specs.declared.fault.Fault.{Fault};
 ghost use Rattle.rx_base.specs.declared.diagnostic.Diagnostic.TheVariants.{CharacterClassRangeInvalidAtom, InvalidInput, LoneQuantifier};
@@ -57,7 +59,7 @@ ghost use Rattle.rx_model.specs.Spelling.ReadBack.{AreCodeUnits, FitIn, IsReadBa
 ghost use Rattle.rx_model.specs.Reading.Reading.{IsSpanned, IsSpelled, Reads};
 ghost use Rattle.rx_model.specs.Reading.Rows.{Spells, TokenRow};
 ghost use Rattle.rx_model.specs.Spelling.Spelling.{spelling};
-ghost use Rattle.rx_model.specs.Refusals.Stops.{IsStop, begins_class_escape, is_letter, is_one_of};
+ghost use Rattle.rx_model.specs.Refusals.Stops.{IsStop, begins_class_escape, is_letter};
 ghost use Rattle.rx_model.specs.Trees.Shapes.{HasAlternatives, IsWellMade, run};
 ghost use Rattle.rx_model.specs.Trees.Token.{Opener, Token, quantifier, character};
 ghost use Rattle.rx_model.specs.Quantifiers.Quantifiers.{BeginsWithBraces};
@@ -94,7 +96,7 @@ pub fn class_row_prefixes()
 {}
 
 /// No tree reads a text that is refused.
-pub fn refused()
+pub fn refusals()
     ensures { (mode : Mode) (rules : Rules) (us : List CodePoint) (start added : ℕ) (d : Diagnostic) → IsCause mode rules us start added d → (p : Pattern) → Reads mode rules p us → ⊥ }
 {}
 
@@ -220,7 +222,7 @@ pub fn escape_cause_is_first()
 
 /// Each token is a whole row of marks, whatever the environment, so that the first pass of a text (CountLeftCapturingParensWithin of ECMA-262, 22.2.1.2)
 /// sees the groups that its tokens open and close.
-pub fn cut()
+pub fn token_marks()
     ensures { (e : Environment) (t : Token) (w rest : List CodePoint) → Spells e t w rest → IsCut e.mode t w rest }
 {}
 
@@ -263,7 +265,7 @@ pub fn same_inputs()
 
 /// With neither `u` nor `v` some token begins at each backslash that does not end the text, but at one before a `k` where `\k` is a reference.
 pub fn legacy_backslash()
-    ensures { (e : Environment) (u v : CodePoint) (us : List CodePoint) → is_unicode e.mode ≡ false → u.value ≡ 92 → (v.value == 107 && e.named) ≡ false →
+    ensures { (e : Environment) (u v : CodePoint) (us : List CodePoint) → is_unicode e.mode ≡ false → u.value ≡ ascii.backslash → (v.value == ascii.k && e.named) ≡ false →
         (t : Token) × (w : List CodePoint) × (rest : List CodePoint) × (u ∷ v ∷ us ≡ w ++ rest) × Spells e t w rest }
 {}
 
@@ -271,23 +273,23 @@ pub fn legacy_backslash()
 /// stop, at a `)` or at the end of the text, is a first alternative and a list of further ones; so is a pattern.
 pub fn elements()
     ensures tokens { (e : Environment) (ts : List Token) (us rest : List CodePoint) →
-        TokenRow e ts us rest ↔ ElementRow (⟦<PatternTokens as ElementKind>⟧.spells e) (⟦<PatternTokens as ElementKind>⟧.behind e) ts tt us tt rest }
+        TokenRow e ts us rest ↔ ElementRow (⟦<PatternTokens as ElementKind>⟧.spells e) (⟦<PatternTokens as ElementKind>⟧.following e) ts tt us tt rest }
     ensures class_tokens { (e : Environment) (c : Class) (w rest : List CodePoint) → IsClass e c w rest →
         (q : Option NestedPlace) × ⟦<ClassTokens as ElementKind>⟧.is_stop e q rest ×
-        ElementRow (⟦<ClassTokens as ElementKind>⟧.spells e) (⟦<ClassTokens as ElementKind>⟧.behind e) (class_tokens c) (Some (0, outside)) (w ++ rest) q rest }
+        ElementRow (⟦<ClassTokens as ElementKind>⟧.spells e) (⟦<ClassTokens as ElementKind>⟧.following e) (class_tokens c) (Some (0, outside)) (w ++ rest) q rest }
     ensures names { (unicode_mode : Bool) (name us rest : List ℕ) →
         ((w : List ℕ) × (us ≡ w ++ rest) × SpellsName unicode_mode name w rest) ↔
-        ElementRow (⟦<NameCharacters as ElementKind>⟧.spells unicode_mode) (⟦<NameCharacters as ElementKind>⟧.behind unicode_mode) name true us false rest }
+        ElementRow (⟦<NameCharacters as ElementKind>⟧.spells unicode_mode) (⟦<NameCharacters as ElementKind>⟧.following unicode_mode) name true us false rest }
     ensures disjunctions { (e : Environment) (all : Alternatives) (us rest : List CodePoint) → ⟦<BarredAlternatives as ElementKind>⟧.is_stop e tt rest →
         (HasAlternatives e.mode all × TokenRow e (tokens_of (alternatives_events all)) us rest) ↔
         ((first : Nodes) × (others : List Nodes) × (w : List CodePoint) × (between : List CodePoint) × (us ≡ w ++ between) × (forget_alternatives same_kind all ≡ disjunction_of (first ∷ others)) ×
-        SpellsAlternative e first w between × ElementRow (⟦<BarredAlternatives as ElementKind>⟧.spells e) (⟦<BarredAlternatives as ElementKind>⟧.behind e) others tt between tt rest) }
+        SpellsAlternative e first w between × ElementRow (⟦<BarredAlternatives as ElementKind>⟧.spells e) (⟦<BarredAlternatives as ElementKind>⟧.following e) others tt between tt rest) }
     ensures patterns { (mode : Mode) (rules : Rules) (p : Pattern) (us : List CodePoint) →
         IsSpelled mode rules p us ↔
         ((first : Nodes) × (others : List Nodes) × (w : List CodePoint) × (between : List CodePoint) × (us ≡ w ++ between) × (unspanned p ≡ disjunction_of (first ∷ others)) ×
         SpellsAlternative (environment mode rules p) first w between ×
-        ElementRow (⟦<BarredAlternatives as ElementKind>⟧.spells (environment mode rules p)) (⟦<BarredAlternatives as ElementKind>⟧.behind (environment mode rules p)) others tt between tt []) }
-    ensures stops { (e : Environment) (u : CodePoint) (rest : List CodePoint) → ⟦<BarredAlternatives as ElementKind>⟧.is_stop e tt [] × (u.value ≡ 41 → ⟦<BarredAlternatives as ElementKind>⟧.is_stop e tt (u ∷ rest)) }
+        ElementRow (⟦<BarredAlternatives as ElementKind>⟧.spells (environment mode rules p)) (⟦<BarredAlternatives as ElementKind>⟧.following (environment mode rules p)) others tt between tt []) }
+    ensures stops { (e : Environment) (u : CodePoint) (rest : List CodePoint) → ⟦<BarredAlternatives as ElementKind>⟧.is_stop e tt [] × (u.value ≡ ascii.right_parenthesis → ⟦<BarredAlternatives as ElementKind>⟧.is_stop e tt (u ∷ rest)) }
 {}
 
 /// A text begins with at most one class.
@@ -298,7 +300,7 @@ pub fn one_class()
 /// A text begins with at most one name: with one that no further character goes on in, and with one before a `>`. Units that stand before one rest spell at most one.
 pub fn one_name()
     ensures longest { (unicode_mode : Bool) (us name other : List ℕ) (n m : ℕ) → BeginsWithName unicode_mode us name n → BeginsWithName unicode_mode us other m → (name ≡ other) × (n ≡ m) }
-    ensures closed { (unicode_mode : Bool) (name other w rest v back : List ℕ) → SpellsName unicode_mode name w (62 ∷ rest) → SpellsName unicode_mode other v (62 ∷ back) →
+    ensures closed { (unicode_mode : Bool) (name other w rest v back : List ℕ) → SpellsName unicode_mode name w (ascii.greater_than ∷ rest) → SpellsName unicode_mode other v (ascii.greater_than ∷ back) →
         w ++ (62 ∷ rest) ≡ v ++ (62 ∷ back) → (name ≡ other) × (rest ≡ back) }
     ensures spelled { (unicode_mode : Bool) (name other w rest : List ℕ) → SpellsName unicode_mode name w rest → SpellsName unicode_mode other w rest → name ≡ other }
 {}
@@ -329,7 +331,7 @@ pub fn class_contents()
 
 /// Where terms end no token begins but the closer of a group.
 pub fn terms_end()
-    ensures { (e : Environment) (us : List CodePoint) (behind : ℕ) → IsStop e us behind → starts 41 (values us) ≡ false →
+    ensures { (e : Environment) (us : List CodePoint) (following : ℕ) → IsStop e us following → starts ascii.right_parenthesis (values us) ≡ false →
         (t : Token) (w rest : List CodePoint) → us ≡ w ++ rest → Spells e t w rest → ⊥ }
 {}
 
@@ -349,9 +351,9 @@ pub fn flags_refused()
 
 /// With neither `u` nor `v` an atom of a class begins at a backslash exactly where a class escape does by the rules of the mode.
 pub fn legacy_class_backslash()
-    ensures some { (e : Environment) (u : CodePoint) (us : List CodePoint) → is_unicode e.mode ≡ false → u.value ≡ 92 → begins_class_escape e (values us) ≡ true →
+    ensures some { (e : Environment) (u : CodePoint) (us : List CodePoint) → is_unicode e.mode ≡ false → u.value ≡ ascii.backslash → begins_class_escape e (values us) ≡ true →
         (a : Atom) × (w : List CodePoint) × (rest : List CodePoint) × (u ∷ us ≡ w ++ rest) × SpellsAtom e a w rest }
-    ensures none { (e : Environment) (u : CodePoint) (us : List CodePoint) → is_unicode e.mode ≡ false → u.value ≡ 92 → begins_class_escape e (values us) ≡ false →
+    ensures none { (e : Environment) (u : CodePoint) (us : List CodePoint) → is_unicode e.mode ≡ false → u.value ≡ ascii.backslash → begins_class_escape e (values us) ≡ false →
         (a : Atom) (w rest : List CodePoint) → u ∷ us ≡ w ++ rest → SpellsAtom e a w rest → ⊥ }
 {}
 
@@ -368,7 +370,7 @@ pub fn atom_places()
 {}
 
 /// A token that begins with the units of a quantifier is that quantifier, in every mode (PatternCharacter, ECMA-262, 22.2.1; InvalidBracedQuantifier, B.1.2). So where
-/// they stand behind some of a tree's tokens, it is the next of them, and one may stand there; and an atom that is no quantifier's body stands before none.
+/// they stand after some of a tree's tokens, it is the next of them, and one may stand there; and an atom that is no quantifier's body stands before none.
 pub fn quantifiers_stand()
     ensures only { (e : Environment) (t : Token) (w rest : List CodePoint) (min : ℕ) (max : Option ℕ) → Spells e t w rest → BeginsWithQuantifier (w ++ rest) min max →
         (greedy : Bool) × (t ≡ quantifier min max greedy) }
@@ -378,7 +380,7 @@ pub fn quantifiers_stand()
         tokens p ≡ before ++ after → TokenRow (environment mode rules p) before us rest → BeginsWithoutQuantifier after → (min : ℕ) (max : Option ℕ) → BeginsWithQuantifier rest min max → ⊥ }
 {}
 
-/// A quantifier that has nothing to stand behind has a refusal of its own with `u` or `v`; and with `u` alone a range is refused since an end of it is no
+/// A quantifier with nothing before it to repeat has a refusal of its own with `u` or `v`; and with `u` alone a range is refused since an end of it is no
 /// character (ECMA-262, 22.2.1.1 and B.1).
 pub fn legacy_refusals()
     ensures lone { (mode : Mode) (rules : Rules) (us : List CodePoint) (start added place : ℕ) (span : Span) → IsCauseAtPlace mode rules us start added place (LoneQuantifier span) → is_unicode mode ≡ true }
@@ -401,14 +403,14 @@ pub fn legacy_controls()
 
 /// With neither `u` nor `v` a class stands where a `[` does that is free of early errors, or a refusal holds in it.
 pub fn legacy_classes()
-    ensures { (us : List CodePoint) (start added from : ℕ) (u : CodePoint) (text : List CodePoint) → u.value ≡ 91 → AreCodeUnits text →
+    ensures { (us : List CodePoint) (start added from : ℕ) (u : CodePoint) (text : List CodePoint) → u.value ≡ ascii.left_bracket → AreCodeUnits text →
         ((c : Class) × (w : List CodePoint) × (rest : List CodePoint) × (u ∷ text ≡ w ++ rest) × IsClass (class_environment Legacy us) c w rest × IsEarlyClass c)
         ⊎ ((f : ℕ) × (d : Diagnostic) × IsClassCause Legacy us start added from (u ∷ text) f d) }
 {}
 
 /// With `v` a class stands where a `[` does that is free of early errors, or a refusal holds in it.
 pub fn classes_or_refusals()
-    ensures { (us : List CodePoint) (start added from : ℕ) (u : CodePoint) (text : List CodePoint) → u.value ≡ 91 → All (λ u. IsCodePoint u.value) text →
+    ensures { (us : List CodePoint) (start added from : ℕ) (u : CodePoint) (text : List CodePoint) → u.value ≡ ascii.left_bracket → All (λ u. IsCodePoint u.value) text →
         ((c : Class) × (w : List CodePoint) × (rest : List CodePoint) × (u ∷ text ≡ w ++ rest) × IsClass (class_environment Sets us) c w rest × IsEarlyClass c)
         ⊎ ((f : ℕ) × (d : Diagnostic) × IsClassCause Sets us start added from (u ∷ text) f d) }
 {}
@@ -439,7 +441,7 @@ pub fn spanned_is_nested()
 pub fn class_pieces()
     ensures whole { (e : Environment) (c : Class) (w rest : List CodePoint) → is_sets e.mode ≡ false → (IsClass e c w rest ↔ IsClassOfPieces e c w rest) }
     ensures elements { (e : Environment) (c : Class) (w rest : List CodePoint) (of : IsClassOfPieces e c w rest) →
-        ElementRow (⟦<ClassPieces as ElementKind>⟧.spells e) (⟦<ClassPieces as ElementKind>⟧.behind e) of.pieces tt of.brackets.inside tt (of.brackets.closer ∷ rest)
+        ElementRow (⟦<ClassPieces as ElementKind>⟧.spells e) (⟦<ClassPieces as ElementKind>⟧.following e) of.pieces tt of.brackets.inside tt (of.brackets.closer ∷ rest)
         × ⟦<ClassPieces as ElementKind>⟧.is_stop e tt (of.brackets.closer ∷ rest) }
 {}
 
@@ -449,10 +451,10 @@ pub fn class_strings()
     ensures whole { (e : Environment) (d : ClassStringDisjunction) (w rest : List CodePoint) → d.body ≢ [] → IsFlaggedMember (strings d) → forget_member same_kind (strings d) ≡ strings d →
         (SpellsStrings e d.body w rest ↔ ClassTokenRow e (class_tokens_of (member_events (strings d))) fresh (w ++ rest) fresh rest) }
     ensures first { (e : Environment) (ss : List ClassString) (w rest : List CodePoint) (s : SpellsStrings e ss w rest) →
-        ElementRow (⟦<StringCharacters as ElementKind>⟧.spells e) (⟦<StringCharacters as ElementKind>⟧.behind e) s.first tt s.inside tt s.further
+        ElementRow (⟦<StringCharacters as ElementKind>⟧.spells e) (⟦<StringCharacters as ElementKind>⟧.following e) s.first tt s.inside tt s.further
         × ⟦<StringCharacters as ElementKind>⟧.is_stop e tt s.further }
     ensures others { (e : Environment) (ss : List ClassString) (w rest : List CodePoint) (s : SpellsStrings e ss w rest) →
-        ElementRow (⟦<BarredStrings as ElementKind>⟧.spells e) (⟦<BarredStrings as ElementKind>⟧.behind e) s.more tt s.further tt (s.closer ∷ rest)
+        ElementRow (⟦<BarredStrings as ElementKind>⟧.spells e) (⟦<BarredStrings as ElementKind>⟧.following e) s.more tt s.further tt (s.closer ∷ rest)
         × ⟦<BarredStrings as ElementKind>⟧.is_stop e tt (s.closer ∷ rest) }
 {}
 
@@ -462,9 +464,9 @@ pub fn class_operands()
     ensures whole { (e : Environment) (c : Class) (w rest : List CodePoint) → is_sets e.mode ≡ true →
         (IsClass e c w rest ↔ (IsClassOfUnion e c w rest ⊎ (IsClassOfOperands e Intersection c w rest ⊎ IsClassOfOperands e Subtraction c w rest))) }
     ensures items { (e : Environment) (c : Class) (w rest : List CodePoint) (of : IsClassOfUnion e c w rest) →
-        ElementRow (⟦<UnionItems as ElementKind>⟧.spells e) (⟦<UnionItems as ElementKind>⟧.behind e) of.items tt of.brackets.inside tt (of.brackets.closer ∷ rest)
+        ElementRow (⟦<UnionItems as ElementKind>⟧.spells e) (⟦<UnionItems as ElementKind>⟧.following e) of.items tt of.brackets.inside tt (of.brackets.closer ∷ rest)
         × ⟦<UnionItems as ElementKind>⟧.is_stop e tt (of.brackets.closer ∷ rest) }
     ensures operands { (e : Environment) (kind : CharacterClassContentsKind) (c : Class) (w rest : List CodePoint) (of : IsClassOfOperands e kind c w rest) →
-        ElementRow (⟦<FurtherOperands as ElementKind>⟧.spells (e, kind)) (⟦<FurtherOperands as ElementKind>⟧.behind (e, kind)) of.more tt of.further tt (of.brackets.closer ∷ rest)
+        ElementRow (⟦<FurtherOperands as ElementKind>⟧.spells (e, kind)) (⟦<FurtherOperands as ElementKind>⟧.following (e, kind)) of.more tt of.further tt (of.brackets.closer ∷ rest)
         × ⟦<FurtherOperands as ElementKind>⟧.is_stop (e, kind) tt (of.brackets.closer ∷ rest) }
 {}

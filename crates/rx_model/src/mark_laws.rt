@@ -5,7 +5,7 @@ ghost use Rattle.rx_model.specs.FirstPass.GroupStates.{Hides, group_states};
 ghost use Rattle.rx_model.specs.FirstPass.MarkTexts.{AreNames, AreNamesOnce, AreOnce, ArePlaces, IsMarkRow, IsNameBetween, IsNamedOpening, SpellsMark};
 ghost use Rattle.rx_model.specs.FirstPass.Marks.{IsCommon, IsParted, Mark, mark_at, mark_name, marks, name_places, names, places, seen};
 ghost use Rattle.rx_model.specs.declared.mode.Mode.{Mode};
-ghost use Rattle.rx_model.specs.Trees.Names.{once_behind};
+ghost use Rattle.rx_model.specs.Trees.Names.{once_after};
 
 /// Some innermost opening is open at both of two marks, or only the whole text holds both.
 pub fn has_common()
@@ -40,6 +40,6 @@ pub fn mark_names_are_spelled()
 /// The names that the first pass lists are those of the named openings of the text, in order; those that it has seen are the same, each once, where it first appears.
 pub fn names_are_listed()
     ensures all { (mode : Mode) (us : List ℕ) (ns : List (List ℕ)) → AreNames mode us ns ↔ (ns ≡ names mode (marks mode us)) }
-    ensures once { (ns once : List (List ℕ)) → AreOnce ns once ↔ (once ≡ once_behind [] ns) }
+    ensures once { (ns once : List (List ℕ)) → AreOnce ns once ↔ (once ≡ once_after [] ns) }
     ensures seen { (mode : Mode) (us : List ℕ) (once : List (List ℕ)) → AreNamesOnce mode us once ↔ (once ≡ seen mode (marks mode us)) }
 {}

@@ -23,7 +23,7 @@ impl ElementKind for PatternTokens {
 
     ghost spells = { λ e q. Spells e };
 
-    ghost behind = { λ e q t rest. tt };
+    ghost following = { λ e q t rest. tt };
 
     ghost is_stop = { λ e q us. us ≡ [] };
 
@@ -34,14 +34,14 @@ impl ElementKind for PatternTokens {
     fn none_at_stop() {}
 }
 
-/// The tokens of a class. A list of them ends behind the closer.
+/// The tokens of a class. A list of them ends after the closer.
 pub struct ClassTokens;
 
 impl ElementKind for ClassTokens {
     ghost use Rattle.std.specs.Prelude.{Option, None};
     ghost use Rattle.rx_units.specs.declared.code_point.CodePoint.{CodePoint};
     ghost use Rattle.rx_model.specs.Classes.ClassTokens.{ClassToken};
-    ghost use Rattle.rx_model.specs.Reading.ElementKinds.{NestedPlace, SpellsOfClass, behind_of_class};
+    ghost use Rattle.rx_model.specs.Reading.ElementKinds.{NestedPlace, SpellsOfClass, after_of_class};
     ghost use Rattle.rx_model.specs.Inputs.Environment.{Environment};
 
     ghost Element = { ClassToken };
@@ -54,7 +54,7 @@ impl ElementKind for ClassTokens {
 
     ghost spells = { SpellsOfClass };
 
-    ghost behind = { behind_of_class };
+    ghost following = { after_of_class };
 
     ghost is_stop = { λ e q us. q ≡ None };
 
@@ -84,7 +84,7 @@ impl ElementKind for NameCharacters {
 
     ghost spells = { SpellsNameCharacter };
 
-    ghost behind = { λ unicode_mode first c rest. false };
+    ghost following = { λ unicode_mode first c rest. false };
 
     ghost is_stop = { IsNameEnd };
 
@@ -114,7 +114,7 @@ impl ElementKind for BarredAlternatives {
 
     ghost spells = { λ e q. SpellsBarred e };
 
-    ghost behind = { λ e q t rest. tt };
+    ghost following = { λ e q t rest. tt };
 
     ghost is_stop = { λ e q. EndsDisjunction };
 

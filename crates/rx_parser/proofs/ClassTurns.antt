@@ -45,7 +45,7 @@ use Rattle.rx_model.specs.Refusals.Reached.{class_environment}
 use Rattle.rx_model.proofs.Properties.PropertyFlags.{strings_by_name}
 use Rattle.rx_model.proofs.Reading.OneRow.{property_same}
 
--- behind the first of two values
+-- after the first of two values
 second_values : (us : List CodePoint) (c d : ℕ) (w : List ℕ) → values us ≡ c ∷ d ∷ w → values (drop 1 us) ≡ d ∷ w
 second_values [] c d w h = absurd (let no : ⊥ = cc h in no)
 second_values (u ∷ us) c d w h = cc h
@@ -86,12 +86,12 @@ module _ {added : ℕ} {b : Builder} {r : Cursor} {state : State} (h : IsBefore 
           let its = class_unspanned class_text (λ i. offset_at r.first r.units i + added) r.place (mirror_class it) w more spelled in
           class_turned h c s (length w) (mirror_class it) term (record { w = w; rest = more; whole = whole; count = refl; spells = its }) (early_forget (mirror_class it) early) new m spelled g
 
-  -- The reader of a property stands one place on, behind the backslash.
-  place_behind : (moved 1 r).place - 1 ≡ r.place
-  place_behind = let l = h.left in omega arith
+  -- The reader of a property stands one place on, after the backslash.
+  place_after : (moved 1 r).place - 1 ≡ r.place
+  place_after = let l = h.left in omega arith
 
   from_place : from_backslash (moved 1 r) ≡ rest r
-  from_place = ap (λ k. drop k r.units) place_behind
+  from_place = ap (λ k. drop k r.units) place_after
 
   -- two moves are one
   moved_twice : (n : ℕ) → moved n (moved 1 r) ≡ moved (suc n) r
@@ -109,7 +109,7 @@ module _ {added : ℕ} {b : Builder} {r : Cursor} {state : State} (h : IsBefore 
         cause : (fault : Fault) → GivesProperty class_text added start (moved 1 r) s (Err fault) → IsRefused b.mode b.rules r.units r.first added fault
         cause _ (property_answer.refused {diagnostic = it} holds first none keeps) =
             let here =
-            subst (λ k. IsPropertyCause b.mode r.units r.first added k (rest r) it) place_behind
+            subst (λ k. IsPropertyCause b.mode r.units r.first added k (rest r) it) place_after
             (subst (λ us. IsPropertyCause b.mode r.units r.first added ((moved 1 r).place - 1) us it) from_place holds) in
             cause_refused b.mode b.rules r.units r.first added pass.no_clash pass.in_limit r.place it (property_says b.mode r.units r.first added r.place (rest r) it here) (of_property r.place (rest r) at_here here)
         cause _ (property_answer.no_memory keeps) = tt
@@ -141,13 +141,13 @@ module _ {added : ℕ} {b : Builder} {r : Cursor} {state : State} (h : IsBefore 
     pub property_never_none : (answer : Option UnicodePropertyEscape) → IsFound text (rest r) found.Property → answer ≡ None → GivesProperty (environment_of state) added start old s (Ok answer) → ⊥
     property_never_none answer f is gives = never (subst (λ x. GivesProperty class_text added start (moved 1 r) s (Ok x)) is (gives_here (Ok answer) gives))
       where
-        behind : values (rest (moved 1 r)) ≡ f.0 ∷ f.1
-        behind =
+        following : values (rest (moved 1 r)) ≡ f.0 ∷ f.1
+        following =
             let next : min (r.place + 1) (length r.units) ≡ r.place + 1 = let l = h.left in omega arith in
             ap (λ k. values (drop k r.units)) next ∙ ap values (sym (drop-drop 1 r.place r.units)) ∙ second_values (rest r) 92 f.0 f.1 f.2
 
         never : GivesProperty class_text added start (moved 1 r) s (Ok None) → ⊥
         never (property_answer.none new why) = elim why [
           | inl legacy ↦ true≢false (sym (and_parts _ _ f.3).1 ∙ legacy)
-          | inr other ↦ true≢false (sym (and_parts _ _ f.3).0 ∙ ap (front_is begins_property) (sym behind) ∙ other)
+          | inr other ↦ true≢false (sym (and_parts _ _ f.3).0 ∙ ap (front_is begins_property) (sym following) ∙ other)
         ]

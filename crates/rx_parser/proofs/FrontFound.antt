@@ -7,9 +7,9 @@ use Rattle.std.proofs.lemmas.List.{drop-map, length-drop, length-map, map-append
 use Rattle.rx_tables.specs.Characters.{is_syntax_character}
 use Rattle.rx_units.specs.declared.code_point.CodePoint.{CodePoint}
 use Rattle.rx_units.specs.Units.{values}
+use Rattle.rx_units.specs.Digits.{PassesHex}
 use Rattle.rx_model.specs.declared.mode.Mode.{Mode}
 use Rattle.rx_model.specs.declared.mode.Mode.TheVariants.{Legacy, Sets, Unicode}
-use Rattle.rx_model.specs.Characters.UnicodeEscapes.{PassesHex}
 use Rattle.rx_model.specs.Characters.UnitKinds.{unit_kind}
 use Rattle.rx_model.specs.FirstPass.Marks.{starts}
 use Rattle.rx_model.specs.Groups.GroupNameReading.{name_of}
@@ -21,12 +21,12 @@ use Rattle.rx_model.specs.Inputs.Environment.{Environment, is_unicode}
 use Rattle.rx_model.specs.Reading.FrontReading.{FrontHalt, ends_here, last_backslash, out_of_order, too_large, many_decimal_digits, many_hex_digits, no_unicode_escape, in_name, no_angle, no_such_group, in_modifiers, FrontRead, token_read, property_begins, class_begins, halted, front_read, backslash_read, syntax_read}
 use Rattle.rx_model.specs.Reading.Fronts.{are_counts, counts_at, front, is_raw_at}
 use Rattle.rx_model.specs.Reading.Rows.{is_legacy_syntax, stands_raw}
-use Rattle.rx_model.specs.Refusals.Stops.{IsStop, at_end, at_closer, at_bracket, at_brace, behind_backslash}
+use Rattle.rx_model.specs.Refusals.Stops.{IsStop, at_end, at_closer, at_bracket, at_brace, after_backslash}
 use Rattle.rx_model.specs.Trees.Token.{Token, Opener, boundary, character, dot, class_escape, property, class, indexed, named, opener, closer, bar, quantifier, capturing, ignoring, looking}
 use Rattle.rx_model.proofs.Groups.GroupNames.{group_name_read, name_anywhere}
 use Rattle.rx_model.proofs.Groups.ModifierBits.{bits_small}
 use Rattle.rx_model.proofs.Groups.ModifierFronts.{AreWrong, unknown, duplicated, empty, invalid}
-use Rattle.rx_model.proofs.Groups.NameFronts.{EscapeBehind, SaysNameHalt}
+use Rattle.rx_model.proofs.Groups.NameFronts.{EscapeAfter, SaysNameHalt}
 use Rattle.rx_model.proofs.Quantifiers.CountsReading.{limit_within}
 use Rattle.rx_model.proofs.Reading.FrontReading.{Says, SaysHalt, front_said}
 use Rattle.rx_model.proofs.Reading.Fronts.{Front, front_spelled, legacy_syntax}
@@ -79,11 +79,11 @@ pub syntax_alone : (e : Environment) (us : List CodePoint) (d : CodePoint) → 1
 unfolding front_read
 syntax_alone e [] d l raw no_backslash no_bracket = absurd (omega arith)
 syntax_alone e (u ∷ us) d l raw no_backslash no_bracket =
-    let behind = take_all (length (u ∷ us) - 1) us (omega arith) in
-    cond-false (is_raw_at e u.value (values us)) _ _ (ap (λ us. is_raw_at e u.value (values us)) (sym behind) ∙ raw)
+    let following = take_all (length (u ∷ us) - 1) us (omega arith) in
+    cond-false (is_raw_at e u.value (values us)) _ _ (ap (λ us. is_raw_at e u.value (values us)) (sym following) ∙ raw)
     ∙ cond-false (u.value == 92) _ _ (ne_eqb u.value 92 no_backslash)
     ∙ cond-false (u.value == 91) _ _ (ne_eqb u.value 91 no_bracket)
-    ∙ ap (λ us. syntax_read e u.value (values us)) (sym behind)
+    ∙ ap (λ us. syntax_read e u.value (values us)) (sym following)
 
 -- What is no SyntaxCharacter stands for itself in every mode, whatever follows.
 plain_stands : (mode : Mode) (c : ℕ) → is_syntax_character c ≡ false → stands_raw mode c ≡ true
@@ -107,11 +107,11 @@ named_units : (m : Bool) (a b c : ℕ) (us w rest : List CodePoint) (name spelle
 named_units m a b c us w rest name spelled n whole count is spells =
     let long : n ≡ 4 + length spelled = omega (arith, count, ap length is, length-map w (λ (u : CodePoint). u.value), length-append spelled (62 ∷ [])) in
     let k : n - 4 ≡ length spelled = omega (arith, long) in
-    let behind : drop 3 (values us) ≡ spelled ++ (62 ∷ values rest) =
+    let following : drop 3 (values us) ≡ spelled ++ (62 ∷ values rest) =
     ap (λ us. drop 3 (values us)) whole ∙ ap (drop 3) (map-append (λ (u : CodePoint). u.value) w rest ∙ ap (λ v. v ++ values rest) is) ∙ append_assoc spelled (62 ∷ []) (values rest) in
     let units : values (take (n - 4) (drop 3 us)) ≡ spelled =
     sym (take-map (λ (u : CodePoint). u.value) (n - 4) (drop 3 us))
-    ∙ ap (take (n - 4)) (sym (drop-map (λ (u : CodePoint). u.value) 3 us) ∙ behind)
+    ∙ ap (take (n - 4)) (sym (drop-map (λ (u : CodePoint). u.value) 3 us) ∙ following)
     ∙ ap (λ k. take k (spelled ++ (62 ∷ values rest))) k
     ∙ take-append_seam spelled (62 ∷ values rest) in record {
       long = omega (arith, long);
@@ -141,8 +141,8 @@ row_within : (m : Bool) (w : List ℕ) (n : ℕ) → IsNameRow m w n → n ≤ l
 row_within m w _ (no_name none) = omega arith
 row_within m w n (some_name b) = omega (arith, b.count_is, ap length b.whole, length-append b.spelled b.rest)
 
-escape_within : (m : Bool) (w : List ℕ) (n : ℕ) (behind : List ℕ) → EscapeBehind m w n behind → n + 1 + length behind ≤ length w
-escape_within m w n behind b = let l = row_within m w n b.row in omega (arith, l, ap length b.there, length-drop n w)
+escape_within : (m : Bool) (w : List ℕ) (n : ℕ) (following : List ℕ) → EscapeAfter m w n following → n + 1 + length following ≤ length w
+escape_within m w n following b = let l = row_within m w n b.row in omega (arith, l, ap length b.there, length-drop n w)
 
 hex_within : (w : List ℕ) (many : ℕ) → PassesHex w many → many + 3 ≤ length w
 hex_within w many p = omega (arith, p.count_is, ap length p.whole, length-append p.digits (p.next ∷ p.rest))
@@ -160,22 +160,22 @@ name_within m w (no_escape count) s = let l = escape_within m w count s.0 s.1 in
 name_within m w (no_escape_of_u count) s = let l = escape_within m w count s.0 s.1 in let k = some_u m s.0 s.3 in omega (arith, l, k)
 name_within m w (many_digits count many) s = let l = escape_within m w count s.0 s.1 in let k = hex_within s.0 many s.2 in omega (arith, l, k)
 
-begins_within : (e : Environment) (w behind : List ℕ) → BeginsName e w behind → length w ≡ length behind + 3
+begins_within : (e : Environment) (w following : List ℕ) → BeginsName e w following → length w ≡ length following + 3
 begins_within e _ _ (of_group h) = omega arith
 begins_within e _ _ (of_reference h) = omega arith
 
 wrong_within : (w : List ℕ) (n : ℕ) (it : ModifiersHalt) → AreWrong w n it → n ≤ length w
-wrong_within _ _ _ (unknown text behind l) = omega (arith, length-append text behind)
-wrong_within _ _ _ (duplicated text behind s h) = omega (arith, length-append text (58 ∷ behind))
+wrong_within _ _ _ (unknown text following l) = omega (arith, length-append text following)
+wrong_within _ _ _ (duplicated text following s h) = omega (arith, length-append text (58 ∷ following))
 wrong_within _ _ _ empty = omega arith
-wrong_within _ _ _ (invalid text behind s h k) = omega (arith, length-append text (58 ∷ behind))
+wrong_within _ _ _ (invalid text following s h k) = omega (arith, length-append text (58 ∷ following))
 
 stop_within : (e : Environment) (us : List CodePoint) (n : ℕ) → IsStop e us n → n ≤ length us
 stop_within e _ _ at_end = omega arith
 stop_within e _ _ (at_closer h) = omega arith
 stop_within e _ _ (at_bracket h k) = omega arith
 stop_within e _ _ (at_brace h k l m) = omega arith
-stop_within e _ _ (behind_backslash h k l) = omega arith
+stop_within e _ _ (after_backslash h k l) = omega arith
 
 module _ (e : Environment) (us : List CodePoint) where
   token_within : (t : Token) (n : ℕ) → front e us ≡ Some (t, n) → n ≤ length us
@@ -187,8 +187,8 @@ module _ (e : Environment) (us : List CodePoint) where
   halt_within : (it : FrontHalt) → SaysHalt e us (front e us) it → halt_end (found_halt it) ≤ length us
   halt_within (ends_here n) s = stop_within e us n s.0
   halt_within last_backslash s = omega (arith, ap length s.2)
-  halt_within (out_of_order n) s = omega (arith, units, s.2.count_is, ap length s.2.whole, length-append s.2.prefix s.2.behind)
-  halt_within (too_large n) s = omega (arith, units, s.2.count_is, ap length s.2.whole, length-append s.2.prefix s.2.behind)
+  halt_within (out_of_order n) s = omega (arith, units, s.2.count_is, ap length s.2.whole, length-append s.2.prefix s.2.following)
+  halt_within (too_large n) s = omega (arith, units, s.2.count_is, ap length s.2.whole, length-append s.2.prefix s.2.following)
   halt_within (many_decimal_digits start many) s = let l = limit_within (values us) start many s.0 in omega (arith, units, l)
   halt_within (many_hex_digits many) s = let l = hex_within s.1 many s.3 in omega (arith, units, l, ap length s.2)
   halt_within no_unicode_escape s = omega (arith, units, ap length s.2, ap length s.3.whole)

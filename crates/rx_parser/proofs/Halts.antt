@@ -11,6 +11,7 @@ use Rattle.rx_base.specs.declared.diagnostic.kinds.Unterminated.TheVariants.{Gro
 use Rattle.rx_base.specs.declared.span.Span.{Span}
 use Rattle.rx_units.specs.declared.code_point.CodePoint.{CodePoint}
 use Rattle.rx_units.specs.Units.{offset_at, values}
+use Rattle.rx_units.specs.Digits.{PassesHex}
 use Rattle.rx_model.specs.declared.mode.Mode.{Mode}
 use Rattle.rx_model.specs.Refusals.Causes.{IsCauseAtPlace, unterminated, incomplete, last_backslash, misplaced_pair, out_of_order, too_large, too_many_digits, of_escape, unterminated_group, unterminated_name, unterminated_name_in_legacy, too_many_digits_in_name, misplaced_in_name, invalid_in_name, invalid_u_in_name, no_such_group, no_group_name, unknown_modifiers, duplicated_modifiers, empty_modifiers, invalid_modifiers}
 use Rattle.rx_model.specs.Trees.Early.{most_groups}
@@ -24,7 +25,7 @@ use Rattle.rx_model.specs.Refusals.Firsts.{no_item, yielding}
 use Rattle.rx_model.specs.Refusals.Reached.{IsPlace, HasNoClash, IsReached, span_between, text_environment, text_groups, text_names}
 use Rattle.rx_model.specs.Refusals.Stops.{IsStop, at_closer, at_end}
 use Rattle.rx_model.specs.Trees.Token.{Opener, capturing, closer, ignoring, indexed, looking, opener_of}
-use Rattle.rx_model.specs.Characters.UnicodeEscapes.{Decodes, PassesHex}
+use Rattle.rx_model.specs.Characters.UnicodeEscapes.{Decodes}
 use Rattle.rx_model.proofs.Reading.Fronts.{front_spelled}
 use Rattle.rx_parser.specs.declared.builder.Builder.{Builder}
 use Rattle.rx_parser.specs.declared.found.Halt.{Halt}
@@ -40,7 +41,7 @@ use Rattle.rx_model.specs.Reading.FrontReading.{FrontHalt, ends_here, many_decim
 use Rattle.rx_model.specs.Reading.FrontReading as reading
 use Rattle.rx_model.proofs.Characters.Escapes.{NoUnicode}
 use Rattle.rx_model.proofs.Groups.ModifierFronts.{AreWrong, unknown, duplicated, empty, invalid}
-use Rattle.rx_model.proofs.Groups.NameFronts.{EscapeBehind, SaysNameHalt, no_pair}
+use Rattle.rx_model.proofs.Groups.NameFronts.{EscapeAfter, SaysNameHalt, no_pair}
 use Rattle.rx_model.proofs.Reading.FrontReading.{Says, SaysHalt, front_said}
 use Rattle.rx_parser.specs.Found.{IsHalt, Stands, found_fault, found_halt}
 use Rattle.rx_parser.specs.HaltPlaces.{halt_end, halt_start}
@@ -98,50 +99,50 @@ module _ {mode : Mode} {rules : Rules} (us : List CodePoint) (first added : ℕ)
       placed (λ span. TooLargeNumberDigits span Decimal) (place + start) (place + start + many) (place + start) (place + (start + many)) refl (omega arith)
       (too_many_digits place start many left at_left s in_legacy)
 
-  -- a name that is to stand here, and its longest row; behind it an escape
-  ends_name : (behind : List ℕ) → BeginsName here (values left) behind → (count : ℕ) → IsNameRow unicode_mode behind count → EndsName here (values left) count (drop count behind)
-  ends_name behind begins count longest = record { behind = behind; begins = begins; longest = longest; rest_is = refl }
+  -- a name that is to stand here, and its longest row; after it an escape
+  ends_name : (following : List ℕ) → BeginsName here (values left) following → (count : ℕ) → IsNameRow unicode_mode following count → EndsName here (values left) count (drop count following)
+  ends_name following begins count longest = record { following = following; begins = begins; longest = longest; rest_is = refl }
 
-  ends_escape : (behind : List ℕ) → BeginsName here (values left) behind → (count : ℕ) (escape : List ℕ) → EscapeBehind unicode_mode behind count escape → EndsName here (values left) count (92 ∷ escape)
-  ends_escape behind begins count escape r = record { behind = behind; begins = begins; longest = r.row; rest_is = sym r.there }
+  ends_escape : (following : List ℕ) → BeginsName here (values left) following → (count : ℕ) (escape : List ℕ) → EscapeAfter unicode_mode following count escape → EndsName here (values left) count (92 ∷ escape)
+  ends_escape following begins count escape r = record { following = following; begins = begins; longest = r.row; rest_is = sym r.there }
 
   abbrev Refuses : Halt → Type 0
   Refuses it = Causes (halt_refusal it (between (place + halt_start it) (place + halt_end it)) (text_groups mode us))
 
-  name_cause : (behind : List ℕ) → BeginsName here (values left) behind → (it : NameHalt) → SaysNameHalt unicode_mode behind it → Refuses (found_name_halt it)
-  name_cause behind begins (unterminated_row n) s =
+  name_cause : (following : List ℕ) → BeginsName here (values left) following → (it : NameHalt) → SaysNameHalt unicode_mode following it → Refuses (found_name_halt it)
+  name_cause following begins (unterminated_row n) s =
       placed (λ span. UnterminatedPattern span GroupName) (place + 2) (place + 3 + n) (place + 2) (place + (n + 3)) refl (omega arith)
       (elim (cases_Bool unicode_mode) [
-        | inl unicode ↦ unterminated_name place n left (drop n behind) at_left unicode (ends_name behind begins n s.0) s.1 s.3
+        | inl unicode ↦ unterminated_name place n left (drop n following) at_left unicode (ends_name following begins n s.0) s.1 s.3
         | inr legacy ↦
-            let raw : begins_pair (drop n behind) ≡ false = ap (λ u. not u && begins_pair (drop n behind)) (sym legacy) ∙ s.2 in
-            unterminated_name_in_legacy place n left (drop n behind) at_left legacy (ends_name behind begins n s.0) s.1 (no_pair (drop n behind) raw) s.3
+            let raw : begins_pair (drop n following) ≡ false = ap (λ u. not u && begins_pair (drop n following)) (sym legacy) ∙ s.2 in
+            unterminated_name_in_legacy place n left (drop n following) at_left legacy (ends_name following begins n s.0) s.1 (no_pair (drop n following) raw) s.3
       ])
-  name_cause behind begins (misplaced_pair_row n) s =
+  name_cause following begins (misplaced_pair_row n) s =
       placed InvalidSurrogatePair (place + 3 + n) (place + 5 + n) (place + (n + 3)) (place + (n + 3 + 2)) (omega arith) (omega arith)
-      (misplaced_pair place n left (drop n behind) at_left s.1 (ends_name behind begins n s.0) s.2)
-  name_cause behind begins (misplaced count n) s =
+      (misplaced_pair place n left (drop n following) at_left s.1 (ends_name following begins n s.0) s.2)
+  name_cause following begins (misplaced count n) s =
       placed InvalidUnicodeEscapeSequence (place + 3 + count) (place + 4 + count + n) (place + (count + 3)) (place + (count + 3 + (n + 1))) (omega arith) (omega arith)
-      (misplaced_in_name place count s.2 n left s.0 at_left (ends_escape behind begins count s.0 s.1) s.3)
-  name_cause behind begins (no_escape count) s =
+      (misplaced_in_name place count s.2 n left s.0 at_left (ends_escape following begins count s.0 s.1) s.3)
+  name_cause following begins (no_escape count) s =
       placed InvalidUnicodeEscapeSequence (place + 3 + count) (place + 4 + count) (place + (count + 3)) (place + (count + 3 + 1)) (omega arith) (omega arith)
-      (invalid_in_name place count left s.0 at_left (ends_escape behind begins count s.0 s.1) s.2.no_value s.2.no_limit s.3)
-  name_cause behind begins (no_escape_of_u count) s =
+      (invalid_in_name place count left s.0 at_left (ends_escape following begins count s.0 s.1) s.2.no_value s.2.no_limit s.3)
+  name_cause following begins (no_escape_of_u count) s =
       placed InvalidUnicodeEscapeSequence (place + 4 + count) (place + 5 + count) (place + (count + 4)) (place + (count + 4 + 1)) (omega arith) (omega arith)
-      (invalid_u_in_name place count left s.0 at_left (ends_escape behind begins count s.0 s.1) s.2.no_value s.2.no_limit s.3)
-  name_cause behind begins (many_digits count many) s =
+      (invalid_u_in_name place count left s.0 at_left (ends_escape following begins count s.0 s.1) s.2.no_value s.2.no_limit s.3)
+  name_cause following begins (many_digits count many) s =
       placed (λ span. TooLargeNumberDigits span Hex) (place + 6 + count) (place + 6 + count + many) (place + (count + 6)) (place + (count + 6 + many)) (omega arith) (omega arith)
-      (too_many_digits_in_name place count many left s.0 at_left (ends_escape behind begins count s.0 s.1) s.2)
+      (too_many_digits_in_name place count many left s.0 at_left (ends_escape following begins count s.0 s.1) s.2)
 
   -- a unicode escape of a character
-  hex_cause : unicode_mode ≡ true → (behind : List ℕ) (many : ℕ) → values left ≡ 92 ∷ behind → PassesHex behind many → Causes (TooLargeNumberDigits (between (place + 3) (place + (3 + many))) Hex)
-  hex_cause unicode behind many whole passes =
+  hex_cause : unicode_mode ≡ true → (following : List ℕ) (many : ℕ) → values left ≡ 92 ∷ following → PassesHex following many → Causes (TooLargeNumberDigits (between (place + 3) (place + (3 + many))) Hex)
+  hex_cause unicode following many whole passes =
       placed (λ span. TooLargeNumberDigits span Hex) (place + 3) (place + 3 + many) (place + 3) (place + (3 + many)) refl (omega arith)
-      (of_escape place left at_left (too_many_hex_digits many behind unicode whole passes))
+      (of_escape place left at_left (too_many_hex_digits many following unicode whole passes))
 
-  escape_cause : unicode_mode ≡ true → (behind : List ℕ) → values left ≡ 92 ∷ behind → NoUnicode behind → Causes (InvalidUnicodeEscapeSequence (between (place + 1) (place + 2)))
-  escape_cause unicode behind whole n =
-      of_escape place left at_left (invalid_escape n.behind unicode (whole ∙ ap (λ w. 92 ∷ w) n.whole) (λ v k d. n.no_value v k (subst (λ w. Decodes true w v k) (sym n.whole) d))
+  escape_cause : unicode_mode ≡ true → (following : List ℕ) → values left ≡ 92 ∷ following → NoUnicode following → Causes (InvalidUnicodeEscapeSequence (between (place + 1) (place + 2)))
+  escape_cause unicode following whole n =
+      of_escape place left at_left (invalid_escape n.following unicode (whole ∙ ap (λ w. 92 ∷ w) n.whole) (λ v k d. n.no_value v k (subst (λ w. Decodes true w v k) (sym n.whole) d))
       (λ many p. n.no_limit many (subst (λ w. PassesHex w many) (sym n.whole) p)))
 
   index_cause : (n k : ℕ) → front here left ≡ Some (indexed k, n) → text_groups mode us < k → Causes (InvalidIndexedReference (between (place + 0) (place + n)) (text_groups mode us))
@@ -150,25 +151,25 @@ module _ {mode : Mode} {rules : Rules} (us : List CodePoint) (first added : ℕ)
       placed (λ span. InvalidIndexedReference span (text_groups mode us)) place (place + length f.w) (place + 0) (place + n) (omega arith) (ap (λ n. place + n) f.count)
       (no_such_group place k f.w f.rest (subst (IsPlace mode rules us place) f.whole at_left) f.spells large)
 
-  modifiers_cause : (it : ModifiersHalt) (n : ℕ) (behind : List ℕ) → values left ≡ 40 ∷ 63 ∷ behind → AreWrong behind n it → Refuses (halt.Modifiers (found_fault it) n)
-  modifiers_cause _ _ _ whole (unknown text behind l) =
-      placed UnknownModifiers (place + 2) (place + 2 + length text) (place + 2) (place + (length text + 2)) refl (omega arith) (unknown_modifiers place left text behind at_left whole l)
-  modifiers_cause _ _ _ whole (duplicated {enabled} {disabled} text behind sides twice) =
+  modifiers_cause : (it : ModifiersHalt) (n : ℕ) (following : List ℕ) → values left ≡ 40 ∷ 63 ∷ following → AreWrong following n it → Refuses (halt.Modifiers (found_fault it) n)
+  modifiers_cause _ _ _ whole (unknown text following l) =
+      placed UnknownModifiers (place + 2) (place + 2 + length text) (place + 2) (place + (length text + 2)) refl (omega arith) (unknown_modifiers place left text following at_left whole l)
+  modifiers_cause _ _ _ whole (duplicated {enabled} {disabled} text following sides twice) =
       placed DuplicatedModifiers (place + 2) (place + 2 + length text) (place + 2) (place + (length text + 2)) refl (omega arith)
-      (duplicated_modifiers place left enabled disabled text behind at_left whole sides twice)
-  modifiers_cause _ _ _ whole (empty {behind}) = empty_modifiers place left behind at_left whole
-  modifiers_cause _ _ _ whole (invalid {enabled} {disabled} text behind sides once both) =
+      (duplicated_modifiers place left enabled disabled text following at_left whole sides twice)
+  modifiers_cause _ _ _ whole (empty {following}) = empty_modifiers place left following at_left whole
+  modifiers_cause _ _ _ whole (invalid {enabled} {disabled} text following sides once both) =
       placed InvalidModifiers (place + 2) (place + 2 + length text) (place + 2) (place + (length text + 2)) refl (omega arith)
-      (invalid_modifiers place left enabled disabled text behind at_left whole sides once both)
+      (invalid_modifiers place left enabled disabled text following at_left whole sides once both)
 
   -- the fault is some cause
   abbrev IsOfCause : Fault → Type 0
   IsOfCause fault = (cause : Refusal) × (fault ≡ Diagnostic cause) × (yielding cause ≢ no_item) × Causes cause
 
   -- Terms end, and n units on reading stands: outside groups, or in the innermost one.
-  ended_cause : (behind at : ℕ) (fault : Fault) → IsStop here left behind → starts 41 (values left) ≡ false → (b.frames ≡ [] → left ≡ [] → ⊥) → at ≡ place + behind → IsEndedFault us first added at b fault
+  ended_cause : (following at : ℕ) (fault : Fault) → IsStop here left following → starts 41 (values left) ≡ false → (b.frames ≡ [] → left ≡ [] → ⊥) → at ≡ place + following → IsEndedFault us first added at b fault
       → IsOfCause fault
-  ended_cause behind at fault stop not_closed some e f = elim f [ inl p ↦ pattern p.0 p.1 | inr p ↦ group p.0 p.1 p.2 p.3 ]
+  ended_cause following at fault stop not_closed some e f = elim f [ inl p ↦ pattern p.0 p.1 | inr p ↦ group p.0 p.1 p.2 p.3 ]
     where
       pattern : b.frames ≡ [] → fault ≡ Diagnostic (ParsePatternIncomplete (between at at)) → IsOfCause fault
       pattern none is =
@@ -176,7 +177,7 @@ module _ {mode : Mode} {rules : Rules} (us : List CodePoint) (first added : ℕ)
             ParsePatternIncomplete (between at at),
             is,
             (λ e. cc e),
-            placed ParsePatternIncomplete (place + behind) (place + behind) at at (sym e) (sym e) (incomplete place behind (ready b) left r stop (some none)),
+            placed ParsePatternIncomplete (place + following) (place + following) at at (sym e) (sym e) (incomplete place following (ready b) left r stop (some none)),
           )
 
       group : (outer : List Frame) (it : Frame) → b.frames ≡ outer ++ (it ∷ [])
@@ -190,8 +191,8 @@ module _ {mode : Mode} {rules : Rules} (us : List CodePoint) (first added : ℕ)
             is,
             says_group (opener_of (opener_tree it.group_kind)) (made_span it.start),
             subst (λ start. Causes (made start)) (sym i.2)
-                (placed (λ span. UnterminatedPattern span what) i.0 (place + behind) i.0 at refl (sym e)
-                (unterminated_group i.0 place behind (opener_of (opener_tree it.group_kind)) left i.1 stop not_closed)),
+                (placed (λ span. UnterminatedPattern span what) i.0 (place + following) i.0 at refl (sym e)
+                (unterminated_group i.0 place following (opener_of (opener_tree it.group_kind)) left i.1 stop not_closed)),
           )
 
   module _ (no_clash : HasNoClash mode rules.duplicate_names us) (limit : text_groups mode us ≤ most_groups) where
@@ -212,8 +213,8 @@ module _ {mode : Mode} {rules : Rules} (us : List CodePoint) (first added : ℕ)
         name (many_digits count many) c f = refused _ (λ e. cc e) c fault f
 
         go : (it : FrontHalt) → SaysHalt here left (front here left) it → IsHaltFault us first added place b (text_groups mode us) (found_halt it) fault → IsRefused mode rules us first added fault
-        go (ends_here behind) s f =
-            let c = ended_cause behind (place + behind) fault s.0 s.1 (λ none. some_left us place l) refl f in
+        go (ends_here following) s f =
+            let c = ended_cause following (place + following) fault s.0 s.1 (λ none. some_left us place l) refl f in
             refused c.0 c.2 c.3 fault c.1
         go reading.last_backslash s f =
             refused _ (λ e. cc e) (from_here InvalidExtendedAtomEscape (place + 1) (last_backslash place s.1 (subst (IsPlace mode rules us place) s.2 at_left) s.0 s.3)) fault f

@@ -2,6 +2,7 @@
 use Rattle.std.proofs.Common.{◌≡◌, refl, ap, sym, ◌∙◌, subst, ℕ, Bool, true, false, ◌||◌, ◌⊎◌, List, Some, Result, Ok, Err, IsErrAnd, inl, inr}
 use Rattle.std.specs.Prelude.{if◌then◌else◌}
 use Rattle.std.proofs.lemmas.Result.{err_from_is_err_and}
+use Rattle.rx_base.specs.Flags.{holds}
 use Rattle.rx_ast.specs.declared.term.Pattern.{Pattern}
 use Rattle.rx_base.specs.declared.diagnostic.Diagnostic.{Diagnostic}
 use Rattle.rx_base.specs.declared.diagnostic.Diagnostic.TheVariants.{InvalidInput}
@@ -12,7 +13,7 @@ use Rattle.rx_units.specs.Units.{values}
 use Rattle.rx_model.specs.declared.mode.Mode.{Mode}
 use Rattle.rx_model.specs.declared.mode.Mode.TheVariants.{Legacy, Unicode, Sets}
 use Rattle.rx_model.specs.Inputs.Environment.{is_unicode}
-use Rattle.rx_model.specs.Inputs.Flags.{flags_ok, holds, mode_of, modes_of}
+use Rattle.rx_model.specs.Inputs.Flags.{flags_ok, mode_of, modes_of}
 use Rattle.rx_model.specs.Inputs.Inputs.{Asks, AsksFor, Input}
 use Rattle.rx_model.specs.Inputs.Modes.{mode_by}
 use Rattle.rx_model.specs.Inputs.Texts.{AreFlagUnits, AreUnits, HasNoUnits, first_offset, some_flags, some_units, stand_in}

@@ -33,7 +33,7 @@ use Rattle.rx_model.proofs.Refusals.InnermostGroups.{first_all}
 use Rattle.rx_model.specs.declared.rules.Rules.{Rules}
 
 module _ (mode : Mode) where
-  -- one row of events behind another
+  -- one row of events after another
   both_pass : (es fs : Events) (open_groups : List Opener) (ready : Bool) → Passes mode es open_groups ready → ((between : Bool) → Passes mode fs open_groups between) → Passes mode (es ++ fs) open_groups ready
   both_pass es fs open_groups ready p more =
       let q = more p.0 in
@@ -71,7 +71,7 @@ module _ (mode : Mode) where
       (barred_pass l.alternatives g.0 open_groups ready) (λ between. let q = terms_pass l.terms g.1 open_groups between in (q.0, q.1)) in
       (p.0, p.1)
 
-  -- After what stands before some open groups, and their beginnings, these are open behind others.
+  -- After what stands before some open groups, and their beginnings, these are open after others.
   frames_open : (fs : List Frame) → AreGoodFrames mode fs → (open_groups : List Opener) (ready : Bool) →
       (after : Bool) × ((ts : List Token) → run mode (before (frames_events fs) ts) open_groups ready ≡ run mode ts (opened fs open_groups) after)
   frames_open [] g open_groups ready = (ready, λ ts. refl)
@@ -141,7 +141,7 @@ module _ (b : Builder) (outer : List Frame) (group : Frame) (e : b.frames ≡ ou
       let p = level_passes b.mode b.level g.1 [] false in
       (p.0, ap (λ ts. run b.mode ts [] false) (sym (append-nil (tokens_of (level_events b.level)))) ∙ p.1 [])
 
--- the innermost group begins at some place, and all behind it stands in it
+-- the innermost group begins at some place, and all after it stands in it
 pub inside : {mode : Mode} {rules : Rules} (us : List CodePoint) (first added : ℕ) (b : Builder) (place : ℕ) → IsParsing mode rules us first added b place → (outer : List Frame) (group : Frame) → b.frames ≡ outer ++ (group ∷ [])
     → (from : ℕ) × IsInside mode rules us from (opener_of (opener_tree group.group_kind)) place (drop place us) × (group.start ≡ offset_at first us from + added)
 inside {mode} {rules} us first added b place h outer group e =

@@ -23,18 +23,18 @@ use Rattle.rx_parser.specs.declared.name.NameFound.TheVariants as name
 use Rattle.rx_parser.specs.Pace.{LooksAtEscape, LooksAtSyntax, digit_run, escape_looks, halt_looks, looks, name_looks, plain, token_looks}
 use Rattle.rx_parser.proofs.Paces.{plain_reach, plain_within, run_reach, run_stops, run_under_plain, run_within}
 
--- a name, and what stands behind it
+-- a name, and what stands after it
 pub name_steps : (units tail n old mid new : ℕ) (escapes : Bool) (it : NameFound) → (escapes ≡ false → mid ≤ old + 2 * n + 1) → mid ≤ old + units + n + 4 → n + 2 * old ≤ 2 * mid
     → Rises mid new 0 (halt_looks tail it) → tail + n ≡ units → ((k : ℕ) → it ≡ name.Name k → (k ≡ n) × (escapes ≡ false)) → Rises old new 0 (name_looks units it)
 name_steps units tail n old mid new escapes (name.Name k) ends most least more parts named = let e = named k refl in let f = ends e.1 in (omega arith, omega (arith, f, e.0))
 name_steps units tail n old mid new escapes (name.Halt it) ends most least more parts named = (omega arith, omega arith)
 
 -- looks that pass over units that stand for themselves, and then at a token that is no escape
-module _ (behind : List CodePoint) (old mid new units : ℕ) where
-  of_token : (n : ℕ) → mid ≤ old + (plain behind + 1) → new ≤ mid + 2 * n → new ≤ old + token_looks behind n
-  of_token n first more = omega (arith, first, more, plain_reach behind (n - 1))
+module _ (following : List CodePoint) (old mid new units : ℕ) where
+  of_token : (n : ℕ) → mid ≤ old + (plain following + 1) → new ≤ mid + 2 * n → new ≤ old + token_looks following n
+  of_token n first more = omega (arith, first, more, plain_reach following (n - 1))
 
-  pub syntax_steps : (it : Found) → Rises old mid 0 (plain behind + 1) → units ≤ length behind → LooksAtSyntax mid new units it → Rises old new 0 (looks behind it)
+  pub syntax_steps : (it : Found) → Rises old mid 0 (plain following + 1) → units ≤ length following → LooksAtSyntax mid new units it → Rises old new 0 (looks following it)
   syntax_steps (found.Leaf leaf n) first within more = (omega arith, of_token n first.1 more.1)
   syntax_steps (found.NamedReference n) first within more = (omega arith, of_token n first.1 more.1)
   syntax_steps found.Property first within more = absurd more
@@ -43,25 +43,25 @@ module _ (behind : List CodePoint) (old mid new units : ℕ) where
   syntax_steps found.Close first within more = (omega arith, omega arith)
   syntax_steps found.Bar first within more = (omega arith, omega arith)
   syntax_steps (found.Quantifier least most greedy n) first within more = (omega arith, of_token n first.1 more.1)
-  syntax_steps (found.Halt it) first within more = (omega arith, omega (arith, first.1, more.1, within, plain_within behind))
+  syntax_steps (found.Halt it) first within more = (omega arith, omega (arith, first.1, more.1, within, plain_within following))
 
 -- looks at digits, and then at an escape
-module _ (behind : List CodePoint) (old mid new : ℕ) where
-  of_escape : (n : ℕ) → 1 ≤ n → mid ≤ old + min (2 * digit_run behind) (digit_run behind + 1) → new ≤ mid + (if n == 1 then 5 else n + digit_run behind + 4) → new ≤ old + token_looks behind n
+module _ (following : List CodePoint) (old mid new : ℕ) where
+  of_escape : (n : ℕ) → 1 ≤ n → mid ≤ old + min (2 * digit_run following) (digit_run following + 1) → new ≤ mid + (if n == 1 then 5 else n + digit_run following + 4) → new ≤ old + token_looks following n
   of_escape n some first more = elim (cases_Bool (n == 1)) [
     | inl one ↦
         let is : n ≡ 1 = grind (arith, nat_tests) in
-        let fits : new ≤ mid + 5 = subst (λ k. new ≤ mid + k) (cond-true (n == 1) 5 (n + digit_run behind + 4) one) more in
-        let under = run_under_plain behind in
-        let seam : plain (drop (n - 1) behind) ≡ plain behind = ap (λ k. plain (drop (k - 1) behind)) is in
+        let fits : new ≤ mid + 5 = subst (λ k. new ≤ mid + k) (cond-true (n == 1) 5 (n + digit_run following + 4) one) more in
+        let under = run_under_plain following in
+        let seam : plain (drop (n - 1) following) ≡ plain following = ap (λ k. plain (drop (k - 1) following)) is in
         omega (arith, is, fits, under, seam, first)
     | inr other ↦
         let long : n ≡ 1 → ⊥ = grind (arith, nat_tests) in
-        let fits : new ≤ mid + (n + digit_run behind + 4) = subst (λ k. new ≤ mid + k) (cond-false (n == 1) 5 (n + digit_run behind + 4) other) more in
-        omega (arith, long, fits, some, run_reach behind (n - 1), run_under_plain (drop (n - 1) behind), first)
+        let fits : new ≤ mid + (n + digit_run following + 4) = subst (λ k. new ≤ mid + k) (cond-false (n == 1) 5 (n + digit_run following + 4) other) more in
+        omega (arith, long, fits, some, run_reach following (n - 1), run_under_plain (drop (n - 1) following), first)
   ]
 
-  pub escape_steps : (it : Found) → Rises old mid 0 (min (2 * digit_run behind) (digit_run behind + 1)) → LooksAtEscape mid new behind it → Rises old new 0 (looks behind it)
+  pub escape_steps : (it : Found) → Rises old mid 0 (min (2 * digit_run following) (digit_run following + 1)) → LooksAtEscape mid new following it → Rises old new 0 (looks following it)
   escape_steps (found.Leaf leaf n) first more = (omega arith, of_escape n more.0 first.1 more.1.1)
   escape_steps (found.NamedReference n) first more = absurd more
   escape_steps found.Property first more = absurd more
@@ -70,7 +70,7 @@ module _ (behind : List CodePoint) (old mid new : ℕ) where
   escape_steps found.Close first more = absurd more
   escape_steps found.Bar first more = absurd more
   escape_steps (found.Quantifier least most greedy n) first more = absurd more
-  escape_steps (found.Halt it) first more = (omega arith, omega (arith, first.1, more.1, run_within behind))
+  escape_steps (found.Halt it) first more = (omega arith, omega (arith, first.1, more.1, run_within following))
 
 -- no digit begins a property
 property_no_digit : (c : ℕ) → begins_property c ≡ true → is_decimal_digit c ≡ false

@@ -41,7 +41,7 @@ bits_more c w =
     ap (λ i. three i (occurs 109 (w ++ (c ∷ []))) (occurs 115 (w ++ (c ∷ [])))) (occurs_more 105 c w)
     ∙ ap₂ (three (occurs 105 w || ((c == 105) || false))) (occurs_more 109 c w) (occurs_more 115 c w)
 
--- The bit of a letter is set behind it.
+-- The bit of a letter is set after it.
 bit_inserted : (c bit : ℕ) (w : List ℕ) → modifier_bit c ≡ Some bit → bit_or (letters_bits w) bit ≡ letters_bits (w ++ (c ∷ []))
 bit_inserted c bit w h =
     by_letter (λ c bit. bit_or (letters_bits w) bit ≡ letters_bits (w ++ (c ∷ []))) c bit

@@ -1,4 +1,4 @@
--- The modifiers behind `(?`, by what their readers find.
+-- The modifiers after `(?`, by what their readers find.
 use Rattle.std.proofs.Common.{◌≡◌, refl, sym, ap, ap₂, ◌∙◌, ℕ, ◌+◌, ◌-◌, ◌<◌, ◌≤◌, true, false, List, [], ◌∷◌, length, take, drop, get_or, arith, length-drop}
 use Rattle.std.specs.List.{list_all}
 use Rattle.std.proofs.Math.Seq.{drop-drop}
@@ -37,20 +37,20 @@ starts_first c [] d l h = absurd (omega arith)
 starts_first c (u ∷ us) d l h = eq-eqb u.value c h
 
 module _ (us : List CodePoint) (n : ℕ) (letters : n ≡ letters_at (values us)) where
-  -- no `-` stands behind the letters
+  -- no `-` stands after the letters
   pub one_side_seen : starts 45 (values (from n us)) ≡ false → sides (values (take n us)) [] n ≡ sides_at (values us)
   one_side_seen h =
       ap (λ w. sides w [] n) (values_take n us)
       ∙ ap (λ n. sides (take n (values us)) [] n) letters
       ∙ sym (cond-false (starts 45 (drop (letters_at (values us)) (values us))) _ _ (ap (λ n. starts 45 (drop n (values us))) (sym letters) ∙ ap (starts 45) (sym (values_from n us)) ∙ h))
 
-  -- a `-` and letters stand behind the letters
+  -- a `-` and letters stand after the letters
   pub two_sides_seen : (d : CodePoint) (k : ℕ) → 1 ≤ length (from n us) → (get_or (from n us) 0 d).value ≡ 45 → k ≡ letters_at (values (from 1 (from n us)))
       → sides (values (take n us)) (values (take k (from 1 (from n us)))) (n + 1 + k) ≡ sides_at (values us)
   two_sides_seen d k l h more =
-      let behind : values (from 1 (from n us)) ≡ drop (n + 1) (values us) = values_from 1 (from n us) ∙ ap (drop 1) (values_from n us) ∙ drop-drop 1 n (values us) in
-      ap₂ (λ w v. sides w v (n + 1 + k)) (values_take n us) (values_take k (from 1 (from n us)) ∙ ap (take k) behind)
-      ∙ ap (λ k. sides (take n (values us)) (take k (drop (n + 1) (values us))) (n + 1 + k)) (more ∙ ap letters_at behind)
+      let following : values (from 1 (from n us)) ≡ drop (n + 1) (values us) = values_from 1 (from n us) ∙ ap (drop 1) (values_from n us) ∙ drop-drop 1 n (values us) in
+      ap₂ (λ w v. sides w v (n + 1 + k)) (values_take n us) (values_take k (from 1 (from n us)) ∙ ap (take k) following)
+      ∙ ap (λ k. sides (take n (values us)) (take k (drop (n + 1) (values us))) (n + 1 + k)) (more ∙ ap letters_at following)
       ∙ ap (λ n. second_side (values us) n (drop (n + 1) (values us))) letters
       ∙ sym (cond-true (starts 45 (drop (letters_at (values us)) (values us))) _ _
       (ap (λ n. starts 45 (drop n (values us))) (sym letters) ∙ ap (starts 45) (sym (values_from n us)) ∙ starts_first 45 (from n us) d l h))

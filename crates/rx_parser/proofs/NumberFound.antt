@@ -5,17 +5,17 @@ use Rattle.rx_tables.specs.Characters.{is_decimal_digit}
 use Rattle.rx_units.specs.declared.code_point.CodePoint.{CodePoint}
 use Rattle.rx_units.specs.Units.{values}
 use Rattle.rx_model.specs.Characters.LegacyEscapes.{run_number}
-use Rattle.rx_model.specs.Reading.Fronts.{digits, digits_behind}
+use Rattle.rx_model.specs.Reading.Fronts.{digits, digits_after}
 use Rattle.rx_units.proofs.Choices.{chosen}
 
 -- The digits before a place are read, and their number stands still at the greatest of 32 bits.
 pub record NumberRead (us : List CodePoint) (found count : ℕ) : Type 0 where
   pub number : ℕ
-  pub read : digits_behind number count (values (drop count us)) ≡ digits_behind 0 0 (values us)
+  pub read : digits_after number count (values (drop count us)) ≡ digits_after 0 0 (values us)
   pub found_is : found ≡ min number (2 ^ 32 - 1)
 
 -- The number of a run of digits is the one that is read.
-pub number_run : (n count : ℕ) (w : List ℕ) (m k : ℕ) (rest : List ℕ) → digits_behind n count w ≡ digits m k rest → run_number n w ≡ m
+pub number_run : (n count : ℕ) (w : List ℕ) (m k : ℕ) (rest : List ℕ) → digits_after n count w ≡ digits m k rest → run_number n w ≡ m
 number_run n count [] m k rest h = cc h
 number_run n count (c ∷ w) m k rest h = elim (chosen (is_decimal_digit c) h) [
   | inl p ↦ cond-true (is_decimal_digit c) _ _ p.0 ∙ number_run (10 * n + (c - 48)) (count + 1) w m k rest p.1

@@ -47,18 +47,18 @@ pub run_within : (us : List CodePoint) → digit_run us ≤ length us
 unfolding digit_run
 run_within us = prefix_len-le-length (λ (u : CodePoint). is_decimal_digit u.value) us
 
--- the units behind the first
-pub behind_first : (us : List CodePoint) → take (length us - 1) (drop 1 us) ≡ drop 1 us
-behind_first [] = refl
-behind_first (u ∷ us) = take_all (length (u ∷ us) - 1) us (omega arith)
+-- the units after the first
+pub after_first : (us : List CodePoint) → take (length us - 1) (drop 1 us) ≡ drop 1 us
+after_first [] = refl
+after_first (u ∷ us) = take_all (length (u ∷ us) - 1) us (omega arith)
 
--- a unit that stands for itself, and those behind it
+-- a unit that stands for itself, and those after it
 first_plain : (us : List CodePoint) (d : CodePoint) → 1 ≤ length us → is_syntax_character (get_or us 0 d).value ≡ false → plain us ≡ 1 + plain (drop 1 us)
 first_plain us d some here = plain_next us 0 d (omega arith) here
 
 -- a comma is one
 pub comma_plain : (us : List CodePoint) (d : CodePoint) → 1 ≤ length us → (get_or us 0 d).value ≡ 44 → plain us ≡ 1 + plain (take (length us - 1) (drop 1 us))
-comma_plain us d some is = first_plain us d some (ap is_syntax_character is) ∙ ap (λ ws. 1 + plain ws) (sym (behind_first us))
+comma_plain us d some is = first_plain us d some (ap is_syntax_character is) ∙ ap (λ ws. 1 + plain ws) (sym (after_first us))
 
 -- a run reaches at most so many units on, and what runs from there
 reach : (p : CodePoint → Bool) (us : List CodePoint) (n : ℕ) → prefix_len p us ≤ n + prefix_len p (drop n us)
@@ -81,7 +81,7 @@ run_reach us n = reach (λ (u : CodePoint). is_decimal_digit u.value) us n
 digit_plain : (c : ℕ) → is_decimal_digit c ≡ true → not (is_syntax_character c) ≡ true
 digit_plain c h = grind (arith, nat_tests)
 
--- what passes a test, and behind it what passes a wider one
+-- what passes a test, and after it what passes a wider one
 under : (p q : CodePoint → Bool) → ((u : CodePoint) → p u ≡ true → q u ≡ true) → (us : List CodePoint) → prefix_len p us + prefix_len q (drop (prefix_len p us) us) ≤ prefix_len q us
 under p q h [] = omega arith
 under p q h (u ∷ us) =
@@ -95,7 +95,7 @@ under p q h (u ∷ us) =
       | inr k ↦ subst Under (sym (cond-false (p u) (1 + prefix_len p us) 0 k)) (omega arith)
     ]
 
--- digits stand for themselves, and so may what stands behind them
+-- digits stand for themselves, and so may what stands after them
 pub run_plain : (us : List CodePoint) → digit_run us + plain (drop (digit_run us) us) ≤ plain us
 unfolding digit_run plain
 run_plain us = under (λ (u : CodePoint). is_decimal_digit u.value) (λ (u : CodePoint). not (is_syntax_character u.value)) (λ u. digit_plain u.value) us

@@ -65,7 +65,7 @@ module _ (r : Cursor) (us : List CodePoint) (count i : ℕ) (d : CodePoint) (lef
       (subst (λ ws. All (λ (u : CodePoint). is_syntax_character u.value ≡ false) (take count ws)) (sym left) plain)
 
 module _ {added : ℕ} {b : Builder} {r : Cursor} (h : IsBefore added b r) where
-  -- the unit of a run behind i others
+  -- the unit of a run after i others
   module _ (i : ℕ) (u : CodePoint) (some : i < length (rest r)) (is : u ≡ get_or (rest r) i u) where
     -- it ends where the next begins
     pub unit_end : u.span.end ≡ offset_at r.first r.units (r.place + (i + 1))

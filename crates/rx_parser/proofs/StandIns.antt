@@ -1,8 +1,9 @@
 -- What stands in for an empty text, and that it is read.
-use Rattle.std.proofs.Common.{◌≡◌, refl, ap, sym, ◌∙◌, subst, ℕ, Bool, true, false, ◌==◌, ◌&&◌, ◌||◌, ◌⊎◌, inl, inr, List, [], ◌∷◌, None}
+use Rattle.std.proofs.Common.{◌≡◌, refl, ap, sym, ◌∙◌, subst, ℕ, Bool, true, false, ◌==◌, ◌&&◌, ◌||◌, ◌⊎◌, inl, inr, List, [], ◌∷◌, None, arith}
 use Rattle.std.specs.Prelude.{drop, if◌then◌else◌}
 use Rattle.std.specs.Str.{chars, IsUtf8}
 use Rattle.std.proofs.lemmas.Bool.{and_parts, eqb-true, or_cases}
+use Rattle.std.proofs.lemmas.Bool.Decides.{nat_tests}
 use Rattle.std.proofs.lemmas.Str.{encodes-chars}
 use lib.Utf8.{encode, encodes}
 use Rattle.rx_units.specs.declared.code_point.CodePoint.{CodePoint}
@@ -12,7 +13,7 @@ use Rattle.rx_units.specs.declared.quoted_text.literal.Literal.{Literal}
 use Rattle.rx_units.specs.declared.quoted_text.literal.Literal.TheVariants as literals
 use Rattle.rx_units.specs.declared.string_literal_parser.StringLiteralKind.TheVariants as quotes
 use Rattle.rx_units.specs.Quoted.Elements.{character, is_string_character, written}
-use Rattle.rx_units.specs.Quoted.Texts.{behind, opened, IsDecoded, Leads, Place, no_element, one_more}
+use Rattle.rx_units.specs.Quoted.Texts.{next_place, opened, IsDecoded, Leads, Place, no_element, one_more}
 use Rattle.rx_units.specs.Quoted.Values.{text_units}
 use Rattle.rx_units.specs.Cursor.{Cursor, front, rest}
 use Rattle.rx_units.specs.Sources.{Decodes, plain_options}
@@ -29,7 +30,7 @@ string = literals.String quotes.Double
 module _ (o : Options) (from : Place) where
   -- one more character that stands for itself
   character_more : (p : Place) (c : ℕ) (rest : List ℕ) → Leads string o from p → p.rest ≡ c ∷ rest → is_string_character 34 c ≡ true
-      → Leads string o from (behind o p (written c Plain) (c ∷ []) rest)
+      → Leads string o from (next_place o p (written c Plain) (c ∷ []) rest)
   character_more p c rest leads stands is = one_more (written c Plain) (c ∷ []) rest leads stands (character is) refl
 
 -- `"(?:)"`
@@ -40,10 +41,10 @@ group_decoded : (o : Options) → (us : List CodePoint) × IsDecoded string o em
 group_decoded o =
     let inner : List ℕ = 40 ∷ 63 ∷ 58 ∷ 41 ∷ 34 ∷ [] in
     let p0 = opened o inner in
-    let p1 = behind o p0 (written 40 Plain) (40 ∷ []) (63 ∷ 58 ∷ 41 ∷ 34 ∷ []) in
-    let p2 = behind o p1 (written 63 Plain) (63 ∷ []) (58 ∷ 41 ∷ 34 ∷ []) in
-    let p3 = behind o p2 (written 58 Plain) (58 ∷ []) (41 ∷ 34 ∷ []) in
-    let p4 = behind o p3 (written 41 Plain) (41 ∷ []) (34 ∷ []) in
+    let p1 = next_place o p0 (written 40 Plain) (40 ∷ []) (63 ∷ 58 ∷ 41 ∷ 34 ∷ []) in
+    let p2 = next_place o p1 (written 63 Plain) (63 ∷ []) (58 ∷ 41 ∷ 34 ∷ []) in
+    let p3 = next_place o p2 (written 58 Plain) (58 ∷ []) (41 ∷ 34 ∷ []) in
+    let p4 = next_place o p3 (written 41 Plain) (41 ∷ []) (34 ∷ []) in
     let one = character_more o p0 p0 40 (63 ∷ 58 ∷ 41 ∷ 34 ∷ []) no_element refl refl in
     let two = character_more o p0 p1 63 (58 ∷ 41 ∷ 34 ∷ []) one refl refl in
     let three = character_more o p0 p2 58 (41 ∷ 34 ∷ []) two refl refl in
@@ -113,12 +114,15 @@ empty_literal bytes e = subst (λ b. chars (40 ∷ 63 ∷ 58 ∷ 41 ∷ []) ≡ 
 abbrev pub AreQuotes : List ℕ → Type 0
 AreQuotes text = (text ≡ 34 ∷ 34 ∷ []) ⊎ ((text ≡ 39 ∷ 39 ∷ []) ⊎ (text ≡ 96 ∷ 96 ∷ []))
 
+one_quote : (c : ℕ) → is_quote c ≡ (c == 34 || (c == 39 || c == 96))
+one_quote c = grind (arith, nat_tests)
+
 two_quotes : (c d : ℕ) → (is_quote c && c == d) ≡ true → AreQuotes (c ∷ d ∷ [])
 two_quotes c d h =
     let both = and_parts (is_quote c) (c == d) h in
     let same : c ≡ d = eqb-true c d both.1 in
     let alike : (q : ℕ) → (c == q) ≡ true → c ∷ d ∷ [] ≡ q ∷ q ∷ [] = λ q e. let is : c ≡ q = eqb-true c q e in cc in
-    elim (or_cases (c == 34) (c == 39 || c == 96) both.0) [
+    elim (or_cases (c == 34) (c == 39 || c == 96) (sym (one_quote c) ∙ both.0)) [
       | inl e ↦ inl (alike 34 e)
       | inr e ↦ inr (elim (or_cases (c == 39) (c == 96) e) [ inl e ↦ inl (alike 39 e) | inr e ↦ inr (alike 96 e) ])
     ]

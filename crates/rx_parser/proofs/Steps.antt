@@ -4,7 +4,7 @@ use Rattle.rx_units.specs.declared.code_point.CodePoint.{CodePoint}
 use Rattle.rx_ast.specs.declared.term.Pattern.{Pattern}
 use Rattle.rx_ast.specs.ClassTree.{Class, class}
 use Rattle.rx_ast.specs.Spans.{class_span}
-use Rattle.rx_model.specs.Classes.ClassRows.{ClassRow, IsClassSpanned, Place, behind, fresh, outside}
+use Rattle.rx_model.specs.Classes.ClassRows.{ClassRow, IsClassSpanned, Place, next_place, fresh, outside}
 use Rattle.rx_model.specs.Classes.ClassTokens as in_class
 use Rattle.rx_model.specs.Classes.ClassTokens.{ClassEvents, members_events, operator_events}
 use Rattle.rx_model.specs.Inputs.Environment.{Environment}
@@ -51,7 +51,7 @@ row_ends : (e : Environment) (o : ℕ → ℕ) (es : ClassEvents) (n : ℕ) (p q
 row_ends e o [] n p q i j us rest h = h.0 ∙ ap o h.1.1
 row_ends e o ((in_class.enter k) ∷ es) n p q i j us rest h = row_ends e o es n p q i j us rest h.1
 row_ends e o ((in_class.leave k) ∷ es) n p q i j us rest h = row_ends e o es n p q i j us rest h.1
-row_ends e o ((in_class.token t) ∷ es) n p q i j us rest h = row_ends e o es n (behind e.mode p t h.1) q (i + length h.0) j h.1 rest h.4
+row_ends e o ((in_class.token t) ∷ es) n p q i j us rest h = row_ends e o es n (next_place e.mode p t h.1) q (i + length h.0) j h.1 rest h.4
 
 pub class_start : (e : Environment) (o : ℕ → ℕ) (i : ℕ) (c : Class) (w rest : List CodePoint) → IsClassSpanned e o i c w rest → (class_span c).start ≡ o i
 class_start e o i (class s negative may kind ms) w rest h = h.row.0
@@ -96,7 +96,7 @@ module _ (e : Environment) where
     mode = d;
   }
 
-  -- a quantifier behind what may have one
+  -- a quantifier after what may have one
   pub repeats : (o : ℕ → ℕ) (b c : Builder) (min : ℕ) (max : Option ℕ) (greedy : Bool) (after : ℕ) (us : List CodePoint) (i : ℕ) (w more : List CodePoint) → Quantifies b c min max greedy after
       → after ≡ o (i + length w) → Spells e (quantifier min max greedy) w more → IsAt e o b us i (w ++ more) → IsAt e o c us (i + length w) more
   repeats o b c min max greedy after us i w more q z s h =

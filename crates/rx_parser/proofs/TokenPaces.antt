@@ -13,8 +13,8 @@ module _ (from to : Cursor) (n old mid new : ℕ) where
   -- however it ends
   pub token_bounded : n ≤ length (rest from) → Rises old mid 0 (token_looks (drop 1 (rest from)) n) → new + left to ≤ mid + left from + 2 * (n - 1) → new ≤ old + 7 * left from + 7
   token_bounded within first more =
-      let behind = plain_within (drop (n - 1) (drop 1 (rest from))) in
-      omega (arith, within, first.1, more, behind, length-drop (n - 1) (drop 1 (rest from)), length-drop 1 (rest from))
+      let following = plain_within (drop (n - 1) (drop 1 (rest from))) in
+      omega (arith, within, first.1, more, following, length-drop (n - 1) (drop 1 (rest from)), length-drop 1 (rest from))
 
   pub token_paced : from.place < to.place → to ≡ moved n from → n ≤ length (rest from) → Rises old mid 0 (token_looks (drop 1 (rest from)) n)
       → mid + left from ≤ new + left to → new + left to ≤ mid + left from + 2 * (n - 1) → IsTokenPaced old new from to
@@ -34,6 +34,6 @@ module _ (from to : Cursor) (n old mid new : ℕ) where
   token_taken (Ok it) on is within first least more = token_paced on is within first least more
   token_taken (Err it) on is within first least more = token_bounded within first more
 
--- a turn behind others
+-- a turn after others
 pub turns_paced : (from between to : Cursor) (old mid new : ℕ) → IsTurnPaced old mid from between → IsTurnPaced mid new between to → IsTurnPaced old new from to
 turns_paced from between to old mid new h k = (omega (arith, h.0, k.0), omega (arith, h.1, k.1))

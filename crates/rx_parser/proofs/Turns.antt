@@ -5,6 +5,7 @@ use Rattle.std.proofs.Math.Seq.{drop-append_seam}
 use Rattle.std.proofs.lemmas.Bool.{true≢false}
 use Rattle.std.proofs.lemmas.List.{drop-drop, length-map}
 use Rattle.std.proofs.lemmas.List.Elements.{All-append, All-cons, All-nil}
+use Rattle.rx_base.specs.Texts.{is_among}
 use Rattle.rx_base.specs.declared.fault.Fault.TheVariants.{Diagnostic}
 use Rattle.rx_base.specs.declared.diagnostic.Diagnostic.{Diagnostic as Refusal}
 use Rattle.rx_base.specs.declared.diagnostic.Diagnostic.TheVariants.{InvalidNamedReference}
@@ -29,7 +30,6 @@ use Rattle.rx_model.specs.Inputs.Environment.{for_classes, Environment, is_unico
 use Rattle.rx_model.specs.Trees.Events.{Events, enter, inside, leave, modified, token, opener_event, term_events, tokens_of}
 use Rattle.rx_model.specs.Reading.Fronts.{front}
 use Rattle.rx_model.specs.Groups.Groups.{IsModified, IsModifying}
-use Rattle.rx_model.specs.Trees.Names.{is_among}
 use Rattle.rx_model.specs.Refusals.Reached.{AreObeying, IsPlace, IsReached, span_between, text_environment, text_groups, text_names}
 use Rattle.rx_model.specs.Reading.Rows.{Row, Spells}
 use Rattle.rx_model.specs.Trees.Shapes.{group_takes, run, takes}
@@ -84,7 +84,7 @@ HasToken begun = opener_event (opener_tree begun) ≡ token (opener (opener_of (
 pub one_name : {unicode_mode : Bool} {us : List CodePoint} {name other : List ℕ} {n : ℕ} → HoldsName unicode_mode us name n → HoldsName unicode_mode us other n → name ≡ other
 one_name {name = name} {other = other} h k = let same : Some name ≡ Some other = sym h.name_is ∙ k.name_is in cc same
 
--- a quantifier behind nothing that may have one
+-- a quantifier after nothing that may have one
 lone_cause : {us : List CodePoint} {first added : ℕ} {rules : Rules} (mode : Mode) (place min : ℕ) (max : Option ℕ) (greedy : Bool) (open_groups : List Opener) (w more : List CodePoint) → IsReached mode rules us place open_groups false (w ++ more)
     → Spells (text_environment mode rules us) (quantifier min max greedy) w more → AreObeying mode us (quantifier min max greedy ∷ [])
     → IsCauseAtPlace mode rules us first added place (lone_refusal mode (span_between us first added place (place + length w)))
@@ -132,17 +132,17 @@ module _ {added : ℕ} {b : Builder} {r : Cursor} (h : IsBefore added b r) where
       let read = subst (λ k. front text (rest r) ≡ Some (named k, n)) (one_name found.2 stands) found.1 in
       record { next = front_spelled text (rest r) (named name) n read; start = start; end = end; moved_on = moved_on }
 
-  -- a reader behind a token
-  stands_behind : {s : Cursor} {t : Token} {n : ℕ} (next : IsNext t n) → s ≡ moved n r → s ≡ record r { place = r.place + length next.w }
-  stands_behind {s} {t} {n} next e =
+  -- a reader after a token
+  stands_after : {s : Cursor} {t : Token} {n : ℕ} (next : IsNext t n) → s ≡ moved n r → s ≡ record r { place = r.place + length next.w }
+  stands_after {s} {t} {n} next e =
       let it : min (r.place + n) (length r.units) ≡ r.place + length next.w = omega (arith, next.count, ap length next.whole, length-append next.w next.rest, length-drop r.place r.units, h.parsing.within) in
       e ∙ ap (λ k. record r { place = k }) it
 
-  behind : {s : Cursor} {t : Token} {n at after : ℕ} (k : IsPassedBy s t n at after) → after ≡ offset (r.place + length k.next.w)
-  behind k = k.end ∙ ap (λ x. offset_of x + added) (stands_behind k.next k.moved_on)
+  following : {s : Cursor} {t : Token} {n at after : ℕ} (k : IsPassedBy s t n at after) → after ≡ offset (r.place + length k.next.w)
+  following k = k.end ∙ ap (λ x. offset_of x + added) (stands_after k.next k.moved_on)
 
   span_is : {s : Cursor} {t : Token} {n at after : ℕ} (k : IsPassedBy s t n at after) → between at after ≡ span_between r.units r.first added r.place (r.place + length k.next.w)
-  span_is {at = at} {after = after} k = ap (λ x. between x after) k.start ∙ ap (between (offset r.place)) (behind k)
+  span_is {at = at} {after = after} k = ap (λ x. between x after) k.start ∙ ap (between (offset r.place)) (following k)
 
   -- a token that the builder takes
   turned : (c : Builder) (s : Cursor) (t : Token) (n : ℕ) (next : IsNext t n) → IsObeying t → s ≡ moved n r
@@ -151,7 +151,7 @@ module _ {added : ℕ} {b : Builder} {r : Cursor} (h : IsBefore added b r) where
   turned c s t n next obeys e takes adds same_rules =
       let k : ℕ = r.place + length next.w in
       let left : drop k r.units ≡ next.rest = sym (drop-drop (length next.w) r.place r.units) ∙ ap (drop (length next.w)) next.whole ∙ drop-append_seam next.w next.rest in
-      subst (IsTurned added b c r) (sym (stands_behind next e)) (record {
+      subst (IsTurned added b c r) (sym (stands_after next e)) (record {
         parsing = record {
           at = subst (IsAt text offset c r.units k) (sym left) (takes (subst (IsAt text offset b r.units r.place) next.whole h.parsing.at));
           within = omega (arith, ap length next.whole, length-append next.w next.rest, length-drop r.place r.units, h.parsing.within);
@@ -176,7 +176,7 @@ module _ {added : ℕ} {b : Builder} {r : Cursor} (h : IsBefore added b r) where
   leaf_turned c s t n at after term k obeys l g =
       grown c s t n (enter at ∷ token t ∷ leave after ∷ []) (openers b) (takes b.mode (mirror_term term)) k.next obeys k.moved_on
       (subst (λ es. Grows b c es (openers b) (takes b.mode (mirror_term term))) l.events_are g) refl
-      (k.start, (k.next.w, k.next.rest, refl, k.next.spells, (behind k, (refl, refl)))) (l.runs b.mode [] (openers b) (ready b))
+      (k.start, (k.next.w, k.next.rest, refl, k.next.spells, (following k, (refl, refl)))) (l.runs b.mode [] (openers b) (ready b))
 
   -- a class, which has the span of what it spells
   pub class_turned : (c : Builder) (s : Cursor) (n : ℕ) (it : Class) (term : Term) (next : IsNext (class (forget_class same_kind it)) n) → IsEarlyClass (forget_class same_kind it) → s ≡ moved n r → mirror_term term ≡ leaf (tree.class it)
@@ -191,18 +191,18 @@ module _ {added : ℕ} {b : Builder} {r : Cursor} (h : IsBefore added b r) where
 
   pub bar_turned : (c : Builder) (s : Cursor) (at after : ℕ) → IsPassedBy s bar 1 at after → Grows b c (leave at ∷ token bar ∷ enter after ∷ []) (openers b) false → IsTurned added b c r s
   bar_turned c s at after k g =
-      grown c s bar 1 (leave at ∷ token bar ∷ enter after ∷ []) (openers b) false k.next tt k.moved_on g refl (k.start, (k.next.w, k.next.rest, refl, k.next.spells, (behind k, (refl, refl)))) refl
+      grown c s bar 1 (leave at ∷ token bar ∷ enter after ∷ []) (openers b) false k.next tt k.moved_on g refl (k.start, (k.next.w, k.next.rest, refl, k.next.spells, (following k, (refl, refl)))) refl
 
   pub close_turned : (c : Builder) (s : Cursor) (at after : ℕ) (o : Opener) → IsPassedBy s closer 1 at after → openers b ≡ o ∷ openers c
       → Grows b c (leave at ∷ leave at ∷ token closer ∷ leave after ∷ []) (openers c) (group_takes b.mode o) → IsTurned added b c r s
   close_turned c s at after o k opened g =
       grown c s closer 1 (leave at ∷ leave at ∷ token closer ∷ leave after ∷ []) (openers c) (group_takes b.mode o) k.next tt k.moved_on g refl
-      (k.start, (k.start, (k.next.w, k.next.rest, refl, k.next.spells, (behind k, (refl, refl))))) (ap (λ os. run b.mode (closer ∷ []) os (ready b)) opened)
+      (k.start, (k.start, (k.next.w, k.next.rest, refl, k.next.spells, (following k, (refl, refl))))) (ap (λ os. run b.mode (closer ∷ []) os (ready b)) opened)
 
   pub quantifier_turned : (c : Builder) (s : Cursor) (min : ℕ) (max : Option ℕ) (greedy : Bool) (n at after : ℕ) → IsPassedBy s (quantifier min max greedy) n at after
       → IsObeying (quantifier min max greedy) → Quantifies b c min max greedy after → IsTurned added b c r s
   quantifier_turned c s min max greedy n at after k obeys q =
-      turned c s (quantifier min max greedy) n k.next obeys k.moved_on (repeats text offset b c min max greedy after r.units r.place k.next.w k.next.rest q (behind k) k.next.spells) (quantifier_adds q) q.rules
+      turned c s (quantifier min max greedy) n k.next obeys k.moved_on (repeats text offset b c min max greedy after r.units r.place k.next.w k.next.rest q (following k) k.next.spells) (quantifier_adds q) q.rules
 
   -- a group that begins with a token
   plain_opened : (c : Builder) (s : Cursor) (begun made : GroupKind) (o : Opener) (n at after : ℕ) → begun ≡ made → HasToken made → opener_of (opener_tree made) ≡ o → IsPassedBy s (opener o) n at after
@@ -212,7 +212,7 @@ module _ {added : ℕ} {b : Builder} {r : Cursor} (h : IsBefore added b r) where
       let p : IsPassedBy s (opener it) n at after = subst (λ x. IsPassedBy s (opener x) n at after) (sym e) k in
       grown c s (opener it) n (enter at ∷ token (opener it) ∷ enter after ∷ enter after ∷ []) (it ∷ openers b) false p.next (subst IsEarlyOpener (sym e) early) p.moved_on
       (subst (λ x. Grows b c (enter at ∷ x ∷ enter after ∷ enter after ∷ []) (it ∷ openers b) false) t (subst (λ x. Opens b c x at after) is g)) refl
-      (p.start, (p.next.w, p.next.rest, refl, p.next.spells, (behind p, (behind p, (refl, refl))))) refl
+      (p.start, (p.next.w, p.next.rest, refl, p.next.spells, (following p, (following p, (refl, refl))))) refl
 
   -- a group with modifiers, which have the span of their text
   modified_opened : (c : Builder) (s : Cursor) (m : Modifiers) (n at after : ℕ) → IsPassedBy s (opener (ignoring (Some (letter_bits m)))) n at after
@@ -223,7 +223,7 @@ module _ {added : ℕ} {b : Builder} {r : Cursor} (h : IsBefore added b r) where
       let ends : r.place + (n - 1) ≡ r.place + 2 + length k.next.spells.text = omega (arith, k.next.count, modified_length (letter_bits m) w k.next.spells) in
       let it : IsModifying offset r.place m w = record { modified = k.next.spells; start = ap (λ x. x.start) e; end = ap (λ x. x.end) e ∙ ap offset ends } in
       grown c s (opener o) n (enter at ∷ modified m ∷ enter after ∷ enter after ∷ []) (o ∷ openers b) false k.next early k.moved_on g refl
-      (k.start, (w, k.next.rest, refl, it, (behind k, (behind k, (refl, refl))))) refl
+      (k.start, (w, k.next.rest, refl, it, (following k, (following k, (refl, refl))))) refl
 
   -- a group, or a look-around
   pub open_turned : (c : Builder) (s : Cursor) (found : OpenerFound) (begun : GroupKind) (o : Opener) (n at after : ℕ) → IsOpenerFound text (rest r) n o found → IsGroupKindOf b.mode r added n found begun

@@ -33,7 +33,7 @@ modifiers_refusal fault.Duplicated span = DuplicatedModifiers span
 modifiers_refusal fault.Empty span = EmptyModifiers span
 modifiers_refusal fault.Invalid span = InvalidModifiers span
 
--- what is wrong where a quantifier stands behind nothing that may have one (Term, 22.2.1; with neither `u` nor `v` InvalidBracedQuantifier, B.1.2)
+-- what is wrong where a quantifier stands after nothing that may have one (Term, 22.2.1; with neither `u` nor `v` InvalidBracedQuantifier, B.1.2)
 abbrev pub lone_refusal : Mode → Span → Refusal
 lone_refusal Legacy span = InvalidBracedQuantifier span
 lone_refusal Unicode span = LoneQuantifier span
@@ -48,7 +48,7 @@ IsEndedFault us first added at b it =
 
 -- what is wrong where a halt names this span, in a pattern with n groups; of a stop, outside groups
 abbrev pub halt_refusal : Halt → Span → ℕ → Refusal
-halt_refusal (halt.Stop behind) span groups = ParsePatternIncomplete span
+halt_refusal (halt.Stop following) span groups = ParsePatternIncomplete span
 halt_refusal halt.LastBackslash span groups = InvalidExtendedAtomEscape span
 halt_refusal (halt.OutOfOrder n) span groups = BracedQuantifierOutOfOrder span
 halt_refusal (halt.TooLarge n) span groups = TooLargeNumberInBracedQuantifier span
@@ -63,6 +63,6 @@ halt_refusal (halt.Modifiers what n) span groups = modifiers_refusal what span
 
 -- the fault of a pattern with n groups that halts at this place
 abbrev pub IsHaltFault : List CodePoint → ℕ → ℕ → ℕ → Builder → ℕ → Halt → Fault → Type 0
-IsHaltFault us first added place b groups (halt.Stop behind) it = IsEndedFault us first added (place + behind) b it
+IsHaltFault us first added place b groups (halt.Stop following) it = IsEndedFault us first added (place + following) b it
 IsHaltFault us first added place b groups reason it =
     it ≡ Diagnostic (halt_refusal reason (span_between us first added (place + halt_start reason) (place + halt_end reason)) groups)

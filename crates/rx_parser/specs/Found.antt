@@ -1,5 +1,6 @@
 -- What is found at the front of a text.
 use Rattle.std.specs.Prelude.{◌≡◌, ℕ, ◌-◌, ◌%◌, ◌≤◌, Bool, ◌&&◌, Option, Some, None, true, List, [], ◌∷◌, length, drop, take}
+use Rattle.rx_base.specs.Ascii as ascii
 use Rattle.rx_ast.specs.declared.leaf.BoundaryAssertionKind.{BoundaryAssertionKind}
 use Rattle.rx_units.specs.declared.code_point.CodePoint.{CodePoint}
 use Rattle.rx_units.specs.Units.{values}
@@ -33,7 +34,7 @@ leaf_token leaf.Dot = dot
 leaf_token (leaf.ClassEscape kind) = class_escape kind
 leaf_token (leaf.IndexedReference n) = indexed n
 
--- the boundary that the first of these characters is behind a backslash (Assertion, 22.2.1)
+-- the boundary that the first of these characters is after a backslash (Assertion, 22.2.1)
 abbrev pub boundary_front : Environment → List ℕ → Option BoundaryAssertionKind
 boundary_front e [] = None
 boundary_front e (c ∷ cs) = boundary_at e c
@@ -115,8 +116,8 @@ IsHalt e us it = (reason : FrontHalt) × (front_read e us ≡ halted reason) × 
 abbrev pub IsFound : Environment → List CodePoint → Found → Type 0
 IsFound e us (found.Leaf l n) = Stands e us (leaf_token l) n
 IsFound e us (found.NamedReference n) = (name : List ℕ) × (front e us ≡ Some (named name, n)) × HoldsName (is_unicode e.mode) us name n
-IsFound e us found.Property = (letter : ℕ) × (behind : List ℕ) × (values us ≡ 92 ∷ letter ∷ behind) × ((begins_property letter && is_unicode e.mode) ≡ true)
-IsFound e us found.Class = starts 91 (values us) ≡ true
+IsFound e us found.Property = (letter : ℕ) × (following : List ℕ) × (values us ≡ ascii.backslash ∷ letter ∷ following) × ((begins_property letter && is_unicode e.mode) ≡ true)
+IsFound e us found.Class = starts ascii.left_bracket (values us) ≡ true
 IsFound e us (found.Open it n) = (o : Opener) × Stands e us (opener o) n × IsOpenerFound e us n o it
 IsFound e us found.Close = Stands e us closer 1
 IsFound e us found.Bar = Stands e us bar 1

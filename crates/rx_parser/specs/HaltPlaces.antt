@@ -5,7 +5,7 @@ use Rattle.rx_parser.specs.declared.found.Halt.TheVariants as halt
 
 -- the place of the first unit that a halt names
 abbrev pub halt_start : Halt → ℕ
-halt_start (halt.Stop behind) = behind
+halt_start (halt.Stop following) = following
 halt_start halt.LastBackslash = 0
 halt_start (halt.OutOfOrder n) = 0
 halt_start (halt.TooLarge n) = 0
@@ -18,9 +18,9 @@ halt_start halt.NoGroupName = 0
 halt_start (halt.NoSuchGroup n) = 0
 halt_start (halt.Modifiers fault n) = 2
 
--- the place behind the last one
+-- the place after the last one
 abbrev pub halt_end : Halt → ℕ
-halt_end (halt.Stop behind) = behind
+halt_end (halt.Stop following) = following
 halt_end halt.LastBackslash = 1
 halt_end (halt.OutOfOrder n) = n
 halt_end (halt.TooLarge n) = n

@@ -8,7 +8,7 @@ use Rattle.rx_model.specs.Trees.Shapes.{takes}
 use Rattle.rx_model.specs.Trees.Token.{bar, quantifier}
 use Rattle.rx_parser.specs.declared.level.Level.{Level}
 
--- one behind the other
+-- one after the other
 abbrev pub strung : List Events → Events
 strung [] = []
 strung (es ∷ more) = es ++ strung more

@@ -21,7 +21,7 @@ abbrev pub found_name : NameRead → NameFound
 found_name (name_read name n) = found.Name n
 found_name (no_name_read it) = found.Halt (found_name_halt it)
 
--- the place behind what an answer names
+-- the place after what an answer names
 abbrev pub name_end : NameFound → ℕ
 name_end (found.Name n) = n + 4
 name_end (found.Halt it) = halt_end it

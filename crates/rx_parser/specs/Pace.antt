@@ -34,17 +34,17 @@ abbrev pub name_looks : ℕ → NameFound → ℕ
 name_looks units (name.Name n) = 2 * n + 1
 name_looks units (name.Halt it) = 2 * units + 8
 
--- at most so many behind a name, of so many units: none where it ends there
+-- at most so many after a name, of so many units: none where it ends there
 abbrev pub halt_looks : ℕ → NameFound → ℕ
 halt_looks units (name.Name n) = 0
 halt_looks units (name.Halt it) = units + 4
 
--- at most so many at a character escape, of the units behind its backslash: a lone backslash stands before no digit
+-- at most so many at a character escape, of the units after its backslash: a lone backslash stands before no digit
 abbrev pub escape_looks : List CodePoint → EscapeFound → ℕ
-escape_looks behind (escape.Character kind value n) = if n == 0 then 5 else n + digit_run behind + 5
-escape_looks behind escape.Nothing = length behind + 5
-escape_looks behind (escape.TooMany many) = length behind + 5
-escape_looks behind escape.Invalid = length behind + 5
+escape_looks following (escape.Character kind value n) = if n == 0 then 5 else n + digit_run following + 5
+escape_looks following escape.Nothing = length following + 5
+escape_looks following (escape.TooMany many) = length following + 5
+escape_looks following escape.Invalid = length following + 5
 
 -- A token that is no escape takes so many, or why none is read, of so many units from its second one on. A property and a class are not among these.
 abbrev pub LooksAtSyntax : ℕ → ℕ → ℕ → Found → Type 0
@@ -62,36 +62,36 @@ LooksAtSyntax old new units (found.Halt it) = Rises old new 0 (2 * units + 8)
 abbrev pub MayFind : ℕ → List CodePoint → Found → Type 0
 MayFind most us it = (old new : ℕ) → old ≤ new → new ≤ old + most → new ≤ old + length us → LooksAtSyntax old new (length us - 1) it
 
--- An escape that is a token of n units takes so many, or why none is read, of the units behind its backslash.
+-- An escape that is a token of n units takes so many, or why none is read, of the units after its backslash.
 abbrev pub LooksAtEscape : ℕ → ℕ → List CodePoint → Found → Type 0
-LooksAtEscape old new behind (found.Leaf leaf n) = (1 ≤ n) × Rises old new 0 (if n == 1 then 5 else n + digit_run behind + 4)
-LooksAtEscape old new behind (found.NamedReference n) = ⊥
-LooksAtEscape old new behind found.Property = ⊥
-LooksAtEscape old new behind found.Class = ⊥
-LooksAtEscape old new behind (found.Open opener n) = ⊥
-LooksAtEscape old new behind found.Close = ⊥
-LooksAtEscape old new behind found.Bar = ⊥
-LooksAtEscape old new behind (found.Quantifier least most greedy n) = ⊥
-LooksAtEscape old new behind (found.Halt it) = Rises old new 0 (length behind + 5)
+LooksAtEscape old new following (found.Leaf leaf n) = (1 ≤ n) × Rises old new 0 (if n == 1 then 5 else n + digit_run following + 4)
+LooksAtEscape old new following (found.NamedReference n) = ⊥
+LooksAtEscape old new following found.Property = ⊥
+LooksAtEscape old new following found.Class = ⊥
+LooksAtEscape old new following (found.Open opener n) = ⊥
+LooksAtEscape old new following found.Close = ⊥
+LooksAtEscape old new following found.Bar = ⊥
+LooksAtEscape old new following (found.Quantifier least most greedy n) = ⊥
+LooksAtEscape old new following (found.Halt it) = Rises old new 0 (length following + 5)
 
--- At most so many at a token of n units, of the units behind its first one. The looks that pass over units behind the token stop at the first that does not
+-- At most so many at a token of n units, of the units after its first one. The looks that pass over units after the token stop at the first that does not
 -- stand for itself.
 abbrev pub token_looks : List CodePoint → ℕ → ℕ
-token_looks behind n = 4 * n + 2 * plain (drop (n - 1) behind) + 1
+token_looks following n = 4 * n + 2 * plain (drop (n - 1) following) + 1
 
--- At most so many at what is found, of the units behind the first one. A property and a class are looked at by their readers.
+-- At most so many at what is found, of the units after the first one. A property and a class are looked at by their readers.
 abbrev pub looks : List CodePoint → Found → ℕ
-looks behind (found.Leaf leaf n) = token_looks behind n
-looks behind (found.NamedReference n) = token_looks behind n
-looks behind found.Property = 0
-looks behind found.Class = 0
-looks behind (found.Open opener n) = token_looks behind n
-looks behind found.Close = token_looks behind 1
-looks behind found.Bar = token_looks behind 1
-looks behind (found.Quantifier least most greedy n) = token_looks behind n
-looks behind (found.Halt it) = 3 * length behind + 9
+looks following (found.Leaf leaf n) = token_looks following n
+looks following (found.NamedReference n) = token_looks following n
+looks following found.Property = 0
+looks following found.Class = 0
+looks following (found.Open opener n) = token_looks following n
+looks following found.Close = token_looks following 1
+looks following found.Bar = token_looks following 1
+looks following (found.Quantifier least most greedy n) = token_looks following n
+looks following (found.Halt it) = 3 * length following + 9
 
--- A token takes at least a step for each of its units, and at most seven, with one left over. Units that stand for themselves behind it have been looked at.
+-- A token takes at least a step for each of its units, and at most seven, with one left over. Units that stand for themselves after it have been looked at.
 abbrev pub IsTokenPaced : ℕ → ℕ → Cursor → Cursor → Type 0
 IsTokenPaced old new from to =
     (old + left from ≤ new + left to) × (new + 1 + 7 * left to ≤ old + 7 * left from + 2 * plain (rest to))
@@ -101,7 +101,7 @@ abbrev pub TakesToken : {A E : Type 0} → ℕ → ℕ → Cursor → Cursor →
 TakesToken old new from to result = MatchResult result (λ _. IsTokenPaced old new from to) (λ _. new ≤ old + 7 * left from + 7)
 
 -- A turn takes at least a step for each unit that it moves over, and at most seven. What was looked at by the turns before, the units that stand for
--- themselves, is looked at no more behind them: each of these may have been looked at twice.
+-- themselves, is looked at no more after them: each of these may have been looked at twice.
 abbrev pub IsTurnPaced : ℕ → ℕ → Cursor → Cursor → Type 0
 IsTurnPaced old new from to =
     (old + left from ≤ new + left to) × (new + 7 * left to + 2 * plain (rest from) ≤ old + 7 * left from + 2 * plain (rest to))

@@ -2,7 +2,7 @@ ghost use Rattle.std.specs.Prelude.{◌≡◌, ℕ, ◌+◌, ◌-◌, ◌^◌, �
 ghost use Rattle.rx_base.specs.Rising.{Rises};
 ghost use Rattle.rx_units.specs.Units.{values};
 ghost use Rattle.rx_model.specs.FirstPass.Marks.{starts};
-ghost use Rattle.rx_model.specs.Reading.Fronts.{digits, digits_behind};
+ghost use Rattle.rx_model.specs.Reading.Fronts.{digits, digits_after};
 ghost use Rattle.rx_parser.specs.Pace.{digit_run};
 
 use rx_base::Counter;
@@ -28,7 +28,7 @@ pub fn tail(units: &[CodePoint], place: usize) -> &[CodePoint]
 /// The number of the digits that the units begin with, which stays at its greatest value, 4294967295, and how many digits they are.
 #[tactic(auto, using(crate::proofs::Paces::run_more, crate::proofs::Paces::run_stops, crate::proofs::Paces::run_ends))]
 pub fn number_at<C: Counter>(units: &[CodePoint], steps: &mut C) -> (u32, usize)
-    ensures number { (n : ℕ) × (result.0 ≡ min n (2 ^ 32 - 1)) × (digits_behind 0 0 (values units.now) ≡ digits n result.1 (values (drop result.1 units.now))) }
+    ensures number { (n : ℕ) × (result.0 ≡ min n (2 ^ 32 - 1)) × (digits_after 0 0 (values units.now) ≡ digits n result.1 (values (drop result.1 units.now))) }
     ensures within { result.1 ≤ length units.now }
     ensures run { result.1 ≡ digit_run units.now }
     ensures steps { Rises (C.count steps.old) (C.count steps.new) result.1 (result.1 + 1) }

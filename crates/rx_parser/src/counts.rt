@@ -1,8 +1,8 @@
 ghost use Rattle.std.specs.Prelude.{◌≡◌, ℕ, suc, ◌+◌, ◌^◌, ◌<◌, ◌≤◌, drop, length};
 ghost use Rattle.rx_base.specs.Rising.{Rises};
 ghost use Rattle.rx_units.specs.Units.{values};
-ghost use Rattle.rx_model.specs.Quantifiers.CountsReading.{digits_read_at, read_behind_comma, read_behind_least, read_in_braces, counts_read_at};
-ghost use Rattle.rx_model.specs.Reading.Fronts.{are_counts, counts_at, counts_behind_comma, counts_in_braces, digits, digits_behind};
+ghost use Rattle.rx_model.specs.Quantifiers.CountsReading.{digits_read_at, read_after_comma, read_after_least, read_in_braces, counts_read_at};
+ghost use Rattle.rx_model.specs.Reading.Fronts.{are_counts, counts_at, counts_after_comma, counts_in_braces, digits, digits_after};
 ghost use Rattle.rx_parser.specs.CountsFound.{seen_digits, digits_counted, seen_counts};
 ghost use Rattle.rx_parser.specs.Pace.{count_looks, plain};
 
@@ -29,7 +29,7 @@ pub enum CountsFound {
         length: usize,
     },
     Nothing,
-    /// The digits of a number behind `{`, from `start` on, pass 64 bits after n of them.
+    /// The digits of a number after `{`, from `start` on, pass 64 bits after n of them.
     TooMany {
         start: usize,
         digits: usize,
@@ -62,15 +62,15 @@ fn digits_at<C: Counter>(units: &[CodePoint], steps: &mut C) -> DigitsFound
     }
 }
 
-/// The counts behind `{`, a number of n digits and `,`. The steps are with n + 2, for the number and the `,`.
-fn behind_comma<C: Counter>(
+/// The counts after `{`, a number of n digits and `,`. The steps are with n + 2, for the number and the `,`.
+fn after_comma<C: Counter>(
     min: u64,
     count: usize,
     units: &[CodePoint],
     steps: &mut C,
 ) -> CountsFound
     requires { count + 2 + length units.now < 2 ^ 64 }
-    ensures read { seen_counts result ≡ read_behind_comma min count (digits_read_at 0 0 (values units.now)) }
+    ensures read { seen_counts result ≡ read_after_comma min count (digits_read_at 0 0 (values units.now)) }
     ensures steps { Rises (C.count steps.old) (C.count steps.new + (count + 2)) (count + 2) (count_looks (length units.now + (count + 3)) result) }
 {
     let (value, more) = match digits_at(units, steps) {
@@ -92,15 +92,15 @@ fn behind_comma<C: Counter>(
     }
 }
 
-/// The counts behind `{` and a number of n digits. The steps are with n + 1, for the number.
-fn behind_least<C: Counter>(
+/// The counts after `{` and a number of n digits. The steps are with n + 1, for the number.
+fn after_least<C: Counter>(
     min: u64,
     count: usize,
     units: &[CodePoint],
     steps: &mut C,
 ) -> CountsFound
     requires { count + 1 + length units.now < 2 ^ 64 }
-    ensures read { seen_counts result ≡ read_behind_least min count (values units.now) }
+    ensures read { seen_counts result ≡ read_after_least min count (values units.now) }
     ensures steps { Rises (C.count steps.old) (C.count steps.new + (count + 1)) (count + 1) (count_looks (length units.now + (count + 1)) result) }
 {
     if count == 0 {
@@ -112,12 +112,12 @@ fn behind_least<C: Counter>(
             max: Some(min),
             length: count + 2,
         },
-        [comma, more @ ..] if comma.value == ',' as u32 => behind_comma(min, count, more, steps),
+        [comma, more @ ..] if comma.value == ',' as u32 => after_comma(min, count, more, steps),
         _ => CountsFound::Nothing,
     }
 }
 
-/// The counts behind `{`.
+/// The counts after `{`.
 fn in_braces<C: Counter>(units: &[CodePoint], steps: &mut C) -> CountsFound
     requires { 1 + length units.now < 2 ^ 64 }
     ensures read { seen_counts result ≡ read_in_braces (digits_read_at 0 0 (values units.now)) }
@@ -125,7 +125,7 @@ fn in_braces<C: Counter>(units: &[CodePoint], steps: &mut C) -> CountsFound
 {
     match digits_at(units, steps) {
         DigitsFound::Digits { value, count } => {
-            behind_least(value, count, tail(units, count), steps)
+            after_least(value, count, tail(units, count), steps)
         }
         DigitsFound::TooMany { digits } => CountsFound::TooMany { start: 1, digits },
     }
@@ -137,14 +137,14 @@ pub fn counts_at<C: Counter>(units: &[CodePoint], steps: &mut C) -> CountsFound
     ensures read { seen_counts result ≡ counts_read_at (values units.now) }
     ensures steps { Rises (C.count steps.old) (C.count steps.new) 0 (count_looks (length units.now) result) }
 {
-    let [first, behind @ ..] = units else {
+    let [first, following @ ..] = units else {
         return CountsFound::Nothing;
     };
     match char::from_u32(first.value) {
         Some('*') => counts(0, None),
         Some('+') => counts(1, None),
         Some('?') => counts(0, Some(1)),
-        Some('{') => in_braces(behind, steps),
+        Some('{') => in_braces(following, steps),
         _ => CountsFound::Nothing,
     }
 }
@@ -155,27 +155,27 @@ pub fn begins_with_counts<C: Counter>(units: &[CodePoint], steps: &mut C) -> boo
     ensures counts { result ≡ are_counts (counts_at (values units.now)) }
     ensures steps { Rises (C.count steps.old) (C.count steps.new) 0 (plain (drop 1 units.now) + 1) }
 {
-    let [first, behind @ ..] = units else {
+    let [first, following @ ..] = units else {
         return false;
     };
     match char::from_u32(first.value) {
         Some('*' | '+' | '?') => true,
-        Some('{') => are_braces(behind, steps),
+        Some('{') => are_braces(following, steps),
         _ => false,
     }
 }
 
-/// Whether a quantifier in braces goes on behind its `{`.
+/// Whether a quantifier in braces goes on after its `{`.
 #[tactic(auto, using(crate::proofs::Paces::run_plain))]
 fn are_braces<C: Counter>(units: &[CodePoint], steps: &mut C) -> bool
-    ensures counts { result ≡ are_counts (counts_in_braces (digits_behind 0 0 (values units.now))) }
+    ensures counts { result ≡ are_counts (counts_in_braces (digits_after 0 0 (values units.now))) }
     ensures steps { Rises (C.count steps.old) (C.count steps.new) 0 (plain units.now + 1) }
 {
     let (_, count) = number_at(units, steps);
     count > 0 && end_braces(tail(units, count), steps)
 }
 
-/// Whether a quantifier in braces goes on behind its first number.
+/// Whether a quantifier in braces goes on after its first number.
 #[tactic(auto, using(crate::proofs::Paces::comma_plain))]
 fn end_braces<C: Counter>(units: &[CodePoint], steps: &mut C) -> bool
     ensures counts { (number more : ℕ) → result ≡ are_counts (counts_in_braces (digits number (suc more) (values units.now))) }
@@ -183,15 +183,15 @@ fn end_braces<C: Counter>(units: &[CodePoint], steps: &mut C) -> bool
 {
     match units {
         [brace, ..] if brace.value == '}' as u32 => true,
-        [comma, more @ ..] if comma.value == ',' as u32 => end_behind_comma(more, steps),
+        [comma, more @ ..] if comma.value == ',' as u32 => end_after_comma(more, steps),
         _ => false,
     }
 }
 
-/// Whether a quantifier in braces goes on behind its comma.
+/// Whether a quantifier in braces goes on after its comma.
 #[tactic(auto, using(crate::proofs::Paces::run_under_plain))]
-fn end_behind_comma<C: Counter>(units: &[CodePoint], steps: &mut C) -> bool
-    ensures counts { (number count : ℕ) → result ≡ are_counts (counts_behind_comma number count (digits_behind 0 0 (values units.now))) }
+fn end_after_comma<C: Counter>(units: &[CodePoint], steps: &mut C) -> bool
+    ensures counts { (number count : ℕ) → result ≡ are_counts (counts_after_comma number count (digits_after 0 0 (values units.now))) }
     ensures steps { Rises (C.count steps.old) (C.count steps.new) 0 (plain units.now + 1) }
 {
     let (_, more) = number_at(units, steps);

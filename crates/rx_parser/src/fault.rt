@@ -28,8 +28,8 @@ pub fn fault<C: Counter>(
     ensures fault { IsHaltFault reader.old.units reader.old.first spans.now reader.old.place builder.now groups halt result }
     ensures steps { Rises (C.count steps.old) (C.count steps.new) 0 (halt_end halt) }
 {
-    if let Halt::Stop { behind } = halt {
-        reader.skip_counted(behind, steps);
+    if let Halt::Stop { following } = halt {
+        reader.skip_counted(following, steps);
         return ended(reader, spans, builder);
     }
     let (from, to) = named_places(halt);
@@ -44,7 +44,7 @@ fn named_places(halt: Halt) -> (usize, usize)
     ensures order { result.0 ≤ result.1 }
 {
     match halt {
-        Halt::Stop { behind } => (behind, behind),
+        Halt::Stop { following } => (following, following),
         Halt::LastBackslash => (0, 1),
         Halt::OutOfOrder { length } | Halt::TooLarge { length } | Halt::NoSuchGroup { length } => {
             (0, length)
@@ -88,7 +88,7 @@ fn refusal(halt: Halt, span: Span, groups: u32) -> Diagnostic
     }
 }
 
-/// What is wrong where a quantifier of this span stands behind nothing that may have one.
+/// What is wrong where a quantifier of this span stands after nothing that may have one.
 #[cold]
 pub fn lone_quantifier(mode: Mode, span: Span) -> Diagnostic
     ensures { result ≡ lone_refusal mode span }

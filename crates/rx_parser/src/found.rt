@@ -33,7 +33,7 @@ pub enum OpenerFound {
 /// What is wrong with the modifiers of a group.
 #[derive(Clone, Copy, Debug)]
 pub enum ModifiersFault {
-    /// Behind them stands what is neither a modifier, nor a first `-`, nor `:`.
+    /// After them stands what is neither a modifier, nor a first `-`, nor `:`.
     Unknown,
     /// A letter is there twice on one side.
     Duplicated,
@@ -48,7 +48,7 @@ pub enum ModifiersFault {
 pub enum Halt {
     /// Terms end here, and not by a `)`; reading stands n units on.
     Stop {
-        behind: usize,
+        following: usize,
     },
     /// With neither `u` nor `v` a backslash ends the text.
     LastBackslash,
@@ -76,7 +76,7 @@ pub enum Halt {
         start: usize,
         length: usize,
     },
-    /// Behind `<`, at the second unit from here, and n units of a name's characters neither a name ends nor an escape begins.
+    /// After `<`, at the second unit from here, and n units of a name's characters neither a name ends nor an escape begins.
     UnterminatedName {
         length: usize,
     },
@@ -90,7 +90,7 @@ pub enum Halt {
     NoSuchGroup {
         length: usize,
     },
-    /// Modifiers of this length, behind `(?`, may not stand there.
+    /// Modifiers of this length, after `(?`, may not stand there.
     Modifiers {
         fault: ModifiersFault,
         length: usize,

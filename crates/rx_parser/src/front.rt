@@ -47,16 +47,16 @@ fn first_of<C: Counter>(units: &[CodePoint], environment: Environment, steps: &m
     ensures found { result ≡ found_front (front_read (seen_environment environment) units.now) }
     ensures steps { Rises (C.count steps.old) (C.count steps.new) 0 (looks (drop 1 units.now) result) }
 {
-    let [first, behind @ ..] = units else {
-        return Found::Halt(Halt::Stop { behind: 0 });
+    let [first, following @ ..] = units else {
+        return Found::Halt(Halt::Stop { following: 0 });
     };
     if first.value == '\\' as u32 {
-        return backslash_at(behind, environment, steps);
+        return backslash_at(following, environment, steps);
     }
     if first.value == '[' as u32 {
         return Found::Class;
     }
-    if is_raw(first.value, behind, units, environment.mode, steps) {
+    if is_raw(first.value, following, units, environment.mode, steps) {
         return Found::Leaf {
             leaf: Leaf::Character {
                 kind: unit_kind(first.escape_kind),
@@ -65,19 +65,19 @@ fn first_of<C: Counter>(units: &[CodePoint], environment: Environment, steps: &m
             length: 1,
         };
     }
-    syntax_at(first.value, behind, units, environment.mode, steps)
+    syntax_at(first.value, following, units, environment.mode, steps)
 }
 
 /// Whether the first unit stands for itself. With neither `u` nor `v` a brace does, where no quantifier begins there.
 fn is_raw<C: Counter>(
     first: u32,
-    behind: &[CodePoint],
+    following: &[CodePoint],
     units: &[CodePoint],
     mode: Mode,
     steps: &mut C,
 ) -> bool
-    requires { values units.now ≡ first ∷ values behind.now }
-    ensures raw { (buffers : Bool) (groups : ℕ) (has_names : Bool) → result ≡ is_raw_at (environment_with mode buffers groups has_names) first (values behind.now) }
+    requires { values units.now ≡ first ∷ values following.now }
+    ensures raw { (buffers : Bool) (groups : ℕ) (has_names : Bool) → result ≡ is_raw_at (environment_with mode buffers groups has_names) first (values following.now) }
     ensures steps { Rises (C.count steps.old) (C.count steps.new) 0 (plain (drop 1 units.now) + 1) }
 {
     stands_raw(first, mode) && (mode.is_unicode() || !begins_with_counts(units, steps))
@@ -103,11 +103,11 @@ fn is_legacy_syntax(value: u32) -> bool
     )
 }
 
-/// The boundary that the unit behind a backslash is.
-fn boundary_at(behind: &[CodePoint], environment: Environment) -> Option<BoundaryAssertionKind>
-    ensures { result ≡ boundary_front (seen_environment environment) (values behind.now) }
+/// The boundary that the unit after a backslash is.
+fn boundary_at(following: &[CodePoint], environment: Environment) -> Option<BoundaryAssertionKind>
+    ensures { result ≡ boundary_front (seen_environment environment) (values following.now) }
 {
-    match char::from_u32(behind.first()?.value) {
+    match char::from_u32(following.first()?.value) {
         Some('b') => Some(BoundaryAssertionKind::Boundary),
         Some('B') => Some(BoundaryAssertionKind::NegativeBoundary),
         Some('A') if environment.has_buffers() => Some(BoundaryAssertionKind::StartBuffer),
@@ -119,17 +119,21 @@ fn boundary_at(behind: &[CodePoint], environment: Environment) -> Option<Boundar
     }
 }
 
-/// What a backslash and the units behind it begin with.
-fn backslash_at<C: Counter>(behind: &[CodePoint], environment: Environment, steps: &mut C) -> Found
+/// What a backslash and the units after it begin with.
+fn backslash_at<C: Counter>(
+    following: &[CodePoint],
+    environment: Environment,
+    steps: &mut C,
+) -> Found
     requires few { environment.groups < 2 ^ 32 - 1 }
-    ensures found { result ≡ found_front (backslash_read (seen_environment environment) (values behind.now)) }
-    ensures steps { Rises (C.count steps.old) (C.count steps.new) 0 (looks behind.now result) }
+    ensures found { result ≡ found_front (backslash_read (seen_environment environment) (values following.now)) }
+    ensures steps { Rises (C.count steps.old) (C.count steps.new) 0 (looks following.now result) }
 {
-    let [first, more @ ..] = behind else {
-        return Found::Halt(behind_last_backslash(environment.mode));
+    let [first, more @ ..] = following else {
+        return Found::Halt(after_last_backslash(environment.mode));
     };
-    if is_reference(behind, environment, steps) {
-        return indexed_at(behind, environment.groups, steps);
+    if is_reference(following, environment, steps) {
+        return indexed_at(following, environment.groups, steps);
     }
     if first.value == 'k' as u32 && environment.is_named() {
         return named_at(more, environment.mode.is_unicode(), steps);
@@ -137,53 +141,57 @@ fn backslash_at<C: Counter>(behind: &[CodePoint], environment: Environment, step
     if begins_property(first.value) && environment.mode.is_unicode() {
         return Found::Property;
     }
-    escape_at(behind, environment, steps)
+    escape_at(following, environment, steps)
 }
 
 /// Why no token begins with a backslash at the end of the text.
-fn behind_last_backslash(mode: Mode) -> Halt
+fn after_last_backslash(mode: Mode) -> Halt
     ensures { result ≡ found_halt (if is_unicode mode then ends_here 1 else last_backslash) }
 {
     if mode.is_unicode() {
-        Halt::Stop { behind: 1 }
+        Halt::Stop { following: 1 }
     } else {
         Halt::LastBackslash
     }
 }
 
-/// Whether a property escape begins with this value behind its backslash.
+/// Whether a property escape begins with this value after its backslash.
 fn begins_property(value: u32) -> bool
     ensures { result ≡ begins_property value }
 {
     value == 'p' as u32 || value == 'P' as u32
 }
 
-/// What a backslash and the units behind it, which are neither a reference nor a property, begin with.
-fn escape_at<C: Counter>(behind: &[CodePoint], environment: Environment, steps: &mut C) -> Found
-    ensures found { result ≡ found_front (one_of_escapes (boundary_front (seen_environment environment) (values behind.now)) (class_escape_front (values behind.now)) (any_escape_at false (seen_environment environment) (values behind.now))) }
-    ensures steps { LooksAtEscape (C.count steps.old) (C.count steps.new) behind.now result }
+/// What a backslash and the units after it, which are neither a reference nor a property, begin with.
+fn escape_at<C: Counter>(following: &[CodePoint], environment: Environment, steps: &mut C) -> Found
+    ensures found { result ≡ found_front (one_of_escapes (boundary_front (seen_environment environment) (values following.now)) (class_escape_front (values following.now)) (any_escape_at false (seen_environment environment) (values following.now))) }
+    ensures steps { LooksAtEscape (C.count steps.old) (C.count steps.new) following.now result }
 {
-    if let Some(kind) = boundary_at(behind, environment) {
+    if let Some(kind) = boundary_at(following, environment) {
         return Found::Leaf {
             leaf: Leaf::Boundary(kind),
             length: 2,
         };
     }
-    if let Some(kind) = class_escape_at(behind) {
+    if let Some(kind) = class_escape_at(following) {
         return Found::Leaf {
             leaf: Leaf::ClassEscape(kind),
             length: 2,
         };
     }
-    character_at(behind, environment, steps)
+    character_at(following, environment, steps)
 }
 
-/// What a backslash and the units behind it, which are neither a boundary nor a class escape, begin with.
-fn character_at<C: Counter>(behind: &[CodePoint], environment: Environment, steps: &mut C) -> Found
-    ensures found { result ≡ found_front (escape_read (any_escape_at false (seen_environment environment) (values behind.now))) }
-    ensures steps { LooksAtEscape (C.count steps.old) (C.count steps.new) behind.now result }
+/// What a backslash and the units after it, which are neither a boundary nor a class escape, begin with.
+fn character_at<C: Counter>(
+    following: &[CodePoint],
+    environment: Environment,
+    steps: &mut C,
+) -> Found
+    ensures found { result ≡ found_front (escape_read (any_escape_at false (seen_environment environment) (values following.now))) }
+    ensures steps { LooksAtEscape (C.count steps.old) (C.count steps.new) following.now result }
 {
-    match any_escape_at(behind, environment, steps) {
+    match any_escape_at(following, environment, steps) {
         EscapeFound::Character {
             kind,
             value,
@@ -192,7 +200,7 @@ fn character_at<C: Counter>(behind: &[CodePoint], environment: Environment, step
             leaf: Leaf::Character { kind, value },
             length: length + 1,
         },
-        EscapeFound::Nothing => Found::Halt(Halt::Stop { behind: 1 }),
+        EscapeFound::Nothing => Found::Halt(Halt::Stop { following: 1 }),
         EscapeFound::TooMany { digits } => {
             Found::Halt(Halt::TooManyHexDigits { start: 3, digits })
         }
@@ -203,36 +211,36 @@ fn character_at<C: Counter>(behind: &[CodePoint], environment: Environment, step
     }
 }
 
-/// The character escape that the units behind a backslash begin with, outside classes: with neither `u` nor `v` also one of ECMA-262, B.1.2.
+/// The character escape that the units after a backslash begin with, outside classes: with neither `u` nor `v` also one of ECMA-262, B.1.2.
 fn any_escape_at<C: Counter>(
-    behind: &[CodePoint],
+    following: &[CodePoint],
     environment: Environment,
     steps: &mut C,
 ) -> EscapeFound
-    ensures read { seen_escape result ≡ any_escape_at false (seen_environment environment) (values behind.now) }
-    ensures within { (kind : CharacterKind) (value n : ℕ) → result ≡ EscapeFound.Character kind value n → n ≤ length behind.now }
-    ensures steps { Rises (C.count steps.old) (C.count steps.new) 0 (escape_looks behind.now result) }
+    ensures read { seen_escape result ≡ any_escape_at false (seen_environment environment) (values following.now) }
+    ensures within { (kind : CharacterKind) (value n : ℕ) → result ≡ EscapeFound.Character kind value n → n ≤ length following.now }
+    ensures steps { Rises (C.count steps.old) (C.count steps.new) 0 (escape_looks following.now result) }
 {
-    escape_in_mode(behind, environment, steps)
+    escape_in_mode(following, environment, steps)
 }
 
 fn escape_in_mode<C: Counter>(
-    behind: &[CodePoint],
+    following: &[CodePoint],
     environment: Environment,
     steps: &mut C,
 ) -> EscapeFound
-    ensures read { seen_escape result ≡ any_escape_at false (seen_environment environment) (values behind.now) }
-    ensures steps { Rises (C.count steps.old) (C.count steps.new) 0 (escape_looks behind.now result) }
+    ensures read { seen_escape result ≡ any_escape_at false (seen_environment environment) (values following.now) }
+    ensures steps { Rises (C.count steps.old) (C.count steps.new) 0 (escape_looks following.now result) }
 {
     let unicode_mode = environment.mode.is_unicode();
-    match character_escape_at(behind, unicode_mode, steps) {
+    match character_escape_at(following, unicode_mode, steps) {
         EscapeFound::Nothing | EscapeFound::Invalid if !unicode_mode => {
             let context = LegacyContext {
                 inside: false,
                 groups: environment.groups,
                 named: environment.is_named(),
             };
-            legacy_escape_at(behind, context, steps)
+            legacy_escape_at(following, context, steps)
         }
         found => found,
     }
@@ -241,21 +249,21 @@ fn escape_in_mode<C: Counter>(
 /// What the units begin with, whose first is neither a backslash nor `[` nor stands for itself.
 fn syntax_at<C: Counter>(
     first: u32,
-    behind: &[CodePoint],
+    following: &[CodePoint],
     units: &[CodePoint],
     mode: Mode,
     steps: &mut C,
 ) -> Found
-    requires { values units.now ≡ first ∷ values behind.now }
-    ensures found { (buffers : Bool) (groups : ℕ) (has_names : Bool) → result ≡ found_front (syntax_read (environment_with mode buffers groups has_names) first (values behind.now)) }
-    ensures steps { LooksAtSyntax (C.count steps.old) (C.count steps.new) (length behind.now) result }
+    requires { values units.now ≡ first ∷ values following.now }
+    ensures found { (buffers : Bool) (groups : ℕ) (has_names : Bool) → result ≡ found_front (syntax_read (environment_with mode buffers groups has_names) first (values following.now)) }
+    ensures steps { LooksAtSyntax (C.count steps.old) (C.count steps.new) (length following.now) result }
 {
     match char::from_u32(first) {
         Some('.') => Found::Leaf {
             leaf: Leaf::Dot,
             length: 1,
         },
-        Some('(') => group_at(behind, mode.is_unicode(), steps),
+        Some('(') => group_at(following, mode.is_unicode(), steps),
         Some(')') => Found::Close,
         Some('|') => Found::Bar,
         Some('^') => Found::Leaf {
@@ -277,7 +285,7 @@ fn quantifier_at<C: Counter>(units: &[CodePoint], steps: &mut C) -> Found
 {
     match counts_at(units, steps) {
         CountsFound::Counts { min, max, length } => quantifier(units, min, max, length),
-        CountsFound::Nothing => Found::Halt(Halt::Stop { behind: 0 }),
+        CountsFound::Nothing => Found::Halt(Halt::Stop { following: 0 }),
         CountsFound::TooMany { start, digits } => {
             Found::Halt(Halt::TooManyDigits { start, digits })
         }

@@ -12,13 +12,13 @@ use rx_ast::LookAroundAssertionKind;
 use rx_base::Counter;
 use rx_units::CodePoint;
 
-/// The group or look-around that `(` and the units behind it begin (Atom and Assertion of ECMA-262, 22.2.1), or why they begin none.
-pub fn group_at<C: Counter>(behind: &[CodePoint], unicode_mode: bool, steps: &mut C) -> Found
-    ensures found { result ≡ found_front (group_read unicode_mode (values behind.now)) }
-    ensures steps { LooksAtSyntax (C.count steps.old) (C.count steps.new) (length behind.now) result }
+/// The group or look-around that `(` and the units after it begin (Atom and Assertion of ECMA-262, 22.2.1), or why they begin none.
+pub fn group_at<C: Counter>(following: &[CodePoint], unicode_mode: bool, steps: &mut C) -> Found
+    ensures found { result ≡ found_front (group_read unicode_mode (values following.now)) }
+    ensures steps { LooksAtSyntax (C.count steps.old) (C.count steps.new) (length following.now) result }
 {
-    match behind {
-        [question, more @ ..] if question.value == '?' as u32 => behind_question(
+    match following {
+        [question, more @ ..] if question.value == '?' as u32 => after_question(
             more,
             unicode_mode,
             steps,
@@ -33,8 +33,8 @@ fn opens(opener: OpenerFound, length: usize) -> Found
     Found::Open { opener, length }
 }
 
-/// The group behind `(?`.
-fn behind_question<C: Counter>(units: &[CodePoint], unicode_mode: bool, steps: &mut C) -> Found
+/// The group after `(?`.
+fn after_question<C: Counter>(units: &[CodePoint], unicode_mode: bool, steps: &mut C) -> Found
     ensures found { result ≡ found_front (question_read unicode_mode (values units.now)) }
     ensures steps { LooksAtSyntax (C.count steps.old) (C.count steps.new) (length units.now) result }
 {
@@ -48,7 +48,7 @@ fn behind_question<C: Counter>(units: &[CodePoint], unicode_mode: bool, steps: &
             LookAroundAssertionKind::NegativeLookahead,
             3,
         ),
-        [mark, more @ ..] if mark.value == '<' as u32 => behind_angle(more, unicode_mode, steps),
+        [mark, more @ ..] if mark.value == '<' as u32 => after_angle(more, unicode_mode, steps),
         _ => modifiers_at(units, steps),
     }
 }
@@ -59,8 +59,8 @@ fn look_around(kind: LookAroundAssertionKind, length: usize) -> Found
     opens(OpenerFound::LookAround(kind), length)
 }
 
-/// The group behind `(?<`.
-fn behind_angle<C: Counter>(units: &[CodePoint], unicode_mode: bool, steps: &mut C) -> Found
+/// The group after `(?<`.
+fn after_angle<C: Counter>(units: &[CodePoint], unicode_mode: bool, steps: &mut C) -> Found
     ensures found { result ≡ found_front (angle_read unicode_mode (values units.now)) }
     ensures steps { LooksAtSyntax (C.count steps.old) (C.count steps.new) (length units.now) result }
 {
@@ -77,7 +77,7 @@ fn behind_angle<C: Counter>(units: &[CodePoint], unicode_mode: bool, steps: &mut
     }
 }
 
-/// The group behind `(?<`, where no look behind begins.
+/// The group after `(?<`, where no lookbehind begins.
 fn named<C: Counter>(units: &[CodePoint], unicode_mode: bool, steps: &mut C) -> Found
     ensures found { result ≡ found_front (named_group_read (name_read_at unicode_mode (values units.now))) }
     ensures steps { LooksAtSyntax (C.count steps.old) (C.count steps.new) (length units.now) result }

@@ -24,7 +24,7 @@ struct Sides<'a> {
     length: usize,
 }
 
-/// The group that `(?` and the modifiers behind it begin; or why they may not stand there.
+/// The group that `(?` and the modifiers after it begin; or why they may not stand there.
 pub fn modifiers_at<C: Counter>(units: &[CodePoint], steps: &mut C) -> Found
     ensures found { result ≡ found_front (modified_read (modifiers_read_at (values units.now))) }
     ensures steps { LooksAtSyntax (C.count steps.old) (C.count steps.new) (length units.now) result }
@@ -78,11 +78,11 @@ fn sides_at<'a, C: Counter>(units: &'a [CodePoint], steps: &mut C) -> Sides<'a>
 {
     let count = letters_at(units, steps);
     match &units[count..] {
-        [dash, behind @ ..] if dash.value == '-' as u32 => {
-            let more = letters_at(behind, steps);
+        [dash, following @ ..] if dash.value == '-' as u32 => {
+            let more = letters_at(following, steps);
             Sides {
                 enabling: &units[..count],
-                disabling: &behind[..more],
+                disabling: &following[..more],
                 length: count + 1 + more,
             }
         }

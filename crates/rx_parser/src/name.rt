@@ -1,9 +1,10 @@
 ghost use Rattle.std.specs.Prelude.{◌≡◌, IsTrue, true, false, ℕ, ◌+◌, ◌^◌, ◌<◌, ◌≤◌, List, length};
+ghost use Rattle.rx_base.specs.Ascii as ascii;
 ghost use Rattle.rx_base.specs.Rising.{Rises};
 ghost use Rattle.rx_units.specs.Units.{values};
 ghost use Rattle.rx_model.specs.Characters.Decoding.{decoded};
 ghost use Rattle.rx_model.specs.FirstPass.Marks.{starts};
-ghost use Rattle.rx_model.specs.Groups.NameFronts.{begins_pair, escape_halt, name_read_at, read_behind_name};
+ghost use Rattle.rx_model.specs.Groups.NameFronts.{begins_pair, escape_halt, name_read_at, read_after_name};
 ghost use Rattle.rx_parser.specs.HaltPlaces.{halt_end};
 ghost use Rattle.rx_parser.specs.Names.{found_name, found_name_halt, name_end};
 ghost use Rattle.rx_parser.specs.Pace.{halt_looks, name_looks};
@@ -15,7 +16,7 @@ use rx_base::{Counter, is_lead_surrogate, is_trail_surrogate};
 use rx_scan::{UnicodeEscape, decode_counted, group_name_length_counted};
 use rx_units::CodePoint;
 
-/// What stands behind `(?<` or `\k<`.
+/// What stands after `(?<` or `\k<`.
 #[derive(Clone, Copy, Debug)]
 pub enum NameFound {
     /// A name of n units, and `>`.
@@ -24,33 +25,33 @@ pub enum NameFound {
     Halt(Halt),
 }
 
-/// The name behind `(?<` or `\k<` (GroupName of ECMA-262, 22.2.1), or why there is none.
+/// The name after `(?<` or `\k<` (GroupName of ECMA-262, 22.2.1), or why there is none.
 pub fn name_at<C: Counter>(units: &[CodePoint], unicode_mode: bool, steps: &mut C) -> NameFound
     ensures read { result ≡ found_name (name_read_at unicode_mode (values units.now)) }
     ensures within { name_end result ≤ length units.now + 3 }
     ensures steps { Rises (C.count steps.old) (C.count steps.new) 0 (name_looks (length units.now) result) }
 {
     let length = group_name_length_counted(units, unicode_mode, steps);
-    behind_name(length, tail(units, length), unicode_mode, steps)
+    after_name(length, tail(units, length), unicode_mode, steps)
 }
 
-/// What stands behind n units of a name.
-fn behind_name<C: Counter>(
+/// What stands after n units of a name.
+fn after_name<C: Counter>(
     count: usize,
     units: &[CodePoint],
     unicode_mode: bool,
     steps: &mut C,
 ) -> NameFound
     requires { count + 6 + length units.now < 2 ^ 64 }
-    ensures read { (name : List ℕ) → result ≡ found_name (read_behind_name unicode_mode name count (values units.now)) }
+    ensures read { (name : List ℕ) → result ≡ found_name (read_after_name unicode_mode name count (values units.now)) }
     ensures within { name_end result ≤ count + length units.now + 3 }
-    ensures ends { (n : ℕ) → result ≡ NameFound.Name n → (n ≡ count) × (starts 92 (values units.now) ≡ false) }
+    ensures ends { (n : ℕ) → result ≡ NameFound.Name n → (n ≡ count) × (starts ascii.backslash (values units.now) ≡ false) }
     ensures steps { Rises (C.count steps.old) (C.count steps.new) 0 (halt_looks (length units.now) result) }
 {
     match units {
         [end, ..] if count > 0 && end.value == '>' as u32 => NameFound::Name { length: count },
-        [backslash, behind @ ..] if backslash.value == '\\' as u32 => {
-            NameFound::Halt(escape_in_name(count, behind, unicode_mode, steps))
+        [backslash, following @ ..] if backslash.value == '\\' as u32 => {
+            NameFound::Halt(escape_in_name(count, following, unicode_mode, steps))
         }
         _ if !unicode_mode && begins_with_pair(units) => {
             NameFound::Halt(Halt::MisplacedPair { start: count + 3 })
@@ -70,19 +71,19 @@ fn begins_with_pair(units: &[CodePoint]) -> bool
     }
 }
 
-/// Why what stands behind n units of a name and a backslash is none of the name's characters.
+/// Why what stands after n units of a name and a backslash is none of the name's characters.
 fn escape_in_name<C: Counter>(
     count: usize,
-    behind: &[CodePoint],
+    following: &[CodePoint],
     unicode_mode: bool,
     steps: &mut C,
 ) -> Halt
-    requires { count + 6 + length behind.now < 2 ^ 64 }
-    ensures read { result ≡ found_name_halt (escape_halt unicode_mode count (values behind.now) (decoded true (values behind.now))) }
-    ensures within { halt_end result ≤ count + 4 + length behind.now }
-    ensures steps { Rises (C.count steps.old) (C.count steps.new) 0 (length behind.now + 4) }
+    requires { count + 6 + length following.now < 2 ^ 64 }
+    ensures read { result ≡ found_name_halt (escape_halt unicode_mode count (values following.now) (decoded true (values following.now))) }
+    ensures within { halt_end result ≤ count + 4 + length following.now }
+    ensures steps { Rises (C.count steps.old) (C.count steps.new) 0 (length following.now + 4) }
 {
-    match decode_counted(behind, true, steps) {
+    match decode_counted(following, true, steps) {
         UnicodeEscape::Value { length: escape, .. } => Halt::InvalidEscape {
             start: count + 3,
             length: escape + 1,
@@ -91,7 +92,7 @@ fn escape_in_name<C: Counter>(
             start: count + 6,
             digits,
         },
-        UnicodeEscape::Invalid if unicode_mode && begins_with_u(behind) => Halt::InvalidEscape {
+        UnicodeEscape::Invalid if unicode_mode && begins_with_u(following) => Halt::InvalidEscape {
             start: count + 4,
             length: 1,
         },
@@ -103,7 +104,7 @@ fn escape_in_name<C: Counter>(
 }
 
 fn begins_with_u(units: &[CodePoint]) -> bool
-    ensures { result ≡ starts 117 (values units.now) }
+    ensures { result ≡ starts ascii.u (values units.now) }
 {
     units.first().is_some_and(|unit| unit.value == 'u' as u32)
 }

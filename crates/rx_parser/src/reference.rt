@@ -4,7 +4,7 @@ ghost use Rattle.rx_units.specs.Units.{values};
 ghost use Rattle.rx_model.specs.Groups.NameFronts.{name_read_at};
 ghost use Rattle.rx_model.specs.Reading.FrontReading.{indexed_read, reference_read, with_name};
 ghost use Rattle.rx_model.specs.Characters.LegacyEscapes.{begins_run, run_number};
-ghost use Rattle.rx_model.specs.Reading.Fronts.{digits_behind, is_reference};
+ghost use Rattle.rx_model.specs.Reading.Fronts.{digits_after, is_reference};
 ghost use Rattle.rx_model.specs.Trees.Token.{named};
 ghost use Rattle.rx_parser.specs.Environments.{seen_environment};
 ghost use Rattle.rx_parser.specs.Found.{found_front};
@@ -18,19 +18,19 @@ use rx_base::Counter;
 use rx_tables::is_decimal_digit;
 use rx_units::CodePoint;
 
-/// Whether a reference by number stands behind a backslash (DecimalEscape of ECMA-262, 22.2.1): with neither `u` nor `v` one whose number is at most that
+/// Whether a reference by number stands after a backslash (DecimalEscape of ECMA-262, 22.2.1): with neither `u` nor `v` one whose number is at most that
 /// of the groups (B.1.2).
 pub fn is_reference<C: Counter>(
-    behind: &[CodePoint],
+    following: &[CodePoint],
     environment: Environment,
     steps: &mut C,
 ) -> bool
     requires few { environment.groups < 2 ^ 32 - 1 }
-    ensures reference { result ≡ is_reference (seen_environment environment) (values behind.now) }
-    ensures steps { Rises (C.count steps.old) (C.count steps.new) 0 (min (2 * digit_run behind.now) (digit_run behind.now + 1)) }
+    ensures reference { result ≡ is_reference (seen_environment environment) (values following.now) }
+    ensures steps { Rises (C.count steps.old) (C.count steps.new) 0 (min (2 * digit_run following.now) (digit_run following.now + 1)) }
 {
-    begins_with_first_digit(behind)
-        && (environment.mode.is_unicode() || is_at_most(behind, environment.groups, steps))
+    begins_with_first_digit(following)
+        && (environment.mode.is_unicode() || is_at_most(following, environment.groups, steps))
 }
 
 /// Whether a digit from 1 to 9 stands first.
@@ -52,13 +52,13 @@ fn is_at_most<C: Counter>(units: &[CodePoint], groups: u32, steps: &mut C) -> bo
     number <= groups
 }
 
-/// The reference behind a backslash, whose number begins with a digit that is not 0 (DecimalEscape of ECMA-262, 22.2.1), in a pattern with n groups.
-pub fn indexed_at<C: Counter>(behind: &[CodePoint], groups: u32, steps: &mut C) -> Found
+/// The reference after a backslash, whose number begins with a digit that is not 0 (DecimalEscape of ECMA-262, 22.2.1), in a pattern with n groups.
+pub fn indexed_at<C: Counter>(following: &[CodePoint], groups: u32, steps: &mut C) -> Found
     requires few { groups < 2 ^ 32 - 1 }
-    ensures found { result ≡ found_front (indexed_read groups (digits_behind 0 0 (values behind.now))) }
-    ensures steps { LooksAtSyntax (C.count steps.old) (C.count steps.new) (length behind.now) result }
+    ensures found { result ≡ found_front (indexed_read groups (digits_after 0 0 (values following.now))) }
+    ensures steps { LooksAtSyntax (C.count steps.old) (C.count steps.new) (length following.now) result }
 {
-    let (index, count) = number_at(behind, steps);
+    let (index, count) = number_at(following, steps);
     let length = count + 1;
     if index > groups {
         return Found::Halt(Halt::NoSuchGroup { length });
@@ -69,18 +69,18 @@ pub fn indexed_at<C: Counter>(behind: &[CodePoint], groups: u32, steps: &mut C) 
     }
 }
 
-/// The reference by name behind `\k` (AtomEscape of ECMA-262, 22.2.1).
-pub fn named_at<C: Counter>(behind: &[CodePoint], unicode_mode: bool, steps: &mut C) -> Found
-    ensures found { result ≡ found_front (reference_read unicode_mode (values behind.now)) }
-    ensures steps { LooksAtSyntax (C.count steps.old) (C.count steps.new) (length behind.now) result }
+/// The reference by name after `\k` (AtomEscape of ECMA-262, 22.2.1).
+pub fn named_at<C: Counter>(following: &[CodePoint], unicode_mode: bool, steps: &mut C) -> Found
+    ensures found { result ≡ found_front (reference_read unicode_mode (values following.now)) }
+    ensures steps { LooksAtSyntax (C.count steps.old) (C.count steps.new) (length following.now) result }
 {
-    match behind {
+    match following {
         [angle, name @ ..] if angle.value == '<' as u32 => named(name, unicode_mode, steps),
         _ => Found::Halt(Halt::NoGroupName),
     }
 }
 
-/// The reference by name behind `\k<`.
+/// The reference by name after `\k<`.
 fn named<C: Counter>(units: &[CodePoint], unicode_mode: bool, steps: &mut C) -> Found
     ensures found { result ≡ found_front (with_name named (name_read_at unicode_mode (values units.now))) }
     ensures steps { LooksAtSyntax (C.count steps.old) (C.count steps.new) (length units.now) result }

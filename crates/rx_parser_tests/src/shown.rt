@@ -21,7 +21,7 @@ fn add_alternative(
     Ok(())
 }
 
-/// The span of a pattern; and behind a bar that of each alternative, and those of its terms.
+/// The span of a pattern; and after a bar that of each alternative, and those of its terms.
 pub fn outline(alloc: Global, pattern: &Pattern) -> Result<String, OutOfMemory> {
     let mut shown = String::new(alloc);
     add(alloc, &mut shown, "", pattern.span)?;

@@ -121,7 +121,7 @@ a{2 => 7
     agree(rt.alloc(), &UNICODE, rows)
 }
 
-/// Eighty times a text, one behind the other: the worst of each loop.
+/// Eighty times a text, one after the other: the worst of each loop.
 #[derive(Clone, Copy)]
 struct EightyTimes {
     each: StepsCall,

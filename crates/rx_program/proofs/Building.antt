@@ -99,9 +99,9 @@ module _ (names : Names) where
     split_terms_ahead ns n [] = refl
     split_terms_ahead ns n (next ∷ cs) = ap (λ c. all_worked names ws (c ∷ cs)) (nodes-last ns n e (groups_left ws) next)
 
-    pub split_terms_behind : (n : Node) (ns : Nodes) (cs : List Code) → all_worked names (terms e true (node n ns) ∷ ws) cs ≡ all_worked names (terms e true ns ∷ swapping ∷ term e true n ∷ sequencing ∷ ws) (accept ∷ cs)
-    split_terms_behind n ns [] = refl
-    split_terms_behind n ns (next ∷ cs) =
+    pub split_terms_after : (n : Node) (ns : Nodes) (cs : List Code) → all_worked names (terms e true (node n ns) ∷ ws) cs ≡ all_worked names (terms e true ns ∷ swapping ∷ term e true n ∷ sequencing ∷ ws) (accept ∷ cs)
+    split_terms_after n ns [] = refl
+    split_terms_after n ns (next ∷ cs) =
         let k : groups_left ws + groups_in n ≡ groups_in n + groups_left ws = omega arith in
         ap (λ k. all_worked names ws (sequence (nodes_code names ns e true k accept) (node_code names n e true (groups_left ws) next) ∷ cs)) k
 

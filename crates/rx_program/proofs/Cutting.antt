@@ -16,7 +16,7 @@ use Rattle.rx_program.specs.Codes.{Code, accept, reject}
 use Rattle.rx_program.specs.Steps.{code_at}
 use Rattle.rx_program.specs.Works.{Work, disjunction, earlier, terms, term, capturing, looking, repeating, entering, choosing, swapping, sequencing, groups_left, tests_left, on_one, all_worked, weights}
 use Rattle.rx_program.specs.Built.{settings_of, disjunction_work, earlier_work, terms_work, term_work, work_of, works, codes_of, with_code, with_task, IsBuilding, Replaces, Builds}
-use Rattle.rx_program.proofs.Building.{with_last, with_last_alternative, nodes_last, alternatives_last, groups_last, groups_last_alternative, weight_last, weight_last_alternative, split_capturing, split_looking, split_ignoring, split_quantified, split_terms_ahead, split_terms_behind, split_no_terms, split_disjunction, split_earlier, split_no_earlier}
+use Rattle.rx_program.proofs.Building.{with_last, with_last_alternative, nodes_last, alternatives_last, groups_last, groups_last_alternative, weight_last, weight_last_alternative, split_capturing, split_looking, split_ignoring, split_quantified, split_terms_ahead, split_terms_after, split_no_terms, split_disjunction, split_earlier, split_no_earlier}
 use Rattle.rx_program.proofs.Builders.{codes_with, program_with, program_without, program_tasks, builds, splits, works_with}
 use Rattle.rx_program.proofs.TestOrder.{nodes_tests-last, each_tests-last}
 
@@ -52,9 +52,9 @@ cuts_ahead b after e ts more last t u ahead cut is is' pushed =
     (works_two b t u (terms s false ns) (term s false n) (λ k. is k ∙ ap (λ x. terms s x ns) ahead) (λ k. is' k ∙ ap (λ x. term s x n) ahead)) refl
     (split_terms_ahead b.names.now (works b) s false ns n (codes_of b)) (omega arith) (nodes_tests-last ns n (tests_left (works b))) (omega arith))
 
-pub cuts_behind : (b after : Builder) (e : Setting) (ts more : List Term) (first : Term) (t u v w : Task) → e.back ≡ true → ts ≡ first ∷ more → ((n : ℕ) → work_of n t ≡ sequencing) → ((n : ℕ) → work_of n u ≡ term_work e first)
+pub cuts_after : (b after : Builder) (e : Setting) (ts more : List Term) (first : Term) (t u v w : Task) → e.back ≡ true → ts ≡ first ∷ more → ((n : ℕ) → work_of n t ≡ sequencing) → ((n : ℕ) → work_of n u ≡ term_work e first)
     → ((n : ℕ) → work_of n v ≡ swapping) → ((n : ℕ) → work_of n w ≡ terms_work e more) → after ≡ with_task (with_task (with_task (with_task (with_code b 0) t) u) v) w → IsBuilding b (terms_work e ts ∷ works b) → Builds b (terms_work e ts) after
-cuts_behind b after e ts more first t u v w back cut is is' is'' is''' pushed =
+cuts_after b after e ts more first t u v w back cut is is' is'' is''' pushed =
     let s = settings_of e in
     let ns = nodes (map mirror_term more) in
     let n = mirror_term first in
@@ -65,7 +65,7 @@ cuts_behind b after e ts more first t u v w back cut is is' is'' is''' pushed =
     (program_tasks (with_task d v) w (program_tasks d v (program_tasks (with_task c t) u (program_tasks c t (program_with b 0 sound.program.some sound.program)))))
     (works_two d v w swapping (terms s true ns) is'' (λ k. is''' k ∙ ap (λ x. terms s x ns) back) ∙ ap (λ ws. terms s true ns ∷ swapping ∷ ws) (works_two c t u sequencing (term s true n) is (λ k. is' k ∙ ap (λ x. term s x n) back)))
     (codes_with b 0 ∙ ap (λ c. c ∷ codes_of b) sound.program.end)
-    (split_terms_behind b.names.now (works b) s true n ns (codes_of b)) (omega arith) refl (omega arith))
+    (split_terms_after b.names.now (works b) s true n ns (codes_of b)) (omega arith) refl (omega arith))
 
 pub cuts_disjunction : (b d after : Builder) (e : Setting) (all more : List Alternative) (last : Alternative) (body : List Term) (next : ℕ) (t u : Task) → all ≡ more ++ (last ∷ []) → (mirror_alternative last).1 ≡ nodes (map mirror_term body)
     → ((n : ℕ) → work_of n t ≡ earlier_work e more) → ((n : ℕ) → work_of n u ≡ terms_work e body) → b ≡ with_code d next → after ≡ with_task (with_task (with_code (with_code d next) next) t) u

@@ -1,13 +1,14 @@
 -- What a row of checks holds.
 use Rattle.std.specs.Prelude.{ℕ, zero, suc, ◌-◌, Bool, true, false, ◌==◌, nat_lt, if◌then◌else◌, Option, Some, None, List, length, slice_get}
 use Rattle.std.specs.Int.{bit_at}
+use Rattle.rx_base.specs.Characters.{is_within}
 use Rattle.rx_program.specs.declared.checks.Check.{Check}
 use Rattle.rx_program.specs.declared.checks.ClassRow.{ClassRow}
 use Rattle.rx_program.specs.declared.checks.ItemTest.{ItemTest}
 use Rattle.rx_program.specs.declared.checks.ItemTest.TheVariants as item
 use Rattle.rx_program.specs.declared.checks.Target.{Target}
 use Rattle.rx_program.specs.declared.checks.Target.TheVariants as target
-use Rattle.rx_trace.specs.Holding.{is_within, escape_holds}
+use Rattle.rx_trace.specs.Holding.{escape_holds}
 
 abbrev pub item_holds : ItemTest → ℕ → Bool
 item_holds (item.Range low high) c = is_within low high c

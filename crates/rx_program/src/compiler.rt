@@ -125,7 +125,7 @@ impl<'a> Builder<'a> {
         self.push_task(Task::Term { setting, term })
     }
 
-    fn terms_behind(&mut self, setting: Setting, terms: &'a [Term]) -> Result<(), OutOfMemory>
+    fn terms_after(&mut self, setting: Setting, terms: &'a [Term]) -> Result<(), OutOfMemory>
         requires sound { IsBuilding self.old (terms_work setting terms.now ∷ works self.old) }
         requires back { setting.back ≡ true }
         ensures { OnOk result (Builds self.old (terms_work setting terms.now) self.new) }
@@ -145,7 +145,7 @@ impl<'a> Builder<'a> {
         ensures { OnOk result (Builds self.old (terms_work setting terms.now) self.new) }
     {
         if setting.back {
-            self.terms_behind(setting, terms)
+            self.terms_after(setting, terms)
         } else {
             self.terms_ahead(setting, terms)
         }

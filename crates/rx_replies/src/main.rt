@@ -2,7 +2,7 @@
 //!
 //! The table is text, read from standard input, by lines:
 //!
-//! - `# HEADING` says what the rows behind it are about.
+//! - `# HEADING` says what the rows after it are about.
 //! - `PATTERN` TAB `REPLY` is a row. The pattern ends at the first TAB, and the reply is all that the program writes for it.
 //! - `form: C` and `flags: iu` say how the rows after them are asked, up to the next heading, where the form is `L` again and the flags are `u`.
 //! - `words: strict` says with which words the program is run for the rows after it, up to the next heading, where there are none again. Single spaces stand between two words.

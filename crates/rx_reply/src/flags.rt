@@ -1,5 +1,5 @@
 ghost use Rattle.std.specs.Prelude.{◌≡◌};
-ghost use Rattle.rx_visit.specs.Flags.{holds};
+ghost use Rattle.rx_base.specs.Flags.{holds};
 
 /// Whether a flag stands among the letters of a request's flags.
 pub fn has_flag(letters: &[u8], flag: u8) -> bool

@@ -2,11 +2,12 @@
 use Rattle.std.proofs.Common.{◌≡◌, refl, ap, ap₂, sym, subst, ◌∙◌, ℕ, zero, suc, ◌+◌, Bool, true, false, if◌then◌else◌, Option, Some, None, List, [], ◌∷◌, Contains, inl, inr, arith}
 use Rattle.std.specs.Prelude.{replicate, map}
 use Rattle.std.proofs.lemmas.Bool.{false≢true}
+use Rattle.rx_base.specs.Texts.{is_among}
 use Rattle.rx_ast.specs.declared.term.Pattern.{Pattern}
 use Rattle.rx_ast.specs.Tree as tree
 use Rattle.rx_ast.specs.Tree.{Leaf, Opener, Node, Nodes, Alternatives, Whole, leaf, quantified, group, no_node, node, no_alternative, alternative, capturing, ignoring, looking, mirror, mirror_disjunction}
 use Rattle.rx_model.specs.declared.mode.Mode.{Mode}
-use Rattle.rx_model.specs.Trees.Names.{node_groups, nodes_groups, alternatives_groups, node_names, nodes_names, alternatives_names, opener_names, is_among, once_behind, groups, names, AreApart, IsNodeApart, AreNodesApart, AreAlternativesApart, AreDistinct, AreNamesEarly}
+use Rattle.rx_model.specs.Trees.Names.{node_groups, nodes_groups, alternatives_groups, node_names, nodes_names, alternatives_names, opener_names, once_after, groups, names, AreApart, IsNodeApart, AreNodesApart, AreAlternativesApart, AreDistinct, AreNamesEarly}
 use Rattle.rx_model.specs.Trees.Shapes.{takes, IsNode, AreNodes, HasAlternatives, AreAlternatives, IsWellMade}
 use Rattle.rx_trace.specs.declared.answer.MatchFlags.{MatchFlags}
 use Rattle.rx_trace.specs.Answers.{settings}
@@ -41,17 +42,17 @@ given-none zero = refl
 given-none (suc k) = given-none k
 
 -- A name that comes once is there.
-pub once-there : (seen ns : List (List ℕ)) (name : List ℕ) → Contains (once_behind seen ns) name → Contains ns name
+pub once-there : (seen ns : List (List ℕ)) (name : List ℕ) → Contains (once_after seen ns) name → Contains ns name
 once-there seen [] name there = there
 once-there seen (n ∷ ns) name there = by_test (is_among seen n) there (once-there seen ns name) (once-there (n ∷ seen) ns name)
   where
     later : Contains ns name → Contains (n ∷ ns) name
     later (k, l, e) = (suc k, omega (arith, l), e)
 
-    by_test : (b : Bool) → Contains (if b then once_behind seen ns else n ∷ once_behind (n ∷ seen) ns) name → (Contains (once_behind seen ns) name → Contains ns name)
-        → (Contains (once_behind (n ∷ seen) ns) name → Contains ns name) → Contains (n ∷ ns) name
+    by_test : (b : Bool) → Contains (if b then once_after seen ns else n ∷ once_after (n ∷ seen) ns) name → (Contains (once_after seen ns) name → Contains ns name)
+        → (Contains (once_after (n ∷ seen) ns) name → Contains ns name) → Contains (n ∷ ns) name
     by_test true there old new = later (old there)
-    by_test false there old new = elim (contains_cases n (once_behind (n ∷ seen) ns) name there) [ inl same ↦ (0, omega arith, same) | inr more ↦ later (new more) ]
+    by_test false there old new = elim (contains_cases n (once_after (n ∷ seen) ns) name there) [ inl same ↦ (0, omega arith, same) | inr more ↦ later (new more) ]
 
 no_contains : (name : List ℕ) → Contains [] name → ⊥
 no_contains name there = let low = there.1 in absurd (omega arith)
@@ -201,11 +202,11 @@ module _ (what : Rewrites) (flags : MatchFlags) (p q : Pattern) (is : mirror q �
 
   -- no name, where names are to go,
   pub no_names : what.named_capture_groups ≡ true → names q ≡ []
-  no_names asked = ap (once_behind []) (no_own_names asked)
+  no_names asked = ap (once_after []) (no_own_names asked)
 
   -- else the same names,
   pub all_names : what.named_capture_groups ≡ false → names q ≡ names p
-  all_names not_asked = ap (once_behind []) (all_own_names not_asked)
+  all_names not_asked = ap (once_after []) (all_own_names not_asked)
 
   -- which keep the early rule,
   pub its_names_early : (duplicate_names : Bool) → AreNamesEarly duplicate_names (mirror_disjunction p.body).1 → AreNamesEarly duplicate_names (mirror_disjunction q.body).1

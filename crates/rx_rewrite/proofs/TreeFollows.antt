@@ -12,7 +12,7 @@ use Rattle.rx_ast.specs.Tree as tree
 use Rattle.rx_ast.specs.Tree.{Leaf, Node, Nodes, Alternatives, leaf, quantified, group, no_node, node, no_alternative, alternative, capturing, ignoring, looking}
 use Rattle.rx_model.specs.Trees.Names.{AreDistinct}
 use Rattle.rx_trace.specs.Traces.{State, Trace, tick, reached, and_then, front, first, states}
-use Rattle.rx_trace.specs.Holding.{is_line_terminator, class_holds, holds_at, is_nothing, ahead, behind, boundary_holds}
+use Rattle.rx_trace.specs.Holding.{is_line_terminator, class_holds, holds_at, is_nothing, ahead, preceding, boundary_holds}
 use Rattle.rx_trace.specs.Groups.{Names, groups_in, groups_in_all, unset_in, captured}
 use Rattle.rx_trace.specs.Repeats.{repeat_trace}
 use Rattle.rx_trace.specs.Matching.{Settings, changed, moved_to, held_to, if_holds, where_none, looks_back, over_unit, back_reference_trace, leaf_trace, node_trace, nodes_trace, alternatives_trace}
@@ -23,10 +23,10 @@ use Rattle.rx_rewrite.proofs.NamedSlots.{given_names, named_slot}
 use Rattle.rx_rewrite.proofs.SameGroups.{groups-node, groups-all}
 
 -- A negative look-around for a class takes a Tick for the class, and stays where it is where no unit that is held stands beside it.
-none_behind : (holds : ℕ → Bool) (o : Option ℕ) (p : ℕ) (s : State) →
+none_after : (holds : ℕ → Bool) (o : Option ℕ) (p : ℕ) (s : State) →
     front ((tick ∷ moved_to (held_to holds p o) s ++ []) ++ []) ++ where_none (first ((moved_to (held_to holds p o) s ++ []) ++ [])) s ≡ tick ∷ if_holds (not (holds_at holds o)) s
-none_behind holds None p s = refl
-none_behind holds (Some c) p s = by_test (holds c)
+none_after holds None p s = refl
+none_after holds (Some c) p s = by_test (holds c)
   where
     by_test : (b : Bool) → let t = moved_to (if b then Some p else None) s in front ((tick ∷ t ++ []) ++ []) ++ where_none (first ((t ++ []) ++ [])) s ≡ tick ∷ if_holds (not b) s
     by_test true = refl
@@ -68,8 +68,8 @@ end_of_input span (Some c) = refl
 
 module _ (input : List ℕ) (names : Names) where
   look_behind_for : (span : Span) (c : Class) (e : Settings) (back : Bool) (before : ℕ) (s : State) →
-      node_trace input names (look_for span look.NegativeLookbehind c) e back before s ≡ tick ∷ tick ∷ if_holds (not (holds_at (class_holds c) (behind input s.place))) s
-  look_behind_for span c e back before s = ap (λ t. tick ∷ t) (none_behind (class_holds c) (behind input s.place) (s.place - 1) s)
+      node_trace input names (look_for span look.NegativeLookbehind c) e back before s ≡ tick ∷ tick ∷ if_holds (not (holds_at (class_holds c) (preceding input s.place))) s
+  look_behind_for span c e back before s = ap (λ t. tick ∷ t) (none_after (class_holds c) (preceding input s.place) (s.place - 1) s)
 
   look_ahead_for : (span : Span) (c : Class) (e : Settings) (back : Bool) (before : ℕ) (s : State) →
       node_trace input names (look_for span look.NegativeLookahead c) e back before s ≡ tick ∷ tick ∷ if_holds (not (holds_at (class_holds c) (ahead input s.place))) s
@@ -94,14 +94,14 @@ module _ (input : List ℕ) (names : Names) where
       StandsFor old at.Start (record { multiline = new; dot_all = d }) back before s (end_rewritten asked old new look.NegativeLookbehind b)
   start_follows asked old new d b is back before s = by_settings asked old new
     where
-      for_class : (e : Settings) (c : Class) (one : Bool) → not (holds_at (class_holds c) (behind input s.place)) ≡ one → Follows (tick ∷ if_holds one s) (node_trace input names (look_for b.span look.NegativeLookbehind c) e back before s)
-      for_class e c one same = look_follows (not (holds_at (class_holds c) (behind input s.place))) one s (look_for b.span look.NegativeLookbehind c) e back before (look_behind_for b.span c e back before s) same
+      for_class : (e : Settings) (c : Class) (one : Bool) → not (holds_at (class_holds c) (preceding input s.place)) ≡ one → Follows (tick ∷ if_holds one s) (node_trace input names (look_for b.span look.NegativeLookbehind c) e back before s)
+      for_class e c one same = look_follows (not (holds_at (class_holds c) (preceding input s.place))) one s (look_for b.span look.NegativeLookbehind c) e back before (look_behind_for b.span c e back before s) same
 
       by_settings : (asked old new : Bool) → StandsFor old at.Start (record { multiline = new; dot_all = d }) back before s (end_rewritten asked old new look.NegativeLookbehind b)
-      by_settings true true true = for_class (record { multiline = true; dot_all = d }) (no_line_terminator b.span) _ (end_of_line b.span (behind input s.place))
+      by_settings true true true = for_class (record { multiline = true; dot_all = d }) (no_line_terminator b.span) _ (end_of_line b.span (preceding input s.place))
       by_settings false true true = same_boundary (record { multiline = true; dot_all = d }) at.Start b is back before s
-      by_settings asked true false = for_class (record { multiline = false; dot_all = d }) (no_line_terminator b.span) _ (end_of_line b.span (behind input s.place))
-      by_settings asked false true = for_class (record { multiline = true; dot_all = d }) (any_unit b.span) _ (end_of_input b.span (behind input s.place))
+      by_settings asked true false = for_class (record { multiline = false; dot_all = d }) (no_line_terminator b.span) _ (end_of_line b.span (preceding input s.place))
+      by_settings asked false true = for_class (record { multiline = true; dot_all = d }) (any_unit b.span) _ (end_of_input b.span (preceding input s.place))
       by_settings asked false false = same_boundary (record { multiline = false; dot_all = d }) at.Start b is back before s
 
   end_follows : (asked old new d : Bool) (b : BoundaryAssertion) → at.End ≡ b.kind → (back : Bool) (before : ℕ) (s : State) →
@@ -135,7 +135,7 @@ module _ (input : List ℕ) (names : Names) where
       held : (o : Option ℕ) → moved_to (held_to f (s.place + 1) o) s ≡ moved_to (held_to g (s.place + 1) o) s
       held None = refl
       held (Some c) = ap (λ b. moved_to (if b then Some (s.place + 1) else None) s) (agree c)
-  same_unit true f g agree s = held (behind input s.place)
+  same_unit true f g agree s = held (preceding input s.place)
     where
       held : (o : Option ℕ) → moved_to (held_to f (s.place - 1) o) s ≡ moved_to (held_to g (s.place - 1) o) s
       held None = refl

@@ -1,5 +1,6 @@
 -- The tree that a rewriting gives: without names of groups, without the modifiers `m` and `s`, and without what the flags `m` and `s` change, as far as asked.
 use Rattle.std.specs.Prelude.{ℕ, zero, suc, ◌==◌, Bool, true, false, not, ◌&&◌, if◌then◌else◌, Option, Some, None, List, [], ◌∷◌, bit_and}
+use Rattle.rx_base.specs.Ascii as ascii
 use Rattle.rx_base.specs.declared.span.Span.{Span}
 use Rattle.rx_ast.specs.declared.leaf.BoundaryAssertion.{BoundaryAssertion}
 use Rattle.rx_ast.specs.declared.leaf.BoundaryAssertionKind.{BoundaryAssertionKind}
@@ -48,7 +49,7 @@ any_unit s = not_in_class s no_member
 -- `[^\n\r\u2028\u2029]`: each unit that is no LineTerminator (12.3)
 abbrev pub no_line_terminator : Span → Class
 no_line_terminator s = not_in_class s
-    (written s kind.SingleEscape 10 (written s kind.SingleEscape 13 (written s kind.UnicodeEscape 0x2028 (written s kind.UnicodeEscape 0x2029 no_member))))
+    (written s kind.SingleEscape ascii.line_feed (written s kind.SingleEscape ascii.carriage_return (written s kind.UnicodeEscape 0x2028 (written s kind.UnicodeEscape 0x2029 no_member))))
 
 -- a look-around in which a class stands alone
 abbrev pub look_for : Span → LookAroundAssertionKind → Class → Node

@@ -16,7 +16,7 @@ added_reply None old new added = absurd added
 added_reply (Some reply) old new added = (reply, refl, added)
 
 pub rewrite_replied : (wanted : Wanted) (letters : List ℕ) (mode : Mode) (tree : Whole) (what : Rewrites) (flags : MatchFlags) (old new : List ℕ) → what ≡ rewrites_of wanted → flags ≡ match_flags letters mode → refused_by wanted tree ≡ None
-    → (answer : Result Pattern RewriteFault) → IsRewritten what flags tree answer → IsAdded (answer_reply what letters mode answer) old new → (reply : List ℕ) × IsRewriteReply wanted letters mode tree reply × (new ≡ old ++ reply)
+    → (answer : Result Pattern RewriteFault) → IsRewritten what flags tree answer → IsAdded (answer_reply (rewrites_of wanted) letters mode answer) old new → (reply : List ℕ) × IsRewriteReply wanted letters mode tree reply × (new ≡ old ++ reply)
 rewrite_replied wanted letters mode tree what flags old new what_is flags_are none answer is added =
-    let it = added_reply (answer_reply (rewrites_of wanted) letters mode answer) old new (subst (λ w. IsAdded (answer_reply w letters mode answer) old new) what_is added) in
+    let it = added_reply (answer_reply (rewrites_of wanted) letters mode answer) old new added in
     (it.0, answered answer it.0 none (subst (λ w. IsRewritten w (match_flags letters mode) tree answer) what_is (subst (λ f. IsRewritten what f tree answer) flags_are is)) it.1, it.2)

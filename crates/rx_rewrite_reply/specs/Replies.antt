@@ -1,5 +1,7 @@
 -- What `rewrite` answers of a pattern that is read.
 use Rattle.std.specs.Prelude.{◌≡◌, ℕ, Bool, true, not, ◌==◌, ◌&&◌, if◌then◌else◌, List, ◌++◌, codes, filter, Option, Some, None, Result, Ok, Err}
+use Rattle.rx_base.specs.Ascii as ascii
+use Rattle.rx_base.specs.Flags.{holds}
 use Rattle.rx_base.specs.declared.span.Span.{Span}
 use Rattle.rx_ast.specs.declared.term.Pattern.{Pattern}
 use Rattle.rx_ast.specs.Forget.{bare}
@@ -18,15 +20,14 @@ use Rattle.rx_rewrite.specs.declared.wanted.Wanted.TheVariants.{All, Listed}
 use Rattle.rx_rewrite.specs.Wanted.{rewrites_of}
 use Rattle.rx_tools.specs.Utf8.{utf8}
 use Rattle.rx_trace.specs.declared.answer.MatchFlags.{MatchFlags}
-use Rattle.rx_visit.specs.Flags.{holds}
 
 -- how a pattern with these flags is matched
 abbrev pub match_flags : List ℕ → Mode → MatchFlags
-match_flags letters mode = record { ignore_case = holds letters 105; multiline = holds letters 109; dot_all = holds letters 115; unicode_mode = is_unicode mode }
+match_flags letters mode = record { ignore_case = holds letters ascii.i; multiline = holds letters ascii.m; dot_all = holds letters ascii.s; unicode_mode = is_unicode mode }
 
 -- `m` goes with multiline, `s` with dot_all, and no other flag goes
 abbrev pub stays : Rewrites → ℕ → Bool
-stays what flag = if flag == 109 then not what.multiline else (if flag == 115 then not what.dot_all else true)
+stays what flag = if flag == ascii.m then not what.multiline else (if flag == ascii.s then not what.dot_all else true)
 
 -- those of some flags that are there and stay
 abbrev pub flags_among : Rewrites → List ℕ → List ℕ → List ℕ

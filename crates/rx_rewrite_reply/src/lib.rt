@@ -4,4 +4,4 @@
 mod flags;
 mod replies;
 
-pub use replies::add_rewritten;
+pub use replies::{Rewriting, add_rewritten};

@@ -4,6 +4,7 @@ ghost use Rattle.rx_reply.specs.Places.{span_text};
 ghost use Rattle.rx_model.specs.Inputs.Environment.{is_unicode};
 ghost use Rattle.rx_model.specs.Trees.Early.{IsEarly};
 ghost use Rattle.rx_rewrite.specs.Answers.{rules_of};
+ghost use Rattle.rx_rewrite.specs.Wanted.{rewrites_of};
 ghost use Rattle.rx_rewrite_reply.specs.Replies.{IsAdded, IsRewriteReply, answer_reply, pattern_reply, refused_by};
 
 use crate::flags::{add_flags, match_flags};
@@ -11,32 +12,57 @@ use rx_ast::Pattern;
 use rx_base::{List, OutOfMemory, Span};
 use rx_model::Mode;
 use rx_reply::add_span;
-use rx_rewrite::{RewriteFault, Rewrites, Wanted, modifiers_left, rewrite};
+use rx_rewrite::{RewriteFault, Wanted, modifiers_left, rewrite};
 use rx_tools::append_canonical;
 use std::alloc::Global;
 
-/// Adds the reply with the plainer pattern of a pattern that is read in this mode, by these rules and with these flags; or why there is none. After an error
-/// a part of the reply may stand at the end.
+/// How a pattern was read, and what is to go from it.
+#[derive(Clone, Copy, Debug)]
+pub struct Rewriting<'a> {
+    /// The flags of its line.
+    pub letters: &'a str,
+
+    /// The mode that the flags ask for.
+    pub mode: Mode,
+
+    /// Whether two groups may have one name, and whether buffer boundaries are read.
+    pub rules: (bool, bool),
+
+    pub wanted: Wanted,
+}
+
+/// Adds the reply with the plainer pattern of a pattern that is read in this way; or why there is none. After an error a part of the reply may stand at
+/// the end.
 pub fn add_rewritten(
     alloc: Global,
     bytes: &mut List<u8>,
     pattern: &Pattern,
-    mode: Mode,
-    rules: (bool, bool),
-    letters: &str,
-    wanted: Wanted,
+    rewriting: Rewriting<'_>,
 ) -> Result<(), OutOfMemory>
-    requires { IsEarly (rules_of rules) pattern.now }
-    ensures { OnOk result ((reply : Sequence ℕ) × IsRewriteReply wanted letters.now mode (mirror pattern.now) reply × (bytes.new ≡ bytes.old ++ reply)) }
+    requires { IsEarly (rules_of rewriting.rules) pattern.now }
+    ensures { OnOk result ((reply : Sequence ℕ) × IsRewriteReply rewriting.entry.wanted rewriting.entry.letters.now rewriting.entry.mode (mirror pattern.now) reply
+        × (bytes.new ≡ bytes.old ++ reply)) }
 {
+    let Rewriting {
+        letters,
+        mode,
+        rules,
+        wanted,
+    } = rewriting;
     let left = refused(alloc, pattern, wanted)?;
     if let Some(span) = left {
         return add_unsupported(bytes, span);
     }
     let flags = match_flags(letters, mode);
-    let what = wanted.rewrites();
-    let answer = rewrite(alloc, pattern, modes_of(mode), rules, flags, what);
-    add_answer(alloc, bytes, answer, mode, letters, what)
+    let answer = rewrite(
+        alloc,
+        pattern,
+        modes_of(mode),
+        rules,
+        flags,
+        wanted.rewrites(),
+    );
+    add_answer(alloc, bytes, answer, rewriting)
 }
 
 /// Whether a mode is a unicode mode, and whether it is sets mode.
@@ -71,14 +97,12 @@ fn add_answer(
     alloc: Global,
     bytes: &mut List<u8>,
     answer: Result<Pattern, RewriteFault>,
-    mode: Mode,
-    letters: &str,
-    what: Rewrites,
+    rewriting: Rewriting<'_>,
 ) -> Result<(), OutOfMemory>
-    ensures { OnOk result (IsAdded (answer_reply what letters.now mode answer) bytes.old bytes.new) }
+    ensures { OnOk result (IsAdded (answer_reply (rewrites_of rewriting.entry.wanted) rewriting.entry.letters.now rewriting.entry.mode answer) bytes.old bytes.new) }
 {
     match answer {
-        Ok(pattern) => add_pattern(alloc, bytes, &pattern, mode, letters, what),
+        Ok(pattern) => add_pattern(alloc, bytes, &pattern, rewriting),
         Err(RewriteFault::OutOfMemory) => Err(OutOfMemory),
         Err(RewriteFault::NameUsedTwice { first, second }) => add_twice(bytes, first, second),
     }
@@ -88,16 +112,14 @@ fn add_pattern(
     alloc: Global,
     bytes: &mut List<u8>,
     pattern: &Pattern,
-    mode: Mode,
-    letters: &str,
-    what: Rewrites,
+    rewriting: Rewriting<'_>,
 ) -> Result<(), OutOfMemory>
-    ensures { OnOk result (bytes.new ≡ bytes.old ++ pattern_reply what letters.now mode pattern.now) }
+    ensures { OnOk result (bytes.new ≡ bytes.old ++ pattern_reply (rewrites_of rewriting.entry.wanted) rewriting.entry.letters.now rewriting.entry.mode pattern.now) }
 {
     bytes.extend_from_slice(b"ok\t")?;
-    add_flags(bytes, letters, what)?;
+    add_flags(bytes, rewriting.letters, rewriting.wanted.rewrites())?;
     bytes.extend_from_slice(b"\t")?;
-    append_canonical(alloc, bytes, pattern, mode)?;
+    append_canonical(alloc, bytes, pattern, rewriting.mode)?;
     bytes.extend_from_slice(b"\n")
 }
 

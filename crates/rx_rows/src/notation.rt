@@ -9,14 +9,14 @@ pub fn text_of(alloc: Global, written: &str) -> Result<Option<String>, AllocErro
         text.push_str(front)?;
     }
     for piece in pieces {
-        let Some((digits, behind)) = piece.split_once('»') else {
+        let Some((digits, following)) = piece.split_once('»') else {
             return Ok(None);
         };
         let Some(character) = character_of(digits) else {
             return Ok(None);
         };
         text.push(character)?;
-        text.push_str(behind)?;
+        text.push_str(following)?;
     }
     Ok(Some(text))
 }

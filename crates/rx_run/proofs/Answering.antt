@@ -18,7 +18,7 @@ use Rattle.rx_run.specs.Request.{Request}
 use Rattle.rx_run.specs.Reply.{IsAsked, IsReply, IsSaid, bad, said, err, bad_reply, begins_ok, canonical_reply, err_reply, input_of, mode_name}
 use Rattle.rx_run.specs.Serving.{kept}
 
--- the parts of a reply with the spelling, added behind one another
+-- the parts of a reply with the spelling, added after one another
 pub canonical_reply_added : (old first second third text : List ℕ) (mode : Mode) → first ≡ old ++ (codes "ok\t" ++ mode_name mode ++ codes "\t") → second ≡ first ++ utf8 text
     → third ≡ second ++ codes "\n" → third ≡ old ++ canonical_reply mode text
 unfolding utf8

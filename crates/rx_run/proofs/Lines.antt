@@ -43,7 +43,7 @@ take-append_capped zero front line = refl
 take-append_capped (suc n) [] line = refl
 take-append_capped (suc n) (b ∷ front) line = ap (λ (x : List ℕ). b ∷ x) (take-append_capped n front line)
 
--- lines that are looked at up to a length read alike behind a front that is cut there
+-- lines that are looked at up to a length read alike after a front that is cut there
 pub begin_all-capped : (n : ℕ) (front : List ℕ) (lines : List (List ℕ)) → map (take (suc n)) (begin_all (take (suc n) front) lines) ≡ map (take (suc n)) (begin_all front lines)
 begin_all-capped n front (line ∷ lines) =
     ap (map (take (suc n))) (begin_all-cons (take (suc n) front) line lines)

@@ -101,7 +101,7 @@ module _ {service : Service} where
     judged = sym (and_true ok);
   }
 
-  -- an LF behind a line
+  -- an LF after a line
   serves_line : (line reply : List ℕ) (ok : Bool) → lacks 10 line ≡ true → IsReply service line reply → Serves service line ok (10 ∷ []) reply [] (ok && begins_ok reply)
   serves_line line reply ok h is = record {
     lines = kept line ∷ [];

@@ -14,7 +14,7 @@ use Rattle.rx_command.specs.Dialects.{both_rules}
 abbrev pub next_state : ℕ → ℕ
 next_state x = (1103515245 * x + 12345) % 2147483648
 
--- the number from 0 to 7 that a draw yields, by the state behind it
+-- the number from 0 to 7 that a draw yields, by the state after it
 abbrev pub drawn : ℕ → ℕ
 drawn x = x / 65536 % 8
 
@@ -25,12 +25,12 @@ pieces = codes "a" ∷ codes "\\x41" ∷ codes "[0-9_]+" ∷ codes "(?:b|c)*" �
 abbrev pub piece : ℕ → List ℕ
 piece number = slice_index_or pieces number []
 
--- n pieces behind one another, each chosen by a draw
+-- n pieces after one another, each chosen by a draw
 unfoldable pub pieces_text : ℕ → ℕ → List ℕ
 pieces_text zero x = []
 pieces_text (suc n) x = piece (drawn (next_state x)) ++ pieces_text n (next_state x)
 
--- the state behind n draws
+-- the state after n draws
 unfoldable pub state_after : ℕ → ℕ → ℕ
 state_after zero x = x
 state_after (suc n) x = state_after n (next_state x)
@@ -39,7 +39,7 @@ state_after (suc n) x = state_after n (next_state x)
 abbrev pub piece_count : ℕ → ℕ
 piece_count x = 1 + drawn (next_state x)
 
--- the next pattern, and the state behind it
+-- the next pattern, and the state after it
 abbrev pub pattern_text : ℕ → List ℕ
 pattern_text x = pieces_text (piece_count x) (next_state x)
 

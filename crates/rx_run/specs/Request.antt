@@ -1,6 +1,7 @@
 -- What a line asks for.
 use Rattle.std.specs.Prelude.{◌≡◌, ◌≤◌, ℕ, List, [], ◌∷◌, ◌++◌, length, codes, Option, Some, None, IsTrue, IsUtf8}
 use Rattle.std.specs.Str.{chars}
+use Rattle.rx_base.specs.Ascii as ascii
 use Rattle.rx_model.specs.declared.form.Form.{Form}
 use Rattle.rx_model.specs.declared.form.Form.TheVariants.{Literal, Constructor}
 use Rattle.rx_run.specs.Lines.{lacks}
@@ -17,9 +18,9 @@ pub record Request : Type 0 where
 
 -- A line is cut at its first two TABs into three fields, of which the third is all the rest.
 pub record HasFields (line form flags text : List ℕ) : Type 0 where
-  pub cut : line ≡ form ++ 9 ∷ (flags ++ 9 ∷ text)
-  pub first_tab : IsTrue (lacks 9 form)
-  pub second_tab : IsTrue (lacks 9 flags)
+  pub cut : line ≡ form ++ ascii.tab ∷ (flags ++ ascii.tab ∷ text)
+  pub first_tab : IsTrue (lacks ascii.tab form)
+  pub second_tab : IsTrue (lacks ascii.tab flags)
 
 -- the field that stands for a form
 abbrev pub form_field : Form → List ℕ

@@ -15,7 +15,7 @@ kept line = take 1048577 line
 unfoldable pub kept_lines : List ℕ → List (List ℕ)
 kept_lines bytes = map kept (lines_of bytes)
 
--- Behind this much of a line the bytes came. Their lines were answered by these replies, and this much of a next line came. The flags say
+-- After this much of a line the bytes came. Their lines were answered by these replies, and this much of a next line came. The flags say
 -- whether all replies began with `ok`, before and after.
 pub record Serves (service : Service) (line : List ℕ) (ok : Bool) (bytes written line' : List ℕ) (ok' : Bool) : Type 0 where
   pub lines : List (List ℕ)
@@ -32,7 +32,7 @@ pub record Ends (service : Service) (line : List ℕ) (ok : Bool) (written : Lis
   pub written_is : written ≡ concat replies
   pub judged : ok' ≡ (ok && list_all begins_ok replies)
 
--- Behind this much of a line the bytes came, and what was written is the front of the replies to the first of their lines, of which at
+-- After this much of a line the bytes came, and what was written is the front of the replies to the first of their lines, of which at
 -- least n bytes are missing.
 pub record Halts (service : Service) (line bytes written : List ℕ) (least : ℕ) : Type 0 where
   pub lines : List (List ℕ)

@@ -1,4 +1,5 @@
 ghost use Rattle.std.specs.Prelude.{◌≡◌, ◌≤◌, ◌++◌, ◌↔◌, [], IsTrue, length, OnOk, OnErr};
+ghost use Rattle.rx_base.specs.Ascii as ascii;
 ghost use Rattle.rx_run.specs.Lines.{lacks};
 ghost use Rattle.rx_run.specs.Serving.{kept};
 
@@ -13,7 +14,7 @@ const KEPT: usize = LINE_LIMIT + 1;
 #[derive(Drop)]
 pub struct Line {
     pub bytes: List<u8>,
-    ghost one_line: { IsTrue (lacks 10 bytes) },
+    ghost one_line: { IsTrue (lacks ascii.line_feed bytes) },
     ghost in_bound: { length bytes ≤ 1048577 },
 }
 
@@ -35,7 +36,7 @@ impl Line {
 
     /// Adds a piece, as far as it is kept. A refused call leaves the line as it was.
     pub fn keep(&mut self, piece: &[u8]) -> Result<(), OutOfMemory>
-        requires { IsTrue (lacks 10 piece.now) }
+        requires { IsTrue (lacks ascii.line_feed piece.now) }
         ensures ok { OnOk result (self.new.bytes ≡ kept (self.old.bytes ++ piece.now)) }
         ensures err { OnErr result (self.new.bytes ≡ self.old.bytes) }
     {

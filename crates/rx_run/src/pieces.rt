@@ -1,4 +1,5 @@
 ghost use Rattle.std.specs.Prelude.{◌≡◌, ◌∷◌, ◌++◌, IsTrue, MatchOption};
+ghost use Rattle.rx_base.specs.Ascii as ascii;
 ghost use Rattle.rx_run.specs.Lines.{lacks};
 
 use memchr::memchr;
@@ -16,8 +17,8 @@ pub fn split_at_byte(byte: u8, bytes: &[u8]) -> Option<(&[u8], &[u8])>
 /// What stands before and after the first TAB, or none where there is no TAB.
 pub fn split_at_tab(text: &str) -> Option<(&str, &str)>
     ensures { MatchOption result
-        (IsTrue (lacks 9 text.now))
-        (λ p. (text.now ≡ p.0.now ++ 9 ∷ p.1.now) × IsTrue (lacks 9 p.0.now)) }
+        (IsTrue (lacks ascii.tab text.now))
+        (λ p. (text.now ≡ p.0.now ++ ascii.tab ∷ p.1.now) × IsTrue (lacks ascii.tab p.0.now)) }
 {
     let at = memchr(b'\t', text.as_bytes())?;
     Some((&text[..at], &text[at + 1..]))

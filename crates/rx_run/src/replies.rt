@@ -33,8 +33,7 @@ use rx_lint_reply::add_findings;
 use rx_match_reply::{add_match, add_ticks};
 use rx_paint_reply::{add_colors, add_tokens};
 use rx_reply::add_decimal;
-use rx_rewrite::Wanted;
-use rx_rewrite_reply::add_rewritten;
+use rx_rewrite_reply::{Rewriting, add_rewritten};
 use rx_tools::support::has_unsupported_regular_expression_flags;
 use rx_tools::{Mode, append_canonical, display_text, read_pattern};
 use std::alloc::Global;
@@ -126,8 +125,13 @@ impl Replies {
             Answering::PaintColor => self.add_colors(alloc, pattern, request.text),
             Answering::Lint => self.add_findings(alloc, pattern),
             Answering::Rewrite(wanted) => {
-                let rules = service.dialect.rules();
-                self.add_rewritten(alloc, pattern, mode, rules, request.flags_field(), *wanted)
+                let rewriting = Rewriting {
+                    letters: request.flags_field(),
+                    mode,
+                    rules: service.dialect.rules(),
+                    wanted: *wanted,
+                };
+                self.add_rewritten(alloc, pattern, rewriting)
             }
         }
     }
@@ -145,17 +149,14 @@ impl Replies {
         &mut self,
         alloc: Global,
         pattern: &Pattern,
-        mode: Mode,
-        rules: (bool, bool),
-        flags: &str,
-        wanted: Wanted,
+        rewriting: Rewriting<'_>,
     ) -> Result<(), OutOfMemory>
-        requires { IsEarly (rules_of rules) pattern.now }
-        ensures { OnOk result ((reply : Sequence ℕ) × IsRewriteReply wanted flags.now mode (mirror pattern.now) reply
+        requires { IsEarly (rules_of rewriting.rules) pattern.now }
+        ensures { OnOk result ((reply : Sequence ℕ) × IsRewriteReply rewriting.entry.wanted rewriting.entry.letters.now rewriting.entry.mode (mirror pattern.now) reply
             × (self.new.bytes ≡ self.old.bytes ++ reply) × (self.new.all_ok ≡ (self.old.all_ok && begins_ok reply))) }
     {
         let start = self.bytes.len();
-        add_rewritten(alloc, &mut self.bytes, pattern, mode, rules, flags, wanted)?;
+        add_rewritten(alloc, &mut self.bytes, pattern, rewriting)?;
         self.judge_from(start);
         Ok(())
     }

@@ -1,5 +1,6 @@
 ghost use Rattle.std.specs.Prelude.{◌≡◌, ◌≤◌, ◌∷◌, ◌++◌, ℕ, List as Sequence, [], IsTrue, ◌&&◌, true, OnOk, IfOk, IfErr, IsErrOf};
 ghost use Rattle.std.specs.Io.KnownBytes.{Appends};
+ghost use Rattle.rx_base.specs.Ascii as ascii;
 ghost use Rattle.rx_base.specs.FaultCounts.{Rose};
 ghost use Rattle.rx_run.specs.Lines.{lacks};
 ghost use Rattle.rx_run.specs.Reply.{IsReply, begins_ok};
@@ -71,9 +72,9 @@ impl Server {
         service: &Service<'_>,
         piece: &[u8],
     ) -> Result<(), OutOfMemory>
-        requires { IsTrue (lacks 10 piece.now) }
+        requires { IsTrue (lacks ascii.line_feed piece.now) }
         ensures { OnOk result ((new : Sequence ℕ) × (self.new.replies.bytes ≡ self.old.replies.bytes ++ new)
-            × Serves service.now self.old.line.bytes self.old.replies.all_ok (piece.now ++ 10 ∷ []) new self.new.line.bytes self.new.replies.all_ok) }
+            × Serves service.now self.old.line.bytes self.old.replies.all_ok (piece.now ++ ascii.line_feed ∷ []) new self.new.line.bytes self.new.replies.all_ok) }
     {
         if self.line.is_empty() {
             return self.replies.add(alloc, service, piece);

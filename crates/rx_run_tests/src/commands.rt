@@ -46,7 +46,7 @@ fn outcome(alloc: Global, ran: &Ran) -> Result<String, Fail> {
     Ok(format!(in alloc; "{} [{shown}]", ran.number)?)
 }
 
-/// A run with the words before the first bar on the line behind it.
+/// A run with the words before the first bar on the line after it.
 #[derive(Drop)]
 struct Line;
 
@@ -233,7 +233,7 @@ standard steps 1 a => 2 []
 --Help => 2 []
 help => 2 []
 -h => 2 []
---version => 0 [regexp 0.156.0 (a port of oxc_regular_expression 0.156.0)«A»]
+--version => 0 [regexp 0.2.0 (a port of oxc_regular_expression 0.156.0)«A»]
 --version x => 2 []";
 
 #[test]

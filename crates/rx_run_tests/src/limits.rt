@@ -36,7 +36,7 @@ fn long_lines_are_bad(rt: HostRuntime) -> Result<(), Fail> {
     Ok(())
 }
 
-/// Runs the program on 64 long lines, and this behind them.
+/// Runs the program on 64 long lines, and this after them.
 fn run_long(alloc: Global, end: &[u8]) -> Result<(Status, MemorySink), OutOfMemory> {
     let mut input = letters(alloc, 64, b'x', 1048575)?;
     input.extend_from_slice(end)?;

@@ -1,31 +1,51 @@
 -- How many digits the decoder of unicode escapes looks at.
-use Rattle.std.proofs.Common.{◌≡◌, ℕ, ◌+◌, ◌*◌, ◌≤◌, Bool, true, false, refl, subst, sym, arith}
+use Rattle.std.proofs.Common.{◌≡◌, ℕ, ◌+◌, ◌≤◌, ◌==◌, Bool, true, false, cond, List, [], ◌∷◌, length, min, refl, ap, ◌∙◌, inl, inr, arith}
+use Rattle.std.specs.Prelude.{nat_lt}
+use Rattle.std.proofs.lemmas.Bool.{cases_Bool, ltb-false}
+use Rattle.std.proofs.lemmas.Bool.Decides.{nat_tests}
 use Rattle.rx_base.specs.Rising.{Rises}
+use Rattle.rx_units.specs.Digits.{is_hex_digit}
+use Rattle.rx_units.proofs.Choices.{either_way}
+use Rattle.rx_model.specs.Characters.Decoding.{braces_at, invalid, run_at}
 use Rattle.rx_scan.specs.declared.unicode_escape.UnicodeEscape.{UnicodeEscape}
 use Rattle.rx_scan.specs.declared.unicode_escape.UnicodeEscape.TheVariants as escape
-use Rattle.rx_scan.specs.DecodingSteps.{escape_length, least_digits, most_digits}
+use Rattle.rx_scan.specs.DecodingSteps.{digits_in_braces, digits_of_four, digits_of_run, hex_run, least_digits, most_digits}
+use Rattle.rx_scan.specs.EscapeDecoding.{seen_escape}
 
 -- more units may be more digits
-pub most_more : (unicode_mode : Bool) (m n : ℕ) (e : UnicodeEscape) → m ≤ n → most_digits unicode_mode m e ≤ most_digits unicode_mode n e
+most_more : (unicode_mode : Bool) (m n : ℕ) (e : UnicodeEscape) → m ≤ n → most_digits unicode_mode m e ≤ most_digits unicode_mode n e
 most_more unicode_mode m n (escape.Value v k) h = omega arith
 most_more true m n escape.Invalid h = h
 most_more false m n escape.Invalid h = omega arith
 most_more unicode_mode m n (escape.Overflow k) h = omega arith
 
--- Digits in braces are read where four were looked for: then none of the four was found, or no brace stands there.
-module _ (old four new units : ℕ) (e : UnicodeEscape) (rises : old + 0 ≤ four) (few : four ≤ old + units) where
-  pub after_four : (brace : Bool) → (brace ≡ true → four ≡ old) → (brace ≡ false → (e ≡ escape.Invalid) × (new ≡ four)) →
-      Rises four new (least_digits e) (most_digits true units e) → Rises old new (least_digits e) (most_digits true units e)
-  after_four true same none r = let s = same refl in (omega arith, omega arith)
-  after_four false same none r =
-      let no = none refl in
-      let at : Rises old new (least_digits escape.Invalid) (most_digits true units escape.Invalid) = (omega arith, omega arith) in
-      subst (λ e. Rises old new (least_digits e) (most_digits true units e)) (sym no.0) at
+-- a brace is no digit
+no_brace : (x : ℕ) → is_hex_digit x ≡ true → (x == 123) ≡ false
+no_brace x digit = grind (arith, nat_tests)
 
-  pub half_after_four : (brace : Bool) → (brace ≡ true → four ≡ old) → (brace ≡ false → (e ≡ escape.Invalid) × (new ≡ four)) →
-      escape_length e + 2 * four ≤ 2 * new → escape_length e + 2 * old ≤ 2 * new
-  half_after_four true same none r = let s = same refl in omega arith
-  half_after_four false same none r = omega arith
+no_digit : (x : ℕ) (w : List ℕ) → is_hex_digit x ≡ false → digits_of_four (x ∷ w) ≡ 0
+no_digit x w none = either_way (λ k. k ≡ 0) (nat_lt (length (x ∷ w)) 4) _ _ refl (ap (λ b. min 4 (cond b (1 + hex_run w) 0)) none)
+
+-- where no escape is read
+unread : (old new units : ℕ) (e : UnicodeEscape) → seen_escape e ≡ invalid → old ≤ new → new ≤ old + units → Rises old new (least_digits e) (most_digits true units e)
+unread old new units (escape.Value v k) read least most = absurd (let no : ⊥ = cc in no)
+unread old new units escape.Invalid read least most = (omega arith, omega arith)
+unread old new units (escape.Overflow k) read least most = absurd (let no : ⊥ = cc in no)
+
+-- Digits in braces are looked for where four digits were looked for: where some of the four were found, no brace stands.
+pub after_four : (old four new : ℕ) (w : List ℕ) (units : ℕ) (e : UnicodeEscape) → length w ≡ units → four ≡ digits_of_four w + old → four ≤ old + 3 → seen_escape e ≡ braces_at w →
+    Rises four new (digits_in_braces w) (digits_in_braces w + 1) → Rises four new (least_digits e) (most_digits true units e) → Rises old new (least_digits e) (most_digits true units e)
+after_four old four new [] units e same looked few read braces rises = (omega arith, omega arith)
+after_four old four new (x ∷ w) units e same looked few read braces rises = elim (cases_Bool (is_hex_digit x)) [
+  | inr none ↦ let unmoved : four ≡ 0 + old = looked ∙ ap (λ k. k + old) (no_digit x w none) in (omega arith, omega arith)
+  | inl digit ↦
+      let no = no_brace x digit in
+      let nothing : digits_in_braces (x ∷ w) ≡ 0 = ap (λ b. cond b (digits_of_run w) 0) no in
+      elim (cases_Bool (nat_lt (length (x ∷ w)) 4)) [
+        | inl short ↦ let unmoved : four ≡ 0 + old = looked ∙ ap (λ b. cond b 0 (min 4 (hex_run (x ∷ w))) + old) short in (omega arith, omega arith)
+        | inr long ↦ unread old new units e (read ∙ ap (λ b. cond b (run_at 0 0 w) invalid) no) (omega arith) (omega (arith, ltb-false (length (x ∷ w)) 4 long))
+      ]
+]
 
 -- a lead surrogate is read, with its four digits
 pub after_lead : (old four new units : ℕ) (e : UnicodeEscape) → four ≡ old + 4 → Rises four (new + 4) (least_digits e) (most_digits true 0 e) → Rises old new (least_digits e) (most_digits true units e)

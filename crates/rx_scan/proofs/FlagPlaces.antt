@@ -2,13 +2,14 @@
 use Rattle.std.proofs.Common.{◌≡◌, refl, ap, sym, ◌∙◌, subst, ℕ, suc, ◌+◌, ◌-◌, ◌<◌, arith, add-one, Bool, true, false, not, ◌&&◌, List, [], ◌∷◌, ◌++◌, length, get_or, take, drop, append_assoc}
 use Rattle.std.proofs.Math.Seq.{take-suc, drop-cons}
 use Rattle.std.proofs.lemmas.List.{length-take-le, map-append, take-append-drop}
+use Rattle.rx_base.specs.Flags.{holds, is_flag}
 use Rattle.rx_base.specs.declared.span.Span.{Span}
 use Rattle.rx_base.specs.declared.diagnostic.Diagnostic.{Diagnostic}
 use Rattle.rx_base.specs.declared.diagnostic.Diagnostic.TheVariants.{UnknownFlag, DuplicatedFlags, InvalidUnicodeFlags}
 use Rattle.rx_units.specs.declared.code_point.CodePoint.{CodePoint}
 use Rattle.rx_units.specs.Units.{values, offset_at}
 use Rattle.rx_units.proofs.Offsets.{end_of_take}
-use Rattle.rx_model.specs.Inputs.Flags.{flags_ok, holds, is_flag}
+use Rattle.rx_model.specs.Inputs.Flags.{flags_ok}
 use Rattle.rx_model.specs.Refusals.FlagCauses.{IsFirstOffence, IsFlagCause, unit_span, unknown, duplicated, both_modes}
 use Rattle.rx_scan.proofs.FlagRows.{flags_push, refused_append}
 
@@ -31,7 +32,7 @@ module _ (us : List CodePoint) (place : ℕ) (d : CodePoint) (within : place < l
   pub values_next : values (take (place + 1) us) ≡ values (take place us) ++ ((get_or us place d).value ∷ [])
   values_next = rw (add-one, take-suc us place d within) (map-append (λ u. u.value) (take place us) (get_or us place d ∷ []))
 
-  -- behind the unit at the place
+  -- after the unit at the place
   pub offset_next : (first : ℕ) → offset_at first us (place + 1) ≡ (get_or us place d).span.end
   offset_next first =
       let e : place + 1 - 1 ≡ place = omega arith in

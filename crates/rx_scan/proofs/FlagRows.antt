@@ -4,9 +4,13 @@ use Rattle.std.proofs.lemmas.Bool.{and_parts, false≢true}
 use Rattle.std.proofs.lemmas.Bool.Decides.{nat_tests}
 use Rattle.std.proofs.lemmas.List.Folds.{list_any-append}
 use Rattle.std.specs.List.{list_any}
+use Rattle.rx_base.specs.Flags.{holds, is_flag}
 use Rattle.rx_units.specs.declared.code_point.CodePoint.{CodePoint}
 use Rattle.rx_units.specs.Units.{values}
-use Rattle.rx_model.specs.Inputs.Flags.{flags_ok, are_distinct_flags, holds, is_flag}
+use Rattle.rx_model.specs.Inputs.Flags.{flags_ok, are_distinct_flags, mode_of, modes_of}
+use Rattle.std.specs.Prelude.{if◌then◌else◌}
+use Rattle.rx_model.specs.declared.mode.Mode.TheVariants.{Legacy, Unicode, Sets}
+use Rattle.rx_model.specs.Inputs.Environment.{is_sets, is_unicode}
 
 pub holds_values : (us : List CodePoint) (v : ℕ) → list_any (λ unit. unit.value == v) us ≡ holds (values us) v
 holds_values [] v = refl
@@ -64,3 +68,12 @@ refused_push vs f refused =
 pub refused_append : (vs ws : List ℕ) → flags_ok vs ≡ false → flags_ok (vs ++ ws) ≡ false
 refused_append vs [] refused = simp append-nil refused
 refused_append vs (w ∷ ws) refused = rw (← append_assoc vs (w ∷ []) ws) (refused_append (vs ++ (w ∷ [])) ws (refused_push vs w refused))
+
+by_tests : (v u : Bool) (modes : Bool × Bool) → modes ≡ (is_unicode (if v then Sets else (if u then Unicode else Legacy)), is_sets (if v then Sets else (if u then Unicode else Legacy))) → modes ≡ (v || u, v)
+by_tests true u modes e = e
+by_tests false true modes e = e
+by_tests false false modes e = e
+
+-- what the mode tells of the flags that ask for it
+pub modes_by_mode : (fs : List ℕ) (modes : Bool × Bool) → modes ≡ (is_unicode (mode_of fs), is_sets (mode_of fs)) → modes ≡ modes_of fs
+modes_by_mode fs modes e = by_tests (holds fs 118) (holds fs 117) modes e

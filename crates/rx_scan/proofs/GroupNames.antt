@@ -1,14 +1,17 @@
 -- The steps of the reader of a group's name.
-use Rattle.std.proofs.Common.{◌≡◌, ◌↔◌, ℕ, suc, ◌+◌, ◌-◌, ◌<◌, ◌≤◌, ◌==◌, Bool, true, false, cond, List, [], ◌∷◌, ◌++◌, drop, take, le_of_eq, length, Option, Some, None, refl, sym, ap, ap₂, ◌∙◌, subst, arith, add-one, length-append}
+use Rattle.std.proofs.Common.{◌≡◌, ℕ, suc, ◌+◌, ◌-◌, ◌<◌, ◌≤◌, ◌==◌, Bool, true, false, cond, List, [], ◌∷◌, ◌++◌, drop, take, get_or, le_of_eq, length, Option, Some, None, refl, sym, ap, ap₂, ◌∙◌, subst, arith, add-one, length-append}
 use Rattle.std.proofs.lemmas.Bool.{ne_eqb, eq-eqb}
 use Rattle.std.proofs.lemmas.List.{append-nil, length-map, drop-drop, length-drop, drop_all, take_all}
 use Rattle.std.specs.List.{drop-map}
 use Rattle.rx_units.specs.declared.code_point.CodePoint.{CodePoint}
 use Rattle.rx_units.specs.Units.{values}
 use Rattle.rx_model.specs.Characters.Decoding.{Decoded, value}
-use Rattle.rx_model.specs.Groups.GroupNames.{IsGroupName, IsNameRow, is_in_name}
-use Rattle.rx_model.specs.Groups.GroupNameReading.{NameCharacter, character, no_character, name_character_at, row, row_behind, row_after, name_at, all_of, name_of, tested, escape_in_name}
-use Rattle.rx_model.proofs.Groups.GroupNames.{character_spelled, name_of_law, read_some, row_behind_none, row_behind_twice, row_steps, row_stops, name_row_law}
+use Rattle.rx_model.specs.FirstPass.Marks.{starts}
+use Rattle.rx_model.specs.Groups.GroupNames.{IsNameRow, is_in_name}
+use Rattle.rx_model.specs.Groups.GroupNameReading.{NameCharacter, character, no_character, name_character_at, row, row_following, row_after, name_at, all_of, name_of, tested, escape_in_name}
+use Rattle.rx_scan.specs.GroupNames.{IsNameOf}
+use Rattle.rx_model.proofs.Groups.GroupNames.{character_spelled, name_of_law, read_some, row_after_none, row_after_twice, row_steps, row_stops, name_row_law}
+use Rattle.rx_scan.proofs.MarkSteps.{values_at, values_drop}
 
 -- a character of a name is some units, and no more than there are
 pub character_some : (unicode_mode first : Bool) (us : List ℕ) (c n : ℕ) → character c n ≡ name_character_at unicode_mode first us → 0 < n
@@ -19,22 +22,28 @@ character_within unicode_mode first us place c n within h =
     let f = character_spelled unicode_mode first (values (drop place us)) c n (sym h) in
     omega (arith, f.count, ap length f.whole, length-append f.spelled f.rest, length-map (drop place us) (λ (u : CodePoint). u.value), length-drop place us)
 
--- the units from a place on
-pub at_place : (unicode_mode : Bool) (us : List CodePoint) (place : ℕ) (o : NameCharacter) → o ≡ name_character_at unicode_mode (place == 0) (values (take (length us - place) (drop place us))) →
-    o ≡ name_character_at unicode_mode (place == 0) (values (drop place us))
-at_place unicode_mode us place o h =
-    h ∙ ap (λ (ws : List CodePoint). name_character_at unicode_mode (place == 0) (values ws)) (take_all (length us - place) (drop place us) (le_of_eq (length-drop place us)))
+-- the units after that at a place
+all_following : (us : List CodePoint) (place : ℕ) → take (length us - (place + 1)) (drop (place + 1) us) ≡ drop (place + 1) us
+all_following us place = take_all (length us - (place + 1)) (drop (place + 1) us) (le_of_eq (length-drop (place + 1) us))
 
-pub rest_values : (us : List CodePoint) (place : ℕ) → values (take (length us - place) (drop place us)) ≡ drop place (values us)
-rest_values us place =
-    ap (λ (ws : List CodePoint). values ws) (take_all (length us - place) (drop place us) (le_of_eq (length-drop place us))) ∙ sym (drop-map (λ (u : CodePoint). u.value) place us)
+pub rest_length : (us : List CodePoint) (place : ℕ) → length (take (length us - (place + 1)) (drop (place + 1) us)) ≡ length us - (place + 1)
+rest_length us place = ap length (all_following us place) ∙ length-drop (place + 1) us
 
-pub rest_length : (us : List CodePoint) (place : ℕ) → length (take (length us - place) (drop place us)) ≡ length us - place
-rest_length us place = ap length (take_all (length us - place) (drop place us) (le_of_eq (length-drop place us))) ∙ length-drop place us
+-- and the unit itself
+module _ (us : List CodePoint) (place : ℕ) (d : CodePoint) (more : place < length us) where
+  pub at_place : (unicode_mode : Bool) (o : NameCharacter) →
+      o ≡ name_character_at unicode_mode (place == 0) ((get_or us place d).value ∷ values (take (length us - (place + 1)) (drop (place + 1) us))) → o ≡ name_character_at unicode_mode (place == 0) (values (drop place us))
+  at_place unicode_mode o h =
+      h ∙ ap (λ (ws : List CodePoint). name_character_at unicode_mode (place == 0) ((get_or us place d).value ∷ values ws)) (all_following us place)
+      ∙ ap (name_character_at unicode_mode (place == 0)) (sym (values_at us place d more))
+
+  -- one that begins no escape
+  pub plain_there : starts 92 (drop place (values us)) ≡ false → ((get_or us place d).value == 92) ≡ false
+  plain_there plain = ap (starts 92) (sym (values_at us place d more) ∙ values_drop place us) ∙ plain
 
 -- before the first character no name is read
-pub no_name_yet : (unicode_mode : Bool) (us : List CodePoint) (name : List ℕ) → name ≡ [] → name_at unicode_mode (values us) ≡ row_behind name 0 (row_after unicode_mode true 0 (values us))
-no_name_yet unicode_mode us name none = sym (row_behind_none (name_at unicode_mode (values us))) ∙ ap (λ cs. row_behind cs 0 (name_at unicode_mode (values us))) (sym none)
+pub no_name_yet : (unicode_mode : Bool) (us : List CodePoint) (name : List ℕ) → name ≡ [] → name_at unicode_mode (values us) ≡ row_following name 0 (row_after unicode_mode true 0 (values us))
+no_name_yet unicode_mode us name none = sym (row_after_none (name_at unicode_mode (values us))) ∙ ap (λ cs. row_following cs 0 (name_at unicode_mode (values us))) (sym none)
 
 name_of_row : (unicode_mode : Bool) (us : List CodePoint) → 0 < length us → name_of unicode_mode (values us) ≡ all_of (length us) (name_at unicode_mode (values us))
 name_of_row unicode_mode [] some = absurd (omega arith)
@@ -56,24 +65,24 @@ escape_fails first v n read is fails = subst (λ read. no_character ≡ escape_i
     go false e = refl
 
 module _ (unicode_mode : Bool) (us : List CodePoint) (name : List ℕ) (place : ℕ) (within : place ≤ length us)
-    (read : name_at unicode_mode (values us) ≡ row_behind name place (row_after unicode_mode (place == 0) 0 (values (drop place us)))) where
+    (read : name_at unicode_mode (values us) ≡ row_following name place (row_after unicode_mode (place == 0) 0 (values (drop place us)))) where
   -- the name goes on with a character that is read
   pub goes_on : (c n : ℕ) → character c n ≡ name_character_at unicode_mode (place == 0) (values (drop place us)) →
-      name_at unicode_mode (values us) ≡ row_behind (name ++ (c ∷ [])) (place + n) (row_after unicode_mode (place + n == 0) 0 (values (drop (place + n) us)))
+      name_at unicode_mode (values us) ≡ row_following (name ++ (c ∷ [])) (place + n) (row_after unicode_mode (place + n == 0) 0 (values (drop (place + n) us)))
   goes_on c n h =
       let some = character_some unicode_mode (place == 0) (values (drop place us)) c n h in
-      let behind : drop n (values (drop place us)) ≡ values (drop (place + n) us) = drop-map (λ (u : CodePoint). u.value) n (drop place us) ∙ ap values (drop-drop n place us) in
+      let following : drop n (values (drop place us)) ≡ values (drop (place + n) us) = drop-map (λ (u : CodePoint). u.value) n (drop place us) ∙ ap values (drop-drop n place us) in
       let later : false ≡ (place + n == 0) = sym (ne_eqb (place + n) 0 (λ e. let no : ⊥ = omega (arith, e, some) in no)) in
       read
-      ∙ ap (row_behind name place) (row_steps unicode_mode (place == 0) (values (drop place us)) c n (sym h) some)
-      ∙ row_behind_twice name (c ∷ []) place n (row_after unicode_mode false 0 (drop n (values (drop place us))))
-      ∙ ap₂ (λ first ws. row_behind (name ++ (c ∷ [])) (place + n) (row_after unicode_mode first 0 ws)) later behind
+      ∙ ap (row_following name place) (row_steps unicode_mode (place == 0) (values (drop place us)) c n (sym h) some)
+      ∙ row_after_twice name (c ∷ []) place n (row_after unicode_mode false 0 (drop n (values (drop place us))))
+      ∙ ap₂ (λ first ws. row_following (name ++ (c ∷ [])) (place + n) (row_after unicode_mode first 0 ws)) later following
 
   -- a character that is none refuses the name
   pub ends_early : place < length us → no_character ≡ name_character_at unicode_mode (place == 0) (values (drop place us)) → None ≡ name_of unicode_mode (values us)
   ends_early more h =
       let short : (place + 0 == length us) ≡ false = ne_eqb (place + 0) (length us) (λ e. let no : ⊥ = omega (arith, e, more) in no) in
-      let row_is = read ∙ ap (row_behind name place) (row_stops unicode_mode (place == 0) (values (drop place us)) (sym h)) in
+      let row_is = read ∙ ap (row_following name place) (row_stops unicode_mode (place == 0) (values (drop place us)) (sym h)) in
       sym (name_of_row unicode_mode us (omega (arith, more)) ∙ ap (all_of (length us)) row_is ∙ ap (λ b. cond b (Some (name ++ [])) None) short)
 
   -- at the end of the text the name is whole
@@ -81,32 +90,33 @@ module _ (unicode_mode : Bool) (us : List CodePoint) (name : List ℕ) (place : 
   ends_whole some all =
       let whole : (place + 0 == length us) ≡ true = eq-eqb (place + 0) (length us) (omega (arith, within, all)) in
       let nothing = ap (λ (ws : List CodePoint). row_after unicode_mode (place == 0) 0 (values ws)) (drop_all place us all) in
-      let row_is = read ∙ ap (row_behind name place) nothing in
+      let row_is = read ∙ ap (row_following name place) nothing in
       ap Some (sym (append-nil name)) ∙ sym (name_of_row unicode_mode us some ∙ ap (all_of (length us)) row_is ∙ ap (λ b. cond b (Some (name ++ [])) None) whole)
 
 -- what was read, in the words of the names
-pub read_names : (unicode_mode : Bool) (us : List ℕ) (found : Option (List ℕ)) → found ≡ name_of unicode_mode us → (name : List ℕ) → (found ≡ Some name) ↔ IsGroupName unicode_mode us name
-read_names unicode_mode us found read name =
-    let law = name_of_law unicode_mode us name in
-    (λ h. law.0 (sym read ∙ h), λ h. read ∙ law.1 h)
+pub is_name_of : (unicode_mode : Bool) (us : List ℕ) (found : Option (List ℕ)) → found ≡ name_of unicode_mode us → IsNameOf unicode_mode us found
+is_name_of unicode_mode us found read = record {
+  read = read;
+  name = λ name. let law = name_of_law unicode_mode us name in (λ h. law.0 (sym read ∙ h), λ h. read ∙ law.1 h);
+}
 
 -- Some code points of a name are read before the place.
 abbrev pub IsRowBefore : Bool → List CodePoint → ℕ → Type 0
 IsRowBefore unicode_mode us place =
-    (name : List ℕ) × (name_at unicode_mode (values us) ≡ row_behind name place (row_after unicode_mode (place == 0) 0 (values (drop place us))))
+    (name : List ℕ) × (name_at unicode_mode (values us) ≡ row_following name place (row_after unicode_mode (place == 0) 0 (values (drop place us))))
 
 -- The longest row of a name's characters ends at the place.
 abbrev pub IsRow : Bool → List CodePoint → ℕ → Type 0
 IsRow unicode_mode us place = (name : List ℕ) × (name_at unicode_mode (values us) ≡ row name place)
 
 pub none_before : (unicode_mode : Bool) (us : List CodePoint) → IsRowBefore unicode_mode us 0
-none_before unicode_mode us = ([], sym (row_behind_none (name_at unicode_mode (values us))))
+none_before unicode_mode us = ([], sym (row_after_none (name_at unicode_mode (values us))))
 
 ends_there : (unicode_mode : Bool) (us : List CodePoint) (place : ℕ) → IsRowBefore unicode_mode us place → row_after unicode_mode (place == 0) 0 (values (drop place us)) ≡ row [] 0 → IsRow unicode_mode us place
 ends_there unicode_mode us place before e =
-    (before.0, before.1 ∙ ap (row_behind before.0 place) e ∙ ap₂ row (append-nil before.0) (omega arith))
+    (before.0, before.1 ∙ ap (row_following before.0 place) e ∙ ap₂ row (append-nil before.0) (omega arith))
 
--- behind the place stands no character of a name, or nothing
+-- after the place stands no character of a name, or nothing
 pub row_ended : (unicode_mode : Bool) (us : List CodePoint) (place : ℕ) → IsRowBefore unicode_mode us place → no_character ≡ name_character_at unicode_mode (place == 0) (values (drop place us)) →
     IsRow unicode_mode us place
 row_ended unicode_mode us place before h = ends_there unicode_mode us place before (row_stops unicode_mode (place == 0) (values (drop place us)) (sym h))

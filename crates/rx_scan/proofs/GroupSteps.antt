@@ -73,7 +73,7 @@ late_start a t (c ∷ d ∷ cs) r le =
     let g = r.1 in let h = rises_le d cs t r.2 in let k = rises_first d cs t r.2 in
     ap (λ b. (nat_le c.start a && b) || any_hides a (d ∷ cs)) (le-ltb a c.bar (omega arith)) ∙ none_or (nat_le c.start a) (any_hides a (d ∷ cs)) ∙ late_start a t (d ∷ cs) r.2 le
 
--- none that begins behind a
+-- none that begins after a
 early : (a t : ℕ) (cs : List OpenGroup) → Rises cs t → (0 < length cs → a < (get_or cs 0 no_group).start) → any_hides a cs ≡ false
 early a t [] r h = refl
 early a t (c ∷ []) r h = let l = h (omega arith) in ap (λ b. (b && nat_lt a c.bar) || false) (lt-leb c.start a l)

@@ -9,7 +9,7 @@ use Rattle.std.proofs.lemmas.Bool.Decides.{same_from_decides}
 use Rattle.std.proofs.lemmas.List.Folds.{list_any-append}
 use Rattle.std.proofs.lemmas.Slice.Eq.{bytes_eq-Decides}
 use Rattle.std.proofs.lemmas.Str.{encodes-chars}
-use Rattle.rx_model.specs.Trees.Names.{is_among}
+use Rattle.rx_base.specs.Texts.{is_among}
 use Rattle.rx_scan.specs.KnownNames.{KnowsAll}
 
 -- equal names are equal lists

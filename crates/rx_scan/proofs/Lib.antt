@@ -1,7 +1,6 @@
 pub mod FlagRows
 pub mod FlagPlaces
 pub mod GroupNames
-pub mod Modes
 pub mod Fits
 pub mod Steps
 pub mod EscapeAnswers

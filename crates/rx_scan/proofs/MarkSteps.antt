@@ -1,15 +1,16 @@
 -- Steps of the loops that read a class and a name.
-use Rattle.std.proofs.Common.{◌≡◌, refl, ap, sym, ◌∙◌, subst, ℕ, zero, suc, ◌+◌, ◌-◌, ◌<◌, Bool, true, false, cond, ◌==◌, ◌&&◌, Some, None, List, [], ◌∷◌, ◌++◌, take, drop, get_or, drop-cons, add-one, append_assoc, append-nil, length, eqb-true, arith}
+use Rattle.std.proofs.Common.{◌≡◌, refl, ap, sym, ◌∙◌, subst, ℕ, zero, suc, ◌+◌, ◌-◌, ◌<◌, Bool, true, false, cond, not, ◌==◌, ◌&&◌, ◌||◌, Some, None, List, [], ◌∷◌, ◌++◌, take, drop, get_or, drop-cons, add-one, append_assoc, append-nil, length, eqb-true, arith}
 use Rattle.std.proofs.Math.Seq.{drop-length}
+use Rattle.std.proofs.lemmas.List.{map-append}
 use Rattle.rx_units.specs.declared.code_point.CodePoint.{CodePoint}
 use Rattle.rx_units.specs.declared.code_point.EscapeKind.TheVariants as kind
 use Rattle.rx_units.specs.Units.{unit, values}
 use Rattle.rx_model.specs.declared.mode.Mode.{Mode}
 use Rattle.rx_model.specs.declared.mode.Mode.TheVariants.{Sets}
 use Rattle.rx_model.specs.Inputs.Environment.{is_sets}
-use Rattle.rx_model.specs.FirstPass.Marks.{class_rest, before_close, has_close}
+use Rattle.rx_model.specs.FirstPass.Marks.{bar, class_rest, before_close, has_close, mark_front}
 use Rattle.rx_model.proofs.FirstPass.ClassRest.{inside_begins, inside_ends}
-use Rattle.rx_scan.specs.MarkReading.{closed_part}
+use Rattle.rx_scan.specs.MarkReading.{closed_part, is_plain}
 
 -- before the place no `>` stands
 pub Passed : List CodePoint → ℕ → Type 0
@@ -29,6 +30,20 @@ no_eq_case a b false e n = refl
 pub no_eq : (a b : ℕ) → (a ≡ b → ⊥) → (a == b) ≡ false
 no_eq a b n = no_eq_case a b (a == b) refl n
 
+last_choice : {A : Type 0} (a b c d e : Bool) (v w x y z o : A) → not (a || b || c || d || e) ≡ false → a ≡ false → b ≡ false → c ≡ false → d ≡ false → cond a v (cond b w (cond c x (cond d y (cond e z o)))) ≡ z
+last_choice true b c d e v w x y z o some h i j k = cc
+last_choice false true c d e v w x y z o some h i j k = cc
+last_choice false false true d e v w x y z o some h i j k = cc
+last_choice false false false true e v w x y z o some h i j k = cc
+last_choice false false false false true v w x y z o some h i j k = refl
+last_choice false false false false false v w x y z o some h i j k = cc
+
+-- a unit that is neither plain nor one of the others is a bar
+pub bar_front : (mode : Mode) (u : ℕ) (us : List ℕ) → is_plain u ≡ false → (u ≡ 92 → ⊥) → (u ≡ 91 → ⊥) → (u ≡ 40 → ⊥) → (u ≡ 41 → ⊥) → (bar, 0) ≡ mark_front mode u us
+unfolding mark_front
+bar_front mode u us some h i j k =
+    sym (last_choice (u == 92) (u == 91) (u == 40) (u == 41) (u == 124) _ _ _ _ (bar, 0) _ some (no_eq u 92 h) (no_eq u 91 i) (no_eq u 40 j) (no_eq u 41 k))
+
 no_unit : CodePoint
 no_unit = unit 0 0 0 kind.None
 
@@ -36,7 +51,7 @@ no_unit = unit 0 0 0 kind.None
 abbrev pub IsInClass : Mode → List CodePoint → ℕ → Bool → ℕ → Type 0
 IsInClass mode us i escaped n = class_rest mode false 0 (values us) ≡ i + class_rest mode escaped n (values (drop i us))
 
--- one unit more of a class: behind a backslash, and one that is neither a bracket nor behind a backslash
+-- one unit more of a class: after a backslash, and one that is neither a bracket nor after a backslash
 pub class_escaped : (mode : Mode) (us : List CodePoint) (i n : ℕ) → i < length us → IsInClass mode us i true n → IsInClass mode us (i + 1) false n
 class_escaped mode us i n h e = let g = ap (class_rest mode true n) (values_at us i no_unit h) in omega arith
 
@@ -48,16 +63,16 @@ class_step : (mode : Mode) (us : List CodePoint) (i n m : ℕ) (d : CodePoint) (
     class_rest mode false n ((get_or us i d).value ∷ values (drop (i + 1) us)) ≡ class_rest mode escaped m (values (drop (i + 1) us)) + 1 → IsInClass mode us i false n → IsInClass mode us (i + 1) escaped m
 class_step mode us i n m d escaped h step e = let g = ap (class_rest mode false n) (values_at us i d h) in omega arith
 
-pub class_plain : (mode : Mode) (us : List CodePoint) (i n : ℕ) (d : CodePoint) → i < length us → ((get_or us i d).value == 93) ≡ false → ((get_or us i d).value == 91 && is_sets mode) ≡ false →
-    IsInClass mode us i false n → IsInClass mode us (i + 1) ((get_or us i d).value == 92) n
-class_plain mode us i n d h no_closer no_bracket e =
-    class_step mode us i n n d ((get_or us i d).value == 92) h (rest_plain mode n (get_or us i d).value (values (drop (i + 1) us)) no_closer no_bracket) e
+module _ (mode : Mode) (us : List CodePoint) (i n : ℕ) (d : CodePoint) (h : i < length us) (no_closer : ((get_or us i d).value == 93) ≡ false) (no_bracket : ((get_or us i d).value == 91 && is_sets mode) ≡ false) where
+  pub class_plain : IsInClass mode us i false n → IsInClass mode us (i + 1) ((get_or us i d).value == 92) n
+  class_plain e =
+      class_step mode us i n n d ((get_or us i d).value == 92) h (rest_plain mode n (get_or us i d).value (values (drop (i + 1) us)) no_closer no_bracket) e
 
--- the same with neither a bracket nor a backslash, and with a backslash
-pub class_unit : (mode : Mode) (us : List CodePoint) (i n : ℕ) (d : CodePoint) → i < length us → ((get_or us i d).value == 93) ≡ false → ((get_or us i d).value == 91 && is_sets mode) ≡ false →
-    ((get_or us i d).value == 92) ≡ false → IsInClass mode us i false n → IsInClass mode us (i + 1) false n
-class_unit mode us i n d h no_closer no_bracket no_backslash e = subst (λ b. IsInClass mode us (i + 1) b n) no_backslash (class_plain mode us i n d h no_closer no_bracket e)
+  -- no backslash either
+  pub class_unit : ((get_or us i d).value == 92) ≡ false → IsInClass mode us i false n → IsInClass mode us (i + 1) false n
+  class_unit no_backslash e = subst (λ b. IsInClass mode us (i + 1) b n) no_backslash (class_plain e)
 
+-- a backslash
 pub class_backslash : (mode : Mode) (us : List CodePoint) (i n : ℕ) (d : CodePoint) → i < length us → (get_or us i d).value ≡ 92 → IsInClass mode us i false n → IsInClass mode us (i + 1) true n
 class_backslash mode us i n d h is e =
     let tests = λ (u : ℕ). IsInClass mode us (i + 1) (u == 92) n in
@@ -79,10 +94,6 @@ class_closes us i (suc n) d h is some e =
     class_step Sets us i (suc n) (suc n - 1) d false h
     (ap (λ u. class_rest Sets false (suc n) (u ∷ more)) is ∙ inside_ends Sets n more ∙ ap (λ m. class_rest Sets false m more + 1) last) e
 
-values_append : (us vs : List CodePoint) → values (us ++ vs) ≡ values us ++ values vs
-values_append [] vs = refl
-values_append (u ∷ us) vs = ap (λ z. u.value ∷ z) (values_append us vs)
-
 take_at : (us : List CodePoint) (i : ℕ) (d : CodePoint) → i < length us → take (i + 1) us ≡ take i us ++ (get_or us i d ∷ [])
 take_at [] i d h = absurd (omega arith)
 take_at (u ∷ us) zero d h = refl
@@ -99,7 +110,7 @@ passed_more us i d h n p =
     let u = (get_or us i d).value in let rest = values (drop (i + 1) us) in
     let b : before_close (values (drop i us)) ≡ u ∷ before_close rest = ap before_close e ∙ ap (λ b. cond b [] (u ∷ before_close rest)) n in
     let c : has_close (values (drop i us)) ≡ has_close rest = ap has_close e ∙ ap (λ b. cond b true (has_close rest)) n in
-    let t : values (take (i + 1) us) ≡ values (take i us) ++ (u ∷ []) = ap values (take_at us i d h) ∙ values_append (take i us) (get_or us i d ∷ []) in
+    let t : values (take (i + 1) us) ≡ values (take i us) ++ (u ∷ []) = ap values (take_at us i d h) ∙ map-append (λ (u : CodePoint). u.value) (take i us) (get_or us i d ∷ []) in
     (p.0 ∙ ap (λ z. values (take i us) ++ z) b ∙ sym (append_assoc (values (take i us)) (u ∷ []) (before_close rest)) ∙ ap (λ z. z ++ before_close rest) (sym t), p.1 ∙ c)
 
 pub closed_found : (us : List CodePoint) (i : ℕ) (d : CodePoint) → i < length us → (get_or us i d).value ≡ 62 → Passed us i → Some (values (take i us)) ≡ closed_part (values us)

@@ -1,5 +1,5 @@
 -- One more mark of the first pass.
-use Rattle.std.proofs.Common.{◌≡◌, refl, ap, ap₂, sym, ◌∙◌, subst, ℕ, zero, suc, ◌+◌, ◌<◌, ◌≤◌, Bool, true, false, cond, not, ◌&&◌, ◌||◌, ◌==◌, Option, Some, None, List, [], ◌∷◌, ◌++◌, append_assoc, append-nil, drop, drop-cons, add-one, get_or, length, arith, ◌⊎◌, inl, inr, map}
+use Rattle.std.proofs.Common.{◌≡◌, refl, ap, ap₂, sym, ◌∙◌, subst, ℕ, zero, suc, ◌+◌, ◌<◌, ◌≤◌, Bool, true, false, cond, not, ◌&&◌, ◌||◌, ◌==◌, Option, Some, None, List, [], ◌∷◌, ◌++◌, append_assoc, append-nil, drop, get_or, length, arith, ◌⊎◌, inl, inr, map}
 use Rattle.std.specs.Prelude.{nat_le, nat_lt, option_map}
 use Rattle.std.specs.BTreeMap.{get_by_text}
 use Rattle.std.specs.Str.{IsUtf8, bytes_eq, chars}
@@ -7,15 +7,16 @@ use Rattle.std.proofs.lemmas.Bool.{cases_lt, false≢true, ltb-true, lt-ltb, leb
 use Rattle.std.proofs.lemmas.List.Folds.{list_any-append}
 use Rattle.std.proofs.Math.Seq.{drop-length}
 use Rattle.std.proofs.Math.Bool.{or-true}
+use Rattle.rx_base.specs.Texts.{are_same, is_among}
 use Rattle.rx_units.proofs.Choices.{Some-inj, both}
 use Rattle.rx_model.specs.declared.mode.Mode.{Mode}
 use Rattle.rx_model.specs.FirstPass.GroupStates.{GroupState, Hides, Nests, group_states, step}
-use Rattle.rx_model.specs.FirstPass.Marks.{Mark, Clash, IsFirstClash, IsParted, other, bar, closer, quiet, capturing, count, listed, mark_at, mark_count, mark_front, mark_name, marks, marks_behind, name_length, name_places, names, mark_place, places, places_behind}
-use Rattle.rx_model.specs.Trees.Names.{is_among, once_behind}
+use Rattle.rx_model.specs.FirstPass.Marks.{Mark, Clash, IsFirstClash, IsParted, other, bar, closer, quiet, capturing, count, listed, mark_at, mark_count, mark_front, mark_name, marks, marks_following, name_length, name_places, names, mark_place, places, places_following}
+use Rattle.rx_model.specs.Trees.Names.{once_after}
 use Rattle.rx_model.proofs.FirstPass.PartedMarks.{hidden_parted, parted_hidden, last_seen, nests}
-use Rattle.rx_scan.specs.MarkReading.{front, is_plain}
+use Rattle.rx_scan.specs.MarkReading.{is_plain}
 use Rattle.rx_scan.specs.OpenGroups.{group_states_of, hides, hides_one, parting}
-use Rattle.rx_scan.specs.FirstPass.{Entry, IsPassFault, IsStart, KnowsLast, LastTells, Refuses, Steps, entries, entry_at, entry_for, entry_of, first_clash, last_named, last_or, named, parts_of, same_name, span_of, with_name, with_names}
+use Rattle.rx_scan.specs.FirstPass.{Entry, IsPassFault, IsStart, KnowsLast, LastTells, Refuses, Steps, entries, entry_at, entry_for, entry_of, first_clash, last_named, last_or, named, parts_of, span_of, with_name, with_names}
 use Rattle.rx_scan.specs.Walked.{IsAt}
 use Rattle.rx_scan.specs.declared.first_pass.FirstPass.{FirstPass}
 use Rattle.rx_scan.specs.declared.first_pass.PassFault.{PassFault}
@@ -23,18 +24,15 @@ use Rattle.rx_scan.specs.declared.first_pass.PassFault.TheVariants.{OutOfMemory,
 use Rattle.rx_scan.specs.declared.last_openings.LastOpenings.{LastOpenings}
 use Rattle.rx_scan.proofs.KnownNames.{same_name_Decides, same_text}
 
-unit_at : (us : List ℕ) (i : ℕ) → i < length us → drop i us ≡ get_or us i 0 ∷ drop (i + 1) us
-unit_at us i h = rw (add-one, drop-cons us i 0) refl
+after_drop : (mode : Mode) (n : ℕ) (us : List ℕ) → marks_following mode n us ≡ marks mode (drop n us)
+after_drop mode zero us = refl
+after_drop mode (suc n) [] = refl
+after_drop mode (suc n) (u ∷ us) = after_drop mode n us
 
-behind_drop : (mode : Mode) (n : ℕ) (us : List ℕ) → marks_behind mode n us ≡ marks mode (drop n us)
-behind_drop mode zero us = refl
-behind_drop mode (suc n) [] = refl
-behind_drop mode (suc n) (u ∷ us) = behind_drop mode n us
-
-places_drop : (mode : Mode) (at n : ℕ) (us : List ℕ) → places_behind mode at n us ≡ places_behind mode (at + n) 0 (drop n us)
-places_drop mode at zero us = ap (λ k. places_behind mode k 0 us) (omega arith)
+places_drop : (mode : Mode) (at n : ℕ) (us : List ℕ) → places_following mode at n us ≡ places_following mode (at + n) 0 (drop n us)
+places_drop mode at zero us = ap (λ k. places_following mode k 0 us) (omega arith)
 places_drop mode at (suc n) [] = refl
-places_drop mode at (suc n) (u ∷ us) = let e : (at + 1) + n ≡ at + suc n = omega arith in places_drop mode (at + 1) n us ∙ ap (λ k. places_behind mode k 0 (drop n us)) e
+places_drop mode at (suc n) (u ∷ us) = let e : (at + 1) + n ≡ at + suc n = omega arith in places_drop mode (at + 1) n us ∙ ap (λ k. places_following mode k 0 (drop n us)) e
 
 drop_none : (n : ℕ) → drop n (let e : List ℕ = [] in e) ≡ []
 drop_none zero = refl
@@ -48,26 +46,22 @@ drop_more (suc k) n (u ∷ us) = let e : suc (k + n) ≡ suc k + n = omega arith
 -- the mark that stands at a place, and what follows it
 record Turn (mode : Mode) (us : List ℕ) (at : ℕ) (m : Mark) (taken : ℕ) : Type 0 where
   marks_are : marks mode (drop at us) ≡ m ∷ marks mode (drop (at + taken) us)
-  places_are : places_behind mode at 0 (drop at us) ≡ at ∷ places_behind mode (at + taken) 0 (drop (at + taken) us)
+  places_are : places_following mode at 0 (drop at us) ≡ at ∷ places_following mode (at + taken) 0 (drop (at + taken) us)
 
-turn_at : (mode : Mode) (us : List ℕ) (at u : ℕ) (more : List ℕ) (p : Mark × ℕ) → drop at us ≡ u ∷ more → p ≡ ((mark_front mode u more).0, (mark_front mode u more).1 + 1) → Turn mode us at p.0 p.1
-turn_at mode us at u more p d e =
-    let m = p.0 in
-    let taken = p.1 in
+turn_at : (mode : Mode) (us : List ℕ) (at u : ℕ) (more : List ℕ) (x : Mark × ℕ) → drop at us ≡ u ∷ more → x ≡ mark_front mode u more → Turn mode us at x.0 (x.1 + 1)
+turn_at mode us at u more x d e =
+    let m = x.0 in
+    let taken = x.1 + 1 in
     let n = (mark_front mode u more).1 in
     let em : m ≡ (mark_front mode u more).0 = ap (λ q. q.0) e in
-    let et : taken ≡ n + 1 = ap (λ q. q.1) e in
+    let et : x.1 ≡ n = ap (λ q. q.1) e in
     let s : suc n ≡ taken = omega arith in
     let t : at + 1 + n ≡ at + taken = omega arith in
     let f : drop n more ≡ drop (at + taken) us = ap (drop (suc n)) (sym d) ∙ drop_more at (suc n) us ∙ ap (λ j. drop (at + j) us) s in
     record {
-      marks_are = ap (marks mode) d ∙ ap (λ z. (mark_front mode u more).0 ∷ z) (behind_drop mode n more ∙ ap (marks mode) f) ∙ ap (λ z. z ∷ marks mode (drop (at + taken) us)) (sym em);
-      places_are = ap (places_behind mode at 0) d ∙ ap (λ z. at ∷ z) (places_drop mode (at + 1) n more ∙ ap (λ j. places_behind mode j 0 (drop n more)) t ∙ ap (places_behind mode (at + taken) 0) f);
+      marks_are = ap (marks mode) d ∙ ap (λ z. (mark_front mode u more).0 ∷ z) (after_drop mode n more ∙ ap (marks mode) f) ∙ ap (λ z. z ∷ marks mode (drop (at + taken) us)) (sym em);
+      places_are = ap (places_following mode at 0) d ∙ ap (λ z. at ∷ z) (places_drop mode (at + 1) n more ∙ ap (λ j. places_following mode j 0 (drop n more)) t ∙ ap (places_following mode (at + taken) 0) f);
     }
-
-turn : (mode : Mode) (us : List ℕ) (at : ℕ) (p : Mark × ℕ) → at < length us → p ≡ front mode (drop at us) → Turn mode us at p.0 p.1
-unfolding front
-turn mode us at p lt e = turn_at mode us at (get_or us at 0) (drop (at + 1) us) p (unit_at us at lt) (e ∙ ap (front mode) (unit_at us at lt))
 
 drop_next : {A : Type 0} (xs : List A) (k : ℕ) (y : A) (ys : List A) → drop k xs ≡ y ∷ ys → drop (k + 1) xs ≡ ys
 drop_next xs zero y ys e = ap (drop 1) e
@@ -86,10 +80,10 @@ place_here [] (suc k) y ys e = cc
 place_here (x ∷ xs) zero y ys e = cc
 place_here (x ∷ xs) (suc k) y ys e = place_here xs k y ys e
 
-same_is : (xs ys : List ℕ) → same_name xs ys ≡ true → xs ≡ ys
+same_is : (xs ys : List ℕ) → are_same xs ys ≡ true → xs ≡ ys
 same_is xs ys e = (same_name_Decides xs ys).0 e
 
-same_self : (xs : List ℕ) → same_name xs xs ≡ true
+same_self : (xs : List ℕ) → are_same xs xs ≡ true
 same_self xs = (same_name_Decides xs xs).1 refl
 
 one_true : (a : ℕ) (f : GroupState) → hides_one a f ≡ true → (f.0 ≤ a) × (a < f.1)
@@ -108,7 +102,7 @@ hides_is a (f ∷ fs) (inl h) = ap (λ b. b || hides a fs) (one_is a f h.0 h.1)
 hides_is a (f ∷ fs) (inr h) = ap (λ b. hides_one a f || b) (hides_is a fs h) ∙ or-true (hides_one a f)
 
 abbrev test : List GroupState → List ℕ → Entry → Bool
-test fs n e = same_name e.name n && not (hides e.index fs)
+test fs n e = are_same e.name n && not (hides e.index fs)
 
 none_both : (fs : List GroupState) (n : List ℕ) (xs ys : List Entry) → first_clash fs n (xs ++ ys) ≡ None → (first_clash fs n xs ≡ None) × (first_clash fs n ys ≡ None)
 none_both fs n [] ys h = (refl, h)
@@ -174,7 +168,7 @@ found_last mode us fs n k e (Some v) m all h =
     elim (cases_Bool (test fs n x)) [
       | inl t ↦
           let same : x ≡ e = Some-inj (sym (ap (λ b. cond b (Some x) None) t) ∙ h) in
-          let b = both (same_name v n) (not (hides k fs)) t in
+          let b = both (are_same v n) (not (hides k fs)) t in
           let q : v ≡ n = same_is v n b.0 in
           subst (Found mode us fs n (suc k)) same
           (record { before = omega arith; is = m ∙ ap Some q; seen_there = not-true (hides k fs) b.1; places_are = refl; first = all })
@@ -208,18 +202,18 @@ SameNames xs ys = (n : List ℕ) → is_among xs n ≡ is_among ys n
 
 same_more : (xs ys : List (List ℕ)) (n : List ℕ) → SameNames xs ys → SameNames (xs ++ n ∷ []) (n ∷ ys)
 same_more xs ys n s m =
-    list_any-append (λ z. same_name z m) xs (n ∷ []) ∙ or_turn (is_among xs m) (same_name n m) ∙ ap (λ b. same_name n m || b) (s m)
+    list_any-append (λ z. are_same z m) xs (n ∷ []) ∙ or_turn (is_among xs m) (are_same n m) ∙ ap (λ b. are_same n m || b) (s m)
 
-pub once_in_order : (ns xs ys : List (List ℕ)) → SameNames xs ys → with_names xs ns ≡ xs ++ once_behind ys ns
+pub once_in_order : (ns xs ys : List (List ℕ)) → SameNames xs ys → with_names xs ns ≡ xs ++ once_after ys ns
 once_in_order [] xs ys s = sym (append-nil xs)
 once_in_order (n ∷ ns) xs ys s = elim (cases_Bool (is_among xs n)) [
   | inl t ↦
       ap (λ b. with_names (cond b xs (xs ++ n ∷ [])) ns) t ∙ once_in_order ns xs ys s
-      ∙ ap (λ b. xs ++ cond b (once_behind ys ns) (n ∷ once_behind (n ∷ ys) ns)) (sym (sym (s n) ∙ t))
+      ∙ ap (λ b. xs ++ cond b (once_after ys ns) (n ∷ once_after (n ∷ ys) ns)) (sym (sym (s n) ∙ t))
   | inr f ↦
       ap (λ b. with_names (cond b xs (xs ++ n ∷ [])) ns) f ∙ once_in_order ns (xs ++ n ∷ []) (n ∷ ys) (same_more xs ys n s)
-      ∙ append_assoc xs (n ∷ []) (once_behind (n ∷ ys) ns)
-      ∙ ap (λ b. xs ++ cond b (once_behind ys ns) (n ∷ once_behind (n ∷ ys) ns)) (sym (sym (s n) ∙ f))
+      ∙ append_assoc xs (n ∷ []) (once_after (n ∷ ys) ns)
+      ∙ ap (λ b. xs ++ cond b (once_after ys ns) (n ∷ once_after (n ∷ ys) ns)) (sym (sym (s n) ∙ f))
 ]
 
 count_one : (m : Mark) → mark_count m ≤ 1
@@ -260,16 +254,18 @@ start_at mode duplicate_names us s w = record {
 parts_are : (mode : Mode) (duplicate_names : Bool) (us : List ℕ) (at k : ℕ) (s : FirstPass) → IsAt mode duplicate_names us at k s → parts_of s ≡ parting duplicate_names (group_states (marks mode us) k)
 parts_are mode duplicate_names us at k s w = ap₂ parting w.rule_is w.opened
 
-pub advanced : (mode : Mode) (duplicate_names : Bool) (us : List ℕ) (at k : ℕ) (x : Mark × ℕ) (old new : FirstPass) → at < length us → at + x.1 ≤ length us → 0 < x.1 → x ≡ front mode (drop at us) → Steps old new x.0 at k → IsAt mode duplicate_names us at k old → IsAt mode duplicate_names us (at + x.1) (k + 1) new
-advanced mode duplicate_names us at k x old new lt le pos e s w =
+-- over the mark that begins with the unit at a place
+pub advanced : (mode : Mode) (duplicate_names : Bool) (us : List ℕ) (at k u : ℕ) (more : List ℕ) (x : Mark × ℕ) (old new : FirstPass) → drop at us ≡ u ∷ more → x ≡ mark_front mode u more → at + (x.1 + 1) ≤ length us → Steps old new x.0 at k →
+    IsAt mode duplicate_names us at k old → IsAt mode duplicate_names us (at + (x.1 + 1)) (k + 1) new
+advanced mode duplicate_names us at k u more x old new d e le s w =
     let ms = marks mode us in
     let m = x.0 in
-    let taken = x.1 in
-    let t = turn mode us at x lt e in
+    let taken = x.1 + 1 in
+    let t = turn_at mode us at u more x d e in
     let r : drop k ms ≡ m ∷ marks mode (drop (at + taken) us) = w.rest ∙ t.marks_are in
-    let p : drop k (places mode us) ≡ at ∷ places_behind mode (at + taken) 0 (drop (at + taken) us) = w.places ∙ t.places_are in
+    let p : drop k (places mode us) ≡ at ∷ places_following mode (at + taken) 0 (drop (at + taken) us) = w.places ∙ t.places_are in
     let here : mark_at ms k ≡ m = mark_here ms k m (marks mode (drop (at + taken) us)) r in
-    let place_is : mark_place mode us k ≡ at = place_here (places mode us) k at (places_behind mode (at + taken) 0 (drop (at + taken) us)) p in
+    let place_is : mark_place mode us k ≡ at = place_here (places mode us) k at (places_following mode (at + taken) 0 (drop (at + taken) us)) p in
     let next : suc k ≡ k + 1 = omega arith in
     let few = w.few in let fewer = w.fewer in let one = count_one m in let counted = s.counted in
     record {
@@ -279,11 +275,11 @@ advanced mode duplicate_names us at k x old new lt le pos e s w =
       few = omega arith;
       fewer = omega arith;
       rest = drop_next ms k m (marks mode (drop (at + taken) us)) r;
-      places = drop_next (places mode us) k at (places_behind mode (at + taken) 0 (drop (at + taken) us)) p;
+      places = drop_next (places mode us) k at (places_following mode (at + taken) 0 (drop (at + taken) us)) p;
       opened = s.opened ∙ ap (step k m) w.opened ∙ ap (λ z. step k z (group_states ms k)) (sym here) ∙ ap (group_states ms) next;
       listed_are = s.listed_are ∙ ap (λ z. z ++ entry_at old.mode at k m) w.listed_are ∙ ap (λ z. named mode us k ++ entry_at z at k m) w.mode_is ∙ ap (λ z. named mode us k ++ entry_at mode z k m) (sym place_is) ∙ ap (λ z. named mode us k ++ entry_at mode (mark_place mode us k) k z) (sym here) ∙ ap (named mode us) next;
       knows = s.knows;
-      counted = (let c = w.counted in let d : count (marks mode (drop at us)) ≡ mark_count m + count (marks mode (drop (at + taken) us)) = ap count t.marks_are in omega arith);
+      counted = (let c = w.counted in let all : count (marks mode (drop at us)) ≡ mark_count m + count (marks mode (drop (at + taken) us)) = ap count t.marks_are in omega arith);
       named_by = ap (λ z. with_names z (names mode (marks mode (drop (at + taken) us)))) (s.named_by ∙ ap (λ z. with_names old.names (listed (mark_name z m))) w.mode_is) ∙ sym (with_names_append (listed (mark_name mode m)) old.names (names mode (marks mode (drop (at + taken) us)))) ∙ ap (λ z. with_names old.names (names mode z)) (sym t.marks_are) ∙ w.named_by;
       clean = λ a b l c. elim (cases_lt b k) [
         | inl h ↦ w.clean a b h c
@@ -323,10 +319,8 @@ plain_front mode u us h = none_of (u == 92) (u == 91) (u == 40) (u == 41) (u == 
 
 -- over a unit that opens and closes nothing
 pub passed : (mode : Mode) (duplicate_names : Bool) (us : List ℕ) (at k u : ℕ) (more : List ℕ) (s : FirstPass) → at < length us → drop at us ≡ u ∷ more → is_plain u ≡ true → IsAt mode duplicate_names us at k s → IsAt mode duplicate_names us (at + 1) (k + 1) s
-unfolding front
 passed mode duplicate_names us at k u more s lt d plain w =
-    advanced mode duplicate_names us at k (other, 1) s s lt (omega arith) (omega arith)
-    (sym (ap (front mode) d ∙ ap (λ (q : Mark × ℕ). (q.0, q.1 + 1)) (plain_front mode u more plain))) (unmoved s at k w.knows) w
+    advanced mode duplicate_names us at k u more (other, 0) s s d (sym (plain_front mode u more plain)) (omega arith) (unmoved s at k w.knows) w
 
 places_at : (mode : Mode) (us : List ℕ) (at k : ℕ) (m : Mark) → mark_place mode us k ≡ at → mark_at (marks mode us) k ≡ m → (at + 3, at + 3 + name_length m) ≡ name_places mode us k
 places_at mode us at k m pl here = ap (λ z. (z + 3, z + 3 + name_length m)) (sym pl) ∙ ap (λ z. (mark_place mode us k + 3, mark_place mode us k + 3 + name_length z)) (sym here)
@@ -358,14 +352,14 @@ duplicated mode duplicate_names us at k m old f g pl here r w =
     } in
     (e.index, k, first, r.2.2 ∙ d.places_are, r.2.3 ∙ places_at mode us at k m pl here)
 
-pub refused : (mode : Mode) (duplicate_names : Bool) (us : List ℕ) (at k : ℕ) (x : Mark × ℕ) (old : FirstPass) (f : PassFault) → at < length us → x ≡ front mode (drop at us) → Refuses old x.0 at f → IsAt mode duplicate_names us at k old → IsPassFault mode duplicate_names us f
-refused mode duplicate_names us at k x old OutOfMemory lt e r w = tt
-refused mode duplicate_names us at k x old (Duplicated f g) lt e r w =
+pub refused : (mode : Mode) (duplicate_names : Bool) (us : List ℕ) (at k u : ℕ) (more : List ℕ) (x : Mark × ℕ) (old : FirstPass) (f : PassFault) → drop at us ≡ u ∷ more → x ≡ mark_front mode u more → Refuses old x.0 at f → IsAt mode duplicate_names us at k old → IsPassFault mode duplicate_names us f
+refused mode duplicate_names us at k u more x old OutOfMemory d e r w = tt
+refused mode duplicate_names us at k u more x old (Duplicated f g) d e r w =
     let m = x.0 in
-    let taken = x.1 in
-    let t = turn mode us at x lt e in
+    let taken = x.1 + 1 in
+    let t = turn_at mode us at u more x d e in
     duplicated mode duplicate_names us at k m old f g
-    (place_here (places mode us) k at (places_behind mode (at + taken) 0 (drop (at + taken) us)) (w.places ∙ t.places_are))
+    (place_here (places mode us) k at (places_following mode (at + taken) 0 (drop (at + taken) us)) (w.places ∙ t.places_are))
     (mark_here (marks mode us) k m (marks mode (drop (at + taken) us)) (w.rest ∙ t.marks_are)) r w
 
 nothing_at : (ms : List Mark) (k : ℕ) → drop k ms ≡ [] → (b : ℕ) → k ≤ b → mark_at ms b ≡ other
@@ -392,8 +386,8 @@ last_or_none (Some x) y e = cc
 none_last : (fs : List GroupState) (n : List ℕ) (es : List Entry) → last_named n es ≡ None → first_clash fs n es ≡ None
 none_last fs n [] h = refl
 none_last fs n (e ∷ es) h =
-    let g = last_or_none (last_named n es) (cond (same_name e.name n) (Some e) None) h in
-    elim (cases_Bool (same_name e.name n)) [
+    let g = last_or_none (last_named n es) (cond (are_same e.name n) (Some e) None) h in
+    elim (cases_Bool (are_same e.name n)) [
       | inl t ↦ let k : Some e ≡ None = sym (ap (λ b. cond b (Some e) None) t) ∙ g.1 in cc
       | inr f ↦ ap (λ b. cond (b && not (hides e.index fs)) (Some e) (first_clash fs n es)) f ∙ none_last fs n es g.0
     ]
@@ -408,7 +402,7 @@ last_or_turn (Some x) y z = refl
 
 pub last_append : (n : List ℕ) (xs ys : List Entry) → last_named n (xs ++ ys) ≡ last_or (last_named n ys) (last_named n xs)
 last_append n [] ys = sym (last_or_nothing (last_named n ys))
-last_append n (e ∷ xs) ys = ap (λ z. last_or z (cond (same_name e.name n) (Some e) None)) (last_append n xs ys) ∙ last_or_turn (last_named n ys) (last_named n xs) (cond (same_name e.name n) (Some e) None)
+last_append n (e ∷ xs) ys = ap (λ z. last_or z (cond (are_same e.name n) (Some e) None)) (last_append n xs ys) ∙ last_or_turn (last_named n ys) (last_named n xs) (cond (are_same e.name n) (Some e) None)
 
 last_either : (x y : Option Entry) (e : Entry) → last_or x y ≡ Some e → (x ≡ Some e) ⊎ ((x ≡ None) × (y ≡ Some e))
 last_either None y e h = inr (refl, h)
@@ -423,7 +417,7 @@ entry_last : (n : List ℕ) (k from to : ℕ) (o : Option (List ℕ)) (e : Entry
 entry_last n k from to None e h = cc
 entry_last n k from to (Some v) e h =
     let x : Entry = record { index = k; name = v; from = from; to = to } in
-    elim (cases_Bool (same_name v n)) [
+    elim (cases_Bool (are_same v n)) [
       | inl t ↦ let q : x ≡ e = Some-inj (sym (ap (λ b. cond b (Some x) None) t) ∙ h) in (sym (ap (λ z. z.index) q), ap Some (same_is v n t))
       | inr f ↦ let g : None ≡ Some e = sym (ap (λ b. cond b (Some x) None) f) ∙ h in cc
     ]
@@ -515,8 +509,8 @@ new_case false e o = refl
 pub knows_more : (es : List Entry) (e : Entry) (old new : LastOpenings) (bytes : List ℕ) → KnowsLast es old → ((cs : List ℕ) → get_by_text new.marks cs ≡ cond (bytes_eq bytes cs) (Some e.index) (get_by_text old.marks cs)) → IsUtf8 bytes → chars bytes ≡ e.name → KnowsLast (es ++ e ∷ []) new
 knows_more es e old new bytes knows sets text is cs valid =
     let n = chars cs in
-    let same = same_text bytes cs text valid ∙ ap (λ z. same_name z n) is in
-    sets cs ∙ ap (λ b. cond b (Some e.index) (get_by_text old.marks cs)) same ∙ ap (cond (same_name e.name n) (Some e.index)) (knows cs valid)
-    ∙ sym (new_case (same_name e.name n) e (option_map (λ (e : Entry). e.index) (last_named n es)))
+    let same = same_text bytes cs text valid ∙ ap (λ z. are_same z n) is in
+    sets cs ∙ ap (λ b. cond b (Some e.index) (get_by_text old.marks cs)) same ∙ ap (cond (are_same e.name n) (Some e.index)) (knows cs valid)
+    ∙ sym (new_case (are_same e.name n) e (option_map (λ (e : Entry). e.index) (last_named n es)))
     ∙ sym (index_case (last_named n (e ∷ [])) (last_named n es))
     ∙ ap (option_map (λ (e : Entry). e.index)) (sym (last_append n es (e ∷ [])))

@@ -1,8 +1,10 @@
 -- How many hexadecimal digits the decoder of unicode escapes looks at.
 use Rattle.std.specs.Prelude.{ℕ, ◌+◌, ◌-◌, Bool, ◌==◌, ◌&&◌, List, [], ◌∷◌, drop, length, min, Option, Some, None, nat_lt, if◌then◌else◌}
 use Rattle.std.specs.List.{prefix_len}
+use Rattle.rx_base.specs.Ascii as ascii
+use Rattle.rx_base.specs.Characters.{is_lead}
 use Rattle.rx_units.specs.Digits.{is_hex_digit}
-use Rattle.rx_model.specs.Characters.Decoding.{four_at, is_lead}
+use Rattle.rx_model.specs.Characters.Decoding.{four_at}
 use Rattle.rx_scan.specs.declared.unicode_escape.UnicodeEscape.{UnicodeEscape}
 use Rattle.rx_scan.specs.declared.unicode_escape.UnicodeEscape.TheVariants as escape
 
@@ -34,12 +36,12 @@ digits_of_four w = if nat_lt (length w) 4 then 0 else min 4 (hex_run w)
 
 -- the same after a backslash and `u`, where a trail surrogate is looked for
 abbrev pub digits_of_trail : List ℕ → ℕ
-digits_of_trail (x ∷ y ∷ w) = if (x == 92) && (y == 117) then digits_of_four w else 0
+digits_of_trail (x ∷ y ∷ w) = if (x == ascii.backslash) && (y == ascii.u) then digits_of_four w else 0
 digits_of_trail _ = 0
 
 -- how many zeros stand at the front
 abbrev pub zeros : List ℕ → ℕ
-zeros w = prefix_len (λ c. c == 48) w
+zeros w = prefix_len (λ c. c == ascii.zero) w
 
 -- After an opening brace the run is looked at up to the digit that passes 32 bits, and with it: after the zeros at its front this is the ninth.
 abbrev pub digits_of_run : List ℕ → ℕ
@@ -47,7 +49,7 @@ digits_of_run w = zeros w + min 9 (hex_run (drop (zeros w) w))
 
 abbrev pub digits_in_braces : List ℕ → ℕ
 digits_in_braces [] = 0
-digits_in_braces (x ∷ w) = if x == 123 then digits_of_run w else 0
+digits_in_braces (x ∷ w) = if x == ascii.left_brace then digits_of_run w else 0
 
 -- In unicode mode more are looked at where four digits stand that are a lead surrogate, and where no four digits stand and a brace does.
 abbrev pub digits_beyond_four : Option (ℕ × List ℕ) → List ℕ → ℕ
@@ -60,4 +62,4 @@ digits_after_u unicode_mode w = digits_of_four w + (if unicode_mode then digits_
 -- How many hexadecimal digits are looked at, in unicode mode or not.
 abbrev pub digits_looked_at : Bool → List ℕ → ℕ
 digits_looked_at unicode_mode [] = 0
-digits_looked_at unicode_mode (x ∷ w) = if x == 117 then digits_after_u unicode_mode w else 0
+digits_looked_at unicode_mode (x ∷ w) = if x == ascii.u then digits_after_u unicode_mode w else 0

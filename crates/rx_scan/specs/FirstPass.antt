@@ -1,12 +1,11 @@
 -- The first pass over a text, mark by mark.
-use Rattle.std.specs.Prelude.{◌≡◌, ℕ, zero, suc, ◌+◌, Bool, true, eqb, not, ◌&&◌, Option, Some, None, List, [], ◌∷◌, ◌++◌, map, option_map, if◌then◌else◌}
-use lib.Pointwise.{pointwise}
+use Rattle.std.specs.Prelude.{◌≡◌, ℕ, zero, suc, ◌+◌, Bool, true, not, ◌&&◌, Option, Some, None, List, [], ◌∷◌, ◌++◌, map, option_map, if◌then◌else◌}
 use Rattle.std.specs.BTreeMap.{get_by_text}
 use Rattle.std.specs.Str.{IsUtf8, chars}
+use Rattle.rx_base.specs.Texts.{are_same, is_among}
 use Rattle.rx_model.specs.declared.mode.Mode.{Mode}
 use Rattle.rx_model.specs.FirstPass.GroupStates.{GroupState, step}
 use Rattle.rx_model.specs.FirstPass.Marks.{IsFirstClash, Mark, listed, mark_at, mark_count, mark_name, mark_place, marks, name_length, name_places}
-use Rattle.rx_model.specs.Trees.Names.{is_among}
 use Rattle.rx_scan.specs.OpenGroups.{group_states_of, hides, parting}
 use Rattle.rx_scan.specs.declared.first_pass.FirstPass.{FirstPass}
 use Rattle.rx_scan.specs.declared.first_pass.Opening.{Opening}
@@ -35,14 +34,10 @@ abbrev pub named : Mode → List ℕ → ℕ → List Entry
 named mode us zero = []
 named mode us (suc k) = named mode us k ++ entry_at mode (mark_place mode us k) k (mark_at (marks mode us) k)
 
--- whether two names are equal
-abbrev pub same_name : List ℕ → List ℕ → Bool
-same_name xs ys = pointwise eqb xs ys
-
 -- the first of equal name that is in no alternative that has ended
 abbrev pub first_clash : List GroupState → List ℕ → List Entry → Option Entry
 first_clash fs name [] = None
-first_clash fs name (e ∷ es) = if same_name e.name name && not (hides e.index fs) then Some e else first_clash fs name es
+first_clash fs name (e ∷ es) = if are_same e.name name && not (hides e.index fs) then Some e else first_clash fs name es
 
 -- the first of two that is there
 abbrev pub last_or : Option Entry → Option Entry → Option Entry
@@ -52,7 +47,7 @@ last_or (Some x) y = Some x
 -- the last of equal name
 abbrev pub last_named : List ℕ → List Entry → Option Entry
 last_named name [] = None
-last_named name (e ∷ es) = last_or (last_named name es) (if same_name e.name name then Some e else None)
+last_named name (e ∷ es) = last_or (last_named name es) (if are_same e.name name then Some e else None)
 
 -- Where the last of equal name is in an alternative that has ended, all are.
 abbrev pub LastTells : List GroupState → List ℕ → List Entry → Type 0

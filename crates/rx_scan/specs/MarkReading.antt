@@ -1,11 +1,11 @@
 -- What the reader of marks answers, as marks of the text.
-use Rattle.std.specs.Prelude.{ℕ, ◌+◌, ◌==◌, ◌||◌, Bool, not, Option, Some, None, List, [], ◌∷◌, if◌then◌else◌}
+use Rattle.std.specs.Prelude.{ℕ, ◌==◌, ◌||◌, Bool, not, Option, Some, None, List, if◌then◌else◌}
 use Rattle.std.specs.Borrow.{Bor}
+use Rattle.rx_base.specs.Ascii as ascii
 use Rattle.rx_units.specs.declared.code_point.CodePoint.{CodePoint}
 use Rattle.rx_units.specs.Units.{values}
-use Rattle.rx_model.specs.declared.mode.Mode.{Mode}
 use Rattle.rx_model.specs.FirstPass.Marks as model
-use Rattle.rx_model.specs.FirstPass.Marks.{before_close, has_close, mark_front}
+use Rattle.rx_model.specs.FirstPass.Marks.{before_close, has_close}
 use Rattle.rx_scan.specs.declared.mark.Mark.{Mark}
 use Rattle.rx_scan.specs.declared.mark.Mark.TheVariants as mark
 
@@ -30,11 +30,6 @@ seen_mark (mark.Capturing units) = seen_capturing units
 abbrev pub seen_front : Mark × ℕ → model.Mark × ℕ
 seen_front front = (seen_mark front.0, front.1)
 
--- the mark with which the units begin, and how many of them it takes
-unfoldable pub front : Mode → List ℕ → model.Mark × ℕ
-front mode [] = (model.other, 0)
-front mode (u ∷ us) = ((mark_front mode u us).0, (mark_front mode u us).1 + 1)
-
 -- whether a unit is a mark of its own that opens and closes nothing: it begins no escape, class, opening, closer or bar
 abbrev pub is_plain : ℕ → Bool
-is_plain u = not (u == 92 || u == 91 || u == 40 || u == 41 || u == 124)
+is_plain u = not (u == ascii.backslash || u == ascii.left_bracket || u == ascii.left_parenthesis || u == ascii.right_parenthesis || u == ascii.vertical_bar)

@@ -2,7 +2,7 @@
 use Rattle.std.specs.Prelude.{◌≡◌, Bool, ℕ, ◌+◌, ◌<◌, ◌≤◌, List, length, drop}
 use Rattle.rx_model.specs.declared.mode.Mode.{Mode}
 use Rattle.rx_model.specs.FirstPass.GroupStates.{group_states}
-use Rattle.rx_model.specs.FirstPass.Marks.{Clash, count, marks, names, places, places_behind, seen}
+use Rattle.rx_model.specs.FirstPass.Marks.{Clash, count, marks, names, places, places_following, seen}
 use Rattle.rx_scan.specs.OpenGroups.{group_states_of}
 use Rattle.rx_scan.specs.FirstPass.{KnowsLast, entries, named, with_names}
 use Rattle.rx_scan.specs.declared.first_pass.FirstPass.{FirstPass}
@@ -15,7 +15,7 @@ pub record IsAt (mode : Mode) (duplicate_names : Bool) (us : List ℕ) (at : ℕ
   pub few : k ≤ at
   pub fewer : pass.count ≤ k
   pub rest : drop k (marks mode us) ≡ marks mode (drop at us)
-  pub places : drop k (places mode us) ≡ places_behind mode at 0 (drop at us)
+  pub places : drop k (places mode us) ≡ places_following mode at 0 (drop at us)
   pub opened : group_states_of pass.groups ≡ group_states (marks mode us) k
   pub listed_are : entries pass ≡ named mode us k
   pub knows : KnowsLast (entries pass) pass.last_openings

@@ -1,12 +1,13 @@
 ghost use Rattle.std.specs.Prelude.{◌≡◌, ◌+◌, ◌<◌, ◌≤◌, ◌^◌, ℕ, List, None, Some, IfOk, IfErr, OnOk, drop, length, map, option_map};
 ghost use Rattle.std.specs.Str.{chars};
+ghost use Rattle.rx_base.specs.Texts.{are_same};
 ghost use Rattle.rx_units.specs.Units.{values};
 ghost use Rattle.rx_model.specs.FirstPass.GroupStates.{Nests};
 ghost use Rattle.rx_model.specs.FirstPass.Marks.{name_length};
 ghost use Rattle.rx_model.specs.Refusals.Reached.{HasNoClash, text_groups, text_names};
 ghost use Rattle.rx_scan.specs.MarkReading.{seen_mark, seen_capturing};
 ghost use Rattle.rx_scan.specs.OpenGroups.{group_states_of, hides, parting};
-ghost use Rattle.rx_scan.specs.FirstPass.{Captures, ClashesWith, IsPassFault, IsStart, KnowsLast, LastTells, Refuses, Steps, entries, entry_of, first_clash, parts_of, same_name, span_of, with_name};
+ghost use Rattle.rx_scan.specs.FirstPass.{Captures, ClashesWith, IsPassFault, IsStart, KnowsLast, LastTells, Refuses, Steps, entries, entry_of, first_clash, parts_of, span_of, with_name};
 
 use crate::last_openings::LastOpenings;
 use crate::mark::{Mark, is_plain, read_mark};
@@ -70,8 +71,8 @@ fn tail(units: &[CodePoint], place: usize) -> &[CodePoint]
 }
 
 impl FirstPass {
-    /// Counts the groups of a text and lists their names (CountLeftCapturingParensWithin of ECMA-262, 22.2.1.2), or finds the first
-    /// two equal names that clash: where two groups may have one name, two of which no bar parts the one from the other (22.2.1.1). Counts one for each unit that it goes over.
+    /// Counts the groups of a text and lists their names (CountLeftCapturingParensWithin of ECMA-262, 22.2.1.2), or finds the first two equal
+    /// names that clash (22.2.1.1): any two, or where two groups may have one name, two that no bar parts. Counts each unit that it goes over.
     #[tactic(auto, unfolding(rx_model::specs::Refusals::Reached::text_groups, rx_model::specs::Refusals::Reached::text_names))]
     pub fn over<C: Counter>(
         alloc: Global,
@@ -92,18 +93,16 @@ impl FirstPass {
         let mut place = 0usize;
         let mut index = 0usize;
         while place < units.len() {
-            if is_plain(units[place].value) {
-                steps.tick();
+            let unit = units[place].value;
+            steps.tick();
+            if is_plain(unit) {
                 place += 1;
                 index += 1;
                 continue;
             }
-            let (mark, taken) = read_mark(tail(units, place), mode, steps);
-            match pass.step(alloc, mark, place, index) {
-                Ok(()) => {}
-                Err(fault) => return Err(fault),
-            }
-            place += taken;
+            let (mark, more) = read_mark(unit, tail(units, place + 1), mode, steps);
+            pass.step(alloc, mark, place, index)?;
+            place += more + 1;
             index += 1;
         }
         Ok(pass)
@@ -284,7 +283,7 @@ fn first_clash(
 }
 
 fn is_named(opening: &Opening, name: &str) -> bool
-    ensures { result ≡ same_name opening.now.name (chars name.now) }
+    ensures { result ≡ are_same opening.now.name (chars name.now) }
 {
     opening.name.as_str() == name
 }

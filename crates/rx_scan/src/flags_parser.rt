@@ -1,10 +1,12 @@
 ghost use Rattle.std.specs.Prelude.{◌≡◌, ℕ, ◌+◌, ◌<◌, ◌^◌, true, All, IfOk, IfErr, MatchOption, length, take};
+ghost use Rattle.rx_base.specs.Flags.{holds};
 ghost use Rattle.rx_units.specs.Units.{values};
 ghost use Rattle.rx_model.specs.Refusals.FlagCauses.{IsFlagCause, unit_span};
-ghost use Rattle.rx_model.specs.Inputs.Flags.{flags_ok, holds, is_flag, modes_of};
+ghost use Rattle.rx_model.specs.Inputs.Flags.{flags_ok, mode_of, modes_of};
 
 use crate::SpanFactory;
-use rx_base::{Diagnostic, Span};
+use rx_base::{Diagnostic, Span, is_flag};
+use rx_model::Mode;
 use rx_units::{CodePoint, Reader};
 
 /// Reads flags.
@@ -27,6 +29,7 @@ impl<'a> FlagsParser<'a> {
     }
 
     /// Whether the flags ask for a unicode mode, and whether they ask for sets mode; or why they are refused.
+    #[tactic(auto, using(crate::proofs::FlagRows::modes_by_mode))]
     pub fn parse(self) -> Result<(bool, bool), Diagnostic>
         requires start { self.reader.place ≡ 0 }
         requires first { self.reader.first + self.spans < 2 ^ 32 }
@@ -37,8 +40,8 @@ impl<'a> FlagsParser<'a> {
     {
         let units = self.reader.remaining_code_points();
         check(units, self.reader.offset(), self.spans)?;
-        let sets = holds(units, 'v');
-        Ok((sets || holds(units, 'u'), sets))
+        let mode = mode_of(units);
+        Ok((mode.is_unicode(), matches!(mode, Mode::Sets)))
     }
 }
 
@@ -71,36 +74,30 @@ fn refusal(units: &[CodePoint], place: usize, span: Span) -> Option<Diagnostic>
     if !is_flag(flag) {
         return Some(Diagnostic::UnknownFlag { span, flag });
     }
-    if contains(&units[..place], flag) {
+    if holds(&units[..place], flag) {
         return Some(Diagnostic::DuplicatedFlags { span, flag });
     }
     let flags = &units[..place + 1];
-    if holds(flags, 'u') && holds(flags, 'v') {
+    if holds(flags, 'u' as u32) && holds(flags, 'v' as u32) {
         return Some(Diagnostic::InvalidUnicodeFlags { span });
     }
     None
 }
 
-fn is_flag(value: u32) -> bool
-    ensures { result ≡ is_flag value }
+/// The mode that flags ask for.
+fn mode_of(units: &[CodePoint]) -> Mode
+    ensures { result ≡ mode_of (values units.now) }
 {
-    value == 'd' as u32
-        || value == 'g' as u32
-        || value == 'i' as u32
-        || value == 'm' as u32
-        || value == 's' as u32
-        || value == 'u' as u32
-        || value == 'v' as u32
-        || value == 'y' as u32
+    if holds(units, 'v' as u32) {
+        Mode::Sets
+    } else if holds(units, 'u' as u32) {
+        Mode::Unicode
+    } else {
+        Mode::Legacy
+    }
 }
 
-fn holds(units: &[CodePoint], flag: char) -> bool
-    ensures { result ≡ holds (values units.now) flag }
-{
-    contains(units, flag as u32)
-}
-
-fn contains(units: &[CodePoint], value: u32) -> bool
+fn holds(units: &[CodePoint], value: u32) -> bool
     ensures { result ≡ holds (values units.now) value }
 {
     units.iter().any(|unit| unit.value == value)

@@ -1,12 +1,13 @@
-ghost use Rattle.std.specs.Prelude.{◌≡◌, ◌↔◌, ◌+◌, ◌*◌, ◌<◌, ◌≤◌, ℕ, false, true, drop, List, Some, None, IfOk, IfSome, length, if◌then◌else◌};
+ghost use Rattle.std.specs.Prelude.{◌≡◌, ◌∷◌, ◌==◌, ◌+◌, ◌*◌, ◌<◌, ◌≤◌, ℕ, false, true, drop, List, Some, None, IfOk, IfSome, length, if◌then◌else◌};
+ghost use Rattle.rx_base.specs.Ascii as ascii;
 ghost use Rattle.rx_base.specs.Rising.{Rises};
 ghost use Rattle.rx_base.specs.SurrogatePair.{surrogate_pair};
 ghost use Rattle.rx_units.specs.Units.{values};
 ghost use Rattle.rx_model.specs.Characters.Decoding.{decoded};
 ghost use Rattle.rx_model.specs.FirstPass.Marks.{starts};
-ghost use Rattle.rx_model.specs.Groups.GroupNameReading.{escape_in_name, name_at, name_character_at, name_of, pair_at, raw_at, row};
-ghost use Rattle.rx_model.specs.Groups.GroupNames.{IsGroupName, IsNameRow, is_in_name, is_pair_in_name};
-ghost use Rattle.rx_scan.specs.GroupNames.{seen_character};
+ghost use Rattle.rx_model.specs.Groups.GroupNameReading.{escape_in_name, name_at, name_character_at, pair_at, raw_at, row};
+ghost use Rattle.rx_model.specs.Groups.GroupNames.{IsNameRow, is_in_name, is_pair_in_name};
+ghost use Rattle.rx_scan.specs.GroupNames.{IsNameOf, seen_character};
 
 use crate::{UnicodeEscape, decode_counted};
 use rx_base::{
@@ -21,15 +22,14 @@ use std::alloc::Global;
 use std::marker::Brand;
 use std::sync::ledger::{Blank, Ledger};
 
-/// The name that all units spell (RegExpIdentifierName of ECMA-262, 22.2.1), with its escapes read; none where they spell
-/// no name. The units are code points in unicode mode, else UTF-16 code units.
+/// The name that all units spell (RegExpIdentifierName of ECMA-262, 22.2.1), or none where they spell no name. Its escapes are read. The units are
+/// code points in unicode mode, else UTF-16 code units.
 pub fn capturing_group_name(
     alloc: Global,
     units: &[CodePoint],
     unicode_mode: bool,
 ) -> Result<Option<Text>, OutOfMemory>
-    ensures read { IfOk result (λ found. found ≡ name_of unicode_mode (values units.now)) }
-    ensures name { IfOk result (λ found. (name : List ℕ) → (found ≡ Some name) ↔ IsGroupName unicode_mode (values units.now) name) }
+    ensures { IfOk result (IsNameOf unicode_mode (values units.now)) }
 {
     name_alone::<Brand>(alloc, units, unicode_mode, Blank::new(1))
 }
@@ -44,21 +44,20 @@ fn name_alone<L: Ledger>(
     requires name { blank.name ≡ L.name }
     requires parts { blank.parts ≡ L.parts }
     requires one { blank.parts ≡ 1 }
-    ensures read { IfOk result (λ found. found ≡ name_of unicode_mode (values units.now)) }
-    ensures name { IfOk result (λ found. (name : List ℕ) → (found ≡ Some name) ↔ IsGroupName unicode_mode (values units.now) name) }
+    ensures { IfOk result (IsNameOf unicode_mode (values units.now)) }
 {
     capturing_group_name_counted(alloc, units, unicode_mode, &mut Steps::<L>::new(blank))
 }
 
-/// Reads a name as `capturing_group_name` does, and counts one for each of its characters, and the digits of an escape as `decode_counted` does.
+/// Reads a name as `capturing_group_name` does. Counts each of its characters, and the digits of an escape as `decode_counted` does.
+#[tactic(auto, using(crate::proofs::GroupNames::is_name_of))]
 pub fn capturing_group_name_counted<C: Counter>(
     alloc: Global,
     units: &[CodePoint],
     unicode_mode: bool,
     steps: &mut C,
 ) -> Result<Option<Text>, OutOfMemory>
-    ensures read { IfOk result (λ found. found ≡ name_of unicode_mode (values units.now)) }
-    ensures name { IfOk result (λ found. (name : List ℕ) → (found ≡ Some name) ↔ IsGroupName unicode_mode (values units.now) name) }
+    ensures read { IfOk result (IsNameOf unicode_mode (values units.now)) }
     ensures steps { Rises (C.count steps.old) (C.count steps.new) 0 (2 * length units.now + 4) }
     ensures least { IfOk result (λ found. IfSome found (λ _. length units.now + 2 * C.count steps.old ≤ 2 * C.count steps.new)) }
 {
@@ -69,7 +68,9 @@ pub fn capturing_group_name_counted<C: Counter>(
     let mut place = 0;
     while place < units.len() {
         steps.tick();
-        match name_character(&units[place..], unicode_mode, place == 0, steps) {
+        let unit = units[place].value;
+        let following = &units[place + 1..];
+        match name_character(unit, following, unicode_mode, place == 0, steps) {
             Some((character, length)) => {
                 name.push(character)?;
                 place += length;
@@ -81,8 +82,8 @@ pub fn capturing_group_name_counted<C: Counter>(
 }
 
 /// How many units the longest row of a name's characters (RegExpIdentifierName of ECMA-262, 22.2.1) takes at the front of the units: none where no
-/// name stands there. The units are code points in unicode mode, else UTF-16 code units. Counts one for each character that is looked at, and the
-/// digits of an escape as `decode_counted` does.
+/// name stands there. The units are code points in unicode mode, else UTF-16 code units. Counts each character that is looked at, and the digits of
+/// an escape as `decode_counted` does.
 pub fn group_name_length_counted<C: Counter>(
     units: &[CodePoint],
     unicode_mode: bool,
@@ -91,14 +92,16 @@ pub fn group_name_length_counted<C: Counter>(
     ensures within { result ≤ length units.now }
     ensures read { (name : List ℕ) × (name_at unicode_mode (values units.now) ≡ row name result) }
     ensures longest { IsNameRow unicode_mode (values units.now) result }
-    ensures ends { starts 92 (drop result (values units.now)) ≡ false → C.count steps.new ≤ C.count steps.old + 2 * result + 1 }
+    ensures ends { starts ascii.backslash (drop result (values units.now)) ≡ false → C.count steps.new ≤ C.count steps.old + 2 * result + 1 }
     ensures most { C.count steps.new ≤ C.count steps.old + length units.now + result + 4 }
     ensures least { result + 2 * C.count steps.old ≤ 2 * C.count steps.new }
 {
     let mut length = 0;
     while length < units.len() {
         steps.tick();
-        match name_character(&units[length..], unicode_mode, length == 0, steps) {
+        let unit = units[length].value;
+        let following = &units[length + 1..];
+        match name_character(unit, following, unicode_mode, length == 0, steps) {
             Some((_, count)) => length += count,
             None => return length,
         }
@@ -106,41 +109,51 @@ pub fn group_name_length_counted<C: Counter>(
     length
 }
 
-/// The character of a name that the units begin with, and how many units spell it.
+/// The character of a name that begins with a unit (RegExpIdentifierStart and RegExpIdentifierPart, 22.2.1), and how many units spell it.
 fn name_character<C: Counter>(
-    units: &[CodePoint],
+    unit: u32,
+    following: &[CodePoint],
     unicode_mode: bool,
     first: bool,
     steps: &mut C,
 ) -> Option<(char, usize)>
-    ensures read { seen_character result ≡ name_character_at unicode_mode first (values units.now) }
+    ensures read { seen_character result ≡ name_character_at unicode_mode first (unit ∷ values following.now) }
 
     // With the step of the turn in which it is read.
     ensures found { IfSome result (λ read. (read.1 + 2 * C.count steps.old ≤ 2 * (C.count steps.new + 1)) × (C.count steps.new + 1 ≤ C.count steps.old + 2 * read.1)) }
-    ensures steps { Rises (C.count steps.old) (C.count steps.new) 0 (length units.now + 3) }
-    ensures raw { starts 92 (values units.now) ≡ false → C.count steps.new ≡ C.count steps.old }
+    ensures steps { Rises (C.count steps.old) (C.count steps.new) 0 (length following.now + 4) }
+    ensures raw { (unit == ascii.backslash) ≡ false → C.count steps.new ≡ C.count steps.old }
 {
-    match units {
-        [backslash, escape @ ..] if backslash.value == '\\' as u32 => escaped(escape, first, steps),
-        [unit, rest @ ..] => raw(unit.value, rest, unicode_mode, first),
-        [] => None,
+    if unit == '\\' as u32 {
+        escaped_character(following, first, steps)
+    } else {
+        raw_character(unit, following, unicode_mode, first)
     }
 }
 
 /// The character of a name that a unit is, by itself or with the next.
-fn raw(value: u32, behind: &[CodePoint], unicode_mode: bool, first: bool) -> Option<(char, usize)>
-    ensures read { seen_character result ≡ raw_at unicode_mode first value (values behind.now) }
+fn raw_character(
+    unit: u32,
+    following: &[CodePoint],
+    unicode_mode: bool,
+    first: bool,
+) -> Option<(char, usize)>
+    ensures read { seen_character result ≡ raw_at unicode_mode first unit (values following.now) }
     ensures count { IfSome result (λ read. (0 < read.1) × (read.1 ≤ 2)) }
 {
-    match in_name(value, first) {
+    match in_name(unit, first) {
         Some(character) => Some((character, 1)),
         None if unicode_mode => None,
-        None => raw_pair(value, behind, first),
+        None => raw_pair(unit, following, first),
     }
 }
 
-/// The character of a name that the units behind a backslash spell, and how many units spell it with the backslash.
-fn escaped<C: Counter>(units: &[CodePoint], first: bool, steps: &mut C) -> Option<(char, usize)>
+/// The character of a name that the units after a backslash spell (RegExpUnicodeEscapeSequence, 22.2.1), and how many units spell it with the backslash.
+fn escaped_character<C: Counter>(
+    units: &[CodePoint],
+    first: bool,
+    steps: &mut C,
+) -> Option<(char, usize)>
     ensures read { seen_character result ≡ escape_in_name first (decoded true (values units.now)) }
     ensures found { IfSome result (λ read. (read.1 + 2 * C.count steps.old ≤ 2 * (C.count steps.new + 1)) × (C.count steps.new + 1 ≤ C.count steps.old + 2 * read.1)) }
     ensures steps { Rises (C.count steps.old) (C.count steps.new) 0 (length units.now + 4) }
@@ -153,7 +166,7 @@ fn escaped<C: Counter>(units: &[CodePoint], first: bool, steps: &mut C) -> Optio
     }
 }
 
-/// The character of a name that a unit and the next are, as a surrogate pair.
+/// The character of a name that a unit and the next are (UnicodeLeadSurrogate and UnicodeTrailSurrogate, 22.2.1).
 fn raw_pair(lead: u32, units: &[CodePoint], first: bool) -> Option<(char, usize)>
     ensures read { seen_character result ≡ pair_at first lead (values units.now) }
     ensures count { IfSome result (λ read. read.1 ≡ 2) }
@@ -165,7 +178,7 @@ fn raw_pair(lead: u32, units: &[CodePoint], first: bool) -> Option<(char, usize)
     Some((pair_in_name(combine_surrogate_pair(lead, trail), first)?, 2))
 }
 
-/// A code point as a character, where it can stand in a name.
+/// A code point as a character, where it can stand in a name (IdentifierStartChar and IdentifierPartChar, 12.7).
 fn in_name(cp: u32, first: bool) -> Option<char>
     ensures { result ≡ if is_in_name first cp then Some cp else None }
 {
@@ -177,7 +190,7 @@ fn in_name(cp: u32, first: bool) -> Option<char>
     if passes { char::from_u32(cp) } else { None }
 }
 
-/// The code point of a raw pair as a character, where it can stand in a name.
+/// The code point of a raw pair as a character, where it can stand in a name (UnicodeIDStart and UnicodeIDContinue, 12.7).
 fn pair_in_name(cp: u32, first: bool) -> Option<char>
     ensures { result ≡ if is_pair_in_name first cp then Some cp else None }
 {

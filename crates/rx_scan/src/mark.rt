@@ -1,8 +1,8 @@
-ghost use Rattle.std.specs.Prelude.{◌≡◌, ◌≤◌, ◌<◌, ◌+◌, length, false, option_map, IfSome, MatchOption};
+ghost use Rattle.std.specs.Prelude.{◌≡◌, ◌≤◌, ◌<◌, ◌+◌, false, length, option_map, IfSome, MatchOption};
 ghost use Rattle.rx_units.specs.Units.{values};
 ghost use Rattle.rx_model.specs.Inputs.Environment.{is_sets};
-ghost use Rattle.rx_model.specs.FirstPass.Marks.{behind_angle, class_rest, escape_rest, mark_front, name_length, open_front, question_front, specifier_front, starts};
-ghost use Rattle.rx_scan.specs.MarkReading.{closed_part, front, is_plain, seen_front, seen_mark};
+ghost use Rattle.rx_model.specs.FirstPass.Marks.{after_angle, class_rest, escape_rest, mark_front, name_length, open_front, question_front, specifier_front, starts};
+ghost use Rattle.rx_scan.specs.MarkReading.{closed_part, is_plain, seen_front, seen_mark};
 
 use rx_base::Counter;
 use rx_model::Mode;
@@ -21,31 +21,7 @@ pub enum Mark<'a> {
     Capturing(Option<&'a [CodePoint]>),
 }
 
-/// The mark with which the units begin, and how many of them it takes. Each is a step.
-#[tactic(auto, unfolding(crate::specs::MarkReading::front))]
-pub fn read_mark<'a, C: Counter>(
-    units: &'a [CodePoint],
-    mode: Mode,
-    steps: &mut C,
-) -> (Mark<'a>, usize)
-    requires { 0 < length units.now }
-    ensures value { seen_front result ≡ front mode (values units.now) }
-    ensures within { result.1 ≤ length units.now }
-    ensures moves { 0 < result.1 }
-    ensures name { name_length (seen_mark result.0) ≤ result.1 }
-    ensures steps { C.count steps.new ≡ C.count steps.old + result.1 }
-{
-    match units {
-        [unit, rest @ ..] => {
-            steps.tick();
-            let (mark, count) = behind(unit.value, rest, mode, steps);
-            (mark, count + 1)
-        }
-        _ => (Mark::Other, 0),
-    }
-}
-
-/// Whether a unit is a mark of its own that opens and closes nothing, whatever stands behind it.
+/// Whether a unit is a mark of its own that opens and closes nothing, whatever stands after it.
 pub fn is_plain(unit: u32) -> bool
     ensures { result ≡ is_plain unit }
 {
@@ -56,34 +32,34 @@ pub fn is_plain(unit: u32) -> bool
         && unit != '|' as u32
 }
 
-/// The mark that begins with a unit, and how many of the units behind it are the mark's.
-#[tactic(auto, unfolding(rx_model::specs::FirstPass::Marks::mark_front))]
-fn behind<'a, C: Counter>(
+/// The mark that begins with a unit that is not plain, and how many of the units after it are the mark's. Each of these is a step.
+#[tactic(auto, using(crate::proofs::MarkSteps::bar_front), unfolding(rx_model::specs::FirstPass::Marks::mark_front))]
+pub fn read_mark<'a, C: Counter>(
     unit: u32,
-    units: &'a [CodePoint],
+    following: &'a [CodePoint],
     mode: Mode,
     steps: &mut C,
 ) -> (Mark<'a>, usize)
-    ensures value { seen_front result ≡ mark_front mode unit (values units.now) }
-    ensures within { result.1 ≤ length units.now }
+    requires { is_plain unit ≡ false }
+    ensures value { seen_front result ≡ mark_front mode unit (values following.now) }
+    ensures within { result.1 ≤ length following.now }
     ensures name { name_length (seen_mark result.0) ≤ result.1 }
     ensures steps { C.count steps.new ≡ C.count steps.old + result.1 }
 {
     if unit == '\\' as u32 {
-        (Mark::Other, escape_rest(units, steps))
+        (Mark::Other, escape_rest(following, steps))
     } else if unit == '[' as u32 {
-        (Mark::Other, class_rest(units, mode, steps))
+        (Mark::Other, class_rest(following, mode, steps))
     } else if unit == '(' as u32 {
-        behind_parenthesis(units, steps)
+        after_parenthesis(following, steps)
     } else if unit == ')' as u32 {
         (Mark::Closer, 0)
-    } else if unit == '|' as u32 {
-        (Mark::Bar, 0)
     } else {
-        (Mark::Other, 0)
+        (Mark::Bar, 0)
     }
 }
 
+/// How many units an escape has after its backslash (AtomEscape, 22.2.1): counting sees one, where one is left.
 fn escape_rest<C: Counter>(units: &[CodePoint], steps: &mut C) -> usize
     ensures value { result ≡ escape_rest (values units.now) }
     ensures within { result ≤ length units.now }
@@ -98,7 +74,7 @@ fn escape_rest<C: Counter>(units: &[CodePoint], steps: &mut C) -> usize
     }
 }
 
-/// How many units a class has behind its `[`.
+/// How many units a class has after its `[` (CharacterClass, 22.2.1).
 fn class_rest<C: Counter>(units: &[CodePoint], mode: Mode, steps: &mut C) -> usize
     ensures value { result ≡ class_rest mode false 0 (values units.now) }
     ensures within { result ≤ length units.now }
@@ -130,7 +106,7 @@ fn flat_class_rest<C: Counter>(units: &[CodePoint], steps: &mut C) -> usize
     units.len()
 }
 
-/// The same with `v`: classes may be open in it.
+/// The same with `v`: classes may be open in it (NestedClass, 22.2.1).
 fn nested_class_rest<C: Counter>(units: &[CodePoint], steps: &mut C) -> usize
     ensures value { result ≡ class_rest Mode.Sets false 0 (values units.now) }
     ensures within { result ≤ length units.now }
@@ -156,27 +132,28 @@ fn nested_class_rest<C: Counter>(units: &[CodePoint], steps: &mut C) -> usize
     units.len()
 }
 
-fn behind_parenthesis<'a, C: Counter>(units: &'a [CodePoint], steps: &mut C) -> (Mark<'a>, usize)
+/// What stands after `(`: without a `?` the group captures, and has no name (Atom, 22.2.1).
+fn after_parenthesis<'a, C: Counter>(units: &'a [CodePoint], steps: &mut C) -> (Mark<'a>, usize)
     ensures value { seen_front result ≡ open_front (values units.now) }
     ensures within { result.1 ≤ length units.now }
     ensures name { name_length (seen_mark result.0) ≤ result.1 }
     ensures steps { C.count steps.new ≡ C.count steps.old + result.1 }
 {
     match units {
-        [unit, rest @ ..] if unit.value == '?' as u32 => behind_question(rest, steps),
+        [unit, rest @ ..] if unit.value == '?' as u32 => after_question(rest, steps),
         _ => (Mark::Capturing(None), 0),
     }
 }
 
-/// What stands behind `(?`.
-fn behind_question<'a, C: Counter>(units: &'a [CodePoint], steps: &mut C) -> (Mark<'a>, usize)
+/// What stands after `(?`: all but a name is quiet (Atom and Assertion, 22.2.1).
+fn after_question<'a, C: Counter>(units: &'a [CodePoint], steps: &mut C) -> (Mark<'a>, usize)
     ensures value { seen_front result ≡ question_front (values units.now) }
     ensures within { result.1 ≤ length units.now + 1 }
     ensures name { name_length (seen_mark result.0) ≤ result.1 }
     ensures steps { C.count steps.new ≡ C.count steps.old + result.1 }
 {
     match units {
-        [unit, rest @ ..] if unit.value == '<' as u32 => behind_angle(rest, steps),
+        [unit, rest @ ..] if unit.value == '<' as u32 => after_angle(rest, steps),
         _ => {
             if starts(units, ':') || starts(units, '=') || starts(units, '!') {
                 steps.add(2);
@@ -189,9 +166,9 @@ fn behind_question<'a, C: Counter>(units: &'a [CodePoint], steps: &mut C) -> (Ma
     }
 }
 
-/// What stands behind `(?<`.
-fn behind_angle<'a, C: Counter>(units: &'a [CodePoint], steps: &mut C) -> (Mark<'a>, usize)
-    ensures value { seen_front result ≡ behind_angle (values units.now) }
+/// What stands after `(?<`: a lookbehind, or a name (Assertion and GroupName, 22.2.1).
+fn after_angle<'a, C: Counter>(units: &'a [CodePoint], steps: &mut C) -> (Mark<'a>, usize)
+    ensures value { seen_front result ≡ after_angle (values units.now) }
     ensures within { result.1 ≤ length units.now + 2 }
     ensures name { name_length (seen_mark result.0) ≤ result.1 }
     ensures steps { C.count steps.new ≡ C.count steps.old + result.1 }
@@ -204,7 +181,7 @@ fn behind_angle<'a, C: Counter>(units: &'a [CodePoint], steps: &mut C) -> (Mark<
     }
 }
 
-/// A capturing opening whose name, if it has one, begins here.
+/// A capturing opening whose name, if it has one, begins here (GroupSpecifier, 22.2.1).
 fn group_specifier<'a, C: Counter>(units: &'a [CodePoint], steps: &mut C) -> (Mark<'a>, usize)
     ensures value { seen_front result ≡ specifier_front (values units.now) }
     ensures within { result.1 ≤ length units.now + 2 }
@@ -212,14 +189,14 @@ fn group_specifier<'a, C: Counter>(units: &'a [CodePoint], steps: &mut C) -> (Ma
     ensures steps { C.count steps.new ≡ C.count steps.old + result.1 }
 {
     steps.add(2);
-    match closed_part(units, steps) {
+    match name_units(units, steps) {
         Some(name) => (Mark::Capturing(Some(name)), name.len() + 3),
         None => (Mark::Capturing(None), units.len() + 2),
     }
 }
 
 /// The units before the next `>`, where one stands.
-fn closed_part<'a, C: Counter>(units: &'a [CodePoint], steps: &mut C) -> Option<&'a [CodePoint]>
+fn name_units<'a, C: Counter>(units: &'a [CodePoint], steps: &mut C) -> Option<&'a [CodePoint]>
     ensures value { option_map (λ part. values part.now) result ≡ closed_part (values units.now) }
     ensures within { IfSome result (λ part. length part.now < length units.now) }
     ensures steps { MatchOption result (C.count steps.new ≡ C.count steps.old + length units.now)

@@ -1,6 +1,6 @@
 ghost use Rattle.std.specs.Prelude.{◌≡◌, ◌↔◌, [], ◌∷◌, ◌++◌, false, IsTrue, OnErr, OnOk};
 ghost use Rattle.std.specs.Str.{chars};
-ghost use Rattle.rx_model.specs.Trees.Names.{is_among};
+ghost use Rattle.rx_base.specs.Texts.{is_among};
 
 use rx_base::{List, OutOfMemory, Text};
 use std::alloc::Global;

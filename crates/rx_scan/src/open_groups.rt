@@ -5,7 +5,7 @@ ghost use Rattle.rx_scan.specs.OpenGroups.{Splits, group_states_of, hides};
 use rx_base::{List, OutOfMemory};
 use std::alloc::Global;
 
-/// A group that is open: the index behind its opening among the marks, and that of the last bar that stands directly in it, or the
+/// A group that is open: the index after its opening among the marks, and that of the last bar that stands directly in it, or the
 /// first again.
 #[derive(Clone, Copy, Debug, PartialEq, Eq)]
 pub struct OpenGroup {
@@ -65,13 +65,13 @@ impl OpenGroups {
             return mark < self.innermost.bar;
         }
         let outer = self.outer.as_slice();
-        let before = opened_before(outer, mark);
+        let before = count_before(outer, mark);
         before > 0 && mark < outer[before - 1].bar
     }
 }
 
 /// How many of the groups begin at the mark or before it. They stand in the order in which they begin.
-fn opened_before(groups: &[OpenGroup], mark: usize) -> usize
+fn count_before(groups: &[OpenGroup], mark: usize) -> usize
     ensures { Splits mark groups.now result }
 {
     let mut low = 0usize;

@@ -1,8 +1,7 @@
-ghost use Rattle.std.specs.Prelude.{◌≡◌, ◌+◌, ◌-◌, ◌^◌, ◌≤◌, ◌||◌, [], false, length, min, IfErr, OnErr, OnOk};
+ghost use Rattle.std.specs.Prelude.{◌≡◌, ◌+◌, ◌-◌, ◌^◌, ◌≤◌, ◌||◌, [], false, length, min, OnOk};
 ghost use Rattle.rx_units.specs.Units.{offset_at};
 ghost use Rattle.rx_model.specs.Inputs.Environment.{has_some, is_unicode};
-ghost use Rattle.rx_model.specs.Refusals.Reached.{HasNoClash, text_groups, text_names};
-ghost use Rattle.rx_scan.specs.StateFaults.{IsStateFault, mode_of_state};
+ghost use Rattle.rx_scan.specs.StateFaults.{CountsGroups, mode_of_state};
 
 use crate::Names;
 use crate::first_pass::{FirstPass, PassFault};
@@ -70,21 +69,20 @@ impl State {
         }
     }
 
+    /// The mode that the pattern is read in.
+    fn mode(&self) -> Mode
+        ensures { result ≡ mode_of_state self.now }
+    {
+        Mode::of(self.unicode_mode, self.unicode_sets_mode)
+    }
+
     /// Goes over the whole pattern once, and counts its groups (CountLeftCapturingParensWithin of ECMA-262, 22.2.1.2) and lists their
     /// names, or refuses the first two equal names that clash (22.2.1.1). The reader stays at place 0. A refusal
     /// leaves the state as it was.
     pub fn initialize_with_parsing(&mut self, reader: &mut Reader<'_>) -> Result<(), StateFault>
         requires start { reader.old.place ≡ 0 }
         ensures reader { reader.new ≡ reader.old }
-        ensures unicode_mode { self.new.unicode_mode ≡ self.old.unicode_mode }
-        ensures unicode_sets_mode { self.new.unicode_sets_mode ≡ self.old.unicode_sets_mode }
-        ensures duplicate_names { self.new.duplicate_names ≡ self.old.duplicate_names }
-        ensures groups { OnOk result (self.new.num_of_capturing_groups ≡ min (text_groups (mode_of_state self.old) reader.old.units) (2 ^ 32 - 1)) }
-        ensures names { OnOk result (self.new.capturing_group_names ≡ text_names (mode_of_state self.old) reader.old.units) }
-        ensures named { OnOk result (self.new.named_capture_groups ≡ (is_unicode (mode_of_state self.old) || has_some (text_names (mode_of_state self.old) reader.old.units))) }
-        ensures apart { OnOk result (HasNoClash (mode_of_state self.old) self.old.duplicate_names reader.old.units) }
-        ensures refused { IfErr result (IsStateFault (mode_of_state self.old) self.old.duplicate_names reader.old) }
-        ensures unchanged { OnErr result (self.new ≡ self.old) }
+        ensures counted { CountsGroups self.old self.new reader.old result }
     {
         self.initialize_alone::<Brand>(reader, Blank::new(1))
     }
@@ -100,20 +98,12 @@ impl State {
         requires parts { blank.parts ≡ L.parts }
         requires one { blank.parts ≡ 1 }
         ensures reader { reader.new ≡ reader.old }
-        ensures unicode_mode { self.new.unicode_mode ≡ self.old.unicode_mode }
-        ensures unicode_sets_mode { self.new.unicode_sets_mode ≡ self.old.unicode_sets_mode }
-        ensures duplicate_names { self.new.duplicate_names ≡ self.old.duplicate_names }
-        ensures groups { OnOk result (self.new.num_of_capturing_groups ≡ min (text_groups (mode_of_state self.old) reader.old.units) (2 ^ 32 - 1)) }
-        ensures names { OnOk result (self.new.capturing_group_names ≡ text_names (mode_of_state self.old) reader.old.units) }
-        ensures named { OnOk result (self.new.named_capture_groups ≡ (is_unicode (mode_of_state self.old) || has_some (text_names (mode_of_state self.old) reader.old.units))) }
-        ensures apart { OnOk result (HasNoClash (mode_of_state self.old) self.old.duplicate_names reader.old.units) }
-        ensures refused { IfErr result (IsStateFault (mode_of_state self.old) self.old.duplicate_names reader.old) }
-        ensures unchanged { OnErr result (self.new ≡ self.old) }
+        ensures counted { CountsGroups self.old self.new reader.old result }
     {
         self.initialize_with_parsing_counted(reader, &mut Steps::<L>::new(blank))
     }
 
-    /// Goes over the pattern as `initialize_with_parsing` does, and counts one for each of its units that it goes over.
+    /// Goes over the pattern as `initialize_with_parsing` does. Counts each unit that it goes over.
     pub fn initialize_with_parsing_counted<C: Counter>(
         &mut self,
         reader: &mut Reader<'_>,
@@ -121,23 +111,14 @@ impl State {
     ) -> Result<(), StateFault>
         requires start { reader.old.place ≡ 0 }
         ensures reader { reader.new ≡ reader.old }
-        ensures unicode_mode { self.new.unicode_mode ≡ self.old.unicode_mode }
-        ensures unicode_sets_mode { self.new.unicode_sets_mode ≡ self.old.unicode_sets_mode }
-        ensures duplicate_names { self.new.duplicate_names ≡ self.old.duplicate_names }
-        ensures groups { OnOk result (self.new.num_of_capturing_groups ≡ min (text_groups (mode_of_state self.old) reader.old.units) (2 ^ 32 - 1)) }
-        ensures names { OnOk result (self.new.capturing_group_names ≡ text_names (mode_of_state self.old) reader.old.units) }
-        ensures named { OnOk result (self.new.named_capture_groups ≡ (is_unicode (mode_of_state self.old) || has_some (text_names (mode_of_state self.old) reader.old.units))) }
-        ensures apart { OnOk result (HasNoClash (mode_of_state self.old) self.old.duplicate_names reader.old.units) }
-        ensures refused { IfErr result (IsStateFault (mode_of_state self.old) self.old.duplicate_names reader.old) }
-        ensures unchanged { OnErr result (self.new ≡ self.old) }
+        ensures counted { CountsGroups self.old self.new reader.old result }
         ensures all { OnOk result (C.count steps.new ≡ C.count steps.old + length reader.old.units) }
         ensures most { C.count steps.new ≤ C.count steps.old + length reader.old.units }
     {
         let alloc = self.capturing_group_names.allocator();
         let units = reader.remaining_code_points();
         let start = reader.offset();
-        let mode = Mode::of(self.unicode_mode, self.unicode_sets_mode);
-        match FirstPass::over(alloc, units, mode, self.duplicate_names, steps) {
+        match FirstPass::over(alloc, units, self.mode(), self.duplicate_names, steps) {
             Ok(pass) => {
                 self.keep(pass);
                 Ok(())
@@ -152,12 +133,7 @@ impl State {
 
     /// Takes over what a first pass has found.
     fn keep(&mut self, pass: FirstPass)
-        ensures unicode_mode { self.new.unicode_mode ≡ self.old.unicode_mode }
-        ensures unicode_sets_mode { self.new.unicode_sets_mode ≡ self.old.unicode_sets_mode }
-        ensures duplicate_names { self.new.duplicate_names ≡ self.old.duplicate_names }
-        ensures groups { self.new.num_of_capturing_groups ≡ min pass.count (2 ^ 32 - 1) }
-        ensures names { self.new.capturing_group_names ≡ pass.names }
-        ensures named { self.new.named_capture_groups ≡ (is_unicode pass.mode || has_some pass.names) }
+        ensures { self.new ≡ record self.old { named_capture_groups = is_unicode pass.mode || has_some pass.names; num_of_capturing_groups = min pass.count (2 ^ 32 - 1); capturing_group_names = pass.names } }
     {
         self.named_capture_groups = pass.mode.is_unicode() || !pass.names.is_empty();
         self.num_of_capturing_groups = u32::try_from(pass.count).unwrap_or(u32::MAX);

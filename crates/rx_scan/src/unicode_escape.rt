@@ -1,13 +1,11 @@
-ghost use Rattle.std.specs.Prelude.{◌≡◌, ◌↔◌, ℕ, ◌+◌, ◌*◌, ◌<◌, ◌≤◌, false, true, is_some, length, option_map, IfSome, MatchOption, if◌then◌else◌};
+ghost use Rattle.std.specs.Prelude.{◌≡◌, ◌+◌, ◌*◌, ◌<◌, ◌≤◌, true, is_some, length, option_map, IfSome, MatchOption, if◌then◌else◌};
 ghost use Rattle.rx_base.specs.Rising.{Rises};
 ghost use Rattle.rx_base.specs.SurrogatePair.{IsLeadSurrogate, IsTrailSurrogate};
 ghost use Rattle.rx_tables.specs.Characters.{hex_digit_value};
 ghost use Rattle.rx_units.specs.Units.{values};
-ghost use Rattle.rx_model.specs.Characters.Decoding.{behind_u, braces_at, decoded, four_at, joined_at, run_at, trail_at};
-ghost use Rattle.rx_model.specs.Characters.UnicodeEscapes.{Decodes, PassesHex};
-ghost use Rattle.rx_model.specs.FirstPass.Marks.{starts};
+ghost use Rattle.rx_model.specs.Characters.Decoding.{after_u, braces_at, decoded, four_at, joined_at, run_at, trail_at};
 ghost use Rattle.rx_scan.specs.DecodingSteps.{digits_after_u, digits_in_braces, digits_looked_at, digits_of_four, digits_of_run, digits_of_trail, escape_length, least_digits, most_digits};
-ghost use Rattle.rx_scan.specs.EscapeDecoding.{seen_escape};
+ghost use Rattle.rx_scan.specs.EscapeDecoding.{IsDecoded, seen_escape};
 
 use rx_base::{Counter, Steps, combine_surrogate_pair, is_lead_surrogate, is_trail_surrogate};
 use rx_tables::map_hex_digit;
@@ -29,13 +27,7 @@ pub enum UnicodeEscape {
 /// Decodes the unicode escape with whose `u` the units begin (RegExpUnicodeEscapeSequence of ECMA-262, 22.2.1). In
 /// unicode mode digits may stand in braces, and two escapes that are a surrogate pair are one code point.
 pub fn decode(units: &[CodePoint], unicode_mode: bool) -> UnicodeEscape
-    ensures value { (v n : ℕ) → (result ≡ UnicodeEscape.Value v n) ↔ Decodes unicode_mode (values units.now) v n }
-    ensures overflow { (n : ℕ) → (result ≡ UnicodeEscape.Overflow n) ↔ ((unicode_mode ≡ true) × PassesHex (values units.now) n) }
-    ensures invalid { (result ≡ UnicodeEscape.Invalid) ↔ (((v n : ℕ) → Decodes unicode_mode (values units.now) v n → ⊥)
-        × ((n : ℕ) → (unicode_mode ≡ true) × PassesHex (values units.now) n → ⊥)) }
-    ensures read { seen_escape result ≡ decoded unicode_mode (values units.now) }
-    ensures within { (v n : ℕ) → result ≡ UnicodeEscape.Value v n → (n ≤ length units.now) × (v ≤ 0x10FFFF) }
-    ensures digits { (n : ℕ) → result ≡ UnicodeEscape.Overflow n → n + 2 ≤ length units.now }
+    ensures { IsDecoded unicode_mode units.now result }
 {
     decode_alone::<Brand>(units, unicode_mode, Blank::new(1))
 }
@@ -45,25 +37,20 @@ fn decode_alone<L: Ledger>(units: &[CodePoint], unicode_mode: bool, blank: Blank
     requires name { blank.name ≡ L.name }
     requires parts { blank.parts ≡ L.parts }
     requires one { blank.parts ≡ 1 }
-    ensures { seen_escape result ≡ decoded unicode_mode (values units.now) }
+    ensures { IsDecoded unicode_mode units.now result }
 {
-    decode_units(units, unicode_mode, &mut Steps::<L>::new(blank))
+    decode_counted(units, unicode_mode, &mut Steps::<L>::new(blank))
 }
 
-/// Decodes as `decode` does, and counts one for each hexadecimal digit that is found where four are looked for, and one for each unit that is
-/// looked at behind an opening brace.
+/// Decodes as `decode` does. Counts each hexadecimal digit that is found where four are looked for, and each unit that is looked at after an
+/// opening brace.
+#[tactic(auto, using(crate::proofs::EscapeAnswers::is_decoded))]
 pub fn decode_counted<C: Counter>(
     units: &[CodePoint],
     unicode_mode: bool,
     steps: &mut C,
 ) -> UnicodeEscape
-    ensures value { (v n : ℕ) → (result ≡ UnicodeEscape.Value v n) ↔ Decodes unicode_mode (values units.now) v n }
-    ensures overflow { (n : ℕ) → (result ≡ UnicodeEscape.Overflow n) ↔ ((unicode_mode ≡ true) × PassesHex (values units.now) n) }
-    ensures invalid { (result ≡ UnicodeEscape.Invalid) ↔ (((v n : ℕ) → Decodes unicode_mode (values units.now) v n → ⊥)
-        × ((n : ℕ) → (unicode_mode ≡ true) × PassesHex (values units.now) n → ⊥)) }
-    ensures read { seen_escape result ≡ decoded unicode_mode (values units.now) }
-    ensures within { (v n : ℕ) → result ≡ UnicodeEscape.Value v n → (n ≤ length units.now) × (v ≤ 0x10FFFF) }
-    ensures digits { (n : ℕ) → result ≡ UnicodeEscape.Overflow n → n + 2 ≤ length units.now }
+    ensures decoded { IsDecoded unicode_mode units.now result }
     ensures steps { Rises (C.count steps.old) (C.count steps.new) (least_digits result) (most_digits unicode_mode (length units.now) result) }
 
     // At least half a step for each unit of an escape.
@@ -72,31 +59,23 @@ pub fn decode_counted<C: Counter>(
     // A step for each hexadecimal digit that is looked at, whatever the answer, and at most one besides: for a unit after a brace that is no digit.
     ensures looked { Rises (C.count steps.old) (C.count steps.new) (digits_looked_at unicode_mode (values units.now)) (digits_looked_at unicode_mode (values units.now) + 1) }
 {
-    decode_units(units, unicode_mode, steps)
-}
-
-fn decode_units<C: Counter>(units: &[CodePoint], unicode_mode: bool, steps: &mut C) -> UnicodeEscape
-    ensures read { seen_escape result ≡ decoded unicode_mode (values units.now) }
-    ensures steps { Rises (C.count steps.old) (C.count steps.new) (least_digits result) (most_digits unicode_mode (length units.now) result) }
-    ensures half { escape_length result + 2 * C.count steps.old ≤ 2 * C.count steps.new }
-    ensures looked { Rises (C.count steps.old) (C.count steps.new) (digits_looked_at unicode_mode (values units.now)) (digits_looked_at unicode_mode (values units.now) + 1) }
-{
     match units {
-        [u, digits @ ..] if u.value == 'u' as u32 => behind_u(digits, unicode_mode, steps),
+        [u, digits @ ..] if u.value == 'u' as u32 => after_u(digits, unicode_mode, steps),
         _ => UnicodeEscape::Invalid,
     }
 }
 
-fn behind_u<C: Counter>(units: &[CodePoint], unicode_mode: bool, steps: &mut C) -> UnicodeEscape
-    ensures read { seen_escape result ≡ behind_u unicode_mode (four_at (values units.now)) (values units.now) }
+/// What stands after the `u`: four digits, or in unicode mode digits in braces (RegExpUnicodeEscapeSequence, 22.2.1).
+fn after_u<C: Counter>(units: &[CodePoint], unicode_mode: bool, steps: &mut C) -> UnicodeEscape
+    ensures read { seen_escape result ≡ after_u unicode_mode (four_at (values units.now)) (values units.now) }
     ensures steps { Rises (C.count steps.old) (C.count steps.new) (least_digits result) (most_digits unicode_mode (length units.now) result) }
     ensures half { escape_length result + 2 * C.count steps.old ≤ 2 * C.count steps.new }
     ensures looked { Rises (C.count steps.old) (C.count steps.new) (digits_after_u unicode_mode (values units.now)) (digits_after_u unicode_mode (values units.now) + 1) }
 {
-    match fixed_hex_digits(units, steps) {
+    match four_digits(units, steps) {
         Some((value, rest)) => {
             if unicode_mode && is_lead_surrogate(value) {
-                return joined(value, rest, steps);
+                return lead_or_pair(value, rest, steps);
             }
             UnicodeEscape::Value {
                 code_point: value,
@@ -113,16 +92,15 @@ fn behind_u<C: Counter>(units: &[CodePoint], unicode_mode: bool, steps: &mut C) 
     }
 }
 
-/// The number of four hexadecimal digits, and the units behind them.
+/// The number of four hexadecimal digits (Hex4Digits, 12.9.4), and the units after them.
 #[tactic(auto, using(crate::proofs::Steps::short_four))]
-fn fixed_hex_digits<'a, C: Counter>(
+fn four_digits<'a, C: Counter>(
     units: &'a [CodePoint],
     steps: &mut C,
 ) -> Option<(u32, &'a [CodePoint])>
     ensures value { option_map (λ r. (r.0, values r.1.now)) result ≡ four_at (values units.now) }
     ensures steps { MatchOption result (Rises (C.count steps.old) (C.count steps.new) 0 3 × (C.count steps.new ≤ C.count steps.old + length units.now))
         (λ _. C.count steps.new ≡ C.count steps.old + 4) }
-    ensures brace { starts 123 (values units.now) ≡ true → C.count steps.new ≡ C.count steps.old }
     ensures looked { C.count steps.new ≡ digits_of_four (values units.now) + C.count steps.old }
 {
     match units {
@@ -137,34 +115,28 @@ fn fixed_hex_digits<'a, C: Counter>(
     }
 }
 
-/// What a hexadecimal digit stands for: a step where the unit is one.
+/// What a hexadecimal digit stands for (HexDigit, 12.9.3), and a step where the unit is one.
+#[tactic(auto, using(rx_tables::proofs::Digits::hex_digit_value_small))]
 fn hex_digit<C: Counter>(unit: &CodePoint, steps: &mut C) -> Option<u32>
     ensures value { result ≡ hex_digit_value unit.now.value }
     ensures small { IfSome result (λ digit. digit < 16) }
     ensures steps { MatchOption result (C.count steps.new ≡ C.count steps.old) (λ _. C.count steps.new ≡ C.count steps.old + 1) }
 {
-    let digit = digit_value(unit)?;
+    let digit = map_hex_digit(unit.value)?;
     steps.tick();
     Some(digit)
 }
 
-#[tactic(auto, using(rx_tables::proofs::Digits::hex_digit_value_small))]
-fn digit_value(unit: &CodePoint) -> Option<u32>
-    ensures value { result ≡ hex_digit_value unit.now.value }
-    ensures small { IfSome result (λ digit. digit < 16) }
-{
-    map_hex_digit(unit.value)
-}
-
-/// A lead surrogate by itself, or the code point of it and the trail surrogate that is escaped next. Its own four digits are counted before.
-fn joined<C: Counter>(lead: u32, units: &[CodePoint], steps: &mut C) -> UnicodeEscape
+/// A lead surrogate by itself, or the code point of it and the trail surrogate that is escaped next (HexLeadSurrogate and HexTrailSurrogate,
+/// 22.2.1). The four digits of the lead are counted before.
+fn lead_or_pair<C: Counter>(lead: u32, units: &[CodePoint], steps: &mut C) -> UnicodeEscape
     requires { IsLeadSurrogate lead }
     ensures read { seen_escape result ≡ joined_at lead (trail_at (values units.now)) }
     ensures steps { Rises (C.count steps.old) (C.count steps.new + 4) (least_digits result) (most_digits true 0 result) }
     ensures half { escape_length result + 2 * C.count steps.old ≤ 2 * (C.count steps.new + 4) }
     ensures looked { C.count steps.new ≡ digits_of_trail (values units.now) + C.count steps.old }
 {
-    match escaped_trail(units, steps) {
+    match trail_escape(units, steps) {
         Some(trail) => UnicodeEscape::Value {
             code_point: combine_surrogate_pair(lead, trail),
             length: 11,
@@ -176,9 +148,9 @@ fn joined<C: Counter>(lead: u32, units: &[CodePoint], steps: &mut C) -> UnicodeE
     }
 }
 
-/// The trail surrogate that is escaped next, in four digits.
+/// The trail surrogate that is escaped next, in four digits (HexTrailSurrogate, 22.2.1).
 #[tactic(auto, using(crate::proofs::Steps::short_trail))]
-fn escaped_trail<C: Counter>(units: &[CodePoint], steps: &mut C) -> Option<u32>
+fn trail_escape<C: Counter>(units: &[CodePoint], steps: &mut C) -> Option<u32>
     ensures value { result ≡ trail_at (values units.now) }
     ensures trail { IfSome result (λ trail. IsTrailSurrogate trail) }
     ensures steps { Rises (C.count steps.old) (C.count steps.new) (if is_some result then 4 else 0) 4 }
@@ -186,18 +158,18 @@ fn escaped_trail<C: Counter>(units: &[CodePoint], steps: &mut C) -> Option<u32>
 {
     match units {
         [backslash, u, digits @ ..] if backslash.value == '\\' as u32 && u.value == 'u' as u32 => {
-            let (trail, _) = fixed_hex_digits(digits, steps)?;
+            let (trail, _) = four_digits(digits, steps)?;
             is_trail_surrogate(trail).then_some(trail)
         }
         _ => None,
     }
 }
 
+/// The digits in braces that stand next.
 fn braced_digits<C: Counter>(units: &[CodePoint], steps: &mut C) -> UnicodeEscape
     ensures read { seen_escape result ≡ braces_at (values units.now) }
     ensures steps { Rises (C.count steps.old) (C.count steps.new) (least_digits result) (most_digits true (length units.now) result) }
     ensures half { escape_length result + 2 * C.count steps.old ≤ 2 * C.count steps.new }
-    ensures none { starts 123 (values units.now) ≡ false → (result ≡ UnicodeEscape.Invalid) × (C.count steps.new ≡ C.count steps.old) }
     ensures looked { Rises (C.count steps.old) (C.count steps.new) (digits_in_braces (values units.now)) (digits_in_braces (values units.now) + 1) }
 {
     match units {
@@ -206,6 +178,7 @@ fn braced_digits<C: Counter>(units: &[CodePoint], steps: &mut C) -> UnicodeEscap
     }
 }
 
+/// The number of the digits up to the closing brace (CodePoint, 12.9.6).
 #[tactic(auto, using(crate::proofs::LookedDigits::run_is_looked_at))]
 fn digits_to_brace<C: Counter>(units: &[CodePoint], steps: &mut C) -> UnicodeEscape
     ensures read { seen_escape result ≡ run_at 0 0 (values units.now) }
@@ -216,7 +189,7 @@ fn digits_to_brace<C: Counter>(units: &[CodePoint], steps: &mut C) -> UnicodeEsc
     let mut value = 0u32;
     for (count, unit) in units.iter().enumerate() {
         steps.tick();
-        match digit_value(unit) {
+        match map_hex_digit(unit.value) {
             Some(digit) => match value.checked_mul(16).and_then(|v| v.checked_add(digit)) {
                 Some(next) => value = next,
                 None => return UnicodeEscape::Overflow { digits: count },

@@ -1,5 +1,5 @@
 ghost use Rattle.std.specs.Prelude.{◌≡◌, ◌+◌, ◌<◌, ◌^◌, length};
-ghost use Rattle.rx_class.specs.EscapeAnswers.{IsBehindBackslash};
+ghost use Rattle.rx_class.specs.EscapeAnswers.{IsAfterBackslash};
 ghost use Rattle.rx_class.specs.Fitting.{AreFitting};
 
 use rx_ast::{Character, CharacterClassEscape, UnicodePropertyEscape};
@@ -15,7 +15,7 @@ use std::marker::Brand;
 use std::sync::ledger::{Blank, Ledger};
 use std::test::Fail;
 
-/// What stands behind the backslash that the text begins with, its spans 10 bytes on.
+/// What stands after the backslash that the text begins with, its spans 10 bytes on.
 fn character(alloc: Global, text: &str) -> Result<Result<Option<Character>, Diagnostic>, Fail>
     requires { length text.now + 10 < 2 ^ 32 }
 {
@@ -37,7 +37,7 @@ fn counted_character<L: Ledger>(
     start: u32,
     blank: Blank,
 ) -> Result<Option<Character>, Diagnostic>
-    requires backslash { IsBehindBackslash reader.old start }
+    requires backslash { IsAfterBackslash reader.old start }
     requires fits { AreFitting spans.now reader.old }
     requires name { blank.name ≡ L.name }
     requires parts { blank.parts ≡ L.parts }
@@ -127,7 +127,7 @@ fn counted_class_escape<L: Ledger>(
     start: u32,
     blank: Blank,
 ) -> Option<CharacterClassEscape>
-    requires backslash { IsBehindBackslash reader.old start }
+    requires backslash { IsAfterBackslash reader.old start }
     requires fits { AreFitting spans.now reader.old }
     requires name { blank.name ≡ L.name }
     requires parts { blank.parts ≡ L.parts }
@@ -186,7 +186,7 @@ fn counted_property<L: Ledger>(
     start: u32,
     blank: Blank,
 ) -> Result<Option<UnicodePropertyEscape>, Fault>
-    requires backslash { IsBehindBackslash reader.old start }
+    requires backslash { IsAfterBackslash reader.old start }
     requires fits { AreFitting spans.now reader.old }
     requires name { blank.name ≡ L.name }
     requires parts { blank.parts ≡ L.parts }

@@ -1,4 +1,5 @@
 ghost use Rattle.std.specs.Prelude.{◌≡◌};
+ghost use Rattle.rx_base.specs.Characters.{is_code_point};
 ghost use Rattle.rx_tables.specs.Characters as set;
 
 /// Whether a value is one of `^ $ \ . * + ? ( ) [ ] { } |`.
@@ -24,7 +25,7 @@ pub fn is_class_set_syntax_character(cp: u32) -> bool
     })
 }
 
-/// Whether two values are twice one of ``& ! # $ % * + , . : ; < = > ? @ ^ ` ~``.
+/// Whether two values are the same one of ``& ! # $ % * + , . : ; < = > ? @ ^ ` ~``.
 pub fn is_class_set_reserved_double_punctuator(cp1: u32, cp2: u32) -> bool
     ensures { result ≡ set.is_class_set_reserved_double_punctuator cp1 cp2 }
 {
@@ -80,9 +81,9 @@ pub fn is_octal_digit(cp: u32) -> bool
     char::from_u32(cp).is_some_and(|ch| matches!(ch, '0'..='7'))
 }
 
-/// Whether a value is a code point, surrogates too.
+/// Whether a value is a code point, a surrogate or not.
 pub fn is_valid_unicode(cp: u32) -> bool
-    ensures { result ≡ set.is_code_point cp }
+    ensures { result ≡ is_code_point cp }
 {
     cp <= 0x10ffff
 }
@@ -101,7 +102,7 @@ pub fn is_unicode_property_value_character(cp: u32) -> bool
     char::from_u32(cp).is_some_and(|ch| ch.is_ascii_alphanumeric() || ch == '_')
 }
 
-/// What `\f`, `\n`, `\r`, `\t` or `\v` stands for, by the value behind the backslash.
+/// What `\f`, `\n`, `\r`, `\t` or `\v` stands for, from the value after the backslash.
 pub fn map_control_escape(cp: u32) -> Option<u32>
     ensures { result ≡ set.control_escape_value cp }
 {
@@ -115,7 +116,7 @@ pub fn map_control_escape(cp: u32) -> Option<u32>
     }
 }
 
-/// What `\c` and an ASCII letter stand for, by the letter.
+/// What `\c` and an ASCII letter stand for, from the letter.
 pub fn map_c_ascii_letter(cp: u32) -> Option<u32>
     ensures { result ≡ set.control_letter_value cp }
 {

@@ -3,7 +3,7 @@ ghost use Rattle.rx_tables.specs.Identifiers as set;
 
 use unicode::properties;
 
-/// Whether a value is a character that begins identifiers by Unicode.
+/// Whether a value is a character that may begin an identifier by Unicode.
 pub fn is_unicode_id_start(cp: u32) -> bool
     ensures { result ≡ set.is_unicode_id_start cp }
 {
@@ -14,7 +14,7 @@ pub fn is_unicode_id_start(cp: u32) -> bool
     }
 }
 
-/// Whether a value is a character that goes on in identifiers by Unicode.
+/// Whether a value is a character that may continue an identifier by Unicode.
 pub fn is_unicode_id_continue(cp: u32) -> bool
     ensures { result ≡ set.is_unicode_id_continue cp }
 {
@@ -25,14 +25,14 @@ pub fn is_unicode_id_continue(cp: u32) -> bool
     }
 }
 
-/// Whether a value is a character that begins the name of a group.
+/// Whether a value is a character that may begin the name of a group.
 pub fn is_identifier_start_char(cp: u32) -> bool
     ensures { result ≡ set.is_identifier_start_char cp }
 {
     is_unicode_id_start(cp) || cp == '$' as u32 || cp == '_' as u32
 }
 
-/// Whether a value is a character that goes on in the name of a group.
+/// Whether a value is a character that may continue the name of a group.
 pub fn is_identifier_part_char(cp: u32) -> bool
     ensures { result ≡ set.is_identifier_part_char cp }
 {

@@ -7,7 +7,7 @@ use crate::property_words::{
     BINARY_PROPERTIES, GENERAL_CATEGORY_VALUES, PROPERTIES_OF_STRINGS, SCRIPT_VALUES,
 };
 
-/// Whether a text is one of some ASCII words, case by case.
+/// Whether a text is one of some ASCII words, in the same case.
 fn is_among(words: &[&str], text: &str) -> bool
     requires { IsTrue (list_all (λ w. list_all (λ b. nat_lt b 128) w.now) words.now) }
     ensures { IsTrue result ↔ Contains (map (λ w. w.now) words.now) (chars text.now) }

@@ -30,7 +30,7 @@ rest_of_class mode operator ms = more_members_text mode operator (members (map m
 in_order : (opener first others closer more : List ℕ) → (opener ++ ((first ++ others) ++ closer)) ++ more ≡ opener ++ (first ++ ((others ++ closer) ++ more))
 in_order opener first others closer more = simp append_assoc
 
--- texts with more behind them, by the first of the contents and the others
+-- texts with more after them, by the first of the contents and the others
 pub class_cut : (mode : Mode) (c : CharacterClass) (all : List CharacterClassContents) (first : CharacterClassContents) (others : List CharacterClassContents) (more : List ℕ) →
     all ≡ c.body → all ≡ first ∷ others →
     class_text mode (mirror_class c) ++ more ≡ class_opener c.negative ++ (member_text mode (mirror_contents first) ++ (rest_of_class mode (operator_text c.kind) others ++ more))

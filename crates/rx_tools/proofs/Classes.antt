@@ -28,25 +28,25 @@ strings_next mode ss i s h e = rw (add-one, drop-cons ss i s, ← e) refl
 pub strings_none : (mode : Mode) (ss : List ClassString) (i : ℕ) → length ss ≤ i → barred_strings_text mode (drop i ss) ≡ []
 strings_none mode ss i h = rw (drop_all i ss) refl
 
--- contents, the first behind this text and each other one behind the operator
-abbrev pub contents_behind : Mode → List ℕ → List ℕ → Members → List ℕ
-contents_behind mode before operator no_member = []
-contents_behind mode before operator (member m ms) = before ++ (member_text mode m ++ more_members_text mode operator ms)
+-- contents, the first after this text and each other one after the operator
+abbrev pub contents_after : Mode → List ℕ → List ℕ → Members → List ℕ
+contents_after mode before operator no_member = []
+contents_after mode before operator (member m ms) = before ++ (member_text mode m ++ more_members_text mode operator ms)
 
-pub behind_nothing : (mode : Mode) (operator : List ℕ) (ms : Members) → members_text mode operator ms ≡ contents_behind mode [] operator ms
-behind_nothing mode operator no_member = refl
-behind_nothing mode operator (member m ms) = refl
+pub after_nothing : (mode : Mode) (operator : List ℕ) (ms : Members) → members_text mode operator ms ≡ contents_after mode [] operator ms
+after_nothing mode operator no_member = refl
+after_nothing mode operator (member m ms) = refl
 
-behind_operator : (mode : Mode) (operator : List ℕ) (ms : Members) → more_members_text mode operator ms ≡ contents_behind mode operator operator ms
-behind_operator mode operator no_member = refl
-behind_operator mode operator (member m ms) = refl
+after_operator : (mode : Mode) (operator : List ℕ) (ms : Members) → more_members_text mode operator ms ≡ contents_after mode operator operator ms
+after_operator mode operator no_member = refl
+after_operator mode operator (member m ms) = refl
 
 pub contents_next : (mode : Mode) (before operator : List ℕ) (cs : List CharacterClassContents) (i : ℕ) (c : CharacterClassContents) → i < length cs → c ≡ get_or cs i c →
-    contents_behind mode before operator (members (map mirror_contents (drop i cs))) ≡ before ++ (member_text mode (mirror_contents c) ++ contents_behind mode operator operator (members (map mirror_contents (drop (i + 1) cs))))
+    contents_after mode before operator (members (map mirror_contents (drop i cs))) ≡ before ++ (member_text mode (mirror_contents c) ++ contents_after mode operator operator (members (map mirror_contents (drop (i + 1) cs))))
 contents_next mode before operator cs i c h e =
-    rw (add-one, drop-cons cs i c, ← e) (ap (λ rest. before ++ (member_text mode (mirror_contents c) ++ rest)) (behind_operator mode operator (members (map mirror_contents (drop (suc i) cs)))))
+    rw (add-one, drop-cons cs i c, ← e) (ap (λ rest. before ++ (member_text mode (mirror_contents c) ++ rest)) (after_operator mode operator (members (map mirror_contents (drop (suc i) cs)))))
 
-pub contents_none : (mode : Mode) (before operator : List ℕ) (cs : List CharacterClassContents) (i : ℕ) → length cs ≤ i → contents_behind mode before operator (members (map mirror_contents (drop i cs))) ≡ []
+pub contents_none : (mode : Mode) (before operator : List ℕ) (cs : List CharacterClassContents) (i : ℕ) → length cs ≤ i → contents_after mode before operator (members (map mirror_contents (drop i cs))) ≡ []
 contents_none mode before operator cs i h = rw (drop_all i cs) refl
 
 -- whether no class stands among contents from an index on

@@ -29,9 +29,9 @@ goes_as same a = record { front = a.front; cut = same ∙ a.cut; appended = a.ap
 pub goes_to : {o n : Option (List ℕ)} {before middle after : List ℕ} → Goes o n before middle → middle ≡ after → Goes o n before after
 goes_to a same = record { front = a.front; cut = a.cut ∙ ap (λ text. a.front ++ text) same; appended = a.appended }
 
--- with more behind it
-pub goes_behind : {o n : Option (List ℕ)} {before after : List ℕ} (more : List ℕ) → Goes o n before after → Goes o n (before ++ more) (after ++ more)
-goes_behind {after} more a = record { front = a.front; cut = ap (λ text. text ++ more) a.cut ∙ append_assoc a.front after more; appended = a.appended }
+-- with more after it
+pub goes_after : {o n : Option (List ℕ)} {before after : List ℕ} (more : List ℕ) → Goes o n before after → Goes o n (before ++ more) (after ++ more)
+goes_after {after} more a = record { front = a.front; cut = ap (λ text. text ++ more) a.cut ∙ append_assoc a.front after more; appended = a.appended }
 
 -- a text was written
 pub goes_whole : {o n : Option (List ℕ)} (front : List ℕ) {before after : List ℕ} → before ≡ front ++ after → Appends o n (utf8 front) → Goes o n before after
@@ -42,7 +42,7 @@ pub goes_last : {T E : Type 0} (result : Result T E) (o m n : Option (List ℕ))
     Goes o m before (front ++ after) → OnOk result (Appends m n (utf8 front)) → OnOk result (Goes o n before after)
 goes_last result o m n before front after kept written = on_ok_weaker result (λ whole. goes_then kept (goes_whole front refl whole)) written
 
--- an opener was written, and what is behind it is left
+-- an opener was written, and what is after it is left
 pub goes_opened : {o m n : Option (List ℕ)} {before text : List ℕ} (opener inner more after : List ℕ) →
     Goes o m before text → text ≡ opener ++ (inner ++ more) → after ≡ inner ++ more → Appends m n (utf8 opener) → Goes o n before after
 goes_opened opener inner more after kept cut left written = goes_then kept (goes_whole opener (cut ∙ ap (λ text. opener ++ text) (sym left)) written)

@@ -34,7 +34,7 @@ pub weight-last : (before between : List Task) (t : Task) → before ≡ between
 unfolding weight
 weight-last before between t same = rw same (last_weighs (λ t. 1 + 3 * task_size t) between t)
 
--- texts with more behind them, by the first and the others
+-- texts with more after them, by the first and the others
 pub disjunction_cut : (mode : Mode) (all : List Alternative) (first : Alternative) (others : List Alternative) (more : List ℕ) → all ≡ first ∷ others →
     alternatives_text mode (tree_of all) ++ more ≡ nodes_text mode false (nodes (map mirror_term first.body)) ++ (barred_text mode (tree_of others) ++ more)
 disjunction_cut mode all first others more cut =
@@ -59,7 +59,7 @@ pub quantifier_cut : (mode : Mode) (after_reference : Bool) (q : Box Quantifier 
 quantifier_cut mode after_reference q more =
     rw (tree_of_quantifier q) (append_assoc (node_text mode after_reference (mirror_term q.value.body)) (quantifier_text q.value.min q.value.max q.value.greedy) more)
 
--- what is behind the opener of a group
+-- what is after the opener of a group
 abbrev pub inside_text : Mode → Disjunction → List ℕ
 inside_text mode d = alternatives_text mode (mirror_disjunction d).1 ++ codes ")"
 

@@ -8,25 +8,25 @@ use Rattle.rx_ast.proofs.Equations.{alternative_is}
 use Rattle.rx_model.specs.declared.mode.Mode.{Mode}
 use Rattle.rx_model.specs.Spelling.Spelling.{nodes_text, alternatives_text, barred_text}
 
--- alternatives, the first behind this text and each other one behind a bar
-abbrev pub alternatives_behind : Mode → List ℕ → Alternatives → List ℕ
-alternatives_behind mode before no_alternative = []
-alternatives_behind mode before (alternative s ns more) = before ++ (nodes_text mode false ns ++ barred_text mode more)
+-- alternatives, the first after this text and each other one after a bar
+abbrev pub alternatives_after : Mode → List ℕ → Alternatives → List ℕ
+alternatives_after mode before no_alternative = []
+alternatives_after mode before (alternative s ns more) = before ++ (nodes_text mode false ns ++ barred_text mode more)
 
-pub behind_nothing : (mode : Mode) (more : Alternatives) → alternatives_text mode more ≡ alternatives_behind mode [] more
-behind_nothing mode no_alternative = refl
-behind_nothing mode (alternative s ns more) = refl
+pub after_nothing : (mode : Mode) (more : Alternatives) → alternatives_text mode more ≡ alternatives_after mode [] more
+after_nothing mode no_alternative = refl
+after_nothing mode (alternative s ns more) = refl
 
-behind_bar : (mode : Mode) (more : Alternatives) → barred_text mode more ≡ alternatives_behind mode (codes "|") more
-behind_bar mode no_alternative = refl
-behind_bar mode (alternative s ns more) = refl
+after_bar : (mode : Mode) (more : Alternatives) → barred_text mode more ≡ alternatives_after mode (codes "|") more
+after_bar mode no_alternative = refl
+after_bar mode (alternative s ns more) = refl
 
 pub alternatives_next : (mode : Mode) (before : List ℕ) (as' : List Alternative) (i : ℕ) (a : Alternative) → i < length as' → a ≡ get_or as' i a →
-    alternatives_behind mode before (alternatives (map mirror_alternative (drop i as'))) ≡
-    before ++ (nodes_text mode false (nodes (map mirror_term a.body)) ++ alternatives_behind mode (codes "|") (alternatives (map mirror_alternative (drop (i + 1) as'))))
+    alternatives_after mode before (alternatives (map mirror_alternative (drop i as'))) ≡
+    before ++ (nodes_text mode false (nodes (map mirror_term a.body)) ++ alternatives_after mode (codes "|") (alternatives (map mirror_alternative (drop (i + 1) as'))))
 alternatives_next mode before as' i a h e =
     rw (add-one, drop-cons as' i a, ← e, alternative_is a)
-    (ap (λ rest. before ++ (nodes_text mode false (nodes (map mirror_term a.body)) ++ rest)) (behind_bar mode (alternatives (map mirror_alternative (drop (suc i) as')))))
+    (ap (λ rest. before ++ (nodes_text mode false (nodes (map mirror_term a.body)) ++ rest)) (after_bar mode (alternatives (map mirror_alternative (drop (suc i) as')))))
 
-pub alternatives_none : (mode : Mode) (before : List ℕ) (as' : List Alternative) (i : ℕ) → length as' ≤ i → alternatives_behind mode before (alternatives (map mirror_alternative (drop i as'))) ≡ []
+pub alternatives_none : (mode : Mode) (before : List ℕ) (as' : List Alternative) (i : ℕ) → length as' ≤ i → alternatives_after mode before (alternatives (map mirror_alternative (drop i as'))) ≡ []
 alternatives_none mode before as' i h = rw (drop_all i as') refl

@@ -1,6 +1,7 @@
 -- How a character is spelled, by its form.
 use Rattle.std.specs.Prelude.{ℕ, ◌∷◌, List, []}
 use Rattle.std.specs.Char.{IsScalar}
+use Rattle.rx_base.specs.Ascii as ascii
 use Rattle.rx_model.specs.Spelling.CharacterText as text
 use Rattle.rx_model.specs.Spelling.CharacterText.{control_letter, two_digits, four_digits, braced}
 use Rattle.rx_tools.specs.declared.character.Place.{Place}
@@ -13,12 +14,12 @@ place_of (Outside after_reference) = text.outside after_reference
 place_of InClass = text.in_class
 
 abbrev pub form_text : CharacterForm → ℕ → List ℕ
-form_text Control c = 92 ∷ control_letter c ∷ []
+form_text Control c = ascii.backslash ∷ control_letter c ∷ []
 form_text TwoDigits c = two_digits c
 form_text FourDigits c = four_digits c
 form_text Braced c = braced c
-form_text Escaped c = 92 ∷ c ∷ []
-form_text Digit c = 92 ∷ 120 ∷ 51 ∷ c ∷ []
+form_text Escaped c = ascii.backslash ∷ c ∷ []
+form_text Digit c = ascii.backslash ∷ ascii.x ∷ ascii.three ∷ c ∷ []
 form_text Raw c = c ∷ []
 
 -- a form that holds the value itself holds a character

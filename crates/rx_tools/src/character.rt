@@ -1,6 +1,7 @@
 ghost use Rattle.std.specs.Prelude.{◌≡◌, ◌∷◌, [], ◌++◌, ◌<◌, ℕ, true};
 ghost use Rattle.std.specs.Char.{IsScalar};
 ghost use Rattle.std.specs.Str.{chars};
+ghost use Rattle.rx_base.specs.Ascii as ascii;
 ghost use Rattle.rx_base.specs.Writing.{Written};
 ghost use Rattle.rx_tables.specs.Characters.{hex_digit as hex};
 ghost use Rattle.rx_model.specs.Spelling.CharacterText.{is_reserved_in_class as reserved_in_class, is_escaped as escaped, goes_on as going, greatest_raw as greatest, control_letter as letter, hex as hexadecimal, braced, surrogate_text, character_text};
@@ -9,7 +10,7 @@ ghost use Rattle.rx_tools.specs.Characters.{place_of, form_text, IsWritable};
 ghost use Rattle.rx_tools.specs.Utf8.{utf8};
 
 use crate::write::{write_chars, write_str};
-use rx_base::{Failed, TextSink};
+use rx_base::{Failed, TextSink, is_surrogate};
 use rx_model::Mode;
 use rx_tables::{is_class_set_reserved_punctuator, is_syntax_character};
 
@@ -113,7 +114,7 @@ fn form(mode: Mode, place: Place, c: u32) -> CharacterForm
         CharacterForm::TwoDigits
     } else if c == 0x2028 || c == 0x2029 {
         CharacterForm::FourDigits
-    } else if 0xD800 <= c && c <= 0xDFFF {
+    } else if is_surrogate(c) {
         surrogate_form(mode)
     } else if greatest_raw(mode) < c {
         CharacterForm::Braced
@@ -181,7 +182,7 @@ fn character(c: u32) -> char
     char::from_u32(c).unwrap()
 }
 
-/// Writes what an escape begins with, and the characters behind it.
+/// Writes what an escape begins with, and the characters after it.
 fn write_escape<W: TextSink>(sink: &mut W, opener: &str, characters: &[char]) -> Result<(), Failed>
     ensures { Written W.taken W.fixed W.faults sink.old sink.new result (utf8 (chars opener.now ++ characters.now)) }
 {
@@ -226,10 +227,10 @@ fn is_plain(mode: Mode, place: Place, c: u32) -> bool
     32 <= c && c < 127 && !is_escaped(mode, place, c) && !goes_on(place, c)
 }
 
-/// Whether the character is printable ASCII, and is spelled behind a backslash.
+/// Whether the character is printable ASCII, and is spelled after a backslash.
 #[tactic(auto, using(crate::proofs::Plain::escaped_text))]
 fn is_escaped_sign(mode: Mode, place: Place, c: u32) -> bool
-    ensures text { result ≡ true → character_text mode (place_of place) c ≡ 92 ∷ c ∷ [] }
+    ensures text { result ≡ true → character_text mode (place_of place) c ≡ ascii.backslash ∷ c ∷ [] }
     ensures ascii { result ≡ true → c < 128 }
 {
     32 <= c && c < 127 && is_escaped(mode, place, c)
@@ -238,7 +239,7 @@ fn is_escaped_sign(mode: Mode, place: Place, c: u32) -> bool
 /// Writes a backslash and the character.
 fn write_escaped<W: TextSink>(sink: &mut W, c: u32) -> Result<(), Failed>
     requires { c < 128 }
-    ensures { Written W.taken W.fixed W.faults sink.old sink.new result (utf8 (92 ∷ c ∷ [])) }
+    ensures { Written W.taken W.fixed W.faults sink.old sink.new result (utf8 (ascii.backslash ∷ c ∷ [])) }
 {
     sink.write_char('\\')?;
     sink.write_char(character(c))

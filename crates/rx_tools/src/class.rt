@@ -42,7 +42,7 @@ fn write_characters<W: TextSink>(
     Ok(())
 }
 
-/// Writes each string behind a bar.
+/// Writes each string after a bar.
 fn write_barred_strings<W: TextSink>(
     sink: &mut W,
     mode: Mode,

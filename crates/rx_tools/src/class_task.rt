@@ -23,7 +23,7 @@ enum ClassTask<'a> {
     /// A class.
     Class(&'a CharacterClass),
 
-    /// The rest of a class: contents, each behind the operator of that kind, and the closer.
+    /// The rest of a class: contents, each after the operator of that kind, and the closer.
     Rest(CharacterClassContentsKind, &'a [CharacterClassContents]),
 }
 
@@ -78,7 +78,7 @@ fn open_class<'a, W: TextSink>(
     write_or_leave(sink, mode, tasks, first)
 }
 
-/// Writes the next of the contents behind the operator, and leaves the rest for later; where there is none, the closer.
+/// Writes the next of the contents after the operator, and leaves the rest for later; where there is none, the closer.
 fn write_rest<'a, W: TextSink>(
     sink: &mut W,
     mode: Mode,

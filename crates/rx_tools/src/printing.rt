@@ -31,7 +31,7 @@ pub fn canonical_text(alloc: Global, pattern: &Pattern, mode: Mode) -> Result<Te
     Ok(text)
 }
 
-/// Adds the canonical spelling of a tree in a mode, in UTF-8, behind the bytes. However deep the tree is, it takes no deep stack.
+/// Adds the canonical spelling of a tree in a mode, in UTF-8, after the bytes. However deep the tree is, it takes no deep stack.
 /// Fails only where there is not enough memory, and then a part of the spelling may stand at the end.
 pub fn append_canonical(
     alloc: Global,
@@ -113,7 +113,7 @@ fn write_disjunction<'a, W: TextSink>(
     write_alternatives(sink, mode, tasks, left)
 }
 
-/// Writes alternatives, each behind a bar, up to the first term in which something nests, and leaves the rest for later.
+/// Writes alternatives, each after a bar, up to the first term in which something nests, and leaves the rest for later.
 fn write_alternatives<'a, W: TextSink>(
     sink: &mut W,
     mode: Mode,
@@ -132,7 +132,7 @@ fn write_alternatives<'a, W: TextSink>(
 }
 
 /// Writes the terms of an alternative up to the first in which something nests, and answers the alternatives that are to be
-/// written now: those behind it, or none where it leaves them for later with the rest of its terms.
+/// written now: those after it, or none where it leaves them for later with the rest of its terms.
 fn write_alternative<'a, W: TextSink>(
     sink: &mut W,
     mode: Mode,
@@ -185,7 +185,7 @@ fn open_first<'a, W: TextSink>(
     ensures text { OnOk result (Goes (W.taken sink.old) (W.taken sink.new) (rest_text mode rest.entry ++ pending mode tasks.old) (pending mode tasks.new)) }
     ensures size { OnOk result (weight tasks.new ≤ weight tasks.old + 3 * terms_size rest.entry.terms.now) }
 {
-    let Some((first, behind)) = rest.terms.split_first() else {
+    let Some((first, following)) = rest.terms.split_first() else {
         return Ok(());
     };
     let after_reference = refers(first);
@@ -193,13 +193,13 @@ fn open_first<'a, W: TextSink>(
         tasks,
         Rest {
             after_reference,
-            terms: behind,
+            terms: following,
         },
     )?;
     open(sink, mode, tasks, rest.after_reference, first)
 }
 
-/// Writes a term in which nothing nests, or what another begins with. What is behind that is left for later.
+/// Writes a term in which nothing nests, or what another begins with. What is after that is left for later.
 #[tactic(auto, using(rx_ast::proofs::Equations::mirrors, rx_ast::proofs::Sizes::sizes))]
 fn open<'a, W: TextSink>(
     sink: &mut W,

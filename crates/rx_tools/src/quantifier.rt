@@ -17,7 +17,7 @@ pub fn decimal_text(buffer: &mut Buffer, n: u64) -> &str
     buffer.format(n)
 }
 
-/// Writes the first that fits of `*`, `+`, `?`, `{n}`, `{n,m}`, `{n,}`, and `?` behind it unless greedy.
+/// Writes the first that fits of `*`, `+`, `?`, `{n}`, `{n,m}`, `{n,}`, and `?` after it unless greedy.
 #[tactic(auto, using(crate::proofs::Pieces::in_pieces))]
 pub fn write_quantifier<W: TextSink>(
     sink: &mut W,

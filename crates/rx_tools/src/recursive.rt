@@ -64,11 +64,11 @@ fn write_terms<W: TextSink>(sink: &mut W, mode: Mode, terms: &[Term]) -> Result<
     let mut rest = write_leaves(sink, mode, whole)?;
     while let Some((term, others)) = rest.terms.split_first() {
         write_term(sink, mode, rest.after_reference, term)?;
-        let behind = Rest {
+        let following = Rest {
             after_reference: refers(term),
             terms: others,
         };
-        rest = write_leaves(sink, mode, behind)?;
+        rest = write_leaves(sink, mode, following)?;
     }
     Ok(())
 }

@@ -17,13 +17,13 @@ pub enum Task<'a> {
     /// A disjunction.
     Disjunction(&'a [Alternative]),
 
-    /// The rest of a disjunction, each alternative behind a bar.
+    /// The rest of a disjunction, each alternative after a bar.
     Alternatives(&'a [Alternative]),
 
     /// The rest of an alternative.
     Terms(Rest<'a>),
 
-    /// A quantifier behind its body.
+    /// A quantifier after its body.
     Suffix {
         min: u64,
         max: Option<u64>,
@@ -68,7 +68,7 @@ pub fn leave_terms<'a>(tasks: &mut List<Task<'a>>, rest: Rest<'a>) -> Result<(),
     leave(tasks, Task::Terms(rest))
 }
 
-/// Leaves what is behind the opener of a group for later.
+/// Leaves what is after the opener of a group for later.
 #[tactic(auto, using(rx_ast::proofs::Sizes::sizes))]
 pub fn leave_group<'a>(tasks: &mut List<Task<'a>>, body: &'a Disjunction) -> Result<(), Failed>
     ensures text { OnOk result ((mode : Mode) → pending mode tasks.new ≡ (alternatives_text mode (mirror_disjunction body.now).1 ++ codes ")") ++ pending mode tasks.old) }
@@ -78,7 +78,7 @@ pub fn leave_group<'a>(tasks: &mut List<Task<'a>>, body: &'a Disjunction) -> Res
     leave(tasks, Task::Disjunction(body.body.as_slice()))
 }
 
-/// Leaves a quantifier for later, which stands behind its body.
+/// Leaves a quantifier for later, which stands after its body.
 pub fn leave_suffix<'a>(tasks: &mut List<Task<'a>>, it: &Quantifier) -> Result<(), Failed>
     ensures text { OnOk result ((mode : Mode) → pending mode tasks.new ≡ quantifier_text it.now.min it.now.max it.now.greedy ++ pending mode tasks.old) }
     ensures size { OnOk result (weight tasks.new ≡ weight tasks.old + 1) }

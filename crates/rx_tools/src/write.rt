@@ -12,7 +12,7 @@ pub fn write_str<W: TextSink>(sink: &mut W, text: &str) -> Result<(), Failed>
     sink.write_str(text)
 }
 
-/// Writes texts, one behind the other.
+/// Writes texts, one after the other.
 pub fn write_pieces<W: TextSink>(sink: &mut W, pieces: &[&str]) -> Result<(), Failed>
     ensures { Written W.taken W.fixed W.faults sink.old sink.new result (utf8 (flat_map (λ p. chars p.now) pieces.now)) }
 {

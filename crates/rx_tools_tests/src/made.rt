@@ -67,7 +67,7 @@ pub fn spelled_disjunction(
     Text::from_str(alloc, "the printers differ")
 }
 
-/// Whether the other two printers write this text too: the one to a sink that takes three bytes at a time and has room for no more, the other behind
+/// Whether the other two printers write this text too: the one to a sink that takes three bytes at a time and has room for no more, the other after
 /// a byte that is there.
 fn all_agree(
     alloc: Global,

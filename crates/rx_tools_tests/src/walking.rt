@@ -122,7 +122,7 @@ fn met_all(visitor: &Names, names: &[&'static str]) -> bool {
     visitor.left == visitor.names.len() && begins_with(names, visitor.names.as_slice())
 }
 
-/// Walks over a node by its own call, with a visitor that descends and with one that does not. These are the names of the node and of those behind it.
+/// Walks over a node by its own call, with a visitor that descends and with one that does not. These are the names of the node and of those after it.
 fn walk_agrees(alloc: Global, node: RegExpAstKind<'_>, names: &[&'static str]) -> Result<(), Fail> {
     let mut all = Names::new(alloc, Descent::All);
     walk(&mut all, node);

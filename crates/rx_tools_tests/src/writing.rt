@@ -7,7 +7,7 @@ use rx_tools::{Form, Options, read_pattern, write_canonical};
 use std::alloc::Global;
 use std::test::Fail;
 
-/// What is written of a pattern under `u`, with `!` behind it where a write failed.
+/// What is written of a pattern under `u`, with `!` after it where a write failed.
 fn written(alloc: Global, pattern: &str, step: usize, call: u64) -> Result<String, Fail>
     requires { 0 < step }
 {

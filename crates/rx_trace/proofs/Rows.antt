@@ -51,8 +51,8 @@ row_2_cost = refl
 abbrev digits : Node
 digits = group nowhere (capturing None) nowhere (one (quantified nowhere 1 None true (leaf (tree.class_escape (record { span = nowhere; kind = D })))))
 
-abbrev behind_digits : Alternatives
-behind_digits = alternative nowhere (node (group nowhere (looking Lookbehind) nowhere (alternative nowhere (node digits (node digits no_node)) no_alternative)) (node (leaf (tree.boundary (record { span = nowhere; kind = End }))) no_node)) no_alternative
+abbrev after_digits : Alternatives
+after_digits = alternative nowhere (node (group nowhere (looking Lookbehind) nowhere (alternative nowhere (node digits (node digits no_node)) no_alternative)) (node (leaf (tree.boundary (record { span = nowhere; kind = End }))) no_node)) no_alternative
 
-row_3 : first (alternatives_trace (49 ∷ 48 ∷ 53 ∷ 51 ∷ []) (None ∷ None ∷ []) behind_digits plain false 0 (at 4 (Unset ∷ Unset ∷ []))) ≡ Some (at 4 (Set 0 1 ∷ Set 1 4 ∷ []))
+row_3 : first (alternatives_trace (49 ∷ 48 ∷ 53 ∷ 51 ∷ []) (None ∷ None ∷ []) after_digits plain false 0 (at 4 (Unset ∷ Unset ∷ []))) ≡ Some (at 4 (Set 0 1 ∷ Set 1 4 ∷ []))
 row_3 = refl

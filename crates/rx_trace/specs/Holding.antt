@@ -1,5 +1,7 @@
 -- Which units a term holds, and where a boundary holds.
-use Rattle.std.specs.Prelude.{ℕ, zero, suc, ◌+◌, Bool, true, false, not, ◌==◌, ◌&&◌, ◌||◌, nat_le, Option, Some, None, List, length, slice_get}
+use Rattle.std.specs.Prelude.{ℕ, zero, suc, ◌+◌, Bool, true, false, not, ◌==◌, ◌&&◌, ◌||◌, Option, Some, None, List, length, slice_get}
+use Rattle.rx_base.specs.Ascii as ascii
+use Rattle.rx_base.specs.Characters.{is_within}
 use Rattle.rx_ast.specs.declared.leaf.BoundaryAssertionKind.{BoundaryAssertionKind}
 use Rattle.rx_ast.specs.declared.leaf.BoundaryAssertionKind.TheVariants as at
 use Rattle.rx_ast.specs.declared.leaf.CharacterClassEscapeKind.{CharacterClassEscapeKind}
@@ -8,23 +10,20 @@ use Rattle.rx_ast.specs.declared.class.CharacterClassContentsKind.TheVariants as
 use Rattle.rx_ast.specs.ClassTree.{Member, Members, Class, no_member, member}
 use Rattle.rx_ast.specs.ClassTree as in_class
 
-abbrev pub is_within : ℕ → ℕ → ℕ → Bool
-is_within low high c = nat_le low c && nat_le c high
-
 -- LineTerminator (12.3)
 abbrev pub is_line_terminator : ℕ → Bool
-is_line_terminator c = c == 10 || c == 13 || c == 0x2028 || c == 0x2029
+is_line_terminator c = c == ascii.line_feed || c == ascii.carriage_return || c == 0x2028 || c == 0x2029
 
 abbrev pub is_digit : ℕ → Bool
-is_digit c = is_within 48 57 c
+is_digit c = is_within ascii.zero ascii.nine c
 
 -- WordCharacters (22.2.2.9.3)
 abbrev pub is_word : ℕ → Bool
-is_word c = is_within 65 90 c || is_within 97 122 c || is_within 48 57 c || c == 95
+is_word c = is_within ascii.A ascii.Z c || is_within ascii.a ascii.z c || is_within ascii.zero ascii.nine c || c == ascii.underscore
 
 -- WhiteSpace and LineTerminator (12.2, 12.3)
 abbrev pub is_space : ℕ → Bool
-is_space c = is_within 9 13 c || c == 32 || c == 0xA0 || c == 0x1680 || is_within 0x2000 0x200A c || c == 0x2028 || c == 0x2029 || c == 0x202F || c == 0x205F || c == 0x3000 || c == 0xFEFF
+is_space c = is_within ascii.tab ascii.carriage_return c || c == 32 || c == 0xA0 || c == 0x1680 || is_within 0x2000 0x200A c || c == 0x2028 || c == 0x2029 || c == 0x202F || c == 0x205F || c == 0x3000 || c == 0xFEFF
 
 -- CompileToCharSet (22.2.2.9) of a CharacterClassEscape
 abbrev pub escape_holds : CharacterClassEscapeKind → ℕ → Bool
@@ -78,9 +77,9 @@ abbrev pub ahead : List ℕ → ℕ → Option ℕ
 ahead input p = slice_get input p
 
 -- the unit before a place
-abbrev pub behind : List ℕ → ℕ → Option ℕ
-behind input zero = None
-behind input (suc p) = slice_get input p
+abbrev pub preceding : List ℕ → ℕ → Option ℕ
+preceding input zero = None
+preceding input (suc p) = slice_get input p
 
 -- At place 0 no unit stands before, and at the end none at the place.
 abbrev pub is_nothing : Option ℕ → Bool
@@ -92,20 +91,20 @@ differ a b = (a && not b) || (not a && b)
 
 -- IsWordChar (22.2.2.4.1) on both sides
 abbrev pub is_word_end : List ℕ → ℕ → Bool
-is_word_end input p = differ (holds_at is_word (behind input p)) (holds_at is_word (ahead input p))
+is_word_end input p = differ (holds_at is_word (preceding input p)) (holds_at is_word (ahead input p))
 
 -- the rest of the input is one line terminator, or CR LF, or nothing
 abbrev pub is_last_line : List ℕ → ℕ → Bool
 is_last_line input p = is_nothing (ahead input p)
     || ((p + 1 == length input) && holds_at is_line_terminator (ahead input p))
-    || ((p + 2 == length input) && holds_at (λ c. c == 13) (ahead input p) && holds_at (λ c. c == 10) (ahead input (p + 1)))
+    || ((p + 2 == length input) && holds_at (λ c. c == ascii.carriage_return) (ahead input p) && holds_at (λ c. c == ascii.line_feed) (ahead input (p + 1)))
 
 -- CompileAssertion (22.2.2.4), and the proposal on buffer boundaries
 abbrev pub boundary_holds : Bool → List ℕ → BoundaryAssertionKind → ℕ → Bool
-boundary_holds multiline input at.Start p = is_nothing (behind input p) || (multiline && holds_at is_line_terminator (behind input p))
+boundary_holds multiline input at.Start p = is_nothing (preceding input p) || (multiline && holds_at is_line_terminator (preceding input p))
 boundary_holds multiline input at.End p = is_nothing (ahead input p) || (multiline && holds_at is_line_terminator (ahead input p))
 boundary_holds multiline input at.Boundary p = is_word_end input p
 boundary_holds multiline input at.NegativeBoundary p = not (is_word_end input p)
-boundary_holds multiline input at.StartBuffer p = is_nothing (behind input p)
+boundary_holds multiline input at.StartBuffer p = is_nothing (preceding input p)
 boundary_holds multiline input at.EndBuffer p = is_nothing (ahead input p)
 boundary_holds multiline input at.EndBufferOptionalNewline p = is_last_line input p

@@ -11,7 +11,7 @@
 -- | reference | s where the slot is unset or missing; else over units equal to the slot's, where they stand there; else nothing | 22.2.2.7.2 |
 -- | quantifier | turns of its body | 22.2.2.3, 22.2.2.3.1 |
 --
--- The alternatives of a disjunction follow one another, and so do the terms of an alternative (22.2.2.3, 22.2.2.3.3, 22.2.2.3.4). UpdateModifiers is of the 16th edition.
+-- The alternatives of a disjunction follow one another, and so do the terms of an alternative (22.2.2.3, 22.2.2.3.3, 22.2.2.3.4).
 use Rattle.std.specs.Prelude.{ℕ, suc, ◌+◌, ◌-◌, ◌==◌, ◌&&◌, ◌||◌, not, nat_le, Bool, true, false, if◌then◌else◌, Option, Some, None, List, [], ◌∷◌, ◌++◌, length, take, drop, bit_and}
 use Rattle.rx_ast.specs.declared.leaf.Modifiers.{Modifiers}
 use Rattle.rx_ast.specs.declared.leaf.LookAroundAssertionKind.{LookAroundAssertionKind}
@@ -21,7 +21,7 @@ use Rattle.rx_ast.specs.Tree.{Leaf, Opener, Node, Nodes, Alternatives, leaf, qua
 use Rattle.rx_trace.specs.declared.answer.Slot.{Slot}
 use Rattle.rx_trace.specs.declared.answer.Slot.TheVariants.{Unset, Set}
 use Rattle.rx_trace.specs.Traces.{State, Trace, tick, reached, and_then, front, first}
-use Rattle.rx_trace.specs.Holding.{is_line_terminator, escape_holds, class_holds, boundary_holds, ahead, behind}
+use Rattle.rx_trace.specs.Holding.{is_line_terminator, escape_holds, class_holds, boundary_holds, ahead, preceding}
 use Rattle.rx_trace.specs.Repeats.{repeat_trace}
 use Rattle.rx_trace.specs.Groups.{Names, groups_in, groups_in_all, same_units, slot_of, slot_named, unset_in, captured}
 
@@ -86,7 +86,7 @@ module _ (input : List ℕ) where
   -- CharacterSetMatcher (22.2.2.7.1): forward over the unit at the place, backward over the unit before it
   abbrev pub over_unit : Bool → (ℕ → Bool) → State → Trace
   over_unit false holds s = moved_to (held_to holds (s.place + 1) (ahead input s.place)) s
-  over_unit true holds s = moved_to (held_to holds (s.place - 1) (behind input s.place)) s
+  over_unit true holds s = moved_to (held_to holds (s.place - 1) (preceding input s.place)) s
 
   -- the place after a text that stands at a place, or before one that stands before it
   abbrev pub place_over : Bool → List ℕ → ℕ → Option ℕ

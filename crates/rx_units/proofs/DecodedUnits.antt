@@ -18,7 +18,7 @@ use Rattle.rx_units.specs.declared.string_literal_parser.StringLiteralKind.TheVa
 use Rattle.rx_units.specs.Cursor.{AreEnds}
 use Rattle.rx_units.specs.Quoted.Elements.{quote_of}
 use Rattle.rx_units.specs.Quoted.Values.{code_points, element_units, given_value, kind_of, text_units, value_units}
-use Rattle.rx_units.specs.Quoted.Texts.{IsReached, Leads, Place, behind, byte_count, no_element, one_more, opened}
+use Rattle.rx_units.specs.Quoted.Texts.{IsReached, Leads, Place, next_place, byte_count, no_element, one_more, opened}
 use Rattle.rx_units.specs.Sources.{Decodes, plain_options}
 use Rattle.rx_units.specs.Units.{character_units, end_of}
 use Rattle.rx_units.proofs.CodePoints.{AreCodePoints, character_code_points, character_narrow}
@@ -100,7 +100,7 @@ module _ (bytes : List ℕ) where
     before : List ℕ
     whole : bytes ≡ before ++ encodes p.rest
     offset_is : p.offset ≡ length before
-    scalars_behind : scalars p.rest ≡ true
+    scalars_after : scalars p.rest ≡ true
     ends_before : end_of first p.units ≤ p.offset
     ends : AreEnds bytes first p.units
 
@@ -113,9 +113,9 @@ module _ (bytes : List ℕ) where
     omega (arith, end_more bytes joined first start end value k us),
   )
 
-  lies_behind : (first : ℕ) (o : Options) (p : Place) (e : Element) (w rest : List ℕ) → p.rest ≡ w ++ rest → LiesAt first p → LiesAt first (behind o p e w rest)
-  lies_behind first o p e w rest h at =
-      let parts = scalar_parts w rest (ap scalars (sym h) ∙ at.scalars_behind) in
+  lies_after : (first : ℕ) (o : Options) (p : Place) (e : Element) (w rest : List ℕ) → p.rest ≡ w ++ rest → LiesAt first p → LiesAt first (next_place o p e w rest)
+  lies_after first o p e w rest h at =
+      let parts = scalar_parts w rest (ap scalars (sym h) ∙ at.scalars_after) in
       let end : p.offset + byte_count w ≡ length (at.before ++ encodes w) = omega (arith, at.offset_is, bytes_of w parts.0, length-append at.before (encodes w)) in
       let whole : bytes ≡ (at.before ++ encodes w) ++ encodes rest = at.whole ∙ ap (λ xs. at.before ++ xs) (ap encodes h ∙ encodes-append w rest) ∙ sym (append_assoc at.before (encodes w) (encodes rest)) in
       let cut = IsCharBoundary-at_seam bytes (at.before ++ encodes w) (encodes rest) whole (rest, (parts.1, refl)) in
@@ -125,14 +125,14 @@ module _ (bytes : List ℕ) where
         before = at.before ++ encodes w;
         whole = whole;
         offset_is = end;
-        scalars_behind = parts.1;
+        scalars_after = parts.1;
         ends_before = units.1;
         ends = units.0;
       }
 
   lies : (first : ℕ) (l : Literal) (o : Options) (from p : Place) → LiesAt first from → Leads l o from p → LiesAt first p
   lies first l o from _ at no_element = at
-  lies first l o from _ at (one_more {p} e w rest a h s k) = lies_behind first o p e w rest h (lies first l o from p at a)
+  lies first l o from _ at (one_more {p} e w rest a h s k) = lies_after first o p e w rest h (lies first l o from p at a)
 
   module _ (standard joined : Bool) (us : List CodePoint) (utf8 : IsUtf8 bytes) (d : Decodes standard joined (chars bytes) us) where
     quote_first : bytes ≡ (quote_of d.literal ∷ []) ++ encodes d.decoded.reached.inner
@@ -141,7 +141,7 @@ module _ (bytes : List ℕ) where
     scalars_inside : scalars d.decoded.reached.inner ≡ true
     scalars_inside = (both (scalar (quote_of d.literal)) (scalars d.decoded.reached.inner) (ap scalars (sym d.decoded.reached.opens) ∙ scalars-chars bytes utf8)).1
 
-    -- Behind the quote the text may be cut.
+    -- After the quote the text may be cut.
     pub decoded_start : IsCharBoundary bytes 1
     decoded_start = IsCharBoundary-at_seam bytes (quote_of d.literal ∷ []) (encodes d.decoded.reached.inner) quote_first (d.decoded.reached.inner, (scalars_inside, refl))
 
@@ -153,7 +153,7 @@ module _ (bytes : List ℕ) where
           before = quote_of d.literal ∷ [];
           whole = quote_first;
           offset_is = refl;
-          scalars_behind = scalars_inside;
+          scalars_after = scalars_inside;
           ends_before = omega arith;
           ends = tt;
         } in

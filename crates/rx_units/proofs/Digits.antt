@@ -2,13 +2,14 @@
 use Rattle.std.proofs.Common.{◌≡◌, ℕ, ◌+◌, ◌*◌, ◌<◌, ◌≤◌, ◌==◌, true, false, not, ◌&&◌, List, [], ◌∷◌, Some, arith}
 use Rattle.std.proofs.lemmas.Bool.Decides.{nat_tests}
 use Rattle.std.proofs.lemmas.Option.{option_and_then_some}
-use Rattle.rx_tables.specs.Characters.{hex_digit_value, is_decimal_digit, is_octal_digit, is_within}
-use Rattle.rx_units.specs.Digits.{front_is, hex_behind, hex_number, octal}
+use Rattle.rx_base.specs.Characters.{is_within}
+use Rattle.rx_tables.specs.Characters.{hex_digit_value, is_decimal_digit, is_octal_digit}
+use Rattle.rx_units.specs.Digits.{front_is, hex_after, hex_number, octal}
 
 -- digits only add to a number
-pub hex_le : (n : ℕ) (ds : List ℕ) (v : ℕ) → hex_behind n ds ≡ Some v → n ≤ v
+pub hex_le : (n : ℕ) (ds : List ℕ) (v : ℕ) → hex_after n ds ≡ Some v → n ≤ v
 hex_le n [] v h = let e : n ≡ v = cc h in omega arith
-hex_le n (x ∷ ds) v h = option_and_then_some (λ d. hex_behind (16 * n + d) ds) (hex_digit_value x) v h (λ d e f. let k = hex_le (16 * n + d) ds v f in omega (arith, k))
+hex_le n (x ∷ ds) v h = option_and_then_some (λ d. hex_after (16 * n + d) ds) (hex_digit_value x) v h (λ d e f. let k = hex_le (16 * n + d) ds v f in omega (arith, k))
 
 digit_small : (c d : ℕ) → hex_digit_value c ≡ Some d → d < 16
 digit_small c d h = grind (arith, nat_tests)

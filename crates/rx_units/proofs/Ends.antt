@@ -31,7 +31,7 @@ end_of-character : (joined : Bool) (first start end c : ℕ) (k : EscapeKind) �
 end_of-character joined first start end c k =
     elim (joined || nat_lt c 0x10000) as (λ b. end_of first (cond b (unit start end c k ∷ []) (unit start end (lead_of c) k ∷ unit start end (trail_of c) k ∷ [])) ≡ end) [ true ↦ refl | false ↦ refl ]
 
--- the units of one character behind others
+-- the units of one character after others
 module _ (text : List ℕ) (joined : Bool) (first start end c : ℕ) (k : EscapeKind) (us : List CodePoint) where
   pub ends_more : AreEnds text first us → end_of first us ≤ end → IsCharBoundary text end → AreEnds text first (us ++ character_units joined start end c k)
   ends_more ends order cut =
@@ -41,15 +41,15 @@ module _ (text : List ℕ) (joined : Bool) (first start end c : ℕ) (k : Escape
   pub end_more : end_of first (us ++ character_units joined start end c k) ≡ end
   end_more = end_of-append first us (character_units joined start end c k) ∙ end_of-character joined (end_of first us) start end c k
 
-AreEnds-literal : (text behind cs : List ℕ) (joined : Bool) (at : ℕ) → at ≡ length behind → scalars cs ≡ true → text ≡ behind ++ encodes cs → AreEnds text at (literal_units joined at cs)
-AreEnds-literal text behind [] joined at is s h = tt
-AreEnds-literal text behind (c ∷ cs) joined at is s h =
+AreEnds-literal : (text following cs : List ℕ) (joined : Bool) (at : ℕ) → at ≡ length following → scalars cs ≡ true → text ≡ following ++ encodes cs → AreEnds text at (literal_units joined at cs)
+AreEnds-literal text following [] joined at is s h = tt
+AreEnds-literal text following (c ∷ cs) joined at is s h =
     let more = both (scalar c) (scalars cs) s in
-    let e : at + len_utf8 c ≡ length (behind ++ encode c) = omega (arith, length-append behind (encode c), length-encode c) in
-    let t = h ∙ sym (append_assoc behind (encode c) (encodes cs)) in
+    let e : at + len_utf8 c ≡ length (following ++ encode c) = omega (arith, length-append following (encode c), length-encode c) in
+    let t = h ∙ sym (append_assoc following (encode c) (encodes cs)) in
     AreEnds-character text joined at at (at + len_utf8 c) c kind.None _ (omega arith)
-    (rw e (IsCharBoundary-at_seam text (behind ++ encode c) (encodes cs) t (cs, (more.1, refl))))
-    (AreEnds-literal text (behind ++ encode c) cs joined (at + len_utf8 c) e more.1 t)
+    (rw e (IsCharBoundary-at_seam text (following ++ encode c) (encodes cs) t (cs, (more.1, refl))))
+    (AreEnds-literal text (following ++ encode c) cs joined (at + len_utf8 c) e more.1 t)
 
 pub literal_ends : (text : List ℕ) (joined : Bool) → IsUtf8 text → AreEnds text 0 (literal_units joined 0 (chars text))
 literal_ends text joined h = AreEnds-literal text [] (chars text) joined 0 refl (scalars-chars text h) (sym (encodes-chars text h))
@@ -72,7 +72,7 @@ offset_at_le text first us (suc i) zero order ends = absurd (omega arith)
 offset_at_le text first [] (suc i) (suc j) order ends = omega arith
 offset_at_le text first (u ∷ us) (suc i) (suc j) order ends = offset_at_le text u.span.end us i j (omega arith) ends.2
 
--- no unit ends behind the text
+-- no unit ends after the text
 pub ends_within : (text : List ℕ) (first : ℕ) (us : List CodePoint) → AreEnds text first us → All (λ unit. unit.span.end ≤ length text) us
 ends_within text first [] ends = All-nil (λ unit. unit.span.end ≤ length text)
 ends_within text first (u ∷ us) ends = All-cons (λ unit. unit.span.end ≤ length text) u us ends.1.0 (ends_within text u.span.end us ends.2)

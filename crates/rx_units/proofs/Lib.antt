@@ -1,5 +1,6 @@
 pub mod Choices
 pub mod Digits
+pub mod OctalEscapes
 pub mod Literals
 pub mod Offsets
 pub mod Ends

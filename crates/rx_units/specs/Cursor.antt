@@ -8,7 +8,7 @@ use Rattle.rx_units.specs.Units.{offset_at}
 
 pub record Cursor : Type 0 where
   pub units : List CodePoint
-  -- how many units are behind it
+  -- how many units are after it
   pub place : ℕ
   -- the offset at place 0
   pub first : ℕ

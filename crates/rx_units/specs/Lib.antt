@@ -2,6 +2,7 @@ pub mod Units
 pub mod Characters
 pub mod Cursor
 pub mod Digits
+pub mod OctalEscapes
 pub mod Pace
 pub mod Bytes
 pub mod Sequences

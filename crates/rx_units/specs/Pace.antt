@@ -1,4 +1,4 @@
--- How many steps a reader takes, from a count to another. A step is a unit that it moves over, or a turn of a loop that looks ahead.
+-- How many steps a reader takes, from one count to another. A step is a unit that it moves over, or a turn of a loop that looks ahead.
 use Rattle.std.specs.Prelude.{ℕ, ◌+◌, ◌*◌, ◌≤◌, ◌≡◌, Result, MatchResult, length}
 use Rattle.rx_units.specs.Cursor.{Cursor, rest}
 

@@ -21,14 +21,14 @@ use crate::sequence::{ElementKind, QuotedElements};
 /// lists that one text begins with one is a front part of the other, whatever they leave; they are one where they leave the same.
 pub fn sequence<S: ElementKind>()
     ensures one { (e : S.Surroundings) (ts ss : List S.Element) (q : S.Place) (us : List S.TextUnit) (r : S.Place) (a : List S.TextUnit) (p : S.Place) (b : List S.TextUnit) →
-        ElementRow (S.spells e) (S.behind e) ts q us r a → S.is_stop e r a → ElementRow (S.spells e) (S.behind e) ss q us p b → S.is_stop e p b → (ts ≡ ss) × (r ≡ p) × (a ≡ b) }
+        ElementRow (S.spells e) (S.following e) ts q us r a → S.is_stop e r a → ElementRow (S.spells e) (S.following e) ss q us p b → S.is_stop e p b → (ts ≡ ss) × (r ≡ p) × (a ≡ b) }
     ensures longest { (e : S.Surroundings) (ts ss : List S.Element) (q : S.Place) (us : List S.TextUnit) (r : S.Place) (a : List S.TextUnit) (p : S.Place) (b : List S.TextUnit) →
-        ElementRow (S.spells e) (S.behind e) ts q us r a → S.is_stop e r a → ElementRow (S.spells e) (S.behind e) ss q us p b → ElementsGoOn (S.spells e) (S.behind e) ss p b ts r a }
+        ElementRow (S.spells e) (S.following e) ts q us r a → S.is_stop e r a → ElementRow (S.spells e) (S.following e) ss q us p b → ElementsGoOn (S.spells e) (S.following e) ss p b ts r a }
     ensures prefixes { (e : S.Surroundings) (ts ss : List S.Element) (q : S.Place) (us : List S.TextUnit) (r : S.Place) (a : List S.TextUnit) (p : S.Place) (b : List S.TextUnit) →
-        ElementRow (S.spells e) (S.behind e) ts q us r a → ElementRow (S.spells e) (S.behind e) ss q us p b →
-        ElementsGoOn (S.spells e) (S.behind e) ts r a ss p b ⊎ ElementsGoOn (S.spells e) (S.behind e) ss p b ts r a }
+        ElementRow (S.spells e) (S.following e) ts q us r a → ElementRow (S.spells e) (S.following e) ss q us p b →
+        ElementsGoOn (S.spells e) (S.following e) ts r a ss p b ⊎ ElementsGoOn (S.spells e) (S.following e) ss p b ts r a }
     ensures one_between { (e : S.Surroundings) (ts ss : List S.Element) (q : S.Place) (us : List S.TextUnit) (r p : S.Place) (rest : List S.TextUnit) →
-        ElementRow (S.spells e) (S.behind e) ts q us r rest → ElementRow (S.spells e) (S.behind e) ss q us p rest → (ts ≡ ss) × (r ≡ p) }
+        ElementRow (S.spells e) (S.following e) ts q us r rest → ElementRow (S.spells e) (S.following e) ss q us p rest → (ts ≡ ss) × (r ≡ p) }
 {
     S::some_units();
     S::one_front();
@@ -39,7 +39,7 @@ pub fn sequence<S: ElementKind>()
 /// each element is allowed; and where the units are those that the elements give.
 pub fn elements()
     ensures decoded { (l : Literal) (o : Options) (text : List ℕ) (us : List CodePoint) →
-        IsDecoded l o text us ↔ ((inner : List ℕ) × (es : List Element) × (row : ElementRow (⟦<QuotedElements as ElementKind>⟧.spells l) (⟦<QuotedElements as ElementKind>⟧.behind l) es tt inner tt (quote_of l ∷ [])) ×
+        IsDecoded l o text us ↔ ((inner : List ℕ) × (es : List Element) × (row : ElementRow (⟦<QuotedElements as ElementKind>⟧.spells l) (⟦<QuotedElements as ElementKind>⟧.following l) es tt inner tt (quote_of l ∷ [])) ×
         ⟦<QuotedElements as ElementKind>⟧.is_stop l tt (quote_of l ∷ []) × (text ≡ quote_of l ∷ inner) × All (IsAllowed o) es × (us ≡ text_units o (after_elements l o (opened o inner) es (quote_of l ∷ []) row).units)) }
 {}
 

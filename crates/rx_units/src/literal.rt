@@ -8,7 +8,7 @@ use crate::{CodePoint, EscapeKind};
 use rx_base::{List, OutOfMemory, Span};
 use std::alloc::{AllocError, Global};
 
-/// Adds a code point, of which the first two numbers are its start and its end in bytes, before the offset: one unit,
+/// Adds a code point, given by its start and its end in bytes, without the offset, its value and how it was escaped: one unit,
 /// or without joining a lead and a trail that share the span. A refusal leaves the list as before.
 pub fn handle_code_point(
     body: &mut List<CodePoint>,

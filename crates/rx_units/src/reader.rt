@@ -52,7 +52,7 @@ impl<'a> Reader<'a> {
             (λ reader. reader ≡ record { units = literal_units unicode_mode 0 (chars source_text.now); place = 0; first = 0; text = source_text.now })
             (λ fault. fault ≡ ReaderFault.OutOfMemory) }
 
-        // A text in quotes is read as what it is decoded to, from behind its quote on; else it is refused for its fault, or memory ran out.
+        // A text in quotes is read as what it is decoded to, from after its quote on; else it is refused for its fault, or memory ran out.
         ensures quoted { IsTrue parse_string_or_template_literal → MatchResult result
             (λ reader. Decodes false unicode_mode (chars source_text.now) reader.units × (reader.place ≡ 0) × (reader.first ≡ 1) × (reader.text ≡ source_text.now))
             (λ fault. (fault ≡ ReaderFault.OutOfMemory) ⊎ IsQuotedFault false unicode_mode (chars source_text.now) fault) }
@@ -61,11 +61,11 @@ impl<'a> Reader<'a> {
         ensures refuses { IsTrue parse_string_or_template_literal → (f : FaultValue) → IsQuotedFault false unicode_mode (chars source_text.now) f →
             MatchResult result (λ reader. ⊥) (λ fault. (fault ≡ ReaderFault.OutOfMemory) ⊎ (fault ≡ f)) }
 
-        // No unit ends behind the text.
+        // No unit ends after the text.
         ensures within { IfOk result (λ reader. All (λ unit. unit.span.end ≤ length source_text.now) reader.units) }
     {
         if parse_string_or_template_literal {
-            return Reader::quoted(alloc, source_text, unicode_mode, false);
+            return Reader::read_quoted(alloc, source_text, unicode_mode, false);
         }
         let units = parse_regexp_literal(alloc, source_text, 0, unicode_mode)?;
         Ok(Reader::at_start(source_text, units, 0))
@@ -86,14 +86,14 @@ impl<'a> Reader<'a> {
         ensures refuses { (f : FaultValue) → IsQuotedFault true unicode_mode (chars source_text.now) f →
             MatchResult result (λ reader. ⊥) (λ fault. (fault ≡ ReaderFault.OutOfMemory) ⊎ (fault ≡ f)) }
 
-        // No unit ends behind the text.
+        // No unit ends after the text.
         ensures within { IfOk result (λ reader. All (λ unit. unit.span.end ≤ length source_text.now) reader.units) }
     {
-        Reader::quoted(alloc, source_text, unicode_mode, true)
+        Reader::read_quoted(alloc, source_text, unicode_mode, true)
     }
 
     /// Reads a text in quotes, as the standard has it or as the Rust crate does.
-    fn quoted(
+    fn read_quoted(
         alloc: Global,
         source_text: &'a str,
         unicode_mode: bool,
@@ -214,7 +214,7 @@ impl<'a> Reader<'a> {
         }
     }
 
-    /// Whether some unit of the whole text, also behind the place, has the value of the character.
+    /// Whether some unit of the whole text, also after the place, has the value of the character.
     pub fn contains(&self, ch: char) -> bool
         ensures { IsTrue result ↔ Any (λ unit. unit.value ≡ ch) self.now.units }
     {

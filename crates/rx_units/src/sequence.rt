@@ -19,8 +19,8 @@ pub trait ElementKind {
     /// At a place the units w spell the element before all that follows them, rest: `spells e q t w rest`.
     ghost spells: { Surroundings → Place → Element → List TextUnit → List TextUnit → Type 0 };
 
-    /// The place behind an element, before what follows it.
-    ghost behind: { Surroundings → Place → Element → List TextUnit → Place };
+    /// The place after an element, before what follows it.
+    ghost following: { Surroundings → Place → Element → List TextUnit → Place };
 
     /// A list of elements ends at this place, before these units.
     ghost is_stop: { Surroundings → Place → List TextUnit → Type 0 };
@@ -57,7 +57,7 @@ impl ElementKind for QuotedElements {
 
     ghost spells = { λ l q. SpellsElement l };
 
-    ghost behind = { λ l q e rest. tt };
+    ghost following = { λ l q e rest. tt };
 
     ghost is_stop = { λ l q us. (more : List ℕ) × (us ≡ quote_of l ∷ more) };
 

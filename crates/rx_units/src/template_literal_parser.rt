@@ -1,5 +1,6 @@
 ghost use Rattle.std.specs.Prelude.{◌≡◌, ◌∷◌, ◌+◌, ◌<◌, ◌^◌, ◌⊎◌, false, length, IfErr, IfOk, List, MatchOption, MatchResult, Some};
 ghost use Rattle.std.specs.Str.{chars, encode_utf8_all};
+ghost use Rattle.rx_base.specs.Ascii as ascii;
 ghost use Rattle.rx_units.specs.declared.code_point.CodePoint.{CodePoint as UnitValue};
 ghost use Rattle.rx_units.specs.declared.quoted_text.literal.Literal.TheVariants as literal;
 ghost use Rattle.rx_units.specs.declared.template_literal_parser.TemplateFault.{TemplateFault as FaultValue};
@@ -149,7 +150,7 @@ fn decode_text(
 
 /// The characters after the opening grave accent.
 fn opening(text: &[char]) -> Option<&[char]>
-    ensures { MatchOption result (front_is is_grave_accent text.now ≡ false) (λ inner. text.now ≡ 96 ∷ inner.now) }
+    ensures { MatchOption result (front_is is_grave_accent text.now ≡ false) (λ inner. text.now ≡ ascii.grave_accent ∷ inner.now) }
 {
     match text {
         ['`', inner @ ..] => Some(inner),

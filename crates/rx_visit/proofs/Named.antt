@@ -10,14 +10,15 @@ use Rattle.std.proofs.lemmas.Bool.Decides.{nat_tests, same_from_decides}
 use Rattle.std.proofs.Math.Bool.{or-true}
 use Rattle.std.proofs.lemmas.Map.Text.{is_eq-slice_cmp}
 use Rattle.std.proofs.lemmas.Slice.Eq.{bytes_eq-Decides}
+use Rattle.rx_base.specs.Texts.{are_same}
 use Rattle.rx_ast.specs.Kinds.{Kind, capturing_group}
 use Rattle.rx_base.proofs.Texts.{one_text}
 use Rattle.rx_visit.specs.Names.{name_of, is_name_twice, has_equal_names}
-use Rattle.rx_visit.specs.Patterns.{count_named, is_named, same_name}
+use Rattle.rx_visit.specs.Patterns.{count_named, is_named}
 use Rattle.rx_visit.proofs.Findings.{count_both}
 
 abbrev is_called : List ℕ → Option (List ℕ) → Bool
-is_called name (Some other) = same_name other name
+is_called name (Some other) = are_same other name
 is_called name None = false
 
 pub named_is : (name : List ℕ) (k : Kind) → is_named name k ≡ is_called name (name_of k)
@@ -53,12 +54,12 @@ holds_unnamed {names} {ks} k grown unnamed so_far = subst (Holds names) (sym gro
 })
 
 -- texts are equal where their characters are
-same_texts : (a b : List ℕ) → IsUtf8 a → IsUtf8 b → bytes_eq a b ≡ same_name (chars a) (chars b)
+same_texts : (a b : List ℕ) → IsUtf8 a → IsUtf8 b → bytes_eq a b ≡ are_same (chars a) (chars b)
 same_texts a b first second =
     let decided = bytes_eq-Decides (chars a) (chars b) in
     same_from_decides _ _ (bytes_eq-Decides a b) (λ equal. one_text first second (decided.0 equal), λ same. decided.1 (ap chars same))
 
-counted_named : (name : List ℕ) (ks : List Kind) (k : Kind) (other : List ℕ) → name_of k ≡ Some other → count_named name (ks ++ (k ∷ [])) ≡ count_named name ks + (if same_name other name then 1 else 0)
+counted_named : (name : List ℕ) (ks : List Kind) (k : Kind) (other : List ℕ) → name_of k ≡ Some other → count_named name (ks ++ (k ∷ [])) ≡ count_named name ks + (if are_same other name then 1 else 0)
 counted_named name ks k other named = counted name ks k ∙ ap (λ o. count_named name ks + (if is_called name o then 1 else 0)) named
 
 some_more : (b : Bool) (n m : ℕ) → m ≡ n + (if b then 1 else 0) → cond b true (nat_lt 0 n) ≡ nat_lt 0 m
@@ -79,7 +80,7 @@ holds_named {names} {later} {ks} k new grown named text absent updates so_far =
     subst (Holds later) (sym grown) (record {
       found = λ q valid.
           updates.0 q ∙ ap (λ b. cond b true (contains text_cmp names q)) (is_eq-slice_cmp new.now q.now ∙ same_texts new.now q.now text valid)
-          ∙ ap (λ b. cond (same_name (chars new.now) (chars q.now)) true b) (so_far.found q valid)
+          ∙ ap (λ b. cond (are_same (chars new.now) (chars q.now)) true b) (so_far.found q valid)
           ∙ some_more _ _ _ (counted_named (chars q.now) ks k (chars new.now) named);
       once = λ name. at_most_one _ _ _ (counted_named name ks k (chars new.now) named) (so_far.once name) (λ equal. subst (λ other. count_named other ks ≡ 0) ((bytes_eq-Decides (chars new.now) name).0 equal) none);
     })

@@ -31,15 +31,15 @@ pub to_come-past : (before left : List Siblings) (s : Siblings) → before ≡ l
 to_come-past before left s popped none = ap to_come popped ∙ to_come-last left s ∙ ap (λ ks. flat_map order ks ++ to_come left) none
 
 -- the first of the last siblings is listed
-pub to_come-next : (before left one both : List Siblings) (s behind within : Siblings) (k : Kind) →
-    before ≡ left ++ (s ∷ []) → in_order s ≡ k ∷ in_order behind → one ≡ left ++ (behind ∷ []) → both ≡ one ++ (within ∷ []) → in_order within ≡ children k →
+pub to_come-next : (before left one both : List Siblings) (s following within : Siblings) (k : Kind) →
+    before ≡ left ++ (s ∷ []) → in_order s ≡ k ∷ in_order following → one ≡ left ++ (following ∷ []) → both ≡ one ++ (within ∷ []) → in_order within ≡ children k →
     to_come before ≡ k ∷ to_come both
-to_come-next before left one both s behind within k popped cut pushed entered in_it =
-    let now : to_come before ≡ (order k ++ flat_map order (in_order behind)) ++ to_come left =
+to_come-next before left one both s following within k popped cut pushed entered in_it =
+    let now : to_come before ≡ (order k ++ flat_map order (in_order following)) ++ to_come left =
     ap to_come popped ∙ to_come-last left s ∙ ap (λ ks. flat_map order ks ++ to_come left) cut in
-    let later : to_come both ≡ flat_map order (children k) ++ (flat_map order (in_order behind) ++ to_come left) =
-    ap to_come entered ∙ to_come-last one within ∙ ap (λ ks. flat_map order ks ++ to_come one) in_it ∙ ap (λ ks. flat_map order (children k) ++ ks) (ap to_come pushed ∙ to_come-last left behind) in
-    now ∙ append_assoc (order k) (flat_map order (in_order behind)) (to_come left) ∙ ap (λ ks. ks ++ (flat_map order (in_order behind) ++ to_come left)) (order_is k) ∙ ap (λ ks. k ∷ ks) (sym later)
+    let later : to_come both ≡ flat_map order (children k) ++ (flat_map order (in_order following) ++ to_come left) =
+    ap to_come entered ∙ to_come-last one within ∙ ap (λ ks. flat_map order ks ++ to_come one) in_it ∙ ap (λ ks. flat_map order (children k) ++ ks) (ap to_come pushed ∙ to_come-last left following) in
+    now ∙ append_assoc (order k) (flat_map order (in_order following)) (to_come left) ∙ ap (λ ks. ks ++ (flat_map order (in_order following) ++ to_come left)) (order_is k) ∙ ap (λ ks. k ∷ ks) (sym later)
 
 pub one_listed : {T : Type 0} (f : T → Kind) (done : List T) (node : T) (ks : List Kind) → map f done ++ (f node ∷ ks) ≡ map f (done ++ (node ∷ [])) ++ ks
 one_listed f done node ks = sym (ap (λ ns. ns ++ ks) (map-append f done (node ∷ [])) ∙ append_assoc (map f done) (f node ∷ []) ks)
@@ -54,12 +54,12 @@ fewer-past before left s popped none =
     let shorter = ap length popped ∙ length-append left (s ∷ []) in
     omega arith
 
-pub fewer-next : (before left one both : List Siblings) (s behind within : Siblings) (k : Kind) →
-    before ≡ left ++ (s ∷ []) → in_order s ≡ k ∷ in_order behind → one ≡ left ++ (behind ∷ []) → both ≡ one ++ (within ∷ []) → in_order within ≡ children k →
+pub fewer-next : (before left one both : List Siblings) (s following within : Siblings) (k : Kind) →
+    before ≡ left ++ (s ∷ []) → in_order s ≡ k ∷ in_order following → one ≡ left ++ (following ∷ []) → both ≡ one ++ (within ∷ []) → in_order within ≡ children k →
     turns both < turns before
-fewer-next before left one both s behind within k popped cut pushed entered in_it =
-    let listed = ap length (to_come-next before left one both s behind within k popped cut pushed entered in_it) in
+fewer-next before left one both s following within k popped cut pushed entered in_it =
+    let listed = ap length (to_come-next before left one both s following within k popped cut pushed entered in_it) in
     let a = ap length popped ∙ length-append left (s ∷ []) in
-    let b = ap length pushed ∙ length-append left (behind ∷ []) in
+    let b = ap length pushed ∙ length-append left (following ∷ []) in
     let c = ap length entered ∙ length-append one (within ∷ []) in
     omega arith

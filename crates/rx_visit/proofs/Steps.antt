@@ -14,7 +14,7 @@ use Rattle.rx_visit.specs.declared.siblings.Siblings.TheVariants as are
 use Rattle.rx_visit.specs.declared.walk_in.Step.{Step}
 use Rattle.rx_visit.specs.declared.walk_in.Step.TheVariants as to
 
--- A visitor that stands at v may stand at w after these steps, one behind the other.
+-- A visitor that stands at v may stand at w after these steps, one after the other.
 pub data Does {V : Type 0} (entered : V → Kind → Bool → V → Type 0) (left : V → Kind → V → Type 0) : V → List Step → V → Type 0 where
   nothing : (v : V) → Does entered left v [] v
   visiting : (v : V) (s : Siblings) (m : V) (steps : List Step) (w : V) → VisitedAll entered left v (in_order s) m → Does entered left m steps w → Does entered left v (to.Visit s ∷ steps) w
@@ -53,28 +53,28 @@ module _ {V : Type 0} {entered : V → Kind → Bool → V → Type 0} {left : V
     on = λ w does. popped before steps (to.Visit s) cut leads (visiting _ s v _ w (subst (λ ks. VisitedAll entered left v ks v) (sym empty) (none v)) does);
   }
 
-  -- a node was visited, and those behind it are to be visited
-  visited_one : {v m w : V} {s behind : Siblings} {k : Kind} {steps : List Step} → in_order s ≡ k ∷ in_order behind → Visited entered left v k m → Does entered left m (to.Visit behind ∷ steps) w → Does entered left v (to.Visit s ∷ steps) w
+  -- a node was visited, and those after it are to be visited
+  visited_one : {v m w : V} {s following : Siblings} {k : Kind} {steps : List Step} → in_order s ≡ k ∷ in_order following → Visited entered left v k m → Does entered left m (to.Visit following ∷ steps) w → Does entered left v (to.Visit s ∷ steps) w
   visited_one {v = v} {w = w} {s = s} cut visit (visiting _ _ p _ _ others does) =
       visiting v s p _ w (subst (λ ks. VisitedAll entered left v ks p) (sym cut) (next _ _ _ _ _ visit others)) does
 
-  pub leads_passed : {start v n : V} {root : Kind} (m : V) (before steps after : List Step) (s behind : Siblings) (k : Kind) →
-      before ≡ steps ++ (to.Visit s ∷ []) → in_order s ≡ k ∷ in_order behind → after ≡ steps ++ (to.Visit behind ∷ []) → entered v k false m → left m k n → Leads entered left start root v before → Leads entered left start root n after
-  leads_passed m before steps after s behind k cut first added enters leaves leads = record {
+  pub leads_passed : {start v n : V} {root : Kind} (m : V) (before steps after : List Step) (s following : Siblings) (k : Kind) →
+      before ≡ steps ++ (to.Visit s ∷ []) → in_order s ≡ k ∷ in_order following → after ≡ steps ++ (to.Visit following ∷ []) → entered v k false m → left m k n → Leads entered left start root v before → Leads entered left start root n after
+  leads_passed m before steps after s following k cut first added enters leaves leads = record {
     on = λ w does. popped before steps (to.Visit s) cut leads (visited_one first (pass _ k m _ enters leaves) (pushed after steps _ added does));
   }
 
   -- a node was entered, and those in it are to be visited
-  entered_one : {v m w : V} {s behind within : Siblings} (node : RegExpAstKind) {steps : List Step} → in_order s ≡ mirror_kind node ∷ in_order behind → in_order within ≡ children (mirror_kind node) → entered v (mirror_kind node) true m
-      → Does entered left m (to.Visit within ∷ to.Leave node ∷ to.Visit behind ∷ steps) w → Does entered left v (to.Visit s ∷ steps) w
+  entered_one : {v m w : V} {s following within : Siblings} (node : RegExpAstKind) {steps : List Step} → in_order s ≡ mirror_kind node ∷ in_order following → in_order within ≡ children (mirror_kind node) → entered v (mirror_kind node) true m
+      → Does entered left m (to.Visit within ∷ to.Leave node ∷ to.Visit following ∷ steps) w → Does entered left v (to.Visit s ∷ steps) w
   entered_one {m = m} node first in_it enters (visiting _ _ n _ _ inside (leaving _ _ p _ _ leaves does)) =
       visited_one first (descend _ _ m n p enters (subst (λ ks. VisitedAll entered left m ks n) in_it inside) leaves) does
 
-  pub leads_entered : {start v m : V} {root : Kind} (before steps one two after : List Step) (s behind within : Siblings) (node : RegExpAstKind) →
-      before ≡ steps ++ (to.Visit s ∷ []) → in_order s ≡ mirror_kind node ∷ in_order behind → one ≡ steps ++ (to.Visit behind ∷ []) → two ≡ one ++ (to.Leave node ∷ []) → after ≡ two ++ (to.Visit within ∷ []) → in_order within ≡ children (mirror_kind node) →
+  pub leads_entered : {start v m : V} {root : Kind} (before steps one two after : List Step) (s following within : Siblings) (node : RegExpAstKind) →
+      before ≡ steps ++ (to.Visit s ∷ []) → in_order s ≡ mirror_kind node ∷ in_order following → one ≡ steps ++ (to.Visit following ∷ []) → two ≡ one ++ (to.Leave node ∷ []) → after ≡ two ++ (to.Visit within ∷ []) → in_order within ≡ children (mirror_kind node) →
       entered v (mirror_kind node) true m → Leads entered left start root v before → Leads entered left start root m after
-  leads_entered {m = m} before steps one two after s behind within node cut first waits leaves visits in_it enters leads =
-      let all : reverse after ≡ to.Visit within ∷ to.Leave node ∷ to.Visit behind ∷ reverse steps =
+  leads_entered {m = m} before steps one two after s following within node cut first waits leaves visits in_it enters leads =
+      let all : reverse after ≡ to.Visit within ∷ to.Leave node ∷ to.Visit following ∷ reverse steps =
       ap reverse visits ∙ last_first two _ ∙ ap (λ ss. to.Visit within ∷ ss) (ap reverse leaves ∙ last_first one _) ∙ ap (λ ss. to.Visit within ∷ to.Leave node ∷ ss) (ap reverse waits ∙ last_first steps _) in
       record { on = λ w does. popped before steps (to.Visit s) cut leads (entered_one node first in_it enters (subst (λ ss. Does entered left m ss w) all does)) }
 
@@ -100,27 +100,27 @@ pub weight-past : (before steps : List Step) (s : Siblings) → before ≡ steps
 weight-past before steps s cut = let popped = weight-last before steps _ cut in omega arith
 
 -- the nodes in the first of some siblings, and in the others
-within_first : (s behind : Siblings) (k : Kind) → in_order s ≡ k ∷ in_order behind → length (flat_map order (in_order s)) ≡ 1 + length (flat_map order (children k)) + length (flat_map order (in_order behind))
-within_first s behind k first =
-    let parted = ap (λ ks. length (flat_map order ks)) first ∙ length-append (order k) (flat_map order (in_order behind)) in
+within_first : (s following : Siblings) (k : Kind) → in_order s ≡ k ∷ in_order following → length (flat_map order (in_order s)) ≡ 1 + length (flat_map order (children k)) + length (flat_map order (in_order following))
+within_first s following k first =
+    let parted = ap (λ ks. length (flat_map order ks)) first ∙ length-append (order k) (flat_map order (in_order following)) in
     let inside = ap length (order_is k) in
     omega arith
 
-pub weight-passed : (before steps after : List Step) (s behind : Siblings) (k : Kind) → before ≡ steps ++ (to.Visit s ∷ []) → in_order s ≡ k ∷ in_order behind → after ≡ steps ++ (to.Visit behind ∷ []) → weight after < weight before
-weight-passed before steps after s behind k cut first added =
+pub weight-passed : (before steps after : List Step) (s following : Siblings) (k : Kind) → before ≡ steps ++ (to.Visit s ∷ []) → in_order s ≡ k ∷ in_order following → after ≡ steps ++ (to.Visit following ∷ []) → weight after < weight before
+weight-passed before steps after s following k cut first added =
     let popped = weight-last before steps _ cut in
     let pushed = weight-last after steps _ added in
-    let within = within_first s behind k first in
+    let within = within_first s following k first in
     omega arith
 
-pub weight-entered : (before steps one two after : List Step) (s behind within : Siblings) (node : RegExpAstKind) →
-    before ≡ steps ++ (to.Visit s ∷ []) → in_order s ≡ mirror_kind node ∷ in_order behind → one ≡ steps ++ (to.Visit behind ∷ []) → two ≡ one ++ (to.Leave node ∷ []) → after ≡ two ++ (to.Visit within ∷ []) → in_order within ≡ children (mirror_kind node) →
+pub weight-entered : (before steps one two after : List Step) (s following within : Siblings) (node : RegExpAstKind) →
+    before ≡ steps ++ (to.Visit s ∷ []) → in_order s ≡ mirror_kind node ∷ in_order following → one ≡ steps ++ (to.Visit following ∷ []) → two ≡ one ++ (to.Leave node ∷ []) → after ≡ two ++ (to.Visit within ∷ []) → in_order within ≡ children (mirror_kind node) →
     weight after < weight before
-weight-entered before steps one two after s behind within node cut first waits leaves visits in_it =
+weight-entered before steps one two after s following within node cut first waits leaves visits in_it =
     let popped = weight-last before steps _ cut in
     let a = weight-last one steps _ waits in
     let b = weight-last two one _ leaves in
     let c = weight-last after two _ visits in
-    let inside = within_first s behind _ first in
+    let inside = within_first s following _ first in
     let same = ap (λ ks. length (flat_map order ks)) in_it in
     omega arith

@@ -1,16 +1,18 @@
 -- Flags that are not valid (ParsePattern and RegExpInitialize, 22.2.3.3), or not supported.
-use Rattle.std.specs.Prelude.{ℕ, Bool, true, false, ◌==◌, ◌&&◌, ◌||◌, not, List, [], ◌∷◌, if◌then◌else◌}
-use Rattle.std.specs.List.{list_any}
+use Rattle.std.specs.Prelude.{ℕ, Bool, false, ◌==◌, ◌&&◌, ◌||◌, not, List, [], ◌∷◌}
+use Rattle.rx_base.specs.Ascii as ascii
+use Rattle.rx_base.specs.Flags.{holds, is_flag}
 use Rattle.rx_visit.specs.declared.flags.RegexUnsupportedFlags.{RegexUnsupportedFlags}
 
-abbrev pub holds : List ℕ → ℕ → Bool
-holds fs f = list_any (λ g. g == f) fs
+-- one of those that are not supported
+abbrev pub is_unsupported_flag : RegexUnsupportedFlags → ℕ → Bool
+is_unsupported_flag set f =
+    (set.match_indices && f == ascii.d) || (set.dot_all && f == ascii.s) || (set.unicode && f == ascii.u) || (set.unicode_sets && f == ascii.v)
+    || (set.sticky && f == ascii.y)
 
--- one of d g i m s u v y, and not one of those that are not supported
+-- a flag, and none of those
 abbrev pub is_supported_flag : RegexUnsupportedFlags → ℕ → Bool
-is_supported_flag set f =
-    if f == 100 then not set.match_indices else if f == 103 then true else if f == 105 then true else if f == 109 then true
-    else if f == 115 then not set.dot_all else if f == 117 then not set.unicode else if f == 118 then not set.unicode_sets else if f == 121 then not set.sticky else false
+is_supported_flag set f = is_flag f && not (is_unsupported_flag set f)
 
 -- one is not supported, or occurs twice
 abbrev pub has_refused : RegexUnsupportedFlags → List ℕ → Bool
@@ -19,4 +21,4 @@ has_refused set (f ∷ fs) = (not (is_supported_flag set f) || holds fs f) || ha
 
 -- or `u` and `v` both occur
 abbrev pub are_refused_flags : RegexUnsupportedFlags → List ℕ → Bool
-are_refused_flags set fs = has_refused set fs || (holds fs 117 && holds fs 118)
+are_refused_flags set fs = has_refused set fs || (holds fs ascii.u && holds fs ascii.v)

@@ -1,18 +1,15 @@
 -- Nodes that are not supported.
-use lib.Pointwise.{pointwise}
-use Rattle.std.specs.Prelude.{ℕ, ◌+◌, Bool, true, false, eqb, ◌&&◌, ◌||◌, Some, List, [], ◌∷◌, if◌then◌else◌, nat_lt}
+use Rattle.std.specs.Prelude.{ℕ, ◌+◌, Bool, true, false, ◌&&◌, ◌||◌, Some, List, [], ◌∷◌, if◌then◌else◌, nat_lt}
 use Rattle.std.specs.List.{list_any}
+use Rattle.rx_base.specs.Texts.{are_same}
 use Rattle.rx_ast.specs.declared.leaf.LookAroundAssertionKind.{LookAroundAssertionKind}
 use Rattle.rx_ast.specs.declared.leaf.LookAroundAssertionKind.TheVariants.{Lookahead, NegativeLookahead, Lookbehind, NegativeLookbehind}
 use Rattle.rx_ast.specs.Kinds.{Kind, look_around, capturing_group, ignore_group, property_escape}
 use Rattle.rx_visit.specs.declared.patterns.RegexUnsupportedPatterns.{RegexUnsupportedPatterns}
 
-abbrev pub same_name : List ℕ → List ℕ → Bool
-same_name xs ys = pointwise eqb xs ys
-
 -- a group of this name
 abbrev pub is_named : List ℕ → Kind → Bool
-is_named name (capturing_group s (Some other) d) = same_name other name
+is_named name (capturing_group s (Some other) d) = are_same other name
 is_named name _ = false
 
 -- how many of the nodes are groups of this name

@@ -1,4 +1,4 @@
--- Nodes one behind the other, as the code holds them.
+-- Nodes one after the other, as the code holds them.
 use Rattle.std.specs.Prelude.{List, [], ◌∷◌, map}
 use Rattle.rx_ast.specs.declared.term.Alternative.{Alternative}
 use Rattle.rx_ast.specs.declared.term.Term.{Term}

@@ -2,7 +2,7 @@
 use Rattle.std.specs.Prelude.{Bool, true, false, List, [], ◌∷◌}
 use Rattle.rx_ast.specs.Kinds.{Kind, children}
 
--- A visitor that stands at v may stand at w after a node, or after nodes one behind the other. `entered` and `left` are those of the visitor.
+-- A visitor that stands at v may stand at w after a node, or after nodes one after the other. `entered` and `left` are those of the visitor.
 mutual
   pub data Visited {V : Type 0} (entered : V → Kind → Bool → V → Type 0) (left : V → Kind → V → Type 0) : V → Kind → V → Type 0 where
     descend : (v : V) (k : Kind) (m n w : V) → entered v k true m → VisitedAll entered left m (children k) n → left n k w → Visited entered left v k w

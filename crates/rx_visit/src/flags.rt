@@ -1,5 +1,7 @@
 ghost use Rattle.std.specs.Prelude.{◌≡◌};
-ghost use Rattle.rx_visit.specs.Flags.{is_supported_flag, has_refused, are_refused_flags};
+ghost use Rattle.rx_visit.specs.Flags.{is_supported_flag, is_unsupported_flag, has_refused, are_refused_flags};
+
+use rx_base::is_flag;
 
 /// Flags that are not supported.
 #[derive(Debug, Default, Drop)]
@@ -36,11 +38,11 @@ fn has_refused(bytes: &[u8], unsupported: &RegexUnsupportedFlags) -> bool
     ensures { result ≡ has_refused unsupported.now bytes.now }
 {
     let mut rest = bytes;
-    while let [byte, behind @ ..] = rest {
-        if !is_supported_flag(*byte, unsupported) || behind.contains(byte) {
+    while let [byte, following @ ..] = rest {
+        if !is_supported_flag(*byte, unsupported) || following.contains(byte) {
             return true;
         }
-        rest = behind;
+        rest = following;
     }
     false
 }
@@ -48,15 +50,18 @@ fn has_refused(bytes: &[u8], unsupported: &RegexUnsupportedFlags) -> bool
 fn is_supported_flag(flag: u8, unsupported: &RegexUnsupportedFlags) -> bool
     ensures { result ≡ is_supported_flag unsupported.now flag }
 {
+    is_flag(u32::from(flag)) && !is_unsupported_flag(flag, unsupported)
+}
+
+fn is_unsupported_flag(flag: u8, unsupported: &RegexUnsupportedFlags) -> bool
+    ensures { result ≡ is_unsupported_flag unsupported.now flag }
+{
     match flag {
-        b'd' => !unsupported.match_indices,
-        b'g' => true,
-        b'i' => true,
-        b'm' => true,
-        b's' => !unsupported.dot_all,
-        b'u' => !unsupported.unicode,
-        b'v' => !unsupported.unicode_sets,
-        b'y' => !unsupported.sticky,
+        b'd' => unsupported.match_indices,
+        b's' => unsupported.dot_all,
+        b'u' => unsupported.unicode,
+        b'v' => unsupported.unicode_sets,
+        b'y' => unsupported.sticky,
         _ => false,
     }
 }

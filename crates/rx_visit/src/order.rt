@@ -20,11 +20,11 @@ pub fn nodes_in_order(
     let mut left = List::new(alloc);
     left.push(Siblings::Node(RegExpAstKind::Pattern(pattern)))?;
     while let Some(siblings) = left.pop() {
-        let Some((node, behind)) = siblings.split_first() else {
+        let Some((node, following)) = siblings.split_first() else {
             continue;
         };
         nodes.push(node)?;
-        left.push(behind)?;
+        left.push(following)?;
         left.push(children_of(node))?;
     }
     Ok(nodes)

@@ -1,10 +1,11 @@
 ghost use Rattle.std.specs.Prelude.{◌≡◌};
 ghost use Rattle.std.specs.Option.{option_map};
+ghost use Rattle.rx_base.specs.Texts.{are_same};
 ghost use Rattle.rx_ast.specs.Kinds.{pattern as pattern_kind, order};
 ghost use Rattle.rx_ast.specs.MirrorKinds.{mirror_kind};
 ghost use Rattle.rx_ast.specs.Tree.{mirror};
 ghost use Rattle.rx_visit.specs.Names.{is_name_twice, is_refused_alone};
-ghost use Rattle.rx_visit.specs.Patterns.{same_name, is_named, is_twice, is_refused, is_refused_pattern, looks_behind};
+ghost use Rattle.rx_visit.specs.Patterns.{is_named, is_twice, is_refused, is_refused_pattern, looks_behind};
 
 use crate::names::name_of;
 use crate::term::walk_pattern;
@@ -170,7 +171,7 @@ fn is_named(kind: RegExpAstKind<'_>, name: &Text) -> bool
 }
 
 fn is_same(a: &Text, b: &Text) -> bool
-    ensures { result ≡ same_name a.now b.now }
+    ensures { result ≡ are_same a.now b.now }
 {
     a.content_eq(b)
 }

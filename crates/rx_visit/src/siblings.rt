@@ -10,7 +10,7 @@ use rx_ast::{
     RegExpAstKind, Term,
 };
 
-/// Nodes that stand one behind the other in a node: all of them, or the last of them.
+/// Nodes that stand one after the other in a node: all of them, or the last of them.
 #[derive(Clone, Copy)]
 pub enum Siblings<'a> {
     Nothing,
@@ -98,7 +98,7 @@ fn node_of_contents(contents: &CharacterClassContents) -> RegExpAstKind<'_>
 }
 
 impl<'a> Siblings<'a> {
-    /// The first node and those behind it, or none where there is no node.
+    /// The first node and those after it, or none where there is no node.
     pub fn split_first(self) -> Option<(RegExpAstKind<'a>, Siblings<'a>)>
         ensures { MatchOption result (in_order self.entry ≡ []) (λ cut. in_order self.entry ≡ mirror_kind cut.0 ∷ in_order cut.1) }
     {

@@ -12,7 +12,7 @@ use std::alloc::Global;
 /// What is still to be done of a walk.
 #[derive(Clone, Copy)]
 enum Step<'a> {
-    /// To visit nodes, one behind the other.
+    /// To visit nodes, one after the other.
     Visit(Siblings<'a>),
 
     /// To leave a node, whose nodes were visited.
@@ -34,10 +34,10 @@ pub fn walk_pattern_in<V: Visit>(
         match step {
             Step::Leave(node) => visitor.leave_node(node),
             Step::Visit(siblings) => {
-                let Some((node, behind)) = siblings.split_first() else {
+                let Some((node, following)) = siblings.split_first() else {
                     continue;
                 };
-                steps.push(Step::Visit(behind))?;
+                steps.push(Step::Visit(following))?;
                 if !visitor.enter_node(node) {
                     visitor.leave_node(node);
                     continue;

@@ -20,7 +20,7 @@ impl fmt::Display for Character {
     }
 }
 
-/// Whether a value that is no character is written by its number.
+/// Whether a value that is no character is written as a number.
 fn shows_number(kind: CharacterKind) -> bool
     ensures { result ≡ by_number kind }
 {
@@ -68,7 +68,7 @@ fn write_hexadecimal<W: fmt::Write>(f: &mut fmt::Formatter<W>, value: u32) -> fm
     write!(f, "\\x{value:02X}")
 }
 
-/// Writes a backslash and at least so many octal digits.
+/// Writes a backslash and the octal digits, at least as many as asked for.
 fn write_octal<W: fmt::Write>(f: &mut fmt::Formatter<W>, least: usize, value: u32) -> fmt::Result
     ensures { WritesOnOk W.write_str_gives f.old result (encode_utf8_all (octal_shown least value)) f.new }
 {
@@ -82,7 +82,7 @@ fn write_escaped<W: fmt::Write>(f: &mut fmt::Formatter<W>, character: char) -> f
     write!(f, "\\{character}")
 }
 
-/// What stands behind the backslash of a single escape: the letter of a control character, or the character.
+/// What stands after the backslash of a single escape: the letter of a control character, or the character.
 #[tactic(auto, unfolding(crate::specs::Shown::single_escape_shown))]
 fn single_escape_sign(character: char) -> char
     ensures { escaped result ≡ single_escape_shown character }
@@ -98,7 +98,7 @@ fn single_escape_sign(character: char) -> char
     }
 }
 
-/// Writes `\c` and the letter of a number from 1 to 26, and any other by its number.
+/// Writes `\c` and a letter for a number from 1 to 26, and any other as a number.
 fn write_control<W: fmt::Write>(f: &mut fmt::Formatter<W>, value: u32) -> fmt::Result
     ensures { WritesOnOk W.write_str_gives f.old result (encode_utf8_all (control_shown value)) f.new }
 {

@@ -56,7 +56,7 @@ fn write_strings<W: fmt::Write>(f: &mut fmt::Formatter<W>, strings: &[ClassStrin
     }
 }
 
-/// Writes each string behind a bar.
+/// Writes each string after a bar.
 fn write_barred_strings<W: fmt::Write>(
     f: &mut fmt::Formatter<W>,
     strings: &[ClassString],

@@ -30,7 +30,7 @@ impl fmt::Display for CharacterClassEscapeKind {
     }
 }
 
-/// What it begins with behind its parenthesis.
+/// What it begins with after its parenthesis.
 impl fmt::Display for LookAroundAssertionKind {
     ghost output = { λ it. Some (encode_utf8_all (sign it)) };
 
@@ -39,7 +39,7 @@ impl fmt::Display for LookAroundAssertionKind {
     }
 }
 
-/// The letters of those that are enabled, and behind `-` of those that are disabled.
+/// The letters of those that are enabled, and after `-` of those that are disabled.
 impl fmt::Display for Modifiers {
     ghost output = { λ it. Some (encode_utf8_all (modifiers_text it)) };
 

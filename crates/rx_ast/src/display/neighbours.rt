@@ -1,4 +1,4 @@
-//! What a term, or one of a class's contents, is written as with the one right behind it.
+//! What a term, or one of a class's contents, is written as with the one right after it.
 ghost use Rattle.std.specs.Prelude.{◌≡◌, IsTrue, map};
 ghost use Rattle.std.specs.Option.{option_copied};
 ghost use Rattle.rx_base.specs.SurrogatePair.{IsLeadSurrogate, IsTrailSurrogate, surrogate_pair};
@@ -9,7 +9,7 @@ ghost use Rattle.rx_ast.specs.Tree.{mirror_term, nodes};
 use crate::class::CharacterClassContents;
 use crate::leaf::{Character, CharacterKind};
 use crate::term::Term;
-use rx_base::combine_surrogate_pair;
+use rx_base::{combine_surrogate_pair, is_lead_surrogate, is_trail_surrogate};
 
 fn may_join(kind: CharacterKind) -> bool
     ensures { result ≡ may kind }
@@ -24,9 +24,7 @@ fn are_joined(this: &Character, next: &Character) -> bool
     ensures lead { IsTrue result → IsLeadSurrogate this.now.value }
     ensures trail { IsTrue result → IsTrailSurrogate next.now.value }
 {
-    may_join(this.kind)
-        && (0xD800 <= this.value && this.value <= 0xDBFF)
-        && (0xDC00 <= next.value && next.value <= 0xDFFF)
+    may_join(this.kind) && is_lead_surrogate(this.value) && is_trail_surrogate(next.value)
 }
 
 /// The character of a lead and a trail.
@@ -82,11 +80,11 @@ fn first_of_terms(terms: &[Term]) -> Option<&Character>
     }
 }
 
-/// The character that a term is written as with the first of the terms behind it, if the two are joined.
-pub fn term_pair(term: &Term, behind: &[Term]) -> Option<char>
-    ensures { result ≡ node_pair (mirror_term term.now) (nodes (map mirror_term behind.now)) }
+/// The character that a term is written as with the first of the terms after it, if the two are joined.
+pub fn term_pair(term: &Term, following: &[Term]) -> Option<char>
+    ensures { result ≡ node_pair (mirror_term term.now) (nodes (map mirror_term following.now)) }
 {
-    joined_pair(term_character(term), first_of_terms(behind))
+    joined_pair(term_character(term), first_of_terms(following))
 }
 
 /// The character that one of a class's contents is, if it is one.
@@ -114,12 +112,12 @@ fn first_of_contents(contents: &[CharacterClassContents]) -> Option<&Character>
     }
 }
 
-/// The character that one of a class's contents is written as with the first of those behind it, if the two are joined.
+/// The character that one of a class's contents is written as with the first of those after it, if the two are joined.
 pub fn contents_pair(
     contents: &CharacterClassContents,
-    behind: &[CharacterClassContents],
+    following: &[CharacterClassContents],
 ) -> Option<char>
-    ensures { result ≡ member_pair (mirror_contents contents.now) (members (map mirror_contents behind.now)) }
+    ensures { result ≡ member_pair (mirror_contents contents.now) (members (map mirror_contents following.now)) }
 {
-    joined_pair(contents_character(contents), first_of_contents(behind))
+    joined_pair(contents_character(contents), first_of_contents(following))
 }

@@ -2,7 +2,8 @@
 ghost use Rattle.std.specs.Prelude.{◌≡◌, codes, Some};
 ghost use Rattle.std.specs.Fmt.{WritesOnOk};
 ghost use Rattle.std.specs.Str.{chars, encode_utf8_all};
-ghost use Rattle.rx_ast.specs.Texts.{are_same, boundary_text as boundary, class_escape_text as escape, class_opener as opener, counts_text, dash as dash_of, lazy_text as lazy, letters as letters_of, look_sign as sign, look_text as look, opener_text, operator_text as operator, property_opener as opener_of_property, quantifier_text};
+ghost use Rattle.rx_base.specs.Texts.{are_same};
+ghost use Rattle.rx_ast.specs.Texts.{boundary_text as boundary, class_escape_text as escape, class_opener as opener, counts_text, dash as dash_of, lazy_text as lazy, letters as letters_of, look_sign as sign, look_text as look, opener_text, operator_text as operator, property_opener as opener_of_property, quantifier_text};
 ghost use Rattle.rx_ast.specs.Tree.{capturing, ignoring};
 
 pub use super::neighbours::{contents_pair, term_pair};
@@ -22,7 +23,7 @@ pub(super) fn write_text<W: fmt::Write>(f: &mut fmt::Formatter<W>, text: &str) -
     f.write_str(text)
 }
 
-/// Writes what stands behind a quantifier's body.
+/// Writes what stands after a quantifier's body.
 pub fn write_suffix<W: fmt::Write>(f: &mut fmt::Formatter<W>, it: &Quantifier) -> fmt::Result
     ensures { WritesOnOk W.write_str_gives f.old result (encode_utf8_all (quantifier_text it.now.min it.now.max it.now.greedy)) f.new }
 {
@@ -54,7 +55,7 @@ fn write_bounded_counts<W: fmt::Write>(f: &mut fmt::Formatter<W>, min: u64, max:
     }
 }
 
-/// What stands behind the counts of a quantifier.
+/// What stands after the counts of a quantifier.
 #[tactic(auto, using(crate::proofs::Plain::plain_texts))]
 pub fn lazy_text(greedy: bool) -> &'static str
     ensures { chars result.now ≡ lazy greedy }
@@ -156,7 +157,7 @@ pub fn is_general_category(name: &Text) -> bool
     name.as_str() == "General_Category"
 }
 
-/// What a look-around begins with behind its parenthesis.
+/// What a look-around begins with after its parenthesis.
 #[tactic(auto, using(crate::proofs::Plain::plain_texts))]
 pub fn look_sign(kind: LookAroundAssertionKind) -> &'static str
     ensures { chars result.now ≡ sign kind }

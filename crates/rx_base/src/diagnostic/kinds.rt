@@ -2,7 +2,7 @@ ghost use Rattle.std.specs.Prelude.{◌≡◌};
 ghost use Rattle.std.specs.Str.{encode_utf8_all};
 ghost use Rattle.rx_base.specs.DiagnosticMessage.{unterminated_reason, range_reason, operator_reason, digits_reason, property_reason};
 
-/// What was begun and not ended.
+/// What was begun but not ended.
 #[derive(Clone, Copy, Debug, PartialEq, Eq)]
 pub enum Unterminated {
     LookAround,
@@ -32,7 +32,7 @@ impl Unterminated {
     }
 }
 
-/// Which kind of range is out of order: of a class of atoms, or of a class of sets.
+/// Which kind of range is out of order: one of a class, or one of a class set.
 #[derive(Clone, Copy, Debug, PartialEq, Eq)]
 pub enum RangeKind {
     ClassAtom,
@@ -50,7 +50,7 @@ impl RangeKind {
     }
 }
 
-/// Between which operands of a class of sets a character is wrong.
+/// The operator of a class set between whose operands a character is wrong.
 #[derive(Clone, Copy, Debug, PartialEq, Eq)]
 pub enum SetOperator {
     Intersection,
@@ -86,7 +86,7 @@ impl DigitsKind {
     }
 }
 
-/// What of a property is not known.
+/// Which part of a property is not known.
 #[derive(Clone, Copy, Debug, PartialEq, Eq)]
 pub enum PropertyPart {
     Name,

@@ -1,5 +1,6 @@
-ghost use Rattle.std.specs.Prelude.{◌≡◌, ◌++◌, Some};
+ghost use Rattle.std.specs.Prelude.{◌≡◌, ◌++◌, Some, true};
 ghost use Rattle.std.specs.Str.{encode_utf8_all};
+ghost use Rattle.rx_base.specs.Diagnostic.{is_of_class};
 ghost use Rattle.rx_base.specs.DiagnosticMessage.{message_of, reason_of};
 ghost use Rattle.rx_base.specs.Reason.{reason_bytes};
 
@@ -30,6 +31,29 @@ impl Diagnostic {
             Self::InvalidIndexedReference { .. } => Fixed("Invalid indexed reference"),
             Self::EmptyGroupSpecifier { .. } => Fixed("Group specifier is empty"),
             Self::InvalidNamedReference { .. } => Fixed("Invalid named reference"),
+            Self::TooLargeNumberInBracedQuantifier { .. } => Fixed(
+                "Number is too large in braced quantifier",
+            ),
+            Self::BracedQuantifierOutOfOrder { .. } => Fixed(
+                "Numbers out of order in braced quantifier",
+            ),
+            Self::TooLargeNumberDigits { what, .. } => Fixed(what.reason()),
+            Self::InvalidUnicodeEscapeSequence { .. } => Fixed("Invalid unicode escape sequence"),
+            Self::InvalidSurrogatePair { .. } => Fixed("Invalid surrogate pair"),
+            Self::DuplicatedModifiers { .. } => Fixed("Duplicated modifier"),
+            Self::InvalidModifiers { .. } => Fixed("Invalid modifiers"),
+            Self::EmptyModifiers { .. } => Fixed("Empty modifiers"),
+            Self::UnknownModifiers { .. } => Fixed("Unknown modifiers"),
+            _ => self.class_reason(),
+        }
+    }
+
+    /// The reason where what is refused is a class or a property of characters.
+    fn class_reason(&self) -> Reason<'_>
+        requires { is_of_class self.now ≡ true }
+        ensures { reason_bytes result ≡ encode_utf8_all (reason_of self.now) }
+    {
+        match self {
             Self::InvalidUnicodePropertyNameNegativeStrings { name, .. } => Name(
                 "Property name `",
                 name.as_str(),
@@ -54,30 +78,18 @@ impl Diagnostic {
             Self::CharacterClassContentsInvalidOperands { .. } => Fixed(
                 "Invalid class operands inside of character class contents",
             ),
-            Self::TooLargeNumberInBracedQuantifier { .. } => Fixed(
-                "Number is too large in braced quantifier",
-            ),
-            Self::BracedQuantifierOutOfOrder { .. } => Fixed(
-                "Numbers out of order in braced quantifier",
-            ),
-            Self::TooLargeNumberDigits { what, .. } => Fixed(what.reason()),
             Self::InvalidUnicodeProperty { what, .. } => Fixed(what.reason()),
             Self::InvalidUnicodePropertyOfStrings { name, .. } => Name(
                 "Invalid unicode property `",
                 name.as_str(),
                 "`",
             ),
-            Self::InvalidUnicodeEscapeSequence { .. } => Fixed("Invalid unicode escape sequence"),
-            Self::InvalidSurrogatePair { .. } => Fixed("Invalid surrogate pair"),
-            Self::DuplicatedModifiers { .. } => Fixed("Duplicated modifier"),
-            Self::InvalidModifiers { .. } => Fixed("Invalid modifiers"),
-            Self::EmptyModifiers { .. } => Fixed("Empty modifiers"),
-            Self::UnknownModifiers { .. } => Fixed("Unknown modifiers"),
+            _ => unreachable!(),
         }
     }
 }
 
-/// Every message begins alike. A width, a precision and the other options of a hole are ignored.
+/// Every message begins in the same way. Width, precision and the other options are ignored.
 impl fmt::Display for Diagnostic {
     ghost output = { λ diagnostic. Some (encode_utf8_all (message_of diagnostic)) };
 

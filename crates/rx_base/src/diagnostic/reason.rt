@@ -8,7 +8,7 @@ ghost use Rattle.rx_base.specs.Reason.{reason_bytes};
 use std::fmt;
 use std::fmt::{InlineText, Write};
 
-/// What a message says behind its beginning: a fixed text, or a flag or a name between two texts.
+/// What a message says after its beginning: a fixed text, or a flag or a name between two fixed texts.
 pub(super) enum Reason<'a> {
     Fixed(&'static str),
     Flag(&'static str, u32, &'static str),
@@ -25,7 +25,7 @@ impl Reason<'_> {
             Reason::Flag(before, flag, after) => write_between(
                 f,
                 before,
-                shown_flag(flag)?.as_str(),
+                flag_text(flag)?.as_str(),
                 after,
             ),
             Reason::Name(before, name, after) => write_between(f, before, name, after),
@@ -47,8 +47,8 @@ fn write_between<W: fmt::Write>(
     f.write_str(after)
 }
 
-/// The flag's character, or its number in hexadecimal where it is none.
-fn shown_flag(flag: u32) -> Result<InlineText<12>, fmt::Error>
+/// The flag as a character, or its number in hexadecimal if it is no character.
+fn flag_text(flag: u32) -> Result<InlineText<12>, fmt::Error>
     ensures { IfOk result (λ text. inline_text text ≡ encode_utf8_all (flag_text flag)) }
 {
     let mut text = InlineText::new();

@@ -1,10 +1,11 @@
 -- What a backslash begins: a boundary, a class escape, a property escape or a character escape, read as it is spelled.
-use Rattle.std.proofs.Common.{◌≡◌, ℕ, ◌+◌, ◌*◌, ◌-◌, ◌==◌, Bool, true, false, cond, nat_le, ◌&&◌, ◌||◌, List, [], ◌∷◌, ◌++◌, length, Some, None, refl, sym, ap, ◌∙◌, arith, inl, inr}
+use Rattle.std.proofs.Common.{◌≡◌, ℕ, ◌+◌, ◌*◌, ◌-◌, ◌==◌, Bool, true, false, cond, nat_le, ◌&&◌, ◌||◌, List, [], ◌∷◌, ◌++◌, length, Some, None, refl, sym, ap, ◌∙◌, arith, inl, inr, subst, codes}
 use Rattle.std.proofs.lemmas.Bool.{eqb-true, cond-true, cond-false, and_left, and_from, not-true}
 use Rattle.std.proofs.lemmas.Bool.Decides.{nat_tests}
 use Rattle.std.proofs.lemmas.Option.{option_and_then_some}
 use Rattle.std.proofs.Math.Bool.{and-false}
-use Rattle.rx_tables.specs.Characters.{is_decimal_digit, is_reserved_punctuator, is_within}
+use Rattle.rx_base.specs.Characters.{is_within, is_one_of}
+use Rattle.rx_tables.specs.Characters.{is_decimal_digit, is_reserved_punctuator}
 use Rattle.rx_ast.specs.declared.leaf.BoundaryAssertionKind.{BoundaryAssertionKind}
 use Rattle.rx_ast.specs.declared.leaf.BoundaryAssertionKind.TheVariants as boundaries
 use Rattle.rx_ast.specs.declared.leaf.CharacterClassEscapeKind.{CharacterClassEscapeKind}
@@ -16,12 +17,12 @@ use Rattle.rx_ast.specs.Texts.{boundary_text, class_escape_text}
 use Rattle.rx_model.specs.Reading.Boundaries.{has_buffers, has_boundary}
 use Rattle.rx_model.specs.Inputs.Environment.{Environment, is_unicode}
 use Rattle.rx_model.specs.Characters.Escapes.{SpellsEscape, control, letter, null, hexadecimal, unicode, identity}
-use Rattle.rx_model.specs.Reading.Fronts.{any_escape_at, is_reference, buffer_at, boundary_at, class_escape_at, escaped_token, backslash_token, digits, digits_behind, indexed_token, property_token, backslash_front}
+use Rattle.rx_model.specs.Reading.Fronts.{any_escape_at, is_reference, buffer_at, boundary_at, class_escape_at, escaped_token, backslash_token, digits, digits_after, indexed_token, property_token, backslash_front}
 use Rattle.rx_model.specs.Groups.Groups.{IsIndexed}
 use Rattle.rx_model.specs.Characters.LegacyEscapes.{SpellsLegacy, is_free, refers, run_number}
 use Rattle.rx_model.specs.Properties.PropertyFronts.{property_front}
 use Rattle.rx_model.specs.FirstPass.Marks.{starts}
-use Rattle.rx_model.specs.Quantifiers.Quantifiers.{decimal_digit_value, decimal_behind, AreDigits}
+use Rattle.rx_model.specs.Quantifiers.Quantifiers.{decimal_digit_value, decimal_after, AreDigits}
 use Rattle.rx_model.specs.Trees.Token.{character, class_escape, indexed}
 use Rattle.rx_model.specs.Properties.PropertyForms.{begins_property}
 use Rattle.rx_model.proofs.Characters.Escapes.{begins_with_u}
@@ -33,8 +34,8 @@ use Rattle.rx_model.proofs.Quantifiers.DecimalDigits.{digit_there}
 -- the character begins neither a reference nor a boundary nor a class escape nor a property escape, and is no reserved punctuator, of which `-` is one
 pub record BeginsEscape (e : Environment) (w : List ℕ) : Type 0 where
   pub first : ℕ
-  pub behind : List ℕ
-  pub whole : w ≡ first ∷ behind
+  pub following : List ℕ
+  pub whole : w ≡ first ∷ following
   no_digit : is_within 49 57 first ≡ false
   no_k : (first == 107) ≡ false
   no_boundary : boundary_at e first ≡ None
@@ -51,7 +52,7 @@ same_both false x = refl
 no_boundary_at : (e : Environment) (c : ℕ) → (c == 98) ≡ false → (c == 66) ≡ false → buffer_at c ≡ None → boundary_at e c ≡ None
 no_boundary_at e c h k l = rw (h, k, l) (same_both (has_buffers e) None)
 
--- what is behind a backslash where neither a reference nor a property escape begins
+-- what is after a backslash where neither a reference nor a property escape begins
 pub unreferred : (e : Environment) (c : ℕ) (w : List ℕ) → is_within 49 57 c ≡ false → (c == 107) ≡ false → begins_property c ≡ false →
     backslash_front e (c ∷ w) ≡ backslash_token (boundary_at e c) (class_escape_at c) (any_escape_at false e (c ∷ w))
 unfolding backslash_front
@@ -60,93 +61,37 @@ unreferred e c w h k l =
     ∙ cond-false (c == 107 && e.named) _ _ (and_left _ e.named k)
     ∙ cond-false (begins_property c && is_unicode e.mode) _ _ (and_left _ (is_unicode e.mode) l)
 
+-- A character that begins no other escape begins a character escape, whatever follows it.
+begins_with : (e : Environment) (c : ℕ) (following : List ℕ) → is_one_of (codes "kbBAzZpPdDsSwW") c ≡ false → is_within 49 57 c ≡ false → is_reserved_punctuator c ≡ false → BeginsEscape e (c ∷ following)
+begins_with e c following no_letter no_digit no_punctuator = record {
+  first = c;
+  following = following;
+  whole = refl;
+  no_digit = no_digit;
+  no_k = grind (arith, nat_tests);
+  no_boundary = no_boundary_at e c (grind (arith, nat_tests)) (grind (arith, nat_tests)) (grind (arith, nat_tests));
+  no_property = grind (arith, nat_tests);
+  no_class = grind (arith, nat_tests);
+  no_b = grind (arith, nat_tests);
+  no_hyphen = grind (arith, nat_tests);
+  no_reserved = no_punctuator;
+}
+
 pub begins : (e : Environment) (kind : CharacterKind) (v : ℕ) (w rest : List ℕ) → SpellsEscape e kind v w rest → BeginsEscape e w
-begins e _ v _ rest (control {c} h) = record {
-  first = c;
-  behind = [];
-  whole = refl;
-  no_digit = grind (arith, nat_tests);
-  no_k = grind (arith, nat_tests);
-  no_boundary = no_boundary_at e c (grind (arith, nat_tests)) (grind (arith, nat_tests)) (grind (arith, nat_tests));
-  no_property = grind (arith, nat_tests);
-  no_class = grind (arith, nat_tests);
-  no_b = grind (arith, nat_tests);
-  no_hyphen = grind (arith, nat_tests);
-  no_reserved = grind (arith, nat_tests);
-}
-begins e _ v _ rest (letter {c} h) = record {
-  first = 99;
-  behind = c ∷ [];
-  whole = refl;
-  no_digit = refl;
-  no_k = refl;
-  no_boundary = no_boundary_at e 99 refl refl refl;
-  no_property = refl;
-  no_class = refl;
-  no_b = refl;
-  no_hyphen = refl;
-  no_reserved = refl;
-}
-begins e _ _ _ rest (null h) = record {
-  first = 48;
-  behind = [];
-  whole = refl;
-  no_digit = refl;
-  no_k = refl;
-  no_boundary = no_boundary_at e 48 refl refl refl;
-  no_property = refl;
-  no_class = refl;
-  no_b = refl;
-  no_hyphen = refl;
-  no_reserved = refl;
-}
-begins e _ v _ rest (hexadecimal {a} {b} h) = record {
-  first = 120;
-  behind = a ∷ b ∷ [];
-  whole = refl;
-  no_digit = refl;
-  no_k = refl;
-  no_boundary = no_boundary_at e 120 refl refl refl;
-  no_property = refl;
-  no_class = refl;
-  no_b = refl;
-  no_hyphen = refl;
-  no_reserved = refl;
-}
-begins e _ v w rest (unicode s) = let u = begins_with_u s in record {
-  first = 117;
-  behind = u.0;
-  whole = u.1;
-  no_digit = refl;
-  no_k = refl;
-  no_boundary = no_boundary_at e 117 refl refl refl;
-  no_property = refl;
-  no_class = refl;
-  no_b = refl;
-  no_hyphen = refl;
-  no_reserved = refl;
-}
-begins e _ _ _ rest (identity {c} u h) = record {
-  first = c;
-  behind = [];
-  whole = refl;
-  no_digit = grind (arith, nat_tests);
-  no_k = grind (arith, nat_tests);
-  no_boundary = no_boundary_at e c (grind (arith, nat_tests)) (grind (arith, nat_tests)) (grind (arith, nat_tests));
-  no_property = grind (arith, nat_tests);
-  no_class = grind (arith, nat_tests);
-  no_b = grind (arith, nat_tests);
-  no_hyphen = grind (arith, nat_tests);
-  no_reserved = grind (arith, nat_tests);
-}
+begins e _ v _ rest (control {c} h) = begins_with e c [] (grind (arith, nat_tests)) (grind (arith, nat_tests)) (grind (arith, nat_tests))
+begins e _ v _ rest (letter {c} h) = begins_with e 99 (c ∷ []) refl refl refl
+begins e _ _ _ rest (null h) = begins_with e 48 [] refl refl refl
+begins e _ v _ rest (hexadecimal {a} {b} h) = begins_with e 120 (a ∷ b ∷ []) refl refl refl
+begins e _ v w rest (unicode s) = let u = begins_with_u s in subst (BeginsEscape e) (sym u.1) (begins_with e 117 u.0 refl refl refl)
+begins e _ _ _ rest (identity {c} u h) = begins_with e c [] (grind (arith, nat_tests)) (grind (arith, nat_tests)) (grind (arith, nat_tests))
 
 pub escape_token : (e : Environment) (kind : CharacterKind) (v : ℕ) (w rest : List ℕ) → SpellsEscape e kind v w rest → backslash_front e (w ++ rest) ≡ Some (character kind v, length w + 1)
 escape_token e kind v w rest s =
     let b = begins e kind v w rest s in
     ap (λ w. backslash_front e (w ++ rest)) b.whole
-    ∙ unreferred e b.first (b.behind ++ rest) b.no_digit b.no_k b.no_property
-    ∙ ap (λ x. backslash_token x (class_escape_at b.first) (any_escape_at false e (b.first ∷ b.behind ++ rest))) b.no_boundary
-    ∙ ap (λ x. backslash_token None x (any_escape_at false e (b.first ∷ b.behind ++ rest))) b.no_class
+    ∙ unreferred e b.first (b.following ++ rest) b.no_digit b.no_k b.no_property
+    ∙ ap (λ x. backslash_token x (class_escape_at b.first) (any_escape_at false e (b.first ∷ b.following ++ rest))) b.no_boundary
+    ∙ ap (λ x. backslash_token None x (any_escape_at false e (b.first ∷ b.following ++ rest))) b.no_class
     ∙ ap (λ w. escaped_token (any_escape_at false e (w ++ rest))) (sym b.whole)
     ∙ ap escaped_token (any_read false e kind v w rest s)
 
@@ -222,20 +167,20 @@ class_token e kind c rest d n p h k l f = unreferred e c rest d n p ∙ rw (no_b
 from_one : (c d : ℕ) → decimal_digit_value c ≡ Some d → (c == 48) ≡ false → is_within 49 57 c ≡ true
 from_one c d h k = grind (arith, nat_tests)
 
-digits_from_one : (n m : ℕ) (ds : List ℕ) → decimal_behind m ds ≡ Some n → starts 48 ds ≡ false → (c : ℕ) (more : List ℕ) → ds ≡ c ∷ more → is_within 49 57 c ≡ true
+digits_from_one : (n m : ℕ) (ds : List ℕ) → decimal_after m ds ≡ Some n → starts 48 ds ≡ false → (c : ℕ) (more : List ℕ) → ds ≡ c ∷ more → is_within 49 57 c ≡ true
 digits_from_one n m [] h k c more e = absurd (let no : ⊥ = cc e in no)
 digits_from_one n m (x ∷ ds) h k c more e =
     let same : x ≡ c = cc e in
-    option_and_then_some (λ d. decimal_behind (10 * m + d) ds) (decimal_digit_value x) n h (λ d at_x _. from_one c d (ap decimal_digit_value (sym same) ∙ at_x) (ap (λ c. c == 48) (sym same) ∙ k))
+    option_and_then_some (λ d. decimal_after (10 * m + d) ds) (decimal_digit_value x) n h (λ d at_x _. from_one c d (ap decimal_digit_value (sym same) ∙ at_x) (ap (λ c. c == 48) (sym same) ∙ k))
 
 -- The number of digits that stand next.
-pub run_read : (m : ℕ) (ds rest : List ℕ) (n : ℕ) → decimal_behind m ds ≡ Some n → front_is is_decimal_digit rest ≡ false → run_number m (ds ++ rest) ≡ n
+pub run_read : (m : ℕ) (ds rest : List ℕ) (n : ℕ) → decimal_after m ds ≡ Some n → front_is is_decimal_digit rest ≡ false → run_number m (ds ++ rest) ≡ n
 run_read m [] [] n h k = cc h
 run_read m [] (c ∷ rest) n h k = let same : m ≡ n = cc h in cond-false (is_decimal_digit c) _ _ k ∙ same
 run_read m (c ∷ ds) rest n h k =
-    option_and_then_some (λ d. decimal_behind (10 * m + d) ds) (decimal_digit_value c) n h (λ d e f.
+    option_and_then_some (λ d. decimal_after (10 * m + d) ds) (decimal_digit_value c) n h (λ d e f.
     let t = digit_there c d e in
-    cond-true (is_decimal_digit c) _ _ t.0 ∙ run_read (10 * m + (c - 48)) ds rest n (ap (λ d. decimal_behind (10 * m + d) ds) t.1 ∙ f) k)
+    cond-true (is_decimal_digit c) _ _ t.0 ∙ run_read (10 * m + (c - 48)) ds rest n (ap (λ d. decimal_after (10 * m + d) ds) t.1 ∙ f) k)
 
 -- An indexed reference, as it is read.
 pub indexed_front : (e : Environment) (n : ℕ) (ds rest : List ℕ) → (is_unicode e.mode || nat_le n e.groups) ≡ true → AreDigits n ds → starts 48 ds ≡ false → front_is is_decimal_digit rest ≡ false →
@@ -246,7 +191,7 @@ indexed_front e n ds rest u a h k =
     ap (λ ds. backslash_front e (ds ++ rest)) a.some
     ∙ cond-true (is_reference e (a.first ∷ (a.more ++ rest))) _ _
     (and_from (is_within 49 57 a.first) _ (digits_from_one n 0 ds a.number h a.first a.more a.some) (ap (λ n. is_unicode e.mode || nat_le n e.groups) number ∙ u))
-    ∙ ap (λ ds. indexed_token (digits_behind 0 0 (ds ++ rest))) (sym a.some)
+    ∙ ap (λ ds. indexed_token (digits_after 0 0 (ds ++ rest))) (sym a.some)
     ∙ ap indexed_token (digits_read 0 0 ds rest n a.number k)
     ∙ ap (λ k. Some (indexed n, k)) (omega arith)
 
@@ -263,11 +208,11 @@ unfolding backslash_front
 legacy_token e kind v w rest m s =
     let b = legacy_begins false e kind v w rest s in
     ap (backslash_front e) b.whole
-    ∙ cond-false (is_reference e (b.first ∷ b.behind)) _ _ (no_reference e (b.first ∷ b.behind) m b.free)
+    ∙ cond-false (is_reference e (b.first ∷ b.following)) _ _ (no_reference e (b.first ∷ b.following) m b.free)
     ∙ cond-false (b.first == 107 && e.named) _ _ b.no_k
     ∙ cond-false (begins_property b.first && is_unicode e.mode) _ _ (ap (λ u. begins_property b.first && u) m ∙ and-false (begins_property b.first))
-    ∙ ap (λ x. backslash_token x (class_escape_at b.first) (any_escape_at false e (b.first ∷ b.behind))) (no_assertion e b.first m b.no_b b.no_boundary)
-    ∙ ap (λ x. backslash_token None x (any_escape_at false e (b.first ∷ b.behind))) b.no_class
+    ∙ ap (λ x. backslash_token x (class_escape_at b.first) (any_escape_at false e (b.first ∷ b.following))) (no_assertion e b.first m b.no_b b.no_boundary)
+    ∙ ap (λ x. backslash_token None x (any_escape_at false e (b.first ∷ b.following))) b.no_class
     ∙ ap (λ w. escaped_token (any_escape_at false e w)) (sym b.whole)
     ∙ ap escaped_token (any_legacy_read false e kind v w rest m s)
 
@@ -278,7 +223,7 @@ is_digit : (c : ℕ) → is_within 49 57 c ≡ true → is_decimal_digit c ≡ f
 is_digit c h k = grind (arith, nat_tests)
 
 -- All digits at the front, the first of which is not 0.
-run_found : (n c : ℕ) (w run rest : List ℕ) → is_within 49 57 c ≡ true → c ∷ w ≡ run ++ rest → decimal_behind 0 run ≡ Some n → front_is is_decimal_digit rest ≡ false →
+run_found : (n c : ℕ) (w run rest : List ℕ) → is_within 49 57 c ≡ true → c ∷ w ≡ run ++ rest → decimal_after 0 run ≡ Some n → front_is is_decimal_digit rest ≡ false →
     AreDigits n run × (starts 48 run ≡ false)
 run_found n c w [] rest h e f k = absurd (is_digit c h (ap (front_is is_decimal_digit) e ∙ k))
 run_found n c w (x ∷ run) rest h e f k =
@@ -286,7 +231,7 @@ run_found n c w (x ∷ run) rest h e f k =
     (record { first = x; more = run; some = refl; number = f }, ap (λ c. c == 48) same ∙ not_zero c h)
 
 -- An indexed reference that is read is spelled.
-pub indexed_spelled : (e : Environment) (n count c : ℕ) (w rest : List ℕ) → is_within 49 57 c ≡ true → (is_unicode e.mode || nat_le (run_number 0 (c ∷ w)) e.groups) ≡ true → digits_behind 0 0 (c ∷ w) ≡ digits n count rest →
+pub indexed_spelled : (e : Environment) (n count c : ℕ) (w rest : List ℕ) → is_within 49 57 c ≡ true → (is_unicode e.mode || nat_le (run_number 0 (c ∷ w)) e.groups) ≡ true → digits_after 0 0 (c ∷ w) ≡ digits n count rest →
     TextFront (IsIndexed e n) (count + 1) (92 ∷ c ∷ w)
 indexed_spelled e n count c w rest h u f =
     let r = digits_found 0 0 (c ∷ w) n count rest f in

@@ -3,19 +3,20 @@ use Rattle.std.proofs.Common.{◌≡◌, ◌↔◌, ℕ, ◌+◌, ◌-◌, ◌*�
 use Rattle.std.proofs.lemmas.Bool.{eqb-true, leb-true, le-leb}
 use Rattle.std.proofs.lemmas.Option.{option_and_then_some}
 use Rattle.std.proofs.lemmas.List.{length-map}
+use Rattle.rx_base.specs.Characters.{is_within, is_lead, is_trail}
 use Rattle.rx_base.specs.SurrogatePair.{IsLeadSurrogate, surrogate_pair}
-use Rattle.rx_tables.specs.Characters.{hex_digit_value, is_within}
+use Rattle.rx_tables.specs.Characters.{hex_digit_value}
 use Rattle.rx_units.specs.declared.code_point.CodePoint.{CodePoint}
 use Rattle.rx_units.specs.Units.{values}
-use Rattle.rx_units.specs.Digits.{hex_number}
+use Rattle.rx_units.specs.Digits.{hex_number, PassesHex}
 use Rattle.rx_units.specs.declared.quoted_text.element.Writing.{Writing}
 use Rattle.rx_units.specs.declared.quoted_text.element.Writing.TheVariants as writing
 use Rattle.rx_units.specs.Quoted.Fronts.{EscapeRead, escaped, no_unicode, passes, digit_step, digits_at}
 use Rattle.rx_units.proofs.Choices.{both, chosen}
 use Rattle.rx_units.proofs.Digits.{four_small}
 use Rattle.rx_units.proofs.Quoted.HexDigits.{Over, Run, run_again, run_found, run_over, run_over_again}
-use Rattle.rx_model.specs.Characters.UnicodeEscapes.{four, BeginsWithTrail, SpellsUnicode, code_unit, alone, pair, braced, PassesHex, Decodes}
-use Rattle.rx_model.specs.Characters.Decoding.{value, invalid, overflow, Decoded, is_lead, is_trail, four_at, trail_at, run_step, run_at, braces_at, joined_at, behind_u, decoded}
+use Rattle.rx_model.specs.Characters.UnicodeEscapes.{four, BeginsWithTrail, SpellsUnicode, code_unit, alone, pair, braced, Decodes}
+use Rattle.rx_model.specs.Characters.Decoding.{value, invalid, overflow, Decoded, four_at, trail_at, run_step, run_at, braces_at, joined_at, after_u, decoded}
 use Rattle.rx_model.proofs.Characters.Choices.{choose_both}
 
 in_range : (low high c : ℕ) → is_within low high c ≡ true → (low ≤ c) × (c ≤ high)
@@ -183,7 +184,7 @@ four_decodes true w v x n rest f h = elim (chosen (is_lead v) h) [
   }
 ]
 
-u_found : (unicode_mode : Bool) (w : List ℕ) (v n : ℕ) (o : Option (ℕ × List ℕ)) → four_at w ≡ o → behind_u unicode_mode o w ≡ value v n → Decodes unicode_mode (117 ∷ w) v n
+u_found : (unicode_mode : Bool) (w : List ℕ) (v n : ℕ) (o : Option (ℕ × List ℕ)) → four_at w ≡ o → after_u unicode_mode o w ≡ value v n → Decodes unicode_mode (117 ∷ w) v n
 u_found unicode_mode w v n (Some p) e h = four_decodes unicode_mode w p.0 v n p.1 (four_found w p.0 p.1 e) h
 u_found true w v n None e h = braces_found w v n h
 u_found false w v n None e h = absurd (let k : ⊥ = cc h in k)
@@ -212,12 +213,12 @@ brace_no_four (a ∷ b ∷ c ∷ w) = refl
 
 -- spelled → read
 pub spelled_read : (unicode_mode : Bool) (v : ℕ) (w rest : List ℕ) → SpellsUnicode unicode_mode v w rest → decoded unicode_mode (w ++ rest) ≡ value v (length w)
-spelled_read _ v _ rest (code_unit {a} {b} {c} {d} number) = ap (λ o. behind_u false (option_map (λ v. (v, rest)) o) (a ∷ b ∷ c ∷ d ∷ rest)) number
+spelled_read _ v _ rest (code_unit {a} {b} {c} {d} number) = ap (λ o. after_u false (option_map (λ v. (v, rest)) o) (a ∷ b ∷ c ∷ d ∷ rest)) number
 spelled_read _ v _ rest (alone {a} {b} {c} {d} number no_pair) =
-    ap (λ o. behind_u true (option_map (λ v. (v, rest)) o) (a ∷ b ∷ c ∷ d ∷ rest)) number ∙ lone_stays v rest no_pair
+    ap (λ o. after_u true (option_map (λ v. (v, rest)) o) (a ∷ b ∷ c ∷ d ∷ rest)) number ∙ lone_stays v rest no_pair
 spelled_read _ _ _ rest (pair {a} {b} {c} {d} {e} {f} {g} {h} {lead} {trail} first second is_lead is_trail) =
     let w = 92 ∷ four e f g h ++ rest in
-    ap (λ o. behind_u true (option_map (λ v. (v, w)) o) (a ∷ b ∷ c ∷ d ∷ w)) first
+    ap (λ o. after_u true (option_map (λ v. (v, w)) o) (a ∷ b ∷ c ∷ d ∷ w)) first
     ∙ ap (λ b. cond b (joined_at lead (trail_at w)) (value lead 5)) (within 0xD800 0xDBFF lead is_lead.0 is_lead.1)
     ∙ ap (joined_at lead) (trail_again w (record {
       a = e;
@@ -231,7 +232,7 @@ spelled_read _ _ _ rest (pair {a} {b} {c} {d} {e} {f} {g} {h} {lead} {trail} fir
       whole = refl;
     }))
 spelled_read _ v _ rest (braced x xs number top) =
-    ap (λ o. behind_u true o (123 ∷ x ∷ (xs ++ 125 ∷ [] ++ rest))) (brace_no_four (x ∷ (xs ++ 125 ∷ [] ++ rest)))
+    ap (λ o. after_u true o (123 ∷ x ∷ (xs ++ 125 ∷ [] ++ rest))) (brace_no_four (x ∷ (xs ++ 125 ∷ [] ++ rest)))
     ∙ ap (λ w. run_at 0 0 (x ∷ w)) (append_assoc xs (125 ∷ []) rest)
     ∙ run_is 0 0 (x ∷ (xs ++ 125 ∷ rest))
     ∙ ap of_digits (run_again 0 0 (x ∷ xs) rest v number top (omega arith))
@@ -267,7 +268,7 @@ braces_over (x ∷ xs) n h = elim (chosen (x == 123) h) [
   | inr p ↦ absurd (let k : ⊥ = cc p.1 in k)
 ]
 
-u_over : (unicode_mode : Bool) (w : List ℕ) (n : ℕ) (o : Option (ℕ × List ℕ)) → behind_u unicode_mode o w ≡ overflow n → (unicode_mode ≡ true) × PassesHex (117 ∷ w) n
+u_over : (unicode_mode : Bool) (w : List ℕ) (n : ℕ) (o : Option (ℕ × List ℕ)) → after_u unicode_mode o w ≡ overflow n → (unicode_mode ≡ true) × PassesHex (117 ∷ w) n
 u_over unicode_mode w n (Some p) h = elim (chosen (unicode_mode && is_lead p.0) h) [
   | inl q ↦ absurd (joined_no_over p.0 n (trail_at p.1) q.1)
   | inr q ↦ absurd (let k : ⊥ = cc q.1 in k)
@@ -285,7 +286,7 @@ read_overflow unicode_mode (x ∷ w) n h = elim (chosen (x == 117) h) [
 pub overflow_read : (w : List ℕ) (n : ℕ) → PassesHex w n → decoded true w ≡ overflow n
 overflow_read w n p =
     ap (decoded true) p.whole
-    ∙ ap (λ o. behind_u true o (123 ∷ (p.digits ++ p.next ∷ p.rest))) (brace_no_four (p.digits ++ p.next ∷ p.rest))
+    ∙ ap (λ o. after_u true o (123 ∷ (p.digits ++ p.next ∷ p.rest))) (brace_no_four (p.digits ++ p.next ∷ p.rest))
     ∙ run_is 0 0 (p.digits ++ p.next ∷ p.rest)
     ∙ ap of_digits (run_over_again 0 0 p.digits p.next p.rest p.number p.digit p.number_is p.digit_is p.fits p.passes)
     ∙ ap overflow (omega (arith, p.count_is))

@@ -4,15 +4,15 @@ use Rattle.std.proofs.lemmas.Bool.{eqb-true, cond-true, cond-false, cond_both, c
 use Rattle.std.proofs.lemmas.Bool.Decides.{nat_tests}
 use Rattle.rx_tables.specs.Characters.{control_escape_value, control_letter_value, is_decimal_digit}
 use Rattle.rx_ast.specs.declared.leaf.CharacterKind.{CharacterKind}
-use Rattle.rx_units.specs.Digits.{front_is, hex_number}
+use Rattle.rx_units.specs.Digits.{front_is, hex_number, PassesHex}
 use Rattle.rx_ast.specs.declared.leaf.CharacterKind.TheVariants as kinds
 use Rattle.rx_units.proofs.Digits.{two_small}
 use Rattle.rx_units.proofs.Choices.{chosen, both}
 use Rattle.rx_model.specs.Characters.Decoding.{Decoded, value, invalid, overflow, decoded}
 use Rattle.rx_model.specs.Inputs.Environment.{Environment, is_unicode}
 use Rattle.rx_model.specs.Characters.Escapes.{is_identity_escape, SpellsEscape, control, letter, null, hexadecimal, unicode, identity}
-use Rattle.rx_model.specs.Reading.Fronts.{EscapeRead, escaped, nothing, too_many, no_unicode, escaped_if, unicode_read, letter_at, two_at, escape_behind, escape_at}
-use Rattle.rx_model.specs.Characters.UnicodeEscapes.{SpellsUnicode, code_unit, alone, pair, braced, PassesHex, Decodes}
+use Rattle.rx_model.specs.Reading.Fronts.{EscapeRead, escaped, nothing, too_many, no_unicode, escaped_if, unicode_read, letter_at, two_at, escape_after, escape_at}
+use Rattle.rx_model.specs.Characters.UnicodeEscapes.{SpellsUnicode, code_unit, alone, pair, braced, Decodes}
 use Rattle.rx_model.proofs.Characters.Decodings.{spelled_read, read_spelled, read_overflow, overflow_read, value_law, value_is_code_point, decoded_some}
 
 -- no row above that of identity escapes begins with the character
@@ -49,7 +49,7 @@ module _ (e : Environment) where
   -- spelled → read
   pub spelled_escape : (kind : CharacterKind) (v : ℕ) (w rest : List ℕ) → SpellsEscape e kind v w rest → escape_at (is_unicode e.mode) (w ++ rest) ≡ escaped kind v (length w)
   unfolding escape_at
-  spelled_escape _ v _ rest (control {c} h) = ap (λ o. escape_behind (is_unicode e.mode) o c rest) h
+  spelled_escape _ v _ rest (control {c} h) = ap (λ o. escape_after (is_unicode e.mode) o c rest) h
   spelled_escape _ v _ rest (letter {c} h) = ap (escaped_if kinds.ControlLetter 2) h
   spelled_escape _ _ _ rest (null h) = ap (λ b. cond b nothing (escaped kinds.Null 0 1)) h
   spelled_escape _ v _ rest (hexadecimal {a} {b} h) = ap (escaped_if kinds.HexadecimalEscape 3) h
@@ -60,7 +60,7 @@ module _ (e : Environment) where
       ∙ ap unicode_read (spelled_read (is_unicode e.mode) v w rest s)
   spelled_escape _ _ _ rest (identity {c} u h) =
       let o = others c h in
-      ap (λ x. escape_behind (is_unicode e.mode) x c rest) o.no_control
+      ap (λ x. escape_after (is_unicode e.mode) x c rest) o.no_control
       ∙ cond-false _ _ _ o.no_c ∙ cond-false _ _ _ o.no_zero ∙ cond-false _ _ _ o.no_x ∙ cond-false _ _ _ o.no_u
       ∙ cond-true _ _ _ (and_from (is_unicode e.mode) (is_identity_escape c) u h)
 
@@ -116,9 +116,9 @@ module _ (e : Environment) where
     | inr p ↦ absurd (let k : ⊥ = cc p.1 in k)
   ]
 
-  behind_found : (kind : CharacterKind) (v n c : ℕ) (w : List ℕ) (o : Option ℕ) → control_escape_value c ≡ o → escape_behind (is_unicode e.mode) o c w ≡ escaped kind v n → EscapeFront kind v n (c ∷ w)
-  behind_found kind v n c w (Some x) f h = front_of (c ∷ []) w (control f) refl h
-  behind_found kind v n c w None f h = elim (chosen (c == 99) h) [
+  after_found : (kind : CharacterKind) (v n c : ℕ) (w : List ℕ) (o : Option ℕ) → control_escape_value c ≡ o → escape_after (is_unicode e.mode) o c w ≡ escaped kind v n → EscapeFront kind v n (c ∷ w)
+  after_found kind v n c w (Some x) f h = front_of (c ∷ []) w (control f) refl h
+  after_found kind v n c w None f h = elim (chosen (c == 99) h) [
     | inl p ↦ rw (eqb-true c 99 p.0) (letter_found kind v n w p.1)
     | inr p ↦ elim (chosen (c == 48) p.1) [
       | inl q ↦ rw (eqb-true c 48 q.0) (null_found kind v n w q.1)
@@ -136,7 +136,7 @@ module _ (e : Environment) where
   pub escape_spelled : (kind : CharacterKind) (v n : ℕ) (w : List ℕ) → escape_at (is_unicode e.mode) w ≡ escaped kind v n → EscapeFront kind v n w
   unfolding escape_at
   escape_spelled kind v n [] h = absurd (let k : ⊥ = cc h in k)
-  escape_spelled kind v n (c ∷ w) h = behind_found kind v n c w (control_escape_value c) refl h
+  escape_spelled kind v n (c ∷ w) h = after_found kind v n c w (control_escape_value c) refl h
 
   pub spelled_small : (kind : CharacterKind) (v : ℕ) (w rest : List ℕ) → SpellsEscape e kind v w rest → v ≤ 0x10FFFF
   spelled_small _ v _ rest (control {c} h) = grind (arith, nat_tests)
@@ -180,9 +180,9 @@ plain_null : (b : Bool) → is_plain (cond b nothing (escaped kinds.Null 0 1)) �
 plain_null true = refl
 plain_null false = refl
 
-plain_behind : (u : Bool) (c : ℕ) (w : List ℕ) (o : Option ℕ) → (c == 117) ≡ false → is_plain (escape_behind u o c w) ≡ true
-plain_behind u c w (Some v) h = refl
-plain_behind u c w None h =
+plain_after : (u : Bool) (c : ℕ) (w : List ℕ) (o : Option ℕ) → (c == 117) ≡ false → is_plain (escape_after u o c w) ≡ true
+plain_after u c w (Some v) h = refl
+plain_after u c w None h =
     cond_both (c == 99) _ _ (λ r. is_plain r ≡ true) (λ _. plain_if kinds.ControlLetter 2 (letter_at w)) (λ _.
     cond_both (c == 48) _ _ (λ r. is_plain r ≡ true) (λ _. plain_null (front_is is_decimal_digit w)) (λ _.
     cond_both (c == 120) _ _ (λ r. is_plain r ≡ true) (λ _. plain_if kinds.HexadecimalEscape 3 (two_at w)) (λ _.
@@ -195,7 +195,7 @@ unfolding escape_at
 escape_ways u [] = inr (refl, refl)
 escape_ways u (c ∷ w) = elim (cases_Bool (c == 117)) [
   | inl h ↦ inl (w, ap (λ c. c ∷ w) (eqb-true c 117 h), rw (eqb-true c 117 h) refl)
-  | inr h ↦ inr (h, plain_behind u c w (control_escape_value c) h)
+  | inr h ↦ inr (h, plain_after u c w (control_escape_value c) h)
 ]
 
 read_something : (d : Decoded) → unicode_read d ≡ nothing → ⊥
@@ -235,14 +235,14 @@ invalid_there (overflow m) h = absurd (let k : ⊥ = cc h in k)
 
 -- `u` stands at the front, and no unicode escape
 pub record NoUnicode (w : List ℕ) : Type 0 where
-  pub behind : List ℕ
-  pub whole : w ≡ 117 ∷ behind
+  pub following : List ℕ
+  pub whole : w ≡ 117 ∷ following
   pub no_value : (v n : ℕ) → Decodes true w v n → ⊥
   pub no_limit : (count : ℕ) → PassesHex w count → ⊥
 
 no_unicode_there : (w t : List ℕ) → w ≡ 117 ∷ t → decoded true w ≡ invalid → NoUnicode w
 no_unicode_there w t e h = record {
-  behind = t;
+  following = t;
   whole = e;
   no_value = λ v n d. let f = (value_law true w v n).1 d in let k : ⊥ = cc (f, h) in k;
   no_limit = λ count p. let f = overflow_read w count p in let k : ⊥ = cc (f, h) in k;

@@ -4,18 +4,20 @@ use Rattle.std.proofs.lemmas.Bool.{eqb-true, cond-true, cond-false, cases_Bool, 
 use Rattle.std.proofs.lemmas.Bool.Decides.{nat_tests}
 use Rattle.std.proofs.lemmas.List.Elements.{All-head}
 use Rattle.std.proofs.Math.Bool.{and-false, or-true}
-use Rattle.rx_tables.specs.Characters.{control_escape_value, control_letter_value, is_decimal_digit, is_octal_digit, is_within}
+use Rattle.rx_base.specs.Characters.{is_within, is_one_of}
+use Rattle.rx_tables.specs.Characters.{control_escape_value, control_letter_value, is_decimal_digit, is_octal_digit}
 use Rattle.rx_ast.specs.declared.leaf.CharacterKind.{CharacterKind}
 use Rattle.rx_units.specs.Digits.{front_is, octal, hex_number}
+use Rattle.rx_units.specs.OctalEscapes.{octal_zero, octal1, octal2_low, octal2_high, octal3}
 use Rattle.rx_ast.specs.declared.leaf.CharacterKind.TheVariants as kinds
 use Rattle.rx_units.proofs.Choices.{both, chosen, is_none, low_next}
 use Rattle.rx_units.proofs.Digits.{high_octal, nonzero_octal, zero_next}
-use Rattle.rx_model.specs.Characters.Decoding.{four_at, behind_u}
+use Rattle.rx_units.proofs.OctalEscapes.{octal_value_small}
+use Rattle.rx_model.specs.Characters.Decoding.{four_at, after_u}
 use Rattle.rx_model.specs.Inputs.Environment.{Environment, is_unicode}
 use Rattle.rx_model.specs.Characters.Escapes.{SpellsEscape}
-use Rattle.rx_model.specs.Characters.EscapeFronts.{EscapeRead, escaped, nothing, too_many, no_unicode, escaped_if, unicode_read, two_at, escape_behind, escape_at, control_behind, octal_at, digit_at, legacy_at, or_legacy, any_escape_at, class_escape_at}
-use Rattle.rx_model.specs.Characters.LegacyEscapes.{is_free, two_next, four_next, is_class_control, is_control, IsIdentity, SpellsLegacy, lone, class_control, octal_zero, octal1, octal2_low, octal2_high, octal3, identity}
-use Rattle.rx_model.specs.Refusals.Stops.{is_one_of}
+use Rattle.rx_model.specs.Characters.EscapeFronts.{EscapeRead, escaped, nothing, too_many, no_unicode, escaped_if, unicode_read, two_at, escape_after, escape_at, control_after, octal_at, digit_at, legacy_at, or_legacy, any_escape_at, class_escape_at}
+use Rattle.rx_model.specs.Characters.LegacyEscapes.{is_free, two_next, four_next, is_class_control, is_control, IsIdentity, SpellsLegacy, lone, class_control, legacy_octal, identity}
 use Rattle.rx_model.proofs.Characters.Escapes.{EscapeFront, escape_no_limit, escape_spelled, spelled_escape, spelled_small}
 
 pub swapped : (a b : Bool) → (a && b) ≡ false → (b && a) ≡ false
@@ -75,11 +77,11 @@ module _ (inside : Bool) (e : Environment) where
   pub spelled_legacy : (kind : CharacterKind) (v : ℕ) (w rest : List ℕ) → SpellsLegacy inside e kind v w rest → legacy_at inside e (w ++ rest) ≡ escaped kind v (length w)
   spelled_legacy _ _ _ _ (lone {rest} h) = lone_row rest h
   spelled_legacy _ _ _ rest (class_control {c} h k) = class_control_row c rest h k
-  spelled_legacy _ _ _ rest (octal_zero h) = octal_zero_row rest h
-  spelled_legacy _ _ _ rest (octal1 {c} h k f) = octal1_row c rest h k f
-  spelled_legacy _ _ _ rest (octal2_low {c} {d} h k n f) = octal2_low_row c d rest h k n f
-  spelled_legacy _ _ _ rest (octal2_high {c} {d} h k f) = octal2_high_row c d rest h k f
-  spelled_legacy _ _ _ rest (octal3 {c} {d} {f} h k l x) = octal3_row c d f rest h k l x
+  spelled_legacy _ _ _ rest (legacy_octal (octal_zero h) f) = octal_zero_row rest h
+  spelled_legacy _ _ _ rest (legacy_octal (octal1 {c} h k) f) = octal1_row c rest h k f
+  spelled_legacy _ _ _ rest (legacy_octal (octal2_low {c} {d} h k n) f) = octal2_low_row c d rest h k n f
+  spelled_legacy _ _ _ rest (legacy_octal (octal2_high {c} {d} h k) f) = octal2_high_row c d rest h k f
+  spelled_legacy _ _ _ rest (legacy_octal (octal3 {c} {d} {f} h k l) x) = octal3_row c d f rest h k l x
   spelled_legacy _ _ _ rest (identity {c} h) = identity_row c rest h
 
   -- an escape that stands at the front
@@ -99,7 +101,7 @@ module _ (inside : Bool) (e : Environment) where
     count = l ∙ (let same : m ≡ n = cc h in same);
   }
 
-  control_found : (w : List ℕ) (kind : CharacterKind) (v n : ℕ) → control_behind inside w ≡ escaped kind v n → LegacyFront kind v n (99 ∷ w)
+  control_found : (w : List ℕ) (kind : CharacterKind) (v n : ℕ) → control_after inside w ≡ escaped kind v n → LegacyFront kind v n (99 ∷ w)
   control_found [] kind v n h = give [] (99 ∷ []) (lone refl) refl h
   control_found (c ∷ w) kind v n h = elim (chosen (is_some (control_letter_value c)) h) [
     | inl p ↦ absurd (let no : ⊥ = cc p.1 in no)
@@ -113,15 +115,15 @@ module _ (inside : Bool) (e : Environment) where
       front_is is_octal_digit w ≡ false → escaped kinds.Octal1 (octal c) 1 ≡ escaped kind v n → LegacyFront kind v n (c ∷ w)
   zero_or_one c w kind v n o f z x h = elim (cases_Bool (c == 48)) [
     | inl s ↦ subst (λ c. LegacyFront kind v n (c ∷ w)) (sym (eqb-true c 48 s))
-        (give (48 ∷ []) w (octal_zero (zero_next c w s z x)) refl (ap (λ c. escaped kinds.Octal1 (octal c) 1) (sym (eqb-true c 48 s)) ∙ h))
-    | inr s ↦ give (c ∷ []) w (octal1 (nonzero_octal c o s) x f) refl h
+        (give (48 ∷ []) w (legacy_octal (octal_zero (zero_next c w s z x)) (or-true inside)) refl (ap (λ c. escaped kinds.Octal1 (octal c) 1) (sym (eqb-true c 48 s)) ∙ h))
+    | inr s ↦ give (c ∷ []) w (legacy_octal (octal1 (nonzero_octal c o s) x) f) refl h
   ]
 
   two_digits : (c d : ℕ) (w : List ℕ) (kind : CharacterKind) (v n : ℕ) → is_octal_digit c ≡ true → is_octal_digit d ≡ true → is_free inside e.groups (c ∷ d ∷ w) ≡ true →
       (is_within 48 51 c && front_is is_octal_digit w) ≡ false → escaped kinds.Octal2 (8 * octal c + octal d) 2 ≡ escaped kind v n → LegacyFront kind v n (c ∷ d ∷ w)
   two_digits c d w kind v n o p f z h = elim (cases_Bool (is_within 48 51 c)) [
-    | inl s ↦ give (c ∷ d ∷ []) w (octal2_low s p (low_next _ _ s z) f) refl h
-    | inr s ↦ give (c ∷ d ∷ []) w (octal2_high (high_octal c o s) p f) refl h
+    | inl s ↦ give (c ∷ d ∷ []) w (legacy_octal (octal2_low s p (low_next _ _ s z)) f) refl h
+    | inr s ↦ give (c ∷ d ∷ []) w (legacy_octal (octal2_high (high_octal c o s) p) f) refl h
   ]
 
   octal_found : (c : ℕ) (w : List ℕ) (kind : CharacterKind) (v n : ℕ) → is_octal_digit c ≡ true → is_free inside e.groups (c ∷ w) ≡ true → (c == 48 && not (front_is is_decimal_digit w)) ≡ false →
@@ -133,7 +135,7 @@ module _ (inside : Bool) (e : Environment) where
   ]
   octal_found c (d ∷ g ∷ w) kind v n o f z h = elim (chosen (is_octal_digit d) h) [
     | inl p ↦ elim (chosen (is_within 48 51 c && is_octal_digit g) p.1) [
-      | inl q ↦ let b = both (is_within 48 51 c) (is_octal_digit g) q.0 in give (c ∷ d ∷ g ∷ []) w (octal3 b.0 p.0 b.1 f) refl q.1
+      | inl q ↦ let b = both (is_within 48 51 c) (is_octal_digit g) q.0 in give (c ∷ d ∷ g ∷ []) w (legacy_octal (octal3 b.0 p.0 b.1) f) refl q.1
       | inr q ↦ two_digits c d (g ∷ w) kind v n o p.0 f q.0 q.1
     ]
     | inr p ↦ zero_or_one c (d ∷ g ∷ w) kind v n o f z p.0 p.1
@@ -250,7 +252,7 @@ unread_identity inside e c w h = elim (cases_Bool (c == 117)) [
   | inl s ↦
       let is = eqb-true c 117 s in
       let none = four_none w (low_next (c == 117) (is_some (four_next w)) s h.no_u) in
-      subst (λ c. Unread (c ∷ w)) (sym is) (inr (ap (λ o. unicode_read (behind_u false o w)) none))
+      subst (λ c. Unread (c ∷ w)) (sym is) (inr (ap (λ o. unicode_read (after_u false o w)) none))
   | inr s ↦ elim (cases_Bool (c == 120)) [
     | inl t ↦
         let is = eqb-true c 120 t in
@@ -259,7 +261,7 @@ unread_identity inside e c w h = elim (cases_Bool (c == 117)) [
     | inr t ↦
         let no_c : (c == 99) ≡ false = (let l = h.no_letter in grind (arith, nat_tests)) in
         let no_zero : (c == 48) ≡ false = (let l = h.no_octal in grind (arith, nat_tests)) in
-        inl (ap (λ o. escape_behind false o c w) (no_value c h.no_letter) ∙ cond-false (c == 99) _ _ no_c ∙ cond-false (c == 48) _ _ no_zero ∙ cond-false (c == 120) _ _ t ∙ cond-false (c == 117) _ _ s)
+        inl (ap (λ o. escape_after false o c w) (no_value c h.no_letter) ∙ cond-false (c == 99) _ _ no_c ∙ cond-false (c == 48) _ _ no_zero ∙ cond-false (c == 120) _ _ t ∙ cond-false (c == 117) _ _ s)
   ]
 ]
 
@@ -267,11 +269,11 @@ module _ (inside : Bool) (e : Environment) where
   unread : (kind : CharacterKind) (v : ℕ) (w rest : List ℕ) → SpellsLegacy inside e kind v w rest → Unread (w ++ rest)
   unread _ _ _ _ (lone {rest} h) = unread_control inside rest (front_no_letter inside rest h)
   unread _ _ _ rest (class_control {c} h k) = unread_control inside (c ∷ rest) (control_no_letter c k)
-  unread _ _ _ rest (octal_zero h) = unread_zero rest (octal_front rest h)
-  unread _ _ _ rest (octal1 {c} h k f) = inl (unread_digit c rest (grind (arith, nat_tests)))
-  unread _ _ _ rest (octal2_low {c} {d} h k n f) = unread_low c d rest (grind (arith, nat_tests)) k
-  unread _ _ _ rest (octal2_high {c} {d} h k f) = unread_low c d rest (grind (arith, nat_tests)) k
-  unread _ _ _ rest (octal3 {c} {d} {f} h k l x) = unread_low c d (f ∷ rest) (grind (arith, nat_tests)) k
+  unread _ _ _ rest (legacy_octal (octal_zero h) f) = unread_zero rest (octal_front rest h)
+  unread _ _ _ rest (legacy_octal (octal1 {c} h k) f) = inl (unread_digit c rest (grind (arith, nat_tests)))
+  unread _ _ _ rest (legacy_octal (octal2_low {c} {d} h k n) f) = unread_low c d rest (grind (arith, nat_tests)) k
+  unread _ _ _ rest (legacy_octal (octal2_high {c} {d} h k) f) = unread_low c d rest (grind (arith, nat_tests)) k
+  unread _ _ _ rest (legacy_octal (octal3 {c} {d} {f} h k l) x) = unread_low c d (f ∷ rest) (grind (arith, nat_tests)) k
   unread _ _ _ rest (identity {c} h) = unread_identity inside e c rest h
 
   -- spelled → read, among all escapes
@@ -311,11 +313,7 @@ module _ (inside : Bool) (e : Environment) where
   legacy_low : (kind : CharacterKind) (v : ℕ) (w rest : List ℕ) → SpellsLegacy inside e kind v w rest → front_is (λ c. nat_le c 0x10FFFF) (w ++ rest) ≡ true → v ≤ 0x10FFFF
   legacy_low _ _ _ _ (lone h) n = omega arith
   legacy_low _ _ _ rest (class_control {c} h k) n = omega arith
-  legacy_low _ _ _ rest (octal_zero h) n = omega arith
-  legacy_low _ _ _ rest (octal1 {c} h k f) n = grind (arith, nat_tests)
-  legacy_low _ _ _ rest (octal2_low {c} {d} h k l f) n = grind (arith, nat_tests)
-  legacy_low _ _ _ rest (octal2_high {c} {d} h k f) n = grind (arith, nat_tests)
-  legacy_low _ _ _ rest (octal3 {c} {d} {f} h k l x) n = grind (arith, nat_tests)
+  legacy_low _ _ _ rest (legacy_octal {v} {w} s f) n = omega (arith, octal_value_small v w rest s)
   legacy_low _ _ _ rest (identity {c} h) n = leb-true c 0x10FFFF n
 
   pub any_small : (kind : CharacterKind) (v n : ℕ) (w : List ℕ) → front_is (λ c. nat_le c 0x10FFFF) w ≡ true → any_escape_at inside e w ≡ escaped kind v n → v ≤ 0x10FFFF
@@ -341,24 +339,24 @@ module _ (inside : Bool) (e : Environment) where
       go (too_many n) = refl
       go no_unicode = cond-true (is_unicode e.mode) _ _ m
 
-  -- What stands behind a backslash where one is spelled: no reference, no assertion and no class escape.
+  -- What stands after a backslash where one is spelled: no reference, no assertion and no class escape.
   pub record LegacyBeginning (w : List ℕ) : Type 0 where
     pub first : ℕ
-    pub behind : List ℕ
-    pub whole : w ≡ first ∷ behind
-    pub free : is_free inside e.groups (first ∷ behind) ≡ true
+    pub following : List ℕ
+    pub whole : w ≡ first ∷ following
+    pub free : is_free inside e.groups (first ∷ following) ≡ true
     pub no_k : (first == 107 && e.named) ≡ false
     pub no_boundary : (not inside && first == 66) ≡ false
     pub no_b : (first == 98) ≡ false
     pub no_class : class_escape_at first ≡ None
 
   begins_with_c : (w : List ℕ) → LegacyBeginning (99 ∷ w)
-  begins_with_c w = record { first = 99; behind = w; whole = refl; free = or-true inside; no_k = refl; no_boundary = and-false (not inside); no_b = refl; no_class = refl }
+  begins_with_c w = record { first = 99; following = w; whole = refl; free = or-true inside; no_k = refl; no_boundary = and-false (not inside); no_b = refl; no_class = refl }
 
   begins_with_digit : (c : ℕ) (w : List ℕ) → is_decimal_digit c ≡ true → is_free inside e.groups (c ∷ w) ≡ true → LegacyBeginning (c ∷ w)
   begins_with_digit c w d f = record {
     first = c;
-    behind = w;
+    following = w;
     whole = refl;
     free = f;
     no_k = grind (arith, nat_tests);
@@ -376,14 +374,14 @@ module _ (inside : Bool) (e : Environment) where
   pub legacy_begins : (kind : CharacterKind) (v : ℕ) (w rest : List ℕ) → SpellsLegacy inside e kind v w rest → LegacyBeginning (w ++ rest)
   legacy_begins _ _ _ _ (lone {rest} h) = begins_with_c rest
   legacy_begins _ _ _ rest (class_control {c} h k) = begins_with_c (c ∷ rest)
-  legacy_begins _ _ _ rest (octal_zero h) = begins_with_digit 48 rest refl (or-true inside)
-  legacy_begins _ _ _ rest (octal1 {c} h k f) = begins_with_digit c rest (grind (arith, nat_tests)) f
-  legacy_begins _ _ _ rest (octal2_low {c} {d} h k n f) = begins_with_digit c (d ∷ rest) (grind (arith, nat_tests)) f
-  legacy_begins _ _ _ rest (octal2_high {c} {d} h k f) = begins_with_digit c (d ∷ rest) (grind (arith, nat_tests)) f
-  legacy_begins _ _ _ rest (octal3 {c} {d} {f} h k l x) = begins_with_digit c (d ∷ f ∷ rest) (grind (arith, nat_tests)) x
+  legacy_begins _ _ _ rest (legacy_octal (octal_zero h) f) = begins_with_digit 48 rest refl (or-true inside)
+  legacy_begins _ _ _ rest (legacy_octal (octal1 {c} h k) f) = begins_with_digit c rest (grind (arith, nat_tests)) f
+  legacy_begins _ _ _ rest (legacy_octal (octal2_low {c} {d} h k n) f) = begins_with_digit c (d ∷ rest) (grind (arith, nat_tests)) f
+  legacy_begins _ _ _ rest (legacy_octal (octal2_high {c} {d} h k) f) = begins_with_digit c (d ∷ rest) (grind (arith, nat_tests)) f
+  legacy_begins _ _ _ rest (legacy_octal (octal3 {c} {d} {f} h k l) x) = begins_with_digit c (d ∷ f ∷ rest) (grind (arith, nat_tests)) x
   legacy_begins _ _ _ rest (identity {c} h) = record {
     first = c;
-    behind = rest;
+    following = rest;
     whole = refl;
     free = h.no_reference;
     no_k = swapped e.named (c == 107) h.no_k;
@@ -405,7 +403,7 @@ either false r s p q = q
 
 -- With neither `u` nor `v` alone no escape is refused.
 module _ (inside : Bool) (e : Environment) where
-  control_no_refusal : (w : List ℕ) → IsCharacterOrNothing (control_behind inside w)
+  control_no_refusal : (w : List ℕ) → IsCharacterOrNothing (control_after inside w)
   control_no_refusal [] = tt
   control_no_refusal (c ∷ w) = either (is_some (control_letter_value c)) _ _ tt (either (inside && is_class_control c) _ _ tt tt)
 
@@ -428,11 +426,7 @@ module _ (inside : Bool) (e : Environment) where
   pub legacy_small : (kind : CharacterKind) (v : ℕ) (w rest : List ℕ) → SpellsLegacy inside e kind v w rest → All (λ c. c ≤ 0x10FFFF) (w ++ rest) → v ≤ 0x10FFFF
   legacy_small _ _ _ _ (lone h) small = omega arith
   legacy_small _ _ _ _ (class_control {c} h k) small = grind (arith, nat_tests)
-  legacy_small _ _ _ _ (octal_zero h) small = omega arith
-  legacy_small _ _ _ _ (octal1 {c} h k f) small = grind (arith, nat_tests)
-  legacy_small _ _ _ _ (octal2_low {c} {d} h k n f) small = grind (arith, nat_tests)
-  legacy_small _ _ _ _ (octal2_high {c} {d} h k f) small = grind (arith, nat_tests)
-  legacy_small _ _ _ _ (octal3 {c} {d} {f} h k l x) small = grind (arith, nat_tests)
+  legacy_small _ _ _ rest (legacy_octal {v} {w} s f) small = omega (arith, octal_value_small v w rest s)
   legacy_small _ _ _ rest (identity {c} h) small = All-head (λ c. c ≤ 0x10FFFF) c rest small
 
   -- So what is refused is refused with `u` or `v`, among the escapes of every mode.

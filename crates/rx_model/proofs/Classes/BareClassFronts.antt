@@ -10,11 +10,11 @@ use Rattle.rx_units.specs.Units.{values}
 use Rattle.rx_units.proofs.Choices.{Some-inj}
 use Rattle.rx_model.specs.Classes.ClassBuilds.{class_of_tokens}
 use Rattle.rx_model.specs.Classes.ClassFronts.{AtomRead, atom_read, no_atom, escape_in_class, atom_at, TokenRead, item_where, item_of, high_of, dashed_of, item_before, bracket_at, set_token, fresh_token, operand_of, string_token, token_where, class_token_at, TokensRead, with_token, tokens_on, tokens_from, class_tokens_at, class_in, class_of, class_front}
-use Rattle.rx_model.specs.Classes.ClassRows.{Place, outside, fresh, at_dash, at_high, at_second, at_third, behind_meet, behind_less, in_strings, behind_item, has_hyphen, has_threes, is_dashed, stands_raw_in_class}
+use Rattle.rx_model.specs.Classes.ClassRows.{Place, outside, fresh, at_dash, at_high, at_second, at_third, after_meet, after_less, in_strings, following_item, has_hyphen, has_threes, is_dashed, stands_raw_in_class}
 use Rattle.rx_model.specs.Classes.ClassTokens.{Atom, character, escape, property, ClassToken, closer, item, dash}
 use Rattle.rx_model.specs.Inputs.Environment.{Environment, is_sets}
 use Rattle.rx_model.specs.FirstPass.Marks.{starts}
-use Rattle.rx_model.specs.Reading.ElementKinds.{NestedPlace, behind_of_class}
+use Rattle.rx_model.specs.Reading.ElementKinds.{NestedPlace, after_of_class}
 use Rattle.rx_model.specs.Characters.UnitKinds.{unit_kind}
 use Rattle.rx_model.proofs.Classes.BareClasses.{bare_atom, bare_class_token, class_bare}
 
@@ -119,7 +119,7 @@ module _ (e : Environment) where
   dashed_bare (escape k) n (atom_read b m) = where_bare (has_threes e.mode || is_sets e.mode) (escape k) n
   dashed_bare (property negative may name value) n (atom_read b m) = where_bare (has_threes e.mode || is_sets e.mode) (property negative may name value) n
 
-  -- an atom, by whether it is dashed and what stands behind the dash
+  -- an atom, by whether it is dashed and what stands after the dash
   abbrev item_by : Atom → ℕ → Bool → AtomRead → TokenRead
   item_by a n dashed r = cond dashed (dashed_of e.mode a n r) (Some (item a, n))
 
@@ -164,19 +164,19 @@ module _ (e : Environment) where
   token_same at_high us vs h = high_bare (atom_at e us) ∙ ap high_of (atom_same us vs h) ∙ sym (high_bare (atom_at e vs))
   token_same at_second us vs h = ap (λ w. bare_read (token_where (starts 45 w) (Some (item (character Symbol 45), 1)))) h
   token_same at_third us vs h = item_bare (atom_at e us) ∙ ap item_of (atom_same us vs h) ∙ sym (item_bare (atom_at e vs))
-  token_same behind_meet us vs h =
+  token_same after_meet us vs h =
       token_where_same (is_sets e.mode && not (starts 38 (values us))) (operand_of (atom_at e us) (values us)) (operand_of (atom_at e vs) (values vs)) (operand_same us vs h)
       ∙ ap (λ w. bare_read (token_where (is_sets e.mode && not (starts 38 w)) (operand_of (atom_at e vs) (values vs)))) h
-  token_same behind_less us vs h = token_where_same (is_sets e.mode) (operand_of (atom_at e us) (values us)) (operand_of (atom_at e vs) (values vs)) (operand_same us vs h)
+  token_same after_less us vs h = token_where_same (is_sets e.mode) (operand_of (atom_at e us) (values us)) (operand_of (atom_at e vs) (values vs)) (operand_same us vs h)
   token_same in_strings us vs h = token_where_same (is_sets e.mode) (string_token (atom_at e us) (values us)) (string_token (atom_at e vs) (values vs)) (string_same us vs h)
 
-  -- nor does the place behind a token
-  behind_bare : (p : NestedPlace) (t : ClassToken) (us vs : List CodePoint) → values us ≡ values vs → behind_of_class e (Some p) t us ≡ behind_of_class e (Some p) (bare_class_token t) vs
-  behind_bare p (item a) us vs h = ap (λ w. Some (p.0, behind_item p.1 (is_dashed w && has_threes e.mode))) h
-  behind_bare p t us vs h = refl
+  -- nor does the place after a token
+  after_bare : (p : NestedPlace) (t : ClassToken) (us vs : List CodePoint) → values us ≡ values vs → after_of_class e (Some p) t us ≡ after_of_class e (Some p) (bare_class_token t) vs
+  after_bare p (item a) us vs h = ap (λ w. Some (p.0, following_item p.1 (is_dashed w && has_threes e.mode))) h
+  after_bare p t us vs h = refl
 
-  behind_same : (p : NestedPlace) (t s : ClassToken) (us vs : List CodePoint) → bare_class_token t ≡ bare_class_token s → values us ≡ values vs → behind_of_class e (Some p) t us ≡ behind_of_class e (Some p) s vs
-  behind_same p t s us vs h k = behind_bare p t us vs k ∙ ap (λ t. behind_of_class e (Some p) t vs) h ∙ sym (behind_bare p s vs vs refl)
+  after_same : (p : NestedPlace) (t s : ClassToken) (us vs : List CodePoint) → bare_class_token t ≡ bare_class_token s → values us ≡ values vs → after_of_class e (Some p) t us ≡ after_of_class e (Some p) s vs
+  after_same p t s us vs h k = after_bare p t us vs k ∙ ap (λ t. after_of_class e (Some p) t vs) h ∙ sym (after_bare p s vs vs refl)
 
   from_same : (p : NestedPlace) (us vs : List CodePoint) (r s : TokenRead) (f g : NestedPlace → ℕ → TokensRead) → values us ≡ values vs → bare_read r ≡ bare_read s →
       ((q : NestedPlace) (n : ℕ) → bare_tokens_read (f q n) ≡ bare_tokens_read (g q n)) → bare_tokens_read (tokens_from e p us r f) ≡ bare_tokens_read (tokens_from e p vs s g)
@@ -187,9 +187,9 @@ module _ (e : Environment) where
       let pair : (bare_class_token r.0, r.1) ≡ (bare_class_token s.0, s.1) = Some-inj k in
       let same : bare_class_token r.0 ≡ bare_class_token s.0 = ap (λ x. x.0) pair in
       let count : r.1 ≡ s.1 = ap (λ x. x.1) pair in
-      let here = behind_of_class e (Some p) r.0 (drop r.1 us) in
-      let there = behind_of_class e (Some p) s.0 (drop s.1 vs) in
-      let place : here ≡ there = behind_same p r.0 s.0 (drop r.1 us) (drop s.1 vs) same (drop_values r.1 us vs h ∙ ap (λ n. values (drop n vs)) count) in
+      let here = after_of_class e (Some p) r.0 (drop r.1 us) in
+      let there = after_of_class e (Some p) s.0 (drop s.1 vs) in
+      let place : here ≡ there = after_same p r.0 s.0 (drop r.1 us) (drop s.1 vs) same (drop_values r.1 us vs h ∙ ap (λ n. values (drop n vs)) count) in
       with_bare r.0 r.1 (tokens_on r.1 here f)
       ∙ ap (with_token (bare_class_token r.0) r.1) (on_same r.1 here f g more)
       ∙ ap₂ (λ t q. with_token t r.1 (bare_tokens_read (tokens_on r.1 q g))) same place

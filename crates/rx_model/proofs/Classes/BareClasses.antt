@@ -7,7 +7,7 @@ use Rattle.rx_ast.specs.declared.class.ClassString.{ClassString}
 use Rattle.rx_ast.specs.ClassTree.{Member, Members, no_member, member, class}
 use Rattle.rx_ast.specs.ClassTree as tree
 use Rattle.rx_ast.specs.Forget.{nowhere, forget_character, forget_string, forget_member, forget_members, forget_class, no_kind}
-use Rattle.rx_model.specs.Classes.ClassBuilds.{character_of, atom_member, range_member, string_of, strings_member, with_last, kind_of, Level, level_of, class_of_level, Begun, nothing_begun, behind_low, behind_dash, inside_strings, Building, before_class, inside_class, whole_class, no_class, holding_member, operated, class_closed, build_in, build_step, build_class, class_built, class_of_tokens}
+use Rattle.rx_model.specs.Classes.ClassBuilds.{character_of, atom_member, range_member, string_of, strings_member, with_last, kind_of, Level, level_of, class_of_level, Begun, nothing_begun, after_low, after_dash, inside_strings, Building, before_class, inside_class, whole_class, no_class, holding_member, operated, class_closed, build_in, build_step, build_class, class_built, class_of_tokens}
 use Rattle.rx_model.specs.Classes.ClassRuns.{Held, is_whole, less_by, met_by, operand, ranged}
 use Rattle.rx_model.specs.Classes.ClassTokens.{Atom, character, escape, property, ClassToken, bracket, closer, item, low, dash, high, meet, less, strings, letter, string_bar, strings_end}
 use Rattle.rx_model.proofs.Classes.ClassUnspanned.{may_forget, some_strings}
@@ -47,8 +47,8 @@ bare_strings ss = map (forget_string no_kind) ss
 
 abbrev bare_begun : Begun → Begun
 bare_begun nothing_begun = nothing_begun
-bare_begun (behind_low k v) = behind_low Symbol v
-bare_begun (behind_dash k v) = behind_dash Symbol v
+bare_begun (after_low k v) = after_low Symbol v
+bare_begun (after_dash k v) = after_dash Symbol v
 bare_begun (inside_strings ss cs) = inside_strings (bare_strings ss) (bare_letters cs)
 
 abbrev bare_building : Building → Building
@@ -106,8 +106,8 @@ in_bare closer nothing_begun l outer = closed_bare (is_whole l.held) l outer
 in_bare (item a) nothing_begun l outer =
     holding_bare l outer (atom_member a) (operand l.held) ∙ ap (λ m. holding_member (bare_level l) (bare_levels outer) m (operand l.held)) (atom_bare a)
 in_bare (low k v) nothing_begun l outer = refl
-in_bare dash (behind_low k v) l outer = refl
-in_bare (high j x) (behind_dash k v) l outer = holding_bare l outer (range_member k v j x) (ranged l.held)
+in_bare dash (after_low k v) l outer = refl
+in_bare (high j x) (after_dash k v) l outer = holding_bare l outer (range_member k v j x) (ranged l.held)
 in_bare meet nothing_begun l outer = operated_bare l outer (met_by l.held)
 in_bare less nothing_begun l outer = operated_bare l outer (less_by l.held)
 in_bare strings nothing_begun l outer = refl

@@ -22,7 +22,7 @@ use Rattle.rx_model.proofs.Classes.ClassFronts.{single}
 use Rattle.rx_model.proofs.Classes.ClassStates.{row_shorter}
 use Rattle.rx_model.proofs.Classes.ClassStops.{item_between}
 use Rattle.rx_model.proofs.Classes.ClassWholes.{class_opened-append, whole_class}
-use Rattle.rx_model.proofs.Classes.OneInClass.{fault_behind}
+use Rattle.rx_model.proofs.Classes.OneInClass.{fault_after}
 use Rattle.rx_model.proofs.Reading.Prefixes.{class_prefixes}
 use Rattle.rx_model.proofs.Reading.Fronts.{at_bracket, front_spelled}
 use Rattle.rx_model.proofs.Refusals.BlockedPlaces.{IsBlocked, next, same_token}
@@ -52,24 +52,24 @@ module _ (mode : Mode) (us : List CodePoint) (start added from : ℕ) (at_class 
   pub at_bracket_is : (f : ℕ) (d : Diagnostic) → Stops f d → (u : CodePoint) × (more : List CodePoint) × (at_class ≡ u ∷ more) × (u.value ≡ 91)
   at_bracket_is f d x = let s = x.state in first_bracket here s.tokens at_class s.at s.rest (s.inner ∷ s.outer) x.is_stuck.accepted x.is_stuck.row
 
-  pub behind_bracket : (f : ℕ) (d : Diagnostic) → Stops f d → from ≤ f
-  behind_bracket f d x =
+  pub after_bracket : (f : ℕ) (d : Diagnostic) → Stops f d → from ≤ f
+  after_bracket f d x =
       let s = x.state in
-      omega (arith, fault_behind mode us start added from at_class s f d x.fault, x.is_stuck.place_is, row_shorter here s.tokens outside at_class s.at s.rest x.is_stuck.row)
+      omega (arith, fault_after mode us start added from at_class s f d x.fault, x.is_stuck.place_is, row_shorter here s.tokens outside at_class s.at s.rest x.is_stuck.row)
 
   -- No item place stands beyond.
   pub item_beyond : (f : ℕ) (d : Diagnostic) → Stops f d → (further : ℕ) (back : List CodePoint) → IsItemPlace here from at_class further back → f < further → ⊥
   item_beyond f d x further back j less =
       let s = x.state in
-      let behind = fault_behind mode us start added from at_class s f d x.fault in
+      let following = fault_after mode us start added from at_class s f d x.fault in
       elim (class_prefixes here s.tokens j.tokens outside at_class s.at s.rest j.at back x.is_stuck.row j.row) [
-        | inl p ↦ go behind p.0 p.1 p.2
-        | inr p ↦ omega (arith, row_shorter here p.0 j.at back s.at s.rest p.2, x.is_stuck.place_is, j.place_is, behind, less)
+        | inl p ↦ go following p.0 p.1 p.2
+        | inr p ↦ omega (arith, row_shorter here p.0 j.at back s.at s.rest p.2, x.is_stuck.place_is, j.place_is, following, less)
       ]
     where
       go : x.state.place ≤ f → (xs : List ClassToken) → j.tokens ≡ x.state.tokens ++ xs → ClassTokenRow here xs x.state.at x.state.rest j.at back → ⊥
-      go behind [] e r = omega (arith, ap length r.1, x.is_stuck.place_is, j.place_is, behind, less)
-      go behind (t ∷ ts) e r =
+      go following [] e r = omega (arith, ap length r.1, x.is_stuck.place_is, j.place_is, following, less)
+      go following (t ∷ ts) e r =
           x.is_stuck.blocked t ts j.at back (j.inner ∷ j.outer) (item_between j.at j.begins) r
           (sym (class_opened-append x.state.tokens (t ∷ ts) (x.state.inner ∷ x.state.outer) x.is_stuck.accepted) ∙ ap class_opened (sym e) ∙ j.accepted)
 

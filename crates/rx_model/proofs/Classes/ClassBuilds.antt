@@ -16,9 +16,9 @@ use Rattle.rx_ast.specs.Forget.{nowhere, forget_character, forget_string, forget
 use Rattle.rx_units.proofs.Choices.{Some-inj}
 use Rattle.rx_model.specs.Classes.ClassBuilds.{string_of, strings_member, with_last, kind_of, Level, level_of, class_of_level, nothing_begun, inside_strings, Building, inside_class, no_class, holding_member, class_closed, operated, build_class, class_built, class_of_tokens}
 use Rattle.rx_model.specs.Classes.ClassRuns.{Held, empty, single, several, meeting, met, lessening, lessened, is_whole, less_by, met_by, operand, ranged}
-use Rattle.rx_model.specs.Classes.ClassShapes.{AreFitting, AreFlagged, AreOperands, FitsKind, IsFitting, IsFittingMember, IsFlagged, IsFlaggedMember, IsFlaggedString, IsOperand}
+use Rattle.rx_model.specs.Classes.ClassShapes.{AreFitting, AreFlagged, AreOperands, FitsKind, IsFitting, IsFittingMember, IsFlagged, IsFlaggedMember, IsOperand}
 use Rattle.rx_model.specs.Classes.ClassTokens.{ClassToken, closer, meet, less, strings, strings_end, token, leave, class_tokens, class_tokens_of, strings_events}
-use Rattle.rx_model.specs.Trees.Early.{may_contain_strings}
+use Rattle.rx_model.specs.Trees.Early.{IsFlaggedString, may_contain_strings}
 use Rattle.rx_model.proofs.Classes.ClassShapes.{IsGrowing, IsLessening, IsMeeting, barred_tokens, between_by, class_tokens_by, contents_tokens, first_after, further_tokens, growing_whole, lessens, letters_tokens, meets, more_after, operand_of, operand_tokens, some_strings, strings_are, with_member}
 use Rattle.rx_model.proofs.Classes.ClassUnspanned as unspanned
 use Rattle.rx_model.proofs.Classes.ClassUnspanned.{may_forget}
@@ -57,7 +57,7 @@ letters_build l outer whole (c ∷ cs) ds ts =
 pub string_is : (s : ClassString) → IsFlaggedString s → string_of (map plain_character s.body) ≡ plain_string s
 string_is s flag = ap (λ b. record { span = nowhere; strings = b; body = map plain_character s.body }) (ap (λ n. not (n == 1)) (length-map s.body plain_character) ∙ sym flag)
 
--- Class strings from the first on, behind others.
+-- Class strings from the first on, after others.
 strings_build : (l : Level) (outer : List Level) (whole : List ClassString) (s : ClassString) (ss : List ClassString) (more : List ClassToken) → All IsFlaggedString (s ∷ ss) →
     build_class (letters_tokens s.body ++ (barred_tokens ss ++ (strings_end ∷ more))) (inside_class l outer (inside_strings whole []))
     ≡ build_class more (holding_member l outer (strings_member (whole ++ map plain_string (s ∷ ss))) (operand l.held))
@@ -120,7 +120,7 @@ union_on (member m ms) all negative held old outer g =
           ∙ ap (λ ms. build_class ss (inside negative more.0 ms outer)) (joined_last old plain (forget_members same_kind ms)),
     )
 
--- one operand more behind `&&`
+-- one operand more after `&&`
 meet_one : (m : Member) (ts ss : List ClassToken) → Builds m → IsOperand m → (negative : Bool) (held : Held) (old : Members) (outer : List Level) → IsMeeting held →
     build_class ((meet ∷ (operand_tokens m ++ ts)) ++ ss) (inside negative held old outer) ≡ build_class (ts ++ ss) (inside negative met (with_last old (forget_member same_kind m)) outer)
 meet_one m ts ss builds o negative held old outer g =
@@ -142,7 +142,7 @@ meet_on (member m ms) all os negative old outer =
           ∙ ap (λ ms. build_class ss (inside negative more.0 ms outer)) (joined_last old plain (forget_members same_kind ms)),
     )
 
--- the same behind `--`
+-- the same after `--`
 less_one : (m : Member) (ts ss : List ClassToken) → Builds m → IsOperand m → (negative : Bool) (held : Held) (old : Members) (outer : List Level) → IsLessening held →
     build_class ((less ∷ (operand_tokens m ++ ts)) ++ ss) (inside negative held old outer) ≡ build_class (ts ++ ss) (inside negative lessened (with_last old (forget_member same_kind m)) outer)
 less_one m ts ss builds o negative held old outer g =
@@ -211,7 +211,7 @@ level_is s negative may kind ms held k flag =
     let plain = forget_members same_kind ms in
     ap (λ kind. class nowhere negative (may_contain_strings kind plain) kind plain) k ∙ ap (λ may. class nowhere negative may kind plain) (may_forget same_kind kind ms ∙ sym flag)
 
--- the tokens of a class from behind its bracket on
+-- the tokens of a class from after its bracket on
 class_rest : (s : Span) (negative may : Bool) (kind : CharacterClassContentsKind) (ms : Members) (outer : List Level) → AllBuild ms → FitsKind kind ms → may ≡ may_contain_strings kind ms → (ss : List ClassToken) →
     (l : Level) × (class_of_level l ≡ forget_class same_kind (class s negative may kind ms)) ×
     (build_class ((contents_tokens (between_by kind) ms ++ (closer ∷ [])) ++ ss) (inside negative empty no_member outer) ≡ build_class ss (class_closed l outer))

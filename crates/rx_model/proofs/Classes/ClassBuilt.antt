@@ -10,11 +10,11 @@ use Rattle.rx_ast.specs.declared.class.ClassString.{ClassString}
 use Rattle.rx_ast.specs.ClassTree.{Class, Member, Members, no_member, member, class}
 use Rattle.rx_ast.specs.ClassTree as tree
 use Rattle.rx_ast.specs.Forget.{nowhere, forget_character, forget_string, forget_member, forget_members, forget_class, same_kind}
-use Rattle.rx_model.specs.Classes.ClassBuilds.{character_of, atom_member, range_member, string_of, strings_member, with_last, kind_of, Level, level_of, class_of_level, Begun, nothing_begun, behind_low, behind_dash, inside_strings, Building, before_class, inside_class, whole_class, no_class, holding_member, class_closed, operated, build_in, build_step, build_class, class_built, class_of_tokens}
+use Rattle.rx_model.specs.Classes.ClassBuilds.{character_of, atom_member, range_member, string_of, strings_member, with_last, kind_of, Level, level_of, class_of_level, Begun, nothing_begun, after_low, after_dash, inside_strings, Building, before_class, inside_class, whole_class, no_class, holding_member, class_closed, operated, build_in, build_step, build_class, class_built, class_of_tokens}
 use Rattle.rx_model.specs.Classes.ClassRuns.{Held, empty, single, several, meeting, met, lessening, lessened, is_whole, less_by, met_by, operand, ranged}
-use Rattle.rx_model.specs.Classes.ClassShapes.{AreFitting, AreFlagged, AreOperands, AreTwo, FitsKind, IsFitting, IsFittingMember, IsFlagged, IsFlaggedMember, IsFlaggedString, IsOperand}
+use Rattle.rx_model.specs.Classes.ClassShapes.{AreFitting, AreFlagged, AreOperands, AreTwo, FitsKind, IsFitting, IsFittingMember, IsFlagged, IsFlaggedMember, IsOperand}
 use Rattle.rx_model.specs.Classes.ClassTokens.{Atom, character, escape, property, ClassToken, bracket, closer, item, low, dash, high, meet, less, strings, letter, string_bar, strings_end, class_tokens}
-use Rattle.rx_model.specs.Trees.Early.{may_contain_strings}
+use Rattle.rx_model.specs.Trees.Early.{IsFlaggedString, may_contain_strings}
 use Rattle.rx_model.proofs.Classes.ClassFlags.{IsFlaggedAtom, IsFlaggedToken, AreFlaggedTokens}
 use Rattle.rx_model.proofs.Classes.ClassShapes.{barred_tokens, between_by, class_tokens_by, contents_tokens, further_tokens, letters_tokens, operand_tokens, strings_are}
 
@@ -117,18 +117,18 @@ of_union held ms m after none k none_after union new = record {
       ∙ ap (λ ts. ts ++ operand_tokens m) (sym (append-nil (contents_tokens [] ms)) ∙ ap₂ (λ kind last. contents_tokens (between_by kind) ms ++ last) (sym k) (sym none));
 }
 
-behind_operator : (operator : ClassToken) (ms : Members) (m : Member) → IsSome ms →
+after_operator : (operator : ClassToken) (ms : Members) (m : Member) → IsSome ms →
     contents_tokens (operator ∷ []) (with_last ms m) ++ [] ≡ (contents_tokens (operator ∷ []) ms ++ (operator ∷ [])) ++ operand_tokens m
-behind_operator operator ms m some =
+after_operator operator ms m some =
     append-nil (contents_tokens (operator ∷ []) (with_last ms m)) ∙ contents_last (operator ∷ []) ms m some ∙ sym (append_assoc (contents_tokens (operator ∷ []) ms) (operator ∷ []) (operand_tokens m))
 
 one_operand : (held : Held) (ms : Members) (m : Member) → IsOperand m → HoldsMembers held ms → GrowsBy held ms (operand_tokens m) (operand held) (with_last ms m)
 one_operand empty ms m o h = of_union empty ms m single refl refl refl refl (m, ap (λ ms. with_last ms m) h, o)
 one_operand single ms m o h = of_union single ms m several refl refl refl refl tt
 one_operand several ms m o h = of_union several ms m several refl refl refl refl tt
-one_operand meeting ms m o h = record { holds = (some_last ms m h.0, operands_last ms m h.1 o); tokens = behind_operator meet ms m h.0 }
+one_operand meeting ms m o h = record { holds = (some_last ms m h.0, operands_last ms m h.1 o); tokens = after_operator meet ms m h.0 }
 one_operand met ms m o h = tt
-one_operand lessening ms m o h = record { holds = (some_last ms m h.0, operands_last ms m h.1 o); tokens = behind_operator less ms m h.0 }
+one_operand lessening ms m o h = record { holds = (some_last ms m h.0, operands_last ms m h.1 o); tokens = after_operator less ms m h.0 }
 one_operand lessened ms m o h = tt
 
 one_range : (held : Held) (ms : Members) (m : Member) → HoldsMembers held ms → GrowsBy held ms (operand_tokens m) (ranged held) (with_last ms m)
@@ -179,8 +179,8 @@ strings_tokens (s ∷ ss) cs = letters_tokens s.body ++ (string_bar ∷ strings_
 
 abbrev begun_tokens : Begun → List ClassToken
 begun_tokens nothing_begun = []
-begun_tokens (behind_low k v) = low k v ∷ []
-begun_tokens (behind_dash k v) = low k v ∷ dash ∷ []
+begun_tokens (after_low k v) = low k v ∷ []
+begun_tokens (after_dash k v) = low k v ∷ dash ∷ []
 begun_tokens (inside_strings ss cs) = strings ∷ strings_tokens ss cs
 
 record IsLevel (l : Level) : Type 0 where
@@ -199,8 +199,8 @@ IsPlainCharacter c = forget_character same_kind c ≡ c
 
 abbrev HasBegun : Begun → Type 0
 HasBegun nothing_begun = Unit {0}
-HasBegun (behind_low k v) = Unit {0}
-HasBegun (behind_dash k v) = Unit {0}
+HasBegun (after_low k v) = Unit {0}
+HasBegun (after_dash k v) = Unit {0}
 HasBegun (inside_strings ss cs) = All IsPlainString ss × All IsPlainCharacter cs
 
 -- A class without spans that has these tokens, and what it owes to the grammar.
@@ -370,8 +370,8 @@ in_built closer nothing_begun ts l outer f h level levels b = if_whole ts l oute
 in_built (item a) nothing_begun ts l outer f h level levels b =
     grown ts (item a ∷ []) l outer [] (atom_member a) (operand l.held) h (atom_tokens a) level levels (atom_plain a f) (one_operand l.held l.members (atom_member a) (atom_operand a) level.holds)
 in_built (low k v) nothing_begun ts l outer f h level levels b = (goes_on ts _ [] (low k v ∷ []) (low k v ∷ []) h refl, level, levels, tt)
-in_built dash (behind_low k v) ts l outer f h level levels b = (goes_on ts _ (low k v ∷ []) (low k v ∷ dash ∷ []) (dash ∷ []) h refl, level, levels, tt)
-in_built (high j x) (behind_dash k v) ts l outer f h level levels b =
+in_built dash (after_low k v) ts l outer f h level levels b = (goes_on ts _ (low k v ∷ []) (low k v ∷ dash ∷ []) (dash ∷ []) h refl, level, levels, tt)
+in_built (high j x) (after_dash k v) ts l outer f h level levels b =
     grown ts (high j x ∷ []) l outer (low k v ∷ dash ∷ []) (range_member k v j x) (ranged l.held) h refl level levels (record { fits = tt; flagged = tt; plain = refl }) (one_range l.held l.members (range_member k v j x) level.holds)
 in_built meet nothing_begun ts l outer f h level levels b = operator_grown ts meet l outer (met_by l.held) h level levels (one_meet l.held l.members level.holds)
 in_built less nothing_begun ts l outer f h level levels b = operator_grown ts less l outer (less_by l.held) h level levels (one_less l.held l.members level.holds)

@@ -1,16 +1,17 @@
 -- Tokens that are spelled, and accepted as a whole class, are those of a class that is free of early errors.
-use Rattle.std.proofs.Common.{◌≡◌, refl, sym, ap, ◌∙◌, subst, ◌+◌, Bool, true, false, cond, not, ◌&&◌, Option, Some, None, List, [], ◌∷◌, ◌++◌, append_assoc}
+use Rattle.std.proofs.Common.{◌≡◌, refl, sym, ap, ◌∙◌, subst, ◌+◌, Bool, true, false, cond, not, ◌&&◌, Option, Some, None, List, [], ◌∷◌, ◌++◌}
 use Rattle.std.proofs.lemmas.Bool.{and_parts}
 use Rattle.rx_ast.specs.ClassTree.{Class, Member, no_member}
 use Rattle.rx_units.specs.declared.code_point.CodePoint.{CodePoint}
 use Rattle.rx_units.proofs.Choices.{Some-inj}
-use Rattle.rx_model.specs.Classes.ClassBuilds.{Level, level_of, Begun, nothing_begun, behind_low, behind_dash, inside_strings, Building, before_class, inside_class, whole_class, no_class, holding_member, class_closed, operated, build_in, build_class, class_built}
-use Rattle.rx_model.specs.Classes.ClassRows.{Place, outside, fresh, at_dash, at_high, at_second, at_third, behind_meet, behind_less, in_strings, behind_item, behind, SpellsInClass, SpellsOperand, ClassTokenRow, IsClass}
-use Rattle.rx_model.specs.Classes.ClassRuns.{Held, empty, Bracket, Brackets, atom_may, atom_obeys, any_string, behind_step, bracket_of, class_opened, class_run, closed, held_on, holding, in_bracket, is_whole, less_by, may_close, met_by, operand, ranged}
+use Rattle.rx_model.specs.Classes.ClassBuilds.{Level, level_of, Begun, nothing_begun, after_low, after_dash, inside_strings, Building, before_class, inside_class, whole_class, no_class, holding_member, class_closed, operated, build_in, build_class, class_built}
+use Rattle.rx_model.specs.Classes.ClassRows.{Place, outside, fresh, at_dash, at_high, at_second, at_third, after_meet, after_less, in_strings, following_item, next_place, SpellsInClass, SpellsOperand, ClassTokenRow, IsClass}
+use Rattle.rx_model.specs.Classes.ClassRuns.{Held, empty, Bracket, Brackets, atom_may, atom_obeys, any_string, after_step, bracket_of, class_opened, class_run, closed, held_on, holding, in_bracket, is_whole, less_by, may_close, met_by, operand, ranged}
 use Rattle.rx_model.specs.Classes.ClassTokens.{ClassToken, bracket, closer, item, low, dash, high, meet, less, strings, letter, string_bar, strings_end, class_tokens}
 use Rattle.rx_model.specs.Inputs.Environment.{Environment}
 use Rattle.rx_model.specs.Trees.Early.{IsEarlyClass}
 use Rattle.rx_model.proofs.Classes.ClassBuilt.{built_has_tokens}
+use Rattle.rx_model.proofs.Classes.ClassEnds.{row_units}
 use Rattle.rx_model.proofs.Classes.ClassFlags.{row_flagged}
 use Rattle.rx_model.proofs.Classes.ClassShapes.{closes_early}
 use Rattle.rx_model.proofs.Classes.ClassStates.{where_true_both, where_may_is}
@@ -18,9 +19,9 @@ use Rattle.rx_model.proofs.Classes.ClassStates.{where_true_both, where_may_is}
 -- what may have begun at a place
 abbrev BegunAt : Place → Begun → Type 0
 BegunAt outside b = ⊥
-BegunAt at_dash (behind_low k v) = Unit {0}
+BegunAt at_dash (after_low k v) = Unit {0}
 BegunAt at_dash b = ⊥
-BegunAt at_high (behind_dash k v) = Unit {0}
+BegunAt at_high (after_dash k v) = Unit {0}
 BegunAt at_high b = ⊥
 BegunAt in_strings (inside_strings ss cs) = Unit {0}
 BegunAt in_strings b = ⊥
@@ -29,9 +30,9 @@ BegunAt q b = ⊥
 
 -- what a token goes on with
 abbrev Wants : ClassToken → Begun → Type 0
-Wants dash (behind_low k v) = Unit {0}
+Wants dash (after_low k v) = Unit {0}
 Wants dash b = ⊥
-Wants (high k v) (behind_dash j x) = Unit {0}
+Wants (high k v) (after_dash j x) = Unit {0}
 Wants (high k v) b = ⊥
 Wants (letter k v) (inside_strings ss cs) = Unit {0}
 Wants (letter k v) b = ⊥
@@ -42,7 +43,7 @@ Wants strings_end b = ⊥
 Wants t nothing_begun = Unit {0}
 Wants t b = ⊥
 
-item_begins : (q : Place) (first : Bool) → BegunAt (behind_item q first) nothing_begun
+item_begins : (q : Place) (first : Bool) → BegunAt (following_item q first) nothing_begun
 item_begins outside first = tt
 item_begins fresh true = tt
 item_begins fresh false = tt
@@ -50,8 +51,8 @@ item_begins at_dash first = tt
 item_begins at_high first = tt
 item_begins at_second first = tt
 item_begins at_third first = tt
-item_begins behind_meet first = tt
-item_begins behind_less first = tt
+item_begins after_meet first = tt
+item_begins after_less first = tt
 item_begins in_strings first = tt
 
 -- What is open as brackets is open as levels, and holds the same.
@@ -99,23 +100,23 @@ closer_agrees r outer after l levels true e h k s =
     by (r' ∷ outer) (l' ∷ levels) h s = member_agrees r' outer r.may (operand r'.held) after fresh l' levels _ (operand l'.held) h (ap operand s.0) s.1 tt
 
 module _ (e : Environment) where
-  -- behind an operator
-  abbrev IsBehindOperator : Place → Type 0
-  IsBehindOperator behind_meet = Unit {0}
-  IsBehindOperator behind_less = Unit {0}
-  IsBehindOperator q = ⊥
+  -- after an operator
+  abbrev IsAfterOperator : Place → Type 0
+  IsAfterOperator after_meet = Unit {0}
+  IsAfterOperator after_less = Unit {0}
+  IsAfterOperator q = ⊥
 
-  operand_wants : (q : Place) (t : ClassToken) (w more : List CodePoint) (b : Begun) → SpellsOperand e t w more → BegunAt q b → IsBehindOperator q → Wants t b
-  operand_wants behind_meet (item x) w more nothing_begun s a i = tt
-  operand_wants behind_meet (bracket negative) w more nothing_begun s a i = tt
-  operand_wants behind_meet strings w more nothing_begun s a i = tt
-  operand_wants behind_meet t w more nothing_begun s a i = absurd s
-  operand_wants behind_meet t w more b s a i = absurd a
-  operand_wants behind_less (item x) w more nothing_begun s a i = tt
-  operand_wants behind_less (bracket negative) w more nothing_begun s a i = tt
-  operand_wants behind_less strings w more nothing_begun s a i = tt
-  operand_wants behind_less t w more nothing_begun s a i = absurd s
-  operand_wants behind_less t w more b s a i = absurd a
+  operand_wants : (q : Place) (t : ClassToken) (w more : List CodePoint) (b : Begun) → SpellsOperand e t w more → BegunAt q b → IsAfterOperator q → Wants t b
+  operand_wants after_meet (item x) w more nothing_begun s a i = tt
+  operand_wants after_meet (bracket negative) w more nothing_begun s a i = tt
+  operand_wants after_meet strings w more nothing_begun s a i = tt
+  operand_wants after_meet t w more nothing_begun s a i = absurd s
+  operand_wants after_meet t w more b s a i = absurd a
+  operand_wants after_less (item x) w more nothing_begun s a i = tt
+  operand_wants after_less (bracket negative) w more nothing_begun s a i = tt
+  operand_wants after_less strings w more nothing_begun s a i = tt
+  operand_wants after_less t w more nothing_begun s a i = absurd s
+  operand_wants after_less t w more b s a i = absurd a
   operand_wants q t w more b s a i = absurd i
 
   -- A token that is spelled at a place goes on with what may have begun there.
@@ -130,10 +131,10 @@ module _ (e : Environment) where
   wants fresh less w more nothing_begun s a = tt
   wants fresh t w more nothing_begun s a = absurd s
   wants fresh t w more b s a = absurd a
-  wants at_dash dash w more (behind_low k v) s a = tt
+  wants at_dash dash w more (after_low k v) s a = tt
   wants at_dash dash w more b s a = absurd a
   wants at_dash t w more b s a = absurd s
-  wants at_high (high j x) w more (behind_dash k v) s a = tt
+  wants at_high (high j x) w more (after_dash k v) s a = tt
   wants at_high (high j x) w more b s a = absurd a
   wants at_high t w more b s a = absurd s
   wants at_second (item x) w more nothing_begun s a = tt
@@ -142,8 +143,8 @@ module _ (e : Environment) where
   wants at_third (item x) w more nothing_begun s a = tt
   wants at_third (item x) w more b s a = absurd a
   wants at_third t w more b s a = absurd s
-  wants behind_meet t w more b s a = operand_wants behind_meet t w more b s.1 a tt
-  wants behind_less t w more b s a = operand_wants behind_less t w more b s.1 a tt
+  wants after_meet t w more b s a = operand_wants after_meet t w more b s.1 a tt
+  wants after_less t w more b s a = operand_wants after_less t w more b s.1 a tt
   wants in_strings (letter k v) w more (inside_strings ss cs) s a = tt
   wants in_strings string_bar w more (inside_strings ss cs) s a = tt
   wants in_strings strings_end w more (inside_strings ss cs) s a = tt
@@ -151,17 +152,17 @@ module _ (e : Environment) where
   wants in_strings t w more b s a = absurd a
 
   step_agrees : (q : Place) (t : ClassToken) (w more : List CodePoint) (r : Bracket) (outer after : Brackets) (l : Level) (levels : List Level) (b : Begun) → in_bracket t r outer ≡ Some after → r.held ≡ l.held → AreSame outer levels → Wants t b →
-      Agrees after (behind e.mode q t more) (build_in t b l levels)
+      Agrees after (next_place e.mode q t more) (build_in t b l levels)
   step_agrees q (bracket negative) w more r outer after l levels nothing_begun h k s b = now (bracket_of negative empty false ∷ r ∷ outer) after fresh (inside_class (level_of negative empty no_member) (l ∷ levels) nothing_begun) (where_may_is (operand r.held) _ after h) (refl, (k, s), tt)
   step_agrees q closer w more r outer after l levels nothing_begun h k s b = closer_agrees r outer after l levels (may_close r) refl h k s
   step_agrees q (item a) w more r outer after l levels nothing_begun h k s b =
-      member_agrees r outer (atom_may a) (operand r.held) after (behind e.mode q (item a) more) l levels _ (operand l.held) (where_true_both (atom_obeys a) _ after h).1 (ap operand k) s (item_begins q _)
-  step_agrees q (low k v) w more r outer after l levels nothing_begun h same s b = now (record r { low_end = v } ∷ outer) after at_dash (inside_class l levels (behind_low k v)) (where_may_is (ranged r.held) _ after h) (same, s, tt)
-  step_agrees q dash w more r outer after l levels (behind_low k v) h same s b = now (r ∷ outer) after at_high (inside_class l levels (behind_dash k v)) (Some-inj h) (same, s, tt)
-  step_agrees q (high j x) w more r outer after l levels (behind_dash k v) h same s b =
+      member_agrees r outer (atom_may a) (operand r.held) after (next_place e.mode q (item a) more) l levels _ (operand l.held) (where_true_both (atom_obeys a) _ after h).1 (ap operand k) s (item_begins q _)
+  step_agrees q (low k v) w more r outer after l levels nothing_begun h same s b = now (record r { low_end = v } ∷ outer) after at_dash (inside_class l levels (after_low k v)) (where_may_is (ranged r.held) _ after h) (same, s, tt)
+  step_agrees q dash w more r outer after l levels (after_low k v) h same s b = now (r ∷ outer) after at_high (inside_class l levels (after_dash k v)) (Some-inj h) (same, s, tt)
+  step_agrees q (high j x) w more r outer after l levels (after_dash k v) h same s b =
       member_agrees r outer false (ranged r.held) after fresh l levels _ (ranged l.held) (where_true_both _ _ after h).1 (ap ranged same) s tt
-  step_agrees q meet w more r outer after l levels nothing_begun h k s b = operator_agrees r outer (met_by r.held) after behind_meet l levels (met_by l.held) h (ap met_by k) s tt
-  step_agrees q less w more r outer after l levels nothing_begun h k s b = operator_agrees r outer (less_by r.held) after behind_less l levels (less_by l.held) h (ap less_by k) s tt
+  step_agrees q meet w more r outer after l levels nothing_begun h k s b = operator_agrees r outer (met_by r.held) after after_meet l levels (met_by l.held) h (ap met_by k) s tt
+  step_agrees q less w more r outer after l levels nothing_begun h k s b = operator_agrees r outer (less_by r.held) after after_less l levels (less_by l.held) h (ap less_by k) s tt
   step_agrees q strings w more r outer after l levels nothing_begun h k s b = now (record r { count = 0; any = false } ∷ outer) after in_strings (inside_class l levels (inside_strings [] [])) (where_may_is (operand r.held) _ after h) (k, s, tt)
   step_agrees q (letter k v) w more r outer after l levels (inside_strings ss cs) h same s b = now (record r { count = r.count + 1 } ∷ outer) after in_strings (build_in (letter k v) (inside_strings ss cs) l levels) (Some-inj (where_true_both _ _ after h).1) (same, s, tt)
   step_agrees q string_bar w more r outer after l levels (inside_strings ss cs) h same s b = now (record r { count = 0; any = any_string r } ∷ outer) after in_strings (build_in string_bar (inside_strings ss cs) l levels) (Some-inj h) (same, s, tt)
@@ -184,10 +185,10 @@ module _ (e : Environment) where
   builds_class (t ∷ ts) (r ∷ outer) q (whole_class c) us rest row h a = absurd a
   builds_class (t ∷ ts) (r ∷ outer) q no_class us rest row h a = absurd a
   builds_class (t ∷ ts) (r ∷ outer) q (inside_class l levels b) us rest row h a =
-      go (in_bracket t r outer) refl h (λ after run agrees. builds_class ts after (behind e.mode q t row.1) (build_in t b l levels) row.1 rest row.4 run agrees)
+      go (in_bracket t r outer) refl h (λ after run agrees. builds_class ts after (next_place e.mode q t row.1) (build_in t b l levels) row.1 rest row.4 run agrees)
     where
-      go : (o : Option Brackets) → in_bracket t r outer ≡ o → behind_step o (λ after. class_run ts after) ≡ Some [] →
-          ((after : Brackets) → class_run ts after ≡ Some [] → Agrees after (behind e.mode q t row.1) (build_in t b l levels) → (c : Class) × (build_class ts (build_in t b l levels) ≡ whole_class c)) →
+      go : (o : Option Brackets) → in_bracket t r outer ≡ o → after_step o (λ after. class_run ts after) ≡ Some [] →
+          ((after : Brackets) → class_run ts after ≡ Some [] → Agrees after (next_place e.mode q t row.1) (build_in t b l levels) → (c : Class) × (build_class ts (build_in t b l levels) ≡ whole_class c)) →
           (c : Class) × (build_class ts (build_in t b l levels) ≡ whole_class c)
       go None f k again = absurd (let no : ⊥ = cc k in no)
       go (Some after) f k again = again after k (step_agrees q t row.0 row.1 r outer after l levels b f a.0 a.1 (wants q t row.0 row.1 b row.3 a.2))
@@ -201,19 +202,13 @@ module _ (e : Environment) where
     pub early : IsEarlyClass it
     pub tokens : class_tokens it ≡ ts
 
-  pub row_front : (ts : List ClassToken) (q : Place) (us : List CodePoint) (r : Place) (rest : List CodePoint) → ClassTokenRow e ts q us r rest → (w : List CodePoint) × (us ≡ w ++ rest)
-  row_front [] q us r rest row = ([], row.1)
-  row_front (t ∷ ts) q us r rest row =
-      let f = row_front ts (behind e.mode q t row.1) row.1 r rest row.4 in
-      (row.0 ++ f.0, row.2 ∙ ap (λ v. row.0 ++ v) f.1 ∙ sym (append_assoc row.0 f.0 rest))
-
   -- Tokens that lead from before a bracket to where all brackets have closed are those of a class.
   pub closed_class : (ts : List ClassToken) (us rest : List CodePoint) → ClassTokenRow e ts outside us fresh rest → class_opened ts ≡ Some [] → ClosedClass ts us rest
   closed_class [] us rest row h = absurd (let no : ⊥ = cc h in no)
   closed_class ((bracket negative) ∷ ts) us rest row h =
       let b = builds_class ts (bracket_of negative empty false ∷ []) fresh (inside_class (level_of negative empty no_member) [] nothing_begun) row.1 rest row.4 h (refl, tt, tt) in
       let t = built_has_tokens (bracket negative ∷ ts) b.0 (row_flagged e (bracket negative ∷ ts) outside us fresh rest row) (ap class_built b.1) in
-      let f = row_front (bracket negative ∷ ts) outside us fresh rest row in
+      let f = row_units e (bracket negative ∷ ts) outside us fresh rest row in
       record {
         it = b.0;
         w = f.0;

@@ -1,4 +1,4 @@
--- The tokens of a class are a list that ends behind its closer: what stands between is balanced.
+-- The tokens of a class are a list that ends after its closer: what stands between is balanced.
 use Rattle.std.proofs.Common.{◌≡◌, refl, sym, ap, ap₂, ◌∙◌, subst, ℕ, zero, suc, Bool, true, false, Option, Some, None, List, [], ◌∷◌, ◌++◌, append_assoc, append-nil}
 use Rattle.rx_base.specs.declared.span.Span.{Span}
 use Rattle.rx_ast.specs.declared.leaf.Character.{Character}
@@ -8,16 +8,16 @@ use Rattle.rx_ast.specs.declared.class.ClassString.{ClassString}
 use Rattle.rx_ast.specs.ClassTree as tree
 use Rattle.rx_ast.specs.ClassTree.{Class, Member, Members, no_member, member, class}
 use Rattle.rx_units.specs.declared.code_point.CodePoint.{CodePoint}
-use Rattle.rx_model.specs.Classes.ClassRows.{Place, outside, fresh, at_dash, at_high, at_second, at_third, behind_meet, behind_less, in_strings, behind_item, behind, ClassTokenRow, IsClass}
+use Rattle.rx_model.specs.Classes.ClassRows.{Place, outside, fresh, at_dash, at_high, at_second, at_third, after_meet, after_less, in_strings, following_item, next_place, ClassTokenRow, IsClass}
 use Rattle.rx_model.specs.Classes.ClassTokens.{ClassToken, bracket, closer, item, low, dash, high, meet, less, strings, letter, string_bar, strings_end, ClassEvents, token, class_tokens_of, within, letters_events, string_events, barred_strings_events, strings_events, operator_events, member_events, class_events, members_events, more_members_events, class_tokens}
-use Rattle.rx_model.specs.Reading.ElementKinds.{NestedPlace, SpellsOfClass, behind_of_class, opened}
+use Rattle.rx_model.specs.Reading.ElementKinds.{NestedPlace, SpellsOfClass, after_of_class, opened}
 use Rattle.rx_model.specs.Inputs.Environment.{Environment}
 use Rattle.rx_units.specs.Sequences.{ElementRow}
 use Rattle.rx_model.proofs.Classes.ClassShapes.{between_by, class_tokens_by, contents_are, contents_tokens}
 use Rattle.rx_model.proofs.Classes.ClassTokens.{tokens_append}
 use Rattle.rx_model.proofs.Classes.ClassUnspanned.{within_tokens}
 
--- how many brackets are open behind tokens, from so many on; none where a closer closes none of them
+-- how many brackets are open after tokens, from so many on; none where a closer closes none of them
 abbrev nests : List ClassToken → ℕ → Option ℕ
 nests [] depth = Some depth
 nests ((bracket negative) ∷ ts) depth = nests ts (suc depth)
@@ -25,7 +25,7 @@ nests (closer ∷ ts) zero = None
 nests (closer ∷ ts) (suc depth) = nests ts depth
 nests (t ∷ ts) depth = nests ts depth
 
--- As many brackets are open behind the tokens as before them.
+-- As many brackets are open after the tokens as before them.
 abbrev IsBalanced : List ClassToken → Type 0
 IsBalanced ts = (ss : List ClassToken) (depth : ℕ) → nests (ts ++ ss) depth ≡ nests ss depth
 
@@ -90,7 +90,7 @@ mutual
       both_balanced (operator_events kind) (member_events m ++ more_members_events (operator_events kind) ms) (operator_balanced kind)
       (λ ts n. both_balanced (member_events m) (more_members_events (operator_events kind) ms) (member_balanced m) (further_balanced kind ms) ts n) ss depth
 
--- a place behind a class's bracket
+-- a place after a class's bracket
 abbrev pub IsWithin : Place → Type 0
 IsWithin outside = ⊥
 IsWithin fresh = Unit {0}
@@ -98,21 +98,21 @@ IsWithin at_dash = Unit {0}
 IsWithin at_high = Unit {0}
 IsWithin at_second = Unit {0}
 IsWithin at_third = Unit {0}
-IsWithin behind_meet = Unit {0}
-IsWithin behind_less = Unit {0}
+IsWithin after_meet = Unit {0}
+IsWithin after_less = Unit {0}
 IsWithin in_strings = Unit {0}
 
-within_behind_item : (q : Place) (first : Bool) → IsWithin (behind_item q first)
-within_behind_item fresh true = tt
-within_behind_item fresh false = tt
-within_behind_item at_second first = tt
-within_behind_item at_third first = tt
-within_behind_item outside first = tt
-within_behind_item at_dash first = tt
-within_behind_item at_high first = tt
-within_behind_item behind_meet first = tt
-within_behind_item behind_less first = tt
-within_behind_item in_strings first = tt
+within_after_item : (q : Place) (first : Bool) → IsWithin (following_item q first)
+within_after_item fresh true = tt
+within_after_item fresh false = tt
+within_after_item at_second first = tt
+within_after_item at_third first = tt
+within_after_item outside first = tt
+within_after_item at_dash first = tt
+within_after_item at_high first = tt
+within_after_item after_meet first = tt
+within_after_item after_less first = tt
+within_after_item in_strings first = tt
 
 opened_within : (depth : ℕ) (q : Place) → IsWithin q → opened depth q ≡ suc depth
 opened_within depth outside i = absurd i
@@ -121,25 +121,31 @@ opened_within depth at_dash i = refl
 opened_within depth at_high i = refl
 opened_within depth at_second i = refl
 opened_within depth at_third i = refl
-opened_within depth behind_meet i = refl
-opened_within depth behind_less i = refl
+opened_within depth after_meet i = refl
+opened_within depth after_less i = refl
 opened_within depth in_strings i = refl
 
 module _ (e : Environment) where
+  -- A row is some units, and what is left.
+  pub row_units : (ts : List ClassToken) (q : Place) (us : List CodePoint) (r : Place) (rest : List CodePoint) → ClassTokenRow e ts q us r rest → (w : List CodePoint) × (us ≡ w ++ rest)
+  row_units [] q us r rest row = ([], row.1)
+  row_units (t ∷ ts) q us r rest row =
+      let f = row_units ts (next_place e.mode q t row.1) row.1 r rest row.4 in (row.0 ++ f.0, row.2 ∙ ap (λ more. row.0 ++ more) f.1 ∙ sym (append_assoc row.0 f.0 rest))
+
   -- A row of tokens falls apart into two, and two are one.
   pub class_row_split : (ts ss : List ClassToken) (q : Place) (us : List CodePoint) (r : Place) (rest : List CodePoint) → ClassTokenRow e (ts ++ ss) q us r rest →
       (p : Place) × (more : List CodePoint) × ClassTokenRow e ts q us p more × ClassTokenRow e ss p more r rest
   class_row_split [] ss q us r rest row = (q, us, (refl, refl), row)
   class_row_split (t ∷ ts) ss q us r rest row =
-      let s = class_row_split ts ss (behind e.mode q t row.1) row.1 r rest row.4 in (s.0, s.1, (row.0, row.1, row.2, row.3, s.2), s.3)
+      let s = class_row_split ts ss (next_place e.mode q t row.1) row.1 r rest row.4 in (s.0, s.1, (row.0, row.1, row.2, row.3, s.2), s.3)
 
   pub class_row_append : (ts ss : List ClassToken) (q : Place) (us : List CodePoint) (p : Place) (more : List CodePoint) (r : Place) (rest : List CodePoint) → ClassTokenRow e ts q us p more → ClassTokenRow e ss p more r rest →
       ClassTokenRow e (ts ++ ss) q us r rest
   class_row_append [] ss q us p more r rest row next = subst (λ q. ClassTokenRow e ss q us r rest) (sym row.0) (subst (λ v. ClassTokenRow e ss p v r rest) (sym row.1) next)
-  class_row_append (t ∷ ts) ss q us p more r rest row next = (row.0, row.1, row.2, row.3, class_row_append ts ss (behind e.mode q t row.1) row.1 p more r rest row.4 next)
+  class_row_append (t ∷ ts) ss q us p more r rest row next = (row.0, row.1, row.2, row.3, class_row_append ts ss (next_place e.mode q t row.1) row.1 p more r rest row.4 next)
 
   abbrev pub OfClass : List ClassToken → Option NestedPlace → List CodePoint → Option NestedPlace → List CodePoint → Type 0
-  OfClass = ElementRow (SpellsOfClass e) (behind_of_class e)
+  OfClass = ElementRow (SpellsOfClass e) (after_of_class e)
 
   -- A row of tokens inside the class, as a list of elements.
   inside_row : (ts : List ClassToken) (depth after : ℕ) (q : Place) (us : List CodePoint) (r : Place) (rest : List CodePoint) → nests ts depth ≡ Some after → IsWithin q → ClassTokenRow e ts q us r rest →
@@ -154,12 +160,12 @@ module _ (e : Environment) where
   )
   inside_row (closer ∷ ts) zero after q us r rest n i row = absurd (let no : ⊥ = cc n in no)
   inside_row (closer ∷ ts) (suc depth) after q us r rest n i row = (row.0, row.1, row.2, row.3, inside_row ts depth after fresh row.1 r rest n tt row.4)
-  inside_row ((item a) ∷ ts) depth after q us r rest n i row = (row.0, row.1, row.2, row.3, inside_row ts depth after (behind e.mode q (item a) row.1) row.1 r rest n (within_behind_item q _) row.4)
+  inside_row ((item a) ∷ ts) depth after q us r rest n i row = (row.0, row.1, row.2, row.3, inside_row ts depth after (next_place e.mode q (item a) row.1) row.1 r rest n (within_after_item q _) row.4)
   inside_row ((low k v) ∷ ts) depth after q us r rest n i row = (row.0, row.1, row.2, row.3, inside_row ts depth after at_dash row.1 r rest n tt row.4)
   inside_row (dash ∷ ts) depth after q us r rest n i row = (row.0, row.1, row.2, row.3, inside_row ts depth after at_high row.1 r rest n tt row.4)
   inside_row ((high k v) ∷ ts) depth after q us r rest n i row = (row.0, row.1, row.2, row.3, inside_row ts depth after fresh row.1 r rest n tt row.4)
-  inside_row (meet ∷ ts) depth after q us r rest n i row = (row.0, row.1, row.2, row.3, inside_row ts depth after behind_meet row.1 r rest n tt row.4)
-  inside_row (less ∷ ts) depth after q us r rest n i row = (row.0, row.1, row.2, row.3, inside_row ts depth after behind_less row.1 r rest n tt row.4)
+  inside_row (meet ∷ ts) depth after q us r rest n i row = (row.0, row.1, row.2, row.3, inside_row ts depth after after_meet row.1 r rest n tt row.4)
+  inside_row (less ∷ ts) depth after q us r rest n i row = (row.0, row.1, row.2, row.3, inside_row ts depth after after_less row.1 r rest n tt row.4)
   inside_row (strings ∷ ts) depth after q us r rest n i row = (row.0, row.1, row.2, row.3, inside_row ts depth after in_strings row.1 r rest n tt row.4)
   inside_row ((letter k v) ∷ ts) depth after q us r rest n i row = (row.0, row.1, row.2, row.3, inside_row ts depth after in_strings row.1 r rest n tt row.4)
   inside_row (string_bar ∷ ts) depth after q us r rest n i row = (row.0, row.1, row.2, row.3, inside_row ts depth after in_strings row.1 r rest n tt row.4)
@@ -168,7 +174,7 @@ module _ (e : Environment) where
   elements_append : (ts ss : List ClassToken) (q : Option NestedPlace) (us : List CodePoint) (p : Option NestedPlace) (more : List CodePoint) (r : Option NestedPlace) (rest : List CodePoint) →
       OfClass ts q us p more → OfClass ss p more r rest → OfClass (ts ++ ss) q us r rest
   elements_append [] ss q us p more r rest row next = subst (λ q. OfClass ss q us r rest) (sym row.0) (subst (λ v. OfClass ss p v r rest) (sym row.1) next)
-  elements_append (t ∷ ts) ss q us p more r rest row next = (row.0, row.1, row.2, row.3, elements_append ts ss (behind_of_class e q t row.1) row.1 p more r rest row.4 next)
+  elements_append (t ∷ ts) ss q us p more r rest row next = (row.0, row.1, row.2, row.3, elements_append ts ss (after_of_class e q t row.1) row.1 p more r rest row.4 next)
 
   -- what stands in a class's own bracket, and its closer
   contents_end : (contents : List ClassToken) (us rest : List CodePoint) → IsBalanced contents → ClassTokenRow e (contents ++ (closer ∷ [])) fresh us fresh rest → OfClass (contents ++ (closer ∷ [])) (Some (0, fresh)) us None rest
@@ -179,7 +185,7 @@ module _ (e : Environment) where
       (inside_row contents 0 0 fresh us s.0 s.1 (ap (λ ts. nests ts 0) (sym (append-nil contents)) ∙ balanced [] 0) tt s.2)
       (last.0, last.1, last.2, last.3, (refl, last.4.1))
 
-  -- The tokens of a class lead to behind its closer.
+  -- The tokens of a class lead to after its closer.
   pub class_ends : (c : Class) (w rest : List CodePoint) → IsClass e c w rest → OfClass (class_tokens c) (Some (0, outside)) (w ++ rest) None rest
   class_ends (class s negative may kind ms) w rest is =
       let contents = contents_tokens (between_by kind) ms in
@@ -189,24 +195,24 @@ module _ (e : Environment) where
       subst (λ ts. OfClass ts (Some (0, outside)) (w ++ rest) None rest) (sym tokens_are) (row.0, row.1, row.2, row.3, contents_end contents row.1 rest balanced row.4)
 
   -- Where there is no place no token stands.
-  pub none_behind_end : (ts : List ClassToken) (us : List CodePoint) (r : Option NestedPlace) (rest : List CodePoint) → OfClass ts None us r rest → (ts ≡ []) × (us ≡ rest)
-  none_behind_end [] us r rest row = (refl, row.1)
-  none_behind_end (t ∷ ts) us r rest row = absurd row.3
+  pub none_after_end : (ts : List ClassToken) (us : List CodePoint) (r : Option NestedPlace) (rest : List CodePoint) → OfClass ts None us r rest → (ts ≡ []) × (us ≡ rest)
+  none_after_end [] us r rest row = (refl, row.1)
+  none_after_end (t ∷ ts) us r rest row = absurd row.3
 
-  -- Tokens that lead to behind the closer are a row of tokens.
+  -- Tokens that lead to after the closer are a row of tokens.
   pub row_of_elements : (ts : List ClassToken) (depth : ℕ) (q : Place) (us rest : List CodePoint) → OfClass ts (Some (depth, q)) us None rest → ClassTokenRow e ts q us fresh rest
   row_of_elements [] depth q us rest row = absurd (let same = row.0 in let no : ⊥ = cc same in no)
   row_of_elements ((bracket negative) ∷ ts) depth q us rest row = (row.0, row.1, row.2, row.3, row_of_elements ts (opened depth q) fresh row.1 rest row.4)
   row_of_elements (closer ∷ ts) zero q us rest row =
-      let n = none_behind_end ts row.1 None rest row.4 in
+      let n = none_after_end ts row.1 None rest row.4 in
       (row.0, row.1, row.2, row.3, subst (λ ts. ClassTokenRow e ts fresh row.1 fresh rest) (sym n.0) (refl, n.1))
   row_of_elements (closer ∷ ts) (suc depth) q us rest row = (row.0, row.1, row.2, row.3, row_of_elements ts depth fresh row.1 rest row.4)
-  row_of_elements ((item a) ∷ ts) depth q us rest row = (row.0, row.1, row.2, row.3, row_of_elements ts depth (behind e.mode q (item a) row.1) row.1 rest row.4)
+  row_of_elements ((item a) ∷ ts) depth q us rest row = (row.0, row.1, row.2, row.3, row_of_elements ts depth (next_place e.mode q (item a) row.1) row.1 rest row.4)
   row_of_elements ((low k v) ∷ ts) depth q us rest row = (row.0, row.1, row.2, row.3, row_of_elements ts depth at_dash row.1 rest row.4)
   row_of_elements (dash ∷ ts) depth q us rest row = (row.0, row.1, row.2, row.3, row_of_elements ts depth at_high row.1 rest row.4)
   row_of_elements ((high k v) ∷ ts) depth q us rest row = (row.0, row.1, row.2, row.3, row_of_elements ts depth fresh row.1 rest row.4)
-  row_of_elements (meet ∷ ts) depth q us rest row = (row.0, row.1, row.2, row.3, row_of_elements ts depth behind_meet row.1 rest row.4)
-  row_of_elements (less ∷ ts) depth q us rest row = (row.0, row.1, row.2, row.3, row_of_elements ts depth behind_less row.1 rest row.4)
+  row_of_elements (meet ∷ ts) depth q us rest row = (row.0, row.1, row.2, row.3, row_of_elements ts depth after_meet row.1 rest row.4)
+  row_of_elements (less ∷ ts) depth q us rest row = (row.0, row.1, row.2, row.3, row_of_elements ts depth after_less row.1 rest row.4)
   row_of_elements (strings ∷ ts) depth q us rest row = (row.0, row.1, row.2, row.3, row_of_elements ts depth in_strings row.1 rest row.4)
   row_of_elements ((letter k v) ∷ ts) depth q us rest row = (row.0, row.1, row.2, row.3, row_of_elements ts depth in_strings row.1 rest row.4)
   row_of_elements (string_bar ∷ ts) depth q us rest row = (row.0, row.1, row.2, row.3, row_of_elements ts depth in_strings row.1 rest row.4)

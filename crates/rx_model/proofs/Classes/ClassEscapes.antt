@@ -2,6 +2,7 @@
 use Rattle.std.proofs.Common.{◌≡◌, refl, ap, sym, ◌∙◌, subst, ℕ, ◌==◌, ◌&&◌, true, false, not, is_some, None, List, [], ◌∷◌, ◌++◌, codes, arith}
 use Rattle.std.proofs.lemmas.Bool.{or_parts, both_ways}
 use Rattle.std.proofs.lemmas.Bool.Decides.{nat_tests}
+use Rattle.rx_base.specs.Characters.{is_one_of}
 use Rattle.rx_tables.specs.Characters.{is_decimal_digit, control_escape_value}
 use Rattle.rx_ast.specs.declared.leaf.CharacterKind.{CharacterKind}
 use Rattle.rx_units.specs.declared.code_point.CodePoint.{CodePoint}
@@ -15,11 +16,11 @@ use Rattle.rx_model.specs.Characters.EscapeFronts.{EscapeRead, escaped, nothing,
 use Rattle.rx_model.specs.Characters.Escapes.{is_identity_escape, SpellsEscape, control, letter, null, hexadecimal, unicode, identity}
 use Rattle.rx_model.specs.Properties.PropertyForms.{begins_property}
 use Rattle.rx_model.specs.Refusals.Reached.{class_environment}
-use Rattle.rx_model.specs.Refusals.Stops.{begins_class_escape, is_letter, is_one_of, two_hex_digits}
+use Rattle.rx_model.specs.Refusals.Stops.{begins_class_escape, is_letter, two_hex_digits}
 use Rattle.rx_model.proofs.Classes.ClassFronts.{at_backslash}
 use Rattle.rx_model.proofs.Characters.Escapes.{begins_with_u, escape_spelled}
 use Rattle.rx_model.proofs.Characters.LegacyEscapes.{any_in_unicode}
-use Rattle.rx_model.proofs.Refusals.LegacyStops.{no_atom_behind_backslash}
+use Rattle.rx_model.proofs.Refusals.LegacyStops.{no_atom_after_backslash}
 use Rattle.rx_model.proofs.Refusals.Stops.{two_there}
 
 no_control : (c : ℕ) → is_one_of (codes "upPbdDsSwWfnrtv") c ≡ false → control_escape_value c ≡ None
@@ -38,7 +39,7 @@ module _ (us : List CodePoint) where
   abbrev here : Environment
   here = class_environment Unicode us
 
-  -- what does not stand behind a backslash that begins no escape in a class
+  -- what does not stand after a backslash that begins no escape in a class
   record NoBeginning (c : ℕ) (w : List ℕ) : Type 0 where
     no_letters : is_one_of (codes "upPbdDsSwWfnrtv") c ≡ false
     no_identity : is_identity_escape c ≡ false
@@ -91,6 +92,6 @@ module _ (us : List CodePoint) where
 -- In every mode but that of `v` no atom of a class stands where no escape begins.
 pub no_escape_atom : (mode : Mode) → is_sets mode ≡ false → (us : List CodePoint) (backslash : CodePoint) (rest : List CodePoint) → backslash.value ≡ 92 →
     begins_class_escape (class_environment mode us) (values rest) ≡ false → atom_at (class_environment mode us) (backslash ∷ rest) ≡ no_atom
-no_escape_atom Legacy no_sets us backslash rest h none = at_backslash (class_environment Legacy us) backslash rest h ∙ no_atom_behind_backslash (class_environment Legacy us) refl (values rest) none
+no_escape_atom Legacy no_sets us backslash rest h none = at_backslash (class_environment Legacy us) backslash rest h ∙ no_atom_after_backslash (class_environment Legacy us) refl (values rest) none
 no_escape_atom Unicode no_sets us backslash rest h none = no_escape_in_unicode us backslash rest h none
 no_escape_atom Sets no_sets us backslash rest h none = absurd (let no : ⊥ = cc no_sets in no)

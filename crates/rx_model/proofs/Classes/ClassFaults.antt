@@ -14,8 +14,8 @@ use Rattle.rx_model.specs.declared.mode.Mode.TheVariants.{Unicode}
 use Rattle.rx_model.specs.Refusals.ClassCauses as class_cause
 use Rattle.rx_model.specs.Refusals.ClassCauses.{IsClassCause, IsNegativeWithStrings, NothingFollows, StandsRange, of_negative, unterminated}
 use Rattle.rx_model.specs.Refusals.ClassPlaces.{BeginsBracket, IsAtomPlace, IsInBracket, IsItemPlace, IsOfStrings, IsOperandPlace, IsSecondPlace, IsStringPlace, begins_item, nested, of_class}
-use Rattle.rx_model.specs.Classes.ClassRows.{behind, behind_item, ClassTokenRow, Place, SpellsAtom, SpellsBracket, SpellsInClass, at_dash, at_high, at_second, at_third, behind_less, behind_meet, fresh, has_threes, in_strings, is_dashed, outside}
-use Rattle.rx_model.specs.Classes.ClassRuns.{Bracket, Brackets, Held, empty, atom_may, atom_obeys, behind_step, bracket_of, class_opened, class_run, class_step, holding, is_union, is_whole, may_follow, operand, operator_of, takes_operand, where_true, with_strings}
+use Rattle.rx_model.specs.Classes.ClassRows.{next_place, following_item, ClassTokenRow, Place, SpellsAtom, SpellsBracket, SpellsInClass, at_dash, at_high, at_second, at_third, after_less, after_meet, fresh, has_threes, in_strings, is_dashed, outside}
+use Rattle.rx_model.specs.Classes.ClassRuns.{Bracket, Brackets, Held, empty, atom_may, atom_obeys, after_step, bracket_of, class_opened, class_run, class_step, holding, is_union, is_whole, operand, operator_of, takes_operand, where_true, with_strings}
 use Rattle.rx_model.specs.Classes.ClassTokens.{Atom, character, escape, property, is_character, ClassToken, bracket, item, strings}
 use Rattle.rx_model.specs.Inputs.Environment.{Environment, is_sets}
 use Rattle.rx_model.specs.FirstPass.Marks.{starts}
@@ -43,7 +43,7 @@ is_some_token [] = false
 is_some_token (t ∷ ts) = true
 
 -- A character of a union stands before it.
-pub record IsBehindLow (s : State) : Type 0 where
+pub record IsAfterLow (s : State) : Type 0 where
   pub before : List ClassToken
   pub atom : Atom
   pub tokens_are : s.tokens ≡ before ++ (item atom ∷ [])
@@ -66,7 +66,7 @@ module _ (mode : Mode) (us : List CodePoint) (start added from : ℕ) (at_class 
   abbrev pub EscapeFault : ℕ → List CodePoint → Diagnostic → Type 0
   EscapeFault = AtomFault mode us start added
 
-  -- The innermost bracket opened behind some of these tokens, at this place: the class's own, or a nested one.
+  -- The innermost bracket opened after some of these tokens, at this place: the class's own, or a nested one.
   pub record Opens (tokens : List ClassToken) (is_nested : Bool) (begin : ℕ) : Type 0 where
     pub before : List ClassToken
     pub inside : List ClassToken
@@ -95,7 +95,7 @@ module _ (mode : Mode) (us : List CodePoint) (start added from : ℕ) (at_class 
     in_class : (is_nested : Bool) (begin : ℕ) → Opens s.tokens is_nested begin → begins_item s.at ≡ true → is_union s.inner.held ≡ true → (is_sets mode ≡ true → s.inner.held ≡ empty → s.rest ≡ []) → (is_sets mode ≡ false → s.rest ≡ [])
         → Nothing s (UnterminatedPattern (span_between us start added begin s.place) (unterminated is_nested))
     no_operand : begins_item s.at ≡ true → is_sets mode ≡ true → s.inner.held ≡ empty → s.rest ≢ [] → Nothing s (EmptyClassSetExpression (span_between us start added s.place s.place))
-    no_operator : (operator : SetOperator) → begins_item s.at ≡ true → operator_of s.inner.held ≡ Some operator → (s.at ≡ behind_meet → starts 38 (values s.rest) ≡ false)
+    no_operator : (operator : SetOperator) → begins_item s.at ≡ true → operator_of s.inner.held ≡ Some operator → (s.at ≡ after_meet → starts 38 (values s.rest) ≡ false)
         → Nothing s (ClassSetExpressionInvalidCharacter (span_between us start added s.place s.place) operator)
     in_class_strings : (opener : ℕ) → s.at ≡ in_strings → Strings s.tokens opener → Nothing s (UnterminatedPattern (span_between us start added opener s.place) what.ClassStringDisjunction)
 
@@ -127,19 +127,19 @@ module _ (mode : Mode) (us : List CodePoint) (start added from : ℕ) (at_class 
     pub ends : is_sets mode ≡ true → (is_character a ≡ true) × (is_character b ≡ true)
     pub fault : d ≡ range_fault f a b (length w) (length v)
 
-  -- Refusals that say what stands there: of an escape that is to stand there, or behind an atom and a `-`; of a range.
+  -- Refusals that say what stands there: of an escape that is to stand there, or after an atom and a `-`; of a range.
   pub data Elsewhere (s : State) : ℕ → Diagnostic → Type 0 where
     at_atom : {d : Diagnostic} → (begins_item s.at ≡ true → takes_operand s.inner.held ≡ true) → (is_sets mode ≡ true → s.at ≡ in_strings → IsEscapeCause mode us start added s.place s.rest d) → EscapeFault s.place s.rest d → Elsewhere s s.place d
-    behind_range : {d : Diagnostic} (a : Atom) (w : List CodePoint) (hyphen : CodePoint) (rest : List CodePoint) → s.at ≡ fresh → is_union s.inner.held ≡ true → s.rest ≡ w ++ (hyphen ∷ rest) → SpellsAtom here a w (hyphen ∷ rest)
+    after_range : {d : Diagnostic} (a : Atom) (w : List CodePoint) (hyphen : CodePoint) (rest : List CodePoint) → s.at ≡ fresh → is_union s.inner.held ≡ true → s.rest ≡ w ++ (hyphen ∷ rest) → SpellsAtom here a w (hyphen ∷ rest)
         → is_dashed (values (hyphen ∷ rest)) ≡ true → (is_sets mode ≡ true → is_character a ≡ true) → EscapeFault (s.place + length w + 1) rest d → Elsewhere s (s.place + length w + 1) d
     of_range : {d : Diagnostic} → s.at ≡ fresh → is_union s.inner.held ≡ true → RangeFault s.place s.rest d → Elsewhere s s.place d
 
   -- The same before a `-` that is followed by an escape, a third `&`, or a closer.
   pub data Said (s : State) : ℕ → Diagnostic → Type 0 where
     elsewhere : {f : ℕ} {d : Diagnostic} → Elsewhere s f d → Said s f d
-    behind_dash : {d : Diagnostic} (hyphen : CodePoint) (rest : List CodePoint) → IsBehindLow s → is_sets mode ≡ true → s.rest ≡ hyphen ∷ rest → hyphen.value ≡ 45 → IsEscapeCause mode us start added (s.place + 1) rest d
+    after_dash : {d : Diagnostic} (hyphen : CodePoint) (rest : List CodePoint) → IsAfterLow s → is_sets mode ≡ true → s.rest ≡ hyphen ∷ rest → hyphen.value ≡ 45 → IsEscapeCause mode us start added (s.place + 1) rest d
         → Said s (s.place + 1) d
-    ampersand : (unit : CodePoint) (rest : List CodePoint) → s.at ≡ behind_meet → s.rest ≡ unit ∷ rest → unit.value ≡ 38
+    ampersand : (unit : CodePoint) (rest : List CodePoint) → s.at ≡ after_meet → s.rest ≡ unit ∷ rest → unit.value ≡ 38
         → Said s s.place (ClassIntersectionUnexpectedAmpersand (span_between us start added s.place (s.place + 1)))
     closing : (is_nested : Bool) (begin : ℕ) → Opens s.tokens is_nested begin → begins_item s.at ≡ true → starts 93 (values s.rest) ≡ true → is_whole s.inner.held ≡ true
         → Said s s.place (of_negative is_nested (span_between us start added begin (s.place + 1)))
@@ -185,12 +185,12 @@ module _ (mode : Mode) (us : List CodePoint) (start added from : ℕ) (at_class 
 
   nested_bracket : (q : Place) (negative : Bool) (w more : List CodePoint) → begins_item q ≡ true → is_sets mode ≡ true → SpellsBracket negative w more → SpellsInClass here q (bracket negative) w more
   nested_bracket fresh negative w more begins sets s = (sets, s)
-  nested_bracket behind_meet negative w more begins sets s = (sets, s, first negative s)
+  nested_bracket after_meet negative w more begins sets s = (sets, s, first negative s)
     where
       first : (negative : Bool) → SpellsBracket negative w more → starts 38 (values w) ≡ false
       first true s = ap (starts 38) s
       first false s = ap (starts 38) s.0
-  nested_bracket behind_less negative w more begins sets s = (sets, s)
+  nested_bracket after_less negative w more begins sets s = (sets, s)
   nested_bracket outside negative w more begins sets s = absurd (true≢false (sym begins))
   nested_bracket at_dash negative w more begins sets s = absurd (true≢false (sym begins))
   nested_bracket at_high negative w more begins sets s = absurd (true≢false (sym begins))
@@ -255,13 +255,28 @@ module _ (mode : Mode) (us : List CodePoint) (start added from : ℕ) (at_class 
   in_bracket : (is_nested : Bool) (begin place : ℕ) (rest : List CodePoint) → (i : IsInBracket here from at_class is_nested begin place rest) → InBracket i.item_place.at i.item_place.inner place rest is_nested begin
   in_bracket is_nested begin place rest i = in_bracket_by is_nested begin place i.at_bracket rest i.begins i.item_place i.innermost
 
+  -- a place in a bracket where an item may stand
+  abbrev state_in : (is_nested : Bool) (begin place : ℕ) (rest : List CodePoint) → IsInBracket here from at_class is_nested begin place rest → State
+  state_in is_nested begin place rest i =
+      let p = i.item_place in
+      let r = in_bracket is_nested begin place rest i in record { tokens = r.tokens; at = p.at; inner = p.inner; outer = r.outer; place = place; rest = rest }
+
+  -- is stuck where nothing that stands there leads on
+  stuck_in : (is_nested : Bool) (begin place : ℕ) (rest : List CodePoint) → (i : IsInBracket here from at_class is_nested begin place rest) →
+      ((outer : Brackets) → IsDead here i.item_place.at (i.item_place.inner ∷ outer) rest) → IsStuck here from at_class (state_in is_nested begin place rest i)
+  stuck_in is_nested begin place rest i dead =
+      let p = i.item_place in
+      let r = in_bracket is_nested begin place rest i in
+      record {
+        row = r.row;
+        accepted = r.accepted;
+        place_is = r.place_is;
+        between = item_between p.at p.begins;
+        blocked = dead_blocked here p.at (p.inner ∷ r.outer) rest (dead r.outer);
+      }
+
   nothing_dead : (at : Place) (inner : Bracket) (outer : Brackets) (rest : List CodePoint) → NothingFollows here at inner.held rest → IsDead here at (inner ∷ outer) rest
   nothing_dead at inner outer rest none t w more whole s = none_follows t inner outer (none t w more whole s)
-
-  -- the same in one state
-  follows : (s : State) (at : Place) (inner : Bracket) (rest : List CodePoint) → s.at ≡ at → s.inner ≡ inner → s.rest ≡ rest → NothingFollows here at inner.held rest → NothingFollows here s.at s.inner.held s.rest
-  follows s at inner rest at_is inner_is rest_is none t w more whole k =
-      ap (λ b. may_follow b.held t) inner_is ∙ none t w more (sym rest_is ∙ whole) (subst (λ q. SpellsInClass here q t w more) at_is k)
 
   -- A negative bracket with strings may not close.
   before_closer : (at : Place) (inner : Bracket) (outer : Brackets) (rest : List CodePoint) → is_between at ≡ true → starts 93 (values rest) ≡ true → (inner.negative && inner.may) ≡ true → IsDead here at (inner ∷ outer) rest
@@ -272,18 +287,6 @@ module _ (mode : Mode) (us : List CodePoint) (start added from : ℕ) (at_class 
       never : (whole : Bool) → (inner.negative && inner.may) ≡ true → (whole && not (inner.negative && inner.may)) ≡ false
       never true h = ap not h
       never false h = refl
-
-  in_bracket_stuck : (f : ℕ) (d : Diagnostic) (is_nested : Bool) (begin place : ℕ) (rest : List CodePoint) → (i : IsInBracket here from at_class is_nested begin place rest) →
-      ((outer : Brackets) → IsBlockedItem here i.item_place.at (i.item_place.inner ∷ outer) rest) →
-      ((s : State) → s.at ≡ i.item_place.at → s.inner ≡ i.item_place.inner → s.rest ≡ rest → s.place ≡ place → Opens s.tokens is_nested begin → Fault s f d) → Stuck f d
-  in_bracket_stuck f d is_nested begin place rest i blocked fault =
-      let r = in_bracket is_nested begin place rest i in
-      let s : State = record { tokens = r.tokens; at = i.item_place.at; inner = i.item_place.inner; outer = r.outer; place = place; rest = rest } in
-      record {
-        state = s;
-        is_stuck = record { row = r.row; accepted = r.accepted; place_is = r.place_is; between = item_between i.item_place.at i.item_place.begins; blocked = blocked r.outer };
-        fault = fault s refl refl refl refl r.opens;
-      }
 
   -- A negative bracket that may contain strings is stuck before its closer.
   pub record Closing (is_nested : Bool) (begin place : ℕ) : Type 0 where
@@ -299,18 +302,11 @@ module _ (mode : Mode) (us : List CodePoint) (start added from : ℕ) (at_class 
   negative_stuck is_nested begin place rest n =
       let i = n.in_bracket in
       let p = i.item_place in
-      let r = in_bracket is_nested begin place rest i in
       record {
-        state = record { tokens = r.tokens; at = p.at; inner = p.inner; outer = r.outer; place = place; rest = rest };
-        is_stuck = record {
-          row = r.row;
-          accepted = r.accepted;
-          place_is = r.place_is;
-          between = item_between p.at p.begins;
-          blocked = dead_blocked here p.at (p.inner ∷ r.outer) rest (before_closer p.at p.inner r.outer rest (item_between p.at p.begins) n.closes n.may);
-        };
+        state = state_in is_nested begin place rest i;
+        is_stuck = stuck_in is_nested begin place rest i (λ outer. before_closer p.at p.inner outer rest (item_between p.at p.begins) n.closes n.may);
         place_is = refl;
-        opens = r.opens;
+        opens = (in_bracket is_nested begin place rest i).opens;
         begins = p.begins;
         closes = n.closes;
         whole = n.whole;
@@ -366,8 +362,8 @@ module _ (mode : Mode) (us : List CodePoint) (start added from : ℕ) (at_class 
     }),
   )
 
-  behind_operand : (a : Atom) (us : List CodePoint) → is_sets mode ≡ true → is_dashed (values us) ≡ true → behind mode fresh (item a) us ≡ fresh
-  behind_operand a us sets dashed = ap₂ (λ dashed threes. behind_item fresh (dashed && threes)) dashed (ap has_threes (sets_is mode sets))
+  after_operand : (a : Atom) (us : List CodePoint) → is_sets mode ≡ true → is_dashed (values us) ≡ true → next_place mode fresh (item a) us ≡ fresh
+  after_operand a us sets dashed = ap₂ (λ dashed threes. following_item fresh (dashed && threes)) dashed (ap has_threes (sets_is mode sets))
 
   -- With `v` an escape that is refused is to end a range.
   second_in_sets : (f : ℕ) (rest : List CodePoint) (d : Diagnostic) → (i : IsSecondPlace here from at_class f rest) → is_sets mode ≡ true → IsEscapeCause mode us start added (i.first + length i.w + 1) rest d → (b : Bool) → atom_obeys i.atom ≡ b →
@@ -381,7 +377,7 @@ module _ (mode : Mode) (us : List CodePoint) (start added from : ℕ) (at_class 
       (dead_blocked here p.at (p.inner ∷ p.outer) (i.w ++ (i.hyphen ∷ rest)) (λ t v more whole s.
       let same = first_in_class here fresh t (item i.atom) v more i.w (i.hyphen ∷ rest) (sym whole) (subst (λ q. SpellsInClass here q t v more) at_fresh s) there in
       ap (λ t. class_step t (p.inner ∷ p.outer)) same.0 ∙ ap (λ b. where_true b (holding p.inner p.outer (atom_may i.atom) (operand p.inner.held))) obeys))
-      (said (elsewhere (behind_range i.atom i.w i.hyphen rest at_fresh u.1 refl i.spelled i.dashed (λ sets. u.0) (in_escape c))))
+      (said (elsewhere (after_range i.atom i.w i.hyphen rest at_fresh u.1 refl i.spelled i.dashed (λ sets. u.0) (in_escape c))))
   second_in_sets f rest d i sets c true obeys =
       let p = i.item_place in
       let u = i.of_union sets in
@@ -389,20 +385,20 @@ module _ (mode : Mode) (us : List CodePoint) (start added from : ℕ) (at_class 
       let grown = one_item i.atom p.inner p.outer obeys (union_more p.inner.held u.1).0 in
       let there = operand_there (i.first + length i.w + 1) rest d i.atom i.w i.hyphen sets i.spelled (in_escape c) in
       let row : ClassTokenRow here (item i.atom ∷ []) fresh (i.w ++ (i.hyphen ∷ rest)) fresh (i.hyphen ∷ rest) =
-      (i.w, i.hyphen ∷ rest, refl, there, (behind_operand i.atom (i.hyphen ∷ rest) sets i.dashed, refl)) in
+      (i.w, i.hyphen ∷ rest, refl, there, (after_operand i.atom (i.hyphen ∷ rest) sets i.dashed, refl)) in
       let b = backslash_first mode us start added (i.first + length i.w + 1) rest d (in_escape c) in
       record {
         state = record { tokens = p.tokens ++ (item i.atom ∷ []); at = fresh; inner = grown.0; outer = p.outer; place = i.first + length i.w; rest = i.hyphen ∷ rest };
         is_stuck = record {
           row = class_row_append here p.tokens (item i.atom ∷ []) outside at_class p.at (i.w ++ (i.hyphen ∷ rest)) fresh (i.hyphen ∷ rest) p.row
               (subst (λ q. ClassTokenRow here (item i.atom ∷ []) q (i.w ++ (i.hyphen ∷ rest)) fresh (i.hyphen ∷ rest)) (sym at_fresh) row);
-          accepted = class_opened-append p.tokens (item i.atom ∷ []) (p.inner ∷ p.outer) p.accepted ∙ ap (λ o. behind_step o (λ bs. class_run [] bs)) grown.1;
+          accepted = class_opened-append p.tokens (item i.atom ∷ []) (p.inner ∷ p.outer) p.accepted ∙ ap (λ o. after_step o (λ bs. class_run [] bs)) grown.1;
           place_is = omega (arith, p.place_is, length-append i.w (i.hyphen ∷ rest));
           between = refl;
           blocked = dead_blocked here fresh (grown.0 ∷ p.outer) (i.hyphen ∷ rest)
               (dash_dead mode us start added fresh grown.0 p.outer (i.hyphen ∷ rest) (values rest) refl sets (ap (λ c. c ∷ values rest) i.hyphen_is) (ap (starts 45) b.1));
         };
-        fault = said (behind_dash i.hyphen rest (record {
+        fault = said (after_dash i.hyphen rest (record {
           before = p.tokens;
           atom = i.atom;
           tokens_are = refl;
@@ -429,7 +425,7 @@ module _ (mode : Mode) (us : List CodePoint) (start added from : ℕ) (at_class 
           (subst (λ q. IsBlockedItem here q (p.inner ∷ p.outer) (i.w ++ (i.hyphen ∷ rest))) (sym at_fresh)
           (dead_blocked here fresh (p.inner ∷ p.outer) (i.w ++ (i.hyphen ∷ rest))
           (second_dead mode us start added p.inner p.outer (i.first + length i.w + 1) d i.atom i.w i.hyphen rest no_sets i.spelled i.dashed there)))
-          (said (elsewhere (behind_range i.atom i.w i.hyphen rest at_fresh u refl i.spelled i.dashed (λ sets. absurd (true≢false (sym sets ∙ no_sets))) there)))
+          (said (elsewhere (after_range i.atom i.w i.hyphen rest at_fresh u refl i.spelled i.dashed (λ sets. absurd (true≢false (sym sets ∙ no_sets))) there)))
 
   operand_stuck : (f : ℕ) (rest : List CodePoint) (d : Diagnostic) → IsOperandPlace here from at_class f rest → EscapeFault f rest d → Stuck f d
   operand_stuck f rest d o c =
@@ -491,16 +487,16 @@ module _ (mode : Mode) (us : List CodePoint) (start added from : ℕ) (at_class 
   pub stuck : (f : ℕ) (d : Diagnostic) → IsClassCause mode us start added from at_class f d → Stuck f d
   stuck _ _ (class_cause.unterminated_class is_nested begin place rest i union none goes ends) =
       let p = i.item_place in
-      in_bracket_stuck place (UnterminatedPattern (span_between us start added begin place) (unterminated is_nested)) is_nested begin place rest i
-      (λ outer. dead_blocked here p.at (p.inner ∷ outer) rest (nothing_dead p.at p.inner outer rest none)) (λ s at_is inner_is rest_is place_is opens.
-      subst (λ place. Fault s place (UnterminatedPattern (span_between us start added begin place) (unterminated is_nested))) place_is
-      (nothing (follows s p.at p.inner rest at_is inner_is rest_is none)
-      (in_class is_nested begin opens (ap begins_item at_is ∙ p.begins) (ap (λ b. is_union b.held) inner_is ∙ union) (λ sets empties. rest_is ∙ goes sets (ap (λ b. b.held) (sym inner_is) ∙ empties)) (λ no_sets. rest_is ∙ ends no_sets))))
+      record {
+        state = state_in is_nested begin place rest i;
+        is_stuck = stuck_in is_nested begin place rest i (λ outer. nothing_dead p.at p.inner outer rest none);
+        fault = nothing none (in_class is_nested begin (in_bracket is_nested begin place rest i).opens p.begins union goes ends);
+      }
   stuck _ _ (class_cause.no_operand place rest p sets empties none some) =
       at_item place rest place _ p (dead_blocked here p.at (p.inner ∷ p.outer) rest (nothing_dead p.at p.inner p.outer rest none)) (nothing none (no_operand p.begins sets empties some))
   stuck _ _ (class_cause.third_ampersand place unit rest p at_meet is) =
       at_item place (unit ∷ rest) place _ p
-      (subst (λ q. IsBlockedItem here q (p.inner ∷ p.outer) (unit ∷ rest)) (sym at_meet) (dead_blocked here behind_meet (p.inner ∷ p.outer) (unit ∷ rest) (third_dead mode us start added p.inner p.outer unit rest is)))
+      (subst (λ q. IsBlockedItem here q (p.inner ∷ p.outer) (unit ∷ rest)) (sym at_meet) (dead_blocked here after_meet (p.inner ∷ p.outer) (unit ∷ rest) (third_dead mode us start added p.inner p.outer unit rest is)))
       (said (ampersand unit rest at_meet refl is))
   stuck _ _ (class_cause.no_operator operator place rest p is none third) =
       at_item place rest place _ p (dead_blocked here p.at (p.inner ∷ p.outer) rest (nothing_dead p.at p.inner p.outer rest none)) (nothing none (no_operator operator p.begins is third))

@@ -2,7 +2,7 @@
 use Rattle.std.proofs.Common.{◌≡◌, List, [], ◌∷◌}
 use Rattle.rx_ast.specs.declared.leaf.CharacterKind.TheVariants as kind
 use Rattle.rx_units.specs.declared.code_point.CodePoint.{CodePoint}
-use Rattle.rx_model.specs.Classes.ClassRows.{ClassTokenRow, Place, SpellsAtom, SpellsInClass, fresh, at_second, at_third, behind_meet, behind_less, in_strings, behind}
+use Rattle.rx_model.specs.Classes.ClassRows.{ClassTokenRow, Place, SpellsAtom, SpellsInClass, fresh, at_second, at_third, after_meet, after_less, in_strings, next_place}
 use Rattle.rx_model.specs.Classes.ClassTokens.{Atom, character, escape, property, ClassToken, item}
 use Rattle.rx_model.specs.Inputs.Environment.{Environment}
 use Rattle.rx_model.specs.Trees.Early.{IsFlaggedProperty}
@@ -36,8 +36,8 @@ module _ (e : Environment) where
   item_flagged fresh a w more s = atom_flagged a w more s.0
   item_flagged at_second a w more s = second_flagged a s.0
   item_flagged at_third a w more s = atom_flagged a w more s
-  item_flagged behind_meet a w more s = atom_flagged a w more s.1
-  item_flagged behind_less a w more s = atom_flagged a w more s.1
+  item_flagged after_meet a w more s = atom_flagged a w more s.1
+  item_flagged after_less a w more s = atom_flagged a w more s.1
   item_flagged in_strings a w more s = absurd s.1
   item_flagged q a w more s = absurd s
 
@@ -47,4 +47,4 @@ module _ (e : Environment) where
 
   pub row_flagged : (ts : List ClassToken) (q : Place) (us : List CodePoint) (r : Place) (rest : List CodePoint) → ClassTokenRow e ts q us r rest → AreFlaggedTokens ts
   row_flagged [] q us r rest row = tt
-  row_flagged (t ∷ ts) q us r rest (w, more, whole, s, row) = (token_flagged q t w more s, row_flagged ts (behind e.mode q t more) more r rest row)
+  row_flagged (t ∷ ts) q us r rest (w, more, whole, s, row) = (token_flagged q t w more s, row_flagged ts (next_place e.mode q t more) more r rest row)

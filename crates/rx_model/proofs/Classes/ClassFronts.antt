@@ -16,7 +16,7 @@ use Rattle.rx_units.proofs.Choices.{chosen, both, Some-inj}
 use Rattle.rx_model.specs.declared.mode.Mode.{Mode}
 use Rattle.rx_model.specs.declared.mode.Mode.TheVariants.{Legacy, Unicode, Sets}
 use Rattle.rx_model.specs.Classes.ClassFronts.{AtomRead, atom_read, no_atom, property_atom, character_atom, escape_atom, escape_in_class, atom_at, TokenRead, item_where, item_of, low_of, high_of, dashed_of, item_before, bracket_at, are_next, begins_strings, operand_token, set_token, fresh_token, operand_of, string_token, token_where, class_token_at}
-use Rattle.rx_model.specs.Classes.ClassRows.{stands_raw_in_class, SpellsInClassAlone, backspace, SpellsClassCharacter, raw, escaped_in_class, escaped_in_legacy, SpellsAtom, has_hyphen, has_threes, is_dashed, BeforeHigh, BeforeThird, BeginsNoRange, StandsBefore, Place, outside, fresh, at_dash, at_high, at_second, at_third, behind_meet, behind_less, in_strings, behind, behind_item, SpellsBracket, SpellsOperand, SpellsOfStrings, SpellsInClass}
+use Rattle.rx_model.specs.Classes.ClassRows.{stands_raw_in_class, SpellsInClassAlone, backspace, SpellsClassCharacter, raw, escaped_in_class, escaped_in_legacy, SpellsAtom, has_hyphen, has_threes, is_dashed, BeforeHigh, BeforeThird, BeginsNoRange, StandsBefore, Place, outside, fresh, at_dash, at_high, at_second, at_third, after_meet, after_less, in_strings, next_place, following_item, SpellsBracket, SpellsOperand, SpellsOfStrings, SpellsInClass}
 use Rattle.rx_model.specs.Classes.ClassRows as row
 use Rattle.rx_ast.specs.Texts.{class_escape_text}
 use Rattle.rx_model.specs.Classes.ClassTokens.{Atom, ClassToken, is_character, character, escape, property, bracket, closer, item, low, dash, high, meet, less, strings, letter, string_bar, strings_end}
@@ -130,7 +130,7 @@ class_letter classes.W = record { letter = 119; text = refl; no_b = refl; not_hy
 class_letter classes.NegativeW = record { letter = 87; text = refl; no_b = refl; not_hyphen = refl; no_punctuator = refl; no_letter = refl; found = refl }
 
 module _ (e : Environment) where
-  -- behind a backslash
+  -- after a backslash
   pub at_backslash : (u : CodePoint) (us : List CodePoint) → u.value ≡ 92 → atom_at e (u ∷ us) ≡ escape_in_class e (values us)
   unfolding atom_at
   at_backslash u us h =
@@ -138,10 +138,10 @@ module _ (e : Environment) where
       ∙ cond-false (has_hyphen e.mode && u.value == 45) _ _ (no_hyphen e.mode u.value (ap (λ c. c == 45) h))
       ∙ cond-true (u.value == 92) _ _ (ap (λ c. c == 92) h)
 
-  atom_by_values : (w rest : List CodePoint) (behind : List ℕ) → values w ≡ 92 ∷ behind → atom_at e (w ++ rest) ≡ escape_in_class e (behind ++ values rest)
-  atom_by_values [] rest behind h = absurd (let no : ⊥ = cc h in no)
-  atom_by_values (u ∷ w) rest behind h =
-      let equal : values w ≡ behind = cc h in
+  atom_by_values : (w rest : List CodePoint) (following : List ℕ) → values w ≡ 92 ∷ following → atom_at e (w ++ rest) ≡ escape_in_class e (following ++ values rest)
+  atom_by_values [] rest following h = absurd (let no : ⊥ = cc h in no)
+  atom_by_values (u ∷ w) rest following h =
+      let equal : values w ≡ following = cc h in
       at_backslash u (w ++ rest) (let same : u.value ≡ 92 = cc h in same)
       ∙ ap (escape_in_class e) (map-append (λ u. u.value) w rest ∙ ap (λ v. v ++ values rest) equal)
 
@@ -153,7 +153,7 @@ module _ (e : Environment) where
       ∙ cond-false (is_hyphen_escaped e.mode && b.first == 45) _ _ (no_hyphen_escape e.mode b.first b.no_hyphen)
       ∙ cond-false (is_sets e.mode && is_reserved_punctuator b.first) _ _ (no_punctuator e.mode b.first b.no_reserved)
       ∙ cond-false (begins_property b.first && is_unicode e.mode) _ _ (and_left _ (is_unicode e.mode) b.no_property)
-      ∙ ap (λ o. escape_atom o (any_escape_at true e (b.first ∷ b.behind ++ rest))) b.no_class
+      ∙ ap (λ o. escape_atom o (any_escape_at true e (b.first ∷ b.following ++ rest))) b.no_class
       ∙ ap (λ w. character_atom (any_escape_at true e (w ++ rest))) (sym b.whole)
       ∙ ap character_atom (any_read true e k v w rest s)
 
@@ -165,7 +165,7 @@ module _ (e : Environment) where
       ∙ cond-false (is_hyphen_escaped e.mode && b.first == 45) _ _ (no_legacy_hyphen e.mode b.first m)
       ∙ cond-false (is_sets e.mode && is_reserved_punctuator b.first) _ _ (no_legacy_punctuator e.mode b.first m)
       ∙ cond-false (begins_property b.first && is_unicode e.mode) _ _ (ap (λ u. begins_property b.first && u) m ∙ and-false (begins_property b.first))
-      ∙ ap (λ o. escape_atom o (any_escape_at true e (b.first ∷ b.behind))) b.no_class
+      ∙ ap (λ o. escape_atom o (any_escape_at true e (b.first ∷ b.following))) b.no_class
       ∙ ap (λ w. character_atom (any_escape_at true e w)) (sym b.whole)
       ∙ ap character_atom (any_legacy_read true e k v w rest m s)
 
@@ -186,18 +186,18 @@ module _ (e : Environment) where
   character_read _ _ _ rest (row.hyphen unit m h) =
       cond-false (stands_raw_in_class e.mode unit.value (values rest)) _ _ (ap (λ c. stands_raw_in_class e.mode c (values rest)) h ∙ hyphen_not_raw e.mode (values rest))
       ∙ cond-true (has_hyphen e.mode && unit.value == 45) _ _ (and_from (has_hyphen e.mode) (unit.value == 45) m (ap (λ c. c == 45) h))
-  character_read k v _ rest (row.escaped backslash behind h s) =
-      atom_by_values (backslash ∷ behind) rest (values behind) (ap (λ c. c ∷ values behind) h)
-      ∙ escaped_read k v (values behind) (values rest) s
-      ∙ ap (atom_read (character k v)) (omega (arith, length-map behind (λ (u : CodePoint). u.value)))
-  character_read k v _ rest (escaped_in_class backslash behind h s) =
-      atom_by_values (backslash ∷ behind) rest (values behind) (ap (λ c. c ∷ values behind) h)
-      ∙ alone_read k v (values behind) (values rest) s
-      ∙ ap (atom_read (character k v)) (omega (arith, length-map behind (λ (u : CodePoint). u.value)))
-  character_read k v _ rest (escaped_in_legacy backslash behind h m s) =
-      atom_by_values (backslash ∷ behind) rest (values behind) (ap (λ c. c ∷ values behind) h)
-      ∙ legacy_read k v (values behind) (values rest) m s
-      ∙ ap (atom_read (character k v)) (omega (arith, length-map behind (λ (u : CodePoint). u.value)))
+  character_read k v _ rest (row.escaped backslash following h s) =
+      atom_by_values (backslash ∷ following) rest (values following) (ap (λ c. c ∷ values following) h)
+      ∙ escaped_read k v (values following) (values rest) s
+      ∙ ap (atom_read (character k v)) (omega (arith, length-map following (λ (u : CodePoint). u.value)))
+  character_read k v _ rest (escaped_in_class backslash following h s) =
+      atom_by_values (backslash ∷ following) rest (values following) (ap (λ c. c ∷ values following) h)
+      ∙ alone_read k v (values following) (values rest) s
+      ∙ ap (atom_read (character k v)) (omega (arith, length-map following (λ (u : CodePoint). u.value)))
+  character_read k v _ rest (escaped_in_legacy backslash following h m s) =
+      atom_by_values (backslash ∷ following) rest (values following) (ap (λ c. c ∷ values following) h)
+      ∙ legacy_read k v (values following) (values rest) m s
+      ∙ ap (atom_read (character k v)) (omega (arith, length-map following (λ (u : CodePoint). u.value)))
 
   class_escape_read : (k : CharacterClassEscapeKind) (w rest : List CodePoint) → values w ≡ class_escape_text k → atom_at e (w ++ rest) ≡ atom_read (escape k) (length w)
   class_escape_read k w rest s =
@@ -231,9 +231,9 @@ module _ (e : Environment) where
   character_some : (k : CharacterKind) (v : ℕ) (w rest : List CodePoint) → SpellsClassCharacter e k v w rest → 0 < length w
   character_some _ _ _ rest (raw unit h) = omega arith
   character_some _ _ _ rest (row.hyphen unit m h) = omega arith
-  character_some k v _ rest (row.escaped backslash behind h s) = omega arith
-  character_some k v _ rest (escaped_in_class backslash behind h s) = omega arith
-  character_some k v _ rest (escaped_in_legacy backslash behind h m s) = omega arith
+  character_some k v _ rest (row.escaped backslash following h s) = omega arith
+  character_some k v _ rest (escaped_in_class backslash following h s) = omega arith
+  character_some k v _ rest (escaped_in_legacy backslash following h m s) = omega arith
 
   pub atom_some : (a : Atom) (w rest : List CodePoint) → SpellsAtom e a w rest → 0 < length w
   atom_some (character k v) w rest s = character_some k v w rest s
@@ -382,7 +382,7 @@ module _ (e : Environment) where
       ap (λ r. operand_of r (values (w ++ rest))) (no_strings_atom (w ++ rest) (123 ∷ values rest) m text) ∙ ap operand_token text ∙ ap (λ n. Some (strings, n)) (units w (92 ∷ 113 ∷ 123 ∷ []) s)
   operand_read w rest t m s = absurd s
 
-  -- With `v` an item stands before a `-` behind which no end of a range is read.
+  -- With `v` an item stands before a `-` after which no end of a range is read.
   some_character : (a : Atom) → is_character a ≡ true → (k : CharacterKind) × (v : ℕ) × (a ≡ character k v)
   some_character (character k v) h = (k, v, refl)
   some_character (escape k) h = absurd (let no : ⊥ = cc h in no)
@@ -417,7 +417,7 @@ module _ (e : Environment) where
   hyphen_there (u ∷ []) h = absurd (let no : ⊥ = cc h in no)
   hyphen_there (u ∷ v ∷ us) h = (u, v ∷ us, refl, eqb-true u.value 45 (both (u.value == 45) (not (v.value == 93)) h).0)
 
-  -- what a `-` and an atom behind an atom make of it
+  -- what a `-` and an atom after an atom make of it
   dashed_is : (a b : Atom) (n : ℕ) (us : List CodePoint) (hyphen : CodePoint) (w more : List CodePoint) → is_dashed (values us) ≡ true → us ≡ hyphen ∷ (w ++ more) → SpellsAtom e b w more →
       item_before e a n us ≡ dashed_of e.mode a n (atom_read b (length w))
   dashed_is a b n us hyphen w more d h s =
@@ -520,11 +520,11 @@ module _ (e : Environment) where
   class_token_is at_high (high k v) w rest s = ap high_of (atom_is_read (character k v) w rest s)
   class_token_is at_second (item a) w rest s = one_unit w rest 45 (item (character kinds.Symbol 45)) s.1 ∙ ap (λ a. Some (item a, length w)) (sym s.0)
   class_token_is at_third (item a) w rest s = ap item_of (atom_is_read a w rest s)
-  class_token_is behind_meet t w rest s =
+  class_token_is after_meet t w rest s =
       token_there (is_sets e.mode && not (starts 38 (values (w ++ rest)))) _
       (and_from (is_sets e.mode) (not (starts 38 (values (w ++ rest)))) s.0 (ap not (starts_front 38 w rest (operand_some t w rest s.1) ∙ s.2)))
       ∙ operand_read w rest t s.0 s.1
-  class_token_is behind_less t w rest s = token_there (is_sets e.mode) _ s.0 ∙ operand_read w rest t s.0 s.1
+  class_token_is after_less t w rest s = token_there (is_sets e.mode) _ s.0 ∙ operand_read w rest t s.0 s.1
   class_token_is in_strings t w rest s = token_there (is_sets e.mode) _ s.0 ∙ of_strings_read t w rest s.0 s.1
   class_token_is q t w rest s = absurd s
 
@@ -749,12 +749,12 @@ module _ (e : Environment) where
   place_found at_high us read h = high_found us read (atom_at e us) refl h
   place_found at_second us read h = unit_found at_second us read 45 (item (character kinds.Symbol 45)) (λ w rest s. (refl, s)) h
   place_found at_third us read h = third_found us read (atom_at e us) refl h
-  place_found behind_meet us read h =
+  place_found after_meet us read h =
       let p = where_true_is (is_sets e.mode && not (starts 38 (values us))) _ read h in
       let b = both (is_sets e.mode) (not (starts 38 (values us))) p.0 in
       let o = any_operand_found us read (atom_at e us) refl p.1 in
       (o.0, o.1, o.2, o.3, (b.0, o.4, no_ampersand o.0 o.1 read.0 o.4 (ap (λ us. not (starts 38 (values us))) (sym o.2) ∙ b.1)))
-  place_found behind_less us read h =
+  place_found after_less us read h =
       let p = where_true_is (is_sets e.mode) _ read h in
       let o = any_operand_found us read (atom_at e us) refl p.1 in
       (o.0, o.1, o.2, o.3, (p.0, o.4))
@@ -782,17 +782,17 @@ module _ (e : Environment) where
   token_some at_high (high k v) w rest s = atom_some (character k v) w rest s
   token_some at_second (item a) w rest s = omega (arith, units w (45 ∷ []) s.1)
   token_some at_third (item a) w rest s = atom_some a w rest s
-  token_some behind_meet t w rest s = operand_some t w rest s.1
-  token_some behind_less t w rest s = operand_some t w rest s.1
+  token_some after_meet t w rest s = operand_some t w rest s.1
+  token_some after_less t w rest s = operand_some t w rest s.1
   token_some in_strings (letter k v) w rest s = atom_some (character k v) w rest s.1
   token_some in_strings string_bar w rest s = omega (arith, units w (124 ∷ []) s.1)
   token_some in_strings strings_end w rest s = omega (arith, units w (125 ∷ []) s.1)
   token_some in_strings t w rest s = absurd s.1
   token_some q t w rest s = absurd s
 
-  -- the place behind an item that no `-` follows, and behind the first of three
-  pub behind_one : (a : Atom) (more : List CodePoint) → is_dashed (values more) ≡ false → behind e.mode fresh (item a) more ≡ fresh
-  behind_one a more d = ap (λ b. behind_item fresh (b && has_threes e.mode)) d
+  -- the place after an item that no `-` follows, and after the first of three
+  pub after_one : (a : Atom) (more : List CodePoint) → is_dashed (values more) ≡ false → next_place e.mode fresh (item a) more ≡ fresh
+  after_one a more d = ap (λ b. following_item fresh (b && has_threes e.mode)) d
 
-  pub behind_first : (a : Atom) (more : List CodePoint) → BeforeThird e a more → behind e.mode fresh (item a) more ≡ at_second
-  behind_first a more t = ap₂ (λ b c. behind_item fresh (b && c)) t.dashed t.threes
+  pub after_first : (a : Atom) (more : List CodePoint) → BeforeThird e a more → next_place e.mode fresh (item a) more ≡ at_second
+  after_first a more t = ap₂ (λ b c. following_item fresh (b && c)) t.dashed t.threes

@@ -8,11 +8,11 @@ use Rattle.rx_model.specs.Classes.ClassBuilds.{class_of_tokens}
 use Rattle.rx_model.specs.Classes.ClassFronts.{TokenRead, TokensRead, class_token_at, with_token, tokens_on, tokens_from, class_tokens_at, class_in, class_of, class_front}
 use Rattle.rx_model.specs.Classes.ClassRows.{outside, fresh, SpellsBracket, SpellsInClass, ClassTokenRow, IsClass}
 use Rattle.rx_model.specs.Classes.ClassTokens.{ClassToken, class_tokens}
-use Rattle.rx_model.specs.Reading.ElementKinds.{NestedPlace, behind_of_class}
+use Rattle.rx_model.specs.Reading.ElementKinds.{NestedPlace, after_of_class}
 use Rattle.rx_model.specs.Inputs.Environment.{Environment}
 use Rattle.rx_model.proofs.Classes.ClassBuilds.{class_is_built}
 use Rattle.rx_model.proofs.Classes.ClassBuilt.{built_has_tokens}
-use Rattle.rx_model.proofs.Classes.ClassEnds.{OfClass, class_ends, none_behind_end, row_of_elements}
+use Rattle.rx_model.proofs.Classes.ClassEnds.{OfClass, class_ends, none_after_end, row_of_elements}
 use Rattle.rx_model.proofs.Classes.ClassFlags.{row_flagged}
 use Rattle.rx_model.proofs.Classes.ClassShapes.{class_tokens_by}
 use Rattle.rx_model.proofs.Classes.ClassFronts.{class_token_found, class_token_is, token_some}
@@ -24,11 +24,11 @@ module _ (e : Environment) where
   after_skipped p (suc n) (u ∷ us) = after_skipped p n us
 
   -- the tokens from a place on, if there is one
-  abbrev tokens_behind : Option NestedPlace → List CodePoint → TokensRead
-  tokens_behind None us = Some ([], 0)
-  tokens_behind (Some p) us = class_tokens_at e p 0 us
+  abbrev tokens_after : Option NestedPlace → List CodePoint → TokensRead
+  tokens_after None us = Some ([], 0)
+  tokens_after (Some p) us = class_tokens_at e p 0 us
 
-  goes_on : (o : Option NestedPlace) (w rest : List CodePoint) → tokens_on (suc (length w)) o (λ q n. class_tokens_at e q n (w ++ rest)) ≡ tokens_behind o rest
+  goes_on : (o : Option NestedPlace) (w rest : List CodePoint) → tokens_on (suc (length w)) o (λ q n. class_tokens_at e q n (w ++ rest)) ≡ tokens_after o rest
   goes_on None w rest = refl
   goes_on (Some p) w rest =
       let less : suc (length w) - 1 ≡ length w = omega arith in
@@ -36,15 +36,15 @@ module _ (e : Environment) where
 
   -- A token that is spelled is read before the others.
   token_first : (p : NestedPlace) (t : ClassToken) (w rest : List CodePoint) → SpellsInClass e p.1 t w rest →
-      class_tokens_at e p 0 (w ++ rest) ≡ with_token t (length w) (tokens_behind (behind_of_class e (Some p) t rest) rest)
+      class_tokens_at e p 0 (w ++ rest) ≡ with_token t (length w) (tokens_after (after_of_class e (Some p) t rest) rest)
   token_first p t [] rest s = absurd (omega (arith, token_some e p.1 t [] rest s))
   token_first p t (u ∷ w) rest s =
       let n = suc (length w) in
       ap (λ r. tokens_from e p (u ∷ (w ++ rest)) r (λ q n. class_tokens_at e q n (w ++ rest))) (class_token_is e p.1 t (u ∷ w) rest s)
-      ∙ ap (λ back. with_token t n (tokens_on n (behind_of_class e (Some p) t back) (λ q n. class_tokens_at e q n (w ++ rest)))) (drop-append_seam (u ∷ w) rest)
-      ∙ ap (with_token t n) (goes_on (behind_of_class e (Some p) t rest) w rest)
+      ∙ ap (λ back. with_token t n (tokens_on n (after_of_class e (Some p) t back) (λ q n. class_tokens_at e q n (w ++ rest)))) (drop-append_seam (u ∷ w) rest)
+      ∙ ap (with_token t n) (goes_on (after_of_class e (Some p) t rest) w rest)
 
-  -- tokens that lead to behind the closer, spelled → read
+  -- tokens that lead to after the closer, spelled → read
   record TokensFront (ts : List ClassToken) (p : NestedPlace) (us rest : List CodePoint) : Type 0 where
     front : List CodePoint
     whole : us ≡ front ++ rest
@@ -53,21 +53,21 @@ module _ (e : Environment) where
 
   tokens_read : (ts : List ClassToken) (p : NestedPlace) (us rest : List CodePoint) → OfClass e ts (Some p) us None rest → TokensFront ts p us rest
   tokens_read [] p us rest row = absurd (let same = row.0 in let no : ⊥ = cc same in no)
-  tokens_read (t ∷ ts) p us rest row = go (behind_of_class e (Some p) t row.1) refl row.4 (λ q more. tokens_read ts q row.1 rest more)
+  tokens_read (t ∷ ts) p us rest row = go (after_of_class e (Some p) t row.1) refl row.4 (λ q more. tokens_read ts q row.1 rest more)
     where
-      first : class_tokens_at e p 0 us ≡ with_token t (length row.0) (tokens_behind (behind_of_class e (Some p) t row.1) row.1)
+      first : class_tokens_at e p 0 us ≡ with_token t (length row.0) (tokens_after (after_of_class e (Some p) t row.1) row.1)
       first = ap (class_tokens_at e p 0) row.2 ∙ token_first p t row.0 row.1 row.3
 
-      go : (o : Option NestedPlace) → behind_of_class e (Some p) t row.1 ≡ o → OfClass e ts o row.1 None rest → ((q : NestedPlace) → OfClass e ts (Some q) row.1 None rest → TokensFront ts q row.1 rest) →
+      go : (o : Option NestedPlace) → after_of_class e (Some p) t row.1 ≡ o → OfClass e ts o row.1 None rest → ((q : NestedPlace) → OfClass e ts (Some q) row.1 None rest → TokensFront ts q row.1 rest) →
           TokensFront (t ∷ ts) p us rest
       go None h more again =
-          let n = none_behind_end e ts row.1 None rest more in
+          let n = none_after_end e ts row.1 None rest more in
           record {
             front = row.0;
             whole = row.2 ∙ ap (λ rest. row.0 ++ rest) n.1;
             some = token_some e p.1 t row.0 row.1 row.3;
             read =
-                first ∙ ap (λ o. with_token t (length row.0) (tokens_behind o row.1)) h
+                first ∙ ap (λ o. with_token t (length row.0) (tokens_after o row.1)) h
                 ∙ ap₂ (λ ts n. Some (t ∷ ts, n)) (sym n.0) (let k : length row.0 + 0 ≡ length row.0 = omega arith in k);
           }
       go (Some q) h more again =
@@ -77,7 +77,7 @@ module _ (e : Environment) where
             whole = row.2 ∙ ap (λ rest. row.0 ++ rest) f.whole ∙ sym (append_assoc row.0 f.front rest);
             some = omega (arith, length-append row.0 f.front, f.some);
             read =
-                first ∙ ap (λ o. with_token t (length row.0) (tokens_behind o row.1)) h
+                first ∙ ap (λ o. with_token t (length row.0) (tokens_after o row.1)) h
                 ∙ ap (with_token t (length row.0)) f.read
                 ∙ ap (λ n. Some (t ∷ ts, n)) (sym (length-append row.0 f.front));
           }
@@ -116,7 +116,7 @@ module _ (e : Environment) where
       let b = bracket_begins negative row.0 row.1 row.3 in
       (b.0, b.1 ++ row.1, row.2 ∙ ap (λ v. v ++ row.1) b.2, b.3)
 
-  -- tokens that lead to behind the closer, read → spelled
+  -- tokens that lead to after the closer, read → spelled
   record TokensSpelled (ts : List ClassToken) (p : NestedPlace) (n : ℕ) (us : List CodePoint) : Type 0 where
     front : List CodePoint
     rest : List CodePoint
@@ -143,7 +143,7 @@ module _ (e : Environment) where
   none_read ts k h = (ap (λ (x : List ClassToken × ℕ). x.0) (Some-inj h), ap (λ (x : List ClassToken × ℕ). x.1) (Some-inj h))
 
   on_found : (u : CodePoint) (us : List CodePoint) (p : NestedPlace) (t : ClassToken) (w rest : List CodePoint) → Again us → u ∷ us ≡ w ++ rest → SpellsInClass e p.1 t w rest →
-      (o : Option NestedPlace) → behind_of_class e (Some p) t rest ≡ o → (ts : List ClassToken) (k : ℕ) → tokens_on (length w) o (λ q n. class_tokens_at e q n us) ≡ Some (ts, k) → TokensSpelled (t ∷ ts) p (length w + k) (u ∷ us)
+      (o : Option NestedPlace) → after_of_class e (Some p) t rest ≡ o → (ts : List ClassToken) (k : ℕ) → tokens_on (length w) o (λ q n. class_tokens_at e q n us) ≡ Some (ts, k) → TokensSpelled (t ∷ ts) p (length w + k) (u ∷ us)
   on_found u us p t w rest again whole s None b ts k h =
       let none = none_read ts k h in
       record {
@@ -170,11 +170,11 @@ module _ (e : Environment) where
   from_found u us p ts m again None f h = absurd (let no : ⊥ = cc h in no)
   from_found u us p ts m again (Some r) f h =
       let g = class_token_found e p.1 (u ∷ us) r.0 r.1 f in
-      let k = with_token_is r.0 r.1 (tokens_on r.1 (behind_of_class e (Some p) r.0 (drop r.1 (u ∷ us))) (λ q n. class_tokens_at e q n us)) ts m h in
+      let k = with_token_is r.0 r.1 (tokens_on r.1 (after_of_class e (Some p) r.0 (drop r.1 (u ∷ us))) (λ q n. class_tokens_at e q n us)) ts m h in
       let seam : drop r.1 (u ∷ us) ≡ g.rest = ap (drop r.1) g.whole ∙ ap (λ n. drop n (g.w ++ g.rest)) (sym g.count) ∙ drop-append_seam g.w g.rest in
-      let there = ap₂ (λ n rest. tokens_on n (behind_of_class e (Some p) r.0 rest) (λ q n. class_tokens_at e q n us)) g.count (sym seam) ∙ k.2 in
+      let there = ap₂ (λ n rest. tokens_on n (after_of_class e (Some p) r.0 rest) (λ q n. class_tokens_at e q n us)) g.count (sym seam) ∙ k.2 in
       subst (λ m. TokensSpelled ts p m (u ∷ us)) (ap (λ n. n + k.1) g.count ∙ k.4)
-      (subst (λ ts. TokensSpelled ts p (length g.w + k.1) (u ∷ us)) k.3 (on_found u us p r.0 g.w g.rest again g.whole g.spelled (behind_of_class e (Some p) r.0 g.rest) refl k.0 k.1 there))
+      (subst (λ ts. TokensSpelled ts p (length g.w + k.1) (u ∷ us)) k.3 (on_found u us p r.0 g.w g.rest again g.whole g.spelled (after_of_class e (Some p) r.0 g.rest) refl k.0 k.1 there))
 
   tokens_found : (us : List CodePoint) → Again us
   tokens_found [] p zero ts m h = absurd (let no : ⊥ = cc h in no)

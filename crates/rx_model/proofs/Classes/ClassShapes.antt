@@ -13,10 +13,10 @@ use Rattle.rx_ast.specs.declared.class.CharacterClassContentsKind.TheVariants.{U
 use Rattle.rx_ast.specs.declared.class.ClassString.{ClassString}
 use Rattle.rx_ast.specs.ClassTree.{Class, Member, Members, no_member, member, class}
 use Rattle.rx_ast.specs.ClassTree as tree
-use Rattle.rx_model.specs.Classes.ClassRuns.{Held, empty, single, several, meeting, met, lessening, lessened, Bracket, Brackets, behind_step, bracket_of, class_opened, class_run, closed, held_on, holding, is_whole, less_by, met_by, operand, ranged, where_may, where_true, with_strings}
-use Rattle.rx_model.specs.Classes.ClassShapes.{AreFitting, AreFlagged, AreOperands, FitsKind, IsFitting, IsFittingMember, IsFlagged, IsFlaggedMember, IsFlaggedString, IsOperand}
+use Rattle.rx_model.specs.Classes.ClassRuns.{Held, empty, single, several, meeting, met, lessening, lessened, Bracket, Brackets, after_step, bracket_of, class_opened, class_run, closed, held_on, holding, is_whole, less_by, met_by, operand, ranged, where_may, where_true, with_strings}
+use Rattle.rx_model.specs.Classes.ClassShapes.{AreFitting, AreFlagged, AreOperands, FitsKind, IsFitting, IsFittingMember, IsFlagged, IsFlaggedMember, IsOperand}
 use Rattle.rx_model.specs.Classes.ClassTokens.{ClassToken, bracket, closer, dash, high, meet, less, strings, letter, string_bar, strings_end, ClassEvents, leave, token, class_tokens, class_tokens_of, letters_events, string_events, strings_events, barred_strings_events, member_events, members_events, more_members_events, operator_events}
-use Rattle.rx_model.specs.Trees.Early.{AreCodePoints, AreEarlyMembers, IsCodePoint, IsEarlyClass, IsEarlyMember, IsEarlyString, all_strings, any_strings, class_strings, may_contain_strings, member_strings}
+use Rattle.rx_model.specs.Trees.Early.{AreCodePoints, AreEarlyMembers, IsCodePoint, IsEarlyClass, IsEarlyMember, IsEarlyString, IsFlaggedString, all_strings, any_strings, class_strings, may_contain_strings, member_strings}
 use Rattle.rx_model.proofs.Classes.ClassTokens.{tokens_append}
 
 -- the tokens of what is in a class
@@ -101,8 +101,8 @@ on ts brackets = class_run ts brackets
 abbrev in_strings : Bool → Held → Bool → ℕ → Bool → Bracket
 in_strings negative held may count any = record { negative = negative; held = held; may = may; low_end = 0; count = count; any = any }
 
-goes : (ts : List ClassToken) {step step_after : Option Brackets} → step ≡ step_after → behind_step step (λ after. class_run ts after) ≡ behind_step step_after (λ after. class_run ts after)
-goes ts e = ap (λ o. behind_step o (λ after. class_run ts after)) e
+goes : (ts : List ClassToken) {step step_after : Option Brackets} → step ≡ step_after → after_step step (λ after. class_run ts after) ≡ after_step step_after (λ after. class_run ts after)
+goes ts e = ap (λ o. after_step o (λ after. class_run ts after)) e
 
 holds : (r : Bracket) (outer : Brackets) (may : Bool) (more : Option Held) (after : Held) → more ≡ Some after → holding r outer may more ≡ Some (bracket_of r.negative after (with_strings r.held r.may may) ∷ outer)
 holds r outer may more after e = ap (holding r outer may) e
@@ -132,7 +132,7 @@ letters_out negative held may any outer (c ∷ cs) count ss all =
 any_now : (any : Bool) (s : ClassString) (rest : Bool) → IsFlaggedString s → ((any || not ((0 + length s.body) == 1)) || rest) ≡ (any || (s.strings || rest))
 any_now any s rest e = or_assoc any (not ((0 + length s.body) == 1)) rest ∙ ap (λ b. any || (b || rest)) (ap (λ n. not (n == 1)) (omega arith) ∙ sym e)
 
--- Class strings from the first on, behind others of which some may be no single character.
+-- Class strings from the first on, after others of which some may be no single character.
 pub strings_out : (negative : Bool) (held : Held) (may : Bool) (outer : Brackets) (after : Held) → operand held ≡ Some after → (s : ClassString) (ss : List ClassString) (any : Bool) (more : List ClassToken) →
     All IsEarlyString (s ∷ ss) →
     class_run (letters_tokens s.body ++ (barred_tokens ss ++ (strings_end ∷ more))) (in_strings negative held may 0 any ∷ outer)
@@ -348,15 +348,15 @@ contents_on Subtraction (member m ms) all fits negative outer =
 may_close_now : (held : Held) (negative may : Bool) → is_whole held ≡ true → (negative && may) ≡ false → (is_whole held && not (negative && may)) ≡ true
 may_close_now held negative may w n = and_from (is_whole held) (not (negative && may)) w (ap not n)
 
--- the tokens of a class from behind its bracket on
+-- the tokens of a class from after its bracket on
 class_rest : (negative may : Bool) (kind : CharacterClassContentsKind) (ms : Members) (outer : Brackets) → AllOut ms → FitsKind kind ms → may ≡ may_contain_strings kind ms → (negative && may) ≡ false → (ss : List ClassToken) →
-    class_run ((contents_tokens (between_by kind) ms ++ (closer ∷ [])) ++ ss) (bracket_of negative empty false ∷ outer) ≡ behind_step (closed may true outer) (λ after. class_run ss after)
+    class_run ((contents_tokens (between_by kind) ms ++ (closer ∷ [])) ++ ss) (bracket_of negative empty false ∷ outer) ≡ after_step (closed may true outer) (λ after. class_run ss after)
 class_rest negative may kind ms outer all fits flag free ss =
     let c = contents_on kind ms all fits negative outer in
     ap (λ ts. class_run ts (bracket_of negative empty false ∷ outer)) (append_assoc (contents_tokens (between_by kind) ms) (closer ∷ []) ss)
     ∙ c.2 (closer ∷ ss)
-    ∙ ap (λ b. behind_step (closed b (is_whole c.0 && not (negative && b)) outer) (λ after. class_run ss after)) (sym flag)
-    ∙ ap (λ b. behind_step (closed may b outer) (λ after. class_run ss after)) (may_close_now c.0 negative may c.1 free)
+    ∙ ap (λ b. after_step (closed b (is_whole c.0 && not (negative && b)) outer) (λ after. class_run ss after)) (sym flag)
+    ∙ ap (λ b. after_step (closed may b outer) (λ after. class_run ss after)) (may_close_now c.0 negative may c.1 free)
 
 mutual
   class_out : (c : Class) → IsFitting c → IsEarlyClass c → (negative : Bool) (held : Held) (may : Bool) (outer : Brackets) (after : Held) → operand held ≡ Some after →
@@ -402,11 +402,11 @@ early_closes (class s negative may kind ms) fits early =
     ∙ class_rest negative may kind ms [] (members_out ms fits.1 early.2) fits.0 early.0 early.1 []
 
 -- What is accepted obeys.
-true_first : (b : Bool) (o : Option Brackets) (more : Brackets → Option Brackets) (end : Brackets) → behind_step (where_true b o) more ≡ Some end → b ≡ true
+true_first : (b : Bool) (o : Option Brackets) (more : Brackets → Option Brackets) (end : Brackets) → after_step (where_true b o) more ≡ Some end → b ≡ true
 true_first true o more end h = refl
 true_first false o more end h = absurd (let no : ⊥ = cc h in no)
 
-closed_first : (b may : Bool) (outer : Brackets) (more : Brackets → Option Brackets) (end : Brackets) → behind_step (closed may b outer) more ≡ Some end → b ≡ true
+closed_first : (b may : Bool) (outer : Brackets) (more : Brackets → Option Brackets) (end : Brackets) → after_step (closed may b outer) more ≡ Some end → b ≡ true
 closed_first true may outer more end h = refl
 closed_first false may outer more end h = absurd (let no : ⊥ = cc h in no)
 

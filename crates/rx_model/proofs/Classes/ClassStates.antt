@@ -5,17 +5,17 @@ use Rattle.rx_units.specs.declared.code_point.CodePoint.{CodePoint}
 use Rattle.rx_units.specs.Units.{values}
 use Rattle.rx_units.proofs.Choices.{Some-inj, is_none}
 use Rattle.rx_model.specs.declared.mode.Mode.{Mode}
-use Rattle.rx_model.specs.Classes.ClassRows.{ClassTokenRow, Place, SpellsInClass, outside, fresh, at_dash, at_high, at_second, at_third, behind_meet, behind_less, in_strings, behind, behind_item, has_threes, is_dashed}
-use Rattle.rx_model.specs.Classes.ClassRuns.{Held, empty, single, several, meeting, met, lessening, lessened, Bracket, Brackets, any_string, atom_may, atom_obeys, behind_step, bracket_of, class_opened, class_run, class_step, closed, held_on, holding, is_union, is_whole, less_by, may_close, may_follow, met_by, operand, ranged, takes_operand, where_may, where_true, with_strings}
+use Rattle.rx_model.specs.Classes.ClassRows.{ClassTokenRow, Place, SpellsInClass, outside, fresh, at_dash, at_high, at_second, at_third, after_meet, after_less, in_strings, next_place, following_item, has_threes, is_dashed}
+use Rattle.rx_model.specs.Classes.ClassRuns.{Held, empty, single, several, meeting, met, lessening, lessened, Bracket, Brackets, any_string, atom_may, atom_obeys, after_step, bracket_of, class_opened, class_run, class_step, closed, held_on, holding, is_union, is_whole, less_by, may_close, may_follow, met_by, operand, ranged, takes_operand, where_may, where_true, with_strings}
 use Rattle.rx_model.specs.Classes.ClassTokens.{ClassToken, bracket, closer, item, low, dash, high, meet, less, strings, letter, string_bar, strings_end}
 use Rattle.rx_model.specs.Inputs.Environment.{Environment, is_sets}
 
--- Behind the class no token stands.
-pub none_behind_class : (ts : List ClassToken) (b : Bracket) (bs : Brackets) → class_run ts [] ≡ Some (b ∷ bs) → ⊥
-none_behind_class [] b bs h = cc h
-none_behind_class (t ∷ ts) b bs h = cc h
+-- After the class no token stands.
+pub none_after_class : (ts : List ClassToken) (b : Bracket) (bs : Brackets) → class_run ts [] ≡ Some (b ∷ bs) → ⊥
+none_after_class [] b bs h = cc h
+none_after_class (t ∷ ts) b bs h = cc h
 
--- One token, behind which a bracket is open still, and more.
+-- One token, after which a bracket is open still, and more.
 pub record Steps (t : ClassToken) (ts : List ClassToken) (bs : Brackets) (c : Bracket) (cs : Brackets) : Type 0 where
   pub inner : Bracket
   pub outer : Brackets
@@ -26,9 +26,9 @@ pub steps : (t : ClassToken) (ts : List ClassToken) (bs : Brackets) (c : Bracket
 steps t ts bs c cs h = go (class_step t bs) refl
   where
     go : (o : Option Brackets) → class_step t bs ≡ o → Steps t ts bs c cs
-    go None e = absurd (let no : None ≡ Some (c ∷ cs) = ap (λ o. behind_step o (λ bs. class_run ts bs)) (sym e) ∙ h in let k : ⊥ = cc no in k)
-    go (Some []) e = absurd (none_behind_class ts c cs (ap (λ o. behind_step o (λ bs. class_run ts bs)) (sym e) ∙ h))
-    go (Some (m ∷ ms)) e = record { inner = m; outer = ms; first = e; others = ap (λ o. behind_step o (λ bs. class_run ts bs)) (sym e) ∙ h }
+    go None e = absurd (let no : None ≡ Some (c ∷ cs) = ap (λ o. after_step o (λ bs. class_run ts bs)) (sym e) ∙ h in let k : ⊥ = cc no in k)
+    go (Some []) e = absurd (none_after_class ts c cs (ap (λ o. after_step o (λ bs. class_run ts bs)) (sym e) ∙ h))
+    go (Some (m ∷ ms)) e = record { inner = m; outer = ms; first = e; others = ap (λ o. after_step o (λ bs. class_run ts bs)) (sym e) ∙ h }
 
 -- What a token makes of the innermost bracket, with those around it.
 pub where_may_is : (o : Option Held) (bs cs : Brackets) → where_may o bs ≡ Some cs → bs ≡ cs
@@ -130,21 +130,21 @@ Fits at_dash held = Unit {0}
 Fits at_high held = Unit {0}
 Fits at_second held = Unit {0}
 Fits at_third held = Unit {0}
-Fits behind_meet held = held ≡ meeting
-Fits behind_less held = held ≡ lessening
+Fits after_meet held = held ≡ meeting
+Fits after_less held = held ≡ lessening
 Fits in_strings held = Unit {0}
 
-fits_behind_item : (q : Place) (first : Bool) (held : Held) → is_whole held ≡ true → Fits (behind_item q first) held
-fits_behind_item fresh true held h = tt
-fits_behind_item fresh false held h = h
-fits_behind_item at_second first held h = tt
-fits_behind_item at_third first held h = h
-fits_behind_item outside first held h = h
-fits_behind_item at_dash first held h = h
-fits_behind_item at_high first held h = h
-fits_behind_item behind_meet first held h = h
-fits_behind_item behind_less first held h = h
-fits_behind_item in_strings first held h = h
+fits_after_item : (q : Place) (first : Bool) (held : Held) → is_whole held ≡ true → Fits (following_item q first) held
+fits_after_item fresh true held h = tt
+fits_after_item fresh false held h = h
+fits_after_item at_second first held h = tt
+fits_after_item at_third first held h = h
+fits_after_item outside first held h = h
+fits_after_item at_dash first held h = h
+fits_after_item at_high first held h = h
+fits_after_item after_meet first held h = h
+fits_after_item after_less first held h = h
+fits_after_item in_strings first held h = h
 
 grown_whole : (h : Held) (outer : Brackets) (c : Bracket) (cs : Brackets) → Grown (operand h) outer (c ∷ cs) → is_whole c.held ≡ true
 grown_whole h outer c cs g = ap is_whole (inner_is g.held outer c cs g.holds) ∙ operand_whole h g.held g.is
@@ -154,14 +154,14 @@ closer_whole may false outer c cs h = absurd (let no : ⊥ = cc h in no)
 closer_whole may true [] c cs h = absurd (let no : ⊥ = cc h in no)
 closer_whole may true (r ∷ outer) c cs h = grown_whole r.held outer c cs (holding_is r outer may (operand r.held) (c ∷ cs) h)
 
-step_fits : (mode : Mode) (q : Place) (t : ClassToken) (rest : List CodePoint) (b : Bracket) (bs : Brackets) (c : Bracket) (cs : Brackets) → class_step t (b ∷ bs) ≡ Some (c ∷ cs) → Fits (behind mode q t rest) c.held
+step_fits : (mode : Mode) (q : Place) (t : ClassToken) (rest : List CodePoint) (b : Bracket) (bs : Brackets) (c : Bracket) (cs : Brackets) → class_step t (b ∷ bs) ≡ Some (c ∷ cs) → Fits (next_place mode q t rest) c.held
 step_fits mode q (bracket negative) rest b bs c cs h =
     let same = where_may_is (operand b.held) (bracket_of negative empty false ∷ b ∷ bs) (c ∷ cs) h in
     let it : bracket_of negative empty false ≡ c = cc same in
     ap (λ b. is_whole b.held) (sym it)
 step_fits mode q closer rest b bs c cs h = closer_whole b.may (may_close b) bs c cs h
 step_fits mode q (item a) rest b bs c cs h =
-    fits_behind_item q (is_dashed (values rest) && has_threes mode) c.held
+    fits_after_item q (is_dashed (values rest) && has_threes mode) c.held
     (grown_whole b.held bs c cs (holding_is b bs (atom_may a) (operand b.held) (c ∷ cs) (where_true_is (atom_obeys a) (holding b bs (atom_may a) (operand b.held)) (c ∷ cs) h)))
 step_fits mode q (low k v) rest b bs c cs h = tt
 step_fits mode q dash rest b bs c cs h = tt
@@ -183,7 +183,7 @@ row_fits e [] q us r rest b bs c cs row run f =
     subst (λ r. Fits r c.held) row.0 (subst (λ b. Fits q b.held) it f)
 row_fits e (t ∷ ts) q us r rest b bs c cs row run f =
     let s = steps t ts (b ∷ bs) c cs run in
-    row_fits e ts (behind e.mode q t row.1) row.1 r rest s.inner s.outer c cs row.4 s.others (step_fits e.mode q t row.1 b bs s.inner s.outer s.first)
+    row_fits e ts (next_place e.mode q t row.1) row.1 r rest s.inner s.outer c cs row.4 s.others (step_fits e.mode q t row.1 b bs s.inner s.outer s.first)
 
 pub opened_fits : (e : Environment) (ts : List ClassToken) (us : List CodePoint) (r : Place) (rest : List CodePoint) (c : Bracket) (cs : Brackets) → ClassTokenRow e ts outside us r rest → class_opened ts ≡ Some (c ∷ cs) → Fits r c.held
 opened_fits e [] us r rest c cs row h = absurd (let no : ⊥ = cc h in no)
@@ -195,15 +195,15 @@ record IsAlone (c : Bracket) (cs : Brackets) : Type 0 where
   pub union : is_union c.held ≡ true
   pub alone : cs ≡ []
 
--- behind no token stands the class's own bracket
-pub behind_inside : (mode : Mode) (q : Place) (t : ClassToken) (rest : List CodePoint) → behind mode q t rest ≡ outside → ⊥
-behind_inside mode q (item a) rest h = behind_item_inside q (is_dashed (values rest) && has_threes mode) h
+-- after no token stands the class's own bracket
+pub after_inside : (mode : Mode) (q : Place) (t : ClassToken) (rest : List CodePoint) → next_place mode q t rest ≡ outside → ⊥
+after_inside mode q (item a) rest h = after_item_inside q (is_dashed (values rest) && has_threes mode) h
   where
-    behind_item_inside : (q : Place) (first : Bool) → behind_item q first ≡ outside → ⊥
-    behind_item_inside fresh true h = cc h
-    behind_item_inside fresh false h = cc h
-    behind_item_inside q first h = cc h
-behind_inside mode q t rest h = cc h
+    after_item_inside : (q : Place) (first : Bool) → following_item q first ≡ outside → ⊥
+    after_item_inside fresh true h = cc h
+    after_item_inside fresh false h = cc h
+    after_item_inside q first h = cc h
+after_inside mode q t rest h = cc h
 
 alone_by : (held : Held) (outer : Brackets) (c : Bracket) (cs : Brackets) → outer ≡ [] → is_union held ≡ true → Holds held outer (c ∷ cs) → IsAlone c cs
 alone_by held outer c cs none u h = record { union = ap is_union (inner_is held outer c cs h) ∙ u; alone = sym (outer_is held outer c cs h) ∙ none }
@@ -236,8 +236,8 @@ step_alone e n at_second inside (item a) w rest b c cs s h u =
     alone_operand b c cs u (holding_is b [] (atom_may a) (operand b.held) (c ∷ cs) (where_true_is (atom_obeys a) (holding b [] (atom_may a) (operand b.held)) (c ∷ cs) h))
 step_alone e n at_third inside (item a) w rest b c cs s h u =
     alone_operand b c cs u (holding_is b [] (atom_may a) (operand b.held) (c ∷ cs) (where_true_is (atom_obeys a) (holding b [] (atom_may a) (operand b.held)) (c ∷ cs) h))
-step_alone e n behind_meet inside t w rest b c cs s h u = absurd (true≢false (sym s.0 ∙ n))
-step_alone e n behind_less inside t w rest b c cs s h u = absurd (true≢false (sym s.0 ∙ n))
+step_alone e n after_meet inside t w rest b c cs s h u = absurd (true≢false (sym s.0 ∙ n))
+step_alone e n after_less inside t w rest b c cs s h u = absurd (true≢false (sym s.0 ∙ n))
 step_alone e n in_strings inside t w rest b c cs s h u = absurd (true≢false (sym s.0 ∙ n))
 step_alone e n q inside t w rest b c cs s h u = absurd s
 
@@ -247,7 +247,7 @@ row_alone e n [] q inside us r rest b c cs row run u = alone_by b.held [] c cs r
 row_alone e n (t ∷ ts) q inside us r rest b c cs row run u =
     let s = steps t ts (b ∷ []) c cs run in
     let a = step_alone e n q inside t row.0 row.1 b s.inner s.outer row.3 s.first u in
-    row_alone e n ts (behind e.mode q t row.1) (behind_inside e.mode q t row.1) row.1 r rest s.inner c cs row.4 (ap (λ outer. class_run ts (s.inner ∷ outer)) (sym a.alone) ∙ s.others) a.union
+    row_alone e n ts (next_place e.mode q t row.1) (after_inside e.mode q t row.1) row.1 r rest s.inner c cs row.4 (ap (λ outer. class_run ts (s.inner ∷ outer)) (sym a.alone) ∙ s.others) a.union
 
 opened_alone : (e : Environment) → is_sets e.mode ≡ false → (ts : List ClassToken) (us : List CodePoint) (r : Place) (rest : List CodePoint) (c : Bracket) (cs : Brackets) → ClassTokenRow e ts outside us r rest →
     class_opened ts ≡ Some (c ∷ cs) → IsAlone c cs
@@ -260,38 +260,38 @@ pub opened_union : (e : Environment) → is_sets e.mode ≡ false → (ts : List
 opened_union e n ts us r rest c cs row h = (opened_alone e n ts us r rest c cs row h).union
 
 -- Nor do class strings stand in it.
-not_in_strings : (q : Place) (first : Bool) → behind_item q first ≡ in_strings → ⊥
+not_in_strings : (q : Place) (first : Bool) → following_item q first ≡ in_strings → ⊥
 not_in_strings fresh true h = cc h
 not_in_strings fresh false h = cc h
 not_in_strings q first h = cc h
 
-no_strings_behind : (e : Environment) → is_sets e.mode ≡ false → (q : Place) (t : ClassToken) (w rest : List CodePoint) → SpellsInClass e q t w rest → behind e.mode q t rest ≡ in_strings → ⊥
-no_strings_behind e n q (bracket negative) w rest s h = cc h
-no_strings_behind e n q closer w rest s h = cc h
-no_strings_behind e n q (item a) w rest s h = not_in_strings q (is_dashed (values rest) && has_threes e.mode) h
-no_strings_behind e n q (low k v) w rest s h = cc h
-no_strings_behind e n q dash w rest s h = cc h
-no_strings_behind e n q (high k v) w rest s h = cc h
-no_strings_behind e n q meet w rest s h = cc h
-no_strings_behind e n q less w rest s h = cc h
-no_strings_behind e n fresh strings w rest s h = true≢false (sym s.0 ∙ n)
-no_strings_behind e n behind_meet strings w rest s h = true≢false (sym s.0 ∙ n)
-no_strings_behind e n behind_less strings w rest s h = true≢false (sym s.0 ∙ n)
-no_strings_behind e n in_strings strings w rest s h = true≢false (sym s.0 ∙ n)
-no_strings_behind e n q strings w rest s h = absurd s
-no_strings_behind e n behind_meet (letter k v) w rest s h = true≢false (sym s.0 ∙ n)
-no_strings_behind e n behind_less (letter k v) w rest s h = true≢false (sym s.0 ∙ n)
-no_strings_behind e n in_strings (letter k v) w rest s h = true≢false (sym s.0 ∙ n)
-no_strings_behind e n q (letter k v) w rest s h = absurd s
-no_strings_behind e n behind_meet string_bar w rest s h = true≢false (sym s.0 ∙ n)
-no_strings_behind e n behind_less string_bar w rest s h = true≢false (sym s.0 ∙ n)
-no_strings_behind e n in_strings string_bar w rest s h = true≢false (sym s.0 ∙ n)
-no_strings_behind e n q string_bar w rest s h = absurd s
-no_strings_behind e n q strings_end w rest s h = cc h
+no_strings_after : (e : Environment) → is_sets e.mode ≡ false → (q : Place) (t : ClassToken) (w rest : List CodePoint) → SpellsInClass e q t w rest → next_place e.mode q t rest ≡ in_strings → ⊥
+no_strings_after e n q (bracket negative) w rest s h = cc h
+no_strings_after e n q closer w rest s h = cc h
+no_strings_after e n q (item a) w rest s h = not_in_strings q (is_dashed (values rest) && has_threes e.mode) h
+no_strings_after e n q (low k v) w rest s h = cc h
+no_strings_after e n q dash w rest s h = cc h
+no_strings_after e n q (high k v) w rest s h = cc h
+no_strings_after e n q meet w rest s h = cc h
+no_strings_after e n q less w rest s h = cc h
+no_strings_after e n fresh strings w rest s h = true≢false (sym s.0 ∙ n)
+no_strings_after e n after_meet strings w rest s h = true≢false (sym s.0 ∙ n)
+no_strings_after e n after_less strings w rest s h = true≢false (sym s.0 ∙ n)
+no_strings_after e n in_strings strings w rest s h = true≢false (sym s.0 ∙ n)
+no_strings_after e n q strings w rest s h = absurd s
+no_strings_after e n after_meet (letter k v) w rest s h = true≢false (sym s.0 ∙ n)
+no_strings_after e n after_less (letter k v) w rest s h = true≢false (sym s.0 ∙ n)
+no_strings_after e n in_strings (letter k v) w rest s h = true≢false (sym s.0 ∙ n)
+no_strings_after e n q (letter k v) w rest s h = absurd s
+no_strings_after e n after_meet string_bar w rest s h = true≢false (sym s.0 ∙ n)
+no_strings_after e n after_less string_bar w rest s h = true≢false (sym s.0 ∙ n)
+no_strings_after e n in_strings string_bar w rest s h = true≢false (sym s.0 ∙ n)
+no_strings_after e n q string_bar w rest s h = absurd s
+no_strings_after e n q strings_end w rest s h = cc h
 
 row_no_strings : (e : Environment) → is_sets e.mode ≡ false → (ts : List ClassToken) (q : Place) (us : List CodePoint) (r : Place) (rest : List CodePoint) → (q ≡ in_strings → ⊥) → ClassTokenRow e ts q us r rest → r ≡ in_strings → ⊥
 row_no_strings e n [] q us r rest other row h = other (row.0 ∙ h)
-row_no_strings e n (t ∷ ts) q us r rest other row h = row_no_strings e n ts (behind e.mode q t row.1) row.1 r rest (no_strings_behind e n q t row.0 row.1 row.3) row.4 h
+row_no_strings e n (t ∷ ts) q us r rest other row h = row_no_strings e n ts (next_place e.mode q t row.1) row.1 r rest (no_strings_after e n q t row.0 row.1 row.3) row.4 h
 
 pub none_in_strings : (e : Environment) → is_sets e.mode ≡ false → (ts : List ClassToken) (us : List CodePoint) (r : Place) (rest : List CodePoint) → ClassTokenRow e ts outside us r rest → r ≡ in_strings → ⊥
 none_in_strings e n ts us r rest row h = row_no_strings e n ts outside us r rest (λ no. cc no) row h
@@ -351,7 +351,7 @@ pub run_in : (ts : List ClassToken) (b : Bracket) (bs outer : Brackets) (c : Bra
 run_in [] b bs outer c cs h = ap (λ cs. around cs outer) (Some-inj h)
 run_in (t ∷ ts) b bs outer c cs h =
     let s = steps t ts (b ∷ bs) c cs h in
-    ap (λ o. behind_step o (λ bs. class_run ts bs)) (step_in t b bs outer s.inner s.outer s.first) ∙ run_in ts s.inner s.outer outer c cs s.others
+    ap (λ o. after_step o (λ bs. class_run ts bs)) (step_in t b bs outer s.inner s.outer s.first) ∙ run_in ts s.inner s.outer outer c cs s.others
 
 not_whole : (r : Bracket) → is_whole r.held ≡ false → may_close r ≡ false
 not_whole r h = ap (λ b. b && not (r.negative && r.may)) h
@@ -376,4 +376,4 @@ none_follows strings_end r outer h = ap (holding r outer (any_string r)) (is_non
 
 pub row_shorter : (e : Environment) (ts : List ClassToken) (q : Place) (us : List CodePoint) (r : Place) (rest : List CodePoint) → ClassTokenRow e ts q us r rest → length rest ≤ length us
 row_shorter e [] q us r rest h = omega (arith, ap length h.1)
-row_shorter e (t ∷ ts) q us r rest h = omega (arith, row_shorter e ts (behind e.mode q t h.1) h.1 r rest h.4, ap length h.2, length-append h.0 h.1)
+row_shorter e (t ∷ ts) q us r rest h = omega (arith, row_shorter e ts (next_place e.mode q t h.1) h.1 r rest h.4, ap length h.2, length-append h.0 h.1)

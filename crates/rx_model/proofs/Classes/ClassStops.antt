@@ -13,8 +13,8 @@ use Rattle.rx_model.specs.declared.mode.Mode.TheVariants.{Legacy, Unicode, Sets}
 use Rattle.rx_model.specs.Refusals.ClassCauses.{StandsRange}
 use Rattle.rx_model.specs.Refusals.ClassPlaces.{begins_item}
 use Rattle.rx_model.specs.Classes.ClassFronts.{atom_at, atom_read, no_atom}
-use Rattle.rx_model.specs.Classes.ClassRows.{behind, ClassTokenRow, Place, SpellsAtom, SpellsBracket, SpellsClassCharacter, SpellsInClass, SpellsOperand, at_dash, at_high, at_second, at_third, behind_less, behind_meet, fresh, has_threes, in_strings, is_dashed, outside}
-use Rattle.rx_model.specs.Classes.ClassRuns.{Bracket, Brackets, Held, atom_may, behind_step, class_run, class_step, closed, holding, is_union, may_close, operand, ranged, where_may, where_true}
+use Rattle.rx_model.specs.Classes.ClassRows.{next_place, ClassTokenRow, Place, SpellsAtom, SpellsBracket, SpellsClassCharacter, SpellsInClass, SpellsOperand, at_dash, at_high, at_second, at_third, after_less, after_meet, fresh, has_threes, in_strings, is_dashed, outside}
+use Rattle.rx_model.specs.Classes.ClassRuns.{Bracket, Brackets, Held, atom_may, after_step, class_run, class_step, closed, holding, is_union, may_close, operand, ranged, where_may, where_true}
 use Rattle.rx_model.specs.Classes.ClassTokens.{Atom, character, escape, property, is_character, ClassToken, bracket, closer, item, low, dash, high, meet, less, strings, letter, string_bar, strings_end}
 use Rattle.rx_model.specs.Inputs.Environment.{Environment, is_sets, is_unicode}
 use Rattle.rx_model.specs.FirstPass.Marks.{starts}
@@ -39,8 +39,8 @@ is_between at_dash = false
 is_between at_high = false
 is_between at_second = false
 is_between at_third = false
-is_between behind_meet = true
-is_between behind_less = true
+is_between after_meet = true
+is_between after_less = true
 is_between in_strings = true
 
 -- No row leads on from this place to another of its kind, or to the end of the class, that the brackets allow.
@@ -54,12 +54,12 @@ IsDead e at brackets rest = (t : ClassToken) (w more : List CodePoint) → rest 
 
 pub dead_blocked : (e : Environment) (at : Place) (brackets : Brackets) (rest : List CodePoint) → IsDead e at brackets rest → IsBlockedItem e at brackets rest
 dead_blocked e at brackets rest dead t ts q back after between row run =
-    let no : None ≡ Some after = ap (λ o. behind_step o (λ brackets. class_run ts brackets)) (sym (dead t row.0 row.1 row.2 row.3)) ∙ run in cc no
+    let no : None ≡ Some after = ap (λ o. after_step o (λ brackets. class_run ts brackets)) (sym (dead t row.0 row.1 row.2 row.3)) ∙ run in cc no
 
 pub item_between : (q : Place) → begins_item q ≡ true → is_between q ≡ true
 item_between fresh h = refl
-item_between behind_meet h = refl
-item_between behind_less h = refl
+item_between after_meet h = refl
+item_between after_less h = refl
 item_between outside h = absurd (true≢false (sym h))
 item_between at_dash h = absurd (true≢false (sym h))
 item_between at_high h = absurd (true≢false (sym h))
@@ -70,8 +70,8 @@ item_between in_strings h = absurd (true≢false (sym h))
 -- A union is at its places alone.
 pub fresh_union : (q : Place) (held : Held) → begins_item q ≡ true → Fits q held → is_union held ≡ true → q ≡ fresh
 fresh_union fresh held h f u = refl
-fresh_union behind_meet held h f u = absurd (true≢false (sym u ∙ ap is_union f))
-fresh_union behind_less held h f u = absurd (true≢false (sym u ∙ ap is_union f))
+fresh_union after_meet held h f u = absurd (true≢false (sym u ∙ ap is_union f))
+fresh_union after_less held h f u = absurd (true≢false (sym u ∙ ap is_union f))
 fresh_union outside held h f u = absurd (true≢false (sym h))
 fresh_union at_dash held h f u = absurd (true≢false (sym h))
 fresh_union at_high held h f u = absurd (true≢false (sym h))
@@ -115,8 +115,8 @@ spelled_there e fresh (bracket negative) w more between s = operand_spelled e (b
 spelled_there e fresh strings w more between s = operand_spelled e strings w more s.0 s.1
 spelled_there e fresh meet w more between s = by_other 38 (38 ∷ []) s.1 refl
 spelled_there e fresh less w more between s = by_less s.0 s.1
-spelled_there e behind_meet t w more between s = operand_spelled e t w more s.0 s.1
-spelled_there e behind_less t w more between s = operand_spelled e t w more s.0 s.1
+spelled_there e after_meet t w more between s = operand_spelled e t w more s.0 s.1
+spelled_there e after_less t w more between s = operand_spelled e t w more s.0 s.1
 spelled_there e in_strings (letter k v) w more between s = by_atom (character k v) (inr refl) s.1
 spelled_there e in_strings string_bar w more between s = by_other 124 [] s.1 refl
 spelled_there e in_strings strings_end w more between s = by_other 125 [] s.1 refl
@@ -159,14 +159,14 @@ module _ (mode : Mode) (us : List CodePoint) (start added : ℕ) where
 
   -- No atom is spelled there that obeys, and no character.
   pub no_item_there : (f : ℕ) (rest : List CodePoint) (d : Diagnostic) → AtomFault f rest d → (a : Atom) (w more : List CodePoint) → rest ≡ w ++ more → SpellsAtom here a w more → IsNoItem a
-  no_item_there f rest _ (bad_escape backslash behind no_sets h is none) a w more whole s = absurd (no_escape_spelled no_sets backslash behind is none a w more (sym h ∙ whole) s)
+  no_item_there f rest _ (bad_escape backslash following no_sets h is none) a w more whole s = absurd (no_escape_spelled no_sets backslash following is none a w more (sym h ∙ whole) s)
   no_item_there f rest d (in_escape c) a w more whole s = absurd (no_atom_escaped here us start added f rest d a w more c whole s)
   no_item_there f rest d (in_property c) a w more whole s = no_atom_of_property here us start added f rest d a w more c whole s
 
   -- What a refused escape begins with.
   pub backslash_first : (f : ℕ) (rest : List CodePoint) (d : Diagnostic) → AtomFault f rest d → (w : List ℕ) × (values rest ≡ 92 ∷ w) × (is_sets mode ≡ true → starts 113 w ≡ false)
-  backslash_first f rest _ (bad_escape backslash behind no_sets h is none) =
-      (values behind, ap values h ∙ ap (λ c. c ∷ values behind) is, λ sets. absurd (true≢false (sym sets ∙ no_sets)))
+  backslash_first f rest _ (bad_escape backslash following no_sets h is none) =
+      (values following, ap values h ∙ ap (λ c. c ∷ values following) is, λ sets. absurd (true≢false (sym sets ∙ no_sets)))
   backslash_first f rest d (in_escape c) = let b = escape_first here us start added f rest d c in (117 ∷ b.0, b.1, λ sets. refl)
   backslash_first f rest d (in_property c) =
       let b = property_first mode us start added f rest d c in
@@ -229,8 +229,8 @@ module _ (mode : Mode) (us : List CodePoint) (start added : ℕ) where
       by (by_other c x k other) = none_other 45 c (same_unit rest w more 45 c v x h whole k) other refl
 
   -- Before a third `&`.
-  pub third_dead : (inner : Bracket) (outer : Brackets) (unit : CodePoint) (rest : List CodePoint) → unit.value ≡ 38 → IsDead here behind_meet (inner ∷ outer) (unit ∷ rest)
-  third_dead inner outer unit rest is t w more whole s = absurd (by (spelled_there here behind_meet t w more refl s))
+  pub third_dead : (inner : Bracket) (outer : Brackets) (unit : CodePoint) (rest : List CodePoint) → unit.value ≡ 38 → IsDead here after_meet (inner ∷ outer) (unit ∷ rest)
+  third_dead inner outer unit rest is t w more whole s = absurd (by (spelled_there here after_meet t w more refl s))
     where
       some : (c : ℕ) (v : List ℕ) → values w ≡ c ∷ v → ⊥
       some c v h =
@@ -266,7 +266,7 @@ module _ (mode : Mode) (us : List CodePoint) (start added : ℕ) where
       let begins = atom_begins here b v more s in
       ap (λ v. is_dashed (values (hyphen ∷ (v ++ more)))) begins.whole ∙ rw (h, begins.no_closer) refl
 
-  -- What no atom and no character stands behind: an atom and a `-` that are no three items and no range.
+  -- What no atom and no character stands after: an atom and a `-` that are no three items and no range.
   lone_dead : (inner : Bracket) (outer : Brackets) (a : Atom) (w : List CodePoint) (hyphen : CodePoint) (rest : List CodePoint) → is_sets mode ≡ false → SpellsAtom here a w (hyphen ∷ rest) → is_dashed (values (hyphen ∷ rest)) ≡ true →
       ((b : Atom) (v more : List CodePoint) → has_threes mode ≡ true → rest ≡ v ++ more → SpellsAtom here b v more → ⊥) →
       ((k : CharacterKind) (x : ℕ) (v more : List CodePoint) → is_character a ≡ true → rest ≡ v ++ more → SpellsClassCharacter here k x v more → ⊥) →
@@ -320,12 +320,12 @@ module _ (mode : Mode) (us : List CodePoint) (start added : ℕ) where
     where
       by : (o : Option Held) → ranged inner.held ≡ o → ⊥
       by None f =
-          let no : None ≡ Some after = ap (λ o. behind_step (where_may o (record inner { low_end = v } ∷ outer)) (λ bs. class_run (dash ∷ high j x ∷ ts) bs)) (sym f) ∙ h in cc no
+          let no : None ≡ Some after = ap (λ o. after_step (where_may o (record inner { low_end = v } ∷ outer)) (λ bs. class_run (dash ∷ high j x ∷ ts) bs)) (sym f) ∙ h in cc no
       by (Some held) f =
           let low_is : class_run (dash ∷ high j x ∷ ts) (record inner { low_end = v } ∷ outer) ≡ Some after =
-          ap (λ o. behind_step (where_may o (record inner { low_end = v } ∷ outer)) (λ bs. class_run (dash ∷ high j x ∷ ts) bs)) (sym f) ∙ h in
+          ap (λ o. after_step (where_may o (record inner { low_end = v } ∷ outer)) (λ bs. class_run (dash ∷ high j x ∷ ts) bs)) (sym f) ∙ h in
           let no : None ≡ Some after =
-          ap (λ b. behind_step (where_true (b && nat_le x 0x10FFFF) (holding (record inner { low_end = v }) outer false (ranged inner.held))) (λ bs. class_run ts bs)) (sym (not_below v x below)) ∙ low_is in
+          ap (λ b. after_step (where_true (b && nat_le x 0x10FFFF) (holding (record inner { low_end = v }) outer false (ranged inner.held))) (λ bs. class_run ts bs)) (sym (not_below v x below)) ∙ low_is in
           cc no
 
   -- The low end of a range is spelled before the others.
@@ -345,11 +345,11 @@ module _ (mode : Mode) (us : List CodePoint) (start added : ℕ) where
     },
   )
 
-  behind_low : (inner : Bracket) (outer : Brackets) (v x : ℕ) (w z more : List CodePoint) (hyphen : CodePoint) → (s : StandsRange here v w hyphen x z more) → x < v → (q : Place) (back : List CodePoint) (after : Brackets) → is_between q ≡ true →
+  after_low : (inner : Bracket) (outer : Brackets) (v x : ℕ) (w z more : List CodePoint) (hyphen : CodePoint) → (s : StandsRange here v w hyphen x z more) → x < v → (q : Place) (back : List CodePoint) (after : Brackets) → is_between q ≡ true →
       (ts : List ClassToken) → ClassTokenRow here ts at_dash (hyphen ∷ (z ++ more)) q back → class_run (low s.low_kind v ∷ ts) (inner ∷ outer) ≡ Some after → ⊥
-  behind_low inner outer v x w z more hyphen s below q back after between [] r run = true≢false (sym between ∙ ap is_between (sym r.0))
-  behind_low inner outer v x w z more hyphen s below q back after between (dash ∷ []) r run = true≢false (sym between ∙ ap is_between (sym r.4.0))
-  behind_low inner outer v x w z more hyphen s below q back after between (dash ∷ (high j y) ∷ ts) r run =
+  after_low inner outer v x w z more hyphen s below q back after between [] r run = true≢false (sym between ∙ ap is_between (sym r.0))
+  after_low inner outer v x w z more hyphen s below q back after between (dash ∷ []) r run = true≢false (sym between ∙ ap is_between (sym r.4.0))
+  after_low inner outer v x w z more hyphen s below q back after between (dash ∷ (high j y) ∷ ts) r run =
       let f = first_in_class here at_dash dash dash r.0 r.1 (hyphen ∷ []) (z ++ more) (sym r.2) r.3 (ap (λ c. c ∷ []) s.hyphen_is) in
       let g = first_in_class here at_high (high j y) (high s.high_kind x) r.4.0 r.4.1 z more (sym r.4.2 ∙ f.1) r.4.3 s.high_is in
       let same = g.0 in
@@ -357,12 +357,12 @@ module _ (mode : Mode) (us : List CodePoint) (start added : ℕ) where
     where
       high_value : (j k : CharacterKind) (y x : ℕ) → high j y ≡ high k x → y ≡ x
       high_value j k y x h = cc h
-  behind_low inner outer v x w z more hyphen s below q back after between (dash ∷ t ∷ ts) r run = absurd r.4.3
-  behind_low inner outer v x w z more hyphen s below q back after between (t ∷ ts) r run = absurd r.3
+  after_low inner outer v x w z more hyphen s below q back after between (dash ∷ t ∷ ts) r run = absurd r.4.3
+  after_low inner outer v x w z more hyphen s below q back after between (t ∷ ts) r run = absurd r.3
 
   pub range_blocked : (inner : Bracket) (outer : Brackets) (v x : ℕ) (w z more : List CodePoint) (hyphen : CodePoint) → StandsRange here v w hyphen x z more → x < v → IsBlockedItem here fresh (inner ∷ outer) (w ++ (hyphen ∷ (z ++ more)))
   range_blocked inner outer v x w z more hyphen s below t ts q back after between row run =
       let f = first_in_class here fresh t (low s.low_kind v) row.0 row.1 w (hyphen ∷ (z ++ more)) (sym row.2) row.3 (low_there v x w z more hyphen s) in
-      behind_low inner outer v x w z more hyphen s below q back after between ts
-      (subst (λ us. ClassTokenRow here ts (behind mode fresh (low s.low_kind v) us) us q back) f.1 (subst (λ t. ClassTokenRow here ts (behind mode fresh t row.1) row.1 q back) f.0 row.4))
+      after_low inner outer v x w z more hyphen s below q back after between ts
+      (subst (λ us. ClassTokenRow here ts (next_place mode fresh (low s.low_kind v) us) us q back) f.1 (subst (λ t. ClassTokenRow here ts (next_place mode fresh t row.1) row.1 q back) f.0 row.4))
       (ap (λ t. class_run (t ∷ ts) (inner ∷ outer)) (sym f.0) ∙ run)

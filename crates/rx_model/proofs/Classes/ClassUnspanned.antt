@@ -16,10 +16,10 @@ use Rattle.rx_ast.specs.ClassTree as tree
 use Rattle.rx_ast.specs.Forget.{forget_character, forget_string, forget_strings, forget_member, forget_members, forget_class, same_kind}
 use Rattle.rx_ast.proofs.Forgetting.{forget_class_twice}
 use Rattle.rx_units.specs.declared.code_point.CodePoint.{CodePoint}
-use Rattle.rx_model.specs.Classes.ClassRows.{Place, ClassTokenRow, ClassRow, IsClassShape, IsClass, IsClassSpanned, fresh, outside, behind}
-use Rattle.rx_model.specs.Classes.ClassShapes.{AreFitting, AreFlagged, AreOperands, AreTwo, FitsKind, IsFitting, IsFittingMember, IsFlagged, IsFlaggedMember, IsFlaggedString, IsOperand}
+use Rattle.rx_model.specs.Classes.ClassRows.{Place, ClassTokenRow, ClassRow, IsClassShape, IsClass, IsClassSpanned, fresh, outside, next_place}
+use Rattle.rx_model.specs.Classes.ClassShapes.{AreFitting, AreFlagged, AreOperands, AreTwo, FitsKind, IsFitting, IsFittingMember, IsFlagged, IsFlaggedMember, IsOperand}
 use Rattle.rx_model.specs.Classes.ClassTokens.{ClassEvents, enter, leave, token, bracket, closer, strings, string_bar, strings_end, letter, class_tokens_of, within, letters_events, string_events, barred_strings_events, strings_events, operator_events, member_events, class_events, members_events, more_members_events, class_tokens}
-use Rattle.rx_model.specs.Trees.Early.{AreEarlyMembers, IsCodePoint, IsEarlyClass, IsEarlyMember, IsEarlyString, member_strings, any_strings, all_strings, first_strings, may_contain_strings}
+use Rattle.rx_model.specs.Trees.Early.{AreEarlyMembers, IsCodePoint, IsEarlyClass, IsEarlyMember, IsEarlyString, IsFlaggedString, all_strings, any_strings, first_strings, may_contain_strings, member_strings}
 use Rattle.rx_model.specs.Inputs.Environment.{Environment}
 use Rattle.rx_model.proofs.Classes.ClassTokens.{tokens_append}
 
@@ -221,7 +221,7 @@ module _ (e : Environment) where
   class_row_tokens o [] q i us r j rest h = (h.0, h.2)
   class_row_tokens o ((enter n) ∷ es) q i us r j rest h = class_row_tokens o es q i us r j rest h.1
   class_row_tokens o ((leave n) ∷ es) q i us r j rest h = class_row_tokens o es q i us r j rest h.1
-  class_row_tokens o ((token t) ∷ es) q i us r j rest h = (h.0, h.1, h.2, h.3, class_row_tokens o es (behind e.mode q t h.1) (i + length h.0) h.1 r j rest h.4)
+  class_row_tokens o ((token t) ∷ es) q i us r j rest h = (h.0, h.1, h.2, h.3, class_row_tokens o es (next_place e.mode q t h.1) (i + length h.0) h.1 r j rest h.4)
 
   pub class_unspanned : (o : ℕ → ℕ) (i : ℕ) (c : Class) (w rest : List CodePoint) → IsClassSpanned e o i c w rest → IsClass e (forget_class same_kind c) w rest
   class_unspanned o i c w rest h = record {

@@ -38,7 +38,7 @@ small_values (u ∷ us) h = All-cons (λ c. c ≤ 0x10FFFF) u.value (values us) 
 pub character_small : (e : Environment) (k : CharacterKind) (v : ℕ) (w rest : List CodePoint) → SpellsClassCharacter e k v w rest → AreSmall (w ++ rest) → v ≤ 0x10FFFF
 character_small e _ _ _ rest (spelled.raw unit h) small = small.0
 character_small e _ _ _ rest (spelled.hyphen unit u h) small = omega arith
-character_small e k v _ rest (spelled.escaped backslash behind h s) small = spelled_small e k v (values behind) (values rest) s
-character_small e k v _ rest (spelled.escaped_in_class backslash behind h s) small = let low = alone_low e.mode k v (values behind) s in omega (arith, low)
-character_small e k v _ rest (spelled.escaped_in_legacy backslash behind h u s) small =
-    legacy_small true e k v (values behind) (values rest) s (subst (All (λ c. c ≤ 0x10FFFF)) (map-append (λ (u : CodePoint). u.value) behind rest) (small_values (behind ++ rest) small.1))
+character_small e k v _ rest (spelled.escaped backslash following h s) small = spelled_small e k v (values following) (values rest) s
+character_small e k v _ rest (spelled.escaped_in_class backslash following h s) small = let low = alone_low e.mode k v (values following) s in omega (arith, low)
+character_small e k v _ rest (spelled.escaped_in_legacy backslash following h u s) small =
+    legacy_small true e k v (values following) (values rest) s (subst (All (λ c. c ≤ 0x10FFFF)) (map-append (λ (u : CodePoint). u.value) following rest) (small_values (following ++ rest) small.1))

@@ -7,7 +7,7 @@ use Rattle.rx_units.specs.declared.code_point.CodePoint.{CodePoint}
 use Rattle.rx_model.specs.declared.mode.Mode.{Mode}
 use Rattle.rx_model.specs.declared.mode.Mode.TheVariants.{Sets}
 use Rattle.rx_model.specs.Classes.ClassRows.{IsClass}
-use Rattle.rx_model.specs.Classes.ClassRuns.{Held, empty, single, several, meeting, met, lessening, lessened, Bracket, Brackets, atom_may, atom_obeys, behind_step, bracket_of, class_opened, class_run, class_step, holding, operand, ranged, where_may, where_true, with_strings}
+use Rattle.rx_model.specs.Classes.ClassRuns.{Held, empty, single, several, meeting, met, lessening, lessened, Bracket, Brackets, atom_may, atom_obeys, after_step, bracket_of, class_opened, class_run, class_step, holding, operand, ranged, where_may, where_true, with_strings}
 use Rattle.rx_model.specs.Classes.ClassTokens.{Atom, ClassToken, bracket, item, low, dash, high, class_tokens}
 use Rattle.rx_model.specs.Trees.Early.{IsEarlyClass}
 use Rattle.rx_model.specs.Inputs.Environment.{Environment}
@@ -75,7 +75,7 @@ atom_runs negative held a ss u obeys may =
     let g = one_operand held u in (
       g.held,
       g.union,
-      ap (λ after. behind_step after (λ brackets. class_run ss brackets))
+      ap (λ after. after_step after (λ brackets. class_run ss brackets))
           (ap (λ b. where_true b (holding r [] (atom_may a) (operand held))) obeys ∙ ap (λ may. holding r [] may (operand held)) may ∙ holds_more negative held 0 (operand held) g),
     )
 
@@ -86,8 +86,8 @@ range_runs negative held k v j x ss u order small =
     let g = one_range held u in (
       g.held,
       g.union,
-      ap (λ more. behind_step (where_may more (r ∷ [])) (λ brackets. class_run (dash ∷ high j x ∷ ss) brackets)) g.is
-          ∙ ap (λ after. behind_step after (λ brackets. class_run ss brackets))
+      ap (λ more. after_step (where_may more (r ∷ [])) (λ brackets. class_run (dash ∷ high j x ∷ ss) brackets)) g.is
+          ∙ ap (λ after. after_step after (λ brackets. class_run ss brackets))
           (ap (λ b. where_true b (holding r [] false (ranged held))) (and_from (nat_le v x) (nat_le x 0x10FFFF) (le-leb v x order) (le-leb x 0x10FFFF small))
           ∙ holds_more negative held v (ranged held) g),
     )
@@ -101,10 +101,10 @@ class_run-append [] ss bs cs h = let same : bs ≡ cs = cc h in ap (class_run ss
 class_run-append (t ∷ ts) ss bs cs h = go (λ after. class_run-append ts ss after cs) (class_step t bs) refl
   where
     go : ((after : Brackets) → class_run ts after ≡ Some cs → class_run (ts ++ ss) after ≡ class_run ss cs) → (o : Option Brackets) → class_step t bs ≡ o → class_run (t ∷ (ts ++ ss)) bs ≡ class_run ss cs
-    go again None e = absurd (let no : None ≡ Some cs = ap (λ o. behind_step o (λ after. class_run ts after)) (sym e) ∙ h in let k : ⊥ = cc no in k)
+    go again None e = absurd (let no : None ≡ Some cs = ap (λ o. after_step o (λ after. class_run ts after)) (sym e) ∙ h in let k : ⊥ = cc no in k)
     go again (Some after) e =
-        ap (λ o. behind_step o (λ after. class_run (ts ++ ss) after)) e
-        ∙ again after (ap (λ o. behind_step o (λ after. class_run ts after)) (sym e) ∙ h)
+        ap (λ o. after_step o (λ after. class_run (ts ++ ss) after)) e
+        ∙ again after (ap (λ o. after_step o (λ after. class_run ts after)) (sym e) ∙ h)
 
 pub class_opened-append : (ts ss : List ClassToken) (cs : Brackets) → class_opened ts ≡ Some cs → class_opened (ts ++ ss) ≡ class_run ss cs
 class_opened-append [] ss cs h = absurd (let no : ⊥ = cc h in no)

@@ -14,8 +14,8 @@ use Rattle.rx_units.specs.Units.{values}
 use Rattle.rx_model.specs.declared.mode.Mode.{Mode}
 use Rattle.rx_model.specs.declared.mode.Mode.TheVariants.{Legacy, Unicode, Sets}
 use Rattle.rx_model.specs.Classes.ClassFronts.{TokenRead, class_token_at}
-use Rattle.rx_model.specs.Classes.ClassRows.{BeforeHigh, BeforeThird, ClassTokenRow, IsClass, Place, SpellsAtom, SpellsClassCharacter, SpellsInClass, StandsBefore, at_dash, at_high, at_second, at_third, behind, behind_item, behind_less, behind_meet, fresh, has_threes, in_strings, is_dashed, outside}
-use Rattle.rx_model.specs.Classes.ClassRuns.{Bracket, Brackets, Held, empty, single, several, meeting, met, lessening, lessened, any_string, atom_may, atom_obeys, behind_step, bracket_of, class_run, class_step, closed, held_on, holding, is_union, is_whole, less_by, may_close, may_follow, met_by, operand, ranged, takes_operand, where_may, where_true, with_strings}
+use Rattle.rx_model.specs.Classes.ClassRows.{BeforeHigh, BeforeThird, ClassTokenRow, IsClass, Place, SpellsAtom, SpellsClassCharacter, SpellsInClass, StandsBefore, at_dash, at_high, at_second, at_third, next_place, following_item, after_less, after_meet, fresh, has_threes, in_strings, is_dashed, outside}
+use Rattle.rx_model.specs.Classes.ClassRuns.{Bracket, Brackets, Held, empty, single, several, meeting, met, lessening, lessened, any_string, atom_may, atom_obeys, after_step, bracket_of, class_run, class_step, closed, held_on, holding, is_union, is_whole, less_by, may_close, may_follow, met_by, operand, ranged, takes_operand, where_may, where_true, with_strings}
 use Rattle.rx_model.specs.Classes.ClassTokens.{Atom, ClassToken, bracket, character, closer, dash, escape, high, item, less, letter, low, meet, property, string_bar, strings, strings_end}
 use Rattle.rx_model.specs.FirstPass.Marks.{starts}
 use Rattle.rx_model.specs.Inputs.Environment.{Environment, is_sets, is_unicode}
@@ -28,7 +28,7 @@ use Rattle.rx_model.specs.Refusals.EscapeCauses.{IsPropertyCause, negative_of_st
 use Rattle.rx_model.specs.Refusals.Reached.{class_environment}
 use Rattle.rx_model.specs.Trees.Early.{IsEarlyClass}
 use Rattle.rx_model.proofs.Classes.ClassCloses.{closed_class}
-use Rattle.rx_model.proofs.Classes.ClassFronts.{atom_some, behind_first, behind_one, class_token_found, class_token_is, single as one_unit, token_some, sets_is}
+use Rattle.rx_model.proofs.Classes.ClassFronts.{atom_some, after_first, after_one, class_token_found, class_token_is, single as one_unit, token_some, sets_is}
 use Rattle.rx_model.proofs.Classes.ClassEnds.{class_row_append}
 use Rattle.rx_model.proofs.Classes.ClassStates.{opened_union}
 use Rattle.rx_model.proofs.Classes.ClassValues.{AreSmall, character_small, small_back}
@@ -70,7 +70,7 @@ item_step : (a : Atom) (r : Bracket) (outer : Brackets) (held : Held) → atom_o
 item_step a r outer held obeys e = ap (λ b. where_true b (holding r outer (atom_may a) (operand r.held))) obeys ∙ ap (holding r outer (atom_may a)) e
 
 abbrev on : List ClassToken → Option Brackets → Option Brackets
-on ts o = behind_step o (λ bs. class_run ts bs)
+on ts o = after_step o (λ bs. class_run ts bs)
 
 three_run : (a b c : Atom) (r : Bracket) (outer : Brackets) → is_union r.held ≡ true → atom_obeys a ≡ true → atom_obeys b ≡ true → atom_obeys c ≡ true → (m : Bracket) × (class_run (item a ∷ item b ∷ item c ∷ []) (r ∷ outer) ≡ Some (m ∷ outer))
 three_run a b c r outer union first second third =
@@ -110,8 +110,8 @@ module _ (mode : Mode) (us : List CodePoint) (start added from : ℕ) (at_class 
   -- what a token is where an item may begin
   data TokenView (q : Place) (w more : List CodePoint) : ClassToken → Type 0 where
     closes : values w ≡ 93 ∷ [] → TokenView q w more closer
-    one : (a : Atom) → SpellsAtom here a w more → behind mode q (item a) more ≡ fresh → TokenView q w more (item a)
-    first : (a : Atom) → SpellsAtom here a w more → behind mode q (item a) more ≡ at_second → BeforeThird here a more → TokenView q w more (item a)
+    one : (a : Atom) → SpellsAtom here a w more → next_place mode q (item a) more ≡ fresh → TokenView q w more (item a)
+    first : (a : Atom) → SpellsAtom here a w more → next_place mode q (item a) more ≡ at_second → BeforeThird here a more → TokenView q w more (item a)
     begins_range : (k : CharacterKind) (v : ℕ) → SpellsClassCharacter here k v w more → is_dashed (values more) ≡ true → BeforeHigh here more → TokenView q w more (low k v)
     opens : (negative : Bool) → TokenView q w more (bracket negative)
     opens_strings : TokenView q w more strings
@@ -119,9 +119,9 @@ module _ (mode : Mode) (us : List CodePoint) (start added from : ℕ) (at_class 
     lessens : TokenView q w more less
 
   fresh_view : (a : Atom) (w more : List CodePoint) → SpellsAtom here a w more → StandsBefore here a more → TokenView fresh w more (item a)
-  fresh_view a w more s (inl d) = one a s (behind_one here a more d)
-  fresh_view a w more s (inr (inl t)) = first a s (behind_first here a more t) t
-  fresh_view a w more s (inr (inr n)) = one a s (ap (λ b. behind_item fresh b) (ap (λ threes. is_dashed (values more) && threes) (ap has_threes (sets_is mode n.sets)) ∙ and-false (is_dashed (values more))))
+  fresh_view a w more s (inl d) = one a s (after_one here a more d)
+  fresh_view a w more s (inr (inl t)) = first a s (after_first here a more t) t
+  fresh_view a w more s (inr (inr n)) = one a s (ap (λ b. following_item fresh b) (ap (λ threes. is_dashed (values more) && threes) (ap has_threes (sets_is mode n.sets)) ∙ and-false (is_dashed (values more))))
 
   view : (q : Place) → begins_item q ≡ true → (t : ClassToken) (w more : List CodePoint) → SpellsInClass here q t w more → TokenView q w more t
   view fresh b closer w more s = closes s
@@ -131,14 +131,14 @@ module _ (mode : Mode) (us : List CodePoint) (start added from : ℕ) (at_class 
   view fresh b strings w more s = opens_strings
   view fresh b meet w more s = meets
   view fresh b less w more s = lessens
-  view behind_meet b (item a) w more s = one a s.1 refl
-  view behind_meet b (bracket negative) w more s = opens negative
-  view behind_meet b strings w more s = opens_strings
-  view behind_meet b t w more s = absurd s.1
-  view behind_less b (item a) w more s = one a s.1 refl
-  view behind_less b (bracket negative) w more s = opens negative
-  view behind_less b strings w more s = opens_strings
-  view behind_less b t w more s = absurd s.1
+  view after_meet b (item a) w more s = one a s.1 refl
+  view after_meet b (bracket negative) w more s = opens negative
+  view after_meet b strings w more s = opens_strings
+  view after_meet b t w more s = absurd s.1
+  view after_less b (item a) w more s = one a s.1 refl
+  view after_less b (bracket negative) w more s = opens negative
+  view after_less b strings w more s = opens_strings
+  view after_less b t w more s = absurd s.1
   view outside b t w more s = absurd (true≢false (sym b))
   view at_dash b t w more s = absurd (true≢false (sym b))
   view at_high b t w more s = absurd (true≢false (sym b))
@@ -217,9 +217,9 @@ module _ (mode : Mode) (us : List CodePoint) (start added from : ℕ) (at_class 
       token_stuck none = inr (refuses place rest i (λ r v back h k.
           let same = first_in_class here i.at r t v back w more (sym h ∙ whole) k s in ap (may_follow i.inner.held) same.0 ∙ none))
 
-      one_on : (m : Bracket) (ms : Brackets) → begins_item (behind mode i.at t more) ≡ true → class_step t (i.inner ∷ i.outer) ≡ Some (m ∷ ms) → StandsClass ⊎ Refused
+      one_on : (m : Bracket) (ms : Brackets) → begins_item (next_place mode i.at t more) ≡ true → class_step t (i.inner ∷ i.outer) ≡ Some (m ∷ ms) → StandsClass ⊎ Refused
       one_on m ms begins step =
-          go_on i small again (t ∷ []) (behind mode i.at t more) w more m ms whole begins (token_some here i.at t w more s) (w, more, whole, s, (refl, refl)) (ap (on []) step)
+          go_on i small again (t ∷ []) (next_place mode i.at t more) w more m ms whole begins (token_some here i.at t w more s) (w, more, whole, s, (refl, refl)) (ap (on []) step)
 
     module _ {place : ℕ} {rest : List CodePoint} (i : Item place rest) (small : AreSmall rest) (again : Again (length rest)) (w more : List CodePoint) (whole : rest ≡ w ++ more) where
       of_text : (a : Atom) → SpellsAtom here a w more → takes_operand i.inner.held ≡ true → (atom_obeys a ≡ true) ⊎ Refused
@@ -230,7 +230,7 @@ module _ (mode : Mode) (us : List CodePoint) (start added from : ℕ) (at_class 
             inr (place, c.0, class_cause.property_in_class place rest (inl (record { item_place = i; takes = takes })) (subst (λ us'. IsPropertyCause mode us start added place us' c.0) (sym whole) c.1))
       ]
 
-      atom_on : (a : Atom) → SpellsInClass here i.at (item a) w more → SpellsAtom here a w more → behind mode i.at (item a) more ≡ fresh → (o : Option Held) → operand i.inner.held ≡ o → StandsClass ⊎ Refused
+      atom_on : (a : Atom) → SpellsInClass here i.at (item a) w more → SpellsAtom here a w more → next_place mode i.at (item a) more ≡ fresh → (o : Option Held) → operand i.inner.held ≡ o → StandsClass ⊎ Refused
       atom_on a s t fresh_is None e = token_stuck i small again (item a) w more whole s (ap is_some e)
       atom_on a s t fresh_is (Some held) e = elim (of_text a t (ap is_some e)) [
         | inl o ↦ one_on i small again (item a) w more whole s (item_in i.inner held a) i.outer (ap begins_item fresh_is) (item_step a i.inner i.outer held o e)
@@ -238,12 +238,12 @@ module _ (mode : Mode) (us : List CodePoint) (start added from : ℕ) (at_class 
       ]
 
       -- three items
-      three_on : (a : Atom) → SpellsInClass here i.at (item a) w more → SpellsAtom here a w more → behind mode i.at (item a) more ≡ at_second → BeforeThird here a more → StandsClass ⊎ Refused
+      three_on : (a : Atom) → SpellsInClass here i.at (item a) w more → SpellsAtom here a w more → next_place mode i.at (item a) more ≡ at_second → BeforeThird here a more → StandsClass ⊎ Refused
       three_on a s t second_is b =
           let legacy = threes_legacy mode b.threes in
           let middle : Atom = character kinds.Symbol 45 in
-          let behind_first = small_back w more (subst AreSmall whole small) in
-          let text : AreSmall (b.hyphen ∷ (b.w ++ b.more)) = subst AreSmall b.whole behind_first in
+          let after_first = small_back w more (subst AreSmall whole small) in
+          let text : AreSmall (b.hyphen ∷ (b.w ++ b.more)) = subst AreSmall b.whole after_first in
           let u = opened_union here legacy.1 i.tokens at_class i.at rest i.inner i.outer i.row i.accepted in
           let run = three_run a middle b.third i.inner i.outer u (legacy_obeys legacy.0 a w more t (subst AreSmall whole small)) refl (legacy_obeys legacy.0 b.third b.w b.more b.spelled text.1) in
           let all = w ++ (b.hyphen ∷ b.w) in
@@ -361,16 +361,16 @@ module _ (mode : Mode) (us : List CodePoint) (start added from : ℕ) (at_class 
       abbrev q : IsStringPlace here from at_class opener place rest
       q = p.it
 
-      string_on : (t : ClassToken) (w more : List CodePoint) (m : Bracket) → IsOfStrings t → rest ≡ w ++ more → SpellsInClass here in_strings t w more → behind mode in_strings t more ≡ in_strings → takes_operand m.held ≡ true →
+      string_on : (t : ClassToken) (w more : List CodePoint) (m : Bracket) → IsOfStrings t → rest ≡ w ++ more → SpellsInClass here in_strings t w more → next_place mode in_strings t more ≡ in_strings → takes_operand m.held ≡ true →
           class_step t (q.inner ∷ q.outer) ≡ Some (m ∷ q.outer) → StandsClass ⊎ Refused
-      string_on t w more m of whole s behind_is takes step =
+      string_on t w more m of whole s after_is takes step =
           again_in (place + length w) more (omega (arith, token_some here in_strings t w more s, ap length whole, length-append w more)) (small_back w more (subst AreSmall whole small)) (record {
             it = record {
               at_strings = q.at_strings;
               item_place = q.item_place;
               inside = q.inside ++ (t ∷ []);
               of_strings = All-append IsOfStrings q.inside (t ∷ []) q.of_strings (All-cons IsOfStrings t [] of (All-nil IsOfStrings));
-              row = class_row_append here (strings ∷ q.inside) (t ∷ []) q.item_place.at q.at_strings in_strings rest in_strings more q.row (w, more, whole, s, (behind_is, refl));
+              row = class_row_append here (strings ∷ q.inside) (t ∷ []) q.item_place.at q.at_strings in_strings rest in_strings more q.row (w, more, whole, s, (after_is, refl));
               inner = m;
               outer = q.outer;
               accepted = class_run-append (strings ∷ q.inside) (t ∷ []) (q.item_place.inner ∷ q.item_place.outer) (q.inner ∷ q.outer) q.accepted ∙ ap (on []) step;
@@ -467,16 +467,16 @@ module _ (mode : Mode) (us : List CodePoint) (start added from : ℕ) (at_class 
     pub class_or_refusal : (u : CodePoint) (text : List CodePoint) → at_class ≡ u ∷ text → u.value ≡ 91 → AreSmall text → StandsClass ⊎ Refused
     class_or_refusal u text at h small = by text at small
       where
-        opened : (negative : Bool) (place : ℕ) (w behind : List CodePoint) → at_class ≡ w ++ behind → SpellsInClass here outside (bracket negative) w behind → place ≡ from + length w → AreSmall behind → StandsClass ⊎ Refused
-        opened negative place w behind whole s place_is small = goes (length behind) place behind (omega arith) small (record {
+        opened : (negative : Bool) (place : ℕ) (w following : List CodePoint) → at_class ≡ w ++ following → SpellsInClass here outside (bracket negative) w following → place ≡ from + length w → AreSmall following → StandsClass ⊎ Refused
+        opened negative place w following whole s place_is small = goes (length following) place following (omega arith) small (record {
           tokens = bracket negative ∷ [];
           at = fresh;
           inner = bracket_of negative empty false;
           outer = [];
           begins = refl;
-          row = (w, behind, whole, s, (refl, refl));
+          row = (w, following, whole, s, (refl, refl));
           accepted = refl;
-          place_is = omega (arith, place_is, ap length whole, length-append w behind);
+          place_is = omega (arith, place_is, ap length whole, length-append w following);
         })
 
         by : (text : List CodePoint) → at_class ≡ u ∷ text → AreSmall text → StandsClass ⊎ Refused

@@ -17,7 +17,7 @@ use Rattle.rx_model.specs.Refusals.Firsts.{IsCauseOfEscape, of_character, of_pro
 use Rattle.rx_model.specs.Refusals.Stops.{begins_class_escape, is_hyphen_escaped}
 use Rattle.rx_model.proofs.Classes.ClassFronts.{at_backslash, atom_found, atom_is_read}
 use Rattle.rx_model.proofs.Properties.PropertyRefusals.{cause_unicode}
-use Rattle.rx_model.proofs.Refusals.LegacyStops.{atom_behind_backslash, no_atom_behind_backslash}
+use Rattle.rx_model.proofs.Refusals.LegacyStops.{atom_after_backslash, no_atom_after_backslash}
 
 no_hyphen : (mode : Mode) → is_unicode mode ≡ false → (is_hyphen_escaped mode && false) ≡ false
 no_hyphen Legacy l = refl
@@ -43,7 +43,7 @@ module _ (e : Environment) (m : is_unicode e.mode ≡ false) where
       (a : Atom) × (w : List CodePoint) × (rest : List CodePoint) × (u ∷ us ≡ w ++ rest) × SpellsAtom e a w rest
   atom_begins u [] h b = absurd (let no : ⊥ = cc b in no)
   atom_begins u (v ∷ us) h b =
-      let r = atom_behind_backslash e m v.value (values us) (no_k v.value (values us) b) in
+      let r = atom_after_backslash e m v.value (values us) (no_k v.value (values us) b) in
       let f = atom_found e r.0 r.1 (u ∷ v ∷ us) (at_backslash e u (v ∷ us) h ∙ r.2) in
       (r.0, f.w, f.rest, f.whole, f.spelled)
 
@@ -51,7 +51,7 @@ module _ (e : Environment) (m : is_unicode e.mode ≡ false) where
       (a : Atom) (w rest : List CodePoint) → u ∷ us ≡ w ++ rest → SpellsAtom e a w rest → ⊥
   no_atom_begins u us h b a w rest whole s =
       let no : no_atom ≡ atom_read a (length w) =
-      sym (at_backslash e u us h ∙ no_atom_behind_backslash e m (values us) b) ∙ ap (atom_at e) whole ∙ atom_is_read e a w rest s in
+      sym (at_backslash e u us h ∙ no_atom_after_backslash e m (values us) b) ∙ ap (atom_at e) whole ∙ atom_is_read e a w rest s in
       cc no
 
 module _ (mode : Mode) (m : is_unicode mode ≡ false) (us : List CodePoint) (start added place : ℕ) (rest : List CodePoint) where
@@ -59,8 +59,8 @@ module _ (mode : Mode) (m : is_unicode mode ≡ false) (us : List CodePoint) (st
   never h = both_ways (is_unicode mode) m h
 
   no_character : (d : Diagnostic) → IsEscapeCause mode us start added place rest d → ⊥
-  no_character _ (escapes.too_many_hex_digits count behind u h limit) = never u
-  no_character _ (escapes.invalid_escape behind u h none no_limit) = never u
+  no_character _ (escapes.too_many_hex_digits count following u h limit) = never u
+  no_character _ (escapes.invalid_escape following u h none no_limit) = never u
 
   pub none_refused : (f : ℕ) (d : Diagnostic) → IsCauseOfEscape mode us start added place rest f d → ⊥
   none_refused _ d (of_character c) = no_character d c

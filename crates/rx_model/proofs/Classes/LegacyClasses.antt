@@ -1,6 +1,8 @@
 -- With neither `u` nor `v`: where a `[` stands, a class stands that is free of early errors, or a refusal holds in it.
-use Rattle.std.proofs.Common.{◌≡◌, ◌⊎◌, refl, ap, sym, ◌∙◌, subst, ℕ, ◌+◌, ◌==◌, ◌&&◌, Bool, true, false, not, is_some, List, [], ◌∷◌, ◌++◌, length, inl, inr}
+use Rattle.rx_base.specs.Characters.{is_one_of}
+use Rattle.std.proofs.Common.{◌≡◌, ◌⊎◌, refl, ap, sym, ◌∙◌, subst, ℕ, ◌+◌, ◌==◌, ◌&&◌, Bool, true, false, not, is_some, List, [], ◌∷◌, ◌++◌, length, inl, inr, codes, arith}
 use Rattle.std.proofs.lemmas.Bool.{cases_Bool, eqb-true, false_from_ne_true, not-true, true≢false}
+use Rattle.std.proofs.lemmas.Bool.Decides.{nat_tests}
 use Rattle.rx_ast.specs.declared.leaf.CharacterKind.TheVariants as kinds
 use Rattle.rx_units.specs.declared.code_point.CodePoint.{CodePoint}
 use Rattle.rx_units.specs.Units.{values}
@@ -68,7 +70,9 @@ module _ (us : List CodePoint) (start added from : ℕ) (at_class : List CodePoi
       )
       | inr b ↦ elim (cases_Bool (u.value == 45)) [
         | inl d ↦ absurd (spelled_none (character kinds.Symbol 45) (u ∷ rest) (u ∷ []) rest refl (spelled.hyphen u refl (eqb-true u.value 45 d)) h)
-        | inr d ↦ absurd (spelled_none (character _ u.value) (u ∷ rest) (u ∷ []) rest refl (spelled.raw u (rw (b, c, d) refl)) h)
+        | inr d ↦
+            let raw : not (is_one_of (codes "\\]-") u.value) ≡ true = grind (arith, nat_tests, b, c, d) in
+            absurd (spelled_none (character _ u.value) (u ∷ rest) (u ∷ []) rest refl (spelled.raw u raw) h)
       ]
     ]
   ]
@@ -112,7 +116,7 @@ module _ (us : List CodePoint) (start added from : ℕ) (at_class : List CodePoi
     pair_there (escape k) b w z back hyphen whole is d s t true both_are = true≢false (sym both_are)
     pair_there (property negative may name value) b w z back hyphen whole is d s t true both_are = true≢false (sym both_are)
 
-    -- behind an atom and a `-`
+    -- after an atom and a `-`
     second : (a : Atom) (w back : List CodePoint) → rest ≡ w ++ back → SpellsAtom here a w back → (d : Dashed back) → is_dashed (values back) ≡ true → (r : AtomRead) → atom_at here (d.next ∷ d.more) ≡ r → Wrong
     second a w back whole s d is no_atom h = elim (no_atom_there d.next d.more h) [
       | inl c ↦ absurd (true≢false (sym (ap (λ c. c == 93) c) ∙ d.no_closer))

@@ -27,11 +27,11 @@ says_negative true span = refl
 
 module _ (mode : Mode) (us : List CodePoint) (start added : ℕ) where
   pub escape_is_other : (place : ℕ) (rest : List CodePoint) (d : Diagnostic) → IsEscapeCause mode us start added place rest d → is_of_negative d ≡ false
-  escape_is_other place rest _ (escape.invalid_escape behind unicode whole no_value no_limit) = refl
+  escape_is_other place rest _ (escape.invalid_escape following unicode whole no_value no_limit) = refl
   escape_is_other place rest _ c = refl
 
   pub property_is_other : (place : ℕ) (rest : List CodePoint) (d : Diagnostic) → IsPropertyCause mode us start added place rest d → is_of_negative d ≡ false
-  property_is_other place rest _ (escape.no_property letter behind unicode whole is other) = refl
+  property_is_other place rest _ (escape.no_property letter following unicode whole is other) = refl
   property_is_other place rest _ c = refl
 
 module _ (mode : Mode) (us : List CodePoint) (start added from : ℕ) (at_class : List CodePoint) where

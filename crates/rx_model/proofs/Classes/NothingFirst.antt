@@ -1,6 +1,6 @@
 -- With `v` a refusal which says that nothing stands there that may is the first of its class, where no escape that may stand there is refused.
-use Rattle.std.proofs.Common.{◌≡◌, ◌⊎◌, refl, ap, sym, ◌∙◌, subst, ℕ, ◌+◌, ◌==◌, true, false, is_some, List, [], ◌∷◌, ◌++◌, Some, length, inl, inr}
-use Rattle.std.proofs.lemmas.Bool.{eqb-true, true≢false}
+use Rattle.std.proofs.Common.{◌≡◌, ◌⊎◌, refl, ap, sym, ◌∙◌, subst, ℕ, ◌+◌, ◌==◌, true, false, is_some, List, ◌∷◌, ◌++◌, Some, length, inl, inr}
+use Rattle.std.proofs.lemmas.Bool.{true≢false}
 use Rattle.rx_base.specs.declared.diagnostic.Diagnostic.{Diagnostic}
 use Rattle.rx_base.specs.declared.diagnostic.Diagnostic.TheVariants.{UnterminatedPattern}
 use Rattle.rx_base.specs.declared.diagnostic.kinds.Unterminated.TheVariants as what
@@ -8,7 +8,7 @@ use Rattle.rx_ast.specs.declared.leaf.CharacterKind.{CharacterKind}
 use Rattle.rx_units.specs.declared.code_point.CodePoint.{CodePoint}
 use Rattle.rx_units.specs.Units.{values}
 use Rattle.rx_model.specs.declared.mode.Mode.{Mode}
-use Rattle.rx_model.specs.Classes.ClassRows.{ClassTokenRow, Place, SpellsAtom, SpellsInClass, outside, fresh, at_dash, at_high, at_second, at_third, behind_meet, behind_less, in_strings}
+use Rattle.rx_model.specs.Classes.ClassRows.{ClassTokenRow, Place, SpellsAtom, SpellsInClass, outside, fresh, at_dash, at_high, at_second, at_third, after_meet, after_less, in_strings}
 use Rattle.rx_model.specs.Classes.ClassRuns.{Held, class_opened, is_whole, takes_operand}
 use Rattle.rx_model.specs.Classes.ClassTokens.{Atom, character, closer, item, low, strings, is_character}
 use Rattle.rx_model.specs.Inputs.Environment.{Environment, is_sets}
@@ -18,13 +18,14 @@ use Rattle.rx_model.specs.Refusals.ClassPlaces.{IsStringPlace, begins_item}
 use Rattle.rx_model.specs.Refusals.EscapeCauses.{IsEscapeCause, IsPropertyCause}
 use Rattle.rx_model.specs.Refusals.Firsts.{IsFirstInClass}
 use Rattle.rx_model.specs.Refusals.Reached.{span_between, class_environment}
-use Rattle.rx_model.proofs.Classes.ClassFaults.{State, IsStuck, IsBehindLow, Nothing, at_atom, behind_range, of_range, Said, elsewhere, behind_dash, ampersand, closing, Fault, nothing, said, operand_there, stuck}
+use Rattle.rx_model.proofs.Classes.ClassFaults.{State, IsStuck, IsAfterLow, Nothing, at_atom, after_range, of_range, Said, elsewhere, after_dash, ampersand, closing, Fault, nothing, said, operand_there, stuck}
 use Rattle.rx_model.proofs.Classes.ClassStates.{Fits, none_follows, opened_fits, union_more}
 use Rattle.rx_model.proofs.Classes.ClassStops.{AtomFault, bad_escape, in_escape, in_property, dead_blocked, is_between, low_there}
 use Rattle.rx_model.proofs.Classes.ClassEnds.{class_row_append}
 use Rattle.rx_model.proofs.Classes.ClassWholes.{class_opened-append}
 use Rattle.rx_model.proofs.Classes.OneFault.{one_nothing}
 use Rattle.rx_model.proofs.Classes.OneInClass.{same_state}
+use Rattle.rx_model.proofs.Reading.Splits.{starting_unit}
 use Rattle.rx_model.proofs.Refusals.OnlyFirst.{only_is_first}
 
 -- Neither a character escape nor a property escape is refused before these units.
@@ -41,8 +42,8 @@ module _ (mode : Mode) (us : List CodePoint) (start added from : ℕ) (at_class 
     pub sets : is_sets mode ≡ true
     pub follows : NothingFollows here s.at s.inner.held s.rest
     pub none_refused : (begins_item s.at ≡ true → takes_operand s.inner.held ≡ true) → NoneRefused mode s.rest
-    pub no_third : s.at ≡ behind_meet → starts 38 (values s.rest) ≡ false
-    pub no_end : IsBehindLow s → (hyphen : CodePoint) (rest : List CodePoint) → s.rest ≡ hyphen ∷ rest → hyphen.value ≡ 45 → (d : Diagnostic) → IsEscapeCause mode us start added (s.place + 1) rest d → ⊥
+    pub no_third : s.at ≡ after_meet → starts 38 (values s.rest) ≡ false
+    pub no_end : IsAfterLow s → (hyphen : CodePoint) (rest : List CodePoint) → s.rest ≡ hyphen ∷ rest → hyphen.value ≡ 45 → (d : Diagnostic) → IsEscapeCause mode us start added (s.place + 1) rest d → ⊥
 
   -- no escape
   no_fault : (s : State) (f : ℕ) (d : Diagnostic) → is_sets mode ≡ true → NoneRefused mode s.rest → AtomFault mode us start added f s.rest d → ⊥
@@ -67,11 +68,11 @@ module _ (mode : Mode) (us : List CodePoint) (start added from : ℕ) (at_class 
   low_stands (character k x) b w v more hyphen m n s h t = absurd (true≢false (sym n))
   low_stands a b w v more hyphen m n s h t = absurd (true≢false (sym m))
 
-  -- A bracket that may close is where an item may stand behind another.
+  -- A bracket that may close is where an item may stand after another.
   fresh_whole : (q : Place) (held : Held) → begins_item q ≡ true → Fits q held → is_whole held ≡ true → q ≡ fresh
   fresh_whole fresh held h f w = refl
-  fresh_whole behind_meet held h f w = absurd (true≢false (sym w ∙ ap is_whole f))
-  fresh_whole behind_less held h f w = absurd (true≢false (sym w ∙ ap is_whole f))
+  fresh_whole after_meet held h f w = absurd (true≢false (sym w ∙ ap is_whole f))
+  fresh_whole after_less held h f w = absurd (true≢false (sym w ∙ ap is_whole f))
   fresh_whole outside held h f w = absurd (true≢false (sym h))
   fresh_whole at_dash held h f w = absurd (true≢false (sym h))
   fresh_whole at_high held h f w = absurd (true≢false (sym h))
@@ -79,21 +80,17 @@ module _ (mode : Mode) (us : List CodePoint) (start added from : ℕ) (at_class 
   fresh_whole at_third held h f w = absurd (true≢false (sym h))
   fresh_whole in_strings held h f w = absurd (true≢false (sym h))
 
-  closes : (rest : List CodePoint) → starts 93 (values rest) ≡ true → (w : List CodePoint) × (more : List CodePoint) × (rest ≡ w ++ more) × (values w ≡ 93 ∷ [])
-  closes [] h = absurd (true≢false (sym h))
-  closes (u ∷ us) h = (u ∷ [], us, refl, ap (λ c. c ∷ []) (eqb-true u.value 93 h))
-
   -- A bracket that may close goes on with its closer.
   pub closer_follows : (s : State) → Fits s.at s.inner.held → begins_item s.at ≡ true → starts 93 (values s.rest) ≡ true → is_whole s.inner.held ≡ true → NothingFollows here s.at s.inner.held s.rest → ⊥
   closer_follows s fits begins shut whole none =
-      let t = closes s.rest shut in
+      let t = starting_unit 93 s.rest shut in
       let at = fresh_whole s.at s.inner.held begins fits whole in
       true≢false (sym whole ∙ none closer t.0 t.1 t.2 (subst (λ q. SpellsInClass here q closer t.0 t.1) (sym at) t.3))
 
   -- What is said of a place says that something stands there.
   no_said : (s : State) → Fits s.at s.inner.held → IsSilent s → (f : ℕ) (d : Diagnostic) → Said mode us start added from at_class s f d → ⊥
   no_said s fits i _ d (elsewhere (at_atom takes own c)) = no_fault s s.place d i.sets (i.none_refused takes) c
-  no_said s fits i _ d (elsewhere (behind_range a w hyphen rest at union whole spelled dashed ends c)) =
+  no_said s fits i _ d (elsewhere (after_range a w hyphen rest at union whole spelled dashed ends c)) =
       let there = operand_there mode us start added from at_class (s.place + length w + 1) rest d a w hyphen i.sets spelled c in
       true≢false (sym (union_more s.inner.held union).0 ∙ i.follows (item a) w (hyphen ∷ rest) whole (subst (λ q. SpellsInClass here q (item a) w (hyphen ∷ rest)) (sym at) there))
   no_said s fits i _ d (elsewhere (of_range at union r)) =
@@ -102,7 +99,7 @@ module _ (mode : Mode) (us : List CodePoint) (start added from : ℕ) (at_class 
       let may = union_more s.inner.held union in
       let ranges = may.1.1 in
       true≢false (ap is_some (sym ranges) ∙ i.follows (low t.0 t.1) r.w (r.hyphen ∷ (r.v ++ r.more)) r.whole (subst (λ q. SpellsInClass here q (low t.0 t.1) r.w (r.hyphen ∷ (r.v ++ r.more))) (sym at) t.2))
-  no_said s fits i _ d (behind_dash hyphen rest of_low sets whole is c) = i.no_end of_low hyphen rest whole is d c
+  no_said s fits i _ d (after_dash hyphen rest of_low sets whole is c) = i.no_end of_low hyphen rest whole is d c
   no_said s fits i _ _ (ampersand unit rest at whole is) = true≢false (ap (λ c. c == 38) (sym is) ∙ ap (λ rest. starts 38 (values rest)) (sym whole) ∙ i.no_third at)
   no_said s fits i _ _ (closing is_nested begin opens begins shut whole) = closer_follows s fits begins shut whole i.follows
 
@@ -137,10 +134,10 @@ module _ (mode : Mode) (us : List CodePoint) (start added from : ℕ) (at_class 
   -- In class strings no more is said of a place than that an escape is refused there.
   none_in_strings : (s : State) → is_sets mode ≡ true → s.at ≡ in_strings → ((d : Diagnostic) → IsEscapeCause mode us start added s.place s.rest d → ⊥) → (f : ℕ) (d : Diagnostic) → Said mode us start added from at_class s f d → ⊥
   none_in_strings s sets at_is none _ d (elsewhere (at_atom takes own c)) = none d (own sets at_is)
-  none_in_strings s sets at_is none _ d (elsewhere (behind_range a w hyphen rest at union whole spelled dashed ends c)) = let no : fresh ≡ in_strings = sym at ∙ at_is in cc no
+  none_in_strings s sets at_is none _ d (elsewhere (after_range a w hyphen rest at union whole spelled dashed ends c)) = let no : fresh ≡ in_strings = sym at ∙ at_is in cc no
   none_in_strings s sets at_is none _ d (elsewhere (of_range at union r)) = let no : fresh ≡ in_strings = sym at ∙ at_is in cc no
-  none_in_strings s sets at_is none _ d (behind_dash hyphen rest of_low is_sets whole is c) = let no : fresh ≡ in_strings = sym of_low.at_is ∙ at_is in cc no
-  none_in_strings s sets at_is none _ _ (ampersand unit rest at whole is) = let no : behind_meet ≡ in_strings = sym at ∙ at_is in cc no
+  none_in_strings s sets at_is none _ d (after_dash hyphen rest of_low is_sets whole is c) = let no : fresh ≡ in_strings = sym of_low.at_is ∙ at_is in cc no
+  none_in_strings s sets at_is none _ _ (ampersand unit rest at whole is) = let no : after_meet ≡ in_strings = sym at ∙ at_is in cc no
   none_in_strings s sets at_is none _ _ (closing is_nested begin opens begins shut whole) = true≢false (sym begins ∙ ap begins_item at_is)
 
   -- Class strings that do not end are the first refusal, where no escape is refused.

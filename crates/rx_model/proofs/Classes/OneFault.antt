@@ -13,8 +13,8 @@ use Rattle.rx_units.specs.Units.{values}
 use Rattle.rx_model.specs.declared.mode.Mode.{Mode}
 use Rattle.rx_model.specs.Refusals.ClassCauses.{IsClassCause, of_negative, unterminated}
 use Rattle.rx_model.specs.Refusals.ClassPlaces.{IsOfStrings, begins_item}
-use Rattle.rx_model.specs.Classes.ClassRows.{ClassTokenRow, Place, SpellsAtom, outside, fresh, at_dash, at_high, at_second, at_third, behind_meet, behind_less, in_strings}
-use Rattle.rx_model.specs.Classes.ClassRuns.{Bracket, Brackets, Held, empty, single, several, meeting, met, lessening, lessened, behind_step, bracket_of, class_opened, class_run, class_step, is_union, operand, operator_of, where_may}
+use Rattle.rx_model.specs.Classes.ClassRows.{ClassTokenRow, Place, SpellsAtom, outside, fresh, at_dash, at_high, at_second, at_third, after_meet, after_less, in_strings}
+use Rattle.rx_model.specs.Classes.ClassRuns.{Bracket, Brackets, Held, empty, single, several, meeting, met, lessening, lessened, after_step, bracket_of, class_opened, class_run, class_step, is_union, operand, operator_of, where_may}
 use Rattle.rx_model.specs.Classes.ClassTokens.{Atom, ClassToken, bracket, closer, item, low, dash, high, meet, less, strings, letter, string_bar, strings_end, is_character}
 use Rattle.rx_model.specs.Inputs.Environment.{Environment, is_sets}
 use Rattle.rx_model.specs.FirstPass.Marks.{starts}
@@ -22,7 +22,7 @@ use Rattle.rx_model.specs.Properties.PropertyForms.{begins_property}
 use Rattle.rx_model.specs.Refusals.EscapeCauses.{IsEscapeCause, IsPropertyCause}
 use Rattle.rx_model.specs.Refusals.Reached.{span_between, class_environment}
 use Rattle.rx_model.specs.Refusals.Stops.{begins_class_escape}
-use Rattle.rx_model.proofs.Classes.ClassFaults.{State, Opens, Strings, Nothing, in_class, no_operand, no_operator, in_class_strings, RangeFault, range_fault, Elsewhere, at_atom, behind_range, of_range, Said, elsewhere, behind_dash, ampersand, closing, Fault, is_some_token}
+use Rattle.rx_model.proofs.Classes.ClassFaults.{State, Opens, Strings, Nothing, in_class, no_operand, no_operator, in_class_strings, RangeFault, range_fault, Elsewhere, at_atom, after_range, of_range, Said, elsewhere, after_dash, ampersand, closing, Fault, is_some_token}
 use Rattle.rx_model.proofs.Classes.ClassStates.{run_in}
 use Rattle.rx_model.proofs.Classes.ClassStops.{AtomFault, bad_escape, in_escape, in_property, backslash_first, no_atom_there, no_item_there, same_atom}
 use Rattle.rx_model.proofs.Classes.RefusedAtoms.{atom_begins, escape_first}
@@ -55,10 +55,10 @@ splits [] ss bs cs h = record { middle = bs; first = refl; others = h }
 splits (t ∷ ts) ss bs cs h = go (class_step t bs) refl (λ more. splits ts ss more cs)
   where
     go : (o : Option Brackets) → class_step t bs ≡ o → ((more : Brackets) → class_run (ts ++ ss) more ≡ Some cs → Splits ts ss more cs) → Splits (t ∷ ts) ss bs cs
-    go None e again = absurd (let no : None ≡ Some cs = ap (λ o. behind_step o (λ bs. class_run (ts ++ ss) bs)) (sym e) ∙ h in let f : ⊥ = cc no in f)
+    go None e again = absurd (let no : None ≡ Some cs = ap (λ o. after_step o (λ bs. class_run (ts ++ ss) bs)) (sym e) ∙ h in let f : ⊥ = cc no in f)
     go (Some more) e again =
-        let s = again more (ap (λ o. behind_step o (λ bs. class_run (ts ++ ss) bs)) (sym e) ∙ h) in
-        record { middle = s.middle; first = ap (λ o. behind_step o (λ bs. class_run ts bs)) e ∙ s.first; others = s.others }
+        let s = again more (ap (λ o. after_step o (λ bs. class_run (ts ++ ss) bs)) (sym e) ∙ h) in
+        record { middle = s.middle; first = ap (λ o. after_step o (λ bs. class_run ts bs)) e ∙ s.first; others = s.others }
 
 abbrev pub some_brackets : Brackets → Option Brackets
 some_brackets bs = Some bs
@@ -71,9 +71,9 @@ not_alone ((bracket negative) ∷ ts) (x ∷ bs) b c h run = by (operand x.held)
   where
     by : (o : Option Held) → operand x.held ≡ o → ⊥
     by None e =
-        let no : None ≡ some_brackets (c ∷ []) = ap (λ o. behind_step (where_may o (bracket_of negative empty false ∷ x ∷ bs)) (λ bs. class_run ts bs)) (sym e) ∙ run in cc no
+        let no : None ≡ some_brackets (c ∷ []) = ap (λ o. after_step (where_may o (bracket_of negative empty false ∷ x ∷ bs)) (λ bs. class_run ts bs)) (sym e) ∙ run in cc no
     by (Some held) e =
-        let there = ap (λ o. behind_step (where_may o (bracket_of negative empty false ∷ x ∷ bs)) (λ bs. class_run ts bs)) (sym e) ∙ run in
+        let there = ap (λ o. after_step (where_may o (bracket_of negative empty false ∷ x ∷ bs)) (λ bs. class_run ts bs)) (sym e) ∙ run in
         let no : some_brackets (c ∷ []) ≡ some_brackets (b ∷ x ∷ bs) = sym there ∙ run_in ts (bracket_of negative empty false) [] (x ∷ bs) b [] h in
         cc no
 not_alone (t ∷ ts) bs b c h run = cc h
@@ -142,8 +142,8 @@ is_meet_place at_dash = false
 is_meet_place at_high = false
 is_meet_place at_second = false
 is_meet_place at_third = false
-is_meet_place behind_meet = true
-is_meet_place behind_less = false
+is_meet_place after_meet = true
+is_meet_place after_less = false
 is_meet_place in_strings = false
 
 abbrev front_at : Mode → Place → List ℕ → Front
@@ -191,16 +191,16 @@ module _ (mode : Mode) (us : List CodePoint) (start added from : ℕ) (at_class 
   no_bad_escape f rest backslash w d h no_escape c =
       let e = escape_first here us start added f rest d c in
       let text : 92 ∷ 117 ∷ e.0 ≡ backslash.value ∷ values w = sym e.1 ∙ ap values h in
-      let text_behind : values w ≡ 117 ∷ e.0 = cc text in
-      let k : begins_class_escape here (117 ∷ e.0) ≡ false = ap (begins_class_escape here) (sym text_behind) ∙ no_escape in
+      let text_after : values w ≡ 117 ∷ e.0 = cc text in
+      let k : begins_class_escape here (117 ∷ e.0) ≡ false = ap (begins_class_escape here) (sym text_after) ∙ no_escape in
       true≢false k
 
   no_bad_property : (f : ℕ) (rest : List CodePoint) (backslash : CodePoint) (w : List CodePoint) (d : Diagnostic) → rest ≡ backslash ∷ w → begins_class_escape here (values w) ≡ false → IsPropertyCause mode us start added f rest d → ⊥
   no_bad_property f rest backslash w d h no_escape c =
       let p = property_first mode us start added f rest d c in
       let text : 92 ∷ p.0 ∷ p.1 ≡ backslash.value ∷ values w = sym p.2 ∙ ap values h in
-      let text_behind : values w ≡ p.0 ∷ p.1 = cc text in
-      both_ways (begins_class_escape here (p.0 ∷ p.1)) (ap (begins_class_escape here) (sym text_behind) ∙ no_escape) (property_begins here p.0 p.1 p.3)
+      let text_after : values w ≡ p.0 ∷ p.1 = cc text in
+      both_ways (begins_class_escape here (p.0 ∷ p.1)) (ap (begins_class_escape here) (sym text_after) ∙ no_escape) (property_begins here p.0 p.1 p.3)
 
   one_escape_fault : (f : ℕ) (rest : List CodePoint) (d e : Diagnostic) → EscapeFault f rest d → EscapeFault f rest e → d ≡ e
   one_escape_fault f rest _ _ (bad_escape b w no_sets h is no_escape) (bad_escape c v also k is' no_escape') = refl
@@ -287,22 +287,22 @@ module _ (mode : Mode) (us : List CodePoint) (start added from : ℕ) (at_class 
 
   one_elsewhere : (s : State) (f g : ℕ) (d e : Diagnostic) → Other s f d → Other s g e → (f ≡ g) × (d ≡ e)
   one_elsewhere s _ _ d e (at_atom takes own c) (at_atom also more k) = (refl, one_escape_fault s.place s.rest d e c k)
-  one_elsewhere s _ _ d e (at_atom takes own c) (behind_range a w hyphen rest at union whole spelled dashed ends k) = absurd (no_atom_ends s.place s.rest d a w (hyphen ∷ rest) c whole spelled ends)
+  one_elsewhere s _ _ d e (at_atom takes own c) (after_range a w hyphen rest at union whole spelled dashed ends k) = absurd (no_atom_ends s.place s.rest d a w (hyphen ∷ rest) c whole spelled ends)
   one_elsewhere s _ _ d e (at_atom takes own c) (of_range at union r) = absurd (no_atom_ends s.place s.rest d r.a r.w (r.hyphen ∷ (r.v ++ r.more)) c r.whole r.low_is (λ sets. (r.ends sets).0))
-  one_elsewhere s _ _ d e (behind_range a w hyphen rest at union whole spelled dashed ends k) (at_atom takes own c) = absurd (no_atom_ends s.place s.rest e a w (hyphen ∷ rest) c whole spelled ends)
-  one_elsewhere s _ _ d e (behind_range a w hyphen rest at union whole spelled dashed ends c) (behind_range b v other back at' union' whole' spelled' dashed' ends' k) =
+  one_elsewhere s _ _ d e (after_range a w hyphen rest at union whole spelled dashed ends k) (at_atom takes own c) = absurd (no_atom_ends s.place s.rest e a w (hyphen ∷ rest) c whole spelled ends)
+  one_elsewhere s _ _ d e (after_range a w hyphen rest at union whole spelled dashed ends c) (after_range b v other back at' union' whole' spelled' dashed' ends' k) =
       let same = same_atom mode us start added a b w v (hyphen ∷ rest) (other ∷ back) (sym whole ∙ whole') spelled spelled' in
       let text = same.units in
       let units : rest ≡ back = cc text in
       let places : s.place + length w + 1 ≡ s.place + length v + 1 = ap (λ n. s.place + n + 1) same.counts in
       (places, one_escape_fault (s.place + length v + 1) back d e (subst (λ f. EscapeFault f back d) places (subst (λ rest. EscapeFault (s.place + length w + 1) rest d) units c)) k)
-  one_elsewhere s _ _ d e (behind_range a w hyphen rest at union whole spelled dashed ends c) (of_range at' union' r) =
+  one_elsewhere s _ _ d e (after_range a w hyphen rest at union whole spelled dashed ends c) (of_range at' union' r) =
       let same = same_atom mode us start added a r.a w r.w (hyphen ∷ rest) (r.hyphen ∷ (r.v ++ r.more)) (sym whole ∙ r.whole) spelled r.low_is in
       let text = same.units in
       let there : rest ≡ r.v ++ r.more = cc text in
       absurd (no_atom_ends (s.place + length w + 1) rest d r.b r.v r.more c there r.high_is (λ sets. (r.ends sets).1))
   one_elsewhere s _ _ d e (of_range at union r) (at_atom takes own c) = absurd (no_atom_ends s.place s.rest e r.a r.w (r.hyphen ∷ (r.v ++ r.more)) c r.whole r.low_is (λ sets. (r.ends sets).0))
-  one_elsewhere s _ _ d e (of_range at' union' r) (behind_range a w hyphen rest at union whole spelled dashed ends c) =
+  one_elsewhere s _ _ d e (of_range at' union' r) (after_range a w hyphen rest at union whole spelled dashed ends c) =
       let same = same_atom mode us start added a r.a w r.w (hyphen ∷ rest) (r.hyphen ∷ (r.v ++ r.more)) (sym whole ∙ r.whole) spelled r.low_is in
       let text = same.units in
       let there : rest ≡ r.v ++ r.more = cc text in
@@ -318,18 +318,18 @@ module _ (mode : Mode) (us : List CodePoint) (start added from : ℕ) (at_class 
 
   other_front : (s : State) (f : ℕ) (d : Diagnostic) → Other s f d → front_at mode s.at (values s.rest) ≡ before_other
   other_front s _ d (at_atom takes own c) = let b = backslash_first mode us start added s.place s.rest d c in ap (front_at mode s.at) b.1
-  other_front s _ d (behind_range a w hyphen rest at union whole spelled dashed ends c) = atom_front s a w (hyphen ∷ rest) at whole spelled
+  other_front s _ d (after_range a w hyphen rest at union whole spelled dashed ends c) = atom_front s a w (hyphen ∷ rest) at whole spelled
   other_front s _ d (of_range at union r) = atom_front s r.a r.w (r.hyphen ∷ (r.v ++ r.more)) at r.whole r.low_is
 
   abbrev front_of : (s : State) (f : ℕ) (d : Diagnostic) → Saying s f d → Front
   front_of s f d (elsewhere o) = before_other
-  front_of s _ d (behind_dash hyphen rest of_low sets whole is c) = before_dash
+  front_of s _ d (after_dash hyphen rest of_low sets whole is c) = before_dash
   front_of s _ _ (ampersand unit rest at whole is) = before_ampersand
   front_of s _ _ (closing is_nested begin opens begins closes whole) = before_closer
 
   front_is : (s : State) (f : ℕ) (d : Diagnostic) (c : Saying s f d) → front_at mode s.at (values s.rest) ≡ front_of s f d c
   front_is s f d (elsewhere o) = other_front s f d o
-  front_is s _ d (behind_dash hyphen rest of_low sets whole is c) =
+  front_is s _ d (after_dash hyphen rest of_low sets whole is c) =
       ap (λ us. front_at mode s.at (values us)) whole ∙ ap (λ c. front_at mode s.at (c ∷ values rest)) is ∙ cond-true (is_sets mode) _ _ sets
   front_is s _ _ (ampersand unit rest at whole is) =
       ap (λ us. front_at mode s.at (values us)) whole ∙ ap (λ c. front_at mode s.at (c ∷ values rest)) is ∙ ap (λ at. front_at mode at (38 ∷ values rest)) at
@@ -340,22 +340,22 @@ module _ (mode : Mode) (us : List CodePoint) (start added from : ℕ) (at_class 
     where
       by : (f g : ℕ) (d e : Diagnostic) → (x : Saying s f d) → (y : Saying s g e) → front_of s f d x ≡ front_of s g e y → (f ≡ g) × (d ≡ e)
       by f g d e (elsewhere x) (elsewhere y) h = one_elsewhere s f g d e x y
-      by f _ d e (elsewhere x) (behind_dash hyphen rest of_low sets whole is c) h = absurd (let no : ⊥ = cc h in no)
+      by f _ d e (elsewhere x) (after_dash hyphen rest of_low sets whole is c) h = absurd (let no : ⊥ = cc h in no)
       by f _ d _ (elsewhere x) (ampersand unit rest at whole is) h = absurd (let no : ⊥ = cc h in no)
       by f _ d _ (elsewhere x) (closing is_nested begin opens begins closes whole) h = absurd (let no : ⊥ = cc h in no)
-      by _ g d e (behind_dash hyphen rest of_low sets whole is c) (elsewhere y) h = absurd (let no : ⊥ = cc h in no)
-      by _ _ d e (behind_dash hyphen rest of_low sets whole is c) (behind_dash other back of_low' sets' whole' is' k) h =
+      by _ g d e (after_dash hyphen rest of_low sets whole is c) (elsewhere y) h = absurd (let no : ⊥ = cc h in no)
+      by _ _ d e (after_dash hyphen rest of_low sets whole is c) (after_dash other back of_low' sets' whole' is' k) h =
           let text : hyphen ∷ rest ≡ other ∷ back = sym whole ∙ whole' in
           let units : rest ≡ back = cc text in
           (refl, one_escape mode us start added (s.place + 1) back d e (subst (λ rest. IsEscapeCause mode us start added (s.place + 1) rest d) units c) k)
-      by _ _ d _ (behind_dash hyphen rest of_low sets whole is c) (ampersand unit back at whole' is') h = absurd (let no : ⊥ = cc h in no)
-      by _ _ d _ (behind_dash hyphen rest of_low sets whole is c) (closing is_nested begin opens begins closes whole') h = absurd (let no : ⊥ = cc h in no)
+      by _ _ d _ (after_dash hyphen rest of_low sets whole is c) (ampersand unit back at whole' is') h = absurd (let no : ⊥ = cc h in no)
+      by _ _ d _ (after_dash hyphen rest of_low sets whole is c) (closing is_nested begin opens begins closes whole') h = absurd (let no : ⊥ = cc h in no)
       by _ g _ e (ampersand unit rest at whole is) (elsewhere y) h = absurd (let no : ⊥ = cc h in no)
-      by _ _ _ e (ampersand unit rest at whole is) (behind_dash hyphen back of_low sets whole' is' c) h = absurd (let no : ⊥ = cc h in no)
+      by _ _ _ e (ampersand unit rest at whole is) (after_dash hyphen back of_low sets whole' is' c) h = absurd (let no : ⊥ = cc h in no)
       by _ _ _ _ (ampersand unit rest at whole is) (ampersand other back at' whole' is') h = (refl, refl)
       by _ _ _ _ (ampersand unit rest at whole is) (closing is_nested begin opens begins closes whole') h = absurd (let no : ⊥ = cc h in no)
       by _ g _ e (closing is_nested begin opens begins closes whole) (elsewhere y) h = absurd (let no : ⊥ = cc h in no)
-      by _ _ _ e (closing is_nested begin opens begins closes whole) (behind_dash hyphen rest of_low sets whole' is c) h = absurd (let no : ⊥ = cc h in no)
+      by _ _ _ e (closing is_nested begin opens begins closes whole) (after_dash hyphen rest of_low sets whole' is c) h = absurd (let no : ⊥ = cc h in no)
       by _ _ _ _ (closing is_nested begin opens begins closes whole) (ampersand unit rest at whole' is) h = absurd (let no : ⊥ = cc h in no)
       by _ _ _ _ (closing m f opens begins closes whole) (closing n g also begins' closes' whole') h =
           let same = one_opens s.tokens m n f g opens also in (

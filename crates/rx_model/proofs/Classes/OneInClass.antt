@@ -15,7 +15,7 @@ use Rattle.rx_model.specs.Inputs.Environment.{Environment, is_sets}
 use Rattle.rx_model.specs.FirstPass.Marks.{starts}
 use Rattle.rx_model.specs.Refusals.Firsts.{IsFirstInClass, no_item, yielding}
 use Rattle.rx_model.specs.Refusals.Reached.{span_between, class_environment}
-use Rattle.rx_model.proofs.Classes.ClassFaults.{State, IsStuck, Opens, Nothing, in_class, no_operand, no_operator, in_class_strings, RangeFault, Elsewhere, at_atom, behind_range, of_range, Said, elsewhere, behind_dash, ampersand, closing, Fault, nothing, said, stuck, value_of}
+use Rattle.rx_model.proofs.Classes.ClassFaults.{State, IsStuck, Opens, Nothing, in_class, no_operand, no_operator, in_class_strings, RangeFault, Elsewhere, at_atom, after_range, of_range, Said, elsewhere, after_dash, ampersand, closing, Fault, nothing, said, stuck, value_of}
 use Rattle.rx_model.proofs.Classes.ClassStates.{none_in_strings, opened_union}
 use Rattle.rx_model.proofs.Classes.OneFault.{one_nothing, one_said, some_brackets, union_no_operator}
 use Rattle.rx_model.proofs.Classes.ClassWholes.{class_opened-append}
@@ -112,30 +112,30 @@ module _ (mode : Mode) (us : List CodePoint) (start added from : ℕ) (at_class 
 
   said_kind : (s : State) (f : ℕ) (d : Diagnostic) → Saying s f d → yielding d ≢ no_item
   said_kind s _ d (elsewhere (at_atom takes own c)) k = escape_kind s.place s.rest d c k
-  said_kind s _ d (elsewhere (behind_range a w hyphen rest at union whole spelled dashed ends c)) k = escape_kind (s.place + length w + 1) rest d c k
+  said_kind s _ d (elsewhere (after_range a w hyphen rest at union whole spelled dashed ends c)) k = escape_kind (s.place + length w + 1) rest d c k
   said_kind s _ d (elsewhere (of_range at union r)) k = range_kind_of s.place s.rest d r k
-  said_kind s _ d (behind_dash hyphen rest of_low sets whole is c) k = escape_kind (s.place + 1) rest d (in_escape c) k
+  said_kind s _ d (after_dash hyphen rest of_low sets whole is c) k = escape_kind (s.place + 1) rest d (in_escape c) k
   said_kind s _ _ (ampersand unit rest at whole is) k = cc k
   said_kind s _ _ (closing true begin opens begins closes whole) k = cc k
   said_kind s _ _ (closing false begin opens begins closes whole) k = cc k
 
-  -- What is said holds where the reading is stuck, or behind it.
-  said_behind : (s : State) (f : ℕ) (d : Diagnostic) → Saying s f d → s.place ≤ f
-  said_behind s _ d (elsewhere (at_atom takes own c)) = omega arith
-  said_behind s _ d (elsewhere (behind_range a w hyphen rest at union whole spelled dashed ends c)) = omega arith
-  said_behind s _ d (elsewhere (of_range at union r)) = omega arith
-  said_behind s _ d (behind_dash hyphen rest of_low sets whole is c) = omega arith
-  said_behind s _ _ (ampersand unit rest at whole is) = omega arith
-  said_behind s _ _ (closing is_nested begin opens begins closes whole) = omega arith
+  -- What is said holds where the reading is stuck, or after it.
+  said_after : (s : State) (f : ℕ) (d : Diagnostic) → Saying s f d → s.place ≤ f
+  said_after s _ d (elsewhere (at_atom takes own c)) = omega arith
+  said_after s _ d (elsewhere (after_range a w hyphen rest at union whole spelled dashed ends c)) = omega arith
+  said_after s _ d (elsewhere (of_range at union r)) = omega arith
+  said_after s _ d (after_dash hyphen rest of_low sets whole is c) = omega arith
+  said_after s _ _ (ampersand unit rest at whole is) = omega arith
+  said_after s _ _ (closing is_nested begin opens begins closes whole) = omega arith
 
-  pub fault_behind : (s : State) (f : ℕ) (d : Diagnostic) → Here s f d → s.place ≤ f
-  fault_behind s _ d (nothing none x) = omega arith
-  fault_behind s f d (said x) = said_behind s f d x
+  pub fault_after : (s : State) (f : ℕ) (d : Diagnostic) → Here s f d → s.place ≤ f
+  fault_after s _ d (nothing none x) = omega arith
+  fault_after s f d (said x) = said_after s f d x
 
   compared : (s : State) (f g : ℕ) (d e : Diagnostic) → Here s f d → Here s g e → AreCompared f d g e
   compared s _ _ d e (nothing none x) (nothing none' y) = inl (refl, one_nothing mode us start added from at_class s d e x y)
-  compared s _ g d e (nothing none x) (said y) = inr (inl record { says_less = nothing_kind s d x; says_more = said_kind s g e y; no_earlier = said_behind s g e y })
-  compared s f _ d e (said x) (nothing none y) = inr (inr record { says_less = nothing_kind s e y; says_more = said_kind s f d x; no_earlier = said_behind s f d x })
+  compared s _ g d e (nothing none x) (said y) = inr (inl record { says_less = nothing_kind s d x; says_more = said_kind s g e y; no_earlier = said_after s g e y })
+  compared s f _ d e (said x) (nothing none y) = inr (inr record { says_less = nothing_kind s e y; says_more = said_kind s f d x; no_earlier = said_after s f d x })
   compared s f g d e (said x) (said y) = inl (one_said mode us start added from at_class s f g d e x y)
 
   -- Of two refusals of the class one gives way to the other, or they are one.
@@ -155,9 +155,9 @@ module _ (mode : Mode) (us : List CodePoint) (start added from : ℕ) (at_class 
 
   goes_on : (s : State) (f : ℕ) (d : Diagnostic) → Saying s f d → s.rest ≢ []
   goes_on s _ d (elsewhere (at_atom takes own c)) h = let b = backslash_first mode us start added s.place s.rest d c in let no : [] ≡ 92 ∷ b.0 = ap values (sym h) ∙ b.1 in cc no
-  goes_on s _ d (elsewhere (behind_range a w hyphen rest at union whole spelled dashed ends c)) h = omega (arith, ap length (sym h ∙ whole), length-append w (hyphen ∷ rest))
+  goes_on s _ d (elsewhere (after_range a w hyphen rest at union whole spelled dashed ends c)) h = omega (arith, ap length (sym h ∙ whole), length-append w (hyphen ∷ rest))
   goes_on s _ d (elsewhere (of_range at union r)) h = omega (arith, ap length (sym h ∙ r.whole), length-append r.w (r.hyphen ∷ (r.v ++ r.more)))
-  goes_on s _ d (behind_dash hyphen rest of_low sets whole is c) h = let no : [] ≡ hyphen ∷ rest = sym h ∙ whole in cc no
+  goes_on s _ d (after_dash hyphen rest of_low sets whole is c) h = let no : [] ≡ hyphen ∷ rest = sym h ∙ whole in cc no
   goes_on s _ _ (ampersand unit rest at whole is) h = let no : [] ≡ unit ∷ rest = sym h ∙ whole in cc no
   goes_on s _ _ (closing is_nested begin opens begins closes whole) h = true≢false (sym closes ∙ ap (λ rest. starts 93 (values rest)) h)
 

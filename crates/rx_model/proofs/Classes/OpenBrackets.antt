@@ -4,15 +4,15 @@ use Rattle.std.proofs.lemmas.Bool.{true≢false}
 use Rattle.rx_units.specs.declared.code_point.CodePoint.{CodePoint}
 use Rattle.rx_units.proofs.Choices.{Some-inj}
 use Rattle.rx_model.specs.Refusals.ClassPlaces.{IsInBracket, IsItemPlace, begins_item, nested, of_class}
-use Rattle.rx_model.specs.Classes.ClassRows.{ClassTokenRow, Place, SpellsBracket, SpellsInClass, behind, behind_less, behind_meet, fresh, in_strings, outside}
-use Rattle.rx_model.specs.Classes.ClassRuns.{Bracket, Brackets, Held, empty, any_string, atom_may, atom_obeys, behind_step, bracket_of, class_opened, class_run, class_step, closed, held_on, holding, less_by, may_close, met_by, operand, ranged, takes_operand, where_may, where_true, with_strings}
+use Rattle.rx_model.specs.Classes.ClassRows.{ClassTokenRow, Place, SpellsBracket, SpellsInClass, next_place, after_less, after_meet, fresh, in_strings, outside}
+use Rattle.rx_model.specs.Classes.ClassRuns.{Bracket, Brackets, Held, empty, any_string, atom_may, atom_obeys, after_step, bracket_of, class_opened, class_run, class_step, closed, held_on, holding, less_by, may_close, met_by, operand, ranged, takes_operand, where_may, where_true, with_strings}
 use Rattle.rx_model.specs.Classes.ClassTokens.{ClassToken, bracket, closer, item, low, dash, high, meet, less, strings, letter, string_bar, strings_end}
 use Rattle.rx_model.specs.Inputs.Environment.{Environment, is_sets}
 use Rattle.rx_model.proofs.Classes.ClassEnds.{class_row_split}
-use Rattle.rx_model.proofs.Classes.ClassStates.{behind_inside, row_shorter, run_in, steps, where_true_both}
+use Rattle.rx_model.proofs.Classes.ClassStates.{after_inside, row_shorter, run_in, steps, where_true_both}
 use Rattle.rx_model.proofs.Classes.ClassWholes.{class_opened-append, class_run-append}
 
--- The innermost bracket that is open behind some tokens is the class's own, or began where the bracket around it takes an operand.
+-- The innermost bracket that is open after some tokens is the class's own, or began where the bracket around it takes an operand.
 data Opened : List ClassToken → Brackets → Type 0 where
   own : (inside : List ClassToken) (c : Bracket) → class_opened inside ≡ Some (c ∷ []) → Opened inside (c ∷ [])
   within : (before inside : List ClassToken) (c d : Bracket) (ds : Brackets) → Opened before (d ∷ ds) → class_opened before ≡ Some (d ∷ ds) → takes_operand d.held ≡ true → class_opened inside ≡ Some (c ∷ [])
@@ -28,7 +28,7 @@ pub nested_run : (ts : List ClassToken) (d c : Bracket) (ds : Brackets) → take
 nested_run [] d c ds takes h = absurd (let no : ⊥ = cc h in no)
 nested_run ((bracket negative) ∷ ts) d c ds takes h =
     let first = bracket_of negative empty false in
-    ap (λ o. behind_step o (λ bs. class_run ts bs)) (may (operand d.held) takes (first ∷ d ∷ ds)) ∙ run_in ts first [] (d ∷ ds) c [] h
+    ap (λ o. after_step o (λ bs. class_run ts bs)) (may (operand d.held) takes (first ∷ d ∷ ds)) ∙ run_in ts first [] (d ∷ ds) c [] h
   where
     may : (o : Option Held) → is_some o ≡ true → (bs : Brackets) → where_may o bs ≡ Some bs
     may None h bs = absurd (true≢false (sym h))
@@ -107,7 +107,7 @@ closer_closes _ _ _ m ms (own inside c h) step = absurd (none (may_close c) step
 closer_closes _ _ _ m ms (within before inside c d ds opened there takes h) step =
     let p = closer_of c (may_close c) d ds m ms step in
     let run : class_run (inside ++ (closer ∷ [])) (d ∷ []) ≡ Some (m ∷ []) =
-    class_run-append inside (closer ∷ []) (d ∷ []) (c ∷ d ∷ []) (nested_run inside d c [] takes h) ∙ ap (λ o. behind_step o (λ bs. class_run [] bs)) p.0 in
+    class_run-append inside (closer ∷ []) (d ∷ []) (c ∷ d ∷ []) (nested_run inside d c [] takes h) ∙ ap (λ o. after_step o (λ bs. class_run [] bs)) p.0 in
     subst (λ ts. Opened ts (m ∷ ms)) (sym (append_assoc before inside (closer ∷ [])))
     (subst (λ ms. Opened (before ++ (inside ++ (closer ∷ []))) (m ∷ ms)) p.1 (further before (inside ++ (closer ∷ [])) d m ds opened run))
 
@@ -117,14 +117,14 @@ token_opens ts (bracket negative) c cs m ms opened there h = bracket_opens ts ne
 token_opens ts closer c cs m ms opened there h = closer_closes ts c cs m ms opened h
 token_opens ts t c cs m ms opened there h =
     let i = innermost_only t c cs m ms (λ no. no) h in
-    subst (λ ms. Opened (ts ++ (t ∷ [])) (m ∷ ms)) (sym i.around) (further ts (t ∷ []) c m cs opened (ap (λ o. behind_step o (λ bs. class_run [] bs)) i.alone))
+    subst (λ ms. Opened (ts ++ (t ∷ [])) (m ∷ ms)) (sym i.around) (further ts (t ∷ []) c m cs opened (ap (λ o. after_step o (λ bs. class_run [] bs)) i.alone))
 
 tokens_open : (ss ts : List ClassToken) (c : Bracket) (cs : Brackets) (m : Bracket) (ms : Brackets) → Opened ts (c ∷ cs) → class_opened ts ≡ Some (c ∷ cs) → class_run ss (c ∷ cs) ≡ Some (m ∷ ms) → Opened (ts ++ ss) (m ∷ ms)
 tokens_open [] ts c cs m ms opened there run = subst (Opened (ts ++ [])) (Some-inj run) (further ts [] c c cs opened refl)
 tokens_open (t ∷ ss) ts c cs m ms opened there run =
     let s = steps t ss (c ∷ cs) m ms run in
     let next = token_opens ts t c cs s.inner s.outer opened there s.first in
-    let here = class_opened-append ts (t ∷ []) (c ∷ cs) there ∙ ap (λ o. behind_step o (λ bs. class_run [] bs)) s.first in
+    let here = class_opened-append ts (t ∷ []) (c ∷ cs) there ∙ ap (λ o. after_step o (λ bs. class_run [] bs)) s.first in
     subst (λ ts. Opened ts (m ∷ ms)) (append_assoc ts (t ∷ []) ss) (tokens_open ss (ts ++ (t ∷ [])) s.inner s.outer m ms next here s.others)
 
 opened : (ts : List ClassToken) (c : Bracket) (cs : Brackets) → class_opened ts ≡ Some (c ∷ cs) → Opened ts (c ∷ cs)
@@ -143,17 +143,17 @@ around_takes ts c d ds h = go ts (c ∷ d ∷ ds) (opened ts c (d ∷ ds) h) ref
     go _ _ (within before inside x y ys o there takes alone) same = let k : y ≡ d = cc same in ap (λ b. takes_operand b.held) (sym k) ∙ takes
 
 module _ (e : Environment) where
-  -- Behind some tokens a place is in the class.
+  -- After some tokens a place is in the class.
   row_inside : (t : ClassToken) (ts : List ClassToken) (q : Place) (us : List CodePoint) (r : Place) (rest : List CodePoint) → ClassTokenRow e (t ∷ ts) q us r rest → r ≡ outside → ⊥
-  row_inside t [] q us r rest row h = behind_inside e.mode q t row.1 (row.4.0 ∙ h)
-  row_inside t (s ∷ ts) q us r rest row h = row_inside s ts (behind e.mode q t row.1) row.1 r rest row.4 h
+  row_inside t [] q us r rest row h = after_inside e.mode q t row.1 (row.4.0 ∙ h)
+  row_inside t (s ∷ ts) q us r rest row h = row_inside s ts (next_place e.mode q t row.1) row.1 r rest row.4 h
 
   -- A row from a bracket inside a class is one of a class.
   bracket_alone : (q : Place) (negative : Bool) (w more : List CodePoint) → (q ≡ outside → ⊥) → SpellsInClass e q (bracket negative) w more → (is_sets e.mode ≡ true) × (begins_item q ≡ true) × SpellsBracket negative w more
   bracket_alone outside negative w more inside s = absurd (inside refl)
   bracket_alone fresh negative w more inside s = (s.0, refl, s.1)
-  bracket_alone behind_meet negative w more inside s = (s.0, refl, s.1)
-  bracket_alone behind_less negative w more inside s = (s.0, refl, s.1)
+  bracket_alone after_meet negative w more inside s = (s.0, refl, s.1)
+  bracket_alone after_less negative w more inside s = (s.0, refl, s.1)
   bracket_alone in_strings negative w more inside s = absurd s.1
   bracket_alone q negative w more inside s = absurd s
 
@@ -165,9 +165,9 @@ module _ (e : Environment) where
       (b.0, b.1, (row.0, row.1, row.2, b.2, row.4))
   row_alone (t ∷ ts) cs q us r rest h inside row = absurd (let no : ⊥ = cc h in no)
 
-  pub behind_opened : (ts : List ClassToken) (cs : Brackets) (us : List CodePoint) (r : Place) (rest : List CodePoint) → class_opened ts ≡ Some cs → ClassTokenRow e ts outside us r rest → r ≡ outside → ⊥
-  behind_opened [] cs us r rest h row same = let no : ⊥ = cc h in no
-  behind_opened (t ∷ ts) cs us r rest h row same = row_inside t ts outside us r rest row same
+  pub after_opened : (ts : List ClassToken) (cs : Brackets) (us : List CodePoint) (r : Place) (rest : List CodePoint) → class_opened ts ≡ Some cs → ClassTokenRow e ts outside us r rest → r ≡ outside → ⊥
+  after_opened [] cs us r rest h row same = let no : ⊥ = cc h in no
+  after_opened (t ∷ ts) cs us r rest h row same = row_inside t ts outside us r rest row same
 
   module _ (from : ℕ) (at_class : List CodePoint) (place : ℕ) (rest : List CodePoint) where
     -- The innermost bracket that is open at a place, and where it began.
@@ -194,7 +194,7 @@ module _ (e : Environment) where
     }
     began _ _ (within before inside c d ds o there takes alone) at inner outer same begins row place_is =
         let s = class_row_split e before inside outside at_class at rest row in
-        let a = row_alone inside (c ∷ []) s.0 s.1 at rest alone (behind_opened before (d ∷ ds) at_class s.0 s.1 there s.2) s.3 in
+        let a = row_alone inside (c ∷ []) s.0 s.1 at rest alone (after_opened before (d ∷ ds) at_class s.0 s.1 there s.2) s.3 in
         let l = row_shorter e before outside at_class s.0 s.1 s.2 in
         let begin = from + length at_class - length s.1 in
         let begin_is : from + length at_class ≡ begin + length s.1 = omega (arith, l) in

@@ -17,13 +17,13 @@ use Rattle.rx_model.specs.Classes.ClassBrackets.{class_of_members}
 use Rattle.rx_model.specs.Classes.ClassBuilds.{string_of, strings_member}
 use Rattle.rx_model.specs.Classes.ClassOperands.{IsClassOfOperands, IsClassOfUnion, SpellsFurtherOperand, SpellsOperator, SpellsUnionItem, SpellsWholeOperand, of_atom, of_class, of_operand, of_operator, of_range, of_strings}
 use Rattle.rx_model.specs.Classes.ClassRows.{BeforeHigh, ClassTokenRow, IsClass, Place, SpellsBracket, fresh, outside}
-use Rattle.rx_model.specs.Classes.ClassShapes.{AreOperands, AreTwo, FitsKind, IsFlaggedString, IsOperand}
+use Rattle.rx_model.specs.Classes.ClassShapes.{AreOperands, AreTwo, FitsKind, IsOperand}
 use Rattle.rx_model.specs.Classes.ClassStrings.{BarredRow, SpellsBarredString, SpellsSetCharacter, SpellsStrings, StringRow, of_bar, of_character}
 use Rattle.rx_model.specs.Classes.ClassTokens.{ClassToken, bracket, character, closer}
 use Rattle.rx_model.specs.FirstPass.Marks.{starts}
 use Rattle.rx_model.specs.Inputs.Environment.{Environment, is_sets}
 use Rattle.rx_units.specs.Sequences.{ElementRow}
-use Rattle.rx_model.specs.Trees.Early.{may_contain_strings}
+use Rattle.rx_model.specs.Trees.Early.{IsFlaggedString, may_contain_strings}
 use Rattle.rx_model.proofs.Classes.ClassBrackets.{class_in_brackets}
 use Rattle.rx_model.proofs.Classes.ClassBuilt.{ArePlain, IsPlainMember, atom_operand, atom_plain}
 use Rattle.rx_model.proofs.Classes.ClassFlags.{atom_flagged}

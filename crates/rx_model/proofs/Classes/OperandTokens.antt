@@ -15,14 +15,14 @@ use Rattle.rx_units.specs.Units.{values}
 use Rattle.rx_model.specs.Classes.ClassBuilds.{atom_member, range_member, strings_member, string_of}
 use Rattle.rx_model.specs.Classes.ClassOperands.{IsCharacter, SpellsFurtherOperand, SpellsUnionItem, SpellsWholeOperand, of_atom, of_class, of_operand, of_operator, of_range, of_strings}
 use Rattle.rx_model.specs.Classes.ClassPieces as pieces
-use Rattle.rx_model.specs.Classes.ClassRows.{BeforeHigh, ClassTokenRow, IsClass, Place, SpellsAtom, SpellsClassCharacter, SpellsInClass, SpellsOperand, StandsBefore, behind, behind_item, behind_less, behind_meet, fresh, has_threes, is_dashed, outside}
+use Rattle.rx_model.specs.Classes.ClassRows.{BeforeHigh, ClassTokenRow, IsClass, Place, SpellsAtom, SpellsClassCharacter, SpellsInClass, SpellsOperand, StandsBefore, next_place, following_item, after_less, after_meet, fresh, has_threes, is_dashed, outside}
 use Rattle.rx_model.specs.Classes.ClassShapes.{IsOperand}
 use Rattle.rx_model.specs.Classes.ClassTokens.{Atom, ClassToken, bracket, character, closer, dash, escape, high, is_character, item, low, property, strings}
 use Rattle.rx_model.specs.FirstPass.Marks.{starts}
 use Rattle.rx_model.specs.Inputs.Environment.{Environment, is_sets}
 use Rattle.rx_model.proofs.Classes.ClassBuilds.{strings_member_is}
 use Rattle.rx_model.proofs.Classes.ClassBuilt.{IsPlainMember, atom_tokens}
-use Rattle.rx_model.proofs.Classes.ClassEnds.{class_row_split}
+use Rattle.rx_model.proofs.Classes.ClassEnds.{class_row_split, row_units}
 use Rattle.rx_model.proofs.Classes.ClassFronts.{sets_is, single, token_some}
 use Rattle.rx_model.proofs.Classes.ClassOperands.{one_operand}
 use Rattle.rx_model.proofs.Classes.ClassShapes.{between_by, class_tokens_by, contents_tokens, operand_tokens}
@@ -40,8 +40,8 @@ IsBetween Subtraction = Unit {0}
 -- a place where an operand may stand
 abbrev pub TakesOperand : Place → Type 0
 TakesOperand fresh = Unit {0}
-TakesOperand behind_meet = Unit {0}
-TakesOperand behind_less = Unit {0}
+TakesOperand after_meet = Unit {0}
+TakesOperand after_less = Unit {0}
 TakesOperand q = ⊥
 
 -- the first token of an operand
@@ -63,10 +63,10 @@ module _ (e : Environment) (sets : is_sets e.mode ≡ true) where
   no_threes : has_threes e.mode ≡ false
   no_threes = ap has_threes (sets_is e.mode sets)
 
-  after_item : (q : Place) → TakesOperand q → (a : Atom) (more : List CodePoint) → behind e.mode q (item a) more ≡ fresh
-  after_item fresh t a more = ap (λ b. behind_item fresh (is_dashed (values more) && b)) no_threes ∙ ap (behind_item fresh) (and-false (is_dashed (values more)))
-  after_item behind_meet t a more = refl
-  after_item behind_less t a more = refl
+  after_item : (q : Place) → TakesOperand q → (a : Atom) (more : List CodePoint) → next_place e.mode q (item a) more ≡ fresh
+  after_item fresh t a more = ap (λ b. following_item fresh (is_dashed (values more) && b)) no_threes ∙ ap (following_item fresh) (and-false (is_dashed (values more)))
+  after_item after_meet t a more = refl
+  after_item after_less t a more = refl
   after_item q t a more = absurd t
 
   fresh_operand : (t : ClassToken) (w rest : List CodePoint) → IsOpening t → SpellsInClass e fresh t w rest → SpellsOperand e t w rest
@@ -77,20 +77,20 @@ module _ (e : Environment) (sets : is_sets e.mode ≡ true) where
 
   opening_operand : (q : Place) (t : ClassToken) (w rest : List CodePoint) → TakesOperand q → IsOpening t → SpellsInClass e q t w rest → SpellsOperand e t w rest
   opening_operand fresh t w rest takes o s = fresh_operand t w rest o s
-  opening_operand behind_meet t w rest takes o s = s.1
-  opening_operand behind_less t w rest takes o s = s.1
+  opening_operand after_meet t w rest takes o s = s.1
+  opening_operand after_less t w rest takes o s = s.1
   opening_operand q t w rest takes o s = absurd takes
 
   -- An operand may begin at the front of these units, at this place.
   abbrev pub Enters : Place → List CodePoint → Type 0
   Enters q us = (t : ClassToken) (w rest : List CodePoint) → us ≡ w ++ rest → SpellsOperand e t w rest → SpellsInClass e q t w rest
 
-  enters_less : (us : List CodePoint) → Enters behind_less us
+  enters_less : (us : List CodePoint) → Enters after_less us
   enters_less us t w rest h s = (sets, s)
 
-  enters_meet : (us : List CodePoint) → starts 38 (values us) ≡ false → Enters behind_meet us
+  enters_meet : (us : List CodePoint) → starts 38 (values us) ≡ false → Enters after_meet us
   enters_meet us none t w rest h s =
-      (sets, s, sym (starts_front 38 w rest (token_some e behind_less t w rest (sets, s))) ∙ ap (λ us. starts 38 (values us)) (sym h) ∙ none)
+      (sets, s, sym (starts_front 38 w rest (token_some e after_less t w rest (sets, s))) ∙ ap (λ us. starts 38 (values us)) (sym h) ∙ none)
 
   pub enters_fresh : (m : Member) (v back : List CodePoint) → SpellsWholeOperand e m v back → (IsCharacter m → BeforeHigh e back → ⊥) → Enters fresh (v ++ back)
   enters_fresh m v back operand none (item a) w rest h s =
@@ -122,15 +122,10 @@ module _ (e : Environment) (sets : is_sets e.mode ≡ true) where
   pub further_row : (kind : CharacterClassContentsKind) (m : Member) (w rest : List CodePoint) → SpellsFurtherOperand e kind m w rest → ClassTokenRow e (between_by kind ++ operand_tokens m) fresh (w ++ rest) fresh rest
   further_row Union m _ rest (of_operator operator w is s) = absurd is
   further_row Intersection m _ rest (of_operator operator w is s) =
-      (operator, w ++ rest, append_assoc operator w rest, (sets, is.0), operand_row behind_meet tt m w rest s (enters_meet (w ++ rest) is.1))
-  further_row Subtraction m _ rest (of_operator operator w is s) = (operator, w ++ rest, append_assoc operator w rest, (sets, is), operand_row behind_less tt m w rest s (enters_less (w ++ rest)))
+      (operator, w ++ rest, append_assoc operator w rest, (sets, is.0), operand_row after_meet tt m w rest s (enters_meet (w ++ rest) is.1))
+  further_row Subtraction m _ rest (of_operator operator w is s) = (operator, w ++ rest, append_assoc operator w rest, (sets, is), operand_row after_less tt m w rest s (enters_less (w ++ rest)))
 
   -- tokens → spelled
-  row_units : (ts : List ClassToken) (q : Place) (us : List CodePoint) (r : Place) (rest : List CodePoint) → ClassTokenRow e ts q us r rest → (w : List CodePoint) × (us ≡ w ++ rest)
-  row_units [] q us r rest row = ([], row.1)
-  row_units (t ∷ ts) q us r rest row =
-      let f = row_units ts (behind e.mode q t row.1) row.1 r rest row.4 in (row.0 ++ f.0, row.2 ∙ ap (λ more. row.0 ++ more) f.1 ∙ sym (append_assoc row.0 f.0 rest))
-
   -- A thing stands before these units, from which on others may stand.
   abbrev pub Stands : (List CodePoint → List CodePoint → Type 0) → List CodePoint → Place → List CodePoint → Type 0
   Stands spells us p more = (w : List CodePoint) × (us ≡ w ++ more) × spells w more × (p ≡ fresh)
@@ -151,7 +146,7 @@ module _ (e : Environment) (sets : is_sets e.mode ≡ true) where
       let tokens_are = class_tokens_by s negative may kind ms in
       let row : ClassTokenRow e (bracket negative ∷ (contents ++ (closer ∷ []))) q us p more = subst (λ ts. ClassTokenRow e ts q us p more) tokens_are tokens in
       let ends = sym (class_row_split e contents (closer ∷ []) fresh row.1 p more row.4).3.4.0 in
-      let units = row_units (bracket negative ∷ (contents ++ (closer ∷ []))) q us p more row in
+      let units = row_units e (bracket negative ∷ (contents ++ (closer ∷ []))) q us p more row in
       let no_spans = plain.plain in
       let spelled : ClassTokenRow e (bracket negative ∷ (contents ++ (closer ∷ []))) outside us fresh more =
       (row.0, row.1, row.2, opening_operand q (bracket negative) row.0 row.1 takes tt row.3, subst (λ p. ClassTokenRow e (contents ++ (closer ∷ [])) fresh row.1 p more) ends row.4) in (
@@ -178,7 +173,7 @@ module _ (e : Environment) (sets : is_sets e.mode ≡ true) where
   operand_stands q takes (tree.character c) plain o us p more row = subst (λ m. Stands (SpellsWholeOperand e m) us p more) plain.plain (atom_stands q takes (character c.kind c.value) us p more row)
   operand_stands q takes (tree.nested c) plain o us p more row = class_stands q takes c plain us p more row
   operand_stands q takes (tree.strings d) plain o us p more row =
-      let units = row_units (operand_tokens (tree.strings d)) q us p more row in
+      let units = row_units e (operand_tokens (tree.strings d)) q us p more row in
       let s =
       is_spelled_from e d plain.fits plain.flagged plain.plain units.0 row.0 row.1 p more sets (sym units.1 ∙ row.2) (opening_operand q strings row.0 row.1 takes tt row.3) _ refl row.4 in
       let body : map (forget_string same_kind) d.body ≡ d.body = ap body_of plain.plain in
@@ -221,10 +216,10 @@ module _ (e : Environment) (sets : is_sets e.mode ≡ true) where
   IsSome [] = ⊥
   IsSome (t ∷ ts) = Unit {0}
 
-  first_no_ampersand : (ts : List ClassToken) → IsSome ts → (us : List CodePoint) (p : Place) (more : List CodePoint) → ClassTokenRow e ts behind_meet us p more → starts 38 (values us) ≡ false
+  first_no_ampersand : (ts : List ClassToken) → IsSome ts → (us : List CodePoint) (p : Place) (more : List CodePoint) → ClassTokenRow e ts after_meet us p more → starts 38 (values us) ≡ false
   first_no_ampersand [] some us p more row = absurd some
   first_no_ampersand (t ∷ ts) some us p more row =
-      ap (λ us. starts 38 (values us)) row.2 ∙ starts_front 38 row.0 row.1 (token_some e behind_meet t row.0 row.1 row.3) ∙ row.3.2
+      ap (λ us. starts 38 (values us)) row.2 ∙ starts_front 38 row.0 row.1 (token_some e after_meet t row.0 row.1 row.3) ∙ row.3.2
 
   some_tokens : (m : Member) → IsSome (operand_tokens m)
   some_tokens (tree.range r) = tt
@@ -239,12 +234,12 @@ module _ (e : Environment) (sets : is_sets e.mode ≡ true) where
       ClassTokenRow e (between_by kind ++ operand_tokens m) fresh us p more → Stands (SpellsFurtherOperand e kind m) us p more
   further_stands Union between m plain o us p more row = absurd between
   further_stands Intersection between m plain o us p more row =
-      let s = operand_stands behind_meet tt m plain o row.1 p more row.4 in (
+      let s = operand_stands after_meet tt m plain o row.1 p more row.4 in (
         row.0 ++ s.0,
         row.2 ∙ ap (λ more. row.0 ++ more) s.1 ∙ sym (append_assoc row.0 s.0 more),
         of_operator row.0 s.0 (row.3.1, ap (λ us. starts 38 (values us)) (sym s.1) ∙ first_no_ampersand (operand_tokens m) (some_tokens m) row.1 p more row.4) s.2,
         s.3,
       )
   further_stands Subtraction between m plain o us p more row =
-      let s = operand_stands behind_less tt m plain o row.1 p more row.4 in
+      let s = operand_stands after_less tt m plain o row.1 p more row.4 in
       (row.0 ++ s.0, row.2 ∙ ap (λ more. row.0 ++ more) s.1 ∙ sym (append_assoc row.0 s.0 more), of_operator row.0 s.0 row.3.1 s.2, s.3)

@@ -21,9 +21,9 @@ use Rattle.rx_model.specs.Trees.Early.{any_strings, member_strings}
 use Rattle.rx_model.proofs.Classes.ClassBrackets.{class_has_tokens, class_in_brackets}
 use Rattle.rx_model.proofs.Classes.ClassBuilds.{same_tokens}
 use Rattle.rx_model.proofs.Classes.ClassBuilt.{IsPlainMember, atom_plain, atom_tokens}
-use Rattle.rx_model.proofs.Classes.ClassEnds.{OfClass, class_ends, class_row_append, none_behind_end}
+use Rattle.rx_model.proofs.Classes.ClassEnds.{OfClass, class_ends, class_row_append, none_after_end}
 use Rattle.rx_model.proofs.Classes.ClassFlags.{atom_flagged}
-use Rattle.rx_model.proofs.Classes.ClassFronts.{behind_first, behind_one, single}
+use Rattle.rx_model.proofs.Classes.ClassFronts.{after_first, after_one, single}
 use Rattle.rx_model.proofs.Classes.ClassShapes.{between_by, class_tokens_by, contents_tokens, further_tokens, operand_tokens}
 use Rattle.rx_model.proofs.Classes.ClassWholes.{only_sets}
 use Rattle.rx_model.proofs.Classes.OneAtom.{dashed, one_atom}
@@ -60,7 +60,7 @@ union_tokens (member m ms) = refl
 contents_of_pieces : (ps : List Piece) → pieces_tokens ps ≡ contents_tokens (between_by Union) (members (pieces_members ps))
 contents_of_pieces ps = tokens_of_pieces ps ∙ sym (union_tokens (members (pieces_members ps)))
 
-legacy_threes : (mode : Mode) → is_unicode mode ≡ false → has_threes mode ≡ true
+pub legacy_threes : (mode : Mode) → is_unicode mode ≡ false → has_threes mode ≡ true
 legacy_threes Legacy h = refl
 legacy_threes Unicode h = absurd (let no : ⊥ = cc h in no)
 legacy_threes Sets h = absurd (let no : ⊥ = cc h in no)
@@ -90,7 +90,7 @@ module _ (e : Environment) where
 
   -- Pieces are tokens.
   pub piece_row : (p : Piece) (w rest : List CodePoint) → SpellsPiece e p w rest → ClassTokenRow e (piece_tokens p) fresh (w ++ rest) fresh rest
-  piece_row _ w rest (of_atom a s d) = (w, rest, refl, (s, inl d), (behind_one e a rest d, refl))
+  piece_row _ w rest (of_atom a s d) = (w, rest, refl, (s, inl d), (after_one e a rest d, refl))
   piece_row _ _ rest (of_range {k} {j} {v} {x} first hyphen last s h t) = (
     first,
     hyphen ∷ (last ++ rest),
@@ -115,7 +115,7 @@ module _ (e : Environment) where
         hyphen ∷ (third ++ rest),
         append_assoc first (hyphen ∷ third) rest,
         (s, inr (inl before)),
-        subst (λ q. ClassTokenRow e (item (character kinds.Symbol 45) ∷ item b ∷ []) q (hyphen ∷ (third ++ rest)) fresh rest) (sym (behind_first e a (hyphen ∷ (third ++ rest)) before))
+        subst (λ q. ClassTokenRow e (item (character kinds.Symbol 45) ∷ item b ∷ []) q (hyphen ∷ (third ++ rest)) fresh rest) (sym (after_first e a (hyphen ∷ (third ++ rest)) before))
             (hyphen ∷ [], third ++ rest, refl, (refl, ap (λ c. c ∷ []) h), (third, rest, refl, t, (refl, refl))),
       )
 
@@ -188,7 +188,7 @@ module _ (e : Environment) where
       pieces_in : (ts : List ClassToken) (us rest : List CodePoint) → ToCloser fresh ts us rest → InPieces ts us rest
       pieces_in [] us rest row = none_there fresh us rest row
       pieces_in (closer ∷ ts) us rest row =
-          let n = none_behind_end e ts row.1 None rest row.4 in
+          let n = none_after_end e ts row.1 None rest row.4 in
           let u = single row.0 93 row.3 in
           record {
             pieces = [];
@@ -199,9 +199,9 @@ module _ (e : Environment) where
           }
       pieces_in ((item a) ∷ ts) us rest row = elim row.3.1 [
         | inl d ↦
-            with_piece (alone a) row.0 row.1 ts us rest row.2 (of_atom a row.3.0 d) (pieces_in ts row.1 rest (subst (λ q. ToCloser q ts row.1 rest) (behind_one e a row.1 d) row.4))
+            with_piece (alone a) row.0 row.1 ts us rest row.2 (of_atom a row.3.0 d) (pieces_in ts row.1 rest (subst (λ q. ToCloser q ts row.1 rest) (after_one e a row.1 d) row.4))
         | inr o ↦ elim o [
-          | inl t ↦ second_in a row.0 row.1 t ts us rest row.2 row.3.0 (subst (λ q. ToCloser q ts row.1 rest) (behind_first e a row.1 t) row.4)
+          | inl t ↦ second_in a row.0 row.1 t ts us rest row.2 row.3.0 (subst (λ q. ToCloser q ts row.1 rest) (after_first e a row.1 t) row.4)
           | inr b ↦ absurd (no_such b.sets)
         ]
       ]

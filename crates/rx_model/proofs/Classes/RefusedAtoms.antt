@@ -9,13 +9,14 @@ use Rattle.rx_ast.specs.declared.leaf.CharacterClassEscapeKind.{CharacterClassEs
 use Rattle.rx_ast.specs.declared.leaf.CharacterClassEscapeKind.TheVariants.{D, NegativeD, S, NegativeS, W, NegativeW}
 use Rattle.rx_units.specs.declared.code_point.CodePoint.{CodePoint}
 use Rattle.rx_units.specs.Units.{values}
+use Rattle.rx_units.specs.Digits.{PassesHex}
 use Rattle.rx_model.specs.declared.mode.Mode.{Mode}
 use Rattle.rx_model.specs.declared.mode.Mode.TheVariants.{Legacy, Unicode, Sets}
 use Rattle.rx_model.specs.Characters.Decoding.{Decoded, decoded}
 use Rattle.rx_model.specs.Characters.Decoding as decoding
 use Rattle.rx_model.specs.Characters.EscapeFronts.{escaped, too_many, escape_at, unicode_read}
 use Rattle.rx_model.specs.Characters.Escapes.{SpellsEscape, control, letter, null, hexadecimal, unicode, identity, is_identity_escape}
-use Rattle.rx_model.specs.Characters.UnicodeEscapes.{Decodes, PassesHex}
+use Rattle.rx_model.specs.Characters.UnicodeEscapes.{Decodes}
 use Rattle.rx_model.specs.FirstPass.Marks.{starts}
 use Rattle.rx_model.specs.Classes.ClassRows as spelled
 use Rattle.rx_model.specs.Classes.ClassRows.{SpellsAtom, SpellsClassCharacter, SpellsInClassAlone, has_hyphen, stands_raw_in_class}
@@ -75,8 +76,8 @@ begins_with mode (unit ∷ others) c v h no_closer no_dash =
     record { unit = unit; others = others; whole = refl; no_closer = ap (λ c. c == 93) is ∙ no_closer; no_dash = λ sets. ap (λ c. c == 45) is ∙ no_dash }
 
 -- what begins an escape
-escape_begins : (mode : Mode) (backslash : CodePoint) (behind : List CodePoint) → backslash.value ≡ 92 → BeginsAtom mode (backslash ∷ behind)
-escape_begins mode backslash behind h = begins_with mode (backslash ∷ behind) 92 (values behind) (ap (λ c. c ∷ values behind) h) refl refl
+escape_begins : (mode : Mode) (backslash : CodePoint) (following : List CodePoint) → backslash.value ≡ 92 → BeginsAtom mode (backslash ∷ following)
+escape_begins mode backslash following h = begins_with mode (backslash ∷ following) 92 (values following) (ap (λ c. c ∷ values following) h) refl refl
 
 module _ (e : Environment) where
   pub character_begins : (k : CharacterKind) (v : ℕ) (w rest : List CodePoint) → SpellsClassCharacter e k v w rest → BeginsAtom e.mode w
@@ -85,9 +86,9 @@ module _ (e : Environment) where
       record { unit = unit; others = []; whole = refl; no_closer = o.no_closer; no_dash = o.no_dash }
   character_begins _ _ _ rest (spelled.hyphen unit there h) =
       record { unit = unit; others = []; whole = refl; no_closer = ap (λ c. c == 93) h; no_dash = λ sets. absurd (no_hyphen_in_sets e.mode there sets) }
-  character_begins k v _ rest (spelled.escaped backslash behind h s) = escape_begins e.mode backslash behind h
-  character_begins k v _ rest (spelled.escaped_in_class backslash behind h s) = escape_begins e.mode backslash behind h
-  character_begins k v _ rest (spelled.escaped_in_legacy backslash behind h legacy s) = escape_begins e.mode backslash behind h
+  character_begins k v _ rest (spelled.escaped backslash following h s) = escape_begins e.mode backslash following h
+  character_begins k v _ rest (spelled.escaped_in_class backslash following h s) = escape_begins e.mode backslash following h
+  character_begins k v _ rest (spelled.escaped_in_legacy backslash following h legacy s) = escape_begins e.mode backslash following h
 
   class_escape_begins : (k : CharacterClassEscapeKind) (w : List CodePoint) → values w ≡ class_escape_text k → BeginsAtom e.mode w
   class_escape_begins k w h = let l = class_letter k in begins_with e.mode w 92 (l.letter ∷ []) (h ∙ l.text) refl refl
@@ -101,29 +102,29 @@ module _ (e : Environment) where
   atom_begins (escape k) w rest s = class_escape_begins k w s
   atom_begins (property negative strings name value) w rest s = property_begins negative w (s.text ++ (125 ∷ [])) s.whole
 
-  -- what stands behind a backslash that spells a character
-  data Escapes (k : CharacterKind) (v : ℕ) (behind : List ℕ) : Type 0 where
-    everywhere : (w rest : List ℕ) → SpellsEscape e k v w rest → behind ≡ w ++ rest → Escapes k v behind
-    in_class : (w rest : List ℕ) → SpellsInClassAlone e.mode k v w → behind ≡ w ++ rest → Escapes k v behind
+  -- what stands after a backslash that spells a character
+  data Escapes (k : CharacterKind) (v : ℕ) (following : List ℕ) : Type 0 where
+    everywhere : (w rest : List ℕ) → SpellsEscape e k v w rest → following ≡ w ++ rest → Escapes k v following
+    in_class : (w rest : List ℕ) → SpellsInClassAlone e.mode k v w → following ≡ w ++ rest → Escapes k v following
 
-  text_behind : (backslash : CodePoint) (w rest : List CodePoint) (all : List CodePoint) (behind : List ℕ) → values all ≡ 92 ∷ behind → all ≡ backslash ∷ (w ++ rest) → behind ≡ values w ++ values rest
-  text_behind backslash w rest all behind h whole =
-      let text : 92 ∷ behind ≡ backslash.value ∷ values (w ++ rest) = sym h ∙ ap values whole in
-      let same : behind ≡ values (w ++ rest) = cc text in
+  text_after : (backslash : CodePoint) (w rest : List CodePoint) (all : List CodePoint) (following : List ℕ) → values all ≡ 92 ∷ following → all ≡ backslash ∷ (w ++ rest) → following ≡ values w ++ values rest
+  text_after backslash w rest all following h whole =
+      let text : 92 ∷ following ≡ backslash.value ∷ values (w ++ rest) = sym h ∙ ap values whole in
+      let same : following ≡ values (w ++ rest) = cc text in
       same ∙ map-append (λ (u : CodePoint). u.value) w rest
 
-  no_backslash_raw : (u : CodePoint) (all rest : List CodePoint) (behind : List ℕ) → values all ≡ 92 ∷ behind → all ≡ u ∷ rest → (u.value == 92) ≡ false → ⊥
-  no_backslash_raw u all rest behind h whole other =
-      let text : 92 ∷ behind ≡ u.value ∷ values rest = sym h ∙ ap values whole in
+  no_backslash_raw : (u : CodePoint) (all rest : List CodePoint) (following : List ℕ) → values all ≡ 92 ∷ following → all ≡ u ∷ rest → (u.value == 92) ≡ false → ⊥
+  no_backslash_raw u all rest following h whole other =
+      let text : 92 ∷ following ≡ u.value ∷ values rest = sym h ∙ ap values whole in
       let is : 92 ≡ u.value = cc text in
       true≢false (ap (λ c. c == 92) is ∙ other)
 
-  escapes_there : is_unicode e.mode ≡ true → (k : CharacterKind) (v : ℕ) (all w rest : List CodePoint) (behind : List ℕ) → values all ≡ 92 ∷ behind → all ≡ w ++ rest → SpellsClassCharacter e k v w rest → Escapes k v behind
-  escapes_there u _ _ all _ rest behind h whole (spelled.raw unit raw) = absurd (no_backslash_raw unit all rest behind h whole (raw_other e.mode unit.value (values rest) raw).no_backslash)
-  escapes_there u _ _ all _ rest behind h whole (spelled.hyphen unit there is) = absurd (no_backslash_raw unit all rest behind h whole (ap (λ c. c == 92) is))
-  escapes_there u k v all _ rest behind h whole (spelled.escaped backslash w is s) = everywhere (values w) (values rest) s (text_behind backslash w rest all behind h whole)
-  escapes_there u k v all _ rest behind h whole (spelled.escaped_in_class backslash w is s) = in_class (values w) (values rest) s (text_behind backslash w rest all behind h whole)
-  escapes_there u k v all _ rest behind h whole (spelled.escaped_in_legacy backslash w is legacy s) = absurd (true≢false (sym u ∙ legacy))
+  escapes_there : is_unicode e.mode ≡ true → (k : CharacterKind) (v : ℕ) (all w rest : List CodePoint) (following : List ℕ) → values all ≡ 92 ∷ following → all ≡ w ++ rest → SpellsClassCharacter e k v w rest → Escapes k v following
+  escapes_there u _ _ all _ rest following h whole (spelled.raw unit raw) = absurd (no_backslash_raw unit all rest following h whole (raw_other e.mode unit.value (values rest) raw).no_backslash)
+  escapes_there u _ _ all _ rest following h whole (spelled.hyphen unit there is) = absurd (no_backslash_raw unit all rest following h whole (ap (λ c. c == 92) is))
+  escapes_there u k v all _ rest following h whole (spelled.escaped backslash w is s) = everywhere (values w) (values rest) s (text_after backslash w rest all following h whole)
+  escapes_there u k v all _ rest following h whole (spelled.escaped_in_class backslash w is s) = in_class (values w) (values rest) s (text_after backslash w rest all following h whole)
+  escapes_there u k v all _ rest following h whole (spelled.escaped_in_legacy backslash w is legacy s) = absurd (true≢false (sym u ∙ legacy))
 
   -- No escape that stands in classes alone begins with this.
   none_alone : (mode : Mode) (k : CharacterKind) (v c : ℕ) (w rest more : List ℕ) → SpellsInClassAlone mode k v w → c ∷ more ≡ w ++ rest → (c == 98 || (c == 45 || is_reserved_punctuator c)) ≡ false → ⊥
@@ -135,24 +136,24 @@ module _ (e : Environment) where
       true≢false (sym is ∙ ap is_reserved_punctuator (sym same) ∙ p.1)
 
   -- An escape that is read as none is spelled by none.
-  not_escaped : is_unicode e.mode ≡ true → (k : CharacterKind) (v : ℕ) (w rest behind : List ℕ) → SpellsEscape e k v w rest → behind ≡ w ++ rest → escape_at true behind ≡ escaped k v (length w)
-  not_escaped u k v w rest behind s h = ap (escape_at true) h ∙ ap (λ m. escape_at m (w ++ rest)) (sym u) ∙ spelled_escape e k v w rest s
+  not_escaped : is_unicode e.mode ≡ true → (k : CharacterKind) (v : ℕ) (w rest following : List ℕ) → SpellsEscape e k v w rest → following ≡ w ++ rest → escape_at true following ≡ escaped k v (length w)
+  not_escaped u k v w rest following s h = ap (escape_at true) h ∙ ap (λ m. escape_at m (w ++ rest)) (sym u) ∙ spelled_escape e k v w rest s
 
   value_there : (d : Decoded) (k : CharacterKind) (v n : ℕ) → unicode_read d ≡ escaped k v n → (x : ℕ) × (m : ℕ) × (d ≡ decoding.value x m)
   value_there (decoding.value x m) k v n h = (x, m, refl)
   value_there decoding.invalid k v n h = absurd (let no : ⊥ = cc h in no)
   value_there (decoding.overflow m) k v n h = absurd (let no : ⊥ = cc h in no)
 
-  no_digits_behind : is_unicode e.mode ≡ true → (k : CharacterKind) (v count : ℕ) (behind : List ℕ) → PassesHex behind count → Escapes k v behind → ⊥
-  no_digits_behind u k v count behind p (everywhere w rest s h) =
-      let no : too_many count ≡ escaped k v (length w) = sym (too_many_escape behind count p) ∙ not_escaped u k v w rest behind s h in cc no
-  no_digits_behind u k v count behind p (in_class w rest s h) = none_alone e.mode k v 117 w rest (123 ∷ (p.digits ++ p.next ∷ p.rest)) s (sym p.whole ∙ h) refl
+  no_digits_after : is_unicode e.mode ≡ true → (k : CharacterKind) (v count : ℕ) (following : List ℕ) → PassesHex following count → Escapes k v following → ⊥
+  no_digits_after u k v count following p (everywhere w rest s h) =
+      let no : too_many count ≡ escaped k v (length w) = sym (too_many_escape following count p) ∙ not_escaped u k v w rest following s h in cc no
+  no_digits_after u k v count following p (in_class w rest s h) = none_alone e.mode k v 117 w rest (123 ∷ (p.digits ++ p.next ∷ p.rest)) s (sym p.whole ∙ h) refl
 
-  no_unicode_behind : is_unicode e.mode ≡ true → (k : CharacterKind) (v : ℕ) (behind : List ℕ) → ((v n : ℕ) → Decodes true (117 ∷ behind) v n → ⊥) → Escapes k v (117 ∷ behind) → ⊥
-  no_unicode_behind u k v behind none (everywhere w rest s h) =
-      let there = value_there (decoded true (117 ∷ behind)) k v (length w) (sym (escape_u behind) ∙ not_escaped u k v w rest (117 ∷ behind) s h) in
-      none there.0 there.1 ((value_law true (117 ∷ behind) there.0 there.1).0 there.2)
-  no_unicode_behind u k v behind none (in_class w rest s h) = none_alone e.mode k v 117 w rest behind s h refl
+  no_unicode_after : is_unicode e.mode ≡ true → (k : CharacterKind) (v : ℕ) (following : List ℕ) → ((v n : ℕ) → Decodes true (117 ∷ following) v n → ⊥) → Escapes k v (117 ∷ following) → ⊥
+  no_unicode_after u k v following none (everywhere w rest s h) =
+      let there = value_there (decoded true (117 ∷ following)) k v (length w) (sym (escape_u following) ∙ not_escaped u k v w rest (117 ∷ following) s h) in
+      none there.0 there.1 ((value_law true (117 ∷ following) there.0 there.1).0 there.2)
+  no_unicode_after u k v following none (in_class w rest s h) = none_alone e.mode k v 117 w rest following s h refl
 
   -- A property's letter begins no other escape.
   of_letter : (set : ℕ → Bool) (c : ℕ) → set 112 ≡ false → set 80 ≡ false → begins_property c ≡ true → set c ≡ false
@@ -179,9 +180,9 @@ module _ (e : Environment) where
       let is : c ≡ d = cc same in
       true≢false (sym there ∙ ap is_identity_escape (sym is) ∙ of_letter is_identity_escape c refl refl h)
 
-  no_property_behind : (k : CharacterKind) (v c : ℕ) (behind : List ℕ) → begins_property c ≡ true → Escapes k v (c ∷ behind) → ⊥
-  no_property_behind k v c behind h (everywhere w rest s same) = no_escape_of_letter k v c w rest behind h s same
-  no_property_behind k v c behind h (in_class w rest s same) = none_alone e.mode k v c w rest behind s same (of_letter (λ c. c == 98 || (c == 45 || is_reserved_punctuator c)) c refl refl h)
+  no_property_after : (k : CharacterKind) (v c : ℕ) (following : List ℕ) → begins_property c ≡ true → Escapes k v (c ∷ following) → ⊥
+  no_property_after k v c following h (everywhere w rest s same) = no_escape_of_letter k v c w rest following h s same
+  no_property_after k v c following h (in_class w rest s same) = none_alone e.mode k v c w rest following s same (of_letter (λ c. c == 98 || (c == 45 || is_reserved_punctuator c)) c refl refl h)
 
 ne_false : (b : Bool) → (b ≡ false → ⊥) → b ≡ true
 ne_false true h = refl
@@ -192,15 +193,15 @@ pub record IsNoItem (a : Atom) : Type 0 where
   pub no_character : is_character a ≡ false
   pub not_obeying : atom_obeys a ≡ false
 
-class_escape_other : (k : CharacterClassEscapeKind) (w : List CodePoint) (all rest : List CodePoint) (c : ℕ) (behind : List ℕ) → values all ≡ 92 ∷ c ∷ behind → all ≡ w ++ rest → values w ≡ class_escape_text k → (c == 117 || begins_property c) ≡ true → ⊥
-class_escape_other k w all rest c behind h whole s other =
-    let text : 92 ∷ c ∷ behind ≡ class_escape_text k ++ values rest = sym h ∙ ap values whole ∙ map-append (λ (u : CodePoint). u.value) w rest ∙ ap (λ v. v ++ values rest) s in
+class_escape_other : (k : CharacterClassEscapeKind) (w : List CodePoint) (all rest : List CodePoint) (c : ℕ) (following : List ℕ) → values all ≡ 92 ∷ c ∷ following → all ≡ w ++ rest → values w ≡ class_escape_text k → (c == 117 || begins_property c) ≡ true → ⊥
+class_escape_other k w all rest c following h whole s other =
+    let text : 92 ∷ c ∷ following ≡ class_escape_text k ++ values rest = sym h ∙ ap values whole ∙ map-append (λ (u : CodePoint). u.value) w rest ∙ ap (λ v. v ++ values rest) s in
     by k text
   where
     no : (d : ℕ) → (d == 117 || begins_property d) ≡ false → c ≡ d → ⊥
     no d none same = true≢false (sym other ∙ ap (λ c. c == 117 || begins_property c) same ∙ none)
 
-    by : (k : CharacterClassEscapeKind) → 92 ∷ c ∷ behind ≡ class_escape_text k ++ values rest → ⊥
+    by : (k : CharacterClassEscapeKind) → 92 ∷ c ∷ following ≡ class_escape_text k ++ values rest → ⊥
     by D t = no 100 refl (cc t)
     by NegativeD t = no 68 refl (cc t)
     by S t = no 115 refl (cc t)
@@ -208,12 +209,12 @@ class_escape_other k w all rest c behind h whole s other =
     by W t = no 119 refl (cc t)
     by NegativeW t = no 87 refl (cc t)
 
-property_letter : (negative : Bool) (w : List CodePoint) (all rest : List CodePoint) (behind : List ℕ) (v : List ℕ) → values all ≡ 92 ∷ 117 ∷ behind → all ≡ w ++ rest → values w ≡ property_opener negative ++ v → ⊥
-property_letter negative w all rest behind v h whole s =
-    let text : 92 ∷ 117 ∷ behind ≡ (property_opener negative ++ v) ++ values rest = sym h ∙ ap values whole ∙ map-append (λ (u : CodePoint). u.value) w rest ∙ ap (λ v. v ++ values rest) s in
+property_letter : (negative : Bool) (w : List CodePoint) (all rest : List CodePoint) (following : List ℕ) (v : List ℕ) → values all ≡ 92 ∷ 117 ∷ following → all ≡ w ++ rest → values w ≡ property_opener negative ++ v → ⊥
+property_letter negative w all rest following v h whole s =
+    let text : 92 ∷ 117 ∷ following ≡ (property_opener negative ++ v) ++ values rest = sym h ∙ ap values whole ∙ map-append (λ (u : CodePoint). u.value) w rest ∙ ap (λ v. v ++ values rest) s in
     by negative text
   where
-    by : (negative : Bool) → 92 ∷ 117 ∷ behind ≡ (property_opener negative ++ v) ++ values rest → ⊥
+    by : (negative : Bool) → 92 ∷ 117 ∷ following ≡ (property_opener negative ++ v) ++ values rest → ⊥
     by true t = true≢false (ap (λ w. starts 117 (drop 1 w)) t)
     by false t = true≢false (ap (λ w. starts 117 (drop 1 w)) t)
 
@@ -223,15 +224,15 @@ module _ (e : Environment) (us : List CodePoint) (first added place : ℕ) (rest
   escape_first c = begun d c
     where
       begun : (d : Diagnostic) → IsEscapeCause e.mode us first added place rest d → (w : List ℕ) × (values rest ≡ 92 ∷ 117 ∷ w)
-      begun _ (escapes.too_many_hex_digits count behind u h p) = (123 ∷ (p.digits ++ p.next ∷ p.rest), h ∙ ap (λ w. 92 ∷ w) p.whole)
-      begun _ (escapes.invalid_escape behind u h no_value no_limit) = (behind, h)
+      begun _ (escapes.too_many_hex_digits count following u h p) = (123 ∷ (p.digits ++ p.next ∷ p.rest), h ∙ ap (λ w. 92 ∷ w) p.whole)
+      begun _ (escapes.invalid_escape following u h no_value no_limit) = (following, h)
 
   pub no_character_escaped : (k : CharacterKind) (v : ℕ) (w more : List CodePoint) → IsEscapeCause e.mode us first added place rest d → rest ≡ w ++ more → SpellsClassCharacter e k v w more → ⊥
   no_character_escaped k v w more c whole s = by d c
     where
       by : (d : Diagnostic) → IsEscapeCause e.mode us first added place rest d → ⊥
-      by _ (escapes.too_many_hex_digits count behind u h p) = no_digits_behind e u k v count behind p (escapes_there e u k v rest w more behind h whole s)
-      by _ (escapes.invalid_escape behind u h no_value no_limit) = no_unicode_behind e u k v behind no_value (escapes_there e u k v rest w more (117 ∷ behind) h whole s)
+      by _ (escapes.too_many_hex_digits count following u h p) = no_digits_after e u k v count following p (escapes_there e u k v rest w more following h whole s)
+      by _ (escapes.invalid_escape following u h no_value no_limit) = no_unicode_after e u k v following no_value (escapes_there e u k v rest w more (117 ∷ following) h whole s)
 
   -- No atom is spelled where a character escape is refused.
   pub no_atom_escaped : (a : Atom) (w more : List CodePoint) → IsEscapeCause e.mode us first added place rest d → rest ≡ w ++ more → SpellsAtom e a w more → ⊥
@@ -243,7 +244,7 @@ module _ (e : Environment) (us : List CodePoint) (first added place : ℕ) (rest
   pub no_atom_of_property : (a : Atom) (w more : List CodePoint) → IsPropertyCause e.mode us first added place rest d → rest ≡ w ++ more → SpellsAtom e a w more → IsNoItem a
   no_atom_of_property (character k v) w more c whole s =
       let b = property_first e.mode us first added place rest d c in
-      absurd (no_property_behind e k v b.0 b.1 b.3 (escapes_there e (cause_unicode e.mode us first added place rest d c) k v rest w more (b.0 ∷ b.1) b.2 whole s))
+      absurd (no_property_after e k v b.0 b.1 b.3 (escapes_there e (cause_unicode e.mode us first added place rest d c) k v rest w more (b.0 ∷ b.1) b.2 whole s))
   no_atom_of_property (escape k) w more c whole s =
       let b = property_first e.mode us first added place rest d c in
       absurd (class_escape_other k w rest more b.0 b.1 b.2 whole s (or_right (b.0 == 117) (begins_property b.0) b.3))

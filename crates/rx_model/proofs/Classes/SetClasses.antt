@@ -6,7 +6,7 @@ use Rattle.rx_base.specs.declared.diagnostic.kinds.SetOperator.{SetOperator}
 use Rattle.rx_units.specs.declared.code_point.CodePoint.{CodePoint}
 use Rattle.rx_units.specs.Units.{values}
 use Rattle.rx_model.specs.declared.mode.Mode.TheVariants.{Sets}
-use Rattle.rx_model.specs.Classes.ClassRows.{Place, SpellsInClass, at_dash, at_high, at_second, at_third, behind_less, behind_meet, fresh, in_strings, outside}
+use Rattle.rx_model.specs.Classes.ClassRows.{Place, SpellsInClass, at_dash, at_high, at_second, at_third, after_less, after_meet, fresh, in_strings, outside}
 use Rattle.rx_model.specs.Classes.ClassRuns.{Held, empty, single, several, meeting, met, lessening, lessened, is_union, may_follow, operator_of}
 use Rattle.rx_model.specs.FirstPass.Marks.{starts}
 use Rattle.rx_model.specs.Inputs.Environment.{Environment}
@@ -46,17 +46,17 @@ module _ (us : List CodePoint) (start added from : ℕ) (at_class : List CodePoi
     in_operands : (operator : SetOperator) → operator_of i.inner.held ≡ Some operator → Wrong
     in_operands operator held = elim (cases_Bool (starts 38 (values rest))) [ inl ampersand ↦ by_place i.at refl i.begins rest refl ampersand | inr other ↦ refused (λ at. other) ]
       where
-        refused : (i.at ≡ behind_meet → starts 38 (values rest) ≡ false) → Wrong
+        refused : (i.at ≡ after_meet → starts 38 (values rest) ≡ false) → Wrong
         refused no_third = (place, _, class_cause.no_operator operator place rest i held none no_third)
 
-        third : i.at ≡ behind_meet → (text : List CodePoint) → rest ≡ text → starts 38 (values text) ≡ true → Wrong
+        third : i.at ≡ after_meet → (text : List CodePoint) → rest ≡ text → starts 38 (values text) ≡ true → Wrong
         third at [] there ampersand = absurd (true≢false (sym ampersand))
         third at (u ∷ text) there ampersand = (place, _, class_cause.third_ampersand place u text (same_place Sets us start added from at_class i (u ∷ text) there) at (eqb-true u.value 38 ampersand))
 
         by_place : (q : Place) → i.at ≡ q → begins_item q ≡ true → (text : List CodePoint) → rest ≡ text → starts 38 (values text) ≡ true → Wrong
-        by_place behind_meet at begins text there ampersand = third at text there ampersand
+        by_place after_meet at begins text there ampersand = third at text there ampersand
         by_place fresh at begins text there ampersand = refused (λ meets. let same = sym at ∙ meets in absurd (let no : ⊥ = cc same in no))
-        by_place behind_less at begins text there ampersand = refused (λ meets. let same = sym at ∙ meets in absurd (let no : ⊥ = cc same in no))
+        by_place after_less at begins text there ampersand = refused (λ meets. let same = sym at ∙ meets in absurd (let no : ⊥ = cc same in no))
         by_place outside at begins text there ampersand = absurd (true≢false (sym begins))
         by_place at_dash at begins text there ampersand = absurd (true≢false (sym begins))
         by_place at_high at begins text there ampersand = absurd (true≢false (sym begins))

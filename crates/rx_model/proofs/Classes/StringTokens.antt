@@ -12,7 +12,8 @@ use Rattle.rx_units.specs.declared.code_point.CodePoint.{CodePoint}
 use Rattle.rx_units.specs.Units.{values}
 use Rattle.rx_model.specs.Classes.ClassBuilds.{character_of, string_of}
 use Rattle.rx_model.specs.Classes.ClassRows.{ClassTokenRow, Place, fresh, in_strings}
-use Rattle.rx_model.specs.Classes.ClassShapes.{IsFittingMember, IsFlaggedMember, IsFlaggedString}
+use Rattle.rx_model.specs.Classes.ClassShapes.{IsFittingMember, IsFlaggedMember}
+use Rattle.rx_model.specs.Trees.Early.{IsFlaggedString}
 use Rattle.rx_model.specs.Classes.ClassStrings.{BarredRow, IsStringEnd, SpellsBarredString, SpellsSetCharacter, SpellsStrings, StringRow, of_bar, of_character}
 use Rattle.rx_model.specs.Classes.ClassTokens.{ClassToken, string_bar, strings, strings_end}
 use Rattle.rx_model.specs.FirstPass.Marks.{starts}

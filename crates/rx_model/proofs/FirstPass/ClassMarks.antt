@@ -18,27 +18,28 @@ use Rattle.rx_ast.specs.ClassTree as tree
 use Rattle.rx_ast.specs.ClassTree.{Member, Members, Class, no_member, member, class}
 use Rattle.rx_units.specs.declared.code_point.CodePoint.{CodePoint}
 use Rattle.rx_units.specs.Units.{values}
-use Rattle.rx_units.specs.Digits.{front_is, hex_behind}
+use Rattle.rx_units.specs.Digits.{front_is, hex_after}
 use Rattle.rx_units.proofs.Choices.{both}
 use Rattle.rx_model.specs.declared.mode.Mode.{Mode}
 use Rattle.rx_model.specs.declared.mode.Mode.TheVariants.{Legacy, Unicode, Sets}
-use Rattle.rx_model.specs.Classes.ClassRows.{stands_raw_in_class, SpellsInClassAlone, SpellsClassCharacter, SpellsAtom, SpellsBracket, SpellsInClass, ClassTokenRow, IsClass, Place, outside, fresh, at_dash, at_high, at_second, at_third, behind_meet, behind_less, in_strings, behind}
+use Rattle.rx_model.specs.Classes.ClassRows.{stands_raw_in_class, SpellsInClassAlone, SpellsClassCharacter, SpellsAtom, SpellsBracket, SpellsInClass, ClassTokenRow, IsClass, Place, outside, fresh, at_dash, at_high, at_second, at_third, after_meet, after_less, in_strings, next_place}
 use Rattle.rx_model.specs.Classes.ClassRows as spelled
 use Rattle.rx_ast.specs.Texts.{class_escape_text, property_opener}
 use Rattle.rx_model.specs.Classes.ClassTokens.{Atom, character, escape, property, ClassToken, bracket, closer, item, low, dash, high, meet, less, strings, letter, string_bar, strings_end, ClassEvents, enter, leave, token, class_tokens, class_tokens_of, within, letters_events, string_events, barred_strings_events, strings_events, range_events, operator_events, member_events, class_events, members_events, more_members_events}
 use Rattle.rx_model.specs.Inputs.Environment.{Environment, is_sets, is_unicode}
 use Rattle.rx_model.specs.Characters.Escapes as escapes
 use Rattle.rx_model.specs.Characters.Escapes.{SpellsEscape, control, null, hexadecimal, unicode, identity}
+use Rattle.rx_units.specs.OctalEscapes as octals
 use Rattle.rx_model.specs.Characters.LegacyEscapes as legacy
 use Rattle.rx_model.specs.Characters.LegacyEscapes.{SpellsLegacy, is_class_control}
-use Rattle.rx_model.specs.FirstPass.Marks.{other, class_rest, mark_front, marks, marks_behind}
+use Rattle.rx_model.specs.FirstPass.Marks.{other, class_rest, mark_front, marks, marks_following}
 use Rattle.rx_model.specs.FirstPass.MarkTexts.{is_class_mark}
 use Rattle.rx_model.specs.Properties.PropertyEscapes.{IsProperty}
 use Rattle.rx_model.specs.Characters.UnicodeEscapes.{SpellsUnicode, code_unit, alone, pair, braced}
 use Rattle.rx_model.proofs.FirstPass.ClassRest.{escaped_rest, inside_begins, inside_ends, unit_rest}
 use Rattle.rx_model.proofs.FirstPass.OpenerMarks.{marks_after}
 use Rattle.rx_model.proofs.Properties.PropertyWords.{is_property_unit, property_units}
-use Rattle.rx_model.proofs.Classes.ClassStates.{behind_inside}
+use Rattle.rx_model.proofs.Classes.ClassStates.{after_inside}
 
 module _ (mode : Mode) where
   -- These units end no class before the rest, however many are open in it.
@@ -53,7 +54,7 @@ module _ (mode : Mode) where
   passed_in : (set : ℕ → Bool) (u : ℕ) → (set 92 || set 93 || set 91) ≡ false → set u ≡ true → is_class_mark mode u ≡ false
   passed_in set u without within = grind (arith, nat_tests)
 
-  -- units that end no class, one by one and one behind the other
+  -- units that end no class, one by one and one after the other
   nothing_passed : IsPassed []
   nothing_passed rest n = omega arith
 
@@ -68,10 +69,10 @@ module _ (mode : Mode) where
       let a = p (v ++ rest) n in let b = q rest n in let l = length-append w v in ap (class_rest mode false n) (append_assoc w v rest) ∙ omega (arith, a, b, l)
 
   -- hexadecimal digits
-  hex_passed : (n : ℕ) (ds : List ℕ) (v : ℕ) → hex_behind n ds ≡ Some v → IsPassed ds
+  hex_passed : (n : ℕ) (ds : List ℕ) (v : ℕ) → hex_after n ds ≡ Some v → IsPassed ds
   hex_passed n [] v h = nothing_passed
   hex_passed n (c ∷ ds) v h =
-      option_and_then_some (λ d. hex_behind (16 * n + d) ds) (hex_digit_value c) v h (λ d digit more.
+      option_and_then_some (λ d. hex_after (16 * n + d) ds) (hex_digit_value c) v h (λ d digit more.
       unit_passed c ds (passed_in (λ c. is_some (hex_digit_value c)) c refl (ap is_some digit)) (hex_passed (16 * n + d) ds v more))
 
   -- a unicode escape with its backslash
@@ -87,7 +88,7 @@ module _ (mode : Mode) where
       (append_passed (x ∷ xs) (125 ∷ []) (hex_passed 0 (x ∷ xs) v h) (unit_passed 125 [] refl nothing_passed)))
 
 module _ (e : Environment) where
-  -- behind a backslash a character escape
+  -- after a backslash a character escape
   spelled_escape_passed : (kind : CharacterKind) (v : ℕ) (w rest : List ℕ) → SpellsEscape e kind v w rest → IsPassed e.mode (92 ∷ w)
   spelled_escape_passed _ v _ rest (control {c} h) = escape_passed e.mode c [] (nothing_passed e.mode)
   spelled_escape_passed _ v _ rest (escapes.letter {c} h) =
@@ -113,7 +114,7 @@ alone_passed mode _ _ _ spelled.backspace = escape_passed mode 98 [] (nothing_pa
 alone_passed mode _ _ _ (spelled.hyphen m) = escape_passed mode 45 [] (nothing_passed mode)
 alone_passed mode _ _ _ (spelled.reserved c m h) = escape_passed mode c [] (nothing_passed mode)
 
--- behind a backslash a character escape with neither `u` nor `v`
+-- after a backslash a character escape with neither `u` nor `v`
 lone_passed : (mode : Mode) (rest : List ℕ) → IsPassedBefore mode (92 ∷ []) (99 ∷ rest)
 lone_passed mode rest n = let whole = escaped_rest mode n 99 rest in let one = unit_rest mode n 99 rest refl in omega (arith, whole, one)
 
@@ -123,23 +124,23 @@ octal_passed mode d h = passed_in mode is_octal_digit d refl h
 legacy_passed : (e : Environment) (kind : CharacterKind) (v : ℕ) (w rest : List ℕ) → SpellsLegacy true e kind v w rest → IsPassedBefore e.mode (92 ∷ w) rest
 legacy_passed e _ _ _ _ (legacy.lone {rest} h) = lone_passed e.mode rest
 legacy_passed e _ _ _ rest (legacy.class_control {c} h k) = escape_passed e.mode 99 (c ∷ []) (unit_passed e.mode c [] (passed_in e.mode is_class_control c refl k) (nothing_passed e.mode)) rest
-legacy_passed e _ _ _ rest (legacy.octal_zero h) = escape_passed e.mode 48 [] (nothing_passed e.mode) rest
-legacy_passed e _ _ _ rest (legacy.octal1 {c} h k f) = escape_passed e.mode c [] (nothing_passed e.mode) rest
-legacy_passed e _ _ _ rest (legacy.octal2_low {c} {d} h k n f) = escape_passed e.mode c (d ∷ []) (unit_passed e.mode d [] (octal_passed e.mode d k) (nothing_passed e.mode)) rest
-legacy_passed e _ _ _ rest (legacy.octal2_high {c} {d} h k f) = escape_passed e.mode c (d ∷ []) (unit_passed e.mode d [] (octal_passed e.mode d k) (nothing_passed e.mode)) rest
-legacy_passed e _ _ _ rest (legacy.octal3 {c} {d} {f} h k l x) =
+legacy_passed e _ _ _ rest (legacy.legacy_octal (octals.octal_zero h) f) = escape_passed e.mode 48 [] (nothing_passed e.mode) rest
+legacy_passed e _ _ _ rest (legacy.legacy_octal (octals.octal1 {c} h k) f) = escape_passed e.mode c [] (nothing_passed e.mode) rest
+legacy_passed e _ _ _ rest (legacy.legacy_octal (octals.octal2_low {c} {d} h k n) f) = escape_passed e.mode c (d ∷ []) (unit_passed e.mode d [] (octal_passed e.mode d k) (nothing_passed e.mode)) rest
+legacy_passed e _ _ _ rest (legacy.legacy_octal (octals.octal2_high {c} {d} h k) f) = escape_passed e.mode c (d ∷ []) (unit_passed e.mode d [] (octal_passed e.mode d k) (nothing_passed e.mode)) rest
+legacy_passed e _ _ _ rest (legacy.legacy_octal (octals.octal3 {c} {d} {f} h k l) x) =
     escape_passed e.mode c (d ∷ f ∷ []) (unit_passed e.mode d (f ∷ []) (octal_passed e.mode d k) (unit_passed e.mode f [] (octal_passed e.mode f l) (nothing_passed e.mode))) rest
 legacy_passed e _ _ _ rest (legacy.identity {c} h) = escape_passed e.mode c [] (nothing_passed e.mode) rest
 
 character_passed : (e : Environment) (kind : CharacterKind) (v : ℕ) (w rest : List CodePoint) → SpellsClassCharacter e kind v w rest → IsPassedBefore e.mode (values w) (values rest)
 character_passed e _ _ _ rest (spelled.raw unit h) = unit_passed e.mode unit.value [] (raw_passed e.mode unit.value (values rest) h) (nothing_passed e.mode) (values rest)
 character_passed e _ _ _ rest (spelled.hyphen unit m h) = subst (λ c. IsPassedBefore e.mode (c ∷ []) (values rest)) (sym h) (unit_passed e.mode 45 [] refl (nothing_passed e.mode) (values rest))
-character_passed e kind v _ rest (spelled.escaped backslash behind b s) =
-    subst (λ c. IsPassedBefore e.mode (c ∷ values behind) (values rest)) (sym b) (spelled_escape_passed e kind v (values behind) (values rest) s (values rest))
-character_passed e kind v _ rest (spelled.escaped_in_class backslash behind b s) =
-    subst (λ c. IsPassedBefore e.mode (c ∷ values behind) (values rest)) (sym b) (alone_passed e.mode kind v (values behind) s (values rest))
-character_passed e kind v _ rest (spelled.escaped_in_legacy backslash behind b m s) =
-    subst (λ c. IsPassedBefore e.mode (c ∷ values behind) (values rest)) (sym b) (legacy_passed e kind v (values behind) (values rest) s)
+character_passed e kind v _ rest (spelled.escaped backslash following b s) =
+    subst (λ c. IsPassedBefore e.mode (c ∷ values following) (values rest)) (sym b) (spelled_escape_passed e kind v (values following) (values rest) s (values rest))
+character_passed e kind v _ rest (spelled.escaped_in_class backslash following b s) =
+    subst (λ c. IsPassedBefore e.mode (c ∷ values following) (values rest)) (sym b) (alone_passed e.mode kind v (values following) s (values rest))
+character_passed e kind v _ rest (spelled.escaped_in_legacy backslash following b m s) =
+    subst (λ c. IsPassedBefore e.mode (c ∷ values following) (values rest)) (sym b) (legacy_passed e kind v (values following) (values rest) s)
 
 -- a class escape and a property escape
 class_escape_passed : (mode : Mode) (kind : CharacterClassEscapeKind) → IsPassed mode (class_escape_text kind)
@@ -176,7 +177,7 @@ record Ends (mode : Mode) (n : ℕ) (us rest : List CodePoint) : Type 0 where
   whole : values us ≡ text ++ values rest
   ends : class_rest mode false n (values us) ≡ length text
 
--- with units in front behind which m are open
+-- with units in front after which m are open
 units_end : (mode : Mode) (n m : ℕ) (us w more rest : List CodePoint) → us ≡ w ++ more →
     class_rest mode false n (values w ++ values more) ≡ class_rest mode false m (values more) + length (values w) → Ends mode m more rest → Ends mode n us rest
 units_end mode n m us w more rest e step h =
@@ -222,7 +223,7 @@ module _ (e : Environment) where
 
   passing_ends : (t : ClassToken) (n : ℕ) (ts : List ClassToken) → IsPassing t → End n ts → End n (t ∷ ts)
   passing_ends t n ts p h q inside us rest r =
-      units_end e.mode n n us r.0 r.1 rest r.2 (p q r.0 r.1 r.3 n) (h (behind e.mode q t r.1) (behind_inside e.mode q t r.1) r.1 rest r.4)
+      units_end e.mode n n us r.0 r.1 rest r.2 (p q r.0 r.1 r.3 n) (h (next_place e.mode q t r.1) (after_inside e.mode q t r.1) r.1 rest r.4)
 
   -- these units
   text_passed : (text : List ℕ) (w more : List CodePoint) → IsPassed e.mode text → values w ≡ text → IsPassedBefore e.mode (values w) (values more)
@@ -235,8 +236,8 @@ module _ (e : Environment) where
   item_passing a fresh w more s = atom_passed e a w more s.0
   item_passing a at_second w more s = text_passed (45 ∷ []) w more (plain_passed 45 refl) s.1
   item_passing a at_third w more s = atom_passed e a w more s
-  item_passing a behind_meet w more s = atom_passed e a w more s.1
-  item_passing a behind_less w more s = atom_passed e a w more s.1
+  item_passing a after_meet w more s = atom_passed e a w more s.1
+  item_passing a after_less w more s = atom_passed e a w more s.1
   item_passing a q w more s = absurd (let no : ⊥ = assumption s in no)
 
   low_passing : (k : CharacterKind) (v : ℕ) → IsPassing (low k v)
@@ -264,8 +265,8 @@ module _ (e : Environment) where
 
   strings_passing : IsPassing strings
   strings_passing fresh w more s = text_passed (92 ∷ 113 ∷ 123 ∷ []) w more opener_passed s.1
-  strings_passing behind_meet w more s = text_passed (92 ∷ 113 ∷ 123 ∷ []) w more opener_passed s.1
-  strings_passing behind_less w more s = text_passed (92 ∷ 113 ∷ 123 ∷ []) w more opener_passed s.1
+  strings_passing after_meet w more s = text_passed (92 ∷ 113 ∷ 123 ∷ []) w more opener_passed s.1
+  strings_passing after_less w more s = text_passed (92 ∷ 113 ∷ 123 ∷ []) w more opener_passed s.1
   strings_passing q w more s = absurd (let no : ⊥ = assumption s in no)
 
   letter_passing : (k : CharacterKind) (v : ℕ) → IsPassing (letter k v)
@@ -288,8 +289,8 @@ module _ (e : Environment) where
   nested_bracket negative at_high w more inside s = absurd s
   nested_bracket negative at_second w more inside s = absurd s
   nested_bracket negative at_third w more inside s = absurd s
-  nested_bracket negative behind_meet w more inside s = (s.0, s.1)
-  nested_bracket negative behind_less w more inside s = (s.0, s.1)
+  nested_bracket negative after_meet w more inside s = (s.0, s.1)
+  nested_bracket negative after_less w more inside s = (s.0, s.1)
   nested_bracket negative in_strings w more inside s = absurd s.1
 
   bracket_begins : (negative : Bool) (n : ℕ) (w more : List CodePoint) → is_sets e.mode ≡ true → SpellsBracket negative w more →
@@ -399,7 +400,7 @@ module _ (e : Environment) where
 -- the mark of a class
 bracket_mark : (mode : Mode) (text rest : List ℕ) → class_rest mode false 0 (text ++ rest) ≡ length text → marks mode (91 ∷ (text ++ rest)) ≡ other ∷ marks mode rest
 unfolding mark_front
-bracket_mark mode text rest h = ap (λ n. other ∷ marks_behind mode n (text ++ rest)) h ∙ ap (λ ms. other ∷ ms) (marks_after mode text rest)
+bracket_mark mode text rest h = ap (λ n. other ∷ marks_following mode n (text ++ rest)) h ∙ ap (λ ms. other ∷ ms) (marks_after mode text rest)
 
 ended_mark : (mode : Mode) (us rest : List CodePoint) → Ends mode 0 us rest → marks mode (91 ∷ values us) ≡ other ∷ marks mode (values rest)
 ended_mark mode us rest h =

@@ -1,4 +1,4 @@
--- How many units a class has behind its `[`, unit by unit, and how it goes on there.
+-- How many units a class has after its `[`, unit by unit, and how it goes on there.
 use Rattle.std.proofs.Common.{◌≡◌, refl, ap, sym, ◌∙◌, subst, ℕ, zero, suc, ◌+◌, ◌==◌, ◌||◌, ◌&&◌, Bool, true, false, List, [], ◌∷◌, ◌++◌, length, length-append, append_assoc, arith, inl, inr}
 use Rattle.std.proofs.lemmas.Bool.{and_parts, cases_Bool, eqb-true}
 use Rattle.std.proofs.lemmas.List.{append-nil}
@@ -19,7 +19,7 @@ module _ (mode : Mode) where
   unit_rest zero u us h = let p = none_of_three (u == 92) (u == 93) (u == 91 && is_sets mode) h in rw (p.0, p.1, p.2) refl
   unit_rest (suc n) u us h = let p = none_of_three (u == 92) (u == 93) (u == 91 && is_sets mode) h in rw (p.0, p.1, p.2) refl
 
-  -- a backslash and the unit behind it
+  -- a backslash and the unit after it
   pub escaped_rest : (n u : ℕ) (us : List ℕ) → class_rest mode false n (92 ∷ u ∷ us) ≡ class_rest mode false n us + 2
   escaped_rest zero u us = omega arith
   escaped_rest (suc n) u us = omega arith
@@ -41,9 +41,9 @@ module _ (mode : Mode) where
       let begins = inside_begins n (inside ++ (93 ∷ (w ++ rest))) sets in
       let within = passed (suc n) inside (93 ∷ (w ++ rest)) a in
       let ends = inside_ends n (w ++ rest) in
-      let behind = passed n w rest b in
+      let following = passed n w rest b in
       let l = length-append inside (93 ∷ w) in
-      ap (λ us. class_rest mode false n (91 ∷ us)) (append_assoc inside (93 ∷ w) rest) ∙ omega (arith, begins, within, ends, behind, l)
+      ap (λ us. class_rest mode false n (91 ∷ us)) (append_assoc inside (93 ∷ w) rest) ∙ omega (arith, begins, within, ends, following, l)
 
   -- a class that its `]` ends
   pub class_ends : (inside rest : List ℕ) → AreInClass mode inside → class_rest mode false 0 ((inside ++ (93 ∷ [])) ++ rest) ≡ length (inside ++ (93 ∷ []))
@@ -68,7 +68,7 @@ module _ (mode : Mode) where
       let l = length-append inside (91 ∷ w) in
       omega (arith, e, f, g, l)
 
-  -- How a class goes on behind its `[` where n classes are open in it: it ends, or the innermost of them does, or they are open at the end of the text.
+  -- How a class goes on after its `[` where n classes are open in it: it ends, or the innermost of them does, or they are open at the end of the text.
   pub data ClassFound : ℕ → List ℕ → Type 0 where
     ended : (inside rest : List ℕ) → AreInClass mode inside → ClassFound zero (inside ++ (93 ∷ rest))
     inner_ended : {n : ℕ} (inside rest : List ℕ) → AreInClass mode inside → ClassFound n rest → ClassFound (suc n) (inside ++ (93 ∷ rest))

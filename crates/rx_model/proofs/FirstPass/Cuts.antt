@@ -23,8 +23,9 @@ use Rattle.rx_model.specs.FirstPass.Cuts.{AreMarksOf, AreOthers, IsCut, IsOpenin
 use Rattle.rx_model.specs.Inputs.Environment.{Environment, for_classes, is_unicode}
 use Rattle.rx_model.specs.Characters.Escapes.{SpellsEscape, control, letter, null, hexadecimal, unicode, identity}
 use Rattle.rx_model.specs.Groups.Groups.{IsIndexed, IsModified, IsNamed, IsNaming, SpellsOpener}
+use Rattle.rx_units.specs.OctalEscapes.{octal_zero, octal1, octal2_low, octal2_high, octal3}
 use Rattle.rx_model.specs.Characters.LegacyEscapes as legacy
-use Rattle.rx_model.specs.Characters.LegacyEscapes.{SpellsLegacy, lone, class_control, octal_zero, octal1, octal2_low, octal2_high, octal3, is_class_control}
+use Rattle.rx_model.specs.Characters.LegacyEscapes.{SpellsLegacy, lone, class_control, legacy_octal, is_class_control}
 use Rattle.rx_model.specs.FirstPass.Marks as mark
 use Rattle.rx_model.specs.FirstPass.Marks.{Mark, mark_front, marks}
 use Rattle.rx_model.specs.Properties.PropertyEscapes.{IsProperty}
@@ -38,7 +39,7 @@ use Rattle.rx_model.proofs.FirstPass.PlainMarks.{is_plain, plain_in, GiveOthers,
 use Rattle.rx_model.proofs.Properties.PropertyWords.{is_property_unit, property_units}
 
 module _ (e : Environment) where
-  -- behind a backslash a character escape opens and closes nothing
+  -- after a backslash a character escape opens and closes nothing
   spelled_escape_others : (kind : CharacterKind) (v : ℕ) (w rest : List ℕ) → SpellsEscape e kind v w rest → GiveOthers e.mode (92 ∷ w)
   spelled_escape_others _ v _ rest (control {c} h) = escape_others e.mode c [] (nothing_others e.mode)
   spelled_escape_others _ v _ rest (letter {c} h) =
@@ -59,7 +60,7 @@ raw_others e kind v w rest r = subst (λ w. GiveOthers e.mode (values w)) (sym r
 
 escaped_others : (e : Environment) (kind : CharacterKind) (v : ℕ) (w rest : List CodePoint) → IsEscaped e kind v w rest → GiveOthers e.mode (values w)
 escaped_others e kind v w rest r =
-    subst (GiveOthers e.mode) (sym (ap values r.whole ∙ ap (λ c. c ∷ values r.behind) r.backslash_is)) (spelled_escape_others e kind v (values r.behind) (values rest) r.spelled)
+    subst (GiveOthers e.mode) (sym (ap values r.whole ∙ ap (λ c. c ∷ values r.following) r.backslash_is)) (spelled_escape_others e kind v (values r.following) (values rest) r.spelled)
 
 boundary_others : (mode : Mode) (kind : BoundaryAssertionKind) → GiveOthers mode (boundary_text kind)
 boundary_others mode boundaries.Start = all_plain_others mode (codes "^") refl
@@ -87,7 +88,7 @@ module _ (mode : Mode) (t : Token) (w rest : List CodePoint) where
   one_cut : (text : List ℕ) (m : Mark) → values w ≡ text → marks mode (text ++ values rest) ≡ m ∷ marks mode (values rest) → AreMarksOf mode t (m ∷ []) → IsCut mode t w rest
   one_cut text m e whole are = record { cut = m ∷ []; whole = ap (λ v. marks mode (v ++ values rest)) e ∙ whole; are = are }
 
--- behind a backslash a character escape with neither `u` nor `v`: the backslash that stands for itself is the first half of the mark that its `c` ends,
+-- after a backslash a character escape with neither `u` nor `v`: the backslash that stands for itself is the first half of the mark that its `c` ends,
 -- so that it is no mark by itself
 module _ (inside : Bool) (e : Environment) where
   record OthersBefore (w rest : List ℕ) : Type 0 where
@@ -114,19 +115,19 @@ module _ (inside : Bool) (e : Environment) where
   legacy_others _ _ _ _ (lone {rest} h) = record { cut = []; others = All-nil (λ m. m ≡ mark.other); whole = lone_marks rest }
   legacy_others _ _ _ rest (class_control {c} h k) =
       others_before (92 ∷ 99 ∷ c ∷ []) rest (escape_others e.mode 99 (c ∷ []) (plain_others e.mode c [] (plain_in is_class_control c refl k) (nothing_others e.mode)))
-  legacy_others _ _ _ rest (octal_zero h) = others_before (92 ∷ 48 ∷ []) rest (escape_others e.mode 48 [] (nothing_others e.mode))
-  legacy_others _ _ _ rest (octal1 {c} h k f) = others_before (92 ∷ c ∷ []) rest (escape_others e.mode c [] (nothing_others e.mode))
-  legacy_others _ _ _ rest (octal2_low {c} {d} h k n f) = others_before (92 ∷ c ∷ d ∷ []) rest (escape_and_digits c (d ∷ []) (rw k refl))
-  legacy_others _ _ _ rest (octal2_high {c} {d} h k f) = others_before (92 ∷ c ∷ d ∷ []) rest (escape_and_digits c (d ∷ []) (rw k refl))
-  legacy_others _ _ _ rest (octal3 {c} {d} {f} h k l x) = others_before (92 ∷ c ∷ d ∷ f ∷ []) rest (escape_and_digits c (d ∷ f ∷ []) (rw (k, l) refl))
+  legacy_others _ _ _ rest (legacy_octal (octal_zero h) f) = others_before (92 ∷ 48 ∷ []) rest (escape_others e.mode 48 [] (nothing_others e.mode))
+  legacy_others _ _ _ rest (legacy_octal (octal1 {c} h k) f) = others_before (92 ∷ c ∷ []) rest (escape_others e.mode c [] (nothing_others e.mode))
+  legacy_others _ _ _ rest (legacy_octal (octal2_low {c} {d} h k n) f) = others_before (92 ∷ c ∷ d ∷ []) rest (escape_and_digits c (d ∷ []) (rw k refl))
+  legacy_others _ _ _ rest (legacy_octal (octal2_high {c} {d} h k) f) = others_before (92 ∷ c ∷ d ∷ []) rest (escape_and_digits c (d ∷ []) (rw k refl))
+  legacy_others _ _ _ rest (legacy_octal (octal3 {c} {d} {f} h k l) x) = others_before (92 ∷ c ∷ d ∷ f ∷ []) rest (escape_and_digits c (d ∷ f ∷ []) (rw (k, l) refl))
   legacy_others _ _ _ rest (legacy.identity {c} h) = others_before (92 ∷ c ∷ []) rest (escape_others e.mode c [] (nothing_others e.mode))
 
 legacy_cut : (e : Environment) (kind : CharacterKind) (v : ℕ) (w rest : List CodePoint) → IsLegacyEscaped e kind v w rest → IsCut e.mode (character kind v) w rest
 legacy_cut e kind v w rest r =
-    let o = legacy_others false e kind v (values r.behind) (values rest) r.spelled in
+    let o = legacy_others false e kind v (values r.following) (values rest) r.spelled in
     record {
       cut = o.cut;
-      whole = ap (λ v. marks e.mode (v ++ values rest)) (ap values r.whole ∙ ap (λ c. c ∷ values r.behind) r.backslash_is) ∙ o.whole;
+      whole = ap (λ v. marks e.mode (v ++ values rest)) (ap values r.whole ∙ ap (λ c. c ∷ values r.following) r.backslash_is) ∙ o.whole;
       are = o.others;
     }
 
@@ -164,9 +165,9 @@ modified_cut : (mode : Mode) (bits : ℕ × ℕ) (w rest : List CodePoint) → I
 modified_cut mode bits w rest s =
     let m = modifier_marks mode s.spelled.enabled s.spelled.disabled s.text s.spelled.sides s.spelled.some in
     record {
-      cut = mark.quiet ∷ m.behind.cut;
-      whole = ap (λ v. marks mode (v ++ values rest)) s.whole ∙ m.whole (values rest) ∙ ap (λ ms. mark.quiet ∷ ms) (m.behind.whole (values rest));
-      are = (mark.quiet, m.behind.cut, refl, refl, m.behind.others);
+      cut = mark.quiet ∷ m.following.cut;
+      whole = ap (λ v. marks mode (v ++ values rest)) s.whole ∙ m.whole (values rest) ∙ ap (λ ms. mark.quiet ∷ ms) (m.following.whole (values rest));
+      are = (mark.quiet, m.following.cut, refl, refl, m.following.others);
     }
 
 opener_cut : (e : Environment) (o : Opener) (w rest : List CodePoint) → SpellsOpener e o w rest → IsCut e.mode (opener o) w rest

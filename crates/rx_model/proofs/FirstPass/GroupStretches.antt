@@ -70,7 +70,7 @@ module _ (mode : Mode) (ms : List Mark) where
   none_at : (k : ℕ) (m : Mark) → mark_at ms k ≡ m → mark_name mode m ≡ None → (b : ℕ) (name : List ℕ) → k ≤ b → b < suc k → HasName mode ms b name → ⊥
   none_at k m e none b name l g h = let here : b ≡ k = omega arith in let f = ap (mark_name mode) (ap (mark_at ms) here ∙ e) in cc
 
-  -- the same behind a bar
+  -- the same after a bar
   pub bar_body : (s : ℕ) (fs : List GroupState) (k j : ℕ) (rule : Type 0) (names : List (List ℕ)) → mark_at ms k ≡ mark.bar → IsBody s fs (suc k) j rule names → IsBody s fs k j rule names
   bar_body s fs k j rule names e l =
       let up = l.up in
@@ -85,7 +85,7 @@ module _ (mode : Mode) (ms : List Mark) where
             clear_both mode ms k (suc k) j (λ b name le g h v. never b name le g h) (l.whole t f);
       }
 
-  -- behind a bar all that stands in the group before it is hidden
+  -- after a bar all that stands in the group before it is hidden
   pub after_bar : (s last : ℕ) (fs : List GroupState) (k : ℕ) → group_states ms k ≡ (s, last) ∷ fs → s ≤ k → mark_at ms k ≡ mark.bar → (group_states ms (suc k) ≡ (s, k) ∷ fs) × SeesAsBefore s fs (suc k)
   after_bar s last fs k e le b =
       let f : group_states ms (suc k) ≡ (s, k) ∷ fs = ap (λ m. step k m (group_states ms k)) b ∙ ap (step k mark.bar) e in (
@@ -102,7 +102,7 @@ module _ (mode : Mode) (ms : List Mark) where
         ),
       )
 
-  -- behind an opening and the others that belong to it nothing new is seen
+  -- after an opening and the others that belong to it nothing new is seen
   pub after_opening : (s : ℕ) (fs : List GroupState) (i : ℕ) → group_states ms s ≡ (s, s) ∷ fs → OnlyOthers ms s i → (group_states ms i ≡ (s, s) ∷ fs) × SeesAsBefore s fs i
   after_opening s fs i e o =
       let f : group_states ms i ≡ (s, s) ∷ fs = o.same ∙ e in
@@ -127,7 +127,7 @@ module _ (mode : Mode) (ms : List Mark) where
     from = λ name h. (k, omega arith, omega arith, named_opening mode o (mark_at ms k) name e h);
   }
 
-  -- behind the opening of a group only its alternatives have names
+  -- after the opening of a group only its alternatives have names
   body_named : (k i m : ℕ) (names : List (List ℕ)) → OnlyOthers ms (suc k) i → i ≤ m → AreNamed mode ms i m names → mark_at ms m ≡ mark.closer → AreNamed mode ms (suc k) (suc m) names
   body_named k i m names others le n d =
       let up = others.up in

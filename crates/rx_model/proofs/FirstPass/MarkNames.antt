@@ -2,12 +2,13 @@
 use Rattle.std.proofs.Common.{◌≡◌, refl, ap, sym, ◌∙◌, subst, ℕ, zero, suc, ◌+◌, Contains, Option, Some, None, List, [], ◌∷◌, ◌++◌, append_assoc, length, length-append, get_or, arith, ◌⊎◌, inl, inr, ◌↔◌}
 use Rattle.std.proofs.lemmas.Bool.{cases_Bool, cond-true, cond-false}
 use Rattle.std.proofs.lemmas.List.{append-nil}
+use Rattle.rx_base.specs.Texts.{is_among}
 use Rattle.rx_model.specs.declared.mode.Mode.{Mode}
 use Rattle.rx_model.specs.Groups.GroupNameReading.{name_of}
-use Rattle.rx_model.specs.FirstPass.MarkTexts.{SpellsMark, escape, last_backslash, class, open_class, plain, ignoring, ahead, not_ahead, behind, not_behind, modifying, named, unclosed, closing, parting, one_unit, IsMarkRow, no_mark, mark, IsNamedOpening, AreNames, no_opening, opening, nameless, AreOnce, no_name, fresh, known, AreNamesOnce, IsNameBetween}
-use Rattle.rx_model.specs.FirstPass.Marks.{Mark, capturing, marks, mark_at, mark_name, name_length, name_places, listed, names, seen, places_behind}
+use Rattle.rx_model.specs.FirstPass.MarkTexts.{SpellsMark, escape, last_backslash, class, open_class, plain, ignoring, ahead, not_ahead, lookbehind, not_lookbehind, modifying, named, unclosed, closing, parting, one_unit, IsMarkRow, no_mark, mark, IsNamedOpening, AreNames, no_opening, opening, nameless, AreOnce, no_name, fresh, known, AreNamesOnce, IsNameBetween}
+use Rattle.rx_model.specs.FirstPass.Marks.{Mark, capturing, marks, mark_at, mark_name, name_length, name_places, listed, names, seen, places_following}
 use Rattle.rx_model.specs.Inputs.Environment.{is_unicode}
-use Rattle.rx_model.specs.Trees.Names.{is_among, once_behind}
+use Rattle.rx_model.specs.Trees.Names.{once_after}
 use Rattle.rx_model.proofs.Groups.GroupNames.{read_group_name, group_name_read, name_anywhere}
 use Rattle.rx_model.proofs.FirstPass.MarkTexts.{spelled_mark, row_of, first_place}
 use Rattle.rx_model.proofs.FirstPass.OpenerMarks.{naming_marks}
@@ -32,8 +33,8 @@ module _ (mode : Mode) where
   named_spelled _ _ rest name ignoring h = absurd (let no : ⊥ = cc h in no)
   named_spelled _ _ rest name ahead h = absurd (let no : ⊥ = cc h in no)
   named_spelled _ _ rest name not_ahead h = absurd (let no : ⊥ = cc h in no)
-  named_spelled _ _ rest name behind h = absurd (let no : ⊥ = cc h in no)
-  named_spelled _ _ rest name not_behind h = absurd (let no : ⊥ = cc h in no)
+  named_spelled _ _ rest name lookbehind h = absurd (let no : ⊥ = cc h in no)
+  named_spelled _ _ rest name not_lookbehind h = absurd (let no : ⊥ = cc h in no)
   named_spelled _ _ rest name (modifying p) h = absurd (let no : ⊥ = cc h in no)
   named_spelled _ _ _ name (unclosed units l n) h = absurd (let no : ⊥ = cc h in no)
   named_spelled _ _ rest name closing h = absurd (let no : ⊥ = cc h in no)
@@ -108,7 +109,7 @@ module _ (mode : Mode) where
       }
 
   between : (front us : List ℕ) (ms : List Mark) (k : ℕ) (name : List ℕ) → IsMarkRow mode us ms → mark_name mode (mark_at (marks mode us) k) ≡ Some name →
-      let from : ℕ = get_or (places_behind mode (length front) 0 us) k 0 + 3 in
+      let from : ℕ = get_or (places_following mode (length front) 0 us) k 0 + 3 in
       IsNameBetween mode (front ++ us) name from (from + name_length (mark_at (marks mode us) k))
   between front _ _ k name no_mark e = absurd (let no : ⊥ = cc e in no)
   between front _ _ zero name (mark {m} {ms} w rest s r) e =
@@ -156,7 +157,7 @@ old_unmoved before names x name (inl c) = elim (contains_cases x before name c) 
 old_unmoved before names x name (inr c) = inr (contains_more x names name c)
 
 -- a known name that comes last adds nothing
-known_last : (before names : List (List ℕ)) (name : List ℕ) → IsOld before names name → once_behind before (names ++ (name ∷ [])) ≡ once_behind before names
+known_last : (before names : List (List ℕ)) (name : List ℕ) → IsOld before names name → once_after before (names ++ (name ∷ [])) ≡ once_after before names
 known_last before [] name (inl c) = cond-true (is_among before name) [] (name ∷ []) (among before name c)
 known_last before [] name (inr (k, l, e)) = absurd (omega arith)
 known_last before (x ∷ names) name h = elim (cases_Bool (is_among before x)) [
@@ -165,7 +166,7 @@ known_last before (x ∷ names) name h = elim (cases_Bool (is_among before x)) [
 ]
 
 -- a fresh one comes last
-fresh_last : (before names : List (List ℕ)) (name : List ℕ) → (IsOld before names name → ⊥) → once_behind before (names ++ (name ∷ [])) ≡ once_behind before names ++ (name ∷ [])
+fresh_last : (before names : List (List ℕ)) (name : List ℕ) → (IsOld before names name → ⊥) → once_after before (names ++ (name ∷ [])) ≡ once_after before names ++ (name ∷ [])
 fresh_last before [] name none = cond-false (is_among before name) [] (name ∷ []) (not_among before name (λ c. none (inl c)))
 fresh_last before (x ∷ names) name none = elim (cases_Bool (is_among before x)) [
   | inl seen ↦ rw seen (fresh_last before names name (λ h. none (old_back before names x name h)))
@@ -176,12 +177,12 @@ none_before : (names : List (List ℕ)) (name : List ℕ) → (Contains names na
 none_before names name none (inl (k, l, e)) = omega arith
 none_before names name none (inr c) = none c
 
-once_are : (names once : List (List ℕ)) → AreOnce names once → once ≡ once_behind [] names
+once_are : (names once : List (List ℕ)) → AreOnce names once → once ≡ once_after [] names
 once_are _ _ no_name = refl
 once_are _ _ (fresh {names} {once} name r none) = ap (λ o. o ++ (name ∷ [])) (once_are names once r) ∙ sym (fresh_last [] names name (none_before names name none))
 once_are _ _ (known {names} {once} name r c) = once_are names once r ∙ sym (known_last [] names name (inr c))
 
-one_last : (names : List (List ℕ)) (name : List ℕ) → AreOnce names (once_behind [] names) → AreOnce (names ++ (name ∷ [])) (once_behind [] (names ++ (name ∷ [])))
+one_last : (names : List (List ℕ)) (name : List ℕ) → AreOnce names (once_after [] names) → AreOnce (names ++ (name ∷ [])) (once_after [] (names ++ (name ∷ [])))
 one_last names name r = elim (cases_Bool (is_among names name)) [
   | inl h ↦ let c = found_among names name h in subst (AreOnce (names ++ (name ∷ []))) (sym (known_last [] names name (inr c))) (known name r c)
   | inr h ↦
@@ -189,17 +190,17 @@ one_last names name r = elim (cases_Bool (is_among names name)) [
       subst (AreOnce (names ++ (name ∷ []))) (sym (fresh_last [] names name (none_before names name none))) (fresh name r none)
 ]
 
-are_once : (front back : List (List ℕ)) → AreOnce front (once_behind [] front) → AreOnce (front ++ back) (once_behind [] (front ++ back))
-are_once front [] r = subst (λ names. AreOnce names (once_behind [] names)) (sym (append-nil front)) r
+are_once : (front back : List (List ℕ)) → AreOnce front (once_after [] front) → AreOnce (front ++ back) (once_after [] (front ++ back))
+are_once front [] r = subst (λ names. AreOnce names (once_after [] names)) (sym (append-nil front)) r
 are_once front (name ∷ back) r =
-    subst (λ names. AreOnce names (once_behind [] names)) (append_assoc front (name ∷ []) back) (are_once (front ++ (name ∷ [])) back (one_last front name r))
+    subst (λ names. AreOnce names (once_after [] names)) (append_assoc front (name ∷ []) back) (are_once (front ++ (name ∷ [])) back (one_last front name r))
 
-pub once_law : (names once : List (List ℕ)) → AreOnce names once ↔ (once ≡ once_behind [] names)
+pub once_law : (names once : List (List ℕ)) → AreOnce names once ↔ (once ≡ once_after [] names)
 once_law names once = (once_are names once, λ e. subst (AreOnce names) (sym e) (are_once [] names no_name))
 
 pub seen_law : (mode : Mode) (us : List ℕ) (once : List (List ℕ)) → AreNamesOnce mode us once ↔ (once ≡ seen mode (marks mode us))
 seen_law mode us once = (
-  λ r. once_are r.names once r.first ∙ ap (once_behind []) ((names_law mode us r.names).0 r.are),
+  λ r. once_are r.names once r.first ∙ ap (once_after []) ((names_law mode us r.names).0 r.are),
   λ e. record {
     names = names mode (marks mode us);
     are = (names_law mode us (names mode (marks mode us))).1 refl;

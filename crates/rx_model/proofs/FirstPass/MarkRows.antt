@@ -18,7 +18,7 @@ first_mark [] (suc k) m rest e = cc
 first_mark (x ∷ ms) zero m rest e = (cc, cc)
 first_mark (x ∷ ms) (suc k) m rest e = first_mark ms k m rest e
 
--- where no mark is left all are behind
+-- where no mark is left all are after
 pub past_end : (ms : List Mark) (k : ℕ) → drop k ms ≡ [] → length ms ≤ k
 past_end [] k e = omega arith
 past_end (m ∷ ms) zero e = cc

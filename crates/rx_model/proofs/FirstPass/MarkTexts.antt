@@ -6,8 +6,8 @@ use Rattle.std.proofs.lemmas.Bool.Decides.{nat_tests}
 use Rattle.std.proofs.lemmas.List.{append-nil}
 use Rattle.rx_model.specs.declared.mode.Mode.{Mode}
 use Rattle.rx_model.specs.Groups.Groups.{is_mark, looks}
-use Rattle.rx_model.specs.FirstPass.MarkTexts.{begins_mark, SpellsMark, escape, last_backslash, class, open_class, plain, ignoring, ahead, not_ahead, behind, not_behind, modifying, named, unclosed, closing, parting, one_unit, IsMarkRow, no_mark, mark, ArePlaces, no_place, place}
-use Rattle.rx_model.specs.FirstPass.Marks.{Mark, other, quiet, capturing, starts, escape_rest, class_rest, has_close, specifier_front, behind_angle, question_front, open_front, mark_front, marks, marks_behind, places, places_behind}
+use Rattle.rx_model.specs.FirstPass.MarkTexts.{begins_mark, SpellsMark, escape, last_backslash, class, open_class, plain, ignoring, ahead, not_ahead, lookbehind, not_lookbehind, modifying, named, unclosed, closing, parting, one_unit, IsMarkRow, no_mark, mark, ArePlaces, no_place, place}
+use Rattle.rx_model.specs.FirstPass.Marks.{Mark, other, quiet, capturing, starts, escape_rest, class_rest, has_close, specifier_front, after_angle, question_front, open_front, mark_front, marks, marks_following, places, places_following}
 use Rattle.rx_model.specs.Quantifiers.Quantifiers.{is_question}
 use Rattle.rx_model.proofs.FirstPass.ClassRest.{ClassFound, ended, held, class_ends, class_found, class_held}
 use Rattle.rx_model.proofs.FirstPass.OpenerMarks.{marks_after, no_close_before, close_found, before_found}
@@ -63,7 +63,7 @@ specifier_closed units rest h = rw (close_found units rest h, before_found units
 specifier_open : (units : List ℕ) → has_close units ≡ false → specifier_front units ≡ (capturing None, length units + 2)
 specifier_open units h = rw h refl
 
-angle_front : (us : List ℕ) → front_is looks us ≡ false → behind_angle us ≡ specifier_front us
+angle_front : (us : List ℕ) → front_is looks us ≡ false → after_angle us ≡ specifier_front us
 angle_front us h = rw (looks_same us ∙ h) refl
 
 modifying_front : (us : List ℕ) → front_is is_mark us ≡ false → question_front us ≡ (quiet, 1)
@@ -90,12 +90,12 @@ named_front : (units rest : List ℕ) → front_is looks (units ++ (62 ∷ rest)
 named_front units rest l n =
     let whole = append_assoc units (62 ∷ []) rest in
     let count : length units + 3 ≡ length (63 ∷ 60 ∷ (units ++ (62 ∷ []))) = omega (arith, length-append units (62 ∷ [])) in
-    ap behind_angle whole ∙ angle_front (units ++ (62 ∷ rest)) l ∙ specifier_closed units rest (without_close units n) ∙ ap (λ k. (capturing (Some units), k)) count
+    ap after_angle whole ∙ angle_front (units ++ (62 ∷ rest)) l ∙ specifier_closed units rest (without_close units n) ∙ ap (λ k. (capturing (Some units), k)) count
 
 unclosed_front : (units : List ℕ) → front_is looks units ≡ false → (Contains units 62 → ⊥) → open_front (63 ∷ 60 ∷ (units ++ [])) ≡ (capturing None, length (63 ∷ 60 ∷ units))
 unclosed_front units l n =
     let count : length units + 2 ≡ length (63 ∷ 60 ∷ units) = omega arith in
-    ap behind_angle (append-nil units) ∙ angle_front units l ∙ specifier_open units (without_close units n) ∙ ap (λ k. (capturing None, k)) count
+    ap after_angle (append-nil units) ∙ angle_front units l ∙ specifier_open units (without_close units n) ∙ ap (λ k. (capturing None, k)) count
 
 mark_is_front : (mode : Mode) (m : Mark) (w rest : List ℕ) → SpellsMark mode m w rest → IsFront mode m w rest
 unfolding mark_front
@@ -107,8 +107,8 @@ mark_is_front mode _ _ rest (plain h) = record { first = 40; more = []; whole = 
 mark_is_front mode _ _ rest ignoring = record { first = 40; more = 63 ∷ 58 ∷ []; whole = refl; front = refl }
 mark_is_front mode _ _ rest ahead = record { first = 40; more = 63 ∷ 61 ∷ []; whole = refl; front = refl }
 mark_is_front mode _ _ rest not_ahead = record { first = 40; more = 63 ∷ 33 ∷ []; whole = refl; front = refl }
-mark_is_front mode _ _ rest behind = record { first = 40; more = 63 ∷ 60 ∷ 61 ∷ []; whole = refl; front = refl }
-mark_is_front mode _ _ rest not_behind = record { first = 40; more = 63 ∷ 60 ∷ 33 ∷ []; whole = refl; front = refl }
+mark_is_front mode _ _ rest lookbehind = record { first = 40; more = 63 ∷ 60 ∷ 61 ∷ []; whole = refl; front = refl }
+mark_is_front mode _ _ rest not_lookbehind = record { first = 40; more = 63 ∷ 60 ∷ 33 ∷ []; whole = refl; front = refl }
 mark_is_front mode _ _ rest (modifying h) = record { first = 40; more = 63 ∷ []; whole = refl; front = modifying_front rest h }
 mark_is_front mode _ _ rest (named units l n) = record { first = 40; more = 63 ∷ 60 ∷ (units ++ (62 ∷ [])); whole = refl; front = named_front units rest l n }
 mark_is_front mode _ _ _ (unclosed units l n) = record { first = 40; more = 63 ∷ 60 ∷ units; whole = refl; front = unclosed_front units l n }
@@ -119,7 +119,7 @@ mark_is_front mode _ _ rest (one_unit c h) = record { first = c; more = []; whol
 marks_front : (mode : Mode) (m : Mark) (w rest : List ℕ) → IsFront mode m w rest → marks mode (w ++ rest) ≡ m ∷ marks mode rest
 marks_front mode m w rest f =
     ap (λ w. marks mode (w ++ rest)) f.whole
-    ∙ ap (λ p. p.0 ∷ marks_behind mode p.1 (f.more ++ rest)) f.front
+    ∙ ap (λ p. p.0 ∷ marks_following mode p.1 (f.more ++ rest)) f.front
     ∙ ap (λ ms. m ∷ ms) (marks_after mode f.more rest)
 
 pub spelled_mark : (mode : Mode) (m : Mark) (w rest : List ℕ) → SpellsMark mode m w rest → marks mode (w ++ rest) ≡ m ∷ marks mode rest
@@ -138,10 +138,10 @@ record Taken (mode : Mode) (first : ℕ) (us : List ℕ) (p : Mark × ℕ) : Typ
   count : p.1 ≡ length more
 
 none_of_four : (c : ℕ) → (c == 58) ≡ false → (c == 61) ≡ false → (c == 33) ≡ false → (c == 60) ≡ false → is_mark c ≡ false
-none_of_four c h k l m = rw (h, k, l, m) refl
+none_of_four c h k l m = grind (arith, nat_tests)
 
 none_of_five : (c : ℕ) → (c == 92) ≡ false → (c == 91) ≡ false → (c == 40) ≡ false → (c == 41) ≡ false → (c == 124) ≡ false → begins_mark c ≡ false
-none_of_five c h k l m n = rw (h, k, l, m, n) refl
+none_of_five c h k l m n = grind (arith, nat_tests)
 
 module _ (mode : Mode) where
   escape_taken : (us : List ℕ) → Taken mode 92 us (other, escape_rest us)
@@ -178,15 +178,15 @@ module _ (mode : Mode) where
     count = omega arith;
   })
 
-  angle_taken : (us : List ℕ) → Taken mode 40 (63 ∷ 60 ∷ us) (behind_angle us)
+  angle_taken : (us : List ℕ) → Taken mode 40 (63 ∷ 60 ∷ us) (after_angle us)
   angle_taken [] = named_taken [] refl (find_close [])
   angle_taken (c ∷ us) = elim (cases_Bool (c == 61)) [
-    | inl h ↦ subst (λ c. Taken mode 40 (63 ∷ 60 ∷ c ∷ us) (behind_angle (c ∷ us))) (sym (eqb-true c 61 h)) (record { more = 63 ∷ 60 ∷ 61 ∷ []; rest = us; whole = refl; spells = behind; count = refl })
+    | inl h ↦ subst (λ c. Taken mode 40 (63 ∷ 60 ∷ c ∷ us) (after_angle (c ∷ us))) (sym (eqb-true c 61 h)) (record { more = 63 ∷ 60 ∷ 61 ∷ []; rest = us; whole = refl; spells = lookbehind; count = refl })
     | inr h ↦ elim (cases_Bool (c == 33)) [
-      | inl k ↦ subst (λ c. Taken mode 40 (63 ∷ 60 ∷ c ∷ us) (behind_angle (c ∷ us))) (sym (eqb-true c 33 k)) (record { more = 63 ∷ 60 ∷ 33 ∷ []; rest = us; whole = refl; spells = not_behind; count = refl })
+      | inl k ↦ subst (λ c. Taken mode 40 (63 ∷ 60 ∷ c ∷ us) (after_angle (c ∷ us))) (sym (eqb-true c 33 k)) (record { more = 63 ∷ 60 ∷ 33 ∷ []; rest = us; whole = refl; spells = not_lookbehind; count = refl })
       | inr k ↦
           let l : front_is looks (c ∷ us) ≡ false = neither c 61 33 h k in
-          taken_as 40 (63 ∷ 60 ∷ c ∷ us) (behind_angle (c ∷ us)) (specifier_front (c ∷ us)) (angle_front (c ∷ us) l) (named_taken (c ∷ us) l (find_close (c ∷ us)))
+          taken_as 40 (63 ∷ 60 ∷ c ∷ us) (after_angle (c ∷ us)) (specifier_front (c ∷ us)) (angle_front (c ∷ us) l) (named_taken (c ∷ us) l (find_close (c ∷ us)))
     ]
   ]
 
@@ -240,18 +240,18 @@ module _ (mode : Mode) where
     ]
   ]
 
--- what is left behind the mark at the front
+-- what is left after the mark at the front
 left : (mode : Mode) (u : ℕ) (us : List ℕ) (p : Mark × ℕ) (t : Taken mode u us p) → drop p.1 us ≡ t.rest
 left mode u us p t = ap₂ drop t.count t.whole ∙ drop-append_seam t.more t.rest
 
 -- A text is the row of its marks.
-marks_row : (mode : Mode) (n : ℕ) (us : List ℕ) → IsMarkRow mode (drop n us) (marks_behind mode n us)
+marks_row : (mode : Mode) (n : ℕ) (us : List ℕ) → IsMarkRow mode (drop n us) (marks_following mode n us)
 marks_row mode zero [] = no_mark
 marks_row mode (suc n) [] = no_mark
 marks_row mode (suc n) (u ∷ us) = marks_row mode n us
 marks_row mode zero (u ∷ us) =
     let t = front_taken mode u us in
-    let ms = marks_behind mode (mark_front mode u us).1 us in
+    let ms = marks_following mode (mark_front mode u us).1 us in
     let r = subst (λ rest. IsMarkRow mode rest ms) (left mode u us (mark_front mode u us) t) (marks_row mode (mark_front mode u us).1 us) in
     subst (λ text. IsMarkRow mode text ((mark_front mode u us).0 ∷ ms)) (ap (λ text. u ∷ text) (sym t.whole)) (mark (u ∷ t.more) t.rest t.spells r)
 
@@ -271,25 +271,25 @@ pub one_mark : (mode : Mode) (m n : Mark) (w rest v back : List ℕ) → SpellsM
 one_mark mode m n w rest v back s t = front_alone mode m n w rest v back (mark_is_front mode m w rest s) (mark_is_front mode n v back t)
 
 -- The places of marks are those at which they begin.
-places_after : (mode : Mode) (at : ℕ) (w rest : List ℕ) → places_behind mode at (length w) (w ++ rest) ≡ places_behind mode (at + length w) 0 rest
-places_after mode at [] rest = ap (λ n. places_behind mode n 0 rest) (omega arith)
-places_after mode at (u ∷ w) rest = places_after mode (at + 1) w rest ∙ ap (λ n. places_behind mode n 0 rest) (omega arith)
+places_after : (mode : Mode) (at : ℕ) (w rest : List ℕ) → places_following mode at (length w) (w ++ rest) ≡ places_following mode (at + length w) 0 rest
+places_after mode at [] rest = ap (λ n. places_following mode n 0 rest) (omega arith)
+places_after mode at (u ∷ w) rest = places_after mode (at + 1) w rest ∙ ap (λ n. places_following mode n 0 rest) (omega arith)
 
-front_places : (mode : Mode) (at : ℕ) (m : Mark) (w rest : List ℕ) → IsFront mode m w rest → places_behind mode at 0 (w ++ rest) ≡ at ∷ places_behind mode (at + length w) 0 rest
+front_places : (mode : Mode) (at : ℕ) (m : Mark) (w rest : List ℕ) → IsFront mode m w rest → places_following mode at 0 (w ++ rest) ≡ at ∷ places_following mode (at + length w) 0 rest
 front_places mode at m w rest f =
     let l = ap length f.whole in
-    ap (λ w. places_behind mode at 0 (w ++ rest)) f.whole
-    ∙ ap (λ p. at ∷ places_behind mode (at + 1) p.1 (f.more ++ rest)) f.front
-    ∙ ap (λ ps. at ∷ ps) (places_after mode (at + 1) f.more rest ∙ ap (λ n. places_behind mode n 0 rest) (omega (arith, l)))
+    ap (λ w. places_following mode at 0 (w ++ rest)) f.whole
+    ∙ ap (λ p. at ∷ places_following mode (at + 1) p.1 (f.more ++ rest)) f.front
+    ∙ ap (λ ps. at ∷ ps) (places_after mode (at + 1) f.more rest ∙ ap (λ n. places_following mode n 0 rest) (omega (arith, l)))
 
-pub first_place : (mode : Mode) (at : ℕ) (m : Mark) (w rest : List ℕ) → SpellsMark mode m w rest → places_behind mode at 0 (w ++ rest) ≡ at ∷ places_behind mode (at + length w) 0 rest
+pub first_place : (mode : Mode) (at : ℕ) (m : Mark) (w rest : List ℕ) → SpellsMark mode m w rest → places_following mode at 0 (w ++ rest) ≡ at ∷ places_following mode (at + length w) 0 rest
 first_place mode at m w rest s = front_places mode at m w rest (mark_is_front mode m w rest s)
 
-places_are : (mode : Mode) (at : ℕ) (us ps : List ℕ) → ArePlaces mode at us ps → ps ≡ places_behind mode at 0 us
+places_are : (mode : Mode) (at : ℕ) (us ps : List ℕ) → ArePlaces mode at us ps → ps ≡ places_following mode at 0 us
 places_are mode _ _ _ no_place = refl
 places_are mode _ _ _ (place {m} {at} {ps} w rest s r) = ap (λ ps. at ∷ ps) (places_are mode (at + length w) rest ps r) ∙ sym (first_place mode at m w rest s)
 
-are_places : (mode : Mode) (at : ℕ) (us : List ℕ) (ms : List Mark) → IsMarkRow mode us ms → ArePlaces mode at us (places_behind mode at 0 us)
+are_places : (mode : Mode) (at : ℕ) (us : List ℕ) (ms : List Mark) → IsMarkRow mode us ms → ArePlaces mode at us (places_following mode at 0 us)
 are_places mode at _ _ no_mark = no_place
 are_places mode at _ _ (mark {m} {ms} w rest s r) =
     subst (ArePlaces mode at (w ++ rest)) (sym (first_place mode at m w rest s)) (place w rest s (are_places mode (at + length w) rest ms r))

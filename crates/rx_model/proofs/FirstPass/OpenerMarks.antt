@@ -1,4 +1,4 @@
--- Openers: each is one opening, with the name that it spells, and others behind it.
+-- Openers: each is one opening, with the name that it spells, and others after it.
 use Rattle.std.proofs.Common.{◌≡◌, ◌≢◌, ℕ, ◌+◌, ◌*◌, ◌==◌, ◌≤◌, Bool, true, false, is_some, ◌||◌, List, [], ◌∷◌, ◌++◌, append_assoc, length, length-append, Some, refl, ap, ◌∙◌, arith, inl, inr}
 use Rattle.std.specs.List.{list_all}
 use Rattle.std.proofs.lemmas.Bool.{cond-false}
@@ -6,19 +6,19 @@ use Rattle.std.proofs.lemmas.Bool.Decides.{nat_tests}
 use Rattle.std.proofs.lemmas.List.Folds.{list_all-append}
 use Rattle.std.proofs.lemmas.Option.{option_and_then_some}
 use Rattle.rx_tables.specs.Characters.{hex_digit_value}
-use Rattle.rx_units.specs.Digits.{hex_behind}
+use Rattle.rx_units.specs.Digits.{hex_after}
 use Rattle.rx_units.proofs.Choices.{chosen, both}
 use Rattle.rx_model.specs.declared.mode.Mode.{Mode}
 use Rattle.rx_model.specs.Groups.GroupNames.{is_in_name, SpellsNameCharacter, one_unit, by_escape, raw_pair, SpellsNameParts, no_part, part, SpellsName, whole_name}
-use Rattle.rx_model.specs.FirstPass.Marks.{quiet, capturing, starts, before_close, has_close, mark_front, marks, marks_behind}
+use Rattle.rx_model.specs.FirstPass.Marks.{quiet, capturing, starts, before_close, has_close, mark_front, marks, marks_following}
 use Rattle.rx_model.specs.Inputs.Environment.{is_unicode}
 use Rattle.rx_model.specs.Groups.Modifiers.{is_modifier, AreSides, one_side, two_sides}
 use Rattle.rx_model.specs.Characters.UnicodeEscapes.{SpellsUnicode, alone, pair, braced}
 use Rattle.rx_model.proofs.Groups.GroupNames.{differs}
 use Rattle.rx_model.proofs.FirstPass.PlainMarks.{is_plain, plain_in, GiveOthers, all_plain_others, append_others}
 
--- the marks behind some units are those of what follows them
-pub marks_after : (mode : Mode) (w rest : List ℕ) → marks_behind mode (length w) (w ++ rest) ≡ marks mode rest
+-- the marks after some units are those of what follows them
+pub marks_after : (mode : Mode) (w rest : List ℕ) → marks_following mode (length w) (w ++ rest) ≡ marks mode rest
 marks_after mode [] rest = refl
 marks_after mode (u ∷ w) rest = marks_after mode w rest
 
@@ -26,28 +26,28 @@ marks_after mode (u ∷ w) rest = marks_after mode w rest
 pub no_close_before : (u : ℕ) (w : List ℕ) → (u == 62) ≡ false → has_close w ≡ false → has_close (u ∷ w) ≡ false
 no_close_before u w h k = cond-false (u == 62) true (has_close w) h ∙ k
 
-no_close_behind : (u : ℕ) (w : List ℕ) → has_close (u ∷ w) ≡ false → ((u == 62) ≡ false) × (has_close w ≡ false)
-no_close_behind u w h = elim (chosen (u == 62) h) [ inl p ↦ absurd (let no : ⊥ = cc p.1 in no) | inr p ↦ p ]
+no_close_after : (u : ℕ) (w : List ℕ) → has_close (u ∷ w) ≡ false → ((u == 62) ≡ false) × (has_close w ≡ false)
+no_close_after u w h = elim (chosen (u == 62) h) [ inl p ↦ absurd (let no : ⊥ = cc p.1 in no) | inr p ↦ p ]
 
 no_close_append : (w v : List ℕ) → has_close w ≡ false → has_close v ≡ false → has_close (w ++ v) ≡ false
 no_close_append [] v h k = k
-no_close_append (u ∷ w) v h k = let p = no_close_behind u w h in no_close_before u (w ++ v) p.0 (no_close_append w v p.1 k)
+no_close_append (u ∷ w) v h k = let p = no_close_after u w h in no_close_before u (w ++ v) p.0 (no_close_append w v p.1 k)
 
 -- the first `>`, and the units before it
 pub close_found : (w rest : List ℕ) → has_close w ≡ false → has_close (w ++ (62 ∷ rest)) ≡ true
 close_found [] rest h = refl
-close_found (u ∷ w) rest h = let p = no_close_behind u w h in cond-false (u == 62) true (has_close (w ++ (62 ∷ rest))) p.0 ∙ close_found w rest p.1
+close_found (u ∷ w) rest h = let p = no_close_after u w h in cond-false (u == 62) true (has_close (w ++ (62 ∷ rest))) p.0 ∙ close_found w rest p.1
 
 pub before_found : (w rest : List ℕ) → has_close w ≡ false → before_close (w ++ (62 ∷ rest)) ≡ w
 before_found [] rest h = refl
 before_found (u ∷ w) rest h =
-    let p = no_close_behind u w h in cond-false (u == 62) [] (u ∷ before_close (w ++ (62 ∷ rest))) p.0 ∙ ap (λ v. u ∷ v) (before_found w rest p.1)
+    let p = no_close_after u w h in cond-false (u == 62) [] (u ∷ before_close (w ++ (62 ∷ rest))) p.0 ∙ ap (λ v. u ∷ v) (before_found w rest p.1)
 
 -- no `>` is among hexadecimal digits
-hex_no_close : (n : ℕ) (ds : List ℕ) (v : ℕ) → hex_behind n ds ≡ Some v → has_close ds ≡ false
+hex_no_close : (n : ℕ) (ds : List ℕ) (v : ℕ) → hex_after n ds ≡ Some v → has_close ds ≡ false
 hex_no_close n [] v h = refl
 hex_no_close n (c ∷ ds) v h =
-    option_and_then_some (λ d. hex_behind (16 * n + d) ds) (hex_digit_value c) v h (λ d digit more.
+    option_and_then_some (λ d. hex_after (16 * n + d) ds) (hex_digit_value c) v h (λ d digit more.
     no_close_before c ds (differs (λ c. is_some (hex_digit_value c)) c 62 refl (ap is_some digit)) (hex_no_close (16 * n + d) ds v more))
 
 -- nor among those of a unicode escape
@@ -64,7 +64,7 @@ in_name_no_close false c h = differs (is_in_name false) c 62 refl h
 surrogate_no_close : (c : ℕ) → 0xD800 ≤ c → (c == 62) ≡ false
 surrogate_no_close c h = grind (arith, nat_tests)
 
--- what tells a look behind
+-- what tells a lookbehind
 abbrev begins_look : List ℕ → Bool
 begins_look us = starts 61 us || starts 33 us
 
@@ -91,7 +91,7 @@ module _ (mode : Mode) where
   name_no_close _ _ _ (whole_name {c} {cs} w v rest spells more) =
       no_close_append w v (character_no_close true c w (v ++ rest) spells) (parts_no_close cs v rest more)
 
-  -- a name begins as no look behind does
+  -- a name begins as no lookbehind does
   character_no_look : (c : ℕ) (w rest us : List ℕ) → SpellsNameCharacter (is_unicode mode) true c w rest → begins_look (w ++ us) ≡ false
   character_no_look c _ rest us (one_unit h) = begins_no_look c us h
   character_no_look c _ rest us (by_escape spells h) = refl
@@ -111,12 +111,12 @@ module _ (mode : Mode) where
   pub naming_marks : (name w rest us : List ℕ) → SpellsName (is_unicode mode) name w rest →
       marks mode (40 ∷ 63 ∷ 60 ∷ ((w ++ (62 ∷ [])) ++ us)) ≡ capturing (Some w) ∷ marks mode us
   naming_marks name w rest us spells =
-      let behind : List ℕ = 63 ∷ 60 ∷ (w ++ (62 ∷ [])) in
-      let count : length w + 3 ≡ length behind = omega (arith, length-append w (62 ∷ [])) in
+      let following : List ℕ = 63 ∷ 60 ∷ (w ++ (62 ∷ [])) in
+      let count : length w + 3 ≡ length following = omega (arith, length-append w (62 ∷ [])) in
       let front = ap (λ v. mark_front mode 40 (63 ∷ 60 ∷ v)) (append_assoc w (62 ∷ []) us) ∙ naming_front name w rest us spells in
-      ap (λ p. p.0 ∷ marks_behind mode p.1 (behind ++ us)) front
-      ∙ ap (λ n. capturing (Some w) ∷ marks_behind mode n (behind ++ us)) count
-      ∙ ap (λ ms. capturing (Some w) ∷ ms) (marks_after mode behind us)
+      ap (λ p. p.0 ∷ marks_following mode p.1 (following ++ us)) front
+      ∙ ap (λ n. capturing (Some w) ∷ marks_following mode n (following ++ us)) count
+      ∙ ap (λ ms. capturing (Some w) ∷ ms) (marks_after mode following us)
 
 -- the letters of modifiers, and the dash
 abbrev is_in_modifiers : ℕ → Bool
@@ -147,7 +147,7 @@ modifying_front mode c us h =
 
 -- the letters and the `:` of modifiers
 pub record ModifierMarks (mode : Mode) (text : List ℕ) : Type 0 where
-  pub behind : GiveOthers mode (text ++ (58 ∷ []))
+  pub following : GiveOthers mode (text ++ (58 ∷ []))
   pub whole : (us : List ℕ) → marks mode (40 ∷ 63 ∷ ((text ++ (58 ∷ [])) ++ us)) ≡ quiet ∷ marks mode ((text ++ (58 ∷ [])) ++ us)
 
 -- `(?`, modifiers and `:` are an opening and others
@@ -155,7 +155,7 @@ pub modifier_marks : (mode : Mode) (enabled disabled text : List ℕ) → AreSid
 modifier_marks mode enabled disabled text sides some =
     let within = sides_in_modifiers enabled disabled text sides in
     record {
-      behind = append_others mode text (58 ∷ []) (all_plain_others mode text (all_in_modifiers_plain text within)) (all_plain_others mode (58 ∷ []) refl);
+      following = append_others mode text (58 ∷ []) (all_plain_others mode text (all_in_modifiers_plain text within)) (all_plain_others mode (58 ∷ []) refl);
       whole = go text some within;
     }
   where
@@ -164,5 +164,5 @@ modifier_marks mode enabled disabled text sides some =
     go [] some within us = absurd (some refl)
     go (c ∷ text) some within us =
         let p = both (is_in_modifiers c) (list_all is_in_modifiers text) within in
-        let behind : List ℕ = (text ++ (58 ∷ [])) ++ us in
-        ap (λ p. p.0 ∷ marks_behind mode p.1 (63 ∷ c ∷ behind)) (modifying_front mode c behind p.0)
+        let following : List ℕ = (text ++ (58 ∷ [])) ++ us in
+        ap (λ p. p.0 ∷ marks_following mode p.1 (63 ∷ c ∷ following)) (modifying_front mode c following p.0)

@@ -14,7 +14,7 @@ use Rattle.rx_model.specs.Inputs.Environment.{Environment, environment, environm
 use Rattle.rx_model.specs.Trees.Events.{within, node_events, nodes_events, alternatives_events, barred_events, tokens}
 use Rattle.rx_model.specs.FirstPass.Marks as mark
 use Rattle.rx_model.specs.FirstPass.Marks.{Mark, marks, count, listed, mark_count, mark_name}
-use Rattle.rx_model.specs.Trees.Names.{once_behind, opener_groups, opener_names, node_groups, nodes_groups, alternatives_groups, node_names, nodes_names, alternatives_names}
+use Rattle.rx_model.specs.Trees.Names.{once_after, opener_groups, opener_names, node_groups, nodes_groups, alternatives_groups, node_names, nodes_names, alternatives_names}
 use Rattle.rx_model.specs.Refusals.Reached.{text_environment, text_groups, text_names}
 use Rattle.rx_model.specs.Reading.Reading.{IsSpelled}
 use Rattle.rx_model.specs.Reading.Rows.{TokenRow}
@@ -162,15 +162,15 @@ more_twice most more ts n m found others h k = record {
   names_more = h.names_more ∙ ap (λ names. found ++ names) k.names_more ∙ sym (append_assoc found others (tokens_names ts));
 }
 
--- before a token that opens no group that captures, and behind it
+-- before a token that opens no group that captures, and after it
 more_before : (t : Token) (more ts : List Token) (n : ℕ) (found : List (List ℕ)) → token_groups t ≡ 0 → token_names t ≡ [] → HasMore more (t ∷ ts) n found → HasMore more ts n found
 more_before t more ts n found none unnamed h = record {
   groups_more = omega (arith, h.groups_more, none);
   names_more = h.names_more ∙ ap (λ names. found ++ (names ++ tokens_names ts)) unnamed;
 }
 
-more_behind : (t : Token) (more ts : List Token) (n : ℕ) (found : List (List ℕ)) → token_groups t ≡ 0 → token_names t ≡ [] → HasMore more ts n found → HasMore (t ∷ more) ts n found
-more_behind t more ts n found none unnamed h = record {
+more_after : (t : Token) (more ts : List Token) (n : ℕ) (found : List (List ℕ)) → token_groups t ≡ 0 → token_names t ≡ [] → HasMore more ts n found → HasMore (t ∷ more) ts n found
+more_after t more ts n found none unnamed h = record {
   groups_more = omega (arith, h.groups_more, none);
   names_more = ap (λ names. names ++ tokens_names more) unnamed ∙ h.names_more;
 }
@@ -191,7 +191,7 @@ leaf_opens_none (tree.class c) = (refl, refl)
 leaf_opens_none (tree.indexed r) = (refl, refl)
 leaf_opens_none (tree.named r) = (refl, refl)
 
--- an alternative and those behind it
+-- an alternative and those after it
 alternative_more : (s : Span) (ns : Nodes) (all : Alternatives) (ts : List Token) →
     HasMore (before (nodes_events ns) (before (barred_events all) ts)) (before (barred_events all) ts) (nodes_groups ns) (nodes_names ns) →
     HasMore (before (barred_events all) ts) ts (alternatives_groups all) (alternatives_names all) →
@@ -205,7 +205,7 @@ mutual
   node_more : (n : Node) (ts : List Token) → HasMore (before (node_events n) ts) ts (node_groups n) (node_names n)
   node_more (leaf l) ts =
       let none = leaf_opens_none l in
-      subst (λ more. HasMore more ts 0 []) (sym (before_leaf l _ ts)) (more_behind (leaf_token l) ts ts 0 [] none.0 none.1 (no_more ts))
+      subst (λ more. HasMore more ts 0 []) (sym (before_leaf l _ ts)) (more_after (leaf_token l) ts ts 0 [] none.0 none.1 (no_more ts))
   node_more (quantified s min max greedy n) ts =
       let t = quantifier min max greedy in
       subst (λ more. HasMore more ts (node_groups n) (node_names n)) (sym (before_quantified s (node_events n) t ts))
@@ -230,7 +230,7 @@ mutual
   barred_more : (all : Alternatives) (ts : List Token) → HasMore (before (barred_events all) ts) ts (alternatives_groups all) (alternatives_names all)
   barred_more no_alternative ts = no_more ts
   barred_more (alternative s ns all) ts =
-      more_behind bar (before (within s (nodes_events ns) ++ barred_events all) ts) ts (nodes_groups ns + alternatives_groups all) (nodes_names ns ++ alternatives_names all) refl refl
+      more_after bar (before (within s (nodes_events ns) ++ barred_events all) ts) ts (nodes_groups ns + alternatives_groups all) (nodes_names ns ++ alternatives_names all) refl refl
       (alternative_more s ns all ts (nodes_more ns (before (barred_events all) ts)) (barred_more all ts))
 
 -- all the names that the marks open, in order
@@ -250,7 +250,7 @@ tells_by e p us row =
     let more = subst (λ ts. HasMore ts [] (alternatives_groups all) (alternatives_names all)) (sym (tokens_are p)) (alternatives_more all []) in
     record {
       groups_are = omega (arith, marked.count_is, more.groups_more);
-      names_are = ap (once_behind []) (all_names e p us row);
+      names_are = ap (once_after []) (all_names e p us row);
     }
 
 pub tells_groups : (mode : Mode) (rules : Rules) (p : Pattern) (us : List CodePoint) → IsSpelled mode rules p us → TellsGroups mode p us

@@ -163,7 +163,7 @@ through_held ms s o k a b n le = elim (cases_lt o (suc s + n)) [
 through : (ms : List Mark) (s o k : ℕ) → IsOpen ms s o → IsOpen ms o k → IsOpen ms s k
 through ms s o k a b = record { before = (let x = a.before in let y = b.before in omega arith); opening = a.opening; held = λ n le. through_held ms s o k a b n le }
 
--- The same bar parts a from k, where an opening behind a is open at both.
+-- The same bar parts a from k, where an opening after a is open at both.
 parted_on : (ms : List Mark) (a c o k : ℕ) → a ≤ o → IsOpen ms o c → IsOpen ms o k → c ≤ k → (s : Option ℕ) (j : ℕ) → IsCommon ms s a c → a < j → j < c → mark_at ms j ≡ bar → IsInner ms s j → IsParted ms a k
 parted_on ms a c o k le x y l None j common p q e i = (None, j, (λ z u v. let h = u.before in common z u (restrict ms z c k v (let w = x.before in omega arith) l)), p, omega arith, e, i)
 parted_on ms a c o k le x y l (Some s) j common p q e i =
@@ -178,7 +178,7 @@ late_start ms a c k (suc o) f e l le lt n up = elim (cases_lt a f.0) [
   | inr h ↦ absurd (n (h, omega arith))
 ]
 
--- where c is hidden and a, before it, is not, a group that opens at a or behind it is open at c and at k
+-- where c is hidden and a, before it, is not, a group that opens at a or after it is open at c and at k
 late : (ms : List Mark) (a c k : ℕ) (fs : List GroupState) → a < c → ((x p : ℕ) → Has x p fs → IsOpen ms x k) → Hides c fs → (Hides a fs → ⊥) → (o : ℕ) × (a ≤ o) × (o < c) × IsOpen ms o k
 late ms a c k [] l up h n = absurd h
 late ms a c k (f ∷ fs) l up (inl h) n = late_start ms a c k f.0 f refl l h.0 h.1 (λ z. n (inl z)) (λ x e. up x 0 e)
@@ -191,7 +191,7 @@ last_seen ms a c k l g h n p =
     let at_c = restrict ms o.0 c k o.3 o.2 (omega arith) in
     n (parted_hidden ms a k (parted_on ms a c o.0 k o.1 at_c o.3 (omega arith) p.0 p.1 p.2 p.3 p.4 p.5 p.6))
 
--- each group state begins behind the last bar of the next
+-- each group state begins after the last bar of the next
 nests_each : (ms : List Mark) (k : ℕ) (f : GroupState) (fs : List GroupState) → Nests fs → Each ms k fs → k < f.0 → f.0 ≤ f.1 → Nests (f ∷ fs)
 nests_each ms k f [] n es lt le = le
 nests_each ms k f (g ∷ fs) n es lt le = let h = es.0.high in (le, omega arith, n)

@@ -5,14 +5,14 @@ use Rattle.std.proofs.lemmas.Bool.Decides.{nat_tests}
 use Rattle.std.proofs.lemmas.List.Elements.{All-nil, All-cons, All-append}
 use Rattle.std.proofs.lemmas.Option.{option_and_then_some}
 use Rattle.rx_tables.specs.Characters.{hex_digit_value}
-use Rattle.rx_units.specs.Digits.{hex_behind}
+use Rattle.rx_units.specs.Digits.{hex_after}
 use Rattle.rx_units.proofs.Choices.{both}
 use Rattle.rx_model.specs.declared.mode.Mode.{Mode}
 use Rattle.rx_model.specs.FirstPass.Cuts.{AreOthers}
 use Rattle.rx_model.specs.Groups.GroupNames.{is_in_name, SpellsNameCharacter, one_unit, by_escape, raw_pair, SpellsNameParts, no_part, part, SpellsName, whole_name}
-use Rattle.rx_model.specs.FirstPass.Marks.{Mark, other, mark_front, marks, marks_behind}
+use Rattle.rx_model.specs.FirstPass.Marks.{Mark, other, mark_front, marks, marks_following}
 use Rattle.rx_model.specs.Inputs.Environment.{is_unicode}
-use Rattle.rx_model.specs.Quantifiers.Quantifiers.{decimal_digit_value, decimal_behind, AreDigits, SpellsBraces, exactly, at_least, between, SpellsCounts, star, plus, optional, braces, lazy_mark}
+use Rattle.rx_model.specs.Quantifiers.Quantifiers.{decimal_digit_value, decimal_after, AreDigits, SpellsBraces, exactly, at_least, between, SpellsCounts, star, plus, optional, braces, lazy_mark}
 use Rattle.rx_model.specs.Characters.UnicodeEscapes.{SpellsUnicode, code_unit, alone, pair, braced}
 
 -- no unit that begins an escape or a class, opens or closes a group, or is a bar
@@ -42,7 +42,7 @@ module _ (mode : Mode) where
   plain_others u w h q = record {
     cut = other ∷ q.cut;
     others = All-cons (λ m. m ≡ other) other q.cut refl q.others;
-    whole = λ rest. ap (λ front. front.0 ∷ marks_behind mode front.1 (w ++ rest)) (plain_front u (w ++ rest) h) ∙ ap (λ ms. other ∷ ms) (q.whole rest);
+    whole = λ rest. ap (λ front. front.0 ∷ marks_following mode front.1 (w ++ rest)) (plain_front u (w ++ rest) h) ∙ ap (λ ms. other ∷ ms) (q.whole rest);
   }
 
   -- a backslash and its next unit
@@ -68,26 +68,26 @@ module _ (mode : Mode) where
   all_plain_others (u ∷ w) h = let p = both (is_plain u) (list_all is_plain w) h in plain_others u w p.0 (all_plain_others w p.1)
 
   -- hexadecimal digits
-  pub hex_others : (n : ℕ) (ds : List ℕ) (v : ℕ) → hex_behind n ds ≡ Some v → GiveOthers ds
+  pub hex_others : (n : ℕ) (ds : List ℕ) (v : ℕ) → hex_after n ds ≡ Some v → GiveOthers ds
   hex_others n [] v h = nothing_others
   hex_others n (c ∷ ds) v h =
-      option_and_then_some (λ d. hex_behind (16 * n + d) ds) (hex_digit_value c) v h (λ d digit more.
+      option_and_then_some (λ d. hex_after (16 * n + d) ds) (hex_digit_value c) v h (λ d digit more.
       plain_others c ds (plain_in (λ c. is_some (hex_digit_value c)) c refl (ap is_some digit)) (hex_others (16 * n + d) ds v more))
 
   -- decimal digits
-  decimal_others : (n : ℕ) (ds : List ℕ) (v : ℕ) → decimal_behind n ds ≡ Some v → GiveOthers ds
+  decimal_others : (n : ℕ) (ds : List ℕ) (v : ℕ) → decimal_after n ds ≡ Some v → GiveOthers ds
   decimal_others n [] v h = nothing_others
   decimal_others n (c ∷ ds) v h =
-      option_and_then_some (λ d. decimal_behind (10 * n + d) ds) (decimal_digit_value c) v h (λ d digit more.
+      option_and_then_some (λ d. decimal_after (10 * n + d) ds) (decimal_digit_value c) v h (λ d digit more.
       plain_others c ds (plain_in (λ c. is_some (decimal_digit_value c)) c refl (ap is_some digit)) (decimal_others (10 * n + d) ds v more))
 
   digits_others : {n : ℕ} {ds : List ℕ} → AreDigits n ds → GiveOthers ds
   digits_others {n} {ds} h = decimal_others 0 ds n h.number
 
-  -- and digits behind a backslash
+  -- and digits after a backslash
   pub escaped_digits_others : {n : ℕ} {ds : List ℕ} → AreDigits n ds → GiveOthers (92 ∷ ds)
   escaped_digits_others {n} {ds} h =
-      option_and_then_some (λ d. decimal_behind (10 * 0 + d) h.more) (decimal_digit_value h.first) n (ap (decimal_behind 0) (sym h.some) ∙ h.number) (λ d digit more.
+      option_and_then_some (λ d. decimal_after (10 * 0 + d) h.more) (decimal_digit_value h.first) n (ap (decimal_after 0) (sym h.some) ∙ h.number) (λ d digit more.
       subst (λ ds. GiveOthers (92 ∷ ds)) (sym h.some) (escape_others h.first h.more (decimal_others (10 * 0 + d) h.more n more)))
 
   -- a unicode escape with its backslash

@@ -107,7 +107,7 @@ module _ (mode : Mode) (ms : List Mark) where
     whole = λ r f. others_clear k j o;
   }
 
-  -- others behind a stretch belong to it
+  -- others after a stretch belong to it
   pub others_after : (k i j : ℕ) (rule : Type 0) (names : List (List ℕ)) → IsStretch k i rule names → OnlyOthers ms i j → IsStretch k j rule names
   others_after k i j rule names n o =
       let le = n.up in let lf = o.up in
@@ -119,14 +119,14 @@ module _ (mode : Mode) (ms : List Mark) where
         whole = λ r f. clear_both k i j (n.whole r f) (others_clear i j o);
       }
 
-  -- what is seen behind a stretch was seen before it or is a name of it
-  seen_behind : (k j : ℕ) (names : List (List ℕ)) (name : List ℕ) → AreNamed k j names → group_states ms j ≡ group_states ms k → IsSeenAt j name → IsSeenAt k name ⊎ Contains names name
-  seen_behind k j names name n e s = elim (cases_lt s.0 k) [
+  -- what is seen after a stretch was seen before it or is a name of it
+  seen_after : (k j : ℕ) (names : List (List ℕ)) (name : List ℕ) → AreNamed k j names → group_states ms j ≡ group_states ms k → IsSeenAt j name → IsSeenAt k name ⊎ Contains names name
+  seen_after k j names name n e s = elim (cases_lt s.0 k) [
     | inl lt ↦ inl (s.0, lt, s.2, λ h. s.3 (subst (Hides s.0) (sym e) h))
     | inr ge ↦ inr (n.into name (s.0, ge, s.1, s.2))
   ]
 
-  -- what was seen before a stretch is seen behind it
+  -- what was seen before a stretch is seen after it
   seen_still : (k j : ℕ) (name : List ℕ) → k ≤ j → group_states ms j ≡ group_states ms k → IsSeenAt k name → IsSeenAt j name
   seen_still k j name le e s = let l = s.1 in (s.0, omega arith, s.2, λ h. s.3 (subst (Hides s.0) e h))
 
@@ -153,5 +153,5 @@ module _ (mode : Mode) (ms : List Mark) where
             );
         whole = λ t f.
             clear_both k i j (m.whole t.1 (λ name h s. f name (Contains-append_left xs ys name h) s))
-            (n.whole t.2 (λ name h s. elim (seen_behind k i xs name m.named m.same s) [ inl a ↦ f name (Contains-append_right xs ys name h) a | inr a ↦ t.0 name a h ]));
+            (n.whole t.2 (λ name h s. elim (seen_after k i xs name m.named m.same s) [ inl a ↦ f name (Contains-append_right xs ys name h) a | inr a ↦ t.0 name a h ]));
       }

@@ -1,5 +1,5 @@
 -- What groups begin with and named references: what is spelled is read, and what is read is spelled.
-use Rattle.std.proofs.Common.{◌≡◌, ℕ, ◌+◌, ◌==◌, Bool, true, false, ◌||◌, Option, Some, None, List, [], ◌∷◌, ◌++◌, drop, length, refl, sym, ap, ◌∙◌, subst, arith, inl, inr, append_assoc, length-append}
+use Rattle.std.proofs.Common.{◌≡◌, ℕ, ◌+◌, ◌==◌, Bool, true, false, ◌||◌, Option, Some, None, List, [], ◌∷◌, ◌++◌, drop, length, refl, sym, ap, ◌∙◌, subst, arith, inl, inr, append_assoc, length-append, not}
 use Rattle.std.proofs.Math.Seq.{drop-append_seam}
 use Rattle.std.proofs.lemmas.Bool.{eqb-true, cond-true, cond-false, or_parts, or_from}
 use Rattle.std.proofs.lemmas.Bool.Decides.{nat_tests}
@@ -24,6 +24,9 @@ use Rattle.rx_model.specs.Trees.Token.{Opener, capturing, ignoring, looking, nam
 use Rattle.rx_model.proofs.Groups.GroupNames.{differs, name_at_law, name_before_closer}
 use Rattle.rx_model.proofs.Groups.Modifiers.{no_mark, modified_read, ModifiersFront, modified_spelled}
 use Rattle.rx_model.proofs.Reading.Splits.{starts_there, TextFront}
+
+pub mark_is : (c : ℕ) → is_mark c ≡ (c == 58 || c == 61 || c == 33 || c == 60)
+mark_is c = grind (arith, nat_tests)
 
 module _ (unicode_mode : Bool) where
   name_some : (name w rest : List ℕ) → SpellsName unicode_mode name w rest → (c : ℕ) × (cs : List ℕ) × (name ≡ c ∷ cs)
@@ -82,24 +85,22 @@ module _ (unicode_mode : Bool) where
   name_no_look : (name w rest more : List ℕ) → SpellsName unicode_mode name w rest → front_is looks (w ++ more) ≡ false
   name_no_look _ _ _ more (whole_name {c} w v rest spells parts) = ap (front_is looks) (append_assoc w v more) ∙ character_no_look c w (v ++ rest) (v ++ more) spells
 
-  -- a group that neither looks behind nor lacks a name
+  -- a group that neither is a lookbehind nor lacks a name
   pub angle_named : (v : List ℕ) → front_is looks v ≡ false → angle_group unicode_mode v ≡ named_group (name_front unicode_mode v)
   angle_named [] h = refl
   angle_named (c ∷ w) h = let p = or_parts (c == 61) (c == 33) h in cond-false (c == 61) _ _ p.0 ∙ cond-false (c == 33) _ _ p.1
 
   pub question_modified : (c : ℕ) (w : List ℕ) → is_mark c ≡ false → question_group unicode_mode (c ∷ w) ≡ modified_group (sides_at (c ∷ w)) (c ∷ w)
   question_modified c w h =
-      let third = or_parts (c == 58 || c == 61 || c == 33) (c == 60) h in
-      let second = or_parts (c == 58 || c == 61) (c == 33) third.0 in
-      let first = or_parts (c == 58) (c == 61) second.0 in
-      cond-false (c == 58) _ _ first.0 ∙ cond-false (c == 61) _ _ first.1 ∙ cond-false (c == 33) _ _ second.1 ∙ cond-false (c == 60) _ _ third.1
+      let other : (d : ℕ) → is_mark d ≡ true → (c == d) ≡ false = λ d is. differs (λ c. not (is_mark c)) c d (ap not is) (ap not h) in
+      cond-false (c == 58) _ _ (other 58 refl) ∙ cond-false (c == 61) _ _ (other 61 refl) ∙ cond-false (c == 33) _ _ (other 33 refl) ∙ cond-false (c == 60) _ _ (other 60 refl)
 
   group_plain : (v : List ℕ) → front_is is_question v ≡ false → group_front unicode_mode v ≡ Some (capturing None, 1)
   unfolding group_front
   group_plain [] h = refl
   group_plain (c ∷ w) h = cond-false (c == 63) _ _ h
 
-  -- a name and `>` behind n units
+  -- a name and `>` after n units
   angle_front : (name w rest : List ℕ) → SpellsName unicode_mode name w (62 ∷ rest) → name_front unicode_mode ((w ++ (62 ∷ [])) ++ rest) ≡ Some (name, length (w ++ (62 ∷ [])))
   angle_front name w rest s =
       ap (name_front unicode_mode) (append_assoc w (62 ∷ []) rest)
@@ -129,32 +130,32 @@ module _ (unicode_mode : Bool) where
 module _ (e : Environment) where
   -- what a group begins with is read so
   pub record OpenerRead (o : Opener) (w rest : List CodePoint) : Type 0 where
-    pub behind : List ℕ
-    pub whole : values w ≡ 40 ∷ behind
-    pub read : group_front (is_unicode e.mode) (behind ++ values rest) ≡ Some (o, length (40 ∷ behind))
+    pub following : List ℕ
+    pub whole : values w ≡ 40 ∷ following
+    pub read : group_front (is_unicode e.mode) (following ++ values rest) ≡ Some (o, length (40 ∷ following))
 
   look_read : (kind : LookAroundAssertionKind) (w rest : List CodePoint) → values w ≡ look_text kind → OpenerRead (looking kind) w rest
   unfolding group_front
-  look_read look.Lookahead w rest s = record { behind = 63 ∷ 61 ∷ []; whole = s; read = refl }
-  look_read look.NegativeLookahead w rest s = record { behind = 63 ∷ 33 ∷ []; whole = s; read = refl }
-  look_read look.Lookbehind w rest s = record { behind = 63 ∷ 60 ∷ 61 ∷ []; whole = s; read = refl }
-  look_read look.NegativeLookbehind w rest s = record { behind = 63 ∷ 60 ∷ 33 ∷ []; whole = s; read = refl }
+  look_read look.Lookahead w rest s = record { following = 63 ∷ 61 ∷ []; whole = s; read = refl }
+  look_read look.NegativeLookahead w rest s = record { following = 63 ∷ 33 ∷ []; whole = s; read = refl }
+  look_read look.Lookbehind w rest s = record { following = 63 ∷ 60 ∷ 61 ∷ []; whole = s; read = refl }
+  look_read look.NegativeLookbehind w rest s = record { following = 63 ∷ 60 ∷ 33 ∷ []; whole = s; read = refl }
 
   -- spelled → read
   pub opener_read : (o : Opener) (w rest : List CodePoint) → SpellsOpener e o w rest → OpenerRead o w rest
   unfolding group_front
-  opener_read (capturing None) w rest s = record { behind = []; whole = s.0; read = group_plain (is_unicode e.mode) (values rest) s.1 }
+  opener_read (capturing None) w rest s = record { following = []; whole = s.0; read = group_plain (is_unicode e.mode) (values rest) s.1 }
   opener_read (capturing (Some name)) w rest s = record {
-    behind = 63 ∷ 60 ∷ (s.spelled ++ (62 ∷ []));
+    following = 63 ∷ 60 ∷ (s.spelled ++ (62 ∷ []));
     whole = s.whole;
     read = naming_front (is_unicode e.mode) name s.spelled (values rest) s.spells;
   }
-  opener_read (ignoring None) w rest s = record { behind = 63 ∷ 58 ∷ []; whole = s; read = refl }
-  opener_read (ignoring (Some bits)) w rest s = record { behind = 63 ∷ (s.text ++ (58 ∷ [])); whole = s.whole; read = modified_front (is_unicode e.mode) bits s.text (values rest) s.spelled }
+  opener_read (ignoring None) w rest s = record { following = 63 ∷ 58 ∷ []; whole = s; read = refl }
+  opener_read (ignoring (Some bits)) w rest s = record { following = 63 ∷ (s.text ++ (58 ∷ [])); whole = s.whole; read = modified_front (is_unicode e.mode) bits s.text (values rest) s.spelled }
   opener_read (looking kind) w rest s = look_read kind w rest s
 
   -- a named reference, spelled → read
-  pub named_read : (name : List ℕ) (w rest : List CodePoint) → IsNamed e name w rest → (behind : List ℕ) × (values w ≡ 92 ∷ behind) × (backslash_front e (behind ++ values rest) ≡ Some (named name, length (92 ∷ behind)))
+  pub named_read : (name : List ℕ) (w rest : List CodePoint) → IsNamed e name w rest → (following : List ℕ) × (values w ≡ 92 ∷ following) × (backslash_front e (following ++ values rest) ≡ Some (named name, length (92 ∷ following)))
   unfolding backslash_front reference_front
   named_read name w rest s = (
     107 ∷ 60 ∷ (s.spelled ++ (62 ∷ [])),

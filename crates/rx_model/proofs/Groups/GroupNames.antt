@@ -4,11 +4,12 @@ use Rattle.std.proofs.lemmas.Bool.{eqb-true, eq-eqb, leb-true, false_from_ne_tru
 use Rattle.std.proofs.lemmas.Bool.Decides.{nat_tests}
 use Rattle.std.proofs.lemmas.List.{append-nil}
 use Rattle.std.proofs.Math.Seq.{drop-append_seam}
+use Rattle.rx_base.specs.Characters.{is_lead, is_trail}
 use Rattle.rx_base.specs.SurrogatePair.{IsLeadSurrogate, IsTrailSurrogate, surrogate_pair}
 use Rattle.rx_units.proofs.Choices.{chosen, both}
-use Rattle.rx_model.specs.Characters.Decoding.{Decoded, value, invalid, overflow, decoded, is_lead, is_trail}
+use Rattle.rx_model.specs.Characters.Decoding.{Decoded, value, invalid, overflow, decoded}
 use Rattle.rx_model.specs.Groups.GroupNames.{is_in_name, is_pair_in_name, IsNameRow, no_name, some_name, SpellsNameCharacter, one_unit, by_escape, raw_pair, SpellsNameParts, no_part, part, SpellsName, whole_name, IsGroupName, BeginsWithName}
-use Rattle.rx_model.specs.Groups.GroupNameReading.{NameCharacter, character, no_character, NameRow, row, tested, escape_in_name, pair_at, name_character_at, row_behind, row_from, row_after, name_at, all_of, name_of}
+use Rattle.rx_model.specs.Groups.GroupNameReading.{NameCharacter, character, no_character, NameRow, row, tested, escape_in_name, pair_at, name_character_at, row_following, row_from, row_after, name_at, all_of, name_of}
 use Rattle.rx_model.specs.Characters.UnicodeEscapes.{SpellsUnicode, alone, pair, braced}
 use Rattle.rx_model.proofs.Characters.Decodings.{spelled_read, read_spelled}
 
@@ -46,11 +47,11 @@ codes_of (row cs n) = cs
 abbrev units_of : NameRow → ℕ
 units_of (row cs n) = n
 
-pub row_behind_none : (r : NameRow) → row_behind [] 0 r ≡ r
-row_behind_none (row cs n) = ap (row cs) (omega arith)
+pub row_after_none : (r : NameRow) → row_following [] 0 r ≡ r
+row_after_none (row cs n) = ap (row cs) (omega arith)
 
-pub row_behind_twice : (cs ds : List ℕ) (n m : ℕ) (r : NameRow) → row_behind cs n (row_behind ds m r) ≡ row_behind (cs ++ ds) (n + m) r
-row_behind_twice cs ds n m (row es k) = ap₂ row (sym (append_assoc cs ds es)) (omega arith)
+pub row_after_twice : (cs ds : List ℕ) (n m : ℕ) (r : NameRow) → row_following cs n (row_following ds m r) ≡ row_following (cs ++ ds) (n + m) r
+row_after_twice cs ds n m (row es k) = ap₂ row (sym (append_assoc cs ds es)) (omega arith)
 
 module _ (unicode_mode : Bool) where
   -- a character that is spelled is read
@@ -126,22 +127,22 @@ module _ (unicode_mode : Bool) where
     ]
   ]
 
-  -- the row behind skipped units is that of the rest
+  -- the row after skipped units is that of the rest
   after_skipped : (first : Bool) (n : ℕ) (us : List ℕ) → row_after unicode_mode first n us ≡ row_after unicode_mode first 0 (drop n us)
   after_skipped first zero us = refl
   after_skipped first (suc n) [] = refl
   after_skipped first (suc n) (x ∷ w) = after_skipped first n w
 
-  -- a row goes on behind a character that is read
+  -- a row goes on after a character that is read
   pub row_steps : (first : Bool) (us : List ℕ) (c n : ℕ) → name_character_at unicode_mode first us ≡ character c n → 0 < n →
-      row_after unicode_mode first 0 us ≡ row_behind (c ∷ []) n (row_after unicode_mode false 0 (drop n us))
+      row_after unicode_mode first 0 us ≡ row_following (c ∷ []) n (row_after unicode_mode false 0 (drop n us))
   row_steps first [] c n h some = absurd (let no : ⊥ = cc h in no)
   row_steps first (x ∷ w) c zero h some = absurd (omega arith)
   row_steps first (x ∷ w) c (suc n) h some =
       let less : suc n - 1 ≡ n = omega arith in
       ap (λ o. row_from o (λ n. row_after unicode_mode false n w)) h
-      ∙ ap (λ m. row_behind (c ∷ []) (suc n) (row_after unicode_mode false m w)) less
-      ∙ ap (row_behind (c ∷ []) (suc n)) (after_skipped false n w)
+      ∙ ap (λ m. row_following (c ∷ []) (suc n) (row_after unicode_mode false m w)) less
+      ∙ ap (row_following (c ∷ []) (suc n)) (after_skipped false n w)
 
   pub row_stops : (first : Bool) (us : List ℕ) → name_character_at unicode_mode first us ≡ no_character → row_after unicode_mode first 0 us ≡ row [] 0
   row_stops first [] h = refl
@@ -158,32 +159,32 @@ module _ (unicode_mode : Bool) where
       let f = character_spelled first us c n h in
       omega (arith, f.count, character_some first c f.spelled f.rest f.spells)
 
-  -- one character that is spelled, and the row behind it
+  -- one character that is spelled, and the row after it
   pub row_one : (first : Bool) (c : ℕ) (w rest : List ℕ) → SpellsNameCharacter unicode_mode first c w rest →
-      row_after unicode_mode first 0 (w ++ rest) ≡ row_behind (c ∷ []) (length w) (row_after unicode_mode false 0 rest)
+      row_after unicode_mode first 0 (w ++ rest) ≡ row_following (c ∷ []) (length w) (row_after unicode_mode false 0 rest)
   row_one first c w rest spells =
       row_steps first (w ++ rest) c (length w) (spelled_character first c w rest spells) (character_some first c w rest spells)
-      ∙ ap (λ us. row_behind (c ∷ []) (length w) (row_after unicode_mode false 0 us)) (drop-append_seam w rest)
+      ∙ ap (λ us. row_following (c ∷ []) (length w) (row_after unicode_mode false 0 us)) (drop-append_seam w rest)
 
-  -- code points that are spelled, and the row behind them
+  -- code points that are spelled, and the row after them
   pub row_parts : (cs w rest : List ℕ) → SpellsNameParts unicode_mode cs w rest →
-      row_after unicode_mode false 0 (w ++ rest) ≡ row_behind cs (length w) (row_after unicode_mode false 0 rest)
-  row_parts _ _ rest no_part = sym (row_behind_none (row_after unicode_mode false 0 rest))
+      row_after unicode_mode false 0 (w ++ rest) ≡ row_following cs (length w) (row_after unicode_mode false 0 rest)
+  row_parts _ _ rest no_part = sym (row_after_none (row_after unicode_mode false 0 rest))
   row_parts _ _ _ (part {c} {cs} w v rest spells more) =
       ap (row_after unicode_mode false 0) (append_assoc w v rest)
       ∙ row_one false c w (v ++ rest) spells
-      ∙ ap (row_behind (c ∷ []) (length w)) (row_parts cs v rest more)
-      ∙ row_behind_twice (c ∷ []) cs (length w) (length v) (row_after unicode_mode false 0 rest)
-      ∙ ap (λ n. row_behind (c ∷ cs) n (row_after unicode_mode false 0 rest)) (sym (length-append w v))
+      ∙ ap (row_following (c ∷ []) (length w)) (row_parts cs v rest more)
+      ∙ row_after_twice (c ∷ []) cs (length w) (length v) (row_after unicode_mode false 0 rest)
+      ∙ ap (λ n. row_following (c ∷ cs) n (row_after unicode_mode false 0 rest)) (sym (length-append w v))
 
   pub row_name : (name w rest : List ℕ) → SpellsName unicode_mode name w rest →
-      name_at unicode_mode (w ++ rest) ≡ row_behind name (length w) (row_after unicode_mode false 0 rest)
+      name_at unicode_mode (w ++ rest) ≡ row_following name (length w) (row_after unicode_mode false 0 rest)
   row_name _ _ _ (whole_name {c} {cs} w v rest spells more) =
       ap (row_after unicode_mode true 0) (append_assoc w v rest)
       ∙ row_one true c w (v ++ rest) spells
-      ∙ ap (row_behind (c ∷ []) (length w)) (row_parts cs v rest more)
-      ∙ row_behind_twice (c ∷ []) cs (length w) (length v) (row_after unicode_mode false 0 rest)
-      ∙ ap (λ n. row_behind (c ∷ cs) n (row_after unicode_mode false 0 rest)) (sym (length-append w v))
+      ∙ ap (row_following (c ∷ []) (length w)) (row_parts cs v rest more)
+      ∙ row_after_twice (c ∷ []) cs (length w) (length v) (row_after unicode_mode false 0 rest)
+      ∙ ap (λ n. row_following (c ∷ cs) n (row_after unicode_mode false 0 rest)) (sym (length-append w v))
 
   no_character_from_none : (us : List ℕ) → name_character_at unicode_mode false us ≡ no_character → (c : ℕ) (w more : List ℕ) → SpellsNameCharacter unicode_mode false c w more → us ≡ w ++ more → ⊥
   no_character_from_none us none c w more spells whole =
@@ -206,8 +207,8 @@ module _ (unicode_mode : Bool) where
     count : length spelled ≡ units_of r
     ends : name_character_at unicode_mode false rest ≡ no_character
 
-  behind_character : (c n : ℕ) (us : List ℕ) (f : NameCharacterFront false c n us) (r : NameRow) → PartsFront f.rest r → PartsFront us (row_behind (c ∷ []) n r)
-  behind_character c n us f (row cs m) p = record {
+  after_character : (c n : ℕ) (us : List ℕ) (f : NameCharacterFront false c n us) (r : NameRow) → PartsFront f.rest r → PartsFront us (row_following (c ∷ []) n r)
+  after_character c n us f (row cs m) p = record {
     spelled = f.spelled ++ p.spelled;
     rest = p.rest;
     spells = part f.spelled p.spelled p.rest (subst (λ rest. SpellsNameCharacter unicode_mode false c f.spelled rest) p.whole f.spells) p.spells;
@@ -216,7 +217,7 @@ module _ (unicode_mode : Bool) where
     ends = p.ends;
   }
 
-  -- behind a character that is read stands the rest of it
+  -- after a character that is read stands the rest of it
   rest_is : (first : Bool) (c n x : ℕ) (w : List ℕ) (f : NameCharacterFront first c n (x ∷ w)) → 0 < n → drop (n - 1) w ≡ f.rest
   rest_is first c zero x w f some = absurd (omega arith)
   rest_is first c (suc n) x w f some =
@@ -236,7 +237,7 @@ module _ (unicode_mode : Bool) where
   front_found x w again (character c n) e =
       let f = character_spelled false (x ∷ w) c n e in
       let same = rest_is false c n x w f (read_some false (x ∷ w) c n e) in
-      behind_character c n (x ∷ w) f (row_after unicode_mode false (n - 1) w) (subst (λ us. PartsFront us (row_after unicode_mode false (n - 1) w)) same (again (n - 1)))
+      after_character c n (x ∷ w) f (row_after unicode_mode false (n - 1) w) (subst (λ us. PartsFront us (row_after unicode_mode false (n - 1) w)) same (again (n - 1)))
 
   parts_found : (n : ℕ) (us : List ℕ) → PartsFront (drop n us) (row_after unicode_mode false n us)
   parts_found zero [] = record { spelled = []; rest = []; spells = no_part; whole = refl; count = refl; ends = refl }
@@ -245,7 +246,7 @@ module _ (unicode_mode : Bool) where
   parts_found (suc n) (x ∷ w) = parts_found n w
 
   -- a name that begins with this character
-  name_found : (us : List ℕ) (c : ℕ) (cs : List ℕ) (n d k : ℕ) (f : NameCharacterFront true d k us) (r : NameRow) → PartsFront f.rest r → row_behind (d ∷ []) k r ≡ row (c ∷ cs) n → BeginsWithName unicode_mode us (c ∷ cs) n
+  name_found : (us : List ℕ) (c : ℕ) (cs : List ℕ) (n d k : ℕ) (f : NameCharacterFront true d k us) (r : NameRow) → PartsFront f.rest r → row_following (d ∷ []) k r ≡ row (c ∷ cs) n → BeginsWithName unicode_mode us (c ∷ cs) n
   name_found us c cs n d k f (row es m) p h =
       let same : (d ≡ c) × (es ≡ cs) × (k + m ≡ n) = (cc h, cc h, cc h) in
       record {
@@ -272,14 +273,14 @@ module _ (unicode_mode : Bool) where
   name_read us name n b =
       ap (name_at unicode_mode) b.whole
       ∙ row_name name b.spelled b.rest b.spells
-      ∙ ap (row_behind name (length b.spelled)) (row_stops false b.rest (none_from_no_character b.rest b.ends))
+      ∙ ap (row_following name (length b.spelled)) (row_stops false b.rest (none_from_no_character b.rest b.ends))
       ∙ ap₂ row (append-nil name) (omega (arith, b.count_is))
 
   -- the first row is of no code point only where no name begins
   pub no_name_read : (us : List ℕ) (n : ℕ) → name_at unicode_mode us ≡ row [] n → n ≡ 0
   no_name_read us n h = go (name_character_at unicode_mode true us) refl
     where
-      grown : (c k : ℕ) (r : NameRow) → row_behind (c ∷ []) k r ≡ row [] n → n ≡ 0
+      grown : (c k : ℕ) (r : NameRow) → row_following (c ∷ []) k r ≡ row [] n → n ≡ 0
       grown c k (row cs m) e = absurd (let no : ⊥ = cc e in no)
 
       go : (o : NameCharacter) → name_character_at unicode_mode true us ≡ o → n ≡ 0
@@ -298,7 +299,7 @@ module _ (unicode_mode : Bool) where
       count_of : (ds : List ℕ) (m : ℕ) → row ds m ≡ row cs n → m ≡ n
       count_of ds m e = cc e
 
-      some_of : (r : NameRow) (c k : ℕ) → row_behind (c ∷ []) k r ≡ row cs n → (ds : List ℕ) × (cs ≡ c ∷ ds)
+      some_of : (r : NameRow) (c k : ℕ) → row_following (c ∷ []) k r ≡ row cs n → (ds : List ℕ) × (cs ≡ c ∷ ds)
       some_of (row ds m) c k e = (ds, cc e)
 
       none : name_character_at unicode_mode true us ≡ no_character → (c : ℕ) (w more : List ℕ) → SpellsNameCharacter unicode_mode true c w more → us ≡ w ++ more → ⊥
@@ -374,28 +375,28 @@ module _ (unicode_mode : Bool) where
   pub closer_ends : (first : Bool) (rest : List ℕ) → name_character_at unicode_mode first (62 ∷ rest) ≡ no_character
   closer_ends first rest = go unicode_mode first rest
     where
-      behind : (first : Bool) (rest : List ℕ) → pair_at first 62 rest ≡ no_character
-      behind first [] = refl
-      behind first (y ∷ w) = refl
+      following : (first : Bool) (rest : List ℕ) → pair_at first 62 rest ≡ no_character
+      following first [] = refl
+      following first (y ∷ w) = refl
 
       go : (unicode_mode first : Bool) (rest : List ℕ) → name_character_at unicode_mode first (62 ∷ rest) ≡ no_character
       go true true rest = refl
       go true false rest = refl
-      go false true rest = behind true rest
-      go false false rest = behind false rest
+      go false true rest = following true rest
+      go false false rest = following false rest
 
   -- a name before `>` is read whole
   pub name_before_closer : (name w rest : List ℕ) → SpellsName unicode_mode name w (62 ∷ rest) → name_at unicode_mode (w ++ 62 ∷ rest) ≡ row name (length w)
   name_before_closer name w rest spells =
       row_name name w (62 ∷ rest) spells
-      ∙ ap (row_behind name (length w)) (row_stops false (62 ∷ rest) (closer_ends false rest))
+      ∙ ap (row_following name (length w)) (row_stops false (62 ∷ rest) (closer_ends false rest))
       ∙ ap₂ row (append-nil name) (omega arith)
 
   -- no code point is read exactly where no name begins
   pub no_name_law : (us : List ℕ) → (name_at unicode_mode us ≡ row [] 0) ↔ ((name w rest : List ℕ) → SpellsName unicode_mode name w rest → us ≡ w ++ rest → ⊥)
   no_name_law us = (λ h name w rest spells whole. no_row name w rest spells (row_after unicode_mode false 0 rest) (sym h ∙ ap (name_at unicode_mode) whole ∙ row_name name w rest spells), λ none. go none (name_at unicode_mode us) refl)
     where
-      no_row : (name w rest : List ℕ) → SpellsName unicode_mode name w rest → (r : NameRow) → row [] 0 ≡ row_behind name (length w) r → ⊥
+      no_row : (name w rest : List ℕ) → SpellsName unicode_mode name w rest → (r : NameRow) → row [] 0 ≡ row_following name (length w) r → ⊥
       no_row _ _ _ (whole_name w v rest spells more) (row cs n) e = cc e
 
       go : ((name w rest : List ℕ) → SpellsName unicode_mode name w rest → us ≡ w ++ rest → ⊥) → (r : NameRow) → name_at unicode_mode us ≡ r → name_at unicode_mode us ≡ row [] 0

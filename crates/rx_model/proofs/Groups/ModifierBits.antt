@@ -3,6 +3,7 @@ use Rattle.std.proofs.Common.{◌≡◌, refl, sym, ap, ap₂, ◌∙◌, ℕ, �
 use Rattle.std.specs.List.{list_all}
 use Rattle.std.proofs.lemmas.Bool.{eqb-true, or_parts, or_from, or_left, or_right, or_cases, and_parts, false_from_ne_true, true_from_ne_false, true≢false}
 use Rattle.std.proofs.lemmas.Nat.{and_block, or_block}
+use Rattle.std.proofs.lemmas.Bool.Decides.{nat_tests}
 use Rattle.rx_model.specs.Groups.Modifiers.{is_modifier, occurs, share_some, letters_bits}
 
 -- the number of three bits
@@ -76,6 +77,9 @@ three_small false false false = omega arith
 pub bits_small : (w : List ℕ) → letters_bits w < 8
 bits_small w = three_small (occurs 105 w) (occurs 109 w) (occurs 115 w)
 
+pub modifier_is : (c : ℕ) → is_modifier c ≡ (c == 105 || c == 109 || c == 115)
+modifier_is c = grind (arith, nat_tests)
+
 -- Letters without bits are none.
 pub no_letters : (w : List ℕ) → list_all is_modifier w ≡ true → letters_bits w ≡ 0 → w ≡ []
 no_letters [] h k = refl
@@ -84,7 +88,7 @@ no_letters (c ∷ w) h k =
     let i = or_parts (c == 105) (occurs 105 w) none.0 in
     let m = or_parts (c == 109) (occurs 109 w) none.1 in
     let s = or_parts (c == 115) (occurs 115 w) none.2 in
-    absurd (true≢false (sym (and_parts (is_modifier c) (list_all is_modifier w) h).0 ∙ or_from (c == 105 || c == 109) (c == 115) (or_from (c == 105) (c == 109) i.0 m.0) s.0))
+    absurd (true≢false (sym (and_parts (is_modifier c) (list_all is_modifier w) h).0 ∙ modifier_is c ∙ or_from (c == 105 || c == 109) (c == 115) (or_from (c == 105) (c == 109) i.0 m.0) s.0))
 
 -- a letter on both sides
 shared : (d : ℕ) (w v : List ℕ) → occurs d w ≡ true → occurs d v ≡ true → share_some w v ≡ true

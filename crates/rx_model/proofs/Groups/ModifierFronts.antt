@@ -1,4 +1,4 @@
--- What is read of modifiers behind `(?` stands there.
+-- What is read of modifiers after `(?` stands there.
 use Rattle.std.proofs.Common.{◌≡◌, ◌≢◌, refl, sym, ap, ap₂, ◌∙◌, subst, ℕ, suc, ◌+◌, Bool, true, false, not, ◌==◌, ◌&&◌, ◌||◌, ◌⊎◌, cond, Option, Some, None, List, [], ◌∷◌, ◌++◌, length, take, drop, bit_and, arith, inl, inr}
 use Rattle.std.proofs.Math.Seq.{drop-drop, drop-append_seam, take-append_seam, take-add}
 use Rattle.std.proofs.lemmas.Bool.{cases_Bool, cond-true, cond-false, cond_both, eqb-true, eq-eqb, or_from, or_left, or_right, and_from, and_parts, not_from_false, true≢false}
@@ -16,21 +16,21 @@ use Rattle.rx_model.proofs.Reading.Splits.{starts_there}
 use Rattle.rx_units.specs.Digits.{front_is}
 use Rattle.rx_units.proofs.Choices.{chosen}
 
--- Behind `(?` stand modifiers of n units, which are wrong in this way.
+-- After `(?` stand modifiers of n units, which are wrong in this way.
 pub data AreWrong : List ℕ → ℕ → ModifiersHalt → Type 0 where
-  unknown : (text behind : List ℕ) → LeadNowhere text behind → AreWrong (text ++ behind) (length text) no_colon
-  duplicated : {enabled disabled : List ℕ} (text behind : List ℕ) → AreSides enabled disabled text → (has_twice enabled || has_twice disabled) ≡ true
-      → AreWrong (text ++ (58 ∷ behind)) (length text) letter_twice
-  empty : {behind : List ℕ} → AreWrong (45 ∷ 58 ∷ behind) 1 no_letter
-  invalid : {enabled disabled : List ℕ} (text behind : List ℕ) → AreSides enabled disabled text → (has_twice enabled || has_twice disabled) ≡ false → share_some enabled disabled ≡ true
-      → AreWrong (text ++ (58 ∷ behind)) (length text) letter_shared
+  unknown : (text following : List ℕ) → LeadNowhere text following → AreWrong (text ++ following) (length text) no_colon
+  duplicated : {enabled disabled : List ℕ} (text following : List ℕ) → AreSides enabled disabled text → (has_twice enabled || has_twice disabled) ≡ true
+      → AreWrong (text ++ (58 ∷ following)) (length text) letter_twice
+  empty : {following : List ℕ} → AreWrong (45 ∷ 58 ∷ following) 1 no_letter
+  invalid : {enabled disabled : List ℕ} (text following : List ℕ) → AreSides enabled disabled text → (has_twice enabled || has_twice disabled) ≡ false → share_some enabled disabled ≡ true
+      → AreWrong (text ++ (58 ∷ following)) (length text) letter_shared
 
 -- A reading of modifiers, by the group that they begin.
 abbrev pub SaysModifiers : List ℕ → Option (Opener × ℕ) → ModifiersRead → Type 0
 SaysModifiers all o (modifiers_read a b n) = (o ≡ Some (ignoring (Some (a, b)), n + 3)) × (bit_and a b ≡ 0) × (a + b ≢ 0)
 SaysModifiers all o (no_modifiers_read it n) = AreWrong all n it
 
--- No letter stands behind the letters at the front.
+-- No letter stands after the letters at the front.
 letters_end : (w : List ℕ) → front_is is_modifier (drop (letters_at w) w) ≡ false
 letters_end [] = refl
 letters_end (c ∷ w) = elim (cases_Bool (is_modifier c)) [
@@ -45,7 +45,7 @@ dash_there k j all h =
     ∙ list_any-append (λ x. x == 45) (take k all) (45 ∷ take j s.0)
     ∙ or_right (occurs 45 (take k all)) true refl
 
--- What does not stand behind the modifiers that are read.
+-- What does not stand after the modifiers that are read.
 record SidesEnd (n : ℕ) (all : List ℕ) : Type 0 where
   no_letter : front_is is_modifier (drop n all) ≡ false
   no_dash : starts 45 (drop n all) ≡ true → occurs 45 (take n all) ≡ true
@@ -53,12 +53,12 @@ record SidesEnd (n : ℕ) (all : List ℕ) : Type 0 where
 sides_end : (all w v : List ℕ) (n : ℕ) → sides_at all ≡ sides w v n → SidesEnd n all
 sides_end all w v n h =
     let k = letters_at all in
-    let behind = drop (k + 1) all in
+    let following = drop (k + 1) all in
     elim (chosen (starts 45 (drop k all)) h) [
       | inl p ↦
-          let count : k + 1 + letters_at behind ≡ n = cc p.1 in record {
-            no_letter = ap (λ n. front_is is_modifier (drop n all)) (sym count) ∙ ap (front_is is_modifier) (sym (drop-drop (letters_at behind) (k + 1) all)) ∙ letters_end behind;
-            no_dash = λ _. ap (λ n. occurs 45 (take n all)) (let same : n ≡ k + suc (letters_at behind) = omega (arith, count) in same) ∙ dash_there k (letters_at behind) all p.0;
+          let count : k + 1 + letters_at following ≡ n = cc p.1 in record {
+            no_letter = ap (λ n. front_is is_modifier (drop n all)) (sym count) ∙ ap (front_is is_modifier) (sym (drop-drop (letters_at following) (k + 1) all)) ∙ letters_end following;
+            no_dash = λ _. ap (λ n. occurs 45 (take n all)) (let same : n ≡ k + suc (letters_at following) = omega (arith, count) in same) ∙ dash_there k (letters_at following) all p.0;
           }
       | inr p ↦
           let count : k ≡ n = cc p.1 in record {
@@ -88,7 +88,7 @@ module _ (all : List ℕ) (other : front_is is_mark all ≡ false) (w v : List �
   wrong_of : (it : ModifiersHalt) → AreWrong (at_front.text ++ at_front.rest) (length at_front.text) it → AreWrong all n it
   wrong_of it f = subst (λ w. AreWrong w n it) (sym at_front.whole) (subst (λ n. AreWrong (at_front.text ++ at_front.rest) n it) at_front.count f)
 
-  -- no `:` stands behind them
+  -- no `:` stands after them
   unknown_there : starts 58 (drop n all) ≡ false → AreWrong all n no_colon
   unknown_there none =
       let end = sides_end all w v n read in
@@ -103,7 +103,7 @@ module _ (all : List ℕ) (other : front_is is_mark all ≡ false) (w v : List �
       }))
 
   module _ (there : starts 58 (drop n all) ≡ true) where
-    closed : (behind : List ℕ) × (at_front.rest ≡ 58 ∷ behind)
+    closed : (following : List ℕ) × (at_front.rest ≡ 58 ∷ following)
     closed = starts_there 58 at_front.rest (ap (starts 58) (sym after) ∙ there)
 
     closed_wrong : (it : ModifiersHalt) → AreWrong (at_front.text ++ (58 ∷ closed.0)) (length at_front.text) it → AreWrong all n it

@@ -6,7 +6,7 @@ use Rattle.std.proofs.lemmas.Bool.Decides.{nat_tests}
 use Rattle.std.proofs.lemmas.List.{append-nil}
 use Rattle.rx_model.specs.Groups.Modifiers.{is_modifier, has_twice, letters_bits, AreSides, one_side, two_sides, SpellsModifiers}
 use Rattle.rx_ast.specs.Texts.{three_letters, letters, dash}
-use Rattle.rx_model.proofs.Spelling.SomeTexts.{some, some-append, some_behind}
+use Rattle.rx_model.proofs.Spelling.SomeTexts.{some, some-append, some_after}
 use Rattle.rx_model.proofs.Groups.ModifierBits.{bits_small}
 
 -- Bits of three letters, on both sides.
@@ -66,7 +66,7 @@ some_modifiers : (a b : ℕ) → a < 8 → b < 8 → a + b ≢ 0 → letters a +
 some_modifiers a b p q h =
     cond_both (b % 8 == 0) _ _ (λ d. letters a ++ (d ++ letters b) ≢ [])
     (λ e. let k = eqb-true (b % 8) 0 e in some-append (letters a) (letters b) (some_letters a p (λ none. h (omega (arith, q, k, none)))))
-    (λ _. some_behind (letters a) 45 (letters b))
+    (λ _. some_after (letters a) 45 (letters b))
 
 -- The canonical text of modifiers spells them, where there is some letter.
 pub modifiers_spelled : (bits : ℕ × ℕ) → AreThreeBits bits → bits.0 + bits.1 ≢ 0 → SpellsModifiers bits.0 bits.1 (letters bits.0 ++ (dash bits.1 ++ letters bits.1))

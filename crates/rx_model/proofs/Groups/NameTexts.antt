@@ -1,7 +1,8 @@
 -- The names that are spelled: what is known of their characters, and that each name spells itself.
-use Rattle.std.proofs.Common.{◌≡◌, refl, ap, ℕ, Bool, true, false, ◌==◌, ◌||◌, List, [], ◌∷◌}
+use Rattle.std.proofs.Common.{◌≡◌, refl, ap, ℕ, Bool, true, false, ◌==◌, ◌||◌, List, [], ◌∷◌, codes}
 use Rattle.std.specs.List.{list_all}
 use Rattle.std.proofs.lemmas.Bool.{and_from}
+use Rattle.rx_base.specs.Characters.{is_one_of}
 use Rattle.rx_base.specs.SurrogatePair.{surrogate_pair}
 use Rattle.rx_units.proofs.Choices.{both}
 use Rattle.rx_model.specs.Groups.GroupNames.{is_in_name, is_pair_in_name, SpellsNameCharacter, one_unit, by_escape, raw_pair, SpellsNameParts, no_part, part, SpellsName, whole_name}
@@ -13,7 +14,7 @@ IsName (c ∷ cs) = (is_in_name true c ≡ true) × (list_all (is_in_name false)
 
 -- what is in a name as a pair is in it
 pair_in_name : (first : Bool) (c : ℕ) → is_pair_in_name first c ≡ true → is_in_name first c ≡ true
-pair_in_name true c h = ap (λ b. b || c == 36 || c == 95) h
+pair_in_name true c h = ap (λ b. b || is_one_of (codes "$_") c) h
 pair_in_name false c h = ap (λ b. b || c == 36) h
 
 module _ (unicode_mode : Bool) where

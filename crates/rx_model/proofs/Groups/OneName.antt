@@ -10,8 +10,8 @@ use Rattle.rx_units.specs.Sequences.{ElementRow}
 use Rattle.rx_model.proofs.Groups.GroupNames.{spelled_character, character_some, closer_ends}
 use Rattle.rx_units.proofs.Sequences.{one, one_between}
 
-abbrev pub behind_character : Bool → ℕ → List ℕ → Bool
-behind_character first c rest = false
+abbrev pub after_character : Bool → ℕ → List ℕ → Bool
+after_character first c rest = false
 
 closer_front : (us : List ℕ) → starts 62 us ≡ true → (rest : List ℕ) × (us ≡ 62 ∷ rest)
 closer_front [] h = absurd (let no : ⊥ = cc h in no)
@@ -35,32 +35,32 @@ module _ (unicode_mode : Bool) where
       cc no
   none_at_end first us (inr none) c w rest whole s = none c w rest s whole
 
-  parts_row : (cs w rest : List ℕ) → SpellsNameParts unicode_mode cs w rest → ElementRow (SpellsNameCharacter unicode_mode) behind_character cs false (w ++ rest) false rest
+  parts_row : (cs w rest : List ℕ) → SpellsNameParts unicode_mode cs w rest → ElementRow (SpellsNameCharacter unicode_mode) after_character cs false (w ++ rest) false rest
   parts_row _ _ rest no_part = (refl, refl)
   parts_row _ _ _ (part {c} {cs} w v rest s more) = (w, v ++ rest, append_assoc w v rest, s, parts_row cs v rest more)
 
   -- A name is a list of characters.
-  pub name_row : (name w rest : List ℕ) → SpellsName unicode_mode name w rest → ElementRow (SpellsNameCharacter unicode_mode) behind_character name true (w ++ rest) false rest
+  pub name_row : (name w rest : List ℕ) → SpellsName unicode_mode name w rest → ElementRow (SpellsNameCharacter unicode_mode) after_character name true (w ++ rest) false rest
   name_row _ _ _ (whole_name {c} {cs} w v rest s more) = (w, v ++ rest, append_assoc w v rest, s, parts_row cs v rest more)
 
-  pub row_parts : (cs us rest : List ℕ) → ElementRow (SpellsNameCharacter unicode_mode) behind_character cs false us false rest → (w : List ℕ) × (us ≡ w ++ rest) × SpellsNameParts unicode_mode cs w rest
+  pub row_parts : (cs us rest : List ℕ) → ElementRow (SpellsNameCharacter unicode_mode) after_character cs false us false rest → (w : List ℕ) × (us ≡ w ++ rest) × SpellsNameParts unicode_mode cs w rest
   row_parts [] us rest r = ([], r.1, no_part)
   row_parts (c ∷ cs) us rest r =
       let p = row_parts cs r.1 rest r.4 in
       (r.0 ++ p.0, r.2 ∙ ap (λ more. r.0 ++ more) p.1 ∙ sym (append_assoc r.0 p.0 rest), part r.0 p.0 rest (subst (λ more. SpellsNameCharacter unicode_mode false c r.0 more) p.1 r.3) p.2)
 
-  pub row_name : (name us rest : List ℕ) → ElementRow (SpellsNameCharacter unicode_mode) behind_character name true us false rest → (w : List ℕ) × (us ≡ w ++ rest) × SpellsName unicode_mode name w rest
+  pub row_name : (name us rest : List ℕ) → ElementRow (SpellsNameCharacter unicode_mode) after_character name true us false rest → (w : List ℕ) × (us ≡ w ++ rest) × SpellsName unicode_mode name w rest
   row_name [] us rest r = absurd (let no : ⊥ = cc r.0 in no)
   row_name (c ∷ cs) us rest r =
       let p = row_parts cs r.1 rest r.4 in
       (r.0 ++ p.0, r.2 ∙ ap (λ more. r.0 ++ more) p.1 ∙ sym (append_assoc r.0 p.0 rest), whole_name r.0 p.0 rest (subst (λ more. SpellsNameCharacter unicode_mode true c r.0 more) p.1 r.3) p.2)
 
-  -- Two names of one text, behind each of which a name ends, are one.
+  -- Two names of one text, after each of which a name ends, are one.
   one_ended : (name other w rest v back : List ℕ) → SpellsName unicode_mode name w rest → SpellsName unicode_mode other v back → w ++ rest ≡ v ++ back → IsNameEnd unicode_mode false rest → IsNameEnd unicode_mode false back →
       (name ≡ other) × (rest ≡ back)
   one_ended name other w rest v back a b h stop ends =
-      let row = subst (λ us. ElementRow (SpellsNameCharacter unicode_mode) behind_character other true us false back) (sym h) (name_row other v back b) in
-      let o = one (SpellsNameCharacter unicode_mode) behind_character one_character (IsNameEnd unicode_mode) none_at_end name other true (w ++ rest) false rest false back (name_row name w rest a) stop row ends in
+      let row = subst (λ us. ElementRow (SpellsNameCharacter unicode_mode) after_character other true us false back) (sym h) (name_row other v back b) in
+      let o = one (SpellsNameCharacter unicode_mode) after_character one_character (IsNameEnd unicode_mode) none_at_end name other true (w ++ rest) false rest false back (name_row name w rest a) stop row ends in
       (o.0, o.2)
 
   pub one_closed : (name other w rest v back : List ℕ) → SpellsName unicode_mode name w (62 ∷ rest) → SpellsName unicode_mode other v (62 ∷ back) → w ++ (62 ∷ rest) ≡ v ++ (62 ∷ back) → (name ≡ other) × (rest ≡ back)
@@ -76,7 +76,7 @@ module _ (unicode_mode : Bool) where
 
   pub one_spelled : (name other w rest : List ℕ) → SpellsName unicode_mode name w rest → SpellsName unicode_mode other w rest → name ≡ other
   one_spelled name other w rest a b =
-      (one_between (SpellsNameCharacter unicode_mode) behind_character one_character some_units name other true (w ++ rest) false false rest (name_row name w rest a) (name_row other w rest b)).0
+      (one_between (SpellsNameCharacter unicode_mode) after_character one_character some_units name other true (w ++ rest) false false rest (name_row name w rest a) (name_row other w rest b)).0
     where
       some_units : (first : Bool) (c : ℕ) (rest : List ℕ) → SpellsNameCharacter unicode_mode first c [] rest → ⊥
       some_units first c rest s = omega (arith, character_some unicode_mode first c [] rest s)

@@ -1,10 +1,10 @@
 -- The name of a property tells whether it is one of strings.
 use Rattle.std.proofs.Common.{◌≡◌, ◌∙◌, refl, sym, ℕ, Bool, true, false, not, Option, List, Contains, codes, inl, inr, ap, true≢false}
+use Rattle.rx_base.specs.Texts.{is_among}
 use Rattle.rx_tables.specs.Properties.{IsValidUnicodeProperty, binary_properties, general_category_names, properties_of_strings, script_names}
 use Rattle.rx_model.specs.declared.mode.Mode.{Mode}
 use Rattle.rx_model.specs.Properties.PropertyEscapes.{SpellsProperty, pair, category, binary, of_strings}
 use Rattle.rx_model.specs.Trees.Early.{IsFlaggedProperty}
-use Rattle.rx_model.specs.Trees.Names.{is_among}
 use Rattle.rx_model.proofs.Properties.PropertyWords.{in_table}
 use Rattle.rx_model.proofs.Trees.Names.{among}
 

@@ -6,6 +6,7 @@ use Rattle.std.proofs.lemmas.Bool.Decides.{nat_tests}
 use Rattle.std.proofs.lemmas.List.Elements.{All-contains}
 use Rattle.std.proofs.lemmas.List.Folds.{list_all-append}
 use Rattle.std.proofs.lemmas.List.Sums.{AllPass-from_list_all}
+use Rattle.rx_base.specs.Texts.{is_among}
 use Rattle.rx_tables.specs.Properties.{IsValidUnicodeProperty, binary_properties, general_category_names, general_category_values, properties_of_strings, script_names, script_values}
 use Rattle.rx_units.specs.declared.code_point.CodePoint.{CodePoint}
 use Rattle.rx_units.specs.Units.{values}
@@ -14,7 +15,6 @@ use Rattle.rx_model.specs.declared.mode.Mode.{Mode}
 use Rattle.rx_model.specs.declared.mode.Mode.TheVariants.{Legacy, Unicode, Sets}
 use Rattle.rx_ast.specs.Texts.{property_opener}
 use Rattle.rx_model.specs.Inputs.Environment.{Environment, is_unicode}
-use Rattle.rx_model.specs.Trees.Names.{is_among}
 use Rattle.rx_model.specs.Properties.PropertyEscapes.{SpellsProperty, pair, category, binary, of_strings, IsProperty}
 use Rattle.rx_model.specs.Properties.PropertyFronts.{before, onward, Meaning, means, unknown, property_read, is_pair, reads_strings, lone_meaning, parts_meaning, text_meaning, property_of, closed_property, braced_property, property_front}
 use Rattle.rx_model.specs.Properties.PropertyForms.{begins_property}
@@ -81,7 +81,7 @@ onward_found d (x ∷ w) c v h = elim (chosen (x == d) h) [
   | inr p ↦ ap (λ w. x ∷ w) (onward_found d w c v p.1) ∙ ap (λ b. b ++ d ∷ v) (sym (cond-false (x == d) [] (x ∷ before d w) p.0))
 ]
 
--- what a property escape begins with behind its backslash
+-- what a property escape begins with after its backslash
 abbrev opening : Bool → ℕ
 opening true = 80
 opening false = 112
@@ -185,7 +185,7 @@ module _ (mode : Mode) where
   letter_read true strings name value text rest s = braced_read true strings name value text rest s
   letter_read false strings name value text rest s = braced_read false strings name value text rest s
 
-  -- A property escape that is read behind a backslash.
+  -- A property escape that is read after a backslash.
   pub record PropertyFront (negative strings : Bool) (name : List ℕ) (value : Option (List ℕ)) (n : ℕ) (w : List ℕ) : Type 0 where
     pub text : List ℕ
     pub rest : List ℕ

@@ -31,16 +31,16 @@ pub one_name : (w a r b s : List ℕ) → w ≡ a ++ r → list_all is_unicode_p
 one_name w a r b s whole all ends also_whole also = same_run is_unicode_property_name_character a r b (61 ∷ s) (sym whole ∙ also_whole) all also ends refl
 
 -- Two pairs of one text are one.
-pub record IsSamePair (name value behind other_name other_value other_behind : List ℕ) : Type 0 where
+pub record IsSamePair (name value following other_name other_value other_after : List ℕ) : Type 0 where
   pub names : name ≡ other_name
   pub values_too : value ≡ other_value
-  pub rest : behind ≡ other_behind
+  pub rest : following ≡ other_after
 
-pub one_pair : {w name value behind other_name other_value other_behind : List ℕ} → HasPair w name value behind → HasPair w other_name other_value other_behind
-    → IsSamePair name value behind other_name other_value other_behind
-one_pair {w} {name} {value} {behind} {other_name} {other_value} {other_behind} p q =
-    let n = one_name w name (61 ∷ p.behind) other_name q.behind p.whole p.of_names refl q.whole q.of_names in
-    let same : p.behind ≡ q.behind = cc (n.1) in
-    let run = subst (λ w. IsValueRun w value behind) same p.run in
+pub one_pair : {w name value following other_name other_value other_after : List ℕ} → HasPair w name value following → HasPair w other_name other_value other_after
+    → IsSamePair name value following other_name other_value other_after
+one_pair {w} {name} {value} {following} {other_name} {other_value} {other_after} p q =
+    let n = one_name w name (61 ∷ p.following) other_name q.following p.whole p.of_names refl q.whole q.of_names in
+    let same : p.following ≡ q.following = cc (n.1) in
+    let run = subst (λ w. IsValueRun w value following) same p.run in
     let v = one_run run q.run in
     record { names = n.0; values_too = v.0; rest = v.1 }

@@ -2,9 +2,10 @@
 use Rattle.std.proofs.Common.{◌≡◌, refl, sym, subst, ℕ, ◌==◌, Bool, true, false, not, Option, Some, List, ◌∷◌, ◌++◌, length, Contains, codes, inl, inr}
 use Rattle.std.proofs.lemmas.Bool.{cond_both}
 use Rattle.std.proofs.lemmas.Slice.Eq.{bytes_eq-Decides}
+use Rattle.rx_base.specs.Texts.{are_same}
 use Rattle.rx_tables.specs.Properties.{IsValidUnicodeProperty, general_category_values, script_names}
 use Rattle.rx_model.specs.declared.mode.Mode.{Mode}
-use Rattle.rx_ast.specs.Texts.{are_same, property_body}
+use Rattle.rx_ast.specs.Texts.{property_body}
 use Rattle.rx_model.specs.Properties.PropertyEscapes.{SpellsProperty, pair, category, binary, of_strings}
 use Rattle.rx_model.proofs.Properties.PropertyWords.{in_table}
 

@@ -7,31 +7,31 @@ use Rattle.rx_units.specs.declared.code_point.CodePoint.{CodePoint}
 use Rattle.rx_units.specs.Units.{values}
 use Rattle.rx_units.proofs.Choices.{chosen}
 use Rattle.rx_model.specs.FirstPass.Marks.{starts}
-use Rattle.rx_model.specs.Reading.Fronts.{digits, digits_behind, Counts, counts, no_counts, counts_at, counts_in_braces, counts_behind_comma}
-use Rattle.rx_model.specs.Quantifiers.CountsReading.{DigitsRead, fitting, passing, digits_read_at, CountsRead, counts_read, no_counts_read, many_digits, read_behind_comma, read_behind_least, read_in_braces, counts_read_at}
-use Rattle.rx_model.specs.Quantifiers.Quantifiers.{BeginsWithBraces, decimal_digit_value, decimal_behind, AreDigits, SpellsBraces, SpellsCounts, star, plus, optional, braces, PassesDecimal, PassesLimit, first, second}
+use Rattle.rx_model.specs.Reading.Fronts.{digits, digits_after, Counts, counts, no_counts, counts_at, counts_in_braces, counts_after_comma}
+use Rattle.rx_model.specs.Quantifiers.CountsReading.{DigitsRead, fitting, passing, digits_read_at, CountsRead, counts_read, no_counts_read, many_digits, read_after_comma, read_after_least, read_in_braces, counts_read_at}
+use Rattle.rx_model.specs.Quantifiers.Quantifiers.{BeginsWithBraces, decimal_digit_value, decimal_after, AreDigits, SpellsBraces, SpellsCounts, star, plus, optional, braces, PassesDecimal, PassesLimit, first, second}
 use Rattle.rx_model.specs.Refusals.Causes.{HasBraces, IsOutOfOrder, IsTooLarge}
 use Rattle.rx_model.proofs.Quantifiers.DecimalDigits.{digit_there}
 use Rattle.rx_model.proofs.Quantifiers.Quantifiers.{counts_spelled}
 
--- What is said of digits behind a number and n digits, by what they are read as: those that stand next, or the digits up to the one that
+-- What is said of digits after a number and n digits, by what they are read as: those that stand next, or the digits up to the one that
 -- passes the limit.
 pub record Fits (m count : ℕ) (w : List ℕ) (n end : ℕ) (rest : List ℕ) : Type 0 where
-  pub read : digits_behind m count w ≡ digits n end rest
+  pub read : digits_after m count w ≡ digits n end rest
   pub small : n < 2 ^ 64
   pub run : List ℕ
   pub whole : w ≡ run ++ rest
-  pub number : decimal_behind m run ≡ Some n
+  pub number : decimal_after m run ≡ Some n
   pub count_is : end ≡ count + length run
 
 pub record Passes (m count : ℕ) (w : List ℕ) (many : ℕ) : Type 0 where
   pub ahead : List ℕ
   pub next : ℕ
-  pub behind : List ℕ
-  pub whole : w ≡ ahead ++ (next ∷ behind)
+  pub following : List ℕ
+  pub whole : w ≡ ahead ++ (next ∷ following)
   pub count_is : many ≡ count + length ahead
   pub number : ℕ
-  pub number_is : decimal_behind m ahead ≡ Some number
+  pub number_is : decimal_after m ahead ≡ Some number
   pub digit_is : decimal_digit_value next ≡ Some (next - 48)
   pub fits : number < 2 ^ 64
   pub passes : 2 ^ 64 ≤ 10 * number + (next - 48)
@@ -46,17 +46,17 @@ one_more m count c w (fitting n end rest) d f = record {
   small = f.small;
   run = c ∷ f.run;
   whole = ap (λ w. c ∷ w) f.whole;
-  number = ap (option_and_then (λ y. decimal_behind (10 * m + y) f.run)) (cond-true (is_decimal_digit c) (Some (c - 48)) None d) ∙ f.number;
+  number = ap (option_and_then (λ y. decimal_after (10 * m + y) f.run)) (cond-true (is_decimal_digit c) (Some (c - 48)) None d) ∙ f.number;
   count_is = omega (arith, f.count_is);
 }
 one_more m count c w (passing many) d p = record {
   ahead = c ∷ p.ahead;
   next = p.next;
-  behind = p.behind;
+  following = p.following;
   whole = ap (λ w. c ∷ w) p.whole;
   count_is = omega (arith, p.count_is);
   number = p.number;
-  number_is = ap (option_and_then (λ y. decimal_behind (10 * m + y) p.ahead)) (cond-true (is_decimal_digit c) (Some (c - 48)) None d) ∙ p.number_is;
+  number_is = ap (option_and_then (λ y. decimal_after (10 * m + y) p.ahead)) (cond-true (is_decimal_digit c) (Some (c - 48)) None d) ∙ p.number_is;
   digit_is = p.digit_is;
   fits = p.fits;
   passes = p.passes;
@@ -77,7 +77,7 @@ digits_said m count (c ∷ w) r s h = elim (chosen (is_decimal_digit c) h) [
     | inr q ↦ subst (SaysDigits m count (c ∷ w)) q.1 (record {
       ahead = [];
       next = c;
-      behind = w;
+      following = w;
       whole = refl;
       count_is = omega arith;
       number = m;
@@ -121,20 +121,20 @@ decimal p = record {
 first_said : (v : List ℕ) (many : ℕ) → Passes 0 0 v many → PassesLimit (123 ∷ v) 1 many
 first_said v many p =
     subst (λ w. PassesLimit (123 ∷ w) 1 many) (sym p.whole)
-    (subst (PassesLimit (123 ∷ (p.ahead ++ p.next ∷ p.behind)) 1) (let l : length p.ahead ≡ many = omega (arith, p.count_is) in l) (first p.ahead p.next p.behind (decimal p)))
+    (subst (PassesLimit (123 ∷ (p.ahead ++ p.next ∷ p.following)) 1) (let l : length p.ahead ≡ many = omega (arith, p.count_is) in l) (first p.ahead p.next p.following (decimal p)))
 
 second_said : (v w : List ℕ) (n k many : ℕ) → Fits 0 0 v n (suc k) (44 ∷ w) → Passes 0 0 w many → PassesLimit (123 ∷ v) (suc k + 2) many
 second_said v w n k many f p =
-    let end : List ℕ = p.ahead ++ (p.next ∷ p.behind) in
+    let end : List ℕ = p.ahead ++ (p.next ∷ p.following) in
     let all : f.run ++ (44 ∷ end) ≡ v = sym (f.whole ∙ ap (λ x. f.run ++ (44 ∷ x)) p.whole) in
     let start : length f.run + 2 ≡ suc k + 2 = omega (arith, f.count_is) in
     let count : length p.ahead ≡ many = omega (arith, p.count_is) in
     subst (λ x. PassesLimit (123 ∷ x) (suc k + 2) many) all
     (subst (λ x. PassesLimit (123 ∷ (f.run ++ (44 ∷ end))) x many) start
     (subst (PassesLimit (123 ∷ (f.run ++ (44 ∷ end))) (length f.run + 2)) count
-    (second f.run p.ahead p.next p.behind (some_digits f.run f.number (omega (arith, f.count_is))) f.small (decimal p))))
+    (second f.run p.ahead p.next p.following (some_digits f.run f.number (omega (arith, f.count_is))) f.small (decimal p))))
   where
-    some_digits : (run : List ℕ) → decimal_behind 0 run ≡ Some n → 0 < length run → AreDigits n run
+    some_digits : (run : List ℕ) → decimal_after 0 run ≡ Some n → 0 < length run → AreDigits n run
     some_digits [] h l = absurd (omega arith)
     some_digits (d ∷ ds) h l = record {
       first = d;
@@ -143,24 +143,24 @@ second_said v w n k many f p =
       number = h;
     }
 
-comma_said : (v w : List ℕ) (n k : ℕ) → Fits 0 0 v n (suc k) (44 ∷ w) → (d : DigitsRead) → SaysDigits 0 0 w d → Says (123 ∷ v) (counts_in_braces (digits_behind 0 0 v)) (read_behind_comma n (suc k) d)
+comma_said : (v w : List ℕ) (n k : ℕ) → Fits 0 0 v n (suc k) (44 ∷ w) → (d : DigitsRead) → SaysDigits 0 0 w d → Says (123 ∷ v) (counts_in_braces (digits_after 0 0 v)) (read_after_comma n (suc k) d)
 comma_said v w n k f (passing many) p = second_said v w n k many f p
-comma_said v w n k f (fitting m more []) g = ap counts_in_braces f.read ∙ ap (counts_behind_comma n (suc k)) g.read
+comma_said v w n k f (fitting m more []) g = ap counts_in_braces f.read ∙ ap (counts_after_comma n (suc k)) g.read
 comma_said v w n k f (fitting m more (c ∷ x)) g =
-    let front = ap counts_in_braces f.read ∙ ap (counts_behind_comma n (suc k)) g.read in
-    either_said (123 ∷ v) (counts_in_braces (digits_behind 0 0 v)) (c == 125) _ _ (λ t. front ∙ cond-true (c == 125) _ _ t) (λ t. front ∙ cond-false (c == 125) _ _ t)
+    let front = ap counts_in_braces f.read ∙ ap (counts_after_comma n (suc k)) g.read in
+    either_said (123 ∷ v) (counts_in_braces (digits_after 0 0 v)) (c == 125) _ _ (λ t. front ∙ cond-true (c == 125) _ _ t) (λ t. front ∙ cond-false (c == 125) _ _ t)
 
-least_said : (v : List ℕ) (n end : ℕ) (rest : List ℕ) → Fits 0 0 v n end rest → Says (123 ∷ v) (counts_in_braces (digits_behind 0 0 v)) (read_behind_least n end rest)
+least_said : (v : List ℕ) (n end : ℕ) (rest : List ℕ) → Fits 0 0 v n end rest → Says (123 ∷ v) (counts_in_braces (digits_after 0 0 v)) (read_after_least n end rest)
 least_said v n zero rest f = ap counts_in_braces f.read
 least_said v n (suc k) [] f = ap counts_in_braces f.read
 least_said v n (suc k) (c ∷ w) f =
-    let all = counts_in_braces (digits_behind 0 0 v) in
+    let all = counts_in_braces (digits_after 0 0 v) in
     let front = ap counts_in_braces f.read in
     either_said (123 ∷ v) all (c == 125) _ _ (λ t. front ∙ cond-true (c == 125) _ _ t) (λ t. either_said (123 ∷ v) all (c == 44) _ _
     (λ s. comma_said v w n k (subst (λ c. Fits 0 0 v n (suc k) (c ∷ w)) (eqb-true c 44 s) f) (digits_read_at 0 0 w) (digits_said 0 0 w _ (omega arith) refl))
     (λ s. front ∙ cond-false (c == 125) _ _ t ∙ cond-false (c == 44) _ _ s))
 
-braces_said : (v : List ℕ) (d : DigitsRead) → SaysDigits 0 0 v d → Says (123 ∷ v) (counts_in_braces (digits_behind 0 0 v)) (read_in_braces d)
+braces_said : (v : List ℕ) (d : DigitsRead) → SaysDigits 0 0 v d → Says (123 ∷ v) (counts_in_braces (digits_after 0 0 v)) (read_in_braces d)
 braces_said v (passing many) p = first_said v many p
 braces_said v (fitting n end rest) f = least_said v n end rest f
 
@@ -190,9 +190,9 @@ pub passes_there : (w : List ℕ) (start many : ℕ) → counts_read_at w ≡ ma
 passes_there w start many h = subst (Says w (counts_at w)) h (counts_said w)
 
 -- digits only add to a number
-pub decimal_le : (m : ℕ) (ds : List ℕ) (n : ℕ) → decimal_behind m ds ≡ Some n → m ≤ n
+pub decimal_le : (m : ℕ) (ds : List ℕ) (n : ℕ) → decimal_after m ds ≡ Some n → m ≤ n
 decimal_le m [] n h = let e : m ≡ n = cc h in omega arith
-decimal_le m (c ∷ ds) n h = option_and_then_some (λ d. decimal_behind (10 * m + d) ds) (decimal_digit_value c) n h (λ d e f. let k = decimal_le (10 * m + d) ds n f in omega (arith, k))
+decimal_le m (c ∷ ds) n h = option_and_then_some (λ d. decimal_after (10 * m + d) ds) (decimal_digit_value c) n h (λ d e f. let k = decimal_le (10 * m + d) ds n f in omega (arith, k))
 
 -- a digit with which a number stays below the limit
 digit_read : (m count c : ℕ) (w : List ℕ) (d : ℕ) → decimal_digit_value c ≡ Some d → 10 * m + d < 2 ^ 64 → digits_read_at m count (c ∷ w) ≡ digits_read_at (10 * m + d) (count + 1) w
@@ -200,12 +200,12 @@ digit_read m count c w d e l =
     let t = digit_there c d e in
     cond-true (is_decimal_digit c) _ _ t.0 ∙ cond-true (nat_lt (10 * m + (c - 48)) (2 ^ 64)) _ _ (lt-ltb _ _ (omega (arith, l, t.1))) ∙ ap (λ d. digits_read_at (10 * m + d) (count + 1) w) t.1
 
-run_read : (m count : ℕ) (ds rest : List ℕ) (n : ℕ) → decimal_behind m ds ≡ Some n → n < 2 ^ 64 → digits_read_at m count (ds ++ rest) ≡ digits_read_at n (count + length ds) rest
+run_read : (m count : ℕ) (ds rest : List ℕ) (n : ℕ) → decimal_after m ds ≡ Some n → n < 2 ^ 64 → digits_read_at m count (ds ++ rest) ≡ digits_read_at n (count + length ds) rest
 run_read m count [] rest n h l =
     let same : m ≡ n = cc h in
     ap (λ m. digits_read_at m count rest) same ∙ ap (λ k. digits_read_at n k rest) (omega arith)
 run_read m count (c ∷ ds) rest n h l =
-    option_and_then_some (λ d. decimal_behind (10 * m + d) ds) (decimal_digit_value c) n h (λ d e f.
+    option_and_then_some (λ d. decimal_after (10 * m + d) ds) (decimal_digit_value c) n h (λ d e f.
     let k = decimal_le (10 * m + d) ds n f in
     digit_read m count c (ds ++ rest) d e (omega (arith, k, l)) ∙ run_read (10 * m + d) (count + 1) ds rest n f l ∙ ap (λ k. digits_read_at n k rest) (omega arith))
 
@@ -225,8 +225,8 @@ limit_read _ _ _ (second {n} ds es next rest a small p) =
     let more : List ℕ = es ++ (next ∷ rest) in
     let some : 0 + length ds ≡ suc (length a.more) = omega (arith, ap length a.some) in
     ap read_in_braces (run_read 0 0 ds (44 ∷ more) n a.number small)
-    ∙ ap (λ k. read_behind_least n k (44 ∷ more)) some
-    ∙ ap (read_behind_comma n (suc (length a.more))) (passing_read es next rest p)
+    ∙ ap (λ k. read_after_least n k (44 ∷ more)) some
+    ∙ ap (read_after_comma n (suc (length a.more))) (passing_read es next rest p)
     ∙ ap (λ k. many_digits k (length es)) (omega (arith, some))
 
 -- The digits up to where the limit is passed stay within the text.
@@ -270,7 +270,7 @@ pub refused_braces : (us : List CodePoint) (min : ℕ) (max : Option ℕ) (n : �
 refused_braces us min max n h bad =
     let f = counts_spelled min max n (values us) (counts_there (values us) min max n h) in record {
       prefix = f.prefix;
-      behind = f.rest;
+      following = f.rest;
       spelled = in_braces min max f.prefix f.spelled bad;
       whole = f.whole;
       count_is = sym f.count;

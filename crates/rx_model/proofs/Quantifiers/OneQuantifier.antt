@@ -31,7 +31,7 @@ same_limit v w start count from many p q same =
     let e : many_digits start count ≡ many_digits from many = sym (limit_read v start count p) ∙ ap counts_read_at same ∙ limit_read w from many q in
     (cc e, cc e)
 
--- the refusal of a quantifier that has nothing to stand behind, with `u` or `v` or with neither
+-- the refusal of a quantifier that has nothing to stand after, with `u` or `v` or with neither
 abbrev pub lone_refusal : Bool → Span → Diagnostic
 lone_refusal true span = LoneQuantifier span
 lone_refusal false span = InvalidBracedQuantifier span
@@ -58,7 +58,7 @@ module _ (mode : Mode) (rules : Rules) (us : List CodePoint) (start added : ℕ)
   same_braces : {min other : ℕ} {max also : Option ℕ} {count many : ℕ} (rest : List CodePoint) → HasBraces min max count rest → HasBraces other also many rest → AreSame min other max also count many
   same_braces {min} {other} {max} {also} {count} {many} rest h k =
       let same : counts min max (length h.prefix) ≡ counts other also (length k.prefix) =
-      sym (ap counts_at h.whole ∙ spelled_counts min max h.prefix h.behind (braces h.spelled)) ∙ ap counts_at k.whole ∙ spelled_counts other also k.prefix k.behind (braces k.spelled) in
+      sym (ap counts_at h.whole ∙ spelled_counts min max h.prefix h.following (braces h.spelled)) ∙ ap counts_at k.whole ∙ spelled_counts other also k.prefix k.following (braces k.spelled) in
       let lengths : length h.prefix ≡ length k.prefix = cc same in
       record { least_is = cc same; greatest_is = cc same; count_is = h.count_is ∙ lengths ∙ sym k.count_is }
 

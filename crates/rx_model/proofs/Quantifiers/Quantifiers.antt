@@ -5,16 +5,16 @@ use Rattle.std.proofs.lemmas.Option.{option_and_then_some}
 use Rattle.rx_tables.specs.Characters.{is_decimal_digit}
 use Rattle.rx_units.specs.Digits.{front_is}
 use Rattle.rx_units.proofs.Choices.{chosen}
-use Rattle.rx_model.specs.Reading.Fronts.{Digits, digits, digits_behind, counts, no_counts, greatest_of, counts_behind_comma, counts_in_braces, counts_at}
-use Rattle.rx_model.specs.Quantifiers.Quantifiers.{decimal_digit_value, decimal_behind, AreDigits, SpellsBraces, exactly, at_least, between, SpellsCounts, star, plus, optional, braces, BeginsWithBraces}
+use Rattle.rx_model.specs.Reading.Fronts.{Digits, digits, digits_after, counts, no_counts, greatest_of, counts_after_comma, counts_in_braces, counts_at}
+use Rattle.rx_model.specs.Quantifiers.Quantifiers.{decimal_digit_value, decimal_after, AreDigits, SpellsBraces, exactly, at_least, between, SpellsCounts, star, plus, optional, braces, BeginsWithBraces}
 use Rattle.rx_model.proofs.Quantifiers.DecimalDigits.{digit_there, some_length}
 
 -- digits are read to their end
-pub digits_read : (m count : ℕ) (ds rest : List ℕ) (n : ℕ) → decimal_behind m ds ≡ Some n → front_is is_decimal_digit rest ≡ false → digits_behind m count (ds ++ rest) ≡ digits n (count + length ds) rest
+pub digits_read : (m count : ℕ) (ds rest : List ℕ) (n : ℕ) → decimal_after m ds ≡ Some n → front_is is_decimal_digit rest ≡ false → digits_after m count (ds ++ rest) ≡ digits n (count + length ds) rest
 digits_read m count [] [] n h k = let same : m ≡ n = cc h in rw same (ap (λ c. digits n c []) (omega arith))
 digits_read m count [] (c ∷ rest) n h k = let same : m ≡ n = cc h in rw (same, k) (ap (λ x. digits n x (c ∷ rest)) (omega arith))
 digits_read m count (c ∷ ds) rest n h k =
-    option_and_then_some (λ d. decimal_behind (10 * m + d) ds) (decimal_digit_value c) n h (λ d e f.
+    option_and_then_some (λ d. decimal_after (10 * m + d) ds) (decimal_digit_value c) n h (λ d e f.
     let t = digit_there c d e in
     cond-true (is_decimal_digit c) _ _ t.0
     ∙ digits_read (10 * m + (c - 48)) (count + 1) ds rest n (rw t.1 f) k
@@ -24,7 +24,7 @@ digits_read m count (c ∷ ds) rest n h k =
 pub record DigitRun (m count : ℕ) (w : List ℕ) (n end : ℕ) (rest : List ℕ) : Type 0 where
   pub run : List ℕ
   pub whole : w ≡ run ++ rest
-  pub number : decimal_behind m run ≡ Some n
+  pub number : decimal_after m run ≡ Some n
   pub count_is : end ≡ count + length run
   pub ended : front_is is_decimal_digit rest ≡ false
 
@@ -39,20 +39,20 @@ no_run {m} {count} {w} {n} {end} {rest} h k =
       ended = subst (λ w. front_is is_decimal_digit w ≡ false) same k;
     }
 
-pub digits_found : (m count : ℕ) (w : List ℕ) (n end : ℕ) (rest : List ℕ) → digits_behind m count w ≡ digits n end rest → DigitRun m count w n end rest
+pub digits_found : (m count : ℕ) (w : List ℕ) (n end : ℕ) (rest : List ℕ) → digits_after m count w ≡ digits n end rest → DigitRun m count w n end rest
 digits_found m count [] n end rest h = no_run h refl
 digits_found m count (c ∷ w) n end rest h = elim (chosen (is_decimal_digit c) h) [
   | inl p ↦ let r = digits_found (10 * m + (c - 48)) (count + 1) w n end rest p.1 in record {
     run = c ∷ r.run;
     whole = ap (λ w. c ∷ w) r.whole;
-    number = ap (option_and_then (λ d. decimal_behind (10 * m + d) r.run)) (cond-true (is_decimal_digit c) (Some (c - 48)) None p.0) ∙ r.number;
+    number = ap (option_and_then (λ d. decimal_after (10 * m + d) r.run)) (cond-true (is_decimal_digit c) (Some (c - 48)) None p.0) ∙ r.number;
     count_is = omega (arith, r.count_is);
     ended = r.ended;
   }
   | inr p ↦ no_run p.1 p.0
 ]
 
--- digits behind `{`
+-- digits after `{`
 braces_read : (n : ℕ) (ds rest : List ℕ) → AreDigits n ds → front_is is_decimal_digit rest ≡ false → counts_at (123 ∷ (ds ++ rest)) ≡ counts_in_braces (digits n (length ds) rest)
 unfolding counts_at
 braces_read n ds rest a k = ap counts_in_braces (digits_read 0 0 ds rest n a.number k ∙ ap (λ c. digits n c rest) (omega arith))
@@ -75,7 +75,7 @@ spelled_braces _ _ _ rest (between {n} {m} ds es a b) =
     ap (λ w. counts_at (123 ∷ w)) (append_assoc ds (44 ∷ (es ++ (125 ∷ []))) rest)
     ∙ braces_read n ds (44 ∷ ((es ++ (125 ∷ [])) ++ rest)) a refl
     ∙ ap (λ c. counts_in_braces (digits n c (44 ∷ ((es ++ (125 ∷ [])) ++ rest)))) l.1
-    ∙ ap (counts_behind_comma n (suc l.0)) (ap (digits_behind 0 0) (append_assoc es (125 ∷ []) rest) ∙ digits_read 0 0 es (125 ∷ rest) m b.number refl ∙ ap (λ c. digits m c (125 ∷ rest)) (let z : 0 + length es ≡ suc k.0 = omega (arith, k.1) in z))
+    ∙ ap (counts_after_comma n (suc l.0)) (ap (digits_after 0 0) (append_assoc es (125 ∷ []) rest) ∙ digits_read 0 0 es (125 ∷ rest) m b.number refl ∙ ap (λ c. digits m c (125 ∷ rest)) (let z : 0 + length es ≡ suc k.0 = omega (arith, k.1) in z))
     ∙ ap (counts n (Some m)) (omega (arith, e, l.1, k.1))
 
 -- spelled → read
@@ -111,7 +111,7 @@ front_of {low} {min} {high} {max} {m} {n} w rest s l h =
       count = l ∙ (let f : m ≡ n = cc h in f);
     }
 
-are_digits : (n k : ℕ) (run : List ℕ) → decimal_behind 0 run ≡ Some n → suc k ≡ 0 + length run → AreDigits n run
+are_digits : (n k : ℕ) (run : List ℕ) → decimal_after 0 run ≡ Some n → suc k ≡ 0 + length run → AreDigits n run
 are_digits n k [] h l = absurd (omega (arith, l))
 are_digits n k (d ∷ ds) h l = record {
   first = d;
@@ -121,7 +121,7 @@ are_digits n k (d ∷ ds) h l = record {
 }
 
 -- digits, a comma, digits or none, and `}`
-second_found : (min : ℕ) (max : Option ℕ) (end n : ℕ) (ds : List ℕ) (m : ℕ) (run v : List ℕ) → AreDigits n ds → decimal_behind 0 run ≡ Some m →
+second_found : (min : ℕ) (max : Option ℕ) (end n : ℕ) (ds : List ℕ) (m : ℕ) (run v : List ℕ) → AreDigits n ds → decimal_after 0 run ≡ Some m →
     counts n (greatest_of (length run) m) (length ds + length run + 3) ≡ counts min max end → CountsFront min max end (123 ∷ (ds ++ (44 ∷ (run ++ (125 ∷ v)))))
 second_found min max end n ds m [] v a b h =
     subst (λ w. CountsFront min max end (123 ∷ w)) (append_assoc ds (44 ∷ 125 ∷ []) v)
@@ -132,8 +132,8 @@ second_found min max end n ds m (y ∷ ys) v a b h =
     subst (λ w. CountsFront min max end (123 ∷ w)) (append_assoc ds (44 ∷ (es ++ (125 ∷ []))) v ∙ ap (λ w. ds ++ (44 ∷ w)) (append_assoc es (125 ∷ []) v))
     (front_of (123 ∷ (ds ++ (44 ∷ (es ++ (125 ∷ []))))) v (braces (between ds es a d)) (omega (arith, length-append ds (44 ∷ (es ++ (125 ∷ []))), length-append es (125 ∷ []))) h)
 
-comma_found : (min : ℕ) (max : Option ℕ) (end n count : ℕ) (ds w : List ℕ) → AreDigits n ds → count ≡ length ds → (d : Digits) → digits_behind 0 0 w ≡ d →
-    counts_behind_comma n count d ≡ counts min max end → CountsFront min max end (123 ∷ (ds ++ (44 ∷ w)))
+comma_found : (min : ℕ) (max : Option ℕ) (end n count : ℕ) (ds w : List ℕ) → AreDigits n ds → count ≡ length ds → (d : Digits) → digits_after 0 0 w ≡ d →
+    counts_after_comma n count d ≡ counts min max end → CountsFront min max end (123 ∷ (ds ++ (44 ∷ w)))
 comma_found min max end n count ds w a l (digits m more []) e h = absurd (let k : ⊥ = cc h in k)
 comma_found min max end n count ds w a l (digits m more (x ∷ v)) e h = elim (chosen (x == 125) h) [
   | inl p ↦
@@ -144,7 +144,7 @@ comma_found min max end n count ds w a l (digits m more (x ∷ v)) e h = elim (c
   | inr p ↦ absurd (let k : ⊥ = cc p.1 in k)
 ]
 
-braces_found : (min : ℕ) (max : Option ℕ) (end : ℕ) (w : List ℕ) (d : Digits) → digits_behind 0 0 w ≡ d → counts_in_braces d ≡ counts min max end → CountsFront min max end (123 ∷ w)
+braces_found : (min : ℕ) (max : Option ℕ) (end : ℕ) (w : List ℕ) (d : Digits) → digits_after 0 0 w ≡ d → counts_in_braces d ≡ counts min max end → CountsFront min max end (123 ∷ w)
 braces_found min max end w (digits n zero v) e h = absurd (let k : ⊥ = cc h in k)
 braces_found min max end w (digits n (suc more) []) e h = absurd (let k : ⊥ = cc h in k)
 braces_found min max end w (digits n (suc more) (x ∷ v)) e h =
@@ -157,7 +157,7 @@ braces_found min max end w (digits n (suc more) (x ∷ v)) e h =
       | inr p ↦ elim (chosen (x == 44) p.1) [
         | inl q ↦
             subst (λ w. CountsFront min max end (123 ∷ w)) (ap (λ x. r.run ++ (x ∷ v)) (sym (eqb-true x 44 q.0)) ∙ sym r.whole)
-            (comma_found min max end n (suc more) r.run v a (omega (arith, r.count_is)) (digits_behind 0 0 v) refl q.1)
+            (comma_found min max end n (suc more) r.run v a (omega (arith, r.count_is)) (digits_after 0 0 v) refl q.1)
         | inr q ↦ absurd (let k : ⊥ = cc q.1 in k)
       ]
     ]
@@ -177,7 +177,7 @@ counts_spelled min max n (c ∷ w) h = elim (chosen (c == 42) h) [
     | inr q ↦ elim (chosen (c == 63) q.1) [
       | inl r ↦ at_character c 63 w r.0 (front_of (63 ∷ []) w optional refl r.1)
       | inr r ↦ elim (chosen (c == 123) r.1) [
-        | inl s ↦ at_character c 123 w s.0 (braces_found min max n w (digits_behind 0 0 w) refl s.1)
+        | inl s ↦ at_character c 123 w s.0 (braces_found min max n w (digits_after 0 0 w) refl s.1)
         | inr s ↦ absurd (let k : ⊥ = cc s.1 in k)
       ]
     ]

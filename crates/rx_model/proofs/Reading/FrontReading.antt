@@ -2,14 +2,14 @@
 use Rattle.std.proofs.Common.{All, ◌≡◌, refl, sym, ap, ◌∙◌, subst, ℕ, ◌+◌, ◌-◌, ◌*◌, ◌<◌, ◌≤◌, Bool, true, false, not, ◌==◌, ◌&&◌, ◌||◌, ◌⊎◌, cond, nat_le, nat_lt, Option, Some, None, List, [], ◌∷◌, drop, codes, arith, inl, inr}
 use Rattle.std.proofs.lemmas.Bool.{cases_Bool, cond-true, cond-false, cond_both, and_from, and_parts, both_ways, eq-eqb, eqb-true, le-leb, lt-ltb, ltb-true, ltb-false, or_cases, or_from, or_left, or_right, or_parts, true≢false}
 use Rattle.std.proofs.lemmas.Bool.Decides.{nat_tests}
-use Rattle.rx_tables.specs.Characters.{is_decimal_digit, is_syntax_character, is_within}
+use Rattle.rx_base.specs.Characters.{is_within, is_one_of}
+use Rattle.rx_tables.specs.Characters.{is_decimal_digit, is_syntax_character}
 use Rattle.rx_ast.specs.declared.leaf.BoundaryAssertionKind.{BoundaryAssertionKind}
 use Rattle.rx_ast.specs.declared.leaf.CharacterClassEscapeKind.{CharacterClassEscapeKind}
 use Rattle.rx_units.specs.declared.code_point.CodePoint.{CodePoint}
 use Rattle.rx_units.specs.Units.{values}
-use Rattle.rx_units.specs.Digits.{front_is}
+use Rattle.rx_units.specs.Digits.{front_is, PassesHex}
 use Rattle.rx_units.proofs.Choices.{chosen}
-use Rattle.rx_model.specs.Characters.UnicodeEscapes.{PassesHex}
 use Rattle.rx_model.specs.FirstPass.Marks.{starts}
 use Rattle.rx_model.specs.Groups.GroupFronts.{angle_group, group_front, modified_group, name_front, named_group, question_group, reference_front, sides_at}
 use Rattle.rx_model.specs.Groups.Groups.{BeginsName, is_mark, looks, of_group, of_reference}
@@ -22,10 +22,10 @@ use Rattle.rx_model.specs.Properties.PropertyForms.{begins_property}
 use Rattle.rx_model.specs.Quantifiers.CountsReading.{CountsRead, counts_read, no_counts_read, many_digits, counts_read_at}
 use Rattle.rx_model.specs.Quantifiers.Quantifiers.{BeginsWithBraces, PassesLimit, is_question}
 use Rattle.rx_model.specs.Reading.FrontReading.{FrontHalt, ends_here, last_backslash, out_of_order, too_large, many_decimal_digits, many_hex_digits, no_unicode_escape, in_name, no_angle, no_such_group, in_modifiers, FrontRead, token_read, property_begins, class_begins, halted, with_name, modified_read, angle_read, question_read, group_read, indexed_read, reference_read, one_of_escapes, backslash_read, are_out_of_order, are_too_large, quantifier_read, front_read}
-use Rattle.rx_model.specs.Reading.Fronts.{EscapeRead, escaped, nothing, too_many, no_unicode, escape_at, any_escape_at, boundary_at, class_escape_at, backslash_front, backslash_token, Digits, digits, digits_behind, indexed_token, named_token, opener_token, Counts, counts, no_counts, are_counts, counts_at, quantifier_token, is_raw_at, is_reference, front}
+use Rattle.rx_model.specs.Reading.Fronts.{EscapeRead, escaped, nothing, too_many, no_unicode, escape_at, any_escape_at, boundary_at, class_escape_at, backslash_front, backslash_token, Digits, digits, digits_after, indexed_token, named_token, opener_token, Counts, counts, no_counts, are_counts, counts_at, quantifier_token, is_raw_at, is_reference, front}
 use Rattle.rx_model.specs.Reading.Rows.{is_legacy_syntax, stands_raw}
 use Rattle.rx_model.specs.Refusals.Causes.{HasBraces, IsOutOfOrder, IsTooLarge}
-use Rattle.rx_model.specs.Refusals.Stops.{IsStop, begins_escape, at_end, at_bracket, at_brace, behind_backslash, is_one_of}
+use Rattle.rx_model.specs.Refusals.Stops.{IsStop, begins_escape, at_end, at_bracket, at_brace, after_backslash}
 use Rattle.rx_model.specs.Trees.Early.{Obeys, greatest_count}
 use Rattle.rx_model.specs.Trees.Token.{Token, Opener, property, class, indexed, named, opener, quantifier, capturing}
 use Rattle.rx_model.proofs.Characters.Choices.{choose_both}
@@ -34,6 +34,7 @@ use Rattle.rx_model.proofs.Characters.LegacyEscapes.{any_in_unicode, any_small}
 use Rattle.rx_model.proofs.Groups.GroupNames.{differs}
 use Rattle.rx_model.proofs.Groups.ModifierFronts.{AreWrong, SaysModifiers, modifiers_said}
 use Rattle.rx_model.proofs.Groups.NameFronts.{SaysNameHalt, name_there, names_said, SaysName}
+use Rattle.rx_model.proofs.Groups.GroupFronts.{mark_is}
 use Rattle.rx_model.proofs.Quantifiers.CountsReading.{counts_there, limit_braces, none_in_limit, none_there, passes_there, refused_braces}
 use Rattle.rx_model.proofs.Quantifiers.DecimalDigits.{digits_le}
 use Rattle.rx_model.proofs.Quantifiers.Quantifiers.{no_braces}
@@ -52,12 +53,12 @@ SaysHalt e us o last_backslash = (is_unicode e.mode ≡ false) × (backslash : C
 SaysHalt e us o (out_of_order n) = StandBraces IsOutOfOrder n us
 SaysHalt e us o (too_large n) = StandBraces (λ min max. (IsOutOfOrder min max → ⊥) × IsTooLarge min max) n us
 SaysHalt e us o (many_decimal_digits start many) = PassesLimit (values us) start many × (is_unicode e.mode ≡ false → BeginsWithBraces (values us))
-SaysHalt e us o (many_hex_digits many) = (is_unicode e.mode ≡ true) × (behind : List ℕ) × (values us ≡ 92 ∷ behind) × PassesHex behind many
-SaysHalt e us o no_unicode_escape = (is_unicode e.mode ≡ true) × (behind : List ℕ) × (values us ≡ 92 ∷ behind) × NoUnicode behind
-SaysHalt e us o (in_name it) = (behind : List ℕ) × BeginsName e (values us) behind × SaysNameHalt (is_unicode e.mode) behind it
-SaysHalt e us o no_angle = (behind : List ℕ) × (values us ≡ 92 ∷ 107 ∷ behind) × (starts 60 behind ≡ false) × (e.named ≡ true)
+SaysHalt e us o (many_hex_digits many) = (is_unicode e.mode ≡ true) × (following : List ℕ) × (values us ≡ 92 ∷ following) × PassesHex following many
+SaysHalt e us o no_unicode_escape = (is_unicode e.mode ≡ true) × (following : List ℕ) × (values us ≡ 92 ∷ following) × NoUnicode following
+SaysHalt e us o (in_name it) = (following : List ℕ) × BeginsName e (values us) following × SaysNameHalt (is_unicode e.mode) following it
+SaysHalt e us o no_angle = (following : List ℕ) × (values us ≡ 92 ∷ 107 ∷ following) × (starts 60 following ≡ false) × (e.named ≡ true)
 SaysHalt e us o (no_such_group n) = (k : ℕ) × (o ≡ Some (indexed k, n)) × (e.groups < k)
-SaysHalt e us o (in_modifiers it n) = (behind : List ℕ) × (values us ≡ 40 ∷ 63 ∷ behind) × AreWrong behind n it
+SaysHalt e us o (in_modifiers it n) = (following : List ℕ) × (values us ≡ 40 ∷ 63 ∷ following) × AreWrong following n it
 
 -- what a token owes but for names
 abbrev pub ObeysAlone : Environment → Token → Type 0
@@ -69,12 +70,12 @@ ObeysAlone e t = (names : List (List ℕ)) → Obeys e.groups names t
 -- A reading, by what `front` says, of code points.
 abbrev pub Says : Environment → List CodePoint → Option (Token × ℕ) → FrontRead → Type 0
 Says e us o (token_read t n) = (o ≡ Some (t, n)) × (All (λ (u : CodePoint). u.value ≤ 0x10FFFF) us → ObeysAlone e t)
-Says e us o property_begins = (letter : ℕ) × (behind : List ℕ) × (values us ≡ 92 ∷ letter ∷ behind) × ((begins_property letter && is_unicode e.mode) ≡ true)
+Says e us o property_begins = (letter : ℕ) × (following : List ℕ) × (values us ≡ 92 ∷ letter ∷ following) × ((begins_property letter && is_unicode e.mode) ≡ true)
 Says e us o class_begins = starts 91 (values us) ≡ true
 Says e us o (halted it) = SaysHalt e us o it
 
 -- a number whose first digit is not 0
-index_some : (c : ℕ) (w : List ℕ) (n count : ℕ) (rest : List ℕ) → is_within 49 57 c ≡ true → digits_behind 0 0 (c ∷ w) ≡ digits n count rest → 1 ≤ n
+index_some : (c : ℕ) (w : List ℕ) (n count : ℕ) (rest : List ℕ) → is_within 49 57 c ≡ true → digits_after 0 0 (c ∷ w) ≡ digits n count rest → 1 ≤ n
 index_some c w n count rest h k =
     let low : 49 ≤ c = grind (arith, nat_tests) in
     let digit : is_decimal_digit c ≡ true = grind (arith, nat_tests) in
@@ -224,16 +225,16 @@ module _ (e : Environment) (allowed : is_unicode e.mode ≡ true → e.named ≡
           (λ t. (read ∙ cond-false (starts 63 (drop n w)) _ _ t, λ _ names. counts_obey e.groups names min max true order large))))
 
   module _ (all : List CodePoint) where
-    -- a name behind three units
+    -- a name after three units
     name_said : (make : List ℕ → Token) (token : Option (List ℕ × ℕ) → Option (Token × ℕ)) → ((name : List ℕ) (n : ℕ) → token (Some (name, n + 1)) ≡ Some (make name, n + 4)) → ((name : List ℕ) → ObeysAlone e (make name))
-        → (behind : List ℕ) → BeginsName e (values all) behind → Says e all (token (name_front (is_unicode e.mode) behind)) (with_name make (name_read_at (is_unicode e.mode) behind))
-    name_said make token made obeys behind begins = go (name_read_at (is_unicode e.mode) behind) refl
+        → (following : List ℕ) → BeginsName e (values all) following → Says e all (token (name_front (is_unicode e.mode) following)) (with_name make (name_read_at (is_unicode e.mode) following))
+    name_said make token made obeys following begins = go (name_read_at (is_unicode e.mode) following) refl
       where
-        go : (r : NameRead) → name_read_at (is_unicode e.mode) behind ≡ r → Says e all (token (name_front (is_unicode e.mode) behind)) (with_name make r)
-        go (name_read name n) h = (ap token (name_there (is_unicode e.mode) behind name n h) ∙ made name n, λ _. obeys name)
-        go (no_name_read it) h = (behind, begins, subst (SaysName (is_unicode e.mode) behind) h (names_said (is_unicode e.mode) behind))
+        go : (r : NameRead) → name_read_at (is_unicode e.mode) following ≡ r → Says e all (token (name_front (is_unicode e.mode) following)) (with_name make r)
+        go (name_read name n) h = (ap token (name_there (is_unicode e.mode) following name n h) ∙ made name n, λ _. obeys name)
+        go (no_name_read it) h = (following, begins, subst (SaysName (is_unicode e.mode) following) h (names_said (is_unicode e.mode) following))
 
-    -- behind `(?<`
+    -- after `(?<`
     angle_said : (w : List ℕ) → values all ≡ 40 ∷ 63 ∷ 60 ∷ w → Says e all (opener_token (angle_group (is_unicode e.mode) w)) (angle_read (is_unicode e.mode) w)
     angle_said w whole = go w whole
       where
@@ -251,7 +252,7 @@ module _ (e : Environment) (allowed : is_unicode e.mode ≡ true → e.named ≡
             choose_both P (c == 61) _ _ _ _ (λ t. (refl, λ _ names. tt)) (λ equal. choose_both P (c == 33) _ _ _ _ (λ t. (refl, λ _ names. tt)) (λ mark.
             named_said (c ∷ v) whole (or_from (c == 61) (c == 33) equal mark)))
 
-    -- modifiers behind `(?`
+    -- modifiers after `(?`
     modified_said : (w : List ℕ) → values all ≡ 40 ∷ 63 ∷ w → front_is is_mark w ≡ false → Says e all (opener_token (modified_group (sides_at w) w)) (modified_read (modifiers_read_at w))
     modified_said w whole other = go (modifiers_read_at w) (modifiers_said w other)
       where
@@ -259,7 +260,7 @@ module _ (e : Environment) (allowed : is_unicode e.mode ≡ true → e.named ≡
         go (modifiers_read a b n) s = (ap opener_token s.0, λ _ names. (s.1, s.2))
         go (no_modifiers_read it n) s = (w, whole, s)
 
-    -- behind `(`
+    -- after `(`
     group_said : (w : List ℕ) → values all ≡ 40 ∷ w → Says e all (opener_token (group_front (is_unicode e.mode) w)) (group_read (is_unicode e.mode) w)
     unfolding group_front
     group_said [] whole = (refl, λ _ names. tt)
@@ -274,9 +275,9 @@ module _ (e : Environment) (allowed : is_unicode e.mode ≡ true → e.named ≡
         question (c ∷ w) whole =
             choose_both P (c == 58) _ _ _ _ (λ t. (refl, λ _ names. tt)) (λ colon. choose_both P (c == 61) _ _ _ _ (λ t. (refl, λ _ names. tt)) (λ equal.
             choose_both P (c == 33) _ _ _ _ (λ t. (refl, λ _ names. tt)) (λ mark. choose_both P (c == 60) _ _ _ _ (λ t. angle_said w (whole ∙ ap (λ c. 40 ∷ 63 ∷ c ∷ w) (eqb-true c 60 t)))
-            (λ angle. modified_said (c ∷ w) whole (or_from (c == 58 || c == 61 || c == 33) (c == 60) (or_from (c == 58 || c == 61) (c == 33) (or_from (c == 58) (c == 61) colon equal) mark) angle)))))
+            (λ angle. modified_said (c ∷ w) whole (mark_is c ∙ or_from (c == 58 || c == 61 || c == 33) (c == 60) (or_from (c == 58 || c == 61) (c == 33) (or_from (c == 58) (c == 61) colon equal) mark) angle)))))
 
-    -- behind `\k`
+    -- after `\k`
     reference_said : e.named ≡ true → (w : List ℕ) → values all ≡ 92 ∷ 107 ∷ w → Says e all (named_token (reference_front (is_unicode e.mode) w)) (reference_read (is_unicode e.mode) w)
     unfolding reference_front
     reference_said there [] whole = ([], whole, refl, there)
@@ -287,12 +288,12 @@ module _ (e : Environment) (allowed : is_unicode e.mode ≡ true → e.named ≡
         (λ t. (c ∷ w, whole, t, there))
 
     -- a reference by number
-    indexed_said : (c : ℕ) (w : List ℕ) → is_within 49 57 c ≡ true → (d : Digits) → digits_behind 0 0 (c ∷ w) ≡ d → Says e all (indexed_token d) (indexed_read e.groups d)
+    indexed_said : (c : ℕ) (w : List ℕ) → is_within 49 57 c ≡ true → (d : Digits) → digits_after 0 0 (c ∷ w) ≡ d → Says e all (indexed_token d) (indexed_read e.groups d)
     indexed_said c w first (digits n count rest) h =
         cond_both (nat_lt e.groups n) (halted (no_such_group (count + 1))) (token_read (indexed n) (count + 1)) (Says e all (Some (indexed n, count + 1)))
         (λ t. (n, refl, ltb-true e.groups n t)) (λ t. (refl, λ _ names. (index_some c w n count rest first h, ltb-false e.groups n t)))
 
-  -- a character escape behind a backslash, or none
+  -- a character escape after a backslash, or none
   escape_said : (u : CodePoint) (us : List CodePoint) → u.value ≡ 92 → (c : ℕ) (w : List ℕ) → values us ≡ c ∷ w → (is_unicode e.mode ≡ true → (is_within 49 57 c || c == 107 || begins_property c) ≡ false)
       → (c == 107 && e.named) ≡ false → (b : Option BoundaryAssertionKind) → boundary_at e c ≡ b → (k : Option CharacterClassEscapeKind) → class_escape_at c ≡ k → (r : EscapeRead) → any_escape_at false e (c ∷ w) ≡ r
       → backslash_front e (c ∷ w) ≡ backslash_token b k r → Says e (u ∷ us) (backslash_token b k r) (one_of_escapes b k r)
@@ -321,21 +322,21 @@ module _ (e : Environment) (allowed : is_unicode e.mode ≡ true → e.named ≡
       go nothing read front =
           let unicode = unicode_alone front in
           let stops = stop_backslash e (c ∷ w) unicode front (none_first c (free unicode) (escape_nothing (c ∷ w) (read_true unicode nothing read))) in
-          (subst (λ v. IsStop e (u ∷ us) 1) v (behind_backslash unicode h (ap (begins_escape e) v ∙ stops)), differs (λ c. c == 92) u.value 41 refl (eq-eqb u.value 92 h))
+          (subst (λ v. IsStop e (u ∷ us) 1) v (after_backslash unicode h (ap (begins_escape e) v ∙ stops)), differs (λ c. c == 92) u.value 41 refl (eq-eqb u.value 92 h))
       go (too_many n) read front = let unicode = unicode_alone front in (unicode, c ∷ w, whole, escape_too_many (c ∷ w) n (read_true unicode (too_many n) read))
       go no_unicode read front = let unicode = unicode_alone front in (unicode, c ∷ w, whole, escape_no_unicode (c ∷ w) (read_true unicode no_unicode read))
 
-  -- behind a backslash
+  -- after a backslash
   backslash_said : (u : CodePoint) (us : List CodePoint) → u.value ≡ 92 → (w : List ℕ) → values us ≡ w → Says e (u ∷ us) (backslash_front e w) (backslash_read e w)
   unfolding backslash_front
   backslash_said u us h [] v =
       cond_both (is_unicode e.mode) (ends_here 1) last_backslash (λ it. Says e (u ∷ us) None (halted it))
-      (λ unicode. (behind_backslash unicode h (ap (begins_escape e) v), differs (λ c. c == 92) u.value 41 refl (eq-eqb u.value 92 h)))
+      (λ unicode. (after_backslash unicode h (ap (begins_escape e) v), differs (λ c. c == 92) u.value 41 refl (eq-eqb u.value 92 h)))
       (λ legacy. (legacy, u, ap (λ us. u ∷ us) (no_units us v), h))
   backslash_said u us h (c ∷ w) v =
       let whole : values (u ∷ us) ≡ 92 ∷ c ∷ w = ap (λ x. x ∷ values us) h ∙ ap (λ v. 92 ∷ v) v in
       choose_both (Says e (u ∷ us)) (is_reference e (c ∷ w)) _ _ _ _
-      (λ t. indexed_said (u ∷ us) c w (and_parts (is_within 49 57 c) _ t).0 (digits_behind 0 0 (c ∷ w)) refl)
+      (λ t. indexed_said (u ∷ us) c w (and_parts (is_within 49 57 c) _ t).0 (digits_after 0 0 (c ∷ w)) refl)
       (λ index. choose_both (Says e (u ∷ us)) (c == 107 && e.named) _ _ _ _
       (λ t. let p = and_parts (c == 107) e.named t in reference_said (u ∷ us) p.1 w (whole ∙ ap (λ c. 92 ∷ c ∷ w) (eqb-true c 107 p.0)))
       (λ no_k. choose_both (Says e (u ∷ us)) (begins_property c && is_unicode e.mode) _ _ _ _

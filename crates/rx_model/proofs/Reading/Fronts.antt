@@ -5,7 +5,8 @@ use Rattle.std.proofs.lemmas.Bool.{eqb-true, cond-true, cond-false, cases_Bool, 
 use Rattle.std.proofs.lemmas.Bool.Decides.{nat_tests}
 use Rattle.std.proofs.lemmas.List.{append-nil, length-map, map-append}
 use Rattle.std.proofs.Math.Bool.{and-false}
-use Rattle.rx_tables.specs.Characters.{is_syntax_character, is_within}
+use Rattle.rx_base.specs.Characters.{is_within}
+use Rattle.rx_tables.specs.Characters.{is_syntax_character}
 use Rattle.rx_ast.specs.declared.leaf.BoundaryAssertionKind.{BoundaryAssertionKind}
 use Rattle.rx_ast.specs.declared.leaf.BoundaryAssertionKind.TheVariants as boundaries
 use Rattle.rx_ast.specs.declared.leaf.CharacterClassEscapeKind.{CharacterClassEscapeKind}
@@ -23,7 +24,7 @@ use Rattle.rx_model.specs.Classes.ClassFronts.{class_front}
 use Rattle.rx_model.specs.Classes.ClassRows.{IsClass}
 use Rattle.rx_model.specs.Inputs.Environment.{Environment, for_classes, is_unicode}
 use Rattle.rx_model.specs.Characters.Escapes.{SpellsEscape}
-use Rattle.rx_model.specs.Reading.Fronts.{EscapeRead, escaped, nothing, too_many, no_unicode, any_escape_at, is_reference, are_counts, is_raw_at, boundary_at, class_escape_at, escaped_token, backslash_token, backslash_front, Counts, counts, no_counts, counts_at, quantifier_token, opener_token, bracket_token, property_token, Digits, digits, digits_behind, indexed_token, named_token, syntax_front, front}
+use Rattle.rx_model.specs.Reading.Fronts.{EscapeRead, escaped, nothing, too_many, no_unicode, any_escape_at, is_reference, are_counts, is_raw_at, boundary_at, class_escape_at, escaped_token, backslash_token, backslash_front, Counts, counts, no_counts, counts_at, quantifier_token, opener_token, bracket_token, property_token, Digits, digits, digits_after, indexed_token, named_token, syntax_front, front}
 use Rattle.rx_model.specs.Groups.GroupFronts.{group_front, reference_front}
 use Rattle.rx_model.specs.Characters.LegacyEscapes.{SpellsLegacy, run_number}
 use Rattle.rx_model.specs.Properties.PropertyFronts.{PropertyRead, property_read, no_property, property_front}
@@ -146,13 +147,13 @@ module _ (e : Environment) where
 
   escaped_front : (kind : CharacterKind) (value : ℕ) (w rest : List CodePoint) → IsEscaped e kind value w rest → front e (w ++ rest) ≡ Some (character kind value, length w)
   escaped_front kind value w rest r =
-      by_text (character kind value) 92 (values r.behind) w rest refl (ap values r.whole ∙ ap (λ c. c ∷ values r.behind) r.backslash_is)
-      (escape_token e kind value (values r.behind) (values rest) r.spelled ∙ ap (λ n. Some (character kind value, n)) (omega arith))
+      by_text (character kind value) 92 (values r.following) w rest refl (ap values r.whole ∙ ap (λ c. c ∷ values r.following) r.backslash_is)
+      (escape_token e kind value (values r.following) (values rest) r.spelled ∙ ap (λ n. Some (character kind value, n)) (omega arith))
 
   legacy_front : (kind : CharacterKind) (value : ℕ) (w rest : List CodePoint) → IsLegacyEscaped e kind value w rest → front e (w ++ rest) ≡ Some (character kind value, length w)
   legacy_front kind value w rest r =
-      by_text (character kind value) 92 (values r.behind) w rest refl (ap values r.whole ∙ ap (λ c. c ∷ values r.behind) r.backslash_is)
-      (legacy_token e kind value (values r.behind) (values rest) r.legacy r.spelled ∙ ap (λ n. Some (character kind value, n)) (omega arith))
+      by_text (character kind value) 92 (values r.following) w rest refl (ap values r.whole ∙ ap (λ c. c ∷ values r.following) r.backslash_is)
+      (legacy_token e kind value (values r.following) (values rest) r.legacy r.spelled ∙ ap (λ n. Some (character kind value, n)) (omega arith))
 
   boundary_front : (kind : BoundaryAssertionKind) (w rest : List CodePoint) → IsBoundary e kind w → front e (w ++ rest) ≡ Some (boundary kind, length w)
   unfolding backslash_front
@@ -254,7 +255,7 @@ module _ (e : Environment) where
   spelled_front (class c) w rest s = bracket_front c w rest s
   spelled_front (indexed n) w rest s = by_text (indexed n) 92 s.digits w rest refl s.whole (indexed_front e n s.digits (values rest) s.refers s.number s.not_zero s.all ∙ ap (λ k. Some (indexed n, k)) (omega arith))
   spelled_front (named name) w rest s = let r = named_read e name w rest s in by_text (named name) 92 r.0 w rest refl r.1 r.2
-  spelled_front (opener o) w rest s = let r = opener_read e o w rest s in by_text (opener o) 40 r.behind w rest refl r.whole (ap opener_token r.read)
+  spelled_front (opener o) w rest s = let r = opener_read e o w rest s in by_text (opener o) 40 r.following w rest refl r.whole (ap opener_token r.read)
   spelled_front closer w rest s = by_text closer 41 [] w rest refl s refl
   spelled_front (quantifier min max greedy) w rest s = quantifier_front min max greedy w rest s
 
@@ -372,7 +373,7 @@ module _ (e : Environment) where
       (omega (arith, r.count, ap length s.front_is, length-map s.front (λ (u : CodePoint). u.value)))
       (inr (inl (record {
         backslash = u;
-        behind = s.front;
+        following = s.front;
         whole = refl;
         backslash_is = h;
         spelled = subst (λ b. SpellsEscape e k v (values s.front) b) (sym s.back_is) (subst (λ a. SpellsEscape e k v a r.rest) (sym s.front_is) r.spells);
@@ -383,7 +384,7 @@ module _ (e : Environment) where
       (omega (arith, r.count, ap length s.front_is, length-map s.front (λ (u : CodePoint). u.value)))
       (inr (inr (record {
         backslash = u;
-        behind = s.front;
+        following = s.front;
         whole = refl;
         backslash_is = h;
         legacy = m;
@@ -414,7 +415,7 @@ module _ (e : Environment) where
   named_at u v us p h k there (Some n) f q =
       text_at (named n.0) (n.1 + 3) (u ∷ v ∷ us) (92 ∷ 107 ∷ values us) (ap₂ (λ c d. c ∷ d ∷ values us) h k) (named_spelled e (values us) n there f) q
 
-  indexed_at : (u v : CodePoint) (us : List CodePoint) (p : Token × ℕ) → u.value ≡ 92 → is_within 49 57 v.value ≡ true → (is_unicode e.mode || nat_le (run_number 0 (values (v ∷ us))) e.groups) ≡ true → (d : Digits) → digits_behind 0 0 (values (v ∷ us)) ≡ d →
+  indexed_at : (u v : CodePoint) (us : List CodePoint) (p : Token × ℕ) → u.value ≡ 92 → is_within 49 57 v.value ≡ true → (is_unicode e.mode || nat_le (run_number 0 (values (v ∷ us))) e.groups) ≡ true → (d : Digits) → digits_after 0 0 (values (v ∷ us)) ≡ d →
       indexed_token d ≡ Some p → FrontOf (u ∷ v ∷ us) p
   indexed_at u v us p h k m (digits n count w) f q =
       text_at (indexed n) (count + 1) (u ∷ v ∷ us) (92 ∷ values (v ∷ us)) (ap (λ c. c ∷ values (v ∷ us)) h) (indexed_spelled e n count v.value (values us) w k m f) q
@@ -431,7 +432,7 @@ module _ (e : Environment) where
   backslash_found u (v ∷ us) p h q = elim (chosen (is_reference e (values (v ∷ us))) q) [
     | inl r ↦
         let b = both (is_within 49 57 v.value) (is_unicode e.mode || nat_le (run_number 0 (values (v ∷ us))) e.groups) r.0 in
-        indexed_at u v us p h b.0 b.1 (digits_behind 0 0 (values (v ∷ us))) refl r.1
+        indexed_at u v us p h b.0 b.1 (digits_after 0 0 (values (v ∷ us))) refl r.1
     | inr r ↦ elim (chosen (v.value == 107 && e.named) r.1) [
       | inl s ↦
           let b = both (v.value == 107) e.named s.0 in

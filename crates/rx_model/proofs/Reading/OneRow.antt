@@ -11,7 +11,7 @@ use Rattle.rx_model.specs.Reading.Boundaries.{has_buffers, has_boundary}
 use Rattle.rx_ast.specs.ClassTree.{Class}
 use Rattle.rx_units.proofs.Choices.{Some-inj}
 use Rattle.rx_model.specs.Classes.ClassRows as in_class
-use Rattle.rx_model.specs.Classes.ClassRows.{stands_raw_in_class, SpellsInClassAlone, SpellsClassCharacter, SpellsAtom, BeforeHigh, BeforeThird, BeginsNoRange, StandsBefore, Place, outside, fresh, at_dash, at_high, at_second, at_third, behind_meet, behind_less, in_strings, has_hyphen, has_threes, SpellsOperand, SpellsOfStrings, SpellsInClass, ClassTokenRow, IsClass}
+use Rattle.rx_model.specs.Classes.ClassRows.{stands_raw_in_class, SpellsInClassAlone, SpellsClassCharacter, SpellsAtom, BeforeHigh, BeforeThird, BeginsNoRange, StandsBefore, Place, outside, fresh, at_dash, at_high, at_second, at_third, after_meet, after_less, in_strings, has_hyphen, has_threes, SpellsOperand, SpellsOfStrings, SpellsInClass, ClassTokenRow, IsClass}
 use Rattle.rx_model.specs.Classes.ClassTokens as tokens
 use Rattle.rx_model.specs.Classes.ClassTokens.{Atom, ClassToken, bracket, item, low, dash, high, meet, less, strings, letter, string_bar, strings_end, class_tokens}
 use Rattle.rx_model.specs.Inputs.Environment.{Environment, for_classes, is_sets, is_unicode}
@@ -77,31 +77,27 @@ identity_same inside e d c rest n g s = record {
 legacy_same : (inside : Bool) (e d : Environment) (kind : CharacterKind) (v : ℕ) (w rest : List ℕ) → e.named ≡ d.named → e.groups ≡ d.groups → SpellsLegacy inside e kind v w rest → SpellsLegacy inside d kind v w rest
 legacy_same inside e d _ _ _ _ n g (legacy.lone h) = legacy.lone h
 legacy_same inside e d _ _ _ rest n g (legacy.class_control h k) = legacy.class_control h k
-legacy_same inside e d _ _ _ rest n g (legacy.octal_zero h) = legacy.octal_zero h
-legacy_same inside e d _ _ _ rest n g (legacy.octal1 h k f) = legacy.octal1 h k (rw g at f)
-legacy_same inside e d _ _ _ rest n g (legacy.octal2_low h k l f) = legacy.octal2_low h k l (rw g at f)
-legacy_same inside e d _ _ _ rest n g (legacy.octal2_high h k f) = legacy.octal2_high h k (rw g at f)
-legacy_same inside e d _ _ _ rest n g (legacy.octal3 h k l f) = legacy.octal3 h k l (rw g at f)
+legacy_same inside e d _ _ _ rest n g (legacy.legacy_octal s f) = legacy.legacy_octal s (rw g at f)
 legacy_same inside e d _ _ _ rest n g (legacy.identity {c} h) = legacy.identity (identity_same inside e d c rest n g h)
 
 legacy_escaped_same : (e d : Environment) (kind : CharacterKind) (value : ℕ) (w rest : List CodePoint) → e.mode ≡ d.mode → e.named ≡ d.named → AgreeOnGroups e d →
     IsLegacyEscaped e kind value w rest → IsLegacyEscaped d kind value w rest
 legacy_escaped_same e d kind value w rest m n g s = record {
   backslash = s.backslash;
-  behind = s.behind;
+  following = s.following;
   whole = s.whole;
   backslash_is = s.backslash_is;
   legacy = ap is_unicode (sym m) ∙ s.legacy;
-  spelled = legacy_same false e d kind value (values s.behind) (values rest) n (g s.legacy) s.spelled;
+  spelled = legacy_same false e d kind value (values s.following) (values rest) n (g s.legacy) s.spelled;
 }
 
 escaped_same : (e d : Environment) (kind : CharacterKind) (value : ℕ) (w rest : List CodePoint) → e.mode ≡ d.mode → IsEscaped e kind value w rest → IsEscaped d kind value w rest
 escaped_same e d kind value w rest m s = record {
   backslash = s.backslash;
-  behind = s.behind;
+  following = s.following;
   whole = s.whole;
   backslash_is = s.backslash_is;
-  spelled = escape_same e d kind value (values s.behind) (values rest) m s.spelled;
+  spelled = escape_same e d kind value (values s.following) (values rest) m s.spelled;
 }
 
 refers_same : (e d : Environment) (n : ℕ) → e.mode ≡ d.mode → AgreeOnGroups e d → (is_unicode e.mode || nat_le n e.groups) ≡ true → (is_unicode d.mode || nat_le n d.groups) ≡ true
@@ -157,11 +153,11 @@ property_same e d negative may name value w m s = record {
 class_character_same : (e d : Environment) (k : CharacterKind) (v : ℕ) (w rest : List CodePoint) → e.mode ≡ d.mode → e.named ≡ d.named → AgreeOnGroups e d → SpellsClassCharacter e k v w rest → SpellsClassCharacter d k v w rest
 class_character_same e d _ _ _ rest m n g (in_class.raw unit h) = in_class.raw unit (ap (λ mode. stands_raw_in_class mode unit.value (values rest)) (sym m) ∙ h)
 class_character_same e d _ _ _ rest m n g (in_class.hyphen unit u h) = in_class.hyphen unit (ap has_hyphen (sym m) ∙ u) h
-class_character_same e d k v _ rest m n g (in_class.escaped backslash behind h s) = in_class.escaped backslash behind h (escape_same e d k v (values behind) (values rest) m s)
-class_character_same e d k v _ rest m n g (in_class.escaped_in_class backslash behind h s) =
-    in_class.escaped_in_class backslash behind h (subst (λ mode. SpellsInClassAlone mode k v (values behind)) m s)
-class_character_same e d k v _ rest m n g (in_class.escaped_in_legacy backslash behind h u s) =
-    in_class.escaped_in_legacy backslash behind h (ap is_unicode (sym m) ∙ u) (legacy_same true e d k v (values behind) (values rest) n (g u) s)
+class_character_same e d k v _ rest m n g (in_class.escaped backslash following h s) = in_class.escaped backslash following h (escape_same e d k v (values following) (values rest) m s)
+class_character_same e d k v _ rest m n g (in_class.escaped_in_class backslash following h s) =
+    in_class.escaped_in_class backslash following h (subst (λ mode. SpellsInClassAlone mode k v (values following)) m s)
+class_character_same e d k v _ rest m n g (in_class.escaped_in_legacy backslash following h u s) =
+    in_class.escaped_in_legacy backslash following h (ap is_unicode (sym m) ∙ u) (legacy_same true e d k v (values following) (values rest) n (g u) s)
 
 atom_same : (e d : Environment) (a : Atom) (w rest : List CodePoint) → e.mode ≡ d.mode → e.named ≡ d.named → AgreeOnGroups e d → SpellsAtom e a w rest → SpellsAtom d a w rest
 atom_same e d (tokens.character k v) w rest m n g s = class_character_same e d k v w rest m n g s
@@ -234,8 +230,8 @@ in_class_same e d at_dash dash w rest m n g s = s
 in_class_same e d at_high (high k v) w rest m n g s = class_character_same e d k v w rest m n g s
 in_class_same e d at_second (item a) w rest m n g s = s
 in_class_same e d at_third (item a) w rest m n g s = atom_same e d a w rest m n g s
-in_class_same e d behind_meet t w rest m n g s = (ap is_sets (sym m) ∙ s.0, operand_same e d t w rest m n g s.1, s.2)
-in_class_same e d behind_less t w rest m n g s = (ap is_sets (sym m) ∙ s.0, operand_same e d t w rest m n g s.1)
+in_class_same e d after_meet t w rest m n g s = (ap is_sets (sym m) ∙ s.0, operand_same e d t w rest m n g s.1, s.2)
+in_class_same e d after_less t w rest m n g s = (ap is_sets (sym m) ∙ s.0, operand_same e d t w rest m n g s.1)
 in_class_same e d in_strings t w rest m n g s = (ap is_sets (sym m) ∙ s.0, of_strings_same e d t w rest m n g s.1)
 in_class_same e d q t w rest m n g s = absurd s
 
@@ -246,7 +242,7 @@ class_row_same e d (t ∷ ts) q us r rest m n g s = (
   s.1,
   s.2,
   in_class_same e d q t s.0 s.1 m n g s.3,
-  subst (λ mode. ClassTokenRow d ts (in_class.behind mode q t s.1) s.1 r rest) m (class_row_same e d ts (in_class.behind e.mode q t s.1) s.1 r rest m n g s.4),
+  subst (λ mode. ClassTokenRow d ts (in_class.next_place mode q t s.1) s.1 r rest) m (class_row_same e d ts (in_class.next_place e.mode q t s.1) s.1 r rest m n g s.4),
 )
 
 pub class_same : (e d : Environment) (c : Class) (w rest : List CodePoint) → e.mode ≡ d.mode → e.named ≡ d.named → AgreeOnGroups e d → IsClass e c w rest → IsClass d c w rest
@@ -285,8 +281,8 @@ TokenRow-mode e d (t ∷ ts) us rest m b n g r = (r.0, r.1, r.2, Spells-mode e d
 abbrev pub token_at : Environment → Unit {0} → Token → List CodePoint → List CodePoint → Type 0
 token_at e q = Spells e
 
-abbrev pub behind_token : Unit {0} → Token → List CodePoint → Unit {0}
-behind_token q t rest = tt
+abbrev pub after_token : Unit {0} → Token → List CodePoint → Unit {0}
+after_token q t rest = tt
 
 abbrev pub is_end : Unit {0} → List CodePoint → Type 0
 is_end q us = us ≡ []
@@ -306,21 +302,21 @@ module _ (e : Environment) where
   none_at_end q us h t w rest k s = nothing_spelled t [] rest (w, rest, sym h ∙ k, s, refl)
 
   -- Rows of tokens are rows of elements.
-  pub elements : (ts : List Token) (us rest : List CodePoint) → TokenRow e ts us rest → ElementRow (token_at e) behind_token ts tt us tt rest
+  pub elements : (ts : List Token) (us rest : List CodePoint) → TokenRow e ts us rest → ElementRow (token_at e) after_token ts tt us tt rest
   elements [] us rest r = (refl, r)
   elements (t ∷ ts) us rest r = (r.0, r.1, r.2, r.3, elements ts r.1 rest r.4)
 
-  pub of_elements : (ts : List Token) (us rest : List CodePoint) → ElementRow (token_at e) behind_token ts tt us tt rest → TokenRow e ts us rest
+  pub of_elements : (ts : List Token) (us rest : List CodePoint) → ElementRow (token_at e) after_token ts tt us tt rest → TokenRow e ts us rest
   of_elements [] us rest r = r.1
   of_elements (t ∷ ts) us rest r = (r.0, r.1, r.2, r.3, of_elements ts r.1 rest r.4)
 
   pub row_prefix : (ts ss : List Token) (us rest : List CodePoint) → TokenRow e ts us rest → TokenRow e ss us [] → (xs : List Token) × (ss ≡ ts ++ xs) × TokenRow e xs rest []
   row_prefix ts ss us rest r s =
-      let l = longest (token_at e) behind_token first_token is_end none_at_end ss ts tt us tt [] tt rest (elements ss us [] s) refl (elements ts us rest r) in
+      let l = longest (token_at e) after_token first_token is_end none_at_end ss ts tt us tt [] tt rest (elements ss us [] s) refl (elements ts us rest r) in
       (l.0, l.1, of_elements l.0 rest [] l.2)
 
   pub one_row : (ts ss : List Token) (us : List CodePoint) → TokenRow e ts us [] → TokenRow e ss us [] → ts ≡ ss
-  one_row ts ss us r s = (one (token_at e) behind_token first_token is_end none_at_end ts ss tt us tt [] tt [] (elements ts us [] r) refl (elements ss us [] s) refl).0
+  one_row ts ss us r s = (one (token_at e) after_token first_token is_end none_at_end ts ss tt us tt [] tt [] (elements ts us [] r) refl (elements ss us [] s) refl).0
 
 -- also in two environments of one mode that agree on buffer boundaries and on references, and with neither `u` nor `v` on the number of groups
 pub one_row_by_mode : (e d : Environment) (ts ss : List Token) (us : List CodePoint) → e.mode ≡ d.mode → e.buffer_boundaries ≡ d.buffer_boundaries → e.named ≡ d.named → AgreeOnGroups e d →

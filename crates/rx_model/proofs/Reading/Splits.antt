@@ -48,7 +48,7 @@ starts_there c (x ∷ w) h = (w, ap (λ x. x ∷ w) (eqb-true x c h))
 pub one_value : (u : CodePoint) (c : ℕ) → (u.value == c) ≡ true → values (u ∷ []) ≡ c ∷ []
 one_value u c h = ap (λ v. v ∷ []) (eqb-true u.value c h)
 
--- what units start with, others behind them
+-- what units start with, others after them
 pub starts_front : (c : ℕ) (w rest : List CodePoint) → 0 < length w → starts c (values (w ++ rest)) ≡ starts c (values w)
 starts_front c [] rest some = absurd (omega (arith, some))
 starts_front c (u ∷ w) rest some = refl

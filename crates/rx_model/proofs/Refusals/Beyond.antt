@@ -46,8 +46,8 @@ blocked_beyond mode rules us f rest a d g back b l =
     let h = ahead mode rules us a.reached b.reached l in
     none_goes_on mode rules us rest back d h.t h.more h.row h.obey
 
-pub no_angle : (behind : List ℕ) (count : ℕ) → starts 62 (92 ∷ behind) ≡ true → count ≡ 0
-no_angle behind count h = absurd (let no : ⊥ = cc h in no)
+pub no_angle : (following : List ℕ) (count : ℕ) → starts 62 (92 ∷ following) ≡ true → count ≡ 0
+no_angle following count h = absurd (let no : ⊥ = cc h in no)
 
 module _ (mode : Mode) (rules : Rules) where
   -- Nothing closes outside groups, and nothing repeats where nothing may be repeated.
@@ -121,7 +121,7 @@ ends_refuse mode rules us f (left_open group open_groups ready rest r none) p re
 -- What is owed of the classes of a mode: where a refusal holds in one, no place beyond its bracket is reached; of two that hold one gives way to the other, or
 -- they are one, which they are without `v`.
 pub record ClassLaws (mode : Mode) (rules : Rules) (us : List CodePoint) (start added : ℕ) : Type 0 where
-  pub behind_bracket : {from f : ℕ} {at_class : List CodePoint} {d : Diagnostic} → IsClassCause mode us start added from at_class f d → from ≤ f
+  pub after_bracket : {from f : ℕ} {at_class : List CodePoint} {d : Diagnostic} → IsClassCause mode us start added from at_class f d → from ≤ f
   pub at_bracket : {from f : ℕ} {at_class : List CodePoint} {d : Diagnostic} → IsClassCause mode us start added from at_class f d → (w : List ℕ) × (values at_class ≡ 91 ∷ w)
   pub blocked : {from f : ℕ} {at_class : List CodePoint} {d : Diagnostic} → IsClassCause mode us start added from at_class f d → IsBlocked mode rules us at_class
   pub two : {from f g : ℕ} {at_class : List CodePoint} {d e : Diagnostic} → IsClassCause mode us start added from at_class f d → IsClassCause mode us start added from at_class g e → AreCompared f d g e
@@ -132,7 +132,7 @@ module _ (mode : Mode) (rules : Rules) (us : List CodePoint) where
   abbrev here : Environment
   here = text_environment mode rules us
 
-  -- a place with a unit behind it
+  -- a place with a unit after it
   pub some_left : (f : ℕ) (rest : List CodePoint) (c : ℕ) (w : List ℕ) → values rest ≡ c ∷ w → IsPlace mode rules us f rest → f < length us
   some_left f [] c w h p = absurd (let no : ⊥ = cc h in no)
   some_left f (u ∷ rest) c w h p = omega (arith, p.reached.place_is)
@@ -151,24 +151,24 @@ module _ (mode : Mode) (rules : Rules) (us : List CodePoint) where
   braces_ends : (f count min : ℕ) (max : Option ℕ) (rest : List CodePoint) → IsPlace mode rules us f rest → (h : HasBraces min max count rest) → IsBlocked mode rules us rest → Ends mode rules us f
   braces_ends f count min max rest p h d =
       let b = brace_first min max h.prefix h.spelled in
-      blocked_ends f rest 123 (b.0 ++ h.behind) (h.whole ∙ ap (λ w. w ++ h.behind) b.1) p d
+      blocked_ends f rest 123 (b.0 ++ h.following) (h.whole ∙ ap (λ w. w ++ h.following) b.1) p d
 
   pub limit_first : (w : List ℕ) (start count : ℕ) → PassesLimit w start count → (v : List ℕ) × (w ≡ 123 ∷ v)
   limit_first _ _ _ (limits.first digits next rest p) = (_, refl)
   limit_first _ _ _ (limits.second ds digits next rest a l p) = (_, refl)
 
-  name_first : (w behind : List ℕ) → BeginsName here w behind → (c : ℕ) × (v : List ℕ) × (w ≡ c ∷ v)
-  name_first _ behind (of_group look) = (40, _, refl)
-  name_first _ behind (of_reference there) = (92, _, refl)
+  name_first : (w following : List ℕ) → BeginsName here w following → (c : ℕ) × (v : List ℕ) × (w ≡ c ∷ v)
+  name_first _ following (of_group look) = (40, _, refl)
+  name_first _ following (of_reference there) = (92, _, refl)
 
-  name_ends : (f count : ℕ) (rest : List CodePoint) (behind : List ℕ) → IsPlace mode rules us f rest → EndsName here (values rest) count behind → (starts 62 behind ≡ true → count ≡ 0) → Ends mode rules us f
-  name_ends f count rest behind p n h =
-      let b = name_first (values rest) n.behind n.begins in
-      blocked_ends f rest b.0 b.1 b.2 p (blocked_name mode rules us rest (values rest) n.behind count refl n.begins n.longest (λ t. h (ap (starts 62) n.rest_is ∙ t)))
+  name_ends : (f count : ℕ) (rest : List CodePoint) (following : List ℕ) → IsPlace mode rules us f rest → EndsName here (values rest) count following → (starts 62 following ≡ true → count ≡ 0) → Ends mode rules us f
+  name_ends f count rest following p n h =
+      let b = name_first (values rest) n.following n.begins in
+      blocked_ends f rest b.0 b.1 b.2 p (blocked_name mode rules us rest (values rest) n.following count refl n.begins n.longest (λ t. h (ap (starts 62) n.rest_is ∙ t)))
 
   escape_ends : (f : ℕ) (rest : List CodePoint) (first added : ℕ) (d : Diagnostic) → IsPlace mode rules us f rest → IsEscapeCause mode us first added f rest d → Ends mode rules us f
-  escape_ends f rest first added _ p (escape.too_many_hex_digits count behind m h limit) = blocked_ends f rest 92 behind h p (blocked_hex mode rules us m rest behind count h limit)
-  escape_ends f rest first added _ p (escape.invalid_escape behind m h no_value no_limit) = blocked_ends f rest 92 (117 ∷ behind) h p (blocked_escape mode rules us m rest behind h no_value no_limit)
+  escape_ends f rest first added _ p (escape.too_many_hex_digits count following m h limit) = blocked_ends f rest 92 following h p (blocked_hex mode rules us m rest following count h limit)
+  escape_ends f rest first added _ p (escape.invalid_escape following m h no_value no_limit) = blocked_ends f rest 92 (117 ∷ following) h p (blocked_escape mode rules us m rest following h no_value no_limit)
 
   property_blocked : (first added f : ℕ) (rest : List CodePoint) (d : Diagnostic) → IsPropertyCause mode us first added f rest d → IsBlocked mode rules us rest
   property_blocked first added f rest d c t n h o =
@@ -214,7 +214,7 @@ module _ (mode : Mode) (rules : Rules) (us : List CodePoint) where
 
   class_ends : (first added : ℕ) → ClassLaws mode rules us first added → (from f : ℕ) (at_class : List CodePoint) (d : Diagnostic) → IsPlace mode rules us from at_class → IsClassCause mode us first added from at_class f d → Ends mode rules us f
   class_ends first added laws from f at_class d p c =
-      let b = laws.at_bracket c in passes from (laws.behind_bracket c) (some_left from at_class 91 b.0 b.1 p) (blocked_beyond mode rules us from at_class p (laws.blocked c))
+      let b = laws.at_bracket c in passes from (laws.after_bracket c) (some_left from at_class 91 b.0 b.1 p) (blocked_beyond mode rules us from at_class p (laws.blocked c))
 
   -- A backslash ends the text.
   last_ends : (f : ℕ) (backslash : CodePoint) → IsPlace mode rules us f (backslash ∷ []) → backslash.value ≡ 92 → Ends mode rules us f
@@ -223,11 +223,11 @@ module _ (mode : Mode) (rules : Rules) (us : List CodePoint) where
       let text : values (backslash ∷ []) ≡ 92 ∷ [] = ap (λ c. c ∷ []) h in
       blocked_ends f (backslash ∷ []) 92 [] text p (blocked_none mode rules us (backslash ∷ []) (front_by_values here (backslash ∷ []) 92 [] refl text))
 
-  pub pair_no_closer : (behind : List ℕ) (count : ℕ) → BeginsWithPair behind → starts 62 behind ≡ true → count ≡ 0
-  pair_no_closer behind count p h = absurd (let no : ⊥ = grind (arith, nat_tests, p.whole, p.is_lead.0, h) in no)
+  pub pair_no_closer : (following : List ℕ) (count : ℕ) → BeginsWithPair following → starts 62 following ≡ true → count ≡ 0
+  pair_no_closer following count p h = absurd (let no : ⊥ = grind (arith, nat_tests, p.whole, p.is_lead.0, h) in no)
 
   pub cause_ends : (first added : ℕ) → ClassLaws mode rules us first added → (f : ℕ) (d : Diagnostic) → IsCauseAtPlace mode rules us first added f d → Ends mode rules us f
-  cause_ends first added laws _ _ (cause.incomplete place behind ready rest r s some) = incomplete_ends place behind ready rest r s some
+  cause_ends first added laws _ _ (cause.incomplete place following ready rest r s some) = incomplete_ends place following ready rest r s some
   cause_ends first added laws _ _ (cause.lone place min max greedy open_groups w more r m s o) = lone_ends place min max greedy open_groups w more r s
   cause_ends first added laws _ _ (cause.lone_in_legacy place min max greedy open_groups w more r m s o) = lone_ends place min max greedy open_groups w more r s
   cause_ends first added laws _ _ (cause.last_backslash place backslash p m h) = last_ends place backslash p h
@@ -238,21 +238,21 @@ module _ (mode : Mode) (rules : Rules) (us : List CodePoint) where
   cause_ends first added laws _ d (cause.of_escape place rest p c) = escape_ends place rest first added d p c
   cause_ends first added laws _ d (cause.of_property place rest p c) = property_ends place rest first added d p c
   cause_ends first added laws _ d (cause.of_class from place at_class p c) = class_ends first added laws from place at_class d p c
-  cause_ends first added laws _ _ (cause.unterminated_group from place behind group rest inside s other) = group_ends from place behind group rest inside s other
-  cause_ends first added laws _ _ (cause.unterminated_name place count rest behind p m n no_escape ends) = name_ends place count rest behind p n ends
-  cause_ends first added laws _ _ (cause.unterminated_name_in_legacy place count rest behind p m n none no_pair ends) = name_ends place count rest behind p n ends
-  cause_ends first added laws _ _ (cause.misplaced_pair place count rest behind p m n pair) = name_ends place count rest behind p n (pair_no_closer behind count pair)
-  cause_ends first added laws _ _ (cause.too_many_digits_in_name place count many rest behind p n limit) = name_ends place count rest (92 ∷ behind) p n (no_angle behind count)
-  cause_ends first added laws _ _ (cause.misplaced_in_name place count value n rest behind p ends decodes) = name_ends place count rest (92 ∷ behind) p ends (no_angle behind count)
-  cause_ends first added laws _ _ (cause.invalid_in_name place count rest behind p n no_value no_limit u) = name_ends place count rest (92 ∷ behind) p n (no_angle behind count)
-  cause_ends first added laws _ _ (cause.invalid_u_in_name place count rest behind p n no_value no_limit u) = name_ends place count rest (92 ∷ behind) p n (no_angle behind count)
+  cause_ends first added laws _ _ (cause.unterminated_group from place following group rest inside s other) = group_ends from place following group rest inside s other
+  cause_ends first added laws _ _ (cause.unterminated_name place count rest following p m n no_escape ends) = name_ends place count rest following p n ends
+  cause_ends first added laws _ _ (cause.unterminated_name_in_legacy place count rest following p m n none no_pair ends) = name_ends place count rest following p n ends
+  cause_ends first added laws _ _ (cause.misplaced_pair place count rest following p m n pair) = name_ends place count rest following p n (pair_no_closer following count pair)
+  cause_ends first added laws _ _ (cause.too_many_digits_in_name place count many rest following p n limit) = name_ends place count rest (92 ∷ following) p n (no_angle following count)
+  cause_ends first added laws _ _ (cause.misplaced_in_name place count value n rest following p ends decodes) = name_ends place count rest (92 ∷ following) p ends (no_angle following count)
+  cause_ends first added laws _ _ (cause.invalid_in_name place count rest following p n no_value no_limit u) = name_ends place count rest (92 ∷ following) p n (no_angle following count)
+  cause_ends first added laws _ _ (cause.invalid_u_in_name place count rest following p n no_value no_limit u) = name_ends place count rest (92 ∷ following) p n (no_angle following count)
   cause_ends first added laws _ _ (cause.no_such_group place n w more p s large) =
       spelled_ends place (indexed n) w more s p (λ o. omega (arith, large, o.1))
-  cause_ends first added laws _ _ (cause.no_group_name place rest behind p there h other) = blocked_ends place rest 92 (107 ∷ behind) h p (blocked_reference mode rules us there rest behind h other)
+  cause_ends first added laws _ _ (cause.no_group_name place rest following p there h other) = blocked_ends place rest 92 (107 ∷ following) h p (blocked_reference mode rules us there rest following h other)
   cause_ends first added laws _ _ (cause.no_such_name place name w more p s unknown) = spelled_ends place (named name) w more s p unknown
-  cause_ends first added laws _ _ (cause.unknown_modifiers place rest text behind p h l) = blocked_ends place rest 40 (63 ∷ (text ++ behind)) h p (blocked_unknown mode rules us rest text behind h l)
-  cause_ends first added laws _ _ (cause.duplicated_modifiers place rest enabled disabled text behind p h s twice) =
-      blocked_ends place rest 40 (63 ∷ (text ++ (58 ∷ behind))) h p (blocked_duplicated mode rules us rest enabled disabled text behind h s twice)
-  cause_ends first added laws _ _ (cause.empty_modifiers place rest behind p h) = blocked_ends place rest 40 (63 ∷ 45 ∷ 58 ∷ behind) h p (blocked_empty mode rules us rest behind h)
-  cause_ends first added laws _ _ (cause.invalid_modifiers place rest enabled disabled text behind p h s once share) =
-      blocked_ends place rest 40 (63 ∷ (text ++ (58 ∷ behind))) h p (blocked_shared mode rules us rest enabled disabled text behind h s once share)
+  cause_ends first added laws _ _ (cause.unknown_modifiers place rest text following p h l) = blocked_ends place rest 40 (63 ∷ (text ++ following)) h p (blocked_unknown mode rules us rest text following h l)
+  cause_ends first added laws _ _ (cause.duplicated_modifiers place rest enabled disabled text following p h s twice) =
+      blocked_ends place rest 40 (63 ∷ (text ++ (58 ∷ following))) h p (blocked_duplicated mode rules us rest enabled disabled text following h s twice)
+  cause_ends first added laws _ _ (cause.empty_modifiers place rest following p h) = blocked_ends place rest 40 (63 ∷ 45 ∷ 58 ∷ following) h p (blocked_empty mode rules us rest following h)
+  cause_ends first added laws _ _ (cause.invalid_modifiers place rest enabled disabled text following p h s once share) =
+      blocked_ends place rest 40 (63 ∷ (text ++ (58 ∷ following))) h p (blocked_shared mode rules us rest enabled disabled text following h s once share)

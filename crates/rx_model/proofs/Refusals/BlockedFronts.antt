@@ -7,7 +7,7 @@ use Rattle.std.proofs.lemmas.Bool.{and_from, true≢false, cond-false, eqb-true,
 use Rattle.rx_ast.specs.declared.leaf.BoundaryAssertionKind.{BoundaryAssertionKind}
 use Rattle.rx_units.specs.declared.code_point.CodePoint.{CodePoint}
 use Rattle.rx_units.specs.Units.{values}
-use Rattle.rx_units.specs.Digits.{front_is}
+use Rattle.rx_units.specs.Digits.{front_is, PassesHex}
 use Rattle.rx_units.proofs.Choices.{both}
 use Rattle.rx_model.specs.declared.mode.Mode.{Mode}
 use Rattle.rx_model.specs.Refusals.Causes.{LeadNowhere}
@@ -23,14 +23,14 @@ use Rattle.rx_model.specs.FirstPass.Marks.{starts}
 use Rattle.rx_model.specs.Groups.Modifiers.{AreSides, one_side, two_sides, SpellsModifiers, has_twice, is_modifier, letters_bits, occurs, share_some}
 use Rattle.rx_model.specs.Refusals.Reached.{text_environment, text_groups}
 use Rattle.rx_model.specs.Trees.Token.{indexed, opener, ignoring}
-use Rattle.rx_model.specs.Characters.UnicodeEscapes.{Decodes, PassesHex}
+use Rattle.rx_model.specs.Characters.UnicodeEscapes.{Decodes}
 use Rattle.rx_model.specs.declared.rules.Rules.{Rules}
 use Rattle.rx_model.proofs.Characters.Decodings.{value_law}
 use Rattle.rx_model.proofs.Characters.Escapes.{too_many_escape, escape_u}
 use Rattle.rx_model.proofs.Reading.Fronts.{front_by_values}
 use Rattle.rx_model.proofs.Groups.GroupFronts.{angle_named, question_modified}
 use Rattle.rx_model.proofs.Groups.GroupNames.{character_some, differs, name_read, no_name_law}
-use Rattle.rx_model.proofs.Groups.ModifierBits.{and_three, three_zero}
+use Rattle.rx_model.proofs.Groups.ModifierBits.{and_three, three_zero, modifier_is}
 use Rattle.rx_model.proofs.Groups.Modifiers.{letters_read, modified_read, modifiers_begin, not_mark, sides_read, sides_letters}
 use Rattle.rx_model.proofs.Characters.Backslashes.{same_both}
 use Rattle.rx_model.proofs.Refusals.BlockedPlaces.{IsBlocked, blocked_none, blocked_token}
@@ -46,7 +46,7 @@ not_closed : (name : List ℕ) (n : ℕ) (w : List ℕ) → starts 62 (drop n w)
 not_closed [] n w h = refl
 not_closed (c ∷ cs) n w h = cond-false (starts 62 (drop n w)) _ _ h
 
--- The longest row of a name's characters has no `>` behind it, or there is none.
+-- The longest row of a name's characters has no `>` after it, or there is none.
 pub no_name_front : (m : Bool) (w : List ℕ) (count : ℕ) → IsNameRow m w count → (starts 62 (drop count w) ≡ true → count ≡ 0) → name_front m w ≡ None
 no_name_front m w _ (no_name none) h = ap (λ r. closed_name r w) ((no_name_law m w).1 (no_name_begins m w none))
 no_name_front m w count (some_name {name} b) h =
@@ -60,14 +60,14 @@ no_dash [] h = refl
 no_dash (c ∷ w) h = let p = both (is_modifier c) (list_all is_modifier w) h in or_from (c == 45) (occurs 45 w) (differs is_modifier c 45 refl p.0) (no_dash w p.1)
 
 -- modifiers that no further letter and no first `-` follows
-pub sides_lead : (w v text behind : List ℕ) → AreSides w v text → front_is is_modifier behind ≡ false → (starts 45 behind ≡ true → occurs 45 text ≡ true) → sides_at (text ++ behind) ≡ sides w v (length text)
-sides_lead w _ _ behind (one_side h) letters dash =
-    let none : starts 45 behind ≡ false = false_from_ne_true (starts 45 behind) (λ t. let no : ⊥ = cc (dash t, no_dash w h) in no) in
-    rw (letters_read w behind h letters, drop-append_seam w behind, take-append_seam w behind, none) refl
-sides_lead _ _ _ behind (two_sides w v h k) letters dash =
-    let back : List ℕ = 45 ∷ (v ++ behind) in
-    ap sides_at (append_assoc w (45 ∷ v) behind)
-    ∙ rw (letters_read w back h refl, drop-append_seam w back, drop-append-add w back 1, letters_read v behind k letters, take-append_seam w back, take-append_seam v behind)
+pub sides_lead : (w v text following : List ℕ) → AreSides w v text → front_is is_modifier following ≡ false → (starts 45 following ≡ true → occurs 45 text ≡ true) → sides_at (text ++ following) ≡ sides w v (length text)
+sides_lead w _ _ following (one_side h) letters dash =
+    let none : starts 45 following ≡ false = false_from_ne_true (starts 45 following) (λ t. let no : ⊥ = cc (dash t, no_dash w h) in no) in
+    rw (letters_read w following h letters, drop-append_seam w following, take-append_seam w following, none) refl
+sides_lead _ _ _ following (two_sides w v h k) letters dash =
+    let back : List ℕ = 45 ∷ (v ++ following) in
+    ap sides_at (append_assoc w (45 ∷ v) following)
+    ∙ rw (letters_read w back h refl, drop-append_seam w back, drop-append-add w back 1, letters_read v following k letters, take-append_seam w back, take-append_seam v following)
     (ap (sides w v) (omega (arith, length-append w (45 ∷ v))))
 
 no_colon : (w v : List ℕ) (n : ℕ) (all : List ℕ) → starts 58 (drop n all) ≡ false → modified_group (sides w v n) all ≡ None
@@ -76,19 +76,19 @@ no_colon w v n all h = rw h refl
 pub some_text : (c : ℕ) (text : List ℕ) → c ∷ text ≢ []
 some_text c text e = cc
 
-question_sides : (m : Bool) (w v text behind : List ℕ) → AreSides w v text → text ≢ [] → question_group m (text ++ behind) ≡ modified_group (sides_at (text ++ behind)) (text ++ behind)
-question_sides m w v [] behind s some = absurd (some refl)
-question_sides m w v (c ∷ text) behind s some = question_modified m c (text ++ behind) (not_mark c (modifiers_begin w v (c ∷ text) s some))
+question_sides : (m : Bool) (w v text following : List ℕ) → AreSides w v text → text ≢ [] → question_group m (text ++ following) ≡ modified_group (sides_at (text ++ following)) (text ++ following)
+question_sides m w v [] following s some = absurd (some refl)
+question_sides m w v (c ∷ text) following s some = question_modified m c (text ++ following) (not_mark c (modifiers_begin w v (c ∷ text) s some))
 
-lead_none : (text behind : List ℕ) → LeadNowhere text behind → modified_group (sides_at (text ++ behind)) (text ++ behind) ≡ None
-lead_none text behind l =
-    ap (λ r. modified_group r (text ++ behind)) (sides_lead l.enabled l.disabled text behind l.sides l.no_letter l.no_dash)
-    ∙ no_colon l.enabled l.disabled (length text) (text ++ behind) (ap (starts 58) (drop-append_seam text behind) ∙ l.no_colon)
+lead_none : (text following : List ℕ) → LeadNowhere text following → modified_group (sides_at (text ++ following)) (text ++ following) ≡ None
+lead_none text following l =
+    ap (λ r. modified_group r (text ++ following)) (sides_lead l.enabled l.disabled text following l.sides l.no_letter l.no_dash)
+    ∙ no_colon l.enabled l.disabled (length text) (text ++ following) (ap (starts 58) (drop-append_seam text following) ∙ l.no_colon)
 
-question_lead : (m : Bool) (text behind : List ℕ) → LeadNowhere text behind → question_group m (text ++ behind) ≡ None
+question_lead : (m : Bool) (text following : List ℕ) → LeadNowhere text following → question_group m (text ++ following) ≡ None
 question_lead m [] [] l = refl
-question_lead m [] (c ∷ behind) l = question_modified m c behind (l.no_mark refl) ∙ lead_none [] (c ∷ behind) l
-question_lead m (c ∷ text) behind l = question_sides m l.enabled l.disabled (c ∷ text) behind l.sides (some_text c text) ∙ lead_none (c ∷ text) behind l
+question_lead m [] (c ∷ following) l = question_modified m c following (l.no_mark refl) ∙ lead_none [] (c ∷ following) l
+question_lead m (c ∷ text) following l = question_sides m l.enabled l.disabled (c ∷ text) following l.sides (some_text c text) ∙ lead_none (c ∷ text) following l
 
 -- modifiers with some letters
 sides_some : (w v text : List ℕ) → AreSides w v text → (w ≡ [] → v ≡ [] → ⊥) → text ≢ []
@@ -101,11 +101,11 @@ twice_some w v h e f = let no : (has_twice [] || has_twice []) ≡ true = subst 
 shared_some : (w v : List ℕ) → share_some w v ≡ true → w ≡ [] → v ≡ [] → ⊥
 shared_some w v h e f = let no : share_some [] v ≡ true = subst (λ x. share_some x v ≡ true) e h in cc
 
-twice_none : (m : Bool) (w v text behind : List ℕ) → AreSides w v text → (has_twice w || has_twice v) ≡ true → question_group m (text ++ (58 ∷ behind)) ≡ None
-twice_none m w v text behind s h =
-    question_sides m w v text (58 ∷ behind) s (sides_some w v text s (twice_some w v h))
-    ∙ ap (λ r. modified_group r (text ++ (58 ∷ behind))) (sides_read w v text behind s)
-    ∙ rw (drop-append_seam text (58 ∷ behind), h) refl
+twice_none : (m : Bool) (w v text following : List ℕ) → AreSides w v text → (has_twice w || has_twice v) ≡ true → question_group m (text ++ (58 ∷ following)) ≡ None
+twice_none m w v text following s h =
+    question_sides m w v text (58 ∷ following) s (sides_some w v text s (twice_some w v h))
+    ∙ ap (λ r. modified_group r (text ++ (58 ∷ following))) (sides_read w v text following s)
+    ∙ rw (drop-append_seam text (58 ∷ following), h) refl
 
 -- a letter that is on both sides
 record IsShared (w v : List ℕ) : Type 0 where
@@ -124,7 +124,7 @@ shared (c ∷ w) v h s =
     ]
 
 letter_shared : (w v : List ℕ) → IsShared w v → bit_and (letters_bits w) (letters_bits v) ≡ 0 → ⊥
-letter_shared w v s e = elim (or_cases (s.letter == 105 || s.letter == 109) (s.letter == 115) s.letter_is) [
+letter_shared w v s e = elim (or_cases (s.letter == 105 || s.letter == 109) (s.letter == 115) (sym (modifier_is s.letter) ∙ s.letter_is)) [
   | inl p ↦ elim (or_cases (s.letter == 105) (s.letter == 109) p) [ inl q ↦ never 105 q none.0 | inr q ↦ never 109 q none.1 ]
   | inr q ↦ never 115 q none.2
 ]
@@ -159,66 +159,66 @@ module _ (mode : Mode) (rules : Rules) (us : List CodePoint) where
   unfolding backslash_front
   backslash_k there w = rw there refl
 
-  -- behind a backslash, `u` with digits that pass 32 bits, or without a unicode escape
-  pub blocked_hex : is_unicode mode ≡ true → (rest : List CodePoint) (behind : List ℕ) (count : ℕ) → values rest ≡ 92 ∷ behind → PassesHex behind count → IsBlocked mode rules us rest
-  blocked_hex u rest behind count e p =
+  -- after a backslash, `u` with digits that pass 32 bits, or without a unicode escape
+  pub blocked_hex : is_unicode mode ≡ true → (rest : List CodePoint) (following : List ℕ) (count : ℕ) → values rest ≡ 92 ∷ following → PassesHex following count → IsBlocked mode rules us rest
+  blocked_hex u rest following count e p =
       let more : List ℕ = 123 ∷ (p.digits ++ p.next ∷ p.rest) in
-      blocked_none mode rules us rest (front_backslash rest behind e ∙ ap (backslash_front here) p.whole ∙ backslash_u u more
-      ∙ ap (λ w. escaped_token (escape_at true w)) (sym p.whole) ∙ ap escaped_token (too_many_escape behind count p))
+      blocked_none mode rules us rest (front_backslash rest following e ∙ ap (backslash_front here) p.whole ∙ backslash_u u more
+      ∙ ap (λ w. escaped_token (escape_at true w)) (sym p.whole) ∙ ap escaped_token (too_many_escape following count p))
 
   no_unicode_token : (w : List ℕ) → ((v n : ℕ) → Decodes true w v n → ⊥) → ((count : ℕ) → PassesHex w count → ⊥) → (d : Decoded) → decoded true w ≡ d → escaped_token (unicode_read d) ≡ None
   no_unicode_token w no_value no_limit (value v n) h = absurd (no_value v n ((value_law true w v n).0 h))
   no_unicode_token w no_value no_limit invalid h = refl
   no_unicode_token w no_value no_limit (overflow n) h = refl
 
-  pub blocked_escape : is_unicode mode ≡ true → (rest : List CodePoint) (behind : List ℕ) → values rest ≡ 92 ∷ 117 ∷ behind → ((v n : ℕ) → Decodes true (117 ∷ behind) v n → ⊥) → ((count : ℕ) → PassesHex (117 ∷ behind) count → ⊥)
+  pub blocked_escape : is_unicode mode ≡ true → (rest : List CodePoint) (following : List ℕ) → values rest ≡ 92 ∷ 117 ∷ following → ((v n : ℕ) → Decodes true (117 ∷ following) v n → ⊥) → ((count : ℕ) → PassesHex (117 ∷ following) count → ⊥)
       → IsBlocked mode rules us rest
-  blocked_escape u rest behind e no_value no_limit =
-      blocked_none mode rules us rest (front_backslash rest (117 ∷ behind) e ∙ backslash_u u behind ∙ ap escaped_token (escape_u behind)
-      ∙ no_unicode_token (117 ∷ behind) no_value no_limit (decoded true (117 ∷ behind)) refl)
+  blocked_escape u rest following e no_value no_limit =
+      blocked_none mode rules us rest (front_backslash rest (117 ∷ following) e ∙ backslash_u u following ∙ ap escaped_token (escape_u following)
+      ∙ no_unicode_token (117 ∷ following) no_value no_limit (decoded true (117 ∷ following)) refl)
 
   -- a name that does not end, or has in it what may not stand there
-  pub blocked_name : (rest : List CodePoint) (w behind : List ℕ) (count : ℕ) → values rest ≡ w → BeginsName here w behind → IsNameRow (is_unicode mode) behind count → (starts 62 (drop count behind) ≡ true → count ≡ 0) → IsBlocked mode rules us rest
+  pub blocked_name : (rest : List CodePoint) (w following : List ℕ) (count : ℕ) → values rest ≡ w → BeginsName here w following → IsNameRow (is_unicode mode) following count → (starts 62 (drop count following) ≡ true → count ≡ 0) → IsBlocked mode rules us rest
   unfolding group_front reference_front backslash_front
-  blocked_name rest _ behind count e (of_group look) longest ends =
-      blocked_none mode rules us rest (front_by_values here rest 40 (63 ∷ 60 ∷ behind) refl e
-      ∙ ap opener_token (angle_named (is_unicode mode) behind look ∙ ap named_group (no_name_front (is_unicode mode) behind count longest ends)))
-  blocked_name rest _ behind count e (of_reference there) longest ends =
-      blocked_none mode rules us rest (front_by_values here rest 92 (107 ∷ 60 ∷ behind) refl e ∙ backslash_k there (60 ∷ behind) ∙ ap named_token (no_name_front (is_unicode mode) behind count longest ends))
+  blocked_name rest _ following count e (of_group look) longest ends =
+      blocked_none mode rules us rest (front_by_values here rest 40 (63 ∷ 60 ∷ following) refl e
+      ∙ ap opener_token (angle_named (is_unicode mode) following look ∙ ap named_group (no_name_front (is_unicode mode) following count longest ends)))
+  blocked_name rest _ following count e (of_reference there) longest ends =
+      blocked_none mode rules us rest (front_by_values here rest 92 (107 ∷ 60 ∷ following) refl e ∙ backslash_k there (60 ∷ following) ∙ ap named_token (no_name_front (is_unicode mode) following count longest ends))
 
-  no_angle : (m : Bool) (behind : List ℕ) → starts 60 behind ≡ false → reference_front m behind ≡ None
+  no_angle : (m : Bool) (following : List ℕ) → starts 60 following ≡ false → reference_front m following ≡ None
   unfolding reference_front
   no_angle m [] h = refl
   no_angle m (c ∷ w) h = cond-false (c == 60) _ _ h
 
   -- `\k` without a name
-  pub blocked_reference : here.named ≡ true → (rest : List CodePoint) (behind : List ℕ) → values rest ≡ 92 ∷ 107 ∷ behind → starts 60 behind ≡ false → IsBlocked mode rules us rest
+  pub blocked_reference : here.named ≡ true → (rest : List CodePoint) (following : List ℕ) → values rest ≡ 92 ∷ 107 ∷ following → starts 60 following ≡ false → IsBlocked mode rules us rest
   unfolding backslash_front
-  blocked_reference there rest behind e h = blocked_none mode rules us rest (front_backslash rest (107 ∷ behind) e ∙ backslash_k there behind ∙ ap named_token (no_angle (is_unicode mode) behind h))
+  blocked_reference there rest following e h = blocked_none mode rules us rest (front_backslash rest (107 ∷ following) e ∙ backslash_k there following ∙ ap named_token (no_angle (is_unicode mode) following h))
 
   -- a reference to no group
   pub blocked_index : (rest : List CodePoint) (k n : ℕ) → front here rest ≡ Some (indexed k, n) → text_groups mode us < k → IsBlocked mode rules us rest
   blocked_index rest k n e large = blocked_token mode rules us rest (indexed k) n e (λ o. omega (arith, large, o.1))
 
-  pub front_question : (rest : List CodePoint) (behind : List ℕ) → values rest ≡ 40 ∷ 63 ∷ behind → front here rest ≡ opener_token (question_group (is_unicode mode) behind)
+  pub front_question : (rest : List CodePoint) (following : List ℕ) → values rest ≡ 40 ∷ 63 ∷ following → front here rest ≡ opener_token (question_group (is_unicode mode) following)
   unfolding group_front
-  front_question rest behind e = front_by_values here rest 40 (63 ∷ behind) refl e
+  front_question rest following e = front_by_values here rest 40 (63 ∷ following) refl e
 
   -- modifiers that no `:` ends, or with a letter twice on one side, or with none, or with a letter on both sides
-  pub blocked_unknown : (rest : List CodePoint) (text behind : List ℕ) → values rest ≡ 40 ∷ 63 ∷ (text ++ behind) → LeadNowhere text behind → IsBlocked mode rules us rest
-  blocked_unknown rest text behind e l = blocked_none mode rules us rest (front_question rest (text ++ behind) e ∙ ap opener_token (question_lead (is_unicode mode) text behind l))
+  pub blocked_unknown : (rest : List CodePoint) (text following : List ℕ) → values rest ≡ 40 ∷ 63 ∷ (text ++ following) → LeadNowhere text following → IsBlocked mode rules us rest
+  blocked_unknown rest text following e l = blocked_none mode rules us rest (front_question rest (text ++ following) e ∙ ap opener_token (question_lead (is_unicode mode) text following l))
 
-  pub blocked_duplicated : (rest : List CodePoint) (w v text behind : List ℕ) → values rest ≡ 40 ∷ 63 ∷ (text ++ (58 ∷ behind)) → AreSides w v text → (has_twice w || has_twice v) ≡ true → IsBlocked mode rules us rest
-  blocked_duplicated rest w v text behind e s h = blocked_none mode rules us rest (front_question rest (text ++ (58 ∷ behind)) e ∙ ap opener_token (twice_none (is_unicode mode) w v text behind s h))
+  pub blocked_duplicated : (rest : List CodePoint) (w v text following : List ℕ) → values rest ≡ 40 ∷ 63 ∷ (text ++ (58 ∷ following)) → AreSides w v text → (has_twice w || has_twice v) ≡ true → IsBlocked mode rules us rest
+  blocked_duplicated rest w v text following e s h = blocked_none mode rules us rest (front_question rest (text ++ (58 ∷ following)) e ∙ ap opener_token (twice_none (is_unicode mode) w v text following s h))
 
-  pub blocked_empty : (rest : List CodePoint) (behind : List ℕ) → values rest ≡ 40 ∷ 63 ∷ 45 ∷ 58 ∷ behind → IsBlocked mode rules us rest
-  blocked_empty rest behind e = blocked_token mode rules us rest (opener (ignoring (Some (0, 0)))) 4 (front_question rest (45 ∷ 58 ∷ behind) e) (λ o. o.1 refl)
+  pub blocked_empty : (rest : List CodePoint) (following : List ℕ) → values rest ≡ 40 ∷ 63 ∷ 45 ∷ 58 ∷ following → IsBlocked mode rules us rest
+  blocked_empty rest following e = blocked_token mode rules us rest (opener (ignoring (Some (0, 0)))) 4 (front_question rest (45 ∷ 58 ∷ following) e) (λ o. o.1 refl)
 
-  pub blocked_shared : (rest : List CodePoint) (w v text behind : List ℕ) → values rest ≡ 40 ∷ 63 ∷ (text ++ (58 ∷ behind)) → AreSides w v text → (has_twice w || has_twice v) ≡ false → share_some w v ≡ true
+  pub blocked_shared : (rest : List CodePoint) (w v text following : List ℕ) → values rest ≡ 40 ∷ 63 ∷ (text ++ (58 ∷ following)) → AreSides w v text → (has_twice w || has_twice v) ≡ false → share_some w v ≡ true
       → IsBlocked mode rules us rest
-  blocked_shared rest w v text behind e s once h =
+  blocked_shared rest w v text following e s once h =
       let some = sides_some w v text s (shared_some w v h) in
       let spelled : SpellsModifiers (letters_bits w) (letters_bits v) text = record { enabled = w; disabled = v; sides = s; some = some; once = once; enabling_is = refl; disabling_is = refl } in
       blocked_token mode rules us rest (opener (ignoring (Some (letters_bits w, letters_bits v)))) (length text + 3)
-      (front_question rest (text ++ (58 ∷ behind)) e ∙ ap opener_token (question_sides (is_unicode mode) w v text (58 ∷ behind) s some ∙ modified_read (letters_bits w) (letters_bits v) text behind spelled))
+      (front_question rest (text ++ (58 ∷ following)) e ∙ ap opener_token (question_sides (is_unicode mode) w v text (58 ∷ following) s some ∙ modified_read (letters_bits w) (letters_bits v) text following spelled))
       (λ o. letter_shared w v (shared w v (sides_letters w v text s).0 h) o.0)

@@ -32,11 +32,11 @@ flags_say_other us start added _ c = refl
 
 module _ (mode : Mode) (rules : Rules) (us : List CodePoint) (start added : ℕ) where
   escape_says_other : (place : ℕ) (rest : List CodePoint) (d : Diagnostic) → IsEscapeCause mode us start added place rest d → is_invalid_input d ≡ false
-  escape_says_other place rest _ (escape.invalid_escape behind unicode whole no_value no_limit) = refl
+  escape_says_other place rest _ (escape.invalid_escape following unicode whole no_value no_limit) = refl
   escape_says_other place rest _ c = refl
 
   property_says_other : (place : ℕ) (rest : List CodePoint) (d : Diagnostic) → IsPropertyCause mode us start added place rest d → is_invalid_input d ≡ false
-  property_says_other place rest _ (escape.no_property letter behind unicode whole is other) = refl
+  property_says_other place rest _ (escape.no_property letter following unicode whole is other) = refl
   property_says_other place rest _ c = refl
 
   class_says_other : (from : ℕ) (at_class : List CodePoint) (place : ℕ) (d : Diagnostic) → IsClassCause mode us start added from at_class place d → is_invalid_input d ≡ false

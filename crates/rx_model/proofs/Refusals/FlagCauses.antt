@@ -3,11 +3,12 @@ use Rattle.std.proofs.Common.{◌≡◌, refl, ap, sym, ◌∙◌, subst, ℕ, B
 use Rattle.std.proofs.lemmas.Bool.{and_from, and_parts, both_ways}
 use Rattle.std.proofs.lemmas.List.{map-append}
 use Rattle.std.proofs.lemmas.List.Folds.{list_any-append}
+use Rattle.rx_base.specs.Flags.{holds, is_flag}
 use Rattle.rx_base.specs.declared.diagnostic.Diagnostic.{Diagnostic}
 use Rattle.rx_base.specs.declared.diagnostic.Diagnostic.TheVariants.{UnknownFlag, DuplicatedFlags, InvalidUnicodeFlags}
 use Rattle.rx_units.specs.declared.code_point.CodePoint.{CodePoint}
 use Rattle.rx_units.specs.Units.{values}
-use Rattle.rx_model.specs.Inputs.Flags.{are_distinct_flags, flags_ok, holds, is_flag}
+use Rattle.rx_model.specs.Inputs.Flags.{are_distinct_flags, flags_ok}
 use Rattle.rx_model.specs.Refusals.FlagCauses.{IsFirstOffence, IsFlagCause, unit_span, unknown, duplicated, both_modes}
 
 unheld : (p q : Bool) → not (p || q) ≡ true → not p ≡ true
@@ -44,19 +45,19 @@ offends_on : (before : List CodePoint) (unit : CodePoint) (after : List CodePoin
 offends_on before unit after h ok =
     both_ways (flags_ok (values before ++ (unit.value ∷ []))) h (flags_front (values before ++ (unit.value ∷ [])) (values after) (ap flags_ok (sym (values_cut before unit after)) ∙ ok))
 
--- Two cuts of one list: they are one, or one stands behind the other.
+-- Two cuts of one list: they are one, or one stands after the other.
 abbrev Further : List CodePoint → CodePoint → List CodePoint → Type 0
 Further before unit other = (more : List CodePoint) × (other ≡ before ++ (unit ∷ more))
 
-cuts : (before : List CodePoint) (unit : CodePoint) (after other : List CodePoint) (one : CodePoint) (behind : List CodePoint) → before ++ (unit ∷ after) ≡ other ++ (one ∷ behind) →
+cuts : (before : List CodePoint) (unit : CodePoint) (after other : List CodePoint) (one : CodePoint) (following : List CodePoint) → before ++ (unit ∷ after) ≡ other ++ (one ∷ following) →
     ((before ≡ other) × (unit ≡ one)) ⊎ (Further before unit other ⊎ Further other one before)
-cuts [] unit after [] one behind e = let p : unit ≡ one = cc e in inl (refl, p)
-cuts [] unit after (o ∷ other) one behind e = let p : unit ≡ o = cc e in inr (inl (other, ap (λ x. x ∷ other) (sym p)))
-cuts (b ∷ before) unit after [] one behind e = let p : b ≡ one = cc e in inr (inr (before, ap (λ x. x ∷ before) p))
-cuts (b ∷ before) unit after (o ∷ other) one behind e =
+cuts [] unit after [] one following e = let p : unit ≡ one = cc e in inl (refl, p)
+cuts [] unit after (o ∷ other) one following e = let p : unit ≡ o = cc e in inr (inl (other, ap (λ x. x ∷ other) (sym p)))
+cuts (b ∷ before) unit after [] one following e = let p : b ≡ one = cc e in inr (inr (before, ap (λ x. x ∷ before) p))
+cuts (b ∷ before) unit after (o ∷ other) one following e =
     let p : b ≡ o = cc e in
-    let tails : before ++ (unit ∷ after) ≡ other ++ (one ∷ behind) = cc e in
-    elim (cuts before unit after other one behind tails) [
+    let tails : before ++ (unit ∷ after) ≡ other ++ (one ∷ following) = cc e in
+    elim (cuts before unit after other one following tails) [
       | inl same ↦ inl (ap (λ x. x ∷ before) p ∙ ap (λ xs. o ∷ xs) same.0, same.1)
       | inr apart ↦ inr (elim apart [
         | inl f ↦ inl (f.0, ap (λ xs. o ∷ xs) f.1 ∙ ap (λ x. x ∷ (before ++ (unit ∷ f.0))) (sym p))
@@ -126,12 +127,12 @@ module _ (us : List CodePoint) where
     cause_at before unit s true true h k = (DuplicatedFlags (unit_span us first added (length before)) unit.value, duplicated before unit s h k)
     cause_at before unit s true false h k = (InvalidUnicodeFlags (unit_span us first added (length before)), both_modes before unit s h k)
 
-    -- Behind flags the first offence is among the units left.
-    cause_behind : (after before : List CodePoint) → us ≡ before ++ after → flags_ok (values before) ≡ true → flags_ok (values us) ≡ false → (d : Diagnostic) × IsFlagCause us first added d
-    cause_behind [] before cut passed refused =
+    -- After flags the first offence is among the units left.
+    cause_after : (after before : List CodePoint) → us ≡ before ++ after → flags_ok (values before) ≡ true → flags_ok (values us) ≡ false → (d : Diagnostic) × IsFlagCause us first added d
+    cause_after [] before cut passed refused =
         absurd (both_ways (flags_ok (values us)) refused (ap (λ x. flags_ok (values x)) (cut ∙ append-nil before) ∙ passed))
-    cause_behind (unit ∷ after) before cut passed refused =
-        go (λ ok. cause_behind after (before ++ (unit ∷ [])) (cut ∙ sym (append_assoc before (unit ∷ []) after)) (ap flags_ok (map-append (λ u. u.value) before (unit ∷ [])) ∙ ok) refused)
+    cause_after (unit ∷ after) before cut passed refused =
+        go (λ ok. cause_after after (before ++ (unit ∷ [])) (cut ∙ sym (append_assoc before (unit ∷ []) after)) (ap flags_ok (map-append (λ u. u.value) before (unit ∷ [])) ∙ ok) refused)
         (flags_ok (values before ++ (unit.value ∷ []))) refl
       where
         go : (flags_ok (values before ++ (unit.value ∷ [])) ≡ true → (d : Diagnostic) × IsFlagCause us first added d) → (b : Bool) → flags_ok (values before ++ (unit.value ∷ [])) ≡ b → (d : Diagnostic) × IsFlagCause us first added d
@@ -140,4 +141,4 @@ module _ (us : List CodePoint) where
             cause_at before unit (record { after = after; cut = cut; passed = passed; offends = e }) (is_flag unit.value) (holds (values before) unit.value) refl refl
 
     pub some_cause : flags_ok (values us) ≡ false → (d : Diagnostic) × IsFlagCause us first added d
-    some_cause refused = cause_behind us [] refl refl refused
+    some_cause refused = cause_after us [] refl refl refused

@@ -82,10 +82,10 @@ module _ (mode : Mode) (rules : Rules) where
       let s = run_split inside (closer ∷ more) (o ∷ os) false after ready_after h in
       let within = closed_alone inside i (o ∷ os) false s.groups s.between s.first in
       let rest : run mode more os (group_takes mode o) ≡ state after ready_after = ap (λ os. run mode (closer ∷ more) os s.between) (sym within.same) ∙ s.second in
-      let behind = closed_alone more m os (group_takes mode o) after ready_after rest in
+      let following = closed_alone more m os (group_takes mode o) after ready_after rest in
       record {
-        same = behind.same;
-        alone = run-append mode inside (closer ∷ more) (o ∷ []) false (o ∷ []) s.between (run_in mode rules inside [] (o ∷ []) false [] s.between within.alone) ∙ behind.alone;
+        same = following.same;
+        alone = run-append mode inside (closer ∷ more) (o ∷ []) false (o ∷ []) s.between (run_in mode rules inside [] (o ∷ []) false [] s.between within.alone) ∙ following.alone;
       }
 
   pub innermost : (us : List CodePoint) (place : ℕ) (o : Opener) (os : List Opener) (ready : Bool) (rest : List CodePoint) → IsReached mode rules us place (o ∷ os) ready rest → (from : ℕ) × IsInside mode rules us from o place rest

@@ -8,6 +8,7 @@ use Rattle.std.proofs.lemmas.List.{map-append}
 use Rattle.std.proofs.lemmas.List.Elements.{All-append, All-cons, All-nil}
 use Rattle.std.proofs.lemmas.Map.Made.{Contains-tail}
 use Rattle.std.proofs.lemmas.Option.{option_and_then_some}
+use Rattle.rx_base.specs.Characters.{is_one_of}
 use Rattle.rx_base.specs.declared.diagnostic.Diagnostic.{Diagnostic}
 use Rattle.rx_units.specs.declared.code_point.CodePoint.{CodePoint}
 use Rattle.rx_units.specs.Units.{values}
@@ -24,14 +25,13 @@ use Rattle.rx_model.specs.Groups.NameFronts.{begins_pair}
 use Rattle.rx_model.specs.Groups.Groups.{BeginsName, EndsName, of_group, of_reference, is_mark}
 use Rattle.rx_model.specs.Inputs.Environment.{Environment, for_classes}
 use Rattle.rx_model.specs.Quantifiers.CountsReading.{CountsRead, counts_read, no_counts_read, many_digits, counts_read_at}
-use Rattle.rx_model.specs.Quantifiers.Quantifiers.{AreDigits, SpellsBraces, SpellsCounts, braces, decimal_behind, decimal_digit_value, lazy_mark, optional, plus, star}
+use Rattle.rx_model.specs.Quantifiers.Quantifiers.{AreDigits, SpellsBraces, SpellsCounts, braces, decimal_after, decimal_digit_value, lazy_mark, optional, plus, star}
 use Rattle.rx_model.specs.Reading.Fronts.{Counts, backslash_front, counts, counts_at, front, named_token, no_counts, opener_token, quantifier_token, syntax_front}
 use Rattle.rx_model.specs.Reading.Rows.{Spells, is_legacy_syntax}
 use Rattle.rx_model.specs.Refusals.Causes as cause
 use Rattle.rx_model.specs.Refusals.Causes.{HasBraces, begins_modifiers, IsCauseAtPlace, IsOutOfOrder, IsTooLarge}
 use Rattle.rx_model.specs.Refusals.Reached.{IsPlace, IsReached, text_environment, text_groups, text_names}
 use Rattle.rx_model.specs.Refusals.Stops as stop
-use Rattle.rx_model.specs.Refusals.Stops.{is_one_of}
 use Rattle.rx_model.specs.Spelling.ReadBack.{AreCodeUnits}
 use Rattle.rx_model.specs.Trees.Early.{IsGreatest, Obeys, greatest_count}
 use Rattle.rx_model.specs.Trees.Shapes.{run}
@@ -55,6 +55,7 @@ use Rattle.rx_model.proofs.Refusals.LegacyStops.{backslash_read}
 use Rattle.rx_model.proofs.Spelling.Bounds.{character_low, units_front}
 use Rattle.rx_model.proofs.Trees.Joins.{token_row_append}
 use Rattle.rx_model.proofs.Trees.Runs.{run-append}
+use Rattle.rx_model.proofs.Groups.GroupFronts.{mark_is}
 
 -- Whether two names are one.
 same_text : (w v : List ℕ) → (w ≡ v) ⊎ (w ≡ v → ⊥)
@@ -111,21 +112,21 @@ some_quantifier min max n w = elim (cases_Bool (front_is (λ c. c == 63) (drop n
 -- A SyntaxCharacter that is no backslash, no `(` and no `[` is a token.
 some_syntax : (e : Environment) (c : ℕ) (w : List ℕ) → is_one_of (codes "^$.*+?)|") c ≡ true → IsSome (syntax_front e c w)
 unfolding counts_at
-some_syntax e c w h = elim (or_cases (94 == c) _ h) [
+some_syntax e c w h = elim (or_cases (c == 94) _ h) [
   | inl p ↦ at 94 p (_, refl)
-  | inr h ↦ elim (or_cases (36 == c) _ h) [
+  | inr h ↦ elim (or_cases (c == 36) _ h) [
     | inl p ↦ at 36 p (_, refl)
-    | inr h ↦ elim (or_cases (46 == c) _ h) [
+    | inr h ↦ elim (or_cases (c == 46) _ h) [
       | inl p ↦ at 46 p (_, refl)
-      | inr h ↦ elim (or_cases (42 == c) _ h) [
+      | inr h ↦ elim (or_cases (c == 42) _ h) [
         | inl p ↦ at 42 p (some_quantifier 0 None 1 (42 ∷ w))
-        | inr h ↦ elim (or_cases (43 == c) _ h) [
+        | inr h ↦ elim (or_cases (c == 43) _ h) [
           | inl p ↦ at 43 p (some_quantifier 1 None 1 (43 ∷ w))
-          | inr h ↦ elim (or_cases (63 == c) _ h) [
+          | inr h ↦ elim (or_cases (c == 63) _ h) [
             | inl p ↦ at 63 p (some_quantifier 0 (Some 1) 1 (63 ∷ w))
-            | inr h ↦ elim (or_cases (41 == c) _ h) [
+            | inr h ↦ elim (or_cases (c == 41) _ h) [
               | inl p ↦ at 41 p (_, refl)
-              | inr h ↦ elim (or_cases (124 == c) false h) [ inl p ↦ at 124 p (_, refl) | inr k ↦ absurd (let f : ⊥ = cc k in f) ]
+              | inr h ↦ elim (or_cases (c == 124) false h) [ inl p ↦ at 124 p (_, refl) | inr k ↦ absurd (let f : ⊥ = cc k in f) ]
             ]
           ]
         ]
@@ -134,8 +135,8 @@ some_syntax e c w h = elim (or_cases (94 == c) _ h) [
   ]
 ]
   where
-    at : (d : ℕ) → (d == c) ≡ true → IsSome (syntax_front e d w) → IsSome (syntax_front e c w)
-    at d p s = subst (λ c. IsSome (syntax_front e c w)) (eqb-true d c p) s
+    at : (d : ℕ) → (c == d) ≡ true → IsSome (syntax_front e d w) → IsSome (syntax_front e c w)
+    at d p s = subst (λ c. IsSome (syntax_front e c w)) (sym (eqb-true c d p)) s
 
 module _ (rules : Rules) (us : List CodePoint) (start added : ℕ) where
   abbrev here : Environment
@@ -173,10 +174,10 @@ module _ (rules : Rules) (us : List CodePoint) (start added : ℕ) where
   its_place {place} {open_groups} {ready} r = record { open_groups = open_groups; ready = ready; reached = r }
 
   index_is : (n : ℕ) (ds : List ℕ) → AreDigits n ds → starts 48 ds ≡ false → 1 ≤ n
-  index_is n ds d other = first (d.first) d.more (ap (decimal_behind 0) (sym d.some) ∙ d.number) (ap (starts 48) (sym d.some) ∙ other)
+  index_is n ds d other = first (d.first) d.more (ap (decimal_after 0) (sym d.some) ∙ d.number) (ap (starts 48) (sym d.some) ∙ other)
     where
-      first : (c : ℕ) (more : List ℕ) → decimal_behind 0 (c ∷ more) ≡ Some n → (c == 48) ≡ false → 1 ≤ n
-      first c more h k = option_and_then_some (λ d. decimal_behind (10 * 0 + d) more) (decimal_digit_value c) n h (λ d e f.
+      first : (c : ℕ) (more : List ℕ) → decimal_after 0 (c ∷ more) ≡ Some n → (c == 48) ≡ false → 1 ≤ n
+      first c more h k = option_and_then_some (λ d. decimal_after (10 * 0 + d) more) (decimal_digit_value c) n h (λ d e f.
           let t = digit_there c d e in
           let l = decimal_le (10 * 0 + d) more n f in
           let some : 0 < c - 48 = grind (arith, nat_tests, t.0, k) in
@@ -199,7 +200,7 @@ module _ (rules : Rules) (us : List CodePoint) (start added : ℕ) where
       bad_by : IsOutOfOrder min max ⊎ IsTooLarge min max → (HasBraces min max (length s.prefix) rest → Refused) → (c : CountsRead) → counts_read_at (values rest) ≡ c → Refused
       bad_by bad refuse (counts_read low high n) h = refuse (record {
         prefix = s.prefix;
-        behind = lazy_mark greedy ++ values more;
+        following = lazy_mark greedy ++ values more;
         spelled = in_braces min max s.prefix s.counts bad;
         whole = text;
         count_is = refl;
@@ -274,11 +275,11 @@ module _ (rules : Rules) (us : List CodePoint) (start added : ℕ) where
   token_there u rest r units other (quantifier min max greedy) w more whole s = quantifier_there r min max greedy w more whole s
 
   -- A name that is not whole is refused.
-  name_there : (place : ℕ) (rest : List CodePoint) → IsPlace Legacy rules us place rest → (w behind : List ℕ) → values rest ≡ w → BeginsName here w behind → name_front false behind ≡ None → Refused
-  name_there place rest p w behind text begins none = by (name_at false behind) refl none
+  name_there : (place : ℕ) (rest : List CodePoint) → IsPlace Legacy rules us place rest → (w following : List ℕ) → values rest ≡ w → BeginsName here w following → name_front false following ≡ None → Refused
+  name_there place rest p w following text begins none = by (name_at false following) refl none
     where
-      ends_with : (n : ℕ) (back : List ℕ) → IsNameRow false behind n → drop n behind ≡ back → EndsName here (values rest) n back
-      ends_with n back longest h = record { behind = behind; begins = subst (λ w. BeginsName here w behind) (sym text) begins; longest = longest; rest_is = sym h }
+      ends_with : (n : ℕ) (back : List ℕ) → IsNameRow false following n → drop n following ≡ back → EndsName here (values rest) n back
+      ends_with n back longest h = record { following = following; begins = subst (λ w. BeginsName here w following) (sym text) begins; longest = longest; rest_is = sym h }
 
       escape_there : (n : ℕ) (v : List ℕ) (d : Decoded) → decoded true v ≡ d → EndsName here (values rest) n (92 ∷ v) → Refused
       escape_there n v (value x k) h e = (place, _, cause.misplaced_in_name place n x k rest v p e ((value_law true v x k).0 h))
@@ -290,9 +291,9 @@ module _ (rules : Rules) (us : List CodePoint) (start added : ℕ) where
             (λ many d. let no : invalid ≡ overflow many = sym h ∙ overflow_read v many d in cc no) refl,
       )
 
-      behind_row : (n : ℕ) (back : List ℕ) → IsNameRow false behind n → (starts 62 back ≡ true → n ≡ 0) → drop n behind ≡ back → Refused
-      behind_row n [] longest closes h = (place, _, cause.unterminated_name_in_legacy place n rest [] p refl (ends_with n [] longest h) refl (λ b. let no = b.whole in cc no) closes)
-      behind_row n (c ∷ v) longest closes h = elim (cases_Bool (c == 92)) [
+      after_row : (n : ℕ) (back : List ℕ) → IsNameRow false following n → (starts 62 back ≡ true → n ≡ 0) → drop n following ≡ back → Refused
+      after_row n [] longest closes h = (place, _, cause.unterminated_name_in_legacy place n rest [] p refl (ends_with n [] longest h) refl (λ b. let no = b.whole in cc no) closes)
+      after_row n (c ∷ v) longest closes h = elim (cases_Bool (c == 92)) [
         | inl b ↦ escape_there n v (decoded true v) refl (ends_with n (92 ∷ v) longest (h ∙ ap (λ c. c ∷ v) (eqb-true c 92 b)))
         | inr b ↦ elim (cases_Bool (begins_pair (c ∷ v))) [
           | inl t ↦ (place, _, cause.misplaced_pair place n rest (c ∷ v) p refl (ends_with n (c ∷ v) longest h) (pair_begins (c ∷ v) t))
@@ -300,18 +301,18 @@ module _ (rules : Rules) (us : List CodePoint) (start added : ℕ) where
         ]
       ]
 
-      not_closed : (c : ℕ) (cs : List ℕ) (n : ℕ) → closed_name (row (c ∷ cs) n) behind ≡ None → starts 62 (drop n behind) ≡ true → n ≡ 0
-      not_closed c cs n h t = absurd (let no : Some (c ∷ cs, n + 1) ≡ None = sym (cond-true (starts 62 (drop n behind)) _ _ t) ∙ h in let f : ⊥ = cc no in f)
+      not_closed : (c : ℕ) (cs : List ℕ) (n : ℕ) → closed_name (row (c ∷ cs) n) following ≡ None → starts 62 (drop n following) ≡ true → n ≡ 0
+      not_closed c cs n h t = absurd (let no : Some (c ∷ cs, n + 1) ≡ None = sym (cond-true (starts 62 (drop n following)) _ _ t) ∙ h in let f : ⊥ = cc no in f)
 
-      by : (r : NameRow) → name_at false behind ≡ r → closed_name (name_at false behind) behind ≡ None → Refused
-      by (row [] n) h k = behind_row n (drop n behind) (name_row_law false behind [] n h) (λ t. no_name_read false behind n h) refl
-      by (row (c ∷ cs) n) h k = behind_row n (drop n behind) (name_row_law false behind (c ∷ cs) n h) (not_closed c cs n (ap (λ r. closed_name r behind) (sym h) ∙ k)) refl
+      by : (r : NameRow) → name_at false following ≡ r → closed_name (name_at false following) following ≡ None → Refused
+      by (row [] n) h k = after_row n (drop n following) (name_row_law false following [] n h) (λ t. no_name_read false following n h) refl
+      by (row (c ∷ cs) n) h k = after_row n (drop n following) (name_row_law false following (c ∷ cs) n h) (not_closed c cs n (ap (λ r. closed_name r following) (sym h) ∙ k)) refl
 
   named_none : (o : Option (List ℕ × ℕ)) → opener_token (named_group o) ≡ None → o ≡ None
   named_none None h = refl
   named_none (Some n) h = absurd (let no : ⊥ = cc h in no)
 
-  -- Behind `(` a token stands, or a name is refused.
+  -- After `(` a token stands, or a name is refused.
   angle_there : (place : ℕ) (rest : List CodePoint) → IsPlace Legacy rules us place rest → (v : List ℕ) → values rest ≡ 40 ∷ 63 ∷ 60 ∷ v → opener_token (angle_group false v) ≡ None → Refused
   angle_there place rest p [] text h = name_there place rest p _ [] text (of_group refl) refl
   angle_there place rest p (x ∷ y) text h = elim (chosen (x == 61) (ap (λ o. o) (sym (if_opener (x == 61) _ _) ∙ h))) [
@@ -327,7 +328,7 @@ module _ (rules : Rules) (us : List CodePoint) (start added : ℕ) where
       if_opener false s t = refl
 
   question_there : (place : ℕ) (rest : List CodePoint) → IsPlace Legacy rules us place rest → (d : ℕ) (v : List ℕ) → values rest ≡ 40 ∷ 63 ∷ d ∷ v → is_mark d ≡ true → opener_token (question_group false (d ∷ v)) ≡ None → Refused
-  question_there place rest p d v text mark h = elim (or_cases (d == 58 || d == 61 || d == 33) (d == 60) mark) [
+  question_there place rest p d v text mark h = elim (or_cases (d == 58 || d == 61 || d == 33) (d == 60) (sym (mark_is d) ∙ mark)) [
     | inl m ↦ elim (or_cases (d == 58 || d == 61) (d == 33) m) [
       | inl n ↦ elim (or_cases (d == 58) (d == 61) n) [
         | inl k ↦ absurd (let no = at 58 k in let f : ⊥ = cc no in f)
@@ -345,16 +346,16 @@ module _ (rules : Rules) (us : List CodePoint) (start added : ℕ) where
   unfolding group_front
   paren_there place rest p [] text other h = absurd (let no : ⊥ = cc h in no)
   paren_there place rest p (c ∷ w) text other h = elim (cases_Bool (c == 63)) [
-    | inl q ↦ behind w (text ∙ ap (λ c. 40 ∷ c ∷ w) (eqb-true c 63 q)) (ap (λ c. begins_modifiers (40 ∷ c ∷ w)) (sym (eqb-true c 63 q)) ∙ other)
+    | inl q ↦ following w (text ∙ ap (λ c. 40 ∷ c ∷ w) (eqb-true c 63 q)) (ap (λ c. begins_modifiers (40 ∷ c ∷ w)) (sym (eqb-true c 63 q)) ∙ other)
         (ap opener_token (sym (cond-true (c == 63) _ _ q)) ∙ h)
     | inr q ↦ absurd (let no : opener_token (Some (capturing None, 1)) ≡ None = ap opener_token (sym (cond-false (c == 63) _ _ q)) ∙ h in let f : ⊥ = cc no in f)
   ]
     where
-      behind : (w : List ℕ) → values rest ≡ 40 ∷ 63 ∷ w → begins_modifiers (40 ∷ 63 ∷ w) ≡ false → opener_token (question_group false w) ≡ None → Refused
-      behind [] text other h = absurd (let no : ⊥ = cc other in no)
-      behind (d ∷ v) text other h = question_there place rest p d v text (not-false (is_mark d) other) h
+      following : (w : List ℕ) → values rest ≡ 40 ∷ 63 ∷ w → begins_modifiers (40 ∷ 63 ∷ w) ≡ false → opener_token (question_group false w) ≡ None → Refused
+      following [] text other h = absurd (let no : ⊥ = cc other in no)
+      following (d ∷ v) text other h = question_there place rest p d v text (not-false (is_mark d) other) h
 
-  -- Behind a backslash a token stands, or a reference by name is refused, or the text ends.
+  -- After a backslash a token stands, or a reference by name is refused, or the text ends.
   reference_none : (o : Option (List ℕ × ℕ)) → named_token o ≡ None → o ≡ None
   reference_none None h = refl
   reference_none (Some n) h = absurd (let no : ⊥ = cc h in no)

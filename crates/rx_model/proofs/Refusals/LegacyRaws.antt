@@ -2,6 +2,7 @@
 use Rattle.std.proofs.Common.{◌≡◌, refl, ap, ℕ, ◌||◌, true, false, not, List, [], ◌∷◌, codes, arith, inl}
 use Rattle.std.proofs.lemmas.Bool.Decides.{nat_tests}
 use Rattle.std.proofs.Math.Bool.{or-false}
+use Rattle.rx_base.specs.Characters.{is_one_of}
 use Rattle.rx_units.specs.declared.code_point.CodePoint.{CodePoint}
 use Rattle.rx_units.specs.Units.{values}
 use Rattle.rx_model.specs.declared.mode.Mode.{Mode}
@@ -10,7 +11,7 @@ use Rattle.rx_model.specs.Inputs.Environment.{Environment, is_unicode}
 use Rattle.rx_model.specs.Characters.LegacyEscapes.{is_class_control, is_control}
 use Rattle.rx_model.specs.Quantifiers.Quantifiers.{BeginsWithBraces}
 use Rattle.rx_model.specs.Reading.Rows.{Spells, is_legacy_syntax, stands_raw}
-use Rattle.rx_model.specs.Refusals.Stops.{is_letter, is_one_of}
+use Rattle.rx_model.specs.Refusals.Stops.{is_letter}
 use Rattle.rx_model.specs.Trees.Token.{character}
 use Rattle.rx_model.specs.Characters.UnitKinds.{unit_kind}
 

@@ -3,7 +3,8 @@ use Rattle.std.proofs.Common.{◌≡◌, ℕ, ◌==◌, Bool, true, false, cond,
 use Rattle.std.proofs.lemmas.Bool.{eqb-true, cond-true, cond-false, cases_Bool, not-true, or_parts, not-false}
 use Rattle.std.proofs.lemmas.Bool.Decides.{nat_tests}
 use Rattle.std.proofs.Math.Bool.{and-false}
-use Rattle.rx_tables.specs.Characters.{control_escape_value, control_letter_value, is_decimal_digit, is_octal_digit, is_reserved_punctuator, is_within}
+use Rattle.rx_base.specs.Characters.{is_within, is_one_of}
+use Rattle.rx_tables.specs.Characters.{control_escape_value, control_letter_value, is_decimal_digit, is_octal_digit, is_reserved_punctuator}
 use Rattle.rx_ast.specs.declared.leaf.BoundaryAssertionKind.{BoundaryAssertionKind}
 use Rattle.rx_ast.specs.declared.leaf.CharacterClassEscapeKind.{CharacterClassEscapeKind}
 use Rattle.rx_ast.specs.declared.leaf.CharacterKind.{CharacterKind}
@@ -12,13 +13,13 @@ use Rattle.rx_ast.specs.declared.leaf.CharacterKind.TheVariants as kinds
 use Rattle.rx_units.proofs.Choices.{both, chosen, low_next}
 use Rattle.rx_model.specs.Classes.ClassFronts.{AtomRead, atom_read, no_atom, character_atom, escape_atom, escape_in_class}
 use Rattle.rx_model.specs.Classes.ClassTokens.{Atom}
-use Rattle.rx_model.specs.Characters.Decoding.{four_at, behind_u}
+use Rattle.rx_model.specs.Characters.Decoding.{four_at, after_u}
 use Rattle.rx_model.specs.Inputs.Environment.{Environment, is_sets, is_unicode}
-use Rattle.rx_model.specs.Characters.EscapeFronts.{EscapeRead, escaped, nothing, too_many, no_unicode, escaped_if, unicode_read, two_at, escape_behind, escape_at, control_behind, octal_at, digit_at, legacy_at, or_legacy, any_escape_at, class_escape_at}
-use Rattle.rx_model.specs.Reading.Fronts.{boundary_at, backslash_token, backslash_front, escaped_token, is_reference, indexed_token, digits, digits_behind, Digits}
+use Rattle.rx_model.specs.Characters.EscapeFronts.{EscapeRead, escaped, nothing, too_many, no_unicode, escaped_if, unicode_read, two_at, escape_after, escape_at, control_after, octal_at, digit_at, legacy_at, or_legacy, any_escape_at, class_escape_at}
+use Rattle.rx_model.specs.Reading.Fronts.{boundary_at, backslash_token, backslash_front, escaped_token, is_reference, indexed_token, digits, digits_after, Digits}
 use Rattle.rx_model.specs.Characters.LegacyEscapes.{is_free, two_next, four_next, is_class_control}
 use Rattle.rx_model.specs.Properties.PropertyForms.{begins_property}
-use Rattle.rx_model.specs.Refusals.Stops.{is_one_of, is_hyphen_escaped, begins_class_escape}
+use Rattle.rx_model.specs.Refusals.Stops.{is_hyphen_escaped, begins_class_escape}
 use Rattle.rx_model.specs.Trees.Token.{Token}
 use Rattle.rx_model.proofs.Characters.Escapes.{escape_no_limit}
 use Rattle.rx_model.proofs.Classes.ClassFronts.{no_legacy_hyphen, no_legacy_punctuator}
@@ -43,7 +44,7 @@ null_read w h n = n kinds.Null 0 1 (cond-false (front_is is_decimal_digit w) _ _
 
 value_read : (c : ℕ) (w : List ℕ) (v : ℕ) → control_escape_value c ≡ Some v → NotEscaped (c ∷ w) → ⊥
 unfolding escape_at
-value_read c w v h n = n kinds.SingleEscape v 1 (ap (λ o. escape_behind false o c w) h)
+value_read c w v h n = n kinds.SingleEscape v 1 (ap (λ o. escape_after false o c w) h)
 
 two_some : (w : List ℕ) → is_some (two_next w) ≡ true → (v : ℕ) × (two_at w ≡ Some v)
 two_some [] h = absurd (let no : ⊥ = cc h in no)
@@ -63,7 +64,7 @@ two_read w h n = let v = two_some w h in n kinds.HexadecimalEscape v.0 3 (ap (es
 
 four_read : (w : List ℕ) → is_some (four_next w) ≡ true → NotEscaped (117 ∷ w) → ⊥
 unfolding escape_at
-four_read w h n = let v = four_some w h in n kinds.UnicodeEscape v.0.0 5 (ap (λ o. unicode_read (behind_u false o w)) v.1)
+four_read w h n = let v = four_some w h in n kinds.UnicodeEscape v.0.0 5 (ap (λ o. unicode_read (after_u false o w)) v.1)
 
 letter_cases : (c : ℕ) → is_one_of (codes "dDsSwWfnrtvb") c ≡ true → class_escape_at c ≡ None → (c == 98) ≡ false → is_some (control_escape_value c) ≡ true
 letter_cases c h k b = grind (arith, nat_tests)
@@ -83,7 +84,7 @@ read_by : (r s : EscapeRead) → r ≡ s → IsRead s → IsRead r
 read_by r s h k = (k.0, k.1, k.2, h ∙ k.3)
 
 module _ (inside : Bool) (e : Environment) where
-  control_is_read : (w : List ℕ) → NotEscaped (99 ∷ w) → IsRead (control_behind inside w)
+  control_is_read : (w : List ℕ) → NotEscaped (99 ∷ w) → IsRead (control_after inside w)
   control_is_read [] n = (_, _, _, refl)
   control_is_read (c ∷ w) n = elim (cases_Bool (is_some (control_letter_value c))) [
     | inl h ↦ absurd (letter_read c w h n)
@@ -108,7 +109,7 @@ module _ (inside : Bool) (e : Environment) where
       is_free inside e.groups (c ∷ w) ≡ true → IsRead (legacy_at inside e (c ∷ w))
   unfolding legacy_at
   legacy_is_read c w n k d b boundary f = elim (cases_Bool (c == 99)) [
-    | inl h ↦ read_by _ (control_behind inside w) (cond-true (c == 99) _ _ h) (control_is_read w (subst (λ c. NotEscaped (c ∷ w)) (eqb-true c 99 h) n))
+    | inl h ↦ read_by _ (control_after inside w) (cond-true (c == 99) _ _ h) (control_is_read w (subst (λ c. NotEscaped (c ∷ w)) (eqb-true c 99 h) n))
     | inr h ↦ elim (cases_Bool (is_decimal_digit c)) [
       | inl i ↦ read_by _ (digit_at inside e.groups c w) (cond-false (c == 99) _ _ h ∙ cond-true (is_decimal_digit c) _ _ i) (digit_is_read c w n f)
       | inr i ↦ elim (cases_Bool (is_one_of (codes "dDsSwWfnrtvb") c)) [
@@ -173,7 +174,7 @@ module _ (e : Environment) (m : is_unicode e.mode ≡ false) where
   pub backslash_read : (c : ℕ) (w : List ℕ) → (c == 107 && e.named) ≡ false → IsSome (backslash_front e (c ∷ w))
   unfolding backslash_front
   backslash_read c w k = elim (cases_Bool (is_reference e (c ∷ w))) [
-    | inl h ↦ let t = digits_token (digits_behind 0 0 (c ∷ w)) in (t.0, cond-true (is_reference e (c ∷ w)) _ _ h ∙ t.1)
+    | inl h ↦ let t = digits_token (digits_after 0 0 (c ∷ w)) in (t.0, cond-true (is_reference e (c ∷ w)) _ _ h ∙ t.1)
     | inr h ↦
         let t = kinds_token c w k h (boundary_at e c) refl (class_escape_at c) refl in (
           t.0,
@@ -196,8 +197,8 @@ module _ (e : Environment) (m : is_unicode e.mode ≡ false) where
       read_atom (any_escape_at true e (c ∷ w))
       (read_by _ _ (ap (λ u. or_legacy (escape_at u (c ∷ w)) u (legacy_at true e (c ∷ w))) m) (any_is_read true e c w (escape_at false (c ∷ w)) refl k g b refl refl))
 
-  pub atom_behind_backslash : (c : ℕ) (w : List ℕ) → (c == 107 && e.named) ≡ false → IsAtomRead (escape_in_class e (c ∷ w))
-  atom_behind_backslash c w k = elim (cases_Bool (c == 98)) [
+  pub atom_after_backslash : (c : ℕ) (w : List ℕ) → (c == 107 && e.named) ≡ false → IsAtomRead (escape_in_class e (c ∷ w))
+  atom_after_backslash c w k = elim (cases_Bool (c == 98)) [
     | inl h ↦ (_, _, cond-true (c == 98) _ _ h)
     | inr h ↦
         let t = kinds_atom c w k h (class_escape_at c) refl in (
@@ -210,10 +211,10 @@ module _ (e : Environment) (m : is_unicode e.mode ≡ false) where
   ]
 
   -- and none where one begins by no rule of the mode
-  pub no_atom_behind_backslash : (w : List ℕ) → begins_class_escape e w ≡ false → escape_in_class e w ≡ no_atom
+  pub no_atom_after_backslash : (w : List ℕ) → begins_class_escape e w ≡ false → escape_in_class e w ≡ no_atom
   unfolding escape_at legacy_at
-  no_atom_behind_backslash [] h = refl
-  no_atom_behind_backslash (c ∷ w) h =
+  no_atom_after_backslash [] h = refl
+  no_atom_after_backslash (c ∷ w) h =
       let last = (or_parts _ (not (is_unicode e.mode) && not (c == 107 && e.named)) h).1 in
       let k : (c == 107 && e.named) ≡ true = not-false _ (low_next (not (is_unicode e.mode)) _ (ap not m) last) in
       let p = both (c == 107) e.named k in

@@ -48,7 +48,7 @@ module _ (mode : Mode) (rules : Rules) (us : List CodePoint) (start added : ℕ)
     in_class : (from : ℕ) (at_class : List CodePoint) → IsPlace mode rules us from at_class → IsClassCause mode us start added from at_class f d → Located f d
 
   braces_are : (f count min : ℕ) (max : Option ℕ) (rest : List CodePoint) → HasBraces min max count rest → answer mode rules us start added f rest ≡ by_quantifier
-  braces_are f count min max rest h = let b = brace_first min max h.prefix h.spelled in brace_is mode rules us start added f rest (b.0 ++ h.behind) (h.whole ∙ ap (λ w. w ++ h.behind) b.1)
+  braces_are f count min max rest h = let b = brace_first min max h.prefix h.spelled in brace_is mode rules us start added f rest (b.0 ++ h.following) (h.whole ∙ ap (λ w. w ++ h.following) b.1)
 
   lone_row : (f min : ℕ) (max : Option ℕ) (greedy : Bool) (w more : List CodePoint) (u : Bool) → is_unicode mode ≡ u → Spells here (quantifier min max greedy) w more → AreObeying mode us (quantifier min max greedy ∷ []) →
       Row f (w ++ more) (lone_refusal u (span_between us start added f (f + length w)))
@@ -57,7 +57,7 @@ module _ (mode : Mode) (rules : Rules) (us : List CodePoint) (start added : ℕ)
       (quantifier_row (quantifier_is mode rules us start added f min max greedy w more s) (lone min max greedy w more refl s o))
 
   located : (f : ℕ) (d : Diagnostic) → IsCauseAtPlace mode rules us start added f d → Located f d
-  located _ _ (cause.incomplete place behind ready rest r s some) = at_place rest (record { open_groups = []; ready = ready; reached = r }) (stop_row (outside behind ready r s))
+  located _ _ (cause.incomplete place following ready rest r s some) = at_place rest (record { open_groups = []; ready = ready; reached = r }) (stop_row (outside following ready r s))
   located _ _ (cause.lone place min max greedy open_groups w more r m s o) =
       at_place (w ++ more) (record { open_groups = open_groups; ready = false; reached = r }) (lone_row place min max greedy w more true m s o)
   located _ _ (cause.lone_in_legacy place min max greedy open_groups w more r m s o) =
@@ -70,30 +70,30 @@ module _ (mode : Mode) (rules : Rules) (us : List CodePoint) (start added : ℕ)
   located _ d (cause.of_property place rest p c) =
       let b = property_first mode us start added place rest d c in at_place rest p (property_row (property_is mode rules us start added place rest b.0 b.1 b.2 b.3) c)
   located _ d (cause.of_class from place at_class p c) = in_class from at_class p c
-  located _ _ (cause.unterminated_group from place behind group rest g s other) =
-      at_place rest (record { open_groups = group ∷ g.open_groups; ready = g.ready_inside; reached = inside_reached mode rules us from group place rest g }) (stop_row (inside from behind group g s))
-  located _ d (cause.unterminated_name place count rest behind p m n none ends) =
-      at_place rest p (told_row (name_is mode rules us start added place count rest behind (Some d) n ends (unterminated_is mode rules us start added place count behind none (rw m refl))))
-  located _ d (cause.unterminated_name_in_legacy place count rest behind p m n none no_pair ends) =
-      at_place rest p (told_row (name_is mode rules us start added place count rest behind (Some d) n ends (unterminated_is mode rules us start added place count behind none (rw (m, no_pair_begins behind no_pair) refl))))
-  located _ d (cause.misplaced_pair place count rest behind p m n pair) =
-      at_place rest p (told_row (name_is mode rules us start added place count rest behind (Some d) n (pair_no_closer mode rules us behind count pair) (pair_is mode rules us start added place count behind m pair)))
-  located _ d (cause.too_many_digits_in_name place count many rest behind p n limit) =
-      at_place rest p (told_row (name_is mode rules us start added place count rest (92 ∷ behind) (Some d) n (no_angle behind count) (overflow_is mode rules us start added place count many behind limit)))
-  located _ d (cause.misplaced_in_name place count value n rest behind p ends decodes) =
-      at_place rest p (told_row (name_is mode rules us start added place count rest (92 ∷ behind) (Some d) ends (no_angle behind count) (misplaced_is mode rules us start added place count value n behind decodes)))
-  located _ d (cause.invalid_in_name place count rest behind p n no_value no_limit begun) =
-      at_place rest p (told_row (name_is mode rules us start added place count rest (92 ∷ behind) (Some d) n (no_angle behind count) (invalid_is mode rules us start added place count behind false _ refl no_value no_limit begun)))
-  located _ d (cause.invalid_u_in_name place count rest behind p n no_value no_limit begun) =
-      at_place rest p (told_row (name_is mode rules us start added place count rest (92 ∷ behind) (Some d) n (no_angle behind count) (invalid_is mode rules us start added place count behind true _ refl no_value no_limit begun)))
+  located _ _ (cause.unterminated_group from place following group rest g s other) =
+      at_place rest (record { open_groups = group ∷ g.open_groups; ready = g.ready_inside; reached = inside_reached mode rules us from group place rest g }) (stop_row (inside from following group g s))
+  located _ d (cause.unterminated_name place count rest following p m n none ends) =
+      at_place rest p (told_row (name_is mode rules us start added place count rest following (Some d) n ends (unterminated_is mode rules us start added place count following none (rw m refl))))
+  located _ d (cause.unterminated_name_in_legacy place count rest following p m n none no_pair ends) =
+      at_place rest p (told_row (name_is mode rules us start added place count rest following (Some d) n ends (unterminated_is mode rules us start added place count following none (rw (m, no_pair_begins following no_pair) refl))))
+  located _ d (cause.misplaced_pair place count rest following p m n pair) =
+      at_place rest p (told_row (name_is mode rules us start added place count rest following (Some d) n (pair_no_closer mode rules us following count pair) (pair_is mode rules us start added place count following m pair)))
+  located _ d (cause.too_many_digits_in_name place count many rest following p n limit) =
+      at_place rest p (told_row (name_is mode rules us start added place count rest (92 ∷ following) (Some d) n (no_angle following count) (overflow_is mode rules us start added place count many following limit)))
+  located _ d (cause.misplaced_in_name place count value n rest following p ends decodes) =
+      at_place rest p (told_row (name_is mode rules us start added place count rest (92 ∷ following) (Some d) ends (no_angle following count) (misplaced_is mode rules us start added place count value n following decodes)))
+  located _ d (cause.invalid_in_name place count rest following p n no_value no_limit begun) =
+      at_place rest p (told_row (name_is mode rules us start added place count rest (92 ∷ following) (Some d) n (no_angle following count) (invalid_is mode rules us start added place count following false _ refl no_value no_limit begun)))
+  located _ d (cause.invalid_u_in_name place count rest following p n no_value no_limit begun) =
+      at_place rest p (told_row (name_is mode rules us start added place count rest (92 ∷ following) (Some d) n (no_angle following count) (invalid_is mode rules us start added place count following true _ refl no_value no_limit begun)))
   located _ _ (cause.no_such_group place n w more p s large) = at_place (w ++ more) p (told_row (index_is mode rules us start added place n w more s))
-  located _ _ (cause.no_group_name place rest behind p there h other) = at_place rest p (told_row (reference_is mode rules us start added place rest behind h other))
+  located _ _ (cause.no_group_name place rest following p there h other) = at_place rest p (told_row (reference_is mode rules us start added place rest following h other))
   located _ _ (cause.no_such_name place name w more p s unknown) = at_place (w ++ more) p (told_row (named_is mode rules us start added place name w more s))
-  located _ _ (cause.unknown_modifiers place rest text behind p h l) = at_place rest p (told_row (unknown_is mode rules us start added place rest text behind h l))
-  located _ _ (cause.duplicated_modifiers place rest enabled disabled text behind p h s twice) = at_place rest p (told_row (duplicated_is mode rules us start added place rest enabled disabled text behind h s twice))
-  located _ _ (cause.empty_modifiers place rest behind p h) = at_place rest p (told_row (empty_is mode rules us start added place rest behind h))
-  located _ _ (cause.invalid_modifiers place rest enabled disabled text behind p h s once share) =
-      at_place rest p (told_row (shared_is mode rules us start added place rest enabled disabled text behind h s once share))
+  located _ _ (cause.unknown_modifiers place rest text following p h l) = at_place rest p (told_row (unknown_is mode rules us start added place rest text following h l))
+  located _ _ (cause.duplicated_modifiers place rest enabled disabled text following p h s twice) = at_place rest p (told_row (duplicated_is mode rules us start added place rest enabled disabled text following h s twice))
+  located _ _ (cause.empty_modifiers place rest following p h) = at_place rest p (told_row (empty_is mode rules us start added place rest following h))
+  located _ _ (cause.invalid_modifiers place rest enabled disabled text following p h s once share) =
+      at_place rest p (told_row (shared_is mode rules us start added place rest enabled disabled text following h s once share))
 
   -- No quantifier stands where terms end at a brace.
   no_quantifier_row : (f : ℕ) (rest : List CodePoint) (d : Diagnostic) → NoBraces mode rules us start added rest → QuantifierRow mode rules us start added f rest d → ⊥
@@ -104,7 +104,7 @@ module _ (mode : Mode) (rules : Rules) (us : List CodePoint) (start added : ℕ)
     min = min;
     max = max;
     prefix = h.prefix;
-    rest = h.behind;
+    rest = h.following;
     spelled = h.spelled;
     whole = h.whole;
   })
@@ -112,7 +112,7 @@ module _ (mode : Mode) (rules : Rules) (us : List CodePoint) (start added : ℕ)
     min = min;
     max = max;
     prefix = h.prefix;
-    rest = h.behind;
+    rest = h.following;
     spelled = h.spelled;
     whole = h.whole;
   })

@@ -34,18 +34,18 @@ module _ (mode : Mode) (us : List CodePoint) (start added place : ℕ) (rest : L
 
   -- It says more than that nothing stands there.
   pub character_says : (d : Diagnostic) → IsEscapeCause mode us start added place rest d → yielding d ≢ no_item
-  character_says _ (escape.too_many_hex_digits count behind u h p) k = cc k
-  character_says _ (escape.invalid_escape behind u h no_value no_limit) k = cc k
+  character_says _ (escape.too_many_hex_digits count following u h p) k = cc k
+  character_says _ (escape.invalid_escape following u h no_value no_limit) k = cc k
 
   pub property_says : (d : Diagnostic) → IsPropertyCause mode us start added place rest d → yielding d ≢ no_item
-  property_says _ (escape.no_property c behind unicode whole is other) k = cc k
-  property_says _ (escape.unterminated_run w run behind b has short) k = cc k
-  property_says _ (escape.unclosed_run w run behind b has known goes other) k = cc k
-  property_says _ (escape.unclosed_pair w name value behind b has valid other) k = cc k
-  property_says _ (escape.unknown_pair w name value behind b has unknown) k = cc k
-  property_says _ (escape.unknown_run w run behind b has some goes unknown no_strings) k = cc k
-  property_says _ (escape.of_strings w run behind u b has goes unknown known) k = cc k
-  property_says _ (escape.negative_of_strings w run behind sets whole has no_category no_binary known) k = cc k
+  property_says _ (escape.no_property c following unicode whole is other) k = cc k
+  property_says _ (escape.unterminated_run w run following b has short) k = cc k
+  property_says _ (escape.unclosed_run w run following b has known goes other) k = cc k
+  property_says _ (escape.unclosed_pair w name value following b has valid other) k = cc k
+  property_says _ (escape.unknown_pair w name value following b has unknown) k = cc k
+  property_says _ (escape.unknown_run w run following b has some goes unknown no_strings) k = cc k
+  property_says _ (escape.of_strings w run following u b has goes unknown known) k = cc k
+  property_says _ (escape.negative_of_strings w run following sets whole has no_category no_binary known) k = cc k
 
   -- So a refusal of an escape is the first of it.
   pub escape_is_first : (f : ℕ) (d : Diagnostic) → IsCauseOfEscape mode us start added place rest f d → IsFirstOfEscape mode us start added place rest d

@@ -14,7 +14,7 @@ use Rattle.rx_model.specs.Reading.Reading.{Reads}
 use Rattle.rx_model.specs.declared.rules.Rules.{Rules}
 use Rattle.rx_model.proofs.FirstPass.Apart.{tells_apart}
 use Rattle.rx_model.proofs.Refusals.Beyond.{ClassLaws, cause_ends, blocked_beyond, ends_beyond, ends_refuse}
-use Rattle.rx_model.proofs.Classes.ClassBeyond.{at_bracket_is, behind_bracket, class_blocked, item_beyond}
+use Rattle.rx_model.proofs.Classes.ClassBeyond.{at_bracket_is, after_bracket, class_blocked, item_beyond}
 use Rattle.rx_model.proofs.Classes.ClassFaults.{stuck}
 use Rattle.rx_model.proofs.Classes.OneInClass.{one_in_class, two_in_class}
 use Rattle.rx_model.proofs.FirstPass.OwnGroups.{tells_groups}
@@ -36,7 +36,7 @@ none_beyond_in_class mode rules us start added from at_class place d c =
 -- the classes of every mode
 pub class_laws : (mode : Mode) (rules : Rules) (us : List CodePoint) (start added : ℕ) → ClassLaws mode rules us start added
 class_laws mode rules us start added = record {
-  behind_bracket = λ {from} {f} {at_class} {d} c. behind_bracket mode us start added from at_class f d (stuck mode us start added from at_class f d c);
+  after_bracket = λ {from} {f} {at_class} {d} c. after_bracket mode us start added from at_class f d (stuck mode us start added from at_class f d c);
   at_bracket = λ {from} {f} {at_class} {d} c.
       let b = at_bracket_is mode us start added from at_class f d (stuck mode us start added from at_class f d c) in
       (values b.1, ap values b.2 ∙ ap (λ x. x ∷ values b.1) b.3);

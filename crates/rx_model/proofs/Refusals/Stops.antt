@@ -3,7 +3,8 @@ use Rattle.std.proofs.Common.{◌≡◌, ℕ, ◌+◌, ◌*◌, ◌==◌, true, 
 use Rattle.std.proofs.lemmas.Bool.{eqb-true, or_cases, or_parts, or_from, not-true, true≢false, false_from_ne_true, both_ways}
 use Rattle.std.proofs.lemmas.Bool.Decides.{nat_tests}
 use Rattle.std.proofs.lemmas.Option.{option_and_then_some}
-use Rattle.rx_tables.specs.Characters.{is_within, is_decimal_digit, control_escape_value, control_letter_value, hex_digit_value}
+use Rattle.rx_base.specs.Characters.{is_within, is_one_of}
+use Rattle.rx_tables.specs.Characters.{is_decimal_digit, control_escape_value, control_letter_value, hex_digit_value}
 use Rattle.rx_ast.specs.declared.leaf.BoundaryAssertionKind.{BoundaryAssertionKind}
 use Rattle.rx_ast.specs.declared.leaf.CharacterClassEscapeKind.{CharacterClassEscapeKind}
 use Rattle.rx_ast.specs.declared.leaf.CharacterKind.{CharacterKind}
@@ -19,7 +20,7 @@ use Rattle.rx_model.specs.Reading.Fronts.{EscapeRead, escaped, nothing, too_many
 use Rattle.rx_model.specs.FirstPass.Marks.{starts}
 use Rattle.rx_model.specs.Quantifiers.Quantifiers.{SpellsCounts, star, plus, optional, braces, BeginsWithBraces}
 use Rattle.rx_model.specs.Reading.Rows.{Spells}
-use Rattle.rx_model.specs.Refusals.Stops.{is_one_of, is_letter, two_hex_digits, begins_escape, IsStop, at_end, at_closer, at_bracket, at_brace, behind_backslash}
+use Rattle.rx_model.specs.Refusals.Stops.{is_letter, two_hex_digits, begins_escape, IsStop, at_end, at_closer, at_bracket, at_brace, after_backslash}
 use Rattle.rx_model.specs.Trees.Token.{Token, character, closer}
 use Rattle.rx_model.specs.Properties.PropertyForms.{begins_property}
 use Rattle.rx_model.proofs.Characters.Backslashes.{unreferred, escape_token}
@@ -93,7 +94,7 @@ unfolding counts_at
 no_quantifier c w h k l m = rw (h, k, l, m) refl
 
 module _ (e : Environment) where
-  -- Behind a backslash that begins no token no escape is spelled.
+  -- After a backslash that begins no token no escape is spelled.
   no_escape : (kind : CharacterKind) (v : ℕ) (w rest : List ℕ) → backslash_front e (w ++ rest) ≡ None → SpellsEscape e kind v w rest → ⊥
   no_escape kind v w rest h s = let k : Some (character kind v, length w + 1) ≡ None = sym (escape_token e kind v w rest s) ∙ h in cc k
 
@@ -135,7 +136,7 @@ module _ (e : Environment) where
       (false_from_ne_true _ (λ t. let p = both (c == 48) (not (front_is is_decimal_digit w)) t in no_escape kinds.Null 0 (48 ∷ []) w (at_character c 48 w p.0 h) (null (not-true _ p.1)))))
       (false_from_ne_true _ (λ t. let p = both (c == 120) (two_hex_digits w) t in no_digits w (at_character c 120 w p.0 h) p.1))
 
-  -- what does not stand behind a backslash that begins no escape
+  -- what does not stand after a backslash that begins no escape
   pub record NoBeginning (c : ℕ) (w : List ℕ) : Type 0 where
     pub no_letters : is_one_of (codes "upPkbBdDsSwWfnrtv") c ≡ false
     pub no_identity : is_identity_escape c ≡ false
@@ -211,7 +212,7 @@ module _ (e : Environment) where
   stop_front _ _ (at_brace {u} {us} m h none limit) other =
       let text : values (u ∷ us) ≡ 123 ∷ values us = ap (λ c. c ∷ values us) h in
       front_by_unicode e (u ∷ us) 123 (values us) m refl text ∙ brace_stop (values us) (counts_at (123 ∷ values us)) refl (λ b. none (subst BeginsWithBraces (sym text) b))
-  stop_front _ _ (behind_backslash {u} {us} m h none) other = front_by_values e (u ∷ us) 92 (values us) refl (ap (λ c. c ∷ values us) h) ∙ backslash_stop (values us) m none
+  stop_front _ _ (after_backslash {u} {us} m h none) other = front_by_values e (u ∷ us) 92 (values us) refl (ap (λ c. c ∷ values us) h) ∙ backslash_stop (values us) m none
 
   pub stopped : (us : List CodePoint) (i : ℕ) → IsStop e us i → starts 41 (values us) ≡ false → (t : Token) (w rest : List CodePoint) → us ≡ w ++ rest → Spells e t w rest → ⊥
   stopped us i s other t w rest h spelled = let k : Some (t, length w) ≡ None = sym (spelled_front e t w rest spelled) ∙ ap (front e) (sym h) ∙ stop_front us i s other in cc k

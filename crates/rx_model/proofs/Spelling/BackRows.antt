@@ -99,7 +99,7 @@ unfolding two_digits four_digits braced
 character_no_question mode c more =
     by_form (λ text. front_is is_question (text ++ more) ≡ false) mode (outside false) c refl refl refl refl (λ _. refl) (λ _. refl) (λ raw. not_question c raw.unescaped)
 
--- right behind a reference no character's text begins with a digit
+-- right after a reference no character's text begins with a digit
 character_no_digit : (mode : Mode) (c : ℕ) (more : List ℕ) → front_is is_decimal_digit (character_text mode (outside true) c ++ more) ≡ false
 unfolding two_digits four_digits braced
 character_no_digit mode c more = by_form (λ text. front_is is_decimal_digit (text ++ more) ≡ false) mode (outside true) c refl refl refl refl (λ _. refl) (λ _. refl) (λ raw. raw.alone)
@@ -195,7 +195,7 @@ module _ (e : Environment) (mode : Mode) (m : e.mode ≡ mode) (count : ℕ) (gr
   no_question (bar ∷ ts) open_groups end r k = refl
   no_question ((quantifier min max greedy) ∷ ts) open_groups end r k = absurd (let f : ⊥ = cc r in f)
 
-  -- no digit comes right behind a reference
+  -- no digit comes right after a reference
   no_digit : (ts : List Token) → AreKnown true e ts → front_is is_decimal_digit (tokens_text mode true ts) ≡ false
   no_digit [] k = refl
   no_digit ((boundary kind) ∷ ts) k = boundary_outside is_decimal_digit refl refl refl refl kind (tokens_text mode false ts)

@@ -8,15 +8,16 @@ use Rattle.std.proofs.lemmas.Bool.Decides.{nat_tests}
 use Rattle.std.proofs.lemmas.Option.{option_and_then_some}
 use Rattle.std.proofs.lemmas.Str.{digit_value_digit}
 use Rattle.std.proofs.lemmas.Str.Parse.{digit_from_value}
+use Rattle.rx_base.specs.Characters.{is_surrogate, is_within}
 use Rattle.rx_base.specs.SurrogatePair.{IsLeadSurrogate}
 use Rattle.rx_ast.specs.declared.leaf.CharacterKind.{CharacterKind}
 use Rattle.rx_ast.specs.declared.leaf.CharacterKind.TheVariants as kinds
-use Rattle.rx_tables.specs.Characters.{is_within, is_syntax_character, is_decimal_digit, hex_digit, hex_digit_value, control_escape_value}
+use Rattle.rx_tables.specs.Characters.{is_syntax_character, is_decimal_digit, hex_digit, hex_digit_value, control_escape_value}
 use Rattle.rx_tables.proofs.Digits.{hex_digit_value-hex_digit}
 use Rattle.rx_units.specs.declared.code_point.EscapeKind.TheVariants as escape
 use Rattle.rx_units.specs.declared.code_point.CodePoint.{CodePoint}
 use Rattle.rx_units.specs.Units.{unit, literal_units, values}
-use Rattle.rx_units.specs.Digits.{hex_behind, hex_number}
+use Rattle.rx_units.specs.Digits.{hex_after, hex_number}
 use Rattle.rx_units.proofs.Choices.{both}
 use Rattle.rx_model.specs.declared.mode.Mode.{Mode}
 use Rattle.rx_model.specs.declared.mode.Mode.TheVariants.{Legacy, Unicode, Sets}
@@ -25,20 +26,20 @@ use Rattle.rx_model.specs.Inputs.Environment.{Environment, is_unicode}
 use Rattle.rx_model.specs.Characters.Escapes.{SpellsEscape, control, hexadecimal, unicode, identity}
 use Rattle.rx_model.specs.Characters.LegacyEscapes as legacy
 use Rattle.rx_model.specs.Characters.LegacyEscapes.{IsIdentity}
-use Rattle.rx_model.specs.Quantifiers.Quantifiers.{BeginsWithBraces, decimal_digit_value, decimal_behind, AreDigits}
+use Rattle.rx_model.specs.Quantifiers.Quantifiers.{BeginsWithBraces, decimal_digit_value, decimal_after, AreDigits}
 use Rattle.rx_model.specs.Reading.Rows.{Spells, is_legacy_syntax, stands_raw}
 use Rattle.rx_model.specs.Trees.Token.{character}
 use Rattle.rx_model.specs.Characters.UnicodeEscapes.{SpellsUnicode, code_unit, alone}
 use Rattle.rx_model.specs.Characters.UnicodeEscapes as in_escape
 use Rattle.rx_model.proofs.Characters.Choices.{choose_both}
-use Rattle.rx_model.proofs.Spelling.SomeTexts.{some_behind}
+use Rattle.rx_model.proofs.Spelling.SomeTexts.{some_after}
 use Rattle.rx_model.proofs.Quantifiers.BlockedCounts.{brace_first}
 
 pub values_literal : (at : ℕ) (text : List ℕ) → values (literal_units true at text) ≡ text
 values_literal at [] = refl
 values_literal at (c ∷ text) = ap (λ rest. c ∷ rest) (values_literal (at + len_utf8 c) text)
 
--- The units of two texts, one behind the other.
+-- The units of two texts, one after the other.
 pub units-append : (at : ℕ) (u v : List ℕ) → (between : ℕ) × (literal_units true at (u ++ v) ≡ literal_units true at u ++ literal_units true between v)
 units-append at [] v = (at, refl)
 units-append at (c ∷ u) v =
@@ -46,11 +47,11 @@ units-append at (c ∷ u) v =
     (h.0, ap (λ rest. unit at (at + len_utf8 c) c escape.None ∷ rest) h.1)
 
 -- one more digit
-hex_push : (m : ℕ) (xs : List ℕ) (v d : ℕ) → hex_behind m xs ≡ Some v → d < 16 → hex_behind m (xs ++ (hex_digit d ∷ [])) ≡ Some (16 * v + d)
+hex_push : (m : ℕ) (xs : List ℕ) (v d : ℕ) → hex_after m xs ≡ Some v → d < 16 → hex_after m (xs ++ (hex_digit d ∷ [])) ≡ Some (16 * v + d)
 hex_push m [] v d h small = let same : m ≡ v = cc h in rw (hex_digit_value-hex_digit d small, same) refl
 hex_push m (x ∷ xs) v d h small =
-    option_and_then_some (λ i. hex_behind (16 * m + i) xs) (hex_digit_value x) v h (λ i at_x rest.
-    ap (option_and_then (λ i. hex_behind (16 * m + i) (xs ++ (hex_digit d ∷ [])))) at_x ∙ hex_push (16 * m + i) xs v d rest small)
+    option_and_then_some (λ i. hex_after (16 * m + i) xs) (hex_digit_value x) v h (λ i at_x rest.
+    ap (option_and_then (λ i. hex_after (16 * m + i) (xs ++ (hex_digit d ∷ [])))) at_x ∙ hex_push (16 * m + i) xs v d rest small)
 
 -- the first number with more than n hexadecimal digits
 abbrev hex_bound : ℕ → ℕ
@@ -99,7 +100,7 @@ four_read c h =
 digit_read : (c : ℕ) → is_decimal_digit c ≡ true → hex_number (51 ∷ c ∷ []) ≡ Some c
 digit_read c h =
     let low : 48 ≤ c = grind (arith, nat_tests) in
-    ap (option_and_then (λ d. hex_behind (48 + d) [])) (cond-true (is_decimal_digit c) (Some (c - 48)) _ h) ∙ ap Some (omega (arith, low))
+    ap (option_and_then (λ d. hex_after (48 + d) [])) (cond-true (is_decimal_digit c) (Some (c - 48)) _ h) ∙ ap Some (omega (arith, low))
 
 first_false : (a b : Bool) → (a || b) ≡ false → not a ≡ true
 first_false true b h = absurd (let k : ⊥ = cc h in k)
@@ -111,7 +112,7 @@ spelled_kind mode after_reference c =
     cond (is_within 9 13 c) kinds.SingleEscape
     (cond (nat_lt c 32 || is_within 127 159 c) kinds.HexadecimalEscape
     (cond (c == 0x2028 || c == 0x2029) kinds.UnicodeEscape
-    (cond (is_within 0xD800 0xDFFF c) kinds.UnicodeEscape
+    (cond (is_surrogate c) kinds.UnicodeEscape
     (cond (nat_lt (greatest_raw mode) c) kinds.UnicodeEscape
     (cond (is_syntax_character c || c == 47) kinds.Identifier
     (cond (after_reference && is_decimal_digit c) kinds.HexadecimalEscape kinds.Symbol))))))
@@ -172,7 +173,7 @@ module _ (e : Environment) (mode : Mode) (m : e.mode ≡ mode) where
   backslash c kind text s at more =
       inr (inl (record {
         backslash = unit at (at + len_utf8 92) 92 escape.None;
-        behind = literal_units true (at + len_utf8 92) text;
+        following = literal_units true (at + len_utf8 92) text;
         whole = refl;
         backslash_is = refl;
         spelled = subst (λ w. SpellsEscape e kind c w (values more)) (sym (values_literal (at + len_utf8 92) text)) (s (values more));
@@ -205,7 +206,7 @@ module _ (e : Environment) (mode : Mode) (m : e.mode ≡ mode) where
   identity_spelled Legacy l c h at more =
       inr (inr (record {
         backslash = unit at (at + len_utf8 92) 92 escape.None;
-        behind = literal_units true (at + len_utf8 92) (c ∷ []);
+        following = literal_units true (at + len_utf8 92) (c ∷ []);
         whole = refl;
         backslash_is = refl;
         legacy = ap is_unicode l;
@@ -219,9 +220,9 @@ module _ (e : Environment) (mode : Mode) (m : e.mode ≡ mode) where
   braced_spelled l u c low =
       unicode_escape c (117 ∷ 123 ∷ (hex 8 c ++ (125 ∷ [])))
       (λ rest. subst (λ b. SpellsUnicode b c (117 ∷ 123 ∷ (hex 8 c ++ (125 ∷ []))) rest) (sym (ap is_unicode l ∙ u))
-      (braced_from c (hex 8 c) rest (some_behind (cond (nat_lt c 16) [] (hex 7 (c / 16))) (hex_digit (c % 16)) []) (hex_read 8 c (omega (arith, low))) low))
+      (braced_from c (hex 8 c) rest (some_after (cond (nat_lt c 16) [] (hex 7 (c / 16))) (hex_digit (c % 16)) []) (hex_read 8 c (omega (arith, low))) low))
 
-  surrogate_spelled : (md : Mode) → mode ≡ md → (c : ℕ) → c ≤ 0x10FFFF → is_within 0xD800 0xDFFF c ≡ true → SpellsCharacter c kinds.UnicodeEscape (surrogate_text md c)
+  surrogate_spelled : (md : Mode) → mode ≡ md → (c : ℕ) → c ≤ 0x10FFFF → is_surrogate c ≡ true → SpellsCharacter c kinds.UnicodeEscape (surrogate_text md c)
   unfolding four_digits
   surrogate_spelled Legacy l c low h =
       unicode_escape c (117 ∷ hex_digit (c / 4096 % 16) ∷ hex_digit (c / 256 % 16) ∷ hex_digit (c / 16 % 16) ∷ hex_digit (c % 16) ∷ [])
@@ -238,7 +239,7 @@ module _ (e : Environment) (mode : Mode) (m : e.mode ≡ mode) where
       choose_both P (is_within 9 13 c) _ _ _ _ (λ within. backslash c kinds.SingleEscape (control_letter c ∷ []) (λ rest. control (control_read c within)))
       (λ _. choose_both P (nat_lt c 32 || is_within 127 159 c) _ _ _ _ (λ small. two_spelled c (two_small c small))
       (λ _. choose_both P (c == 0x2028 || c == 0x2029) _ _ _ _ (λ separator. four_spelled c separator)
-      (λ _. choose_both P (is_within 0xD800 0xDFFF c) _ _ _ _ (λ surrogate. surrogate_spelled mode refl c low surrogate)
+      (λ _. choose_both P (is_surrogate c) _ _ _ _ (λ surrogate. surrogate_spelled mode refl c low surrogate)
       (λ _. choose_both P (nat_lt (greatest_raw mode) c) _ _ _ _ (λ great. absurd (too_great mode c low fits great))
       (λ _. choose_both P (is_syntax_character c || c == 47) _ _ _ _ (λ syntax. identity_spelled e.mode refl c syntax)
       (λ raw. choose_both P (after_reference && is_decimal_digit c) _ _ _ _
@@ -251,11 +252,11 @@ digit_there c h =
     let v : digit_value c + 48 ≡ c = digit_value_digit c r in
     cond-true (is_decimal_digit c) (Some (c - 48)) None (grind (arith, nat_tests, r)) ∙ ap Some (omega (arith, v))
 
-digits_read_back : (n : ℕ) (ds : List ℕ) → AllDigits 10 ds → decimal_behind n ds ≡ Some (digits_value_after 10 n ds)
+digits_read_back : (n : ℕ) (ds : List ℕ) → AllDigits 10 ds → decimal_after n ds ≡ Some (digits_value_after 10 n ds)
 digits_read_back n [] h = refl
 digits_read_back n (d ∷ ds) h =
-    ap (option_and_then (λ i. decimal_behind (10 * n + i) ds)) (digit_there d h.0)
-    ∙ ap (λ k. decimal_behind k ds) (omega arith) ∙ digits_read_back (n * 10 + digit_value d) ds h.1
+    ap (option_and_then (λ i. decimal_after (10 * n + i) ds)) (digit_there d h.0)
+    ∙ ap (λ k. decimal_after k ds) (omega arith) ∙ digits_read_back (n * 10 + digit_value d) ds h.1
 
 pub are_digits : (n : ℕ) (ds : List ℕ) → AllDigits 10 ds → ds ≢ [] → digits_value_after 10 0 ds ≡ n → AreDigits n ds
 are_digits n [] h some v = absurd (some refl)

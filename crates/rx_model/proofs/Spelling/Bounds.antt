@@ -2,13 +2,14 @@
 use Rattle.std.proofs.Common.{◌≡◌, sym, ap, ◌∙◌, subst, ℕ, ◌≤◌, Bool, true, false, Some, List, [], ◌∷◌, ◌++◌, length, arith, inl, inr}
 use Rattle.std.proofs.lemmas.Bool.{true≢false}
 use Rattle.std.proofs.lemmas.Bool.Decides.{nat_tests}
+use Rattle.rx_base.specs.Characters.{is_within}
 use Rattle.rx_base.specs.SurrogatePair.{IsLeadSurrogate, IsTrailSurrogate, surrogate_pair}
-use Rattle.rx_tables.specs.Characters.{control_escape_value, control_letter_value, is_reserved_punctuator, is_within}
+use Rattle.rx_tables.specs.Characters.{control_escape_value, control_letter_value, is_reserved_punctuator}
 use Rattle.rx_ast.specs.declared.leaf.CharacterKind.{CharacterKind}
 use Rattle.rx_units.specs.declared.code_point.CodePoint.{CodePoint}
 use Rattle.rx_units.specs.Units.{values}
-use Rattle.rx_units.specs.Digits.{octal}
-use Rattle.rx_units.proofs.Digits.{four_small, octal_small, two_small}
+use Rattle.rx_units.proofs.Digits.{four_small, two_small}
+use Rattle.rx_units.proofs.OctalEscapes.{octal_value_small}
 use Rattle.rx_model.specs.declared.mode.Mode.{Mode}
 use Rattle.rx_model.specs.declared.mode.Mode.TheVariants.{Legacy}
 use Rattle.rx_model.specs.Classes.ClassRows as spelled
@@ -76,9 +77,6 @@ control_low c v h = grind (arith, nat_tests)
 letter_low : (c v : ℕ) → control_letter_value c ≡ Some v → v ≤ 0xFFFF
 letter_low c v h = grind (arith, nat_tests)
 
-first_octal : (low high c : ℕ) → is_within low high c ≡ true → high ≤ 55 → octal c ≤ 7
-first_octal low high c h k = grind (arith, nat_tests)
-
 module _ (e : Environment) (m : e.mode ≡ Legacy) where
   escape_low : (kind : CharacterKind) (v : ℕ) (w rest : List ℕ) → SpellsEscape e kind v w rest → v ≤ 0xFFFF
   escape_low _ v _ rest (control {c} h) = control_low c v h
@@ -91,20 +89,15 @@ module _ (e : Environment) (m : e.mode ≡ Legacy) where
 legacy_low : (inside : Bool) (e : Environment) (kind : CharacterKind) (v : ℕ) (w rest : List ℕ) → SpellsLegacy inside e kind v w rest → Narrow w → v ≤ 0xFFFF
 legacy_low inside e _ _ _ _ (legacy.lone h) n = omega arith
 legacy_low inside e _ _ _ rest (legacy.class_control {c} h k) n = omega arith
-legacy_low inside e _ _ _ rest (legacy.octal_zero h) n = omega arith
-legacy_low inside e _ _ _ rest (legacy.octal1 {c} h k f) n = let a = first_octal 49 55 c h (omega arith) in omega (arith, a)
-legacy_low inside e _ _ _ rest (legacy.octal2_low {c} {d} h k l f) n = let a = first_octal 48 51 c h (omega arith) in let b = octal_small d k in omega (arith, a, b)
-legacy_low inside e _ _ _ rest (legacy.octal2_high {c} {d} h k f) n = let a = first_octal 52 55 c h (omega arith) in let b = octal_small d k in omega (arith, a, b)
-legacy_low inside e _ _ _ rest (legacy.octal3 {c} {d} {f} h k l x) n =
-    let a = first_octal 48 51 c h (omega arith) in let b = octal_small d k in let g = octal_small f l in omega (arith, a, b, g)
+legacy_low inside e _ _ _ rest (legacy.legacy_octal {v} {w} s f) n = omega (arith, octal_value_small v w rest s)
 legacy_low inside e _ _ _ rest (legacy.identity {c} h) n = n.0
 
 -- a character, outside classes and in them
 pub character_low : (e : Environment) (kind : CharacterKind) (v : ℕ) (w rest : List CodePoint) → Spells e (character kind v) w rest → FitIn e.mode w → FitsIn e.mode v
 character_low e kind v w rest (inl r) f m = let n = subst AreCodeUnits r.alone (f m) in subst (λ v. v ≤ 0xFFFF) (sym r.value_is) n.0
-character_low e kind v w rest (inr (inl r)) f m = escape_low e m kind v (values r.behind) (values rest) r.spelled
+character_low e kind v w rest (inr (inl r)) f m = escape_low e m kind v (values r.following) (values rest) r.spelled
 character_low e kind v w rest (inr (inr r)) f m =
-    let n = subst AreCodeUnits r.whole (f m) in legacy_low false e kind v (values r.behind) (values rest) r.spelled (narrow_values r.behind n.1)
+    let n = subst AreCodeUnits r.whole (f m) in legacy_low false e kind v (values r.following) (values rest) r.spelled (narrow_values r.following n.1)
 
 reserved_low : (c : ℕ) → is_reserved_punctuator c ≡ true → c ≤ 0xFFFF
 reserved_low c h = grind (arith, nat_tests)
@@ -117,9 +110,9 @@ alone_low mode _ _ _ (spelled.reserved c m h) = reserved_low c h
 pub class_character_low : (e : Environment) (kind : CharacterKind) (v : ℕ) (w rest : List CodePoint) → SpellsClassCharacter e kind v w rest → FitIn e.mode w → FitsIn e.mode v
 class_character_low e _ _ _ rest (spelled.raw unit h) f m = (f m).0
 class_character_low e _ _ _ rest (spelled.hyphen unit u h) f m = omega arith
-class_character_low e kind v _ rest (spelled.escaped backslash behind h s) f m = escape_low e m kind v (values behind) (values rest) s
-class_character_low e kind v _ rest (spelled.escaped_in_class backslash behind h s) f m = alone_low e.mode kind v (values behind) s
-class_character_low e kind v _ rest (spelled.escaped_in_legacy backslash behind h u s) f m = legacy_low true e kind v (values behind) (values rest) s (narrow_values behind (f m).1)
+class_character_low e kind v _ rest (spelled.escaped backslash following h s) f m = escape_low e m kind v (values following) (values rest) s
+class_character_low e kind v _ rest (spelled.escaped_in_class backslash following h s) f m = alone_low e.mode kind v (values following) s
+class_character_low e kind v _ rest (spelled.escaped_in_legacy backslash following h u s) f m = legacy_low true e kind v (values following) (values rest) s (narrow_values following (f m).1)
 
 -- names
 pair_low : (lead trail : ℕ) → IsLeadSurrogate lead → IsTrailSurrogate trail → surrogate_pair lead trail ≤ 0x10FFFF

@@ -1,7 +1,8 @@
 -- What holds of each form that the canonical text of a character has.
 use Rattle.std.proofs.Common.{◌≡◌, ℕ, ◌==◌, ◌||◌, true, false, nat_lt, List, [], ◌∷◌}
 use Rattle.std.proofs.lemmas.Bool.{cond_both}
-use Rattle.rx_tables.specs.Characters.{is_within, is_decimal_digit}
+use Rattle.rx_base.specs.Characters.{is_surrogate, is_within}
+use Rattle.rx_tables.specs.Characters.{is_decimal_digit}
 use Rattle.rx_model.specs.declared.mode.Mode.{Mode}
 use Rattle.rx_model.specs.declared.mode.Mode.TheVariants.{Legacy, Unicode, Sets}
 use Rattle.rx_model.specs.Spelling.CharacterText.{Place, outside, in_class, control_letter, two_digits, four_digits, braced, surrogate_text, greatest_raw, is_escaped, goes_on, character_text}
@@ -25,7 +26,7 @@ by_form P mode place c control two four braces escaped digit raw =
     cond_both (is_within 9 13 c) _ _ P (λ _. control)
     (λ no_control. cond_both (nat_lt c 32 || is_within 127 159 c) _ _ P (λ _. two)
     (λ _. cond_both (c == 0x2028 || c == 0x2029) _ _ P (λ _. four)
-    (λ no_separator. cond_both (is_within 0xD800 0xDFFF c) _ _ P (λ _. surrogate mode)
+    (λ no_separator. cond_both (is_surrogate c) _ _ P (λ _. surrogate mode)
     (λ _. cond_both (nat_lt (greatest_raw mode) c) _ _ P (λ _. braces)
     (λ _. cond_both (is_escaped mode place c) _ _ P escaped
     (λ unescaped. cond_both (goes_on place c) _ _ P (λ goes. digit (going_digit place c goes))

@@ -4,6 +4,7 @@ use Rattle.std.specs.Prelude.{All}
 use Rattle.std.specs.List.{list_any}
 use Rattle.std.proofs.lemmas.List.{length-map}
 use Rattle.std.proofs.lemmas.List.Elements.{All-cons, All-head, All-map, All-nil, All-tail}
+use Rattle.rx_base.specs.Characters.{is_surrogate, is_within}
 use Rattle.rx_ast.specs.declared.leaf.Character.{Character}
 use Rattle.rx_ast.specs.declared.leaf.CharacterKind.{CharacterKind}
 use Rattle.rx_ast.specs.declared.leaf.CharacterKind.TheVariants as kinds
@@ -14,12 +15,12 @@ use Rattle.rx_ast.specs.declared.class.ClassString.{ClassString}
 use Rattle.rx_ast.specs.declared.class.ClassStringDisjunction.{ClassStringDisjunction}
 use Rattle.rx_ast.specs.ClassTree.{Member, Members, Class, range, escape, property, character, nested, strings, no_member, member, class}
 use Rattle.rx_ast.specs.Forget.{nowhere, forget_character, forget_string, forget_member, forget_members, forget_class, same_kind, no_kind}
-use Rattle.rx_tables.specs.Characters.{is_within, is_syntax_character}
+use Rattle.rx_tables.specs.Characters.{is_syntax_character}
 use Rattle.rx_model.specs.declared.mode.Mode.{Mode}
 use Rattle.rx_model.specs.Classes.ClassRows.{IsClassShape}
-use Rattle.rx_model.specs.Classes.ClassShapes.{AreFitting, AreFlagged, AreOperands, AreTwo, FitsKind, IsFitting, IsFittingMember, IsFlagged, IsFlaggedMember, IsFlaggedString, IsOperand}
+use Rattle.rx_model.specs.Classes.ClassShapes.{AreFitting, AreFlagged, AreOperands, AreTwo, FitsKind, IsFitting, IsFittingMember, IsFlagged, IsFlaggedMember, IsOperand}
 use Rattle.rx_model.specs.Spelling.CharacterText.{greatest_raw, is_reserved_in_class}
-use Rattle.rx_model.specs.Trees.Early.{AreCodePoints, IsCodePoint, IsEarlyString, IsEarlyMember, AreEarlyMembers, IsEarlyClass, class_strings, member_strings, any_strings, all_strings, first_strings, may_contain_strings}
+use Rattle.rx_model.specs.Trees.Early.{AreCodePoints, AreEarlyMembers, IsCodePoint, IsEarlyClass, IsEarlyMember, IsEarlyString, IsFlaggedString, all_strings, any_strings, class_strings, first_strings, may_contain_strings, member_strings}
 use Rattle.rx_model.specs.declared.mode.Mode.TheVariants.{Legacy, Unicode, Sets}
 
 -- the kind of an escaped `-`: with `u` it is a ClassEscape of its own, with `v` a ClassSetReservedPunctuator, with neither an IdentityEscape
@@ -40,7 +41,7 @@ module _ (mode : Mode) where
       cond (is_within 9 13 c) kinds.SingleEscape
       (cond (nat_lt c 32 || is_within 127 159 c) kinds.HexadecimalEscape
       (cond (c == 0x2028 || c == 0x2029) kinds.UnicodeEscape
-      (cond (is_within 0xD800 0xDFFF c) kinds.UnicodeEscape
+      (cond (is_surrogate c) kinds.UnicodeEscape
       (cond (nat_lt (greatest_raw mode) c) kinds.UnicodeEscape
       (cond (is_syntax_character c || c == 47 || is_reserved_in_class mode c) (cond (c == 45) hyphen_kind kinds.Identifier) kinds.Symbol)))))
 

@@ -7,6 +7,7 @@ use Rattle.std.proofs.lemmas.Bool.Decides.{nat_tests}
 use Rattle.std.proofs.lemmas.List.{map-append}
 use Rattle.std.proofs.lemmas.List.Elements.{All-head, All-tail}
 use Rattle.std.proofs.Math.Bool.{and-false}
+use Rattle.rx_base.specs.Characters.{is_surrogate, is_within}
 use Rattle.rx_base.specs.declared.span.Span.{Span}
 use Rattle.rx_ast.specs.declared.leaf.Character.{Character}
 use Rattle.rx_ast.specs.declared.leaf.CharacterKind.{CharacterKind}
@@ -16,7 +17,7 @@ use Rattle.rx_ast.specs.declared.class.CharacterClassContentsKind.TheVariants.{U
 use Rattle.rx_ast.specs.declared.class.ClassString.{ClassString}
 use Rattle.rx_ast.specs.ClassTree as tree
 use Rattle.rx_ast.specs.ClassTree.{Member, Members, Class, no_member, member, class}
-use Rattle.rx_tables.specs.Characters.{is_within, is_class_set_syntax_character, is_reserved_punctuator, is_syntax_character, hex_digit}
+use Rattle.rx_tables.specs.Characters.{is_class_set_syntax_character, is_reserved_punctuator, is_syntax_character, hex_digit}
 use Rattle.rx_units.specs.declared.code_point.CodePoint.{CodePoint}
 use Rattle.rx_units.specs.declared.code_point.EscapeKind.TheVariants as escape_kind
 use Rattle.rx_units.specs.Units.{unit, literal_units, values}
@@ -24,7 +25,7 @@ use Rattle.rx_units.specs.Digits.{front_is}
 use Rattle.rx_model.specs.declared.mode.Mode.{Mode}
 use Rattle.rx_model.specs.declared.mode.Mode.TheVariants.{Legacy, Unicode, Sets}
 use Rattle.rx_model.specs.Spelling.CharacterText.{control_letter, two_digits, four_digits, hex, braced, surrogate_text, greatest_raw, is_escaped, in_class, character_text}
-use Rattle.rx_model.specs.Classes.ClassRows.{BeforeHigh, ClassTokenRow, IsClass, Place, SpellsAtom, SpellsBracket, SpellsClassCharacter, SpellsInClass, StandsBefore, behind, behind_item, behind_less, behind_meet, fresh, has_hyphen, has_threes, in_strings, is_dashed, outside, stands_raw_in_class}
+use Rattle.rx_model.specs.Classes.ClassRows.{BeforeHigh, ClassTokenRow, IsClass, Place, SpellsAtom, SpellsBracket, SpellsClassCharacter, SpellsInClass, StandsBefore, next_place, following_item, after_less, after_meet, fresh, has_hyphen, has_threes, in_strings, is_dashed, outside, stands_raw_in_class}
 use Rattle.rx_model.specs.Classes.ClassRows as spelled
 use Rattle.rx_model.specs.Classes.ClassShapes.{AreFitting, AreOperands, FitsKind, IsFitting, IsFittingMember, IsOperand}
 use Rattle.rx_ast.specs.Texts.{class_escape_text, class_opener, operator_text, property_body, property_text}
@@ -45,7 +46,7 @@ use Rattle.rx_model.proofs.Spelling.ClassAgain.{kind_of_hyphen, class_kind, agai
 use Rattle.rx_model.proofs.Spelling.ClassKnown.{AreKnownMembers, IsKnownClass, IsKnownKind, IsKnownMember, IsKnownTree}
 use Rattle.rx_model.proofs.Spelling.ClassTexts.{BeginsOutside, class_escape_outside, dashed, in_class_outside, members_outside, no_raw_ampersand, no_raw_caret, no_raw_closer, no_raw_hyphen, property_outside, raw_in_class, some_character, starts_not, undashed}
 use Rattle.rx_model.proofs.Classes.ClassShapes.{barred_tokens, between_by, class_tokens_by, contents_tokens, further_tokens, letters_tokens, operand_tokens, strings_are}
-use Rattle.rx_model.proofs.Spelling.SomeTexts.{some_behind}
+use Rattle.rx_model.proofs.Spelling.SomeTexts.{some_after}
 use Rattle.rx_model.proofs.Classes.ClassFronts.{sets_is}
 
 -- what is escaped in a class is a `-` or escaped everywhere; with `v` it is a reserved punctuator or escaped everywhere
@@ -83,9 +84,9 @@ module _ (e : Environment) (sets : is_sets e.mode ≡ true) where
   no_dash : (k : CharacterKind) (v : ℕ) (w rest more : List CodePoint) → SpellsClassCharacter e k v w rest → starts 45 (values (w ++ more)) ≡ false
   no_dash _ _ _ rest more (spelled.raw unit h) = no_raw_dash unit rest h
   no_dash _ _ _ rest more (spelled.hyphen unit h is) = absurd (true≢false (sym h ∙ ap has_hyphen (sets_is e.mode sets)))
-  no_dash _ _ _ rest more (spelled.escaped backslash behind is s) = ap (λ c. c == 45) is
-  no_dash _ _ _ rest more (spelled.escaped_in_class backslash behind is s) = ap (λ c. c == 45) is
-  no_dash _ _ _ rest more (spelled.escaped_in_legacy backslash behind is u s) = ap (λ c. c == 45) is
+  no_dash _ _ _ rest more (spelled.escaped backslash following is s) = ap (λ c. c == 45) is
+  no_dash _ _ _ rest more (spelled.escaped_in_class backslash following is s) = ap (λ c. c == 45) is
+  no_dash _ _ _ rest more (spelled.escaped_in_legacy backslash following is u s) = ap (λ c. c == 45) is
 
   -- so no range goes on at `--`
   no_high : (us : List CodePoint) (w : List ℕ) → values us ≡ 45 ∷ 45 ∷ w → BeforeHigh e us → ⊥
@@ -129,9 +130,9 @@ module _ (e : Environment) (mode : Mode) (m : e.mode ≡ mode) where
   braced_spelled l u c in_limit =
       unicode_escape c (117 ∷ 123 ∷ (hex 8 c ++ (125 ∷ [])))
       (λ rest. subst (λ b. SpellsUnicode b c (117 ∷ 123 ∷ (hex 8 c ++ (125 ∷ []))) rest) (sym (ap is_unicode l ∙ u))
-      (braced_from c (hex 8 c) rest (some_behind (cond (nat_lt c 16) [] (hex 7 (c / 16))) (hex_digit (c % 16)) []) (hex_read 8 c (omega (arith, in_limit))) in_limit))
+      (braced_from c (hex 8 c) rest (some_after (cond (nat_lt c 16) [] (hex 7 (c / 16))) (hex_digit (c % 16)) []) (hex_read 8 c (omega (arith, in_limit))) in_limit))
 
-  surrogate_spelled : (md : Mode) → mode ≡ md → (c : ℕ) → c ≤ 0x10FFFF → is_within 0xD800 0xDFFF c ≡ true → SpellsHere c kinds.UnicodeEscape (surrogate_text md c)
+  surrogate_spelled : (md : Mode) → mode ≡ md → (c : ℕ) → c ≤ 0x10FFFF → is_surrogate c ≡ true → SpellsHere c kinds.UnicodeEscape (surrogate_text md c)
   unfolding four_digits
   surrogate_spelled Legacy l c in_limit h =
       unicode_escape c (117 ∷ hex_digit (c / 4096 % 16) ∷ hex_digit (c / 256 % 16) ∷ hex_digit (c / 16 % 16) ∷ hex_digit (c % 16) ∷ [])
@@ -181,7 +182,7 @@ module _ (e : Environment) (mode : Mode) (m : e.mode ≡ mode) where
       choose_both P (is_within 9 13 c) _ _ _ _ (λ within. backslash c kinds.SingleEscape (control_letter c ∷ []) (λ rest. control (control_read c within)))
       (λ _. choose_both P (nat_lt c 32 || is_within 127 159 c) _ _ _ _ (λ small. two_spelled c (two_small c small))
       (λ _. choose_both P (c == 0x2028 || c == 0x2029) _ _ _ _ (λ separator. four_spelled c separator)
-      (λ _. choose_both P (is_within 0xD800 0xDFFF c) _ _ _ _ (λ surrogate. surrogate_spelled mode refl c in_limit surrogate)
+      (λ _. choose_both P (is_surrogate c) _ _ _ _ (λ surrogate. surrogate_spelled mode refl c in_limit surrogate)
       (λ _. choose_both P (nat_lt (greatest_raw mode) c) _ _ _ _ (λ great. absurd (too_great mode c in_limit fits great))
       (λ _. choose_both P (is_escaped mode in_class c) _ _ _ _ (λ escaped. escaped_spelled mode m c escaped)
       (λ raw. raw_spelled c raw))))))
@@ -195,7 +196,7 @@ module _ (e : Environment) (mode : Mode) (m : e.mode ≡ mode) where
 
   -- one token more in front, with a text of its own
   one_again : (q r : Place) (t : ClassToken) (own : List ℕ) (ts : List ClassToken) (text : List ℕ) →
-      ((at between : ℕ) (rest : List CodePoint) → SpellsInClass e q t (literal_units true at own) (literal_units true between text ++ rest) × (behind e.mode q t (literal_units true between text ++ rest) ≡ r)) →
+      ((at between : ℕ) (rest : List CodePoint) → SpellsInClass e q t (literal_units true at own) (literal_units true between text ++ rest) × (next_place e.mode q t (literal_units true between text ++ rest) ≡ r)) →
       AgainAt r ts text → AgainAt q (t ∷ ts) (own ++ text)
   one_again q r t own ts text s again at rest =
       let u = units_before at own text rest in
@@ -206,38 +207,38 @@ module _ (e : Environment) (mode : Mode) (m : e.mode ≡ mode) where
   closer_again : (ts : List ClassToken) (text : List ℕ) → AgainHere ts text → AgainHere (closer ∷ ts) (93 ∷ text)
   closer_again ts text again = one_again fresh fresh closer (93 ∷ []) ts text (λ at between rest. (refl, refl)) again
 
-  -- An operand may stand at the place, with `v` behind an operator too; a bracket also where the class begins.
+  -- An operand may stand at the place, with `v` after an operator too; a bracket also where the class begins.
   abbrev TakesOperand : Place → Type 0
   TakesOperand fresh = Unit {0}
-  TakesOperand behind_meet = is_sets e.mode ≡ true
-  TakesOperand behind_less = is_sets e.mode ≡ true
+  TakesOperand after_meet = is_sets e.mode ≡ true
+  TakesOperand after_less = is_sets e.mode ≡ true
   TakesOperand q = ⊥
 
   abbrev TakesBracket : Place → Type 0
   TakesBracket outside = Unit {0}
   TakesBracket q = TakesOperand q × (is_sets e.mode ≡ true)
 
-  -- Behind an item stands no `-`, or with `v` a `--`.
+  -- After an item stands no `-`, or with `v` a `--`.
   abbrev EndsItem : List ℕ → Type 0
   EndsItem text = BeginsOutside (λ c. c == 45) text ⊎ ((is_sets e.mode ≡ true) × (more : List ℕ) × (text ≡ 45 ∷ 45 ∷ more))
 
   item_ends : (a : Atom) (text : List ℕ) → EndsItem text → (between : ℕ) (rest : List CodePoint) →
-      StandsBefore e a (literal_units true between text ++ rest) × (behind e.mode fresh (item a) (literal_units true between text ++ rest) ≡ fresh)
+      StandsBefore e a (literal_units true between text ++ rest) × (next_place e.mode fresh (item a) (literal_units true between text ++ rest) ≡ fresh)
   item_ends a text (inl none) between rest =
       let after : is_dashed (values (literal_units true between text ++ rest)) ≡ false = ap is_dashed (values_before between text rest) ∙ undashed (text ++ values rest) (none (values rest)) in
-      (inl after, ap (λ b. behind_item fresh (b && has_threes e.mode)) after)
+      (inl after, ap (λ b. following_item fresh (b && has_threes e.mode)) after)
   item_ends a text (inr (sets, more, is)) between rest =
       let us = literal_units true between text ++ rest in
       let dashes : values us ≡ 45 ∷ 45 ∷ (more ++ values rest) = values_before between text rest ∙ ap (λ text. text ++ values rest) is in (
         inr (inr (record { sets = sets; none = λ _ high. no_high e sets us (more ++ values rest) dashes high })),
-        ap (λ b. behind_item fresh (is_dashed (values us) && b)) (no_threes e sets) ∙ ap (behind_item fresh) (and-false (is_dashed (values us))),
+        ap (λ b. following_item fresh (is_dashed (values us) && b)) (no_threes e sets) ∙ ap (following_item fresh) (and-false (is_dashed (values us))),
       )
 
   item_there : (q : Place) → TakesOperand q → (a : Atom) (w more : List CodePoint) → SpellsAtom e a w more → (is_sets e.mode ≡ true → starts 38 (values w) ≡ false) →
-      StandsBefore e a more × (behind e.mode fresh (item a) more ≡ fresh) → SpellsInClass e q (item a) w more × (behind e.mode q (item a) more ≡ fresh)
+      StandsBefore e a more × (next_place e.mode fresh (item a) more ≡ fresh) → SpellsInClass e q (item a) w more × (next_place e.mode q (item a) more ≡ fresh)
   item_there fresh takes a w more s no_meet ends = ((s, ends.0), ends.1)
-  item_there behind_meet takes a w more s no_meet ends = ((takes, s, no_meet takes), refl)
-  item_there behind_less takes a w more s no_meet ends = ((takes, s), refl)
+  item_there after_meet takes a w more s no_meet ends = ((takes, s, no_meet takes), refl)
+  item_there after_less takes a w more s no_meet ends = ((takes, s), refl)
   item_there q takes a w more s no_meet ends = absurd takes
 
   -- no `&` begins the units of this text
@@ -256,15 +257,15 @@ module _ (e : Environment) (mode : Mode) (m : e.mode ≡ mode) where
   range_again k j v u first last ts text s t some closeless again at rest =
       let x = units_before at first (45 ∷ (last ++ text)) rest in
       let sign = unit x.0 (x.0 + len_utf8 45) 45 escape_kind.None in
-      let behind = literal_units true (x.0 + len_utf8 45) (last ++ text) ++ rest in
+      let following = literal_units true (x.0 + len_utf8 45) (last ++ text) ++ rest in
       let y = units_before (x.0 + len_utf8 45) last text rest in
       let more = literal_units true y.0 text ++ rest in
       let high_units = literal_units true (x.0 + len_utf8 45) last in
-      let values_behind : values behind ≡ last ++ (text ++ values rest) =
+      let values_after : values following ≡ last ++ (text ++ values rest) =
       values_before (x.0 + len_utf8 45) (last ++ text) rest ∙ append_assoc last text (values rest) in
-      let is_range : is_dashed (45 ∷ values behind) ≡ true =
-      ap (λ w. is_dashed (45 ∷ w)) values_behind ∙ dashed last (text ++ values rest) some (closeless (text ++ values rest)) in
-      let before : BeforeHigh e (sign ∷ behind) = record {
+      let is_range : is_dashed (45 ∷ values following) ≡ true =
+      ap (λ w. is_dashed (45 ∷ w)) values_after ∙ dashed last (text ++ values rest) some (closeless (text ++ values rest)) in
+      let before : BeforeHigh e (sign ∷ following) = record {
         hyphen = sign;
         kind = j;
         value = u;
@@ -275,10 +276,10 @@ module _ (e : Environment) (mode : Mode) (m : e.mode ≡ mode) where
         spelled = t (x.0 + len_utf8 45) more;
       } in (
         literal_units true at first,
-        sign ∷ behind,
+        sign ∷ following,
         x.1,
-        (s at (sign ∷ behind), is_range, before),
-        (sign ∷ [], behind, refl, refl, (high_units, more, y.1, t (x.0 + len_utf8 45) more, again y.0 rest)),
+        (s at (sign ∷ following), is_range, before),
+        (sign ∷ [], following, refl, refl, (high_units, more, y.1, t (x.0 + len_utf8 45) more, again y.0 rest)),
       )
 
   fits_here : (c : ℕ) → FitsIn e.mode c → FitsIn mode c
@@ -322,8 +323,8 @@ module _ (e : Environment) (mode : Mode) (m : e.mode ≡ mode) where
 
     strings_there : (q : Place) → TakesOperand q → (w more : List CodePoint) → values w ≡ 92 ∷ 113 ∷ 123 ∷ [] → SpellsInClass e q strings w more
     strings_there fresh takes w more s = (sets, s)
-    strings_there behind_meet takes w more s = (takes, s, ap (starts 38) s)
-    strings_there behind_less takes w more s = (takes, s)
+    strings_there after_meet takes w more s = (takes, s, ap (starts 38) s)
+    strings_there after_less takes w more s = (takes, s)
     strings_there q takes w more s = absurd takes
 
     strings_again : (q : Place) → TakesOperand q → (span : Span) (body : List ClassString) (ts : List ClassToken) (text : List ℕ) → body ≢ [] → All IsEarlyString body → AgainHere ts text →
@@ -352,8 +353,8 @@ module _ (e : Environment) (mode : Mode) (m : e.mode ≡ mode) where
   bracket_there : (q : Place) → TakesBracket q → (negative : Bool) (w more : List CodePoint) → SpellsBracket negative w more → starts 38 (values w) ≡ false → SpellsInClass e q (bracket negative) w more
   bracket_there outside takes negative w more s no_meet = s
   bracket_there fresh takes negative w more s no_meet = (takes.1, s)
-  bracket_there behind_meet takes negative w more s no_meet = (takes.1, s, no_meet)
-  bracket_there behind_less takes negative w more s no_meet = (takes.1, s)
+  bracket_there after_meet takes negative w more s no_meet = (takes.1, s, no_meet)
+  bracket_there after_less takes negative w more s no_meet = (takes.1, s)
   bracket_there q takes negative w more s no_meet = absurd takes.0
 
   bracket_again : (q : Place) → TakesBracket q → (negative : Bool) (ts : List ClassToken) (text : List ℕ) → BeginsOutside (λ c. c == 94) text → AgainHere ts text →
@@ -373,16 +374,16 @@ module _ (e : Environment) (mode : Mode) (m : e.mode ≡ mode) where
   nested_takes q takes sets = (takes, sets)
 
   -- what stands between operands
-  abbrev behind_operator : CharacterClassContentsKind → Place
-  behind_operator Union = fresh
-  behind_operator Intersection = behind_meet
-  behind_operator Subtraction = behind_less
+  abbrev after_operator : CharacterClassContentsKind → Place
+  after_operator Union = fresh
+  after_operator Intersection = after_meet
+  after_operator Subtraction = after_less
 
-  operator_again : (kind : CharacterClassContentsKind) → IsKnownKind e.mode kind → (ts : List ClassToken) (text : List ℕ) → AgainAt (behind_operator kind) ts text →
+  operator_again : (kind : CharacterClassContentsKind) → IsKnownKind e.mode kind → (ts : List ClassToken) (text : List ℕ) → AgainAt (after_operator kind) ts text →
       AgainHere (between_by kind ++ ts) (operator_text kind ++ text)
   operator_again Union k ts text again = again
-  operator_again Intersection k ts text again = one_again fresh behind_meet meet (38 ∷ 38 ∷ []) ts text (λ at between rest. ((k, refl), refl)) again
-  operator_again Subtraction k ts text again = one_again fresh behind_less less (45 ∷ 45 ∷ []) ts text (λ at between rest. ((k, refl), refl)) again
+  operator_again Intersection k ts text again = one_again fresh after_meet meet (38 ∷ 38 ∷ []) ts text (λ at between rest. ((k, refl), refl)) again
+  operator_again Subtraction k ts text again = one_again fresh after_less less (45 ∷ 45 ∷ []) ts text (λ at between rest. ((k, refl), refl)) again
 
   -- A range stands where an item of a union may.
   abbrev TakesMember : Place → Member → Type 0
@@ -408,22 +409,22 @@ module _ (e : Environment) (mode : Mode) (m : e.mode ≡ mode) where
   -- what the kind of a class asks of its further members
   abbrev AreTaken : CharacterClassContentsKind → Members → Type 0
   AreTaken kind no_member = Unit {0}
-  AreTaken kind (member mb ms) = TakesMember (behind_operator kind) mb × AreTaken kind ms
+  AreTaken kind (member mb ms) = TakesMember (after_operator kind) mb × AreTaken kind ms
 
   taken_union : (ms : Members) → AreTaken Union ms
   taken_union no_member = tt
   taken_union (member mb ms) = (takes_first mb, taken_union ms)
 
-  taken_operands : (kind : CharacterClassContentsKind) → TakesOperand (behind_operator kind) → (ms : Members) → AreOperands ms → AreTaken kind ms
+  taken_operands : (kind : CharacterClassContentsKind) → TakesOperand (after_operator kind) → (ms : Members) → AreOperands ms → AreTaken kind ms
   taken_operands kind takes no_member h = tt
-  taken_operands kind takes (member mb ms) h = (takes_operand (behind_operator kind) takes mb h.0, taken_operands kind takes ms h.1)
+  taken_operands kind takes (member mb ms) h = (takes_operand (after_operator kind) takes mb h.0, taken_operands kind takes ms h.1)
 
   taken : (kind : CharacterClassContentsKind) (mb : Member) (ms : Members) → IsKnownKind e.mode kind → FitsKind kind (member mb ms) → AreTaken kind ms
   taken Union mb ms k fits = taken_union ms
   taken Intersection mb ms k fits = taken_operands Intersection k ms fits.1.1
   taken Subtraction mb ms k fits = taken_operands Subtraction k ms fits.1.1
 
-  -- behind a member stand further ones and the closer
+  -- after a member stand further ones and the closer
   further_ends : (kind : CharacterClassContentsKind) → IsKnownKind e.mode kind → (ms : Members) (text : List ℕ) → EndsItem (more_members_text mode (operator_text kind) ms ++ (93 ∷ text))
   further_ends kind k no_member text = inl (λ more. refl)
   further_ends Union k (member mb ms) text = inl (members_outside mode (λ c. c == 45) refl (no_raw_hyphen mode) refl refl [] (member mb ms) text)
@@ -483,7 +484,7 @@ module _ (e : Environment) (mode : Mode) (m : e.mode ≡ mode) where
         (member_again fresh mb (others ++ (closer ∷ ts)) (more ++ (93 ∷ text)) (takes_first mb) k.0 h.0 f.0 (further_ends kind p ms text)
         (further_again kind ms ts text p k.1 h.1 (taken kind mb ms p fits) f.1 again)))
 
-    -- each behind the operator
+    -- each after the operator
     further_again : (kind : CharacterClassContentsKind) (ms : Members) (ts : List ClassToken) (text : List ℕ) → IsKnownKind e.mode kind → AreKnownMembers true e.mode ms → AreEarlyMembers ms →
         AreTaken kind ms → AreFitting ms → AgainHere ts text →
         AgainHere (further_tokens (between_by kind) (again_members mode ms) ++ (closer ∷ ts)) (more_members_text mode (operator_text kind) ms ++ (93 ∷ text))
@@ -500,7 +501,7 @@ module _ (e : Environment) (mode : Mode) (m : e.mode ≡ mode) where
         subst (λ ts. AgainHere ts ((operator_text kind ++ (mine ++ more)) ++ (93 ∷ text))) (sym tokens_are)
         (subst (AgainHere (between_by kind ++ (own ++ (others ++ (closer ∷ ts))))) (sym text_is)
         (operator_again kind p (own ++ (others ++ (closer ∷ ts))) (mine ++ (more ++ (93 ∷ text)))
-        (member_again (behind_operator kind) mb (others ++ (closer ∷ ts)) (more ++ (93 ∷ text)) takes.0 k.0 h.0 f.0 (further_ends kind p ms text)
+        (member_again (after_operator kind) mb (others ++ (closer ∷ ts)) (more ++ (93 ∷ text)) takes.0 k.0 h.0 f.0 (further_ends kind p ms text)
         (further_again kind ms ts text p k.1 h.1 takes.1 f.1 again))))
 
   -- the class

@@ -9,7 +9,7 @@ use Rattle.rx_ast.specs.ClassTree.{Member, Members, Class, no_member, member, cl
 use Rattle.rx_ast.specs.Forget.{forget_class, same_kind}
 use Rattle.rx_units.specs.declared.code_point.CodePoint.{CodePoint}
 use Rattle.rx_model.specs.declared.mode.Mode.{Mode}
-use Rattle.rx_model.specs.Classes.ClassRows.{ClassTokenRow, SpellsClassCharacter, SpellsInClass, IsClassShape, IsClass, Place, outside, fresh, at_second, at_third, behind_meet, behind_less, in_strings, behind}
+use Rattle.rx_model.specs.Classes.ClassRows.{ClassTokenRow, SpellsClassCharacter, SpellsInClass, IsClassShape, IsClass, Place, outside, fresh, at_second, at_third, after_meet, after_less, in_strings, next_place}
 use Rattle.rx_model.specs.Classes.ClassShapes.{AreFitting, FitsKind, IsFitting, IsFittingMember}
 use Rattle.rx_ast.specs.Texts.{property_body}
 use Rattle.rx_model.specs.Classes.ClassTokens.{character, property, ClassToken, bracket, closer, item, low, dash, high, meet, less, strings, class_tokens}
@@ -19,7 +19,7 @@ use Rattle.rx_model.specs.Spelling.ReadBack.{FitIn}
 use Rattle.rx_model.proofs.Spelling.Bounds.{FitsIn, fit_front, fit_back, class_character_low}
 use Rattle.rx_model.proofs.Classes.ClassShapes.{operand_tokens, further_tokens, contents_tokens, between_by, class_tokens_by}
 use Rattle.rx_model.proofs.Properties.PropertyTexts.{property_again}
-use Rattle.rx_model.proofs.Classes.ClassStates.{behind_inside}
+use Rattle.rx_model.proofs.Classes.ClassStates.{after_inside}
 
 -- `&&` and `--` stand in classes with `v` alone
 abbrev pub IsKnownKind : Mode → CharacterClassContentsKind → Type 0
@@ -58,8 +58,8 @@ module _ (e : Environment) where
   -- the characters of a range
   low_there : (q : Place) (k : CharacterKind) (v : ℕ) (w more : List CodePoint) → SpellsInClass e q (low k v) w more → SpellsClassCharacter e k v w more
   low_there fresh k v w more s = s.0
-  low_there behind_meet k v w more s = absurd s.1
-  low_there behind_less k v w more s = absurd s.1
+  low_there after_meet k v w more s = absurd s.1
+  low_there after_less k v w more s = absurd s.1
   low_there in_strings k v w more s = absurd s.1
   low_there q k v w more s = absurd s
 
@@ -71,8 +71,8 @@ module _ (e : Environment) where
   character_there fresh k v w more f s = class_character_low e k v w more s.0 f
   character_there at_third k v w more f s = class_character_low e k v w more s f
   character_there at_second k v w more f s = λ m. symbol_low k v s.0
-  character_there behind_meet k v w more f s = class_character_low e k v w more s.1 f
-  character_there behind_less k v w more f s = class_character_low e k v w more s.1 f
+  character_there after_meet k v w more f s = class_character_low e k v w more s.1 f
+  character_there after_less k v w more f s = class_character_low e k v w more s.1 f
   character_there in_strings k v w more f s = absurd s.1
   character_there q k v w more f s = absurd s
 
@@ -81,8 +81,8 @@ module _ (e : Environment) where
   property_there fresh negative may name value w more s = (s.0.unicode, property_again e.mode may name value s.0.text s.0.spelled)
   property_there at_third negative may name value w more s = (s.unicode, property_again e.mode may name value s.text s.spelled)
   property_there at_second negative may name value w more s = let f = s.0 in absurd (let no : ⊥ = cc f in no)
-  property_there behind_meet negative may name value w more s = (s.1.unicode, property_again e.mode may name value s.1.text s.1.spelled)
-  property_there behind_less negative may name value w more s = (s.1.unicode, property_again e.mode may name value s.1.text s.1.spelled)
+  property_there after_meet negative may name value w more s = (s.1.unicode, property_again e.mode may name value s.1.text s.1.spelled)
+  property_there after_less negative may name value w more s = (s.1.unicode, property_again e.mode may name value s.1.text s.1.spelled)
   property_there in_strings negative may name value w more s = absurd s.1
   property_there q negative may name value w more s = absurd s
 
@@ -90,29 +90,29 @@ module _ (e : Environment) where
   bracket_sets : (q : Place) (negative : Bool) (w more : List CodePoint) → IsWithin q → SpellsInClass e q (bracket negative) w more → is_sets e.mode ≡ true
   bracket_sets outside negative w more n s = absurd (n refl)
   bracket_sets fresh negative w more n s = s.0
-  bracket_sets behind_meet negative w more n s = s.0
-  bracket_sets behind_less negative w more n s = s.0
+  bracket_sets after_meet negative w more n s = s.0
+  bracket_sets after_less negative w more n s = s.0
   bracket_sets in_strings negative w more n s = s.0
   bracket_sets q negative w more n s = absurd s
 
   strings_sets : (q : Place) (w more : List CodePoint) → SpellsInClass e q strings w more → is_sets e.mode ≡ true
   strings_sets fresh w more s = s.0
-  strings_sets behind_meet w more s = s.0
-  strings_sets behind_less w more s = s.0
+  strings_sets after_meet w more s = s.0
+  strings_sets after_less w more s = s.0
   strings_sets in_strings w more s = s.0
   strings_sets q w more s = absurd s
 
   meet_sets : (q : Place) (w more : List CodePoint) → SpellsInClass e q meet w more → is_sets e.mode ≡ true
   meet_sets fresh w more s = s.0
-  meet_sets behind_meet w more s = s.0
-  meet_sets behind_less w more s = s.0
+  meet_sets after_meet w more s = s.0
+  meet_sets after_less w more s = s.0
   meet_sets in_strings w more s = s.0
   meet_sets q w more s = absurd s
 
   less_sets : (q : Place) (w more : List CodePoint) → SpellsInClass e q less w more → is_sets e.mode ≡ true
   less_sets fresh w more s = s.0
-  less_sets behind_meet w more s = s.0
-  less_sets behind_less w more s = s.0
+  less_sets after_meet w more s = s.0
+  less_sets after_less w more s = s.0
   less_sets in_strings w more s = s.0
   less_sets q w more s = absurd s
 
@@ -123,7 +123,7 @@ module _ (e : Environment) where
     RowOn ts = (q : Place) × (us : List CodePoint) × IsWithin q × (bounded ≡ true → FitIn e.mode us) × ClassTokenRow e ts q us fresh rest
 
     token_on : (t : ClassToken) (ts : List ClassToken) → RowOn (t ∷ ts) → RowOn ts
-    token_on t ts (q, us, n, f, (w, more, whole, s, row)) = (behind e.mode q t more, more, behind_inside e.mode q t more, (λ b. fit_back e.mode us w more whole (f b)), row)
+    token_on t ts (q, us, n, f, (w, more, whole, s, row)) = (next_place e.mode q t more, more, after_inside e.mode q t more, (λ b. fit_back e.mode us w more whole (f b)), row)
 
     tokens_on : (own ts : List ClassToken) → RowOn (own ++ ts) → RowOn ts
     tokens_on [] ts r = r
@@ -142,7 +142,7 @@ module _ (e : Environment) where
         (is_unicode e.mode ≡ true) × SpellsProperty e.mode may name value (property_body name value)
     property_known negative may name value ts (q, us, n, f, (w, more, whole, s, row)) = property_there q negative may name value w more s
 
-    -- a member, and what stands behind it
+    -- a member, and what stands after it
     member_apart : (m : Member) (own ts : List ClassToken) → RowOn ((operand_tokens m ++ own) ++ ts) → RowOn (operand_tokens m ++ (own ++ ts)) × RowOn (own ++ ts)
     member_apart m own ts r =
         let row = subst RowOn (append_assoc (operand_tokens m) own ts) r in (row, tokens_on (operand_tokens m) (own ++ ts) row)
@@ -158,7 +158,7 @@ module _ (e : Environment) where
     kind_known Subtraction (member m (member n ms)) ts fits r =
         let on = (member_apart m (further_tokens (less ∷ []) (member n ms)) ts r).1 in less_sets on.0 on.4.0 on.4.1 on.4.3
 
-    -- behind its bracket
+    -- after its bracket
     contents_on : (negative : Bool) (own ts : List ClassToken) → RowOn ((bracket negative ∷ (own ++ (closer ∷ []))) ++ ts) → RowOn (own ++ (closer ∷ ts))
     contents_on negative own ts r = subst RowOn (append_assoc own (closer ∷ []) ts) (token_on (bracket negative) ((own ++ (closer ∷ [])) ++ ts) r)
 

@@ -1,6 +1,7 @@
--- What the canonical texts in a class begin with: so that what is spelled behind a text leaves it what it is.
-use Rattle.std.proofs.Common.{◌≡◌, ◌≢◌, refl, ap, ◌∙◌, ℕ, ◌==◌, ◌||◌, Bool, true, false, not, Option, List, [], ◌∷◌, ◌++◌, append_assoc}
+-- What the canonical texts in a class begin with: so that what is spelled after a text leaves it what it is.
+use Rattle.std.proofs.Common.{◌≡◌, ◌≢◌, refl, ap, ◌∙◌, ℕ, ◌==◌, Bool, true, false, not, Option, List, [], ◌∷◌, ◌++◌, append_assoc, codes, arith}
 use Rattle.std.proofs.Math.Bool.{and-false}
+use Rattle.std.proofs.lemmas.Bool.Decides.{nat_tests}
 use Rattle.rx_ast.specs.declared.leaf.CharacterClassEscapeKind.{CharacterClassEscapeKind}
 use Rattle.rx_ast.specs.declared.leaf.CharacterClassEscapeKind.TheVariants.{D, NegativeD, S, NegativeS, W, NegativeW}
 use Rattle.rx_ast.specs.ClassTree as tree
@@ -15,6 +16,7 @@ use Rattle.rx_ast.specs.Texts.{class_escape_text, property_text}
 use Rattle.rx_model.specs.Spelling.ClassText.{class_text, in_class_text, member_text, members_text, more_members_text}
 use Rattle.rx_model.specs.Inputs.Environment.{is_sets}
 use Rattle.rx_model.specs.FirstPass.Marks.{starts}
+use Rattle.rx_base.specs.Characters.{is_one_of}
 use Rattle.rx_model.proofs.Groups.GroupNames.{differs}
 use Rattle.rx_model.proofs.Spelling.SomeTexts.{some}
 use Rattle.rx_model.proofs.Spelling.CharacterText.{by_form}
@@ -69,8 +71,8 @@ no_double_front : (c : ℕ) (w : List ℕ) → is_escaped Sets in_class c ≡ fa
 no_double_front c [] h = refl
 no_double_front c (d ∷ w) h = no_double c d h
 
-raw_outside_sets : (c : ℕ) → (c == 45) ≡ false → (c == 93) ≡ false → (c == 92) ≡ false → not (c == 92 || c == 93 || c == 45) ≡ true
-raw_outside_sets c hyphen closer backslash = rw (hyphen, closer, backslash) refl
+raw_outside_sets : (c : ℕ) → (c == 45) ≡ false → (c == 93) ≡ false → (c == 92) ≡ false → not (is_one_of (codes "\\]-") c) ≡ true
+raw_outside_sets c hyphen closer backslash = grind (arith, nat_tests)
 
 pub raw_in_class : (mode : Mode) (c : ℕ) (w : List ℕ) → is_escaped mode in_class c ≡ false → stands_raw_in_class mode c w ≡ true
 raw_in_class Legacy c w h = raw_outside_sets c (no_raw_hyphen Legacy c h) (no_raw_closer Legacy c h) (unescaped_differs Legacy c 92 refl h)

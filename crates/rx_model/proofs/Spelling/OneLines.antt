@@ -6,6 +6,7 @@ use Rattle.std.proofs.lemmas.Bool.{and_from, cond_both, not-true}
 use Rattle.std.proofs.lemmas.Bool.Decides.{nat_tests}
 use Rattle.std.proofs.lemmas.List.Elements.{All-nil, All-cons, All-head, All-tail}
 use Rattle.std.proofs.lemmas.List.Folds.{list_all-append}
+use Rattle.rx_base.specs.Characters.{is_within}
 use Rattle.rx_ast.specs.declared.leaf.BoundaryAssertionKind.{BoundaryAssertionKind}
 use Rattle.rx_ast.specs.declared.leaf.BoundaryAssertionKind.TheVariants as boundaries
 use Rattle.rx_ast.specs.declared.leaf.Character.{Character}
@@ -20,7 +21,6 @@ use Rattle.rx_ast.specs.declared.class.CharacterClassContentsKind.{CharacterClas
 use Rattle.rx_ast.specs.declared.class.CharacterClassContentsKind.TheVariants.{Union, Intersection, Subtraction}
 use Rattle.rx_ast.specs.declared.class.ClassString.{ClassString}
 use Rattle.rx_ast.specs.Forget.{bare}
-use Rattle.rx_tables.specs.Characters.{is_within}
 use Rattle.rx_tables.proofs.Separators.{line_separator_starts_none, line_separator_in_none, paragraph_separator_starts_none, paragraph_separator_in_none}
 use Rattle.rx_units.specs.declared.code_point.CodePoint.{CodePoint}
 use Rattle.rx_units.proofs.Choices.{both}

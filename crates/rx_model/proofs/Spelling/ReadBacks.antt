@@ -12,7 +12,7 @@ use Rattle.rx_model.specs.Trees.Early.{Obeys, IsEarly, most_groups}
 use Rattle.rx_model.specs.Inputs.Environment.{is_unicode, environment, environment_with, has_some}
 use Rattle.rx_model.specs.Inputs.Texts.{literal_text}
 use Rattle.rx_model.specs.Trees.Events.{tokens, alternatives_events}
-use Rattle.rx_model.specs.Trees.Names.{groups, names, alternatives_groups, alternatives_names, once_behind, AreDistinct, AreNamesEarly}
+use Rattle.rx_model.specs.Trees.Names.{groups, names, alternatives_groups, alternatives_names, once_after, AreDistinct, AreNamesEarly}
 use Rattle.rx_model.specs.Spelling.ReadBack.{FitIn, IsReadBack}
 use Rattle.rx_model.specs.Reading.Reading.{Reads}
 use Rattle.rx_model.specs.Reading.Rows.{TokenRow}
@@ -82,7 +82,7 @@ module _ (mode : Mode) (rules : Rules) (p : Pattern) where
   its_groups = ap (λ more. alternatives_groups more) its_tree ∙ same_groups mode (mirror_disjunction p.body).1
 
   its_names : names again ≡ names p
-  its_names = ap (λ more. once_behind [] (alternatives_names more)) its_tree ∙ ap (once_behind []) (same_names mode (mirror_disjunction p.body).1)
+  its_names = ap (λ more. once_after [] (alternatives_names more)) its_tree ∙ ap (once_after []) (same_names mode (mirror_disjunction p.body).1)
 
   its_environment : environment mode rules again ≡ environment mode rules p
   its_environment =

@@ -1,4 +1,4 @@
--- The spelling of a tree is that of its tokens, one behind the other.
+-- The spelling of a tree is that of its tokens, one after the other.
 use Rattle.std.proofs.Common.{◌≡◌, refl, ap, sym, ◌∙◌, ℕ, Bool, true, false, Some, None, List, [], ◌∷◌, ◌++◌, append_assoc, codes}
 use Rattle.std.proofs.lemmas.List.{append-nil}
 use Rattle.rx_base.specs.declared.span.Span.{Span}

@@ -1,10 +1,11 @@
 -- The units of a text with neither `u` nor `v`: a character past FFFF is a lead and a trail, which a name combines again.
-use Rattle.std.proofs.Common.{◌≡◌, refl, sym, ap, ap₂, ◌∙◌, subst, ℕ, ◌+◌, ◌≤◌, ◌==◌, ◌||◌, nat_lt, cond, Bool, true, false, List, [], ◌∷◌, ◌++◌, append_assoc, arith, inl, inr}
+use Rattle.std.proofs.Common.{◌≡◌, refl, sym, ap, ap₂, ◌∙◌, subst, ℕ, ◌+◌, ◌≤◌, ◌==◌, ◌||◌, nat_lt, cond, Bool, true, false, List, [], ◌∷◌, ◌++◌, append_assoc, arith, codes, inl, inr}
 use Rattle.std.specs.List.{list_all}
 use Rattle.std.specs.Char.{len_utf8}
 use Rattle.std.proofs.lemmas.Bool.{cases_Bool, cond-true, cond-false}
 use Rattle.std.proofs.lemmas.Bool.Decides.{nat_tests}
 use Rattle.std.proofs.lemmas.List.{map-append}
+use Rattle.rx_base.specs.Characters.{is_one_of}
 use Rattle.rx_base.specs.SurrogatePair.{IsLeadSurrogate, IsTrailSurrogate, surrogate_pair}
 use Rattle.rx_units.specs.declared.code_point.EscapeKind.TheVariants as escape
 use Rattle.rx_units.specs.Units.{unit, lead_of, trail_of, character_units, literal_units, values}
@@ -49,7 +50,7 @@ front_wide set high (c ∷ cs) h = elim (cases_Bool (nat_lt c 0x10000)) [
   | inr p ↦ ap (λ v. front_is set (v ++ wide cs)) (cond-false (nat_lt c 0x10000) (c ∷ []) (lead_of c ∷ trail_of c ∷ []) p) ∙ high (lead_of c) (omega arith)
 ]
 
--- The units of two texts, one behind the other.
+-- The units of two texts, one after the other.
 pub wide-append : (at : ℕ) (u v : List ℕ) → (between : ℕ) × (literal_units false at (u ++ v) ≡ literal_units false at u ++ literal_units false between v)
 wide-append at [] v = (at, refl)
 wide-append at (c ∷ u) v =
@@ -58,7 +59,7 @@ wide-append at (c ∷ u) v =
     (h.0, ap (λ us. own ++ us) h.1 ∙ sym (append_assoc own (literal_units false (at + len_utf8 c) u) (literal_units false h.0 v)))
 
 -- names
-start_pair : (b : Bool) (c : ℕ) → (b || c == 36 || c == 95) ≡ true → 0x10000 ≤ c → b ≡ true
+start_pair : (b : Bool) (c : ℕ) → (b || is_one_of (codes "$_") c) ≡ true → 0x10000 ≤ c → b ≡ true
 start_pair b c h k = grind (arith, nat_tests)
 
 part_pair : (b : Bool) (c : ℕ) → (b || c == 36) ≡ true → 0x10000 ≤ c → b ≡ true

@@ -23,7 +23,7 @@ use Rattle.rx_model.proofs.Trees.OpenGroups.{accepted_whole}
 use Rattle.rx_model.proofs.Trees.Runs.{pattern_runs, run-append}
 use Rattle.rx_model.proofs.Reading.Splits.{split_values}
 
--- a whole quantifier at the front, with the `?` behind it where one stands there
+-- a whole quantifier at the front, with the `?` after it where one stands there
 record WholeQuantifier (us : List CodePoint) (min : ℕ) (max : Option ℕ) : Type 0 where
   greedy : Bool
   w : List CodePoint
@@ -78,13 +78,13 @@ module _ (mode : Mode) (rules : Rules) where
       EndsQuantifiable mode before
   ready_before before more min max greedy end h = go (run mode before [] false) refl
     where
-      behind : (os : List Opener) (ready : Bool) → run mode before [] false ≡ Some (os, ready) → run mode (quantifier min max greedy ∷ more) os ready ≡ Some end → EndsQuantifiable mode before
-      behind os true e r = (accepted_whole mode before os true e).ends refl
-      behind os false e r = absurd (let no : ⊥ = cc r in no)
+      following : (os : List Opener) (ready : Bool) → run mode before [] false ≡ Some (os, ready) → run mode (quantifier min max greedy ∷ more) os ready ≡ Some end → EndsQuantifiable mode before
+      following os true e r = (accepted_whole mode before os true e).ends refl
+      following os false e r = absurd (let no : ⊥ = cc r in no)
 
       go : (o : Option (List Opener × Bool)) → run mode before [] false ≡ o → EndsQuantifiable mode before
       go None e = absurd (let none = run_none mode rules before (quantifier min max greedy ∷ more) [] false e in let no : ⊥ = cc (none, h) in no)
-      go (Some (os, ready)) e = behind os ready e (sym (run-append mode before (quantifier min max greedy ∷ more) [] false os ready e) ∙ h)
+      go (Some (os, ready)) e = following os ready e (sym (run-append mode before (quantifier min max greedy ∷ more) [] false os ready e) ∙ h)
 
   pub quantified_next : (p : Pattern) (us : List CodePoint) → IsSpelled mode rules p us → (before after : List Token) (rest : List CodePoint) (min : ℕ) (max : Option ℕ) → tokens p ≡ before ++ after →
       TokenRow (environment mode rules p) before us rest → BeginsWithQuantifier rest min max → AreQuantified mode before after min max

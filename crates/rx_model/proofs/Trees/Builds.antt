@@ -149,7 +149,7 @@ module _ (mode : Mode) where
               ∙ nodes_build ns w.0 (before (barred_events more) ts) waiting no_alternative no_node ∙ h.3 ts,
         )
 
-    -- behind an alternative with these nodes, which the others stand before
+    -- after an alternative with these nodes, which the others stand before
     barred_build : (more : Alternatives) → AreAlternatives mode more → (waiting : List Waiting) (others : Alternatives) (ns : Nodes) →
         Leads (barred_events more) waiting others (onto ns no_node) (alternatives_onto others (alternative nowhere ns (forget_alternatives same_kind more)))
     barred_build no_alternative w waiting others ns =

@@ -7,7 +7,7 @@ use Rattle.std.proofs.lemmas.Bool.Decides.{Decides-by_or}
 use Rattle.std.proofs.lemmas.List.Elements.{Decides-contains}
 use Rattle.std.proofs.lemmas.Slice.Eq.{bytes_eq-Decides}
 use lib.Pointwise.{pointwise}
-use Rattle.rx_model.specs.Trees.Names.{is_among}
+use Rattle.rx_base.specs.Texts.{is_among}
 
 among_decides : (names : List (List ℕ)) (name : List ℕ) → Decides (is_among names name) (Contains names name)
 among_decides names name =

@@ -1,4 +1,4 @@
--- What `run` accepts: which groups are open after some tokens, and what a quantifier may stand behind.
+-- What `run` accepts: which groups are open after some tokens, and what a quantifier may stand after.
 use Rattle.std.proofs.Common.{◌≡◌, refl, sym, ap, ◌∙◌, subst, Bool, true, false, Option, Some, List, [], ◌∷◌, ◌++◌, append_assoc, append-nil}
 use Rattle.rx_ast.specs.declared.leaf.LookAroundAssertionKind.{LookAroundAssertionKind}
 use Rattle.rx_ast.specs.declared.leaf.LookAroundAssertionKind.TheVariants.{Lookahead, NegativeLookahead, Lookbehind, NegativeLookbehind}
@@ -14,7 +14,7 @@ closed-append bs (further t more i m) b = further t (more ++ bs) i (closed-appen
 closed-append bs (group o inside more i m) b =
     subst (λ ts. AreClosed (opener o ∷ ts)) (sym (append_assoc inside (closer ∷ more) bs)) (group o inside (more ++ bs) i (closed-append bs m b))
 
--- What closes behind it leaves the same groups open.
+-- What closes after it leaves the same groups open.
 open-append : (os : List Opener) (ts bs : List Token) → AreOpen os ts → AreClosed bs → AreOpen os (ts ++ bs)
 open-append [] ts bs h b = closed-append bs h b
 open-append (o ∷ os) ts bs h b =
@@ -182,7 +182,7 @@ module _ (mode : Mode) where
   split ((indexed n) ∷ ts) more os ready end e = split ts more os true end e
   split ((named name) ∷ ts) more os ready end e = split ts more os true end e
 
-  pub ready_behind : (ts : List Token) (os : List Opener) (ready : Bool) → run mode ts [] false ≡ Some (os, ready) → EndsQuantifiable mode ts → ready ≡ true
-  ready_behind ts os ready e q =
+  pub ready_following : (ts : List Token) (os : List Opener) (ready : Bool) → run mode ts [] false ≡ Some (os, ready) → EndsQuantifiable mode ts → ready ≡ true
+  ready_following ts os ready e q =
       let s = split q.before q.last [] false (os, ready) (ap (λ x. run mode x [] false) (sym q.whole) ∙ e) in
       ends_ready q.last s.0 s.1 q.quantifiable os ready s.2

@@ -1,7 +1,9 @@
 -- How a unicode escape is read: the order in which the readers try its forms. What it means stands in UnicodeEscapes.
 use Rattle.std.specs.Prelude.{ℕ, Bool, ◌+◌, ◌*◌, ◌^◌, ◌==◌, ◌&&◌, List, [], ◌∷◌, Option, option_map, Some, None, option_and_then, nat_lt, nat_le, if◌then◌else◌}
+use Rattle.rx_base.specs.Ascii as ascii
+use Rattle.rx_base.specs.Characters.{is_lead, is_trail}
 use Rattle.rx_base.specs.SurrogatePair.{surrogate_pair}
-use Rattle.rx_tables.specs.Characters.{hex_digit_value, is_within}
+use Rattle.rx_tables.specs.Characters.{hex_digit_value}
 use Rattle.rx_units.specs.Digits.{hex_number}
 
 -- a code point in n characters; none; digits that pass 32 bits, after n digits that do not
@@ -10,12 +12,6 @@ pub data Decoded : Type 0 where
   invalid : Decoded
   overflow : ℕ → Decoded
 
-abbrev pub is_lead : ℕ → Bool
-is_lead c = is_within 0xD800 0xDBFF c
-
-abbrev pub is_trail : ℕ → Bool
-is_trail c = is_within 0xDC00 0xDFFF c
-
 -- the number of the first four, and what follows them
 abbrev pub four_at : List ℕ → Option (ℕ × List ℕ)
 four_at (a ∷ b ∷ c ∷ d ∷ rest) = option_map (λ v. (v, rest)) (hex_number (a ∷ b ∷ c ∷ d ∷ []))
@@ -23,31 +19,31 @@ four_at _ = None
 
 -- the trail that is escaped next
 abbrev pub trail_at : List ℕ → Option ℕ
-trail_at (x ∷ y ∷ w) = if (x == 92) && (y == 117) then option_and_then (λ t. if is_trail t.0 then Some t.0 else None) (four_at w) else None
+trail_at (x ∷ y ∷ w) = if (x == ascii.backslash) && (y == ascii.u) then option_and_then (λ t. if is_trail t.0 then Some t.0 else None) (four_at w) else None
 trail_at _ = None
 
 -- one step of a run of digits: what a character stands for, the number and the count so far, the character, and how it goes on
 abbrev pub run_step : Option ℕ → ℕ → ℕ → ℕ → (ℕ → Decoded) → Decoded
 run_step (Some d) n count x again = if nat_lt (16 * n + d) (2 ^ 32) then again (16 * n + d) else overflow count
-run_step None n count x again = if (x == 125) && (nat_lt 0 count && nat_le n 0x10FFFF) then value n (count + 3) else invalid
+run_step None n count x again = if (x == ascii.right_brace) && (nat_lt 0 count && nat_le n 0x10FFFF) then value n (count + 3) else invalid
 
--- digits and a brace, behind a number and n digits
+-- digits and a brace, after a number and n digits
 abbrev pub run_at : ℕ → ℕ → List ℕ → Decoded
 run_at n count [] = invalid
 run_at n count (x ∷ xs) = run_step (hex_digit_value x) n count x (λ m. run_at m (count + 1) xs)
 
 abbrev pub braces_at : List ℕ → Decoded
 braces_at [] = invalid
-braces_at (x ∷ xs) = if x == 123 then run_at 0 0 xs else invalid
+braces_at (x ∷ xs) = if x == ascii.left_brace then run_at 0 0 xs else invalid
 
 abbrev pub joined_at : ℕ → Option ℕ → Decoded
 joined_at v None = value v 5
 joined_at v (Some t) = value (surrogate_pair v t) 11
 
-abbrev pub behind_u : Bool → Option (ℕ × List ℕ) → List ℕ → Decoded
-behind_u unicode_mode (Some v) w = if unicode_mode && is_lead v.0 then joined_at v.0 (trail_at v.1) else value v.0 5
-behind_u unicode_mode None w = if unicode_mode then braces_at w else invalid
+abbrev pub after_u : Bool → Option (ℕ × List ℕ) → List ℕ → Decoded
+after_u unicode_mode (Some v) w = if unicode_mode && is_lead v.0 then joined_at v.0 (trail_at v.1) else value v.0 5
+after_u unicode_mode None w = if unicode_mode then braces_at w else invalid
 
 abbrev pub decoded : Bool → List ℕ → Decoded
 decoded unicode_mode [] = invalid
-decoded unicode_mode (x ∷ w) = if x == 117 then behind_u unicode_mode (four_at w) w else invalid
+decoded unicode_mode (x ∷ w) = if x == ascii.u then after_u unicode_mode (four_at w) w else invalid

@@ -1,12 +1,12 @@
--- What stands behind the backslash of a unicode escape (RegExpUnicodeEscapeSequence, 22.2.1).
-use Rattle.std.specs.Prelude.{◌≡◌, ℕ, ◌+◌, ◌*◌, ◌^◌, ◌<◌, ◌≤◌, Bool, true, false, List, [], ◌∷◌, ◌++◌, length, Some}
+-- What stands after the backslash of a unicode escape (RegExpUnicodeEscapeSequence, 22.2.1).
+use Rattle.std.specs.Prelude.{◌≡◌, ℕ, ◌≤◌, Bool, true, false, List, [], ◌∷◌, ◌++◌, length, Some, codes}
+use Rattle.rx_base.specs.Ascii as ascii
 use Rattle.rx_base.specs.SurrogatePair.{IsLeadSurrogate, IsTrailSurrogate, surrogate_pair}
-use Rattle.rx_tables.specs.Characters.{hex_digit_value}
 use Rattle.rx_units.specs.Digits.{hex_number}
 
 -- `u` and four hexadecimal digits
 abbrev pub four : ℕ → ℕ → ℕ → ℕ → List ℕ
-four a b c d = 117 ∷ a ∷ b ∷ c ∷ d ∷ []
+four a b c d = ascii.u ∷ a ∷ b ∷ c ∷ d ∷ []
 
 -- A trail surrogate stands next as an escape: a backslash, `u` and its four digits.
 pub record BeginsWithTrail (w : List ℕ) : Type 0 where
@@ -18,7 +18,7 @@ pub record BeginsWithTrail (w : List ℕ) : Type 0 where
   pub trail : ℕ
   pub number : hex_number (a ∷ b ∷ c ∷ d ∷ []) ≡ Some trail
   pub is_trail : IsTrailSurrogate trail
-  pub whole : w ≡ 92 ∷ four a b c d ++ rest
+  pub whole : w ≡ ascii.backslash ∷ four a b c d ++ rest
 
 -- In a unicode mode or not, a code point is spelled by these characters before rest.
 pub data SpellsUnicode : Bool → ℕ → List ℕ → List ℕ → Type 0 where
@@ -28,9 +28,9 @@ pub data SpellsUnicode : Bool → ℕ → List ℕ → List ℕ → Type 0 where
   alone : {a b c d v : ℕ} {rest : List ℕ} → hex_number (a ∷ b ∷ c ∷ d ∷ []) ≡ Some v → (IsLeadSurrogate v → BeginsWithTrail rest → ⊥) → SpellsUnicode true v (four a b c d) rest
   -- a lead and a trail, joined
   pair : {a b c d e f g h lead trail : ℕ} {rest : List ℕ} → hex_number (a ∷ b ∷ c ∷ d ∷ []) ≡ Some lead → hex_number (e ∷ f ∷ g ∷ h ∷ []) ≡ Some trail
-      → IsLeadSurrogate lead → IsTrailSurrogate trail → SpellsUnicode true (surrogate_pair lead trail) (four a b c d ++ 92 ∷ four e f g h) rest
+      → IsLeadSurrogate lead → IsTrailSurrogate trail → SpellsUnicode true (surrogate_pair lead trail) (four a b c d ++ ascii.backslash ∷ four e f g h) rest
   -- one or more digits in braces
-  braced : {v : ℕ} {rest : List ℕ} (x : ℕ) (xs : List ℕ) → hex_number (x ∷ xs) ≡ Some v → v ≤ 0x10FFFF → SpellsUnicode true v (117 ∷ 123 ∷ x ∷ (xs ++ 125 ∷ [])) rest
+  braced : {v : ℕ} {rest : List ℕ} (x : ℕ) (xs : List ℕ) → hex_number (x ∷ xs) ≡ Some v → v ≤ 0x10FFFF → SpellsUnicode true v (codes "u{" ++ (x ∷ (xs ++ codes "}"))) rest
 
 -- At the front a code point is spelled in n characters.
 pub record Decodes (unicode_mode : Bool) (w : List ℕ) (v n : ℕ) : Type 0 where
@@ -39,17 +39,3 @@ pub record Decodes (unicode_mode : Bool) (w : List ℕ) (v n : ℕ) : Type 0 whe
   pub spells : SpellsUnicode unicode_mode v spelled rest
   pub whole : w ≡ spelled ++ rest
   pub count : length spelled ≡ n
-
--- The digits behind `u{` pass 32 bits, after n digits that do not.
-pub record PassesHex (w : List ℕ) (count : ℕ) : Type 0 where
-  pub digits : List ℕ
-  pub next : ℕ
-  pub rest : List ℕ
-  pub number : ℕ
-  pub digit : ℕ
-  pub whole : w ≡ 117 ∷ 123 ∷ (digits ++ next ∷ rest)
-  pub count_is : length digits ≡ count
-  pub number_is : hex_number digits ≡ Some number
-  pub digit_is : hex_digit_value next ≡ Some digit
-  pub fits : number < 2 ^ 32
-  pub passes : 2 ^ 32 ≤ 16 * number + digit

@@ -1,5 +1,6 @@
 -- A class between its brackets, and the class of some members.
 use Rattle.std.specs.Prelude.{◌≡◌, Bool, List, ◌++◌}
+use Rattle.rx_base.specs.Ascii as ascii
 use Rattle.rx_ast.specs.declared.class.CharacterClassContentsKind.{CharacterClassContentsKind}
 use Rattle.rx_ast.specs.ClassTree.{Class, Member, class, members}
 use Rattle.rx_ast.specs.Forget.{nowhere}
@@ -15,7 +16,7 @@ pub record InBrackets (negative : Bool) (w rest : List CodePoint) : Type 0 where
   pub closer : CodePoint
   pub whole : w ++ rest ≡ bracket ++ inside
   pub bracket_is : SpellsBracket negative bracket inside
-  pub closer_is : closer.value ≡ 93
+  pub closer_is : closer.value ≡ ascii.right_bracket
 
 -- the class of these members, without spans
 abbrev pub class_of_members : Bool → CharacterClassContentsKind → List Member → Class

@@ -1,6 +1,5 @@
 -- A class without spans from its tokens: the brackets that are open, and what each holds.
-use Rattle.std.specs.Prelude.{ℕ, Bool, not, ◌==◌, Option, Some, None, List, [], ◌∷◌, ◌++◌, length, if◌then◌else◌}
-use Rattle.std.specs.List.{list_any}
+use Rattle.std.specs.Prelude.{ℕ, Bool, Option, Some, None, List, [], ◌∷◌, ◌++◌, length, if◌then◌else◌}
 use Rattle.rx_ast.specs.declared.leaf.Character.{Character}
 use Rattle.rx_ast.specs.declared.leaf.CharacterKind.{CharacterKind}
 use Rattle.rx_ast.specs.declared.class.CharacterClassContentsKind.{CharacterClassContentsKind}
@@ -11,7 +10,7 @@ use Rattle.rx_ast.specs.ClassTree as tree
 use Rattle.rx_ast.specs.Forget.{nowhere}
 use Rattle.rx_model.specs.Classes.ClassRuns.{Held, empty, single, several, meeting, met, lessening, lessened, is_whole, less_by, met_by, operand, ranged}
 use Rattle.rx_model.specs.Classes.ClassTokens.{Atom, character, escape, property, ClassToken, bracket, closer, item, low, dash, high, meet, less, strings, letter, string_bar, strings_end}
-use Rattle.rx_model.specs.Trees.Early.{may_contain_strings}
+use Rattle.rx_model.specs.Trees.Early.{disjunction_strings, may_contain_strings, string_strings}
 
 abbrev pub character_of : CharacterKind → ℕ → Character
 character_of k v = record { span = nowhere; kind = k; value = v }
@@ -32,10 +31,10 @@ range_member k v j x = tree.range (record { span = nowhere; min = character_of k
 
 -- a class string of these characters
 abbrev pub string_of : List Character → ClassString
-string_of cs = record { span = nowhere; strings = not (length cs == 1); body = cs }
+string_of cs = record { span = nowhere; strings = string_strings (length cs); body = cs }
 
 abbrev pub strings_member : List ClassString → Member
-strings_member ss = tree.strings (record { span = nowhere; strings = list_any (λ s. s.strings) ss; body = ss })
+strings_member ss = tree.strings (record { span = nowhere; strings = disjunction_strings ss; body = ss })
 
 -- one member more
 abbrev pub with_last : Members → Member → Members
@@ -65,12 +64,12 @@ level_of negative held ms = record { negative = negative; held = held; members =
 abbrev pub class_of_level : Level → Class
 class_of_level l = class nowhere l.negative (may_contain_strings (kind_of l.held) l.members) (kind_of l.held) l.members
 
--- What has begun in the innermost bracket and goes on: nothing; a range behind its low end, and behind its `-`; class strings, of which some are whole, with
+-- What has begun in the innermost bracket and goes on: nothing; a range after its low end, and after its `-`; class strings, of which some are whole, with
 -- the characters of the next.
 pub data Begun : Type 0 where
   nothing_begun : Begun
-  behind_low : CharacterKind → ℕ → Begun
-  behind_dash : CharacterKind → ℕ → Begun
+  after_low : CharacterKind → ℕ → Begun
+  after_dash : CharacterKind → ℕ → Begun
   inside_strings : List ClassString → List Character → Begun
 
 -- before the class; inside it, with the innermost bracket first; the whole class; none
@@ -99,9 +98,9 @@ abbrev pub build_in : ClassToken → Begun → Level → List Level → Building
 build_in (bracket negative) nothing_begun l outer = inside_class (level_of negative empty no_member) (l ∷ outer) nothing_begun
 build_in closer nothing_begun l outer = if is_whole l.held then class_closed l outer else no_class
 build_in (item a) nothing_begun l outer = holding_member l outer (atom_member a) (operand l.held)
-build_in (low k v) nothing_begun l outer = inside_class l outer (behind_low k v)
-build_in dash (behind_low k v) l outer = inside_class l outer (behind_dash k v)
-build_in (high j x) (behind_dash k v) l outer = holding_member l outer (range_member k v j x) (ranged l.held)
+build_in (low k v) nothing_begun l outer = inside_class l outer (after_low k v)
+build_in dash (after_low k v) l outer = inside_class l outer (after_dash k v)
+build_in (high j x) (after_dash k v) l outer = holding_member l outer (range_member k v j x) (ranged l.held)
 build_in meet nothing_begun l outer = operated l outer (met_by l.held)
 build_in less nothing_begun l outer = operated l outer (less_by l.held)
 build_in strings nothing_begun l outer = inside_class l outer (inside_strings [] [])

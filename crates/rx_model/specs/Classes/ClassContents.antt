@@ -20,7 +20,7 @@ abbrev pub AreMembers : List Thing → Type 0
 AreMembers [] = Unit {0}
 AreMembers (thing ∷ things) = IsMember thing × AreMembers things
 
--- further operands, each behind the operator
+-- further operands, each after the operator
 pub data AreFurther (operator : Thing) : List Thing → Type 0 where
   none : AreFurther operator []
   further : (more : List Thing) → AreFurther operator more → AreFurther operator (operator ∷ one_operand ∷ more)

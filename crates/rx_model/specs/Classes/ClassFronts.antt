@@ -1,5 +1,6 @@
 -- How a class at the front of a text is read: a token at a time, by its place, up to the closer. What it means stands in ClassRows.
 use Rattle.std.specs.Prelude.{ℕ, zero, suc, ◌+◌, ◌-◌, Bool, true, false, not, ◌==◌, ◌&&◌, ◌||◌, Option, Some, None, List, [], ◌∷◌, drop, if◌then◌else◌}
+use Rattle.rx_base.specs.Ascii as ascii
 use Rattle.rx_tables.specs.Characters.{is_reserved_punctuator}
 use Rattle.rx_ast.specs.declared.leaf.CharacterClassEscapeKind.{CharacterClassEscapeKind}
 use Rattle.rx_ast.specs.declared.leaf.CharacterKind.TheVariants as kind
@@ -8,13 +9,13 @@ use Rattle.rx_units.specs.declared.code_point.CodePoint.{CodePoint}
 use Rattle.rx_units.specs.Units.{values}
 use Rattle.rx_model.specs.declared.mode.Mode.{Mode}
 use Rattle.rx_model.specs.Classes.ClassBuilds.{class_of_tokens}
-use Rattle.rx_model.specs.Classes.ClassRows.{Place, outside, fresh, at_dash, at_high, at_second, at_third, behind_meet, behind_less, in_strings, has_hyphen, has_threes, is_dashed, stands_raw_in_class}
+use Rattle.rx_model.specs.Classes.ClassRows.{Place, outside, fresh, at_dash, at_high, at_second, at_third, after_meet, after_less, in_strings, has_hyphen, has_threes, is_dashed, stands_raw_in_class}
 use Rattle.rx_model.specs.Classes.ClassTokens.{Atom, character, escape, property, is_character, ClassToken, bracket, closer, item, low, dash, high, meet, less, strings, letter, string_bar, strings_end}
 use Rattle.rx_model.specs.Inputs.Environment.{Environment, is_sets, is_unicode}
 use Rattle.rx_model.specs.Characters.EscapeFronts.{EscapeRead, escaped, nothing, too_many, no_unicode, any_escape_at, class_escape_at}
 use Rattle.rx_model.specs.FirstPass.Marks.{starts}
 use Rattle.rx_model.specs.Properties.PropertyFronts.{PropertyRead, property_read, no_property, property_front}
-use Rattle.rx_model.specs.Reading.ElementKinds.{NestedPlace, behind_of_class}
+use Rattle.rx_model.specs.Reading.ElementKinds.{NestedPlace, after_of_class}
 use Rattle.rx_model.specs.Refusals.Stops.{is_hyphen_escaped}
 use Rattle.rx_model.specs.Characters.UnitKinds.{unit_kind}
 use Rattle.rx_model.specs.Properties.PropertyForms.{begins_property}
@@ -38,12 +39,12 @@ abbrev pub escape_atom : Option CharacterClassEscapeKind → EscapeRead → Atom
 escape_atom (Some k) r = atom_read (escape k) 2
 escape_atom None r = character_atom r
 
--- behind a backslash
+-- after a backslash
 abbrev pub escape_in_class : Environment → List ℕ → AtomRead
 escape_in_class e [] = no_atom
 escape_in_class e (c ∷ w) =
-    if c == 98 then atom_read (character kind.SingleEscape 8) 2
-    else (if is_hyphen_escaped e.mode && c == 45 then atom_read (character kind.SingleEscape 45) 2
+    if c == ascii.b then atom_read (character kind.SingleEscape ascii.backspace) 2
+    else (if is_hyphen_escaped e.mode && c == ascii.hyphen then atom_read (character kind.SingleEscape ascii.hyphen) 2
     else (if is_sets e.mode && is_reserved_punctuator c then atom_read (character kind.Identifier c) 2
     else (if begins_property c && is_unicode e.mode then property_atom (property_front e.mode (c ∷ w))
     else escape_atom (class_escape_at c) (any_escape_at true e (c ∷ w)))))
@@ -53,8 +54,8 @@ unfoldable pub atom_at : Environment → List CodePoint → AtomRead
 atom_at e [] = no_atom
 atom_at e (u ∷ us) =
     if stands_raw_in_class e.mode u.value (values us) then atom_read (character (unit_kind u.escape_kind) u.value) 1
-    else (if has_hyphen e.mode && u.value == 45 then atom_read (character kind.Symbol 45) 1
-    else (if u.value == 92 then escape_in_class e (values us) else no_atom))
+    else (if has_hyphen e.mode && u.value == ascii.hyphen then atom_read (character kind.Symbol ascii.hyphen) 1
+    else (if u.value == ascii.backslash then escape_in_class e (values us) else no_atom))
 
 -- a token in n units; none
 abbrev pub TokenRead : Type 0
@@ -81,7 +82,7 @@ high_of (atom_read (character k v) n) = Some (high k v, n)
 high_of (atom_read (escape k) n) = None
 high_of (atom_read (property negative may name value) n) = None
 
--- an atom before a `-` and what stands behind that: the low end of a range, or with neither `u` nor `v` the first of three items, or with `v` an item in any
+-- an atom before a `-` and what stands after that: the low end of a range, or with neither `u` nor `v` the first of three items, or with `v` an item in any
 -- other case
 abbrev pub dashed_of : Mode → Atom → ℕ → AtomRead → TokenRead
 dashed_of mode a n no_atom = item_where (is_sets mode) a n
@@ -93,7 +94,7 @@ item_before e a n rest = if is_dashed (values rest) then dashed_of e.mode a n (a
 
 abbrev pub bracket_at : List ℕ → TokenRead
 bracket_at [] = None
-bracket_at (c ∷ w) = if c == 91 then (if starts 94 w then Some (bracket true, 2) else Some (bracket false, 1)) else None
+bracket_at (c ∷ w) = if c == ascii.left_bracket then (if starts ascii.caret w then Some (bracket true, 2) else Some (bracket false, 1)) else None
 
 -- whether these two characters stand next
 abbrev pub are_next : ℕ → ℕ → List ℕ → Bool
@@ -103,7 +104,7 @@ are_next c d (x ∷ w) = x == c && starts d w
 -- whether `\q{` stands next
 abbrev pub begins_strings : List ℕ → Bool
 begins_strings [] = false
-begins_strings (c ∷ w) = c == 92 && are_next 113 123 w
+begins_strings (c ∷ w) = c == ascii.backslash && are_next ascii.q ascii.left_brace w
 
 -- an operand that is no atom, or the beginning of one
 abbrev pub operand_token : List ℕ → TokenRead
@@ -111,12 +112,12 @@ operand_token w = if begins_strings w then Some (strings, 3) else bracket_at w
 
 -- the token of a class with `v` alone that no atom begins, where an item may begin
 abbrev pub set_token : List ℕ → TokenRead
-set_token w = if are_next 38 38 w then Some (meet, 2) else (if are_next 45 45 w then Some (less, 2) else operand_token w)
+set_token w = if are_next ascii.ampersand ascii.ampersand w then Some (meet, 2) else (if are_next ascii.hyphen ascii.hyphen w then Some (less, 2) else operand_token w)
 
 -- where an item may begin
 abbrev pub fresh_token : Environment → AtomRead → List CodePoint → TokenRead
 fresh_token e (atom_read a n) us = item_before e a n (drop n us)
-fresh_token e no_atom us = if starts 93 (values us) then Some (closer, 1) else (if is_sets e.mode then set_token (values us) else None)
+fresh_token e no_atom us = if starts ascii.right_bracket (values us) then Some (closer, 1) else (if is_sets e.mode then set_token (values us) else None)
 
 -- where an operand may
 abbrev pub operand_of : AtomRead → List ℕ → TokenRead
@@ -128,7 +129,7 @@ abbrev pub string_token : AtomRead → List ℕ → TokenRead
 string_token (atom_read (character k v) n) w = Some (letter k v, n)
 string_token (atom_read (escape k) n) w = None
 string_token (atom_read (property negative may name value) n) w = None
-string_token no_atom w = if starts 124 w then Some (string_bar, 1) else (if starts 125 w then Some (strings_end, 1) else None)
+string_token no_atom w = if starts ascii.vertical_bar w then Some (string_bar, 1) else (if starts ascii.right_brace w then Some (strings_end, 1) else None)
 
 abbrev pub token_where : Bool → TokenRead → TokenRead
 token_where true r = r
@@ -138,12 +139,12 @@ token_where false r = None
 unfoldable pub class_token_at : Environment → Place → List CodePoint → TokenRead
 class_token_at e outside us = bracket_at (values us)
 class_token_at e fresh us = fresh_token e (atom_at e us) us
-class_token_at e at_dash us = token_where (starts 45 (values us)) (Some (dash, 1))
+class_token_at e at_dash us = token_where (starts ascii.hyphen (values us)) (Some (dash, 1))
 class_token_at e at_high us = high_of (atom_at e us)
-class_token_at e at_second us = token_where (starts 45 (values us)) (Some (item (character kind.Symbol 45), 1))
+class_token_at e at_second us = token_where (starts ascii.hyphen (values us)) (Some (item (character kind.Symbol ascii.hyphen), 1))
 class_token_at e at_third us = item_of (atom_at e us)
-class_token_at e behind_meet us = token_where (is_sets e.mode && not (starts 38 (values us))) (operand_of (atom_at e us) (values us))
-class_token_at e behind_less us = token_where (is_sets e.mode) (operand_of (atom_at e us) (values us))
+class_token_at e after_meet us = token_where (is_sets e.mode && not (starts ascii.ampersand (values us))) (operand_of (atom_at e us) (values us))
+class_token_at e after_less us = token_where (is_sets e.mode) (operand_of (atom_at e us) (values us))
 class_token_at e in_strings us = token_where (is_sets e.mode) (string_token (atom_at e us) (values us))
 
 -- tokens in n units; none
@@ -154,17 +155,17 @@ abbrev pub with_token : ClassToken → ℕ → TokensRead → TokensRead
 with_token t n None = None
 with_token t n (Some r) = Some (t ∷ r.0, n + r.1)
 
--- the tokens on from behind n units; none where the class ends there
+-- the tokens after n units; none where the class ends there
 abbrev pub tokens_on : ℕ → Option NestedPlace → (NestedPlace → ℕ → TokensRead) → TokensRead
 tokens_on n None again = Some ([], 0)
 tokens_on n (Some p) again = again p (n - 1)
 
--- the tokens from a token on that was read at a place; `again` goes on behind further units
+-- the tokens from a token on that was read at a place; `again` goes on after further units
 abbrev pub tokens_from : Environment → NestedPlace → List CodePoint → TokenRead → (NestedPlace → ℕ → TokensRead) → TokensRead
 tokens_from e p us None again = None
-tokens_from e p us (Some r) again = with_token r.0 r.1 (tokens_on r.1 (behind_of_class e (Some p) r.0 (drop r.1 us)) again)
+tokens_from e p us (Some r) again = with_token r.0 r.1 (tokens_on r.1 (after_of_class e (Some p) r.0 (drop r.1 us)) again)
 
--- the tokens of a class from a place on up to its closer, behind some units that were read
+-- the tokens of a class from a place on up to its closer, after some units that were read
 abbrev pub class_tokens_at : Environment → NestedPlace → ℕ → List CodePoint → TokensRead
 class_tokens_at e p skipped [] = None
 class_tokens_at e p (suc skipped) (u ∷ us) = class_tokens_at e p skipped us

@@ -1,6 +1,7 @@
 -- What stands in a class with `v`, in the words of ClassUnion, ClassIntersection and ClassSubtraction (22.2.1): members without spans. A relation `.. w rest` says
 -- that the units w spell a thing before all that follows them, rest.
-use Rattle.std.specs.Prelude.{◌≡◌, ◌≢◌, ℕ, Bool, true, false, List, [], ◌∷◌, ◌++◌}
+use Rattle.std.specs.Prelude.{◌≡◌, ◌≢◌, ℕ, Bool, true, false, List, [], ◌∷◌, ◌++◌, codes}
+use Rattle.rx_base.specs.Ascii as ascii
 use Rattle.rx_ast.specs.declared.leaf.CharacterKind.{CharacterKind}
 use Rattle.rx_ast.specs.declared.class.CharacterClassContentsKind.{CharacterClassContentsKind}
 use Rattle.rx_ast.specs.declared.class.CharacterClassContentsKind.TheVariants.{Union, Intersection, Subtraction}
@@ -34,15 +35,15 @@ IsCharacter m = ⊥
 pub data SpellsUnionItem (e : Environment) : Member → List CodePoint → List CodePoint → Type 0 where
   -- ClassSetRange: two characters and a `-`
   of_range : {k j : CharacterKind} {v x : ℕ} {rest : List CodePoint} (low : List CodePoint) (hyphen : CodePoint) (high : List CodePoint)
-      → SpellsClassCharacter e k v low (hyphen ∷ (high ++ rest)) → hyphen.value ≡ 45 → SpellsClassCharacter e j x high rest → SpellsUnionItem e (range_member k v j x) (low ++ (hyphen ∷ high)) rest
+      → SpellsClassCharacter e k v low (hyphen ∷ (high ++ rest)) → hyphen.value ≡ ascii.hyphen → SpellsClassCharacter e j x high rest → SpellsUnionItem e (range_member k v j x) (low ++ (hyphen ∷ high)) rest
   -- ClassSetOperand, where it does not begin a range: no character before a `-` and a character
   of_operand : {m : Member} {w rest : List CodePoint} → SpellsWholeOperand e m w rest → (IsCharacter m → BeforeHigh e rest → ⊥) → SpellsUnionItem e m w rest
 
 -- `&&` before no `&` (ClassIntersection), and `--` (ClassSubtraction)
 abbrev pub SpellsOperator : CharacterClassContentsKind → List CodePoint → List CodePoint → Type 0
 SpellsOperator Union w rest = ⊥
-SpellsOperator Intersection w rest = (values w ≡ 38 ∷ 38 ∷ []) × (starts 38 (values rest) ≡ false)
-SpellsOperator Subtraction w rest = values w ≡ 45 ∷ 45 ∷ []
+SpellsOperator Intersection w rest = (values w ≡ codes "&&") × (starts ascii.ampersand (values rest) ≡ false)
+SpellsOperator Subtraction w rest = values w ≡ codes "--"
 
 -- an operand with the operator before it, in contents of this kind
 pub data SpellsFurtherOperand (e : Environment) (kind : CharacterClassContentsKind) : Member → List CodePoint → List CodePoint → Type 0 where
@@ -50,7 +51,7 @@ pub data SpellsFurtherOperand (e : Environment) (kind : CharacterClassContentsKi
 
 -- `]` stands next.
 abbrev pub IsOperandsEnd : List CodePoint → Type 0
-IsOperandsEnd us = starts 93 (values us) ≡ true
+IsOperandsEnd us = starts ascii.right_bracket (values us) ≡ true
 
 -- A class of the items of a union, of which there may be none.
 pub record IsClassOfUnion (e : Environment) (c : Class) (w rest : List CodePoint) : Type 0 where

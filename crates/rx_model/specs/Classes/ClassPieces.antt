@@ -1,6 +1,7 @@
 -- What stands in a class without `v`, in the words of NonemptyClassRanges (22.2.1) and of CharacterRangeOrUnion (B.1.2.8.1). A relation `.. w rest` says that the
 -- units w spell a thing before all that follows them, rest.
 use Rattle.std.specs.Prelude.{◌≡◌, ◌⊎◌, ℕ, Bool, true, false, ◌&&◌, List, [], ◌∷◌, ◌++◌}
+use Rattle.rx_base.specs.Ascii as ascii
 use Rattle.rx_ast.specs.declared.leaf.CharacterKind.{CharacterKind}
 use Rattle.rx_ast.specs.declared.leaf.CharacterKind.TheVariants as kind
 use Rattle.rx_ast.specs.declared.class.CharacterClassContentsKind.TheVariants.{Union}
@@ -27,20 +28,20 @@ pub data SpellsPiece (e : Environment) : Piece → List CodePoint → List CodeP
   of_atom : {w rest : List CodePoint} (a : Atom) → SpellsAtom e a w rest → is_dashed (values rest) ≡ false → SpellsPiece e (alone a) w rest
   -- ClassAtom `-` ClassAtom, where both are characters (NonemptyClassRanges, NonemptyClassRangesNoDash)
   of_range : {k j : CharacterKind} {v x : ℕ} {rest : List CodePoint} (low : List CodePoint) (hyphen : CodePoint) (high : List CodePoint)
-      → SpellsClassCharacter e k v low (hyphen ∷ (high ++ rest)) → hyphen.value ≡ 45 → SpellsClassCharacter e j x high rest → SpellsPiece e (range k v j x) (low ++ (hyphen ∷ high)) rest
+      → SpellsClassCharacter e k v low (hyphen ∷ (high ++ rest)) → hyphen.value ≡ ascii.hyphen → SpellsClassCharacter e j x high rest → SpellsPiece e (range k v j x) (low ++ (hyphen ∷ high)) rest
   -- ClassAtom `-` ClassAtom with neither `u` nor `v`, where one of them is no character (CharacterRangeOrUnion, B.1.2.8.1)
   of_three : {rest : List CodePoint} (a b : Atom) (first : List CodePoint) (hyphen : CodePoint) (third : List CodePoint) → is_unicode e.mode ≡ false → (is_character a && is_character b) ≡ false
-      → SpellsAtom e a first (hyphen ∷ (third ++ rest)) → hyphen.value ≡ 45 → SpellsAtom e b third rest → SpellsPiece e (three a b) (first ++ (hyphen ∷ third)) rest
+      → SpellsAtom e a first (hyphen ∷ (third ++ rest)) → hyphen.value ≡ ascii.hyphen → SpellsAtom e b third rest → SpellsPiece e (three a b) (first ++ (hyphen ∷ third)) rest
 
 -- `]` stands next, or the text ends.
 abbrev pub IsPiecesEnd : List CodePoint → Type 0
-IsPiecesEnd us = (starts 93 (values us) ≡ true) ⊎ (us ≡ [])
+IsPiecesEnd us = (starts ascii.right_bracket (values us) ≡ true) ⊎ (us ≡ [])
 
 -- the members that a piece gives: three items are three
 abbrev pub piece_members : Piece → List Member
 piece_members (alone a) = atom_member a ∷ []
 piece_members (range k v j x) = range_member k v j x ∷ []
-piece_members (three a b) = atom_member a ∷ atom_member (character kind.Symbol 45) ∷ atom_member b ∷ []
+piece_members (three a b) = atom_member a ∷ atom_member (character kind.Symbol ascii.hyphen) ∷ atom_member b ∷ []
 
 abbrev pub pieces_members : List Piece → List Member
 pieces_members [] = []

@@ -1,8 +1,9 @@
 -- Which rows of class tokens are front parts of a class that is free of early errors (22.2.1.1): the brackets that are open after them, and what each holds.
-use Rattle.std.specs.Prelude.{ℕ, ◌+◌, Bool, true, false, not, is_some, ◌||◌, ◌&&◌, ◌==◌, nat_le, Option, Some, None, List, [], ◌∷◌}
+use Rattle.std.specs.Prelude.{ℕ, ◌+◌, Bool, true, false, not, is_some, ◌||◌, ◌&&◌, nat_le, Option, Some, None, List, [], ◌∷◌}
 use Rattle.rx_base.specs.declared.diagnostic.kinds.SetOperator.{SetOperator}
 use Rattle.rx_base.specs.declared.diagnostic.kinds.SetOperator.TheVariants as operator
 use Rattle.rx_model.specs.Classes.ClassTokens.{Atom, character, escape, property, ClassToken, bracket, closer, item, low, dash, high, meet, less, strings, letter, string_bar, strings_end}
+use Rattle.rx_model.specs.Trees.Early.{string_strings}
 
 -- What a bracket holds so far: nothing, one operand, more of a union; operands with `&&` between, and such a `&&` at the end; the same with `--`.
 pub data Held : Type 0 where
@@ -103,7 +104,7 @@ may_follow held (letter k v) = true
 may_follow held string_bar = true
 may_follow held strings_end = takes_operand held
 
--- MayContainStrings (22.2.1.8) with one operand more, by that of what is held and that of the operand
+-- MayContainStrings (may_contain_strings of Trees.Early) with one operand more, by that of what is held and that of the operand
 abbrev pub with_strings : Held → Bool → Bool → Bool
 with_strings empty old new = new
 with_strings single old new = old || new
@@ -114,7 +115,7 @@ with_strings lessening old new = old
 with_strings lessened old new = old
 
 -- An open bracket: whether it is negative, what it holds, whether that may contain strings; and of a range that has begun its low end, of class strings that
--- have begun the characters of the last and whether one before is no single character.
+-- have begun how many characters the last has, and whether one before it has MayContainStrings.
 pub record Bracket : Type 0 where
   pub negative : Bool
   pub held : Held
@@ -144,7 +145,7 @@ abbrev pub where_may : Option Held → Brackets → Option Brackets
 where_may None brackets = None
 where_may (Some held) brackets = Some brackets
 
--- behind a closer: a closed bracket is an operand of the one around it
+-- after a closer: a closed bracket is an operand of the one around it
 abbrev pub closed : Bool → Bool → Brackets → Option Brackets
 closed may false outer = None
 closed may true [] = Some []
@@ -154,9 +155,9 @@ closed may true (r ∷ outer) = holding r outer may (operand r.held)
 abbrev pub may_close : Bracket → Bool
 may_close r = is_whole r.held && not (r.negative && r.may)
 
--- whether some class string is no single character
+-- whether some class string has MayContainStrings, the last with them
 abbrev pub any_string : Bracket → Bool
-any_string r = r.any || not (r.count == 1)
+any_string r = r.any || string_strings r.count
 
 abbrev pub where_true : Bool → Option Brackets → Option Brackets
 where_true true brackets = brackets
@@ -194,14 +195,14 @@ abbrev pub class_step : ClassToken → Brackets → Option Brackets
 class_step t [] = None
 class_step t (r ∷ outer) = in_bracket t r outer
 
-abbrev pub behind_step : Option Brackets → (Brackets → Option Brackets) → Option Brackets
-behind_step None more = None
-behind_step (Some brackets) more = more brackets
+abbrev pub after_step : Option Brackets → (Brackets → Option Brackets) → Option Brackets
+after_step None more = None
+after_step (Some brackets) more = more brackets
 
 -- the brackets that are open after some tokens, from those that were open; or none, where one may not stand where it does
 abbrev pub class_run : List ClassToken → Brackets → Option Brackets
 class_run [] brackets = Some brackets
-class_run (t ∷ ts) brackets = behind_step (class_step t brackets) (λ after. class_run ts after)
+class_run (t ∷ ts) brackets = after_step (class_step t brackets) (λ after. class_run ts after)
 
 -- the same from before the class's own bracket
 abbrev pub class_opened : List ClassToken → Option Brackets

@@ -1,11 +1,9 @@
 -- What a class as a tree owes to the grammar, in any mode (ClassContents, 22.2.1), so that its text can tell its early errors.
-use Rattle.std.specs.Prelude.{◌≡◌, ◌≢◌, ◌==◌, not, [], length, All}
-use Rattle.std.specs.List.{list_any}
+use Rattle.std.specs.Prelude.{◌≡◌, ◌≢◌, [], All}
 use Rattle.rx_ast.specs.declared.class.CharacterClassContentsKind.{CharacterClassContentsKind}
 use Rattle.rx_ast.specs.declared.class.CharacterClassContentsKind.TheVariants.{Union, Intersection, Subtraction}
-use Rattle.rx_ast.specs.declared.class.ClassString.{ClassString}
 use Rattle.rx_ast.specs.ClassTree.{Member, Members, Class, range, escape, property, character, nested, strings, no_member, member, class}
-use Rattle.rx_model.specs.Trees.Early.{IsFlaggedProperty, may_contain_strings}
+use Rattle.rx_model.specs.Trees.Early.{IsFlaggedDisjunction, IsFlaggedProperty, IsFlaggedString, may_contain_strings}
 
 -- whether a member is an operand (ClassSetOperand), which a range is not
 abbrev pub IsOperand : Member → Type 0
@@ -44,9 +42,6 @@ abbrev mutual
   pub IsFitting : Class → Type 0
   IsFitting (class s negative may kind ms) = FitsKind kind ms × AreFitting ms
 
-abbrev pub IsFlaggedString : ClassString → Type 0
-IsFlaggedString s = s.strings ≡ not (length s.body == 1)
-
 -- Each flag on strings is MayContainStrings (22.2.1.8), in the class and in all classes, property escapes and class strings in it.
 abbrev mutual
   pub IsFlaggedMember : Member → Type 0
@@ -55,7 +50,7 @@ abbrev mutual
   IsFlaggedMember (property p) = IsFlaggedProperty p.strings p.name
   IsFlaggedMember (character c) = Unit {0}
   IsFlaggedMember (nested c) = IsFlagged c
-  IsFlaggedMember (strings d) = (d.strings ≡ list_any (λ s. s.strings) d.body) × All IsFlaggedString d.body
+  IsFlaggedMember (strings d) = IsFlaggedDisjunction d × All IsFlaggedString d.body
 
   pub AreFlagged : Members → Type 0
   AreFlagged no_member = Unit {0}

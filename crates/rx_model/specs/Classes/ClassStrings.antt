@@ -1,5 +1,6 @@
 -- Class strings, in the words of ClassStringDisjunction (22.2.1). A relation `.. w rest` says that the units w spell a thing before all that follows them, rest.
-use Rattle.std.specs.Prelude.{◌≡◌, ◌⊎◌, ℕ, true, List, [], ◌∷◌, ◌++◌}
+use Rattle.std.specs.Prelude.{◌≡◌, ◌⊎◌, ℕ, true, List, ◌∷◌, ◌++◌, codes}
+use Rattle.rx_base.specs.Ascii as ascii
 use Rattle.rx_ast.specs.declared.leaf.Character.{Character}
 use Rattle.rx_ast.specs.declared.leaf.CharacterKind.{CharacterKind}
 use Rattle.rx_ast.specs.declared.class.ClassString.{ClassString}
@@ -17,7 +18,7 @@ pub data SpellsSetCharacter (e : Environment) : Character → List CodePoint →
 
 -- `|` or `}` stands next.
 abbrev pub IsStringEnd : List CodePoint → Type 0
-IsStringEnd us = (starts 124 (values us) ≡ true) ⊎ (starts 125 (values us) ≡ true)
+IsStringEnd us = (starts ascii.vertical_bar (values us) ≡ true) ⊎ (starts ascii.right_brace (values us) ≡ true)
 
 -- The characters of a class string lead from these units to the rest (ClassString).
 abbrev pub StringRow : Environment → List Character → List CodePoint → List CodePoint → Type 0
@@ -25,12 +26,12 @@ StringRow e cs us rest = ElementRow {Place = Unit {0}} (λ q. SpellsSetCharacter
 
 -- a class string with the `|` before it (ClassStringDisjunctionContents): its characters, up to a `|` or a `}`
 pub data SpellsBarredString (e : Environment) : ClassString → List CodePoint → List CodePoint → Type 0 where
-  of_bar : {rest : List CodePoint} (bar : CodePoint) (cs : List Character) (w : List CodePoint) → bar.value ≡ 124 → StringRow e cs (w ++ rest) rest → IsStringEnd rest
+  of_bar : {rest : List CodePoint} (bar : CodePoint) (cs : List Character) (w : List CodePoint) → bar.value ≡ ascii.vertical_bar → StringRow e cs (w ++ rest) rest → IsStringEnd rest
       → SpellsBarredString e (string_of cs) (bar ∷ w) rest
 
 -- `}` stands next.
 abbrev pub IsDisjunctionEnd : List CodePoint → Type 0
-IsDisjunctionEnd us = starts 125 (values us) ≡ true
+IsDisjunctionEnd us = starts ascii.right_brace (values us) ≡ true
 
 abbrev pub BarredRow : Environment → List ClassString → List CodePoint → List CodePoint → Type 0
 BarredRow e ss us rest = ElementRow {Place = Unit {0}} (λ q. SpellsBarredString e) (λ q s more. tt) ss tt us tt rest
@@ -41,12 +42,12 @@ pub record SpellsStrings (e : Environment) (strings : List ClassString) (w rest 
   pub opener : List CodePoint
   pub inside : List CodePoint
   pub whole : w ++ rest ≡ opener ++ inside
-  pub opener_is : values opener ≡ 92 ∷ 113 ∷ 123 ∷ []
+  pub opener_is : values opener ≡ codes "\\q{"
   pub first : List Character
   pub further : List CodePoint
   pub first_row : StringRow e first inside further
   pub more : List ClassString
   pub closer : CodePoint
   pub more_row : BarredRow e more further (closer ∷ rest)
-  pub closer_is : closer.value ≡ 125
+  pub closer_is : closer.value ≡ ascii.right_brace
   pub strings_are : strings ≡ string_of first ∷ more

@@ -2,7 +2,7 @@
 use Rattle.std.specs.Prelude.{ℕ, zero, suc, ◌<◌, ◌≤◌, List, [], ◌∷◌, ◌⊎◌}
 use Rattle.rx_model.specs.FirstPass.Marks.{Mark, other, bar, closer, quiet, capturing, mark_at}
 
--- the index behind the opening of a group, and that of the last bar directly in the group, or the first again where there is none
+-- the index after the opening of a group, and that of the last bar directly in the group, or the first again where there is none
 abbrev pub GroupState : Type 0
 GroupState = ℕ × ℕ
 
@@ -35,7 +35,7 @@ abbrev pub Hides : ℕ → List GroupState → Type 0
 Hides a [] = ⊥
 Hides a (f ∷ fs) = ((f.0 ≤ a) × (a < f.1)) ⊎ Hides a fs
 
--- Each group begins behind the last bar of the group that it stands in.
+-- Each group begins after the last bar of the group that it stands in.
 abbrev pub Nests : List GroupState → Type 0
 Nests [] = Unit {0}
 Nests (f ∷ []) = f.0 ≤ f.1

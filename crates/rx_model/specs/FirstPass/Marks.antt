@@ -1,10 +1,11 @@
 -- What counting groups sees of a text (CountLeftCapturingParensWithin, 22.2.1.2), also of one that no tree spells: a row of marks, of which
 -- the openings and closers say what stands in what.
 use Rattle.std.specs.Prelude.{◌≡◌, ℕ, zero, suc, ◌+◌, ◌<◌, ◌≤◌, ◌==◌, ◌&&◌, ◌||◌, Bool, true, false, Option, Some, None, List, [], ◌∷◌, ◌++◌, length, drop, get_or, if◌then◌else◌}
+use Rattle.rx_base.specs.Ascii as ascii
 use Rattle.rx_model.specs.declared.mode.Mode.{Mode}
 use Rattle.rx_model.specs.Groups.GroupNameReading.{name_of}
 use Rattle.rx_model.specs.Inputs.Environment.{is_sets, is_unicode}
-use Rattle.rx_model.specs.Trees.Names.{once_behind}
+use Rattle.rx_model.specs.Trees.Names.{once_after}
 
 -- what a stretch of a text is to the counting of groups
 pub data Mark : Type 0 where
@@ -22,71 +23,71 @@ abbrev pub starts : ℕ → List ℕ → Bool
 starts c [] = false
 starts c (u ∷ us) = u == c
 
--- how many units an escape has behind its backslash: one, where one is left
+-- how many units an escape has after its backslash: one, where one is left
 abbrev pub escape_rest : List ℕ → ℕ
 escape_rest [] = 0
 escape_rest (u ∷ us) = 1
 
--- how many classes are open in a class behind a unit that ends none, where n were: with `v` a `[` opens one (NestedClass, 22.2.1)
+-- how many classes are open in a class after a unit that ends none, where n were: with `v` a `[` opens one (NestedClass, 22.2.1)
 abbrev pub opened : Mode → ℕ → ℕ → ℕ
-opened mode u n = if u == 91 && is_sets mode then suc n else n
+opened mode u n = if u == ascii.left_bracket && is_sets mode then suc n else n
 
--- how many units a class has behind its `[`: up to and with its `]`, or all; n classes are open in it, each up to and with a `]` of its own, and `escaped`
+-- how many units a class has after its `[`: up to and with its `]`, or all; n classes are open in it, each up to and with a `]` of its own, and `escaped`
 -- says that a backslash stands right before
 abbrev pub class_rest : Mode → Bool → ℕ → List ℕ → ℕ
 class_rest mode escaped n [] = 0
 class_rest mode true n (u ∷ us) = class_rest mode false n us + 1
-class_rest mode false zero (u ∷ us) = if u == 93 then 1 else class_rest mode (u == 92) (opened mode u zero) us + 1
-class_rest mode false (suc n) (u ∷ us) = if u == 93 then class_rest mode false n us + 1 else class_rest mode (u == 92) (opened mode u (suc n)) us + 1
+class_rest mode false zero (u ∷ us) = if u == ascii.right_bracket then 1 else class_rest mode (u == ascii.backslash) (opened mode u zero) us + 1
+class_rest mode false (suc n) (u ∷ us) = if u == ascii.right_bracket then class_rest mode false n us + 1 else class_rest mode (u == ascii.backslash) (opened mode u (suc n)) us + 1
 
 -- the units before the next `>`, or all
 abbrev pub before_close : List ℕ → List ℕ
 before_close [] = []
-before_close (u ∷ us) = if u == 62 then [] else u ∷ before_close us
+before_close (u ∷ us) = if u == ascii.greater_than then [] else u ∷ before_close us
 
 -- whether a `>` is among the units
 abbrev pub has_close : List ℕ → Bool
 has_close [] = false
-has_close (u ∷ us) = if u == 62 then true else has_close us
+has_close (u ∷ us) = if u == ascii.greater_than then true else has_close us
 
 -- a capturing opening up to and with the next `>`, or to the end (GroupSpecifier, 22.2.1)
 abbrev pub specifier_front : List ℕ → Mark × ℕ
 specifier_front us =
     if has_close us then (capturing (Some (before_close us)), length (before_close us) + 3) else (capturing None, length us + 2)
 
--- what stands behind `(?<`: a look behind, or a capturing group's name
-abbrev pub behind_angle : List ℕ → Mark × ℕ
-behind_angle us = if starts 61 us || starts 33 us then (quiet, 3) else specifier_front us
+-- what stands after `(?<`: a lookbehind, or a capturing group's name
+abbrev pub after_angle : List ℕ → Mark × ℕ
+after_angle us = if starts ascii.equals us || starts ascii.exclamation_mark us then (quiet, 3) else specifier_front us
 
--- what stands behind `(?`: all but a group's name is quiet
+-- what stands after `(?`: all but a group's name is quiet
 abbrev pub question_front : List ℕ → Mark × ℕ
 question_front us =
-    if starts 60 us then behind_angle (drop 1 us)
-    else (if starts 58 us || starts 61 us || starts 33 us then (quiet, 2) else (quiet, 1))
+    if starts ascii.less_than us then after_angle (drop 1 us)
+    else (if starts ascii.colon us || starts ascii.equals us || starts ascii.exclamation_mark us then (quiet, 2) else (quiet, 1))
 
--- what stands behind `(`: without a `?` it captures, and takes no more
+-- what stands after `(`: without a `?` it captures, and takes no more
 abbrev pub open_front : List ℕ → Mark × ℕ
-open_front us = if starts 63 us then question_front (drop 1 us) else (capturing None, 0)
+open_front us = if starts ascii.question_mark us then question_front (drop 1 us) else (capturing None, 0)
 
--- the mark that begins with a unit, and how many of the units behind it are the mark's
+-- the mark that begins with a unit, and how many of the units after it are the mark's
 unfoldable pub mark_front : Mode → ℕ → List ℕ → Mark × ℕ
 mark_front mode u us =
-    if u == 92 then (other, escape_rest us)
-    else (if u == 91 then (other, class_rest mode false 0 us)
-    else (if u == 40 then open_front us
-    else (if u == 41 then (closer, 0)
-    else (if u == 124 then (bar, 0)
+    if u == ascii.backslash then (other, escape_rest us)
+    else (if u == ascii.left_bracket then (other, class_rest mode false 0 us)
+    else (if u == ascii.left_parenthesis then open_front us
+    else (if u == ascii.right_parenthesis then (closer, 0)
+    else (if u == ascii.vertical_bar then (bar, 0)
     else (other, 0)))))
 
--- the marks behind n units
-abbrev pub marks_behind : Mode → ℕ → List ℕ → List Mark
-marks_behind mode n [] = []
-marks_behind mode zero (u ∷ us) = (mark_front mode u us).0 ∷ marks_behind mode (mark_front mode u us).1 us
-marks_behind mode (suc n) (u ∷ us) = marks_behind mode n us
+-- the marks after n units
+abbrev pub marks_following : Mode → ℕ → List ℕ → List Mark
+marks_following mode n [] = []
+marks_following mode zero (u ∷ us) = (mark_front mode u us).0 ∷ marks_following mode (mark_front mode u us).1 us
+marks_following mode (suc n) (u ∷ us) = marks_following mode n us
 
 -- the marks of a text, each from where the one before ends
 abbrev pub marks : Mode → List ℕ → List Mark
-marks mode us = marks_behind mode 0 us
+marks mode us = marks_following mode 0 us
 
 -- how many groups a mark opens that capture
 abbrev pub mark_count : Mark → ℕ
@@ -122,7 +123,7 @@ names mode (m ∷ ms) = listed (mark_name mode m) ++ names mode ms
 
 -- the names in order of first appearance, each once
 abbrev pub seen : Mode → List Mark → List (List ℕ)
-seen mode ms = once_behind [] (names mode ms)
+seen mode ms = once_after [] (names mode ms)
 
 -- whether a mark opens a group
 abbrev pub opens : Mark → Bool
@@ -200,20 +201,20 @@ name_length quiet = 0
 name_length (capturing None) = 0
 name_length (capturing (Some units)) = length units
 
--- the place of each mark, from place `at` on, behind n units
-abbrev pub places_behind : Mode → ℕ → ℕ → List ℕ → List ℕ
-places_behind mode at n [] = []
-places_behind mode at zero (u ∷ us) = at ∷ places_behind mode (at + 1) (mark_front mode u us).1 us
-places_behind mode at (suc n) (u ∷ us) = places_behind mode (at + 1) n us
+-- the place of each mark, from place `at` on, after n units
+abbrev pub places_following : Mode → ℕ → ℕ → List ℕ → List ℕ
+places_following mode at n [] = []
+places_following mode at zero (u ∷ us) = at ∷ places_following mode (at + 1) (mark_front mode u us).1 us
+places_following mode at (suc n) (u ∷ us) = places_following mode (at + 1) n us
 
 -- the places of the marks of a text, in units
 abbrev pub places : Mode → List ℕ → List ℕ
-places mode us = places_behind mode 0 0 us
+places mode us = places_following mode 0 0 us
 
 -- the place at which the mark with this index begins
 abbrev pub mark_place : Mode → List ℕ → ℕ → ℕ
 mark_place mode us k = get_or (places mode us) k 0
 
--- the places before and after the name of the opening with this index: behind its `(?<`, and at its `>`
+-- the places before and after the name of the opening with this index: after its `(?<`, and at its `>`
 abbrev pub name_places : Mode → List ℕ → ℕ → ℕ × ℕ
 name_places mode us k = (mark_place mode us k + 3, mark_place mode us k + 3 + name_length (mark_at (marks mode us) k))

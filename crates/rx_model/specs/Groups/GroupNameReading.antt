@@ -1,7 +1,9 @@
 -- How the name of a group is read: the order in which the readers try the rows of its characters. What it means stands in GroupNames.
 use Rattle.std.specs.Prelude.{ℕ, zero, suc, ◌+◌, ◌-◌, Bool, true, false, ◌==◌, ◌&&◌, List, [], ◌∷◌, ◌++◌, length, Option, Some, None, if◌then◌else◌}
+use Rattle.rx_base.specs.Ascii as ascii
+use Rattle.rx_base.specs.Characters.{is_lead, is_trail}
 use Rattle.rx_base.specs.SurrogatePair.{surrogate_pair}
-use Rattle.rx_model.specs.Characters.Decoding.{Decoded, value, invalid, overflow, decoded, is_lead, is_trail}
+use Rattle.rx_model.specs.Characters.Decoding.{Decoded, value, invalid, overflow, decoded}
 use Rattle.rx_model.specs.Groups.GroupNames.{is_in_name, is_pair_in_name}
 
 -- a code point of a name in n units; none
@@ -36,18 +38,18 @@ raw_at unicode_mode first x w = if is_in_name first x then character x 1 else (i
 -- the code point of a name at the front, where it is the first of the name or not
 abbrev pub name_character_at : Bool → Bool → List ℕ → NameCharacter
 name_character_at unicode_mode first [] = no_character
-name_character_at unicode_mode first (x ∷ w) = if x == 92 then escape_in_name first (decoded true w) else raw_at unicode_mode first x w
+name_character_at unicode_mode first (x ∷ w) = if x == ascii.backslash then escape_in_name first (decoded true w) else raw_at unicode_mode first x w
 
--- a row behind some code points of n units
-abbrev pub row_behind : List ℕ → ℕ → NameRow → NameRow
-row_behind cs n (row ds m) = row (cs ++ ds) (n + m)
+-- a row after some code points of n units
+abbrev pub row_following : List ℕ → ℕ → NameRow → NameRow
+row_following cs n (row ds m) = row (cs ++ ds) (n + m)
 
--- a row that begins with what was read; `again` goes on behind n further units
+-- a row that begins with what was read; `again` goes on after n further units
 abbrev pub row_from : NameCharacter → (ℕ → NameRow) → NameRow
-row_from (character c n) again = row_behind (c ∷ []) n (again (n - 1))
+row_from (character c n) again = row_following (c ∷ []) n (again (n - 1))
 row_from no_character again = row [] 0
 
--- the row behind n units that were read
+-- the row after n units that were read
 abbrev pub row_after : Bool → Bool → ℕ → List ℕ → NameRow
 row_after unicode_mode first skipped [] = row [] 0
 row_after unicode_mode first (suc skipped) (x ∷ w) = row_after unicode_mode first skipped w

@@ -1,5 +1,6 @@
 -- The names of groups (RegExpIdentifierName, 22.2.1). Text is a list of the values of units, and `.. w rest` says that w spells a thing before rest.
 use Rattle.std.specs.Prelude.{◌≡◌, ℕ, Bool, true, false, List, [], ◌∷◌, ◌++◌, length, if◌then◌else◌}
+use Rattle.rx_base.specs.Ascii as ascii
 use Rattle.rx_base.specs.SurrogatePair.{IsLeadSurrogate, IsTrailSurrogate, surrogate_pair}
 use Rattle.rx_tables.specs.Identifiers.{is_identifier_part_char, is_identifier_start_char, is_unicode_id_continue, is_unicode_id_start}
 use Rattle.rx_model.specs.Characters.UnicodeEscapes.{SpellsUnicode}
@@ -18,7 +19,7 @@ pub data SpellsNameCharacter (unicode_mode : Bool) (first : Bool) : ℕ → List
   -- one unit
   one_unit : {c : ℕ} {rest : List ℕ} → is_in_name first c ≡ true → SpellsNameCharacter unicode_mode first c (c ∷ []) rest
   -- a backslash and a unicode escape as with `u`, in every mode
-  by_escape : {c : ℕ} {w rest : List ℕ} → SpellsUnicode true c w rest → is_in_name first c ≡ true → SpellsNameCharacter unicode_mode first c (92 ∷ w) rest
+  by_escape : {c : ℕ} {w rest : List ℕ} → SpellsUnicode true c w rest → is_in_name first c ≡ true → SpellsNameCharacter unicode_mode first c (ascii.backslash ∷ w) rest
   -- with neither `u` nor `v`, a raw lead and a raw trail, combined
   raw_pair : {lead trail : ℕ} {rest : List ℕ} → unicode_mode ≡ false → IsLeadSurrogate lead → IsTrailSurrogate trail
       → is_pair_in_name first (surrogate_pair lead trail) ≡ true → SpellsNameCharacter unicode_mode first (surrogate_pair lead trail) (lead ∷ trail ∷ []) rest
@@ -38,7 +39,7 @@ pub data SpellsName (unicode_mode : Bool) : List ℕ → List ℕ → List ℕ �
 abbrev pub IsGroupName : Bool → List ℕ → List ℕ → Type 0
 IsGroupName unicode_mode us name = SpellsName unicode_mode name us []
 
--- A text begins with a name of n units, behind which no further code point goes on in it.
+-- A text begins with a name of n units, after which no further code point goes on in it.
 pub record BeginsWithName (unicode_mode : Bool) (us name : List ℕ) (count : ℕ) : Type 0 where
   pub spelled : List ℕ
   pub rest : List ℕ

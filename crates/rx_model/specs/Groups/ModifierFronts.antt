@@ -1,6 +1,7 @@
--- How modifiers and their `:` are read behind `(?` (RegularExpressionModifiers, 22.2.1): what stands, or what is wrong. What they mean stands in Modifiers.
+-- How modifiers and their `:` are read after `(?` (RegularExpressionModifiers, 22.2.1): what stands, or what is wrong. What they mean stands in Modifiers.
 use Rattle.std.specs.Prelude.{ℕ, ◌==◌, ◌&&◌, List, Option, Some, None, drop, if◌then◌else◌}
 use Rattle.std.specs.Int.RustNames.{bit_and}
+use Rattle.rx_base.specs.Ascii as ascii
 use Rattle.rx_model.specs.FirstPass.Marks.{starts}
 use Rattle.rx_model.specs.Groups.GroupFronts.{SidesRead, sides, sides_at}
 use Rattle.rx_model.specs.Groups.Modifiers.{has_twice, letters_bits}
@@ -29,7 +30,7 @@ read_bits (Some a) (Some b) n =
     else (if bit_and a b == 0 then modifiers_read a b n else no_modifiers_read letter_shared n)
 
 abbrev pub read_sides : SidesRead → List ℕ → ModifiersRead
-read_sides (sides w v n) all = if starts 58 (drop n all) then read_bits (are_bits w) (are_bits v) n else no_modifiers_read no_colon n
+read_sides (sides w v n) all = if starts ascii.colon (drop n all) then read_bits (are_bits w) (are_bits v) n else no_modifiers_read no_colon n
 
 -- the modifiers and the `:` at the front
 abbrev pub modifiers_read_at : List ℕ → ModifiersRead

@@ -1,10 +1,12 @@
 -- The modifiers of a group (RegularExpressionModifiers and RegularExpressionModifier, 22.2.1).
-use Rattle.std.specs.Prelude.{◌≡◌, ◌≢◌, ℕ, ◌+◌, Bool, true, false, ◌==◌, ◌||◌, List, [], ◌∷◌, ◌++◌, if◌then◌else◌}
+use Rattle.std.specs.Prelude.{◌≡◌, ◌≢◌, ℕ, ◌+◌, Bool, true, false, ◌==◌, ◌||◌, List, [], ◌∷◌, ◌++◌, if◌then◌else◌, codes}
 use Rattle.std.specs.List.{list_all, list_any}
+use Rattle.rx_base.specs.Ascii as ascii
+use Rattle.rx_base.specs.Characters.{is_one_of}
 
--- RegularExpressionModifier: i m s
+-- RegularExpressionModifier
 abbrev pub is_modifier : ℕ → Bool
-is_modifier c = c == 105 || c == 109 || c == 115
+is_modifier c = is_one_of (codes "ims") c
 
 -- whether a character is among these
 abbrev pub occurs : ℕ → List ℕ → Bool
@@ -21,12 +23,12 @@ share_some w v = list_any (λ c. occurs c v) w
 
 -- the bits of the letters that are there: i is 1, m is 2, s is 4
 abbrev pub letters_bits : List ℕ → ℕ
-letters_bits w = (if occurs 105 w then 1 else 0) + (if occurs 109 w then 2 else 0) + (if occurs 115 w then 4 else 0)
+letters_bits w = (if occurs ascii.i w then 1 else 0) + (if occurs ascii.m w then 2 else 0) + (if occurs ascii.s w then 4 else 0)
 
--- Letters, and where a `-` stands behind them those behind it; and the text of both.
+-- Letters, and where a `-` stands after them those after it; and the text of both.
 pub data AreSides : List ℕ → List ℕ → List ℕ → Type 0 where
   one_side : {w : List ℕ} → list_all is_modifier w ≡ true → AreSides w [] w
-  two_sides : (w v : List ℕ) → list_all is_modifier w ≡ true → list_all is_modifier v ≡ true → AreSides w v (w ++ (45 ∷ v))
+  two_sides : (w v : List ℕ) → list_all is_modifier w ≡ true → list_all is_modifier v ≡ true → AreSides w v (w ++ (ascii.hyphen ∷ v))
 
 -- Modifiers with these bits are spelled: some text, with no letter twice on one side (22.2.1.1). That no letter is on both sides and that there is
 -- one are left to the early errors of the tree, which holds the bits.

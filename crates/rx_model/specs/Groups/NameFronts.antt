@@ -1,10 +1,12 @@
--- How a name and its `>` are read behind `(?<` and `\k<` (GroupName, 22.2.1): what stands, or why nothing does. What names mean stands in GroupNames.
+-- How a name and its `>` are read after `(?<` and `\k<` (GroupName, 22.2.1): what stands, or why nothing does. What names mean stands in GroupNames.
 use Rattle.std.specs.Prelude.{ℕ, Bool, true, false, not, ◌==◌, ◌&&◌, nat_lt, List, [], ◌∷◌, drop, if◌then◌else◌}
-use Rattle.rx_model.specs.Characters.Decoding.{Decoded, value, invalid, overflow, decoded, is_lead, is_trail}
+use Rattle.rx_base.specs.Ascii as ascii
+use Rattle.rx_base.specs.Characters.{is_lead, is_trail}
+use Rattle.rx_model.specs.Characters.Decoding.{Decoded, value, invalid, overflow, decoded}
 use Rattle.rx_model.specs.FirstPass.Marks.{starts}
 use Rattle.rx_model.specs.Groups.GroupNameReading.{NameRow, row, name_at}
 
--- What stands behind n units of a name's characters where no name ends: neither an escape nor, behind some, a `>`; with neither `u` nor `v` a raw
+-- What stands after n units of a name's characters where no name ends: neither an escape nor, after some, a `>`; with neither `u` nor `v` a raw
 -- pair that may not stand there; an escape of n units, of what may not stand there; a backslash that begins no escape, or none though with `u` or `v`
 -- a `u` follows it; an escape whose digits pass 32 bits after n of them.
 pub data NameHalt : Type 0 where
@@ -26,22 +28,22 @@ begins_pair [] = false
 begins_pair (c ∷ []) = false
 begins_pair (c ∷ d ∷ w) = is_lead c && is_trail d
 
--- behind n units of a name and a backslash
+-- after n units of a name and a backslash
 abbrev pub escape_halt : Bool → ℕ → List ℕ → Decoded → NameHalt
 escape_halt unicode_mode count w (value v n) = misplaced count n
 escape_halt unicode_mode count w (overflow many) = many_digits count many
-escape_halt unicode_mode count w invalid = if unicode_mode && starts 117 w then no_escape_of_u count else no_escape count
+escape_halt unicode_mode count w invalid = if unicode_mode && starts ascii.u w then no_escape_of_u count else no_escape count
 
--- behind n units of a name, which are none where none begins
-abbrev pub read_behind_name : Bool → List ℕ → ℕ → List ℕ → NameRead
-read_behind_name unicode_mode name count [] = no_name_read (unterminated count)
-read_behind_name unicode_mode name count (c ∷ w) =
-    if nat_lt 0 count && (c == 62) then name_read name count
-    else (if c == 92 then no_name_read (escape_halt unicode_mode count w (decoded true w))
+-- after n units of a name, which are none where none begins
+abbrev pub read_after_name : Bool → List ℕ → ℕ → List ℕ → NameRead
+read_after_name unicode_mode name count [] = no_name_read (unterminated count)
+read_after_name unicode_mode name count (c ∷ w) =
+    if nat_lt 0 count && (c == ascii.greater_than) then name_read name count
+    else (if c == ascii.backslash then no_name_read (escape_halt unicode_mode count w (decoded true w))
     else (if not unicode_mode && begins_pair (c ∷ w) then no_name_read (misplaced_pair count) else no_name_read (unterminated count)))
 
 abbrev pub read_from_row : Bool → NameRow → List ℕ → NameRead
-read_from_row unicode_mode (row name count) w = read_behind_name unicode_mode name count (drop count w)
+read_from_row unicode_mode (row name count) w = read_after_name unicode_mode name count (drop count w)
 
 -- the name and the `>` at the front
 abbrev pub name_read_at : Bool → List ℕ → NameRead

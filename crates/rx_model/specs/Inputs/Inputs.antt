@@ -1,5 +1,5 @@
 -- What a reader of patterns is given, and what it asks to read.
-use Rattle.std.specs.Prelude.{◌≡◌, ℕ, Bool, true, List, [], ◌∷◌, Option, Some}
+use Rattle.std.specs.Prelude.{◌≡◌, ℕ, Bool, true, List, [], Option, Some, codes}
 use Rattle.rx_units.specs.declared.code_point.CodePoint.{CodePoint}
 use Rattle.rx_units.specs.Units.{values}
 use Rattle.rx_model.specs.declared.form.Form.{Form}
@@ -40,8 +40,8 @@ pub record Asks (input : Input) (mode : Mode) (us : List CodePoint) : Type 0 whe
 -- flags that ask for a mode and for nothing else
 abbrev pub flags_for : Mode → List ℕ
 flags_for Legacy = []
-flags_for Unicode = 117 ∷ []
-flags_for Sets = 118 ∷ []
+flags_for Unicode = codes "u"
+flags_for Sets = codes "v"
 
 -- a text that is read by itself, as a literal under flags for this mode, and under these options
 abbrev pub literal_alone : List ℕ → Mode → Rules → Bool → Input

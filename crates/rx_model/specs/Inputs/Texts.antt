@@ -1,23 +1,24 @@
 -- The texts that are read as the text of a pattern or as flags, in both forms: of a literal, and of a quoted argument of RegExp.
-use Rattle.std.specs.Prelude.{ℕ, Bool, true, ◌==◌, ◌&&◌, ◌||◌, List, [], ◌∷◌, Option, Some, None, if◌then◌else◌}
+use Rattle.std.specs.Prelude.{ℕ, Bool, true, ◌==◌, ◌&&◌, List, [], ◌∷◌, Option, Some, None, if◌then◌else◌, codes}
 use Rattle.rx_units.specs.declared.code_point.CodePoint.{CodePoint}
 use Rattle.rx_units.specs.Sources.{Decodes}
 use Rattle.rx_units.specs.Units.{literal_units}
 use Rattle.rx_model.specs.declared.form.Form.{Form}
 use Rattle.rx_model.specs.declared.form.Form.TheVariants.{Literal, Constructor}
+use Rattle.rx_base.specs.Characters.{is_one_of}
 
 -- the empty literal is read as `(?:)`
 abbrev pub literal_text : List ℕ → List ℕ
-literal_text [] = 40 ∷ 63 ∷ 58 ∷ 41 ∷ []
+literal_text [] = codes "(?:)"
 literal_text (c ∷ cs) = c ∷ cs
 
 -- " or ' or a grave accent
 abbrev pub is_quote : ℕ → Bool
-is_quote c = c == 34 || (c == 39 || c == 96)
+is_quote c = is_one_of (codes "\"'`") c
 
 -- two quotes of one kind are read as "(?:)"
 abbrev pub quoted_text : List ℕ → List ℕ
-quoted_text (c ∷ d ∷ []) = if is_quote c && c == d then 34 ∷ 40 ∷ 63 ∷ 58 ∷ 41 ∷ 34 ∷ [] else c ∷ d ∷ []
+quoted_text (c ∷ d ∷ []) = if is_quote c && c == d then codes "\"(?:)\"" else c ∷ d ∷ []
 quoted_text text = text
 
 -- the text of a pattern, or what stands in for an empty one (EscapeRegExpPattern, 22.2.6.13.1)
@@ -48,5 +49,5 @@ pub data AreFlagUnits (standard : Bool) (form : Form) : Option (List ℕ) → Li
 -- The units that a pattern is read from: its own, or where there are none those of `(?:)`, with the spans that they have in `"(?:)"` (EscapeRegExpPattern,
 -- 22.2.6.13.1). Only a quoted text of line continuations alone has none, with strings as the standard has them; two quotes were replaced before.
 abbrev pub some_units : List CodePoint → List CodePoint
-some_units [] = literal_units true 1 (40 ∷ 63 ∷ 58 ∷ 41 ∷ [])
+some_units [] = literal_units true 1 (codes "(?:)")
 some_units (u ∷ us) = u ∷ us

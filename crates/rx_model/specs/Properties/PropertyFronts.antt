@@ -1,9 +1,10 @@
--- How a property escape behind a backslash is read. What it means stands in PropertyEscapes.
+-- How a property escape after a backslash is read. What it means stands in PropertyEscapes.
 use Rattle.std.specs.Prelude.{ℕ, ◌+◌, Bool, true, false, ◌==◌, ◌&&◌, ◌||◌, Option, Some, None, List, [], ◌∷◌, length, codes, if◌then◌else◌}
+use Rattle.rx_base.specs.Ascii as ascii
+use Rattle.rx_base.specs.Texts.{is_among}
 use Rattle.rx_tables.specs.Properties.{binary_properties, general_category_names, general_category_values, properties_of_strings, script_names, script_values}
 use Rattle.rx_model.specs.declared.mode.Mode.{Mode}
 use Rattle.rx_model.specs.declared.mode.Mode.TheVariants.{Legacy, Unicode, Sets}
-use Rattle.rx_model.specs.Trees.Names.{is_among}
 
 -- the characters before the first of these, or all
 abbrev pub before : ℕ → List ℕ → List ℕ
@@ -20,7 +21,7 @@ pub data Meaning : Type 0 where
   means : Bool → List ℕ → Option (List ℕ) → Meaning
   unknown : Meaning
 
--- a property escape: whether it is negative and of strings, its name and its value, and how many characters are behind the backslash; none
+-- a property escape: whether it is negative and of strings, its name and its value, and how many characters are after the backslash; none
 pub data PropertyRead : Type 0 where
   property_read : Bool → Bool → List ℕ → Option (List ℕ) → ℕ → PropertyRead
   no_property : PropertyRead
@@ -50,7 +51,7 @@ parts_meaning mode text name [] = lone_meaning mode text
 parts_meaning mode text name (c ∷ value) = pair_meaning name value
 
 abbrev pub text_meaning : Mode → List ℕ → Meaning
-text_meaning mode text = parts_meaning mode text (before 61 text) (onward 61 text)
+text_meaning mode text = parts_meaning mode text (before ascii.equals text) (onward ascii.equals text)
 
 abbrev pub property_of : Bool → ℕ → Meaning → PropertyRead
 property_of negative n (means strings name value) = property_read negative strings name value n
@@ -61,13 +62,13 @@ abbrev pub closed_property : Mode → Bool → List ℕ → List ℕ → Propert
 closed_property mode negative text [] = no_property
 closed_property mode negative text (c ∷ rest) = property_of negative (length text + 3) (text_meaning mode text)
 
--- behind `p` or `P`
+-- after `p` or `P`
 abbrev pub braced_property : Mode → Bool → List ℕ → PropertyRead
 braced_property mode negative [] = no_property
-braced_property mode negative (c ∷ w) = if c == 123 then closed_property mode negative (before 125 w) (onward 125 w) else no_property
+braced_property mode negative (c ∷ w) = if c == ascii.left_brace then closed_property mode negative (before ascii.right_brace w) (onward ascii.right_brace w) else no_property
 
--- the property escape behind a backslash, with `u` or `v`
+-- the property escape after a backslash, with `u` or `v`
 unfoldable pub property_front : Mode → List ℕ → PropertyRead
 property_front mode [] = no_property
 property_front mode (c ∷ w) =
-    if c == 112 then braced_property mode false w else (if c == 80 then braced_property mode true w else no_property)
+    if c == ascii.p then braced_property mode false w else (if c == ascii.P then braced_property mode true w else no_property)

@@ -1,5 +1,6 @@
 -- What the alternatives of a disjunction spell (Disjunction and Alternative, ECMA-262, 22.2.1). An alternative but for spans is nodes that have none.
 use Rattle.std.specs.Prelude.{◌≡◌, true, ◌⊎◌, List, [], ◌∷◌, ◌++◌, map}
+use Rattle.rx_base.specs.Ascii as ascii
 use Rattle.rx_ast.specs.Forget.{nowhere, forget_nodes, same_kind}
 use Rattle.rx_ast.specs.Tree.{Nodes, Alternatives, alternatives}
 use Rattle.rx_units.specs.declared.code_point.CodePoint.{CodePoint}
@@ -16,11 +17,11 @@ disjunction_of all = alternatives (map (λ ns. (nowhere, ns)) all)
 
 -- A disjunction ends at the end of the text or before a `)`.
 abbrev pub EndsDisjunction : List CodePoint → Type 0
-EndsDisjunction rest = (rest ≡ []) ⊎ (starts 41 (values rest) ≡ true)
+EndsDisjunction rest = (rest ≡ []) ⊎ (starts ascii.right_parenthesis (values rest) ≡ true)
 
 -- An alternative ends where its disjunction does, or before a `|`.
 abbrev pub EndsAlternative : List CodePoint → Type 0
-EndsAlternative rest = EndsDisjunction rest ⊎ (starts 124 (values rest) ≡ true)
+EndsAlternative rest = EndsDisjunction rest ⊎ (starts ascii.vertical_bar (values rest) ≡ true)
 
 -- The units w spell the alternative, and it ends before rest. It is well made: each quantifier in it has a body that may have one (Term), and each group in it an
 -- alternative.
@@ -35,5 +36,5 @@ pub record SpellsBarred (e : Environment) (ns : Nodes) (w rest : List CodePoint)
   pub bar : CodePoint
   pub text : List CodePoint
   pub whole : w ≡ bar ∷ text
-  pub bar_is : bar.value ≡ 124
+  pub bar_is : bar.value ≡ ascii.vertical_bar
   pub spelled : SpellsAlternative e ns text rest

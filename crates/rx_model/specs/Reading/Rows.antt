@@ -1,5 +1,6 @@
 -- What each token spells, and rows of tokens. A relation `.. w rest` says that the units w spell a thing before all that follows them, rest.
-use Rattle.std.specs.Prelude.{◌≡◌, ℕ, ◌+◌, Bool, true, false, not, ◌==◌, ◌||◌, ◌⊎◌, List, [], ◌∷◌, ◌++◌, length}
+use Rattle.std.specs.Prelude.{◌≡◌, ℕ, ◌+◌, Bool, true, false, not, ◌⊎◌, List, [], ◌∷◌, ◌++◌, length, codes}
+use Rattle.rx_base.specs.Ascii as ascii
 use Rattle.rx_tables.specs.Characters.{is_syntax_character}
 use Rattle.rx_ast.specs.declared.leaf.BoundaryAssertionKind.{BoundaryAssertionKind}
 use Rattle.rx_ast.specs.declared.leaf.CharacterKind.{CharacterKind}
@@ -19,10 +20,11 @@ use Rattle.rx_model.specs.Groups.Groups.{IsIndexed, IsNamed, IsModifying, Spells
 use Rattle.rx_model.specs.Properties.PropertyEscapes.{IsProperty}
 use Rattle.rx_model.specs.Trees.Token.{Token, boundary, character, dot, class_escape, property, class, indexed, named, opener, closer, bar, quantifier}
 use Rattle.rx_model.specs.Characters.UnitKinds.{unit_kind}
+use Rattle.rx_base.specs.Characters.{is_one_of}
 
--- one of ^ $ \ . * + ? ( ) [ |
+-- the SyntaxCharacters that ExtendedPatternCharacter leaves out (B.1.2)
 abbrev pub is_legacy_syntax : ℕ → Bool
-is_legacy_syntax c = c == 94 || c == 36 || c == 92 || c == 46 || c == 42 || c == 43 || c == 63 || c == 40 || c == 41 || c == 91 || c == 124
+is_legacy_syntax c = is_one_of (codes "^$\\.*+?()[|") c
 
 -- whether a value may stand for itself outside classes: with `u` or `v` it is no SyntaxCharacter (PatternCharacter, 22.2.1), with neither it is none of
 -- those that ExtendedPatternCharacter leaves out (B.1.2)
@@ -43,19 +45,19 @@ pub record IsRaw (e : Environment) (kind : CharacterKind) (value : ℕ) (w rest 
 -- A backslash and a character escape stand for one character.
 pub record IsEscaped (e : Environment) (kind : CharacterKind) (value : ℕ) (w rest : List CodePoint) : Type 0 where
   pub backslash : CodePoint
-  pub behind : List CodePoint
-  pub whole : w ≡ backslash ∷ behind
-  pub backslash_is : backslash.value ≡ 92
-  pub spelled : SpellsEscape e kind value (values behind) (values rest)
+  pub following : List CodePoint
+  pub whole : w ≡ backslash ∷ following
+  pub backslash_is : backslash.value ≡ ascii.backslash
+  pub spelled : SpellsEscape e kind value (values following) (values rest)
 
 -- A backslash and an escape that is one with neither `u` nor `v` alone stand for one character.
 pub record IsLegacyEscaped (e : Environment) (kind : CharacterKind) (value : ℕ) (w rest : List CodePoint) : Type 0 where
   pub backslash : CodePoint
-  pub behind : List CodePoint
-  pub whole : w ≡ backslash ∷ behind
-  pub backslash_is : backslash.value ≡ 92
+  pub following : List CodePoint
+  pub whole : w ≡ backslash ∷ following
+  pub backslash_is : backslash.value ≡ ascii.backslash
   pub legacy : is_unicode e.mode ≡ false
-  pub spelled : SpellsLegacy false e kind value (values behind) (values rest)
+  pub spelled : SpellsLegacy false e kind value (values following) (values rest)
 
 -- One of the boundaries that there are.
 pub record IsBoundary (e : Environment) (kind : BoundaryAssertionKind) (w : List CodePoint) : Type 0 where
@@ -65,8 +67,8 @@ pub record IsBoundary (e : Environment) (kind : BoundaryAssertionKind) (w : List
 -- The units w spell the token before rest.
 abbrev pub Spells : Environment → Token → List CodePoint → List CodePoint → Type 0
 Spells e (character kind value) w rest = IsRaw e kind value w rest ⊎ (IsEscaped e kind value w rest ⊎ IsLegacyEscaped e kind value w rest)
-Spells e dot w rest = values w ≡ 46 ∷ []
-Spells e bar w rest = values w ≡ 124 ∷ []
+Spells e dot w rest = values w ≡ codes "."
+Spells e bar w rest = values w ≡ codes "|"
 Spells e (boundary kind) w rest = IsBoundary e kind w
 Spells e (class_escape kind) w rest = values w ≡ class_escape_text kind
 Spells e (property negative strings name value) w rest = IsProperty e negative strings name value w
@@ -74,7 +76,7 @@ Spells e (class c) w rest = IsClass (for_classes e) c w rest
 Spells e (indexed n) w rest = IsIndexed e n w rest
 Spells e (named name) w rest = IsNamed e name w rest
 Spells e (opener o) w rest = SpellsOpener e o w rest
-Spells e closer w rest = values w ≡ 41 ∷ []
+Spells e closer w rest = values w ≡ codes ")"
 Spells e (quantifier min max greedy) w rest = IsQuantifier min max greedy w rest
 
 -- The tokens lead from these units to the rest, each spelled before all that follows it.

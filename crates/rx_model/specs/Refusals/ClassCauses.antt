@@ -1,5 +1,6 @@
 -- When a class is refused, and where: it begins at place `from` of a text, where `at_class` is left.
 use Rattle.std.specs.Prelude.{◌≡◌, ◌≢◌, ℕ, ◌+◌, ◌<◌, Bool, true, false, ◌&&◌, Some, List, [], ◌∷◌, ◌++◌, length}
+use Rattle.rx_base.specs.Ascii as ascii
 use Rattle.rx_base.specs.declared.diagnostic.Diagnostic.{Diagnostic}
 use Rattle.rx_base.specs.declared.diagnostic.Diagnostic.TheVariants.{UnterminatedPattern, InvalidCharacterClass, CharacterClassRangeOutOfOrder, CharacterClassRangeDashNotSubtraction, CharacterClassRangeInvalidAtom, InvalidClassAtom, EmptyClassSetExpression, ClassIntersectionUnexpectedAmpersand, ClassSetExpressionInvalidCharacter, CharacterClassContentsInvalidOperands}
 use Rattle.rx_base.specs.declared.diagnostic.kinds.RangeKind.TheVariants as range
@@ -13,7 +14,7 @@ use Rattle.rx_units.specs.Units.{values}
 use Rattle.rx_model.specs.declared.mode.Mode.{Mode}
 use Rattle.rx_model.specs.declared.mode.Mode.TheVariants.{Unicode}
 use Rattle.rx_model.specs.Refusals.ClassPlaces.{IsAtomPlace, IsInBracket, IsItemPlace, IsPropertyPlace, IsStringPlace}
-use Rattle.rx_model.specs.Classes.ClassRows.{Place, SpellsAtom, SpellsClassCharacter, SpellsInClass, behind_meet, in_strings}
+use Rattle.rx_model.specs.Classes.ClassRows.{Place, SpellsAtom, SpellsClassCharacter, SpellsInClass, after_meet, in_strings}
 use Rattle.rx_model.specs.Classes.ClassRuns.{Held, empty, is_union, is_whole, may_follow, operator_of}
 use Rattle.rx_model.specs.Classes.ClassTokens.{Atom, ClassToken}
 pub use Rattle.rx_model.specs.Classes.ClassTokens.{is_character}
@@ -27,7 +28,7 @@ use Rattle.rx_model.specs.Refusals.Stops.{begins_class_escape}
 pub record StandsRange (e : Environment) (low : ℕ) (w : List CodePoint) (hyphen : CodePoint) (high : ℕ) (v more : List CodePoint) : Type 0 where
   pub low_kind : CharacterKind
   pub low_is : SpellsClassCharacter e low_kind low w (hyphen ∷ (v ++ more))
-  pub hyphen_is : hyphen.value ≡ 45
+  pub hyphen_is : hyphen.value ≡ ascii.hyphen
   pub high_kind : CharacterKind
   pub high_is : SpellsClassCharacter e high_kind high v more
 
@@ -52,13 +53,13 @@ of_negative true span = CharacterClassContentsInvalidOperands span
 -- The innermost bracket that is open here, from place `begin` on, is negative and may contain strings (22.2.1.1), and its `]` stands next.
 pub record IsNegativeWithStrings (e : Environment) (from : ℕ) (at_class : List CodePoint) (nested : Bool) (begin place : ℕ) (rest : List CodePoint) : Type 0 where
   pub in_bracket : IsInBracket e from at_class nested begin place rest
-  pub closes : starts 93 (values rest) ≡ true
+  pub closes : starts ascii.right_bracket (values rest) ≡ true
   pub whole : is_whole in_bracket.item_place.inner.held ≡ true
   pub may : (in_bracket.item_place.inner.negative && in_bracket.item_place.inner.may) ≡ true
 
 -- The diagnostic is a refusal of what stands at this place of the class: for a range that of its first atom. Spans are in a text whose first offset is `first`, `added` being added to each.
 pub data IsClassCause (mode : Mode) (us : List CodePoint) (first added from : ℕ) (at_class : List CodePoint) : ℕ → Diagnostic → Type 0 where
-  -- Nothing stands in a bracket and the text ends, or behind the items of a union stands neither an item nor `]`; without `v` the text ends there.
+  -- Nothing stands in a bracket and the text ends, or after the items of a union stands neither an item nor `]`; without `v` the text ends there.
   unterminated_class : (nested : Bool) (begin place : ℕ) (rest : List CodePoint) (in_bracket : IsInBracket (class_environment mode us) from at_class nested begin place rest)
       → is_union in_bracket.item_place.inner.held ≡ true → NothingFollows (class_environment mode us) in_bracket.item_place.at in_bracket.item_place.inner.held rest
       → (is_sets mode ≡ true → in_bracket.item_place.inner.held ≡ empty → rest ≡ []) → (is_sets mode ≡ false → rest ≡ [])
@@ -67,13 +68,13 @@ pub data IsClassCause (mode : Mode) (us : List CodePoint) (first added from : �
   no_operand : (place : ℕ) (rest : List CodePoint) (item_place : IsItemPlace (class_environment mode us) from at_class place rest) → is_sets mode ≡ true → item_place.inner.held ≡ empty
       → NothingFollows (class_environment mode us) item_place.at item_place.inner.held rest → rest ≢ []
       → IsClassCause mode us first added from at_class place (EmptyClassSetExpression (span_between us first added place place))
-  -- A `&` stands right behind `&&` (ClassIntersection).
-  third_ampersand : (place : ℕ) (unit : CodePoint) (rest : List CodePoint) (item_place : IsItemPlace (class_environment mode us) from at_class place (unit ∷ rest)) → item_place.at ≡ behind_meet
-      → unit.value ≡ 38 → IsClassCause mode us first added from at_class place (ClassIntersectionUnexpectedAmpersand (span_between us first added place (place + 1)))
-  -- In an intersection or a subtraction stands behind an operand neither `]` nor the operator, or behind the operator no operand.
+  -- A `&` stands right after `&&` (ClassIntersection).
+  third_ampersand : (place : ℕ) (unit : CodePoint) (rest : List CodePoint) (item_place : IsItemPlace (class_environment mode us) from at_class place (unit ∷ rest)) → item_place.at ≡ after_meet
+      → unit.value ≡ ascii.ampersand → IsClassCause mode us first added from at_class place (ClassIntersectionUnexpectedAmpersand (span_between us first added place (place + 1)))
+  -- In an intersection or a subtraction stands after an operand neither `]` nor the operator, or after the operator no operand.
   no_operator : (operator : SetOperator) (place : ℕ) (rest : List CodePoint) (item_place : IsItemPlace (class_environment mode us) from at_class place rest)
       → operator_of item_place.inner.held ≡ Some operator → NothingFollows (class_environment mode us) item_place.at item_place.inner.held rest
-      → (item_place.at ≡ behind_meet → starts 38 (values rest) ≡ false)
+      → (item_place.at ≡ after_meet → starts ascii.ampersand (values rest) ≡ false)
       → IsClassCause mode us first added from at_class place (ClassSetExpressionInvalidCharacter (span_between us first added place place) operator)
   -- Class strings do not end.
   unterminated_strings : (opener place : ℕ) (rest : List CodePoint) → IsStringPlace (class_environment mode us) from at_class opener place rest → EndsStrings (class_environment mode us) rest
@@ -83,11 +84,11 @@ pub data IsClassCause (mode : Mode) (us : List CodePoint) (first added from : �
       → IsClassCause mode us first added from at_class place (of_negative nested (span_between us first added begin (place + 1)))
   -- The end of a range is below its start (22.2.1.1), and is no `-`.
   range_out_of_order : (place low high : ℕ) (w v more : List CodePoint) (hyphen : CodePoint) → is_sets mode ≡ false → IsItemPlace (class_environment mode us) from at_class place (w ++ (hyphen ∷ (v ++ more)))
-      → StandsRange (class_environment mode us) low w hyphen high v more → high < low → high ≢ 45
+      → StandsRange (class_environment mode us) low w hyphen high v more → high < low → high ≢ ascii.hyphen
       → IsClassCause mode us first added from at_class place (CharacterClassRangeOutOfOrder (span_between us first added (place + length w) (place + length w + 1 + length v)) range.ClassAtom)
   -- The end of a range is a `-`, and below its start.
   dash_out_of_order : (place low : ℕ) (w v more : List CodePoint) (hyphen : CodePoint) → is_sets mode ≡ false → IsItemPlace (class_environment mode us) from at_class place (w ++ (hyphen ∷ (v ++ more)))
-      → StandsRange (class_environment mode us) low w hyphen 45 v more → 45 < low
+      → StandsRange (class_environment mode us) low w hyphen ascii.hyphen v more → ascii.hyphen < low
       → IsClassCause mode us first added from at_class place (CharacterClassRangeDashNotSubtraction (span_between us first added (place + length w) (place + length w + 1 + length v)))
   -- With `v` the end of a range is below its start, in a union.
   set_range_out_of_order : (place low high : ℕ) (w v more : List CodePoint) (hyphen : CodePoint) → is_sets mode ≡ true
@@ -96,10 +97,10 @@ pub data IsClassCause (mode : Mode) (us : List CodePoint) (first added from : �
       → IsClassCause mode us first added from at_class place (CharacterClassRangeOutOfOrder (span_between us first added place (place + length w + 1 + length v)) range.ClassSet)
   -- With `u` an end of a range is no character (22.2.1.1).
   invalid_range : (place : ℕ) (a b : Atom) (w v more : List CodePoint) (hyphen : CodePoint) → IsItemPlace (class_environment mode us) from at_class place (w ++ (hyphen ∷ (v ++ more))) → mode ≡ Unicode
-      → SpellsAtom (class_environment mode us) a w (hyphen ∷ (v ++ more)) → hyphen.value ≡ 45 → SpellsAtom (class_environment mode us) b v more → (is_character a && is_character b) ≡ false
+      → SpellsAtom (class_environment mode us) a w (hyphen ∷ (v ++ more)) → hyphen.value ≡ ascii.hyphen → SpellsAtom (class_environment mode us) b v more → (is_character a && is_character b) ≡ false
       → IsClassCause mode us first added from at_class place (CharacterClassRangeInvalidAtom (span_between us first added place (place + length w + 1 + length v)))
   -- Without `v` a backslash begins no escape that a class may hold, or ends the text.
-  invalid_atom : (place : ℕ) (backslash : CodePoint) (rest : List CodePoint) → is_sets mode ≡ false → IsAtomPlace (class_environment mode us) from at_class place (backslash ∷ rest) → backslash.value ≡ 92
+  invalid_atom : (place : ℕ) (backslash : CodePoint) (rest : List CodePoint) → is_sets mode ≡ false → IsAtomPlace (class_environment mode us) from at_class place (backslash ∷ rest) → backslash.value ≡ ascii.backslash
       → begins_class_escape (class_environment mode us) (values rest) ≡ false
       → IsClassCause mode us first added from at_class place (InvalidClassAtom (span_between us first added place (place + 1)))
   -- A character escape in the class is refused, or a property escape.

@@ -1,13 +1,14 @@
 -- Which places of a class a reading reaches, also of a class that does not end.
 use Rattle.std.specs.Prelude.{◌≡◌, ℕ, ◌+◌, ◌⊎◌, Bool, true, false, Some, List, [], ◌∷◌, ◌++◌, length, All}
+use Rattle.rx_base.specs.Ascii as ascii
 use Rattle.rx_units.specs.declared.code_point.CodePoint.{CodePoint}
 use Rattle.rx_units.specs.Units.{values}
-use Rattle.rx_model.specs.Classes.ClassRows.{ClassTokenRow, Place, SpellsAtom, outside, fresh, at_dash, at_high, at_second, at_third, behind_meet, behind_less, in_strings, is_dashed}
+use Rattle.rx_model.specs.Classes.ClassRows.{ClassTokenRow, Place, SpellsAtom, outside, fresh, at_dash, at_high, at_second, at_third, after_meet, after_less, in_strings, is_dashed}
 use Rattle.rx_model.specs.Classes.ClassRuns.{Bracket, Brackets, class_opened, class_run, is_union, takes_operand}
 use Rattle.rx_model.specs.Classes.ClassTokens.{Atom, ClassToken, is_character, strings, letter, string_bar}
 use Rattle.rx_model.specs.Inputs.Environment.{Environment, is_sets}
 
--- whether an item of a bracket may begin: behind another, or with `v` behind an operator
+-- whether an item of a bracket may begin: after another, or with `v` after an operator
 abbrev pub begins_item : Place → Bool
 begins_item outside = false
 begins_item fresh = true
@@ -15,8 +16,8 @@ begins_item at_dash = false
 begins_item at_high = false
 begins_item at_second = false
 begins_item at_third = false
-begins_item behind_meet = true
-begins_item behind_less = true
+begins_item after_meet = true
+begins_item after_less = true
 begins_item in_strings = false
 
 -- From a bracket, at place `from` of a text, class tokens lead to a place where an item of the innermost bracket may begin: they are spelled before all that
@@ -31,7 +32,7 @@ pub record IsItemPlace (e : Environment) (from : ℕ) (at_class : List CodePoint
   pub accepted : class_opened tokens ≡ Some (inner ∷ outer)
   pub place_is : from + length at_class ≡ place + length rest
 
--- The same, where an operand may stand: with `v` none may right behind an operand of an intersection or a subtraction.
+-- The same, where an operand may stand: with `v` none may stand right after an operand of an intersection or a subtraction.
 pub record IsOperandPlace (e : Environment) (from : ℕ) (at_class : List CodePoint) (place : ℕ) (rest : List CodePoint) : Type 0 where
   pub item_place : IsItemPlace e from at_class place rest
   pub takes : takes_operand item_place.inner.held ≡ true
@@ -43,7 +44,7 @@ pub record IsSecondPlace (e : Environment) (from : ℕ) (at_class : List CodePoi
   pub w : List CodePoint
   pub hyphen : CodePoint
   pub item_place : IsItemPlace e from at_class first (w ++ (hyphen ∷ rest))
-  pub hyphen_is : hyphen.value ≡ 45
+  pub hyphen_is : hyphen.value ≡ ascii.hyphen
   pub dashed : is_dashed (values (hyphen ∷ rest)) ≡ true
   pub spelled : SpellsAtom e atom w (hyphen ∷ rest)
   pub of_union : is_sets e.mode ≡ true → (is_character atom ≡ true) × (is_union item_place.inner.held ≡ true)

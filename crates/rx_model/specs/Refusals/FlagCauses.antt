@@ -1,14 +1,15 @@
 -- When flags are refused (22.2.3.3, RegExpInitialize): at the first unit with which they are no flags any more, by the first that holds of: it is no
 -- flag, it was seen before, it completes `u` and `v`.
 use Rattle.std.specs.Prelude.{◌≡◌, ℕ, ◌+◌, true, false, List, [], ◌∷◌, ◌++◌, length}
+use Rattle.rx_base.specs.Flags.{holds, is_flag}
 use Rattle.rx_base.specs.declared.span.Span.{Span}
 use Rattle.rx_base.specs.declared.diagnostic.Diagnostic.{Diagnostic}
 use Rattle.rx_base.specs.declared.diagnostic.Diagnostic.TheVariants.{UnknownFlag, DuplicatedFlags, InvalidUnicodeFlags}
 use Rattle.rx_units.specs.declared.code_point.CodePoint.{CodePoint}
 use Rattle.rx_units.specs.Units.{values, offset_at}
-use Rattle.rx_model.specs.Inputs.Flags.{flags_ok, holds, is_flag}
+use Rattle.rx_model.specs.Inputs.Flags.{flags_ok}
 
--- The unit behind these is the first with which the flags are refused.
+-- The unit after these is the first with which the flags are refused.
 pub record IsFirstOffence (us before : List CodePoint) (unit : CodePoint) : Type 0 where
   pub after : List CodePoint
   pub cut : us ≡ before ++ (unit ∷ after)

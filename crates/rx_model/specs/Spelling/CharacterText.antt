@@ -1,20 +1,22 @@
 -- How a character is spelled canonically.
-use Rattle.std.specs.Prelude.{ℕ, zero, suc, ◌/◌, ◌%◌, Bool, false, ◌==◌, ◌&&◌, ◌||◌, List, [], ◌∷◌, ◌++◌, nat_lt, if◌then◌else◌}
+use Rattle.std.specs.Prelude.{ℕ, zero, suc, ◌/◌, ◌%◌, Bool, false, ◌==◌, ◌&&◌, ◌||◌, List, [], ◌∷◌, ◌++◌, nat_lt, if◌then◌else◌, codes}
+use Rattle.rx_base.specs.Ascii as ascii
+use Rattle.rx_base.specs.Characters.{is_surrogate, is_within}
 use Rattle.rx_model.specs.declared.mode.Mode.{Mode}
 use Rattle.rx_model.specs.declared.mode.Mode.TheVariants.{Legacy, Unicode, Sets}
-use Rattle.rx_tables.specs.Characters.{is_within, is_decimal_digit, is_reserved_punctuator, is_syntax_character, hex_digit}
+use Rattle.rx_tables.specs.Characters.{is_decimal_digit, is_reserved_punctuator, is_syntax_character, hex_digit}
 
 -- t n v f r, for 9 to D
 abbrev pub control_letter : ℕ → ℕ
-control_letter c = if c == 9 then 116 else (if c == 10 then 110 else (if c == 11 then 118 else (if c == 12 then 102 else 114)))
+control_letter c = if c == ascii.tab then ascii.t else (if c == ascii.line_feed then ascii.n else (if c == ascii.vertical_tab then ascii.v else (if c == ascii.form_feed then ascii.f else ascii.r)))
 
 -- \xHH
 unfoldable pub two_digits : ℕ → List ℕ
-two_digits c = 92 ∷ 120 ∷ hex_digit (c / 16 % 16) ∷ hex_digit (c % 16) ∷ []
+two_digits c = codes "\\x" ++ (hex_digit (c / 16 % 16) ∷ hex_digit (c % 16) ∷ [])
 
 -- \uXXXX
 unfoldable pub four_digits : ℕ → List ℕ
-four_digits c = 92 ∷ 117 ∷ hex_digit (c / 4096 % 16) ∷ hex_digit (c / 256 % 16) ∷ hex_digit (c / 16 % 16) ∷ hex_digit (c % 16) ∷ []
+four_digits c = codes "\\u" ++ (hex_digit (c / 4096 % 16) ∷ hex_digit (c / 256 % 16) ∷ hex_digit (c / 16 % 16) ∷ hex_digit (c % 16) ∷ [])
 
 -- the last k hexadecimal digits at most, without leading zeros
 abbrev pub hex : ℕ → ℕ → List ℕ
@@ -23,7 +25,7 @@ hex (suc k) n = (if nat_lt n 16 then [] else hex k (n / 16)) ++ (hex_digit (n % 
 
 -- \u{H..}
 unfoldable pub braced : ℕ → List ℕ
-braced c = 92 ∷ 117 ∷ 123 ∷ (hex 8 c ++ (125 ∷ []))
+braced c = codes "\\u{" ++ (hex 8 c ++ codes "}")
 
 -- a surrogate alone
 abbrev pub surrogate_text : Mode → ℕ → List ℕ
@@ -44,13 +46,13 @@ pub data Place : Type 0 where
 
 -- whether a backslash stands before a character: a SyntaxCharacter or `/`; in a class also `-`; in a class in sets mode also a reserved punctuator
 abbrev pub is_reserved_in_class : Mode → ℕ → Bool
-is_reserved_in_class Legacy c = c == 45
-is_reserved_in_class Unicode c = c == 45
+is_reserved_in_class Legacy c = c == ascii.hyphen
+is_reserved_in_class Unicode c = c == ascii.hyphen
 is_reserved_in_class Sets c = is_reserved_punctuator c
 
 abbrev pub is_escaped : Mode → Place → ℕ → Bool
-is_escaped mode (outside after_reference) c = is_syntax_character c || c == 47
-is_escaped mode in_class c = is_syntax_character c || c == 47 || is_reserved_in_class mode c
+is_escaped mode (outside after_reference) c = is_syntax_character c || c == ascii.slash
+is_escaped mode in_class c = is_syntax_character c || c == ascii.slash || is_reserved_in_class mode c
 
 -- whether it would go on with the digits of the reference right before it
 abbrev pub goes_on : Place → ℕ → Bool
@@ -60,11 +62,11 @@ goes_on in_class c = false
 -- the first row that fits
 unfoldable pub character_text : Mode → Place → ℕ → List ℕ
 character_text mode place c =
-    if is_within 9 13 c then 92 ∷ control_letter c ∷ []
+    if is_within ascii.tab ascii.carriage_return c then ascii.backslash ∷ control_letter c ∷ []
     else (if nat_lt c 32 || is_within 127 159 c then two_digits c
     else (if c == 0x2028 || c == 0x2029 then four_digits c
-    else (if is_within 0xD800 0xDFFF c then surrogate_text mode c
+    else (if is_surrogate c then surrogate_text mode c
     else (if nat_lt (greatest_raw mode) c then braced c
-    else (if is_escaped mode place c then 92 ∷ c ∷ []
-    else (if goes_on place c then 92 ∷ 120 ∷ 51 ∷ c ∷ []
+    else (if is_escaped mode place c then ascii.backslash ∷ c ∷ []
+    else (if goes_on place c then codes "\\x3" ++ (c ∷ [])
     else c ∷ []))))))

@@ -39,12 +39,25 @@ IsFlaggedProperty may name = (may ≡ true) ↔ Contains properties_of_strings n
 abbrev pub IsEarlyProperty : Bool → Bool → List ℕ → Type 0
 IsEarlyProperty negative may name = IsFlaggedProperty may name × ((negative && may) ≡ false)
 
--- MayContainStrings (22.2.1.8) of a class string: unless it is one character
+-- MayContainStrings (22.2.1.8) of a class string, by how many characters it has: unless it is one
+abbrev pub string_strings : ℕ → Bool
+string_strings count = not (count == 1)
+
+-- and of a disjunction of class strings: where some of them has it
+abbrev pub disjunction_strings : List ClassString → Bool
+disjunction_strings ss = list_any (λ s. s.strings) ss
+
+abbrev pub IsFlaggedString : ClassString → Type 0
+IsFlaggedString s = s.strings ≡ string_strings (length s.body)
+
+abbrev pub IsFlaggedDisjunction : ClassStringDisjunction → Type 0
+IsFlaggedDisjunction d = d.strings ≡ disjunction_strings d.body
+
 abbrev pub IsEarlyString : ClassString → Type 0
-IsEarlyString s = (s.strings ≡ not (length s.body == 1)) × AreCodePoints s.body
+IsEarlyString s = IsFlaggedString s × AreCodePoints s.body
 
 abbrev pub IsEarlyStrings : ClassStringDisjunction → Type 0
-IsEarlyStrings d = (d.strings ≡ list_any (λ s. s.strings) d.body) × All IsEarlyString d.body
+IsEarlyStrings d = IsFlaggedDisjunction d × All IsEarlyString d.body
 
 abbrev pub class_strings : Class → Bool
 class_strings (class s negative may kind ms) = may

@@ -1,7 +1,6 @@
 -- The groups of a tree and their names.
-use Rattle.std.specs.Prelude.{ℕ, ◌+◌, Some, None, List, [], ◌∷◌, ◌++◌, Contains, Bool, true, false, if◌then◌else◌, eqb}
-use Rattle.std.specs.List.{list_any}
-use lib.Pointwise.{pointwise}
+use Rattle.std.specs.Prelude.{ℕ, ◌+◌, Some, None, List, [], ◌∷◌, ◌++◌, Contains, Bool, true, false, if◌then◌else◌}
+use Rattle.rx_base.specs.Texts.{is_among}
 use Rattle.rx_ast.specs.declared.term.Pattern.{Pattern}
 use Rattle.rx_ast.specs.Tree as tree
 use Rattle.rx_ast.specs.Tree.{Opener, Node, Nodes, Alternatives, leaf, quantified, group, no_node, node, no_alternative, alternative, mirror_disjunction}
@@ -48,22 +47,18 @@ abbrev mutual
   alternatives_names no_alternative = []
   alternatives_names (alternative s ns more) = nodes_names ns ++ alternatives_names more
 
--- whether a name is among these
-abbrev pub is_among : List (List ℕ) → List ℕ → Bool
-is_among names name = list_any (λ other. pointwise eqb other name) names
-
 -- each once, where it comes first; `seen` came before
-abbrev pub once_behind : List (List ℕ) → List (List ℕ) → List (List ℕ)
-once_behind seen [] = []
-once_behind seen (name ∷ names) =
-    if is_among seen name then once_behind seen names else name ∷ once_behind (name ∷ seen) names
+abbrev pub once_after : List (List ℕ) → List (List ℕ) → List (List ℕ)
+once_after seen [] = []
+once_after seen (name ∷ names) =
+    if is_among seen name then once_after seen names else name ∷ once_after (name ∷ seen) names
 
 abbrev pub groups : Pattern → ℕ
 groups p = alternatives_groups (mirror_disjunction p.body).1
 
 -- the names in order of first opening, each once
 abbrev pub names : Pattern → List (List ℕ)
-names p = once_behind [] (alternatives_names (mirror_disjunction p.body).1)
+names p = once_after [] (alternatives_names (mirror_disjunction p.body).1)
 
 -- no name is among both
 abbrev pub AreApart : List (List ℕ) → List (List ℕ) → Type 0

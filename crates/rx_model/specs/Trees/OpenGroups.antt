@@ -1,4 +1,4 @@
--- Which groups are open after some tokens, and what a quantifier may stand behind (Term, 22.2.1 and B.1.2), with no machine.
+-- Which groups are open after some tokens, and what a quantifier may follow (Term, 22.2.1 and B.1.2), with no machine.
 use Rattle.std.specs.Prelude.{◌≡◌, ℕ, Option, List, [], ◌∷◌, ◌++◌}
 use Rattle.rx_ast.specs.declared.leaf.LookAroundAssertionKind.TheVariants.{Lookahead, NegativeLookahead}
 use Rattle.rx_model.specs.declared.mode.Mode.{Mode}
@@ -17,7 +17,7 @@ pub data AreClosed : List Token → Type 0 where
   further : (t : Token) (more : List Token) → IsBetween t → AreClosed more → AreClosed (t ∷ more)
   group : (o : Opener) (inside more : List Token) → AreClosed inside → AreClosed more → AreClosed (opener o ∷ (inside ++ (closer ∷ more)))
 
--- These groups are open after the tokens, the innermost first: before each stands what the outer ones hold, and behind it groups of its own alone.
+-- These groups are open after the tokens, the innermost first: before each stands what the outer ones hold, and after it groups of its own alone.
 abbrev pub AreOpen : List Opener → List Token → Type 0
 AreOpen [] ts = AreClosed ts
 AreOpen (o ∷ os) ts = (before : List Token) × (inside : List Token) × (ts ≡ before ++ (opener o ∷ inside)) × AreOpen os before × AreClosed inside

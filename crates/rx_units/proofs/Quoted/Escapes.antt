@@ -1,5 +1,5 @@
 -- Escapes of strings and templates: what is spelled is read, and what is read is spelled.
-use Rattle.std.proofs.Common.{◌≡◌, ℕ, ◌+◌, ◌*◌, ◌<◌, ◌≤◌, ◌^◌, ◌==◌, Bool, true, false, cond, not, ◌&&◌, ◌||◌, List, [], ◌∷◌, ◌++◌, length, Option, Some, None, refl, sym, ap, ◌∙◌, subst, arith, inl, inr, lit<, append_assoc, length-append}
+use Rattle.std.proofs.Common.{◌≡◌, ℕ, ◌+◌, ◌*◌, ◌==◌, Bool, true, false, cond, not, ◌&&◌, ◌||◌, List, [], ◌∷◌, ◌++◌, length, Option, Some, None, refl, sym, ap, ◌∙◌, subst, arith, inl, inr, lit<, append_assoc, length-append}
 use Rattle.std.proofs.lemmas.Bool.Decides.{nat_tests}
 use Rattle.std.proofs.lemmas.Bool.{eqb-true, cond-true, cond-false, not-true}
 use Rattle.std.proofs.lemmas.Option.{option_and_then_some}
@@ -8,11 +8,10 @@ use Rattle.rx_units.specs.Characters.{is_line_terminator, is_non_escape_characte
 use Rattle.rx_units.specs.declared.quoted_text.element.Writing.{Writing}
 use Rattle.rx_units.specs.declared.quoted_text.element.Writing.TheVariants as writing
 use Rattle.rx_units.specs.Quoted.Escapes.{is_line_feed, single_escape_value, SpellsTerminator, alone, carriage_return, carriage_return_line_feed, SpellsEscape, single, non_escape, null, hexadecimal, four_digits, braced, continuation}
-use Rattle.rx_units.specs.Quoted.Faults.{PassesHex}
-use Rattle.rx_units.specs.Quoted.Fronts.{EscapeRead, escaped, digit, passes, hex_pair, hex_at, four_at, digits_at, braces_at, unicode_behind, line_behind, escape_behind, escape_at}
+use Rattle.rx_units.specs.Quoted.Fronts.{EscapeRead, escaped, digit, passes, hex_pair, hex_at, four_at, digits_at, braces_at, unicode_after, line_after, escape_after, escape_at}
 use Rattle.rx_units.proofs.Quoted.HexDigits.{Run, run_found, run_again, run_over, run_over_again}
 use Rattle.rx_units.proofs.Quoted.ReadForms.{hex_read}
-use Rattle.rx_units.specs.Digits.{front_is, hex_number}
+use Rattle.rx_units.specs.Digits.{front_is, hex_number, PassesHex}
 use Rattle.rx_units.proofs.Choices.{chosen, either_way, both}
 
 -- no row above that of other characters begins with the character
@@ -77,7 +76,7 @@ terminator_read : (c : ℕ) (w rest : List ℕ) → SpellsTerminator c w rest �
 unfolding escape_at
 terminator_read c _ rest (alone h) =
     let l = lines c h in
-    ap (λ o. escape_behind o c rest) l.no_single
+    ap (λ o. escape_after o c rest) l.no_single
     ∙ cond-false _ _ _ l.no_digit ∙ cond-false _ _ _ l.no_x ∙ cond-false _ _ _ l.no_u ∙ cond-true _ _ _ l.line
     ∙ ap (λ b. cond (b && front_is is_line_feed rest) (escaped 10 writing.LineContinuation 3) (escaped c writing.LineContinuation 2)) l.no_return
 terminator_read _ _ rest (carriage_return h) = ap (λ b. cond b (escaped 10 writing.LineContinuation 3) (escaped 13 writing.LineContinuation 2)) h
@@ -86,16 +85,16 @@ terminator_read _ _ rest carriage_return_line_feed = refl
 -- spelled → read
 pub spelled_escape : (v : ℕ) (k : Writing) (w rest : List ℕ) → SpellsEscape v k w rest → escape_at (w ++ rest) ≡ escaped v k (length w + 1)
 unfolding escape_at
-spelled_escape v _ _ rest (single {c} h) = ap (λ o. escape_behind o c rest) h
+spelled_escape v _ _ rest (single {c} h) = ap (λ o. escape_after o c rest) h
 spelled_escape c _ _ rest (non_escape h) =
     let o = others c h in
-    ap (λ x. escape_behind x c rest) o.no_single
+    ap (λ x. escape_after x c rest) o.no_single
     ∙ cond-false _ _ _ o.no_digit ∙ cond-false _ _ _ o.no_x ∙ cond-false _ _ _ o.no_u ∙ cond-false _ _ _ o.no_line
 spelled_escape _ _ _ rest (null h) = ap (λ b. cond (not b) (escaped 0 writing.Plain 2) digit) h
 spelled_escape v _ _ rest (hexadecimal {a} {b} h) = pair_read a b v h
-spelled_escape v _ _ rest (four_digits {a} {b} {c} {d} h) = ap (λ o. unicode_behind o (a ∷ b ∷ c ∷ d ∷ rest)) h
+spelled_escape v _ _ rest (four_digits {a} {b} {c} {d} h) = ap (λ o. unicode_after o (a ∷ b ∷ c ∷ d ∷ rest)) h
 spelled_escape v _ _ rest (braced x xs h top) =
-    ap (λ o. unicode_behind o (123 ∷ x ∷ (xs ++ 125 ∷ [] ++ rest))) (brace_no_four (x ∷ (xs ++ 125 ∷ [] ++ rest)))
+    ap (λ o. unicode_after o (123 ∷ x ∷ (xs ++ 125 ∷ [] ++ rest))) (brace_no_four (x ∷ (xs ++ 125 ∷ [] ++ rest)))
     ∙ ap (λ w. digits_at 0 0 (x ∷ w)) (append_assoc xs (125 ∷ []) rest)
     ∙ run_again 0 0 (x ∷ xs) rest v h top (omega arith)
     ∙ ap (escaped v writing.Unicode) (omega (arith, length-append xs (125 ∷ [])))
@@ -159,7 +158,7 @@ four_found (a ∷ b ∷ []) x v k n e h = absurd (let no : ⊥ = cc e in no)
 four_found (a ∷ b ∷ c ∷ []) x v k n e h = absurd (let no : ⊥ = cc e in no)
 four_found (a ∷ b ∷ c ∷ d ∷ w) x v k n e h = give (117 ∷ a ∷ b ∷ c ∷ d ∷ []) w (four_digits e) refl h
 
-unicode_found : (w : List ℕ) (v : ℕ) (k : Writing) (n : ℕ) (o : Option ℕ) → four_at w ≡ o → unicode_behind o w ≡ escaped v k n → EscapeFront v k n (117 ∷ w)
+unicode_found : (w : List ℕ) (v : ℕ) (k : Writing) (n : ℕ) (o : Option ℕ) → four_at w ≡ o → unicode_after o w ≡ escaped v k n → EscapeFront v k n (117 ∷ w)
 unicode_found w v k n (Some x) e h = four_found w x v k n e h
 unicode_found w v k n None e h = braces_found w v k n h
 
@@ -204,7 +203,7 @@ line_front c w l false e = go (c == 13) refl
       count = refl;
     }
 
-line_found : (c : ℕ) (w : List ℕ) (v : ℕ) (k : Writing) (n : ℕ) → is_line_terminator c ≡ true → line_behind c w ≡ escaped v k n → EscapeFront v k n (c ∷ w)
+line_found : (c : ℕ) (w : List ℕ) (v : ℕ) (k : Writing) (n : ℕ) → is_line_terminator c ≡ true → line_after c w ≡ escaped v k n → EscapeFront v k n (c ∷ w)
 line_found c w v k n l h = go (c == 13 && front_is is_line_feed w) refl h
   where
     go : (b : Bool) → (c == 13 && front_is is_line_feed w) ≡ b → cond b (escaped 10 writing.LineContinuation 3) (escaped c writing.LineContinuation 2) ≡ escaped v k n → EscapeFront v k n (c ∷ w)
@@ -214,9 +213,9 @@ line_found c w v k n l h = go (c == 13 && front_is is_line_feed w) refl h
 null_next : (c : ℕ) (w : List ℕ) → (c == 48 && not (front_is is_decimal_digit w)) ≡ true → (c ≡ 48) × (front_is is_decimal_digit w ≡ false)
 null_next c w h = let q = both (c == 48) _ h in (eqb-true c 48 q.0, not-true (front_is is_decimal_digit w) q.1)
 
-behind_found : (c : ℕ) (w : List ℕ) (v : ℕ) (k : Writing) (n : ℕ) (o : Option ℕ) → single_escape_value c ≡ o → escape_behind o c w ≡ escaped v k n → EscapeFront v k n (c ∷ w)
-behind_found c w v k n (Some x) e h = give (c ∷ []) w (single e) refl h
-behind_found c w v k n None e h = elim (chosen (is_decimal_digit c) h) [
+after_found : (c : ℕ) (w : List ℕ) (v : ℕ) (k : Writing) (n : ℕ) (o : Option ℕ) → single_escape_value c ≡ o → escape_after o c w ≡ escaped v k n → EscapeFront v k n (c ∷ w)
+after_found c w v k n (Some x) e h = give (c ∷ []) w (single e) refl h
+after_found c w v k n None e h = elim (chosen (is_decimal_digit c) h) [
   | inl p ↦ elim (chosen (c == 48 && not (front_is is_decimal_digit w)) p.1) [
     | inl q ↦ let z = null_next c w q.0 in rw z.0 (give (48 ∷ []) w (null z.1) refl q.1)
     | inr q ↦ absurd (let no : ⊥ = cc q.1 in no)
@@ -237,13 +236,13 @@ behind_found c w v k n None e h = elim (chosen (is_decimal_digit c) h) [
 pub escape_spelled : (v : ℕ) (k : Writing) (n : ℕ) (w : List ℕ) → escape_at w ≡ escaped v k n → EscapeFront v k n w
 unfolding escape_at
 escape_spelled v k n [] h = absurd (let no : ⊥ = cc h in no)
-escape_spelled v k n (c ∷ w) h = behind_found c w v k n (single_escape_value c) refl h
+escape_spelled v k n (c ∷ w) h = after_found c w v k n (single_escape_value c) refl h
 
 -- Digits in braces that pass 32 bits: where they are read.
 pub record Passes (n : ℕ) (w : List ℕ) : Type 0 where
-  pub digits : List ℕ
-  pub over : PassesHex (92 ∷ w) digits
-  pub count : n ≡ length digits + 3
+  pub count : ℕ
+  pub over : PassesHex w count
+  pub count_is : n ≡ count + 3
 
 abbrev is_passes : EscapeRead → Bool
 is_passes (passes n) = true
@@ -259,30 +258,32 @@ braces_pass : (w : List ℕ) (n : ℕ) → braces_at w ≡ passes n → Passes n
 braces_pass [] n h = absurd (let no : ⊥ = cc h in no)
 braces_pass (x ∷ xs) n h = elim (chosen (x == 123) h) [
   | inl p ↦ let r = run_over 0 0 xs n (lit< tt) p.1 in record {
-    digits = r.digits;
+    count = length r.digits;
     over = record {
+      digits = r.digits;
       next = r.next;
       rest = r.rest;
       number = r.number;
       digit = r.digit;
-      whole = ap (λ y. 92 ∷ 117 ∷ y ∷ xs) (eqb-true x 123 p.0) ∙ ap (λ w. 92 ∷ 117 ∷ 123 ∷ w) r.whole;
+      whole = ap (λ y. 117 ∷ y ∷ xs) (eqb-true x 123 p.0) ∙ ap (λ w. 117 ∷ 123 ∷ w) r.whole;
+      count_is = refl;
       number_is = r.number_is;
       digit_is = r.digit_is;
       fits = r.fits;
       passes = r.over;
     };
-    count = omega (arith, r.count_is);
+    count_is = omega (arith, r.count_is);
   }
   | inr p ↦ absurd (let no : ⊥ = cc p.1 in no)
 ]
 
-unicode_passes : (w : List ℕ) (n : ℕ) (o : Option ℕ) → unicode_behind o w ≡ passes n → Passes n (117 ∷ w)
+unicode_passes : (w : List ℕ) (n : ℕ) (o : Option ℕ) → unicode_after o w ≡ passes n → Passes n (117 ∷ w)
 unicode_passes w n (Some v) h = absurd (let no : ⊥ = cc h in no)
 unicode_passes w n None h = braces_pass w n h
 
-behind_passes : (c : ℕ) (w : List ℕ) (n : ℕ) (o : Option ℕ) → escape_behind o c w ≡ passes n → Passes n (c ∷ w)
-behind_passes c w n (Some x) h = absurd (let no : ⊥ = cc h in no)
-behind_passes c w n None h = elim (chosen (is_decimal_digit c) h) [
+after_passes : (c : ℕ) (w : List ℕ) (n : ℕ) (o : Option ℕ) → escape_after o c w ≡ passes n → Passes n (c ∷ w)
+after_passes c w n (Some x) h = absurd (let no : ⊥ = cc h in no)
+after_passes c w n None h = elim (chosen (is_decimal_digit c) h) [
   | inl p ↦ absurd (no_passes _ n (either_way NoPasses (c == 48 && not (front_is is_decimal_digit w)) (escaped 0 writing.Plain 2) digit refl refl) p.1)
   | inr p ↦ elim (chosen (c == 120) p.1) [
     | inl q ↦ absurd (no_passes _ n (hex_read NoPasses (λ v k n. refl) (λ n. refl) w) q.1)
@@ -299,13 +300,13 @@ behind_passes c w n None h = elim (chosen (is_decimal_digit c) h) [
 pub passes_found : (n : ℕ) (w : List ℕ) → escape_at w ≡ passes n → Passes n w
 unfolding escape_at
 passes_found n [] h = absurd (let no : ⊥ = cc h in no)
-passes_found n (c ∷ w) h = behind_passes c w n (single_escape_value c) h
+passes_found n (c ∷ w) h = after_passes c w n (single_escape_value c) h
 
 -- and what is there is read
-pub passes_read : (digits : List ℕ) (next : ℕ) (rest : List ℕ) (number last : ℕ) → hex_number digits ≡ Some number → hex_digit_value next ≡ Some last → number < 2 ^ 32 → 2 ^ 32 ≤ 16 * number + last
-    → escape_at (117 ∷ 123 ∷ (digits ++ next ∷ rest)) ≡ passes (length digits + 3)
+pub passes_read : (w : List ℕ) (count : ℕ) → PassesHex w count → escape_at w ≡ passes (count + 3)
 unfolding escape_at
-passes_read digits next rest number last h e low high =
-    ap (λ o. unicode_behind o (123 ∷ (digits ++ next ∷ rest))) (brace_no_four (digits ++ next ∷ rest))
-    ∙ run_over_again 0 0 digits next rest number last h e low high
-    ∙ ap passes (omega arith)
+passes_read w count p =
+    ap escape_at p.whole
+    ∙ ap (λ o. unicode_after o (123 ∷ (p.digits ++ p.next ∷ p.rest))) (brace_no_four (p.digits ++ p.next ∷ p.rest))
+    ∙ run_over_again 0 0 p.digits p.next p.rest p.number p.digit p.number_is p.digit_is p.fits p.passes
+    ∙ ap passes (omega (arith, p.count_is))

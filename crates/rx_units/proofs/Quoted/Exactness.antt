@@ -14,9 +14,10 @@ use Rattle.rx_units.specs.declared.string_literal_parser.StringFault.TheVariants
 use Rattle.rx_units.specs.declared.string_literal_parser.StringLiteral.{StringLiteral}
 use Rattle.rx_units.specs.declared.string_literal_parser.StringLiteralKind.{StringLiteralKind}
 use Rattle.rx_units.specs.declared.string_literal_parser.StringLiteralKind.TheVariants as quotes
+use Rattle.rx_units.specs.Digits.{PassesHex}
 use Rattle.rx_units.specs.Quoted.Answers.{IsStringOf, string_element_fault, string_fault_at}
 use Rattle.rx_units.specs.Quoted.Elements.{quote_of}
-use Rattle.rx_units.specs.Quoted.Faults.{is_string_quote, NothingStands, PassesHex, IsStringFault, unopened, nothing, followed, legacy, too_large, from_to, empty_at}
+use Rattle.rx_units.specs.Quoted.Faults.{is_string_quote, NothingStands, IsStringFault, unopened, nothing, followed, legacy, too_large, from_to, empty_at}
 use Rattle.rx_units.specs.Quoted.Fronts as read
 use Rattle.rx_units.specs.Quoted.Texts.{Place, IsDecoded, byte_count, is_refused}
 use Rattle.rx_units.proofs.Quoted.Fronts.{spelled_front, front_spelled, quote_front, closer_found, passes_front}
@@ -32,7 +33,8 @@ abbrev fault_at : read.Front → Place → StringFault
 fault_at r p = string_fault_at r p.offset p.rest
 
 module _ (k : StringLiteralKind) (p : Place) where
-  nothing_fault : (r : read.Front) → read.front (literals.String k) p.rest ≡ r → NothingStands (literals.String k) p.rest → ((digits : List ℕ) → PassesHex p.rest digits → ⊥)
+  nothing_fault : (r : read.Front) → read.front (literals.String k) p.rest ≡ r → NothingStands (literals.String k) p.rest
+      → ((w : List ℕ) (count : ℕ) → p.rest ≡ 92 ∷ w → PassesHex w count → ⊥)
       → string_fault.InvalidInput (empty_at p.offset) ≡ fault_at r p
   nothing_fault (read.element e n) h s l = let f = front_spelled (literals.String k) p.rest e n h in absurd (s.no_element e f.spelled f.rest f.whole f.spells)
   nothing_fault read.closer h s l = let c = closer_found (literals.String k) p.rest h in absurd (s.no_quote c.0 c.1)
@@ -40,7 +42,7 @@ module _ (k : StringLiteralKind) (p : Place) where
   nothing_fault read.substitution h s l = refl
   nothing_fault (read.invalid_hex n) h s l = refl
   nothing_fault (read.invalid_unicode n) h s l = refl
-  nothing_fault (read.too_large n) h s l = let x = large_found k p.rest n h in absurd (l x.digits x.over)
+  nothing_fault (read.too_large n) h s l = let x = large_found k p.rest n h in absurd (l x.w x.count x.begins x.over)
 
   -- in strict mode code a legacy escape is no element that is allowed
   stuck_at_legacy : (o : Options) (e : Element) (n : ℕ) (what : LegacyKind) → read.front (literals.String k) p.rest ≡ read.element e n → o.strict_mode ≡ true → e.writing ≡ writing.Legacy what → IsStuck (literals.String k) o p
@@ -81,10 +83,10 @@ module _ (o : Options) (text : List ℕ) where
         unended = without_closer (literals.String k) o p (read.element e (length w)) front_is refl;
       })
       (legacy_is k p e w rest what h is ∙ ap (λ r. fault_at r p) (sym front_is))
-  cause _ (too_large {k} {p} {digits} a l) =
-      let front_is = passes_front (literals.String k) p.rest digits l in
-      inside (literals.String k) p (opens_with k) (stops_without (literals.String k) o p text (read.too_large (length digits + 3)) a front_is refl refl)
-      (ap (λ (end : ℕ). string_fault.TooLargeUnicodeEscapeSequence (from_to p.offset end)) (let e : p.offset + 3 + length digits ≡ p.offset + (length digits + 3) = omega arith in e) ∙ ap (λ r. fault_at r p) (sym front_is))
+  cause _ (too_large {k} {p} {w} {count} a e l) =
+      let front_is = passes_front (literals.String k) p.rest w count e l in
+      inside (literals.String k) p (opens_with k) (stops_without (literals.String k) o p text (read.too_large (count + 3)) a front_is refl refl)
+      (ap (λ (end : ℕ). string_fault.TooLargeUnicodeEscapeSequence (from_to p.offset end)) (let e : p.offset + 3 + count ≡ p.offset + (count + 3) = omega arith in e) ∙ ap (λ r. fault_at r p) (sym front_is))
 
   -- At most one fault stands in a string.
   pub one_fault : (f g : StringFault) → IsStringFault o text f → IsStringFault o text g → f ≡ g

@@ -12,7 +12,7 @@ use Rattle.rx_units.specs.declared.string_literal_parser.StringLiteralKind.TheVa
 use Rattle.rx_units.specs.Quoted.Escapes.{is_line_feed, single_escape_value}
 use Rattle.rx_units.specs.Quoted.Elements.{written, is_open_brace}
 use Rattle.rx_units.specs.Quoted.Found.{seen_front}
-use Rattle.rx_units.specs.Quoted.Fronts.{EscapeRead, escaped, digit, unended, no_hex, no_unicode, passes, Front, element, closer, nothing, substitution, invalid_hex, invalid_unicode, too_large, hex_pair, hex_at, four_at, digit_step, digits_at, braces_at, unicode_behind, line_behind, escape_behind, escape_at, string_escape, string_front, template_escape, raw_line, template_front, front}
+use Rattle.rx_units.specs.Quoted.Fronts.{EscapeRead, escaped, digit, unended, no_hex, no_unicode, passes, Front, element, closer, nothing, substitution, invalid_hex, invalid_unicode, too_large, hex_pair, hex_at, four_at, digit_step, digits_at, braces_at, unicode_after, line_after, escape_after, escape_at, string_escape, string_front, template_escape, raw_line, template_front, front}
 use Rattle.rx_units.specs.Quoted.Texts.{byte_count}
 use Rattle.rx_units.proofs.Quoted.ReadForms.{legacy_read, digit_read}
 use Rattle.rx_units.proofs.Quoted.Widths.{length_le_bytes}
@@ -58,7 +58,7 @@ braces_extent : (w : List ℕ) → read_extent (braces_at w) ≤ length w + 2
 braces_extent [] = omega arith
 braces_extent (x ∷ xs) = let h = digits_extent 0 0 xs in either_way (ReadWithin (suc (length xs) + 2)) (x == 123) (digits_at 0 0 xs) (no_unicode 2) (omega arith) (omega arith)
 
-unicode_extent : (w : List ℕ) (o : Option ℕ) → four_at w ≡ o → read_extent (unicode_behind o w) ≤ length w + 2
+unicode_extent : (w : List ℕ) (o : Option ℕ) → four_at w ≡ o → read_extent (unicode_after o w) ≤ length w + 2
 unicode_extent [] (Some v) e = absurd (let no : ⊥ = cc e in no)
 unicode_extent (a ∷ []) (Some v) e = absurd (let no : ⊥ = cc e in no)
 unicode_extent (a ∷ b ∷ []) (Some v) e = absurd (let no : ⊥ = cc e in no)
@@ -70,28 +70,28 @@ feed_some : (w : List ℕ) → front_is is_line_feed w ≡ true → 1 ≤ length
 feed_some [] h = absurd (let no : ⊥ = cc h in no)
 feed_some (c ∷ w) h = omega arith
 
-line_extent : (c : ℕ) (w : List ℕ) → read_extent (line_behind c w) ≤ length w + 2
+line_extent : (c : ℕ) (w : List ℕ) → read_extent (line_after c w) ≤ length w + 2
 line_extent c w =
     cond_both (c == 13 && front_is is_line_feed w) (escaped 10 writing.LineContinuation 3) (escaped c writing.LineContinuation 2) (ReadWithin (length w + 2))
     (λ h. let k = feed_some w (both (c == 13) _ h).1 in omega arith) (λ h. omega arith)
 
-behind_extent : (c : ℕ) (w : List ℕ) (o : Option ℕ) → read_extent (escape_behind o c w) ≤ length w + 2
-behind_extent c w (Some v) = omega arith
-behind_extent c w None =
+after_extent : (c : ℕ) (w : List ℕ) (o : Option ℕ) → read_extent (escape_after o c w) ≤ length w + 2
+after_extent c w (Some v) = omega arith
+after_extent c w None =
     let m = length w + 2 in
-    let last = cond (is_line_terminator c) (line_behind c w) (escaped c writing.Plain 2) in
-    let by_u = cond (c == 117) (unicode_behind (four_at w) w) last in
+    let last = cond (is_line_terminator c) (line_after c w) (escaped c writing.Plain 2) in
+    let by_u = cond (c == 117) (unicode_after (four_at w) w) last in
     let by_x = cond (c == 120) (hex_at w) by_u in
     either_way (ReadWithin m) (is_decimal_digit c) (cond (c == 48 && not (front_is is_decimal_digit w)) (escaped 0 writing.Plain 2) digit) by_x
     (either_way (ReadWithin m) (c == 48 && not (front_is is_decimal_digit w)) (escaped 0 writing.Plain 2) digit (omega arith) (omega arith))
     (either_way (ReadWithin m) (c == 120) (hex_at w) by_u (hex_extent w)
-    (either_way (ReadWithin m) (c == 117) (unicode_behind (four_at w) w) last (unicode_extent w (four_at w) refl)
-    (either_way (ReadWithin m) (is_line_terminator c) (line_behind c w) (escaped c writing.Plain 2) (line_extent c w) (omega arith))))
+    (either_way (ReadWithin m) (c == 117) (unicode_after (four_at w) w) last (unicode_extent w (four_at w) refl)
+    (either_way (ReadWithin m) (is_line_terminator c) (line_after c w) (escaped c writing.Plain 2) (line_extent c w) (omega arith))))
 
 escape_extent : (w : List ℕ) → read_extent (escape_at w) ≤ length w + 1
 unfolding escape_at
 escape_extent [] = omega arith
-escape_extent (c ∷ w) = let h = behind_extent c w (single_escape_value c) in omega arith
+escape_extent (c ∷ w) = let h = after_extent c w (single_escape_value c) in omega arith
 
 -- how many characters a place's fault covers
 abbrev pub extent : Front → ℕ
@@ -156,7 +156,7 @@ front_extent literals.Template us = template_extent us
 pub found_extent : (l : Literal) (us : List ℕ) (f : Front) → f ≡ front l us → extent f ≤ byte_count us
 found_extent l us f h = let e = front_extent l us in let b = length_le_bytes us in rw h (omega arith)
 
--- and the place behind them has an offset
+-- and the place after them has an offset
 pub fault_fits : (l : Literal) (stop : Stop) (f : Found) → seen_front stop.found ≡ front l stop.rest.now → stop.found ≡ f → stop.offset + byte_count stop.rest.now < 2 ^ 32 → stop.offset + extent (seen_front f) < 2 ^ 32
 fault_fits l stop f h is fits =
     let e = found_extent l stop.rest.now (seen_front stop.found) h in

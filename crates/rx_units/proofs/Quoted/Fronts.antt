@@ -8,14 +8,14 @@ use Rattle.rx_units.specs.declared.quoted_text.literal.Literal.TheVariants as li
 use Rattle.rx_units.specs.declared.string_literal_parser.StringLiteralKind.TheVariants as quotes
 use Rattle.rx_units.specs.Quoted.Escapes.{is_line_feed}
 use Rattle.rx_units.specs.Quoted.Elements.{quote_of, SpellsElement, is_open_brace}
-use Rattle.rx_units.specs.Quoted.Faults.{NothingStands, PassesHex}
+use Rattle.rx_units.specs.Quoted.Faults.{NothingStands}
 use Rattle.rx_units.specs.Quoted.Found.{is_closer}
 use Rattle.rx_units.specs.Quoted.Fronts.{EscapeRead, escaped, digit, unended, no_hex, no_unicode, passes, Front, element, closer, too_large, escape_at, string_escape, string_front, template_escape, template_front, front}
 use Rattle.rx_units.proofs.Quoted.Escapes.{passes_read}
 use Rattle.rx_units.proofs.Quoted.ReadForms.{legacy_read, digit_read}
 use Rattle.rx_units.proofs.Quoted.StringFronts.{spelled_string, string_spelled}
 use Rattle.rx_units.proofs.Quoted.TemplateFronts.{spelled_template, template_spelled}
-use Rattle.rx_units.specs.Digits.{front_is}
+use Rattle.rx_units.specs.Digits.{front_is, PassesHex}
 use Rattle.rx_units.proofs.Choices.{chosen}
 
 -- an element that stands at the front
@@ -127,8 +127,8 @@ nothing_stands l us no_element no_quote = record {
 }
 
 -- digits that pass 32 bits are read
-pub passes_front : (l : Literal) (us digits : List ℕ) → PassesHex us digits → front l us ≡ too_large (length digits + 3)
+pub passes_front : (l : Literal) (us w : List ℕ) (count : ℕ) → us ≡ 92 ∷ w → PassesHex w count → front l us ≡ too_large (count + 3)
 unfolding front
-passes_front (literals.String quotes.Double) us digits p = ap (string_front 34) p.whole ∙ ap (λ r. string_escape r (117 ∷ 123 ∷ (digits ++ p.next ∷ p.rest))) (passes_read digits p.next p.rest p.number p.digit p.number_is p.digit_is p.fits p.passes)
-passes_front (literals.String quotes.Single) us digits p = ap (string_front 39) p.whole ∙ ap (λ r. string_escape r (117 ∷ 123 ∷ (digits ++ p.next ∷ p.rest))) (passes_read digits p.next p.rest p.number p.digit p.number_is p.digit_is p.fits p.passes)
-passes_front literals.Template us digits p = ap template_front p.whole ∙ ap (λ r. template_escape r (117 ∷ 123 ∷ (digits ++ p.next ∷ p.rest))) (passes_read digits p.next p.rest p.number p.digit p.number_is p.digit_is p.fits p.passes)
+passes_front (literals.String quotes.Double) us w count e p = ap (string_front 34) e ∙ ap (λ r. string_escape r w) (passes_read w count p)
+passes_front (literals.String quotes.Single) us w count e p = ap (string_front 39) e ∙ ap (λ r. string_escape r w) (passes_read w count p)
+passes_front literals.Template us w count e p = ap template_front e ∙ ap (λ r. template_escape r w) (passes_read w count p)

@@ -8,7 +8,7 @@ use Rattle.rx_units.specs.declared.quoted_text.element.Writing.{Writing}
 use Rattle.rx_units.specs.declared.quoted_text.element.Writing.TheVariants as writing
 use Rattle.rx_units.specs.Quoted.Faults.{is_close_brace}
 use Rattle.rx_units.specs.Quoted.Fronts.{escaped, no_unicode, passes, digit_step, digits_at}
-use Rattle.rx_units.specs.Digits.{front_is, hex_behind, is_hex_digit}
+use Rattle.rx_units.specs.Digits.{front_is, hex_after, is_hex_digit}
 use Rattle.rx_units.proofs.Choices.{chosen, both, is_none}
 use Rattle.rx_units.proofs.Digits.{hex_le}
 
@@ -16,7 +16,7 @@ use Rattle.rx_units.proofs.Digits.{hex_le}
 pub record Run (n count : ℕ) (w : List ℕ) (v : ℕ) (k : Writing) (m : ℕ) : Type 0 where
   pub digits : List ℕ
   pub rest : List ℕ
-  pub number : hex_behind n digits ≡ Some v
+  pub number : hex_after n digits ≡ Some v
   pub whole : w ≡ digits ++ 125 ∷ rest
   pub top : v ≤ 0x10FFFF
   pub some : 0 < count + length digits
@@ -29,7 +29,7 @@ run_found_step n count x xs v k m again (Some d) e h = elim (chosen (nat_lt (16 
   | inl p ↦ let r = again (16 * n + d) p.1 in record {
     digits = x ∷ r.digits;
     rest = r.rest;
-    number = ap (option_and_then (λ d. hex_behind (16 * n + d) r.digits)) e ∙ r.number;
+    number = ap (option_and_then (λ d. hex_after (16 * n + d) r.digits)) e ∙ r.number;
     whole = ap (λ ys. x ∷ ys) r.whole;
     top = r.top;
     some = omega arith;
@@ -60,12 +60,12 @@ pub run_found : (n count : ℕ) (w : List ℕ) (v : ℕ) (k : Writing) (m : ℕ)
 run_found n count [] v k m h = absurd (let no : ⊥ = cc h in no)
 run_found n count (x ∷ xs) v k m h = run_found_step n count x xs v k m (λ j. run_found j (count + 1) xs v k m) (hex_digit_value x) refl h
 
-pub run_again : (n count : ℕ) (ds rest : List ℕ) (v : ℕ) → hex_behind n ds ≡ Some v → v ≤ 0x10FFFF → 0 < count + length ds → digits_at n count (ds ++ 125 ∷ rest) ≡ escaped v writing.Unicode (count + length ds + 4)
+pub run_again : (n count : ℕ) (ds rest : List ℕ) (v : ℕ) → hex_after n ds ≡ Some v → v ≤ 0x10FFFF → 0 < count + length ds → digits_at n count (ds ++ 125 ∷ rest) ≡ escaped v writing.Unicode (count + length ds + 4)
 run_again n count [] rest v h top some =
     let e : n ≡ v = cc h in
     grind (arith, nat_tests)
 run_again n count (x ∷ ds) rest v h top some =
-    option_and_then_some (λ d. hex_behind (16 * n + d) ds) (hex_digit_value x) v h (λ d e f.
+    option_and_then_some (λ d. hex_after (16 * n + d) ds) (hex_digit_value x) v h (λ d e f.
     let k = hex_le (16 * n + d) ds v f in
     let i = run_again (16 * n + d) (count + 1) ds rest v f top (omega arith) in
     ap (λ o. digit_step o n count x (λ m. digits_at m (count + 1) (ds ++ 125 ∷ rest))) e
@@ -81,7 +81,7 @@ pub record Over (n count : ℕ) (w : List ℕ) (m : ℕ) : Type 0 where
   pub digit : ℕ
   pub whole : w ≡ digits ++ next ∷ rest
   pub count_is : m ≡ count + length digits + 3
-  pub number_is : hex_behind n digits ≡ Some number
+  pub number_is : hex_after n digits ≡ Some number
   pub digit_is : hex_digit_value next ≡ Some digit
   pub fits : number < 2 ^ 32
   pub over : 2 ^ 32 ≤ 16 * number + digit
@@ -97,7 +97,7 @@ run_over_step n count x xs m low again (Some d) e h = elim (chosen (nat_lt (16 *
     digit = r.digit;
     whole = ap (λ ys. x ∷ ys) r.whole;
     count_is = omega (arith, r.count_is);
-    number_is = ap (option_and_then (λ d. hex_behind (16 * n + d) r.digits)) e ∙ r.number_is;
+    number_is = ap (option_and_then (λ d. hex_after (16 * n + d) r.digits)) e ∙ r.number_is;
     digit_is = r.digit_is;
     fits = r.fits;
     over = r.over;
@@ -125,7 +125,7 @@ pub run_over : (n count : ℕ) (w : List ℕ) (m : ℕ) → n < 2 ^ 32 → digit
 run_over n count [] m low h = absurd (let k : ⊥ = cc h in k)
 run_over n count (x ∷ xs) m low h = run_over_step n count x xs m low (λ k l. run_over k (count + 1) xs m l) (hex_digit_value x) refl h
 
-pub run_over_again : (n count : ℕ) (ds : List ℕ) (x : ℕ) (rest : List ℕ) (number digit : ℕ) → hex_behind n ds ≡ Some number → hex_digit_value x ≡ Some digit → number < 2 ^ 32 → 2 ^ 32 ≤ 16 * number + digit
+pub run_over_again : (n count : ℕ) (ds : List ℕ) (x : ℕ) (rest : List ℕ) (number digit : ℕ) → hex_after n ds ≡ Some number → hex_digit_value x ≡ Some digit → number < 2 ^ 32 → 2 ^ 32 ≤ 16 * number + digit
     → digits_at n count (ds ++ x ∷ rest) ≡ passes (count + length ds + 3)
 run_over_again n count [] x rest number digit h e low high =
     let same : n ≡ number = cc h in
@@ -133,7 +133,7 @@ run_over_again n count [] x rest number digit h e low high =
     ∙ ap (λ b. cond b (digits_at (16 * n + digit) (count + 1) rest) (passes (count + 3))) (le-ltb _ _ (let l : 2 ^ 32 ≤ 16 * n + digit = omega arith in l))
     ∙ ap passes (omega arith)
 run_over_again n count (y ∷ ds) x rest number digit h e low high =
-    option_and_then_some (λ d. hex_behind (16 * n + d) ds) (hex_digit_value y) number h (λ d f g.
+    option_and_then_some (λ d. hex_after (16 * n + d) ds) (hex_digit_value y) number h (λ d f g.
     let k = hex_le (16 * n + d) ds number g in
     ap (λ o. digit_step o n count y (λ m. digits_at m (count + 1) (ds ++ x ∷ rest))) f
     ∙ ap (λ b. cond b (digits_at (16 * n + d) (count + 1) (ds ++ x ∷ rest)) (passes (count + 3))) (lt-ltb _ _ (let l : 16 * n + d < 2 ^ 32 = omega arith in l))
@@ -147,7 +147,7 @@ pub record NoRun (n count : ℕ) (w : List ℕ) (m : ℕ) : Type 0 where
   pub number : ℕ
   pub whole : w ≡ digits ++ rest
   pub count_is : m ≡ count + length digits + 3
-  pub number_is : hex_behind n digits ≡ Some number
+  pub number_is : hex_after n digits ≡ Some number
   pub fits : number < 2 ^ 32
   pub all : front_is is_hex_digit rest ≡ false
   pub wrong : 0 < count + length digits → number ≤ 0x10FFFF → front_is is_close_brace rest ≡ false
@@ -161,7 +161,7 @@ no_run_step n count x xs m low again (Some d) e h = elim (chosen (nat_lt (16 * n
     number = r.number;
     whole = ap (λ ys. x ∷ ys) r.whole;
     count_is = omega (arith, r.count_is);
-    number_is = ap (option_and_then (λ d. hex_behind (16 * n + d) r.digits)) e ∙ r.number_is;
+    number_is = ap (option_and_then (λ d. hex_after (16 * n + d) r.digits)) e ∙ r.number_is;
     fits = r.fits;
     all = r.all;
     wrong = λ some top. r.wrong (omega arith) top;
@@ -211,7 +211,7 @@ brace_fails x count n h = go ((x == 125) && (nat_lt 0 count && nat_le n 0x10FFFF
         let no : true ≡ false = sym q.0 ∙ h (ltb-true 0 count r.0) (leb-true n 0x10FFFF r.1) in
         no
 
-pub no_run_again : (n count : ℕ) (ds rest : List ℕ) (number : ℕ) → hex_behind n ds ≡ Some number → number < 2 ^ 32 → front_is is_hex_digit rest ≡ false
+pub no_run_again : (n count : ℕ) (ds rest : List ℕ) (number : ℕ) → hex_after n ds ≡ Some number → number < 2 ^ 32 → front_is is_hex_digit rest ≡ false
     → (0 < count + length ds → number ≤ 0x10FFFF → front_is is_close_brace rest ≡ false) → digits_at n count (ds ++ rest) ≡ no_unicode (count + length ds + 3)
 no_run_again n count [] [] number h low all wrong = ap no_unicode (omega arith)
 no_run_again n count [] (x ∷ xs) number h low all wrong =
@@ -221,7 +221,7 @@ no_run_again n count [] (x ∷ xs) number h low all wrong =
     ∙ ap (λ b. cond b (escaped n writing.Unicode (count + 4)) (no_unicode (count + 3))) fails
     ∙ ap no_unicode (omega arith)
 no_run_again n count (y ∷ ds) rest number h low all wrong =
-    option_and_then_some (λ d. hex_behind (16 * n + d) ds) (hex_digit_value y) number h (λ d f g.
+    option_and_then_some (λ d. hex_after (16 * n + d) ds) (hex_digit_value y) number h (λ d f g.
     let k = hex_le (16 * n + d) ds number g in
     ap (λ o. digit_step o n count y (λ m. digits_at m (count + 1) (ds ++ rest))) f
     ∙ ap (λ b. cond b (digits_at (16 * n + d) (count + 1) (ds ++ rest)) (passes (count + 3))) (lt-ltb _ _ (let l : 16 * n + d < 2 ^ 32 = omega arith in l))

@@ -13,10 +13,11 @@ use Rattle.rx_units.specs.declared.options.Options.{Options}
 use Rattle.rx_units.specs.declared.quoted_text.reading.Stop.{Stop}
 use Rattle.rx_units.specs.declared.string_literal_parser.StringLiteralKind.{StringLiteralKind}
 use Rattle.rx_units.specs.declared.string_literal_parser.StringLiteralKind.TheVariants as quotes
+use Rattle.rx_units.specs.Digits.{PassesHex}
 use Rattle.rx_units.specs.Quoted.Answers.{IsStop, string_element_fault, string_fault_at}
-use Rattle.rx_units.specs.Quoted.Elements.{quote_of, SpellsElement, SpellsInString, character, escape, octal_zero, octal1, octal2_low, octal2_high, octal3, non_octal}
+use Rattle.rx_units.specs.Quoted.Elements.{quote_of, SpellsElement, SpellsInString, character, escape, legacy_octal, non_octal}
 use Rattle.rx_units.specs.Quoted.Escapes.{SpellsEscape, single, non_escape, null, hexadecimal, four_digits, braced, continuation}
-use Rattle.rx_units.specs.Quoted.Faults.{PassesHex, IsStringFault, nothing, followed, legacy, too_large, from_to}
+use Rattle.rx_units.specs.Quoted.Faults.{IsStringFault, nothing, followed, legacy, too_large, from_to}
 use Rattle.rx_units.specs.declared.string_literal_parser.StringFault.TheVariants as string_fault
 use Rattle.rx_units.specs.Quoted.Found.{is_closer, seen_front}
 use Rattle.rx_units.specs.Quoted.Fronts as read
@@ -41,15 +42,19 @@ no_large r n h e = let k : true ≡ false = sym (ap is_large e) ∙ h in cc k
 
 -- Digits that pass 32 bits stand here.
 pub record Large (n : ℕ) (us : List ℕ) : Type 0 where
-  pub digits : List ℕ
-  pub over : PassesHex us digits
-  pub count : n ≡ length digits + 3
+  pub w : List ℕ
+  pub count : ℕ
+  pub begins : us ≡ 92 ∷ w
+  pub over : PassesHex w count
+  pub count_is : n ≡ count + 3
 
 large_of : (n m : ℕ) (w : List ℕ) → Passes m w → read.too_large m ≡ read.too_large n → Large n (92 ∷ w)
 large_of n m w p h = record {
-  digits = p.digits;
+  w = w;
+  count = p.count;
+  begins = refl;
   over = p.over;
-  count = (let k : n ≡ m = cc h in k) ∙ p.count;
+  count_is = (let k : n ≡ m = cc h in k) ∙ p.count_is;
 }
 
 escape_large : (w : List ℕ) (n : ℕ) (r : read.EscapeRead) → read.escape_at w ≡ r → read.string_escape r w ≡ read.too_large n → Large n (92 ∷ w)
@@ -106,11 +111,7 @@ allowed_refused h k = let no : false ≡ true = sym h ∙ k in absurd (let n : �
 string_refused : (o : Options) (quote : ℕ) (e : Element) (w rest : List ℕ) → SpellsInString quote e w rest → is_refused o e.writing ≡ true → StrictLegacy o e
 string_refused o quote _ _ rest (character h) r = allowed_refused refl r
 string_refused o quote _ _ rest (escape {v} {k} {w} p) r = allowed_refused (escape_allowed o v k w rest p) r
-string_refused o quote _ _ rest (octal_zero h) r = record { what = legacy_kind.Octal; strict = r; is = refl }
-string_refused o quote _ _ rest (octal1 h k) r = record { what = legacy_kind.Octal; strict = r; is = refl }
-string_refused o quote _ _ rest (octal2_low h k l) r = record { what = legacy_kind.Octal; strict = r; is = refl }
-string_refused o quote _ _ rest (octal2_high h k) r = record { what = legacy_kind.Octal; strict = r; is = refl }
-string_refused o quote _ _ rest (octal3 h k l) r = record { what = legacy_kind.Octal; strict = r; is = refl }
+string_refused o quote _ _ rest (legacy_octal s) r = record { what = legacy_kind.Octal; strict = r; is = refl }
 string_refused o quote _ _ rest (non_octal h) r = record { what = legacy_kind.NonOctalDecimal; strict = r; is = refl }
 
 each_refused : (o : Options) (k : StringLiteralKind) (e : Element) (w rest : List ℕ) → SpellsElement (literals.String k) e w rest → is_refused o e.writing ≡ true → StrictLegacy o e
@@ -128,14 +129,14 @@ module _ (k : StringLiteralKind) (o : Options) (text : List ℕ) (p : Place) (re
 
   large_stands : (n : ℕ) → Large n p.rest → IsStringFault o text (string_fault.TooLargeUnicodeEscapeSequence (from_to p.offset (p.offset + n)))
   large_stands n l =
-      subst (λ (end : ℕ). IsStringFault o text (string_fault.TooLargeUnicodeEscapeSequence (from_to p.offset end))) (let e : p.offset + 3 + length l.digits ≡ p.offset + n = omega (arith, l.count) in e)
-      (too_large reached l.over)
+      subst (λ (end : ℕ). IsStringFault o text (string_fault.TooLargeUnicodeEscapeSequence (from_to p.offset end))) (let e : p.offset + 3 + l.count ≡ p.offset + n = omega (arith, l.count_is) in e)
+      (too_large reached l.begins l.over)
 
   nothing_here : (f : read.Front) → f ≡ read.front (literals.String k) p.rest → ((e : Element) (n : ℕ) → f ≡ read.element e n → ⊥) → (f ≡ read.closer → ⊥) → ((n : ℕ) → f ≡ read.too_large n → ⊥)
       → IsStringFault o text (string_fault.InvalidInput (from_to p.offset p.offset))
   nothing_here f h no_element no_closer no_large =
       nothing reached (nothing_stands (literals.String k) p.rest (λ e n x. no_element e n (h ∙ x)) (λ x. no_closer (h ∙ x)))
-      (λ digits x. no_large (length digits + 3) (h ∙ passes_front (literals.String k) p.rest digits x))
+      (λ w count e x. no_large (count + 3) (h ∙ passes_front (literals.String k) p.rest w count e x))
 
   -- where a string is not decoded, its fault stands
   pub string_fault_stands : (f : read.Front) → f ≡ read.front (literals.String k) p.rest
@@ -163,7 +164,7 @@ end_there l rest (read.invalid_hex n) h e = absurd (let no : ⊥ = cc e in no)
 end_there l rest (read.invalid_unicode n) h e = absurd (let no : ⊥ = cc e in no)
 end_there l rest (read.too_large n) h e = absurd (let no : ⊥ = cc e in no)
 
--- where elements lead behind an opening quote
+-- where elements lead after an opening quote
 pub stop_reached : (l : Literal) (o : Options) (text inner : List ℕ) (stop : Stop) → text ≡ quote_of l ∷ inner → IsStop l o inner stop → IsReached l o text (place stop.units stop.offset stop.rest.now)
 stop_reached l o text inner stop h s = record {
   inner = inner;

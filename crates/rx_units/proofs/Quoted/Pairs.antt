@@ -4,10 +4,11 @@ use Rattle.std.proofs.lemmas.Bool.Decides.{nat_tests}
 use Rattle.std.proofs.lemmas.Bool.{cond_both}
 use Rattle.std.proofs.lemmas.List.Elements.{All-cons, All-head, All-tail}
 use Rattle.std.specs.Prelude.{All}
+use Rattle.rx_base.specs.Characters.{is_lead, is_trail}
 use Rattle.rx_base.specs.SurrogatePair.{surrogate_pair}
 use Rattle.rx_units.specs.declared.code_point.CodePoint.{CodePoint}
 use Rattle.rx_units.specs.Cursor.{AreEnds}
-use Rattle.rx_units.specs.Quoted.Values.{code_points, is_lead, is_trail, pair}
+use Rattle.rx_units.specs.Quoted.Values.{code_points, pair}
 
 -- Each ends where a unit did.
 pub ends_joined : (text : List ℕ) (first : ℕ) (us : List CodePoint) → AreEnds text first us → AreEnds text first (code_points us)

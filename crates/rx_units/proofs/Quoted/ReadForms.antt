@@ -1,12 +1,13 @@
--- What may be read of an escape behind `x` and `u`, and of a digit behind a backslash. What holds of each such answer holds of what is read.
+-- What may be read of an escape after `x` and `u`, and of a digit after a backslash. What holds of each such answer holds of what is read.
 use Rattle.std.proofs.Common.{ℕ, ◌+◌, ◌*◌, ◌^◌, ◌==◌, ◌&&◌, cond, List, [], ◌∷◌, Option, Some, None, nat_lt, nat_le}
-use Rattle.rx_tables.specs.Characters.{hex_digit_value, is_octal_digit, is_within}
+use Rattle.rx_base.specs.Characters.{is_within}
+use Rattle.rx_tables.specs.Characters.{hex_digit_value, is_octal_digit}
 use Rattle.rx_units.specs.declared.quoted_text.element.Writing.{Writing}
 use Rattle.rx_units.specs.declared.quoted_text.element.Writing.TheVariants as writing
 use Rattle.rx_units.specs.declared.quoted_text.element.Element.{Element}
 use Rattle.rx_units.specs.declared.string_literal_parser.LegacyKind.TheVariants as legacy_kind
 use Rattle.rx_units.specs.Quoted.Elements.{written}
-use Rattle.rx_units.specs.Quoted.Fronts.{EscapeRead, escaped, no_hex, no_unicode, passes, Front, element, nothing, front_digit, hex_pair, hex_at, digit_step, digits_at, unicode_behind, octal_at, legacy_at, digit_behind, digit_at}
+use Rattle.rx_units.specs.Quoted.Fronts.{EscapeRead, escaped, no_hex, no_unicode, passes, Front, element, nothing, front_digit, hex_pair, hex_at, digit_step, digits_at, unicode_after, octal_at, legacy_at, digit_after, digit_at}
 use Rattle.rx_units.specs.Digits.{octal}
 use Rattle.rx_units.proofs.Choices.{either_way}
 
@@ -30,7 +31,7 @@ module _ (P : EscapeRead → Type 0) (spelled : (v : ℕ) (k : Writing) (n : ℕ
     digits_read n count [] = none (count + 3)
     digits_read n count (x ∷ xs) = step_read (hex_digit_value x) n count x xs (λ m. digits_read m (count + 1) xs)
 
-    pub unicode_read : (o : Option ℕ) (w : List ℕ) → P (unicode_behind o w)
+    pub unicode_read : (o : Option ℕ) (w : List ℕ) → P (unicode_after o w)
     unicode_read (Some v) w = spelled v writing.Unicode 6
     unicode_read None [] = none 2
     unicode_read None (x ∷ xs) = either_way P (x == 123) (digits_at 0 0 xs) (no_unicode 2) (digits_read 0 0 xs) (none 2)
@@ -56,10 +57,10 @@ module _ (P : Front → Type 0) (spelled : (e : Element) (n : ℕ) → P (elemen
   legacy_read none (c ∷ w) = either_way P (is_octal_digit c) (octal_at c w) (element (written c (writing.Legacy legacy_kind.NonOctalDecimal)) 2) (octal_read c w) (spelled (written c (writing.Legacy legacy_kind.NonOctalDecimal)) 2)
 
   -- in a template
-  pub digit_behind_read : (c : ℕ) (w : List ℕ) → P (digit_behind c w)
-  digit_behind_read c [] = spelled (written c writing.NotEscape) 2
-  digit_behind_read c (d ∷ w) = either_way P (c == 48) (element (written d writing.NotEscape) 3) (element (written c writing.NotEscape) 2) (spelled (written d writing.NotEscape) 3) (spelled (written c writing.NotEscape) 2)
+  pub digit_after_read : (c : ℕ) (w : List ℕ) → P (digit_after c w)
+  digit_after_read c [] = spelled (written c writing.NotEscape) 2
+  digit_after_read c (d ∷ w) = either_way P (c == 48) (element (written d writing.NotEscape) 3) (element (written c writing.NotEscape) 2) (spelled (written d writing.NotEscape) 3) (spelled (written c writing.NotEscape) 2)
 
   pub digit_read : P (nothing 0) → (w : List ℕ) → P (digit_at w)
   digit_read none [] = none
-  digit_read none (c ∷ w) = digit_behind_read c w
+  digit_read none (c ∷ w) = digit_after_read c w

@@ -9,10 +9,10 @@ use Rattle.rx_units.specs.declared.options.Options.{Options}
 use Rattle.rx_units.specs.declared.quoted_text.literal.Literal.TheVariants as literals
 use Rattle.rx_units.specs.declared.string_literal_parser.StringLiteralKind.TheVariants as quotes
 use Rattle.rx_units.specs.Quoted.Escapes.{SpellsTerminator, alone, carriage_return, carriage_return_line_feed}
-use Rattle.rx_units.specs.Quoted.Elements.{quote_of, SpellsElement, SpellsInString, SpellsInTemplate, character, escape, octal_zero, octal1, octal2_low, octal2_high, octal3, non_octal, dollar, terminator, zero_digit, digit}
+use Rattle.rx_units.specs.Quoted.Elements.{quote_of, SpellsElement, SpellsInString, SpellsInTemplate, character, escape, legacy_octal, non_octal, dollar, terminator, zero_digit, digit}
 use Rattle.rx_units.specs.Quoted.Fronts.{element, closer, front}
 use Rattle.rx_units.specs.Quoted.Values.{text_units}
-use Rattle.rx_units.specs.Quoted.Texts.{Place, behind, IsAllowed, Leads, no_element, one_more, opened, IsReached, IsDecoded, QuotedRow, after_elements}
+use Rattle.rx_units.specs.Quoted.Texts.{Place, next_place, IsAllowed, Leads, no_element, one_more, opened, IsReached, IsDecoded, QuotedRow, after_elements}
 use Rattle.rx_units.specs.Sequences.{ElementRow}
 use Rattle.rx_units.proofs.Quoted.Fronts.{spelled_front, quote_front}
 use Rattle.rx_units.proofs.Sequences.{row_append, one}
@@ -25,11 +25,7 @@ some_terminator _ _ rest h carriage_return_line_feed = cc h
 none_in_string : (quote : ℕ) (e : Element) (w rest : List ℕ) → w ≡ [] → SpellsInString quote e w rest → ⊥
 none_in_string quote _ _ rest h (character k) = cc h
 none_in_string quote _ _ rest h (escape k) = cc h
-none_in_string quote _ _ rest h (octal_zero k) = cc h
-none_in_string quote _ _ rest h (octal1 k l) = cc h
-none_in_string quote _ _ rest h (octal2_low k l m) = cc h
-none_in_string quote _ _ rest h (octal2_high k l) = cc h
-none_in_string quote _ _ rest h (octal3 k l m) = cc h
+none_in_string quote _ _ rest h (legacy_octal s) = cc h
 none_in_string quote _ _ rest h (non_octal k) = cc h
 
 none_in_template : (e : Element) (w rest : List ℕ) → w ≡ [] → SpellsInTemplate e w rest → ⊥
@@ -68,7 +64,7 @@ module _ (l : Literal) (o : Options) where
   between p rest = take (length p.rest - length rest) p.rest
 
   abbrev after_allowed : Place → Element → List ℕ → Place
-  after_allowed p e rest = behind o p e (between p rest) rest
+  after_allowed p e rest = next_place o p e (between p rest) rest
 
   are_between : (p : Place) (w rest : List ℕ) → p.rest ≡ w ++ rest → between p rest ≡ w
   are_between p w rest h =
@@ -83,7 +79,7 @@ module _ (l : Literal) (o : Options) where
   leads_row {from} (one_more {p} e w rest a h s k) =
       let r = leads_row a in
       let same = are_between p w rest h in
-      (r.0 ++ (e ∷ []), row_append AllowedAt after_allowed r.0 (e ∷ []) from from.rest p p.rest (behind o p e w rest) rest r.1 (w, rest, h, (h, s, k), (ap (λ v. behind o p e v rest) same, refl)))
+      (r.0 ++ (e ∷ []), row_append AllowedAt after_allowed r.0 (e ∷ []) from from.rest p p.rest (next_place o p e w rest) rest r.1 (w, rest, h, (h, s, k), (ap (λ v. next_place o p e v rest) same, refl)))
 
   -- no element that is allowed stands at a place
   abbrev pub IsStuck : Place → Type 0
@@ -115,14 +111,14 @@ module _ (l : Literal) (o : Options) where
   of_allowed : (es : List Element) (p q : Place) → AllowedRow es p q → (row : QuotedRow l es p.rest q.rest) × All (IsAllowed o) es × (after_elements l o p es q.rest row ≡ q)
   of_allowed [] p q r = ((refl, r.1), All-nil (IsAllowed o), r.0)
   of_allowed (e ∷ es) p q r =
-      let same = ap (λ w. behind o p e w r.1) (are_between p r.0 r.1 r.2) in
-      let more = of_allowed es (behind o p e r.0 r.1) q (subst (λ from. ElementRow AllowedAt after_allowed es from r.1 q q.rest) same r.4) in
+      let same = ap (λ w. next_place o p e w r.1) (are_between p r.0 r.1 r.2) in
+      let more = of_allowed es (next_place o p e r.0 r.1) q (subst (λ from. ElementRow AllowedAt after_allowed es from r.1 q q.rest) same r.4) in
       ((r.0, r.1, r.2, r.3.1, more.0), All-cons (IsAllowed o) e es r.3.2 more.1, more.2)
 
   row_leads : {from : Place} (p : Place) → Leads l o from p → (es : List Element) (rest : List ℕ) (row : QuotedRow l es p.rest rest) → All (IsAllowed o) es →
       Leads l o from (after_elements l o p es rest row) × ((after_elements l o p es rest row).rest ≡ rest)
   row_leads p a [] rest row k = (a, row.1)
-  row_leads p a (e ∷ es) rest row k = row_leads (behind o p e row.0 row.1) (one_more e row.0 row.1 a row.2 row.3 (All-head (IsAllowed o) e es k)) es rest row.4 (All-tail (IsAllowed o) e es k)
+  row_leads p a (e ∷ es) rest row k = row_leads (next_place o p e row.0 row.1) (one_more e row.0 row.1 a row.2 row.3 (All-head (IsAllowed o) e es k)) es rest row.4 (All-tail (IsAllowed o) e es k)
 
   -- What a text that is decoded is, in elements.
   abbrev IsOfElements : List ℕ → List CodePoint → Type 0

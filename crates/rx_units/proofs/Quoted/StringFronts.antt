@@ -3,16 +3,18 @@ use Rattle.std.proofs.Common.{◌≡◌, ℕ, ◌+◌, ◌*◌, ◌==◌, true, 
 use Rattle.std.proofs.lemmas.Bool.Decides.{nat_tests}
 use Rattle.std.proofs.lemmas.Bool.{eqb-true, cond-false, cases_Bool}
 use Rattle.std.proofs.Math.Bool.{and-false}
-use Rattle.rx_tables.specs.Characters.{is_octal_digit, is_within, is_decimal_digit}
+use Rattle.rx_base.specs.Characters.{is_within}
+use Rattle.rx_tables.specs.Characters.{is_octal_digit, is_decimal_digit}
 use Rattle.rx_units.specs.declared.quoted_text.element.Writing.{Writing}
 use Rattle.rx_units.specs.declared.quoted_text.element.Writing.TheVariants as writing
 use Rattle.rx_units.specs.declared.quoted_text.element.Element.{Element}
 use Rattle.rx_units.specs.declared.string_literal_parser.LegacyKind.TheVariants as legacy_kind
-use Rattle.rx_units.specs.Quoted.Elements.{written, is_string_character, SpellsInString, character, escape, octal_zero, octal1, octal2_low, octal2_high, octal3, non_octal}
+use Rattle.rx_units.specs.Quoted.Elements.{written, is_string_character, SpellsInString, character, escape, legacy_octal, non_octal}
 use Rattle.rx_units.specs.Quoted.Fronts.{EscapeRead, escaped, digit, unended, no_hex, no_unicode, passes, element, escape_at, octal_at, legacy_at, string_escape, string_front}
 use Rattle.rx_units.proofs.Quoted.Escapes.{EscapeFront, escape_spelled, spelled_escape}
 use Rattle.rx_units.proofs.Quoted.EscapeDigits.{BeginsWithDigit, digit_escape, digit_found}
 use Rattle.rx_units.specs.Digits.{front_is, octal}
+use Rattle.rx_units.specs.OctalEscapes.{octal_zero, octal1, octal2_low, octal2_high, octal3}
 use Rattle.rx_units.proofs.Choices.{both, chosen, low_next}
 use Rattle.rx_units.proofs.Digits.{high_octal, nonzero_octal, zero_next}
 
@@ -96,11 +98,11 @@ module _ (quote : ℕ) (apart : (92 == quote) ≡ false) where
   pub spelled_string : (e : Element) (w rest : List ℕ) → SpellsInString quote e w rest → string_front quote (w ++ rest) ≡ element e (length w)
   spelled_string _ _ rest (character {c} h) = let p = is_plain c h in cond-false _ _ _ p.no_quote ∙ cond-false _ _ _ p.no_backslash ∙ cond-false _ _ _ p.no_line
   spelled_string _ _ rest (escape {v} {k} {w} p) = at_backslash (w ++ rest) (escaped v k (length w + 1)) (spelled_escape v k w rest p) ∙ ap (element (written v k)) (omega arith)
-  spelled_string _ _ rest (octal_zero h) = let z = zero_row rest h in legacy_read 48 rest z.0 ∙ z.1
-  spelled_string _ _ rest (octal1 {c} h k) = legacy_read c rest (digit_there c rest (grind (arith, nat_tests))) ∙ one_row c rest h k
-  spelled_string _ _ rest (octal2_low {c} {d} h k n) = legacy_read c (d ∷ rest) (pair_there c d rest (grind (arith, nat_tests)) k) ∙ two_low_row c d rest h k n
-  spelled_string _ _ rest (octal2_high {c} {d} h k) = legacy_read c (d ∷ rest) (pair_there c d rest (grind (arith, nat_tests)) k) ∙ two_high_row c d rest h k
-  spelled_string _ _ rest (octal3 {c} {d} {f} h k l) = legacy_read c (d ∷ f ∷ rest) (pair_there c d (f ∷ rest) (grind (arith, nat_tests)) k) ∙ three_row c d f rest h k l
+  spelled_string _ _ rest (legacy_octal (octal_zero h)) = let z = zero_row rest h in legacy_read 48 rest z.0 ∙ z.1
+  spelled_string _ _ rest (legacy_octal (octal1 {c} h k)) = legacy_read c rest (digit_there c rest (grind (arith, nat_tests))) ∙ one_row c rest h k
+  spelled_string _ _ rest (legacy_octal (octal2_low {c} {d} h k n)) = legacy_read c (d ∷ rest) (pair_there c d rest (grind (arith, nat_tests)) k) ∙ two_low_row c d rest h k n
+  spelled_string _ _ rest (legacy_octal (octal2_high {c} {d} h k)) = legacy_read c (d ∷ rest) (pair_there c d rest (grind (arith, nat_tests)) k) ∙ two_high_row c d rest h k
+  spelled_string _ _ rest (legacy_octal (octal3 {c} {d} {f} h k l)) = legacy_read c (d ∷ f ∷ rest) (pair_there c d (f ∷ rest) (grind (arith, nat_tests)) k) ∙ three_row c d f rest h k l
   spelled_string _ _ rest (non_octal {c} h) = legacy_read c rest (digit_there c rest (grind (arith, nat_tests))) ∙ last_row c rest h
 
   -- an element that stands at the front
@@ -124,15 +126,15 @@ module _ (quote : ℕ) (apart : (92 == quote) ≡ false) where
       → element (written (octal c) (writing.Legacy legacy_kind.Octal)) 2 ≡ element e n → StringFront e n (92 ∷ c ∷ w)
   one_digit c w e n o z x h = elim (cases_Bool (c == 48)) [
     | inl s ↦ subst (λ c. StringFront e n (92 ∷ c ∷ w)) (sym (eqb-true c 48 s))
-        (give (92 ∷ 48 ∷ []) w (octal_zero (zero_next c w s z x)) refl (ap (λ (c : ℕ). element (written (octal c) (writing.Legacy legacy_kind.Octal)) 2) (sym (eqb-true c 48 s)) ∙ h))
-    | inr s ↦ give (92 ∷ c ∷ []) w (octal1 (nonzero_octal c o s) x) refl h
+        (give (92 ∷ 48 ∷ []) w (legacy_octal (octal_zero (zero_next c w s z x))) refl (ap (λ (c : ℕ). element (written (octal c) (writing.Legacy legacy_kind.Octal)) 2) (sym (eqb-true c 48 s)) ∙ h))
+    | inr s ↦ give (92 ∷ c ∷ []) w (legacy_octal (octal1 (nonzero_octal c o s) x)) refl h
   ]
 
   two_digits : (c d : ℕ) (w : List ℕ) (e : Element) (n : ℕ) → is_octal_digit c ≡ true → is_octal_digit d ≡ true → (is_within 48 51 c && front_is is_octal_digit w) ≡ false
       → element (written (8 * octal c + octal d) (writing.Legacy legacy_kind.Octal)) 3 ≡ element e n → StringFront e n (92 ∷ c ∷ d ∷ w)
   two_digits c d w e n o p z h = elim (cases_Bool (is_within 48 51 c)) [
-    | inl s ↦ give (92 ∷ c ∷ d ∷ []) w (octal2_low s p (low_next _ _ s z)) refl h
-    | inr s ↦ give (92 ∷ c ∷ d ∷ []) w (octal2_high (high_octal c o s) p) refl h
+    | inl s ↦ give (92 ∷ c ∷ d ∷ []) w (legacy_octal (octal2_low s p (low_next _ _ s z))) refl h
+    | inr s ↦ give (92 ∷ c ∷ d ∷ []) w (legacy_octal (octal2_high (high_octal c o s) p)) refl h
   ]
 
   octal_found : (c : ℕ) (w : List ℕ) (e : Element) (n : ℕ) → is_octal_digit c ≡ true → (c == 48 && not (front_is is_decimal_digit w)) ≡ false → octal_at c w ≡ element e n → StringFront e n (92 ∷ c ∷ w)
@@ -143,7 +145,7 @@ module _ (quote : ℕ) (apart : (92 == quote) ≡ false) where
   ]
   octal_found c (d ∷ f ∷ w) e n o z h = elim (chosen (is_octal_digit d) h) [
     | inl p ↦ elim (chosen (is_within 48 51 c && is_octal_digit f) p.1) [
-      | inl q ↦ let b = both (is_within 48 51 c) (is_octal_digit f) q.0 in give (92 ∷ c ∷ d ∷ f ∷ []) w (octal3 b.0 p.0 b.1) refl q.1
+      | inl q ↦ let b = both (is_within 48 51 c) (is_octal_digit f) q.0 in give (92 ∷ c ∷ d ∷ f ∷ []) w (legacy_octal (octal3 b.0 p.0 b.1)) refl q.1
       | inr q ↦ two_digits c d (f ∷ w) e n o p.0 q.0 q.1
     ]
     | inr p ↦ one_digit c (d ∷ f ∷ w) e n o z p.0 p.1

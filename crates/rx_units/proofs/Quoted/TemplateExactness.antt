@@ -73,9 +73,9 @@ module _ (o : Options) (text : List ℕ) where
   cause _ (no_code_point {p} {digits} a n) =
       caused p (read.invalid_unicode (length digits + 3)) (template_fault.InvalidUnicodeEscape (from_to p.offset (p.offset + 3 + length digits))) a (no_code_point_read p.rest digits n) refl refl
       (ap (λ (end : ℕ). template_fault.InvalidUnicodeEscape (from_to p.offset end)) (let e : p.offset + 3 + length digits ≡ p.offset + (length digits + 3) = omega arith in e))
-  cause _ (too_large {p} {digits} a l) =
-      caused p (read.too_large (length digits + 3)) (template_fault.TooLargeUnicodeEscapeSequence (from_to p.offset (p.offset + 3 + length digits))) a (passes_front literals.Template p.rest digits l) refl refl
-      (ap (λ (end : ℕ). template_fault.TooLargeUnicodeEscapeSequence (from_to p.offset end)) (let e : p.offset + 3 + length digits ≡ p.offset + (length digits + 3) = omega arith in e))
+  cause _ (too_large {p} {w} {count} a e l) =
+      caused p (read.too_large (count + 3)) (template_fault.TooLargeUnicodeEscapeSequence (from_to p.offset (p.offset + 3 + count))) a (passes_front literals.Template p.rest w count e l) refl refl
+      (ap (λ (end : ℕ). template_fault.TooLargeUnicodeEscapeSequence (from_to p.offset end)) (let e : p.offset + 3 + count ≡ p.offset + (count + 3) = omega arith in e))
 
   -- At most one fault stands in a template.
   pub one_fault : (f g : TemplateFault) → IsTemplateFault o text f → IsTemplateFault o text g → f ≡ g

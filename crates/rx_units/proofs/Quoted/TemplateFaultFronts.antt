@@ -4,7 +4,7 @@ use Rattle.rx_tables.specs.Characters.{hex_digit_value}
 use Rattle.rx_units.specs.declared.quoted_text.literal.Literal.TheVariants as literals
 use Rattle.rx_units.specs.Quoted.Elements.{is_open_brace}
 use Rattle.rx_units.specs.Quoted.Faults.{IsNoCodePoint}
-use Rattle.rx_units.specs.Quoted.Fronts.{EscapeRead, unended, no_hex, no_unicode, nothing, substitution, invalid_hex, invalid_unicode, front_digit, hex_pair, hex_at, four_at, digits_at, braces_at, unicode_behind, escape_at, template_escape, front}
+use Rattle.rx_units.specs.Quoted.Fronts.{EscapeRead, unended, no_hex, no_unicode, nothing, substitution, invalid_hex, invalid_unicode, front_digit, hex_pair, hex_at, four_at, digits_at, braces_at, unicode_after, escape_at, template_escape, front}
 use Rattle.rx_units.proofs.Quoted.HexDigits.{no_run_again}
 use Rattle.rx_units.proofs.Quoted.Escapes.{brace_no_four}
 use Rattle.rx_units.specs.Digits.{front_is, hex_number, is_hex_digit}
@@ -38,7 +38,7 @@ no_brace_read [] h = refl
 no_brace_read (c ∷ w) h = ap (λ b. cond b (digits_at 0 0 w) (no_unicode 2)) h
 
 module _ (us : List ℕ) where
-  -- how an escape is read behind its backslash
+  -- how an escape is read after its backslash
   by_escape : (w : List ℕ) (r : EscapeRead) → us ≡ 92 ∷ w → escape_at w ≡ r → front literals.Template us ≡ template_escape r w
   unfolding front
   by_escape w r h e = ap (front literals.Template) h ∙ ap (λ r. template_escape r w) e
@@ -66,13 +66,13 @@ module _ (us : List ℕ) where
   pub no_digits_read : (rest : List ℕ) → us ≡ 92 ∷ 117 ∷ rest → front_is is_open_brace rest ≡ false
       → ((a b c d v : ℕ) (more : List ℕ) → rest ≡ a ∷ b ∷ c ∷ d ∷ more → hex_number (a ∷ b ∷ c ∷ d ∷ []) ≡ Some v → ⊥) → front literals.Template us ≡ invalid_unicode 2
   unfolding escape_at
-  no_digits_read rest h brace none = by_escape (117 ∷ rest) (no_unicode 2) h (ap (λ o. unicode_behind o rest) (no_four_read rest none) ∙ no_brace_read rest brace)
+  no_digits_read rest h brace none = by_escape (117 ∷ rest) (no_unicode 2) h (ap (λ o. unicode_after o rest) (no_four_read rest none) ∙ no_brace_read rest brace)
 
   pub no_code_point_read : (digits : List ℕ) → IsNoCodePoint us digits → front literals.Template us ≡ invalid_unicode (length digits + 3)
   unfolding escape_at
   no_code_point_read digits n =
       by_escape (117 ∷ 123 ∷ (digits ++ n.rest)) (no_unicode (length digits + 3)) n.whole
-      (ap (λ o. unicode_behind o (123 ∷ (digits ++ n.rest))) (brace_no_four (digits ++ n.rest))
+      (ap (λ o. unicode_after o (123 ∷ (digits ++ n.rest))) (brace_no_four (digits ++ n.rest))
       ∙ no_run_again 0 0 digits n.rest n.number n.number_is n.fits n.all (λ some top. n.wrong (not_empty digits some) top)
       ∙ ap no_unicode (omega arith))
     where

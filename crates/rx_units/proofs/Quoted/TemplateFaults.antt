@@ -12,7 +12,7 @@ use Rattle.rx_units.specs.declared.template_literal_parser.TemplateFault.TheVari
 use Rattle.rx_units.specs.Quoted.Answers.{template_element_fault, template_fault_at}
 use Rattle.rx_units.specs.Quoted.Escapes.{is_line_feed, single_escape_value}
 use Rattle.rx_units.specs.Quoted.Elements.{written, is_open_brace, SpellsInTemplate, character, dollar, terminator, escape, zero_digit, digit}
-use Rattle.rx_units.specs.Quoted.Faults.{PassesHex, IsNoCodePoint, IsTemplateFault, ends, ends_escape, followed, substitution, not_escape, no_hex_digit, one_hex_digit, no_four_digits, no_code_point, too_large, from_to}
+use Rattle.rx_units.specs.Quoted.Faults.{IsNoCodePoint, IsTemplateFault, ends, ends_escape, followed, substitution, not_escape, no_hex_digit, one_hex_digit, no_four_digits, no_code_point, too_large, from_to}
 use Rattle.rx_units.specs.Quoted.Found.{is_closer}
 use Rattle.rx_units.specs.Quoted.Fronts as read
 use Rattle.rx_units.specs.Quoted.Texts.{Place, IsReached, byte_count, is_refused}
@@ -20,7 +20,7 @@ use Rattle.rx_units.proofs.Quoted.HexDigits.{NoRun, no_run}
 use Rattle.rx_units.proofs.Quoted.Escapes.{Passes, passes_found}
 use Rattle.rx_units.proofs.Quoted.EscapeDigits.{digit_found}
 use Rattle.rx_units.proofs.Quoted.Outcomes.{allowed_refused, escape_allowed, followed_there}
-use Rattle.rx_units.proofs.Quoted.ReadForms.{hex_read, unicode_read, digit_behind_read}
+use Rattle.rx_units.proofs.Quoted.ReadForms.{hex_read, unicode_read, digit_after_read}
 use Rattle.rx_units.proofs.Quoted.Widths.{taken}
 use Rattle.rx_units.specs.Digits.{front_is, hex_number, is_hex_digit}
 use Rattle.rx_units.proofs.Choices.{chosen, either_way}
@@ -46,10 +46,10 @@ NoBad r = is_bad r ≡ false
 no_bad : (r s : read.EscapeRead) → NoBad r → r ≡ s → is_bad s ≡ true → ⊥
 no_bad r s h e k = let n : false ≡ true = sym h ∙ ap is_bad e ∙ k in cc n
 
-behind_bad : (c : ℕ) (w : List ℕ) (r : read.EscapeRead) (o : Option ℕ) → is_bad r ≡ true → read.escape_behind o c w ≡ r
-    → ((c ≡ 120) × (read.hex_at w ≡ r)) ⊎ ((c ≡ 117) × (read.unicode_behind (read.four_at w) w ≡ r))
-behind_bad c w r (Some x) b h = absurd (no_bad (read.escaped x writing.Plain 2) r refl h b)
-behind_bad c w r None b h = elim (chosen (is_decimal_digit c) h) [
+after_bad : (c : ℕ) (w : List ℕ) (r : read.EscapeRead) (o : Option ℕ) → is_bad r ≡ true → read.escape_after o c w ≡ r
+    → ((c ≡ 120) × (read.hex_at w ≡ r)) ⊎ ((c ≡ 117) × (read.unicode_after (read.four_at w) w ≡ r))
+after_bad c w r (Some x) b h = absurd (no_bad (read.escaped x writing.Plain 2) r refl h b)
+after_bad c w r None b h = elim (chosen (is_decimal_digit c) h) [
   | inl p ↦ absurd (no_bad (cond (c == 48 && not (front_is is_decimal_digit w)) (read.escaped 0 writing.Plain 2) read.digit) r
       (either_way NoBad (c == 48 && not (front_is is_decimal_digit w)) (read.escaped 0 writing.Plain 2) read.digit refl refl) p.1 b)
   | inr p ↦ elim (chosen (c == 120) p.1) [
@@ -57,7 +57,7 @@ behind_bad c w r None b h = elim (chosen (is_decimal_digit c) h) [
     | inr q ↦ elim (chosen (c == 117) q.1) [
       | inl s ↦ inr (eqb-true c 117 s.0, s.1)
       | inr s ↦ elim (chosen (is_line_terminator c) s.1) [
-        | inl t ↦ absurd (no_bad (read.line_behind c w) r (either_way NoBad (c == 13 && front_is is_line_feed w) (read.escaped 10 writing.LineContinuation 3) (read.escaped c writing.LineContinuation 2) refl refl) t.1 b)
+        | inl t ↦ absurd (no_bad (read.line_after c w) r (either_way NoBad (c == 13 && front_is is_line_feed w) (read.escaped 10 writing.LineContinuation 3) (read.escaped c writing.LineContinuation 2) refl refl) t.1 b)
         | inr t ↦ absurd (no_bad (read.escaped c writing.Plain 2) r refl t.1 b)
       ]
     ]
@@ -68,12 +68,12 @@ behind_bad c w r None b h = elim (chosen (is_decimal_digit c) h) [
 data Bad (w : List ℕ) (r : read.EscapeRead) : Type 0 where
   at_end : w ≡ [] → read.unended ≡ r → Bad w r
   at_hex : (t : List ℕ) → w ≡ 120 ∷ t → read.hex_at t ≡ r → Bad w r
-  at_unicode : (t : List ℕ) → w ≡ 117 ∷ t → read.unicode_behind (read.four_at t) t ≡ r → Bad w r
+  at_unicode : (t : List ℕ) → w ≡ 117 ∷ t → read.unicode_after (read.four_at t) t ≡ r → Bad w r
 
 bad_found : (w : List ℕ) (r : read.EscapeRead) → is_bad r ≡ true → read.escape_at w ≡ r → Bad w r
 unfolding read.escape_at
 bad_found [] r b h = at_end refl h
-bad_found (c ∷ w) r b h = elim (behind_bad c w r (single_escape_value c) b h) [
+bad_found (c ∷ w) r b h = elim (after_bad c w r (single_escape_value c) b h) [
   | inl p ↦ at_hex w (ap (λ c. c ∷ w) p.0) p.1
   | inr p ↦ at_unicode w (ap (λ c. c ∷ w) p.0) p.1
 ]
@@ -92,7 +92,7 @@ is_unicodish _ = false
 no_hexish : (w : List ℕ) (r : read.EscapeRead) → read.hex_at w ≡ r → is_hexish r ≡ false → ⊥
 no_hexish w r h k = let n : true ≡ false = sym (hex_read (λ r. is_hexish r ≡ true) (λ v k n. refl) (λ n. refl) w) ∙ ap is_hexish h ∙ k in cc n
 
-no_unicodish : (w : List ℕ) (r : read.EscapeRead) → read.unicode_behind (read.four_at w) w ≡ r → is_unicodish r ≡ false → ⊥
+no_unicodish : (w : List ℕ) (r : read.EscapeRead) → read.unicode_after (read.four_at w) w ≡ r → is_unicodish r ≡ false → ⊥
 no_unicodish w r h k = let n : true ≡ false = sym (unicode_read (λ r. is_unicodish r ≡ true) (λ v k n. refl) (λ n. refl) (λ n. refl) (read.four_at w) w) ∙ ap is_unicodish h ∙ k in cc n
 
 -- what is read where no element is
@@ -148,7 +148,7 @@ escape_fault : (w : List ℕ) (f : read.Front) (r : read.EscapeRead) → is_faul
 escape_fault w f (read.escaped v k n) b e h = absurd (no_fault (read.element (written v k) n) f refl h b)
 escape_fault w f read.digit b e h =
     let d = digit_found w e in
-    let some : NoFault (read.digit_at w) = subst (λ w. NoFault (read.digit_at w)) (sym d.whole) (digit_behind_read NoFault (λ e n. refl) d.c d.rest) in
+    let some : NoFault (read.digit_at w) = subst (λ w. NoFault (read.digit_at w)) (sym d.whole) (digit_after_read NoFault (λ e n. refl) d.c d.rest) in
     absurd (no_fault (read.digit_at w) f some h b)
 escape_fault w f read.unended b e h = (refl, h)
 escape_fault w f (read.no_hex n) b e h = (refl, h)
@@ -162,7 +162,7 @@ no_front_digit (c ∷ w) h = ap is_some h
 no_four : (t : List ℕ) → read.four_at t ≡ None → (a b c d v : ℕ) (more : List ℕ) → t ≡ a ∷ b ∷ c ∷ d ∷ more → hex_number (a ∷ b ∷ c ∷ d ∷ []) ≡ Some v → ⊥
 no_four t none a b c d v more h k = let e : None ≡ Some v = sym none ∙ ap read.four_at h ∙ k in cc e
 
--- a run of digits that makes no code point, behind `\u{`
+-- a run of digits that makes no code point, after `\u{`
 not_code_point : (x m : ℕ) (xs : List ℕ) → x ≡ 123 → (r : NoRun 0 0 xs m) → IsNoCodePoint (92 ∷ 117 ∷ x ∷ xs) r.digits
 not_code_point x m xs h r = record {
   rest = r.rest;
@@ -203,7 +203,7 @@ module _ (o : Options) (text : List ℕ) (p : Place) (reached : IsReached litera
   two_stand : (t : List ℕ) (n : ℕ) → p.rest ≡ 92 ∷ 117 ∷ t → read.four_at t ≡ None → front_is is_open_brace t ≡ false → 2 ≡ n → IsTemplateFault o text (template_fault.InvalidUnicodeEscape (from_to p.offset (p.offset + n)))
   two_stand t n e none b k = subst (λ (n : ℕ). IsTemplateFault o text (template_fault.InvalidUnicodeEscape (from_to p.offset (p.offset + n)))) k (no_four_digits reached e b (no_four t none))
 
-  unicode_stands : (t : List ℕ) (n : ℕ) → p.rest ≡ 92 ∷ 117 ∷ t → (x : Option ℕ) → read.four_at t ≡ x → read.unicode_behind x t ≡ read.no_unicode n
+  unicode_stands : (t : List ℕ) (n : ℕ) → p.rest ≡ 92 ∷ 117 ∷ t → (x : Option ℕ) → read.four_at t ≡ x → read.unicode_after x t ≡ read.no_unicode n
       → IsTemplateFault o text (template_fault.InvalidUnicodeEscape (from_to p.offset (p.offset + n)))
   unicode_stands t n e (Some v) f h = absurd (let no : ⊥ = cc h in no)
   unicode_stands [] n e None f h = two_stand [] n e f refl (cc h)
@@ -214,8 +214,8 @@ module _ (o : Options) (text : List ℕ) (p : Place) (reached : IsReached litera
 
   large_stands : (w : List ℕ) (n : ℕ) → p.rest ≡ 92 ∷ w → Passes n w → IsTemplateFault o text (template_fault.TooLargeUnicodeEscapeSequence (from_to p.offset (p.offset + n)))
   large_stands w n e l =
-      subst (λ (end : ℕ). IsTemplateFault o text (template_fault.TooLargeUnicodeEscapeSequence (from_to p.offset end))) (let k : p.offset + 3 + length l.digits ≡ p.offset + n = omega (arith, l.count) in k)
-      (too_large reached (subst (λ us. PassesHex us l.digits) (sym e) l.over))
+      subst (λ (end : ℕ). IsTemplateFault o text (template_fault.TooLargeUnicodeEscapeSequence (from_to p.offset end))) (let k : p.offset + 3 + l.count ≡ p.offset + n = omega (arith, l.count_is) in k)
+      (too_large reached e l.over)
 
   bad_stands : (w : List ℕ) (r : read.EscapeRead) → read.escape_at w ≡ r → is_bad r ≡ true → p.rest ≡ 92 ∷ w → Bad w r → IsTemplateFault o text (template_fault_at (front_of r) p.offset p.rest)
   bad_stands w (read.escaped v k n) is b e x = absurd (let no : ⊥ = cc b in no)

@@ -2,14 +2,15 @@
 use Rattle.std.proofs.Common.{◌≡◌, ℕ, ◌==◌, Bool, true, false, cond, not, ◌&&◌, ◌||◌, List, [], ◌∷◌, ◌++◌, length, refl, sym, ap, ◌∙◌, subst, arith, inl, inr}
 use Rattle.std.proofs.lemmas.Bool.Decides.{nat_tests}
 use Rattle.std.proofs.lemmas.Bool.{eqb-true, cond-true, cond-false}
-use Rattle.rx_tables.specs.Characters.{is_within, is_decimal_digit}
+use Rattle.rx_base.specs.Characters.{is_within}
+use Rattle.rx_tables.specs.Characters.{is_decimal_digit}
 use Rattle.rx_units.specs.Characters.{is_line_terminator}
 use Rattle.rx_units.specs.declared.quoted_text.element.Writing.{Writing}
 use Rattle.rx_units.specs.declared.quoted_text.element.Writing.TheVariants as writing
 use Rattle.rx_units.specs.declared.quoted_text.element.Element.{Element}
 use Rattle.rx_units.specs.Quoted.Escapes.{is_line_feed, SpellsTerminator, alone, carriage_return, carriage_return_line_feed}
 use Rattle.rx_units.specs.Quoted.Elements.{written, is_open_brace, is_template_character, SpellsInTemplate, character, dollar, terminator, escape, zero_digit, digit}
-use Rattle.rx_units.specs.Quoted.Fronts.{EscapeRead, escaped, unended, no_hex, no_unicode, passes, element, substitution, escape_at, digit_behind, digit_at, template_escape, raw_line, template_front}
+use Rattle.rx_units.specs.Quoted.Fronts.{EscapeRead, escaped, unended, no_hex, no_unicode, passes, element, substitution, escape_at, digit_after, digit_at, template_escape, raw_line, template_front}
 use Rattle.rx_units.specs.Quoted.Fronts.{digit as digit_read}
 use Rattle.rx_units.proofs.Quoted.Escapes.{EscapeFront, escape_spelled, spelled_escape, line_front}
 use Rattle.rx_units.proofs.Quoted.EscapeDigits.{digit_escape, digit_found}
@@ -66,7 +67,7 @@ nonzero c h = (grind (arith, nat_tests), grind (arith, nat_tests))
 no_null : (c : ℕ) (b : Bool) → (c == 48) ≡ false → (c == 48 && b) ≡ false
 no_null c b h = ap (λ a. a && b) h
 
-digit_row : (c : ℕ) (rest : List ℕ) → (c == 48) ≡ false → digit_behind c rest ≡ element (written c writing.NotEscape) 2
+digit_row : (c : ℕ) (rest : List ℕ) → (c == 48) ≡ false → digit_after c rest ≡ element (written c writing.NotEscape) 2
 digit_row c [] h = refl
 digit_row c (d ∷ rest) h = cond-false _ _ _ h
 
@@ -106,7 +107,7 @@ from_zero b c h k = grind arith
 and_yes : (b : Bool) → (b && true) ≡ false → b ≡ false
 and_yes b h = grind arith
 
-digit_spelled : (c : ℕ) (w : List ℕ) (e : Element) (n : ℕ) → is_decimal_digit c ≡ true → (c == 48 && not (front_is is_decimal_digit w)) ≡ false → digit_behind c w ≡ element e n → TemplateFront e n (92 ∷ c ∷ w)
+digit_spelled : (c : ℕ) (w : List ℕ) (e : Element) (n : ℕ) → is_decimal_digit c ≡ true → (c == 48 && not (front_is is_decimal_digit w)) ≡ false → digit_after c w ≡ element e n → TemplateFront e n (92 ∷ c ∷ w)
 digit_spelled c [] e n d z h = give (92 ∷ c ∷ []) [] (digit (nonzero_digit c d (and_yes (c == 48) z))) refl h
 digit_spelled c (x ∷ w) e n d z h = elim (chosen (c == 48) h) [
   | inl p ↦ rw (eqb-true c 48 p.0) (give (92 ∷ 48 ∷ x ∷ []) w (zero_digit (from_zero (c == 48) (is_decimal_digit x) p.0 z)) refl p.1)

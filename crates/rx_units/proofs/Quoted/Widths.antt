@@ -16,13 +16,14 @@ use Rattle.rx_units.specs.declared.quoted_text.literal.Literal.{Literal}
 use Rattle.rx_units.specs.declared.quoted_text.literal.Literal.TheVariants as literals
 use Rattle.rx_units.specs.declared.string_literal_parser.StringLiteralKind.TheVariants as quotes
 use Rattle.rx_units.specs.Quoted.Escapes.{SpellsTerminator, alone, carriage_return, carriage_return_line_feed, SpellsEscape, single, non_escape, null, hexadecimal, four_digits, braced, continuation}
-use Rattle.rx_units.specs.Quoted.Elements.{SpellsElement, SpellsInString, SpellsInTemplate, octal_zero, octal1, octal2_low, octal2_high, octal3, non_octal, dollar, terminator, zero_digit, digit, character, escape}
+use Rattle.rx_units.specs.Quoted.Elements.{SpellsElement, SpellsInString, SpellsInTemplate, legacy_octal, non_octal, dollar, terminator, zero_digit, digit, character, escape}
 use Rattle.rx_units.specs.Quoted.Fronts.{element, front}
 use Rattle.rx_units.specs.Quoted.Texts.{byte_count}
 use Rattle.rx_units.proofs.Quoted.Fronts.{front_spelled}
 use Rattle.rx_units.proofs.Quoted.Rows.{some_characters}
 use Rattle.rx_units.proofs.Choices.{both}
-use Rattle.rx_units.proofs.Digits.{four_small, octal_small, two_small}
+use Rattle.rx_units.proofs.Digits.{four_small, two_small}
+use Rattle.rx_units.proofs.OctalEscapes.{octal_value_small}
 
 abbrev pub AreCharacters : List ℕ → Type 0
 AreCharacters us = All (λ c. c ≤ 0x10FFFF) us
@@ -47,11 +48,7 @@ escape_small c _ w rest (continuation t) a = terminator_small c w rest t
 string_small : (quote : ℕ) (e : Element) (w rest : List ℕ) → SpellsInString quote e w rest → AreCharacters w → e.value ≤ 0x10FFFF
 string_small quote _ _ rest (character {c} h) a = first_small c [] a
 string_small quote _ _ rest (escape {v} {k} {w} p) a = escape_small v k w rest p (All-tail (λ c. c ≤ 0x10FFFF) 92 w a)
-string_small quote _ _ rest (octal_zero h) a = omega arith
-string_small quote _ _ rest (octal1 {c} h k) a = let x = octal_small c (grind (arith, nat_tests)) in omega arith
-string_small quote _ _ rest (octal2_low {c} {d} h k n) a = let x = octal_small c (grind (arith, nat_tests)) in let y = octal_small d k in omega arith
-string_small quote _ _ rest (octal2_high {c} {d} h k) a = let x = octal_small c (grind (arith, nat_tests)) in let y = octal_small d k in omega arith
-string_small quote _ _ rest (octal3 {c} {d} {f} h k l) a = let x = octal_small c (grind (arith, nat_tests)) in let y = octal_small d k in let z = octal_small f l in omega arith
+string_small quote _ _ rest (legacy_octal {v} {w} s) a = omega (arith, octal_value_small v w rest s)
 string_small quote _ _ rest (non_octal {c} h) a = first_small c [] (All-tail (λ c. c ≤ 0x10FFFF) 92 (c ∷ []) a)
 
 template_small : (e : Element) (w rest : List ℕ) → SpellsInTemplate e w rest → AreCharacters w → e.value ≤ 0x10FFFF

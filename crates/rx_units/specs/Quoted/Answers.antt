@@ -1,5 +1,6 @@
 -- What the readers of quoted texts are given, and what they may answer.
 use Rattle.std.specs.Prelude.{◌≡◌, ℕ, ◌+◌, ◌<◌, ◌≤◌, ◌^◌, true, All, List, take}
+use Rattle.rx_base.specs.declared.span.Span.{Span}
 use Rattle.rx_units.specs.declared.quoted_text.element.Element.{Element}
 use Rattle.rx_units.specs.declared.quoted_text.element.Writing.{Writing}
 use Rattle.rx_units.specs.declared.quoted_text.element.Writing.TheVariants.{Legacy, NotEscape}
@@ -18,7 +19,7 @@ use Rattle.rx_units.specs.Quoted.Found.{seen_front}
 use Rattle.rx_units.specs.Quoted.Fronts.{Front, element, closer, nothing, substitution, invalid_hex, invalid_unicode, too_large, front}
 use Rattle.rx_units.specs.Quoted.Texts.{Given, byte_count, opened, is_refused, IsDecoded, Leads}
 
--- The text is of code points, and its spans fit.
+-- Each character of the text is a code point, and its spans fit in 32 bits.
 pub record IsGiven (text : List ℕ) (o : Options) : Type 0 where
   pub fits : o.span_offset + byte_count text < 2 ^ 32
   pub code_points : All (λ c. c ≤ 0x10FFFF) text
@@ -30,15 +31,19 @@ pub record IsStop (literal : Literal) (o : Options) (inner : List ℕ) (stop : S
   pub ends : (e : Element) (n : ℕ) → front literal stop.rest.now ≡ element e n → is_refused o e.writing ≡ true
   pub bytes : stop.offset + byte_count stop.rest.now ≡ o.span_offset + 1 + byte_count inner
 
+-- all of the text, with its quotes
+abbrev pub text_span : Given → Span
+text_span given = from_to given.options.span_offset (given.options.span_offset + byte_count given.text)
+
 -- A string is what its text is decoded to, and covers the text.
 pub record IsStringOf (given : Given) (it : StringLiteral) : Type 0 where
   pub decoded : IsDecoded (literals.String it.kind) given.options given.text it.body
-  pub span_is : it.span ≡ from_to given.options.span_offset (given.options.span_offset + byte_count given.text)
+  pub span_is : it.span ≡ text_span given
 
 -- A template is what its text is decoded to, and covers the text.
 pub record IsTemplateOf (given : Given) (it : TemplateLiteral) : Type 0 where
   pub decoded : IsDecoded literals.Template given.options given.text it.body
-  pub span_is : it.span ≡ from_to given.options.span_offset (given.options.span_offset + byte_count given.text)
+  pub span_is : it.span ≡ text_span given
 
 -- the fault of an element that is not allowed, by how it is written
 abbrev pub string_element_fault : Writing → ℕ → ℕ → StringFault

@@ -1,4 +1,4 @@
--- What the code finds, as the reading that it says.
+-- What the code finds, in the words of Fronts.
 use Rattle.std.specs.Prelude.{Bool, true, false}
 use Rattle.rx_units.specs.declared.quoted_text.found.EscapeFound.{EscapeFound}
 use Rattle.rx_units.specs.declared.quoted_text.found.EscapeFound.TheVariants as escape

@@ -1,7 +1,9 @@
--- How the front of a text is read behind an opening quote, and of an escape behind its backslash: what its characters begin with, or why no element does.
--- What elements mean stands in Elements, and what is wrong else in Faults.
+-- How a quoted text is read at a place, and an escape after its backslash: which element stands there, or why none does.
+-- What elements mean stands in Elements, and what else is wrong in Faults.
 use Rattle.std.specs.Prelude.{ℕ, ◌+◌, ◌*◌, ◌^◌, not, ◌==◌, ◌&&◌, ◌||◌, List, [], ◌∷◌, Option, Some, None, nat_le, nat_lt, if◌then◌else◌}
-use Rattle.rx_tables.specs.Characters.{hex_digit_value, is_octal_digit, is_within, is_decimal_digit}
+use Rattle.rx_base.specs.Ascii as ascii
+use Rattle.rx_base.specs.Characters.{is_within}
+use Rattle.rx_tables.specs.Characters.{hex_digit_value, is_octal_digit, is_decimal_digit}
 use Rattle.rx_units.specs.Characters.{is_line_terminator}
 use Rattle.rx_units.specs.declared.quoted_text.element.Element.{Element}
 use Rattle.rx_units.specs.declared.quoted_text.element.Writing.{Writing}
@@ -12,17 +14,18 @@ use Rattle.rx_units.specs.declared.string_literal_parser.LegacyKind.TheVariants 
 use Rattle.rx_units.specs.declared.string_literal_parser.StringLiteralKind.TheVariants as quotes
 use Rattle.rx_units.specs.Quoted.Escapes.{is_line_feed, single_escape_value}
 use Rattle.rx_units.specs.Quoted.Elements.{written, is_open_brace}
-use Rattle.rx_units.specs.Digits.{front_is, hex_number, octal}
+use Rattle.rx_units.specs.Digits.{front_is, hex_number}
+use Rattle.rx_units.specs.OctalEscapes.{octal_read}
 
--- What stands behind a backslash. The numbers count characters from the backslash on.
+-- What stands after a backslash. The numbers count characters from the backslash on.
 pub data EscapeRead : Type 0 where
-  -- a value that was written in a way, in n characters
+  -- a value, how it was written, and in how many characters
   escaped : ℕ → Writing → ℕ → EscapeRead
   -- a DecimalDigit that is no null
   digit : EscapeRead
   -- the end of the text
   unended : EscapeRead
-  -- no HexEscapeSequence or UnicodeEscapeSequence, and how far its characters go; digits that pass 32 bits, and how many characters stand before the one that does
+  -- no HexEscapeSequence or UnicodeEscapeSequence, and how many of its characters stand there; digits that pass 32 bits, and how many characters stand before the one that does
   no_hex : ℕ → EscapeRead
   no_unicode : ℕ → EscapeRead
   passes : ℕ → EscapeRead
@@ -47,7 +50,7 @@ hex_pair None low = no_hex 2
 hex_pair (Some high) None = no_hex 3
 hex_pair (Some high) (Some low) = escaped (16 * high + low) writing.Hexadecimal 4
 
--- behind `x`
+-- after `x`
 abbrev pub hex_at : List ℕ → EscapeRead
 hex_at [] = no_hex 2
 hex_at (a ∷ w) = hex_pair (hex_digit_value a) (front_digit w)
@@ -60,49 +63,44 @@ four_at _ = None
 -- one step of the digits in braces: what a character stands for, the number and the count so far, the character, and how it goes on
 abbrev pub digit_step : Option ℕ → ℕ → ℕ → ℕ → (ℕ → EscapeRead) → EscapeRead
 digit_step (Some d) n count x again = if nat_lt (16 * n + d) (2 ^ 32) then again (16 * n + d) else passes (count + 3)
-digit_step None n count x again = if (x == 125) && (nat_lt 0 count && nat_le n 0x10FFFF) then escaped n writing.Unicode (count + 4) else no_unicode (count + 3)
+digit_step None n count x again = if (x == ascii.right_brace) && (nat_lt 0 count && nat_le n 0x10FFFF) then escaped n writing.Unicode (count + 4) else no_unicode (count + 3)
 
--- digits and a brace, behind a number and n digits
+-- digits and a brace, after a number and n digits
 abbrev pub digits_at : ℕ → ℕ → List ℕ → EscapeRead
 digits_at n count [] = no_unicode (count + 3)
 digits_at n count (x ∷ xs) = digit_step (hex_digit_value x) n count x (λ m. digits_at m (count + 1) xs)
 
 abbrev pub braces_at : List ℕ → EscapeRead
 braces_at [] = no_unicode 2
-braces_at (x ∷ xs) = if x == 123 then digits_at 0 0 xs else no_unicode 2
+braces_at (x ∷ xs) = if x == ascii.left_brace then digits_at 0 0 xs else no_unicode 2
 
--- behind `u`
-abbrev pub unicode_behind : Option ℕ → List ℕ → EscapeRead
-unicode_behind (Some v) w = escaped v writing.Unicode 6
-unicode_behind None w = braces_at w
+-- after `u`
+abbrev pub unicode_after : Option ℕ → List ℕ → EscapeRead
+unicode_after (Some v) w = escaped v writing.Unicode 6
+unicode_after None w = braces_at w
 
--- behind a LineTerminator
-abbrev pub line_behind : ℕ → List ℕ → EscapeRead
-line_behind c w = if c == 13 && front_is is_line_feed w then escaped 10 writing.LineContinuation 3 else escaped c writing.LineContinuation 2
+-- after a LineTerminator
+abbrev pub line_after : ℕ → List ℕ → EscapeRead
+line_after c w = if c == ascii.carriage_return && front_is is_line_feed w then escaped ascii.line_feed writing.LineContinuation 3 else escaped c writing.LineContinuation 2
 
-abbrev pub escape_behind : Option ℕ → ℕ → List ℕ → EscapeRead
-escape_behind (Some v) c w = escaped v writing.Plain 2
-escape_behind None c w =
-    if is_decimal_digit c then (if c == 48 && not (front_is is_decimal_digit w) then escaped 0 writing.Plain 2 else digit)
-    else (if c == 120 then hex_at w
-    else (if c == 117 then unicode_behind (four_at w) w
-    else (if is_line_terminator c then line_behind c w
+abbrev pub escape_after : Option ℕ → ℕ → List ℕ → EscapeRead
+escape_after (Some v) c w = escaped v writing.Plain 2
+escape_after None c w =
+    if is_decimal_digit c then (if c == ascii.zero && not (front_is is_decimal_digit w) then escaped 0 writing.Plain 2 else digit)
+    else (if c == ascii.x then hex_at w
+    else (if c == ascii.u then unicode_after (four_at w) w
+    else (if is_line_terminator c then line_after c w
     else escaped c writing.Plain 2)))
 
 unfoldable pub escape_at : List ℕ → EscapeRead
 escape_at [] = unended
-escape_at (c ∷ w) = escape_behind (single_escape_value c) c w
+escape_at (c ∷ w) = escape_after (single_escape_value c) c w
 
 -- a LegacyOctalEscapeSequence from its first digit on
 abbrev pub octal_at : ℕ → List ℕ → Front
-octal_at c [] = element (written (octal c) (writing.Legacy legacy_kind.Octal)) 2
-octal_at c (d ∷ []) = if is_octal_digit d then element (written (8 * octal c + octal d) (writing.Legacy legacy_kind.Octal)) 3 else element (written (octal c) (writing.Legacy legacy_kind.Octal)) 2
-octal_at c (d ∷ f ∷ w) =
-    if is_octal_digit d
-    then (if is_within 48 51 c && is_octal_digit f then element (written (64 * octal c + 8 * octal d + octal f) (writing.Legacy legacy_kind.Octal)) 4 else element (written (8 * octal c + octal d) (writing.Legacy legacy_kind.Octal)) 3)
-    else element (written (octal c) (writing.Legacy legacy_kind.Octal)) 2
+octal_at = octal_read (λ v n. element (written v (writing.Legacy legacy_kind.Octal)) (n + 1))
 
--- a digit behind a backslash of a string
+-- a digit after a backslash of a string
 abbrev pub legacy_at : List ℕ → Front
 legacy_at [] = nothing 0
 legacy_at (c ∷ w) = if is_octal_digit c then octal_at c w else element (written c (writing.Legacy legacy_kind.NonOctalDecimal)) 2
@@ -119,17 +117,17 @@ abbrev pub string_front : ℕ → List ℕ → Front
 string_front quote [] = nothing 0
 string_front quote (c ∷ w) =
     if c == quote then closer
-    else (if c == 92 then string_escape (escape_at w) w
-    else (if c == 13 || c == 10 then nothing 0 else element (written c writing.Plain) 1))
+    else (if c == ascii.backslash then string_escape (escape_at w) w
+    else (if c == ascii.carriage_return || c == ascii.line_feed then nothing 0 else element (written c writing.Plain) 1))
 
--- a digit behind a backslash of a template
-abbrev pub digit_behind : ℕ → List ℕ → Front
-digit_behind c [] = element (written c writing.NotEscape) 2
-digit_behind c (d ∷ w) = if c == 48 then element (written d writing.NotEscape) 3 else element (written c writing.NotEscape) 2
+-- a digit after a backslash of a template
+abbrev pub digit_after : ℕ → List ℕ → Front
+digit_after c [] = element (written c writing.NotEscape) 2
+digit_after c (d ∷ w) = if c == ascii.zero then element (written d writing.NotEscape) 3 else element (written c writing.NotEscape) 2
 
 abbrev pub digit_at : List ℕ → Front
 digit_at [] = nothing 0
-digit_at (c ∷ w) = digit_behind c w
+digit_at (c ∷ w) = digit_after c w
 
 abbrev pub template_escape : EscapeRead → List ℕ → Front
 template_escape (escaped v k n) w = element (written v k) n
@@ -140,17 +138,17 @@ template_escape (no_unicode n) w = invalid_unicode n
 template_escape (passes n) w = too_large n
 
 abbrev pub raw_line : ℕ → List ℕ → Front
-raw_line c w = if c == 13 && front_is is_line_feed w then element (written 10 writing.LineTerminator) 2 else element (written c writing.LineTerminator) 1
+raw_line c w = if c == ascii.carriage_return && front_is is_line_feed w then element (written ascii.line_feed writing.LineTerminator) 2 else element (written c writing.LineTerminator) 1
 
 abbrev pub template_front : List ℕ → Front
 template_front [] = nothing 0
 template_front (c ∷ w) =
-    if c == 96 then closer
-    else (if c == 92 then template_escape (escape_at w) w
-    else (if c == 36 then (if front_is is_open_brace w then substitution else element (written c writing.Plain) 1)
+    if c == ascii.grave_accent then closer
+    else (if c == ascii.backslash then template_escape (escape_at w) w
+    else (if c == ascii.dollar_sign then (if front_is is_open_brace w then substitution else element (written c writing.Plain) 1)
     else (if is_line_terminator c then raw_line c w else element (written c writing.Plain) 1)))
 
 unfoldable pub front : Literal → List ℕ → Front
-front (literals.String quotes.Double) us = string_front 34 us
-front (literals.String quotes.Single) us = string_front 39 us
+front (literals.String quotes.Double) us = string_front ascii.quotation_mark us
+front (literals.String quotes.Single) us = string_front ascii.apostrophe us
 front literals.Template us = template_front us

@@ -22,12 +22,12 @@ pub record Place : Type 0 where
   pub units : List CodePoint
   -- the byte at which it stands, with the offset of the text
   pub offset : ℕ
-  -- the characters behind it
+  -- the characters after it
   pub rest : List ℕ
 
 -- The place after an element, with the units that it gives.
-abbrev pub behind : Options → Place → Element → List ℕ → List ℕ → Place
-behind o p e w rest = record {
+abbrev pub next_place : Options → Place → Element → List ℕ → List ℕ → Place
+next_place o p e w rest = record {
   units = p.units ++ element_units o p.offset (p.offset + byte_count w) e;
   offset = p.offset + byte_count w;
   rest = rest;
@@ -50,9 +50,9 @@ IsAllowed o e = is_refused o e.writing ≡ false
 pub data Leads (literal : Literal) (o : Options) (from : Place) : Place → Type 0 where
   no_element : Leads literal o from from
   one_more : {p : Place} (e : Element) (w rest : List ℕ) → Leads literal o from p → p.rest ≡ w ++ rest → SpellsElement literal e w rest → IsAllowed o e
-      → Leads literal o from (behind o p e w rest)
+      → Leads literal o from (next_place o p e w rest)
 
--- the place behind the opening quote, before some characters
+-- the place after the opening quote, before some characters
 abbrev pub opened : Options → List ℕ → Place
 opened o inner = record { units = []; offset = o.span_offset + 1; rest = inner }
 
@@ -76,7 +76,7 @@ QuotedRow literal es us rest = ElementRow (λ (q : Unit {0}). SpellsElement lite
 -- The place to which elements lead from a place, by a row of them.
 abbrev pub after_elements : (literal : Literal) (o : Options) (p : Place) (es : List Element) (rest : List ℕ) → QuotedRow literal es p.rest rest → Place
 after_elements literal o p [] rest row = p
-after_elements literal o p (e ∷ es) rest row = after_elements literal o (behind o p e row.0 row.1) es rest row.4
+after_elements literal o p (e ∷ es) rest row = after_elements literal o (next_place o p e row.0 row.1) es rest row.4
 
 -- What a decoder is given.
 pub record Given : Type 0 where

@@ -1,8 +1,9 @@
 -- What the elements of a quoted text give: the units of its value. As the standard has it: SV and TV (ECMA-262, 12.9.4.2 and 12.9.6.1), and where pairs are
 -- joined StringToCodePoints (11.1.5). As the Rust crate has it: each element gives its value.
 use Rattle.std.specs.Prelude.{ℕ, Bool, ◌==◌, ◌&&◌, List, [], ◌∷◌, Option, Some, None, if◌then◌else◌}
+use Rattle.rx_base.specs.Ascii as ascii
+use Rattle.rx_base.specs.Characters.{is_lead, is_trail}
 use Rattle.rx_base.specs.SurrogatePair.{surrogate_pair}
-use Rattle.rx_tables.specs.Characters.{is_within}
 use Rattle.rx_units.specs.declared.code_point.CodePoint.{CodePoint}
 use Rattle.rx_units.specs.declared.code_point.EscapeKind.{EscapeKind}
 use Rattle.rx_units.specs.declared.code_point.EscapeKind.TheVariants as kind
@@ -25,7 +26,7 @@ kind_of LineContinuation = kind.None
 -- The value that an element gives, if any. As the standard has it a LineContinuation gives nothing, and <CR> in a template gives <LF>.
 abbrev pub given_value : Bool → Writing → ℕ → Option ℕ
 given_value standard LineContinuation value = if standard then None else Some value
-given_value standard LineTerminator value = Some (if standard && value == 13 then 10 else value)
+given_value standard LineTerminator value = Some (if standard && value == ascii.carriage_return then ascii.line_feed else value)
 given_value standard Plain value = Some value
 given_value standard Hexadecimal value = Some value
 given_value standard Unicode value = Some value
@@ -40,12 +41,6 @@ value_units joined start end escape_kind (Some value) = character_units joined s
 -- The units that an element gives. They have its span.
 abbrev pub element_units : Options → ℕ → ℕ → Element → List CodePoint
 element_units o start end e = value_units o.combine_surrogate_pair start end (kind_of e.writing) (given_value o.standard_strings e.writing e.value)
-
-abbrev pub is_lead : ℕ → Bool
-is_lead c = is_within 0xD800 0xDBFF c
-
-abbrev pub is_trail : ℕ → Bool
-is_trail c = is_within 0xDC00 0xDFFF c
 
 -- a lead and a trail as one unit (11.1.3, UTF16SurrogatePairToCodePoint), from the beginning of the one to the end of the other
 abbrev pub pair : CodePoint → CodePoint → CodePoint

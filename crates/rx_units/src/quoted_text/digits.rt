@@ -1,7 +1,7 @@
 ghost use Rattle.std.specs.Prelude.{◌≡◌, ◌<◌, IfSome};
 ghost use Rattle.rx_tables.specs.Characters.{hex_digit_value};
 ghost use Rattle.rx_units.specs.Quoted.Found.{seen_escape};
-ghost use Rattle.rx_units.specs.Quoted.Fronts.{braces_at, digits_at, four_at, front_digit, hex_at, unicode_behind};
+ghost use Rattle.rx_units.specs.Quoted.Fronts.{braces_at, digits_at, four_at, front_digit, hex_at, unicode_after};
 
 use crate::quoted_text::Writing;
 use crate::quoted_text::found::EscapeFound;
@@ -26,7 +26,7 @@ fn front_digit(chars: &[char]) -> Option<u32>
     }
 }
 
-/// Two hexadecimal digits, behind `x`.
+/// Two hexadecimal digits, after `x`.
 pub(crate) fn hex_escape(chars: &[char]) -> EscapeFound
     ensures { seen_escape result ≡ hex_at chars.now }
 {
@@ -46,9 +46,9 @@ pub(crate) fn hex_escape(chars: &[char]) -> EscapeFound
     }
 }
 
-/// Four hexadecimal digits, or some in braces, behind `u`.
+/// Four hexadecimal digits, or some in braces, after `u`.
 pub(crate) fn unicode_escape(chars: &[char]) -> EscapeFound
-    ensures { seen_escape result ≡ unicode_behind (four_at chars.now) chars.now }
+    ensures { seen_escape result ≡ unicode_after (four_at chars.now) chars.now }
 {
     match four_digits(chars) {
         Some(value) => EscapeFound::Escaped {

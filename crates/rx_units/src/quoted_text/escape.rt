@@ -1,7 +1,7 @@
 ghost use Rattle.std.specs.Prelude.{◌≡◌};
 ghost use Rattle.rx_units.specs.Quoted.Escapes.{is_line_feed, single_escape_value};
 ghost use Rattle.rx_units.specs.Quoted.Found.{seen_escape};
-ghost use Rattle.rx_units.specs.Quoted.Fronts.{escape_at, line_behind};
+ghost use Rattle.rx_units.specs.Quoted.Fronts.{escape_at, line_after};
 ghost use Rattle.rx_units.specs.Digits.{front_is};
 ghost use Rattle.rx_tables.specs.Characters.{is_decimal_digit};
 
@@ -10,7 +10,7 @@ use crate::quoted_text::digits::{hex_escape, unicode_escape};
 use crate::quoted_text::found::EscapeFound;
 use crate::{CR, LF, is_line_terminator};
 
-/// What stands behind a backslash: an EscapeSequence or a LineContinuation of ECMA-262, 12.9.4, but for the digits that are no null.
+/// What stands after a backslash: an EscapeSequence or a LineContinuation of ECMA-262, 12.9.4, but for the digits that are no null.
 #[tactic(auto, unfolding(crate::specs::Quoted::Fronts::escape_at))]
 pub(crate) fn escape_at(chars: &[char]) -> EscapeFound
     ensures { seen_escape result ≡ escape_at chars.now }
@@ -20,11 +20,11 @@ pub(crate) fn escape_at(chars: &[char]) -> EscapeFound
     };
     let first = *first;
     if let Some(value) = single_escape_value(first) {
-        return escaped(value, 2);
+        return plain_escape(value, 2);
     }
     if first.is_ascii_digit() {
         return if first == '0' && !begins_with_digit(rest) {
-            escaped(0, 2)
+            plain_escape(0, 2)
         } else {
             EscapeFound::Digit
         };
@@ -38,11 +38,11 @@ pub(crate) fn escape_at(chars: &[char]) -> EscapeFound
     if is_line_terminator(first) {
         return line_escape(first, rest);
     }
-    escaped(first as u32, 2)
+    plain_escape(first as u32, 2)
 }
 
-/// A value that is written as no number.
-fn escaped(value: u32, length: usize) -> EscapeFound
+/// An escape that has no number.
+fn plain_escape(value: u32, length: usize) -> EscapeFound
     ensures { result ≡ EscapeFound.Escaped value Writing.Plain length }
 {
     EscapeFound::Escaped {
@@ -88,16 +88,17 @@ pub(crate) fn begins_with_line_feed(chars: &[char]) -> bool
 
 /// A LineContinuation (ECMA-262, 12.9.4), by the first character of its LineTerminatorSequence and those after it.
 fn line_escape(first: char, rest: &[char]) -> EscapeFound
-    ensures { seen_escape result ≡ line_behind first rest.now }
+    ensures { seen_escape result ≡ line_after first rest.now }
 {
     if first == CR && begins_with_line_feed(rest) {
-        continued(LF, 3)
+        line_continuation(LF, 3)
     } else {
-        continued(first, 2)
+        line_continuation(first, 2)
     }
 }
 
-fn continued(terminator: char, length: usize) -> EscapeFound
+/// A LineContinuation that gives its terminator.
+fn line_continuation(terminator: char, length: usize) -> EscapeFound
     ensures { result ≡ EscapeFound.Escaped terminator Writing.LineContinuation length }
 {
     EscapeFound::Escaped {

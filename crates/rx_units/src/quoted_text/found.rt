@@ -5,7 +5,7 @@ ghost use Rattle.rx_units.specs.Quoted.Fronts.{element};
 
 use crate::quoted_text::{Element, Writing};
 
-/// What stands behind a backslash. Lengths count characters from the backslash on.
+/// What stands after a backslash. Lengths count characters from the backslash on.
 #[derive(Clone, Copy, Debug)]
 pub(crate) enum EscapeFound {
     Escaped {
@@ -23,7 +23,7 @@ pub(crate) enum EscapeFound {
     InvalidUnicode {
         length: usize,
     },
-    /// The digits behind `u{` pass 32 bits.
+    /// The digits after `u{` pass 32 bits.
     TooLarge {
         length: usize,
     },

@@ -113,7 +113,7 @@ pub(crate) fn elements<'a>(
         let end = offset + width(rest, length);
         push_element(&mut units, element, (offset, end), options)?;
         offset = end;
-        rest = behind(rest, length);
+        rest = rest_after(rest, length);
     }
     let found = front(literal, rest);
     Ok(Stop {
@@ -171,7 +171,7 @@ pub(crate) fn width(chars: &[char], count: usize) -> u32
 }
 
 /// The characters after the first ones.
-fn behind(chars: &[char], count: usize) -> &[char]
+fn rest_after(chars: &[char], count: usize) -> &[char]
     requires { count ≤ length chars.now }
     ensures { result.now ≡ drop count chars.now }
 {

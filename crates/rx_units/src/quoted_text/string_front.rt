@@ -31,7 +31,7 @@ pub(crate) fn string_front(quote: char, chars: &[char]) -> Found
     Found::element(first as u32, Writing::Plain, 1)
 }
 
-/// An escape, by what stands behind its backslash.
+/// An escape, by what stands after its backslash.
 fn string_escape(escape: EscapeFound, chars: &[char]) -> Found
     ensures { seen_front result ≡ string_escape (seen_escape escape) chars.now }
 {
@@ -59,30 +59,30 @@ fn legacy_escape(chars: &[char]) -> Found
     if is_octal_digit(*first) {
         return octal_escape(*first, rest);
     }
-    legacy(LegacyKind::NonOctalDecimal, *first as u32, 2)
+    legacy_element(LegacyKind::NonOctalDecimal, *first as u32, 2)
 }
 
-/// LegacyOctalEscapeSequence, by its first digit and the characters behind it.
+/// LegacyOctalEscapeSequence, by its first digit and the characters after it.
 fn octal_escape(first: char, rest: &[char]) -> Found
     requires { is_octal_digit first ≡ true }
     ensures { seen_front result ≡ octal_at first rest.now }
 {
-    let value = octal(first);
+    let value = octal_digit_value(first);
     match rest {
         [second, third, ..] if first <= '3' && is_octal_digit(*second) && is_octal_digit(*third) =>
             {
-                let value = 64 * value + 8 * octal(*second) + octal(*third);
-                legacy(LegacyKind::Octal, value, 4)
+                let value = 64 * value + 8 * octal_digit_value(*second) + octal_digit_value(*third);
+                legacy_element(LegacyKind::Octal, value, 4)
             }
         [second, ..] if is_octal_digit(*second) => {
-            legacy(LegacyKind::Octal, 8 * value + octal(*second), 3)
+            legacy_element(LegacyKind::Octal, 8 * value + octal_digit_value(*second), 3)
         }
-        _ => legacy(LegacyKind::Octal, value, 2),
+        _ => legacy_element(LegacyKind::Octal, value, 2),
     }
 }
 
 /// An element that strict mode code does not allow.
-fn legacy(what: LegacyKind, value: u32, length: usize) -> Found
+fn legacy_element(what: LegacyKind, value: u32, length: usize) -> Found
     ensures { seen_front result ≡ element (written value (Writing.Legacy what)) length }
 {
     Found::element(value, Writing::Legacy(what), length)
@@ -95,7 +95,7 @@ fn is_octal_digit(c: char) -> bool
 }
 
 /// The value of an octal digit.
-fn octal(digit: char) -> u32
+fn octal_digit_value(digit: char) -> u32
     requires { is_octal_digit digit ≡ true }
     ensures value { result ≡ octal digit }
     ensures small { result < 8 }

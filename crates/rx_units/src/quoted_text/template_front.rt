@@ -52,7 +52,7 @@ fn raw_line(first: char, rest: &[char]) -> Found
     }
 }
 
-/// An escape, by what stands behind its backslash.
+/// An escape, by what stands after its backslash.
 fn template_escape(escape: EscapeFound, chars: &[char]) -> Found
     ensures { seen_front result ≡ template_escape (seen_escape escape) chars.now }
 {

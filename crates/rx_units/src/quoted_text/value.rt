@@ -1,5 +1,6 @@
 ghost use Rattle.std.specs.Prelude.{◌≡◌, ◌≤◌, ◌<◌, ◌∷◌, [], ◌++◌, ◌&&◌, true, length, IfOk, IfSome, MatchOption, OnOk, OnErr};
-ghost use Rattle.rx_units.specs.Quoted.Values.{code_points, element_units, given_value, is_lead, is_trail, kind_of, pair, text_units};
+ghost use Rattle.rx_base.specs.Characters.{is_lead, is_trail};
+ghost use Rattle.rx_units.specs.Quoted.Values.{code_points, element_units, given_value, kind_of, pair, text_units};
 
 use crate::quoted_text::{Element, Writing};
 use crate::{CR, CodePoint, EscapeKind, LF, Options, handle_code_point};
@@ -8,7 +9,7 @@ use rx_base::{
 };
 use std::alloc::Global;
 
-/// Adds the units that an element gives, of which the bounds are the bytes that it stands in. A refusal leaves the list as before.
+/// Adds the units that an element gives, which stands in the bytes between the bounds. A refusal leaves the list as before.
 pub(crate) fn push_element(
     units: &mut List<CodePoint>,
     element: Element,

@@ -1,7 +1,7 @@
 use Rattle.std.proofs.Common.{arith, refl, sym, ap, ap₂, ◌∙◌, subst}
 use Rattle.rx_units.specs.Pace.{TakesSteps, left}
 use Rattle.rx_units.specs.Units.{values}
-use Rattle.rx_class.specs.EscapeAnswers.{IsBehindBackslash, environment_of}
+use Rattle.rx_class.specs.EscapeAnswers.{IsAfterBackslash, environment_of}
 use Rattle.rx_class.specs.ClassItems.{GivesAtom, alone_in_class, back}
 use Rattle.rx_class.specs.Fitting.{AreFitting}
 use Rattle.rx_class.proofs.ClassAtoms.{alone_gives, character_gives, character_refused, class_escape_gives, no_character_stays, no_class_escape, nothing_refused, nothing_so_far, property_gives, property_refused}
@@ -26,7 +26,7 @@ returns-in-Some-parse_character_class_escape-clause-gives g c =
 
 pub parse_character_class_escape_unicode-requires-clause-backslash : goal.parse_character_class_escape_unicode-requires-clause-backslash
 parse_character_class_escape_unicode-requires-clause-backslash g c =
-    subst (λ r. IsBehindBackslash r c.args.start) (sym (no_class_escape c.in_default-parse_character_class_escape.ensures.gives).0) c.requires.backslash
+    subst (λ r. IsAfterBackslash r c.args.start) (sym (no_class_escape c.in_default-parse_character_class_escape.ensures.gives).0) c.requires.backslash
 
 pub returns-in_err-escape-clause-gives : goal.returns-in_err-escape-clause-gives
 returns-in_err-escape-clause-gives g c =
@@ -44,7 +44,7 @@ returns-in-Some-2-clause-gives g c =
 pub character_in_class-requires-clause-backslash : goal.character_in_class-requires-clause-backslash
 character_in_class-requires-clause-backslash g c =
     let so_far = nothing_so_far c.remaining_code_points.ensures.units (c.in_default.ensures ∙ ap (λ u. alone_in_class u (values c.remaining_code_points.result.now)) c.is_unicode.ensures) c.in_default-parse_character_class_escape.ensures.gives c.in_ok-escape.ensures.gives c.in_default-2.is in
-    subst (λ r. IsBehindBackslash r c.args.start) (sym so_far.0) c.requires.backslash
+    subst (λ r. IsAfterBackslash r c.args.start) (sym so_far.0) c.requires.backslash
 
 pub returns-in_err-character-clause-gives : goal.returns-in_err-character-clause-gives
 returns-in_err-character-clause-gives g c =

@@ -6,7 +6,7 @@ use Rattle.rx_model.specs.Inputs.Modes.{mode_by}
 use Rattle.rx_class.specs.EscapeAnswers.{environment_of}
 use Rattle.rx_class.specs.ReadingSteps.{IsReading}
 use Rattle.rx_class.specs.PropertyAnswers.{GivesProperty, no_memory, none}
-use Rattle.rx_class.proofs.Behind.{stands_within}
+use Rattle.rx_class.proofs.After.{stands_within}
 use Rattle.rx_class.proofs.Keeping.{handed, stays_keeps}
 use Rattle.rx_class.proofs.Modes.{state_has_properties}
 use Rattle.rx_class.proofs.PropertyGives.{halt_gives, property_gives}

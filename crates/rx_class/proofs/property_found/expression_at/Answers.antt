@@ -17,19 +17,19 @@ run_found-requires g c = (values (take (length c.args.units.now - 1) (drop 1 c.a
 pub returns-in-None-clause-found : goal.returns-in-None-clause-found
 returns-in-None-clause-found g c =
     let first = first_is c.args.units.now 123 _ c.in-len1-up.len_at_least c.if-brace.false in
-    let behind = values (take (length c.args.units.now - 1) (drop 1 c.args.units.now)) in
-    IfOk-weaker c.run_found.result _ _ (λ found h. rw first (h behind record { no_pair = c.in-None.ensures.found; is_run = c.run_at.ensures.run })) c.run_found.ensures.found
+    let following = values (take (length c.args.units.now - 1) (drop 1 c.args.units.now)) in
+    IfOk-weaker c.run_found.result _ _ (λ found h. rw first (h following record { no_pair = c.in-None.ensures.found; is_run = c.run_at.ensures.run })) c.run_found.ensures.found
 
 pub returns-in-Some-clause-found : goal.returns-in-Some-clause-found
 returns-in-Some-clause-found g c =
     let first = first_is c.args.units.now 123 _ c.in-len1-up.len_at_least c.if-brace.false in
-    let behind = values (take (length c.args.units.now - 1) (drop 1 c.args.units.now)) in
-    IfOk-weaker c.pair_found.result _ _ (λ found h. rw first (h c.args.sets behind c.in-Some.ensures.found)) c.pair_found.ensures.found
+    let following = values (take (length c.args.units.now - 1) (drop 1 c.args.units.now)) in
+    IfOk-weaker c.pair_found.result _ _ (λ found h. rw first (h c.args.sets following c.in-Some.ensures.found)) c.pair_found.ensures.found
 
 pub returns-in-Some-clause-steps : goal.returns-in-Some-clause-steps
 returns-in-Some-clause-steps g c =
     let first = first_is c.args.units.now 123 _ c.in-len1-up.len_at_least c.if-brace.false in
-    pair_steps c.args.units.now c.in-Some.pair.name.now c.in-Some.pair.value.now c.in-Some.pair.behind.now (g.C.Counter.count c.args.steps.now) (g.C.Counter.count c.pair_at.new.steps) (g.C.Counter.count c.pair_found.new.steps) c.pair_found.result first c.in-Some.ensures.found c.in-Some.ensures.steps c.pair_found.ensures.steps c.pair_found.ensures.closed
+    pair_steps c.args.units.now c.in-Some.pair.name.now c.in-Some.pair.value.now c.in-Some.pair.following.now (g.C.Counter.count c.args.steps.now) (g.C.Counter.count c.pair_at.new.steps) (g.C.Counter.count c.pair_found.new.steps) c.pair_found.result first c.in-Some.ensures.found c.in-Some.ensures.steps c.pair_found.ensures.steps c.pair_found.ensures.closed
 
 pub returns-in-None-clause-steps : goal.returns-in-None-clause-steps
 returns-in-None-clause-steps g c =

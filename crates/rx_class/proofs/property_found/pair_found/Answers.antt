@@ -10,15 +10,15 @@ text_of-requires g c = names_are_values (values c.args.name.now) c.requires.1.of
 
 pub returns-then-not-is_valid_unicode_property-clause-found : goal.returns-then-not-is_valid_unicode_property-clause-found
 returns-then-not-is_valid_unicode_property-clause-found g c = λ sets w p mode has.
-    pair_unknown has c.args.negative w c.args.name.now c.args.value.now c.args.behind.now p (λ valid. no_true c.if-not-is_valid_unicode_property.true (c.is_valid_unicode_property.ensures.1
+    pair_unknown has c.args.negative w c.args.name.now c.args.value.now c.args.following.now p (λ valid. no_true c.if-not-is_valid_unicode_property.true (c.is_valid_unicode_property.ensures.1
     (valid_texts _ _ _ _ (sym (c.as_str.ensures ∙ c.in_ok-name_text.ensures.text)) (sym (c.as_str-2.ensures ∙ c.in_ok-value_text.ensures.text)) valid)))
 
 pub returns-then-not-is_closed-clause-found : goal.returns-then-not-is_closed-clause-found
 returns-then-not-is_closed-clause-found g c = λ sets w p mode has.
     let valid = valid_texts _ _ _ _ (c.as_str.ensures ∙ c.in_ok-name_text.ensures.text) (c.as_str-2.ensures ∙ c.in_ok-value_text.ensures.text) (c.is_valid_unicode_property.ensures.0 c.if-not-is_valid_unicode_property.false) in
-    rw c.unterminated.ensures (pair_unclosed has c.args.negative w c.args.name.now c.args.value.now c.args.behind.now p valid (sym c.is_closed.ensures ∙ c.if-not-is_closed.true))
+    rw c.unterminated.ensures (pair_unclosed has c.args.negative w c.args.name.now c.args.value.now c.args.following.now p valid (sym c.is_closed.ensures ∙ c.if-not-is_closed.true))
 
 pub returns-clause-found : goal.returns-clause-found
 returns-clause-found g c = λ sets w p mode has.
     let valid = valid_texts _ _ _ _ (c.as_str.ensures ∙ c.in_ok-name_text.ensures.text) (c.as_str-2.ensures ∙ c.in_ok-value_text.ensures.text) (c.is_valid_unicode_property.ensures.0 c.if-not-is_valid_unicode_property.false) in
-    rw (c.in_ok-name_text.ensures.text, c.in_ok-value_text.ensures.text) (pair_spelled has c.args.negative w c.args.name.now c.args.value.now c.args.behind.now p valid (sym c.is_closed.ensures ∙ c.if-not-is_closed.false))
+    rw (c.in_ok-name_text.ensures.text, c.in_ok-value_text.ensures.text) (pair_spelled has c.args.negative w c.args.name.now c.args.value.now c.args.following.now p valid (sym c.is_closed.ensures ∙ c.if-not-is_closed.false))

@@ -10,28 +10,28 @@ use Rattle.rx_class.proofs.property_found.run_found.Goals as goal
 
 pub returns-then-is_empty-clause-found : goal.returns-then-is_empty-clause-found
 returns-then-is_empty-clause-found g c = λ w r mode has.
-    let short : (values c.args.run.now ≡ []) ⊎ (values c.args.behind.now ≡ []) = elim c.then-is_empty.branch [
+    let short : (values c.args.run.now ≡ []) ⊎ (values c.args.following.now ≡ []) = elim c.then-is_empty.branch [
       | then-is_empty-via-then-is_empty b ↦ inl (no_units c.args.run.now (sym c.is_empty.ensures ∙ b.if-is_empty.true))
-      | then-is_empty-via-else-is_empty+then-is_empty-2 b ↦ inr (no_units c.args.behind.now (sym b.is_empty-else-is_empty.ensures ∙ b.if-is_empty-2.true))
+      | then-is_empty-via-else-is_empty+then-is_empty-2 b ↦ inr (no_units c.args.following.now (sym b.is_empty-else-is_empty.ensures ∙ b.if-is_empty-2.true))
     ] in
-    rw c.unterminated.ensures (run_unterminated has c.args.negative w c.args.run.now c.args.behind.now r short)
+    rw c.unterminated.ensures (run_unterminated has c.args.negative w c.args.run.now c.args.following.now r short)
 
 pub returns-then-not-is_known-clause-found : goal.returns-then-not-is_known-clause-found
 returns-then-not-is_known-clause-found g c = λ w r mode has.
     let word_is = c.in_ok-word.ensures.text in
     let named = subst (λ word. IsLone word c.named_alone-lone.result) (c.as_str.ensures ∙ word_is) c.named_alone-lone.ensures in
-    rw (c.unknown.ensures, word_is) (run_unknown has c.args.negative w c.args.run.now c.args.behind.now r c.named_alone-lone.result named
+    rw (c.unknown.ensures, word_is) (run_unknown has c.args.negative w c.args.run.now c.args.following.now r c.named_alone-lone.result named
     (some_units c.args.run.now (sym c.is_empty.ensures ∙ c.if-is_empty.false))
-    (some_units c.args.behind.now (sym c.is_empty-else-is_empty.ensures ∙ c.if-is_empty-2.false)) (sym c.is_known.ensures ∙ c.if-not-is_known.true))
+    (some_units c.args.following.now (sym c.is_empty-else-is_empty.ensures ∙ c.if-is_empty-2.false)) (sym c.is_known.ensures ∙ c.if-not-is_known.true))
 
 pub returns-then-not-is_closed-clause-found : goal.returns-then-not-is_closed-clause-found
 returns-then-not-is_closed-clause-found g c = λ w r mode has.
     let named = subst (λ word. IsLone word c.named_alone-lone.result) (c.as_str.ensures ∙ c.in_ok-word.ensures.text) c.named_alone-lone.ensures in
     let known = known_run has (values c.args.run.now) c.named_alone-lone.result named (sym c.is_known.ensures ∙ c.if-not-is_known.false) in
-    rw c.unterminated-then-not-is_closed.ensures (run_unclosed has c.args.negative w c.args.run.now c.args.behind.now r known
-    (some_units c.args.behind.now (sym c.is_empty-else-is_empty.ensures ∙ c.if-is_empty-2.false)) (sym c.is_closed.ensures ∙ c.if-not-is_closed.true))
+    rw c.unterminated-then-not-is_closed.ensures (run_unclosed has c.args.negative w c.args.run.now c.args.following.now r known
+    (some_units c.args.following.now (sym c.is_empty-else-is_empty.ensures ∙ c.if-is_empty-2.false)) (sym c.is_closed.ensures ∙ c.if-not-is_closed.true))
 
 pub returns-clause-found : goal.returns-clause-found
 returns-clause-found g c =
-    IfOk-weaker c.known_found.result _ _ (λ found h w r. h c.args.sets w (values c.args.behind.now) (sym c.is_known.ensures ∙ c.if-not-is_known.false)
-    (subst (λ word. HasRun w word (values c.args.behind.now)) (sym c.in_ok-word.ensures.text) r) (sym c.is_closed.ensures ∙ c.if-not-is_closed.false)) c.known_found.ensures.found
+    IfOk-weaker c.known_found.result _ _ (λ found h w r. h c.args.sets w (values c.args.following.now) (sym c.is_known.ensures ∙ c.if-not-is_known.false)
+    (subst (λ word. HasRun w word (values c.args.following.now)) (sym c.in_ok-word.ensures.text) r) (sym c.is_closed.ensures ∙ c.if-not-is_closed.false)) c.known_found.ensures.found

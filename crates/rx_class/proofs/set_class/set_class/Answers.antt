@@ -17,7 +17,7 @@ loop-alloc-init g c = record {
       begins_sets (environment_of c.args.state.now) c.args.spans.now c.args.reader.now c.advance_counted.new.self c.eat_counted-negative.new.self c.eat_counted-negative.result c.here-start.result.start c.new-builder.result c.requires.bracket c.advance_counted.ensures.reader
       c.eat_counted-negative.ensures.value c.eat_counted-negative.ensures.reader (ap (λ (s : Span). s.start) c.here-start.ensures) c.new-builder.ensures.events c.new-builder.ensures.held c.new-builder.ensures.well;
   paced =
-      let behind = moved_left 1 c.args.reader.now c.advance_counted.new.self c.advance_counted.ensures.reader in
+      let following = moved_left 1 c.args.reader.now c.advance_counted.new.self c.advance_counted.ensures.reader in
       let negative = eaten_left c.eat_counted-negative.result c.advance_counted.new.self c.eat_counted-negative.new.self c.eat_counted-negative.ensures.reader in
       (omega arith, omega arith);
 }

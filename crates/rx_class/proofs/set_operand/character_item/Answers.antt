@@ -9,11 +9,11 @@ use Rattle.rx_class.specs.Found.{seen_escape}
 use Rattle.rx_class.specs.SetAnswers.{GivesSetCharacter}
 use Rattle.rx_class.specs.SetFronts.{EndsRange}
 use Rattle.rx_class.specs.SetReading.{GivesTurn, IsRangeNext, adds, held_in, no_memory}
-use Rattle.rx_class.specs.SetSteps.{TakesStepsBehind, most_end_looks, most_set_looks}
+use Rattle.rx_class.specs.SetSteps.{TakesStepsAfter, most_end_looks, most_set_looks}
 use Rattle.rx_class.specs.WellBuilt.{IsSound}
 use Rattle.rx_class.proofs.Keeping.{handed}
 use Rattle.rx_class.proofs.SetOperands.{character_adds, character_keeps, character_refused, character_small, character_stands, keeps_fitting, some_sets}
-use Rattle.rx_class.proofs.SetPaces.{behind_steps, character_left, looks_fit}
+use Rattle.rx_class.proofs.SetPaces.{after_steps, character_left, looks_fit}
 use Rattle.rx_class.proofs.set_operand.character_item.Goals as goal
 
 pub returns-in_err-low-clause-gives : goal.returns-in_err-low-clause-gives
@@ -84,12 +84,12 @@ returns-in_ok-push-in-None-clause-gives g c = λ e of.
 pub returns-in_err-low-clause-steps : goal.returns-in_err-low-clause-steps
 returns-in_err-low-clause-steps g c =
     let fit = looks_fit (rest c.args.reader.now) (seen_escape c.args.found) c.requires.front in
-    handed (TakesStepsBehind (most_set_looks (rest c.args.reader.now) (seen_escape c.args.found)) 6 (g.C.Counter.count c.args.steps.now) (g.C.Counter.count c.answer_ahead.new.steps) c.args.reader.now c.answer_ahead.new.reader) c.from_residual.ensures.1 (omega (arith, fit, c.answer_ahead.ensures.steps))
+    handed (TakesStepsAfter (most_set_looks (rest c.args.reader.now) (seen_escape c.args.found)) 6 (g.C.Counter.count c.args.steps.now) (g.C.Counter.count c.answer_ahead.new.steps) c.args.reader.now c.answer_ahead.new.reader) c.from_residual.ensures.1 (omega (arith, fit, c.answer_ahead.ensures.steps))
 
 pub returns-in_err-push-in-None-clause-steps : goal.returns-in_err-push-in-None-clause-steps
 returns-in_err-push-in-None-clause-steps g c =
     let fit = looks_fit (rest c.args.reader.now) (seen_escape c.args.found) c.requires.front in
-    handed (TakesStepsBehind (most_set_looks (rest c.args.reader.now) (seen_escape c.args.found)) 6 (g.C.Counter.count c.args.steps.now) (g.C.Counter.count c.range_next.new.steps) c.args.reader.now c.answer_ahead.new.reader) c.from_residual-in_err-push-in-None.ensures.1
+    handed (TakesStepsAfter (most_set_looks (rest c.args.reader.now) (seen_escape c.args.found)) 6 (g.C.Counter.count c.args.steps.now) (g.C.Counter.count c.range_next.new.steps) c.args.reader.now c.answer_ahead.new.reader) c.from_residual-in_err-push-in-None.ensures.1
     (omega (arith, fit, c.answer_ahead.ensures.steps, c.in-None.ensures.steps))
 
 pub returns-in-Some-range_next-clause-steps : goal.returns-in-Some-range_next-clause-steps
@@ -100,7 +100,7 @@ returns-in-Some-range_next-clause-steps g c =
     let low : GivesSetCharacter some_sets c.args.spans.now old mid (Ok (Some c.in-Some.low)) = rw c.in-Some.is at (c.in_ok-low.ensures.gives some_sets refl) in
     let few = character_left (rest old) (seen_escape c.args.found) refl refl c.requires.front low in
     let same = ap (λ us. most_end_looks us end) c.remaining_code_points.ensures.units in
-    behind_steps (g.C.Counter.count c.args.steps.now) (g.C.Counter.count c.range_next.new.steps) (g.C.Counter.count c.range_item.new.steps) (most_set_looks (rest old) (seen_escape c.args.found)) (most_end_looks (rest mid) end) old mid
+    after_steps (g.C.Counter.count c.args.steps.now) (g.C.Counter.count c.range_next.new.steps) (g.C.Counter.count c.range_item.new.steps) (most_set_looks (rest old) (seen_escape c.args.found)) (most_end_looks (rest mid) end) old mid
     c.range_item.new.reader c.range_item.result (omega (arith, few, c.answer_ahead.ensures.steps, c.in-Some-range_next.ensures.steps))
     (omega (arith, few, same, c.answer_ahead.ensures.steps, c.in-Some-range_next.ensures.steps)) c.range_item.ensures.steps
 

@@ -5,10 +5,10 @@ use Rattle.rx_class.specs.ClassBuilding.{builder_events}
 use Rattle.rx_class.specs.Found.{seen_escape}
 use Rattle.rx_class.specs.SetAnswers.{GivesSetCharacter}
 use Rattle.rx_class.specs.SetReading.{GivesTurn, adds, no_memory}
-use Rattle.rx_class.specs.SetSteps.{TakesStepsBehind, most_end_looks}
+use Rattle.rx_class.specs.SetSteps.{TakesStepsAfter, most_end_looks}
 use Rattle.rx_class.specs.WellBuilt.{IsSound}
 use Rattle.rx_class.proofs.Keeping.{handed}
-use Rattle.rx_class.proofs.SetOperands.{character_small, character_stands, code_points_behind, end_refused, next_read, range_adds, range_keeps, range_refused, range_sound, some_sets}
+use Rattle.rx_class.proofs.SetOperands.{character_small, character_stands, code_points_after, end_refused, next_read, range_adds, range_keeps, range_refused, range_sound, some_sets}
 use Rattle.rx_class.proofs.SetPaces.{character_left, end_moves, looks_fit}
 use Rattle.rx_class.proofs.set_operand.range_item.Goals as goal
 
@@ -17,7 +17,7 @@ answer_ahead-requires-clause-found g c = sym (next_read c.args.reader.now c.adva
 
 pub answer_ahead-requires-clause-code_points : goal.answer_ahead-requires-clause-code_points
 answer_ahead-requires-clause-code_points g c =
-    let front = c.requires.front in code_points_behind c.args.reader.now c.advance_counted.new.self front.hyphen front.more front.whole c.advance_counted.ensures.reader c.requires.code_points
+    let front = c.requires.front in code_points_after c.args.reader.now c.advance_counted.new.self front.hyphen front.more front.whole c.advance_counted.ensures.reader c.requires.code_points
 
 pub returns-in_err-high-clause-gives : goal.returns-in_err-high-clause-gives
 returns-in_err-high-clause-gives g c = λ e start of low.
@@ -77,7 +77,7 @@ returns-in_err-high-clause-steps g c =
     let there = next_read c.args.reader.now mid read c.requires.front c.advance_counted.ensures.reader in
     let end = end_moves c.args.reader.now mid read c.requires.front c.advance_counted.ensures.reader in
     let fit = looks_fit (rest mid) read there in
-    handed (TakesStepsBehind (most_end_looks (rest c.args.reader.now) (seen_escape c.args.end)) 6 (g.C.Counter.count c.args.steps.now) (g.C.Counter.count c.answer_ahead.new.steps) c.args.reader.now c.answer_ahead.new.reader) c.from_residual.ensures.1
+    handed (TakesStepsAfter (most_end_looks (rest c.args.reader.now) (seen_escape c.args.end)) 6 (g.C.Counter.count c.args.steps.now) (g.C.Counter.count c.answer_ahead.new.steps) c.args.reader.now c.answer_ahead.new.reader) c.from_residual.ensures.1
     (omega (arith, fit, end.0, end.1, c.advance_counted.ensures.steps, c.answer_ahead.ensures.steps))
 
 pub returns-in_err-range-clause-steps : goal.returns-in_err-range-clause-steps
@@ -87,7 +87,7 @@ returns-in_err-range-clause-steps g c =
     let there = next_read c.args.reader.now mid read c.requires.front c.advance_counted.ensures.reader in
     let end = end_moves c.args.reader.now mid read c.requires.front c.advance_counted.ensures.reader in
     let fit = looks_fit (rest mid) read there in
-    handed (TakesStepsBehind (most_end_looks (rest c.args.reader.now) (seen_escape c.args.end)) 6 (g.C.Counter.count c.args.steps.now) (g.C.Counter.count c.answer_ahead.new.steps) c.args.reader.now c.answer_ahead.new.reader) c.from_residual-in_err-range.ensures.1
+    handed (TakesStepsAfter (most_end_looks (rest c.args.reader.now) (seen_escape c.args.end)) 6 (g.C.Counter.count c.args.steps.now) (g.C.Counter.count c.answer_ahead.new.steps) c.args.reader.now c.answer_ahead.new.reader) c.from_residual-in_err-range.ensures.1
     (omega (arith, fit, end.0, end.1, c.advance_counted.ensures.steps, c.answer_ahead.ensures.steps))
 
 pub returns-in_err-contents-clause-steps : goal.returns-in_err-contents-clause-steps
@@ -97,7 +97,7 @@ returns-in_err-contents-clause-steps g c =
     let there = next_read c.args.reader.now mid read c.requires.front c.advance_counted.ensures.reader in
     let end = end_moves c.args.reader.now mid read c.requires.front c.advance_counted.ensures.reader in
     let fit = looks_fit (rest mid) read there in
-    handed (TakesStepsBehind (most_end_looks (rest c.args.reader.now) (seen_escape c.args.end)) 6 (g.C.Counter.count c.args.steps.now) (g.C.Counter.count c.answer_ahead.new.steps) c.args.reader.now c.answer_ahead.new.reader) c.from_residual-in_err-contents.ensures.1
+    handed (TakesStepsAfter (most_end_looks (rest c.args.reader.now) (seen_escape c.args.end)) 6 (g.C.Counter.count c.args.steps.now) (g.C.Counter.count c.answer_ahead.new.steps) c.args.reader.now c.answer_ahead.new.reader) c.from_residual-in_err-contents.ensures.1
     (omega (arith, fit, end.0, end.1, c.advance_counted.ensures.steps, c.answer_ahead.ensures.steps))
 
 pub returns-in_err-push-clause-steps : goal.returns-in_err-push-clause-steps
@@ -107,7 +107,7 @@ returns-in_err-push-clause-steps g c =
     let there = next_read c.args.reader.now mid read c.requires.front c.advance_counted.ensures.reader in
     let end = end_moves c.args.reader.now mid read c.requires.front c.advance_counted.ensures.reader in
     let fit = looks_fit (rest mid) read there in
-    handed (TakesStepsBehind (most_end_looks (rest c.args.reader.now) (seen_escape c.args.end)) 6 (g.C.Counter.count c.args.steps.now) (g.C.Counter.count c.answer_ahead.new.steps) c.args.reader.now c.answer_ahead.new.reader) c.from_residual-in_err-push.ensures.1
+    handed (TakesStepsAfter (most_end_looks (rest c.args.reader.now) (seen_escape c.args.end)) 6 (g.C.Counter.count c.args.steps.now) (g.C.Counter.count c.answer_ahead.new.steps) c.args.reader.now c.answer_ahead.new.reader) c.from_residual-in_err-push.ensures.1
     (omega (arith, fit, end.0, end.1, c.advance_counted.ensures.steps, c.answer_ahead.ensures.steps))
 
 pub returns-clause-steps : goal.returns-clause-steps

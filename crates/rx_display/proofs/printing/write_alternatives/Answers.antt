@@ -18,7 +18,7 @@ returns-clause-text g c =
     let all = c.args.alternatives.now in
     let some : (length all ≡ 0) → ⊥ = search rules in
     let own = alternatives_shown (tree_of all) in
-    let behind = pending c.args.tasks.now in
-    let cut = ap (λ text. text ++ behind) (barred_cut all some) ∙ append_assoc (codes "|") own behind in
+    let following = pending c.args.tasks.now in
+    let cut = ap (λ text. text ++ following) (barred_cut all some) ∙ append_assoc (codes "|") own following in
     let written = c.in_ok-write_str.ensures.writes c.requires refl in
     goes_left c.leave_disjunction.result _ (codes "|") _ _ cut written c.leave_disjunction.ensures.text

@@ -64,27 +64,27 @@ returns-in_ok-leave-in-Quantifier-clause-text g c =
 
 pub returns-in_ok-write_str-in-LookAroundAssertion-clause-text : goal.returns-in_ok-write_str-in-LookAroundAssertion-clause-text
 returns-in_ok-write_str-in-LookAroundAssertion-clause-text g c =
-    let behind = pending c.args.tasks.now in
+    let following = pending c.args.tasks.now in
     let it = out-LookAroundAssertion c.in-LookAroundAssertion.it.value in
-    let same = ap (λ t. node_shown (mirror_term t) ++ behind) c.in-LookAroundAssertion.is ∙ look_cut c.in-LookAroundAssertion.it behind in
+    let same = ap (λ t. node_shown (mirror_term t) ++ following) c.in-LookAroundAssertion.is ∙ look_cut c.in-LookAroundAssertion.it following in
     let written = rw c.deref-in-LookAroundAssertion.ensures at (spelled _ _ c.look_text.utf8 c.look_text.ensures (c.in_ok-write_str-in-LookAroundAssertion.ensures.writes c.requires refl)) in
     let left = rw c.deref-in-LookAroundAssertion-2.ensures at c.leave_group.ensures.text in
-    goes_left c.leave_group.result _ (opener_text (looking it.kind)) (inside_text it.body ++ behind) _ same written left
+    goes_left c.leave_group.result _ (opener_text (looking it.kind)) (inside_text it.body ++ following) _ same written left
 
 pub returns-in_ok-write_capturing-in-CapturingGroup-clause-text : goal.returns-in_ok-write_capturing-in-CapturingGroup-clause-text
 returns-in_ok-write_capturing-in-CapturingGroup-clause-text g c =
-    let behind = pending c.args.tasks.now in
+    let following = pending c.args.tasks.now in
     let it = out-CapturingGroup c.in-CapturingGroup.it.value in
-    let same = ap (λ t. node_shown (mirror_term t) ++ behind) c.in-CapturingGroup.is ∙ capturing_cut c.in-CapturingGroup.it behind in
+    let same = ap (λ t. node_shown (mirror_term t) ++ following) c.in-CapturingGroup.is ∙ capturing_cut c.in-CapturingGroup.it following in
     let written = rw c.deref-in-CapturingGroup.ensures at (c.in_ok-write_capturing-in-CapturingGroup.ensures c.requires refl) in
     let left = rw c.deref-in-CapturingGroup-2.ensures at c.leave_group-in-CapturingGroup.ensures.text in
-    goes_left c.leave_group-in-CapturingGroup.result _ (opener_text (capturing it.name)) (inside_text it.body ++ behind) _ same written left
+    goes_left c.leave_group-in-CapturingGroup.result _ (opener_text (capturing it.name)) (inside_text it.body ++ following) _ same written left
 
 pub returns-in_ok-write_ignoring-in-IgnoreGroup-clause-text : goal.returns-in_ok-write_ignoring-in-IgnoreGroup-clause-text
 returns-in_ok-write_ignoring-in-IgnoreGroup-clause-text g c =
-    let behind = pending c.args.tasks.now in
+    let following = pending c.args.tasks.now in
     let it = out-IgnoreGroup c.in-IgnoreGroup.it.value in
-    let same = ap (λ t. node_shown (mirror_term t) ++ behind) c.in-IgnoreGroup.is ∙ ignore_cut c.in-IgnoreGroup.it behind in
+    let same = ap (λ t. node_shown (mirror_term t) ++ following) c.in-IgnoreGroup.is ∙ ignore_cut c.in-IgnoreGroup.it following in
     let written = rw c.deref-in-IgnoreGroup.ensures at (c.in_ok-write_ignoring-in-IgnoreGroup.ensures c.requires refl) in
     let left = rw c.deref-in-IgnoreGroup-2.ensures at c.leave_group-in-IgnoreGroup.ensures.text in
-    goes_left c.leave_group-in-IgnoreGroup.result _ (opener_text (ignoring it.modifiers)) (inside_text it.body ++ behind) _ same written left
+    goes_left c.leave_group-in-IgnoreGroup.result _ (opener_text (ignoring it.modifiers)) (inside_text it.body ++ following) _ same written left

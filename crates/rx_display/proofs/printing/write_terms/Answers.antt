@@ -7,18 +7,19 @@ use Rattle.rx_ast.specs.Tree.{mirror_term, nodes}
 use Rattle.rx_ast.proofs.Sizes.{term_positive}
 use Rattle.rx_display.specs.Tasks.{pending}
 use Rattle.rx_display.proofs.Goes.{goes_as, goes_none}
-use Rattle.rx_display.proofs.Tasks.{joined_cut, terms_cut, terms_first}
+use Rattle.rx_ast.proofs.TermShown.{terms_cons}
+use Rattle.rx_display.proofs.Tasks.{joined_cut, terms_cut}
 use Rattle.rx_display.proofs.printing.write_terms.Goals as goal
 
 pub returns-then-joined-clause-text : goal.returns-then-joined-clause-text
 returns-then-joined-clause-text g c =
-    let cut = joined_cut c.args.joined c.args.terms.now c.in-Some.first.now c.in-Some.behind.now (pending c.args.tasks.now) c.in-Some.ensures.cases.0 c.if-joined.true in
+    let cut = joined_cut c.args.joined c.args.terms.now c.in-Some.first.now c.in-Some.following.now (pending c.args.tasks.now) c.in-Some.ensures.cases.0 c.if-joined.true in
     let left = rw (c.is_some.ensures, c.term_pair-pair.ensures) at c.in_ok-leave_terms.ensures.text in
     goes_none c.requires (cut ∙ sym left)
 
 pub returns-then-joined-clause-size : goal.returns-then-joined-clause-size
 returns-then-joined-clause-size g c =
-    let sized = ap terms_size c.in-Some.ensures.cases.0 ∙ terms_first c.in-Some.first.now c.in-Some.behind.now in
+    let sized = ap terms_size c.in-Some.ensures.cases.0 ∙ terms_cons c.in-Some.first.now c.in-Some.following.now in
     let some = term_positive c.in-Some.first.now in
     let left = c.in_ok-leave_terms.ensures.size in
     omega arith
@@ -26,15 +27,15 @@ returns-then-joined-clause-size g c =
 pub returns-clause-text : goal.returns-clause-text
 returns-clause-text g c =
     let first = c.in-Some.first.now in
-    let own = pair_or (node_pair (mirror_term first) (nodes (map mirror_term c.in-Some.behind.now))) (node_shown (mirror_term first)) in
-    let cut = terms_cut c.args.joined c.args.terms.now first c.in-Some.behind.now (pending c.args.tasks.now) c.in-Some.ensures.cases.0 c.if-joined.false in
+    let own = pair_or (node_pair (mirror_term first) (nodes (map mirror_term c.in-Some.following.now))) (node_shown (mirror_term first)) in
+    let cut = terms_cut c.args.joined c.args.terms.now first c.in-Some.following.now (pending c.args.tasks.now) c.in-Some.ensures.cases.0 c.if-joined.false in
     let left = rw (c.is_some.ensures, c.term_pair-pair.ensures) at c.in_ok-leave_terms.ensures.text in
     let last = rw c.term_pair-pair.ensures at c.write_pair_or.ensures.text in
     on_ok_weaker c.write_pair_or.result (λ opened. goes_as (cut ∙ ap (λ more. own ++ more) (sym left)) opened) last
 
 pub returns-clause-size : goal.returns-clause-size
 returns-clause-size g c =
-    let sized = ap terms_size c.in-Some.ensures.cases.0 ∙ terms_first c.in-Some.first.now c.in-Some.behind.now in
+    let sized = ap terms_size c.in-Some.ensures.cases.0 ∙ terms_cons c.in-Some.first.now c.in-Some.following.now in
     let left = c.in_ok-leave_terms.ensures.size in
     on_ok_weaker c.write_pair_or.result (λ opened. omega arith) c.write_pair_or.ensures.size
 

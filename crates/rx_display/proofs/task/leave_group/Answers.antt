@@ -9,8 +9,8 @@ use Rattle.rx_display.proofs.task.leave_group.Goals as goal
 pub returns-clause-text : goal.returns-clause-text
 returns-clause-text c =
     let own = alternatives_shown (tree_of c.as_slice.result.now) in
-    let behind = pending c.args.tasks.now in
+    let following = pending c.args.tasks.now in
     let same : own ≡ alternatives_shown (mirror_disjunction c.args.body.now).1 = ap (λ as'. alternatives_shown (tree_of as')) c.as_slice.ensures ∙ sym (ap (λ d. alternatives_shown d.1) (disjunction_is c.args.body.now)) in
     on_ok_weaker c.leave_disjunction.result
-    (λ last. last ∙ ap (λ more. own ++ more) c.in_ok-leave.ensures.text ∙ sym (append_assoc own (codes ")") behind) ∙ ap (λ text. (text ++ codes ")") ++ behind) same)
+    (λ last. last ∙ ap (λ more. own ++ more) c.in_ok-leave.ensures.text ∙ sym (append_assoc own (codes ")") following) ∙ ap (λ text. (text ++ codes ")") ++ following) same)
     c.leave_disjunction.ensures.text

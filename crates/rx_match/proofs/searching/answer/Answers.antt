@@ -30,8 +30,8 @@ compile-requires-clause-names c =
 pub returns : goal.returns
 returns c =
     let surveyed = subst (IsSurvey (mirror_disjunction c.args.pattern.now.body).1) c.in-Names.is c.in_ok-span.ensures in
-    outcome_answered c.args.flags (mirror c.args.pattern.now) c.args.input.now _ c.args.start c.args.budget c.match_program.result c.if-flags.false (unsupported_is (mirror c.args.pattern.now) ∙ surveyed.0)
-    (outcome_same (trace_of c.args.input.now c.as_slice-steps.result.now c.in_ok-program.program.entry c.len.result) (pattern_trace c.args.flags (mirror c.args.pattern.now) c.args.input.now)
-    (program_trace c.args.flags (mirror c.args.pattern.now) c.args.input.now c.in_ok-groups.groups c.as_slice-steps.result.now c.in_ok-program.program.entry c.len.result (c.in_ok-groups.ensures ∙ surveyed.1)
+    outcome_answered c.args.flags (mirror c.args.pattern.now) c.args.attempts.input.now _ c.args.attempts.start c.args.attempts.budget c.match_program.result c.if-flags.false (unsupported_is (mirror c.args.pattern.now) ∙ surveyed.0)
+    (outcome_same (trace_of c.args.attempts.input.now c.as_slice-steps.result.now c.in_ok-program.program.entry c.len.result) (pattern_trace c.args.flags (mirror c.args.pattern.now) c.args.attempts.input.now)
+    (program_trace c.args.flags (mirror c.args.pattern.now) c.args.attempts.input.now c.in_ok-groups.groups c.as_slice-steps.result.now c.in_ok-program.program.entry c.len.result (c.in_ok-groups.ensures ∙ surveyed.1)
     c.len.ensures (ap (λ (steps : List Step). code_at steps c.in_ok-program.program.entry) c.as_slice-steps.ensures ∙ c.in_ok-program.ensures.code
-    ∙ ap (λ (s : Setting). each_code c.in_ok-groups.groups (mirror_disjunction c.args.pattern.now.body).1 (settings_of s) s.back 0 accept) c.forward.ensures)) _ c.args.start c.args.budget c.match_program.result c.match_program.ensures)
+    ∙ ap (λ (s : Setting). each_code c.in_ok-groups.groups (mirror_disjunction c.args.pattern.now.body).1 (settings_of s) s.back 0 accept) c.forward.ensures)) _ c.args.attempts.start c.args.attempts.budget c.match_program.result c.match_program.ensures)

@@ -9,12 +9,12 @@ use Rattle.rx_match.proofs.searching.match_program.Goals as goal
 
 pub loop-machine-init : goal.loop-machine-init
 loop-machine-init c =
-    let from = trace_of c.args.input.now c.args.program.now c.args.entry c.args.groups in
+    let from = trace_of c.args.attempts.input.now c.args.program.now c.args.entry c.args.groups in
     let made = c.new-machine.ensures in
     record {
       input = made.input;
       program = made.program;
-      searches = subst (λ left. Searches from c.args.start c.args.last c.args.budget c.args.start left) (sym made.budget) (searches_none from c.args.start c.args.last c.args.budget c.requires.start);
+      searches = subst (λ left. Searches from c.args.attempts.start c.args.attempts.last c.args.attempts.budget c.args.attempts.start left) (sym made.budget) (searches_none from c.args.attempts.start c.args.attempts.last c.args.attempts.budget c.requires.start);
     }
 
 pub run_from-requires-clause-ordered : goal.run_from-requires-clause-ordered
@@ -34,58 +34,58 @@ overflow_add-place c =
 
 pub overflow_sub-ticks : goal.overflow_sub-ticks
 overflow_sub-ticks c =
-    let from = trace_of c.args.input.now c.args.program.now c.args.entry c.args.groups in
-    let ran = ran_here c.loop-machine.machine c.run_from.new.self c.args.input.now c.args.program.now c.args.entry c.args.groups c.loop-machine.place progress.Match c.loop-machine.invariant.input c.loop-machine.invariant.program
+    let from = trace_of c.args.attempts.input.now c.args.program.now c.args.entry c.args.groups in
+    let ran = ran_here c.loop-machine.machine c.run_from.new.self c.args.attempts.input.now c.args.program.now c.args.entry c.args.groups c.loop-machine.place progress.Match c.loop-machine.invariant.input c.loop-machine.invariant.program
     (subst (IsRunFrom c.loop-machine.machine c.run_from.new.self (trace_of c.loop-machine.machine.input.now c.loop-machine.machine.program.now c.args.entry c.args.groups c.loop-machine.place)) c.in-Match.is c.in_ok-run_from.ensures) in
-    let found = searched_found from c.args.start c.args.last c.args.budget c.loop-machine.place c.loop-machine.machine.budget c.loop-machine.invariant.searches _ _ ran.0 ran.1 in
+    let found = searched_found from c.args.attempts.start c.args.attempts.last c.args.attempts.budget c.loop-machine.place c.loop-machine.machine.budget c.loop-machine.invariant.searches _ _ ran.0 ran.1 in
     let paid = found.2 in
     omega arith
 
 pub returns-in-Match : goal.returns-in-Match
 returns-in-Match c =
-    let from = trace_of c.args.input.now c.args.program.now c.args.entry c.args.groups in
-    let ran = ran_here c.loop-machine.machine c.run_from.new.self c.args.input.now c.args.program.now c.args.entry c.args.groups c.loop-machine.place progress.Match c.loop-machine.invariant.input c.loop-machine.invariant.program
+    let from = trace_of c.args.attempts.input.now c.args.program.now c.args.entry c.args.groups in
+    let ran = ran_here c.loop-machine.machine c.run_from.new.self c.args.attempts.input.now c.args.program.now c.args.entry c.args.groups c.loop-machine.place progress.Match c.loop-machine.invariant.input c.loop-machine.invariant.program
     (subst (IsRunFrom c.loop-machine.machine c.run_from.new.self (trace_of c.loop-machine.machine.input.now c.loop-machine.machine.program.now c.args.entry c.args.groups c.loop-machine.place)) c.in-Match.is c.in_ok-run_from.ensures) in
-    let found = searched_found from c.args.start c.args.last c.args.budget c.loop-machine.place c.loop-machine.machine.budget c.loop-machine.invariant.searches _ _ ran.0 ran.1 in
+    let found = searched_found from c.args.attempts.start c.args.attempts.last c.args.attempts.budget c.loop-machine.place c.loop-machine.machine.budget c.loop-machine.invariant.searches _ _ ran.0 ran.1 in
     let paid = found.2 in
     ((found.0 ∙ ap (λ (f : Found). Some (record { place = f.end; slots = f.groups })) (sym c.found_from.ensures), ap (λ (f : Found). f.start) c.found_from.ensures ∙ found.1, omega arith), omega arith)
 
 pub returns-in-Spent : goal.returns-in-Spent
 returns-in-Spent c =
-    let from = trace_of c.args.input.now c.args.program.now c.args.entry c.args.groups in
-    let ran = ran_here c.loop-machine.machine c.run_from.new.self c.args.input.now c.args.program.now c.args.entry c.args.groups c.loop-machine.place progress.Spent c.loop-machine.invariant.input c.loop-machine.invariant.program
+    let from = trace_of c.args.attempts.input.now c.args.program.now c.args.entry c.args.groups in
+    let ran = ran_here c.loop-machine.machine c.run_from.new.self c.args.attempts.input.now c.args.program.now c.args.entry c.args.groups c.loop-machine.place progress.Spent c.loop-machine.invariant.input c.loop-machine.invariant.program
     (subst (IsRunFrom c.loop-machine.machine c.run_from.new.self (trace_of c.loop-machine.machine.input.now c.loop-machine.machine.program.now c.args.entry c.args.groups c.loop-machine.place)) c.in-Spent.is c.in_ok-run_from.ensures) in
-    searched_spent from c.args.start c.args.last c.args.budget c.loop-machine.place c.loop-machine.machine.budget c.loop-machine.invariant.searches ran
+    searched_spent from c.args.attempts.start c.args.attempts.last c.args.attempts.budget c.loop-machine.place c.loop-machine.machine.budget c.loop-machine.invariant.searches ran
 
-pub overflow_sub-ticks-then-place-last : goal.overflow_sub-ticks-then-place-last
-overflow_sub-ticks-then-place-last c =
-    let from = trace_of c.args.input.now c.args.program.now c.args.entry c.args.groups in
-    let ran = ran_here c.loop-machine.machine c.run_from.new.self c.args.input.now c.args.program.now c.args.entry c.args.groups c.loop-machine.place progress.NoMatch c.loop-machine.invariant.input c.loop-machine.invariant.program
+pub overflow_sub-ticks-then-place-attempts : goal.overflow_sub-ticks-then-place-attempts
+overflow_sub-ticks-then-place-attempts c =
+    let from = trace_of c.args.attempts.input.now c.args.program.now c.args.entry c.args.groups in
+    let ran = ran_here c.loop-machine.machine c.run_from.new.self c.args.attempts.input.now c.args.program.now c.args.entry c.args.groups c.loop-machine.place progress.NoMatch c.loop-machine.invariant.input c.loop-machine.invariant.program
     (subst (IsRunFrom c.loop-machine.machine c.run_from.new.self (trace_of c.loop-machine.machine.input.now c.loop-machine.machine.program.now c.args.entry c.args.groups c.loop-machine.place)) c.in-NoMatch.is c.in_ok-run_from.ensures) in
-    let none = searched_all from c.args.start c.args.last c.args.budget c.loop-machine.place c.loop-machine.machine.budget c.loop-machine.invariant.searches _ c.if-place-last.true ran.0 ran.1 in
+    let none = searched_all from c.args.attempts.start c.args.attempts.last c.args.attempts.budget c.loop-machine.place c.loop-machine.machine.budget c.loop-machine.invariant.searches _ c.if-place-attempts.true ran.0 ran.1 in
     let paid = none.1 in
     omega arith
 
-pub returns-then-place-last : goal.returns-then-place-last
-returns-then-place-last c =
-    let from = trace_of c.args.input.now c.args.program.now c.args.entry c.args.groups in
-    let ran = ran_here c.loop-machine.machine c.run_from.new.self c.args.input.now c.args.program.now c.args.entry c.args.groups c.loop-machine.place progress.NoMatch c.loop-machine.invariant.input c.loop-machine.invariant.program
+pub returns-then-place-attempts : goal.returns-then-place-attempts
+returns-then-place-attempts c =
+    let from = trace_of c.args.attempts.input.now c.args.program.now c.args.entry c.args.groups in
+    let ran = ran_here c.loop-machine.machine c.run_from.new.self c.args.attempts.input.now c.args.program.now c.args.entry c.args.groups c.loop-machine.place progress.NoMatch c.loop-machine.invariant.input c.loop-machine.invariant.program
     (subst (IsRunFrom c.loop-machine.machine c.run_from.new.self (trace_of c.loop-machine.machine.input.now c.loop-machine.machine.program.now c.args.entry c.args.groups c.loop-machine.place)) c.in-NoMatch.is c.in_ok-run_from.ensures) in
-    let none = searched_all from c.args.start c.args.last c.args.budget c.loop-machine.place c.loop-machine.machine.budget c.loop-machine.invariant.searches _ c.if-place-last.true ran.0 ran.1 in
+    let none = searched_all from c.args.attempts.start c.args.attempts.last c.args.attempts.budget c.loop-machine.place c.loop-machine.machine.budget c.loop-machine.invariant.searches _ c.if-place-attempts.true ran.0 ran.1 in
     let paid = none.1 in
     ((none.0, omega arith), omega arith)
 
 pub loop-machine-preserved : goal.loop-machine-preserved
 loop-machine-preserved c =
-    let from = trace_of c.args.input.now c.args.program.now c.args.entry c.args.groups in
-    let ran = ran_here c.loop-machine.machine c.run_from.new.self c.args.input.now c.args.program.now c.args.entry c.args.groups c.loop-machine.place progress.NoMatch c.loop-machine.invariant.input c.loop-machine.invariant.program
+    let from = trace_of c.args.attempts.input.now c.args.program.now c.args.entry c.args.groups in
+    let ran = ran_here c.loop-machine.machine c.run_from.new.self c.args.attempts.input.now c.args.program.now c.args.entry c.args.groups c.loop-machine.place progress.NoMatch c.loop-machine.invariant.input c.loop-machine.invariant.program
     (subst (IsRunFrom c.loop-machine.machine c.run_from.new.self (trace_of c.loop-machine.machine.input.now c.loop-machine.machine.program.now c.args.entry c.args.groups c.loop-machine.place)) c.in-NoMatch.is c.in_ok-run_from.ensures) in
     let w = c.loop-machine.invariant.searches.within in
-    let before : c.loop-machine.place < c.args.last = omega arith in
+    let before : c.loop-machine.place < c.args.attempts.last = omega arith in
     record {
       input = ap (λ i. i.now) ran.2 ∙ c.loop-machine.invariant.input;
       program = ap (λ p. p.now) ran.3 ∙ c.loop-machine.invariant.program;
-      searches = searches_on from c.args.start c.args.last c.args.budget c.loop-machine.place c.loop-machine.machine.budget c.loop-machine.invariant.searches _ before ran.0 ran.1;
+      searches = searches_on from c.args.attempts.start c.args.attempts.last c.args.attempts.budget c.loop-machine.place c.loop-machine.machine.budget c.loop-machine.invariant.searches _ before ran.0 ran.1;
     }
 
 pub loop-machine-smaller : goal.loop-machine-smaller

@@ -9,6 +9,6 @@ use Rattle.rx_parser.proofs.front.any_escape_at.Goals as goal
 
 pub returns-clause-within : goal.returns-clause-within
 returns-clause-within g c = λ kind value n is.
-    let us = c.args.behind.now in
+    let us = c.args.following.now in
     let l = any_within false (seen_environment c.args.environment) kind value n (values us) (sym c.escape_in_mode.ensures.read ∙ ap seen_escape is) in
     omega (arith, l, length-map us (λ (u : CodePoint). u.value))

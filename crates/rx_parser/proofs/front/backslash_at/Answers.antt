@@ -10,7 +10,7 @@ use Rattle.rx_parser.proofs.front.backslash_at.Goals as goal
 
 pub returns-then-is_reference-clause-steps : goal.returns-then-is_reference-clause-steps
 returns-then-is_reference-clause-steps g c =
-    let us = c.args.behind.now in
+    let us = c.args.following.now in
     let old = g.C.Counter.count c.args.steps.now in
     let mid = g.C.Counter.count c.is_reference.new.steps in
     let first : Rises old mid 0 (plain us + 1) = (omega (arith, c.is_reference.ensures.steps), omega (arith, c.is_reference.ensures.steps, run_under_plain us)) in
@@ -18,7 +18,7 @@ returns-then-is_reference-clause-steps g c =
 
 pub returns-then-is_named-clause-steps : goal.returns-then-is_named-clause-steps
 returns-then-is_named-clause-steps g c =
-    let us = c.args.behind.now in
+    let us = c.args.following.now in
     let old = g.C.Counter.count c.args.steps.now in
     let mid = g.C.Counter.count c.is_reference.new.steps in
     let first : Rises old mid 0 (plain us + 1) = (omega (arith, c.is_reference.ensures.steps), omega (arith, c.is_reference.ensures.steps, run_under_plain us)) in
@@ -26,11 +26,11 @@ returns-then-is_named-clause-steps g c =
 
 pub returns-then-is_unicode-clause-steps : goal.returns-then-is_unicode-clause-steps
 returns-then-is_unicode-clause-steps g c =
-    let us = c.args.behind.now in
+    let us = c.args.following.now in
     let none = property_run us (unit 0 0 0 kind.None) c.in-len1-up.len_at_least (sym c.begins_property.ensures ∙ c.if-begins_property.true) in
     (omega (arith, c.is_reference.ensures.steps), omega (arith, c.is_reference.ensures.steps, none))
 
 pub returns-clause-steps : goal.returns-clause-steps
 returns-clause-steps g c =
-    escape_steps c.args.behind.now (g.C.Counter.count c.args.steps.now) (g.C.Counter.count c.is_reference.new.steps) (g.C.Counter.count c.escape_at.new.steps) c.escape_at.result
+    escape_steps c.args.following.now (g.C.Counter.count c.args.steps.now) (g.C.Counter.count c.is_reference.new.steps) (g.C.Counter.count c.escape_at.new.steps) c.escape_at.result
     c.is_reference.ensures.steps c.escape_at.ensures.steps

@@ -8,7 +8,7 @@ returns-in-Nothing-clause-steps g c =
     let it = c.character_escape_at in
     let more = c.legacy_escape_at in
     let e = seen_environment c.args.environment in
-    let us = c.args.behind.now in
+    let us = c.args.following.now in
     let old = g.C.Counter.count c.args.steps.now in
     let mid = g.C.Counter.count it.new.steps in
     legacy_steps e us more.result old mid (g.C.Counter.count more.new.steps)

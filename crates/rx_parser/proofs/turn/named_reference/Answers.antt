@@ -1,7 +1,7 @@
 use Rattle.std.proofs.Common.{◌≡◌, ap, sym, ◌∙◌, subst, true, false, Contains, rules}
+use Rattle.rx_base.specs.Texts.{is_among}
 use Rattle.rx_base.specs.declared.fault.Fault.TheVariants.{Diagnostic}
 use Rattle.rx_base.specs.declared.diagnostic.Diagnostic.TheVariants.{InvalidNamedReference}
-use Rattle.rx_model.specs.Trees.Names.{is_among}
 use Rattle.rx_model.specs.Trees.Token.{named}
 use Rattle.rx_model.proofs.Trees.Names.{found_among}
 use Rattle.rx_parser.specs.Parsing.{IsRefused}

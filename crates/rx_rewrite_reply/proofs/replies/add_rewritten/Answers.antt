@@ -14,6 +14,6 @@ returns-in-Some c =
 pub returns : goal.returns
 returns c =
     on_ok_weaker c.add_answer.result
-    (rewrite_replied c.args.wanted c.args.letters.now c.args.mode (mirror c.args.pattern.now) c.rewrites-what.result c.match_flags-flags.result c.args.bytes.now c.add_answer.new.bytes
-    c.rewrites-what.ensures c.match_flags-flags.ensures.flags (sym c.in_ok-left.ensures ∙ c.in_default.is) c.rewrite-answer.result c.rewrite-answer.ensures.rewritten)
+    (rewrite_replied c.args.rewriting.wanted c.args.rewriting.letters.now c.args.rewriting.mode (mirror c.args.pattern.now) c.rewrites.result c.match_flags-flags.result c.args.bytes.now c.add_answer.new.bytes
+    c.rewrites.ensures c.match_flags-flags.ensures.flags (sym c.in_ok-left.ensures ∙ c.in_default.is) c.rewrite-answer.result c.rewrite-answer.ensures.rewritten)
     c.add_answer.ensures

@@ -1,8 +1,7 @@
-use Rattle.std.proofs.Common.{◌+◌, ◌≤◌, ◌==◌, ◌≡◌, ◌∙◌, ap, rules, arith, drop, length}
+use Rattle.std.proofs.Common.{◌+◌, ◌≤◌, ◌==◌, ◌≡◌, rules, arith, drop, length}
 use Rattle.rx_units.specs.Units.{values}
-use Rattle.rx_model.specs.FirstPass.Marks.{starts}
 use Rattle.rx_model.specs.Groups.GroupNameReading.{character, no_character, name_character_at}
-use Rattle.rx_scan.proofs.GroupNames.{at_place, character_some, character_within, none_before, goes_on, row_ended, row_whole, is_longest, rest_length, rest_values}
+use Rattle.rx_scan.proofs.GroupNames.{at_place, character_some, character_within, none_before, goes_on, row_ended, row_whole, is_longest, plain_there, rest_length}
 use Rattle.rx_scan.proofs.group_name.group_name_length_counted.Given as given
 use Rattle.rx_scan.proofs.group_name.group_name_length_counted.Goals as goal
 
@@ -16,7 +15,7 @@ loop-length-init g c = record {
 
 -- the character that was read at the place
 read_here : (g : given.Over) (c : goal.In-Some g) → character c.in-Some.field-0-0 c.in-Some.count ≡ name_character_at c.args.unicode_mode (c.loop-length.length == 0) (values (drop c.loop-length.length c.args.units.now))
-read_here g c = at_place c.args.unicode_mode c.args.units.now c.loop-length.length (character c.in-Some.field-0-0 c.in-Some.count) c.in-Some.ensures.read
+read_here g c = at_place c.args.units.now c.loop-length.length _ c.loop-length-test.true c.args.unicode_mode (character c.in-Some.field-0-0 c.in-Some.count) c.in-Some.ensures.read
 
 within_here : (g : given.Over) (c : goal.In-Some g) → c.loop-length.length + c.in-Some.count ≤ length c.args.units.now
 within_here g c = character_within c.args.unicode_mode (c.loop-length.length == 0) c.args.units.now c.loop-length.length c.in-Some.field-0-0 c.in-Some.count c.loop-length.invariant.within (read_here g c)
@@ -43,15 +42,15 @@ loop-length-preserved g c = record {
 pub returns-in-None-clause-read : goal.returns-in-None-clause-read
 returns-in-None-clause-read g c =
     row_ended c.args.unicode_mode c.args.units.now c.loop-length.length c.loop-length.invariant.read
-    (at_place c.args.unicode_mode c.args.units.now c.loop-length.length no_character c.in-None.ensures.read)
+    (at_place c.args.units.now c.loop-length.length _ c.loop-length-test.true c.args.unicode_mode no_character c.in-None.ensures.read)
 
 pub returns-in-None-clause-ends : goal.returns-in-None-clause-ends
 returns-in-None-clause-ends g c = λ plain.
-    let none = c.in-None.ensures.raw (ap (starts 92) (rest_values c.args.units.now c.loop-length.length) ∙ plain) in
+    let none = c.in-None.ensures.raw (plain_there c.args.units.now c.loop-length.length _ c.loop-length-test.true plain) in
     omega arith
 
 pub returns-in-None-clause-most : goal.returns-in-None-clause-most
-returns-in-None-clause-most g c = omega (arith, c.in-None.ensures.steps, rest_length c.args.units.now c.loop-length.length)
+returns-in-None-clause-most g c = omega (arith, c.in-None.ensures.steps, rest_length c.args.units.now c.loop-length.length, c.loop-length-test.true)
 
 pub returns-in-None-clause-least : goal.returns-in-None-clause-least
 returns-in-None-clause-least g c = omega (arith, c.in-None.ensures.steps)

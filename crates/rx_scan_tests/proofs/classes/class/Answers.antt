@@ -13,8 +13,8 @@ counted_class-found-requires-clause-pass c =
     let new = c.initialize_with_parsing.new.self in
     let small : new.num_of_capturing_groups < 2 ^ 32 - 1 = search rules in
     subst (λ (r : Cursor). HoldsFirstPass new r.units) (sym it.reader)
-    (holds_first_pass c.in_ok-reader.reader.units c.new-state.result new it.unicode_mode it.unicode_sets_mode
-    (without_err call no_err it.groups) (without_err call no_err it.names) small)
+    (holds_first_pass c.in_ok-reader.reader.units c.new-state.result new it.counted.unicode_mode it.counted.unicode_sets_mode
+    (without_err call no_err it.counted.groups) (without_err call no_err it.counted.names) small)
 
 pub counted_class-found-requires-clause-fits : goal.counted_class-found-requires-clause-fits
 counted_class-found-requires-clause-fits c =

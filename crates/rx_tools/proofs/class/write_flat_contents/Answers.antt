@@ -6,13 +6,13 @@ use Rattle.rx_base.proofs.Writings.{left_all, left_then, left_stop, left_none}
 use Rattle.rx_ast.specs.Texts.{operator_text}
 use Rattle.rx_model.specs.Spelling.ClassText.{member_text}
 use Rattle.rx_tools.specs.Utf8.{utf8}
-use Rattle.rx_tools.proofs.Classes.{behind_nothing, contents_next, contents_none, flat_parts}
+use Rattle.rx_tools.proofs.Classes.{after_nothing, contents_next, contents_none, flat_parts}
 use Rattle.rx_tools.proofs.Pieces.{utf8-nil, text_next, failed_from}
 use Rattle.rx_tools.proofs.class.write_flat_contents.Goals as goal
 
 pub loop-contents-init : goal.loop-contents-init
 unfolding chars
-loop-contents-init g c = record { is_text = IsUtf8-nil; flat = c.requires; written = rw (← behind_nothing c.args.mode (operator_text c.args.kind) _) (left_all _ _ _ _ _) }
+loop-contents-init g c = record { is_text = IsUtf8-nil; flat = c.requires; written = rw (← after_nothing c.args.mode (operator_text c.args.kind) _) (left_all _ _ _ _ _) }
 
 pub write_contents-requires : goal.write_contents-requires
 write_contents-requires g c = (flat_parts c.args.all_contents.now c.loop-contents.contents-index c.contents-item.result c.loop-contents-test.true c.contents-item.is c.loop-contents.invariant.flat).0

@@ -8,7 +8,7 @@ use Rattle.rx_ast.specs.Texts.{operator_text}
 use Rattle.rx_model.specs.Spelling.ClassText.{members_text}
 use Rattle.rx_tools.specs.Leaves.{are_flat}
 use Rattle.rx_tools.specs.Utf8.{utf8}
-use Rattle.rx_tools.proofs.Classes.{contents_behind}
+use Rattle.rx_tools.proofs.Classes.{contents_after}
 use Rattle.rx_tools.proofs.class.write_flat_contents.Given as goal
 
 abbrev pub invariant-loop-contents : goal.invariant-loop-contents
@@ -16,5 +16,5 @@ invariant-loop-contents g l = record {
   is_text : shadow (Utf8 l.before);
   flat : are_flat (members (map mirror_contents (drop l.contents-index l.all_contents))) ≡ true;
   written : Left g.W.TextSink.taken g.W.TextSink.fixed g.W.TextSink.faults l.fn.sink l.sink (utf8 (members_text l.mode (operator_text l.fn.kind) (members (map mirror_contents l.all_contents))))
-      (utf8 (contents_behind l.mode (chars l.before) (operator_text l.fn.kind) (members (map mirror_contents (drop l.contents-index l.all_contents)))));
+      (utf8 (contents_after l.mode (chars l.before) (operator_text l.fn.kind) (members (map mirror_contents (drop l.contents-index l.all_contents)))));
 }

@@ -30,6 +30,6 @@ returns-clause-size g c =
 pub returns-in_default-clause-text : goal.returns-in_default-clause-text
 unfolding chars
 returns-in_default-clause-text g c =
-    let behind = class_pending c.args.mode c.args.tasks.now in
-    let none = ap (λ ms. rest_of_class c.args.mode (operator_text c.args.kind) ms ++ behind) (none_long c.args.contents.now c.in_default.ensures.cases) in
+    let following = class_pending c.args.mode c.args.tasks.now in
+    let none = ap (λ ms. rest_of_class c.args.mode (operator_text c.args.kind) ms ++ following) (none_long c.args.contents.now c.in_default.ensures.cases) in
     goes_last c.write_str.result _ _ _ _ (codes "]") _ (goes_none _ none) c.write_str.ensures.whole

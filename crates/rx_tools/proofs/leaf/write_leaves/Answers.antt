@@ -6,7 +6,7 @@ use Rattle.rx_model.specs.Spelling.Spelling.{refers, node_text, nodes_text}
 use Rattle.rx_tools.specs.Leaves.{rest_text}
 use Rattle.rx_tools.proofs.Leaves.{front_none, front_then, front_written, front_fails, front_rest, unless_wrote, unless_not}
 use Rattle.rx_tools.proofs.Pieces.{same_text, text_stop, failed_from}
-use Rattle.rx_display.proofs.Tasks.{terms_first}
+use Rattle.rx_ast.proofs.TermShown.{terms_cons}
 use Rattle.rx_tools.proofs.leaf.write_leaves.Goals as goal
 
 pub loop-first-init : goal.loop-first-init
@@ -34,5 +34,5 @@ loop-first-preserved g c =
     let wrote = same_text (sym (unless_wrote Failed c.in_ok-write_if_leaf.field-0 first c.if-not-branch.false)) c.in_ok-write_if_leaf.ensures in
     record {
       written = front_then c.loop-first.invariant.written (front_written _ first wrote cut);
-      smaller = omega (arith, c.loop-first.invariant.smaller, ap terms_size c.in-Some.ensures.cases.0 ∙ terms_first c.in-Some.first.now c.in-Some.terms.now);
+      smaller = omega (arith, c.loop-first.invariant.smaller, ap terms_size c.in-Some.ensures.cases.0 ∙ terms_cons c.in-Some.first.now c.in-Some.terms.now);
     }

@@ -20,10 +20,10 @@ pub loop-term-preserved : goal.loop-term-preserved
 loop-term-preserved g c =
     let q = c.in-Quantifier.it in
     let spelled = node_text c.args.mode c.args.after_reference in
-    let behind = pending c.args.mode c.loop-term.tasks in
+    let following = pending c.args.mode c.loop-term.tasks in
     let is = c.in-Quantifier.is in
     let left = rw c.deref.ensures at (c.in_ok-leave_suffix-in-Quantifier.ensures.text c.args.mode) in
-    let cut = ap (λ t. spelled (mirror_term t) ++ behind) is ∙ quantifier_cut c.args.mode c.args.after_reference q behind ∙ ap (λ more. spelled (mirror_term q.value.body) ++ more) (sym left) in
+    let cut = ap (λ t. spelled (mirror_term t) ++ following) is ∙ quantifier_cut c.args.mode c.args.after_reference q following ∙ ap (λ more. spelled (mirror_term q.value.body) ++ more) (sym left) in
     let kept = c.loop-term.invariant.size in
     let whole = ap term_size is ∙ size_of_quantifier q in
     let weighs = c.in_ok-leave_suffix-in-Quantifier.ensures.size in
@@ -31,35 +31,35 @@ loop-term-preserved g c =
 
 pub returns-in-LookAroundAssertion-clause-text : goal.returns-in-LookAroundAssertion-clause-text
 returns-in-LookAroundAssertion-clause-text g c =
-    let behind = pending c.args.mode c.loop-term.tasks in
-    let cut = ap (λ t. node_text c.args.mode c.args.after_reference (mirror_term t) ++ behind) c.in-LookAroundAssertion.is ∙ look_cut c.args.mode c.args.after_reference c.in-LookAroundAssertion.it behind in
+    let following = pending c.args.mode c.loop-term.tasks in
+    let cut = ap (λ t. node_text c.args.mode c.args.after_reference (mirror_term t) ++ following) c.in-LookAroundAssertion.is ∙ look_cut c.args.mode c.args.after_reference c.in-LookAroundAssertion.it following in
     let inner = inside_text c.args.mode (out-LookAroundAssertion c.in-LookAroundAssertion.it.value).body in
     let written = rw (c.look_text.ensures, c.deref-in-LookAroundAssertion.ensures) at c.in_ok-write_str-in-LookAroundAssertion.ensures.whole in
     let group = rw c.deref-in-LookAroundAssertion-2.ensures at c.leave_group.ensures.text in
-    on_ok_weaker c.leave_group.result (λ left. goes_opened _ inner behind _ c.loop-term.invariant.text cut (left c.args.mode) written) group
+    on_ok_weaker c.leave_group.result (λ left. goes_opened _ inner following _ c.loop-term.invariant.text cut (left c.args.mode) written) group
 
 pub returns-in-CapturingGroup-clause-text : goal.returns-in-CapturingGroup-clause-text
 returns-in-CapturingGroup-clause-text g c =
-    let behind = pending c.args.mode c.loop-term.tasks in
-    let cut = ap (λ t. node_text c.args.mode c.args.after_reference (mirror_term t) ++ behind) c.in-CapturingGroup.is ∙ capturing_cut c.args.mode c.args.after_reference c.in-CapturingGroup.it behind in
+    let following = pending c.args.mode c.loop-term.tasks in
+    let cut = ap (λ t. node_text c.args.mode c.args.after_reference (mirror_term t) ++ following) c.in-CapturingGroup.is ∙ capturing_cut c.args.mode c.args.after_reference c.in-CapturingGroup.it following in
     let inner = inside_text c.args.mode (out-CapturingGroup c.in-CapturingGroup.it.value).body in
     let written = rw c.deref-in-CapturingGroup.ensures at c.in_ok-write_capturing-in-CapturingGroup.ensures.whole in
     let group = rw c.deref-in-CapturingGroup-2.ensures at c.leave_group-in-CapturingGroup.ensures.text in
-    on_ok_weaker c.leave_group-in-CapturingGroup.result (λ left. goes_opened _ inner behind _ c.loop-term.invariant.text cut (left c.args.mode) written) group
+    on_ok_weaker c.leave_group-in-CapturingGroup.result (λ left. goes_opened _ inner following _ c.loop-term.invariant.text cut (left c.args.mode) written) group
 
 pub returns-in-IgnoreGroup-clause-text : goal.returns-in-IgnoreGroup-clause-text
 returns-in-IgnoreGroup-clause-text g c =
-    let behind = pending c.args.mode c.loop-term.tasks in
-    let cut = ap (λ t. node_text c.args.mode c.args.after_reference (mirror_term t) ++ behind) c.in-IgnoreGroup.is ∙ ignore_cut c.args.mode c.args.after_reference c.in-IgnoreGroup.it behind in
+    let following = pending c.args.mode c.loop-term.tasks in
+    let cut = ap (λ t. node_text c.args.mode c.args.after_reference (mirror_term t) ++ following) c.in-IgnoreGroup.is ∙ ignore_cut c.args.mode c.args.after_reference c.in-IgnoreGroup.it following in
     let inner = inside_text c.args.mode (out-IgnoreGroup c.in-IgnoreGroup.it.value).body in
     let written = rw c.deref-in-IgnoreGroup.ensures at c.in_ok-write_ignoring-in-IgnoreGroup.ensures.whole in
     let group = rw c.deref-in-IgnoreGroup-2.ensures at c.leave_group-in-IgnoreGroup.ensures.text in
-    on_ok_weaker c.leave_group-in-IgnoreGroup.result (λ left. goes_opened _ inner behind _ c.loop-term.invariant.text cut (left c.args.mode) written) group
+    on_ok_weaker c.leave_group-in-IgnoreGroup.result (λ left. goes_opened _ inner following _ c.loop-term.invariant.text cut (left c.args.mode) written) group
 
 pub returns-in-CharacterClass-clause-text : goal.returns-in-CharacterClass-clause-text
 returns-in-CharacterClass-clause-text g c =
-    let behind = pending c.args.mode c.loop-term.tasks in
-    let same = ap (λ t. node_text c.args.mode c.args.after_reference (mirror_term t) ++ behind) c.in-CharacterClass.is ∙ ap (λ n. node_text c.args.mode c.args.after_reference n ++ behind) (class_is c.in-CharacterClass.it) in
+    let following = pending c.args.mode c.loop-term.tasks in
+    let same = ap (λ t. node_text c.args.mode c.args.after_reference (mirror_term t) ++ following) c.in-CharacterClass.is ∙ ap (λ n. node_text c.args.mode c.args.after_reference n ++ following) (class_is c.in-CharacterClass.it) in
     let written = rw c.deref-in-CharacterClass.ensures at c.write_class.ensures in
     goes_last c.write_class.result _ _ _ _ _ _ (goes_to c.loop-term.invariant.text same) written
 

@@ -23,5 +23,5 @@ returns-clause-size g c =
 
 pub returns-in_default-clause-text : goal.returns-in_default-clause-text
 returns-in_default-clause-text g c =
-    let behind = pending c.args.mode c.args.tasks.now in
-    goes_none _ (ap (λ as'. alternatives_text c.args.mode (tree_of as') ++ behind) (none_long c.args.alternatives.now c.in_default.ensures.cases))
+    let following = pending c.args.mode c.args.tasks.now in
+    goes_none _ (ap (λ as'. alternatives_text c.args.mode (tree_of as') ++ following) (none_long c.args.alternatives.now c.in_default.ensures.cases))

@@ -7,13 +7,13 @@ use Rattle.rx_ast.specs.Texts.{operator_text}
 use Rattle.rx_model.specs.Spelling.ClassText.{member_text}
 use Rattle.rx_tools.specs.Utf8.{utf8}
 use Rattle.rx_ast.proofs.ClassSizes.{contents_within}
-use Rattle.rx_tools.proofs.Classes.{behind_nothing, class_texts, contents_next, contents_none}
+use Rattle.rx_tools.proofs.Classes.{after_nothing, class_texts, contents_next, contents_none}
 use Rattle.rx_tools.proofs.Pieces.{utf8-nil, same_text, text_next, text_then, text_stop, failed_from}
 use Rattle.rx_tools.proofs.recursive.+class.Goals as goal
 
 pub write_all_contents-loop-contents-init : goal.write_all_contents-loop-contents-init
 unfolding chars
-write_all_contents-loop-contents-init g t c = record { is_text = IsUtf8-nil; written = rw (← behind_nothing c.args.mode (operator_text c.args.kind) _) (left_all _ _ _ _ _) }
+write_all_contents-loop-contents-init g t c = record { is_text = IsUtf8-nil; written = rw (← after_nothing c.args.mode (operator_text c.args.kind) _) (left_all _ _ _ _ _) }
 
 pub write_all_contents-returns-in_err-write_str : goal.write_all_contents-returns-in_err-write_str
 write_all_contents-returns-in_err-write_str g t c =

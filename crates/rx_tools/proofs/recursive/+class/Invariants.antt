@@ -8,7 +8,7 @@ use Rattle.rx_base.proofs.Writings.{Left}
 use Rattle.rx_ast.specs.Texts.{operator_text}
 use Rattle.rx_model.specs.Spelling.ClassText.{members_text}
 use Rattle.rx_tools.specs.Utf8.{utf8}
-use Rattle.rx_tools.proofs.Classes.{contents_behind}
+use Rattle.rx_tools.proofs.Classes.{contents_after}
 use Rattle.rx_tools.proofs.recursive.+class.Given as goal
 
 abbrev pub decreases-write_one_contents : goal.decreases-write_one_contents
@@ -24,5 +24,5 @@ abbrev pub invariant-write_all_contents-loop-contents : goal.invariant-write_all
 invariant-write_all_contents-loop-contents g l = record {
   is_text : shadow (Utf8 l.before);
   written : Left g.W.TextSink.taken g.W.TextSink.fixed g.W.TextSink.faults l.fn.sink l.sink (utf8 (members_text l.mode (operator_text l.fn.kind) (members (map mirror_contents l.all_contents))))
-      (utf8 (contents_behind l.mode (chars l.before) (operator_text l.fn.kind) (members (map mirror_contents (drop l.contents-index l.all_contents)))));
+      (utf8 (contents_after l.mode (chars l.before) (operator_text l.fn.kind) (members (map mirror_contents (drop l.contents-index l.all_contents)))));
 }

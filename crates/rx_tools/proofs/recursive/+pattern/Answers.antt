@@ -13,13 +13,13 @@ use Rattle.rx_tools.specs.Leaves.{rest_text}
 use Rattle.rx_tools.specs.Utf8.{utf8}
 use Rattle.rx_tools.proofs.Leaves.{fails_front, front_then, front_written, front_rest}
 use Rattle.rx_tools.proofs.Pieces.{utf8-nil, same_text, text_next, text_then, text_stop, failed_from}
-use Rattle.rx_display.proofs.Tasks.{terms_first}
-use Rattle.rx_tools.proofs.Trees.{behind_nothing, alternatives_next, alternatives_none}
+use Rattle.rx_ast.proofs.TermShown.{terms_cons}
+use Rattle.rx_tools.proofs.Trees.{after_nothing, alternatives_next, alternatives_none}
 use Rattle.rx_tools.proofs.recursive.+pattern.Goals as goal
 
 pub write_alternatives-loop-alternative-init : goal.write_alternatives-loop-alternative-init
 unfolding chars
-write_alternatives-loop-alternative-init g t c = record { is_text = IsUtf8-nil; written = rw (← behind_nothing c.args.mode _) (left_all _ _ _ _ _) }
+write_alternatives-loop-alternative-init g t c = record { is_text = IsUtf8-nil; written = rw (← after_nothing c.args.mode _) (left_all _ _ _ _ _) }
 
 pub write_alternatives-returns-in_err-write_str : goal.write_alternatives-returns-in_err-write_str
 write_alternatives-returns-in_err-write_str g t c =
@@ -97,7 +97,7 @@ write_term-returns-in_ok-write_ignoring-in-IgnoreGroup g t c =
 
 pub write_terms-write_term-requires : goal.write_terms-write_term-requires
 write_terms-write_term-requires g t c = λ κs within.
-    (omega (arith, c.loop-term.invariant.smaller, ap terms_size c.in-Some.ensures.cases.0 ∙ terms_first c.in-Some.term.now c.in-Some.others.now), search rules)
+    (omega (arith, c.loop-term.invariant.smaller, ap terms_size c.in-Some.ensures.cases.0 ∙ terms_cons c.in-Some.term.now c.in-Some.others.now), search rules)
 
 pub write_terms-returns-in_err-write_term : goal.write_terms-returns-in_err-write_term
 write_terms-returns-in_err-write_term g t c =
@@ -111,21 +111,21 @@ pub write_terms-returns-in_err-rest-2 : goal.write_terms-returns-in_err-rest-2
 write_terms-returns-in_err-rest-2 g t c =
     let rest = c.loop-term.rest in
     let first = node_text c.args.mode rest.after_reference (mirror_term c.in-Some.term.now) in
-    let behind : Rest = record { after_reference = c.refers.result; terms = c.in-Some.others } in
-    let cut : rest_text c.args.mode rest ≡ first ++ rest_text c.args.mode behind = rw (c.in-Some.ensures.cases.0, c.refers.ensures) refl in
-    front_rest (front_then {later_text = rest_text c.args.mode} c.loop-term.invariant.written (front_written {F = Failed} behind first c.in_ok-write_term.ensures cut)) (fails_front c.in_err-rest-2.ensures.written (failed_from _ _ c.from_residual-in_err-rest-2.ensures.1))
+    let following : Rest = record { after_reference = c.refers.result; terms = c.in-Some.others } in
+    let cut : rest_text c.args.mode rest ≡ first ++ rest_text c.args.mode following = rw (c.in-Some.ensures.cases.0, c.refers.ensures) refl in
+    front_rest (front_then {later_text = rest_text c.args.mode} c.loop-term.invariant.written (front_written {F = Failed} following first c.in_ok-write_term.ensures cut)) (fails_front c.in_err-rest-2.ensures.written (failed_from _ _ c.from_residual-in_err-rest-2.ensures.1))
 
 pub write_terms-loop-term-smaller : goal.write_terms-loop-term-smaller
 write_terms-loop-term-smaller g t c =
-    omega (arith, c.in_ok-rest-2.ensures.smaller, term_positive c.in-Some.term.now, ap terms_size c.in-Some.ensures.cases.0 ∙ terms_first c.in-Some.term.now c.in-Some.others.now)
+    omega (arith, c.in_ok-rest-2.ensures.smaller, term_positive c.in-Some.term.now, ap terms_size c.in-Some.ensures.cases.0 ∙ terms_cons c.in-Some.term.now c.in-Some.others.now)
 
 pub write_terms-loop-term-preserved : goal.write_terms-loop-term-preserved
 write_terms-loop-term-preserved g t c =
     let rest = c.loop-term.rest in
     let first = node_text c.args.mode rest.after_reference (mirror_term c.in-Some.term.now) in
-    let behind : Rest = record { after_reference = c.refers.result; terms = c.in-Some.others } in
-    let cut : rest_text c.args.mode rest ≡ first ++ rest_text c.args.mode behind = rw (c.in-Some.ensures.cases.0, c.refers.ensures) refl in
+    let following : Rest = record { after_reference = c.refers.result; terms = c.in-Some.others } in
+    let cut : rest_text c.args.mode rest ≡ first ++ rest_text c.args.mode following = rw (c.in-Some.ensures.cases.0, c.refers.ensures) refl in
     record {
-      written = front_then (front_then {later_text = rest_text c.args.mode} c.loop-term.invariant.written (front_written {F = Failed} behind first c.in_ok-write_term.ensures cut)) c.in_ok-rest-2.ensures.written;
-      smaller = omega (arith, c.loop-term.invariant.smaller, c.in_ok-rest-2.ensures.smaller, ap terms_size c.in-Some.ensures.cases.0 ∙ terms_first c.in-Some.term.now c.in-Some.others.now);
+      written = front_then (front_then {later_text = rest_text c.args.mode} c.loop-term.invariant.written (front_written {F = Failed} following first c.in_ok-write_term.ensures cut)) c.in_ok-rest-2.ensures.written;
+      smaller = omega (arith, c.loop-term.invariant.smaller, c.in_ok-rest-2.ensures.smaller, ap terms_size c.in-Some.ensures.cases.0 ∙ terms_cons c.in-Some.term.now c.in-Some.others.now);
     }

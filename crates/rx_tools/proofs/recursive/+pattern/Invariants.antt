@@ -9,7 +9,7 @@ use Rattle.rx_base.proofs.Writings.{Left}
 use Rattle.rx_model.specs.Spelling.Spelling.{nodes_text, alternatives_text}
 use Rattle.rx_tools.specs.Leaves.{WritesFront, rest_text}
 use Rattle.rx_tools.specs.Utf8.{utf8}
-use Rattle.rx_tools.proofs.Trees.{alternatives_behind}
+use Rattle.rx_tools.proofs.Trees.{alternatives_after}
 use Rattle.rx_tools.proofs.recursive.+pattern.Given as goal
 
 abbrev pub decreases-write_term : goal.decreases-write_term
@@ -31,7 +31,7 @@ abbrev pub invariant-write_alternatives-loop-alternative : goal.invariant-write_
 invariant-write_alternatives-loop-alternative g l = record {
   is_text : shadow (Utf8 l.before);
   written : Left g.W.TextSink.taken g.W.TextSink.fixed g.W.TextSink.faults l.fn.sink l.sink (utf8 (alternatives_text l.mode (alternatives (map mirror_alternative l.alternatives))))
-      (utf8 (alternatives_behind l.mode (chars l.before) (alternatives (map mirror_alternative (drop l.alternative-index l.alternatives)))));
+      (utf8 (alternatives_after l.mode (chars l.before) (alternatives (map mirror_alternative (drop l.alternative-index l.alternatives)))));
 }
 
 abbrev pub invariant-write_terms-loop-term : goal.invariant-write_terms-loop-term

@@ -11,7 +11,7 @@ returns-clause-text c =
     on_ok_weaker c.leave-2.result
     (λ last mode.
     let own = alternatives_text mode (tree_of c.as_slice.result.now) in
-    let behind = pending mode c.args.tasks.now in
+    let following = pending mode c.args.tasks.now in
     let same : own ≡ alternatives_text mode (mirror_disjunction c.args.body.now).1 = ap (λ as'. alternatives_text mode (tree_of as')) c.as_slice.ensures ∙ sym (ap (λ d. alternatives_text mode d.1) (disjunction_is c.args.body.now)) in
-    last mode ∙ ap (λ more. own ++ more) (c.in_ok-leave.ensures.text mode) ∙ sym (append_assoc own (codes ")") behind) ∙ ap (λ text. (text ++ codes ")") ++ behind) same)
+    last mode ∙ ap (λ more. own ++ more) (c.in_ok-leave.ensures.text mode) ∙ sym (append_assoc own (codes ")") following) ∙ ap (λ text. (text ++ codes ")") ++ following) same)
     c.leave-2.ensures.text

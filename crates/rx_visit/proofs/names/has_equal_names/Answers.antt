@@ -16,11 +16,11 @@ returns-then-not-branch c =
     let node = c.node-item.result in
     let before = map mirror_kind (take i nodes) in
     let one_more = taken mirror_kind nodes i node c.loop-node-test.true c.node-item.is in
-    let behind = map mirror_kind (drop (i + 1) nodes) in
-    let cut = ap (map mirror_kind) (sym (take-append-drop (i + 1) nodes)) ∙ map-append mirror_kind _ _ ∙ ap (λ ks. ks ++ behind) one_more ∙ append_assoc before (mirror_kind node ∷ []) behind in
+    let following = map mirror_kind (drop (i + 1) nodes) in
+    let cut = ap (map mirror_kind) (sym (take-append-drop (i + 1) nodes)) ∙ map-append mirror_kind _ _ ∙ ap (λ ks. ks ++ following) one_more ∙ append_assoc before (mirror_kind node ∷ []) following in
     let named = sym c.name_of.ensures ∙ ap (option_map (λ name. name.now)) c.in-Some.is ∙ ap (λ name. Some name) (sym c.as_str.ensures) in
     let present = sym (not-not _) ∙ ap not (sym c.in_ok-insert.ensures.added ∙ c.if-not-branch.true) in
-    sym (ap has_equal_names cut ∙ second_found before behind (mirror_kind node) c.as_str.result named c.as_str.utf8 present c.loop-node.invariant)
+    sym (ap has_equal_names cut ∙ second_found before following (mirror_kind node) c.as_str.result named c.as_str.utf8 present c.loop-node.invariant)
 
 pub loop-node-preserved : goal.loop-node-preserved
 loop-node-preserved c =

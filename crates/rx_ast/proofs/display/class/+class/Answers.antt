@@ -6,7 +6,7 @@ use Rattle.rx_ast.specs.ClassTree.{members, mirror_contents}
 use Rattle.rx_ast.specs.Shown.{member_shown, members_shown, pair_or}
 use Rattle.rx_ast.specs.Size.{all_contents_size}
 use Rattle.rx_ast.specs.Texts.{class_opener, operator_text}
-use Rattle.rx_ast.proofs.ClassShown.{behind_nothing, class_shown_is, contents_behind, contents_cons, contents_next}
+use Rattle.rx_ast.proofs.ClassShown.{after_nothing, class_shown_is, contents_after, contents_cons, contents_next}
 use Rattle.rx_ast.proofs.Shows.{left_all, left_same, left_then, other_bytes, same_shown, shown_then, unless_joined}
 use Rattle.rx_ast.proofs.display.class.+class.Goals as goal
 
@@ -14,7 +14,7 @@ pub write_all_contents-loop-contents-init : goal.write_all_contents-loop-content
 unfolding chars
 write_all_contents-loop-contents-init g t c = record {
   is_text = IsUtf8-nil;
-  written = left_same _ (left_all _ _) (behind_nothing (operator_text c.args.kind) (members (map mirror_contents c.args.all_contents.now)));
+  written = left_same _ (left_all _ _) (after_nothing (operator_text c.args.kind) (members (map mirror_contents c.args.all_contents.now)));
   smaller = omega arith;
 }
 
@@ -28,7 +28,7 @@ write_all_contents-loop-contents-preserved g t c =
     let first = c.in-Some.contents.now in
     let others = c.in-Some.others.now in
     let operator = operator_text c.args.kind in
-    let cut = ap (λ cs. contents_behind (chars loop.before.now) operator loop.joined (members (map mirror_contents cs))) c.in-Some.ensures.cases.0
+    let cut = ap (λ cs. contents_after (chars loop.before.now) operator loop.joined (members (map mirror_contents cs))) c.in-Some.ensures.cases.0
     ∙ contents_next (chars loop.before.now) operator loop.joined c.contents_pair-pair.result first others c.contents_pair-pair.ensures in
     let written = left_then _ _ loop.invariant.written cut c.in_ok-write_unless_joined.ensures in
     record {

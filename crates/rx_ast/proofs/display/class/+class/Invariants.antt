@@ -6,7 +6,7 @@ use Rattle.rx_ast.specs.ClassTree.{members, mirror_contents}
 use Rattle.rx_ast.specs.Shown.{members_shown}
 use Rattle.rx_ast.specs.Size.{contents_size, all_contents_size}
 use Rattle.rx_ast.specs.Texts.{operator_text}
-use Rattle.rx_ast.proofs.ClassShown.{contents_behind}
+use Rattle.rx_ast.proofs.ClassShown.{contents_after}
 use Rattle.rx_ast.proofs.Shows.{Left}
 use Rattle.rx_ast.proofs.display.class.+class.Given as goal
 
@@ -26,7 +26,7 @@ abbrev pub invariant-write_all_contents-loop-contents : goal.invariant-write_all
 invariant-write_all_contents-loop-contents g l = record {
   is_text : shadow (Utf8 l.before);
   written : Left g.W.Write.write_str_gives l.fn.f l.f (members_shown (operator_text l.fn.kind) (members (map mirror_contents l.fn.all_contents)))
-      (contents_behind (chars l.before) (operator_text l.fn.kind) l.joined (members (map mirror_contents l.rest)));
+      (contents_after (chars l.before) (operator_text l.fn.kind) l.joined (members (map mirror_contents l.rest)));
   smaller : all_contents_size l.rest ≤ all_contents_size l.fn.all_contents;
 }
 

@@ -3,7 +3,7 @@ use Rattle.std.specs.Char.{encode_utf8}
 use Rattle.std.specs.Str.{chars, encode_utf8_all, IsUtf8}
 use Rattle.std.proofs.lemmas.Bool.Decides.{same_from_decides}
 use Rattle.std.proofs.lemmas.Slice.Eq.{bytes_eq-Decides}
-use Rattle.rx_ast.specs.Texts.{are_same}
+use Rattle.rx_base.specs.Texts.{are_same}
 use Rattle.rx_ast.proofs.Shows.{encoded}
 use Rattle.rx_ast.proofs.display.parts.is_general_category.Goals as goal
 

@@ -9,14 +9,14 @@ use Rattle.rx_ast.specs.declared.term.LookAroundAssertion.{out-LookAroundAsserti
 use Rattle.rx_ast.proofs.Equations.{capturing_is, disjunction_is, ignore_is, look_is, quantifier_is}
 use Rattle.rx_ast.proofs.Sizes.{alternative_within}
 use Rattle.rx_ast.proofs.Shows.{left_all, left_same, left_then, same_shown, shown_then}
-use Rattle.rx_ast.proofs.TermShown.{alternatives_next, behind_nothing, terms_cons, terms_next}
+use Rattle.rx_ast.proofs.TermShown.{alternatives_next, after_nothing, terms_cons, terms_next}
 use Rattle.rx_ast.proofs.display.term.+pattern.Goals as goal
 
 pub write_alternatives-loop-alternative-init : goal.write_alternatives-loop-alternative-init
 unfolding chars
 write_alternatives-loop-alternative-init g t c = record {
   is_text = IsUtf8-nil;
-  written = left_same _ (left_all _ _) (behind_nothing (alternatives (map mirror_alternative c.args.alternatives.now)));
+  written = left_same _ (left_all _ _) (after_nothing (alternatives (map mirror_alternative c.args.alternatives.now)));
 }
 
 pub write_alternatives-write_terms-requires : goal.write_alternatives-write_terms-requires

@@ -9,7 +9,7 @@ use Rattle.rx_ast.specs.declared.term.CapturingGroup.{out-CapturingGroup}
 use Rattle.rx_ast.specs.declared.term.IgnoreGroup.{out-IgnoreGroup}
 use Rattle.rx_ast.specs.declared.term.LookAroundAssertion.{out-LookAroundAssertion}
 use Rattle.rx_ast.proofs.Shows.{Left}
-use Rattle.rx_ast.proofs.TermShown.{alternatives_behind}
+use Rattle.rx_ast.proofs.TermShown.{alternatives_after}
 use Rattle.rx_ast.proofs.display.term.+pattern.Given as goal
 
 abbrev pub decreases-write_term : goal.decreases-write_term
@@ -43,7 +43,7 @@ abbrev pub invariant-write_alternatives-loop-alternative : goal.invariant-write_
 invariant-write_alternatives-loop-alternative g l = record {
   is_text : shadow (Utf8 l.before);
   written : Left g.W.Write.write_str_gives l.fn.f l.f (alternatives_shown (alternatives (map mirror_alternative l.alternatives)))
-      (alternatives_behind (chars l.before) (alternatives (map mirror_alternative (drop l.alternative-index l.alternatives))));
+      (alternatives_after (chars l.before) (alternatives (map mirror_alternative (drop l.alternative-index l.alternatives))));
 }
 
 abbrev pub invariant-write_terms-loop-term : goal.invariant-write_terms-loop-term

@@ -10,7 +10,7 @@ pub overflow_sub-self : goal.overflow_sub-self
 overflow_sub-self c =
     let a = c.args in
     let m = a.self.now in
-    let deep = depth-look_around a.place a.kind a.next a.head a.frames a.back (with_entry m (backtrack.LookAround a.place a.kind a.next a.head a.frames a.back)).entries m.entries refl in
+    let deep = depth-look_around a.it.place a.it.kind a.it.next a.it.head a.it.frames a.it.back (with_entry m (backtrack.LookAround a.it.place a.it.kind a.it.next a.it.head a.it.frames a.it.back)).entries m.entries refl in
     let was = c.requires.depth in
     omega arith
 
@@ -18,24 +18,24 @@ pub return_to-requires : goal.return_to-requires
 return_to-requires c =
     let a = c.args in
     let m = a.self.now in
-    (look_around-placed (length m.input.now) (length m.frames) a.place a.kind a.next a.head a.frames a.back (with_entry m (backtrack.LookAround a.place a.kind a.next a.head a.frames a.back)).entries m.entries refl c.requires.placed).2
+    (look_around-placed (length m.input.now) (length m.frames) a.it.place a.it.kind a.it.next a.it.head a.it.frames a.it.back (with_entry m (backtrack.LookAround a.it.place a.it.kind a.it.next a.it.head a.it.frames a.it.back)).entries m.entries refl c.requires.placed).2
 
 pub returns-then-is_negative : goal.returns-then-is_negative
 returns-then-is_negative c =
     let a = c.args in
     let m = a.self.now in
-    let e = backtrack.LookAround a.place a.kind a.next a.head a.frames a.back in
-    let deep = depth-look_around a.place a.kind a.next a.head a.frames a.back (with_entry m e).entries m.entries refl in
+    let e = backtrack.LookAround a.it.place a.it.kind a.it.next a.it.head a.it.frames a.it.back in
+    let deep = depth-look_around a.it.place a.it.kind a.it.next a.it.head a.it.frames a.it.back (with_entry m e).entries m.entries refl in
     let was = c.requires.depth in
     let lower : suc (m.depth - 1) ≡ m.depth = omega arith in
-    subst (λ x. Resumes m e (record x { step = a.next }) action.Step) (sym c.return_to.ensures) (resumes_unmatched_not m a.place a.kind a.next a.head a.frames a.back (m.depth - 1) c.requires lower (sym c.is_negative.ensures ∙ c.if-is_negative.true))
+    subst (λ x. Resumes m e (record x { step = a.it.next }) action.Step) (sym c.return_to.ensures) (resumes_unmatched_not m a.it.place a.it.kind a.it.next a.it.head a.it.frames a.it.back (m.depth - 1) c.requires lower (sym c.is_negative.ensures ∙ c.if-is_negative.true))
 
 pub returns : goal.returns
 returns c =
     let a = c.args in
     let m = a.self.now in
-    let e = backtrack.LookAround a.place a.kind a.next a.head a.frames a.back in
-    let deep = depth-look_around a.place a.kind a.next a.head a.frames a.back (with_entry m e).entries m.entries refl in
+    let e = backtrack.LookAround a.it.place a.it.kind a.it.next a.it.head a.it.frames a.it.back in
+    let deep = depth-look_around a.it.place a.it.kind a.it.next a.it.head a.it.frames a.it.back (with_entry m e).entries m.entries refl in
     let was = c.requires.depth in
     let lower : suc (m.depth - 1) ≡ m.depth = omega arith in
-    resumes_unmatched m a.place a.kind a.next a.head a.frames a.back (m.depth - 1) c.requires lower (sym c.is_negative.ensures ∙ c.if-is_negative.false)
+    resumes_unmatched m a.it.place a.it.kind a.it.next a.it.head a.it.frames a.it.back (m.depth - 1) c.requires lower (sym c.is_negative.ensures ∙ c.if-is_negative.false)

@@ -1,6 +1,8 @@
-use Rattle.std.proofs.Common.{◌≡◌, ap, subst, sym, ◌∙◌, ◌+◌, ◌-◌, ◌<◌, ◌≤◌, length, length-drop, arith}
+use Rattle.std.proofs.Common.{◌≡◌, ap, subst, sym, ◌∙◌, ◌+◌, ◌-◌, ◌<◌, ◌≤◌, length, length-drop, arith, rules}
 use Rattle.rx_units.specs.Units.{values}
-use Rattle.rx_scan.specs.MarkReading.{seen_front, front}
+use Rattle.rx_model.specs.FirstPass.Marks.{mark_front}
+use Rattle.rx_scan.specs.FirstPass.{IsPassFault}
+use Rattle.rx_scan.specs.MarkReading.{seen_front}
 use Rattle.rx_scan.proofs.Passes.{start_at, advanced, passed, nests_at, tells, refused, all_clean}
 use Rattle.rx_scan.proofs.MarkSteps.{values_at, values_drop, values_length}
 use Rattle.rx_scan.proofs.first_pass.FirstPass.over.Goals as goal
@@ -14,13 +16,14 @@ step-requires-clause-tells g c = tells c.args.mode c.args.duplicate_names (value
 pub step-requires-clause-nests : goal.step-requires-clause-nests
 step-requires-clause-nests g c = nests_at c.args.mode c.args.duplicate_names (values c.args.units.now) c.loop-place.place c.loop-place.index c.loop-place.pass c.loop-place.invariant.at
 
-pub returns-in-Err-clause-fault : goal.returns-in-Err-clause-fault
-returns-in-Err-clause-fault g c =
+pub returns-in_err-step-clause-fault : goal.returns-in_err-step-clause-fault
+returns-in_err-step-clause-fault g c =
     let us = c.args.units.now in
     let at = c.loop-place.place in
-    refused c.args.mode c.args.duplicate_names (values us) at c.loop-place.index (seen_front c.read_mark-taken.result) c.loop-place.pass c.in-Err.fault
-    (subst (λ n. at < n) (sym (values_length us)) c.loop-place-test.true)
-    (c.read_mark-taken.ensures.value ∙ ap (λ ws. front c.args.mode (values ws)) c.tail.ensures ∙ ap (front c.args.mode) (values_drop at us)) c.in-Err.ensures.err c.loop-place.invariant.at
+    let told : IsPassFault c.args.mode c.args.duplicate_names (values us) c.in_err-step.field-0.0 =
+    refused c.args.mode c.args.duplicate_names (values us) at c.loop-place.index _ _ (seen_front c.read_mark-more.result) c.loop-place.pass c.in_err-step.field-0.0 (sym (values_drop at us) ∙ values_at us at _ c.loop-place-test.true)
+    (c.read_mark-more.ensures.value ∙ ap (mark_front c.args.mode _) (ap values c.tail.ensures)) c.in_err-step.ensures.err c.loop-place.invariant.at in
+    search rules
 
 pub loop-place-preserved-then-is_plain : goal.loop-place-preserved-then-is_plain
 loop-place-preserved-then-is_plain g c =
@@ -37,17 +40,14 @@ pub loop-place-preserved : goal.loop-place-preserved
 loop-place-preserved g c =
     let us = c.args.units.now in
     let at = c.loop-place.place in
-    let n = values_length us in
-    let l : length c.tail.result.now ≡ length us - at = ap length c.tail.ensures ∙ length-drop at us in
-    let w = c.read_mark-taken.ensures.within in
-    let p = c.read_mark-taken.ensures.moves in
-    let t = c.loop-place-test.true in
-    let i = c.loop-place.invariant.at.within in
-    let le : at + c.read_mark-taken.result.1 ≤ length (values us) = omega arith in
+    let left : length c.tail.result.now ≡ length us - (at + 1) = ap length c.tail.ensures ∙ length-drop (at + 1) us in
+    let all = values_length us in
+    let within = c.read_mark-more.ensures.within in
+    let test = c.loop-place-test.true in
+    let le : at + (c.read_mark-more.result.1 + 1) ≤ length (values us) = omega arith in
     record {
-      at = advanced c.args.mode c.args.duplicate_names (values us) at c.loop-place.index (seen_front c.read_mark-taken.result) c.loop-place.pass c.step.new.self
-          (subst (λ n. at < n) (sym n) t) le p
-          (c.read_mark-taken.ensures.value ∙ ap (λ ws. front c.args.mode (values ws)) c.tail.ensures ∙ ap (front c.args.mode) (values_drop at us)) c.in-Ok.ensures.ok c.loop-place.invariant.at;
+      at = advanced c.args.mode c.args.duplicate_names (values us) at c.loop-place.index _ _ (seen_front c.read_mark-more.result) c.loop-place.pass c.step.new.self (sym (values_drop at us) ∙ values_at us at _ test)
+          (c.read_mark-more.ensures.value ∙ ap (mark_front c.args.mode _) (ap values c.tail.ensures)) le c.in_ok-step.ensures.ok c.loop-place.invariant.at;
       units_over = omega arith;
     }
 

@@ -28,21 +28,21 @@ overflow_add-end c =
 pub push_element-requires-clause-value : goal.push_element-requires-clause-value
 push_element-requires-clause-value c = (taken c.args.literal c.loop-element.rest.now c.in-Some.element c.in-Some.length c.in-Some.ensures.0).small c.loop-element.invariant.code_points
 
-pub behind-rest-requires : goal.behind-rest-requires
-behind-rest-requires c = (taken c.args.literal c.loop-element.rest.now c.in-Some.element c.in-Some.length c.in-Some.ensures.0).within
+pub rest_after-rest-requires : goal.rest_after-rest-requires
+rest_after-rest-requires c = (taken c.args.literal c.loop-element.rest.now c.in-Some.element c.in-Some.length c.in-Some.ensures.0).within
 
 pub loop-element-smaller : goal.loop-element-smaller
 loop-element-smaller c =
     let t = taken c.args.literal c.loop-element.rest.now c.in-Some.element c.in-Some.length c.in-Some.ensures.0 in
-    omega (arith, ap length c.behind-rest.ensures, length-drop c.in-Some.length c.loop-element.rest.now, t.some, t.within)
+    omega (arith, ap length c.rest_after-rest.ensures, length-drop c.in-Some.length c.loop-element.rest.now, t.some, t.within)
 
 pub loop-element-preserved : goal.loop-element-preserved
 loop-element-preserved c =
     let part = byte_split c.in-Some.length c.loop-element.rest.now in
     record {
       leads = turn c.args.literal c.args.options (opened c.args.options c.args.inner.now) c.loop-element.units c.loop-element.offset c.loop-element.rest.now c.in-Some.element c.in-Some.length
-          c.push_element.new.units (c.loop-element.offset + c.width.result) c.behind-rest.result.now c.loop-element.invariant.leads c.in-Some.ensures.0 c.in-Some.ensures.1
-          (omega (arith, c.width.ensures)) c.behind-rest.ensures c.in_ok-push_element.ensures.ok;
-      bytes = omega (arith, part, c.loop-element.invariant.bytes, c.width.ensures, ap byte_count c.behind-rest.ensures);
-      code_points = subst (All (λ c. c ≤ 0x10FFFF)) (sym c.behind-rest.ensures) (All-drop (λ c. c ≤ 0x10FFFF) c.in-Some.length c.loop-element.rest.now c.loop-element.invariant.code_points);
+          c.push_element.new.units (c.loop-element.offset + c.width.result) c.rest_after-rest.result.now c.loop-element.invariant.leads c.in-Some.ensures.0 c.in-Some.ensures.1
+          (omega (arith, c.width.ensures)) c.rest_after-rest.ensures c.in_ok-push_element.ensures.ok;
+      bytes = omega (arith, part, c.loop-element.invariant.bytes, c.width.ensures, ap byte_count c.rest_after-rest.ensures);
+      code_points = subst (All (λ c. c ≤ 0x10FFFF)) (sym c.rest_after-rest.ensures) (All-drop (λ c. c ≤ 0x10FFFF) c.in-Some.length c.loop-element.rest.now c.loop-element.invariant.code_points);
     }

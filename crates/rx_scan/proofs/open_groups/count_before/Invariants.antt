@@ -1,6 +1,6 @@
 use Rattle.std.proofs.Common.{◌-◌, ◌<◌, ◌≤◌, length, get_or}
 use Rattle.rx_scan.specs.OpenGroups.{no_group}
-use Rattle.rx_scan.proofs.open_groups.opened_before.Given as goal
+use Rattle.rx_scan.proofs.open_groups.count_before.Given as goal
 
 abbrev pub invariant-loop-low : goal.invariant-loop-low
 invariant-loop-low l =

@@ -1,6 +1,6 @@
 use Rattle.std.proofs.Common.{◌≡◌, length, subst, arith}
 use Rattle.rx_scan.proofs.MarkSteps.{Passed, passed_none, passed_more, closed_found, closed_none, no_eq}
-use Rattle.rx_scan.proofs.mark.closed_part.Goals as goal
+use Rattle.rx_scan.proofs.mark.name_units.Goals as goal
 
 pub loop-place-init : goal.loop-place-init
 loop-place-init g c = record { passed = passed_none c.args.units.now; turns = omega arith }

@@ -1,5 +1,5 @@
 use Rattle.rx_base.proofs.Messages.{shown_in_hex}
-use Rattle.rx_base.proofs.diagnostic.reason.shown_flag.Goals as goal
+use Rattle.rx_base.proofs.diagnostic.reason.flag_text.Goals as goal
 
 pub returns-in_ok-write-in-None : goal.returns-in_ok-write-in-None
 returns-in_ok-write-in-None c =

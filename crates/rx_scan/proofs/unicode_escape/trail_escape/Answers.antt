@@ -1,5 +1,5 @@
 use Rattle.std.proofs.Common.{arith}
-use Rattle.rx_scan.proofs.unicode_escape.escaped_trail.Goals as goal
+use Rattle.rx_scan.proofs.unicode_escape.trail_escape.Goals as goal
 
 pub returns-in_err-trail-in-len2-up-clause-steps : goal.returns-in_err-trail-in-len2-up-clause-steps
 returns-in_err-trail-in-len2-up-clause-steps g c =

@@ -2,7 +2,7 @@ use Rattle.std.proofs.Common.{rules, tests, ◌==◌, ◌∙◌}
 use Rattle.std.proofs.lemmas.Iterator.{YieldsList-from_slice}
 use Rattle.std.proofs.lemmas.Iterator.Search.{any_from_yields_List}
 use Rattle.rx_scan.proofs.FlagRows.{holds_values}
-use Rattle.rx_scan.proofs.flags_parser.contains.Goals as goal
+use Rattle.rx_scan.proofs.flags_parser.holds.Goals as goal
 
 pub returns : goal.returns
 returns c =
