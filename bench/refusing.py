@@ -1,4 +1,5 @@
-"""What memory.py and refused_calls.py share: how a program is run that is refused some of its calls for memory, and how that is told."""
+"""What memory.py and refused_calls.py share: how a program is run that is refused some of its calls for memory, how that is told, and how what is told is compared with
+what docs/PROVED.md says."""
 import argparse
 import contextlib
 import fcntl
@@ -11,6 +12,7 @@ import tempfile
 
 TOP = os.path.dirname(os.path.dirname(os.path.realpath(__file__)))
 SECONDS = 300
+DOCUMENT = "docs/PROVED.md"
 # how much a pipe may hold, and so how many reads
 ROOM = 1 << 18
 
@@ -69,3 +71,18 @@ def cell(text):
     text = text if len(text) <= 60 else text[:20] + "..."
     quoted = f"`` {text} ``" if "`" in text else f"`{text}`"
     return quoted.replace("|", "\\|")
+
+
+def compare(script, differences):
+    """Runs a script of this folder with the arguments of this program, and passes on what it writes but for the rows of its table. `differences` says how these
+    differ from what docs/PROVED.md tells, by both texts. The status is that of the script where it failed or wrote no table, else 1 where there is a difference."""
+    ran = subprocess.run([f"{TOP}/bench/{script}.py", *sys.argv[1:]], stdout=subprocess.PIPE, text=True)
+    lines = ran.stdout.splitlines()
+    print("\n".join(line for line in lines if not line.startswith("|")))
+    if ran.returncode or not any(line.startswith("|") for line in lines):
+        return ran.returncode
+    with open(f"{TOP}/{DOCUMENT}", encoding="utf-8") as file:
+        found = differences(ran.stdout, file.read())
+    for line in found:
+        print(f"{script}: {DOCUMENT}: {line}")
+    return 1 if found else 0

@@ -12,7 +12,6 @@ use Rattle.std.proofs.lemmas.Grind.{common_steps, flat_map-append}
 use Rattle.std.proofs.lemmas.List.Folds.{list_any-append}
 use Rattle.rx_ast.specs.declared.class.CharacterClassRange.{CharacterClassRange}
 use Rattle.rx_ast.specs.declared.leaf.Character.{Character}
-use Rattle.rx_ast.specs.declared.leaf.CharacterClassEscape.{CharacterClassEscape}
 use Rattle.rx_ast.specs.declared.leaf.CharacterClassEscapeKind.{CharacterClassEscapeKind}
 use Rattle.rx_ast.specs.declared.leaf.CharacterClassEscapeKind.TheVariants.{D, NegativeD, S, NegativeS, W, NegativeW}
 use Rattle.rx_ast.specs.declared.leaf.UnicodePropertyEscape.{UnicodePropertyEscape}
@@ -36,15 +35,6 @@ escape_told NegativeS NegativeS = refl
 escape_told W W = refl
 escape_told NegativeW NegativeW = refl
 escape_told _ _ = refl
-
-useless_escape : (e : CharacterClassEscape) (ms : List Member) → is_useless (escape e) ms ≡ list_any (is_escape_of (escape_number e.kind)) ms
-useless_escape e [] = refl
-useless_escape e (escape f ∷ ms) = ap (λ b. b || is_useless (escape e) ms) (escape_told f.kind e.kind) ∙ ap (λ b. nat_eq (escape_number f.kind) (escape_number e.kind) || b) (useless_escape e ms)
-useless_escape e (range f ∷ ms) = useless_escape e ms
-useless_escape e (property f ∷ ms) = useless_escape e ms
-useless_escape e (character f ∷ ms) = useless_escape e ms
-useless_escape e (nested f ∷ ms) = useless_escape e ms
-useless_escape e (strings f ∷ ms) = useless_escape e ms
 
 -- A range whose min is above its max covers nothing.
 no_room : (low high v : ℕ) → nat_le low high ≡ false → (nat_le low v && nat_le v high) ≡ false
@@ -196,17 +186,6 @@ character_added {old} {new} {ms} it covered there answer covers_it is_there answ
     characters = set_more old.characters new.characters is_character_of ms (character it) it.value (λ q. refl) updates are.characters;
     ranges = subst (λ (r : Ranges). IsStair (get nat_cmp r.ends) (flat_map range_of (ms ++ (character it ∷ [])))) (sym same_ranges) (ranges_still ms (character it) refl are.ranges);
     escapes = λ n. ap (λ s. contains nat_cmp s n) same_escapes ∙ are.escapes n ∙ any_still (is_escape_of n) ms (character it) refl;
-  },
-)
-
-pub escape_added : {old new : Items} {ms : List Member} (it : CharacterClassEscape) (answer : Bool) → answer ≡ contains nat_cmp old.escapes (escape_number it.kind) →
-    UpdatesBy nat_cmp (nat_cmp (escape_number it.kind)) old.escapes new.escapes true → new.ranges ≡ old.ranges → new.characters ≡ old.characters → AreItems old ms → (answer ≡ is_useless (escape it) ms) × AreItems new (ms ++ (escape it ∷ []))
-escape_added {old} {new} {ms} it answer answers updates same_ranges same_characters are = (
-  answers ∙ are.escapes (escape_number it.kind) ∙ sym (useless_escape it ms),
-  record {
-    characters = λ v. ap (λ s. contains nat_cmp s v) same_characters ∙ are.characters v ∙ any_still (is_character_of v) ms (escape it) refl;
-    ranges = subst (λ (r : Ranges). IsStair (get nat_cmp r.ends) (flat_map range_of (ms ++ (escape it ∷ [])))) (sym same_ranges) (ranges_still ms (escape it) refl are.ranges);
-    escapes = set_more old.escapes new.escapes is_escape_of ms (escape it) (escape_number it.kind) (λ q. refl) updates are.escapes;
   },
 )
 

@@ -8,7 +8,7 @@ use Rattle.rx_ast.specs.ClassTree.{Member, Members, Class, no_member, member}
 use Rattle.rx_ast.specs.Tree as ast
 use Rattle.rx_ast.specs.Tree.{Leaf, Node, Nodes, Alternatives, leaf, quantified, group, no_node, node, no_alternative}
 use Rattle.rx_ast.specs.Kinds as kinds
-use Rattle.rx_ast.specs.Kinds.{Kind, opened, children, order, each_term, each_alternative, each_contents, strings_order, member_order, members_order, class_order, node_order, nodes_order, alternatives_order}
+use Rattle.rx_ast.specs.Kinds.{Kind, children, order, each_term, each_alternative, each_contents, strings_order, member_order, members_order, class_order, node_order, nodes_order, alternatives_order}
 use Rattle.rx_ast.specs.Forest.{Forest, nothing, tree, roots}
 use Rattle.rx_lint.specs.Nodes.{characters, strings, in_contents, contents, class, in_leaf, in_term, terms, alternatives, inside, trees}
 

@@ -1,25 +1,10 @@
 -- The stair of ranges: what it answers, and how a range is added to it.
-use Rattle.std.proofs.Common.{◌≡◌, refl, ap, sym, ◌∙◌, ℕ, ◌≤◌, ◌<◌, true, false, ◌||◌, nat_le, nat_lt, nat_eq, cond, arith, Option, Some, None, List, [], ◌∷◌, ◌++◌, ◌⊎◌, inl, inr}
+use Rattle.std.proofs.Common.{◌≡◌, refl, ap, sym, ◌∙◌, ℕ, ◌≤◌, ◌<◌, true, false, ◌||◌, nat_le, nat_lt, nat_eq, cond, arith, Option, Some, List, [], ◌∷◌, ◌++◌, ◌⊎◌, inl, inr}
 use Rattle.std.specs.List.{list_any}
 use Rattle.std.proofs.lemmas.Bool.Decides.{nat_tests}
 use Rattle.std.proofs.Math.Bool.{or-true}
 use Rattle.std.proofs.lemmas.List.Folds.{list_any-append}
-use Rattle.rx_lint.specs.Coverage.{Range, covers_both, AreLater, IsRising, IsStair, IsWithin}
-
-pub none_stair : (at : ℕ → Option ℕ) → ((q : ℕ) → at q ≡ None) → IsStair at []
-none_stair at none = record {
-  rising = λ p a q b i j l. let n = none p in absurd (let e : None ≡ Some a = sym n ∙ i in cc);
-  sound = λ p a i low high l h. let n = none p in absurd (let e : None ≡ Some a = sym n ∙ i in cc);
-  whole = λ low high any. cc;
-}
-
--- Where nothing begins up to `low`, nothing covers.
-pub no_answer : (at : ℕ → Option ℕ) (rs : List Range) (low high : ℕ) → IsStair at rs → ((q : ℕ) → q ≤ low → at q ≡ None) → false ≡ list_any (covers_both low high) rs
-no_answer at rs low high s none =
-    elim (list_any (covers_both low high) rs) as (λ b. list_any (covers_both low high) rs ≡ b → false ≡ b) [
-      | true ↦ λ is. let w = s.whole low high is in let e : None ≡ Some w.1 = sym (none w.0 w.3) ∙ w.2 in cc
-      | false ↦ λ is. refl
-    ] refl
+use Rattle.rx_lint.specs.Coverage.{Range, covers_both, AreLater, IsRising, IsStair}
 
 -- The last range of the stair that begins up to `low` answers.
 pub answer_of_last : (at : ℕ → Option ℕ) (rs : List Range) (low high p a : ℕ) → IsStair at rs → at p ≡ Some a → p ≤ low → ((q b : ℕ) → q ≤ low → at q ≡ Some b → q ≤ p) → nat_le high a ≡ list_any (covers_both low high) rs
@@ -46,27 +31,8 @@ pub record IsThinned (low high : ℕ) (at after : ℕ → Option ℕ) : Type 0 w
   pub kept : (q b : ℕ) → after q ≡ Some b → at q ≡ Some b
   pub gone : (q b : ℕ) → at q ≡ Some b → (after q ≡ Some b) ⊎ ((low ≤ q) × (b ≤ high))
 
-pub nothing_gone : (low high : ℕ) (at : ℕ → Option ℕ) → IsThinned low high at at
-nothing_gone low high at = record { kept = λ q b is. is; gone = λ q b is. inl is }
-
 pub still_rising : (low high : ℕ) (at after : ℕ → Option ℕ) → IsRising at → IsThinned low high at after → IsRising after
 still_rising low high at after r t p a q b i j l = r p a q b (t.kept p a i) (t.kept q b j) l
-
--- One more is taken away.
-pub one_more_gone : (low high : ℕ) (at before after : ℕ → Option ℕ) (p : ℕ) → IsThinned low high at before → IsWithin low high before p → ((q : ℕ) → after q ≡ cond (nat_eq p q) None (before q)) → IsThinned low high at after
-one_more_gone low high at before after p t w is = record {
-  kept = λ q b i. t.kept q b (elim (nat_eq p q) as (λ v. cond v None (before q) ≡ Some b → before q ≡ Some b) [ true ↦ λ e. cc | false ↦ λ e. e ] (sym (is q) ∙ i));
-  gone = λ q b i. elim (t.gone q b i) [
-    | inr out ↦ inr out
-    | inl still ↦ elim (nat_eq p q) as (λ v. nat_eq p q ≡ v → (after q ≡ Some b) ⊎ ((low ≤ q) × (b ≤ high))) [
-      | true ↦ λ same. let e : p ≡ q = grind (arith, nat_tests) in
-          let f : Some w.1.0 ≡ Some b = sym w.1.1 ∙ ap before e ∙ still in
-          let g : w.1.0 ≡ b = cc in
-          let start = w.0 in let end = w.1.2 in inr (omega arith, omega arith)
-      | false ↦ λ other. inl (is q ∙ ap (λ v. cond v None (before q)) other ∙ still)
-    ] refl
-  ];
-}
 
 same_number : (n : ℕ) → nat_eq n n ≡ true
 same_number n = grind (arith, nat_tests)

@@ -6,10 +6,7 @@ use rx_lint::{Finding, Rule};
 use rx_reply::add_span;
 
 /// Adds findings, with blanks between.
-pub(crate) fn add_findings_text(
-    bytes: &mut List<u8>,
-    findings: &[Finding],
-) -> Result<(), OutOfMemory>
+pub fn add_findings_text(bytes: &mut List<u8>, findings: &[Finding]) -> Result<(), OutOfMemory>
     ensures { OnOk result (bytes.new ≡ bytes.old ++ findings_text findings.now) }
 {
     let Some((first, later)) = findings.split_first() else {

@@ -4,4 +4,5 @@
 mod findings;
 mod replies;
 
+pub use findings::add_findings_text;
 pub use replies::add_findings;

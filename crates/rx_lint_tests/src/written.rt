@@ -1,32 +1,16 @@
-use rx_lint::{Finding, Rule};
+use rx_base::List;
+use rx_lint::Finding;
+use rx_lint_reply::add_findings_text;
 use std::alloc::Global;
 use std::test::Fail;
-
-fn name_of(rule: Rule) -> &'static str {
-    match rule {
-        Rule::EmptyClass => "empty_class",
-        Rule::RepeatedMember => "repeated_member",
-        Rule::EmptyAlternative => "empty_alternative",
-        Rule::RepeatedAlternative => "repeated_alternative",
-        Rule::UnusedName => "unused_name",
-        Rule::UselessQuantifier => "useless_quantifier",
-    }
-}
 
 /// The findings as a text: the rule of each, and its offsets.
 pub(crate) fn written(alloc: Global, findings: &[Finding]) -> Result<String, Fail> {
     if findings.is_empty() {
         return Ok(String::from_str(alloc, "nothing")?);
     }
-    let mut text = String::new(alloc);
-    let mut before = "";
-    for finding in findings {
-        let span = finding.span;
-        let name = name_of(finding.rule);
-        let one = format!(in alloc; "{name}@{}..{}", span.start, span.end)?;
-        text.push_str(before)?;
-        text.push_str(&one)?;
-        before = " ";
-    }
-    Ok(text)
+    let mut bytes = List::new(alloc);
+    add_findings_text(&mut bytes, findings)?;
+    let text = str::from_utf8(bytes.as_slice()).ok().ok_or("no text")?;
+    Ok(String::from_str(alloc, text)?)
 }

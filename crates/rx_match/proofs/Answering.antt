@@ -19,7 +19,7 @@ use Rattle.rx_match.specs.Programs.{trace_of, IsOutcome, IsOutcomeOf}
 use Rattle.rx_trace.specs.Supported.{unsupported_in}
 use Rattle.rx_trace.specs.Answers.{settings, pattern_trace, each_trace, place_of, begins_at, IsFirstOutcome, IsAnswer, IsTickCount}
 use Rattle.rx_match.proofs.Compiling.{trace_is}
-use Rattle.rx_program.proofs.Surveying.{names-length-each}
+use Rattle.rx_trace.proofs.GroupNames.{names-length-each}
 
 module _ (f g : ℕ → Trace) (same : (p : ℕ) → f p ≡ g p) where
   each-same : (more p : ℕ) → each_trace f more p ≡ each_trace g more p
@@ -73,9 +73,3 @@ within_budget from more start budget ticks (Some it) is e = let w = is.2 in omeg
 pub counted : (flags : MatchFlags) (tree : Whole) (input : List ℕ) (more start most : ℕ) (it : Outcome) → IsOutcomeOf flags tree input more start most (Ok it) → IsTickCount flags tree input more start most (Ok (Some it.ticks))
 counted flags tree input more start most it is =
     (is.0.0, is.0.1, is.1, within_budget (pattern_trace flags tree input) more start most it.ticks it.found is.0.2 is.1)
-
-pub counted_fault : (flags : MatchFlags) (tree : Whole) (input : List ℕ) (more start most : ℕ) (e : MatchFault) → ¬ (e ≡ fault.Spent) → IsOutcomeOf flags tree input more start most (Err e) → IsTickCount flags tree input more start most (Err e)
-counted_fault flags tree input more start most fault.OutOfMemory not_spent is = tt
-counted_fault flags tree input more start most fault.IgnoreCase not_spent is = is
-counted_fault flags tree input more start most (fault.Unsupported span) not_spent is = is
-counted_fault flags tree input more start most fault.Spent not_spent is = absurd (not_spent refl)

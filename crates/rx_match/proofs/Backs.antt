@@ -8,7 +8,7 @@ use Rattle.rx_match.specs.declared.entry.Backtrack.{Backtrack}
 use Rattle.rx_match.specs.Runs.{Run}
 use Rattle.rx_match.specs.Machines.{continuations_at, stack_run}
 use Rattle.rx_match.specs.Sound.{StackedOf, AreStacked, ArePlaced}
-use Rattle.rx_program.proofs.Lists.{reverse-last}
+use Rattle.rx_trace.proofs.Lists.{reverse-last}
 use Rattle.rx_match.proofs.Frames.{frames-more}
 use Rattle.rx_match.proofs.Entries.{placed-more}
 use Rattle.rx_match.proofs.StackRuns.{stack_run-frames}

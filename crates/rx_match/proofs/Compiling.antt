@@ -3,14 +3,15 @@ use Rattle.std.proofs.Common.{◌≡◌, refl, ap, sym, ◌∙◌, ℕ, zero, su
 use Rattle.rx_ast.specs.declared.leaf.LookAroundAssertionKind.{LookAroundAssertionKind}
 use Rattle.rx_ast.specs.declared.leaf.LookAroundAssertionKind.TheVariants as look_kind
 use Rattle.rx_ast.specs.Tree as tree
-use Rattle.rx_ast.specs.Tree.{Leaf, Opener, Node, Nodes, Alternatives, leaf, quantified, group, no_node, node, no_alternative, alternative, capturing, ignoring, looking}
+use Rattle.rx_ast.specs.Tree.{Leaf, Node, Nodes, Alternatives, leaf, quantified, group, no_node, node, no_alternative, alternative, capturing, ignoring, looking}
 use Rattle.rx_trace.specs.declared.answer.Slot.{Slot}
 use Rattle.rx_trace.specs.declared.answer.Slot.TheVariants.{Unset, Set}
 use Rattle.rx_trace.specs.Traces.{State, Trace, tick, reached, and_then, front, first}
 use Rattle.rx_trace.specs.Holding.{ahead, preceding, boundary_holds, class_holds, escape_holds, is_line_terminator}
 use Rattle.rx_trace.specs.Repeats.{is_over, one_less, after_turn, in_turn, repeat_trace}
 use Rattle.rx_trace.specs.Groups.{Names, groups_in, groups_in_all, slot_of, slot_named, unset_in, captured}
-use Rattle.rx_trace.specs.Matching.{Settings, changed, moved_to, held_to, if_holds, with_slots_of, where_none, look_around_trace, looks_back, over_unit, back_reference_trace, node_trace, nodes_trace, alternatives_trace}
+use Rattle.rx_trace.specs.declared.settings.Settings.{Settings}
+use Rattle.rx_trace.specs.Matching.{changed, moved_to, held_to, if_holds, with_slots_of, where_none, look_around_trace, looks_back, over_unit, back_reference_trace, node_trace, nodes_trace, alternatives_trace}
 use Rattle.rx_match.specs.Runs.{Run, silent, ticked, reaches, bind, visible, look_around_run, continued, turn_end_run, in_turn_run, repetition_run, at_place, unit_to, slot_to, code_run, is_negative}
 use Rattle.rx_program.specs.Codes.{Code, accept}
 use Rattle.std.specs.Prelude.{replicate}

@@ -6,15 +6,12 @@ use Rattle.rx_trace.specs.declared.answer.Slot.{Slot}
 use Rattle.rx_match.specs.declared.entry.Backtrack.{Backtrack}
 use Rattle.rx_match.specs.declared.entry.Backtrack.TheVariants as backtrack
 use Rattle.rx_match.specs.Sound.{row_of, PlacedOf, ArePlaced, depth_of, depth_in, cut_of, cut_back, cut_in, top_of, top_in}
-use Rattle.rx_program.proofs.Lists.{reverse-last}
+use Rattle.rx_trace.proofs.Lists.{reverse-last}
 
 -- one entry less
 pub record Fewer (old before : List Backtrack) (kept : List Backtrack) : Type 0 where
   pub top : top_in old ≡ top_in before
   pub cut : cut_back old ≡ kept ++ cut_back before
-
-pub fewer_none : (old : List Backtrack) → Fewer old old []
-fewer_none old = record { top = refl; cut = refl }
 
 pub fewer_choice : (old before between kept : List Backtrack) (p e i h fs : ℕ) → before ≡ between ++ (backtrack.Choice p e i h fs ∷ []) → Fewer old before kept → Fewer old between kept
 unfolding cut_back top_in
@@ -45,10 +42,6 @@ look_around_cut old before between kept after p kind i h fs back is f put = put 
 pub none_top : (old kept : List Backtrack) → Fewer old [] kept → top_in old ≡ None
 unfolding top_in
 none_top old kept f = f.top
-
--- kept entries are put back
-pub put_one : (kept before between entries more : List Backtrack) (e : Backtrack) → before ≡ between ++ (e ∷ []) → more ≡ entries ++ (e ∷ []) → before ++ reverse entries ≡ between ++ reverse more
-put_one kept before between entries more e is pushed = ap (λ k. k ++ reverse entries) is ∙ append_assoc between (e ∷ []) (reverse entries) ∙ ap (λ r. between ++ r) (sym (reverse-last more entries e pushed))
 
 -- Where choices go, no fewer entries that restore slots stand in a row.
 row-cut : (r : List Backtrack) → row_of r ≤ row_of (cut_of r)

@@ -16,8 +16,8 @@ use Rattle.rx_match.specs.declared.entry.Backtrack.{Backtrack}
 use Rattle.rx_match.specs.declared.entry.Backtrack.TheVariants as backtrack
 use Rattle.rx_trace.specs.Traces.{State}
 use Rattle.rx_trace.specs.Repeats.{one_less}
-use Rattle.rx_match.specs.Runs.{Mark, Run, marked, silent, ticked, reaches, bind, turn_end_run, code_run, is_negative}
-use Rattle.rx_program.specs.Codes.{Code, accept}
+use Rattle.rx_match.specs.Runs.{Run, marked, silent, reaches, bind, turn_end_run, code_run, is_negative, look_around_run}
+use Rattle.rx_program.specs.Codes.{accept}
 use Rattle.rx_match.specs.Machines.{pending_continuation, continuations_at, turn_run, turns_run, continuation_run, code_then, stack_run}
 use Rattle.rx_program.specs.Steps.{code_at}
 use Rattle.rx_match.specs.Sound.{AreStacked, ArePlaced, depth_in, cut_in, top_in}
@@ -87,47 +87,44 @@ takes_close m i f group start next entries slots saved sound top is w restored f
     }
 
 -- a turn ends: it goes on, or it was empty where none is owed
-turned : (m : Machine) (i : ℕ) (f : Frame) (min : ℕ) (max : Option ℕ) (start repeat : ℕ) → IsSound m → m.head ≡ suc i → slice_get m.frames i ≡ Some f → f.pending ≡ pending.EndTurn min max start repeat
-    → run_of m accept ≡ with_backtracking m (bind (turn_end_run min start (λ v. turns_run m.input.now m.back (min - 1) (one_less max) v (code_at m.program.now repeat)) (state_of m)) (continuation_run m.input.now m.back (continuations_at m.program.now m.frames f.below)))
-turned m i f min max start repeat sound top is w =
-    ended m i f sound top is ∙ ap (λ w. with_backtracking m (continuation_run m.input.now m.back (pending_continuation m.program.now w ∷ continuations_at m.program.now m.frames f.below) (state_of m))) w
+module _ (m : Machine) (i : ℕ) (f : Frame) (min : ℕ) (max : Option ℕ) (start repeat : ℕ) (sound : IsSound m) (top : m.head ≡ suc i) (is : slice_get m.frames i ≡ Some f) (w : f.pending ≡ pending.EndTurn min max start repeat) where
+  turned : run_of m accept ≡ with_backtracking m (bind (turn_end_run min start (λ v. turns_run m.input.now m.back (min - 1) (one_less max) v (code_at m.program.now repeat)) (state_of m)) (continuation_run m.input.now m.back (continuations_at m.program.now m.frames f.below)))
+  turned = ended m i f sound top is ∙ ap (λ w. with_backtracking m (continuation_run m.input.now m.back (pending_continuation m.program.now w ∷ continuations_at m.program.now m.frames f.below) (state_of m))) w
 
-pub takes_again : (m : Machine) (i : ℕ) (f : Frame) (min less : ℕ) (max fewer : Option ℕ) (start repeat : ℕ) → IsSound m → m.head ≡ suc i → slice_get m.frames i ≡ Some f → f.pending ≡ pending.EndTurn min max start repeat
-    → ((min ≡ 0) → (m.place ≡ start) → ⊥) → less ≡ min - 1 → fewer ≡ one_less max
-    → TakesMarks m (lowered m f.below) (run_of m accept) (remaining (lowered m f.below) (action.Repeat repeat less fewer))
-takes_again m i f min less max fewer start repeat sound top is w apart one one' =
-    let again : State → Run = λ v. turns_run m.input.now m.back (min - 1) (one_less max) v (code_at m.program.now repeat) in
-    let rest = continuation_run m.input.now m.back (continuations_at m.program.now m.frames f.below) in
-    record {
-      ticks = false;
-      more = [];
-      cut = turned m i f min max start repeat sound top is w
-          ∙ ap (λ r. with_backtracking m (bind r rest)) (goes_on min start again (state_of m) apart)
-          ∙ stack_run-silent m.input.now m.program.now m.frames m.entries m.back m.slots.items (bind (again (state_of m)) rest)
-          ∙ ap (λ k. silent ∷ with_backtracking m (bind (turns_run m.input.now m.back k (one_less max) (state_of m) (code_at m.program.now repeat)) rest)) (sym one)
-          ∙ ap (λ k. silent ∷ with_backtracking m (bind (turns_run m.input.now m.back less k (state_of m) (code_at m.program.now repeat)) rest)) (sym one');
-      paid = refl;
-      input = refl;
-      program = refl;
-      sound = sound_lowered m i f sound top is;
-    }
+  pub takes_again : (less : ℕ) (fewer : Option ℕ) → ((min ≡ 0) → (m.place ≡ start) → ⊥) → less ≡ min - 1 → fewer ≡ one_less max
+      → TakesMarks m (lowered m f.below) (run_of m accept) (remaining (lowered m f.below) (action.Repeat repeat less fewer))
+  takes_again less fewer apart one one' =
+      let again : State → Run = λ v. turns_run m.input.now m.back (min - 1) (one_less max) v (code_at m.program.now repeat) in
+      let rest = continuation_run m.input.now m.back (continuations_at m.program.now m.frames f.below) in
+      record {
+        ticks = false;
+        more = [];
+        cut = turned
+            ∙ ap (λ r. with_backtracking m (bind r rest)) (goes_on min start again (state_of m) apart)
+            ∙ stack_run-silent m.input.now m.program.now m.frames m.entries m.back m.slots.items (bind (again (state_of m)) rest)
+            ∙ ap (λ k. silent ∷ with_backtracking m (bind (turns_run m.input.now m.back k (one_less max) (state_of m) (code_at m.program.now repeat)) rest)) (sym one)
+            ∙ ap (λ k. silent ∷ with_backtracking m (bind (turns_run m.input.now m.back less k (state_of m) (code_at m.program.now repeat)) rest)) (sym one');
+        paid = refl;
+        input = refl;
+        program = refl;
+        sound = sound_lowered m i f sound top is;
+      }
 
-pub takes_empty : (m : Machine) (i : ℕ) (f : Frame) (min : ℕ) (max : Option ℕ) (start repeat : ℕ) → IsSound m → m.head ≡ suc i → slice_get m.frames i ≡ Some f → f.pending ≡ pending.EndTurn min max start repeat
-    → min ≡ 0 → m.place ≡ start → TakesMarks m (lowered m f.below) (run_of m accept) (remaining (lowered m f.below) action.Backtrack)
-takes_empty m i f min max start repeat sound top is w none same =
-    let rest = continuation_run m.input.now m.back (continuations_at m.program.now m.frames f.below) in
-    record {
-      ticks = false;
-      more = [];
-      cut = turned m i f min max start repeat sound top is w
-          ∙ ap (λ k. with_backtracking m (bind (turn_end_run k start (λ v. turns_run m.input.now m.back (min - 1) (one_less max) v (code_at m.program.now repeat)) (state_of m)) rest)) none
-          ∙ ap (λ b. with_backtracking m (bind (silent ∷ (if b then [] else turns_run m.input.now m.back (min - 1) (one_less max) (state_of m) (code_at m.program.now repeat))) rest)) (eq-eqb m.place start same)
-          ∙ stack_run-silent m.input.now m.program.now m.frames m.entries m.back m.slots.items [];
-      paid = refl;
-      input = refl;
-      program = refl;
-      sound = sound_lowered m i f sound top is;
-    }
+  pub takes_empty : min ≡ 0 → m.place ≡ start → TakesMarks m (lowered m f.below) (run_of m accept) (remaining (lowered m f.below) action.Backtrack)
+  takes_empty none same =
+      let rest = continuation_run m.input.now m.back (continuations_at m.program.now m.frames f.below) in
+      record {
+        ticks = false;
+        more = [];
+        cut = turned
+            ∙ ap (λ k. with_backtracking m (bind (turn_end_run k start (λ v. turns_run m.input.now m.back (min - 1) (one_less max) v (code_at m.program.now repeat)) (state_of m)) rest)) none
+            ∙ ap (λ b. with_backtracking m (bind (silent ∷ (if b then [] else turns_run m.input.now m.back (min - 1) (one_less max) (state_of m) (code_at m.program.now repeat))) rest)) (eq-eqb m.place start same)
+            ∙ stack_run-silent m.input.now m.program.now m.frames m.entries m.back m.slots.items [];
+        paid = refl;
+        input = refl;
+        program = refl;
+        sound = sound_lowered m i f sound top is;
+      }
 
 -- Nothing waits.
 pub alone : (m : Machine) → m.head ≡ 0 → run_of m accept ≡ with_backtracking m (reaches (state_of m) ∷ [])
@@ -144,53 +141,51 @@ arrived_alone m r sound none is =
 abbrev pub cut_to : Machine → List Backtrack → Bool → ℕ → Machine
 cut_to m entries back depth = record m { entries = entries; back = back; depth = depth }
 
-pub sound_cut : (m : Machine) (p : ℕ) (kind : LookAroundAssertionKind) (next h fs : ℕ) (back : Bool) (entries : List Backtrack) (depth : ℕ) → IsSound m → top_in m.entries ≡ Some (backtrack.LookAround p kind next h fs back) → entries ≡ cut_in m.entries
-    → suc depth ≡ m.depth → IsSound (cut_to m entries back depth)
-sound_cut m p kind next h fs back entries depth sound top is lower =
-    let placed' = placed-cut (length m.input.now) (length m.frames) m.entries p kind next h fs back top sound.placed in
-    let deep = depth-cut m.entries p kind next h fs back top in
-    let was = sound.depth in
-    let less : depth ≡ depth_in (cut_in m.entries) = omega arith in
-    record { ordered = sound.ordered; stacked = sound.stacked; head = sound.head; placed = subst (ArePlaced (length m.input.now) (length m.frames)) (sym is) (placed-more (length m.input.now) fs (length m.frames) (cut_in m.entries) placed'.2 placed'.3); depth = less ∙ ap depth_in (sym is); place = sound.place }
+module _ (m : Machine) (p : ℕ) (kind : LookAroundAssertionKind) (next h fs : ℕ) (back : Bool) (entries : List Backtrack) (depth : ℕ) (sound : IsSound m) (top : top_in m.entries ≡ Some (backtrack.LookAround p kind next h fs back)) (is : entries ≡ cut_in m.entries) (lower : suc depth ≡ m.depth) where
+  sound_cut : IsSound (cut_to m entries back depth)
+  sound_cut =
+      let placed' = placed-cut (length m.input.now) (length m.frames) m.entries p kind next h fs back top sound.placed in
+      let deep = depth-cut m.entries p kind next h fs back top in
+      let was = sound.depth in
+      let less : depth ≡ depth_in (cut_in m.entries) = omega arith in
+      record { ordered = sound.ordered; stacked = sound.stacked; head = sound.head; placed = subst (ArePlaced (length m.input.now) (length m.frames)) (sym is) (placed-more (length m.input.now) fs (length m.frames) (cut_in m.entries) placed'.2 placed'.3); depth = less ∙ ap depth_in (sym is); place = sound.place }
 
-pub takes_refused : (m : Machine) (p : ℕ) (kind : LookAroundAssertionKind) (next h fs : ℕ) (back : Bool) (entries : List Backtrack) (depth : ℕ) (r : Run) → IsSound m → top_in m.entries ≡ Some (backtrack.LookAround p kind next h fs back) → entries ≡ cut_in m.entries
-    → suc depth ≡ m.depth → is_negative kind ≡ true → r ≡ with_backtracking m (reaches (state_of m) ∷ []) → TakesMarks m (cut_to m entries back depth) r (remaining (cut_to m entries back depth) action.Backtrack)
-takes_refused m p kind next h fs back entries depth r sound top is lower negative begins =
-    let k = code_then m.input.now back (code_at m.program.now next) (continuations_at m.program.now m.frames h) (record { place = p; slots = m.slots.items }) in
-    record {
-      ticks = false;
-      more = [];
-      cut = begins
-          ∙ stack_run-cut m.input.now m.program.now m.frames m.entries p kind next h fs back m.back m.slots.items (state_of m) [] top
-          ∙ ap (λ b. stack_run m.input.now m.program.now m.frames (cut_in m.entries) back m.slots.items (if b then silent ∷ [] else silent ∷ k)) negative
-          ∙ stack_run-silent m.input.now m.program.now m.frames (cut_in m.entries) back m.slots.items []
-          ∙ ap (λ e. silent ∷ stack_run m.input.now m.program.now m.frames e back m.slots.items []) (sym is);
-      paid = refl;
-      input = refl;
-      program = refl;
-      sound = sound_cut m p kind next h fs back entries depth sound top is lower;
-    }
+  abbrev after_cut : Run
+  after_cut = code_then m.input.now back (code_at m.program.now next) (continuations_at m.program.now m.frames h) (record { place = p; slots = m.slots.items })
 
-pub takes_granted : (m : Machine) (p : ℕ) (kind : LookAroundAssertionKind) (next h fs : ℕ) (back : Bool) (entries : List Backtrack) (depth : ℕ) (r : Run) → IsSound m → top_in m.entries ≡ Some (backtrack.LookAround p kind next h fs back) → entries ≡ cut_in m.entries
-    → suc depth ≡ m.depth → is_negative kind ≡ false → r ≡ with_backtracking m (reaches (state_of m) ∷ [])
-    → TakesMarks m (record m { entries = entries; back = back; depth = depth; place = p; step = next; head = h }) r (remaining (record m { entries = entries; back = back; depth = depth; place = p; step = next; head = h }) action.Step)
-takes_granted m p kind next h fs back entries depth r sound top is lower positive begins =
-    let low = sound_cut m p kind next h fs back entries depth sound top is lower in
-    let at' = placed-cut (length m.input.now) (length m.frames) m.entries p kind next h fs back top sound.placed in
-    let k = code_then m.input.now back (code_at m.program.now next) (continuations_at m.program.now m.frames h) (record { place = p; slots = m.slots.items }) in
-    record {
-      ticks = false;
-      more = [];
-      cut = begins
-          ∙ stack_run-cut m.input.now m.program.now m.frames m.entries p kind next h fs back m.back m.slots.items (state_of m) [] top
-          ∙ ap (λ b. stack_run m.input.now m.program.now m.frames (cut_in m.entries) back m.slots.items (if b then silent ∷ [] else silent ∷ k)) positive
-          ∙ stack_run-silent m.input.now m.program.now m.frames (cut_in m.entries) back m.slots.items k
-          ∙ ap (λ e. silent ∷ stack_run m.input.now m.program.now m.frames e back m.slots.items k) (sym is);
-      paid = refl;
-      input = refl;
-      program = refl;
-      sound = record { ordered = low.ordered; stacked = low.stacked; head = omega arith; placed = low.placed; depth = low.depth; place = at'.0 };
-    }
+  left_cut : (r rest : Run) → r ≡ with_backtracking m (reaches (state_of m) ∷ []) → (if is_negative kind then silent ∷ [] else silent ∷ after_cut) ≡ silent ∷ rest → r ≡ silent ∷ stack_run m.input.now m.program.now m.frames entries back m.slots.items rest
+  left_cut r rest begins chosen =
+      begins
+      ∙ stack_run-cut m.input.now m.program.now m.frames m.entries p kind next h fs back m.back m.slots.items (state_of m) [] top
+      ∙ ap (λ s. stack_run m.input.now m.program.now m.frames (cut_in m.entries) back m.slots.items s) chosen
+      ∙ stack_run-silent m.input.now m.program.now m.frames (cut_in m.entries) back m.slots.items rest
+      ∙ ap (λ e. silent ∷ stack_run m.input.now m.program.now m.frames e back m.slots.items rest) (sym is)
+
+  pub takes_refused : (r : Run) → r ≡ with_backtracking m (reaches (state_of m) ∷ []) → is_negative kind ≡ true → TakesMarks m (cut_to m entries back depth) r (remaining (cut_to m entries back depth) action.Backtrack)
+  takes_refused r begins negative = record {
+    ticks = false;
+    more = [];
+    cut = left_cut r [] begins (ap (λ b. if b then silent ∷ [] else silent ∷ after_cut) negative);
+    paid = refl;
+    input = refl;
+    program = refl;
+    sound = sound_cut;
+  }
+
+  pub takes_granted : (r : Run) → r ≡ with_backtracking m (reaches (state_of m) ∷ []) → is_negative kind ≡ false
+      → TakesMarks m (record m { entries = entries; back = back; depth = depth; place = p; step = next; head = h }) r (remaining (record m { entries = entries; back = back; depth = depth; place = p; step = next; head = h }) action.Step)
+  takes_granted r begins positive =
+      let low = sound_cut in
+      let at' = placed-cut (length m.input.now) (length m.frames) m.entries p kind next h fs back top sound.placed in
+      record {
+        ticks = false;
+        more = [];
+        cut = left_cut r after_cut begins (ap (λ b. if b then silent ∷ [] else silent ∷ after_cut) positive);
+        paid = refl;
+        input = refl;
+        program = refl;
+        sound = record { ordered = low.ordered; stacked = low.stacked; head = omega arith; placed = low.placed; depth = low.depth; place = at'.0 };
+      }
 
 -- what was left is taken up
 pub takes_choice : (m : Machine) (entries : List Backtrack) (p i h fs : ℕ) → IsSound m → m.entries ≡ entries ++ (backtrack.Choice p 0 i h fs ∷ [])
@@ -251,41 +246,47 @@ takes_left_turn m entries p i min max h fs sound popped =
     }
 
 -- the body of a look-around was not matched
-pub takes_unmatched : (m : Machine) (entries : List Backtrack) (p : ℕ) (kind : LookAroundAssertionKind) (i h fs : ℕ) (back : Bool) (depth : ℕ) → IsSound m → m.entries ≡ entries ++ (backtrack.LookAround p kind i h fs back ∷ []) → suc depth ≡ m.depth → is_negative kind ≡ false
-    → TakesMarks m (cut_to m entries back depth) (with_backtracking m []) (remaining (cut_to m entries back depth) action.Backtrack)
-takes_unmatched m entries p kind i h fs back depth sound popped lower positive =
-    let at' = look_around-placed (length m.input.now) (length m.frames) p kind i h fs back m.entries entries popped sound.placed in
-    let deep = depth-look_around p kind i h fs back m.entries entries popped in
-    let was = sound.depth in
-    record {
-      ticks = false;
-      more = [];
-      cut = stack_run-look_around m.input.now m.program.now m.frames m.entries entries p kind i h fs back m.back m.slots.items [] popped
-          ∙ ap (λ b. stack_run m.input.now m.program.now m.frames entries back m.slots.items (Rattle.rx_match.specs.Runs.look_around_run b [] (record { place = p; slots = m.slots.items }) (code_then m.input.now back (code_at m.program.now i) (continuations_at m.program.now m.frames h)))) positive
-          ∙ stack_run-silent m.input.now m.program.now m.frames entries back m.slots.items [];
-      paid = refl;
-      input = refl;
-      program = refl;
-      sound = record { ordered = sound.ordered; stacked = sound.stacked; head = sound.head; placed = placed-more (length m.input.now) fs (length m.frames) entries at'.2 at'.3; depth = omega arith; place = sound.place };
-    }
+module _ (m : Machine) (entries : List Backtrack) (p : ℕ) (kind : LookAroundAssertionKind) (i h fs : ℕ) (back : Bool) (depth : ℕ) (sound : IsSound m) (popped : m.entries ≡ entries ++ (backtrack.LookAround p kind i h fs back ∷ [])) (lower : suc depth ≡ m.depth) where
+  left_unmatched : (negative : Bool) (rest : Run) → is_negative kind ≡ negative → look_around_run negative [] (record { place = p; slots = m.slots.items }) (code_then m.input.now back (code_at m.program.now i) (continuations_at m.program.now m.frames h)) ≡ silent ∷ rest
+      → with_backtracking m [] ≡ silent ∷ stack_run m.input.now m.program.now m.frames entries back m.slots.items rest
+  left_unmatched negative rest is chosen =
+      stack_run-look_around m.input.now m.program.now m.frames m.entries entries p kind i h fs back m.back m.slots.items [] popped
+      ∙ ap (λ b. stack_run m.input.now m.program.now m.frames entries back m.slots.items (look_around_run b [] (record { place = p; slots = m.slots.items }) (code_then m.input.now back (code_at m.program.now i) (continuations_at m.program.now m.frames h)))) is
+      ∙ ap (λ s. stack_run m.input.now m.program.now m.frames entries back m.slots.items s) chosen
+      ∙ stack_run-silent m.input.now m.program.now m.frames entries back m.slots.items rest
 
-pub takes_unmatched_not : (m : Machine) (entries : List Backtrack) (p : ℕ) (kind : LookAroundAssertionKind) (i h fs : ℕ) (back : Bool) (depth : ℕ) → IsSound m → m.entries ≡ entries ++ (backtrack.LookAround p kind i h fs back ∷ []) → suc depth ≡ m.depth → is_negative kind ≡ true
-    → TakesMarks m (record m { entries = entries; back = back; depth = depth; place = p; step = i; head = h }) (with_backtracking m []) (remaining (record m { entries = entries; back = back; depth = depth; place = p; step = i; head = h }) action.Step)
-takes_unmatched_not m entries p kind i h fs back depth sound popped lower negative =
-    let at' = look_around-placed (length m.input.now) (length m.frames) p kind i h fs back m.entries entries popped sound.placed in
-    let deep = depth-look_around p kind i h fs back m.entries entries popped in
-    let was = sound.depth in
-    record {
-      ticks = false;
-      more = [];
-      cut = stack_run-look_around m.input.now m.program.now m.frames m.entries entries p kind i h fs back m.back m.slots.items [] popped
-          ∙ ap (λ b. stack_run m.input.now m.program.now m.frames entries back m.slots.items (Rattle.rx_match.specs.Runs.look_around_run b [] (record { place = p; slots = m.slots.items }) (code_then m.input.now back (code_at m.program.now i) (continuations_at m.program.now m.frames h)))) negative
-          ∙ stack_run-silent m.input.now m.program.now m.frames entries back m.slots.items _;
-      paid = refl;
-      input = refl;
-      program = refl;
-      sound = record { ordered = sound.ordered; stacked = sound.stacked; head = omega arith; placed = placed-more (length m.input.now) fs (length m.frames) entries at'.2 at'.3; depth = omega arith; place = at'.0 };
-    }
+  sound_unmatched : IsSound (cut_to m entries back depth)
+  sound_unmatched =
+      let at' = look_around-placed (length m.input.now) (length m.frames) p kind i h fs back m.entries entries popped sound.placed in
+      let deep = depth-look_around p kind i h fs back m.entries entries popped in
+      let was = sound.depth in
+      record { ordered = sound.ordered; stacked = sound.stacked; head = sound.head; placed = placed-more (length m.input.now) fs (length m.frames) entries at'.2 at'.3; depth = omega arith; place = sound.place }
+
+  takes_unmatched : is_negative kind ≡ false → TakesMarks m (cut_to m entries back depth) (with_backtracking m []) (remaining (cut_to m entries back depth) action.Backtrack)
+  takes_unmatched positive = record {
+    ticks = false;
+    more = [];
+    cut = left_unmatched false [] positive refl;
+    paid = refl;
+    input = refl;
+    program = refl;
+    sound = sound_unmatched;
+  }
+
+  takes_unmatched_not : is_negative kind ≡ true
+      → TakesMarks m (record m { entries = entries; back = back; depth = depth; place = p; step = i; head = h }) (with_backtracking m []) (remaining (record m { entries = entries; back = back; depth = depth; place = p; step = i; head = h }) action.Step)
+  takes_unmatched_not negative =
+      let at' = look_around-placed (length m.input.now) (length m.frames) p kind i h fs back m.entries entries popped sound.placed in
+      let low = sound_unmatched in
+      record {
+        ticks = false;
+        more = [];
+        cut = left_unmatched true (code_then m.input.now back (code_at m.program.now i) (continuations_at m.program.now m.frames h) (record { place = p; slots = m.slots.items })) negative refl;
+        paid = refl;
+        input = refl;
+        program = refl;
+        sound = record { ordered = low.ordered; stacked = low.stacked; head = omega arith; placed = low.placed; depth = low.depth; place = at'.0 };
+      }
 
 pub same_restored : (old m : Machine) (entries : List Backtrack) (slots : Vec Slot Global) (k : ℕ) (was : Slot) (fs row : ℕ) → KeepsBacktracking old m → m.entries ≡ entries ++ (backtrack.RestoreSlot k was fs row ∷ []) → slots.items ≡ set m.slots.items k was
     → KeepsBacktracking old (record m { entries = entries; slots = slots })
@@ -306,9 +307,6 @@ same_restored old m entries slots k was fs row it popped is =
         place = sound.place;
       };
     }
-
-pub takes_after : (old m new : Machine) (s : Run) → KeepsBacktracking old m → TakesMarks m new (with_backtracking m []) s → TakesMarks old new (with_backtracking old []) s
-takes_after old m new s same takes = record { ticks = takes.ticks; more = takes.more; cut = same.same ∙ takes.cut; paid = same.paid ∙ takes.paid; input = takes.input ∙ same.input; program = takes.program ∙ same.program; sound = takes.sound }
 
 pub nothing_left : (old m : Machine) (entries : List Backtrack) → KeepsBacktracking old m → m.entries ≡ [] → HasNoMore old (record m { entries = entries }) (with_backtracking old [])
 nothing_left old m entries it none = record {
@@ -386,6 +384,13 @@ resumes_turn m p i min max h fs sound =
     let at' = turn-placed (length m.input.now) (length m.frames) p i min max h fs before.entries m.entries refl sound.placed in
     cuts_frames before (record m { place = p; head = h }) (with_backtracking before []) (action.BeginTurn i min max) fs (take fs m.frames) (takes_left_turn before m.entries p i min max h fs sound refl) at'.2 at'.1 at'.3 refl
 
+-- inside an entry of a look-around the machine is one deeper
+pub depth_lower : (m : Machine) (p : ℕ) (kind : LookAroundAssertionKind) (i h fs : ℕ) (back : Bool) → IsSound (with_entry m (backtrack.LookAround p kind i h fs back)) → suc (m.depth - 1) ≡ m.depth
+depth_lower m p kind i h fs back sound =
+    let deep = depth-look_around p kind i h fs back (with_entry m (backtrack.LookAround p kind i h fs back)).entries m.entries refl in
+    let was = sound.depth in
+    omega arith
+
 pub resumes_unmatched : (m : Machine) (p : ℕ) (kind : LookAroundAssertionKind) (i h fs : ℕ) (back : Bool) (depth : ℕ) → IsSound (with_entry m (backtrack.LookAround p kind i h fs back)) → suc depth ≡ m.depth → is_negative kind ≡ false
     → Resumes m (backtrack.LookAround p kind i h fs back) (record m { depth = depth; back = back }) action.Backtrack
 resumes_unmatched m p kind i h fs back depth sound lower positive = takes_unmatched (with_entry m (backtrack.LookAround p kind i h fs back)) m.entries p kind i h fs back depth sound refl lower positive
@@ -403,10 +408,6 @@ before_pop m entries e popped = ap (λ es. record m { entries = es }) popped
 
 pub sound_before_pop : (old m : Machine) (entries : List Backtrack) (e : Backtrack) → KeepsBacktracking old m → m.entries ≡ entries ++ (e ∷ []) → IsSound (with_entry (record m { entries = entries }) e)
 sound_before_pop old m entries e same popped = subst IsSound (before_pop m entries e popped) same.sound
-
-pub takes_popped : (old m new : Machine) (entries : List Backtrack) (e : Backtrack) (a : Action) → KeepsBacktracking old m → m.entries ≡ entries ++ (e ∷ []) → Resumes (record m { entries = entries }) e new a → TakesMarks old new (with_backtracking old []) (remaining new a)
-takes_popped old m new entries e a same popped resumes =
-    takes_after old m new (remaining new a) same (subst (λ x. TakesMarks x new (with_backtracking x []) (remaining new a)) (sym (before_pop m entries e popped)) resumes)
 
 pub keeps_popped : (old m new : Machine) (entries : List Backtrack) (e : Backtrack) → KeepsBacktracking old m → m.entries ≡ entries ++ (e ∷ []) → KeepsBacktracking (with_entry (record m { entries = entries }) e) new → KeepsBacktracking old new
 keeps_popped old m new entries e same popped then' =

@@ -6,7 +6,7 @@ use Rattle.rx_trace.specs.declared.answer.Slot.{Slot}
 use Rattle.rx_match.specs.declared.entry.Backtrack.{Backtrack}
 use Rattle.rx_match.specs.declared.entry.Backtrack.TheVariants as backtrack
 use Rattle.rx_match.specs.Sound.{PlacedOf, ArePlaced, frames_in, kept_of, kept_in, own_row, row_of, row_in, depth_of, depth_in, top_of, top_in}
-use Rattle.rx_program.proofs.Lists.{reverse-last}
+use Rattle.rx_trace.proofs.Lists.{reverse-last}
 
 pub more-of : (n f g : ℕ) (r : List Backtrack) → f ≤ g → PlacedOf n f r → PlacedOf n g r
 more-of n f g [] more placed = tt

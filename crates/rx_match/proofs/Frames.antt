@@ -1,14 +1,14 @@
 -- What waits, read from frames.
-use Rattle.std.proofs.Common.{◌≡◌, refl, ap, sym, ◌∙◌, subst, ℕ, suc, ◌≤◌, ◌<◌, Bool, true, false, ◌==◌, if◌then◌else◌, Some, List, [], ◌∷◌, ◌++◌, length, reverse, arith, length-append}
+use Rattle.std.proofs.Common.{◌≡◌, refl, ap, sym, ◌∙◌, subst, ℕ, suc, ◌≤◌, ◌<◌, Bool, true, false, ◌==◌, if◌then◌else◌, Some, List, [], ◌∷◌, ◌++◌, length, reverse, arith}
 use Rattle.std.specs.Prelude.{slice_get}
 use Rattle.std.proofs.lemmas.Bool.{eqb-true, eq-eqb}
-use Rattle.std.proofs.lemmas.List.{reverse-append, length-reverse}
+use Rattle.std.proofs.lemmas.List.{length-reverse}
 use Rattle.rx_program.specs.declared.step.Step.{Step}
 use Rattle.rx_match.specs.declared.entry.Frame.{Frame}
 use Rattle.rx_match.specs.Machines.{pending_continuation, continuations_in, continuations_at}
 use Rattle.rx_match.specs.Sound.{StackedOf, AreStacked}
 use Rattle.rx_program.proofs.Programs.{apart-test, read_of, read_is}
-use Rattle.rx_program.proofs.Lists.{reverse-last, length-last}
+use Rattle.rx_trace.proofs.Lists.{reverse-last, length-last}
 
 module _ (steps : List Step) where
   pub frames-none : (frames : List Frame) → continuations_at steps frames 0 ≡ []

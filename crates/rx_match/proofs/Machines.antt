@@ -19,7 +19,7 @@ use Rattle.rx_program.specs.Steps.{code_at}
 use Rattle.rx_match.specs.Running.{state_of, with_backtracking, continuation_of, run_of, run_after_tick, remaining, IsSound, PushesFrame, KeepsRun, TakesMarks}
 use Rattle.rx_match.proofs.Runs.{bind-append, bind-bind, bind-reaches, bind-each, look_around-bind}
 use Rattle.rx_match.proofs.Frames.{frames-none, frames-new, stacked-more}
-use Rattle.rx_program.proofs.Lists.{length-last}
+use Rattle.rx_trace.proofs.Lists.{length-last}
 use Rattle.rx_match.proofs.StackRuns.{stack_run-silent, stack_run-choice, stack_run-look_around, stack_run-frames}
 use Rattle.rx_match.proofs.Entries.{placed-more, placed-choice, placed-look_around, depth-choice, depth-look_around}
 
@@ -120,10 +120,6 @@ keeps_fail m r sound none = record { same = ap (λ r. with_backtracking m (bind 
 
 pub sound_step : (m : Machine) (i : ℕ) → IsSound m → IsSound (record m { step = i })
 sound_step m i sound = record { ordered = sound.ordered; stacked = sound.stacked; head = sound.head; placed = sound.placed; depth = sound.depth; place = sound.place }
-
-pub keeps_step : (m : Machine) (i : ℕ) (r : Run) → IsSound m → r ≡ code_run m.input.now (code_at m.program.now i) m.back (state_of m)
-    → KeepsRun m (record m { step = i }) (with_backtracking m (bind r (continuation_of m))) (remaining (record m { step = i }) action.Step)
-keeps_step m i r sound is = record { same = ap (λ r. with_backtracking m (bind r (continuation_of m))) is; paid = refl; input = refl; program = refl; sound = sound_step m i sound }
 
 pub keeps_capture : (m v : Machine) (group body next : ℕ) → IsSound m → PushesFrame m v (pending.CloseGroup group m.place next)
     → KeepsRun m (record v { step = body }) (run_after_tick m (step.Capture group body next)) (remaining (record v { step = body }) action.Step)

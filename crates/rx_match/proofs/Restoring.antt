@@ -12,7 +12,7 @@ use Rattle.rx_match.specs.Machines.{stack_run_of, stack_run}
 use Rattle.rx_match.specs.Sound.{PlacedOf, ArePlaced, AreEntries, IsSaved, restores_slot, kept_in, row_of, row_in, depth_of, depth_in}
 use Rattle.rx_match.specs.Restored.{IsRestored, Saves, again, once}
 use Rattle.rx_program.proofs.Programs.{read_of, read_is}
-use Rattle.rx_program.proofs.Lists.{reverse-last}
+use Rattle.rx_trace.proofs.Lists.{reverse-last}
 use Rattle.rx_match.proofs.Entries.{placed-restore}
 use Rattle.rx_match.proofs.StackRuns.{stack_run-restore}
 

@@ -12,7 +12,7 @@ use Rattle.rx_match.specs.Runs.{Run, marked, silent, ticked, reaches, bind, look
 use Rattle.rx_program.specs.Steps.{code_at}
 use Rattle.rx_match.specs.Machines.{continuations_at, choices_run, turn_run, continuation_run, code_then, stack_run_of, stack_run}
 use Rattle.rx_match.specs.Sound.{PlacedOf, ArePlaced, depth_of, depth_in, cut_of, cut_back, cut_in, top_of, top_in}
-use Rattle.rx_program.proofs.Lists.{reverse-last}
+use Rattle.rx_trace.proofs.Lists.{reverse-last}
 use Rattle.rx_match.proofs.Frames.{frames-more}
 use Rattle.rx_match.proofs.Entries.{more-of}
 

@@ -1,5 +1,5 @@
 -- One step of a program.
-use Rattle.std.proofs.Common.{◌≡◌, ◌≢◌, refl, ap, sym, ◌∙◌, subst, ℕ, zero, suc, ◌+◌, ◌-◌, ◌≤◌, ◌<◌, Bool, true, false, if◌then◌else◌, Option, Some, None, List, [], ◌∷◌, ◌++◌, length, arith}
+use Rattle.std.proofs.Common.{◌≡◌, ◌≢◌, refl, ap, sym, ◌∙◌, subst, ℕ, suc, ◌+◌, ◌-◌, ◌≤◌, ◌<◌, Bool, true, false, if◌then◌else◌, Option, Some, None, List, [], ◌∷◌, length, arith}
 use Rattle.std.specs.Prelude.{slice_get}
 use Rattle.std.proofs.lemmas.Bool.{false≢true}
 use Rattle.rx_match.specs.declared.kinds.Repeated.{Repeated}
@@ -16,7 +16,7 @@ use Rattle.rx_program.specs.Codes.{Code, reject}
 use Rattle.rx_match.specs.Kinds.{repetition_in, repetition_of, ticks_in}
 use Rattle.rx_program.specs.Steps.{step_code, code_in, code_at}
 use Rattle.rx_match.specs.Machines.{turns_run, of_repetition}
-use Rattle.rx_match.specs.Running.{state_of, with_backtracking, continuation_of, run_of, after_tick, run_after_tick, remaining, IsSound, IsRepetitionAt, KeepsRun, TakesMarks, IsSpent, HasNoMore, ReachesState}
+use Rattle.rx_match.specs.Running.{state_of, with_backtracking, continuation_of, run_of, after_tick, run_after_tick, remaining, IsSound, IsRepetitionAt, KeepsRun, TakesMarks, IsSpent}
 use Rattle.rx_program.proofs.Programs.{code_is, read_of, read_is}
 use Rattle.rx_match.proofs.Moving.{MovesTo, slot-moves}
 use Rattle.rx_match.proofs.Repetitions.{inside}
@@ -50,9 +50,6 @@ pub spent : (m : Machine) (x : Step) → IsSound m → slice_get m.program.now m
 spent m x sound is tick none = record { rest = run_after_tick m x; is = ticks m x sound is tick; none = none }
 
 -- a Tick is paid
-pub sound_paid : (m : Machine) (budget : ℕ) → IsSound m → IsSound (record m { budget = budget })
-sound_paid m budget sound = record { ordered = sound.ordered; stacked = sound.stacked; head = sound.head; placed = sound.placed; depth = sound.depth; place = sound.place }
-
 pub takes_tick : (m new : Machine) (x : Step) (budget : ℕ) (r : Run) → IsSound m → slice_get m.program.now m.step ≡ Some x → ticks_in x ≡ true → m.budget ≡ suc budget → KeepsRun (record m { budget = budget }) new (run_after_tick m x) r → TakesMarks m new (remaining m action.Step) r
 takes_tick m new x budget r sound is tick pays keeps = record {
   ticks = true;
@@ -77,8 +74,9 @@ pub past_is : (steps : List Step) (i : ℕ) → slice_get steps i ≡ None → c
 unfolding code_at
 past_is steps i is = past_program (Rattle.std.proofs.Common.reverse steps) i (sym (read_is steps i) ∙ is)
 
-pub takes_reject : (m : Machine) → IsSound m → remaining m action.Step ≡ run_of m reject → TakesMarks m m (remaining m action.Step) (remaining m action.Backtrack)
-takes_reject m sound is = record {
+-- nothing is to be done but to mark it, and then what is left
+takes_nothing : (m : Machine) (r : Run) → IsSound m → r ≡ with_backtracking m (silent ∷ []) → TakesMarks m m r (remaining m action.Backtrack)
+takes_nothing m r sound is = record {
   ticks = false;
   more = [];
   cut = is ∙ stack_run-silent m.input.now m.program.now m.frames m.entries m.back m.slots.items [];
@@ -87,6 +85,9 @@ takes_reject m sound is = record {
   program = refl;
   sound = sound;
 }
+
+pub takes_reject : (m : Machine) → IsSound m → remaining m action.Step ≡ run_of m reject → TakesMarks m m (remaining m action.Step) (remaining m action.Backtrack)
+takes_reject m sound is = takes_nothing m (remaining m action.Step) sound is
 
 -- a repetition that a program has
 pub repeats_at : (m : Machine) (i : ℕ) (x : Step) (it : Repeated) → IsSound m → slice_get m.program.now i ≡ Some x → Some it ≡ repetition_in x → IsRepetitionAt m i it.turns it.body it.next
@@ -146,26 +147,10 @@ no_repeat_of m i sound is = by_step (slice_get m.program.now i) refl is
     by_step (Some x) at is = no_repeat_step m i x sound at (sym is)
 
 pub takes_no_repeat : (m : Machine) (i min : ℕ) (max : Option ℕ) → IsSound m → ((f : ℕ → Option ℕ → Bool → ℕ → ℕ → Code → Code → Run) → of_repetition f (code_at m.program.now i) ≡ silent ∷ []) → TakesMarks m m (remaining m (action.Repeat i min max)) (remaining m action.Backtrack)
-takes_no_repeat m i min max sound none = record {
-  ticks = false;
-  more = [];
-  cut = ap (λ r. with_backtracking m (bind r (continuation_of m))) (none _) ∙ stack_run-silent m.input.now m.program.now m.frames m.entries m.back m.slots.items [];
-  paid = refl;
-  input = refl;
-  program = refl;
-  sound = sound;
-}
+takes_no_repeat m i min max sound none = takes_nothing m (remaining m (action.Repeat i min max)) sound (ap (λ r. with_backtracking m (bind r (continuation_of m))) (none _))
 
 pub takes_no_begin : (m : Machine) (i min : ℕ) (max : Option ℕ) → IsSound m → ((f : ℕ → Option ℕ → Bool → ℕ → ℕ → Code → Code → Run) → of_repetition f (code_at m.program.now i) ≡ silent ∷ []) → TakesMarks m m (remaining m (action.BeginTurn i min max)) (remaining m action.Backtrack)
-takes_no_begin m i min max sound none = record {
-  ticks = false;
-  more = [];
-  cut = ap (λ r. with_backtracking m (bind r (continuation_of m))) (none _) ∙ stack_run-silent m.input.now m.program.now m.frames m.entries m.back m.slots.items [];
-  paid = refl;
-  input = refl;
-  program = refl;
-  sound = sound;
-}
+takes_no_begin m i min max sound none = takes_nothing m (remaining m (action.BeginTurn i min max)) sound (ap (λ r. with_backtracking m (bind r (continuation_of m))) (none _))
 
 -- a slot leads to a place of the input
 pub slot_within : (input : List ℕ) (back : Bool) (sl : Slot) (p : ℕ) (o : Option ℕ) → p ≤ length input → o ≡ slot_to input back sl p → IfSome o (λ q. q ≤ length input)
@@ -194,9 +179,6 @@ pub record HasRun (old m : Machine) (r s : Run) : Type 0 where
   pub input : m.input ≡ old.input
   pub program : m.program ≡ old.program
   pub sound : IsSound m
-
-pub has_run_none : (m : Machine) (r : Run) → IsSound m → HasRun m m r r
-has_run_none m r sound = record { costs = omega arith; firsts = refl; input = refl; program = refl; sound = sound }
 
 marked_cost : (ticks : List Bool) (r : Run) (budget : ℕ) → paid_by ticks budget + cost (visible r) ≡ cost (visible (marked ticks r)) + budget
 marked_cost [] r budget = omega arith
@@ -231,25 +213,4 @@ pub shorter : (m new : Machine) (a b : Run) → TakesMarks m new a b → length 
 shorter m new a b takes =
     let e = ap length takes.cut in
     let f = marked_length (takes.ticks ∷ takes.more) b in
-    omega arith
-
-pub ran_nothing : (old m new : Machine) (r a : Run) → HasRun old m r a → HasNoMore m new a → (first (visible r) ≡ None) × (old.budget ≡ cost (visible r) + new.budget)
-ran_nothing old m new r a has_run none =
-    let e = ap (λ r. cost (visible r)) none.is in
-    let c = has_run.costs in
-    let p = none.paid in
-    (has_run.firsts ∙ ap (λ r. first (visible r)) none.is, omega arith)
-
-pub ran_arrived : (old m new : Machine) (r a : Run) → HasRun old m r a → ReachesState m new a → (first (visible r) ≡ Some (state_of new)) × (old.budget ≡ cost (visible r) + new.budget)
-ran_arrived old m new r a has_run arrived =
-    let e = ap (λ r. cost (visible r)) arrived.is in
-    let c = has_run.costs in
-    let p = arrived.paid in
-    (has_run.firsts ∙ ap (λ r. first (visible r)) arrived.is, omega arith)
-
-pub ran_spent : (old m : Machine) (r a : Run) → HasRun old m r a → IsSpent m a → old.budget < cost (visible r)
-ran_spent old m r a has_run spent =
-    let e = ap (λ r. cost (visible r)) spent.is in
-    let c = has_run.costs in
-    let p = spent.none in
     omega arith

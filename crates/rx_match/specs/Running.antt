@@ -6,6 +6,7 @@ use Rattle.rx_match.specs.declared.machine.Action.TheVariants as action
 use Rattle.rx_match.specs.declared.machine.Progress.{Progress}
 use Rattle.rx_match.specs.declared.machine.Progress.TheVariants as progress
 use Rattle.rx_match.specs.declared.kinds.Repeated.{Repeated}
+use Rattle.rx_match.specs.declared.turns.Repetition.{Repetition}
 use Rattle.rx_match.specs.declared.entry.Backtrack.{Backtrack}
 use Rattle.rx_match.specs.declared.entry.Backtrack.TheVariants as backtrack
 use Rattle.rx_program.specs.declared.step.Step.{Step}
@@ -75,6 +76,16 @@ pub record IsSound (m : Machine) : Type 0 where
 abbrev pub IsRepetitionAt : Machine → ℕ → Turns → ℕ → ℕ → Type 0
 IsRepetitionAt m i t body next = code_at m.program.now i ≡ repeat t.min t.max t.greedy t.from t.count (code_at m.program.now body) (code_at m.program.now next)
 
+-- A sound machine, and a repetition of its program.
+pub record HasRepetition (m : Machine) (it : Repetition) : Type 0 where
+  pub sound : IsSound m
+  pub step : IsRepetitionAt m it.repeat it.parts.turns it.parts.body it.parts.next
+
+-- One more turn is allowed, and none is owed.
+pub record IsFree (it : Repetition) : Type 0 where
+  pub allowed : is_over it.max ≡ false
+  pub not_owed : it.min ≡ 0
+
 -- a machine before its last entry was taken out
 abbrev pub with_entry : Machine → Backtrack → Machine
 with_entry m e = record m { entries = m.entries ++ (e ∷ []) }
@@ -139,6 +150,13 @@ pub record TakesMarks (old new : Machine) (r s : Run) : Type 0 where
   pub input : new.input ≡ old.input
   pub program : new.program ≡ old.program
   pub sound : IsSound new
+
+-- Marks were taken of a repetition, or of a turn of one.
+abbrev pub TakesRepetition : Machine → Machine → Repetition → Action → Type 0
+TakesRepetition old new it now = TakesMarks old new (remaining old (action.Repeat it.repeat it.min it.max)) (remaining new now)
+
+abbrev pub TakesTurn : Machine → Machine → Repetition → Action → Type 0
+TakesTurn old new it now = TakesMarks old new (remaining old (action.BeginTurn it.repeat it.min it.max)) (remaining new now)
 
 -- A slot was restored, and the same is left for later.
 pub record KeepsBacktracking (old new : Machine) : Type 0 where

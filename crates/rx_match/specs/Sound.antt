@@ -1,7 +1,5 @@
 -- What holds of a machine's stacks.
 use Rattle.std.specs.Prelude.{◌≡◌, ℕ, suc, ◌+◌, ◌≤◌, ◌<◌, slice_get, Bool, true, false, ◌==◌, Option, Some, None, List, [], ◌∷◌, length, reverse}
-use Rattle.rx_program.specs.declared.step.Step.{Step}
-use Rattle.rx_program.specs.declared.step.Step.TheVariants as step
 use Rattle.rx_match.specs.declared.entry.Frame.{Frame}
 use Rattle.rx_match.specs.declared.entry.Backtrack.{Backtrack}
 use Rattle.rx_match.specs.declared.entry.Backtrack.TheVariants as backtrack

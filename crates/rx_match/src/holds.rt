@@ -1,6 +1,6 @@
-ghost use Rattle.std.specs.Prelude.{◌≡◌, ◌==◌, ◌≤◌, ◌<◌, ◌-◌, false, length, slice_get, take, drop};
+ghost use Rattle.std.specs.Prelude.{◌≡◌, ◌==◌, ◌≤◌, ◌<◌, ◌-◌, false, length, take, drop};
 ghost use Rattle.rx_match.specs.Runs.{AreHeld, slot_to as slot_leads, unit_to as unit_leads};
-ghost use Rattle.rx_trace.specs.Holding.{ahead as unit_ahead, preceding as unit_before, boundary_holds as boundary_at, differ, escape_holds as escape_holds_it, holds_at, is_last_line as last_line_at, is_line_terminator as terminates, is_space as is_space_unit, is_word as is_word_unit};
+ghost use Rattle.rx_trace.specs.Holding.{ahead as unit_ahead, preceding as unit_before, boundary_holds as boundary_at, differ, holds_at, is_last_line as last_line_at, is_line_terminator as terminates, is_word as is_word_unit};
 ghost use Rattle.rx_trace.specs.Groups.{same_units};
 ghost use Rattle.rx_program.specs.Steps.{test_holds as test_holds_it};
 ghost use Rattle.rx_trace.specs.Matching.{place_over as place_over_it};

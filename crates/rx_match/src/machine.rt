@@ -5,12 +5,12 @@ ghost use Rattle.rx_trace.specs.Groups.{slot_of};
 ghost use Rattle.rx_trace.specs.Holding.{boundary_holds as boundary_at};
 ghost use Rattle.rx_match.specs.Kinds.{ticks_in};
 ghost use Rattle.rx_program.specs.Steps.{code_at};
-ghost use Rattle.rx_trace.specs.Repeats.{is_over as over};
 ghost use Rattle.rx_match.specs.Running.{KeepsRun, IsRun, IsSound, Progresses, TakesMarks, PushesFrame, continuation_of, run_of, remaining, state_of, run_after_tick, with_backtracking};
 
 use crate::entry::{Backtrack, Frame, Pending};
 use crate::holds::{boundary_holds, slot_to, unit_to};
 use crate::kinds::{does_tick, repetition_at, step_at};
+use crate::turns::Repetition;
 use rx_ast::{BoundaryAssertionKind, LookAroundAssertionKind};
 use rx_base::{List, OutOfMemory};
 use rx_program::{Step, looks_back, slot_among};
@@ -308,12 +308,18 @@ impl<'a> Machine<'a> {
         requires { IsSound self.old }
         ensures { IfOk result (λ now. TakesMarks self.old self.new (remaining self.old (Action.Repeat repeat min max)) (remaining self.new now)) }
     {
-        let Some(it) = repetition_at(self.program, repeat) else {
+        let Some(parts) = repetition_at(self.program, repeat) else {
             return Ok(Action::Backtrack);
         };
-        match self.unit_of_turns(it, max) {
-            None => self.repeat(repeat, it, min, max),
-            Some(test) => self.turns_over_units(repeat, it, test, min, max),
+        let it = Repetition {
+            repeat,
+            parts,
+            min,
+            max,
+        };
+        match self.unit_of_turns(parts, max) {
+            None => self.repeat(it),
+            Some(test) => self.turns_over_units(it, test),
         }
     }
 
@@ -326,12 +332,18 @@ impl<'a> Machine<'a> {
         requires { IsSound self.old }
         ensures { IfOk result (λ now. TakesMarks self.old self.new (remaining self.old (Action.BeginTurn repeat min max)) (remaining self.new now)) }
     {
-        let Some(it) = repetition_at(self.program, repeat) else {
+        let Some(parts) = repetition_at(self.program, repeat) else {
             return Ok(Action::Backtrack);
         };
-        match self.unit_of_turn(it) {
-            None => self.begin_turn(repeat, it, min, max),
-            Some(test) => Ok(self.turn_over_unit(repeat, it, test, min, max)),
+        let it = Repetition {
+            repeat,
+            parts,
+            min,
+            max,
+        };
+        match self.unit_of_turn(parts) {
+            None => self.begin_turn(it),
+            Some(test) => Ok(self.turn_over_unit(it, test)),
         }
     }
 

@@ -10,7 +10,7 @@ use crate::machine::{Machine, Progress};
 use rx_ast::Pattern;
 use rx_base::{List, OutOfMemory};
 use rx_program::{GroupNames, Setting, Step, Survey, class_rows, compile, survey_tree};
-use rx_trace::{Found, MatchFault, MatchFlags, Slot};
+use rx_trace::{Found, MatchFault, MatchFlags, Slot, settings_at_start};
 use std::alloc::Global;
 
 /// What a search came to: a match, if there is one, and how many Ticks came before it, or in all.
@@ -157,17 +157,6 @@ fn match_program(
     }
 }
 
-/// How a whole pattern is compiled under these flags.
-fn forward(flags: MatchFlags) -> Setting
-    ensures { result ≡ record { multiline = flags.multiline; dot_all = flags.dot_all; back = false } }
-{
-    Setting {
-        multiline: flags.multiline,
-        dot_all: flags.dot_all,
-        back: false,
-    }
-}
-
 /// Matches a pattern from each place up to the last, up to the first match.
 fn answer(
     alloc: Global,
@@ -189,7 +178,11 @@ fn answer(
     let groups = GroupNames::new(alloc, names)?;
     let classes = class_rows(alloc, &pattern.body)?;
     let rows = classes.as_slice();
-    let program = compile(alloc, &groups, rows, &pattern.body, forward(flags))?;
+    let forward = Setting {
+        settings: settings_at_start(flags),
+        back: false,
+    };
+    let program = compile(alloc, &groups, rows, &pattern.body, forward)?;
     let steps = program.steps.as_slice();
     match_program(alloc, steps, program.entry, groups.len(), attempts)
 }

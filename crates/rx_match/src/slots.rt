@@ -1,4 +1,4 @@
-ghost use Rattle.std.specs.Prelude.{true, ◌≡◌, ◌<◌, ◌≤◌, ◌^◌, ◌+◌, OnOk, length, set};
+ghost use Rattle.std.specs.Prelude.{true, ◌≡◌, ◌<◌, ◌+◌, OnOk, set};
 ghost use Rattle.rx_trace.specs.Groups.{unset_slots as unset_all};
 ghost use Rattle.rx_match.specs.Restored.{IsRestored, Saves};
 ghost use Rattle.rx_match.specs.Sound.{AreEntries, IsSaved, own_row, restores_slot, row_in};

@@ -1,124 +1,108 @@
-ghost use Rattle.std.specs.Prelude.{true, false, ◌≡◌, ◌<◌, ◌-◌, IfOk};
-ghost use Rattle.rx_trace.specs.Repeats.{is_over as over};
-ghost use Rattle.rx_match.specs.Running.{IsRepetitionAt, IsSound, TakesMarks, remaining};
+ghost use Rattle.std.specs.Prelude.{true, false, ◌≡◌, IfOk};
+ghost use Rattle.rx_match.specs.Running.{HasRepetition, IsFree, TakesRepetition, TakesTurn};
 
 use crate::entry::{Backtrack, Pending};
 use crate::kinds::{Repeated, is_over};
 use crate::machine::{Action, Machine};
 use crate::slots::unset_slots;
 use rx_base::OutOfMemory;
-use rx_program::Step;
-use rx_trace::Slot;
+
+/// A repetition that a machine comes to: the number of its step, its parts, how many turns are owed, and how many are allowed.
+#[derive(Clone, Copy)]
+pub struct Repetition {
+    pub repeat: usize,
+    pub parts: Repeated,
+    pub min: u64,
+    pub max: Option<u64>,
+}
 
 /// Turns of a repetition.
 impl<'a> Machine<'a> {
     /// A repetition from where the machine stands.
-    pub fn repeat(
-        &mut self,
-        repeat: usize,
-        it: Repeated,
-        min: u64,
-        max: Option<u64>,
-    ) -> Result<Action, OutOfMemory>
-        requires sound { IsSound self.old }
-        requires step { IsRepetitionAt self.old repeat it.turns it.body it.next }
-        ensures { IfOk result (λ now. TakesMarks self.old self.new (remaining self.old (Action.Repeat repeat min max)) (remaining self.new now)) }
+    pub fn repeat(&mut self, it: Repetition) -> Result<Action, OutOfMemory>
+        requires { HasRepetition self.old it }
+        ensures { IfOk result (λ now. TakesRepetition self.old self.new it now) }
     {
-        let over = is_over(max);
+        let over = is_over(it.max);
         if over {
-            self.step = it.next;
+            self.step = it.parts.next;
             return Ok(Action::Step);
         }
-        if min > 0 {
-            return Ok(Action::BeginTurn { repeat, min, max });
+        if it.min > 0 {
+            return Ok(Action::BeginTurn {
+                repeat: it.repeat,
+                min: it.min,
+                max: it.max,
+            });
         }
-        if it.turns.greedy {
-            return self.begin_or_leave(repeat, it, min, max);
+        if it.parts.turns.greedy {
+            return self.begin_or_leave(it);
         }
-        self.leave_or_begin(repeat, it, min, max)
+        self.leave_or_begin(it)
     }
 
     /// A turn that is not owed, and for later none.
-    fn begin_or_leave(
-        &mut self,
-        repeat: usize,
-        it: Repeated,
-        min: u64,
-        max: Option<u64>,
-    ) -> Result<Action, OutOfMemory>
-        requires sound { IsSound self.old }
-        requires step { IsRepetitionAt self.old repeat it.turns it.body it.next }
-        requires allowed { over max ≡ false }
-        requires not_owed { min ≡ 0 }
-        requires greedy { it.turns.greedy ≡ true }
-        ensures { IfOk result (λ now. TakesMarks self.old self.new (remaining self.old (Action.Repeat repeat min max)) (remaining self.new now)) }
+    fn begin_or_leave(&mut self, it: Repetition) -> Result<Action, OutOfMemory>
+        requires stands { HasRepetition self.old it }
+        requires free { IsFree it }
+        requires greedy { it.parts.turns.greedy ≡ true }
+        ensures { IfOk result (λ now. TakesRepetition self.old self.new it now) }
     {
         let frames = self.frames.len();
         self.entries.push(Backtrack::Choice {
             place: self.place,
             earlier: 0,
-            step: it.next,
+            step: it.parts.next,
             head: self.head,
             frames,
         })?;
-        Ok(Action::BeginTurn { repeat, min, max })
+        Ok(Action::BeginTurn {
+            repeat: it.repeat,
+            min: it.min,
+            max: it.max,
+        })
     }
 
     /// No turn, and for later one.
-    fn leave_or_begin(
-        &mut self,
-        repeat: usize,
-        it: Repeated,
-        min: u64,
-        max: Option<u64>,
-    ) -> Result<Action, OutOfMemory>
-        requires sound { IsSound self.old }
-        requires step { IsRepetitionAt self.old repeat it.turns it.body it.next }
-        requires allowed { over max ≡ false }
-        requires not_owed { min ≡ 0 }
-        requires lazy { it.turns.greedy ≡ false }
-        ensures { IfOk result (λ now. TakesMarks self.old self.new (remaining self.old (Action.Repeat repeat min max)) (remaining self.new now)) }
+    fn leave_or_begin(&mut self, it: Repetition) -> Result<Action, OutOfMemory>
+        requires stands { HasRepetition self.old it }
+        requires free { IsFree it }
+        requires lazy { it.parts.turns.greedy ≡ false }
+        ensures { IfOk result (λ now. TakesRepetition self.old self.new it now) }
     {
         let frames = self.frames.len();
         self.entries.push(Backtrack::Turn {
             place: self.place,
-            repeat,
-            min,
-            max,
+            repeat: it.repeat,
+            min: it.min,
+            max: it.max,
             head: self.head,
             frames,
         })?;
-        self.step = it.next;
+        self.step = it.parts.next;
         Ok(Action::Step)
     }
 
     /// A turn of a repetition.
-    pub fn begin_turn(
-        &mut self,
-        repeat: usize,
-        it: Repeated,
-        min: u64,
-        max: Option<u64>,
-    ) -> Result<Action, OutOfMemory>
-        requires sound { IsSound self.old }
-        requires step { IsRepetitionAt self.old repeat it.turns it.body it.next }
-        ensures { IfOk result (λ now. TakesMarks self.old self.new (remaining self.old (Action.BeginTurn repeat min max)) (remaining self.new now)) }
+    pub fn begin_turn(&mut self, it: Repetition) -> Result<Action, OutOfMemory>
+        requires { HasRepetition self.old it }
+        ensures { IfOk result (λ now. TakesTurn self.old self.new it now) }
     {
         unset_slots(
             &mut self.entries,
             &mut self.slots,
             &mut self.saved,
-            it.turns.from,
-            it.turns.count,
+            it.parts.turns.from,
+            it.parts.turns.count,
         )?;
         let start = self.place;
         self.push_frame(Pending::EndTurn {
-            min,
-            max,
+            min: it.min,
+            max: it.max,
             start,
-            repeat,
+            repeat: it.repeat,
         })?;
-        self.step = it.body;
+        self.step = it.parts.body;
         Ok(Action::Step)
     }
 }

@@ -2,12 +2,13 @@ ghost use Rattle.std.specs.Prelude.{false, ◌≡◌, ◌≤◌, ◌<◌, ◌-�
 ghost use Rattle.rx_match.specs.Runs.{unit_to as unit_leads};
 ghost use Rattle.rx_program.specs.Steps.{test_holds};
 ghost use Rattle.rx_trace.specs.Repeats.{is_over as over};
-ghost use Rattle.rx_match.specs.Running.{IsOverUnit, IsOverUnits, IsRepetitionAt, IsSound, TakesMarks, remaining, with_turns};
+ghost use Rattle.rx_match.specs.Running.{HasRepetition, IsOverUnit, IsOverUnits, IsSound, TakesRepetition, TakesTurn, with_turns};
 
 use crate::entry::Backtrack;
 use crate::holds::{place_after_units, unit_to};
 use crate::kinds::{Repeated, is_over, less_by, most_turns, one_less, unit_test};
 use crate::machine::{Action, Machine};
+use crate::turns::Repetition;
 use rx_base::OutOfMemory;
 use rx_program::{Step, Test};
 use rx_trace::Slot;
@@ -44,18 +45,10 @@ impl<'a> Machine<'a> {
     }
 
     /// A turn.
-    pub fn turn_over_unit(
-        &mut self,
-        repeat: usize,
-        it: Repeated,
-        test: Test<'a>,
-        min: u64,
-        max: Option<u64>,
-    ) -> Action
-        requires sound { IsSound self.old }
-        requires step { IsRepetitionAt self.old repeat it.turns it.body it.next }
-        requires unit { IsOverUnit self.old it test }
-        ensures { TakesMarks self.old self.new (remaining self.old (Action.BeginTurn repeat min max)) (remaining self.new result) }
+    pub fn turn_over_unit(&mut self, it: Repetition, test: Test<'a>) -> Action
+        requires stands { HasRepetition self.old it }
+        requires unit { IsOverUnit self.old it.parts test }
+        ensures { TakesTurn self.old self.new it result }
     {
         self.budget -= 1;
         match unit_to(self.input, self.back, test, self.place) {
@@ -63,9 +56,9 @@ impl<'a> Machine<'a> {
             Some(place) => {
                 self.place = place;
                 Action::Repeat {
-                    repeat,
-                    min: min.saturating_sub(1),
-                    max: one_less(max),
+                    repeat: it.repeat,
+                    min: it.min.saturating_sub(1),
+                    max: one_less(it.max),
                 }
             }
         }
@@ -74,30 +67,26 @@ impl<'a> Machine<'a> {
     /// All turns that there are, each of which may be given back later.
     pub fn turns_over_units(
         &mut self,
-        repeat: usize,
-        it: Repeated,
+        it: Repetition,
         test: Test<'a>,
-        min: u64,
-        max: Option<u64>,
     ) -> Result<Action, OutOfMemory>
-        requires sound { IsSound self.old }
-        requires step { IsRepetitionAt self.old repeat it.turns it.body it.next }
-        requires units { IsOverUnits self.old it max test }
-        ensures { IfOk result (λ now. TakesMarks self.old self.new (remaining self.old (Action.Repeat repeat min max)) (remaining self.new now)) }
+        requires stands { HasRepetition self.old it }
+        requires units { IsOverUnits self.old it.parts it.max test }
+        ensures { IfOk result (λ now. TakesRepetition self.old self.new it now) }
     {
-        let most = most_turns(max, self.budget);
+        let most = most_turns(it.max, self.budget);
         let place = place_after_units(self.input, test, self.place, most);
         let turns = (place - self.place) as u64;
         if turns == 0 {
-            return Ok(self.leave_before_unit(repeat, it, test, min, max));
+            return Ok(self.leave_before_unit(it, test));
         }
-        self.leave_turns(place, turns.saturating_sub(min), it.next)?;
+        self.leave_turns(place, turns.saturating_sub(it.min), it.parts.next)?;
         self.place = place;
         self.budget -= turns;
         Ok(Action::Repeat {
-            repeat,
-            min: min.saturating_sub(turns),
-            max: less_by(max, turns),
+            repeat: it.repeat,
+            min: it.min.saturating_sub(turns),
+            max: less_by(it.max, turns),
         })
     }
 
@@ -120,25 +109,17 @@ impl<'a> Machine<'a> {
     }
 
     /// A turn that fails, and so none.
-    fn leave_before_unit(
-        &mut self,
-        repeat: usize,
-        it: Repeated,
-        test: Test<'a>,
-        min: u64,
-        max: Option<u64>,
-    ) -> Action
-        requires sound { IsSound self.old }
-        requires step { IsRepetitionAt self.old repeat it.turns it.body it.next }
-        requires units { IsOverUnits self.old it max test }
+    fn leave_before_unit(&mut self, it: Repetition, test: Test<'a>) -> Action
+        requires stands { HasRepetition self.old it }
+        requires units { IsOverUnits self.old it.parts it.max test }
         requires none { unit_leads self.old.input.now false (test_holds test) self.old.place ≡ None }
-        ensures { TakesMarks self.old self.new (remaining self.old (Action.Repeat repeat min max)) (remaining self.new result) }
+        ensures { TakesRepetition self.old self.new it result }
     {
         self.budget -= 1;
-        if min > 0 {
+        if it.min > 0 {
             return Action::Backtrack;
         }
-        self.step = it.next;
+        self.step = it.parts.next;
         Action::Step
     }
 }

@@ -1,15 +1,13 @@
 -- The replies to what the matcher answers.
-use Rattle.std.proofs.Common.{◌≡◌, ◌∙◌, refl, sym, ap, subst, ℕ, ◌-◌, List, ◌++◌, length, Option, Some, None, Result, arith}
+use Rattle.std.proofs.Common.{◌≡◌, subst, ℕ, List, ◌++◌, length, Option, Result}
 use Rattle.rx_ast.specs.Tree.{Whole}
 use Rattle.rx_trace.specs.declared.answer.Found.{Found}
 use Rattle.rx_trace.specs.declared.answer.MatchFlags.{MatchFlags}
 use Rattle.rx_trace.specs.declared.answer.MatchFault.{MatchFault}
 use Rattle.rx_trace.specs.Answers.{IsAnswer, IsTickCount}
-use Rattle.rx_match_reply.specs.Replies.{IsAdded, IsMatchReply, IsTicksReply, answer_reply, ticks_reply, match_flags, units_under}
-
-added_reply : (o : Option (List ℕ)) (old new : List ℕ) → IsAdded o old new → (reply : List ℕ) × (o ≡ Some reply) × (new ≡ old ++ reply)
-added_reply None old new added = absurd added
-added_reply (Some reply) old new added = (reply, refl, added)
+use Rattle.rx_reply.specs.Added.{IsAdded}
+use Rattle.rx_reply.proofs.Added.{added_reply}
+use Rattle.rx_match_reply.specs.Replies.{IsMatchReply, IsTicksReply, answer_reply, ticks_reply, match_flags, units_under}
 
 module _ (letters text : List ℕ) (tree : Whole) (flags : MatchFlags) (units : List ℕ) (more budget : ℕ) (old new : List ℕ) (flags_are : flags ≡ match_flags letters)
     (units_are : units ≡ units_under letters text) (more_is : more ≡ length units) where

@@ -1,6 +1,5 @@
 -- Slots that are written one after the other.
-use Rattle.std.proofs.Common.{◌≡◌, ◌∙◌, refl, sym, ap, ℕ, ◌+◌, ◌<◌, List, [], ◌∷◌, ◌++◌, append_assoc, append-nil, length, drop, get_or, add-one, codes, map}
-use Rattle.std.specs.List.{join_with_byte}
+use Rattle.std.proofs.Common.{◌≡◌, ◌∙◌, refl, sym, ap, ℕ, ◌+◌, ◌<◌, List, [], ◌∷◌, ◌++◌, append_assoc, append-nil, length, drop, get_or, add-one, codes}
 use Rattle.std.proofs.Math.Seq.{drop-cons}
 use Rattle.rx_trace.specs.declared.answer.Slot.{Slot}
 use Rattle.rx_match_reply.specs.Found.{slot_text, slots_text, later_slots_text}

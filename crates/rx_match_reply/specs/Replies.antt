@@ -1,5 +1,5 @@
 -- What `match` and `steps` answer of a pattern that is read.
-use Rattle.std.specs.Prelude.{◌≡◌, ℕ, Bool, ◌||◌, nat_eq, List, ◌++◌, length, codes, Option, Some, None, Result, Ok, Err}
+use Rattle.std.specs.Prelude.{◌≡◌, ℕ, ◌||◌, List, ◌++◌, length, codes, Option, Some, None, Result, Ok, Err}
 use Rattle.std.specs.Fmt.{decimal}
 use Rattle.rx_base.specs.Ascii as ascii
 use Rattle.rx_base.specs.Flags.{holds}
@@ -51,8 +51,3 @@ pub record IsTicksReply (letters text : List ℕ) (tree : Whole) (most : ℕ) (r
   pub ticks : Result (Option ℕ) MatchFault
   pub counted : IsTickCount (match_flags letters) tree (units_under letters text) (length (units_under letters text)) 0 most ticks
   pub reply_is : ticks_reply ticks ≡ Some reply
-
--- Of this reply, where there is one, all was added.
-abbrev pub IsAdded : Option (List ℕ) → List ℕ → List ℕ → Type 0
-IsAdded None old new = ⊥
-IsAdded (Some reply) old new = new ≡ old ++ reply

@@ -2,7 +2,8 @@ ghost use Rattle.std.specs.Prelude.{◌≡◌, ◌++◌, ℕ, List as Sequence, 
 ghost use Rattle.std.specs.Str.{chars};
 ghost use Rattle.rx_ast.specs.Tree.{mirror};
 ghost use Rattle.rx_reply.specs.Places.{span_text};
-ghost use Rattle.rx_match_reply.specs.Replies.{IsAdded, IsMatchReply, IsTicksReply, answer_reply, fault_reply, ticks_reply};
+ghost use Rattle.rx_reply.specs.Added.{IsAdded};
+ghost use Rattle.rx_match_reply.specs.Replies.{IsMatchReply, IsTicksReply, answer_reply, fault_reply, ticks_reply};
 
 use crate::flags::match_flags;
 use crate::found::add_found;

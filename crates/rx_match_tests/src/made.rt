@@ -6,7 +6,7 @@ use rx_ast::{
     Pattern, Quantifier, Term,
 };
 use rx_base::{List, OutOfMemory, Span, Text};
-use rx_rows::{Call, agree};
+use rx_rows::{Call, agree, each_sign};
 use std::alloc::Global;
 use std::test::Fail;
 
@@ -33,7 +33,10 @@ impl Call for MadeCall {
         let span = Span::empty(0);
         let pattern = Pattern {
             span,
-            body: disjunction_of(alloc, terms_of(alloc, asked.pattern)?)?,
+            body: disjunction_of(
+                alloc,
+                each_sign(alloc, asked.pattern, |sign| term_of(alloc, sign))?,
+            )?,
         };
         asked.answer(alloc, &pattern, Range::All)
     }
@@ -50,14 +53,6 @@ fn disjunction_with(alloc: Global, term: Term) -> Result<Disjunction, OutOfMemor
     let mut terms = List::new(alloc);
     terms.push(term)?;
     disjunction_of(alloc, terms)
-}
-
-fn terms_of(alloc: Global, signs: &str) -> Result<List<Term>, OutOfMemory> {
-    let mut terms = List::new(alloc);
-    for sign in signs.chars() {
-        terms.push(term_of(alloc, sign)?)?;
-    }
-    Ok(terms)
 }
 
 fn term_of(alloc: Global, sign: char) -> Result<Term, OutOfMemory> {

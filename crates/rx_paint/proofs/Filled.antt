@@ -1,6 +1,5 @@
 -- In a tree that is spanned over offsets that do not fall, patterns and alternatives own nothing themselves.
 use Rattle.std.proofs.Common.{◌≡◌, refl, ap, sym, subst, ℕ, ◌+◌, ◌≤◌, arith, Option, Some, None, List, [], ◌∷◌, ◌++◌, length}
-use Rattle.std.proofs.lemmas.List.{length-append, length-map}
 use Rattle.rx_ast.specs.declared.leaf.CharacterKind.{CharacterKind}
 use Rattle.rx_ast.specs.declared.leaf.CharacterKind.TheVariants.{Symbol}
 use Rattle.rx_paint.specs.declared.token.Token.{Token}
@@ -13,16 +12,17 @@ use Rattle.rx_ast.specs.declared.class.ClassString.{ClassString}
 use Rattle.rx_ast.specs.ClassTree as in_class
 use Rattle.rx_ast.specs.ClassTree.{Member, Members, Class, no_member, member}
 use Rattle.rx_ast.specs.Tree as ast
-use Rattle.rx_ast.specs.Tree.{Leaf, Opener, Node, Nodes, Alternatives, Whole, leaf, quantified, group, no_node, node, no_alternative}
+use Rattle.rx_ast.specs.Tree.{Leaf, Node, Nodes, Alternatives, Whole, leaf, quantified, group, no_node, node, no_alternative}
 use Rattle.rx_units.specs.declared.code_point.CodePoint.{CodePoint}
 use Rattle.rx_model.specs.Inputs.Environment.{Environment, for_classes}
 use Rattle.rx_model.specs.Trees.Events as event
-use Rattle.rx_model.specs.Trees.Events.{Event, Events, within, leaf_event, opener_event, node_events, nodes_events, alternatives_events, barred_events}
+use Rattle.rx_model.specs.Trees.Events.{Events, within, opener_event, node_events, nodes_events, alternatives_events, barred_events}
 use Rattle.rx_model.specs.Classes.ClassTokens as of_class
 use Rattle.rx_model.specs.Classes.ClassTokens.{ClassEvents, letters_events, string_events, barred_strings_events, strings_events, operator_events, member_events, class_events, members_events, more_members_events}
 use Rattle.rx_model.specs.Classes.ClassRows.{ClassRow, Place}
 use Rattle.rx_model.specs.Trees.Token as of_token
 use Rattle.rx_model.specs.Reading.Rows.{Row}
+use Rattle.rx_model.proofs.Reading.Spanned.{rises}
 use Rattle.rx_paint.specs.declared.token.Kind.{Kind}
 use Rattle.rx_paint.specs.declared.token.Kind.TheVariants as paints
 use Rattle.rx_ast.specs.Forest.{Forest, nothing, tree}
@@ -85,18 +85,9 @@ module _ (o : ℕ → ℕ) (rising : (i j : ℕ) → i ≤ j → o i ≤ o j) wh
   leads e ((event.inside c) ∷ es) i j high us rest xs row more =
       class_leads (for_classes e) (class_events c) _ _ i (i + length row.0) high _ _ (items es xs) row.3.row (leads e es (i + length row.0) j high row.1 rest xs row.4 more)
   leads e ((event.modified m) ∷ es) i j high us rest xs row more =
-      let span = row.3 in
-      let a = rising i (i + 2) (omega arith) in
-      let b = rising (i + 2) (i + 2 + length span.modified.text) (omega arith) in
-      let start = span.start in
-      let end = span.end in
-      let text = span.modified.text in
-      let whole = ap length span.modified.whole in
-      let same = length-map row.0 (λ (u : CodePoint). u.value) in
-      let parts = length-append text (58 ∷ []) in
-      let within : i + 2 + length text ≤ i + length row.0 = omega arith in
-      let c = rising (i + 2 + length text) (i + length row.0) within in
-      (m.span.start, omega arith, (refl, (m.span.end, omega arith, (refl, (o (i + length row.0), omega arith, leads e es (i + length row.0) j high row.1 rest xs row.4 more)))))
+      let own : Row e o ((event.modified m) ∷ []) i us (i + length row.0) row.1 = (row.0, row.1, row.2, row.3, (refl, refl)) in
+      let here = rises o rising e ((event.modified m) ∷ []) i (i + length row.0) (o (i + length row.0)) us row.1 [] own (omega arith) in
+      (m.span.start, here.0, (refl, (m.span.end, here.1.0, (refl, (o (i + length row.0), here.1.1, leads e es (i + length row.0) j high row.1 rest xs row.4 more)))))
 
 abbrev pub NotOther : Kind → Type 0
 NotOther k = k ≡ paints.Other → ⊥

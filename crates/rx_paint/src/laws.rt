@@ -1,6 +1,6 @@
 //! Laws of the definitions. The functions do nothing: each contract is a law.
 
-ghost use Rattle.std.specs.Prelude.{◌≡◌, ◌≤◌, ◌<◌, ◌+◌, ℕ, List, ◌↔◌};
+ghost use Rattle.std.specs.Prelude.{◌≡◌, ◌≤◌, ◌<◌, ℕ, List, ◌↔◌};
 ghost use Rattle.rx_base.specs.declared.span.Span.{Span};
 ghost use Rattle.rx_ast.specs.Tree.{Whole, mirror};
 ghost use Rattle.rx_ast.specs.declared.term.Pattern.{Pattern};

@@ -1,5 +1,5 @@
 -- What stands between the escapes of a text in colour.
-use Rattle.std.proofs.Common.{◌≡◌, refl, ap, sym, ◌∙◌, ℕ, ◌+◌, ◌-◌, ◌/◌, ◌%◌, ◌≤◌, true, false, nat_lt, arith, IsTrue, List, [], ◌∷◌, ◌++◌, append_assoc, append-nil, length, take, drop, codes}
+use Rattle.std.proofs.Common.{◌≡◌, refl, ap, sym, ◌∙◌, ℕ, ◌+◌, ◌-◌, ◌/◌, ◌%◌, ◌≤◌, true, false, nat_lt, arith, IsTrue, List, [], ◌∷◌, ◌++◌, append_assoc, length, take, drop, codes}
 use Rattle.std.specs.Prelude.{◌||◌, not, nat_eq, if◌then◌else◌, slice_range}
 use Rattle.std.specs.List.{flat_map}
 use Rattle.std.proofs.lemmas.Bool.Decides.{nat_tests}
@@ -105,9 +105,6 @@ module _ (text : List ℕ) (ts : List Token) (tile : Tile 0 (length text) ts) wh
       let count : length text - 0 ≡ length text = omega arith in
       let whole : slice_range text 0 (length text) ≡ text = ap (λ n. take n text) count ∙ take_all (length text) text (omega arith) in
       outside_text text ts rest ∙ ap (λ (bytes : List ℕ). bytes ++ bytes_outside false rest) (parts text ts 0 (length text) tile ∙ ap shown_text whole)
-
-  pub text_outside : without_escapes (text_in_color text ts) ≡ shown_text text
-  text_outside = ap (bytes_outside false) (sym (append-nil (text_in_color text ts))) ∙ outside_all [] ∙ append-nil (shown_text text)
 
   pub reply_outside : without_escapes (color_reply text ts) ≡ codes "ok\t" ++ shown_text text ++ codes "\n"
   reply_outside =

@@ -1,4 +1,4 @@
-ghost use Rattle.std.specs.Prelude.{◌≡◌, ◌≤◌, ◌<◌, ◌++◌, ◌∷◌, [], All, OnOk, length};
+ghost use Rattle.std.specs.Prelude.{◌≡◌, ◌≤◌, ◌<◌, ◌++◌, All, OnOk, length};
 ghost use Rattle.rx_paint_reply.specs.Colors.{color, hex_digit, shown_byte, shown_text, text_in_color, token_in_color};
 
 use rx_base::{List, OutOfMemory};

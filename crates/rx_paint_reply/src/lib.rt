@@ -7,3 +7,4 @@ mod replies;
 mod tokens;
 
 pub use replies::{add_colors, add_tokens};
+pub use tokens::add_tokens_text;

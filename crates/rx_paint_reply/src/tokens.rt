@@ -6,7 +6,7 @@ use rx_paint::{Kind, Token};
 use rx_reply::add_span;
 
 /// Adds tokens, with blanks between.
-pub(crate) fn add_tokens_text(bytes: &mut List<u8>, tokens: &[Token]) -> Result<(), OutOfMemory>
+pub fn add_tokens_text(bytes: &mut List<u8>, tokens: &[Token]) -> Result<(), OutOfMemory>
     ensures { OnOk result (bytes.new ≡ bytes.old ++ tokens_text tokens.now) }
 {
     let Some((first, later)) = tokens.split_first() else {

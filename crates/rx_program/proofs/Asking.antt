@@ -8,7 +8,7 @@ use Rattle.rx_program.specs.declared.checks.Target.{Target}
 use Rattle.rx_program.specs.declared.checks.Target.TheVariants as target
 use Rattle.rx_program.specs.Checks.{item_holds, target_after, after_check, is_check, target_holds, answer}
 use Rattle.rx_program.specs.RowParts.{IsTargetBelow}
-use Rattle.rx_program.proofs.Lists.{length-last}
+use Rattle.rx_trace.proofs.Lists.{length-last}
 use Rattle.rx_program.proofs.Programs.{apart-test}
 
 module _ (checks : List Check) (c : ℕ) where

@@ -11,7 +11,7 @@ use Rattle.rx_program.specs.Steps.{step_code, code_at}
 use Rattle.rx_program.specs.Steps.{NamesBelow}
 use Rattle.rx_program.specs.Works.{Work, capturing, groups_left, tests_left, on_one, on_two, swapped, worked, all_worked, weight, weights}
 use Rattle.rx_program.specs.Built.{work_of, works_of, works, AreBelow, codes_of, with_code, with_task, with_step, IsProgram, IsBuilding, Replaces, Builds}
-use Rattle.rx_program.proofs.Lists.{reverse-last, length-last}
+use Rattle.rx_trace.proofs.Lists.{reverse-last, length-last}
 use Rattle.rx_program.proofs.Growing.{code-more, code-new, ordered-more, below-more, codes-more}
 
 -- codes with one more

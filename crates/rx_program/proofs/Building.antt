@@ -8,8 +8,9 @@ use Rattle.rx_ast.specs.declared.term.Term.{Term}
 use Rattle.rx_ast.specs.Tree as tree
 use Rattle.rx_ast.specs.Tree.{Node, Nodes, Alternatives, quantified, group, no_node, node, nodes, no_alternative, alternative, alternatives, mirror_term, mirror_alternative}
 use Rattle.rx_trace.specs.Groups.{Names, groups_in, groups_in_all, groups_in_each}
-use Rattle.rx_trace.specs.Matching.{Settings, changed, looks_back}
-use Rattle.rx_program.specs.Codes.{Code, accept, reject, choose, sequence}
+use Rattle.rx_trace.specs.declared.settings.Settings.{Settings}
+use Rattle.rx_trace.specs.Matching.{changed, looks_back}
+use Rattle.rx_program.specs.Codes.{Code, accept, choose, sequence}
 use Rattle.rx_program.specs.Compiled.{chosen, node_code, nodes_code, each_code}
 use Rattle.rx_program.specs.Works.{Work, disjunction, earlier, terms, term, capturing, looking, repeating, entering, choosing, swapping, sequencing, earlier_code, groups_left, all_worked, nodes_weight, node_weight, each_weight}
 
@@ -112,10 +113,6 @@ module _ (names : Names) where
     pub split_disjunction : (more : Alternatives) (d : Span) (ns : Nodes) (next : Code) (cs : List Code)
         → all_worked names (disjunction e back (with_last_alternative more d ns) ∷ ws) (next ∷ cs) ≡ all_worked names (terms e back ns ∷ earlier e back more ∷ ws) (next ∷ next ∷ cs)
     split_disjunction more d ns next cs = ap (λ c. all_worked names ws (c ∷ cs)) (each-last more d ns e back (groups_left ws) next)
-
-    pub split_no_disjunction : (cs : List Code) → all_worked names (disjunction e back no_alternative ∷ ws) cs ≡ all_worked names ws (Rattle.rx_program.specs.Works.on_one (λ next. reject) cs)
-    split_no_disjunction [] = refl
-    split_no_disjunction (next ∷ cs) = refl
 
     pub split_earlier : (more : Alternatives) (d : Span) (ns : Nodes) (entry next : Code) (cs : List Code)
         → all_worked names (earlier e back (with_last_alternative more d ns) ∷ ws) (entry ∷ next ∷ cs) ≡ all_worked names (terms e back ns ∷ choosing ∷ earlier e back more ∷ ws) (next ∷ entry ∷ next ∷ cs)

@@ -6,7 +6,7 @@ use Rattle.rx_ast.specs.declared.term.Alternative.{Alternative}
 use Rattle.rx_ast.specs.declared.term.Term.{Term}
 use Rattle.rx_ast.specs.ClassTree.{Class}
 use Rattle.rx_ast.specs.Tree as tree
-use Rattle.rx_ast.specs.Tree.{Leaf, Opener, Node, Nodes, Alternatives, leaf, quantified, group, node, nodes, alternative, alternatives, mirror_term, mirror_alternative}
+use Rattle.rx_ast.specs.Tree.{Leaf, Opener, Node, Alternatives, leaf, quantified, group, nodes, alternatives, mirror_term, mirror_alternative}
 use Rattle.rx_program.specs.declared.checks.ClassRow.{ClassRow}
 use Rattle.rx_program.specs.declared.classes.ClassFinder.{ClassFinder}
 use Rattle.rx_program.specs.declared.classes.Unseen.{Unseen}
@@ -16,8 +16,8 @@ use Rattle.rx_program.specs.ClassesFound.{unseen_tests, tests_of, unseen_of, uns
 use Rattle.rx_trace.specs.Holding.{class_holds}
 use Rattle.rx_program.specs.Works.{node_weight, nodes_weight, each_weight}
 use Rattle.rx_program.proofs.Building.{with_last, with_last_alternative, nodes_last, alternatives_last, weight_last, weight_last_alternative}
-use Rattle.rx_program.proofs.Cutting.{length-zero}
-use Rattle.rx_program.proofs.Lists.{reverse-last}
+use Rattle.std.proofs.lemmas.List.{nil_from_length}
+use Rattle.rx_trace.proofs.Lists.{reverse-last}
 use Rattle.rx_program.proofs.TestOrder.{nodes_tests-last, each_tests-last}
 
 row_tests-last : (rows : List ClassRow) (row : ClassRow) → row_tests (rows ++ (row ∷ [])) ≡ row_tests rows ++ (row_holds row ∷ [])
@@ -62,11 +62,11 @@ finds_two f after tests one other most weight weight' u v is is' pushed same les
 
 pub finds_no_alternatives : (f : ClassFinder) (all : List Alternative) → length all ≡ 0 → Finds f (each_tests (alternatives (map mirror_alternative all))) (1 + each_weight (alternatives (map mirror_alternative all))) f
 finds_no_alternatives f all none =
-    finds_none f (each_tests (alternatives (map mirror_alternative all))) (1 + each_weight (alternatives (map mirror_alternative all))) (λ before. ap (λ l. each_tests (alternatives (map mirror_alternative l)) before) (length-zero all none)) (omega arith)
+    finds_none f (each_tests (alternatives (map mirror_alternative all))) (1 + each_weight (alternatives (map mirror_alternative all))) (λ before. ap (λ l. each_tests (alternatives (map mirror_alternative l)) before) (nil_from_length all none)) (omega arith)
 
 pub finds_no_terms : (f : ClassFinder) (all : List Term) → length all ≡ 0 → Finds f (nodes_tests (nodes (map mirror_term all))) (1 + nodes_weight (nodes (map mirror_term all))) f
 finds_no_terms f all none =
-    finds_none f (nodes_tests (nodes (map mirror_term all))) (1 + nodes_weight (nodes (map mirror_term all))) (λ before. ap (λ l. nodes_tests (nodes (map mirror_term l)) before) (length-zero all none)) (omega arith)
+    finds_none f (nodes_tests (nodes (map mirror_term all))) (1 + nodes_weight (nodes (map mirror_term all))) (λ before. ap (λ l. nodes_tests (nodes (map mirror_term l)) before) (nil_from_length all none)) (omega arith)
 
 pub finds_alternatives : (f after : ClassFinder) (all more : List Alternative) (last : Alternative) (body : List Term) (u v : Unseen) → all ≡ more ++ (last ∷ []) → (mirror_alternative last).1 ≡ nodes (map mirror_term body)
     → IsUnseen u (each_tests (alternatives (map mirror_alternative more))) (1 + each_weight (alternatives (map mirror_alternative more))) → IsUnseen v (nodes_tests (nodes (map mirror_term body))) (1 + nodes_weight (nodes (map mirror_term body)))

@@ -6,7 +6,7 @@ use Rattle.rx_program.specs.declared.step.Step.{Step}
 use Rattle.rx_program.specs.Built.{AreBelow}
 use Rattle.rx_program.specs.Steps.{step_code, code_in, code_at}
 use Rattle.rx_program.specs.Steps.{NamesBelow, OrderedOf, AreOrdered}
-use Rattle.rx_program.proofs.Lists.{reverse-last}
+use Rattle.rx_trace.proofs.Lists.{reverse-last}
 use Rattle.rx_program.proofs.Programs.{apart-test}
 
 -- the codes below are as they were

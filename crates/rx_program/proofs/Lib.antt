@@ -4,7 +4,6 @@ pub mod Building
 pub mod Cutting
 pub mod Finding
 pub mod Growing
-pub mod Lists
 pub mod Looking
 pub mod Named
 pub mod Performing

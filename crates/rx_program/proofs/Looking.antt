@@ -1,5 +1,5 @@
 -- What is looked at in a node, over plain values.
-use Rattle.std.proofs.Common.{◌≡◌, refl, ap, sym, ◌∙◌, subst, ℕ, zero, suc, ◌+◌, ◌≤◌, ◌<◌, Option, Some, None, List, [], ◌∷◌, ◌++◌, length, map, arith}
+use Rattle.std.proofs.Common.{◌≡◌, refl, ap, sym, ◌∙◌, ℕ, ◌+◌, Option, Some, None, List, [], ◌∷◌, ◌++◌, map, arith}
 use Rattle.std.specs.Prelude.{IsSome, MatchOption}
 use Rattle.rx_base.specs.declared.span.Span.{Span}
 use Rattle.rx_ast.specs.declared.class.CharacterClassContents.{CharacterClassContents}
@@ -9,7 +9,7 @@ use Rattle.rx_ast.specs.declared.term.Alternative.{Alternative}
 use Rattle.rx_ast.specs.declared.term.Term.{Term}
 use Rattle.rx_ast.specs.ClassTree.{member, members, mirror_contents}
 use Rattle.rx_ast.specs.Tree as tree
-use Rattle.rx_ast.specs.Tree.{Leaf, Node, Alternatives, leaf, quantified, group, node, nodes, alternative, alternatives, mirror_term, mirror_alternative}
+use Rattle.rx_ast.specs.Tree.{Leaf, Node, Alternatives, leaf, quantified, group, nodes, alternative, alternatives, mirror_term, mirror_alternative}
 use Rattle.rx_program.specs.declared.survey.Rest.{Rest}
 use Rattle.rx_program.specs.declared.survey.Surveyor.{Surveyor}
 use Rattle.rx_trace.specs.Groups.{Names, names_in, names_in_all, names_in_each}
@@ -40,22 +40,6 @@ looked_alternatives s after all more first body r q is is_body of_r of_q pushed 
     (looked_two s after (or_later (unsupported_nodes ns) (unsupported_each ms)) (names_in_all ns ++ names_in_each ms) (1 + (2 + nodes_looks ns + each_looks ms)) r q pushed
     (ap (λ u. or_later u (unsupported_each ms)) (sym of_q.refuses) ∙ ap (or_later (unsupported_rest q)) (sym of_r.refuses))
     (ap (λ u. u ++ names_in_each ms) (sym of_q.named) ∙ ap (λ u. names_rest q ++ u) (sym of_r.named)) (omega arith))
-
-pub looked_terms : (s after : Surveyor) (all more : List Term) (first : Term) (r q : Rest) → all ≡ first ∷ more
-    → IsRest r (unsupported_nodes (nodes (map mirror_term more))) (names_in_all (nodes (map mirror_term more))) (1 + nodes_looks (nodes (map mirror_term more)))
-    → IsRest q (unsupported_node (mirror_term first)) (names_in (mirror_term first)) (node_looks (mirror_term first))
-    → after ≡ with_rest (with_rest s r) q → LookedAt s (unsupported_nodes (nodes (map mirror_term all))) (names_in_all (nodes (map mirror_term all))) (1 + nodes_looks (nodes (map mirror_term all))) after None
-looked_terms s after all more first r q is of_r of_q pushed =
-    let n = mirror_term first in
-    let ns = nodes (map mirror_term more) in
-    let e : nodes (map mirror_term all) ≡ node n ns = ap (λ x. nodes (map mirror_term x)) is in
-    let rl = of_r.few in
-    let ql = of_q.few in
-    looked_same s after (unsupported_nodes (nodes (map mirror_term all))) (or_later (unsupported_node n) (unsupported_nodes ns)) (names_in_all (nodes (map mirror_term all))) (names_in n ++ names_in_all ns)
-    (1 + nodes_looks (nodes (map mirror_term all))) (1 + (1 + node_looks n + nodes_looks ns)) None (ap unsupported_nodes e) (ap names_in_all e) (ap (λ x. 1 + nodes_looks x) e)
-    (looked_two s after (or_later (unsupported_node n) (unsupported_nodes ns)) (names_in n ++ names_in_all ns) (1 + (1 + node_looks n + nodes_looks ns)) r q pushed
-    (ap (λ u. or_later u (unsupported_nodes ns)) (sym of_q.refuses) ∙ ap (or_later (unsupported_rest q)) (sym of_r.refuses))
-    (ap (λ u. u ++ names_in_all ns) (sym of_q.named) ∙ ap (λ u. names_rest q ++ u) (sym of_r.named)) (omega arith))
 
 -- contents of a class: the first of them may hold more
 pub looked_contents : (s after : Surveyor) (all more : List CharacterClassContents) (first : CharacterClassContents) (r : Rest) → all ≡ first ∷ more → unsupported_member (mirror_contents first) ≡ None

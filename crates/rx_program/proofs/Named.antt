@@ -1,7 +1,6 @@
 -- The slot of a name, by the numbers of its groups.
 use mathlib.Core.Path.{fun_ext}
-use Rattle.std.proofs.Common.{◌≡◌, refl, ap, sym, ◌∙◌, ℕ, zero, suc, ◌+◌, ◌<◌, Bool, true, false, if◌then◌else◌, Option, Some, List, [], ◌∷◌, ◌++◌, append_assoc, append-nil, length, drop, get_or, add-one, arith, String, Vec}
-use Rattle.std.proofs.Math.Seq.{drop-cons}
+use Rattle.std.proofs.Common.{◌≡◌, refl, ap, sym, ◌∙◌, ℕ, zero, suc, ◌+◌, Bool, true, false, if◌then◌else◌, Option, Some, List, [], ◌∷◌, ◌++◌, drop, get_or, String, Vec}
 use Rattle.std.specs.BTreeMap.{BTreeMap}
 use Rattle.std.specs.Str.{IsUtf8, bytes_eq, chars, encode_utf8_all}
 use Rattle.std.proofs.lemmas.Slice.Eq.{bytes_eq-Decides}
@@ -9,7 +8,7 @@ use Rattle.std.proofs.lemmas.Str.{encodes-chars}
 use Rattle.rx_trace.specs.declared.answer.Slot.{Slot}
 use Rattle.rx_trace.specs.declared.answer.Slot.TheVariants.{Unset}
 use Rattle.rx_trace.specs.Groups.{Names, is_named, is_set, slot_named}
-use Rattle.rx_program.specs.Named.{AreNumbered, numbers_at, numbers_named, slot_among}
+use Rattle.rx_program.specs.Named.{numbers_at, numbers_named, slot_among}
 use Rattle.rx_trace.proofs.EqualUnits.{same_is}
 
 no_slots : (name : List ℕ) (names : Names) → slot_named name names [] ≡ Unset
@@ -62,37 +61,6 @@ same_name key bytes name key_text text is =
     same_is (bytes_eq key bytes) (chars bytes) name (λ same. ap chars (sym (d.0 same)) ∙ is)
     (λ same. d.1 (sym (encodes-chars key key_text) ∙ ap encode_utf8_all (is ∙ sym same) ∙ encodes-chars bytes text))
 
--- one more name, of the group of a number
-names_next : (name : List ℕ) (names : Names) (i : ℕ) (n : Option (List ℕ)) → i < length names → n ≡ get_or names i n
-    → numbers_named name (drop i names) i ≡ (if is_named name n then i ∷ [] else []) ++ numbers_named name (drop (i + 1) names) (i + 1)
-names_next name names i n within is =
-    ap (λ ns. numbers_named name ns i) (drop-cons names i n within ∙ ap (λ m. m ∷ drop (suc i) names) (sym is))
-    ∙ by_test (is_named name n) ∙ ap (λ k. (if is_named name n then i ∷ [] else []) ++ numbers_named name (drop k names) k) (sym (add-one i))
-  where
-    by_test : (b : Bool) → (if b then i ∷ numbers_named name (drop (suc i) names) (suc i) else numbers_named name (drop (suc i) names) (suc i))
-        ≡ (if b then i ∷ [] else []) ++ numbers_named name (drop (suc i) names) (suc i)
-    by_test true = refl
-    by_test false = refl
-
 -- So far the map has the numbers of the first names, and those of the others are still to come.
 abbrev pub AreNumberedTo : {A B : Type 0} → ℕ → Names → BTreeMap (String A) (Vec ℕ B) → Type 0
 AreNumberedTo i names numbers = (bytes : List ℕ) → IsUtf8 bytes → numbers_at numbers bytes ++ numbers_named (chars bytes) (drop i names) i ≡ numbers_named (chars bytes) names 0
-
-pub numbered_on : {A B : Type 0} (i : ℕ) (names : Names) (n : Option (List ℕ)) (old new : BTreeMap (String A) (Vec ℕ B)) → i < length names → n ≡ get_or names i n → AreNumberedTo i names old
-    → ((bytes : List ℕ) → IsUtf8 bytes → numbers_at new bytes ≡ numbers_at old bytes ++ (if is_named (chars bytes) n then i ∷ [] else [])) → AreNumberedTo (i + 1) names new
-numbered_on i names n old new within is so_far added bytes text =
-    let more : List ℕ = if is_named (chars bytes) n then i ∷ [] else [] in
-    let rest = numbers_named (chars bytes) (drop (i + 1) names) (i + 1) in
-    ap (λ xs. xs ++ rest) (added bytes text) ∙ append_assoc (numbers_at old bytes) more rest
-    ∙ ap (λ xs. numbers_at old bytes ++ xs) (sym (names_next (chars bytes) names i n within is)) ∙ so_far bytes text
-
-pub numbered_all : {A B : Type 0} (names : Names) (numbers : BTreeMap (String A) (Vec ℕ B)) → AreNumberedTo (length names) names numbers → AreNumbered names numbers
-numbered_all names numbers all bytes text =
-    sym (append-nil (numbers_at numbers bytes))
-    ∙ ap (λ ns. numbers_at numbers bytes ++ numbers_named (chars bytes) ns (length names)) (sym (Rattle.std.proofs.Math.ListN.drop_of_length-le names (omega arith))) ∙ all bytes text
-
--- the first of the groups is not set, or it is
-pub among_next : (numbers : List ℕ) (slots : List Slot) (j i : ℕ) → j < length numbers → i ≡ get_or numbers j i
-    → slot_among (drop j numbers) slots ≡ (if is_set (get_or slots i Unset) then get_or slots i Unset else slot_among (drop (j + 1) numbers) slots)
-among_next numbers slots j i within is =
-    ap (λ ks. slot_among ks slots) (drop-cons numbers j i within ∙ ap (λ k. k ∷ drop (suc j) numbers) (sym is) ∙ ap (λ k. i ∷ drop k numbers) (sym (add-one j)))

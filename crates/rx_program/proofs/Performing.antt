@@ -15,11 +15,11 @@ use Rattle.rx_program.specs.Codes.{Code, accept, consume, repeat}
 use Rattle.rx_program.specs.Compiled.{leaf_code, each_code}
 use Rattle.rx_program.specs.Steps.{code_at}
 use Rattle.rx_trace.specs.Holding.{class_holds}
-use Rattle.rx_trace.specs.Matching.{Settings}
+use Rattle.rx_trace.specs.declared.settings.Settings.{Settings}
 use Rattle.rx_program.specs.Steps.{AreOrdered}
 use Rattle.rx_program.specs.Works.{Work, term, disjunction, repeating, groups_left, tests_left, on_one, on_two, worked, all_worked, weights}
-use Rattle.rx_program.specs.Built.{settings_of, work_of, works_of, works, codes_of, with_code, IsProgram, IsBuilding, Replaces, TakesRow, Builds}
-use Rattle.rx_program.proofs.Lists.{reverse-last, length-last}
+use Rattle.rx_program.specs.Built.{work_of, works_of, works, codes_of, with_code, IsBuilding, Replaces, TakesRow, Builds}
+use Rattle.rx_trace.proofs.Lists.{reverse-last, length-last}
 use Rattle.rx_program.proofs.Growing.{code-new, ordered-more, ordered-none}
 use Rattle.rx_program.proofs.Builders.{codes_with, builds, codes-length}
 use Rattle.rx_program.proofs.Cutting.{turned}
@@ -38,13 +38,13 @@ pub builds_about : (b after : Builder) (t u : Task) → t ≡ u → Builds b (wo
 builds_about b after t u same done = subst (λ x. Builds b (work b x) after) (sym same) done
 
 -- a term with no term in it
-pub leaf_done : (b after : Builder) (e : Setting) (n : Node) (l : Leaf) (f : Code → Code) → n ≡ leaf l → ((next : Code) → leaf_code b.names.now (settings_of e) l next ≡ f next)
-    → ((before : Tests) → leaf_tests l before ≡ before) → IsBuilding b (term (settings_of e) e.back n ∷ works b) → Replaces b (on_one f) after → Builds b (term (settings_of e) e.back n) after
+pub leaf_done : (b after : Builder) (e : Setting) (n : Node) (l : Leaf) (f : Code → Code) → n ≡ leaf l → ((next : Code) → leaf_code b.names.now e.settings l next ≡ f next)
+    → ((before : Tests) → leaf_tests l before ≡ before) → IsBuilding b (term e.settings e.back n ∷ works b) → Replaces b (on_one f) after → Builds b (term e.settings e.back n) after
 leaf_done b after e n l f mirrors codes classless sound r =
-    turned b after after (term (settings_of e) e.back n) (term (settings_of e) e.back (leaf l)) (ap (term (settings_of e) e.back) mirrors) refl
-    (λ sound. builds b after (term (settings_of e) e.back (leaf l)) (on_one f) sound (omega arith) (classless (tests_left (works b))) (omega arith) (leaf_is (codes_of b)) r) sound
+    turned b after after (term e.settings e.back n) (term e.settings e.back (leaf l)) (ap (term e.settings e.back) mirrors) refl
+    (λ sound. builds b after (term e.settings e.back (leaf l)) (on_one f) sound (omega arith) (classless (tests_left (works b))) (omega arith) (leaf_is (codes_of b)) r) sound
   where
-    leaf_is : (cs : List Code) → worked b.names.now (term (settings_of e) e.back (leaf l)) (groups_left (works b)) cs ≡ on_one f cs
+    leaf_is : (cs : List Code) → worked b.names.now (term e.settings e.back (leaf l)) (groups_left (works b)) cs ≡ on_one f cs
     leaf_is [] = refl
     leaf_is (c ∷ cs) = ap (λ d. d ∷ cs) (codes c)
 
@@ -52,10 +52,10 @@ first-test : (t u : ℕ → Bool) (ts us : Tests) → t ∷ ts ≡ u ∷ us → 
 first-test t u ts us e = ((cc), (cc))
 
 -- a class, whose row is the first of those that are left
-pub class_done : (b d after : Builder) (e : Setting) (n : Node) (k : Class) (row : ClassRow) → n ≡ leaf (tree.class k) → TakesRow b row d → IsBuilding b (term (settings_of e) e.back n ∷ works b) → Replaces d (on_one (consume (row_holds row))) after
-    → Builds b (term (settings_of e) e.back n) after
+pub class_done : (b d after : Builder) (e : Setting) (n : Node) (k : Class) (row : ClassRow) → n ≡ leaf (tree.class k) → TakesRow b row d → IsBuilding b (term e.settings e.back n ∷ works b) → Replaces d (on_one (consume (row_holds row))) after
+    → Builds b (term e.settings e.back n) after
 class_done b d after e n k row mirrors t sound r =
-    turned b after after (term (settings_of e) e.back n) (term (settings_of e) e.back (leaf (tree.class k))) (ap (term (settings_of e) e.back) mirrors) refl
+    turned b after after (term e.settings e.back n) (term e.settings e.back (leaf (tree.class k))) (ap (term e.settings e.back) mirrors) refl
     (λ sound.
     let tests = first-test (row_holds row) (class_holds k) (row_tests d.rows.now) (tests_left (works b)) (sym (ap row_tests t.taken) ∙ sound.rows) in
     let are : works after ≡ works b = ap (λ ts. works_of (reverse ts)) (r.tasks ∙ sym (ap (λ y. y.tasks) t.kept)) in
@@ -76,12 +76,12 @@ class_done b d after e n k row mirrors t sound r =
     none_is : (n : ℕ) → 0 + n ≡ n
     none_is n = omega arith
 
-    leaf_is : (cs : List Code) → worked b.names.now (term (settings_of e) e.back (leaf (tree.class k))) (groups_left (works b)) cs ≡ on_one (consume (class_holds k)) cs
+    leaf_is : (cs : List Code) → worked b.names.now (term e.settings e.back (leaf (tree.class k))) (groups_left (works b)) cs ≡ on_one (consume (class_holds k)) cs
     leaf_is [] = refl
     leaf_is (c ∷ cs) = refl
 
-pub some_row : (b : Builder) (e : Setting) (n : Node) (k : Class) → n ≡ leaf (tree.class k) → IsBuilding b (term (settings_of e) e.back n ∷ works b) → 0 < length b.rows.now
-some_row b e n k mirrors sound = by_rows b.rows.now (sound.rows ∙ ap (λ x. tests_left (term (settings_of e) e.back x ∷ works b)) mirrors)
+pub some_row : (b : Builder) (e : Setting) (n : Node) (k : Class) → n ≡ leaf (tree.class k) → IsBuilding b (term e.settings e.back n ∷ works b) → 0 < length b.rows.now
+some_row b e n k mirrors sound = by_rows b.rows.now (sound.rows ∙ ap (λ x. tests_left (term e.settings e.back x ∷ works b)) mirrors)
   where
     by_rows : (rows : List ClassRow) → row_tests rows ≡ class_holds k ∷ tests_left (works b) → 0 < length rows
     by_rows [] is = absurd (cc)
@@ -120,9 +120,8 @@ pub made_popped : (b : Builder) (tasks : List Task) (t : Task) (names : Names) (
     → all_worked b.names.now (work (popped b tasks) t ∷ works (popped b tasks)) (codes_of b) ≡ target ∷ []
 made_popped b tasks t names target is m = ap (λ ws. all_worked b.names.now ws (codes_of b)) (sym (works_popped b tasks t is)) ∙ m.made
 
-pub some_popped : (b : Builder) (tasks : List Task) (t : Task) (names : Names) (target : Code) → b.tasks ≡ tasks ++ (t ∷ []) → Makes b names target
-    → all_worked b.names.now (work (popped b tasks) t ∷ works (popped b tasks)) (codes_of b) ≢ []
-some_popped b tasks t names target is m = λ none. let e : target ∷ [] ≡ [] = sym (made_popped b tasks t names target is m) ∙ none in cc
+pub not_none : (cs : List Code) (target : Code) → cs ≡ target ∷ [] → cs ≢ []
+not_none cs target is = λ none. cc
 
 pub makes_on : (b after : Builder) (tasks : List Task) (t : Task) (names : Names) (target : Code) → b.tasks ≡ tasks ++ (t ∷ []) → Makes b names target → Builds (popped b tasks) (work (popped b tasks) t) after → Makes after names target
 makes_on b after tasks t names target is m done = record {

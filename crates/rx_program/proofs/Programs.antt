@@ -73,30 +73,30 @@ names-more (step.Repeat t body next) m n more names = (omega arith, omega arith)
 some-same : {A : Type 0} {x y : A} → Some x ≡ Some y → x ≡ y
 some-same e = cc
 
-names-read-if : (b : Bool) (before : List Step) (y x : Step) (i : ℕ) → NamesBelow (length before) y → (read_of before i ≡ Some x → NamesBelow (length before) x)
-    → (if b then Some y else read_of before i) ≡ Some x → NamesBelow (suc (length before)) x
-names-read-if true before y x i names below is = names-more x (length before) (suc (length before)) (omega arith) (subst (NamesBelow (length before)) (some-same is) names)
-names-read-if false before y x i names below is = names-more x (length before) (suc (length before)) (omega arith) (below is)
-
-pub names-read : (r : List Step) (i : ℕ) (x : Step) → OrderedOf r → read_of r i ≡ Some x → NamesBelow (length r) x
-names-read [] i x ordered is = absurd (cc)
-names-read (y ∷ before) i x ordered is = names-read-if (i == length before) before y x i ordered.0 (names-read before i x ordered.1) is
-
 code-before : (y : Step) (before : List Step) (j : ℕ) → j < length before → code_in before j ≡ code_in (y ∷ before) j
 code-before y before j below = ap (λ b. if b then step_code y (code_in before) else code_in before j) (sym (apart-test j (length before) (λ e. omega arith)))
 
-code-read-if : (b : Bool) (before : List Step) (y x : Step) (i : ℕ) → NamesBelow (length before) y → (read_of before i ≡ Some x → NamesBelow (length before) x)
-    → (read_of before i ≡ Some x → code_in before i ≡ step_code x (code_in before))
-    → (if b then Some y else read_of before i) ≡ Some x → (if b then step_code y (code_in before) else code_in before i) ≡ step_code x (code_in (y ∷ before))
-code-read-if true before y x i names below rest is =
-    built-same y (length before) (code_in before) (code_in (y ∷ before)) names (code-before y before) ∙ ap (λ z. step_code z (code_in (y ∷ before))) (some-same is)
-code-read-if false before y x i names below rest is = rest is ∙ built-same x (length before) (code_in before) (code_in (y ∷ before)) (below is) (code-before y before)
+-- The step that is read at a number names earlier ones, and its code stands there.
+abbrev IsRead : List Step → ℕ → Step → Type 0
+IsRead r i x = NamesBelow (length r) x × (code_in r i ≡ step_code x (code_in r))
 
-code-read : (r : List Step) (i : ℕ) (x : Step) → OrderedOf r → read_of r i ≡ Some x → code_in r i ≡ step_code x (code_in r)
-code-read [] i x ordered is = absurd (cc)
-code-read (y ∷ before) i x ordered is = code-read-if (i == length before) before y x i ordered.0 (names-read before i x ordered.1) (code-read before i x ordered.1) is
+read-if : (b : Bool) (before : List Step) (y x : Step) (i : ℕ) → NamesBelow (length before) y → (read_of before i ≡ Some x → IsRead before i x)
+    → (if b then Some y else read_of before i) ≡ Some x → NamesBelow (suc (length before)) x × ((if b then step_code y (code_in before) else code_in before i) ≡ step_code x (code_in (y ∷ before)))
+read-if true before y x i names rest is = (
+  names-more x (length before) (suc (length before)) (omega arith) (subst (NamesBelow (length before)) (some-same is) names),
+  built-same y (length before) (code_in before) (code_in (y ∷ before)) names (code-before y before) ∙ ap (λ z. step_code z (code_in (y ∷ before))) (some-same is),
+)
+read-if false before y x i names rest is =
+    let it = rest is in (
+      names-more x (length before) (suc (length before)) (omega arith) it.0,
+      it.1 ∙ built-same x (length before) (code_in before) (code_in (y ∷ before)) it.0 (code-before y before),
+    )
+
+step-read : (r : List Step) (i : ℕ) (x : Step) → OrderedOf r → read_of r i ≡ Some x → IsRead r i x
+step-read [] i x ordered is = absurd (cc)
+step-read (y ∷ before) i x ordered is = read-if (i == length before) before y x i ordered.0 (step-read before i x ordered.1) is
 
 -- the code of the step that stands at a number
 pub code_is : (steps : List Step) (i : ℕ) (x : Step) → AreOrdered steps → slice_get steps i ≡ Some x → code_at steps i ≡ step_code x (code_at steps)
 unfolding code_at AreOrdered
-code_is steps i x ordered is = code-read (reverse steps) i x ordered (sym (read_is steps i) ∙ is)
+code_is steps i x ordered is = (step-read (reverse steps) i x ordered (sym (read_is steps i) ∙ is)).1

@@ -18,7 +18,8 @@ use Rattle.rx_program.specs.Checks.{item_holds, answer}
 use Rattle.rx_trace.specs.Holding.{member_holds, any_holds, all_hold, first_holds, class_holds, negate_if}
 use Rattle.rx_program.specs.RowParts.{part_answer, parts_answer, outcome, row_answer, IsTargetBelow, IsPartBelow, ArePartsBelow, IsRow, CanLead, with_part, with_target, with_check, part_weight, part_weights, LeadsOn, MakesPart}
 use Rattle.rx_program.specs.Surveyed.{member_looks, members_looks, class_looks}
-use Rattle.rx_program.proofs.Lists.{reverse-last, length-last}
+use Rattle.rx_trace.proofs.Lists.{reverse-last, length-last}
+use Rattle.std.proofs.lemmas.List.{nil_from_length}
 use Rattle.rx_program.proofs.Asking.{held-is, not_held-is, answer-more, answer-new}
 
 -- targets below a number are below a greater one
@@ -206,30 +207,36 @@ all-if true m x y = refl
 all-if false m x y = refl
 
 -- the last of some items is made, and the others are left for later
+made_last : (b after : RowBuilder) (all items : List CharacterClassContents) (last : CharacterClassContents) (t held not_held : Target) (makes makes' : List Check → ℕ → Bool → Bool) (p q : Part) → all ≡ items ++ (last ∷ [])
+    → IsPart p makes t (1 + 2 * members_looks (members (map mirror_contents items))) → IsPart q makes' t (1 + 2 * members_looks (members (map mirror_contents all)))
+    → LeadsOn (with_part b p) (member_holds (mirror_contents last)) (2 * member_looks (mirror_contents last)) held not_held after
+    → ((c : ℕ) → makes b.checks c (if member_holds (mirror_contents last) c then answer b.checks held c else answer b.checks not_held c) ≡ makes' b.checks c (answer b.checks b.target c)) → MakesPart b q after
+made_last b after all items last t held not_held makes makes' p q cut is is' led same =
+    let rev = reverse-last (b.parts ++ (p ∷ [])) b.parts p refl in
+    let few = led.fewer in
+    let sum = ap part_weights rev in
+    let own = is.weighs in
+    let own' = is'.weighs in
+    let looks = ap (λ l. members_looks (members (map mirror_contents l))) cut ∙ looks-last items last in
+    record {
+      answers = λ c.
+          let made = if member_holds (mirror_contents last) c then answer b.checks held c else answer b.checks not_held c in
+          led.answers c ∙ ap (λ ps. parts_answer b.checks c ps made) rev
+          ∙ ap (parts_answer b.checks c (reverse b.parts)) (is.answers b.checks c made ∙ same c ∙ sym (is'.answers b.checks c (answer b.checks b.target c)));
+      row = led.row;
+      fewer = omega arith;
+    }
+
 pub made_any : (b d after : RowBuilder) (all items : List CharacterClassContents) (last : CharacterClassContents) (held : Target) (p q : Part) → all ≡ items ++ (last ∷ [])
     → IsPart p (makes_any (members (map mirror_contents items)) held) held (1 + 2 * members_looks (members (map mirror_contents items))) → IsPart q (makes_any (members (map mirror_contents all)) held) held (1 + 2 * members_looks (members (map mirror_contents all)))
     → d ≡ with_part b p → LeadsOn d (member_holds (mirror_contents last)) (2 * member_looks (mirror_contents last)) held d.target after → MakesPart b q after
 made_any b d after all items last held p q cut is is' pushed led =
     let m = mirror_contents last in
     let ms = members (map mirror_contents items) in
-    let rev = reverse-last (b.parts ++ (p ∷ [])) b.parts p refl in
-    let led' : LeadsOn (with_part b p) (member_holds m) (2 * member_looks m) held b.target after = subst (λ y. LeadsOn y (member_holds m) (2 * member_looks m) held y.target after) pushed led in
-    let few = led'.fewer in
-    let sum = ap part_weights rev in
-    let own = is.weighs in
-    let own' = is'.weighs in
-    let looks = ap (λ l. members_looks (members (map mirror_contents l))) cut ∙ looks-last items last in
-    record {
-      answers = λ c. led'.answers c
-          ∙ ap (λ ps. parts_answer b.checks c ps (if member_holds m c then answer b.checks held c else answer b.checks b.target c)) rev
-          ∙ ap (parts_answer b.checks c (reverse b.parts))
-          (is.answers b.checks c (if member_holds m c then answer b.checks held c else answer b.checks b.target c)
-          ∙ any-if (any_holds ms c) (member_holds m c) (answer b.checks held c) (answer b.checks b.target c)
-          ∙ ap (λ h. if h then answer b.checks held c else answer b.checks b.target c) (sym (ap (λ l. any_holds (members (map mirror_contents l)) c) cut ∙ any-last items last c))
-          ∙ sym (is'.answers b.checks c (answer b.checks b.target c)));
-      row = led'.row;
-      fewer = omega arith;
-    }
+    made_last b after all items last held held b.target (makes_any ms held) (makes_any (members (map mirror_contents all)) held) p q cut is is'
+    (subst (λ y. LeadsOn y (member_holds m) (2 * member_looks m) held y.target after) pushed led)
+    (λ c. any-if (any_holds ms c) (member_holds m c) (answer b.checks held c) (answer b.checks b.target c)
+    ∙ ap (λ h. if h then answer b.checks held c else answer b.checks b.target c) (sym (ap (λ l. any_holds (members (map mirror_contents l)) c) cut ∙ any-last items last c)))
 
 pub made_all : (b d after : RowBuilder) (all items : List CharacterClassContents) (last : CharacterClassContents) (not_held : Target) (p q : Part) → all ≡ items ++ (last ∷ [])
     → IsPart p (makes_all (members (map mirror_contents items)) not_held) not_held (1 + 2 * members_looks (members (map mirror_contents items)))
@@ -238,24 +245,10 @@ pub made_all : (b d after : RowBuilder) (all items : List CharacterClassContents
 made_all b d after all items last not_held p q cut is is' pushed led =
     let m = mirror_contents last in
     let ms = members (map mirror_contents items) in
-    let rev = reverse-last (b.parts ++ (p ∷ [])) b.parts p refl in
-    let led' : LeadsOn (with_part b p) (member_holds m) (2 * member_looks m) b.target not_held after = subst (λ y. LeadsOn y (member_holds m) (2 * member_looks m) y.target not_held after) pushed led in
-    let few = led'.fewer in
-    let sum = ap part_weights rev in
-    let own = is.weighs in
-    let own' = is'.weighs in
-    let looks = ap (λ l. members_looks (members (map mirror_contents l))) cut ∙ looks-last items last in
-    record {
-      answers = λ c. led'.answers c
-          ∙ ap (λ ps. parts_answer b.checks c ps (if member_holds m c then answer b.checks b.target c else answer b.checks not_held c)) rev
-          ∙ ap (parts_answer b.checks c (reverse b.parts))
-          (is.answers b.checks c (if member_holds m c then answer b.checks b.target c else answer b.checks not_held c)
-          ∙ all-if (all_hold ms c) (member_holds m c) (answer b.checks b.target c) (answer b.checks not_held c)
-          ∙ ap (λ h. if h then answer b.checks b.target c else answer b.checks not_held c) (sym (ap (λ l. all_hold (members (map mirror_contents l)) c) cut ∙ all-last items last c))
-          ∙ sym (is'.answers b.checks c (answer b.checks b.target c)));
-      row = led'.row;
-      fewer = omega arith;
-    }
+    made_last b after all items last not_held b.target not_held (makes_all ms not_held) (makes_all (members (map mirror_contents all)) not_held) p q cut is is'
+    (subst (λ y. LeadsOn y (member_holds m) (2 * member_looks m) y.target not_held after) pushed led)
+    (λ c. all-if (all_hold ms c) (member_holds m c) (answer b.checks b.target c) (answer b.checks not_held c)
+    ∙ ap (λ h. if h then answer b.checks b.target c else answer b.checks not_held c) (sym (ap (λ l. all_hold (members (map mirror_contents l)) c) cut ∙ all-last items last c)))
 
 -- a part with nothing in it
 made_empty : (b : RowBuilder) (q : Part) (makes : List Check → ℕ → Bool → Bool) (t : Target) (weight : ℕ) → IsPart q makes t (1 + weight) → ((c : ℕ) (made : Bool) → makes b.checks c made ≡ made) → ArePartsBelow (length b.checks) (reverse b.parts) → IsTargetBelow (length b.checks) b.target
@@ -268,26 +261,22 @@ made_empty b q makes t weight is same parts below =
       fewer = omega arith;
     }
 
-none-of : {A : Type 0} (xs : List A) → length xs ≡ 0 → xs ≡ []
-none-of [] none = refl
-none-of (x ∷ xs) none = absurd (omega arith)
-
 pub made_no_any : (b : RowBuilder) (all : List CharacterClassContents) (held : Target) (q : Part) → length all ≡ 0 → IsPart q (makes_any (members (map mirror_contents all)) held) held (1 + 2 * members_looks (members (map mirror_contents all)))
     → CanLead b held b.target → MakesPart b q b
 made_no_any b all held q none is can =
     made_empty b q (makes_any (members (map mirror_contents all)) held) held (2 * members_looks (members (map mirror_contents all))) is
-    (λ c made. ap (λ l. makes_any (members (map mirror_contents l)) held b.checks c made) (none-of all none)) can.parts can.not_held_below
+    (λ c made. ap (λ l. makes_any (members (map mirror_contents l)) held b.checks c made) (nil_from_length all none)) can.parts can.not_held_below
 
 pub made_no_all : (b : RowBuilder) (all : List CharacterClassContents) (not_held : Target) (q : Part) → length all ≡ 0 → IsPart q (makes_all (members (map mirror_contents all)) not_held) not_held (1 + 2 * members_looks (members (map mirror_contents all)))
     → CanLead b b.target not_held → MakesPart b q b
 made_no_all b all not_held q none is can =
     made_empty b q (makes_all (members (map mirror_contents all)) not_held) not_held (2 * members_looks (members (map mirror_contents all))) is
-    (λ c made. ap (λ l. makes_all (members (map mirror_contents l)) not_held b.checks c made) (none-of all none)) can.parts can.held_below
+    (λ c made. ap (λ l. makes_all (members (map mirror_contents l)) not_held b.checks c made) (nil_from_length all none)) can.parts can.held_below
 
 pub led_no_subtraction : (b after : RowBuilder) (all : List CharacterClassContents) (held not_held : Target) → length all ≡ 0 → after ≡ with_target b not_held → CanLead b held not_held
     → LeadsOn b (first_holds (members (map mirror_contents all))) (1 + 2 * members_looks (members (map mirror_contents all))) held not_held after
 led_no_subtraction b after all held not_held none pushed can =
-    led_none b after (first_holds (members (map mirror_contents all))) (1 + 2 * members_looks (members (map mirror_contents all))) held not_held pushed (λ c. ap (λ l. first_holds (members (map mirror_contents l)) c) (none-of all none)) can
+    led_none b after (first_holds (members (map mirror_contents all))) (1 + 2 * members_looks (members (map mirror_contents all))) held not_held pushed (λ c. ap (λ l. first_holds (members (map mirror_contents l)) c) (nil_from_length all none)) can
 
 pub made_item : (b after : RowBuilder) (m : Member) (not_held : Target) (q : Part) → IsPart q (makes_item m not_held) not_held (1 + 2 * member_looks m) → LeadsOn b (member_holds m) (2 * member_looks m) b.target not_held after → MakesPart b q after
 made_item b after m _ q is led =

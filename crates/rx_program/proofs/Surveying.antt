@@ -1,26 +1,18 @@
 -- A tree that is looked at, over plain values.
-use Rattle.std.proofs.Common.{◌≡◌, refl, ap, sym, ◌∙◌, subst, ℕ, zero, suc, ◌+◌, ◌≤◌, ◌<◌, Option, Some, None, List, [], ◌∷◌, ◌++◌, append_assoc, append-nil, length, map, reverse, arith}
+use Rattle.std.proofs.Common.{◌≡◌, refl, ap, sym, ◌∙◌, subst, ℕ, ◌+◌, ◌<◌, Option, Some, None, List, [], ◌∷◌, ◌++◌, append_assoc, append-nil, reverse, arith}
 use Rattle.rx_base.specs.declared.span.Span.{Span}
-use Rattle.rx_ast.specs.Kinds.{Kind, order, pattern, member_order, members_order, class_order, node_order, nodes_order, alternatives_order, strings_order, class_string, character}
+use Rattle.rx_ast.specs.Kinds.{order, member_order, members_order, class_order, node_order, nodes_order, alternatives_order, character}
 use Rattle.rx_ast.specs.ClassTree as in_class
 use Rattle.rx_ast.specs.ClassTree.{Member, Members, Class, no_member, member}
 use Rattle.rx_ast.specs.Tree as tree
-use Rattle.rx_ast.specs.Tree.{Leaf, Opener, Node, Nodes, Alternatives, Whole, leaf, quantified, group, no_node, node, no_alternative, alternative}
-use Rattle.rx_ast.specs.declared.leaf.Character.{Character}
+use Rattle.rx_ast.specs.Tree.{Opener, Node, Nodes, Alternatives, Whole, leaf, quantified, group, no_node, node, no_alternative, alternative}
 use Rattle.rx_program.specs.declared.survey.Rest.{Rest}
 use Rattle.rx_program.specs.declared.survey.Surveyor.{Surveyor}
-use Rattle.rx_trace.specs.Groups.{Names, groups_in, groups_in_all, groups_in_each, names_in, names_in_all, names_in_each}
+use Rattle.rx_trace.specs.Groups.{Names, names_in_each}
 use Rattle.rx_trace.specs.Supported.{unsupported, unsupported_in, or_later, first_unsupported}
 use Rattle.rx_program.specs.Surveyed.{unsupported_member, unsupported_members, unsupported_class, unsupported_opener, unsupported_node, unsupported_nodes, unsupported_each, unsupported_rest, unsupported_rests, names_rest, names_rests, looks, all_looks, rests_of, with_rest, LookedAt}
-use Rattle.rx_program.proofs.Lists.{reverse-last}
-
-or_none : (a : Option Span) → or_later a None ≡ a
-or_none None = refl
-or_none (Some s) = refl
-
-or_assoc : (a b c : Option Span) → or_later (or_later a b) c ≡ or_later a (or_later b c)
-or_assoc None b c = refl
-or_assoc (Some s) b c = refl
+use Rattle.rx_trace.proofs.Lists.{reverse-last}
+use Rattle.rx_trace.proofs.Unsupported.{or_none, or_assoc, first-append}
 
 rests_with : (s : Surveyor) (r : Rest) → rests_of (with_rest s r) ≡ r ∷ rests_of s
 rests_with s r = reverse-last (s.rests ++ (r ∷ [])) s.rests r refl
@@ -62,15 +54,6 @@ looked_named s d after refused name names most None is looked =
     let l : LookedAt (record s { names = s.names ++ (name ∷ []) }) refused names most after None = subst (λ y. LookedAt y refused names most after None) is looked in
     (l.0, sym (append_assoc s.names (name ∷ []) (names ++ names_rests (rests_of s))) ∙ l.1, l.2)
 looked_named s d after refused name names most (Some span) is looked = looked
-
--- what is looked at, by the order of the text
-first-append : (ks js : List Kind) → first_unsupported (ks ++ js) ≡ or_later (first_unsupported ks) (first_unsupported js)
-first-append [] js = refl
-first-append (k ∷ ks) js = ap (or_later (unsupported k)) (first-append ks js) ∙ sym (or_assoc (unsupported k) (first_unsupported ks) (first_unsupported js))
-
-characters-first : (cs : List Character) → first_unsupported (map character cs) ≡ None
-characters-first [] = refl
-characters-first (c ∷ cs) = characters-first cs
 
 mutual
   member-first : (m : Member) → unsupported_member m ≡ first_unsupported (member_order m)
@@ -122,48 +105,10 @@ unfolding order
 unsupported_is p = sym (each-first p.1.1)
 
 -- as many names as groups
-length-two : {A : Type 0} (xs ys : List A) (m n : ℕ) → length xs ≡ m → length ys ≡ n → length (xs ++ ys) ≡ m + n
-length-two xs ys m n e f = let g = Rattle.std.proofs.Common.length-append xs ys in omega arith
-
-mutual
-  names-length : (n : Node) → length (names_in n) ≡ groups_in n
-  names-length (leaf l) = refl
-  names-length (quantified s min max greedy n) = names-length n
-  names-length (group s (tree.capturing name) d more) = let e = names-length-each more in omega arith
-  names-length (group s (tree.ignoring m) d more) = names-length-each more
-  names-length (group s (tree.looking kind) d more) = names-length-each more
-
-  names-length-all : (ns : Nodes) → length (names_in_all ns) ≡ groups_in_all ns
-  names-length-all no_node = refl
-  names-length-all (node n ns) = length-two (names_in n) (names_in_all ns) (groups_in n) (groups_in_all ns) (names-length n) (names-length-all ns)
-
-  pub names-length-each : (more : Alternatives) → length (names_in_each more) ≡ groups_in_each more
-  names-length-each no_alternative = refl
-  names-length-each (alternative s ns more) = length-two (names_in_all ns) (names_in_each more) (groups_in_all ns) (groups_in_each more) (names-length-all ns) (names-length-each more)
-
 -- while a tree is looked at
 pub record Surveys (s : Surveyor) (more : Alternatives) : Type 0 where
   pub refused : unsupported_each more ≡ unsupported_rests (rests_of s)
   pub names : names_in_each more ≡ s.names ++ names_rests (rests_of s)
-
-abbrev pub without : Surveyor → List Rest → Surveyor
-without s rests = record s { rests = rests }
-
-rests_without : (s : Surveyor) (rests : List Rest) (r : Rest) → s.rests ≡ rests ++ (r ∷ []) → rests_of s ≡ r ∷ rests_of (without s rests)
-rests_without s rests r is = reverse-last s.rests rests r is
-
-pub surveys_on : (s after : Surveyor) (rests : List Rest) (r : Rest) (more : Alternatives) → s.rests ≡ rests ++ (r ∷ []) → Surveys s more → LookedAt (without s rests) (unsupported_rest r) (names_rest r) (looks r) after None → Surveys after more
-surveys_on s after rests r more is it looked = record {
-  refused = it.refused ∙ ap unsupported_rests (rests_without s rests r is) ∙ looked.0;
-  names = it.names ∙ ap (λ rs. s.names ++ names_rests rs) (rests_without s rests r is) ∙ looked.1;
-}
-
-pub fewer_looks : (s after : Surveyor) (rests : List Rest) (r : Rest) → s.rests ≡ rests ++ (r ∷ []) → LookedAt (without s rests) (unsupported_rest r) (names_rest r) (looks r) after None → all_looks (rests_of after) < all_looks (rests_of s)
-fewer_looks s after rests r is looked = let e = ap all_looks (rests_without s rests r is) in let f = looked.2 in omega arith
-
-pub found_unsupported : (s after : Surveyor) (rests : List Rest) (r : Rest) (more : Alternatives) (span : Span) → s.rests ≡ rests ++ (r ∷ []) → Surveys s more → LookedAt (without s rests) (unsupported_rest r) (names_rest r) (looks r) after (Some span)
-    → unsupported_each more ≡ Some span
-found_unsupported s after rests r more span is it looked = it.refused ∙ ap unsupported_rests (rests_without s rests r is) ∙ ap (λ u. or_later u (unsupported_rests (rests_of (without s rests)))) looked
 
 pub surveyed : (s : Surveyor) (more : Alternatives) → s.rests ≡ [] → Surveys s more → (unsupported_each more ≡ None) × (s.names ≡ names_in_each more)
 surveyed s more none it =

@@ -10,26 +10,22 @@ use Rattle.rx_program.specs.declared.builder.Task.TheVariants as task
 use Rattle.rx_program.specs.declared.checks.ClassRow.{ClassRow}
 use Rattle.rx_program.specs.declared.step.Step.{Step}
 use Rattle.rx_program.specs.ClassTests.{row_tests}
-use Rattle.rx_trace.specs.Matching.{Settings}
 use Rattle.rx_program.specs.Codes.{Code, accept}
 use Rattle.rx_program.specs.Steps.{code_at}
 use Rattle.rx_program.specs.Steps.{AreOrdered}
 use Rattle.rx_program.specs.Works.{Work, disjunction, earlier, terms, term, capturing, looking, repeating, entering, choosing, swapping, sequencing, groups_left, tests_left, all_worked, weight, weights}
 
-abbrev pub settings_of : Setting → Settings
-settings_of e = record { multiline = e.multiline; dot_all = e.dot_all }
-
 abbrev pub disjunction_work : Setting → List Alternative → Work
-disjunction_work e more = disjunction (settings_of e) e.back (alternatives (map mirror_alternative more))
+disjunction_work e more = disjunction e.settings e.back (alternatives (map mirror_alternative more))
 
 abbrev pub earlier_work : Setting → List Alternative → Work
-earlier_work e more = earlier (settings_of e) e.back (alternatives (map mirror_alternative more))
+earlier_work e more = earlier e.settings e.back (alternatives (map mirror_alternative more))
 
 abbrev pub terms_work : Setting → List Term → Work
-terms_work e ts = terms (settings_of e) e.back (nodes (map mirror_term ts))
+terms_work e ts = terms e.settings e.back (nodes (map mirror_term ts))
 
 abbrev pub term_work : Setting → Term → Work
-term_work e t = term (settings_of e) e.back (mirror_term t)
+term_work e t = term e.settings e.back (mirror_term t)
 
 -- a task, where so many groups open in those below it
 abbrev pub work_of : ℕ → Task → Work

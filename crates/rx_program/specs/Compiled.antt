@@ -1,10 +1,11 @@
 -- The code of a tree. What follows a term is compiled first, so that a term knows it.
 use Rattle.std.specs.Prelude.{ℕ, suc, ◌+◌, Bool, true, false, ◌||◌, ◌==◌, not}
 use Rattle.rx_ast.specs.Tree as tree
-use Rattle.rx_ast.specs.Tree.{Leaf, Opener, Node, Nodes, Alternatives, leaf, quantified, group, no_node, node, no_alternative, alternative, capturing, ignoring, looking}
+use Rattle.rx_ast.specs.Tree.{Leaf, Node, Nodes, Alternatives, leaf, quantified, group, no_node, node, no_alternative, alternative, capturing, ignoring, looking}
 use Rattle.rx_trace.specs.Holding.{is_line_terminator, escape_holds, class_holds}
 use Rattle.rx_trace.specs.Groups.{Names, slot_of, slot_named, groups_in, groups_in_all}
-use Rattle.rx_trace.specs.Matching.{Settings, changed, looks_back}
+use Rattle.rx_trace.specs.declared.settings.Settings.{Settings}
+use Rattle.rx_trace.specs.Matching.{changed, looks_back}
 use Rattle.rx_program.specs.Codes.{Code, accept, reject, consume, assert, refer, enter_group, choose, sequence, capture, look_around, repeat}
 
 -- a last alternative needs no choice

@@ -4,7 +4,7 @@ use Rattle.rx_ast.specs.declared.leaf.LookAroundAssertionKind.{LookAroundAsserti
 use Rattle.rx_ast.specs.Tree.{Node, Nodes, Alternatives, leaf, quantified, group, no_node, node, no_alternative, alternative}
 use Rattle.rx_trace.specs.Groups.{Names, groups_in, groups_in_all, groups_in_each}
 use Rattle.rx_program.specs.ClassTests.{Tests, node_tests, nodes_tests, each_tests}
-use Rattle.rx_trace.specs.Matching.{Settings}
+use Rattle.rx_trace.specs.declared.settings.Settings.{Settings}
 use Rattle.rx_program.specs.Codes.{Code, choose, sequence, capture, look_around, repeat}
 use Rattle.rx_program.specs.Codes as code
 use Rattle.rx_program.specs.Compiled.{node_code, nodes_code, each_code}

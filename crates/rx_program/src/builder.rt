@@ -1,4 +1,4 @@
-ghost use Rattle.std.specs.Prelude.{◌≡◌, ◌<◌, ◌≤◌, ◌∷◌, suc, length, OnOk};
+ghost use Rattle.std.specs.Prelude.{◌≡◌, ◌<◌, ◌≤◌, suc, length, OnOk};
 ghost use Rattle.rx_trace.specs.Groups.{slot_of, slot_named};
 ghost use Rattle.rx_program.specs.Codes.{assert as assert_code, capture as capture_code, choose as choose_code, consume as consume_code, enter_group as enter_group_code, look_around as look_around_code, refer as refer_code, reject as reject_code, repeat as repeat_code, sequence as sequence_code};
 ghost use Rattle.rx_program.specs.Steps.{test_holds};
@@ -10,12 +10,12 @@ use crate::names::GroupNames;
 use crate::step::{Step, Test, Turns};
 use rx_ast::{Alternative, BoundaryAssertionKind, LookAroundAssertionKind, Quantifier, Term};
 use rx_base::{List, OutOfMemory, Text};
+use rx_trace::Settings;
 
 /// The settings that a term is compiled under, and whether it is matched backward.
 #[derive(Clone, Copy)]
 pub struct Setting {
-    pub multiline: bool,
-    pub dot_all: bool,
+    pub settings: Settings,
     pub back: bool,
 }
 

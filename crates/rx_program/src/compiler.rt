@@ -1,25 +1,24 @@
-ghost use Rattle.std.specs.Prelude.{◌≡◌, ◌≢◌, ◌≤◌, ◌-◌, ◌∷◌, [], true, false, bit_and, length, OnOk, IfOk};
+ghost use Rattle.std.specs.Prelude.{◌≡◌, ◌≢◌, ◌≤◌, ◌-◌, ◌∷◌, [], true, false, length, OnOk, IfOk};
 ghost use Rattle.rx_ast.specs.Tree.{mirror_capturing, mirror_disjunction, mirror_ignore, mirror_look, mirror_quantifier};
 ghost use Rattle.rx_program.specs.ClassTests.{each_tests, row_tests};
 ghost use Rattle.rx_program.specs.Compiled.{each_code};
 ghost use Rattle.rx_program.specs.Codes.{accept};
 ghost use Rattle.rx_trace.specs.Groups.{groups_in_each};
 ghost use Rattle.rx_program.specs.Steps.{code_at};
-ghost use Rattle.rx_trace.specs.Matching.{changed as changed_by, switched as switched_by};
 ghost use Rattle.rx_program.specs.Steps.{AreOrdered};
 ghost use Rattle.rx_program.specs.Works.{all_worked, groups_left, capturing, repeating, term};
-ghost use Rattle.rx_program.specs.Built.{Builds, IsBuilding, codes_of, disjunction_work, earlier_work, settings_of, term_work, terms_work, work_of, works};
+ghost use Rattle.rx_program.specs.Built.{Builds, IsBuilding, codes_of, disjunction_work, earlier_work, term_work, terms_work, work_of, works};
 
 use crate::builder::{Builder, Setting, Task};
 use crate::checks::ClassRow;
-use crate::kinds::{has_bit, looks_back};
+use crate::kinds::looks_back;
 use crate::names::GroupNames;
 use crate::step::{Step, Test, Turns};
 use rx_ast::{
-    Alternative, CapturingGroup, Disjunction, IgnoreGroup, LookAroundAssertion, Modifier,
-    Modifiers, Quantifier, Term,
+    Alternative, CapturingGroup, Disjunction, IgnoreGroup, LookAroundAssertion, Quantifier, Term,
 };
 use rx_base::{List, OutOfMemory};
+use rx_trace::settings_after;
 use std::alloc::Global;
 
 /// The steps of a program, and the number of the first.
@@ -27,36 +26,6 @@ use std::alloc::Global;
 pub struct Program<'a> {
     pub steps: List<Step<'a>>,
     pub entry: usize,
-}
-
-/// A setting after a modifier on either side.
-fn switched(modifiers: &Modifiers, bit: Modifier, was: bool) -> bool
-    ensures { result ≡ switched_by (bit_and modifiers.now.enabling.0 bit.0) (bit_and modifiers.now.disabling.0 bit.0) was }
-{
-    let on = has_bit(modifiers.enabling, bit);
-    let off = has_bit(modifiers.disabling, bit);
-    if off {
-        return false;
-    }
-    if on {
-        return true;
-    }
-    was
-}
-
-/// The settings in a group with modifiers.
-fn changed(modifiers: &Option<Modifiers>, setting: Setting) -> Setting
-    ensures settings { settings_of result ≡ changed_by modifiers.now (settings_of setting) }
-    ensures back { result.back ≡ setting.back }
-{
-    match modifiers {
-        None => setting,
-        Some(modifiers) => Setting {
-            multiline: switched(modifiers, Modifier::M, setting.multiline),
-            dot_all: switched(modifiers, Modifier::S, setting.dot_all),
-            back: setting.back,
-        },
-    }
 }
 
 /// Alternatives, from the last to the first.
@@ -165,12 +134,11 @@ impl<'a> Builder<'a> {
         setting: Setting,
         it: &'a LookAroundAssertion,
     ) -> Result<(), OutOfMemory>
-        requires sound { IsBuilding self.old (term (settings_of setting) setting.back (mirror_look it.now) ∷ works self.old) }
-        ensures { OnOk result (Builds self.old (term (settings_of setting) setting.back (mirror_look it.now)) self.new) }
+        requires sound { IsBuilding self.old (term setting.settings setting.back (mirror_look it.now) ∷ works self.old) }
+        ensures { OnOk result (Builds self.old (term setting.settings setting.back (mirror_look it.now)) self.new) }
     {
         let inside = Setting {
-            multiline: setting.multiline,
-            dot_all: setting.dot_all,
+            settings: setting.settings,
             back: looks_back(it.kind),
         };
         self.push_code(0)?;
@@ -183,8 +151,8 @@ impl<'a> Builder<'a> {
     }
 
     fn quantifier_body(&mut self, setting: Setting, it: &'a Quantifier) -> Result<(), OutOfMemory>
-        requires sound { IsBuilding self.old (term (settings_of setting) setting.back (mirror_quantifier it.now) ∷ works self.old) }
-        ensures { OnOk result (Builds self.old (term (settings_of setting) setting.back (mirror_quantifier it.now)) self.new) }
+        requires sound { IsBuilding self.old (term setting.settings setting.back (mirror_quantifier it.now) ∷ works self.old) }
+        ensures { OnOk result (Builds self.old (term setting.settings setting.back (mirror_quantifier it.now)) self.new) }
     {
         let end = self.before;
         self.push_code(0)?;
@@ -201,8 +169,8 @@ impl<'a> Builder<'a> {
         setting: Setting,
         it: &'a CapturingGroup,
     ) -> Result<(), OutOfMemory>
-        requires sound { IsBuilding self.old (term (settings_of setting) setting.back (mirror_capturing it.now) ∷ works self.old) }
-        ensures { OnOk result (Builds self.old (term (settings_of setting) setting.back (mirror_capturing it.now)) self.new) }
+        requires sound { IsBuilding self.old (term setting.settings setting.back (mirror_capturing it.now) ∷ works self.old) }
+        ensures { OnOk result (Builds self.old (term setting.settings setting.back (mirror_capturing it.now)) self.new) }
     {
         self.push_code(0)?;
         self.push_task(Task::Capture)?;
@@ -214,10 +182,13 @@ impl<'a> Builder<'a> {
     }
 
     fn ignored_body(&mut self, setting: Setting, it: &'a IgnoreGroup) -> Result<(), OutOfMemory>
-        requires sound { IsBuilding self.old (term (settings_of setting) setting.back (mirror_ignore it.now) ∷ works self.old) }
-        ensures { OnOk result (Builds self.old (term (settings_of setting) setting.back (mirror_ignore it.now)) self.new) }
+        requires sound { IsBuilding self.old (term setting.settings setting.back (mirror_ignore it.now) ∷ works self.old) }
+        ensures { OnOk result (Builds self.old (term setting.settings setting.back (mirror_ignore it.now)) self.new) }
     {
-        let inside = changed(&it.modifiers, setting);
+        let inside = Setting {
+            settings: settings_after(&it.modifiers, setting.settings),
+            back: setting.back,
+        };
         self.push_task(Task::EnterGroup)?;
         let alternatives = it.body.body.as_slice();
         self.push_task(Task::Disjunction {
@@ -233,12 +204,12 @@ impl<'a> Builder<'a> {
         ensures { OnOk result (Builds self.old (term_work setting term.now) self.new) }
     {
         match term {
-            Term::BoundaryAssertion(it) => self.assert(it.kind, setting.multiline),
+            Term::BoundaryAssertion(it) => self.assert(it.kind, setting.settings.multiline),
             Term::LookAroundAssertion(it) => self.look_around_body(setting, it),
             Term::Quantifier(it) => self.quantifier_body(setting, it),
             Term::Character(it) => self.consume(Test::Character(it.value)),
             Term::Dot(_) => self.consume(Test::Dot {
-                dot_all: setting.dot_all,
+                dot_all: setting.settings.dot_all,
             }),
             Term::CharacterClassEscape(it) => self.consume(Test::Escape(it.kind)),
             Term::UnicodePropertyEscape(_) => self.consume(Test::Never),
@@ -317,7 +288,7 @@ pub fn compile<'a>(
     requires names { length names.now ≡ groups_in_each (mirror_disjunction body.now).1 }
     requires rows { row_tests rows.now ≡ each_tests (mirror_disjunction body.now).1 [] }
     ensures ordered { IfOk result (λ it. AreOrdered it.steps) }
-    ensures code { IfOk result (λ it. code_at it.steps it.entry ≡ each_code names.now (mirror_disjunction body.now).1 (settings_of setting) setting.back 0 accept) }
+    ensures code { IfOk result (λ it. code_at it.steps it.entry ≡ each_code names.now (mirror_disjunction body.now).1 setting.settings setting.back 0 accept) }
 {
     let mut builder = Builder {
         names,

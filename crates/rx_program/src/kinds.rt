@@ -1,7 +1,7 @@
-ghost use Rattle.std.specs.Prelude.{◌≡◌, ◌==◌, bit_and, not};
+ghost use Rattle.std.specs.Prelude.{◌≡◌};
 ghost use Rattle.rx_trace.specs.Matching.{looks_back as looks_behind};
 
-use rx_ast::{LookAroundAssertionKind, Modifier};
+use rx_ast::LookAroundAssertionKind;
 
 /// Whether the body of a look-around is matched backward.
 pub fn looks_back(kind: LookAroundAssertionKind) -> bool
@@ -13,11 +13,4 @@ pub fn looks_back(kind: LookAroundAssertionKind) -> bool
         LookAroundAssertionKind::Lookbehind => true,
         LookAroundAssertionKind::NegativeLookbehind => true,
     }
-}
-
-/// Whether a bit is set.
-pub fn has_bit(modifier: Modifier, bit: Modifier) -> bool
-    ensures { result ≡ not (bit_and modifier.0 bit.0 == 0) }
-{
-    modifier.intersects(bit)
 }

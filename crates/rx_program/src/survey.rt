@@ -1,13 +1,12 @@
-ghost use Rattle.std.specs.Prelude.{◌≡◌, ◌+◌, [], IfOk, MatchOption, OnOk, map};
+ghost use Rattle.std.specs.Prelude.{◌≡◌, ◌+◌, [], IfOk, OnOk, map};
 ghost use Rattle.rx_ast.specs.ClassTree.{members, mirror_contents};
 ghost use Rattle.rx_ast.specs.Tree.{mirror_disjunction, mirror_term};
 ghost use Rattle.rx_trace.specs.Groups.{names_in};
-ghost use Rattle.rx_trace.specs.Supported.{unsupported_modifiers as unsupported_by};
 ghost use Rattle.rx_program.specs.Surveyed.{IsSurvey, LookedAt, looks, members_looks, names_rest, node_looks, unsupported_members, unsupported_node, unsupported_rest, with_rest};
 
-use crate::kinds::has_bit;
-use rx_ast::{Alternative, CharacterClassContents, Disjunction, Modifier, Modifiers, Term};
+use rx_ast::{Alternative, CharacterClassContents, Disjunction, Term};
 use rx_base::{List, OutOfMemory, Span, Text};
+use rx_trace::unsupported_modifiers;
 use std::alloc::Global;
 
 /// What is still to be looked at.
@@ -31,20 +30,6 @@ pub enum Survey {
 pub struct Surveyor<'a> {
     pub names: List<Option<Text>>,
     pub rests: List<Rest<'a>>,
-}
-
-/// The span of modifiers that turn the ignoring of case on or off.
-fn unsupported_modifiers(modifiers: &Option<Modifiers>) -> Option<Span>
-    ensures { MatchOption modifiers.now (result ≡ None) (λ m. result ≡ unsupported_by m) }
-{
-    match modifiers {
-        None => None,
-        Some(it) => {
-            let on = has_bit(it.enabling, Modifier::I);
-            let off = has_bit(it.disabling, Modifier::I);
-            if on || off { Some(it.span) } else { None }
-        }
-    }
 }
 
 fn copy_name(alloc: Global, name: &Option<Text>) -> Result<Option<Text>, OutOfMemory>

@@ -10,13 +10,11 @@ use Rattle.rx_ast.specs.ClassTree.{Member, Members, range, escape, property, cha
 use Rattle.rx_rewrite.specs.declared.copy_class.Copier.{Copier}
 use Rattle.rx_rewrite.specs.declared.copy_class.ClassTask.{ClassTask}
 use Rattle.rx_rewrite.specs.ClassWorks.{ClassWork, contents, one, ending, listed_members, classes_worked, member_weight, work_weight, work_weights, class_work, class_works_of, class_works, with_class_task, Copies}
-use Rattle.rx_rewrite.proofs.Lists.{members-listed, reverse-last}
+use Rattle.rx_trace.proofs.Lists.{reverse-last}
+use Rattle.rx_rewrite.proofs.Lists.{members-listed}
 
 pub class_works_with : (c : Copier) (t : ClassTask) → class_works (with_class_task c t) ≡ class_work t ∷ class_works c
 class_works_with c t = ap class_works_of (reverse-last (c.tasks ++ (t ∷ [])) c.tasks t refl)
-
-pub class_works_after : (c after : Copier) (t : ClassTask) (ws : List ClassWork) → after ≡ with_class_task c t → class_works c ≡ ws → class_works after ≡ class_work t ∷ ws
-class_works_after c after t ws pushed is = ap class_works pushed ∙ class_works_with c t ∙ ap (λ vs. class_work t ∷ vs) is
 
 pub copies_is : (c after : Copier) (w v : ClassWork) → w ≡ v → Copies c v after → Copies c w after
 copies_is c after w v is p = subst (λ x. Copies c x after) (sym is) p

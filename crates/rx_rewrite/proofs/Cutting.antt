@@ -9,10 +9,11 @@ use Rattle.rx_ast.specs.declared.term.IgnoreGroup.{IgnoreGroup, out-IgnoreGroup}
 use Rattle.rx_ast.specs.declared.term.LookAroundAssertion.{LookAroundAssertion, out-LookAroundAssertion}
 use Rattle.rx_ast.specs.declared.term.Term.{Term}
 use Rattle.rx_ast.specs.Tree as tree
-use Rattle.rx_ast.specs.Tree.{Leaf, Node, Nodes, Alternatives, SpannedNodes, leaf, quantified, group, no_node, node, no_alternative, alternative, mirror_alternative, mirror_capturing, mirror_disjunction, mirror_ignore, mirror_look, mirror_term}
+use Rattle.rx_ast.specs.Tree.{Leaf, Node, Alternatives, SpannedNodes, leaf, quantified, group, no_node, node, no_alternative, alternative, mirror_alternative, mirror_capturing, mirror_disjunction, mirror_ignore, mirror_look, mirror_term}
 use Rattle.rx_ast.proofs.Equations.{alternative_is, capturing_is, ignore_is, look_is}
 use Rattle.rx_trace.specs.Groups.{Names}
-use Rattle.rx_trace.specs.Matching.{Settings, changed}
+use Rattle.rx_trace.specs.declared.settings.Settings.{Settings}
+use Rattle.rx_trace.specs.Matching.{changed}
 use Rattle.rx_rewrite.specs.declared.rewriter.Rewriter.{Rewriter}
 use Rattle.rx_rewrite.specs.declared.rewriter.Task.{Task}
 use Rattle.rx_rewrite.specs.Built.{work_of, works_of, works, made_of, with_task, AddsTerm, IsNumbered, Performs}

@@ -7,7 +7,7 @@ use Rattle.rx_ast.specs.declared.leaf.NamedReference.{NamedReference}
 use Rattle.rx_ast.specs.declared.term.Pattern.{Pattern}
 use Rattle.rx_ast.specs.Forget.{forget_class, same_kind}
 use Rattle.rx_ast.specs.Tree as tree
-use Rattle.rx_ast.specs.Tree.{Leaf, leaf, mirror, mirror_disjunction}
+use Rattle.rx_ast.specs.Tree.{Leaf, mirror, mirror_disjunction}
 use Rattle.rx_model.specs.declared.rules.Rules.{Rules}
 use Rattle.rx_model.specs.Trees.Early.{AreModifiers, IsEarlyClass, Obeys, most_groups, IsEarly}
 use Rattle.rx_model.specs.Trees.Events.{alternatives_events, tokens}
@@ -17,14 +17,15 @@ use Rattle.rx_model.proofs.Trees.Flat.{before, tokens_are}
 use Rattle.rx_trace.specs.declared.answer.MatchFlags.{MatchFlags}
 use Rattle.rx_trace.specs.Answers.{settings}
 use Rattle.rx_trace.specs.Groups.{Names, names_in_each}
-use Rattle.rx_trace.specs.Matching.{Settings}
+use Rattle.rx_trace.specs.declared.settings.Settings.{Settings}
 use Rattle.rx_rewrite.specs.declared.rewrites.Rewrites.{Rewrites}
 use Rattle.rx_rewrite.specs.Rewriting.{number_of, any_unit, no_line_terminator, modifiers_kept, leaf_rewritten, flags_rewritten, rewritten}
 use Rattle.rx_rewrite.proofs.Modifiers.{early_kept}
 use Rattle.rx_rewrite.proofs.NamedSlots.{given_names, given-each, number_some, number_within}
-use Rattle.rx_rewrite.proofs.Patterns.{count-each, once-there, its_tree, its_groups, all_names, its_names_early}
+use Rattle.rx_rewrite.proofs.Patterns.{once-there, its_tree, its_groups, all_names, its_names_early}
 use Rattle.rx_rewrite.proofs.Replaced.{leaf-all}
-use Rattle.rx_rewrite.proofs.SameGroups as same
+use Rattle.rx_rewrite.proofs.Orders.{count-each}
+use Rattle.rx_trace.proofs.GroupNames.{names-length-each}
 use Rattle.rx_rewrite.proofs.Tokens.{OfNode, kept-tokens}
 
 -- The classes that are made obey the rules on classes.
@@ -44,7 +45,7 @@ module _ (what : Rewrites) (flags : MatchFlags) (p q : Pattern) (is : mirror q �
   number_there name there =
       let own : Contains (given_names table) name =
       subst (λ ns. Contains ns name) (sym (given-each (mirror_disjunction p.body).1)) (once-there [] (alternatives_names (mirror_disjunction p.body).1) name there) in
-      let count : length table ≡ groups q = same.count-each (mirror_disjunction p.body).1 ∙ sym (count-each (mirror_disjunction p.body).1) ∙ sym (its_groups what flags p q is) in
+      let count : length table ≡ groups q = names-length-each (mirror_disjunction p.body).1 ∙ sym (count-each (mirror_disjunction p.body).1) ∙ sym (its_groups what flags p q is) in
       (number_some name table own, subst (λ k. number_of name table ≤ k) count (number_within name table))
 
   reference_obeys : (asked : Bool) → what.named_capture_groups ≡ asked → (r : NamedReference) → Contains (names p) r.name →

@@ -1,6 +1,5 @@
 -- Lists of nodes, and the trees that they make.
-use Rattle.std.proofs.Common.{◌≡◌, refl, ap, ◌∙◌, Option, List, [], ◌∷◌, ◌++◌, length, reverse, arith}
-use Rattle.std.proofs.lemmas.List.{reverse-append}
+use Rattle.std.proofs.Common.{◌≡◌, refl, ap, Option, List, [], ◌∷◌, ◌++◌}
 use Rattle.rx_ast.specs.ClassTree.{Members, no_member, member, members}
 use Rattle.rx_ast.specs.Tree.{Node, Nodes, Alternatives, no_node, node, nodes, no_alternative, alternative, alternatives}
 use Rattle.rx_rewrite.specs.ClassWorks.{listed_members}
@@ -22,10 +21,3 @@ pub on-last : (f : Node → Node) (ns : List Node) (n : Node) (rest : List Node 
 on-last f [] n rest = refl
 on-last f (m ∷ []) n rest = refl
 on-last f (m ∷ k ∷ ns) n rest = on-last f (k ∷ ns) n (λ ms. rest (m ∷ ms))
-
-pub reverse-last : {A : Type 0} (before between : List A) (x : A) → before ≡ between ++ (x ∷ []) → reverse before ≡ x ∷ reverse between
-reverse-last before between x is = ap reverse is ∙ reverse-append between (x ∷ [])
-
-pub empty_list : {A : Type 0} (xs : List A) → length xs ≡ 0 → xs ≡ []
-empty_list [] e = refl
-empty_list (x ∷ xs) e = absurd (omega arith)

@@ -5,6 +5,7 @@ use Rattle.std.proofs.lemmas.List.Elements.{Contains-append_right}
 use Rattle.std.proofs.lemmas.Slice.Eq.{bytes_eq-Decides}
 use Rattle.rx_ast.specs.Tree.{Node, Nodes, Alternatives, leaf, quantified, group, no_node, node, no_alternative, alternative, capturing, ignoring, looking}
 use Rattle.rx_model.specs.Trees.Names.{AreDistinct, node_names, nodes_names, alternatives_names}
+use Rattle.rx_model.proofs.FirstPass.MarkNames.{contains_cases}
 use Rattle.rx_trace.specs.declared.answer.Slot.{Slot}
 use Rattle.rx_trace.specs.declared.answer.Slot.TheVariants.{Unset, Set}
 use Rattle.rx_trace.specs.Groups.{Names, names_in, names_in_all, names_in_each, same_units, is_named, is_set, slot_of, slot_named}
@@ -51,10 +52,6 @@ number_none name (None ∷ ns) none = ap one_up (number_none name ns none)
 number_none name (Some other ∷ ns) none =
     let other_name : same_units name other ≡ false = false_from_ne_true (same_units name other) (λ same. none (0, omega arith, sym ((same_decides name other).0 same))) in
     ap (λ b. if b then 1 else one_up (number_of name ns)) other_name ∙ ap one_up (number_none name ns (λ there. none (Contains-append_right (other ∷ []) (given_names ns) name there)))
-
-pub contains_cases : (x : List ℕ) (xs : List (List ℕ)) (name : List ℕ) → Contains (x ∷ xs) name → (x ≡ name) ⊎ Contains xs name
-contains_cases x xs name (zero, l, e) = inl e
-contains_cases x xs name (suc k, l, e) = inr (k, omega (arith, l), e)
 
 -- The number of a name that some group has is that of a group: from 1,
 up-some : (k : ℕ) → 1 ≤ k → 1 ≤ one_up k

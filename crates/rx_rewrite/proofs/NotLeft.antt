@@ -14,7 +14,8 @@ use Rattle.rx_ast.specs.Tree.{Leaf, Opener, Node, Nodes, Alternatives, Whole, le
 use Rattle.rx_trace.specs.declared.answer.MatchFlags.{MatchFlags}
 use Rattle.rx_trace.specs.Answers.{settings}
 use Rattle.rx_trace.specs.Groups.{Names, names_in_each}
-use Rattle.rx_trace.specs.Matching.{Settings, changed}
+use Rattle.rx_trace.specs.declared.settings.Settings.{Settings}
+use Rattle.rx_trace.specs.Matching.{changed}
 use Rattle.rx_rewrite.specs.declared.rewrites.Rewrites.{Rewrites}
 use Rattle.rx_rewrite.specs.Asked.{HoldsIn, HoldsInAll, HoldsInEach, OfAnyLeaf, OfAnyOpener, IsNotNamed, HasNoName, IsDotInLine, IsEndIn, IsEndOfInput, HasNoLineModifier, HasNoNames, HasDotsInLine, HasEndsOfInput, HasNoLineModifiers}
 use Rattle.rx_rewrite.specs.Rewriting.{number_of, dot_rewritten, end_rewritten, boundary_rewritten, modifiers_kept, modifiers_rewritten, name_rewritten, leaf_rewritten, node_rewritten, nodes_rewritten, alternatives_rewritten, flags_rewritten, rewritten}

@@ -93,19 +93,10 @@ tells_unnamed names named old new is t =
     })
 
 -- No group opens.
-pub tells_none : (names : Names) (named : List NamedGroup) (numbers : GroupNumbers) → Tells names named numbers → Tells (names ++ []) (named ++ []) numbers
-tells_none names named numbers t = subst (λ ns. Tells ns (named ++ []) numbers) (sym (append-nil names)) (subst (λ gs. Tells names gs numbers) (sym (append-nil named)) t)
-
 pub used_none : (named rest : List NamedGroup) → used_again named ([] ++ rest) ≡ used_again (named ++ []) rest
 used_none named rest = ap (λ gs. used_again gs rest) (sym (append-nil named))
 
 module _ (names : Names) (named : List NamedGroup) (old : GroupNumbers) (key name : List ℕ) (span : Span) (t : Tells names named old) (key_text : IsUtf8 key) (is : chars key ≡ name) where
-  -- its name stood before
-  pub used_before : (first : NumberedGroup) → get_by_text old.groups key ≡ Some first → (rest : List NamedGroup) → used_again named ((name, span) ∷ rest) ≡ Some (first.span, span)
-  used_before first found rest =
-      let stood : Some first.span ≡ first_named name named = ap (option_map (λ g. g.span)) (sym found) ∙ t.spans key key_text ∙ ap (λ n. first_named n named) is in
-      ap (λ s. with_first s span (used_again (named ++ ((name, span) ∷ [])) rest)) (sym stood)
-
   module _ (new : GroupNumbers) (i : Inserts old key span new) (absent : get_by_text old.groups key ≡ None) where
     pub not_used : (rest : List NamedGroup) → used_again named ((name, span) ∷ rest) ≡ used_again (named ++ ((name, span) ∷ [])) rest
     not_used rest =
@@ -118,22 +109,23 @@ module _ (names : Names) (named : List NamedGroup) (old : GroupNumbers) (key nam
     no_span : first_named name named ≡ None
     no_span = ap (λ n. first_named n named) (sym is) ∙ sym (t.spans key key_text) ∙ ap (option_map (λ g. g.span)) absent
 
-    spans_by : (bytes : List ℕ) → IsUtf8 bytes → (b : Bool) → same_units (chars bytes) name ≡ b → bytes_eq key bytes ≡ b
-        → option_map (λ (x : NumberedGroup). x.span) (if b then Some (record { number = old.count + 1; span = span }) else get_by_text old.groups bytes) ≡ or_first (first_named (chars bytes) named) (if b then Some span else None)
-    unfolding or_first
-    spans_by bytes text true same equal =
-        let alike : chars bytes ≡ name = ap chars (sym ((bytes_eq-Decides key bytes).0 equal)) ∙ is in
-        ap (λ s. or_first s (Some span)) (sym (ap (λ n. first_named n named) alike ∙ no_span))
-    spans_by bytes text false same equal = t.spans bytes text ∙ sym (or_none (first_named (chars bytes) named))
+    module _ (bytes : List ℕ) (text : IsUtf8 bytes) where
+      alike : bytes_eq key bytes ≡ true → chars bytes ≡ name
+      alike equal = ap chars (sym ((bytes_eq-Decides key bytes).0 equal)) ∙ is
 
-    numbers_by : (bytes : List ℕ) → IsUtf8 bytes → (b : Bool) → same_units (chars bytes) name ≡ b → bytes_eq key bytes ≡ b
-        → option_map_or (λ (x : NumberedGroup). x.number) (if b then Some (record { number = old.count + 1; span = span }) else get_by_text old.groups bytes) 0 ≡ or_number (number_of (chars bytes) names) (if b then suc (length names) else 0)
-    unfolding or_number
-    numbers_by bytes text true same equal =
-        let alike : chars bytes ≡ name = ap chars (sym ((bytes_eq-Decides key bytes).0 equal)) ∙ is in
-        let one : old.count + 1 ≡ suc (length names) = add-one old.count ∙ ap suc t.count in
-        one ∙ ap (λ n. or_number n (suc (length names))) (sym (ap (λ n. number_of n names) alike ∙ no_number))
-    numbers_by bytes text false same equal = t.firsts bytes text ∙ sym (or_zero (number_of (chars bytes) names))
+      spans_by : (b : Bool) → bytes_eq key bytes ≡ b
+          → option_map (λ (x : NumberedGroup). x.span) (if b then Some (record { number = old.count + 1; span = span }) else get_by_text old.groups bytes) ≡ or_first (first_named (chars bytes) named) (if b then Some span else None)
+      unfolding or_first
+      spans_by true equal = ap (λ s. or_first s (Some span)) (sym (ap (λ n. first_named n named) (alike equal) ∙ no_span))
+      spans_by false equal = t.spans bytes text ∙ sym (or_none (first_named (chars bytes) named))
+
+      numbers_by : (b : Bool) → bytes_eq key bytes ≡ b
+          → option_map_or (λ (x : NumberedGroup). x.number) (if b then Some (record { number = old.count + 1; span = span }) else get_by_text old.groups bytes) 0 ≡ or_number (number_of (chars bytes) names) (if b then suc (length names) else 0)
+      unfolding or_number
+      numbers_by true equal =
+          let one : old.count + 1 ≡ suc (length names) = add-one old.count ∙ ap suc t.count in
+          one ∙ ap (λ n. or_number n (suc (length names))) (sym (ap (λ n. number_of n names) (alike equal) ∙ no_number))
+      numbers_by false equal = t.firsts bytes text ∙ sym (or_zero (number_of (chars bytes) names))
 
     -- A group of a new name opens.
     pub tells_named : Tells (names ++ (Some name ∷ [])) (named ++ ((name, span) ∷ [])) new
@@ -143,14 +135,14 @@ module _ (names : Names) (named : List NamedGroup) (old : GroupNumbers) (key nam
           let same = same_name key bytes name key_text text is in
           let b = bytes_eq key bytes in
           ap (option_map (λ (x : NumberedGroup). x.span)) (i.groups bytes)
-          ∙ spans_by bytes text b (sym same) refl
+          ∙ spans_by bytes text b refl
           ∙ ap (λ c. or_first (first_named (chars bytes) named) (if c then Some span else None)) same
           ∙ sym (first-last (chars bytes) named (name, span));
       firsts = λ bytes text.
           let same = same_name key bytes name key_text text is in
           let b = bytes_eq key bytes in
           ap (λ g. option_map_or (λ (x : NumberedGroup). x.number) g 0) (i.groups bytes)
-          ∙ numbers_by bytes text b (sym same) refl
+          ∙ numbers_by bytes text b refl
           ∙ ap (λ c. or_number (number_of (chars bytes) names) (if c then suc (length names) else 0)) same
           ∙ sym (number-last (chars bytes) names (Some name));
     }

@@ -1,5 +1,5 @@
 -- The groups of a tree, by the order of its nodes.
-use Rattle.std.proofs.Common.{◌≡◌, refl, ap, sym, ◌∙◌, ℕ, ◌+◌, List, [], ◌∷◌, ◌++◌, append_assoc, length, length-append, map, arith}
+use Rattle.std.proofs.Common.{◌≡◌, refl, ap, ap₂, sym, ◌∙◌, ◌+◌, List, [], ◌∷◌, ◌++◌, append_assoc, map, arith}
 use Rattle.rx_ast.specs.declared.class.ClassString.{ClassString}
 use Rattle.rx_ast.specs.declared.leaf.Character.{Character}
 use Rattle.rx_ast.specs.ClassTree as in_class
@@ -8,7 +8,7 @@ use Rattle.rx_ast.specs.Kinds.{Kind, pattern, character, strings_order, member_o
 use Rattle.rx_ast.specs.Tree as tree
 use Rattle.rx_ast.specs.Tree.{Node, Nodes, Alternatives, Whole, leaf, quantified, group, no_node, node, no_alternative, alternative}
 use Rattle.rx_model.specs.Trees.Names.{node_groups, nodes_groups, alternatives_groups}
-use Rattle.rx_trace.specs.Groups.{Names, names_in, names_in_all, names_in_each}
+use Rattle.rx_trace.specs.Groups.{groups_in, groups_in_all, groups_in_each, names_in, names_in_all, names_in_each}
 use Rattle.rx_rewrite.specs.Numbers.{group_names, group_name}
 
 pub names-append : (ks js : List Kind) → group_names (ks ++ js) ≡ group_names ks ++ group_names js
@@ -71,22 +71,19 @@ pub names_of_order : (p : Whole) → group_names (order (pattern p)) ≡ names_i
 unfolding order
 names_of_order p = of_each p.1.1
 
-length_two : (xs ys : Names) (m n : ℕ) → length xs ≡ m → length ys ≡ n → length (xs ++ ys) ≡ m + n
-length_two xs ys m n e f = let g = length-append xs ys in omega arith
-
+-- The number of groups is counted in one way only.
 mutual
-  names-length : (n : Node) → length (names_in n) ≡ node_groups n
-  names-length (leaf l) = refl
-  names-length (quantified s min max greedy n) = names-length n
-  names-length (group s (tree.capturing name) d more) = let e = names-length-each more in omega arith
-  names-length (group s (tree.ignoring m) d more) = let e = names-length-each more in omega arith
-  names-length (group s (tree.looking kind) d more) = let e = names-length-each more in omega arith
+  count-node : (n : Node) → node_groups n ≡ groups_in n
+  count-node (leaf l) = refl
+  count-node (quantified s min max greedy n) = count-node n
+  count-node (group s (tree.capturing name) d more) = ap (λ k. 1 + k) (count-each more)
+  count-node (group s (tree.ignoring m) d more) = let e = count-each more in omega arith
+  count-node (group s (tree.looking kind) d more) = let e = count-each more in omega arith
 
-  names-length-all : (ns : Nodes) → length (names_in_all ns) ≡ nodes_groups ns
-  names-length-all no_node = refl
-  names-length-all (node n ns) = length_two (names_in n) (names_in_all ns) (node_groups n) (nodes_groups ns) (names-length n) (names-length-all ns)
+  count-all : (ns : Nodes) → nodes_groups ns ≡ groups_in_all ns
+  count-all no_node = refl
+  count-all (node n ns) = ap₂ (λ a b. a + b) (count-node n) (count-all ns)
 
-  -- There are as many names as groups.
-  pub names-length-each : (more : Alternatives) → length (names_in_each more) ≡ alternatives_groups more
-  names-length-each no_alternative = refl
-  names-length-each (alternative s ns more) = length_two (names_in_all ns) (names_in_each more) (nodes_groups ns) (alternatives_groups more) (names-length-all ns) (names-length-each more)
+  pub count-each : (more : Alternatives) → alternatives_groups more ≡ groups_in_each more
+  count-each no_alternative = refl
+  count-each (alternative s ns more) = ap₂ (λ a b. a + b) (count-all ns) (count-each more)

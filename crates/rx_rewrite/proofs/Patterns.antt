@@ -1,41 +1,27 @@
 -- The groups of the rewritten pattern and their names, and its shape.
-use Rattle.std.proofs.Common.{◌≡◌, refl, ap, ap₂, sym, subst, ◌∙◌, ℕ, zero, suc, ◌+◌, Bool, true, false, if◌then◌else◌, Option, Some, None, List, [], ◌∷◌, Contains, inl, inr, arith}
+use Rattle.std.proofs.Common.{◌≡◌, refl, ap, sym, subst, ◌∙◌, ℕ, zero, suc, Bool, true, false, if◌then◌else◌, Option, Some, None, List, [], ◌∷◌, Contains, inl, inr, arith}
 use Rattle.std.specs.Prelude.{replicate, map}
 use Rattle.std.proofs.lemmas.Bool.{false≢true}
 use Rattle.rx_base.specs.Texts.{is_among}
 use Rattle.rx_ast.specs.declared.term.Pattern.{Pattern}
 use Rattle.rx_ast.specs.Tree as tree
-use Rattle.rx_ast.specs.Tree.{Leaf, Opener, Node, Nodes, Alternatives, Whole, leaf, quantified, group, no_node, node, no_alternative, alternative, capturing, ignoring, looking, mirror, mirror_disjunction}
+use Rattle.rx_ast.specs.Tree.{Leaf, Node, Nodes, Alternatives, leaf, quantified, group, no_node, node, no_alternative, alternative, capturing, ignoring, looking, mirror, mirror_disjunction}
 use Rattle.rx_model.specs.declared.mode.Mode.{Mode}
-use Rattle.rx_model.specs.Trees.Names.{node_groups, nodes_groups, alternatives_groups, node_names, nodes_names, alternatives_names, opener_names, once_after, groups, names, AreApart, IsNodeApart, AreNodesApart, AreAlternativesApart, AreDistinct, AreNamesEarly}
+use Rattle.rx_model.specs.Trees.Names.{alternatives_groups, node_names, nodes_names, alternatives_names, opener_names, once_after, groups, names, AreApart, IsNodeApart, AreNodesApart, AreAlternativesApart, AreDistinct, AreNamesEarly}
 use Rattle.rx_model.specs.Trees.Shapes.{takes, IsNode, AreNodes, HasAlternatives, AreAlternatives, IsWellMade}
 use Rattle.rx_trace.specs.declared.answer.MatchFlags.{MatchFlags}
 use Rattle.rx_trace.specs.Answers.{settings}
-use Rattle.rx_trace.specs.Groups.{Names, groups_in, groups_in_all, groups_in_each, names_in, names_in_all, names_in_each}
-use Rattle.rx_trace.specs.Matching.{Settings, changed}
+use Rattle.rx_trace.specs.Groups.{Names, groups_in_each, names_in, names_in_all, names_in_each}
+use Rattle.rx_trace.specs.declared.settings.Settings.{Settings}
+use Rattle.rx_trace.specs.Matching.{changed}
 use Rattle.rx_rewrite.specs.declared.rewrites.Rewrites.{Rewrites}
 use Rattle.rx_rewrite.specs.Rewriting.{number_of, modifiers_rewritten, node_rewritten, nodes_rewritten, alternatives_rewritten, flags_rewritten, rewritten}
-use Rattle.rx_rewrite.proofs.NamedSlots.{given_names, given-node, given-all, given-each, contains_cases}
+use Rattle.rx_rewrite.proofs.Orders.{count-each}
+use Rattle.rx_model.proofs.FirstPass.MarkNames.{contains_cases}
+use Rattle.rx_rewrite.proofs.NamedSlots.{given_names, given-node, given-all, given-each}
 use Rattle.rx_rewrite.proofs.Replaced.{HoldsOfAll, leaf-all}
 use Rattle.rx_rewrite.proofs.SameGroups.{names-node, names-all, names-each}
 use Rattle.rx_rewrite.proofs.SameOutcomes as outcomes
-
--- The number of groups is counted in one way only.
-mutual
-  count-node : (n : Node) → node_groups n ≡ groups_in n
-  count-node (leaf l) = refl
-  count-node (quantified s min max greedy n) = count-node n
-  count-node (group s (capturing name) d more) = ap (λ k. 1 + k) (count-each more)
-  count-node (group s (ignoring m) d more) = let e = count-each more in omega arith
-  count-node (group s (looking kind) d more) = let e = count-each more in omega arith
-
-  count-all : (ns : Nodes) → nodes_groups ns ≡ groups_in_all ns
-  count-all no_node = refl
-  count-all (node n ns) = ap₂ (λ a b. a + b) (count-node n) (count-all ns)
-
-  pub count-each : (more : Alternatives) → alternatives_groups more ≡ groups_in_each more
-  count-each no_alternative = refl
-  count-each (alternative s ns more) = ap₂ (λ a b. a + b) (count-all ns) (count-each more)
 
 given-none : (k : ℕ) → given_names (replicate k None) ≡ []
 given-none zero = refl

@@ -3,21 +3,22 @@ use Rattle.std.proofs.Common.{◌≡◌, ◌≢◌, refl, ap, sym, ◌∙◌, su
 use Rattle.std.proofs.lemmas.List.{map-append}
 use Rattle.rx_base.specs.declared.span.Span.{Span}
 use Rattle.rx_ast.specs.Tree as tree
-use Rattle.rx_ast.specs.Tree.{Node, Nodes, Alternatives, SpannedNodes, quantified, mirror_term, mirror_alternative}
+use Rattle.rx_ast.specs.Tree.{Node, Alternatives, SpannedNodes, quantified, mirror_term, mirror_alternative}
 use Rattle.rx_ast.specs.declared.term.Alternative.{Alternative}
 use Rattle.rx_ast.specs.declared.term.Term.{Term}
 use Rattle.rx_trace.specs.Groups.{Names}
-use Rattle.rx_trace.specs.Matching.{Settings}
+use Rattle.rx_trace.specs.declared.settings.Settings.{Settings}
 use Rattle.rx_rewrite.specs.declared.numbers.GroupNumbers.{GroupNumbers}
 use Rattle.rx_rewrite.specs.declared.rewriter.Rewriter.{Rewriter}
 use Rattle.rx_rewrite.specs.declared.rewriter.Task.{Task}
 use Rattle.rx_rewrite.specs.declared.rewriter.Task.TheVariants as task
 use Rattle.rx_rewrite.specs.declared.rewrites.Rewrites.{Rewrites}
 use Rattle.rx_rewrite.specs.declared.settings.Reading.{Reading}
-use Rattle.rx_rewrite.specs.Built.{settings_of, work_of, works_of, works, made_of, with_task, AddsTerm, IsNumbered, IsReady, Performs}
+use Rattle.rx_rewrite.specs.Built.{work_of, works_of, works, made_of, with_task, AddsTerm, IsNumbered, IsReady, Performs}
 use Rattle.rx_rewrite.specs.Rewriting.{node_rewritten, alternatives_rewritten}
 use Rattle.rx_rewrite.specs.Works.{Work, Made, term, ending_quantifier, listed_alternatives, with_node, on_last, all_worked, weight, weights}
-use Rattle.rx_rewrite.proofs.Lists.{alternatives-listed, on-last, reverse-last}
+use Rattle.rx_trace.proofs.Lists.{reverse-last}
+use Rattle.rx_rewrite.proofs.Lists.{alternatives-listed, on-last}
 
 pub works_with : (r : Rewriter) (t : Task) → works (with_task r t) ≡ work_of t ∷ works r
 works_with r t = ap works_of (reverse-last (r.tasks ++ (t ∷ [])) r.tasks t refl)
@@ -65,10 +66,6 @@ adds_term r ts t pushed = record {
   numbers = refl;
 }
 
--- A task more waits.
-pub works_after : (r after : Rewriter) (t : Task) (ws : List Work) → after ≡ with_task r t → works r ≡ ws → works after ≡ work_of t ∷ ws
-works_after r after t ws pushed is = ap works pushed ∙ works_with r t ∙ ap (λ vs. work_of t ∷ vs) is
-
 some_terms : (f : Node → Node) (ts : List Term) (rest : List Node → Option Made) → on_last f (map mirror_term ts) rest ≢ None → 0 < length ts
 some_terms f [] rest some = absurd (some refl)
 some_terms f (t ∷ ts) rest some = omega arith
@@ -98,7 +95,7 @@ pub record Makes (r : Rewriter) (what : Rewrites) (numbers : GroupNumbers) (old 
   pub comes : (names : Names) → IsNumbered what names numbers → all_worked what names (works r) (made_of r) ≡ Some (record { terms = []; alternatives = listed_alternatives (alternatives_rewritten what names old new all) })
 
 pub makes_first : (r : Rewriter) (what : Rewrites) (numbers : GroupNumbers) (reading : Reading) (slice : Bor (List Alternative)) (all : Alternatives) → r.what ≡ what → r.numbers.now ≡ numbers
-    → r.tasks ≡ [] ++ (task.Alternatives reading slice ∷ []) → r.terms ≡ [] → r.alternatives ≡ [] → tree.alternatives (map mirror_alternative slice.now) ≡ all → Makes r what numbers (settings_of reading.old) (settings_of reading.new) all
+    → r.tasks ≡ [] ++ (task.Alternatives reading slice ∷ []) → r.terms ≡ [] → r.alternatives ≡ [] → tree.alternatives (map mirror_alternative slice.now) ≡ all → Makes r what numbers reading.old reading.new all
 makes_first r what numbers reading slice all what_is numbers_is tasks_is terms_is alternatives_is all_is = record {
   what_is = what_is;
   numbers_is = numbers_is;
@@ -106,7 +103,7 @@ makes_first r what numbers reading slice all what_is numbers_is tasks_is terms_i
       ap (λ ts. all_worked what names (works_of (reverse ts)) (made_of r)) tasks_is
       ∙ ap (λ ts. all_worked what names (works_of (task.Alternatives reading slice ∷ [])) (record { terms = map mirror_term ts; alternatives = map mirror_alternative r.alternatives })) terms_is
       ∙ ap (λ as'. all_worked what names (works_of (task.Alternatives reading slice ∷ [])) (record { terms = []; alternatives = map mirror_alternative as' })) alternatives_is
-      ∙ ap (λ x. Some (record { terms = []; alternatives = listed_alternatives (alternatives_rewritten what names (settings_of reading.old) (settings_of reading.new) x) })) all_is;
+      ∙ ap (λ x. Some (record { terms = []; alternatives = listed_alternatives (alternatives_rewritten what names reading.old reading.new x) })) all_is;
 }
 
 pub popped_works : (r : Rewriter) (ts : List Task) (t : Task) → r.tasks ≡ ts ++ (t ∷ []) → works r ≡ work_of t ∷ works (record r { tasks = ts })

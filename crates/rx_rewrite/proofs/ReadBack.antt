@@ -10,7 +10,7 @@ use Rattle.rx_ast.specs.declared.leaf.NamedReference.{NamedReference}
 use Rattle.rx_ast.specs.declared.term.Pattern.{Pattern}
 use Rattle.rx_ast.specs.Forget.{forget_class, same_kind}
 use Rattle.rx_ast.specs.Tree as tree
-use Rattle.rx_ast.specs.Tree.{Leaf, leaf, mirror, mirror_disjunction}
+use Rattle.rx_ast.specs.Tree.{Leaf, mirror, mirror_disjunction}
 use Rattle.rx_units.specs.declared.code_point.CodePoint.{CodePoint}
 use Rattle.rx_model.specs.declared.mode.Mode.{Mode}
 use Rattle.rx_model.specs.declared.rules.Rules.{Rules}
@@ -28,7 +28,7 @@ use Rattle.rx_model.proofs.Trees.Flat.{before, tokens_are}
 use Rattle.rx_trace.specs.declared.answer.MatchFlags.{MatchFlags}
 use Rattle.rx_trace.specs.Answers.{settings}
 use Rattle.rx_trace.specs.Groups.{Names, names_in_each}
-use Rattle.rx_trace.specs.Matching.{Settings}
+use Rattle.rx_trace.specs.declared.settings.Settings.{Settings}
 use Rattle.rx_rewrite.specs.declared.rewrites.Rewrites.{Rewrites}
 use Rattle.rx_rewrite.specs.Rewriting.{number_of, any_unit, no_line_terminator, leaf_rewritten, flags_rewritten, rewritten}
 use Rattle.rx_rewrite.proofs.Early.{its_early}

@@ -8,7 +8,7 @@ use Rattle.rx_ast.specs.declared.leaf.LookAroundAssertionKind.TheVariants as loo
 use Rattle.rx_ast.specs.Tree as tree
 use Rattle.rx_ast.specs.Tree.{Leaf, Node, leaf}
 use Rattle.rx_trace.specs.Groups.{Names}
-use Rattle.rx_trace.specs.Matching.{Settings}
+use Rattle.rx_trace.specs.declared.settings.Settings.{Settings}
 use Rattle.rx_rewrite.specs.declared.rewrites.Rewrites.{Rewrites}
 use Rattle.rx_rewrite.specs.Rewriting.{any_unit, no_line_terminator, look_for, by_setting, end_rewritten, boundary_rewritten, reference_rewritten, leaf_rewritten}
 

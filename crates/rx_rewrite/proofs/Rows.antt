@@ -7,7 +7,7 @@ use Rattle.rx_ast.specs.declared.leaf.LookAroundAssertionKind.TheVariants.{Negat
 use Rattle.rx_ast.specs.declared.leaf.Modifiers.{Modifiers}
 use Rattle.rx_ast.specs.Forget.{nowhere}
 use Rattle.rx_ast.specs.Tree as tree
-use Rattle.rx_ast.specs.Tree.{Node, Nodes, Alternatives, Whole, leaf, group, no_node, node, no_alternative, alternative, capturing, ignoring}
+use Rattle.rx_ast.specs.Tree.{Node, Nodes, Whole, leaf, group, no_node, node, no_alternative, alternative, capturing, ignoring}
 use Rattle.rx_model.specs.declared.mode.Mode.{Mode}
 use Rattle.rx_model.specs.declared.mode.Mode.TheVariants.{Legacy, Unicode, Sets}
 use Rattle.rx_model.specs.Spelling.CharacterText.{character_text, four_digits}

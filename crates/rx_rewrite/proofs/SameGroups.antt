@@ -1,30 +1,15 @@
 -- The rewritten tree has the groups of the tree. Each keeps its name, or where names are rewritten none has one.
-use Rattle.std.proofs.Common.{◌≡◌, refl, ap, ap₂, sym, ◌∙◌, ◌+◌, [], ◌∷◌, ◌++◌, length, map, length-append, arith}
+use Rattle.std.proofs.Common.{◌≡◌, refl, ap, ap₂, sym, ◌∙◌, ◌+◌, [], ◌∷◌, ◌++◌, length, map}
 use Rattle.std.proofs.lemmas.List.{map-append, length-map}
 use Rattle.rx_ast.specs.Tree as tree
 use Rattle.rx_ast.specs.Tree.{Leaf, Node, Nodes, Alternatives, leaf, quantified, group, no_node, node, no_alternative, alternative, capturing, ignoring, looking}
 use Rattle.rx_trace.specs.Groups.{Names, groups_in, groups_in_all, groups_in_each, names_in, names_in_all, names_in_each}
-use Rattle.rx_trace.specs.Matching.{Settings, changed}
+use Rattle.rx_trace.specs.declared.settings.Settings.{Settings}
+use Rattle.rx_trace.specs.Matching.{changed}
+use Rattle.rx_trace.proofs.GroupNames.{names-length, names-length-all, names-length-each}
 use Rattle.rx_rewrite.specs.declared.rewrites.Rewrites.{Rewrites}
 use Rattle.rx_rewrite.specs.Rewriting.{name_rewritten, modifiers_rewritten, node_rewritten, nodes_rewritten, alternatives_rewritten}
 use Rattle.rx_rewrite.proofs.Replaced.{HoldsOfAll, leaf-all}
-
--- There are as many names as groups.
-mutual
-  count-node : (n : Node) → length (names_in n) ≡ groups_in n
-  count-node (leaf l) = refl
-  count-node (quantified s min max greedy n) = count-node n
-  count-node (group s (capturing name) d more) = let e = count-each more in omega arith
-  count-node (group s (ignoring m) d more) = count-each more
-  count-node (group s (looking kind) d more) = count-each more
-
-  count-all : (ns : Nodes) → length (names_in_all ns) ≡ groups_in_all ns
-  count-all no_node = refl
-  count-all (node n ns) = length-append (names_in n) (names_in_all ns) ∙ ap₂ (λ a b. a + b) (count-node n) (count-all ns)
-
-  pub count-each : (more : Alternatives) → length (names_in_each more) ≡ groups_in_each more
-  count-each no_alternative = refl
-  count-each (alternative s ns more) = length-append (names_in_all ns) (names_in_each more) ∙ ap₂ (λ a b. a + b) (count-all ns) (count-each more)
 
 module _ (what : Rewrites) (names : Names) where
   no_names : (l : Leaf) → HoldsOfAll what names (λ n. names_in n ≡ []) l
@@ -57,10 +42,10 @@ module _ (what : Rewrites) (names : Names) where
 
   -- So there are as many groups.
   pub groups-node : (old new : Settings) (n : Node) → groups_in (node_rewritten what names old new n) ≡ groups_in n
-  groups-node old new n = sym (count-node (node_rewritten what names old new n)) ∙ ap length (names-node old new n) ∙ length-map (names_in n) (name_rewritten what names) ∙ count-node n
+  groups-node old new n = sym (names-length (node_rewritten what names old new n)) ∙ ap length (names-node old new n) ∙ length-map (names_in n) (name_rewritten what names) ∙ names-length n
 
   pub groups-all : (old new : Settings) (ns : Nodes) → groups_in_all (nodes_rewritten what names old new ns) ≡ groups_in_all ns
-  groups-all old new ns = sym (count-all (nodes_rewritten what names old new ns)) ∙ ap length (names-all old new ns) ∙ length-map (names_in_all ns) (name_rewritten what names) ∙ count-all ns
+  groups-all old new ns = sym (names-length-all (nodes_rewritten what names old new ns)) ∙ ap length (names-all old new ns) ∙ length-map (names_in_all ns) (name_rewritten what names) ∙ names-length-all ns
 
   pub groups-each : (old new : Settings) (more : Alternatives) → groups_in_each (alternatives_rewritten what names old new more) ≡ groups_in_each more
-  groups-each old new more = sym (count-each (alternatives_rewritten what names old new more)) ∙ ap length (names-each old new more) ∙ length-map (names_in_each more) (name_rewritten what names) ∙ count-each more
+  groups-each old new more = sym (names-length-each (alternatives_rewritten what names old new more)) ∙ ap length (names-each old new more) ∙ length-map (names_in_each more) (name_rewritten what names) ∙ names-length-each more

@@ -16,7 +16,8 @@ use Rattle.rx_rewrite.specs.Asked.{CanBeRewritten}
 use Rattle.rx_rewrite.specs.Rewriting.{name_rewritten, flags_rewritten, rewritten}
 use Rattle.rx_rewrite.proofs.Follows.{Follows, follow-append, follow-cost, follow-first, follow-states}
 use Rattle.rx_rewrite.proofs.NamedSlots.{given-each}
-use Rattle.rx_rewrite.proofs.SameGroups.{count-each, names-each, groups-each}
+use Rattle.rx_rewrite.proofs.SameGroups.{names-each, groups-each}
+use Rattle.rx_trace.proofs.GroupNames.{names-length-each}
 use Rattle.rx_rewrite.proofs.TreeFollows.{each_follows}
 
 found_by : (a b : Found) → a.start ≡ b.start → a.end ≡ b.end → a.groups ≡ b.groups → a ≡ b
@@ -105,7 +106,7 @@ module _ (what : Rewrites) (flags : MatchFlags) (tree : Whole) where
 
   pub no_names : what.named_capture_groups ≡ true → names_in_each (rewritten what flags tree).1.1 ≡ replicate (groups_in_each tree.1.1) None
   no_names asked =
-      its_names ∙ ap (λ b. map (λ name. if b then None else name) (names_in_each tree.1.1)) asked ∙ names_gone (names_in_each tree.1.1) ∙ ap (λ k. replicate k None) (count-each tree.1.1)
+      its_names ∙ ap (λ b. map (λ name. if b then None else name) (names_in_each tree.1.1)) asked ∙ names_gone (names_in_each tree.1.1) ∙ ap (λ k. replicate k None) (names-length-each tree.1.1)
 
   pub all_names : what.named_capture_groups ≡ false → names_in_each (rewritten what flags tree).1.1 ≡ names_in_each tree.1.1
   all_names not_asked = its_names ∙ ap (λ b. map (λ name. if b then None else name) (names_in_each tree.1.1)) not_asked ∙ names_same (names_in_each tree.1.1)

@@ -1,28 +1,22 @@
 -- What is not supported of the pattern is what is not supported of the rewritten pattern.
-use Rattle.std.proofs.Common.{◌≡◌, refl, ap, ap₂, sym, ◌∙◌, Bool, true, false, if◌then◌else◌, Option, Some, None, List, [], ◌∷◌, ◌++◌}
+use Rattle.std.proofs.Common.{◌≡◌, refl, ap₂, sym, ◌∙◌, Bool, true, false, if◌then◌else◌, Option, Some, None}
 use Rattle.rx_base.specs.declared.span.Span.{Span}
 use Rattle.rx_ast.specs.declared.leaf.Modifiers.{Modifiers}
 use Rattle.rx_ast.specs.declared.leaf.NamedReference.{NamedReference}
-use Rattle.rx_ast.specs.Kinds.{Kind, ignore_group, order, node_order, nodes_order, alternatives_order}
+use Rattle.rx_ast.specs.Kinds.{ignore_group, order, node_order, nodes_order, alternatives_order}
 use Rattle.rx_ast.specs.Tree as tree
 use Rattle.rx_ast.specs.Tree.{Leaf, Node, Nodes, Alternatives, Whole, leaf, quantified, group, no_node, node, no_alternative, alternative, capturing, ignoring, looking}
 use Rattle.rx_trace.specs.declared.answer.MatchFlags.{MatchFlags}
 use Rattle.rx_trace.specs.Answers.{settings}
 use Rattle.rx_trace.specs.Groups.{Names, names_in_each}
-use Rattle.rx_trace.specs.Matching.{Settings, changed}
+use Rattle.rx_trace.specs.declared.settings.Settings.{Settings}
+use Rattle.rx_trace.specs.Matching.{changed}
 use Rattle.rx_trace.specs.Supported.{unsupported, or_later, first_unsupported, unsupported_in}
+use Rattle.rx_trace.proofs.Unsupported.{first-append}
 use Rattle.rx_rewrite.specs.declared.rewrites.Rewrites.{Rewrites}
 use Rattle.rx_rewrite.specs.Rewriting.{number_of, modifiers_kept, modifiers_rewritten, node_rewritten, nodes_rewritten, alternatives_rewritten, flags_rewritten, rewritten}
 use Rattle.rx_rewrite.proofs.Modifiers.{unsupported_of, unsupported_same}
 use Rattle.rx_rewrite.proofs.Replaced.{HoldsOfAll, leaf-all}
-
-or_later-assoc : (a b c : Option Span) → or_later (or_later a b) c ≡ or_later a (or_later b c)
-or_later-assoc None b c = refl
-or_later-assoc (Some a) b c = refl
-
-first-append : (ks ls : List Kind) → first_unsupported (ks ++ ls) ≡ or_later (first_unsupported ks) (first_unsupported ls)
-first-append [] ls = refl
-first-append (k ∷ ks) ls = ap (or_later (unsupported k)) (first-append ks ls) ∙ sym (or_later-assoc (unsupported k) (first_unsupported ks) (first_unsupported ls))
 
 group-unsupported : (s : Span) (m : Option Modifiers) (d : tree.SpannedAlternatives) → unsupported (ignore_group s m d) ≡ unsupported_of m
 group-unsupported s None d = refl

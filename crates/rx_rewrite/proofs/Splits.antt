@@ -4,9 +4,10 @@ use Rattle.rx_base.specs.declared.span.Span.{Span}
 use Rattle.rx_ast.specs.declared.leaf.Modifiers.{Modifiers}
 use Rattle.rx_ast.specs.declared.leaf.LookAroundAssertionKind.{LookAroundAssertionKind}
 use Rattle.rx_ast.specs.Tree as tree
-use Rattle.rx_ast.specs.Tree.{Opener, Node, Nodes, Alternatives, SpannedNodes, quantified, group, no_node, node, nodes, no_alternative, alternative}
+use Rattle.rx_ast.specs.Tree.{Opener, Node, Nodes, Alternatives, quantified, group, no_node, node, no_alternative, alternative}
 use Rattle.rx_trace.specs.Groups.{Names}
-use Rattle.rx_trace.specs.Matching.{Settings, changed}
+use Rattle.rx_trace.specs.declared.settings.Settings.{Settings}
+use Rattle.rx_trace.specs.Matching.{changed}
 use Rattle.rx_rewrite.specs.declared.rewrites.Rewrites.{Rewrites}
 use Rattle.rx_rewrite.specs.Rewriting.{name_rewritten, modifiers_rewritten, node_rewritten, nodes_rewritten, alternatives_rewritten}
 use Rattle.rx_rewrite.specs.Works.{Work, Made, alternatives, terms, term, opening, ending_alternative, ending_group, ending_quantifier, listed, listed_alternatives, all_worked}

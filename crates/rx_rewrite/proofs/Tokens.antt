@@ -11,7 +11,8 @@ use Rattle.rx_model.specs.Trees.Events.{leaf_event, node_events, nodes_events, a
 use Rattle.rx_model.specs.Trees.Token.{Token, opener, closer, bar, quantifier, capturing, ignoring, looking, bits, opener_of, leaf_token}
 use Rattle.rx_model.proofs.Trees.Flat.{before, before-append, before_leaf, before_within, before_quantified, before_group, before_alternative}
 use Rattle.rx_trace.specs.Groups.{Names}
-use Rattle.rx_trace.specs.Matching.{Settings, changed}
+use Rattle.rx_trace.specs.declared.settings.Settings.{Settings}
+use Rattle.rx_trace.specs.Matching.{changed}
 use Rattle.rx_rewrite.specs.declared.rewrites.Rewrites.{Rewrites}
 use Rattle.rx_rewrite.specs.Rewriting.{name_rewritten, modifiers_rewritten, leaf_rewritten, node_rewritten, nodes_rewritten, alternatives_rewritten}
 

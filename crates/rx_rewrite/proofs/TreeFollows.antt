@@ -15,7 +15,8 @@ use Rattle.rx_trace.specs.Traces.{State, Trace, tick, reached, and_then, front, 
 use Rattle.rx_trace.specs.Holding.{is_line_terminator, class_holds, holds_at, is_nothing, ahead, preceding, boundary_holds}
 use Rattle.rx_trace.specs.Groups.{Names, groups_in, groups_in_all, unset_in, captured}
 use Rattle.rx_trace.specs.Repeats.{repeat_trace}
-use Rattle.rx_trace.specs.Matching.{Settings, changed, moved_to, held_to, if_holds, where_none, looks_back, over_unit, back_reference_trace, leaf_trace, node_trace, nodes_trace, alternatives_trace}
+use Rattle.rx_trace.specs.declared.settings.Settings.{Settings}
+use Rattle.rx_trace.specs.Matching.{changed, moved_to, held_to, if_holds, where_none, looks_back, over_unit, back_reference_trace, leaf_trace, node_trace, nodes_trace, alternatives_trace}
 use Rattle.rx_rewrite.specs.declared.rewrites.Rewrites.{Rewrites}
 use Rattle.rx_rewrite.specs.Rewriting.{number_of, any_unit, no_line_terminator, look_for, dot_rewritten, end_rewritten, boundary_rewritten, modifiers_rewritten, leaf_rewritten, node_rewritten, nodes_rewritten, alternatives_rewritten}
 use Rattle.rx_rewrite.proofs.Follows.{Follows, one_tick, two_ticks, follow-itself, follow-states, follow-then, follow-append, follow-look, follow-repeat}

@@ -16,7 +16,8 @@ use Rattle.std.specs.Prelude.{Ok}
 use Rattle.rx_rewrite.specs.Answers.{IsRewritten, NamedGroup, named_group, named_groups, first_named, with_first, used_again, used_twice}
 use Rattle.rx_rewrite.specs.Asked.{CanBeRewritten}
 use Rattle.rx_rewrite.specs.Numbers.{group_names}
-use Rattle.rx_rewrite.proofs.NamedSlots.{given_names, given-each, contains_cases, same_decides}
+use Rattle.rx_model.proofs.FirstPass.MarkNames.{contains_cases}
+use Rattle.rx_rewrite.proofs.NamedSlots.{given_names, given-each, same_decides}
 use Rattle.rx_rewrite.proofs.Orders.{names_of_order}
 
 -- The groups among some nodes that have a name have these names.

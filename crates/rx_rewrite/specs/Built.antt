@@ -4,7 +4,6 @@ use Rattle.std.specs.Str.{IsUtf8, chars}
 use Rattle.rx_ast.specs.Tree as tree
 use Rattle.rx_ast.specs.Tree.{Node, mirror_alternative, mirror_term}
 use Rattle.rx_trace.specs.Groups.{Names}
-use Rattle.rx_trace.specs.Matching.{Settings}
 use Rattle.rx_rewrite.specs.declared.numbers.GroupNumbers.{GroupNumbers}
 use Rattle.rx_rewrite.specs.declared.opener.Opener.{Opener}
 use Rattle.rx_rewrite.specs.declared.opener.Opener.TheVariants as opener
@@ -12,13 +11,9 @@ use Rattle.rx_rewrite.specs.declared.rewriter.Rewriter.{Rewriter}
 use Rattle.rx_rewrite.specs.declared.rewriter.Task.{Task}
 use Rattle.rx_rewrite.specs.declared.rewriter.Task.TheVariants as task
 use Rattle.rx_rewrite.specs.declared.rewrites.Rewrites.{Rewrites}
-use Rattle.rx_rewrite.specs.declared.settings.Setting.{Setting}
 use Rattle.rx_rewrite.specs.Numbers.{number_at}
 use Rattle.rx_rewrite.specs.Rewriting.{number_of}
 use Rattle.rx_rewrite.specs.Works.{Made, Work, alternatives, terms, term, ending_alternative, ending_group, ending_quantifier, with_node, all_worked, weight, weights}
-
-abbrev pub settings_of : Setting → Settings
-settings_of setting = record { multiline = setting.multiline; dot_all = setting.dot_all }
 
 abbrev pub opener_of : Opener → tree.Opener
 opener_of (opener.Capturing name) = tree.capturing name
@@ -26,9 +21,9 @@ opener_of (opener.Ignoring m) = tree.ignoring m
 opener_of (opener.LookAround kind) = tree.looking kind
 
 abbrev pub work_of : Task → Work
-work_of (task.Alternatives reading more) = alternatives (settings_of reading.old) (settings_of reading.new) (tree.alternatives (map mirror_alternative more.now))
-work_of (task.Terms reading ts) = terms (settings_of reading.old) (settings_of reading.new) (tree.nodes (map mirror_term ts.now))
-work_of (task.Term reading t) = term (settings_of reading.old) (settings_of reading.new) (mirror_term t.now)
+work_of (task.Alternatives reading more) = alternatives reading.old reading.new (tree.alternatives (map mirror_alternative more.now))
+work_of (task.Terms reading ts) = terms reading.old reading.new (tree.nodes (map mirror_term ts.now))
+work_of (task.Term reading t) = term reading.old reading.new (mirror_term t.now)
 work_of (task.EndAlternative s outer) = ending_alternative s (map mirror_term outer)
 work_of (task.EndGroup s o d outer) = ending_group s (opener_of o) d (map mirror_alternative outer)
 work_of (task.EndQuantifier q) = ending_quantifier q.now.span q.now.min q.now.max q.now.greedy

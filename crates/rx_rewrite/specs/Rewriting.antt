@@ -16,11 +16,12 @@ use Rattle.rx_ast.specs.declared.class.CharacterClassContentsKind.TheVariants as
 use Rattle.rx_ast.specs.ClassTree.{Class, Members, no_member, member}
 use Rattle.rx_ast.specs.ClassTree as in_class
 use Rattle.rx_ast.specs.Tree as tree
-use Rattle.rx_ast.specs.Tree.{Leaf, Opener, Node, Nodes, Alternatives, Whole, leaf, quantified, group, no_node, node, no_alternative, alternative, capturing, ignoring, looking}
+use Rattle.rx_ast.specs.Tree.{Leaf, Node, Nodes, Alternatives, Whole, leaf, quantified, group, no_node, node, no_alternative, alternative, capturing, ignoring, looking}
 use Rattle.rx_trace.specs.declared.answer.MatchFlags.{MatchFlags}
 use Rattle.rx_trace.specs.Answers.{settings}
 use Rattle.rx_trace.specs.Groups.{Names, is_named, names_in_each}
-use Rattle.rx_trace.specs.Matching.{Settings, changed}
+use Rattle.rx_trace.specs.declared.settings.Settings.{Settings}
+use Rattle.rx_trace.specs.Matching.{changed}
 use Rattle.rx_rewrite.specs.declared.rewrites.Rewrites.{Rewrites}
 
 -- In all of this a made node, with all in it, has the span of what it replaces.

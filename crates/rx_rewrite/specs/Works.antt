@@ -4,7 +4,7 @@ use Rattle.rx_base.specs.declared.span.Span.{Span}
 use Rattle.rx_ast.specs.Tree as tree
 use Rattle.rx_ast.specs.Tree.{Opener, Node, Nodes, Alternatives, SpannedNodes, leaf, quantified, group, no_node, node, no_alternative, alternative}
 use Rattle.rx_trace.specs.Groups.{Names}
-use Rattle.rx_trace.specs.Matching.{Settings}
+use Rattle.rx_trace.specs.declared.settings.Settings.{Settings}
 use Rattle.rx_rewrite.specs.declared.rewrites.Rewrites.{Rewrites}
 use Rattle.rx_rewrite.specs.Rewriting.{node_rewritten, nodes_rewritten, alternatives_rewritten}
 

@@ -1,4 +1,4 @@
-ghost use Rattle.std.specs.Prelude.{◌≡◌, ◌∷◌, [], ◌++◌, IfOk, OnOk, map};
+ghost use Rattle.std.specs.Prelude.{◌≡◌, IfOk, OnOk, map};
 ghost use Rattle.rx_ast.specs.ClassTree.{class as class_of, members, mirror_class, mirror_contents, nested};
 ghost use Rattle.rx_rewrite.specs.ClassWorks.{Copies, class_work, contents as contents_work, ending, one, with_class_task};
 

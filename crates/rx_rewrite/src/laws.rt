@@ -64,6 +64,7 @@ pub fn refusals_stay()
 {}
 
 /// The rewritten pattern has the groups of the pattern (CountLeftCapturingParensWithin of ECMA-262, 22.2.1.2). Where names are rewritten none has a name; else each has its own.
+#[tactic(auto, using(crate::proofs::SameOutcomes::its_groups, crate::proofs::SameOutcomes::no_names, crate::proofs::SameOutcomes::all_names))]
 pub fn groups_stay()
     ensures count { (what : Rewrites) (flags : MatchFlags) (tree : Whole) → groups_in_each (rewritten what flags tree).1.1 ≡ groups_in_each tree.1.1 }
     ensures nameless { (what : Rewrites) (flags : MatchFlags) (tree : Whole) → what.named_capture_groups ≡ true →

@@ -1,12 +1,11 @@
-ghost use Rattle.std.specs.Prelude.{◌≡◌, IfOk, MatchOption, None, map};
+ghost use Rattle.std.specs.Prelude.{◌≡◌, IfOk, map};
 ghost use Rattle.rx_ast.specs.MirrorKinds.{mirror_kind};
 ghost use Rattle.rx_ast.specs.Tree.{mirror};
-ghost use Rattle.rx_trace.specs.Supported.{unsupported_modifiers};
 ghost use Rattle.rx_rewrite.specs.Left.{first_left as first_left_of, left_at as left_at_node, left_in};
 
-use crate::settings::has_bit;
-use rx_ast::{Modifier, Modifiers, Pattern, RegExpAstKind};
+use rx_ast::{Pattern, RegExpAstKind};
 use rx_base::{OutOfMemory, Span};
+use rx_trace::unsupported_modifiers;
 use rx_visit::nodes_in_order;
 use std::alloc::Global;
 
@@ -35,20 +34,7 @@ fn left_at(node: RegExpAstKind<'_>) -> Option<Span>
     ensures { result ≡ left_at_node (mirror_kind node.entry) }
 {
     match node {
-        RegExpAstKind::IgnoreGroup(group) => left_of(&group.modifiers),
+        RegExpAstKind::IgnoreGroup(group) => unsupported_modifiers(&group.modifiers),
         _ => None,
-    }
-}
-
-fn left_of(modifiers: &Option<Modifiers>) -> Option<Span>
-    ensures { MatchOption modifiers.now (result ≡ None) (λ m. result ≡ unsupported_modifiers m) }
-{
-    match modifiers {
-        None => None,
-        Some(it) => {
-            let on = has_bit(it.enabling, Modifier::I);
-            let off = has_bit(it.disabling, Modifier::I);
-            if on || off { Some(it.span) } else { None }
-        }
     }
 }

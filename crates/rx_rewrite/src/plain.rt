@@ -1,4 +1,4 @@
-ghost use Rattle.std.specs.Prelude.{◌≡◌, ◌∷◌, [], IfOk, OnOk, map};
+ghost use Rattle.std.specs.Prelude.{◌≡◌, ◌∷◌, [], IfOk, map};
 ghost use Rattle.rx_ast.specs.ClassTree.{mirror_class, mirror_contents, character, members};
 ghost use Rattle.rx_ast.specs.Tree.{class, leaf, mirror_term};
 ghost use Rattle.rx_rewrite.specs.Rewriting.{any_unit as any_unit_of, look_for as look_for_in, no_line_terminator as no_line_terminator_of, not_in_class as not_in_class_of};

@@ -1,8 +1,8 @@
-ghost use Rattle.std.specs.Prelude.{◌≡◌, ◌≢◌, ◌∷◌, ◌<◌, [], IfOk, OnOk, ℕ, length, map};
-ghost use Rattle.rx_ast.specs.Tree.{alternatives as alternatives_of, boundary, class, dot, leaf, mirror_alternative, mirror_capturing, mirror_disjunction, mirror_ignore, mirror_look, mirror_quantifier, mirror_term, named, nodes};
+ghost use Rattle.std.specs.Prelude.{◌≡◌, ◌∷◌, ◌<◌, IfOk, OnOk, length, map};
+ghost use Rattle.rx_ast.specs.Tree.{alternatives as alternatives_of, boundary, class, dot, leaf, mirror_alternative, mirror_capturing, mirror_disjunction, mirror_ignore, mirror_look, mirror_quantifier, mirror_term, nodes};
 ghost use Rattle.rx_ast.specs.ClassTree.{mirror_class};
 ghost use Rattle.rx_trace.specs.Groups.{Names};
-ghost use Rattle.rx_rewrite.specs.Built.{IsNumbered, IsReady, AddsTerm, Performs, opener_of, settings_of, with_task, work_of, works};
+ghost use Rattle.rx_rewrite.specs.Built.{IsNumbered, IsReady, AddsTerm, Performs, opener_of, with_task, work_of, works};
 ghost use Rattle.rx_rewrite.specs.Rewriting.{alternatives_rewritten, boundary_rewritten, dot_rewritten, end_rewritten, modifiers_rewritten, name_rewritten, reference_rewritten};
 ghost use Rattle.rx_rewrite.specs.Works.{alternatives as alternatives_work, ending_alternative, ending_group, ending_quantifier, opening, term as term_work, terms as terms_work};
 
@@ -11,15 +11,14 @@ use crate::numbers::GroupNumbers;
 use crate::opener::{Opener, copy_text};
 use crate::plain::{any_unit, class_term, look_for, no_line_terminator};
 use crate::rewrites::Rewrites;
-use crate::settings::{
-    Reading, Replacement, changed, modifiers_copied, modifiers_kept, replacement_for,
-};
+use crate::settings::{Reading, Replacement, modifiers_copied, modifiers_kept, replacement_for};
 use rx_ast::{
     Alternative, BoundaryAssertion, BoundaryAssertionKind, CapturingGroup, CharacterClass,
     Disjunction, Dot, IgnoreGroup, IndexedReference, LookAroundAssertion, LookAroundAssertionKind,
     Modifiers, NamedReference, Quantifier, Term,
 };
 use rx_base::{List, OutOfMemory, Span, Text};
+use rx_trace::settings_after;
 use std::alloc::Global;
 
 /// What is still to be rewritten.
@@ -74,7 +73,7 @@ pub fn rewrite_disjunction(
     body: &Disjunction,
 ) -> Result<Disjunction, OutOfMemory>
     requires { (names : Names) × IsNumbered what names numbers.now }
-    ensures { (names : Names) → IsNumbered what names numbers.now → IfOk result (λ it. mirror_disjunction it ≡ ((mirror_disjunction body.now).0, alternatives_rewritten what names (settings_of reading.old) (settings_of reading.new) (mirror_disjunction body.now).1)) }
+    ensures { (names : Names) → IsNumbered what names numbers.now → IfOk result (λ it. mirror_disjunction it ≡ ((mirror_disjunction body.now).0, alternatives_rewritten what names reading.old reading.new (mirror_disjunction body.now).1)) }
 {
     let alternatives = body.body.as_slice();
     let mut rewriter = Rewriter {
@@ -128,7 +127,7 @@ impl<'a> Rewriter<'a> {
         reading: Reading,
         alternatives: &'a [Alternative],
     ) -> Result<(), OutOfMemory>
-        ensures { OnOk result (Performs self.old (alternatives_work (settings_of reading.old) (settings_of reading.new) (alternatives_of (map mirror_alternative alternatives.now))) self.new) }
+        ensures { OnOk result (Performs self.old (alternatives_work reading.old reading.new (alternatives_of (map mirror_alternative alternatives.now))) self.new) }
     {
         let Some((first, alternatives)) = alternatives.split_first() else {
             return Ok(());
@@ -153,7 +152,7 @@ impl<'a> Rewriter<'a> {
     }
 
     fn terms(&mut self, reading: Reading, terms: &'a [Term]) -> Result<(), OutOfMemory>
-        ensures { OnOk result (Performs self.old (terms_work (settings_of reading.old) (settings_of reading.new) (nodes (map mirror_term terms.now))) self.new) }
+        ensures { OnOk result (Performs self.old (terms_work reading.old reading.new (nodes (map mirror_term terms.now))) self.new) }
     {
         let Some((term, terms)) = terms.split_first() else {
             return Ok(());
@@ -163,7 +162,7 @@ impl<'a> Rewriter<'a> {
     }
 
     fn term(&mut self, reading: Reading, term: &'a Term) -> Result<(), OutOfMemory>
-        ensures { OnOk result (Performs self.old (term_work (settings_of reading.old) (settings_of reading.new) (mirror_term term.now)) self.new) }
+        ensures { OnOk result (Performs self.old (term_work reading.old reading.new (mirror_term term.now)) self.new) }
     {
         match term {
             Term::LookAroundAssertion(it) => self.look_around(reading, it),
@@ -217,19 +216,19 @@ impl<'a> Rewriter<'a> {
 /// Groups and quantifiers.
 impl<'a> Rewriter<'a> {
     fn capturing(&mut self, reading: Reading, it: &'a CapturingGroup) -> Result<(), OutOfMemory>
-        ensures { OnOk result (Performs self.old (term_work (settings_of reading.old) (settings_of reading.new) (mirror_capturing it.now)) self.new) }
+        ensures { OnOk result (Performs self.old (term_work reading.old reading.new (mirror_capturing it.now)) self.new) }
     {
         let name = self.name(&it.name)?;
         self.open_group(reading, it.span, Opener::Capturing(name), &it.body)
     }
 
     fn ignoring(&mut self, reading: Reading, it: &'a IgnoreGroup) -> Result<(), OutOfMemory>
-        ensures { OnOk result (Performs self.old (term_work (settings_of reading.old) (settings_of reading.new) (mirror_ignore it.now)) self.new) }
+        ensures { OnOk result (Performs self.old (term_work reading.old reading.new (mirror_ignore it.now)) self.new) }
     {
         let modifiers = self.modifiers(&it.modifiers);
         let inside = Reading {
-            old: changed(&it.modifiers, reading.old),
-            new: changed(&modifiers, reading.new),
+            old: settings_after(&it.modifiers, reading.old),
+            new: settings_after(&modifiers, reading.new),
         };
         self.open_group(inside, it.span, Opener::Ignoring(modifiers), &it.body)
     }
@@ -239,7 +238,7 @@ impl<'a> Rewriter<'a> {
         reading: Reading,
         it: &'a LookAroundAssertion,
     ) -> Result<(), OutOfMemory>
-        ensures { OnOk result (Performs self.old (term_work (settings_of reading.old) (settings_of reading.new) (mirror_look it.now)) self.new) }
+        ensures { OnOk result (Performs self.old (term_work reading.old reading.new (mirror_look it.now)) self.new) }
     {
         self.open_group(reading, it.span, Opener::LookAround(it.kind), &it.body)
     }
@@ -251,7 +250,7 @@ impl<'a> Rewriter<'a> {
         opener: Opener,
         body: &'a Disjunction,
     ) -> Result<(), OutOfMemory>
-        ensures { OnOk result (Performs self.old (opening (settings_of reading.old) (settings_of reading.new) span (opener_of opener) (mirror_disjunction body.now).0 (mirror_disjunction body.now).1) self.new) }
+        ensures { OnOk result (Performs self.old (opening reading.old reading.new span (opener_of opener) (mirror_disjunction body.now).0 (mirror_disjunction body.now).1) self.new) }
     {
         let alternatives = body.body.as_slice();
         let inner = List::with_capacity(self.alloc, alternatives.len())?;
@@ -287,7 +286,7 @@ impl<'a> Rewriter<'a> {
     }
 
     fn quantifier(&mut self, reading: Reading, it: &'a Quantifier) -> Result<(), OutOfMemory>
-        ensures { OnOk result (Performs self.old (term_work (settings_of reading.old) (settings_of reading.new) (mirror_quantifier it.now)) self.new) }
+        ensures { OnOk result (Performs self.old (term_work reading.old reading.new (mirror_quantifier it.now)) self.new) }
     {
         self.push_task(Task::EndQuantifier(it))?;
         self.push_task(Task::Term {

@@ -3,7 +3,6 @@ ghost use Rattle.rx_ast.specs.Tree.{mirror};
 ghost use Rattle.rx_model.specs.Trees.Early.{IsEarly, most_groups};
 ghost use Rattle.rx_model.specs.Trees.Names.{groups};
 ghost use Rattle.rx_trace.specs.Answers.{settings};
-ghost use Rattle.rx_rewrite.specs.Built.{settings_of};
 ghost use Rattle.rx_rewrite.specs.Rewriting.{flags_rewritten};
 ghost use Rattle.rx_rewrite.specs.Numbered.{IsNumberingOf};
 ghost use Rattle.rx_rewrite.specs.Answers.{IsRewritten, rules_of};
@@ -13,9 +12,9 @@ use crate::fault::RewriteFault;
 use crate::numbers::GroupNumbers;
 use crate::rewriter::rewrite_disjunction;
 use crate::rewrites::Rewrites;
-use crate::settings::{Reading, Setting};
+use crate::settings::Reading;
 use rx_ast::Pattern;
-use rx_trace::MatchFlags;
+use rx_trace::{MatchFlags, Settings, settings_at_start};
 use rx_visit::nodes_in_order;
 use std::alloc::Global;
 
@@ -38,8 +37,8 @@ pub fn rewrite(
 {
     let numbers = numbers_for(alloc, pattern, what)?;
     let reading = Reading {
-        old: settings_before(flags),
-        new: settings_after(flags, what),
+        old: settings_at_start(flags),
+        new: settings_left(flags, what),
     };
     let body = rewrite_disjunction(alloc, what, &numbers, reading, &pattern.body)?;
     Ok(Pattern {
@@ -64,21 +63,11 @@ fn numbers_for(
     GroupNumbers::of(alloc, nodes.as_slice())
 }
 
-/// The settings that a pattern begins with.
-fn settings_before(flags: MatchFlags) -> Setting
-    ensures { settings_of result ≡ settings flags }
+/// The settings that a pattern begins with when it is rewritten.
+fn settings_left(flags: MatchFlags, what: Rewrites) -> Settings
+    ensures { result ≡ settings (flags_rewritten what flags) }
 {
-    Setting {
-        multiline: flags.multiline,
-        dot_all: flags.dot_all,
-    }
-}
-
-/// The settings that it begins with when it is rewritten.
-fn settings_after(flags: MatchFlags, what: Rewrites) -> Setting
-    ensures { settings_of result ≡ settings (flags_rewritten what flags) }
-{
-    Setting {
+    Settings {
         multiline: flags.multiline && !what.multiline,
         dot_all: flags.dot_all && !what.dot_all,
     }

@@ -1,5 +1,5 @@
 -- The replies to what the rewriter answers.
-use Rattle.std.proofs.Common.{◌≡◌, refl, subst, ℕ, List, ◌++◌, Option, Some, None, Result}
+use Rattle.std.proofs.Common.{◌≡◌, subst, ℕ, List, ◌++◌, None, Result}
 use Rattle.rx_ast.specs.declared.term.Pattern.{Pattern}
 use Rattle.rx_ast.specs.Tree.{Whole}
 use Rattle.rx_model.specs.declared.mode.Mode.{Mode}
@@ -7,13 +7,11 @@ use Rattle.rx_rewrite.specs.declared.fault.RewriteFault.{RewriteFault}
 use Rattle.rx_rewrite.specs.declared.rewrites.Rewrites.{Rewrites}
 use Rattle.rx_rewrite.specs.Answers.{IsRewritten}
 use Rattle.rx_rewrite.specs.declared.wanted.Wanted.{Wanted}
-use Rattle.rx_rewrite_reply.specs.Replies.{IsAdded, IsRewriteReply, answered, answer_reply, match_flags, refused_by}
+use Rattle.rx_reply.specs.Added.{IsAdded}
+use Rattle.rx_reply.proofs.Added.{added_reply}
+use Rattle.rx_rewrite_reply.specs.Replies.{IsRewriteReply, answered, answer_reply, match_flags, refused_by}
 use Rattle.rx_rewrite.specs.Wanted.{rewrites_of}
 use Rattle.rx_trace.specs.declared.answer.MatchFlags.{MatchFlags}
-
-added_reply : (o : Option (List ℕ)) (old new : List ℕ) → IsAdded o old new → (reply : List ℕ) × (o ≡ Some reply) × (new ≡ old ++ reply)
-added_reply None old new added = absurd added
-added_reply (Some reply) old new added = (reply, refl, added)
 
 pub rewrite_replied : (wanted : Wanted) (letters : List ℕ) (mode : Mode) (tree : Whole) (what : Rewrites) (flags : MatchFlags) (old new : List ℕ) → what ≡ rewrites_of wanted → flags ≡ match_flags letters mode → refused_by wanted tree ≡ None
     → (answer : Result Pattern RewriteFault) → IsRewritten what flags tree answer → IsAdded (answer_reply (rewrites_of wanted) letters mode answer) old new → (reply : List ℕ) × IsRewriteReply wanted letters mode tree reply × (new ≡ old ++ reply)

@@ -59,8 +59,3 @@ pub data IsRewriteReply (wanted : Wanted) (letters : List ℕ) (mode : Mode) (tr
   unsupported : (span : Span) → refused_by wanted tree ≡ Some span → IsRewriteReply wanted letters mode tree (unsupported_reply span)
   answered : (answer : Result Pattern RewriteFault) (reply : List ℕ) → refused_by wanted tree ≡ None → IsRewritten (rewrites_of wanted) (match_flags letters mode) tree answer
       → answer_reply (rewrites_of wanted) letters mode answer ≡ Some reply → IsRewriteReply wanted letters mode tree reply
-
--- Of this reply, where there is one, all was added.
-abbrev pub IsAdded : Option (List ℕ) → List ℕ → List ℕ → Type 0
-IsAdded None old new = ⊥
-IsAdded (Some reply) old new = new ≡ old ++ reply

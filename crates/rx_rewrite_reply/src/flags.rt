@@ -1,5 +1,4 @@
 ghost use Rattle.std.specs.Prelude.{◌≡◌, ◌++◌, OnOk};
-ghost use Rattle.rx_base.specs.Flags.{holds};
 ghost use Rattle.rx_model.specs.Inputs.Environment.{is_unicode};
 ghost use Rattle.rx_rewrite_reply.specs.Replies.{flags_among, flags_left, match_flags, stays};
 

@@ -5,7 +5,8 @@ ghost use Rattle.rx_model.specs.Inputs.Environment.{is_unicode};
 ghost use Rattle.rx_model.specs.Trees.Early.{IsEarly};
 ghost use Rattle.rx_rewrite.specs.Answers.{rules_of};
 ghost use Rattle.rx_rewrite.specs.Wanted.{rewrites_of};
-ghost use Rattle.rx_rewrite_reply.specs.Replies.{IsAdded, IsRewriteReply, answer_reply, pattern_reply, refused_by};
+ghost use Rattle.rx_reply.specs.Added.{IsAdded};
+ghost use Rattle.rx_rewrite_reply.specs.Replies.{IsRewriteReply, answer_reply, pattern_reply, refused_by};
 
 use crate::flags::{add_flags, match_flags};
 use rx_ast::Pattern;

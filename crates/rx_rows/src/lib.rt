@@ -6,7 +6,7 @@ mod notation;
 ghost use Rattle.std.specs.Prelude.{◌≡◌, ◌≤◌, IfOk, length};
 
 pub use notation::text_of;
-use rx_base::Diagnostic;
+use rx_base::{Diagnostic, List, OutOfMemory};
 use std::alloc::Global;
 use std::test::Fail;
 
@@ -34,6 +34,21 @@ fn agrees<C: Call>(alloc: Global, call: &C, row: &str) -> Result<(), Fail> {
         return Ok(());
     }
     Err(Fail::new(format_args!("{row}, but the answer is {answer}")))
+}
+
+/// What is made for each sign of a text, one after the other.
+pub fn each_sign<T: Drop, F: Fn(char) -> Result<T, OutOfMemory>>(
+    alloc: Global,
+    signs: &str,
+    make: F,
+) -> Result<List<T>, OutOfMemory>
+    requires { F.IsAlwaysCallable make }
+{
+    let mut made = List::new(alloc);
+    for sign in signs.chars() {
+        made.push(make(sign)?)?;
+    }
+    Ok(made)
 }
 
 /// The text, where it is short.

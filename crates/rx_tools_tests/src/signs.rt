@@ -9,7 +9,7 @@ use rx_ast::{
     LookAroundAssertionKind, Term,
 };
 use rx_base::{List, OutOfMemory, Text};
-use rx_rows::Call;
+use rx_rows::{Call, each_sign};
 use rx_tools::Mode;
 use std::alloc::Global;
 use std::test::Fail;
@@ -41,20 +41,11 @@ impl Call for DisplayCall {
 pub fn alternatives_of(alloc: Global, asked: &str) -> Result<List<Alternative>, OutOfMemory> {
     let mut alternatives = List::new(alloc);
     for signs in asked.split('|') {
-        let body = terms_of(alloc, signs)?;
+        let body = each_sign(alloc, signs, |sign| term_of(alloc, sign))?;
         let span = nowhere();
         alternatives.push(Alternative { span, body })?;
     }
     Ok(alternatives)
-}
-
-/// One term for each sign.
-fn terms_of(alloc: Global, signs: &str) -> Result<List<Term>, OutOfMemory> {
-    let mut terms = List::new(alloc);
-    for sign in signs.chars() {
-        terms.push(term_of(alloc, sign)?)?;
-    }
-    Ok(terms)
 }
 
 fn term_of(alloc: Global, sign: char) -> Result<Term, OutOfMemory> {

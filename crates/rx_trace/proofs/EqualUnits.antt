@@ -1,10 +1,9 @@
 -- Units that are equal.
-use Rattle.std.proofs.Common.{◌≡◌, refl, ap, sym, ◌∙◌, subst, ℕ, ◌+◌, ◌-◌, Bool, true, false, ◌==◌, ◌&&◌, if◌then◌else◌, Some, None, List, [], ◌∷◌, length, take, drop, arith}
+use Rattle.std.proofs.Common.{◌≡◌, refl, ap, sym, ◌∙◌, subst, ℕ, ◌-◌, Bool, true, false, ◌==◌, ◌&&◌, if◌then◌else◌, List, [], ◌∷◌}
 use lib.Pointwise.{pointwise}
 use Rattle.std.specs.Prelude.{nat_eq}
 use Rattle.std.proofs.lemmas.Bool.{eqb-true, eq-eqb, false≢true}
 use Rattle.rx_trace.specs.Groups.{same_units}
-use Rattle.rx_trace.specs.Matching.{place_over}
 
 pub pointwise_is : (a b : List ℕ) → pointwise nat_eq a b ≡ same_units a b
 pointwise_is [] [] = refl
@@ -15,11 +14,6 @@ pointwise_is (c ∷ cs) (d ∷ ds) = by_test (c == d) (pointwise_is cs ds)
     by_test : (b : Bool) → pointwise nat_eq cs ds ≡ same_units cs ds → (b && pointwise nat_eq cs ds) ≡ (if b then same_units cs ds else false)
     by_test true same = same
     by_test false same = refl
-
-pub over_ahead : (input text : List ℕ) (p : ℕ) (there : List ℕ) (b : Bool) → there ≡ take (p + length text - p) (drop p input) → b ≡ same_units there text → (if b then Some (p + length text) else None) ≡ place_over input false text p
-over_ahead input text p there b is same =
-    let n : p + length text - p ≡ length text = omega arith in
-    ap (λ b. if b then Some (p + length text) else None) (same ∙ ap (λ t. same_units t text) (is ∙ ap (λ n. take n (drop p input)) n))
 
 same_refl : (a : List ℕ) → same_units a a ≡ true
 same_refl [] = refl

@@ -1,5 +1,5 @@
 -- Traces one after the other.
-use Rattle.std.proofs.Common.{◌≡◌, refl, ap, sym, ◌∙◌, subst, ℕ, zero, suc, ◌+◌, ◌-◌, ◌≤◌, ◌<◌, Bool, true, false, Option, Some, None, List, [], ◌∷◌, ◌++◌, length, arith}
+use Rattle.std.proofs.Common.{◌≡◌, refl, ap, sym, ◌∙◌, ℕ, zero, suc, ◌+◌, ◌-◌, ◌≤◌, ◌<◌, Some, None, [], ◌∷◌, ◌++◌, arith}
 use Rattle.rx_trace.specs.Traces.{State, Trace, tick, reached, cost, first}
 use Rattle.rx_trace.specs.Answers.{each_trace, place_of, begins_at}
 

@@ -6,11 +6,12 @@ use Rattle.rx_ast.specs.declared.leaf.CharacterClassEscapeKind.TheVariants.{D}
 use Rattle.rx_ast.specs.declared.leaf.LookAroundAssertionKind.TheVariants.{Lookbehind}
 use Rattle.rx_ast.specs.Forget.{nowhere}
 use Rattle.rx_ast.specs.Tree as tree
-use Rattle.rx_ast.specs.Tree.{Node, Nodes, Alternatives, leaf, quantified, group, no_node, node, no_alternative, alternative, capturing, ignoring, looking}
+use Rattle.rx_ast.specs.Tree.{Node, Alternatives, leaf, quantified, group, no_node, node, no_alternative, alternative, capturing, looking}
 use Rattle.rx_trace.specs.declared.answer.Slot.{Slot}
 use Rattle.rx_trace.specs.declared.answer.Slot.TheVariants.{Unset, Set}
 use Rattle.rx_trace.specs.Traces.{State, cost, first}
-use Rattle.rx_trace.specs.Matching.{Settings, alternatives_trace}
+use Rattle.rx_trace.specs.declared.settings.Settings.{Settings}
+use Rattle.rx_trace.specs.Matching.{alternatives_trace}
 
 abbrev plain : Settings
 plain = record { multiline = false; dot_all = false }

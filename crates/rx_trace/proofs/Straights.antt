@@ -9,7 +9,8 @@ use Rattle.rx_trace.specs.declared.answer.Slot.TheVariants.{Unset, Set}
 use Rattle.rx_trace.specs.Traces.{State, Trace, tick, reached, and_then, front, first, cost}
 use Rattle.rx_trace.specs.Holding.{boundary_holds}
 use Rattle.rx_trace.specs.Groups.{Names, groups_in, captured}
-use Rattle.rx_trace.specs.Matching.{Settings, changed, moved_to, if_holds, with_slots_of, where_none, look_around_trace, looks_back, over_unit, back_reference_trace, leaf_trace, node_trace, nodes_trace, alternatives_trace}
+use Rattle.rx_trace.specs.declared.settings.Settings.{Settings}
+use Rattle.rx_trace.specs.Matching.{changed, moved_to, if_holds, with_slots_of, where_none, look_around_trace, looks_back, over_unit, back_reference_trace, leaf_trace, node_trace, nodes_trace, alternatives_trace}
 use Rattle.std.proofs.Math.Nat.{suc-mul}
 use Rattle.rx_trace.specs.Answers.{each_trace}
 use Rattle.rx_trace.specs.Straight.{IsStraight, AreStraight, IsStraightDisjunction, terms_in, terms_in_all, terms_in_each}
@@ -53,6 +54,10 @@ short-more zero (suc k) (reached s ∷ t) more short = short
 short-more (suc n) zero (reached s ∷ t) more short = short
 short-more (suc n) (suc k) (reached s ∷ t) more short = short
 
+-- a state that is last, and what follows it
+short-last : (n k : ℕ) (s : State) (t : Trace) (f : State → Trace) → t ≡ [] → ((w : State) → IsShort k (f w)) → IsShort (n + k) (f s ++ and_then t f)
+short-last n k s t f is each = short-more k (n + k) (f s ++ and_then t f) (omega arith) (subst (IsShort k) (sym (ap (λ t. f s ++ and_then t f) is ∙ append-nil (f s))) (each s))
+
 -- one after the other
 short-then : (n k : ℕ) (t : Trace) (f : State → Trace) → IsShort n t → ((w : State) → IsShort k (f w)) → IsShort (n + k) (and_then t f)
 short-then n k [] f short each = tt
@@ -61,14 +66,8 @@ short-then (suc n) k (tick ∷ t) f short each = subst (λ m. IsShort m (tick �
   where
     sum : suc (n + k) ≡ suc n + k
     sum = omega arith
-short-then zero k (reached s ∷ t) f short each = last zero k s t f short each
-  where
-    last : (n k : ℕ) (s : State) (t : Trace) (f : State → Trace) → t ≡ [] → ((w : State) → IsShort k (f w)) → IsShort (n + k) (f s ++ and_then t f)
-    last n k s t f is each = short-more k (n + k) (f s ++ and_then t f) (omega arith) (subst (IsShort k) (sym (ap (λ t. f s ++ and_then t f) is ∙ append-nil (f s))) (each s))
-short-then (suc n) k (reached s ∷ t) f short each = last (suc n) k s t f short each
-  where
-    last : (n k : ℕ) (s : State) (t : Trace) (f : State → Trace) → t ≡ [] → ((w : State) → IsShort k (f w)) → IsShort (n + k) (f s ++ and_then t f)
-    last n k s t f is each = short-more k (n + k) (f s ++ and_then t f) (omega arith) (subst (IsShort k) (sym (ap (λ t. f s ++ and_then t f) is ∙ append-nil (f s))) (each s))
+short-then zero k (reached s ∷ t) f short each = short-last zero k s t f short each
+short-then (suc n) k (reached s ∷ t) f short each = short-last (suc n) k s t f short each
 
 one : (n : ℕ) (s : State) → IsShort n (reached s ∷ [])
 one zero s = refl

@@ -8,7 +8,8 @@ use Rattle.rx_trace.specs.declared.answer.MatchFault.TheVariants as fault
 use Rattle.rx_trace.specs.declared.answer.Slot.TheVariants.{Unset}
 use Rattle.rx_trace.specs.Traces.{State, Trace, cost, first}
 use Rattle.rx_trace.specs.Groups.{groups_in_each, names_in_each}
-use Rattle.rx_trace.specs.Matching.{Settings, alternatives_trace}
+use Rattle.rx_trace.specs.declared.settings.Settings.{Settings}
+use Rattle.rx_trace.specs.Matching.{alternatives_trace}
 use Rattle.rx_trace.specs.Supported.{unsupported_in}
 
 -- the settings that a pattern begins with

@@ -17,18 +17,14 @@ use Rattle.rx_ast.specs.declared.leaf.Modifiers.{Modifiers}
 use Rattle.rx_ast.specs.declared.leaf.LookAroundAssertionKind.{LookAroundAssertionKind}
 use Rattle.rx_ast.specs.declared.leaf.LookAroundAssertionKind.TheVariants as look_around
 use Rattle.rx_ast.specs.Tree as tree
-use Rattle.rx_ast.specs.Tree.{Leaf, Opener, Node, Nodes, Alternatives, leaf, quantified, group, no_node, node, no_alternative, alternative, capturing, ignoring, looking}
+use Rattle.rx_ast.specs.Tree.{Leaf, Node, Nodes, Alternatives, leaf, quantified, group, no_node, node, no_alternative, alternative, capturing, ignoring, looking}
 use Rattle.rx_trace.specs.declared.answer.Slot.{Slot}
 use Rattle.rx_trace.specs.declared.answer.Slot.TheVariants.{Unset, Set}
+pub use Rattle.rx_trace.specs.declared.settings.Settings.{Settings}
 use Rattle.rx_trace.specs.Traces.{State, Trace, tick, reached, and_then, front, first}
 use Rattle.rx_trace.specs.Holding.{is_line_terminator, escape_holds, class_holds, boundary_holds, ahead, preceding}
 use Rattle.rx_trace.specs.Repeats.{repeat_trace}
 use Rattle.rx_trace.specs.Groups.{Names, groups_in, groups_in_all, same_units, slot_of, slot_named, unset_in, captured}
-
--- the two settings that a group's modifiers change
-pub record Settings : Type 0 where
-  pub multiline : Bool
-  pub dot_all : Bool
 
 -- the setting after a modifier on either side
 abbrev pub switched : ℕ → ℕ → Bool → Bool

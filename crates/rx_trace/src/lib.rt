@@ -3,7 +3,9 @@
 
 mod answer;
 pub mod laws;
+mod settings;
 mod units;
 
 pub use answer::{Found, MatchFault, MatchFlags, Slot};
+pub use settings::{Settings, settings_after, settings_at_start, unsupported_modifiers};
 pub use units::units_of;

@@ -1,4 +1,4 @@
-use Rattle.std.proofs.Common.{ap, ◌∙◌, subst, List, length}
+use Rattle.std.proofs.Common.{ap, ◌∙◌, subst, List, false, length}
 use Rattle.rx_program.specs.declared.step.Step.{Step}
 use Rattle.rx_program.specs.Steps.{code_at}
 use Rattle.rx_ast.specs.Tree.{mirror, mirror_disjunction}
@@ -6,11 +6,11 @@ use Rattle.rx_trace.specs.Answers.{pattern_trace}
 use Rattle.rx_program.specs.ClassTests.{row_tests}
 use Rattle.rx_match.specs.Programs.{trace_of}
 use Rattle.rx_program.specs.Surveyed.{IsSurvey}
-use Rattle.rx_program.specs.declared.builder.Setting.{Setting}
-use Rattle.rx_program.specs.Built.{settings_of}
+use Rattle.rx_trace.specs.declared.settings.Settings.{Settings}
 use Rattle.rx_program.specs.Codes.{accept}
 use Rattle.rx_program.specs.Compiled.{each_code}
-use Rattle.rx_program.proofs.Surveying.{unsupported_is, names-length-each}
+use Rattle.rx_program.proofs.Surveying.{unsupported_is}
+use Rattle.rx_trace.proofs.GroupNames.{names-length-each}
 use Rattle.rx_match.proofs.Answering.{outcome_same, program_trace, outcome_answered}
 use Rattle.rx_match.proofs.searching.answer.Goals as goal
 
@@ -34,4 +34,4 @@ returns c =
     (outcome_same (trace_of c.args.attempts.input.now c.as_slice-steps.result.now c.in_ok-program.program.entry c.len.result) (pattern_trace c.args.flags (mirror c.args.pattern.now) c.args.attempts.input.now)
     (program_trace c.args.flags (mirror c.args.pattern.now) c.args.attempts.input.now c.in_ok-groups.groups c.as_slice-steps.result.now c.in_ok-program.program.entry c.len.result (c.in_ok-groups.ensures ∙ surveyed.1)
     c.len.ensures (ap (λ (steps : List Step). code_at steps c.in_ok-program.program.entry) c.as_slice-steps.ensures ∙ c.in_ok-program.ensures.code
-    ∙ ap (λ (s : Setting). each_code c.in_ok-groups.groups (mirror_disjunction c.args.pattern.now.body).1 (settings_of s) s.back 0 accept) c.forward.ensures)) _ c.args.attempts.start c.args.attempts.budget c.match_program.result c.match_program.ensures)
+    ∙ ap (λ (s : Settings). each_code c.in_ok-groups.groups (mirror_disjunction c.args.pattern.now.body).1 s false 0 accept) c.settings_at_start.ensures)) _ c.args.attempts.start c.args.attempts.budget c.match_program.result c.match_program.ensures)

@@ -1,4 +1,4 @@
-use Rattle.std.proofs.Common.{ap, sym, ◌∙◌, length, arith}
+use Rattle.std.proofs.Common.{ap, ◌∙◌, arith}
 use Rattle.std.specs.Str.{chars}
 use Rattle.std.proofs.lemmas.Result.{on_ok_weaker}
 use Rattle.rx_ast.specs.Tree.{mirror}

@@ -4,7 +4,6 @@ use Rattle.rx_ast.specs.Tree.{alternatives, mirror_alternative, mirror_disjuncti
 use Rattle.rx_ast.proofs.Equations.{disjunction_is, disjunction_roll}
 use Rattle.rx_rewrite.specs.declared.rewriter.Task.{Task}
 use Rattle.rx_rewrite.specs.declared.rewriter.Task.TheVariants as task
-use Rattle.rx_rewrite.specs.Built.{settings_of}
 use Rattle.rx_rewrite.specs.Rewriting.{alternatives_rewritten}
 use Rattle.rx_rewrite.proofs.Performing.{makes_first, ready_next, makes_on, fewer_on, makes_all}
 use Rattle.rx_rewrite.proofs.rewriter.rewrite_disjunction.Goals as goal
@@ -27,8 +26,8 @@ loop-task-smaller c = fewer_on c.loop-task.rewriter c.perform.new.self c.pop.new
 
 pub returns : goal.returns
 returns c = λ names numbered.
-    let old = settings_of c.args.reading.old in
-    let new = settings_of c.args.reading.new in
+    let old = c.args.reading.old in
+    let new = c.args.reading.new in
     let all = (mirror_disjunction c.args.body.now).1 in
     disjunction_roll _
     ∙ ap (λ more. ((out-Disjunction c.args.body.now).span, more)) (makes_all c.loop-task.rewriter c.args.what c.args.numbers.now old new all names c.in_default.ensures.0 numbered c.loop-task.invariant)

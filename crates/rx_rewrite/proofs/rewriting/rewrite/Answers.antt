@@ -2,7 +2,6 @@ use Rattle.std.proofs.Common.{ap, ◌∙◌}
 use Rattle.rx_ast.specs.Tree.{mirror, mirror_disjunction}
 use Rattle.rx_trace.specs.Answers.{settings}
 use Rattle.rx_trace.specs.Groups.{names_in_each}
-use Rattle.rx_rewrite.specs.Built.{settings_of}
 use Rattle.rx_rewrite.specs.Rewriting.{alternatives_rewritten}
 use Rattle.rx_rewrite.proofs.Promised.{promised}
 use Rattle.rx_rewrite.proofs.rewriting.rewrite.Goals as goal
@@ -18,8 +17,8 @@ returns-clause-rewritten c =
       c.in_ok-numbers.ensures.1,
       ap (λ x. (p.span, x))
           (c.in_ok-body.ensures names c.in_ok-numbers.ensures.0
-          ∙ ap (λ e. (d.0, alternatives_rewritten c.args.what names e (settings_of c.settings_after.result) d.1)) c.settings_before.ensures
-          ∙ ap (λ e. (d.0, alternatives_rewritten c.args.what names (settings c.args.flags) e d.1)) c.settings_after.ensures),
+          ∙ ap (λ e. (d.0, alternatives_rewritten c.args.what names e c.settings_left.result d.1)) c.settings_at_start.ensures
+          ∙ ap (λ e. (d.0, alternatives_rewritten c.args.what names (settings c.args.flags) e d.1)) c.settings_left.ensures),
     )
 
 pub returns-clause-promised : goal.returns-clause-promised

@@ -1,4 +1,4 @@
-use Rattle.std.proofs.Common.{◌<◌, ◌≤◌, false, arith}
+use Rattle.std.proofs.Common.{false, arith}
 use Rattle.std.specs.Prelude.{replicate}
 use Rattle.rx_trace.specs.declared.answer.Slot.TheVariants.{Unset}
 use Rattle.rx_trace.specs.Groups.{groups_in_each, names_in_each}

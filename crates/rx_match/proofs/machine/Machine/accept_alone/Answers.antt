@@ -19,8 +19,8 @@ returns-then-is_negative c =
     let top : top_in c.args.self.now.entries ≡ Some (backtrack.LookAround b.place b.kind b.next b.head b.frames b.back) = sym c.in_ok-it.ensures.top ∙ ap (option_map entry_of) c.in-Some.is in
     let some : IsSome c.in_ok-it.field-0 = subst IsSome (sym c.in-Some.is) refl in
     let lower : suc (c.args.self.now.depth - 1) ≡ c.args.self.now.depth = omega arith in
-    takes_refused c.args.self.now b.place b.kind b.next b.head b.frames b.back c.cut.new.entries (c.args.self.now.depth - 1) (run_of c.args.self.now accept) c.requires.sound top (c.in_ok-it.ensures.left some) lower
-    (sym c.is_negative.ensures ∙ c.if-is_negative.true) (alone c.args.self.now c.requires.alone)
+    takes_refused c.args.self.now b.place b.kind b.next b.head b.frames b.back c.cut.new.entries (c.args.self.now.depth - 1) c.requires.sound top (c.in_ok-it.ensures.left some) lower
+    (run_of c.args.self.now accept) (alone c.args.self.now c.requires.alone) (sym c.is_negative.ensures ∙ c.if-is_negative.true)
 
 pub return_to-requires : goal.return_to-requires
 return_to-requires c =
@@ -40,7 +40,7 @@ returns c =
     let left = c.in_ok-it.ensures.left some in
     subst (λ x. TakesMarks m (record x { step = b.next }) (run_of m accept) (remaining (record x { step = b.next }) action.Step)) (sym c.return_to.ensures)
     (cuts_frames m (record m { entries = c.cut.new.entries; back = b.back; depth = m.depth - 1; place = b.place; step = b.next; head = b.head }) (run_of m accept) action.Step b.frames (take b.frames m.frames)
-    (takes_granted m b.place b.kind b.next b.head b.frames b.back c.cut.new.entries (m.depth - 1) (run_of m accept) c.requires.sound top left lower (sym c.is_negative.ensures ∙ c.if-is_negative.false) (alone m c.requires.alone))
+    (takes_granted m b.place b.kind b.next b.head b.frames b.back c.cut.new.entries (m.depth - 1) c.requires.sound top left lower (run_of m accept) (alone m c.requires.alone) (sym c.is_negative.ensures ∙ c.if-is_negative.false))
     at.2 at.1 (subst (ArePlaced (length m.input.now) b.frames) (sym left) at.3) refl)
 
 pub unreachable-requires : goal.unreachable-requires

@@ -7,7 +7,7 @@ push_frame-requires c = sound_restored c.args.self.now c.unset_slots.new.entries
 
 pub returns : goal.returns
 returns c =
-    takes_begin c.args.self.now c.push_frame.new.self c.unset_slots.new.entries c.unset_slots.new.slots c.unset_slots.new.saved c.args.repeat c.args.it.turns c.args.it.body c.args.it.next c.args.min c.args.max c.requires.sound c.requires.step
+    takes_begin c.args.self.now c.push_frame.new.self c.unset_slots.new.entries c.unset_slots.new.slots c.unset_slots.new.saved c.args.it.repeat c.args.it.parts.turns c.args.it.parts.body c.args.it.parts.next c.args.it.min c.args.it.max c.requires.sound c.requires.step
     c.in_ok-unset_slots.ensures.restored c.in_ok-unset_slots.ensures.slots c.in_ok-push_frame.ensures
 
 pub unset_slots-requires : goal.unset_slots-requires

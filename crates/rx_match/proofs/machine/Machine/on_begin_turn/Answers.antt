@@ -7,8 +7,8 @@ returns-in_default c =
     let m = c.args.self.now in
     takes_no_begin m c.args.repeat c.args.min c.args.max c.requires (no_repeat_of m c.args.repeat c.requires (sym c.repetition_at.ensures ∙ c.in_default.is))
 
-pub begin_turn-requires-clause-step : goal.begin_turn-requires-clause-step
-begin_turn-requires-clause-step c = repeats_of c.args.self.now c.args.repeat c.in-Some.it c.requires (sym c.repetition_at.ensures ∙ c.in-Some.is)
+pub begin_turn-requires : goal.begin_turn-requires
+begin_turn-requires c = record { sound = c.requires; step = repeats_of c.args.self.now c.args.repeat c.in-Some.parts c.requires (sym c.repetition_at.ensures ∙ c.in-Some.is) }
 
-pub turn_over_unit-requires-clause-step : goal.turn_over_unit-requires-clause-step
-turn_over_unit-requires-clause-step c = repeats_of c.args.self.now c.args.repeat c.in-Some.it c.requires (sym c.repetition_at.ensures ∙ c.in-Some.is)
+pub turn_over_unit-requires-clause-stands : goal.turn_over_unit-requires-clause-stands
+turn_over_unit-requires-clause-stands c = record { sound = c.requires; step = repeats_of c.args.self.now c.args.repeat c.in-Some.parts c.requires (sym c.repetition_at.ensures ∙ c.in-Some.is) }

@@ -26,7 +26,7 @@ returns-else-min-eq0 c =
     let top : c.args.self.now.head ≡ suc (c.args.self.now.head - 1) = omega arith in
     let on : (c.in-EndTurn.min ≡ 0) → (c.args.self.now.place ≡ c.in-EndTurn.start) → ⊥ = elim c.else-min-eq0.branch [ else-min-eq0-via-then-min-eq0+else-self-start w ↦ λ none same. w.if-self-start.false same | else-min-eq0-via-else-min-eq0 w ↦ λ none same. w.if-min-eq0.false none ] in
     let less : c.saturating_sub.result ≡ c.in-EndTurn.min - 1 = search rules in
-    takes_again c.args.self.now (c.args.self.now.head - 1) c.args.frame c.in-EndTurn.min c.saturating_sub.result c.in-EndTurn.max c.one_less.result c.in-EndTurn.start c.in-EndTurn.repeat c.requires.sound top c.requires.is c.in-EndTurn.is on less c.one_less.ensures
+    takes_again c.args.self.now (c.args.self.now.head - 1) c.args.frame c.in-EndTurn.min c.in-EndTurn.max c.in-EndTurn.start c.in-EndTurn.repeat c.requires.sound top c.requires.is c.in-EndTurn.is c.saturating_sub.result c.one_less.result on less c.one_less.ensures
 
 pub set_slot-requires : goal.set_slot-requires
 set_slot-requires c = let m = c.args.self.now in (length m.input.now, length m.frames, c.requires.sound.placed)

@@ -19,14 +19,14 @@ returns c =
     let held = subst (λ most. AreHeld m.input.now (test_holds a.test) m.place most q) c.most_turns-most.ensures c.place_after_units-place.ensures in
     let order = held.order in
     let few = held.most_of in
-    let most = payable a.max m.budget in
+    let most = payable a.it.max m.budget in
     let some : k ≡ suc (k - 1) = omega arith in
     let at : q ≡ m.place + suc (k - 1) = omega arith in
-    let left : c.saturating_sub.result ≡ suc (k - 1) - a.min = c.saturating_sub.ensures ∙ ap (λ n. n - a.min) some in
-    let v : Machine = with_turns m q (suc (k - 1) - a.min) a.it.next in
-    let same : c.leave_turns.new.self ≡ v = c.in_ok-leave_turns.ensures ∙ ap (λ free. with_turns m q free a.it.next) left in
-    let kept = budget_with_turns m q (suc (k - 1) - a.min) a.it.next in
-    subst (λ x. TakesMarks m (record x { place = q; budget = x.budget - k }) (remaining m (action.Repeat a.repeat a.min a.max)) (remaining (record x { place = q; budget = x.budget - k }) (action.Repeat a.repeat c.saturating_sub-2.result c.less_by.result)))
+    let left : c.saturating_sub.result ≡ suc (k - 1) - a.it.min = c.saturating_sub.ensures ∙ ap (λ n. n - a.it.min) some in
+    let v : Machine = with_turns m q (suc (k - 1) - a.it.min) a.it.parts.next in
+    let same : c.leave_turns.new.self ≡ v = c.in_ok-leave_turns.ensures ∙ ap (λ free. with_turns m q free a.it.parts.next) left in
+    let kept = budget_with_turns m q (suc (k - 1) - a.it.min) a.it.parts.next in
+    subst (λ x. TakesMarks m (record x { place = q; budget = x.budget - k }) (remaining m (action.Repeat a.it.repeat a.it.min a.it.max)) (remaining (record x { place = q; budget = x.budget - k }) (action.Repeat a.it.repeat c.saturating_sub-2.result c.less_by.result)))
     (sym same)
-    (takes_turns m a.repeat a.it a.test a.min a.max c.requires.sound c.requires.step c.requires.units (k - 1) q c.saturating_sub-2.result (v.budget - k) c.less_by.result held at
-    (c.saturating_sub-2.ensures ∙ ap (λ n. a.min - n) some) (c.less_by.ensures ∙ ap (fewer a.max) some) (omega arith))
+    (takes_turns m a.it.repeat a.it.parts a.test a.it.min a.it.max c.requires.stands.sound c.requires.stands.step c.requires.units (k - 1) q c.saturating_sub-2.result (v.budget - k) c.less_by.result held at
+    (c.saturating_sub-2.ensures ∙ ap (λ n. a.it.min - n) some) (c.less_by.ensures ∙ ap (fewer a.it.max) some) (omega arith))

@@ -21,7 +21,7 @@ returns c =
     let t = task.Earlier c.args.setting c.in-Some.alternatives in
     let u = task.Terms c.args.setting c.as_slice-terms.result in
     on_ok_weaker c.push_task-2.result
-    (λ pushed. cuts_disjunction c.args.self.now next.new.self c.push_task-2.new.self c.args.setting c.args.alternatives.now c.in-Some.alternatives.now last c.as_slice-terms.result.now next.result t u c.in-Some.ensures.cases.0
+    (λ pushed. cuts_disjunction c.in-Some.alternatives.now last c.as_slice-terms.result.now c.args.self.now next.new.self c.push_task-2.new.self c.args.setting c.args.alternatives.now next.result t u c.in-Some.ensures.cases.0
     (ap (λ p. p.1) (alternative_is last) ∙ ap (λ b. nodes (map mirror_term b)) (sym c.as_slice-terms.ensures)) (λ n. refl) (λ n. refl) next.ensures.popped
     (pushed ∙ ap (λ y. with_task y u) (c.in_ok-push_task.ensures ∙ ap (λ y. with_task y t) (c.in_ok-push_code-2.ensures ∙ ap (λ y. with_code y next.result) c.in_ok-push_code.ensures))) c.requires.sound)
     c.push_task-2.ensures

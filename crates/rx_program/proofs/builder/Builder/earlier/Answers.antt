@@ -23,7 +23,7 @@ returns c =
     let t = task.Earlier c.args.setting c.in-Some.alternatives in
     let v = task.Terms c.args.setting c.as_slice-terms.result in
     on_ok_weaker c.push_task-3.result
-    (λ pushed. cuts_earlier c.args.self.now entry.new.self next.new.self c.push_task-3.new.self c.args.setting c.args.alternatives.now c.in-Some.alternatives.now last c.as_slice-terms.result.now entry.result next.result t task.Choose v c.in-Some.ensures.cases.0
+    (λ pushed. cuts_earlier c.in-Some.alternatives.now last c.as_slice-terms.result.now c.args.self.now entry.new.self next.new.self c.push_task-3.new.self c.args.setting c.args.alternatives.now entry.result next.result t task.Choose v c.in-Some.ensures.cases.0
     (ap (λ p. p.1) (alternative_is last) ∙ ap (λ b. nodes (map mirror_term b)) (sym c.as_slice-terms.ensures)) (λ n. refl) (λ n. refl) (λ n. refl) entry.ensures.popped next.ensures.popped
     (pushed ∙ ap (λ y. with_task y v) (c.in_ok-push_task-2.ensures ∙ ap (λ y. with_task y task.Choose) (c.in_ok-push_task.ensures ∙ ap (λ y. with_task y t)
     (c.in_ok-push_code-3.ensures ∙ ap (λ y. with_code y next.result) (c.in_ok-push_code-2.ensures ∙ ap (λ y. with_code y entry.result) c.in_ok-push_code.ensures))))) c.requires.sound)

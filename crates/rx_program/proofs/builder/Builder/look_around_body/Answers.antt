@@ -14,7 +14,7 @@ use Rattle.rx_program.proofs.builder.Builder.look_around_body.Goals as goal
 pub returns : goal.returns
 returns c =
     let it = out-LookAroundAssertion c.args.it.now in
-    let inside : Setting = record { multiline = c.args.setting.multiline; dot_all = c.args.setting.dot_all; back = c.looks_back.result } in
+    let inside : Setting = record { settings = c.args.setting.settings; back = c.looks_back.result } in
     let t = task.LookAround it.kind in
     let u = task.Disjunction inside c.as_slice-alternatives.result in
     on_ok_weaker c.push_task-2.result

@@ -13,7 +13,7 @@ use Rattle.rx_program.proofs.builder.Builder.term.Goals as goal
 pub returns-in-BoundaryAssertion : goal.returns-in-BoundaryAssertion
 returns-in-BoundaryAssertion c =
     on_ok_weaker c.assert.result
-    (leaf_done c.args.self.now c.assert.new.self c.args.setting (mirror_term c.args.term.now) (tree.boundary c.in-BoundaryAssertion.it) (code.assert c.in-BoundaryAssertion.it.kind c.args.setting.multiline) (ap mirror_term c.in-BoundaryAssertion.is ∙ boundary_is _) (λ next. refl) (λ before. refl) c.requires.sound) c.assert.ensures
+    (leaf_done c.args.self.now c.assert.new.self c.args.setting (mirror_term c.args.term.now) (tree.boundary c.in-BoundaryAssertion.it) (code.assert c.in-BoundaryAssertion.it.kind c.args.setting.settings.multiline) (ap mirror_term c.in-BoundaryAssertion.is ∙ boundary_is _) (λ next. refl) (λ before. refl) c.requires.sound) c.assert.ensures
 
 pub returns-in-Character : goal.returns-in-Character
 returns-in-Character c =
@@ -23,7 +23,7 @@ returns-in-Character c =
 pub returns-in-Dot : goal.returns-in-Dot
 returns-in-Dot c =
     on_ok_weaker c.consume-in-Dot.result
-    (leaf_done c.args.self.now c.consume-in-Dot.new.self c.args.setting (mirror_term c.args.term.now) (tree.dot c.in-Dot.field-0) (code.consume (λ u. c.args.setting.dot_all || not (is_line_terminator u))) (ap mirror_term c.in-Dot.is ∙ dot_is _) (λ next. refl) (λ before. refl) c.requires.sound) c.consume-in-Dot.ensures
+    (leaf_done c.args.self.now c.consume-in-Dot.new.self c.args.setting (mirror_term c.args.term.now) (tree.dot c.in-Dot.field-0) (code.consume (λ u. c.args.setting.settings.dot_all || not (is_line_terminator u))) (ap mirror_term c.in-Dot.is ∙ dot_is _) (λ next. refl) (λ before. refl) c.requires.sound) c.consume-in-Dot.ensures
 
 pub returns-in-CharacterClassEscape : goal.returns-in-CharacterClassEscape
 returns-in-CharacterClassEscape c =

@@ -6,13 +6,13 @@ use Rattle.rx_ast.specs.declared.term.CapturingGroup.{out-CapturingGroup}
 use Rattle.rx_ast.specs.declared.term.IgnoreGroup.{out-IgnoreGroup}
 use Rattle.rx_ast.specs.declared.term.LookAroundAssertion.{out-LookAroundAssertion}
 use Rattle.rx_ast.specs.Tree as tree
-use Rattle.rx_ast.specs.Tree.{leaf, alternatives, mirror_term, mirror_alternative, mirror_look, mirror_capturing, mirror_ignore, mirror_quantifier}
+use Rattle.rx_ast.specs.Tree.{leaf, alternatives, mirror_term, mirror_alternative, mirror_look, mirror_quantifier}
 use Rattle.rx_ast.proofs.Equations.{boundary_is, character_is, dot_is, escape_is, property_is, class_is, indexed_is, named_is, look_term_is, look_is, capturing_term_is, capturing_is, ignore_term_is, ignore_is, quantifier_term_is, quantifier_is, disjunction_is}
 use Rattle.rx_ast.proofs.ClassEquations as in_class
 use Rattle.rx_program.specs.declared.survey.Rest.TheVariants as rest
 use Rattle.rx_program.specs.declared.survey.Surveyor.{Surveyor}
 use Rattle.rx_trace.specs.Supported.{unsupported_modifiers}
-use Rattle.rx_program.specs.Surveyed.{unsupported_leaf, unsupported_node, unsupported_members, members_looks}
+use Rattle.rx_program.specs.Surveyed.{unsupported_node, unsupported_members, members_looks}
 use Rattle.rx_program.proofs.Looking.{looked_leaf, looked_in_leaf, looked_quantified, looked_looking, looked_capturing, looked_ignoring, looked_body, ignored_refused, none_refused, is_none}
 use Rattle.rx_program.proofs.survey.Surveyor.look_at_term.Goals as goal
 

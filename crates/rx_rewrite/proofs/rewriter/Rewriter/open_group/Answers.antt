@@ -5,7 +5,7 @@ use Rattle.rx_ast.specs.Tree.{alternatives, mirror_alternative, mirror_disjuncti
 use Rattle.rx_ast.proofs.Equations.{disjunction_is}
 use Rattle.rx_rewrite.specs.declared.rewriter.Task.TheVariants as task
 use Rattle.rx_rewrite.specs.Works as work
-use Rattle.rx_rewrite.specs.Built.{settings_of, opener_of, with_task}
+use Rattle.rx_rewrite.specs.Built.{opener_of, with_task}
 use Rattle.rx_rewrite.proofs.Cutting.{cuts_opening}
 use Rattle.rx_rewrite.proofs.rewriter.Rewriter.open_group.Goals as goal
 
@@ -13,8 +13,8 @@ pub returns : goal.returns
 returns c =
     let d = mirror_disjunction c.args.body.now in
     let it = out-Disjunction c.args.body.now in
-    let old = settings_of c.args.reading.old in
-    let new = settings_of c.args.reading.new in
+    let old = c.args.reading.old in
+    let new = c.args.reading.new in
     let outer = c.replace-outer.result in
     let inner = c.replace-outer.new.dest in
     let t = task.EndGroup c.args.span c.args.opener it.span outer in

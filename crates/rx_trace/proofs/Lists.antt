@@ -1,5 +1,5 @@
--- Lists, and the same with one more at the end.
-use Rattle.std.proofs.Common.{◌≡◌, ap, ◌∙◌, ℕ, suc, List, [], ◌∷◌, ◌++◌, length, reverse, arith, length-append}
+-- A list with one more at the end.
+use Rattle.std.proofs.Common.{◌≡◌, ap, ◌∙◌, suc, List, [], ◌∷◌, ◌++◌, length, reverse, arith, length-append}
 use Rattle.std.proofs.lemmas.List.{reverse-append}
 
 pub reverse-last : {A : Type 0} (before between : List A) (x : A) → before ≡ between ++ (x ∷ []) → reverse before ≡ x ∷ reverse between
