@@ -1,12 +1,12 @@
 -- How many units an escape takes, and which values it has.
-use Rattle.std.proofs.Common.{◌≡◌, ℕ, ◌+◌, ◌≤◌, Bool, true, false, All, List, [], ◌∷◌, ◌++◌, length, arith, sym, ap, ◌∙◌, refl, inl, inr, length-append}
+use Rattle.std.proofs.Common.{◌≡◌, ℕ, ◌+◌, ◌≤◌, Bool, true, false, All, List, [], ◌∷◌, ◌++◌, length, arith, sym, ap, ◌∙◌, inl, inr, length-append}
 use Rattle.std.proofs.lemmas.List.{length-map}
 use Rattle.std.proofs.lemmas.List.Elements.{All-map, All-same}
 use Rattle.rx_ast.specs.declared.leaf.CharacterKind.{CharacterKind}
 use Rattle.rx_units.specs.declared.code_point.CodePoint.{CodePoint}
 use Rattle.rx_units.specs.Units.{values}
 use Rattle.rx_model.specs.Inputs.Modes.{mode_by}
-use Rattle.rx_model.specs.Inputs.Environment.{Environment, is_unicode}
+use Rattle.rx_model.specs.Inputs.Environment.{Environment}
 use Rattle.rx_model.specs.Reading.Fronts.{any_escape_at, escape_at, escaped, no_unicode, too_many}
 use Rattle.rx_model.proofs.Characters.Decodings.{overflow_within}
 use Rattle.rx_model.proofs.Characters.Escapes.{escape_small, escape_spelled, spelled_small, too_many_decoded}
@@ -14,7 +14,6 @@ use Rattle.rx_model.proofs.Characters.LegacyEscapes.{any_refused, any_spelled, l
 use Rattle.rx_class.specs.Found.{IsWithin, seen_escape}
 use Rattle.rx_class.specs.declared.escape_found.EscapeFound.{EscapeFound}
 use Rattle.rx_class.specs.declared.escape_found.EscapeFound.TheVariants as found
-use Rattle.rx_class.specs.declared.legacy_escape.LegacyContext.{LegacyContext}
 use Rattle.rx_class.proofs.Modes.{unicode_by}
 
 -- n units are there as values
@@ -58,15 +57,8 @@ module _ (inside : Bool) (e : Environment) (us : List CodePoint) where
     )
   ]
 
-  any_read_within : (answer : EscapeFound) → seen_escape answer ≡ any_escape_at inside e (values us) → All (λ unit. unit.value ≤ 0x10FFFF) us → IsWithin (length us) answer
+  pub any_read_within : (answer : EscapeFound) → seen_escape answer ≡ any_escape_at inside e (values us) → All (λ unit. unit.value ≤ 0x10FFFF) us → IsWithin (length us) answer
   any_read_within (found.Character kind v n) read small = any_character_within kind v n small (sym read)
   any_read_within found.Nothing read small = tt
   any_read_within (found.TooMany n) read small = let r = any_refused inside e (values us) (too_many n) (sym read) (λ no. no) in too_many_within true us n r.1
   any_read_within found.Invalid read small = let r = any_refused inside e (values us) no_unicode (sym read) (λ no. no) in no_unicode_within true us r.1
-
-pub any_within : (us : List CodePoint) (unicode : Bool) (context : LegacyContext) (answer : EscapeFound)
-    → ((e : Environment) → is_unicode e.mode ≡ unicode → e.groups ≡ context.groups → e.named ≡ context.named → seen_escape answer ≡ any_escape_at context.inside e (values us))
-    → All (λ unit. unit.value ≤ 0x10FFFF) us → IsWithin (length us) answer
-any_within us unicode context answer read small =
-    let e = environment_by unicode context.groups context.named in
-    any_read_within context.inside e us answer (read e (unicode_by unicode) refl refl) small

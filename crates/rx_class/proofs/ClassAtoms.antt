@@ -23,7 +23,7 @@ use Rattle.rx_units.specs.Units.{values}
 use Rattle.rx_units.specs.Digits.{front_is, is_hex_digit}
 use Rattle.rx_model.specs.Refusals.ClassCauses.{escape_in_class as cause_of_escape, invalid_atom, property_in_class}
 use Rattle.rx_model.specs.Refusals.ClassPlaces.{IsAtomPlace}
-use Rattle.rx_model.specs.Classes.ClassRows.{SpellsAtom, SpellsClassCharacter, SpellsInClassAlone, stands_raw_in_class}
+use Rattle.rx_model.specs.Classes.ClassRows.{SpellsAtom, SpellsClassCharacter, SpellsInClassAlone}
 use Rattle.rx_model.specs.Classes.ClassRows as row
 use Rattle.rx_model.specs.Classes.ClassRuns.{atom_obeys}
 use Rattle.rx_model.specs.Classes.ClassTokens.{character}
@@ -44,7 +44,7 @@ use Rattle.rx_class.specs.ClassItems.{GivesAtom, StandsItem, IsOfText, alone_in_
 use Rattle.rx_class.specs.ClassItems as answer
 use Rattle.rx_class.specs.Found.{AnswersFound}
 use Rattle.rx_class.specs.Found as found
-use Rattle.rx_class.specs.PropertyAnswers.{BeginsNoProperty, GivesProperty}
+use Rattle.rx_class.specs.PropertyAnswers.{GivesProperty}
 use Rattle.rx_class.specs.PropertyAnswers as given_property
 use Rattle.rx_class.proofs.Keeping.{keeps_placed, stays_keeps}
 use Rattle.rx_class.proofs.PropertySpans.{cut_off, next_span}

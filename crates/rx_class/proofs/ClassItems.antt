@@ -4,7 +4,7 @@ use Rattle.std.specs.Prelude.{map}
 use Rattle.std.proofs.lemmas.Bool.{le-leb, or_parts}
 use Rattle.std.proofs.lemmas.List.{map-append}
 use Rattle.rx_ast.specs.declared.class.CharacterClassContents.{CharacterClassContents}
-use Rattle.rx_ast.specs.ClassTree.{Member, Members, no_member, member, members, mirror_contents}
+use Rattle.rx_ast.specs.ClassTree.{Member, Members, members, mirror_contents}
 use Rattle.rx_ast.specs.ClassTree as tree
 use Rattle.rx_units.specs.declared.code_point.CodePoint.{CodePoint}
 use Rattle.rx_model.specs.Classes.ClassRows.{Place, ClassRow, next_place, fresh}

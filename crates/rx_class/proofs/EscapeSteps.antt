@@ -15,16 +15,14 @@ use Rattle.rx_model.specs.Characters.EscapeFronts.{escaped, nothing, no_unicode,
 use Rattle.rx_model.specs.Characters.LegacyEscapes.{four_next, identity}
 use Rattle.rx_model.specs.Characters.UnicodeEscapes.{Decodes, SpellsUnicode, alone, braced, code_unit, pair}
 use Rattle.rx_model.specs.Inputs.Environment.{Environment}
-use Rattle.rx_model.specs.Inputs.Modes.{mode_by}
 use Rattle.rx_model.proofs.Characters.LegacyEscapes.{spelled_legacy}
 use Rattle.rx_class.specs.EscapeSteps.{few_looks, most_looks}
 use Rattle.rx_class.specs.Found.{seen_escape}
 use Rattle.rx_class.specs.declared.escape_found.EscapeFound.{EscapeFound}
 use Rattle.rx_class.specs.declared.escape_found.EscapeFound.TheVariants as found
-use Rattle.rx_class.specs.declared.legacy_escape.LegacyContext.{LegacyContext}
 
 -- A unicode escape takes four units at least.
-spelled_long : (u : Bool) (v : ℕ) (w rest : List ℕ) → SpellsUnicode u v w rest → 4 ≤ length w
+pub spelled_long : (u : Bool) (v : ℕ) (w rest : List ℕ) → SpellsUnicode u v w rest → 4 ≤ length w
 spelled_long _ _ _ _ (code_unit h) = omega arith
 spelled_long _ _ _ _ (alone h n) = omega arith
 spelled_long _ _ _ _ (pair h k l t) = omega arith
@@ -99,20 +97,18 @@ character_seen k v n (found.TooMany m) h = absurd (let no : ⊥ = cc h in no)
 character_seen k v n found.Invalid h = absurd (let no : ⊥ = cc h in no)
 
 -- Where no escape of every mode is found, the escapes with neither `u` nor `v` alone are looked at.
-pub record LooksOn (us : List CodePoint) (context : LegacyContext) (first answer : EscapeFound) (a b d more : ℕ) : Type 0 where
+pub record LooksOn (us : List CodePoint) (inside : Bool) (e : Environment) (first answer : EscapeFound) (a b d more : ℕ) : Type 0 where
   pub none : (first ≡ found.Nothing) ⊎ (first ≡ found.Invalid)
   pub first_read : seen_escape first ≡ escape_at false (values us)
   pub first_most : Rises a b 0 (most_looks false (length us) first)
   pub first_few : Rises a b 0 (few_looks (length us) first)
-  pub read : (e : Environment) → e.groups ≡ context.groups → e.named ≡ context.named → seen_escape answer ≡ legacy_at context.inside e (values us)
+  pub read : seen_escape answer ≡ legacy_at inside e (values us)
   pub rises : Rises b d 0 more
-  pub inside : context.inside ≡ true → more ≡ 0
+  pub none_inside : inside ≡ true → more ≡ 0
 
-module _ {us : List CodePoint} {context : LegacyContext} {first answer : EscapeFound} {a b d more : ℕ} (h : LooksOn us context first answer a b d more) where
+module _ {us : List CodePoint} {inside : Bool} {e : Environment} {first answer : EscapeFound} {a b d more : ℕ} (h : LooksOn us inside e first answer a b d more) where
   letter : first ≡ found.Invalid → answer ≡ found.Character kinds.Identifier 117 1
-  letter is =
-      let e : Environment = record { mode = mode_by false false; groups = context.groups; named = context.named; buffer_boundaries = true } in
-      character_seen kinds.Identifier 117 1 answer (h.read e refl refl ∙ stands_for_itself context.inside e (values us) (sym h.first_read ∙ ap seen_escape is))
+  letter is = character_seen kinds.Identifier 117 1 answer (h.read ∙ stands_for_itself inside e (values us) (sym h.first_read ∙ ap seen_escape is))
 
   pub most_on : Rises a d 0 (most_looks false (length us) answer + more)
   most_on = elim h.none [
@@ -120,9 +116,9 @@ module _ {us : List CodePoint} {context : LegacyContext} {first answer : EscapeF
     | inr is ↦ let most = rw is at h.first_most in rw (letter is) (omega (arith, most.0, h.rises.0), omega (arith, most.1, h.rises.1))
   ]
 
-  pub few_on : context.inside ≡ true → Rises a d 0 (few_looks (length us) answer)
+  pub few_on : inside ≡ true → Rises a d 0 (few_looks (length us) answer)
   few_on i =
-      let none = h.inside i in
+      let none = h.none_inside i in
       elim h.none [
         | inl is ↦ let few = rw is at h.first_few in (omega (arith, few.0, h.rises.0), omega (arith, few.1, h.rises.1, none))
         | inr is ↦ let most = rw is at h.first_most in rw (letter is) (omega (arith, most.0, h.rises.0), omega (arith, most.1, h.rises.1, none))

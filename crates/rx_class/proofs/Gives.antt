@@ -24,7 +24,7 @@ use Rattle.rx_model.proofs.Characters.LegacyEscapes.{IsCharacterOrNothing, any_i
 use Rattle.rx_model.proofs.Reading.Splits.{split_values}
 use Rattle.rx_model.proofs.Refusals.LegacyStops.{atom_after_backslash}
 use Rattle.rx_model.proofs.Refusals.OneEscape.{escape_is_first}
-use Rattle.rx_class.specs.EscapeAnswers.{BeginsNoEscape, GivesCharacter, IsAfterBackslash, SpellsCharacter, from_backslash, in_each_mode, in_legacy_mode, span_to}
+use Rattle.rx_class.specs.EscapeAnswers.{BeginsNoEscape, GivesCharacter, IsAfterBackslash, SpellsCharacter, from_backslash, in_each_mode, in_legacy_mode}
 use Rattle.rx_class.specs.EscapeAnswers as given
 use Rattle.rx_class.specs.Found.{AnswersFound, many_digits, no_escape_of_u, none, shared_escape_at, some}
 use Rattle.rx_class.specs.Keeping.{KeepsUnits}

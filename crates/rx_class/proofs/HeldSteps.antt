@@ -1,22 +1,24 @@
 -- What a bracket holds with one member or one operator more: its events, its members, and whether they may match strings.
-use Rattle.std.proofs.Common.{◌≡◌, refl, ap, sym, ◌∙◌, subst, Bool, true, Some, List, [], ◌∷◌, ◌++◌, append-nil}
+use Rattle.std.proofs.Common.{◌≡◌, refl, ap, sym, ◌∙◌, subst, Bool, true, Option, Some, List, [], ◌∷◌, ◌++◌, append-nil, inl, inr}
+use Rattle.std.specs.Prelude.{IfSome}
 use Rattle.std.proofs.Math.Bool.{or-false, and-true}
+use Rattle.rx_base.specs.declared.diagnostic.kinds.SetOperator.{SetOperator}
+use Rattle.rx_base.specs.declared.diagnostic.kinds.SetOperator.TheVariants.{Intersection, Subtraction}
 use Rattle.rx_ast.specs.ClassTree.{Member, Members, no_member, member, members}
 use Rattle.rx_ast.specs.ClassTree as tree
-use Rattle.rx_model.specs.Classes.ClassRuns.{Held, empty, single, several, meeting, met, lessening, lessened, is_whole, less_by, met_by, operand, ranged, with_strings}
+use Rattle.rx_model.specs.Classes.ClassBuilds.{kind_of}
+use Rattle.rx_model.specs.Classes.ClassRuns.{Held, empty, single, several, is_whole, operand, ranged, with_strings, joined, pending, with_operator}
 use Rattle.rx_model.specs.Classes.ClassShapes.{AreTwo, FitsKind, IsOperand}
-use Rattle.rx_model.specs.Classes.ClassTokens.{ClassEvents, ClassToken, token, meet, less, member_events, members_events, operator_events}
-use Rattle.rx_model.specs.Trees.Early.{all_strings, any_strings, first_strings, may_contain_strings, member_strings}
-use Rattle.rx_units.proofs.Choices.{Some-inj}
-use Rattle.rx_model.proofs.Classes.ClassWholes.{IsUnion}
-use Rattle.rx_class.specs.ClassBuilding.{last_operator, with_member}
-use Rattle.rx_class.specs.HeldMirror.{kind_of}
+use Rattle.rx_model.specs.Classes.ClassTokens.{ClassEvents, token, member_events, members_events, operator_events, operator}
+use Rattle.rx_model.specs.Trees.Early.{any_strings, may_contain_strings, member_strings}
+use Rattle.rx_class.specs.ClassBuilding.{end_events, last_operator, with_member}
 use Rattle.rx_class.specs.WellBuilt.{AreHeld, AreOne, AreSome}
 use Rattle.rx_class.proofs.MembersPushed.{pushed, operand_events, union_events, operands_pushed, two_pushed, any_pushed, all_pushed, first_pushed}
+use Rattle.rx_class.proofs.Operators.{operator_before, whole_end}
 
 -- what is in a bracket that holds this
 abbrev pub held_events : Held → Members → ClassEvents
-held_events held ms = members_events (operator_events (kind_of held)) ms ++ last_operator held
+held_events held ms = members_events (operator_events (kind_of held)) ms ++ end_events (last_operator held)
 
 abbrev pub held_strings : Held → Members → Bool
 held_strings held ms = may_contain_strings (kind_of held) ms
@@ -30,97 +32,59 @@ pub record Grows (old new : Held) (ms more : Members) (added : ClassEvents) (may
 abbrev pub GrowsByMember : Held → Held → List Member → Member → Type 0
 GrowsByMember old new ms m = Grows old new (members ms) (pushed ms m) (member_events m) (with_strings old (held_strings old (members ms)) (member_strings m))
 
-abbrev pub GrowsByOperator : Held → Held → Members → ClassToken → Type 0
-GrowsByOperator old new ms operator = Grows old new ms ms (token operator ∷ []) (held_strings old ms)
+abbrev pub GrowsByOperator : Held → Held → Members → SetOperator → Type 0
+GrowsByOperator old new ms o = Grows old new ms ms (token (operator o) ∷ []) (held_strings old ms)
 
--- An operand is no range.
-pub operand_member : (m : Member) (held : Held) → IsOperand m → with_member m held ≡ operand held
-operand_member (tree.range r) held is = absurd is
-operand_member (tree.escape it) held is = refl
-operand_member (tree.property p) held is = refl
-operand_member (tree.character c) held is = refl
-operand_member (tree.nested c) held is = refl
-operand_member (tree.strings d) held is = refl
+some_events : (between : ClassEvents) (ms : List Member) (m : Member) → AreSome (members ms) →
+    members_events between (pushed ms m) ++ [] ≡ (members_events between (members ms) ++ between) ++ member_events m
+some_events between [] m some = absurd some
+some_events between (n ∷ ms) m some = append-nil _ ∙ operand_events between n ms m
 
--- What a bracket held, and holds with a member more.
-data Follows (m : Member) : Held → Held → Type 0 where
-  first : IsOperand m → Follows m empty single
-  union : (old : Held) → IsUnion old → Follows m old several
-  intersection : IsOperand m → Follows m meeting met
-  subtraction : IsOperand m → Follows m lessening lessened
+-- more of a union
+union_grows : (old : Held) (ms : List Member) (m : Member) → held_events old (members ms) ≡ members_events [] (members ms) → with_strings old (held_strings old (members ms)) (member_strings m) ≡ any_strings (pushed ms m) →
+    GrowsByMember old several ms m
+union_grows old ms m events strings =
+    record { events = append-nil _ ∙ union_events ms m ∙ ap (λ es. es ++ member_events m) (sym events); held = tt; strings = sym strings }
 
-operand_follows : (old new : Held) (m : Member) → IsOperand m → operand old ≡ Some new → Follows m old new
-operand_follows empty new m is e = subst (Follows m empty) (Some-inj e) (first is)
-operand_follows single new m is e = subst (Follows m single) (Some-inj e) (union single tt)
-operand_follows several new m is e = subst (Follows m several) (Some-inj e) (union several tt)
-operand_follows meeting new m is e = subst (Follows m meeting) (Some-inj e) (intersection is)
-operand_follows met new m is e = cc
-operand_follows lessening new m is e = subst (Follows m lessening) (Some-inj e) (subtraction is)
-operand_follows lessened new m is e = cc
-
-range_follows : (old new : Held) (m : Member) → ranged old ≡ Some new → Follows m old new
-range_follows empty new m e = subst (Follows m empty) (Some-inj e) (union empty tt)
-range_follows single new m e = subst (Follows m single) (Some-inj e) (union single tt)
-range_follows several new m e = subst (Follows m several) (Some-inj e) (union several tt)
-range_follows meeting new m e = cc
-range_follows met new m e = cc
-range_follows lessening new m e = cc
-range_follows lessened new m e = cc
-
-follows : (old new : Held) (m : Member) → with_member m old ≡ Some new → Follows m old new
-follows old new (tree.range r) e = range_follows old new (tree.range r) e
-follows old new (tree.escape it) e = operand_follows old new (tree.escape it) tt e
-follows old new (tree.property p) e = operand_follows old new (tree.property p) tt e
-follows old new (tree.character c) e = operand_follows old new (tree.character c) tt e
-follows old new (tree.nested c) e = operand_follows old new (tree.nested c) tt e
-follows old new (tree.strings d) e = operand_follows old new (tree.strings d) tt e
-
-union_held : (held : Held) (ms : Members) → IsUnion held → held_events held ms ≡ members_events [] ms
-union_held empty ms u = append-nil (members_events [] ms)
-union_held single ms u = append-nil (members_events [] ms)
-union_held several ms u = append-nil (members_events [] ms)
-union_held meeting ms u = absurd u
-union_held met ms u = absurd u
-union_held lessening ms u = absurd u
-union_held lessened ms u = absurd u
-
-union_strings : (held : Held) (ms : List Member) (m : Member) → IsUnion held → AreHeld held (members ms) →
-    with_strings held (held_strings held (members ms)) (member_strings m) ≡ any_strings (pushed ms m)
-union_strings empty [] m u all = sym (or-false (member_strings m))
-union_strings empty (n ∷ ms) m u all = absurd all
-union_strings single ms m u all = sym (any_pushed ms m)
-union_strings several ms m u all = sym (any_pushed ms m)
-union_strings meeting ms m u all = absurd u
-union_strings met ms m u all = absurd u
-union_strings lessening ms m u all = absurd u
-union_strings lessened ms m u all = absurd u
-
-some_events : (operator : ClassEvents) (ms : List Member) (m : Member) → AreSome (members ms) →
-    members_events operator (pushed ms m) ++ [] ≡ (members_events operator (members ms) ++ operator) ++ member_events m
-some_events operator [] m some = absurd some
-some_events operator (n ∷ ms) m some = append-nil _ ∙ operand_events operator n ms m
-
-grows : (ms : List Member) (m : Member) {old new : Held} → Follows m old new → AreHeld old (members ms) → GrowsByMember old new ms m
-grows [] m (first is) all = record { events = append-nil _ ∙ append-nil _; held = (tt, (is, tt)); strings = or-false (member_strings m) }
-grows (n ∷ ms) m (first is) all = absurd all
-grows ms m (union old u) all = record {
-  events = append-nil _ ∙ union_events ms m ∙ ap (λ es. es ++ member_events m) (sym (union_held old (members ms) u));
-  held = tt;
-  strings = sym (union_strings old ms m u all);
-}
-grows ms m (intersection is) all = record {
-  events = some_events (token meet ∷ []) ms m all.0;
+-- an operand after an operator
+joins : (o : SetOperator) (ms : List Member) (m : Member) → IsOperand m → AreHeld (pending o) (members ms) → GrowsByMember (pending o) (joined o) ms m
+joins Intersection ms m is all = record {
+  events = some_events _ ms m all.0;
   held = (two_pushed ms m all.0, operands_pushed ms m all.1 is);
   strings = all_pushed ms m;
 }
-grows ms m (subtraction is) all = record {
-  events = some_events (token less ∷ []) ms m all.0;
+joins Subtraction ms m is all = record {
+  events = some_events _ ms m all.0;
   held = (two_pushed ms m all.0, operands_pushed ms m all.1 is);
   strings = first_pushed ms m all.0;
 }
 
+by_operand : (old : Held) (ms : List Member) (m : Member) → IsOperand m → AreHeld old (members ms) → IfSome (operand old) (λ new. GrowsByMember old new ms m)
+by_operand empty [] m is all = record { events = append-nil _ ∙ append-nil _; held = (tt, (is, tt)); strings = or-false (member_strings m) }
+by_operand empty (n ∷ ms) m is all = absurd all
+by_operand single ms m is all = union_grows single ms m (append-nil _) (sym (any_pushed ms m))
+by_operand several ms m is all = union_grows several ms m (append-nil _) (sym (any_pushed ms m))
+by_operand (pending o) ms m is all = joins o ms m is all
+by_operand (joined o) ms m is all = tt
+
+by_range : (old : Held) (ms : List Member) (m : Member) → AreHeld old (members ms) → IfSome (ranged old) (λ new. GrowsByMember old new ms m)
+by_range empty [] m all = union_grows empty [] m refl (sym (or-false (member_strings m)))
+by_range empty (n ∷ ms) m all = absurd all
+by_range single ms m all = union_grows single ms m (append-nil _) (sym (any_pushed ms m))
+by_range several ms m all = union_grows several ms m (append-nil _) (sym (any_pushed ms m))
+by_range (pending o) ms m all = tt
+by_range (joined o) ms m all = tt
+
+by_member : (old : Held) (ms : List Member) (m : Member) → AreHeld old (members ms) → IfSome (with_member m old) (λ new. GrowsByMember old new ms m)
+by_member old ms (tree.range r) all = by_range old ms (tree.range r) all
+by_member old ms (tree.escape it) all = by_operand old ms (tree.escape it) tt all
+by_member old ms (tree.property p) all = by_operand old ms (tree.property p) tt all
+by_member old ms (tree.character c) all = by_operand old ms (tree.character c) tt all
+by_member old ms (tree.nested c) all = by_operand old ms (tree.nested c) tt all
+by_member old ms (tree.strings d) all = by_operand old ms (tree.strings d) tt all
+
 pub grows_by_member : (old new : Held) (ms : List Member) (m : Member) → with_member m old ≡ Some new → AreHeld old (members ms) → GrowsByMember old new ms m
-grows_by_member old new ms m e all = grows ms m (follows old new m e) all
+grows_by_member old new ms m e all = subst (λ (o : Option Held). IfSome o (λ new. GrowsByMember old new ms m)) e (by_member old ms m all)
 
 one_some : (ms : Members) → AreOne ms → AreSome ms
 one_some no_member one = absurd one
@@ -130,62 +94,63 @@ two_some : (ms : Members) → AreTwo ms → AreSome ms
 two_some no_member two = absurd two
 two_some (member m ms) two = tt
 
+one_events : (between : ClassEvents) (ms : Members) → AreOne ms → members_events between ms ≡ members_events [] ms ++ []
+one_events between no_member one = absurd one
+one_events between (member m no_member) one = sym (append-nil _)
+one_events between (member m (member n ms)) one = absurd one
+
 -- Of one member alone it is all one whether all, any or the first may match strings.
-one_all : (ms : Members) → AreOne ms → all_strings ms ≡ any_strings ms
-one_all no_member one = absurd one
-one_all (member m no_member) one = and-true (member_strings m) ∙ sym (or-false (member_strings m))
-one_all (member m (member n ms)) one = absurd one
+one_strings : (o : SetOperator) (ms : Members) → AreOne ms → held_strings (pending o) ms ≡ any_strings ms
+one_strings o no_member one = absurd one
+one_strings Intersection (member m no_member) one = and-true (member_strings m) ∙ sym (or-false (member_strings m))
+one_strings Subtraction (member m no_member) one = sym (or-false (member_strings m))
+one_strings o (member m (member n ms)) one = absurd one
 
-one_first : (ms : Members) → AreOne ms → first_strings ms ≡ any_strings ms
-one_first no_member one = absurd one
-one_first (member m no_member) one = sym (or-false (member_strings m))
-one_first (member m (member n ms)) one = absurd one
+-- the operator after what there is
+abbrev after_all : SetOperator → ClassEvents → ClassEvents
+after_all o es = es ++ (token (operator o) ∷ [])
 
-one_events : (operator : ClassEvents) (ms : Members) → AreOne ms → members_events operator ms ≡ members_events [] ms ++ []
-one_events operator no_member one = absurd one
-one_events operator (member m no_member) one = sym (append-nil _)
-one_events operator (member m (member n ms)) one = absurd one
-
-pub grows_by_meet : (old new : Held) (ms : Members) → met_by old ≡ Some new → AreHeld old ms → GrowsByOperator old new ms meet
-grows_by_meet single new ms e all = subst (λ h. GrowsByOperator single h ms meet) (Some-inj e) record {
-  events = ap (λ es. es ++ (token meet ∷ [])) (one_events (token meet ∷ []) ms all.0);
+begins : (o : SetOperator) (ms : Members) → AreHeld single ms → GrowsByOperator single (pending o) ms o
+begins Intersection ms all = record {
+  events = ap (after_all Intersection) (one_events (token (operator Intersection) ∷ []) ms all.0);
   held = (one_some ms all.0, all.1);
-  strings = one_all ms all.0;
+  strings = one_strings Intersection ms all.0;
 }
-grows_by_meet met new ms e all = subst (λ h. GrowsByOperator met h ms meet) (Some-inj e) record {
-  events = ap (λ es. es ++ (token meet ∷ [])) (sym (append-nil _));
+begins Subtraction ms all = record {
+  events = ap (after_all Subtraction) (one_events (token (operator Subtraction) ∷ []) ms all.0);
+  held = (one_some ms all.0, all.1);
+  strings = one_strings Subtraction ms all.0;
+}
+
+goes_on : (o : SetOperator) (ms : Members) → AreHeld (joined o) ms → GrowsByOperator (joined o) (pending o) ms o
+goes_on Intersection ms all = record {
+  events = ap (after_all Intersection) (sym (append-nil (members_events (token (operator Intersection) ∷ []) ms)));
   held = (two_some ms all.0, all.1);
   strings = refl;
 }
-grows_by_meet empty new ms e all = cc
-grows_by_meet several new ms e all = cc
-grows_by_meet meeting new ms e all = cc
-grows_by_meet lessening new ms e all = cc
-grows_by_meet lessened new ms e all = cc
-
-pub grows_by_less : (old new : Held) (ms : Members) → less_by old ≡ Some new → AreHeld old ms → GrowsByOperator old new ms less
-grows_by_less single new ms e all = subst (λ h. GrowsByOperator single h ms less) (Some-inj e) record {
-  events = ap (λ es. es ++ (token less ∷ [])) (one_events (token less ∷ []) ms all.0);
-  held = (one_some ms all.0, all.1);
-  strings = one_first ms all.0;
-}
-grows_by_less lessened new ms e all = subst (λ h. GrowsByOperator lessened h ms less) (Some-inj e) record {
-  events = ap (λ es. es ++ (token less ∷ [])) (sym (append-nil _));
+goes_on Subtraction ms all = record {
+  events = ap (after_all Subtraction) (sym (append-nil (members_events (token (operator Subtraction) ∷ []) ms)));
   held = (two_some ms all.0, all.1);
   strings = refl;
 }
-grows_by_less empty new ms e all = cc
-grows_by_less several new ms e all = cc
-grows_by_less meeting new ms e all = cc
-grows_by_less met new ms e all = cc
-grows_by_less lessening new ms e all = cc
+
+pub grows_by_operator : (o : SetOperator) (old new : Held) (ms : Members) → with_operator o old ≡ Some new → AreHeld old ms → GrowsByOperator old new ms o
+grows_by_operator o old new ms e all =
+    let is = operator_before o old new e in
+    subst (λ new. GrowsByOperator old new ms o) (sym is.1)
+    (elim is.0 [
+      | inl one ↦ subst (λ old. GrowsByOperator old (pending o) ms o) (sym one) (begins o ms (subst (λ old. AreHeld old ms) one all))
+      | inr more ↦ subst (λ old. GrowsByOperator old (pending o) ms o) (sym more) (goes_on o ms (subst (λ old. AreHeld old ms) more all))
+    ])
 
 -- A bracket that is whole has what its kind asks for, and no operator stands at its end.
+held_fits : (held : Held) (ms : Members) → is_whole held ≡ true → AreHeld held ms → FitsKind (kind_of held) ms
+held_fits empty ms whole all = tt
+held_fits single ms whole all = tt
+held_fits several ms whole all = tt
+held_fits (pending o) ms whole all = cc
+held_fits (joined Intersection) ms whole all = all
+held_fits (joined Subtraction) ms whole all = all
+
 pub whole_fits : (held : Held) (ms : Members) → is_whole held ≡ true → AreHeld held ms → FitsKind (kind_of held) ms × (held_events held ms ≡ members_events (operator_events (kind_of held)) ms)
-whole_fits empty ms whole all = (tt, append-nil _)
-whole_fits single ms whole all = (tt, append-nil _)
-whole_fits several ms whole all = (tt, append-nil _)
-whole_fits meeting ms whole all = cc
-whole_fits met ms whole all = (all, append-nil _)
-whole_fits lessening ms whole all = cc
-whole_fits lessened ms whole all = (all, append-nil _)
+whole_fits held ms whole all = (held_fits held ms whole all, ap (λ o. members_events (operator_events (kind_of held)) ms ++ end_events o) (whole_end held whole) ∙ append-nil _)

@@ -17,6 +17,7 @@ pub mod LegacyEscapes
 pub mod MembersPushed
 pub mod Modes
 pub mod OpenBrackets
+pub mod Operators
 pub mod PairFound
 pub mod PropertyGives
 pub mod PropertyHalts
@@ -25,6 +26,7 @@ pub mod PropertySpans
 pub mod PropertySteps
 pub mod PropertyTables
 pub mod ReadingSteps
+pub mod Readings
 pub mod SetCharacters
 pub mod SetClasses
 pub mod SetFronts

@@ -12,14 +12,7 @@ use Rattle.rx_model.proofs.Classes.ClassWholes.{only_sets}
 use Rattle.rx_model.proofs.Inputs.Modes.{not_sets}
 use Rattle.rx_class.specs.PropertyFound.{HasProperties}
 
--- Escapes are those of a unicode mode where one of a state's truth values is set.
-pub by_either : (u v : Bool) → is_unicode (mode_by u v) ≡ (u || v)
-by_either true true = refl
-by_either true false = refl
-by_either false true = refl
-by_either false false = refl
-
--- Outside sets mode the first says so.
+-- Outside sets mode the first truth value of a state says whether it is a unicode mode.
 pub unicode_by : (u : Bool) → is_unicode (mode_by u false) ≡ u
 unicode_by true = refl
 unicode_by false = refl

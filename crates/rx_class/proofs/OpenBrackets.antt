@@ -4,15 +4,18 @@ use Rattle.std.specs.Prelude.{map}
 use Rattle.std.proofs.lemmas.List.{map-append}
 use Rattle.std.specs.declared.boxed.Box.{Box}
 use Rattle.std.specs.declared.alloc.Global.{Global}
+use Rattle.rx_base.specs.declared.diagnostic.kinds.SetOperator.{SetOperator}
+use Rattle.rx_base.specs.declared.diagnostic.kinds.SetOperator.TheVariants.{Intersection, Subtraction}
 use Rattle.rx_ast.specs.declared.class.CharacterClass.{CharacterClass}
 use Rattle.rx_ast.specs.declared.class.CharacterClassContents.{CharacterClassContents}
 use Rattle.rx_ast.specs.declared.class.CharacterClassContents.TheVariants.{NestedCharacterClass}
 use Rattle.rx_ast.specs.ClassTree as tree
 use Rattle.rx_ast.specs.ClassTree.{Member, members, nested, mirror_class, mirror_contents}
 use Rattle.rx_ast.proofs.ClassEquations.{nested_is}
+use Rattle.rx_model.specs.Classes.ClassBuilds.{kind_of}
 use Rattle.rx_model.specs.Classes.ClassRuns as runs
-use Rattle.rx_model.specs.Classes.ClassRuns.{Bracket, Brackets, after_step, bracket_of, class_opened, class_run, class_step, is_whole, with_strings}
-use Rattle.rx_model.specs.Classes.ClassTokens.{ClassEvents, ClassToken, enter, leave, token, bracket, closer, class_events, class_tokens_of, member_events, members_events}
+use Rattle.rx_model.specs.Classes.ClassRuns.{Bracket, Brackets, after_step, bracket_of, class_opened, class_run, class_step, held_on, is_whole, with_strings, with_operator}
+use Rattle.rx_model.specs.Classes.ClassTokens.{ClassEvents, enter, leave, token, bracket, closer, class_events, class_tokens_of, member_events, members_events, operator}
 use Rattle.rx_model.specs.Classes.ClassTokens as tokens
 use Rattle.rx_model.specs.Trees.Early.{member_strings}
 use Rattle.rx_model.proofs.Classes.ClassShapes as shapes
@@ -24,9 +27,9 @@ use Rattle.rx_class.specs.declared.held.Held.{Held}
 use Rattle.rx_class.specs.declared.held.Held.TheVariants.{Empty}
 use Rattle.rx_class.specs.ClassBuilding.{bracket_at, bracket_events, class_of, with_member}
 use Rattle.rx_class.specs.ClassItems.{contents}
-use Rattle.rx_class.specs.HeldMirror.{held_of, kind_of}
+use Rattle.rx_class.specs.HeldMirror.{held_of}
 use Rattle.rx_class.specs.WellBuilt.{AreHeld, AreSound, IsSound, IsWellHeld}
-use Rattle.rx_class.proofs.HeldSteps.{GrowsByMember, GrowsByOperator, grows_by_member, held_events, held_strings, whole_fits}
+use Rattle.rx_class.proofs.HeldSteps.{GrowsByMember, GrowsByOperator, grows_by_member, grows_by_operator, held_events, held_strings, whole_fits}
 use Rattle.rx_class.proofs.MembersPushed.{pushed, sound_pushed}
 
 pub new_bracket : (b : OpenBracket) → b.held ≡ Empty → b.body ≡ [] → bracket_events b ≡ enter b.start ∷ token (bracket b.negative) ∷ []
@@ -97,21 +100,27 @@ module _ (b : OpenBracket) (ys : List CharacterClassContents) (y : CharacterClas
             ∙ ap (λ strings. Some (bracket_of b.negative (held_of held) strings ∷ [])) (sym flag);
       }
 
--- with `&&` or `--`
-module _ (b : OpenBracket) (held : Held) (operator : ClassToken) (well : IsWellHeld b) (grows : GrowsByOperator (held_of b.held) (held_of held) (contents b.body) operator)
-    (steps : class_step operator (bracket_at b ∷ []) ≡ Some (bracket_at (record b { held = held }) ∷ [])) where
-  pub operator_events : bracket_events (record b { held = held }) ≡ bracket_events b ++ (token operator ∷ [])
+-- with an operator more
+operator_steps : (o : SetOperator) (b : Bracket) → class_step (operator o) (b ∷ []) ≡ held_on b [] (with_operator o b.held)
+operator_steps Intersection b = refl
+operator_steps Subtraction b = refl
+
+module _ (o : SetOperator) (b : OpenBracket) (held : Held) (with : with_operator o (held_of b.held) ≡ Some (held_of held)) (well : IsWellHeld b) where
+  operator_grows : GrowsByOperator (held_of b.held) (held_of held) (contents b.body) o
+  operator_grows = grows_by_operator o (held_of b.held) (held_of held) (contents b.body) with well.held
+
+  pub operator_events : bracket_events (record b { held = held }) ≡ bracket_events b ++ (token (operator o) ∷ [])
   unfolding bracket_events
-  operator_events = ap (after_bracket b) grows.events
+  operator_events = ap (after_bracket b) operator_grows.events
 
   pub operator_well : IsWellHeld (record b { held = held })
   operator_well = record {
     sound = well.sound;
-    held = grows.held;
-    strings = well.strings ∙ sym grows.strings;
+    held = operator_grows.held;
+    strings = well.strings ∙ sym operator_grows.strings;
     opens =
-        opens_on b (bracket_events (record b { held = held })) (token operator ∷ []) (bracket_at (record b { held = held }) ∷ []) operator_events well.opens
-        (ap (λ after. after_step after (λ brackets. class_run [] brackets)) steps);
+        opens_on b (bracket_events (record b { held = held })) (token (operator o) ∷ []) (bracket_at (record b { held = held }) ∷ []) operator_events well.opens
+        (ap (λ after. after_step after (λ brackets. class_run [] brackets)) (operator_steps o (bracket_at b) ∙ ap (held_on (bracket_at b) []) with));
   }
 
 -- the class that a whole bracket is

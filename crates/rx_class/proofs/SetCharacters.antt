@@ -16,7 +16,7 @@ use Rattle.rx_units.specs.Digits.{PassesHex}
 use Rattle.rx_model.specs.declared.mode.Mode.TheVariants.{Unicode, Sets}
 use Rattle.rx_model.specs.Characters.EscapeFronts.{EscapeRead, escaped, nothing, too_many, no_unicode, escape_at}
 use Rattle.rx_model.specs.Characters.Escapes.{SpellsEscape}
-use Rattle.rx_model.specs.Classes.ClassRows.{Place, outside, fresh, at_dash, at_high, at_second, at_third, after_meet, after_less, in_strings, SpellsClassCharacter, SpellsInClassAlone, SpellsInClass, BeforeHigh, has_hyphen, is_dashed, stands_raw_in_class}
+use Rattle.rx_model.specs.Classes.ClassRows.{SpellsClassCharacter, SpellsInClassAlone, has_hyphen, is_dashed, stands_raw_in_class}
 use Rattle.rx_model.specs.Classes.ClassRows as row
 use Rattle.rx_model.specs.Inputs.Environment.{Environment, is_sets, is_unicode}
 use Rattle.rx_model.specs.Refusals.EscapeCauses.{IsEscapeCause, invalid_escape, too_many_hex_digits}

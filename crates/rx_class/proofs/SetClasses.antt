@@ -25,7 +25,7 @@ use Rattle.rx_class.specs.WellBuilt.{IsWellBuilt}
 use Rattle.rx_class.proofs.ClassEnds.{IsInClass, begins_class, no_class_there}
 use Rattle.rx_class.proofs.ClassItems.{rows_append}
 use Rattle.rx_class.proofs.Keeping.{Passes, keeps_on, passes_keeps, passes_moved}
-use Rattle.rx_class.proofs.SetPlaces.{whole_fresh}
+use Rattle.rx_class.proofs.Operators.{whole_fresh}
 use Rattle.rx_class.proofs.SetRefusals.{unit_next}
 use Rattle.rx_class.proofs.SetSteps.{last_same}
 

@@ -1,6 +1,8 @@
 -- What stands next in a class with `v`: what is read is what stands there, and no other token is spelled.
 use Rattle.std.proofs.Common.{◌≡◌, refl, sym, ap, ◌∙◌, subst, ℕ, ◌+◌, ◌==◌, ◌&&◌, Bool, true, false, cond, Option, Some, None, List, [], ◌∷◌, inl, inr, is_some}
 use Rattle.std.proofs.lemmas.Bool.{cases_Bool, eqb-true, cond-true, cond-false, and_left, and_from, cond_both}
+use Rattle.rx_base.specs.declared.diagnostic.kinds.SetOperator.{SetOperator}
+use Rattle.rx_base.specs.declared.diagnostic.kinds.SetOperator.TheVariants.{Intersection, Subtraction}
 use Rattle.rx_tables.specs.Characters.{is_reserved_punctuator}
 use Rattle.rx_ast.specs.declared.leaf.CharacterClassEscapeKind.{CharacterClassEscapeKind}
 use Rattle.rx_units.specs.declared.code_point.CodePoint.{CodePoint}
@@ -10,7 +12,7 @@ use Rattle.rx_model.specs.declared.mode.Mode.TheVariants.{Sets}
 use Rattle.rx_model.specs.Characters.EscapeFronts.{EscapeRead, escaped, nothing, too_many, no_unicode, class_escape_at, escape_at}
 use Rattle.rx_model.specs.Classes.ClassFronts.{no_atom, atom_at, operand_token, property_atom, bracket_at, are_next, begins_strings, set_token}
 use Rattle.rx_model.specs.Classes.ClassRows.{stands_raw_in_class}
-use Rattle.rx_model.specs.Classes.ClassTokens.{ClassToken, character, escape, property, bracket, closer, item, meet, less, strings}
+use Rattle.rx_model.specs.Classes.ClassTokens.{ClassToken, character, escape, property, bracket, closer, item, strings, operator, operator_text}
 use Rattle.rx_model.specs.FirstPass.Marks.{starts}
 use Rattle.rx_model.specs.Inputs.Environment.{Environment, is_sets, is_unicode}
 use Rattle.rx_model.specs.Properties.PropertyForms.{begins_property}
@@ -22,7 +24,7 @@ use Rattle.rx_units.proofs.Choices.{both}
 use Rattle.rx_model.proofs.Classes.ClassFronts.{at_backslash, atom_is_read, letter_no_b, letter_no_punctuator}
 use Rattle.rx_model.proofs.Groups.GroupNames.{differs}
 use Rattle.rx_class.specs.Found.{class_escape_front}
-use Rattle.rx_class.specs.SetFronts.{Begins, BeginsBracket, FrontRead, IsItem, IsOfCharacter, IsSetFront, NoneRefused, bracket_next, character_front, closer_next, escape_front, escape_next, escaped_front, less_next, meet_next, property_next, after_backslash, set_character_at, set_escape_at, set_front_at, strings_next}
+use Rattle.rx_class.specs.SetFronts.{Begins, BeginsBracket, FrontRead, IsItem, IsOfCharacter, IsSetFront, NoneRefused, bracket_next, character_front, closer_next, escape_front, escape_next, escaped_front, operator_next, property_next, after_backslash, set_character_at, set_escape_at, set_front_at, strings_next}
 use Rattle.rx_class.proofs.SetCharacters.{mode_is, u_is_read, unicode_is}
 use Rattle.rx_class.proofs.SetTokens.{IsOther, OfToken, Only, atom_of, atom_only, backslash_atom, no_backslash_refused, none_refused_by, of_character, of_escape, of_property, only_of, other_none, set_character_after, token_of_none, unit_atom}
 use Rattle.std.proofs.Math.Bool.{and-false}
@@ -104,23 +106,30 @@ module _ (e : Environment) (sets : is_sets e.mode ≡ true) where
       unit_only u us c t.first_is P h (subst (λ w. stands_raw_in_class Sets c w ≡ false) following (r (values t.others))) closes (subst (λ w. OfToken P (set_token (c ∷ w))) following (s (values t.others)))
       (subst (λ w. OfToken P (operand_token (c ∷ w))) following (o (values t.others)))
 
-  meet_front : (u : CodePoint) (us : List CodePoint) → are_next 38 38 (values (u ∷ us)) ≡ true → IsSetFront e (u ∷ us) meet_next
-  meet_front u us h =
-      let t = two_there u us 38 38 h in
+  -- A character that an operator has twice.
+  record IsDoubled (o : SetOperator) (c : ℕ) : Type 0 where
+    text : operator_text o ≡ c ∷ c ∷ []
+    no_backslash : (c == 92) ≡ false
+    no_closer : (c == 93) ≡ false
+    no_raw : (w : List ℕ) → stands_raw_in_class Sets c (c ∷ w) ≡ false
+    reads : (w : List ℕ) → set_token (c ∷ c ∷ w) ≡ Some (operator o, 2)
+    no_operand : (w : List ℕ) → operand_token (c ∷ c ∷ w) ≡ None
+
+  operator_front : (o : SetOperator) (c : ℕ) → IsDoubled o c → (u : CodePoint) (us : List CodePoint) → are_next c c (values (u ∷ us)) ≡ true → IsSetFront e (u ∷ us) (operator_next o)
+  operator_front o c is u us h =
+      let t = two_there u us c c h in
+      let P : ClassToken → Type 0 = λ t. t ≡ operator o in
       record {
-        stands = two_units u us 38 38 t;
-        only = two_only (λ t. t ≡ meet) u us 38 38 t refl (λ w. refl) (λ k. absurd (let no : ⊥ = cc k in no)) (λ w. refl) (λ w. tt);
-        none_refused = λ k. no_unit u us 38 t.first_is refl;
+        stands = subst (Begins (u ∷ us)) (sym is.text) (two_units u us c c t);
+        only = two_only P u us c c t is.no_backslash is.no_raw (λ k. absurd (let no : ⊥ = cc (sym k ∙ is.no_closer) in no)) (λ w. subst (OfToken P) (sym (is.reads w)) refl) (λ w. subst (OfToken P) (sym (is.no_operand w)) tt);
+        none_refused = λ k. no_unit u us c t.first_is is.no_backslash;
       }
 
-  less_front : (u : CodePoint) (us : List CodePoint) → are_next 45 45 (values (u ∷ us)) ≡ true → IsSetFront e (u ∷ us) less_next
-  less_front u us h =
-      let t = two_there u us 45 45 h in
-      record {
-        stands = two_units u us 45 45 t;
-        only = two_only (λ t. t ≡ less) u us 45 45 t refl (λ w. refl) (λ k. absurd (let no : ⊥ = cc k in no)) (λ w. refl) (λ w. tt);
-        none_refused = λ k. no_unit u us 45 t.first_is refl;
-      }
+  ampersands : IsDoubled Intersection 38
+  ampersands = record { text = refl; no_backslash = refl; no_closer = refl; no_raw = λ w. refl; reads = λ w. refl; no_operand = λ w. refl }
+
+  hyphens : IsDoubled Subtraction 45
+  hyphens = record { text = refl; no_backslash = refl; no_closer = refl; no_raw = λ w. refl; reads = λ w. refl; no_operand = λ w. refl }
 
   -- What was read of a character where no other token begins.
   character_stands : (us : List CodePoint) (r : EscapeRead) → set_character_at us ≡ r → IsOther us → atom_at e us ≡ atom_of r → (r ≡ nothing → NoneRefused e us) → IsSetFront e us (character_front r)
@@ -256,8 +265,8 @@ module _ (e : Environment) (sets : is_sets e.mode ≡ true) where
   front_says (u ∷ us) =
       cond_both (u.value == 93) _ _ P (λ h. closer_front u us (eqb-true u.value 93 h))
       (λ no_closer. cond_both (u.value == 91) _ _ P (λ h. bracket_front u us (eqb-true u.value 91 h))
-      (λ no_bracket. cond_both (u.value == 38 && starts 38 (values us)) _ _ P (meet_front u us)
-      (λ no_meet. cond_both (u.value == 45 && starts 45 (values us)) _ _ P (less_front u us)
+      (λ no_bracket. cond_both (u.value == 38 && starts 38 (values us)) _ _ P (operator_front Intersection 38 ampersands u us)
+      (λ no_meet. cond_both (u.value == 45 && starts 45 (values us)) _ _ P (operator_front Subtraction 45 hyphens u us)
       (λ no_less. cond_both (u.value == 92) _ _ P (λ h. escaped_front_is u us (eqb-true u.value 92 h))
       (λ h.
       let other : IsOther (u ∷ us) =

@@ -7,6 +7,7 @@ use Rattle.std.proofs.lemmas.List.Elements.{All-tail}
 use Rattle.rx_base.specs.declared.diagnostic.Diagnostic.{Diagnostic}
 use Rattle.rx_base.specs.declared.diagnostic.Diagnostic.TheVariants.{CharacterClassRangeOutOfOrder}
 use Rattle.rx_base.specs.declared.diagnostic.kinds.RangeKind.TheVariants as range_kind
+use Rattle.rx_base.specs.declared.diagnostic.kinds.SetOperator.TheVariants.{Intersection}
 use Rattle.rx_base.specs.declared.fault.Fault.{Fault}
 use Rattle.rx_base.specs.declared.fault.Fault.TheVariants as fault
 use Rattle.rx_base.specs.declared.span.Span.{Span}
@@ -24,8 +25,8 @@ use Rattle.rx_units.specs.Digits.{front_is}
 use Rattle.rx_model.specs.declared.mode.Mode.{Mode}
 use Rattle.rx_model.specs.declared.mode.Mode.TheVariants.{Sets}
 use Rattle.rx_model.specs.Characters.EscapeFronts.{EscapeRead, nothing}
-use Rattle.rx_model.specs.Classes.ClassRows.{BeforeHigh, ClassRow, Place, SpellsAtom, SpellsInClass, next_place, following_item, has_threes, outside, fresh, at_dash, at_high, at_second, at_third, after_meet, after_less, in_strings, is_dashed}
-use Rattle.rx_model.specs.Classes.ClassRuns.{Held, empty, single, several, meeting, met, lessening, lessened, is_union, operand, ranged}
+use Rattle.rx_model.specs.Classes.ClassRows.{BeforeHigh, ClassRow, Place, SpellsAtom, SpellsInClass, next_place, following_item, has_threes, fresh, is_dashed, after_operator}
+use Rattle.rx_model.specs.Classes.ClassRuns.{Held, is_union, operand, ranged}
 use Rattle.rx_model.specs.Classes.ClassTokens.{Atom, ClassEvents, ClassToken, is_character, item, leave, token, within, class_tokens_of, member_events, strings_events, strings, strings_end}
 use Rattle.rx_model.specs.Classes.ClassTokens.{low as low_end, dash as dash_token, high as high_end}
 use Rattle.rx_model.specs.FirstPass.Marks.{starts}
@@ -65,7 +66,8 @@ use Rattle.rx_class.specs.WellBuilt.{IsSound, IsWellBuilt}
 use Rattle.rx_class.proofs.ClassRanges.{DashStands, PairStands, atom_stands, dash_at, dash_given, dash_whole, pair_given, range_is, atom_events}
 use Rattle.rx_class.proofs.Keeping.{Passes, keeps_on, moved_keeps, passes_keeps, passes_moved, passes_over}
 use Rattle.rx_class.proofs.SetCharacters.{no_escape_refused, unicode_is}
-use Rattle.rx_class.proofs.SetPlaces.{begins_place, item_before, item_here, no_range_no_union, operand_fresh, ranged_fresh}
+use Rattle.rx_class.proofs.Operators.{begins_cases, begins_place, no_range_after, no_range_no_union, operand_after, operand_fresh, ranged_fresh}
+use Rattle.rx_class.proofs.SetPlaces.{item_before, item_here}
 use Rattle.rx_class.proofs.SetRefusals.{by_text, said_gives}
 use Rattle.rx_class.proofs.SetSteps.{adds_by, last_no_character}
 use Rattle.rx_class.proofs.StringsRead.{escape_says_more}
@@ -85,28 +87,16 @@ after_fresh mode q a left begins sets = ap (following_item q) (never (is_dashed 
     never false b h = refl
 
     by : (q : Place) → begins_item q ≡ true → following_item q false ≡ fresh
-    by fresh h = refl
-    by after_meet h = refl
-    by after_less h = refl
-    by outside h = absurd (true≢false (sym h))
-    by at_dash h = absurd (true≢false (sym h))
-    by at_high h = absurd (true≢false (sym h))
-    by at_second h = absurd (true≢false (sym h))
-    by at_third h = absurd (true≢false (sym h))
-    by in_strings h = absurd (true≢false (sym h))
+    by q begins = grind arith
 
 -- An atom is an operand where an item may begin: no range begins with it, and no third `&`.
 item_there : (e : Environment) (q : Place) (a : Atom) (w left : List CodePoint) → begins_item q ≡ true → is_sets e.mode ≡ true → SpellsAtom e a w left → (q ≡ fresh → is_character a ≡ true → BeforeHigh e left → ⊥) →
-    (q ≡ after_meet → starts 38 (values w) ≡ false) → SpellsInClass e q (item a) w left
-item_there e fresh a w left begins sets s none third = (s, inr (inr record { sets = sets; none = none refl }))
-item_there e after_meet a w left begins sets s none third = (sets, s, third refl)
-item_there e after_less a w left begins sets s none third = (sets, s)
-item_there e outside a w left begins sets s none third = absurd (true≢false (sym begins))
-item_there e at_dash a w left begins sets s none third = absurd (true≢false (sym begins))
-item_there e at_high a w left begins sets s none third = absurd (true≢false (sym begins))
-item_there e at_second a w left begins sets s none third = absurd (true≢false (sym begins))
-item_there e at_third a w left begins sets s none third = absurd (true≢false (sym begins))
-item_there e in_strings a w left begins sets s none third = absurd (true≢false (sym begins))
+    (q ≡ after_operator Intersection → starts 38 (values w) ≡ false) → SpellsInClass e q (item a) w left
+item_there e q a w left begins sets s none third =
+    begins_cases (λ q. (q ≡ fresh → is_character a ≡ true → BeforeHigh e left → ⊥) → (q ≡ after_operator Intersection → starts 38 (values w) ≡ false) → SpellsInClass e q (item a) w left)
+    (λ none third. (s, inr (inr record { sets = sets; none = none refl })))
+    (λ o none third. operand_after o e (item a) w left sets s (λ is. third (ap after_operator is)))
+    q begins none third
 
 item_row : (e : Environment) (o : ℕ → ℕ) (i : ℕ) (q : Place) (a : Atom) (s : Span) (w left : List CodePoint) → SpellsInClass e q (item a) w left → next_place e.mode q (item a) left ≡ fresh → s ≡ between (o i) (o (i + length w)) →
     ClassRow e o (within s (token (item a) ∷ [])) q i (w ++ left) fresh (i + length w) left
@@ -120,7 +110,7 @@ module _ (added : ℕ) (old new : Cursor) (before after : ClassBuilder) (held : 
       adds_by e added old new before after (member_events m) w left (place_of (held_in before)) fresh whole some moves events refl (ap place_of with ∙ operand_fresh (held_in before) (held_of held) takes) row well ends
 
   pub atom_adds : (it : ClassAtom) (e : Environment) → IsOfSets e old → GivesAtom e added old new (Ok it) → builder_events after ≡ builder_events before ++ member_events (atom_member it) →
-      (place_of (held_in before) ≡ fresh → is_character (atom_of it) ≡ true → BeforeHigh e (rest new) → ⊥) → (place_of (held_in before) ≡ after_meet → starts 38 (values (rest old)) ≡ false) → RefusesNoEnd e new after →
+      (place_of (held_in before) ≡ fresh → is_character (atom_of it) ≡ true → BeforeHigh e (rest new) → ⊥) → (place_of (held_in before) ≡ after_operator Intersection → starts 38 (values (rest old)) ≡ false) → RefusesNoEnd e new after →
       AddsToSets e added old new before after
   atom_adds it e of gives events none third ends =
       let s = atom_stands e added old old.place new it gives in
@@ -134,16 +124,6 @@ module _ (added : ℕ) (old new : Cursor) (before after : ClassBuilder) (held : 
       (item_there e q (atom_of it) s.w (rest new) begins of.sets s.spelled none (λ meets. sym (starts_front 38 s.w (rest new) some) ∙ ap (λ us. starts 38 (values us)) (sym passes.whole) ∙ third meets))
       (after_fresh e.mode q (atom_of it) (rest new) begins of.sets) s.span))
       ends
-
--- Where no range may stand an operand stands after an operator.
-no_range_after : (held after : Held) → operand held ≡ Some after → ranged held ≡ None → place_of held ≡ fresh → ⊥
-no_range_after empty after h none at = cc none
-no_range_after single after h none at = cc none
-no_range_after several after h none at = cc none
-no_range_after meeting after h none at = cc at
-no_range_after met after h none at = cc h
-no_range_after lessening after h none at = cc at
-no_range_after lessened after h none at = cc h
 
 -- the span of what the reader moved over
 moved_span : (added start : ℕ) (old new : Cursor) (w left : List CodePoint) (span : Span) → rest old ≡ w ++ left → 0 < length w → new ≡ moved (length w) old → start ≡ offset_of old → span ≡ span_to added start new →
@@ -325,7 +305,7 @@ character_refused {e} {added} {old} {new} before after held d takes of (given.re
 
 -- a character that begins no range
 pub character_adds : (e : Environment) (added : ℕ) (old new : Cursor) (before after : ClassBuilder) (held : HeldState) → operand (held_in before) ≡ Some (held_of held) → held_in after ≡ held_of held → IsWellBuilt after → (it : Character) → IsOfSets e old →
-    GivesSetCharacter e added old new (Ok (Some it)) → IsRangeNext e (rest new) (held_in before) None → (place_of (held_in before) ≡ after_meet → starts 38 (values (rest old)) ≡ false) →
+    GivesSetCharacter e added old new (Ok (Some it)) → IsRangeNext e (rest new) (held_in before) None → (place_of (held_in before) ≡ after_operator Intersection → starts 38 (values (rest old)) ≡ false) →
     builder_events after ≡ builder_events before ++ member_events (tree.character it) → AddsToSets e added old new before after
 character_adds e added old new before after held takes with well it of gives none third events =
     atom_adds added old new before after held takes with well (atom.Character it) e of (character_atom gives) events (no_high none) third (no_end none)

@@ -4,6 +4,7 @@ use Rattle.std.proofs.lemmas.Bool.{cond-true, cond_both}
 use Rattle.rx_ast.specs.ClassTree as tree
 use Rattle.rx_ast.specs.declared.leaf.Character.{Character}
 use Rattle.rx_ast.specs.declared.leaf.UnicodePropertyEscape.{UnicodePropertyEscape}
+use Rattle.rx_base.specs.Rising.{Rises}
 use Rattle.rx_units.specs.declared.code_point.CodePoint.{CodePoint}
 use Rattle.rx_units.specs.Cursor.{Cursor, moved, rest}
 use Rattle.rx_units.specs.Pace.{TakesSteps, left}
@@ -16,12 +17,13 @@ use Rattle.rx_class.specs.declared.class_builder.ClassBuilder.{ClassBuilder}
 use Rattle.rx_class.specs.PropertyAnswers.{GivesProperty}
 use Rattle.rx_class.specs.PropertyAnswers as property_answer
 use Rattle.rx_class.specs.SetAnswers.{GivesSetCharacter, some}
-use Rattle.rx_class.specs.SetFronts.{EndsRange, FrontRead, IsSetFront, bracket_next, character_front, character_next, closer_next, escape_next, less_next, meet_next, nothing_next, property_next, set_character_at, strings_next}
+use Rattle.rx_class.specs.SetFronts.{EndsRange, FrontRead, StandsFront, bracket_next, character_front, character_next, closer_next, escape_next, nothing_next, operator_next, property_next, set_character_at, set_front_at, strings_next}
 use Rattle.rx_class.specs.SetReading.{AddsToSets}
 use Rattle.rx_class.specs.SetSteps.{TakesStepsAfter, most_after_backslash, most_end_looks, most_front_after, most_front_looks, most_set_looks}
 use Rattle.rx_class.specs.WellBuilt.{IsSound}
 use Rattle.rx_class.proofs.Keeping.{passes_moved}
 use Rattle.rx_class.proofs.SetCharacters.{set_character_spelled, set_too_many_within, spelled_set_character}
+use Rattle.rx_class.proofs.SetFronts.{set_front_is}
 use Rattle.rx_class.proofs.SetGives.{with_v}
 
 -- A reader that moves on leaves no more.
@@ -88,8 +90,7 @@ module _ (none : CodePoint) where
   backslash_front_looks us closer_next is first = refl
   backslash_front_looks us (bracket_next negative) is first = refl
   backslash_front_looks us strings_next is first = refl
-  backslash_front_looks us meet_next is first = refl
-  backslash_front_looks us less_next is first = refl
+  backslash_front_looks us (operator_next o) is first = refl
   backslash_front_looks us (character_next read) is first = backslash_looks us read is first
   backslash_front_looks us (escape_next kind) is first = refl
   backslash_front_looks us property_next is first = refl
@@ -104,16 +105,18 @@ front_looks us (too_many n) = refl
 front_looks us no_unicode = refl
 
 -- Whatever stands at the front, not many more steps are taken than units are left.
-pub front_fits : {e : Environment} (us : List CodePoint) (read : FrontRead) → IsSetFront e us read → most_front_looks us read ≤ length us + 3
-front_fits us closer_next front = omega arith
-front_fits us (bracket_next negative) front = omega arith
-front_fits us strings_next front = omega arith
-front_fits us meet_next front = omega arith
-front_fits us less_next front = omega arith
-front_fits us (character_next read) front = looks_fit us read front.stands.0
-front_fits us (escape_next kind) front = omega arith
-front_fits us property_next front = omega arith
-front_fits us nothing_next front = omega arith
+pub front_fits : (us : List CodePoint) (read : FrontRead) → read ≡ set_front_at us → most_front_looks us read ≤ length us + 3
+front_fits us read h = by read (let front = set_front_is us read h with_v refl in front.stands)
+  where
+    by : (read : FrontRead) → StandsFront us read → most_front_looks us read ≤ length us + 3
+    by closer_next stands = omega arith
+    by (bracket_next negative) stands = omega arith
+    by strings_next stands = omega arith
+    by (operator_next o) stands = omega arith
+    by (character_next read) stands = looks_fit us read stands.0
+    by (escape_next kind) stands = omega arith
+    by property_next stands = omega arith
+    by nothing_next stands = omega arith
 
 -- The end of a range is looked at after its `-`, over which the reader moves first.
 pub end_moves : (old mid : Cursor) (read : EscapeRead) (front : EndsRange (rest old) read) → mid ≡ moved 1 old → (most_end_looks (rest old) read ≡ most_set_looks (rest mid) read) × (left old ≡ left mid + 1)
@@ -133,7 +136,6 @@ module _ {A E : Type 0} (old mid new : ℕ) where
   with_looks looks from to (Ok it) least most h = (omega (arith, h.0), omega (arith, h.1))
   with_looks looks from to (Err e) least most h = omega (arith, h)
 
-  -- none
-  pub with_none : (from to : Cursor) (result : Result A E) → old ≤ mid → mid ≤ old → TakesSteps 6 mid new from to result → TakesSteps 6 old new from to result
-  with_none from to (Ok it) least most h = (omega (arith, h.0), omega (arith, h.1))
-  with_none from to (Err e) least most h = omega (arith, h)
+-- Where no step was taken the count is what it was.
+pub no_steps : (old new : ℕ) → Rises old new 0 0 → old ≡ new
+no_steps old new none = omega (arith, none.0, none.1)

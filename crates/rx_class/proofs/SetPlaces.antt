@@ -1,16 +1,15 @@
 -- Where what was built of a class with `v` leads to: an item place of the class, and of the innermost bracket.
-use Rattle.std.proofs.Common.{◌≡◌, refl, sym, ap, ◌∙◌, subst, ℕ, ◌+◌, Bool, true, false, Option, Some, None, List, [], ◌∷◌, ◌++◌, length, arith, length-append}
+use Rattle.std.proofs.Common.{◌≡◌, refl, ap, ◌∙◌, subst, ℕ, ◌+◌, Bool, true, Option, Some, List, [], ◌∷◌, ◌++◌, length, arith, length-append}
 use Rattle.std.specs.Prelude.{All}
 use Rattle.std.specs.List.{flat_map}
 use Rattle.std.proofs.lemmas.List.Elements.{All-head, All-tail}
 use Rattle.rx_units.specs.declared.code_point.CodePoint.{CodePoint}
 use Rattle.rx_units.specs.Cursor.{Cursor, rest}
-use Rattle.rx_model.specs.Classes.ClassRows.{ClassRow, ClassTokenRow, Place, next_place, outside, fresh, after_meet, after_less}
-use Rattle.rx_model.specs.Classes.ClassRuns.{Bracket, Brackets, Held, empty, single, several, meeting, met, lessening, lessened, class_opened, class_run, is_union, is_whole, less_by, met_by, operand, ranged, takes_operand}
+use Rattle.rx_model.specs.Classes.ClassRows.{ClassRow, ClassTokenRow, Place, next_place, outside}
+use Rattle.rx_model.specs.Classes.ClassRuns.{Bracket, Brackets, class_opened, class_run, takes_operand}
 use Rattle.rx_model.specs.Classes.ClassTokens.{ClassEvents, enter, leave, token, class_tokens_of}
 use Rattle.rx_model.specs.Inputs.Environment.{Environment}
-use Rattle.rx_model.specs.Refusals.ClassPlaces.{IsInBracket, IsItemPlace, begins_item, nested, of_class}
-use Rattle.rx_units.proofs.Choices.{Some-inj}
+use Rattle.rx_model.specs.Refusals.ClassPlaces.{IsInBracket, IsItemPlace, nested, of_class}
 use Rattle.rx_model.proofs.Classes.ClassTokens.{tokens_append}
 use Rattle.rx_model.proofs.Classes.ClassUnspanned.{class_row_tokens}
 use Rattle.rx_model.proofs.Classes.ClassWholes.{class_opened-append, class_run-append}
@@ -20,75 +19,7 @@ use Rattle.rx_class.specs.declared.open_bracket.OpenBracket.{OpenBracket}
 use Rattle.rx_class.specs.ClassBuilding.{bracket_at, bracket_events, builder_events}
 use Rattle.rx_class.specs.SetReading.{IsInSets, has_outer, held_in, is_nested, offset_in, place_of}
 use Rattle.rx_class.specs.WellBuilt.{IsAround, IsWellBuilt, IsWellHeld}
-
--- An item may begin at the place that a bracket is at.
-pub begins_place : (held : Held) → begins_item (place_of held) ≡ true
-begins_place empty = refl
-begins_place single = refl
-begins_place several = refl
-begins_place meeting = refl
-begins_place met = refl
-begins_place lessening = refl
-begins_place lessened = refl
-
-pub whole_fresh : (held : Held) → is_whole held ≡ true → place_of held ≡ fresh
-whole_fresh empty h = refl
-whole_fresh single h = refl
-whole_fresh several h = refl
-whole_fresh meeting h = absurd (let no : ⊥ = cc h in no)
-whole_fresh met h = refl
-whole_fresh lessening h = absurd (let no : ⊥ = cc h in no)
-whole_fresh lessened h = refl
-
--- after an operand
-pub operand_fresh : (held after : Held) → operand held ≡ Some after → place_of after ≡ fresh
-operand_fresh empty after h = ap place_of (sym (Some-inj h))
-operand_fresh single after h = ap place_of (sym (Some-inj h))
-operand_fresh several after h = ap place_of (sym (Some-inj h))
-operand_fresh meeting after h = ap place_of (sym (Some-inj h))
-operand_fresh met after h = absurd (let no : ⊥ = cc h in no)
-operand_fresh lessening after h = ap place_of (sym (Some-inj h))
-operand_fresh lessened after h = absurd (let no : ⊥ = cc h in no)
-
--- before and after a range
-pub ranged_fresh : (held after : Held) → ranged held ≡ Some after → (place_of held ≡ fresh) × (place_of after ≡ fresh)
-ranged_fresh empty after h = (refl, ap place_of (sym (Some-inj h)))
-ranged_fresh single after h = (refl, ap place_of (sym (Some-inj h)))
-ranged_fresh several after h = (refl, ap place_of (sym (Some-inj h)))
-ranged_fresh meeting after h = absurd (let no : ⊥ = cc h in no)
-ranged_fresh met after h = absurd (let no : ⊥ = cc h in no)
-ranged_fresh lessening after h = absurd (let no : ⊥ = cc h in no)
-ranged_fresh lessened after h = absurd (let no : ⊥ = cc h in no)
-
--- An operand after which no union is stands where no range may.
-pub no_range_no_union : (held after : Held) → operand held ≡ Some after → ranged held ≡ None → is_union after ≡ false
-no_range_no_union empty after h none = absurd (let no : ⊥ = cc none in no)
-no_range_no_union single after h none = absurd (let no : ⊥ = cc none in no)
-no_range_no_union several after h none = absurd (let no : ⊥ = cc none in no)
-no_range_no_union meeting after h none = ap is_union (sym (Some-inj h))
-no_range_no_union met after h none = absurd (let no : ⊥ = cc h in no)
-no_range_no_union lessening after h none = ap is_union (sym (Some-inj h))
-no_range_no_union lessened after h none = absurd (let no : ⊥ = cc h in no)
-
--- before and after `&&`
-pub met_places : (held after : Held) → met_by held ≡ Some after → (place_of held ≡ fresh) × (place_of after ≡ after_meet)
-met_places empty after h = absurd (let no : ⊥ = cc h in no)
-met_places single after h = (refl, ap place_of (sym (Some-inj h)))
-met_places several after h = absurd (let no : ⊥ = cc h in no)
-met_places meeting after h = absurd (let no : ⊥ = cc h in no)
-met_places met after h = (refl, ap place_of (sym (Some-inj h)))
-met_places lessening after h = absurd (let no : ⊥ = cc h in no)
-met_places lessened after h = absurd (let no : ⊥ = cc h in no)
-
--- before and after `--`
-pub less_places : (held after : Held) → less_by held ≡ Some after → (place_of held ≡ fresh) × (place_of after ≡ after_less)
-less_places empty after h = absurd (let no : ⊥ = cc h in no)
-less_places single after h = (refl, ap place_of (sym (Some-inj h)))
-less_places several after h = absurd (let no : ⊥ = cc h in no)
-less_places meeting after h = absurd (let no : ⊥ = cc h in no)
-less_places met after h = absurd (let no : ⊥ = cc h in no)
-less_places lessening after h = absurd (let no : ⊥ = cc h in no)
-less_places lessened after h = (refl, ap place_of (sym (Some-inj h)))
+use Rattle.rx_class.proofs.Operators.{begins_place}
 
 -- Brackets open in others, the innermost of which takes an operand more.
 record Opens (o : Option Brackets) : Type 0 where

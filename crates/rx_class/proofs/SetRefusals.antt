@@ -4,13 +4,14 @@ use Rattle.std.proofs.lemmas.Bool.{eqb-true, true≢false}
 use Rattle.rx_base.specs.declared.diagnostic.Diagnostic.{Diagnostic}
 use Rattle.rx_base.specs.declared.diagnostic.Diagnostic.TheVariants.{ClassIntersectionUnexpectedAmpersand, EmptyClassSetExpression, UnterminatedPattern}
 use Rattle.rx_base.specs.declared.diagnostic.kinds.Unterminated.{Unterminated}
+use Rattle.rx_base.specs.declared.diagnostic.kinds.SetOperator.TheVariants.{Intersection}
 use Rattle.rx_base.specs.declared.fault.Fault.TheVariants as fault
 use Rattle.rx_base.specs.declared.span.Span.{Span}
 use Rattle.rx_units.specs.declared.code_point.CodePoint.{CodePoint}
 use Rattle.rx_units.specs.Cursor.{Cursor, front, moved, offset_of, rest}
 use Rattle.rx_units.specs.Units.{values}
 use Rattle.rx_model.specs.declared.mode.Mode.{Mode}
-use Rattle.rx_model.specs.Classes.ClassRuns.{Held, empty, single, several, meeting, met, lessening, lessened, is_union, is_whole, operator_of}
+use Rattle.rx_model.specs.Classes.ClassRuns.{empty, is_union, is_whole, operator_of, pending}
 use Rattle.rx_model.specs.FirstPass.Marks.{starts}
 use Rattle.rx_model.specs.Inputs.Environment.{Environment, is_sets}
 use Rattle.rx_model.specs.Refusals.ClassCauses as class_cause
@@ -28,7 +29,8 @@ use Rattle.rx_class.specs.Keeping.{KeepsUnits}
 use Rattle.rx_class.specs.SetFronts.{Begins}
 use Rattle.rx_class.specs.SetReading.{GivesTurn, IsInSets, IsOfSets, SaysNothing, StandsNothing, held_in, is_nested, no_end, no_operand, no_operator, offset_in, place_of, refused}
 use Rattle.rx_class.proofs.Keeping.{passes_keeps, passes_moved, stays_keeps}
-use Rattle.rx_class.proofs.SetPlaces.{begins_place, innermost_here, item_before, item_here}
+use Rattle.rx_class.proofs.Operators.{begins_place, may_follow_here, no_operator_union}
+use Rattle.rx_class.proofs.SetPlaces.{innermost_here, item_before, item_here}
 
 -- What holds by the environment of the whole text holds by the reader's.
 pub by_text : {e : Environment} {r : Cursor} (P : Environment → Type 0) → IsOfSets e r → P (class_environment e.mode r.units) → P e
@@ -50,7 +52,7 @@ module _ (mode : Mode) (added : ℕ) (r : Cursor) (b : ClassBuilder) where
   here = class_environment mode r.units
 
   -- a third `&`
-  ampersand_cause : starts 38 (values (rest r)) ≡ true → held_in b ≡ meeting → (from : Cursor) → IsInSets here added from r b →
+  ampersand_cause : starts 38 (values (rest r)) ≡ true → held_in b ≡ pending Intersection → (from : Cursor) → IsInSets here added from r b →
       IsClassCause mode r.units r.first added from.place (rest from) r.place (ClassIntersectionUnexpectedAmpersand (span_between r.units r.first added r.place (r.place + 1)))
   ampersand_cause stands held from h =
       let u = unit_next 38 (rest r) stands in
@@ -79,7 +81,7 @@ module _ (mode : Mode) (added : ℕ) (r : Cursor) (b : ClassBuilder) where
       let start : b.inner.start ≡ offset_in added r i.begin = i.start_is ∙ ap (λ (r : Cursor). offset_in added r i.begin) (sym h.keeps.same) in
       rw start
       (class_cause.unterminated_class (is_nested b) i.begin r.place (rest r) i.in_bracket (ap is_union held ∙ union) (rw (i.at_is, held) stands.follows) (λ sets none. ends (sym held ∙ none)) (λ no_sets. absurd (true≢false (sym sets ∙ no_sets))))
-  nothing_cause _ sets stands (no_operator operator is) from h = class_cause.no_operator operator r.place (rest r) (item_here h) is stands.follows stands.no_third
+  nothing_cause _ sets stands (no_operator operator is) from h = class_cause.no_operator operator r.place (rest r) (item_here h) is stands.follows (may_follow_here operator _ _ stands.no_third)
 
   nothing_first : (d : Diagnostic) → is_sets mode ≡ true → StandsNothing here r b → SaysNothing added r b d → r.place ≤ length r.units → GivesTurn here added r r b b (Err (fault.Diagnostic d))
   nothing_first d sets stands says within =
@@ -97,7 +99,7 @@ module _ (mode : Mode) (added : ℕ) (r : Cursor) (b : ClassBuilder) where
       r.place d (nothing_cause d sets stands says from h)) (stays_keeps r r within refl)
 
 -- A third `&` is refused.
-pub ampersand_gives : (added : ℕ) (r new : Cursor) (b : ClassBuilder) (span : Span) → starts 38 (values (rest r)) ≡ true → held_in b ≡ meeting → span ≡ span_between r.units r.first added r.place (r.place + 1) → KeepsUnits r new →
+pub ampersand_gives : (added : ℕ) (r new : Cursor) (b : ClassBuilder) (span : Span) → starts 38 (values (rest r)) ≡ true → held_in b ≡ pending Intersection → span ≡ span_between r.units r.first added r.place (r.place + 1) → KeepsUnits r new →
     (e : Environment) → IsOfSets e r → GivesTurn e added r new b b (Err (fault.Diagnostic (ClassIntersectionUnexpectedAmpersand span)))
 ampersand_gives added r new b span stands held covers keeps e of =
     by_text (λ e. GivesTurn e added r new b b (Err (fault.Diagnostic (ClassIntersectionUnexpectedAmpersand span)))) of
@@ -129,16 +131,6 @@ negative_gives added r new b d span front whole strings says covers moves e of =
 pub nothing_gives : (added : ℕ) (r : Cursor) (b : ClassBuilder) (d : Diagnostic) → SaysNothing added r b d → (e : Environment) → IsOfSets e r → StandsNothing e r b → GivesTurn e added r r b b (Err (fault.Diagnostic d))
 nothing_gives added r b d says e of =
     by_text (λ e. StandsNothing e r b → GivesTurn e added r r b b (Err (fault.Diagnostic d))) of (λ stands. nothing_first e.mode added r b d of.sets stands says of.within)
-
--- What does not take an operator is a union.
-no_operator_union : (held : Held) → operator_of held ≡ None → is_union held ≡ true
-no_operator_union empty h = refl
-no_operator_union single h = refl
-no_operator_union several h = refl
-no_operator_union meeting h = absurd (let no : ⊥ = cc h in no)
-no_operator_union met h = absurd (let no : ⊥ = cc h in no)
-no_operator_union lessening h = absurd (let no : ⊥ = cc h in no)
-no_operator_union lessened h = absurd (let no : ⊥ = cc h in no)
 
 -- a bracket that does not end
 pub says_no_end : (added : ℕ) (r : Cursor) (b : ClassBuilder) (span here : Span) (what : Unterminated) → operator_of (held_in b) ≡ None → (held_in b ≡ empty → rest r ≡ []) → here ≡ span_to added (offset_of r) r → span ≡ between b.inner.start here.end →

@@ -1,13 +1,13 @@
 -- What a turn of the reader of a class with `v` adds to what was built.
 use Rattle.std.proofs.Common.{◌≡◌, refl, sym, ap, ◌∙◌, subst, ℕ, ◌+◌, ◌<◌, Bool, true, false, Some, List, [], ◌∷◌, ◌++◌, length, arith, append_assoc, length-append}
-use Rattle.std.proofs.lemmas.Bool.{true≢false}
 use Rattle.std.proofs.lemmas.List.{length-map}
+use Rattle.rx_base.specs.declared.diagnostic.kinds.SetOperator.{SetOperator}
 use Rattle.rx_units.specs.declared.code_point.CodePoint.{CodePoint}
 use Rattle.rx_units.specs.Cursor.{Cursor, moved, offset_of, rest}
 use Rattle.rx_units.specs.Units.{values}
-use Rattle.rx_model.specs.Classes.ClassRows.{ClassRow, Place, SpellsBracket, SpellsInClass, next_place, outside, fresh, at_dash, at_high, at_second, at_third, after_meet, after_less, in_strings}
-use Rattle.rx_model.specs.Classes.ClassRuns.{empty, is_whole, less_by, met_by}
-use Rattle.rx_model.specs.Classes.ClassTokens.{Atom, ClassEvents, ClassToken, bracket, closer, enter, is_character, item, leave, less, meet, token, class_tokens_of}
+use Rattle.rx_model.specs.Classes.ClassRows.{ClassRow, Place, SpellsBracket, SpellsInClass, next_place, outside, fresh}
+use Rattle.rx_model.specs.Classes.ClassRuns.{empty, is_whole, with_operator}
+use Rattle.rx_model.specs.Classes.ClassTokens.{Atom, ClassEvents, ClassToken, bracket, closer, enter, is_character, item, leave, token, class_tokens_of, operator, operator_text}
 use Rattle.rx_model.specs.Inputs.Environment.{Environment, is_sets}
 use Rattle.rx_model.specs.FirstPass.Marks.{starts}
 use Rattle.rx_model.specs.Refusals.ClassPlaces.{begins_item}
@@ -21,7 +21,7 @@ use Rattle.rx_class.specs.SetReading.{AddsToSets, IsInSets, IsOfSets, RefusesNoE
 use Rattle.rx_class.specs.WellBuilt.{IsWellBuilt}
 use Rattle.rx_class.proofs.ClassItems.{rows_append}
 use Rattle.rx_class.proofs.Keeping.{keeps_on, passes_keeps, passes_moved}
-use Rattle.rx_class.proofs.SetPlaces.{begins_place, less_places, met_places, whole_fresh}
+use Rattle.rx_class.proofs.Operators.{begins_cases, begins_place, operand_after, operator_leads, operator_no_item, operator_places, operator_spelled, some_operator, whole_fresh}
 
 pub last_same : {A : Type 0} (xs ys : List A) (x y : A) → xs ++ (x ∷ []) ≡ ys ++ (y ∷ []) → x ≡ y
 last_same [] [] x y h = cc h
@@ -77,39 +77,24 @@ goes_on {e} {added} {from} {old} {new} {before} {after} h a = record {
 begins_some : (us : List CodePoint) (text : List ℕ) (b : Begins us text) → length b.w ≡ length text
 begins_some us text b = sym (length-map b.w (λ (u : CodePoint). u.value)) ∙ ap length b.text_is
 
--- `&&` and `--`
-module _ (added : ℕ) (old new : Cursor) (before after : ClassBuilder) (held : HeldState) (with : held_in after ≡ held_of held) (well : IsWellBuilt after) where
-  pub meet_adds : Begins (rest old) (38 ∷ 38 ∷ []) → met_by (held_in before) ≡ Some (held_of held) → builder_events after ≡ builder_events before ++ (token meet ∷ []) → new ≡ moved 2 old →
+-- an operator
+module _ (added : ℕ) (old new : Cursor) (before after : ClassBuilder) (held : HeldState) (with : held_in after ≡ held_of held) (well : IsWellBuilt after) (o : SetOperator) where
+  pub operator_adds : Begins (rest old) (operator_text o) → with_operator o (held_in before) ≡ Some (held_of held) → builder_events after ≡ builder_events before ++ (token (operator o) ∷ []) → new ≡ moved (length (operator_text o)) old →
       (e : Environment) → IsOfSets e old → AddsToSets e added old new before after
-  meet_adds front by events moves e of =
-      let places = met_places (held_in before) (held_of held) by in
-      let n = begins_some (rest old) (38 ∷ 38 ∷ []) front in
-      adds_token e added old new before after meet front.w front.rest fresh front.whole (omega (arith, n)) (moves ∙ ap (λ n. moved n old) (sym n)) events places.0 (ap place_of with ∙ places.1) (of.sets, front.text_is) well
-      (λ a same is. let no : ⊥ = cc same in no)
-
-  pub less_adds : Begins (rest old) (45 ∷ 45 ∷ []) → less_by (held_in before) ≡ Some (held_of held) → builder_events after ≡ builder_events before ++ (token less ∷ []) → new ≡ moved 2 old →
-      (e : Environment) → IsOfSets e old → AddsToSets e added old new before after
-  less_adds front by events moves e of =
-      let places = less_places (held_in before) (held_of held) by in
-      let n = begins_some (rest old) (45 ∷ 45 ∷ []) front in
-      adds_token e added old new before after less front.w front.rest fresh front.whole (omega (arith, n)) (moves ∙ ap (λ n. moved n old) (sym n)) events places.0 (ap place_of with ∙ places.1) (of.sets, front.text_is) well
-      (λ a same is. let no : ⊥ = cc same in no)
+  operator_adds front by events moves e of =
+      let places = operator_places o (held_in before) (held_of held) by in
+      let n = begins_some (rest old) (operator_text o) front in
+      adds_token e added old new before after (operator o) front.w front.rest fresh front.whole (omega (arith, n, some_operator o)) (moves ∙ ap (λ n. moved n old) (sym n)) events places.0
+      (ap place_of with ∙ places.1 ∙ sym (operator_leads o e.mode fresh front.rest)) (operator_spelled o e front.w front.rest of.sets front.text_is) well (operator_no_item o)
 
 -- After an item, or an operator, a nested bracket may stand.
 bracket_there : (e : Environment) (q : Place) (negative : Bool) (w left : List CodePoint) → begins_item q ≡ true → is_sets e.mode ≡ true → SpellsBracket negative w left → SpellsInClass e q (bracket negative) w left
-bracket_there e fresh negative w left begins sets s = (sets, s)
-bracket_there e after_meet negative w left begins sets s = (sets, s, no_ampersand negative s)
+bracket_there e q negative w left begins sets s =
+    begins_cases (λ q. SpellsInClass e q (bracket negative) w left) (sets, s) (λ o. operand_after o e (bracket negative) w left sets s (λ is. no_ampersand negative s)) q begins
   where
     no_ampersand : (negative : Bool) → SpellsBracket negative w left → starts 38 (values w) ≡ false
     no_ampersand true s = ap (starts 38) s
     no_ampersand false s = ap (starts 38) s.0
-bracket_there e after_less negative w left begins sets s = (sets, s)
-bracket_there e outside negative w left begins sets s = absurd (true≢false (sym begins))
-bracket_there e at_dash negative w left begins sets s = absurd (true≢false (sym begins))
-bracket_there e at_high negative w left begins sets s = absurd (true≢false (sym begins))
-bracket_there e at_second negative w left begins sets s = absurd (true≢false (sym begins))
-bracket_there e at_third negative w left begins sets s = absurd (true≢false (sym begins))
-bracket_there e in_strings negative w left begins sets s = absurd (true≢false (sym begins))
 
 bracket_count : (negative : Bool) (w left : List CodePoint) → SpellsBracket negative w left → length w ≡ length (bracket_text negative)
 bracket_count true w left s = sym (length-map w (λ (u : CodePoint). u.value)) ∙ ap length s

@@ -1,6 +1,8 @@
 -- Which tokens are spelled in a class with `v` where an item or an operand may begin, by the atom that is read there; and where no escape is refused.
 use Rattle.std.proofs.Common.{◌≡◌, refl, sym, ap, ◌∙◌, subst, ℕ, ◌==◌, ◌&&◌, Bool, true, false, Some, None, List, [], ◌∷◌, ◌++◌, drop, inl, inr}
 use Rattle.std.proofs.lemmas.Bool.{cases_Bool, cond-true, cond-false, and_left, and_from, cond_both}
+use Rattle.rx_base.specs.declared.diagnostic.kinds.SetOperator.{SetOperator}
+use Rattle.rx_base.specs.declared.diagnostic.kinds.SetOperator.TheVariants.{Intersection, Subtraction}
 use Rattle.rx_tables.specs.Characters.{is_reserved_punctuator}
 use Rattle.rx_ast.specs.declared.leaf.CharacterClassEscapeKind.{CharacterClassEscapeKind}
 use Rattle.rx_ast.specs.declared.leaf.CharacterKind.{CharacterKind}
@@ -10,7 +12,7 @@ use Rattle.rx_units.specs.Digits.{front_is}
 use Rattle.rx_model.specs.declared.mode.Mode.TheVariants.{Sets}
 use Rattle.rx_model.specs.Characters.EscapeFronts.{EscapeRead, escaped, nothing, too_many, no_unicode, any_escape_at, escape_at}
 use Rattle.rx_model.specs.Classes.ClassFronts.{AtomRead, atom_read, no_atom, atom_at, character_atom, class_token_at, dashed_of, escape_atom, escape_in_class, item_before, item_where, low_of, operand_of, operand_token, bracket_at, are_next, begins_strings, set_token, token_where, fresh_token, TokenRead}
-use Rattle.rx_model.specs.Classes.ClassRows.{Place, fresh, after_meet, after_less, SpellsInClass, has_hyphen, is_dashed, stands_raw_in_class}
+use Rattle.rx_model.specs.Classes.ClassRows.{Place, SpellsInClass, has_hyphen, is_dashed, stands_raw_in_class, after_operator}
 use Rattle.rx_model.specs.Classes.ClassTokens.{Atom, ClassToken, is_character, character, escape, property, closer, item, low}
 use Rattle.rx_model.specs.FirstPass.Marks.{starts}
 use Rattle.rx_model.specs.Inputs.Environment.{Environment, is_sets, is_unicode}
@@ -23,6 +25,7 @@ use Rattle.rx_model.proofs.Classes.RefusedAtoms.{escape_first}
 use Rattle.rx_model.proofs.Properties.PropertyRefusals.{property_first}
 use Rattle.rx_class.specs.Found.{class_escape_front}
 use Rattle.rx_class.specs.SetFronts.{IsItem, IsOfCharacter, NoneRefused, after_backslash, set_character_at, set_escape_at}
+use Rattle.rx_class.proofs.Operators.{begins_cases}
 use Rattle.rx_class.proofs.SetCharacters.{mode_is, raw_in_sets, unicode_is}
 use Rattle.std.proofs.Math.Bool.{and-false}
 
@@ -112,24 +115,27 @@ module _ (e : Environment) (sets : is_sets e.mode ≡ true) where
   item_before_of : (a : Atom) (n : ℕ) (rest : List CodePoint) → OfToken (OfAtom a) (item_before e a n rest)
   item_before_of a n rest = cond_both (is_dashed (values rest)) _ _ (OfToken (OfAtom a)) (λ h. dashed_of_atom a n (atom_at e (drop 1 rest))) (λ h. refl)
 
+  -- after an operator
+  operand_token_of : (P : ClassToken → Type 0) (us : List CodePoint) (o : SetOperator) → OfToken P (operand_of (atom_at e us) (values us)) → OfToken P (class_token_at e (after_operator o) us)
+  unfolding class_token_at
+  operand_token_of P us Intersection h = where_of P _ _ h
+  operand_token_of P us Subtraction h = where_of P _ _ h
+
   -- an atom is read
   token_of_atom : (a : Atom) (n : ℕ) (us : List CodePoint) (q : Place) → begins_item q ≡ true → atom_at e us ≡ atom_read a n → OfToken (OfAtom a) (class_token_at e q us)
   unfolding class_token_at
-  token_of_atom a n us fresh b h = subst (λ r. OfToken (OfAtom a) (fresh_token e r us)) (sym h) (item_before_of a n (drop n us))
-  token_of_atom a n us after_meet b h = where_of (OfAtom a) _ _ (subst (λ r. OfToken (OfAtom a) (operand_of r (values us))) (sym h) refl)
-  token_of_atom a n us after_less b h = where_of (OfAtom a) _ _ (subst (λ r. OfToken (OfAtom a) (operand_of r (values us))) (sym h) refl)
-  token_of_atom a n us q b h = absurd (let no : ⊥ = cc b in no)
+  token_of_atom a n us q b h = begins_cases (λ q. OfToken (OfAtom a) (class_token_at e q us)) (subst (λ r. OfToken (OfAtom a) (fresh_token e r us)) (sym h) (item_before_of a n (drop n us)))
+      (λ o. operand_token_of (OfAtom a) us o (subst (λ r. OfToken (OfAtom a) (operand_of r (values us))) (sym h) refl)) q b
 
   -- or none
   pub token_of_none : (P : ClassToken → Type 0) (us : List CodePoint) → atom_at e us ≡ no_atom → (starts 93 (values us) ≡ true → P closer) → OfToken P (set_token (values us)) → OfToken P (operand_token (values us))
       → (q : Place) → begins_item q ≡ true → OfToken P (class_token_at e q us)
   unfolding class_token_at
-  token_of_none P us h c s o fresh b =
-      subst (λ r. OfToken P (fresh_token e r us)) (sym h)
-      (cond_both (starts 93 (values us)) _ _ (OfToken P) c (λ no_closer. cond_both (is_sets e.mode) _ _ (OfToken P) (λ m. s) (λ m. tt)))
-  token_of_none P us h c s o after_meet b = where_of P _ _ (subst (λ r. OfToken P (operand_of r (values us))) (sym h) o)
-  token_of_none P us h c s o after_less b = where_of P _ _ (subst (λ r. OfToken P (operand_of r (values us))) (sym h) o)
-  token_of_none P us h c s o q b = absurd (let no : ⊥ = cc b in no)
+  token_of_none P us h c s o q b =
+      begins_cases (λ q. OfToken P (class_token_at e q us))
+      (subst (λ r. OfToken P (fresh_token e r us)) (sym h)
+      (cond_both (starts 93 (values us)) _ _ (OfToken P) c (λ no_closer. cond_both (is_sets e.mode) _ _ (OfToken P) (λ m. s) (λ m. tt))))
+      (λ between. operand_token_of P us between (subst (λ r. OfToken P (operand_of r (values us))) (sym h) o)) q b
 
   -- So no other token is spelled.
   abbrev pub Only : List CodePoint → (ClassToken → Type 0) → Type 0

@@ -17,7 +17,7 @@ use Rattle.rx_ast.specs.ClassTree as tree
 use Rattle.rx_units.specs.declared.code_point.CodePoint.{CodePoint}
 use Rattle.rx_units.specs.Cursor.{Cursor, moved, offset_of, rest}
 use Rattle.rx_units.specs.Units.{offset_at, values}
-use Rattle.rx_model.specs.Classes.ClassRows.{ClassRow, Place, SpellsInClass, fresh, after_meet, after_less, in_strings}
+use Rattle.rx_model.specs.Classes.ClassRows.{ClassRow, Place, SpellsInClass, fresh, in_strings}
 use Rattle.rx_model.specs.Classes.ClassRuns.{Bracket, Brackets, Held, any_string, after_step, class_run, operand, takes_operand, where_may, where_true}
 use Rattle.rx_model.specs.Classes.ClassTokens.{ClassEvents, ClassToken, strings, letter, string_bar, strings_end, barred_strings_events, class_tokens_of, enter, leave, letters_events, string_events, strings_events, token}
 use Rattle.rx_model.specs.FirstPass.Marks.{starts}
@@ -36,13 +36,14 @@ use Rattle.rx_class.specs.ClassItems.{IsOfText}
 use Rattle.rx_class.specs.EscapeAnswers.{span_to}
 use Rattle.rx_class.specs.Fitting.{AreFitting}
 use Rattle.rx_class.specs.Keeping.{KeepsUnits}
-use Rattle.rx_class.specs.SetAnswers.{GivesStrings, IsOperandRefusal, IsOperandRow}
+use Rattle.rx_class.specs.SetAnswers.{GivesStrings}
 use Rattle.rx_class.specs.SetAnswers as given
 use Rattle.rx_class.specs.SetFronts.{Begins}
 use Rattle.rx_class.specs.SetStrings.{AddsPart, AreSoundStrings, RefusesPart, ended_events, ends, escape, last_string, no_memory, read_events, started, with_string}
 use Rattle.rx_class.specs.WellBuilt.{IsSound}
 use Rattle.rx_class.proofs.ClassItems.{rows_append}
 use Rattle.rx_class.proofs.Keeping.{Passes, keeps_on, passes_keeps, passes_moved, passes_on, passes_over}
+use Rattle.rx_class.proofs.Operators.{begins_cases, operand_after}
 use Rattle.rx_class.proofs.SetStrings.{string_ends, three_more}
 use Rattle.rx_class.proofs.SetRefusals.{unit_next}
 
@@ -138,10 +139,8 @@ escape_says_more _ (invalid_escape following u h no_value no_limit) k = cc k
 module _ (e : Environment) (sets : is_sets e.mode ≡ true) (added : ℕ) (old : Cursor) where
   -- where an operand may stand class strings may begin
   opener_spelled : (q : Place) (w more : List CodePoint) → begins_item q ≡ true → values w ≡ 92 ∷ 113 ∷ 123 ∷ [] → SpellsInClass e q strings w more
-  opener_spelled fresh w more b h = (sets, h)
-  opener_spelled after_meet w more b h = (sets, h, ap (starts 38) h)
-  opener_spelled after_less w more b h = (sets, h)
-  opener_spelled q w more b h = absurd (true≢false (sym b))
+  opener_spelled q w more b h =
+      begins_cases (λ q. SpellsInClass e q strings w more) (sets, h) (λ o. operand_after o e strings w more sets h (λ is. ap (starts 38) h)) q b
 
   pub strings_begin : (new : Cursor) (b : StringsBuilder) (here : Span) → Begins (rest old) (92 ∷ 113 ∷ 123 ∷ []) → new ≡ moved 3 old → here ≡ span_to added (offset_of new) new → b ≡ started here.start → IsInStrings e added old new b
   strings_begin new b here o moves here_is is =

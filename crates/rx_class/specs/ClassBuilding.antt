@@ -1,29 +1,33 @@
 -- What has been read of a class whose brackets nest: its events, and what an open bracket holds.
-use Rattle.std.specs.Prelude.{ℕ, Option, [], ◌∷◌, ◌++◌}
+use Rattle.std.specs.Prelude.{ℕ, Option, Some, None, [], ◌∷◌, ◌++◌}
 use Rattle.std.specs.List.{flat_map}
+use Rattle.rx_base.specs.declared.diagnostic.kinds.SetOperator.{SetOperator}
 use Rattle.rx_ast.specs.ClassTree.{Class, Member, class, range}
-use Rattle.rx_model.specs.Classes.ClassRuns.{Held, empty, single, several, meeting, met, lessening, lessened, Bracket, bracket_of, operand, ranged}
-use Rattle.rx_model.specs.Classes.ClassTokens.{ClassEvents, enter, token, bracket, meet, less, members_events, operator_events}
+use Rattle.rx_model.specs.Classes.ClassBuilds.{kind_of}
+use Rattle.rx_model.specs.Classes.ClassRuns.{Held, empty, single, several, pending, joined, Bracket, bracket_of, operand, ranged}
+use Rattle.rx_model.specs.Classes.ClassTokens.{ClassEvents, enter, token, bracket, members_events, operator_events, operator}
 use Rattle.rx_class.specs.declared.class_builder.ClassBuilder.{ClassBuilder}
 use Rattle.rx_class.specs.declared.open_bracket.OpenBracket.{OpenBracket}
 use Rattle.rx_class.specs.ClassItems.{contents}
-use Rattle.rx_class.specs.HeldMirror.{held_of, kind_of}
+use Rattle.rx_class.specs.HeldMirror.{held_of}
 
 -- the operator that stands at the end
-abbrev pub last_operator : Held → ClassEvents
-last_operator empty = []
-last_operator single = []
-last_operator several = []
-last_operator meeting = token meet ∷ []
-last_operator met = []
-last_operator lessening = token less ∷ []
-last_operator lessened = []
+abbrev pub last_operator : Held → Option SetOperator
+last_operator empty = None
+last_operator single = None
+last_operator several = None
+last_operator (pending o) = Some o
+last_operator (joined o) = None
+
+abbrev pub end_events : Option SetOperator → ClassEvents
+end_events None = []
+end_events (Some o) = token (operator o) ∷ []
 
 -- a bracket without its end (CharacterClass, NestedClass, 22.2.1)
 unfoldable pub bracket_events : OpenBracket → ClassEvents
 bracket_events b =
     let held = held_of b.held in
-    enter b.start ∷ token (bracket b.negative) ∷ (members_events (operator_events (kind_of held)) (contents b.body) ++ last_operator held)
+    enter b.start ∷ token (bracket b.negative) ∷ (members_events (operator_events (kind_of held)) (contents b.body) ++ end_events (last_operator held))
 
 -- the class that the bracket is, where it ends here
 abbrev pub class_of : OpenBracket → ℕ → Class

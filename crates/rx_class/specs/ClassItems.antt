@@ -12,7 +12,7 @@ use Rattle.rx_ast.specs.declared.leaf.CharacterKind.{CharacterKind}
 use Rattle.rx_ast.specs.declared.leaf.CharacterKind.TheVariants as kind
 use Rattle.rx_ast.specs.declared.class.CharacterClassContents.{CharacterClassContents}
 use Rattle.rx_ast.specs.declared.class.CharacterClassRange.{CharacterClassRange}
-use Rattle.rx_ast.specs.ClassTree.{Member, Members, no_member, member, members, mirror_contents}
+use Rattle.rx_ast.specs.ClassTree.{Member, Members, members, mirror_contents}
 use Rattle.rx_ast.specs.ClassTree as tree
 use Rattle.rx_units.specs.declared.code_point.CodePoint.{CodePoint}
 use Rattle.rx_units.specs.Cursor.{Cursor, moved, rest}

@@ -12,19 +12,18 @@ use Rattle.rx_ast.specs.declared.leaf.CharacterClassEscape.{CharacterClassEscape
 use Rattle.rx_ast.specs.declared.leaf.CharacterClassEscapeKind.{CharacterClassEscapeKind}
 use Rattle.rx_ast.specs.declared.leaf.CharacterKind.{CharacterKind}
 use Rattle.rx_ast.specs.Texts.{class_escape_text}
-use Rattle.rx_model.specs.Inputs.Environment.{Environment, environment_with, has_some, is_unicode}
+use Rattle.rx_model.specs.Inputs.Environment.{Environment, is_unicode}
 use Rattle.rx_model.specs.Refusals.EscapeCauses.{IsEscapeCause}
 use Rattle.rx_model.specs.Characters.Escapes.{SpellsEscape}
 use Rattle.rx_model.specs.Characters.LegacyEscapes.{SpellsLegacy}
 use Rattle.rx_model.specs.Refusals.Firsts.{IsFirstOfEscape}
-use Rattle.rx_scan.specs.StateFaults.{mode_of_state}
+use Rattle.rx_scan.specs.Environments.{state_environment}
 use Rattle.rx_scan.specs.declared.state.State.{State}
 use Rattle.rx_class.specs.Keeping.{KeepsUnits}
 
 -- what a state says of the environment of escapes and classes, which is the same whether buffer boundaries are read or not: its mode, the number of groups, and whether some have names
 abbrev pub environment_of : State → Environment
-environment_of state =
-    environment_with (mode_of_state state) true state.num_of_capturing_groups (has_some state.capturing_group_names)
+environment_of state = state_environment state true
 
 -- The reader stands after a backslash, and the span begins before it.
 pub record IsAfterBackslash (r : Cursor) (span_start : ℕ) : Type 0 where

@@ -12,6 +12,7 @@ pub mod PropertyAnswers
 pub mod PropertyFound
 pub mod PropertySteps
 pub mod ReadingSteps
+pub mod Readings
 pub mod SetAnswers
 pub mod SetFronts
 pub mod SetSteps

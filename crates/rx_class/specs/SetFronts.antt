@@ -2,6 +2,8 @@
 use Rattle.std.specs.Prelude.{◌≡◌, ◌≢◌, ℕ, ◌+◌, ◌==◌, ◌&&◌, ◌⊎◌, Bool, true, false, Option, Some, None, List, [], ◌∷◌, ◌++◌, if◌then◌else◌, codes}
 use Rattle.rx_base.specs.Ascii as ascii
 use Rattle.rx_base.specs.declared.diagnostic.Diagnostic.{Diagnostic}
+use Rattle.rx_base.specs.declared.diagnostic.kinds.SetOperator.{SetOperator}
+use Rattle.rx_base.specs.declared.diagnostic.kinds.SetOperator.TheVariants as set
 use Rattle.rx_tables.specs.Characters.{is_reserved_punctuator}
 use Rattle.rx_ast.specs.declared.leaf.CharacterClassEscapeKind.{CharacterClassEscapeKind}
 use Rattle.rx_ast.specs.declared.leaf.CharacterKind.TheVariants as kind
@@ -13,7 +15,7 @@ use Rattle.rx_model.specs.Characters.EscapeFronts.{EscapeRead, escaped, nothing,
 use Rattle.rx_model.specs.Characters.UnitKinds.{unit_kind}
 use Rattle.rx_model.specs.Classes.ClassFronts.{are_next}
 use Rattle.rx_model.specs.Classes.ClassRows.{BeforeHigh, Place, SpellsBracket, SpellsInClass, is_dashed, stands_raw_in_class}
-use Rattle.rx_model.specs.Classes.ClassTokens.{Atom, ClassToken, is_character}
+use Rattle.rx_model.specs.Classes.ClassTokens.{ClassToken, is_character, operator, operator_text}
 use Rattle.rx_model.specs.Classes.ClassTokens as token
 use Rattle.rx_model.specs.FirstPass.Marks.{starts}
 use Rattle.rx_model.specs.Inputs.Environment.{Environment}
@@ -48,14 +50,13 @@ abbrev pub range_end_at : List CodePoint → EscapeRead
 range_end_at [] = nothing
 range_end_at (u ∷ us) = if u.value == ascii.hyphen then set_character_at us else nothing
 
--- What stands next: `]`; `[`, which may be negative; `\q{`; `&&`; `--`; a character, or an escape of one that is refused; a class escape; what begins a
+-- What stands next: `]`; `[`, which may be negative; `\q{`; an operator; a character, or an escape of one that is refused; a class escape; what begins a
 -- property escape; nothing of these.
 pub data FrontRead : Type 0 where
   closer_next : FrontRead
   bracket_next : Bool → FrontRead
   strings_next : FrontRead
-  meet_next : FrontRead
-  less_next : FrontRead
+  operator_next : SetOperator → FrontRead
   character_next : EscapeRead → FrontRead
   escape_next : CharacterClassEscapeKind → FrontRead
   property_next : FrontRead
@@ -83,8 +84,8 @@ set_front_at [] = nothing_next
 set_front_at (u ∷ us) =
     if u.value == ascii.right_bracket then closer_next
     else (if u.value == ascii.left_bracket then bracket_next (starts ascii.caret (values us))
-    else (if u.value == ascii.ampersand && starts ascii.ampersand (values us) then meet_next
-    else (if u.value == ascii.hyphen && starts ascii.hyphen (values us) then less_next
+    else (if u.value == ascii.ampersand && starts ascii.ampersand (values us) then operator_next set.Intersection
+    else (if u.value == ascii.hyphen && starts ascii.hyphen (values us) then operator_next set.Subtraction
     else (if u.value == ascii.backslash then escaped_front (values us)
     else character_front (set_character_at (u ∷ us))))))
 
@@ -114,8 +115,7 @@ abbrev pub StandsFront : List CodePoint → FrontRead → Type 0
 StandsFront us closer_next = Begins us (codes "]")
 StandsFront us (bracket_next negative) = BeginsBracket us negative
 StandsFront us strings_next = Begins us (codes "\\q{")
-StandsFront us meet_next = Begins us (codes "&&")
-StandsFront us less_next = Begins us (codes "--")
+StandsFront us (operator_next o) = Begins us (operator_text o)
 StandsFront us (character_next read) = (set_character_at us ≡ read) × (read ≢ nothing)
 StandsFront us (escape_next k) = Begins us (class_escape_text k)
 StandsFront us property_next = BeginsProperty us
@@ -136,8 +136,7 @@ abbrev pub IsOfFront : FrontRead → ClassToken → Type 0
 IsOfFront closer_next t = t ≡ token.closer
 IsOfFront (bracket_next negative) t = t ≡ token.bracket negative
 IsOfFront strings_next t = t ≡ token.strings
-IsOfFront meet_next t = t ≡ token.meet
-IsOfFront less_next t = t ≡ token.less
+IsOfFront (operator_next o) t = t ≡ operator o
 IsOfFront (character_next read) t = IsOfCharacter t
 IsOfFront (escape_next k) t = t ≡ token.item (token.escape k)
 IsOfFront property_next t = IsItem t
@@ -148,8 +147,7 @@ abbrev pub may_be_refused : FrontRead → Bool
 may_be_refused closer_next = false
 may_be_refused (bracket_next negative) = false
 may_be_refused strings_next = false
-may_be_refused meet_next = false
-may_be_refused less_next = false
+may_be_refused (operator_next o) = false
 may_be_refused (character_next read) = true
 may_be_refused (escape_next k) = false
 may_be_refused property_next = true

@@ -6,6 +6,7 @@ use Rattle.rx_base.specs.declared.diagnostic.Diagnostic.{Diagnostic}
 use Rattle.rx_base.specs.declared.diagnostic.Diagnostic.TheVariants.{CharacterClassRangeOutOfOrder, ClassSetExpressionInvalidCharacter, EmptyClassSetExpression, UnterminatedPattern}
 use Rattle.rx_base.specs.declared.diagnostic.kinds.RangeKind.TheVariants as range_kind
 use Rattle.rx_base.specs.declared.diagnostic.kinds.SetOperator.{SetOperator}
+use Rattle.rx_base.specs.declared.diagnostic.kinds.SetOperator.TheVariants.{Intersection}
 use Rattle.rx_base.specs.declared.fault.Fault.{Fault}
 use Rattle.rx_base.specs.declared.fault.Fault.TheVariants as fault
 use Rattle.rx_ast.specs.declared.leaf.Character.{Character}
@@ -14,8 +15,8 @@ use Rattle.rx_units.specs.declared.code_point.CodePoint.{CodePoint}
 use Rattle.rx_units.specs.Cursor.{Cursor, offset_of, rest}
 use Rattle.rx_units.specs.Units.{offset_at, values}
 use Rattle.rx_model.specs.Characters.EscapeFronts.{nothing}
-use Rattle.rx_model.specs.Classes.ClassRows.{ClassRow, Place, outside, fresh, after_meet, after_less}
-use Rattle.rx_model.specs.Classes.ClassRuns.{Held, empty, single, several, meeting, met, lessening, lessened, is_union, is_whole, operator_of, ranged, takes_operand}
+use Rattle.rx_model.specs.Classes.ClassRows.{ClassRow, Place, outside, fresh, after_operator}
+use Rattle.rx_model.specs.Classes.ClassRuns.{Held, empty, is_union, is_whole, operator_of, ranged, takes_operand}
 use Rattle.rx_model.specs.Classes.ClassTokens.{Atom, ClassEvents, ClassToken, class_tokens_of, is_character, item}
 use Rattle.rx_model.specs.FirstPass.Marks.{starts}
 use Rattle.rx_model.specs.Inputs.Environment.{Environment, is_sets}
@@ -26,7 +27,7 @@ use Rattle.rx_class.specs.declared.class_builder.ClassBuilder.{ClassBuilder}
 use Rattle.rx_class.specs.declared.open_bracket.OpenBracket.{OpenBracket}
 use Rattle.rx_class.specs.declared.escape_found.EscapeFound.{EscapeFound}
 use Rattle.rx_class.specs.declared.held.Held.{Held as HeldState}
-use Rattle.rx_class.specs.ClassBuilding.{builder_events}
+use Rattle.rx_class.specs.ClassBuilding.{builder_events, last_operator}
 use Rattle.rx_class.specs.ClassItems.{IsOfText, between}
 use Rattle.rx_class.specs.EscapeAnswers.{span_to}
 use Rattle.rx_class.specs.Found.{seen_escape}
@@ -41,15 +42,14 @@ pub record IsOfSets (e : Environment) (r : Cursor) : Type 0 where
   pub text : IsOfText e r
   pub within : r.place ≤ length r.units
 
--- where what stands next in a bracket that holds this may stand
+-- where what stands next may stand, by the operator that stands before it
+abbrev pub place_after : Option SetOperator → Place
+place_after None = fresh
+place_after (Some o) = after_operator o
+
+-- the same in a bracket that holds this
 abbrev pub place_of : Held → Place
-place_of empty = fresh
-place_of single = fresh
-place_of several = fresh
-place_of meeting = after_meet
-place_of met = fresh
-place_of lessening = after_less
-place_of lessened = fresh
+place_of held = place_after (last_operator held)
 
 -- what the innermost bracket holds
 abbrev pub held_in : ClassBuilder → Held
@@ -114,7 +114,7 @@ pub data GivesTurn (e : Environment) (added : ℕ) (old new : Cursor) (before af
 pub record StandsNothing (e : Environment) (r : Cursor) (b : ClassBuilder) : Type 0 where
   pub follows : NothingFollows e (place_of (held_in b)) (held_in b) (rest r)
   pub none_refused : takes_operand (held_in b) ≡ true → NoneRefused e (rest r)
-  pub no_third : place_of (held_in b) ≡ after_meet → starts ascii.ampersand (values (rest r)) ≡ false
+  pub no_third : place_of (held_in b) ≡ after_operator Intersection → starts ascii.ampersand (values (rest r)) ≡ false
 
 -- Why nothing that stands next may follow in the innermost bracket.
 pub data SaysNothing (added : ℕ) (r : Cursor) (b : ClassBuilder) : Diagnostic → Type 0 where

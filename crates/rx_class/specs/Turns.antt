@@ -1,12 +1,12 @@
 -- What is done with what stands next in a bracket of a class with `v`, by what the bracket holds.
 use Rattle.std.specs.Prelude.{◌≡◌, true, false, IsSome, Some}
-use Rattle.rx_model.specs.Classes.ClassRuns.{Held, is_whole, less_by, may_follow, met_by, operand, takes_operand}
+use Rattle.rx_model.specs.Classes.ClassRuns.{Held, is_whole, may_follow, operand, takes_operand, with_operator}
 use Rattle.rx_model.specs.Classes.ClassTokens.{ClassToken}
 use Rattle.rx_class.specs.declared.set_turn.Turn.{Turn}
 use Rattle.rx_class.specs.declared.set_turn.Turn.TheVariants as turn
 use Rattle.rx_class.specs.Found.{seen_escape}
 use Rattle.rx_class.specs.HeldMirror.{held_of}
-use Rattle.rx_class.specs.SetFronts.{FrontRead, bracket_next, character_next, closer_next, escape_next, less_next, meet_next, property_next, strings_next, IsOfFront, may_be_refused}
+use Rattle.rx_class.specs.SetFronts.{FrontRead, bracket_next, character_next, closer_next, escape_next, operator_next, property_next, strings_next, IsOfFront, may_be_refused}
 
 -- A bracket that holds this goes on with no token that stands next, and with no escape that may be refused.
 pub record TakesNothing (held : Held) (front : FrontRead) : Type 0 where
@@ -16,8 +16,7 @@ pub record TakesNothing (held : Held) (front : FrontRead) : Type 0 where
 -- what is done, with what the bracket holds then
 abbrev pub IsTurn : Held → FrontRead → Turn → Type 0
 IsTurn held front turn.Close = (front ≡ closer_next) × (is_whole held ≡ true)
-IsTurn held front (turn.Meet after) = (front ≡ meet_next) × (met_by held ≡ Some (held_of after))
-IsTurn held front (turn.Less after) = (front ≡ less_next) × (less_by held ≡ Some (held_of after))
+IsTurn held front (turn.Operator o after) = (front ≡ operator_next o) × (with_operator o held ≡ Some (held_of after))
 IsTurn held front (turn.Open negative) = (front ≡ bracket_next negative) × IsSome (operand held)
 IsTurn held front (turn.Strings after) = (front ≡ strings_next) × (operand held ≡ Some (held_of after))
 IsTurn held front (turn.Character found after) = (front ≡ character_next (seen_escape found)) × (operand held ≡ Some (held_of after))

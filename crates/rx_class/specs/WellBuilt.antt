@@ -1,7 +1,8 @@
 -- What has been read of a class whose brackets nest obeys the grammar (22.2.1), and has no early error (22.2.1.1).
 use Rattle.std.specs.Prelude.{◌≡◌, All, IsSome, Some, [], ◌∷◌}
 use Rattle.rx_ast.specs.ClassTree.{Member, Members, no_member, member}
-use Rattle.rx_model.specs.Classes.ClassRuns.{Held, empty, single, several, meeting, met, lessening, lessened, class_opened, operand}
+use Rattle.rx_model.specs.Classes.ClassBuilds.{kind_of}
+use Rattle.rx_model.specs.Classes.ClassRuns.{Held, empty, single, several, pending, joined, class_opened, operand}
 use Rattle.rx_model.specs.Classes.ClassShapes.{AreFitting, AreFlagged, AreOperands, AreTwo, IsFittingMember, IsFlaggedMember}
 use Rattle.rx_model.specs.Classes.ClassTokens.{class_tokens_of}
 use Rattle.rx_model.specs.Trees.Early.{AreEarlyMembers, IsEarlyMember, may_contain_strings}
@@ -9,7 +10,7 @@ use Rattle.rx_class.specs.declared.class_builder.ClassBuilder.{ClassBuilder}
 use Rattle.rx_class.specs.declared.open_bracket.OpenBracket.{OpenBracket}
 use Rattle.rx_class.specs.ClassBuilding.{bracket_at, bracket_events}
 use Rattle.rx_class.specs.ClassItems.{contents}
-use Rattle.rx_class.specs.HeldMirror.{held_of, kind_of}
+use Rattle.rx_class.specs.HeldMirror.{held_of}
 
 abbrev pub AreNone : Members → Type 0
 AreNone no_member = Unit {0}
@@ -28,10 +29,8 @@ abbrev pub AreHeld : Held → Members → Type 0
 AreHeld empty ms = AreNone ms
 AreHeld single ms = AreOne ms × AreOperands ms
 AreHeld several ms = Unit {0}
-AreHeld meeting ms = AreSome ms × AreOperands ms
-AreHeld met ms = AreTwo ms × AreOperands ms
-AreHeld lessening ms = AreSome ms × AreOperands ms
-AreHeld lessened ms = AreTwo ms × AreOperands ms
+AreHeld (pending o) ms = AreSome ms × AreOperands ms
+AreHeld (joined o) ms = AreTwo ms × AreOperands ms
 
 -- A member, with all that is in it, has what the grammar asks for, flags that tell its strings, and no early error.
 pub record IsSound (m : Member) : Type 0 where

@@ -1,8 +1,8 @@
 ghost use Rattle.std.specs.Prelude.{◌≡◌, ◌≢◌, ◌++◌, ◌∷◌, ◌&&◌, ◌↔◌, [], IsSome, IsTrue, OnOk, Some, false, true};
 ghost use Rattle.rx_ast.specs.ClassTree.{mirror_class, mirror_contents};
-ghost use Rattle.rx_model.specs.Classes.ClassRuns.{empty, is_whole, less_by, met_by, operand};
+ghost use Rattle.rx_model.specs.Classes.ClassRuns.{empty, is_whole, operand, with_operator};
 ghost use Rattle.rx_model.specs.Classes.ClassShapes.{IsFitting, IsFlagged};
-ghost use Rattle.rx_model.specs.Classes.ClassTokens.{bracket, class_events, closer, enter, leave, less, meet, member_events, token};
+ghost use Rattle.rx_model.specs.Classes.ClassTokens.{bracket, class_events, closer, enter, leave, member_events, token, operator as token_of};
 ghost use Rattle.rx_model.specs.Trees.Early.{IsEarlyClass, member_strings};
 ghost use Rattle.rx_class.specs.ClassBuilding.{builder_events, with_member};
 ghost use Rattle.rx_class.specs.HeldMirror.{held_of};
@@ -11,7 +11,7 @@ ghost use Rattle.rx_class.specs.WellBuilt.{IsSound, IsWellBuilt};
 use crate::held::Held;
 use crate::open_bracket::OpenBracket;
 use rx_ast::{CharacterClass, CharacterClassContents};
-use rx_base::{List, OutOfMemory};
+use rx_base::{List, OutOfMemory, SetOperator};
 use std::alloc::Global;
 
 /// All that was read of a class whose brackets may nest (ClassUnicodeSets and NestedClass of ECMA-262, 22.2.1): the open
@@ -68,22 +68,11 @@ impl ClassBuilder {
         self.inner.push(contents, strings, held)
     }
 
-    /// Adds a `&&`, with which the innermost bracket holds what is given.
-    pub fn meet(&mut self, held: Held)
+    /// Adds an operator, with which the innermost bracket holds what is given.
+    pub fn join(&mut self, operator: SetOperator, held: Held)
         requires well { IsWellBuilt self.old }
-        requires held { met_by (held_of self.old.inner.held) ≡ Some (held_of held) }
-        ensures events { builder_events self.new ≡ builder_events self.old ++ token meet ∷ [] }
-        ensures held { held_of self.new.inner.held ≡ held_of held }
-        ensures well { IsWellBuilt self.new }
-    {
-        self.inner.held = held;
-    }
-
-    /// Adds a `--`, with which the innermost bracket holds what is given.
-    pub fn less(&mut self, held: Held)
-        requires well { IsWellBuilt self.old }
-        requires held { less_by (held_of self.old.inner.held) ≡ Some (held_of held) }
-        ensures events { builder_events self.new ≡ builder_events self.old ++ token less ∷ [] }
+        requires held { with_operator operator (held_of self.old.inner.held) ≡ Some (held_of held) }
+        ensures events { builder_events self.new ≡ builder_events self.old ++ token (token_of operator) ∷ [] }
         ensures held { held_of self.new.inner.held ≡ held_of held }
         ensures well { IsWellBuilt self.new }
     {

@@ -1,6 +1,6 @@
-ghost use Rattle.std.specs.Prelude.{◌≡◌, ◌++◌, ◌∷◌, [], All, IfErr, OnOk, false, true, ◌+◌, ◌<◌, ◌≤◌, ◌^◌, length, codes};
+ghost use Rattle.std.specs.Prelude.{◌≡◌, IfErr, OnOk, false, true, ◌+◌, ◌<◌, ◌≤◌, ◌^◌, length, codes};
 ghost use Rattle.rx_base.specs.Ascii as ascii;
-ghost use Rattle.rx_units.specs.Cursor.{offset_of, rest};
+ghost use Rattle.rx_units.specs.Cursor.{rest};
 ghost use Rattle.rx_units.specs.Pace.{TakesSteps};
 ghost use Rattle.rx_units.specs.Units.{values};
 ghost use Rattle.rx_model.specs.FirstPass.Marks.{starts};

@@ -1,13 +1,15 @@
-ghost use Rattle.std.specs.Prelude.{◌≡◌, ◌+◌, ◌<◌, ◌≤◌, ◌==◌, ◌^◌, All, true, length};
+ghost use Rattle.std.specs.Prelude.{◌≡◌, ◌+◌, ◌<◌, ◌≤◌, ◌==◌, All, true, length};
 ghost use Rattle.rx_base.specs.Ascii as ascii;
 ghost use Rattle.rx_base.specs.Rising.{Rises};
-ghost use Rattle.rx_units.specs.Cursor.{moved, offset_of, rest};
+ghost use Rattle.rx_units.specs.Cursor.{rest};
 ghost use Rattle.rx_units.specs.Pace.{IsMove};
 ghost use Rattle.rx_units.specs.Units.{values};
 ghost use Rattle.rx_units.specs.Digits.{front_is};
 ghost use Rattle.rx_model.specs.Characters.EscapeFronts.{any_escape_at};
-ghost use Rattle.rx_model.specs.Inputs.Environment.{Environment, is_sets, is_unicode};
+ghost use Rattle.rx_model.specs.Inputs.Environment as model;
+ghost use Rattle.rx_model.specs.Inputs.Environment.{is_sets, is_unicode};
 ghost use Rattle.rx_model.specs.Refusals.Reached.{span_between};
+ghost use Rattle.rx_scan.specs.Environments.{seen_environment};
 ghost use Rattle.rx_class.specs.EscapeAnswers.{GivesCharacter, GivesClassEscape, IsAfterBackslash, environment_of};
 ghost use Rattle.rx_class.specs.EscapeSteps.{few_looks};
 ghost use Rattle.rx_class.specs.Fitting.{AreFitting};
@@ -18,10 +20,10 @@ ghost use Rattle.rx_class.specs.SetAnswers.{GivesSetCharacter};
 ghost use Rattle.rx_class.specs.SetFronts.{set_character_at};
 
 use crate::spans::span_to_here;
-use crate::{EscapeFound, LegacyContext, any_escape_at, character_escape_at, class_escape_at};
+use crate::{EscapeFound, any_escape_at, character_escape_at, class_escape_at};
 use rx_ast::{Character, CharacterClassEscape};
 use rx_base::{Counter, Diagnostic, DigitsKind, Span};
-use rx_scan::{SpanFactory, State};
+use rx_scan::{Environment, SpanFactory, State};
 use rx_units::{CodePoint, Reader};
 
 /// Reads the character escape (CharacterEscape of ECMA-262, 22.2.1) after a backslash that was read, and moves over its units. The
@@ -64,7 +66,7 @@ pub fn character_in_class<C: Counter>(
     ensures steps { IsReading 6 (C.count steps.old) (C.count steps.new) reader.old reader.new result }
 {
     let units = reader.remaining_code_points();
-    let found = any_escape_at(units, is_unicode(state), context_in_class(state), steps);
+    let found = any_escape_at(units, true, class_environment(state), steps);
     answer(reader, spans, span_start, found, steps)
 }
 
@@ -78,7 +80,7 @@ fn shared_escape<C: Counter>(units: &[CodePoint], state: &State, steps: &mut C) 
     if begins_with_c(units) {
         character_escape_at(units, is_unicode(state), steps)
     } else {
-        any_escape_at(units, is_unicode(state), context_in_class(state), steps)
+        any_escape_at(units, true, class_environment(state), steps)
     }
 }
 
@@ -89,24 +91,17 @@ fn begins_with_c(units: &[CodePoint]) -> bool
 }
 
 /// Whether escapes are those with `u` or `v`.
-#[tactic(auto, using(crate::proofs::Modes::by_either))]
 pub fn is_unicode(state: &State) -> bool
     ensures { result ≡ is_unicode (environment_of state.now).mode }
 {
-    state.unicode_mode || state.unicode_sets_mode
+    state.mode().is_unicode()
 }
 
-/// What the escapes in a class of the pattern depend on.
-fn context_in_class(state: &State) -> LegacyContext
-    ensures inside { result.inside ≡ true }
-    ensures groups { result.groups ≡ (environment_of state.now).groups }
-    ensures named { result.named ≡ (environment_of state.now).named }
+/// The environment of the pattern's classes. No boundary stands in them, so it is the same whatever the rules say.
+fn class_environment(state: &State) -> Environment
+    ensures { seen_environment result ≡ environment_of state.now }
 {
-    LegacyContext {
-        inside: true,
-        groups: state.num_of_capturing_groups,
-        named: is_unicode(state) || !state.capturing_group_names.is_empty(),
-    }
+    Environment::of(state, true)
 }
 
 /// The answer to what was found where the reader stands. The reader moves over a character.
@@ -157,7 +152,7 @@ pub fn answer_ahead<C: Counter>(
     requires found { seen_escape found ≡ set_character_at (rest reader.old) }
     requires code_points { All (λ unit. unit.value ≤ 0x10FFFF) (rest reader.old) }
     requires fits { AreFitting spans.now reader.old }
-    ensures gives { (e : Environment) → is_sets e.mode ≡ true → GivesSetCharacter e spans.now reader.old reader.new result }
+    ensures gives { (e : model.Environment) → is_sets e.mode ≡ true → GivesSetCharacter e spans.now reader.old reader.new result }
     ensures steps { IsMove (C.count steps.old) (C.count steps.new) reader.old reader.new }
 {
     match found {

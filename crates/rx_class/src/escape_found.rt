@@ -1,4 +1,4 @@
-ghost use Rattle.std.specs.Prelude.{◌≡◌, ◌+◌, ◌≤◌, All, IsTrue, length, if◌then◌else◌};
+ghost use Rattle.std.specs.Prelude.{◌≡◌, ◌+◌, ◌≤◌, ◌||◌, All, IsTrue, length, if◌then◌else◌};
 ghost use Rattle.std.specs.List.{prefix_len};
 ghost use Rattle.rx_base.specs.Rising.{Rises};
 ghost use Rattle.rx_units.specs.Units.{values};
@@ -7,15 +7,16 @@ ghost use Rattle.rx_tables.specs.Characters.{is_decimal_digit};
 ghost use Rattle.rx_model.specs.Characters.Decoding.{decoded};
 ghost use Rattle.rx_model.specs.Characters.EscapeFronts.{any_escape_at};
 ghost use Rattle.rx_model.specs.Characters.Escapes.{is_identity_escape};
-ghost use Rattle.rx_model.specs.Inputs.Environment.{Environment, is_unicode};
+ghost use Rattle.rx_model.specs.Inputs.Environment.{is_unicode};
 ghost use Rattle.rx_model.specs.Reading.Fronts.{escape_at, escaped, escaped_if, letter_at, nothing, two_at, unicode_read};
+ghost use Rattle.rx_scan.specs.Environments.{seen_environment};
 ghost use Rattle.rx_class.specs.EscapeSteps.{few_looks, most_looks};
 ghost use Rattle.rx_class.specs.Found.{IsWithin, class_escape_front, seen_escape};
 
-use crate::{LegacyContext, legacy_escape_at};
+use crate::legacy_escape_at;
 use rx_ast::{CharacterClassEscapeKind, CharacterKind};
 use rx_base::Counter;
-use rx_scan::{UnicodeEscape, decode_counted};
+use rx_scan::{Environment, UnicodeEscape, decode_counted};
 use rx_tables::{
     is_decimal_digit, is_syntax_character, map_c_ascii_letter, map_control_escape, map_hex_digit,
 };
@@ -42,42 +43,43 @@ pub enum EscapeFound {
 
 /// The character escape (CharacterEscape of ECMA-262, 22.2.1) that the units after a backslash begin with in a mode: with neither
 /// `u` nor `v` those of B.1.2 are read too.
-#[tactic(auto, using(crate::proofs::Bounds::any_within))]
+#[tactic(auto, using(crate::proofs::Bounds::any_read_within))]
 pub fn any_escape_at<C: Counter>(
     units: &[CodePoint],
-    unicode_mode: bool,
-    context: LegacyContext,
+    inside: bool,
+    environment: Environment,
     steps: &mut C,
 ) -> EscapeFound
-    ensures read { (e : Environment) → is_unicode e.mode ≡ unicode_mode → e.groups ≡ context.groups → e.named ≡ context.named
-        → seen_escape result ≡ any_escape_at context.inside e (values units.now) }
+    ensures read { seen_escape result ≡ any_escape_at inside (seen_environment environment) (values units.now) }
     ensures within { All (λ unit. unit.value ≤ 0x10FFFF) units.now → IsWithin (length units.now) result }
-    ensures steps { Rises (C.count steps.old) (C.count steps.new) 0 (most_looks unicode_mode (length units.now) result
-        + (if context.inside then 0 else prefix_len (λ u. is_decimal_digit u.value) units.now + 1)) }
-    ensures few { IsTrue context.inside → Rises (C.count steps.old) (C.count steps.new) 0 (few_looks (length units.now) result) }
+    ensures steps { Rises (C.count steps.old) (C.count steps.new) 0 (most_looks (is_unicode environment.mode) (length units.now) result
+        + (if is_unicode environment.mode || inside then 0 else prefix_len (λ u. is_decimal_digit u.value) units.now + 1)) }
+    ensures few { IsTrue inside → Rises (C.count steps.old) (C.count steps.new) 0 (few_looks (length units.now) result) }
 {
-    escape_of_mode(units, unicode_mode, context, steps)
+    escape_of_mode(units, inside, environment, steps)
 }
 
 fn escape_of_mode<C: Counter>(
     units: &[CodePoint],
-    unicode_mode: bool,
-    context: LegacyContext,
+    inside: bool,
+    environment: Environment,
     steps: &mut C,
 ) -> EscapeFound
-    ensures read { (e : Environment) → is_unicode e.mode ≡ unicode_mode → e.groups ≡ context.groups → e.named ≡ context.named
-        → seen_escape result ≡ any_escape_at context.inside e (values units.now) }
-    ensures steps { Rises (C.count steps.old) (C.count steps.new) 0 (most_looks unicode_mode (length units.now) result
-        + (if context.inside then 0 else prefix_len (λ u. is_decimal_digit u.value) units.now + 1)) }
-    ensures few { IsTrue context.inside → Rises (C.count steps.old) (C.count steps.new) 0 (few_looks (length units.now) result) }
+    ensures read { seen_escape result ≡ any_escape_at inside (seen_environment environment) (values units.now) }
+    ensures steps { Rises (C.count steps.old) (C.count steps.new) 0 (most_looks (is_unicode environment.mode) (length units.now) result
+        + (if is_unicode environment.mode || inside then 0 else prefix_len (λ u. is_decimal_digit u.value) units.now + 1)) }
+    ensures few { IsTrue inside → Rises (C.count steps.old) (C.count steps.new) 0 (few_looks (length units.now) result) }
 {
+    let unicode_mode = environment.is_unicode();
     let found = character_escape_at(units, unicode_mode, steps);
     if unicode_mode {
         return found;
     }
     match found {
         EscapeFound::Character { .. } | EscapeFound::TooMany { .. } => found,
-        EscapeFound::Nothing | EscapeFound::Invalid => legacy_escape_at(units, context, steps),
+        EscapeFound::Nothing | EscapeFound::Invalid => {
+            legacy_escape_at(units, inside, environment, steps)
+        }
     }
 }
 

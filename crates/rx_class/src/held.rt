@@ -1,7 +1,8 @@
 ghost use Rattle.std.specs.Prelude.{◌≡◌, ◌↔◌, IsTrue};
 ghost use Rattle.std.specs.Option.{option_map};
-ghost use Rattle.rx_model.specs.Classes.ClassRuns.{empty, is_whole, less_by, meeting, met_by, operand, operator_of, ranged, with_strings};
-ghost use Rattle.rx_class.specs.HeldMirror.{held_of, kind_of};
+ghost use Rattle.rx_model.specs.Classes.ClassBuilds.{kind_of};
+ghost use Rattle.rx_model.specs.Classes.ClassRuns.{empty, is_whole, operand, operator_of, ranged, with_strings, pending, with_operator};
+ghost use Rattle.rx_class.specs.HeldMirror.{held_of};
 
 use rx_ast::CharacterClassContentsKind;
 use rx_base::SetOperator;
@@ -18,17 +19,11 @@ pub enum Held {
     /// More of a union: operands and ranges.
     Several,
 
-    /// Operands with `&&` between, and such a `&&` at the end.
-    Meeting,
+    /// Operands with the operator between, and such an operator at the end.
+    Pending(SetOperator),
 
-    /// Two operands or more with `&&` between.
-    Met,
-
-    /// Operands with `--` between, and such a `--` at the end.
-    Lessening,
-
-    /// Two operands or more with `--` between.
-    Lessened,
+    /// Two operands or more with the operator between.
+    Joined(SetOperator),
 }
 
 impl Held {
@@ -39,9 +34,8 @@ impl Held {
         match self {
             Held::Empty => Some(Held::Single),
             Held::Single | Held::Several => Some(Held::Several),
-            Held::Meeting => Some(Held::Met),
-            Held::Lessening => Some(Held::Lessened),
-            Held::Met | Held::Lessened => None,
+            Held::Pending(operator) => Some(Held::Joined(operator)),
+            Held::Joined(_) => None,
         }
     }
 
@@ -51,27 +45,18 @@ impl Held {
     {
         match self {
             Held::Empty | Held::Single | Held::Several => Some(Held::Several),
-            Held::Meeting | Held::Met | Held::Lessening | Held::Lessened => None,
+            Held::Pending(_) | Held::Joined(_) => None,
         }
     }
 
-    /// What is held with `&&` at the end, or `None` where none may stand.
-    pub fn with_meet(self) -> Option<Held>
-        ensures { option_map held_of result ≡ met_by (held_of self) }
+    /// What is held with the operator at the end, or `None` where it may not stand.
+    pub fn with_operator(self, operator: SetOperator) -> Option<Held>
+        ensures { option_map held_of result ≡ with_operator operator (held_of self) }
     {
         match self {
-            Held::Single | Held::Met => Some(Held::Meeting),
-            Held::Empty | Held::Several | Held::Meeting | Held::Lessening | Held::Lessened => None,
-        }
-    }
-
-    /// What is held with `--` at the end, or `None` where none may stand.
-    pub fn with_less(self) -> Option<Held>
-        ensures { option_map held_of result ≡ less_by (held_of self) }
-    {
-        match self {
-            Held::Single | Held::Lessened => Some(Held::Lessening),
-            Held::Empty | Held::Several | Held::Meeting | Held::Met | Held::Lessening => None,
+            Held::Single => Some(Held::Pending(operator)),
+            Held::Joined(between) if between == operator => Some(Held::Pending(operator)),
+            Held::Empty | Held::Several | Held::Pending(_) | Held::Joined(_) => None,
         }
     }
 
@@ -80,8 +65,8 @@ impl Held {
         ensures { result ≡ is_whole (held_of self) }
     {
         match self {
-            Held::Meeting | Held::Lessening => false,
-            Held::Empty | Held::Single | Held::Several | Held::Met | Held::Lessened => true,
+            Held::Pending(_) => false,
+            Held::Empty | Held::Single | Held::Several | Held::Joined(_) => true,
         }
     }
 
@@ -98,26 +83,28 @@ impl Held {
     {
         match self {
             Held::Empty | Held::Single | Held::Several => None,
-            Held::Meeting | Held::Met => Some(SetOperator::Intersection),
-            Held::Lessening | Held::Lessened => Some(SetOperator::Subtraction),
+            Held::Pending(operator) | Held::Joined(operator) => Some(operator),
         }
     }
 
-    /// Whether a `&&` stands at the end.
-    pub fn is_meeting(self) -> bool
-        ensures { IsTrue result ↔ (held_of self ≡ meeting) }
+    /// Whether the operator stands at the end.
+    pub fn is_pending(self, operator: SetOperator) -> bool
+        ensures { IsTrue result ↔ (held_of self ≡ pending operator) }
     {
-        matches!(self, Held::Meeting)
+        match self {
+            Held::Pending(last) => last == operator,
+            _ => false,
+        }
     }
 
     /// What its operands make up.
     pub fn kind(self) -> CharacterClassContentsKind
         ensures { result ≡ kind_of (held_of self) }
     {
-        match self {
-            Held::Empty | Held::Single | Held::Several => CharacterClassContentsKind::Union,
-            Held::Meeting | Held::Met => CharacterClassContentsKind::Intersection,
-            Held::Lessening | Held::Lessened => CharacterClassContentsKind::Subtraction,
+        match self.operator() {
+            None => CharacterClassContentsKind::Union,
+            Some(SetOperator::Intersection) => CharacterClassContentsKind::Intersection,
+            Some(SetOperator::Subtraction) => CharacterClassContentsKind::Subtraction,
         }
     }
 
@@ -129,8 +116,8 @@ impl Held {
         match self {
             Held::Empty => new,
             Held::Single | Held::Several => old || new,
-            Held::Meeting => old && new,
-            Held::Met | Held::Lessening | Held::Lessened => old,
+            Held::Pending(SetOperator::Intersection) => old && new,
+            Held::Pending(SetOperator::Subtraction) | Held::Joined(_) => old,
         }
     }
 }

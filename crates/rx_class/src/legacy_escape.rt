@@ -7,7 +7,7 @@ ghost use Rattle.rx_units.specs.Units.{values};
 ghost use Rattle.rx_units.specs.Digits.{front_is, octal, is_hex_digit};
 ghost use Rattle.rx_model.specs.Characters.EscapeFronts.{control_after, digit_at, legacy_at, octal_at};
 ghost use Rattle.rx_model.specs.Characters.LegacyEscapes.{four_next, is_class_control, refers, run_number, two_next};
-ghost use Rattle.rx_model.specs.Inputs.Environment.{Environment};
+ghost use Rattle.rx_scan.specs.Environments.{seen_environment};
 ghost use Rattle.rx_tables.specs.Characters.{is_decimal_digit, is_octal_digit};
 ghost use Rattle.rx_class.specs.Found.{seen_escape};
 
@@ -15,42 +15,36 @@ use crate::EscapeFound;
 use crate::escape_found::character;
 use rx_ast::CharacterKind;
 use rx_base::Counter;
+use rx_scan::Environment;
 use rx_tables::{is_decimal_digit, is_octal_digit, map_c_ascii_letter, map_hex_digit};
 use rx_units::CodePoint;
-
-/// Where an escape stands, with neither `u` nor `v`.
-#[derive(Clone, Copy, Debug)]
-pub struct LegacyContext {
-    /// In a class, and not outside classes.
-    pub inside: bool,
-    /// The number of the pattern's groups.
-    pub groups: u32,
-    /// Whether `\k` is a reference.
-    pub named: bool,
-}
 
 /// The escape that the units after a backslash begin with, of those that are one with neither `u` nor `v` alone (CharacterEscape and ClassEscape of
 /// ECMA-262, B.1.2).
 #[tactic(auto, unfolding(rx_model::specs::Characters::EscapeFronts::legacy_at))]
 pub fn legacy_escape_at<C: Counter>(
     units: &[CodePoint],
-    context: LegacyContext,
+    inside: bool,
+    environment: Environment,
     steps: &mut C,
 ) -> EscapeFound
-    ensures read { (e : Environment) → e.groups ≡ context.groups → e.named ≡ context.named → seen_escape result ≡ legacy_at context.inside e (values units.now) }
-    ensures steps { Rises (C.count steps.old) (C.count steps.new) 0 (if context.inside then 0 else prefix_len (λ u. is_decimal_digit u.value) units.now + 1) }
+    ensures read { seen_escape result ≡ legacy_at inside (seen_environment environment) (values units.now) }
+    ensures steps { Rises (C.count steps.old) (C.count steps.new) 0 (if inside then 0 else prefix_len (λ u. is_decimal_digit u.value) units.now + 1) }
 {
     let [first, rest @ ..] = units else {
         return EscapeFound::Nothing;
     };
     let cp = first.value;
     if cp == 'c' as u32 {
-        return control(rest, context.inside);
+        return control(rest, inside);
     }
     if is_decimal_digit(cp) {
-        return digit(units, context, steps);
+        return digit(units, inside, environment.groups, steps);
     }
-    if begins_another(cp, context) || is_hexadecimal(cp, rest) || is_unicode(cp, rest) {
+    if begins_another(cp, inside, environment.is_named())
+        || is_hexadecimal(cp, rest)
+        || is_unicode(cp, rest)
+    {
         return EscapeFound::Nothing;
     }
     character(CharacterKind::Identifier, cp, 1)
@@ -80,14 +74,14 @@ fn is_class_control(cp: u32) -> bool
 }
 
 /// A digit, which the units begin with: an octal escape or the digit itself, where it begins no reference.
-fn digit<C: Counter>(units: &[CodePoint], context: LegacyContext, steps: &mut C) -> EscapeFound
-    ensures read { (c : ℕ) (w : List ℕ) → values units.now ≡ c ∷ w → seen_escape result ≡ digit_at context.inside context.groups c w }
-    ensures steps { Rises (C.count steps.old) (C.count steps.new) 0 (if context.inside then 0 else prefix_len (λ u. is_decimal_digit u.value) units.now + 1) }
+fn digit<C: Counter>(units: &[CodePoint], inside: bool, groups: u32, steps: &mut C) -> EscapeFound
+    ensures read { (c : ℕ) (w : List ℕ) → values units.now ≡ c ∷ w → seen_escape result ≡ digit_at inside groups c w }
+    ensures steps { Rises (C.count steps.old) (C.count steps.new) 0 (if inside then 0 else prefix_len (λ u. is_decimal_digit u.value) units.now + 1) }
 {
     let [first, rest @ ..] = units else {
         return EscapeFound::Nothing;
     };
-    if !context.inside && refers(units, context.groups, steps) {
+    if !inside && refers(units, groups, steps) {
         return EscapeFound::Nothing;
     }
     if first.value == '0' as u32 && !begins_with_digit(rest) {
@@ -167,10 +161,10 @@ fn is_at_most<C: Counter>(units: &[CodePoint], limit: u32, steps: &mut C) -> boo
 }
 
 /// Whether what begins with this value is no escape of a character, or one in every mode: a ControlEscape, a class escape, a boundary, or a reference by name.
-fn begins_another(cp: u32, context: LegacyContext) -> bool
-    ensures { result ≡ (is_one_of (codes "dDsSwWfnrtvb") cp || ((context.named && cp == ascii.k) || (not context.inside && cp == ascii.B))) }
+fn begins_another(cp: u32, inside: bool, named: bool) -> bool
+    ensures { result ≡ (is_one_of (codes "dDsSwWfnrtvb") cp || ((named && cp == ascii.k) || (not inside && cp == ascii.B))) }
 {
-    is_lettered(cp) || context.named && cp == 'k' as u32 || !context.inside && cp == 'B' as u32
+    is_lettered(cp) || named && cp == 'k' as u32 || !inside && cp == 'B' as u32
 }
 
 fn is_lettered(cp: u32) -> bool

@@ -13,12 +13,12 @@ ghost use Rattle.rx_class.specs.WellBuilt.{IsWellBuilt};
 use crate::class_builder::ClassBuilder;
 use crate::set_front::{begins_with, set_front_at};
 use crate::set_operand::{character_item, escape, property, strings};
-use crate::set_operator::{close, less, meet, open};
+use crate::set_operator::{close, open, operator};
 use crate::set_refusal::{nothing_follows, refuse_negative_strings, third_ampersand};
 use crate::set_turn::{Turn, next_turn};
 use crate::spans::here;
 use rx_ast::CharacterClass;
-use rx_base::{Counter, Fault};
+use rx_base::{Counter, Fault, SetOperator};
 use rx_scan::{SpanFactory, State};
 use rx_units::Reader;
 use std::alloc::Global;
@@ -75,18 +75,19 @@ fn read_turn<C: Counter>(
     ensures steps { TakesSteps 6 (C.count steps.old) (C.count steps.new) reader.old reader.new result }
 {
     let held = builder.inner.held;
-    if held.is_meeting() && begins_with(reader.remaining_code_points(), '&') {
+    if held.is_pending(SetOperator::Intersection)
+        && begins_with(reader.remaining_code_points(), '&')
+    {
         return Err(third_ampersand(builder, reader, spans, steps));
     }
     let front = set_front_at(reader.remaining_code_points(), steps);
     match next_turn(front, held) {
         Turn::Close => close(alloc, reader, spans, builder, steps),
-        Turn::Meet(after) => {
-            meet(reader, builder, after, steps);
-            Ok(())
-        }
-        Turn::Less(after) => {
-            less(reader, builder, after, steps);
+        Turn::Operator {
+            operator: between,
+            after,
+        } => {
+            operator(reader, builder, between, after, steps);
             Ok(())
         }
         Turn::Open { negative } => open(alloc, reader, spans, builder, negative, steps),

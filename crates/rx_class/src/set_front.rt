@@ -10,14 +10,14 @@ ghost use Rattle.rx_model.specs.Inputs.Environment.{Environment, is_sets};
 ghost use Rattle.rx_class.specs.EscapeSteps.{most_looks};
 ghost use Rattle.rx_class.specs.Found.{IsWithin, seen_escape};
 ghost use Rattle.rx_class.specs.FrontSeen.{seen_front};
-ghost use Rattle.rx_class.specs.SetFronts.{IsRangeEnd, IsSetFront, after_backslash, character_front, escaped_front, range_end_at, set_character_at, set_escape_at, set_front_at};
+ghost use Rattle.rx_class.specs.SetFronts.{IsRangeEnd, after_backslash, character_front, escaped_front, range_end_at, set_character_at, set_escape_at, set_front_at};
 ghost use Rattle.rx_class.specs.SetSteps.{most_after_backslash, most_end_looks, most_front_after, most_front_looks, most_set_looks};
 
 use crate::class_atom::unit_kind;
 use crate::escape_found::character;
 use crate::{EscapeFound, character_escape_at, class_escape_at};
 use rx_ast::{CharacterClassEscapeKind, CharacterKind};
-use rx_base::Counter;
+use rx_base::{Counter, SetOperator};
 use rx_tables::{
     is_class_set_reserved_double_punctuator, is_class_set_reserved_punctuator,
     is_class_set_syntax_character,
@@ -33,10 +33,7 @@ pub enum SetFront {
     Bracket { negative: bool },
     /// `\q{`
     Strings,
-    /// `&&`
-    Meet,
-    /// `--`
-    Less,
+    Operator(SetOperator),
     /// A character, or an escape of one that is refused; lengths count from the front on.
     Character(EscapeFound),
     /// A class escape that names no property.
@@ -47,15 +44,8 @@ pub enum SetFront {
 }
 
 /// What the units begin with.
-pub fn set_front_at<C: Counter>(units: &[CodePoint], steps: &mut C) -> SetFront
-    ensures front { (e : Environment) → is_sets e.mode ≡ true → IsSetFront e units.now (seen_front result) }
-    ensures steps { Rises (C.count steps.old) (C.count steps.new) 0 (most_front_looks units.now (seen_front result)) }
-{
-    first_front(units, steps)
-}
-
 #[tactic(auto, unfolding(crate::specs::SetFronts::set_front_at))]
-fn first_front<C: Counter>(units: &[CodePoint], steps: &mut C) -> SetFront
+pub fn set_front_at<C: Counter>(units: &[CodePoint], steps: &mut C) -> SetFront
     ensures front { seen_front result ≡ set_front_at units.now }
     ensures steps { Rises (C.count steps.old) (C.count steps.new) 0 (most_front_looks units.now (seen_front result)) }
 {
@@ -67,8 +57,8 @@ fn first_front<C: Counter>(units: &[CodePoint], steps: &mut C) -> SetFront
         Some('[') => SetFront::Bracket {
             negative: begins_with(following, '^'),
         },
-        Some('&') if begins_with(following, '&') => SetFront::Meet,
-        Some('-') if begins_with(following, '-') => SetFront::Less,
+        Some('&') if begins_with(following, '&') => SetFront::Operator(SetOperator::Intersection),
+        Some('-') if begins_with(following, '-') => SetFront::Operator(SetOperator::Subtraction),
         Some('\\') => escaped_front(following, steps),
         _ => character_front(set_character_at(units, steps)),
     }

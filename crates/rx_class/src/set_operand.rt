@@ -1,17 +1,18 @@
-ghost use Rattle.std.specs.Prelude.{◌≡◌, ◌≢◌, ◌≤◌, ◌∷◌, [], All, IfOk, Ok, Some, false, true, codes};
+ghost use Rattle.std.specs.Prelude.{◌≡◌, ◌≢◌, ◌≤◌, All, IfOk, Ok, Some, false, true, codes};
 ghost use Rattle.rx_base.specs.Ascii as ascii;
 ghost use Rattle.rx_ast.specs.ClassTree as ClassTree;
 ghost use Rattle.rx_ast.specs.ClassTree.{mirror_contents};
+ghost use Rattle.rx_base.specs.declared.diagnostic.kinds.SetOperator.TheVariants.{Intersection};
 ghost use Rattle.rx_base.specs.Rising.{Rises};
 ghost use Rattle.rx_units.specs.Cursor.{Cursor, rest};
 ghost use Rattle.rx_units.specs.Pace.{TakesSteps};
 ghost use Rattle.rx_units.specs.Units.{values};
 ghost use Rattle.rx_model.specs.Characters.EscapeFronts.{nothing};
-ghost use Rattle.rx_model.specs.Classes.ClassRows.{after_meet};
 ghost use Rattle.rx_model.specs.Classes.ClassRuns.{operand, ranged as after_range};
 ghost use Rattle.rx_model.specs.FirstPass.Marks.{starts};
 ghost use Rattle.rx_model.specs.Inputs.Environment.{Environment, is_sets};
 ghost use Rattle.rx_ast.specs.Texts.{class_escape_text};
+ghost use Rattle.rx_model.specs.Classes.ClassRows.{after_operator};
 ghost use Rattle.rx_class.specs.EscapeAnswers.{environment_of};
 ghost use Rattle.rx_class.specs.Fitting.{AreFitting};
 ghost use Rattle.rx_class.specs.Found.{seen_escape};
@@ -143,7 +144,7 @@ pub fn character_item<C: Counter>(
     requires front { set_character_at (rest reader.old) ≡ seen_escape found }
     requires some { seen_escape found ≢ nothing }
     requires code_points { All (λ unit. unit.value ≤ 0x10FFFF) (rest reader.old) }
-    requires no_third { place_of (held_in builder.old) ≡ after_meet → starts ascii.ampersand (values (rest reader.old)) ≡ false }
+    requires no_third { place_of (held_in builder.old) ≡ after_operator Intersection → starts ascii.ampersand (values (rest reader.old)) ≡ false }
     requires held { operand (held_in builder.old) ≡ Some (held_of after) }
     requires well { IsWellBuilt builder.old }
     requires fits { AreFitting spans.now reader.old }

@@ -1,10 +1,9 @@
-ghost use Rattle.std.specs.Prelude.{◌≡◌, ◌≢◌, ◌∷◌, ℕ, [], IsSome, Some, length, true, codes};
+ghost use Rattle.std.specs.Prelude.{◌≡◌, ◌≢◌, ℕ, [], IsSome, Some, length, true, codes};
 ghost use Rattle.rx_units.specs.Cursor.{rest};
 ghost use Rattle.rx_units.specs.Pace.{IsMove, TakesSteps};
-ghost use Rattle.rx_units.specs.Units.{values};
-ghost use Rattle.rx_model.specs.Classes.ClassRuns.{is_whole, less_by, met_by, operand};
-ghost use Rattle.rx_model.specs.FirstPass.Marks.{starts};
+ghost use Rattle.rx_model.specs.Classes.ClassRuns.{is_whole, operand, with_operator};
 ghost use Rattle.rx_model.specs.Inputs.Environment.{Environment};
+ghost use Rattle.rx_model.specs.Classes.ClassTokens.{operator_text};
 ghost use Rattle.rx_class.specs.Fitting.{AreFitting};
 ghost use Rattle.rx_class.specs.HeldMirror.{held_of};
 ghost use Rattle.rx_class.specs.SetFronts.{Begins, BeginsBracket};
@@ -15,43 +14,37 @@ use crate::class_builder::ClassBuilder;
 use crate::held::Held;
 use crate::set_refusal::refuse_negative_strings;
 use crate::spans::here;
-use rx_base::{Counter, Fault};
+use rx_base::{Counter, Fault, SetOperator};
 use rx_scan::SpanFactory;
 use rx_units::Reader;
 use std::alloc::Global;
 
-/// Reads the `&&` that stands next, with which the innermost bracket holds what is given.
-pub fn meet<C: Counter>(
+/// Reads the operator that stands next, with which the innermost bracket holds what is given.
+pub fn operator<C: Counter>(
     reader: &mut Reader<'_>,
     builder: &mut ClassBuilder,
+    operator: SetOperator,
     after: Held,
     steps: &mut C,
 )
-    requires front { Begins (rest reader.old) (codes "&&") }
-    requires held { met_by (held_in builder.old) ≡ Some (held_of after) }
+    requires front { Begins (rest reader.old) (operator_text operator) }
+    requires held { with_operator operator (held_in builder.old) ≡ Some (held_of after) }
     requires well { IsWellBuilt builder.old }
     ensures added { (e : Environment) (added : ℕ) → IsOfSets e reader.old → AddsToSets e added reader.old reader.new builder.old builder.new }
     ensures steps { IsMove (C.count steps.old) (C.count steps.new) reader.old reader.new }
 {
-    reader.skip_counted(2, steps);
-    builder.meet(after);
+    reader.skip_counted(text(operator).len(), steps);
+    builder.join(operator, after);
 }
 
-/// Reads the `--` that stands next, with which the innermost bracket holds what is given.
-pub fn less<C: Counter>(
-    reader: &mut Reader<'_>,
-    builder: &mut ClassBuilder,
-    after: Held,
-    steps: &mut C,
-)
-    requires front { Begins (rest reader.old) (codes "--") }
-    requires held { less_by (held_in builder.old) ≡ Some (held_of after) }
-    requires well { IsWellBuilt builder.old }
-    ensures added { (e : Environment) (added : ℕ) → IsOfSets e reader.old → AddsToSets e added reader.old reader.new builder.old builder.new }
-    ensures steps { IsMove (C.count steps.old) (C.count steps.new) reader.old reader.new }
+/// How an operator is written.
+fn text(operator: SetOperator) -> &'static str
+    ensures { result.now ≡ operator_text operator }
 {
-    reader.skip_counted(2, steps);
-    builder.less(after);
+    match operator {
+        SetOperator::Intersection => "&&",
+        SetOperator::Subtraction => "--",
+    }
 }
 
 /// Reads the bracket that stands next, and opens it.

@@ -1,16 +1,16 @@
-ghost use Rattle.std.specs.Prelude.{◌≡◌, ◌&&◌, ◌∷◌, [], Err, MatchResult, false, true, codes};
+ghost use Rattle.std.specs.Prelude.{◌≡◌, ◌&&◌, Err, MatchResult, false, true, codes};
 ghost use Rattle.rx_base.specs.Ascii as ascii;
+ghost use Rattle.rx_base.specs.declared.diagnostic.kinds.SetOperator.TheVariants.{Intersection};
 ghost use Rattle.rx_units.specs.Cursor.{rest};
 ghost use Rattle.rx_units.specs.Pace.{IsMove, TakesSteps};
 ghost use Rattle.rx_units.specs.Units.{values};
-ghost use Rattle.rx_model.specs.Classes.ClassRuns.{is_whole, meeting};
+ghost use Rattle.rx_model.specs.Classes.ClassRuns.{is_whole, pending};
 ghost use Rattle.rx_model.specs.FirstPass.Marks.{starts};
 ghost use Rattle.rx_model.specs.Inputs.Environment.{Environment};
 ghost use Rattle.rx_model.specs.Refusals.ClassCauses.{of_negative, unterminated};
 ghost use Rattle.rx_class.specs.Fitting.{AreFitting};
 ghost use Rattle.rx_class.specs.SetFronts.{Begins};
 ghost use Rattle.rx_class.specs.SetReading.{GivesTurn, IsOfSets, SaysNothing, StandsNothing, held_in, is_nested};
-ghost use Rattle.rx_class.specs.WellBuilt.{IsWellBuilt};
 
 use crate::class_builder::ClassBuilder;
 use crate::escape::next_span;
@@ -27,7 +27,7 @@ pub fn third_ampersand<C: Counter>(
     steps: &mut C,
 ) -> Fault
     requires ampersand { starts ascii.ampersand (values (rest reader.old)) ≡ true }
-    requires held { held_in builder.now ≡ meeting }
+    requires held { held_in builder.now ≡ pending Intersection }
     requires fits { AreFitting spans.now reader.old }
     ensures gives { (e : Environment) → IsOfSets e reader.old → GivesTurn e spans.now reader.old reader.new builder.now builder.now (Err result) }
     ensures steps { IsMove (C.count steps.old) (C.count steps.new) reader.old reader.new }

@@ -6,14 +6,17 @@ use crate::EscapeFound;
 use crate::held::Held;
 use crate::set_front::SetFront;
 use rx_ast::CharacterClassEscapeKind;
+use rx_base::SetOperator;
 
 /// What is done with what stands next in a bracket of a class with `v`. A `Held` is what the bracket holds then.
 #[derive(Clone, Copy, Debug)]
 pub enum Turn {
     /// The bracket closes.
     Close,
-    Meet(Held),
-    Less(Held),
+    Operator {
+        operator: SetOperator,
+        after: Held,
+    },
 
     /// A nested bracket opens.
     Open {
@@ -40,12 +43,8 @@ pub fn next_turn(front: SetFront, held: Held) -> Turn
 {
     match (front, held.with_operand()) {
         (SetFront::Closer, _) if held.is_whole() => Turn::Close,
-        (SetFront::Meet, _) => match held.with_meet() {
-            Some(after) => Turn::Meet(after),
-            None => Turn::Nothing,
-        },
-        (SetFront::Less, _) => match held.with_less() {
-            Some(after) => Turn::Less(after),
+        (SetFront::Operator(operator), _) => match held.with_operator(operator) {
+            Some(after) => Turn::Operator { operator, after },
             None => Turn::Nothing,
         },
         (SetFront::Bracket { negative }, Some(_)) => Turn::Open { negative },

@@ -127,8 +127,8 @@ impl ElementKind for UnionItems {
 pub struct FurtherOperands;
 
 impl ElementKind for FurtherOperands {
+    ghost use Rattle.rx_base.specs.declared.diagnostic.kinds.SetOperator.{SetOperator};
     ghost use Rattle.rx_ast.specs.ClassTree.{Member};
-    ghost use Rattle.rx_ast.specs.declared.class.CharacterClassContentsKind.{CharacterClassContentsKind};
     ghost use Rattle.rx_units.specs.declared.code_point.CodePoint.{CodePoint};
     ghost use Rattle.rx_model.specs.Classes.ClassOperands.{IsOperandsEnd, SpellsFurtherOperand};
     ghost use Rattle.rx_model.specs.Inputs.Environment.{Environment};
@@ -137,7 +137,7 @@ impl ElementKind for FurtherOperands {
 
     ghost TextUnit = { CodePoint };
 
-    ghost Surroundings = { Environment × CharacterClassContentsKind };
+    ghost Surroundings = { Environment × SetOperator };
 
     ghost Place = { Unit {0} };
 

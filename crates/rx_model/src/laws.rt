@@ -6,13 +6,12 @@ ghost use Rattle.rx_base.specs.Characters.{is_one_of};
 ghost use Rattle.rx_base.specs.declared.diagnostic.Diagnostic.{Diagnostic};
 ghost use Rattle.rx_base.specs.declared.fault.Fault.{Fault};
 ghost use Rattle.rx_base.specs.declared.diagnostic.Diagnostic.TheVariants.{CharacterClassRangeInvalidAtom, InvalidInput, LoneQuantifier};
+ghost use Rattle.rx_base.specs.declared.diagnostic.kinds.SetOperator.{SetOperator};
 ghost use Rattle.rx_base.specs.declared.span.Span.{Span};
 ghost use Rattle.rx_ast.specs.ClassTree.{Class, strings};
 ghost use Rattle.rx_ast.specs.Forget.{bare, forget_alternatives, forget_member, same_kind, unspanned};
 ghost use Rattle.rx_ast.specs.Parts.{IsNestedPattern};
 ghost use Rattle.rx_ast.specs.Tree.{Alternatives, Nodes, mirror};
-ghost use Rattle.rx_ast.specs.declared.class.CharacterClassContentsKind.{CharacterClassContentsKind};
-ghost use Rattle.rx_ast.specs.declared.class.CharacterClassContentsKind.TheVariants.{Intersection, Subtraction};
 ghost use Rattle.rx_ast.specs.declared.class.ClassString.{ClassString};
 ghost use Rattle.rx_ast.specs.declared.class.ClassStringDisjunction.{ClassStringDisjunction};
 ghost use Rattle.rx_ast.specs.declared.term.Pattern.{Pattern};
@@ -459,14 +458,14 @@ pub fn class_strings()
 {}
 
 /// With `v` a class is the items of a union in brackets, or the operands of an intersection or of a subtraction (ClassUnion, ClassIntersection and
-/// ClassSubtraction, ECMA-262, 22.2.1); and the items end before a stop, and so do the operands after the first. (A union has no operands of this kind.)
+/// ClassSubtraction, ECMA-262, 22.2.1); and the items end before a stop, and so do the operands after the first.
 pub fn class_operands()
     ensures whole { (e : Environment) (c : Class) (w rest : List CodePoint) → is_sets e.mode ≡ true →
-        (IsClass e c w rest ↔ (IsClassOfUnion e c w rest ⊎ (IsClassOfOperands e Intersection c w rest ⊎ IsClassOfOperands e Subtraction c w rest))) }
+        (IsClass e c w rest ↔ (IsClassOfUnion e c w rest ⊎ ((o : SetOperator) × IsClassOfOperands e o c w rest))) }
     ensures items { (e : Environment) (c : Class) (w rest : List CodePoint) (of : IsClassOfUnion e c w rest) →
         ElementRow (⟦<UnionItems as ElementKind>⟧.spells e) (⟦<UnionItems as ElementKind>⟧.following e) of.items tt of.brackets.inside tt (of.brackets.closer ∷ rest)
         × ⟦<UnionItems as ElementKind>⟧.is_stop e tt (of.brackets.closer ∷ rest) }
-    ensures operands { (e : Environment) (kind : CharacterClassContentsKind) (c : Class) (w rest : List CodePoint) (of : IsClassOfOperands e kind c w rest) →
-        ElementRow (⟦<FurtherOperands as ElementKind>⟧.spells (e, kind)) (⟦<FurtherOperands as ElementKind>⟧.following (e, kind)) of.more tt of.further tt (of.brackets.closer ∷ rest)
-        × ⟦<FurtherOperands as ElementKind>⟧.is_stop (e, kind) tt (of.brackets.closer ∷ rest) }
+    ensures operands { (e : Environment) (o : SetOperator) (c : Class) (w rest : List CodePoint) (of : IsClassOfOperands e o c w rest) →
+        ElementRow (⟦<FurtherOperands as ElementKind>⟧.spells (e, o)) (⟦<FurtherOperands as ElementKind>⟧.following (e, o)) of.more tt of.further tt (of.brackets.closer ∷ rest)
+        × ⟦<FurtherOperands as ElementKind>⟧.is_stop (e, o) tt (of.brackets.closer ∷ rest) }
 {}

@@ -15,10 +15,10 @@ use Rattle.rx_units.specs.Cursor.{Cursor, moved, offset_of, rest}
 use Rattle.rx_units.specs.Units.{offset_at, values}
 use Rattle.rx_units.specs.Digits.{front_is}
 use Rattle.rx_model.specs.Refusals.Causes.{of_property}
-use Rattle.rx_model.specs.Inputs.Environment.{Environment, environment_with, has_some}
+use Rattle.rx_model.specs.Inputs.Environment.{Environment}
 use Rattle.rx_model.specs.Refusals.EscapeCauses.{IsPropertyCause}
 use Rattle.rx_model.specs.Properties.PropertyForms.{begins_property}
-use Rattle.rx_model.specs.Refusals.Reached.{IsPlace, text_environment, text_groups}
+use Rattle.rx_model.specs.Refusals.Reached.{IsPlace, text_environment}
 use Rattle.rx_model.specs.Trees.Events.{term_events}
 use Rattle.rx_model.specs.Trees.Shapes.{takes}
 use Rattle.rx_model.specs.Trees.Token.{property}
@@ -37,7 +37,7 @@ use Rattle.rx_parser.specs.Frames.{openers, ready}
 use Rattle.rx_parser.specs.Parsing.{HoldsPass, IsRefused}
 use Rattle.rx_parser.specs.Progress.{IsLeafOf}
 use Rattle.rx_parser.specs.Turns.{IsBefore, IsTurned}
-use Rattle.rx_parser.proofs.Places.{reached}
+use Rattle.rx_parser.proofs.Places.{pass_environment, reached}
 use Rattle.rx_parser.proofs.Refused.{cause_refused, class_refused}
 use Rattle.rx_parser.proofs.Steps.{Grows}
 use Rattle.rx_parser.proofs.Turns.{class_turned, leaf_turned}
@@ -59,10 +59,7 @@ module _ {added : ℕ} {b : Builder} {r : Cursor} {state : State} (h : IsBefore 
   class_text = class_environment b.mode r.units
 
   environment_is : environment_of state ≡ class_text
-  environment_is =
-      ap (λ mode. environment_with mode true state.num_of_capturing_groups (has_some state.capturing_group_names)) pass.mode_is
-      ∙ ap (λ count. environment_with b.mode true count (has_some state.capturing_group_names)) pass.groups
-      ∙ ap (λ names. environment_with b.mode true (text_groups b.mode r.units) (has_some names)) pass.names
+  environment_is = pass_environment pass true
 
   -- A parse has reached where the reader stands.
   at_here : IsPlace b.mode b.rules r.units r.place (rest r)

@@ -1,5 +1,6 @@
 -- The events of what has been read of a disjunction.
 use Rattle.std.proofs.Common.{◌≡◌, refl, ap, sym, ◌∙◌, ℕ, suc, ◌-◌, ◌≤◌, Bool, false, Option, List, [], ◌∷◌, ◌++◌, map, length, get_or, append_assoc, arith}
+use Rattle.std.proofs.lemmas.List.{append-nil}
 use Rattle.std.specs.declared.boxed.Box.{Box}
 use Rattle.std.specs.declared.alloc.Global.{Global}
 use Rattle.rx_ast.specs.declared.term.Term.{Term}
@@ -16,10 +17,6 @@ use Rattle.rx_model.specs.Trees.Shapes.{takes}
 use Rattle.rx_model.specs.Trees.Token.{bar, quantifier}
 use Rattle.rx_parser.specs.declared.level.Level.{Level}
 use Rattle.rx_parser.specs.Levels.{strung, barred, level_events, last_takes, Repeats}
-
-append_none : (es : Events) → es ++ [] ≡ es
-append_none [] = refl
-append_none (e ∷ es) = ap (λ z. e ∷ z) (append_none es)
 
 nodes_events_strung : (ts : List Term) → nodes_events (nodes (map mirror_term ts)) ≡ strung (map term_events ts)
 unfolding term_events
@@ -38,7 +35,7 @@ joined (es ∷ fs ∷ more) = es ++ (token bar ∷ joined (fs ∷ more))
 
 barred_joined : (a : Alternative) (more : List Alternative) → alternative_events a ++ barred_events (alternatives (map mirror_alternative more)) ≡ joined (map alternative_events (a ∷ more))
 unfolding alternative_events joined
-barred_joined a [] = append_none (alternative_events a)
+barred_joined a [] = append-nil (alternative_events a)
 barred_joined a (b ∷ more) = ap (λ z. alternative_events a ++ (token bar ∷ z)) (barred_joined b more)
 
 alternatives_joined : (all : List Alternative) → alternatives_events (alternatives (map mirror_alternative all)) ≡ joined (map alternative_events all)
@@ -51,7 +48,7 @@ unfolding disjunction_events
 disjunction_events_is d = ap (λ c. within c.0 (alternatives_events c.1)) (mirror.disjunction_is d) ∙ ap (λ z. within (out-Disjunction d).span z) (alternatives_joined (out-Disjunction d).body)
 
 strung_push : (ts : List Term) (t : Term) → strung (map term_events (ts ++ (t ∷ []))) ≡ strung (map term_events ts) ++ term_events t
-strung_push [] t = append_none (term_events t)
+strung_push [] t = append-nil (term_events t)
 strung_push (s ∷ ts) t = ap (λ z. term_events s ++ z) (strung_push ts t) ∙ sym (append_assoc (term_events s) (strung (map term_events ts)) (term_events t))
 
 barred_push : (all : List Alternative) (a : Alternative) → barred (map alternative_events (all ++ (a ∷ []))) ≡ barred (map alternative_events all) ++ (alternative_events a ++ (token bar ∷ []))
@@ -63,14 +60,6 @@ unfolding joined
 joined_push [] a = refl
 joined_push (b ∷ []) a = sym (append_assoc (alternative_events b) (token bar ∷ []) (alternative_events a))
 joined_push (b ∷ c ∷ all) a = ap (λ w. alternative_events b ++ (token bar ∷ w)) (joined_push (c ∷ all) a) ∙ sym (append_assoc (alternative_events b) (token bar ∷ barred (map alternative_events (c ∷ all))) (alternative_events a))
-
-three_more : (es : Events) (x y z : Event) → ((es ++ (x ∷ [])) ++ (y ∷ [])) ++ (z ∷ []) ≡ es ++ (x ∷ y ∷ z ∷ [])
-three_more [] x y z = refl
-three_more (e ∷ es) x y z = ap (λ w. e ∷ w) (three_more es x y z)
-
-two_more : (es : Events) (x y : Event) → (es ++ (x ∷ [])) ++ (y ∷ []) ≡ es ++ (x ∷ y ∷ [])
-two_more [] x y = refl
-two_more (e ∷ es) x y = ap (λ w. e ∷ w) (two_more es x y)
 
 -- a term more
 pub level_push : (l : Level) (ts : List Term) (t : Term) → ts ≡ l.terms ++ (t ∷ []) → level_events (record l { terms = ts }) ≡ level_events l ++ term_events t
@@ -88,7 +77,7 @@ level_bar l all a at after e s t b =
     rw (e, barred_push l.alternatives a, alternative_events_is a, s, t, b)
     (ap (λ w. enter l.start ∷ w)
     (append_assoc (barred (map alternative_events l.alternatives)) _ (enter after ∷ []) ∙
-    ap (λ w. barred (map alternative_events l.alternatives) ++ (enter l.alternative_start ∷ w)) (three_more (strung (map term_events l.terms)) (leave at) (token bar) (enter after)) ∙
+    ap (λ w. barred (map alternative_events l.alternatives) ++ (enter l.alternative_start ∷ w)) (append_assoc (strung (map term_events l.terms) ++ (leave at ∷ [])) (token bar ∷ []) (enter after ∷ []) ∙ append_assoc (strung (map term_events l.terms)) (leave at ∷ []) (token bar ∷ enter after ∷ [])) ∙
     sym (append_assoc (barred (map alternative_events l.alternatives)) (enter l.alternative_start ∷ strung (map term_events l.terms)) (leave at ∷ token bar ∷ enter after ∷ []))))
 
 -- the last alternative ends, and the disjunction
@@ -99,7 +88,7 @@ level_finish l d a at e f g s t b =
     rw (disjunction_events_is d, e, joined_push l.alternatives a, alternative_events_is a, f, g, s, t, b)
     (ap (λ w. enter l.start ∷ w)
     (append_assoc (barred (map alternative_events l.alternatives)) _ (leave at ∷ []) ∙
-    ap (λ w. barred (map alternative_events l.alternatives) ++ (enter l.alternative_start ∷ w)) (two_more (strung (map term_events l.terms)) (leave at) (leave at)) ∙
+    ap (λ w. barred (map alternative_events l.alternatives) ++ (enter l.alternative_start ∷ w)) (append_assoc (strung (map term_events l.terms)) (leave at ∷ []) (leave at ∷ [])) ∙
     sym (append_assoc (barred (map alternative_events l.alternatives)) (enter l.alternative_start ∷ strung (map term_events l.terms)) (leave at ∷ leave at ∷ []))))
 
 -- nothing has been read

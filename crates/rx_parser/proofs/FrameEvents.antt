@@ -53,16 +53,12 @@ builder_open b fs l group_kind at after e h =
     ∙ ap (λ w. frames_events b.frames ++ w) (append_assoc (level_events b.level) (enter at ∷ o ∷ []) (enter after ∷ enter after ∷ []))
     ∙ sym (append_assoc (frames_events b.frames) (level_events b.level) (enter at ∷ o ∷ enter after ∷ enter after ∷ [])))
 
-four_more : (es : Events) (w x y z : Event) → ((es ++ (w ∷ x ∷ [])) ++ (y ∷ [])) ++ (z ∷ []) ≡ es ++ (w ∷ x ∷ y ∷ z ∷ [])
-four_more [] w x y z = refl
-four_more (e ∷ es) w x y z = ap (λ v. e ∷ v) (four_more es w x y z)
-
 -- what stands before a group, its outer disjunction, its beginning and its inner disjunction
 close_shape : (before outer inner : Events) (b o w x y z : Event) →
     before ++ (outer ++ (b ∷ o ∷ (((inner ++ (w ∷ x ∷ [])) ++ (y ∷ [])) ++ (z ∷ [])))) ≡ ((before ++ (outer ++ (b ∷ o ∷ []))) ++ inner) ++ (w ∷ x ∷ y ∷ z ∷ [])
 close_shape before outer inner b o w x y z =
     let rest : Events = w ∷ x ∷ y ∷ z ∷ [] in
-    ap (λ v. before ++ (outer ++ (b ∷ o ∷ v))) (four_more inner w x y z)
+    ap (λ v. before ++ (outer ++ (b ∷ o ∷ v))) (append_assoc (inner ++ (w ∷ x ∷ [])) (y ∷ []) (z ∷ []) ∙ append_assoc inner (w ∷ x ∷ []) (y ∷ z ∷ []))
     ∙ ap (λ v. before ++ v) (sym (append_assoc outer (b ∷ o ∷ []) (inner ++ rest)))
     ∙ sym (append_assoc before (outer ++ (b ∷ o ∷ [])) (inner ++ rest))
     ∙ sym (append_assoc (before ++ (outer ++ (b ∷ o ∷ []))) inner rest)

@@ -1,6 +1,6 @@
 -- From what is answered to flags and to units, to what is answered to an input.
 use Rattle.std.proofs.Common.{◌≡◌, refl, ap, sym, ◌∙◌, subst, ℕ, Bool, true, false, ◌||◌, ◌⊎◌, List, Some, Result, Ok, Err, IsErrAnd, inl, inr}
-use Rattle.std.specs.Prelude.{if◌then◌else◌}
+use Rattle.std.specs.Prelude.{IfErr, if◌then◌else◌}
 use Rattle.std.proofs.lemmas.Result.{err_from_is_err_and}
 use Rattle.rx_base.specs.Flags.{holds}
 use Rattle.rx_ast.specs.declared.term.Pattern.{Pattern}
@@ -24,7 +24,7 @@ use Rattle.rx_parser.specs.Parsing.{AnswersUnits, IsRefused}
 use Rattle.rx_parser.proofs.StandIns.{none_stands_in}
 
 -- what is passed on is the fault
-pub passed_on : {A : Type 0} (r : Result A Fault) (it : Fault) → IsErrAnd r (λ e. e ≡ it) → r ≡ Err it
+passed_on : {A : Type 0} (r : Result A Fault) (it : Fault) → IsErrAnd r (λ e. e ≡ it) → r ≡ Err it
 passed_on r it h = let p = err_from_is_err_and r h in p.1 ∙ ap Err p.2
 
 modes_give : (sets unicode : Bool) → mode_by (sets || unicode) sets ≡ (if sets then Sets else (if unicode then Unicode else Legacy))
@@ -43,8 +43,16 @@ module _ (input : Input) where
   no_other it no_memory valid = refl
   no_other it (refused {refusal = d} h) valid = absurd (none_of_valid input d h valid)
 
-  pub fault_parsed : (it : Fault) → IsFaultOf input it → IsParsed (λ (p : Pattern × Mode). p.0) input (Err it)
+  fault_parsed : (it : Fault) → IsFaultOf input it → IsParsed (λ (p : Pattern × Mode). p.0) input (Err it)
   fault_parsed it h = record { valid = tt; complete = no_other it h; read = tt; refused = h }
+
+  -- a fault that is passed on
+  pub passed_fault : {A : Type 0} (r : Result A Fault) (it : Fault) → IsErrAnd r (λ e. e ≡ it) → IsFaultOf input it → IfErr r (IsFaultOf input)
+  passed_fault r it passed h = subst (λ r. IfErr r (IsFaultOf input)) (sym (passed_on r it passed)) h
+
+  -- the same as the answer to the input
+  pub passed_parsed : (r : Result (Pattern × Mode) Fault) (it : Fault) → IsErrAnd r (λ e. e ≡ it) → IsFaultOf input it → IsParsed (λ (p : Pattern × Mode). p.0) input r
+  passed_parsed r it passed h = subst (IsParsed (λ (p : Pattern × Mode). p.0) input) (sym (passed_on r it passed)) (fault_parsed it h)
 
   -- the tree without the mode
   pub tree_alone : (p : Pattern) (m : Mode) → IsParsed (λ (p : Pattern × Mode). p.0) input (Ok (p, m)) → IsParsed (λ p. p) input (Ok p)

@@ -24,11 +24,11 @@ use Rattle.rx_parser.specs.declared.builder.Builder.{Builder}
 use Rattle.rx_parser.specs.declared.frame.Frame.{Frame}
 use Rattle.rx_parser.specs.declared.level.Level.{Level}
 use Rattle.rx_parser.specs.Frames.{builder_events, frame_events, frames_events, opened, opener_tree}
-use Rattle.rx_parser.specs.Good.{AreGoodAlternatives, AreGoodFrames, AreGoodTerms, IsGood, IsGoodLevel}
+use Rattle.rx_parser.specs.Good.{AreGoodAlternatives, AreGoodFrames, AreGoodTerms, IsGood, IsGoodFrame, IsGoodLevel}
 use Rattle.rx_parser.specs.Levels.{barred, level_events, strung}
 use Rattle.rx_parser.specs.Parsing.{IsParsing}
 use Rattle.rx_parser.proofs.FrameEvents.{frames_push}
-use Rattle.rx_parser.proofs.Goods.{frames_split}
+use Rattle.rx_parser.proofs.Goods.{split}
 use Rattle.rx_model.proofs.Refusals.InnermostGroups.{first_all}
 use Rattle.rx_model.specs.declared.rules.Rules.{Rules}
 
@@ -127,7 +127,7 @@ module _ (b : Builder) (outer : List Frame) (group : Frame) (e : b.frames ≡ ou
   unfolding IsGood
   head_open g =
       let mode = b.mode in
-      let s = frames_split mode outer group (subst (AreGoodFrames mode) e g.0) in
+      let s = split (IsGoodFrame mode) outer group (subst (AreGoodFrames mode) e g.0) in
       let p = frames_open mode outer s.0 [] false in
       let q = level_passes mode group.outer s.1 (opened outer []) p.0 in (
         q.0,

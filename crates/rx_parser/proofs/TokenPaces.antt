@@ -11,12 +11,12 @@ use Rattle.rx_parser.proofs.Paces.{plain_within}
 
 module _ (from to : Cursor) (n old mid new : ℕ) where
   -- however it ends
-  pub token_bounded : n ≤ length (rest from) → Rises old mid 0 (token_looks (drop 1 (rest from)) n) → new + left to ≤ mid + left from + 2 * (n - 1) → new ≤ old + 7 * left from + 7
+  token_bounded : n ≤ length (rest from) → Rises old mid 0 (token_looks (drop 1 (rest from)) n) → new + left to ≤ mid + left from + 2 * (n - 1) → new ≤ old + 7 * left from + 7
   token_bounded within first more =
       let following = plain_within (drop (n - 1) (drop 1 (rest from))) in
       omega (arith, within, first.1, more, following, length-drop (n - 1) (drop 1 (rest from)), length-drop 1 (rest from))
 
-  pub token_paced : from.place < to.place → to ≡ moved n from → n ≤ length (rest from) → Rises old mid 0 (token_looks (drop 1 (rest from)) n)
+  token_paced : from.place < to.place → to ≡ moved n from → n ≤ length (rest from) → Rises old mid 0 (token_looks (drop 1 (rest from)) n)
       → mid + left from ≤ new + left to → new + left to ≤ mid + left from + 2 * (n - 1) → IsTokenPaced old new from to
   token_paced on is within first least more =
       let place : to.place ≡ min (from.place + n) (length from.units) = ap (λ (r : Cursor). r.place) is in

@@ -1,5 +1,5 @@
 -- A token that stands next moves a parse on, or refuses the text.
-use Rattle.std.proofs.Common.{◌≡◌, ◌≢◌, refl, ap, sym, ◌∙◌, subst, ℕ, ◌+◌, ◌-◌, Bool, true, false, Option, Some, List, [], ◌∷◌, ◌++◌, length, drop, arith, length-append, length-drop, Contains}
+use Rattle.std.proofs.Common.{◌≡◌, ◌≢◌, refl, ap, sym, ◌∙◌, subst, ℕ, ◌+◌, ◌-◌, ◌^◌, ◌<◌, Bool, true, false, Option, Some, List, [], ◌∷◌, ◌++◌, length, drop, arith, length-append, length-drop, Contains}
 use Rattle.std.specs.Prelude.{All, min}
 use Rattle.std.proofs.Math.Seq.{drop-append_seam}
 use Rattle.std.proofs.lemmas.Bool.{true≢false}
@@ -44,18 +44,44 @@ use Rattle.rx_parser.specs.declared.found.OpenerFound.{OpenerFound}
 use Rattle.rx_parser.specs.declared.found.OpenerFound.TheVariants as opener_found
 use Rattle.rx_parser.specs.declared.frame.GroupKind.{GroupKind}
 use Rattle.rx_parser.specs.declared.frame.GroupKind.TheVariants.{Ignoring}
+use Rattle.rx_parser.specs.declared.turn.Parse.{Parse}
 use Rattle.rx_parser.specs.Faults.{lone_refusal}
 use Rattle.rx_parser.specs.Found.{HoldsName, IsFound, IsOpenerFound, Stands}
 use Rattle.rx_parser.specs.Frames.{builder_events, opener_tree, openers, ready}
 use Rattle.rx_parser.specs.GroupKinds.{IsGroupKindOf}
-use Rattle.rx_parser.specs.Parsing.{HoldsPass, IsRefused}
+use Rattle.rx_parser.specs.Parsing.{HoldsPass, IsParsing, IsRefused}
 use Rattle.rx_parser.specs.Progress.{IsAt, IsLeafOf}
-use Rattle.rx_parser.specs.Turns.{IsBefore, IsTurned}
+use Rattle.rx_parser.specs.Turns.{HasTurned, IsBefore, IsReady, IsTurned, given}
 use Rattle.rx_parser.proofs.Leaves.{leaf_events, leaf_runs}
 use Rattle.rx_parser.proofs.Places.{reached}
 use Rattle.rx_parser.proofs.Refused.{cause_refused}
 use Rattle.rx_parser.proofs.Steps.{Grows, Quantifies, class_end, class_start, moves, quantifier_adds, repeats}
 use Rattle.rx_model.specs.declared.rules.Rules.{Rules}
+
+-- what is asked of a builder and a reader alone
+pub before : {p : Parse} → IsReady p → IsBefore p.spans p.builder p.reader
+before h = record { parsing = h.under_way.parsing; left = h.left; fits = h.under_way.fits }
+
+-- A parse has turned where its builder and its reader have.
+pub has_turned : {p q : Parse} → IsReady p → IsTurned p.spans p.builder q.builder p.reader q.reader → q.state ≡ p.state → q.spans ≡ p.spans → HasTurned p q
+has_turned {p} {q} h t state_is spans_is =
+    let it = h.under_way in
+    let units_are = ap (λ (r : Cursor). r.units) t.same in
+    let first_is = ap (λ (r : Cursor). r.first) t.same in
+    let kept : given q ≡ given p = cc (t.parsing.at.mode, t.parsing.rules_are, units_are, first_is, spans_is, state_is) in
+    let was = sym kept in
+    record {
+      under_way = record {
+        parsing = subst (λ (k : Mode × Rules × List CodePoint × ℕ × ℕ × State). IsParsing k.0 k.1 q.reader.units q.reader.first k.4 q.builder q.reader.place) was t.parsing;
+        fits = record {
+          first = subst (λ (k : Mode × Rules × List CodePoint × ℕ × ℕ × State). k.3 + k.4 < 2 ^ 32) was it.fits.first;
+          ends = subst (λ (k : Mode × Rules × List CodePoint × ℕ × ℕ × State). All (λ (u : CodePoint). u.span.end + k.4 < 2 ^ 32) k.2) was it.fits.ends;
+        };
+        pass = subst (λ (k : Mode × Rules × List CodePoint × ℕ × ℕ × State). HoldsPass k.0 k.1 k.2 k.5) was it.pass;
+      };
+      kept = kept;
+      moved = t.moved;
+    }
 
 -- The token stands next between two offsets, and the other reader has moved over it.
 pub record IsPassed (added : ℕ) (b : Builder) (r s : Cursor) (t : Token) (n at after : ℕ) : Type 0 where

@@ -1,5 +1,6 @@
 -- All that has been built is well made.
-use Rattle.std.specs.Prelude.{List, [], ◌∷◌}
+use Rattle.std.specs.Prelude.{List}
+use Rattle.std.specs.List.{AllByRecursion}
 use Rattle.rx_ast.specs.declared.term.Alternative.{Alternative}
 use Rattle.rx_ast.specs.declared.term.Disjunction.{Disjunction}
 use Rattle.rx_ast.specs.declared.term.Term.{Term}
@@ -18,24 +19,29 @@ IsGoodTerm mode t = IsNode mode (mirror_term t)
 abbrev pub IsGoodDisjunction : Mode → Disjunction → Type 0
 IsGoodDisjunction mode d = HasAlternatives mode (mirror_disjunction d).1
 
--- of each of these terms
+-- each of these terms is well made
 abbrev pub AreGoodTerms : Mode → List Term → Type 0
-AreGoodTerms mode [] = Unit {0}
-AreGoodTerms mode (t ∷ ts) = IsGoodTerm mode t × AreGoodTerms mode ts
+AreGoodTerms mode ts = AllByRecursion (IsGoodTerm mode) ts
 
--- of the terms of each of these alternatives (Alternative, 22.2.1)
+-- of the terms of an alternative (Alternative, 22.2.1)
+abbrev pub IsGoodAlternative : Mode → Alternative → Type 0
+IsGoodAlternative mode a = AreNodes mode (mirror_alternative a).1
+
+-- of each of these alternatives
 abbrev pub AreGoodAlternatives : Mode → List Alternative → Type 0
-AreGoodAlternatives mode [] = Unit {0}
-AreGoodAlternatives mode (a ∷ more) = AreNodes mode (mirror_alternative a).1 × AreGoodAlternatives mode more
+AreGoodAlternatives mode all = AllByRecursion (IsGoodAlternative mode) all
 
 -- of a disjunction that is not yet at its end (Disjunction, 22.2.1)
 unfoldable pub IsGoodLevel : Mode → Level → Type 0
 IsGoodLevel mode l = AreGoodAlternatives mode l.alternatives × AreGoodTerms mode l.terms
 
--- of what stands before each open group
+-- of what stands before an open group
+abbrev pub IsGoodFrame : Mode → Frame → Type 0
+IsGoodFrame mode f = IsGoodLevel mode f.outer
+
+-- and before each
 abbrev pub AreGoodFrames : Mode → List Frame → Type 0
-AreGoodFrames mode [] = Unit {0}
-AreGoodFrames mode (f ∷ fs) = IsGoodLevel mode f.outer × AreGoodFrames mode fs
+AreGoodFrames mode fs = AllByRecursion (IsGoodFrame mode) fs
 
 -- of all that has been read, in the builder's mode
 unfoldable pub IsGood : Builder → Type 0

@@ -1,5 +1,4 @@
 pub mod CountsFound
-pub mod Environments
 pub mod Faults
 pub mod Found
 pub mod Frames
@@ -13,4 +12,5 @@ pub mod GroupKinds
 pub mod Pace
 pub mod Parsing
 pub mod Progress
+pub mod Texts
 pub mod Turns

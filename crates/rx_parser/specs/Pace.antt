@@ -1,13 +1,11 @@
 -- How many steps the readers of tokens take, where a step is a unit that is moved over, or a turn of a loop that looks ahead.
-use Rattle.std.specs.Prelude.{ℕ, ◌+◌, ◌-◌, ◌*◌, ◌≤◌, ◌==◌, not, List, length, drop, min, Result, MatchResult, if◌then◌else◌}
+use Rattle.std.specs.Prelude.{◌≡◌, ℕ, ◌+◌, ◌-◌, ◌*◌, ◌≤◌, not, List, length, drop, min, Result, MatchResult}
 use Rattle.std.specs.List.{prefix_len}
 use Rattle.rx_base.specs.Rising.{Rises}
 use Rattle.rx_tables.specs.Characters.{is_decimal_digit, is_syntax_character}
 use Rattle.rx_units.specs.declared.code_point.CodePoint.{CodePoint}
 use Rattle.rx_units.specs.Cursor.{Cursor, rest}
 use Rattle.rx_units.specs.Pace.{left}
-use Rattle.rx_class.specs.declared.escape_found.EscapeFound.{EscapeFound}
-use Rattle.rx_class.specs.declared.escape_found.EscapeFound.TheVariants as escape
 use Rattle.rx_parser.specs.declared.counts.CountsFound.{CountsFound}
 use Rattle.rx_parser.specs.declared.counts.CountsFound.TheVariants as counts
 use Rattle.rx_parser.specs.declared.found.Found.{Found}
@@ -39,13 +37,6 @@ abbrev pub halt_looks : ℕ → NameFound → ℕ
 halt_looks units (name.Name n) = 0
 halt_looks units (name.Halt it) = units + 4
 
--- at most so many at a character escape, of the units after its backslash: a lone backslash stands before no digit
-abbrev pub escape_looks : List CodePoint → EscapeFound → ℕ
-escape_looks following (escape.Character kind value n) = if n == 0 then 5 else n + digit_run following + 5
-escape_looks following escape.Nothing = length following + 5
-escape_looks following (escape.TooMany many) = length following + 5
-escape_looks following escape.Invalid = length following + 5
-
 -- A token that is no escape takes so many, or why none is read, of so many units from its second one on. A property and a class are not among these.
 abbrev pub LooksAtSyntax : ℕ → ℕ → ℕ → Found → Type 0
 LooksAtSyntax old new units (found.Leaf leaf n) = Rises old new 0 (2 * n)
@@ -62,9 +53,9 @@ LooksAtSyntax old new units (found.Halt it) = Rises old new 0 (2 * units + 8)
 abbrev pub MayFind : ℕ → List CodePoint → Found → Type 0
 MayFind most us it = (old new : ℕ) → old ≤ new → new ≤ old + most → new ≤ old + length us → LooksAtSyntax old new (length us - 1) it
 
--- An escape that is a token of n units takes so many, or why none is read, of the units after its backslash.
+-- An escape that is a token of n units takes so many, or why none is read, of the units after its backslash. A lone backslash stands before no digit.
 abbrev pub LooksAtEscape : ℕ → ℕ → List CodePoint → Found → Type 0
-LooksAtEscape old new following (found.Leaf leaf n) = (1 ≤ n) × Rises old new 0 (if n == 1 then 5 else n + digit_run following + 4)
+LooksAtEscape old new following (found.Leaf leaf n) = (1 ≤ n) × Rises old new 0 (n + digit_run following + 4) × (n ≡ 1 → new ≤ old + 5)
 LooksAtEscape old new following (found.NamedReference n) = ⊥
 LooksAtEscape old new following found.Property = ⊥
 LooksAtEscape old new following found.Class = ⊥

@@ -18,6 +18,7 @@ use Rattle.rx_model.specs.declared.rules.Rules.{Rules}
 use Rattle.rx_parser.specs.Frames.{builder_events}
 use Rattle.rx_parser.specs.Progress.{IsAt}
 use Rattle.rx_parser.specs.declared.builder.Builder.{Builder}
+use Rattle.rx_parser.specs.declared.pattern_parser.PatternParser.{PatternParser}
 
 -- the rules of a state, where buffer boundaries are read or not
 abbrev pub rules_of_state : State → Bool → Rules
@@ -58,3 +59,7 @@ pub record AnswersUnits (mode : Mode) (rules : Rules) (us : List CodePoint) (fir
   -- Each other answer is the first refusal of the text, or out of memory. On what some tree reads the answer is Ok, or memory ran out.
   pub refused : IfErr answer (IsRefused mode rules us first added)
   pub complete : (p : Pattern) → Reads mode rules p us → IfErr answer (λ fault. fault ≡ OutOfMemory)
+
+-- What a parser may answer to the units of its reader, in its mode and under its rules.
+abbrev pub AnswersParser : PatternParser → Result Pattern Fault → Type 0
+AnswersParser it answer = AnswersUnits (mode_of_state it.state) (rules_of_state it.state it.buffer_boundaries) it.reader.units it.reader.first it.spans answer

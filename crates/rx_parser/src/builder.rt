@@ -27,6 +27,7 @@ pub struct Builder {
 
 impl Builder {
     /// A pattern of which nothing has been read, from the byte `start` on.
+    #[tactic(auto, using(crate::proofs::FrameEvents::builder_new, crate::proofs::Goods::good_start))]
     pub fn new(alloc: Global, mode: Mode, rules: Rules, start: u32) -> Builder
         ensures events { builder_events result ≡ enter start ∷ enter start ∷ enter start ∷ [] }
         ensures openers { openers result ≡ [] }
@@ -46,6 +47,7 @@ impl Builder {
     }
 
     /// The same, with memory for n terms of the first alternative.
+    #[tactic(auto, using(crate::proofs::FrameEvents::builder_new, crate::proofs::Goods::good_start))]
     pub fn with_capacity(
         alloc: Global,
         mode: Mode,
@@ -72,6 +74,7 @@ impl Builder {
 
     /// Adds a term with no term in it.
     #[inline]
+    #[tactic(auto, using(crate::proofs::EventEquations::last_after, crate::proofs::FrameEvents::builder_level, crate::proofs::Goods::good_level))]
     pub fn leaf(&mut self, term: Term) -> Result<(), OutOfMemory>
         ensures events { OnOk result (builder_events self.new ≡ builder_events self.old ++ term_events term) }
         ensures openers { OnOk result (openers self.new ≡ openers self.old) }
@@ -85,6 +88,7 @@ impl Builder {
     }
 
     /// Ends an alternative before a bar, and begins the next after it.
+    #[tactic(auto, using(crate::proofs::FrameEvents::builder_level, crate::proofs::Goods::good_level))]
     pub fn bar(&mut self, alloc: Global, at: u32, after: u32) -> Result<(), OutOfMemory>
         ensures events { OnOk result (builder_events self.new ≡ builder_events self.old ++ (leave at ∷ token bar ∷ enter after ∷ [])) }
         ensures openers { OnOk result (openers self.new ≡ openers self.old) }
@@ -98,6 +102,7 @@ impl Builder {
     }
 
     /// Begins a group or a look-around.
+    #[tactic(auto, using(crate::proofs::FrameEvents::builder_open, crate::proofs::Goods::good_open))]
     pub fn open(
         &mut self,
         alloc: Global,
@@ -180,6 +185,7 @@ impl Builder {
     }
 
     /// Whether no group is open.
+    #[tactic(auto, using(crate::proofs::FrameEvents::frames_none))]
     pub fn is_whole(&self) -> bool
         ensures { IsTrue result ↔ (openers self.now ≡ []) }
     {

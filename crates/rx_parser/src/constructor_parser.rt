@@ -4,8 +4,7 @@ ghost use Rattle.rx_model.specs.Reading.Headline.{IsParsed};
 ghost use Rattle.rx_model.specs.declared.form.Form.TheVariants.{Constructor};
 ghost use Rattle.rx_parser.specs.Inputs.{flags_length, input_of};
 
-use crate::Options;
-use crate::input::parse_input;
+use crate::{Input, Options};
 use rx_ast::Pattern;
 use rx_base::Fault;
 use rx_model::{Form, Mode};
@@ -53,10 +52,7 @@ impl<'a> ConstructorParser<'a> {
         // Ok on valid input and on no other, with the only tree; else the first refusal, or out of memory.
         ensures { IsParsed (λ p. p) (input_of Constructor self.entry.pattern_text.now self.entry.flags_text self.entry.options) result }
     {
-        match self.parse_with_mode() {
-            Ok((pattern, _)) => Ok(pattern),
-            Err(fault) => Err(fault),
-        }
+        Ok(self.parse_with_mode()?.0)
     }
 
     /// The same tree, and the mode that the flags ask for.
@@ -66,12 +62,19 @@ impl<'a> ConstructorParser<'a> {
         ensures answered { IsParsed (λ it. it.0) (input_of Constructor self.entry.pattern_text.now self.entry.flags_text self.entry.options) result }
         ensures mode { IfOk result (λ it. AsksFor (input_of Constructor self.entry.pattern_text.now self.entry.flags_text self.entry.options) it.1) }
     {
-        parse_input(
-            self.alloc,
-            Form::Constructor,
-            self.pattern_text,
-            self.flags_text,
-            self.options,
-        )
+        let ConstructorParser {
+            alloc,
+            pattern_text,
+            flags_text,
+            options,
+        } = self;
+        let form = Form::Constructor;
+        let input = Input {
+            form,
+            pattern_text,
+            flags_text,
+            options,
+        };
+        input.parse(alloc)
     }
 }

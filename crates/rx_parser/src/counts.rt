@@ -36,6 +36,7 @@ pub enum CountsFound {
     },
 }
 
+/// The number of the digits that the units begin with (DecimalDigits of ECMA-262, 22.2.1), as far as it fits.
 fn digits_at<C: Counter>(units: &[CodePoint], steps: &mut C) -> DigitsFound
     ensures read { seen_digits units.now result ≡ digits_read_at 0 0 (values units.now) }
     ensures within { digits_counted result ≤ length units.now }
@@ -131,7 +132,7 @@ fn in_braces<C: Counter>(units: &[CodePoint], steps: &mut C) -> CountsFound
     }
 }
 
-/// The quantifier's prefix that the units begin with.
+/// The quantifier's prefix that the units begin with (QuantifierPrefix of ECMA-262, 22.2.1).
 #[tactic(auto, unfolding(rx_model::specs::Quantifiers::CountsReading::counts_read_at))]
 pub fn counts_at<C: Counter>(units: &[CodePoint], steps: &mut C) -> CountsFound
     ensures read { seen_counts result ≡ counts_read_at (values units.now) }
@@ -149,7 +150,7 @@ pub fn counts_at<C: Counter>(units: &[CodePoint], steps: &mut C) -> CountsFound
     }
 }
 
-/// Whether a quantifier's prefix stands first, whatever its numbers are.
+/// Whether a quantifier's prefix stands first, whatever its numbers are (QuantifierPrefix of ECMA-262, 22.2.1).
 #[tactic(auto, unfolding(rx_model::specs::Reading::Fronts::counts_at))]
 pub fn begins_with_counts<C: Counter>(units: &[CodePoint], steps: &mut C) -> bool
     ensures counts { result ≡ are_counts (counts_at (values units.now)) }

@@ -1,40 +1,35 @@
-ghost use Rattle.std.specs.Prelude.{◌≡◌, ◌+◌, ◌^◌, ◌<◌, ◌≤◌};
+ghost use Rattle.std.specs.Prelude.{◌≡◌, ◌+◌, ◌<◌, ◌≤◌};
 ghost use Rattle.rx_base.specs.Rising.{Rises};
 ghost use Rattle.rx_units.specs.Cursor.{offset_of};
 ghost use Rattle.rx_model.specs.Refusals.Reached.{span_between};
 ghost use Rattle.rx_class.specs.Fitting.{AreFitting};
 ghost use Rattle.rx_parser.specs.Faults.{IsEndedFault, IsHaltFault, IsSmall, halt_refusal, lone_refusal, modifiers_refusal};
 ghost use Rattle.rx_parser.specs.HaltPlaces.{halt_end, halt_start};
+ghost use Rattle.rx_parser.specs.Turns.{IsReady};
 
 use crate::builder::Builder;
 use crate::found::{Halt, ModifiersFault};
+use crate::turn::Parse;
 use rx_base::{Counter, Diagnostic, DigitsKind, Fault, Span, Unterminated};
 use rx_model::Mode;
 use rx_scan::SpanFactory;
 use rx_units::Reader;
 
-/// Why a pattern is refused that halts where the reader stands. It has n groups.
+/// Why a pattern is refused that halts where the reader stands.
 #[cold]
-pub fn fault<C: Counter>(
-    reader: &mut Reader<'_>,
-    spans: &SpanFactory,
-    builder: &Builder,
-    groups: u32,
-    halt: Halt,
-    steps: &mut C,
-) -> Fault
+pub fn fault<C: Counter>(parse: &mut Parse<'_>, halt: Halt, steps: &mut C) -> Fault
     requires small { IsSmall halt }
-    requires fits { AreFitting spans.now reader.old }
-    ensures fault { IsHaltFault reader.old.units reader.old.first spans.now reader.old.place builder.now groups halt result }
+    requires ready { IsReady parse.old }
+    ensures fault { IsHaltFault parse.old.reader.units parse.old.reader.first parse.old.spans parse.old.reader.place parse.old.builder parse.old.state.num_of_capturing_groups halt result }
     ensures steps { Rises (C.count steps.old) (C.count steps.new) 0 (halt_end halt) }
 {
     if let Halt::Stop { following } = halt {
-        reader.skip_counted(following, steps);
-        return ended(reader, spans, builder);
+        parse.reader.skip_counted(following, steps);
+        return ended(&parse.reader, &parse.spans, &parse.builder);
     }
     let (from, to) = named_places(halt);
-    let span = span_ahead(reader, spans, from, to, steps);
-    Fault::Diagnostic(refusal(halt, span, groups))
+    let span = span_ahead(&mut parse.reader, &parse.spans, from, to, steps);
+    Fault::Diagnostic(refusal(halt, span, parse.state.num_of_capturing_groups))
 }
 
 /// From where to where the span of a halt goes, in units from the place on.

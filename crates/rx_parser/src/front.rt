@@ -1,48 +1,36 @@
-ghost use Rattle.std.specs.Prelude.{◌≡◌, ◌+◌, ◌-◌, ◌^◌, ◌≤◌, ◌<◌, ◌∷◌, ℕ, Bool, false, All, drop, length, if◌then◌else◌};
+ghost use Rattle.std.specs.Prelude.{◌≡◌, ◌+◌, ◌-◌, ◌^◌, ◌<◌, ◌∷◌, ℕ, false, drop, length, if◌then◌else◌};
 ghost use Rattle.rx_base.specs.Rising.{Rises};
 ghost use Rattle.rx_units.specs.Units.{values};
 ghost use Rattle.rx_ast.specs.declared.leaf.CharacterKind.{CharacterKind};
 ghost use Rattle.rx_class.specs.Found.{class_escape_front, seen_escape};
 ghost use Rattle.rx_class.specs.declared.escape_found.EscapeFound.{EscapeFound};
 ghost use Rattle.rx_model.specs.Characters.EscapeFronts.{any_escape_at};
-ghost use Rattle.rx_model.specs.Inputs.Environment.{environment_with, is_unicode};
+ghost use Rattle.rx_model.specs.Inputs.Environment.{is_unicode};
 ghost use Rattle.rx_model.specs.Properties.PropertyForms.{begins_property};
 ghost use Rattle.rx_model.specs.Quantifiers.CountsReading.{counts_read, counts_read_at};
 ghost use Rattle.rx_model.specs.Reading.FrontReading.{are_out_of_order, are_too_large, backslash_read, ends_here, escape_read, front_read, last_backslash, one_of_escapes, quantifier_read, syntax_read};
 ghost use Rattle.rx_model.specs.Reading.Fronts.{is_raw_at};
 ghost use Rattle.rx_model.specs.Reading.Rows.{is_legacy_syntax, stands_raw};
-ghost use Rattle.rx_parser.specs.Environments.{seen_environment};
-ghost use Rattle.rx_parser.specs.Found.{IsFound, boundary_front, found_front, found_halt};
-ghost use Rattle.rx_parser.specs.Pace.{LooksAtEscape, LooksAtSyntax, MayFind, escape_looks, looks, plain};
+ghost use Rattle.rx_scan.specs.Environments.{seen_environment};
+ghost use Rattle.rx_parser.specs.Found.{boundary_front, found_front, found_halt};
+ghost use Rattle.rx_parser.specs.Pace.{LooksAtEscape, LooksAtSyntax, MayFind, looks, plain};
 
 use crate::ahead::stands_at;
 use crate::counts::{CountsFound, begins_with_counts, counts_at};
-use crate::environment::Environment;
 use crate::found::{Found, Halt, Leaf};
 use crate::group::group_at;
 use crate::reference::{indexed_at, is_reference, named_at};
 use rx_ast::BoundaryAssertionKind;
 use rx_base::Counter;
-use rx_class::{
-    EscapeFound, LegacyContext, character_escape_at, class_escape_at, legacy_escape_at, unit_kind,
-};
+use rx_class::{EscapeFound, any_escape_at, class_escape_at, unit_kind};
 use rx_model::Mode;
+use rx_scan::Environment;
 use rx_tables::is_syntax_character;
 use rx_units::CodePoint;
 
-/// What the units begin with, outside classes.
-pub fn front_at<C: Counter>(units: &[CodePoint], environment: Environment, steps: &mut C) -> Found
-    requires few { environment.groups < 2 ^ 32 - 1 }
-    requires code_points { All (λ unit. unit.value ≤ 0x10FFFF) units.now }
-    ensures found { IsFound (seen_environment environment) units.now result }
-    ensures steps { Rises (C.count steps.old) (C.count steps.new) 0 (looks (drop 1 units.now) result) }
-{
-    first_of(units, environment, steps)
-}
-
-/// The same, by how the front is read.
+/// What the units begin with, outside classes (Term of ECMA-262, 22.2.1, and of B.1.2, or `)` or `|`).
 #[tactic(auto, unfolding(rx_model::specs::Reading::FrontReading::front_read))]
-fn first_of<C: Counter>(units: &[CodePoint], environment: Environment, steps: &mut C) -> Found
+pub fn front_at<C: Counter>(units: &[CodePoint], environment: Environment, steps: &mut C) -> Found
     requires few { environment.groups < 2 ^ 32 - 1 }
     ensures found { result ≡ found_front (front_read (seen_environment environment) units.now) }
     ensures steps { Rises (C.count steps.old) (C.count steps.new) 0 (looks (drop 1 units.now) result) }
@@ -56,7 +44,7 @@ fn first_of<C: Counter>(units: &[CodePoint], environment: Environment, steps: &m
     if first.value == '[' as u32 {
         return Found::Class;
     }
-    if is_raw(first.value, following, units, environment.mode, steps) {
+    if is_raw(first.value, following, units, environment, steps) {
         return Found::Leaf {
             leaf: Leaf::Character {
                 kind: unit_kind(first.escape_kind),
@@ -65,7 +53,7 @@ fn first_of<C: Counter>(units: &[CodePoint], environment: Environment, steps: &m
             length: 1,
         };
     }
-    syntax_at(first.value, following, units, environment.mode, steps)
+    syntax_at(first.value, following, units, environment, steps)
 }
 
 /// Whether the first unit stands for itself. With neither `u` nor `v` a brace does, where no quantifier begins there.
@@ -73,14 +61,15 @@ fn is_raw<C: Counter>(
     first: u32,
     following: &[CodePoint],
     units: &[CodePoint],
-    mode: Mode,
+    environment: Environment,
     steps: &mut C,
 ) -> bool
     requires { values units.now ≡ first ∷ values following.now }
-    ensures raw { (buffers : Bool) (groups : ℕ) (has_names : Bool) → result ≡ is_raw_at (environment_with mode buffers groups has_names) first (values following.now) }
+    ensures raw { result ≡ is_raw_at (seen_environment environment) first (values following.now) }
     ensures steps { Rises (C.count steps.old) (C.count steps.new) 0 (plain (drop 1 units.now) + 1) }
 {
-    stands_raw(first, mode) && (mode.is_unicode() || !begins_with_counts(units, steps))
+    stands_raw(first, environment.mode)
+        && (environment.is_unicode() || !begins_with_counts(units, steps))
 }
 
 /// Whether a value may stand for itself (PatternCharacter of ECMA-262, 22.2.1, and ExtendedPatternCharacter of B.1.2).
@@ -103,7 +92,7 @@ fn is_legacy_syntax(value: u32) -> bool
     )
 }
 
-/// The boundary that the unit after a backslash is.
+/// The boundary that the unit after a backslash is (Assertion of ECMA-262, 22.2.1; regular expression buffer boundaries).
 fn boundary_at(following: &[CodePoint], environment: Environment) -> Option<BoundaryAssertionKind>
     ensures { result ≡ boundary_front (seen_environment environment) (values following.now) }
 {
@@ -119,7 +108,7 @@ fn boundary_at(following: &[CodePoint], environment: Environment) -> Option<Boun
     }
 }
 
-/// What a backslash and the units after it begin with.
+/// What a backslash and the units after it begin with (AtomEscape and Assertion of ECMA-262, 22.2.1).
 fn backslash_at<C: Counter>(
     following: &[CodePoint],
     environment: Environment,
@@ -136,9 +125,9 @@ fn backslash_at<C: Counter>(
         return indexed_at(following, environment.groups, steps);
     }
     if first.value == 'k' as u32 && environment.is_named() {
-        return named_at(more, environment.mode.is_unicode(), steps);
+        return named_at(more, environment.is_unicode(), steps);
     }
-    if begins_property(first.value) && environment.mode.is_unicode() {
+    if begins_property(first.value) && environment.is_unicode() {
         return Found::Property;
     }
     escape_at(following, environment, steps)
@@ -162,7 +151,8 @@ fn begins_property(value: u32) -> bool
     value == 'p' as u32 || value == 'P' as u32
 }
 
-/// What a backslash and the units after it, which are neither a reference nor a property, begin with.
+/// What a backslash and the units after it, which are neither a reference nor a property, begin with: an assertion, a class escape, or the escape of a
+/// character (AtomEscape of ECMA-262, 22.2.1 and B.1.2).
 fn escape_at<C: Counter>(following: &[CodePoint], environment: Environment, steps: &mut C) -> Found
     ensures found { result ≡ found_front (one_of_escapes (boundary_front (seen_environment environment) (values following.now)) (class_escape_front (values following.now)) (any_escape_at false (seen_environment environment) (values following.now))) }
     ensures steps { LooksAtEscape (C.count steps.old) (C.count steps.new) following.now result }
@@ -179,19 +169,15 @@ fn escape_at<C: Counter>(following: &[CodePoint], environment: Environment, step
             length: 2,
         };
     }
-    character_at(following, environment, steps)
+    character(any_escape_at(following, false, environment, steps))
 }
 
-/// What a backslash and the units after it, which are neither a boundary nor a class escape, begin with.
-fn character_at<C: Counter>(
-    following: &[CodePoint],
-    environment: Environment,
-    steps: &mut C,
-) -> Found
-    ensures found { result ≡ found_front (escape_read (any_escape_at false (seen_environment environment) (values following.now))) }
-    ensures steps { LooksAtEscape (C.count steps.old) (C.count steps.new) following.now result }
+/// What is found where a backslash stands and after it this escape of a character.
+fn character(escape: EscapeFound) -> Found
+    requires { (kind : CharacterKind) (value n : ℕ) → escape ≡ EscapeFound.Character kind value n → n + 1 < 2 ^ 64 }
+    ensures { result ≡ found_front (escape_read (seen_escape escape)) }
 {
-    match any_escape_at(following, environment, steps) {
+    match escape {
         EscapeFound::Character {
             kind,
             value,
@@ -211,51 +197,16 @@ fn character_at<C: Counter>(
     }
 }
 
-/// The character escape that the units after a backslash begin with, outside classes: with neither `u` nor `v` also one of ECMA-262, B.1.2.
-fn any_escape_at<C: Counter>(
-    following: &[CodePoint],
-    environment: Environment,
-    steps: &mut C,
-) -> EscapeFound
-    ensures read { seen_escape result ≡ any_escape_at false (seen_environment environment) (values following.now) }
-    ensures within { (kind : CharacterKind) (value n : ℕ) → result ≡ EscapeFound.Character kind value n → n ≤ length following.now }
-    ensures steps { Rises (C.count steps.old) (C.count steps.new) 0 (escape_looks following.now result) }
-{
-    escape_in_mode(following, environment, steps)
-}
-
-fn escape_in_mode<C: Counter>(
-    following: &[CodePoint],
-    environment: Environment,
-    steps: &mut C,
-) -> EscapeFound
-    ensures read { seen_escape result ≡ any_escape_at false (seen_environment environment) (values following.now) }
-    ensures steps { Rises (C.count steps.old) (C.count steps.new) 0 (escape_looks following.now result) }
-{
-    let unicode_mode = environment.mode.is_unicode();
-    match character_escape_at(following, unicode_mode, steps) {
-        EscapeFound::Nothing | EscapeFound::Invalid if !unicode_mode => {
-            let context = LegacyContext {
-                inside: false,
-                groups: environment.groups,
-                named: environment.is_named(),
-            };
-            legacy_escape_at(following, context, steps)
-        }
-        found => found,
-    }
-}
-
-/// What the units begin with, whose first is neither a backslash nor `[` nor stands for itself.
+/// What the units begin with, whose first is neither a backslash nor `[` nor stands for itself (Atom, Assertion and Quantifier of ECMA-262, 22.2.1).
 fn syntax_at<C: Counter>(
     first: u32,
     following: &[CodePoint],
     units: &[CodePoint],
-    mode: Mode,
+    environment: Environment,
     steps: &mut C,
 ) -> Found
     requires { values units.now ≡ first ∷ values following.now }
-    ensures found { (buffers : Bool) (groups : ℕ) (has_names : Bool) → result ≡ found_front (syntax_read (environment_with mode buffers groups has_names) first (values following.now)) }
+    ensures found { result ≡ found_front (syntax_read (seen_environment environment) first (values following.now)) }
     ensures steps { LooksAtSyntax (C.count steps.old) (C.count steps.new) (length following.now) result }
 {
     match char::from_u32(first) {
@@ -263,7 +214,7 @@ fn syntax_at<C: Counter>(
             leaf: Leaf::Dot,
             length: 1,
         },
-        Some('(') => group_at(following, mode.is_unicode(), steps),
+        Some('(') => group_at(following, environment.is_unicode(), steps),
         Some(')') => Found::Close,
         Some('|') => Found::Bar,
         Some('^') => Found::Leaf {
@@ -278,7 +229,7 @@ fn syntax_at<C: Counter>(
     }
 }
 
-/// The quantifier that the units begin with.
+/// The quantifier that the units begin with (Quantifier of ECMA-262, 22.2.1).
 fn quantifier_at<C: Counter>(units: &[CodePoint], steps: &mut C) -> Found
     ensures found { result ≡ found_front (quantifier_read (counts_read_at (values units.now)) (values units.now)) }
     ensures steps { LooksAtSyntax (C.count steps.old) (C.count steps.new) (length units.now - 1) result }

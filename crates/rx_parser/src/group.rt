@@ -33,19 +33,19 @@ fn opens(opener: OpenerFound, length: usize) -> Found
     Found::Open { opener, length }
 }
 
-/// The group after `(?`.
+/// The group or look-around after `(?` (Atom and Assertion of ECMA-262, 22.2.1).
 fn after_question<C: Counter>(units: &[CodePoint], unicode_mode: bool, steps: &mut C) -> Found
     ensures found { result ≡ found_front (question_read unicode_mode (values units.now)) }
     ensures steps { LooksAtSyntax (C.count steps.old) (C.count steps.new) (length units.now) result }
 {
     match units {
         [mark, ..] if mark.value == ':' as u32 => opens(OpenerFound::Ignoring, 3),
-        [mark, ..] if mark.value == '=' as u32 => look_around(
-            LookAroundAssertionKind::Lookahead,
+        [mark, ..] if mark.value == '=' as u32 => opens(
+            OpenerFound::LookAround(LookAroundAssertionKind::Lookahead),
             3,
         ),
-        [mark, ..] if mark.value == '!' as u32 => look_around(
-            LookAroundAssertionKind::NegativeLookahead,
+        [mark, ..] if mark.value == '!' as u32 => opens(
+            OpenerFound::LookAround(LookAroundAssertionKind::NegativeLookahead),
             3,
         ),
         [mark, more @ ..] if mark.value == '<' as u32 => after_angle(more, unicode_mode, steps),
@@ -53,31 +53,25 @@ fn after_question<C: Counter>(units: &[CodePoint], unicode_mode: bool, steps: &m
     }
 }
 
-fn look_around(kind: LookAroundAssertionKind, length: usize) -> Found
-    ensures { result ≡ Found.Open (OpenerFound.LookAround kind) length }
-{
-    opens(OpenerFound::LookAround(kind), length)
-}
-
-/// The group after `(?<`.
+/// The lookbehind or named group after `(?<` (Assertion and GroupSpecifier of ECMA-262, 22.2.1).
 fn after_angle<C: Counter>(units: &[CodePoint], unicode_mode: bool, steps: &mut C) -> Found
     ensures found { result ≡ found_front (angle_read unicode_mode (values units.now)) }
     ensures steps { LooksAtSyntax (C.count steps.old) (C.count steps.new) (length units.now) result }
 {
     match units {
-        [mark, ..] if mark.value == '=' as u32 => look_around(
-            LookAroundAssertionKind::Lookbehind,
+        [mark, ..] if mark.value == '=' as u32 => opens(
+            OpenerFound::LookAround(LookAroundAssertionKind::Lookbehind),
             4,
         ),
-        [mark, ..] if mark.value == '!' as u32 => look_around(
-            LookAroundAssertionKind::NegativeLookbehind,
+        [mark, ..] if mark.value == '!' as u32 => opens(
+            OpenerFound::LookAround(LookAroundAssertionKind::NegativeLookbehind),
             4,
         ),
         _ => named(units, unicode_mode, steps),
     }
 }
 
-/// The group after `(?<`, where no lookbehind begins.
+/// The group after `(?<`, where no lookbehind begins (GroupSpecifier of ECMA-262, 22.2.1).
 fn named<C: Counter>(units: &[CodePoint], unicode_mode: bool, steps: &mut C) -> Found
     ensures found { result ≡ found_front (named_group_read (name_read_at unicode_mode (values units.now))) }
     ensures steps { LooksAtSyntax (C.count steps.old) (C.count steps.new) (length units.now) result }

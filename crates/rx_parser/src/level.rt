@@ -34,6 +34,7 @@ fn with_room_for_last(alternatives: List<Alternative>) -> Result<List<Alternativ
 
 impl Level {
     /// A disjunction of which nothing has been read.
+    #[tactic(auto, using(crate::proofs::EventEquations::level_new, crate::proofs::Goods::good_new))]
     pub fn new(alloc: Global, at: u32) -> Level
         ensures events { level_events result ≡ enter at ∷ enter at ∷ [] }
         ensures terms { result.terms ≡ [] }
@@ -48,6 +49,7 @@ impl Level {
     }
 
     /// The same, with memory for n terms.
+    #[tactic(auto, using(crate::proofs::EventEquations::level_new, crate::proofs::Goods::good_new))]
     pub fn with_capacity(alloc: Global, at: u32, capacity: usize) -> Result<Level, OutOfMemory>
         ensures events { IfOk result (λ it. level_events it ≡ enter at ∷ enter at ∷ []) }
         ensures terms { IfOk result (λ it. it.terms ≡ []) }
@@ -71,6 +73,7 @@ impl Level {
 
     /// Adds a term.
     #[inline]
+    #[tactic(auto, using(crate::proofs::EventEquations::level_push, crate::proofs::Goods::good_push))]
     pub fn push(&mut self, term: Term) -> Result<(), OutOfMemory>
         ensures events { OnOk result (level_events self.new ≡ level_events self.old ++ term_events term) }
         ensures terms { OnOk result (self.new.terms ≡ self.old.terms ++ term ∷ []) }
@@ -80,6 +83,7 @@ impl Level {
     }
 
     /// Ends an alternative before a bar, and begins the next after it.
+    #[tactic(auto, using(crate::proofs::EventEquations::level_bar, crate::proofs::Goods::good_bar))]
     pub fn bar(&mut self, alloc: Global, at: u32, after: u32) -> Result<(), OutOfMemory>
         ensures events { OnOk result (level_events self.new ≡ level_events self.old ++ (leave at ∷ token bar ∷ enter after ∷ [])) }
         ensures terms { OnOk result (self.new.terms ≡ []) }
@@ -93,6 +97,7 @@ impl Level {
     }
 
     /// Whether a quantifier may follow what has been read (Term of ECMA-262, 22.2.1 and Annex B.1.2).
+    #[tactic(auto, using(crate::proofs::EventEquations::last_is))]
     pub fn is_ready(&self, mode: Mode) -> bool
         ensures { result ≡ last_takes mode self.now.terms }
     {

@@ -10,7 +10,7 @@ ghost use Rattle.rx_parser.specs.Found.{found_front};
 ghost use Rattle.rx_parser.specs.Modifiers.{modifier_bit, seen_sides};
 ghost use Rattle.rx_parser.specs.Pace.{LooksAtSyntax};
 
-use crate::ahead::stands_at;
+use crate::ahead::{stands_at, tail};
 use crate::found::{Found, Halt, ModifiersFault, OpenerFound};
 use rx_ast::Modifier;
 use rx_base::Counter;
@@ -24,7 +24,7 @@ struct Sides<'a> {
     length: usize,
 }
 
-/// The group that `(?` and the modifiers after it begin; or why they may not stand there.
+/// The group that `(?` and the modifiers after it begin (Atom of ECMA-262, 22.2.1); or why they may not stand there.
 pub fn modifiers_at<C: Counter>(units: &[CodePoint], steps: &mut C) -> Found
     ensures found { result ≡ found_front (modified_read (modifiers_read_at (values units.now))) }
     ensures steps { LooksAtSyntax (C.count steps.old) (C.count steps.new) (length units.now) result }
@@ -69,7 +69,7 @@ fn halt(fault: ModifiersFault, length: usize) -> Found
     Found::Halt(Halt::Modifiers { fault, length })
 }
 
-/// The modifiers that the units begin with.
+/// The modifiers that the units begin with (RegularExpressionModifiers of ECMA-262, 22.2.1).
 fn sides_at<'a, C: Counter>(units: &'a [CodePoint], steps: &mut C) -> Sides<'a>
     ensures sides { seen_sides result ≡ sides_at (values units.now) }
     ensures within { result.length ≤ length units.now }
@@ -77,20 +77,20 @@ fn sides_at<'a, C: Counter>(units: &'a [CodePoint], steps: &mut C) -> Sides<'a>
     ensures steps { Rises (C.count steps.old) (C.count steps.new) 0 (result.length + 1) }
 {
     let count = letters_at(units, steps);
-    match &units[count..] {
-        [dash, following @ ..] if dash.value == '-' as u32 => {
-            let more = letters_at(following, steps);
-            Sides {
-                enabling: &units[..count],
-                disabling: &following[..more],
-                length: count + 1 + more,
-            }
-        }
-        _ => Sides {
-            enabling: &units[..count],
+    let enabling = &units[..count];
+    if !stands_at(units, count, '-') {
+        return Sides {
+            enabling,
             disabling: &[],
             length: count,
-        },
+        };
+    }
+    let following = tail(units, count + 1);
+    let more = letters_at(following, steps);
+    Sides {
+        enabling,
+        disabling: &following[..more],
+        length: count + 1 + more,
     }
 }
 

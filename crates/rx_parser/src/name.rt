@@ -71,7 +71,7 @@ fn begins_with_pair(units: &[CodePoint]) -> bool
     }
 }
 
-/// Why what stands after n units of a name and a backslash is none of the name's characters.
+/// Why what stands after n units of a name and a backslash is none of the name's characters (RegExpUnicodeEscapeSequence of ECMA-262, 22.2.1).
 fn escape_in_name<C: Counter>(
     count: usize,
     following: &[CodePoint],

@@ -1,11 +1,12 @@
 ghost use Rattle.std.specs.Prelude.{◌≡◌, Bool, ◌+◌, ◌*◌, ◌<◌, ◌≤◌, ◌^◌, All, IfErr, IfOk, OnOk, length};
 ghost use Rattle.rx_scan.specs.StateFaults.{mode_of_state};
 ghost use Rattle.rx_class.specs.Fitting.{AreFitting};
-ghost use Rattle.rx_parser.specs.Parsing.{AnswersUnits, HoldsPass, IsRefused, IsWhole, rules_of_state};
+ghost use Rattle.rx_parser.specs.Parsing.{AnswersParser, HoldsPass, IsRefused, IsWhole, rules_of_state};
+ghost use Rattle.rx_parser.specs.Turns.{IsUnderWay, RefusesText};
 
 use crate::builder::Builder;
 use crate::fault::{ended, here};
-use crate::turn::turn;
+use crate::turn::Parse;
 use rx_ast::Pattern;
 use rx_base::{Counter, Diagnostic, Fault, Steps};
 use rx_model::{Mode, Rules};
@@ -58,7 +59,7 @@ impl<'a> PatternParser<'a> {
         requires first { self.reader.first + self.spans < 2 ^ 32 }
         requires fits { All (λ unit. unit.span.end + self.spans < 2 ^ 32) self.reader.units }
 
-        ensures { AnswersUnits (mode_of_state self.entry.state) (rules_of_state self.entry.state self.entry.buffer_boundaries) self.entry.reader.units self.entry.reader.first self.entry.spans result }
+        ensures { AnswersParser self.entry result }
     {
         parse_alone::<Brand>(self, Blank::new(1))
     }
@@ -70,7 +71,7 @@ impl<'a> PatternParser<'a> {
         requires first { self.reader.first + self.spans < 2 ^ 32 }
         requires fits { All (λ unit. unit.span.end + self.spans < 2 ^ 32) self.reader.units }
 
-        ensures answer { AnswersUnits (mode_of_state self.entry.state) (rules_of_state self.entry.state self.entry.buffer_boundaries) self.entry.reader.units self.entry.reader.first self.entry.spans result }
+        ensures answer { AnswersParser self.entry result }
         ensures steps { C.count steps.new ≤ C.count steps.old + 8 * (length self.entry.reader.units + 1) }
         ensures all { OnOk result (C.count steps.old + 2 * length self.entry.reader.units ≤ C.count steps.new) }
     {
@@ -87,7 +88,17 @@ impl<'a> PatternParser<'a> {
             buffer_boundaries,
         };
         first_pass(&mut state, &mut reader, &spans, steps)?;
-        read_pattern(alloc, &mut reader, &state, &spans, mode, rules, steps)
+        let start = here(&reader, &spans);
+        let capacity = reader.remaining_code_points().len().min(TERMS_RESERVED);
+        let builder = Builder::with_capacity(alloc, mode, rules, start, capacity)?;
+        let parse = Parse {
+            alloc,
+            reader,
+            state,
+            spans,
+            builder,
+        };
+        read_pattern(parse, steps)
     }
 }
 
@@ -99,7 +110,7 @@ fn parse_alone<L: Ledger>(parser: PatternParser<'_>, blank: Blank) -> Result<Pat
     requires start { parser.reader.place ≡ 0 }
     requires first { parser.reader.first + parser.spans < 2 ^ 32 }
     requires fits { All (λ unit. unit.span.end + parser.spans < 2 ^ 32) parser.reader.units }
-    ensures { AnswersUnits (mode_of_state parser.entry.state) (rules_of_state parser.entry.state parser.entry.buffer_boundaries) parser.entry.reader.units parser.entry.reader.first parser.entry.spans result }
+    ensures { AnswersParser parser.entry result }
 {
     parser.parse_counted(&mut Steps::<L>::new(blank))
 }
@@ -138,31 +149,21 @@ fn first_pass<C: Counter>(
 /// For how many terms memory is taken at once: most patterns have no more outside groups.
 const TERMS_RESERVED: usize = 16;
 
-/// The tree of a text that is read already, and whose groups are counted.
-fn read_pattern<C: Counter>(
-    alloc: Global,
-    reader: &mut Reader<'_>,
-    state: &State,
-    spans: &SpanFactory,
-    mode: Mode,
-    rules: Rules,
-    steps: &mut C,
-) -> Result<Pattern, Fault>
-    requires start { reader.old.place ≡ 0 }
-    requires fits { AreFitting spans.now reader.old }
-    requires pass { HoldsPass mode rules reader.old.units state.now }
-    ensures whole { IfOk result (IsWhole mode rules reader.old.units reader.old.first spans.now) }
-    ensures refused { IfErr result (IsRefused mode rules reader.old.units reader.old.first spans.now) }
-    ensures steps { C.count steps.new ≤ C.count steps.old + 7 * length reader.old.units + 8 }
-    ensures all { OnOk result (C.count steps.old + length reader.old.units ≤ C.count steps.new) }
+/// The tree of a text of which nothing is read yet, and whose groups are counted.
+fn read_pattern<C: Counter>(mut parse: Parse<'_>, steps: &mut C) -> Result<Pattern, Fault>
+    requires start { parse.reader.place ≡ 0 }
+    requires under_way { IsUnderWay parse }
+    ensures whole { IfOk result (IsWhole parse.entry.builder.mode parse.entry.builder.rules parse.entry.reader.units parse.entry.reader.first parse.entry.spans) }
+    ensures refused { IfErr result (RefusesText parse.entry) }
+    ensures steps { C.count steps.new ≤ C.count steps.old + 7 * length parse.entry.reader.units + 8 }
+    ensures all { OnOk result (C.count steps.old + length parse.entry.reader.units ≤ C.count steps.new) }
 {
-    let capacity = reader.remaining_code_points().len().min(TERMS_RESERVED);
-    let mut builder = Builder::with_capacity(alloc, mode, rules, here(reader, spans), capacity)?;
-    while !reader.remaining_code_points().is_empty() {
-        turn(alloc, reader, state, spans, &mut builder, steps)?;
+    while !parse.reader.remaining_code_points().is_empty() {
+        parse.turn(steps)?;
     }
-    if !builder.is_whole() {
-        return Err(ended(reader, spans, &builder));
+    if !parse.builder.is_whole() {
+        return Err(ended(&parse.reader, &parse.spans, &parse.builder));
     }
-    Ok(builder.finish(here(reader, spans))?)
+    let end = here(&parse.reader, &parse.spans);
+    Ok(parse.builder.finish(end)?)
 }

@@ -6,15 +6,15 @@ ghost use Rattle.rx_model.specs.Reading.FrontReading.{indexed_read, reference_re
 ghost use Rattle.rx_model.specs.Characters.LegacyEscapes.{begins_run, run_number};
 ghost use Rattle.rx_model.specs.Reading.Fronts.{digits_after, is_reference};
 ghost use Rattle.rx_model.specs.Trees.Token.{named};
-ghost use Rattle.rx_parser.specs.Environments.{seen_environment};
+ghost use Rattle.rx_scan.specs.Environments.{seen_environment};
 ghost use Rattle.rx_parser.specs.Found.{found_front};
 ghost use Rattle.rx_parser.specs.Pace.{LooksAtSyntax, digit_run};
 
 use crate::ahead::number_at;
-use crate::environment::Environment;
 use crate::found::{Found, Halt, Leaf};
 use crate::name::{NameFound, name_at};
 use rx_base::Counter;
+use rx_scan::Environment;
 use rx_tables::is_decimal_digit;
 use rx_units::CodePoint;
 
@@ -30,7 +30,7 @@ pub fn is_reference<C: Counter>(
     ensures steps { Rises (C.count steps.old) (C.count steps.new) 0 (min (2 * digit_run following.now) (digit_run following.now + 1)) }
 {
     begins_with_first_digit(following)
-        && (environment.mode.is_unicode() || is_at_most(following, environment.groups, steps))
+        && (environment.is_unicode() || is_at_most(following, environment.groups, steps))
 }
 
 /// Whether a digit from 1 to 9 stands first.
@@ -43,6 +43,7 @@ fn begins_with_first_digit(units: &[CodePoint]) -> bool
 }
 
 /// Whether the number of the digits that the units begin with is at most that of the groups.
+#[tactic(auto, using(crate::proofs::NumberFound::least_number, crate::proofs::NumberFound::number_run))]
 fn is_at_most<C: Counter>(units: &[CodePoint], groups: u32, steps: &mut C) -> bool
     requires few { groups < 2 ^ 32 - 1 }
     ensures most { result ≡ nat_le (run_number 0 (values units.now)) groups }
@@ -80,7 +81,7 @@ pub fn named_at<C: Counter>(following: &[CodePoint], unicode_mode: bool, steps: 
     }
 }
 
-/// The reference by name after `\k<`.
+/// The reference by name after `\k<` (GroupName of ECMA-262, 22.2.1).
 fn named<C: Counter>(units: &[CodePoint], unicode_mode: bool, steps: &mut C) -> Found
     ensures found { result ≡ found_front (with_name named (name_read_at unicode_mode (values units.now))) }
     ensures steps { LooksAtSyntax (C.count steps.old) (C.count steps.new) (length units.now) result }

@@ -56,6 +56,7 @@ pub fn property_term(alloc: Global, escape: UnicodePropertyEscape) -> Result<Ter
 }
 
 /// The class as a term.
+#[tactic(auto, using(rx_ast::proofs::Equations::mirrors))]
 pub fn class_term(alloc: Global, class: CharacterClass) -> Result<Term, OutOfMemory>
     ensures { IfOk result (λ it. mirror_term it ≡ leaf (tree.class (mirror_class class))) }
 {

@@ -1,4 +1,5 @@
 pub mod DecodingSteps
+pub mod Environments
 pub mod EscapeDecoding
 pub mod FirstPass
 pub mod GroupNames

@@ -28,7 +28,8 @@ impl<'a> FlagsParser<'a> {
         }
     }
 
-    /// Whether the flags ask for a unicode mode, and whether they ask for sets mode; or why they are refused.
+    /// Whether the flags ask for a unicode mode, and whether they ask for sets mode; or why they are refused (RegExpInitialize and
+    /// ParsePattern of ECMA-262, 22.2.3.3 and 22.2.3.4).
     #[tactic(auto, using(crate::proofs::FlagRows::modes_by_mode))]
     pub fn parse(self) -> Result<(bool, bool), Diagnostic>
         requires start { self.reader.place ≡ 0 }
@@ -45,7 +46,7 @@ impl<'a> FlagsParser<'a> {
     }
 }
 
-/// Refuses the first unit with which the units are no flags any more. `first` is the offset before the first unit.
+/// Refuses the first unit with which the units are no flags any more (RegExpInitialize, 22.2.3.3). `first` is the offset before the first unit.
 fn check(units: &[CodePoint], first: u32, spans: SpanFactory) -> Result<(), Diagnostic>
     requires first { first + spans < 2 ^ 32 }
     requires fits { All (λ unit. unit.span.end + spans < 2 ^ 32) units.now }
@@ -84,7 +85,7 @@ fn refusal(units: &[CodePoint], place: usize, span: Span) -> Option<Diagnostic>
     None
 }
 
-/// The mode that flags ask for.
+/// The mode that flags ask for (ParsePattern, 22.2.3.4).
 fn mode_of(units: &[CodePoint]) -> Mode
     ensures { result ≡ mode_of (values units.now) }
 {

@@ -35,6 +35,7 @@ pub fn capturing_group_name(
 }
 
 /// The same, with a counter of its own.
+// Why: docs/DECISIONS.md, 98.
 fn name_alone<L: Ledger>(
     alloc: Global,
     units: &[CodePoint],
@@ -84,6 +85,7 @@ pub fn capturing_group_name_counted<C: Counter>(
 /// How many units the longest row of a name's characters (RegExpIdentifierName of ECMA-262, 22.2.1) takes at the front of the units: none where no
 /// name stands there. The units are code points in unicode mode, else UTF-16 code units. Counts each character that is looked at, and the digits of
 /// an escape as `decode_counted` does.
+// Why: docs/DECISIONS.md, 27.
 pub fn group_name_length_counted<C: Counter>(
     units: &[CodePoint],
     unicode_mode: bool,
@@ -131,7 +133,7 @@ fn name_character<C: Counter>(
     }
 }
 
-/// The character of a name that a unit is, by itself or with the next.
+/// The character of a name that a unit is, by itself or with the next (RegExpIdentifierStart and RegExpIdentifierPart, 22.2.1).
 fn raw_character(
     unit: u32,
     following: &[CodePoint],

@@ -1,6 +1,7 @@
 //! Reading what stands before a pattern's tree: flags, the groups and their names, unicode escapes, and the spans that answers carry.
 #![tactic(auto)]
 
+mod environment;
 mod first_pass;
 mod flags_parser;
 mod group_name;
@@ -12,6 +13,7 @@ mod span_factory;
 mod state;
 mod unicode_escape;
 
+pub use environment::Environment;
 pub use flags_parser::FlagsParser;
 pub use group_name::{
     capturing_group_name, capturing_group_name_counted, group_name_length_counted,

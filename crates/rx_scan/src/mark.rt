@@ -32,7 +32,8 @@ pub fn is_plain(unit: u32) -> bool
         && unit != '|' as u32
 }
 
-/// The mark that begins with a unit that is not plain, and how many of the units after it are the mark's. Each of these is a step.
+/// The mark (CountLeftCapturingParensWithin, 22.2.1.2) that begins with a unit that is not plain, and how many of the units after it are
+/// the mark's. Each of these is a step.
 #[tactic(auto, using(crate::proofs::MarkSteps::bar_front), unfolding(rx_model::specs::FirstPass::Marks::mark_front))]
 pub fn read_mark<'a, C: Counter>(
     unit: u32,
@@ -75,6 +76,7 @@ fn escape_rest<C: Counter>(units: &[CodePoint], steps: &mut C) -> usize
 }
 
 /// How many units a class has after its `[` (CharacterClass, 22.2.1).
+// Why: docs/DECISIONS.md, 26.
 fn class_rest<C: Counter>(units: &[CodePoint], mode: Mode, steps: &mut C) -> usize
     ensures value { result ≡ class_rest mode false 0 (values units.now) }
     ensures within { result ≤ length units.now }
@@ -195,7 +197,7 @@ fn group_specifier<'a, C: Counter>(units: &'a [CodePoint], steps: &mut C) -> (Ma
     }
 }
 
-/// The units before the next `>`, where one stands.
+/// The units before the next `>`, where one stands (GroupName, 22.2.1).
 fn name_units<'a, C: Counter>(units: &'a [CodePoint], steps: &mut C) -> Option<&'a [CodePoint]>
     ensures value { option_map (λ part. values part.now) result ≡ closed_part (values units.now) }
     ensures within { IfSome result (λ part. length part.now < length units.now) }

@@ -3,8 +3,8 @@ ghost use Rattle.rx_units.specs.Units.{offset_at};
 ghost use Rattle.rx_model.specs.Inputs.Environment.{has_some, is_unicode};
 ghost use Rattle.rx_scan.specs.StateFaults.{CountsGroups, mode_of_state};
 
-use crate::Names;
 use crate::first_pass::{FirstPass, PassFault};
+use crate::{Environment, Names};
 use rx_base::{Counter, Steps};
 use rx_model::Mode;
 use rx_units::{CodePoint, Reader};
@@ -70,7 +70,7 @@ impl State {
     }
 
     /// The mode that the pattern is read in.
-    fn mode(&self) -> Mode
+    pub fn mode(&self) -> Mode
         ensures { result ≡ mode_of_state self.now }
     {
         Mode::of(self.unicode_mode, self.unicode_sets_mode)
@@ -133,11 +133,11 @@ impl State {
 
     /// Takes over what a first pass has found.
     fn keep(&mut self, pass: FirstPass)
-        ensures { self.new ≡ record self.old { named_capture_groups = is_unicode pass.mode || has_some pass.names; num_of_capturing_groups = min pass.count (2 ^ 32 - 1); capturing_group_names = pass.names } }
+        ensures { self.new ≡ record self.old { named_capture_groups = is_unicode (mode_of_state self.old) || has_some pass.names; num_of_capturing_groups = min pass.count (2 ^ 32 - 1); capturing_group_names = pass.names } }
     {
-        self.named_capture_groups = pass.mode.is_unicode() || !pass.names.is_empty();
         self.num_of_capturing_groups = u32::try_from(pass.count).unwrap_or(u32::MAX);
         self.capturing_group_names = pass.names;
+        self.named_capture_groups = Environment::of(self, false).is_named();
     }
 }
 

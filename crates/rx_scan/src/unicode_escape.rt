@@ -33,6 +33,7 @@ pub fn decode(units: &[CodePoint], unicode_mode: bool) -> UnicodeEscape
 }
 
 /// The same, with a counter of its own.
+// Why: docs/DECISIONS.md, 98.
 fn decode_alone<L: Ledger>(units: &[CodePoint], unicode_mode: bool, blank: Blank) -> UnicodeEscape
     requires name { blank.name ≡ L.name }
     requires parts { blank.parts ≡ L.parts }
@@ -165,7 +166,7 @@ fn trail_escape<C: Counter>(units: &[CodePoint], steps: &mut C) -> Option<u32>
     }
 }
 
-/// The digits in braces that stand next.
+/// The digits in braces that stand next (RegExpUnicodeEscapeSequence, 22.2.1).
 fn braced_digits<C: Counter>(units: &[CodePoint], steps: &mut C) -> UnicodeEscape
     ensures read { seen_escape result ≡ braces_at (values units.now) }
     ensures steps { Rises (C.count steps.old) (C.count steps.new) (least_digits result) (most_digits true (length units.now) result) }

@@ -52,13 +52,13 @@ control_escape_value c =
 abbrev pub control_letter_value : ℕ → Option ℕ
 control_letter_value c = if is_ascii_letter c then Some (c % 32) else None
 
--- the value of a HexDigit (12.9.3), of either case
+-- the value of a HexDigit (12.9.3), of either case: the first letter stands for 10
 abbrev pub hex_digit_value : ℕ → Option ℕ
 hex_digit_value c =
     if is_decimal_digit c then Some (c - ascii.zero)
-    else (if is_within ascii.A ascii.F c then Some (c - 55)
-    else (if is_within ascii.a ascii.f c then Some (c - 87) else None))
+    else (if is_within ascii.A ascii.F c then Some (c - (ascii.A - 10))
+    else (if is_within ascii.a ascii.f c then Some (c - (ascii.a - 10)) else None))
 
 -- the HexDigit of a number below 16, in upper case
 abbrev pub hex_digit : ℕ → ℕ
-hex_digit d = if nat_lt d 10 then ascii.zero + d else 55 + d
+hex_digit d = if nat_lt d 10 then ascii.zero + d else (ascii.A - 10) + d

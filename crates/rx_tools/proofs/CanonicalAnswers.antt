@@ -1,7 +1,6 @@
 -- What is answered, by what the parser answers.
 use Rattle.std.proofs.Common.{◌≡◌, refl, sym, subst, ℕ, Bool, true, inl, inr, List, Option, Result, Ok, Err, [], ◌∷◌, arith}
 use Rattle.std.specs.Prelude.{◌<◌, ◌^◌, length, encode_utf8_all, IfOk}
-use Rattle.std.specs.Borrow.{Bor}
 use Rattle.std.specs.Str.{IsUtf8, chars}
 use Rattle.std.proofs.Math.Utf8.{scalar_cases}
 use Rattle.std.proofs.lemmas.Str.{scalars-chars}
@@ -21,8 +20,6 @@ use Rattle.rx_model.specs.Spelling.Spelling.{spelling}
 use Rattle.rx_model.proofs.Inputs.Asked.{asked_some, one_mode}
 use Rattle.rx_model.proofs.Spelling.Bounds.{AreCodePoints}
 use Rattle.rx_model.proofs.Spelling.SameAgain.{asked_fits, spelled_again}
-use Rattle.rx_parser.specs.Inputs.{input_of}
-use Rattle.rx_parser.specs.declared.options.Options.{Options}
 use Rattle.rx_tools.specs.declared.outcome.Canonical.{Canonical}
 use Rattle.rx_tools.specs.Spelled.{read_of, spelled_of}
 
@@ -61,12 +58,6 @@ by_itself spelled form text flags answer text_offset flags_offset given under gi
     (subst (λ n. IsAnswered spelled (record { form = form; text = text; flags = flags; text_offset = 0; flags_offset = n; rules = given; standard_strings = given_standard }) answer) flags_is
     (subst (λ n. IsAnswered spelled (record { form = form; text = text; flags = flags; text_offset = n; flags_offset = flags_offset; rules = given; standard_strings = given_standard }) answer) text_is answered)))
 
--- the inputs of equal texts and options
-pub same_input : (given form : Form) (given_text text : Bor (List ℕ)) (given_flags flags : Option (Bor (List ℕ))) (given_options options : Options)
-    → form ≡ given → given_text ≡ text → given_flags ≡ flags → given_options ≡ options
-    → input_of given given_text.now given_flags given_options ≡ input_of form text.now flags options
-same_input given form given_text text given_flags flags given_options options form_is text_is flags_are options_are = cc
-
 module _ (input : Input) where
   pub memory_wants : IsAnswered spelled_of input (Err fault.OutOfMemory)
   memory_wants = record {
@@ -77,7 +68,7 @@ module _ (input : Input) where
   }
 
   -- what the parser answers, with the spelling that a tree has
-  with_spelling : AreCodePoints input.text → (answer : Result (Pattern × Mode) Fault) → IsParsed (λ it. it.0) input answer →
+  pub with_spelling : AreCodePoints input.text → (answer : Result (Pattern × Mode) Fault) → IsParsed (λ it. it.0) input answer →
       IfOk answer (λ it. AsksFor input it.1) → IsAnswered read_of input answer
   with_spelling points (Ok it) parsed mode = record {
     parsed = parsed;
@@ -105,9 +96,3 @@ module _ (input : Input) where
     text_is = tt;
     again = tt;
   }
-
--- what a parser answers that was given an equal input
-pub parser_answers : (given input : Input) → given ≡ input → AreCodePoints input.text → (answer : Result (Pattern × Mode) Fault) → IsParsed (λ it. it.0) given answer
-    → IfOk answer (λ it. AsksFor given it.1) → IsAnswered read_of input answer
-parser_answers given input e points answer parsed mode =
-    with_spelling input points answer (subst (λ i. IsParsed (λ (it : Pattern × Mode). it.0) i answer) e parsed) (subst (λ i. IfOk answer (λ (it : Pattern × Mode). AsksFor i it.1)) e mode)

@@ -8,7 +8,7 @@ use crate::{Canonical, Options};
 use rx_ast::Pattern;
 use rx_base::Fault;
 use rx_model::{Form, Mode};
-use rx_parser::{ConstructorParser, LiteralParser};
+use rx_parser::Input;
 use std::alloc::Global;
 
 /// Reads a pattern to its tree, and says in which mode it was read. The flags text is absent where there are no flags; in the form of a constructor both
@@ -27,14 +27,13 @@ pub fn read_pattern(
     // with that mode; else the first refusal, or out of memory. The spelling of the tree is read back.
     ensures headline { IsAnswered read_of (input_of form pattern_text.now flags_text.entry options) result }
 {
-    match form {
-        Form::Literal => {
-            LiteralParser::new(alloc, pattern_text, flags_text, options).parse_with_mode()
-        }
-        Form::Constructor => {
-            ConstructorParser::new(alloc, pattern_text, flags_text, options).parse_with_mode()
-        }
-    }
+    let input = Input {
+        form,
+        pattern_text,
+        flags_text,
+        options,
+    };
+    input.parse(alloc)
 }
 
 /// Reads a pattern and spells it canonically. The flags text is absent where there are no flags; in the form of a constructor both texts have their quotes.
@@ -51,10 +50,7 @@ pub fn canonical(
     // Be the flags right or wrong: Ok on valid input and on no other, with the only tree and its canonical spelling; else the first refusal, or out of memory.
     ensures headline { IsAnswered spelled_of (input_of form pattern_text.now flags_text.entry options) result }
 {
-    let (pattern, mode) = match read_pattern(alloc, form, pattern_text, flags_text, options) {
-        Ok(read) => read,
-        Err(fault) => return Err(fault),
-    };
+    let (pattern, mode) = read_pattern(alloc, form, pattern_text, flags_text, options)?;
     let text = canonical_text(alloc, &pattern, mode)?;
     Ok(Canonical {
         pattern,

@@ -1,6 +1,7 @@
 -- The units of a literal, and the offsets of places between them.
 use Rattle.std.specs.Prelude.{ℕ, ◌+◌, ◌-◌, ◌/◌, ◌%◌, Bool, ◌||◌, List, [], ◌∷◌, ◌++◌, map, nat_lt, take, if◌then◌else◌}
 use Rattle.std.specs.Char.{len_utf8}
+use Rattle.rx_base.specs.Characters.{first_lead, first_trail}
 use Rattle.rx_units.specs.declared.code_point.CodePoint.{CodePoint}
 use Rattle.rx_units.specs.declared.code_point.EscapeKind.{EscapeKind}
 use Rattle.rx_units.specs.declared.code_point.EscapeKind.TheVariants as kind
@@ -8,12 +9,12 @@ use Rattle.rx_units.specs.declared.code_point.EscapeKind.TheVariants as kind
 abbrev pub unit : ℕ → ℕ → ℕ → EscapeKind → CodePoint
 unit start end value escape_kind = record { span = record { start = start; end = end }; value = value; escape_kind = escape_kind }
 
--- The two UTF-16 code units of a code point past FFFF (11.1.1).
+-- The two UTF-16 code units of a code point past FFFF (UTF16EncodeCodePoint, 11.1.1).
 abbrev pub lead_of : ℕ → ℕ
-lead_of c = 0xd800 + (c - 0x10000) / 0x400
+lead_of c = first_lead + (c - 0x10000) / 0x400
 
 abbrev pub trail_of : ℕ → ℕ
-trail_of c = 0xdc00 + (c - 0x10000) % 0x400
+trail_of c = first_trail + (c - 0x10000) % 0x400
 
 -- The units of one character: one, or without joining a lead and a trail that share the span.
 abbrev pub character_units : Bool → ℕ → ℕ → ℕ → EscapeKind → List CodePoint

@@ -2,11 +2,15 @@ ghost use Rattle.std.specs.Prelude.{◌≡◌, Bool, ◌+◌, ◌<◌, ◌≤◌
 ghost use Rattle.std.specs.Char.{len_utf8};
 ghost use Rattle.std.specs.Str.{IsAscii, chars};
 ghost use Rattle.rx_units.specs.Bytes.{byte_units};
-ghost use Rattle.rx_units.specs.Units.{character_units, literal_units};
+ghost use Rattle.rx_units.specs.Units.{character_units, lead_of, literal_units, trail_of};
 
 use crate::{CodePoint, EscapeKind};
 use rx_base::{List, OutOfMemory, Span};
 use std::alloc::{AllocError, Global};
+
+const FIRST_LEAD: u32 = 0xD800;
+
+const FIRST_TRAIL: u32 = 0xDC00;
 
 /// Adds a code point, given by its start and its end in bytes, without the offset, its value and how it was escaped: one unit,
 /// or without joining a lead and a trail that share the span. A refusal leaves the list as before.
@@ -32,15 +36,15 @@ pub fn handle_code_point(
             escape_kind,
         });
     }
-    let past = value - 0x10000;
+    let (lead, trail) = code_units_of(value);
     body.push(CodePoint {
         span,
-        value: 0xd800 + past / 0x400,
+        value: lead,
         escape_kind,
     })?;
     let trail = CodePoint {
         span,
-        value: 0xdc00 + past % 0x400,
+        value: trail,
         escape_kind,
     };
     match body.push(trail) {
@@ -52,7 +56,18 @@ pub fn handle_code_point(
     }
 }
 
-/// The units of a literal.
+/// The lead and the trail of a code point past FFFF (UTF16EncodeCodePoint of ECMA-262, 11.1.1).
+fn code_units_of(code_point: u32) -> (u32, u32)
+    requires past { 0x10000 ≤ code_point }
+    requires last { code_point ≤ 0x10ffff }
+    ensures lead { result.0 ≡ lead_of code_point }
+    ensures trail { result.1 ≡ trail_of code_point }
+{
+    let past = code_point - 0x10000;
+    (FIRST_LEAD + past / 0x400, FIRST_TRAIL + past % 0x400)
+}
+
+/// The units of a literal: its code points, or without joining its code units (Pattern source text of ECMA-262, 22.2.3.4).
 pub fn parse_regexp_literal(
     alloc: Global,
     source_text: &str,

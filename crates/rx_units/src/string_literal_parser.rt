@@ -145,7 +145,7 @@ impl Parser {
     }
 }
 
-/// The string that a text is decoded to.
+/// The string that a text is decoded to (StringLiteral of ECMA-262, 12.9.4).
 fn decode(alloc: Global, text: &[char], options: Options) -> Result<StringLiteral, StringFault>
     requires { IsGiven text.now options }
     ensures ok { IfOk result (IsStringOf (record { text = text.now; options = options })) }

@@ -114,7 +114,7 @@ impl Parser {
     }
 }
 
-/// The template that a text is decoded to.
+/// The template that a text is decoded to (NoSubstitutionTemplate of ECMA-262, 12.9.6).
 fn decode(alloc: Global, text: &[char], options: Options) -> Result<TemplateLiteral, TemplateFault>
     requires { IsGiven text.now options }
     ensures ok { IfOk result (IsTemplateOf (record { text = text.now; options = options })) }

@@ -165,8 +165,7 @@ module _ (e : Environment) where
 abbrev is_plain : EscapeRead → Bool
 is_plain (escaped k v n) = true
 is_plain nothing = true
-is_plain (too_many n) = false
-is_plain no_unicode = false
+is_plain q = false
 
 plain_if : (k : CharacterKind) (n : ℕ) (o : Option ℕ) → is_plain (escaped_if k n o) ≡ true
 plain_if k n None = refl

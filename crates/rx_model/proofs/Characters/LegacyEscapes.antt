@@ -394,8 +394,7 @@ module _ (inside : Bool) (e : Environment) where
 abbrev pub IsCharacterOrNothing : EscapeRead → Type 0
 IsCharacterOrNothing (escaped kind v n) = Unit {0}
 IsCharacterOrNothing nothing = Unit {0}
-IsCharacterOrNothing (too_many n) = ⊥
-IsCharacterOrNothing no_unicode = ⊥
+IsCharacterOrNothing q = ⊥
 
 either : (b : Bool) (r s : EscapeRead) → IsCharacterOrNothing r → IsCharacterOrNothing s → IsCharacterOrNothing (cond b r s)
 either true r s p q = p

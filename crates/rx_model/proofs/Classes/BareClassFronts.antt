@@ -1,5 +1,5 @@
 -- How a class is read depends on the values of units alone, but for the kinds of its characters.
-use Rattle.std.proofs.Common.{◌≡◌, refl, sym, ap, ap₂, ◌∙◌, ℕ, zero, suc, ◌-◌, ◌==◌, Bool, true, false, cond, not, ◌&&◌, ◌||◌, Option, Some, None, option_map, List, [], ◌∷◌, map, drop}
+use Rattle.std.proofs.Common.{◌≡◌, refl, sym, ap, ap₂, ◌∙◌, ℕ, zero, suc, ◌-◌, ◌==◌, Bool, true, false, cond, ◌&&◌, ◌||◌, Option, Some, None, option_map, List, [], ◌∷◌, map, drop}
 use Rattle.std.proofs.lemmas.List.{drop-map}
 use Rattle.rx_ast.specs.declared.leaf.CharacterKind.{CharacterKind}
 use Rattle.rx_ast.specs.declared.leaf.CharacterKind.TheVariants.{Symbol}
@@ -10,7 +10,7 @@ use Rattle.rx_units.specs.Units.{values}
 use Rattle.rx_units.proofs.Choices.{Some-inj}
 use Rattle.rx_model.specs.Classes.ClassBuilds.{class_of_tokens}
 use Rattle.rx_model.specs.Classes.ClassFronts.{AtomRead, atom_read, no_atom, escape_in_class, atom_at, TokenRead, item_where, item_of, high_of, dashed_of, item_before, bracket_at, set_token, fresh_token, operand_of, string_token, token_where, class_token_at, TokensRead, with_token, tokens_on, tokens_from, class_tokens_at, class_in, class_of, class_front}
-use Rattle.rx_model.specs.Classes.ClassRows.{Place, outside, fresh, at_dash, at_high, at_second, at_third, after_meet, after_less, in_strings, following_item, has_hyphen, has_threes, is_dashed, stands_raw_in_class}
+use Rattle.rx_model.specs.Classes.ClassRows.{Place, outside, fresh, at_dash, at_high, at_second, at_third, after_operator, in_strings, following_item, has_hyphen, has_threes, is_dashed, may_follow_operator, stands_raw_in_class}
 use Rattle.rx_model.specs.Classes.ClassTokens.{Atom, character, escape, property, ClassToken, closer, item, dash}
 use Rattle.rx_model.specs.Inputs.Environment.{Environment, is_sets}
 use Rattle.rx_model.specs.FirstPass.Marks.{starts}
@@ -164,10 +164,9 @@ module _ (e : Environment) where
   token_same at_high us vs h = high_bare (atom_at e us) ∙ ap high_of (atom_same us vs h) ∙ sym (high_bare (atom_at e vs))
   token_same at_second us vs h = ap (λ w. bare_read (token_where (starts 45 w) (Some (item (character Symbol 45), 1)))) h
   token_same at_third us vs h = item_bare (atom_at e us) ∙ ap item_of (atom_same us vs h) ∙ sym (item_bare (atom_at e vs))
-  token_same after_meet us vs h =
-      token_where_same (is_sets e.mode && not (starts 38 (values us))) (operand_of (atom_at e us) (values us)) (operand_of (atom_at e vs) (values vs)) (operand_same us vs h)
-      ∙ ap (λ w. bare_read (token_where (is_sets e.mode && not (starts 38 w)) (operand_of (atom_at e vs) (values vs)))) h
-  token_same after_less us vs h = token_where_same (is_sets e.mode) (operand_of (atom_at e us) (values us)) (operand_of (atom_at e vs) (values vs)) (operand_same us vs h)
+  token_same (after_operator o) us vs h =
+      token_where_same (is_sets e.mode && may_follow_operator o (values us)) (operand_of (atom_at e us) (values us)) (operand_of (atom_at e vs) (values vs)) (operand_same us vs h)
+      ∙ ap (λ w. bare_read (token_where (is_sets e.mode && may_follow_operator o w) (operand_of (atom_at e vs) (values vs)))) h
   token_same in_strings us vs h = token_where_same (is_sets e.mode) (string_token (atom_at e us) (values us)) (string_token (atom_at e vs) (values vs)) (string_same us vs h)
 
   -- nor does the place after a token

@@ -8,8 +8,8 @@ use Rattle.rx_ast.specs.ClassTree.{Member, Members, no_member, member, class}
 use Rattle.rx_ast.specs.ClassTree as tree
 use Rattle.rx_ast.specs.Forget.{nowhere, forget_character, forget_string, forget_member, forget_members, forget_class, no_kind}
 use Rattle.rx_model.specs.Classes.ClassBuilds.{character_of, atom_member, range_member, string_of, strings_member, with_last, kind_of, Level, level_of, class_of_level, Begun, nothing_begun, after_low, after_dash, inside_strings, Building, before_class, inside_class, whole_class, no_class, holding_member, operated, class_closed, build_in, build_step, build_class, class_built, class_of_tokens}
-use Rattle.rx_model.specs.Classes.ClassRuns.{Held, is_whole, less_by, met_by, operand, ranged}
-use Rattle.rx_model.specs.Classes.ClassTokens.{Atom, character, escape, property, ClassToken, bracket, closer, item, low, dash, high, meet, less, strings, letter, string_bar, strings_end}
+use Rattle.rx_model.specs.Classes.ClassRuns.{Held, is_whole, with_operator, operand, ranged}
+use Rattle.rx_model.specs.Classes.ClassTokens.{Atom, character, escape, property, ClassToken, bracket, closer, item, low, dash, high, operator, strings, letter, string_bar, strings_end}
 use Rattle.rx_model.proofs.Classes.ClassUnspanned.{may_forget, some_strings}
 
 abbrev pub bare_atom : Atom → Atom
@@ -24,8 +24,7 @@ bare_class_token (item a) = item (bare_atom a)
 bare_class_token (low k v) = low Symbol v
 bare_class_token dash = dash
 bare_class_token (high k v) = high Symbol v
-bare_class_token meet = meet
-bare_class_token less = less
+bare_class_token (operator o) = (operator o)
 bare_class_token strings = strings
 bare_class_token (letter k v) = letter Symbol v
 bare_class_token string_bar = string_bar
@@ -108,8 +107,7 @@ in_bare (item a) nothing_begun l outer =
 in_bare (low k v) nothing_begun l outer = refl
 in_bare dash (after_low k v) l outer = refl
 in_bare (high j x) (after_dash k v) l outer = holding_bare l outer (range_member k v j x) (ranged l.held)
-in_bare meet nothing_begun l outer = operated_bare l outer (met_by l.held)
-in_bare less nothing_begun l outer = operated_bare l outer (less_by l.held)
+in_bare (operator o) nothing_begun l outer = operated_bare l outer (with_operator o l.held)
 in_bare strings nothing_begun l outer = refl
 in_bare (letter k v) (inside_strings ss cs) l outer =
     ap (λ cs. inside_class (bare_level l) (bare_levels outer) (inside_strings (bare_strings ss) cs)) (map-append (forget_character no_kind) cs (character_of k v ∷ []))

@@ -4,6 +4,8 @@ use Rattle.std.specs.Prelude.{All}
 use Rattle.std.specs.List.{list_any}
 use Rattle.std.proofs.lemmas.List.{length-map}
 use Rattle.std.proofs.lemmas.List.Elements.{All-head, All-tail}
+use Rattle.rx_base.specs.declared.diagnostic.kinds.SetOperator.{SetOperator}
+use Rattle.rx_base.specs.declared.diagnostic.kinds.SetOperator.TheVariants as set
 use Rattle.rx_base.specs.declared.span.Span.{Span}
 use Rattle.rx_ast.specs.declared.leaf.Character.{Character}
 use Rattle.rx_ast.specs.declared.class.CharacterClassContentsKind.{CharacterClassContentsKind}
@@ -15,26 +17,26 @@ use Rattle.rx_ast.specs.ClassTree as tree
 use Rattle.rx_ast.specs.Forget.{nowhere, forget_character, forget_string, forget_member, forget_members, forget_class, same_kind}
 use Rattle.rx_units.proofs.Choices.{Some-inj}
 use Rattle.rx_model.specs.Classes.ClassBuilds.{string_of, strings_member, with_last, kind_of, Level, level_of, class_of_level, nothing_begun, inside_strings, Building, inside_class, no_class, holding_member, class_closed, operated, build_class, class_built, class_of_tokens}
-use Rattle.rx_model.specs.Classes.ClassRuns.{Held, empty, single, several, meeting, met, lessening, lessened, is_whole, less_by, met_by, operand, ranged}
+use Rattle.rx_model.specs.Classes.ClassRuns.{Held, empty, single, several, pending, joined, is_whole, operand, ranged, with_operator}
 use Rattle.rx_model.specs.Classes.ClassShapes.{AreFitting, AreFlagged, AreOperands, FitsKind, IsFitting, IsFittingMember, IsFlagged, IsFlaggedMember, IsOperand}
-use Rattle.rx_model.specs.Classes.ClassTokens.{ClassToken, closer, meet, less, strings, strings_end, token, leave, class_tokens, class_tokens_of, strings_events}
+use Rattle.rx_model.specs.Classes.ClassTokens.{ClassToken, closer, contents_kind, operator, strings, strings_end, token, leave, class_tokens, class_tokens_of, strings_events}
 use Rattle.rx_model.specs.Trees.Early.{IsFlaggedString, may_contain_strings}
-use Rattle.rx_model.proofs.Classes.ClassShapes.{IsGrowing, IsLessening, IsMeeting, barred_tokens, between_by, class_tokens_by, contents_tokens, first_after, further_tokens, growing_whole, lessens, letters_tokens, meets, more_after, operand_of, operand_tokens, some_strings, strings_are, with_member}
+use Rattle.rx_model.proofs.Classes.ClassShapes.{IsGrowing, IsJoining, barred_tokens, between_by, class_tokens_by, contents_tokens, first_after, further_tokens, growing_whole, letters_tokens, more_after, operand_of, operand_tokens, some_strings, strings_are, takes_operator, with_member}
 use Rattle.rx_model.proofs.Classes.ClassUnspanned as unspanned
 use Rattle.rx_model.proofs.Classes.ClassUnspanned.{may_forget}
 
 -- the first and then the second
-abbrev joined : Members → Members → Members
-joined no_member ms = ms
-joined (member n ns) ms = member n (joined ns ms)
+abbrev both : Members → Members → Members
+both no_member ms = ms
+both (member n ns) ms = member n (both ns ms)
 
-joined_last : (ns : Members) (m : Member) (ms : Members) → joined (with_last ns m) ms ≡ joined ns (member m ms)
-joined_last no_member m ms = refl
-joined_last (member n ns) m ms = ap (member n) (joined_last ns m ms)
+both_last : (ns : Members) (m : Member) (ms : Members) → both (with_last ns m) ms ≡ both ns (member m ms)
+both_last no_member m ms = refl
+both_last (member n ns) m ms = ap (member n) (both_last ns m ms)
 
-joined_none : (ns : Members) → joined ns no_member ≡ ns
-joined_none no_member = refl
-joined_none (member n ns) = ap (member n) (joined_none ns)
+both_none : (ns : Members) → both ns no_member ≡ ns
+both_none no_member = refl
+both_none (member n ns) = ap (member n) (both_none ns)
 
 -- in a bracket in which nothing has begun
 abbrev inside : Bool → Held → Members → List Level → Building
@@ -99,15 +101,11 @@ Leads ts negative held old outer kind new =
 growing_kind : (held : Held) → IsGrowing held → kind_of held ≡ Union
 growing_kind single g = refl
 growing_kind several g = refl
-growing_kind empty g = absurd g
-growing_kind meeting g = absurd g
-growing_kind met g = absurd g
-growing_kind lessening g = absurd g
-growing_kind lessened g = absurd g
+growing_kind held g = absurd g
 
 union_on : (ms : Members) → AllBuild ms → (negative : Bool) (held : Held) (old : Members) (outer : List Level) → IsGrowing held →
-    Leads (further_tokens [] ms) negative held old outer Union (joined old (forget_members same_kind ms))
-union_on no_member all negative held old outer g = (held, growing_whole held g, growing_kind held g, λ ss. ap (λ ms. build_class ss (inside negative held ms outer)) (sym (joined_none old)))
+    Leads (further_tokens [] ms) negative held old outer Union (both old (forget_members same_kind ms))
+union_on no_member all negative held old outer g = (held, growing_whole held g, growing_kind held g, λ ss. ap (λ ms. build_class ss (inside negative held ms outer)) (sym (both_none old)))
 union_on (member m ms) all negative held old outer g =
     let plain = forget_member same_kind m in
     let more = union_on ms all.1 negative several (with_last old plain) outer tt in (
@@ -117,51 +115,45 @@ union_on (member m ms) all negative held old outer g =
       λ ss. then_more m (further_tokens [] ms) ss (inside negative held old outer)
           ∙ all.0 negative held old outer several (more_after m held g) (further_tokens [] ms ++ ss)
           ∙ more.3 ss
-          ∙ ap (λ ms. build_class ss (inside negative more.0 ms outer)) (joined_last old plain (forget_members same_kind ms)),
+          ∙ ap (λ ms. build_class ss (inside negative more.0 ms outer)) (both_last old plain (forget_members same_kind ms)),
     )
 
--- one operand more after `&&`
-meet_one : (m : Member) (ts ss : List ClassToken) → Builds m → IsOperand m → (negative : Bool) (held : Held) (old : Members) (outer : List Level) → IsMeeting held →
-    build_class ((meet ∷ (operand_tokens m ++ ts)) ++ ss) (inside negative held old outer) ≡ build_class (ts ++ ss) (inside negative met (with_last old (forget_member same_kind m)) outer)
-meet_one m ts ss builds o negative held old outer g =
-    ap (build_class ((operand_tokens m ++ ts) ++ ss)) (operates (level_of negative held old) outer (met_by held) meeting (meets held g))
-    ∙ then_more m ts ss (inside negative meeting old outer)
-    ∙ builds negative meeting old outer met (operand_of m o meeting) (ts ++ ss)
+-- an operator and one operand more
+operand_on : (o : SetOperator) (m : Member) (ts ss : List ClassToken) → Builds m → IsOperand m → (negative : Bool) (held : Held) (old : Members) (outer : List Level) → IsJoining o held →
+    build_class ((operator o ∷ (operand_tokens m ++ ts)) ++ ss) (inside negative held old outer) ≡ build_class (ts ++ ss) (inside negative (joined o) (with_last old (forget_member same_kind m)) outer)
+operand_on o m ts ss builds is negative held old outer j =
+    ap (build_class ((operand_tokens m ++ ts) ++ ss)) (operates (level_of negative held old) outer (with_operator o held) (pending o) (takes_operator o held j).1)
+    ∙ then_more m ts ss (inside negative (pending o) old outer)
+    ∙ builds negative (pending o) old outer (joined o) (operand_of m is (pending o)) (ts ++ ss)
 
-meet_on : (ms : Members) → AllBuild ms → AreOperands ms → (negative : Bool) (old : Members) (outer : List Level) →
-    Leads (further_tokens (meet ∷ []) ms) negative met old outer Intersection (joined old (forget_members same_kind ms))
-meet_on no_member all os negative old outer = (met, refl, refl, λ ss. ap (λ ms. build_class ss (inside negative met ms outer)) (sym (joined_none old)))
-meet_on (member m ms) all os negative old outer =
+joined_on : (o : SetOperator) (ms : Members) → AllBuild ms → AreOperands ms → (negative : Bool) (old : Members) (outer : List Level) →
+    Leads (further_tokens (operator o ∷ []) ms) negative (joined o) old outer (contents_kind o) (both old (forget_members same_kind ms))
+joined_on o no_member all os negative old outer = (joined o, refl, refl, λ ss. ap (λ ms. build_class ss (inside negative (joined o) ms outer)) (sym (both_none old)))
+joined_on o (member m ms) all os negative old outer =
     let plain = forget_member same_kind m in
-    let more = meet_on ms all.1 os.1 negative (with_last old plain) outer in (
+    let more = joined_on o ms all.1 os.1 negative (with_last old plain) outer in (
       more.0,
       more.1,
       more.2,
-      λ ss. meet_one m (further_tokens (meet ∷ []) ms) ss all.0 os.0 negative met old outer tt
+      λ ss. operand_on o m (further_tokens (operator o ∷ []) ms) ss all.0 os.0 negative (joined o) old outer refl
           ∙ more.3 ss
-          ∙ ap (λ ms. build_class ss (inside negative more.0 ms outer)) (joined_last old plain (forget_members same_kind ms)),
+          ∙ ap (λ ms. build_class ss (inside negative more.0 ms outer)) (both_last old plain (forget_members same_kind ms)),
     )
 
--- the same after `--`
-less_one : (m : Member) (ts ss : List ClassToken) → Builds m → IsOperand m → (negative : Bool) (held : Held) (old : Members) (outer : List Level) → IsLessening held →
-    build_class ((less ∷ (operand_tokens m ++ ts)) ++ ss) (inside negative held old outer) ≡ build_class (ts ++ ss) (inside negative lessened (with_last old (forget_member same_kind m)) outer)
-less_one m ts ss builds o negative held old outer g =
-    ap (build_class ((operand_tokens m ++ ts) ++ ss)) (operates (level_of negative held old) outer (less_by held) lessening (lessens held g))
-    ∙ then_more m ts ss (inside negative lessening old outer)
-    ∙ builds negative lessening old outer lessened (operand_of m o lessening) (ts ++ ss)
-
-less_on : (ms : Members) → AllBuild ms → AreOperands ms → (negative : Bool) (old : Members) (outer : List Level) →
-    Leads (further_tokens (less ∷ []) ms) negative lessened old outer Subtraction (joined old (forget_members same_kind ms))
-less_on no_member all os negative old outer = (lessened, refl, refl, λ ss. ap (λ ms. build_class ss (inside negative lessened ms outer)) (sym (joined_none old)))
-less_on (member m ms) all os negative old outer =
-    let plain = forget_member same_kind m in
-    let more = less_on ms all.1 os.1 negative (with_last old plain) outer in (
+operands_on : (o : SetOperator) (m n : Member) (ms : Members) → AllBuild (member m (member n ms)) → AreOperands (member m (member n ms)) → (negative : Bool) (outer : List Level) →
+    Leads (contents_tokens (operator o ∷ []) (member m (member n ms))) negative empty no_member outer (contents_kind o) (forget_members same_kind (member m (member n ms)))
+operands_on o m n ms all os negative outer =
+    let builds = all.1 in
+    let ts = further_tokens (operator o ∷ []) ms in
+    let first = member (forget_member same_kind m) no_member in
+    let more = joined_on o ms builds.1 os.1.1 negative (with_last first (forget_member same_kind n)) outer in (
       more.0,
       more.1,
       more.2,
-      λ ss. less_one m (further_tokens (less ∷ []) ms) ss all.0 os.0 negative lessened old outer tt
-          ∙ more.3 ss
-          ∙ ap (λ ms. build_class ss (inside negative more.0 ms outer)) (joined_last old plain (forget_members same_kind ms)),
+      λ ss. then_more m (further_tokens (operator o ∷ []) (member n ms)) ss (inside negative empty no_member outer)
+          ∙ all.0 negative empty no_member outer single (operand_of m os.0 empty) (further_tokens (operator o ∷ []) (member n ms) ++ ss)
+          ∙ operand_on o n ts ss builds.0 os.1.0 negative single first outer tt
+          ∙ more.3 ss,
     )
 
 -- the contents of a bracket, from the first on
@@ -178,32 +170,10 @@ contents_on Union (member m ms) all fits negative outer =
     )
 contents_on Intersection no_member all fits negative outer = absurd fits.0
 contents_on Intersection (member m no_member) all fits negative outer = absurd fits.0
-contents_on Intersection (member m (member n ms)) all fits negative outer =
-    let os = fits.1 in
-    let builds = all.1 in
-    let more = meet_on ms builds.1 os.1.1 negative (member (forget_member same_kind m) (member (forget_member same_kind n) no_member)) outer in (
-      more.0,
-      more.1,
-      more.2,
-      λ ss. then_more m (further_tokens (meet ∷ []) (member n ms)) ss (inside negative empty no_member outer)
-          ∙ all.0 negative empty no_member outer single (operand_of m os.0 empty) (further_tokens (meet ∷ []) (member n ms) ++ ss)
-          ∙ meet_one n (further_tokens (meet ∷ []) ms) ss builds.0 os.1.0 negative single (member (forget_member same_kind m) no_member) outer tt
-          ∙ more.3 ss,
-    )
+contents_on Intersection (member m (member n ms)) all fits negative outer = operands_on set.Intersection m n ms all fits.1 negative outer
 contents_on Subtraction no_member all fits negative outer = absurd fits.0
 contents_on Subtraction (member m no_member) all fits negative outer = absurd fits.0
-contents_on Subtraction (member m (member n ms)) all fits negative outer =
-    let os = fits.1 in
-    let builds = all.1 in
-    let more = less_on ms builds.1 os.1.1 negative (member (forget_member same_kind m) (member (forget_member same_kind n) no_member)) outer in (
-      more.0,
-      more.1,
-      more.2,
-      λ ss. then_more m (further_tokens (less ∷ []) (member n ms)) ss (inside negative empty no_member outer)
-          ∙ all.0 negative empty no_member outer single (operand_of m os.0 empty) (further_tokens (less ∷ []) (member n ms) ++ ss)
-          ∙ less_one n (further_tokens (less ∷ []) ms) ss builds.0 os.1.0 negative single (member (forget_member same_kind m) no_member) outer tt
-          ∙ more.3 ss,
-    )
+contents_on Subtraction (member m (member n ms)) all fits negative outer = operands_on set.Subtraction m n ms all fits.1 negative outer
 
 level_is : (s : Span) (negative may : Bool) (kind : CharacterClassContentsKind) (ms : Members) (held : Held) → kind_of held ≡ kind → may ≡ may_contain_strings kind ms →
     class_of_level (level_of negative held (forget_members same_kind ms)) ≡ forget_class same_kind (class s negative may kind ms)

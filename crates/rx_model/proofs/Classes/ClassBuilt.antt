@@ -3,20 +3,23 @@ use Rattle.std.proofs.Common.{◌≡◌, ◌≢◌, refl, sym, ap, ap₂, ◌∙
 use Rattle.std.specs.Prelude.{All}
 use Rattle.std.specs.List.{list_any}
 use Rattle.std.proofs.lemmas.List.Elements.{All-append, All-cons, All-head, All-nil, All-tail}
+use Rattle.rx_base.specs.declared.diagnostic.kinds.SetOperator.{SetOperator}
+use Rattle.rx_base.specs.declared.diagnostic.kinds.SetOperator.TheVariants as set
 use Rattle.rx_ast.specs.declared.leaf.Character.{Character}
 use Rattle.rx_ast.specs.declared.leaf.CharacterKind.{CharacterKind}
+use Rattle.rx_ast.specs.declared.class.CharacterClassContentsKind.{CharacterClassContentsKind}
 use Rattle.rx_ast.specs.declared.class.CharacterClassContentsKind.TheVariants.{Union}
 use Rattle.rx_ast.specs.declared.class.ClassString.{ClassString}
 use Rattle.rx_ast.specs.ClassTree.{Class, Member, Members, no_member, member, class}
 use Rattle.rx_ast.specs.ClassTree as tree
 use Rattle.rx_ast.specs.Forget.{nowhere, forget_character, forget_string, forget_member, forget_members, forget_class, same_kind}
 use Rattle.rx_model.specs.Classes.ClassBuilds.{character_of, atom_member, range_member, string_of, strings_member, with_last, kind_of, Level, level_of, class_of_level, Begun, nothing_begun, after_low, after_dash, inside_strings, Building, before_class, inside_class, whole_class, no_class, holding_member, class_closed, operated, build_in, build_step, build_class, class_built, class_of_tokens}
-use Rattle.rx_model.specs.Classes.ClassRuns.{Held, empty, single, several, meeting, met, lessening, lessened, is_whole, less_by, met_by, operand, ranged}
+use Rattle.rx_model.specs.Classes.ClassRuns.{Held, empty, single, several, pending, joined, is_whole, operand, ranged, with_operator}
 use Rattle.rx_model.specs.Classes.ClassShapes.{AreFitting, AreFlagged, AreOperands, AreTwo, FitsKind, IsFitting, IsFittingMember, IsFlagged, IsFlaggedMember, IsOperand}
-use Rattle.rx_model.specs.Classes.ClassTokens.{Atom, character, escape, property, ClassToken, bracket, closer, item, low, dash, high, meet, less, strings, letter, string_bar, strings_end, class_tokens}
+use Rattle.rx_model.specs.Classes.ClassTokens.{Atom, character, escape, property, ClassToken, bracket, closer, item, low, dash, high, operator, contents_kind, strings, letter, string_bar, strings_end, class_tokens}
 use Rattle.rx_model.specs.Trees.Early.{IsFlaggedString, may_contain_strings}
 use Rattle.rx_model.proofs.Classes.ClassFlags.{IsFlaggedAtom, IsFlaggedToken, AreFlaggedTokens}
-use Rattle.rx_model.proofs.Classes.ClassShapes.{barred_tokens, between_by, class_tokens_by, contents_tokens, further_tokens, letters_tokens, operand_tokens, strings_are}
+use Rattle.rx_model.proofs.Classes.ClassShapes.{barred_tokens, between_by, between_is, class_tokens_by, contents_tokens, further_tokens, letters_tokens, operand_tokens, strings_are}
 
 -- the tokens of contents with one member more
 further_last : (between : List ClassToken) (ms : Members) (m : Member) → further_tokens between (with_last ms m) ≡ further_tokens between ms ++ (between ++ operand_tokens m)
@@ -44,10 +47,8 @@ abbrev last_operator : Held → List ClassToken
 last_operator empty = []
 last_operator single = []
 last_operator several = []
-last_operator meeting = meet ∷ []
-last_operator met = []
-last_operator lessening = less ∷ []
-last_operator lessened = []
+last_operator (pending o) = between_by (contents_kind o)
+last_operator (joined o) = []
 
 abbrev held_tokens : Held → Members → List ClassToken
 held_tokens held ms = contents_tokens (between_by (kind_of held)) ms ++ last_operator held
@@ -57,10 +58,8 @@ abbrev HoldsMembers : Held → Members → Type 0
 HoldsMembers empty ms = ms ≡ no_member
 HoldsMembers single ms = (m : Member) × (ms ≡ member m no_member) × IsOperand m
 HoldsMembers several ms = Unit {0}
-HoldsMembers meeting ms = IsSome ms × AreOperands ms
-HoldsMembers met ms = AreTwo ms × AreOperands ms
-HoldsMembers lessening ms = IsSome ms × AreOperands ms
-HoldsMembers lessened ms = AreTwo ms × AreOperands ms
+HoldsMembers (pending o) ms = IsSome ms × AreOperands ms
+HoldsMembers (joined o) ms = AreTwo ms × AreOperands ms
 
 -- a member that fits, with the right flags and without spans
 pub record IsPlainMember (m : Member) : Type 0 where
@@ -117,52 +116,42 @@ of_union held ms m after none k none_after union new = record {
       ∙ ap (λ ts. ts ++ operand_tokens m) (sym (append-nil (contents_tokens [] ms)) ∙ ap₂ (λ kind last. contents_tokens (between_by kind) ms ++ last) (sym k) (sym none));
 }
 
-after_operator : (operator : ClassToken) (ms : Members) (m : Member) → IsSome ms →
-    contents_tokens (operator ∷ []) (with_last ms m) ++ [] ≡ (contents_tokens (operator ∷ []) ms ++ (operator ∷ [])) ++ operand_tokens m
-after_operator operator ms m some =
-    append-nil (contents_tokens (operator ∷ []) (with_last ms m)) ∙ contents_last (operator ∷ []) ms m some ∙ sym (append_assoc (contents_tokens (operator ∷ []) ms) (operator ∷ []) (operand_tokens m))
+operand_last : (between : List ClassToken) (ms : Members) (m : Member) → IsSome ms → contents_tokens between (with_last ms m) ++ [] ≡ (contents_tokens between ms ++ between) ++ operand_tokens m
+operand_last between ms m some = append-nil (contents_tokens between (with_last ms m)) ∙ contents_last between ms m some ∙ sym (append_assoc (contents_tokens between ms) between (operand_tokens m))
 
 one_operand : (held : Held) (ms : Members) (m : Member) → IsOperand m → HoldsMembers held ms → GrowsBy held ms (operand_tokens m) (operand held) (with_last ms m)
 one_operand empty ms m o h = of_union empty ms m single refl refl refl refl (m, ap (λ ms. with_last ms m) h, o)
 one_operand single ms m o h = of_union single ms m several refl refl refl refl tt
 one_operand several ms m o h = of_union several ms m several refl refl refl refl tt
-one_operand meeting ms m o h = record { holds = (some_last ms m h.0, operands_last ms m h.1 o); tokens = after_operator meet ms m h.0 }
-one_operand met ms m o h = tt
-one_operand lessening ms m o h = record { holds = (some_last ms m h.0, operands_last ms m h.1 o); tokens = after_operator less ms m h.0 }
-one_operand lessened ms m o h = tt
+one_operand (pending o) ms m is h = record { holds = (some_last ms m h.0, operands_last ms m h.1 is); tokens = operand_last (between_by (contents_kind o)) ms m h.0 }
+one_operand (joined o) ms m is h = tt
 
 one_range : (held : Held) (ms : Members) (m : Member) → HoldsMembers held ms → GrowsBy held ms (operand_tokens m) (ranged held) (with_last ms m)
 one_range empty ms m h = of_union empty ms m several refl refl refl refl tt
 one_range single ms m h = of_union single ms m several refl refl refl refl tt
 one_range several ms m h = of_union several ms m several refl refl refl refl tt
-one_range meeting ms m h = tt
-one_range met ms m h = tt
-one_range lessening ms m h = tt
-one_range lessened ms m h = tt
+one_range held ms m h = tt
 
 -- of one operand: with an operator
-of_single : (operator : ClassToken) (ms : Members) (m : Member) → ms ≡ member m no_member → contents_tokens (operator ∷ []) ms ++ (operator ∷ []) ≡ (contents_tokens [] ms ++ []) ++ (operator ∷ [])
-of_single operator ms m h =
-    ap (λ ms. contents_tokens (operator ∷ []) ms ++ (operator ∷ [])) h
-    ∙ ap (λ ts. ts ++ (operator ∷ [])) (sym (append-nil (contents_tokens [] (member m no_member))) ∙ ap (λ ms. contents_tokens [] ms ++ []) (sym h))
+of_single : (between : List ClassToken) (ms : Members) (m : Member) → ms ≡ member m no_member → contents_tokens between ms ++ between ≡ (contents_tokens [] ms ++ []) ++ between
+of_single between ms m h =
+    ap (λ ms. contents_tokens between ms ++ between) h
+    ∙ ap (λ ts. ts ++ between) (sym (append-nil (contents_tokens [] (member m no_member))) ∙ ap (λ ms. contents_tokens [] ms ++ []) (sym h))
 
-one_meet : (held : Held) (ms : Members) → HoldsMembers held ms → GrowsBy held ms (meet ∷ []) (met_by held) ms
-one_meet empty ms h = tt
-one_meet single ms h = record { holds = (subst IsSome (sym h.1) tt, subst AreOperands (sym h.1) (h.2, tt)); tokens = of_single meet ms h.0 h.1 }
-one_meet several ms h = tt
-one_meet meeting ms h = tt
-one_meet met ms h = record { holds = (two_some ms h.0, h.1); tokens = ap (λ ts. ts ++ (meet ∷ [])) (sym (append-nil (contents_tokens (meet ∷ []) ms))) }
-one_meet lessening ms h = tt
-one_meet lessened ms h = tt
+of_joined : (o : SetOperator) (ms : Members) → HoldsMembers (joined o) ms → GrowsTo (joined o) ms (between_by (contents_kind o)) (pending o) ms
+of_joined o ms h = let between = between_by (contents_kind o) in record { holds = (two_some ms h.0, h.1); tokens = ap (λ ts. ts ++ between) (sym (append-nil (contents_tokens between ms))) }
 
-one_less : (held : Held) (ms : Members) → HoldsMembers held ms → GrowsBy held ms (less ∷ []) (less_by held) ms
-one_less empty ms h = tt
-one_less single ms h = record { holds = (subst IsSome (sym h.1) tt, subst AreOperands (sym h.1) (h.2, tt)); tokens = of_single less ms h.0 h.1 }
-one_less several ms h = tt
-one_less meeting ms h = tt
-one_less met ms h = tt
-one_less lessening ms h = tt
-one_less lessened ms h = record { holds = (two_some ms h.0, h.1); tokens = ap (λ ts. ts ++ (less ∷ [])) (sym (append-nil (contents_tokens (less ∷ []) ms))) }
+with_between : (o : SetOperator) (held : Held) (ms : Members) → HoldsMembers held ms → GrowsBy held ms (between_by (contents_kind o)) (with_operator o held) ms
+with_between o empty ms h = tt
+with_between o single ms h = record { holds = (subst IsSome (sym h.1) tt, subst AreOperands (sym h.1) (h.2, tt)); tokens = of_single (between_by (contents_kind o)) ms h.0 h.1 }
+with_between o several ms h = tt
+with_between o (pending p) ms h = tt
+with_between set.Intersection (joined set.Intersection) ms h = of_joined set.Intersection ms h
+with_between set.Subtraction (joined set.Subtraction) ms h = of_joined set.Subtraction ms h
+with_between o (joined p) ms h = tt
+
+one_operator : (o : SetOperator) (held : Held) (ms : Members) → HoldsMembers held ms → GrowsBy held ms (operator o ∷ []) (with_operator o held) ms
+one_operator o held ms h = subst (λ ts. GrowsBy held ms ts (with_operator o held) ms) (between_is o) (with_between o held ms h)
 
 -- the tokens of open brackets
 abbrev level_tokens : Level → List ClassToken
@@ -241,21 +230,23 @@ grown ts more l outer begun m (Some after) h k level levels p g = (
 )
 
 -- with an operator
-operator_grown : (ts : List ClassToken) (operator : ClassToken) (l : Level) (outer : List Level) (o : Option Held) → ts ≡ (levels_tokens outer ++ level_tokens l) ++ [] → IsLevel l → AreLevels outer →
-    GrowsBy l.held l.members (operator ∷ []) o l.members → IsBuilding (ts ++ (operator ∷ [])) (operated l outer o)
-operator_grown ts operator l outer None h level levels g = tt
-operator_grown ts operator l outer (Some after) h level levels g =
-    (grows_on ts (operator ∷ []) l outer [] after l.members h g, record { holds = g.holds; plain = level.plain }, levels, tt)
+operator_grown : (ts : List ClassToken) (t : ClassToken) (l : Level) (outer : List Level) (o : Option Held) → ts ≡ (levels_tokens outer ++ level_tokens l) ++ [] → IsLevel l → AreLevels outer →
+    GrowsBy l.held l.members (t ∷ []) o l.members → IsBuilding (ts ++ (t ∷ [])) (operated l outer o)
+operator_grown ts t l outer None h level levels g = tt
+operator_grown ts t l outer (Some after) h level levels g =
+    (grows_on ts (t ∷ []) l outer [] after l.members h g, record { holds = g.holds; plain = level.plain }, levels, tt)
+
+pub fits_kind : (kind : CharacterClassContentsKind) (ms : Members) → AreTwo ms → AreOperands ms → FitsKind kind ms
+fits_kind Union ms two operands = tt
+fits_kind kind ms two operands = (two, operands)
 
 -- the kind of a bracket that may close fits its members
 kind_fits : (held : Held) (ms : Members) → HoldsMembers held ms → is_whole held ≡ true → FitsKind (kind_of held) ms × (last_operator held ≡ [])
 kind_fits empty ms h w = (tt, refl)
 kind_fits single ms h w = (tt, refl)
 kind_fits several ms h w = (tt, refl)
-kind_fits meeting ms h w = absurd (let no : ⊥ = cc w in no)
-kind_fits met ms h w = (h, refl)
-kind_fits lessening ms h w = absurd (let no : ⊥ = cc w in no)
-kind_fits lessened ms h w = (h, refl)
+kind_fits (pending o) ms h w = absurd (let no : ⊥ = cc w in no)
+kind_fits (joined o) ms h w = (fits_kind (contents_kind o) ms h.0 h.1, refl)
 
 -- a bracket that closes is a class of its tokens
 level_closes : (l : Level) → IsLevel l → is_whole l.held ≡ true → HasTokens (level_tokens l ++ (closer ∷ [])) (class_of_level l)
@@ -373,8 +364,7 @@ in_built (low k v) nothing_begun ts l outer f h level levels b = (goes_on ts _ [
 in_built dash (after_low k v) ts l outer f h level levels b = (goes_on ts _ (low k v ∷ []) (low k v ∷ dash ∷ []) (dash ∷ []) h refl, level, levels, tt)
 in_built (high j x) (after_dash k v) ts l outer f h level levels b =
     grown ts (high j x ∷ []) l outer (low k v ∷ dash ∷ []) (range_member k v j x) (ranged l.held) h refl level levels (record { fits = tt; flagged = tt; plain = refl }) (one_range l.held l.members (range_member k v j x) level.holds)
-in_built meet nothing_begun ts l outer f h level levels b = operator_grown ts meet l outer (met_by l.held) h level levels (one_meet l.held l.members level.holds)
-in_built less nothing_begun ts l outer f h level levels b = operator_grown ts less l outer (less_by l.held) h level levels (one_less l.held l.members level.holds)
+in_built (operator o) nothing_begun ts l outer f h level levels b = operator_grown ts (operator o) l outer (with_operator o l.held) h level levels (one_operator o l.held l.members level.holds)
 in_built strings nothing_begun ts l outer f h level levels b = (goes_on ts _ [] (strings ∷ []) (strings ∷ []) h refl, level, levels, (All-nil IsPlainString, All-nil IsPlainCharacter))
 in_built (letter k v) (inside_strings ss cs) ts l outer f h level levels b = (
   goes_on ts _ (strings ∷ strings_tokens ss cs) _ (letter k v ∷ []) h (ap (λ ts. strings ∷ ts) (sym (one_letter ss cs k v))),
@@ -397,8 +387,7 @@ step_built : (t : ClassToken) (ts : List ClassToken) (s : Building) → IsFlagge
 step_built (bracket negative) ts before_class f h = (ap (λ ts. ts ++ (bracket negative ∷ [])) h, record { holds = refl; plain = none_plain }, tt, tt)
 step_built t ts before_class f h = tt
 step_built t ts (inside_class l outer begun) f h = in_built t begun ts l outer f h.0 h.1 h.2 h.3
-step_built t ts (whole_class c) f h = tt
-step_built t ts no_class f h = tt
+step_built t ts q f h = tt
 
 built_on : (ts ss : List ClassToken) (s : Building) → AreFlaggedTokens ts → IsBuilding ss s → IsBuilding (ss ++ ts) (build_class ts s)
 built_on [] ss s f h = subst (λ ss. IsBuilding ss s) (sym (append-nil ss)) h

@@ -1,13 +1,14 @@
 -- Tokens that are spelled, and accepted as a whole class, are those of a class that is free of early errors.
 use Rattle.std.proofs.Common.{◌≡◌, refl, sym, ap, ◌∙◌, subst, ◌+◌, Bool, true, false, cond, not, ◌&&◌, Option, Some, None, List, [], ◌∷◌, ◌++◌}
 use Rattle.std.proofs.lemmas.Bool.{and_parts}
+use Rattle.rx_base.specs.declared.diagnostic.kinds.SetOperator.{SetOperator}
 use Rattle.rx_ast.specs.ClassTree.{Class, Member, no_member}
 use Rattle.rx_units.specs.declared.code_point.CodePoint.{CodePoint}
 use Rattle.rx_units.proofs.Choices.{Some-inj}
 use Rattle.rx_model.specs.Classes.ClassBuilds.{Level, level_of, Begun, nothing_begun, after_low, after_dash, inside_strings, Building, before_class, inside_class, whole_class, no_class, holding_member, class_closed, operated, build_in, build_class, class_built}
-use Rattle.rx_model.specs.Classes.ClassRows.{Place, outside, fresh, at_dash, at_high, at_second, at_third, after_meet, after_less, in_strings, following_item, next_place, SpellsInClass, SpellsOperand, ClassTokenRow, IsClass}
-use Rattle.rx_model.specs.Classes.ClassRuns.{Held, empty, Bracket, Brackets, atom_may, atom_obeys, any_string, after_step, bracket_of, class_opened, class_run, closed, held_on, holding, in_bracket, is_whole, less_by, may_close, met_by, operand, ranged}
-use Rattle.rx_model.specs.Classes.ClassTokens.{ClassToken, bracket, closer, item, low, dash, high, meet, less, strings, letter, string_bar, strings_end, class_tokens}
+use Rattle.rx_model.specs.Classes.ClassRows.{Place, outside, fresh, at_dash, at_high, at_second, at_third, after_operator, in_strings, following_item, next_place, SpellsInClass, SpellsOperand, ClassTokenRow, IsClass}
+use Rattle.rx_model.specs.Classes.ClassRuns.{Held, empty, Bracket, Brackets, atom_may, atom_obeys, any_string, after_step, bracket_of, class_opened, class_run, closed, held_on, holding, in_bracket, is_whole, with_operator, may_close, operand, ranged}
+use Rattle.rx_model.specs.Classes.ClassTokens.{ClassToken, bracket, closer, item, low, dash, high, operator, strings, letter, string_bar, strings_end, class_tokens}
 use Rattle.rx_model.specs.Inputs.Environment.{Environment}
 use Rattle.rx_model.specs.Trees.Early.{IsEarlyClass}
 use Rattle.rx_model.proofs.Classes.ClassBuilt.{built_has_tokens}
@@ -47,13 +48,7 @@ item_begins : (q : Place) (first : Bool) → BegunAt (following_item q first) no
 item_begins outside first = tt
 item_begins fresh true = tt
 item_begins fresh false = tt
-item_begins at_dash first = tt
-item_begins at_high first = tt
-item_begins at_second first = tt
-item_begins at_third first = tt
-item_begins after_meet first = tt
-item_begins after_less first = tt
-item_begins in_strings first = tt
+item_begins q first = tt
 
 -- What is open as brackets is open as levels, and holds the same.
 abbrev AreSame : Brackets → List Level → Type 0
@@ -100,24 +95,12 @@ closer_agrees r outer after l levels true e h k s =
     by (r' ∷ outer) (l' ∷ levels) h s = member_agrees r' outer r.may (operand r'.held) after fresh l' levels _ (operand l'.held) h (ap operand s.0) s.1 tt
 
 module _ (e : Environment) where
-  -- after an operator
-  abbrev IsAfterOperator : Place → Type 0
-  IsAfterOperator after_meet = Unit {0}
-  IsAfterOperator after_less = Unit {0}
-  IsAfterOperator q = ⊥
-
-  operand_wants : (q : Place) (t : ClassToken) (w more : List CodePoint) (b : Begun) → SpellsOperand e t w more → BegunAt q b → IsAfterOperator q → Wants t b
-  operand_wants after_meet (item x) w more nothing_begun s a i = tt
-  operand_wants after_meet (bracket negative) w more nothing_begun s a i = tt
-  operand_wants after_meet strings w more nothing_begun s a i = tt
-  operand_wants after_meet t w more nothing_begun s a i = absurd s
-  operand_wants after_meet t w more b s a i = absurd a
-  operand_wants after_less (item x) w more nothing_begun s a i = tt
-  operand_wants after_less (bracket negative) w more nothing_begun s a i = tt
-  operand_wants after_less strings w more nothing_begun s a i = tt
-  operand_wants after_less t w more nothing_begun s a i = absurd s
-  operand_wants after_less t w more b s a i = absurd a
-  operand_wants q t w more b s a i = absurd i
+  operand_wants : (o : SetOperator) (t : ClassToken) (w more : List CodePoint) (b : Begun) → SpellsOperand e t w more → BegunAt (after_operator o) b → Wants t b
+  operand_wants o (item x) w more nothing_begun s a = tt
+  operand_wants o (bracket negative) w more nothing_begun s a = tt
+  operand_wants o strings w more nothing_begun s a = tt
+  operand_wants o t w more nothing_begun s a = absurd s
+  operand_wants o t w more b s a = absurd a
 
   -- A token that is spelled at a place goes on with what may have begun there.
   wants : (q : Place) (t : ClassToken) (w more : List CodePoint) (b : Begun) → SpellsInClass e q t w more → BegunAt q b → Wants t b
@@ -127,8 +110,7 @@ module _ (e : Environment) where
   wants fresh (low k v) w more nothing_begun s a = tt
   wants fresh (bracket negative) w more nothing_begun s a = tt
   wants fresh strings w more nothing_begun s a = tt
-  wants fresh meet w more nothing_begun s a = tt
-  wants fresh less w more nothing_begun s a = tt
+  wants fresh (operator o) w more nothing_begun s a = tt
   wants fresh t w more nothing_begun s a = absurd s
   wants fresh t w more b s a = absurd a
   wants at_dash dash w more (after_low k v) s a = tt
@@ -143,8 +125,7 @@ module _ (e : Environment) where
   wants at_third (item x) w more nothing_begun s a = tt
   wants at_third (item x) w more b s a = absurd a
   wants at_third t w more b s a = absurd s
-  wants after_meet t w more b s a = operand_wants after_meet t w more b s.1 a tt
-  wants after_less t w more b s a = operand_wants after_less t w more b s.1 a tt
+  wants (after_operator o) t w more b s a = operand_wants o t w more b s.1 a
   wants in_strings (letter k v) w more (inside_strings ss cs) s a = tt
   wants in_strings string_bar w more (inside_strings ss cs) s a = tt
   wants in_strings strings_end w more (inside_strings ss cs) s a = tt
@@ -161,8 +142,7 @@ module _ (e : Environment) where
   step_agrees q dash w more r outer after l levels (after_low k v) h same s b = now (r ∷ outer) after at_high (inside_class l levels (after_dash k v)) (Some-inj h) (same, s, tt)
   step_agrees q (high j x) w more r outer after l levels (after_dash k v) h same s b =
       member_agrees r outer false (ranged r.held) after fresh l levels _ (ranged l.held) (where_true_both _ _ after h).1 (ap ranged same) s tt
-  step_agrees q meet w more r outer after l levels nothing_begun h k s b = operator_agrees r outer (met_by r.held) after after_meet l levels (met_by l.held) h (ap met_by k) s tt
-  step_agrees q less w more r outer after l levels nothing_begun h k s b = operator_agrees r outer (less_by r.held) after after_less l levels (less_by l.held) h (ap less_by k) s tt
+  step_agrees q (operator o) w more r outer after l levels nothing_begun h k s b = operator_agrees r outer (with_operator o r.held) after (after_operator o) l levels (with_operator o l.held) h (ap (with_operator o) k) s tt
   step_agrees q strings w more r outer after l levels nothing_begun h k s b = now (record r { count = 0; any = false } ∷ outer) after in_strings (inside_class l levels (inside_strings [] [])) (where_may_is (operand r.held) _ after h) (k, s, tt)
   step_agrees q (letter k v) w more r outer after l levels (inside_strings ss cs) h same s b = now (record r { count = r.count + 1 } ∷ outer) after in_strings (build_in (letter k v) (inside_strings ss cs) l levels) (Some-inj (where_true_both _ _ after h).1) (same, s, tt)
   step_agrees q string_bar w more r outer after l levels (inside_strings ss cs) h same s b = now (record r { count = 0; any = any_string r } ∷ outer) after in_strings (build_in string_bar (inside_strings ss cs) l levels) (Some-inj h) (same, s, tt)
@@ -172,9 +152,7 @@ module _ (e : Environment) where
 
   ended : (q : Place) (s : Building) → Agrees [] q s → (c : Class) × (s ≡ whole_class c)
   ended q (whole_class c) a = (c, refl)
-  ended q before_class a = absurd a
-  ended q (inside_class l levels b) a = absurd a
-  ended q no_class a = absurd a
+  ended q t a = absurd a
 
   -- Tokens that lead from open brackets to the end of the class build one.
   builds_class : (ts : List ClassToken) (brackets : Brackets) (q : Place) (s : Building) (us rest : List CodePoint) → ClassTokenRow e ts q us fresh rest → class_run ts brackets ≡ Some [] → Agrees brackets q s →

@@ -8,8 +8,9 @@ use Rattle.rx_ast.specs.declared.class.ClassString.{ClassString}
 use Rattle.rx_ast.specs.ClassTree as tree
 use Rattle.rx_ast.specs.ClassTree.{Class, Member, Members, no_member, member, class}
 use Rattle.rx_units.specs.declared.code_point.CodePoint.{CodePoint}
-use Rattle.rx_model.specs.Classes.ClassRows.{Place, outside, fresh, at_dash, at_high, at_second, at_third, after_meet, after_less, in_strings, following_item, next_place, ClassTokenRow, IsClass}
-use Rattle.rx_model.specs.Classes.ClassTokens.{ClassToken, bracket, closer, item, low, dash, high, meet, less, strings, letter, string_bar, strings_end, ClassEvents, token, class_tokens_of, within, letters_events, string_events, barred_strings_events, strings_events, operator_events, member_events, class_events, members_events, more_members_events, class_tokens}
+use Rattle.rx_model.specs.declared.mode.Mode.{Mode}
+use Rattle.rx_model.specs.Classes.ClassRows.{Place, outside, fresh, at_dash, at_high, at_second, at_third, after_operator, in_strings, following_item, next_place, ClassTokenRow, IsClass}
+use Rattle.rx_model.specs.Classes.ClassTokens.{ClassToken, bracket, closer, item, strings, strings_end, ClassEvents, token, class_tokens_of, within, letters_events, string_events, barred_strings_events, strings_events, operator_events, member_events, class_events, members_events, more_members_events, class_tokens}
 use Rattle.rx_model.specs.Reading.ElementKinds.{NestedPlace, SpellsOfClass, after_of_class, opened}
 use Rattle.rx_model.specs.Inputs.Environment.{Environment}
 use Rattle.rx_units.specs.Sequences.{ElementRow}
@@ -93,14 +94,7 @@ mutual
 -- a place after a class's bracket
 abbrev pub IsWithin : Place → Type 0
 IsWithin outside = ⊥
-IsWithin fresh = Unit {0}
-IsWithin at_dash = Unit {0}
-IsWithin at_high = Unit {0}
-IsWithin at_second = Unit {0}
-IsWithin at_third = Unit {0}
-IsWithin after_meet = Unit {0}
-IsWithin after_less = Unit {0}
-IsWithin in_strings = Unit {0}
+IsWithin q = Unit {0}
 
 within_after_item : (q : Place) (first : Bool) → IsWithin (following_item q first)
 within_after_item fresh true = tt
@@ -110,20 +104,16 @@ within_after_item at_third first = tt
 within_after_item outside first = tt
 within_after_item at_dash first = tt
 within_after_item at_high first = tt
-within_after_item after_meet first = tt
-within_after_item after_less first = tt
+within_after_item (after_operator o) first = tt
 within_after_item in_strings first = tt
+
+next_within : (mode : Mode) (q : Place) (t : ClassToken) (rest : List CodePoint) → IsWithin (next_place mode q t rest)
+next_within mode q (item a) rest = within_after_item q _
+next_within mode q t rest = tt
 
 opened_within : (depth : ℕ) (q : Place) → IsWithin q → opened depth q ≡ suc depth
 opened_within depth outside i = absurd i
-opened_within depth fresh i = refl
-opened_within depth at_dash i = refl
-opened_within depth at_high i = refl
-opened_within depth at_second i = refl
-opened_within depth at_third i = refl
-opened_within depth after_meet i = refl
-opened_within depth after_less i = refl
-opened_within depth in_strings i = refl
+opened_within depth q i = refl
 
 module _ (e : Environment) where
   -- A row is some units, and what is left.
@@ -160,16 +150,7 @@ module _ (e : Environment) where
   )
   inside_row (closer ∷ ts) zero after q us r rest n i row = absurd (let no : ⊥ = cc n in no)
   inside_row (closer ∷ ts) (suc depth) after q us r rest n i row = (row.0, row.1, row.2, row.3, inside_row ts depth after fresh row.1 r rest n tt row.4)
-  inside_row ((item a) ∷ ts) depth after q us r rest n i row = (row.0, row.1, row.2, row.3, inside_row ts depth after (next_place e.mode q (item a) row.1) row.1 r rest n (within_after_item q _) row.4)
-  inside_row ((low k v) ∷ ts) depth after q us r rest n i row = (row.0, row.1, row.2, row.3, inside_row ts depth after at_dash row.1 r rest n tt row.4)
-  inside_row (dash ∷ ts) depth after q us r rest n i row = (row.0, row.1, row.2, row.3, inside_row ts depth after at_high row.1 r rest n tt row.4)
-  inside_row ((high k v) ∷ ts) depth after q us r rest n i row = (row.0, row.1, row.2, row.3, inside_row ts depth after fresh row.1 r rest n tt row.4)
-  inside_row (meet ∷ ts) depth after q us r rest n i row = (row.0, row.1, row.2, row.3, inside_row ts depth after after_meet row.1 r rest n tt row.4)
-  inside_row (less ∷ ts) depth after q us r rest n i row = (row.0, row.1, row.2, row.3, inside_row ts depth after after_less row.1 r rest n tt row.4)
-  inside_row (strings ∷ ts) depth after q us r rest n i row = (row.0, row.1, row.2, row.3, inside_row ts depth after in_strings row.1 r rest n tt row.4)
-  inside_row ((letter k v) ∷ ts) depth after q us r rest n i row = (row.0, row.1, row.2, row.3, inside_row ts depth after in_strings row.1 r rest n tt row.4)
-  inside_row (string_bar ∷ ts) depth after q us r rest n i row = (row.0, row.1, row.2, row.3, inside_row ts depth after in_strings row.1 r rest n tt row.4)
-  inside_row (strings_end ∷ ts) depth after q us r rest n i row = (row.0, row.1, row.2, row.3, inside_row ts depth after fresh row.1 r rest n tt row.4)
+  inside_row (t ∷ ts) depth after q us r rest n i row = (row.0, row.1, row.2, row.3, inside_row ts depth after (next_place e.mode q t row.1) row.1 r rest n (next_within e.mode q t row.1) row.4)
 
   elements_append : (ts ss : List ClassToken) (q : Option NestedPlace) (us : List CodePoint) (p : Option NestedPlace) (more : List CodePoint) (r : Option NestedPlace) (rest : List CodePoint) →
       OfClass ts q us p more → OfClass ss p more r rest → OfClass (ts ++ ss) q us r rest
@@ -207,13 +188,4 @@ module _ (e : Environment) where
       let n = none_after_end ts row.1 None rest row.4 in
       (row.0, row.1, row.2, row.3, subst (λ ts. ClassTokenRow e ts fresh row.1 fresh rest) (sym n.0) (refl, n.1))
   row_of_elements (closer ∷ ts) (suc depth) q us rest row = (row.0, row.1, row.2, row.3, row_of_elements ts depth fresh row.1 rest row.4)
-  row_of_elements ((item a) ∷ ts) depth q us rest row = (row.0, row.1, row.2, row.3, row_of_elements ts depth (next_place e.mode q (item a) row.1) row.1 rest row.4)
-  row_of_elements ((low k v) ∷ ts) depth q us rest row = (row.0, row.1, row.2, row.3, row_of_elements ts depth at_dash row.1 rest row.4)
-  row_of_elements (dash ∷ ts) depth q us rest row = (row.0, row.1, row.2, row.3, row_of_elements ts depth at_high row.1 rest row.4)
-  row_of_elements ((high k v) ∷ ts) depth q us rest row = (row.0, row.1, row.2, row.3, row_of_elements ts depth fresh row.1 rest row.4)
-  row_of_elements (meet ∷ ts) depth q us rest row = (row.0, row.1, row.2, row.3, row_of_elements ts depth after_meet row.1 rest row.4)
-  row_of_elements (less ∷ ts) depth q us rest row = (row.0, row.1, row.2, row.3, row_of_elements ts depth after_less row.1 rest row.4)
-  row_of_elements (strings ∷ ts) depth q us rest row = (row.0, row.1, row.2, row.3, row_of_elements ts depth in_strings row.1 rest row.4)
-  row_of_elements ((letter k v) ∷ ts) depth q us rest row = (row.0, row.1, row.2, row.3, row_of_elements ts depth in_strings row.1 rest row.4)
-  row_of_elements (string_bar ∷ ts) depth q us rest row = (row.0, row.1, row.2, row.3, row_of_elements ts depth in_strings row.1 rest row.4)
-  row_of_elements (strings_end ∷ ts) depth q us rest row = (row.0, row.1, row.2, row.3, row_of_elements ts depth fresh row.1 rest row.4)
+  row_of_elements (t ∷ ts) depth q us rest row = (row.0, row.1, row.2, row.3, row_of_elements ts depth (next_place e.mode q t row.1) row.1 rest row.4)

@@ -12,7 +12,7 @@ use Rattle.rx_model.specs.declared.mode.Mode.{Mode}
 use Rattle.rx_model.specs.declared.mode.Mode.TheVariants.{Legacy, Unicode, Sets}
 use Rattle.rx_model.specs.Classes.ClassFronts.{no_atom, atom_at, character_atom, escape_in_class}
 use Rattle.rx_model.specs.Inputs.Environment.{Environment, is_sets, is_unicode}
-use Rattle.rx_model.specs.Characters.EscapeFronts.{EscapeRead, escaped, nothing, too_many, no_unicode, escape_at, class_escape_at}
+use Rattle.rx_model.specs.Characters.EscapeFronts.{EscapeRead, escaped, escape_at, class_escape_at}
 use Rattle.rx_model.specs.Characters.Escapes.{is_identity_escape, SpellsEscape, control, letter, null, hexadecimal, unicode, identity}
 use Rattle.rx_model.specs.Properties.PropertyForms.{begins_property}
 use Rattle.rx_model.specs.Refusals.Reached.{class_environment}
@@ -76,9 +76,7 @@ module _ (us : List CodePoint) where
 
   nothing_read : (w : List ℕ) (r : EscapeRead) → begins_class_escape here w ≡ false → escape_at true w ≡ r → character_atom r ≡ no_atom
   nothing_read w (escaped kind v n) h f = let s = escape_spelled here kind v n w f in absurd (escape_begins kind v s.spelled s.rest s.spells (ap (begins_class_escape here) (sym s.whole) ∙ h))
-  nothing_read w nothing h f = refl
-  nothing_read w (too_many n) h f = refl
-  nothing_read w no_unicode h f = refl
+  nothing_read w q h f = refl
 
   no_escape_there : (w : List ℕ) → begins_class_escape here w ≡ false → escape_in_class here w ≡ no_atom
   no_escape_there [] h = refl

@@ -6,6 +6,7 @@ use Rattle.rx_base.specs.declared.diagnostic.Diagnostic.{Diagnostic}
 use Rattle.rx_base.specs.declared.diagnostic.Diagnostic.TheVariants.{UnterminatedPattern, CharacterClassRangeOutOfOrder, CharacterClassRangeDashNotSubtraction, CharacterClassRangeInvalidAtom, EmptyClassSetExpression, ClassIntersectionUnexpectedAmpersand, ClassSetExpressionInvalidCharacter}
 use Rattle.rx_base.specs.declared.diagnostic.kinds.RangeKind.TheVariants as range_kind
 use Rattle.rx_base.specs.declared.diagnostic.kinds.SetOperator.{SetOperator}
+use Rattle.rx_base.specs.declared.diagnostic.kinds.SetOperator.TheVariants.{Intersection}
 use Rattle.rx_base.specs.declared.diagnostic.kinds.Unterminated.TheVariants as what
 use Rattle.rx_units.specs.declared.code_point.CodePoint.{CodePoint}
 use Rattle.rx_units.specs.Units.{values}
@@ -14,9 +15,9 @@ use Rattle.rx_model.specs.declared.mode.Mode.TheVariants.{Unicode}
 use Rattle.rx_model.specs.Refusals.ClassCauses as class_cause
 use Rattle.rx_model.specs.Refusals.ClassCauses.{IsClassCause, IsNegativeWithStrings, NothingFollows, StandsRange, of_negative, unterminated}
 use Rattle.rx_model.specs.Refusals.ClassPlaces.{BeginsBracket, IsAtomPlace, IsInBracket, IsItemPlace, IsOfStrings, IsOperandPlace, IsSecondPlace, IsStringPlace, begins_item, nested, of_class}
-use Rattle.rx_model.specs.Classes.ClassRows.{next_place, following_item, ClassTokenRow, Place, SpellsAtom, SpellsBracket, SpellsInClass, at_dash, at_high, at_second, at_third, after_less, after_meet, fresh, has_threes, in_strings, is_dashed, outside}
+use Rattle.rx_model.specs.Classes.ClassRows.{next_place, following_item, ClassTokenRow, Place, SpellsAtom, SpellsBracket, SpellsInClass, after_operator, fresh, has_threes, in_strings, is_dashed, may_follow_operator, outside}
 use Rattle.rx_model.specs.Classes.ClassRuns.{Bracket, Brackets, Held, empty, atom_may, atom_obeys, after_step, bracket_of, class_opened, class_run, class_step, holding, is_union, is_whole, operand, operator_of, takes_operand, where_true, with_strings}
-use Rattle.rx_model.specs.Classes.ClassTokens.{Atom, character, escape, property, is_character, ClassToken, bracket, item, strings}
+use Rattle.rx_model.specs.Classes.ClassTokens.{Atom, character, is_character, ClassToken, bracket, item, strings}
 use Rattle.rx_model.specs.Inputs.Environment.{Environment, is_sets}
 use Rattle.rx_model.specs.FirstPass.Marks.{starts}
 use Rattle.rx_model.specs.Refusals.EscapeCauses.{IsEscapeCause}
@@ -26,7 +27,7 @@ use Rattle.rx_model.proofs.Classes.ClassStates.{Fits, none_follows, opened_fits,
 use Rattle.rx_model.proofs.Classes.ClassStops.{AtomFault, bad_escape, in_escape, in_property, IsBlockedItem, IsDead, backslash_first, closer_dead, dash_dead, dead_blocked, ends_dead, fault_dead, fresh_union, is_between, item_between, no_item_there, range_blocked, second_dead, third_dead}
 use Rattle.rx_model.proofs.Classes.ClassWholes.{class_opened-append}
 use Rattle.rx_model.proofs.Reading.Prefixes.{first_in_class}
-use Rattle.rx_model.proofs.Classes.ClassFronts.{sets_is}
+use Rattle.rx_model.proofs.Classes.ClassFronts.{bracket_follows, sets_is}
 use Rattle.rx_model.proofs.Classes.OpenBrackets.{nested_run}
 
 -- A reading of a class has come to a place, with these tokens and these open brackets.
@@ -95,14 +96,13 @@ module _ (mode : Mode) (us : List CodePoint) (start added from : ℕ) (at_class 
     in_class : (is_nested : Bool) (begin : ℕ) → Opens s.tokens is_nested begin → begins_item s.at ≡ true → is_union s.inner.held ≡ true → (is_sets mode ≡ true → s.inner.held ≡ empty → s.rest ≡ []) → (is_sets mode ≡ false → s.rest ≡ [])
         → Nothing s (UnterminatedPattern (span_between us start added begin s.place) (unterminated is_nested))
     no_operand : begins_item s.at ≡ true → is_sets mode ≡ true → s.inner.held ≡ empty → s.rest ≢ [] → Nothing s (EmptyClassSetExpression (span_between us start added s.place s.place))
-    no_operator : (operator : SetOperator) → begins_item s.at ≡ true → operator_of s.inner.held ≡ Some operator → (s.at ≡ after_meet → starts 38 (values s.rest) ≡ false)
+    no_operator : (operator : SetOperator) → begins_item s.at ≡ true → operator_of s.inner.held ≡ Some operator → (s.at ≡ after_operator operator → may_follow_operator operator (values s.rest) ≡ true)
         → Nothing s (ClassSetExpressionInvalidCharacter (span_between us start added s.place s.place) operator)
     in_class_strings : (opener : ℕ) → s.at ≡ in_strings → Strings s.tokens opener → Nothing s (UnterminatedPattern (span_between us start added opener s.place) what.ClassStringDisjunction)
 
   abbrev pub value_of : Atom → ℕ
   value_of (character k v) = v
-  value_of (escape k) = 0
-  value_of (property negative may name value) = 0
+  value_of q = 0
 
   -- what is said of a range
   abbrev pub range_fault : ℕ → Atom → Atom → ℕ → ℕ → Diagnostic
@@ -139,7 +139,7 @@ module _ (mode : Mode) (us : List CodePoint) (start added from : ℕ) (at_class 
     elsewhere : {f : ℕ} {d : Diagnostic} → Elsewhere s f d → Said s f d
     after_dash : {d : Diagnostic} (hyphen : CodePoint) (rest : List CodePoint) → IsAfterLow s → is_sets mode ≡ true → s.rest ≡ hyphen ∷ rest → hyphen.value ≡ 45 → IsEscapeCause mode us start added (s.place + 1) rest d
         → Said s (s.place + 1) d
-    ampersand : (unit : CodePoint) (rest : List CodePoint) → s.at ≡ after_meet → s.rest ≡ unit ∷ rest → unit.value ≡ 38
+    ampersand : (unit : CodePoint) (rest : List CodePoint) → s.at ≡ after_operator Intersection → s.rest ≡ unit ∷ rest → unit.value ≡ 38
         → Said s s.place (ClassIntersectionUnexpectedAmpersand (span_between us start added s.place (s.place + 1)))
     closing : (is_nested : Bool) (begin : ℕ) → Opens s.tokens is_nested begin → begins_item s.at ≡ true → starts 93 (values s.rest) ≡ true → is_whole s.inner.held ≡ true
         → Said s s.place (of_negative is_nested (span_between us start added begin (s.place + 1)))
@@ -185,18 +185,8 @@ module _ (mode : Mode) (us : List CodePoint) (start added from : ℕ) (at_class 
 
   nested_bracket : (q : Place) (negative : Bool) (w more : List CodePoint) → begins_item q ≡ true → is_sets mode ≡ true → SpellsBracket negative w more → SpellsInClass here q (bracket negative) w more
   nested_bracket fresh negative w more begins sets s = (sets, s)
-  nested_bracket after_meet negative w more begins sets s = (sets, s, first negative s)
-    where
-      first : (negative : Bool) → SpellsBracket negative w more → starts 38 (values w) ≡ false
-      first true s = ap (starts 38) s
-      first false s = ap (starts 38) s.0
-  nested_bracket after_less negative w more begins sets s = (sets, s)
-  nested_bracket outside negative w more begins sets s = absurd (true≢false (sym begins))
-  nested_bracket at_dash negative w more begins sets s = absurd (true≢false (sym begins))
-  nested_bracket at_high negative w more begins sets s = absurd (true≢false (sym begins))
-  nested_bracket at_second negative w more begins sets s = absurd (true≢false (sym begins))
-  nested_bracket at_third negative w more begins sets s = absurd (true≢false (sym begins))
-  nested_bracket in_strings negative w more begins sets s = absurd (true≢false (sym begins))
+  nested_bracket (after_operator o) negative w more begins sets s = (sets, s, bracket_follows o negative w more s)
+  nested_bracket q negative w more begins sets s = absurd (true≢false (sym begins))
 
   -- A row from a bracket is one of a nested class too.
   nested_row : (ts : List ClassToken) (q : Place) (us : List CodePoint) (r : Place) (rest : List CodePoint) (cs : Brackets) → begins_item q ≡ true → is_sets mode ≡ true → class_opened ts ≡ Some cs → ClassTokenRow here ts outside us r rest → ClassTokenRow here ts q us r rest
@@ -494,10 +484,10 @@ module _ (mode : Mode) (us : List CodePoint) (start added from : ℕ) (at_class 
       }
   stuck _ _ (class_cause.no_operand place rest p sets empties none some) =
       at_item place rest place _ p (dead_blocked here p.at (p.inner ∷ p.outer) rest (nothing_dead p.at p.inner p.outer rest none)) (nothing none (no_operand p.begins sets empties some))
-  stuck _ _ (class_cause.third_ampersand place unit rest p at_meet is) =
+  stuck _ _ (class_cause.third_ampersand place unit rest p after_it is) =
       at_item place (unit ∷ rest) place _ p
-      (subst (λ q. IsBlockedItem here q (p.inner ∷ p.outer) (unit ∷ rest)) (sym at_meet) (dead_blocked here after_meet (p.inner ∷ p.outer) (unit ∷ rest) (third_dead mode us start added p.inner p.outer unit rest is)))
-      (said (ampersand unit rest at_meet refl is))
+      (subst (λ q. IsBlockedItem here q (p.inner ∷ p.outer) (unit ∷ rest)) (sym after_it) (dead_blocked here (after_operator Intersection) (p.inner ∷ p.outer) (unit ∷ rest) (third_dead mode us start added p.inner p.outer unit rest is)))
+      (said (ampersand unit rest after_it refl is))
   stuck _ _ (class_cause.no_operator operator place rest p is none third) =
       at_item place rest place _ p (dead_blocked here p.at (p.inner ∷ p.outer) rest (nothing_dead p.at p.inner p.outer rest none)) (nothing none (no_operator operator p.begins is third))
   stuck _ _ (class_cause.unterminated_strings opener place rest i ends) =

@@ -2,7 +2,7 @@
 use Rattle.std.proofs.Common.{◌≡◌, List, [], ◌∷◌}
 use Rattle.rx_ast.specs.declared.leaf.CharacterKind.TheVariants as kind
 use Rattle.rx_units.specs.declared.code_point.CodePoint.{CodePoint}
-use Rattle.rx_model.specs.Classes.ClassRows.{ClassTokenRow, Place, SpellsAtom, SpellsInClass, fresh, at_second, at_third, after_meet, after_less, in_strings, next_place}
+use Rattle.rx_model.specs.Classes.ClassRows.{ClassTokenRow, Place, SpellsAtom, SpellsInClass, fresh, at_second, at_third, after_operator, in_strings, next_place}
 use Rattle.rx_model.specs.Classes.ClassTokens.{Atom, character, escape, property, ClassToken, item}
 use Rattle.rx_model.specs.Inputs.Environment.{Environment}
 use Rattle.rx_model.specs.Trees.Early.{IsFlaggedProperty}
@@ -36,8 +36,7 @@ module _ (e : Environment) where
   item_flagged fresh a w more s = atom_flagged a w more s.0
   item_flagged at_second a w more s = second_flagged a s.0
   item_flagged at_third a w more s = atom_flagged a w more s
-  item_flagged after_meet a w more s = atom_flagged a w more s.1
-  item_flagged after_less a w more s = atom_flagged a w more s.1
+  item_flagged (after_operator o) a w more s = atom_flagged a w more s.1
   item_flagged in_strings a w more s = absurd s.1
   item_flagged q a w more s = absurd s
 

@@ -1,10 +1,12 @@
 -- Atoms and tokens at the front of what is left of a class: what is spelled is read, and what is read is spelled.
 use Rattle.std.proofs.Common.{◌≡◌, refl, sym, ap, ap₂, ◌∙◌, subst, ℕ, ◌+◌, ◌<◌, ◌==◌, Bool, true, false, not, ◌&&◌, ◌||◌, Option, Some, None, List, [], ◌∷◌, ◌++◌, length, drop, arith, inl, inr}
 use Rattle.std.proofs.Math.Seq.{drop-append_seam}
-use Rattle.std.proofs.lemmas.Bool.{cases_Bool, eqb-true, cond-true, cond-false, and_left, and_from, not-true}
+use Rattle.std.proofs.lemmas.Bool.{cases_Bool, eqb-true, cond-true, cond-false, and_left, and_from}
 use Rattle.std.proofs.lemmas.Bool.Decides.{nat_tests}
 use Rattle.std.proofs.lemmas.List.{length-map, map-append}
 use Rattle.std.proofs.Math.Bool.{and-false}
+use Rattle.rx_base.specs.declared.diagnostic.kinds.SetOperator.{SetOperator}
+use Rattle.rx_base.specs.declared.diagnostic.kinds.SetOperator.TheVariants.{Intersection, Subtraction}
 use Rattle.rx_tables.specs.Characters.{is_reserved_punctuator}
 use Rattle.rx_ast.specs.declared.leaf.CharacterClassEscapeKind.{CharacterClassEscapeKind}
 use Rattle.rx_ast.specs.declared.leaf.CharacterClassEscapeKind.TheVariants as classes
@@ -16,12 +18,12 @@ use Rattle.rx_units.proofs.Choices.{chosen, both, Some-inj}
 use Rattle.rx_model.specs.declared.mode.Mode.{Mode}
 use Rattle.rx_model.specs.declared.mode.Mode.TheVariants.{Legacy, Unicode, Sets}
 use Rattle.rx_model.specs.Classes.ClassFronts.{AtomRead, atom_read, no_atom, property_atom, character_atom, escape_atom, escape_in_class, atom_at, TokenRead, item_where, item_of, low_of, high_of, dashed_of, item_before, bracket_at, are_next, begins_strings, operand_token, set_token, fresh_token, operand_of, string_token, token_where, class_token_at}
-use Rattle.rx_model.specs.Classes.ClassRows.{stands_raw_in_class, SpellsInClassAlone, backspace, SpellsClassCharacter, raw, escaped_in_class, escaped_in_legacy, SpellsAtom, has_hyphen, has_threes, is_dashed, BeforeHigh, BeforeThird, BeginsNoRange, StandsBefore, Place, outside, fresh, at_dash, at_high, at_second, at_third, after_meet, after_less, in_strings, next_place, following_item, SpellsBracket, SpellsOperand, SpellsOfStrings, SpellsInClass}
+use Rattle.rx_model.specs.Classes.ClassRows.{stands_raw_in_class, SpellsInClassAlone, backspace, SpellsClassCharacter, raw, escaped_in_class, escaped_in_legacy, SpellsAtom, has_hyphen, has_threes, is_dashed, BeforeHigh, BeforeThird, BeginsNoRange, StandsBefore, Place, outside, fresh, at_dash, at_high, at_second, at_third, after_operator, in_strings, next_place, following_item, may_follow_operator, SpellsBracket, SpellsOperand, SpellsOfStrings, SpellsInClass}
 use Rattle.rx_model.specs.Classes.ClassRows as row
 use Rattle.rx_ast.specs.Texts.{class_escape_text}
-use Rattle.rx_model.specs.Classes.ClassTokens.{Atom, ClassToken, is_character, character, escape, property, bracket, closer, item, low, dash, high, meet, less, strings, letter, string_bar, strings_end}
+use Rattle.rx_model.specs.Classes.ClassTokens.{Atom, ClassToken, is_character, character, escape, property, bracket, closer, item, low, dash, high, operator, strings, letter, string_bar, strings_end}
 use Rattle.rx_model.specs.Inputs.Environment.{Environment, is_sets, is_unicode}
-use Rattle.rx_model.specs.Characters.EscapeFronts.{EscapeRead, escaped, nothing, too_many, no_unicode, any_escape_at, class_escape_at, escape_at}
+use Rattle.rx_model.specs.Characters.EscapeFronts.{EscapeRead, escaped, any_escape_at, class_escape_at, escape_at}
 use Rattle.rx_model.specs.Characters.Escapes.{SpellsEscape}
 use Rattle.rx_model.specs.Characters.LegacyEscapes.{SpellsLegacy}
 use Rattle.rx_model.specs.FirstPass.Marks.{starts}
@@ -128,6 +130,20 @@ class_letter classes.S = record { letter = 115; text = refl; no_b = refl; not_hy
 class_letter classes.NegativeS = record { letter = 83; text = refl; no_b = refl; not_hyphen = refl; no_punctuator = refl; no_letter = refl; found = refl }
 class_letter classes.W = record { letter = 119; text = refl; no_b = refl; not_hyphen = refl; no_punctuator = refl; no_letter = refl; found = refl }
 class_letter classes.NegativeW = record { letter = 87; text = refl; no_b = refl; not_hyphen = refl; no_punctuator = refl; no_letter = refl; found = refl }
+
+-- what is asked of the units after an operator is asked of the first alone
+pub follows_front : (o : SetOperator) (w rest : List CodePoint) → 0 < length w → may_follow_operator o (values (w ++ rest)) ≡ may_follow_operator o (values w)
+follows_front Intersection w rest some = ap not (starts_front 38 w rest some)
+follows_front Subtraction w rest some = refl
+
+-- nothing but a `&` is refused there
+pub other_follows : (o : SetOperator) (w : List ℕ) → starts 38 w ≡ false → may_follow_operator o w ≡ true
+other_follows Intersection w other = ap not other
+other_follows Subtraction w other = refl
+
+pub bracket_follows : (o : SetOperator) (negative : Bool) (w rest : List CodePoint) → SpellsBracket negative w rest → may_follow_operator o (values w) ≡ true
+bracket_follows o true w rest s = ap (may_follow_operator o) s ∙ other_follows o (91 ∷ 94 ∷ []) refl
+bracket_follows o false w rest s = ap (may_follow_operator o) s.0 ∙ other_follows o (91 ∷ []) refl
 
 module _ (e : Environment) where
   -- after a backslash
@@ -276,9 +292,7 @@ module _ (e : Environment) where
 
   character_there : (a : Atom) (n : ℕ) (u : CodePoint) (us : List CodePoint) → u.value ≡ 92 → (r : EscapeRead) → any_escape_at true e (values us) ≡ r → character_atom r ≡ atom_read a n → AtomFront a n (u ∷ us)
   character_there a n u us h (escaped k v m) f q = any_there a n u us k v m h (any_spelled true e k v m (values us) f) q
-  character_there a n u us h nothing f q = absurd (let no : ⊥ = cc q in no)
-  character_there a n u us h (too_many m) f q = absurd (let no : ⊥ = cc q in no)
-  character_there a n u us h no_unicode f q = absurd (let no : ⊥ = cc q in no)
+  character_there a n u us h t f q = absurd (let no : ⊥ = cc q in no)
 
   class_escape_there : (a : Atom) (n : ℕ) (u v : CodePoint) (us : List CodePoint) → u.value ≡ 92 → (o : Option CharacterClassEscapeKind) → class_escape_at v.value ≡ o →
       escape_atom o (any_escape_at true e (values (v ∷ us))) ≡ atom_read a n → AtomFront a n (u ∷ v ∷ us)
@@ -385,8 +399,7 @@ module _ (e : Environment) where
   -- With `v` an item stands before a `-` after which no end of a range is read.
   some_character : (a : Atom) → is_character a ≡ true → (k : CharacterKind) × (v : ℕ) × (a ≡ character k v)
   some_character (character k v) h = (k, v, refl)
-  some_character (escape k) h = absurd (let no : ⊥ = cc h in no)
-  some_character (property negative may name value) h = absurd (let no : ⊥ = cc h in no)
+  some_character q h = absurd (let no : ⊥ = cc h in no)
 
   in_sets : (threes : Bool) (a : Atom) (n : ℕ) → is_sets e.mode ≡ true → item_where (threes || is_sets e.mode) a n ≡ Some (item a, n)
   in_sets true a n h = refl
@@ -456,7 +469,7 @@ module _ (e : Environment) where
   starts_by c us d v h n = ap (starts c) h ∙ n
 
   -- No operand is spelled by no units.
-  operand_some : (t : ClassToken) (w rest : List CodePoint) → SpellsOperand e t w rest → 0 < length w
+  pub operand_some : (t : ClassToken) (w rest : List CodePoint) → SpellsOperand e t w rest → 0 < length w
   operand_some (item a) w rest s = atom_some a w rest s
   operand_some (bracket true) w rest s = omega (arith, units w (91 ∷ 94 ∷ []) s)
   operand_some (bracket false) w rest s = omega (arith, units w (91 ∷ []) s.0)
@@ -508,23 +521,22 @@ module _ (e : Environment) where
       let text = text_of w rest (92 ∷ 113 ∷ 123 ∷ []) s.1 in
       fresh_set (w ++ rest) s.0 (no_strings_atom (w ++ rest) (123 ∷ values rest) s.0 text) (starts_by 93 (w ++ rest) 92 (113 ∷ 123 ∷ values rest) text refl)
       ∙ ap set_token text ∙ ap (λ n. Some (strings, n)) (units w (92 ∷ 113 ∷ 123 ∷ []) s.1)
-  class_token_is fresh meet w rest s =
+  class_token_is fresh (operator Intersection) w rest s =
       let text = text_of w rest (38 ∷ 38 ∷ []) s.1 in
       fresh_set (w ++ rest) s.0 (no_set_atom (w ++ rest) 38 (38 ∷ values rest) s.0 text refl refl) (starts_by 93 (w ++ rest) 38 (38 ∷ values rest) text refl)
-      ∙ ap set_token text ∙ ap (λ n. Some (meet, n)) (units w (38 ∷ 38 ∷ []) s.1)
-  class_token_is fresh less w rest s =
+      ∙ ap set_token text ∙ ap (λ n. Some (operator Intersection, n)) (units w (38 ∷ 38 ∷ []) s.1)
+  class_token_is fresh (operator Subtraction) w rest s =
       let text = text_of w rest (45 ∷ 45 ∷ []) s.1 in
       fresh_set (w ++ rest) s.0 (no_set_atom (w ++ rest) 45 (45 ∷ values rest) s.0 text refl refl) (starts_by 93 (w ++ rest) 45 (45 ∷ values rest) text refl)
-      ∙ ap set_token text ∙ ap (λ n. Some (less, n)) (units w (45 ∷ 45 ∷ []) s.1)
+      ∙ ap set_token text ∙ ap (λ n. Some (operator Subtraction, n)) (units w (45 ∷ 45 ∷ []) s.1)
   class_token_is at_dash dash w rest s = one_unit w rest 45 dash s
   class_token_is at_high (high k v) w rest s = ap high_of (atom_is_read (character k v) w rest s)
   class_token_is at_second (item a) w rest s = one_unit w rest 45 (item (character kinds.Symbol 45)) s.1 ∙ ap (λ a. Some (item a, length w)) (sym s.0)
   class_token_is at_third (item a) w rest s = ap item_of (atom_is_read a w rest s)
-  class_token_is after_meet t w rest s =
-      token_there (is_sets e.mode && not (starts 38 (values (w ++ rest)))) _
-      (and_from (is_sets e.mode) (not (starts 38 (values (w ++ rest)))) s.0 (ap not (starts_front 38 w rest (operand_some t w rest s.1) ∙ s.2)))
+  class_token_is (after_operator o) t w rest s =
+      token_there (is_sets e.mode && may_follow_operator o (values (w ++ rest))) _
+      (and_from (is_sets e.mode) (may_follow_operator o (values (w ++ rest))) s.0 (follows_front o w rest (operand_some t w rest s.1) ∙ s.2))
       ∙ operand_read w rest t s.0 s.1
-  class_token_is after_less t w rest s = token_there (is_sets e.mode) _ s.0 ∙ operand_read w rest t s.0 s.1
   class_token_is in_strings t w rest s = token_there (is_sets e.mode) _ s.0 ∙ of_strings_read t w rest s.0 s.1
   class_token_is q t w rest s = absurd s
 
@@ -695,9 +707,9 @@ module _ (e : Environment) where
 
   set_found : (us : List CodePoint) (read : ClassToken × ℕ) → is_sets e.mode ≡ true → set_token (values us) ≡ Some read → FreshFront us read
   set_found us read m h = elim (chosen (are_next 38 38 (values us)) h) [
-    | inl p ↦ let s = next_are 38 38 (values us) p.0 in front_text (SpellsInClass e fresh) us read meet (38 ∷ 38 ∷ []) s.0 s.1 (λ w rest first others. (m, first)) p.1
+    | inl p ↦ let s = next_are 38 38 (values us) p.0 in front_text (SpellsInClass e fresh) us read (operator Intersection) (38 ∷ 38 ∷ []) s.0 s.1 (λ w rest first others. (m, first)) p.1
     | inr p ↦ elim (chosen (are_next 45 45 (values us)) p.1) [
-      | inl q ↦ let s = next_are 45 45 (values us) q.0 in front_text (SpellsInClass e fresh) us read less (45 ∷ 45 ∷ []) s.0 s.1 (λ w rest first others. (m, first)) q.1
+      | inl q ↦ let s = next_are 45 45 (values us) q.0 in front_text (SpellsInClass e fresh) us read (operator Subtraction) (45 ∷ 45 ∷ []) s.0 s.1 (λ w rest first others. (m, first)) q.1
       | inr q ↦ let o = operand_found us read q.1 in (o.0, o.1, o.2, o.3, opening_fresh read.0 o.0 o.1 m o.4)
     ]
   ]
@@ -737,10 +749,6 @@ module _ (e : Environment) where
   third_found us read (atom_read a n) f h = let g = atom_found a n us f in front_by (SpellsInClass e at_third) us read (item a) g.w g.rest n g.whole g.count g.spelled h
   third_found us read no_atom f h = absurd (let no : ⊥ = cc h in no)
 
-  -- where no `&` stands
-  no_ampersand : (w rest : List CodePoint) (t : ClassToken) → SpellsOperand e t w rest → not (starts 38 (values (w ++ rest))) ≡ true → starts 38 (values w) ≡ false
-  no_ampersand w rest t s h = sym (starts_front 38 w rest (operand_some t w rest s)) ∙ not-true (starts 38 (values (w ++ rest))) h
-
   place_found : (q : Place) (us : List CodePoint) (read : ClassToken × ℕ) → class_token_at e q us ≡ Some read → Front (SpellsInClass e q) us read
   unfolding class_token_at
   place_found outside us read h = bracket_found us read (values us) refl h
@@ -749,15 +757,11 @@ module _ (e : Environment) where
   place_found at_high us read h = high_found us read (atom_at e us) refl h
   place_found at_second us read h = unit_found at_second us read 45 (item (character kinds.Symbol 45)) (λ w rest s. (refl, s)) h
   place_found at_third us read h = third_found us read (atom_at e us) refl h
-  place_found after_meet us read h =
-      let p = where_true_is (is_sets e.mode && not (starts 38 (values us))) _ read h in
-      let b = both (is_sets e.mode) (not (starts 38 (values us))) p.0 in
-      let o = any_operand_found us read (atom_at e us) refl p.1 in
-      (o.0, o.1, o.2, o.3, (b.0, o.4, no_ampersand o.0 o.1 read.0 o.4 (ap (λ us. not (starts 38 (values us))) (sym o.2) ∙ b.1)))
-  place_found after_less us read h =
-      let p = where_true_is (is_sets e.mode) _ read h in
-      let o = any_operand_found us read (atom_at e us) refl p.1 in
-      (o.0, o.1, o.2, o.3, (p.0, o.4))
+  place_found (after_operator o) us read h =
+      let p = where_true_is (is_sets e.mode && may_follow_operator o (values us)) _ read h in
+      let b = both (is_sets e.mode) (may_follow_operator o (values us)) p.0 in
+      let f = any_operand_found us read (atom_at e us) refl p.1 in
+      (f.0, f.1, f.2, f.3, (b.0, f.4, sym (follows_front o f.0 f.1 (operand_some read.0 f.0 f.1 f.4)) ∙ ap (λ us. may_follow_operator o (values us)) (sym f.2) ∙ b.1))
   place_found in_strings us read h =
       let p = where_true_is (is_sets e.mode) _ read h in
       let o = of_strings_found us read (atom_at e us) refl p.1 in
@@ -776,14 +780,13 @@ module _ (e : Environment) where
   token_some fresh (low k v) w rest s = atom_some (character k v) w rest s.0
   token_some fresh (bracket negative) w rest s = operand_some (bracket negative) w rest s.1
   token_some fresh strings w rest s = operand_some strings w rest s.1
-  token_some fresh meet w rest s = omega (arith, units w (38 ∷ 38 ∷ []) s.1)
-  token_some fresh less w rest s = omega (arith, units w (45 ∷ 45 ∷ []) s.1)
+  token_some fresh (operator Intersection) w rest s = omega (arith, units w (38 ∷ 38 ∷ []) s.1)
+  token_some fresh (operator Subtraction) w rest s = omega (arith, units w (45 ∷ 45 ∷ []) s.1)
   token_some at_dash dash w rest s = omega (arith, units w (45 ∷ []) s)
   token_some at_high (high k v) w rest s = atom_some (character k v) w rest s
   token_some at_second (item a) w rest s = omega (arith, units w (45 ∷ []) s.1)
   token_some at_third (item a) w rest s = atom_some a w rest s
-  token_some after_meet t w rest s = operand_some t w rest s.1
-  token_some after_less t w rest s = operand_some t w rest s.1
+  token_some (after_operator o) t w rest s = operand_some t w rest s.1
   token_some in_strings (letter k v) w rest s = atom_some (character k v) w rest s.1
   token_some in_strings string_bar w rest s = omega (arith, units w (124 ∷ []) s.1)
   token_some in_strings strings_end w rest s = omega (arith, units w (125 ∷ []) s.1)

@@ -1,10 +1,10 @@
 -- The items of a union are a list that ends before a stop, and so are the operands of an intersection or a subtraction with the operator before each.
 use Rattle.std.proofs.Common.{◌≡◌, refl, sym, ap, ap₂, ◌∙◌, subst, ℕ, ◌<◌, ◌==◌, true, false, List, [], ◌∷◌, ◌++◌, length, drop, append_assoc, length-append, arith}
 use Rattle.std.proofs.Math.Seq.{drop-append_seam}
+use Rattle.rx_base.specs.declared.diagnostic.kinds.SetOperator.{SetOperator}
+use Rattle.rx_base.specs.declared.diagnostic.kinds.SetOperator.TheVariants.{Intersection, Subtraction}
 use Rattle.rx_ast.specs.declared.leaf.Character.{Character}
 use Rattle.rx_ast.specs.declared.leaf.CharacterKind.{CharacterKind}
-use Rattle.rx_ast.specs.declared.class.CharacterClassContentsKind.{CharacterClassContentsKind}
-use Rattle.rx_ast.specs.declared.class.CharacterClassContentsKind.TheVariants.{Union, Intersection, Subtraction}
 use Rattle.rx_ast.specs.declared.class.ClassString.{ClassString}
 use Rattle.rx_ast.specs.ClassTree.{Class, Member, nested}
 use Rattle.rx_units.specs.declared.code_point.CodePoint.{CodePoint}
@@ -128,23 +128,16 @@ module _ (e : Environment) where
   none_at_items_end q us closed _ _ rest h (of_range {k} {v} low hyphen high s is t) = none_at_closer e us closed (character k v) low (hyphen ∷ (high ++ rest)) (h ∙ append_assoc low (hyphen ∷ high) rest) s
   none_at_items_end q us closed m w rest h (of_operand s none) = no_operand us closed m w rest h s
 
--- two units
-pub operator_two : (kind : CharacterClassContentsKind) (w rest : List CodePoint) → SpellsOperator kind w rest → length w ≡ 2
-operator_two Union w rest s = absurd s
-operator_two Intersection w rest s = sym (units w _ s.0)
-operator_two Subtraction w rest s = sym (units w _ s)
-
 -- An operator begins with no `]`.
-operator_first : (kind : CharacterClassContentsKind) (w rest more : List CodePoint) → SpellsOperator kind w rest → starts 93 (values (w ++ more)) ≡ false
-operator_first Union w rest more s = absurd s
+operator_first : (o : SetOperator) (w rest more : List CodePoint) → SpellsOperator o w rest → starts 93 (values (w ++ more)) ≡ false
 operator_first Intersection w rest more s = ap (starts 93) (text_of w more (38 ∷ 38 ∷ []) s.0)
-operator_first Subtraction w rest more s = ap (starts 93) (text_of w more (45 ∷ 45 ∷ []) s)
+operator_first Subtraction w rest more s = ap (starts 93) (text_of w more (45 ∷ 45 ∷ []) s.0)
 
-module _ (s : Environment × CharacterClassContentsKind) where
+module _ (s : Environment × SetOperator) where
   pub one_further : (q : Unit {0}) (m n : Member) (w more v rest : List CodePoint) → w ++ more ≡ v ++ rest → SpellsFurtherOperand s.0 s.1 m w more → SpellsFurtherOperand s.0 s.1 n v rest → (m ≡ n) × (more ≡ rest)
   one_further q m n _ more _ rest h (of_operator operator w is operand) (of_operator operator_too v is_too operand_too) =
       one_operand s.0 m n w more v rest
-      (same_back operator operator_too (w ++ more) (v ++ rest) (operator_two s.1 operator (w ++ more) is ∙ sym (operator_two s.1 operator_too (v ++ rest) is_too))
+      (same_back operator operator_too (w ++ more) (v ++ rest) (sym (units operator _ is.0) ∙ units operator_too _ is_too.0)
       (sym (append_assoc operator w more) ∙ h ∙ append_assoc operator_too v rest)) operand operand_too
 
   pub further_some : (q : Unit {0}) (m : Member) (rest : List CodePoint) → SpellsFurtherOperand s.0 s.1 m [] rest → ⊥

@@ -6,6 +6,8 @@ use Rattle.std.proofs.lemmas.Bool.Decides.{nat_tests}
 use Rattle.std.proofs.Math.Bool.{and_assoc, or_assoc, or-false}
 use Rattle.std.proofs.Math.Nat.{le_trans}
 use Rattle.std.specs.List.{list_any}
+use Rattle.rx_base.specs.declared.diagnostic.kinds.SetOperator.{SetOperator}
+use Rattle.rx_base.specs.declared.diagnostic.kinds.SetOperator.TheVariants as set
 use Rattle.rx_base.specs.declared.span.Span.{Span}
 use Rattle.rx_ast.specs.declared.leaf.Character.{Character}
 use Rattle.rx_ast.specs.declared.class.CharacterClassContentsKind.{CharacterClassContentsKind}
@@ -13,9 +15,9 @@ use Rattle.rx_ast.specs.declared.class.CharacterClassContentsKind.TheVariants.{U
 use Rattle.rx_ast.specs.declared.class.ClassString.{ClassString}
 use Rattle.rx_ast.specs.ClassTree.{Class, Member, Members, no_member, member, class}
 use Rattle.rx_ast.specs.ClassTree as tree
-use Rattle.rx_model.specs.Classes.ClassRuns.{Held, empty, single, several, meeting, met, lessening, lessened, Bracket, Brackets, after_step, bracket_of, class_opened, class_run, closed, held_on, holding, is_whole, less_by, met_by, operand, ranged, where_may, where_true, with_strings}
+use Rattle.rx_model.specs.Classes.ClassRuns.{Held, empty, single, several, pending, joined, Bracket, Brackets, after_step, bracket_of, class_opened, class_run, closed, held_on, holding, is_whole, operand, ranged, where_may, where_true, with_operator, with_strings}
 use Rattle.rx_model.specs.Classes.ClassShapes.{AreFitting, AreFlagged, AreOperands, FitsKind, IsFitting, IsFittingMember, IsFlagged, IsFlaggedMember, IsOperand}
-use Rattle.rx_model.specs.Classes.ClassTokens.{ClassToken, bracket, closer, dash, high, meet, less, strings, letter, string_bar, strings_end, ClassEvents, leave, token, class_tokens, class_tokens_of, letters_events, string_events, strings_events, barred_strings_events, member_events, members_events, more_members_events, operator_events}
+use Rattle.rx_model.specs.Classes.ClassTokens.{ClassToken, bracket, closer, contents_kind, dash, high, operator, strings, letter, string_bar, strings_end, ClassEvents, leave, token, class_tokens, class_tokens_of, letters_events, string_events, strings_events, barred_strings_events, member_events, members_events, more_members_events, operator_events}
 use Rattle.rx_model.specs.Trees.Early.{AreCodePoints, AreEarlyMembers, IsCodePoint, IsEarlyClass, IsEarlyMember, IsEarlyString, IsFlaggedString, all_strings, any_strings, class_strings, may_contain_strings, member_strings}
 use Rattle.rx_model.proofs.Classes.ClassTokens.{tokens_append}
 
@@ -43,6 +45,10 @@ contents_are es (member m ms) = tokens_append (member_events m) (more_members_ev
 
 abbrev pub between_by : CharacterClassContentsKind → List ClassToken
 between_by kind = class_tokens_of (operator_events kind)
+
+pub between_is : (o : SetOperator) → between_by (contents_kind o) ≡ operator o ∷ []
+between_is set.Intersection = refl
+between_is set.Subtraction = refl
 
 pub class_tokens_by : (s : Span) (negative may : Bool) (kind : CharacterClassContentsKind) (ms : Members) →
     class_tokens (class s negative may kind ms) ≡ bracket negative ∷ (contents_tokens (between_by kind) ms ++ (closer ∷ []))
@@ -88,11 +94,7 @@ le_true a b h = grind (arith, nat_tests)
 -- with this thing more
 abbrev pub with_member : Member → Held → Option Held
 with_member (tree.range r) held = ranged held
-with_member (tree.escape e) held = operand held
-with_member (tree.property p) held = operand held
-with_member (tree.character c) held = operand held
-with_member (tree.nested c) held = operand held
-with_member (tree.strings d) held = operand held
+with_member m held = operand held
 
 abbrev on : List ClassToken → Brackets → Option Brackets
 on ts brackets = class_run ts brackets
@@ -155,16 +157,11 @@ pub some_strings : {A : Type 0} (ss : List ClassString) → ss ≢ [] → ((s : 
 some_strings [] none h = absurd (none refl)
 some_strings (s ∷ more) none h = h s more refl
 
--- a bracket around the operands of an intersection, and of a subtraction
-abbrev pub IsMeeting : Held → Type 0
-IsMeeting single = Unit {0}
-IsMeeting met = Unit {0}
-IsMeeting held = ⊥
-
-abbrev pub IsLessening : Held → Type 0
-IsLessening single = Unit {0}
-IsLessening lessened = Unit {0}
-IsLessening held = ⊥
+-- a bracket around operands that the operator may follow
+abbrev pub IsJoining : SetOperator → Held → Type 0
+IsJoining o single = Unit {0}
+IsJoining o (joined p) = p ≡ o
+IsJoining o held = ⊥
 
 abbrev pub IsGrowing : Held → Type 0
 IsGrowing single = Unit {0}
@@ -178,98 +175,43 @@ Contents ts negative held may outer flag =
 
 pub operand_of : (m : Member) → IsOperand m → (held : Held) → with_member m held ≡ operand held
 operand_of (tree.range r) i held = absurd i
-operand_of (tree.escape e) i held = refl
-operand_of (tree.property p) i held = refl
-operand_of (tree.character c) i held = refl
-operand_of (tree.nested c) i held = refl
-operand_of (tree.strings d) i held = refl
+operand_of m i held = refl
 
 pub first_after : (m : Member) → (after : Held) × (with_member m empty ≡ Some after) × IsGrowing after
 first_after (tree.range r) = (several, refl, tt)
-first_after (tree.escape e) = (single, refl, tt)
-first_after (tree.property p) = (single, refl, tt)
-first_after (tree.character c) = (single, refl, tt)
-first_after (tree.nested c) = (single, refl, tt)
-first_after (tree.strings d) = (single, refl, tt)
+first_after m = (single, refl, tt)
 
 pub more_after : (m : Member) (held : Held) → IsGrowing held → with_member m held ≡ Some several
 more_after (tree.range r) single g = refl
+more_after m single g = refl
 more_after (tree.range r) several g = refl
-more_after (tree.escape e) single g = refl
-more_after (tree.escape e) several g = refl
-more_after (tree.property p) single g = refl
-more_after (tree.property p) several g = refl
-more_after (tree.character c) single g = refl
-more_after (tree.character c) several g = refl
-more_after (tree.nested c) single g = refl
-more_after (tree.nested c) several g = refl
-more_after (tree.strings d) single g = refl
-more_after (tree.strings d) several g = refl
-more_after m empty g = absurd g
-more_after m meeting g = absurd g
-more_after m met g = absurd g
-more_after m lessening g = absurd g
-more_after m lessened g = absurd g
+more_after m several g = refl
+more_after m held g = absurd g
 
 growing_or : (held : Held) (may new : Bool) → IsGrowing held → with_strings held may new ≡ (may || new)
 growing_or single may new g = refl
 growing_or several may new g = refl
-growing_or empty may new g = absurd g
-growing_or meeting may new g = absurd g
-growing_or met may new g = absurd g
-growing_or lessening may new g = absurd g
-growing_or lessened may new g = absurd g
+growing_or held may new g = absurd g
 
 pub growing_whole : (held : Held) → IsGrowing held → is_whole held ≡ true
 growing_whole single g = refl
 growing_whole several g = refl
-growing_whole empty g = absurd g
-growing_whole meeting g = absurd g
-growing_whole met g = absurd g
-growing_whole lessening g = absurd g
-growing_whole lessened g = absurd g
+growing_whole held g = absurd g
 
-pub meeting_whole : (held : Held) → IsMeeting held → is_whole held ≡ true
-meeting_whole single g = refl
-meeting_whole met g = refl
-meeting_whole empty g = absurd g
-meeting_whole several g = absurd g
-meeting_whole meeting g = absurd g
-meeting_whole lessening g = absurd g
-meeting_whole lessened g = absurd g
+pub operator_again : (o : SetOperator) → with_operator o (joined o) ≡ Some (pending o)
+operator_again set.Intersection = refl
+operator_again set.Subtraction = refl
 
-pub lessening_whole : (held : Held) → IsLessening held → is_whole held ≡ true
-lessening_whole single g = refl
-lessening_whole lessened g = refl
-lessening_whole empty g = absurd g
-lessening_whole several g = absurd g
-lessening_whole meeting g = absurd g
-lessening_whole met g = absurd g
-lessening_whole lessening g = absurd g
-
-pub meets : (held : Held) → IsMeeting held → met_by held ≡ Some meeting
-meets single g = refl
-meets met g = refl
-meets empty g = absurd g
-meets several g = absurd g
-meets meeting g = absurd g
-meets lessening g = absurd g
-meets lessened g = absurd g
-
-pub lessens : (held : Held) → IsLessening held → less_by held ≡ Some lessening
-lessens single g = refl
-lessens lessened g = refl
-lessens empty g = absurd g
-lessens several g = absurd g
-lessens meeting g = absurd g
-lessens met g = absurd g
-lessens lessening g = absurd g
+pub takes_operator : (o : SetOperator) (held : Held) → IsJoining o held → (is_whole held ≡ true) × (with_operator o held ≡ Some (pending o))
+takes_operator o single j = (refl, refl)
+takes_operator o (joined p) j = (refl, ap (λ p. with_operator o (joined p)) j ∙ operator_again o)
+takes_operator o held j = absurd j
 
 and_all : (b : Bool) → (b && true) ≡ b
 and_all true = refl
 and_all false = refl
 
--- with `&&` or `--`
+-- with an operator
 held_by : (r : Bracket) (outer : Brackets) (o : Option Held) (after : Held) → o ≡ Some after → held_on r outer o ≡ Some (bracket_of r.negative after r.may ∷ outer)
 held_by r outer o after e = ap (held_on r outer) e
 
@@ -295,30 +237,49 @@ union_on (member m ms) all negative held may outer g =
           ∙ ap (λ b. class_run ss (bracket_of negative more.0 b ∷ outer)) (ap (λ b. b || any_strings ms) (growing_or held may (member_strings m) g) ∙ or_assoc may (member_strings m) (any_strings ms)),
     )
 
-meet_on : (ms : Members) → AllOut ms → AreOperands ms → (negative : Bool) (held : Held) (may : Bool) (outer : Brackets) → IsMeeting held → Contents (further_tokens (meet ∷ []) ms) negative held may outer (may && all_strings ms)
-meet_on no_member all os negative held may outer g =
-    (held, meeting_whole held g, λ ss. ap (λ b. class_run ss (bracket_of negative held b ∷ outer)) (sym (and_all may)))
-meet_on (member m ms) all os negative held may outer g =
-    let more = meet_on ms all.1 os.1 negative met (may && member_strings m) outer tt in (
+-- the flag of operands, by that of those that stood before these
+abbrev joined_strings : SetOperator → Bool → Members → Bool
+joined_strings set.Intersection may ms = may && all_strings ms
+joined_strings set.Subtraction may ms = may
+
+none_joined : (o : SetOperator) (may : Bool) → may ≡ joined_strings o may no_member
+none_joined set.Intersection may = sym (and_all may)
+none_joined set.Subtraction may = refl
+
+one_joined : (o : SetOperator) (may : Bool) (m : Member) (ms : Members) → joined_strings o (with_strings (pending o) may (member_strings m)) ms ≡ joined_strings o may (member m ms)
+one_joined set.Intersection may m ms = and_assoc may (member_strings m) (all_strings ms)
+one_joined set.Subtraction may m ms = refl
+
+-- an operator, an operand, and what follows them
+then_operand : (o : SetOperator) (m : Member) (ts ss : List ClassToken) (negative : Bool) (held : Held) (may : Bool) (outer : Brackets) → IsJoining o held →
+    class_run ((operator o ∷ (operand_tokens m ++ ts)) ++ ss) (bracket_of negative held may ∷ outer) ≡ class_run (operand_tokens m ++ (ts ++ ss)) (bracket_of negative (pending o) may ∷ outer)
+then_operand o m ts ss negative held may outer j =
+    goes ((operand_tokens m ++ ts) ++ ss) (held_by (bracket_of negative held may) outer (with_operator o held) (pending o) (takes_operator o held j).1)
+    ∙ then_more m ts ss (bracket_of negative (pending o) may ∷ outer)
+
+joined_on : (o : SetOperator) (ms : Members) → AllOut ms → AreOperands ms → (negative : Bool) (held : Held) (may : Bool) (outer : Brackets) → IsJoining o held →
+    Contents (further_tokens (operator o ∷ []) ms) negative held may outer (joined_strings o may ms)
+joined_on o no_member all os negative held may outer j =
+    (held, (takes_operator o held j).0, λ ss. ap (λ b. class_run ss (bracket_of negative held b ∷ outer)) (none_joined o may))
+joined_on o (member m ms) all os negative held may outer j =
+    let ts = further_tokens (operator o ∷ []) ms in
+    let more = joined_on o ms all.1 os.1 negative (joined o) (with_strings (pending o) may (member_strings m)) outer refl in (
       more.0,
       more.1,
-      λ ss. goes ((operand_tokens m ++ further_tokens (meet ∷ []) ms) ++ ss) (held_by (bracket_of negative held may) outer (met_by held) meeting (meets held g))
-          ∙ then_more m (further_tokens (meet ∷ []) ms) ss (bracket_of negative meeting may ∷ outer)
-          ∙ all.0 negative meeting may outer met (operand_of m os.0 meeting) (further_tokens (meet ∷ []) ms ++ ss)
+      λ ss. then_operand o m ts ss negative held may outer j
+          ∙ all.0 negative (pending o) may outer (joined o) (operand_of m os.0 (pending o)) (ts ++ ss)
           ∙ more.2 ss
-          ∙ ap (λ b. class_run ss (bracket_of negative more.0 b ∷ outer)) (and_assoc may (member_strings m) (all_strings ms)),
+          ∙ ap (λ b. class_run ss (bracket_of negative more.0 b ∷ outer)) (one_joined o may m ms),
     )
 
-less_on : (ms : Members) → AllOut ms → AreOperands ms → (negative : Bool) (held : Held) (may : Bool) (outer : Brackets) → IsLessening held → Contents (further_tokens (less ∷ []) ms) negative held may outer may
-less_on no_member all os negative held may outer g = (held, lessening_whole held g, λ ss. refl)
-less_on (member m ms) all os negative held may outer g =
-    let more = less_on ms all.1 os.1 negative lessened may outer tt in (
+operands_on : (o : SetOperator) (m : Member) (ms : Members) → AllOut (member m ms) → AreOperands (member m ms) → (negative : Bool) (outer : Brackets) →
+    Contents (contents_tokens (operator o ∷ []) (member m ms)) negative empty false outer (joined_strings o (member_strings m) ms)
+operands_on o m ms all os negative outer =
+    let ts = further_tokens (operator o ∷ []) ms in
+    let more = joined_on o ms all.1 os.1 negative single (member_strings m) outer tt in (
       more.0,
       more.1,
-      λ ss. goes ((operand_tokens m ++ further_tokens (less ∷ []) ms) ++ ss) (held_by (bracket_of negative held may) outer (less_by held) lessening (lessens held g))
-          ∙ then_more m (further_tokens (less ∷ []) ms) ss (bracket_of negative lessening may ∷ outer)
-          ∙ all.0 negative lessening may outer lessened (operand_of m os.0 lessening) (further_tokens (less ∷ []) ms ++ ss)
-          ∙ more.2 ss,
+      λ ss. then_more m ts ss (bracket_of negative empty false ∷ outer) ∙ all.0 negative empty false outer single (operand_of m os.0 empty) (ts ++ ss) ∙ more.2 ss,
     )
 
 contents_on : (kind : CharacterClassContentsKind) (ms : Members) → AllOut ms → FitsKind kind ms → (negative : Bool) (outer : Brackets) →
@@ -330,20 +291,8 @@ contents_on Union (member m ms) all fits negative outer =
     let f = first_after m in
     let more = union_on ms all.1 negative f.0 (member_strings m) outer f.2 in
     (more.0, more.1, λ ss. then_more m (further_tokens [] ms) ss (bracket_of negative empty false ∷ outer) ∙ all.0 negative empty false outer f.0 f.1 (further_tokens [] ms ++ ss) ∙ more.2 ss)
-contents_on Intersection (member m ms) all fits negative outer =
-    let more = meet_on ms all.1 fits.1.1 negative single (member_strings m) outer tt in (
-      more.0,
-      more.1,
-      λ ss. then_more m (further_tokens (meet ∷ []) ms) ss (bracket_of negative empty false ∷ outer)
-          ∙ all.0 negative empty false outer single (operand_of m fits.1.0 empty) (further_tokens (meet ∷ []) ms ++ ss) ∙ more.2 ss,
-    )
-contents_on Subtraction (member m ms) all fits negative outer =
-    let more = less_on ms all.1 fits.1.1 negative single (member_strings m) outer tt in (
-      more.0,
-      more.1,
-      λ ss. then_more m (further_tokens (less ∷ []) ms) ss (bracket_of negative empty false ∷ outer)
-          ∙ all.0 negative empty false outer single (operand_of m fits.1.0 empty) (further_tokens (less ∷ []) ms ++ ss) ∙ more.2 ss,
-    )
+contents_on Intersection (member m ms) all fits negative outer = operands_on set.Intersection m ms all fits.1 negative outer
+contents_on Subtraction (member m ms) all fits negative outer = operands_on set.Subtraction m ms all fits.1 negative outer
 
 may_close_now : (held : Held) (negative may : Bool) → is_whole held ≡ true → (negative && may) ≡ false → (is_whole held && not (negative && may)) ≡ true
 may_close_now held negative may w n = and_from (is_whole held) (not (negative && may)) w (ap not n)
@@ -446,23 +395,20 @@ union_early (member m ms) all negative held may outer g ss end h =
     let first = all.0 negative held may outer several (more_after m held g) (further_tokens [] ms ++ ss) end (sym (then_more m (further_tokens [] ms) ss (bracket_of negative held may ∷ outer)) ∙ h) in
     (first.0, union_early ms all.1 negative several (with_strings held may (member_strings m)) outer tt ss end first.1)
 
-meet_early : (ms : Members) → AllEarly ms → AreOperands ms → (negative : Bool) (held : Held) (may : Bool) (outer : Brackets) → IsMeeting held → (ss : List ClassToken) (end : Brackets) →
-    class_run (further_tokens (meet ∷ []) ms ++ ss) (bracket_of negative held may ∷ outer) ≡ Some end → AreEarlyMembers ms
-meet_early no_member all os negative held may outer g ss end h = tt
-meet_early (member m ms) all os negative held may outer g ss end h =
-    let first = all.0 negative meeting may outer met (operand_of m os.0 meeting) (further_tokens (meet ∷ []) ms ++ ss) end
-    (sym (goes ((operand_tokens m ++ further_tokens (meet ∷ []) ms) ++ ss) (held_by (bracket_of negative held may) outer (met_by held) meeting (meets held g))
-    ∙ then_more m (further_tokens (meet ∷ []) ms) ss (bracket_of negative meeting may ∷ outer)) ∙ h) in
-    (first.0, meet_early ms all.1 os.1 negative met (may && member_strings m) outer tt ss end first.1)
+joined_early : (o : SetOperator) (ms : Members) → AllEarly ms → AreOperands ms → (negative : Bool) (held : Held) (may : Bool) (outer : Brackets) → IsJoining o held → (ss : List ClassToken) (end : Brackets) →
+    class_run (further_tokens (operator o ∷ []) ms ++ ss) (bracket_of negative held may ∷ outer) ≡ Some end → AreEarlyMembers ms
+joined_early o no_member all os negative held may outer j ss end h = tt
+joined_early o (member m ms) all os negative held may outer j ss end h =
+    let ts = further_tokens (operator o ∷ []) ms in
+    let first = all.0 negative (pending o) may outer (joined o) (operand_of m os.0 (pending o)) (ts ++ ss) end (sym (then_operand o m ts ss negative held may outer j) ∙ h) in
+    (first.0, joined_early o ms all.1 os.1 negative (joined o) (with_strings (pending o) may (member_strings m)) outer refl ss end first.1)
 
-less_early : (ms : Members) → AllEarly ms → AreOperands ms → (negative : Bool) (held : Held) (may : Bool) (outer : Brackets) → IsLessening held → (ss : List ClassToken) (end : Brackets) →
-    class_run (further_tokens (less ∷ []) ms ++ ss) (bracket_of negative held may ∷ outer) ≡ Some end → AreEarlyMembers ms
-less_early no_member all os negative held may outer g ss end h = tt
-less_early (member m ms) all os negative held may outer g ss end h =
-    let first = all.0 negative lessening may outer lessened (operand_of m os.0 lessening) (further_tokens (less ∷ []) ms ++ ss) end
-    (sym (goes ((operand_tokens m ++ further_tokens (less ∷ []) ms) ++ ss) (held_by (bracket_of negative held may) outer (less_by held) lessening (lessens held g))
-    ∙ then_more m (further_tokens (less ∷ []) ms) ss (bracket_of negative lessening may ∷ outer)) ∙ h) in
-    (first.0, less_early ms all.1 os.1 negative lessened may outer tt ss end first.1)
+operands_early : (o : SetOperator) (m : Member) (ms : Members) → AllEarly (member m ms) → AreOperands (member m ms) → (negative : Bool) (outer : Brackets) (ss : List ClassToken) (end : Brackets) →
+    class_run (contents_tokens (operator o ∷ []) (member m ms) ++ ss) (bracket_of negative empty false ∷ outer) ≡ Some end → AreEarlyMembers (member m ms)
+operands_early o m ms all os negative outer ss end h =
+    let ts = further_tokens (operator o ∷ []) ms in
+    let first = all.0 negative empty false outer single (operand_of m os.0 empty) (ts ++ ss) end (sym (then_more m ts ss (bracket_of negative empty false ∷ outer)) ∙ h) in
+    (first.0, joined_early o ms all.1 os.1 negative single (member_strings m) outer tt ss end first.1)
 
 contents_early : (kind : CharacterClassContentsKind) (ms : Members) → AllEarly ms → FitsKind kind ms → (negative : Bool) (outer : Brackets) (ss : List ClassToken) (end : Brackets) →
     class_run (contents_tokens (between_by kind) ms ++ ss) (bracket_of negative empty false ∷ outer) ≡ Some end → AreEarlyMembers ms
@@ -473,14 +419,8 @@ contents_early Union (member m ms) all fits negative outer ss end h =
     let f = first_after m in
     let first = all.0 negative empty false outer f.0 f.1 (further_tokens [] ms ++ ss) end (sym (then_more m (further_tokens [] ms) ss (bracket_of negative empty false ∷ outer)) ∙ h) in
     (first.0, union_early ms all.1 negative f.0 (member_strings m) outer f.2 ss end first.1)
-contents_early Intersection (member m ms) all fits negative outer ss end h =
-    let first = all.0 negative empty false outer single (operand_of m fits.1.0 empty) (further_tokens (meet ∷ []) ms ++ ss) end
-    (sym (then_more m (further_tokens (meet ∷ []) ms) ss (bracket_of negative empty false ∷ outer)) ∙ h) in
-    (first.0, meet_early ms all.1 fits.1.1 negative single (member_strings m) outer tt ss end first.1)
-contents_early Subtraction (member m ms) all fits negative outer ss end h =
-    let first = all.0 negative empty false outer single (operand_of m fits.1.0 empty) (further_tokens (less ∷ []) ms ++ ss) end
-    (sym (then_more m (further_tokens (less ∷ []) ms) ss (bracket_of negative empty false ∷ outer)) ∙ h) in
-    (first.0, less_early ms all.1 fits.1.1 negative single (member_strings m) outer tt ss end first.1)
+contents_early Intersection (member m ms) all fits negative outer ss end h = operands_early set.Intersection m ms all fits.1 negative outer ss end h
+contents_early Subtraction (member m ms) all fits negative outer ss end h = operands_early set.Subtraction m ms all fits.1 negative outer ss end h
 
 rest_early : (negative may : Bool) (kind : CharacterClassContentsKind) (ms : Members) (outer : Brackets) → AllEarly ms → AreFitting ms → FitsKind kind ms → may ≡ may_contain_strings kind ms → (ss : List ClassToken) (end : Brackets) →
     class_run ((contents_tokens (between_by kind) ms ++ (closer ∷ [])) ++ ss) (bracket_of negative empty false ∷ outer) ≡ Some end → ((negative && may) ≡ false) × AreEarlyMembers ms

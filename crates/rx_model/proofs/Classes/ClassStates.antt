@@ -1,13 +1,15 @@
 -- Which brackets are open where rows of a class's tokens lead: rows of one class, and rows of a class that is nested in one.
 use Rattle.std.proofs.Common.{◌≡◌, refl, ap, sym, ◌∙◌, subst, ◌+◌, ◌≤◌, ◌&&◌, Bool, true, false, not, Option, Some, None, List, [], ◌∷◌, ◌++◌, length, nat_le, arith, length-append}
 use Rattle.std.proofs.lemmas.Bool.{true≢false}
+use Rattle.rx_base.specs.declared.diagnostic.kinds.SetOperator.{SetOperator}
+use Rattle.rx_base.specs.declared.diagnostic.kinds.SetOperator.TheVariants.{Intersection, Subtraction}
 use Rattle.rx_units.specs.declared.code_point.CodePoint.{CodePoint}
 use Rattle.rx_units.specs.Units.{values}
 use Rattle.rx_units.proofs.Choices.{Some-inj, is_none}
 use Rattle.rx_model.specs.declared.mode.Mode.{Mode}
-use Rattle.rx_model.specs.Classes.ClassRows.{ClassTokenRow, Place, SpellsInClass, outside, fresh, at_dash, at_high, at_second, at_third, after_meet, after_less, in_strings, next_place, following_item, has_threes, is_dashed}
-use Rattle.rx_model.specs.Classes.ClassRuns.{Held, empty, single, several, meeting, met, lessening, lessened, Bracket, Brackets, any_string, atom_may, atom_obeys, after_step, bracket_of, class_opened, class_run, class_step, closed, held_on, holding, is_union, is_whole, less_by, may_close, may_follow, met_by, operand, ranged, takes_operand, where_may, where_true, with_strings}
-use Rattle.rx_model.specs.Classes.ClassTokens.{ClassToken, bracket, closer, item, low, dash, high, meet, less, strings, letter, string_bar, strings_end}
+use Rattle.rx_model.specs.Classes.ClassRows.{ClassTokenRow, Place, SpellsInClass, outside, fresh, at_dash, at_high, at_second, at_third, after_operator, in_strings, next_place, following_item, has_threes, is_dashed}
+use Rattle.rx_model.specs.Classes.ClassRuns.{Held, empty, single, several, pending, joined, Bracket, Brackets, any_string, atom_may, atom_obeys, after_step, bracket_of, class_opened, class_run, class_step, closed, held_on, holding, is_union, is_whole, may_close, may_follow, operand, ranged, takes_operand, where_may, where_true, with_operator, with_strings}
+use Rattle.rx_model.specs.Classes.ClassTokens.{ClassToken, bracket, closer, item, low, dash, high, operator, strings, letter, string_bar, strings_end}
 use Rattle.rx_model.specs.Inputs.Environment.{Environment, is_sets}
 
 -- After the class no token stands.
@@ -71,56 +73,33 @@ operand_whole : (h k : Held) → operand h ≡ Some k → is_whole k ≡ true
 operand_whole empty k e = let s : single ≡ k = Some-inj e in ap is_whole (sym s)
 operand_whole single k e = let s : several ≡ k = Some-inj e in ap is_whole (sym s)
 operand_whole several k e = let s : several ≡ k = Some-inj e in ap is_whole (sym s)
-operand_whole meeting k e = let s : met ≡ k = Some-inj e in ap is_whole (sym s)
-operand_whole met k e = absurd (let no : ⊥ = cc e in no)
-operand_whole lessening k e = let s : lessened ≡ k = Some-inj e in ap is_whole (sym s)
-operand_whole lessened k e = absurd (let no : ⊥ = cc e in no)
+operand_whole (pending o) k e = let s : joined o ≡ k = Some-inj e in ap is_whole (sym s)
+operand_whole (joined o) k e = absurd (let no : ⊥ = cc e in no)
 
 pub operand_union : (h k : Held) → is_union h ≡ true → operand h ≡ Some k → is_union k ≡ true
 operand_union empty k u e = let s : single ≡ k = Some-inj e in ap is_union (sym s)
 operand_union single k u e = let s : several ≡ k = Some-inj e in ap is_union (sym s)
 operand_union several k u e = let s : several ≡ k = Some-inj e in ap is_union (sym s)
-operand_union meeting k u e = absurd (let no : ⊥ = cc u in no)
-operand_union met k u e = absurd (let no : ⊥ = cc u in no)
-operand_union lessening k u e = absurd (let no : ⊥ = cc u in no)
-operand_union lessened k u e = absurd (let no : ⊥ = cc u in no)
+operand_union held k u e = absurd (let no : ⊥ = cc u in no)
 
 ranged_several : (h k : Held) → ranged h ≡ Some k → k ≡ several
 ranged_several empty k e = sym (Some-inj e)
 ranged_several single k e = sym (Some-inj e)
 ranged_several several k e = sym (Some-inj e)
-ranged_several meeting k e = absurd (let no : ⊥ = cc e in no)
-ranged_several met k e = absurd (let no : ⊥ = cc e in no)
-ranged_several lessening k e = absurd (let no : ⊥ = cc e in no)
-ranged_several lessened k e = absurd (let no : ⊥ = cc e in no)
+ranged_several held k e = absurd (let no : ⊥ = cc e in no)
 
-met_is : (h k : Held) → met_by h ≡ Some k → k ≡ meeting
-met_is empty k e = absurd (let no : ⊥ = cc e in no)
-met_is single k e = sym (Some-inj e)
-met_is several k e = absurd (let no : ⊥ = cc e in no)
-met_is meeting k e = absurd (let no : ⊥ = cc e in no)
-met_is met k e = sym (Some-inj e)
-met_is lessening k e = absurd (let no : ⊥ = cc e in no)
-met_is lessened k e = absurd (let no : ⊥ = cc e in no)
-
-less_is : (h k : Held) → less_by h ≡ Some k → k ≡ lessening
-less_is empty k e = absurd (let no : ⊥ = cc e in no)
-less_is single k e = sym (Some-inj e)
-less_is several k e = absurd (let no : ⊥ = cc e in no)
-less_is meeting k e = absurd (let no : ⊥ = cc e in no)
-less_is met k e = absurd (let no : ⊥ = cc e in no)
-less_is lessening k e = absurd (let no : ⊥ = cc e in no)
-less_is lessened k e = sym (Some-inj e)
+operator_pending : (o : SetOperator) (h k : Held) → with_operator o h ≡ Some k → k ≡ pending o
+operator_pending o single k e = sym (Some-inj e)
+operator_pending Intersection (joined Intersection) k e = sym (Some-inj e)
+operator_pending Subtraction (joined Subtraction) k e = sym (Some-inj e)
+operator_pending o held k e = absurd (let no : ⊥ = cc e in no)
 
 -- Some thing more may be held.
 pub union_more : (h : Held) → is_union h ≡ true → (takes_operand h ≡ true) × ((k : Held) × (ranged h ≡ Some k))
 union_more empty u = (refl, (several, refl))
 union_more single u = (refl, (several, refl))
 union_more several u = (refl, (several, refl))
-union_more meeting u = absurd (let no : ⊥ = cc u in no)
-union_more met u = absurd (let no : ⊥ = cc u in no)
-union_more lessening u = absurd (let no : ⊥ = cc u in no)
-union_more lessened u = absurd (let no : ⊥ = cc u in no)
+union_more held u = absurd (let no : ⊥ = cc u in no)
 
 -- What the innermost bracket holds at a place, by the token that leads there.
 abbrev pub Fits : Place → Held → Type 0
@@ -130,21 +109,14 @@ Fits at_dash held = Unit {0}
 Fits at_high held = Unit {0}
 Fits at_second held = Unit {0}
 Fits at_third held = Unit {0}
-Fits after_meet held = held ≡ meeting
-Fits after_less held = held ≡ lessening
+Fits (after_operator o) held = held ≡ pending o
 Fits in_strings held = Unit {0}
 
 fits_after_item : (q : Place) (first : Bool) (held : Held) → is_whole held ≡ true → Fits (following_item q first) held
 fits_after_item fresh true held h = tt
 fits_after_item fresh false held h = h
 fits_after_item at_second first held h = tt
-fits_after_item at_third first held h = h
-fits_after_item outside first held h = h
-fits_after_item at_dash first held h = h
-fits_after_item at_high first held h = h
-fits_after_item after_meet first held h = h
-fits_after_item after_less first held h = h
-fits_after_item in_strings first held h = h
+fits_after_item q first held h = h
 
 grown_whole : (h : Held) (outer : Brackets) (c : Bracket) (cs : Brackets) → Grown (operand h) outer (c ∷ cs) → is_whole c.held ≡ true
 grown_whole h outer c cs g = ap is_whole (inner_is g.held outer c cs g.holds) ∙ operand_whole h g.held g.is
@@ -168,8 +140,8 @@ step_fits mode q dash rest b bs c cs h = tt
 step_fits mode q (high k v) rest b bs c cs h =
     let g = holding_is b bs false (ranged b.held) (c ∷ cs) (where_true_is (nat_le b.low_end v && nat_le v 0x10FFFF) (holding b bs false (ranged b.held)) (c ∷ cs) h) in
     ap is_whole (inner_is g.held bs c cs g.holds ∙ ranged_several b.held g.held g.is)
-step_fits mode q meet rest b bs c cs h = let g = held_on_is b bs (met_by b.held) (c ∷ cs) h in inner_is g.held bs c cs g.holds ∙ met_is b.held g.held g.is
-step_fits mode q less rest b bs c cs h = let g = held_on_is b bs (less_by b.held) (c ∷ cs) h in inner_is g.held bs c cs g.holds ∙ less_is b.held g.held g.is
+step_fits mode q (operator o) rest b bs c cs h =
+    let g = held_on_is b bs (with_operator o b.held) (c ∷ cs) h in inner_is g.held bs c cs g.holds ∙ operator_pending o b.held g.held g.is
 step_fits mode q strings rest b bs c cs h = tt
 step_fits mode q (letter k v) rest b bs c cs h = tt
 step_fits mode q string_bar rest b bs c cs h = tt
@@ -226,8 +198,7 @@ step_alone e n fresh inside (low k v) w rest b c cs s h u =
     alone_by b.held [] c cs refl u (record { it = record b { low_end = v }; held_is = refl; are = same })
 step_alone e n fresh inside (bracket negative) w rest b c cs s h u = absurd (true≢false (sym s.0 ∙ n))
 step_alone e n fresh inside strings w rest b c cs s h u = absurd (true≢false (sym s.0 ∙ n))
-step_alone e n fresh inside meet w rest b c cs s h u = absurd (true≢false (sym s.0 ∙ n))
-step_alone e n fresh inside less w rest b c cs s h u = absurd (true≢false (sym s.0 ∙ n))
+step_alone e n fresh inside (operator o) w rest b c cs s h u = absurd (true≢false (sym s.0 ∙ n))
 step_alone e n at_dash inside dash w rest b c cs s h u = alone_by b.held [] c cs refl u (record { it = b; held_is = refl; are = Some-inj h })
 step_alone e n at_high inside (high k v) w rest b c cs s h u =
     let g = holding_is b [] false (ranged b.held) (c ∷ cs) (where_true_is (nat_le b.low_end v && nat_le v 0x10FFFF) (holding b [] false (ranged b.held)) (c ∷ cs) h) in
@@ -236,8 +207,7 @@ step_alone e n at_second inside (item a) w rest b c cs s h u =
     alone_operand b c cs u (holding_is b [] (atom_may a) (operand b.held) (c ∷ cs) (where_true_is (atom_obeys a) (holding b [] (atom_may a) (operand b.held)) (c ∷ cs) h))
 step_alone e n at_third inside (item a) w rest b c cs s h u =
     alone_operand b c cs u (holding_is b [] (atom_may a) (operand b.held) (c ∷ cs) (where_true_is (atom_obeys a) (holding b [] (atom_may a) (operand b.held)) (c ∷ cs) h))
-step_alone e n after_meet inside t w rest b c cs s h u = absurd (true≢false (sym s.0 ∙ n))
-step_alone e n after_less inside t w rest b c cs s h u = absurd (true≢false (sym s.0 ∙ n))
+step_alone e n (after_operator o) inside t w rest b c cs s h u = absurd (true≢false (sym s.0 ∙ n))
 step_alone e n in_strings inside t w rest b c cs s h u = absurd (true≢false (sym s.0 ∙ n))
 step_alone e n q inside t w rest b c cs s h u = absurd s
 
@@ -249,15 +219,11 @@ row_alone e n (t ∷ ts) q inside us r rest b c cs row run u =
     let a = step_alone e n q inside t row.0 row.1 b s.inner s.outer row.3 s.first u in
     row_alone e n ts (next_place e.mode q t row.1) (after_inside e.mode q t row.1) row.1 r rest s.inner c cs row.4 (ap (λ outer. class_run ts (s.inner ∷ outer)) (sym a.alone) ∙ s.others) a.union
 
-opened_alone : (e : Environment) → is_sets e.mode ≡ false → (ts : List ClassToken) (us : List CodePoint) (r : Place) (rest : List CodePoint) (c : Bracket) (cs : Brackets) → ClassTokenRow e ts outside us r rest →
-    class_opened ts ≡ Some (c ∷ cs) → IsAlone c cs
-opened_alone e n [] us r rest c cs row h = absurd (let no : ⊥ = cc h in no)
-opened_alone e n ((bracket negative) ∷ ts) us r rest c cs row h = row_alone e n ts fresh (λ no. cc no) row.1 r rest (bracket_of negative empty false) c cs row.4 h refl
-opened_alone e n (t ∷ ts) us r rest c cs row h = absurd (let no : ⊥ = cc h in no)
-
 pub opened_union : (e : Environment) → is_sets e.mode ≡ false → (ts : List ClassToken) (us : List CodePoint) (r : Place) (rest : List CodePoint) (c : Bracket) (cs : Brackets) → ClassTokenRow e ts outside us r rest →
     class_opened ts ≡ Some (c ∷ cs) → is_union c.held ≡ true
-opened_union e n ts us r rest c cs row h = (opened_alone e n ts us r rest c cs row h).union
+opened_union e n [] us r rest c cs row h = absurd (let no : ⊥ = cc h in no)
+opened_union e n ((bracket negative) ∷ ts) us r rest c cs row h = (row_alone e n ts fresh (λ no. cc no) row.1 r rest (bracket_of negative empty false) c cs row.4 h refl).union
+opened_union e n (t ∷ ts) us r rest c cs row h = absurd (let no : ⊥ = cc h in no)
 
 -- Nor do class strings stand in it.
 not_in_strings : (q : Place) (first : Bool) → following_item q first ≡ in_strings → ⊥
@@ -272,19 +238,15 @@ no_strings_after e n q (item a) w rest s h = not_in_strings q (is_dashed (values
 no_strings_after e n q (low k v) w rest s h = cc h
 no_strings_after e n q dash w rest s h = cc h
 no_strings_after e n q (high k v) w rest s h = cc h
-no_strings_after e n q meet w rest s h = cc h
-no_strings_after e n q less w rest s h = cc h
+no_strings_after e n q (operator o) w rest s h = cc h
 no_strings_after e n fresh strings w rest s h = true≢false (sym s.0 ∙ n)
-no_strings_after e n after_meet strings w rest s h = true≢false (sym s.0 ∙ n)
-no_strings_after e n after_less strings w rest s h = true≢false (sym s.0 ∙ n)
+no_strings_after e n (after_operator o) strings w rest s h = true≢false (sym s.0 ∙ n)
 no_strings_after e n in_strings strings w rest s h = true≢false (sym s.0 ∙ n)
 no_strings_after e n q strings w rest s h = absurd s
-no_strings_after e n after_meet (letter k v) w rest s h = true≢false (sym s.0 ∙ n)
-no_strings_after e n after_less (letter k v) w rest s h = true≢false (sym s.0 ∙ n)
+no_strings_after e n (after_operator o) (letter k v) w rest s h = true≢false (sym s.0 ∙ n)
 no_strings_after e n in_strings (letter k v) w rest s h = true≢false (sym s.0 ∙ n)
 no_strings_after e n q (letter k v) w rest s h = absurd s
-no_strings_after e n after_meet string_bar w rest s h = true≢false (sym s.0 ∙ n)
-no_strings_after e n after_less string_bar w rest s h = true≢false (sym s.0 ∙ n)
+no_strings_after e n (after_operator o) string_bar w rest s h = true≢false (sym s.0 ∙ n)
 no_strings_after e n in_strings string_bar w rest s h = true≢false (sym s.0 ∙ n)
 no_strings_after e n q string_bar w rest s h = absurd s
 no_strings_after e n q strings_end w rest s h = cc h
@@ -336,8 +298,7 @@ step_in dash b bs outer m ms h = ap (λ cs. around cs outer) (Some-inj h)
 step_in (high k v) b bs outer m ms h =
     where_true_in (nat_le b.low_end v && nat_le v 0x10FFFF) (holding b bs false (ranged b.held)) (m ∷ ms) h (holding b (bs ++ outer) false (ranged b.held))
     ∙ holding_in b bs outer false (ranged b.held) (m ∷ ms) (where_true_is (nat_le b.low_end v && nat_le v 0x10FFFF) (holding b bs false (ranged b.held)) (m ∷ ms) h)
-step_in meet b bs outer m ms h = held_on_in b bs outer (met_by b.held) (m ∷ ms) h
-step_in less b bs outer m ms h = held_on_in b bs outer (less_by b.held) (m ∷ ms) h
+step_in (operator o) b bs outer m ms h = held_on_in b bs outer (with_operator o b.held) (m ∷ ms) h
 step_in strings b bs outer m ms h =
     where_may_in (operand b.held) (record b { count = 0; any = false } ∷ bs) (m ∷ ms) h (record b { count = 0; any = false } ∷ (bs ++ outer))
     ∙ ap (λ cs. around cs outer) (where_may_is (operand b.held) (record b { count = 0; any = false } ∷ bs) (m ∷ ms) h)
@@ -367,8 +328,7 @@ none_follows (item a) r outer h = ap (λ o. where_true (atom_obeys a) (holding r
 none_follows (low k v) r outer h = ap (λ o. where_may o (record r { low_end = v } ∷ outer)) (is_none (ranged r.held) h)
 none_follows dash r outer h = absurd (true≢false h)
 none_follows (high k v) r outer h = ap (λ o. where_true (nat_le r.low_end v && nat_le v 0x10FFFF) (holding r outer false o)) (is_none (ranged r.held) h) ∙ none_true (nat_le r.low_end v && nat_le v 0x10FFFF)
-none_follows meet r outer h = ap (held_on r outer) (is_none (met_by r.held) h)
-none_follows less r outer h = ap (held_on r outer) (is_none (less_by r.held) h)
+none_follows (operator o) r outer h = ap (held_on r outer) (is_none (with_operator o r.held) h)
 none_follows strings r outer h = ap (λ o. where_may o (record r { count = 0; any = false } ∷ outer)) (is_none (operand r.held) h)
 none_follows (letter k v) r outer h = absurd (true≢false h)
 none_follows string_bar r outer h = absurd (true≢false h)

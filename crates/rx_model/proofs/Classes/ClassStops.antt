@@ -5,17 +5,18 @@ use Rattle.std.proofs.lemmas.Bool.Decides.{nat_tests}
 use Rattle.std.proofs.lemmas.List.{map-append}
 use Rattle.rx_base.specs.declared.diagnostic.Diagnostic.{Diagnostic}
 use Rattle.rx_base.specs.declared.diagnostic.Diagnostic.TheVariants.{InvalidClassAtom}
+use Rattle.rx_base.specs.declared.diagnostic.kinds.SetOperator.TheVariants.{Intersection, Subtraction}
 use Rattle.rx_ast.specs.declared.leaf.CharacterKind.{CharacterKind}
 use Rattle.rx_units.specs.declared.code_point.CodePoint.{CodePoint}
 use Rattle.rx_units.specs.Units.{values}
 use Rattle.rx_model.specs.declared.mode.Mode.{Mode}
-use Rattle.rx_model.specs.declared.mode.Mode.TheVariants.{Legacy, Unicode, Sets}
+use Rattle.rx_model.specs.declared.mode.Mode.TheVariants.{Legacy, Unicode}
 use Rattle.rx_model.specs.Refusals.ClassCauses.{StandsRange}
 use Rattle.rx_model.specs.Refusals.ClassPlaces.{begins_item}
 use Rattle.rx_model.specs.Classes.ClassFronts.{atom_at, atom_read, no_atom}
-use Rattle.rx_model.specs.Classes.ClassRows.{next_place, ClassTokenRow, Place, SpellsAtom, SpellsBracket, SpellsClassCharacter, SpellsInClass, SpellsOperand, at_dash, at_high, at_second, at_third, after_less, after_meet, fresh, has_threes, in_strings, is_dashed, outside}
+use Rattle.rx_model.specs.Classes.ClassRows.{next_place, ClassTokenRow, Place, SpellsAtom, SpellsBracket, SpellsClassCharacter, SpellsInClass, SpellsOperand, at_dash, at_high, at_second, at_third, after_operator, fresh, has_threes, in_strings, is_dashed, outside}
 use Rattle.rx_model.specs.Classes.ClassRuns.{Bracket, Brackets, Held, atom_may, after_step, class_run, class_step, closed, holding, is_union, may_close, operand, ranged, where_may, where_true}
-use Rattle.rx_model.specs.Classes.ClassTokens.{Atom, character, escape, property, is_character, ClassToken, bracket, closer, item, low, dash, high, meet, less, strings, letter, string_bar, strings_end}
+use Rattle.rx_model.specs.Classes.ClassTokens.{Atom, character, escape, property, is_character, ClassToken, bracket, closer, item, low, dash, high, operator, strings, letter, string_bar, strings_end}
 use Rattle.rx_model.specs.Inputs.Environment.{Environment, is_sets, is_unicode}
 use Rattle.rx_model.specs.FirstPass.Marks.{starts}
 use Rattle.rx_model.specs.Properties.PropertyForms.{begins_property}
@@ -39,9 +40,7 @@ is_between at_dash = false
 is_between at_high = false
 is_between at_second = false
 is_between at_third = false
-is_between after_meet = true
-is_between after_less = true
-is_between in_strings = true
+is_between q = true
 
 -- No row leads on from this place to another of its kind, or to the end of the class, that the brackets allow.
 abbrev pub IsBlockedItem : Environment → Place → Brackets → List CodePoint → Type 0
@@ -58,31 +57,18 @@ dead_blocked e at brackets rest dead t ts q back after between row run =
 
 pub item_between : (q : Place) → begins_item q ≡ true → is_between q ≡ true
 item_between fresh h = refl
-item_between after_meet h = refl
-item_between after_less h = refl
-item_between outside h = absurd (true≢false (sym h))
-item_between at_dash h = absurd (true≢false (sym h))
-item_between at_high h = absurd (true≢false (sym h))
-item_between at_second h = absurd (true≢false (sym h))
-item_between at_third h = absurd (true≢false (sym h))
-item_between in_strings h = absurd (true≢false (sym h))
+item_between (after_operator o) h = refl
+item_between q h = absurd (true≢false (sym h))
 
 -- A union is at its places alone.
 pub fresh_union : (q : Place) (held : Held) → begins_item q ≡ true → Fits q held → is_union held ≡ true → q ≡ fresh
 fresh_union fresh held h f u = refl
-fresh_union after_meet held h f u = absurd (true≢false (sym u ∙ ap is_union f))
-fresh_union after_less held h f u = absurd (true≢false (sym u ∙ ap is_union f))
-fresh_union outside held h f u = absurd (true≢false (sym h))
-fresh_union at_dash held h f u = absurd (true≢false (sym h))
-fresh_union at_high held h f u = absurd (true≢false (sym h))
-fresh_union at_second held h f u = absurd (true≢false (sym h))
-fresh_union at_third held h f u = absurd (true≢false (sym h))
-fresh_union in_strings held h f u = absurd (true≢false (sym h))
+fresh_union (after_operator o) held h f u = absurd (true≢false (sym u ∙ ap is_union f))
+fresh_union q held h f u = absurd (true≢false (sym h))
 
 pub no_threes : (mode : Mode) → is_unicode mode ≡ true → has_threes mode ≡ false
 no_threes Legacy h = absurd (true≢false (sym h))
-no_threes Unicode h = refl
-no_threes Sets h = refl
+no_threes mode h = refl
 
 -- What is spelled between items, or in class strings.
 data Spelled (e : Environment) (t : ClassToken) (w more : List CodePoint) : Type 0 where
@@ -113,10 +99,9 @@ spelled_there e fresh (item a) w more between s = by_atom a (inl refl) s.0
 spelled_there e fresh (low k v) w more between s = by_atom (character k v) (inr refl) s.0
 spelled_there e fresh (bracket negative) w more between s = operand_spelled e (bracket negative) w more s.0 s.1
 spelled_there e fresh strings w more between s = operand_spelled e strings w more s.0 s.1
-spelled_there e fresh meet w more between s = by_other 38 (38 ∷ []) s.1 refl
-spelled_there e fresh less w more between s = by_less s.0 s.1
-spelled_there e after_meet t w more between s = operand_spelled e t w more s.0 s.1
-spelled_there e after_less t w more between s = operand_spelled e t w more s.0 s.1
+spelled_there e fresh (operator Intersection) w more between s = by_other 38 (38 ∷ []) s.1 refl
+spelled_there e fresh (operator Subtraction) w more between s = by_less s.0 s.1
+spelled_there e (after_operator o) t w more between s = operand_spelled e t w more s.0 s.1
 spelled_there e in_strings (letter k v) w more between s = by_atom (character k v) (inr refl) s.1
 spelled_there e in_strings string_bar w more between s = by_other 124 [] s.1 refl
 spelled_there e in_strings strings_end w more between s = by_other 125 [] s.1 refl
@@ -229,13 +214,13 @@ module _ (mode : Mode) (us : List CodePoint) (start added : ℕ) where
       by (by_other c x k other) = none_other 45 c (same_unit rest w more 45 c v x h whole k) other refl
 
   -- Before a third `&`.
-  pub third_dead : (inner : Bracket) (outer : Brackets) (unit : CodePoint) (rest : List CodePoint) → unit.value ≡ 38 → IsDead here after_meet (inner ∷ outer) (unit ∷ rest)
-  third_dead inner outer unit rest is t w more whole s = absurd (by (spelled_there here after_meet t w more refl s))
+  pub third_dead : (inner : Bracket) (outer : Brackets) (unit : CodePoint) (rest : List CodePoint) → unit.value ≡ 38 → IsDead here (after_operator Intersection) (inner ∷ outer) (unit ∷ rest)
+  third_dead inner outer unit rest is t w more whole s = absurd (by (spelled_there here (after_operator Intersection) t w more refl s))
     where
       some : (c : ℕ) (v : List ℕ) → values w ≡ c ∷ v → ⊥
       some c v h =
           let same = same_unit (unit ∷ rest) w more unit.value c (values rest) v refl whole h in
-          true≢false (ap (λ c. c == 38) (sym is ∙ same) ∙ ap (starts 38) (sym h) ∙ s.2)
+          true≢false (sym (ap not (ap (λ c. c == 38) (sym is ∙ same) ∙ ap (starts 38) (sym h)) ∙ s.2))
 
       by : Spelled here t w more → ⊥
       by (closes is h) = some 93 [] h
@@ -292,8 +277,7 @@ module _ (mode : Mode) (us : List CodePoint) (start added : ℕ) where
       absurd (no_high high.kind high.value high.w high.more (ap is_character (sym same.atoms)) (let k : rest ≡ high.w ++ high.more = cc there in k) high.spelled)
   lone_dead inner outer a w hyphen rest no_sets s dashed no_third no_high (bracket negative) v more whole k = absurd (true≢false (sym k.0 ∙ no_sets))
   lone_dead inner outer a w hyphen rest no_sets s dashed no_third no_high strings v more whole k = absurd (true≢false (sym k.0 ∙ no_sets))
-  lone_dead inner outer a w hyphen rest no_sets s dashed no_third no_high meet v more whole k = absurd (true≢false (sym k.0 ∙ no_sets))
-  lone_dead inner outer a w hyphen rest no_sets s dashed no_third no_high less v more whole k = absurd (true≢false (sym k.0 ∙ no_sets))
+  lone_dead inner outer a w hyphen rest no_sets s dashed no_third no_high (operator o) v more whole k = absurd (true≢false (sym k.0 ∙ no_sets))
   lone_dead inner outer a w hyphen rest no_sets s dashed no_third no_high t v more whole k = absurd k
 
   -- Without `v` an escape that is refused is to end a range.

@@ -148,11 +148,7 @@ mutual
 -- Nor does what a class owes to the grammar.
 operand_forget : (m : Member) → IsOperand m → IsOperand (forget_member same_kind m)
 operand_forget (tree.range r) h = absurd h
-operand_forget (tree.escape e) h = h
-operand_forget (tree.property p) h = h
-operand_forget (tree.character c) h = h
-operand_forget (tree.nested c) h = h
-operand_forget (tree.strings d) h = h
+operand_forget m h = h
 
 operands_forget : (ms : Members) → AreOperands ms → AreOperands (forget_members same_kind ms)
 operands_forget no_member h = h
@@ -165,8 +161,7 @@ two_forget (member m (member n ms)) h = h
 
 fits_forget : (kind : CharacterClassContentsKind) (ms : Members) → FitsKind kind ms → FitsKind kind (forget_members same_kind ms)
 fits_forget Union ms h = h
-fits_forget Intersection ms h = (two_forget ms h.0, operands_forget ms h.1)
-fits_forget Subtraction ms h = (two_forget ms h.0, operands_forget ms h.1)
+fits_forget kind ms h = (two_forget ms h.0, operands_forget ms h.1)
 
 some_forget : (ss : List ClassString) → ss ≢ [] → map (forget_string same_kind) ss ≢ []
 some_forget [] h k = h refl

@@ -7,7 +7,8 @@ use Rattle.rx_units.specs.declared.code_point.CodePoint.{CodePoint}
 use Rattle.rx_model.specs.declared.mode.Mode.{Mode}
 use Rattle.rx_model.specs.declared.mode.Mode.TheVariants.{Sets}
 use Rattle.rx_model.specs.Classes.ClassRows.{IsClass}
-use Rattle.rx_model.specs.Classes.ClassRuns.{Held, empty, single, several, meeting, met, lessening, lessened, Bracket, Brackets, atom_may, atom_obeys, after_step, bracket_of, class_opened, class_run, class_step, holding, operand, ranged, where_may, where_true, with_strings}
+use Rattle.rx_base.specs.declared.diagnostic.kinds.SetOperator.TheVariants.{Intersection, Subtraction}
+use Rattle.rx_model.specs.Classes.ClassRuns.{Held, empty, single, several, pending, joined, Bracket, Brackets, atom_may, atom_obeys, after_step, bracket_of, class_opened, class_run, class_step, holding, operand, ranged, where_may, where_true, with_strings}
 use Rattle.rx_model.specs.Classes.ClassTokens.{Atom, ClassToken, bracket, item, low, dash, high, class_tokens}
 use Rattle.rx_model.specs.Trees.Early.{IsEarlyClass}
 use Rattle.rx_model.specs.Inputs.Environment.{Environment}
@@ -20,10 +21,7 @@ abbrev pub IsUnion : Held → Type 0
 IsUnion empty = Unit {0}
 IsUnion single = Unit {0}
 IsUnion several = Unit {0}
-IsUnion meeting = ⊥
-IsUnion met = ⊥
-IsUnion lessening = ⊥
-IsUnion lessened = ⊥
+IsUnion held = ⊥
 
 -- It may hold one thing more.
 pub record Grows (more : Option Held) : Type 0 where
@@ -35,28 +33,21 @@ one_operand : (held : Held) → IsUnion held → Grows (operand held)
 one_operand empty u = record { held = single; union = tt; is = refl }
 one_operand single u = record { held = several; union = tt; is = refl }
 one_operand several u = record { held = several; union = tt; is = refl }
-one_operand meeting u = absurd u
-one_operand met u = absurd u
-one_operand lessening u = absurd u
-one_operand lessened u = absurd u
+one_operand held u = absurd u
 
 one_range : (held : Held) → IsUnion held → Grows (ranged held)
 one_range empty u = record { held = several; union = tt; is = refl }
 one_range single u = record { held = several; union = tt; is = refl }
 one_range several u = record { held = several; union = tt; is = refl }
-one_range meeting u = absurd u
-one_range met u = absurd u
-one_range lessening u = absurd u
-one_range lessened u = absurd u
+one_range held u = absurd u
 
 without_strings : (held : Held) → with_strings held false false ≡ false
 without_strings empty = refl
 without_strings single = refl
 without_strings several = refl
-without_strings meeting = refl
-without_strings met = refl
-without_strings lessening = refl
-without_strings lessened = refl
+without_strings (pending Intersection) = refl
+without_strings (pending Subtraction) = refl
+without_strings (joined o) = refl
 
 -- A bracket without strings, around a union, holds one thing more.
 holds_more : (negative : Bool) (held : Held) (v : ℕ) (more : Option Held) (g : Grows more) →

@@ -6,17 +6,18 @@ use Rattle.std.proofs.lemmas.List.{map-append}
 use Rattle.std.proofs.lemmas.List.Elements.{All-append, All-cons, All-nil}
 use Rattle.std.proofs.Math.Bool.{and-false}
 use Rattle.rx_base.specs.declared.diagnostic.Diagnostic.{Diagnostic}
+use Rattle.rx_base.specs.declared.diagnostic.kinds.SetOperator.{SetOperator}
 use Rattle.rx_ast.specs.ClassTree.{Class}
 use Rattle.rx_ast.specs.declared.leaf.CharacterKind.{CharacterKind}
 use Rattle.rx_ast.specs.declared.leaf.CharacterKind.TheVariants as kinds
 use Rattle.rx_units.specs.declared.code_point.CodePoint.{CodePoint}
 use Rattle.rx_units.specs.Units.{values}
 use Rattle.rx_model.specs.declared.mode.Mode.{Mode}
-use Rattle.rx_model.specs.declared.mode.Mode.TheVariants.{Legacy, Unicode, Sets}
+use Rattle.rx_model.specs.declared.mode.Mode.TheVariants.{Legacy}
 use Rattle.rx_model.specs.Classes.ClassFronts.{TokenRead, class_token_at}
-use Rattle.rx_model.specs.Classes.ClassRows.{BeforeHigh, BeforeThird, ClassTokenRow, IsClass, Place, SpellsAtom, SpellsClassCharacter, SpellsInClass, StandsBefore, at_dash, at_high, at_second, at_third, next_place, following_item, after_less, after_meet, fresh, has_threes, in_strings, is_dashed, outside}
-use Rattle.rx_model.specs.Classes.ClassRuns.{Bracket, Brackets, Held, empty, single, several, meeting, met, lessening, lessened, any_string, atom_may, atom_obeys, after_step, bracket_of, class_run, class_step, closed, held_on, holding, is_union, is_whole, less_by, may_close, may_follow, met_by, operand, ranged, takes_operand, where_may, where_true, with_strings}
-use Rattle.rx_model.specs.Classes.ClassTokens.{Atom, ClassToken, bracket, character, closer, dash, escape, high, item, less, letter, low, meet, property, string_bar, strings, strings_end}
+use Rattle.rx_model.specs.Classes.ClassRows.{BeforeHigh, BeforeThird, ClassTokenRow, IsClass, Place, SpellsAtom, SpellsClassCharacter, SpellsInClass, StandsBefore, at_dash, at_high, at_second, at_third, next_place, following_item, after_operator, fresh, has_threes, in_strings, is_dashed, outside}
+use Rattle.rx_model.specs.Classes.ClassRuns.{Bracket, Brackets, Held, empty, single, several, any_string, atom_may, atom_obeys, after_step, bracket_of, class_run, class_step, closed, held_on, holding, is_union, is_whole, with_operator, may_close, may_follow, operand, ranged, takes_operand, where_may, where_true, with_strings}
+use Rattle.rx_model.specs.Classes.ClassTokens.{Atom, ClassToken, bracket, character, closer, dash, escape, high, item, operator, letter, low, property, string_bar, strings, strings_end}
 use Rattle.rx_model.specs.FirstPass.Marks.{starts}
 use Rattle.rx_model.specs.Inputs.Environment.{Environment, is_sets, is_unicode}
 use Rattle.rx_model.specs.Properties.PropertyEscapes as spelled
@@ -40,27 +41,20 @@ use Rattle.rx_model.proofs.Reading.Prefixes.{first_in_class}
 
 threes_legacy : (mode : Mode) → has_threes mode ≡ true → (is_unicode mode ≡ false) × (is_sets mode ≡ false)
 threes_legacy Legacy h = (refl, refl)
-threes_legacy Unicode h = absurd (true≢false (sym h))
-threes_legacy Sets h = absurd (true≢false (sym h))
+threes_legacy mode h = absurd (true≢false (sym h))
 
 -- A range stands in a union alone; a union takes an operand and is one still.
 pub ranged_union : (h k : Held) → ranged h ≡ Some k → is_union h ≡ true
 ranged_union empty k e = refl
 ranged_union single k e = refl
 ranged_union several k e = refl
-ranged_union meeting k e = absurd (let no : ⊥ = cc e in no)
-ranged_union met k e = absurd (let no : ⊥ = cc e in no)
-ranged_union lessening k e = absurd (let no : ⊥ = cc e in no)
-ranged_union lessened k e = absurd (let no : ⊥ = cc e in no)
+ranged_union held k e = absurd (let no : ⊥ = cc e in no)
 
 union_on : (h : Held) → is_union h ≡ true → (k : Held) × (operand h ≡ Some k) × (is_union k ≡ true)
 union_on empty u = (single, refl, refl)
 union_on single u = (several, refl, refl)
 union_on several u = (several, refl, refl)
-union_on meeting u = absurd (true≢false (sym u))
-union_on met u = absurd (true≢false (sym u))
-union_on lessening u = absurd (true≢false (sym u))
-union_on lessened u = absurd (true≢false (sym u))
+union_on held u = absurd (true≢false (sym u))
 
 -- one item more in the innermost bracket
 abbrev item_in : Bracket → Held → Atom → Bracket
@@ -115,8 +109,7 @@ module _ (mode : Mode) (us : List CodePoint) (start added from : ℕ) (at_class 
     begins_range : (k : CharacterKind) (v : ℕ) → SpellsClassCharacter here k v w more → is_dashed (values more) ≡ true → BeforeHigh here more → TokenView q w more (low k v)
     opens : (negative : Bool) → TokenView q w more (bracket negative)
     opens_strings : TokenView q w more strings
-    meets : TokenView q w more meet
-    lessens : TokenView q w more less
+    joins : (o : SetOperator) → TokenView q w more (operator o)
 
   fresh_view : (a : Atom) (w more : List CodePoint) → SpellsAtom here a w more → StandsBefore here a more → TokenView fresh w more (item a)
   fresh_view a w more s (inl d) = one a s (after_one here a more d)
@@ -129,16 +122,11 @@ module _ (mode : Mode) (us : List CodePoint) (start added from : ℕ) (at_class 
   view fresh b (low k v) w more s = begins_range k v s.0 s.1 s.2
   view fresh b (bracket negative) w more s = opens negative
   view fresh b strings w more s = opens_strings
-  view fresh b meet w more s = meets
-  view fresh b less w more s = lessens
-  view after_meet b (item a) w more s = one a s.1 refl
-  view after_meet b (bracket negative) w more s = opens negative
-  view after_meet b strings w more s = opens_strings
-  view after_meet b t w more s = absurd s.1
-  view after_less b (item a) w more s = one a s.1 refl
-  view after_less b (bracket negative) w more s = opens negative
-  view after_less b strings w more s = opens_strings
-  view after_less b t w more s = absurd s.1
+  view fresh b (operator o) w more s = joins o
+  view (after_operator o) b (item a) w more s = one a s.1 refl
+  view (after_operator o) b (bracket negative) w more s = opens negative
+  view (after_operator o) b strings w more s = opens_strings
+  view (after_operator o) b t w more s = absurd s.1
   view outside b t w more s = absurd (true≢false (sym b))
   view at_dash b t w more s = absurd (true≢false (sym b))
   view at_high b t w more s = absurd (true≢false (sym b))
@@ -166,8 +154,7 @@ module _ (mode : Mode) (us : List CodePoint) (start added from : ℕ) (at_class 
   atom_obeys_or (character k v) w more s small = inl (character_obeys k v w more s small)
   atom_obeys_or (escape k) w more s small = inl refl
   atom_obeys_or (property true true name value) w more s small = inr (λ place. property_refused place name value w more s)
-  atom_obeys_or (property true false name value) w more s small = inl refl
-  atom_obeys_or (property false may name value) w more s small = inl refl
+  atom_obeys_or q w more s small = inl refl
 
   legacy_obeys : is_unicode mode ≡ false → (a : Atom) (w more : List CodePoint) → SpellsAtom here a w more → AreSmall (w ++ more) → atom_obeys a ≡ true
   legacy_obeys legacy (character k v) w more s small = character_obeys k v w more s small
@@ -342,13 +329,9 @@ module _ (mode : Mode) (us : List CodePoint) (start added from : ℕ) (at_class 
       bracket_on negative s (Some held) e =
           one_on i small again (bracket negative) w more whole s (bracket_of negative empty false) (i.inner ∷ i.outer) refl (ap (λ o. where_may o (bracket_of negative empty false ∷ i.inner ∷ i.outer)) e)
 
-      meet_on : SpellsInClass here i.at meet w more → (o : Option Held) → met_by i.inner.held ≡ o → StandsClass ⊎ Refused
-      meet_on s None e = token_stuck i small again meet w more whole s (ap is_some e)
-      meet_on s (Some held) e = one_on i small again meet w more whole s (bracket_of i.inner.negative held i.inner.may) i.outer refl (ap (held_on i.inner i.outer) e)
-
-      less_on : SpellsInClass here i.at less w more → (o : Option Held) → less_by i.inner.held ≡ o → StandsClass ⊎ Refused
-      less_on s None e = token_stuck i small again less w more whole s (ap is_some e)
-      less_on s (Some held) e = one_on i small again less w more whole s (bracket_of i.inner.negative held i.inner.may) i.outer refl (ap (held_on i.inner i.outer) e)
+      operator_on : (p : SetOperator) → SpellsInClass here i.at (operator p) w more → (o : Option Held) → with_operator p i.inner.held ≡ o → StandsClass ⊎ Refused
+      operator_on p s None e = token_stuck i small again (operator p) w more whole s (ap is_some e)
+      operator_on p s (Some held) e = one_on i small again (operator p) w more whole s (bracket_of i.inner.negative held i.inner.may) i.outer refl (ap (held_on i.inner i.outer) e)
 
     -- A place in class strings, of a bracket that takes an operand.
     record InStrings (opener place : ℕ) (rest : List CodePoint) : Type 0 where
@@ -448,8 +431,7 @@ module _ (mode : Mode) (us : List CodePoint) (start added from : ℕ) (at_class 
     token_on i small again _ w more whole s (begins_range k v t d b) = range_on i small again w more whole k v s t b (ranged i.inner.held) refl
     token_on i small again _ w more whole s (opens negative) = bracket_on i small again w more whole negative s (operand i.inner.held) refl
     token_on i small again _ w more whole s opens_strings = strings_on i small again w more whole s (operand i.inner.held) refl
-    token_on i small again _ w more whole s meets = meet_on i small again w more whole s (met_by i.inner.held) refl
-    token_on i small again _ w more whole s lessens = less_on i small again w more whole s (less_by i.inner.held) refl
+    token_on i small again _ w more whole s (joins o) = operator_on i small again w more whole o s (with_operator o i.inner.held) refl
 
     item_by : (place : ℕ) (rest : List CodePoint) (i : Item place rest) → AreSmall rest → Again (length rest) → (r : TokenRead) → class_token_at here i.at rest ≡ r → StandsClass ⊎ Refused
     item_by place rest i small again None h =

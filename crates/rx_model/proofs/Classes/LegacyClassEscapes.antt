@@ -6,7 +6,7 @@ use Rattle.rx_units.specs.declared.code_point.CodePoint.{CodePoint}
 use Rattle.rx_units.specs.Units.{values}
 use Rattle.rx_units.proofs.Choices.{both}
 use Rattle.rx_model.specs.declared.mode.Mode.{Mode}
-use Rattle.rx_model.specs.declared.mode.Mode.TheVariants.{Legacy, Unicode, Sets}
+use Rattle.rx_model.specs.declared.mode.Mode.TheVariants.{Legacy}
 use Rattle.rx_model.specs.Classes.ClassFronts.{atom_read, no_atom, atom_at}
 use Rattle.rx_model.specs.Classes.ClassRows.{SpellsAtom}
 use Rattle.rx_model.specs.Classes.ClassTokens.{Atom}
@@ -21,8 +21,7 @@ use Rattle.rx_model.proofs.Refusals.LegacyStops.{atom_after_backslash, no_atom_a
 
 no_hyphen : (mode : Mode) → is_unicode mode ≡ false → (is_hyphen_escaped mode && false) ≡ false
 no_hyphen Legacy l = refl
-no_hyphen Unicode l = absurd (let no : ⊥ = cc l in no)
-no_hyphen Sets l = absurd (let no : ⊥ = cc l in no)
+no_hyphen mode l = absurd (let no : ⊥ = cc l in no)
 
 module _ (e : Environment) (m : is_unicode e.mode ≡ false) where
   -- none begins before a `k` where `\k` is a reference

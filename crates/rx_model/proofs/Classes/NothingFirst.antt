@@ -3,12 +3,13 @@ use Rattle.std.proofs.Common.{◌≡◌, ◌⊎◌, refl, ap, sym, ◌∙◌, su
 use Rattle.std.proofs.lemmas.Bool.{true≢false}
 use Rattle.rx_base.specs.declared.diagnostic.Diagnostic.{Diagnostic}
 use Rattle.rx_base.specs.declared.diagnostic.Diagnostic.TheVariants.{UnterminatedPattern}
+use Rattle.rx_base.specs.declared.diagnostic.kinds.SetOperator.TheVariants.{Intersection}
 use Rattle.rx_base.specs.declared.diagnostic.kinds.Unterminated.TheVariants as what
 use Rattle.rx_ast.specs.declared.leaf.CharacterKind.{CharacterKind}
 use Rattle.rx_units.specs.declared.code_point.CodePoint.{CodePoint}
 use Rattle.rx_units.specs.Units.{values}
 use Rattle.rx_model.specs.declared.mode.Mode.{Mode}
-use Rattle.rx_model.specs.Classes.ClassRows.{ClassTokenRow, Place, SpellsAtom, SpellsInClass, outside, fresh, at_dash, at_high, at_second, at_third, after_meet, after_less, in_strings}
+use Rattle.rx_model.specs.Classes.ClassRows.{ClassTokenRow, Place, SpellsAtom, SpellsInClass, outside, fresh, after_operator, in_strings}
 use Rattle.rx_model.specs.Classes.ClassRuns.{Held, class_opened, is_whole, takes_operand}
 use Rattle.rx_model.specs.Classes.ClassTokens.{Atom, character, closer, item, low, strings, is_character}
 use Rattle.rx_model.specs.Inputs.Environment.{Environment, is_sets}
@@ -42,7 +43,7 @@ module _ (mode : Mode) (us : List CodePoint) (start added from : ℕ) (at_class 
     pub sets : is_sets mode ≡ true
     pub follows : NothingFollows here s.at s.inner.held s.rest
     pub none_refused : (begins_item s.at ≡ true → takes_operand s.inner.held ≡ true) → NoneRefused mode s.rest
-    pub no_third : s.at ≡ after_meet → starts 38 (values s.rest) ≡ false
+    pub no_third : s.at ≡ after_operator Intersection → starts 38 (values s.rest) ≡ false
     pub no_end : IsAfterLow s → (hyphen : CodePoint) (rest : List CodePoint) → s.rest ≡ hyphen ∷ rest → hyphen.value ≡ 45 → (d : Diagnostic) → IsEscapeCause mode us start added (s.place + 1) rest d → ⊥
 
   -- no escape
@@ -71,14 +72,8 @@ module _ (mode : Mode) (us : List CodePoint) (start added from : ℕ) (at_class 
   -- A bracket that may close is where an item may stand after another.
   fresh_whole : (q : Place) (held : Held) → begins_item q ≡ true → Fits q held → is_whole held ≡ true → q ≡ fresh
   fresh_whole fresh held h f w = refl
-  fresh_whole after_meet held h f w = absurd (true≢false (sym w ∙ ap is_whole f))
-  fresh_whole after_less held h f w = absurd (true≢false (sym w ∙ ap is_whole f))
-  fresh_whole outside held h f w = absurd (true≢false (sym h))
-  fresh_whole at_dash held h f w = absurd (true≢false (sym h))
-  fresh_whole at_high held h f w = absurd (true≢false (sym h))
-  fresh_whole at_second held h f w = absurd (true≢false (sym h))
-  fresh_whole at_third held h f w = absurd (true≢false (sym h))
-  fresh_whole in_strings held h f w = absurd (true≢false (sym h))
+  fresh_whole (after_operator o) held h f w = absurd (true≢false (sym w ∙ ap is_whole f))
+  fresh_whole q held h f w = absurd (true≢false (sym h))
 
   -- A bracket that may close goes on with its closer.
   pub closer_follows : (s : State) → Fits s.at s.inner.held → begins_item s.at ≡ true → starts 93 (values s.rest) ≡ true → is_whole s.inner.held ≡ true → NothingFollows here s.at s.inner.held s.rest → ⊥
@@ -137,7 +132,7 @@ module _ (mode : Mode) (us : List CodePoint) (start added from : ℕ) (at_class 
   none_in_strings s sets at_is none _ d (elsewhere (after_range a w hyphen rest at union whole spelled dashed ends c)) = let no : fresh ≡ in_strings = sym at ∙ at_is in cc no
   none_in_strings s sets at_is none _ d (elsewhere (of_range at union r)) = let no : fresh ≡ in_strings = sym at ∙ at_is in cc no
   none_in_strings s sets at_is none _ d (after_dash hyphen rest of_low is_sets whole is c) = let no : fresh ≡ in_strings = sym of_low.at_is ∙ at_is in cc no
-  none_in_strings s sets at_is none _ _ (ampersand unit rest at whole is) = let no : after_meet ≡ in_strings = sym at ∙ at_is in cc no
+  none_in_strings s sets at_is none _ _ (ampersand unit rest at whole is) = let no : after_operator Intersection ≡ in_strings = sym at ∙ at_is in cc no
   none_in_strings s sets at_is none _ _ (closing is_nested begin opens begins shut whole) = true≢false (sym begins ∙ ap begins_item at_is)
 
   -- Class strings that do not end are the first refusal, where no escape is refused.

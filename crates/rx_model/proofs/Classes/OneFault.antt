@@ -7,22 +7,23 @@ use Rattle.std.proofs.Math.Bool.{and-false}
 use Rattle.rx_base.specs.declared.diagnostic.Diagnostic.{Diagnostic}
 use Rattle.rx_base.specs.declared.diagnostic.Diagnostic.TheVariants.{UnterminatedPattern, ClassSetExpressionInvalidCharacter}
 use Rattle.rx_base.specs.declared.diagnostic.kinds.SetOperator.{SetOperator}
+use Rattle.rx_base.specs.declared.diagnostic.kinds.SetOperator.TheVariants.{Intersection, Subtraction}
 use Rattle.rx_base.specs.declared.diagnostic.kinds.Unterminated.TheVariants as what
 use Rattle.rx_units.specs.declared.code_point.CodePoint.{CodePoint}
 use Rattle.rx_units.specs.Units.{values}
 use Rattle.rx_model.specs.declared.mode.Mode.{Mode}
-use Rattle.rx_model.specs.Refusals.ClassCauses.{IsClassCause, of_negative, unterminated}
+use Rattle.rx_model.specs.Refusals.ClassCauses.{of_negative, unterminated}
 use Rattle.rx_model.specs.Refusals.ClassPlaces.{IsOfStrings, begins_item}
-use Rattle.rx_model.specs.Classes.ClassRows.{ClassTokenRow, Place, SpellsAtom, outside, fresh, at_dash, at_high, at_second, at_third, after_meet, after_less, in_strings}
-use Rattle.rx_model.specs.Classes.ClassRuns.{Bracket, Brackets, Held, empty, single, several, meeting, met, lessening, lessened, after_step, bracket_of, class_opened, class_run, class_step, is_union, operand, operator_of, where_may}
-use Rattle.rx_model.specs.Classes.ClassTokens.{Atom, ClassToken, bracket, closer, item, low, dash, high, meet, less, strings, letter, string_bar, strings_end, is_character}
+use Rattle.rx_model.specs.Classes.ClassRows.{ClassTokenRow, Place, SpellsAtom, outside, fresh, at_dash, at_high, at_second, at_third, after_operator, in_strings}
+use Rattle.rx_model.specs.Classes.ClassRuns.{Bracket, Brackets, Held, empty, single, several, after_step, bracket_of, class_opened, class_run, class_step, is_union, operand, operator_of, where_may}
+use Rattle.rx_model.specs.Classes.ClassTokens.{Atom, ClassToken, bracket, strings, is_character}
 use Rattle.rx_model.specs.Inputs.Environment.{Environment, is_sets}
 use Rattle.rx_model.specs.FirstPass.Marks.{starts}
 use Rattle.rx_model.specs.Properties.PropertyForms.{begins_property}
 use Rattle.rx_model.specs.Refusals.EscapeCauses.{IsEscapeCause, IsPropertyCause}
 use Rattle.rx_model.specs.Refusals.Reached.{span_between, class_environment}
 use Rattle.rx_model.specs.Refusals.Stops.{begins_class_escape}
-use Rattle.rx_model.proofs.Classes.ClassFaults.{State, Opens, Strings, Nothing, in_class, no_operand, no_operator, in_class_strings, RangeFault, range_fault, Elsewhere, at_atom, after_range, of_range, Said, elsewhere, after_dash, ampersand, closing, Fault, is_some_token}
+use Rattle.rx_model.proofs.Classes.ClassFaults.{State, Opens, Strings, Nothing, in_class, no_operand, no_operator, in_class_strings, RangeFault, range_fault, Elsewhere, at_atom, after_range, of_range, Said, elsewhere, after_dash, ampersand, closing, is_some_token}
 use Rattle.rx_model.proofs.Classes.ClassStates.{run_in}
 use Rattle.rx_model.proofs.Classes.ClassStops.{AtomFault, bad_escape, in_escape, in_property, backslash_first, no_atom_there, no_item_there, same_atom}
 use Rattle.rx_model.proofs.Classes.RefusedAtoms.{atom_begins, escape_first}
@@ -84,17 +85,7 @@ no_inner t ts inside all b c e h k = by t (ap class_opened (sym e) ∙ h)
   where
     by : (t : ClassToken) → class_opened ((t ∷ ts) ++ inside) ≡ Some (c ∷ []) → ⊥
     by (bracket negative) run = let s = splits ts inside (bracket_of negative empty false ∷ []) (c ∷ []) run in not_alone inside s.middle b c k s.others
-    by closer run = cc run
-    by (item a) run = cc run
-    by (low j v) run = cc run
-    by dash run = cc run
-    by (high j v) run = cc run
-    by meet run = cc run
-    by less run = cc run
-    by strings run = cc run
-    by (letter j v) run = cc run
-    by string_bar run = cc run
-    by strings_end run = cc run
+    by q run = cc run
 
 one_opening : (ts us ss vs : List ClassToken) (b c : Bracket) → ts ++ us ≡ ss ++ vs → class_opened us ≡ Some (b ∷ []) → class_opened vs ≡ Some (c ∷ []) → ts ≡ ss
 one_opening [] us [] vs b c e h k = refl
@@ -123,10 +114,7 @@ pub union_no_operator : (held : Held) (operator : SetOperator) → is_union held
 union_no_operator empty operator u h = cc h
 union_no_operator single operator u h = cc h
 union_no_operator several operator u h = cc h
-union_no_operator meeting operator u h = true≢false (sym u)
-union_no_operator met operator u h = true≢false (sym u)
-union_no_operator lessening operator u h = true≢false (sym u)
-union_no_operator lessened operator u h = true≢false (sym u)
+union_no_operator held operator u h = true≢false (sym u)
 
 -- What is refused: what stands before a `]`, a third `&`, a `-` that begins no range, or elsewhere.
 data Front : Type 0 where
@@ -135,26 +123,26 @@ data Front : Type 0 where
   before_dash : Front
   before_other : Front
 
-abbrev is_meet_place : Place → Bool
-is_meet_place outside = false
-is_meet_place fresh = false
-is_meet_place at_dash = false
-is_meet_place at_high = false
-is_meet_place at_second = false
-is_meet_place at_third = false
-is_meet_place after_meet = true
-is_meet_place after_less = false
-is_meet_place in_strings = false
+abbrev is_after_intersection : Place → Bool
+is_after_intersection outside = false
+is_after_intersection fresh = false
+is_after_intersection at_dash = false
+is_after_intersection at_high = false
+is_after_intersection at_second = false
+is_after_intersection at_third = false
+is_after_intersection (after_operator Intersection) = true
+is_after_intersection (after_operator Subtraction) = false
+is_after_intersection in_strings = false
 
 abbrev front_at : Mode → Place → List ℕ → Front
 front_at mode at w =
-    cond (starts 93 w) before_closer (cond (starts 38 w && is_meet_place at) before_ampersand (cond (starts 45 w && is_sets mode) before_dash before_other))
+    cond (starts 93 w) before_closer (cond (starts 38 w && is_after_intersection at) before_ampersand (cond (starts 45 w && is_sets mode) before_dash before_other))
 
 -- before a unit that is none of these
 front_other : (mode : Mode) (at : Place) (c : ℕ) (w : List ℕ) → at ≡ fresh → (c == 93) ≡ false → (is_sets mode ≡ true → (c == 45) ≡ false) → front_at mode at (c ∷ w) ≡ before_other
 front_other mode at c w is no_closer no_dash =
     cond-false (c == 93) _ _ no_closer
-    ∙ cond-false (c == 38 && is_meet_place at) _ _ (ap (λ at. c == 38 && is_meet_place at) is ∙ and-false (c == 38))
+    ∙ cond-false (c == 38 && is_after_intersection at) _ _ (ap (λ at. c == 38 && is_after_intersection at) is ∙ and-false (c == 38))
     ∙ cond-false (c == 45 && is_sets mode) _ _ (by (is_sets mode) refl)
   where
     by : (b : Bool) → is_sets mode ≡ b → (c == 45 && is_sets mode) ≡ false
@@ -168,14 +156,8 @@ module _ (mode : Mode) (us : List CodePoint) (start added from : ℕ) (at_class 
   abbrev EscapeFault : ℕ → List CodePoint → Diagnostic → Type 0
   EscapeFault = AtomFault mode us start added
 
-  abbrev Cause : ℕ → Diagnostic → Type 0
-  Cause = IsClassCause mode us start added from at_class
-
   abbrev Opened : List ClassToken → Bool → ℕ → Type 0
   Opened = Opens mode us start added from at_class
-
-  abbrev Here : State → ℕ → Diagnostic → Type 0
-  Here = Fault mode us start added from at_class
 
   abbrev Saying : State → ℕ → Diagnostic → Type 0
   Saying = Said mode us start added from at_class

@@ -15,7 +15,7 @@ use Rattle.rx_model.specs.Inputs.Environment.{Environment, is_sets}
 use Rattle.rx_model.specs.FirstPass.Marks.{starts}
 use Rattle.rx_model.specs.Refusals.Firsts.{IsFirstInClass, no_item, yielding}
 use Rattle.rx_model.specs.Refusals.Reached.{span_between, class_environment}
-use Rattle.rx_model.proofs.Classes.ClassFaults.{State, IsStuck, Opens, Nothing, in_class, no_operand, no_operator, in_class_strings, RangeFault, Elsewhere, at_atom, after_range, of_range, Said, elsewhere, after_dash, ampersand, closing, Fault, nothing, said, stuck, value_of}
+use Rattle.rx_model.proofs.Classes.ClassFaults.{State, IsStuck, Nothing, in_class, no_operand, no_operator, in_class_strings, RangeFault, at_atom, after_range, of_range, Said, elsewhere, after_dash, ampersand, closing, Fault, nothing, said, stuck, value_of}
 use Rattle.rx_model.proofs.Classes.ClassStates.{none_in_strings, opened_union}
 use Rattle.rx_model.proofs.Classes.OneFault.{one_nothing, one_said, some_brackets, union_no_operator}
 use Rattle.rx_model.proofs.Classes.ClassWholes.{class_opened-append}
@@ -37,17 +37,11 @@ module _ (mode : Mode) (us : List CodePoint) (start added from : ℕ) (at_class 
   abbrev Cause : ℕ → Diagnostic → Type 0
   Cause = IsClassCause mode us start added from at_class
 
-  abbrev Opened : List ClassToken → Bool → ℕ → Type 0
-  Opened = Opens mode us start added from at_class
-
   abbrev Here : State → ℕ → Diagnostic → Type 0
   Here = Fault mode us start added from at_class
 
   abbrev Saying : State → ℕ → Diagnostic → Type 0
   Saying = Said mode us start added from at_class
-
-  abbrev Other : State → ℕ → Diagnostic → Type 0
-  Other = Elsewhere mode us start added from at_class
 
   abbrev NoItem : State → Diagnostic → Type 0
   NoItem = Nothing mode us start added from at_class

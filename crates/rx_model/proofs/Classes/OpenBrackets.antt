@@ -4,9 +4,9 @@ use Rattle.std.proofs.lemmas.Bool.{true≢false}
 use Rattle.rx_units.specs.declared.code_point.CodePoint.{CodePoint}
 use Rattle.rx_units.proofs.Choices.{Some-inj}
 use Rattle.rx_model.specs.Refusals.ClassPlaces.{IsInBracket, IsItemPlace, begins_item, nested, of_class}
-use Rattle.rx_model.specs.Classes.ClassRows.{ClassTokenRow, Place, SpellsBracket, SpellsInClass, next_place, after_less, after_meet, fresh, in_strings, outside}
-use Rattle.rx_model.specs.Classes.ClassRuns.{Bracket, Brackets, Held, empty, any_string, atom_may, atom_obeys, after_step, bracket_of, class_opened, class_run, class_step, closed, held_on, holding, less_by, may_close, met_by, operand, ranged, takes_operand, where_may, where_true, with_strings}
-use Rattle.rx_model.specs.Classes.ClassTokens.{ClassToken, bracket, closer, item, low, dash, high, meet, less, strings, letter, string_bar, strings_end}
+use Rattle.rx_model.specs.Classes.ClassRows.{ClassTokenRow, Place, SpellsBracket, SpellsInClass, next_place, after_operator, fresh, in_strings, outside}
+use Rattle.rx_model.specs.Classes.ClassRuns.{Bracket, Brackets, Held, empty, any_string, atom_may, atom_obeys, after_step, bracket_of, class_opened, class_run, class_step, closed, held_on, holding, with_operator, may_close, operand, ranged, takes_operand, where_may, where_true, with_strings}
+use Rattle.rx_model.specs.Classes.ClassTokens.{ClassToken, bracket, closer, item, low, dash, high, operator, strings, letter, string_bar, strings_end}
 use Rattle.rx_model.specs.Inputs.Environment.{Environment, is_sets}
 use Rattle.rx_model.proofs.Classes.ClassEnds.{class_row_split}
 use Rattle.rx_model.proofs.Classes.ClassStates.{after_inside, row_shorter, run_in, steps, where_true_both}
@@ -71,8 +71,7 @@ innermost_only dash c cs m ms other h = only_by dash c cs c m ms refl (Some-inj 
 innermost_only (high k v) c cs m ms other h =
     let p = where_true_both (nat_le c.low_end v && nat_le v 0x10FFFF) (holding c cs false (ranged c.held)) (m ∷ ms) h in
     holding_only (high k v) c cs false (ranged c.held) m ms (ap (λ b. where_true b (holding c [] false (ranged c.held))) p.0) p.1
-innermost_only meet c cs m ms other h = operator_only meet c cs (met_by c.held) m ms refl h
-innermost_only less c cs m ms other h = operator_only less c cs (less_by c.held) m ms refl h
+innermost_only (operator o) c cs m ms other h = operator_only (operator o) c cs (with_operator o c.held) m ms refl h
 innermost_only strings c cs m ms other h = may_only strings c (record c { count = 0; any = false }) cs (operand c.held) m ms refl h
 innermost_only (letter k v) c cs m ms other h =
     let p = where_true_both (nat_le v 0x10FFFF) (Some (record c { count = c.count + 1 } ∷ cs)) (m ∷ ms) h in
@@ -152,8 +151,7 @@ module _ (e : Environment) where
   bracket_alone : (q : Place) (negative : Bool) (w more : List CodePoint) → (q ≡ outside → ⊥) → SpellsInClass e q (bracket negative) w more → (is_sets e.mode ≡ true) × (begins_item q ≡ true) × SpellsBracket negative w more
   bracket_alone outside negative w more inside s = absurd (inside refl)
   bracket_alone fresh negative w more inside s = (s.0, refl, s.1)
-  bracket_alone after_meet negative w more inside s = (s.0, refl, s.1)
-  bracket_alone after_less negative w more inside s = (s.0, refl, s.1)
+  bracket_alone (after_operator o) negative w more inside s = (s.0, refl, s.1)
   bracket_alone in_strings negative w more inside s = absurd s.1
   bracket_alone q negative w more inside s = absurd s
 

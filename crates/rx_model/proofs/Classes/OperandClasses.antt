@@ -3,6 +3,8 @@ use Rattle.std.proofs.Common.{◌≡◌, ◌≢◌, ◌⊎◌, refl, sym, ap, ap
 use Rattle.std.specs.Prelude.{All, map}
 use Rattle.std.proofs.lemmas.List.Elements.{All-cons, All-nil}
 use Rattle.std.specs.List.{list_any}
+use Rattle.rx_base.specs.declared.diagnostic.kinds.SetOperator.{SetOperator}
+use Rattle.rx_base.specs.declared.diagnostic.kinds.SetOperator.TheVariants as set
 use Rattle.rx_ast.specs.declared.leaf.Character.{Character}
 use Rattle.rx_ast.specs.declared.class.CharacterClassContentsKind.{CharacterClassContentsKind}
 use Rattle.rx_ast.specs.declared.class.CharacterClassContentsKind.TheVariants.{Union, Intersection, Subtraction}
@@ -17,21 +19,21 @@ use Rattle.rx_model.specs.Classes.ClassBrackets.{class_of_members}
 use Rattle.rx_model.specs.Classes.ClassBuilds.{string_of, strings_member}
 use Rattle.rx_model.specs.Classes.ClassOperands.{IsClassOfOperands, IsClassOfUnion, SpellsFurtherOperand, SpellsOperator, SpellsUnionItem, SpellsWholeOperand, of_atom, of_class, of_operand, of_operator, of_range, of_strings}
 use Rattle.rx_model.specs.Classes.ClassRows.{BeforeHigh, ClassTokenRow, IsClass, Place, SpellsBracket, fresh, outside}
-use Rattle.rx_model.specs.Classes.ClassShapes.{AreOperands, AreTwo, FitsKind, IsOperand}
+use Rattle.rx_model.specs.Classes.ClassShapes.{AreOperands, AreTwo, IsOperand}
 use Rattle.rx_model.specs.Classes.ClassStrings.{BarredRow, SpellsBarredString, SpellsSetCharacter, SpellsStrings, StringRow, of_bar, of_character}
-use Rattle.rx_model.specs.Classes.ClassTokens.{ClassToken, bracket, character, closer}
+use Rattle.rx_model.specs.Classes.ClassTokens.{ClassToken, bracket, character, closer, contents_kind, operator}
 use Rattle.rx_model.specs.FirstPass.Marks.{starts}
 use Rattle.rx_model.specs.Inputs.Environment.{Environment, is_sets}
 use Rattle.rx_units.specs.Sequences.{ElementRow}
 use Rattle.rx_model.specs.Trees.Early.{IsFlaggedString, may_contain_strings}
 use Rattle.rx_model.proofs.Classes.ClassBrackets.{class_in_brackets}
-use Rattle.rx_model.proofs.Classes.ClassBuilt.{ArePlain, IsPlainMember, atom_operand, atom_plain}
+use Rattle.rx_model.proofs.Classes.ClassBuilt.{ArePlain, IsPlainMember, atom_operand, atom_plain, fits_kind}
 use Rattle.rx_model.proofs.Classes.ClassFlags.{atom_flagged}
 use Rattle.rx_model.proofs.Classes.ClassEnds.{class_row_append, class_row_split}
 use Rattle.rx_model.proofs.Classes.ClassFronts.{no_set_atom, single, text_of}
 use Rattle.rx_model.proofs.Classes.ClassOperands.{atom_there}
-use Rattle.rx_model.proofs.Classes.ClassShapes.{between_by, class_tokens_by, contents_tokens, further_tokens, operand_tokens}
-use Rattle.rx_model.proofs.Classes.OperandTokens.{IsBetween, enters_fresh, further_row, further_stands, item_row, item_stands, operand_row, operand_stands}
+use Rattle.rx_model.proofs.Classes.ClassShapes.{between_by, between_is, class_tokens_by, contents_tokens, further_tokens, operand_tokens}
+use Rattle.rx_model.proofs.Classes.OperandTokens.{enters_fresh, further_row, further_stands, item_row, item_stands, operand_row, operand_stands}
 use Rattle.rx_model.proofs.Classes.PieceClasses.{union_tokens}
 
 plain_parts : (m : Member) (ms : Members) → ArePlain (member m ms) → IsPlainMember m × ArePlain ms
@@ -51,11 +53,6 @@ class_by_members s negative may kind ms list plain flag are =
 two_of : (m : Member) (ms : List Member) → ms ≢ [] → AreTwo (member m (members ms))
 two_of m [] some = absurd (some refl)
 two_of m (n ∷ ms) some = tt
-
-fits_kind : (kind : CharacterClassContentsKind) (ms : Members) → AreTwo ms → AreOperands ms → FitsKind kind ms
-fits_kind Union ms two operands = tt
-fits_kind Intersection ms two operands = (two, operands)
-fits_kind Subtraction ms two operands = (two, operands)
 
 module _ (e : Environment) where
   -- What is spelled has no spans, and what a class owes to the grammar.
@@ -104,24 +101,24 @@ module _ (e : Environment) where
   item_plain _ _ rest (of_range low hyphen high s is t) = record { fits = tt; flagged = tt; plain = refl }
   item_plain m w rest (of_operand s none) = operand_plain m w rest s
 
-  further_is : (kind : CharacterClassContentsKind) (m : Member) (w rest : List CodePoint) → SpellsFurtherOperand e kind m w rest → IsPlainMember m × IsOperand m
-  further_is kind m _ rest (of_operator operator w is s) = (operand_plain m w rest s, operand_is m w rest s)
+  further_is : (o : SetOperator) (m : Member) (w rest : List CodePoint) → SpellsFurtherOperand e o m w rest → IsPlainMember m × IsOperand m
+  further_is o m _ rest (of_operator front w is s) = (operand_plain m w rest s, operand_is m w rest s)
 
   abbrev ItemRow : List Member → List CodePoint → List CodePoint → Type 0
   ItemRow ms us rest = ElementRow {Place = Unit {0}} (λ q. SpellsUnionItem e) (λ q m more. tt) ms tt us tt rest
 
-  abbrev FurtherRow : CharacterClassContentsKind → List Member → List CodePoint → List CodePoint → Type 0
-  FurtherRow kind ms us rest = ElementRow {Place = Unit {0}} (λ q. SpellsFurtherOperand e kind) (λ q m more. tt) ms tt us tt rest
+  abbrev FurtherRow : SetOperator → List Member → List CodePoint → List CodePoint → Type 0
+  FurtherRow o ms us rest = ElementRow {Place = Unit {0}} (λ q. SpellsFurtherOperand e o) (λ q m more. tt) ms tt us tt rest
 
   items_plain : (ms : List Member) (us rest : List CodePoint) → ItemRow ms us rest → All IsPlainMember ms
   items_plain [] us rest row = All-nil IsPlainMember
   items_plain (m ∷ ms) us rest row = All-cons IsPlainMember m ms (item_plain m row.0 row.1 row.3) (items_plain ms row.1 rest row.4)
 
-  all_further : (kind : CharacterClassContentsKind) (ms : List Member) (us rest : List CodePoint) → FurtherRow kind ms us rest → All IsPlainMember ms × AreOperands (members ms)
-  all_further kind [] us rest row = (All-nil IsPlainMember, tt)
-  all_further kind (m ∷ ms) us rest row =
-      let first = further_is kind m row.0 row.1 row.3 in
-      let more = all_further kind ms row.1 rest row.4 in
+  all_further : (o : SetOperator) (ms : List Member) (us rest : List CodePoint) → FurtherRow o ms us rest → All IsPlainMember ms × AreOperands (members ms)
+  all_further o [] us rest row = (All-nil IsPlainMember, tt)
+  all_further o (m ∷ ms) us rest row =
+      let first = further_is o m row.0 row.1 row.3 in
+      let more = all_further o ms row.1 rest row.4 in
       (All-cons IsPlainMember m ms first.0 more.0, (first.1, more.1))
 
   module _ (sets : is_sets e.mode ≡ true) where
@@ -132,14 +129,11 @@ module _ (e : Environment) where
         class_row_append e (operand_tokens m) (further_tokens [] (members ms)) fresh us fresh row.1 fresh rest
         (subst (λ us. ClassTokenRow e (operand_tokens m) fresh us fresh row.1) (sym row.2) (item_row e sets m row.0 row.1 row.3)) (items_tokens ms row.1 rest row.4)
 
-    further_row_tokens : (kind : CharacterClassContentsKind) (ms : List Member) (us rest : List CodePoint) → FurtherRow kind ms us rest → ClassTokenRow e (further_tokens (between_by kind) (members ms)) fresh us fresh rest
-    further_row_tokens kind [] us rest row = (refl, row.1)
-    further_row_tokens kind (m ∷ ms) us rest row =
-        let between = between_by kind in
-        let more = further_tokens between (members ms) in
-        subst (λ ts. ClassTokenRow e ts fresh us fresh rest) (append_assoc between (operand_tokens m) more)
-        (class_row_append e (between ++ operand_tokens m) more fresh us fresh row.1 fresh rest
-        (subst (λ us. ClassTokenRow e (between ++ operand_tokens m) fresh us fresh row.1) (sym row.2) (further_row e sets kind m row.0 row.1 row.3)) (further_row_tokens kind ms row.1 rest row.4))
+    further_row_tokens : (o : SetOperator) (ms : List Member) (us rest : List CodePoint) → FurtherRow o ms us rest → ClassTokenRow e (further_tokens (operator o ∷ []) (members ms)) fresh us fresh rest
+    further_row_tokens o [] us rest row = (refl, row.1)
+    further_row_tokens o (m ∷ ms) us rest row =
+        class_row_append e (operator o ∷ operand_tokens m) (further_tokens (operator o ∷ []) (members ms)) fresh us fresh row.1 fresh rest
+        (subst (λ us. ClassTokenRow e (operator o ∷ operand_tokens m) fresh us fresh row.1) (sym row.2) (further_row e sets o m row.0 row.1 row.3)) (further_row_tokens o ms row.1 rest row.4)
 
     -- No range goes on with an operator.
     no_high_at : (us : List CodePoint) (v : List ℕ) → ((values us ≡ 38 ∷ v) ⊎ (values us ≡ 45 ∷ 45 ∷ v)) → BeforeHigh e us → ⊥
@@ -151,37 +145,38 @@ module _ (e : Environment) where
         let back : values (b.w ++ b.more) ≡ 45 ∷ v = cc text in
         atom_there e (b.w ++ b.more) (no_set_atom e (b.w ++ b.more) 45 v sets back refl refl) (character b.kind b.value) b.w b.more refl b.spelled
 
-    operator_no_high : (kind : CharacterClassContentsKind) (operator rest more : List CodePoint) → SpellsOperator kind operator rest → BeforeHigh e (operator ++ more) → ⊥
-    operator_no_high Union operator rest more s b = absurd s
-    operator_no_high Intersection operator rest more s b = no_high_at (operator ++ more) (38 ∷ values more) (inl (text_of operator more (38 ∷ 38 ∷ []) s.0)) b
-    operator_no_high Subtraction operator rest more s b = no_high_at (operator ++ more) (values more) (inr (text_of operator more (45 ∷ 45 ∷ []) s)) b
+    operator_no_high : (o : SetOperator) (front rest more : List CodePoint) → SpellsOperator o front rest → BeforeHigh e (front ++ more) → ⊥
+    operator_no_high set.Intersection front rest more s b = no_high_at (front ++ more) (38 ∷ values more) (inl (text_of front more (38 ∷ 38 ∷ []) s.0)) b
+    operator_no_high set.Subtraction front rest more s b = no_high_at (front ++ more) (values more) (inr (text_of front more (45 ∷ 45 ∷ []) s.0)) b
 
-    further_no_high : (kind : CharacterClassContentsKind) (m : Member) (w rest : List CodePoint) → SpellsFurtherOperand e kind m w rest → BeforeHigh e (w ++ rest) → ⊥
-    further_no_high kind m _ rest (of_operator operator w is s) b = operator_no_high kind operator (w ++ rest) (w ++ rest) is (subst (BeforeHigh e) (append_assoc operator w rest) b)
+    further_no_high : (o : SetOperator) (m : Member) (w rest : List CodePoint) → SpellsFurtherOperand e o m w rest → BeforeHigh e (w ++ rest) → ⊥
+    further_no_high o m _ rest (of_operator front w is s) b = operator_no_high o front (w ++ rest) (w ++ rest) is (subst (BeforeHigh e) (append_assoc front w rest) b)
 
-    row_no_high : (kind : CharacterClassContentsKind) (ms : List Member) (us rest : List CodePoint) → ms ≢ [] → FurtherRow kind ms us rest → BeforeHigh e us → ⊥
-    row_no_high kind [] us rest some row b = some refl
-    row_no_high kind (m ∷ ms) us rest some row b = further_no_high kind m row.0 row.1 row.3 (subst (BeforeHigh e) row.2 b)
+    row_no_high : (o : SetOperator) (ms : List Member) (us rest : List CodePoint) → ms ≢ [] → FurtherRow o ms us rest → BeforeHigh e us → ⊥
+    row_no_high o [] us rest some row b = some refl
+    row_no_high o (m ∷ ms) us rest some row b = further_no_high o m row.0 row.1 row.3 (subst (BeforeHigh e) row.2 b)
 
-    pub union_is_class : (c : Class) (w rest : List CodePoint) → IsClassOfUnion e c w rest → IsClass e c w rest
+    union_is_class : (c : Class) (w rest : List CodePoint) → IsClassOfUnion e c w rest → IsClass e c w rest
     union_is_class c w rest of =
         let b = of.brackets in
         let row = subst (λ ts. ClassTokenRow e ts fresh b.inside fresh (b.closer ∷ rest)) (sym (union_tokens (members of.items))) (items_tokens of.items b.inside (b.closer ∷ rest) of.row) in
         subst (λ c. IsClass e c w rest) (sym of.class_is) (class_in_brackets e of.negative Union of.items w rest b tt (items_plain of.items b.inside (b.closer ∷ rest) of.row) row)
 
-    pub operands_are_class : (kind : CharacterClassContentsKind) (c : Class) (w rest : List CodePoint) → IsClassOfOperands e kind c w rest → IsClass e c w rest
-    operands_are_class kind c w rest of =
+    operands_are_class : (o : SetOperator) (c : Class) (w rest : List CodePoint) → IsClassOfOperands e o c w rest → IsClass e c w rest
+    operands_are_class o c w rest of =
         let b = of.brackets in
-        let others = all_further kind of.more of.further (b.closer ∷ rest) of.row in
+        let kind = contents_kind o in
+        let others = all_further o of.more of.further (b.closer ∷ rest) of.row in
         let first =
-        operand_row e sets fresh tt of.first of.front of.further of.first_is (enters_fresh e sets of.first of.front of.further of.first_is (λ i. row_no_high kind of.more of.further (b.closer ∷ rest) of.some_more of.row)) in
+        operand_row e sets fresh tt of.first of.front of.further of.first_is (enters_fresh e sets of.first of.front of.further of.first_is (λ i. row_no_high o of.more of.further (b.closer ∷ rest) of.some_more of.row)) in
         let row =
-        class_row_append e (operand_tokens of.first) (further_tokens (between_by kind) (members of.more)) fresh b.inside fresh of.further fresh (b.closer ∷ rest)
-        (subst (λ us. ClassTokenRow e (operand_tokens of.first) fresh us fresh of.further) (sym of.whole) first) (further_row_tokens kind of.more of.further (b.closer ∷ rest) of.row) in
+        class_row_append e (operand_tokens of.first) (further_tokens (operator o ∷ []) (members of.more)) fresh b.inside fresh of.further fresh (b.closer ∷ rest)
+        (subst (λ us. ClassTokenRow e (operand_tokens of.first) fresh us fresh of.further) (sym of.whole) first) (further_row_tokens o of.more of.further (b.closer ∷ rest) of.row) in
         subst (λ c. IsClass e c w rest) (sym of.class_is)
         (class_in_brackets e of.negative kind (of.first ∷ of.more) w rest b
         (fits_kind kind (members (of.first ∷ of.more)) (two_of of.first of.more of.some_more) (operand_is of.first of.front of.further of.first_is, others.1))
-        (All-cons IsPlainMember of.first of.more (operand_plain of.first of.front of.further of.first_is) others.0) row)
+        (All-cons IsPlainMember of.first of.more (operand_plain of.first of.front of.further of.first_is) others.0)
+        (subst (λ between. ClassTokenRow e (contents_tokens between (members (of.first ∷ of.more))) fresh b.inside fresh (b.closer ∷ rest)) (sym (between_is o)) row))
 
     -- tokens → spelled
     record Items (ms : Members) (us : List CodePoint) (p : Place) (more : List CodePoint) : Type 0 where
@@ -199,21 +194,19 @@ module _ (e : Environment) where
         let others = items_found ms parts.1 s.1 p more (subst (λ q. ClassTokenRow e (further_tokens [] ms) q s.1 p more) first.3 s.3) in
         record { items = m ∷ others.items; are = ap (member m) others.are; row = (first.0, s.1, first.1, first.2, others.row); ends = others.ends }
 
-    record Others (kind : CharacterClassContentsKind) (ms : Members) (us : List CodePoint) (p : Place) (more : List CodePoint) : Type 0 where
+    record Others (o : SetOperator) (ms : Members) (us : List CodePoint) (p : Place) (more : List CodePoint) : Type 0 where
       operands : List Member
       are : ms ≡ members operands
-      row : FurtherRow kind operands us more
+      row : FurtherRow o operands us more
       ends : p ≡ fresh
 
-    others_found : (kind : CharacterClassContentsKind) → IsBetween kind → (ms : Members) → ArePlain ms → AreOperands ms → (us : List CodePoint) (p : Place) (more : List CodePoint) →
-        ClassTokenRow e (further_tokens (between_by kind) ms) fresh us p more → Others kind ms us p more
-    others_found kind between no_member plain os us p more row = record { operands = []; are = refl; row = (refl, row.1); ends = sym row.0 }
-    others_found kind between (member m ms) plain os us p more row =
+    others_found : (o : SetOperator) (ms : Members) → ArePlain ms → AreOperands ms → (us : List CodePoint) (p : Place) (more : List CodePoint) → ClassTokenRow e (further_tokens (operator o ∷ []) ms) fresh us p more → Others o ms us p more
+    others_found o no_member plain os us p more row = record { operands = []; are = refl; row = (refl, row.1); ends = sym row.0 }
+    others_found o (member m ms) plain os us p more row =
         let parts = plain_parts m ms plain in
-        let ts = further_tokens (between_by kind) ms in
-        let s = class_row_split e (between_by kind ++ operand_tokens m) ts fresh us p more (subst (λ ts. ClassTokenRow e ts fresh us p more) (sym (append_assoc (between_by kind) (operand_tokens m) ts)) row) in
-        let first = further_stands e sets kind between m parts.0 os.0 us s.0 s.1 s.2 in
-        let others = others_found kind between ms parts.1 os.1 s.1 p more (subst (λ q. ClassTokenRow e ts q s.1 p more) first.3 s.3) in
+        let s = class_row_split e (operator o ∷ operand_tokens m) (further_tokens (operator o ∷ []) ms) fresh us p more row in
+        let first = further_stands e sets o m parts.0 os.0 us s.0 s.1 s.2 in
+        let others = others_found o ms parts.1 os.1 s.1 p more (subst (λ q. ClassTokenRow e (further_tokens (operator o ∷ []) ms) q s.1 p more) first.3 s.3) in
         record { operands = m ∷ others.operands; are = ap (member m) others.are; row = (first.0, s.1, first.1, first.2, others.row); ends = others.ends }
 
     closes : (p : Place) (us rest : List CodePoint) → p ≡ fresh → ClassTokenRow e (closer ∷ []) p us fresh rest → (u : CodePoint) × (us ≡ u ∷ rest) × (u.value ≡ 93)
@@ -259,16 +252,17 @@ module _ (e : Environment) where
           class_is = class_by_members s negative may Union ms f.items is.no_spans is.shape.1.0 f.are;
         }
 
-    operands_made : (kind : CharacterClassContentsKind) → IsBetween kind → (s : Span) (negative may : Bool) (ms : Members) → AreTwo ms → AreOperands ms → (w rest : List CodePoint) → IsClass e (class s negative may kind ms) w rest →
-        IsClassOfOperands e kind (class s negative may kind ms) w rest
-    operands_made kind between s negative may no_member two os w rest is = absurd two
-    operands_made kind between s negative may (member m ms) two os w rest is =
+    operands_made : (o : SetOperator) (s : Span) (negative may : Bool) (ms : Members) → AreTwo ms → AreOperands ms → (w rest : List CodePoint) → IsClass e (class s negative may (contents_kind o) ms) w rest →
+        IsClassOfOperands e o (class s negative may (contents_kind o) ms) w rest
+    operands_made o s negative may no_member two os w rest is = absurd two
+    operands_made o s negative may (member m ms) two os w rest is =
+        let kind = contents_kind o in
         let i = inside_of s negative may kind (member m ms) w rest is in
         let parts = plain_parts m ms (members_plain s negative may kind (member m ms) w rest is) in
-        let ts = further_tokens (between_by kind) ms in
-        let r = class_row_split e (operand_tokens m) ts fresh i.inside i.place i.back i.row in
+        let ts = further_tokens (operator o ∷ []) ms in
+        let r = class_row_split e (operand_tokens m) ts fresh i.inside i.place i.back (subst (λ between. ClassTokenRow e (contents_tokens between (member m ms)) fresh i.inside i.place i.back) (between_is o) i.row) in
         let first = operand_stands e sets fresh tt m parts.0 os.0 i.inside r.0 r.1 r.2 in
-        let f = others_found kind between ms parts.1 os.1 r.1 i.place i.back (subst (λ q. ClassTokenRow e ts q r.1 i.place i.back) first.3 r.3) in
+        let f = others_found o ms parts.1 os.1 r.1 i.place i.back (subst (λ q. ClassTokenRow e ts q r.1 i.place i.back) first.3 r.3) in
         let z = closes i.place i.back rest f.ends i.end in
         record {
           negative = negative;
@@ -280,16 +274,15 @@ module _ (e : Environment) where
           first_is = first.2;
           more = f.operands;
           some_more = λ none. subst (λ ms. AreTwo (member m ms)) (f.are ∙ ap members none) two;
-          row = subst (FurtherRow kind f.operands r.1) z.1 f.row;
+          row = subst (FurtherRow o f.operands r.1) z.1 f.row;
           class_is = class_by_members s negative may kind (member m ms) (m ∷ f.operands) is.no_spans is.shape.1.0 (ap (member m) f.are);
         }
 
-    pub is_made : (c : Class) (w rest : List CodePoint) → IsClass e c w rest → IsClassOfUnion e c w rest ⊎ (IsClassOfOperands e Intersection c w rest ⊎ IsClassOfOperands e Subtraction c w rest)
+    pub is_made : (c : Class) (w rest : List CodePoint) → IsClass e c w rest → IsClassOfUnion e c w rest ⊎ ((o : SetOperator) × IsClassOfOperands e o c w rest)
     is_made (class s negative may Union ms) w rest is = inl (union_made s negative may ms w rest is)
-    is_made (class s negative may Intersection ms) w rest is = inr (inl (operands_made Intersection tt s negative may ms is.shape.0.0.0 is.shape.0.0.1 w rest is))
-    is_made (class s negative may Subtraction ms) w rest is = inr (inr (operands_made Subtraction tt s negative may ms is.shape.0.0.0 is.shape.0.0.1 w rest is))
+    is_made (class s negative may Intersection ms) w rest is = inr (set.Intersection, operands_made set.Intersection s negative may ms is.shape.0.0.0 is.shape.0.0.1 w rest is)
+    is_made (class s negative may Subtraction ms) w rest is = inr (set.Subtraction, operands_made set.Subtraction s negative may ms is.shape.0.0.0 is.shape.0.0.1 w rest is)
 
-    pub made_is : (c : Class) (w rest : List CodePoint) → IsClassOfUnion e c w rest ⊎ (IsClassOfOperands e Intersection c w rest ⊎ IsClassOfOperands e Subtraction c w rest) → IsClass e c w rest
+    pub made_is : (c : Class) (w rest : List CodePoint) → IsClassOfUnion e c w rest ⊎ ((o : SetOperator) × IsClassOfOperands e o c w rest) → IsClass e c w rest
     made_is c w rest (inl of) = union_is_class c w rest of
-    made_is c w rest (inr (inl of)) = operands_are_class Intersection c w rest of
-    made_is c w rest (inr (inr of)) = operands_are_class Subtraction c w rest of
+    made_is c w rest (inr (o, of)) = operands_are_class o c w rest of

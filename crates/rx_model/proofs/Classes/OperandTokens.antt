@@ -3,8 +3,7 @@ use Rattle.std.proofs.Common.{◌≡◌, refl, sym, ap, ◌∙◌, subst, ◌&&�
 use Rattle.std.specs.Prelude.{map}
 use Rattle.std.proofs.Math.Bool.{and-false}
 use Rattle.std.specs.List.{list_any}
-use Rattle.rx_ast.specs.declared.class.CharacterClassContentsKind.{CharacterClassContentsKind}
-use Rattle.rx_ast.specs.declared.class.CharacterClassContentsKind.TheVariants.{Union, Intersection, Subtraction}
+use Rattle.rx_base.specs.declared.diagnostic.kinds.SetOperator.{SetOperator}
 use Rattle.rx_ast.specs.declared.class.ClassString.{ClassString}
 use Rattle.rx_ast.specs.declared.class.ClassStringDisjunction.{ClassStringDisjunction}
 use Rattle.rx_ast.specs.ClassTree.{Class, Member, class}
@@ -15,33 +14,24 @@ use Rattle.rx_units.specs.Units.{values}
 use Rattle.rx_model.specs.Classes.ClassBuilds.{atom_member, range_member, strings_member, string_of}
 use Rattle.rx_model.specs.Classes.ClassOperands.{IsCharacter, SpellsFurtherOperand, SpellsUnionItem, SpellsWholeOperand, of_atom, of_class, of_operand, of_operator, of_range, of_strings}
 use Rattle.rx_model.specs.Classes.ClassPieces as pieces
-use Rattle.rx_model.specs.Classes.ClassRows.{BeforeHigh, ClassTokenRow, IsClass, Place, SpellsAtom, SpellsClassCharacter, SpellsInClass, SpellsOperand, StandsBefore, next_place, following_item, after_less, after_meet, fresh, has_threes, is_dashed, outside}
+use Rattle.rx_model.specs.Classes.ClassRows.{BeforeHigh, ClassTokenRow, IsClass, Place, SpellsAtom, SpellsClassCharacter, SpellsInClass, SpellsOperand, StandsBefore, next_place, following_item, after_operator, fresh, has_threes, is_dashed, may_follow_operator, outside}
 use Rattle.rx_model.specs.Classes.ClassShapes.{IsOperand}
-use Rattle.rx_model.specs.Classes.ClassTokens.{Atom, ClassToken, bracket, character, closer, dash, escape, high, is_character, item, low, property, strings}
-use Rattle.rx_model.specs.FirstPass.Marks.{starts}
+use Rattle.rx_model.specs.Classes.ClassTokens.{Atom, ClassToken, bracket, character, closer, dash, escape, high, is_character, item, low, operator, property, strings}
 use Rattle.rx_model.specs.Inputs.Environment.{Environment, is_sets}
 use Rattle.rx_model.proofs.Classes.ClassBuilds.{strings_member_is}
 use Rattle.rx_model.proofs.Classes.ClassBuilt.{IsPlainMember, atom_tokens}
 use Rattle.rx_model.proofs.Classes.ClassEnds.{class_row_split, row_units}
-use Rattle.rx_model.proofs.Classes.ClassFronts.{sets_is, single, token_some}
+use Rattle.rx_model.proofs.Classes.ClassFronts.{follows_front, operand_some, sets_is, single}
 use Rattle.rx_model.proofs.Classes.ClassOperands.{one_operand}
 use Rattle.rx_model.proofs.Classes.ClassShapes.{between_by, class_tokens_by, contents_tokens, operand_tokens}
 use Rattle.rx_model.proofs.Classes.OneAtom.{dashed}
 use Rattle.rx_model.proofs.Classes.PieceClasses.{piece_row}
 use Rattle.rx_model.proofs.Classes.StringTokens.{inside_row, is_spelled_from, tokens_are}
-use Rattle.rx_model.proofs.Reading.Splits.{starts_front}
-
--- a kind of contents with operators
-abbrev pub IsBetween : CharacterClassContentsKind → Type 0
-IsBetween Union = ⊥
-IsBetween Intersection = Unit {0}
-IsBetween Subtraction = Unit {0}
 
 -- a place where an operand may stand
 abbrev pub TakesOperand : Place → Type 0
 TakesOperand fresh = Unit {0}
-TakesOperand after_meet = Unit {0}
-TakesOperand after_less = Unit {0}
+TakesOperand (after_operator o) = Unit {0}
 TakesOperand q = ⊥
 
 -- the first token of an operand
@@ -53,8 +43,7 @@ IsOpening t = ⊥
 
 character_member : (a : Atom) → is_character a ≡ true → IsCharacter (atom_member a)
 character_member (character k v) h = tt
-character_member (escape k) h = let no : ⊥ = cc h in no
-character_member (property negative may name value) h = let no : ⊥ = cc h in no
+character_member q h = let no : ⊥ = cc h in no
 
 abbrev disjunction : List ClassString → ClassStringDisjunction
 disjunction ss = record { span = nowhere; strings = list_any (λ s. s.strings) ss; body = ss }
@@ -65,8 +54,7 @@ module _ (e : Environment) (sets : is_sets e.mode ≡ true) where
 
   after_item : (q : Place) → TakesOperand q → (a : Atom) (more : List CodePoint) → next_place e.mode q (item a) more ≡ fresh
   after_item fresh t a more = ap (λ b. following_item fresh (is_dashed (values more) && b)) no_threes ∙ ap (following_item fresh) (and-false (is_dashed (values more)))
-  after_item after_meet t a more = refl
-  after_item after_less t a more = refl
+  after_item (after_operator o) t a more = refl
   after_item q t a more = absurd t
 
   fresh_operand : (t : ClassToken) (w rest : List CodePoint) → IsOpening t → SpellsInClass e fresh t w rest → SpellsOperand e t w rest
@@ -77,20 +65,15 @@ module _ (e : Environment) (sets : is_sets e.mode ≡ true) where
 
   opening_operand : (q : Place) (t : ClassToken) (w rest : List CodePoint) → TakesOperand q → IsOpening t → SpellsInClass e q t w rest → SpellsOperand e t w rest
   opening_operand fresh t w rest takes o s = fresh_operand t w rest o s
-  opening_operand after_meet t w rest takes o s = s.1
-  opening_operand after_less t w rest takes o s = s.1
+  opening_operand (after_operator x) t w rest takes o s = s.1
   opening_operand q t w rest takes o s = absurd takes
 
   -- An operand may begin at the front of these units, at this place.
   abbrev pub Enters : Place → List CodePoint → Type 0
   Enters q us = (t : ClassToken) (w rest : List CodePoint) → us ≡ w ++ rest → SpellsOperand e t w rest → SpellsInClass e q t w rest
 
-  enters_less : (us : List CodePoint) → Enters after_less us
-  enters_less us t w rest h s = (sets, s)
-
-  enters_meet : (us : List CodePoint) → starts 38 (values us) ≡ false → Enters after_meet us
-  enters_meet us none t w rest h s =
-      (sets, s, sym (starts_front 38 w rest (token_some e after_less t w rest (sets, s))) ∙ ap (λ us. starts 38 (values us)) (sym h) ∙ none)
+  enters_after : (o : SetOperator) (us : List CodePoint) → may_follow_operator o (values us) ≡ true → Enters (after_operator o) us
+  enters_after o us follows t w rest h s = (sets, s, sym (follows_front o w rest (operand_some e t w rest s)) ∙ ap (λ us. may_follow_operator o (values us)) (sym h) ∙ follows)
 
   pub enters_fresh : (m : Member) (v back : List CodePoint) → SpellsWholeOperand e m v back → (IsCharacter m → BeforeHigh e back → ⊥) → Enters fresh (v ++ back)
   enters_fresh m v back operand none (item a) w rest h s =
@@ -119,11 +102,8 @@ module _ (e : Environment) (sets : is_sets e.mode ≡ true) where
   item_row _ _ rest (of_range {k} {j} {v} {x} first hyphen last s is t) = piece_row e (pieces.range k v j x) (first ++ (hyphen ∷ last)) rest (pieces.of_range first hyphen last s is t)
   item_row m w rest (of_operand s none) = operand_row fresh tt m w rest s (enters_fresh m w rest s none)
 
-  pub further_row : (kind : CharacterClassContentsKind) (m : Member) (w rest : List CodePoint) → SpellsFurtherOperand e kind m w rest → ClassTokenRow e (between_by kind ++ operand_tokens m) fresh (w ++ rest) fresh rest
-  further_row Union m _ rest (of_operator operator w is s) = absurd is
-  further_row Intersection m _ rest (of_operator operator w is s) =
-      (operator, w ++ rest, append_assoc operator w rest, (sets, is.0), operand_row after_meet tt m w rest s (enters_meet (w ++ rest) is.1))
-  further_row Subtraction m _ rest (of_operator operator w is s) = (operator, w ++ rest, append_assoc operator w rest, (sets, is), operand_row after_less tt m w rest s (enters_less (w ++ rest)))
+  pub further_row : (o : SetOperator) (m : Member) (w rest : List CodePoint) → SpellsFurtherOperand e o m w rest → ClassTokenRow e (operator o ∷ operand_tokens m) fresh (w ++ rest) fresh rest
+  further_row o m _ rest (of_operator front w is s) = (front, w ++ rest, append_assoc front w rest, (sets, is.0), operand_row (after_operator o) tt m w rest s (enters_after o (w ++ rest) is.1))
 
   -- tokens → spelled
   -- A thing stands before these units, from which on others may stand.
@@ -216,10 +196,9 @@ module _ (e : Environment) (sets : is_sets e.mode ≡ true) where
   IsSome [] = ⊥
   IsSome (t ∷ ts) = Unit {0}
 
-  first_no_ampersand : (ts : List ClassToken) → IsSome ts → (us : List CodePoint) (p : Place) (more : List CodePoint) → ClassTokenRow e ts after_meet us p more → starts 38 (values us) ≡ false
-  first_no_ampersand [] some us p more row = absurd some
-  first_no_ampersand (t ∷ ts) some us p more row =
-      ap (λ us. starts 38 (values us)) row.2 ∙ starts_front 38 row.0 row.1 (token_some e after_meet t row.0 row.1 row.3) ∙ row.3.2
+  first_follows : (o : SetOperator) (ts : List ClassToken) → IsSome ts → (us : List CodePoint) (p : Place) (more : List CodePoint) → ClassTokenRow e ts (after_operator o) us p more → may_follow_operator o (values us) ≡ true
+  first_follows o [] some us p more row = absurd some
+  first_follows o (t ∷ ts) some us p more row = ap (λ us. may_follow_operator o (values us)) row.2 ∙ follows_front o row.0 row.1 (operand_some e t row.0 row.1 row.3.1) ∙ row.3.2
 
   some_tokens : (m : Member) → IsSome (operand_tokens m)
   some_tokens (tree.range r) = tt
@@ -230,16 +209,12 @@ module _ (e : Environment) (sets : is_sets e.mode ≡ true) where
   some_tokens (tree.strings d) = tt
 
   -- an operand with the operator before it
-  pub further_stands : (kind : CharacterClassContentsKind) → IsBetween kind → (m : Member) → IsPlainMember m → IsOperand m → (us : List CodePoint) (p : Place) (more : List CodePoint) →
-      ClassTokenRow e (between_by kind ++ operand_tokens m) fresh us p more → Stands (SpellsFurtherOperand e kind m) us p more
-  further_stands Union between m plain o us p more row = absurd between
-  further_stands Intersection between m plain o us p more row =
-      let s = operand_stands after_meet tt m plain o row.1 p more row.4 in (
+  pub further_stands : (o : SetOperator) (m : Member) → IsPlainMember m → IsOperand m → (us : List CodePoint) (p : Place) (more : List CodePoint) → ClassTokenRow e (operator o ∷ operand_tokens m) fresh us p more →
+      Stands (SpellsFurtherOperand e o m) us p more
+  further_stands o m plain is us p more row =
+      let s = operand_stands (after_operator o) tt m plain is row.1 p more row.4 in (
         row.0 ++ s.0,
         row.2 ∙ ap (λ more. row.0 ++ more) s.1 ∙ sym (append_assoc row.0 s.0 more),
-        of_operator row.0 s.0 (row.3.1, ap (λ us. starts 38 (values us)) (sym s.1) ∙ first_no_ampersand (operand_tokens m) (some_tokens m) row.1 p more row.4) s.2,
+        of_operator row.0 s.0 (row.3.1, ap (λ us. may_follow_operator o (values us)) (sym s.1) ∙ first_follows o (operand_tokens m) (some_tokens m) row.1 p more row.4) s.2,
         s.3,
       )
-  further_stands Subtraction between m plain o us p more row =
-      let s = operand_stands after_less tt m plain o row.1 p more row.4 in
-      (row.0 ++ s.0, row.2 ∙ ap (λ more. row.0 ++ more) s.1 ∙ sym (append_assoc row.0 s.0 more), of_operator row.0 s.0 row.3.1 s.2, s.3)

@@ -8,13 +8,13 @@ use Rattle.rx_ast.specs.declared.class.CharacterClassContentsKind.TheVariants.{U
 use Rattle.rx_ast.specs.ClassTree.{Class, Member, Members, class, member, members, no_member}
 use Rattle.rx_ast.specs.Forget.{nowhere}
 use Rattle.rx_units.specs.declared.code_point.CodePoint.{CodePoint}
-use Rattle.rx_model.specs.declared.mode.Mode.TheVariants.{Legacy, Unicode, Sets}
+use Rattle.rx_model.specs.declared.mode.Mode.TheVariants.{Legacy, Sets}
 use Rattle.rx_model.specs.declared.mode.Mode.{Mode}
 use Rattle.rx_model.specs.Classes.ClassBrackets.{class_of_members}
 use Rattle.rx_model.specs.Classes.ClassBuilds.{atom_member, range_member}
 use Rattle.rx_model.specs.Classes.ClassPieces.{IsClassOfPieces, Piece, alone, range, three, SpellsPiece, of_atom, of_range, of_three, piece_members, pieces_members}
 use Rattle.rx_model.specs.Classes.ClassRows.{BeforeThird, ClassTokenRow, IsClass, Place, SpellsAtom, SpellsClassCharacter, at_dash, at_high, at_second, at_third, fresh, has_threes, outside}
-use Rattle.rx_model.specs.Classes.ClassTokens.{Atom, ClassToken, bracket, character, closer, dash, escape, high, is_character, item, less, low, meet, property, strings}
+use Rattle.rx_model.specs.Classes.ClassTokens.{Atom, ClassToken, bracket, character, closer, dash, escape, high, is_character, item, operator, low, property, strings}
 use Rattle.rx_model.specs.Inputs.Environment.{Environment, is_sets, is_unicode}
 use Rattle.rx_units.specs.Sequences.{ElementRow}
 use Rattle.rx_model.specs.Trees.Early.{any_strings, member_strings}
@@ -62,13 +62,11 @@ contents_of_pieces ps = tokens_of_pieces ps ∙ sym (union_tokens (members (piec
 
 pub legacy_threes : (mode : Mode) → is_unicode mode ≡ false → has_threes mode ≡ true
 legacy_threes Legacy h = refl
-legacy_threes Unicode h = absurd (let no : ⊥ = cc h in no)
-legacy_threes Sets h = absurd (let no : ⊥ = cc h in no)
+legacy_threes mode h = absurd (let no : ⊥ = cc h in no)
 
 threes_legacy : (mode : Mode) → has_threes mode ≡ true → is_unicode mode ≡ false
 threes_legacy Legacy h = refl
-threes_legacy Unicode h = absurd (let no : ⊥ = cc h in no)
-threes_legacy Sets h = absurd (let no : ⊥ = cc h in no)
+threes_legacy mode h = absurd (let no : ⊥ = cc h in no)
 
 module _ (e : Environment) where
   abbrev PieceRow : List Piece → List CodePoint → List CodePoint → Type 0
@@ -208,8 +206,7 @@ module _ (e : Environment) where
       pieces_in ((low k v) ∷ ts) us rest row = dash_in k v row.0 row.1 ts us rest row.2 row.3.0 row.4
       pieces_in ((bracket negative) ∷ ts) us rest row = absurd (no_such row.3.0)
       pieces_in (strings ∷ ts) us rest row = absurd (no_such row.3.0)
-      pieces_in (meet ∷ ts) us rest row = absurd (no_such row.3.0)
-      pieces_in (less ∷ ts) us rest row = absurd (no_such row.3.0)
+      pieces_in ((operator o) ∷ ts) us rest row = absurd (no_such row.3.0)
       pieces_in (t ∷ ts) us rest row = absurd row.3
 
       second_in : (a : Atom) (first more : List CodePoint) (t : BeforeThird e a more) (ts : List ClassToken) (us rest : List CodePoint) → us ≡ first ++ more → SpellsAtom e a first more → ToCloser at_second ts more rest →

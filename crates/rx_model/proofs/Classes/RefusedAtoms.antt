@@ -141,8 +141,7 @@ module _ (e : Environment) where
 
   value_there : (d : Decoded) (k : CharacterKind) (v n : ℕ) → unicode_read d ≡ escaped k v n → (x : ℕ) × (m : ℕ) × (d ≡ decoding.value x m)
   value_there (decoding.value x m) k v n h = (x, m, refl)
-  value_there decoding.invalid k v n h = absurd (let no : ⊥ = cc h in no)
-  value_there (decoding.overflow m) k v n h = absurd (let no : ⊥ = cc h in no)
+  value_there q k v n h = absurd (let no : ⊥ = cc h in no)
 
   no_digits_after : is_unicode e.mode ≡ true → (k : CharacterKind) (v count : ℕ) (following : List ℕ) → PassesHex following count → Escapes k v following → ⊥
   no_digits_after u k v count following p (everywhere w rest s h) =

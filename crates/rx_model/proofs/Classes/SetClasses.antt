@@ -1,13 +1,14 @@
 -- With `v`: where a `[` stands, a class stands that is free of early errors, or a refusal holds in it.
-use Rattle.std.proofs.Common.{◌≡◌, ◌⊎◌, refl, ap, sym, ◌∙◌, subst, ℕ, ◌≤◌, true, false, Some, List, [], ◌∷◌, inl, inr}
+use Rattle.std.proofs.Common.{◌≡◌, ◌⊎◌, refl, ap, sym, ◌∙◌, subst, ℕ, ◌≤◌, true, false, not, Some, List, [], ◌∷◌, inl, inr}
 use Rattle.std.specs.Prelude.{All}
 use Rattle.std.proofs.lemmas.Bool.{cases_Bool, eqb-true, true≢false}
 use Rattle.rx_base.specs.declared.diagnostic.kinds.SetOperator.{SetOperator}
+use Rattle.rx_base.specs.declared.diagnostic.kinds.SetOperator.TheVariants.{Intersection, Subtraction}
 use Rattle.rx_units.specs.declared.code_point.CodePoint.{CodePoint}
 use Rattle.rx_units.specs.Units.{values}
 use Rattle.rx_model.specs.declared.mode.Mode.TheVariants.{Sets}
-use Rattle.rx_model.specs.Classes.ClassRows.{Place, SpellsInClass, at_dash, at_high, at_second, at_third, after_less, after_meet, fresh, in_strings, outside}
-use Rattle.rx_model.specs.Classes.ClassRuns.{Held, empty, single, several, meeting, met, lessening, lessened, is_union, may_follow, operator_of}
+use Rattle.rx_model.specs.Classes.ClassRows.{Place, SpellsInClass, after_operator, fresh, may_follow_operator}
+use Rattle.rx_model.specs.Classes.ClassRuns.{Held, empty, single, several, pending, joined, is_union, may_follow, operator_of}
 use Rattle.rx_model.specs.FirstPass.Marks.{starts}
 use Rattle.rx_model.specs.Inputs.Environment.{Environment}
 use Rattle.rx_model.specs.Refusals.ClassCauses as class_cause
@@ -43,26 +44,23 @@ module _ (us : List CodePoint) (start added from : ℕ) (at_class : List CodePoi
         )
 
     -- an intersection or a subtraction
-    in_operands : (operator : SetOperator) → operator_of i.inner.held ≡ Some operator → Wrong
-    in_operands operator held = elim (cases_Bool (starts 38 (values rest))) [ inl ampersand ↦ by_place i.at refl i.begins rest refl ampersand | inr other ↦ refused (λ at. other) ]
-      where
-        refused : (i.at ≡ after_meet → starts 38 (values rest) ≡ false) → Wrong
-        refused no_third = (place, _, class_cause.no_operator operator place rest i held none no_third)
+    refused : (operator : SetOperator) → operator_of i.inner.held ≡ Some operator → (i.at ≡ after_operator operator → may_follow_operator operator (values rest) ≡ true) → Wrong
+    refused operator held follows = (place, _, class_cause.no_operator operator place rest i held none follows)
 
-        third : i.at ≡ after_meet → (text : List CodePoint) → rest ≡ text → starts 38 (values text) ≡ true → Wrong
-        third at [] there ampersand = absurd (true≢false (sym ampersand))
-        third at (u ∷ text) there ampersand = (place, _, class_cause.third_ampersand place u text (same_place Sets us start added from at_class i (u ∷ text) there) at (eqb-true u.value 38 ampersand))
+    in_operands : (operator : SetOperator) → operator_of i.inner.held ≡ Some operator → Wrong
+    in_operands Subtraction held = refused Subtraction held (λ at. refl)
+    in_operands Intersection held = elim (cases_Bool (starts 38 (values rest))) [ inl ampersand ↦ by_place i.at refl i.begins rest refl ampersand | inr other ↦ refused Intersection held (λ at. ap not other) ]
+      where
+        elsewhere : (q : Place) → i.at ≡ q → (q ≡ after_operator Intersection → ⊥) → Wrong
+        elsewhere q at other = refused Intersection held (λ is. absurd (other (sym at ∙ is)))
 
         by_place : (q : Place) → i.at ≡ q → begins_item q ≡ true → (text : List CodePoint) → rest ≡ text → starts 38 (values text) ≡ true → Wrong
-        by_place after_meet at begins text there ampersand = third at text there ampersand
-        by_place fresh at begins text there ampersand = refused (λ meets. let same = sym at ∙ meets in absurd (let no : ⊥ = cc same in no))
-        by_place after_less at begins text there ampersand = refused (λ meets. let same = sym at ∙ meets in absurd (let no : ⊥ = cc same in no))
-        by_place outside at begins text there ampersand = absurd (true≢false (sym begins))
-        by_place at_dash at begins text there ampersand = absurd (true≢false (sym begins))
-        by_place at_high at begins text there ampersand = absurd (true≢false (sym begins))
-        by_place at_second at begins text there ampersand = absurd (true≢false (sym begins))
-        by_place at_third at begins text there ampersand = absurd (true≢false (sym begins))
-        by_place in_strings at begins text there ampersand = absurd (true≢false (sym begins))
+        by_place (after_operator Intersection) at begins [] there ampersand = absurd (true≢false (sym ampersand))
+        by_place (after_operator Intersection) at begins (u ∷ text) there ampersand =
+            (place, _, class_cause.third_ampersand place u text (same_place Sets us start added from at_class i (u ∷ text) there) at (eqb-true u.value 38 ampersand))
+        by_place (after_operator Subtraction) at begins text there ampersand = elsewhere (after_operator Subtraction) at (λ is. cc is)
+        by_place fresh at begins text there ampersand = elsewhere fresh at (λ is. cc is)
+        by_place q at begins text there ampersand = absurd (true≢false (sym begins))
 
     -- nothing in the bracket
     in_none : i.inner.held ≡ empty → (text : List CodePoint) → rest ≡ text → Wrong
@@ -73,10 +71,8 @@ module _ (us : List CodePoint) (start added from : ℕ) (at_class : List CodePoi
     by_held empty e = in_none e rest refl
     by_held single e = in_union (ap is_union e) (λ none_held. let no = sym e ∙ none_held in absurd (let f : ⊥ = cc no in f))
     by_held several e = in_union (ap is_union e) (λ none_held. let no = sym e ∙ none_held in absurd (let f : ⊥ = cc no in f))
-    by_held meeting e = in_operands _ (ap operator_of e)
-    by_held met e = in_operands _ (ap operator_of e)
-    by_held lessening e = in_operands _ (ap operator_of e)
-    by_held lessened e = in_operands _ (ap operator_of e)
+    by_held (pending o) e = in_operands o (ap operator_of e)
+    by_held (joined o) e = in_operands o (ap operator_of e)
 
   -- Where nothing may follow a refusal says so, by what the bracket holds.
   refuses_nothing : RefusesNothing Sets us start added from at_class

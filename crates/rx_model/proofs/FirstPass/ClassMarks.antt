@@ -5,6 +5,8 @@ use Rattle.std.proofs.lemmas.Bool.Decides.{nat_tests}
 use Rattle.std.proofs.lemmas.List.{map-append}
 use Rattle.std.proofs.lemmas.Option.{option_and_then_some}
 use Rattle.rx_tables.specs.Characters.{control_letter_value, hex_digit_value, is_class_set_reserved_double_punctuator, is_class_set_syntax_character, is_octal_digit}
+use Rattle.rx_base.specs.declared.diagnostic.kinds.SetOperator.{SetOperator}
+use Rattle.rx_base.specs.declared.diagnostic.kinds.SetOperator.TheVariants as set
 use Rattle.rx_base.specs.declared.span.Span.{Span}
 use Rattle.rx_ast.specs.declared.leaf.Character.{Character}
 use Rattle.rx_ast.specs.declared.leaf.CharacterClassEscapeKind.{CharacterClassEscapeKind}
@@ -22,10 +24,10 @@ use Rattle.rx_units.specs.Digits.{front_is, hex_after}
 use Rattle.rx_units.proofs.Choices.{both}
 use Rattle.rx_model.specs.declared.mode.Mode.{Mode}
 use Rattle.rx_model.specs.declared.mode.Mode.TheVariants.{Legacy, Unicode, Sets}
-use Rattle.rx_model.specs.Classes.ClassRows.{stands_raw_in_class, SpellsInClassAlone, SpellsClassCharacter, SpellsAtom, SpellsBracket, SpellsInClass, ClassTokenRow, IsClass, Place, outside, fresh, at_dash, at_high, at_second, at_third, after_meet, after_less, in_strings, next_place}
+use Rattle.rx_model.specs.Classes.ClassRows.{stands_raw_in_class, SpellsInClassAlone, SpellsClassCharacter, SpellsAtom, SpellsBracket, SpellsInClass, ClassTokenRow, IsClass, Place, outside, fresh, at_dash, at_high, at_second, at_third, after_operator, in_strings, next_place}
 use Rattle.rx_model.specs.Classes.ClassRows as spelled
 use Rattle.rx_ast.specs.Texts.{class_escape_text, property_opener}
-use Rattle.rx_model.specs.Classes.ClassTokens.{Atom, character, escape, property, ClassToken, bracket, closer, item, low, dash, high, meet, less, strings, letter, string_bar, strings_end, ClassEvents, enter, leave, token, class_tokens, class_tokens_of, within, letters_events, string_events, barred_strings_events, strings_events, range_events, operator_events, member_events, class_events, members_events, more_members_events}
+use Rattle.rx_model.specs.Classes.ClassTokens.{Atom, character, escape, property, ClassToken, bracket, closer, item, low, dash, high, operator, strings, letter, string_bar, strings_end, ClassEvents, enter, leave, token, class_tokens, class_tokens_of, within, letters_events, string_events, barred_strings_events, strings_events, range_events, operator_events, member_events, class_events, members_events, more_members_events}
 use Rattle.rx_model.specs.Inputs.Environment.{Environment, is_sets, is_unicode}
 use Rattle.rx_model.specs.Characters.Escapes as escapes
 use Rattle.rx_model.specs.Characters.Escapes.{SpellsEscape, control, null, hexadecimal, unicode, identity}
@@ -236,8 +238,7 @@ module _ (e : Environment) where
   item_passing a fresh w more s = atom_passed e a w more s.0
   item_passing a at_second w more s = text_passed (45 ∷ []) w more (plain_passed 45 refl) s.1
   item_passing a at_third w more s = atom_passed e a w more s
-  item_passing a after_meet w more s = atom_passed e a w more s.1
-  item_passing a after_less w more s = atom_passed e a w more s.1
+  item_passing a (after_operator o) w more s = atom_passed e a w more s.1
   item_passing a q w more s = absurd (let no : ⊥ = assumption s in no)
 
   low_passing : (k : CharacterKind) (v : ℕ) → IsPassing (low k v)
@@ -252,21 +253,17 @@ module _ (e : Environment) where
   high_passing k v at_high w more s = character_passed e k v w more s
   high_passing k v q w more s = absurd (let no : ⊥ = assumption s in no)
 
-  meet_passing : IsPassing meet
-  meet_passing fresh w more s = text_passed (38 ∷ 38 ∷ []) w more (unit_passed e.mode 38 (38 ∷ []) refl (plain_passed 38 refl)) s.1
-  meet_passing q w more s = absurd (let no : ⊥ = assumption s in no)
-
-  less_passing : IsPassing less
-  less_passing fresh w more s = text_passed (45 ∷ 45 ∷ []) w more (unit_passed e.mode 45 (45 ∷ []) refl (plain_passed 45 refl)) s.1
-  less_passing q w more s = absurd (let no : ⊥ = assumption s in no)
+  operator_passing : (o : SetOperator) → IsPassing (operator o)
+  operator_passing set.Intersection fresh w more s = text_passed (38 ∷ 38 ∷ []) w more (unit_passed e.mode 38 (38 ∷ []) refl (plain_passed 38 refl)) s.1
+  operator_passing set.Subtraction fresh w more s = text_passed (45 ∷ 45 ∷ []) w more (unit_passed e.mode 45 (45 ∷ []) refl (plain_passed 45 refl)) s.1
+  operator_passing o q w more s = absurd (let no : ⊥ = assumption s in no)
 
   opener_passed : IsPassed e.mode (92 ∷ 113 ∷ 123 ∷ [])
   opener_passed = escape_passed e.mode 113 (123 ∷ []) (plain_passed 123 refl)
 
   strings_passing : IsPassing strings
   strings_passing fresh w more s = text_passed (92 ∷ 113 ∷ 123 ∷ []) w more opener_passed s.1
-  strings_passing after_meet w more s = text_passed (92 ∷ 113 ∷ 123 ∷ []) w more opener_passed s.1
-  strings_passing after_less w more s = text_passed (92 ∷ 113 ∷ 123 ∷ []) w more opener_passed s.1
+  strings_passing (after_operator o) w more s = text_passed (92 ∷ 113 ∷ 123 ∷ []) w more opener_passed s.1
   strings_passing q w more s = absurd (let no : ⊥ = assumption s in no)
 
   letter_passing : (k : CharacterKind) (v : ℕ) → IsPassing (letter k v)
@@ -289,8 +286,7 @@ module _ (e : Environment) where
   nested_bracket negative at_high w more inside s = absurd s
   nested_bracket negative at_second w more inside s = absurd s
   nested_bracket negative at_third w more inside s = absurd s
-  nested_bracket negative after_meet w more inside s = (s.0, s.1)
-  nested_bracket negative after_less w more inside s = (s.0, s.1)
+  nested_bracket negative (after_operator o) w more inside s = (s.0, s.1)
   nested_bracket negative in_strings w more inside s = absurd s.1
 
   bracket_begins : (negative : Bool) (n : ℕ) (w more : List CodePoint) → is_sets e.mode ≡ true → SpellsBracket negative w more →
@@ -338,8 +334,8 @@ module _ (e : Environment) where
 
   operator_keeps : (kind : CharacterClassContentsKind) → Keeps (operator_events kind)
   operator_keeps Union n ts h = h
-  operator_keeps Intersection n ts h = passing_ends meet n ts meet_passing h
-  operator_keeps Subtraction n ts h = passing_ends less n ts less_passing h
+  operator_keeps Intersection n ts h = passing_ends (operator set.Intersection) n ts (operator_passing set.Intersection) h
+  operator_keeps Subtraction n ts h = passing_ends (operator set.Subtraction) n ts (operator_passing set.Subtraction) h
 
   letters_keep : (cs : List Character) → Keeps (letters_events cs)
   letters_keep [] n ts h = h

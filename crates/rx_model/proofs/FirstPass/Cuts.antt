@@ -16,7 +16,7 @@ use Rattle.rx_units.specs.Units.{values}
 use Rattle.rx_units.specs.Digits.{front_is}
 use Rattle.rx_units.proofs.Choices.{both}
 use Rattle.rx_model.specs.declared.mode.Mode.{Mode}
-use Rattle.rx_model.specs.declared.mode.Mode.TheVariants.{Legacy, Unicode, Sets}
+use Rattle.rx_model.specs.declared.mode.Mode.TheVariants.{Legacy}
 use Rattle.rx_ast.specs.Texts.{boundary_text, class_escape_text, property_opener, look_text}
 use Rattle.rx_model.specs.Classes.ClassRows.{IsClass}
 use Rattle.rx_model.specs.FirstPass.Cuts.{AreMarksOf, AreOthers, IsCut, IsOpening}
@@ -52,8 +52,7 @@ module _ (e : Environment) where
 -- a character that stands for itself, or is escaped
 raw_plain : (mode : Mode) (u : ℕ) → stands_raw mode u ≡ true → is_plain u ≡ true
 raw_plain Legacy u h = plain_in (λ c. not (is_legacy_syntax c)) u refl h
-raw_plain Unicode u h = plain_in (λ c. not (is_syntax_character c)) u refl h
-raw_plain Sets u h = plain_in (λ c. not (is_syntax_character c)) u refl h
+raw_plain mode u h = plain_in (λ c. not (is_syntax_character c)) u refl h
 
 raw_others : (e : Environment) (kind : CharacterKind) (v : ℕ) (w rest : List CodePoint) → IsRaw e kind v w rest → GiveOthers e.mode (values w)
 raw_others e kind v w rest r = subst (λ w. GiveOthers e.mode (values w)) (sym r.alone) (plain_others e.mode r.unit.value [] (raw_plain e.mode r.unit.value r.allowed) (nothing_others e.mode))

@@ -136,8 +136,7 @@ has_new : (k x : ℕ) (m : Mark) (fs : List GroupState) → k ≡ x → opens m 
 has_new k x other fs s o = absurd (false≢true o)
 has_new k x bar fs s o = absurd (false≢true o)
 has_new k x closer fs s o = absurd (false≢true o)
-has_new k x quiet fs s o = (0, ap suc s)
-has_new k x (capturing name) fs s o = (0, ap suc s)
+has_new k x q fs s o = (0, ap suc s)
 
 pub has : (ms : List Mark) (k x : ℕ) → IsOpen ms x k → Held x (group_states ms k)
 has ms zero x o = let b = o.before in absurd (omega arith)

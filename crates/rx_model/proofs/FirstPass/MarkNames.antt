@@ -136,7 +136,7 @@ contains_first x xs name e = (0, omega arith, e)
 contains_more : (x : List ℕ) (xs : List (List ℕ)) (name : List ℕ) → Contains xs name → Contains (x ∷ xs) name
 contains_more x xs name (k, l, e) = (suc k, omega arith, e)
 
-contains_cases : (x : List ℕ) (xs : List (List ℕ)) (name : List ℕ) → Contains (x ∷ xs) name → (x ≡ name) ⊎ Contains xs name
+pub contains_cases : (x : List ℕ) (xs : List (List ℕ)) (name : List ℕ) → Contains (x ∷ xs) name → (x ≡ name) ⊎ Contains xs name
 contains_cases x xs name (zero, l, e) = inl e
 contains_cases x xs name (suc k, l, e) = inr (k, omega arith, e)
 

@@ -107,8 +107,7 @@ module _ (mode : Mode) (ms : List Mark) where
 pub opening_step : (mode : Mode) (o : tree.Opener) (m : Mark) (k : ℕ) (fs : List GroupState) → IsOpening mode (opener_of o) m → step k m fs ≡ (suc k, suc k) ∷ fs
 opening_step mode (tree.capturing None) m k fs h = ap (λ x. step k x fs) h
 opening_step mode (tree.capturing (Some name)) m k fs h = ap (λ x. step k x fs) h.1
-opening_step mode (tree.ignoring modifiers) m k fs h = ap (λ x. step k x fs) h
-opening_step mode (tree.looking kind) m k fs h = ap (λ x. step k x fs) h
+opening_step mode q m k fs h = ap (λ x. step k x fs) h
 
 -- and has no name but the group's
 pub opening_named : (mode : Mode) (o : tree.Opener) (m : Mark) (name : List ℕ) → IsOpening mode (opener_of o) m → mark_name mode m ≡ Some name → Contains (opener_names o) name
@@ -126,5 +125,4 @@ one_name x name (suc k, l, e) = absurd (omega arith)
 pub named_opening : (mode : Mode) (o : tree.Opener) (m : Mark) (name : List ℕ) → IsOpening mode (opener_of o) m → Contains (opener_names o) name → mark_name mode m ≡ Some name
 named_opening mode (tree.capturing None) m name h c = let l = c.1 in absurd (omega arith)
 named_opening mode (tree.capturing (Some x)) m name h c = ap (mark_name mode) h.1 ∙ h.2 ∙ ap Some (one_name x name c)
-named_opening mode (tree.ignoring modifiers) m name h c = let l = c.1 in absurd (omega arith)
-named_opening mode (tree.looking kind) m name h c = let l = c.1 in absurd (omega arith)
+named_opening mode q m name h c = let l = c.1 in absurd (omega arith)

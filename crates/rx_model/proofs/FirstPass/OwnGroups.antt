@@ -18,7 +18,7 @@ use Rattle.rx_model.specs.Trees.Names.{once_after, opener_groups, opener_names, 
 use Rattle.rx_model.specs.Refusals.Reached.{text_environment, text_groups, text_names}
 use Rattle.rx_model.specs.Reading.Reading.{IsSpelled}
 use Rattle.rx_model.specs.Reading.Rows.{TokenRow}
-use Rattle.rx_model.specs.Trees.Token.{Token, Opener, boundary, character, dot, class_escape, property, class, indexed, named, opener, closer, bar, quantifier, capturing, ignoring, looking, opener_of, leaf_token}
+use Rattle.rx_model.specs.Trees.Token.{Token, Opener, boundary, character, dot, class_escape, property, class, indexed, named, opener, closer, bar, quantifier, capturing, opener_of, leaf_token}
 use Rattle.rx_model.specs.declared.rules.Rules.{Rules}
 use Rattle.rx_model.proofs.FirstPass.Cuts.{token_cut}
 use Rattle.rx_model.proofs.Trees.Flat.{before, before-append, before_leaf, before_quantified, before_group, before_alternative, tokens_are}
@@ -38,13 +38,11 @@ row_marks e (t ∷ ts) us r =
 -- how many groups a token opens that capture, and their names
 abbrev opened_groups : Opener → ℕ
 opened_groups (capturing name) = 1
-opened_groups (ignoring bits) = 0
-opened_groups (looking kind) = 0
+opened_groups q = 0
 
 abbrev opened_names : Opener → List (List ℕ)
 opened_names (capturing name) = listed name
-opened_names (ignoring bits) = []
-opened_names (looking kind) = []
+opened_names q = []
 
 abbrev token_groups : Token → ℕ
 token_groups (boundary kind) = 0
@@ -56,9 +54,7 @@ token_groups (class c) = 0
 token_groups (indexed n) = 0
 token_groups (named name) = 0
 token_groups (opener o) = opened_groups o
-token_groups closer = 0
-token_groups bar = 0
-token_groups (quantifier min max greedy) = 0
+token_groups q = 0
 
 abbrev token_names : Token → List (List ℕ)
 token_names (boundary kind) = []
@@ -70,9 +66,7 @@ token_names (class c) = []
 token_names (indexed n) = []
 token_names (named name) = []
 token_names (opener o) = opened_names o
-token_names closer = []
-token_names bar = []
-token_names (quantifier min max greedy) = []
+token_names q = []
 
 abbrev tokens_groups : List Token → ℕ
 tokens_groups [] = 0
@@ -122,8 +116,7 @@ module _ (mode : Mode) where
   opening_counted : (o : Opener) (m : Mark) → IsOpening mode o m → (mark_count m ≡ opened_groups o) × (listed (mark_name mode m) ≡ opened_names o)
   opening_counted (capturing None) m h = (ap mark_count h, ap (λ m. listed (mark_name mode m)) h)
   opening_counted (capturing (Some name)) m h = (ap mark_count h.1, ap (λ m. listed (mark_name mode m)) h.1 ∙ ap listed h.2)
-  opening_counted (ignoring bits) m h = (ap mark_count h, ap (λ m. listed (mark_name mode m)) h)
-  opening_counted (looking kind) m h = (ap mark_count h, ap (λ m. listed (mark_name mode m)) h)
+  opening_counted q m h = (ap mark_count h, ap (λ m. listed (mark_name mode m)) h)
 
   token_counted : (t : Token) (ms : List Mark) → AreMarksOf mode t ms → AreCounted ms (token_groups t) (token_names t)
   token_counted (boundary kind) ms h = others_counted ms h

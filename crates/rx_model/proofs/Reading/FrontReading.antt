@@ -16,7 +16,7 @@ use Rattle.rx_model.specs.Groups.Groups.{BeginsName, is_mark, looks, of_group, o
 use Rattle.rx_model.specs.Groups.ModifierFronts.{ModifiersRead, modifiers_read, no_modifiers_read, modifiers_read_at}
 use Rattle.rx_model.specs.Groups.NameFronts.{NameRead, name_read, no_name_read, name_read_at}
 use Rattle.rx_model.specs.declared.mode.Mode.{Mode}
-use Rattle.rx_model.specs.declared.mode.Mode.TheVariants.{Legacy, Unicode, Sets}
+use Rattle.rx_model.specs.declared.mode.Mode.TheVariants.{Legacy}
 use Rattle.rx_model.specs.Inputs.Environment.{Environment, is_unicode}
 use Rattle.rx_model.specs.Properties.PropertyForms.{begins_property}
 use Rattle.rx_model.specs.Quantifiers.CountsReading.{CountsRead, counts_read, no_counts_read, many_digits, counts_read_at}
@@ -144,8 +144,7 @@ legacy_raw e c w m raw none = elim (cases_Bool (is_legacy_syntax c)) [
   where
     stands : (mode : Mode) → is_unicode mode ≡ false → is_legacy_syntax c ≡ false → stands_raw mode c ≡ true
     stands Legacy m h = ap not h
-    stands Unicode m h = absurd (true≢false m)
-    stands Sets m h = absurd (true≢false m)
+    stands mode m h = absurd (true≢false m)
 
 legacy_quantifier : (c : ℕ) (w : List ℕ) → is_legacy_syntax c ≡ true → (c == 46 || c == 40 || c == 41 || c == 124 || c == 94 || c == 36 || c == 92 || c == 91) ≡ false → (c == 42 || c == 43 || c == 63) ≡ true
 legacy_quantifier c w s other = grind (arith, nat_tests)
@@ -159,8 +158,7 @@ unicode_syntax e c w m raw = elim (cases_Bool (is_syntax_character c)) [
   where
     stands : (mode : Mode) → is_unicode mode ≡ true → is_syntax_character c ≡ false → stands_raw mode c ≡ true
     stands Legacy m h = absurd (true≢false (sym m))
-    stands Unicode m h = ap not h
-    stands Sets m h = ap not h
+    stands mode m h = ap not h
 
 -- Where no counts stand, no `*`, `+` and `?` does.
 no_unit_counts : (c : ℕ) (w : List ℕ) → counts_at (c ∷ w) ≡ no_counts → (c == 42 || c == 43 || c == 63) ≡ false

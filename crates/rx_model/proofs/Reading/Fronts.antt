@@ -18,13 +18,13 @@ use Rattle.rx_units.specs.Units.{values}
 use Rattle.rx_units.specs.Digits.{front_is}
 use Rattle.rx_units.proofs.Choices.{chosen, Some-inj, both}
 use Rattle.rx_model.specs.declared.mode.Mode.{Mode}
-use Rattle.rx_model.specs.declared.mode.Mode.TheVariants.{Legacy, Unicode, Sets}
+use Rattle.rx_model.specs.declared.mode.Mode.TheVariants.{Legacy}
 use Rattle.rx_ast.specs.Texts.{boundary_text, class_escape_text}
 use Rattle.rx_model.specs.Classes.ClassFronts.{class_front}
 use Rattle.rx_model.specs.Classes.ClassRows.{IsClass}
 use Rattle.rx_model.specs.Inputs.Environment.{Environment, for_classes, is_unicode}
 use Rattle.rx_model.specs.Characters.Escapes.{SpellsEscape}
-use Rattle.rx_model.specs.Reading.Fronts.{EscapeRead, escaped, nothing, too_many, no_unicode, any_escape_at, is_reference, are_counts, is_raw_at, boundary_at, class_escape_at, escaped_token, backslash_token, backslash_front, Counts, counts, no_counts, counts_at, quantifier_token, opener_token, bracket_token, property_token, Digits, digits, digits_after, indexed_token, named_token, syntax_front, front}
+use Rattle.rx_model.specs.Reading.Fronts.{EscapeRead, escaped, any_escape_at, is_reference, are_counts, is_raw_at, boundary_at, class_escape_at, escaped_token, backslash_token, backslash_front, Counts, counts, no_counts, counts_at, quantifier_token, opener_token, bracket_token, property_token, Digits, digits, digits_after, indexed_token, named_token, syntax_front, front}
 use Rattle.rx_model.specs.Groups.GroupFronts.{group_front, reference_front}
 use Rattle.rx_model.specs.Characters.LegacyEscapes.{SpellsLegacy, run_number}
 use Rattle.rx_model.specs.Properties.PropertyFronts.{PropertyRead, property_read, no_property, property_front}
@@ -47,14 +47,12 @@ legacy_syntax c h = grind (arith, nat_tests)
 -- the characters that stand for themselves in no mode
 syntax_not_raw : (mode : Mode) (c : ℕ) → is_legacy_syntax c ≡ true → stands_raw mode c ≡ false
 syntax_not_raw Legacy c h = ap not h
-syntax_not_raw Unicode c h = ap not (legacy_syntax c h)
-syntax_not_raw Sets c h = ap not (legacy_syntax c h)
+syntax_not_raw mode c h = ap not (legacy_syntax c h)
 
 -- with `u` or `v` no SyntaxCharacter does
 pub unicode_not_raw : (mode : Mode) (c : ℕ) → is_unicode mode ≡ true → is_syntax_character c ≡ true → stands_raw mode c ≡ false
 unicode_not_raw Legacy c m h = absurd (let no : ⊥ = cc m in no)
-unicode_not_raw Unicode c m h = ap not h
-unicode_not_raw Sets c m h = ap not h
+unicode_not_raw mode c m h = ap not h
 
 not_raw_at : (e : Environment) (c : ℕ) (w : List ℕ) → stands_raw e.mode c ≡ false → is_raw_at e c w ≡ false
 not_raw_at e c w h = and_left _ (is_unicode e.mode || not (are_counts (counts_at (c ∷ w)))) h
@@ -393,9 +391,7 @@ module _ (e : Environment) where
 
   escape_at_front : (u : CodePoint) (us : List CodePoint) (p : Token × ℕ) → u.value ≡ 92 → (r : EscapeRead) → any_escape_at false e (values us) ≡ r → escaped_token r ≡ Some p → FrontOf (u ∷ us) p
   escape_at_front u us p h (escaped k v n) f q = any_at_front u us p k v n h (any_spelled false e k v n (values us) f) q
-  escape_at_front u us p h nothing f q = absurd (let k : ⊥ = cc q in k)
-  escape_at_front u us p h (too_many n) f q = absurd (let k : ⊥ = cc q in k)
-  escape_at_front u us p h no_unicode f q = absurd (let k : ⊥ = cc q in k)
+  escape_at_front u us p h t f q = absurd (let k : ⊥ = cc q in k)
 
   two_units : (u v : CodePoint) (text : List ℕ) → u.value ≡ 92 → 92 ∷ v.value ∷ [] ≡ text → values (u ∷ v ∷ []) ≡ text
   two_units u v text h k = ap (λ c. c ∷ v.value ∷ []) h ∙ k

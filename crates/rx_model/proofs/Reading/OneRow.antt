@@ -11,9 +11,9 @@ use Rattle.rx_model.specs.Reading.Boundaries.{has_buffers, has_boundary}
 use Rattle.rx_ast.specs.ClassTree.{Class}
 use Rattle.rx_units.proofs.Choices.{Some-inj}
 use Rattle.rx_model.specs.Classes.ClassRows as in_class
-use Rattle.rx_model.specs.Classes.ClassRows.{stands_raw_in_class, SpellsInClassAlone, SpellsClassCharacter, SpellsAtom, BeforeHigh, BeforeThird, BeginsNoRange, StandsBefore, Place, outside, fresh, at_dash, at_high, at_second, at_third, after_meet, after_less, in_strings, has_hyphen, has_threes, SpellsOperand, SpellsOfStrings, SpellsInClass, ClassTokenRow, IsClass}
+use Rattle.rx_model.specs.Classes.ClassRows.{stands_raw_in_class, SpellsInClassAlone, SpellsClassCharacter, SpellsAtom, BeforeHigh, BeforeThird, BeginsNoRange, StandsBefore, Place, outside, fresh, at_dash, at_high, at_second, at_third, after_operator, in_strings, has_hyphen, has_threes, SpellsOperand, SpellsOfStrings, SpellsInClass, ClassTokenRow, IsClass}
 use Rattle.rx_model.specs.Classes.ClassTokens as tokens
-use Rattle.rx_model.specs.Classes.ClassTokens.{Atom, ClassToken, bracket, item, low, dash, high, meet, less, strings, letter, string_bar, strings_end, class_tokens}
+use Rattle.rx_model.specs.Classes.ClassTokens.{Atom, ClassToken, bracket, item, low, dash, high, operator, strings, letter, string_bar, strings_end, class_tokens}
 use Rattle.rx_model.specs.Inputs.Environment.{Environment, for_classes, is_sets, is_unicode}
 use Rattle.rx_model.specs.Characters.Escapes.{SpellsEscape, control, letter, null, hexadecimal, unicode, identity}
 use Rattle.rx_model.specs.Reading.Fronts.{front}
@@ -24,7 +24,7 @@ use Rattle.rx_model.specs.Characters.LegacyEscapes.{IsIdentity, SpellsLegacy}
 use Rattle.rx_model.specs.Properties.PropertyEscapes.{SpellsProperty, IsProperty}
 use Rattle.rx_model.specs.Reading.Rows.{IsRaw, IsEscaped, IsLegacyEscaped, Spells, TokenRow}
 use Rattle.rx_units.specs.Sequences.{ElementRow}
-use Rattle.rx_model.specs.Trees.Token.{Token, Opener, capturing, ignoring, looking, boundary, character, dot, class_escape, property, class, indexed, named, opener, closer, bar, quantifier}
+use Rattle.rx_model.specs.Trees.Token.{Token, Opener, capturing, ignoring, looking, boundary, character, dot, class_escape, property, class, indexed, named, opener, bar}
 use Rattle.rx_model.specs.Characters.UnicodeEscapes.{SpellsUnicode}
 use Rattle.rx_model.proofs.Reading.Fronts.{spelled_front}
 use Rattle.rx_units.proofs.Sequences.{longest, one}
@@ -37,9 +37,7 @@ boundary_same e d boundaries.Start m b = refl
 boundary_same e d boundaries.End m b = refl
 boundary_same e d boundaries.Boundary m b = refl
 boundary_same e d boundaries.NegativeBoundary m b = refl
-boundary_same e d boundaries.StartBuffer m b = buffers_same e d m b
-boundary_same e d boundaries.EndBuffer m b = buffers_same e d m b
-boundary_same e d boundaries.EndBufferOptionalNewline m b = buffers_same e d m b
+boundary_same e d q m b = buffers_same e d m b
 
 escape_same : (e d : Environment) (kind : CharacterKind) (v : ℕ) (w rest : List ℕ) → e.mode ≡ d.mode → SpellsEscape e kind v w rest → SpellsEscape d kind v w rest
 escape_same e d _ v _ rest m (control h) = control h
@@ -224,14 +222,12 @@ in_class_same e d fresh (item a) w rest m n g s = (atom_same e d a w rest m n g 
 in_class_same e d fresh (low k v) w rest m n g s = (class_character_same e d k v w rest m n g s.0, s.1, before_high_same e d rest m n g s.2)
 in_class_same e d fresh (bracket negative) w rest m n g s = (ap is_sets (sym m) ∙ s.0, s.1)
 in_class_same e d fresh strings w rest m n g s = (ap is_sets (sym m) ∙ s.0, s.1)
-in_class_same e d fresh meet w rest m n g s = (ap is_sets (sym m) ∙ s.0, s.1)
-in_class_same e d fresh less w rest m n g s = (ap is_sets (sym m) ∙ s.0, s.1)
+in_class_same e d fresh (operator o) w rest m n g s = (ap is_sets (sym m) ∙ s.0, s.1)
 in_class_same e d at_dash dash w rest m n g s = s
 in_class_same e d at_high (high k v) w rest m n g s = class_character_same e d k v w rest m n g s
 in_class_same e d at_second (item a) w rest m n g s = s
 in_class_same e d at_third (item a) w rest m n g s = atom_same e d a w rest m n g s
-in_class_same e d after_meet t w rest m n g s = (ap is_sets (sym m) ∙ s.0, operand_same e d t w rest m n g s.1, s.2)
-in_class_same e d after_less t w rest m n g s = (ap is_sets (sym m) ∙ s.0, operand_same e d t w rest m n g s.1)
+in_class_same e d (after_operator o) t w rest m n g s = (ap is_sets (sym m) ∙ s.0, operand_same e d t w rest m n g s.1, s.2)
 in_class_same e d in_strings t w rest m n g s = (ap is_sets (sym m) ∙ s.0, of_strings_same e d t w rest m n g s.1)
 in_class_same e d q t w rest m n g s = absurd s
 
@@ -269,8 +265,7 @@ Spells-mode e d (class c) w rest m b n g s = class_same (for_classes e) (for_cla
 Spells-mode e d (indexed index) w rest m b n g s = indexed_same e d index w rest m g s
 Spells-mode e d (named name) w rest m b n g s = named_same e d name w rest m n s
 Spells-mode e d (opener o) w rest m b n g s = opener_same e d o w rest m s
-Spells-mode e d closer w rest m b n g s = s
-Spells-mode e d (quantifier min max greedy) w rest m b n g s = s
+Spells-mode e d q w rest m b n g s = s
 
 pub TokenRow-mode : (e d : Environment) (ts : List Token) (us rest : List CodePoint) → e.mode ≡ d.mode → e.buffer_boundaries ≡ d.buffer_boundaries → e.named ≡ d.named → AgreeOnGroups e d →
     TokenRow e ts us rest → TokenRow d ts us rest

@@ -18,11 +18,11 @@ use Rattle.rx_model.specs.Reading.Reading.{IsSpanned}
 use Rattle.rx_ast.specs.ClassTree as in_class
 use Rattle.rx_ast.specs.ClassTree.{Member, Members, Class, no_member, member}
 use Rattle.rx_ast.specs.Tree as ast
-use Rattle.rx_ast.specs.Tree.{Leaf, Opener, Node, Nodes, Alternatives, Whole, leaf, quantified, group, no_node, node, no_alternative}
+use Rattle.rx_ast.specs.Tree.{Leaf, Node, Nodes, Alternatives, Whole, leaf, quantified, group, no_node, node, no_alternative}
 use Rattle.rx_units.specs.declared.code_point.CodePoint.{CodePoint}
 use Rattle.rx_model.specs.Inputs.Environment.{Environment, for_classes}
 use Rattle.rx_model.specs.Trees.Events as event
-use Rattle.rx_model.specs.Trees.Events.{Event, Events, within, leaf_event, opener_event, node_events, nodes_events, alternatives_events, barred_events}
+use Rattle.rx_model.specs.Trees.Events.{Events, within, opener_event, node_events, nodes_events, alternatives_events, barred_events}
 use Rattle.rx_model.specs.Classes.ClassTokens as of_class
 use Rattle.rx_model.specs.Classes.ClassTokens.{ClassEvents, letters_events, string_events, barred_strings_events, strings_events, operator_events, member_events, class_events, members_events, more_members_events}
 use Rattle.rx_model.specs.Classes.ClassRows.{ClassRow, Place}

@@ -11,7 +11,7 @@ use Rattle.rx_units.specs.Digits.{front_is, PassesHex}
 use Rattle.rx_units.proofs.Choices.{both}
 use Rattle.rx_model.specs.declared.mode.Mode.{Mode}
 use Rattle.rx_model.specs.Refusals.Causes.{LeadNowhere}
-use Rattle.rx_model.specs.Characters.Decoding.{Decoded, value, invalid, overflow, decoded}
+use Rattle.rx_model.specs.Characters.Decoding.{Decoded, value, decoded}
 use Rattle.rx_model.specs.Inputs.Environment.{Environment, is_unicode}
 use Rattle.rx_model.specs.Characters.EscapeFronts.{EscapeRead, escaped, nothing, too_many, no_unicode, or_legacy}
 use Rattle.rx_model.specs.Reading.Fronts.{escape_at, escaped_token, unicode_read, backslash_front, named_token, opener_token, front}
@@ -168,8 +168,7 @@ module _ (mode : Mode) (rules : Rules) (us : List CodePoint) where
 
   no_unicode_token : (w : List ℕ) → ((v n : ℕ) → Decodes true w v n → ⊥) → ((count : ℕ) → PassesHex w count → ⊥) → (d : Decoded) → decoded true w ≡ d → escaped_token (unicode_read d) ≡ None
   no_unicode_token w no_value no_limit (value v n) h = absurd (no_value v n ((value_law true w v n).0 h))
-  no_unicode_token w no_value no_limit invalid h = refl
-  no_unicode_token w no_value no_limit (overflow n) h = refl
+  no_unicode_token w no_value no_limit q h = refl
 
   pub blocked_escape : is_unicode mode ≡ true → (rest : List CodePoint) (following : List ℕ) → values rest ≡ 92 ∷ 117 ∷ following → ((v n : ℕ) → Decodes true (117 ∷ following) v n → ⊥) → ((count : ℕ) → PassesHex (117 ∷ following) count → ⊥)
       → IsBlocked mode rules us rest

@@ -6,7 +6,7 @@ use Rattle.rx_base.specs.Characters.{is_one_of}
 use Rattle.rx_units.specs.declared.code_point.CodePoint.{CodePoint}
 use Rattle.rx_units.specs.Units.{values}
 use Rattle.rx_model.specs.declared.mode.Mode.{Mode}
-use Rattle.rx_model.specs.declared.mode.Mode.TheVariants.{Legacy, Unicode, Sets}
+use Rattle.rx_model.specs.declared.mode.Mode.TheVariants.{Legacy}
 use Rattle.rx_model.specs.Inputs.Environment.{Environment, is_unicode}
 use Rattle.rx_model.specs.Characters.LegacyEscapes.{is_class_control, is_control}
 use Rattle.rx_model.specs.Quantifiers.Quantifiers.{BeginsWithBraces}
@@ -20,8 +20,7 @@ no_syntax c h = grind (arith, nat_tests)
 
 raw_by : (mode : Mode) (c : ℕ) → is_unicode mode ≡ false → is_one_of (codes "^$\\.*+?()[|") c ≡ false → stands_raw mode c ≡ true
 raw_by Legacy c m h = ap not (no_syntax c h)
-raw_by Unicode c m h = absurd (let no : ⊥ = cc m in no)
-raw_by Sets c m h = absurd (let no : ⊥ = cc m in no)
+raw_by mode c m h = absurd (let no : ⊥ = cc m in no)
 
 pub unit_stands : (e : Environment) (u : CodePoint) (us : List CodePoint) → is_unicode e.mode ≡ false → is_one_of (codes "^$\\.*+?()[|") u.value ≡ false →
     (BeginsWithBraces (values (u ∷ us)) → ⊥) → Spells e (character (unit_kind u.escape_kind) u.value) (u ∷ []) us

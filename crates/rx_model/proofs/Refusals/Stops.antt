@@ -175,9 +175,7 @@ module _ (e : Environment) where
 
   nothing_read : (w : List ℕ) (r : EscapeRead) → begins_escape e w ≡ false → escape_at (is_unicode e.mode) w ≡ r → escaped_token r ≡ None
   nothing_read w (escaped kind v n) h f = let s = escape_spelled e kind v n w f in absurd (escape_begins kind v s.spelled s.rest s.spells (ap (begins_escape e) (sym s.whole) ∙ h))
-  nothing_read w nothing h f = refl
-  nothing_read w (too_many n) h f = refl
-  nothing_read w no_unicode h f = refl
+  nothing_read w q h f = refl
 
   nothing_else : (w : List ℕ) (r : EscapeRead) → is_unicode e.mode ≡ true → escaped_token r ≡ None → escaped_token (or_legacy r (is_unicode e.mode) (legacy_at false e w)) ≡ None
   nothing_else w (escaped kind v n) m h = h

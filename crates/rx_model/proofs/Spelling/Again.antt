@@ -5,7 +5,7 @@ use Rattle.rx_base.specs.declared.span.Span.{Span}
 use Rattle.rx_ast.specs.declared.leaf.Character.{Character}
 use Rattle.rx_ast.specs.Forget.{nowhere, forget_leaf, forget_opener, forget_node, forget_nodes, forget_alternatives, no_kind}
 use Rattle.rx_ast.specs.Tree as tree
-use Rattle.rx_ast.specs.Tree.{Leaf, Opener, Node, Nodes, Alternatives, leaf, quantified, group, no_node, node, no_alternative, alternative}
+use Rattle.rx_ast.specs.Tree.{Leaf, Node, Nodes, Alternatives, leaf, quantified, group, no_node, node, no_alternative, alternative}
 use Rattle.rx_model.specs.declared.mode.Mode.{Mode}
 use Rattle.rx_model.specs.Trees.Events.{Events, within, node_events, nodes_events, alternatives_events, barred_events}
 use Rattle.rx_model.specs.Trees.Names.{opener_groups, opener_names, node_groups, nodes_groups, alternatives_groups, node_names, nodes_names, alternatives_names, AreApart, IsNodeApart, AreNodesApart, AreAlternativesApart}
@@ -54,8 +54,7 @@ module _ (mode : Mode) where
   bare_leaf r (tree.class_escape e) = refl
   bare_leaf r (tree.property p) = refl
   bare_leaf r (tree.class c) = ap tree.class (bare_class mode c)
-  bare_leaf r (tree.indexed i) = refl
-  bare_leaf r (tree.named n) = refl
+  bare_leaf r m = refl
 
   mutual
     bare_node : (r : Bool) (n : Node) → forget_node no_kind (again_node r n) ≡ forget_node no_kind n
@@ -83,8 +82,7 @@ module _ (mode : Mode) where
   leaf_again r (tree.class_escape e) ts = refl
   leaf_again r (tree.property p) ts = refl
   leaf_again r (tree.class c) ts = ap (λ c. class c ∷ again_tokens mode false ts) (unspanned_class mode c)
-  leaf_again r (tree.indexed i) ts = refl
-  leaf_again r (tree.named n) ts = refl
+  leaf_again r m ts = refl
 
   -- The tokens of the first events are those of the second, read again, whatever follows.
   abbrev IsAgain : Bool → Events → Events → Type 0
@@ -146,8 +144,7 @@ module _ (mode : Mode) where
 
   again_takes : (r : Bool) (n : Node) → takes mode (again_node r n) ≡ takes mode n
   again_takes r (leaf l) = again_leaf_takes r l
-  again_takes r (quantified s min max greedy n) = refl
-  again_takes r (group s o d more) = refl
+  again_takes r q = refl
 
   mutual
     made_node : (r : Bool) (n : Node) → IsNode mode n → IsNode mode (again_node r n)

@@ -109,11 +109,7 @@ module _ (set : ℕ → Bool) (dollar : set 36 ≡ false) (parenthesis : set 40 
   boundary_outside : (kind : BoundaryAssertionKind) → BeginsOutside set (boundary_text kind)
   boundary_outside boundaries.Start more = caret
   boundary_outside boundaries.End more = dollar
-  boundary_outside boundaries.Boundary more = backslash
-  boundary_outside boundaries.NegativeBoundary more = backslash
-  boundary_outside boundaries.StartBuffer more = backslash
-  boundary_outside boundaries.EndBuffer more = backslash
-  boundary_outside boundaries.EndBufferOptionalNewline more = backslash
+  boundary_outside q more = backslash
 
   look_outside : (kind : LookAroundAssertionKind) → BeginsOutside set (look_text kind)
   look_outside look.Lookahead more = parenthesis
@@ -285,21 +281,18 @@ module _ (e : Environment) (mode : Mode) (m : e.mode ≡ mode) (count : ℕ) (gr
   -- what has no name has the same units in every mode
   same_units : (md : Mode) (at : ℕ) (text : List ℕ) → (md ≡ Legacy → IsNarrow text) → literal_units true at text ≡ literal_units (is_unicode md) at text
   same_units Legacy at text n = sym (narrow_units at text (n refl))
-  same_units Unicode at text n = refl
-  same_units Sets at text n = refl
+  same_units mode at text n = refl
 
   as_units : (t : Token) (at : ℕ) (text : List ℕ) (rest : List CodePoint) → (mode ≡ Legacy → IsNarrow text) → Spells e t (literal_units true at text) rest → Spells e t (literal_units (is_unicode mode) at text) rest
   as_units t at text rest n s = subst (λ us. Spells e t us rest) (same_units mode at text n) s
 
   character_in : (md : Mode) (after_reference : Bool) (c : ℕ) → FitsIn md c → md ≡ Legacy → IsNarrow (character_text md (outside after_reference) c)
   character_in Legacy after_reference c f l = character_narrow (outside after_reference) c (f refl)
-  character_in Unicode after_reference c f l = absurd (let no : ⊥ = cc l in no)
-  character_in Sets after_reference c f l = absurd (let no : ⊥ = cc l in no)
+  character_in mode after_reference c f l = absurd (let no : ⊥ = cc l in no)
 
   class_in : (md : Mode) (c : Class) → IsKnownClass true md c → md ≡ Legacy → IsNarrow (class_text md c)
   class_in Legacy c k l = class_narrow c k
-  class_in Unicode c k l = absurd (let no : ⊥ = cc l in no)
-  class_in Sets c k l = absurd (let no : ⊥ = cc l in no)
+  class_in mode c k l = absurd (let no : ⊥ = cc l in no)
 
   no_legacy : {A : Type 0} → is_unicode e.mode ≡ true → mode ≡ Legacy → A
   no_legacy u l = absurd (true≢false (sym u ∙ ap is_unicode (m ∙ l)))
@@ -371,15 +364,7 @@ module _ (e : Environment) (mode : Mode) (m : e.mode ≡ mode) (count : ℕ) (gr
   followed u (quantifier min max greedy) at text h = front_units u is_question high_question at text h
   followed u (indexed n) at text h = front_units u is_decimal_digit high_digit at text h
   followed u (opener o) at text h = opener_followed u o at text h
-  followed u (boundary kind) at text h = tt
-  followed u (character kind value) at text h = tt
-  followed u dot at text h = tt
-  followed u (class_escape kind) at text h = tt
-  followed u (property negative strings name value) at text h = tt
-  followed u (class c) at text h = tt
-  followed u (named name) at text h = tt
-  followed u closer at text h = tt
-  followed u bar at text h = tt
+  followed u q at text h = tt
 
   append_units : (u : Bool) (at : ℕ) (v w : List ℕ) → (between : ℕ) × (literal_units u at (v ++ w) ≡ literal_units u at v ++ literal_units u between w)
   append_units true at v w = units-append at v w

@@ -122,8 +122,7 @@ raw_legacy c h = grind (arith, nat_tests)
 
 raw_allowed : (mode : Mode) (c : ℕ) → (is_syntax_character c || c == 47) ≡ false → stands_raw mode c ≡ true
 raw_allowed Legacy c h = ap not (raw_legacy c h)
-raw_allowed Unicode c h = first_false (is_syntax_character c) (c == 47) h
-raw_allowed Sets c h = first_false (is_syntax_character c) (c == 47) h
+raw_allowed mode c h = first_false (is_syntax_character c) (c == 47) h
 
 only_brace : (c : ℕ) (w : List ℕ) → (is_syntax_character c || c == 47) ≡ false → BeginsWithBraces (c ∷ w) → ⊥
 only_brace c w h b =
@@ -144,13 +143,11 @@ four_any c low =
 pub four_text : (mode : Mode) (c : ℕ) (rest : List ℕ) → (c == 0x2028 || c == 0x2029) ≡ true →
     SpellsUnicode (is_unicode mode) c (117 ∷ hex_digit (c / 4096 % 16) ∷ hex_digit (c / 256 % 16) ∷ hex_digit (c / 16 % 16) ∷ hex_digit (c % 16) ∷ []) rest
 four_text Legacy c rest h = code_unit (four_read c h)
-four_text Unicode c rest h = alone (four_read c h) (λ lead _. not_lead c h lead)
-four_text Sets c rest h = alone (four_read c h) (λ lead _. not_lead c h lead)
+four_text mode c rest h = alone (four_read c h) (λ lead _. not_lead c h lead)
 
 pub too_great : (mode : Mode) (c : ℕ) → c ≤ 0x10FFFF → (mode ≡ Legacy → c ≤ 0xFFFF) → nat_lt (greatest_raw mode) c ≡ true → ⊥
 too_great Legacy c low fits h = let k = fits refl in grind (arith, nat_tests)
-too_great Unicode c low fits h = grind (arith, nat_tests)
-too_great Sets c low fits h = grind (arith, nat_tests)
+too_great mode c low fits h = grind (arith, nat_tests)
 
 -- an escaped character that is a SyntaxCharacter or `/`
 pub syntax_identity : (inside : Bool) (e : Environment) (c : ℕ) (rest : List ℕ) → (is_syntax_character c || c == 47) ≡ true → IsIdentity inside e c rest

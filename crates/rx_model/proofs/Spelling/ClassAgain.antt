@@ -199,8 +199,7 @@ module _ (mode : Mode) where
 
   kind_again : (kind : CharacterClassContentsKind) (ms : Members) → FitsKind kind ms → FitsKind kind (again_members ms)
   kind_again Union ms h = h
-  kind_again Intersection ms h = (two_again ms h.0, operands_again ms h.1)
-  kind_again Subtraction ms h = (two_again ms h.0, operands_again ms h.1)
+  kind_again kind ms h = (two_again ms h.0, operands_again ms h.1)
 
   mutual
     member_fits : (m : Member) → IsFittingMember m → IsFittingMember (again_member m)

@@ -8,6 +8,7 @@ use Rattle.std.proofs.lemmas.List.{map-append}
 use Rattle.std.proofs.lemmas.List.Elements.{All-head, All-tail}
 use Rattle.std.proofs.Math.Bool.{and-false}
 use Rattle.rx_base.specs.Characters.{is_surrogate, is_within}
+use Rattle.rx_base.specs.declared.diagnostic.kinds.SetOperator.TheVariants as set
 use Rattle.rx_base.specs.declared.span.Span.{Span}
 use Rattle.rx_ast.specs.declared.leaf.Character.{Character}
 use Rattle.rx_ast.specs.declared.leaf.CharacterKind.{CharacterKind}
@@ -25,12 +26,12 @@ use Rattle.rx_units.specs.Digits.{front_is}
 use Rattle.rx_model.specs.declared.mode.Mode.{Mode}
 use Rattle.rx_model.specs.declared.mode.Mode.TheVariants.{Legacy, Unicode, Sets}
 use Rattle.rx_model.specs.Spelling.CharacterText.{control_letter, two_digits, four_digits, hex, braced, surrogate_text, greatest_raw, is_escaped, in_class, character_text}
-use Rattle.rx_model.specs.Classes.ClassRows.{BeforeHigh, ClassTokenRow, IsClass, Place, SpellsAtom, SpellsBracket, SpellsClassCharacter, SpellsInClass, StandsBefore, next_place, following_item, after_less, after_meet, fresh, has_hyphen, has_threes, in_strings, is_dashed, outside, stands_raw_in_class}
+use Rattle.rx_model.specs.Classes.ClassRows.{BeforeHigh, ClassTokenRow, IsClass, Place, SpellsAtom, SpellsBracket, SpellsClassCharacter, SpellsInClass, StandsBefore, next_place, following_item, after_operator, fresh, has_hyphen, has_threes, in_strings, is_dashed, may_follow_operator, outside, stands_raw_in_class}
 use Rattle.rx_model.specs.Classes.ClassRows as spelled
 use Rattle.rx_model.specs.Classes.ClassShapes.{AreFitting, AreOperands, FitsKind, IsFitting, IsFittingMember, IsOperand}
 use Rattle.rx_ast.specs.Texts.{class_escape_text, class_opener, operator_text, property_body, property_text}
 use Rattle.rx_model.specs.Spelling.ClassText.{barred_strings_text, characters_text, class_text, in_class_text, member_text, members_text, more_members_text, strings_text}
-use Rattle.rx_model.specs.Classes.ClassTokens.{Atom, character, escape, property, ClassToken, bracket, closer, item, low, dash, high, meet, less, strings, letter, string_bar, strings_end, leave, token, class_tokens, class_tokens_of, strings_events}
+use Rattle.rx_model.specs.Classes.ClassTokens.{Atom, character, escape, property, ClassToken, bracket, closer, item, low, dash, high, operator, strings, letter, string_bar, strings_end, leave, token, class_tokens, class_tokens_of, strings_events}
 use Rattle.rx_model.specs.Trees.Early.{AreCodePoints, AreEarlyMembers, IsCodePoint, IsEarlyClass, IsEarlyMember, IsEarlyString}
 use Rattle.rx_model.specs.Inputs.Environment.{Environment, is_sets, is_unicode}
 use Rattle.rx_model.specs.Characters.Escapes.{SpellsEscape, control, hexadecimal, unicode, identity}
@@ -47,7 +48,7 @@ use Rattle.rx_model.proofs.Spelling.ClassKnown.{AreKnownMembers, IsKnownClass, I
 use Rattle.rx_model.proofs.Spelling.ClassTexts.{BeginsOutside, class_escape_outside, dashed, in_class_outside, members_outside, no_raw_ampersand, no_raw_caret, no_raw_closer, no_raw_hyphen, property_outside, raw_in_class, some_character, starts_not, undashed}
 use Rattle.rx_model.proofs.Classes.ClassShapes.{barred_tokens, between_by, class_tokens_by, contents_tokens, further_tokens, letters_tokens, operand_tokens, strings_are}
 use Rattle.rx_model.proofs.Spelling.SomeTexts.{some_after}
-use Rattle.rx_model.proofs.Classes.ClassFronts.{sets_is}
+use Rattle.rx_model.proofs.Classes.ClassFronts.{bracket_follows, other_follows, sets_is}
 
 -- what is escaped in a class is a `-` or escaped everywhere; with `v` it is a reserved punctuator or escaped everywhere
 not_hyphen : (c : ℕ) → (is_syntax_character c || c == 47 || c == 45) ≡ true → (c == 45) ≡ false → (is_syntax_character c || c == 47) ≡ true
@@ -210,8 +211,7 @@ module _ (e : Environment) (mode : Mode) (m : e.mode ≡ mode) where
   -- An operand may stand at the place, with `v` after an operator too; a bracket also where the class begins.
   abbrev TakesOperand : Place → Type 0
   TakesOperand fresh = Unit {0}
-  TakesOperand after_meet = is_sets e.mode ≡ true
-  TakesOperand after_less = is_sets e.mode ≡ true
+  TakesOperand (after_operator o) = is_sets e.mode ≡ true
   TakesOperand q = ⊥
 
   abbrev TakesBracket : Place → Type 0
@@ -237,8 +237,7 @@ module _ (e : Environment) (mode : Mode) (m : e.mode ≡ mode) where
   item_there : (q : Place) → TakesOperand q → (a : Atom) (w more : List CodePoint) → SpellsAtom e a w more → (is_sets e.mode ≡ true → starts 38 (values w) ≡ false) →
       StandsBefore e a more × (next_place e.mode fresh (item a) more ≡ fresh) → SpellsInClass e q (item a) w more × (next_place e.mode q (item a) more ≡ fresh)
   item_there fresh takes a w more s no_meet ends = ((s, ends.0), ends.1)
-  item_there after_meet takes a w more s no_meet ends = ((takes, s, no_meet takes), refl)
-  item_there after_less takes a w more s no_meet ends = ((takes, s), refl)
+  item_there (after_operator o) takes a w more s no_meet ends = ((takes, s, other_follows o (values w) (no_meet takes)), refl)
   item_there q takes a w more s no_meet ends = absurd takes
 
   -- no `&` begins the units of this text
@@ -323,8 +322,7 @@ module _ (e : Environment) (mode : Mode) (m : e.mode ≡ mode) where
 
     strings_there : (q : Place) → TakesOperand q → (w more : List CodePoint) → values w ≡ 92 ∷ 113 ∷ 123 ∷ [] → SpellsInClass e q strings w more
     strings_there fresh takes w more s = (sets, s)
-    strings_there after_meet takes w more s = (takes, s, ap (starts 38) s)
-    strings_there after_less takes w more s = (takes, s)
+    strings_there (after_operator o) takes w more s = (takes, s, ap (may_follow_operator o) s ∙ other_follows o (92 ∷ 113 ∷ 123 ∷ []) refl)
     strings_there q takes w more s = absurd takes
 
     strings_again : (q : Place) → TakesOperand q → (span : Span) (body : List ClassString) (ts : List ClassToken) (text : List ℕ) → body ≢ [] → All IsEarlyString body → AgainHere ts text →
@@ -350,40 +348,39 @@ module _ (e : Environment) (mode : Mode) (m : e.mode ≡ mode) where
         (λ at between rest. (strings_there q takes (literal_units true at (92 ∷ 113 ∷ 123 ∷ [])) (literal_units true between (mine ++ (more ++ (125 ∷ text))) ++ rest) refl, refl)) inside))
 
   -- a bracket
-  bracket_there : (q : Place) → TakesBracket q → (negative : Bool) (w more : List CodePoint) → SpellsBracket negative w more → starts 38 (values w) ≡ false → SpellsInClass e q (bracket negative) w more
-  bracket_there outside takes negative w more s no_meet = s
-  bracket_there fresh takes negative w more s no_meet = (takes.1, s)
-  bracket_there after_meet takes negative w more s no_meet = (takes.1, s, no_meet)
-  bracket_there after_less takes negative w more s no_meet = (takes.1, s)
-  bracket_there q takes negative w more s no_meet = absurd takes.0
+  bracket_there : (q : Place) → TakesBracket q → (negative : Bool) (w more : List CodePoint) → SpellsBracket negative w more → SpellsInClass e q (bracket negative) w more
+  bracket_there outside takes negative w more s = s
+  bracket_there fresh takes negative w more s = (takes.1, s)
+  bracket_there (after_operator o) takes negative w more s = (takes.1, s, bracket_follows o negative w more s)
+  bracket_there q takes negative w more s = absurd takes.0
 
   bracket_again : (q : Place) → TakesBracket q → (negative : Bool) (ts : List ClassToken) (text : List ℕ) → BeginsOutside (λ c. c == 94) text → AgainHere ts text →
       AgainAt q (bracket negative ∷ ts) (class_opener negative ++ text)
   bracket_again q takes true ts text caretless again =
       one_again q fresh (bracket true) (91 ∷ 94 ∷ []) ts text
-      (λ at between rest. (bracket_there q takes true (literal_units true at (91 ∷ 94 ∷ [])) (literal_units true between text ++ rest) refl refl, refl)) again
+      (λ at between rest. (bracket_there q takes true (literal_units true at (91 ∷ 94 ∷ [])) (literal_units true between text ++ rest) refl, refl)) again
   bracket_again q takes false ts text caretless again =
       one_again q fresh (bracket false) (91 ∷ []) ts text
       (λ at between rest.
       let first : starts 94 (values (literal_units true between text ++ rest)) ≡ false =
       ap (starts 94) (values_before between text rest) ∙ starts_not 94 (text ++ values rest) (caretless (values rest)) in
-      (bracket_there q takes false (literal_units true at (91 ∷ [])) (literal_units true between text ++ rest) (refl, first) refl, refl)) again
+      (bracket_there q takes false (literal_units true at (91 ∷ [])) (literal_units true between text ++ rest) (refl, first), refl)) again
 
   nested_takes : (q : Place) → TakesOperand q → is_sets e.mode ≡ true → TakesBracket q
   nested_takes outside takes sets = tt
   nested_takes q takes sets = (takes, sets)
 
   -- what stands between operands
-  abbrev after_operator : CharacterClassContentsKind → Place
-  after_operator Union = fresh
-  after_operator Intersection = after_meet
-  after_operator Subtraction = after_less
+  abbrev place_after : CharacterClassContentsKind → Place
+  place_after Union = fresh
+  place_after Intersection = after_operator set.Intersection
+  place_after Subtraction = after_operator set.Subtraction
 
-  operator_again : (kind : CharacterClassContentsKind) → IsKnownKind e.mode kind → (ts : List ClassToken) (text : List ℕ) → AgainAt (after_operator kind) ts text →
+  operator_again : (kind : CharacterClassContentsKind) → IsKnownKind e.mode kind → (ts : List ClassToken) (text : List ℕ) → AgainAt (place_after kind) ts text →
       AgainHere (between_by kind ++ ts) (operator_text kind ++ text)
   operator_again Union k ts text again = again
-  operator_again Intersection k ts text again = one_again fresh after_meet meet (38 ∷ 38 ∷ []) ts text (λ at between rest. ((k, refl), refl)) again
-  operator_again Subtraction k ts text again = one_again fresh after_less less (45 ∷ 45 ∷ []) ts text (λ at between rest. ((k, refl), refl)) again
+  operator_again Intersection k ts text again = one_again fresh (after_operator set.Intersection) (operator set.Intersection) (38 ∷ 38 ∷ []) ts text (λ at between rest. ((k, refl), refl)) again
+  operator_again Subtraction k ts text again = one_again fresh (after_operator set.Subtraction) (operator set.Subtraction) (45 ∷ 45 ∷ []) ts text (λ at between rest. ((k, refl), refl)) again
 
   -- A range stands where an item of a union may.
   abbrev TakesMember : Place → Member → Type 0
@@ -392,32 +389,24 @@ module _ (e : Environment) (mode : Mode) (m : e.mode ≡ mode) where
 
   takes_first : (mb : Member) → TakesMember fresh mb
   takes_first (tree.range r) = refl
-  takes_first (tree.escape c) = tt
-  takes_first (tree.property p) = tt
-  takes_first (tree.character c) = tt
-  takes_first (tree.nested c) = tt
-  takes_first (tree.strings d) = tt
+  takes_first m = tt
 
   takes_operand : (q : Place) → TakesOperand q → (mb : Member) → IsOperand mb → TakesMember q mb
   takes_operand q takes (tree.range r) i = absurd i
-  takes_operand q takes (tree.escape c) i = takes
-  takes_operand q takes (tree.property p) i = takes
-  takes_operand q takes (tree.character c) i = takes
-  takes_operand q takes (tree.nested c) i = takes
-  takes_operand q takes (tree.strings d) i = takes
+  takes_operand q takes m i = takes
 
   -- what the kind of a class asks of its further members
   abbrev AreTaken : CharacterClassContentsKind → Members → Type 0
   AreTaken kind no_member = Unit {0}
-  AreTaken kind (member mb ms) = TakesMember (after_operator kind) mb × AreTaken kind ms
+  AreTaken kind (member mb ms) = TakesMember (place_after kind) mb × AreTaken kind ms
 
   taken_union : (ms : Members) → AreTaken Union ms
   taken_union no_member = tt
   taken_union (member mb ms) = (takes_first mb, taken_union ms)
 
-  taken_operands : (kind : CharacterClassContentsKind) → TakesOperand (after_operator kind) → (ms : Members) → AreOperands ms → AreTaken kind ms
+  taken_operands : (kind : CharacterClassContentsKind) → TakesOperand (place_after kind) → (ms : Members) → AreOperands ms → AreTaken kind ms
   taken_operands kind takes no_member h = tt
-  taken_operands kind takes (member mb ms) h = (takes_operand (after_operator kind) takes mb h.0, taken_operands kind takes ms h.1)
+  taken_operands kind takes (member mb ms) h = (takes_operand (place_after kind) takes mb h.0, taken_operands kind takes ms h.1)
 
   taken : (kind : CharacterClassContentsKind) (mb : Member) (ms : Members) → IsKnownKind e.mode kind → FitsKind kind (member mb ms) → AreTaken kind ms
   taken Union mb ms k fits = taken_union ms
@@ -501,7 +490,7 @@ module _ (e : Environment) (mode : Mode) (m : e.mode ≡ mode) where
         subst (λ ts. AgainHere ts ((operator_text kind ++ (mine ++ more)) ++ (93 ∷ text))) (sym tokens_are)
         (subst (AgainHere (between_by kind ++ (own ++ (others ++ (closer ∷ ts))))) (sym text_is)
         (operator_again kind p (own ++ (others ++ (closer ∷ ts))) (mine ++ (more ++ (93 ∷ text)))
-        (member_again (after_operator kind) mb (others ++ (closer ∷ ts)) (more ++ (93 ∷ text)) takes.0 k.0 h.0 f.0 (further_ends kind p ms text)
+        (member_again (place_after kind) mb (others ++ (closer ∷ ts)) (more ++ (93 ∷ text)) takes.0 k.0 h.0 f.0 (further_ends kind p ms text)
         (further_again kind ms ts text p k.1 h.1 takes.1 f.1 again))))
 
   -- the class

@@ -1,5 +1,7 @@
 -- What is known of a class that some units spell.
 use Rattle.std.proofs.Common.{◌≡◌, refl, subst, ℕ, ◌≤◌, arith, Bool, true, Option, List, [], ◌∷◌, ◌++◌, append_assoc}
+use Rattle.rx_base.specs.declared.diagnostic.kinds.SetOperator.{SetOperator}
+use Rattle.rx_base.specs.declared.diagnostic.kinds.SetOperator.TheVariants as set
 use Rattle.rx_ast.specs.declared.leaf.CharacterKind.{CharacterKind}
 use Rattle.rx_ast.specs.declared.leaf.CharacterKind.TheVariants as kinds
 use Rattle.rx_ast.specs.declared.class.CharacterClassContentsKind.{CharacterClassContentsKind}
@@ -9,10 +11,10 @@ use Rattle.rx_ast.specs.ClassTree.{Member, Members, Class, no_member, member, cl
 use Rattle.rx_ast.specs.Forget.{forget_class, same_kind}
 use Rattle.rx_units.specs.declared.code_point.CodePoint.{CodePoint}
 use Rattle.rx_model.specs.declared.mode.Mode.{Mode}
-use Rattle.rx_model.specs.Classes.ClassRows.{ClassTokenRow, SpellsClassCharacter, SpellsInClass, IsClassShape, IsClass, Place, outside, fresh, at_second, at_third, after_meet, after_less, in_strings, next_place}
+use Rattle.rx_model.specs.Classes.ClassRows.{ClassTokenRow, SpellsClassCharacter, SpellsInClass, IsClassShape, IsClass, Place, outside, fresh, at_second, at_third, after_operator, in_strings, next_place}
 use Rattle.rx_model.specs.Classes.ClassShapes.{AreFitting, FitsKind, IsFitting, IsFittingMember}
 use Rattle.rx_ast.specs.Texts.{property_body}
-use Rattle.rx_model.specs.Classes.ClassTokens.{character, property, ClassToken, bracket, closer, item, low, dash, high, meet, less, strings, class_tokens}
+use Rattle.rx_model.specs.Classes.ClassTokens.{character, property, ClassToken, bracket, closer, item, low, dash, high, operator, strings, class_tokens}
 use Rattle.rx_model.specs.Inputs.Environment.{Environment, is_sets, is_unicode}
 use Rattle.rx_model.specs.Properties.PropertyEscapes.{SpellsProperty}
 use Rattle.rx_model.specs.Spelling.ReadBack.{FitIn}
@@ -24,8 +26,7 @@ use Rattle.rx_model.proofs.Classes.ClassStates.{after_inside}
 -- `&&` and `--` stand in classes with `v` alone
 abbrev pub IsKnownKind : Mode → CharacterClassContentsKind → Type 0
 IsKnownKind mode Union = Unit {0}
-IsKnownKind mode Intersection = is_sets mode ≡ true
-IsKnownKind mode Subtraction = is_sets mode ≡ true
+IsKnownKind mode kind = is_sets mode ≡ true
 
 -- What units of this mode may spell in a class, and in the classes in it; where `bounded` is true, each character also has a value of the mode.
 abbrev mutual
@@ -58,8 +59,7 @@ module _ (e : Environment) where
   -- the characters of a range
   low_there : (q : Place) (k : CharacterKind) (v : ℕ) (w more : List CodePoint) → SpellsInClass e q (low k v) w more → SpellsClassCharacter e k v w more
   low_there fresh k v w more s = s.0
-  low_there after_meet k v w more s = absurd s.1
-  low_there after_less k v w more s = absurd s.1
+  low_there (after_operator o) k v w more s = absurd s.1
   low_there in_strings k v w more s = absurd s.1
   low_there q k v w more s = absurd s
 
@@ -71,8 +71,7 @@ module _ (e : Environment) where
   character_there fresh k v w more f s = class_character_low e k v w more s.0 f
   character_there at_third k v w more f s = class_character_low e k v w more s f
   character_there at_second k v w more f s = λ m. symbol_low k v s.0
-  character_there after_meet k v w more f s = class_character_low e k v w more s.1 f
-  character_there after_less k v w more f s = class_character_low e k v w more s.1 f
+  character_there (after_operator o) k v w more f s = class_character_low e k v w more s.1 f
   character_there in_strings k v w more f s = absurd s.1
   character_there q k v w more f s = absurd s
 
@@ -81,8 +80,7 @@ module _ (e : Environment) where
   property_there fresh negative may name value w more s = (s.0.unicode, property_again e.mode may name value s.0.text s.0.spelled)
   property_there at_third negative may name value w more s = (s.unicode, property_again e.mode may name value s.text s.spelled)
   property_there at_second negative may name value w more s = let f = s.0 in absurd (let no : ⊥ = cc f in no)
-  property_there after_meet negative may name value w more s = (s.1.unicode, property_again e.mode may name value s.1.text s.1.spelled)
-  property_there after_less negative may name value w more s = (s.1.unicode, property_again e.mode may name value s.1.text s.1.spelled)
+  property_there (after_operator o) negative may name value w more s = (s.1.unicode, property_again e.mode may name value s.1.text s.1.spelled)
   property_there in_strings negative may name value w more s = absurd s.1
   property_there q negative may name value w more s = absurd s
 
@@ -90,31 +88,21 @@ module _ (e : Environment) where
   bracket_sets : (q : Place) (negative : Bool) (w more : List CodePoint) → IsWithin q → SpellsInClass e q (bracket negative) w more → is_sets e.mode ≡ true
   bracket_sets outside negative w more n s = absurd (n refl)
   bracket_sets fresh negative w more n s = s.0
-  bracket_sets after_meet negative w more n s = s.0
-  bracket_sets after_less negative w more n s = s.0
+  bracket_sets (after_operator o) negative w more n s = s.0
   bracket_sets in_strings negative w more n s = s.0
   bracket_sets q negative w more n s = absurd s
 
   strings_sets : (q : Place) (w more : List CodePoint) → SpellsInClass e q strings w more → is_sets e.mode ≡ true
   strings_sets fresh w more s = s.0
-  strings_sets after_meet w more s = s.0
-  strings_sets after_less w more s = s.0
+  strings_sets (after_operator o) w more s = s.0
   strings_sets in_strings w more s = s.0
   strings_sets q w more s = absurd s
 
-  meet_sets : (q : Place) (w more : List CodePoint) → SpellsInClass e q meet w more → is_sets e.mode ≡ true
-  meet_sets fresh w more s = s.0
-  meet_sets after_meet w more s = s.0
-  meet_sets after_less w more s = s.0
-  meet_sets in_strings w more s = s.0
-  meet_sets q w more s = absurd s
-
-  less_sets : (q : Place) (w more : List CodePoint) → SpellsInClass e q less w more → is_sets e.mode ≡ true
-  less_sets fresh w more s = s.0
-  less_sets after_meet w more s = s.0
-  less_sets after_less w more s = s.0
-  less_sets in_strings w more s = s.0
-  less_sets q w more s = absurd s
+  operator_sets : (o : SetOperator) (q : Place) (w more : List CodePoint) → SpellsInClass e q (operator o) w more → is_sets e.mode ≡ true
+  operator_sets o fresh w more s = s.0
+  operator_sets o (after_operator p) w more s = s.0
+  operator_sets o in_strings w more s = s.0
+  operator_sets o q w more s = absurd s
 
   -- before what follows the class
   module _ (bounded : Bool) (rest : List CodePoint) where
@@ -147,16 +135,17 @@ module _ (e : Environment) where
     member_apart m own ts r =
         let row = subst RowOn (append_assoc (operand_tokens m) own ts) r in (row, tokens_on (operand_tokens m) (own ++ ts) row)
 
+    operands_known : (o : SetOperator) (m n : Member) (ms : Members) (ts : List ClassToken) → RowOn (contents_tokens (operator o ∷ []) (member m (member n ms)) ++ ts) → is_sets e.mode ≡ true
+    operands_known o m n ms ts r = let on = (member_apart m (further_tokens (operator o ∷ []) (member n ms)) ts r).1 in operator_sets o on.0 on.4.0 on.4.1 on.4.3
+
     kind_known : (kind : CharacterClassContentsKind) (ms : Members) (ts : List ClassToken) → FitsKind kind ms → RowOn (contents_tokens (between_by kind) ms ++ ts) → IsKnownKind e.mode kind
     kind_known Union ms ts fits r = tt
     kind_known Intersection no_member ts fits r = absurd fits.0
     kind_known Intersection (member m no_member) ts fits r = absurd fits.0
-    kind_known Intersection (member m (member n ms)) ts fits r =
-        let on = (member_apart m (further_tokens (meet ∷ []) (member n ms)) ts r).1 in meet_sets on.0 on.4.0 on.4.1 on.4.3
+    kind_known Intersection (member m (member n ms)) ts fits r = operands_known set.Intersection m n ms ts r
     kind_known Subtraction no_member ts fits r = absurd fits.0
     kind_known Subtraction (member m no_member) ts fits r = absurd fits.0
-    kind_known Subtraction (member m (member n ms)) ts fits r =
-        let on = (member_apart m (further_tokens (less ∷ []) (member n ms)) ts r).1 in less_sets on.0 on.4.0 on.4.1 on.4.3
+    kind_known Subtraction (member m (member n ms)) ts fits r = operands_known set.Subtraction m n ms ts r
 
     -- after its bracket
     contents_on : (negative : Bool) (own ts : List ClassToken) → RowOn ((bracket negative ∷ (own ++ (closer ∷ []))) ++ ts) → RowOn (own ++ (closer ∷ ts))

@@ -12,7 +12,7 @@ use Rattle.rx_model.specs.Groups.Groups.{SpellsOpener}
 use Rattle.rx_model.specs.Properties.PropertyEscapes.{SpellsProperty}
 use Rattle.rx_model.specs.Spelling.ReadBack.{AreCodeUnits, FitIn}
 use Rattle.rx_model.specs.Reading.Rows.{Spells, TokenRow}
-use Rattle.rx_model.specs.Trees.Token.{Token, Opener, boundary, character, dot, class_escape, property, class, indexed, named, opener, closer, bar, quantifier, capturing, ignoring, looking}
+use Rattle.rx_model.specs.Trees.Token.{Token, Opener, boundary, character, dot, class_escape, property, class, indexed, named, opener, capturing, ignoring, looking}
 use Rattle.rx_model.proofs.Spelling.Bounds.{FitsIn, Narrow, AreCodePoints, narrow_values, narrow_front, narrow_back, fit_front, fit_back, character_low, name_low}
 use Rattle.rx_model.proofs.Spelling.ClassKnown.{IsKnownClass, class_known}
 use Rattle.rx_model.proofs.Groups.ModifierTexts.{AreThreeBits, modifiers_known}
@@ -41,9 +41,7 @@ Known bounded e (class c) = IsKnownClass bounded e.mode c
 Known bounded e (indexed n) = Unit {0}
 Known bounded e (named name) = (IsName name × (bounded ≡ true → NameFits e.mode name)) × (e.named ≡ true)
 Known bounded e (opener o) = IsKnownOpener bounded e.mode o
-Known bounded e closer = Unit {0}
-Known bounded e bar = Unit {0}
-Known bounded e (quantifier min max greedy) = Unit {0}
+Known bounded e q = Unit {0}
 
 abbrev pub AreKnown : Bool → Environment → List Token → Type 0
 AreKnown bounded e [] = Unit {0}
@@ -81,9 +79,7 @@ known bounded e (named name) w rest f s = (
   s.there,
 )
 known bounded e (opener o) w rest f s = opener_known bounded e o w rest (λ b. fit_front e.mode (w ++ rest) w rest refl (f b)) s
-known bounded e closer w rest f s = tt
-known bounded e bar w rest f s = tt
-known bounded e (quantifier min max greedy) w rest f s = tt
+known bounded e q w rest f s = tt
 
 pub are_known : (bounded : Bool) (e : Environment) (ts : List Token) (us rest : List CodePoint) → (bounded ≡ true → FitIn e.mode us) → TokenRow e ts us rest → AreKnown bounded e ts
 are_known bounded e [] us rest f r = tt

@@ -84,11 +84,7 @@ some_counts min (Some max) =
 some_boundary : (kind : BoundaryAssertionKind) → boundary_text kind ≢ []
 some_boundary boundaries.Start = some 94 _
 some_boundary boundaries.End = some 36 _
-some_boundary boundaries.Boundary = some 92 _
-some_boundary boundaries.NegativeBoundary = some 92 _
-some_boundary boundaries.StartBuffer = some 92 _
-some_boundary boundaries.EndBuffer = some 92 _
-some_boundary boundaries.EndBufferOptionalNewline = some 92 _
+some_boundary q = some 92 _
 
 some_class_escape : (kind : CharacterClassEscapeKind) → class_escape_text kind ≢ []
 some_class_escape D = some 92 _

@@ -18,7 +18,7 @@ use Rattle.rx_model.specs.Reading.Reading.{Reads}
 use Rattle.rx_model.specs.Reading.Rows.{TokenRow}
 use Rattle.rx_model.specs.Trees.Shapes.{HasAlternatives, IsWellMade}
 use Rattle.rx_model.specs.Spelling.Spelling.{spelling}
-use Rattle.rx_model.specs.Trees.Token.{Token, boundary, character, dot, class_escape, property, class, indexed, named, opener, closer, bar, quantifier}
+use Rattle.rx_model.specs.Trees.Token.{Token, boundary, character, dot, class_escape, property, class}
 use Rattle.rx_model.specs.declared.rules.Rules.{Rules}
 use Rattle.rx_model.proofs.Spelling.Again.{again_alternatives, bare_alternatives, alternatives_again, made_alternatives, same_groups, same_names, apart_alternatives}
 use Rattle.rx_model.proofs.Spelling.AgainTrees.{disjunction_made}
@@ -44,12 +44,7 @@ module _ (mode : Mode) (count : ℕ) (names : List (List ℕ)) where
   token_obeys r (class_escape kind) h = h
   token_obeys r (property negative strings name value) h = h
   token_obeys r (class c) h = early_class mode c h
-  token_obeys r (indexed n) h = h
-  token_obeys r (named name) h = h
-  token_obeys r (opener o) h = h
-  token_obeys r closer h = h
-  token_obeys r bar h = h
-  token_obeys r (quantifier min max greedy) h = h
+  token_obeys r q h = h
 
   tokens_obey : (r : Bool) (ts : List Token) → All (Obeys count names) ts → All (Obeys count names) (again_tokens mode r ts)
   tokens_obey r [] h = All-nil (Obeys count names)

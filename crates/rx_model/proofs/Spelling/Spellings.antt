@@ -65,8 +65,7 @@ module _ (kept : CharacterKind → CharacterKind) (mode : Mode) where
   leaf_text_forget after_reference (tree.class_escape e) = refl
   leaf_text_forget after_reference (tree.property p) = refl
   leaf_text_forget after_reference (tree.class c) = class_text_forget c
-  leaf_text_forget after_reference (tree.indexed r) = refl
-  leaf_text_forget after_reference (tree.named r) = refl
+  leaf_text_forget after_reference m = refl
 
   pub opener_text_forget : (o : Opener) → opener_text (forget_opener kept o) ≡ opener_text o
   opener_text_forget (tree.capturing name) = refl

@@ -47,11 +47,7 @@ token_refers (class_escape kind) = false
 token_refers (property negative strings name value) = false
 token_refers (class c) = false
 token_refers (indexed n) = true
-token_refers (named name) = false
-token_refers (opener o) = false
-token_refers closer = false
-token_refers bar = false
-token_refers (quantifier min max greedy) = false
+token_refers q = false
 
 abbrev pub tokens_text : Mode → Bool → List Token → List ℕ
 tokens_text mode after_reference [] = []
@@ -73,8 +69,7 @@ module _ (mode : Mode) where
   leaf_says (tree.class_escape e) after_reference ts = refl
   leaf_says (tree.property p) after_reference ts = refl
   leaf_says (tree.class c) after_reference ts = ap (λ text. text ++ tokens_text mode false ts) (class_text_forget same_kind mode c)
-  leaf_says (tree.indexed r) after_reference ts = refl
-  leaf_says (tree.named r) after_reference ts = refl
+  leaf_says m after_reference ts = refl
 
   -- The tokens of these events have this text, whatever follows.
   abbrev Says : Bool → Events → List ℕ → Type 0

@@ -1,7 +1,7 @@
 -- What `run` accepts: which groups are open after some tokens, and what a quantifier may stand after.
 use Rattle.std.proofs.Common.{◌≡◌, refl, sym, ap, ◌∙◌, subst, Bool, true, false, Option, Some, List, [], ◌∷◌, ◌++◌, append_assoc, append-nil}
 use Rattle.rx_ast.specs.declared.leaf.LookAroundAssertionKind.{LookAroundAssertionKind}
-use Rattle.rx_ast.specs.declared.leaf.LookAroundAssertionKind.TheVariants.{Lookahead, NegativeLookahead, Lookbehind, NegativeLookbehind}
+use Rattle.rx_ast.specs.declared.leaf.LookAroundAssertionKind.TheVariants.{Lookahead, NegativeLookahead}
 use Rattle.rx_model.specs.declared.mode.Mode.{Mode}
 use Rattle.rx_model.specs.declared.mode.Mode.TheVariants.{Legacy, Unicode, Sets}
 use Rattle.rx_model.specs.Trees.OpenGroups.{AreClosed, none, further, group, AreOpen, IsAtom, IsBetween, IsQuantifiable, atom, of_group, EndsQuantifiable, TakesQuantifier, of_capturing, of_ignoring, of_lookahead, of_negative_lookahead}
@@ -40,8 +40,7 @@ module _ (mode : Mode) where
   look_is Sets kind e = absurd (let no : ⊥ = cc e in no)
   look_is Legacy Lookahead e = of_lookahead refl
   look_is Legacy NegativeLookahead e = of_negative_lookahead refl
-  look_is Legacy Lookbehind e = absurd (let no : ⊥ = cc e in no)
-  look_is Legacy NegativeLookbehind e = absurd (let no : ⊥ = cc e in no)
+  look_is Legacy q e = absurd (let no : ⊥ = cc e in no)
 
   opener_is : (o : Opener) → group_takes mode o ≡ true → TakesQuantifier mode o
   opener_is (capturing name) e = of_capturing name
@@ -127,13 +126,7 @@ module _ (mode : Mode) where
   between_passes (quantifier min max greedy) i ts os true end e = (false, e)
   between_passes (quantifier min max greedy) i ts os false end e = absurd (let no : ⊥ = cc e in no)
   between_passes (boundary kind) i ts os ready end e = (false, e)
-  between_passes dot i ts os ready end e = (true, e)
-  between_passes (character kind value) i ts os ready end e = (true, e)
-  between_passes (class_escape kind) i ts os ready end e = (true, e)
-  between_passes (property negative strings name value) i ts os ready end e = (true, e)
-  between_passes (class c) i ts os ready end e = (true, e)
-  between_passes (indexed n) i ts os ready end e = (true, e)
-  between_passes (named name) i ts os ready end e = (true, e)
+  between_passes q i ts os ready end e = (true, e)
 
   closed_passes : (ts : List Token) → AreClosed ts → (more : List Token) (os : List Opener) (end : List Opener × Bool) → Passes ts more os end
   closed_passes _ none more os end ready e = (ready, e)
@@ -152,13 +145,7 @@ module _ (mode : Mode) where
       atom_ready bar i os ready after ready_after e = absurd i
       atom_ready (quantifier min max greedy) i os ready after ready_after e = absurd i
       atom_ready (boundary kind) i os ready after ready_after e = absurd i
-      atom_ready dot i os ready after ready_after e = told os true after ready_after e
-      atom_ready (character kind value) i os ready after ready_after e = told os true after ready_after e
-      atom_ready (class_escape kind) i os ready after ready_after e = told os true after ready_after e
-      atom_ready (property negative strings name value) i os ready after ready_after e = told os true after ready_after e
-      atom_ready (class c) i os ready after ready_after e = told os true after ready_after e
-      atom_ready (indexed n) i os ready after ready_after e = told os true after ready_after e
-      atom_ready (named name) i os ready after ready_after e = told os true after ready_after e
+      atom_ready q i os ready after ready_after e = told os true after ready_after e
   ends_ready _ os ready (of_group o inside takes c) after ready_after e =
       let s = closed_passes inside c (closer ∷ []) (o ∷ os) (after, ready_after) false e in
       told os (group_takes mode o) after ready_after s.1 ∙ opener_takes o takes

@@ -18,8 +18,7 @@ leaf_same (tree.dot d) = refl
 leaf_same (tree.class_escape e) = refl
 leaf_same (tree.property p) = refl
 leaf_same (tree.class c) = ap class (forget_class_twice same_kind same_kind c)
-leaf_same (tree.indexed r) = refl
-leaf_same (tree.named r) = refl
+leaf_same m = refl
 
 opener_same : (o : tree.Opener) → opener_of (forget_opener same_kind o) ≡ opener_of o
 opener_same (tree.capturing name) = refl

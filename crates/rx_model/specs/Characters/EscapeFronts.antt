@@ -1,7 +1,7 @@
 -- How a character escape and a class escape after a backslash are read. What they mean stands in Escapes and in ClassText.
 use Rattle.std.specs.Prelude.{ℕ, ◌%◌, Bool, not, is_some, ◌==◌, ◌&&◌, ◌||◌, Option, Some, None, List, [], ◌∷◌, codes, if◌then◌else◌}
 use Rattle.rx_base.specs.Ascii as ascii
-use Rattle.rx_base.specs.Characters.{is_within, is_one_of}
+use Rattle.rx_base.specs.Characters.{is_one_of}
 use Rattle.rx_tables.specs.Characters.{control_escape_value, control_letter_value, is_decimal_digit, is_octal_digit}
 use Rattle.rx_ast.specs.declared.leaf.CharacterClassEscapeKind.{CharacterClassEscapeKind}
 use Rattle.rx_ast.specs.declared.leaf.CharacterClassEscapeKind.TheVariants as class_kind

@@ -3,13 +3,13 @@ use Rattle.std.specs.Prelude.{ℕ, Bool, Option, Some, None, List, [], ◌∷◌
 use Rattle.rx_ast.specs.declared.leaf.Character.{Character}
 use Rattle.rx_ast.specs.declared.leaf.CharacterKind.{CharacterKind}
 use Rattle.rx_ast.specs.declared.class.CharacterClassContentsKind.{CharacterClassContentsKind}
-use Rattle.rx_ast.specs.declared.class.CharacterClassContentsKind.TheVariants.{Union, Intersection, Subtraction}
+use Rattle.rx_ast.specs.declared.class.CharacterClassContentsKind.TheVariants.{Union}
 use Rattle.rx_ast.specs.declared.class.ClassString.{ClassString}
 use Rattle.rx_ast.specs.ClassTree.{Member, Members, Class, no_member, member, class}
 use Rattle.rx_ast.specs.ClassTree as tree
 use Rattle.rx_ast.specs.Forget.{nowhere}
-use Rattle.rx_model.specs.Classes.ClassRuns.{Held, empty, single, several, meeting, met, lessening, lessened, is_whole, less_by, met_by, operand, ranged}
-use Rattle.rx_model.specs.Classes.ClassTokens.{Atom, character, escape, property, ClassToken, bracket, closer, item, low, dash, high, meet, less, strings, letter, string_bar, strings_end}
+use Rattle.rx_model.specs.Classes.ClassRuns.{Held, empty, single, several, pending, joined, is_whole, operand, ranged, with_operator}
+use Rattle.rx_model.specs.Classes.ClassTokens.{Atom, character, escape, property, ClassToken, bracket, closer, item, low, dash, high, operator, contents_kind, strings, letter, string_bar, strings_end}
 use Rattle.rx_model.specs.Trees.Early.{disjunction_strings, may_contain_strings, string_strings}
 
 abbrev pub character_of : CharacterKind → ℕ → Character
@@ -46,10 +46,8 @@ abbrev pub kind_of : Held → CharacterClassContentsKind
 kind_of empty = Union
 kind_of single = Union
 kind_of several = Union
-kind_of meeting = Intersection
-kind_of met = Intersection
-kind_of lessening = Subtraction
-kind_of lessened = Subtraction
+kind_of (pending o) = contents_kind o
+kind_of (joined o) = contents_kind o
 
 -- an open bracket: whether it is negative, what it holds, and that as members
 pub record Level : Type 0 where
@@ -101,8 +99,7 @@ build_in (item a) nothing_begun l outer = holding_member l outer (atom_member a)
 build_in (low k v) nothing_begun l outer = inside_class l outer (after_low k v)
 build_in dash (after_low k v) l outer = inside_class l outer (after_dash k v)
 build_in (high j x) (after_dash k v) l outer = holding_member l outer (range_member k v j x) (ranged l.held)
-build_in meet nothing_begun l outer = operated l outer (met_by l.held)
-build_in less nothing_begun l outer = operated l outer (less_by l.held)
+build_in (operator o) nothing_begun l outer = operated l outer (with_operator o l.held)
 build_in strings nothing_begun l outer = inside_class l outer (inside_strings [] [])
 build_in (letter k v) (inside_strings ss cs) l outer = inside_class l outer (inside_strings ss (cs ++ (character_of k v ∷ [])))
 build_in string_bar (inside_strings ss cs) l outer = inside_class l outer (inside_strings (ss ++ (string_of cs ∷ [])) [])

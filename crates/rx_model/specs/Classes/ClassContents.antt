@@ -1,40 +1,37 @@
 -- What the contents of a class are, as things in a row (ClassContents, ClassUnion, ClassIntersection and ClassSubtraction, 22.2.1), and what a bracket holds
 -- after some of them.
 use Rattle.std.specs.Prelude.{Option, Some, None, List, [], ◌∷◌}
-use Rattle.rx_model.specs.Classes.ClassRuns.{Held, less_by, met_by, operand, ranged}
+use Rattle.rx_base.specs.declared.diagnostic.kinds.SetOperator.{SetOperator}
+use Rattle.rx_model.specs.Classes.ClassRuns.{Held, operand, ranged, with_operator}
 
--- an operand: a character, an escape, a nested class, class strings; a range; `&&`; `--`
+-- an operand: a character, an escape, a nested class, class strings; a range; an operator
 pub data Thing : Type 0 where
   one_operand : Thing
   one_range : Thing
-  meet : Thing
-  less : Thing
+  operator : SetOperator → Thing
 
 abbrev pub IsMember : Thing → Type 0
 IsMember one_operand = Unit {0}
 IsMember one_range = Unit {0}
-IsMember meet = ⊥
-IsMember less = ⊥
+IsMember (operator o) = ⊥
 
 abbrev pub AreMembers : List Thing → Type 0
 AreMembers [] = Unit {0}
 AreMembers (thing ∷ things) = IsMember thing × AreMembers things
 
 -- further operands, each after the operator
-pub data AreFurther (operator : Thing) : List Thing → Type 0 where
-  none : AreFurther operator []
-  further : (more : List Thing) → AreFurther operator more → AreFurther operator (operator ∷ one_operand ∷ more)
+pub data AreFurther (between : Thing) : List Thing → Type 0 where
+  none : AreFurther between []
+  further : (more : List Thing) → AreFurther between more → AreFurther between (between ∷ one_operand ∷ more)
 
 pub data AreContents : List Thing → Type 0 where
   union : (things : List Thing) → AreMembers things → AreContents things
-  intersection : (more : List Thing) → AreFurther meet more → AreContents (one_operand ∷ more)
-  subtraction : (more : List Thing) → AreFurther less more → AreContents (one_operand ∷ more)
+  joined : (o : SetOperator) (more : List Thing) → AreFurther (operator o) more → AreContents (one_operand ∷ more)
 
 abbrev pub with_thing : Thing → Held → Option Held
 with_thing one_operand held = operand held
 with_thing one_range held = ranged held
-with_thing meet held = met_by held
-with_thing less held = less_by held
+with_thing (operator o) held = with_operator o held
 
 abbrev pub go_on : Option Held → (Held → Option Held) → Option Held
 go_on None more = None

@@ -1,6 +1,7 @@
 -- How a class at the front of a text is read: a token at a time, by its place, up to the closer. What it means stands in ClassRows.
-use Rattle.std.specs.Prelude.{ℕ, zero, suc, ◌+◌, ◌-◌, Bool, true, false, not, ◌==◌, ◌&&◌, ◌||◌, Option, Some, None, List, [], ◌∷◌, drop, if◌then◌else◌}
+use Rattle.std.specs.Prelude.{ℕ, zero, suc, ◌+◌, ◌-◌, Bool, true, false, ◌==◌, ◌&&◌, ◌||◌, Option, Some, None, List, [], ◌∷◌, drop, if◌then◌else◌}
 use Rattle.rx_base.specs.Ascii as ascii
+use Rattle.rx_base.specs.declared.diagnostic.kinds.SetOperator.TheVariants.{Intersection, Subtraction}
 use Rattle.rx_tables.specs.Characters.{is_reserved_punctuator}
 use Rattle.rx_ast.specs.declared.leaf.CharacterClassEscapeKind.{CharacterClassEscapeKind}
 use Rattle.rx_ast.specs.declared.leaf.CharacterKind.TheVariants as kind
@@ -9,8 +10,8 @@ use Rattle.rx_units.specs.declared.code_point.CodePoint.{CodePoint}
 use Rattle.rx_units.specs.Units.{values}
 use Rattle.rx_model.specs.declared.mode.Mode.{Mode}
 use Rattle.rx_model.specs.Classes.ClassBuilds.{class_of_tokens}
-use Rattle.rx_model.specs.Classes.ClassRows.{Place, outside, fresh, at_dash, at_high, at_second, at_third, after_meet, after_less, in_strings, has_hyphen, has_threes, is_dashed, stands_raw_in_class}
-use Rattle.rx_model.specs.Classes.ClassTokens.{Atom, character, escape, property, is_character, ClassToken, bracket, closer, item, low, dash, high, meet, less, strings, letter, string_bar, strings_end}
+use Rattle.rx_model.specs.Classes.ClassRows.{Place, outside, fresh, at_dash, at_high, at_second, at_third, after_operator, in_strings, has_hyphen, has_threes, is_dashed, may_follow_operator, stands_raw_in_class}
+use Rattle.rx_model.specs.Classes.ClassTokens.{Atom, character, escape, property, is_character, ClassToken, bracket, closer, item, low, dash, high, operator, strings, letter, string_bar, strings_end}
 use Rattle.rx_model.specs.Inputs.Environment.{Environment, is_sets, is_unicode}
 use Rattle.rx_model.specs.Characters.EscapeFronts.{EscapeRead, escaped, nothing, too_many, no_unicode, any_escape_at, class_escape_at}
 use Rattle.rx_model.specs.FirstPass.Marks.{starts}
@@ -112,7 +113,9 @@ operand_token w = if begins_strings w then Some (strings, 3) else bracket_at w
 
 -- the token of a class with `v` alone that no atom begins, where an item may begin
 abbrev pub set_token : List ℕ → TokenRead
-set_token w = if are_next ascii.ampersand ascii.ampersand w then Some (meet, 2) else (if are_next ascii.hyphen ascii.hyphen w then Some (less, 2) else operand_token w)
+set_token w =
+    if are_next ascii.ampersand ascii.ampersand w then Some (operator Intersection, 2)
+    else (if are_next ascii.hyphen ascii.hyphen w then Some (operator Subtraction, 2) else operand_token w)
 
 -- where an item may begin
 abbrev pub fresh_token : Environment → AtomRead → List CodePoint → TokenRead
@@ -143,8 +146,7 @@ class_token_at e at_dash us = token_where (starts ascii.hyphen (values us)) (Som
 class_token_at e at_high us = high_of (atom_at e us)
 class_token_at e at_second us = token_where (starts ascii.hyphen (values us)) (Some (item (character kind.Symbol ascii.hyphen), 1))
 class_token_at e at_third us = item_of (atom_at e us)
-class_token_at e after_meet us = token_where (is_sets e.mode && not (starts ascii.ampersand (values us))) (operand_of (atom_at e us) (values us))
-class_token_at e after_less us = token_where (is_sets e.mode) (operand_of (atom_at e us) (values us))
+class_token_at e (after_operator o) us = token_where (is_sets e.mode && may_follow_operator o (values us)) (operand_of (atom_at e us) (values us))
 class_token_at e in_strings us = token_where (is_sets e.mode) (string_token (atom_at e us) (values us))
 
 -- tokens in n units; none

@@ -1,19 +1,19 @@
 -- What stands in a class with `v`, in the words of ClassUnion, ClassIntersection and ClassSubtraction (22.2.1): members without spans. A relation `.. w rest` says
 -- that the units w spell a thing before all that follows them, rest.
-use Rattle.std.specs.Prelude.{◌≡◌, ◌≢◌, ℕ, Bool, true, false, List, [], ◌∷◌, ◌++◌, codes}
+use Rattle.std.specs.Prelude.{◌≡◌, ◌≢◌, ℕ, Bool, true, List, [], ◌∷◌, ◌++◌}
 use Rattle.rx_base.specs.Ascii as ascii
+use Rattle.rx_base.specs.declared.diagnostic.kinds.SetOperator.{SetOperator}
 use Rattle.rx_ast.specs.declared.leaf.CharacterKind.{CharacterKind}
-use Rattle.rx_ast.specs.declared.class.CharacterClassContentsKind.{CharacterClassContentsKind}
-use Rattle.rx_ast.specs.declared.class.CharacterClassContentsKind.TheVariants.{Union, Intersection, Subtraction}
+use Rattle.rx_ast.specs.declared.class.CharacterClassContentsKind.TheVariants.{Union}
 use Rattle.rx_ast.specs.declared.class.ClassString.{ClassString}
 use Rattle.rx_ast.specs.ClassTree.{Class, Member, character, nested}
 use Rattle.rx_units.specs.declared.code_point.CodePoint.{CodePoint}
 use Rattle.rx_units.specs.Units.{values}
 use Rattle.rx_model.specs.Classes.ClassBrackets.{InBrackets, class_of_members}
 use Rattle.rx_model.specs.Classes.ClassBuilds.{atom_member, range_member, strings_member}
-use Rattle.rx_model.specs.Classes.ClassRows.{BeforeHigh, IsClass, SpellsAtom, SpellsClassCharacter}
+use Rattle.rx_model.specs.Classes.ClassRows.{BeforeHigh, IsClass, SpellsAtom, SpellsClassCharacter, may_follow_operator}
 use Rattle.rx_model.specs.Classes.ClassStrings.{SpellsStrings}
-use Rattle.rx_model.specs.Classes.ClassTokens.{Atom}
+use Rattle.rx_model.specs.Classes.ClassTokens.{Atom, contents_kind, operator_text}
 use Rattle.rx_model.specs.FirstPass.Marks.{starts}
 use Rattle.rx_model.specs.Inputs.Environment.{Environment, is_sets}
 use Rattle.rx_units.specs.Sequences.{ElementRow}
@@ -40,14 +40,12 @@ pub data SpellsUnionItem (e : Environment) : Member → List CodePoint → List 
   of_operand : {m : Member} {w rest : List CodePoint} → SpellsWholeOperand e m w rest → (IsCharacter m → BeforeHigh e rest → ⊥) → SpellsUnionItem e m w rest
 
 -- `&&` before no `&` (ClassIntersection), and `--` (ClassSubtraction)
-abbrev pub SpellsOperator : CharacterClassContentsKind → List CodePoint → List CodePoint → Type 0
-SpellsOperator Union w rest = ⊥
-SpellsOperator Intersection w rest = (values w ≡ codes "&&") × (starts ascii.ampersand (values rest) ≡ false)
-SpellsOperator Subtraction w rest = values w ≡ codes "--"
+abbrev pub SpellsOperator : SetOperator → List CodePoint → List CodePoint → Type 0
+SpellsOperator o w rest = (values w ≡ operator_text o) × (may_follow_operator o (values rest) ≡ true)
 
--- an operand with the operator before it, in contents of this kind
-pub data SpellsFurtherOperand (e : Environment) (kind : CharacterClassContentsKind) : Member → List CodePoint → List CodePoint → Type 0 where
-  of_operator : {m : Member} {rest : List CodePoint} (operator w : List CodePoint) → SpellsOperator kind operator (w ++ rest) → SpellsWholeOperand e m w rest → SpellsFurtherOperand e kind m (operator ++ w) rest
+-- an operand with the operator before it
+pub data SpellsFurtherOperand (e : Environment) (o : SetOperator) : Member → List CodePoint → List CodePoint → Type 0 where
+  of_operator : {m : Member} {rest : List CodePoint} (operator w : List CodePoint) → SpellsOperator o operator (w ++ rest) → SpellsWholeOperand e m w rest → SpellsFurtherOperand e o m (operator ++ w) rest
 
 -- `]` stands next.
 abbrev pub IsOperandsEnd : List CodePoint → Type 0
@@ -62,7 +60,7 @@ pub record IsClassOfUnion (e : Environment) (c : Class) (w rest : List CodePoint
   pub class_is : c ≡ class_of_members negative Union items
 
 -- A class of the operands of an intersection or a subtraction, of which there are two at least.
-pub record IsClassOfOperands (e : Environment) (kind : CharacterClassContentsKind) (c : Class) (w rest : List CodePoint) : Type 0 where
+pub record IsClassOfOperands (e : Environment) (o : SetOperator) (c : Class) (w rest : List CodePoint) : Type 0 where
   pub negative : Bool
   pub brackets : InBrackets negative w rest
   pub first : Member
@@ -72,5 +70,5 @@ pub record IsClassOfOperands (e : Environment) (kind : CharacterClassContentsKin
   pub first_is : SpellsWholeOperand e first front further
   pub more : List Member
   pub some_more : more ≢ []
-  pub row : ElementRow {Place = Unit {0}} (λ q. SpellsFurtherOperand e kind) (λ q m more. tt) more tt further tt (brackets.closer ∷ rest)
-  pub class_is : c ≡ class_of_members negative kind (first ∷ more)
+  pub row : ElementRow {Place = Unit {0}} (λ q. SpellsFurtherOperand e o) (λ q m more. tt) more tt further tt (brackets.closer ∷ rest)
+  pub class_is : c ≡ class_of_members negative (contents_kind o) (first ∷ more)

@@ -2,6 +2,8 @@
 -- says that the units w spell a thing before all that follows them, rest.
 use Rattle.std.specs.Prelude.{◌≡◌, ℕ, ◌+◌, Bool, true, false, not, ◌==◌, ◌&&◌, ◌||◌, ◌⊎◌, List, [], ◌∷◌, ◌++◌, length, codes}
 use Rattle.rx_base.specs.Ascii as ascii
+use Rattle.rx_base.specs.declared.diagnostic.kinds.SetOperator.{SetOperator}
+use Rattle.rx_base.specs.declared.diagnostic.kinds.SetOperator.TheVariants.{Intersection, Subtraction}
 use Rattle.rx_tables.specs.Characters.{is_class_set_reserved_double_punctuator, is_class_set_syntax_character, is_reserved_punctuator}
 use Rattle.rx_ast.specs.declared.leaf.CharacterKind.{CharacterKind}
 use Rattle.rx_ast.specs.declared.leaf.CharacterKind.TheVariants as kind
@@ -13,7 +15,7 @@ use Rattle.rx_units.specs.Digits.{front_is}
 use Rattle.rx_model.specs.declared.mode.Mode.{Mode}
 use Rattle.rx_model.specs.declared.mode.Mode.TheVariants.{Legacy, Unicode, Sets}
 use Rattle.rx_ast.specs.Texts.{class_escape_text}
-use Rattle.rx_model.specs.Classes.ClassTokens.{Atom, character, escape, property, is_character, ClassToken, bracket, closer, item, low, dash, high, meet, less, strings, letter, string_bar, strings_end, ClassEvents, enter, leave, token, class_events, class_tokens}
+use Rattle.rx_model.specs.Classes.ClassTokens.{Atom, character, escape, property, is_character, ClassToken, bracket, closer, item, low, dash, high, operator, operator_text, strings, letter, string_bar, strings_end, ClassEvents, enter, leave, token, class_events, class_tokens}
 use Rattle.rx_model.specs.Classes.ClassShapes.{IsFitting, IsFlagged}
 use Rattle.rx_model.specs.Inputs.Environment.{Environment, is_sets, is_unicode}
 use Rattle.rx_model.specs.Characters.Escapes.{SpellsEscape}
@@ -110,7 +112,7 @@ abbrev pub StandsBefore : Environment → Atom → List CodePoint → Type 0
 StandsBefore e a rest = (is_dashed (values rest) ≡ false) ⊎ (BeforeThird e a rest ⊎ BeginsNoRange e a rest)
 
 -- What may stand next in a class: its bracket; an item, an operator or a closer; the `-` of a range; the end of a range; the second and the third of three
--- items; with `v` the operand after `&&`, and after `--`; what class strings may go on with.
+-- items; with `v` the operand after an operator; what class strings may go on with.
 pub data Place : Type 0 where
   outside : Place
   fresh : Place
@@ -118,8 +120,7 @@ pub data Place : Type 0 where
   at_high : Place
   at_second : Place
   at_third : Place
-  after_meet : Place
-  after_less : Place
+  after_operator : SetOperator → Place
   in_strings : Place
 
 -- `[^`, or a `[` before no `^`
@@ -141,8 +142,12 @@ SpellsOfStrings e string_bar w rest = values w ≡ codes "|"
 SpellsOfStrings e strings_end w rest = values w ≡ codes "}"
 SpellsOfStrings e t w rest = ⊥
 
--- At a place the token is spelled. Nested classes, class strings, `&&` and `--` stand in classes with `v` alone, and no `&` stands right after `&&`
--- (ClassIntersection).
+-- whether these characters may stand right after the operator: after `&&` no `&` may (ClassIntersection)
+abbrev pub may_follow_operator : SetOperator → List ℕ → Bool
+may_follow_operator Intersection w = not (starts ascii.ampersand w)
+may_follow_operator Subtraction w = true
+
+-- At a place the token is spelled. Nested classes, class strings and operators stand in classes with `v` alone.
 abbrev pub SpellsInClass : Environment → Place → ClassToken → List CodePoint → List CodePoint → Type 0
 SpellsInClass e outside (bracket negative) w rest = SpellsBracket negative w rest
 SpellsInClass e fresh closer w rest = values w ≡ codes "]"
@@ -150,14 +155,12 @@ SpellsInClass e fresh (item a) w rest = SpellsAtom e a w rest × StandsBefore e 
 SpellsInClass e fresh (low k v) w rest = SpellsClassCharacter e k v w rest × (is_dashed (values rest) ≡ true) × BeforeHigh e rest
 SpellsInClass e fresh (bracket negative) w rest = (is_sets e.mode ≡ true) × SpellsOperand e (bracket negative) w rest
 SpellsInClass e fresh strings w rest = (is_sets e.mode ≡ true) × SpellsOperand e strings w rest
-SpellsInClass e fresh meet w rest = (is_sets e.mode ≡ true) × (values w ≡ codes "&&")
-SpellsInClass e fresh less w rest = (is_sets e.mode ≡ true) × (values w ≡ codes "--")
+SpellsInClass e fresh (operator o) w rest = (is_sets e.mode ≡ true) × (values w ≡ operator_text o)
 SpellsInClass e at_dash dash w rest = values w ≡ codes "-"
 SpellsInClass e at_high (high k v) w rest = SpellsClassCharacter e k v w rest
 SpellsInClass e at_second (item a) w rest = (a ≡ character kind.Symbol ascii.hyphen) × (values w ≡ codes "-")
 SpellsInClass e at_third (item a) w rest = SpellsAtom e a w rest
-SpellsInClass e after_meet t w rest = (is_sets e.mode ≡ true) × SpellsOperand e t w rest × (starts ascii.ampersand (values w) ≡ false)
-SpellsInClass e after_less t w rest = (is_sets e.mode ≡ true) × SpellsOperand e t w rest
+SpellsInClass e (after_operator o) t w rest = (is_sets e.mode ≡ true) × SpellsOperand e t w rest × (may_follow_operator o (values w) ≡ true)
 SpellsInClass e in_strings t w rest = (is_sets e.mode ≡ true) × SpellsOfStrings e t w rest
 SpellsInClass e q t w rest = ⊥
 
@@ -170,8 +173,7 @@ following_item at_third first = fresh
 following_item outside first = fresh
 following_item at_dash first = fresh
 following_item at_high first = fresh
-following_item after_meet first = fresh
-following_item after_less first = fresh
+following_item (after_operator o) first = fresh
 following_item in_strings first = fresh
 
 -- the place after a token, from its own place and with what follows it
@@ -182,8 +184,7 @@ next_place mode q (item a) rest = following_item q (is_dashed (values rest) && h
 next_place mode q (low k v) rest = at_dash
 next_place mode q dash rest = at_high
 next_place mode q (high k v) rest = fresh
-next_place mode q meet rest = after_meet
-next_place mode q less rest = after_less
+next_place mode q (operator o) rest = after_operator o
 next_place mode q strings rest = in_strings
 next_place mode q (letter k v) rest = in_strings
 next_place mode q string_bar rest = in_strings

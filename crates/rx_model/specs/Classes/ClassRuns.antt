@@ -1,89 +1,68 @@
 -- Which rows of class tokens are front parts of a class that is free of early errors (22.2.1.1): the brackets that are open after them, and what each holds.
 use Rattle.std.specs.Prelude.{ℕ, ◌+◌, Bool, true, false, not, is_some, ◌||◌, ◌&&◌, nat_le, Option, Some, None, List, [], ◌∷◌}
 use Rattle.rx_base.specs.declared.diagnostic.kinds.SetOperator.{SetOperator}
-use Rattle.rx_base.specs.declared.diagnostic.kinds.SetOperator.TheVariants as operator
-use Rattle.rx_model.specs.Classes.ClassTokens.{Atom, character, escape, property, ClassToken, bracket, closer, item, low, dash, high, meet, less, strings, letter, string_bar, strings_end}
+use Rattle.rx_base.specs.declared.diagnostic.kinds.SetOperator.TheVariants.{Intersection, Subtraction}
+use Rattle.rx_model.specs.Classes.ClassTokens.{Atom, character, escape, property, ClassToken, bracket, closer, item, low, dash, high, operator, strings, letter, string_bar, strings_end}
 use Rattle.rx_model.specs.Trees.Early.{string_strings}
 
--- What a bracket holds so far: nothing, one operand, more of a union; operands with `&&` between, and such a `&&` at the end; the same with `--`.
+-- What a bracket holds so far: nothing, one operand, more of a union; operands with an operator between them, and it at the end; two operands or more with it
+-- between them.
 pub data Held : Type 0 where
   empty : Held
   single : Held
   several : Held
-  meeting : Held
-  met : Held
-  lessening : Held
-  lessened : Held
+  pending : SetOperator → Held
+  joined : SetOperator → Held
 
 -- with one operand more
 abbrev pub operand : Held → Option Held
 operand empty = Some single
 operand single = Some several
 operand several = Some several
-operand meeting = Some met
-operand met = None
-operand lessening = Some lessened
-operand lessened = None
+operand (pending o) = Some (joined o)
+operand (joined o) = None
 
 -- with one range more
 abbrev pub ranged : Held → Option Held
 ranged empty = Some several
 ranged single = Some several
 ranged several = Some several
-ranged meeting = None
-ranged met = None
-ranged lessening = None
-ranged lessened = None
+ranged (pending o) = None
+ranged (joined o) = None
 
--- with `&&`
-abbrev pub met_by : Held → Option Held
-met_by empty = None
-met_by single = Some meeting
-met_by several = None
-met_by meeting = None
-met_by met = Some meeting
-met_by lessening = None
-met_by lessened = None
-
--- with `--`
-abbrev pub less_by : Held → Option Held
-less_by empty = None
-less_by single = Some lessening
-less_by several = None
-less_by meeting = None
-less_by met = None
-less_by lessening = None
-less_by lessened = Some lessening
+-- with an operator: it may follow one operand, or operands that it joins
+abbrev pub with_operator : SetOperator → Held → Option Held
+with_operator o empty = None
+with_operator o single = Some (pending o)
+with_operator o several = None
+with_operator o (pending p) = None
+with_operator Intersection (joined Intersection) = Some (pending Intersection)
+with_operator Subtraction (joined Subtraction) = Some (pending Subtraction)
+with_operator o (joined p) = None
 
 -- whether `]` may follow
 abbrev pub is_whole : Held → Bool
 is_whole empty = true
 is_whole single = true
 is_whole several = true
-is_whole meeting = false
-is_whole met = true
-is_whole lessening = false
-is_whole lessened = true
+is_whole (pending o) = false
+is_whole (joined o) = true
 
 -- whether it is a union (ClassUnion), or may become one
 abbrev pub is_union : Held → Bool
 is_union empty = true
 is_union single = true
 is_union several = true
-is_union meeting = false
-is_union met = false
-is_union lessening = false
-is_union lessened = false
+is_union (pending o) = false
+is_union (joined o) = false
 
 -- the operator of an intersection or a subtraction
 abbrev pub operator_of : Held → Option SetOperator
 operator_of empty = None
 operator_of single = None
 operator_of several = None
-operator_of meeting = Some operator.Intersection
-operator_of met = Some operator.Intersection
-operator_of lessening = Some operator.Subtraction
-operator_of lessened = Some operator.Subtraction
+operator_of (pending o) = Some o
+operator_of (joined o) = Some o
 
 -- whether an operand may stand next
 abbrev pub takes_operand : Held → Bool
@@ -97,8 +76,7 @@ may_follow held (item a) = takes_operand held
 may_follow held (low k v) = is_some (ranged held)
 may_follow held dash = true
 may_follow held (high k v) = is_some (ranged held)
-may_follow held meet = is_some (met_by held)
-may_follow held less = is_some (less_by held)
+may_follow held (operator o) = is_some (with_operator o held)
 may_follow held strings = takes_operand held
 may_follow held (letter k v) = true
 may_follow held string_bar = true
@@ -109,10 +87,9 @@ abbrev pub with_strings : Held → Bool → Bool → Bool
 with_strings empty old new = new
 with_strings single old new = old || new
 with_strings several old new = old || new
-with_strings meeting old new = old && new
-with_strings met old new = old
-with_strings lessening old new = old
-with_strings lessened old new = old
+with_strings (pending Intersection) old new = old && new
+with_strings (pending Subtraction) old new = old
+with_strings (joined o) old new = old
 
 -- An open bracket: whether it is negative, what it holds, whether that may contain strings; and of a range that has begun its low end, of class strings that
 -- have begun how many characters the last has, and whether one before it has MayContainStrings.
@@ -183,8 +160,7 @@ in_bracket (item a) r outer = where_true (atom_obeys a) (holding r outer (atom_m
 in_bracket (low k v) r outer = where_may (ranged r.held) (record r { low_end = v } ∷ outer)
 in_bracket dash r outer = Some (r ∷ outer)
 in_bracket (high k v) r outer = where_true (nat_le r.low_end v && nat_le v 0x10FFFF) (holding r outer false (ranged r.held))
-in_bracket meet r outer = held_on r outer (met_by r.held)
-in_bracket less r outer = held_on r outer (less_by r.held)
+in_bracket (operator o) r outer = held_on r outer (with_operator o r.held)
 in_bracket strings r outer = where_may (operand r.held) (record r { count = 0; any = false } ∷ outer)
 in_bracket (letter k v) r outer = where_true (nat_le v 0x10FFFF) (Some (record r { count = r.count + 1 } ∷ outer))
 in_bracket string_bar r outer = Some (record r { count = 0; any = any_string r } ∷ outer)

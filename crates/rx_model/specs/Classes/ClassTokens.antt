@@ -1,5 +1,7 @@
 -- The tokens of a class in the order of its text, without spans; and its events, which are its tokens with the beginnings and ends of nodes between them.
 use Rattle.std.specs.Prelude.{ℕ, Bool, true, false, List, [], ◌∷◌, ◌++◌, Option}
+use Rattle.rx_base.specs.declared.diagnostic.kinds.SetOperator.{SetOperator}
+use Rattle.rx_base.specs.declared.diagnostic.kinds.SetOperator.TheVariants as set
 use Rattle.rx_base.specs.declared.span.Span.{Span}
 use Rattle.rx_ast.specs.declared.leaf.Character.{Character}
 use Rattle.rx_ast.specs.declared.leaf.CharacterClassEscapeKind.{CharacterClassEscapeKind}
@@ -10,6 +12,7 @@ use Rattle.rx_ast.specs.declared.class.CharacterClassRange.{CharacterClassRange}
 use Rattle.rx_ast.specs.declared.class.ClassString.{ClassString}
 use Rattle.rx_ast.specs.ClassTree as tree
 use Rattle.rx_ast.specs.ClassTree.{Member, Members, Class, no_member, member, class}
+use Rattle.rx_ast.specs.Texts.{operator_text as kind_text}
 
 -- ClassAtom (22.2.1): a character, a class escape, or a property escape: whether it is negative and of strings, its name and its value
 pub data Atom : Type 0 where
@@ -31,9 +34,8 @@ pub data ClassToken : Type 0 where
   low : CharacterKind → ℕ → ClassToken
   dash : ClassToken
   high : CharacterKind → ℕ → ClassToken
-  -- with `v`: `&&`, `--`; `\q{`, a character of a string, `|`, `}`
-  meet : ClassToken
-  less : ClassToken
+  -- with `v`: an operator; `\q{`, a character of a string, `|`, `}`
+  operator : SetOperator → ClassToken
   strings : ClassToken
   letter : CharacterKind → ℕ → ClassToken
   string_bar : ClassToken
@@ -79,11 +81,19 @@ range_events r =
     enter r.min.span.start ∷ token (low r.min.kind r.min.value) ∷ leave r.min.span.end ∷ token dash ∷
     enter r.max.span.start ∷ token (high r.max.kind r.max.value) ∷ leave r.max.span.end ∷ []
 
+-- what operands with the operator between them are
+abbrev pub contents_kind : SetOperator → CharacterClassContentsKind
+contents_kind set.Intersection = Intersection
+contents_kind set.Subtraction = Subtraction
+
+abbrev pub operator_text : SetOperator → List ℕ
+operator_text o = kind_text (contents_kind o)
+
 -- what stands between the operands
 abbrev pub operator_events : CharacterClassContentsKind → ClassEvents
 operator_events Union = []
-operator_events Intersection = token meet ∷ []
-operator_events Subtraction = token less ∷ []
+operator_events Intersection = token (operator set.Intersection) ∷ []
+operator_events Subtraction = token (operator set.Subtraction) ∷ []
 
 abbrev mutual
   pub member_events : Member → ClassEvents
@@ -98,13 +108,13 @@ abbrev mutual
   class_events (class s negative may kind ms) = within s (token (bracket negative) ∷ (members_events (operator_events kind) ms ++ (token closer ∷ [])))
 
   pub members_events : ClassEvents → Members → ClassEvents
-  members_events operator no_member = []
-  members_events operator (member m ms) = member_events m ++ more_members_events operator ms
+  members_events between no_member = []
+  members_events between (member m ms) = member_events m ++ more_members_events between ms
 
   -- each after the operator
   pub more_members_events : ClassEvents → Members → ClassEvents
-  more_members_events operator no_member = []
-  more_members_events operator (member m ms) = operator ++ (member_events m ++ more_members_events operator ms)
+  more_members_events between no_member = []
+  more_members_events between (member m ms) = between ++ (member_events m ++ more_members_events between ms)
 
 abbrev pub class_tokens : Class → List ClassToken
 class_tokens c = class_tokens_of (class_events c)

@@ -5,6 +5,7 @@ use Rattle.rx_base.specs.declared.diagnostic.Diagnostic.{Diagnostic}
 use Rattle.rx_base.specs.declared.diagnostic.Diagnostic.TheVariants.{UnterminatedPattern, InvalidCharacterClass, CharacterClassRangeOutOfOrder, CharacterClassRangeDashNotSubtraction, CharacterClassRangeInvalidAtom, InvalidClassAtom, EmptyClassSetExpression, ClassIntersectionUnexpectedAmpersand, ClassSetExpressionInvalidCharacter, CharacterClassContentsInvalidOperands}
 use Rattle.rx_base.specs.declared.diagnostic.kinds.RangeKind.TheVariants as range
 use Rattle.rx_base.specs.declared.diagnostic.kinds.SetOperator.{SetOperator}
+use Rattle.rx_base.specs.declared.diagnostic.kinds.SetOperator.TheVariants.{Intersection}
 use Rattle.rx_base.specs.declared.diagnostic.kinds.Unterminated.{Unterminated}
 use Rattle.rx_base.specs.declared.diagnostic.kinds.Unterminated.TheVariants as what
 use Rattle.rx_base.specs.declared.span.Span.{Span}
@@ -14,7 +15,7 @@ use Rattle.rx_units.specs.Units.{values}
 use Rattle.rx_model.specs.declared.mode.Mode.{Mode}
 use Rattle.rx_model.specs.declared.mode.Mode.TheVariants.{Unicode}
 use Rattle.rx_model.specs.Refusals.ClassPlaces.{IsAtomPlace, IsInBracket, IsItemPlace, IsPropertyPlace, IsStringPlace}
-use Rattle.rx_model.specs.Classes.ClassRows.{Place, SpellsAtom, SpellsClassCharacter, SpellsInClass, after_meet, in_strings}
+use Rattle.rx_model.specs.Classes.ClassRows.{Place, SpellsAtom, SpellsClassCharacter, SpellsInClass, after_operator, in_strings, may_follow_operator}
 use Rattle.rx_model.specs.Classes.ClassRuns.{Held, empty, is_union, is_whole, may_follow, operator_of}
 use Rattle.rx_model.specs.Classes.ClassTokens.{Atom, ClassToken}
 pub use Rattle.rx_model.specs.Classes.ClassTokens.{is_character}
@@ -69,12 +70,12 @@ pub data IsClassCause (mode : Mode) (us : List CodePoint) (first added from : �
       → NothingFollows (class_environment mode us) item_place.at item_place.inner.held rest → rest ≢ []
       → IsClassCause mode us first added from at_class place (EmptyClassSetExpression (span_between us first added place place))
   -- A `&` stands right after `&&` (ClassIntersection).
-  third_ampersand : (place : ℕ) (unit : CodePoint) (rest : List CodePoint) (item_place : IsItemPlace (class_environment mode us) from at_class place (unit ∷ rest)) → item_place.at ≡ after_meet
+  third_ampersand : (place : ℕ) (unit : CodePoint) (rest : List CodePoint) (item_place : IsItemPlace (class_environment mode us) from at_class place (unit ∷ rest)) → item_place.at ≡ after_operator Intersection
       → unit.value ≡ ascii.ampersand → IsClassCause mode us first added from at_class place (ClassIntersectionUnexpectedAmpersand (span_between us first added place (place + 1)))
   -- In an intersection or a subtraction stands after an operand neither `]` nor the operator, or after the operator no operand.
   no_operator : (operator : SetOperator) (place : ℕ) (rest : List CodePoint) (item_place : IsItemPlace (class_environment mode us) from at_class place rest)
       → operator_of item_place.inner.held ≡ Some operator → NothingFollows (class_environment mode us) item_place.at item_place.inner.held rest
-      → (item_place.at ≡ after_meet → starts ascii.ampersand (values rest) ≡ false)
+      → (item_place.at ≡ after_operator operator → may_follow_operator operator (values rest) ≡ true)
       → IsClassCause mode us first added from at_class place (ClassSetExpressionInvalidCharacter (span_between us first added place place) operator)
   -- Class strings do not end.
   unterminated_strings : (opener place : ℕ) (rest : List CodePoint) → IsStringPlace (class_environment mode us) from at_class opener place rest → EndsStrings (class_environment mode us) rest

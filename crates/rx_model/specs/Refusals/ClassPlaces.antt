@@ -3,7 +3,7 @@ use Rattle.std.specs.Prelude.{◌≡◌, ℕ, ◌+◌, ◌⊎◌, Bool, true, fa
 use Rattle.rx_base.specs.Ascii as ascii
 use Rattle.rx_units.specs.declared.code_point.CodePoint.{CodePoint}
 use Rattle.rx_units.specs.Units.{values}
-use Rattle.rx_model.specs.Classes.ClassRows.{ClassTokenRow, Place, SpellsAtom, outside, fresh, at_dash, at_high, at_second, at_third, after_meet, after_less, in_strings, is_dashed}
+use Rattle.rx_model.specs.Classes.ClassRows.{ClassTokenRow, Place, SpellsAtom, outside, fresh, at_dash, at_high, at_second, at_third, after_operator, in_strings, is_dashed}
 use Rattle.rx_model.specs.Classes.ClassRuns.{Bracket, Brackets, class_opened, class_run, is_union, takes_operand}
 use Rattle.rx_model.specs.Classes.ClassTokens.{Atom, ClassToken, is_character, strings, letter, string_bar}
 use Rattle.rx_model.specs.Inputs.Environment.{Environment, is_sets}
@@ -16,8 +16,7 @@ begins_item at_dash = false
 begins_item at_high = false
 begins_item at_second = false
 begins_item at_third = false
-begins_item after_meet = true
-begins_item after_less = true
+begins_item (after_operator o) = true
 begins_item in_strings = false
 
 -- From a bracket, at place `from` of a text, class tokens lead to a place where an item of the innermost bracket may begin: they are spelled before all that

@@ -2,7 +2,6 @@
 -- What elements mean stands in Elements, and what else is wrong in Faults.
 use Rattle.std.specs.Prelude.{ℕ, ◌+◌, ◌*◌, ◌^◌, not, ◌==◌, ◌&&◌, ◌||◌, List, [], ◌∷◌, Option, Some, None, nat_le, nat_lt, if◌then◌else◌}
 use Rattle.rx_base.specs.Ascii as ascii
-use Rattle.rx_base.specs.Characters.{is_within}
 use Rattle.rx_tables.specs.Characters.{hex_digit_value, is_octal_digit, is_decimal_digit}
 use Rattle.rx_units.specs.Characters.{is_line_terminator}
 use Rattle.rx_units.specs.declared.quoted_text.element.Element.{Element}

@@ -7,6 +7,7 @@ use crate::quoted_text::Writing;
 use crate::quoted_text::found::EscapeFound;
 use rx_tables::map_hex_digit;
 
+/// What a HexDigit stands for (ECMA-262, 12.9.3).
 #[tactic(auto, using(rx_tables::proofs::Digits::hex_digit_value_small))]
 fn hex_digit(c: char) -> Option<u32>
     ensures value { result ≡ hex_digit_value c }
@@ -26,7 +27,7 @@ fn front_digit(chars: &[char]) -> Option<u32>
     }
 }
 
-/// Two hexadecimal digits, after `x`.
+/// Two hexadecimal digits, after `x` (HexEscapeSequence of ECMA-262, 12.9.4).
 pub(crate) fn hex_escape(chars: &[char]) -> EscapeFound
     ensures { seen_escape result ≡ hex_at chars.now }
 {
@@ -46,7 +47,7 @@ pub(crate) fn hex_escape(chars: &[char]) -> EscapeFound
     }
 }
 
-/// Four hexadecimal digits, or some in braces, after `u`.
+/// Four hexadecimal digits, or some in braces, after `u` (UnicodeEscapeSequence of ECMA-262, 12.9.4).
 pub(crate) fn unicode_escape(chars: &[char]) -> EscapeFound
     ensures { seen_escape result ≡ unicode_after (four_at chars.now) chars.now }
 {
@@ -60,7 +61,7 @@ pub(crate) fn unicode_escape(chars: &[char]) -> EscapeFound
     }
 }
 
-/// The number of four hexadecimal digits.
+/// The number of four hexadecimal digits (Hex4Digits of ECMA-262, 12.9.4).
 #[tactic(auto, using(crate::proofs::Quoted::Steps::short_four))]
 fn four_digits(chars: &[char]) -> Option<u32>
     ensures { result ≡ four_at chars.now }
@@ -77,6 +78,7 @@ fn four_digits(chars: &[char]) -> Option<u32>
     }
 }
 
+/// The digits of a UnicodeEscapeSequence in braces (ECMA-262, 12.9.4).
 fn braced_digits(chars: &[char]) -> EscapeFound
     ensures { seen_escape result ≡ braces_at chars.now }
 {
@@ -86,6 +88,7 @@ fn braced_digits(chars: &[char]) -> EscapeFound
     }
 }
 
+/// The digits up to the closing brace (CodePoint of ECMA-262, 12.9.6).
 fn digits_to_brace(chars: &[char]) -> EscapeFound
     ensures { seen_escape result ≡ digits_at 0 0 chars.now }
 {

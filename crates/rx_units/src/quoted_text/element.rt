@@ -8,6 +8,7 @@ pub struct Element {
 }
 
 /// How an element was written.
+// Why: docs/DECISIONS.md, 67.
 #[derive(Clone, Copy, Debug)]
 pub enum Writing {
     /// As itself, or by an escape without a number.

@@ -68,6 +68,7 @@ fn single_escape_value(c: char) -> Option<u32>
     }
 }
 
+/// Whether a DecimalDigit (ECMA-262, 12.9.3) stands next.
 fn begins_with_digit(chars: &[char]) -> bool
     ensures { result ≡ front_is is_decimal_digit chars.now }
 {
@@ -97,7 +98,8 @@ fn line_escape(first: char, rest: &[char]) -> EscapeFound
     }
 }
 
-/// A LineContinuation that gives its terminator.
+/// A LineContinuation (ECMA-262, 12.9.4) that gives its terminator.
+// Why: docs/DECISIONS.md, 46.
 fn line_continuation(terminator: char, length: usize) -> EscapeFound
     ensures { result ≡ EscapeFound.Escaped terminator Writing.LineContinuation length }
 {

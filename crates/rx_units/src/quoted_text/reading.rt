@@ -95,7 +95,8 @@ impl Stop<'_> {
     }
 }
 
-/// Reads the elements after an opening quote.
+/// Reads the elements after an opening quote (DoubleStringCharacters, SingleStringCharacters or TemplateCharacters of ECMA-262, 12.9.4 and 12.9.6).
+// Why: docs/DECISIONS.md, 49.
 pub(crate) fn elements<'a>(
     alloc: Global,
     literal: Literal,

@@ -31,7 +31,7 @@ pub(crate) fn string_front(quote: char, chars: &[char]) -> Found
     Found::element(first as u32, Writing::Plain, 1)
 }
 
-/// An escape, by what stands after its backslash.
+/// An escape (EscapeSequence or LineContinuation of ECMA-262, 12.9.4), by what stands after its backslash.
 fn string_escape(escape: EscapeFound, chars: &[char]) -> Found
     ensures { seen_front result ≡ string_escape (seen_escape escape) chars.now }
 {
@@ -62,7 +62,7 @@ fn legacy_escape(chars: &[char]) -> Found
     legacy_element(LegacyKind::NonOctalDecimal, *first as u32, 2)
 }
 
-/// LegacyOctalEscapeSequence, by its first digit and the characters after it.
+/// LegacyOctalEscapeSequence of ECMA-262, 12.9.4, by its first digit and the characters after it.
 fn octal_escape(first: char, rest: &[char]) -> Found
     requires { is_octal_digit first ≡ true }
     ensures { seen_front result ≡ octal_at first rest.now }

@@ -52,7 +52,7 @@ fn raw_line(first: char, rest: &[char]) -> Found
     }
 }
 
-/// An escape, by what stands after its backslash.
+/// An escape (TemplateEscapeSequence, NotEscapeSequence or LineContinuation of ECMA-262, 12.9.6), by what stands after its backslash.
 fn template_escape(escape: EscapeFound, chars: &[char]) -> Found
     ensures { seen_front result ≡ template_escape (seen_escape escape) chars.now }
 {
@@ -71,6 +71,7 @@ fn template_escape(escape: EscapeFound, chars: &[char]) -> Found
 }
 
 /// A NotEscapeSequence of digits (ECMA-262, 12.9.6), which gives its last digit where it is allowed.
+// Why: docs/DECISIONS.md, 71.
 fn digit(chars: &[char]) -> Found
     ensures { seen_front result ≡ digit_at chars.now }
 {

@@ -10,6 +10,7 @@ use rx_base::{
 use std::alloc::Global;
 
 /// Adds the units that an element gives, which stands in the bytes between the bounds. A refusal leaves the list as before.
+// Why: docs/DECISIONS.md, 69.
 pub(crate) fn push_element(
     units: &mut List<CodePoint>,
     element: Element,
@@ -56,6 +57,7 @@ fn escape_kind(writing: Writing) -> EscapeKind
 }
 
 /// The units of a text by what its elements give.
+// Why: docs/DECISIONS.md, 47.
 pub(crate) fn text_units(
     alloc: Global,
     units: List<CodePoint>,
@@ -71,6 +73,7 @@ pub(crate) fn text_units(
 }
 
 /// The code points of code units (StringToCodePoints of ECMA-262, 11.1.5).
+// Why: docs/DECISIONS.md, 68.
 fn code_points(alloc: Global, units: &[CodePoint]) -> Result<List<CodePoint>, OutOfMemory>
     ensures { IfOk result (λ body. body ≡ code_points units.now) }
 {

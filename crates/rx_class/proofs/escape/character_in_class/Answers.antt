@@ -1,3 +1,4 @@
+use Rattle.std.proofs.Common.{refl}
 use Rattle.rx_class.proofs.ReadingSteps.{found_reading}
 use Rattle.rx_class.proofs.escape.character_in_class.Goals as goal
 
@@ -6,4 +7,4 @@ returns-clause-steps g c =
     let found = c.any_escape_at-found in
     found_reading c.args.spans.now c.args.span_start c.args.reader.now c.answer.new.reader (g.C.Counter.count c.args.steps.now) (g.C.Counter.count found.new.steps) (g.C.Counter.count c.answer.new.steps)
     c.answer.ensures.steps _ found.result c.answer.result c.remaining_code_points-units.ensures.units c.answer.ensures.found (found.ensures.within c.remaining_code_points-units.ensures.code_points)
-    (found.ensures.few c.context_in_class.ensures.inside)
+    (found.ensures.few refl)

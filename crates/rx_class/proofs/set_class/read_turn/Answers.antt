@@ -6,108 +6,74 @@ use Rattle.rx_class.specs.Found.{seen_escape}
 use Rattle.rx_class.specs.FrontSeen.{seen_front}
 use Rattle.rx_class.specs.SetReading.{adds}
 use Rattle.rx_class.specs.SetSteps.{most_set_looks}
-use Rattle.rx_class.proofs.SetPaces.{adds_left, front_fits, with_looks, with_none}
+use Rattle.rx_class.proofs.SetFronts.{set_front_is}
+use Rattle.rx_class.proofs.SetPaces.{adds_left, front_fits, no_steps, with_looks}
 use Rattle.rx_class.proofs.SetTurns.{begins_closer, front_stands, nothing_there}
-use Rattle.rx_class.proofs.set_class.read_turn.Goals.{else-is_meeting-via-then-is_meeting+else-begins_with, else-is_meeting-via-else-is_meeting}
+use Rattle.rx_class.proofs.set_class.read_turn.Goals.{else-is_pending-via-then-is_pending+else-begins_with, else-is_pending-via-else-is_pending}
 use Rattle.rx_class.proofs.set_class.read_turn.Goals as goal
 
 pub close-requires-clause-front : goal.close-requires-clause-front
-close-requires-clause-front g c =
-    front_stands _ _ _ _ c.remaining_code_points-2.ensures.units (c.set_front_at-front.ensures.front (environment_of c.args.state.now) c.requires.sets.sets) c.in-Close.ensures.0
+close-requires-clause-front g c = front_stands _ _ _ _ c.remaining_code_points-2.ensures.units c.set_front_at-front.ensures.front c.in-Close.ensures.0
+
+pub operator-requires-clause-front : goal.operator-requires-clause-front
+operator-requires-clause-front g c = front_stands _ _ _ _ c.remaining_code_points-2.ensures.units c.set_front_at-front.ensures.front c.in-Operator.ensures.0
+
+pub open-requires-clause-front : goal.open-requires-clause-front
+open-requires-clause-front g c = front_stands _ _ _ _ c.remaining_code_points-2.ensures.units c.set_front_at-front.ensures.front c.in-Open.ensures.0
+
+pub strings-requires-clause-front : goal.strings-requires-clause-front
+strings-requires-clause-front g c = front_stands _ _ _ _ c.remaining_code_points-2.ensures.units c.set_front_at-front.ensures.front c.in-Strings.ensures.0
+
+pub escape-requires-clause-front : goal.escape-requires-clause-front
+escape-requires-clause-front g c = front_stands _ _ _ _ c.remaining_code_points-2.ensures.units c.set_front_at-front.ensures.front c.in-Escape.ensures.0
+
+pub property-requires-clause-front : goal.property-requires-clause-front
+property-requires-clause-front g c = front_stands _ _ _ _ c.remaining_code_points-2.ensures.units c.set_front_at-front.ensures.front c.in-Property.ensures.0
+
+pub character_item-requires-clause-front : goal.character_item-requires-clause-front
+character_item-requires-clause-front g c = let front = front_stands _ _ _ _ c.remaining_code_points-2.ensures.units c.set_front_at-front.ensures.front c.in-Character.ensures.0 in front.0
+
+pub character_item-requires-clause-some : goal.character_item-requires-clause-some
+character_item-requires-clause-some g c = let front = front_stands _ _ _ _ c.remaining_code_points-2.ensures.units c.set_front_at-front.ensures.front c.in-Character.ensures.0 in front.1
 
 pub close-requires-clause-nested : goal.close-requires-clause-nested
 close-requires-clause-nested g c = λ none.
-    let front = front_stands _ _ _ _ c.remaining_code_points-2.ensures.units (c.set_front_at-front.ensures.front (environment_of c.args.state.now) c.requires.sets.sets) c.in-Close.ensures.0 in
+    let front = front_stands _ _ _ _ c.remaining_code_points-2.ensures.units c.set_front_at-front.ensures.front c.in-Close.ensures.0 in
     c.requires.goes_on record { closer = begins_closer (rest c.args.reader.now) front; outermost = none; whole = c.in-Close.ensures.1 }
 
-pub meet-requires-clause-front : goal.meet-requires-clause-front
-meet-requires-clause-front g c =
-    front_stands _ _ _ _ c.remaining_code_points-2.ensures.units (c.set_front_at-front.ensures.front (environment_of c.args.state.now) c.requires.sets.sets) c.in-Meet.ensures.0
-
-pub less-requires-clause-front : goal.less-requires-clause-front
-less-requires-clause-front g c =
-    front_stands _ _ _ _ c.remaining_code_points-2.ensures.units (c.set_front_at-front.ensures.front (environment_of c.args.state.now) c.requires.sets.sets) c.in-Less.ensures.0
-
-pub open-requires-clause-front : goal.open-requires-clause-front
-open-requires-clause-front g c =
-    front_stands _ _ _ _ c.remaining_code_points-2.ensures.units (c.set_front_at-front.ensures.front (environment_of c.args.state.now) c.requires.sets.sets) c.in-Open.ensures.0
-
-pub strings-requires-clause-front : goal.strings-requires-clause-front
-strings-requires-clause-front g c =
-    front_stands _ _ _ _ c.remaining_code_points-2.ensures.units (c.set_front_at-front.ensures.front (environment_of c.args.state.now) c.requires.sets.sets) c.in-Strings.ensures.0
-
-pub character_item-requires-clause-front : goal.character_item-requires-clause-front
-character_item-requires-clause-front g c =
-    let front = front_stands _ _ _ _ c.remaining_code_points-2.ensures.units (c.set_front_at-front.ensures.front (environment_of c.args.state.now) c.requires.sets.sets) c.in-Character.ensures.0 in front.0
-
-pub character_item-requires-clause-some : goal.character_item-requires-clause-some
-character_item-requires-clause-some g c =
-    let front = front_stands _ _ _ _ c.remaining_code_points-2.ensures.units (c.set_front_at-front.ensures.front (environment_of c.args.state.now) c.requires.sets.sets) c.in-Character.ensures.0 in front.1
-
-pub escape-requires-clause-front : goal.escape-requires-clause-front
-escape-requires-clause-front g c =
-    front_stands _ _ _ _ c.remaining_code_points-2.ensures.units (c.set_front_at-front.ensures.front (environment_of c.args.state.now) c.requires.sets.sets) c.in-Escape.ensures.0
-
-pub property-requires-clause-front : goal.property-requires-clause-front
-property-requires-clause-front g c =
-    front_stands _ _ _ _ c.remaining_code_points-2.ensures.units (c.set_front_at-front.ensures.front (environment_of c.args.state.now) c.requires.sets.sets) c.in-Property.ensures.0
-
-pub returns-in-Meet-clause-gives : goal.returns-in-Meet-clause-gives
-returns-in-Meet-clause-gives g c = adds (c.meet.ensures.added (environment_of c.args.state.now) c.args.spans.now c.requires.sets)
-
-pub returns-in-Less-clause-gives : goal.returns-in-Less-clause-gives
-returns-in-Less-clause-gives g c = adds (c.less.ensures.added (environment_of c.args.state.now) c.args.spans.now c.requires.sets)
+pub returns-in-Operator-clause-gives : goal.returns-in-Operator-clause-gives
+returns-in-Operator-clause-gives g c = adds (c.operator.ensures.added (environment_of c.args.state.now) c.args.spans.now c.requires.sets)
 
 pub returns-in-Nothing-clause-gives : goal.returns-in-Nothing-clause-gives
 returns-in-Nothing-clause-gives g c =
+    let sets = c.requires.sets in
+    let front = set_front_is _ _ c.set_front_at-front.ensures.front (environment_of c.args.state.now) sets.sets in
     c.nothing_follows.ensures (environment_of c.args.state.now) c.requires.sets
-    (nothing_there c.args.reader.now c.args.builder.now _ (seen_front c.set_front_at-front.result) c.remaining_code_points-2.ensures.units (c.set_front_at-front.ensures.front (environment_of c.args.state.now) c.requires.sets.sets)
-    c.in-Nothing.ensures (λ held. elim c.else-is_meeting.branch [
-      | else-is_meeting-via-then-is_meeting+else-begins_with w ↦ rw (← w.remaining_code_points.ensures.units) (sym w.begins_with.ensures ∙ w.if-begins_with.false)
-      | else-is_meeting-via-else-is_meeting w ↦ absurd (true≢false (sym (c.is_meeting.ensures.1 held) ∙ w.if-is_meeting.false))
+    (nothing_there c.args.reader.now c.args.builder.now _ (seen_front c.set_front_at-front.result) c.remaining_code_points-2.ensures.units front c.in-Nothing.ensures (λ held. elim c.else-is_pending.branch [
+      | else-is_pending-via-then-is_pending+else-begins_with w ↦ rw (← w.remaining_code_points.ensures.units) (sym w.begins_with.ensures ∙ w.if-begins_with.false)
+      | else-is_pending-via-else-is_pending w ↦ absurd (true≢false (sym (c.is_pending.ensures.1 held) ∙ w.if-is_pending.false))
     ]))
 
 pub returns-in-Close-clause-steps : goal.returns-in-Close-clause-steps
-returns-in-Close-clause-steps g c =
-    let none = rw c.in-Close.ensures.0 at c.set_front_at-front.ensures.steps in
-    with_none (g.C.Counter.count c.args.steps.now) (g.C.Counter.count c.set_front_at-front.new.steps) (g.C.Counter.count c.close.new.steps) c.args.reader.now c.close.new.reader c.close.result (omega (arith, none.0)) (omega (arith, none.1))
-    c.close.ensures.steps
+returns-in-Close-clause-steps g c = rw (no_steps _ _ (rw c.in-Close.ensures.0 at c.set_front_at-front.ensures.steps)) c.close.ensures.steps
 
 pub returns-in-Open-clause-steps : goal.returns-in-Open-clause-steps
-returns-in-Open-clause-steps g c =
-    let none = rw c.in-Open.ensures.0 at c.set_front_at-front.ensures.steps in
-    with_none (g.C.Counter.count c.args.steps.now) (g.C.Counter.count c.set_front_at-front.new.steps) (g.C.Counter.count c.open.new.steps) c.args.reader.now c.open.new.reader c.open.result (omega (arith, none.0)) (omega (arith, none.1))
-    c.open.ensures.steps
+returns-in-Open-clause-steps g c = rw (no_steps _ _ (rw c.in-Open.ensures.0 at c.set_front_at-front.ensures.steps)) c.open.ensures.steps
 
 pub returns-in-Strings-clause-steps : goal.returns-in-Strings-clause-steps
-returns-in-Strings-clause-steps g c =
-    let none = rw c.in-Strings.ensures.0 at c.set_front_at-front.ensures.steps in
-    with_none (g.C.Counter.count c.args.steps.now) (g.C.Counter.count c.set_front_at-front.new.steps) (g.C.Counter.count c.strings.new.steps) c.args.reader.now c.strings.new.reader c.strings.result (omega (arith, none.0)) (omega (arith, none.1))
-    c.strings.ensures.steps
+returns-in-Strings-clause-steps g c = rw (no_steps _ _ (rw c.in-Strings.ensures.0 at c.set_front_at-front.ensures.steps)) c.strings.ensures.steps
 
 pub returns-in-Escape-clause-steps : goal.returns-in-Escape-clause-steps
-returns-in-Escape-clause-steps g c =
-    let none = rw c.in-Escape.ensures.0 at c.set_front_at-front.ensures.steps in
-    with_none (g.C.Counter.count c.args.steps.now) (g.C.Counter.count c.set_front_at-front.new.steps) (g.C.Counter.count c.escape.new.steps) c.args.reader.now c.escape.new.reader c.escape.result (omega (arith, none.0)) (omega (arith, none.1))
-    c.escape.ensures.steps
+returns-in-Escape-clause-steps g c = rw (no_steps _ _ (rw c.in-Escape.ensures.0 at c.set_front_at-front.ensures.steps)) c.escape.ensures.steps
 
 pub returns-in-Property-clause-steps : goal.returns-in-Property-clause-steps
-returns-in-Property-clause-steps g c =
-    let none = rw c.in-Property.ensures.0 at c.set_front_at-front.ensures.steps in
-    with_none (g.C.Counter.count c.args.steps.now) (g.C.Counter.count c.set_front_at-front.new.steps) (g.C.Counter.count c.property.new.steps) c.args.reader.now c.property.new.reader c.property.result (omega (arith, none.0)) (omega (arith, none.1))
-    c.property.ensures.steps
+returns-in-Property-clause-steps g c = rw (no_steps _ _ (rw c.in-Property.ensures.0 at c.set_front_at-front.ensures.steps)) c.property.ensures.steps
 
-pub returns-in-Meet-clause-steps : goal.returns-in-Meet-clause-steps
-returns-in-Meet-clause-steps g c =
-    let none = rw c.in-Meet.ensures.0 at c.set_front_at-front.ensures.steps in
-    let fewer = adds_left (c.meet.ensures.added (environment_of c.args.state.now) c.args.spans.now c.requires.sets) in
-    (omega (arith, none, fewer, c.meet.ensures.steps), omega (arith, none, fewer, c.meet.ensures.steps))
-
-pub returns-in-Less-clause-steps : goal.returns-in-Less-clause-steps
-returns-in-Less-clause-steps g c =
-    let none = rw c.in-Less.ensures.0 at c.set_front_at-front.ensures.steps in
-    let fewer = adds_left (c.less.ensures.added (environment_of c.args.state.now) c.args.spans.now c.requires.sets) in
-    (omega (arith, none, fewer, c.less.ensures.steps), omega (arith, none, fewer, c.less.ensures.steps))
+pub returns-in-Operator-clause-steps : goal.returns-in-Operator-clause-steps
+returns-in-Operator-clause-steps g c =
+    let none = rw c.in-Operator.ensures.0 at c.set_front_at-front.ensures.steps in
+    let fewer = adds_left (c.operator.ensures.added (environment_of c.args.state.now) c.args.spans.now c.requires.sets) in
+    (omega (arith, none, fewer, c.operator.ensures.steps), omega (arith, none, fewer, c.operator.ensures.steps))
 
 pub returns-in-Character-clause-steps : goal.returns-in-Character-clause-steps
 returns-in-Character-clause-steps g c =
@@ -117,6 +83,5 @@ returns-in-Character-clause-steps g c =
 
 pub returns-in-Nothing-clause-steps : goal.returns-in-Nothing-clause-steps
 returns-in-Nothing-clause-steps g c =
-    let front = c.set_front_at-front.ensures in
-    let fits = front_fits c.remaining_code_points-2.result.now (seen_front c.set_front_at-front.result) (front.front (environment_of c.args.state.now) c.requires.sets.sets) in
-    omega (arith, fits, front.steps, ap length c.remaining_code_points-2.ensures.units)
+    let fits = front_fits c.remaining_code_points-2.result.now (seen_front c.set_front_at-front.result) c.set_front_at-front.ensures.front in
+    omega (arith, fits, c.set_front_at-front.ensures.steps, ap length c.remaining_code_points-2.ensures.units)

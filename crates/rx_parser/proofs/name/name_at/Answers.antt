@@ -1,8 +1,8 @@
-use Rattle.std.proofs.Common.{◌≡◌, ◌∙◌, ap, arith, length, length-drop, sym, drop}
-use Rattle.std.proofs.lemmas.List.{drop-map}
+use Rattle.std.proofs.Common.{◌∙◌, ap, arith, length, length-drop, sym}
 use Rattle.rx_units.specs.Units.{values}
 use Rattle.rx_model.specs.FirstPass.Marks.{starts}
 use Rattle.rx_model.specs.Groups.NameFronts.{read_after_name, read_from_row}
+use Rattle.rx_scan.proofs.MarkSteps.{values_drop}
 use Rattle.rx_parser.specs.Names.{found_name}
 use Rattle.rx_parser.proofs.Looks.{name_steps}
 use Rattle.rx_parser.proofs.name.name_at.Goals as goal
@@ -13,7 +13,7 @@ returns-clause-read g c =
     let n = c.group_name_length_counted-length.result in
     let row = c.group_name_length_counted-length.ensures.read in
     c.after_name.ensures.read row.0
-    ∙ ap (λ w. found_name (read_after_name m row.0 n w)) (ap values c.tail.ensures ∙ sym (drop-map (λ u. u.value) n c.args.units.now))
+    ∙ ap (λ w. found_name (read_after_name m row.0 n w)) (ap values c.tail.ensures ∙ values_drop n c.args.units.now)
     ∙ ap (λ r. found_name (read_from_row m r (values c.args.units.now))) (sym row.1)
 
 pub returns-clause-steps : goal.returns-clause-steps
@@ -21,7 +21,6 @@ returns-clause-steps g c =
     let us = c.args.units.now in
     let it = c.group_name_length_counted-length in
     let n = it.result in
-    let there : values c.tail.result.now ≡ drop n (values us) = ap values c.tail.ensures ∙ sym (drop-map (λ u. u.value) n us) in
     name_steps (length us) (length c.tail.result.now) n (g.C.Counter.count c.args.steps.now) (g.C.Counter.count it.new.steps) (g.C.Counter.count c.after_name.new.steps)
-    (starts 92 (values c.tail.result.now)) c.after_name.result (λ h. it.ensures.ends (ap (starts 92) (sym there) ∙ h)) it.ensures.most it.ensures.least c.after_name.ensures.steps
+    (starts 92 (values c.tail.result.now)) c.after_name.result (λ h. it.ensures.ends (ap (starts 92) (sym (ap values c.tail.ensures ∙ values_drop n us)) ∙ h)) it.ensures.most it.ensures.least c.after_name.ensures.steps
     (omega (arith, ap length c.tail.ensures, length-drop n us, it.ensures.within)) c.after_name.ensures.ends

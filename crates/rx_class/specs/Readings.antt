@@ -1,0 +1,10 @@
+-- What a reading keeps while it goes on.
+use Rattle.std.specs.Prelude.{◌≡◌}
+use Rattle.rx_class.specs.declared.reading.Reading.{Reading}
+
+-- One reading, before and after: it has the same reader, which may have moved, and the same counter, and what else it reads with is the same.
+pub record ReadsOn {C : Type 0} (old new : Reading C) : Type 0 where
+  pub reader : new.reader.ghost_name ≡ old.reader.ghost_name
+  pub steps : new.steps.ghost_name ≡ old.steps.ghost_name
+  pub state : new.state.now ≡ old.state.now
+  pub spans : new.spans.now ≡ old.spans.now

@@ -1,9 +1,0 @@
-use Rattle.rx_parser.proofs.FrameEvents.{builder_new}
-use Rattle.rx_parser.proofs.Goods.{good_start}
-use Rattle.rx_parser.proofs.builder.Builder.new.Goals as goal
-
-pub returns-clause-events : goal.returns-clause-events
-returns-clause-events c = builder_new _ c.new.ensures c.new-2.ensures.events
-
-pub returns-clause-good : goal.returns-clause-good
-returns-clause-good c = good_start _ c.new.ensures (c.new-2.ensures.good c.args.mode)

@@ -1,0 +1,25 @@
+use Rattle.std.proofs.Common.{◌∙◌, ap, arith, false, length, rules, subst, sym, ◌+◌, ◌<◌, ◌^◌}
+use Rattle.std.proofs.lemmas.List.{length-map}
+use Rattle.rx_units.specs.declared.code_point.CodePoint.{CodePoint}
+use Rattle.rx_units.specs.Units.{values}
+use Rattle.rx_model.proofs.Characters.LegacyEscapes.{any_within}
+use Rattle.rx_scan.specs.Environments.{seen_environment}
+use Rattle.rx_class.specs.Found.{seen_escape}
+use Rattle.rx_parser.specs.Pace.{LooksAtEscape}
+use Rattle.rx_parser.proofs.Looks.{escape_looked}
+use Rattle.rx_parser.proofs.front.escape_at.Goals as goal
+
+pub character-requires : goal.character-requires
+character-requires g c = λ kind value n is.
+    let us = c.args.following.now in
+    let within = any_within false (seen_environment c.args.environment) kind value n (values us) (sym c.any_escape_at.ensures.read ∙ ap seen_escape is) in
+    let small : length us + 1 < 2 ^ 64 = search rules in
+    omega (arith, within, length-map us (λ (u : CodePoint). u.value), small)
+
+pub returns-clause-steps : goal.returns-clause-steps
+returns-clause-steps g c =
+    let us = c.args.following.now in
+    let old = g.C.Counter.count c.args.steps.now in
+    let it = c.any_escape_at in
+    let new = g.C.Counter.count it.new.steps in
+    subst (LooksAtEscape old new us) (sym c.character.ensures) (escape_looked (seen_environment c.args.environment) us old new it.result it.ensures.read it.ensures.steps)

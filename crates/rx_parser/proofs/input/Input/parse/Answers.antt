@@ -1,0 +1,66 @@
+use Rattle.std.proofs.Common.{◌≡◌, ◌∙◌, ap, subst, ℕ, Bool, List, Result, Ok, Err}
+use Rattle.rx_ast.specs.declared.term.Pattern.{Pattern}
+use Rattle.rx_base.specs.declared.fault.Fault.{Fault}
+use Rattle.rx_units.specs.Cursor.{Cursor}
+use Rattle.rx_units.specs.declared.code_point.CodePoint.{CodePoint}
+use Rattle.rx_scan.specs.StateFaults.{mode_of_state}
+use Rattle.rx_model.specs.declared.mode.Mode.{Mode}
+use Rattle.rx_model.specs.declared.rules.Rules.{Rules}
+use Rattle.rx_model.specs.Inputs.Modes.{mode_by}
+use Rattle.rx_model.specs.Inputs.Texts.{first_offset}
+use Rattle.rx_parser.specs.declared.pattern_parser.PatternParser.{PatternParser}
+use Rattle.rx_parser.specs.Parsing.{AnswersUnits, rules_of_state}
+use Rattle.rx_parser.specs.Texts.{seen_input}
+use Rattle.rx_parser.proofs.Inputs.{passed_parsed, units_fault, units_parsed}
+use Rattle.rx_parser.proofs.input.Input.parse.Goals as goal
+
+-- What is answered to the units of a parser is answered to what it was made of.
+made_answers : (made : PatternParser) (reader : Cursor) (mode : Mode) (modes rules : Bool × Bool) (first offset : ℕ) (answer : Result Pattern Fault)
+    → made.reader ≡ reader → (made.state.unicode_mode, made.state.unicode_sets_mode) ≡ modes → (made.state.duplicate_names, made.buffer_boundaries) ≡ rules → made.spans ≡ offset
+    → mode_by modes.0 modes.1 ≡ mode → reader.first ≡ first
+    → AnswersUnits (mode_of_state made.state) (rules_of_state made.state made.buffer_boundaries) made.reader.units made.reader.first made.spans answer
+    → AnswersUnits mode (record { duplicate_names = rules.0; buffer_boundaries = rules.1 }) reader.units first offset answer
+made_answers made reader mode modes rules first offset answer reader_is modes_are rules_are offset_is mode_is first_is answers =
+    let under : Rules = record { duplicate_names = rules.0; buffer_boundaries = rules.1 } in
+    let e1 : mode_of_state made.state ≡ mode = ap (λ (m : Bool × Bool). mode_by m.0 m.1) modes_are ∙ mode_is in
+    let e2 : rules_of_state made.state made.buffer_boundaries ≡ under = ap (λ (r : Bool × Bool). record { duplicate_names = r.0; buffer_boundaries = r.1 }) rules_are in
+    let e3 : made.reader.units ≡ reader.units = ap (λ (r : Cursor). r.units) reader_is in
+    let e4 : made.reader.first ≡ first = ap (λ (r : Cursor). r.first) reader_is ∙ first_is in
+    let Parts : Type 0 = Mode × Rules × List CodePoint × ℕ × ℕ in
+    let here : Parts = (mode_of_state made.state, rules_of_state made.state made.buffer_boundaries, made.reader.units, made.reader.first, made.spans) in
+    let there : Parts = (mode, under, reader.units, first, offset) in
+    let same : here ≡ there = cc (e1, e2, e3, e4, offset_is) in
+    subst (λ (k : Parts). AnswersUnits k.0 k.1 k.2 k.3 k.4 answer) same answers
+
+pub returns-in_err-mode-clause-answered : goal.returns-in_err-mode-clause-answered
+returns-in_err-mode-clause-answered c =
+    let left = c.from_residual in
+    passed_parsed (seen_input c.args.self.now) left.result c.in_err-mode.field-0.0 left.ensures.1 c.in_err-mode.ensures.refused
+
+pub returns-in_err-reader-clause-answered : goal.returns-in_err-reader-clause-answered
+returns-in_err-reader-clause-answered c =
+    let left = c.from_residual-in_err-reader in
+    passed_parsed (seen_input c.args.self.now) left.result c.in_err-reader.field-0.0 left.ensures.1 c.in_err-reader.ensures.refused
+
+pub returns-in_err-parse-clause-answered : goal.returns-in_err-parse-clause-answered
+returns-in_err-parse-clause-answered c =
+    let input = seen_input c.args.self.now in
+    let mode = c.in_ok-mode.mode in
+    let read = c.in_ok-reader in
+    let given = c.new-parser.ensures in
+    let it = c.in_err-parse.field-0.0 in
+    let left = c.from_residual-in_err-parse in
+    let answers = made_answers c.new-parser.result read.reader mode c.modes.result (input.rules.duplicate_names, input.rules.buffer_boundaries) (first_offset input.form) input.text_offset (Err it)
+    given.reader given.modes given.rules given.offset c.modes.ensures read.ensures.first c.in_err-parse.ensures in
+    passed_parsed input left.result it left.ensures.1 (units_fault input mode read.reader.units read.ensures.units it answers.refused)
+
+pub returns-clause-answered : goal.returns-clause-answered
+returns-clause-answered c =
+    let input = seen_input c.args.self.now in
+    let mode = c.in_ok-mode.mode in
+    let read = c.in_ok-reader in
+    let given = c.new-parser.ensures in
+    let p = c.in_ok-parse.field-0 in
+    units_parsed input mode read.reader.units read.ensures.units p mode
+    (made_answers c.new-parser.result read.reader mode c.modes.result (input.rules.duplicate_names, input.rules.buffer_boundaries) (first_offset input.form) input.text_offset (Ok p)
+    given.reader given.modes given.rules given.offset c.modes.ensures read.ensures.first c.in_ok-parse.ensures)

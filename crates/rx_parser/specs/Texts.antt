@@ -1,0 +1,19 @@
+-- An input of the code as an input of the model, and a reader of one of its texts.
+use Rattle.std.specs.Prelude.{◌≡◌, ℕ, Bool, List}
+use Rattle.rx_units.specs.Cursor.{Cursor}
+use Rattle.rx_class.specs.Fitting.{AreFitting}
+use Rattle.rx_model.specs.Inputs.Inputs as model
+use Rattle.rx_model.specs.Inputs.Texts.{AreUnits, first_offset}
+use Rattle.rx_parser.specs.Inputs.{input_of}
+use Rattle.rx_parser.specs.declared.input.Input.{Input}
+
+-- by its form, its texts and its options
+abbrev pub seen_input : Input → model.Input
+seen_input it = input_of it.form it.pattern_text.now it.flags_text it.options
+
+-- The reader stands before the units of a text in the form of the input, and its offsets fit 32 bits, so much being added.
+pub record StandsBefore (input : model.Input) (joined : Bool) (text : List ℕ) (added : ℕ) (r : Cursor) : Type 0 where
+  pub units : AreUnits input.standard_strings joined text input.form r.units
+  pub start : r.place ≡ 0
+  pub first : r.first ≡ first_offset input.form
+  pub fits : AreFitting added r
