@@ -40,36 +40,26 @@ use Rattle.rx_class.specs.declared.class_atom.ClassAtom.{ClassAtom}
 use Rattle.rx_class.specs.declared.class_atom.ClassAtom.TheVariants as atom
 use Rattle.rx_class.specs.EscapeAnswers.{GivesClassEscape, IsAfterBackslash, from_backslash, span_to}
 use Rattle.rx_class.specs.EscapeAnswers as given
-use Rattle.rx_class.specs.ClassItems.{GivesAtom, StandsItem, IsOfText, alone_in_class, atom_of, atom_span, back, kind_in_class}
+use Rattle.rx_class.specs.ClassItems.{BeginsNone, GivesAtom, StandsItem, IsOfText, alone_in_class, atom_of, atom_span, back, kind_in_class}
 use Rattle.rx_class.specs.ClassItems as answer
-use Rattle.rx_class.specs.Found.{AnswersFound}
+use Rattle.rx_class.specs.Found.{AnswersFound, class_escape_front}
 use Rattle.rx_class.specs.Found as found
 use Rattle.rx_class.specs.PropertyAnswers.{GivesProperty}
 use Rattle.rx_class.specs.PropertyAnswers as given_property
 use Rattle.rx_class.proofs.Keeping.{keeps_placed, stays_keeps}
 use Rattle.rx_class.proofs.PropertySpans.{cut_off, next_span}
 use Rattle.rx_model.specs.FirstPass.Marks.{starts}
-use Rattle.rx_model.proofs.Characters.Backslashes.{class_found}
 use Rattle.rx_model.proofs.Characters.Escapes.{escape_nothing}
 use Rattle.rx_model.proofs.Characters.LegacyEscapes.{IsCharacterOrNothing, any_in_unicode, any_read, any_refused, any_spelled}
 use Rattle.rx_model.proofs.Classes.ClassFronts.{any_there, class_letter}
 use Rattle.rx_model.proofs.Inputs.Modes.{unicode_alone}
 use Rattle.rx_model.proofs.Refusals.Stops.{some_there, two_number}
 use Rattle.rx_class.proofs.After.{StandsAfter, stands, stands_within}
+use Rattle.rx_class.proofs.ClassGives.{class_gives}
 use Rattle.rx_class.proofs.Gives.{nothing_in_legacy, refusal_cause, refusal_keeps}
 use Rattle.rx_class.proofs.ClassSteps.{property_place}
 use Rattle.rx_class.proofs.Modes.{hyphen_without_sets, raw_without_sets}
 use Rattle.std.proofs.Math.Bool.{and-false}
-
--- no class escape stands after a backslash
-abbrev BeginsNoClassEscape : List ℕ → Type 0
-BeginsNoClassEscape us = (kind : CharacterClassEscapeKind) (w more : List ℕ) → 92 ∷ w ≡ class_escape_text kind → us ≡ w ++ more → ⊥
-
--- After a backslash stands neither what is a character in classes alone, nor a class escape, nor the letter of a property escape.
-pub record BeginsNone (e : Environment) (us : List ℕ) : Type 0 where
-  pub no_alone : alone_in_class (is_unicode e.mode) us ≡ None
-  pub no_class : BeginsNoClassEscape us
-  pub no_letter : is_unicode e.mode ≡ true → front_is begins_property us ≡ false
 
 not_alone : (unicode : Bool) (c : ℕ) (w : List ℕ) → alone_in_class unicode (c ∷ w) ≡ None → ((c == 98) ≡ false) × ((unicode && c == 45) ≡ false)
 not_alone unicode c w h = (grind (arith, nat_tests), grind (arith, nat_tests))
@@ -112,7 +102,7 @@ module _ (e : Environment) (unicode : is_unicode e.mode ≡ true) where
   begins_nothing (c ∷ w) b u none =
       let out = not_alone (is_unicode e.mode) c w b.no_alone in
       let hyphen : (c == 45) ≡ false = ap (λ u. u && c == 45) (sym unicode) ∙ out.1 in
-      let no_class = none_there (class_escape_at c) (λ kind h. b.no_class kind (c ∷ []) w (class_found kind c h) refl) in
+      let no_class : class_escape_at c ≡ None = b.no_class in
       let no_control = none_there (control_escape_value c) (λ v h. none kinds.SingleEscape v (c ∷ []) w refl (control h)) in
       let no_identity = false_from_ne_true (is_identity_escape c) (λ t. none kinds.Identifier c (c ∷ []) w refl (identity unicode t)) in
       let no_c = false_from_ne_true (c == 99 && front_is is_letter w) (λ t. let p = both (c == 99) (front_is is_letter w) t in no_control_letter w (with_first c 99 w p.0 none) p.1) in
@@ -131,7 +121,7 @@ module _ (e : Environment) where
   nothing_begins (c ∷ w) b h = elim (cases_Bool (is_unicode e.mode)) [
     | inl m ↦ begins_nothing e m (c ∷ w) b (escape_nothing (c ∷ w) (ap (λ u. escape_at u (c ∷ w)) (sym m) ∙ sym (any_in_unicode true e (c ∷ w) m) ∙ h)) (spells_none (c ∷ w) h)
     | inr m ↦
-        let no_class = none_there (class_escape_at c) (λ kind h. b.no_class kind (c ∷ []) w (class_found kind c h) refl) in
+        let no_class : class_escape_at c ≡ None = b.no_class in
         let k = both (c == 107) e.named (nothing_in_legacy e c w m (not_alone (is_unicode e.mode) c w b.no_alone).0 no_class h) in
         rw (eqb-true c 107 k.0, k.1, m, and-false (is_hyphen_escaped e.mode)) refl
   ]
@@ -181,11 +171,15 @@ module _ (e : Environment) (no_sets : is_sets e.mode ≡ false) (added start : �
           let s = alone_spelled u.value v (values us) h in
           gives _ new b.backslash (u ∷ []) us (b.whole ∙ ap (λ us. b.backslash ∷ us) whole) (row.escaped_in_class b.backslash (u ∷ []) b.value_is s.0) s.1 covers moves
 
-  -- what the three readers of escapes answer
-  pub class_escape_gives : (it : CharacterClassEscape) (new : Cursor) → GivesClassEscape added start old new (Some it) → GivesAtom e added (back old) new (Ok (atom.Escape it))
-  class_escape_gives it new (given.some w more text whole covers moves) =
+  class_escape_atom : (it : CharacterClassEscape) (new : Cursor) → GivesClassEscape added start old new (Some it) → GivesAtom e added (back old) new (Ok (atom.Escape it))
+  class_escape_atom it new (given.some w more text whole covers moves) =
       gives (atom.Escape it) new b.backslash w more (b.whole ∙ ap (λ us. b.backslash ∷ us) whole) (ap (λ c. c ∷ values w) b.value_is ∙ text) refl covers
       (moves ∙ ap (λ n. moved n old) (one_unit it.kind w text))
+
+  -- what the three readers of escapes answer
+  pub class_escape_gives : {us : List CodePoint} (it : CharacterClassEscape) (new : Cursor) → us ≡ rest old → class_escape_front (values us) ≡ Some it.kind → it.span ≡ span_to added start new → new ≡ moved 1 old
+      → GivesAtom e added (back old) new (Ok (atom.Escape it))
+  class_escape_gives it new same read covers moves = class_escape_atom it new (class_gives added start old it new (ap (λ us. class_escape_front (values us)) (sym same) ∙ read) moves covers)
 
   pub property_gives : (it : UnicodePropertyEscape) (new : Cursor) → GivesProperty e added start old new (Ok (Some it)) → GivesAtom e added (back old) new (Ok (atom.Property it))
   property_gives it new (given_property.some backslash w more whole spells obeys covers moves) = gives (atom.Property it) new backslash w more whole spells (ap not obeys) covers moves
@@ -203,46 +197,38 @@ module _ (e : Environment) (no_sets : is_sets e.mode ≡ false) (added start : �
           (moves ∙ ap (λ n. moved n old) (let k : n ≡ length w = omega (arith, count) in k))
 
   -- What they refuse is refused in the class.
-  module _ (same : IsOfText e old) where
-    in_text : (from : ℕ) (at_class us : List CodePoint) → IsAtomPlace e from at_class (old.place - 1) us → IsAtomPlace (class_environment e.mode old.units) from at_class (old.place - 1) us
-    in_text from at_class us place = subst (λ t. IsAtomPlace t from at_class (old.place - 1) us) same place
+  in_text : IsOfText e old → (from : ℕ) (at_class us : List CodePoint) → IsAtomPlace e from at_class (old.place - 1) us → IsAtomPlace (class_environment e.mode old.units) from at_class (old.place - 1) us
+  in_text same from at_class us place = subst (λ t. IsAtomPlace t from at_class (old.place - 1) us) same place
 
-    pub property_refused : (f : Fault) (new : Cursor) → GivesProperty e added start old new (Err f) → GivesAtom e added (back old) new (Err f)
-    property_refused _ new (given_property.refused cause first none keeps) =
-        answer.refused (λ from at_class place. property_in_class (old.place - 1) (from_backslash old) (property_place no_sets (in_text from at_class _ place)) cause) (keeps_placed (old.place - 1) old new keeps)
-    property_refused _ new (given_property.no_memory keeps) = answer.no_memory (keeps_placed (old.place - 1) old new keeps)
+  pub property_refused : (f : Fault) (new : Cursor) → GivesProperty e added start old new (Err f) → GivesAtom e added (back old) new (Err f)
+  property_refused _ new (given_property.refused cause first none keeps) =
+      answer.refused (λ same from at_class place. property_in_class (old.place - 1) (from_backslash old) (property_place no_sets (in_text same from at_class _ place)) cause) (keeps_placed (old.place - 1) old new keeps)
+  property_refused _ new (given_property.no_memory keeps) = answer.no_memory (keeps_placed (old.place - 1) old new keeps)
 
-    pub character_refused : (read : EscapeRead) (d : Diagnostic) (new : Cursor) → any_escape_at true e (values (rest old)) ≡ read → AnswersFound added start old new read (Err d)
-        → GivesAtom e added (back old) new (Err (fault.Diagnostic d))
-    character_refused read d new here answers =
-        let r = any_refused true e (values (rest old)) read here (refusal_refuses answers) in
-        let cause = refusal_cause e added start old new is read d r.0 r.1 answers in
-        answer.refused (λ from at_class place. cause_of_escape (old.place - 1) (from_backslash old) (in_text from at_class _ place) cause)
-        (keeps_placed (old.place - 1) old new (refusal_keeps e added start old new is read d answers))
+  pub character_refused : (read : EscapeRead) (d : Diagnostic) (new : Cursor) → any_escape_at true e (values (rest old)) ≡ read → AnswersFound added start old new read (Err d)
+      → GivesAtom e added (back old) new (Err (fault.Diagnostic d))
+  character_refused read d new here answers =
+      let r = any_refused true e (values (rest old)) read here (refusal_refuses answers) in
+      let cause = refusal_cause e added start old new is read d r.0 r.1 answers in
+      answer.refused (λ same from at_class place. cause_of_escape (old.place - 1) (from_backslash old) (in_text same from at_class _ place) cause)
+      (keeps_placed (old.place - 1) old new (refusal_keeps e added start old new is read d answers))
 
-    -- Where nothing stands that a class may hold, the backslash is refused.
-    pub nothing_refused : (read : EscapeRead) (span : Span) (new : Cursor) → any_escape_at true e (values (rest old)) ≡ read → BeginsNone e (values (rest old)) → AnswersFound added start old new read (Ok None)
-        → span ≡ span_to added start new
-        → GivesAtom e added (back old) new (Err (fault.Diagnostic (InvalidClassAtom span)))
-    nothing_refused _ span new here no_others (found.none stays) covers =
-        answer.refused (λ from at_class place.
-        rw at_backslash (invalid_atom (old.place - 1) b.backslash (rest old) no_sets (subst (IsAtomPlace _ from at_class (old.place - 1)) b.whole (in_text from at_class _ place)) b.value_is
-        (subst (λ t. begins_class_escape t (values (rest old)) ≡ false) same (nothing_begins e (values (rest old)) no_others here))))
-        (keeps_placed (old.place - 1) old new (stays_keeps old new (stands_within old start is) stays))
-      where
-        at_backslash : span ≡ span_between old.units old.first added (old.place - 1) (old.place - 1 + 1)
-        at_backslash =
-            covers
-            ∙ ap (span_to added start) stays
-            ∙ ap (λ n. record { start = n + added; end = offset_of old + added }) is.start
-            ∙ ap (span_between old.units old.first added (old.place - 1)) (let k : old.place ≡ old.place - 1 + 1 = omega (arith, is.following) in k)
-
--- Where none is answered the reader stays.
-pub no_class_escape : {added start : ℕ} {old new : Cursor} → GivesClassEscape added start old new None → (new ≡ old) × BeginsNoClassEscape (values (rest old))
-no_class_escape (given.none stays none) = (stays, none)
-
-pub no_character_stays : {added start : ℕ} {old new : Cursor} {read : EscapeRead} → AnswersFound added start old new read (Ok None) → new ≡ old
-no_character_stays (found.none stays) = stays
+  -- Where nothing stands that a class may hold, the backslash is refused.
+  pub nothing_refused : (read : EscapeRead) (span : Span) (new : Cursor) → any_escape_at true e (values (rest old)) ≡ read → BeginsNone e (values (rest old)) → AnswersFound added start old new read (Ok None)
+      → span ≡ span_to added start new
+      → GivesAtom e added (back old) new (Err (fault.Diagnostic (InvalidClassAtom span)))
+  nothing_refused _ span new here no_others (found.none stays) covers =
+      answer.refused (λ same from at_class place.
+      rw at_backslash (invalid_atom (old.place - 1) b.backslash (rest old) no_sets (subst (IsAtomPlace _ from at_class (old.place - 1)) b.whole (in_text same from at_class _ place)) b.value_is
+      (subst (λ t. begins_class_escape t (values (rest old)) ≡ false) same (nothing_begins e (values (rest old)) no_others here))))
+      (keeps_placed (old.place - 1) old new (stays_keeps old new (stands_within old start is) stays))
+    where
+      at_backslash : span ≡ span_between old.units old.first added (old.place - 1) (old.place - 1 + 1)
+      at_backslash =
+          covers
+          ∙ ap (span_to added start) stays
+          ∙ ap (λ n. record { start = n + added; end = offset_of old + added }) is.start
+          ∙ ap (span_between old.units old.first added (old.place - 1)) (let k : old.place ≡ old.place - 1 + 1 = omega (arith, is.following) in k)
 
 no_property_there : {e : Environment} {added start : ℕ} {old new : Cursor} → GivesProperty e added start old new (Ok None)
     → (new ≡ old) × (is_unicode e.mode ≡ true → front_is begins_property (values (rest old)) ≡ false)
@@ -250,12 +236,17 @@ no_property_there (given_property.none stays (inl never)) = (stays, λ u. absurd
 no_property_there (given_property.none stays (inr never)) = (stays, λ u. never)
 
 -- After the backslash stands no escape that was asked for so far.
-pub nothing_so_far : {e : Environment} {added start : ℕ} {old stayed new : Cursor} {us : List CodePoint} {o : Option UnicodePropertyEscape} → us ≡ rest old
-    → None ≡ alone_in_class (is_unicode e.mode) (values us) → GivesClassEscape added start old stayed None → GivesProperty e added start stayed new (Ok o) → o ≡ None → (new ≡ old) × BeginsNone e (values (rest old))
-nothing_so_far {e} {added} {start} {old} {stayed} {new} {us} {o} whole alone class_gone property_gone is_none =
-    let k = no_class_escape class_gone in
-    let p = no_property_there (subst (λ o. GivesProperty e added start old new (Ok o)) is_none (subst (λ r. GivesProperty e added start r new (Ok o)) k.0 property_gone)) in
-    (p.0, record { no_alone = ap (λ us. alone_in_class (is_unicode e.mode) (values us)) (sym whole) ∙ sym alone; no_class = k.1; no_letter = p.1 })
+pub nothing_so_far : {e : Environment} {added start : ℕ} {old new : Cursor} {us vs : List CodePoint} {o : Option UnicodePropertyEscape} → us ≡ rest old → vs ≡ rest old
+    → None ≡ alone_in_class (is_unicode e.mode) (values us) → None ≡ class_escape_front (values vs) → GivesProperty e added start old new (Ok o) → o ≡ None → (new ≡ old) × BeginsNone e (values (rest old))
+nothing_so_far {e} {added} {start} {old} {new} whole still alone class_gone property_gone is_none =
+    let p = no_property_there (subst (λ o. GivesProperty e added start old new (Ok o)) is_none property_gone) in (
+      p.0,
+      record {
+        no_alone = ap (λ us. alone_in_class (is_unicode e.mode) (values us)) (sym whole) ∙ sym alone;
+        no_class = ap (λ us. class_escape_front (values us)) (sym still) ∙ sym class_gone;
+        no_letter = p.1;
+      },
+    )
 
 -- no backslash stands first
 pub begins_otherwise : (us : List CodePoint) (none : CodePoint) → (get_or us 0 none).value ≢ 92 → starts 92 (values us) ≡ false

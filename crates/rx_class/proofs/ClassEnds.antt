@@ -1,5 +1,5 @@
 -- A class whose items are read one after another: where its reader stands, and what it answers.
-use Rattle.std.proofs.Common.{◌≡◌, refl, sym, ap, ap₂, ◌∙◌, subst, ℕ, ◌+◌, ◌-◌, ◌<◌, ◌==◌, Bool, true, false, not, eqb, Option, Ok, Err, Some, None, is_some, List, [], ◌∷◌, ◌++◌, length, if◌then◌else◌, arith, append-nil, append_assoc, length-append}
+use Rattle.std.proofs.Common.{◌≡◌, refl, sym, ap, ap₂, ◌∙◌, subst, ℕ, ◌+◌, ◌-◌, ◌<◌, ◌==◌, Bool, true, false, not, eqb, Option, Result, MatchResult, Ok, Err, Some, None, is_some, List, [], ◌∷◌, ◌++◌, length, if◌then◌else◌, arith, append-nil, append_assoc, length-append}
 use Rattle.std.specs.Option.{option_eq}
 use Rattle.std.proofs.Math.Bool.{and-false, and-true}
 use Rattle.std.proofs.lemmas.Bool.{eqb-true}
@@ -40,7 +40,9 @@ use Rattle.rx_class.specs.ClassAnswers.{BeginsNoClass, GivesClass, HoldsFirstPas
 use Rattle.rx_class.specs.ClassAnswers as class_answer
 use Rattle.rx_class.specs.ClassItems.{GivesItem, IsItem, IsOfText, contents, item_contents, item_members}
 use Rattle.rx_class.specs.ClassItems as item_answer
+use Rattle.rx_class.specs.Fitting.{AreFitting}
 use Rattle.rx_class.specs.Keeping.{KeepsUnits}
+use Rattle.rx_class.proofs.Fitting.{kept_are_fitting, moved_are_fitting}
 use Rattle.rx_class.proofs.ClassItems.{AreItems, items_push, rows_append}
 use Rattle.rx_class.proofs.Keeping.{Passes, keeps_on, passes_keeps, passes_moved, passes_on, passes_over}
 use Rattle.rx_class.proofs.SetRefusals.{unit_next}
@@ -108,6 +110,18 @@ module _ (e : Environment) (added : ℕ) (old : Cursor) where
   -- Where no `[` stands the reader stays.
   pub none_gives : true ≡ not (option_eq eqb (front (rest old)) (Some 91)) → GivesClass e added old old (Ok None)
   none_gives h = class_answer.none refl (no_bracket (rest old) h)
+
+-- Where a class is answered the offsets fit as before.
+pub class_fits : {e : Environment} {added : ℕ} {old new : Cursor} {r : Result (Option CharacterClass) Fault} → GivesClass e added old new r → AreFitting added old → AreFitting added new
+class_fits {new = new} (class_answer.some w more h k l is) fits = moved_are_fitting _ (length w) _ new fits is
+class_fits (class_answer.none stays none) fits = subst (AreFitting _) (sym stays) fits
+class_fits (class_answer.refused first none keeps) fits = kept_are_fitting keeps fits
+class_fits (class_answer.no_memory keeps) fits = kept_are_fitting keeps fits
+
+pub there_fits : (e : Environment) (added : ℕ) (old new : Cursor) (r : Result CharacterClass Fault)
+    → MatchResult r (λ it. GivesClass e added old new (Ok (Some it))) (λ fault. GivesClass e added old new (Err fault)) → AreFitting added old → AreFitting added new
+there_fits e added old new (Ok it) gives fits = class_fits gives fits
+there_fits e added old new (Err cause) gives fits = class_fits gives fits
 
 -- What a state says of the environment is what the whole text says.
 pub environment_is : (state : State) (r : Cursor) → HoldsFirstPass state r.units → IsOfText (environment_of state) r
@@ -192,8 +206,8 @@ module _ {e : Environment} {added : ℕ} {old mid : Cursor} {negative : Bool} {m
 
     pub refused_gives : (new : Cursor) (cause : Fault) → GivesItem e added mid new (Err cause) → GivesClass e added old new (Err cause)
     refused_gives new _ (item_answer.refused {diagnostic} cause keeps) =
-        let c = subst (λ r. (from : ℕ) (at_class : List CodePoint) → IsItemPlace e from at_class mid.place (rest mid) →
-        (place : ℕ) × IsClassCause e.mode r.units r.first added from at_class place diagnostic) h.passes.moves cause old.place (rest old) here in
+        let c = subst (λ r. IsOfText e r → (from : ℕ) (at_class : List CodePoint) → IsItemPlace e from at_class mid.place (rest mid) →
+        (place : ℕ) × IsClassCause e.mode r.units r.first added from at_class place diagnostic) h.passes.moves cause same old.place (rest old) here in
         first_gives new c.0 diagnostic c.1 (keeps_on (passes_keeps h.passes) keeps)
     refused_gives new _ (item_answer.no_memory keeps) = class_answer.no_memory (keeps_on (passes_keeps h.passes) keeps)
 

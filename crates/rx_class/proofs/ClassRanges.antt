@@ -37,8 +37,6 @@ use Rattle.rx_class.specs.declared.class_item.ClassItem.TheVariants as given_ite
 use Rattle.rx_class.specs.EscapeAnswers.{span_to}
 use Rattle.rx_class.specs.ClassItems.{GivesAtom, GivesItem, IsAtomCause, IsBetween, IsItem, IsItemCause, IsOfText, IsPlain, StandsItem, atom_member, atom_of, atom_span, between, hyphen_member, item_members, stands_alone, stands_range}
 use Rattle.rx_class.specs.ClassItems as items
-use Rattle.rx_class.specs.Fitting.{AreFitting}
-use Rattle.rx_class.proofs.Fitting.{moved_are_fitting}
 use Rattle.rx_class.proofs.Keeping.{Passes, keeps_from, passes_keeps, passes_moved, passes_on, passes_over}
 use Rattle.rx_class.proofs.ClassSteps.{operand_place}
 use Rattle.rx_class.proofs.Modes.{no_strings}
@@ -51,10 +49,6 @@ unless_three {unicode} {characters} apart no_three = grind (arith, apart, no_thr
 -- what is asked of two atoms, by the environment
 pub three_test : {mode unicode test answer : Bool} (characters : Bool) → unicode ≡ mode → test ≡ (not unicode && not characters) → test ≡ answer → (not mode && not characters) ≡ answer
 three_test characters same is_test is_answer = ap (λ unicode. not unicode && not characters) (sym same) ∙ sym is_test ∙ is_answer
-
--- After an atom the reader's offsets fit as before it.
-pub atom_fits : {e : Environment} {added : ℕ} {old new : Cursor} {it : ClassAtom} → GivesAtom e added old new (Ok it) → AreFitting added old → AreFitting added new
-atom_fits {added = added} {old = old} {new = new} (items.some w more whole spelled obeys span moves) fits = moved_are_fitting added (length w) old new fits moves
 
 -- a `-` at the front, after which an item may stand
 record DashFront (us : List CodePoint) : Type 0 where
@@ -272,13 +266,13 @@ module _ (e : Environment) (added : ℕ) (old : Cursor) where
   fault_of place new _ causes (items.no_memory keeps) = items.no_memory (keeps_from place old new keeps)
 
   pub first_gives : {new : Cursor} {given : Fault} → is_sets e.mode ≡ false → GivesAtom e added old new (Err given) → GivesItem e added old new (Err given)
-  first_gives {new} {given} no_sets g = fault_of old.place new given (λ d c from at_class p. (old.place, c from at_class (inl (operand_place no_sets p)))) g
+  first_gives {new} {given} no_sets g = fault_of old.place new given (λ d c same from at_class p. (old.place, c same from at_class (inl (operand_place no_sets p)))) g
 
   pub second_gives : {to new : Cursor} {low : ClassAtom} {h : Span} {given : Fault} → is_sets e.mode ≡ false → DashStands to low h → GivesAtom e added to new (Err given) → GivesItem e added old new (Err given)
   second_gives {to} {new} {low} {h} {given} no_sets d g =
-      fault_of second new given (λ cause c from at_class p. (
+      fault_of second new given (λ cause c same from at_class p. (
         second,
-        c from at_class (inr (inl (subst (IsSecondPlace e from at_class second) (ap rest (dash_at d)) record {
+        c same from at_class (inr (inl (subst (IsSecondPlace e from at_class second) (ap rest (dash_at d)) record {
           first = old.place;
           atom = atom_of low;
           w = d.w;
@@ -337,39 +331,39 @@ module _ (e : Environment) (added : ℕ) (old : Cursor) where
     pair_out_of_memory {low} {high} {h} p = items.no_memory (passes_keeps p.passes)
 
     -- Why two atoms are no range is why there is no item.
-    module _ (no_sets : is_sets e.mode ≡ false) (same : IsOfText e old) where
+    module _ (no_sets : is_sets e.mode ≡ false) where
       abbrev text : Environment
       text = class_environment e.mode old.units
 
-      here : {low high : ClassAtom} {h : Span} (p : PairStands new low high h) (from : ℕ) (at_class : List CodePoint) → IsItemPlace e from at_class old.place (rest old)
+      here : IsOfText e old → {low high : ClassAtom} {h : Span} (p : PairStands new low high h) (from : ℕ) (at_class : List CodePoint) → IsItemPlace e from at_class old.place (rest old)
           → IsItemPlace text from at_class old.place (p.w ++ (p.hyphen ∷ (p.v ++ (rest new))))
-      here {low} {high} {h} p from at_class place =
+      here same {low} {high} {h} p from at_class place =
           subst (λ t. IsItemPlace t from at_class old.place (p.w ++ (p.hyphen ∷ (p.v ++ (rest new))))) same
           (subst (IsItemPlace e from at_class old.place) (p.passes.whole ∙ append_assoc p.w (p.hyphen ∷ p.v) (rest new)) place)
 
-      range_stands : (min max : Character) {h : Span} (p : PairStands new (atom.Character min) (atom.Character max) h) → StandsRange text min.value p.w p.hyphen max.value p.v (rest new)
-      range_stands min max {h} p =
+      range_stands : IsOfText e old → (min max : Character) {h : Span} (p : PairStands new (atom.Character min) (atom.Character max) h) → StandsRange text min.value p.w p.hyphen max.value p.v (rest new)
+      range_stands same min max {h} p =
           subst (λ t. StandsRange t min.value p.w p.hyphen max.value p.v (rest new)) same record { low_kind = min.kind; low_is = p.low_is; hyphen_is = p.hyphen_is; high_kind = max.kind; high_is = p.high_is }
 
       pub range_refused : (low high : ClassAtom) (diagnostic : Diagnostic) {h : Span} → (not (is_unicode e.mode) && not (is_character (atom_of low) && is_character (atom_of high))) ≡ false → PairStands new low high h → IsBetween low high (Err diagnostic)
           → GivesItem e added old new (Err (fault.Diagnostic diagnostic))
       range_refused _ _ _ {h} no_three p (items.out_of_order {min = min} {max = max} less no_dash) =
-          items.refused (rw (p.low_span, p.high_span) (λ from at_class place. (
+          items.refused (rw (p.low_span, p.high_span) (λ same from at_class place. (
             old.place,
-            cause.range_out_of_order old.place min.value max.value p.w p.v (rest new) p.hyphen no_sets (here p from at_class place) (range_stands min max p) less no_dash,
+            cause.range_out_of_order old.place min.value max.value p.w p.v (rest new) p.hyphen no_sets (here same p from at_class place) (range_stands same min max p) less no_dash,
           )))
           (passes_keeps p.passes)
       range_refused _ _ _ {h} no_three p (items.dash_out_of_order {min = min} {max = max} less dash) =
-          let stands = subst (λ x. StandsRange text min.value p.w p.hyphen x p.v (rest new)) dash (range_stands min max p) in
-          items.refused (rw (p.low_span, p.high_span) (λ from at_class place. (
+          items.refused (rw (p.low_span, p.high_span) (λ same from at_class place. (
             old.place,
-            cause.dash_out_of_order old.place min.value p.w p.v (rest new) p.hyphen no_sets (here p from at_class place) stands (subst (λ x. x < min.value) dash less),
+            cause.dash_out_of_order old.place min.value p.w p.v (rest new) p.hyphen no_sets (here same p from at_class place)
+                (subst (λ x. StandsRange text min.value p.w p.hyphen x p.v (rest new)) dash (range_stands same min max p)) (subst (λ x. x < min.value) dash less),
           )))
           (passes_keeps p.passes)
       range_refused low high _ {h} no_three p (items.no_character apart) =
-          items.refused (rw (p.low_span, p.high_span) (λ from at_class place. (
+          items.refused (rw (p.low_span, p.high_span) (λ same from at_class place. (
             old.place,
-            cause.invalid_range old.place (atom_of low) (atom_of high) p.w p.v (rest new) p.hyphen (here p from at_class place) (unicode_alone e.mode no_sets (unless_three apart no_three))
+            cause.invalid_range old.place (atom_of low) (atom_of high) p.w p.v (rest new) p.hyphen (here same p from at_class place) (unicode_alone e.mode no_sets (unless_three apart no_three))
                 (subst (λ t. SpellsAtom t (atom_of low) p.w (p.hyphen ∷ (p.v ++ (rest new)))) same p.low_is) p.hyphen_is (subst (λ t. SpellsAtom t (atom_of high) p.v (rest new)) same p.high_is) apart,
           )))
           (passes_keeps p.passes)

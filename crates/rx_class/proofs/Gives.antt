@@ -1,5 +1,5 @@
 -- What is read after a backslash is what is answered.
-use Rattle.std.proofs.Common.{◌≡◌, ℕ, ◌+◌, ◌-◌, ◌≤◌, ◌==◌, ◌&&◌, Bool, true, false, cond, Option, List, [], ◌∷◌, ◌++◌, length, min, Some, None, Result, Err, arith, inl, inr, sym, ap, ap₂, ◌∙◌, refl, subst, length-drop}
+use Rattle.std.proofs.Common.{◌≡◌, ℕ, ◌+◌, ◌-◌, ◌==◌, ◌&&◌, Bool, true, false, cond, Option, List, [], ◌∷◌, ◌++◌, length, Some, None, Result, Err, arith, inl, inr, sym, ap, ap₂, ◌∙◌, refl, subst}
 use Rattle.std.proofs.lemmas.Bool.{cases_Bool, cond-false, eqb-true}
 use Rattle.std.proofs.lemmas.List.{length-map}
 use Rattle.rx_base.specs.declared.diagnostic.Diagnostic.{Diagnostic}
@@ -29,25 +29,13 @@ use Rattle.rx_class.specs.EscapeAnswers as given
 use Rattle.rx_class.specs.Found.{AnswersFound, many_digits, no_escape_of_u, none, shared_escape_at, some}
 use Rattle.rx_class.specs.Keeping.{KeepsUnits}
 use Rattle.rx_class.proofs.After.{from_backslash_values}
-use Rattle.rx_class.proofs.Keeping.{keeps_on, moved_keeps}
 use Rattle.std.proofs.Math.Bool.{and-false}
 
--- some places on, where n units are left
-moved_within : (n : ℕ) (r : Cursor) → 1 ≤ n → n ≤ length (rest r) → min (r.place + n) (length r.units) ≡ r.place + n
-moved_within n r one within = let left = length-drop r.place r.units in grind arith
-
-module _ (added start : ℕ) (old : Cursor) where
-  pub many_digits_answered : (count : ℕ) (following new : Cursor) (span : Span) → count + 2 ≤ length (rest old) → following ≡ moved 2 old
-      → span ≡ span_between following.units following.first added following.place (following.place + count) → KeepsUnits following new
-      → AnswersFound added start old new (too_many count) (Err (TooLargeNumberDigits span Hex))
-  many_digits_answered count following new span within moves covers keeps =
-      let on = ap (λ (r : Cursor). span_between r.units r.first added r.place (r.place + count)) moves in
-      let place = ap (λ place. span_between old.units old.first added place (place + count)) (moved_within 2 old (omega arith) (omega arith)) in
-      rw (covers ∙ on ∙ place) (many_digits (keeps_on (moved_keeps 2 old following moves) keeps))
-
-  pub invalid_answered : (new : Cursor) (span : Span) → span ≡ span_between old.units old.first added old.place (old.place + 1) → KeepsUnits old new
-      → AnswersFound added start old new no_unicode (Err (InvalidUnicodeEscapeSequence span))
-  invalid_answered new span covers keeps = rw covers (no_escape_of_u keeps)
+pub invalid_answered : (added start : ℕ) (old new : Cursor) (span : Span) → span ≡ span_between old.units old.first added (old.place + 0) (old.place + 0 + 1) → KeepsUnits old new
+    → AnswersFound added start old new no_unicode (Err (InvalidUnicodeEscapeSequence span))
+invalid_answered added start old new span covers keeps =
+    let here : old.place + 0 ≡ old.place = omega arith in
+    rw (covers, here) (no_escape_of_u keeps)
 
 either : {x y z : EscapeRead} (b : Bool) → x ≡ z → y ≡ z → cond b x y ≡ z
 either true p q = p

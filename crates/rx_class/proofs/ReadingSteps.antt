@@ -1,20 +1,16 @@
 -- How many steps it takes to look at what stands next, and to move over it.
-use Rattle.std.proofs.Common.{◌≡◌, ℕ, ◌+◌, ◌*◌, ◌≤◌, Bool, true, false, if◌then◌else◌, Option, Some, Result, Ok, Err, List, ◌++◌, length, refl, ap, ◌∙◌, arith, length-append, length-drop}
+use Rattle.std.proofs.Common.{◌≡◌, ℕ, ◌+◌, ◌*◌, ◌≤◌, Bool, true, false, if◌then◌else◌, Option, Result, Ok, List, length, refl, ap, ◌∙◌, arith, length-drop}
 use Rattle.rx_base.specs.declared.diagnostic.Diagnostic.{Diagnostic}
 use Rattle.rx_base.specs.Rising.{Rises}
 use Rattle.rx_ast.specs.declared.leaf.Character.{Character}
-use Rattle.rx_ast.specs.declared.leaf.CharacterClassEscape.{CharacterClassEscape}
-use Rattle.rx_ast.specs.declared.class.CharacterClass.{CharacterClass}
 use Rattle.rx_units.specs.declared.code_point.CodePoint.{CodePoint}
 use Rattle.rx_units.specs.Cursor.{Cursor, moved, rest}
-use Rattle.rx_units.specs.Pace.{IsMove, IsPaced, TakesSteps, left}
+use Rattle.rx_units.specs.Pace.{IsMove, IsPaced, left}
 use Rattle.rx_model.specs.Inputs.Environment.{Environment}
 use Rattle.rx_model.specs.Reading.Fronts.{EscapeRead}
-use Rattle.rx_class.specs.ClassAnswers.{GivesClass}
 use Rattle.rx_class.specs.ClassAnswers as classes
 use Rattle.rx_class.specs.ClassItems.{GivesItem}
 use Rattle.rx_class.specs.ClassItems as items
-use Rattle.rx_class.specs.EscapeAnswers.{GivesClassEscape}
 use Rattle.rx_class.specs.EscapeAnswers as given
 use Rattle.rx_class.specs.EscapeSteps.{few_looks}
 use Rattle.rx_class.specs.Found.{AnswersFound, IsWithin, many_digits, no_escape_of_u, none, seen_escape, some}
@@ -37,10 +33,6 @@ moved_left n old new is within =
     let units = ap (λ (r : Cursor). length r.units) is in
     omega (arith, length-drop old.place old.units, length-drop new.place new.units, place, units, within)
 
--- It has these before it.
-pub front_within : (old : Cursor) (w more : List CodePoint) → rest old ≡ w ++ more → length w ≤ left old
-front_within old w more whole = omega (arith, ap length whole, length-append w more)
-
 -- Looks at n units, at most five for each of them, and a move over them keep the pace.
 pub looked_then_moved : (n : ℕ) (old new : Cursor) (a b c : ℕ) → n ≤ left old → new ≡ moved n old → a ≤ b → b ≤ a + 5 * n → IsMove b c old new → IsPaced 6 a c old new
 looked_then_moved n old new a b c within is least most moves =
@@ -50,24 +42,9 @@ looked_then_moved n old new a b c within is least most moves =
 pub only_moved : (n : ℕ) (old new : Cursor) (a b : ℕ) → new ≡ moved n old → IsMove a b old new → IsPaced 6 a b old new
 only_moved n old new a b is moves = let less = no_more n old new is in (omega (arith, less, moves), omega (arith, less, moves))
 
--- It has as many before it where it stays.
-pub nothing_taken : {old new : Cursor} (a b : ℕ) → new ≡ old → IsMove a b old new → b ≡ a
-nothing_taken {old} {new} a b is moves = omega (arith, ap left is, moves)
-
-pub class_escape_paced : {added start : ℕ} {old new : Cursor} {it : CharacterClassEscape} (a b : ℕ) → GivesClassEscape added start old new (Some it) → IsMove a b old new → IsPaced 6 a b old new
-class_escape_paced {old = old} {new = new} a b (given.some w more h k l is) moves = only_moved 1 old new a b is moves
-
--- Where the reader went on from one place to another, it may go on, or be refused.
-pub takes_on : {A E : Type 0} (a b c : ℕ) (old mid new : Cursor) (result : Result A E) → IsPaced 6 a b old mid → TakesSteps 6 b c mid new result → TakesSteps 6 a c old new result
-takes_on a b c old mid new (Ok it) p q = (omega (arith, p.0, q.0), omega (arith, p.1, q.1))
-takes_on a b c old mid new (Err e) p q = omega (arith, p.1, q)
-
 -- An item and a class that are answered are moved over.
 pub item_paced : {e : Environment} {added : ℕ} {old new : Cursor} {it : ClassItem} (a b : ℕ) → GivesItem e added old new (Ok it) → IsMove a b old new → IsPaced 6 a b old new
 item_paced {old = old} {new = new} a b (items.some w more h k is) moves = only_moved (length w) old new a b is moves
-
-pub class_no_more : {e : Environment} {added : ℕ} {old new : Cursor} {it : CharacterClass} → GivesClass e added old new (Ok (Some it)) → left new ≤ left old
-class_no_more {old = old} {new = new} (classes.some w more h k l is) = no_more (length w) old new is
 
 -- One unit is moved over, or none.
 pub eaten_paced : (eaten : Bool) (old new : Cursor) (a b : ℕ) → new ≡ (if eaten then moved 1 old else old) → IsMove a b old new → IsPaced 6 a b old new

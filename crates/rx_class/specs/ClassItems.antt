@@ -17,13 +17,15 @@ use Rattle.rx_ast.specs.ClassTree as tree
 use Rattle.rx_units.specs.declared.code_point.CodePoint.{CodePoint}
 use Rattle.rx_units.specs.Cursor.{Cursor, moved, rest}
 use Rattle.rx_units.specs.Units.{offset_at, values}
+use Rattle.rx_units.specs.Digits.{front_is}
 use Rattle.rx_model.specs.Refusals.ClassCauses.{IsClassCause, is_character}
 use Rattle.rx_model.specs.Refusals.ClassPlaces.{IsAtomPlace, IsItemPlace}
 use Rattle.rx_model.specs.Classes.ClassRows.{ClassRow, SpellsAtom, fresh}
 use Rattle.rx_model.specs.Classes.ClassRuns.{atom_obeys}
 use Rattle.rx_model.specs.Classes.ClassTokens.{Atom, character, escape, property, more_members_events}
 use Rattle.rx_model.specs.Trees.Early.{AreEarlyMembers, any_strings}
-use Rattle.rx_model.specs.Inputs.Environment.{Environment}
+use Rattle.rx_model.specs.Inputs.Environment.{Environment, is_unicode}
+use Rattle.rx_model.specs.Properties.PropertyForms.{begins_property}
 use Rattle.rx_model.specs.FirstPass.Marks.{starts}
 use Rattle.rx_model.specs.Refusals.Reached.{span_between, class_environment}
 use Rattle.rx_model.specs.Characters.UnitKinds.{unit_kind}
@@ -31,6 +33,7 @@ use Rattle.rx_class.specs.declared.class_atom.ClassAtom.{ClassAtom}
 use Rattle.rx_class.specs.declared.class_atom.ClassAtom.TheVariants as atom
 use Rattle.rx_class.specs.declared.class_item.ClassItem.{ClassItem}
 use Rattle.rx_class.specs.declared.class_item.ClassItem.TheVariants as item
+use Rattle.rx_class.specs.Found.{class_escape_front}
 use Rattle.rx_class.specs.Keeping.{KeepsUnits}
 
 -- the atom, without its span
@@ -59,6 +62,12 @@ abbrev pub alone_in_class : Bool → List ℕ → Option ℕ
 alone_in_class unicode [] = None
 alone_in_class unicode (c ∷ w) = if c == ascii.b then Some ascii.backspace else (if unicode && c == ascii.hyphen then Some ascii.hyphen else None)
 
+-- After a backslash stands neither what is a character in classes alone, nor a class escape, nor the letter of a property escape.
+pub record BeginsNone (e : Environment) (us : List ℕ) : Type 0 where
+  pub no_alone : alone_in_class (is_unicode e.mode) us ≡ None
+  pub no_class : class_escape_front us ≡ None
+  pub no_letter : is_unicode e.mode ≡ true → front_is begins_property us ≡ false
+
 -- the environment is that of the text that a reader reads
 abbrev pub IsOfText : Environment → Cursor → Type 0
 IsOfText e r = e ≡ class_environment e.mode r.units
@@ -72,10 +81,10 @@ pub record StandsItem (us : List CodePoint) : Type 0 where
   pub some : us ≡ [] → ⊥
   pub no_closer : starts ascii.right_bracket (values us) ≡ false
 
--- Of each class in which an atom may stand at the reader's place, this is a cause.
+-- Where the environment is that of the text, this is a cause of each class in which an atom may stand at the reader's place.
 abbrev pub IsAtomCause : Environment → ℕ → Cursor → Diagnostic → Type 0
 IsAtomCause e added r diagnostic =
-    (from : ℕ) (at_class : List CodePoint) → IsAtomPlace e from at_class r.place (rest r) → IsClassCause e.mode r.units r.first added from at_class r.place diagnostic
+    IsOfText e r → (from : ℕ) (at_class : List CodePoint) → IsAtomPlace e from at_class r.place (rest r) → IsClassCause e.mode r.units r.first added from at_class r.place diagnostic
 
 -- What stands at the reader's place is answered as an atom of a class (ClassAtom, 22.2.1).
 pub data GivesAtom (e : Environment) (added : ℕ) (old new : Cursor) : Result ClassAtom Fault → Type 0 where
@@ -99,10 +108,10 @@ pub data IsBetween : ClassAtom → ClassAtom → Result CharacterClassRange Diag
   no_character : {low high : ClassAtom} → (is_character (atom_of low) && is_character (atom_of high)) ≡ false
       → IsBetween low high (Err (CharacterClassRangeInvalidAtom (between (atom_span low).start (atom_span high).end)))
 
--- Of each class in which an item may stand at the reader's place, this is a cause, at a place in it.
+-- The same of each class in which an item may stand there, at a place in it.
 abbrev pub IsItemCause : Environment → ℕ → Cursor → Diagnostic → Type 0
 IsItemCause e added r diagnostic =
-    (from : ℕ) (at_class : List CodePoint) → IsItemPlace e from at_class r.place (rest r) → (place : ℕ) × IsClassCause e.mode r.units r.first added from at_class place diagnostic
+    IsOfText e r → (from : ℕ) (at_class : List CodePoint) → IsItemPlace e from at_class r.place (rest r) → (place : ℕ) × IsClassCause e.mode r.units r.first added from at_class place diagnostic
 
 -- a member that classes have outside sets mode: no class, and no class string
 abbrev pub IsPlain : Member → Type 0

@@ -11,9 +11,8 @@ ghost use Rattle.rx_class.specs.ClassItems.{IsOfText};
 ghost use Rattle.rx_class.specs.Fitting.{AreFitting};
 ghost use Rattle.rx_class.specs.ReadingSteps.{IsReading};
 
-use crate::class_item::add_item;
+use crate::Reading;
 use crate::set_class::set_class;
-use crate::spans::span_to_here;
 use rx_ast::{CharacterClass, CharacterClassContentsKind};
 use rx_base::{Counter, Diagnostic, Fault, List, Unterminated};
 use rx_scan::{SpanFactory, State};
@@ -45,48 +44,67 @@ pub fn parse_character_class<C: Counter>(
     ensures gives { GivesClass (environment_of state.now) spans.now reader.old reader.new result }
     ensures steps { IsReading 6 (C.count steps.old) (C.count steps.new) reader.old reader.new result }
 {
-    if reader.peek() != Some('[' as u32) {
-        return Ok(None);
-    }
-    if state.unicode_sets_mode {
-        return Ok(Some(set_class(alloc, reader, state, spans, steps)?));
-    }
-    Ok(Some(items_class(alloc, reader, state, spans, steps)?))
+    let mut reading = Reading {
+        reader,
+        state,
+        spans,
+        alloc,
+        steps,
+    };
+    reading.character_class()
 }
 
-/// Reads the class without `v` (CharacterClass and NonemptyClassRanges of ECMA-262, 22.2.1) whose `[` stands next, and moves over it.
-fn items_class<C: Counter>(
-    alloc: Global,
-    reader: &mut Reader<'_>,
-    state: &State,
-    spans: &SpanFactory,
-    steps: &mut C,
-) -> Result<CharacterClass, Fault>
-    requires bracket { starts ascii.left_bracket (values (rest reader.old)) ≡ true }
-    requires no_sets { is_sets (environment_of state.now).mode ≡ false }
-    requires environment { IsOfText (environment_of state.now) reader.old }
-    requires fits { AreFitting spans.now reader.old }
-    ensures gives { MatchResult result (λ it. GivesClass (environment_of state.now) spans.now reader.old reader.new (Ok (Some it))) (λ fault. GivesClass (environment_of state.now) spans.now reader.old reader.new (Err fault)) }
-    ensures steps { TakesSteps 6 (C.count steps.old) (C.count steps.new) reader.old reader.new result }
-{
-    let start = reader.offset();
-    reader.advance_counted(steps);
-    let negative = reader.eat_counted('^', steps);
-    let mut body = List::new(alloc);
-    while reader.peek() != Some(']' as u32) {
-        if reader.peek().is_none() {
-            let span = span_to_here(reader, spans, start);
-            let what = Unterminated::CharacterClass;
-            return Err(Fault::Diagnostic(Diagnostic::UnterminatedPattern { span, what }));
+impl<C: Counter> Reading<'_, '_, '_, '_, '_, C> {
+    ghost use Rattle.rx_class.specs.Readings.{ReadsOn};
+
+    /// Reads the class that stands next.
+    pub fn character_class(&mut self) -> Result<Option<CharacterClass>, Fault>
+        requires pass { HoldsFirstPass self.old.state.now self.old.reader.now.units }
+        ensures gives { GivesClass (environment_of self.old.state.now) self.old.spans.now self.old.reader.now self.new.reader.now result }
+        ensures steps { IsReading 6 (C.count self.old.steps.now) (C.count self.new.steps.now) self.old.reader.now self.new.reader.now result }
+        ensures on { ReadsOn self.old self.new }
+    {
+        if self.peek() != Some('[' as u32) {
+            return Ok(None);
         }
-        add_item(alloc, reader, state, spans, &mut body, steps)?;
+        if self.state.unicode_sets_mode {
+            let class = set_class(self.alloc, self.reader, self.state, self.spans, self.steps)?;
+            return Ok(Some(class));
+        }
+        Ok(Some(self.items_class()?))
     }
-    reader.advance_counted(steps);
-    Ok(CharacterClass {
-        span: span_to_here(reader, spans, start),
-        negative,
-        strings: false,
-        kind: CharacterClassContentsKind::Union,
-        body,
-    })
+
+    /// Reads the class without `v` (CharacterClass and NonemptyClassRanges of ECMA-262, 22.2.1) whose `[` stands next, and moves
+    /// over it.
+    fn items_class(&mut self) -> Result<CharacterClass, Fault>
+        requires bracket { starts ascii.left_bracket (values (rest self.old.reader.now)) ≡ true }
+        requires no_sets { is_sets (environment_of self.old.state.now).mode ≡ false }
+        requires environment { IsOfText (environment_of self.old.state.now) self.old.reader.now }
+        ensures gives { MatchResult result
+            (λ it. GivesClass (environment_of self.old.state.now) self.old.spans.now self.old.reader.now self.new.reader.now (Ok (Some it)))
+            (λ fault. GivesClass (environment_of self.old.state.now) self.old.spans.now self.old.reader.now self.new.reader.now (Err fault)) }
+        ensures steps { TakesSteps 6 (C.count self.old.steps.now) (C.count self.new.steps.now) self.old.reader.now self.new.reader.now result }
+        ensures on { ReadsOn self.old self.new }
+    {
+        let start = self.offset();
+        self.advance();
+        let negative = self.eat('^');
+        let mut body = List::new(self.alloc);
+        while self.peek() != Some(']' as u32) {
+            if self.peek().is_none() {
+                let span = self.span_from(start);
+                let what = Unterminated::CharacterClass;
+                return Err(Fault::Diagnostic(Diagnostic::UnterminatedPattern { span, what }));
+            }
+            self.add_item(&mut body)?;
+        }
+        self.advance();
+        Ok(CharacterClass {
+            span: self.span_from(start),
+            negative,
+            strings: false,
+            kind: CharacterClassContentsKind::Union,
+            body,
+        })
+    }
 }

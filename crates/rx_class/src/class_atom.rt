@@ -8,18 +8,14 @@ ghost use Rattle.rx_model.specs.Characters.UnitKinds.{unit_kind};
 ghost use Rattle.rx_model.specs.FirstPass.Marks.{starts};
 ghost use Rattle.rx_model.specs.Inputs.Environment.{Environment, is_sets};
 ghost use Rattle.rx_class.specs.EscapeAnswers.{IsAfterBackslash, environment_of};
-ghost use Rattle.rx_class.specs.ClassItems.{GivesAtom, IsOfText, StandsItem, alone_in_class, atom_member, atom_span, back, kind_in_class};
-ghost use Rattle.rx_class.specs.Fitting.{AreFitting};
+ghost use Rattle.rx_class.specs.ClassItems.{BeginsNone, GivesAtom, StandsItem, alone_in_class, atom_member, atom_span, back, kind_in_class};
 
-use crate::escape::{character_in_class, is_unicode, parse_character_class_escape};
-use crate::property::parse_character_class_escape_unicode;
-use crate::spans::span_to_here;
+use crate::{Reading, class_escape_at};
 use rx_ast::{
     Character, CharacterClassContents, CharacterClassEscape, CharacterKind, UnicodePropertyEscape,
 };
 use rx_base::{Counter, Diagnostic, Fault, OutOfMemory, Span};
-use rx_scan::{SpanFactory, State};
-use rx_units::{CodePoint, EscapeKind, Reader};
+use rx_units::{CodePoint, EscapeKind};
 use std::alloc::Global;
 
 /// What stands alone in a class, or at an end of a range (ClassAtom of ECMA-262, 22.2.1).
@@ -57,52 +53,88 @@ impl ClassAtom {
     }
 }
 
-/// Reads the atom that stands next in a class without `v`, and moves over it.
-pub fn class_atom<C: Counter>(
-    alloc: Global,
-    reader: &mut Reader<'_>,
-    state: &State,
-    spans: &SpanFactory,
-    steps: &mut C,
-) -> Result<ClassAtom, Fault>
-    requires stands { StandsItem (rest reader.old) }
-    requires no_sets { is_sets (environment_of state.now).mode ≡ false }
-    requires environment { IsOfText (environment_of state.now) reader.old }
-    requires fits { AreFitting spans.now reader.old }
-    ensures gives { GivesAtom (environment_of state.now) spans.now reader.old reader.new result }
-    ensures steps { TakesSteps 6 (C.count steps.old) (C.count steps.new) reader.old reader.new result }
-{
-    let unit = reader.remaining_code_points()[0];
-    if unit.value == '\\' as u32 {
-        let start = reader.offset();
-        reader.advance_counted(steps);
-        return escaped_atom(alloc, reader, state, spans, start, steps);
-    }
-    Ok(ClassAtom::Character(unit_character(reader, spans, steps)))
-}
+impl<C: Counter> Reading<'_, '_, '_, '_, '_, C> {
+    ghost use Rattle.rx_class.specs.Readings.{ReadsOn};
 
-/// Reads the character that is one unit of a class, no backslash, and moves over it.
-#[inline]
-pub fn unit_character<C: Counter>(
-    reader: &mut Reader<'_>,
-    spans: &SpanFactory,
-    steps: &mut C,
-) -> Character
-    requires stands { StandsItem (rest reader.old) }
-    requires no_backslash { starts ascii.backslash (values (rest reader.old)) ≡ false }
-    requires fits { AreFitting spans.now reader.old }
-    ensures atom { (e : Environment) → is_sets e.mode ≡ false → GivesAtom e spans.now reader.old reader.new (Ok (ClassAtom.Character result)) }
-    ensures value { front (rest reader.old) ≡ Some result.value }
-    ensures reader { reader.new ≡ moved 1 reader.old }
-    ensures steps { IsMove (C.count steps.old) (C.count steps.new) reader.old reader.new }
-{
-    let start = reader.offset();
-    let unit = reader.remaining_code_points()[0];
-    reader.advance_counted(steps);
-    Character {
-        span: span_to_here(reader, spans, start),
-        kind: kind_in_class(unit),
-        value: unit.value,
+    /// Reads the atom that stands next in a class without `v`, and moves over it.
+    pub fn class_atom(&mut self) -> Result<ClassAtom, Fault>
+        requires stands { StandsItem (rest self.old.reader.now) }
+        requires no_sets { is_sets (environment_of self.old.state.now).mode ≡ false }
+        ensures gives { GivesAtom (environment_of self.old.state.now) self.old.spans.now self.old.reader.now self.new.reader.now result }
+        ensures steps { TakesSteps 6 (C.count self.old.steps.now) (C.count self.new.steps.now) self.old.reader.now self.new.reader.now result }
+        ensures on { ReadsOn self.old self.new }
+    {
+        let unit = self.units()[0];
+        if unit.value == '\\' as u32 {
+            let start = self.offset();
+            self.advance();
+            return self.escaped_atom(start);
+        }
+        Ok(ClassAtom::Character(self.unit_character()))
+    }
+
+    /// Reads the character that is one unit of a class, no backslash, and moves over it.
+    #[inline]
+    pub fn unit_character(&mut self) -> Character
+        requires stands { StandsItem (rest self.old.reader.now) }
+        requires no_backslash { starts ascii.backslash (values (rest self.old.reader.now)) ≡ false }
+        ensures atom { (e : Environment) → is_sets e.mode ≡ false → GivesAtom e self.old.spans.now self.old.reader.now self.new.reader.now (Ok (ClassAtom.Character result)) }
+        ensures value { front (rest self.old.reader.now) ≡ Some result.value }
+        ensures reader { self.new.reader.now ≡ moved 1 self.old.reader.now }
+        ensures steps { IsMove (C.count self.old.steps.now) (C.count self.new.steps.now) self.old.reader.now self.new.reader.now }
+        ensures on { ReadsOn self.old self.new }
+    {
+        let start = self.offset();
+        let unit = self.units()[0];
+        self.advance();
+        Character {
+            span: self.span_from(start),
+            kind: kind_in_class(unit),
+            value: unit.value,
+        }
+    }
+
+    /// Reads the atom that a backslash begins (ClassEscape of ECMA-262, 22.2.1). The backslash was read, and the atom begins at
+    /// `start`, in bytes.
+    fn escaped_atom(&mut self, start: u32) -> Result<ClassAtom, Fault>
+        requires backslash { IsAfterBackslash self.old.reader.now start }
+        requires no_sets { is_sets (environment_of self.old.state.now).mode ≡ false }
+        ensures gives { GivesAtom (environment_of self.old.state.now) self.old.spans.now (back self.old.reader.now) self.new.reader.now result }
+        ensures steps { TakesSteps 6 (C.count self.old.steps.now) (C.count self.new.steps.now) self.old.reader.now self.new.reader.now result }
+        ensures on { ReadsOn self.old self.new }
+    {
+        let unicode = self.is_unicode();
+        if let Some(value) = alone_in_class(self.units(), unicode) {
+            self.advance();
+            let span = self.span_from(start);
+            let kind = CharacterKind::SingleEscape;
+            return Ok(ClassAtom::Character(Character { span, kind, value }));
+        }
+        if let Some(kind) = class_escape_at(self.units()) {
+            self.advance();
+            let span = self.span_from(start);
+            return Ok(ClassAtom::Escape(CharacterClassEscape { span, kind }));
+        }
+        if let Some(escape) = self.property_escape(start)? {
+            return Ok(ClassAtom::Property(escape));
+        }
+        self.character_atom(start)
+    }
+
+    /// Reads the atom that a backslash begins where it is a character, and none that a backslash begins in classes alone.
+    fn character_atom(&mut self, start: u32) -> Result<ClassAtom, Fault>
+        requires backslash { IsAfterBackslash self.old.reader.now start }
+        requires none { BeginsNone (environment_of self.old.state.now) (values (rest self.old.reader.now)) }
+        requires no_sets { is_sets (environment_of self.old.state.now).mode ≡ false }
+        ensures gives { GivesAtom (environment_of self.old.state.now) self.old.spans.now (back self.old.reader.now) self.new.reader.now result }
+        ensures steps { TakesSteps 6 (C.count self.old.steps.now) (C.count self.new.steps.now) self.old.reader.now self.new.reader.now result }
+        ensures on { ReadsOn self.old self.new }
+    {
+        if let Some(character) = self.character_in_class(start)? {
+            return Ok(ClassAtom::Character(character));
+        }
+        let span = self.span_from(start);
+        Err(Fault::Diagnostic(Diagnostic::InvalidClassAtom { span }))
     }
 }
 
@@ -128,44 +160,6 @@ pub fn unit_kind(escape_kind: EscapeKind) -> CharacterKind
         EscapeKind::Unicode => CharacterKind::UnicodeEscape,
         EscapeKind::Hexadecimal => CharacterKind::HexadecimalEscape,
     }
-}
-
-/// Reads the atom that a backslash begins (ClassEscape of ECMA-262, 22.2.1). The backslash was read, and the atom begins at `start`,
-/// in bytes.
-fn escaped_atom<C: Counter>(
-    alloc: Global,
-    reader: &mut Reader<'_>,
-    state: &State,
-    spans: &SpanFactory,
-    start: u32,
-    steps: &mut C,
-) -> Result<ClassAtom, Fault>
-    requires backslash { IsAfterBackslash reader.old start }
-    requires no_sets { is_sets (environment_of state.now).mode ≡ false }
-    requires environment { IsOfText (environment_of state.now) reader.old }
-    requires fits { AreFitting spans.now reader.old }
-    ensures gives { GivesAtom (environment_of state.now) spans.now (back reader.old) reader.new result }
-    ensures steps { TakesSteps 6 (C.count steps.old) (C.count steps.new) reader.old reader.new result }
-{
-    if let Some(value) = alone_in_class(reader.remaining_code_points(), is_unicode(state)) {
-        reader.advance_counted(steps);
-        let span = span_to_here(reader, spans, start);
-        let kind = CharacterKind::SingleEscape;
-        return Ok(ClassAtom::Character(Character { span, kind, value }));
-    }
-    if let Some(escape) = parse_character_class_escape(reader, spans, start, steps) {
-        return Ok(ClassAtom::Escape(escape));
-    }
-    if let Some(escape) = parse_character_class_escape_unicode(
-        alloc, reader, state, spans, start, steps,
-    )? {
-        return Ok(ClassAtom::Property(escape));
-    }
-    if let Some(character) = character_in_class(reader, state, spans, start, steps)? {
-        return Ok(ClassAtom::Character(character));
-    }
-    let span = span_to_here(reader, spans, start);
-    Err(Fault::Diagnostic(Diagnostic::InvalidClassAtom { span }))
 }
 
 /// The character that the unit after a backslash stands for in classes alone: `b` for a backspace and, with `u`, `-` for itself.

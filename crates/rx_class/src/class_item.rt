@@ -8,17 +8,14 @@ ghost use Rattle.rx_model.specs.Classes.ClassRows.{is_dashed};
 ghost use Rattle.rx_model.specs.Classes.ClassTokens.{is_character};
 ghost use Rattle.rx_model.specs.Inputs.Environment.{Environment, is_sets};
 ghost use Rattle.rx_class.specs.EscapeAnswers.{environment_of};
-ghost use Rattle.rx_class.specs.ClassItems.{AddsItem, GivesItem, IsBetween, IsOfText, StandsItem, atom_member, atom_of, hyphen_member, item_contents, item_members, stands_alone, stands_range};
-ghost use Rattle.rx_class.specs.Fitting.{AreFitting};
+ghost use Rattle.rx_class.specs.ClassItems.{AddsItem, GivesItem, IsBetween, StandsItem, atom_member, atom_of, hyphen_member, item_contents, item_members, stands_alone, stands_range};
 ghost use Rattle.rx_class.specs.Keeping.{KeepsUnits};
 
-use crate::class_atom::{ClassAtom, class_atom, unit_character};
-use crate::escape::is_unicode;
-use crate::spans::span_to_here;
+use crate::Reading;
+use crate::class_atom::ClassAtom;
 use rx_ast::{Character, CharacterClassContents, CharacterClassRange, CharacterKind};
 use rx_base::{Counter, Diagnostic, Fault, List, OutOfMemory, RangeKind, Span};
-use rx_scan::{SpanFactory, State};
-use rx_units::{CodePoint, Reader};
+use rx_units::CodePoint;
 use std::alloc::Global;
 
 /// An item of a class, as it is read.
@@ -33,34 +30,108 @@ pub enum ClassItem {
     },
 }
 
-/// Reads the item that stands next in a class without `v`, moves over it, and adds what it is to the contents.
-pub fn add_item<C: Counter>(
-    alloc: Global,
-    reader: &mut Reader<'_>,
-    state: &State,
-    spans: &SpanFactory,
-    body: &mut List<CharacterClassContents>,
-    steps: &mut C,
-) -> Result<(), Fault>
-    requires stands { StandsItem (rest reader.old) }
-    requires no_sets { is_sets (environment_of state.now).mode ≡ false }
-    requires environment { IsOfText (environment_of state.now) reader.old }
-    requires fits { AreFitting spans.now reader.old }
-    ensures added { OnOk result (AddsItem (environment_of state.now) spans.now reader.old reader.new body.old body.new) }
-    ensures refused { IfErr result (λ fault. GivesItem (environment_of state.now) spans.now reader.old reader.new (Err fault)) }
-    ensures steps { TakesSteps 6 (C.count steps.old) (C.count steps.new) reader.old reader.new result }
-{
-    let units = reader.remaining_code_points();
-    if stands_alone(units) {
-        let character = unit_character(reader, spans, steps);
-        return Ok(push_one(body, reader, CharacterClassContents::Character(character))?);
+impl<C: Counter> Reading<'_, '_, '_, '_, '_, C> {
+    ghost use Rattle.rx_class.specs.Readings.{ReadsOn};
+
+    /// Reads the item that stands next in a class without `v`, moves over it, and adds what it is to the contents.
+    pub fn add_item(&mut self, body: &mut List<CharacterClassContents>) -> Result<(), Fault>
+        requires stands { StandsItem (rest self.old.reader.now) }
+        requires no_sets { is_sets (environment_of self.old.state.now).mode ≡ false }
+        ensures added { OnOk result (AddsItem (environment_of self.old.state.now) self.old.spans.now self.old.reader.now self.new.reader.now body.old body.new) }
+        ensures refused { IfErr result (λ fault. GivesItem (environment_of self.old.state.now) self.old.spans.now self.old.reader.now self.new.reader.now (Err fault)) }
+        ensures steps { TakesSteps 6 (C.count self.old.steps.now) (C.count self.new.steps.now) self.old.reader.now self.new.reader.now result }
+        ensures on { ReadsOn self.old self.new }
+    {
+        if stands_alone(self.units()) {
+            let character = self.unit_character();
+            return Ok(self.push_one(body, CharacterClassContents::Character(character))?);
+        }
+        if stands_range(self.units()) {
+            let range = self.unit_range();
+            return Ok(self.push_one(body, range_contents(self.alloc, range)?)?);
+        }
+        let item = self.class_item()?;
+        Ok(self.push_item(body, item)?)
     }
-    if stands_range(units) {
-        let range = unit_range(reader, spans, steps);
-        return Ok(push_one(body, reader, range_contents(alloc, range)?)?);
+
+    /// Reads the range of two units that stands next, and moves over it.
+    fn unit_range(&mut self) -> CharacterClassRange
+        requires stands { StandsItem (rest self.old.reader.now) }
+        requires range { stands_range (values (rest self.old.reader.now)) ≡ true }
+        ensures item { (e : Environment) (item : CharacterClassContents) → is_sets e.mode ≡ false → mirror_contents item ≡ ClassTree.range result
+            → GivesItem e self.old.spans.now self.old.reader.now self.new.reader.now (Ok (ClassItem.One item)) }
+        ensures reader { KeepsUnits self.old.reader.now self.new.reader.now }
+        ensures steps { IsMove (C.count self.old.steps.now) (C.count self.new.steps.now) self.old.reader.now self.new.reader.now }
+        ensures on { ReadsOn self.old self.new }
+    {
+        let min = self.unit_character();
+        self.advance();
+        let max = self.unit_character();
+        let span = Span::new(min.span.start, max.span.end);
+        CharacterClassRange { span, min, max }
     }
-    let item = class_item(alloc, reader, state, spans, steps)?;
-    Ok(push_item(body, reader, item)?)
+
+    /// Adds an item to the contents of a class. Where it is all that the class holds, memory is taken for it alone.
+    #[inline]
+    fn push_one(
+        &self,
+        body: &mut List<CharacterClassContents>,
+        item: CharacterClassContents,
+    ) -> Result<(), OutOfMemory>
+        ensures { OnOk result (body.new ≡ body.old ++ item ∷ []) }
+    {
+        if body.is_empty() && self.peek() == Some(']' as u32) {
+            *body = List::with_capacity(body.allocator(), 1)?;
+        }
+        body.push(item)
+    }
+
+    /// Adds what an item is to the contents of a class, after which the reader stands.
+    fn push_item(
+        &self,
+        body: &mut List<CharacterClassContents>,
+        item: ClassItem,
+    ) -> Result<(), OutOfMemory>
+        ensures { OnOk result (body.new ≡ body.old ++ item_contents item) }
+    {
+        match item {
+            ClassItem::One(it) => self.push_one(body, it),
+            ClassItem::Three {
+                first,
+                hyphen,
+                last,
+            } => {
+                body.push(first)?;
+                body.push(hyphen)?;
+                body.push(last)
+            }
+        }
+    }
+
+    /// Reads the item that stands next in a class, an atom or a range (NonemptyClassRanges of ECMA-262, 22.2.1), and moves over it.
+    /// With neither `u` nor `v` two atoms with a `-` between, of which one is no character, are three items (CharacterRangeOrUnion,
+    /// B.1.2).
+    fn class_item(&mut self) -> Result<ClassItem, Fault>
+        requires stands { StandsItem (rest self.old.reader.now) }
+        requires no_sets { is_sets (environment_of self.old.state.now).mode ≡ false }
+        ensures gives { GivesItem (environment_of self.old.state.now) self.old.spans.now self.old.reader.now self.new.reader.now result }
+        ensures steps { TakesSteps 6 (C.count self.old.steps.now) (C.count self.new.steps.now) self.old.reader.now self.new.reader.now result }
+        ensures on { ReadsOn self.old self.new }
+    {
+        let low = self.class_atom()?;
+        if !is_dashed(self.units()) {
+            return Ok(ClassItem::One(low.into_contents(self.alloc)?));
+        }
+        let start = self.offset();
+        self.advance();
+        let hyphen = self.span_from(start);
+        let high = self.class_atom()?;
+        if are_three(&low, &high, self.is_unicode()) {
+            return Ok(three_items(self.alloc, low, hyphen, high)?);
+        }
+        let range = range_between(&low, &high)?;
+        Ok(ClassItem::One(range_contents(self.alloc, range)?))
+    }
 }
 
 /// Whether the first unit is an item by itself: it is no backslash, and what follows it is no `-`.
@@ -86,95 +157,6 @@ fn stands_range(units: &[CodePoint]) -> bool
         && high.value != '\\' as u32
         && high.value != ']' as u32
         && low.value <= high.value
-}
-
-/// Reads the range of two units that stands next, and moves over it.
-#[tactic(auto, using(crate::proofs::Fitting::moved_are_fitting))]
-fn unit_range<C: Counter>(
-    reader: &mut Reader<'_>,
-    spans: &SpanFactory,
-    steps: &mut C,
-) -> CharacterClassRange
-    requires stands { StandsItem (rest reader.old) }
-    requires range { stands_range (values (rest reader.old)) ≡ true }
-    requires fits { AreFitting spans.now reader.old }
-    ensures item { (e : Environment) (item : CharacterClassContents) → is_sets e.mode ≡ false → mirror_contents item ≡ ClassTree.range result → GivesItem e spans.now reader.old reader.new (Ok (ClassItem.One item)) }
-    ensures reader { KeepsUnits reader.old reader.new }
-    ensures steps { IsMove (C.count steps.old) (C.count steps.new) reader.old reader.new }
-{
-    let min = unit_character(reader, spans, steps);
-    reader.advance_counted(steps);
-    let max = unit_character(reader, spans, steps);
-    let span = Span::new(min.span.start, max.span.end);
-    CharacterClassRange { span, min, max }
-}
-
-/// Adds an item to the contents of a class. Where it is all that the class holds, memory is taken for it alone.
-#[inline]
-fn push_one(
-    body: &mut List<CharacterClassContents>,
-    reader: &Reader<'_>,
-    item: CharacterClassContents,
-) -> Result<(), OutOfMemory>
-    ensures { OnOk result (body.new ≡ body.old ++ item ∷ []) }
-{
-    if body.is_empty() && reader.peek() == Some(']' as u32) {
-        *body = List::with_capacity(body.allocator(), 1)?;
-    }
-    body.push(item)
-}
-
-/// Adds what an item is to the contents of a class, after which the reader stands.
-fn push_item(
-    body: &mut List<CharacterClassContents>,
-    reader: &Reader<'_>,
-    item: ClassItem,
-) -> Result<(), OutOfMemory>
-    ensures { OnOk result (body.new ≡ body.old ++ item_contents item) }
-{
-    match item {
-        ClassItem::One(it) => push_one(body, reader, it),
-        ClassItem::Three {
-            first,
-            hyphen,
-            last,
-        } => {
-            body.push(first)?;
-            body.push(hyphen)?;
-            body.push(last)
-        }
-    }
-}
-
-/// Reads the item that stands next in a class, an atom or a range (NonemptyClassRanges of ECMA-262, 22.2.1), and moves over it. With
-/// neither `u` nor `v` two atoms with a `-` between, of which one is no character, are three items (CharacterRangeOrUnion, B.1.2).
-fn class_item<C: Counter>(
-    alloc: Global,
-    reader: &mut Reader<'_>,
-    state: &State,
-    spans: &SpanFactory,
-    steps: &mut C,
-) -> Result<ClassItem, Fault>
-    requires stands { StandsItem (rest reader.old) }
-    requires no_sets { is_sets (environment_of state.now).mode ≡ false }
-    requires environment { IsOfText (environment_of state.now) reader.old }
-    requires fits { AreFitting spans.now reader.old }
-    ensures gives { GivesItem (environment_of state.now) spans.now reader.old reader.new result }
-    ensures steps { TakesSteps 6 (C.count steps.old) (C.count steps.new) reader.old reader.new result }
-{
-    let low = class_atom(alloc, reader, state, spans, steps)?;
-    if !is_dashed(reader.remaining_code_points()) {
-        return Ok(ClassItem::One(low.into_contents(alloc)?));
-    }
-    let start = reader.offset();
-    reader.advance_counted(steps);
-    let hyphen = span_to_here(reader, spans, start);
-    let high = class_atom(alloc, reader, state, spans, steps)?;
-    if are_three(&low, &high, is_unicode(state)) {
-        return Ok(three_items(alloc, low, hyphen, high)?);
-    }
-    let range = range_between(&low, &high)?;
-    Ok(ClassItem::One(range_contents(alloc, range)?))
 }
 
 /// Whether two atoms with a `-` between are three items, with `u` or without.

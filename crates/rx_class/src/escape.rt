@@ -20,7 +20,7 @@ ghost use Rattle.rx_class.specs.SetAnswers.{GivesSetCharacter};
 ghost use Rattle.rx_class.specs.SetFronts.{set_character_at};
 
 use crate::spans::span_to_here;
-use crate::{EscapeFound, any_escape_at, character_escape_at, class_escape_at};
+use crate::{EscapeFound, Reading, any_escape_at, character_escape_at, class_escape_at};
 use rx_ast::{Character, CharacterClassEscape};
 use rx_base::{Counter, Diagnostic, DigitsKind, Span};
 use rx_scan::{Environment, SpanFactory, State};
@@ -48,26 +48,78 @@ pub fn parse_character_escape<C: Counter>(
     ensures gives { GivesCharacter (environment_of state.now) spans.now span_start reader.old reader.new result }
     ensures steps { IsReading 6 (C.count steps.old) (C.count steps.new) reader.old reader.new result }
 {
-    let found = shared_escape(reader.remaining_code_points(), state, steps);
-    answer(reader, spans, span_start, found, steps)
+    let alloc = state.capturing_group_names.allocator();
+    let mut reading = Reading {
+        reader,
+        state,
+        spans,
+        alloc,
+        steps,
+    };
+    reading.character_escape(span_start)
 }
 
-/// Reads the escape of a character (ClassEscape of ECMA-262, 22.2.1) after a backslash in a class, but for `\b` and `\-`, and moves over it.
-pub fn character_in_class<C: Counter>(
-    reader: &mut Reader<'_>,
-    state: &State,
-    spans: &SpanFactory,
-    span_start: u32,
-    steps: &mut C,
-) -> Result<Option<Character>, Diagnostic>
-    requires backslash { IsAfterBackslash reader.old span_start }
-    requires fits { AreFitting spans.now reader.old }
-    ensures found { AnswersFound spans.now span_start reader.old reader.new (any_escape_at true (environment_of state.now) (values (rest reader.old))) result }
-    ensures steps { IsReading 6 (C.count steps.old) (C.count steps.new) reader.old reader.new result }
-{
-    let units = reader.remaining_code_points();
-    let found = any_escape_at(units, true, class_environment(state), steps);
-    answer(reader, spans, span_start, found, steps)
+impl<C: Counter> Reading<'_, '_, '_, '_, '_, C> {
+    ghost use Rattle.rx_class.specs.Readings.{ReadsOn};
+
+    /// Reads the character escape after a backslash, in and out of classes.
+    pub fn character_escape(&mut self, span_start: u32) -> Result<Option<Character>, Diagnostic>
+        requires backslash { IsAfterBackslash self.old.reader.now span_start }
+        ensures gives { GivesCharacter (environment_of self.old.state.now) self.old.spans.now span_start self.old.reader.now self.new.reader.now result }
+        ensures steps { IsReading 6 (C.count self.old.steps.now) (C.count self.new.steps.now) self.old.reader.now self.new.reader.now result }
+        ensures on { ReadsOn self.old self.new }
+    {
+        let found = shared_escape(self.reader.remaining_code_points(), self.state, self.steps);
+        self.answer(span_start, found)
+    }
+
+    /// Reads the escape of a character (ClassEscape of ECMA-262, 22.2.1) after a backslash in a class, but for `\b` and `\-`, and moves
+    /// over it.
+    pub fn character_in_class(&mut self, span_start: u32) -> Result<Option<Character>, Diagnostic>
+        requires backslash { IsAfterBackslash self.old.reader.now span_start }
+        ensures found { AnswersFound self.old.spans.now span_start self.old.reader.now self.new.reader.now (any_escape_at true (environment_of self.old.state.now) (values (rest self.old.reader.now))) result }
+        ensures steps { IsReading 6 (C.count self.old.steps.now) (C.count self.new.steps.now) self.old.reader.now self.new.reader.now result }
+        ensures on { ReadsOn self.old self.new }
+    {
+        let units = self.reader.remaining_code_points();
+        let found = any_escape_at(units, true, class_environment(self.state), self.steps);
+        self.answer(span_start, found)
+    }
+
+    /// The answer to what was found at the place. Moves over a character.
+    fn answer(
+        &mut self,
+        span_start: u32,
+        found: EscapeFound,
+    ) -> Result<Option<Character>, Diagnostic>
+        requires backslash { IsAfterBackslash self.old.reader.now span_start }
+        requires within { IsWithin (length (rest self.old.reader.now)) found }
+        ensures found { AnswersFound self.old.spans.now span_start self.old.reader.now self.new.reader.now (seen_escape found) result }
+        ensures steps { IsMove (C.count self.old.steps.now) (C.count self.new.steps.now) self.old.reader.now self.new.reader.now }
+        ensures on { ReadsOn self.old self.new }
+    {
+        match found {
+            EscapeFound::Character {
+                kind,
+                value,
+                length,
+            } => {
+                self.skip(length);
+                let span = self.span_from(span_start);
+                Ok(Some(Character { span, kind, value }))
+            }
+            EscapeFound::Nothing => Ok(None),
+            EscapeFound::TooMany { digits } => {
+                let span = self.span_ahead(2, digits);
+                let what = DigitsKind::Hex;
+                Err(Diagnostic::TooLargeNumberDigits { span, what })
+            }
+            EscapeFound::Invalid => {
+                let span = self.span_ahead(0, 1);
+                Err(Diagnostic::InvalidUnicodeEscapeSequence { span })
+            }
+        }
+    }
 }
 
 /// The escape that units begin with after a backslash, in and out of classes.
@@ -102,44 +154,6 @@ fn class_environment(state: &State) -> Environment
     ensures { seen_environment result ≡ environment_of state.now }
 {
     Environment::of(state, true)
-}
-
-/// The answer to what was found where the reader stands. The reader moves over a character.
-fn answer<C: Counter>(
-    reader: &mut Reader<'_>,
-    spans: &SpanFactory,
-    span_start: u32,
-    found: EscapeFound,
-    steps: &mut C,
-) -> Result<Option<Character>, Diagnostic>
-    requires backslash { IsAfterBackslash reader.old span_start }
-    requires fits { AreFitting spans.now reader.old }
-    requires within { IsWithin (length (rest reader.old)) found }
-    ensures found { AnswersFound spans.now span_start reader.old reader.new (seen_escape found) result }
-    ensures steps { IsMove (C.count steps.old) (C.count steps.new) reader.old reader.new }
-{
-    match found {
-        EscapeFound::Character {
-            kind,
-            value,
-            length,
-        } => {
-            reader.skip_counted(length, steps);
-            let span = span_to_here(reader, spans, span_start);
-            Ok(Some(Character { span, kind, value }))
-        }
-        EscapeFound::Nothing => Ok(None),
-        EscapeFound::TooMany { digits } => {
-            reader.skip_counted(2, steps);
-            let span = next_span(reader, spans, digits, steps);
-            let what = DigitsKind::Hex;
-            Err(Diagnostic::TooLargeNumberDigits { span, what })
-        }
-        EscapeFound::Invalid => {
-            let span = next_span(reader, spans, 1, steps);
-            Err(Diagnostic::InvalidUnicodeEscapeSequence { span })
-        }
-    }
 }
 
 /// The answer to what was found from where the reader stands on, with its backslash. The reader moves over a character.

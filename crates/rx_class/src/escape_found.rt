@@ -43,6 +43,7 @@ pub enum EscapeFound {
 
 /// The character escape (CharacterEscape of ECMA-262, 22.2.1) that the units after a backslash begin with in a mode: with neither
 /// `u` nor `v` those of B.1.2 are read too.
+/// `inside` says that it stands in a class.
 #[tactic(auto, using(crate::proofs::Bounds::any_read_within))]
 pub fn any_escape_at<C: Counter>(
     units: &[CodePoint],

@@ -21,6 +21,7 @@ use rx_units::CodePoint;
 
 /// The escape that the units after a backslash begin with, of those that are one with neither `u` nor `v` alone (CharacterEscape and ClassEscape of
 /// ECMA-262, B.1.2).
+/// `inside` says that it stands in a class.
 #[tactic(auto, unfolding(rx_model::specs::Characters::EscapeFronts::legacy_at))]
 pub fn legacy_escape_at<C: Counter>(
     units: &[CodePoint],

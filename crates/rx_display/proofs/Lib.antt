@@ -1,4 +1,3 @@
 pub mod ClassTasks
-pub mod Goes
 pub mod Tasks
 pub mod Writers

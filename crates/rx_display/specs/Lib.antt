@@ -1,3 +1,3 @@
 pub mod ClassTasks
-pub mod Goes
 pub mod Tasks
+pub mod Writes

@@ -2,6 +2,7 @@
 #![tactic(auto)]
 
 mod class_task;
+mod pair;
 mod printing;
 mod task;
 mod writer;

@@ -19,7 +19,7 @@ IsGoodTerm mode t = IsNode mode (mirror_term t)
 abbrev pub IsGoodDisjunction : Mode → Disjunction → Type 0
 IsGoodDisjunction mode d = HasAlternatives mode (mirror_disjunction d).1
 
--- each of these terms is well made
+-- The terms of these are well made: of a list,
 abbrev pub AreGoodTerms : Mode → List Term → Type 0
 AreGoodTerms mode ts = AllByRecursion (IsGoodTerm mode) ts
 

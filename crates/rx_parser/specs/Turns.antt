@@ -43,7 +43,7 @@ pub record HasTurned (p q : Parse) : Type 0 where
 abbrev pub RefusesText : Parse → Fault → Type 0
 RefusesText p it = IsRefused p.builder.mode p.builder.rules p.reader.units p.reader.first p.spans it
 
--- The same of a builder and a reader alone: something is left of the text, and the builder holds what stands before it;
+-- Of a builder and a reader alone: something is left of the text, and the builder holds what stands before it;
 pub record IsBefore (added : ℕ) (b : Builder) (r : Cursor) : Type 0 where
   pub parsing : IsParsing b.mode b.rules r.units r.first added b r.place
   pub left : r.place < length r.units

@@ -78,7 +78,7 @@ impl<'a> Parse<'a> {
         }
     }
 
-    /// What stands where the reader does, in the mode of the builder.
+    /// What stands where the reader does, in the environment that the state tells.
     fn found_here<C: Counter>(&self, steps: &mut C) -> Found
         requires { IsReady self.now }
         ensures found { StandsNext self.now result }

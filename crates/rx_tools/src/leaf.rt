@@ -1,4 +1,4 @@
-ghost use Rattle.std.specs.Prelude.{◌≡◌, ◌≤◌, true, map, IfOk};
+ghost use Rattle.std.specs.Prelude.{◌≡◌, ◌≤◌, true, IfOk};
 ghost use Rattle.rx_ast.specs.Size.{terms_size};
 ghost use Rattle.rx_ast.specs.Tree.{mirror_term, mirror_quantifier};
 ghost use Rattle.rx_base.specs.Writing.{Written};

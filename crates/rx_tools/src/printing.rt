@@ -1,24 +1,29 @@
-ghost use Rattle.std.specs.Prelude.{◌≡◌, ◌++◌, ◌+◌, ◌*◌, ◌<◌, ◌≤◌, IfOk, OnOk, false, length, map};
+ghost use Rattle.std.specs.Prelude.{◌≡◌, ◌++◌, ◌+◌, ◌*◌, ◌<◌, ◌≤◌, IfOk, OnOk, codes, length, sum_by, true};
 ghost use Rattle.std.specs.Io.KnownBytes.{Appends};
 ghost use Rattle.rx_ast.specs.Forget.{bare};
-ghost use Rattle.rx_ast.specs.Size.{all_alternatives_size, term_size, terms_size};
-ghost use Rattle.rx_ast.specs.Tree.{mirror_term, nodes};
-ghost use Rattle.rx_model.specs.Spelling.Spelling.{alternatives_text, barred_text, node_text, nodes_text, spelling};
-ghost use Rattle.rx_tools.specs.Goes.{Goes};
-ghost use Rattle.rx_tools.specs.Leaves.{rest_text};
-ghost use Rattle.rx_tools.specs.Tasks.{pending, task_size, task_text, tree_of, weight};
+ghost use Rattle.rx_ast.specs.Size.{disjunction_size, term_size};
+ghost use Rattle.rx_ast.specs.Texts.{quantifier_text};
+ghost use Rattle.rx_ast.specs.Tree.{mirror_disjunction, mirror_term};
+ghost use Rattle.rx_base.specs.Writing.{Written};
+ghost use Rattle.rx_model.specs.Spelling.Spelling.{alternatives_text, node_text, spelling};
+ghost use Rattle.rx_tasks.specs.Tasks.{tasks_of};
+ghost use Rattle.rx_tasks.specs.Texts.{Goes, texts_of};
+ghost use Rattle.rx_tools.specs.Leaves.{is_leaf as stands_alone};
+ghost use Rattle.rx_tools.specs.Tasks.{body_text, body_weight, closer_text, suffix_text, task_text, task_weight};
 ghost use Rattle.rx_tools.specs.Utf8.{utf8};
+ghost use Rattle.rx_tools.specs.Writes.{writes};
 
 use crate::class_task::write_class;
 use crate::leaf::{Rest, write_leaf, write_leaves};
 use crate::quantifier::write_quantifier;
-use crate::task::{Task, leave_alternatives, leave_group, leave_suffix, leave_terms};
+use crate::task::{Body, Task, lone_body, task_of, whole_body};
 use crate::term::{refers, write_capturing, write_ignoring};
 use crate::write::write_str;
 use rx_ast::parts::look_text;
-use rx_ast::{Alternative, Pattern, Term};
+use rx_ast::{Disjunction, Pattern, Quantifier, Term};
 use rx_base::{Failed, List, OutOfMemory, Text, TextSink};
 use rx_model::Mode;
+use rx_tasks::{Next, Work, work_through};
 use std::alloc::Global;
 
 /// The canonical spelling of a tree in a mode, also of a tree that no text spells. However deep it is, it takes no deep stack.
@@ -53,190 +58,192 @@ fn write_pattern<W: TextSink>(
 ) -> Result<(), OutOfMemory>
     ensures { OnOk result (Appends (W.taken sink.old) (W.taken sink.new) (utf8 (spelling (bare pattern.now) mode))) }
 {
-    match write_whole(alloc, sink, mode, pattern.body.body.as_slice()) {
-        Ok(()) => Ok(()),
-        Err(Failed) => Err(OutOfMemory),
-    }
+    let body = whole_body(mode, pattern.body.body.as_slice());
+    work_through(alloc, sink, task_of(body))
 }
 
-/// Writes alternatives with bars between them, and all that nests in them.
-fn write_whole<W: TextSink>(
-    alloc: Global,
-    sink: &mut W,
-    mode: Mode,
-    alternatives: &[Alternative],
-) -> Result<(), Failed>
-    ensures { OnOk result (Appends (W.taken sink.old) (W.taken sink.new) (utf8 (alternatives_text mode (tree_of alternatives.now)))) }
-{
-    let mut tasks = List::new(alloc);
-    write_disjunction(sink, mode, &mut tasks, alternatives)?;
-    while let Some(task) = tasks.pop() {
-        write_task(sink, mode, &mut tasks, task)?;
-    }
-    Ok(())
-}
+impl<'a, W: TextSink> Work<W> for Task<'a> {
+    ghost use Rattle.rx_tools.specs.Tasks.{task_text, task_weight};
+    ghost use Rattle.rx_tools.specs.Writes.{writes};
 
-/// Writes what a task is to write, and leaves what nests in it for later.
-#[tactic(auto, using(crate::proofs::Pieces::in_pieces))]
-fn write_task<'a, W: TextSink>(
-    sink: &mut W,
-    mode: Mode,
-    tasks: &mut List<Task<'a>>,
-    task: Task<'a>,
-) -> Result<(), Failed>
-    ensures text { OnOk result (Goes (W.taken sink.old) (W.taken sink.new) (task_text mode task.entry ++ pending mode tasks.old) (pending mode tasks.new)) }
-    ensures size { OnOk result (weight tasks.new ≤ weight tasks.old + 3 * task_size task.entry) }
-{
-    match task {
-        Task::Disjunction(alternatives) => write_disjunction(sink, mode, tasks, alternatives),
-        Task::Alternatives(alternatives) => write_alternatives(sink, mode, tasks, alternatives),
-        Task::Terms(rest) => write_terms(sink, mode, tasks, rest),
-        Task::Suffix { min, max, greedy } => write_quantifier(sink, min, max, greedy),
-        Task::GroupEnd => write_str(sink, ")"),
-    }
-}
+    ghost does = { λ task old new. writes W.taken old (task_text task) new };
 
-/// Writes alternatives with bars between them, up to the first term in which something nests, and leaves the rest for later.
-fn write_disjunction<'a, W: TextSink>(
-    sink: &mut W,
-    mode: Mode,
-    tasks: &mut List<Task<'a>>,
-    alternatives: &'a [Alternative],
-) -> Result<(), Failed>
-    ensures text { OnOk result (Goes (W.taken sink.old) (W.taken sink.new) (alternatives_text mode (tree_of alternatives.now) ++ pending mode tasks.old) (pending mode tasks.new)) }
-    ensures size { OnOk result (weight tasks.new ≤ weight tasks.old + 3 * all_alternatives_size alternatives.now) }
-{
-    let Some((first, more)) = alternatives.split_first() else {
-        return Ok(());
-    };
-    let left = write_alternative(sink, mode, tasks, first.body.as_slice(), more)?;
-    write_alternatives(sink, mode, tasks, left)
-}
+    ghost weight = { task_weight };
 
-/// Writes alternatives, each after a bar, up to the first term in which something nests, and leaves the rest for later.
-fn write_alternatives<'a, W: TextSink>(
-    sink: &mut W,
-    mode: Mode,
-    tasks: &mut List<Task<'a>>,
-    alternatives: &'a [Alternative],
-) -> Result<(), Failed>
-    ensures text { OnOk result (Goes (W.taken sink.old) (W.taken sink.new) (barred_text mode (tree_of alternatives.now) ++ pending mode tasks.old) (pending mode tasks.new)) }
-    ensures size { OnOk result (weight tasks.new ≤ weight tasks.old + 3 * all_alternatives_size alternatives.now) }
-{
-    let mut left = alternatives;
-    while let Some((first, more)) = left.split_first() {
-        write_str(sink, "|")?;
-        left = write_alternative(sink, mode, tasks, first.body.as_slice(), more)?;
-    }
-    Ok(())
-}
-
-/// Writes the terms of an alternative up to the first in which something nests, and answers the alternatives that are to be
-/// written now: those after it, or none where it leaves them for later with the rest of its terms.
-fn write_alternative<'a, W: TextSink>(
-    sink: &mut W,
-    mode: Mode,
-    tasks: &mut List<Task<'a>>,
-    terms: &'a [Term],
-    more: &'a [Alternative],
-) -> Result<&'a [Alternative], Failed>
-    ensures text { IfOk result (λ left. Goes (W.taken sink.old) (W.taken sink.new) (nodes_text mode false (nodes (map mirror_term terms.now)) ++ (barred_text mode (tree_of more.now) ++ pending mode tasks.old)) (barred_text mode (tree_of left.now) ++ pending mode tasks.new)) }
-    ensures size { IfOk result (λ left. weight tasks.new + 3 * all_alternatives_size left.now ≤ weight tasks.old + 3 * (1 + terms_size terms.now + all_alternatives_size more.now)) }
-    ensures shorter { IfOk result (λ left. length left.now ≤ length more.now) }
-{
-    let after_reference = false;
-    let rest = write_leaves(
-        sink,
-        mode,
-        Rest {
-            after_reference,
-            terms,
-        },
-    )?;
-    if rest.terms.is_empty() {
-        return Ok(more);
-    }
-    leave_alternatives(tasks, more)?;
-    open_first(sink, mode, tasks, rest)?;
-    Ok(&[])
-}
-
-/// Writes terms up to the first in which something nests, and leaves the rest for later.
-fn write_terms<'a, W: TextSink>(
-    sink: &mut W,
-    mode: Mode,
-    tasks: &mut List<Task<'a>>,
-    rest: Rest<'a>,
-) -> Result<(), Failed>
-    ensures text { OnOk result (Goes (W.taken sink.old) (W.taken sink.new) (rest_text mode rest.entry ++ pending mode tasks.old) (pending mode tasks.new)) }
-    ensures size { OnOk result (weight tasks.new ≤ weight tasks.old + 3 * terms_size rest.entry.terms.now) }
-{
-    let rest = write_leaves(sink, mode, rest)?;
-    open_first(sink, mode, tasks, rest)
-}
-
-/// Opens the first of the terms, and leaves the others for later.
-fn open_first<'a, W: TextSink>(
-    sink: &mut W,
-    mode: Mode,
-    tasks: &mut List<Task<'a>>,
-    rest: Rest<'a>,
-) -> Result<(), Failed>
-    ensures text { OnOk result (Goes (W.taken sink.old) (W.taken sink.new) (rest_text mode rest.entry ++ pending mode tasks.old) (pending mode tasks.new)) }
-    ensures size { OnOk result (weight tasks.new ≤ weight tasks.old + 3 * terms_size rest.entry.terms.now) }
-{
-    let Some((first, following)) = rest.terms.split_first() else {
-        return Ok(());
-    };
-    let after_reference = refers(first);
-    leave_terms(
-        tasks,
-        Rest {
-            after_reference,
-            terms: following,
-        },
-    )?;
-    open(sink, mode, tasks, rest.after_reference, first)
-}
-
-/// Writes a term in which nothing nests, or what another begins with. What is after that is left for later.
-#[tactic(auto, using(rx_ast::proofs::Equations::mirrors, rx_ast::proofs::Sizes::sizes))]
-fn open<'a, W: TextSink>(
-    sink: &mut W,
-    mode: Mode,
-    tasks: &mut List<Task<'a>>,
-    after_reference: bool,
-    mut term: &'a Term,
-) -> Result<(), Failed>
-    ensures text { OnOk result (Goes (W.taken sink.old) (W.taken sink.new) (node_text mode after_reference (mirror_term term.entry.now) ++ pending mode tasks.old) (pending mode tasks.new)) }
-    ensures size { OnOk result (weight tasks.new < weight tasks.old + 3 * term_size term.entry.now) }
-{
-    loop {
-        match term {
-            Term::Quantifier(it) => {
-                leave_suffix(tasks, it)?;
-                term = &it.body;
-            }
-            Term::LookAroundAssertion(it) => {
-                write_str(sink, look_text(it.kind))?;
-                return leave_group(tasks, &it.body);
-            }
-            Term::CapturingGroup(it) => {
-                write_capturing(sink, &it.name)?;
-                return leave_group(tasks, &it.body);
-            }
-            Term::IgnoreGroup(it) => {
-                write_ignoring(sink, &it.modifiers)?;
-                return leave_group(tasks, &it.body);
-            }
-            Term::CharacterClass(it) => return write_class(tasks.allocator(), sink, mode, it),
-            Term::BoundaryAssertion(_) => return write_leaf(sink, mode, after_reference, term),
-            Term::Character(_) => return write_leaf(sink, mode, after_reference, term),
-            Term::Dot(_) => return write_leaf(sink, mode, after_reference, term),
-            Term::CharacterClassEscape(_) => return write_leaf(sink, mode, after_reference, term),
-            Term::UnicodePropertyEscape(_) => return write_leaf(sink, mode, after_reference, term),
-            Term::IndexedReference(_) => return write_leaf(sink, mode, after_reference, term),
-            Term::NamedReference(_) => return write_leaf(sink, mode, after_reference, term),
+    #[inline(always)]
+    fn work(self, alloc: Global, sink: &mut W) -> Result<Next<Self>, OutOfMemory> {
+        match write_task(alloc, sink, self) {
+            Ok(next) => Ok(next),
+            Err(Failed) => Err(OutOfMemory),
         }
     }
+}
+
+/// Writes what ends a term, and a front of what is after the term.
+#[inline(always)]
+fn write_task<'a, W: TextSink>(
+    alloc: Global,
+    sink: &mut W,
+    task: Task<'a>,
+) -> Result<Next<Task<'a>>, Failed>
+    ensures text { IfOk result (λ next. Goes (writes W.taken) sink.old sink.new (task_text task.entry) (texts_of task_text next)) }
+    ensures lighter { IfOk result (λ next. sum_by task_weight (tasks_of next) < task_weight task.entry) }
+{
+    write_closer(sink, task.closes)?;
+    write_suffix(sink, task.suffix)?;
+    write_body(alloc, sink, task.body)
+}
+
+#[inline(always)]
+#[tactic(auto, using(crate::proofs::Pieces::in_pieces))]
+fn write_closer<W: TextSink>(sink: &mut W, closes: bool) -> Result<(), Failed>
+    ensures { Written W.taken W.fixed W.faults sink.old sink.new result (utf8 (closer_text closes)) }
+{
+    if closes { write_str(sink, ")") } else { Ok(()) }
+}
+
+#[inline(always)]
+#[tactic(auto, using(crate::proofs::Pieces::in_pieces))]
+fn write_suffix<W: TextSink>(sink: &mut W, suffix: Option<&Quantifier>) -> Result<(), Failed>
+    ensures { Written W.taken W.fixed W.faults sink.old sink.new result (utf8 (suffix_text suffix.entry)) }
+{
+    match suffix {
+        Some(it) => write_quantifier(sink, it.min, it.max, it.greedy),
+        None => Ok(()),
+    }
+}
+
+/// Writes what is left of a disjunction up to the first term in which something nests, and what that term begins with.
+#[inline(always)]
+fn write_body<'a, W: TextSink>(
+    alloc: Global,
+    sink: &mut W,
+    body: Body<'a>,
+) -> Result<Next<Task<'a>>, Failed>
+    ensures text { IfOk result (λ next. Goes (writes W.taken) sink.old sink.new (body_text body.entry) (texts_of task_text next)) }
+    ensures lighter { IfOk result (λ next. sum_by task_weight (tasks_of next) < body_weight body.entry) }
+{
+    let left = write_leading(sink, body)?;
+    let Some((first, terms)) = left.rest.terms.split_first() else {
+        return Ok(Next::Nothing);
+    };
+    let rest = Rest {
+        after_reference: refers(first),
+        terms,
+    };
+    let after = Body {
+        mode: left.mode,
+        rest,
+        more: left.more,
+    };
+    open(alloc, sink, left.rest.after_reference, first, after)
+}
+
+/// Writes terms and alternatives before the first term in which something nests, and answers what is left.
+#[inline(always)]
+fn write_leading<'a, W: TextSink>(sink: &mut W, body: Body<'a>) -> Result<Body<'a>, Failed>
+    ensures text { IfOk result (λ left. Goes (writes W.taken) sink.old sink.new (body_text body.entry) (body_text left)) }
+    ensures lighter { IfOk result (λ left. body_weight left ≤ body_weight body.entry) }
+    ensures ends { IfOk result (λ left. length left.rest.terms.now ≡ 0 → length left.more.now ≡ 0) }
+{
+    let mut left = body;
+    loop {
+        let rest = write_leaves(sink, left.mode, left.rest)?;
+        if !rest.terms.is_empty() || left.more.is_empty() {
+            return Ok(Body {
+                mode: left.mode,
+                rest,
+                more: left.more,
+            });
+        }
+        write_str(sink, "|")?;
+        left = whole_body(left.mode, left.more);
+    }
+}
+
+/// Writes a term in which nothing nests, or what another begins with. What ends it stands before what is after it.
+#[tactic(auto, using(rx_ast::proofs::Equations::mirrors, rx_ast::proofs::Sizes::sizes))]
+fn open<'a, W: TextSink>(
+    alloc: Global,
+    sink: &mut W,
+    after_reference: bool,
+    term: &'a Term,
+    after: Body<'a>,
+) -> Result<Next<Task<'a>>, Failed>
+    ensures text { IfOk result (λ next. Goes (writes W.taken) sink.old sink.new (node_text after.entry.mode after_reference (mirror_term term.now) ++ body_text after.entry) (texts_of task_text next)) }
+    ensures lighter { IfOk result (λ next. sum_by task_weight (tasks_of next) < 2 * term_size term.now + body_weight after.entry) }
+{
+    match term {
+        Term::Quantifier(it) => Ok(before_suffix(after_reference, it, after)),
+        Term::LookAroundAssertion(it) => {
+            write_str(sink, look_text(it.kind))?;
+            Ok(before_closer(&it.body, after))
+        }
+        Term::CapturingGroup(it) => {
+            write_capturing(sink, &it.name)?;
+            Ok(before_closer(&it.body, after))
+        }
+        Term::IgnoreGroup(it) => {
+            write_ignoring(sink, &it.modifiers)?;
+            Ok(before_closer(&it.body, after))
+        }
+        Term::CharacterClass(it) => {
+            write_class(alloc, sink, after.mode, it)?;
+            Ok(Next::One(task_of(after)))
+        }
+        Term::BoundaryAssertion(_) => write_alone(sink, after_reference, term, after),
+        Term::Character(_) => write_alone(sink, after_reference, term, after),
+        Term::Dot(_) => write_alone(sink, after_reference, term, after),
+        Term::CharacterClassEscape(_) => write_alone(sink, after_reference, term, after),
+        Term::UnicodePropertyEscape(_) => write_alone(sink, after_reference, term, after),
+        Term::IndexedReference(_) => write_alone(sink, after_reference, term, after),
+        Term::NamedReference(_) => write_alone(sink, after_reference, term, after),
+    }
+}
+
+/// Writes a term in which nothing nests.
+#[tactic(auto, using(rx_ast::proofs::Sizes::sizes))]
+fn write_alone<'a, W: TextSink>(
+    sink: &mut W,
+    after_reference: bool,
+    term: &'a Term,
+    after: Body<'a>,
+) -> Result<Next<Task<'a>>, Failed>
+    requires { stands_alone (mirror_term term.now) ≡ true }
+    ensures text { IfOk result (λ next. Goes (writes W.taken) sink.old sink.new (node_text after.entry.mode after_reference (mirror_term term.now) ++ body_text after.entry) (texts_of task_text next)) }
+    ensures lighter { IfOk result (λ next. sum_by task_weight (tasks_of next) < 2 * term_size term.now + body_weight after.entry) }
+{
+    write_leaf(sink, after.mode, after_reference, term)?;
+    Ok(Next::One(task_of(after)))
+}
+
+/// What a quantifier stands after, and then the quantifier with what is after it.
+#[inline(always)]
+fn before_suffix<'a>(after_reference: bool, it: &'a Quantifier, after: Body<'a>) -> Next<Task<'a>>
+    ensures text { texts_of task_text result ≡ node_text after.entry.mode after_reference (mirror_term it.now.body) ++ (quantifier_text it.now.min it.now.max it.now.greedy ++ body_text after.entry) }
+    ensures lighter { sum_by task_weight (tasks_of result) ≡ 1 + 2 * term_size it.now.body + body_weight after.entry }
+{
+    let inner = lone_body(after.mode, after_reference, &it.body);
+    let end = Task {
+        closes: false,
+        suffix: Some(it),
+        body: after,
+    };
+    Next::Two(task_of(inner), end)
+}
+
+/// What a group holds, and then its end with what is after it.
+#[inline(always)]
+#[tactic(auto, using(rx_ast::proofs::Sizes::sizes))]
+fn before_closer<'a>(body: &'a Disjunction, after: Body<'a>) -> Next<Task<'a>>
+    ensures text { texts_of task_text result ≡ (alternatives_text after.entry.mode (mirror_disjunction body.now).1 ++ codes ")") ++ body_text after.entry }
+    ensures lighter { sum_by task_weight (tasks_of result) ≤ 1 + 2 * disjunction_size body.now + body_weight after.entry }
+{
+    let inner = whole_body(after.mode, body.body.as_slice());
+    let end = Task {
+        closes: true,
+        suffix: None,
+        body: after,
+    };
+    Next::Two(task_of(inner), end)
 }

@@ -1,4 +1,4 @@
-ghost use Rattle.std.specs.Prelude.{◌≡◌, ◌+◌, ◌<◌, ◌^◌, max, length};
+ghost use Rattle.std.specs.Prelude.{◌+◌, ◌<◌, ◌^◌, max, length};
 ghost use Rattle.rx_model.specs.Reading.Headline.{IsAnswered};
 ghost use Rattle.rx_parser.specs.Inputs.{flags_length, input_of, stand_in_length};
 ghost use Rattle.rx_tools.specs.Spelled.{read_of, spelled_of};

@@ -1,88 +1,83 @@
-ghost use Rattle.std.specs.Prelude.{◌≡◌, ◌++◌, ◌+◌, ◌*◌, ◌≤◌, OnOk, codes};
-ghost use Rattle.rx_ast.specs.Size.{all_alternatives_size, disjunction_size, terms_size};
-ghost use Rattle.rx_ast.specs.Tree.{mirror_disjunction};
-ghost use Rattle.rx_model.specs.declared.mode.Mode.{Mode};
-ghost use Rattle.rx_ast.specs.Texts.{quantifier_text};
-ghost use Rattle.rx_model.specs.Spelling.Spelling.{alternatives_text, barred_text};
-ghost use Rattle.rx_tools.specs.Leaves.{rest_text};
-ghost use Rattle.rx_tools.specs.Tasks.{pending, task_size, task_text, tree_of, weight};
+ghost use Rattle.std.specs.Prelude.{◌≡◌, ◌+◌, ◌*◌, ◌-◌, ◌≤◌, length};
+ghost use Rattle.rx_ast.specs.Size.{all_alternatives_size, term_size};
+ghost use Rattle.rx_ast.specs.Tree.{mirror_term};
+ghost use Rattle.rx_display.specs.Tasks.{tree_of};
+ghost use Rattle.rx_model.specs.Spelling.Spelling.{alternatives_text, node_text};
+ghost use Rattle.rx_tools.specs.Tasks.{body_text, body_weight, task_text, task_weight};
 
 use crate::leaf::Rest;
-use rx_ast::{Alternative, Disjunction, Quantifier};
-use rx_base::{Failed, List, OutOfMemory};
+use rx_ast::{Alternative, Quantifier, Term};
+use rx_model::Mode;
+use std::slice;
 
-/// What is still to be written of a pattern.
+/// What is still to be written of a pattern: what ends a term, and what is after the term.
 #[derive(Clone, Copy)]
-pub enum Task<'a> {
-    /// A disjunction.
-    Disjunction(&'a [Alternative]),
+pub struct Task<'a> {
+    /// Whether the term is a group that is to be closed.
+    pub closes: bool,
 
-    /// The rest of a disjunction, each alternative after a bar.
-    Alternatives(&'a [Alternative]),
-
-    /// The rest of an alternative.
-    Terms(Rest<'a>),
-
-    /// A quantifier after its body.
-    Suffix {
-        min: u64,
-        max: Option<u64>,
-        greedy: bool,
-    },
-    GroupEnd,
+    /// The quantifier of the term.
+    pub suffix: Option<&'a Quantifier>,
+    pub body: Body<'a>,
 }
 
-/// Leaves a task for later. Where there is no memory for it this fails as a write does.
-fn leave<'a>(tasks: &mut List<Task<'a>>, task: Task<'a>) -> Result<(), Failed>
-    ensures text { OnOk result ((mode : Mode) → pending mode tasks.new ≡ task_text mode task.entry ++ pending mode tasks.old) }
-    ensures size { OnOk result (weight tasks.new ≡ weight tasks.old + (1 + 3 * task_size task.entry)) }
+/// What is left of a disjunction: terms, and alternatives after them, each after a bar.
+#[derive(Clone, Copy)]
+pub struct Body<'a> {
+    pub mode: Mode,
+    pub rest: Rest<'a>,
+    pub more: &'a [Alternative],
+}
+
+/// The task to write what is left of a disjunction.
+#[inline(always)]
+pub fn task_of<'a>(body: Body<'a>) -> Task<'a>
+    ensures text { task_text result ≡ body_text body.entry }
+    ensures weight { task_weight result ≡ body_weight body.entry }
 {
-    match tasks.push(task) {
-        Ok(()) => Ok(()),
-        Err(OutOfMemory) => Err(Failed),
+    Task {
+        closes: false,
+        suffix: None,
+        body,
     }
 }
 
-/// Leaves the rest of a disjunction for later, if there is any.
-pub fn leave_alternatives<'a>(
-    tasks: &mut List<Task<'a>>,
-    alternatives: &'a [Alternative],
-) -> Result<(), Failed>
-    ensures text { OnOk result ((mode : Mode) → pending mode tasks.new ≡ barred_text mode (tree_of alternatives.now) ++ pending mode tasks.old) }
-    ensures size { OnOk result (weight tasks.new ≤ weight tasks.old + (1 + 3 * all_alternatives_size alternatives.now)) }
+/// A whole disjunction.
+#[inline(always)]
+pub fn whole_body<'a>(mode: Mode, alternatives: &'a [Alternative]) -> Body<'a>
+    ensures text { body_text result ≡ alternatives_text mode (tree_of alternatives.now) }
+    ensures weight { body_weight result ≤ 1 + 2 * all_alternatives_size alternatives.now }
+    ensures shorter { length result.more.now ≤ length alternatives.now - 1 }
 {
-    if alternatives.is_empty() {
-        return Ok(());
-    }
-    leave(tasks, Task::Alternatives(alternatives))
+    let after_reference = false;
+    let Some((first, more)) = alternatives.split_first() else {
+        let terms: &[Term] = &[];
+        let rest = Rest {
+            after_reference,
+            terms,
+        };
+        let more: &[Alternative] = &[];
+        return Body { mode, rest, more };
+    };
+    let terms = first.body.as_slice();
+    let rest = Rest {
+        after_reference,
+        terms,
+    };
+    Body { mode, rest, more }
 }
 
-/// Leaves the rest of an alternative for later, if there is any.
-pub fn leave_terms<'a>(tasks: &mut List<Task<'a>>, rest: Rest<'a>) -> Result<(), Failed>
-    ensures text { OnOk result ((mode : Mode) → pending mode tasks.new ≡ rest_text mode rest.entry ++ pending mode tasks.old) }
-    ensures size { OnOk result (weight tasks.new ≤ weight tasks.old + (1 + 3 * terms_size rest.entry.terms.now)) }
+/// A term alone.
+#[inline(always)]
+pub fn lone_body<'a>(mode: Mode, after_reference: bool, term: &'a Term) -> Body<'a>
+    ensures text { body_text result ≡ node_text mode after_reference (mirror_term term.now) }
+    ensures weight { body_weight result ≡ 1 + 2 * term_size term.now }
 {
-    if rest.terms.is_empty() {
-        return Ok(());
-    }
-    leave(tasks, Task::Terms(rest))
-}
-
-/// Leaves what is after the opener of a group for later.
-#[tactic(auto, using(rx_ast::proofs::Sizes::sizes))]
-pub fn leave_group<'a>(tasks: &mut List<Task<'a>>, body: &'a Disjunction) -> Result<(), Failed>
-    ensures text { OnOk result ((mode : Mode) → pending mode tasks.new ≡ (alternatives_text mode (mirror_disjunction body.now).1 ++ codes ")") ++ pending mode tasks.old) }
-    ensures size { OnOk result (weight tasks.new ≡ weight tasks.old + (2 + 3 * disjunction_size body.now)) }
-{
-    leave(tasks, Task::GroupEnd)?;
-    leave(tasks, Task::Disjunction(body.body.as_slice()))
-}
-
-/// Leaves a quantifier for later, which stands after its body.
-pub fn leave_suffix<'a>(tasks: &mut List<Task<'a>>, it: &Quantifier) -> Result<(), Failed>
-    ensures text { OnOk result ((mode : Mode) → pending mode tasks.new ≡ quantifier_text it.now.min it.now.max it.now.greedy ++ pending mode tasks.old) }
-    ensures size { OnOk result (weight tasks.new ≡ weight tasks.old + 1) }
-{
-    let (min, max, greedy) = (it.min, it.max, it.greedy);
-    leave(tasks, Task::Suffix { min, max, greedy })
+    let terms = slice::from_ref(term);
+    let rest = Rest {
+        after_reference,
+        terms,
+    };
+    let more: &[Alternative] = &[];
+    Body { mode, rest, more }
 }

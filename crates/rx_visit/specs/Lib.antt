@@ -4,4 +4,5 @@ pub mod Flags
 pub mod Names
 pub mod Patterns
 pub mod Siblings
+pub mod Steps
 pub mod Visits

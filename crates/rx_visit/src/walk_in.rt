@@ -6,7 +6,8 @@ ghost use Rattle.rx_visit.specs.Visits.{Visited};
 use crate::siblings::{Siblings, children_of};
 use crate::visit::Visit;
 use rx_ast::{Pattern, RegExpAstKind};
-use rx_base::{List, OutOfMemory};
+use rx_base::OutOfMemory;
+use rx_tasks::{Next, Work, work_through};
 use std::alloc::Global;
 
 /// What is still to be done of a walk.
@@ -19,6 +20,34 @@ enum Step<'a> {
     Leave(RegExpAstKind<'a>),
 }
 
+impl<'a, V: Visit> Work<V> for Step<'a> {
+    ghost use Rattle.rx_visit.specs.Steps.{does_step, step_weight};
+
+    ghost does = { λ step v w. does_step V.entered V.left step v w };
+
+    ghost weight = { step_weight };
+
+    fn work(self, _alloc: Global, visitor: &mut V) -> Result<Next<Self>, OutOfMemory> {
+        match self {
+            Step::Leave(node) => {
+                visitor.leave_node(node);
+                Ok(Next::Nothing)
+            }
+            Step::Visit(siblings) => {
+                let Some((node, following)) = siblings.split_first() else {
+                    return Ok(Next::Nothing);
+                };
+                if visitor.enter_node(node) {
+                    let within = Step::Visit(children_of(node));
+                    return Ok(Next::Three(within, Step::Leave(node), Step::Visit(following)));
+                }
+                visitor.leave_node(node);
+                Ok(Next::One(Step::Visit(following)))
+            }
+        }
+    }
+}
+
 /// Visits a whole pattern, as `walk_pattern` does. What is still to be done waits on the heap: it takes memory, and no deeper stack
 /// for a deeper tree. After OutOfMemory the visitor has seen a front of the walk: some nodes were entered and not left.
 pub fn walk_pattern_in<V: Visit>(
@@ -28,24 +57,6 @@ pub fn walk_pattern_in<V: Visit>(
 ) -> Result<(), OutOfMemory>
     ensures { OnOk result (Visited V.entered V.left visitor.old (pattern_kind (mirror pattern.now)) visitor.new) }
 {
-    let mut steps = List::new(alloc);
-    steps.push(Step::Visit(Siblings::Node(RegExpAstKind::Pattern(pattern))))?;
-    while let Some(step) = steps.pop() {
-        match step {
-            Step::Leave(node) => visitor.leave_node(node),
-            Step::Visit(siblings) => {
-                let Some((node, following)) = siblings.split_first() else {
-                    continue;
-                };
-                steps.push(Step::Visit(following))?;
-                if !visitor.enter_node(node) {
-                    visitor.leave_node(node);
-                    continue;
-                }
-                steps.push(Step::Leave(node))?;
-                steps.push(Step::Visit(children_of(node)))?;
-            }
-        }
-    }
-    Ok(())
+    let whole = Siblings::Node(RegExpAstKind::Pattern(pattern));
+    work_through(alloc, visitor, Step::Visit(whole))
 }

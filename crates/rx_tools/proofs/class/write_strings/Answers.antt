@@ -1,11 +1,11 @@
 use Rattle.rx_base.proofs.Writings.{written_none}
 use Rattle.rx_model.specs.Spelling.ClassText.{characters_text}
-use Rattle.rx_tools.proofs.Lists.{none_long}
+use Rattle.std.proofs.lemmas.List.{nil_from_length}
 use Rattle.rx_tools.proofs.Pieces.{utf8-nil, text_then, text_stop, failed_from}
 use Rattle.rx_tools.proofs.class.write_strings.Goals as goal
 
 pub returns-in-None : goal.returns-in-None
-returns-in-None g c = rw (none_long c.args.strings.now c.in-None.ensures.cases, utf8-nil) (written_none _ _ _ _ _)
+returns-in-None g c = rw (nil_from_length c.args.strings.now c.in-None.ensures.cases, utf8-nil) (written_none _ _ _ _ _)
 
 pub returns-in_err-write_characters-in-Some : goal.returns-in_err-write_characters-in-Some
 returns-in_err-write_characters-in-Some g c =

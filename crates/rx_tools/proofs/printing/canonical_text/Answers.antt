@@ -1,6 +1,6 @@
 use Rattle.std.proofs.Common.{◌∙◌}
 use Rattle.std.proofs.lemmas.Str.{chars-nil}
-use Rattle.rx_tools.proofs.Goes.{text_is}
+use Rattle.rx_tools.proofs.Writes.{text_is}
 use Rattle.rx_tools.proofs.printing.canonical_text.Goals as goal
 
 pub returns : goal.returns

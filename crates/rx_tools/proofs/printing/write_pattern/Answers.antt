@@ -1,5 +1,5 @@
 use Rattle.rx_tools.proofs.Tasks.{spelling_is}
 use Rattle.rx_tools.proofs.printing.write_pattern.Goals as goal
 
-pub returns-in-Ok : goal.returns-in-Ok
-returns-in-Ok g c = rw (spelling_is c.args.pattern.now c.args.mode _ c.as_slice.ensures) c.in-Ok.ensures
+pub returns : goal.returns
+returns g c = rw (spelling_is c.args.pattern.now c.args.mode _ c.as_slice.ensures, ← c.whole_body-body.ensures.text, ← c.task_of.ensures.text) c.work_through.ensures
