@@ -93,8 +93,9 @@ abbrev pub no_kind : CharacterKind → CharacterKind
 no_kind kind = Symbol
 
 -- The tree without its spans: two patterns are equal but for spans where these are equal.
-abbrev pub unspanned : Pattern → Alternatives
-unspanned p = forget_alternatives same_kind (mirror_disjunction p.body).1
+-- Why: docs/DECISIONS.md, 3.
+abbrev pub without_spans : Pattern → Alternatives
+without_spans p = forget_alternatives same_kind (mirror_disjunction p.body).1
 
 -- The bare tree: without its spans and without the kinds of its characters.
 abbrev pub bare : Pattern → Alternatives

@@ -43,10 +43,10 @@ pub data Kind : Type 0 where
   named_reference : NamedReference → Kind
 
 -- a group or a look-around: its span, what it begins with, its disjunction
-abbrev pub opened : Span → Opener → SpannedAlternatives → Kind
-opened s (tree.capturing name) d = capturing_group s name d
-opened s (tree.ignoring modifiers) d = ignore_group s modifiers d
-opened s (tree.looking kind) d = look_around s kind d
+abbrev pub group_as_kind : Span → Opener → SpannedAlternatives → Kind
+group_as_kind s (tree.capturing name) d = capturing_group s name d
+group_as_kind s (tree.ignoring modifiers) d = ignore_group s modifiers d
+group_as_kind s (tree.looking kind) d = look_around s kind d
 
 -- the node that a term is
 abbrev pub in_term : Node → Kind
@@ -59,7 +59,7 @@ in_term (leaf (tree.class c)) = class c
 in_term (leaf (tree.indexed r)) = indexed_reference r
 in_term (leaf (tree.named r)) = named_reference r
 in_term (quantified s min max greedy n) = quantifier s min max greedy n
-in_term (group s o d more) = opened s o (d, more)
+in_term (group s o d more) = group_as_kind s o (d, more)
 
 -- the node that the contents of a class are
 abbrev pub in_contents : Member → Kind
@@ -139,7 +139,7 @@ abbrev mutual
   node_order (leaf (tree.indexed r)) = indexed_reference r ∷ []
   node_order (leaf (tree.named r)) = named_reference r ∷ []
   node_order (quantified s min max greedy n) = quantifier s min max greedy n ∷ term n ∷ node_order n
-  node_order (group s o d more) = opened s o (d, more) ∷ disjunction (d, more) ∷ alternatives_order more
+  node_order (group s o d more) = group_as_kind s o (d, more) ∷ disjunction (d, more) ∷ alternatives_order more
 
   pub nodes_order : Nodes → List Kind
   nodes_order no_node = []

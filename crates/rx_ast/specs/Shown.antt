@@ -44,8 +44,8 @@ unfoldable pub octal_shown : ℕ → ℕ → List ℕ
 octal_shown k v = codes "\\" ++ at_least k (octal v)
 
 -- a backslash and the character
-abbrev pub escaped : ℕ → List ℕ
-escaped v = ascii.backslash ∷ v ∷ []
+abbrev pub with_backslash : ℕ → List ℕ
+with_backslash v = ascii.backslash ∷ v ∷ []
 
 unfoldable pub single_escape_shown : ℕ → List ℕ
 single_escape_shown v =
@@ -55,7 +55,7 @@ single_escape_shown v =
     else (if v == ascii.vertical_tab then codes "\\v"
     else (if v == ascii.form_feed then codes "\\f"
     else (if v == ascii.backspace then codes "\\b"
-    else escaped v)))))
+    else with_backslash v)))))
 
 -- `\c` and the capital letter of the number 1 to 26
 unfoldable pub control_shown : ℕ → List ℕ
@@ -68,7 +68,7 @@ abbrev pub kind_shown : CharacterKind → ℕ → List ℕ
 kind_shown kind.Symbol v = v ∷ []
 kind_shown kind.UnicodeEscape v = unicode_shown v
 kind_shown kind.HexadecimalEscape v = hexadecimal_shown v
-kind_shown kind.Identifier v = escaped v
+kind_shown kind.Identifier v = with_backslash v
 kind_shown kind.SingleEscape v = single_escape_shown v
 kind_shown kind.ControlLetter v = control_shown v
 kind_shown kind.Null v = codes "\\0"

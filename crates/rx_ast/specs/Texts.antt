@@ -1,4 +1,5 @@
 -- The texts of those parts of a pattern that every printer writes alike. Characters, which printers write differently, stand where the printers are defined.
+-- Why: docs/DECISIONS.md, 53.
 use Rattle.std.specs.Prelude.{ℕ, ◌%◌, Bool, true, false, ◌==◌, ◌&&◌, List, [], ◌∷◌, ◌++◌, Option, Some, None, codes, if◌then◌else◌}
 use Rattle.std.specs.Fmt.{decimal}
 use Rattle.rx_base.specs.Ascii as ascii

@@ -2,4 +2,4 @@ pub mod Messages
 pub mod Moves
 pub mod Pairwise
 pub mod Texts
-pub mod Writings
+pub mod Writing

@@ -1,4 +1,5 @@
 -- Code points by name, for definitions that look at single characters; rows of them are texts (`codes "(?<"`).
+-- Why: docs/DECISIONS.md, 96.
 use Rattle.std.specs.Prelude.{ℕ}
 
 abbrev pub backspace : ℕ

@@ -4,6 +4,7 @@ use Rattle.std.specs.List.{AllZip}
 use Rattle.std.proofs.Common.{sym, ◌∙◌}
 use Rattle.std.proofs.lemmas.Bool.{true≢false}
 
+-- Why: docs/DECISIONS.md, 50.
 pub record IsEquivalence {A : Type 0} (R : A → A → Type 0) : Type 0 where
   pub reflexive : (a : A) → R a a
   pub symmetric : (a b : A) → R a b → R b a

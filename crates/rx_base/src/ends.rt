@@ -36,6 +36,7 @@ pub trait Source {
 pub trait Sink {
     ghost taken: { Self → Option (List ℕ) };
 
+    // Why: docs/DECISIONS.md, 5.
     ghost fixed: { Self → List ℕ } = { λ _. [] };
 
     ghost faults: { Self → ℕ };

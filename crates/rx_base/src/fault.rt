@@ -1,6 +1,7 @@
 use crate::{Diagnostic, OutOfMemory};
 
 /// Why a pattern was not read.
+// Why: docs/DECISIONS.md, 15.
 #[derive(Debug, Drop)]
 pub enum Fault {
     /// There was not enough memory.

@@ -82,6 +82,7 @@ impl<T> List<T> {
     }
 
     /// Adds an item at the end, or hands it back and leaves the list as it was.
+    // Why: docs/DECISIONS.md, 8.
     pub fn try_push(&mut self, item: T) -> Result<(), T>
         ensures ok { OnOk result (self.new ≡ self.old ++ item ∷ []) }
         ensures err { OnErr result (self.new ≡ self.old) }

@@ -4,6 +4,7 @@ use std::marker::Model;
 use std::sync::ledger::{Blank, Book, Ledger, Share};
 
 /// What counts the steps of a reader: each unit that it moves over, and each turn of a loop that looks ahead.
+// Why: docs/DECISIONS.md, 59.
 pub trait Counter {
     ghost use Rattle.std.specs.Prelude.{◌≡◌, ◌+◌, ℕ};
 
@@ -23,6 +24,7 @@ pub trait Counter {
 }
 
 /// A counter that contracts alone see. It takes no bytes, and counting does nothing when the program runs.
+// Why: docs/DECISIONS.md, 60.
 #[derive(Drop)]
 pub struct Steps<L: Ledger> {
     book: Book<L>,

@@ -38,7 +38,7 @@ impl<L: Ledger> Tally<L> {
     }
 
     /// How many steps were counted, or the greatest `u64` where there were more.
-    pub fn told(&self) -> u64
+    pub fn total(&self) -> u64
         ensures { result ≡ min self.now (2 ^ 64 - 1) }
     {
         self.told

@@ -7,6 +7,7 @@ use crate::{Failed, List, OutOfMemory, Sink, Text, write_all};
 /// Where text goes: a sink, or a list or a text in memory. The latter two fail if there is not enough memory.
 ///
 /// The ghost members are those of a sink that takes the text in UTF-8.
+// Why: docs/DECISIONS.md, 39.
 pub trait TextSink {
     ghost taken: { Self → Option (Sequence ℕ) };
 

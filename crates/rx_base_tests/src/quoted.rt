@@ -48,7 +48,7 @@ impl Decoder {
         }
     }
 
-    fn decoded(&self, alloc: Global, text: &str) -> Result<String, Fail> {
+    fn decode(&self, alloc: Global, text: &str) -> Result<String, Fail> {
         let text = short(text)?;
         let options = self.options();
         if self.template {
@@ -127,7 +127,7 @@ struct Whole(Decoder);
 impl Call for Whole {
     fn answer(&self, alloc: Global, asked: &str) -> Result<String, Fail> {
         let text = text_of(alloc, asked)?.ok_or("no such character")?;
-        self.0.decoded(alloc, &text)
+        self.0.decode(alloc, &text)
     }
 }
 
@@ -143,7 +143,7 @@ impl Call for Between {
         let inner = text_of(alloc, asked)?.ok_or("no such character")?;
         let quote = self.quote;
         let text = format!(in alloc; "{quote}{inner}{quote}")?;
-        self.decoder.decoded(alloc, &text)
+        self.decoder.decode(alloc, &text)
     }
 }
 

@@ -16,7 +16,7 @@ fn added<L: Ledger>(blank: Blank) -> u64
     let mut tally = Tally::<L>::new(blank);
     tally.add(3);
     tally.tick();
-    tally.told()
+    tally.total()
 }
 
 #[test]
@@ -46,7 +46,7 @@ fn moved_over<L: Ledger>(alloc: Global, blank: Blank) -> Result<u64, Fail>
     if !reader.eat4_counted('j', 'k', 'l', 'm', &mut tally) {
         return Err(Fail::new("jklm stands next"));
     }
-    Ok(tally.told())
+    Ok(tally.total())
 }
 
 #[test]

@@ -8,7 +8,7 @@ use rx_units::{
 use std::alloc::Global;
 use std::test::Fail;
 
-fn shown(unit: &CodePoint) -> (u32, u32, u32, EscapeKind) {
+fn parts_of(unit: &CodePoint) -> (u32, u32, u32, EscapeKind) {
     (unit.span.start, unit.span.end, unit.value, unit.escape_kind)
 }
 
@@ -32,7 +32,7 @@ fn units_of_literals(rt: HostRuntime) -> Result<(), Fail> {
         assert_eq!(rt; units.len(), wanted.len());
         for (unit, wanted) in units.as_slice().iter().zip(wanted) {
             let (start, end, value) = *wanted;
-            assert_eq!(rt; shown(unit), (start, end, value, EscapeKind::None));
+            assert_eq!(rt; parts_of(unit), (start, end, value, EscapeKind::None));
         }
     }
     Ok(())
@@ -46,8 +46,8 @@ fn a_pair_apart(rt: HostRuntime) -> Result<(), Fail> {
         .ok_or("memory")?;
     let units = body.as_slice();
     assert_eq!(rt; units.len(), 2);
-    assert_eq!(rt; shown(&units[0]), (10, 14, 0xD83D, EscapeKind::Unicode));
-    assert_eq!(rt; shown(&units[1]), (10, 14, 0xDE00, EscapeKind::Unicode));
+    assert_eq!(rt; parts_of(&units[0]), (10, 14, 0xD83D, EscapeKind::Unicode));
+    assert_eq!(rt; parts_of(&units[1]), (10, 14, 0xDE00, EscapeKind::Unicode));
     Ok(())
 }
 

@@ -1,5 +1,5 @@
 use crate::outcome::Outcome;
-use crate::patterns::Reading;
+use crate::patterns::TreeReader;
 use crate::row::Row;
 use crate::{changes, decoders, patterns};
 use rx_tools::Form;
@@ -9,12 +9,12 @@ use std::test::Fail;
 /// What the call of a row comes to.
 pub fn outcome(rt: &impl Print, alloc: Global, row: &Row<'_>) -> Result<Outcome, Fail> {
     match row.call {
-        "canonical(Literal)" => patterns::spelled(rt, alloc, Form::Literal, row),
-        "canonical(Constructor)" => patterns::spelled(rt, alloc, Form::Constructor, row),
-        "read_pattern(Literal)" => patterns::read(rt, alloc, Reading::Literal, row),
-        "read_pattern(Constructor)" => patterns::read(rt, alloc, Reading::Constructor, row),
-        "LiteralParser" => patterns::read(rt, alloc, Reading::LiteralParser, row),
-        "ConstructorParser" => patterns::read(rt, alloc, Reading::ConstructorParser, row),
+        "canonical(Literal)" => patterns::spell(rt, alloc, Form::Literal, row),
+        "canonical(Constructor)" => patterns::spell(rt, alloc, Form::Constructor, row),
+        "read_pattern(Literal)" => patterns::read(rt, alloc, TreeReader::Literal, row),
+        "read_pattern(Constructor)" => patterns::read(rt, alloc, TreeReader::Constructor, row),
+        "LiteralParser" => patterns::read(rt, alloc, TreeReader::LiteralParser, row),
+        "ConstructorParser" => patterns::read(rt, alloc, TreeReader::ConstructorParser, row),
         "PatternParser" => patterns::read_units(rt, alloc, row),
         "canonical_text" => patterns::spelling(rt, alloc, row),
         "clone" => patterns::copy(rt, alloc, row),

@@ -10,7 +10,7 @@ use std::alloc::Global;
 use std::test::Fail;
 
 /// What a call came to that changes a value, which was shown so before it, and is shown so after it.
-fn changed(
+fn change_outcome(
     alloc: Global,
     answer: Result<(), OutOfMemory>,
     before: &str,
@@ -30,7 +30,7 @@ pub fn push(rt: &impl Print, alloc: Global, row: &Row<'_>) -> Result<Outcome, Fa
     begin(rt);
     let answer = text.push(character);
     end(rt);
-    changed(alloc, answer, row.given, text.as_str())
+    change_outcome(alloc, answer, row.given, text.as_str())
 }
 
 /// The text is added to what is given.
@@ -39,7 +39,7 @@ pub fn push_str(rt: &impl Print, alloc: Global, row: &Row<'_>) -> Result<Outcome
     begin(rt);
     let answer = text.push_str(row.text);
     end(rt);
-    changed(alloc, answer, row.given, text.as_str())
+    change_outcome(alloc, answer, row.given, text.as_str())
 }
 
 /// The first byte of the text is added to the bytes of what is given.
@@ -51,7 +51,7 @@ pub fn push_byte(rt: &impl Print, alloc: Global, row: &Row<'_>) -> Result<Outcom
     let answer = list.push(byte);
     end(rt);
     let after = str::from_utf8(list.as_slice()).ok().ok_or("no text")?;
-    changed(alloc, answer, row.given, after)
+    change_outcome(alloc, answer, row.given, after)
 }
 
 /// The first character of the text is added, 10 bytes on and in two units where it is past FFFF, to the units of what is given.
@@ -64,7 +64,7 @@ pub fn push_code_point(rt: &impl Print, alloc: Global, row: &Row<'_>) -> Result<
     let answer = handle_code_point(&mut body, code_point, 10, false);
     end(rt);
     let after = units(alloc, body.as_slice())?;
-    changed(alloc, answer, &before, &after)
+    change_outcome(alloc, answer, &before, &after)
 }
 
 /// The state of the text that is given becomes that of the text, each read under `u`.
@@ -79,8 +79,8 @@ pub fn count_groups(rt: &impl Print, alloc: Global, row: &Row<'_>) -> Result<Out
     end(rt);
     let after = groups(alloc, &state)?;
     match answer {
-        Ok(()) => changed(alloc, Ok(()), &before, &after),
-        Err(StateFault::OutOfMemory) => changed(alloc, Err(OutOfMemory), &before, &after),
+        Ok(()) => change_outcome(alloc, Ok(()), &before, &after),
+        Err(StateFault::OutOfMemory) => change_outcome(alloc, Err(OutOfMemory), &before, &after),
         Err(fault) => Ok(Outcome::Answer(format!(in alloc; "{fault:?} and {after}")?)),
     }
 }

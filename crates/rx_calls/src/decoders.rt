@@ -27,7 +27,7 @@ fn options(given: &str) -> Options
 }
 
 /// The span of a decoded text, and its units.
-fn decoded(alloc: Global, span: Span, body: &List<CodePoint>) -> Result<Outcome, Fail> {
+fn decoding_outcome(alloc: Global, span: Span, body: &List<CodePoint>) -> Result<Outcome, Fail> {
     let units = units(alloc, body.as_slice())?;
     let Span { start, end } = span;
     Ok(Outcome::Answer(format!(in alloc; "{start}..{end}: {units}")?))
@@ -42,7 +42,7 @@ pub fn string(rt: &impl Print, alloc: Global, row: &Row<'_>) -> Result<Outcome, 
     };
     end(rt);
     match answer {
-        Ok(it) => decoded(alloc, it.span, &it.body),
+        Ok(it) => decoding_outcome(alloc, it.span, &it.body),
         Err(StringFault::OutOfMemory) => Ok(Outcome::OutOfMemory),
         Err(fault) => Ok(Outcome::Answer(format!(in alloc; "{fault:?}")?)),
     }
@@ -57,7 +57,7 @@ pub fn template(rt: &impl Print, alloc: Global, row: &Row<'_>) -> Result<Outcome
     };
     end(rt);
     match answer {
-        Ok(it) => decoded(alloc, it.span, &it.body),
+        Ok(it) => decoding_outcome(alloc, it.span, &it.body),
         Err(TemplateFault::OutOfMemory) => Ok(Outcome::OutOfMemory),
         Err(fault) => Ok(Outcome::Answer(format!(in alloc; "{fault:?}")?)),
     }

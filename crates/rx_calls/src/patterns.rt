@@ -15,26 +15,26 @@ use std::test::Fail;
 
 /// A call that reads a pattern to its tree: `read_pattern` in a form, or a parser.
 #[derive(Clone, Copy)]
-pub enum Reading {
+pub enum TreeReader {
     Literal,
     Constructor,
     LiteralParser,
     ConstructorParser,
 }
 
-impl Reading {
+impl TreeReader {
     fn tree(self, alloc: Global, text: &str, flags: Option<&str>) -> Result<Pattern, Fault>
         requires text { length text.now ≤ 1000 }
         requires flags { IfSome flags (λ it. length it.now ≤ 1000) }
     {
         let options = Options::default();
         match self {
-            Reading::Literal => Ok(read_pattern(alloc, Form::Literal, text, flags, options)?.0),
-            Reading::Constructor => {
+            TreeReader::Literal => Ok(read_pattern(alloc, Form::Literal, text, flags, options)?.0),
+            TreeReader::Constructor => {
                 Ok(read_pattern(alloc, Form::Constructor, text, flags, options)?.0)
             }
-            Reading::LiteralParser => LiteralParser::new(alloc, text, flags, options).parse(),
-            Reading::ConstructorParser => {
+            TreeReader::LiteralParser => LiteralParser::new(alloc, text, flags, options).parse(),
+            TreeReader::ConstructorParser => {
                 ConstructorParser::new(alloc, text, flags, options).parse()
             }
         }
@@ -57,7 +57,7 @@ fn answered(alloc: Global, answer: Result<Pattern, Fault>) -> Result<Outcome, Fa
 }
 
 /// A pattern is read and spelled.
-pub fn spelled(rt: &impl Print, alloc: Global, form: Form, row: &Row<'_>) -> Result<Outcome, Fail> {
+pub fn spell(rt: &impl Print, alloc: Global, form: Form, row: &Row<'_>) -> Result<Outcome, Fail> {
     let flags = flags(short(row.given)?);
     let text = short(row.text)?;
     begin(rt);
@@ -77,7 +77,7 @@ pub fn spelled(rt: &impl Print, alloc: Global, form: Form, row: &Row<'_>) -> Res
 pub fn read(
     rt: &impl Print,
     alloc: Global,
-    reading: Reading,
+    reading: TreeReader,
     row: &Row<'_>,
 ) -> Result<Outcome, Fail> {
     let flags = flags(short(row.given)?);

@@ -6,7 +6,7 @@ use Rattle.rx_model.specs.Inputs.Modes.{mode_by}
 use Rattle.rx_model.specs.Refusals.Reached.{text_groups, text_names}
 use Rattle.rx_scan.specs.StateFaults.{mode_of_state}
 use Rattle.rx_scan.specs.declared.state.State.{State}
-use Rattle.rx_class.specs.ClassAnswers.{HoldsFirstPass}
+use Rattle.rx_class.specs.ClassReading.Answers.{HoldsFirstPass}
 
 -- what holds of a call that did not fail
 pub without_err : {T E P : Type 0} (r : Result T E) → is_err r ≡ false → OnOk r P → P

@@ -1,43 +1,32 @@
 -- The offset of each place of a reader fits its numbers.
-use Rattle.std.proofs.Common.{◌≡◌, sym, subst, ℕ, zero, suc, ◌+◌, ◌-◌, ◌^◌, ◌<◌, Bool, true, false, if◌then◌else◌, List, [], ◌∷◌, take}
+use Rattle.std.proofs.Common.{◌≡◌, sym, subst, ℕ, zero, suc, ◌+◌, ◌-◌, ◌^◌, ◌<◌, Bool, true, false, if◌then◌else◌, List, [], ◌∷◌}
 use Rattle.std.specs.Prelude.{All}
 use Rattle.std.proofs.lemmas.List.Elements.{All-head, All-tail}
 use Rattle.rx_units.specs.declared.code_point.CodePoint.{CodePoint}
-use Rattle.rx_units.specs.Cursor.{Cursor, moved, offset_of}
-use Rattle.rx_units.specs.Units.{end_of, offset_at}
-use Rattle.rx_class.specs.EscapeAnswers.{IsAfterBackslash}
+use Rattle.rx_units.specs.Cursor.{Cursor, move_on, offset_of}
+use Rattle.rx_units.specs.Units.{offset_at}
+use Rattle.rx_class.specs.EscapeReading.Answers.{IsAfterBackslash}
 use Rattle.rx_class.specs.Fitting.{AreFitting}
-use Rattle.rx_class.specs.Keeping.{KeepsUnits}
-
-end_fits : (added first : ℕ) (us : List CodePoint) (n : ℕ) → first + added < 2 ^ 32 → All (λ unit. unit.span.end + added < 2 ^ 32) us → end_of first (take n us) + added < 2 ^ 32
-end_fits added first us zero f a = f
-end_fits added first [] (suc n) f a = f
-end_fits added first (u ∷ us) (suc n) f a =
-    end_fits added u.span.end us n (All-head (λ unit. unit.span.end + added < 2 ^ 32) u us a) (All-tail (λ unit. unit.span.end + added < 2 ^ 32) u us a)
 
 -- The offset of each place fits.
 pub offset_fits : (added first : ℕ) (us : List CodePoint) (place : ℕ) → first + added < 2 ^ 32 → All (λ unit. unit.span.end + added < 2 ^ 32) us → offset_at first us place + added < 2 ^ 32
-offset_fits added first us place f a = end_fits added first us place f a
+offset_fits added first us zero f a = f
+offset_fits added first [] (suc n) f a = f
+offset_fits added first (u ∷ us) (suc n) f a =
+    offset_fits added u.span.end us n (All-head (λ unit. unit.span.end + added < 2 ^ 32) u us a) (All-tail (λ unit. unit.span.end + added < 2 ^ 32) u us a)
 
 -- so does that where the reader stands
-here_fits : (added : ℕ) (r : Cursor) → AreFitting added r → offset_of r + added < 2 ^ 32
-here_fits added r f = offset_fits added r.first r.units r.place f.first f.ends
-
--- the same of an offset that is known to be there
 pub offset_here_fits : (added offset : ℕ) (r : Cursor) → AreFitting added r → offset ≡ offset_of r → offset + added < 2 ^ 32
-offset_here_fits added offset r f is = subst (λ k. k + added < 2 ^ 32) (sym is) (here_fits added r f)
+offset_here_fits added offset r f is = subst (λ k. k + added < 2 ^ 32) (sym is) (offset_fits added r.first r.units r.place f.first f.ends)
 
 -- and of the offset before the backslash
 pub start_fits : (added start : ℕ) (r : Cursor) → AreFitting added r → IsAfterBackslash r start → start + added < 2 ^ 32
 start_fits added start r f is = subst (λ k. k + added < 2 ^ 32) (sym is.start) (offset_fits added r.first r.units (r.place - 1) f.first f.ends)
 
 -- A reader that moves stays so.
-pub moved_are_fitting : (added n : ℕ) (r s : Cursor) → AreFitting added r → s ≡ moved n r → AreFitting added s
+pub moved_are_fitting : (added n : ℕ) (r s : Cursor) → AreFitting added r → s ≡ move_on n r → AreFitting added s
 moved_are_fitting added n r s f e = subst (AreFitting added) (sym e) record { first = f.first; ends = f.ends }
 
-pub eaten_are_fitting : (added : ℕ) (eaten : Bool) (r s : Cursor) → AreFitting added r → s ≡ (if eaten then moved 1 r else r) → AreFitting added s
+pub eaten_are_fitting : (added : ℕ) (eaten : Bool) (r s : Cursor) → AreFitting added r → s ≡ (if eaten then move_on 1 r else r) → AreFitting added s
 eaten_are_fitting added true r s f e = moved_are_fitting added 1 r s f e
 eaten_are_fitting added false r s f e = subst (AreFitting added) (sym e) f
-
-pub kept_are_fitting : {added : ℕ} {old new : Cursor} → KeepsUnits old new → AreFitting added old → AreFitting added new
-kept_are_fitting {added} k f = subst (AreFitting added) (sym k.same) record { first = f.first; ends = f.ends }

@@ -3,7 +3,7 @@ use Rattle.std.proofs.Common.{◌≡◌, sym, ap, ap₂, ◌∙◌, subst, ℕ, 
 use Rattle.std.proofs.Math.Seq.{drop-append_seam}
 use Rattle.std.proofs.lemmas.List.{drop-drop}
 use Rattle.rx_units.specs.declared.code_point.CodePoint.{CodePoint}
-use Rattle.rx_units.specs.Cursor.{Cursor, moved, rest}
+use Rattle.rx_units.specs.Cursor.{Cursor, move_on, rest}
 use Rattle.rx_class.specs.Keeping.{KeepsUnits}
 
 -- what holds of a failure holds where it is handed on
@@ -11,7 +11,7 @@ pub handed : {A F : Type 0} (P : Result A F → Type 0) {r : Result A F} {f : F}
 handed P {r = Ok it} h p = absurd h
 handed P {r = Err g} h p = subst (λ g. P (Err g)) (sym h) p
 
-pub moved_keeps : (n : ℕ) (old new : Cursor) → new ≡ moved n old → KeepsUnits old new
+pub moved_keeps : (n : ℕ) (old new : Cursor) → new ≡ move_on n old → KeepsUnits old new
 moved_keeps n old new is =
     let place = ap (λ (r : Cursor). r.place) is in
     record { same = is ∙ ap (λ place. record old { place = place }) (sym place); within = omega (arith, place) }
@@ -40,7 +40,7 @@ pub record Passes (old new : Cursor) (w : List CodePoint) : Type 0 where
   pub moves : new ≡ record old { place = old.place + length w }
   pub within : old.place + length w ≤ length old.units
 
-pub passes_moved : (old new : Cursor) (w more : List CodePoint) → rest old ≡ w ++ more → 0 < length w → new ≡ moved (length w) old → Passes old new w × (rest new ≡ more)
+pub passes_moved : (old new : Cursor) (w more : List CodePoint) → rest old ≡ w ++ more → 0 < length w → new ≡ move_on (length w) old → Passes old new w × (rest new ≡ more)
 passes_moved old new w more whole some is =
     let within : old.place + length w ≤ length old.units = omega (arith, ap length whole, length-append w more, length-drop old.place old.units, some) in
     let moves : new ≡ record old { place = old.place + length w } =
@@ -65,5 +65,5 @@ module _ {old new : Cursor} {w : List CodePoint} (p : Passes old new w) where
       record { same = p.moves ∙ ap (λ place. record old { place = place }) (sym place); within = omega (arith, place, p.within) }
 
   -- The reader moved so far.
-  pub passes_over : new ≡ moved (length w) old
+  pub passes_over : new ≡ move_on (length w) old
   passes_over = p.moves ∙ ap (λ place. record old { place = place }) (let k : old.place + length w ≡ min (old.place + length w) (length old.units) = omega (arith, p.within) in k)

@@ -10,21 +10,11 @@ use Rattle.rx_model.specs.Properties.PropertyEscapes.{SpellsProperty}
 use Rattle.rx_base.specs.Characters.{is_one_of}
 use Rattle.rx_model.proofs.Classes.ClassWholes.{only_sets}
 use Rattle.rx_model.proofs.Inputs.Modes.{not_sets}
-use Rattle.rx_class.specs.PropertyFound.{HasProperties}
 
 -- Outside sets mode the first truth value of a state says whether it is a unicode mode.
 pub unicode_by : (u : Bool) → is_unicode (mode_by u false) ≡ u
 unicode_by true = refl
 unicode_by false = refl
-
--- The second of the two says whether it is sets mode.
-pub sets_by : (u v : Bool) → is_sets (mode_by u v) ≡ v
-sets_by u true = refl
-sets_by true false = refl
-sets_by false false = refl
-
-pub state_has_properties : (u v : Bool) → is_unicode (mode_by u v) ≡ true → HasProperties v (mode_by u v)
-state_has_properties u v h = record { unicode = h; sets_is = sets_by u v }
 
 one_of_three : (c : ℕ) → is_one_of (codes "\\]-") c ≡ (c == 92 || c == 93 || c == 45)
 one_of_three c = grind (arith, nat_tests)

@@ -7,13 +7,13 @@ use Rattle.rx_units.specs.declared.code_point.CodePoint.{CodePoint}
 use Rattle.rx_units.specs.Units.{values}
 use Rattle.rx_model.specs.declared.mode.Mode.{Mode}
 use Rattle.rx_model.specs.Classes.ClassRows.{Place, SpellsInClass, SpellsOperand, fresh, may_follow_operator, next_place, after_operator}
-use Rattle.rx_model.specs.Classes.ClassRuns.{Held, single, is_union, is_whole, operand, operator_of, ranged, joined, pending, with_operator}
+use Rattle.rx_model.specs.Classes.ClassRuns.{Held, single, is_union, is_whole, operand, operator_of, with_range, joined, pending, with_operator}
 use Rattle.rx_model.specs.Classes.ClassTokens.{Atom, ClassToken, is_character, item, operator, operator_text}
 use Rattle.rx_model.specs.FirstPass.Marks.{starts}
 use Rattle.rx_model.specs.Inputs.Environment.{Environment, is_sets}
 use Rattle.rx_model.specs.Refusals.ClassPlaces.{begins_item}
-use Rattle.rx_class.specs.ClassBuilding.{last_operator}
-use Rattle.rx_class.specs.SetReading.{place_of}
+use Rattle.rx_class.specs.SetReading.BuilderEvents.{last_operator}
+use Rattle.rx_class.specs.SetReading.Progress.{place_of}
 
 -- An item may begin at the place that a bracket is at.
 pub begins_place : (held : Held) → begins_item (place_of held) ≡ true
@@ -30,15 +30,15 @@ pub operand_fresh : (held after : Held) → operand held ≡ Some after → plac
 operand_fresh held after h = grind arith
 
 -- before and after a range
-pub ranged_fresh : (held after : Held) → ranged held ≡ Some after → (place_of held ≡ fresh) × (place_of after ≡ fresh)
+pub ranged_fresh : (held after : Held) → with_range held ≡ Some after → (place_of held ≡ fresh) × (place_of after ≡ fresh)
 ranged_fresh held after h = grind arith
 
 -- An operand after which no union is stands where no range may.
-pub no_range_no_union : (held after : Held) → operand held ≡ Some after → ranged held ≡ None → is_union after ≡ false
+pub no_range_no_union : (held after : Held) → operand held ≡ Some after → with_range held ≡ None → is_union after ≡ false
 no_range_no_union held after h none = grind arith
 
 -- Where no range may stand an operand stands after an operator.
-pub no_range_after : (held after : Held) → operand held ≡ Some after → ranged held ≡ None → place_of held ≡ fresh → ⊥
+pub no_range_after : (held after : Held) → operand held ≡ Some after → with_range held ≡ None → place_of held ≡ fresh → ⊥
 no_range_after held after h none at = grind arith
 
 -- What does not take an operator is a union.

@@ -2,7 +2,7 @@
 use Rattle.std.proofs.Common.{◌≡◌, refl, sym, subst, ℕ, ◌+◌, ◌<◌, ◌^◌, arith, Bool, List, length}
 use Rattle.std.specs.Prelude.{All}
 use Rattle.std.specs.Str.{chars, IsUtf8}
-use Rattle.rx_units.specs.Cursor.{Cursor, moved}
+use Rattle.rx_units.specs.Cursor.{Cursor, move_on}
 use Rattle.rx_units.specs.Units.{literal_units}
 use Rattle.rx_scan.proofs.Fits.{literal_fits}
 use Rattle.rx_class.specs.Fitting.{AreFitting}
@@ -24,5 +24,5 @@ made_are_fitting joined bytes added r utf8 fits made =
 
 -- and so do those of one that has moved since.
 pub moved_on_are_fitting : (joined : Bool) (bytes : List ℕ) (added n : ℕ) (r s : Cursor) → IsUtf8 bytes → added + length bytes < 2 ^ 32 → r ≡ reading_of joined bytes
-    → s ≡ moved n r → AreFitting added s
+    → s ≡ move_on n r → AreFitting added s
 moved_on_are_fitting joined bytes added n r s utf8 fits made on = moved_are_fitting added n r s (made_are_fitting joined bytes added r utf8 fits made) on

@@ -1,4 +1,4 @@
--- What a reader keeps where nothing is answered: it may have moved, and reads what it read before.
+-- What stays the same of a reader that may have moved.
 use Rattle.std.specs.Prelude.{◌≡◌, ◌≤◌, length}
 use Rattle.rx_units.specs.Cursor.{Cursor}
 

@@ -1,21 +1,23 @@
 ghost use Rattle.std.specs.Prelude.{◌≡◌, ◌+◌, ◌<◌, ◌≤◌, ◌^◌, ◌∷◌, [], All, if◌then◌else◌};
 ghost use Rattle.std.proofs.Props.{props};
-ghost use Rattle.rx_units.specs.Cursor.{begins, front, moved, offset_of, rest};
+ghost use Rattle.rx_units.specs.Cursor.{begins, front, move_on, offset_of, rest};
 ghost use Rattle.rx_units.specs.Pace.{IsMove};
-ghost use Rattle.rx_model.specs.Inputs.Environment.{is_unicode};
+ghost use Rattle.rx_model.specs.Inputs.Environment.{is_sets, is_unicode};
 ghost use Rattle.rx_model.specs.Refusals.Reached.{span_between};
-ghost use Rattle.rx_class.specs.EscapeAnswers.{environment_of, span_to};
+ghost use Rattle.rx_class.specs.EscapeReading.Answers.{environment_of, span_to};
 ghost use Rattle.rx_class.specs.Fitting.{AreFitting};
 ghost use Rattle.rx_class.specs.Keeping.{KeepsUnits};
 
-use crate::escape::is_unicode;
+use crate::escapes::escape::is_unicode;
 use rx_base::{Counter, Span};
+use rx_model::Mode;
 use rx_scan::{SpanFactory, State};
 use rx_units::{CodePoint, Reader};
 use std::alloc::Global;
 
 /// What the parts of a pattern are read from and with: a reader whose offsets fit the spans that are made of them, the state of the
 /// pattern, memory, and a counter of steps.
+// Why: docs/DECISIONS.md, 102.
 #[derive(Drop)]
 pub struct Reading<'reader, 'text, 'state, 'spans, 'steps, C> {
     pub reader: &'reader mut Reader<'text>,
@@ -31,7 +33,7 @@ impl<C: Counter> Reading<'_, '_, '_, '_, '_, C> {
 
     /// The units from the place to the end.
     #[inline]
-    pub fn units(&self) -> &[CodePoint]
+    pub(crate) fn units(&self) -> &[CodePoint]
         ensures units { result.now ≡ rest self.now.reader.now }
         ensures code_points { All (λ unit. unit.value ≤ 0x10FFFF) result.now }
     {
@@ -40,7 +42,7 @@ impl<C: Counter> Reading<'_, '_, '_, '_, '_, C> {
 
     /// The value of the unit at the place.
     #[inline]
-    pub fn peek(&self) -> Option<u32>
+    pub(crate) fn peek(&self) -> Option<u32>
         ensures { result ≡ front (rest self.now.reader.now) }
     {
         self.reader.peek()
@@ -48,7 +50,7 @@ impl<C: Counter> Reading<'_, '_, '_, '_, '_, C> {
 
     /// The offset at the place, in bytes.
     #[inline]
-    pub fn offset(&self) -> u32
+    pub(crate) fn offset(&self) -> u32
         ensures value { result ≡ offset_of self.now.reader.now }
         ensures fits { result + self.now.spans.now < 2 ^ 32 }
     {
@@ -57,8 +59,8 @@ impl<C: Counter> Reading<'_, '_, '_, '_, '_, C> {
 
     /// Moves one place on, or does nothing at the end.
     #[inline]
-    pub fn advance(&mut self)
-        ensures reader { self.new.reader.now ≡ moved 1 self.old.reader.now }
+    pub(crate) fn advance(&mut self)
+        ensures reader { self.new.reader.now ≡ move_on 1 self.old.reader.now }
         ensures steps { IsMove (C.count self.old.steps.now) (C.count self.new.steps.now) self.old.reader.now self.new.reader.now }
         ensures on { ReadsOn self.old self.new }
     {
@@ -68,19 +70,19 @@ impl<C: Counter> Reading<'_, '_, '_, '_, '_, C> {
     /// Moves n places on, or to the end where fewer are left.
     #[inline]
     #[tactic(auto, using(crate::proofs::Fitting::moved_are_fitting))]
-    pub fn skip(&mut self, count: usize)
-        ensures reader { self.new.reader.now ≡ moved count self.old.reader.now }
+    pub(crate) fn skip(&mut self, count: usize)
+        ensures reader { self.new.reader.now ≡ move_on count self.old.reader.now }
         ensures steps { IsMove (C.count self.old.steps.now) (C.count self.new.steps.now) self.old.reader.now self.new.reader.now }
         ensures on { ReadsOn self.old self.new }
     {
         self.reader.skip_counted(count, self.steps);
     }
 
-    /// Moves over the character where it stands at the place, and says whether it does.
+    /// Moves over this character if it is at the place, and says whether it was.
     #[tactic(auto, using(crate::proofs::Fitting::eaten_are_fitting))]
-    pub fn eat(&mut self, ch: char) -> bool
+    pub(crate) fn eat(&mut self, ch: char) -> bool
         ensures value { result ≡ begins (ch ∷ []) (rest self.old.reader.now) }
-        ensures reader { self.new.reader.now ≡ (if result then moved 1 self.old.reader.now else self.old.reader.now) }
+        ensures reader { self.new.reader.now ≡ (if result then move_on 1 self.old.reader.now else self.old.reader.now) }
         ensures steps { IsMove (C.count self.old.steps.now) (C.count self.new.steps.now) self.old.reader.now self.new.reader.now }
         ensures on { ReadsOn self.old self.new }
     {
@@ -89,22 +91,22 @@ impl<C: Counter> Reading<'_, '_, '_, '_, '_, C> {
 
     /// The span from an offset to the place.
     #[inline]
-    pub fn span_from(&self, start: u32) -> Span
+    pub(crate) fn span_from(&self, start: u32) -> Span
         requires { start + self.now.spans.now < 2 ^ 32 }
         ensures { result ≡ span_to self.now.spans.now start self.now.reader.now }
     {
         self.spans.create(start, self.offset())
     }
 
-    /// Covers nothing at the place.
-    pub fn here(&self) -> Span
+    /// The empty span at the place.
+    pub(crate) fn here(&self) -> Span
         ensures { result ≡ span_to self.now.spans.now (offset_of self.now.reader.now) self.now.reader.now }
     {
         self.span_from(self.offset())
     }
 
     /// The span of `count` units that stand `ahead` units on. Moves over them.
-    pub fn span_ahead(&mut self, ahead: usize, count: usize) -> Span
+    pub(crate) fn read_span(&mut self, ahead: usize, count: usize) -> Span
         ensures span { result ≡ span_between self.old.reader.now.units self.old.reader.now.first self.old.spans.now (self.old.reader.now.place + ahead) (self.old.reader.now.place + ahead + count) }
         ensures reader { KeepsUnits self.old.reader.now self.new.reader.now }
         ensures steps { IsMove (C.count self.old.steps.now) (C.count self.new.steps.now) self.old.reader.now self.new.reader.now }
@@ -117,9 +119,19 @@ impl<C: Counter> Reading<'_, '_, '_, '_, '_, C> {
     }
 
     /// Whether escapes are those with `u` or `v`.
-    pub fn is_unicode(&self) -> bool
+    pub(crate) fn is_unicode(&self) -> bool
         ensures { result ≡ is_unicode (environment_of self.now.state.now).mode }
     {
         is_unicode(self.state)
+    }
+}
+
+/// Whether classes are read as sets: with `v`.
+pub(crate) fn is_sets(mode: Mode) -> bool
+    ensures { result ≡ is_sets mode }
+{
+    match mode {
+        Mode::Sets => true,
+        Mode::Legacy | Mode::Unicode => false,
     }
 }

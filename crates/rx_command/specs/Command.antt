@@ -38,6 +38,7 @@ dialect_words Strict = codes "strict" ∷ []
 dialect_words Standard = codes "standard" ∷ []
 
 -- the words that ask for what is said, without a word for the options
+-- Why: docs/DECISIONS.md, 86.
 abbrev pub IsAnswering : List (List ℕ) → Answering → Type 0
 IsAnswering words Canonical = words ≡ []
 IsAnswering words Display = words ≡ codes "display" ∷ []

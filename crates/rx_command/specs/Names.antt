@@ -3,6 +3,7 @@ use Rattle.std.specs.Prelude.{◌≡◌, ◌≢◌, ◌≤◌, ◌↔◌, ℕ, B
 use Rattle.std.specs.List.{join_with_byte}
 
 -- The word is the names of some of these with commas between, at least one and none twice, and the set has exactly them.
+-- Why: docs/DECISIONS.md, 87.
 pub record IsNamesOf {Name Set : Type 0} (name_of : Name → List ℕ) (has : Set → Name → Bool) (word : List ℕ) (set : Set) : Type 0 where
   pub listed : List Name
   pub some : 1 ≤ length listed

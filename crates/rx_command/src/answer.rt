@@ -59,7 +59,7 @@ impl<'a> Answering<'a> {
             [] => Some(Answering::Canonical),
             [word] => one_word(word.as_str()),
             [name, second] => two_words(name.as_str(), second.as_str()),
-            [name, first, second] => matching(name.as_str(), first.as_str(), second.as_str()),
+            [name, first, second] => match_or_steps(name.as_str(), first.as_str(), second.as_str()),
             _ => None,
         }
     }
@@ -113,7 +113,7 @@ fn in_color(word: &str) -> Option<Answering<'_>>
 }
 
 /// What is said with these three words, or none where they are not `match`, a budget and a text, or `steps`, a text and a number.
-fn matching<'a>(name: &'a str, first: &'a str, second: &'a str) -> Option<Answering<'a>>
+fn match_or_steps<'a>(name: &'a str, first: &'a str, second: &'a str) -> Option<Answering<'a>>
     ensures { MatchOption result
         ((answering : Answers) → ¬ IsAnswering (chars name.now ∷ chars first.now ∷ chars second.now ∷ []) answering)
         (λ answering. IsAnswering (chars name.now ∷ chars first.now ∷ chars second.now ∷ []) answering) }

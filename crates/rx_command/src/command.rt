@@ -58,7 +58,7 @@ fn notice(words: &[Text]) -> Option<Notice>
         (λ notice. words.now ≡ notice_word notice ∷ []) }
 {
     match words {
-        [word] => Notice::named(word.as_str()),
+        [word] => Notice::from_name(word.as_str()),
         _ => None,
     }
 }

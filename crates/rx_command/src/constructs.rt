@@ -16,7 +16,7 @@ enum Construct {
 
 impl Construct {
     /// The construct of this name, or none.
-    fn named(name: &str) -> Option<Construct>
+    fn from_name(name: &str) -> Option<Construct>
         ensures { MatchOption result
             ((construct : Named) → ¬ (name.now ≡ construct_name construct))
             (λ construct. name.now ≡ construct_name construct) }
@@ -39,7 +39,7 @@ pub fn named_rewrites(word: &str) -> Option<Rewrites>
 {
     let mut what = no_rewrites();
     for name in word.split(',') {
-        let construct = Construct::named(name)?;
+        let construct = Construct::from_name(name)?;
         if has(what, construct) {
             return None;
         }

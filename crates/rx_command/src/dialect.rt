@@ -11,6 +11,7 @@ use rx_base::Text;
 use rx_parser::Options;
 
 /// The options that requests are read with.
+// Why: docs/DECISIONS.md, 72.
 #[derive(Clone, Copy, Debug, PartialEq, Eq)]
 pub enum Dialect {
     /// Two groups may have one name where they never both take part, and buffer boundaries are read; arguments of `RegExp` are read as the Rust crate reads them.
@@ -25,7 +26,7 @@ pub enum Dialect {
 
 impl Dialect {
     /// The dialect that this word is for, or none.
-    fn named(word: &str) -> Option<Dialect>
+    fn from_name(word: &str) -> Option<Dialect>
         ensures { MatchOption result
             ((dialect : Dialects) → ¬ (dialect_words dialect ≡ chars word.now ∷ []))
             (λ dialect. dialect_words dialect ≡ chars word.now ∷ []) }
@@ -45,7 +46,7 @@ impl Dialect {
         let Some((word, rest)) = words.split_first() else {
             return (Dialect::Default, words);
         };
-        match Dialect::named(word.as_str()) {
+        match Dialect::from_name(word.as_str()) {
             Some(dialect) => (dialect, rest),
             None => (Dialect::Default, words),
         }

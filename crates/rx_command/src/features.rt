@@ -31,7 +31,7 @@ enum Feature {
 
 impl Feature {
     /// The feature of this name, or none.
-    fn named(name: &str) -> Option<Feature>
+    fn from_name(name: &str) -> Option<Feature>
         ensures { MatchOption result
             ((feature : Named) → ¬ (name.now ≡ feature_name feature))
             (λ feature. name.now ≡ feature_name feature) }
@@ -79,7 +79,7 @@ impl Features {
     {
         let mut features = Features::none();
         for name in word.split(',') {
-            let feature = Feature::named(name)?;
+            let feature = Feature::from_name(name)?;
             if features.has(feature) {
                 return None;
             }

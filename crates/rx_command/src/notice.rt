@@ -62,7 +62,8 @@ pub enum Notice {
 
 impl Notice {
     /// The text that this word asks for, or none.
-    pub fn named(word: &str) -> Option<Notice>
+    // Why: docs/DECISIONS.md, 58.
+    pub fn from_name(word: &str) -> Option<Notice>
         ensures { MatchOption result
             ((notice : Notices) → ¬ (chars word.now ≡ notice_word notice))
             (λ notice. chars word.now ≡ notice_word notice) }

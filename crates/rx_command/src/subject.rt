@@ -4,6 +4,7 @@ ghost use Rattle.std.specs.Str.{chars};
 use std::marker::Model;
 
 /// The text that patterns are matched on.
+// Why: docs/DECISIONS.md, 74.
 #[derive(Debug, Drop)]
 pub struct Subject<'a> {
     text: &'a str,

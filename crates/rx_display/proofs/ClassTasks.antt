@@ -1,5 +1,5 @@
 -- What is written of a class, by the first of its contents and the others.
-use Rattle.std.proofs.Common.{◌≡◌, refl, ap, ◌∙◌, ℕ, Bool, true, false, ◌+◌, List, [], ◌∷◌, ◌++◌, append_assoc, map, codes, Option}
+use Rattle.std.proofs.Common.{◌≡◌, refl, ℕ, Bool, true, false, ◌+◌, List, [], ◌∷◌, ◌++◌, append_assoc, map, codes, Option}
 use Rattle.std.specs.Option.{is_some}
 use Rattle.rx_ast.specs.declared.class.CharacterClass.{CharacterClass}
 use Rattle.rx_ast.specs.declared.class.CharacterClassContents.{CharacterClassContents}
@@ -28,16 +28,11 @@ class_none c all same none = rw (class_is c, ← same, none) refl
 module _ (all : List CharacterClassContents) (first : CharacterClassContents) (others : List CharacterClassContents) (follows : Bool) (cut : all ≡ first ∷ others) (is : follows ≡ is_some (contents_pair first others)) where
   pub class_cut : (c : CharacterClass) → all ≡ c.body →
       class_shown (mirror_class c) ≡ class_opener c.negative ++ (pair_or (contents_pair first others) (member_shown (mirror_contents first)) ++ rest_of_class (operator_text c.kind) follows others)
-  class_cut c same = rw (class_is c, ← same, cut, is)
-      (ap (λ text. class_opener c.negative ++ text)
-      (append_assoc (pair_or (contents_pair first others) (member_shown (mirror_contents first))) (more_members_shown (operator_text c.kind) (is_some (contents_pair first others)) (members (map mirror_contents others))) (codes "]")))
+  class_cut c same = rw (class_is c, ← same, cut, is) (simp append_assoc)
 
   pub rest_cut : (operator : List ℕ) (joined : Bool) → joined ≡ false →
       rest_of_class operator joined all ≡ operator ++ (pair_or (contents_pair first others) (member_shown (mirror_contents first)) ++ rest_of_class operator follows others)
-  rest_cut operator joined alone =
-      let own = pair_or (contents_pair first others) (member_shown (mirror_contents first)) in
-      let more = more_members_shown operator (is_some (contents_pair first others)) (members (map mirror_contents others)) in
-      rw (cut, alone, is) (ap (λ text. text ++ codes "]") (append_assoc operator own more) ∙ append_assoc operator (own ++ more) (codes "]") ∙ ap (λ text. operator ++ text) (append_assoc own more (codes "]")))
+  rest_cut operator joined alone = rw (cut, alone, is) (simp append_assoc)
 
   -- The first was written together with the one before it.
   pub joined_rest_cut : (operator : List ℕ) (joined : Bool) → joined ≡ true → rest_of_class operator joined all ≡ rest_of_class operator follows others

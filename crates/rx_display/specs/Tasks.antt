@@ -8,7 +8,7 @@ use Rattle.rx_ast.specs.Tree.{Alternatives, alternatives, nodes, mirror_alternat
 use Rattle.rx_display.specs.declared.task.Task.{Task}
 use Rattle.rx_display.specs.declared.task.Task.TheVariants as task
 
--- the tree of alternatives that the code holds
+-- alternatives of the code, as alternatives of the mirror
 abbrev pub tree_of : List Alternative → Alternatives
 tree_of more = alternatives (map mirror_alternative more)
 

@@ -2,6 +2,7 @@
 use Rattle.std.proofs.Common.{◌≡◌, refl, ap, ◌∙◌, ℕ, ◌+◌, arith, List, [], ◌∷◌, ◌++◌, map}
 use Rattle.std.specs.declared.alloc.Global.{Global}
 use Rattle.std.specs.declared.boxed.Box.{Box}
+use Rattle.rx_base.specs.declared.span.Span.{Span}
 use Rattle.rx_ast.specs.declared.term.Alternative.{Alternative}
 use Rattle.rx_ast.specs.declared.term.CapturingGroup.{CapturingGroup, out-CapturingGroup}
 use Rattle.rx_ast.specs.declared.term.Disjunction.{Disjunction, out-Disjunction}
@@ -10,10 +11,11 @@ use Rattle.rx_ast.specs.declared.term.LookAroundAssertion.{LookAroundAssertion, 
 use Rattle.rx_ast.specs.declared.term.Quantifier.{Quantifier}
 use Rattle.rx_ast.specs.declared.term.Term.{Term}
 use Rattle.rx_ast.specs.declared.term.Term.TheVariants as term
-use Rattle.rx_ast.specs.Size.{node_size, nodes_size, alternatives_size}
-use Rattle.rx_ast.specs.Tree.{alternatives, nodes, mirror_alternative, mirror_disjunction, mirror_term}
+use Rattle.rx_ast.specs.Size.{node_size, alternatives_size}
+use Rattle.rx_ast.specs.Tree as tree
+use Rattle.rx_ast.specs.Tree.{Alternatives, Node, Nodes, alternatives, nodes, mirror_alternative, mirror_disjunction, mirror_term}
 use Rattle.rx_ast.proofs.Equations.{alternative_is, tree_of_quantifier, tree_of_capturing, tree_of_ignore, tree_of_look, disjunction_is, boundary_is, character_is, escape_is, property_is, class_is, indexed_is, named_is, dot_is}
-use Rattle.rx_model.specs.Trees.Names.{node_groups, nodes_groups, alternatives_groups}
+use Rattle.rx_model.specs.Trees.Names.{node_groups, alternatives_groups}
 use Rattle.rx_example.specs.declared.groups.Part.{Part}
 use Rattle.rx_example.specs.Parts.{part_groups, part_size, waiting_groups, waiting_size}
 
@@ -81,23 +83,13 @@ popped_groups before between p popped = ap waiting_groups popped ∙ waiting_gro
 pub popped_size : (before between : List Part) (p : Part) → before ≡ between ++ (p ∷ []) → waiting_size before ≡ waiting_size between + part_size p
 popped_size before between p popped = ap waiting_size popped ∙ waiting_size-last between p
 
--- of some alternatives or terms, by the first and the others
-pub first_alternative_groups : (all : List Alternative) (first : Alternative) (others : List Alternative) → all ≡ first ∷ others →
-    alternatives_groups (alternatives (map mirror_alternative all)) ≡ nodes_groups (nodes (map mirror_term first.body)) + alternatives_groups (alternatives (map mirror_alternative others))
-first_alternative_groups all first others cut =
-    ap (λ as'. alternatives_groups (alternatives (map mirror_alternative as'))) cut ∙
-    ap (λ m. nodes_groups m.1 + alternatives_groups (alternatives (map mirror_alternative others))) (alternative_is first)
+-- The measure of some alternatives or terms, which is a sum, is that of the first and that of the others.
+pub first_alternative : (whole : Alternatives → ℕ) (one : Nodes → ℕ) → ((s : Span) (ns : Nodes) (more : Alternatives) → whole (tree.alternative s ns more) ≡ one ns + whole more)
+    → (all : List Alternative) (first : Alternative) (others : List Alternative) → all ≡ first ∷ others
+    → whole (alternatives (map mirror_alternative all)) ≡ one (nodes (map mirror_term first.body)) + whole (alternatives (map mirror_alternative others))
+first_alternative whole one sum all first others cut =
+    ap (λ as'. whole (alternatives (map mirror_alternative as'))) cut ∙ sum _ _ _ ∙ ap (λ m. one m.1 + whole (alternatives (map mirror_alternative others))) (alternative_is first)
 
-pub first_alternative_size : (all : List Alternative) (first : Alternative) (others : List Alternative) → all ≡ first ∷ others →
-    alternatives_size (alternatives (map mirror_alternative all)) ≡ 1 + nodes_size (nodes (map mirror_term first.body)) + alternatives_size (alternatives (map mirror_alternative others))
-first_alternative_size all first others cut =
-    ap (λ as'. alternatives_size (alternatives (map mirror_alternative as'))) cut ∙
-    ap (λ m. 1 + nodes_size m.1 + alternatives_size (alternatives (map mirror_alternative others))) (alternative_is first)
-
-pub first_term_groups : (all : List Term) (first : Term) (others : List Term) → all ≡ first ∷ others →
-    nodes_groups (nodes (map mirror_term all)) ≡ node_groups (mirror_term first) + nodes_groups (nodes (map mirror_term others))
-first_term_groups all first others cut = ap (λ ts. nodes_groups (nodes (map mirror_term ts))) cut
-
-pub first_term_size : (all : List Term) (first : Term) (others : List Term) → all ≡ first ∷ others →
-    nodes_size (nodes (map mirror_term all)) ≡ node_size (mirror_term first) + nodes_size (nodes (map mirror_term others))
-first_term_size all first others cut = ap (λ ts. nodes_size (nodes (map mirror_term ts))) cut
+pub first_term : (whole : Nodes → ℕ) (one : Node → ℕ) → ((n : Node) (ns : Nodes) → whole (tree.node n ns) ≡ one n + whole ns)
+    → (all : List Term) (first : Term) (others : List Term) → all ≡ first ∷ others → whole (nodes (map mirror_term all)) ≡ one (mirror_term first) + whole (nodes (map mirror_term others))
+first_term whole one sum all first others cut = ap (λ ts. whole (nodes (map mirror_term ts))) cut ∙ sum _ _

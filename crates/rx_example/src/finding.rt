@@ -38,13 +38,13 @@ pub fn inspect(alloc: Global, pattern: &str, flags: Option<&str>) -> Result<Find
             groups: capturing_groups(alloc, &it.pattern)?,
             spelling: it.text,
         }),
-        Err(Fault::Diagnostic(cause)) => Ok(Finding::Refused(shown(alloc, &cause)?)),
+        Err(Fault::Diagnostic(cause)) => Ok(Finding::Refused(show_refusal(alloc, &cause)?)),
         Err(Fault::OutOfMemory) => Err(OutOfMemory),
     }
 }
 
 /// What is shown of a refusal.
-fn shown(alloc: Global, cause: &Diagnostic) -> Result<Refused, OutOfMemory>
+fn show_refusal(alloc: Global, cause: &Diagnostic) -> Result<Refused, OutOfMemory>
     ensures { IfOk result (λ it. Shows it cause.now) }
 {
     Ok(Refused {

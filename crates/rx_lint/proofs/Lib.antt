@@ -5,12 +5,13 @@ pub mod NumberRows
 pub mod Bare
 pub mod SameBare
 pub mod EqualRules
-pub mod Numbering
 pub mod WholeRows
 pub mod Stairs
 pub mod HeldItems
 pub mod NamesHeld
 pub mod OtherNodes
-pub mod FoundAt
 pub mod Loop
 pub mod HeldEarlier
+pub mod NodeNumbers
+pub mod PlaceFindings
+pub mod SiblingsToCome

@@ -10,7 +10,7 @@ use Rattle.rx_ast.specs.declared.term.Pattern.{Pattern}
 use Rattle.rx_visit.specs.Siblings.{in_order}
 use Rattle.rx_visit.specs.declared.siblings.Siblings.{Siblings}
 use Rattle.rx_visit.specs.declared.siblings.Siblings.TheVariants as are
-use Rattle.rx_visit.proofs.Orders.{to_come, to_come-first, to_come-past, to_come-next, turns, fewer-past, fewer-next}
+use Rattle.rx_lint.proofs.SiblingsToCome.{to_come, to_come-first, to_come-past, to_come-next, turns, fewer-past, fewer-next}
 use Rattle.rx_lint.specs.declared.earlier.Earlier.{Earlier}
 use Rattle.rx_lint.specs.declared.earlier.Earlier.TheVariants.{Unasked}
 use Rattle.rx_lint.specs.declared.earlier.Mark.{Mark}
@@ -18,11 +18,11 @@ use Rattle.rx_lint.specs.declared.finding.Finding.{Finding}
 use Rattle.rx_lint.specs.declared.linting.Step.{Step}
 use Rattle.rx_lint.specs.Earlier.{AreEarlier, IsMark}
 use Rattle.rx_lint.specs.Findings.{findings, findings_at}
-use Rattle.rx_lint.specs.Found.{found_by}
+use Rattle.rx_lint.specs.NodeFindings.{findings_by}
 use Rattle.rx_lint.specs.Numbers.{numbers}
 use Rattle.rx_lint.specs.Rows.{AreNumbered, kind_of, rows_of}
 use Rattle.rx_lint.specs.declared.numbers.Beginning.{Beginning}
-use Rattle.rx_lint.proofs.FoundAt.{findings_of, findings_cut, found_is}
+use Rattle.rx_lint.proofs.PlaceFindings.{findings_of, findings_cut, found_is}
 use Rattle.rx_lint.proofs.WholeRows.{rows_of_order}
 
 -- A step waits to list findings, with which more are to come.
@@ -112,7 +112,7 @@ some_row rows fewer ns n None are is = absurd (none_pushed ns n (sym (ap now_of 
 pub listed_next : {p : Whole} {listed grown : List Finding} {rows fewer : List (Bor (List ℕ))} (before left one both : List Step) (s : Step) (others within : Siblings) (later start : Earlier) (node : RegExpAstKind) (mark : Mark) (row : Bor (List ℕ)) →
     before ≡ left ++ (s ∷ []) → in_order s.siblings ≡ mirror_kind node ∷ in_order others → rows ≡ fewer ++ (row ∷ []) →
     ((parent : Option Kind) (before after : List Kind) → AreEarlier s.earlier parent before (mirror_kind node ∷ after) → row.now ≡ numbers (mirror_kind node) → IsMark mark parent before (mirror_kind node) × AreEarlier later parent (before ++ (mirror_kind node ∷ [])) after) →
-    grown ≡ listed ++ found_by p mark (mirror_kind node) → one ≡ left ++ (record { siblings = others; earlier = later } ∷ []) → both ≡ one ++ (record { siblings = within; earlier = start } ∷ []) →
+    grown ≡ listed ++ findings_by p mark (mirror_kind node) → one ≡ left ++ (record { siblings = others; earlier = later } ∷ []) → both ≡ one ++ (record { siblings = within; earlier = start } ∷ []) →
     in_order within ≡ children (mirror_kind node) → AreEarlier start (Some (mirror_kind node)) [] (children (mirror_kind node)) → IsListed p listed before rows → IsListed p grown both fewer
 listed_next {p} {listed} {grown} {rows} {fewer} before left one both s others within later start node mark row is cut taken adds grows first second in_it begins so_far =
     let k = mirror_kind node in

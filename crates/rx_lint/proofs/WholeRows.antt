@@ -10,7 +10,7 @@ use Rattle.rx_lint.specs.Nodes.{trees}
 use Rattle.rx_lint.specs.Numbers.{node_numbers, numbers}
 use Rattle.rx_lint.specs.Rows.{tails, first_length, rows_of}
 use Rattle.rx_lint.proofs.Nodes.{labels, HaveChildren, grown}
-use Rattle.rx_lint.proofs.Numbering.{all_numbers}
+use Rattle.rx_lint.proofs.NodeNumbers.{all_numbers}
 
 -- The nodes of a forest are the orders of its roots.
 labels_are : (f : Forest Kind) → HaveChildren f → labels f ≡ flat_map order (roots f)

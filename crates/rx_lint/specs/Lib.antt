@@ -8,4 +8,4 @@ pub mod Names
 pub mod Coverage
 pub mod Items
 pub mod Earlier
-pub mod Found
+pub mod NodeFindings

@@ -7,7 +7,7 @@ use Rattle.rx_ast.specs.ClassTree.{Member, Members, Class, no_member, member}
 use Rattle.rx_ast.specs.Tree as ast
 use Rattle.rx_ast.specs.Tree.{Leaf, Node, Nodes, Alternatives, leaf, quantified, group, no_node, node, no_alternative}
 use Rattle.rx_ast.specs.Kinds as kinds
-use Rattle.rx_ast.specs.Kinds.{Kind, opened}
+use Rattle.rx_ast.specs.Kinds.{Kind, group_as_kind}
 use Rattle.rx_ast.specs.Forest.{Forest, nothing, tree}
 
 -- characters, and strings of a class
@@ -52,7 +52,7 @@ abbrev mutual
   pub in_term : Node → Forest Kind
   in_term (leaf l) = in_leaf l
   in_term (quantified s min max greedy n) = tree (kinds.quantifier s min max greedy n) (tree (kinds.term n) (in_term n) nothing) nothing
-  in_term (group s o d more) = tree (opened s o (d, more)) (tree (kinds.disjunction (d, more)) (alternatives more) nothing) nothing
+  in_term (group s o d more) = tree (group_as_kind s o (d, more)) (tree (kinds.disjunction (d, more)) (alternatives more) nothing) nothing
 
   pub terms : Nodes → Forest Kind
   terms no_node = nothing

@@ -4,7 +4,7 @@ ghost use Rattle.rx_ast.specs.Kinds.{order, pattern as pattern_kind};
 ghost use Rattle.rx_ast.specs.MirrorKinds.{mirror_kind};
 ghost use Rattle.rx_ast.specs.Tree.{Whole, mirror};
 ghost use Rattle.rx_lint.specs.Findings.{findings};
-ghost use Rattle.rx_lint.specs.Found.{found_if, found_by};
+ghost use Rattle.rx_lint.specs.NodeFindings.{finding_if, findings_by};
 ghost use Rattle.rx_lint.specs.Names.{AreReferred};
 ghost use Rattle.rx_lint.specs.Numbers.{numbers};
 
@@ -29,7 +29,7 @@ fn list_if(
     rule: Rule,
     span: Span,
 ) -> Result<(), OutOfMemory>
-    ensures { OnOk result (findings.new ≡ findings.old ++ found_if holds rule span) }
+    ensures { OnOk result (findings.new ≡ findings.old ++ finding_if holds rule span) }
 {
     if holds {
         findings.push(Finding { rule, span })?;
@@ -44,7 +44,7 @@ fn list_found(
     mark: Mark,
     names: &BTreeSet<&str>,
 ) -> Result<(), OutOfMemory>
-    ensures { OnOk result ((p : Whole) → AreReferred names.now p → findings.new ≡ findings.old ++ found_by p mark (mirror_kind node.entry)) }
+    ensures { OnOk result ((p : Whole) → AreReferred names.now p → findings.new ≡ findings.old ++ findings_by p mark (mirror_kind node.entry)) }
 {
     let span = node.span();
     list_if(findings, is_empty_class(node), Rule::EmptyClass, span)?;

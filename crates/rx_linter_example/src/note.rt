@@ -43,10 +43,8 @@ pub fn note_of(node: RegExpAstKind<'_>) -> Option<Note>
 fn looks_behind(kind: LookAroundAssertionKind) -> bool
     ensures { result ≡ looks_behind kind }
 {
-    match kind {
-        LookAroundAssertionKind::Lookbehind => true,
-        LookAroundAssertionKind::NegativeLookbehind => true,
-        LookAroundAssertionKind::Lookahead => false,
-        LookAroundAssertionKind::NegativeLookahead => false,
-    }
+    matches!(
+        kind,
+        LookAroundAssertionKind::Lookbehind | LookAroundAssertionKind::NegativeLookbehind
+    )
 }

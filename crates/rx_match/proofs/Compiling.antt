@@ -7,12 +7,12 @@ use Rattle.rx_ast.specs.Tree.{Leaf, Node, Nodes, Alternatives, leaf, quantified,
 use Rattle.rx_trace.specs.declared.answer.Slot.{Slot}
 use Rattle.rx_trace.specs.declared.answer.Slot.TheVariants.{Unset, Set}
 use Rattle.rx_trace.specs.Traces.{State, Trace, tick, reached, and_then, front, first}
-use Rattle.rx_trace.specs.Holding.{ahead, preceding, boundary_holds, class_holds, escape_holds, is_line_terminator}
+use Rattle.rx_trace.specs.Holding.{ahead, unit_before, boundary_holds, class_holds, escape_holds, is_line_terminator}
 use Rattle.rx_trace.specs.Repeats.{is_over, one_less, after_turn, in_turn, repeat_trace}
-use Rattle.rx_trace.specs.Groups.{Names, groups_in, groups_in_all, slot_of, slot_named, unset_in, captured}
+use Rattle.rx_trace.specs.Groups.{Names, groups_in, groups_in_all, slot_of, slot_named, unset_in, with_capture}
 use Rattle.rx_trace.specs.declared.settings.Settings.{Settings}
-use Rattle.rx_trace.specs.Matching.{changed, moved_to, held_to, if_holds, with_slots_of, where_none, look_around_trace, looks_back, over_unit, back_reference_trace, node_trace, nodes_trace, alternatives_trace}
-use Rattle.rx_match.specs.Runs.{Run, silent, ticked, reaches, bind, visible, look_around_run, continued, turn_end_run, in_turn_run, repetition_run, at_place, unit_to, slot_to, code_run, is_negative}
+use Rattle.rx_trace.specs.Matching.{update_settings, move_to, place_if_held, if_holds, with_slots_of, where_none, look_around_trace, looks_back, over_unit, back_reference_trace, node_trace, nodes_trace, alternatives_trace}
+use Rattle.rx_match.specs.Runs.{Run, silent, ticked, reaches, bind, visible, look_around_run, run_onward, turn_end_run, in_turn_run, repetition_run, at_place, unit_to, slot_to, code_run, is_negative}
 use Rattle.rx_program.specs.Codes.{Code, accept}
 use Rattle.std.specs.Prelude.{replicate}
 use Rattle.rx_program.specs.declared.step.Step.{Step}
@@ -53,7 +53,7 @@ visible-bind (silent ∷ a) f = visible-bind a f
 visible-bind (ticked ∷ a) f = ap (λ r. tick ∷ r) (visible-bind a f)
 visible-bind (reaches s ∷ a) f = visible-append (f s) (bind a f) ∙ ap (λ r. visible (f s) ++ r) (visible-bind a f)
 
-visible-go : (o : Option ℕ) (s : State) (k : State → Run) → visible (continued o s k) ≡ and_then (moved_to o s) (λ w. visible (k w))
+visible-go : (o : Option ℕ) (s : State) (k : State → Run) → visible (run_onward o s k) ≡ and_then (move_to o s) (λ w. visible (k w))
 visible-go None s k = refl
 visible-go (Some p) s k = sym (append-nil (visible (k (at_place p s))))
 
@@ -137,11 +137,11 @@ module _ (input : List ℕ) (names : Names) where
   abbrev ends : Code → Bool → State → Trace
   ends next back w = visible (code_run input next back w)
 
-  unit-is : (back : Bool) (holds : ℕ → Bool) (s : State) (next : Code) → visible (continued (unit_to input back holds s.place) s (code_run input next back)) ≡ and_then (over_unit input back holds s) (ends next back)
+  unit-is : (back : Bool) (holds : ℕ → Bool) (s : State) (next : Code) → visible (run_onward (unit_to input back holds s.place) s (code_run input next back)) ≡ and_then (over_unit input back holds s) (ends next back)
   unit-is false holds s next = visible-go (unit_to input false holds s.place) s (code_run input next false)
   unit-is true holds s next = visible-go (unit_to input true holds s.place) s (code_run input next true)
 
-  slot-is : (back : Bool) (sl : Slot) (s : State) (next : Code) → visible (continued (slot_to input back sl s.place) s (code_run input next back)) ≡ and_then (back_reference_trace input back sl s) (ends next back)
+  slot-is : (back : Bool) (sl : Slot) (s : State) (next : Code) → visible (run_onward (slot_to input back sl s.place) s (code_run input next back)) ≡ and_then (back_reference_trace input back sl s) (ends next back)
   slot-is back Unset s next = sym (append-nil (ends next back s))
   slot-is back (Set start end) s next = visible-go (slot_to input back (Set start end) s.place) s (code_run input next back)
 
@@ -156,15 +156,15 @@ module _ (input : List ℕ) (names : Names) where
   leaf-is (tree.class_escape k) e back before next s = ap (λ t. tick ∷ t) (unit-is back (escape_holds k.kind) s next)
   leaf-is (tree.property p) e back before next s = ap (λ t. tick ∷ t) (never back s next)
     where
-      never : (back : Bool) (s : State) (next : Code) → visible (continued (unit_to input back (λ u. false) s.place) s (code_run input next back)) ≡ []
+      never : (back : Bool) (s : State) (next : Code) → visible (run_onward (unit_to input back (λ u. false) s.place) s (code_run input next back)) ≡ []
       never false s next = by_unit (ahead input s.place)
         where
-          by_unit : (o : Option ℕ) → visible (continued (held_to (λ u. false) (s.place + 1) o) s (code_run input next false)) ≡ []
+          by_unit : (o : Option ℕ) → visible (run_onward (place_if_held (λ u. false) (s.place + 1) o) s (code_run input next false)) ≡ []
           by_unit None = refl
           by_unit (Some c) = refl
-      never true s next = by_unit (preceding input s.place)
+      never true s next = by_unit (unit_before input s.place)
         where
-          by_unit : (o : Option ℕ) → visible (continued (held_to (λ u. false) (s.place - 1) o) s (code_run input next true)) ≡ []
+          by_unit : (o : Option ℕ) → visible (run_onward (place_if_held (λ u. false) (s.place - 1) o) s (code_run input next true)) ≡ []
           by_unit None = refl
           by_unit (Some c) = refl
   leaf-is (tree.class k) e back before next s = ap (λ t. tick ∷ t) (unit-is back (class_holds k) s next)
@@ -179,11 +179,11 @@ module _ (input : List ℕ) (names : Names) where
         ap (λ t. tick ∷ t) (visible-loop (code_run input (node_code names n e back before accept) back) (code_run input next back) (node_trace input names n e back before) (ends next back) (unset_in before (groups_in n)) greedy
         (λ s. node-is n e back before accept s ∙ then-reached (node_trace input names n e back before s)) (λ s. refl) (min + length input) min max s)
     node-is (group d (capturing name) c more) e back before next s =
-        ap (λ t. tick ∷ t) (visible-bind (code_run input (each_code names more e back (suc before) accept) back s) (λ w. silent ∷ code_run input next back (captured before s.place w))
-        ∙ ap (λ t. and_then t (λ w. ends next back (captured before s.place w))) (each-is more e back (suc before) accept s ∙ then-reached (alternatives_trace input names more e back (suc before) s))
-        ∙ then-each (alternatives_trace input names more e back (suc before) s) (λ w. ends next back (captured before s.place w)) (λ w. and_then (reached (captured before s.place w) ∷ []) (ends next back)) (λ w. sym (append-nil (ends next back (captured before s.place w))))
-        ∙ sym (then-then (alternatives_trace input names more e back (suc before) s) (λ w. reached (captured before s.place w) ∷ []) (ends next back)))
-    node-is (group d (ignoring m) c more) e back before next s = ap (λ t. tick ∷ t) (each-is more (changed m e) back before next s)
+        ap (λ t. tick ∷ t) (visible-bind (code_run input (each_code names more e back (suc before) accept) back s) (λ w. silent ∷ code_run input next back (with_capture before s.place w))
+        ∙ ap (λ t. and_then t (λ w. ends next back (with_capture before s.place w))) (each-is more e back (suc before) accept s ∙ then-reached (alternatives_trace input names more e back (suc before) s))
+        ∙ then-each (alternatives_trace input names more e back (suc before) s) (λ w. ends next back (with_capture before s.place w)) (λ w. and_then (reached (with_capture before s.place w) ∷ []) (ends next back)) (λ w. sym (append-nil (ends next back (with_capture before s.place w))))
+        ∙ sym (then-then (alternatives_trace input names more e back (suc before) s) (λ w. reached (with_capture before s.place w) ∷ []) (ends next back)))
+    node-is (group d (ignoring m) c more) e back before next s = ap (λ t. tick ∷ t) (each-is more (update_settings m e) back before next s)
     node-is (group d (looking kind) c more) e back before next s =
         ap (λ t. tick ∷ t) (look_around-looked kind (code_run input (each_code names more e (looks_back kind) before accept) (looks_back kind) s) (alternatives_trace input names more e (looks_back kind) before s) s (code_run input next back)
         (each-is more e (looks_back kind) before accept s ∙ then-reached (alternatives_trace input names more e (looks_back kind) before s)))

@@ -16,20 +16,20 @@ use Rattle.rx_match.specs.declared.entry.Backtrack.{Backtrack}
 use Rattle.rx_match.specs.declared.entry.Backtrack.TheVariants as backtrack
 use Rattle.rx_trace.specs.Traces.{State}
 use Rattle.rx_trace.specs.Repeats.{one_less}
-use Rattle.rx_match.specs.Runs.{Run, marked, silent, reaches, bind, turn_end_run, code_run, is_negative, look_around_run}
+use Rattle.rx_match.specs.Runs.{Run, with_marks, silent, reaches, bind, turn_end_run, code_run, is_negative, look_around_run}
 use Rattle.rx_program.specs.Codes.{accept}
 use Rattle.rx_match.specs.Machines.{pending_continuation, continuations_at, turn_run, turns_run, continuation_run, code_then, stack_run}
 use Rattle.rx_program.specs.Steps.{code_at}
-use Rattle.rx_match.specs.Sound.{AreStacked, ArePlaced, depth_in, cut_in, top_in}
-use Rattle.rx_match.specs.Restored.{IsRestored}
-use Rattle.rx_match.specs.Running.{state_of, with_backtracking, continuation_of, run_of, remaining, with_entry, with_earlier, returned, IsSound, KeepsBacktracking, TakesMarks, Resumes, ForgetsFrames, ReachesState, HasNoMore}
+use Rattle.rx_match.specs.Sound.{AreStacked, ArePlaced, depth_in, cut_entries, top_in}
+use Rattle.rx_match.specs.SavedSlots.{IsRestored}
+use Rattle.rx_match.specs.MachineSteps.{state_of, with_backtracking, continuation_of, run_of, run_ahead, with_entry, with_earlier, return_machine, IsSound, KeepsBacktracking, TakesMarks, Resumes, ForgetsFrames, ReachesState, HasNoMore}
 use Rattle.rx_match.proofs.Frames.{frames-none, frames-is, below-is}
 use Rattle.rx_match.proofs.StackRuns.{stack_run-silent, stack_run-nil, stack_run-choice, stack_run-turn, stack_run-restore, stack_run-look_around, stack_run-cut, stack_run-reaches}
 use Rattle.rx_match.proofs.Entries.{placed-more, placed-choice, choice-placed, turn-placed, restore-placed, look_around-placed, depth-choice, depth-turn, depth-restore, depth-look_around}
 use Rattle.rx_match.proofs.Cuts.{placed-cut, depth-cut}
 use Rattle.rx_match.proofs.Backs.{frames-cut_back, stack_run-cut_back, stacked-cut_back}
 use Rattle.std.proofs.lemmas.List.{length-take-le}
-use Rattle.rx_match.proofs.Repeating.{sound_restored}
+use Rattle.rx_match.proofs.RepetitionTurns.{sound_restored}
 use Rattle.rx_match.proofs.UnitTurns.{goes_on}
 
 -- the body's end, with a frame
@@ -51,7 +51,7 @@ sound_lowered m i f sound top is =
     record { ordered = sound.ordered; stacked = sound.stacked; head = omega arith; placed = sound.placed; depth = sound.depth; place = sound.place }
 
 pub takes_next : (m : Machine) (i : ℕ) (f : Frame) (next : ℕ) → IsSound m → m.head ≡ suc i → slice_get m.frames i ≡ Some f → f.pending ≡ pending.Next next
-    → TakesMarks m (record m { head = f.below; step = next }) (run_of m accept) (remaining (record m { head = f.below; step = next }) action.Step)
+    → TakesMarks m (record m { head = f.below; step = next }) (run_of m accept) (run_ahead (record m { head = f.below; step = next }) action.Step)
 takes_next m i f next sound top is w =
     let low = sound_lowered m i f sound top is in
     record {
@@ -68,7 +68,7 @@ takes_next m i f next sound top is w =
 
 pub takes_close : (m : Machine) (i : ℕ) (f : Frame) (group start next : ℕ) (entries : List Backtrack) (slots : Vec Slot Global) (saved : Vec ℕ Global) → IsSound m → m.head ≡ suc i → slice_get m.frames i ≡ Some f → f.pending ≡ pending.CloseGroup group start next
     → IsRestored m.entries m.slots.items entries slots.items → slots.items ≡ set m.slots.items group (Set (min start m.place) (max start m.place))
-    → TakesMarks m (record m { head = f.below; step = next; entries = entries; slots = slots; saved = saved }) (run_of m accept) (remaining (record m { head = f.below; step = next; entries = entries; slots = slots; saved = saved }) action.Step)
+    → TakesMarks m (record m { head = f.below; step = next; entries = entries; slots = slots; saved = saved }) (run_of m accept) (run_ahead (record m { head = f.below; step = next; entries = entries; slots = slots; saved = saved }) action.Step)
 takes_close m i f group start next entries slots saved sound top is w restored filled =
     let low = sound_restored (lowered m f.below) entries slots saved (sound_lowered m i f sound top is) restored in
     let rest : List Slot → Run = λ sl. bind (code_run m.input.now (code_at m.program.now next) m.back (record { place = m.place; slots = sl })) (continuation_run m.input.now m.back (continuations_at m.program.now m.frames f.below)) in
@@ -92,7 +92,7 @@ module _ (m : Machine) (i : ℕ) (f : Frame) (min : ℕ) (max : Option ℕ) (sta
   turned = ended m i f sound top is ∙ ap (λ w. with_backtracking m (continuation_run m.input.now m.back (pending_continuation m.program.now w ∷ continuations_at m.program.now m.frames f.below) (state_of m))) w
 
   pub takes_again : (less : ℕ) (fewer : Option ℕ) → ((min ≡ 0) → (m.place ≡ start) → ⊥) → less ≡ min - 1 → fewer ≡ one_less max
-      → TakesMarks m (lowered m f.below) (run_of m accept) (remaining (lowered m f.below) (action.Repeat repeat less fewer))
+      → TakesMarks m (lowered m f.below) (run_of m accept) (run_ahead (lowered m f.below) (action.Repeat repeat less fewer))
   takes_again less fewer apart one one' =
       let again : State → Run = λ v. turns_run m.input.now m.back (min - 1) (one_less max) v (code_at m.program.now repeat) in
       let rest = continuation_run m.input.now m.back (continuations_at m.program.now m.frames f.below) in
@@ -110,7 +110,7 @@ module _ (m : Machine) (i : ℕ) (f : Frame) (min : ℕ) (max : Option ℕ) (sta
         sound = sound_lowered m i f sound top is;
       }
 
-  pub takes_empty : min ≡ 0 → m.place ≡ start → TakesMarks m (lowered m f.below) (run_of m accept) (remaining (lowered m f.below) action.Backtrack)
+  pub takes_empty : min ≡ 0 → m.place ≡ start → TakesMarks m (lowered m f.below) (run_of m accept) (run_ahead (lowered m f.below) action.Backtrack)
   takes_empty none same =
       let rest = continuation_run m.input.now m.back (continuations_at m.program.now m.frames f.below) in
       record {
@@ -141,14 +141,14 @@ arrived_alone m r sound none is =
 abbrev pub cut_to : Machine → List Backtrack → Bool → ℕ → Machine
 cut_to m entries back depth = record m { entries = entries; back = back; depth = depth }
 
-module _ (m : Machine) (p : ℕ) (kind : LookAroundAssertionKind) (next h fs : ℕ) (back : Bool) (entries : List Backtrack) (depth : ℕ) (sound : IsSound m) (top : top_in m.entries ≡ Some (backtrack.LookAround p kind next h fs back)) (is : entries ≡ cut_in m.entries) (lower : suc depth ≡ m.depth) where
+module _ (m : Machine) (p : ℕ) (kind : LookAroundAssertionKind) (next h fs : ℕ) (back : Bool) (entries : List Backtrack) (depth : ℕ) (sound : IsSound m) (top : top_in m.entries ≡ Some (backtrack.LookAround p kind next h fs back)) (is : entries ≡ cut_entries m.entries) (lower : suc depth ≡ m.depth) where
   sound_cut : IsSound (cut_to m entries back depth)
   sound_cut =
       let placed' = placed-cut (length m.input.now) (length m.frames) m.entries p kind next h fs back top sound.placed in
       let deep = depth-cut m.entries p kind next h fs back top in
       let was = sound.depth in
-      let less : depth ≡ depth_in (cut_in m.entries) = omega arith in
-      record { ordered = sound.ordered; stacked = sound.stacked; head = sound.head; placed = subst (ArePlaced (length m.input.now) (length m.frames)) (sym is) (placed-more (length m.input.now) fs (length m.frames) (cut_in m.entries) placed'.2 placed'.3); depth = less ∙ ap depth_in (sym is); place = sound.place }
+      let less : depth ≡ depth_in (cut_entries m.entries) = omega arith in
+      record { ordered = sound.ordered; stacked = sound.stacked; head = sound.head; placed = subst (ArePlaced (length m.input.now) (length m.frames)) (sym is) (placed-more (length m.input.now) fs (length m.frames) (cut_entries m.entries) placed'.2 placed'.3); depth = less ∙ ap depth_in (sym is); place = sound.place }
 
   abbrev after_cut : Run
   after_cut = code_then m.input.now back (code_at m.program.now next) (continuations_at m.program.now m.frames h) (record { place = p; slots = m.slots.items })
@@ -157,11 +157,11 @@ module _ (m : Machine) (p : ℕ) (kind : LookAroundAssertionKind) (next h fs : �
   left_cut r rest begins chosen =
       begins
       ∙ stack_run-cut m.input.now m.program.now m.frames m.entries p kind next h fs back m.back m.slots.items (state_of m) [] top
-      ∙ ap (λ s. stack_run m.input.now m.program.now m.frames (cut_in m.entries) back m.slots.items s) chosen
-      ∙ stack_run-silent m.input.now m.program.now m.frames (cut_in m.entries) back m.slots.items rest
+      ∙ ap (λ s. stack_run m.input.now m.program.now m.frames (cut_entries m.entries) back m.slots.items s) chosen
+      ∙ stack_run-silent m.input.now m.program.now m.frames (cut_entries m.entries) back m.slots.items rest
       ∙ ap (λ e. silent ∷ stack_run m.input.now m.program.now m.frames e back m.slots.items rest) (sym is)
 
-  pub takes_refused : (r : Run) → r ≡ with_backtracking m (reaches (state_of m) ∷ []) → is_negative kind ≡ true → TakesMarks m (cut_to m entries back depth) r (remaining (cut_to m entries back depth) action.Backtrack)
+  pub takes_refused : (r : Run) → r ≡ with_backtracking m (reaches (state_of m) ∷ []) → is_negative kind ≡ true → TakesMarks m (cut_to m entries back depth) r (run_ahead (cut_to m entries back depth) action.Backtrack)
   takes_refused r begins negative = record {
     ticks = false;
     more = [];
@@ -173,7 +173,7 @@ module _ (m : Machine) (p : ℕ) (kind : LookAroundAssertionKind) (next h fs : �
   }
 
   pub takes_granted : (r : Run) → r ≡ with_backtracking m (reaches (state_of m) ∷ []) → is_negative kind ≡ false
-      → TakesMarks m (record m { entries = entries; back = back; depth = depth; place = p; step = next; head = h }) r (remaining (record m { entries = entries; back = back; depth = depth; place = p; step = next; head = h }) action.Step)
+      → TakesMarks m (record m { entries = entries; back = back; depth = depth; place = p; step = next; head = h }) r (run_ahead (record m { entries = entries; back = back; depth = depth; place = p; step = next; head = h }) action.Step)
   takes_granted r begins positive =
       let low = sound_cut in
       let at' = placed-cut (length m.input.now) (length m.frames) m.entries p kind next h fs back top sound.placed in
@@ -189,7 +189,7 @@ module _ (m : Machine) (p : ℕ) (kind : LookAroundAssertionKind) (next h fs : �
 
 -- what was left is taken up
 pub takes_choice : (m : Machine) (entries : List Backtrack) (p i h fs : ℕ) → IsSound m → m.entries ≡ entries ++ (backtrack.Choice p 0 i h fs ∷ [])
-    → TakesMarks m (record m { entries = entries; place = p; step = i; head = h }) (with_backtracking m []) (remaining (record m { entries = entries; place = p; step = i; head = h }) action.Step)
+    → TakesMarks m (record m { entries = entries; place = p; step = i; head = h }) (with_backtracking m []) (run_ahead (record m { entries = entries; place = p; step = i; head = h }) action.Step)
 takes_choice m entries p i h fs sound popped =
     let at' = choice-placed (length m.input.now) (length m.frames) p 0 i h fs m.entries entries popped sound.placed in
     record {
@@ -205,7 +205,7 @@ takes_choice m entries p i h fs sound popped =
 
 -- the last of some places, of which the others are left
 pub takes_last_choice : (m : Machine) (entries again : List Backtrack) (p e i h fs : ℕ) → IsSound m → m.entries ≡ entries ++ (backtrack.Choice p (suc e) i h fs ∷ []) → again ≡ entries ++ (backtrack.Choice (p - 1) e i h fs ∷ [])
-    → TakesMarks m (record m { entries = again; place = p; step = i; head = h }) (with_backtracking m []) (remaining (record m { entries = again; place = p; step = i; head = h }) action.Step)
+    → TakesMarks m (record m { entries = again; place = p; step = i; head = h }) (with_backtracking m []) (run_ahead (record m { entries = again; place = p; step = i; head = h }) action.Step)
 takes_last_choice m entries again p e i h fs sound popped pushed =
     let at' = choice-placed (length m.input.now) (length m.frames) p (suc e) i h fs m.entries entries popped sound.placed in
     let size = length m.input.now in
@@ -231,7 +231,7 @@ takes_last_choice m entries again p e i h fs sound popped pushed =
     }
 
 pub takes_left_turn : (m : Machine) (entries : List Backtrack) (p i min : ℕ) (max : Option ℕ) (h fs : ℕ) → IsSound m → m.entries ≡ entries ++ (backtrack.Turn p i min max h fs ∷ [])
-    → TakesMarks m (record m { entries = entries; place = p; head = h }) (with_backtracking m []) (remaining (record m { entries = entries; place = p; head = h }) (action.BeginTurn i min max))
+    → TakesMarks m (record m { entries = entries; place = p; head = h }) (with_backtracking m []) (run_ahead (record m { entries = entries; place = p; head = h }) (action.BeginTurn i min max))
 takes_left_turn m entries p i min max h fs sound popped =
     let at' = turn-placed (length m.input.now) (length m.frames) p i min max h fs m.entries entries popped sound.placed in
     record {
@@ -262,7 +262,7 @@ module _ (m : Machine) (entries : List Backtrack) (p : ℕ) (kind : LookAroundAs
       let was = sound.depth in
       record { ordered = sound.ordered; stacked = sound.stacked; head = sound.head; placed = placed-more (length m.input.now) fs (length m.frames) entries at'.2 at'.3; depth = omega arith; place = sound.place }
 
-  takes_unmatched : is_negative kind ≡ false → TakesMarks m (cut_to m entries back depth) (with_backtracking m []) (remaining (cut_to m entries back depth) action.Backtrack)
+  takes_unmatched : is_negative kind ≡ false → TakesMarks m (cut_to m entries back depth) (with_backtracking m []) (run_ahead (cut_to m entries back depth) action.Backtrack)
   takes_unmatched positive = record {
     ticks = false;
     more = [];
@@ -274,7 +274,7 @@ module _ (m : Machine) (entries : List Backtrack) (p : ℕ) (kind : LookAroundAs
   }
 
   takes_unmatched_not : is_negative kind ≡ true
-      → TakesMarks m (record m { entries = entries; back = back; depth = depth; place = p; step = i; head = h }) (with_backtracking m []) (remaining (record m { entries = entries; back = back; depth = depth; place = p; step = i; head = h }) action.Step)
+      → TakesMarks m (record m { entries = entries; back = back; depth = depth; place = p; step = i; head = h }) (with_backtracking m []) (run_ahead (record m { entries = entries; back = back; depth = depth; place = p; step = i; head = h }) action.Step)
   takes_unmatched_not negative =
       let at' = look_around-placed (length m.input.now) (length m.frames) p kind i h fs back m.entries entries popped sound.placed in
       let low = sound_unmatched in
@@ -317,8 +317,8 @@ nothing_left old m entries it none = record {
 }
 
 -- frames that nothing names any more are cut back
-pub cuts_frames : (m new : Machine) (r : Run) (a : Action) (fs : ℕ) (frames : List Frame) → TakesMarks m new r (remaining new a) → fs ≤ length new.frames → new.head ≤ fs → ArePlaced (length new.input.now) fs new.entries → frames ≡ take fs new.frames
-    → TakesMarks m (record new { frames = frames }) r (remaining (record new { frames = frames }) a)
+pub cuts_frames : (m new : Machine) (r : Run) (a : Action) (fs : ℕ) (frames : List Frame) → TakesMarks m new r (run_ahead new a) → fs ≤ length new.frames → new.head ≤ fs → ArePlaced (length new.input.now) fs new.entries → frames ≡ take fs new.frames
+    → TakesMarks m (record new { frames = frames }) r (run_ahead (record new { frames = frames }) a)
 cuts_frames m new r a fs frames takes within top placed is =
     let sound = takes.sound in
     let size = length-take-le fs new.frames within in
@@ -327,7 +327,7 @@ cuts_frames m new r a fs frames takes within top placed is =
     record {
       ticks = takes.ticks;
       more = takes.more;
-      cut = takes.cut ∙ ap (λ x. marked (takes.ticks ∷ takes.more) x) (sym (ap (λ fr. remaining (record new { frames = fr }) a) is ∙ same a));
+      cut = takes.cut ∙ ap (λ x. with_marks (takes.ticks ∷ takes.more) x) (sym (ap (λ fr. run_ahead (record new { frames = fr }) a) is ∙ same a));
       paid = takes.paid;
       input = takes.input;
       program = takes.program;
@@ -351,34 +351,31 @@ cuts_frames m new r a fs frames takes within top placed is =
         ≡ with_backtracking new (bind x (continuation_of new))
     then' x = stack _ ∙ ap (λ ks. with_backtracking new (bind x (continuation_run new.input.now new.back ks))) chain
 
-    same : (a : Action) → remaining (record new { frames = take fs new.frames }) a ≡ remaining new a
+    same : (a : Action) → run_ahead (record new { frames = take fs new.frames }) a ≡ run_ahead new a
     same action.Step = then' (code_run new.input.now (code_at new.program.now new.step) new.back (state_of new))
     same action.Backtrack = stack []
     same (action.Repeat i min max) = then' (turns_run new.input.now new.back min max (state_of new) (code_at new.program.now i))
     same (action.BeginTurn i min max) = then' (turn_run new.input.now new.back min max (state_of new) (code_at new.program.now i))
 
 -- frames that nothing comes back to are taken off
-pub forgets : (m v w : Machine) (r : Run) (a : Action) → TakesMarks m v r (remaining v a) → ForgetsFrames v w → TakesMarks m w r (remaining w a)
-forgets m v w r a takes it = subst (λ x. TakesMarks m x r (remaining x a)) (sym it.shape) (cuts_frames m v r a it.kept (take it.kept v.frames) takes it.within it.head it.placed refl)
-
-pub frames_with_earlier : (m : Machine) (p e i h fs : ℕ) → (with_earlier m p e i h fs).frames ≡ m.frames
-frames_with_earlier m p zero i h fs = refl
-frames_with_earlier m p (suc e) i h fs = refl
+pub forgets : (m v w : Machine) (r : Run) (a : Action) → TakesMarks m v r (run_ahead v a) → ForgetsFrames v w → TakesMarks m w r (run_ahead w a)
+forgets m v w r a takes it = subst (λ x. TakesMarks m x r (run_ahead x a)) (sym it.shape) (cuts_frames m v r a it.kept (take it.kept v.frames) takes it.within it.head it.placed refl)
 
 -- what an entry left for later is taken up, where it was taken out
-pub resumes_choice : (m : Machine) (p e i h fs : ℕ) → IsSound (with_entry m (backtrack.Choice p e i h fs)) → Resumes m (backtrack.Choice p e i h fs) (record (returned (with_earlier m p e i h fs) p h fs) { step = i }) action.Step
+pub resumes_choice : (m : Machine) (p e i h fs : ℕ) → IsSound (with_entry m (backtrack.Choice p e i h fs)) → Resumes m (backtrack.Choice p e i h fs) (record (with_earlier (return_machine m p h fs) p e i) { step = i }) action.Step
 resumes_choice m p zero i h fs sound =
     let before = with_entry m (backtrack.Choice p 0 i h fs) in
     let at' = choice-placed (length m.input.now) (length m.frames) p 0 i h fs before.entries m.entries refl sound.placed in
     cuts_frames before (record m { place = p; step = i; head = h }) (with_backtracking before []) action.Step fs (take fs m.frames) (takes_choice before m.entries p i h fs sound refl) at'.2 at'.1 at'.3 refl
 resumes_choice m p (suc e) i h fs sound =
     let before = with_entry m (backtrack.Choice p (suc e) i h fs) in
-    let again = m.entries ++ (backtrack.Choice (p - 1) e i h fs ∷ []) in
+    let again : ℕ → List Backtrack = λ n. m.entries ++ (backtrack.Choice (p - 1) e i h n ∷ []) in
     let at' = choice-placed (length m.input.now) (length m.frames) p (suc e) i h fs before.entries m.entries refl sound.placed in
-    cuts_frames before (record m { entries = again; place = p; step = i; head = h }) (with_backtracking before []) action.Step fs (take fs m.frames) (takes_last_choice before m.entries again p e i h fs sound refl refl) at'.2 at'.1
-    (placed-choice (length m.input.now) fs (p - 1) e i h again m.entries refl (omega arith) (omega arith) at'.1 at'.3) refl
+    subst (λ n. Resumes m (backtrack.Choice p (suc e) i h fs) (record m { entries = again n; place = p; step = i; head = h; frames = take fs m.frames }) action.Step) (sym (length-take-le fs m.frames at'.2))
+    (cuts_frames before (record m { entries = again fs; place = p; step = i; head = h }) (with_backtracking before []) action.Step fs (take fs m.frames) (takes_last_choice before m.entries (again fs) p e i h fs sound refl refl) at'.2 at'.1
+    (placed-choice (length m.input.now) fs (p - 1) e i h (again fs) m.entries refl (omega arith) (omega arith) at'.1 at'.3) refl)
 
-pub resumes_turn : (m : Machine) (p i min : ℕ) (max : Option ℕ) (h fs : ℕ) → IsSound (with_entry m (backtrack.Turn p i min max h fs)) → Resumes m (backtrack.Turn p i min max h fs) (returned m p h fs) (action.BeginTurn i min max)
+pub resumes_turn : (m : Machine) (p i min : ℕ) (max : Option ℕ) (h fs : ℕ) → IsSound (with_entry m (backtrack.Turn p i min max h fs)) → Resumes m (backtrack.Turn p i min max h fs) (return_machine m p h fs) (action.BeginTurn i min max)
 resumes_turn m p i min max h fs sound =
     let before = with_entry m (backtrack.Turn p i min max h fs) in
     let at' = turn-placed (length m.input.now) (length m.frames) p i min max h fs before.entries m.entries refl sound.placed in
@@ -396,7 +393,7 @@ pub resumes_unmatched : (m : Machine) (p : ℕ) (kind : LookAroundAssertionKind)
 resumes_unmatched m p kind i h fs back depth sound lower positive = takes_unmatched (with_entry m (backtrack.LookAround p kind i h fs back)) m.entries p kind i h fs back depth sound refl lower positive
 
 pub resumes_unmatched_not : (m : Machine) (p : ℕ) (kind : LookAroundAssertionKind) (i h fs : ℕ) (back : Bool) (depth : ℕ) → IsSound (with_entry m (backtrack.LookAround p kind i h fs back)) → suc depth ≡ m.depth → is_negative kind ≡ true
-    → Resumes m (backtrack.LookAround p kind i h fs back) (record (returned (record m { depth = depth; back = back }) p h fs) { step = i }) action.Step
+    → Resumes m (backtrack.LookAround p kind i h fs back) (record (return_machine (record m { depth = depth; back = back }) p h fs) { step = i }) action.Step
 resumes_unmatched_not m p kind i h fs back depth sound lower negative =
     let before = with_entry m (backtrack.LookAround p kind i h fs back) in
     let at' = look_around-placed (length m.input.now) (length m.frames) p kind i h fs back before.entries m.entries refl sound.placed in

@@ -5,7 +5,7 @@ use Rattle.rx_ast.specs.declared.leaf.LookAroundAssertionKind.{LookAroundAsserti
 use Rattle.rx_trace.specs.declared.answer.Slot.{Slot}
 use Rattle.rx_match.specs.declared.entry.Backtrack.{Backtrack}
 use Rattle.rx_match.specs.declared.entry.Backtrack.TheVariants as backtrack
-use Rattle.rx_match.specs.Sound.{PlacedOf, ArePlaced, frames_in, kept_of, kept_in, own_row, row_of, row_in, depth_of, depth_in, top_of, top_in}
+use Rattle.rx_match.specs.Sound.{PlacedOf, ArePlaced, frames_in, frames_below_next, frames_below_last, own_row, row_of, row_in, depth_of, depth_in, top_of, top_in}
 use Rattle.rx_trace.proofs.Lists.{reverse-last}
 
 pub more-of : (n f g : ℕ) (r : List Backtrack) → f ≤ g → PlacedOf n f r → PlacedOf n g r
@@ -71,35 +71,35 @@ unfolding ArePlaced
 look_around-placed n f p kind i h fs back before between is placed = subst (PlacedOf n f) (reverse-last before between (backtrack.LookAround p kind i h fs back) is) placed
 
 -- Entries come back to no more frames than their last one says, of those that there are.
-kept-of : (n f : ℕ) (r : List Backtrack) → PlacedOf n f r → (least : ℕ) × (least ≤ kept_of r) × (least ≤ f) × PlacedOf n least r
+kept-of : (n f : ℕ) (r : List Backtrack) → PlacedOf n f r → (least : ℕ) × (least ≤ frames_below_next r) × (least ≤ f) × PlacedOf n least r
 kept-of n f [] placed = (0, omega arith, omega arith, tt)
 kept-of n f (backtrack.Choice p e i h fs ∷ r) placed = (fs, omega arith, placed.2, (placed.0, placed.1, omega arith, placed.3))
 kept-of n f (backtrack.Turn p i min max h fs ∷ r) placed = (fs, omega arith, placed.2, (placed.0, placed.1, omega arith, placed.3))
 kept-of n f (backtrack.RestoreSlot k old fs row ∷ r) placed = (placed.0, placed.1, placed.2, (placed.0, placed.1, omega arith, placed.3, placed.4))
 kept-of n f (backtrack.LookAround p kind i h fs back ∷ r) placed = (fs, omega arith, placed.2, (placed.0, placed.1, omega arith, placed.3))
 
-pub placed-restore : (n f k : ℕ) (old : Slot) (fs row : ℕ) (before between : List Backtrack) → before ≡ between ++ (backtrack.RestoreSlot k old fs row ∷ []) → fs ≡ kept_in between → row ≤ suc (row_in between) → ArePlaced n f between → ArePlaced n f before
-unfolding ArePlaced kept_in row_in
+pub placed-restore : (n f k : ℕ) (old : Slot) (fs row : ℕ) (before between : List Backtrack) → before ≡ between ++ (backtrack.RestoreSlot k old fs row ∷ []) → fs ≡ frames_below_last between → row ≤ suc (row_in between) → ArePlaced n f between → ArePlaced n f before
+unfolding ArePlaced frames_below_last row_in
 placed-restore n f k old fs row before between is kept few placed =
     let it = kept-of n f (reverse between) placed in
     subst (PlacedOf n f) (sym (reverse-last before between (backtrack.RestoreSlot k old fs row) is)) (it.0, omega arith, it.2, few, it.3)
 
 -- so frames past these may go
-pub placed-kept : (n f g : ℕ) (entries : List Backtrack) → kept_in entries ≤ g → ArePlaced n f entries → ArePlaced n g entries
-unfolding ArePlaced kept_in
+pub placed-kept : (n f g : ℕ) (entries : List Backtrack) → frames_below_last entries ≤ g → ArePlaced n f entries → ArePlaced n g entries
+unfolding ArePlaced frames_below_last
 placed-kept n f g entries enough placed =
     let it = kept-of n f (reverse entries) placed in
     more-of n it.0 g (reverse entries) (omega arith) it.3
 
 -- the last entry says how many
-pub kept-none : (entries : List Backtrack) → length entries ≡ 0 → kept_in entries ≡ 0
-unfolding kept_in
+pub kept-none : (entries : List Backtrack) → length entries ≡ 0 → frames_below_last entries ≡ 0
+unfolding frames_below_last
 kept-none [] none = refl
 kept-none (e ∷ entries) none = absurd (omega arith)
 
-pub kept-last : (e : Backtrack) (before between : List Backtrack) → before ≡ between ++ (e ∷ []) → kept_in before ≡ frames_in e
-unfolding kept_in
-kept-last e before between is = ap kept_of (reverse-last before between e is)
+pub kept-last : (e : Backtrack) (before between : List Backtrack) → before ≡ between ++ (e ∷ []) → frames_below_last before ≡ frames_in e
+unfolding frames_below_last
+kept-last e before between is = ap frames_below_next (reverse-last before between e is)
 
 pub row-none : (entries : List Backtrack) → length entries ≡ 0 → row_in entries ≡ 0
 unfolding row_in

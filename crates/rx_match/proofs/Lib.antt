@@ -3,14 +3,14 @@ pub mod Backs
 pub mod Compiling
 pub mod Cuts
 pub mod Ends
+pub mod EnoughTurns
 pub mod Entries
 pub mod Frames
 pub mod Machines
 pub mod Moving
-pub mod Repeating
-pub mod Repetitions
-pub mod Restoring
+pub mod RepetitionTurns
 pub mod Runs
+pub mod SavedSlots
 pub mod StackRuns
 pub mod Starts
 pub mod Steps

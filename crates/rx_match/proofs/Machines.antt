@@ -10,13 +10,13 @@ use Rattle.rx_match.specs.declared.entry.Pending.TheVariants as pending
 use Rattle.rx_match.specs.declared.entry.Backtrack.{Backtrack}
 use Rattle.rx_match.specs.declared.entry.Backtrack.TheVariants as backtrack
 use Rattle.rx_trace.specs.Traces.{State}
-use Rattle.rx_trace.specs.Groups.{captured}
+use Rattle.rx_trace.specs.Groups.{with_capture}
 use Rattle.rx_trace.specs.Matching.{looks_back}
-use Rattle.rx_match.specs.Runs.{Run, silent, bind, look_around_run, continued, code_run, is_negative}
+use Rattle.rx_match.specs.Runs.{Run, silent, bind, look_around_run, run_onward, code_run, is_negative}
 use Rattle.rx_program.specs.Codes.{choose, sequence}
 use Rattle.rx_match.specs.Machines.{pending_continuation, continuations_at, continuation_run, stack_run}
 use Rattle.rx_program.specs.Steps.{code_at}
-use Rattle.rx_match.specs.Running.{state_of, with_backtracking, continuation_of, run_of, run_after_tick, remaining, IsSound, PushesFrame, KeepsRun, TakesMarks}
+use Rattle.rx_match.specs.MachineSteps.{state_of, with_backtracking, continuation_of, run_of, run_after_tick, run_ahead, IsSound, PushesFrame, KeepsRun, TakesMarks}
 use Rattle.rx_match.proofs.Runs.{bind-append, bind-bind, bind-reaches, bind-each, look_around-bind}
 use Rattle.rx_match.proofs.Frames.{frames-none, frames-new, stacked-more}
 use Rattle.rx_trace.proofs.Lists.{length-last}
@@ -39,7 +39,7 @@ pushes_frame m w frames h sound pushed top =
 
 -- one of two ways, and the other for later
 pub takes_choose : (m : Machine) (first other : ℕ) (entries : List Backtrack) → IsSound m → entries ≡ m.entries ++ (backtrack.Choice m.place 0 other m.head (length m.frames) ∷ [])
-    → TakesMarks m (record m { entries = entries; step = first }) (run_of m (choose (code_at m.program.now first) (code_at m.program.now other))) (remaining (record m { entries = entries; step = first }) action.Step)
+    → TakesMarks m (record m { entries = entries; step = first }) (run_of m (choose (code_at m.program.now first) (code_at m.program.now other))) (run_ahead (record m { entries = entries; step = first }) action.Step)
 takes_choose m first other entries sound pushed =
     let steps = m.program.now in
     let a = code_run m.input.now (code_at steps first) m.back (state_of m) in
@@ -80,7 +80,7 @@ sound_with_frame m v w i sound pushed_frame = record {
 -- from a body with something to follow, to the body with this waiting
 pub with_frame_is : (m v : Machine) (w : Pending) (i : ℕ) (f : State → Run) → PushesFrame m v w
     → ((x : State) → bind (f x) (continuation_of m) ≡ continuation_run m.input.now m.back (pending_continuation m.program.now w ∷ continuations_at m.program.now m.frames m.head) x)
-    → with_backtracking m (bind (bind (code_run m.input.now (code_at m.program.now i) m.back (state_of m)) f) (continuation_of m)) ≡ remaining (with_frame m v i) action.Step
+    → with_backtracking m (bind (bind (code_run m.input.now (code_at m.program.now i) m.back (state_of m)) f) (continuation_of m)) ≡ run_ahead (with_frame m v i) action.Step
 with_frame_is m v w i f pushed_frame same =
     let a = code_run m.input.now (code_at m.program.now i) m.back (state_of m) in
     ap (with_backtracking m) (bind-bind a f (continuation_of m) ∙ bind-each a (λ x. bind (f x) (continuation_of m)) (λ x. continuation_run m.input.now m.back (pending_continuation m.program.now w ∷ continuations_at m.program.now m.frames m.head) x) same
@@ -88,11 +88,11 @@ with_frame_is m v w i f pushed_frame same =
     ∙ sym (pushed_frame.left (bind a (continuation_run m.input.now m.back (continuations_at m.program.now v.frames v.head))))
 
 pub takes_sequence : (m v : Machine) (first second : ℕ) → IsSound m → PushesFrame m v (pending.Next second)
-    → TakesMarks m (record v { step = first }) (run_of m (sequence (code_at m.program.now first) (code_at m.program.now second))) (remaining (record v { step = first }) action.Step)
+    → TakesMarks m (record v { step = first }) (run_of m (sequence (code_at m.program.now first) (code_at m.program.now second))) (run_ahead (record v { step = first }) action.Step)
 takes_sequence m v first second sound pushed_frame =
     let steps = m.program.now in
     let next : State → Run = λ w. silent ∷ code_run m.input.now (code_at steps second) m.back w in
-    subst (λ x. TakesMarks m (record x { step = first }) (run_of m (sequence (code_at steps first) (code_at steps second))) (remaining (record x { step = first }) action.Step)) (sym pushed_frame.shape)
+    subst (λ x. TakesMarks m (record x { step = first }) (run_of m (sequence (code_at steps first) (code_at steps second))) (run_ahead (record x { step = first }) action.Step)) (sym pushed_frame.shape)
     (record {
       ticks = false;
       more = [];
@@ -106,7 +106,7 @@ takes_sequence m v first second sound pushed_frame =
 
 -- The machine moves, or fails.
 pub keeps_move : (m : Machine) (q next : ℕ) → IsSound m → q ≤ length m.input.now
-    → KeepsRun m (record m { place = q; step = next }) (with_backtracking m (bind (continued (Some q) (state_of m) (code_run m.input.now (code_at m.program.now next) m.back)) (continuation_of m))) (remaining (record m { place = q; step = next }) action.Step)
+    → KeepsRun m (record m { place = q; step = next }) (with_backtracking m (bind (run_onward (Some q) (state_of m) (code_run m.input.now (code_at m.program.now next) m.back)) (continuation_of m))) (run_ahead (record m { place = q; step = next }) action.Step)
 keeps_move m q next sound within = record {
   same = refl;
   paid = refl;
@@ -115,17 +115,17 @@ keeps_move m q next sound within = record {
   sound = record { ordered = sound.ordered; stacked = sound.stacked; head = sound.head; placed = sound.placed; depth = sound.depth; place = within };
 }
 
-pub keeps_fail : (m : Machine) (r : Run) → IsSound m → r ≡ [] → KeepsRun m m (with_backtracking m (bind r (continuation_of m))) (remaining m action.Backtrack)
+pub keeps_fail : (m : Machine) (r : Run) → IsSound m → r ≡ [] → KeepsRun m m (with_backtracking m (bind r (continuation_of m))) (run_ahead m action.Backtrack)
 keeps_fail m r sound none = record { same = ap (λ r. with_backtracking m (bind r (continuation_of m))) none; paid = refl; input = refl; program = refl; sound = sound }
 
 pub sound_step : (m : Machine) (i : ℕ) → IsSound m → IsSound (record m { step = i })
 sound_step m i sound = record { ordered = sound.ordered; stacked = sound.stacked; head = sound.head; placed = sound.placed; depth = sound.depth; place = sound.place }
 
 pub keeps_capture : (m v : Machine) (group body next : ℕ) → IsSound m → PushesFrame m v (pending.CloseGroup group m.place next)
-    → KeepsRun m (record v { step = body }) (run_after_tick m (step.Capture group body next)) (remaining (record v { step = body }) action.Step)
+    → KeepsRun m (record v { step = body }) (run_after_tick m (step.Capture group body next)) (run_ahead (record v { step = body }) action.Step)
 keeps_capture m v group body next sound pushed_frame =
-    let then' : State → Run = λ w. silent ∷ code_run m.input.now (code_at m.program.now next) m.back (captured group m.place w) in
-    subst (λ x. KeepsRun m (record x { step = body }) (run_after_tick m (step.Capture group body next)) (remaining (record x { step = body }) action.Step)) (sym pushed_frame.shape)
+    let then' : State → Run = λ w. silent ∷ code_run m.input.now (code_at m.program.now next) m.back (with_capture group m.place w) in
+    subst (λ x. KeepsRun m (record x { step = body }) (run_after_tick m (step.Capture group body next)) (run_ahead (record x { step = body }) action.Step)) (sym pushed_frame.shape)
     (record {
       same = with_frame_is m v (pending.CloseGroup group m.place next) body then' pushed_frame (λ x. refl);
       paid = refl;
@@ -137,7 +137,7 @@ keeps_capture m v group body next sound pushed_frame =
 -- a look-around begins
 pub keeps_look : (m : Machine) (kind : LookAroundAssertionKind) (body next depth : ℕ) (back : Bool) (entries : List Backtrack) → IsSound m
     → entries ≡ m.entries ++ (backtrack.LookAround m.place kind next m.head (length m.frames) m.back ∷ []) → back ≡ looks_back kind → depth ≡ m.depth + 1
-    → KeepsRun m (record m { entries = entries; step = body; head = 0; back = back; depth = depth }) (run_after_tick m (step.LookAround kind body next)) (remaining (record m { entries = entries; step = body; head = 0; back = back; depth = depth }) action.Step)
+    → KeepsRun m (record m { entries = entries; step = body; head = 0; back = back; depth = depth }) (run_after_tick m (step.LookAround kind body next)) (run_ahead (record m { entries = entries; step = body; head = 0; back = back; depth = depth }) action.Step)
 keeps_look m kind body next depth back entries sound pushed ahead deeper =
     let input = m.input.now in
     let steps = m.program.now in

@@ -6,14 +6,14 @@ use Rattle.std.proofs.lemmas.Option.{slice_get_within}
 use Rattle.rx_trace.specs.declared.answer.Slot.{Slot}
 use Rattle.rx_trace.specs.declared.answer.Slot.TheVariants.{Unset, Set}
 use Rattle.rx_trace.specs.Traces.{State}
-use Rattle.rx_trace.specs.Holding.{ahead, preceding, boundary_holds}
+use Rattle.rx_trace.specs.Holding.{ahead, unit_before, boundary_holds}
 use Rattle.rx_trace.specs.Repeats.{is_over, one_less}
-use Rattle.rx_trace.specs.Groups.{same_units, unset_in, captured}
-use Rattle.rx_trace.specs.Matching.{held_to, looks_back, place_over}
-use Rattle.rx_match.specs.Runs.{Run, silent, bind, continued, turn_end_run, in_turn_run, repetition_run, unit_to, slot_to, code_run, is_negative, at_place}
+use Rattle.rx_trace.specs.Groups.{same_units, unset_in, with_capture}
+use Rattle.rx_trace.specs.Matching.{place_if_held, looks_back, place_over}
+use Rattle.rx_match.specs.Runs.{Run, silent, bind, run_onward, turn_end_run, in_turn_run, repetition_run, unit_to, slot_to, code_run, is_negative, at_place}
 use Rattle.rx_program.specs.Codes.{Code, accept, reject, consume, assert, refer, enter_group, choose, sequence, capture, look_around, repeat}
 use Rattle.rx_match.proofs.Runs.{EachReached, reaches-append, reaches-bind, reaches-weaker, reaches-peek}
-use Rattle.rx_match.proofs.Repetitions.{Moves, inside}
+use Rattle.rx_match.proofs.EnoughTurns.{Moves, inside}
 
 pub stays-moves : (n : ℕ) (back : Bool) (p : ℕ) → p ≤ n → Moves n back p p
 stays-moves n false p within = (omega arith, within)
@@ -33,7 +33,7 @@ module _ (input : List ℕ) where
   MovesTo back p None = Unit {0}
   MovesTo back p (Some q) = Moves (length input) back p q
 
-  held-moves : (holds : ℕ → Bool) (back : Bool) (p q : ℕ) (o : Option ℕ) → ((c : ℕ) → o ≡ Some c → Moves (length input) back p q) → MovesTo back p (held_to holds q o)
+  held-moves : (holds : ℕ → Bool) (back : Bool) (p q : ℕ) (o : Option ℕ) → ((c : ℕ) → o ≡ Some c → Moves (length input) back p q) → MovesTo back p (place_if_held holds q o)
   held-moves holds back p q None moves = tt
   held-moves holds back p q (Some c) moves = by_test (holds c)
     where
@@ -43,7 +43,7 @@ module _ (input : List ℕ) where
 
   pub unit-moves : (back : Bool) (holds : ℕ → Bool) (p : ℕ) → p ≤ length input → MovesTo back p (unit_to input back holds p)
   unit-moves false holds p within = held-moves holds false p (p + 1) (ahead input p) (λ c is. let below = slice_get_within input p c is in (omega arith, omega arith))
-  unit-moves true holds p within = held-moves holds true p (p - 1) (preceding input p) (λ c is. (omega arith, omega arith))
+  unit-moves true holds p within = held-moves holds true p (p - 1) (unit_before input p) (λ c is. (omega arith, omega arith))
 
   same-length : (a b : List ℕ) → same_units a b ≡ true → length a ≡ length b
   same-length [] [] same = refl
@@ -75,7 +75,7 @@ module _ (input : List ℕ) where
   slot-moves true (Set start end) p within = slot-back (take (end - start) (drop start input)) p within
 
   go-moves : (back : Bool) (o : Option ℕ) (s : State) (k : State → Run) → MovesTo back s.place o
-      → ((w : State) → Moves (length input) back s.place w.place → EachReached (λ v. Moves (length input) back w.place v.place) (k w)) → EachReached (λ v. Moves (length input) back s.place v.place) (continued o s k)
+      → ((w : State) → Moves (length input) back s.place w.place → EachReached (λ v. Moves (length input) back w.place v.place) (k w)) → EachReached (λ v. Moves (length input) back s.place v.place) (run_onward o s k)
   go-moves back None s k moves rest = tt
   go-moves back (Some p) s k moves rest =
       reaches-weaker (λ v. Moves (length input) back s.place v.place) (λ v. Moves (length input) back p v.place) (k (at_place p s)) (λ v m. moves-moves (length input) back s.place p v.place moves m) (rest (at_place p s) moves)
@@ -132,7 +132,7 @@ module _ (input : List ℕ) where
   code-inside (sequence first second) back s within =
       then-inside back s (code_run input first back s) (λ w. silent ∷ code_run input second back w) (code-inside first back s within) (λ w m. code-inside second back w (inside (length input) back s.place w.place m))
   code-inside (capture k body next) back s within =
-      then-inside back s (code_run input body back s) (λ w. silent ∷ code_run input next back (captured k s.place w)) (code-inside body back s within) (λ w m. code-inside next back (captured k s.place w) (inside (length input) back s.place w.place m))
+      then-inside back s (code_run input body back s) (λ w. silent ∷ code_run input next back (with_capture k s.place w)) (code-inside body back s within) (λ w m. code-inside next back (with_capture k s.place w) (inside (length input) back s.place w.place m))
   code-inside (look_around kind body next) back s within =
       reaches-peek (λ w. Moves (length input) back s.place w.place) (is_negative kind) (code_run input body (looks_back kind) s) s (code_run input next back)
       (λ w. code-inside next back (at_place s.place w) within) (code-inside next back s within)

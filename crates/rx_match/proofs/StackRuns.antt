@@ -8,10 +8,10 @@ use Rattle.rx_match.specs.declared.entry.Frame.{Frame}
 use Rattle.rx_match.specs.declared.entry.Backtrack.{Backtrack}
 use Rattle.rx_match.specs.declared.entry.Backtrack.TheVariants as backtrack
 use Rattle.rx_trace.specs.Traces.{State}
-use Rattle.rx_match.specs.Runs.{Run, marked, silent, ticked, reaches, bind, look_around_run, is_negative, at_place}
+use Rattle.rx_match.specs.Runs.{Run, with_marks, silent, ticked, reaches, bind, look_around_run, is_negative, at_place}
 use Rattle.rx_program.specs.Steps.{code_at}
 use Rattle.rx_match.specs.Machines.{continuations_at, choices_run, turn_run, continuation_run, code_then, stack_run_of, stack_run}
-use Rattle.rx_match.specs.Sound.{PlacedOf, ArePlaced, depth_of, depth_in, cut_of, cut_back, cut_in, top_of, top_in}
+use Rattle.rx_match.specs.Sound.{PlacedOf, ArePlaced, depth_of, depth_in, cut_reversed, cut_last_first, cut_entries, top_of, top_in}
 use Rattle.rx_trace.proofs.Lists.{reverse-last}
 use Rattle.rx_match.proofs.Frames.{frames-more}
 use Rattle.rx_match.proofs.Entries.{more-of}
@@ -53,10 +53,10 @@ module _ (input : List ℕ) (steps : List Step) where
   unfolding stack_run
   stack_run-ticked frames entries back slots now = ticked-first frames (reverse entries) back slots now
 
-  pub stack_run-marked : (ticks : List Bool) (frames : List Frame) (entries : List Backtrack) (back : Bool) (slots : List Slot) (now : Run) → stack_run input steps frames entries back slots (marked ticks now) ≡ marked ticks (stack_run input steps frames entries back slots now)
+  pub stack_run-marked : (ticks : List Bool) (frames : List Frame) (entries : List Backtrack) (back : Bool) (slots : List Slot) (now : Run) → stack_run input steps frames entries back slots (with_marks ticks now) ≡ with_marks ticks (stack_run input steps frames entries back slots now)
   stack_run-marked [] frames entries back slots now = refl
-  stack_run-marked (true ∷ ticks) frames entries back slots now = stack_run-ticked frames entries back slots (marked ticks now) ∙ ap (λ r. ticked ∷ r) (stack_run-marked ticks frames entries back slots now)
-  stack_run-marked (false ∷ ticks) frames entries back slots now = stack_run-silent frames entries back slots (marked ticks now) ∙ ap (λ r. silent ∷ r) (stack_run-marked ticks frames entries back slots now)
+  stack_run-marked (true ∷ ticks) frames entries back slots now = stack_run-ticked frames entries back slots (with_marks ticks now) ∙ ap (λ r. ticked ∷ r) (stack_run-marked ticks frames entries back slots now)
+  stack_run-marked (false ∷ ticks) frames entries back slots now = stack_run-silent frames entries back slots (with_marks ticks now) ∙ ap (λ r. silent ∷ r) (stack_run-marked ticks frames entries back slots now)
 
   pub stack_run-nil : (frames : List Frame) (back : Bool) (slots : List Slot) (now : Run) → stack_run input steps frames [] back slots now ≡ now
   unfolding stack_run
@@ -110,7 +110,7 @@ module _ (input : List ℕ) (steps : List Step) where
   cut-true : (frames : List Frame) (r : List Backtrack) (p : ℕ) (kind : LookAroundAssertionKind) (i h fs : ℕ) (ob : Bool) (back : Bool) (slots : List Slot) (w : State) (now : Run)
       → top_of r ≡ Some (backtrack.LookAround p kind i h fs ob)
       → stack_run_of input steps frames r back slots (reaches w ∷ now)
-      ≡ stack_run_of input steps frames (cut_of r) ob slots (if is_negative kind then silent ∷ [] else silent ∷ code_then input ob (code_at steps i) (continuations_at steps frames h) (at_place p w))
+      ≡ stack_run_of input steps frames (cut_reversed r) ob slots (if is_negative kind then silent ∷ [] else silent ∷ code_then input ob (code_at steps i) (continuations_at steps frames h) (at_place p w))
   cut-true frames [] p kind i h fs ob back slots w now is = absurd (cc)
   cut-true frames (backtrack.Choice p' e' i' h' fs' ∷ more) p kind i h fs ob back slots w now is = cut-true frames more p kind i h fs ob back slots w _ is
   cut-true frames (backtrack.Turn p' i' min max h' fs' ∷ more) p kind i h fs ob back slots w now is = cut-true frames more p kind i h fs ob back slots w _ is
@@ -129,11 +129,11 @@ module _ (input : List ℕ) (steps : List Step) where
   pub stack_run-cut : (frames : List Frame) (entries : List Backtrack) (p : ℕ) (kind : LookAroundAssertionKind) (i h fs : ℕ) (ob : Bool) (back : Bool) (slots : List Slot) (w : State) (now : Run)
       → top_in entries ≡ Some (backtrack.LookAround p kind i h fs ob)
       → stack_run input steps frames entries back slots (reaches w ∷ now)
-      ≡ stack_run input steps frames (cut_in entries) ob slots (if is_negative kind then silent ∷ [] else silent ∷ code_then input ob (code_at steps i) (continuations_at steps frames h) (at_place p w))
-  unfolding stack_run cut_back top_in
+      ≡ stack_run input steps frames (cut_entries entries) ob slots (if is_negative kind then silent ∷ [] else silent ∷ code_then input ob (code_at steps i) (continuations_at steps frames h) (at_place p w))
+  unfolding stack_run cut_last_first top_in
   stack_run-cut frames entries p kind i h fs ob back slots w now is =
       cut-true frames (reverse entries) p kind i h fs ob back slots w now is
-      ∙ ap (λ r. stack_run_of input steps frames r ob slots (if is_negative kind then silent ∷ [] else silent ∷ code_then input ob (code_at steps i) (continuations_at steps frames h) (at_place p w))) (sym (reverse-reverse (cut_of (reverse entries))))
+      ∙ ap (λ r. stack_run_of input steps frames r ob slots (if is_negative kind then silent ∷ [] else silent ∷ code_then input ob (code_at steps i) (continuations_at steps frames h) (at_place p w))) (sym (reverse-reverse (cut_reversed (reverse entries))))
 
   -- no look-around is open, and the state is the first
   pub record Arrives (w : State) (r : Run) : Type 0 where

@@ -13,7 +13,7 @@ use Rattle.rx_program.specs.Steps.{code_at}
 use Rattle.rx_match.specs.Machines.{continuations_at, continuation_run}
 use Rattle.rx_program.specs.Steps.{AreOrdered}
 use Rattle.rx_match.specs.Sound.{AreStacked, ArePlaced, depth_in}
-use Rattle.rx_match.specs.Running.{state_of, remaining, IsSound, IsRun}
+use Rattle.rx_match.specs.MachineSteps.{state_of, run_ahead, IsSound, IsRun}
 use Rattle.rx_match.specs.Programs.{trace_of, IsRunFrom}
 use Rattle.rx_match.proofs.Runs.{bind-reaches}
 use Rattle.rx_match.proofs.Frames.{frames-none}
@@ -32,7 +32,7 @@ sound_start m ordered within frames entries head depth = record {
 }
 
 pub start_is : (m : Machine) (groups : ℕ) → m.entries ≡ [] → m.head ≡ 0 → m.slots.items ≡ replicate groups Unset
-    → remaining m action.Step ≡ code_run m.input.now (code_at m.program.now m.step) m.back (record { place = m.place; slots = replicate groups Unset })
+    → run_ahead m action.Step ≡ code_run m.input.now (code_at m.program.now m.step) m.back (record { place = m.place; slots = replicate groups Unset })
 start_is m groups entries head slots =
     let a = code_run m.input.now (code_at m.program.now m.step) m.back (state_of m) in
     let r : ℕ → Run = λ h. bind a (continuation_run m.input.now m.back (continuations_at m.program.now m.frames h)) in
@@ -44,7 +44,7 @@ start_is m groups entries head slots =
     ∙ ap (λ sl. code_run m.input.now (code_at m.program.now m.step) m.back (record { place = m.place; slots = sl })) slots
 
 -- a run from where the machine starts
-pub ran_from : (old m new : Machine) (t : Trace) → visible (remaining m action.Step) ≡ t → m.budget ≡ old.budget → m.input ≡ old.input → m.program ≡ old.program → (it : Progress) → IsRun m new (remaining m action.Step) it → IsRunFrom old new t it
+pub ran_from : (old m new : Machine) (t : Trace) → visible (run_ahead m action.Step) ≡ t → m.budget ≡ old.budget → m.input ≡ old.input → m.program ≡ old.program → (it : Progress) → IsRun m new (run_ahead m action.Step) it → IsRunFrom old new t it
 ran_from old m new t same budgets inputs programs (progress.Continue n) ran = ran
 ran_from old m new t same budgets inputs programs progress.NoMatch ran = (ap first (sym same) ∙ ran.0, sym budgets ∙ ran.1 ∙ ap (λ c. c + new.budget) (ap cost same), ran.2 ∙ inputs, ran.3 ∙ programs)
 ran_from old m new t same budgets inputs programs progress.Match ran = (ap first (sym same) ∙ ran.0, sym budgets ∙ ran.1 ∙ ap (λ c. c + new.budget) (ap cost same))

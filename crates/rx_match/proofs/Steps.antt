@@ -11,15 +11,15 @@ use Rattle.std.specs.Prelude.{IfSome}
 use Rattle.rx_trace.specs.declared.answer.Slot.{Slot}
 use Rattle.rx_program.specs.declared.step.Turns.{Turns}
 use Rattle.rx_trace.specs.Traces.{State, cost, first}
-use Rattle.rx_match.specs.Runs.{Run, visible, marked, paid_by, slot_to, silent, ticked, bind, code_run}
+use Rattle.rx_match.specs.Runs.{Run, visible, with_marks, paid_by, slot_to, silent, ticked, bind, code_run}
 use Rattle.rx_program.specs.Codes.{Code, reject}
 use Rattle.rx_match.specs.Kinds.{repetition_in, repetition_of, ticks_in}
 use Rattle.rx_program.specs.Steps.{step_code, code_in, code_at}
 use Rattle.rx_match.specs.Machines.{turns_run, of_repetition}
-use Rattle.rx_match.specs.Running.{state_of, with_backtracking, continuation_of, run_of, after_tick, run_after_tick, remaining, IsSound, IsRepetitionAt, KeepsRun, TakesMarks, IsSpent}
+use Rattle.rx_match.specs.MachineSteps.{state_of, with_backtracking, continuation_of, run_of, after_tick, run_after_tick, run_ahead, IsSound, IsRepetitionAt, KeepsRun, TakesMarks, IsSpent}
 use Rattle.rx_program.proofs.Programs.{code_is, read_of, read_is}
 use Rattle.rx_match.proofs.Moving.{MovesTo, slot-moves}
-use Rattle.rx_match.proofs.Repetitions.{inside}
+use Rattle.rx_match.proofs.EnoughTurns.{inside}
 use Rattle.rx_match.proofs.StackRuns.{stack_run-silent, stack_run-ticked}
 
 -- a step that ticks
@@ -37,20 +37,20 @@ ticks_first (step.Capture g body next) input f back st is = refl
 ticks_first (step.LookAround kind body next) input f back st is = refl
 ticks_first (step.Repeat t b n) input f back st is = refl
 
-pub steps_to : (m : Machine) (x : Step) → IsSound m → slice_get m.program.now m.step ≡ Some x → remaining m action.Step ≡ run_of m (step_code x (code_at m.program.now))
+pub steps_to : (m : Machine) (x : Step) → IsSound m → slice_get m.program.now m.step ≡ Some x → run_ahead m action.Step ≡ run_of m (step_code x (code_at m.program.now))
 steps_to m x sound is = ap (λ c. run_of m c) (code_is m.program.now m.step x sound.ordered is)
 
-pub ticks : (m : Machine) (x : Step) → IsSound m → slice_get m.program.now m.step ≡ Some x → ticks_in x ≡ true → remaining m action.Step ≡ ticked ∷ run_after_tick m x
+pub ticks : (m : Machine) (x : Step) → IsSound m → slice_get m.program.now m.step ≡ Some x → ticks_in x ≡ true → run_ahead m action.Step ≡ ticked ∷ run_after_tick m x
 ticks m x sound is tick =
     steps_to m x sound is
     ∙ ap (λ r. with_backtracking m (bind r (continuation_of m))) (ticks_first x m.input.now (code_at m.program.now) m.back (state_of m) tick)
     ∙ stack_run-ticked m.input.now m.program.now m.frames m.entries m.back m.slots.items (bind (after_tick m.input.now (step_code x (code_at m.program.now)) m.back (state_of m)) (continuation_of m))
 
-pub spent : (m : Machine) (x : Step) → IsSound m → slice_get m.program.now m.step ≡ Some x → ticks_in x ≡ true → m.budget ≡ 0 → IsSpent m (remaining m action.Step)
+pub spent : (m : Machine) (x : Step) → IsSound m → slice_get m.program.now m.step ≡ Some x → ticks_in x ≡ true → m.budget ≡ 0 → IsSpent m (run_ahead m action.Step)
 spent m x sound is tick none = record { rest = run_after_tick m x; is = ticks m x sound is tick; none = none }
 
 -- a Tick is paid
-pub takes_tick : (m new : Machine) (x : Step) (budget : ℕ) (r : Run) → IsSound m → slice_get m.program.now m.step ≡ Some x → ticks_in x ≡ true → m.budget ≡ suc budget → KeepsRun (record m { budget = budget }) new (run_after_tick m x) r → TakesMarks m new (remaining m action.Step) r
+pub takes_tick : (m new : Machine) (x : Step) (budget : ℕ) (r : Run) → IsSound m → slice_get m.program.now m.step ≡ Some x → ticks_in x ≡ true → m.budget ≡ suc budget → KeepsRun (record m { budget = budget }) new (run_after_tick m x) r → TakesMarks m new (run_ahead m action.Step) r
 takes_tick m new x budget r sound is tick pays keeps = record {
   ticks = true;
   more = [];
@@ -75,7 +75,7 @@ unfolding code_at
 past_is steps i is = past_program (Rattle.std.proofs.Common.reverse steps) i (sym (read_is steps i) ∙ is)
 
 -- nothing is to be done but to mark it, and then what is left
-takes_nothing : (m : Machine) (r : Run) → IsSound m → r ≡ with_backtracking m (silent ∷ []) → TakesMarks m m r (remaining m action.Backtrack)
+takes_nothing : (m : Machine) (r : Run) → IsSound m → r ≡ with_backtracking m (silent ∷ []) → TakesMarks m m r (run_ahead m action.Backtrack)
 takes_nothing m r sound is = record {
   ticks = false;
   more = [];
@@ -86,8 +86,8 @@ takes_nothing m r sound is = record {
   sound = sound;
 }
 
-pub takes_reject : (m : Machine) → IsSound m → remaining m action.Step ≡ run_of m reject → TakesMarks m m (remaining m action.Step) (remaining m action.Backtrack)
-takes_reject m sound is = takes_nothing m (remaining m action.Step) sound is
+pub takes_reject : (m : Machine) → IsSound m → run_ahead m action.Step ≡ run_of m reject → TakesMarks m m (run_ahead m action.Step) (run_ahead m action.Backtrack)
+takes_reject m sound is = takes_nothing m (run_ahead m action.Step) sound is
 
 -- a repetition that a program has
 pub repeats_at : (m : Machine) (i : ℕ) (x : Step) (it : Repeated) → IsSound m → slice_get m.program.now i ≡ Some x → Some it ≡ repetition_in x → IsRepetitionAt m i it.turns it.body it.next
@@ -146,11 +146,11 @@ no_repeat_of m i sound is = by_step (slice_get m.program.now i) refl is
     by_step None at is = no_repeat_past m i at
     by_step (Some x) at is = no_repeat_step m i x sound at (sym is)
 
-pub takes_no_repeat : (m : Machine) (i min : ℕ) (max : Option ℕ) → IsSound m → ((f : ℕ → Option ℕ → Bool → ℕ → ℕ → Code → Code → Run) → of_repetition f (code_at m.program.now i) ≡ silent ∷ []) → TakesMarks m m (remaining m (action.Repeat i min max)) (remaining m action.Backtrack)
-takes_no_repeat m i min max sound none = takes_nothing m (remaining m (action.Repeat i min max)) sound (ap (λ r. with_backtracking m (bind r (continuation_of m))) (none _))
+pub takes_no_repeat : (m : Machine) (i min : ℕ) (max : Option ℕ) → IsSound m → ((f : ℕ → Option ℕ → Bool → ℕ → ℕ → Code → Code → Run) → of_repetition f (code_at m.program.now i) ≡ silent ∷ []) → TakesMarks m m (run_ahead m (action.Repeat i min max)) (run_ahead m action.Backtrack)
+takes_no_repeat m i min max sound none = takes_nothing m (run_ahead m (action.Repeat i min max)) sound (ap (λ r. with_backtracking m (bind r (continuation_of m))) (none _))
 
-pub takes_no_begin : (m : Machine) (i min : ℕ) (max : Option ℕ) → IsSound m → ((f : ℕ → Option ℕ → Bool → ℕ → ℕ → Code → Code → Run) → of_repetition f (code_at m.program.now i) ≡ silent ∷ []) → TakesMarks m m (remaining m (action.BeginTurn i min max)) (remaining m action.Backtrack)
-takes_no_begin m i min max sound none = takes_nothing m (remaining m (action.BeginTurn i min max)) sound (ap (λ r. with_backtracking m (bind r (continuation_of m))) (none _))
+pub takes_no_begin : (m : Machine) (i min : ℕ) (max : Option ℕ) → IsSound m → ((f : ℕ → Option ℕ → Bool → ℕ → ℕ → Code → Code → Run) → of_repetition f (code_at m.program.now i) ≡ silent ∷ []) → TakesMarks m m (run_ahead m (action.BeginTurn i min max)) (run_ahead m action.Backtrack)
+takes_no_begin m i min max sound none = takes_nothing m (run_ahead m (action.BeginTurn i min max)) sound (ap (λ r. with_backtracking m (bind r (continuation_of m))) (none _))
 
 -- a slot leads to a place of the input
 pub slot_within : (input : List ℕ) (back : Bool) (sl : Slot) (p : ℕ) (o : Option ℕ) → p ≤ length input → o ≡ slot_to input back sl p → IfSome o (λ q. q ≤ length input)
@@ -161,7 +161,7 @@ slot_within input back sl p o within is = subst (λ o. IfSome o (λ q. q ≤ len
     by_option (Some q) moves = inside (length input) back p q moves
 
 pub keeps_repeat : (m : Machine) (t : Turns) (body next : ℕ) (x : Step) → IsSound m → slice_get m.program.now m.step ≡ Some x → x ≡ step.Repeat t body next
-    → KeepsRun m m (run_after_tick m x) (remaining m (action.Repeat m.step t.min t.max))
+    → KeepsRun m m (run_after_tick m x) (run_ahead m (action.Repeat m.step t.min t.max))
 keeps_repeat m t body next x sound at is =
     let code = code_is m.program.now m.step x sound.ordered at ∙ ap (λ x. step_code x (code_at m.program.now)) is in
     record {
@@ -180,17 +180,17 @@ pub record HasRun (old m : Machine) (r s : Run) : Type 0 where
   pub program : m.program ≡ old.program
   pub sound : IsSound m
 
-marked_cost : (ticks : List Bool) (r : Run) (budget : ℕ) → paid_by ticks budget + cost (visible r) ≡ cost (visible (marked ticks r)) + budget
+marked_cost : (ticks : List Bool) (r : Run) (budget : ℕ) → paid_by ticks budget + cost (visible r) ≡ cost (visible (with_marks ticks r)) + budget
 marked_cost [] r budget = omega arith
 marked_cost (true ∷ ticks) r budget = let e = marked_cost ticks r budget in omega arith
 marked_cost (false ∷ ticks) r budget = marked_cost ticks r budget
 
-marked_first : (ticks : List Bool) (r : Run) → first (visible (marked ticks r)) ≡ first (visible r)
+marked_first : (ticks : List Bool) (r : Run) → first (visible (with_marks ticks r)) ≡ first (visible r)
 marked_first [] r = refl
 marked_first (true ∷ ticks) r = marked_first ticks r
 marked_first (false ∷ ticks) r = marked_first ticks r
 
-marked_length : (ticks : List Bool) (r : Run) → length (marked ticks r) ≡ length ticks + length r
+marked_length : (ticks : List Bool) (r : Run) → length (with_marks ticks r) ≡ length ticks + length r
 marked_length [] r = omega arith
 marked_length (true ∷ ticks) r = let e = marked_length ticks r in omega arith
 marked_length (false ∷ ticks) r = let e = marked_length ticks r in omega arith

@@ -8,15 +8,15 @@ use Rattle.rx_match.specs.declared.entry.Backtrack.TheVariants as backtrack
 use Rattle.rx_program.specs.declared.step.Test.{Test}
 use Rattle.rx_trace.specs.Traces.{State}
 use Rattle.rx_trace.specs.Repeats.{one_less}
-use Rattle.rx_trace.specs.Holding.{preceding}
-use Rattle.rx_trace.specs.Matching.{held_to}
+use Rattle.rx_trace.specs.Holding.{unit_before}
+use Rattle.rx_trace.specs.Matching.{place_if_held}
 use Rattle.rx_match.specs.Kinds.{IsUnit, fewer, allowed_within}
-use Rattle.rx_match.specs.Runs.{Run, silent, marked, bind, unit_to, code_run, AreHeld}
+use Rattle.rx_match.specs.Runs.{Run, silent, with_marks, bind, unit_to, code_run, AreHeld}
 use Rattle.rx_program.specs.Codes.{accept, consume, repeat}
 use Rattle.rx_program.specs.Steps.{test_holds, code_at}
 use Rattle.rx_match.specs.Machines.{continuations_at, continuation_run, turns_run, choices_run}
-use Rattle.rx_match.specs.Running.{state_of, with_backtracking, continuation_of, remaining, IsSound, IsRepetitionAt, with_turns, IsOverUnits, TakesMarks}
-use Rattle.rx_match.proofs.Repetitions.{inside}
+use Rattle.rx_match.specs.MachineSteps.{state_of, with_backtracking, continuation_of, run_ahead, IsSound, IsRepetitionAt, with_earlier, IsOverUnits, TakesMarks}
+use Rattle.rx_match.proofs.EnoughTurns.{inside}
 use Rattle.rx_match.proofs.Moving.{MovesTo, unit-moves}
 use Rattle.rx_match.proofs.Entries.{placed-choice, depth-choice}
 use Rattle.rx_match.proofs.StackRuns.{stack_run-marked, stack_run-choice}
@@ -26,7 +26,7 @@ use Rattle.rx_match.proofs.UnitTurns.{turn_marks, turns_paid, allows, turn_held,
 unit_apart : (input : List ℕ) (back : Bool) (holds : ℕ → Bool) (p q : ℕ) → unit_to input back holds p ≡ Some q → q ≡ p → ⊥
 unit_apart input false holds p q is same = let e = by_option (Rattle.rx_trace.specs.Holding.ahead input p) is in omega arith
   where
-    by_option : (o : Option ℕ) → held_to holds (p + 1) o ≡ Some q → q ≡ p + 1
+    by_option : (o : Option ℕ) → place_if_held holds (p + 1) o ≡ Some q → q ≡ p + 1
     by_option None is = absurd (cc)
     by_option (Some c) is = by_test (holds c) is
       where
@@ -34,9 +34,9 @@ unit_apart input false holds p q is same = let e = by_option (Rattle.rx_trace.sp
         by_test true is = cc
         by_test false is = absurd (cc)
 unit_apart input true holds zero q is same = absurd (cc)
-unit_apart input true holds (suc p) q is same = let e = by_option (preceding input (suc p)) is in omega arith
+unit_apart input true holds (suc p) q is same = let e = by_option (unit_before input (suc p)) is in omega arith
   where
-    by_option : (o : Option ℕ) → held_to holds (suc p - 1) o ≡ Some q → q ≡ suc p - 1
+    by_option : (o : Option ℕ) → place_if_held holds (suc p - 1) o ≡ Some q → q ≡ suc p - 1
     by_option None is = absurd (cc)
     by_option (Some c) is = by_test (holds c) is
       where
@@ -54,9 +54,9 @@ moved m place budget = record m { place = place; budget = budget }
 sound_moved : (m : Machine) (place budget : ℕ) → IsSound m → place ≤ length m.input.now → IsSound (moved m place budget)
 sound_moved m place budget sound within = record { ordered = sound.ordered; stacked = sound.stacked; head = sound.head; placed = sound.placed; depth = sound.depth; place = within }
 
-pub budget_with_turns : (m : Machine) (p free next : ℕ) → (with_turns m p free next).budget ≡ m.budget
-budget_with_turns m p zero next = refl
-budget_with_turns m p (suc free) next = refl
+pub budget_with_earlier : (m : Machine) (p free next : ℕ) → (with_earlier m p free next).budget ≡ m.budget
+budget_with_earlier m p zero next = refl
+budget_with_earlier m p (suc free) next = refl
 
 module _ (m : Machine) (i : ℕ) (it : Repeated) (t : Test) (min : ℕ) (max : Option ℕ) (sound : IsSound m) (is : IsRepetitionAt m i it.turns it.body it.next) where
   unit_code : IsUnit m.program.now it t → code_at m.program.now i ≡ repeat it.turns.min it.turns.max it.turns.greedy it.turns.from 0 (consume (test_holds t) accept) (code_at m.program.now it.next)
@@ -67,7 +67,7 @@ module _ (m : Machine) (i : ℕ) (it : Repeated) (t : Test) (min : ℕ) (max : O
 
   -- a turn, where the unit is held
   pub takes_turn : IsUnit m.program.now it t → (q less budget : ℕ) (bound : Option ℕ) → unit_to m.input.now m.back (test_holds t) m.place ≡ Some q → m.budget ≡ suc budget → less ≡ min - 1 → bound ≡ one_less max
-      → TakesMarks m (moved m q budget) (remaining m (action.BeginTurn i min max)) (remaining (moved m q budget) (action.Repeat i less bound))
+      → TakesMarks m (moved m q budget) (run_ahead m (action.BeginTurn i min max)) (run_ahead (moved m q budget) (action.Repeat i less bound))
   takes_turn unit q less budget bound held paid owed allowed =
       let input = m.input.now in
       let c = code_at m.program.now i in
@@ -77,8 +77,8 @@ module _ (m : Machine) (i : ℕ) (it : Repeated) (t : Test) (min : ℕ) (max : O
         more = true ∷ false ∷ [];
         cut = ap (λ r. with_backtracking m (bind r (continuation_of m))) (turn_held input (test_holds t) c it.turns.min it.turns.max it.turns.greedy it.turns.from (code_at m.program.now it.next) (unit_code unit) m.back min max (state_of m) q held (unit_apart input m.back (test_holds t) m.place q held))
             ∙ stack_run-marked input m.program.now (false ∷ true ∷ false ∷ []) m.frames m.entries m.back m.slots.items (bind (turns_run input m.back (min - 1) (one_less max) w c) (continuation_of m))
-            ∙ ap (λ n. marked (false ∷ true ∷ false ∷ []) (with_backtracking m (bind (turns_run input m.back n (one_less max) w c) (continuation_of m)))) (sym owed)
-            ∙ ap (λ o. marked (false ∷ true ∷ false ∷ []) (with_backtracking m (bind (turns_run input m.back less o w c) (continuation_of m)))) (sym allowed);
+            ∙ ap (λ n. with_marks (false ∷ true ∷ false ∷ []) (with_backtracking m (bind (turns_run input m.back n (one_less max) w c) (continuation_of m)))) (sym owed)
+            ∙ ap (λ o. with_marks (false ∷ true ∷ false ∷ []) (with_backtracking m (bind (turns_run input m.back less o w c) (continuation_of m)))) (sym allowed);
         paid = paid;
         input = refl;
         program = refl;
@@ -86,7 +86,7 @@ module _ (m : Machine) (i : ℕ) (it : Repeated) (t : Test) (min : ℕ) (max : O
       }
 
   pub takes_failed_turn : IsUnit m.program.now it t → (budget : ℕ) → unit_to m.input.now m.back (test_holds t) m.place ≡ None → m.budget ≡ suc budget
-      → TakesMarks m (record m { budget = budget }) (remaining m (action.BeginTurn i min max)) (remaining (record m { budget = budget }) action.Backtrack)
+      → TakesMarks m (record m { budget = budget }) (run_ahead m (action.BeginTurn i min max)) (run_ahead (record m { budget = budget }) action.Backtrack)
   takes_failed_turn unit budget none paid =
       let input = m.input.now in
       record {
@@ -117,14 +117,14 @@ module _ (m : Machine) (i : ℕ) (it : Repeated) (t : Test) (min : ℕ) (max : O
     abbrev lefts_at : ℕ → ℕ → ℕ → Run
     lefts_at k n p = lefts m.input.now (test_holds t) (code_at m.program.now i) it.turns.min it.turns.max it.turns.greedy it.turns.from (code_at m.program.now it.next) (unit_code over.over_unit.unit) m.slots.items k' over.greedy k n p
 
-    repeats_at : remaining m (action.Repeat i min max) ≡ with_backtracking m (turns_at min max m.place)
+    repeats_at : run_ahead m (action.Repeat i min max) ≡ with_backtracking m (turns_at min max m.place)
     repeats_at = ahead_is over.ahead (λ b. bind (turns_run m.input.now b min max (state_of m) (code_at m.program.now i)) (continuation_run m.input.now b (continuations_at m.program.now m.frames m.head)))
 
-    repeats_after : (place budget n : ℕ) (o : Option ℕ) → remaining (moved m place budget) (action.Repeat i n o) ≡ with_backtracking m (turns_at n o place)
+    repeats_after : (place budget n : ℕ) (o : Option ℕ) → run_ahead (moved m place budget) (action.Repeat i n o) ≡ with_backtracking m (turns_at n o place)
     repeats_after place budget n o = ahead_is over.ahead (λ b. bind (turns_run m.input.now b n o (record { place = place; slots = m.slots.items }) (code_at m.program.now i)) (continuation_run m.input.now b (continuations_at m.program.now m.frames m.head)))
 
     -- The marks of so many turns, and what is left.
-    turned : (k q : ℕ) → AreHeld m.input.now (test_holds t) m.place (allowed_within max m.budget) q → q ≡ m.place + k → remaining m (action.Repeat i min max) ≡ marked (turn_marks k) (with_backtracking m (turns_at (min - k) (fewer max k) (m.place + k) ++ lefts_at k min m.place))
+    turned : (k q : ℕ) → AreHeld m.input.now (test_holds t) m.place (allowed_within max m.budget) q → q ≡ m.place + k → run_ahead m (action.Repeat i min max) ≡ with_marks (turn_marks k) (with_backtracking m (turns_at (min - k) (fewer max k) (m.place + k) ++ lefts_at k min m.place))
     turned k q held at =
         let within = held.within in
         let few = held.most_of in
@@ -135,7 +135,7 @@ module _ (m : Machine) (i : ℕ) (it : Repeated) (t : Test) (min : ℕ) (max : O
 
     -- turns that were all owed
     takes_owed_turns : (k q less budget : ℕ) (bound : Option ℕ) → AreHeld m.input.now (test_holds t) m.place (allowed_within max m.budget) q → q ≡ m.place + suc k → suc k ≤ min → less ≡ min - suc k → bound ≡ fewer max (suc k) → m.budget ≡ suc k + budget
-        → TakesMarks m (moved m q budget) (remaining m (action.Repeat i min max)) (remaining (moved m q budget) (action.Repeat i less bound))
+        → TakesMarks m (moved m q budget) (run_ahead m (action.Repeat i min max)) (run_ahead (moved m q budget) (action.Repeat i less bound))
     takes_owed_turns k q less budget bound held at owed less_is bound_is paid =
         let x = turns_at (min - suc k) (fewer max (suc k)) (m.place + suc k) in
         let e = turns_paid (suc k) budget in
@@ -143,9 +143,9 @@ module _ (m : Machine) (i : ℕ) (it : Repeated) (t : Test) (min : ℕ) (max : O
           ticks = false;
           more = false ∷ true ∷ false ∷ turn_marks k;
           cut = turned (suc k) q held at
-              ∙ ap (λ r. marked (turn_marks (suc k)) (with_backtracking m r)) (ap (λ r. x ++ r) (lefts_none m.input.now (test_holds t) (code_at m.program.now i) it.turns.min it.turns.max it.turns.greedy it.turns.from (code_at m.program.now it.next) (unit_code over.over_unit.unit) m.slots.items k' over.greedy (suc k) min m.place owed) ∙ append-nil x
+              ∙ ap (λ r. with_marks (turn_marks (suc k)) (with_backtracking m r)) (ap (λ r. x ++ r) (lefts_none m.input.now (test_holds t) (code_at m.program.now i) it.turns.min it.turns.max it.turns.greedy it.turns.from (code_at m.program.now it.next) (unit_code over.over_unit.unit) m.slots.items k' over.greedy (suc k) min m.place owed) ∙ append-nil x
               ∙ ap (λ n. turns_at n (fewer max (suc k)) (m.place + suc k)) (sym less_is) ∙ ap (λ o. turns_at less o (m.place + suc k)) (sym bound_is) ∙ ap (λ p. turns_at less bound p) (sym at))
-              ∙ ap (marked (turn_marks (suc k))) (sym (repeats_after q budget less bound));
+              ∙ ap (with_marks (turn_marks (suc k))) (sym (repeats_after q budget less bound));
           paid = paid ∙ sym e;
           input = refl;
           program = refl;
@@ -155,7 +155,7 @@ module _ (m : Machine) (i : ℕ) (it : Repeated) (t : Test) (min : ℕ) (max : O
     -- turns of which the last ones were not owed
     takes_free_turns : (e k q less budget : ℕ) (bound : Option ℕ) (entries : List Backtrack) → AreHeld m.input.now (test_holds t) m.place (allowed_within max m.budget) q → q ≡ m.place + suc k → suc k ≡ suc (min + e) → less ≡ min - suc k → bound ≡ fewer max (suc k) → m.budget ≡ suc k + budget
         → entries ≡ m.entries ++ (backtrack.Choice (q - 1) e it.next m.head (length m.frames) ∷ [])
-        → TakesMarks m (record m { entries = entries; place = q; budget = budget }) (remaining m (action.Repeat i min max)) (remaining (record m { entries = entries; place = q; budget = budget }) (action.Repeat i less bound))
+        → TakesMarks m (record m { entries = entries; place = q; budget = budget }) (run_ahead m (action.Repeat i min max)) (run_ahead (record m { entries = entries; place = q; budget = budget }) (action.Repeat i less bound))
     takes_free_turns e k q less budget bound entries held at free less_is bound_is paid pushed =
         let x = turns_at (min - suc k) (fewer max (suc k)) (m.place + suc k) in
         let f = turns_paid (suc k) budget in
@@ -165,9 +165,9 @@ module _ (m : Machine) (i : ℕ) (it : Repeated) (t : Test) (min : ℕ) (max : O
           ticks = false;
           more = false ∷ true ∷ false ∷ turn_marks k;
           cut = turned (suc k) q held at
-              ∙ ap (λ r. marked (turn_marks (suc k)) (with_backtracking m r)) (ap (λ r. x ++ r) (lefts_some m.input.now (test_holds t) (code_at m.program.now i) it.turns.min it.turns.max it.turns.greedy it.turns.from (code_at m.program.now it.next) (unit_code over.over_unit.unit) m.slots.items k' over.greedy e (suc k) min m.place free ∙ ap (λ p. choices_run leaves_at e p) last)
+              ∙ ap (λ r. with_marks (turn_marks (suc k)) (with_backtracking m r)) (ap (λ r. x ++ r) (lefts_some m.input.now (test_holds t) (code_at m.program.now i) it.turns.min it.turns.max it.turns.greedy it.turns.from (code_at m.program.now it.next) (unit_code over.over_unit.unit) m.slots.items k' over.greedy e (suc k) min m.place free ∙ ap (λ p. choices_run leaves_at e p) last)
               ∙ ap (λ y. y ++ choices_run leaves_at e (q - 1)) (ap (λ n. turns_at n (fewer max (suc k)) (m.place + suc k)) (sym less_is) ∙ ap (λ o. turns_at less o (m.place + suc k)) (sym bound_is) ∙ ap (λ p. turns_at less bound p) (sym at)))
-              ∙ ap (marked (turn_marks (suc k))) (sym (after_choice x));
+              ∙ ap (with_marks (turn_marks (suc k))) (sym (after_choice x));
           paid = paid ∙ sym f;
           input = refl;
           program = refl;
@@ -181,7 +181,7 @@ module _ (m : Machine) (i : ℕ) (it : Repeated) (t : Test) (min : ℕ) (max : O
           };
         }
       where
-        after_choice : (x : Run) → remaining (record m { entries = entries; place = q; budget = budget }) (action.Repeat i less bound) ≡ with_backtracking m (turns_at less bound q ++ choices_run leaves_at e (q - 1))
+        after_choice : (x : Run) → run_ahead (record m { entries = entries; place = q; budget = budget }) (action.Repeat i less bound) ≡ with_backtracking m (turns_at less bound q ++ choices_run leaves_at e (q - 1))
         after_choice x =
             let run : Bool → Run = λ b. bind (turns_run m.input.now b less bound (record { place = q; slots = m.slots.items }) (code_at m.program.now i)) (continuation_run m.input.now b (continuations_at m.program.now m.frames m.head)) in
             let leave : Bool → ℕ → Run = λ b p. bind (code_run m.input.now (code_at m.program.now it.next) b (record { place = p; slots = m.slots.items })) (continuation_run m.input.now b (continuations_at m.program.now m.frames m.head)) in
@@ -190,14 +190,14 @@ module _ (m : Machine) (i : ℕ) (it : Repeated) (t : Test) (min : ℕ) (max : O
 
     -- so many turns, of which some were not owed
     pub takes_turns : (k q less budget : ℕ) (bound : Option ℕ) → AreHeld m.input.now (test_holds t) m.place (allowed_within max m.budget) q → q ≡ m.place + suc k → less ≡ min - suc k → bound ≡ fewer max (suc k) → m.budget ≡ suc k + budget
-        → TakesMarks m (moved (with_turns m q (suc k - min) it.next) q budget) (remaining m (action.Repeat i min max)) (remaining (moved (with_turns m q (suc k - min) it.next) q budget) (action.Repeat i less bound))
+        → TakesMarks m (moved (with_earlier m q (suc k - min) it.next) q budget) (run_ahead m (action.Repeat i min max)) (run_ahead (moved (with_earlier m q (suc k - min) it.next) q budget) (action.Repeat i less bound))
     takes_turns k q less budget bound held at less_is bound_is paid = by_free (suc k - min) refl
       where
-        by_free : (free : ℕ) → free ≡ suc k - min → TakesMarks m (moved (with_turns m q free it.next) q budget) (remaining m (action.Repeat i min max)) (remaining (moved (with_turns m q free it.next) q budget) (action.Repeat i less bound))
+        by_free : (free : ℕ) → free ≡ suc k - min → TakesMarks m (moved (with_earlier m q free it.next) q budget) (run_ahead m (action.Repeat i min max)) (run_ahead (moved (with_earlier m q free it.next) q budget) (action.Repeat i less bound))
         by_free zero is = takes_owed_turns k q less budget bound held at (omega arith) less_is bound_is paid
         by_free (suc e) is = takes_free_turns e k q less budget bound (m.entries ++ (backtrack.Choice (q - 1) e it.next m.head (length m.frames) ∷ [])) held at (omega arith) less_is bound_is paid refl
 
-    not_held : (none : unit_to m.input.now false (test_holds t) m.place ≡ None) → remaining m (action.Repeat i min max) ≡ with_backtracking m (marked (false ∷ false ∷ true ∷ []) (left_by m.input.now (test_holds t) (code_at m.program.now i) it.turns.min it.turns.max it.turns.greedy it.turns.from (code_at m.program.now it.next) (unit_code over.over_unit.unit) m.slots.items k' over.greedy min m.place))
+    not_held : (none : unit_to m.input.now false (test_holds t) m.place ≡ None) → run_ahead m (action.Repeat i min max) ≡ with_backtracking m (with_marks (false ∷ false ∷ true ∷ []) (left_by m.input.now (test_holds t) (code_at m.program.now i) it.turns.min it.turns.max it.turns.greedy it.turns.from (code_at m.program.now it.next) (unit_code over.over_unit.unit) m.slots.items k' over.greedy min m.place))
     not_held none =
         repeats_at
         ∙ ap (with_backtracking m) (turns_are m.input.now (test_holds t) (code_at m.program.now i) it.turns.min it.turns.max it.turns.greedy it.turns.from (code_at m.program.now it.next) (unit_code over.over_unit.unit) m.slots.items k' over.greedy min max m.place sound.place over.allowed
@@ -206,14 +206,14 @@ module _ (m : Machine) (i : ℕ) (it : Repeated) (t : Test) (min : ℕ) (max : O
 
     -- no unit is held, and no turn was owed
     pub takes_no_turn : (budget : ℕ) → unit_to m.input.now false (test_holds t) m.place ≡ None → min ≡ 0 → m.budget ≡ suc budget
-        → TakesMarks m (record m { step = it.next; budget = budget }) (remaining m (action.Repeat i min max)) (remaining (record m { step = it.next; budget = budget }) action.Step)
+        → TakesMarks m (record m { step = it.next; budget = budget }) (run_ahead m (action.Repeat i min max)) (run_ahead (record m { step = it.next; budget = budget }) action.Step)
     takes_no_turn budget none free paid = record {
       ticks = false;
       more = false ∷ true ∷ false ∷ [];
       cut = not_held none
-          ∙ ap (λ n. with_backtracking m (marked (false ∷ false ∷ true ∷ []) (left_by m.input.now (test_holds t) (code_at m.program.now i) it.turns.min it.turns.max it.turns.greedy it.turns.from (code_at m.program.now it.next) (unit_code over.over_unit.unit) m.slots.items k' over.greedy n m.place))) free
+          ∙ ap (λ n. with_backtracking m (with_marks (false ∷ false ∷ true ∷ []) (left_by m.input.now (test_holds t) (code_at m.program.now i) it.turns.min it.turns.max it.turns.greedy it.turns.from (code_at m.program.now it.next) (unit_code over.over_unit.unit) m.slots.items k' over.greedy n m.place))) free
           ∙ stack_run-marked m.input.now m.program.now (false ∷ false ∷ true ∷ false ∷ []) m.frames m.entries m.back m.slots.items (leaves_at m.place)
-          ∙ ap (marked (false ∷ false ∷ true ∷ false ∷ [])) (sym (ahead_is over.ahead (λ b. bind (code_run m.input.now (code_at m.program.now it.next) b (state_of m)) (continuation_run m.input.now b (continuations_at m.program.now m.frames m.head)))));
+          ∙ ap (with_marks (false ∷ false ∷ true ∷ false ∷ [])) (sym (ahead_is over.ahead (λ b. bind (code_run m.input.now (code_at m.program.now it.next) b (state_of m)) (continuation_run m.input.now b (continuations_at m.program.now m.frames m.head)))));
       paid = paid;
       input = refl;
       program = refl;
@@ -222,12 +222,12 @@ module _ (m : Machine) (i : ℕ) (it : Repeated) (t : Test) (min : ℕ) (max : O
 
     -- no unit is held, and a turn was owed
     pub takes_lost_turn : (budget : ℕ) → unit_to m.input.now false (test_holds t) m.place ≡ None → 0 < min → m.budget ≡ suc budget
-        → TakesMarks m (record m { budget = budget }) (remaining m (action.Repeat i min max)) (remaining (record m { budget = budget }) action.Backtrack)
+        → TakesMarks m (record m { budget = budget }) (run_ahead m (action.Repeat i min max)) (run_ahead (record m { budget = budget }) action.Backtrack)
     takes_lost_turn budget none owed paid = record {
       ticks = false;
       more = false ∷ true ∷ [];
       cut = not_held none
-          ∙ ap (λ r. with_backtracking m (marked (false ∷ false ∷ true ∷ []) r)) (nothing_left min owed)
+          ∙ ap (λ r. with_backtracking m (with_marks (false ∷ false ∷ true ∷ []) r)) (nothing_left min owed)
           ∙ stack_run-marked m.input.now m.program.now (false ∷ false ∷ true ∷ []) m.frames m.entries m.back m.slots.items [];
       paid = paid;
       input = refl;

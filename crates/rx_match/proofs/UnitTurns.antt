@@ -5,19 +5,19 @@ use Rattle.rx_trace.specs.Traces.{State}
 use Rattle.rx_trace.specs.Repeats.{is_over, one_less}
 use Rattle.rx_trace.specs.Groups.{unset_in}
 use Rattle.rx_match.specs.Kinds.{fewer, allowed_within}
-use Rattle.rx_match.specs.Runs.{Run, silent, ticked, marked, paid_by, bind, continued, at_place, turn_end_run, in_turn_run, unit_to, code_run}
+use Rattle.rx_match.specs.Runs.{Run, silent, ticked, with_marks, paid_by, bind, run_onward, at_place, turn_end_run, in_turn_run, unit_to, code_run}
 use Rattle.rx_program.specs.Codes.{Code, accept, consume, repeat}
 use Rattle.rx_match.specs.Machines.{turn_run, turns_run, choices_run}
 use Rattle.rx_program.proofs.Programs.{apart-test}
 use Rattle.rx_match.proofs.Runs.{bind-append}
-use Rattle.rx_match.proofs.Repeating.{looped_is, turn_is}
+use Rattle.rx_match.proofs.RepetitionTurns.{looped_is, turn_is}
 
 -- A turn that was owed or was not empty goes on.
 pub goes_on : (min p : ℕ) (again : State → Run) (w : State) → ((min ≡ 0) → (w.place ≡ p) → ⊥) → turn_end_run min p again w ≡ silent ∷ again w
 goes_on (suc min) p again w on = refl
 goes_on zero p again w on = ap (λ b. silent ∷ (if b then [] else again w)) (apart-test w.place p (on refl))
 
-marked-append : (a b : List Bool) (r : Run) → marked (a ++ b) r ≡ marked a (marked b r)
+marked-append : (a b : List Bool) (r : Run) → with_marks (a ++ b) r ≡ with_marks a (with_marks b r)
 marked-append [] b r = refl
 marked-append (true ∷ a) b r = ap (λ x. ticked ∷ x) (marked-append a b r)
 marked-append (false ∷ a) b r = ap (λ x. silent ∷ x) (marked-append a b r)
@@ -61,13 +61,13 @@ module _ (input : List ℕ) (holds : ℕ → Bool) (c : Code) (min' : ℕ) (max'
       → turn_run input back min max s c ≡ silent ∷ ticked ∷ silent ∷ turns_run input back (min - 1) (one_less max) (at_place q s) c
   turn_held back min max s q held apart =
       turn_is input back min max s c min' max' greedy from 0 (consume holds accept) next is
-      ∙ ap (λ o. silent ∷ ticked ∷ bind (continued o (unset_in from 0 s) (code_run input accept back)) (turn_end_run min s.place (after back min max))) held
+      ∙ ap (λ o. silent ∷ ticked ∷ bind (run_onward o (unset_in from 0 s) (code_run input accept back)) (turn_end_run min s.place (after back min max))) held
       ∙ ap (λ r. silent ∷ ticked ∷ r) (append-nil (turn_end_run min s.place (after back min max) (at_place q s)) ∙ goes_on min s.place (after back min max) (at_place q s) (λ none. apart))
 
   pub turn_not_held : (back : Bool) (min : ℕ) (max : Option ℕ) (s : State) → unit_to input back holds s.place ≡ None → turn_run input back min max s c ≡ silent ∷ ticked ∷ []
   turn_not_held back min max s none =
       turn_is input back min max s c min' max' greedy from 0 (consume holds accept) next is
-      ∙ ap (λ o. silent ∷ ticked ∷ bind (continued o (unset_in from 0 s) (code_run input accept back)) (turn_end_run min s.place (after back min max))) none
+      ∙ ap (λ o. silent ∷ ticked ∷ bind (run_onward o (unset_in from 0 s) (code_run input accept back)) (turn_end_run min s.place (after back min max))) none
 
   module _ (slots : List Slot) (k' : State → Run) (all_greedy : greedy ≡ true) where
     abbrev pub turns : ℕ → Option ℕ → ℕ → Run
@@ -98,7 +98,7 @@ module _ (input : List ℕ) (holds : ℕ → Bool) (c : Code) (min' : ℕ) (max'
         by_owed (suc n) turn = sym (append-nil (bind turn k'))
 
     one_turn : (min : ℕ) (max : Option ℕ) (p : ℕ) → p ≤ length input → is_over max ≡ false → unit_to input false holds p ≡ Some (p + 1)
-        → turns min max p ≡ marked (false ∷ false ∷ true ∷ false ∷ []) (turns (min - 1) (one_less max) (p + 1) ++ left_by min p)
+        → turns min max p ≡ with_marks (false ∷ false ∷ true ∷ false ∷ []) (turns (min - 1) (one_less max) (p + 1) ++ left_by min p)
     one_turn min max p within allowed held =
         turns_are min max p within allowed
         ∙ ap (λ r. silent ∷ (bind r k' ++ left_by min p)) (turn_held false min max (record { place = p; slots = slots }) (p + 1) held (λ e. omega arith))
@@ -109,7 +109,7 @@ module _ (input : List ℕ) (holds : ℕ → Bool) (c : Code) (min' : ℕ) (max'
     lefts (suc k) min p = left_by (min - k) (p + k) ++ lefts k min p
 
     pub all_turns : (k min : ℕ) (max : Option ℕ) (p : ℕ) → ((i : ℕ) → p ≤ i → i < p + k → unit_to input false holds i ≡ Some (i + 1)) → p + k ≤ length input → ((j : ℕ) → j < k → is_over (fewer max j) ≡ false)
-        → turns min max p ≡ marked (turn_marks k) (turns (min - k) (fewer max k) (p + k) ++ lefts k min p)
+        → turns min max p ≡ with_marks (turn_marks k) (turns (min - k) (fewer max k) (p + k) ++ lefts k min p)
     all_turns zero min max p held within allowed =
         let owed : min - 0 ≡ min = omega arith in
         let here : p + 0 ≡ p = omega arith in
@@ -118,10 +118,10 @@ module _ (input : List ℕ) (holds : ℕ → Bool) (c : Code) (min' : ℕ) (max'
         let next_owed : min - k - 1 ≡ min - suc k = omega arith in
         let next_place : p + k + 1 ≡ p + suc k = omega arith in
         all_turns k min max p (λ i after below. held i after (omega arith)) (omega arith) (λ j below. allowed j (omega arith))
-        ∙ ap (λ r. marked (turn_marks k) (r ++ lefts k min p)) (one_turn (min - k) (fewer max k) (p + k) (omega arith) (allowed k (omega arith)) (held (p + k) (omega arith) (omega arith)))
+        ∙ ap (λ r. with_marks (turn_marks k) (r ++ lefts k min p)) (one_turn (min - k) (fewer max k) (p + k) (omega arith) (allowed k (omega arith)) (held (p + k) (omega arith) (omega arith)))
         ∙ sym (marked-append (turn_marks k) (false ∷ false ∷ true ∷ false ∷ []) ((turns (min - k - 1) (one_less (fewer max k)) (p + k + 1) ++ left_by (min - k) (p + k)) ++ lefts k min p))
-        ∙ ap (λ ticks. marked ticks ((turns (min - k - 1) (one_less (fewer max k)) (p + k + 1) ++ left_by (min - k) (p + k)) ++ lefts k min p)) (sym (one_turn_more k))
-        ∙ ap (marked (turn_marks (suc k))) (append_assoc (turns (min - k - 1) (one_less (fewer max k)) (p + k + 1)) (left_by (min - k) (p + k)) (lefts k min p)
+        ∙ ap (λ ticks. with_marks ticks ((turns (min - k - 1) (one_less (fewer max k)) (p + k + 1) ++ left_by (min - k) (p + k)) ++ lefts k min p)) (sym (one_turn_more k))
+        ∙ ap (with_marks (turn_marks (suc k))) (append_assoc (turns (min - k - 1) (one_less (fewer max k)) (p + k + 1)) (left_by (min - k) (p + k)) (lefts k min p)
         ∙ ap (λ n. turns n (one_less (fewer max k)) (p + k + 1) ++ lefts (suc k) min p) next_owed
         ∙ ap (λ o. turns (min - suc k) o (p + k + 1) ++ lefts (suc k) min p) (one_less_of max k)
         ∙ ap (λ q. turns (min - suc k) (fewer max (suc k)) q ++ lefts (suc k) min p) next_place)

@@ -39,17 +39,17 @@ abbrev pub repetition_of : Option Step → Option Repeated
 repetition_of None = None
 repetition_of (Some x) = repetition_in x
 
--- The body of a repetition is one unit that a test holds, and no group.
+-- The body of a repetition is one unit that the test holds, with no group.
 pub record IsUnit (steps : List Step) (it : Repeated) (t : Test) : Type 0 where
   pub body : code_at steps it.body ≡ consume (test_holds t) accept
   pub no_group : it.turns.count ≡ 0
 
--- a bound with so many turns less
+-- a bound after so many turns
 abbrev pub fewer : Option ℕ → ℕ → Option ℕ
 fewer None turns = None
 fewer (Some max) turns = Some (max - turns)
 
--- how many turns a bound allows, and a budget can pay
+-- how many turns a bound allows and a budget pays for
 abbrev pub allowed_within : Option ℕ → ℕ → ℕ
 allowed_within None budget = budget
 allowed_within (Some max) budget = min max budget

@@ -1,7 +1,7 @@
 pub mod Kinds
 pub mod Machines
+pub mod MachineSteps
 pub mod Programs
-pub mod Restored
-pub mod Running
 pub mod Runs
+pub mod SavedSlots
 pub mod Sound

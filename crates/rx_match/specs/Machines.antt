@@ -9,7 +9,7 @@ use Rattle.rx_match.specs.declared.entry.Backtrack.{Backtrack}
 use Rattle.rx_match.specs.declared.entry.Backtrack.TheVariants as backtrack
 use Rattle.rx_trace.specs.Traces.{State}
 use Rattle.rx_trace.specs.Repeats.{one_less}
-use Rattle.rx_trace.specs.Groups.{unset_in, captured}
+use Rattle.rx_trace.specs.Groups.{unset_in, with_capture}
 use Rattle.rx_match.specs.Runs.{Run, silent, reaches, bind, look_around_run, turn_end_run, repetition_run, code_run, is_negative}
 use Rattle.rx_program.specs.Codes.{Code, accept, reject, consume, assert, refer, enter_group, choose, sequence, capture, look_around, repeat}
 use Rattle.rx_program.specs.Steps.{code_at}
@@ -19,7 +19,7 @@ pub data Continuation : Type 0 where
   resume_at : Code → Continuation
   end_turn : ℕ → Option ℕ → ℕ → Code → Continuation
 
--- the parts of a repetition
+-- a run that is made of the parts of a repetition
 abbrev pub of_repetition : (ℕ → Option ℕ → Bool → ℕ → ℕ → Code → Code → Run) → Code → Run
 of_repetition f accept = silent ∷ []
 of_repetition f reject = silent ∷ []
@@ -38,7 +38,7 @@ pending_continuation steps (pending.CloseGroup k start next') = close_group k st
 pending_continuation steps (pending.Next next') = resume_at (code_at steps next')
 pending_continuation steps (pending.EndTurn min max start repeat') = end_turn min max start (code_at steps repeat')
 
--- what waits, of frames from the last to the first
+-- what waits below a frame's number, in frames from the last to the first
 abbrev pub continuations_in : List Step → List Frame → ℕ → List Continuation
 continuations_in steps [] h = []
 continuations_in steps (f ∷ before) h = if h == suc (length before) then pending_continuation steps f.pending ∷ continuations_in steps before f.below else continuations_in steps before h
@@ -68,14 +68,14 @@ module _ (input : List ℕ) where
 
   abbrev pub continuation_run : Bool → List Continuation → State → Run
   continuation_run back [] s = reaches s ∷ []
-  continuation_run back (close_group k p c ∷ ks) s = silent ∷ bind (code_run input c back (captured k p s)) (continuation_run back ks)
+  continuation_run back (close_group k p c ∷ ks) s = silent ∷ bind (code_run input c back (with_capture k p s)) (continuation_run back ks)
   continuation_run back (resume_at c ∷ ks) s = silent ∷ bind (code_run input c back s) (continuation_run back ks)
   continuation_run back (end_turn min max p c ∷ ks) s = bind (ended_turn_run back min max p s c) (continuation_run back ks)
 
   abbrev pub code_then : Bool → Code → List Continuation → State → Run
   code_then back c ks s = bind (code_run input c back s) (continuation_run back ks)
 
-  -- All that a machine does that is to do `now`, with what it has left for later, from the last to the first.
+  -- All that a machine still has to do: first the run `now`, then what it has left for later, from the last entry to the first.
   abbrev pub stack_run_of : List Step → List Frame → List Backtrack → Bool → List Slot → Run → Run
   stack_run_of steps frames [] back slots now = now
   stack_run_of steps frames (backtrack.Choice p e i h fs ∷ more) back slots now =

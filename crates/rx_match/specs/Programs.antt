@@ -1,4 +1,4 @@
--- What a program is run to, and what a search comes to.
+-- What a run of a program comes to, and what a search comes to.
 use Rattle.std.specs.Prelude.{◌≡◌, ℕ, ◌+◌, ◌<◌, false, Some, None, Result, Ok, Err, List, replicate}
 use Rattle.rx_ast.specs.Tree.{Whole}
 use Rattle.rx_trace.specs.declared.answer.MatchFault.{MatchFault}
@@ -13,7 +13,7 @@ use Rattle.rx_trace.specs.Traces.{Trace, cost, first}
 use Rattle.rx_trace.specs.Answers.{IsAnswer, IsFirstOutcome, each_trace, pattern_trace}
 use Rattle.rx_match.specs.Runs.{visible, code_run}
 use Rattle.rx_program.specs.Steps.{code_at}
-use Rattle.rx_match.specs.Running.{state_of}
+use Rattle.rx_match.specs.MachineSteps.{state_of}
 
 -- the trace of a program from a place, forward, with all slots unset
 abbrev pub trace_of : List ℕ → List Step → ℕ → ℕ → ℕ → Trace

@@ -5,10 +5,10 @@ use Rattle.rx_ast.specs.declared.leaf.LookAroundAssertionKind.TheVariants as loo
 use Rattle.rx_trace.specs.declared.answer.Slot.{Slot}
 use Rattle.rx_trace.specs.declared.answer.Slot.TheVariants.{Unset, Set}
 use Rattle.rx_trace.specs.Traces.{State, Trace, tick, reached}
-use Rattle.rx_trace.specs.Holding.{ahead, preceding, boundary_holds}
+use Rattle.rx_trace.specs.Holding.{ahead, unit_before, boundary_holds}
 use Rattle.rx_trace.specs.Repeats.{is_over, one_less}
-use Rattle.rx_trace.specs.Groups.{unset_in, captured}
-use Rattle.rx_trace.specs.Matching.{held_to, looks_back, place_over}
+use Rattle.rx_trace.specs.Groups.{unset_in, with_capture}
+use Rattle.rx_trace.specs.Matching.{place_if_held, looks_back, place_over}
 use Rattle.rx_program.specs.Codes.{Code, accept, reject, consume, assert, refer, enter_group, choose, sequence, capture, look_around, repeat}
 
 pub data Mark : Type 0 where
@@ -16,6 +16,7 @@ pub data Mark : Type 0 where
   ticked : Mark
   reaches : State → Mark
 
+-- Why: docs/DECISIONS.md, 77.
 abbrev pub Run : Type 0
 Run = List Mark
 
@@ -25,18 +26,18 @@ bind (silent ∷ r) f = silent ∷ bind r f
 bind (ticked ∷ r) f = ticked ∷ bind r f
 bind (reaches s ∷ r) f = f s ++ bind r f
 
--- without the silent marks
+-- a run without its silent marks
 abbrev pub visible : Run → Trace
 visible [] = []
 visible (silent ∷ r) = visible r
 visible (ticked ∷ r) = tick ∷ visible r
 visible (reaches s ∷ r) = reached s ∷ visible r
 
--- Marks that say whether they are Ticks, before what follows, and a budget before they were paid.
-abbrev pub marked : List Bool → Run → Run
-marked [] r = r
-marked (true ∷ ticks) r = ticked ∷ marked ticks r
-marked (false ∷ ticks) r = silent ∷ marked ticks r
+-- marks, of each of which it is said whether it is a Tick, before what follows; and the budget before they were paid for
+abbrev pub with_marks : List Bool → Run → Run
+with_marks [] r = r
+with_marks (true ∷ ticks) r = ticked ∷ with_marks ticks r
+with_marks (false ∷ ticks) r = silent ∷ with_marks ticks r
 
 abbrev pub paid_by : List Bool → ℕ → ℕ
 paid_by [] budget = budget
@@ -52,7 +53,7 @@ is_negative look_kind.NegativeLookbehind = true
 abbrev pub at_place : ℕ → State → State
 at_place p s = record { place = p; slots = s.slots }
 
--- What a look-around does with its body's run: up to its first state, and then what follows.
+-- What a look-around does with the run of its body: it goes up to the first state there, and then to what follows.
 abbrev pub look_around_run : Bool → Run → State → (State → Run) → Run
 look_around_run false [] s k = silent ∷ []
 look_around_run true [] s k = silent ∷ k s
@@ -61,9 +62,9 @@ look_around_run negative (ticked ∷ r) s k = ticked ∷ look_around_run negativ
 look_around_run false (reaches w ∷ r) s k = silent ∷ k (at_place s.place w)
 look_around_run true (reaches w ∷ r) s k = silent ∷ []
 
-abbrev pub continued : Option ℕ → State → (State → Run) → Run
-continued None s k = []
-continued (Some p) s k = k (at_place p s)
+abbrev pub run_onward : Option ℕ → State → (State → Run) → Run
+run_onward None s k = []
+run_onward (Some p) s k = k (at_place p s)
 
 abbrev pub turn_end_run : ℕ → ℕ → (State → Run) → State → Run
 turn_end_run zero p again w = silent ∷ (if w.place == p then [] else again w)
@@ -82,12 +83,12 @@ module _ (body rest : State → Run) (unset : State → State) (greedy : Bool) w
       silent ∷ (if is_over max then rest s else in_turn_run min greedy (rest s) (silent ∷ bind (body (unset s)) (turn_end_run min s.place (λ w. repetition_run turns (min - 1) (one_less max) w))))
 
 module _ (input : List ℕ) where
-  -- where a term leads over the unit at a place, or before it
+  -- the place to which a term leads over the unit at a place or, backward, over the one before it
   abbrev pub unit_to : Bool → (ℕ → Bool) → ℕ → Option ℕ
-  unit_to false holds p = held_to holds (p + 1) (ahead input p)
-  unit_to true holds p = held_to holds (p - 1) (preceding input p)
+  unit_to false holds p = place_if_held holds (p + 1) (ahead input p)
+  unit_to true holds p = place_if_held holds (p - 1) (unit_before input p)
 
-  -- The units from place p to place q are held, ahead. They are at most so many, and where they are fewer the next is not.
+  -- The test holds the units from place p to place q. These are at most `most`, and where they are fewer it does not hold the next one.
   pub record AreHeld (holds : ℕ → Bool) (p most q : ℕ) : Type 0 where
     pub order : p ≤ q
     pub within : q ≤ length input
@@ -102,13 +103,13 @@ module _ (input : List ℕ) where
   abbrev pub code_run : Code → Bool → State → Run
   code_run accept back s = reaches s ∷ []
   code_run reject back s = silent ∷ []
-  code_run (consume holds next) back s = ticked ∷ continued (unit_to back holds s.place) s (code_run next back)
+  code_run (consume holds next) back s = ticked ∷ run_onward (unit_to back holds s.place) s (code_run next back)
   code_run (assert kind multiline next) back s = ticked ∷ (if boundary_holds multiline input kind s.place then code_run next back s else [])
-  code_run (refer slot next) back s = ticked ∷ continued (slot_to back (slot s.slots) s.place) s (code_run next back)
+  code_run (refer slot next) back s = ticked ∷ run_onward (slot_to back (slot s.slots) s.place) s (code_run next back)
   code_run (enter_group next) back s = ticked ∷ code_run next back s
   code_run (choose first other) back s = silent ∷ (code_run first back s ++ (silent ∷ code_run other back s))
   code_run (sequence first then') back s = silent ∷ bind (code_run first back s) (λ w. silent ∷ code_run then' back w)
-  code_run (capture k body next) back s = ticked ∷ bind (code_run body back s) (λ w. silent ∷ code_run next back (captured k s.place w))
+  code_run (capture k body next) back s = ticked ∷ bind (code_run body back s) (λ w. silent ∷ code_run next back (with_capture k s.place w))
   code_run (look_around kind body next) back s = ticked ∷ look_around_run (is_negative kind) (code_run body (looks_back kind) s) s (code_run next back)
   code_run (repeat min max greedy from count body next) back s =
       ticked ∷ repetition_run (code_run body back) (code_run next back) (unset_in from count) greedy (min + length input) min max s

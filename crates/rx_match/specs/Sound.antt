@@ -24,7 +24,7 @@ depth_of (backtrack.LookAround p kind i h fs back ∷ more) = suc (depth_of more
 unfoldable pub depth_in : List Backtrack → ℕ
 depth_in entries = depth_of (reverse entries)
 
--- how many entries stand in a row at the end that restore slots, by what the last of them says
+-- how many entries that restore slots stand in a row at the end, by what the last of them says
 abbrev pub own_row : Backtrack → ℕ
 own_row (backtrack.Choice p e i h fs) = 0
 own_row (backtrack.Turn p i min max h fs) = 0
@@ -38,8 +38,8 @@ row_of (e ∷ more) = own_row e
 unfoldable pub row_in : List Backtrack → ℕ
 row_in entries = row_of (reverse entries)
 
--- Places are in the input, and heads among the frames that there were. The entries below one name no frame past those that
--- it counts. An entry that restores a slot says of no more such entries in a row than there are.
+-- Places are in the input, and heads are among the frames that there were. The entries below an entry name no frame past those that
+-- it counts. An entry that restores a slot counts no more such entries in a row than there are.
 abbrev pub PlacedOf : ℕ → ℕ → List Backtrack → Type 0
 PlacedOf n frames [] = Unit {0}
 PlacedOf n frames (backtrack.Choice p e i h fs ∷ more) = ((p ≤ n) × (e ≤ p)) × (h ≤ fs) × (fs ≤ frames) × PlacedOf n fs more
@@ -61,20 +61,20 @@ frames_in (backtrack.Turn p i min max h fs) = fs
 frames_in (backtrack.RestoreSlot k old fs row) = fs
 frames_in (backtrack.LookAround p kind i h fs back) = fs
 
-abbrev pub kept_of : List Backtrack → ℕ
-kept_of [] = 0
-kept_of (e ∷ more) = frames_in e
+abbrev pub frames_below_next : List Backtrack → ℕ
+frames_below_next [] = 0
+frames_below_next (e ∷ more) = frames_in e
 
-unfoldable pub kept_in : List Backtrack → ℕ
-kept_in entries = kept_of (reverse entries)
+unfoldable pub frames_below_last : List Backtrack → ℕ
+frames_below_last entries = frames_below_next (reverse entries)
 
--- What a look-around leaves that was matched: the slots to be restored, and what stands below its own entry.
-abbrev pub cut_of : List Backtrack → List Backtrack
-cut_of [] = []
-cut_of (backtrack.Choice p e i h fs ∷ more) = cut_of more
-cut_of (backtrack.Turn p i min max h fs ∷ more) = cut_of more
-cut_of (backtrack.RestoreSlot k old fs row ∷ more) = backtrack.RestoreSlot k old fs row ∷ cut_of more
-cut_of (backtrack.LookAround p kind i h fs back ∷ more) = more
+-- What is left of the entries when a look-around has matched: those that restore slots, and what stands below its own entry.
+abbrev pub cut_reversed : List Backtrack → List Backtrack
+cut_reversed [] = []
+cut_reversed (backtrack.Choice p e i h fs ∷ more) = cut_reversed more
+cut_reversed (backtrack.Turn p i min max h fs ∷ more) = cut_reversed more
+cut_reversed (backtrack.RestoreSlot k old fs row ∷ more) = backtrack.RestoreSlot k old fs row ∷ cut_reversed more
+cut_reversed (backtrack.LookAround p kind i h fs back ∷ more) = more
 
 -- the entry of a look-around that is open
 abbrev pub entry_of : OpenLookAround → Backtrack
@@ -88,23 +88,23 @@ top_of (backtrack.Turn p i min max h fs ∷ more) = top_of more
 top_of (backtrack.RestoreSlot k old fs row ∷ more) = top_of more
 top_of (backtrack.LookAround p kind i h fs back ∷ more) = Some (backtrack.LookAround p kind i h fs back)
 
-unfoldable pub cut_back : List Backtrack → List Backtrack
-cut_back entries = cut_of (reverse entries)
+unfoldable pub cut_last_first : List Backtrack → List Backtrack
+cut_last_first entries = cut_reversed (reverse entries)
 
-abbrev pub cut_in : List Backtrack → List Backtrack
-cut_in entries = reverse (cut_back entries)
+abbrev pub cut_entries : List Backtrack → List Backtrack
+cut_entries entries = reverse (cut_last_first entries)
 
 unfoldable pub top_in : List Backtrack → Option Backtrack
 top_in entries = top_of (reverse entries)
 
--- an entry restores the slot of a number
+-- whether an entry restores this slot
 abbrev pub restores_slot : ℕ → Backtrack → Bool
 restores_slot k (backtrack.Choice p e i h fs) = false
 restores_slot k (backtrack.Turn p i min max h fs) = false
 restores_slot k (backtrack.RestoreSlot j old fs row) = j == k
 restores_slot k (backtrack.LookAround p kind i h fs back) = false
 
--- The slot of a number is restored by an entry of the last ones in a row that restore slots, so that it need not be saved again.
+-- One of the last entries, all of which restore slots, restores this slot, so that it need not be saved again.
 pub record IsSaved (entries : List Backtrack) (k : ℕ) : Type 0 where
   pub at : ℕ
   pub entry : Backtrack

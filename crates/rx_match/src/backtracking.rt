@@ -1,9 +1,9 @@
 ghost use Rattle.std.specs.Prelude.{[], ◌≡◌, ◌≤◌, ◌<◌, ◌-◌, None, Some, IfOk, OnOk, length, slice_get};
 ghost use Rattle.rx_program.specs.Codes.{accept};
-ghost use Rattle.rx_match.specs.Running.{ForgetsFrames, IsSound, Progresses, Resumes, TakesMarks, TakesUp, run_of, remaining, returned, with_backtracking, with_earlier, with_entry};
+ghost use Rattle.rx_match.specs.MachineSteps.{ForgetsFrames, IsSound, Progresses, Resumes, TakesMarks, TakesUp, run_of, run_ahead, return_machine, with_backtracking, with_earlier, with_entry};
 
 use crate::cut::{cut, cut_frames, kept_frames};
-use crate::entry::{Backtrack, Frame, OpenLookAround, Pending};
+use crate::entry::{Backtrack, Frame, OpenLookAround, Pending, Places};
 use crate::kinds::{is_negative, one_less};
 use crate::machine::{Action, Machine, Progress};
 use crate::slots::{restore_slot, set_slot};
@@ -32,7 +32,7 @@ impl<'a> Machine<'a> {
         requires sound { IsSound self.old }
         requires pending { 0 < self.old.head }
         requires is { slice_get self.old.frames (self.old.head - 1) ≡ Some frame }
-        ensures { IfOk result (λ now. TakesMarks self.old self.new (run_of self.old accept) (remaining self.new now)) }
+        ensures { IfOk result (λ now. TakesMarks self.old self.new (run_of self.old accept) (run_ahead self.new now)) }
     {
         self.head = frame.below;
         match frame.pending {
@@ -75,6 +75,7 @@ impl<'a> Machine<'a> {
     }
 
     /// Takes off the frames that neither the machine nor anything left for later comes back to.
+    // Why: docs/DECISIONS.md, 79.
     fn forget_frames(&mut self)
         requires { IsSound self.old }
         ensures { ForgetsFrames self.old self.new }
@@ -139,7 +140,7 @@ impl<'a> Machine<'a> {
                 step,
                 head,
                 frames,
-            } => Ok(Some(self.take_choice(place, earlier, step, head, frames)?)),
+            } => Ok(Some(self.take_choice(Places { place, earlier }, step, head, frames)?)),
             Backtrack::Turn {
                 place,
                 repeat,
@@ -169,10 +170,10 @@ impl<'a> Machine<'a> {
         }
     }
 
-    /// Stands at a place, with so many frames, of which one is the last that waits.
+    /// Goes back to a place, with so many of its frames, of which `head` is the last that waits.
     fn return_to(&mut self, place: usize, head: usize, frames: usize)
         requires { frames ≤ length self.old.frames }
-        ensures { self.new ≡ returned self.old place head frames }
+        ensures { self.new ≡ return_machine self.old place head frames }
     {
         cut_frames(&mut self.frames, frames);
         self.place = place;
@@ -182,41 +183,34 @@ impl<'a> Machine<'a> {
     /// Takes the last of the places of a choice, and leaves the others.
     fn take_choice(
         &mut self,
-        place: usize,
-        earlier: usize,
+        places: Places,
         step: usize,
         head: usize,
         frames: usize,
     ) -> Result<Action, OutOfMemory>
-        requires { IsSound (with_entry self.old (Backtrack.Choice place earlier step head frames)) }
-        ensures { IfOk result (λ now. Resumes self.old (Backtrack.Choice place earlier step head frames) self.new now) }
+        requires { IsSound (with_entry self.old (Backtrack.Choice places.place places.earlier step head frames)) }
+        ensures { IfOk result (λ now. Resumes self.old (Backtrack.Choice places.place places.earlier step head frames) self.new now) }
     {
-        self.leave_earlier(place, earlier, step, head, frames)?;
-        self.return_to(place, head, frames);
+        self.return_to(places.place, head, frames);
+        self.leave_earlier(places, step)?;
         self.step = step;
         Ok(Action::Step)
     }
 
-    /// Leaves those places of a choice that stand before a place.
-    fn leave_earlier(
-        &mut self,
-        place: usize,
-        earlier: usize,
-        step: usize,
-        head: usize,
-        frames: usize,
-    ) -> Result<(), OutOfMemory>
-        requires { earlier ≤ place }
-        ensures { OnOk result (self.new ≡ with_earlier self.old place earlier step head frames) }
+    /// Leaves a step at the places before a place for later.
+    pub fn leave_earlier(&mut self, places: Places, step: usize) -> Result<(), OutOfMemory>
+        requires { places.earlier ≤ places.place }
+        ensures { OnOk result (self.new ≡ with_earlier self.old places.place places.earlier step) }
     {
-        if earlier == 0 {
+        if places.earlier == 0 {
             return Ok(());
         }
+        let frames = self.frames.len();
         self.entries.push(Backtrack::Choice {
-            place: place - 1,
-            earlier: earlier - 1,
+            place: places.place - 1,
+            earlier: places.earlier - 1,
             step,
-            head,
+            head: self.head,
             frames,
         })
     }

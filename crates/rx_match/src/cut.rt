@@ -1,13 +1,13 @@
 ghost use Rattle.std.specs.Prelude.{◌≡◌, ◌++◌, IfOk, OnOk, ◌≤◌, IsSome, length, option_map, reverse, take};
-ghost use Rattle.rx_match.specs.Sound.{cut_in, entry_of, frames_in, kept_in, top_in};
+ghost use Rattle.rx_match.specs.Sound.{cut_entries, entry_of, frames_in, frames_below_last, top_in};
 
 use crate::entry::{Backtrack, Frame, OpenLookAround};
 use rx_base::{List, OutOfMemory};
 
-/// Takes the entries down to the last look-around out, and puts those back that restore slots. Gives the look-around, if one is open.
+/// Takes out the entries down to the last look-around, and puts those back that restore slots. Gives the look-around, if one is open.
 pub fn cut(entries: &mut List<Backtrack>) -> Result<Option<OpenLookAround>, OutOfMemory>
     ensures top { IfOk result (λ it. option_map entry_of it ≡ top_in entries.old) }
-    ensures left { IfOk result (λ it. IsSome it → entries.new ≡ cut_in entries.old) }
+    ensures left { IfOk result (λ it. IsSome it → entries.new ≡ cut_entries entries.old) }
 {
     let mut kept = List::new(entries.allocator());
     while let Some(entry) = entries.pop() {
@@ -50,7 +50,7 @@ fn put_back(entries: &mut List<Backtrack>, kept: &mut List<Backtrack>) -> Result
 
 /// How many frames entries may come back to.
 pub fn kept_frames(entries: &List<Backtrack>) -> usize
-    ensures { result ≡ kept_in entries.now }
+    ensures { result ≡ frames_below_last entries.now }
 {
     match entries.as_slice().split_last() {
         None => 0,
@@ -69,7 +69,7 @@ fn frames_of(entry: &Backtrack) -> usize
     }
 }
 
-/// Leaves so many frames.
+/// Cuts the frames down to so many.
 pub fn cut_frames(frames: &mut List<Frame>, most: usize)
     requires { most ≤ length frames.old }
     ensures { frames.new ≡ take most frames.old }

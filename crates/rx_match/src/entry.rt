@@ -63,6 +63,13 @@ pub enum Backtrack {
     },
 }
 
+/// A place, and so many places before it.
+#[derive(Clone, Copy)]
+pub struct Places {
+    pub place: usize,
+    pub earlier: usize,
+}
+
 /// A look-around that is open: where it began, what follows it, and what waits after that.
 #[derive(Clone, Copy)]
 pub struct OpenLookAround {

@@ -1,6 +1,6 @@
 ghost use Rattle.std.specs.Prelude.{◌≡◌, ◌==◌, ◌≤◌, ◌<◌, ◌-◌, false, length, take, drop};
 ghost use Rattle.rx_match.specs.Runs.{AreHeld, slot_to as slot_leads, unit_to as unit_leads};
-ghost use Rattle.rx_trace.specs.Holding.{ahead as unit_ahead, preceding as unit_before, boundary_holds as boundary_at, differ, holds_at, is_last_line as last_line_at, is_line_terminator as terminates, is_word as is_word_unit};
+ghost use Rattle.rx_trace.specs.Holding.{ahead as unit_ahead, unit_before as unit_before, boundary_holds as boundary_at, differ, holds_at, is_last_line as last_line_at, is_line_terminator as terminates, is_word as is_word_unit};
 ghost use Rattle.rx_trace.specs.Groups.{same_units};
 ghost use Rattle.rx_program.specs.Steps.{test_holds as test_holds_it};
 ghost use Rattle.rx_trace.specs.Matching.{place_over as place_over_it};
@@ -18,7 +18,7 @@ pub fn ahead(input: &[u32], place: usize) -> Option<u32>
     }
 }
 
-pub fn preceding(input: &[u32], place: usize) -> Option<u32>
+pub fn unit_before(input: &[u32], place: usize) -> Option<u32>
     ensures { result ≡ unit_before input.now place }
 {
     if place == 0 {
@@ -33,7 +33,7 @@ pub fn unit_to(input: &[u32], back: bool, test: Test<'_>, place: usize) -> Optio
     ensures { result ≡ unit_leads input.now back (test_holds_it test.entry) place }
 {
     if back {
-        match preceding(input, place) {
+        match unit_before(input, place) {
             None => None,
             Some(c) => {
                 let holds = test_holds(test, c);
@@ -110,7 +110,7 @@ pub fn boundary_holds(
     requires { place ≤ length input.now }
     ensures { result ≡ boundary_at multiline input.now kind place }
 {
-    let before = preceding(input, place);
+    let before = unit_before(input, place);
     let here = ahead(input, place);
     match kind {
         BoundaryAssertionKind::Start => before.is_none() || (multiline && ends_line(before)),

@@ -19,7 +19,7 @@ pub fn is_negative(kind: LookAroundAssertionKind) -> bool
     }
 }
 
-/// Whether one more turn is not allowed.
+/// Whether no further turn is allowed.
 pub fn is_over(max: Option<u64>) -> bool
     ensures { result ≡ over max }
 {
@@ -29,7 +29,7 @@ pub fn is_over(max: Option<u64>) -> bool
     }
 }
 
-/// The bound with one turn less.
+/// The bound after one turn.
 pub fn one_less(max: Option<u64>) -> Option<u64>
     ensures { result ≡ less max }
 {
@@ -39,7 +39,7 @@ pub fn one_less(max: Option<u64>) -> Option<u64>
     }
 }
 
-/// The bound with so many turns less.
+/// The bound after so many turns.
 pub fn less_by(max: Option<u64>, turns: u64) -> Option<u64>
     ensures { result ≡ fewer max turns }
 {
@@ -49,7 +49,7 @@ pub fn less_by(max: Option<u64>, turns: u64) -> Option<u64>
     }
 }
 
-/// How many turns are allowed and can be paid.
+/// How many turns the bound allows and the budget pays for.
 pub fn most_turns(max: Option<u64>, budget: u64) -> u64
     ensures { result ≡ allowed_within max budget }
 {
@@ -86,7 +86,7 @@ pub fn repetition(step: &Step<'_>) -> Option<Repeated>
     }
 }
 
-/// The repetition of a number, if there is one.
+/// The repetition that the step with a number is, if it is one.
 pub fn repetition_at(program: &[Step<'_>], i: usize) -> Option<Repeated>
     ensures { result ≡ repetition_of (slice_get program.now i) }
 {
@@ -133,7 +133,7 @@ pub fn does_tick(step: &Step<'_>) -> bool
     }
 }
 
-/// The step of a number, if there is one.
+/// The step with a number, if there is one.
 pub fn step_at<'p, 'a>(program: &'p [Step<'a>], i: usize) -> Option<&'p Step<'a>>
     ensures { option_copied result ≡ slice_get program.now i }
 {

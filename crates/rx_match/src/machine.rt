@@ -1,11 +1,11 @@
 ghost use Rattle.std.specs.Prelude.{[], true, false, if◌then◌else◌, ◌≡◌, ◌≤◌, ◌<◌, ◌+◌, ◌-◌, None, Some, IfOk, OnOk, IfSome, length, slice_get};
-ghost use Rattle.rx_match.specs.Runs.{bind, code_run, continued, slot_to as slot_leads};
+ghost use Rattle.rx_match.specs.Runs.{bind, code_run, run_onward, slot_to as slot_leads};
 ghost use Rattle.rx_program.specs.Codes.{choose, sequence};
 ghost use Rattle.rx_trace.specs.Groups.{slot_of};
 ghost use Rattle.rx_trace.specs.Holding.{boundary_holds as boundary_at};
 ghost use Rattle.rx_match.specs.Kinds.{ticks_in};
 ghost use Rattle.rx_program.specs.Steps.{code_at};
-ghost use Rattle.rx_match.specs.Running.{KeepsRun, IsRun, IsSound, Progresses, TakesMarks, PushesFrame, continuation_of, run_of, remaining, state_of, run_after_tick, with_backtracking};
+ghost use Rattle.rx_match.specs.MachineSteps.{KeepsRun, IsRun, IsSound, Progresses, TakesMarks, PushesFrame, continuation_of, run_of, run_ahead, state_of, run_after_tick, with_backtracking};
 
 use crate::entry::{Backtrack, Frame, Pending};
 use crate::holds::{boundary_holds, slot_to, unit_to};
@@ -17,6 +17,7 @@ use rx_program::{Step, looks_back, slot_among};
 use rx_trace::Slot;
 
 /// What a machine does, and what it has left for later.
+// Why: docs/DECISIONS.md, 76.
 #[derive(Drop)]
 pub struct Machine<'a> {
     pub program: &'a [Step<'a>],
@@ -50,7 +51,7 @@ pub enum Action {
     },
 }
 
-/// What came of it.
+/// What came of one thing that a machine did.
 #[derive(Clone, Copy)]
 pub enum Progress {
     Continue(Action),
@@ -60,7 +61,7 @@ pub enum Progress {
 }
 
 impl<'a> Machine<'a> {
-    /// Has something wait, above what waits.
+    /// Makes one thing more wait, above what waits already.
     pub fn push_frame(&mut self, pending: Pending) -> Result<(), OutOfMemory>
         requires { IsSound self.old }
         ensures { OnOk result (PushesFrame self.old self.new pending) }
@@ -74,7 +75,7 @@ impl<'a> Machine<'a> {
     /// Tries the first, and leaves the other for later.
     pub fn choose(&mut self, first: usize, other: usize) -> Result<Action, OutOfMemory>
         requires { IsSound self.old }
-        ensures { IfOk result (λ now. TakesMarks self.old self.new (run_of self.old (choose (code_at self.old.program.now first) (code_at self.old.program.now other))) (remaining self.new now)) }
+        ensures { IfOk result (λ now. TakesMarks self.old self.new (run_of self.old (choose (code_at self.old.program.now first) (code_at self.old.program.now other))) (run_ahead self.new now)) }
     {
         let frames = self.frames.len();
         self.entries.push(Backtrack::Choice {
@@ -91,7 +92,7 @@ impl<'a> Machine<'a> {
     /// Does the first, and then the second.
     pub fn sequence(&mut self, first: usize, second: usize) -> Result<Action, OutOfMemory>
         requires { IsSound self.old }
-        ensures { IfOk result (λ now. TakesMarks self.old self.new (run_of self.old (sequence (code_at self.old.program.now first) (code_at self.old.program.now second))) (remaining self.new now)) }
+        ensures { IfOk result (λ now. TakesMarks self.old self.new (run_of self.old (sequence (code_at self.old.program.now first) (code_at self.old.program.now second))) (run_ahead self.new now)) }
     {
         self.push_frame(Pending::Next { next: second })?;
         self.step = first;
@@ -102,7 +103,7 @@ impl<'a> Machine<'a> {
     pub fn move_to(&mut self, to: Option<usize>, next: usize) -> Action
         requires sound { IsSound self.old }
         requires within { IfSome to (λ q. q ≤ length self.old.input.now) }
-        ensures { KeepsRun self.old self.new (with_backtracking self.old (bind (continued to (state_of self.old) (code_run self.old.input.now (code_at self.old.program.now next) self.old.back)) (continuation_of self.old))) (remaining self.new result) }
+        ensures { KeepsRun self.old self.new (with_backtracking self.old (bind (run_onward to (state_of self.old) (code_run self.old.input.now (code_at self.old.program.now next) self.old.back)) (continuation_of self.old))) (run_ahead self.new result) }
     {
         match to {
             None => Action::Backtrack,
@@ -117,7 +118,7 @@ impl<'a> Machine<'a> {
     /// A group begins to capture.
     pub fn capture(&mut self, group: usize, body: usize, next: usize) -> Result<Action, OutOfMemory>
         requires { IsSound self.old }
-        ensures { IfOk result (λ now. KeepsRun self.old self.new (run_after_tick self.old (Step.Capture group body next)) (remaining self.new now)) }
+        ensures { IfOk result (λ now. KeepsRun self.old self.new (run_after_tick self.old (Step.Capture group body next)) (run_ahead self.new now)) }
     {
         let start = self.place;
         self.push_frame(Pending::CloseGroup { group, start, next })?;
@@ -133,7 +134,7 @@ impl<'a> Machine<'a> {
         next: usize,
     ) -> Result<Action, OutOfMemory>
         requires { IsSound self.old }
-        ensures { IfOk result (λ now. KeepsRun self.old self.new (run_after_tick self.old (Step.LookAround kind body next)) (remaining self.new now)) }
+        ensures { IfOk result (λ now. KeepsRun self.old self.new (run_after_tick self.old (Step.LookAround kind body next)) (run_ahead self.new now)) }
     {
         let frames = self.frames.len();
         self.entries.push(Backtrack::LookAround {
@@ -160,7 +161,7 @@ impl<'a> Machine<'a> {
         requires sound { IsSound self.old }
         requires at { slice_get self.old.program.now self.old.step ≡ Some step.now }
         requires ticks { ticks_in step.now ≡ true }
-        ensures { IfOk result (λ now. KeepsRun self.old self.new (run_after_tick self.old step.now) (remaining self.new now)) }
+        ensures { IfOk result (λ now. KeepsRun self.old self.new (run_after_tick self.old step.now) (run_ahead self.new now)) }
     {
         match *step {
             Step::Consume { test, next } => {
@@ -198,7 +199,7 @@ impl<'a> Machine<'a> {
     /// Goes over units equal to those of a slot, where they stand.
     fn refer(&mut self, slot: Slot, next: usize) -> Action
         requires { IsSound self.old }
-        ensures { KeepsRun self.old self.new (with_backtracking self.old (bind (continued (slot_leads self.old.input.now self.old.back slot self.old.place) (state_of self.old) (code_run self.old.input.now (code_at self.old.program.now next) self.old.back)) (continuation_of self.old))) (remaining self.new result) }
+        ensures { KeepsRun self.old self.new (with_backtracking self.old (bind (run_onward (slot_leads self.old.input.now self.old.back slot self.old.place) (state_of self.old) (code_run self.old.input.now (code_at self.old.program.now next) self.old.back)) (continuation_of self.old))) (run_ahead self.new result) }
     {
         let to = slot_to(self.input, self.back, slot, self.place);
         self.move_to(to, next)
@@ -218,7 +219,7 @@ impl<'a> Machine<'a> {
     /// Goes on where a boundary holds.
     fn assert(&mut self, kind: BoundaryAssertionKind, multiline: bool, next: usize) -> Action
         requires { IsSound self.old }
-        ensures { KeepsRun self.old self.new (with_backtracking self.old (bind (if boundary_at multiline self.old.input.now kind self.old.place then code_run self.old.input.now (code_at self.old.program.now next) self.old.back (state_of self.old) else []) (continuation_of self.old))) (remaining self.new result) }
+        ensures { KeepsRun self.old self.new (with_backtracking self.old (bind (if boundary_at multiline self.old.input.now kind self.old.place then code_run self.old.input.now (code_at self.old.program.now next) self.old.back (state_of self.old) else []) (continuation_of self.old))) (run_ahead self.new result) }
     {
         if boundary_holds(kind, multiline, self.input, self.place) {
             self.step = next;
@@ -233,7 +234,7 @@ impl<'a> Machine<'a> {
         requires sound { IsSound self.old }
         requires at { slice_get self.old.program.now self.old.step ≡ Some step.now }
         requires ticks { ticks_in step.now ≡ true }
-        ensures { IfOk result (λ it. Progresses self.old self.new (remaining self.old Action.Step) it) }
+        ensures { IfOk result (λ it. Progresses self.old self.new (run_ahead self.old Action.Step) it) }
     {
         if self.budget == 0 {
             return Ok(Progress::Spent);
@@ -245,7 +246,7 @@ impl<'a> Machine<'a> {
     /// The step that the machine stands at.
     fn advance(&mut self) -> Result<Progress, OutOfMemory>
         requires { IsSound self.old }
-        ensures { IfOk result (λ it. Progresses self.old self.new (remaining self.old Action.Step) it) }
+        ensures { IfOk result (λ it. Progresses self.old self.new (run_ahead self.old Action.Step) it) }
     {
         let Some(step) = step_at(self.program, self.step) else {
             return Ok(Progress::Continue(Action::Backtrack));
@@ -262,7 +263,7 @@ impl<'a> Machine<'a> {
         requires sound { IsSound self.old }
         requires at { slice_get self.old.program.now self.old.step ≡ Some step.now }
         requires ticks { ticks_in step.now ≡ false }
-        ensures { IfOk result (λ it. Progresses self.old self.new (remaining self.old Action.Step) it) }
+        ensures { IfOk result (λ it. Progresses self.old self.new (run_ahead self.old Action.Step) it) }
     {
         match *step {
             Step::Accept => self.accept(),
@@ -282,10 +283,10 @@ impl<'a> Machine<'a> {
         }
     }
 
-    /// One thing of what is to be done.
+    /// Does one thing of what is to be done.
     pub fn act(&mut self, now: Action) -> Result<Progress, OutOfMemory>
         requires { IsSound self.old }
-        ensures { IfOk result (λ it. Progresses self.old self.new (remaining self.old now) it) }
+        ensures { IfOk result (λ it. Progresses self.old self.new (run_ahead self.old now) it) }
     {
         match now {
             Action::Step => self.advance(),
@@ -306,7 +307,7 @@ impl<'a> Machine<'a> {
         max: Option<u64>,
     ) -> Result<Action, OutOfMemory>
         requires { IsSound self.old }
-        ensures { IfOk result (λ now. TakesMarks self.old self.new (remaining self.old (Action.Repeat repeat min max)) (remaining self.new now)) }
+        ensures { IfOk result (λ now. TakesMarks self.old self.new (run_ahead self.old (Action.Repeat repeat min max)) (run_ahead self.new now)) }
     {
         let Some(parts) = repetition_at(self.program, repeat) else {
             return Ok(Action::Backtrack);
@@ -330,7 +331,7 @@ impl<'a> Machine<'a> {
         max: Option<u64>,
     ) -> Result<Action, OutOfMemory>
         requires { IsSound self.old }
-        ensures { IfOk result (λ now. TakesMarks self.old self.new (remaining self.old (Action.BeginTurn repeat min max)) (remaining self.new now)) }
+        ensures { IfOk result (λ now. TakesMarks self.old self.new (run_ahead self.old (Action.BeginTurn repeat min max)) (run_ahead self.new now)) }
     {
         let Some(parts) = repetition_at(self.program, repeat) else {
             return Ok(Action::Backtrack);
@@ -350,7 +351,7 @@ impl<'a> Machine<'a> {
     /// Does all that is to be done, up to the first state.
     pub fn run(&mut self) -> Result<Progress, OutOfMemory>
         requires { IsSound self.old }
-        ensures { IfOk result (λ it. IsRun self.old self.new (remaining self.old Action.Step) it) }
+        ensures { IfOk result (λ it. IsRun self.old self.new (run_ahead self.old Action.Step) it) }
     {
         let mut now = Action::Step;
         loop {

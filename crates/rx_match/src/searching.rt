@@ -9,7 +9,7 @@ use crate::entry::{Backtrack, Frame};
 use crate::machine::{Machine, Progress};
 use rx_ast::Pattern;
 use rx_base::{List, OutOfMemory};
-use rx_program::{GroupNames, Setting, Step, Survey, class_rows, compile, survey_tree};
+use rx_program::{Context, GroupNames, Step, Survey, class_rows, compile, survey_tree};
 use rx_trace::{Found, MatchFault, MatchFlags, Slot, settings_at_start};
 use std::alloc::Global;
 
@@ -29,7 +29,7 @@ struct Attempts<'a> {
     budget: u64,
 }
 
-/// Leaves so many slots, none of them set. What memory there is stays.
+/// Makes a list of so many slots, none of them set, in the memory that it has.
 fn unset(slots: &mut Vec<Slot>, groups: usize) -> Result<(), OutOfMemory>
     ensures { OnOk result (slots.new.items ≡ replicate groups Unset) }
 {
@@ -40,7 +40,7 @@ fn unset(slots: &mut Vec<Slot>, groups: usize) -> Result<(), OutOfMemory>
     Ok(())
 }
 
-/// Has so many numbers at least.
+/// Makes the list at least so long.
 fn fill(saved: &mut Vec<usize>, groups: usize) -> Result<(), OutOfMemory> {
     for _ in saved.len()..groups {
         saved.push(0)?;
@@ -108,7 +108,7 @@ impl<'a> Machine<'a> {
 }
 
 /// The match that a machine came to, from a place on.
-fn found_from(place: usize, machine: Machine<'_>) -> Found
+fn match_from(place: usize, machine: Machine<'_>) -> Found
     ensures { result ≡ record { start = place; end = machine.entry.place; groups = machine.entry.slots.items } }
 {
     let Machine {
@@ -142,7 +142,7 @@ fn match_program(
         match machine.run_from(entry, groups, place)? {
             Progress::Match => {
                 let ticks = attempts.budget - machine.budget;
-                let found = Some(found_from(place, machine));
+                let found = Some(match_from(place, machine));
                 return Ok(Outcome { found, ticks });
             }
             Progress::Spent => return Err(MatchFault::Spent),
@@ -178,7 +178,7 @@ fn answer(
     let groups = GroupNames::new(alloc, names)?;
     let classes = class_rows(alloc, &pattern.body)?;
     let rows = classes.as_slice();
-    let forward = Setting {
+    let forward = Context {
         settings: settings_at_start(flags),
         back: false,
     };
@@ -233,6 +233,7 @@ pub fn search(
 
 /// How many Ticks `search` takes from a place of the input, which is the least budget that it does not find spent; or none where they are more than `most`.
 /// What `search` refuses is refused.
+// Why: docs/DECISIONS.md, 82.
 pub fn ticks_of_search(
     alloc: Global,
     pattern: &Pattern,

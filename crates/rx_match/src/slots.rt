@@ -1,6 +1,6 @@
 ghost use Rattle.std.specs.Prelude.{true, ◌≡◌, ◌<◌, ◌+◌, OnOk, set};
 ghost use Rattle.rx_trace.specs.Groups.{unset_slots as unset_all};
-ghost use Rattle.rx_match.specs.Restored.{IsRestored, Saves};
+ghost use Rattle.rx_match.specs.SavedSlots.{IsRestored, Saves};
 ghost use Rattle.rx_match.specs.Sound.{AreEntries, IsSaved, own_row, restores_slot, row_in};
 
 use crate::cut::kept_frames;
@@ -8,7 +8,7 @@ use crate::entry::Backtrack;
 use rx_base::{List, OutOfMemory};
 use rx_trace::Slot;
 
-/// Sets a slot, so that it is restored where this fails. Of each slot it is noted how many entries there were when it was last saved.
+/// Sets a slot, so that it is restored where this fails. `saved` notes for each slot how many entries there were when it was last saved.
 pub fn set_slot(
     entries: &mut List<Backtrack>,
     slots: &mut Vec<Slot>,
@@ -29,6 +29,7 @@ pub fn set_slot(
 }
 
 /// Saves what a slot was, unless an entry after the last choice restores it anyway.
+// Why: docs/DECISIONS.md, 81.
 fn save_slot(
     entries: &mut List<Backtrack>,
     saved: &mut Vec<usize>,
@@ -52,7 +53,7 @@ fn save_slot(
     Ok(())
 }
 
-/// Whether an entry after the last choice restores a slot: what is noted of it only tells where to look.
+/// Whether an entry after the last choice restores a slot: the note in `saved` only tells where to look.
 fn is_saved(entries: &List<Backtrack>, saved: &[usize], slot: usize) -> bool
     ensures { result ≡ true → IsSaved entries.now slot }
 {
@@ -88,7 +89,7 @@ fn is_of_slot(entry: &Backtrack, slot: usize) -> bool
     }
 }
 
-/// How many entries stand in a row at the end that restore slots, by what the last of them says.
+/// How many entries that restore slots stand in a row at the end, by what the last of them says.
 fn last_row(entries: &List<Backtrack>) -> usize
     ensures { result ≡ row_in entries.now }
 {
@@ -165,7 +166,7 @@ fn unset_slot(
     }
 }
 
-/// Whether to unset a slot changes nothing.
+/// Whether unsetting a slot would change nothing.
 fn is_unset(slots: &[Slot], slot: usize) -> bool
     ensures { result ≡ true → set slots.now slot Slot.Unset ≡ slots.now }
 {

@@ -1,5 +1,5 @@
 ghost use Rattle.std.specs.Prelude.{true, false, ◌≡◌, IfOk};
-ghost use Rattle.rx_match.specs.Running.{HasRepetition, IsFree, TakesRepetition, TakesTurn};
+ghost use Rattle.rx_match.specs.MachineSteps.{HasRepetition, IsFree, TakesRepetition, TakesTurn};
 
 use crate::entry::{Backtrack, Pending};
 use crate::kinds::{Repeated, is_over};

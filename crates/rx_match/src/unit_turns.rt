@@ -1,10 +1,10 @@
-ghost use Rattle.std.specs.Prelude.{false, ◌≡◌, ◌≤◌, ◌<◌, ◌-◌, None, Some, IfOk, OnOk, IfSome};
+ghost use Rattle.std.specs.Prelude.{false, ◌≡◌, ◌≤◌, ◌<◌, ◌-◌, None, Some, IfOk, IfSome};
 ghost use Rattle.rx_match.specs.Runs.{unit_to as unit_leads};
 ghost use Rattle.rx_program.specs.Steps.{test_holds};
 ghost use Rattle.rx_trace.specs.Repeats.{is_over as over};
-ghost use Rattle.rx_match.specs.Running.{HasRepetition, IsOverUnit, IsOverUnits, IsSound, TakesRepetition, TakesTurn, with_turns};
+ghost use Rattle.rx_match.specs.MachineSteps.{HasRepetition, IsOverUnit, IsOverUnits, IsSound, TakesRepetition, TakesTurn};
 
-use crate::entry::Backtrack;
+use crate::entry::Places;
 use crate::holds::{place_after_units, unit_to};
 use crate::kinds::{Repeated, is_over, less_by, most_turns, one_less, unit_test};
 use crate::machine::{Action, Machine};
@@ -65,6 +65,7 @@ impl<'a> Machine<'a> {
     }
 
     /// All turns that there are, each of which may be given back later.
+    // Why: docs/DECISIONS.md, 78.
     pub fn turns_over_units(
         &mut self,
         it: Repetition,
@@ -80,7 +81,8 @@ impl<'a> Machine<'a> {
         if turns == 0 {
             return Ok(self.leave_before_unit(it, test));
         }
-        self.leave_turns(place, turns.saturating_sub(it.min), it.parts.next)?;
+        let earlier = turns.saturating_sub(it.min) as usize;
+        self.leave_earlier(Places { place, earlier }, it.parts.next)?;
         self.place = place;
         self.budget -= turns;
         Ok(Action::Repeat {
@@ -90,25 +92,7 @@ impl<'a> Machine<'a> {
         })
     }
 
-    /// Leaves the places for later from which turns that were not owed were made, up to a place.
-    fn leave_turns(&mut self, place: usize, free: u64, next: usize) -> Result<(), OutOfMemory>
-        requires { free ≤ place }
-        ensures { OnOk result (self.new ≡ with_turns self.old place free next) }
-    {
-        if free == 0 {
-            return Ok(());
-        }
-        let frames = self.frames.len();
-        self.entries.push(Backtrack::Choice {
-            place: place - 1,
-            earlier: (free - 1) as usize,
-            step: next,
-            head: self.head,
-            frames,
-        })
-    }
-
-    /// A turn that fails, and so none.
+    /// Pays for a turn that fails; so none is made, which fails too if one is owed.
     fn leave_before_unit(&mut self, it: Repetition, test: Test<'a>) -> Action
         requires stands { HasRepetition self.old it }
         requires units { IsOverUnits self.old it.parts it.max test }

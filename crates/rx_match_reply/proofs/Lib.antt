@@ -1,3 +1,3 @@
+pub mod AnswerReplies
 pub mod Parts
 pub mod Slots
-pub mod Replied

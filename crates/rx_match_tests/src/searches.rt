@@ -67,7 +67,7 @@ impl<'a> Asked<'a> {
             Range::All => search(alloc, pattern, flags, units, start, self.budget),
             Range::First => match_at(alloc, pattern, flags, units, start, self.budget),
         };
-        told(alloc, answer)
+        describe(alloc, answer)
     }
 }
 
@@ -97,7 +97,7 @@ fn read(alloc: Global, pattern: &str, flags: &str) -> Result<Pattern, Fail> {
     }
 }
 
-fn told(alloc: Global, answer: Result<Option<Found>, MatchFault>) -> Result<String, Fail> {
+fn describe(alloc: Global, answer: Result<Option<Found>, MatchFault>) -> Result<String, Fail> {
     match answer {
         Ok(None) => Ok(format!(in alloc; "none")?),
         Ok(Some(found)) => {

@@ -1,5 +1,5 @@
 pub mod Backslashes
 pub mod Choices
-pub mod Decodings
+pub mod Decoding
 pub mod Escapes
 pub mod LegacyEscapes

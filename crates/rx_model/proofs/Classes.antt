@@ -3,14 +3,13 @@ pub mod BareClassFronts
 pub mod BareClasses
 pub mod ClassBeyond
 pub mod ClassBrackets
-pub mod ClassBuilds
-pub mod ClassBuilt
 pub mod ClassCloses
 pub mod ClassContents
 pub mod ClassEnds
 pub mod ClassEscapes
 pub mod ClassFaults
 pub mod ClassFlags
+pub mod ClassFromTokens
 pub mod ClassFronts
 pub mod ClassOperands
 pub mod ClassPieces
@@ -20,9 +19,9 @@ pub mod ClassStates
 pub mod ClassStops
 pub mod ClassStrings
 pub mod ClassTokens
-pub mod ClassUnspanned
 pub mod ClassValues
 pub mod ClassWholes
+pub mod ClassWithoutSpans
 pub mod FurtherItems
 pub mod LegacyClassEscapes
 pub mod LegacyClasses
@@ -39,3 +38,4 @@ pub mod PieceClasses
 pub mod RefusedAtoms
 pub mod SetClasses
 pub mod StringTokens
+pub mod TokensOfBuilt

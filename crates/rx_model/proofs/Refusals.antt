@@ -1,7 +1,6 @@
 pub mod Beyond
 pub mod BlockedFronts
 pub mod BlockedPlaces
-pub mod Decoded
 pub mod Faults
 pub mod FlagCauses
 pub mod FromStart
@@ -10,6 +9,7 @@ pub mod LegacyPlaces
 pub mod LegacyRaws
 pub mod LegacyRefusals
 pub mod LegacyStops
+pub mod LiteralUnits
 pub mod OneCause
 pub mod OneEscape
 pub mod OneRefusal

@@ -13,9 +13,9 @@ pub mod Known
 pub mod Narrows
 pub mod OneLines
 pub mod PrintableTexts
-pub mod ReadBacks
+pub mod ReadBack
 pub mod SameAgain
 pub mod SomeTexts
-pub mod Spellings
+pub mod Spelling
 pub mod TokenTexts
 pub mod Wides

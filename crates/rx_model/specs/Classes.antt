@@ -1,6 +1,6 @@
 pub mod ClassBrackets
-pub mod ClassBuilds
 pub mod ClassContents
+pub mod ClassFromTokens
 pub mod ClassFronts
 pub mod ClassOperands
 pub mod ClassPieces

@@ -9,7 +9,7 @@ ghost use Rattle.rx_base.specs.declared.diagnostic.Diagnostic.TheVariants.{Chara
 ghost use Rattle.rx_base.specs.declared.diagnostic.kinds.SetOperator.{SetOperator};
 ghost use Rattle.rx_base.specs.declared.span.Span.{Span};
 ghost use Rattle.rx_ast.specs.ClassTree.{Class, strings};
-ghost use Rattle.rx_ast.specs.Forget.{bare, forget_alternatives, forget_member, same_kind, unspanned};
+ghost use Rattle.rx_ast.specs.Forget.{bare, forget_alternatives, forget_member, same_kind, without_spans};
 ghost use Rattle.rx_ast.specs.Parts.{IsNestedPattern};
 ghost use Rattle.rx_ast.specs.Tree.{Alternatives, Nodes, mirror};
 ghost use Rattle.rx_ast.specs.declared.class.ClassString.{ClassString};
@@ -28,8 +28,8 @@ ghost use Rattle.rx_model.specs.Classes.ClassOperands.{IsClassOfOperands, IsClas
 ghost use Rattle.rx_model.specs.Classes.ClassPieces.{IsClassOfPieces};
 ghost use Rattle.rx_model.specs.Classes.ClassRows.{ClassTokenRow, IsClass, Place, fresh, outside, SpellsAtom};
 ghost use Rattle.rx_model.specs.Classes.ClassTokens.{ClassToken, class_tokens, class_tokens_of, member_events, Atom};
-ghost use Rattle.rx_model.specs.Classes.ClassContents.{AreContents, Thing, held_after};
-ghost use Rattle.rx_model.specs.Classes.ClassRuns.{Held, empty, is_whole, class_opened};
+ghost use Rattle.rx_model.specs.Classes.ClassContents.{AreContents, Thing, hold_after};
+ghost use Rattle.rx_model.specs.Classes.ClassRuns.{Held, empty, is_whole, class_run_from_start};
 ghost use Rattle.rx_model.specs.Refusals.ClassPlaces.{IsAtomPlace};
 ghost use Rattle.rx_model.specs.Classes.ClassShapes.{IsFitting, IsFlagged, IsFlaggedMember};
 ghost use Rattle.rx_model.specs.Classes.ClassStrings.{SpellsStrings};
@@ -37,7 +37,7 @@ ghost use Rattle.rx_model.specs.FirstPass.Cuts.{IsCut, TellsApart, TellsGroups};
 ghost use Rattle.rx_model.specs.Trees.Early.{IsCodePoint, IsEarlyClass};
 ghost use Rattle.rx_model.specs.Inputs.Environment.{Environment, environment, is_sets, is_unicode};
 ghost use Rattle.rx_model.specs.declared.mode.Mode.TheVariants.{Legacy, Unicode, Sets};
-ghost use Rattle.rx_model.specs.Refusals.Firsts.{GivesWay, IsCauseOfEscape, IsFirst, IsFirstInClass, IsFirstOf, IsFirstOfEscape, NoneBeyond, NoneBeyondInClass, no_item, yielding};
+ghost use Rattle.rx_model.specs.Refusals.Firsts.{GivesWay, IsCauseOfEscape, IsFirst, IsFirstInClass, IsFirstOf, IsFirstOfEscape, NoneBeyond, NoneBeyondInClass, no_item, yielding_of};
 ghost use Rattle.rx_model.specs.Refusals.FromStart.{IsCauseFromStart, IsClassCauseFromStart};
 ghost use Rattle.rx_model.specs.Inputs.Flags.{flags_ok};
 ghost use Rattle.rx_model.specs.Reading.Alternatives.{SpellsAlternative, disjunction_of};
@@ -75,7 +75,7 @@ pub use rx_units::laws::sequence;
 
 /// Two patterns that one text reads as, in one mode and under the same rules, are equal but for spans.
 pub fn unique_reading()
-    ensures { (mode : Mode) (rules : Rules) (p q : Pattern) (us : List CodePoint) → Reads mode rules p us → Reads mode rules q us → unspanned p ≡ unspanned q }
+    ensures { (mode : Mode) (rules : Rules) (p q : Pattern) (us : List CodePoint) → Reads mode rules p us → Reads mode rules q us → without_spans p ≡ without_spans q }
 {}
 
 /// The tokens that a text begins with are the first of all its tokens, and the others follow them.
@@ -94,7 +94,7 @@ pub fn class_row_prefixes()
         ClassTokenRow e ts q us r a → ClassTokenRow e ss q us p b → GoesOnInClass e ts r a ss p b ⊎ GoesOnInClass e ss p b ts r a }
 {}
 
-/// No tree reads a text that is refused.
+/// A text that is refused reads as no tree.
 pub fn refusals()
     ensures { (mode : Mode) (rules : Rules) (us : List CodePoint) (start added : ℕ) (d : Diagnostic) → IsCause mode rules us start added d → (p : Pattern) → Reads mode rules p us → ⊥ }
 {}
@@ -134,8 +134,9 @@ pub fn one_first()
 
 /// A refusal that holds at a place is the first of its text where it gives way to none, since it says what stands there; and so is the first of a class that begins
 /// at a place that is reached.
+// Why: docs/DECISIONS.md, 42.
 pub fn first_at_places()
-    ensures said { (mode : Mode) (rules : Rules) (us : List CodePoint) (start added place : ℕ) (d : Diagnostic) → IsCauseAtPlace mode rules us start added place d → yielding d ≢ no_item →
+    ensures said { (mode : Mode) (rules : Rules) (us : List CodePoint) (start added place : ℕ) (d : Diagnostic) → IsCauseAtPlace mode rules us start added place d → yielding_of d ≢ no_item →
         IsFirstOf (IsCauseAtPlace mode rules us start added) d }
     ensures in_class { (mode : Mode) (rules : Rules) (us : List CodePoint) (start added from : ℕ) (at_class : List CodePoint) (d : Diagnostic) → IsPlace mode rules us from at_class →
         IsFirstInClass mode us start added from at_class d → IsFirstOf (IsCauseAtPlace mode rules us start added) d }
@@ -192,7 +193,7 @@ pub fn one_first_in_class()
 /// A refusal that gives way to none, since it says what stands there, is the first of its class.
 pub fn said_is_first_in_class()
     ensures { (mode : Mode) (us : List CodePoint) (start added from : ℕ) (at_class : List CodePoint) (place : ℕ) (d : Diagnostic) →
-        IsClassCause mode us start added from at_class place d → yielding d ≢ no_item → IsFirstInClass mode us start added from at_class d }
+        IsClassCause mode us start added from at_class place d → yielding_of d ≢ no_item → IsFirstInClass mode us start added from at_class d }
 {}
 
 /// Which refusal is the first of a class, or of a text, is the same where that of a negative class which may contain strings is said to hold at its `]` and where it
@@ -251,7 +252,7 @@ pub fn again()
         (p : Pattern) (us : List CodePoint) → Reads mode input.rules p us → FitIn mode us → us ≢ [] → input.text ≡ spelling (bare p) mode → IsSameAgain p answer }
 {}
 
-/// Two trees that read units of equal values, under one mode and the same rules, are equal but for spans and character kinds.
+/// Two trees that units of equal values read as, under one mode and the same rules, are equal but for spans and character kinds.
 pub fn same_values()
     ensures { (mode : Mode) (rules : Rules) (p q : Pattern) (us vs : List CodePoint) → Reads mode rules p us → Reads mode rules q vs → values us ≡ values vs → bare p ≡ bare q }
 {}
@@ -285,7 +286,7 @@ pub fn elements()
         SpellsAlternative e first w between × ElementRow (⟦<BarredAlternatives as ElementKind>⟧.spells e) (⟦<BarredAlternatives as ElementKind>⟧.following e) others tt between tt rest) }
     ensures patterns { (mode : Mode) (rules : Rules) (p : Pattern) (us : List CodePoint) →
         IsSpelled mode rules p us ↔
-        ((first : Nodes) × (others : List Nodes) × (w : List CodePoint) × (between : List CodePoint) × (us ≡ w ++ between) × (unspanned p ≡ disjunction_of (first ∷ others)) ×
+        ((first : Nodes) × (others : List Nodes) × (w : List CodePoint) × (between : List CodePoint) × (us ≡ w ++ between) × (without_spans p ≡ disjunction_of (first ∷ others)) ×
         SpellsAlternative (environment mode rules p) first w between ×
         ElementRow (⟦<BarredAlternatives as ElementKind>⟧.spells (environment mode rules p)) (⟦<BarredAlternatives as ElementKind>⟧.following (environment mode rules p)) others tt between tt []) }
     ensures stops { (e : Environment) (u : CodePoint) (rest : List CodePoint) → ⟦<BarredAlternatives as ElementKind>⟧.is_stop e tt [] × (u.value ≡ ascii.right_parenthesis → ⟦<BarredAlternatives as ElementKind>⟧.is_stop e tt (u ∷ rest)) }
@@ -323,9 +324,9 @@ pub fn quantifiers_may_follow()
 
 /// What a bracket of a class may hold is a front part of contents, where it may close whole contents, and all whole contents are held (ECMA-262, 22.2.1).
 pub fn class_contents()
-    ensures front { (things : List Thing) (held : Held) → held_after things empty ≡ Some held → (more : List Thing) × AreContents (things ++ more) }
-    ensures sound { (things : List Thing) (held : Held) → held_after things empty ≡ Some held → is_whole held ≡ true → AreContents things }
-    ensures whole { (things : List Thing) → AreContents things → (held : Held) × (held_after things empty ≡ Some held) × (is_whole held ≡ true) }
+    ensures front { (things : List Thing) (held : Held) → hold_after things empty ≡ Some held → (more : List Thing) × AreContents (things ++ more) }
+    ensures sound { (things : List Thing) (held : Held) → hold_after things empty ≡ Some held → is_whole held ≡ true → AreContents things }
+    ensures whole { (things : List Thing) → AreContents things → (held : Held) × (hold_after things empty ≡ Some held) × (is_whole held ≡ true) }
 {}
 
 /// Where terms end no token begins but the closer of a group.
@@ -337,8 +338,8 @@ pub fn terms_end()
 /// The tokens of a class are accepted as a whole class where it is free of early errors, and, where its flags are right, nowhere else, in any mode
 /// (ECMA-262, 22.2.1.1).
 pub fn classes_close()
-    ensures sound { (c : Class) → IsFitting c → IsEarlyClass c → class_opened (class_tokens c) ≡ Some [] }
-    ensures whole { (c : Class) → IsFitting c → IsFlagged c → class_opened (class_tokens c) ≡ Some [] → IsEarlyClass c }
+    ensures sound { (c : Class) → IsFitting c → IsEarlyClass c → class_run_from_start (class_tokens c) ≡ Some [] }
+    ensures whole { (c : Class) → IsFitting c → IsFlagged c → class_run_from_start (class_tokens c) ≡ Some [] → IsEarlyClass c }
 {}
 
 /// Flags that are refused are no flags, what is no flags is refused, and for one cause (ECMA-262, 22.2.3.3).

@@ -3,6 +3,7 @@ ghost use Rattle.rx_model.specs.Inputs.Environment.{is_unicode};
 ghost use Rattle.rx_model.specs.Inputs.Modes.{mode_by};
 
 /// How a pattern is read: without flag `u` or `v`, with `u`, with `v` (ECMA-262, 22.2.3.4 and Annex B.1.2).
+// Why: docs/DECISIONS.md, 1.
 #[derive(Clone, Copy, Debug, PartialEq, Eq)]
 pub enum Mode {
     Legacy,

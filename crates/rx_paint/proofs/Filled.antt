@@ -22,7 +22,7 @@ use Rattle.rx_model.specs.Classes.ClassTokens.{ClassEvents, letters_events, stri
 use Rattle.rx_model.specs.Classes.ClassRows.{ClassRow, Place}
 use Rattle.rx_model.specs.Trees.Token as of_token
 use Rattle.rx_model.specs.Reading.Rows.{Row}
-use Rattle.rx_model.proofs.Reading.Spanned.{rises}
+use Rattle.rx_model.proofs.Reading.NestedSpans.{rises}
 use Rattle.rx_paint.specs.declared.token.Kind.{Kind}
 use Rattle.rx_paint.specs.declared.token.Kind.TheVariants as paints
 use Rattle.rx_ast.specs.Forest.{Forest, nothing, tree}

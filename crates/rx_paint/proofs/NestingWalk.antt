@@ -10,7 +10,7 @@ use Rattle.rx_visit.specs.Visits.{Visited, VisitedAll, descend, pass, none, next
 use Rattle.rx_paint.specs.declared.nesting.Nesting.{Nesting}
 use Rattle.rx_paint.specs.declared.token.Kind.{Kind}
 use Rattle.rx_paint.specs.declared.token.Token.{Token}
-use Rattle.rx_paint.specs.NestingSteps.{moved_to, after_modifiers, after_enter, after_leave, Enters, Leaves}
+use Rattle.rx_paint.specs.NestingSteps.{move_to, after_modifiers, after_enter, after_leave, Enters, Leaves}
 use Rattle.rx_paint.proofs.Relabelled.{tokens_nested, pattern_nested}
 use Rattle.rx_ast.specs.Forest.{Forest, nothing}
 use Rattle.rx_ast.specs.Parts.{modifiers_forest, modifiers_in, in_pattern, IsNestedPattern}
@@ -22,11 +22,11 @@ use Rattle.rx_paint.proofs.Runs.{IsRising, rises, nested_from_rising}
 -- the edges are passed
 abbrev after_edges : Nesting → List Edge → Nesting
 after_edges v [] = v
-after_edges v (e ∷ es) = after_edges (moved_to v e.0) es
+after_edges v (e ∷ es) = after_edges (move_to v e.0) es
 
 after_both : (v : Nesting) (xs ys : List Edge) → after_edges v (xs ++ ys) ≡ after_edges (after_edges v xs) ys
 after_both v [] ys = refl
-after_both v (e ∷ es) ys = after_both (moved_to v e.0) es ys
+after_both v (e ∷ es) ys = after_both (move_to v e.0) es ys
 
 modifiers_first : (m : Option Modifiers) (own : Token) (f : Forest Token) (v : Nesting) → after_edges v (edges own (modifiers_forest part_token m f)) ≡ after_edges (after_modifiers (option_map (λ m. m.span) m) v) (edges own f)
 modifiers_first None own f v = refl
@@ -40,8 +40,8 @@ whole_node k None v n parent is inner = inner parent ∙ ap (λ f. after_edges v
 whole_node k (Some c) v n parent is inner =
     let own = token_of (kind_span k) c in
     let f = token_forest_of_all (children k) nothing in
-    let s = moved_to v (kind_span k).start in
-    ap (λ n. moved_to n (kind_span k).end) (inner own ∙ sym (modifiers_first (modifiers_in k) own f s))
+    let s = move_to v (kind_span k).start in
+    ap (λ n. move_to n (kind_span k).end) (inner own ∙ sym (modifiers_first (modifiers_in k) own f s))
     ∙ sym (after_both s (edges own (modifiers_forest part_token (modifiers_in k) f)) (((kind_span k).end, parent) ∷ []))
     ∙ ap (λ f. after_edges v (edges parent f)) (sym (forest_is k nothing ∙ ap (λ o. node_forest_as k o nothing) is))
 
@@ -61,7 +61,7 @@ mutual
 rising_is : (es : List Edge) (v : Nesting) → (after_edges v es).in_order ≡ true → (v.in_order ≡ true) × IsRising v.at es
 rising_is [] v is = (is, tt)
 rising_is (e ∷ es) v is =
-    let more = rising_is es (moved_to v e.0) is in
+    let more = rising_is es (move_to v e.0) is in
     let both = more.0 in
     (grind (arith, nat_tests), (grind (arith, nat_tests), more.1))
 
@@ -69,7 +69,7 @@ is_rising : (es : List Edge) (v : Nesting) → v.in_order ≡ true → IsRising 
 is_rising [] v is r = is
 is_rising (e ∷ es) v is r =
     let le = r.0 in
-    is_rising es (moved_to v e.0) (grind (arith, nat_tests)) r.1
+    is_rising es (move_to v e.0) (grind (arith, nat_tests)) r.1
 
 -- what the walk of a pattern tells
 pub walk_tells : (p : Whole) (w : Nesting) → Visited Enters Leaves (record { at = p.0.start; in_order = true }) (kinds.pattern p) w → IsTrue w.in_order ↔ IsNestedPattern p
@@ -79,7 +79,7 @@ walk_tells p w visits =
     let f = in_pattern part_token p in
     let all = nesting_visit _ (kinds.pattern p) w visits root in
     let es = edges root f ++ ((p.0.end, root) ∷ []) in
-    let whole : w ≡ after_edges (moved_to start p.0.start) es = all ∙ ap (λ f. after_edges start (edges root f)) (forest_is (kinds.pattern p) nothing) in (
-      λ yes. pattern_nested p (nested_from_rising f p.0.start p.0.end root root (rising_is es (moved_to start p.0.start) (ap (λ w. w.in_order) (sym whole) ∙ yes)).1),
-      λ nested. ap (λ w. w.in_order) whole ∙ is_rising es (moved_to start p.0.start) (grind (arith, nat_tests)) (rises f p.0.start p.0.end root root (tokens_nested p nested)),
+    let whole : w ≡ after_edges (move_to start p.0.start) es = all ∙ ap (λ f. after_edges start (edges root f)) (forest_is (kinds.pattern p) nothing) in (
+      λ yes. pattern_nested p (nested_from_rising f p.0.start p.0.end root root (rising_is es (move_to start p.0.start) (ap (λ w. w.in_order) (sym whole) ∙ yes)).1),
+      λ nested. ap (λ w. w.in_order) whole ∙ is_rising es (move_to start p.0.start) (grind (arith, nat_tests)) (rises f p.0.start p.0.end root root (tokens_nested p nested)),
     )

@@ -11,7 +11,7 @@ use Rattle.rx_model.specs.Inputs.Environment.{environment}
 use Rattle.rx_model.specs.Trees.Events.{disjunction_events}
 use Rattle.rx_model.specs.Reading.Reading.{IsSpanned}
 use Rattle.rx_units.specs.declared.code_point.CodePoint.{CodePoint}
-use Rattle.rx_model.proofs.Reading.Spanned.{spanned_is_nested}
+use Rattle.rx_model.proofs.Reading.NestedSpans.{spanned_is_nested}
 use Rattle.rx_paint.proofs.Filled.{spanned_filled}
 use Rattle.rx_paint.specs.declared.token.Kind.{Kind}
 use Rattle.rx_paint.specs.declared.token.Kind.TheVariants as paints

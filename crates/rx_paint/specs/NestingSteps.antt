@@ -10,23 +10,23 @@ use Rattle.rx_ast.specs.Parts.{modifiers_in}
 use Rattle.rx_paint.specs.Paints.{own_paint}
 
 -- the walk has come to an offset, which is in order where it is no less than the one before it
-abbrev pub moved_to : Nesting → ℕ → Nesting
-moved_to v o = record { at = o; in_order = v.in_order && nat_le v.at o }
+abbrev pub move_to : Nesting → ℕ → Nesting
+move_to v o = record { at = o; in_order = v.in_order && nat_le v.at o }
 
 -- the walk has passed modifiers, where there are some
 abbrev pub after_modifiers : Option Span → Nesting → Nesting
 after_modifiers None v = v
-after_modifiers (Some m) v = moved_to (moved_to v m.start) m.end
+after_modifiers (Some m) v = move_to (move_to v m.start) m.end
 
 -- it has entered a node, and passed its modifiers; a node that counts as the node in it is none of its own
 abbrev pub after_enter : Option Kind → Option Span → Span → Nesting → Nesting
 after_enter None m s v = v
-after_enter (Some c) m s v = after_modifiers m (moved_to v s.start)
+after_enter (Some c) m s v = after_modifiers m (move_to v s.start)
 
 -- it has left a node
 abbrev pub after_leave : Option Kind → Span → Nesting → Nesting
 after_leave None s v = v
-after_leave (Some c) s v = moved_to v s.end
+after_leave (Some c) s v = move_to v s.end
 
 -- what the visitor does, in the words of `Visit`
 abbrev pub Enters : Nesting → kinds.Kind → Bool → Nesting → Type 0

@@ -37,6 +37,7 @@ token_or root None = root
 token_or root (Some n) = n.1
 
 -- the owner of an offset of `root`: the deepest of the nodes in it that hold the offset, or `root` itself where none does
+-- Why: docs/DECISIONS.md, 84.
 abbrev pub owner : Token → Forest Token → ℕ → Token
 owner root f offset = token_or root (deepest offset (deep_nodes 1 f))
 

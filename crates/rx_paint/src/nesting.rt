@@ -1,6 +1,6 @@
 ghost use Rattle.std.specs.Prelude.{◌≡◌, ◌↔◌, IsTrue};
 ghost use Rattle.rx_ast.specs.Tree.{mirror};
-ghost use Rattle.rx_paint.specs.NestingSteps.{moved_to};
+ghost use Rattle.rx_paint.specs.NestingSteps.{move_to};
 ghost use Rattle.rx_ast.specs.Parts.{IsNestedPattern};
 
 use crate::paint_of::{modifiers_of, paint_of};
@@ -18,7 +18,7 @@ struct Nesting {
 impl Nesting {
     /// Comes to a beginning or an end.
     fn move_to(self, at: u32) -> Nesting
-        ensures { result ≡ moved_to self at }
+        ensures { result ≡ move_to self at }
     {
         Nesting {
             at,

@@ -27,7 +27,7 @@ use Rattle.rx_model.specs.Reading.Rows.{Row}
 use Rattle.rx_model.specs.Trees.Events as event
 use Rattle.rx_model.specs.Trees.Events.{Events, disjunction_events}
 use Rattle.rx_model.proofs.Inputs.Asked.{literal_asks, one_asked}
-use Rattle.rx_model.proofs.Reading.Spanned.{spanned_is_nested}
+use Rattle.rx_model.proofs.Reading.NestedSpans.{spanned_is_nested}
 use Rattle.rx_paint.specs.Runs.{HaveNoOther, pattern_tokens}
 use Rattle.rx_paint.proofs.NoOther.{no_token_is_other}
 

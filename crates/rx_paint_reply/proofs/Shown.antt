@@ -7,6 +7,7 @@ use Rattle.std.proofs.lemmas.Grind.{flat_map-append}
 use Rattle.std.proofs.lemmas.List.{drop-drop, take_all}
 use Rattle.std.proofs.lemmas.List.Elements.{All-head, All-tail}
 use Rattle.std.proofs.Math.Seq.{take-add}
+use Rattle.rx_base.specs.Ascii as ascii
 use Rattle.rx_paint.specs.declared.token.Kind.{Kind}
 use Rattle.rx_paint.specs.declared.token.Kind.TheVariants.{Char, Escape, Dot, Set, Class, Assert, Group, Modifier, Quantifier, Reference, Bar, Other}
 use Rattle.rx_paint.specs.declared.token.Token.{Token}
@@ -19,7 +20,7 @@ kept : (b : ℕ) (rest : List ℕ) → nat_eq b 27 ≡ false → bytes_outside f
 kept b rest other = ap (λ t. if t then bytes_outside true rest else b ∷ bytes_outside false rest) other
 
 digit_kept : (n : ℕ) → nat_eq (hex_digit n) 27 ≡ false
-digit_kept n = elim (nat_lt n 10) as (λ t. nat_eq (if t then 48 + n else 87 + n) 27 ≡ false) [ true ↦ grind (arith, nat_tests) | false ↦ grind (arith, nat_tests) ]
+digit_kept n = elim (nat_lt n 10) as (λ t. nat_eq (if t then ascii.zero + n else (ascii.a - 10) + n) 27 ≡ false) [ true ↦ grind (arith, nat_tests) | false ↦ grind (arith, nat_tests) ]
 
 byte_kept : (b : ℕ) → (nat_lt b 32 || nat_eq b 127) ≡ false → nat_eq b 27 ≡ false
 byte_kept b printed = grind (arith, nat_tests)

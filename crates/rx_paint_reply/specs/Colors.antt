@@ -1,6 +1,7 @@
 -- A pattern in the colours of a terminal.
-use Rattle.std.specs.Prelude.{ℕ, ◌+◌, ◌/◌, ◌%◌, ◌||◌, nat_eq, nat_lt, if◌then◌else◌, List, [], ◌∷◌, ◌++◌, codes, slice_range}
+use Rattle.std.specs.Prelude.{ℕ, ◌+◌, ◌-◌, ◌/◌, ◌%◌, ◌||◌, nat_eq, nat_lt, if◌then◌else◌, List, [], ◌∷◌, ◌++◌, codes, slice_range}
 use Rattle.std.specs.List.{flat_map}
+use Rattle.rx_base.specs.Ascii as ascii
 use Rattle.rx_paint.specs.declared.token.Kind.{Kind}
 use Rattle.rx_paint.specs.declared.token.Kind.TheVariants.{Char, Escape, Dot, Set, Class, Assert, Group, Modifier, Quantifier, Reference, Bar, Other}
 use Rattle.rx_paint.specs.declared.token.Token.{Token}
@@ -28,9 +29,9 @@ color Other = rendition (codes "38;5;243")
 abbrev pub plain : List ℕ
 plain = rendition (codes "0")
 
--- a digit of a hexadecimal number
+-- a digit of a hexadecimal number, in lower case
 abbrev pub hex_digit : ℕ → ℕ
-hex_digit n = if nat_lt n 10 then 48 + n else 87 + n
+hex_digit n = if nat_lt n 10 then ascii.zero + n else (ascii.a - 10) + n
 
 -- A byte as it is shown: a control character, as LF or ESC, as `\x` and two hexadecimal digits; any other by itself.
 abbrev pub shown_byte : ℕ → List ℕ

@@ -33,6 +33,7 @@ fn add_token_in_color(bytes: &mut List<u8>, text: &[u8], token: Token) -> Result
 }
 
 /// Adds a text as it is shown: control characters as escapes.
+// Why: docs/DECISIONS.md, 85.
 fn add_shown_text(bytes: &mut List<u8>, text: &[u8]) -> Result<(), OutOfMemory>
     ensures { OnOk result (bytes.new ≡ bytes.old ++ shown_text text.now) }
 {
@@ -61,7 +62,7 @@ fn hex_digit(number: u8) -> u8
     if number < 10 {
         b'0' + number
     } else {
-        b'a' + (number - 10)
+        b'a' - 10 + number
     }
 }
 

@@ -1,49 +1,24 @@
 -- What the readers of classes and of property escapes answer moves a parse on, or refuses the text.
-use Rattle.std.proofs.Common.{true, ◌≡◌, refl, ap, sym, ◌∙◌, subst, ℕ, suc, ◌+◌, ◌-◌, inl, inr, Option, Some, None, Result, Ok, Err, List, [], ◌∷◌, length, drop, arith}
-use Rattle.std.specs.Prelude.{min}
+use Rattle.std.proofs.Common.{true, ◌≡◌, refl, ap, sym, ◌∙◌, subst, ℕ, suc, ◌+◌, ◌-◌, inl, inr, Option, Some, None, Result, Ok, Err, List, [], ◌∷◌, length, drop, arith, min}
 use Rattle.std.proofs.lemmas.Bool.{and_parts, true≢false}
 use Rattle.std.proofs.lemmas.List.{drop-drop}
-use Rattle.rx_base.specs.declared.fault.Fault.{Fault}
+use Rattle.rx_parser.proofs.Common.{Fault, Term, leaf, mirror_term, CodePoint, Cursor, move_on, offset_of, rest, offset_at, values, front_is, of_property, Environment, IsPlace, text_environment, term_events, takes, property, State, Builder, IsFound, openers, ready, HoldsPass, IsRefused, IsLeafOf}
+use Rattle.rx_parser.proofs.Common.{IsBefore, IsTurned, class_environment, UnicodePropertyEscape, mirror_class, IsPropertyCause, begins_property, property_same}
 use Rattle.rx_ast.specs.declared.class.CharacterClass.{CharacterClass}
-use Rattle.rx_ast.specs.declared.leaf.UnicodePropertyEscape.{UnicodePropertyEscape}
-use Rattle.rx_ast.specs.declared.term.Term.{Term}
-use Rattle.rx_ast.specs.ClassTree.{mirror_class}
 use Rattle.rx_ast.specs.Tree as tree
-use Rattle.rx_ast.specs.Tree.{leaf, mirror_term}
-use Rattle.rx_units.specs.declared.code_point.CodePoint.{CodePoint}
-use Rattle.rx_units.specs.Cursor.{Cursor, moved, offset_of, rest}
-use Rattle.rx_units.specs.Units.{offset_at, values}
-use Rattle.rx_units.specs.Digits.{front_is}
-use Rattle.rx_model.specs.Refusals.Causes.{of_property}
-use Rattle.rx_model.specs.Inputs.Environment.{Environment}
-use Rattle.rx_model.specs.Refusals.EscapeCauses.{IsPropertyCause}
-use Rattle.rx_model.specs.Properties.PropertyForms.{begins_property}
-use Rattle.rx_model.specs.Refusals.Reached.{IsPlace, text_environment}
-use Rattle.rx_model.specs.Trees.Events.{term_events}
-use Rattle.rx_model.specs.Trees.Shapes.{takes}
-use Rattle.rx_model.specs.Trees.Token.{property}
-use Rattle.rx_model.proofs.Classes.ClassUnspanned.{class_unspanned, early_forget}
+use Rattle.rx_model.proofs.Classes.ClassWithoutSpans.{class_unspanned, early_forget}
 use Rattle.rx_model.proofs.Refusals.OneEscape.{property_says}
-use Rattle.rx_scan.specs.declared.state.State.{State}
-use Rattle.rx_class.specs.EscapeAnswers.{environment_of, from_backslash}
-use Rattle.rx_class.specs.ClassAnswers.{GivesClass}
-use Rattle.rx_class.specs.ClassAnswers as class_answer
-use Rattle.rx_class.specs.PropertyAnswers.{GivesProperty}
-use Rattle.rx_class.specs.PropertyAnswers as property_answer
-use Rattle.rx_parser.specs.declared.builder.Builder.{Builder}
+use Rattle.rx_class.specs.EscapeReading.Answers.{environment_of, from_backslash}
+use Rattle.rx_class.specs.ClassReading.Answers.{GivesClass}
+use Rattle.rx_class.specs.ClassReading.Answers as class_answer
+use Rattle.rx_class.specs.PropertyReading.Answers.{GivesProperty}
+use Rattle.rx_class.specs.PropertyReading.Answers as property_answer
 use Rattle.rx_parser.specs.declared.found.Found.TheVariants as found
-use Rattle.rx_parser.specs.Found.{IsFound}
-use Rattle.rx_parser.specs.Frames.{openers, ready}
-use Rattle.rx_parser.specs.Parsing.{HoldsPass, IsRefused}
-use Rattle.rx_parser.specs.Progress.{IsLeafOf}
-use Rattle.rx_parser.specs.Turns.{IsBefore, IsTurned}
 use Rattle.rx_parser.proofs.Places.{pass_environment, reached}
 use Rattle.rx_parser.proofs.Refused.{cause_refused, class_refused}
 use Rattle.rx_parser.proofs.Steps.{Grows}
 use Rattle.rx_parser.proofs.Turns.{class_turned, leaf_turned}
-use Rattle.rx_model.specs.Refusals.Reached.{class_environment}
 use Rattle.rx_model.proofs.Properties.PropertyFlags.{strings_by_name}
-use Rattle.rx_model.proofs.Reading.OneRow.{property_same}
 
 -- after the first of two values
 second_values : (us : List CodePoint) (c d : ℕ) (w : List ℕ) → values us ≡ c ∷ d ∷ w → values (drop 1 us) ≡ d ∷ w
@@ -84,30 +59,30 @@ module _ {added : ℕ} {b : Builder} {r : Cursor} {state : State} (h : IsBefore 
           class_turned h c s (length w) (mirror_class it) term (record { w = w; rest = more; whole = whole; count = refl; spells = its }) (early_forget (mirror_class it) early) new m spelled g
 
   -- The reader of a property stands one place on, after the backslash.
-  place_after : (moved 1 r).place - 1 ≡ r.place
+  place_after : (move_on 1 r).place - 1 ≡ r.place
   place_after = let l = h.left in omega arith
 
-  from_place : from_backslash (moved 1 r) ≡ rest r
+  from_place : from_backslash (move_on 1 r) ≡ rest r
   from_place = ap (λ k. drop k r.units) place_after
 
   -- two moves are one
-  moved_twice : (n : ℕ) → moved n (moved 1 r) ≡ moved (suc n) r
+  moved_twice : (n : ℕ) → move_on n (move_on 1 r) ≡ move_on (suc n) r
   moved_twice n = ap (λ k. record r { place = k }) (let l = h.left in let same : min (min (r.place + 1) (length r.units) + n) (length r.units) ≡ min (r.place + suc n) (length r.units) = omega arith in same)
 
-  module _ {start : ℕ} {old s : Cursor} (on : old ≡ moved 1 r) where
+  module _ {start : ℕ} {old s : Cursor} (on : old ≡ move_on 1 r) where
     -- an answer under a state, by a reader that has moved over the backslash
-    gives_here : (answer : Result (Option UnicodePropertyEscape) Fault) → GivesProperty (environment_of state) added start old s answer → GivesProperty class_text added start (moved 1 r) s answer
+    gives_here : (answer : Result (Option UnicodePropertyEscape) Fault) → GivesProperty (environment_of state) added start old s answer → GivesProperty class_text added start (move_on 1 r) s answer
     gives_here answer gives = subst (λ k. GivesProperty class_text added start k s answer) on (subst (λ e. GivesProperty e added start old s answer) environment_is gives)
 
     -- Where a property escape is refused, the text is.
     pub property_refused : (fault : Fault) → GivesProperty (environment_of state) added start old s (Err fault) → IsRefused b.mode b.rules r.units r.first added fault
     property_refused fault gives = cause fault (gives_here (Err fault) gives)
       where
-        cause : (fault : Fault) → GivesProperty class_text added start (moved 1 r) s (Err fault) → IsRefused b.mode b.rules r.units r.first added fault
+        cause : (fault : Fault) → GivesProperty class_text added start (move_on 1 r) s (Err fault) → IsRefused b.mode b.rules r.units r.first added fault
         cause _ (property_answer.refused {diagnostic = it} holds first none keeps) =
             let here =
             subst (λ k. IsPropertyCause b.mode r.units r.first added k (rest r) it) place_after
-            (subst (λ us. IsPropertyCause b.mode r.units r.first added ((moved 1 r).place - 1) us it) from_place holds) in
+            (subst (λ us. IsPropertyCause b.mode r.units r.first added ((move_on 1 r).place - 1) us it) from_place holds) in
             cause_refused b.mode b.rules r.units r.first added pass.no_clash pass.in_limit r.place it (property_says b.mode r.units r.first added r.place (rest r) it here) (of_property r.place (rest r) at_here here)
         cause _ (property_answer.no_memory keeps) = tt
 
@@ -115,9 +90,9 @@ module _ {added : ℕ} {b : Builder} {r : Cursor} {state : State} (h : IsBefore 
     pub property_taken : (c : Builder) (answer : Option UnicodePropertyEscape) (it : UnicodePropertyEscape) (term : Term) → start ≡ offset_of r → answer ≡ Some it
         → GivesProperty (environment_of state) added start old s (Ok answer) → IsLeafOf term (property it.negative it.strings it.name it.value) it.span.start it.span.end
         → Grows b c (term_events term) (openers b) (takes b.mode (mirror_term term)) → IsTurned added b c r s
-    property_taken c answer it term begun is gives l g = taken (subst (λ x. GivesProperty class_text added start (moved 1 r) s (Ok x)) is (gives_here (Ok answer) gives))
+    property_taken c answer it term begun is gives l g = taken (subst (λ x. GivesProperty class_text added start (move_on 1 r) s (Ok x)) is (gives_here (Ok answer) gives))
       where
-        taken : GivesProperty class_text added start (moved 1 r) s (Ok (Some it)) → IsTurned added b c r s
+        taken : GivesProperty class_text added start (move_on 1 r) s (Ok (Some it)) → IsTurned added b c r s
         taken (property_answer.some backslash w more whole spelled obeys span new) =
             leaf_turned h c s (property it.negative it.strings it.name it.value) (length (backslash ∷ w)) it.span.start it.span.end term
             (record {
@@ -136,14 +111,14 @@ module _ {added : ℕ} {b : Builder} {r : Cursor} {state : State} (h : IsBefore 
 
     -- Where a property escape is to stand, one is answered or refused.
     pub property_never_none : (answer : Option UnicodePropertyEscape) → IsFound text (rest r) found.Property → answer ≡ None → GivesProperty (environment_of state) added start old s (Ok answer) → ⊥
-    property_never_none answer f is gives = never (subst (λ x. GivesProperty class_text added start (moved 1 r) s (Ok x)) is (gives_here (Ok answer) gives))
+    property_never_none answer f is gives = never (subst (λ x. GivesProperty class_text added start (move_on 1 r) s (Ok x)) is (gives_here (Ok answer) gives))
       where
-        following : values (rest (moved 1 r)) ≡ f.0 ∷ f.1
+        following : values (rest (move_on 1 r)) ≡ f.0 ∷ f.1
         following =
             let next : min (r.place + 1) (length r.units) ≡ r.place + 1 = let l = h.left in omega arith in
             ap (λ k. values (drop k r.units)) next ∙ ap values (sym (drop-drop 1 r.place r.units)) ∙ second_values (rest r) 92 f.0 f.1 f.2
 
-        never : GivesProperty class_text added start (moved 1 r) s (Ok None) → ⊥
+        never : GivesProperty class_text added start (move_on 1 r) s (Ok None) → ⊥
         never (property_answer.none new why) = elim why [
           | inl legacy ↦ true≢false (sym (and_parts _ _ f.3).1 ∙ legacy)
           | inr other ↦ true≢false (sym (and_parts _ _ f.3).0 ∙ ap (front_is begins_property) (sym following) ∙ other)

@@ -1,34 +1,13 @@
 -- What has been read at the end of the text is its tree.
-use Rattle.std.proofs.Common.{◌≡◌, refl, ap, sym, ◌∙◌, subst, ℕ, ◌+◌, ◌≤◌, false, List, [], ◌∷◌, ◌++◌, length, drop, arith}
-use Rattle.std.specs.Prelude.{All}
+use Rattle.std.proofs.Common.{◌≡◌, refl, ap, sym, ◌∙◌, subst, ℕ, ◌+◌, ◌≤◌, false, List, [], ◌∷◌, ◌++◌, length, drop, arith, All}
 use Rattle.std.proofs.lemmas.List.{append-nil, drop_all}
-use Rattle.std.proofs.lemmas.List.Elements.{All-nil}
-use Rattle.rx_ast.specs.declared.term.Pattern.{Pattern}
-use Rattle.rx_units.specs.declared.code_point.CodePoint.{CodePoint}
-use Rattle.rx_units.specs.Units.{offset_at}
-use Rattle.rx_model.specs.declared.mode.Mode.{Mode}
+use Rattle.rx_parser.proofs.Common.{All-nil, Pattern, CodePoint, offset_at, Mode, Obeys, most_groups, Environment, environment, enter, leave, events, tokens, tokens_of, AreObeying, HasNoClash, text_environment, text_groups, text_names, Row, TokenRow, IsWellMade, tokens_of-append, row_tokens}
+use Rattle.rx_parser.proofs.Common.{Builder, builder_events, openers, ready, IsGood, IsParsing, IsWhole, IsAt, Rules, Reads, IsSpelled, IsOnly, one_row_by_mode, environment_by, own_environment, tells_groups}
 use Rattle.rx_model.specs.FirstPass.Cuts.{TellsGroups}
-use Rattle.rx_model.specs.Trees.Early.{Obeys, most_groups}
-use Rattle.rx_model.specs.Inputs.Environment.{Environment, environment}
-use Rattle.rx_model.specs.Trees.Events.{enter, leave, events, tokens, tokens_of}
 use Rattle.rx_model.specs.Trees.Names.{groups}
-use Rattle.rx_model.specs.Refusals.Reached.{AreObeying, HasNoClash, text_environment, text_groups, text_names}
-use Rattle.rx_model.specs.Reading.Reading.{Reads, IsSpelled, IsOnly}
-use Rattle.rx_model.specs.Reading.Rows.{Row, TokenRow}
-use Rattle.rx_model.specs.Trees.Shapes.{IsWellMade}
 use Rattle.rx_model.proofs.FirstPass.Apart.{tells_apart}
-use Rattle.rx_model.proofs.Trees.Builds.{one_tree}
-use Rattle.rx_model.proofs.Trees.Flat.{tokens_of-append}
-use Rattle.rx_model.proofs.Trees.Joins.{row_tokens}
-use Rattle.rx_model.proofs.Reading.OneRow.{one_row_by_mode}
-use Rattle.rx_model.proofs.FirstPass.OwnGroups.{environment_by, own_environment, tells_groups}
-use Rattle.rx_parser.specs.declared.builder.Builder.{Builder}
-use Rattle.rx_parser.specs.Frames.{builder_events, openers, ready}
-use Rattle.rx_parser.specs.Good.{IsGood}
-use Rattle.rx_parser.specs.Parsing.{IsParsing, IsWhole}
-use Rattle.rx_parser.specs.Progress.{IsAt}
+use Rattle.rx_model.proofs.Trees.TreeFromTokens.{one_tree}
 use Rattle.rx_parser.proofs.Steps.{begun, finished}
-use Rattle.rx_model.specs.declared.rules.Rules.{Rules}
 
 -- nothing has been read
 pub parsing_begun : {mode : Mode} {rules : Rules} (us : List CodePoint) (first added start : ℕ) (b : Builder) → start ≡ offset_at first us 0 + added → builder_events b ≡ enter start ∷ enter start ∷ enter start ∷ []

@@ -3,20 +3,10 @@ use Rattle.std.proofs.Common.{◌≡◌, refl, ap, sym, ◌∙◌, ℕ, suc, ◌
 use Rattle.std.proofs.lemmas.List.{append-nil}
 use Rattle.std.specs.declared.boxed.Box.{Box}
 use Rattle.std.specs.declared.alloc.Global.{Global}
-use Rattle.rx_ast.specs.declared.term.Term.{Term}
+use Rattle.rx_parser.proofs.Common.{Term, Alternative, Disjunction, out-Disjunction, Quantifier, node_span, Node, leaf, quantified, group, nodes, alternatives, mirror_term, mirror_alternative, Event, Events, enter, leave, token, within, node_events, nodes_events, alternatives_events, barred_events}
+use Rattle.rx_parser.proofs.Common.{term_events, alternative_events, disjunction_events, Mode, takes, bar, quantifier, Level, strung, with_bars, level_events, last_takes, Repeats}
 use Rattle.rx_ast.specs.declared.term.Term.TheVariants as variant
-use Rattle.rx_ast.specs.declared.term.Alternative.{Alternative}
-use Rattle.rx_ast.specs.declared.term.Disjunction.{Disjunction, out-Disjunction}
-use Rattle.rx_ast.specs.declared.term.Quantifier.{Quantifier}
-use Rattle.rx_ast.specs.Spans.{node_span}
-use Rattle.rx_ast.specs.Tree.{Node, leaf, quantified, group, nodes, alternatives, mirror_term, mirror_alternative}
 use Rattle.rx_ast.proofs.Equations as mirror
-use Rattle.rx_model.specs.Trees.Events.{Event, Events, enter, leave, token, within, node_events, nodes_events, alternatives_events, barred_events, term_events, alternative_events, disjunction_events}
-use Rattle.rx_model.specs.declared.mode.Mode.{Mode}
-use Rattle.rx_model.specs.Trees.Shapes.{takes}
-use Rattle.rx_model.specs.Trees.Token.{bar, quantifier}
-use Rattle.rx_parser.specs.declared.level.Level.{Level}
-use Rattle.rx_parser.specs.Levels.{strung, barred, level_events, last_takes, Repeats}
 
 nodes_events_strung : (ts : List Term) → nodes_events (nodes (map mirror_term ts)) ≡ strung (map term_events ts)
 unfolding term_events
@@ -51,15 +41,15 @@ strung_push : (ts : List Term) (t : Term) → strung (map term_events (ts ++ (t 
 strung_push [] t = append-nil (term_events t)
 strung_push (s ∷ ts) t = ap (λ z. term_events s ++ z) (strung_push ts t) ∙ sym (append_assoc (term_events s) (strung (map term_events ts)) (term_events t))
 
-barred_push : (all : List Alternative) (a : Alternative) → barred (map alternative_events (all ++ (a ∷ []))) ≡ barred (map alternative_events all) ++ (alternative_events a ++ (token bar ∷ []))
+barred_push : (all : List Alternative) (a : Alternative) → with_bars (map alternative_events (all ++ (a ∷ []))) ≡ with_bars (map alternative_events all) ++ (alternative_events a ++ (token bar ∷ []))
 barred_push [] a = refl
-barred_push (b ∷ all) a = ap (λ z. alternative_events b ++ (token bar ∷ z)) (barred_push all a) ∙ sym (append_assoc (alternative_events b) (token bar ∷ barred (map alternative_events all)) (alternative_events a ++ (token bar ∷ [])))
+barred_push (b ∷ all) a = ap (λ z. alternative_events b ++ (token bar ∷ z)) (barred_push all a) ∙ sym (append_assoc (alternative_events b) (token bar ∷ with_bars (map alternative_events all)) (alternative_events a ++ (token bar ∷ [])))
 
-joined_push : (all : List Alternative) (a : Alternative) → joined (map alternative_events (all ++ (a ∷ []))) ≡ barred (map alternative_events all) ++ alternative_events a
+joined_push : (all : List Alternative) (a : Alternative) → joined (map alternative_events (all ++ (a ∷ []))) ≡ with_bars (map alternative_events all) ++ alternative_events a
 unfolding joined
 joined_push [] a = refl
 joined_push (b ∷ []) a = sym (append_assoc (alternative_events b) (token bar ∷ []) (alternative_events a))
-joined_push (b ∷ c ∷ all) a = ap (λ w. alternative_events b ++ (token bar ∷ w)) (joined_push (c ∷ all) a) ∙ sym (append_assoc (alternative_events b) (token bar ∷ barred (map alternative_events (c ∷ all))) (alternative_events a))
+joined_push (b ∷ c ∷ all) a = ap (λ w. alternative_events b ++ (token bar ∷ w)) (joined_push (c ∷ all) a) ∙ sym (append_assoc (alternative_events b) (token bar ∷ with_bars (map alternative_events (c ∷ all))) (alternative_events a))
 
 -- a term more
 pub level_push : (l : Level) (ts : List Term) (t : Term) → ts ≡ l.terms ++ (t ∷ []) → level_events (record l { terms = ts }) ≡ level_events l ++ term_events t
@@ -67,7 +57,7 @@ unfolding level_events
 level_push l ts t e =
     rw (e, strung_push l.terms t)
     (ap (λ w. enter l.start ∷ w)
-    (sym (append_assoc (barred (map alternative_events l.alternatives)) (enter l.alternative_start ∷ strung (map term_events l.terms)) (term_events t))))
+    (sym (append_assoc (with_bars (map alternative_events l.alternatives)) (enter l.alternative_start ∷ strung (map term_events l.terms)) (term_events t))))
 
 -- an alternative ends at a bar
 pub level_bar : (l : Level) (all : List Alternative) (a : Alternative) (at after : ℕ) → all ≡ l.alternatives ++ (a ∷ []) → a.span.start ≡ l.alternative_start → a.span.end ≡ at → a.body ≡ l.terms
@@ -76,9 +66,9 @@ unfolding level_events
 level_bar l all a at after e s t b =
     rw (e, barred_push l.alternatives a, alternative_events_is a, s, t, b)
     (ap (λ w. enter l.start ∷ w)
-    (append_assoc (barred (map alternative_events l.alternatives)) _ (enter after ∷ []) ∙
-    ap (λ w. barred (map alternative_events l.alternatives) ++ (enter l.alternative_start ∷ w)) (append_assoc (strung (map term_events l.terms) ++ (leave at ∷ [])) (token bar ∷ []) (enter after ∷ []) ∙ append_assoc (strung (map term_events l.terms)) (leave at ∷ []) (token bar ∷ enter after ∷ [])) ∙
-    sym (append_assoc (barred (map alternative_events l.alternatives)) (enter l.alternative_start ∷ strung (map term_events l.terms)) (leave at ∷ token bar ∷ enter after ∷ []))))
+    (append_assoc (with_bars (map alternative_events l.alternatives)) _ (enter after ∷ []) ∙
+    ap (λ w. with_bars (map alternative_events l.alternatives) ++ (enter l.alternative_start ∷ w)) (append_assoc (strung (map term_events l.terms) ++ (leave at ∷ [])) (token bar ∷ []) (enter after ∷ []) ∙ append_assoc (strung (map term_events l.terms)) (leave at ∷ []) (token bar ∷ enter after ∷ [])) ∙
+    sym (append_assoc (with_bars (map alternative_events l.alternatives)) (enter l.alternative_start ∷ strung (map term_events l.terms)) (leave at ∷ token bar ∷ enter after ∷ []))))
 
 -- the last alternative ends, and the disjunction
 pub level_finish : (l : Level) (d : Disjunction) (a : Alternative) (at : ℕ) → (out-Disjunction d).body ≡ l.alternatives ++ (a ∷ []) → (out-Disjunction d).span.start ≡ l.start → (out-Disjunction d).span.end ≡ at
@@ -87,9 +77,9 @@ unfolding level_events
 level_finish l d a at e f g s t b =
     rw (disjunction_events_is d, e, joined_push l.alternatives a, alternative_events_is a, f, g, s, t, b)
     (ap (λ w. enter l.start ∷ w)
-    (append_assoc (barred (map alternative_events l.alternatives)) _ (leave at ∷ []) ∙
-    ap (λ w. barred (map alternative_events l.alternatives) ++ (enter l.alternative_start ∷ w)) (append_assoc (strung (map term_events l.terms)) (leave at ∷ []) (leave at ∷ [])) ∙
-    sym (append_assoc (barred (map alternative_events l.alternatives)) (enter l.alternative_start ∷ strung (map term_events l.terms)) (leave at ∷ leave at ∷ []))))
+    (append_assoc (with_bars (map alternative_events l.alternatives)) _ (leave at ∷ []) ∙
+    ap (λ w. with_bars (map alternative_events l.alternatives) ++ (enter l.alternative_start ∷ w)) (append_assoc (strung (map term_events l.terms)) (leave at ∷ []) (leave at ∷ [])) ∙
+    sym (append_assoc (with_bars (map alternative_events l.alternatives)) (enter l.alternative_start ∷ strung (map term_events l.terms)) (leave at ∷ leave at ∷ []))))
 
 -- nothing has been read
 pub level_new : (l : Level) → l.alternatives ≡ [] → l.terms ≡ [] → level_events l ≡ enter l.start ∷ enter l.alternative_start ∷ []

@@ -1,22 +1,9 @@
 -- The events of what has been read of a pattern.
 use Rattle.std.proofs.Common.{◌≡◌, refl, ap, sym, ◌∙◌, ℕ, List, [], ◌∷◌, ◌++◌, append_assoc}
 use Rattle.std.proofs.lemmas.List.{append-nil}
-use Rattle.rx_base.specs.declared.span.Span.{Span}
-use Rattle.rx_ast.specs.declared.term.Disjunction.{Disjunction}
-use Rattle.rx_ast.specs.declared.term.Pattern.{Pattern}
-use Rattle.rx_ast.specs.declared.term.Term.{Term}
+use Rattle.rx_parser.proofs.Common.{Span, Disjunction, Pattern, Term, mirror_term, mirror_disjunction, Mode, Event, Events, enter, leave, token, within, events, node_events, opener_event, term_events, disjunction_events, takes, group_takes, Opener, closer, opener_of, Builder, Frame, Level}
+use Rattle.rx_parser.proofs.Common.{opener_tree, frame_events, frames_events, builder_events, openers_onto, level_events, GroupKind}
 use Rattle.rx_ast.specs.Tree as tree
-use Rattle.rx_ast.specs.Tree.{mirror_term, mirror_disjunction}
-use Rattle.rx_model.specs.declared.mode.Mode.{Mode}
-use Rattle.rx_model.specs.Trees.Events.{Event, Events, enter, leave, token, within, events, node_events, opener_event, term_events, disjunction_events}
-use Rattle.rx_model.specs.Trees.Shapes.{takes, group_takes}
-use Rattle.rx_model.specs.Trees.Token.{Opener, closer, opener_of}
-use Rattle.rx_parser.specs.declared.builder.Builder.{Builder}
-use Rattle.rx_parser.specs.declared.frame.Frame.{Frame}
-use Rattle.rx_parser.specs.declared.frame.GroupKind.{GroupKind}
-use Rattle.rx_parser.specs.declared.level.Level.{Level}
-use Rattle.rx_parser.specs.Frames.{opener_tree, frame_events, frames_events, builder_events, opened}
-use Rattle.rx_parser.specs.Levels.{level_events}
 
 pub frames_push : (fs : List Frame) (f : Frame) → frames_events (fs ++ (f ∷ [])) ≡ frames_events fs ++ frame_events f
 frames_push [] f = append-nil (frame_events f)
@@ -94,19 +81,19 @@ builder_finish b p at e s h =
     ∙ ap (λ w. enter b.start ∷ w) (append_assoc (level_events b.level) (leave at ∷ leave at ∷ []) (leave at ∷ []))
     ∙ ap (λ w. enter b.start ∷ ((w ++ level_events b.level) ++ (leave at ∷ leave at ∷ leave at ∷ []))) (sym (ap frames_events e))
 
-opened_push : (fs : List Frame) (f : Frame) (outer : List Opener) → opened (fs ++ (f ∷ [])) outer ≡ opener_of (opener_tree f.group_kind) ∷ opened fs outer
+opened_push : (fs : List Frame) (f : Frame) (outer : List Opener) → openers_onto (fs ++ (f ∷ [])) outer ≡ opener_of (opener_tree f.group_kind) ∷ openers_onto fs outer
 opened_push [] f outer = refl
 opened_push (g ∷ fs) f outer = opened_push fs f (opener_of (opener_tree g.group_kind) ∷ outer)
 
-pub opened_after : (fs gs : List Frame) (f : Frame) → gs ≡ fs ++ (f ∷ []) → opened gs [] ≡ opener_of (opener_tree f.group_kind) ∷ opened fs []
-opened_after fs gs f e = ap (λ x. opened x []) e ∙ opened_push fs f []
+pub opened_after : (fs gs : List Frame) (f : Frame) → gs ≡ fs ++ (f ∷ []) → openers_onto gs [] ≡ opener_of (opener_tree f.group_kind) ∷ openers_onto fs []
+opened_after fs gs f e = ap (λ x. openers_onto x []) e ∙ opened_push fs f []
 
-some_opened : (fs : List Frame) (outer : List Opener) (o : Opener) → opened fs (o ∷ outer) ≡ [] → ⊥
+some_opened : (fs : List Frame) (outer : List Opener) (o : Opener) → openers_onto fs (o ∷ outer) ≡ [] → ⊥
 some_opened [] outer o e = cc
 some_opened (f ∷ fs) outer o e = some_opened fs (o ∷ outer) (opener_of (opener_tree f.group_kind)) e
 
 -- where nothing is open, no frame is there
-pub frames_none : (fs : List Frame) → opened fs [] ≡ [] → fs ≡ []
+pub frames_none : (fs : List Frame) → openers_onto fs [] ≡ [] → fs ≡ []
 frames_none [] e = refl
 frames_none (f ∷ fs) e = absurd (some_opened fs [] (opener_of (opener_tree f.group_kind)) e)
 

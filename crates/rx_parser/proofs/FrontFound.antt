@@ -1,40 +1,17 @@
 -- What is found at the front of a text, by what is read there.
 use Rattle.std.proofs.Common.{All, ◌≡◌, refl, sym, ap, ap₂, ◌∙◌, subst, ℕ, ◌+◌, ◌-◌, ◌%◌, ◌≤◌, Bool, true, false, not, ◌==◌, ◌&&◌, ◌||◌, Some, None, List, [], ◌∷◌, ◌++◌, length, take, drop, get_or, arith, append_assoc, length-append}
-use Rattle.std.proofs.Math.Seq.{take-append_seam}
+use Rattle.rx_parser.proofs.Common.{take-append_seam, nat_tests, is_syntax_character, CodePoint, values, PassesHex, Mode, Legacy, Sets, Unicode, starts, BeginsName, of_group, of_reference, ModifiersHalt, Environment, is_unicode, are_counts, counts_at, front, is_raw_at, is_legacy_syntax, stands_raw}
+use Rattle.rx_parser.proofs.Common.{Token, Opener, boundary, character, dot, class_escape, property, class, indexed, named, opener, closer, bar, quantifier, capturing, ignoring, looking, Front, front_spelled, legacy_syntax, HoldsName, IsFound, IsOpenerFound, found_front, found_halt, found_opener}
+use Rattle.rx_parser.proofs.Common.{found_name_halt, unit_kind, IsNameRow, no_name, some_name, SpellsName, IsStop, at_end, at_closer, at_bracket, at_brace, after_backslash, bits_small, AreWrong, unknown, duplicated, empty, invalid, EscapeAfter, SaysNameHalt, Says, SaysHalt, front_said, halt_end}
 use Rattle.std.proofs.lemmas.Bool.{and_from, cond-false, cond-true, false_from_ne_true, ne_eqb, or_right, true≢false}
-use Rattle.std.proofs.lemmas.Bool.Decides.{nat_tests}
 use Rattle.std.proofs.lemmas.List.{drop-map, length-drop, length-map, map-append, take-map, take_all}
-use Rattle.rx_tables.specs.Characters.{is_syntax_character}
-use Rattle.rx_units.specs.declared.code_point.CodePoint.{CodePoint}
-use Rattle.rx_units.specs.Units.{values}
-use Rattle.rx_units.specs.Digits.{PassesHex}
-use Rattle.rx_model.specs.declared.mode.Mode.{Mode}
-use Rattle.rx_model.specs.declared.mode.Mode.TheVariants.{Legacy, Sets, Unicode}
-use Rattle.rx_model.specs.Characters.UnitKinds.{unit_kind}
-use Rattle.rx_model.specs.FirstPass.Marks.{starts}
 use Rattle.rx_model.specs.Groups.GroupNameReading.{name_of}
-use Rattle.rx_model.specs.Groups.GroupNames.{IsNameRow, no_name, some_name, SpellsName}
-use Rattle.rx_model.specs.Groups.Groups.{BeginsName, of_group, of_reference}
-use Rattle.rx_model.specs.Groups.ModifierFronts.{ModifiersHalt}
 use Rattle.rx_model.specs.Groups.NameFronts.{NameHalt, unterminated, misplaced_pair, misplaced, no_escape, no_escape_of_u, many_digits}
-use Rattle.rx_model.specs.Inputs.Environment.{Environment, is_unicode}
 use Rattle.rx_model.specs.Reading.FrontReading.{FrontHalt, ends_here, last_backslash, out_of_order, too_large, many_decimal_digits, many_hex_digits, no_unicode_escape, in_name, no_angle, no_such_group, in_modifiers, FrontRead, token_read, property_begins, class_begins, halted, front_read, backslash_read, syntax_read}
-use Rattle.rx_model.specs.Reading.Fronts.{are_counts, counts_at, front, is_raw_at}
-use Rattle.rx_model.specs.Reading.Rows.{is_legacy_syntax, stands_raw}
-use Rattle.rx_model.specs.Refusals.Stops.{IsStop, at_end, at_closer, at_bracket, at_brace, after_backslash}
-use Rattle.rx_model.specs.Trees.Token.{Token, Opener, boundary, character, dot, class_escape, property, class, indexed, named, opener, closer, bar, quantifier, capturing, ignoring, looking}
 use Rattle.rx_model.proofs.Groups.GroupNames.{group_name_read, name_anywhere}
-use Rattle.rx_model.proofs.Groups.ModifierBits.{bits_small}
-use Rattle.rx_model.proofs.Groups.ModifierFronts.{AreWrong, unknown, duplicated, empty, invalid}
-use Rattle.rx_model.proofs.Groups.NameFronts.{EscapeAfter, SaysNameHalt}
 use Rattle.rx_model.proofs.Quantifiers.CountsReading.{limit_within}
-use Rattle.rx_model.proofs.Reading.FrontReading.{Says, SaysHalt, front_said}
-use Rattle.rx_model.proofs.Reading.Fronts.{Front, front_spelled, legacy_syntax}
-use Rattle.rx_parser.specs.Found.{HoldsName, IsFound, IsOpenerFound, found_front, found_halt, found_opener}
 use Rattle.rx_parser.specs.declared.found.Found.TheVariants as found
 use Rattle.rx_parser.specs.declared.found.Leaf.TheVariants as leaf
-use Rattle.rx_parser.specs.HaltPlaces.{halt_end}
-use Rattle.rx_parser.specs.Names.{found_name_halt}
 
 -- a unit that stands for itself
 pub raw_alone : (e : Environment) (us : List CodePoint) (d : CodePoint) → 1 ≤ length us → is_raw_at e (get_or us 0 d).value (values (take (length us - 1) (drop 1 us))) ≡ true

@@ -1,23 +1,13 @@
 -- What is built stays well made.
 use Rattle.std.proofs.Common.{◌≡◌, ap, sym, ◌∙◌, subst, true, List, [], ◌∷◌, ◌++◌, map}
-use Rattle.std.specs.List.{AllByRecursion}
+use Rattle.rx_parser.proofs.Common.{Span, Term, Alternative, Disjunction, out-Disjunction, Quantifier, nodes, alternatives, mirror_term, mirror_alternative, mirror_disjunction, Mode, takes, IsNode, AreNodes, HasAlternatives, AreAlternatives, Level, Frame, Builder, IsGoodTerm, IsGoodAlternative}
+use Rattle.rx_parser.proofs.Common.{IsGoodDisjunction, IsGoodFrame, AreGoodTerms, AreGoodAlternatives, IsGoodLevel, AreGoodFrames, IsGood}
 use Rattle.std.specs.declared.boxed.Box.{Box}
 use Rattle.std.specs.declared.alloc.Global.{Global}
-use Rattle.rx_base.specs.declared.span.Span.{Span}
-use Rattle.rx_ast.specs.declared.term.Term.{Term}
-use Rattle.rx_ast.specs.declared.term.Alternative.{Alternative}
-use Rattle.rx_ast.specs.declared.term.Disjunction.{Disjunction, out-Disjunction}
-use Rattle.rx_ast.specs.declared.term.Quantifier.{Quantifier}
+use Rattle.std.specs.List.{AllByRecursion}
 use Rattle.rx_ast.specs.declared.term.Term.TheVariants as variant
 use Rattle.rx_ast.specs.Tree as tree
-use Rattle.rx_ast.specs.Tree.{nodes, alternatives, mirror_term, mirror_alternative, mirror_disjunction}
 use Rattle.rx_ast.proofs.Equations as mirror
-use Rattle.rx_model.specs.declared.mode.Mode.{Mode}
-use Rattle.rx_model.specs.Trees.Shapes.{takes, IsNode, AreNodes, HasAlternatives, AreAlternatives}
-use Rattle.rx_parser.specs.declared.level.Level.{Level}
-use Rattle.rx_parser.specs.declared.frame.Frame.{Frame}
-use Rattle.rx_parser.specs.declared.builder.Builder.{Builder}
-use Rattle.rx_parser.specs.Good.{IsGoodTerm, IsGoodAlternative, IsGoodDisjunction, IsGoodFrame, AreGoodTerms, AreGoodAlternatives, IsGoodLevel, AreGoodFrames, IsGood}
 
 -- one more of which it holds, and the last
 push : {X : Type 0} (P : X → Type 0) (xs : List X) (x : X) → AllByRecursion P xs → P x → AllByRecursion P (xs ++ (x ∷ []))

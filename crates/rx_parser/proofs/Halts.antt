@@ -1,66 +1,35 @@
 -- Where the reading halts the text is refused with its cause.
 use Rattle.std.proofs.Common.{◌≡◌, ◌≢◌, refl, ap, ◌∙◌, sym, subst, ℕ, ◌+◌, ◌<◌, ◌≤◌, ◌&&◌, ◌||◌, inl, inr, Bool, true, false, not, Some, List, [], ◌∷◌, ◌++◌, length, drop, arith, length-append}
-use Rattle.std.proofs.lemmas.Bool.{cases_Bool}
-use Rattle.std.proofs.lemmas.List.{drop_all}
-use Rattle.rx_base.specs.declared.fault.Fault.{Fault}
-use Rattle.rx_base.specs.declared.fault.Fault.TheVariants.{Diagnostic}
+use Rattle.rx_parser.proofs.Common.{cases_Bool, drop_all, Fault, Diagnostic, InvalidExtendedAtomEscape, InvalidSurrogatePair, ParsePatternIncomplete, UnterminatedPattern, InvalidIndexedReference, BracedQuantifierOutOfOrder, TooLargeNumberInBracedQuantifier, TooLargeNumberDigits}
+use Rattle.rx_parser.proofs.Common.{InvalidUnicodeEscapeSequence, EmptyGroupSpecifier, DuplicatedModifiers, InvalidModifiers, UnknownModifiers, Span, CodePoint, offset_at, values, PassesHex, Mode, IsCauseAtPlace, unterminated, incomplete, last_backslash, misplaced_pair, out_of_order, too_large}
+use Rattle.rx_parser.proofs.Common.{too_many_digits, of_escape, unterminated_group, unterminated_name, unterminated_name_in_legacy, too_many_digits_in_name, misplaced_in_name, invalid_in_name, invalid_u_in_name, no_such_group, no_group_name, unknown_modifiers, duplicated_modifiers, empty_modifiers}
+use Rattle.rx_parser.proofs.Common.{invalid_modifiers, most_groups, Environment, has_some, is_unicode, front, BeginsName, EndsName, starts, no_item, yielding_of, IsPlace, HasNoClash, IsReached, span_between, text_environment, text_groups, text_names, Opener, capturing, closer, ignoring, indexed}
+use Rattle.rx_parser.proofs.Common.{looking, opener_of, front_spelled, Builder, Frame, IsEndedFault, IsHaltFault, halt_refusal, modifiers_refusal, ModifiersHalt, FrontHalt, ends_here, many_decimal_digits, many_hex_digits, no_unicode_escape, in_name, no_angle, in_modifiers, IsHalt, Stands}
+use Rattle.rx_parser.proofs.Common.{found_fault, found_halt, openers_onto, openers, opener_tree, ready, found_name_halt, IsParsing, IsRefused, Rules, IsNameRow, too_many_hex_digits, invalid_escape, IsStop, at_closer, at_end, Halt, AreWrong, unknown, duplicated, empty, invalid, EscapeAfter}
+use Rattle.rx_parser.proofs.Common.{SaysNameHalt, no_pair, Says, SaysHalt, front_said, halt_end, halt_start}
 use Rattle.rx_base.specs.declared.diagnostic.Diagnostic.{Diagnostic as Refusal}
-use Rattle.rx_base.specs.declared.diagnostic.Diagnostic.TheVariants.{InvalidExtendedAtomEscape, InvalidSurrogatePair, ParsePatternIncomplete, UnterminatedPattern, InvalidIndexedReference, BracedQuantifierOutOfOrder, TooLargeNumberInBracedQuantifier, TooLargeNumberDigits, InvalidUnicodeEscapeSequence, EmptyGroupSpecifier, DuplicatedModifiers, InvalidModifiers, UnknownModifiers}
 use Rattle.rx_base.specs.declared.diagnostic.kinds.DigitsKind.TheVariants.{Decimal, Hex}
 use Rattle.rx_base.specs.declared.diagnostic.kinds.Unterminated.TheVariants.{GroupName}
-use Rattle.rx_base.specs.declared.span.Span.{Span}
-use Rattle.rx_units.specs.declared.code_point.CodePoint.{CodePoint}
-use Rattle.rx_units.specs.Units.{offset_at, values}
-use Rattle.rx_units.specs.Digits.{PassesHex}
-use Rattle.rx_model.specs.declared.mode.Mode.{Mode}
-use Rattle.rx_model.specs.Refusals.Causes.{IsCauseAtPlace, unterminated, incomplete, last_backslash, misplaced_pair, out_of_order, too_large, too_many_digits, of_escape, unterminated_group, unterminated_name, unterminated_name_in_legacy, too_many_digits_in_name, misplaced_in_name, invalid_in_name, invalid_u_in_name, no_such_group, no_group_name, unknown_modifiers, duplicated_modifiers, empty_modifiers, invalid_modifiers}
-use Rattle.rx_model.specs.Trees.Early.{most_groups}
-use Rattle.rx_model.specs.Inputs.Environment.{Environment, has_some, is_unicode}
-use Rattle.rx_model.specs.Reading.Fronts.{front}
-use Rattle.rx_model.specs.Groups.GroupNames.{IsNameRow}
-use Rattle.rx_model.specs.Groups.Groups.{BeginsName, EndsName}
-use Rattle.rx_model.specs.FirstPass.Marks.{starts}
-use Rattle.rx_model.specs.Refusals.EscapeCauses.{too_many_hex_digits, invalid_escape}
-use Rattle.rx_model.specs.Refusals.Firsts.{no_item, yielding}
-use Rattle.rx_model.specs.Refusals.Reached.{IsPlace, HasNoClash, IsReached, span_between, text_environment, text_groups, text_names}
-use Rattle.rx_model.specs.Refusals.Stops.{IsStop, at_closer, at_end}
-use Rattle.rx_model.specs.Trees.Token.{Opener, capturing, closer, ignoring, indexed, looking, opener_of}
 use Rattle.rx_model.specs.Characters.UnicodeEscapes.{Decodes}
-use Rattle.rx_model.proofs.Reading.Fronts.{front_spelled}
-use Rattle.rx_parser.specs.declared.builder.Builder.{Builder}
-use Rattle.rx_parser.specs.declared.found.Halt.{Halt}
 use Rattle.rx_parser.specs.declared.found.Halt.TheVariants as halt
 use Rattle.rx_parser.specs.declared.found.ModifiersFault.{ModifiersFault}
 use Rattle.rx_parser.specs.declared.found.ModifiersFault.TheVariants as fault
-use Rattle.rx_parser.specs.declared.frame.Frame.{Frame}
-use Rattle.rx_parser.specs.Faults.{IsEndedFault, IsHaltFault, halt_refusal, modifiers_refusal}
-use Rattle.rx_model.specs.Groups.ModifierFronts.{ModifiersHalt}
 use Rattle.rx_model.specs.Groups.NameFronts.{NameHalt, begins_pair, unterminated as unterminated_row, misplaced_pair as misplaced_pair_row, misplaced, no_escape, no_escape_of_u, many_digits}
 use Rattle.rx_model.specs.Quantifiers.Quantifiers.{BeginsWithBraces, PassesLimit}
-use Rattle.rx_model.specs.Reading.FrontReading.{FrontHalt, ends_here, many_decimal_digits, many_hex_digits, no_unicode_escape, in_name, no_angle, in_modifiers}
 use Rattle.rx_model.specs.Reading.FrontReading as reading
 use Rattle.rx_model.proofs.Characters.Escapes.{NoUnicode}
-use Rattle.rx_model.proofs.Groups.ModifierFronts.{AreWrong, unknown, duplicated, empty, invalid}
-use Rattle.rx_model.proofs.Groups.NameFronts.{EscapeAfter, SaysNameHalt, no_pair}
-use Rattle.rx_model.proofs.Reading.FrontReading.{Says, SaysHalt, front_said}
-use Rattle.rx_parser.specs.Found.{IsHalt, Stands, found_fault, found_halt}
-use Rattle.rx_parser.specs.HaltPlaces.{halt_end, halt_start}
-use Rattle.rx_parser.specs.Frames.{opened, openers, opener_tree, ready}
-use Rattle.rx_parser.specs.Names.{found_name_halt}
-use Rattle.rx_parser.specs.Parsing.{IsParsing, IsRefused}
 use Rattle.rx_parser.proofs.Insides.{inside}
 use Rattle.rx_parser.proofs.Places.{reached, some_left}
 use Rattle.rx_parser.proofs.Refused.{cause_refused}
-use Rattle.rx_model.specs.declared.rules.Rules.{Rules}
 
 -- a group that is not ended
-says_group : (o : Opener) (span : Span) → yielding (UnterminatedPattern span (unterminated o)) ≢ no_item
+says_group : (o : Opener) (span : Span) → yielding_of (UnterminatedPattern span (unterminated o)) ≢ no_item
 says_group (capturing name) span e = cc e
 says_group (ignoring bits) span e = cc e
 says_group (looking kind) span e = cc e
 
 -- wrong modifiers
-says_modifiers : (it : ModifiersFault) (span : Span) → yielding (modifiers_refusal it span) ≢ no_item
+says_modifiers : (it : ModifiersFault) (span : Span) → yielding_of (modifiers_refusal it span) ≢ no_item
 says_modifiers fault.Unknown span e = cc e
 says_modifiers fault.Duplicated span e = cc e
 says_modifiers fault.Empty span e = cc e
@@ -164,7 +133,7 @@ module _ {mode : Mode} {rules : Rules} (us : List CodePoint) (first added : ℕ)
 
   -- the fault is some cause
   abbrev IsOfCause : Fault → Type 0
-  IsOfCause fault = (cause : Refusal) × (fault ≡ Diagnostic cause) × (yielding cause ≢ no_item) × Causes cause
+  IsOfCause fault = (cause : Refusal) × (fault ≡ Diagnostic cause) × (yielding_of cause ≢ no_item) × Causes cause
 
   -- Terms end, and n units on reading stands: outside groups, or in the innermost one.
   ended_cause : (following at : ℕ) (fault : Fault) → IsStop here left following → starts 41 (values left) ≡ false → (b.frames ≡ [] → left ≡ [] → ⊥) → at ≡ place + following → IsEndedFault us first added at b fault
@@ -173,7 +142,7 @@ module _ {mode : Mode} {rules : Rules} (us : List CodePoint) (first added : ℕ)
     where
       pattern : b.frames ≡ [] → fault ≡ Diagnostic (ParsePatternIncomplete (between at at)) → IsOfCause fault
       pattern none is =
-          let r : IsReached mode rules us place [] (ready b) left = subst (λ fs. IsReached mode rules us place (opened fs []) (ready b) left) none (reached us first added b place h) in (
+          let r : IsReached mode rules us place [] (ready b) left = subst (λ fs. IsReached mode rules us place (openers_onto fs []) (ready b) left) none (reached us first added b place h) in (
             ParsePatternIncomplete (between at at),
             is,
             (λ e. cc e),
@@ -196,7 +165,7 @@ module _ {mode : Mode} {rules : Rules} (us : List CodePoint) (first added : ℕ)
           )
 
   module _ (no_clash : HasNoClash mode rules.duplicate_names us) (limit : text_groups mode us ≤ most_groups) where
-    refused : (cause : Refusal) → yielding cause ≢ no_item → Causes cause → (fault : Fault) → fault ≡ Diagnostic cause → IsRefused mode rules us first added fault
+    refused : (cause : Refusal) → yielding_of cause ≢ no_item → Causes cause → (fault : Fault) → fault ≡ Diagnostic cause → IsRefused mode rules us first added fault
     refused cause says c fault e = subst (IsRefused mode rules us first added) (sym e) (cause_refused mode rules us first added no_clash limit place cause says c)
 
     -- why the text is refused where the reading halts
@@ -233,7 +202,7 @@ module _ {mode : Mode} {rules : Rules} (us : List CodePoint) (first added : ℕ)
     ended_refused e some fault f =
         let none : left ≡ [] = drop_all place us (omega (arith, e)) in
         let stop : IsStop here left 0 = subst (λ rest. IsStop here rest 0) (sym none) at_end in
-        let c = ended_cause 0 place fault stop (ap (λ rest. starts 41 (values rest)) none) (λ frames _. some (ap (λ fs. opened fs []) frames)) (omega arith) f in
+        let c = ended_cause 0 place fault stop (ap (λ rest. starts 41 (values rest)) none) (λ frames _. some (ap (λ fs. openers_onto fs []) frames)) (omega arith) f in
         refused c.0 c.2 c.3 fault c.1
 
     -- a `)` where no group is open

@@ -1,26 +1,11 @@
 -- From what is answered to flags and to units, to what is answered to an input.
-use Rattle.std.proofs.Common.{◌≡◌, refl, ap, sym, ◌∙◌, subst, ℕ, Bool, true, false, ◌||◌, ◌⊎◌, List, Some, Result, Ok, Err, IsErrAnd, inl, inr}
-use Rattle.std.specs.Prelude.{IfErr, if◌then◌else◌}
-use Rattle.std.proofs.lemmas.Result.{err_from_is_err_and}
+use Rattle.std.proofs.Common.{◌≡◌, refl, ap, sym, ◌∙◌, subst, ℕ, Bool, true, false, ◌||◌, ◌⊎◌, List, Some, Result, Ok, Err, IsErrAnd, inl, inr, IfErr, if◌then◌else◌}
+use Rattle.rx_parser.proofs.Common.{err_from_is_err_and, Pattern, InvalidInput, Fault, CodePoint, values, Mode, Legacy, Unicode, Sets, is_unicode, mode_by, AreFlagUnits, AreUnits, HasNoUnits, first_offset, some_flags, some_units, stand_in, IsFaultOf, IsFirstRefusal, IsParsed, IsValid, no_flags_text}
+use Rattle.rx_parser.proofs.Common.{no_memory, no_text, of_flags, of_text, refused, whole_span, AnswersUnits, IsRefused, flags_ok, mode_of, modes_of, Asks, AsksFor, Input, IsFlagCause}
 use Rattle.rx_base.specs.Flags.{holds}
-use Rattle.rx_ast.specs.declared.term.Pattern.{Pattern}
 use Rattle.rx_base.specs.declared.diagnostic.Diagnostic.{Diagnostic}
-use Rattle.rx_base.specs.declared.diagnostic.Diagnostic.TheVariants.{InvalidInput}
-use Rattle.rx_base.specs.declared.fault.Fault.{Fault}
 use Rattle.rx_base.specs.declared.fault.Fault.TheVariants as fault
-use Rattle.rx_units.specs.declared.code_point.CodePoint.{CodePoint}
-use Rattle.rx_units.specs.Units.{values}
-use Rattle.rx_model.specs.declared.mode.Mode.{Mode}
-use Rattle.rx_model.specs.declared.mode.Mode.TheVariants.{Legacy, Unicode, Sets}
-use Rattle.rx_model.specs.Inputs.Environment.{is_unicode}
-use Rattle.rx_model.specs.Inputs.Flags.{flags_ok, mode_of, modes_of}
-use Rattle.rx_model.specs.Inputs.Inputs.{Asks, AsksFor, Input}
-use Rattle.rx_model.specs.Inputs.Modes.{mode_by}
-use Rattle.rx_model.specs.Inputs.Texts.{AreFlagUnits, AreUnits, HasNoUnits, first_offset, some_flags, some_units, stand_in}
-use Rattle.rx_model.specs.Reading.Headline.{IsFaultOf, IsFirstRefusal, IsParsed, IsValid, no_flags_text, no_memory, no_text, of_flags, of_text, refused, whole_span}
-use Rattle.rx_model.specs.Refusals.FlagCauses.{IsFlagCause}
 use Rattle.rx_model.proofs.Refusals.OneRefusal.{none_of_valid}
-use Rattle.rx_parser.specs.Parsing.{AnswersUnits, IsRefused}
 use Rattle.rx_parser.proofs.StandIns.{none_stands_in}
 
 -- what is passed on is the fault
@@ -53,10 +38,6 @@ module _ (input : Input) where
   -- the same as the answer to the input
   pub passed_parsed : (r : Result (Pattern × Mode) Fault) (it : Fault) → IsErrAnd r (λ e. e ≡ it) → IsFaultOf input it → IsParsed (λ (p : Pattern × Mode). p.0) input r
   passed_parsed r it passed h = subst (IsParsed (λ (p : Pattern × Mode). p.0) input) (sym (passed_on r it passed)) (fault_parsed it h)
-
-  -- the tree without the mode
-  pub tree_alone : (p : Pattern) (m : Mode) → IsParsed (λ (p : Pattern × Mode). p.0) input (Ok (p, m)) → IsParsed (λ p. p) input (Ok p)
-  tree_alone p m parsed = record { valid = parsed.valid; complete = λ _. tt; read = parsed.read; refused = tt }
 
   -- A text that is not decoded is refused as a whole,
   unread_fault : (it : Fault) (d : Diagnostic) (Unread : Type 0) → (Unread → IsFirstRefusal input d) → (it ≡ fault.OutOfMemory) ⊎ ((it ≡ fault.Diagnostic d) × Unread) → IsFaultOf input it

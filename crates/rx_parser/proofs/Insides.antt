@@ -1,36 +1,15 @@
 -- What stands so far in the innermost open group: it opens and closes groups of its own alone.
 use Rattle.std.proofs.Common.{◌≡◌, refl, ap, sym, ◌∙◌, subst, ℕ, ◌+◌, Bool, false, Some, List, [], ◌∷◌, ◌++◌, map, length, drop, append_assoc, length-append, length-drop, arith}
 use Rattle.std.proofs.lemmas.List.{append-nil}
-use Rattle.rx_ast.specs.declared.term.Alternative.{Alternative}
-use Rattle.rx_ast.specs.declared.term.Term.{Term}
+use Rattle.rx_parser.proofs.Common.{Alternative, Term, mirror_term, mirror_alternative, CodePoint, offset_at, Mode, Obeys, Environment, Events, enter, leave, token, modified, nodes_events, opener_event, term_events, alternative_events, tokens_of, AreObeying, IsInside, IsReached, text_environment}
+use Rattle.rx_parser.proofs.Common.{text_groups, text_names, Row, TokenRow, run, takes, Token, Opener, bar, opener, opener_of, tokens_of-append, before, before-append, before_opener, before_within, row_split, row_tokens, Builder, Frame, Level, builder_events, frame_events, frames_events}
+use Rattle.rx_parser.proofs.Common.{openers_onto, opener_tree, AreGoodAlternatives, AreGoodFrames, AreGoodTerms, IsGood, IsGoodFrame, IsGoodLevel, with_bars, level_events, strung, IsParsing, Rules, Passes, node_runs, nodes_run}
 use Rattle.rx_ast.specs.Tree as tree
-use Rattle.rx_ast.specs.Tree.{mirror_term, mirror_alternative}
-use Rattle.rx_units.specs.declared.code_point.CodePoint.{CodePoint}
-use Rattle.rx_units.specs.Units.{offset_at}
-use Rattle.rx_model.specs.declared.mode.Mode.{Mode}
-use Rattle.rx_model.specs.Trees.Early.{Obeys}
-use Rattle.rx_model.specs.Inputs.Environment.{Environment}
 use Rattle.rx_model.specs.Trees.Events as event
-use Rattle.rx_model.specs.Trees.Events.{Events, enter, leave, token, modified, nodes_events, opener_event, term_events, alternative_events, tokens_of}
-use Rattle.rx_model.specs.Refusals.Reached.{AreObeying, IsInside, IsReached, text_environment, text_groups, text_names}
-use Rattle.rx_model.specs.Reading.Rows.{Row, TokenRow}
-use Rattle.rx_model.specs.Trees.Shapes.{run, takes}
-use Rattle.rx_model.specs.Trees.Token.{Token, Opener, bar, opener, opener_of}
 use Rattle.rx_model.proofs.Refusals.BlockedPlaces.{last_all}
-use Rattle.rx_model.proofs.Trees.Flat.{tokens_of-append, before, before-append, before_opener, before_within}
-use Rattle.rx_model.proofs.Trees.Joins.{row_split, row_tokens}
-use Rattle.rx_model.proofs.Trees.Runs.{Passes, node_runs, nodes_run}
-use Rattle.rx_parser.specs.declared.builder.Builder.{Builder}
-use Rattle.rx_parser.specs.declared.frame.Frame.{Frame}
-use Rattle.rx_parser.specs.declared.level.Level.{Level}
-use Rattle.rx_parser.specs.Frames.{builder_events, frame_events, frames_events, opened, opener_tree}
-use Rattle.rx_parser.specs.Good.{AreGoodAlternatives, AreGoodFrames, AreGoodTerms, IsGood, IsGoodFrame, IsGoodLevel}
-use Rattle.rx_parser.specs.Levels.{barred, level_events, strung}
-use Rattle.rx_parser.specs.Parsing.{IsParsing}
 use Rattle.rx_parser.proofs.FrameEvents.{frames_push}
 use Rattle.rx_parser.proofs.Goods.{split}
 use Rattle.rx_model.proofs.Refusals.InnermostGroups.{first_all}
-use Rattle.rx_model.specs.declared.rules.Rules.{Rules}
 
 module _ (mode : Mode) where
   -- one row of events after another
@@ -56,10 +35,10 @@ module _ (mode : Mode) where
       (p.0, λ ts. ap (λ ss. run mode ss open_groups ready) (before_within it.0 (nodes_events it.1) ts) ∙ p.1 ts)
 
   -- alternatives that a bar ends
-  barred_pass : (all : List Alternative) → AreGoodAlternatives mode all → (open_groups : List Opener) (ready : Bool) → Passes mode (barred (map alternative_events all)) open_groups ready
+  barred_pass : (all : List Alternative) → AreGoodAlternatives mode all → (open_groups : List Opener) (ready : Bool) → Passes mode (with_bars (map alternative_events all)) open_groups ready
   barred_pass [] g open_groups ready = (ready, λ ts. refl)
   barred_pass (a ∷ all) g open_groups ready =
-      both_pass (alternative_events a) (token bar ∷ barred (map alternative_events all)) open_groups ready (alternative_passes a (g.0, tt) open_groups ready) (λ between.
+      both_pass (alternative_events a) (token bar ∷ with_bars (map alternative_events all)) open_groups ready (alternative_passes a (g.0, tt) open_groups ready) (λ between.
       let p = barred_pass all g.1 open_groups false in
       (p.0, p.1))
 
@@ -67,13 +46,13 @@ module _ (mode : Mode) where
   pub level_passes : (l : Level) → IsGoodLevel mode l → (open_groups : List Opener) (ready : Bool) → Passes mode (level_events l) open_groups ready
   unfolding level_events IsGoodLevel
   level_passes l g open_groups ready =
-      let p = both_pass (barred (map alternative_events l.alternatives)) (enter l.alternative_start ∷ strung (map term_events l.terms)) open_groups ready
+      let p = both_pass (with_bars (map alternative_events l.alternatives)) (enter l.alternative_start ∷ strung (map term_events l.terms)) open_groups ready
       (barred_pass l.alternatives g.0 open_groups ready) (λ between. let q = terms_pass l.terms g.1 open_groups between in (q.0, q.1)) in
       (p.0, p.1)
 
   -- After what stands before some open groups, and their beginnings, these are open after others.
   frames_open : (fs : List Frame) → AreGoodFrames mode fs → (open_groups : List Opener) (ready : Bool) →
-      (after : Bool) × ((ts : List Token) → run mode (before (frames_events fs) ts) open_groups ready ≡ run mode ts (opened fs open_groups) after)
+      (after : Bool) × ((ts : List Token) → run mode (before (frames_events fs) ts) open_groups ready ≡ run mode ts (openers_onto fs open_groups) after)
   frames_open [] g open_groups ready = (ready, λ ts. refl)
   frames_open (f ∷ fs) g open_groups ready =
       let o = opener_tree f.group_kind in
@@ -123,13 +102,13 @@ module _ (b : Builder) (outer : List Frame) (group : Frame) (e : b.frames ≡ ou
       ∙ sym (append_assoc (frames_events outer) (level_events group.outer) tail))
 
   -- before the group its outer groups are open, and in it none but itself
-  head_open : IsGood b → (ready : Bool) × (run b.mode (tokens_of head) [] false ≡ Some (opened outer [], ready))
+  head_open : IsGood b → (ready : Bool) × (run b.mode (tokens_of head) [] false ≡ Some (openers_onto outer [], ready))
   unfolding IsGood
   head_open g =
       let mode = b.mode in
       let s = split (IsGoodFrame mode) outer group (subst (AreGoodFrames mode) e g.0) in
       let p = frames_open mode outer s.0 [] false in
-      let q = level_passes mode group.outer s.1 (opened outer []) p.0 in (
+      let q = level_passes mode group.outer s.1 (openers_onto outer []) p.0 in (
         q.0,
         ap (λ ts. run mode ts [] false) (sym (append-nil (tokens_of head)) ∙ before-append (frames_events outer) (level_events group.outer) [])
             ∙ p.1 (before (level_events group.outer) []) ∙ q.1 [],
@@ -158,16 +137,16 @@ inside {mode} {rules} us first added b place h outer group e =
     let shown = opener_tokens it (level_events b.level) in
     let group_kind = head_open b outer group e h.at.good in
     let closed = inside_closed b outer group e h.at.good in
-    let reached : IsReached mode rules us s.0 (opened outer []) group_kind.0 s.1 = record {
+    let reached : IsReached mode rules us s.0 (openers_onto outer []) group_kind.0 s.1 = record {
       tokens = tokens_of before_group;
       row = row_tokens env o before_group 0 us s.0 s.1 s.2;
       place_is = row_from_start env o before_group us s.0 s.1 s.2;
-      accepted = subst (λ m. run m (tokens_of before_group) [] false ≡ Some (opened outer [], group_kind.0)) h.at.mode group_kind.1;
+      accepted = subst (λ m. run m (tokens_of before_group) [] false ≡ Some (openers_onto outer [], group_kind.0)) h.at.mode group_kind.1;
       obey = first_all P (tokens_of before_group) (tokens_of in_group) owed;
     } in (
       s.0,
       record {
-        open_groups = opened outer [];
+        open_groups = openers_onto outer [];
         ready = group_kind.0;
         at_group = s.1;
         reached = reached;

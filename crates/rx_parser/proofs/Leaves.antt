@@ -2,24 +2,16 @@
 use Rattle.std.proofs.Common.{◌≡◌, refl, ap, sym, ◌∙◌, subst, Bool, List, [], ◌∷◌}
 use Rattle.std.specs.declared.boxed.Box.{Box}
 use Rattle.std.specs.declared.alloc.Global.{Global}
-use Rattle.rx_ast.specs.declared.leaf.BoundaryAssertion.{BoundaryAssertion}
-use Rattle.rx_ast.specs.declared.leaf.Character.{Character}
-use Rattle.rx_ast.specs.declared.leaf.CharacterClassEscape.{CharacterClassEscape}
-use Rattle.rx_ast.specs.declared.leaf.Dot.{Dot}
-use Rattle.rx_ast.specs.declared.leaf.IndexedReference.{IndexedReference}
 use Rattle.rx_ast.specs.declared.leaf.NamedReference.{NamedReference}
-use Rattle.rx_ast.specs.declared.leaf.UnicodePropertyEscape.{UnicodePropertyEscape}
-use Rattle.rx_ast.specs.declared.term.Term.{Term}
+use Rattle.rx_parser.proofs.Common.{UnicodePropertyEscape, Term, leaf_span, Mode, enter, leave, token, node_events, term_events, leaf_event, run, takes, leaf_takes, IsNode, IsLeafOf, Token, Opener, named, property, Span}
 use Rattle.rx_ast.specs.declared.term.Term.TheVariants as variant
-use Rattle.rx_ast.specs.Spans.{leaf_span}
 use Rattle.rx_ast.specs.Tree as tree
 use Rattle.rx_ast.specs.Tree.{Leaf, leaf, mirror_term}
 use Rattle.rx_ast.proofs.Equations as mirror
-use Rattle.rx_model.specs.declared.mode.Mode.{Mode}
-use Rattle.rx_model.specs.Trees.Events.{enter, leave, token, node_events, term_events, leaf_event}
-use Rattle.rx_model.specs.Trees.Shapes.{run, takes, leaf_takes, IsNode}
-use Rattle.rx_model.specs.Trees.Token.{Token, Opener, boundary, character, dot, class_escape, indexed, named, property, leaf_token}
-use Rattle.rx_parser.specs.Progress.{IsLeafOf}
+use Rattle.rx_model.specs.Trees.Token.{leaf_token}
+use Rattle.rx_parser.specs.declared.found.Leaf.{Leaf as FoundLeaf}
+use Rattle.rx_parser.specs.declared.found.Leaf.TheVariants as variants
+use Rattle.rx_parser.specs.Found.{leaf_term, leaf_token as found_token}
 
 -- A leaf stands wherever its token may, and its events are the token between the ends of its span.
 pub leaf_runs : (mode : Mode) (l : Leaf) (ts : List Token) (open_groups : List Opener) (ready : Bool) → run mode (leaf_token l ∷ ts) open_groups ready ≡ run mode ts open_groups (leaf_takes l)
@@ -44,20 +36,12 @@ leaf_is term l m e = record {
   good = λ mode. subst (IsNode mode) (sym m) tt;
 }
 
-pub boundary_is_leaf : (b : BoundaryAssertion) → IsLeafOf (variant.BoundaryAssertion b) (boundary b.kind) b.span.start b.span.end
-boundary_is_leaf b = leaf_is (variant.BoundaryAssertion b) (tree.boundary b) (mirror.boundary_is b) refl
-
-pub character_is_leaf : (b : Character) → IsLeafOf (variant.Character b) (character b.kind b.value) b.span.start b.span.end
-character_is_leaf b = leaf_is (variant.Character b) (tree.character b) (mirror.character_is b) refl
-
-pub dot_is_leaf : (b : Dot) → IsLeafOf (variant.Dot b) dot b.span.start b.span.end
-dot_is_leaf b = leaf_is (variant.Dot b) (tree.dot b) (mirror.dot_is b) refl
-
-pub class_escape_is_leaf : (b : CharacterClassEscape) → IsLeafOf (variant.CharacterClassEscape b) (class_escape b.kind) b.span.start b.span.end
-class_escape_is_leaf b = leaf_is (variant.CharacterClassEscape b) (tree.class_escape b) (mirror.escape_is b) refl
-
-pub indexed_is_leaf : (b : IndexedReference) → IsLeafOf (variant.IndexedReference b) (indexed b.index) b.span.start b.span.end
-indexed_is_leaf b = leaf_is (variant.IndexedReference b) (tree.indexed b) (mirror.indexed_is b) refl
+pub leaf_term_is : (it : FoundLeaf) (span : Span) → IsLeafOf (leaf_term it span) (found_token it) span.start span.end
+leaf_term_is (variants.Boundary kind) span = leaf_is (leaf_term (variants.Boundary kind) span) (tree.boundary (record { span = span; kind = kind })) (mirror.boundary_is _) refl
+leaf_term_is (variants.Character kind value) span = leaf_is (leaf_term (variants.Character kind value) span) (tree.character (record { span = span; kind = kind; value = value })) (mirror.character_is _) refl
+leaf_term_is variants.Dot span = leaf_is (leaf_term variants.Dot span) (tree.dot (record { span = span })) (mirror.dot_is _) refl
+leaf_term_is (variants.ClassEscape kind) span = leaf_is (leaf_term (variants.ClassEscape kind) span) (tree.class_escape (record { span = span; kind = kind })) (mirror.escape_is _) refl
+leaf_term_is (variants.IndexedReference n) span = leaf_is (leaf_term (variants.IndexedReference n) span) (tree.indexed (record { span = span; index = n })) (mirror.indexed_is _) refl
 
 pub named_is_leaf : (b : Box NamedReference Global) (r : NamedReference) → b.value ≡ r → IsLeafOf (variant.NamedReference b) (named r.name) r.span.start r.span.end
 named_is_leaf b r e = subst (λ r. IsLeafOf (variant.NamedReference b) (named r.name) r.span.start r.span.end) e (leaf_is (variant.NamedReference b) (tree.named b.value) (mirror.named_is b) refl)

@@ -1,4 +1,5 @@
 pub mod ClassTurns
+pub mod Common
 pub mod Endings
 pub mod EventEquations
 pub mod FrameEvents
@@ -13,14 +14,13 @@ pub mod ModifierBits
 pub mod ModifiersFound
 pub mod NameFound
 pub mod NumberFound
+pub mod Paces
 pub mod Passes
 pub mod Places
-pub mod Paces
 pub mod PlainRuns
 pub mod ReadTexts
 pub mod Refused
 pub mod StandIns
 pub mod Steps
-pub mod TextUnits
 pub mod TokenPaces
 pub mod Turns

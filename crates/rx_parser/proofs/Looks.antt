@@ -1,38 +1,24 @@
 -- How many looks it takes to find what stands at the front.
-use Rattle.std.proofs.Common.{◌≡◌, ◌∙◌, refl, ap, sym, ℕ, ◌+◌, ◌-◌, ◌*◌, ◌≤◌, ◌==◌, ◌||◌, Bool, true, false, inl, inr, List, [], ◌∷◌, ◌++◌, length, drop, get_or, min, arith}
-use Rattle.std.specs.Prelude.{if◌then◌else◌}
-use Rattle.std.specs.List.{prefix_len}
+use Rattle.std.proofs.Common.{◌≡◌, ◌∙◌, refl, ap, sym, ℕ, ◌+◌, ◌-◌, ◌*◌, ◌≤◌, ◌==◌, ◌||◌, Bool, true, false, inl, inr, List, [], ◌∷◌, ◌++◌, length, drop, get_or, min, arith, if◌then◌else◌}
+use Rattle.rx_parser.proofs.Common.{nat_tests, Rises, is_decimal_digit, CodePoint, values, starts, Environment, is_unicode, escape_read, found_front, LooksAtEscape, LooksAtSyntax, digit_run, halt_looks, looks, name_looks, plain, token_looks, CharacterKind, SpellsLegacy, begins_property, any_refused}
+use Rattle.rx_parser.proofs.Common.{any_spelled, seen_escape}
 use Rattle.std.proofs.lemmas.Bool.{cases_Bool, cond-false, true≢false}
-use Rattle.std.proofs.lemmas.Bool.Decides.{nat_tests}
-use Rattle.rx_base.specs.Rising.{Rises}
-use Rattle.rx_tables.specs.Characters.{is_decimal_digit}
-use Rattle.rx_units.specs.declared.code_point.CodePoint.{CodePoint}
-use Rattle.rx_units.specs.Units.{values}
+use Rattle.std.specs.List.{prefix_len}
 use Rattle.rx_units.specs.OctalEscapes.{SpellsOctal}
 use Rattle.rx_units.specs.OctalEscapes as octal
-use Rattle.rx_ast.specs.declared.leaf.CharacterKind.{CharacterKind}
 use Rattle.rx_model.specs.Characters.EscapeFronts.{any_escape_at, escaped, too_many}
 use Rattle.rx_model.specs.Characters.Escapes.{SpellsEscape}
 use Rattle.rx_model.specs.Characters.Escapes as spelled
-use Rattle.rx_model.specs.Characters.LegacyEscapes.{SpellsLegacy}
 use Rattle.rx_model.specs.Characters.LegacyEscapes as legacy
-use Rattle.rx_model.specs.FirstPass.Marks.{starts}
-use Rattle.rx_model.specs.Inputs.Environment.{Environment, is_unicode}
-use Rattle.rx_model.specs.Properties.PropertyForms.{begins_property}
-use Rattle.rx_model.specs.Reading.FrontReading.{escape_read}
-use Rattle.rx_model.proofs.Characters.LegacyEscapes.{any_refused, any_spelled}
-use Rattle.rx_class.specs.EscapeSteps.{most_looks}
-use Rattle.rx_class.specs.Found.{seen_escape}
-use Rattle.rx_class.specs.declared.escape_found.EscapeFound.{EscapeFound}
-use Rattle.rx_class.specs.declared.escape_found.EscapeFound.TheVariants as escape
-use Rattle.rx_class.proofs.Bounds.{read_within}
-use Rattle.rx_class.proofs.EscapeSteps.{spelled_long}
-use Rattle.rx_parser.specs.Found.{found_front}
+use Rattle.rx_class.specs.EscapeReading.Steps.{most_looks}
+use Rattle.rx_class.specs.declared.escapes.found.EscapeFound.{EscapeFound}
+use Rattle.rx_class.specs.declared.escapes.found.EscapeFound.TheVariants as escape
+use Rattle.rx_class.proofs.EscapeReading.Bounds.{read_within}
+use Rattle.rx_class.proofs.EscapeReading.Steps.{spelled_long}
 use Rattle.rx_parser.specs.declared.found.Found.{Found}
 use Rattle.rx_parser.specs.declared.found.Found.TheVariants as found
 use Rattle.rx_parser.specs.declared.name.NameFound.{NameFound}
 use Rattle.rx_parser.specs.declared.name.NameFound.TheVariants as name
-use Rattle.rx_parser.specs.Pace.{LooksAtEscape, LooksAtSyntax, digit_run, halt_looks, looks, name_looks, plain, token_looks}
 use Rattle.rx_parser.proofs.Paces.{plain_reach, plain_within, run_reach, run_stops, run_under_plain, run_within}
 
 -- a name, and what stands after it

@@ -1,20 +1,12 @@
 -- The bits of letters of modifiers.
 use Rattle.std.proofs.Common.{◌≡◌, refl, sym, ap, ap₂, ◌∙◌, subst, ℕ, ◌+◌, ◌<◌, true, false, cond, ◌==◌, ◌||◌, Some, None, List, [], ◌∷◌, ◌++◌, length, take, drop, get_or, bit_and, bit_or, arith, inl, inr}
-use Rattle.std.specs.List.{list_all}
+use Rattle.rx_parser.proofs.Common.{nat_tests, CodePoint, values, is_modifier, occurs, has_twice, letters_bits, are_bits, values_at, and_three, or_three, three, chosen}
 use Rattle.std.proofs.lemmas.Bool.{cases_Bool, eqb-true, cond-true, cond-false, or_parts, or_from, or_left, or_right, or_cases, eq-eqb, false_from_ne_true, true≢false}
-use Rattle.std.proofs.lemmas.Bool.Decides.{nat_tests}
-use Rattle.std.proofs.lemmas.List.{map-append, take-append-drop}
+use Rattle.std.proofs.lemmas.List.{map-append, map_more, take-append-drop}
 use Rattle.std.proofs.lemmas.List.Folds.{list_all-map, list_all_at, list_any-append}
 use Rattle.std.proofs.lemmas.Nat.{and_comm}
-use Rattle.rx_units.specs.declared.code_point.CodePoint.{CodePoint}
-use Rattle.rx_units.specs.Units.{values}
-use Rattle.rx_model.specs.Groups.Modifiers.{is_modifier, occurs, has_twice, letters_bits}
-use Rattle.rx_model.specs.Groups.ModifierFronts.{are_bits}
-use Rattle.rx_model.proofs.Groups.ModifierBits.{and_three, or_three, three}
+use Rattle.std.specs.List.{list_all}
 use Rattle.rx_parser.specs.Modifiers.{modifier_bit}
-use Rattle.rx_units.proofs.Choices.{chosen}
-use Rattle.rx_parser.proofs.TextUnits.{values_more}
-use Rattle.rx_scan.proofs.MarkSteps.{values_at}
 
 -- What holds of each letter and its bit.
 by_letter : (P : ℕ → ℕ → Type 0) (c bit : ℕ) → P 105 1 → P 109 2 → P 115 4 → modifier_bit c ≡ Some bit → P c bit
@@ -97,6 +89,10 @@ once_more c (d ∷ w) h k =
     or_from (occurs d (w ++ (c ∷ []))) (has_twice (w ++ (c ∷ [])))
     (occurs_more d c w ∙ or_from (occurs d w) ((c == d) || false) twice.0 (or_from (c == d) false (same_turned d c other.0) refl))
     (once_more c w twice.1 other.1)
+
+-- one more value
+values_more : (us : List CodePoint) (k : ℕ) (d : CodePoint) → k < length us → values (take (k + 1) us) ≡ values (take k us) ++ (get_or us k d).value ∷ []
+values_more us k d h = map_more (λ u. u.value) us k d h
 
 module _ (us : List CodePoint) (i : ℕ) (d : CodePoint) (within : i < length us) where
   abbrev letter : ℕ

@@ -1,14 +1,7 @@
 -- The modifiers after `(?`, by what their readers find.
 use Rattle.std.proofs.Common.{◌≡◌, sym, ap, ap₂, ◌∙◌, ℕ, ◌+◌, true, false, List, [], take, drop}
 use Rattle.std.specs.List.{list_all}
-use Rattle.std.proofs.lemmas.Bool.{cond-true, cond-false}
-use Rattle.std.proofs.lemmas.List.{take-map}
-use Rattle.rx_units.specs.declared.code_point.CodePoint.{CodePoint}
-use Rattle.rx_units.specs.Units.{values}
-use Rattle.rx_model.specs.Groups.GroupFronts.{letters_at, sides, second_side, sides_at}
-use Rattle.rx_model.specs.FirstPass.Marks.{starts}
-use Rattle.rx_model.specs.Groups.Modifiers.{is_modifier}
-use Rattle.rx_scan.proofs.MarkSteps.{values_drop}
+use Rattle.rx_parser.proofs.Common.{cond-true, cond-false, take-map, CodePoint, values, starts, is_modifier, values_drop, letters_at, sides, second_side, sides_at}
 use Rattle.rx_model.proofs.Groups.Modifiers.{sides_spelled, sides_letters}
 
 values_take : (n : ℕ) (us : List CodePoint) → values (take n us) ≡ take n (values us)

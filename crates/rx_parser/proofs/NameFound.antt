@@ -1,12 +1,7 @@
 -- What the readers of names answer, by what is read.
 use Rattle.std.proofs.Common.{◌≡◌, ap, ℕ, ◌+◌, List}
-use Rattle.rx_model.specs.Groups.NameFronts.{NameRead, name_read, no_name_read}
-use Rattle.rx_model.specs.Reading.FrontReading.{token_read, with_name}
-use Rattle.rx_model.specs.Trees.Token.{Token}
-use Rattle.rx_parser.specs.Found.{found_front}
-use Rattle.rx_parser.specs.Names.{found_name}
+use Rattle.rx_parser.proofs.Common.{NameRead, name_read, no_name_read, token_read, with_name, Token, found_front, found_name, Halt}
 use Rattle.rx_parser.specs.declared.found.Found.TheVariants as found
-use Rattle.rx_parser.specs.declared.found.Halt.{Halt}
 use Rattle.rx_parser.specs.declared.name.NameFound.TheVariants as name_found
 
 -- a name of n units

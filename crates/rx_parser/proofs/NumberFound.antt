@@ -1,12 +1,7 @@
 -- The number of the digits that stand next, as they are read.
 use Rattle.std.proofs.Common.{◌≡◌, ◌∙◌, sym, nat_le, arith, ◌<◌, ℕ, ◌+◌, ◌-◌, ◌*◌, ◌^◌, List, [], ◌∷◌, drop, inl, inr, min}
 use Rattle.std.proofs.lemmas.Bool.{cases_Bool, cond-false, cond-true, le-leb, leb-false, leb-true, lt-leb}
-use Rattle.rx_tables.specs.Characters.{is_decimal_digit}
-use Rattle.rx_units.specs.declared.code_point.CodePoint.{CodePoint}
-use Rattle.rx_units.specs.Units.{values}
-use Rattle.rx_model.specs.Characters.LegacyEscapes.{run_number}
-use Rattle.rx_model.specs.Reading.Fronts.{digits, digits_after}
-use Rattle.rx_units.proofs.Choices.{chosen}
+use Rattle.rx_parser.proofs.Common.{is_decimal_digit, CodePoint, values, digits, digits_after, run_number, chosen}
 
 -- The digits before a place are read, and their number stands still at the greatest of 32 bits.
 pub record NumberRead (us : List CodePoint) (found count : ℕ) : Type 0 where

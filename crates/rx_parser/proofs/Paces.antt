@@ -1,13 +1,9 @@
 -- How many units at the front stand for themselves, and how many are digits.
 use Rattle.std.proofs.Common.{◌≡◌, ◌∙◌, refl, ap, sym, subst, ℕ, zero, suc, ◌+◌, ◌-◌, ◌<◌, ◌≤◌, Bool, true, false, not, inl, inr, List, [], ◌∷◌, length, drop, take, get_or, arith}
-use Rattle.std.specs.List.{prefix_len}
-use Rattle.std.proofs.lemmas.Bool.{cases_Bool, cond-false, cond-true}
-use Rattle.std.proofs.lemmas.Bool.Decides.{nat_tests}
+use Rattle.rx_parser.proofs.Common.{cases_Bool, cond-false, cond-true, nat_tests, is_decimal_digit, is_syntax_character, CodePoint, digit_run, plain}
 use Rattle.std.proofs.lemmas.List.{take_all}
 use Rattle.std.proofs.lemmas.List.Sums.{prefix_len-drop_all, prefix_len-drop_no, prefix_len-drop_yes, prefix_len-le-length}
-use Rattle.rx_tables.specs.Characters.{is_decimal_digit, is_syntax_character}
-use Rattle.rx_units.specs.declared.code_point.CodePoint.{CodePoint}
-use Rattle.rx_parser.specs.Pace.{digit_run, plain}
+use Rattle.std.specs.List.{prefix_len}
 
 -- digits from a place on
 pub run_more : (us : List CodePoint) (i : ℕ) (d : CodePoint) → i < length us → is_decimal_digit (get_or us i d).value ≡ true → digit_run (drop i us) ≡ 1 + digit_run (drop (i + 1) us)

@@ -1,21 +1,6 @@
 -- What the first pass over a text tells of its groups.
-use Rattle.std.proofs.Common.{Bool, ◌≡◌, ap₂, ℕ, ◌+◌, ◌-◌, ◌^◌, ◌<◌, ◌≤◌, List, arith}
-use Rattle.std.specs.Prelude.{min}
-use Rattle.rx_base.specs.declared.fault.Fault.TheVariants.{Diagnostic}
-use Rattle.rx_base.specs.declared.diagnostic.Diagnostic.TheVariants.{TooMayCapturingGroups}
-use Rattle.rx_base.specs.declared.span.Span.{Span}
-use Rattle.rx_units.specs.declared.code_point.CodePoint.{CodePoint}
-use Rattle.rx_model.specs.declared.mode.Mode.{Mode}
-use Rattle.rx_model.specs.Refusals.Causes.{too_many_groups}
-use Rattle.rx_model.specs.Refusals.Firsts.{of_groups}
-use Rattle.rx_model.specs.Inputs.Modes.{mode_by}
-use Rattle.rx_model.specs.Refusals.Reached.{HasNoClash, text_groups, text_names}
-use Rattle.rx_model.specs.Trees.Early.{most_groups}
-use Rattle.rx_scan.specs.StateFaults.{mode_of_state}
-use Rattle.rx_scan.specs.declared.state.State.{State}
-use Rattle.rx_parser.specs.Parsing.{HoldsPass, IsRefused}
-use Rattle.rx_model.specs.declared.rules.Rules.{Rules}
-use Rattle.rx_parser.specs.Parsing.{rules_of_state}
+use Rattle.std.proofs.Common.{Bool, ◌≡◌, ap₂, ℕ, ◌+◌, ◌-◌, ◌^◌, ◌<◌, ◌≤◌, List, arith, min}
+use Rattle.rx_parser.proofs.Common.{Diagnostic, TooMayCapturingGroups, Span, CodePoint, Mode, too_many_groups, of_groups, mode_by, HasNoClash, text_groups, text_names, most_groups, mode_of_state, State, HoldsPass, IsRefused, Rules, rules_of_state}
 
 -- the span between two offsets, so much being added to each
 abbrev pub shifted : ℕ → ℕ × ℕ → Span

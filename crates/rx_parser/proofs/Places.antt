@@ -1,18 +1,6 @@
 -- The place that a parse has reached, and what the first pass says of the environment there.
 use Rattle.std.proofs.Common.{◌≡◌, ◌∙◌, ap, ap₂, Bool, ℕ, ◌+◌, ◌<◌, List, [], length, drop, arith, length-drop}
-use Rattle.rx_units.specs.declared.code_point.CodePoint.{CodePoint}
-use Rattle.rx_units.specs.Units.{offset_at}
-use Rattle.rx_model.specs.declared.mode.Mode.{Mode}
-use Rattle.rx_model.specs.Trees.Events.{tokens_of}
-use Rattle.rx_model.specs.Inputs.Environment.{environment_with, has_some}
-use Rattle.rx_model.specs.Refusals.Reached.{IsReached, text_environment, text_groups, text_names}
-use Rattle.rx_model.proofs.Trees.Joins.{row_tokens}
-use Rattle.rx_parser.specs.declared.builder.Builder.{Builder}
-use Rattle.rx_parser.specs.Frames.{builder_events, openers, ready}
-use Rattle.rx_scan.specs.Environments.{state_environment}
-use Rattle.rx_scan.specs.declared.state.State.{State}
-use Rattle.rx_parser.specs.Parsing.{HoldsPass, IsParsing}
-use Rattle.rx_model.specs.declared.rules.Rules.{Rules}
+use Rattle.rx_parser.proofs.Common.{CodePoint, offset_at, Mode, tokens_of, environment_with, has_some, IsReached, text_environment, text_groups, text_names, row_tokens, Builder, builder_events, openers, ready, state_environment, State, HoldsPass, IsParsing, Rules}
 
 pub some_left : (us : List CodePoint) (place : ℕ) → place < length us → drop place us ≡ [] → ⊥
 some_left us place l e = omega (arith, length-drop place us, ap length e)

@@ -1,29 +1,9 @@
 -- A run of units that stand for themselves moves a parse on.
-use Rattle.std.proofs.Common.{◌≡◌, refl, ap, sym, ◌∙◌, subst, ℕ, ◌+◌, ◌-◌, ◌<◌, ◌≤◌, ◌||◌, false, List, length, drop, take, get_or, arith, length-drop, length-take}
-use Rattle.std.specs.Prelude.{All, min}
+use Rattle.std.proofs.Common.{◌≡◌, refl, ap, sym, ◌∙◌, subst, ℕ, ◌+◌, ◌-◌, ◌<◌, ◌≤◌, ◌||◌, false, List, length, drop, take, get_or, arith, length-drop, length-take, All, min}
 use Rattle.std.proofs.lemmas.List.{drop-drop, get_or-drop, get_or-take, get_or_default, take_more}
-use Rattle.std.proofs.lemmas.List.Elements.{All-drop, All-get_or, All-push}
-use Rattle.rx_ast.specs.declared.term.Term.{Term}
-use Rattle.rx_ast.specs.Tree.{mirror_term}
-use Rattle.rx_tables.specs.Characters.{is_syntax_character}
-use Rattle.rx_units.specs.declared.code_point.CodePoint.{CodePoint}
-use Rattle.rx_units.specs.Cursor.{Cursor, moved, offset_of, rest}
-use Rattle.rx_units.specs.Units.{offset_at}
+use Rattle.rx_parser.proofs.Common.{All-drop, All-get_or, All-push, Term, mirror_term, is_syntax_character, CodePoint, Cursor, move_on, offset_of, rest, offset_at, has_some, text_environment, text_names, term_events, takes, character, Builder, Leaf, IsFound, openers, IsParsing, IsLeafOf, IsBefore}
+use Rattle.rx_parser.proofs.Common.{IsTurned, unit_kind, Character}
 use Rattle.rx_units.proofs.Offsets.{end_of_take}
-use Rattle.rx_model.specs.Characters.UnitKinds.{unit_kind}
-use Rattle.rx_model.specs.Inputs.Environment.{has_some}
-use Rattle.rx_model.specs.Refusals.Reached.{text_environment, text_names}
-use Rattle.rx_model.specs.Trees.Events.{term_events}
-use Rattle.rx_model.specs.Trees.Shapes.{takes}
-use Rattle.rx_model.specs.Trees.Token.{character}
-use Rattle.rx_parser.specs.declared.builder.Builder.{Builder}
-use Rattle.rx_parser.specs.declared.found.Found.TheVariants.{Leaf}
-use Rattle.rx_parser.specs.declared.found.Leaf.TheVariants.{Character}
-use Rattle.rx_parser.specs.Found.{IsFound}
-use Rattle.rx_parser.specs.Frames.{openers}
-use Rattle.rx_parser.specs.Parsing.{IsParsing}
-use Rattle.rx_parser.specs.Progress.{IsLeafOf}
-use Rattle.rx_parser.specs.Turns.{IsBefore, IsTurned}
 use Rattle.rx_parser.proofs.FrontFound.{plain_found}
 use Rattle.rx_parser.proofs.Steps.{Grows}
 use Rattle.rx_parser.proofs.Turns.{leaf_turned, passed}
@@ -39,13 +19,13 @@ pub record Takes (b c : Builder) (u : CodePoint) (term : Term) (at after : ℕ) 
 
 -- the unit that stands next
 unit_turned : {added : ℕ} {b : Builder} {r : Cursor} → IsBefore added b r → (c : Builder) (u : CodePoint) (term : Term) (at after : ℕ) → AreCodePoints r → 1 ≤ length (rest r) → u ≡ get_or (rest r) 0 u
-    → is_syntax_character u.value ≡ false → at ≡ offset_of r + added → after ≡ offset_of (moved 1 r) + added → Takes b c u term at after → IsTurned added b c r (moved 1 r)
+    → is_syntax_character u.value ≡ false → at ≡ offset_of r + added → after ≡ offset_of (move_on 1 r) + added → Takes b c u term at after → IsTurned added b c r (move_on 1 r)
 unit_turned {added} {b} {r} h c u term at after small some is plain start end t =
     let e = text_environment b.mode b.rules r.units in
     let found : IsFound e (rest r) (Leaf (Character (unit_kind u.escape_kind) u.value) 1) =
     subst (λ (v : CodePoint). IsFound e (rest r) (Leaf (Character (unit_kind v.escape_kind) v.value) 1)) (sym is)
     (plain_found e (rest r) u (ap (λ always. always || has_some (text_names b.mode r.units))) small some (subst (λ (v : CodePoint). is_syntax_character v.value ≡ false) is plain)) in
-    leaf_turned h c (moved 1 r) (character (unit_kind u.escape_kind) u.value) 1 at after term (passed h found start end refl) (found.2 (text_names b.mode r.units)) t.leaf t.grows
+    leaf_turned h c (move_on 1 r) (character (unit_kind u.escape_kind) u.value) 1 at after term (passed h found start end refl) (found.2 (text_names b.mode r.units)) t.leaf t.grows
 
 -- one more unit that stands for itself
 pub plain_more : (us : List CodePoint) (i : ℕ) (d : CodePoint) → i < length us → All (λ (u : CodePoint). is_syntax_character u.value ≡ false) (take i us) → is_syntax_character (get_or us i d).value ≡ false
@@ -97,9 +77,3 @@ module _ {added : ℕ} {b : Builder} {r : Cursor} (h : IsBefore added b r) where
         (ap (λ k. k + added) from) (ap (λ k. k + added) (unit_end ∙ ap (offset_at r.first r.units) (sym next))) t in
         subst (λ it. IsParsing b.mode it r.units r.first added c (r.place + (i + 1))) (sym same_rules)
         (subst (λ m. IsParsing m l.rules r.units r.first added c (r.place + (i + 1))) (sym mode) (subst (IsParsing l.mode l.rules r.units r.first added c) next turned.parsing))
-
-  -- The whole run is read.
-  pub run_turned : (c : Builder) (s : Cursor) (count : ℕ) → 0 < count → count ≤ length (rest r) → s ≡ moved count r → IsParsing b.mode b.rules r.units r.first added c (r.place + count) → IsTurned added b c r s
-  run_turned c s count some within e parsing =
-      let it : min (r.place + count) (length r.units) ≡ r.place + count = omega (arith, within, length-drop r.place r.units, h.parsing.within) in
-      subst (IsTurned added b c r) (sym (e ∙ ap (λ k. record r { place = k }) it)) (record { parsing = parsing; moved = omega (arith, some); same = refl })

@@ -1,26 +1,19 @@
 -- What stands in for an empty text, and that it is read.
-use Rattle.std.proofs.Common.{◌≡◌, refl, ap, sym, ◌∙◌, subst, ℕ, Bool, true, false, ◌==◌, ◌&&◌, ◌||◌, ◌⊎◌, inl, inr, List, [], ◌∷◌, None, arith}
-use Rattle.std.specs.Prelude.{drop, if◌then◌else◌}
+use Rattle.std.proofs.Common.{◌≡◌, refl, ap, sym, ◌∙◌, subst, ℕ, Bool, true, false, ◌==◌, ◌&&◌, ◌||◌, ◌⊎◌, inl, inr, List, [], ◌∷◌, None, arith, drop, if◌then◌else◌}
 use Rattle.std.specs.Str.{chars, IsUtf8}
 use Rattle.std.proofs.lemmas.Bool.{and_parts, eqb-true, or_cases}
-use Rattle.std.proofs.lemmas.Bool.Decides.{nat_tests}
-use Rattle.std.proofs.lemmas.Str.{encodes-chars}
+use Rattle.rx_parser.proofs.Common.{nat_tests, CodePoint, Form, AreUnits, HasNoUnits, is_quote, literal_text, of_literal, of_quoted, quoted_text, some_units, stand_in, encodes-chars, Decodes, plain_options, one_decodes}
 use lib.Utf8.{encode, encodes}
-use Rattle.rx_units.specs.declared.code_point.CodePoint.{CodePoint}
 use Rattle.rx_units.specs.declared.options.Options.{Options}
 use Rattle.rx_units.specs.declared.quoted_text.element.Writing.TheVariants.{Plain}
 use Rattle.rx_units.specs.declared.quoted_text.literal.Literal.{Literal}
 use Rattle.rx_units.specs.declared.quoted_text.literal.Literal.TheVariants as literals
 use Rattle.rx_units.specs.declared.string_literal_parser.StringLiteralKind.TheVariants as quotes
 use Rattle.rx_units.specs.Quoted.Elements.{character, is_string_character, written}
-use Rattle.rx_units.specs.Quoted.Texts.{next_place, opened, IsDecoded, Leads, Place, no_element, one_more}
+use Rattle.rx_units.specs.Quoted.Texts.{next_place, place_after_opening, IsDecoded, Leads, Place, no_element, one_more}
 use Rattle.rx_units.specs.Quoted.Values.{text_units}
 use Rattle.rx_units.specs.Cursor.{Cursor, front, rest}
-use Rattle.rx_units.specs.Sources.{Decodes, plain_options}
-use Rattle.rx_units.proofs.Sources.{one_decodes}
-use Rattle.rx_model.specs.declared.form.Form.{Form}
 use Rattle.rx_model.specs.declared.form.Form.TheVariants.{Literal as of_slashes, Constructor}
-use Rattle.rx_model.specs.Inputs.Texts.{AreUnits, HasNoUnits, is_quote, literal_text, of_literal, of_quoted, quoted_text, some_units, stand_in}
 use Rattle.rx_model.proofs.Inputs.Asked.{some_literal}
 
 -- in double quotes
@@ -40,7 +33,7 @@ empty_group = 34 ∷ 40 ∷ 63 ∷ 58 ∷ 41 ∷ 34 ∷ []
 group_decoded : (o : Options) → (us : List CodePoint) × IsDecoded string o empty_group us
 group_decoded o =
     let inner : List ℕ = 40 ∷ 63 ∷ 58 ∷ 41 ∷ 34 ∷ [] in
-    let p0 = opened o inner in
+    let p0 = place_after_opening o inner in
     let p1 = next_place o p0 (written 40 Plain) (40 ∷ []) (63 ∷ 58 ∷ 41 ∷ 34 ∷ []) in
     let p2 = next_place o p1 (written 63 Plain) (63 ∷ []) (58 ∷ 41 ∷ 34 ∷ []) in
     let p3 = next_place o p2 (written 58 Plain) (58 ∷ []) (41 ∷ 34 ∷ []) in

@@ -1,25 +1,10 @@
 -- Each token moves the reading on.
 use Rattle.std.proofs.Common.{◌≡◌, refl, ap, sym, ◌∙◌, subst, ℕ, ◌+◌, Bool, true, false, Option, Some, List, [], ◌∷◌, ◌++◌, length, append_assoc}
-use Rattle.rx_units.specs.declared.code_point.CodePoint.{CodePoint}
-use Rattle.rx_ast.specs.declared.term.Pattern.{Pattern}
+use Rattle.rx_parser.proofs.Common.{CodePoint, Pattern, class_span, Environment, Events, enter, leave, token, events, tokens_of, Row, Spells, run, IsWellMade, Token, Opener, quantifier, tokens_of-append, row_append, row_split, Builder, builder_events, openers, ready, IsGood, Repeats, IsAt, fixed_of}
+use Rattle.rx_parser.proofs.Common.{Mode, Rules, ClassRow, IsClassSpanned, Place, next_place, fresh, outside, run-append}
 use Rattle.rx_ast.specs.ClassTree.{Class, class}
-use Rattle.rx_ast.specs.Spans.{class_span}
-use Rattle.rx_model.specs.Classes.ClassRows.{ClassRow, IsClassSpanned, Place, next_place, fresh, outside}
 use Rattle.rx_model.specs.Classes.ClassTokens as in_class
 use Rattle.rx_model.specs.Classes.ClassTokens.{ClassEvents, members_events, operator_events}
-use Rattle.rx_model.specs.Inputs.Environment.{Environment}
-use Rattle.rx_model.specs.Trees.Events.{Events, enter, leave, token, events, tokens_of}
-use Rattle.rx_model.specs.Reading.Rows.{Row, Spells}
-use Rattle.rx_model.specs.Trees.Shapes.{run, IsWellMade}
-use Rattle.rx_model.specs.Trees.Token.{Token, Opener, quantifier}
-use Rattle.rx_model.proofs.Trees.Flat.{tokens_of-append}
-use Rattle.rx_model.proofs.Trees.Joins.{row_append, row_split}
-use Rattle.rx_model.proofs.Trees.Runs.{run-append}
-use Rattle.rx_parser.specs.declared.builder.Builder.{Builder}
-use Rattle.rx_parser.specs.Frames.{builder_events, openers, ready}
-use Rattle.rx_parser.specs.Good.{IsGood}
-use Rattle.rx_parser.specs.Levels.{Repeats}
-use Rattle.rx_parser.specs.Progress.{IsAt}
 
 -- A builder has taken events, after which these groups are open, and a quantifier may follow or not.
 pub record Grows (b c : Builder) (es : Events) (open_groups : List Opener) (ready_then : Bool) : Type 0 where
@@ -27,8 +12,7 @@ pub record Grows (b c : Builder) (es : Events) (open_groups : List Opener) (read
   pub openers_are : openers c ≡ open_groups
   pub ready_is : ready c ≡ ready_then
   pub good : IsGood b → IsGood c
-  pub mode : c.mode ≡ b.mode
-  pub rules : c.rules ≡ b.rules
+  pub fixed : fixed_of c ≡ fixed_of b
 
 -- A builder has made the last node the body of a quantifier.
 pub record Quantifies (b c : Builder) (min : ℕ) (max : Option ℕ) (greedy : Bool) (after : ℕ) : Type 0 where
@@ -37,8 +21,7 @@ pub record Quantifies (b c : Builder) (min : ℕ) (max : Option ℕ) (greedy : B
   pub openers_are : openers c ≡ openers b
   pub ready_is : ready c ≡ false
   pub good : IsGood b → IsGood c
-  pub mode : c.mode ≡ b.mode
-  pub rules : c.rules ≡ b.rules
+  pub fixed : fixed_of c ≡ fixed_of b
 
 abbrev state : List Opener → Bool → Option (List Opener × Bool)
 state open_groups ready = Some (open_groups, ready)
@@ -83,7 +66,7 @@ module _ (e : Environment) where
     state = ap (λ z. run e.mode (tokens_of z) [] false) g.events ∙ ap (λ z. run e.mode z [] false) (tokens_of-append (builder_events b) es)
         ∙ run-append e.mode (tokens_of (builder_events b)) (tokens_of es) [] false (openers b) (ready b) h.state
         ∙ x ∙ same_state open_groups (openers c) ready_then (ready c) (sym g.openers_are) (sym g.ready_is);
-    mode = g.mode ∙ h.mode;
+    mode = ap (λ (k : Mode × Rules × ℕ). k.0) g.fixed ∙ h.mode;
   }
 
   -- nothing has been read
@@ -114,7 +97,7 @@ module _ (e : Environment) where
         good = q.good h.good;
         state = ap (λ x. run e.mode x [] false) (quantifier_adds q) ∙ run-append e.mode (tokens_of (builder_events b)) (t ∷ []) [] false (openers b) (ready b) h.state
             ∙ ap (λ x. run e.mode (t ∷ []) (openers b) x) q.ready_was ∙ same_state (openers b) (openers c) false (ready c) (sym q.openers_are) (sym q.ready_is);
-        mode = q.mode ∙ h.mode;
+        mode = ap (λ (k : Mode × Rules × ℕ). k.0) q.fixed ∙ h.mode;
       }
 
   -- all has been read

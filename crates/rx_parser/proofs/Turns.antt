@@ -1,74 +1,35 @@
 -- A token that stands next moves a parse on, or refuses the text.
-use Rattle.std.proofs.Common.{◌≡◌, ◌≢◌, refl, ap, sym, ◌∙◌, subst, ℕ, ◌+◌, ◌-◌, ◌^◌, ◌<◌, Bool, true, false, Option, Some, List, [], ◌∷◌, ◌++◌, length, drop, arith, length-append, length-drop, Contains}
-use Rattle.std.specs.Prelude.{All, min}
-use Rattle.std.proofs.Math.Seq.{drop-append_seam}
+use Rattle.std.proofs.Common.{◌≡◌, ◌≢◌, refl, ap, sym, ◌∙◌, subst, ℕ, ◌+◌, ◌-◌, ◌^◌, ◌<◌, Bool, true, false, Option, Some, List, [], ◌∷◌, ◌++◌, length, drop, arith, length-append, length-drop, Contains, All, min}
+use Rattle.rx_parser.proofs.Common.{drop-append_seam, All-append, All-cons, All-nil, Diagnostic, InvalidNamedReference, Span, Term, class_span, leaf, mirror_term, CodePoint, Cursor, move_on, offset_of, rest, offset_at, Mode, Legacy, Sets, Unicode, IsCauseAtPlace, lone, lone_in_legacy, no_such_name}
+use Rattle.rx_parser.proofs.Common.{no_item, yielding_of, IsEarlyClass, IsEarlyOpener, Obeys, for_classes, Environment, is_unicode, Events, enter, inside, leave, modified, token, opener_event, term_events, tokens_of, front, IsModified, IsModifying, AreObeying, IsPlace, IsReached, span_between}
+use Rattle.rx_parser.proofs.Common.{text_environment, text_groups, text_names, Row, Spells, group_takes, run, takes, Token, Opener, bar, capturing, class, closer, ignoring, letter_bits, named, opener, opener_of, quantifier, tokens_of-append, Front, front_spelled, spelled_some, State, Builder}
+use Rattle.rx_parser.proofs.Common.{NamedReference, Parse, lone_refusal, HoldsName, IsFound, IsOpenerFound, Stands, builder_events, opener_tree, openers, ready, HoldsPass, IsParsing, IsRefused, IsAt, IsLeafOf, HasTurned, IsBefore, HasMore, IsTurned, fixed_parts, Rules, is_among, Class}
+use Rattle.rx_parser.proofs.Common.{IsClassSpanned, among, GroupKind, IsGroupKindOf}
 use Rattle.std.proofs.lemmas.Bool.{true≢false}
 use Rattle.std.proofs.lemmas.List.{drop-drop, length-map}
-use Rattle.std.proofs.lemmas.List.Elements.{All-append, All-cons, All-nil}
-use Rattle.rx_base.specs.Texts.{is_among}
-use Rattle.rx_base.specs.declared.fault.Fault.TheVariants.{Diagnostic}
 use Rattle.rx_base.specs.declared.diagnostic.Diagnostic.{Diagnostic as Refusal}
-use Rattle.rx_base.specs.declared.diagnostic.Diagnostic.TheVariants.{InvalidNamedReference}
-use Rattle.rx_base.specs.declared.span.Span.{Span}
 use Rattle.rx_ast.specs.declared.leaf.Modifiers.{Modifiers}
-use Rattle.rx_ast.specs.declared.term.Term.{Term}
-use Rattle.rx_ast.specs.ClassTree.{Class}
 use Rattle.rx_ast.specs.Forget.{forget_class, same_kind}
-use Rattle.rx_ast.specs.Spans.{class_span}
 use Rattle.rx_ast.specs.Tree as tree
-use Rattle.rx_ast.specs.Tree.{leaf, mirror_term}
-use Rattle.rx_units.specs.declared.code_point.CodePoint.{CodePoint}
-use Rattle.rx_units.specs.Cursor.{Cursor, moved, offset_of, rest}
-use Rattle.rx_units.specs.Units.{offset_at}
-use Rattle.rx_model.specs.declared.mode.Mode.{Mode}
-use Rattle.rx_model.specs.declared.mode.Mode.TheVariants.{Legacy, Sets, Unicode}
-use Rattle.rx_model.specs.Refusals.Causes.{IsCauseAtPlace, lone, lone_in_legacy, no_such_name}
-use Rattle.rx_model.specs.Refusals.Firsts.{no_item, yielding}
-use Rattle.rx_model.specs.Classes.ClassRows.{IsClassSpanned}
-use Rattle.rx_model.specs.Trees.Early.{IsEarlyClass, IsEarlyOpener, Obeys}
-use Rattle.rx_model.specs.Inputs.Environment.{for_classes, Environment, is_unicode}
-use Rattle.rx_model.specs.Trees.Events.{Events, enter, inside, leave, modified, token, opener_event, term_events, tokens_of}
-use Rattle.rx_model.specs.Reading.Fronts.{front}
-use Rattle.rx_model.specs.Groups.Groups.{IsModified, IsModifying}
-use Rattle.rx_model.specs.Refusals.Reached.{AreObeying, IsPlace, IsReached, span_between, text_environment, text_groups, text_names}
-use Rattle.rx_model.specs.Reading.Rows.{Row, Spells}
-use Rattle.rx_model.specs.Trees.Shapes.{group_takes, run, takes}
-use Rattle.rx_model.specs.Trees.Token.{Token, Opener, bar, capturing, class, closer, ignoring, letter_bits, named, opener, opener_of, quantifier}
-use Rattle.rx_model.proofs.Trees.Names.{among}
-use Rattle.rx_model.proofs.Trees.Flat.{tokens_of-append}
-use Rattle.rx_model.proofs.Reading.Fronts.{Front, front_spelled, spelled_some}
-use Rattle.rx_scan.specs.declared.state.State.{State}
-use Rattle.rx_parser.specs.declared.builder.Builder.{Builder}
-use Rattle.rx_parser.specs.declared.found.Found.TheVariants.{NamedReference}
 use Rattle.rx_parser.specs.declared.found.OpenerFound.{OpenerFound}
 use Rattle.rx_parser.specs.declared.found.OpenerFound.TheVariants as opener_found
-use Rattle.rx_parser.specs.declared.frame.GroupKind.{GroupKind}
 use Rattle.rx_parser.specs.declared.frame.GroupKind.TheVariants.{Ignoring}
-use Rattle.rx_parser.specs.declared.turn.Parse.{Parse}
-use Rattle.rx_parser.specs.Faults.{lone_refusal}
-use Rattle.rx_parser.specs.Found.{HoldsName, IsFound, IsOpenerFound, Stands}
-use Rattle.rx_parser.specs.Frames.{builder_events, opener_tree, openers, ready}
-use Rattle.rx_parser.specs.GroupKinds.{IsGroupKindOf}
-use Rattle.rx_parser.specs.Parsing.{HoldsPass, IsParsing, IsRefused}
-use Rattle.rx_parser.specs.Progress.{IsAt, IsLeafOf}
-use Rattle.rx_parser.specs.Turns.{HasTurned, IsBefore, IsReady, IsTurned, given}
 use Rattle.rx_parser.proofs.Leaves.{leaf_events, leaf_runs}
 use Rattle.rx_parser.proofs.Places.{reached}
 use Rattle.rx_parser.proofs.Refused.{cause_refused}
 use Rattle.rx_parser.proofs.Steps.{Grows, Quantifies, class_end, class_start, moves, quantifier_adds, repeats}
-use Rattle.rx_model.specs.declared.rules.Rules.{Rules}
 
 -- what is asked of a builder and a reader alone
-pub before : {p : Parse} → IsReady p → IsBefore p.spans p.builder p.reader
+pub before : {p : Parse} → HasMore p → IsBefore p.spans p.builder p.reader
 before h = record { parsing = h.under_way.parsing; left = h.left; fits = h.under_way.fits }
 
 -- A parse has turned where its builder and its reader have.
-pub has_turned : {p q : Parse} → IsReady p → IsTurned p.spans p.builder q.builder p.reader q.reader → q.state ≡ p.state → q.spans ≡ p.spans → HasTurned p q
+pub has_turned : {p q : Parse} → HasMore p → IsTurned p.spans p.builder q.builder p.reader q.reader → q.state ≡ p.state → q.spans ≡ p.spans → HasTurned p q
 has_turned {p} {q} h t state_is spans_is =
     let it = h.under_way in
     let units_are = ap (λ (r : Cursor). r.units) t.same in
     let first_is = ap (λ (r : Cursor). r.first) t.same in
-    let kept : given q ≡ given p = cc (t.parsing.at.mode, t.parsing.rules_are, units_are, first_is, spans_is, state_is) in
+    let kept : fixed_parts q ≡ fixed_parts p = cc (t.parsing.at.mode, t.parsing.rules_are, units_are, first_is, spans_is, state_is) in
     let was = sym kept in
     record {
       under_way = record {
@@ -88,7 +49,7 @@ pub record IsPassed (added : ℕ) (b : Builder) (r s : Cursor) (t : Token) (n at
   pub next : Front (text_environment b.mode b.rules r.units) t n (rest r)
   pub start : at ≡ offset_of r + added
   pub end : after ≡ offset_of s + added
-  pub moved_on : s ≡ moved n r
+  pub moved_on : s ≡ move_on n r
 
 -- the span between two offsets, and the empty one
 abbrev pub between : ℕ → ℕ → Span
@@ -118,7 +79,7 @@ lone_cause Legacy place min max greedy open_groups w more r s o = lone_in_legacy
 lone_cause Unicode place min max greedy open_groups w more r s o = lone place min max greedy open_groups w more r refl s o
 lone_cause Sets place min max greedy open_groups w more r s o = lone place min max greedy open_groups w more r refl s o
 
-lone_says : (mode : Mode) (span : Span) → yielding (lone_refusal mode span) ≢ no_item
+lone_says : (mode : Mode) (span : Span) → yielding_of (lone_refusal mode span) ≢ no_item
 lone_says Legacy span e = cc e
 lone_says Unicode span e = cc e
 lone_says Sets span e = cc e
@@ -147,19 +108,19 @@ module _ {added : ℕ} {b : Builder} {r : Cursor} (h : IsBefore added b r) where
   IsPassedBy = IsPassed added b r
 
   -- What stands next is passed.
-  pub passed : {s : Cursor} {t : Token} {n at after : ℕ} → Stands text (rest r) t n → at ≡ offset_of r + added → after ≡ offset_of s + added → s ≡ moved n r → IsPassedBy s t n at after
+  pub passed : {s : Cursor} {t : Token} {n at after : ℕ} → Stands text (rest r) t n → at ≡ offset_of r + added → after ≡ offset_of s + added → s ≡ move_on n r → IsPassedBy s t n at after
   passed {t = t} {n = n} stands start end moved_on = record { next = front_spelled text (rest r) t n stands.0; start = start; end = end; moved_on = moved_on }
 
   -- So is a reference by the name that is read in its units.
   pub named_passed : {s : Cursor} {us : List CodePoint} {name : List ℕ} {unicode_mode : Bool} {n at after : ℕ} → IsFound text (rest r) (NamedReference n) → us ≡ rest r → unicode_mode ≡ is_unicode b.mode
-      → HoldsName unicode_mode us name n → at ≡ offset_of r + added → after ≡ offset_of s + added → s ≡ moved n r → IsPassedBy s (named name) n at after
+      → HoldsName unicode_mode us name n → at ≡ offset_of r + added → after ≡ offset_of s + added → s ≡ move_on n r → IsPassedBy s (named name) n at after
   named_passed {us = us} {name = name} {unicode_mode = unicode_mode} {n = n} found same mode holds start end moved_on =
       let stands : HoldsName (is_unicode b.mode) (rest r) name n = subst (λ m. HoldsName m (rest r) name n) mode (subst (λ us. HoldsName unicode_mode us name n) same holds) in
       let read = subst (λ k. front text (rest r) ≡ Some (named k, n)) (one_name found.2 stands) found.1 in
       record { next = front_spelled text (rest r) (named name) n read; start = start; end = end; moved_on = moved_on }
 
   -- a reader after a token
-  stands_after : {s : Cursor} {t : Token} {n : ℕ} (next : IsNext t n) → s ≡ moved n r → s ≡ record r { place = r.place + length next.w }
+  stands_after : {s : Cursor} {t : Token} {n : ℕ} (next : IsNext t n) → s ≡ move_on n r → s ≡ record r { place = r.place + length next.w }
   stands_after {s} {t} {n} next e =
       let it : min (r.place + n) (length r.units) ≡ r.place + length next.w = omega (arith, next.count, ap length next.whole, length-append next.w next.rest, length-drop r.place r.units, h.parsing.within) in
       e ∙ ap (λ k. record r { place = k }) it
@@ -171,7 +132,7 @@ module _ {added : ℕ} {b : Builder} {r : Cursor} (h : IsBefore added b r) where
   span_is {at = at} {after = after} k = ap (λ x. between x after) k.start ∙ ap (between (offset r.place)) (following k)
 
   -- a token that the builder takes
-  turned : (c : Builder) (s : Cursor) (t : Token) (n : ℕ) (next : IsNext t n) → IsObeying t → s ≡ moved n r
+  turned : (c : Builder) (s : Cursor) (t : Token) (n : ℕ) (next : IsNext t n) → IsObeying t → s ≡ move_on n r
       → (IsAt text offset b r.units r.place (next.w ++ next.rest) → IsAt text offset c r.units (r.place + length next.w) next.rest)
       → tokens_of (builder_events c) ≡ tokens_of (builder_events b) ++ (t ∷ []) → c.rules ≡ b.rules → IsTurned added b c r s
   turned c s t n next obeys e takes adds same_rules =
@@ -189,13 +150,13 @@ module _ {added : ℕ} {b : Builder} {r : Cursor} (h : IsBefore added b r) where
       })
 
   -- a token that is one of more events
-  grown : (c : Builder) (s : Cursor) (t : Token) (n : ℕ) (es : Events) (open_groups : List Opener) (ready_then : Bool) (next : IsNext t n) → IsObeying t → s ≡ moved n r → Grows b c es open_groups ready_then
+  grown : (c : Builder) (s : Cursor) (t : Token) (n : ℕ) (es : Events) (open_groups : List Opener) (ready_then : Bool) (next : IsNext t n) → IsObeying t → s ≡ move_on n r → Grows b c es open_groups ready_then
       → tokens_of es ≡ t ∷ [] → Row text offset es r.place (next.w ++ next.rest) (r.place + length next.w) next.rest → run b.mode (t ∷ []) (openers b) (ready b) ≡ Some (open_groups, ready_then)
       → IsTurned added b c r s
   grown c s t n es open_groups ready_then next obeys e g one row runs =
       turned c s t n next obeys e
       (moves text offset b c es r.units r.place (r.place + length next.w) (next.w ++ next.rest) next.rest open_groups ready_then g row (ap (λ ts. run b.mode ts (openers b) (ready b)) one ∙ runs))
-      (ap tokens_of g.events ∙ tokens_of-append (builder_events b) es ∙ ap (λ ts. tokens_of (builder_events b) ++ ts) one) g.rules
+      (ap tokens_of g.events ∙ tokens_of-append (builder_events b) es ∙ ap (λ ts. tokens_of (builder_events b) ++ ts) one) (ap (λ (k : Mode × Rules × ℕ). k.1) g.fixed)
 
   pub leaf_turned : (c : Builder) (s : Cursor) (t : Token) (n at after : ℕ) (term : Term) → IsPassedBy s t n at after → IsObeying t → IsLeafOf term t at after
       → Grows b c (term_events term) (openers b) (takes b.mode (mirror_term term)) → IsTurned added b c r s
@@ -205,7 +166,7 @@ module _ {added : ℕ} {b : Builder} {r : Cursor} (h : IsBefore added b r) where
       (k.start, (k.next.w, k.next.rest, refl, k.next.spells, (following k, (refl, refl)))) (l.runs b.mode [] (openers b) (ready b))
 
   -- a class, which has the span of what it spells
-  pub class_turned : (c : Builder) (s : Cursor) (n : ℕ) (it : Class) (term : Term) (next : IsNext (class (forget_class same_kind it)) n) → IsEarlyClass (forget_class same_kind it) → s ≡ moved n r → mirror_term term ≡ leaf (tree.class it)
+  pub class_turned : (c : Builder) (s : Cursor) (n : ℕ) (it : Class) (term : Term) (next : IsNext (class (forget_class same_kind it)) n) → IsEarlyClass (forget_class same_kind it) → s ≡ move_on n r → mirror_term term ≡ leaf (tree.class it)
       → IsClassSpanned (for_classes text) offset r.place it next.w next.rest → Grows b c (term_events term) (openers b) (takes b.mode (mirror_term term)) → IsTurned added b c r s
   class_turned c s n it term next early e m spelled g =
       let span = class_span it in
@@ -228,7 +189,7 @@ module _ {added : ℕ} {b : Builder} {r : Cursor} (h : IsBefore added b r) where
   pub quantifier_turned : (c : Builder) (s : Cursor) (min : ℕ) (max : Option ℕ) (greedy : Bool) (n at after : ℕ) → IsPassedBy s (quantifier min max greedy) n at after
       → IsObeying (quantifier min max greedy) → Quantifies b c min max greedy after → IsTurned added b c r s
   quantifier_turned c s min max greedy n at after k obeys q =
-      turned c s (quantifier min max greedy) n k.next obeys k.moved_on (repeats text offset b c min max greedy after r.units r.place k.next.w k.next.rest q (following k) k.next.spells) (quantifier_adds q) q.rules
+      turned c s (quantifier min max greedy) n k.next obeys k.moved_on (repeats text offset b c min max greedy after r.units r.place k.next.w k.next.rest q (following k) k.next.spells) (quantifier_adds q) (ap (λ (k : Mode × Rules × ℕ). k.1) q.fixed)
 
   -- a group that begins with a token
   plain_opened : (c : Builder) (s : Cursor) (begun made : GroupKind) (o : Opener) (n at after : ℕ) → begun ≡ made → HasToken made → opener_of (opener_tree made) ≡ o → IsPassedBy s (opener o) n at after
@@ -264,7 +225,7 @@ module _ {added : ℕ} {b : Builder} {r : Cursor} (h : IsBefore added b r) where
 
   module _ {state : State} (pass : HoldsPass b.mode b.rules r.units state) where
     -- Where this is a cause of a token that stands next, the text is refused.
-    refused : {s : Cursor} {t : Token} {n at after : ℕ} (k : IsPassedBy s t n at after) (cause : Span → Refusal) → ((span : Span) → yielding (cause span) ≢ no_item)
+    refused : {s : Cursor} {t : Token} {n at after : ℕ} (k : IsPassedBy s t n at after) (cause : Span → Refusal) → ((span : Span) → yielding_of (cause span) ≢ no_item)
         → IsCauseAtPlace b.mode b.rules r.units r.first added r.place (cause (span_between r.units r.first added r.place (r.place + length k.next.w)))
         → IsRefused b.mode b.rules r.units r.first added (Diagnostic (cause (between at after)))
     refused {at = at} {after = after} k cause says c =

@@ -1,4 +1,4 @@
--- What the readers of counts answer, as the reading that it says (QuantifierPrefix, 22.2.1).
+-- What the functions that look for counts answer, by what the definitions read there (QuantifierPrefix, 22.2.1).
 use Rattle.std.specs.Prelude.{ℕ, List, drop}
 use Rattle.rx_units.specs.declared.code_point.CodePoint.{CodePoint}
 use Rattle.rx_units.specs.Units.{values}

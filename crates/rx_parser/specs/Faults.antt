@@ -23,7 +23,7 @@ use Rattle.rx_parser.specs.declared.found.Halt.TheVariants as halt
 use Rattle.rx_parser.specs.declared.found.ModifiersFault.{ModifiersFault}
 use Rattle.rx_parser.specs.declared.found.ModifiersFault.TheVariants as fault
 
--- the places that a halt names are numbers of the machine
+-- the places that a halt names are below 2^64
 abbrev pub IsSmall : Halt → Type 0
 IsSmall it = halt_end it < 2 ^ 64
 
@@ -33,20 +33,20 @@ modifiers_refusal fault.Duplicated span = DuplicatedModifiers span
 modifiers_refusal fault.Empty span = EmptyModifiers span
 modifiers_refusal fault.Invalid span = InvalidModifiers span
 
--- what is wrong where a quantifier stands after nothing that may have one (Term, 22.2.1; with neither `u` nor `v` InvalidBracedQuantifier, B.1.2)
+-- the refusal of a quantifier that stands after nothing that may have one (Term, 22.2.1; with neither `u` nor `v` InvalidBracedQuantifier, B.1.2)
 abbrev pub lone_refusal : Mode → Span → Refusal
 lone_refusal Legacy span = InvalidBracedQuantifier span
 lone_refusal Unicode span = LoneQuantifier span
 lone_refusal Sets span = LoneQuantifier span
 
--- Terms end, and reading stands at place `at`: the innermost group is not ended, or where none is open the pattern goes on.
+-- The terms end at place `at`, where no group and no pattern can end: the innermost open group is refused as unterminated, or where none is open the pattern as not at its end.
 abbrev pub IsEndedFault : List CodePoint → ℕ → ℕ → ℕ → Builder → Fault → Type 0
 IsEndedFault us first added at b it =
     ((b.frames ≡ []) × (it ≡ Diagnostic (ParsePatternIncomplete (span_between us first added at at))))
     ⊎ ((outer : List Frame) × (group : Frame) × (b.frames ≡ outer ++ (group ∷ []))
     × (it ≡ Diagnostic (UnterminatedPattern (record { start = group.start; end = offset_at first us at + added }) (unterminated (opener_of (opener_tree group.group_kind))))))
 
--- what is wrong where a halt names this span, in a pattern with n groups; of a stop, outside groups
+-- the refusal that a halt with this span is, in a pattern with so many groups; of a stop, that outside groups
 abbrev pub halt_refusal : Halt → Span → ℕ → Refusal
 halt_refusal (halt.Stop following) span groups = ParsePatternIncomplete span
 halt_refusal halt.LastBackslash span groups = InvalidExtendedAtomEscape span
@@ -61,7 +61,7 @@ halt_refusal halt.NoGroupName span groups = EmptyGroupSpecifier span
 halt_refusal (halt.NoSuchGroup n) span groups = InvalidIndexedReference span groups
 halt_refusal (halt.Modifiers what n) span groups = modifiers_refusal what span
 
--- the fault of a pattern with n groups that halts at this place
+-- the fault of a halt at this place, in a pattern with so many groups
 abbrev pub IsHaltFault : List CodePoint → ℕ → ℕ → ℕ → Builder → ℕ → Halt → Fault → Type 0
 IsHaltFault us first added place b groups (halt.Stop following) it = IsEndedFault us first added (place + following) b it
 IsHaltFault us first added place b groups reason it =

@@ -1,6 +1,9 @@
 -- What is found at the front of a text.
 use Rattle.std.specs.Prelude.{◌≡◌, ℕ, ◌-◌, ◌%◌, ◌≤◌, Bool, ◌&&◌, Option, Some, None, true, List, [], ◌∷◌, length, drop, take}
 use Rattle.rx_base.specs.Ascii as ascii
+use Rattle.rx_base.specs.declared.span.Span.{Span}
+use Rattle.rx_ast.specs.declared.term.Term.{Term}
+use Rattle.rx_ast.specs.declared.term.Term.TheVariants as term
 use Rattle.rx_ast.specs.declared.leaf.BoundaryAssertionKind.{BoundaryAssertionKind}
 use Rattle.rx_units.specs.declared.code_point.CodePoint.{CodePoint}
 use Rattle.rx_units.specs.Units.{values}
@@ -34,22 +37,30 @@ leaf_token leaf.Dot = dot
 leaf_token (leaf.ClassEscape kind) = class_escape kind
 leaf_token (leaf.IndexedReference n) = indexed n
 
+-- the term that a leaf of this span is
+abbrev pub leaf_term : Leaf → Span → Term
+leaf_term (leaf.Boundary kind) span = term.BoundaryAssertion (record { span = span; kind = kind })
+leaf_term (leaf.Character kind value) span = term.Character (record { span = span; kind = kind; value = value })
+leaf_term leaf.Dot span = term.Dot (record { span = span })
+leaf_term (leaf.ClassEscape kind) span = term.CharacterClassEscape (record { span = span; kind = kind })
+leaf_term (leaf.IndexedReference n) span = term.IndexedReference (record { span = span; index = n })
+
 -- the boundary that the first of these characters is after a backslash (Assertion, 22.2.1)
 abbrev pub boundary_front : Environment → List ℕ → Option BoundaryAssertionKind
 boundary_front e [] = None
 boundary_front e (c ∷ cs) = boundary_at e c
 
--- a token of n units stands next, which owes nothing to names
+-- A token of n units stands next, which obeys the early rules whatever names there are.
 abbrev pub Stands : Environment → List CodePoint → Token → ℕ → Type 0
 Stands e us t n = (front e us ≡ Some (t, n)) × (n ≤ length us) × ((names : List (List ℕ)) → Obeys e.groups names t)
 
--- what n units are ends with a name and `>`, and the name begins at the third unit
+-- The first n units end with a name and `>`, and three units stand before the name.
 pub record HoldsName (unicode_mode : Bool) (us : List CodePoint) (name : List ℕ) (n : ℕ) : Type 0 where
   pub long : 4 ≤ n
   pub within : n ≤ length us
   pub name_is : name_of unicode_mode (values (take (n - 4) (drop 3 us))) ≡ Some name
 
--- what a group of n units begins with
+-- what the n units are that a group begins with
 abbrev pub IsOpenerFound : Environment → List CodePoint → ℕ → Opener → OpenerFound → Type 0
 IsOpenerFound e us n o opener_found.Capturing = o ≡ capturing None
 IsOpenerFound e us n o opener_found.Named = (name : List ℕ) × (o ≡ capturing (Some name)) × HoldsName (is_unicode e.mode) us name n

@@ -1,6 +1,8 @@
 -- What has been read of a pattern, as events.
-use Rattle.std.specs.Prelude.{Bool, List, [], ◌∷◌, ◌++◌, map}
+use Rattle.std.specs.Prelude.{ℕ, Bool, List, [], ◌∷◌, ◌++◌, map}
 use Rattle.rx_ast.specs.Tree as tree
+use Rattle.rx_model.specs.declared.mode.Mode.{Mode}
+use Rattle.rx_model.specs.declared.rules.Rules.{Rules}
 use Rattle.rx_model.specs.Trees.Events.{Events, enter, opener_event}
 use Rattle.rx_model.specs.Trees.Token.{Opener, opener_of}
 use Rattle.rx_parser.specs.declared.builder.Builder.{Builder}
@@ -19,7 +21,7 @@ opener_tree (LookAround kind) = tree.looking kind
 abbrev pub frame_events : Frame → Events
 frame_events f = level_events f.outer ++ (enter f.start ∷ opener_event (opener_tree f.group_kind) ∷ [])
 
--- of all open groups, the outermost first
+-- the same of all open groups, the outermost first
 abbrev pub frames_events : List Frame → Events
 frames_events fs = strung (map frame_events fs)
 
@@ -27,15 +29,19 @@ frames_events fs = strung (map frame_events fs)
 unfoldable pub builder_events : Builder → Events
 builder_events b = enter b.start ∷ (frames_events b.frames ++ level_events b.level)
 
--- what these groups, the outermost first, began with, in front of others
-abbrev pub opened : List Frame → List Opener → List Opener
-opened [] outer = outer
-opened (f ∷ fs) outer = opened fs (opener_of (opener_tree f.group_kind) ∷ outer)
+-- what these groups, the outermost first, began with, put in front of others so that the innermost comes first
+abbrev pub openers_onto : List Frame → List Opener → List Opener
+openers_onto [] outer = outer
+openers_onto (f ∷ fs) outer = openers_onto fs (opener_of (opener_tree f.group_kind) ∷ outer)
 
 -- what the open groups began with, the innermost first
 abbrev pub openers : Builder → List Opener
-openers b = opened b.frames []
+openers b = openers_onto b.frames []
 
 -- whether a quantifier may follow (Term, 22.2.1 and B.1.2)
 abbrev pub ready : Builder → Bool
 ready b = last_takes b.mode b.level.terms
+
+-- what nothing that is read changes: the mode, the rules and where the pattern begins
+abbrev pub fixed_of : Builder → Mode × Rules × ℕ
+fixed_of b = (b.mode, b.rules, b.start)

@@ -1,4 +1,4 @@
--- What an open group is said to have begun with.
+-- What a frame of an open group says that the group began with.
 use Rattle.std.specs.Prelude.{◌≡◌, ℕ, ◌+◌, ◌-◌, Some, None, List}
 use Rattle.rx_units.specs.Cursor.{Cursor, rest}
 use Rattle.rx_model.specs.declared.mode.Mode.{Mode}
@@ -10,7 +10,7 @@ use Rattle.rx_parser.specs.declared.found.OpenerFound.TheVariants as found
 use Rattle.rx_parser.specs.declared.frame.GroupKind.{GroupKind}
 use Rattle.rx_parser.specs.declared.frame.GroupKind.TheVariants.{Capturing, Ignoring, LookAround}
 
--- The group_kind of a group of n units that stands next, an offset being added to each offset: modifiers have the span of their text, between `(?` and `:`.
+-- The kind of group, in a frame, that the n units which stand next begin, with `added` added to each offset: modifiers have the span of their text, between `(?` and `:`.
 abbrev pub IsGroupKindOf : Mode → Cursor → ℕ → ℕ → OpenerFound → GroupKind → Type 0
 IsGroupKindOf mode r added n found.Capturing it = it ≡ Capturing None
 IsGroupKindOf mode r added n found.Named it = (name : List ℕ) × HoldsName (is_unicode mode) (rest r) name n × (it ≡ Capturing (Some name))

@@ -1,4 +1,4 @@
--- The places that a halt names: its span goes from its start to its end, in units from the place on. A stop names the place where reading stands.
+-- The places that a halt names, in units from where the token was looked for: its span goes from its start to its end. A stop names the place where nothing more is read.
 use Rattle.std.specs.Prelude.{ℕ, ◌+◌}
 use Rattle.rx_parser.specs.declared.found.Halt.{Halt}
 use Rattle.rx_parser.specs.declared.found.Halt.TheVariants as halt

@@ -1,4 +1,4 @@
--- What a parser of a form is given, as an input.
+-- What a parser of literals or of arguments is given, as an input of the definitions.
 use Rattle.std.specs.Prelude.{ℕ, List, Option, Some, None, length}
 use Rattle.std.specs.Borrow.{Bor}
 use Rattle.std.specs.Str.{chars}
@@ -13,7 +13,7 @@ abbrev pub flags_chars : Option (Bor (List ℕ)) → Option (List ℕ)
 flags_chars None = None
 flags_chars (Some flags) = Some (chars flags.now)
 
--- in bytes
+-- how many bytes the flags text has
 abbrev pub flags_length : Option (Bor (List ℕ)) → ℕ
 flags_length None = 0
 flags_length (Some flags) = length flags.now
@@ -27,7 +27,7 @@ stand_in_length Constructor = 6
 abbrev pub rules_of : Options → Rules
 rules_of options = record { duplicate_names = options.duplicate_names; buffer_boundaries = options.buffer_boundaries }
 
--- what is to be read of a form, a text and a flags text
+-- the input of a form, a text, a flags text and options
 abbrev pub input_of : Form → List ℕ → Option (Bor (List ℕ)) → Options → Input
 input_of form text flags options = record {
   form = form;

@@ -8,20 +8,20 @@ use Rattle.rx_model.specs.Trees.Shapes.{takes}
 use Rattle.rx_model.specs.Trees.Token.{bar, quantifier}
 use Rattle.rx_parser.specs.declared.level.Level.{Level}
 
--- one after the other
+-- rows of events, one after the other
 abbrev pub strung : List Events → Events
 strung [] = []
 strung (es ∷ more) = es ++ strung more
 
--- each followed by a bar
-abbrev pub barred : List Events → Events
-barred [] = []
-barred (es ∷ more) = es ++ (token bar ∷ barred more)
+-- alternatives, each followed by a bar
+abbrev pub with_bars : List Events → Events
+with_bars [] = []
+with_bars (es ∷ more) = es ++ (token bar ∷ with_bars more)
 
 -- a disjunction without its end (Disjunction, 22.2.1): the alternatives that ended at a bar, and the terms of the last one so far
 unfoldable pub level_events : Level → Events
 level_events l =
-    enter l.start ∷ (barred (map alternative_events l.alternatives) ++ (enter l.alternative_start ∷ strung (map term_events l.terms)))
+    enter l.start ∷ (with_bars (map alternative_events l.alternatives) ++ (enter l.alternative_start ∷ strung (map term_events l.terms)))
 
 -- whether a quantifier may follow these terms (Term, 22.2.1 and B.1.2)
 abbrev pub last_takes : Mode → List Term → Bool

@@ -1,4 +1,4 @@
--- What the readers of modifiers answer.
+-- What the functions that look for modifiers answer.
 use Rattle.std.specs.Prelude.{ℕ, ◌==◌, Option, Some, None, if◌then◌else◌}
 use Rattle.rx_base.specs.Ascii as ascii
 use Rattle.rx_units.specs.Units.{values}
@@ -9,6 +9,6 @@ use Rattle.rx_parser.specs.declared.modifiers.Sides.{Sides}
 abbrev pub modifier_bit : ℕ → Option ℕ
 modifier_bit c = if c == ascii.i then Some 1 else (if c == ascii.m then Some 2 else (if c == ascii.s then Some 4 else None))
 
--- an answer as the reading that it says
+-- an answer, as what the definitions read there
 abbrev pub seen_sides : Sides → SidesRead
 seen_sides s = sides (values s.enabling.now) (values s.disabling.now) s.length

@@ -4,8 +4,8 @@ use Rattle.std.specs.List.{prefix_len}
 use Rattle.rx_base.specs.Rising.{Rises}
 use Rattle.rx_tables.specs.Characters.{is_decimal_digit, is_syntax_character}
 use Rattle.rx_units.specs.declared.code_point.CodePoint.{CodePoint}
-use Rattle.rx_units.specs.Cursor.{Cursor, rest}
-use Rattle.rx_units.specs.Pace.{left}
+use Rattle.rx_units.specs.Cursor.{Cursor, move_on, rest}
+use Rattle.rx_units.specs.Pace.{units_left}
 use Rattle.rx_parser.specs.declared.counts.CountsFound.{CountsFound}
 use Rattle.rx_parser.specs.declared.counts.CountsFound.TheVariants as counts
 use Rattle.rx_parser.specs.declared.found.Found.{Found}
@@ -21,23 +21,27 @@ plain us = prefix_len (λ u. not (is_syntax_character u.value)) us
 unfoldable pub digit_run : List CodePoint → ℕ
 digit_run us = prefix_len (λ u. is_decimal_digit u.value) us
 
--- at most so many looks at a quantifier's prefix, of so many units: each of its own units once
+-- A loop has taken a step in each of so many turns.
+abbrev pub HasStepped : ℕ → ℕ → ℕ → Type 0
+HasStepped old new turns = new ≡ old + turns
+
+-- the most steps to look for a quantifier's prefix in so many units: one for each unit of the prefix
 abbrev pub count_looks : ℕ → CountsFound → ℕ
 count_looks units (counts.Counts least most n) = min n units
 count_looks units counts.Nothing = units
 count_looks units (counts.TooMany start many) = units
 
--- at most so many at a name and its `>`, of so many units
+-- the most steps to look for a name and its `>` in so many units
 abbrev pub name_looks : ℕ → NameFound → ℕ
 name_looks units (name.Name n) = 2 * n + 1
 name_looks units (name.Halt it) = 2 * units + 8
 
--- at most so many after a name, of so many units: none where it ends there
+-- the most steps after a name in so many units: none where the name ends
 abbrev pub halt_looks : ℕ → NameFound → ℕ
 halt_looks units (name.Name n) = 0
 halt_looks units (name.Halt it) = units + 4
 
--- A token that is no escape takes so many, or why none is read, of so many units from its second one on. A property and a class are not among these.
+-- So many steps it takes to find a token that is no escape, or why none is read; `units` is how many stand after its first unit. Properties and classes are not found here.
 abbrev pub LooksAtSyntax : ℕ → ℕ → ℕ → Found → Type 0
 LooksAtSyntax old new units (found.Leaf leaf n) = Rises old new 0 (2 * n)
 LooksAtSyntax old new units (found.NamedReference n) = Rises old new 0 (2 * n)
@@ -49,11 +53,11 @@ LooksAtSyntax old new units found.Bar = Rises old new 0 0
 LooksAtSyntax old new units (found.Quantifier least most greedy n) = Rises old new 0 (2 * n)
 LooksAtSyntax old new units (found.Halt it) = Rises old new 0 (2 * units + 8)
 
--- What a look may find that takes at most so many steps, and at most one for each of some units: by `LooksAtSyntax`, so many are not too many for it.
+-- What may be found by at most so many steps, and at most one for each of these units: that many are allowed by `LooksAtSyntax`.
 abbrev pub MayFind : ℕ → List CodePoint → Found → Type 0
 MayFind most us it = (old new : ℕ) → old ≤ new → new ≤ old + most → new ≤ old + length us → LooksAtSyntax old new (length us - 1) it
 
--- An escape that is a token of n units takes so many, or why none is read, of the units after its backslash. A lone backslash stands before no digit.
+-- So many steps it takes to find an escape that is a token of n units, or why none is read; `following` is what stands after its backslash. A lone backslash stands before no digit.
 abbrev pub LooksAtEscape : ℕ → ℕ → List CodePoint → Found → Type 0
 LooksAtEscape old new following (found.Leaf leaf n) = (1 ≤ n) × Rises old new 0 (n + digit_run following + 4) × (n ≡ 1 → new ≤ old + 5)
 LooksAtEscape old new following (found.NamedReference n) = ⊥
@@ -65,12 +69,12 @@ LooksAtEscape old new following found.Bar = ⊥
 LooksAtEscape old new following (found.Quantifier least most greedy n) = ⊥
 LooksAtEscape old new following (found.Halt it) = Rises old new 0 (length following + 5)
 
--- At most so many at a token of n units, of the units after its first one. The looks that pass over units after the token stop at the first that does not
--- stand for itself.
+-- The most steps to find a token of n units, where these follow its first unit. The looks that go on over units after the token stop at the first one that does
+-- not stand for itself.
 abbrev pub token_looks : List CodePoint → ℕ → ℕ
 token_looks following n = 4 * n + 2 * plain (drop (n - 1) following) + 1
 
--- At most so many at what is found, of the units after the first one. A property and a class are looked at by their readers.
+-- The most steps to find this, where these units follow the first one. Properties and classes are looked at later, by `rx_class`.
 abbrev pub looks : List CodePoint → Found → ℕ
 looks following (found.Leaf leaf n) = token_looks following n
 looks following (found.NamedReference n) = token_looks following n
@@ -82,22 +86,30 @@ looks following found.Bar = token_looks following 1
 looks following (found.Quantifier least most greedy n) = token_looks following n
 looks following (found.Halt it) = 3 * length following + 9
 
--- A token takes at least a step for each of its units, and at most seven, with one left over. Units that stand for themselves after it have been looked at.
+-- A call moves over n units, with a step for each, and at most two more for each but the first, which look ahead; where it ends ill it takes no more.
+abbrev pub MovesOver : {A E : Type 0} → ℕ → ℕ → ℕ → Cursor → Cursor → Result A E → Type 0
+MovesOver n old new from to result =
+    MatchResult result (λ _. (to ≡ move_on n from) × (old + units_left from ≤ new + units_left to) × (new + units_left to ≤ old + units_left from + 2 * (n - 1)))
+    (λ _. new + units_left to ≤ old + units_left from + 2 * (n - 1))
+
+-- A token takes at least a step for each of its units, and at most seven, with one left over; and two for each unit after it that stands for itself, since such units
+-- may have been looked at.
 abbrev pub IsTokenPaced : ℕ → ℕ → Cursor → Cursor → Type 0
 IsTokenPaced old new from to =
-    (old + left from ≤ new + left to) × (new + 1 + 7 * left to ≤ old + 7 * left from + 2 * plain (rest to))
+    (old + units_left from ≤ new + units_left to) × (new + 1 + 7 * units_left to ≤ old + 7 * units_left from + 2 * plain (rest to))
 
 -- A call that ends well reads a token at this pace, and one that is refused is bounded.
 abbrev pub TakesToken : {A E : Type 0} → ℕ → ℕ → Cursor → Cursor → Result A E → Type 0
-TakesToken old new from to result = MatchResult result (λ _. IsTokenPaced old new from to) (λ _. new ≤ old + 7 * left from + 7)
+TakesToken old new from to result = MatchResult result (λ _. IsTokenPaced old new from to) (λ _. new ≤ old + 7 * units_left from + 7)
 
--- A turn takes at least a step for each unit that it moves over, and at most seven. What was looked at by the turns before, the units that stand for
--- themselves, is looked at no more after them: each of these may have been looked at twice.
+-- A turn takes at least a step for each unit that it moves over, and at most seven; and two for each of the units that stand next after it and for themselves, less two for
+-- each of those before it. So what is looked at ahead is counted once over all turns.
+-- Why: docs/DECISIONS.md, 62.
 abbrev pub IsTurnPaced : ℕ → ℕ → Cursor → Cursor → Type 0
 IsTurnPaced old new from to =
-    (old + left from ≤ new + left to) × (new + 7 * left to + 2 * plain (rest from) ≤ old + 7 * left from + 2 * plain (rest to))
+    (old + units_left from ≤ new + units_left to) × (new + 7 * units_left to + 2 * plain (rest from) ≤ old + 7 * units_left from + 2 * plain (rest to))
 
 -- A turn that ends well keeps the pace, and one that is refused is bounded.
 abbrev pub TakesTurn : {A E : Type 0} → ℕ → ℕ → Cursor → Cursor → Result A E → Type 0
 TakesTurn old new from to result =
-    MatchResult result (λ _. IsTurnPaced old new from to) (λ _. new + 2 * plain (rest from) ≤ old + 7 * left from + 8)
+    MatchResult result (λ _. IsTurnPaced old new from to) (λ _. new + 2 * plain (rest from) ≤ old + 7 * units_left from + 8)

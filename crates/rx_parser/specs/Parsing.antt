@@ -24,7 +24,7 @@ use Rattle.rx_parser.specs.declared.pattern_parser.PatternParser.{PatternParser}
 abbrev pub rules_of_state : State → Bool → Rules
 rules_of_state state buffers = record { duplicate_names = state.duplicate_names; buffer_boundaries = buffers }
 
--- The state holds what the first pass of the units finds (CountLeftCapturingParensWithin, 22.2.1.2), which refuses nothing.
+-- The state has what the first pass over the units finds (CountLeftCapturingParensWithin, 22.2.1.2), which refuses nothing.
 pub record HoldsPass (mode : Mode) (rules : Rules) (us : List CodePoint) (state : State) : Type 0 where
   pub mode_is : mode_of_state state ≡ mode
   pub groups : state.num_of_capturing_groups ≡ text_groups mode us
@@ -44,19 +44,19 @@ pub record IsWhole (mode : Mode) (rules : Rules) (us : List CodePoint) (first ad
   pub reads : Reads mode rules p us
   pub spanned : IsSpanned mode rules p us first added
 
--- memory is wanting, or the text is refused with its first cause
+-- memory ran out, or the text is refused by its first refusal
 abbrev pub IsRefused : Mode → Rules → List CodePoint → ℕ → ℕ → Fault → Type 0
 IsRefused mode rules us first added OutOfMemory = Unit {0}
 IsRefused mode rules us first added (Diagnostic cause) = IsFirst mode rules us first added cause
 
 -- What is answered to units that are to be read in a mode and under rules.
 pub record AnswersUnits (mode : Mode) (rules : Rules) (us : List CodePoint) (first added : ℕ) (answer : Result Pattern Fault) : Type 0 where
-  -- The tree is spelled by the units and the only one but for spans, and each of its nodes has the span of what it spells.
+  -- The units spell the tree, and no other tree, spans aside; each of its nodes has the span of what it spells.
   pub whole : IfOk answer (IsWhole mode rules us first added)
   pub only : IfOk answer (λ it. IsOnly mode rules it us)
-  -- The groups and the names that the first pass of the units finds are the tree's.
+  -- The groups and the names that the first pass over the units finds are the tree's.
   pub groups : IfOk answer (λ it. TellsGroups mode it us)
-  -- Each other answer is the first refusal of the text, or out of memory. On what some tree reads the answer is Ok, or memory ran out.
+  -- Each other answer is the first refusal of the text, or out of memory. Where the units read as some tree the answer is Ok, or memory ran out.
   pub refused : IfErr answer (IsRefused mode rules us first added)
   pub complete : (p : Pattern) → Reads mode rules p us → IfErr answer (λ fault. fault ≡ OutOfMemory)
 

@@ -20,7 +20,7 @@ pub record IsLeafOf (term : Term) (t : Token) (at after : ℕ) : Type 0 where
       run mode (t ∷ ts) open_groups ready_before ≡ run mode ts open_groups (takes mode (mirror_term term))
   pub good : (mode : Mode) → IsGoodTerm mode term
 
--- What has been built spells the units before this place, where o gives the offset of a place, and the rest is left.
+-- What has been built spells the units before this place, where o gives the offset of a place; these units are left.
 pub record IsAt (e : Environment) (o : ℕ → ℕ) (b : Builder) (us : List CodePoint) (place : ℕ) (rest : List CodePoint) : Type 0 where
   pub row : Row e o (builder_events b) 0 us place rest
   pub good : IsGood b

@@ -1,4 +1,4 @@
--- What one turn of a parse asks and gives.
+-- What one turn of a parse asks for, and what it does.
 use Rattle.std.specs.Prelude.{◌≡◌, ℕ, ◌<◌, List, length}
 use Rattle.rx_base.specs.declared.fault.Fault.{Fault}
 use Rattle.rx_units.specs.declared.code_point.CodePoint.{CodePoint}
@@ -15,17 +15,17 @@ use Rattle.rx_parser.specs.Found.{IsFound}
 use Rattle.rx_parser.specs.Parsing.{HoldsPass, IsParsing, IsRefused}
 
 -- what no turn changes: the mode, the rules, the units and the offset of the first, what is added to each offset, and the state
-abbrev pub given : Parse → Mode × Rules × List CodePoint × ℕ × ℕ × State
-given p = (p.builder.mode, p.builder.rules, p.reader.units, p.reader.first, p.spans, p.state)
+abbrev pub fixed_parts : Parse → Mode × Rules × List CodePoint × ℕ × ℕ × State
+fixed_parts p = (p.builder.mode, p.builder.rules, p.reader.units, p.reader.first, p.spans, p.state)
 
--- The builder holds what stands before the reader, whose offsets fit 32 bits, and the state what the first pass finds in the units.
+-- The builder holds what stands before the reader, whose offsets fit 32 bits, and the state has what the first pass over the units finds.
 pub record IsUnderWay (p : Parse) : Type 0 where
   pub parsing : IsParsing p.builder.mode p.builder.rules p.reader.units p.reader.first p.spans p.builder p.reader.place
   pub fits : AreFitting p.spans p.reader
   pub pass : HoldsPass p.builder.mode p.builder.rules p.reader.units p.state
 
 -- The same, and something is left of the text.
-pub record IsReady (p : Parse) : Type 0 where
+pub record HasMore (p : Parse) : Type 0 where
   pub under_way : IsUnderWay p
   pub left : p.reader.place < length p.reader.units
 
@@ -36,14 +36,14 @@ StandsNext p it = IsFound (text_environment p.builder.mode p.builder.rules p.rea
 -- The reader and the builder have moved on.
 pub record HasTurned (p q : Parse) : Type 0 where
   pub under_way : IsUnderWay q
-  pub kept : given q ≡ given p
+  pub kept : fixed_parts q ≡ fixed_parts p
   pub moved : p.reader.place < q.reader.place
 
--- memory is wanting, or the text is refused with its first cause
+-- memory ran out, or the text is refused by its first refusal
 abbrev pub RefusesText : Parse → Fault → Type 0
 RefusesText p it = IsRefused p.builder.mode p.builder.rules p.reader.units p.reader.first p.spans it
 
--- Of a builder and a reader alone: something is left of the text, and the builder holds what stands before it;
+-- The same of a builder and a reader alone: something is left of the text, and the builder holds what stands before it;
 pub record IsBefore (added : ℕ) (b : Builder) (r : Cursor) : Type 0 where
   pub parsing : IsParsing b.mode b.rules r.units r.first added b r.place
   pub left : r.place < length r.units

@@ -25,7 +25,7 @@ pub fn tail(units: &[CodePoint], place: usize) -> &[CodePoint]
     &units[place..]
 }
 
-/// The number of the digits that the units begin with, which stays at its greatest value, 4294967295, and how many digits they are.
+/// The number that the first units spell in digits, or 4294967295 where it is greater, and how many digits they are.
 #[tactic(auto, using(crate::proofs::Paces::run_more, crate::proofs::Paces::run_stops, crate::proofs::Paces::run_ends))]
 pub fn number_at<C: Counter>(units: &[CodePoint], steps: &mut C) -> (u32, usize)
     ensures number { (n : ℕ) × (result.0 ≡ min n (2 ^ 32 - 1)) × (digits_after 0 0 (values units.now) ≡ digits n result.1 (values (drop result.1 units.now))) }

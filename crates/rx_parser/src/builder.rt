@@ -4,7 +4,7 @@ ghost use Rattle.rx_model.specs.Trees.Events.{enter, leave, token, events, opene
 ghost use Rattle.rx_model.specs.Trees.Shapes.{group_takes, takes, IsWellMade};
 ghost use Rattle.rx_model.specs.Trees.Token.{bar, closer, opener_of, Opener};
 ghost use Rattle.rx_parser.specs.declared.frame.Frame.{Frame};
-ghost use Rattle.rx_parser.specs.Frames.{builder_events, opener_tree, openers, ready};
+ghost use Rattle.rx_parser.specs.Frames.{builder_events, fixed_of, opener_tree, openers, ready};
 ghost use Rattle.rx_parser.specs.Good.{IsGood, IsGoodTerm};
 ghost use Rattle.rx_parser.specs.Levels.{Repeats};
 
@@ -80,9 +80,7 @@ impl Builder {
         ensures openers { OnOk result (openers self.new ≡ openers self.old) }
         ensures ready { OnOk result (ready self.new ≡ takes self.old.mode (mirror_term term)) }
         ensures good { OnOk result (IsGoodTerm self.old.mode term → IsGood self.old → IsGood self.new) }
-        ensures mode { self.new.mode ≡ self.old.mode }
-        ensures rules { self.new.rules ≡ self.old.rules }
-        ensures start { self.new.start ≡ self.old.start }
+        ensures fixed { fixed_of self.new ≡ fixed_of self.old }
     {
         self.level.push(term)
     }
@@ -94,9 +92,7 @@ impl Builder {
         ensures openers { OnOk result (openers self.new ≡ openers self.old) }
         ensures ready { OnOk result (ready self.new ≡ false) }
         ensures good { OnOk result (IsGood self.old → IsGood self.new) }
-        ensures mode { self.new.mode ≡ self.old.mode }
-        ensures rules { self.new.rules ≡ self.old.rules }
-        ensures start { self.new.start ≡ self.old.start }
+        ensures fixed { fixed_of self.new ≡ fixed_of self.old }
     {
         self.level.bar(alloc, at, after)
     }
@@ -114,9 +110,7 @@ impl Builder {
         ensures openers { OnOk result (openers self.new ≡ opener_of (opener_tree group_kind) ∷ openers self.old) }
         ensures ready { OnOk result (ready self.new ≡ false) }
         ensures good { OnOk result (IsGood self.old → IsGood self.new) }
-        ensures mode { self.new.mode ≡ self.old.mode }
-        ensures rules { self.new.rules ≡ self.old.rules }
-        ensures start { self.new.start ≡ self.old.start }
+        ensures fixed { fixed_of self.new ≡ fixed_of self.old }
     {
         let outer = std::mem::replace(&mut self.level, Level::new(alloc, after));
         self.frames.push(Frame {
@@ -133,9 +127,7 @@ impl Builder {
         ensures good { IfOk result (λ it. IsTrue it → IsGood self.old → IsGood self.new) }
         ensures none { IfOk result (λ it. it ≡ false → openers self.old ≡ []) }
         ensures kept { IfOk result (λ it. it ≡ false → self.new ≡ self.old) }
-        ensures mode { self.new.mode ≡ self.old.mode }
-        ensures rules { self.new.rules ≡ self.old.rules }
-        ensures start { self.new.start ≡ self.old.start }
+        ensures fixed { fixed_of self.new ≡ fixed_of self.old }
     {
         let Some(frame) = self.frames.pop() else {
             return Ok(false);
@@ -152,28 +144,23 @@ impl Builder {
         Ok(true)
     }
 
-    /// Makes the last term the body of a quantifier that ends before the byte `after`. Where a quantifier may not
-    /// follow, the answer is `false`, and all stays as it was.
+    /// Makes the last term the body of a quantifier that ends before the byte `after`. The counts are the least and the most, if there is one. Where a
+    /// quantifier may not follow, the answer is `false`, and all stays as it was.
     pub fn quantify(
         &mut self,
-        alloc: Global,
-        min: u64,
-        max: Option<u64>,
+        counts: (u64, Option<u64>),
         greedy: bool,
         after: u32,
     ) -> Result<bool, OutOfMemory>
         ensures answer { IfOk result (λ it. ready self.old ≡ it) }
-        ensures events { IfOk result (λ it. IsTrue it → Repeats (builder_events self.old) (builder_events self.new) min max greedy after) }
+        ensures events { IfOk result (λ it. IsTrue it → Repeats (builder_events self.old) (builder_events self.new) counts.0 counts.1 greedy after) }
         ensures openers { IfOk result (λ it. IsTrue it → openers self.new ≡ openers self.old) }
         ensures ready { IfOk result (λ it. IsTrue it → ready self.new ≡ false) }
         ensures good { IfOk result (λ it. IsTrue it → IsGood self.old → IsGood self.new) }
         ensures kept { IfOk result (λ it. it ≡ false → self.new ≡ self.old) }
-        ensures mode { self.new.mode ≡ self.old.mode }
-        ensures rules { self.new.rules ≡ self.old.rules }
-        ensures start { self.new.start ≡ self.old.start }
+        ensures fixed { fixed_of self.new ≡ fixed_of self.old }
     {
-        self.level
-            .quantify(alloc, self.mode, min, max, greedy, after)
+        self.level.quantify(self.mode, counts, greedy, after)
     }
 
     /// The innermost open group.

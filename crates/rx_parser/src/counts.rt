@@ -14,7 +14,7 @@ use rx_units::CodePoint;
 /// Decimal digits, read as a number of 64 bits.
 #[derive(Clone, Copy, Debug)]
 enum DigitsFound {
-    /// All digits that stand next, and how many they are: none too.
+    /// The number of all digits that stand next, and how many they are, which may be none.
     Digits { value: u64, count: usize },
     /// The digit after n digits makes the number pass 64 bits.
     TooMany { digits: usize },
@@ -63,7 +63,7 @@ fn digits_at<C: Counter>(units: &[CodePoint], steps: &mut C) -> DigitsFound
     }
 }
 
-/// The counts after `{`, a number of n digits and `,`. The steps are with n + 2, for the number and the `,`.
+/// The counts after `{`, a number of n digits and `,`. The bounds on the steps count n + 2 more, for the number and the `,`.
 fn after_comma<C: Counter>(
     min: u64,
     count: usize,
@@ -93,7 +93,7 @@ fn after_comma<C: Counter>(
     }
 }
 
-/// The counts after `{` and a number of n digits. The steps are with n + 1, for the number.
+/// The counts after `{` and a number of n digits. The bounds on the steps count n + 1 more, for the number.
 fn after_least<C: Counter>(
     min: u64,
     count: usize,

@@ -5,7 +5,7 @@ ghost use Rattle.rx_model.specs.Refusals.Reached.{span_between};
 ghost use Rattle.rx_class.specs.Fitting.{AreFitting};
 ghost use Rattle.rx_parser.specs.Faults.{IsEndedFault, IsHaltFault, IsSmall, halt_refusal, lone_refusal, modifiers_refusal};
 ghost use Rattle.rx_parser.specs.HaltPlaces.{halt_end, halt_start};
-ghost use Rattle.rx_parser.specs.Turns.{IsReady};
+ghost use Rattle.rx_parser.specs.Turns.{HasMore};
 
 use crate::builder::Builder;
 use crate::found::{Halt, ModifiersFault};
@@ -15,17 +15,17 @@ use rx_model::Mode;
 use rx_scan::SpanFactory;
 use rx_units::Reader;
 
-/// Why a pattern is refused that halts where the reader stands.
+/// The fault of a halt where the reader stands.
 #[cold]
 pub fn fault<C: Counter>(parse: &mut Parse<'_>, halt: Halt, steps: &mut C) -> Fault
     requires small { IsSmall halt }
-    requires ready { IsReady parse.old }
+    requires more { HasMore parse.old }
     ensures fault { IsHaltFault parse.old.reader.units parse.old.reader.first parse.old.spans parse.old.reader.place parse.old.builder parse.old.state.num_of_capturing_groups halt result }
     ensures steps { Rises (C.count steps.old) (C.count steps.new) 0 (halt_end halt) }
 {
     if let Halt::Stop { following } = halt {
         parse.reader.skip_counted(following, steps);
-        return ended(&parse.reader, &parse.spans, &parse.builder);
+        return fault_at_end(&parse.reader, &parse.spans, &parse.builder);
     }
     let (from, to) = named_places(halt);
     let span = span_ahead(&mut parse.reader, &parse.spans, from, to, steps);
@@ -54,7 +54,7 @@ fn named_places(halt: Halt) -> (usize, usize)
     }
 }
 
-/// What is wrong where a halt names this span, in a pattern with n groups; of a stop, outside groups.
+/// The refusal that a halt with this span is, in a pattern with n groups; of a stop, that outside groups.
 fn refusal(halt: Halt, span: Span, groups: u32) -> Diagnostic
     ensures { result ≡ halt_refusal halt span groups }
 {
@@ -83,7 +83,7 @@ fn refusal(halt: Halt, span: Span, groups: u32) -> Diagnostic
     }
 }
 
-/// What is wrong where a quantifier of this span stands after nothing that may have one.
+/// The refusal of a quantifier of this span that stands after nothing that may have one.
 #[cold]
 pub fn lone_quantifier(mode: Mode, span: Span) -> Diagnostic
     ensures { result ≡ lone_refusal mode span }
@@ -105,9 +105,9 @@ fn modifiers_fault(fault: ModifiersFault, span: Span) -> Diagnostic
     }
 }
 
-/// Why a pattern is refused whose terms end, but for a `)`, so that reading stands where the reader does.
+/// The fault where terms end at the reader's place, and neither a group nor the pattern ends there.
 #[cold]
-pub fn ended(reader: &Reader<'_>, spans: &SpanFactory, builder: &Builder) -> Fault
+pub fn fault_at_end(reader: &Reader<'_>, spans: &SpanFactory, builder: &Builder) -> Fault
     requires fits { AreFitting spans.now reader.now }
     ensures { IsEndedFault reader.now.units reader.now.first spans.now reader.now.place builder.now result }
 {

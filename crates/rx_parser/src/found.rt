@@ -46,7 +46,7 @@ pub enum ModifiersFault {
 /// Why no token is read. Lengths and places are in units, from the place on.
 #[derive(Clone, Copy, Debug)]
 pub enum Halt {
-    /// Terms end here, and not by a `)`; reading stands n units on.
+    /// Terms end here, and no `)` stands here; what cannot be read stands n units on.
     Stop {
         following: usize,
     },
@@ -70,13 +70,13 @@ pub enum Halt {
         start: usize,
         digits: usize,
     },
-    /// A backslash begins no unicode escape where one has to stand, or in a name one of what may not stand there: the span is n units from
-    /// `start` on.
+    /// A backslash begins no unicode escape where one has to stand, or in a name it begins the escape of what may not stand there: the span is n
+    /// units from `start` on.
     InvalidEscape {
         start: usize,
         length: usize,
     },
-    /// After `<`, at the second unit from here, and n units of a name's characters neither a name ends nor an escape begins.
+    /// After `<`, which is two units on, and n units of characters of a name, neither the name ends nor an escape begins.
     UnterminatedName {
         length: usize,
     },

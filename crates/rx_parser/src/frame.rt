@@ -69,6 +69,7 @@ impl GroupKind {
 }
 
 /// An open group or look-around: what it stands in, and where and how it opens. Offsets are in bytes.
+// Why: docs/DECISIONS.md, 21.
 #[derive(Drop)]
 pub struct Frame {
     pub outer: Level,

@@ -2,8 +2,8 @@ ghost use Rattle.std.specs.Prelude.{◌≡◌, ◌+◌, ◌-◌, ◌^◌, ◌<�
 ghost use Rattle.rx_base.specs.Rising.{Rises};
 ghost use Rattle.rx_units.specs.Units.{values};
 ghost use Rattle.rx_ast.specs.declared.leaf.CharacterKind.{CharacterKind};
-ghost use Rattle.rx_class.specs.Found.{class_escape_front, seen_escape};
-ghost use Rattle.rx_class.specs.declared.escape_found.EscapeFound.{EscapeFound};
+ghost use Rattle.rx_class.specs.EscapeReading.Found.{class_escape_front, seen_escape};
+ghost use Rattle.rx_class.specs.declared.escapes.found.EscapeFound.{EscapeFound};
 ghost use Rattle.rx_model.specs.Characters.EscapeFronts.{any_escape_at};
 ghost use Rattle.rx_model.specs.Inputs.Environment.{is_unicode};
 ghost use Rattle.rx_model.specs.Properties.PropertyForms.{begins_property};
@@ -19,7 +19,7 @@ use crate::ahead::stands_at;
 use crate::counts::{CountsFound, begins_with_counts, counts_at};
 use crate::found::{Found, Halt, Leaf};
 use crate::group::group_at;
-use crate::reference::{indexed_at, is_reference, named_at};
+use crate::reference::{indexed_reference, is_reference, named_reference};
 use rx_ast::BoundaryAssertionKind;
 use rx_base::Counter;
 use rx_class::{EscapeFound, any_escape_at, class_escape_at, unit_kind};
@@ -29,6 +29,7 @@ use rx_tables::is_syntax_character;
 use rx_units::CodePoint;
 
 /// What the units begin with, outside classes (Term of ECMA-262, 22.2.1, and of B.1.2, or `)` or `|`).
+// Why: docs/DECISIONS.md, 17.
 #[tactic(auto, unfolding(rx_model::specs::Reading::FrontReading::front_read))]
 pub fn front_at<C: Counter>(units: &[CodePoint], environment: Environment, steps: &mut C) -> Found
     requires few { environment.groups < 2 ^ 32 - 1 }
@@ -122,10 +123,10 @@ fn backslash_at<C: Counter>(
         return Found::Halt(after_last_backslash(environment.mode));
     };
     if is_reference(following, environment, steps) {
-        return indexed_at(following, environment.groups, steps);
+        return indexed_reference(following, environment.groups, steps);
     }
     if first.value == 'k' as u32 && environment.is_named() {
-        return named_at(more, environment.is_unicode(), steps);
+        return named_reference(more, environment.is_unicode(), steps);
     }
     if begins_property(first.value) && environment.is_unicode() {
         return Found::Property;

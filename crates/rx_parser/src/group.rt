@@ -67,12 +67,12 @@ fn after_angle<C: Counter>(units: &[CodePoint], unicode_mode: bool, steps: &mut 
             OpenerFound::LookAround(LookAroundAssertionKind::NegativeLookbehind),
             4,
         ),
-        _ => named(units, unicode_mode, steps),
+        _ => named_group(units, unicode_mode, steps),
     }
 }
 
 /// The group after `(?<`, where no lookbehind begins (GroupSpecifier of ECMA-262, 22.2.1).
-fn named<C: Counter>(units: &[CodePoint], unicode_mode: bool, steps: &mut C) -> Found
+fn named_group<C: Counter>(units: &[CodePoint], unicode_mode: bool, steps: &mut C) -> Found
     ensures found { result ≡ found_front (named_group_read (name_read_at unicode_mode (values units.now))) }
     ensures steps { LooksAtSyntax (C.count steps.old) (C.count steps.new) (length units.now) result }
 {

@@ -15,6 +15,7 @@ use std::alloc::Global;
 
 /// What a reader of patterns is given: the text of a pattern and its flags, in a form, in which both texts may have quotes. The flags text is absent where
 /// there are no flags.
+// Why: docs/DECISIONS.md, 100.
 #[derive(Clone, Copy)]
 pub struct Input<'a> {
     pub form: Form,
@@ -31,9 +32,9 @@ impl<'a> Input<'a> {
     ghost use Rattle.std.specs.Prelude.{◌⊎◌, All};
     ghost use Rattle.rx_model.specs.Inputs.Environment.{is_unicode};
     ghost use Rattle.rx_model.specs.Inputs.Inputs.{Asks, AsksFor};
-    ghost use Rattle.rx_model.specs.Inputs.Texts.{AreUnits, HasNoUnits, first_offset, stand_in};
+    ghost use Rattle.rx_model.specs.Inputs.Texts.{HasNoUnits, first_offset, stand_in};
     ghost use Rattle.rx_model.specs.Reading.Headline.{IsFaultOf, IsParsed, whole_span};
-    ghost use Rattle.rx_parser.specs.Texts.{StandsBefore, seen_input};
+    ghost use Rattle.rx_parser.specs.Texts.{GivesUnits, StandsBefore, seen_input};
 
     /// Reads the pattern: the flags first, and then the text in the mode that they ask for (RegExpInitialize, ECMA-262, 22.2.3.3).
     pub fn parse(&self, alloc: Global) -> Result<(Pattern, Mode), Fault>
@@ -45,7 +46,7 @@ impl<'a> Input<'a> {
         let reader = self.pattern_reader(alloc, mode)?;
         let rules = (self.options.duplicate_names, self.options.buffer_boundaries);
         let span_offset = self.options.pattern_span_offset;
-        let parser = PatternParser::new(alloc, reader, modes(mode), span_offset, rules);
+        let parser = PatternParser::new(alloc, reader, mode_flags(mode), span_offset, rules);
         Ok((parser.parse()?, mode))
     }
 
@@ -81,6 +82,7 @@ impl<'a> Input<'a> {
     }
 
     /// A reader of a text in the form of the input, by code points in unicode mode, else by code units. A quoted text that is not decoded is refused as a whole.
+    // Why: docs/DECISIONS.md, 48.
     fn reader_of(
         &self,
         alloc: Global,
@@ -94,7 +96,7 @@ impl<'a> Input<'a> {
             ((fault ≡ Fault.Diagnostic (Diagnostic.InvalidInput (whole_span (chars text.now) span_offset)))
             × HasNoUnits self.now.options.standard_strings unicode_mode (chars text.now) self.now.form)) }
     {
-        match self.decoded(alloc, text, unicode_mode) {
+        match self.decoded_reader(alloc, text, unicode_mode) {
             Ok(reader) => Ok(reader),
             Err(ReaderFault::OutOfMemory) => Err(Fault::OutOfMemory),
             Err(ReaderFault::String(_) | ReaderFault::Template(_)) => {
@@ -105,19 +107,18 @@ impl<'a> Input<'a> {
     }
 
     /// A reader of a text in the form of the input, or why a quoted text is not decoded: as the standard has it, or as the Rust crate does.
-    fn decoded(
+    fn decoded_reader(
         &self,
         alloc: Global,
         text: &'a str,
         unicode_mode: bool,
     ) -> Result<Reader<'a>, ReaderFault>
         requires { length text.now < 2 ^ 32 }
-        ensures units { IfOk result (λ reader. AreUnits self.now.options.standard_strings unicode_mode (chars text.now) self.now.form reader.units) }
+        ensures read { GivesUnits self.now.options.standard_strings unicode_mode (chars text.now) self.now.form result }
         ensures start { IfOk result (λ reader. reader.place ≡ 0) }
         ensures first { IfOk result (λ reader. reader.first ≡ first_offset self.now.form) }
         ensures text { IfOk result (λ reader. reader.text ≡ text.now) }
         ensures within { IfOk result (λ reader. All (λ unit. unit.span.end ≤ length text.now) reader.units) }
-        ensures refused { IfErr result (λ fault. (fault ≡ ReaderFault.OutOfMemory) ⊎ HasNoUnits self.now.options.standard_strings unicode_mode (chars text.now) self.now.form) }
     {
         match self.form {
             Form::Literal => Reader::initialize(alloc, text, unicode_mode, false),
@@ -141,7 +142,7 @@ impl<'a> Input<'a> {
 }
 
 /// Whether it is a unicode mode, and whether it is sets mode.
-fn modes(mode: Mode) -> (bool, bool)
+fn mode_flags(mode: Mode) -> (bool, bool)
     ensures { mode_by result.0 result.1 ≡ mode }
 {
     match mode {

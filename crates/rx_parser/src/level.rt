@@ -107,21 +107,19 @@ impl Level {
         }
     }
 
-    /// Makes the last term the body of a quantifier that ends before the byte `after`. Where a quantifier may not
-    /// follow, the answer is `false`, and all stays as it was.
+    /// Makes the last term the body of a quantifier that ends before the byte `after`. The counts are the least and the most, if there is one. Where a
+    /// quantifier may not follow, the answer is `false`, and all stays as it was.
     pub fn quantify(
         &mut self,
-        alloc: Global,
         mode: Mode,
-        min: u64,
-        max: Option<u64>,
+        counts: (u64, Option<u64>),
         greedy: bool,
         after: u32,
     ) -> Result<bool, OutOfMemory>
         ensures answer { IfOk result (λ it. last_takes mode self.old.terms ≡ it) }
         ensures kept { IfOk result (λ it. it ≡ false → self.new ≡ self.old) }
         ensures ready { IfOk result (λ it. IsTrue it → last_takes mode self.new.terms ≡ false) }
-        ensures events { IfOk result (λ it. IsTrue it → (front : Events) → Repeats (front ++ level_events self.old) (front ++ level_events self.new) min max greedy after) }
+        ensures events { IfOk result (λ it. IsTrue it → (front : Events) → Repeats (front ++ level_events self.old) (front ++ level_events self.new) counts.0 counts.1 greedy after) }
         ensures good { IfOk result (λ it. IsTrue it → IsGoodLevel mode self.old → IsGoodLevel mode self.new) }
     {
         if !self.is_ready(mode) {
@@ -130,6 +128,8 @@ impl Level {
         let Some(term) = self.terms.pop() else {
             return Ok(false);
         };
+        let (min, max) = counts;
+        let alloc = self.terms.allocator();
         let body = Quantifier {
             span: Span::new(term.span().start, after),
             min,

@@ -2,7 +2,7 @@ ghost use Rattle.std.specs.Prelude.{◌≡◌, IsTrue, true, false, ℕ, ◌+◌
 ghost use Rattle.rx_base.specs.Ascii as ascii;
 ghost use Rattle.rx_base.specs.Rising.{Rises};
 ghost use Rattle.rx_units.specs.Units.{values};
-ghost use Rattle.rx_model.specs.Characters.Decoding.{decoded};
+ghost use Rattle.rx_model.specs.Characters.Decoding.{decoding_of};
 ghost use Rattle.rx_model.specs.FirstPass.Marks.{starts};
 ghost use Rattle.rx_model.specs.Groups.NameFronts.{begins_pair, escape_halt, name_read_at, read_after_name};
 ghost use Rattle.rx_parser.specs.HaltPlaces.{halt_end};
@@ -79,7 +79,7 @@ fn escape_in_name<C: Counter>(
     steps: &mut C,
 ) -> Halt
     requires { count + 6 + length following.now < 2 ^ 64 }
-    ensures read { result ≡ found_name_halt (escape_halt unicode_mode count (values following.now) (decoded true (values following.now))) }
+    ensures read { result ≡ found_name_halt (escape_halt unicode_mode count (values following.now) (decoding_of true (values following.now))) }
     ensures within { halt_end result ≤ count + 4 + length following.now }
     ensures steps { Rises (C.count steps.old) (C.count steps.new) 0 (length following.now + 4) }
 {

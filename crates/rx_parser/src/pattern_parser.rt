@@ -5,11 +5,11 @@ ghost use Rattle.rx_parser.specs.Parsing.{AnswersParser, HoldsPass, IsRefused, I
 ghost use Rattle.rx_parser.specs.Turns.{IsUnderWay, RefusesText};
 
 use crate::builder::Builder;
-use crate::fault::{ended, here};
+use crate::fault::{fault_at_end, here};
 use crate::turn::Parse;
 use rx_ast::Pattern;
 use rx_base::{Counter, Diagnostic, Fault, Steps};
-use rx_model::{Mode, Rules};
+use rx_model::Rules;
 use rx_scan::{SpanFactory, State, StateFault};
 use rx_units::Reader;
 use std::alloc::Global;
@@ -82,7 +82,7 @@ impl<'a> PatternParser<'a> {
             spans,
             buffer_boundaries,
         } = self;
-        let mode = Mode::of(state.unicode_mode, state.unicode_sets_mode);
+        let mode = state.mode();
         let rules = Rules {
             duplicate_names: state.duplicate_names,
             buffer_boundaries,
@@ -103,6 +103,7 @@ impl<'a> PatternParser<'a> {
 }
 
 /// Reads the pattern with a counter that no one sees.
+// Why: docs/DECISIONS.md, 98.
 fn parse_alone<L: Ledger>(parser: PatternParser<'_>, blank: Blank) -> Result<Pattern, Fault>
     requires name { blank.name ≡ L.name }
     requires parts { blank.parts ≡ L.parts }
@@ -162,7 +163,7 @@ fn read_pattern<C: Counter>(mut parse: Parse<'_>, steps: &mut C) -> Result<Patte
         parse.turn(steps)?;
     }
     if !parse.builder.is_whole() {
-        return Err(ended(&parse.reader, &parse.spans, &parse.builder));
+        return Err(fault_at_end(&parse.reader, &parse.spans, &parse.builder));
     }
     let end = here(&parse.reader, &parse.spans);
     Ok(parse.builder.finish(end)?)

@@ -54,7 +54,7 @@ fn is_at_most<C: Counter>(units: &[CodePoint], groups: u32, steps: &mut C) -> bo
 }
 
 /// The reference after a backslash, whose number begins with a digit that is not 0 (DecimalEscape of ECMA-262, 22.2.1), in a pattern with n groups.
-pub fn indexed_at<C: Counter>(following: &[CodePoint], groups: u32, steps: &mut C) -> Found
+pub fn indexed_reference<C: Counter>(following: &[CodePoint], groups: u32, steps: &mut C) -> Found
     requires few { groups < 2 ^ 32 - 1 }
     ensures found { result ≡ found_front (indexed_read groups (digits_after 0 0 (values following.now))) }
     ensures steps { LooksAtSyntax (C.count steps.old) (C.count steps.new) (length following.now) result }
@@ -71,18 +71,30 @@ pub fn indexed_at<C: Counter>(following: &[CodePoint], groups: u32, steps: &mut 
 }
 
 /// The reference by name after `\k` (AtomEscape of ECMA-262, 22.2.1).
-pub fn named_at<C: Counter>(following: &[CodePoint], unicode_mode: bool, steps: &mut C) -> Found
+pub fn named_reference<C: Counter>(
+    following: &[CodePoint],
+    unicode_mode: bool,
+    steps: &mut C,
+) -> Found
     ensures found { result ≡ found_front (reference_read unicode_mode (values following.now)) }
     ensures steps { LooksAtSyntax (C.count steps.old) (C.count steps.new) (length following.now) result }
 {
     match following {
-        [angle, name @ ..] if angle.value == '<' as u32 => named(name, unicode_mode, steps),
+        [angle, name @ ..] if angle.value == '<' as u32 => named_reference_in_brackets(
+            name,
+            unicode_mode,
+            steps,
+        ),
         _ => Found::Halt(Halt::NoGroupName),
     }
 }
 
 /// The reference by name after `\k<` (GroupName of ECMA-262, 22.2.1).
-fn named<C: Counter>(units: &[CodePoint], unicode_mode: bool, steps: &mut C) -> Found
+fn named_reference_in_brackets<C: Counter>(
+    units: &[CodePoint],
+    unicode_mode: bool,
+    steps: &mut C,
+) -> Found
     ensures found { result ≡ found_front (with_name named (name_read_at unicode_mode (values units.now))) }
     ensures steps { LooksAtSyntax (C.count steps.old) (C.count steps.new) (length units.now) result }
 {

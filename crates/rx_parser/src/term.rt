@@ -2,32 +2,24 @@ ghost use Rattle.std.specs.Prelude.{◌≡◌, ◌+◌, ◌-◌, ◌*◌, ◌≤
 ghost use Rattle.rx_ast.specs.ClassTree.{mirror_class};
 ghost use Rattle.rx_ast.specs.Tree as tree;
 ghost use Rattle.rx_ast.specs.Tree.{leaf, mirror_term};
-ghost use Rattle.rx_units.specs.Cursor.{rest};
-ghost use Rattle.rx_model.specs.Refusals.Reached.{text_environment};
 ghost use Rattle.rx_model.specs.Trees.Token.{named, property};
-ghost use Rattle.rx_model.specs.declared.rules.Rules.{Rules};
-ghost use Rattle.rx_class.specs.Fitting.{AreFitting};
-ghost use Rattle.rx_parser.specs.Found.{HoldsName, IsFound, leaf_token};
-ghost use Rattle.rx_parser.specs.GroupKinds.{IsGroupKindOf};
+ghost use Rattle.rx_parser.specs.Found.{HoldsName, leaf_term};
 ghost use Rattle.rx_parser.specs.Progress.{IsLeafOf};
 
-use crate::fault::span_ahead;
-use crate::found::{Found, Leaf, OpenerFound};
-use crate::frame::GroupKind;
+use crate::found::Leaf;
 use rx_ast::{
     BoundaryAssertion, Character, CharacterClass, CharacterClassEscape, Dot, IndexedReference,
-    Modifiers, NamedReference, Term, UnicodePropertyEscape,
+    NamedReference, Term, UnicodePropertyEscape,
 };
 use rx_base::{Counter, OutOfMemory, Span, Text};
-use rx_model::Mode;
-use rx_scan::{SpanFactory, capturing_group_name_counted};
-use rx_units::{CodePoint, Reader};
+use rx_scan::capturing_group_name_counted;
+use rx_units::CodePoint;
 use std::alloc::Global;
 
 /// The term that a leaf is.
 #[inline]
 pub fn term(leaf: Leaf, span: Span) -> Term
-    ensures { IsLeafOf result (leaf_token leaf) span.start span.end }
+    ensures { result ≡ leaf_term leaf span }
 {
     match leaf {
         Leaf::Boundary(kind) => Term::BoundaryAssertion(BoundaryAssertion { span, kind }),
@@ -79,45 +71,5 @@ pub fn name_in<C: Counter>(
     match capturing_group_name_counted(alloc, &units[3..length - 1], unicode_mode, steps)? {
         Some(name) => Ok(name),
         None => unreachable!(),
-    }
-}
-
-/// What a group or look-around of n units, which stands next, begins with. The reader stays where it stands.
-pub fn group_kind<C: Counter>(
-    alloc: Global,
-    reader: &mut Reader<'_>,
-    spans: &SpanFactory,
-    mode: Mode,
-    opener: OpenerFound,
-    length: usize,
-    steps: &mut C,
-) -> Result<GroupKind, OutOfMemory>
-    requires fits { AreFitting spans.now reader.old }
-    requires found { (rules : Rules) × IsFound (text_environment mode rules reader.old.units) (rest reader.old) (Found.Open opener length) }
-    ensures group_kind { IfOk result (IsGroupKindOf mode reader.old spans.now length opener) }
-    ensures reader { reader.new ≡ reader.old }
-    ensures steps { C.count steps.new ≤ C.count steps.old + 2 * (length - 1) }
-    ensures least { OnOk result (C.count steps.old ≤ C.count steps.new) }
-{
-    match opener {
-        OpenerFound::Capturing => Ok(GroupKind::Capturing(None)),
-        OpenerFound::Named => {
-            let units = reader.remaining_code_points();
-            let name = name_in(alloc, units, length, mode.is_unicode(), steps)?;
-            Ok(GroupKind::Capturing(Some(name)))
-        }
-        OpenerFound::Ignoring => Ok(GroupKind::Ignoring(None)),
-        OpenerFound::Modified {
-            enabling,
-            disabling,
-        } => {
-            let span = span_ahead(reader, spans, 2, length - 1, steps);
-            Ok(GroupKind::Ignoring(Some(Modifiers {
-                span,
-                enabling,
-                disabling,
-            })))
-        }
-        OpenerFound::LookAround(kind) => Ok(GroupKind::LookAround(kind)),
     }
 }

@@ -1,18 +1,22 @@
 ghost use Rattle.std.specs.Prelude.{◌≡◌, ◌+◌, ◌-◌, ◌*◌, ◌≤◌, ◌<◌, false, All, IfErr, IfOk, OnOk, drop, length, take};
 ghost use Rattle.rx_base.specs.Rising.{Rises};
 ghost use Rattle.rx_tables.specs.Characters.{is_syntax_character};
-ghost use Rattle.rx_units.specs.Cursor.{moved, rest};
-ghost use Rattle.rx_units.specs.Pace.{TakesSteps, left};
+ghost use Rattle.rx_units.specs.Cursor.{move_on, offset_of, rest};
+ghost use Rattle.rx_units.specs.Pace.{IsMove, TakesSteps};
+ghost use Rattle.rx_class.specs.Fitting.{AreFitting};
 ghost use Rattle.rx_parser.specs.Faults.{IsSmall};
 ghost use Rattle.rx_parser.specs.declared.found.Halt.{Halt};
-ghost use Rattle.rx_parser.specs.Pace.{TakesToken, TakesTurn, looks, plain};
-ghost use Rattle.rx_parser.specs.Turns.{HasTurned, IsBefore, IsReady, IsTurned, RefusesText, StandsNext};
+ghost use Rattle.rx_parser.specs.GroupKinds.{IsGroupKindOf};
+ghost use Rattle.rx_parser.specs.Pace.{MovesOver, TakesToken, TakesTurn, looks, plain};
+ghost use Rattle.rx_parser.specs.Turns.{HasTurned, IsBefore, HasMore, IsTurned, RefusesText, StandsNext};
 
 use crate::builder::Builder;
-use crate::fault::{fault, here, lone_quantifier};
+use crate::fault::{fault, here, lone_quantifier, span_ahead};
 use crate::found::{Found, Halt, Leaf, OpenerFound};
+use crate::frame::GroupKind;
 use crate::front::front_at;
-use crate::term::{class_term, group_kind, name_in, named_term, property_term, term};
+use crate::term::{class_term, name_in, named_term, property_term, term};
+use rx_ast::Modifiers;
 use rx_base::{Counter, Diagnostic, Fault, List, OutOfMemory, Span, Text};
 use rx_class::{parse_character_class, parse_character_class_escape_unicode, unit_kind};
 use rx_scan::{Environment, SpanFactory, State};
@@ -21,6 +25,7 @@ use rx_units::{CodePoint, Reader};
 use std::alloc::Global;
 
 /// A pattern that is being read: where its reader stands, what the first pass found in its units, and what is built of those before the reader.
+// Why: docs/DECISIONS.md, 102.
 #[derive(Drop)]
 pub struct Parse<'a> {
     pub alloc: Global,
@@ -33,9 +38,10 @@ pub struct Parse<'a> {
 impl<'a> Parse<'a> {
     /// Reads one token, and gives it to the builder. A unit that is no SyntaxCharacter stands for itself in every mode (PatternCharacter of ECMA-262, 22.2.1), so
     /// nothing else is looked for there.
+    // Why: docs/DECISIONS.md, 41.
     #[inline]
     pub fn turn<C: Counter>(&mut self, steps: &mut C) -> Result<(), Fault>
-        requires { IsReady self.old }
+        requires { HasMore self.old }
         ensures turned { OnOk result (HasTurned self.old self.new) }
         ensures refused { IfErr result (RefusesText self.old) }
         ensures steps { TakesTurn (C.count steps.old) (C.count steps.new) self.old.reader self.new.reader result }
@@ -55,12 +61,12 @@ impl<'a> Parse<'a> {
 
     /// Reads the token that is found where the reader stands, and gives it to the builder.
     fn take_found<C: Counter>(&mut self, steps: &mut C) -> Result<(), Fault>
-        requires { IsReady self.old }
+        requires { HasMore self.old }
         ensures turned { OnOk result (HasTurned self.old self.new) }
         ensures refused { IfErr result (RefusesText self.old) }
         ensures steps { TakesToken (C.count steps.old) (C.count steps.new) self.old.reader self.new.reader result }
     {
-        match self.found_here(steps) {
+        match self.find_here(steps) {
             Found::Leaf { leaf, length } => self.take_leaf(leaf, length, steps),
             Found::NamedReference { length } => self.named_reference(length, steps),
             Found::Property => self.property(steps),
@@ -79,8 +85,8 @@ impl<'a> Parse<'a> {
     }
 
     /// What stands where the reader does, in the environment that the state tells.
-    fn found_here<C: Counter>(&self, steps: &mut C) -> Found
-        requires { IsReady self.now }
+    fn find_here<C: Counter>(&self, steps: &mut C) -> Found
+        requires { HasMore self.now }
         ensures found { StandsNext self.now result }
         ensures small { (halt : Halt) → result ≡ Found.Halt halt → IsSmall halt }
         ensures steps { Rises (C.count steps.old) (C.count steps.new) 0 (looks (drop 1 (rest self.now.reader)) result) }
@@ -91,45 +97,35 @@ impl<'a> Parse<'a> {
 
     /// Reads a term that is one token of n units, and gives it to the builder.
     #[inline(always)]
-    #[tactic(auto, using(rx_class::proofs::Fitting::moved_are_fitting))]
     fn take_leaf<C: Counter>(
         &mut self,
         leaf: Leaf,
         length: usize,
         steps: &mut C,
     ) -> Result<(), Fault>
-        requires ready { IsReady self.old }
+        requires more { HasMore self.old }
         requires found { StandsNext self.old (Found.Leaf leaf length) }
         ensures turned { OnOk result (HasTurned self.old self.new) }
         ensures refused { IfErr result (RefusesText self.old) }
-        ensures reader { OnOk result (self.new.reader ≡ moved length self.old.reader) }
-        ensures steps { C.count steps.new + left self.new.reader ≤ C.count steps.old + left self.old.reader + 2 * (length - 1) }
-        ensures least { OnOk result (C.count steps.old + left self.old.reader ≤ C.count steps.new + left self.new.reader) }
+        ensures steps { MovesOver length (C.count steps.old) (C.count steps.new) self.old.reader self.new.reader result }
     {
-        let at = here(&self.reader, &self.spans);
-        self.reader.skip_counted(length, steps);
-        let span = Span::new(at, here(&self.reader, &self.spans));
+        let span = span_over(&mut self.reader, &self.spans, length, steps);
         self.builder.leaf(term(leaf, span))?;
         Ok(())
     }
 
     /// Reads a reference by name of n units, and gives it to the builder.
-    #[tactic(auto, using(rx_class::proofs::Fitting::moved_are_fitting))]
     fn named_reference<C: Counter>(&mut self, length: usize, steps: &mut C) -> Result<(), Fault>
-        requires ready { IsReady self.old }
+        requires more { HasMore self.old }
         requires found { StandsNext self.old (Found.NamedReference length) }
         ensures turned { OnOk result (HasTurned self.old self.new) }
         ensures refused { IfErr result (RefusesText self.old) }
-        ensures reader { OnOk result (self.new.reader ≡ moved length self.old.reader) }
-        ensures steps { C.count steps.new + left self.new.reader ≤ C.count steps.old + left self.old.reader + 2 * (length - 1) }
-        ensures least { OnOk result (C.count steps.old + left self.old.reader ≤ C.count steps.new + left self.new.reader) }
+        ensures steps { MovesOver length (C.count steps.old) (C.count steps.new) self.old.reader self.new.reader result }
     {
-        let at = here(&self.reader, &self.spans);
         let unicode_mode = self.builder.mode.is_unicode();
         let units = self.reader.remaining_code_points();
         let name = name_in(self.alloc, units, length, unicode_mode, steps)?;
-        self.reader.skip_counted(length, steps);
-        let span = Span::new(at, here(&self.reader, &self.spans));
+        let span = span_over(&mut self.reader, &self.spans, length, steps);
         if !self.state.capturing_group_names.contains(name.as_str()) {
             let names = copy(self.alloc, self.state.capturing_group_names.as_slice())?;
             return Err(Fault::Diagnostic(Diagnostic::InvalidNamedReference { span, names }));
@@ -140,7 +136,7 @@ impl<'a> Parse<'a> {
 
     /// Reads a property escape, and gives it to the builder.
     fn property<C: Counter>(&mut self, steps: &mut C) -> Result<(), Fault>
-        requires ready { IsReady self.old }
+        requires more { HasMore self.old }
         requires found { StandsNext self.old Found.Property }
         ensures turned { OnOk result (HasTurned self.old self.new) }
         ensures refused { IfErr result (RefusesText self.old) }
@@ -166,7 +162,7 @@ impl<'a> Parse<'a> {
 
     /// Reads a class, and gives it to the builder.
     fn class<C: Counter>(&mut self, steps: &mut C) -> Result<(), Fault>
-        requires ready { IsReady self.old }
+        requires more { HasMore self.old }
         requires found { StandsNext self.old Found.Class }
         ensures turned { OnOk result (HasTurned self.old self.new) }
         ensures refused { IfErr result (RefusesText self.old) }
@@ -188,79 +184,94 @@ impl<'a> Parse<'a> {
     }
 
     /// Reads what a group or a look-around of n units begins with, and opens it in the builder.
-    #[tactic(auto, using(rx_class::proofs::Fitting::moved_are_fitting))]
     fn open<C: Counter>(
         &mut self,
         opener: OpenerFound,
         length: usize,
         steps: &mut C,
     ) -> Result<(), Fault>
-        requires ready { IsReady self.old }
+        requires more { HasMore self.old }
         requires found { StandsNext self.old (Found.Open opener length) }
         ensures turned { OnOk result (HasTurned self.old self.new) }
         ensures refused { IfErr result (RefusesText self.old) }
-        ensures reader { OnOk result (self.new.reader ≡ moved length self.old.reader) }
-        ensures steps { C.count steps.new + left self.new.reader ≤ C.count steps.old + left self.old.reader + 2 * (length - 1) }
-        ensures least { OnOk result (C.count steps.old + left self.old.reader ≤ C.count steps.new + left self.new.reader) }
+        ensures steps { MovesOver length (C.count steps.old) (C.count steps.new) self.old.reader self.new.reader result }
     {
-        let at = here(&self.reader, &self.spans);
-        let mode = self.builder.mode;
-        let group_kind = group_kind(
-            self.alloc,
-            &mut self.reader,
-            &self.spans,
-            mode,
-            opener,
-            length,
-            steps,
-        )?;
-        self.reader.skip_counted(length, steps);
-        let after = here(&self.reader, &self.spans);
-        self.builder.open(self.alloc, group_kind, at, after)?;
+        let group_kind = self.group_kind(opener, length, steps)?;
+        let span = span_over(&mut self.reader, &self.spans, length, steps);
+        self.builder
+            .open(self.alloc, group_kind, span.start, span.end)?;
         Ok(())
     }
 
+    /// What a group or look-around of n units, which stands next, begins with. The reader stays where it stands.
+    fn group_kind<C: Counter>(
+        &mut self,
+        opener: OpenerFound,
+        length: usize,
+        steps: &mut C,
+    ) -> Result<GroupKind, OutOfMemory>
+        requires more { HasMore self.old }
+        requires found { StandsNext self.old (Found.Open opener length) }
+        ensures group_kind { IfOk result (IsGroupKindOf self.old.builder.mode self.old.reader self.old.spans length opener) }
+        ensures kept { self.new ≡ self.old }
+        ensures steps { C.count steps.new ≤ C.count steps.old + 2 * (length - 1) }
+        ensures least { OnOk result (C.count steps.old ≤ C.count steps.new) }
+    {
+        match opener {
+            OpenerFound::Capturing => Ok(GroupKind::Capturing(None)),
+            OpenerFound::Named => {
+                let unicode_mode = self.builder.mode.is_unicode();
+                let units = self.reader.remaining_code_points();
+                let name = name_in(self.alloc, units, length, unicode_mode, steps)?;
+                Ok(GroupKind::Capturing(Some(name)))
+            }
+            OpenerFound::Ignoring => Ok(GroupKind::Ignoring(None)),
+            OpenerFound::Modified {
+                enabling,
+                disabling,
+            } => {
+                let span = span_ahead(&mut self.reader, &self.spans, 2, length - 1, steps);
+                Ok(GroupKind::Ignoring(Some(Modifiers {
+                    span,
+                    enabling,
+                    disabling,
+                })))
+            }
+            OpenerFound::LookAround(kind) => Ok(GroupKind::LookAround(kind)),
+        }
+    }
+
     /// Reads a `)`, and ends a group or a look-around in the builder.
-    #[tactic(auto, using(rx_class::proofs::Fitting::moved_are_fitting))]
     fn close<C: Counter>(&mut self, steps: &mut C) -> Result<(), Fault>
-        requires ready { IsReady self.old }
+        requires more { HasMore self.old }
         requires found { StandsNext self.old Found.Close }
         ensures turned { OnOk result (HasTurned self.old self.new) }
         ensures refused { IfErr result (RefusesText self.old) }
-        ensures reader { OnOk result (self.new.reader ≡ moved 1 self.old.reader) }
-        ensures steps { C.count steps.new + left self.new.reader ≤ C.count steps.old + left self.old.reader + 2 * (1 - 1) }
-        ensures least { OnOk result (C.count steps.old + left self.old.reader ≤ C.count steps.new + left self.new.reader) }
+        ensures steps { MovesOver 1 (C.count steps.old) (C.count steps.new) self.old.reader self.new.reader result }
     {
-        let at = here(&self.reader, &self.spans);
-        self.reader.advance_counted(steps);
-        let after = here(&self.reader, &self.spans);
-        if !self.builder.close(self.alloc, at, after)? {
-            let span = Span::empty(at);
+        let span = span_over(&mut self.reader, &self.spans, 1, steps);
+        if !self.builder.close(self.alloc, span.start, span.end)? {
+            let span = Span::empty(span.start);
             return Err(Fault::Diagnostic(Diagnostic::ParsePatternIncomplete { span }));
         }
         Ok(())
     }
 
     /// Reads a bar, and begins an alternative in the builder.
-    #[tactic(auto, using(rx_class::proofs::Fitting::moved_are_fitting))]
     fn bar<C: Counter>(&mut self, steps: &mut C) -> Result<(), Fault>
-        requires ready { IsReady self.old }
+        requires more { HasMore self.old }
         requires found { StandsNext self.old Found.Bar }
         ensures turned { OnOk result (HasTurned self.old self.new) }
         ensures refused { IfErr result (RefusesText self.old) }
-        ensures reader { OnOk result (self.new.reader ≡ moved 1 self.old.reader) }
-        ensures steps { C.count steps.new + left self.new.reader ≤ C.count steps.old + left self.old.reader + 2 * (1 - 1) }
-        ensures least { OnOk result (C.count steps.old + left self.old.reader ≤ C.count steps.new + left self.new.reader) }
+        ensures steps { MovesOver 1 (C.count steps.old) (C.count steps.new) self.old.reader self.new.reader result }
     {
-        let at = here(&self.reader, &self.spans);
-        self.reader.advance_counted(steps);
-        let after = here(&self.reader, &self.spans);
-        self.builder.bar(self.alloc, at, after)?;
+        let span = span_over(&mut self.reader, &self.spans, 1, steps);
+        self.builder.bar(self.alloc, span.start, span.end)?;
         Ok(())
     }
 
     /// Reads a quantifier of n units with these counts, and gives it the last term as its body.
-    #[tactic(auto, using(rx_class::proofs::Fitting::moved_are_fitting))]
+    // Why: docs/DECISIONS.md, 20.
     fn quantify<C: Counter>(
         &mut self,
         counts: (u64, Option<u64>),
@@ -268,20 +279,14 @@ impl<'a> Parse<'a> {
         length: usize,
         steps: &mut C,
     ) -> Result<(), Fault>
-        requires ready { IsReady self.old }
+        requires more { HasMore self.old }
         requires found { StandsNext self.old (Found.Quantifier counts.0 counts.1 greedy length) }
         ensures turned { OnOk result (HasTurned self.old self.new) }
         ensures refused { IfErr result (RefusesText self.old) }
-        ensures reader { OnOk result (self.new.reader ≡ moved length self.old.reader) }
-        ensures steps { C.count steps.new + left self.new.reader ≤ C.count steps.old + left self.old.reader + 2 * (length - 1) }
-        ensures least { OnOk result (C.count steps.old + left self.old.reader ≤ C.count steps.new + left self.new.reader) }
+        ensures steps { MovesOver length (C.count steps.old) (C.count steps.new) self.old.reader self.new.reader result }
     {
-        let (min, max) = counts;
-        let at = here(&self.reader, &self.spans);
-        self.reader.skip_counted(length, steps);
-        let after = here(&self.reader, &self.spans);
-        if !self.builder.quantify(self.alloc, min, max, greedy, after)? {
-            let span = Span::new(at, after);
+        let span = span_over(&mut self.reader, &self.spans, length, steps);
+        if !self.builder.quantify(counts, greedy, span.end)? {
             return Err(Fault::Diagnostic(lone_quantifier(self.builder.mode, span)));
         }
         Ok(())
@@ -318,7 +323,7 @@ fn plain_run<C: Counter>(
     requires within { count ≤ length (rest reader.old) }
     requires plain { All (λ unit. is_syntax_character unit.value ≡ false) (take count (rest reader.old)) }
     ensures turned { OnOk result (IsTurned spans.now builder.old builder.new reader.old reader.new) }
-    ensures reader { OnOk result (reader.new ≡ moved count reader.old) }
+    ensures reader { OnOk result (reader.new ≡ move_on count reader.old) }
     ensures steps { Rises (C.count steps.old) (C.count steps.new) 0 (2 * count) }
     ensures least { OnOk result (C.count steps.new ≡ C.count steps.old + 2 * count) }
 {
@@ -336,6 +341,26 @@ fn plain_run<C: Counter>(
     }
     reader.skip_counted(count, steps);
     Ok(())
+}
+
+/// Moves over n units, and gives their span.
+#[inline(always)]
+#[tactic(auto, using(rx_class::proofs::Fitting::moved_are_fitting))]
+fn span_over<C: Counter>(
+    reader: &mut Reader<'_>,
+    spans: &SpanFactory,
+    length: usize,
+    steps: &mut C,
+) -> Span
+    requires fits { AreFitting spans.now reader.old }
+    ensures start { result.start ≡ offset_of reader.old + spans.now }
+    ensures end { result.end ≡ offset_of reader.new + spans.now }
+    ensures reader { reader.new ≡ move_on length reader.old }
+    ensures steps { IsMove (C.count steps.old) (C.count steps.new) reader.old reader.new }
+{
+    let at = here(reader, spans);
+    reader.skip_counted(length, steps);
+    Span::new(at, here(reader, spans))
 }
 
 fn copy(alloc: Global, names: &[Text]) -> Result<List<Text>, OutOfMemory>

@@ -69,13 +69,13 @@ impl Call for AnswerCall {
         let pattern = written_out(alloc, pattern)?;
         let options = Options::default();
         let answer = canonical(alloc, self.form, long(&pattern)?, flags, options);
-        shown(alloc, &pattern, answer)
+        show_answer(alloc, &pattern, answer)
     }
 }
 
 /// What a pattern is refused for; or the mode, the span, the number of alternatives, the span of the last term of the first of them, the length of the
 /// spelling, and the spelling where it is not the pattern itself.
-pub fn shown(
+pub fn show_answer(
     alloc: Global,
     pattern: &str,
     answer: Result<Canonical, Fault>,

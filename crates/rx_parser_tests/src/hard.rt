@@ -1,5 +1,5 @@
 //! Hard texts: deep ones, long ones, and those at the last offsets.
-use crate::answers::{CONSTRUCTOR, LITERAL, shown};
+use crate::answers::{CONSTRUCTOR, LITERAL, show_answer};
 use rx_rows::agree;
 use rx_tools::{Form, Options, canonical};
 use std::alloc::Global;
@@ -32,19 +32,19 @@ fn at_the_last_offsets(alloc: Global) -> Result<String, Fail> {
         ..Options::default()
     };
     let literal = canonical(alloc, Form::Literal, "", Some("u"), options);
-    let literal = shown(alloc, "", literal)?;
+    let literal = show_answer(alloc, "", literal)?;
     let options = Options {
         pattern_span_offset: 4294967289,
         ..Options::default()
     };
     let argument = canonical(alloc, Form::Constructor, "\"\"", None, options);
-    let argument = shown(alloc, "\"\"", argument)?;
+    let argument = show_answer(alloc, "\"\"", argument)?;
     let options = Options {
         flags_span_offset: 4294967294,
         ..Options::default()
     };
     let flag = canonical(alloc, Form::Literal, "a", Some("x"), options);
-    let flag = shown(alloc, "a", flag)?;
+    let flag = show_answer(alloc, "a", flag)?;
     Ok(format!(in alloc; "{literal}\n{argument}\n{flag}")?)
 }
 

@@ -43,7 +43,7 @@ impl Call for CanonicalCall {
             flags_span_offset: if self.at_seven { 7 } else { 0 },
             ..Options::default()
         };
-        shown(
+        show_answer(
             alloc,
             canonical(alloc, self.form, short(pattern)?, flags, options),
         )
@@ -58,7 +58,7 @@ pub fn given(flags: &str) -> Option<&str>
 }
 
 /// The mode, the spelling and the span of what is read; or the refusal with its spans.
-fn shown(alloc: Global, answer: Result<Canonical, Fault>) -> Result<String, Fail> {
+fn show_answer(alloc: Global, answer: Result<Canonical, Fault>) -> Result<String, Fail> {
     match answer {
         Ok(it) => Ok(format!(in alloc;
             "{:?} {} {}..{}",
@@ -156,13 +156,13 @@ fn spans_of_arguments_end_at_the_greatest_offset(rt: HostRuntime) -> Result<(), 
         ..Options::default()
     };
     let undecoded = canonical(rt.alloc(), Form::Constructor, "\"a", Some("'u'"), options);
-    let text = shown(rt.alloc(), undecoded)?;
+    let text = show_answer(rt.alloc(), undecoded)?;
     assert_eq!(rt;
         text.as_str(),
         "invalid_input Span { start: 4294967289, end: 4294967291 } None"
     );
     let flags = canonical(rt.alloc(), Form::Constructor, "\"a", Some("'x'"), options);
-    let text = shown(rt.alloc(), flags)?;
+    let text = show_answer(rt.alloc(), flags)?;
     assert_eq!(rt;
         text.as_str(),
         "unknown_flag Span { start: 4294967293, end: 4294967294 } None"

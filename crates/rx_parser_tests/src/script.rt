@@ -42,8 +42,8 @@ fn step(
 ) -> Result<&'static str, OutOfMemory> {
     match sign {
         ')' => Ok(mark(builder.close(alloc, at, after)?)),
-        '*' => Ok(mark(builder.quantify(alloc, 0, None, true, after)?)),
-        'q' => Ok(mark(builder.quantify(alloc, 2, Some(3), false, after)?)),
+        '*' => Ok(mark(builder.quantify((0, None), true, after)?)),
+        'q' => Ok(mark(builder.quantify((2, Some(3)), false, after)?)),
         '|' => {
             builder.bar(alloc, at, after)?;
             Ok("")

@@ -30,7 +30,7 @@ fn counted<L: Ledger>(parser: PatternParser<'_>, blank: Blank) -> u64
 {
     let mut tally = Tally::<L>::new(blank);
     let _ = parser.parse_counted(&mut tally);
-    tally.told()
+    tally.total()
 }
 
 /// Texts in a mode.

@@ -24,7 +24,7 @@ module _ (checks : List Check) (c : ℕ) where
       → target_holds checks (suc n) (target.Check i) c ≡ (if b then target_holds checks n (after_check (slice_get checks n) c) c else target_holds checks n (target.Check i) c)
   asked-if b n i is = ap (λ x. if x then target_holds checks n (after_check (slice_get checks n) c) c else target_holds checks n (target.Check i) c) (sym is)
 
-  -- a check that is not below is not asked
+  -- a check whose number is not below `n` is not asked
   pub past-is : (n i : ℕ) → n ≤ i → target_holds checks n (target.Check i) c ≡ false
   past-is zero i past = refl
   past-is (suc n) i past = asked-if false n i (sym (apart-test i n (λ e. omega arith))) ∙ past-is n i (omega arith)
@@ -38,12 +38,12 @@ module _ (checks : List Check) (c : ℕ) where
       let apart = eqb-false i n (sym is) in
       asked-if false n i is ∙ rest (omega arith)
 
-  -- one that is below is asked, and then those before it
+  -- one whose number is below is asked, and then those before it
   pub at-is : (n i : ℕ) → i < n → target_holds checks n (target.Check i) c ≡ target_holds checks i (after_check (slice_get checks i) c) c
   at-is zero i below = absurd (omega arith)
   at-is (suc n) i below = at-if (i == n) n i refl below (at-is n i)
 
-  -- a check that is read leads on
+  -- a check that is read leads to the target after it
   pub step-is : (n i : ℕ) (none : Check) (t : Target) → i < n → n ≤ length checks → t ≡ target_after (get_or checks i none) c → target_holds checks n (target.Check i) c ≡ target_holds checks i t c
   step-is n i none t below within is =
       at-is n i below ∙ ap (λ o. target_holds checks i (after_check o c) c) (slice_get-get_or checks i none (omega arith)) ∙ ap (λ t. target_holds checks i t c) (sym is)
@@ -70,7 +70,7 @@ module _ (checks : List Check) (x : Check) (c : ℕ) where
       (ap (λ k. target_holds (checks ++ (x ∷ [])) n (after_check k c) c) (get-before checks x n (omega arith)) ∙ below-same n (after_check (slice_get checks n) c) (omega arith))
       (below-same n t (omega arith))
 
--- the answers of what is made are as they were
+-- what is made answers as it did, with one check more
 pub answer-more : (before checks : List Check) (x : Check) (t : Target) (c : ℕ) → before ≡ checks ++ (x ∷ []) → IsTargetBelow (length checks) t → answer before t c ≡ answer checks t c
 answer-more before checks x target.Held c is below = held-is before c (length before) ∙ sym (held-is checks c (length checks))
 answer-more before checks x target.NotHeld c is below = not_held-is before c (length before) ∙ sym (not_held-is checks c (length checks))

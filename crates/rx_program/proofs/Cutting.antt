@@ -9,19 +9,19 @@ use Rattle.rx_ast.specs.declared.term.Term.{Term}
 use Rattle.rx_ast.specs.Tree as tree
 use Rattle.rx_ast.specs.Tree.{Node, Nodes, Alternatives, quantified, group, no_node, node, nodes, no_alternative, alternatives, mirror_term, mirror_alternative}
 use Rattle.rx_program.specs.declared.builder.Builder.{Builder}
-use Rattle.rx_program.specs.declared.builder.Setting.{Setting}
+use Rattle.rx_program.specs.declared.builder.Context.{Context}
 use Rattle.rx_program.specs.declared.builder.Task.{Task}
 use Rattle.rx_trace.specs.Groups.{groups_in}
-use Rattle.rx_trace.specs.Matching.{changed, looks_back}
+use Rattle.rx_trace.specs.Matching.{update_settings, looks_back}
 use Rattle.rx_program.specs.Codes.{Code, accept, reject}
 use Rattle.rx_program.specs.Steps.{code_at}
 use Rattle.rx_program.specs.Works.{Work, disjunction, earlier, terms, term, capturing, looking, repeating, entering, choosing, swapping, sequencing, groups_left, tests_left, on_one, all_worked, weights}
-use Rattle.rx_program.specs.Built.{disjunction_work, earlier_work, terms_work, term_work, work_of, works, codes_of, with_code, with_task, IsBuilding, Replaces, Builds}
-use Rattle.rx_program.proofs.Building.{with_last, with_last_alternative, nodes_last, alternatives_last, groups_last, groups_last_alternative, weight_last, weight_last_alternative, split_capturing, split_looking, split_ignoring, split_quantified, split_terms_ahead, split_terms_after, split_no_terms, split_disjunction, split_earlier, split_no_earlier}
-use Rattle.rx_program.proofs.Builders.{codes_with, program_with, program_without, program_tasks, builds, splits, works_with}
+use Rattle.rx_program.specs.BuilderState.{disjunction_work, earlier_work, terms_work, term_work, work_of, works, codes_of, with_code, with_task, IsBuilding, Replaces, Builds}
+use Rattle.rx_program.proofs.SmallerWorks.{with_last, with_last_alternative, nodes_last, alternatives_last, groups_last, groups_last_alternative, weight_last, weight_last_alternative, split_capturing, split_looking, split_ignoring, split_quantified, split_terms_ahead, split_terms_after, split_no_terms, split_disjunction, split_earlier, split_no_earlier}
+use Rattle.rx_program.proofs.BuilderSteps.{codes_with, program_with, program_without, program_tasks, builds, splits, works_with}
 use Rattle.rx_program.proofs.TestOrder.{nodes_tests-last, each_tests-last}
 
--- the same of an equal work, and an equal builder
+-- what holds of one piece of work and one builder holds of equal ones
 pub turned : (b after end : Builder) (w v : Work) → w ≡ v → after ≡ end → (IsBuilding b (v ∷ works b) → Builds b v end) → IsBuilding b (w ∷ works b) → Builds b w after
 turned b after end w v same pushed cut sound =
     subst (λ y. Builds b w y) (sym pushed) (subst (λ x. Builds b x end) (sym same) (cut (subst (λ x. IsBuilding b (x ∷ works b)) same sound)))
@@ -34,12 +34,12 @@ works_two b t u v w is is' =
     works_with (with_task b t) u ∙ ap (λ x. x ∷ works (with_task b t)) (is' (groups_left (works (with_task b t))))
     ∙ ap (λ ws. w ∷ ws) (works_with b t ∙ ap (λ x. x ∷ works b) (is (groups_left (works b))))
 
-pub cuts_no_terms : (b : Builder) (e : Setting) (ts : List Term) → length ts ≡ 0 → IsBuilding b (terms_work e ts ∷ works b) → Builds b (terms_work e ts) b
+pub cuts_no_terms : (b : Builder) (e : Context) (ts : List Term) → length ts ≡ 0 → IsBuilding b (terms_work e ts ∷ works b) → Builds b (terms_work e ts) b
 cuts_no_terms b e ts none =
     turned b b b (terms_work e ts) (terms e.settings e.back no_node) (ap (terms_work e) (nil_from_length ts none)) refl
     (λ sound. splits b b (terms e.settings e.back no_node) (works b) (codes_of b) sound refl refl refl sound.program refl refl (split_no_terms b.names.now (works b) e.settings e.back (codes_of b)) (omega arith) refl (omega arith))
 
-pub cuts_ahead : (b after : Builder) (e : Setting) (ts more : List Term) (last : Term) (t u : Task) → e.back ≡ false → ts ≡ more ++ (last ∷ []) → ((n : ℕ) → work_of n t ≡ terms_work e more) → ((n : ℕ) → work_of n u ≡ term_work e last)
+pub cuts_ahead : (b after : Builder) (e : Context) (ts more : List Term) (last : Term) (t u : Task) → e.back ≡ false → ts ≡ more ++ (last ∷ []) → ((n : ℕ) → work_of n t ≡ terms_work e more) → ((n : ℕ) → work_of n u ≡ term_work e last)
     → after ≡ with_task (with_task b t) u → IsBuilding b (terms_work e ts ∷ works b) → Builds b (terms_work e ts) after
 cuts_ahead b after e ts more last t u ahead cut is is' pushed =
     let s = e.settings in
@@ -52,7 +52,7 @@ cuts_ahead b after e ts more last t u ahead cut is is' pushed =
     (works_two b t u (terms s false ns) (term s false n) (λ k. is k ∙ ap (λ x. terms s x ns) ahead) (λ k. is' k ∙ ap (λ x. term s x n) ahead)) refl
     (split_terms_ahead b.names.now (works b) s false ns n (codes_of b)) (omega arith) (nodes_tests-last ns n (tests_left (works b))) (omega arith))
 
-pub cuts_after : (b after : Builder) (e : Setting) (ts more : List Term) (first : Term) (t u v w : Task) → e.back ≡ true → ts ≡ first ∷ more → ((n : ℕ) → work_of n t ≡ sequencing) → ((n : ℕ) → work_of n u ≡ term_work e first)
+pub cuts_after : (b after : Builder) (e : Context) (ts more : List Term) (first : Term) (t u v w : Task) → e.back ≡ true → ts ≡ first ∷ more → ((n : ℕ) → work_of n t ≡ sequencing) → ((n : ℕ) → work_of n u ≡ term_work e first)
     → ((n : ℕ) → work_of n v ≡ swapping) → ((n : ℕ) → work_of n w ≡ terms_work e more) → after ≡ with_task (with_task (with_task (with_task (with_code b 0) t) u) v) w → IsBuilding b (terms_work e ts ∷ works b) → Builds b (terms_work e ts) after
 cuts_after b after e ts more first t u v w back cut is is' is'' is''' pushed =
     let s = e.settings in
@@ -81,7 +81,7 @@ module _ (more : List Alternative) (last : Alternative) (body : List Term) where
   through_is : (all : List Alternative) → all ≡ more ++ (last ∷ []) → (mirror_alternative last).1 ≡ inner → alternatives (map mirror_alternative all) ≡ through
   through_is all cut is = ap (λ l. alternatives (map mirror_alternative l)) cut ∙ alternatives_last more last ∙ ap (with_last_alternative before (mirror_alternative last).0) is
 
-  pub cuts_disjunction : (b d after : Builder) (e : Setting) (all : List Alternative) (next : ℕ) (t u : Task) → all ≡ more ++ (last ∷ []) → (mirror_alternative last).1 ≡ inner
+  pub cuts_disjunction : (b d after : Builder) (e : Context) (all : List Alternative) (next : ℕ) (t u : Task) → all ≡ more ++ (last ∷ []) → (mirror_alternative last).1 ≡ inner
       → ((n : ℕ) → work_of n t ≡ earlier_work e more) → ((n : ℕ) → work_of n u ≡ terms_work e body) → b ≡ with_code d next → after ≡ with_task (with_task (with_code (with_code d next) next) t) u
       → IsBuilding b (disjunction_work e all ∷ works b) → Builds b (disjunction_work e all) after
   cuts_disjunction b d after e all next t u cut is_body is is' popped pushed sound =
@@ -101,7 +101,7 @@ module _ (more : List Alternative) (last : Alternative) (body : List Term) where
       (omega arith) (each_tests-last before span inner (tests_left (works c))) (omega arith))
       (subst (λ y. IsBuilding y (disjunction_work e all ∷ works y)) popped sound))
 
-  pub cuts_earlier : (b c d after : Builder) (e : Setting) (all : List Alternative) (entry next : ℕ) (t u v : Task) → all ≡ more ++ (last ∷ []) → (mirror_alternative last).1 ≡ inner
+  pub cuts_earlier : (b c d after : Builder) (e : Context) (all : List Alternative) (entry next : ℕ) (t u v : Task) → all ≡ more ++ (last ∷ []) → (mirror_alternative last).1 ≡ inner
       → ((n : ℕ) → work_of n t ≡ earlier_work e more) → ((n : ℕ) → work_of n u ≡ choosing) → ((n : ℕ) → work_of n v ≡ terms_work e body) → b ≡ with_code c entry → c ≡ with_code d next
       → after ≡ with_task (with_task (with_task (with_code (with_code (with_code d next) entry) next) t) u) v → IsBuilding b (earlier_work e all ∷ works b) → Builds b (earlier_work e all) after
   cuts_earlier b c d after e all entry next t u v cut is_body is is' is'' popped again pushed sound =
@@ -124,7 +124,7 @@ module _ (more : List Alternative) (last : Alternative) (body : List Term) where
       (omega arith) (each_tests-last before (mirror_alternative last).0 inner (tests_left (works whole))) (omega arith))
       (subst (λ y. IsBuilding y (earlier_work e all ∷ works y)) popped' sound))
 
-pub cuts_no_disjunction : (b after : Builder) (e : Setting) (all : List Alternative) → length all ≡ 0 → IsBuilding b (disjunction_work e all ∷ works b) → Replaces b (on_one (λ next. reject)) after → Builds b (disjunction_work e all) after
+pub cuts_no_disjunction : (b after : Builder) (e : Context) (all : List Alternative) → length all ≡ 0 → IsBuilding b (disjunction_work e all ∷ works b) → Replaces b (on_one (λ next. reject)) after → Builds b (disjunction_work e all) after
 cuts_no_disjunction b after e all none sound r =
     turned b after after (disjunction_work e all) (disjunction e.settings e.back no_alternative) (ap (disjunction_work e) (nil_from_length all none)) refl
     (λ sound. builds b after (disjunction e.settings e.back no_alternative) (on_one (λ next. reject)) sound (omega arith) refl (omega arith) (none_is (codes_of b)) r) sound
@@ -133,7 +133,7 @@ cuts_no_disjunction b after e all none sound r =
     none_is [] = refl
     none_is (c ∷ cs) = refl
 
-pub cuts_no_earlier : (b c d after : Builder) (e : Setting) (all : List Alternative) (entry next : ℕ) → length all ≡ 0 → b ≡ with_code c entry → c ≡ with_code d next → after ≡ with_code d entry
+pub cuts_no_earlier : (b c d after : Builder) (e : Context) (all : List Alternative) (entry next : ℕ) → length all ≡ 0 → b ≡ with_code c entry → c ≡ with_code d next → after ≡ with_code d entry
     → IsBuilding b (earlier_work e all ∷ works b) → Builds b (earlier_work e all) after
 cuts_no_earlier b c d after e all entry next none popped again pushed sound =
     let s = e.settings in
@@ -151,7 +151,7 @@ cuts_no_earlier b c d after e all entry next none popped again pushed sound =
     (omega arith) refl (omega arith))
     (subst (λ y. IsBuilding y (earlier_work e all ∷ works y)) popped' sound))
 
--- a term with a body, over the end of the body
+-- a term with a body is cut into its body and the end of the body
 pub cuts_body : (b after : Builder) (w v u : Work) (x : Work) (t t' : Task) → w ≡ x → ((n : ℕ) → work_of n t ≡ v) → ((n : ℕ) → work_of n t' ≡ u) → after ≡ with_task (with_task (with_code b 0) t) t'
     → all_worked b.names.now (x ∷ works b) (codes_of b) ≡ all_worked b.names.now (u ∷ v ∷ works b) (accept ∷ codes_of b) → groups_left (x ∷ works b) ≡ groups_left (u ∷ v ∷ works b) → tests_left (x ∷ works b) ≡ tests_left (u ∷ v ∷ works b) → weights (u ∷ v ∷ works b) < Rattle.rx_program.specs.Works.weight x + weights (works b)
     → IsBuilding b (w ∷ works b) → Builds b w after
@@ -161,7 +161,7 @@ cuts_body b after w v u x t t' same is is' pushed law groups tests fewer =
     (λ sound. splits b (with_task (with_task c t) t') x (u ∷ v ∷ works b) (accept ∷ codes_of b) sound refl refl refl (program_tasks (with_task c t) t' (program_tasks c t (program_with b 0 sound.program.some sound.program)))
     (works_two c t t' v u is is') (codes_with b 0 ∙ ap (λ c. c ∷ codes_of b) sound.program.end) law groups tests fewer)
 
-pub cuts_looking : (b after : Builder) (e inside : Setting) (d c : Span) (kind : LookAroundAssertionKind) (more : List Alternative) (n : Node) (t t' : Task) → n ≡ group d (tree.looking kind) c (alternatives (map mirror_alternative more))
+pub cuts_looking : (b after : Builder) (e inside : Context) (d c : Span) (kind : LookAroundAssertionKind) (more : List Alternative) (n : Node) (t t' : Task) → n ≡ group d (tree.looking kind) c (alternatives (map mirror_alternative more))
     → inside.settings ≡ e.settings → inside.back ≡ looks_back kind → ((k : ℕ) → work_of k t ≡ looking kind) → ((k : ℕ) → work_of k t' ≡ disjunction_work inside more)
     → after ≡ with_task (with_task (with_code b 0) t) t' → IsBuilding b (term e.settings e.back n ∷ works b) → Builds b (term e.settings e.back n) after
 cuts_looking b after e inside d c kind more n t t' mirrors settings back is is' pushed =
@@ -171,7 +171,7 @@ cuts_looking b after e inside d c kind more n t t' mirrors settings back is is' 
     (λ k. is' k ∙ ap (λ x. disjunction x inside.back ms) settings ∙ ap (λ x. disjunction s x ms) back) pushed
     (split_looking b.names.now (works b) s e.back d c kind ms (codes_of b)) refl refl (omega arith)
 
-pub cuts_capturing : (b after : Builder) (e : Setting) (d c : Span) (name : Option (List ℕ)) (more : List Alternative) (n : Node) (t t' : Task) → n ≡ group d (tree.capturing name) c (alternatives (map mirror_alternative more))
+pub cuts_capturing : (b after : Builder) (e : Context) (d c : Span) (name : Option (List ℕ)) (more : List Alternative) (n : Node) (t t' : Task) → n ≡ group d (tree.capturing name) c (alternatives (map mirror_alternative more))
     → ((k : ℕ) → work_of k t ≡ capturing) → ((k : ℕ) → work_of k t' ≡ disjunction_work e more) → after ≡ with_task (with_task (with_code b 0) t) t' → IsBuilding b (term e.settings e.back n ∷ works b) → Builds b (term e.settings e.back n) after
 cuts_capturing b after e d c name more n t t' mirrors is is' pushed =
     let s = e.settings in
@@ -179,21 +179,21 @@ cuts_capturing b after e d c name more n t t' mirrors is is' pushed =
     cuts_body b after (term s e.back n) capturing (disjunction s e.back ms) (term s e.back (group d (tree.capturing name) c ms)) t t' (ap (term s e.back) mirrors) is is' pushed
     (split_capturing b.names.now (works b) s e.back d c name ms (codes_of b)) (omega arith) refl (omega arith)
 
-pub cuts_ignoring : (b after : Builder) (e inside : Setting) (d c : Span) (m : Option Modifiers) (more : List Alternative) (n : Node) (t t' : Task) → n ≡ group d (tree.ignoring m) c (alternatives (map mirror_alternative more))
-    → inside.settings ≡ changed m e.settings → inside.back ≡ e.back → ((k : ℕ) → work_of k t ≡ entering) → ((k : ℕ) → work_of k t' ≡ disjunction_work inside more)
+pub cuts_ignoring : (b after : Builder) (e inside : Context) (d c : Span) (m : Option Modifiers) (more : List Alternative) (n : Node) (t t' : Task) → n ≡ group d (tree.ignoring m) c (alternatives (map mirror_alternative more))
+    → inside.settings ≡ update_settings m e.settings → inside.back ≡ e.back → ((k : ℕ) → work_of k t ≡ entering) → ((k : ℕ) → work_of k t' ≡ disjunction_work inside more)
     → after ≡ with_task (with_task b t) t' → IsBuilding b (term e.settings e.back n ∷ works b) → Builds b (term e.settings e.back n) after
 cuts_ignoring b after e inside d c m more n t t' mirrors settings back is is' pushed =
     let s = e.settings in
     let ms = alternatives (map mirror_alternative more) in
     let x = term s e.back (group d (tree.ignoring m) c ms) in
-    let u = disjunction (changed m s) e.back ms in
+    let u = disjunction (update_settings m s) e.back ms in
     turned b after (with_task (with_task b t) t') (term s e.back n) x (ap (term s e.back) mirrors) pushed
     (λ sound. splits b (with_task (with_task b t) t') x (u ∷ entering ∷ works b) (codes_of b) sound refl refl refl (program_tasks (with_task b t) t' (program_tasks b t sound.program))
-    (works_two b t t' entering u is (λ k. is' k ∙ ap (λ y. disjunction y inside.back ms) settings ∙ ap (λ y. disjunction (changed m s) y ms) back)) refl
+    (works_two b t t' entering u is (λ k. is' k ∙ ap (λ y. disjunction y inside.back ms) settings ∙ ap (λ y. disjunction (update_settings m s) y ms) back)) refl
     (split_ignoring b.names.now (works b) s e.back d c m ms (codes_of b)) refl refl (omega arith))
 
 -- how many groups open in a quantifier's body: as many as before its end and not before the body
-pub cuts_quantified : (b after : Builder) (e : Setting) (d : Span) (min : ℕ) (max : Option ℕ) (greedy : Bool) (body : Term) (n : Node) (t t' : Task) → n ≡ quantified d min max greedy (mirror_term body)
+pub cuts_quantified : (b after : Builder) (e : Context) (d : Span) (min : ℕ) (max : Option ℕ) (greedy : Bool) (body : Term) (n : Node) (t t' : Task) → n ≡ quantified d min max greedy (mirror_term body)
     → ((k : ℕ) → work_of k t ≡ repeating min max greedy (b.before - k)) → ((k : ℕ) → work_of k t' ≡ term_work e body) → after ≡ with_task (with_task (with_code b 0) t) t'
     → IsBuilding b (term e.settings e.back n ∷ works b) → Builds b (term e.settings e.back n) after
 cuts_quantified b after e d min max greedy body n t t' mirrors is is' pushed sound =

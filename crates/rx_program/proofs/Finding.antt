@@ -15,7 +15,7 @@ use Rattle.rx_program.specs.ClassTests.{Tests, row_tests, leaf_tests, node_tests
 use Rattle.rx_program.specs.ClassesFound.{unseen_tests, tests_of, unseen_of, unseen_weight, unseen_weights, with_unseen, with_row, Finds, FindsClass}
 use Rattle.rx_trace.specs.Holding.{class_holds}
 use Rattle.rx_program.specs.Works.{node_weight, nodes_weight, each_weight}
-use Rattle.rx_program.proofs.Building.{with_last, with_last_alternative, nodes_last, alternatives_last, weight_last, weight_last_alternative}
+use Rattle.rx_program.proofs.SmallerWorks.{with_last, with_last_alternative, nodes_last, alternatives_last, weight_last, weight_last_alternative}
 use Rattle.std.proofs.lemmas.List.{nil_from_length}
 use Rattle.rx_trace.proofs.Lists.{reverse-last}
 use Rattle.rx_program.proofs.TestOrder.{nodes_tests-last, each_tests-last}
@@ -27,7 +27,7 @@ row_tests-last (r ∷ rows) row = ap (λ ts. row_holds r ∷ ts) (row_tests-last
 unseen_with : (f : ClassFinder) (u : Unseen) → unseen_of (with_unseen f u) ≡ u ∷ unseen_of f
 unseen_with f u = reverse-last (f.unseen ++ (u ∷ [])) f.unseen u refl
 
--- what is still to be looked at, by what it is of
+-- what is still to be looked at: the tests that it has, and how many looks it takes
 pub record IsUnseen (u : Unseen) (tests : Tests → Tests) (most : ℕ) : Type 0 where
   pub tests_are : (before : Tests) → unseen_tests u before ≡ tests before
   pub few : unseen_weight u ≡ most

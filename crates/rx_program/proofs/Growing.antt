@@ -3,13 +3,13 @@ use Rattle.std.proofs.Common.{◌≡◌, refl, ap, sym, ◌∙◌, subst, ℕ, �
 use Rattle.std.proofs.lemmas.Bool.{eq-eqb}
 use Rattle.std.proofs.lemmas.List.{length-reverse}
 use Rattle.rx_program.specs.declared.step.Step.{Step}
-use Rattle.rx_program.specs.Built.{AreBelow}
+use Rattle.rx_program.specs.BuilderState.{AreBelow}
 use Rattle.rx_program.specs.Steps.{step_code, code_in, code_at}
 use Rattle.rx_program.specs.Steps.{NamesBelow, OrderedOf, AreOrdered}
 use Rattle.rx_trace.proofs.Lists.{reverse-last}
 use Rattle.rx_program.proofs.Programs.{apart-test}
 
--- the codes below are as they were
+-- the codes of the steps below the new one are as they were
 pub code-more : (before between : List Step) (x : Step) (i : ℕ) → before ≡ between ++ (x ∷ []) → i < length between → code_at before i ≡ code_at between i
 unfolding code_at
 code-more before between x i is below =

@@ -1,6 +1,5 @@
 pub mod Asking
-pub mod Builders
-pub mod Building
+pub mod BuilderSteps
 pub mod Cutting
 pub mod Finding
 pub mod Growing
@@ -9,6 +8,7 @@ pub mod Named
 pub mod Performing
 pub mod Programs
 pub mod RowMaking
-pub mod Surveying
+pub mod SmallerWorks
+pub mod SurveyState
 pub mod Tables
 pub mod TestOrder

@@ -14,10 +14,10 @@ use Rattle.rx_program.specs.declared.survey.Rest.{Rest}
 use Rattle.rx_program.specs.declared.survey.Surveyor.{Surveyor}
 use Rattle.rx_trace.specs.Groups.{Names, names_in, names_in_all, names_in_each}
 use Rattle.rx_trace.specs.Supported.{or_later, unsupported_modifiers}
-use Rattle.rx_program.specs.Surveyed.{unsupported_member, unsupported_members, unsupported_leaf, unsupported_node, unsupported_nodes, unsupported_each, unsupported_rest, names_rest, member_looks, members_looks, leaf_looks, node_looks, nodes_looks, each_looks, looks, with_rest, LookedAt}
-use Rattle.rx_program.proofs.Surveying.{looked_none, looked_one, looked_two, looked_same, looked_named}
+use Rattle.rx_program.specs.SurveyState.{unsupported_member, unsupported_members, unsupported_leaf, unsupported_node, unsupported_nodes, unsupported_each, unsupported_rest, names_rest, member_looks, members_looks, leaf_looks, node_looks, nodes_looks, each_looks, looks, with_rest, LookedAt}
+use Rattle.rx_program.proofs.SurveyState.{looked_none, looked_one, looked_two, looked_same, looked_named}
 
--- what a rest is of
+-- what a rest has: its first part that is not supported, its names, and how many looks it takes
 pub record IsRest (r : Rest) (refused : Option Span) (names : Names) (most : ℕ) : Type 0 where
   pub refuses : unsupported_rest r ≡ refused
   pub named : names_rest r ≡ names
@@ -41,7 +41,7 @@ looked_alternatives s after all more first body r q is is_body of_r of_q pushed 
     (ap (λ u. or_later u (unsupported_each ms)) (sym of_q.refuses) ∙ ap (or_later (unsupported_rest q)) (sym of_r.refuses))
     (ap (λ u. u ++ names_in_each ms) (sym of_q.named) ∙ ap (λ u. names_rest q ++ u) (sym of_r.named)) (omega arith))
 
--- contents of a class: the first of them may hold more
+-- contents of a class, of which the first may be looked at further
 pub looked_contents : (s after : Surveyor) (all more : List CharacterClassContents) (first : CharacterClassContents) (r : Rest) → all ≡ first ∷ more → unsupported_member (mirror_contents first) ≡ None
     → IsRest r (unsupported_members (members (map mirror_contents more))) [] (1 + members_looks (members (map mirror_contents more))) → after ≡ with_rest s r
     → LookedAt s (unsupported_members (members (map mirror_contents all))) [] (1 + members_looks (members (map mirror_contents all))) after None
@@ -102,7 +102,7 @@ looked_capturing s t after n d c name more it is named looked =
     looked_same s after (unsupported_node n) (unsupported_each more) (names_in n) (name ∷ names_in_each more) (node_looks n) (2 + each_looks more) it (ap unsupported_node is) (ap names_in is) (ap node_looks is)
     (looked_named s t after (unsupported_each more) name (names_in_each more) (2 + each_looks more) it named looked)
 
-pub looked_ignoring : (s after : Surveyor) (n : Node) (d c : Span) (m : Option Modifiers) (more : Alternatives) (it : Option Span) → n ≡ group d (tree.ignoring m) c more → Rattle.rx_program.specs.Surveyed.unsupported_opener (tree.ignoring m) ≡ None
+pub looked_ignoring : (s after : Surveyor) (n : Node) (d c : Span) (m : Option Modifiers) (more : Alternatives) (it : Option Span) → n ≡ group d (tree.ignoring m) c more → Rattle.rx_program.specs.SurveyState.unsupported_opener (tree.ignoring m) ≡ None
     → LookedAt s (unsupported_each more) (names_in_each more) (2 + each_looks more) after it → LookedAt s (unsupported_node n) (names_in n) (node_looks n) after it
 looked_ignoring s after n d c m more it is none looked =
     looked_same s after (unsupported_node n) (unsupported_each more) (names_in n) (names_in_each more) (node_looks n) (2 + each_looks more) it (ap unsupported_node is ∙ ap (λ u. or_later u (unsupported_each more)) none) (ap names_in is) (ap node_looks is) looked
@@ -115,7 +115,7 @@ ignored_refused s n d c None more (Some span) is m some = absurd (cc)
 ignored_refused s n d c (Some ms) more None is m some = absurd (Rattle.std.proofs.lemmas.Bool.false≢true some)
 ignored_refused s n d c (Some ms) more (Some span) is m some = ap unsupported_node is ∙ ap (λ u. or_later u (unsupported_each more)) (sym m)
 
-pub none_refused : (m : Option Modifiers) (it : Option Span) → MatchOption m (it ≡ None) (λ m. it ≡ unsupported_modifiers m) → it ≡ None → Rattle.rx_program.specs.Surveyed.unsupported_opener (tree.ignoring m) ≡ None
+pub none_refused : (m : Option Modifiers) (it : Option Span) → MatchOption m (it ≡ None) (λ m. it ≡ unsupported_modifiers m) → it ≡ None → Rattle.rx_program.specs.SurveyState.unsupported_opener (tree.ignoring m) ≡ None
 none_refused None it m none = refl
 none_refused (Some ms) it m none = sym m ∙ none
 

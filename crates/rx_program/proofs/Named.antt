@@ -46,7 +46,7 @@ module _ (name : List ℕ) (n : Option (List ℕ)) (ns : Names) (i : ℕ) (slots
   from_here [] e = from_none e (is_named name n)
   from_here (s ∷ more) e = from_some s more e (is_named name n)
 
--- the first set group of a name, from a number on
+-- the first group of a name, from a number on, whose slot is set
 among_named : (name : List ℕ) (names : Names) (i : ℕ) (slots : List Slot) → slot_among (numbers_named name names i) slots ≡ slot_named name names (drop i slots)
 among_named name [] i slots = refl
 among_named name (n ∷ ns) i slots = from_here name n ns i slots (among_named name ns (suc i) slots) (drop i slots) refl

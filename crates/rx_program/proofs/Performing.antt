@@ -4,7 +4,7 @@ use Rattle.rx_ast.specs.ClassTree.{Class}
 use Rattle.rx_ast.specs.Tree as tree
 use Rattle.rx_ast.specs.Tree.{Leaf, Node, Alternatives, leaf}
 use Rattle.rx_program.specs.declared.builder.Builder.{Builder}
-use Rattle.rx_program.specs.declared.builder.Setting.{Setting}
+use Rattle.rx_program.specs.declared.builder.Context.{Context}
 use Rattle.rx_program.specs.declared.builder.Task.{Task}
 use Rattle.rx_program.specs.declared.step.Step.TheVariants as step
 use Rattle.rx_trace.specs.Groups.{Names, groups_in_each}
@@ -18,10 +18,10 @@ use Rattle.rx_trace.specs.Holding.{class_holds}
 use Rattle.rx_trace.specs.declared.settings.Settings.{Settings}
 use Rattle.rx_program.specs.Steps.{AreOrdered}
 use Rattle.rx_program.specs.Works.{Work, term, disjunction, repeating, groups_left, tests_left, on_one, on_two, worked, all_worked, weights}
-use Rattle.rx_program.specs.Built.{work_of, works_of, works, codes_of, with_code, IsBuilding, Replaces, TakesRow, Builds}
+use Rattle.rx_program.specs.BuilderState.{work_of, works_of, works, codes_of, with_code, IsBuilding, Replaces, TakesRow, Builds}
 use Rattle.rx_trace.proofs.Lists.{reverse-last, length-last}
 use Rattle.rx_program.proofs.Growing.{code-new, ordered-more, ordered-none}
-use Rattle.rx_program.proofs.Builders.{codes_with, builds, codes-length}
+use Rattle.rx_program.proofs.BuilderSteps.{codes_with, builds, codes-length}
 use Rattle.rx_program.proofs.Cutting.{turned}
 
 -- the work of a task
@@ -38,7 +38,7 @@ pub builds_about : (b after : Builder) (t u : Task) → t ≡ u → Builds b (wo
 builds_about b after t u same done = subst (λ x. Builds b (work b x) after) (sym same) done
 
 -- a term with no term in it
-pub leaf_done : (b after : Builder) (e : Setting) (n : Node) (l : Leaf) (f : Code → Code) → n ≡ leaf l → ((next : Code) → leaf_code b.names.now e.settings l next ≡ f next)
+pub leaf_done : (b after : Builder) (e : Context) (n : Node) (l : Leaf) (f : Code → Code) → n ≡ leaf l → ((next : Code) → leaf_code b.names.now e.settings l next ≡ f next)
     → ((before : Tests) → leaf_tests l before ≡ before) → IsBuilding b (term e.settings e.back n ∷ works b) → Replaces b (on_one f) after → Builds b (term e.settings e.back n) after
 leaf_done b after e n l f mirrors codes classless sound r =
     turned b after after (term e.settings e.back n) (term e.settings e.back (leaf l)) (ap (term e.settings e.back) mirrors) refl
@@ -52,7 +52,7 @@ first-test : (t u : ℕ → Bool) (ts us : Tests) → t ∷ ts ≡ u ∷ us → 
 first-test t u ts us e = ((cc), (cc))
 
 -- a class, whose row is the first of those that are left
-pub class_done : (b d after : Builder) (e : Setting) (n : Node) (k : Class) (row : ClassRow) → n ≡ leaf (tree.class k) → TakesRow b row d → IsBuilding b (term e.settings e.back n ∷ works b) → Replaces d (on_one (consume (row_holds row))) after
+pub class_done : (b d after : Builder) (e : Context) (n : Node) (k : Class) (row : ClassRow) → n ≡ leaf (tree.class k) → TakesRow b row d → IsBuilding b (term e.settings e.back n ∷ works b) → Replaces d (on_one (consume (row_holds row))) after
     → Builds b (term e.settings e.back n) after
 class_done b d after e n k row mirrors t sound r =
     turned b after after (term e.settings e.back n) (term e.settings e.back (leaf (tree.class k))) (ap (term e.settings e.back) mirrors) refl
@@ -80,7 +80,7 @@ class_done b d after e n k row mirrors t sound r =
     leaf_is [] = refl
     leaf_is (c ∷ cs) = refl
 
-pub some_row : (b : Builder) (e : Setting) (n : Node) (k : Class) → n ≡ leaf (tree.class k) → IsBuilding b (term e.settings e.back n ∷ works b) → 0 < length b.rows.now
+pub some_row : (b : Builder) (e : Context) (n : Node) (k : Class) → n ≡ leaf (tree.class k) → IsBuilding b (term e.settings e.back n ∷ works b) → 0 < length b.rows.now
 some_row b e n k mirrors sound = by_rows b.rows.now (sound.rows ∙ ap (λ x. tests_left (term e.settings e.back x ∷ works b)) mirrors)
   where
     by_rows : (rows : List ClassRow) → row_tests rows ≡ class_holds k ∷ tests_left (works b) → 0 < length rows
@@ -94,7 +94,7 @@ builds_repeating b after min max greedy end count counted sound r =
     builds b after (repeating min max greedy (end - b.before)) (on_two (repeat min max greedy b.before count)) sound refl refl (omega arith)
     (ap (λ k. on_two (repeat min max greedy k (end - b.before)) (codes_of b)) (sym sound.before) ∙ ap (λ k. on_two (repeat min max greedy b.before k) (codes_of b)) (sym counted)) r
 
--- the number of groups below is that before the term
+-- the number of groups in the works below is the number of groups before the term
 pub repeating_same : (b : Builder) (min : ℕ) (max : Option ℕ) (greedy : Bool) (end : ℕ) → IsBuilding b (repeating min max greedy (end - groups_left (works b)) ∷ works b)
     → repeating min max greedy (end - b.before) ≡ repeating min max greedy (end - groups_left (works b))
 repeating_same b min max greedy end sound = ap (λ k. repeating min max greedy (end - k)) sound.before
@@ -173,7 +173,7 @@ makes_first b t names e back more named stepped coded tasked is before rows =
       sound = record {
         program = record {
           ordered = ordered-more b.steps [] step.Accept stepped tt ordered-none;
-          below = subst (Rattle.rx_program.specs.Built.AreBelow (length b.steps)) (sym codes) (some, tt);
+          below = subst (Rattle.rx_program.specs.BuilderState.AreBelow (length b.steps)) (sym codes) (some, tt);
           some = some;
           end = first;
         };

@@ -17,7 +17,7 @@ use Rattle.rx_program.specs.declared.row_builder.RowBuilder.{RowBuilder}
 use Rattle.rx_program.specs.Checks.{item_holds, answer}
 use Rattle.rx_trace.specs.Holding.{member_holds, any_holds, all_hold, first_holds, class_holds, negate_if}
 use Rattle.rx_program.specs.RowParts.{part_answer, parts_answer, outcome, row_answer, IsTargetBelow, IsPartBelow, ArePartsBelow, IsRow, CanLead, with_part, with_target, with_check, part_weight, part_weights, LeadsOn, MakesPart}
-use Rattle.rx_program.specs.Surveyed.{member_looks, members_looks, class_looks}
+use Rattle.rx_program.specs.SurveyState.{member_looks, members_looks, class_looks}
 use Rattle.rx_trace.proofs.Lists.{reverse-last, length-last}
 use Rattle.std.proofs.lemmas.List.{nil_from_length}
 use Rattle.rx_program.proofs.Asking.{held-is, not_held-is, answer-more, answer-new}
@@ -93,7 +93,7 @@ led_turned b after holds other most held not_held same led = record {
   fewer = led.fewer;
 }
 
--- what a part is of
+-- what a part makes, and how much work it is
 pub record IsPart (p : Part) (makes : List Check → ℕ → Bool → Bool) (t : Target) (weight : ℕ) : Type 0 where
   pub answers : (checks : List Check) (c : ℕ) (made : Bool) → part_answer checks c p made ≡ makes checks c made
   pub below : (n : ℕ) → IsTargetBelow n t → IsPartBelow n p
@@ -108,7 +108,7 @@ makes_all ms not_held checks c made = if all_hold ms c then made else answer che
 abbrev pub makes_item : Member → Target → List Check → ℕ → Bool → Bool
 makes_item m not_held checks c made = if member_holds m c then made else answer checks not_held c
 
--- a part is left for later
+-- a test is made by leaving a part for later
 led_part : (b after : RowBuilder) (holds : ℕ → Bool) (most : ℕ) (held not_held t u : Target) (p : Part) (makes : List Check → ℕ → Bool → Bool) (weight : ℕ) → IsPart p makes u weight → after ≡ with_part (with_target b t) p
     → ((c : ℕ) → makes b.checks c (answer b.checks t c) ≡ (if holds c then answer b.checks held c else answer b.checks not_held c)) → ArePartsBelow (length b.checks) (reverse b.parts) → IsTargetBelow (length b.checks) t → IsTargetBelow (length b.checks) u → weight ≤ most
     → LeadsOn b holds most held not_held after
@@ -133,7 +133,7 @@ pub led_intersection : (b after : RowBuilder) (ms : Members) (held not_held : Ta
 led_intersection b after ms held not_held p is pushed can =
     led_part b after (all_hold ms) (1 + 2 * members_looks ms) held not_held held not_held p (makes_all ms not_held) (1 + 2 * members_looks ms) is pushed (λ c. refl) can.parts can.held_below can.not_held_below (omega arith)
 
--- a first item that holds and no later one
+-- the first item holds, and no later one
 first-if : (m any x y : Bool) → (if m then (if any then y else x) else y) ≡ (if m && not any then x else y)
 first-if true true x y = refl
 first-if true false x y = refl
@@ -288,7 +288,7 @@ made_item b after m _ q is led =
       fewer = omega arith;
     }
 
--- what is made comes to a class
+-- What is made and what is left make up the row of a class.
 pub record MakesClass (b : RowBuilder) (k : Class) : Type 0 where
   pub answers : (c : ℕ) → row_answer b c ≡ class_holds k c
   pub row : IsRow b (reverse b.parts)
@@ -326,14 +326,14 @@ class_fewer b after parts p is done = let e = ap part_weights (reverse-last b.pa
 pub class_made : (b : RowBuilder) (k : Class) → b.parts ≡ [] → MakesClass b k → (c : ℕ) → answer b.checks b.target c ≡ class_holds k c
 class_made b k none makes c = ap (λ ps. parts_answer b.checks c (reverse ps) (answer b.checks b.target c)) (sym none) ∙ makes.answers c
 
--- a part that is made is of a row
+-- the targets of a part of a row
 pub can_any : (b : RowBuilder) (p : Part) (t : Target) → IsRow b (p ∷ reverse b.parts) → ((n : ℕ) → IsPartBelow n p → IsTargetBelow n t) → CanLead b t b.target
 can_any b p t row below = record { parts = row.parts.1; held_below = below (length b.checks) row.parts.0; not_held_below = row.begins }
 
 pub can_all : (b : RowBuilder) (p : Part) (t : Target) → IsRow b (p ∷ reverse b.parts) → ((n : ℕ) → IsPartBelow n p → IsTargetBelow n t) → CanLead b b.target t
 can_all b p t row below = record { parts = row.parts.1; held_below = row.begins; not_held_below = below (length b.checks) row.parts.0 }
 
--- one part more leaves the rest as it was
+-- with one part more the parts before it stay as they were
 parts-with : (b : RowBuilder) (p : Part) → IsPartBelow (length b.checks) p → ArePartsBelow (length b.checks) (reverse b.parts) → ArePartsBelow (length b.checks) (reverse (b.parts ++ (p ∷ [])))
 parts-with b p below parts = subst (ArePartsBelow (length b.checks)) (sym (reverse-last (b.parts ++ (p ∷ [])) b.parts p refl)) (below, parts)
 

@@ -40,7 +40,7 @@ module _ (word i : ℕ) (holds : ℕ → Bool) (within : i < 64) (was : Answers 
     above = λ k h. was.above k (omega arith);
   }
 
-  -- one answer more
+  -- with one answer more
   pub answers_on : (b : Bool) → holds i ≡ b → Answers (if b then set else word) (i + 1) holds
   answers_on true held = answers_set held
   answers_on false held = answers_kept held

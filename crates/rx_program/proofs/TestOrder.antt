@@ -3,7 +3,7 @@ use Rattle.std.proofs.Common.{◌≡◌, refl}
 use Rattle.rx_base.specs.declared.span.Span.{Span}
 use Rattle.rx_ast.specs.Tree.{Node, Nodes, Alternatives, no_node, node, no_alternative, alternative}
 use Rattle.rx_program.specs.ClassTests.{Tests, node_tests, nodes_tests, each_tests}
-use Rattle.rx_program.proofs.Building.{with_last, with_last_alternative}
+use Rattle.rx_program.proofs.SmallerWorks.{with_last, with_last_alternative}
 
 pub nodes_tests-last : (ns : Nodes) (n : Node) (before : Tests) → nodes_tests (with_last ns n) before ≡ node_tests n (nodes_tests ns before)
 nodes_tests-last no_node n before = refl

@@ -18,7 +18,7 @@ item_holds (item.Escape kind) c = escape_holds kind c
 abbrev pub target_after : Check → ℕ → Target
 target_after check c = if item_holds check.test c then check.held else check.not_held
 
--- where there is no check, nothing is held
+-- what comes after a check; where there is no check, nothing is held
 abbrev pub after_check : Option Check → ℕ → Target
 after_check None c = target.NotHeld
 after_check (Some check) c = target_after check c
@@ -33,12 +33,12 @@ is_check n (target.Check i) = i == n
 is_check n target.Held = false
 is_check n target.NotHeld = false
 
--- what comes of a target, where only the checks below a number are asked, and after each only those before it
+-- the answer of a target, where only checks below a number are asked, and after each only those before it
 abbrev pub target_holds : List Check → ℕ → Target → ℕ → Bool
 target_holds checks zero t c = is_held t
 target_holds checks (suc n) t c = if is_check n t then target_holds checks n (after_check (slice_get checks n) c) c else target_holds checks n t c
 
--- of all checks
+-- the same where all checks may be asked
 abbrev pub answer : List Check → Target → ℕ → Bool
 answer checks t c = target_holds checks (length checks) t c
 

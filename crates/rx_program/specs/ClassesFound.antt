@@ -1,4 +1,4 @@
--- What is found of the classes of a tree, and what is still to be looked at.
+-- What has been found of the classes of a tree, and what is still to be looked at.
 use Rattle.std.specs.Prelude.{◌≡◌, ℕ, ◌+◌, ◌<◌, List, [], ◌∷◌, ◌++◌, map, reverse}
 use Rattle.rx_ast.specs.ClassTree.{Class}
 use Rattle.rx_ast.specs.Tree.{alternatives, nodes, mirror_alternative, mirror_term}
@@ -22,7 +22,7 @@ tests_of (u ∷ us) = unseen_tests u (tests_of us)
 abbrev pub unseen_of : ClassFinder → List Unseen
 unseen_of f = reverse f.unseen
 
--- how often something is looked at, at most
+-- the most looks that something takes
 abbrev pub unseen_weight : Unseen → ℕ
 unseen_weight (unseen.Alternatives more) = 1 + each_weight (alternatives (map mirror_alternative more.now))
 unseen_weight (unseen.Terms ts) = 1 + nodes_weight (nodes (map mirror_term ts.now))
@@ -38,12 +38,12 @@ with_unseen f u = record f { unseen = f.unseen ++ (u ∷ []) }
 abbrev pub with_row : ClassFinder → ClassRow → ClassFinder
 with_row f row = record f { rows = f.rows ++ (row ∷ []) }
 
--- Something was looked at that has these tests, in so many looks at most: the same tests come out.
+-- Something was looked at that has these tests and takes at most `most` looks: the same tests come out in the end.
 pub record Finds (f : ClassFinder) (tests : Tests → Tests) (most : ℕ) (after : ClassFinder) : Type 0 where
   pub same : row_tests f.rows ++ tests (tests_of (unseen_of f)) ≡ row_tests after.rows ++ tests_of (unseen_of after)
   pub fewer : unseen_weights (unseen_of after) < most + unseen_weights (unseen_of f)
 
--- a row was found that holds what a class holds
+-- a row was added that holds what the class holds
 pub record FindsClass (f : ClassFinder) (k : Class) (after : ClassFinder) : Type 0 where
   pub rows : row_tests after.rows ≡ row_tests f.rows ++ (class_holds k ∷ [])
   pub unseen : after.unseen ≡ f.unseen

@@ -5,10 +5,10 @@ use Rattle.rx_ast.specs.Tree.{Leaf, Node, Nodes, Alternatives, leaf, quantified,
 use Rattle.rx_trace.specs.Holding.{is_line_terminator, escape_holds, class_holds}
 use Rattle.rx_trace.specs.Groups.{Names, slot_of, slot_named, groups_in, groups_in_all}
 use Rattle.rx_trace.specs.declared.settings.Settings.{Settings}
-use Rattle.rx_trace.specs.Matching.{changed, looks_back}
+use Rattle.rx_trace.specs.Matching.{update_settings, looks_back}
 use Rattle.rx_program.specs.Codes.{Code, accept, reject, consume, assert, refer, enter_group, choose, sequence, capture, look_around, repeat}
 
--- a last alternative needs no choice
+-- A choice between an alternative and the next ones; the last alternative needs none.
 abbrev pub chosen : Code → Alternatives → Code → Code
 chosen first no_alternative other = first
 chosen first (alternative d ns more) other = choose first other
@@ -29,7 +29,7 @@ module _ (names : Names) where
     node_code (leaf l) e back before next = leaf_code e l next
     node_code (quantified d min max greedy n) e back before next = repeat min max greedy before (groups_in n) (node_code n e back before accept) next
     node_code (group d (capturing name) c more) e back before next = capture before (each_code more e back (suc before) accept) next
-    node_code (group d (ignoring m) c more) e back before next = enter_group (each_code more (changed m e) back before next)
+    node_code (group d (ignoring m) c more) e back before next = enter_group (each_code more (update_settings m e) back before next)
     node_code (group d (looking kind) c more) e back before next = look_around kind (each_code more e (looks_back kind) before accept) next
 
     pub nodes_code : Nodes → Settings → Bool → ℕ → Code → Code

@@ -1,4 +1,4 @@
-pub mod Built
+pub mod BuilderState
 pub mod Checks
 pub mod ClassTests
 pub mod ClassesFound
@@ -7,5 +7,5 @@ pub mod Compiled
 pub mod Named
 pub mod RowParts
 pub mod Steps
-pub mod Surveyed
+pub mod SurveyState
 pub mod Works

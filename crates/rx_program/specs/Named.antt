@@ -7,7 +7,7 @@ use Rattle.rx_trace.specs.declared.answer.Slot.{Slot}
 use Rattle.rx_trace.specs.declared.answer.Slot.TheVariants.{Unset}
 use Rattle.rx_trace.specs.Groups.{Names, is_named, is_set}
 
--- the numbers of the groups of a name, where the first of the names is that of a group of this number
+-- the numbers of the groups of a name, where the first of these names is that of the group with this number
 abbrev pub numbers_named : List ℕ → Names → ℕ → List ℕ
 numbers_named name [] i = []
 numbers_named name (n ∷ ns) i = if is_named name n then i ∷ numbers_named name ns (suc i) else numbers_named name ns (suc i)

@@ -32,7 +32,7 @@ step_code (step.Capture g body next) f = capture g (f body) (f next)
 step_code (step.LookAround kind body next) f = look_around kind (f body) (f next)
 step_code (step.Repeat t body next) f = repeat t.min t.max t.greedy t.from t.count (f body) (f next)
 
--- the code of the step of a number, of steps from the last to the first
+-- the code of the step with a number, in steps from the last to the first
 abbrev pub code_in : List Step → ℕ → Code
 code_in [] i = reject
 code_in (s ∷ before) i = if i == length before then step_code s (code_in before) else code_in before i
@@ -55,7 +55,7 @@ NamesBelow n (step.Capture g body next) = (body < n) × (next < n)
 NamesBelow n (step.LookAround kind body next) = (body < n) × (next < n)
 NamesBelow n (step.Repeat t body next) = (body < n) × (next < n)
 
--- of steps from the last to the first, each names such before it
+-- In steps from the last to the first, each names only steps before it.
 abbrev pub OrderedOf : List Step → Type 0
 OrderedOf [] = Unit {0}
 OrderedOf (s ∷ before) = NamesBelow (length before) s × OrderedOf before

@@ -21,12 +21,12 @@ pub data Work : Type 0 where
   looking : LookAroundAssertionKind → Work
   repeating : ℕ → Option ℕ → Bool → ℕ → Work
   entering : Work
-  -- two codes made one, or put the other way round
+  -- two codes are made into one, or change places
   choosing : Work
   swapping : Work
   sequencing : Work
 
--- how many groups open in what is still to be compiled, so before what is compiled
+-- how many groups open in what is still to be compiled, and so before what is compiled
 abbrev pub groups_left : List Work → ℕ
 groups_left [] = 0
 groups_left (disjunction e back more ∷ ws) = groups_in_each more + groups_left ws
@@ -41,7 +41,7 @@ groups_left (choosing ∷ ws) = groups_left ws
 groups_left (swapping ∷ ws) = groups_left ws
 groups_left (sequencing ∷ ws) = groups_left ws
 
--- what the classes hold of what is still to be compiled, from the last to the first
+-- what the classes in what is still to be compiled hold, from the last class to the first
 abbrev pub tests_left : List Work → Tests
 tests_left [] = []
 tests_left (disjunction e back more ∷ ws) = each_tests more (tests_left ws)
@@ -65,19 +65,19 @@ on_two f [] = []
 on_two f (c ∷ []) = []
 on_two f (c ∷ d ∷ cs) = f c d ∷ cs
 
-abbrev pub swapped : List Code → List Code
-swapped [] = []
-swapped (c ∷ []) = []
-swapped (c ∷ d ∷ cs) = d ∷ c ∷ cs
+abbrev pub swap : List Code → List Code
+swap [] = []
+swap (c ∷ []) = []
+swap (c ∷ d ∷ cs) = d ∷ c ∷ cs
 
 module _ (names : Names) where
-  -- the code of alternatives, where that of the alternatives after them is known
+  -- the code of alternatives, where the code of the alternatives after them is known
   abbrev pub earlier_code : Alternatives → Settings → Bool → ℕ → Code → Code → Code
   earlier_code no_alternative e back before next entry = entry
   earlier_code (alternative d ns more) e back before next entry =
       choose (nodes_code names ns e back before next) (earlier_code more e back (before + groups_in_all ns) next entry)
 
-  -- what a work makes of the last codes
+  -- the codes after a piece of work, which changes the last of them
   abbrev pub worked : Work → ℕ → List Code → List Code
   worked (disjunction e back more) before cs = on_one (each_code names more e back before) cs
   worked (earlier e back more) before cs = on_two (λ entry next. earlier_code more e back before next entry) cs
@@ -88,15 +88,15 @@ module _ (names : Names) where
   worked (repeating min max greedy count) before cs = on_two (repeat min max greedy before count) cs
   worked entering before cs = on_one code.enter_group cs
   worked choosing before cs = on_two choose cs
-  worked swapping before cs = swapped cs
+  worked swapping before cs = swap cs
   worked sequencing before cs = on_two (λ second first. sequence first second) cs
 
-  -- the codes that come out
+  -- the codes after all work
   abbrev pub all_worked : List Work → List Code → List Code
   all_worked [] cs = cs
   all_worked (w ∷ ws) cs = all_worked ws (worked w (groups_left ws) cs)
 
--- how many works come of a tree, at most
+-- the most pieces of work that are made of a tree
 abbrev mutual
   pub node_weight : Node → ℕ
   node_weight (leaf l) = 1

@@ -2,8 +2,8 @@ ghost use Rattle.std.specs.Prelude.{◌≡◌, ◌<◌, ◌≤◌, suc, length, 
 ghost use Rattle.rx_trace.specs.Groups.{slot_of, slot_named};
 ghost use Rattle.rx_program.specs.Codes.{assert as assert_code, capture as capture_code, choose as choose_code, consume as consume_code, enter_group as enter_group_code, look_around as look_around_code, refer as refer_code, reject as reject_code, repeat as repeat_code, sequence as sequence_code};
 ghost use Rattle.rx_program.specs.Steps.{test_holds};
-ghost use Rattle.rx_program.specs.Works.{on_one, on_two, swapped};
-ghost use Rattle.rx_program.specs.Built.{IsProgram, Replaces, TakesRow, with_code, with_step, with_task};
+ghost use Rattle.rx_program.specs.Works.{on_one, on_two, swap};
+ghost use Rattle.rx_program.specs.BuilderState.{IsProgram, Replaces, TakesRow, with_code, with_step, with_task};
 
 use crate::checks::ClassRow;
 use crate::names::GroupNames;
@@ -14,7 +14,7 @@ use rx_trace::Settings;
 
 /// The settings that a term is compiled under, and whether it is matched backward.
 #[derive(Clone, Copy)]
-pub struct Setting {
+pub struct Context {
     pub settings: Settings,
     pub back: bool,
 }
@@ -24,20 +24,20 @@ pub struct Setting {
 pub enum Task<'a> {
     /// A disjunction.
     Disjunction {
-        setting: Setting,
+        context: Context,
         alternatives: &'a [Alternative],
     },
-    /// The alternatives of a disjunction before those that are compiled.
+    /// The alternatives of a disjunction that stand before those already compiled.
     Earlier {
-        setting: Setting,
+        context: Context,
         alternatives: &'a [Alternative],
     },
     Terms {
-        setting: Setting,
+        context: Context,
         terms: &'a [Term],
     },
     Term {
-        setting: Setting,
+        context: Context,
         term: &'a Term,
     },
     Capture,
@@ -55,8 +55,8 @@ pub enum Task<'a> {
     Sequence,
 }
 
-/// A program that is built from its end: the rows of the classes that are not compiled, the last first, its steps, what is still to be compiled, the codes
-/// that are made and not yet part of another, each the number of its first step, and how many groups open before what is compiled.
+/// A program that is built from its end: the rows of the classes that are not yet compiled, the last first; its steps; what is still to be compiled; the codes
+/// that are made and not yet part of another, each as the number of its first step; and how many groups open before what is compiled.
 #[derive(Drop)]
 pub struct Builder<'a> {
     pub names: &'a GroupNames,
@@ -91,7 +91,7 @@ impl<'a> Builder<'a> {
         }
     }
 
-    /// The row of the last class that is not compiled.
+    /// The row of the last class that is not yet compiled.
     pub fn pop_row(&mut self) -> &'a ClassRow
         requires { 0 < length self.old.rows.now }
         ensures { TakesRow self.old result.now self.new }
@@ -115,7 +115,7 @@ impl<'a> Builder<'a> {
     }
 }
 
-/// One code becomes part of another.
+/// Steps that make one code part of another.
 impl<'a> Builder<'a> {
     pub fn reject(&mut self) -> Result<(), OutOfMemory>
         requires program { IsProgram self.old }
@@ -182,7 +182,7 @@ impl<'a> Builder<'a> {
     }
 }
 
-/// Two codes become part of another.
+/// Steps that make two codes part of another.
 impl<'a> Builder<'a> {
     pub fn choose(&mut self) -> Result<(), OutOfMemory>
         requires program { IsProgram self.old }
@@ -237,7 +237,7 @@ impl<'a> Builder<'a> {
     pub fn swap(&mut self) -> Result<(), OutOfMemory>
         requires program { IsProgram self.old }
         requires codes { 2 ≤ length self.old.codes }
-        ensures { OnOk result (Replaces self.old swapped self.new) }
+        ensures { OnOk result (Replaces self.old swap self.new) }
     {
         let one = self.pop_code();
         let other = self.pop_code();

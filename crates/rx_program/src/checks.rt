@@ -31,6 +31,7 @@ pub struct Check {
 }
 
 /// A class as checks, and its answers for the values below 128, of which `low` has the first 64, a bit for each.
+// Why: docs/DECISIONS.md, 80.
 #[derive(Drop)]
 pub struct ClassRow {
     pub low: u64,
@@ -59,7 +60,7 @@ fn target_after(check: Check, c: u32) -> Target
     }
 }
 
-/// Asks checks, from a target on. Each is asked at most once.
+/// Whether a unit is held, by the checks from a target on. Each check is asked at most once.
 fn target_holds(checks: &[Check], first: Target, c: u32) -> bool
     ensures { result ≡ target_holds_it checks.now (length checks.now) first c }
 {
@@ -94,7 +95,7 @@ fn with_bit(word: u64, bit: u32, set: bool) -> u64
     if set { word | 1 << bit } else { word }
 }
 
-/// The answers for the 64 values from one on, a bit for each.
+/// The answers for the 64 values from `start` on, a bit for each.
 pub fn answers_from(checks: &[Check], first: Target, start: u32) -> u64
     requires { start ≤ 64 }
     ensures { (k : ℕ) → k < 64 → (bit_at result k == 1) ≡ target_holds_it checks.now (length checks.now) first (start + k) }

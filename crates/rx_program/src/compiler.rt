@@ -7,9 +7,9 @@ ghost use Rattle.rx_trace.specs.Groups.{groups_in_each};
 ghost use Rattle.rx_program.specs.Steps.{code_at};
 ghost use Rattle.rx_program.specs.Steps.{AreOrdered};
 ghost use Rattle.rx_program.specs.Works.{all_worked, groups_left, capturing, repeating, term};
-ghost use Rattle.rx_program.specs.Built.{Builds, IsBuilding, codes_of, disjunction_work, earlier_work, term_work, terms_work, work_of, works};
+ghost use Rattle.rx_program.specs.BuilderState.{Builds, IsBuilding, codes_of, disjunction_work, earlier_work, term_work, terms_work, work_of, works};
 
-use crate::builder::{Builder, Setting, Task};
+use crate::builder::{Builder, Context, Task};
 use crate::checks::ClassRow;
 use crate::kinds::looks_back;
 use crate::names::GroupNames;
@@ -32,12 +32,12 @@ pub struct Program<'a> {
 impl<'a> Builder<'a> {
     fn disjunction(
         &mut self,
-        setting: Setting,
+        context: Context,
         alternatives: &'a [Alternative],
     ) -> Result<(), OutOfMemory>
-        requires sound { IsBuilding self.old (disjunction_work setting alternatives.now ∷ works self.old) }
+        requires sound { IsBuilding self.old (disjunction_work context alternatives.now ∷ works self.old) }
         requires codes { 1 ≤ length self.old.codes }
-        ensures { OnOk result (Builds self.old (disjunction_work setting alternatives.now) self.new) }
+        ensures { OnOk result (Builds self.old (disjunction_work context alternatives.now) self.new) }
     {
         let Some((last, alternatives)) = alternatives.split_last() else {
             return self.reject();
@@ -47,20 +47,20 @@ impl<'a> Builder<'a> {
         self.push_code(next)?;
         let terms = last.body.as_slice();
         self.push_task(Task::Earlier {
-            setting,
+            context,
             alternatives,
         })?;
-        self.push_task(Task::Terms { setting, terms })
+        self.push_task(Task::Terms { context, terms })
     }
 
     fn earlier(
         &mut self,
-        setting: Setting,
+        context: Context,
         alternatives: &'a [Alternative],
     ) -> Result<(), OutOfMemory>
-        requires sound { IsBuilding self.old (earlier_work setting alternatives.now ∷ works self.old) }
+        requires sound { IsBuilding self.old (earlier_work context alternatives.now ∷ works self.old) }
         requires codes { 2 ≤ length self.old.codes }
-        ensures { OnOk result (Builds self.old (earlier_work setting alternatives.now) self.new) }
+        ensures { OnOk result (Builds self.old (earlier_work context alternatives.now) self.new) }
     {
         let entry = self.pop_code();
         let next = self.pop_code();
@@ -72,51 +72,51 @@ impl<'a> Builder<'a> {
         self.push_code(next)?;
         let terms = last.body.as_slice();
         self.push_task(Task::Earlier {
-            setting,
+            context,
             alternatives,
         })?;
         self.push_task(Task::Choose)?;
-        self.push_task(Task::Terms { setting, terms })
+        self.push_task(Task::Terms { context, terms })
     }
 }
 
 /// Terms, from the last to the first, or backward from the first to the last.
 impl<'a> Builder<'a> {
-    fn terms_ahead(&mut self, setting: Setting, terms: &'a [Term]) -> Result<(), OutOfMemory>
-        requires sound { IsBuilding self.old (terms_work setting terms.now ∷ works self.old) }
-        requires ahead { setting.back ≡ false }
-        ensures { OnOk result (Builds self.old (terms_work setting terms.now) self.new) }
+    fn terms_ahead(&mut self, context: Context, terms: &'a [Term]) -> Result<(), OutOfMemory>
+        requires sound { IsBuilding self.old (terms_work context terms.now ∷ works self.old) }
+        requires ahead { context.back ≡ false }
+        ensures { OnOk result (Builds self.old (terms_work context terms.now) self.new) }
     {
         let Some((term, terms)) = terms.split_last() else {
             return Ok(());
         };
-        self.push_task(Task::Terms { setting, terms })?;
-        self.push_task(Task::Term { setting, term })
+        self.push_task(Task::Terms { context, terms })?;
+        self.push_task(Task::Term { context, term })
     }
 
-    fn terms_after(&mut self, setting: Setting, terms: &'a [Term]) -> Result<(), OutOfMemory>
-        requires sound { IsBuilding self.old (terms_work setting terms.now ∷ works self.old) }
-        requires back { setting.back ≡ true }
-        ensures { OnOk result (Builds self.old (terms_work setting terms.now) self.new) }
+    fn terms_after(&mut self, context: Context, terms: &'a [Term]) -> Result<(), OutOfMemory>
+        requires sound { IsBuilding self.old (terms_work context terms.now ∷ works self.old) }
+        requires back { context.back ≡ true }
+        ensures { OnOk result (Builds self.old (terms_work context terms.now) self.new) }
     {
         let Some((term, terms)) = terms.split_first() else {
             return Ok(());
         };
         self.push_code(0)?;
         self.push_task(Task::Sequence)?;
-        self.push_task(Task::Term { setting, term })?;
+        self.push_task(Task::Term { context, term })?;
         self.push_task(Task::Swap)?;
-        self.push_task(Task::Terms { setting, terms })
+        self.push_task(Task::Terms { context, terms })
     }
 
-    fn terms(&mut self, setting: Setting, terms: &'a [Term]) -> Result<(), OutOfMemory>
-        requires sound { IsBuilding self.old (terms_work setting terms.now ∷ works self.old) }
-        ensures { OnOk result (Builds self.old (terms_work setting terms.now) self.new) }
+    fn terms(&mut self, context: Context, terms: &'a [Term]) -> Result<(), OutOfMemory>
+        requires sound { IsBuilding self.old (terms_work context terms.now ∷ works self.old) }
+        ensures { OnOk result (Builds self.old (terms_work context terms.now) self.new) }
     {
-        if setting.back {
-            self.terms_after(setting, terms)
+        if context.back {
+            self.terms_after(context, terms)
         } else {
-            self.terms_ahead(setting, terms)
+            self.terms_ahead(context, terms)
         }
     }
 }
@@ -127,32 +127,32 @@ pub fn body_of(it: &Quantifier) -> &Term
     &it.body
 }
 
-/// Terms with a body, which is compiled first.
+/// Terms with a body, which is compiled before the term itself.
 impl<'a> Builder<'a> {
     fn look_around_body(
         &mut self,
-        setting: Setting,
+        context: Context,
         it: &'a LookAroundAssertion,
     ) -> Result<(), OutOfMemory>
-        requires sound { IsBuilding self.old (term setting.settings setting.back (mirror_look it.now) ∷ works self.old) }
-        ensures { OnOk result (Builds self.old (term setting.settings setting.back (mirror_look it.now)) self.new) }
+        requires sound { IsBuilding self.old (term context.settings context.back (mirror_look it.now) ∷ works self.old) }
+        ensures { OnOk result (Builds self.old (term context.settings context.back (mirror_look it.now)) self.new) }
     {
-        let inside = Setting {
-            settings: setting.settings,
+        let inside = Context {
+            settings: context.settings,
             back: looks_back(it.kind),
         };
         self.push_code(0)?;
         self.push_task(Task::LookAround { kind: it.kind })?;
         let alternatives = it.body.body.as_slice();
         self.push_task(Task::Disjunction {
-            setting: inside,
+            context: inside,
             alternatives,
         })
     }
 
-    fn quantifier_body(&mut self, setting: Setting, it: &'a Quantifier) -> Result<(), OutOfMemory>
-        requires sound { IsBuilding self.old (term setting.settings setting.back (mirror_quantifier it.now) ∷ works self.old) }
-        ensures { OnOk result (Builds self.old (term setting.settings setting.back (mirror_quantifier it.now)) self.new) }
+    fn quantifier_body(&mut self, context: Context, it: &'a Quantifier) -> Result<(), OutOfMemory>
+        requires sound { IsBuilding self.old (term context.settings context.back (mirror_quantifier it.now) ∷ works self.old) }
+        ensures { OnOk result (Builds self.old (term context.settings context.back (mirror_quantifier it.now)) self.new) }
     {
         let end = self.before;
         self.push_code(0)?;
@@ -161,55 +161,55 @@ impl<'a> Builder<'a> {
             end,
         })?;
         let term = body_of(it);
-        self.push_task(Task::Term { setting, term })
+        self.push_task(Task::Term { context, term })
     }
 
     fn capturing_body(
         &mut self,
-        setting: Setting,
+        context: Context,
         it: &'a CapturingGroup,
     ) -> Result<(), OutOfMemory>
-        requires sound { IsBuilding self.old (term setting.settings setting.back (mirror_capturing it.now) ∷ works self.old) }
-        ensures { OnOk result (Builds self.old (term setting.settings setting.back (mirror_capturing it.now)) self.new) }
+        requires sound { IsBuilding self.old (term context.settings context.back (mirror_capturing it.now) ∷ works self.old) }
+        ensures { OnOk result (Builds self.old (term context.settings context.back (mirror_capturing it.now)) self.new) }
     {
         self.push_code(0)?;
         self.push_task(Task::Capture)?;
         let alternatives = it.body.body.as_slice();
         self.push_task(Task::Disjunction {
-            setting,
+            context,
             alternatives,
         })
     }
 
-    fn ignored_body(&mut self, setting: Setting, it: &'a IgnoreGroup) -> Result<(), OutOfMemory>
-        requires sound { IsBuilding self.old (term setting.settings setting.back (mirror_ignore it.now) ∷ works self.old) }
-        ensures { OnOk result (Builds self.old (term setting.settings setting.back (mirror_ignore it.now)) self.new) }
+    fn ignored_body(&mut self, context: Context, it: &'a IgnoreGroup) -> Result<(), OutOfMemory>
+        requires sound { IsBuilding self.old (term context.settings context.back (mirror_ignore it.now) ∷ works self.old) }
+        ensures { OnOk result (Builds self.old (term context.settings context.back (mirror_ignore it.now)) self.new) }
     {
-        let inside = Setting {
-            settings: settings_after(&it.modifiers, setting.settings),
-            back: setting.back,
+        let inside = Context {
+            settings: settings_after(&it.modifiers, context.settings),
+            back: context.back,
         };
         self.push_task(Task::EnterGroup)?;
         let alternatives = it.body.body.as_slice();
         self.push_task(Task::Disjunction {
-            setting: inside,
+            context: inside,
             alternatives,
         })
     }
 
     #[tactic(auto, using(rx_ast::proofs::Equations::mirrors))]
-    fn term(&mut self, setting: Setting, term: &'a Term) -> Result<(), OutOfMemory>
-        requires sound { IsBuilding self.old (term_work setting term.now ∷ works self.old) }
+    fn term(&mut self, context: Context, term: &'a Term) -> Result<(), OutOfMemory>
+        requires sound { IsBuilding self.old (term_work context term.now ∷ works self.old) }
         requires codes { 1 ≤ length self.old.codes }
-        ensures { OnOk result (Builds self.old (term_work setting term.now) self.new) }
+        ensures { OnOk result (Builds self.old (term_work context term.now) self.new) }
     {
         match term {
-            Term::BoundaryAssertion(it) => self.assert(it.kind, setting.settings.multiline),
-            Term::LookAroundAssertion(it) => self.look_around_body(setting, it),
-            Term::Quantifier(it) => self.quantifier_body(setting, it),
+            Term::BoundaryAssertion(it) => self.assert(it.kind, context.settings.multiline),
+            Term::LookAroundAssertion(it) => self.look_around_body(context, it),
+            Term::Quantifier(it) => self.quantifier_body(context, it),
             Term::Character(it) => self.consume(Test::Character(it.value)),
             Term::Dot(_) => self.consume(Test::Dot {
-                dot_all: setting.settings.dot_all,
+                dot_all: context.settings.dot_all,
             }),
             Term::CharacterClassEscape(it) => self.consume(Test::Escape(it.kind)),
             Term::UnicodePropertyEscape(_) => self.consume(Test::Never),
@@ -217,8 +217,8 @@ impl<'a> Builder<'a> {
                 let row = self.pop_row();
                 self.consume(Test::Class(row))
             }
-            Term::CapturingGroup(it) => self.capturing_body(setting, it),
-            Term::IgnoreGroup(it) => self.ignored_body(setting, it),
+            Term::CapturingGroup(it) => self.capturing_body(context, it),
+            Term::IgnoreGroup(it) => self.ignored_body(context, it),
             Term::IndexedReference(it) => self.refer(it.index as usize),
             Term::NamedReference(it) => self.refer_by_name(&it.name),
         }
@@ -257,15 +257,15 @@ impl<'a> Builder<'a> {
     {
         match task {
             Task::Disjunction {
-                setting,
+                context,
                 alternatives,
-            } => self.disjunction(setting, alternatives),
+            } => self.disjunction(context, alternatives),
             Task::Earlier {
-                setting,
+                context,
                 alternatives,
-            } => self.earlier(setting, alternatives),
-            Task::Terms { setting, terms } => self.terms(setting, terms),
-            Task::Term { setting, term } => self.term(setting, term),
+            } => self.earlier(context, alternatives),
+            Task::Terms { context, terms } => self.terms(context, terms),
+            Task::Term { context, term } => self.term(context, term),
             Task::Capture => self.close_group(),
             Task::LookAround { kind } => self.look_around(kind),
             Task::Repeat { quantifier, end } => self.close_quantifier(quantifier, end),
@@ -283,12 +283,12 @@ pub fn compile<'a>(
     names: &'a GroupNames,
     rows: &'a [ClassRow],
     body: &'a Disjunction,
-    setting: Setting,
+    context: Context,
 ) -> Result<Program<'a>, OutOfMemory>
     requires names { length names.now ≡ groups_in_each (mirror_disjunction body.now).1 }
     requires rows { row_tests rows.now ≡ each_tests (mirror_disjunction body.now).1 [] }
     ensures ordered { IfOk result (λ it. AreOrdered it.steps) }
-    ensures code { IfOk result (λ it. code_at it.steps it.entry ≡ each_code names.now (mirror_disjunction body.now).1 setting.settings setting.back 0 accept) }
+    ensures code { IfOk result (λ it. code_at it.steps it.entry ≡ each_code names.now (mirror_disjunction body.now).1 context.settings context.back 0 accept) }
 {
     let mut builder = Builder {
         names,
@@ -302,7 +302,7 @@ pub fn compile<'a>(
     builder.codes.push(0)?;
     let alternatives = body.body.as_slice();
     builder.tasks.push(Task::Disjunction {
-        setting,
+        context,
         alternatives,
     })?;
     while let Some(task) = builder.tasks.pop() {

@@ -12,7 +12,7 @@ mod row_builder;
 mod step;
 mod survey;
 
-pub use builder::Setting;
+pub use builder::Context;
 pub use characters::{is_line_terminator, is_word};
 pub use checks::ClassRow;
 pub use classes::class_rows;

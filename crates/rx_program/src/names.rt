@@ -69,7 +69,7 @@ fn numbers_by_name(
     Ok(numbers)
 }
 
-/// A group of this name, if it has one, has this number.
+/// Notes the number of a group under its name, if it has one.
 fn add_group(
     alloc: Global,
     numbers: &mut BTreeMap<String, Vec<usize>>,

@@ -4,27 +4,27 @@ ghost use Rattle.rx_ast.specs.Forget.{nowhere};
 ghost use Rattle.rx_program.specs.Checks.{row_holds};
 ghost use Rattle.rx_trace.specs.Holding.{class_holds, first_holds, member_holds};
 ghost use Rattle.rx_program.specs.RowParts.{CanLead, IsRow, LeadsOn, MakesPart, with_check, with_part};
-ghost use Rattle.rx_program.specs.Surveyed.{class_looks, member_looks, members_looks};
+ghost use Rattle.rx_program.specs.SurveyState.{class_looks, member_looks, members_looks};
 
 use crate::checks::{Check, ClassRow, ItemTest, Target, answers_from};
 use rx_ast::{CharacterClass, CharacterClassContents, CharacterClassContentsKind};
 use rx_base::{List, OutOfMemory};
 use std::alloc::Global;
 
-/// Items that are still to be made into checks, before what is made.
+/// Items that are still to be made into checks, which come before what is made.
 #[derive(Clone, Copy)]
 pub enum Part<'a> {
-    /// Where one of them holds, this comes after it. Where none does, what is made.
+    /// Where one of them holds, `held` comes next. Where none does, what is made comes next.
     Any {
         items: &'a [CharacterClassContents],
         held: Target,
     },
-    /// Where all of them hold, what is made comes after them.
+    /// Where all of them hold, what is made comes next. Where one does not, `not_held` comes next.
     All {
         items: &'a [CharacterClassContents],
         not_held: Target,
     },
-    /// Where it holds, what is made comes after it.
+    /// Where it holds, what is made comes next. Where it does not, `not_held` comes next.
     Item {
         item: &'a CharacterClassContents,
         not_held: Target,
@@ -144,7 +144,7 @@ impl<'a> RowBuilder<'a> {
         }
     }
 
-    /// The first item, and no later one.
+    /// The first item holds, and no later one.
     fn subtraction(
         &mut self,
         items: &'a [CharacterClassContents],

@@ -2,7 +2,7 @@ ghost use Rattle.std.specs.Prelude.{◌≡◌, ◌+◌, [], IfOk, OnOk, map};
 ghost use Rattle.rx_ast.specs.ClassTree.{members, mirror_contents};
 ghost use Rattle.rx_ast.specs.Tree.{mirror_disjunction, mirror_term};
 ghost use Rattle.rx_trace.specs.Groups.{names_in};
-ghost use Rattle.rx_program.specs.Surveyed.{IsSurvey, LookedAt, looks, members_looks, names_rest, node_looks, unsupported_members, unsupported_node, unsupported_rest, with_rest};
+ghost use Rattle.rx_program.specs.SurveyState.{IsSurvey, LookedAt, looks, members_looks, names_rest, node_looks, unsupported_members, unsupported_node, unsupported_rest, with_rest};
 
 use rx_ast::{Alternative, CharacterClassContents, Disjunction, Term};
 use rx_base::{List, OutOfMemory, Span, Text};
@@ -48,7 +48,7 @@ impl<'a> Surveyor<'a> {
         self.rests.push(rest)
     }
 
-    /// Looks at the first of what is left there. Gives the span of a node that is not supported.
+    /// Looks at the first part of a rest, and leaves the others for later. Gives the span of a node that is not supported.
     fn look_at(&mut self, alloc: Global, rest: Rest<'a>) -> Result<Option<Span>, OutOfMemory>
         ensures { IfOk result (λ it. LookedAt self.old (unsupported_rest rest.entry) (names_rest rest.entry) (looks rest.entry) self.new it) }
     {

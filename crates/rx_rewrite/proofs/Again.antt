@@ -13,7 +13,7 @@ use Rattle.rx_trace.specs.declared.answer.MatchFlags.{MatchFlags}
 use Rattle.rx_trace.specs.Answers.{settings}
 use Rattle.rx_trace.specs.Groups.{Names, names_in_each}
 use Rattle.rx_trace.specs.declared.settings.Settings.{Settings}
-use Rattle.rx_trace.specs.Matching.{changed}
+use Rattle.rx_trace.specs.Matching.{update_settings}
 use Rattle.rx_rewrite.specs.declared.rewrites.Rewrites.{Rewrites}
 use Rattle.rx_rewrite.specs.Asked.{nothing}
 use Rattle.rx_rewrite.specs.Rewriting.{number_of, dot_rewritten, end_rewritten, boundary_rewritten, modifiers_kept, modifiers_rewritten, leaf_rewritten, node_rewritten, nodes_rewritten, alternatives_rewritten, flags_rewritten, rewritten}
@@ -97,9 +97,9 @@ module _ (what : Rewrites) (names later : Names) where
         ap₂ (λ name more. group s (capturing name) d more) (name-again what.named_capture_groups name) (each-again old new more)
     node-again old new (group s (ignoring m) d more) =
         let kept = modifiers_rewritten what names m in
-        let more_new = alternatives_rewritten what names (changed m old) (changed kept new) more in
-        ap (λ m. group s (ignoring m) d (alternatives_rewritten what later (changed kept new) (changed m new) more_new)) (modifiers-again what.pattern_modifiers m)
-        ∙ ap (λ more. group s (ignoring kept) d more) (each-again (changed m old) (changed kept new) more)
+        let more_new = alternatives_rewritten what names (update_settings m old) (update_settings kept new) more in
+        ap (λ m. group s (ignoring m) d (alternatives_rewritten what later (update_settings kept new) (update_settings m new) more_new)) (modifiers-again what.pattern_modifiers m)
+        ∙ ap (λ more. group s (ignoring kept) d more) (each-again (update_settings m old) (update_settings kept new) more)
     node-again old new (group s (looking kind) d more) = ap (λ more. group s (looking kind) d more) (each-again old new more)
 
     all-again : (old new : Settings) (ns : Nodes) → nodes_rewritten what later new new (nodes_rewritten what names old new ns) ≡ nodes_rewritten what names old new ns
@@ -157,7 +157,7 @@ module _ (names : Names) where
     node-stays e (leaf l) = leaf-stays e l
     node-stays e (quantified s min max greedy n) = ap (λ n. quantified s min max greedy n) (node-stays e n)
     node-stays e (group s (capturing name) d more) = ap (λ more. group s (capturing name) d more) (each-stays e more)
-    node-stays e (group s (ignoring m) d more) = ap (λ more. group s (ignoring m) d more) (each-stays (changed m e) more)
+    node-stays e (group s (ignoring m) d more) = ap (λ more. group s (ignoring m) d more) (each-stays (update_settings m e) more)
     node-stays e (group s (looking kind) d more) = ap (λ more. group s (looking kind) d more) (each-stays e more)
 
     all-stay : (e : Settings) (ns : Nodes) → nodes_rewritten nothing names e e ns ≡ ns

@@ -9,8 +9,8 @@ use Rattle.rx_rewrite.specs.declared.fault.RewriteFault.{RewriteFault}
 use Rattle.rx_rewrite.specs.declared.fault.RewriteFault.TheVariants as fault
 use Rattle.rx_rewrite.specs.declared.numbers.GroupNumbers.{GroupNumbers}
 use Rattle.rx_rewrite.specs.declared.rewrites.Rewrites.{Rewrites}
-use Rattle.rx_rewrite.specs.Numbered.{IsNumberingOf}
-use Rattle.rx_rewrite.specs.Numbers.{IsNumbering, group_names}
+use Rattle.rx_rewrite.specs.GroupNumbers.{IsNumberingOf}
+use Rattle.rx_rewrite.specs.NamedGroups.{IsNumbering, group_names}
 use Rattle.rx_rewrite.specs.Rewriting.{number_of}
 use Rattle.rx_trace.proofs.GroupNames.{names-length-each}
 use Rattle.rx_rewrite.proofs.Orders.{names_of_order, count-each}

@@ -1,4 +1,4 @@
--- Works that are done by one that copies a class, over plain values.
+-- Pieces of work of copying a class, over plain values.
 use Rattle.std.proofs.Common.{◌≡◌, refl, ap, sym, ◌∙◌, subst, ◌+◌, ◌<◌, Bool, List, [], ◌∷◌, ◌++◌, append_assoc, append-nil, map, reverse, arith}
 use Rattle.std.proofs.lemmas.List.{map-append}
 use Rattle.rx_base.specs.declared.span.Span.{Span}
@@ -9,7 +9,7 @@ use Rattle.rx_ast.specs.declared.class.CharacterClassContentsKind.{CharacterClas
 use Rattle.rx_ast.specs.ClassTree.{Member, Members, range, escape, property, character, nested, strings, no_member, member, members, class, mirror_class, mirror_contents}
 use Rattle.rx_rewrite.specs.declared.copy_class.Copier.{Copier}
 use Rattle.rx_rewrite.specs.declared.copy_class.ClassTask.{ClassTask}
-use Rattle.rx_rewrite.specs.ClassWorks.{ClassWork, contents, one, ending, listed_members, classes_worked, member_weight, work_weight, work_weights, class_work, class_works_of, class_works, with_class_task, Copies}
+use Rattle.rx_rewrite.specs.ClassWorks.{ClassWork, contents, one, ending, listed_members, members_after_works, member_weight, work_weight, work_weights, class_work, class_works_of, class_works, with_class_task, Copies}
 use Rattle.rx_trace.proofs.Lists.{reverse-last}
 use Rattle.rx_rewrite.proofs.Lists.{members-listed}
 
@@ -19,16 +19,16 @@ class_works_with c t = ap class_works_of (reverse-last (c.tasks ++ (t ∷ [])) c
 pub copies_is : (c after : Copier) (w v : ClassWork) → w ≡ v → Copies c v after → Copies c w after
 copies_is c after w v is p = subst (λ x. Copies c x after) (sym is) p
 
--- These works are left, with these copies.
+-- This work is left, with these copies.
 pub copies : (c after : Copier) (w : ClassWork) (ws : List ClassWork) (ms : List Member) → class_works after ≡ ws → map mirror_contents after.body ≡ ms
-    → classes_worked (w ∷ class_works c) (map mirror_contents c.body) ≡ classes_worked ws ms → work_weights ws < work_weight w + work_weights (class_works c) → Copies c w after
+    → members_after_works (w ∷ class_works c) (map mirror_contents c.body) ≡ members_after_works ws ms → work_weights ws < work_weight w + work_weights (class_works c) → Copies c w after
 copies c after w ws ms left made same fewer = record {
-  same = same ∙ ap (λ vs. classes_worked vs ms) (sym left) ∙ ap (classes_worked (class_works after)) (sym made);
+  same = same ∙ ap (λ vs. members_after_works vs ms) (sym left) ∙ ap (members_after_works (class_works after)) (sym made);
   fewer = subst (λ vs. work_weights vs < work_weight w + work_weights (class_works c)) (sym left) fewer;
 }
 
 pub copies_none : (c : Copier) → Copies c (contents no_member) c
-copies_none c = record { same = ap (classes_worked (class_works c)) (append-nil (map mirror_contents c.body)); fewer = omega arith }
+copies_none c = record { same = ap (members_after_works (class_works c)) (append-nil (map mirror_contents c.body)); fewer = omega arith }
 
 -- The first is copied after the others are left for later.
 pub copies_first : (c d after : Copier) (t : ClassTask) (m : Member) (ms : Members) → d ≡ with_class_task c t → class_work t ≡ contents ms → Copies d (one m) after → Copies c (contents (member m ms)) after
@@ -39,7 +39,7 @@ copies_first c d after t m ms pushed left p =
     let few = first.fewer in
     let weighs = ap work_weights all in
     record {
-      same = ap (classes_worked (class_works c)) (sym (append_assoc made (m ∷ []) (listed_members ms))) ∙ ap (λ ws. classes_worked ws (made ++ (m ∷ []))) (sym all) ∙ first.same;
+      same = ap (members_after_works (class_works c)) (sym (append_assoc made (m ∷ []) (listed_members ms))) ∙ ap (λ ws. members_after_works ws (made ++ (m ∷ []))) (sym all) ∙ first.same;
       fewer = omega arith;
     }
 
@@ -47,7 +47,7 @@ pub copies_class : (c after : Copier) (s : Span) (negative may_have_strings : Bo
     → class_works after ≡ contents ms ∷ ending s negative may_have_strings kind (map mirror_contents c.body) ∷ class_works c → map mirror_contents after.body ≡ [] → Copies c (one (nested (class s negative may_have_strings kind ms))) after
 copies_class c after s negative may kind ms left made =
     copies c after (one (nested (class s negative may kind ms))) (contents ms ∷ ending s negative may kind (map mirror_contents c.body) ∷ class_works c) [] left made
-    (ap (λ k. classes_worked (class_works c) (map mirror_contents c.body ++ (nested (class s negative may kind k) ∷ []))) (sym (members-listed ms))) (omega arith)
+    (ap (λ k. members_after_works (class_works c) (map mirror_contents c.body ++ (nested (class s negative may kind k) ∷ []))) (sym (members-listed ms))) (omega arith)
 
 member_weighs : (m : Member) → 0 < member_weight m
 member_weighs (range r) = omega arith
@@ -85,6 +85,6 @@ ends_class c s negative may kind before body x mirrors pushed =
     (ap (map mirror_contents) pushed ∙ map-append mirror_contents before (x ∷ []) ∙ ap (λ m. map mirror_contents before ++ (m ∷ [])) mirrors) refl (omega arith)
 
 -- Nothing is left: the copies are the contents.
-pub copied_all : (c : Copier) (ms : Members) → c.tasks ≡ [] → classes_worked (class_works c) (map mirror_contents c.body) ≡ listed_members ms → members (map mirror_contents c.body) ≡ ms
+pub copied_all : (c : Copier) (ms : Members) → c.tasks ≡ [] → members_after_works (class_works c) (map mirror_contents c.body) ≡ listed_members ms → members (map mirror_contents c.body) ≡ ms
 copied_all c ms none made =
-    ap members (ap (λ ts. classes_worked (class_works_of (reverse ts)) (map mirror_contents c.body)) (sym none) ∙ made) ∙ members-listed ms
+    ap members (ap (λ ts. members_after_works (class_works_of (reverse ts)) (map mirror_contents c.body)) (sym none) ∙ made) ∙ members-listed ms

@@ -8,17 +8,17 @@ use Rattle.rx_ast.specs.declared.ast_kind.RegExpAstKind.{RegExpAstKind}
 use Rattle.rx_ast.specs.Kinds.{Kind}
 use Rattle.rx_ast.specs.MirrorKinds.{mirror_kind}
 use Rattle.rx_rewrite.specs.declared.numbers.GroupNumbers.{GroupNumbers}
-use Rattle.rx_rewrite.specs.Answers.{NamedGroup, named_group, used_again}
-use Rattle.rx_rewrite.specs.Numbers.{Numbers, Tells, group_name, group_names}
+use Rattle.rx_rewrite.specs.Answers.{NamedGroup, named_group, second_use}
+use Rattle.rx_rewrite.specs.NamedGroups.{Numbers, Tells, group_name, group_names}
 use Rattle.rx_rewrite.proofs.Orders.{names-append}
 
 abbrev pub named : List Kind → List NamedGroup
 named ks = flat_map named_group ks
 
--- So far: the groups of these nodes are told, and no name stood twice.
+-- So far: the numbers have the groups of these nodes, and no name stood twice.
 pub record IsToldTo (before rest all : List Kind) (numbers : GroupNumbers) : Type 0 where
   pub told : Tells (group_names before) (named before) numbers
-  pub apart : used_again (named before) (named rest) ≡ used_again [] (named all)
+  pub apart : second_use (named before) (named rest) ≡ second_use [] (named all)
 
 names_one : (before : List Kind) (k : Kind) → group_names before ++ group_name k ≡ group_names (before ++ (k ∷ []))
 names_one before k = ap (λ ns. group_names before ++ ns) (sym (append-nil (group_name k))) ∙ sym (names-append before (k ∷ []))
@@ -31,7 +31,7 @@ told_next before rest all k old new it so_far numbers =
     let n = numbers (group_names before) (named before) so_far.told in
     record {
       told = subst (λ ns. Tells ns (named (before ++ (k ∷ []))) new) (names_one before k) (subst (λ gs. Tells (group_names before ++ group_name k) gs new) (named_one before k) n.0);
-      apart = ap (λ gs. used_again gs (named rest)) (sym (named_one before k)) ∙ sym (n.1 (named rest)) ∙ so_far.apart;
+      apart = ap (λ gs. second_use gs (named rest)) (sym (named_one before k)) ∙ sym (n.1 (named rest)) ∙ so_far.apart;
     }
 
 pub told_fits : (before rest all : List Kind) (k : Kind) (numbers : GroupNumbers) → before ++ (k ∷ rest) ≡ all → IsToldTo before (k ∷ rest) all numbers → length (group_names all) < 2 ^ 32 → numbers.count + length (group_name k) < 2 ^ 32

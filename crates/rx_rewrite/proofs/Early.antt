@@ -23,7 +23,7 @@ use Rattle.rx_rewrite.specs.Rewriting.{number_of, any_unit, no_line_terminator, 
 use Rattle.rx_rewrite.proofs.Modifiers.{early_kept}
 use Rattle.rx_rewrite.proofs.NamedSlots.{given_names, given-each, number_some, number_within}
 use Rattle.rx_rewrite.proofs.Patterns.{once-there, its_tree, its_groups, all_names, its_names_early}
-use Rattle.rx_rewrite.proofs.Replaced.{leaf-all}
+use Rattle.rx_rewrite.proofs.LeafRewrites.{leaf-all}
 use Rattle.rx_rewrite.proofs.Orders.{count-each}
 use Rattle.rx_trace.proofs.GroupNames.{names-length-each}
 use Rattle.rx_rewrite.proofs.Tokens.{OfNode, kept-tokens}

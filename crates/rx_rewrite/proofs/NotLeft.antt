@@ -15,12 +15,12 @@ use Rattle.rx_trace.specs.declared.answer.MatchFlags.{MatchFlags}
 use Rattle.rx_trace.specs.Answers.{settings}
 use Rattle.rx_trace.specs.Groups.{Names, names_in_each}
 use Rattle.rx_trace.specs.declared.settings.Settings.{Settings}
-use Rattle.rx_trace.specs.Matching.{changed}
+use Rattle.rx_trace.specs.Matching.{update_settings}
 use Rattle.rx_rewrite.specs.declared.rewrites.Rewrites.{Rewrites}
 use Rattle.rx_rewrite.specs.Asked.{HoldsIn, HoldsInAll, HoldsInEach, OfAnyLeaf, OfAnyOpener, IsNotNamed, HasNoName, IsDotInLine, IsEndIn, IsEndOfInput, HasNoLineModifier, HasNoNames, HasDotsInLine, HasEndsOfInput, HasNoLineModifiers}
 use Rattle.rx_rewrite.specs.Rewriting.{number_of, dot_rewritten, end_rewritten, boundary_rewritten, modifiers_kept, modifiers_rewritten, name_rewritten, leaf_rewritten, node_rewritten, nodes_rewritten, alternatives_rewritten, flags_rewritten, rewritten}
 use Rattle.rx_rewrite.proofs.Modifiers.{of_case, lacks_case, has_neither}
-use Rattle.rx_rewrite.proofs.Replaced.{leaf-all}
+use Rattle.rx_rewrite.proofs.LeafRewrites.{leaf-all}
 
 -- It holds of the rewritten tree, where it holds of what each leaf and each opener becomes.
 module _ (what : Rewrites) (names : Names) (P : Settings → Leaf → Type 0) (Q : Opener → Type 0)
@@ -33,7 +33,7 @@ module _ (what : Rewrites) (names : Names) (P : Settings → Leaf → Type 0) (Q
     left-node old new (leaf l) = of_leaf old new l
     left-node old new (quantified s min max greedy n) = left-node old new n
     left-node old new (group s (capturing name) d more) = (of_name name, left-each old new more)
-    left-node old new (group s (ignoring m) d more) = (of_modifiers m, left-each (changed m old) (changed (modifiers_rewritten what names m) new) more)
+    left-node old new (group s (ignoring m) d more) = (of_modifiers m, left-each (update_settings m old) (update_settings (modifiers_rewritten what names m) new) more)
     left-node old new (group s (looking kind) d more) = (of_look kind, left-each old new more)
 
     left-all : (old new : Settings) (ns : Nodes) → HoldsInAll P Q new (nodes_rewritten what names old new ns)

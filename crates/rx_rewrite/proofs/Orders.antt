@@ -9,7 +9,7 @@ use Rattle.rx_ast.specs.Tree as tree
 use Rattle.rx_ast.specs.Tree.{Node, Nodes, Alternatives, Whole, leaf, quantified, group, no_node, node, no_alternative, alternative}
 use Rattle.rx_model.specs.Trees.Names.{node_groups, nodes_groups, alternatives_groups}
 use Rattle.rx_trace.specs.Groups.{groups_in, groups_in_all, groups_in_each, names_in, names_in_all, names_in_each}
-use Rattle.rx_rewrite.specs.Numbers.{group_names, group_name}
+use Rattle.rx_rewrite.specs.NamedGroups.{group_names, group_name}
 
 pub names-append : (ks js : List Kind) → group_names (ks ++ js) ≡ group_names ks ++ group_names js
 names-append [] js = refl

@@ -13,13 +13,13 @@ use Rattle.rx_trace.specs.declared.answer.MatchFlags.{MatchFlags}
 use Rattle.rx_trace.specs.Answers.{settings}
 use Rattle.rx_trace.specs.Groups.{Names, groups_in_each, names_in, names_in_all, names_in_each}
 use Rattle.rx_trace.specs.declared.settings.Settings.{Settings}
-use Rattle.rx_trace.specs.Matching.{changed}
+use Rattle.rx_trace.specs.Matching.{update_settings}
 use Rattle.rx_rewrite.specs.declared.rewrites.Rewrites.{Rewrites}
 use Rattle.rx_rewrite.specs.Rewriting.{number_of, modifiers_rewritten, node_rewritten, nodes_rewritten, alternatives_rewritten, flags_rewritten, rewritten}
 use Rattle.rx_rewrite.proofs.Orders.{count-each}
 use Rattle.rx_model.proofs.FirstPass.MarkNames.{contains_cases}
 use Rattle.rx_rewrite.proofs.NamedSlots.{given_names, given-node, given-all, given-each}
-use Rattle.rx_rewrite.proofs.Replaced.{HoldsOfAll, leaf-all}
+use Rattle.rx_rewrite.proofs.LeafRewrites.{HoldsOfAll, leaf-all}
 use Rattle.rx_rewrite.proofs.SameGroups.{names-node, names-all, names-each}
 use Rattle.rx_rewrite.proofs.SameOutcomes as outcomes
 
@@ -100,7 +100,7 @@ module _ (what : Rewrites) (table : Names) where
     node-apart old new (group s (capturing n) d more) apart =
         (λ name own inside. apart.0 name (own-fewer what.named_capture_groups n name own) (each-fewer old new more name inside), each-apart old new more apart.1)
     node-apart old new (group s (ignoring m) d more) apart =
-        (nothing_apart _, each-apart (changed m old) (changed (modifiers_rewritten what table m) new) more apart.1)
+        (nothing_apart _, each-apart (update_settings m old) (update_settings (modifiers_rewritten what table m) new) more apart.1)
     node-apart old new (group s (looking kind) d more) apart = (nothing_apart _, each-apart old new more apart.1)
 
     all-apart : (old new : Settings) (ns : Nodes) → AreNodesApart ns → AreNodesApart (nodes_rewritten what table old new ns)
@@ -150,7 +150,7 @@ module _ (what : Rewrites) (table : Names) where
     node-made mode old new (leaf l) made = leaf-all what table (IsNode mode) old new l (leaf-made mode l)
     node-made mode old new (quantified s min max greedy n) made = (node-takes mode old new n made.0, node-made mode old new n made.1)
     node-made mode old new (group s (capturing name) d more) made = some-made mode old new more made
-    node-made mode old new (group s (ignoring m) d more) made = some-made mode (changed m old) (changed (modifiers_rewritten what table m) new) more made
+    node-made mode old new (group s (ignoring m) d more) made = some-made mode (update_settings m old) (update_settings (modifiers_rewritten what table m) new) more made
     node-made mode old new (group s (looking kind) d more) made = some-made mode old new more made
 
     all-made : (mode : Mode) (old new : Settings) (ns : Nodes) → AreNodes mode ns → AreNodes mode (nodes_rewritten what table old new ns)

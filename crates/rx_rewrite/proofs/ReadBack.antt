@@ -23,7 +23,7 @@ use Rattle.rx_model.specs.Trees.Token.{Token, capturing, ignoring, bits, leaf_to
 use Rattle.rx_model.proofs.Spelling.ClassKnown.{IsKnownClass}
 use Rattle.rx_model.proofs.Spelling.Known.{IsKnownOpener, Known, AreKnown, are_known, has_tokens}
 use Rattle.rx_model.proofs.Spelling.OneLines.{some_tokens}
-use Rattle.rx_model.proofs.Spelling.ReadBacks.{known_is_read_back}
+use Rattle.rx_model.proofs.Spelling.ReadBack.{known_is_read_back}
 use Rattle.rx_model.proofs.Trees.Flat.{before, tokens_are}
 use Rattle.rx_trace.specs.declared.answer.MatchFlags.{MatchFlags}
 use Rattle.rx_trace.specs.Answers.{settings}
@@ -33,7 +33,7 @@ use Rattle.rx_rewrite.specs.declared.rewrites.Rewrites.{Rewrites}
 use Rattle.rx_rewrite.specs.Rewriting.{number_of, any_unit, no_line_terminator, leaf_rewritten, flags_rewritten, rewritten}
 use Rattle.rx_rewrite.proofs.Early.{its_early}
 use Rattle.rx_rewrite.proofs.Patterns.{its_tree, all_names, its_shape}
-use Rattle.rx_rewrite.proofs.Replaced.{leaf-all}
+use Rattle.rx_rewrite.proofs.LeafRewrites.{leaf-all}
 use Rattle.rx_rewrite.proofs.Tokens.{OfNode, kept-tokens, some-rewritten}
 
 known_all : (e : Environment) (ts : List Token) → AreKnown true e ts → All (Known true e) ts

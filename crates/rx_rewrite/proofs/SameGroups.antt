@@ -5,11 +5,11 @@ use Rattle.rx_ast.specs.Tree as tree
 use Rattle.rx_ast.specs.Tree.{Leaf, Node, Nodes, Alternatives, leaf, quantified, group, no_node, node, no_alternative, alternative, capturing, ignoring, looking}
 use Rattle.rx_trace.specs.Groups.{Names, groups_in, groups_in_all, groups_in_each, names_in, names_in_all, names_in_each}
 use Rattle.rx_trace.specs.declared.settings.Settings.{Settings}
-use Rattle.rx_trace.specs.Matching.{changed}
+use Rattle.rx_trace.specs.Matching.{update_settings}
 use Rattle.rx_trace.proofs.GroupNames.{names-length, names-length-all, names-length-each}
 use Rattle.rx_rewrite.specs.declared.rewrites.Rewrites.{Rewrites}
 use Rattle.rx_rewrite.specs.Rewriting.{name_rewritten, modifiers_rewritten, node_rewritten, nodes_rewritten, alternatives_rewritten}
-use Rattle.rx_rewrite.proofs.Replaced.{HoldsOfAll, leaf-all}
+use Rattle.rx_rewrite.proofs.LeafRewrites.{HoldsOfAll, leaf-all}
 
 module _ (what : Rewrites) (names : Names) where
   no_names : (l : Leaf) → HoldsOfAll what names (λ n. names_in n ≡ []) l
@@ -28,7 +28,7 @@ module _ (what : Rewrites) (names : Names) where
     names-node old new (leaf l) = leaf-all what names (λ n. names_in n ≡ []) old new l (no_names l)
     names-node old new (quantified s min max greedy n) = names-node old new n
     names-node old new (group s (capturing name) d more) = ap (λ ns. name_rewritten what names name ∷ ns) (names-each old new more)
-    names-node old new (group s (ignoring m) d more) = names-each (changed m old) (changed (modifiers_rewritten what names m) new) more
+    names-node old new (group s (ignoring m) d more) = names-each (update_settings m old) (update_settings (modifiers_rewritten what names m) new) more
     names-node old new (group s (looking kind) d more) = names-each old new more
 
     pub names-all : (old new : Settings) (ns : Nodes) → names_in_all (nodes_rewritten what names old new ns) ≡ map (name_rewritten what names) (names_in_all ns)

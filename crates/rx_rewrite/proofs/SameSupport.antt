@@ -10,15 +10,15 @@ use Rattle.rx_trace.specs.declared.answer.MatchFlags.{MatchFlags}
 use Rattle.rx_trace.specs.Answers.{settings}
 use Rattle.rx_trace.specs.Groups.{Names, names_in_each}
 use Rattle.rx_trace.specs.declared.settings.Settings.{Settings}
-use Rattle.rx_trace.specs.Matching.{changed}
-use Rattle.rx_trace.specs.Supported.{unsupported, or_later, first_unsupported, unsupported_in}
+use Rattle.rx_trace.specs.Matching.{update_settings}
+use Rattle.rx_trace.specs.Supported.{unsupported_span, or_later, first_unsupported, unsupported_in}
 use Rattle.rx_trace.proofs.Unsupported.{first-append}
 use Rattle.rx_rewrite.specs.declared.rewrites.Rewrites.{Rewrites}
 use Rattle.rx_rewrite.specs.Rewriting.{number_of, modifiers_kept, modifiers_rewritten, node_rewritten, nodes_rewritten, alternatives_rewritten, flags_rewritten, rewritten}
 use Rattle.rx_rewrite.proofs.Modifiers.{unsupported_of, unsupported_same}
-use Rattle.rx_rewrite.proofs.Replaced.{HoldsOfAll, leaf-all}
+use Rattle.rx_rewrite.proofs.LeafRewrites.{HoldsOfAll, leaf-all}
 
-group-unsupported : (s : Span) (m : Option Modifiers) (d : tree.SpannedAlternatives) → unsupported (ignore_group s m d) ≡ unsupported_of m
+group-unsupported : (s : Span) (m : Option Modifiers) (d : tree.SpannedAlternatives) → unsupported_span (ignore_group s m d) ≡ unsupported_of m
 group-unsupported s None d = refl
 group-unsupported s (Some m) d = refl
 
@@ -49,8 +49,8 @@ module _ (what : Rewrites) (names : Names) where
     support-node old new (group s (ignoring m) d more) =
         let new_m = modifiers_rewritten what names m in
         ap₂ or_later
-        (group-unsupported s new_m (d, alternatives_rewritten what names (changed m old) (changed new_m new) more) ∙ modifiers-same what.pattern_modifiers m ∙ sym (group-unsupported s m (d, more)))
-        (support-each (changed m old) (changed new_m new) more)
+        (group-unsupported s new_m (d, alternatives_rewritten what names (update_settings m old) (update_settings new_m new) more) ∙ modifiers-same what.pattern_modifiers m ∙ sym (group-unsupported s m (d, more)))
+        (support-each (update_settings m old) (update_settings new_m new) more)
     support-node old new (group s (looking kind) d more) = support-each old new more
 
     support-all : (old new : Settings) (ns : Nodes) → first_unsupported (nodes_order (nodes_rewritten what names old new ns)) ≡ first_unsupported (nodes_order ns)

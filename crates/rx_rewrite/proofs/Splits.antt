@@ -1,4 +1,4 @@
--- A work that is cut into smaller ones.
+-- A piece of work that is cut into smaller ones.
 use Rattle.std.proofs.Common.{◌≡◌, refl, ap, sym, ◌∙◌, ℕ, Bool, Option, List, [], ◌∷◌, ◌++◌, append_assoc, append-nil}
 use Rattle.rx_base.specs.declared.span.Span.{Span}
 use Rattle.rx_ast.specs.declared.leaf.Modifiers.{Modifiers}
@@ -7,7 +7,7 @@ use Rattle.rx_ast.specs.Tree as tree
 use Rattle.rx_ast.specs.Tree.{Opener, Node, Nodes, Alternatives, quantified, group, no_node, node, no_alternative, alternative}
 use Rattle.rx_trace.specs.Groups.{Names}
 use Rattle.rx_trace.specs.declared.settings.Settings.{Settings}
-use Rattle.rx_trace.specs.Matching.{changed}
+use Rattle.rx_trace.specs.Matching.{update_settings}
 use Rattle.rx_rewrite.specs.declared.rewrites.Rewrites.{Rewrites}
 use Rattle.rx_rewrite.specs.Rewriting.{name_rewritten, modifiers_rewritten, node_rewritten, nodes_rewritten, alternatives_rewritten}
 use Rattle.rx_rewrite.specs.Works.{Work, Made, alternatives, terms, term, opening, ending_alternative, ending_group, ending_quantifier, listed, listed_alternatives, all_worked}
@@ -50,7 +50,7 @@ module _ (what : Rewrites) (names : Names) (ws : List Work) (old new : Settings)
 
   pub split_ignoring : (s d : Span) (mods : Option Modifiers) (more : Alternatives)
       → all_worked what names (term old new (group s (tree.ignoring mods) d more) ∷ ws) m
-      ≡ all_worked what names (opening (changed mods old) (changed (modifiers_rewritten what names mods) new) s (tree.ignoring (modifiers_rewritten what names mods)) d more ∷ ws) m
+      ≡ all_worked what names (opening (update_settings mods old) (update_settings (modifiers_rewritten what names mods) new) s (tree.ignoring (modifiers_rewritten what names mods)) d more ∷ ws) m
   split_ignoring s d mods more = refl
 
   pub split_looking : (s d : Span) (kind : LookAroundAssertionKind) (more : Alternatives)

@@ -12,7 +12,7 @@ use Rattle.rx_model.specs.Trees.Token.{Token, opener, closer, bar, quantifier, c
 use Rattle.rx_model.proofs.Trees.Flat.{before, before-append, before_leaf, before_within, before_quantified, before_group, before_alternative}
 use Rattle.rx_trace.specs.Groups.{Names}
 use Rattle.rx_trace.specs.declared.settings.Settings.{Settings}
-use Rattle.rx_trace.specs.Matching.{changed}
+use Rattle.rx_trace.specs.Matching.{update_settings}
 use Rattle.rx_rewrite.specs.declared.rewrites.Rewrites.{Rewrites}
 use Rattle.rx_rewrite.specs.Rewriting.{name_rewritten, modifiers_rewritten, leaf_rewritten, node_rewritten, nodes_rewritten, alternatives_rewritten}
 
@@ -113,7 +113,7 @@ module _ (what : Rewrites) (names : Names) (P Q : Token → Type 0)
     kept-node old new (leaf l) holds = of_leaf old new l holds
     kept-node old new (quantified s min max greedy n) holds = (kept-node old new n holds.0, of_quantifier min max greedy holds.1)
     kept-node old new (group s (tree.capturing name) d more) holds = (of_name name holds.0, kept-each old new more holds.1)
-    kept-node old new (group s (tree.ignoring m) d more) holds = (of_modifiers m holds.0, kept-each (changed m old) (changed (modifiers_rewritten what names m) new) more holds.1)
+    kept-node old new (group s (tree.ignoring m) d more) holds = (of_modifiers m holds.0, kept-each (update_settings m old) (update_settings (modifiers_rewritten what names m) new) more holds.1)
     kept-node old new (group s (tree.looking k) d more) holds = (of_look k holds.0, kept-each old new more holds.1)
 
     kept-all : (old new : Settings) (ns : Nodes) → OfAll P ns → OfAll Q (nodes_rewritten what names old new ns)

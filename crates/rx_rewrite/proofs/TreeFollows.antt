@@ -12,11 +12,11 @@ use Rattle.rx_ast.specs.Tree as tree
 use Rattle.rx_ast.specs.Tree.{Leaf, Node, Nodes, Alternatives, leaf, quantified, group, no_node, node, no_alternative, alternative, capturing, ignoring, looking}
 use Rattle.rx_model.specs.Trees.Names.{AreDistinct}
 use Rattle.rx_trace.specs.Traces.{State, Trace, tick, reached, and_then, front, first, states}
-use Rattle.rx_trace.specs.Holding.{is_line_terminator, class_holds, holds_at, is_nothing, ahead, preceding, boundary_holds}
-use Rattle.rx_trace.specs.Groups.{Names, groups_in, groups_in_all, unset_in, captured}
+use Rattle.rx_trace.specs.Holding.{is_line_terminator, class_holds, holds_at, is_nothing, ahead, unit_before, boundary_holds}
+use Rattle.rx_trace.specs.Groups.{Names, groups_in, groups_in_all, unset_in, with_capture}
 use Rattle.rx_trace.specs.Repeats.{repeat_trace}
 use Rattle.rx_trace.specs.declared.settings.Settings.{Settings}
-use Rattle.rx_trace.specs.Matching.{changed, moved_to, held_to, if_holds, where_none, looks_back, over_unit, back_reference_trace, leaf_trace, node_trace, nodes_trace, alternatives_trace}
+use Rattle.rx_trace.specs.Matching.{update_settings, move_to, place_if_held, if_holds, where_none, looks_back, over_unit, back_reference_trace, leaf_trace, node_trace, nodes_trace, alternatives_trace}
 use Rattle.rx_rewrite.specs.declared.rewrites.Rewrites.{Rewrites}
 use Rattle.rx_rewrite.specs.Rewriting.{number_of, any_unit, no_line_terminator, look_for, dot_rewritten, end_rewritten, boundary_rewritten, modifiers_rewritten, leaf_rewritten, node_rewritten, nodes_rewritten, alternatives_rewritten}
 use Rattle.rx_rewrite.proofs.Follows.{Follows, one_tick, two_ticks, follow-itself, follow-states, follow-then, follow-append, follow-look, follow-repeat}
@@ -25,20 +25,20 @@ use Rattle.rx_rewrite.proofs.SameGroups.{groups-node, groups-all}
 
 -- A negative look-around for a class takes a Tick for the class, and stays where it is where no unit that is held stands beside it.
 none_after : (holds : ℕ → Bool) (o : Option ℕ) (p : ℕ) (s : State) →
-    front ((tick ∷ moved_to (held_to holds p o) s ++ []) ++ []) ++ where_none (first ((moved_to (held_to holds p o) s ++ []) ++ [])) s ≡ tick ∷ if_holds (not (holds_at holds o)) s
+    front ((tick ∷ move_to (place_if_held holds p o) s ++ []) ++ []) ++ where_none (first ((move_to (place_if_held holds p o) s ++ []) ++ [])) s ≡ tick ∷ if_holds (not (holds_at holds o)) s
 none_after holds None p s = refl
 none_after holds (Some c) p s = by_test (holds c)
   where
-    by_test : (b : Bool) → let t = moved_to (if b then Some p else None) s in front ((tick ∷ t ++ []) ++ []) ++ where_none (first ((t ++ []) ++ [])) s ≡ tick ∷ if_holds (not b) s
+    by_test : (b : Bool) → let t = move_to (if b then Some p else None) s in front ((tick ∷ t ++ []) ++ []) ++ where_none (first ((t ++ []) ++ [])) s ≡ tick ∷ if_holds (not b) s
     by_test true = refl
     by_test false = refl
 
 none_ahead : (holds : ℕ → Bool) (o : Option ℕ) (p : ℕ) (s : State) →
-    let t = and_then (moved_to (held_to holds p o) s) (λ w. reached w ∷ []) in front ((tick ∷ t) ++ []) ++ where_none (first (t ++ [])) s ≡ tick ∷ if_holds (not (holds_at holds o)) s
+    let t = and_then (move_to (place_if_held holds p o) s) (λ w. reached w ∷ []) in front ((tick ∷ t) ++ []) ++ where_none (first (t ++ [])) s ≡ tick ∷ if_holds (not (holds_at holds o)) s
 none_ahead holds None p s = refl
 none_ahead holds (Some c) p s = by_test (holds c)
   where
-    by_test : (b : Bool) → let t = and_then (moved_to (if b then Some p else None) s) (λ w. reached w ∷ []) in front ((tick ∷ t) ++ []) ++ where_none (first (t ++ [])) s ≡ tick ∷ if_holds (not b) s
+    by_test : (b : Bool) → let t = and_then (move_to (if b then Some p else None) s) (λ w. reached w ∷ []) in front ((tick ∷ t) ++ []) ++ where_none (first (t ++ [])) s ≡ tick ∷ if_holds (not b) s
     by_test true = refl
     by_test false = refl
 
@@ -69,8 +69,8 @@ end_of_input span (Some c) = refl
 
 module _ (input : List ℕ) (names : Names) where
   look_behind_for : (span : Span) (c : Class) (e : Settings) (back : Bool) (before : ℕ) (s : State) →
-      node_trace input names (look_for span look.NegativeLookbehind c) e back before s ≡ tick ∷ tick ∷ if_holds (not (holds_at (class_holds c) (preceding input s.place))) s
-  look_behind_for span c e back before s = ap (λ t. tick ∷ t) (none_after (class_holds c) (preceding input s.place) (s.place - 1) s)
+      node_trace input names (look_for span look.NegativeLookbehind c) e back before s ≡ tick ∷ tick ∷ if_holds (not (holds_at (class_holds c) (unit_before input s.place))) s
+  look_behind_for span c e back before s = ap (λ t. tick ∷ t) (none_after (class_holds c) (unit_before input s.place) (s.place - 1) s)
 
   look_ahead_for : (span : Span) (c : Class) (e : Settings) (back : Bool) (before : ℕ) (s : State) →
       node_trace input names (look_for span look.NegativeLookahead c) e back before s ≡ tick ∷ tick ∷ if_holds (not (holds_at (class_holds c) (ahead input s.place))) s
@@ -95,14 +95,14 @@ module _ (input : List ℕ) (names : Names) where
       StandsFor old at.Start (record { multiline = new; dot_all = d }) back before s (end_rewritten asked old new look.NegativeLookbehind b)
   start_follows asked old new d b is back before s = by_settings asked old new
     where
-      for_class : (e : Settings) (c : Class) (one : Bool) → not (holds_at (class_holds c) (preceding input s.place)) ≡ one → Follows (tick ∷ if_holds one s) (node_trace input names (look_for b.span look.NegativeLookbehind c) e back before s)
-      for_class e c one same = look_follows (not (holds_at (class_holds c) (preceding input s.place))) one s (look_for b.span look.NegativeLookbehind c) e back before (look_behind_for b.span c e back before s) same
+      for_class : (e : Settings) (c : Class) (one : Bool) → not (holds_at (class_holds c) (unit_before input s.place)) ≡ one → Follows (tick ∷ if_holds one s) (node_trace input names (look_for b.span look.NegativeLookbehind c) e back before s)
+      for_class e c one same = look_follows (not (holds_at (class_holds c) (unit_before input s.place))) one s (look_for b.span look.NegativeLookbehind c) e back before (look_behind_for b.span c e back before s) same
 
       by_settings : (asked old new : Bool) → StandsFor old at.Start (record { multiline = new; dot_all = d }) back before s (end_rewritten asked old new look.NegativeLookbehind b)
-      by_settings true true true = for_class (record { multiline = true; dot_all = d }) (no_line_terminator b.span) _ (end_of_line b.span (preceding input s.place))
+      by_settings true true true = for_class (record { multiline = true; dot_all = d }) (no_line_terminator b.span) _ (end_of_line b.span (unit_before input s.place))
       by_settings false true true = same_boundary (record { multiline = true; dot_all = d }) at.Start b is back before s
-      by_settings asked true false = for_class (record { multiline = false; dot_all = d }) (no_line_terminator b.span) _ (end_of_line b.span (preceding input s.place))
-      by_settings asked false true = for_class (record { multiline = true; dot_all = d }) (any_unit b.span) _ (end_of_input b.span (preceding input s.place))
+      by_settings asked true false = for_class (record { multiline = false; dot_all = d }) (no_line_terminator b.span) _ (end_of_line b.span (unit_before input s.place))
+      by_settings asked false true = for_class (record { multiline = true; dot_all = d }) (any_unit b.span) _ (end_of_input b.span (unit_before input s.place))
       by_settings asked false false = same_boundary (record { multiline = false; dot_all = d }) at.Start b is back before s
 
   end_follows : (asked old new d : Bool) (b : BoundaryAssertion) → at.End ≡ b.kind → (back : Bool) (before : ℕ) (s : State) →
@@ -133,14 +133,14 @@ module _ (input : List ℕ) (names : Names) where
   same_unit : (back : Bool) (f g : ℕ → Bool) → ((c : ℕ) → f c ≡ g c) → (s : State) → over_unit input back f s ≡ over_unit input back g s
   same_unit false f g agree s = held (ahead input s.place)
     where
-      held : (o : Option ℕ) → moved_to (held_to f (s.place + 1) o) s ≡ moved_to (held_to g (s.place + 1) o) s
+      held : (o : Option ℕ) → move_to (place_if_held f (s.place + 1) o) s ≡ move_to (place_if_held g (s.place + 1) o) s
       held None = refl
-      held (Some c) = ap (λ b. moved_to (if b then Some (s.place + 1) else None) s) (agree c)
-  same_unit true f g agree s = held (preceding input s.place)
+      held (Some c) = ap (λ b. move_to (if b then Some (s.place + 1) else None) s) (agree c)
+  same_unit true f g agree s = held (unit_before input s.place)
     where
-      held : (o : Option ℕ) → moved_to (held_to f (s.place - 1) o) s ≡ moved_to (held_to g (s.place - 1) o) s
+      held : (o : Option ℕ) → move_to (place_if_held f (s.place - 1) o) s ≡ move_to (place_if_held g (s.place - 1) o) s
       held None = refl
-      held (Some c) = ap (λ b. moved_to (if b then Some (s.place - 1) else None) s) (agree c)
+      held (Some c) = ap (λ b. move_to (if b then Some (s.place - 1) else None) s) (agree c)
 
   -- `.` and what it is rewritten to hold the same units.
   same_dot : (asked old new m : Bool) (d : Dot) (back : Bool) (before : ℕ) (s : State) →
@@ -188,13 +188,13 @@ module _ (input : List ℕ) (what : Rewrites) (names new_names : Names)
     node_follows (group d (capturing name) c more) old new back before s =
         let t = alternatives_trace input names more old back (suc before) s in
         let u = alternatives_trace input new_names (alternatives_rewritten what names old new more) new back (suc before) s in
-        let set = (λ (w : State). let it : Trace = reached (captured before s.place w) ∷ [] in it) in
+        let set = (λ (w : State). let it : Trace = reached (with_capture before s.place w) ∷ [] in it) in
         one_tick (and_then t set) (and_then u set) (follow-then t u set set (each_follows more old new back (suc before) s) (λ w. follow-itself (set w)))
     node_follows (group d (ignoring m) c more) old new back before s =
         let kept = modifiers_rewritten what names m in
-        one_tick (alternatives_trace input names more (changed m old) back before s)
-        (alternatives_trace input new_names (alternatives_rewritten what names (changed m old) (changed kept new) more) (changed kept new) back before s)
-        (each_follows more (changed m old) (changed kept new) back before s)
+        one_tick (alternatives_trace input names more (update_settings m old) back before s)
+        (alternatives_trace input new_names (alternatives_rewritten what names (update_settings m old) (update_settings kept new) more) (update_settings kept new) back before s)
+        (each_follows more (update_settings m old) (update_settings kept new) back before s)
     node_follows (group d (looking kind) c more) old new back before s =
         one_tick _ _ (follow-look kind (alternatives_trace input names more old (looks_back kind) before s)
         (alternatives_trace input new_names (alternatives_rewritten what names old new more) new (looks_back kind) before s) s (each_follows more old new (looks_back kind) before s))

@@ -13,9 +13,9 @@ use Rattle.rx_trace.specs.declared.answer.MatchFlags.{MatchFlags}
 use Rattle.rx_trace.specs.Groups.{same_units}
 use Rattle.rx_rewrite.specs.declared.rewrites.Rewrites.{Rewrites}
 use Rattle.std.specs.Prelude.{Ok}
-use Rattle.rx_rewrite.specs.Answers.{IsRewritten, NamedGroup, named_group, named_groups, first_named, with_first, used_again, used_twice}
+use Rattle.rx_rewrite.specs.Answers.{IsRewritten, NamedGroup, named_group, named_groups, first_named, with_first, second_use, repeated_name}
 use Rattle.rx_rewrite.specs.Asked.{CanBeRewritten}
-use Rattle.rx_rewrite.specs.Numbers.{group_names}
+use Rattle.rx_rewrite.specs.NamedGroups.{group_names}
 use Rattle.rx_model.proofs.FirstPass.MarkNames.{contains_cases}
 use Rattle.rx_rewrite.proofs.NamedSlots.{given_names, given-each, same_decides}
 use Rattle.rx_rewrite.proofs.Orders.{names_of_order}
@@ -46,10 +46,10 @@ both_none None second later none = (refl, none)
 both_none (Some first) second later none = absurd (cc)
 
 -- No name of a group stood before,
-new_names : (before gs : List NamedGroup) → used_again before gs ≡ None → (name : List ℕ) → Contains (map (λ g. g.0) gs) name → Contains (map (λ g. g.0) before) name → ⊥
+new_names : (before gs : List NamedGroup) → second_use before gs ≡ None → (name : List ℕ) → Contains (map (λ g. g.0) gs) name → Contains (map (λ g. g.0) before) name → ⊥
 new_names before [] none name there stood = let low = there.1 in absurd (omega arith)
 new_names before (g ∷ gs) none name there stood =
-    let parts = both_none (first_named g.0 before) g.1 (used_again (before ++ g ∷ []) gs) none in
+    let parts = both_none (first_named g.0 before) g.1 (second_use (before ++ g ∷ []) gs) none in
     elim (contains_cases g.0 (map (λ g. g.0) gs) name there) [
       | inl same ↦ none_named g.0 before parts.0 (subst (Contains (map (λ g. g.0) before)) (sym same) stood)
       | inr more ↦ new_names (before ++ g ∷ []) gs parts.1 name more
@@ -57,16 +57,16 @@ new_names before (g ∷ gs) none name there stood =
     ]
 
 -- so they are distinct.
-distinct : (before gs : List NamedGroup) → used_again before gs ≡ None → AreDistinct (map (λ g. g.0) gs)
+distinct : (before gs : List NamedGroup) → second_use before gs ≡ None → AreDistinct (map (λ g. g.0) gs)
 distinct before [] none = tt
 distinct before (g ∷ gs) none =
-    let parts = both_none (first_named g.0 before) g.1 (used_again (before ++ g ∷ []) gs) none in (
+    let parts = both_none (first_named g.0 before) g.1 (second_use (before ++ g ∷ []) gs) none in (
       λ there. new_names (before ++ g ∷ []) gs parts.1 g.0 there
           (subst (λ names. Contains names g.0) (sym (map-append (λ g. g.0) before (g ∷ []))) (Contains-append_right (map (λ g. g.0) before) (g.0 ∷ []) g.0 (0, omega arith, refl))),
       distinct (before ++ g ∷ []) gs parts.1,
     )
 
-pub none_twice : (tree : Whole) → used_twice tree ≡ None → AreDistinct (alternatives_names tree.1.1)
+pub none_twice : (tree : Whole) → repeated_name tree ≡ None → AreDistinct (alternatives_names tree.1.1)
 none_twice tree none = subst AreDistinct (tree_names tree) (distinct [] (named_groups tree) none)
 
 -- What a rewriting gives could be rewritten.

@@ -34,18 +34,19 @@ abbrev pub with_first : Option Span → Span → Option (Span × Span) → Optio
 with_first None second later = later
 with_first (Some first) second later = Some (first, second)
 
--- The first group whose name stood before, and before it the first group of that name. `before` are the groups that open before these.
-abbrev pub used_again : List NamedGroup → List NamedGroup → Option (Span × Span)
-used_again before [] = None
-used_again before (g ∷ gs) = with_first (first_named g.0 before) g.1 (used_again (before ++ g ∷ []) gs)
+-- The spans of two groups of one name: the second is the first group whose name a group before it has, and the first is the first group of that name. `before` are the groups
+-- that open before these.
+abbrev pub second_use : List NamedGroup → List NamedGroup → Option (Span × Span)
+second_use before [] = None
+second_use before (g ∷ gs) = with_first (first_named g.0 before) g.1 (second_use (before ++ g ∷ []) gs)
 
-abbrev pub used_twice : Whole → Option (Span × Span)
-used_twice tree = used_again [] (named_groups tree)
+abbrev pub repeated_name : Whole → Option (Span × Span)
+repeated_name tree = second_use [] (named_groups tree)
 
--- Where names are to go no two groups may have one: of two groups with one number each a reference by name is to whichever takes part.
+-- Where names are to go no two groups may have the same one: a reference by such a name means whichever of the groups takes part, and no single number says that.
 abbrev pub IsRewritten : Rewrites → MatchFlags → Whole → Result Pattern RewriteFault → Type 0
-IsRewritten what flags tree (Ok it) = (what.named_capture_groups ≡ true → used_twice tree ≡ None) × (mirror it ≡ rewritten what flags tree)
-IsRewritten what flags tree (Err (fault.NameUsedTwice first second)) = (what.named_capture_groups ≡ true) × (used_twice tree ≡ Some (first, second))
+IsRewritten what flags tree (Ok it) = (what.named_capture_groups ≡ true → repeated_name tree ≡ None) × (mirror it ≡ rewritten what flags tree)
+IsRewritten what flags tree (Err (fault.NameUsedTwice first second)) = (what.named_capture_groups ≡ true) × (repeated_name tree ≡ Some (first, second))
 IsRewritten what flags tree (Err fault.OutOfMemory) = Unit {0}
 
 -- the rules that two options say: whether two groups may have one name, and whether buffer boundaries are read

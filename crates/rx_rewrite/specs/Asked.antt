@@ -1,4 +1,4 @@
--- What a rewriting asks of a tree, and what it leaves in it.
+-- What a rewriting requires of a tree, and what it leaves in it.
 use Rattle.std.specs.Prelude.{◌≡◌, true, false, Some, None, bit_and}
 use Rattle.rx_ast.specs.declared.leaf.BoundaryAssertionKind.{BoundaryAssertionKind}
 use Rattle.rx_ast.specs.declared.leaf.BoundaryAssertionKind.TheVariants as at
@@ -9,7 +9,7 @@ use Rattle.rx_model.specs.Trees.Names.{AreDistinct, alternatives_names}
 use Rattle.rx_trace.specs.declared.answer.MatchFlags.{MatchFlags}
 use Rattle.rx_trace.specs.Answers.{settings}
 use Rattle.rx_trace.specs.declared.settings.Settings.{Settings}
-use Rattle.rx_trace.specs.Matching.{changed}
+use Rattle.rx_trace.specs.Matching.{update_settings}
 use Rattle.rx_rewrite.specs.declared.rewrites.Rewrites.{Rewrites}
 
 -- nothing is asked for
@@ -23,11 +23,11 @@ CanBeRewritten what tree = what.named_capture_groups ≡ true → AreDistinct (a
 -- the settings in a group (UpdateModifiers, 22.2.2.7.4)
 abbrev pub settings_in : Opener → Settings → Settings
 settings_in (capturing name) e = e
-settings_in (ignoring m) e = changed m e
+settings_in (ignoring m) e = update_settings m e
 settings_in (looking kind) e = e
 
 module _ (OfLeaf : Settings → Leaf → Type 0) (OfOpener : Opener → Type 0) where
-  -- It holds of each term in which no other stands, under the settings that it is read under, and of what each group begins with.
+  -- `OfLeaf` holds of each term in which no other stands, under the settings that this is read under, and `OfOpener` of what each group begins with.
   abbrev mutual
     pub HoldsIn : Settings → Node → Type 0
     HoldsIn e (leaf l) = OfLeaf e l
@@ -42,7 +42,7 @@ module _ (OfLeaf : Settings → Leaf → Type 0) (OfOpener : Opener → Type 0) 
     HoldsInEach e no_alternative = Unit {0}
     HoldsInEach e (alternative s ns more) = HoldsInAll e ns × HoldsInEach e more
 
-  -- of a whole pattern under these flags
+  -- the same of a whole pattern under these flags
   abbrev pub HoldsInPattern : MatchFlags → Whole → Type 0
   HoldsInPattern flags tree = HoldsInEach (settings flags) tree.1.1
 
@@ -62,12 +62,12 @@ abbrev pub HasNoName : Opener → Type 0
 HasNoName (capturing name) = name ≡ None
 HasNoName _ = Unit {0}
 
--- `.` does not hold line terminators: it is not read under `dot_all`
+-- each `.` is read without `dot_all`, so that it holds no line terminator
 abbrev pub IsDotInLine : Settings → Leaf → Type 0
 IsDotInLine e (tree.dot d) = e.dot_all ≡ false
 IsDotInLine e _ = Unit {0}
 
--- `^` and `$` hold at the ends of the input alone: they are not read under `multiline`
+-- each `^` and `$` is read without `multiline`, so that it holds only at an end of the input
 abbrev pub IsEndIn : Settings → BoundaryAssertionKind → Type 0
 IsEndIn e at.Start = e.multiline ≡ false
 IsEndIn e at.End = e.multiline ≡ false

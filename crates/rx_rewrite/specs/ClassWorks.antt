@@ -10,23 +10,23 @@ use Rattle.rx_rewrite.specs.declared.copy_class.ClassTask.TheVariants as task
 pub data ClassWork : Type 0 where
   contents : Members → ClassWork
   one : Member → ClassWork
-  -- the end of a nested class, after these
+  -- the end of a nested class that stands after these members
   ending : Span → Bool → Bool → CharacterClassContentsKind → List Member → ClassWork
 
 abbrev pub listed_members : Members → List Member
 listed_members no_member = []
 listed_members (member m ms) = m ∷ listed_members ms
 
-abbrev pub class_worked : ClassWork → List Member → List Member
-class_worked (contents ms) made = made ++ listed_members ms
-class_worked (one m) made = made ++ (m ∷ [])
-class_worked (ending s negative may_have_strings kind before) made = before ++ (nested (class s negative may_have_strings kind (members made)) ∷ [])
+abbrev pub members_after_work : ClassWork → List Member → List Member
+members_after_work (contents ms) made = made ++ listed_members ms
+members_after_work (one m) made = made ++ (m ∷ [])
+members_after_work (ending s negative may_have_strings kind before) made = before ++ (nested (class s negative may_have_strings kind (members made)) ∷ [])
 
-abbrev pub classes_worked : List ClassWork → List Member → List Member
-classes_worked [] made = made
-classes_worked (w ∷ ws) made = classes_worked ws (class_worked w made)
+abbrev pub members_after_works : List ClassWork → List Member → List Member
+members_after_works [] made = made
+members_after_works (w ∷ ws) made = members_after_works ws (members_after_work w made)
 
--- how many works come of a class, at most
+-- the most pieces of work that are made of a class
 abbrev mutual
   pub member_weight : Member → ℕ
   member_weight (range r) = 1
@@ -66,7 +66,7 @@ class_works c = class_works_of (reverse c.tasks)
 abbrev pub with_class_task : Copier → ClassTask → Copier
 with_class_task c t = record c { tasks = c.tasks ++ (t ∷ []) }
 
--- A work is done, or cut into smaller ones: the same comes out.
+-- A piece of work is done, or cut into smaller ones: the same comes out in the end.
 pub record Copies (c : Copier) (w : ClassWork) (after : Copier) : Type 0 where
-  pub same : classes_worked (w ∷ class_works c) (map mirror_contents c.body) ≡ classes_worked (class_works after) (map mirror_contents after.body)
+  pub same : members_after_works (w ∷ class_works c) (map mirror_contents c.body) ≡ members_after_works (class_works after) (map mirror_contents after.body)
   pub fewer : work_weights (class_works after) < work_weight w + work_weights (class_works c)

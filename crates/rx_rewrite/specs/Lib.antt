@@ -1,12 +1,12 @@
 pub mod Answers
 pub mod Asked
-pub mod Built
 pub mod ClassWorks
-pub mod Left
-pub mod Numbered
-pub mod Numbers
+pub mod GroupNumbers
+pub mod KeptModifiers
+pub mod NamedGroups
 pub mod Plain
 pub mod Promises
+pub mod RewriterState
 pub mod Rewriting
 pub mod Wanted
 pub mod Works

@@ -1,10 +1,10 @@
--- What is done about a term that hangs on a setting.
+-- What is done about a term whose meaning depends on a setting.
 use Rattle.rx_ast.specs.Tree.{Node}
 use Rattle.rx_rewrite.specs.declared.settings.Replacement.{Replacement}
 use Rattle.rx_rewrite.specs.declared.settings.Replacement.TheVariants.{Keep, On, Off}
 
--- what stands for a term, where this does where the setting is on, and this where it is off
-abbrev pub replaced : Replacement → Node → Node → Node → Node
-replaced Keep same on off = same
-replaced On same on off = on
-replaced Off same on off = off
+-- what a term becomes: it stays the same, or becomes `on`, what it means where the setting is on, or `off`, what it means where the setting is off
+abbrev pub chosen_term : Replacement → Node → Node → Node → Node
+chosen_term Keep same on off = same
+chosen_term On same on off = on
+chosen_term Off same on off = off

@@ -22,32 +22,32 @@ use Rattle.rx_rewrite.specs.declared.rewrites.Rewrites.{Rewrites}
 pub record HasSameOutcomes (what : Rewrites) (flags : MatchFlags) (p q : Pattern) : Type 0 where
   -- From each place of each input it reaches the same states (MatchState, 22.2.2.1), in their order.
   pub reached : (input : List ℕ) (start : ℕ) → states (pattern_trace (flags_rewritten what flags) (mirror q) input start) ≡ states (pattern_trace flags (mirror p) input start)
-  -- So a search from a place, and from so many after it, ends in the same state or in none, and the match begins at the same place.
+  -- So a search from a place, and from so many places after it, ends in the same state or in none, and the match begins at the same place.
   pub end : (input : List ℕ) (more start : ℕ) →
       first (each_trace (pattern_trace (flags_rewritten what flags) (mirror q) input) more start) ≡ first (each_trace (pattern_trace flags (mirror p) input) more start)
   pub begin : (input : List ℕ) (more start : ℕ) →
       begins_at (pattern_trace (flags_rewritten what flags) (mirror q) input) more start ≡ begins_at (pattern_trace flags (mirror p) input) more start
-  -- What a matcher answers of one it answers of the other, within the same budget or twice that.
+  -- What a matcher answers to the second pattern it answers to the first within the same budget, and the other way round within twice the budget.
   pub before : (input : List ℕ) (more start budget : ℕ) (a : Option Found) →
       IsAnswer (flags_rewritten what flags) (mirror q) input more start budget (Ok a) → IsAnswer flags (mirror p) input more start budget (Ok a)
   pub after : (input : List ℕ) (more start budget most : ℕ) (a : Option Found) → 2 * budget ≤ most →
       IsAnswer flags (mirror p) input more start budget (Ok a) → IsAnswer (flags_rewritten what flags) (mirror q) input more start most (Ok a)
   pub refused : unsupported_in (mirror q) ≡ unsupported_in (mirror p)
 
--- What was asked for is not left in the second pattern.
+-- What was to go is not left in the second pattern.
 pub record HasNothingAsked (what : Rewrites) (flags : MatchFlags) (q : Pattern) : Type 0 where
   pub names : what.named_capture_groups ≡ true → HasNoNames (flags_rewritten what flags) (mirror q)
   pub dots : what.dot_all ≡ true → HasDotsInLine (flags_rewritten what flags) (mirror q)
   pub ends : what.multiline ≡ true → HasEndsOfInput (flags_rewritten what flags) (mirror q)
   pub modifiers : what.pattern_modifiers ≡ true → HasNoLineModifiers (flags_rewritten what flags) (mirror q)
 
--- The second pattern is one where the first is.
+-- Where the first is a pattern (early, well made, read back), so is the second.
 pub record IsStillPattern (p q : Pattern) : Type 0 where
   pub early : (rules : Rules) → IsEarly rules p → IsEarly rules q
   pub shape : (mode : Mode) → IsWellMade mode p → IsWellMade mode q
   pub read_back : (mode : Mode) (rules : Rules) (us : List CodePoint) → Reads mode rules p us → FitIn mode us → us ≢ [] → IsReadBack mode rules q
 
--- A rewriting of the first pattern gives the second.
+-- What holds where a rewriting of the first pattern gives the second.
 pub record Promises (what : Rewrites) (flags : MatchFlags) (p q : Pattern) : Type 0 where
   pub outcomes : HasSameOutcomes what flags p q
   pub left : HasNothingAsked what flags q

@@ -21,12 +21,12 @@ use Rattle.rx_trace.specs.declared.answer.MatchFlags.{MatchFlags}
 use Rattle.rx_trace.specs.Answers.{settings}
 use Rattle.rx_trace.specs.Groups.{Names, is_named, names_in_each}
 use Rattle.rx_trace.specs.declared.settings.Settings.{Settings}
-use Rattle.rx_trace.specs.Matching.{changed}
+use Rattle.rx_trace.specs.Matching.{update_settings}
 use Rattle.rx_rewrite.specs.declared.rewrites.Rewrites.{Rewrites}
 
--- In all of this a made node, with all in it, has the span of what it replaces.
+-- Everywhere below a new node, with all in it, has the span of what it replaces.
 
--- one more, of a number that is not 0
+-- one more, but 0 stays 0
 abbrev pub one_up : ℕ → ℕ
 one_up zero = 0
 one_up (suc k) = suc (suc k)
@@ -36,7 +36,7 @@ abbrev pub number_of : List ℕ → Names → ℕ
 number_of name [] = 0
 number_of name (n ∷ ns) = if is_named name n then 1 else one_up (number_of name ns)
 
--- a class that is not what its items hold
+-- the class of all that these items do not hold
 abbrev pub not_in_class : Span → Members → Class
 not_in_class s items = in_class.class s true false made.Union items
 
@@ -52,12 +52,12 @@ abbrev pub no_line_terminator : Span → Class
 no_line_terminator s = not_in_class s
     (written s kind.SingleEscape ascii.line_feed (written s kind.SingleEscape ascii.carriage_return (written s kind.UnicodeEscape 0x2028 (written s kind.UnicodeEscape 0x2029 no_member))))
 
--- a look-around in which a class stands alone
+-- a look-around whose body is a class alone
 abbrev pub look_for : Span → LookAroundAssertionKind → Class → Node
 look_for s k c = group s (looking k) s (alternative s (node (leaf (tree.class c)) no_node) no_alternative)
 
--- Of a setting under which a term is read: stays where it is `old` and is to be `new`, and is not to be rewritten; else the first where it is on, the second
--- where it is off.
+-- What a term becomes that was read where the setting was `old`, and will be read where it is `new`. `on` and `off` mean what it means where the setting is on and where it is
+-- off. Where the setting stays the same the term does, unless the setting is on and the term is asked to be rewritten.
 abbrev pub by_setting : Bool → Bool → Bool → Node → Node → Node → Node
 by_setting asked true true same on off = if asked then on else same
 by_setting asked true false same on off = on
@@ -83,7 +83,7 @@ boundary_rewritten asked old new at.StartBuffer b = leaf (tree.boundary b)
 boundary_rewritten asked old new at.EndBuffer b = leaf (tree.boundary b)
 boundary_rewritten asked old new at.EndBufferOptionalNewline b = leaf (tree.boundary b)
 
--- Modifiers keep `i` alone on both sides. Where none is left the group has none.
+-- On both sides only `i` is kept of the modifiers. Where nothing is left the group has none.
 abbrev pub modifiers_kept : Option Modifiers → Option Modifiers
 modifiers_kept None = None
 modifiers_kept (Some m) =
@@ -101,7 +101,7 @@ module _ (what : Rewrites) (names : Names) where
   abbrev pub reference_rewritten : NamedReference → Leaf
   reference_rewritten r = if what.named_capture_groups then tree.indexed (record { span = r.span; index = number_of r.name names }) else tree.named r
 
-  -- a term that holds no other, by the settings that it is read under before and after
+  -- a term with no other in it, by the settings that it is read under before and after
   abbrev pub leaf_rewritten : Settings → Settings → Leaf → Node
   leaf_rewritten old new (tree.boundary b) = boundary_rewritten what.multiline old.multiline new.multiline b.kind b
   leaf_rewritten old new (tree.character c) = leaf (tree.character c)
@@ -112,14 +112,14 @@ module _ (what : Rewrites) (names : Names) where
   leaf_rewritten old new (tree.indexed r) = leaf (tree.indexed r)
   leaf_rewritten old new (tree.named r) = leaf (reference_rewritten r)
 
-  -- In a group with modifiers both settings change, each by the modifiers that stand there.
+  -- In a group with modifiers both settings change: the old ones by the old modifiers, the new ones by those that are left.
   abbrev mutual
     pub node_rewritten : Settings → Settings → Node → Node
     node_rewritten old new (leaf l) = leaf_rewritten old new l
     node_rewritten old new (quantified s min max greedy n) = quantified s min max greedy (node_rewritten old new n)
     node_rewritten old new (group s (capturing name) d more) = group s (capturing (name_rewritten name)) d (alternatives_rewritten old new more)
     node_rewritten old new (group s (ignoring m) d more) =
-        group s (ignoring (modifiers_rewritten m)) d (alternatives_rewritten (changed m old) (changed (modifiers_rewritten m) new) more)
+        group s (ignoring (modifiers_rewritten m)) d (alternatives_rewritten (update_settings m old) (update_settings (modifiers_rewritten m) new) more)
     node_rewritten old new (group s (looking k) d more) = group s (looking k) d (alternatives_rewritten old new more)
 
     pub nodes_rewritten : Settings → Settings → Nodes → Nodes

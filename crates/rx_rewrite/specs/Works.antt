@@ -13,11 +13,11 @@ pub data Work : Type 0 where
   alternatives : Settings → Settings → Alternatives → Work
   terms : Settings → Settings → Nodes → Work
   term : Settings → Settings → Node → Work
-  -- a group or a look-around that begins with what is rewritten already
+  -- a group or a look-around whose beginning is rewritten already
   opening : Settings → Settings → Span → Opener → Span → Alternatives → Work
-  -- the end of an alternative, in a group that stands after these terms
+  -- the end of an alternative; the group that it is in stands after these terms
   ending_alternative : Span → List Node → Work
-  -- the end of a group or a look-around, in an alternative after these
+  -- the end of a group or a look-around; the alternative that it is in stands after these alternatives
   ending_group : Span → Opener → Span → List SpannedNodes → Work
   -- the end of what a quantifier repeats
   ending_quantifier : Span → ℕ → Option ℕ → Bool → Work
@@ -38,14 +38,14 @@ listed_alternatives (alternative s ns more) = (s, ns) ∷ listed_alternatives mo
 abbrev pub with_node : Made → Node → Made
 with_node m n = record m { terms = m.terms ++ (n ∷ []) }
 
--- The last term is changed; where there is none, nothing comes out.
+-- The last term is changed; where there is no term, nothing comes out.
 abbrev pub on_last : (Node → Node) → List Node → (List Node → Option Made) → Option Made
 on_last f [] rest = None
 on_last f (n ∷ []) rest = rest (f n ∷ [])
 on_last f (n ∷ m ∷ ns) rest = on_last f (m ∷ ns) (λ ms. rest (n ∷ ms))
 
 module _ (what : Rewrites) (names : Names) where
-  -- what comes out of a work, and then of the rest
+  -- what comes out of a piece of work, and then of the rest
   abbrev pub worked : Work → (Made → Option Made) → Made → Option Made
   worked (alternatives old new more) rest m = rest (record m { alternatives = m.alternatives ++ listed_alternatives (alternatives_rewritten what names old new more) })
   worked (terms old new ns) rest m = rest (record m { terms = m.terms ++ listed (nodes_rewritten what names old new ns) })
@@ -59,7 +59,7 @@ module _ (what : Rewrites) (names : Names) where
   all_worked [] m = Some m
   all_worked (w ∷ ws) m = worked w (all_worked ws) m
 
--- how many works come of a tree, at most
+-- the most pieces of work that are made of a tree
 abbrev mutual
   pub node_weight : Node → ℕ
   node_weight (leaf l) = 1

@@ -5,7 +5,7 @@ use rx_base::{OutOfMemory, Span};
 pub enum RewriteFault {
     /// There was not enough memory.
     OutOfMemory,
-    /// Names are to go, and two groups have one: `second` is the first group whose name stood before, and `first` the first group of its name.
+    /// Names are to go, and two groups have the same one: `second` is the span of the first group whose name stood before, and `first` that of the first group of this name.
     NameUsedTwice { first: Span, second: Span },
 }
 

@@ -3,8 +3,8 @@
 
 mod copy_class;
 mod fault;
+mod kept_modifiers;
 pub mod laws;
-mod left;
 mod numbers;
 mod opener;
 mod plain;
@@ -15,7 +15,7 @@ mod settings;
 mod wanted;
 
 pub use fault::RewriteFault;
-pub use left::modifiers_left;
+pub use kept_modifiers::modifiers_left;
 pub use rewrites::Rewrites;
 pub use rewriting::rewrite;
 pub use wanted::Wanted;

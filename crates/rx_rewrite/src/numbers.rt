@@ -3,7 +3,7 @@ ghost use Rattle.std.specs.Str.{IsUtf8, chars};
 ghost use Rattle.rx_ast.specs.declared.term.CapturingGroup.{out-CapturingGroup};
 ghost use Rattle.rx_ast.specs.MirrorKinds.{mirror_kind};
 ghost use Rattle.rx_rewrite.specs.Answers.{named_group};
-ghost use Rattle.rx_rewrite.specs.Numbers.{IsNumbering, Numbers, Tells, group_name, group_names, Inserts, named_by, number_at};
+ghost use Rattle.rx_rewrite.specs.NamedGroups.{IsNumbering, Numbers, Tells, group_name, group_names, Inserts, group_of_name, number_at};
 
 use crate::fault::RewriteFault;
 use rx_ast::{CapturingGroup, RegExpAstKind};
@@ -18,7 +18,7 @@ pub struct NumberedGroup {
     pub span: Span,
 }
 
-/// How many groups open in a tree, and by their names those that have one, no two of which are equal.
+/// How many groups open in a tree; and the groups that have a name, by their names, no two of which are equal.
 #[derive(Drop)]
 pub struct GroupNumbers {
     pub count: u32,
@@ -61,7 +61,7 @@ impl GroupNumbers {
 
     fn add(&mut self, alloc: Global, group: &CapturingGroup) -> Result<(), RewriteFault>
         requires { self.old.count + 1 < 2 ^ 32 }
-        ensures { Numbers self.old ((out-CapturingGroup group.now).name ∷ []) (named_by (out-CapturingGroup group.now).name (out-CapturingGroup group.now).span) self.new result }
+        ensures { Numbers self.old ((out-CapturingGroup group.now).name ∷ []) (group_of_name (out-CapturingGroup group.now).name (out-CapturingGroup group.now).span) self.new result }
     {
         match &group.name {
             None => {
@@ -72,6 +72,7 @@ impl GroupNumbers {
         }
     }
 
+    // Why: docs/DECISIONS.md, 89.
     fn add_named(&mut self, alloc: Global, name: &Text, span: Span) -> Result<(), RewriteFault>
         requires { self.old.count + 1 < 2 ^ 32 }
         ensures { Numbers self.old (Some name.now ∷ []) ((name.now, span) ∷ []) self.new result }

@@ -1,6 +1,6 @@
 ghost use Rattle.std.specs.Prelude.{◌≡◌, IfOk};
 ghost use Rattle.rx_ast.specs.Tree.{group, mirror_disjunction, mirror_term};
-ghost use Rattle.rx_rewrite.specs.Built.{opener_of};
+ghost use Rattle.rx_rewrite.specs.RewriterState.{opener_of};
 
 use rx_ast::{
     CapturingGroup, Disjunction, IgnoreGroup, LookAroundAssertion, LookAroundAssertionKind,

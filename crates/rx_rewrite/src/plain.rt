@@ -10,7 +10,7 @@ use rx_ast::{
 use rx_base::{List, OutOfMemory, Span};
 use std::alloc::Global;
 
-/// A class that is not what its items hold.
+/// The class of all that these items do not hold.
 #[tactic(auto, using(rx_ast::proofs::ClassEquations::class_mirrors))]
 fn not_in_class(span: Span, body: List<CharacterClassContents>) -> CharacterClass
     ensures { mirror_class result ≡ not_in_class_of span (members (map mirror_contents body)) }
@@ -67,7 +67,7 @@ fn alone<T: Drop>(alloc: Global, item: T) -> Result<List<T>, OutOfMemory>
     Ok(list)
 }
 
-/// A look-around in which a class stands alone.
+/// A look-around whose body is a class alone.
 #[tactic(auto, using(rx_ast::proofs::Equations::mirrors))]
 pub fn look_for(
     alloc: Global,

@@ -2,7 +2,7 @@ ghost use Rattle.std.specs.Prelude.{◌≡◌, ◌∷◌, ◌<◌, IfOk, OnOk, l
 ghost use Rattle.rx_ast.specs.Tree.{alternatives as alternatives_of, boundary, class, dot, leaf, mirror_alternative, mirror_capturing, mirror_disjunction, mirror_ignore, mirror_look, mirror_quantifier, mirror_term, nodes};
 ghost use Rattle.rx_ast.specs.ClassTree.{mirror_class};
 ghost use Rattle.rx_trace.specs.Groups.{Names};
-ghost use Rattle.rx_rewrite.specs.Built.{IsNumbered, IsReady, AddsTerm, Performs, opener_of, with_task, work_of, works};
+ghost use Rattle.rx_rewrite.specs.RewriterState.{IsNumbered, IsReady, AddsTerm, Performs, opener_of, with_task, work_of, works};
 ghost use Rattle.rx_rewrite.specs.Rewriting.{alternatives_rewritten, boundary_rewritten, dot_rewritten, end_rewritten, modifiers_rewritten, name_rewritten, reference_rewritten};
 ghost use Rattle.rx_rewrite.specs.Works.{alternatives as alternatives_work, ending_alternative, ending_group, ending_quantifier, opening, term as term_work, terms as terms_work};
 
@@ -11,7 +11,9 @@ use crate::numbers::GroupNumbers;
 use crate::opener::{Opener, copy_text};
 use crate::plain::{any_unit, class_term, look_for, no_line_terminator};
 use crate::rewrites::Rewrites;
-use crate::settings::{Reading, Replacement, modifiers_copied, modifiers_kept, replacement_for};
+use crate::settings::{
+    Replacement, SettingsPair, modifiers_copied, modifiers_kept, replacement_for,
+};
 use rx_ast::{
     Alternative, BoundaryAssertion, BoundaryAssertionKind, CapturingGroup, CharacterClass,
     Disjunction, Dot, IgnoreGroup, IndexedReference, LookAroundAssertion, LookAroundAssertionKind,
@@ -25,15 +27,15 @@ use std::alloc::Global;
 #[derive(Drop)]
 pub enum Task<'a> {
     Alternatives {
-        reading: Reading,
+        settings: SettingsPair,
         alternatives: &'a [Alternative],
     },
     Terms {
-        reading: Reading,
+        settings: SettingsPair,
         terms: &'a [Term],
     },
     Term {
-        reading: Reading,
+        settings: SettingsPair,
         term: &'a Term,
     },
     /// The end of an alternative, with the terms of the one that its group stands in.
@@ -69,11 +71,11 @@ pub fn rewrite_disjunction(
     alloc: Global,
     what: Rewrites,
     numbers: &GroupNumbers,
-    reading: Reading,
+    settings: SettingsPair,
     body: &Disjunction,
 ) -> Result<Disjunction, OutOfMemory>
     requires { (names : Names) × IsNumbered what names numbers.now }
-    ensures { (names : Names) → IsNumbered what names numbers.now → IfOk result (λ it. mirror_disjunction it ≡ ((mirror_disjunction body.now).0, alternatives_rewritten what names reading.old reading.new (mirror_disjunction body.now).1)) }
+    ensures { (names : Names) → IsNumbered what names numbers.now → IfOk result (λ it. mirror_disjunction it ≡ ((mirror_disjunction body.now).0, alternatives_rewritten what names settings.old settings.new (mirror_disjunction body.now).1)) }
 {
     let alternatives = body.body.as_slice();
     let mut rewriter = Rewriter {
@@ -85,7 +87,7 @@ pub fn rewrite_disjunction(
         alternatives: List::with_capacity(alloc, alternatives.len())?,
     };
     rewriter.tasks.push(Task::Alternatives {
-        reading,
+        settings,
         alternatives,
     })?;
     while let Some(task) = rewriter.tasks.pop() {
@@ -106,11 +108,11 @@ impl<'a> Rewriter<'a> {
     {
         match task {
             Task::Alternatives {
-                reading,
+                settings,
                 alternatives,
-            } => self.alternatives(reading, alternatives),
-            Task::Terms { reading, terms } => self.terms(reading, terms),
-            Task::Term { reading, term } => self.term(reading, term),
+            } => self.alternatives(settings, alternatives),
+            Task::Terms { settings, terms } => self.terms(settings, terms),
+            Task::Term { settings, term } => self.term(settings, term),
             Task::EndAlternative { span, outer } => self.end_alternative(span, outer),
             Task::EndGroup {
                 span,
@@ -124,16 +126,16 @@ impl<'a> Rewriter<'a> {
 
     fn alternatives(
         &mut self,
-        reading: Reading,
+        settings: SettingsPair,
         alternatives: &'a [Alternative],
     ) -> Result<(), OutOfMemory>
-        ensures { OnOk result (Performs self.old (alternatives_work reading.old reading.new (alternatives_of (map mirror_alternative alternatives.now))) self.new) }
+        ensures { OnOk result (Performs self.old (alternatives_work settings.old settings.new (alternatives_of (map mirror_alternative alternatives.now))) self.new) }
     {
         let Some((first, alternatives)) = alternatives.split_first() else {
             return Ok(());
         };
         self.push_task(Task::Alternatives {
-            reading,
+            settings,
             alternatives,
         })?;
         let terms = first.body.as_slice();
@@ -141,7 +143,7 @@ impl<'a> Rewriter<'a> {
         let outer = std::mem::replace(&mut self.terms, inner);
         let span = first.span;
         self.push_task(Task::EndAlternative { span, outer })?;
-        self.push_task(Task::Terms { reading, terms })
+        self.push_task(Task::Terms { settings, terms })
     }
 
     fn end_alternative(&mut self, span: Span, outer: List<Term>) -> Result<(), OutOfMemory>
@@ -151,30 +153,30 @@ impl<'a> Rewriter<'a> {
         self.alternatives.push(Alternative { span, body })
     }
 
-    fn terms(&mut self, reading: Reading, terms: &'a [Term]) -> Result<(), OutOfMemory>
-        ensures { OnOk result (Performs self.old (terms_work reading.old reading.new (nodes (map mirror_term terms.now))) self.new) }
+    fn terms(&mut self, settings: SettingsPair, terms: &'a [Term]) -> Result<(), OutOfMemory>
+        ensures { OnOk result (Performs self.old (terms_work settings.old settings.new (nodes (map mirror_term terms.now))) self.new) }
     {
         let Some((term, terms)) = terms.split_first() else {
             return Ok(());
         };
-        self.push_task(Task::Terms { reading, terms })?;
-        self.push_task(Task::Term { reading, term })
+        self.push_task(Task::Terms { settings, terms })?;
+        self.push_task(Task::Term { settings, term })
     }
 
-    fn term(&mut self, reading: Reading, term: &'a Term) -> Result<(), OutOfMemory>
-        ensures { OnOk result (Performs self.old (term_work reading.old reading.new (mirror_term term.now)) self.new) }
+    fn term(&mut self, settings: SettingsPair, term: &'a Term) -> Result<(), OutOfMemory>
+        ensures { OnOk result (Performs self.old (term_work settings.old settings.new (mirror_term term.now)) self.new) }
     {
         match term {
-            Term::LookAroundAssertion(it) => self.look_around(reading, it),
-            Term::Quantifier(it) => self.quantifier(reading, it),
-            Term::CapturingGroup(it) => self.capturing(reading, it),
-            Term::IgnoreGroup(it) => self.ignoring(reading, it),
+            Term::LookAroundAssertion(it) => self.look_around(settings, it),
+            Term::Quantifier(it) => self.quantifier(settings, it),
+            Term::CapturingGroup(it) => self.rewrite_capturing(settings, it),
+            Term::IgnoreGroup(it) => self.ignoring(settings, it),
             Term::BoundaryAssertion(it) => {
-                let made = self.boundary(reading, it)?;
+                let made = self.boundary(settings, it)?;
                 self.push_term(made)
             }
             Term::Dot(it) => {
-                let made = self.dot(reading, *it)?;
+                let made = self.dot(settings, *it)?;
                 self.push_term(made)
             }
             Term::CharacterClass(it) => {
@@ -215,42 +217,46 @@ impl<'a> Rewriter<'a> {
 
 /// Groups and quantifiers.
 impl<'a> Rewriter<'a> {
-    fn capturing(&mut self, reading: Reading, it: &'a CapturingGroup) -> Result<(), OutOfMemory>
-        ensures { OnOk result (Performs self.old (term_work reading.old reading.new (mirror_capturing it.now)) self.new) }
+    fn rewrite_capturing(
+        &mut self,
+        settings: SettingsPair,
+        it: &'a CapturingGroup,
+    ) -> Result<(), OutOfMemory>
+        ensures { OnOk result (Performs self.old (term_work settings.old settings.new (mirror_capturing it.now)) self.new) }
     {
         let name = self.name(&it.name)?;
-        self.open_group(reading, it.span, Opener::Capturing(name), &it.body)
+        self.open_group(settings, it.span, Opener::Capturing(name), &it.body)
     }
 
-    fn ignoring(&mut self, reading: Reading, it: &'a IgnoreGroup) -> Result<(), OutOfMemory>
-        ensures { OnOk result (Performs self.old (term_work reading.old reading.new (mirror_ignore it.now)) self.new) }
+    fn ignoring(&mut self, settings: SettingsPair, it: &'a IgnoreGroup) -> Result<(), OutOfMemory>
+        ensures { OnOk result (Performs self.old (term_work settings.old settings.new (mirror_ignore it.now)) self.new) }
     {
         let modifiers = self.modifiers(&it.modifiers);
-        let inside = Reading {
-            old: settings_after(&it.modifiers, reading.old),
-            new: settings_after(&modifiers, reading.new),
+        let inside = SettingsPair {
+            old: settings_after(&it.modifiers, settings.old),
+            new: settings_after(&modifiers, settings.new),
         };
         self.open_group(inside, it.span, Opener::Ignoring(modifiers), &it.body)
     }
 
     fn look_around(
         &mut self,
-        reading: Reading,
+        settings: SettingsPair,
         it: &'a LookAroundAssertion,
     ) -> Result<(), OutOfMemory>
-        ensures { OnOk result (Performs self.old (term_work reading.old reading.new (mirror_look it.now)) self.new) }
+        ensures { OnOk result (Performs self.old (term_work settings.old settings.new (mirror_look it.now)) self.new) }
     {
-        self.open_group(reading, it.span, Opener::LookAround(it.kind), &it.body)
+        self.open_group(settings, it.span, Opener::LookAround(it.kind), &it.body)
     }
 
     fn open_group(
         &mut self,
-        reading: Reading,
+        settings: SettingsPair,
         span: Span,
         opener: Opener,
         body: &'a Disjunction,
     ) -> Result<(), OutOfMemory>
-        ensures { OnOk result (Performs self.old (opening reading.old reading.new span (opener_of opener) (mirror_disjunction body.now).0 (mirror_disjunction body.now).1) self.new) }
+        ensures { OnOk result (Performs self.old (opening settings.old settings.new span (opener_of opener) (mirror_disjunction body.now).0 (mirror_disjunction body.now).1) self.new) }
     {
         let alternatives = body.body.as_slice();
         let inner = List::with_capacity(self.alloc, alternatives.len())?;
@@ -262,7 +268,7 @@ impl<'a> Rewriter<'a> {
             outer,
         })?;
         self.push_task(Task::Alternatives {
-            reading,
+            settings,
             alternatives,
         })
     }
@@ -285,12 +291,12 @@ impl<'a> Rewriter<'a> {
         self.terms.push(term)
     }
 
-    fn quantifier(&mut self, reading: Reading, it: &'a Quantifier) -> Result<(), OutOfMemory>
-        ensures { OnOk result (Performs self.old (term_work reading.old reading.new (mirror_quantifier it.now)) self.new) }
+    fn quantifier(&mut self, settings: SettingsPair, it: &'a Quantifier) -> Result<(), OutOfMemory>
+        ensures { OnOk result (Performs self.old (term_work settings.old settings.new (mirror_quantifier it.now)) self.new) }
     {
         self.push_task(Task::EndQuantifier(it))?;
         self.push_task(Task::Term {
-            reading,
+            settings,
             term: &it.body,
         })
     }
@@ -345,25 +351,29 @@ impl<'a> Rewriter<'a> {
     }
 
     /// `.`, or a class that holds the same.
-    fn dot(&self, reading: Reading, it: Dot) -> Result<Term, OutOfMemory>
-        ensures { IfOk result (λ made. mirror_term made ≡ dot_rewritten self.now.what.dot_all reading.old.dot_all reading.new.dot_all it) }
+    fn dot(&self, settings: SettingsPair, it: Dot) -> Result<Term, OutOfMemory>
+        ensures { IfOk result (λ made. mirror_term made ≡ dot_rewritten self.now.what.dot_all settings.old.dot_all settings.new.dot_all it) }
     {
-        match replacement_for(self.what.dot_all, reading.old.dot_all, reading.new.dot_all) {
+        match replacement_for(
+            self.what.dot_all,
+            settings.old.dot_all,
+            settings.new.dot_all,
+        ) {
             Replacement::Keep => Ok(Term::Dot(it)),
             Replacement::On => class_term(self.alloc, any_unit(self.alloc, it.span)),
             Replacement::Off => class_term(self.alloc, no_line_terminator(self.alloc, it.span)?),
         }
     }
 
-    fn boundary(&self, reading: Reading, it: &BoundaryAssertion) -> Result<Term, OutOfMemory>
-        ensures { IfOk result (λ made. mirror_term made ≡ boundary_rewritten self.now.what.multiline reading.old.multiline reading.new.multiline it.now.kind it.now) }
+    fn boundary(&self, settings: SettingsPair, it: &BoundaryAssertion) -> Result<Term, OutOfMemory>
+        ensures { IfOk result (λ made. mirror_term made ≡ boundary_rewritten self.now.what.multiline settings.old.multiline settings.new.multiline it.now.kind it.now) }
     {
         match it.kind {
             BoundaryAssertionKind::Start => {
-                self.line_end(reading, it, LookAroundAssertionKind::NegativeLookbehind)
+                self.line_end(settings, it, LookAroundAssertionKind::NegativeLookbehind)
             }
             BoundaryAssertionKind::End => {
-                self.line_end(reading, it, LookAroundAssertionKind::NegativeLookahead)
+                self.line_end(settings, it, LookAroundAssertionKind::NegativeLookahead)
             }
             BoundaryAssertionKind::Boundary
             | BoundaryAssertionKind::NegativeBoundary
@@ -376,16 +386,16 @@ impl<'a> Rewriter<'a> {
     /// `^` or `$`, or a look-around that holds at the same places.
     fn line_end(
         &self,
-        reading: Reading,
+        settings: SettingsPair,
         it: &BoundaryAssertion,
         kind: LookAroundAssertionKind,
     ) -> Result<Term, OutOfMemory>
-        ensures { IfOk result (λ made. mirror_term made ≡ end_rewritten self.now.what.multiline reading.old.multiline reading.new.multiline kind it.now) }
+        ensures { IfOk result (λ made. mirror_term made ≡ end_rewritten self.now.what.multiline settings.old.multiline settings.new.multiline kind it.now) }
     {
         match replacement_for(
             self.what.multiline,
-            reading.old.multiline,
-            reading.new.multiline,
+            settings.old.multiline,
+            settings.new.multiline,
         ) {
             Replacement::Keep => Ok(boundary_term(it)),
             Replacement::On => {

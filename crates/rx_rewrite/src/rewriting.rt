@@ -4,7 +4,7 @@ ghost use Rattle.rx_model.specs.Trees.Early.{IsEarly, most_groups};
 ghost use Rattle.rx_model.specs.Trees.Names.{groups};
 ghost use Rattle.rx_trace.specs.Answers.{settings};
 ghost use Rattle.rx_rewrite.specs.Rewriting.{flags_rewritten};
-ghost use Rattle.rx_rewrite.specs.Numbered.{IsNumberingOf};
+ghost use Rattle.rx_rewrite.specs.GroupNumbers.{IsNumberingOf};
 ghost use Rattle.rx_rewrite.specs.Answers.{IsRewritten, rules_of};
 ghost use Rattle.rx_rewrite.specs.Promises.{Promises};
 
@@ -12,7 +12,7 @@ use crate::fault::RewriteFault;
 use crate::numbers::GroupNumbers;
 use crate::rewriter::rewrite_disjunction;
 use crate::rewrites::Rewrites;
-use crate::settings::Reading;
+use crate::settings::SettingsPair;
 use rx_ast::Pattern;
 use rx_trace::{MatchFlags, Settings, settings_at_start};
 use rx_visit::nodes_in_order;
@@ -36,11 +36,11 @@ pub fn rewrite(
     ensures promised { IfOk result (λ it. Promises what flags pattern.now it) }
 {
     let numbers = numbers_for(alloc, pattern, what)?;
-    let reading = Reading {
+    let settings = SettingsPair {
         old: settings_at_start(flags),
         new: settings_left(flags, what),
     };
-    let body = rewrite_disjunction(alloc, what, &numbers, reading, &pattern.body)?;
+    let body = rewrite_disjunction(alloc, what, &numbers, settings, &pattern.body)?;
     Ok(Pattern {
         span: pattern.span,
         body,

@@ -1,6 +1,6 @@
 ghost use Rattle.std.specs.Prelude.{◌≡◌};
 ghost use Rattle.rx_ast.specs.Tree.{Node};
-ghost use Rattle.rx_rewrite.specs.Plain.{replaced};
+ghost use Rattle.rx_rewrite.specs.Plain.{chosen_term};
 ghost use Rattle.rx_rewrite.specs.Rewriting.{by_setting, modifiers_kept as modifiers_kept_of};
 
 use rx_ast::{Modifier, Modifiers};
@@ -8,12 +8,12 @@ use rx_trace::Settings;
 
 /// The settings that a term is read under, before the rewriting and after it.
 #[derive(Clone, Copy)]
-pub struct Reading {
+pub struct SettingsPair {
     pub old: Settings,
     pub new: Settings,
 }
 
-/// What is done about a term whose meaning hangs on a setting.
+/// What is done about a term whose meaning depends on a setting.
 #[derive(Clone, Copy)]
 pub enum Replacement {
     /// It stays as it is.
@@ -24,9 +24,10 @@ pub enum Replacement {
     Off,
 }
 
-/// Where the setting stays on, the term is replaced if that is asked for.
+/// What is done about a term, by its setting before and after. Where the setting stays on, the term is replaced only if that is asked for.
+// Why: docs/DECISIONS.md, 90.
 pub fn replacement_for(asked: bool, old: bool, new: bool) -> Replacement
-    ensures { (same on off : Node) → replaced result same on off ≡ by_setting asked old new same on off }
+    ensures { (same on off : Node) → chosen_term result same on off ≡ by_setting asked old new same on off }
 {
     match (old, new) {
         (true, true) if asked => Replacement::On,

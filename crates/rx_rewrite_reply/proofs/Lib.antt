@@ -1,2 +1,2 @@
+pub mod AnswerReplies
 pub mod Parts
-pub mod Replied

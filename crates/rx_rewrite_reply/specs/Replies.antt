@@ -14,7 +14,7 @@ use Rattle.rx_rewrite.specs.declared.fault.RewriteFault.{RewriteFault}
 use Rattle.rx_rewrite.specs.declared.fault.RewriteFault.TheVariants as fault
 use Rattle.rx_rewrite.specs.declared.rewrites.Rewrites.{Rewrites}
 use Rattle.rx_rewrite.specs.Answers.{IsRewritten}
-use Rattle.rx_rewrite.specs.Left.{left_in}
+use Rattle.rx_rewrite.specs.KeptModifiers.{kept_modifiers_in}
 use Rattle.rx_rewrite.specs.declared.wanted.Wanted.{Wanted}
 use Rattle.rx_rewrite.specs.declared.wanted.Wanted.TheVariants.{All, Listed}
 use Rattle.rx_rewrite.specs.Wanted.{rewrites_of}
@@ -47,15 +47,15 @@ answer_reply what letters mode (Err (fault.NameUsedTwice first second)) = Some (
 answer_reply what letters mode (Err fault.OutOfMemory) = None
 
 -- the span of modifiers that do not go, where modifiers are named among what is to go
-abbrev pub refused_by : Wanted → Whole → Option Span
-refused_by All tree = None
-refused_by (Listed what) tree = if what.pattern_modifiers then left_in tree else None
+abbrev pub kept_among : Wanted → Whole → Option Span
+kept_among All tree = None
+kept_among (Listed what) tree = if what.pattern_modifiers then kept_modifiers_in tree else None
 
 abbrev pub unsupported_reply : Span → List ℕ
 unsupported_reply span = codes "err\tunsupported\t" ++ span_text span ++ codes "\n"
 
 -- The reply says that modifiers are left, or else what the pattern is rewritten into.
 pub data IsRewriteReply (wanted : Wanted) (letters : List ℕ) (mode : Mode) (tree : Whole) : List ℕ → Type 0 where
-  unsupported : (span : Span) → refused_by wanted tree ≡ Some span → IsRewriteReply wanted letters mode tree (unsupported_reply span)
-  answered : (answer : Result Pattern RewriteFault) (reply : List ℕ) → refused_by wanted tree ≡ None → IsRewritten (rewrites_of wanted) (match_flags letters mode) tree answer
+  unsupported : (span : Span) → kept_among wanted tree ≡ Some span → IsRewriteReply wanted letters mode tree (unsupported_reply span)
+  answered : (answer : Result Pattern RewriteFault) (reply : List ℕ) → kept_among wanted tree ≡ None → IsRewritten (rewrites_of wanted) (match_flags letters mode) tree answer
       → answer_reply (rewrites_of wanted) letters mode answer ≡ Some reply → IsRewriteReply wanted letters mode tree reply

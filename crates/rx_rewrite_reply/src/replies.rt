@@ -6,7 +6,7 @@ ghost use Rattle.rx_model.specs.Trees.Early.{IsEarly};
 ghost use Rattle.rx_rewrite.specs.Answers.{rules_of};
 ghost use Rattle.rx_rewrite.specs.Wanted.{rewrites_of};
 ghost use Rattle.rx_reply.specs.Added.{IsAdded};
-ghost use Rattle.rx_rewrite_reply.specs.Replies.{IsRewriteReply, answer_reply, pattern_reply, refused_by};
+ghost use Rattle.rx_rewrite_reply.specs.Replies.{IsRewriteReply, answer_reply, pattern_reply, kept_among};
 
 use crate::flags::{add_flags, match_flags};
 use rx_ast::Pattern;
@@ -80,7 +80,7 @@ fn modes_of(mode: Mode) -> (bool, bool)
 
 /// The span of modifiers that do not go, where modifiers are named among what is to go.
 fn refused(alloc: Global, pattern: &Pattern, wanted: Wanted) -> Result<Option<Span>, OutOfMemory>
-    ensures { IfOk result (λ it. it ≡ refused_by wanted (mirror pattern.now)) }
+    ensures { IfOk result (λ it. it ≡ kept_among wanted (mirror pattern.now)) }
 {
     match wanted {
         Wanted::All => Ok(None),

@@ -116,10 +116,14 @@ pub fn rewritten_text(
         unicode_mode: modes.0,
     };
     let answer = rewrite(alloc, &read, modes, (true, true), match_flags, what);
-    told(alloc, answer, mode)
+    describe(alloc, answer, mode)
 }
 
-fn told(alloc: Global, answer: Result<Pattern, RewriteFault>, mode: Mode) -> Result<String, Fail> {
+fn describe(
+    alloc: Global,
+    answer: Result<Pattern, RewriteFault>,
+    mode: Mode,
+) -> Result<String, Fail> {
     match answer {
         Ok(pattern) => {
             let text = canonical_text(alloc, &pattern, mode)?;

@@ -16,7 +16,7 @@ use Rattle.rx_command.specs.declared.answer.Answering.{Answering}
 use Rattle.rx_command.specs.declared.service.Service.{Service}
 use Rattle.rx_run.specs.Request.{Request}
 use Rattle.rx_run.specs.Reply.{IsAsked, IsReply, IsSaid, bad, said, err, bad_reply, begins_ok, canonical_reply, err_reply, input_of, mode_name}
-use Rattle.rx_run.specs.Serving.{kept}
+use Rattle.rx_run.specs.Serving.{line_front}
 
 -- the parts of a reply with the spelling, added after one another
 pub canonical_reply_added : (old first second third text : List ℕ) (mode : Mode) → first ≡ old ++ (codes "ok\t" ++ mode_name mode ++ codes "\t") → second ≡ first ++ utf8 text
@@ -27,18 +27,18 @@ canonical_reply_added old first second third text mode e f g =
     g ∙ ap (λ (x : List ℕ). x ++ codes "\n") (f ∙ ap (λ (x : List ℕ). x ++ encode_utf8_all text) e ∙ append_assoc old front (encode_utf8_all text))
     ∙ append_assoc old (front ++ encode_utf8_all text) (codes "\n")
 
-pub kept-short : (line : List ℕ) → length line ≤ 1048577 → kept line ≡ line
-unfolding kept
+pub kept-short : (line : List ℕ) → length line ≤ 1048577 → line_front line ≡ line
+unfolding line_front
 kept-short line short = take_all 1048577 line short
 
-pub length-kept : (line : List ℕ) → 1048577 ≤ length line → length (kept line) ≡ 1048577
-unfolding kept
+pub length-kept : (line : List ℕ) → 1048577 ≤ length line → length (line_front line) ≡ 1048577
+unfolding line_front
 length-kept line long = length-take-le 1048577 line long
 
 -- a reply that begins with `ok` leaves the flag
 pub ok_added : (P : List ℕ → Type 0) (reply old new : List ℕ) (was is : Bool) → P reply → begins_ok reply ≡ true → is ≡ was → new ≡ old ++ reply
     → (reply : List ℕ) × P reply × (new ≡ old ++ reply) × (is ≡ (was && begins_ok reply))
-ok_added P reply old new was is holds begins kept added = (reply, holds, added, kept ∙ sym (ap (λ (b : Bool). was && b) begins ∙ and-true was))
+ok_added P reply old new was is holds begins line_front added = (reply, holds, added, line_front ∙ sym (ap (λ (b : Bool). was && b) begins ∙ and-true was))
 
 -- where an added reply begins
 pub judged_start : {P : List ℕ → Type 0} (old new : List ℕ) (start : ℕ) → start ≡ length old → (reply : List ℕ) × P reply × (new ≡ old ++ reply) → start ≤ length new
@@ -47,9 +47,9 @@ judged_start old new start at added = let longer = ap length added.2 ∙ length-
 -- a reply that was added, and then judged
 pub judged : {P : List ℕ → Type 0} (old new last : List ℕ) (start : ℕ) (was is : Bool) → start ≡ length old → (reply : List ℕ) × P reply × (new ≡ old ++ reply) → last ≡ new → is ≡ (was && begins_ok (drop start new))
     → (reply : List ℕ) × P reply × (last ≡ old ++ reply) × (is ≡ (was && begins_ok reply))
-judged old new last start was is at added kept noted =
+judged old new last start was is at added line_front noted =
     let left : drop start new ≡ added.0 = ap (λ k. drop k new) at ∙ ap (drop (length old)) added.2 ∙ drop-append_seam old added.0 in
-    (added.0, added.1, kept ∙ added.2, noted ∙ ap (λ reply. was && begins_ok reply) left)
+    (added.0, added.1, line_front ∙ added.2, noted ∙ ap (λ reply. was && begins_ok reply) left)
 
 -- in a line past the limit nothing is asked
 long_asks_nothing : (answering : Answering) (line : List ℕ) (request : Request) → 1048576 < length line → IsAsked answering line request → ⊥
@@ -82,14 +82,14 @@ module _ {service : Service} where
       let P : List ℕ → Type 0 = λ r. IsReply service line' r in subst P (sym (bad_if_long line reply long is)) (long_is_bad line' long')
 
   -- the line and as much of it as is kept have the same replies
-  pub IsReply-kept : (line reply : List ℕ) → IsReply service (kept line) reply → IsReply service line reply
+  pub IsReply-kept : (line reply : List ℕ) → IsReply service (line_front line) reply → IsReply service line reply
   IsReply-kept line reply is = elim (cases_lt 1048577 (length line)) [
-    | inl long ↦ long_alike (kept line) line reply (let len : length (kept line) ≡ 1048577 = length-kept line (omega arith) in omega arith) (omega arith) is
+    | inl long ↦ long_alike (line_front line) line reply (let len : length (line_front line) ≡ 1048577 = length-kept line (omega arith) in omega arith) (omega arith) is
     | inr short ↦ let P : List ℕ → Type 0 = λ x. IsReply service x reply in subst P (kept-short line short) is
   ]
 
-  pub IsReply-of_kept : (line reply : List ℕ) → IsReply service line reply → IsReply service (kept line) reply
+  pub IsReply-of_kept : (line reply : List ℕ) → IsReply service line reply → IsReply service (line_front line) reply
   IsReply-of_kept line reply is = elim (cases_lt 1048577 (length line)) [
-    | inl long ↦ long_alike line (kept line) reply (omega arith) (let len : length (kept line) ≡ 1048577 = length-kept line (omega arith) in omega arith) is
+    | inl long ↦ long_alike line (line_front line) reply (omega arith) (let len : length (line_front line) ≡ 1048577 = length-kept line (omega arith) in omega arith) is
     | inr short ↦ let P : List ℕ → Type 0 = λ x. IsReply service x reply in subst P (sym (kept-short line short)) is
   ]

@@ -2,7 +2,7 @@
 use Rattle.std.proofs.Common.{◌≡◌, ◌∙◌, sym, ap, ℕ, ◌+◌, ◌-◌, ◌≤◌, min, List, ◌++◌, length, take, Result, Ok, Err, OnOk, OnErr, arith}
 use Rattle.std.proofs.lemmas.List.{length-take, take_min}
 use Rattle.std.proofs.Math.Seq.{take-append-add}
-use Rattle.rx_run.specs.Serving.{kept}
+use Rattle.rx_run.specs.Serving.{line_front}
 
 -- a line that is longer than is kept grows no more
 kept-more : (n : ℕ) (line piece : List ℕ) → length line ≤ n → line ++ take (min (length piece) (n - length line)) piece ≡ take n (line ++ piece)
@@ -15,8 +15,8 @@ kept-more n line piece h =
 pub kept_grown-bound : (n : ℕ) (line piece : List ℕ) → length line ≤ n → length (line ++ take (min (length piece) (n - length line)) piece) ≤ n
 kept_grown-bound n line piece h = omega (arith, ap length (kept-more n line piece h), length-take n (line ++ piece))
 
-pub kept_grown : (line piece : List ℕ) → length line ≤ 1048577 → line ++ take (min (length piece) (1048577 - length line)) piece ≡ kept (line ++ piece)
-unfolding kept
+pub kept_grown : (line piece : List ℕ) → length line ≤ 1048577 → line ++ take (min (length piece) (1048577 - length line)) piece ≡ line_front (line ++ piece)
+unfolding line_front
 kept_grown line piece h = kept-more 1048577 line piece h
 
 -- a fact that both outcomes give

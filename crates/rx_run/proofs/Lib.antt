@@ -1,9 +1,9 @@
 pub mod Lacking
 pub mod Lines
-pub mod Requests
 pub mod Answering
 pub mod Keeping
-pub mod Servings
+pub mod NoRequests
+pub mod PatternsMade
 pub mod Progresses
-pub mod Generated
-pub mod Generating
+pub mod Serving
+pub mod ValidPatterns

@@ -5,7 +5,7 @@ use Rattle.std.specs.Io.KnownBytes.{Appends}
 use Rattle.rx_command.specs.declared.service.Service.{Service}
 use Rattle.rx_run.specs.Outcome.{IsAnswered, IsBegun, Reads, ReadsAndWrites}
 use Rattle.rx_run.specs.Serving.{Serves, Halts, Ends, Progress}
-use Rattle.rx_run.proofs.Servings.{serves_nothing, serves_then, serves_halts, serves_ends, halts_nothing, ends-answered, halts-begun}
+use Rattle.rx_run.proofs.Serving.{serves_nothing, serves_then, serves_halts, serves_ends, halts_nothing, ends-answered, halts-begun}
 
 pub reads_nothing : (a : Option (List ℕ)) (n : ℕ) → Reads a a n n []
 reads_nothing a n = record { consumed = Consumes-nil a; counted = omega arith }

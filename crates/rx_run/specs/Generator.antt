@@ -15,8 +15,8 @@ abbrev pub next_state : ℕ → ℕ
 next_state x = (1103515245 * x + 12345) % 2147483648
 
 -- the number from 0 to 7 that a draw yields, by the state after it
-abbrev pub drawn : ℕ → ℕ
-drawn x = x / 65536 % 8
+abbrev pub draw_of : ℕ → ℕ
+draw_of x = x / 65536 % 8
 
 -- the texts of the pieces, in the order of their numbers
 abbrev pub pieces : List (List ℕ)
@@ -28,7 +28,7 @@ piece number = slice_index_or pieces number []
 -- n pieces after one another, each chosen by a draw
 unfoldable pub pieces_text : ℕ → ℕ → List ℕ
 pieces_text zero x = []
-pieces_text (suc n) x = piece (drawn (next_state x)) ++ pieces_text n (next_state x)
+pieces_text (suc n) x = piece (draw_of (next_state x)) ++ pieces_text n (next_state x)
 
 -- the state after n draws
 unfoldable pub state_after : ℕ → ℕ → ℕ
@@ -37,7 +37,7 @@ state_after (suc n) x = state_after n (next_state x)
 
 -- how many pieces the next pattern has: one more than a draw
 abbrev pub piece_count : ℕ → ℕ
-piece_count x = 1 + drawn (next_state x)
+piece_count x = 1 + draw_of (next_state x)
 
 -- the next pattern, and the state after it
 abbrev pub pattern_text : ℕ → List ℕ
@@ -52,8 +52,8 @@ patterns zero x = []
 patterns (suc n) x = pattern_text x ∷ patterns n (state_after_pattern x)
 
 -- what is to be read: a literal by itself, under the flag `u`
-abbrev pub asked : List ℕ → Input
-asked text = literal_alone text Unicode both_rules false
+abbrev pub unicode_literal : List ℕ → Input
+unicode_literal text = literal_alone text Unicode both_rules false
 
 -- some draws make this pattern
 abbrev pub IsGenerated : List ℕ → Type 0
@@ -62,7 +62,7 @@ IsGenerated text = (x : ℕ) × (text ≡ pattern_text x)
 -- The text is a pattern, whose canonical spelling has n bytes.
 pub record IsSized (text : List ℕ) (size : ℕ) : Type 0 where
   pub pattern : Pattern
-  pub read : IsReadAs (asked text) Unicode pattern
+  pub read : IsReadAs (unicode_literal text) Unicode pattern
   pub size_is : size ≡ length (encode_utf8_all (spelling (bare pattern) Unicode))
 
 -- The texts are patterns, whose canonical spellings have n bytes.

@@ -7,4 +7,4 @@ pub mod Outcome
 pub mod Generator
 pub mod Printing
 pub mod Status
-pub mod Served
+pub mod WholeInput

@@ -14,6 +14,7 @@ pub record IsAnswered (service : Service) (read written : List ℕ) (all_ok : Bo
   pub judged : all_ok ≡ list_all begins_ok replies
 
 -- What was written is the front of the replies to the first lines of what was read, of which at least n bytes are missing.
+-- Why: docs/DECISIONS.md, 7.
 pub record IsBegun (service : Service) (read written : List ℕ) (least : ℕ) : Type 0 where
   pub lines : List (List ℕ)
   pub later : List (List ℕ)

@@ -48,6 +48,7 @@ abbrev pub canonical_reply : Mode → List ℕ → List ℕ
 canonical_reply mode text = codes "ok\t" ++ mode_name mode ++ codes "\t" ++ encode_utf8_all text ++ codes "\n"
 
 -- the mode, the number of the bytes of a text, and the text
+-- Why: docs/DECISIONS.md, 57.
 abbrev pub display_reply : Mode → List ℕ → List ℕ
 display_reply mode bytes = codes "ok\t" ++ mode_name mode ++ codes "\t" ++ decimal (length bytes) ++ codes "\t" ++ bytes ++ codes "\n"
 

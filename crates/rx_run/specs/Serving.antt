@@ -8,12 +8,12 @@ use Rattle.rx_run.specs.Outcome.{Reads}
 use Rattle.rx_run.specs.Reply.{IsReply, begins_ok}
 
 -- a line as far as it is kept: one byte past the longest that is read
-unfoldable pub kept : List ℕ → List ℕ
-kept line = take 1048577 line
+unfoldable pub line_front : List ℕ → List ℕ
+line_front line = take 1048577 line
 
 -- each line of these bytes, as far as it is kept
 unfoldable pub kept_lines : List ℕ → List (List ℕ)
-kept_lines bytes = map kept (lines_of bytes)
+kept_lines bytes = map line_front (lines_of bytes)
 
 -- After this much of a line the bytes came. Their lines were answered by these replies, and this much of a next line came. The flags say
 -- whether all replies began with `ok`, before and after.

@@ -9,6 +9,7 @@ use rx_command::Answering;
 use rx_tools::Form;
 
 /// Whether requests of this form are answered.
+// Why: docs/DECISIONS.md, 75.
 fn takes(answering: &Answering<'_>, form: Form) -> bool
     ensures { IsTrue result ↔ IsAnswerable answering.now form }
 {
@@ -25,7 +26,7 @@ fn takes(answering: &Answering<'_>, form: Form) -> bool
 }
 
 /// What a line asks for, or none where it asks for nothing that is answered.
-pub fn asked<'a>(answering: &Answering<'_>, line: &'a [u8]) -> Option<Request<'a>>
+pub fn request_in<'a>(answering: &Answering<'_>, line: &'a [u8]) -> Option<Request<'a>>
     ensures asked { MatchOption result
         ((asked : Asked) → ¬ IsAsked answering.now line.now asked)
         (λ it. IsAsked answering.now line.now (record { form = it.form; flags = flags_chars it.flags; text = chars it.text.now })) }

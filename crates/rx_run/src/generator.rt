@@ -1,7 +1,7 @@
 ghost use Rattle.std.specs.Prelude.{◌≡◌, ◌<◌, ◌≤◌, ◌++◌, OnOk, IfOk, IsErrOf};
 ghost use Rattle.std.specs.Str.{chars};
 ghost use Rattle.rx_base.specs.FaultCounts.{Rose};
-ghost use Rattle.rx_run.specs.Generator.{AreSized, IsGenOutput, IsGenerated, IsSized, drawn, gen_line, next_state, pattern_text, patterns, pieces_text, state_after, state_after_pattern};
+ghost use Rattle.rx_run.specs.Generator.{AreSized, IsGenOutput, IsGenerated, IsSized, draw_of, gen_line, next_state, pattern_text, patterns, pieces_text, state_after, state_after_pattern};
 ghost use Rattle.rx_run.specs.Printing.{IsPrinted, IsPrintBegun};
 ghost use Rattle.rx_run.specs.Generator.{piece as piece_text};
 
@@ -37,7 +37,7 @@ struct Draws {
 impl Draws {
     fn draw(&mut self) -> u32
         ensures state { self.new.state ≡ next_state self.old.state }
-        ensures number { result ≡ drawn self.new.state }
+        ensures number { result ≡ draw_of self.new.state }
     {
         let next = (1103515245 * u64::from(self.state) + 12345) % 2147483648;
         self.state = next as u32;

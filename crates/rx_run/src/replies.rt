@@ -23,7 +23,7 @@ ghost use Rattle.rx_model.specs.Trees.Early.{IsEarly};
 ghost use Rattle.rx_rewrite.specs.Answers.{rules_of};
 ghost use Rattle.rx_rewrite_reply.specs.Replies.{IsRewriteReply};
 
-use crate::asking::asked;
+use crate::asking::request_in;
 use crate::request::Request;
 use crate::spans::add_spans;
 use rx_ast::Pattern;
@@ -66,7 +66,7 @@ impl Replies {
         ensures { OnOk result ((reply : Sequence ℕ) × IsReply service.now line.now reply
             × (self.new.bytes ≡ self.old.bytes ++ reply) × (self.new.all_ok ≡ (self.old.all_ok && begins_ok reply))) }
     {
-        let Some(request) = asked(&service.answering, line) else {
+        let Some(request) = request_in(&service.answering, line) else {
             return self.add_refusal(b"bad\n");
         };
         let options = service.dialect.options();

@@ -8,7 +8,7 @@ ghost use Rattle.rx_run.specs.Generator.{IsGenOutput};
 ghost use Rattle.rx_command.specs.Notices.{notice_text};
 ghost use Rattle.rx_run.specs.Outcome.{ReadsAndWrites};
 ghost use Rattle.rx_run.specs.Status.{Outcome, IsFinished, PrintOutcome, Prints, number_of};
-ghost use Rattle.rx_run.specs.Served.{IsServed};
+ghost use Rattle.rx_run.specs.WholeInput.{IsServed};
 
 use crate::generator::generate;
 use crate::input::{Input, InputFault};

@@ -5,7 +5,7 @@ ghost use Rattle.rx_base.specs.FaultCounts.{Rose};
 ghost use Rattle.rx_run.specs.Lines.{lacks};
 ghost use Rattle.rx_run.specs.Reply.{IsReply, begins_ok};
 ghost use Rattle.rx_run.specs.Serving.{Serves, Halts, Ends};
-ghost use Rattle.rx_run.specs.Served.{least_missing};
+ghost use Rattle.rx_run.specs.WholeInput.{least_missing};
 
 use crate::line::Line;
 use crate::pieces::split_at_byte;

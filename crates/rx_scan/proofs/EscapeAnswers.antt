@@ -3,19 +3,19 @@ use Rattle.std.proofs.Common.{◌≡◌, ℕ, ◌≤◌, Bool, true, List, [], �
 use Rattle.rx_units.specs.declared.code_point.CodePoint.{CodePoint}
 use Rattle.rx_units.specs.Units.{values}
 use Rattle.rx_units.specs.Digits.{PassesHex}
-use Rattle.rx_model.specs.Characters.Decoding.{decoded, value, overflow}
+use Rattle.rx_model.specs.Characters.Decoding.{decoding_of, value, overflow}
 use Rattle.rx_model.specs.Characters.UnicodeEscapes.{Decodes, SpellsUnicode, code_unit, alone, pair, braced}
-use Rattle.rx_model.proofs.Characters.Decodings.{overflow_law, overflow_within, value_is_code_point, value_law, value_within}
+use Rattle.rx_model.proofs.Characters.Decoding.{overflow_law, overflow_within, value_is_code_point, value_law, value_within}
 use Rattle.rx_scan.specs.declared.unicode_escape.UnicodeEscape.{UnicodeEscape}
 use Rattle.rx_scan.specs.declared.unicode_escape.UnicodeEscape.TheVariants as escape
 use Rattle.rx_scan.specs.EscapeDecoding.{IsDecoded, seen_escape}
 use Rattle.rx_scan.proofs.Steps.{invalid_alone, only_invalid, seen_overflow, seen_value}
 
-module _ (unicode_mode : Bool) (us : List CodePoint) (e : UnicodeEscape) (read : seen_escape e ≡ decoded unicode_mode (values us)) where
-  value_read : (v n : ℕ) → e ≡ escape.Value v n → decoded unicode_mode (values us) ≡ value v n
+module _ (unicode_mode : Bool) (us : List CodePoint) (e : UnicodeEscape) (read : seen_escape e ≡ decoding_of unicode_mode (values us)) where
+  value_read : (v n : ℕ) → e ≡ escape.Value v n → decoding_of unicode_mode (values us) ≡ value v n
   value_read v n is = sym read ∙ (seen_value e v n).0 is
 
-  overflow_read : (n : ℕ) → e ≡ escape.Overflow n → decoded unicode_mode (values us) ≡ overflow n
+  overflow_read : (n : ℕ) → e ≡ escape.Overflow n → decoding_of unicode_mode (values us) ≡ overflow n
   overflow_read n is = sym read ∙ (seen_overflow e n).0 is
 
   value_told : (v n : ℕ) → Decodes unicode_mode (values us) v n → e ≡ escape.Value v n
@@ -44,7 +44,7 @@ spelled_long (pair lead trail is_lead is_trail) = omega arith
 spelled_long (braced x xs number top) = omega (arith, length-append xs (125 ∷ []))
 
 -- an escape is three units at least
-pub value_long : (unicode_mode : Bool) (us : List ℕ) (v n : ℕ) → value v n ≡ decoded unicode_mode us → 3 ≤ n
+pub value_long : (unicode_mode : Bool) (us : List ℕ) (v n : ℕ) → value v n ≡ decoding_of unicode_mode us → 3 ≤ n
 value_long unicode_mode us v n h =
     let d = (value_law unicode_mode us v n).0 (sym h) in
     omega (arith, spelled_long d.spells, d.count)

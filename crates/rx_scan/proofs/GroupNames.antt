@@ -8,7 +8,7 @@ use Rattle.rx_units.specs.Units.{values}
 use Rattle.rx_model.specs.Characters.Decoding.{Decoded, value}
 use Rattle.rx_model.specs.FirstPass.Marks.{starts}
 use Rattle.rx_model.specs.Groups.GroupNames.{IsNameRow, is_in_name}
-use Rattle.rx_model.specs.Groups.GroupNameReading.{NameCharacter, character, no_character, name_character_at, row, row_following, row_after, name_at, all_of, name_of, tested, escape_in_name}
+use Rattle.rx_model.specs.Groups.GroupNameReading.{NameCharacter, character, no_character, name_character_at, row, row_following, row_after, name_at, all_of, name_of, character_if, escape_in_name}
 use Rattle.rx_scan.specs.GroupNames.{IsNameOf}
 use Rattle.rx_model.proofs.Groups.GroupNames.{character_spelled, name_of_law, read_some, row_after_none, row_after_twice, row_steps, row_stops, name_row_law}
 use Rattle.rx_scan.proofs.MarkSteps.{values_at, values_drop}
@@ -53,14 +53,14 @@ name_of_row unicode_mode (u ∷ us) some = ap (λ n. all_of n (name_at unicode_m
 pub escape_passes : (first : Bool) (v n c : ℕ) (read : Decoded) → value v n ≡ read → Some c ≡ cond (is_in_name first v) (Some v) None → character c (n + 1) ≡ escape_in_name first read
 escape_passes first v n c read is passes = subst (λ read. character c (n + 1) ≡ escape_in_name first read) is (go (is_in_name first v) passes)
   where
-    go : (b : Bool) → Some c ≡ cond b (Some v) None → character c (n + 1) ≡ tested b v (suc n)
+    go : (b : Bool) → Some c ≡ cond b (Some v) None → character c (n + 1) ≡ character_if b v (suc n)
     go true e = let same : c ≡ v = cc e in ap₂ character same (add-one n)
     go false e = absurd (let no : ⊥ = cc e in no)
 
 pub escape_fails : (first : Bool) (v n : ℕ) (read : Decoded) → value v n ≡ read → None ≡ cond (is_in_name first v) (Some v) None → no_character ≡ escape_in_name first read
 escape_fails first v n read is fails = subst (λ read. no_character ≡ escape_in_name first read) is (go (is_in_name first v) fails)
   where
-    go : (b : Bool) → None ≡ cond b (Some v) None → no_character ≡ tested b v (suc n)
+    go : (b : Bool) → None ≡ cond b (Some v) None → no_character ≡ character_if b v (suc n)
     go true e = absurd (let no : ⊥ = cc e in no)
     go false e = refl
 

@@ -15,8 +15,8 @@ use Rattle.rx_model.specs.FirstPass.Marks.{Mark, Clash, IsFirstClash, IsParted, 
 use Rattle.rx_model.specs.Trees.Names.{once_after}
 use Rattle.rx_model.proofs.FirstPass.PartedMarks.{hidden_parted, parted_hidden, last_seen, nests}
 use Rattle.rx_scan.specs.MarkReading.{is_plain}
-use Rattle.rx_scan.specs.OpenGroups.{group_states_of, hides, hides_one, parting}
-use Rattle.rx_scan.specs.FirstPass.{Entry, IsPassFault, IsStart, KnowsLast, LastTells, Refuses, Steps, entries, entry_at, entry_for, entry_of, first_clash, last_named, last_or, named, parts_of, span_of, with_name, with_names}
+use Rattle.rx_scan.specs.OpenGroups.{group_states_of, hides, hides_one, states_that_part}
+use Rattle.rx_scan.specs.FirstPass.{Entry, IsPassFault, IsStart, KnowsLast, LastTells, Refuses, Steps, entries, entry_at, entry_for, entry_of, first_clash, last_named, last_or, named_openings, parts_of, span_of, with_name, with_names}
 use Rattle.rx_scan.specs.Walked.{IsAt}
 use Rattle.rx_scan.specs.declared.first_pass.FirstPass.{FirstPass}
 use Rattle.rx_scan.specs.declared.first_pass.PassFault.{PassFault}
@@ -144,10 +144,10 @@ start_of mode us k = mark_place mode us k + 3
 abbrev end_of : Mode → List ℕ → ℕ → ℕ
 end_of mode us k = mark_place mode us k + 3 + name_length (mark_at (marks mode us) k)
 
-none_all : (mode : Mode) (us : List ℕ) (fs : List GroupState) (n : List ℕ) (k : ℕ) → first_clash fs n (named mode us k) ≡ None → AllHidden mode us fs n k
+none_all : (mode : Mode) (us : List ℕ) (fs : List GroupState) (n : List ℕ) (k : ℕ) → first_clash fs n (named_openings mode us k) ≡ None → AllHidden mode us fs n k
 none_all mode us fs n zero h a lt e = absurd (omega arith)
 none_all mode us fs n (suc k) h a lt e =
-    let i = none_both fs n (named mode us k) (entry_at mode (mark_place mode us k) k (mark_at (marks mode us) k)) h in
+    let i = none_both fs n (named_openings mode us k) (entry_at mode (mark_place mode us k) k (mark_at (marks mode us) k)) h in
     elim (cases_lt a k) [
       | inl l ↦ none_all mode us fs n k i.0 a l e
       | inr g ↦ let s : a ≡ k = omega arith in
@@ -178,10 +178,10 @@ found_last mode us fs n k e (Some v) m all h =
 found_more : (mode : Mode) (us : List ℕ) (fs : List GroupState) (n : List ℕ) (k : ℕ) (e : Entry) → Found mode us fs n k e → Found mode us fs n (suc k) e
 found_more mode us fs n k e f = let b = f.before in record { before = omega arith; is = f.is; seen_there = f.seen_there; places_are = f.places_are; first = f.first }
 
-some_found : (mode : Mode) (us : List ℕ) (fs : List GroupState) (n : List ℕ) (k : ℕ) (e : Entry) → first_clash fs n (named mode us k) ≡ Some e → Found mode us fs n k e
+some_found : (mode : Mode) (us : List ℕ) (fs : List GroupState) (n : List ℕ) (k : ℕ) (e : Entry) → first_clash fs n (named_openings mode us k) ≡ Some e → Found mode us fs n k e
 some_found mode us fs n zero e h = cc
 some_found mode us fs n (suc k) e h =
-    elim (some_either fs n (named mode us k) (entry_at mode (mark_place mode us k) k (mark_at (marks mode us) k)) e h) [
+    elim (some_either fs n (named_openings mode us k) (entry_at mode (mark_place mode us k) k (mark_at (marks mode us) k)) e h) [
       | inl i ↦ found_more mode us fs n k e (some_found mode us fs n k e i)
       | inr i ↦ found_last mode us fs n k e (name_at mode us k) refl (none_all mode us fs n k i.0) i.1
     ]
@@ -224,12 +224,12 @@ count_one quiet = omega arith
 count_one (capturing units) = omega arith
 
 -- what the mark at index k clashes with is in no alternative that has ended, where bars part names
-clash_seen : (mode : Mode) (duplicate_names : Bool) (ms : List Mark) (a k : ℕ) → Clash mode duplicate_names ms a k → hides a (parting duplicate_names (group_states ms k)) ≡ true → ⊥
+clash_seen : (mode : Mode) (duplicate_names : Bool) (ms : List Mark) (a k : ℕ) → Clash mode duplicate_names ms a k → hides a (states_that_part duplicate_names (group_states ms k)) ≡ true → ⊥
 clash_seen mode true ms a k c h = c.together refl (hidden_parted ms a k (hides_true a (group_states ms k) h))
 clash_seen mode false ms a k c h = false≢true h
 
 -- and what bars do not part does not part from it
-seen_together : (duplicate_names : Bool) (ms : List Mark) (a k : ℕ) → hides a (parting duplicate_names (group_states ms k)) ≡ false → duplicate_names ≡ true → IsParted ms a k → ⊥
+seen_together : (duplicate_names : Bool) (ms : List Mark) (a k : ℕ) → hides a (states_that_part duplicate_names (group_states ms k)) ≡ false → duplicate_names ≡ true → IsParted ms a k → ⊥
 seen_together true ms a k h is p = false≢true (sym h ∙ hides_is a (group_states ms k) (parted_hidden ms a k p))
 seen_together false ms a k h is p = false≢true is
 
@@ -251,8 +251,8 @@ start_at mode duplicate_names us s w = record {
 }
 
 -- the group states by which bars part names
-parts_are : (mode : Mode) (duplicate_names : Bool) (us : List ℕ) (at k : ℕ) (s : FirstPass) → IsAt mode duplicate_names us at k s → parts_of s ≡ parting duplicate_names (group_states (marks mode us) k)
-parts_are mode duplicate_names us at k s w = ap₂ parting w.rule_is w.opened
+parts_are : (mode : Mode) (duplicate_names : Bool) (us : List ℕ) (at k : ℕ) (s : FirstPass) → IsAt mode duplicate_names us at k s → parts_of s ≡ states_that_part duplicate_names (group_states (marks mode us) k)
+parts_are mode duplicate_names us at k s w = ap₂ states_that_part w.rule_is w.opened
 
 -- over the mark that begins with the unit at a place
 pub advanced : (mode : Mode) (duplicate_names : Bool) (us : List ℕ) (at k u : ℕ) (more : List ℕ) (x : Mark × ℕ) (old new : FirstPass) → drop at us ≡ u ∷ more → x ≡ mark_front mode u more → at + (x.1 + 1) ≤ length us → Steps old new x.0 at k →
@@ -277,7 +277,7 @@ advanced mode duplicate_names us at k u more x old new d e le s w =
       rest = drop_next ms k m (marks mode (drop (at + taken) us)) r;
       places = drop_next (places mode us) k at (places_following mode (at + taken) 0 (drop (at + taken) us)) p;
       opened = s.opened ∙ ap (step k m) w.opened ∙ ap (λ z. step k z (group_states ms k)) (sym here) ∙ ap (group_states ms) next;
-      listed_are = s.listed_are ∙ ap (λ z. z ++ entry_at old.mode at k m) w.listed_are ∙ ap (λ z. named mode us k ++ entry_at z at k m) w.mode_is ∙ ap (λ z. named mode us k ++ entry_at mode z k m) (sym place_is) ∙ ap (λ z. named mode us k ++ entry_at mode (mark_place mode us k) k z) (sym here) ∙ ap (named mode us) next;
+      listed_are = s.listed_are ∙ ap (λ z. z ++ entry_at old.mode at k m) w.listed_are ∙ ap (λ z. named_openings mode us k ++ entry_at z at k m) w.mode_is ∙ ap (λ z. named_openings mode us k ++ entry_at mode z k m) (sym place_is) ∙ ap (λ z. named_openings mode us k ++ entry_at mode (mark_place mode us k) k z) (sym here) ∙ ap (named_openings mode us) next;
       knows = s.knows;
       counted = (let c = w.counted in let all : count (marks mode (drop at us)) ≡ mark_count m + count (marks mode (drop (at + taken) us)) = ap count t.marks_are in omega arith);
       named_by = ap (λ z. with_names z (names mode (marks mode (drop (at + taken) us)))) (s.named_by ∙ ap (λ z. with_names old.names (listed (mark_name z m))) w.mode_is) ∙ sym (with_names_append (listed (mark_name mode m)) old.names (names mode (marks mode (drop (at + taken) us)))) ∙ ap (λ z. with_names old.names (names mode z)) (sym t.marks_are) ∙ w.named_by;
@@ -286,7 +286,7 @@ advanced mode duplicate_names us at k u more x old new d e le s w =
         | inr g ↦
             let q : b ≡ k = omega arith in
             let d : Clash mode duplicate_names ms a k = subst (Clash mode duplicate_names ms a) q c in
-            let fs = parting duplicate_names (group_states ms k) in
+            let fs = states_that_part duplicate_names (group_states ms k) in
             let f = s.fresh d.name (ap (λ z. mark_name z m) w.mode_is ∙ ap (mark_name mode) (sym here) ∙ d.second) in
             let h = none_all mode us fs d.name k (ap (λ z. first_clash fs d.name z) (sym w.listed_are) ∙ ap (λ z. first_clash z d.name (entries old)) (sym (parts_are mode duplicate_names us at k old w)) ∙ f) in
             clash_seen mode duplicate_names ms a k d (h a d.in_order d.first)
@@ -328,7 +328,7 @@ places_at mode us at k m pl here = ap (λ z. (z + 3, z + 3 + name_length m)) (sy
 duplicated : (mode : Mode) (duplicate_names : Bool) (us : List ℕ) (at k : ℕ) (m : Mark) (old : FirstPass) (f g : ℕ × ℕ) → mark_place mode us k ≡ at → mark_at (marks mode us) k ≡ m → Refuses old m at (Duplicated f g) → IsAt mode duplicate_names us at k old → IsPassFault mode duplicate_names us (Duplicated f g)
 duplicated mode duplicate_names us at k m old f g pl here r w =
     let ms = marks mode us in
-    let fs = parting duplicate_names (group_states ms k) in
+    let fs = states_that_part duplicate_names (group_states ms k) in
     let n = r.0 in
     let e = r.2.0 in
     let d = some_found mode us fs n k e (ap (λ z. first_clash fs n z) (sym w.listed_are) ∙ ap (λ z. first_clash z n (entries old)) (sym (parts_are mode duplicate_names us at k old w)) ∙ r.2.1) in
@@ -427,12 +427,12 @@ entry_not n k from to o h e =
     let x : Entry = record { index = k; name = n; from = from; to = to } in
     let g : last_named n (entry_for k from to o) ≡ Some x = ap (λ z. last_named n (entry_for k from to z)) e ∙ ap (λ b. cond b (Some x) None) (same_self n) in cc
 
-last_found : (mode : Mode) (us : List ℕ) (n : List ℕ) (k : ℕ) (e : Entry) → last_named n (named mode us k) ≡ Some e → Last mode us n k e
+last_found : (mode : Mode) (us : List ℕ) (n : List ℕ) (k : ℕ) (e : Entry) → last_named n (named_openings mode us k) ≡ Some e → Last mode us n k e
 last_found mode us n zero e h = cc
 last_found mode us n (suc k) e h =
     let o = name_at mode us k in
     let new = entry_for k (start_of mode us k) (end_of mode us k) o in
-    elim (last_either (last_named n new) (last_named n (named mode us k)) e (sym (last_append n (named mode us k) new) ∙ h)) [
+    elim (last_either (last_named n new) (last_named n (named_openings mode us k)) e (sym (last_append n (named_openings mode us k) new) ∙ h)) [
       | inl i ↦ let g = entry_last n k (start_of mode us k) (end_of mode us k) o e i in let q = g.0 in
           record { before = omega arith; is = ap (name_at mode us) q ∙ g.1; last = λ a l m. omega arith }
       | inr i ↦ let g = last_found mode us n k e i.1 in let b = g.before in
@@ -446,7 +446,7 @@ last_found mode us n (suc k) e h =
           }
     ]
 
-tells_case : (mode : Mode) (us : List ℕ) (n : List ℕ) (k : ℕ) (e : Entry) → ((a b : ℕ) → b < k → Clash mode true (marks mode us) a b → ⊥) → Last mode us n k e → hides e.index (group_states (marks mode us) k) ≡ true → (o : Option Entry) → first_clash (group_states (marks mode us) k) n (named mode us k) ≡ o → o ≡ None
+tells_case : (mode : Mode) (us : List ℕ) (n : List ℕ) (k : ℕ) (e : Entry) → ((a b : ℕ) → b < k → Clash mode true (marks mode us) a b → ⊥) → Last mode us n k e → hides e.index (group_states (marks mode us) k) ≡ true → (o : Option Entry) → first_clash (group_states (marks mode us) k) n (named_openings mode us k) ≡ o → o ≡ None
 tells_case mode us n k e clean l h None s = refl
 tells_case mode us n k e clean l h (Some x) s =
     let ms = marks mode us in
@@ -465,13 +465,13 @@ tells_case mode us n k e clean l h (Some x) s =
 
 -- where bars part names, and where none does
 tells_by : (mode : Mode) (duplicate_names : Bool) (us : List ℕ) (n : List ℕ) (k : ℕ) (e : Entry) → ((a b : ℕ) → b < k → Clash mode duplicate_names (marks mode us) a b → ⊥) → Last mode us n k e →
-    hides e.index (parting duplicate_names (group_states (marks mode us) k)) ≡ true → first_clash (parting duplicate_names (group_states (marks mode us) k)) n (named mode us k) ≡ None
-tells_by mode true us n k e clean l h = tells_case mode us n k e clean l h (first_clash (group_states (marks mode us) k) n (named mode us k)) refl
+    hides e.index (states_that_part duplicate_names (group_states (marks mode us) k)) ≡ true → first_clash (states_that_part duplicate_names (group_states (marks mode us) k)) n (named_openings mode us k) ≡ None
+tells_by mode true us n k e clean l h = tells_case mode us n k e clean l h (first_clash (group_states (marks mode us) k) n (named_openings mode us k)) refl
 tells_by mode false us n k e clean l h = absurd (false≢true h)
 
 pub tells : (mode : Mode) (duplicate_names : Bool) (us : List ℕ) (at k : ℕ) (s : FirstPass) → IsAt mode duplicate_names us at k s → (n : List ℕ) → LastTells (parts_of s) n (entries s)
 tells mode duplicate_names us at k s w n e h y =
-    let fs = parting duplicate_names (group_states (marks mode us) k) in
+    let fs = states_that_part duplicate_names (group_states (marks mode us) k) in
     let parts = parts_are mode duplicate_names us at k s w in
     let l = last_found mode us n k e (ap (last_named n) (sym w.listed_are) ∙ h) in
     ap (λ z. first_clash z n (entries s)) parts ∙ ap (first_clash fs n) w.listed_are ∙ tells_by mode duplicate_names us n k e w.clean l (ap (hides e.index) (sym parts) ∙ y)

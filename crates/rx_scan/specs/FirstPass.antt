@@ -6,7 +6,7 @@ use Rattle.rx_base.specs.Texts.{are_same, is_among}
 use Rattle.rx_model.specs.declared.mode.Mode.{Mode}
 use Rattle.rx_model.specs.FirstPass.GroupStates.{GroupState, step}
 use Rattle.rx_model.specs.FirstPass.Marks.{IsFirstClash, Mark, listed, mark_at, mark_count, mark_name, mark_place, marks, name_length, name_places}
-use Rattle.rx_scan.specs.OpenGroups.{group_states_of, hides, parting}
+use Rattle.rx_scan.specs.OpenGroups.{group_states_of, hides, states_that_part}
 use Rattle.rx_scan.specs.declared.first_pass.FirstPass.{FirstPass}
 use Rattle.rx_scan.specs.declared.first_pass.Opening.{Opening}
 use Rattle.rx_scan.specs.declared.first_pass.PassFault.{PassFault}
@@ -30,9 +30,9 @@ abbrev pub entry_at : Mode → ℕ → ℕ → Mark → List Entry
 entry_at mode at k m = entry_for k (at + 3) (at + 3 + name_length m) (mark_name mode m)
 
 -- those of the first k marks
-abbrev pub named : Mode → List ℕ → ℕ → List Entry
-named mode us zero = []
-named mode us (suc k) = named mode us k ++ entry_at mode (mark_place mode us k) k (mark_at (marks mode us) k)
+abbrev pub named_openings : Mode → List ℕ → ℕ → List Entry
+named_openings mode us zero = []
+named_openings mode us (suc k) = named_openings mode us k ++ entry_at mode (mark_place mode us k) k (mark_at (marks mode us) k)
 
 -- the first of equal name that is in no alternative that has ended
 abbrev pub first_clash : List GroupState → List ℕ → List Entry → Option Entry
@@ -81,7 +81,7 @@ with_names names (name ∷ more) = with_names (with_name names name) more
 
 -- the group states by which bars part the names that it keeps
 abbrev pub parts_of : FirstPass → List GroupState
-parts_of pass = parting pass.duplicate_names (group_states_of pass.groups)
+parts_of pass = states_that_part pass.duplicate_names (group_states_of pass.groups)
 
 -- before the first mark
 pub record IsStart (mode : Mode) (duplicate_names : Bool) (pass : FirstPass) : Type 0 where

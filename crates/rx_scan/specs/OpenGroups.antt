@@ -27,9 +27,9 @@ hides a [] = false
 hides a (f ∷ fs) = hides_one a f || hides a fs
 
 -- the group states by which bars part names: none, where no two groups may have one name
-abbrev pub parting : Bool → List GroupState → List GroupState
-parting true fs = fs
-parting false fs = []
+abbrev pub states_that_part : Bool → List GroupState → List GroupState
+states_that_part true fs = fs
+states_that_part false fs = []
 
 -- the same of groups with the outermost first
 abbrev pub any_hides : ℕ → List OpenGroup → Bool

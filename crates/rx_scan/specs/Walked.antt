@@ -4,7 +4,7 @@ use Rattle.rx_model.specs.declared.mode.Mode.{Mode}
 use Rattle.rx_model.specs.FirstPass.GroupStates.{group_states}
 use Rattle.rx_model.specs.FirstPass.Marks.{Clash, count, marks, names, places, places_following, seen}
 use Rattle.rx_scan.specs.OpenGroups.{group_states_of}
-use Rattle.rx_scan.specs.FirstPass.{KnowsLast, entries, named, with_names}
+use Rattle.rx_scan.specs.FirstPass.{KnowsLast, entries, named_openings, with_names}
 use Rattle.rx_scan.specs.declared.first_pass.FirstPass.{FirstPass}
 
 -- After the first k marks, of which the last ends at a place, what has been found and what is left make what is to be found.
@@ -17,7 +17,7 @@ pub record IsAt (mode : Mode) (duplicate_names : Bool) (us : List ℕ) (at : ℕ
   pub rest : drop k (marks mode us) ≡ marks mode (drop at us)
   pub places : drop k (places mode us) ≡ places_following mode at 0 (drop at us)
   pub opened : group_states_of pass.groups ≡ group_states (marks mode us) k
-  pub listed_are : entries pass ≡ named mode us k
+  pub listed_are : entries pass ≡ named_openings mode us k
   pub knows : KnowsLast (entries pass) pass.last_openings
   pub counted : pass.count + count (marks mode (drop at us)) ≡ count (marks mode us)
   pub named_by : with_names pass.names (names mode (marks mode (drop at us))) ≡ seen mode (marks mode us)

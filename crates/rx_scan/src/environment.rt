@@ -7,6 +7,7 @@ use crate::State;
 use rx_model::Mode;
 
 /// What the reading of a token depends on besides the text.
+// Why: docs/DECISIONS.md, 101.
 #[derive(Clone, Copy, Debug)]
 pub struct Environment {
     pub mode: Mode,

@@ -6,7 +6,7 @@ ghost use Rattle.rx_model.specs.FirstPass.GroupStates.{Nests};
 ghost use Rattle.rx_model.specs.FirstPass.Marks.{name_length};
 ghost use Rattle.rx_model.specs.Refusals.Reached.{HasNoClash, text_groups, text_names};
 ghost use Rattle.rx_scan.specs.MarkReading.{seen_mark, seen_capturing};
-ghost use Rattle.rx_scan.specs.OpenGroups.{group_states_of, hides, parting};
+ghost use Rattle.rx_scan.specs.OpenGroups.{group_states_of, hides, states_that_part};
 ghost use Rattle.rx_scan.specs.FirstPass.{Captures, ClashesWith, IsPassFault, IsStart, KnowsLast, LastTells, Refuses, Steps, entries, entry_of, first_clash, parts_of, span_of, with_name};
 
 use crate::last_openings::LastOpenings;
@@ -260,7 +260,7 @@ impl FirstPass {
 /// Whether the mark with this index is in an alternative that has ended, of a group that is open, where two groups may have one name.
 fn is_parted(groups: &OpenGroups, duplicate_names: bool, mark: usize) -> bool
     requires { Nests (group_states_of groups.now) }
-    ensures { result ≡ hides mark (parting duplicate_names (group_states_of groups.now)) }
+    ensures { result ≡ hides mark (states_that_part duplicate_names (group_states_of groups.now)) }
 {
     duplicate_names && groups.hides(mark)
 }
@@ -273,7 +273,7 @@ fn first_clash(
     name: &str,
 ) -> Option<(usize, usize)>
     requires { Nests (group_states_of groups.now) }
-    ensures { result ≡ option_map span_of (first_clash (parting duplicate_names (group_states_of groups.now)) (chars name.now) (map entry_of openings.now)) }
+    ensures { result ≡ option_map span_of (first_clash (states_that_part duplicate_names (group_states_of groups.now)) (chars name.now) (map entry_of openings.now)) }
 {
     for opening in openings {
         if is_named(opening, name) && !is_parted(groups, duplicate_names, opening.mark) {

@@ -3,7 +3,7 @@ ghost use Rattle.rx_base.specs.Ascii as ascii;
 ghost use Rattle.rx_base.specs.Rising.{Rises};
 ghost use Rattle.rx_base.specs.SurrogatePair.{surrogate_pair};
 ghost use Rattle.rx_units.specs.Units.{values};
-ghost use Rattle.rx_model.specs.Characters.Decoding.{decoded};
+ghost use Rattle.rx_model.specs.Characters.Decoding.{decoding_of};
 ghost use Rattle.rx_model.specs.FirstPass.Marks.{starts};
 ghost use Rattle.rx_model.specs.Groups.GroupNameReading.{escape_in_name, name_at, name_character_at, pair_at, raw_at, row};
 ghost use Rattle.rx_model.specs.Groups.GroupNames.{IsNameRow, is_in_name, is_pair_in_name};
@@ -156,7 +156,7 @@ fn escaped_character<C: Counter>(
     first: bool,
     steps: &mut C,
 ) -> Option<(char, usize)>
-    ensures read { seen_character result ≡ escape_in_name first (decoded true (values units.now)) }
+    ensures read { seen_character result ≡ escape_in_name first (decoding_of true (values units.now)) }
     ensures found { IfSome result (λ read. (read.1 + 2 * C.count steps.old ≤ 2 * (C.count steps.new + 1)) × (C.count steps.new + 1 ≤ C.count steps.old + 2 * read.1)) }
     ensures steps { Rises (C.count steps.old) (C.count steps.new) 0 (length units.now + 4) }
 {

@@ -88,6 +88,7 @@ impl State {
     }
 
     /// The same, with a counter of its own.
+    // Why: docs/DECISIONS.md, 98.
     fn initialize_alone<L: Ledger>(
         &mut self,
         reader: &mut Reader<'_>,

@@ -3,7 +3,7 @@ ghost use Rattle.rx_base.specs.Rising.{Rises};
 ghost use Rattle.rx_base.specs.SurrogatePair.{IsLeadSurrogate, IsTrailSurrogate};
 ghost use Rattle.rx_tables.specs.Characters.{hex_digit_value};
 ghost use Rattle.rx_units.specs.Units.{values};
-ghost use Rattle.rx_model.specs.Characters.Decoding.{after_u, braces_at, decoded, four_at, joined_at, run_at, trail_at};
+ghost use Rattle.rx_model.specs.Characters.Decoding.{after_u, braces_at, decoding_of, four_at, pair_or_unit, run_at, trail_at};
 ghost use Rattle.rx_scan.specs.DecodingSteps.{digits_after_u, digits_in_braces, digits_looked_at, digits_of_four, digits_of_run, digits_of_trail, escape_length, least_digits, most_digits};
 ghost use Rattle.rx_scan.specs.EscapeDecoding.{IsDecoded, seen_escape};
 
@@ -132,7 +132,7 @@ fn hex_digit<C: Counter>(unit: &CodePoint, steps: &mut C) -> Option<u32>
 /// 22.2.1). The four digits of the lead are counted before.
 fn lead_or_pair<C: Counter>(lead: u32, units: &[CodePoint], steps: &mut C) -> UnicodeEscape
     requires { IsLeadSurrogate lead }
-    ensures read { seen_escape result ≡ joined_at lead (trail_at (values units.now)) }
+    ensures read { seen_escape result ≡ pair_or_unit lead (trail_at (values units.now)) }
     ensures steps { Rises (C.count steps.old) (C.count steps.new + 4) (least_digits result) (most_digits true 0 result) }
     ensures half { escape_length result + 2 * C.count steps.old ≤ 2 * (C.count steps.new + 4) }
     ensures looked { C.count steps.new ≡ digits_of_trail (values units.now) + C.count steps.old }

@@ -1,5 +1,5 @@
 ghost use Rattle.std.specs.Prelude.{◌≡◌, ◌+◌, ◌<◌, ◌^◌, length};
-ghost use Rattle.rx_class.specs.ClassAnswers.{HoldsFirstPass};
+ghost use Rattle.rx_class.specs.ClassReading.Answers.{HoldsFirstPass};
 ghost use Rattle.rx_class.specs.Fitting.{AreFitting};
 
 use rx_ast::{CharacterClass, CharacterClassContents};
@@ -54,7 +54,7 @@ impl Call for ClassCall {
     fn answer(&self, alloc: Global, asked: &str) -> Result<String, Fail> {
         let (found, left) = class(alloc, short(asked)?)?;
         match found {
-            Ok(Some(class)) => shown(alloc, &class, left),
+            Ok(Some(class)) => show_class(alloc, &class, left),
             Ok(None) => Ok(format!(in alloc; "none, left at {left}")?),
             Err(Fault::Diagnostic(cause)) => refusal(alloc, &cause),
             Err(fault) => Err(Fail::from(fault)),
@@ -63,7 +63,7 @@ impl Call for ClassCall {
 }
 
 /// Its span, whether it is negative, where the reader is left, and its items.
-fn shown(alloc: Global, class: &CharacterClass, left: u32) -> Result<String, Fail> {
+fn show_class(alloc: Global, class: &CharacterClass, left: u32) -> Result<String, Fail> {
     let (start, end) = (class.span.start, class.span.end);
     let mut shown = format!(in alloc; "{start}..{end} {} left at {left}", class.negative)?;
     for item in class.body.as_slice() {

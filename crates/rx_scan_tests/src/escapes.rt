@@ -1,5 +1,5 @@
 ghost use Rattle.std.specs.Prelude.{◌≡◌, ◌+◌, ◌<◌, ◌^◌, length};
-ghost use Rattle.rx_class.specs.EscapeAnswers.{IsAfterBackslash};
+ghost use Rattle.rx_class.specs.EscapeReading.Answers.{IsAfterBackslash};
 ghost use Rattle.rx_class.specs.Fitting.{AreFitting};
 
 use rx_ast::{Character, CharacterClassEscape, UnicodePropertyEscape};
@@ -211,7 +211,7 @@ const WITHOUT_U: PropertyCall = PropertyCall {
 impl Call for PropertyCall {
     fn answer(&self, alloc: Global, asked: &str) -> Result<String, Fail> {
         match property(alloc, short(asked)?, self.unicode_mode)? {
-            Ok(Some(it)) => shown(alloc, &it),
+            Ok(Some(it)) => show_property(alloc, &it),
             Ok(None) => Ok(String::from_str(alloc, "none")?),
             Err(Fault::Diagnostic(cause)) => refused(alloc, &cause),
             Err(fault) => Err(Fail::from(fault)),
@@ -219,7 +219,7 @@ impl Call for PropertyCall {
     }
 }
 
-fn shown(alloc: Global, it: &UnicodePropertyEscape) -> Result<String, Fail> {
+fn show_property(alloc: Global, it: &UnicodePropertyEscape) -> Result<String, Fail> {
     let value = it.value.as_ref().map_or("", |value| value.as_str());
     Ok(format!(in alloc;
         "{} {} {}={value} {}..{}",

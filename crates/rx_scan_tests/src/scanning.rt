@@ -29,7 +29,7 @@ fn refused_flag(alloc: Global, cause: &Diagnostic) -> Result<String, Fail> {
     }
 }
 
-/// FlagsCall that stand at byte 0, or at byte 10.
+/// Flags that stand at byte 0, or at byte 10.
 #[derive(Clone, Copy)]
 struct FlagsCall {
     at_ten: bool,

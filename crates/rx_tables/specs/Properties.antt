@@ -1,4 +1,5 @@
 -- Words that may stand in a property escape. No agreement with any edition of Unicode is claimed.
+-- Why: docs/DECISIONS.md, 16.
 use Rattle.std.specs.Prelude.{ℕ, List, [], ◌∷◌, codes, Contains, ◌⊎◌}
 
 -- the binary properties of characters

@@ -1,11 +1,10 @@
 -- What tasks lead to, and how much is left of them.
-use Rattle.std.proofs.Common.{◌≡◌, ap, sym, ◌∙◌, subst, ℕ, ◌+◌, ◌<◌, ◌≤◌, arith, List, [], ◌∷◌, ◌++◌, Option, Some, None, Result, Ok, Err, reverse}
-use Rattle.std.specs.Prelude.{IfOk, MatchOption}
+use Rattle.std.proofs.Common.{◌≡◌, ap, sym, ◌∙◌, subst, ℕ, ◌+◌, ◌<◌, arith, List, [], ◌∷◌, ◌++◌, Option, Some, None, reverse}
+use Rattle.std.specs.Prelude.{MatchOption}
 use Rattle.std.specs.List.{sum_by}
 use Rattle.std.proofs.lemmas.List.{reverse-append}
 use Rattle.std.proofs.lemmas.List.Sums.{sum_by-append}
-use Rattle.rx_tasks.specs.declared.next.Next.{Next}
-use Rattle.rx_tasks.specs.Tasks.{DoesAll, Leads, does_first, does_none, tasks_left, tasks_of}
+use Rattle.rx_tasks.specs.Tasks.{DoesAll, Leads, does_first, does_none, tasks_left}
 
 pub popped : {T : Type 0} (task : Option T) (old new : List T) → MatchOption task ((old ≡ []) × (new ≡ [])) (λ last. old ≡ new ++ (last ∷ [])) → tasks_left task new ≡ reverse old
 popped None old new none = sym (ap reverse none.0)
@@ -47,12 +46,6 @@ lighter weight left task waiting tasks after is put less =
     let first : sum_by weight (tasks_left (Some task) waiting) ≡ (0 + weight task) + sum_by weight (reverse waiting) = sum_by-append weight (task ∷ []) (reverse waiting) in
     let later = ap (sum_by weight) put ∙ sum_by-append weight tasks (reverse waiting) in
     omega arith
-
--- a last call, which answers what is left
-pub lighter_last : {T E : Type 0} (result : Result (Next T) E) (weight : T → ℕ) {bound limit : ℕ} → bound < limit →
-    IfOk result (λ next. sum_by weight (tasks_of next) ≤ bound) → IfOk result (λ next. sum_by weight (tasks_of next) < limit)
-lighter_last (Ok tasks) weight below within = omega arith
-lighter_last (Err e) weight below within = tt
 
 done_at : {S T : Type 0} {does : T → S → S → Type 0} {task : T} {u v w : S} → DoesAll does v [] w → does task u v → does task u w
 done_at (does_none _) did = did

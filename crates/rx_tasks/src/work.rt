@@ -7,6 +7,7 @@ use std::alloc::Global;
 /// A task of work on a state, as a text that is written or a visitor.
 ///
 /// `does` says that a task may lead from one state to another, and `weight` is more than the weights of the tasks that it puts back.
+// Why: docs/DECISIONS.md, 104.
 pub trait Work<S>: Copy + Drop {
     ghost use Rattle.std.specs.Prelude.{ℕ, ◌<◌, OnOk, IfOk, sum_by};
     ghost use Rattle.rx_tasks.specs.Tasks.{Leads, tasks_of};

@@ -21,7 +21,7 @@ use Rattle.rx_model.proofs.Inputs.Asked.{asked_some, one_mode}
 use Rattle.rx_model.proofs.Spelling.Bounds.{AreCodePoints}
 use Rattle.rx_model.proofs.Spelling.SameAgain.{asked_fits, spelled_again}
 use Rattle.rx_tools.specs.declared.outcome.Canonical.{Canonical}
-use Rattle.rx_tools.specs.Spelled.{read_of, spelled_of}
+use Rattle.rx_tools.specs.Spelled.{read_of, spelling_answer}
 
 -- The characters of a text are code points.
 are_points : (cs : List ℕ) → scalars cs ≡ true → AreCodePoints cs
@@ -59,7 +59,7 @@ by_itself spelled form text flags answer text_offset flags_offset given under gi
     (subst (λ n. IsAnswered spelled (record { form = form; text = text; flags = flags; text_offset = n; flags_offset = flags_offset; rules = given; standard_strings = given_standard }) answer) text_is answered)))
 
 module _ (input : Input) where
-  pub memory_wants : IsAnswered spelled_of input (Err fault.OutOfMemory)
+  pub memory_wants : IsAnswered spelling_answer input (Err fault.OutOfMemory)
   memory_wants = record {
     parsed = record { valid = tt; complete = λ _. refl; read = tt; refused = no_memory };
     mode_is = tt;
@@ -81,7 +81,7 @@ module _ (input : Input) where
   with_spelling points (Err fault) parsed mode = record { parsed = parsed; mode_is = tt; text_is = tt; again = tt }
 
   -- the same with a text that is this spelling
-  pub with_text : (it : Canonical) → it.text ≡ spelling (bare it.pattern) it.mode → IsAnswered read_of input (Ok (it.pattern, it.mode)) → IsAnswered spelled_of input (Ok it)
+  pub with_text : (it : Canonical) → it.text ≡ spelling (bare it.pattern) it.mode → IsAnswered read_of input (Ok (it.pattern, it.mode)) → IsAnswered spelling_answer input (Ok it)
   with_text it text read = record {
     parsed = record { valid = read.parsed.valid; complete = read.parsed.complete; read = read.parsed.read; refused = tt };
     mode_is = read.mode_is;
@@ -89,7 +89,7 @@ module _ (input : Input) where
     again = subst (λ w. length (encode_utf8_all w) < 2 ^ 32 → (again : Result Pattern Fault) → IsParsed (λ p. p) (literal_alone w it.mode input.rules input.standard_strings) again → IsSameAgain it.pattern again) (sym text) read.again;
   }
 
-  pub refused_too : (fault : Fault) → IsAnswered read_of input (Err fault) → IsAnswered spelled_of input (Err fault)
+  pub refused_too : (fault : Fault) → IsAnswered read_of input (Err fault) → IsAnswered spelling_answer input (Err fault)
   refused_too fault read = record {
     parsed = record { valid = tt; complete = read.parsed.complete; read = tt; refused = read.parsed.refused };
     mode_is = tt;

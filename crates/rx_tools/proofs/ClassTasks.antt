@@ -1,5 +1,5 @@
 -- What is written of a class, by the first of its contents and the others.
-use Rattle.std.proofs.Common.{◌≡◌, refl, ap, ℕ, List, [], ◌∷◌, ◌++◌, append_assoc, map, codes}
+use Rattle.std.proofs.Common.{◌≡◌, refl, ℕ, List, [], ◌∷◌, ◌++◌, append_assoc, map, codes}
 use Rattle.rx_ast.specs.declared.class.CharacterClass.{CharacterClass}
 use Rattle.rx_ast.specs.declared.class.CharacterClassContents.{CharacterClassContents}
 use Rattle.rx_ast.specs.ClassTree.{members, mirror_class, mirror_contents}
@@ -18,8 +18,7 @@ class_none mode c all same none = rw (class_is c, ← same, none) refl
 module _ (mode : Mode) (all : List CharacterClassContents) (first : CharacterClassContents) (others : List CharacterClassContents) (cut : all ≡ first ∷ others) where
   pub class_cut : (c : CharacterClass) → all ≡ c.body →
       class_text mode (mirror_class c) ≡ class_opener c.negative ++ (member_text mode (mirror_contents first) ++ rest_of_class mode (operator_text c.kind) others)
-  class_cut c same = rw (class_is c, ← same, cut)
-      (ap (λ text. class_opener c.negative ++ text) (append_assoc (member_text mode (mirror_contents first)) (more_members_text mode (operator_text c.kind) (members (map mirror_contents others))) (codes "]")))
+  class_cut c same = rw (class_is c, ← same, cut) (simp append_assoc)
 
   pub rest_cut : (operator : List ℕ) → rest_of_class mode operator all ≡ operator ++ (member_text mode (mirror_contents first) ++ rest_of_class mode operator others)
   rest_cut operator = rw cut (simp append_assoc)

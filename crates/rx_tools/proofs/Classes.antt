@@ -1,5 +1,5 @@
 -- The contents of a class, and the characters and the strings in it, from an index on.
-use Rattle.std.proofs.Common.{◌≡◌, refl, ap, sym, ◌∙◌, ℕ, suc, ◌+◌, ◌<◌, ◌≤◌, Bool, true, false, List, [], ◌++◌, length, drop, get_or, add-one, codes, map}
+use Rattle.std.proofs.Common.{◌≡◌, refl, ap, ◌∙◌, ℕ, suc, ◌+◌, ◌<◌, ◌≤◌, true, false, List, [], ◌++◌, length, drop, get_or, add-one, codes, map}
 use Rattle.std.specs.Prelude.{if◌then◌else◌}
 use Rattle.std.proofs.Math.Seq.{drop-cons}
 use Rattle.std.proofs.lemmas.List.{drop_all}
@@ -64,15 +64,6 @@ flat_goes_on cs i c h e none = flat_next cs i c h e ∙ ap (λ first. if first t
 
 pub flat_none : (cs : List CharacterClassContents) (i : ℕ) → length cs ≤ i → are_flat (members (map mirror_contents (drop i cs))) ≡ true
 flat_none cs i h = rw (drop_all i cs) refl
-
-neither : (first rest : Bool) → (if first then false else rest) ≡ true → (first ≡ false) × (rest ≡ true)
-neither true rest h = absurd (let no : ⊥ = cc h in no)
-neither false rest h = (refl, h)
-
--- where no class stands among them, the first is none, and among the others stands none
-pub flat_parts : (cs : List CharacterClassContents) (i : ℕ) (c : CharacterClassContents) → i < length cs → c ≡ get_or cs i c → are_flat (members (map mirror_contents (drop i cs))) ≡ true →
-    (is_nested (mirror_contents c) ≡ false) × (are_flat (members (map mirror_contents (drop (i + 1) cs))) ≡ true)
-flat_parts cs i c h e flat = neither _ _ (sym (flat_next cs i c h e) ∙ flat)
 
 pub class_texts : (mode : Mode) (c : CharacterClass) → class_text mode (mirror_class c) ≡ class_opener c.negative ++ (members_text mode (operator_text c.kind) (members (map mirror_contents c.body)) ++ codes "]")
 class_texts mode c = ap (λ m. class_text mode m) (class_is c)

@@ -4,7 +4,7 @@ use Rattle.std.proofs.KnownBytes.{Appends-nil}
 use Rattle.std.proofs.lemmas.Bool.{false≢true}
 use Rattle.std.specs.Result.{IsErr}
 use Rattle.rx_base.specs.Writing.{Written}
-use Rattle.rx_base.proofs.Writings.{written_none}
+use Rattle.rx_base.proofs.Writing.{written_none}
 use Rattle.rx_tools.specs.Leaves.{WritesFront, unless_left}
 use Rattle.rx_tools.specs.Utf8.{utf8}
 use Rattle.rx_tools.proofs.Pieces.{utf8-nil, same_text, text_then}

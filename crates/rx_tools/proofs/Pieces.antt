@@ -1,15 +1,15 @@
 -- The bytes of pieces and of characters.
-use Rattle.std.proofs.Common.{◌≡◌, refl, ap, sym, ◌∙◌, ℕ, suc, ◌+◌, ◌<◌, ◌≤◌, List, [], ◌∷◌, ◌++◌, Bor, Option, Result, Ok, Err, length, drop, get_or, add-one, append-nil, append_assoc}
+use Rattle.std.proofs.Common.{◌≡◌, refl, ap, ◌∙◌, ℕ, suc, ◌+◌, ◌<◌, ◌≤◌, List, [], ◌∷◌, ◌++◌, Bor, Option, Result, Ok, Err, length, drop, get_or, add-one, append-nil, append_assoc}
 use Rattle.std.proofs.Math.Seq.{drop-cons}
 use Rattle.std.proofs.lemmas.List.{drop_all}
-use Rattle.std.proofs.lemmas.Str.{encodes-append, encodes-chars, encodes_same, chars-encodes, chars-nil}
+use Rattle.std.proofs.lemmas.Str.{encodes-append, encodes-chars, chars-nil}
 use Rattle.std.specs.Char.{encode_utf8}
 use Rattle.std.specs.List.{flat_map}
 use Rattle.std.specs.Str.{chars, IsUtf8}
 use Rattle.std.specs.Result.{IsErr, IsErrAnd}
 use Rattle.rx_ast.proofs.Plain.{chars-plain}
 use Rattle.rx_base.specs.Writing.{Written}
-use Rattle.rx_base.proofs.Writings.{written_then, written_stop}
+use Rattle.rx_base.proofs.Writing.{written_then, written_stop}
 use Rattle.rx_tools.specs.Utf8.{utf8}
 
 pub utf8-nil : utf8 [] ≡ []
@@ -23,12 +23,6 @@ utf8-append first second = encodes-append first second
 pub utf8-chars : (bytes : List ℕ) → IsUtf8 bytes → utf8 (chars bytes) ≡ bytes
 unfolding utf8
 utf8-chars bytes text = encodes-chars bytes text
-
-pub chars-utf8 : (bytes text : List ℕ) → IsUtf8 bytes → bytes ≡ utf8 text → chars bytes ≡ text
-unfolding utf8
-chars-utf8 bytes text spelled written =
-    let same : spelled.0 ≡ text = encodes_same spelled.0 text (spelled.1.1 ∙ written) in
-    ap chars (sym spelled.1.1) ∙ chars-encodes spelled.0 spelled.1.0 ∙ same
 
 pub utf8-cons : (c : ℕ) (cs : List ℕ) → utf8 (c ∷ cs) ≡ encode_utf8 c ++ utf8 cs
 unfolding utf8

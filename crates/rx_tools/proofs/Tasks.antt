@@ -1,6 +1,5 @@
 -- What is written of alternatives and of terms, by the first and the others.
-use Rattle.std.proofs.Common.{◌≡◌, refl, ap, sym, ◌∙◌, ℕ, ◌<◌, ◌≤◌, arith, Result, Ok, Err, Bool, false, codes, List, [], ◌∷◌, ◌++◌, append_assoc, length, map}
-use Rattle.std.specs.Prelude.{IfOk, sum_by}
+use Rattle.std.proofs.Common.{◌≡◌, refl, ap, sym, ◌∙◌, ℕ, Bool, false, codes, List, [], ◌∷◌, ◌++◌, append_assoc, length, map}
 use Rattle.std.specs.declared.alloc.Global.{Global}
 use Rattle.std.specs.declared.boxed.Box.{Box}
 use Rattle.rx_ast.specs.declared.term.Alternative.{Alternative}
@@ -17,11 +16,9 @@ use Rattle.rx_ast.specs.Texts.{opener_text, quantifier_text}
 use Rattle.rx_ast.specs.Tree.{capturing, ignoring, looking, mirror_disjunction, mirror_term, nodes}
 use Rattle.rx_ast.proofs.Equations.{alternative_is, disjunction_is, tree_of_quantifier, tree_of_capturing, tree_of_ignore, tree_of_look}
 use Rattle.rx_display.specs.Tasks.{tree_of}
-use Rattle.rx_tasks.specs.declared.next.Next.{Next}
-use Rattle.rx_tasks.specs.Tasks.{tasks_of}
 use Rattle.rx_model.specs.declared.mode.Mode.{Mode}
 use Rattle.rx_model.specs.Spelling.Spelling.{alternatives_text, barred_text, node_text, nodes_text, refers, spelling}
-use Rattle.rx_model.proofs.Spelling.Spellings.{spelling_bare}
+use Rattle.rx_model.proofs.Spelling.Spelling.{spelling_bare}
 
 pub disjunction_cut : (mode : Mode) (all : List Alternative) (first : Alternative) (others : List Alternative) → all ≡ first ∷ others →
     alternatives_text mode (tree_of all) ≡ nodes_text mode false (nodes (map mirror_term first.body)) ++ barred_text mode (tree_of others)
@@ -63,9 +60,3 @@ module _ (mode : Mode) (after_reference : Bool) (more : List ℕ) where
 -- the spelling of a pattern, by its alternatives
 pub spelling_is : (p : Pattern) (mode : Mode) (items : List Alternative) → items ≡ (out-Disjunction p.body).body → spelling (bare p) mode ≡ alternatives_text mode (tree_of items)
 spelling_is p mode items same = spelling_bare p mode ∙ ap (λ d. alternatives_text mode d.1) (disjunction_is p.body) ∙ ap (λ as'. alternatives_text mode (tree_of as')) (sym same)
-
--- a last call, which answers what is left
-pub lighter_within : {T E : Type 0} (result : Result (Next T) E) (weight : T → ℕ) {bound limit : ℕ} → bound ≤ limit →
-    IfOk result (λ next. sum_by weight (tasks_of next) < bound) → IfOk result (λ next. sum_by weight (tasks_of next) < limit)
-lighter_within (Ok tasks) weight below within = omega arith
-lighter_within (Err e) weight below within = tt

@@ -1,4 +1,4 @@
--- What an Ok answer has, for the definitions of what may be answered.
+-- The parts of an Ok answer, which the definitions of what may be answered ask for.
 use Rattle.rx_ast.specs.declared.term.Pattern.{Pattern}
 use Rattle.rx_ast.specs.Forget.{bare}
 use Rattle.rx_model.specs.declared.mode.Mode.{Mode}
@@ -10,5 +10,5 @@ use Rattle.rx_tools.specs.declared.outcome.Canonical.{Canonical}
 abbrev pub read_of : Pattern × Mode → Spelled
 read_of it = record { pattern = it.0; mode = it.1; text = spelling (bare it.0) it.1 }
 
-abbrev pub spelled_of : Canonical → Spelled
-spelled_of it = record { pattern = it.pattern; mode = it.mode; text = it.text }
+abbrev pub spelling_answer : Canonical → Spelled
+spelling_answer it = record { pattern = it.pattern; mode = it.mode; text = it.text }

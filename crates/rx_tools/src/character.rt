@@ -4,7 +4,7 @@ ghost use Rattle.std.specs.Str.{chars};
 ghost use Rattle.rx_base.specs.Ascii as ascii;
 ghost use Rattle.rx_base.specs.Writing.{Written};
 ghost use Rattle.rx_tables.specs.Characters.{hex_digit as hex};
-ghost use Rattle.rx_model.specs.Spelling.CharacterText.{is_reserved_in_class as reserved_in_class, is_escaped as escaped, goes_on as going, greatest_raw as greatest, control_letter as letter, hex as hexadecimal, braced, surrogate_text, character_text};
+ghost use Rattle.rx_model.specs.Spelling.CharacterText.{is_reserved_in_class as reserved_in_class, is_escaped as escaped, goes_on as going, greatest_raw as greatest, control_letter as letter, hex as hexadecimal, in_braces_text, surrogate_text, character_text};
 ghost use Rattle.rx_model.specs.declared.mode.Mode.{Mode};
 ghost use Rattle.rx_tools.specs.Characters.{place_of, form_text, IsWritable};
 ghost use Rattle.rx_tools.specs.Utf8.{utf8};
@@ -79,7 +79,7 @@ fn goes_on(place: Place, c: u32) -> bool
     }
 }
 
-/// The greatest value that the mode reads raw.
+/// The greatest value that is read in this mode without an escape.
 fn greatest_raw(mode: Mode) -> u32
     ensures { result ≡ greatest mode }
 {
@@ -90,7 +90,7 @@ fn greatest_raw(mode: Mode) -> u32
     }
 }
 
-/// The form of a surrogate alone.
+/// The form of a lone surrogate.
 fn surrogate_form(mode: Mode) -> CharacterForm
     ensures text { (c : ℕ) → form_text result c ≡ surrogate_text mode c }
     ensures writable { (c : ℕ) → IsWritable result c }
@@ -167,7 +167,7 @@ fn write_hex<W: TextSink>(sink: &mut W, places: u32, n: u32) -> Result<(), Faile
 }
 
 fn write_braced<W: TextSink>(sink: &mut W, c: u32) -> Result<(), Failed>
-    ensures { Written W.taken W.fixed W.faults sink.old sink.new result (utf8 (braced c)) }
+    ensures { Written W.taken W.fixed W.faults sink.old sink.new result (utf8 (in_braces_text c)) }
 {
     write_str(sink, "\\u{")?;
     write_hex(sink, 8, c)?;

@@ -3,7 +3,7 @@ ghost use Rattle.rx_ast.specs.ClassTree.{members, mirror_contents, mirror_class,
 ghost use Rattle.rx_base.specs.Writing.{Written};
 ghost use Rattle.rx_ast.specs.Texts.{operator_text as operator};
 ghost use Rattle.rx_model.specs.Spelling.ClassText.{member_text, members_text, class_text, characters_text, strings_text, barred_strings_text};
-ghost use Rattle.rx_tools.specs.Leaves.{is_nested as is_class, are_flat, is_flat as flat};
+ghost use Rattle.rx_tools.specs.Leaves.{is_nested as is_class, is_flat as flat};
 ghost use Rattle.rx_tools.specs.Utf8.{utf8};
 
 use crate::character::{Place, write_character};
@@ -114,14 +114,14 @@ pub fn is_flat(class: &CharacterClass) -> bool
     true
 }
 
-/// Writes one of a class's contents that is no class.
-#[tactic(auto, using(crate::proofs::Pieces::in_pieces, rx_ast::proofs::ClassEquations::class_mirrors))]
+/// Writes one of a class's contents.
+#[cycle(class)]
+#[tactic(auto, using(rx_ast::proofs::ClassSizes::class_sizes, rx_ast::proofs::ClassEquations::class_mirrors, crate::proofs::Pieces::in_pieces))]
 pub fn write_contents<W: TextSink>(
     sink: &mut W,
     mode: Mode,
     contents: &CharacterClassContents,
 ) -> Result<(), Failed>
-    requires { is_class (mirror_contents contents.now) ≡ false }
     ensures { Written W.taken W.fixed W.faults sink.old sink.new result (utf8 (member_text mode (mirror_contents contents.now))) }
 {
     match contents {
@@ -136,18 +136,19 @@ pub fn write_contents<W: TextSink>(
         CharacterClassContents::ClassStringDisjunction(it) => {
             write_string_disjunction(sink, mode, it)
         }
-        CharacterClassContents::NestedCharacterClass(_) => unreachable!(),
+        CharacterClassContents::NestedCharacterClass(it) => write_class(sink, mode, it),
     }
 }
 
-/// Writes contents among which no class stands, with the operator of their kind between them.
-fn write_flat_contents<W: TextSink>(
+/// Writes contents with the operator of their kind between them.
+#[cycle(class)]
+#[tactic(auto, using(rx_ast::proofs::ClassSizes::class_sizes))]
+fn write_all_contents<W: TextSink>(
     sink: &mut W,
     mode: Mode,
     kind: CharacterClassContentsKind,
     all_contents: &[CharacterClassContents],
 ) -> Result<(), Failed>
-    requires { are_flat (members (map mirror_contents all_contents.now)) ≡ true }
     ensures { Written W.taken W.fixed W.faults sink.old sink.new result (utf8 (members_text mode (operator kind) (members (map mirror_contents all_contents.now)))) }
 {
     let operator = operator_text(kind);
@@ -160,16 +161,17 @@ fn write_flat_contents<W: TextSink>(
     Ok(())
 }
 
-/// Writes a class in which no class stands.
-pub fn write_flat_class<W: TextSink>(
+/// Writes a class. It calls itself for each class in it, so it is safe only where classes are not nested deep.
+#[cycle(class)]
+#[tactic(auto, using(rx_ast::proofs::ClassSizes::class_sizes))]
+pub fn write_class<W: TextSink>(
     sink: &mut W,
     mode: Mode,
     class: &CharacterClass,
 ) -> Result<(), Failed>
-    requires { flat (mirror_class class.now) ≡ true }
     ensures { Written W.taken W.fixed W.faults sink.old sink.new result (utf8 (class_text mode (mirror_class class.now))) }
 {
     write_str(sink, class_opener(class.negative))?;
-    write_flat_contents(sink, mode, class.kind, class.body.as_slice())?;
+    write_all_contents(sink, mode, class.kind, class.body.as_slice())?;
     write_str(sink, "]")
 }

@@ -7,7 +7,7 @@ ghost use Rattle.rx_tools.specs.Leaves.{WritesFront, is_leaf as stands_alone, re
 ghost use Rattle.rx_tools.specs.Utf8.{utf8};
 
 use crate::character::{Place, write_character};
-use crate::class::{is_flat, write_flat_class};
+use crate::class::{is_flat, write_class};
 use crate::property::write_property;
 use crate::quantifier::write_quantifier;
 use crate::term::{refers, write_indexed, write_named};
@@ -68,7 +68,7 @@ pub fn write_leaf<W: TextSink>(
         Term::Dot(_) => write_str(sink, "."),
         Term::CharacterClassEscape(it) => write_str(sink, class_escape_text(it.kind)),
         Term::UnicodePropertyEscape(it) => write_property(sink, it),
-        Term::CharacterClass(it) => write_flat_class(sink, mode, it),
+        Term::CharacterClass(it) => write_class(sink, mode, it),
         Term::IndexedReference(it) => write_indexed(sink, it.index),
         Term::NamedReference(it) => write_named(sink, &it.name),
         Term::Quantifier(_) => unreachable!(),
@@ -92,7 +92,7 @@ fn write_quantified_leaf<W: TextSink>(
     write_quantifier(sink, it.min, it.max, it.greedy)
 }
 
-/// Writes the term if nothing nests in it, or in what its quantifier stands on, and answers whether it did.
+/// Writes the term if nothing nests in it or, of a quantifier, in its body, and answers whether it did.
 #[inline(always)]
 fn write_if_leaf<W: TextSink>(
     sink: &mut W,

@@ -38,6 +38,7 @@ pub fn canonical_text(alloc: Global, pattern: &Pattern, mode: Mode) -> Result<Te
 
 /// Adds the canonical spelling of a tree in a mode, in UTF-8, after the bytes. However deep the tree is, it takes no deep stack.
 /// Fails only where there is not enough memory, and then a part of the spelling may stand at the end.
+// Why: docs/DECISIONS.md, 40.
 pub fn append_canonical(
     alloc: Global,
     bytes: &mut List<u8>,
@@ -49,7 +50,7 @@ pub fn append_canonical(
     write_pattern(alloc, bytes, pattern, mode)
 }
 
-/// Writes a pattern, by a loop over tasks on the heap. The sinks it is used with are memory, so a fault is that there is too little.
+/// Writes a pattern, by a loop over tasks on the heap. The sinks that it is used with are in memory, so the only fault is that there is not enough of it.
 fn write_pattern<W: TextSink>(
     alloc: Global,
     sink: &mut W,

@@ -1,7 +1,7 @@
 ghost use Rattle.std.specs.Prelude.{◌+◌, ◌<◌, ◌^◌, max, length};
 ghost use Rattle.rx_model.specs.Reading.Headline.{IsAnswered};
 ghost use Rattle.rx_parser.specs.Inputs.{flags_length, input_of, stand_in_length};
-ghost use Rattle.rx_tools.specs.Spelled.{read_of, spelled_of};
+ghost use Rattle.rx_tools.specs.Spelled.{read_of, spelling_answer};
 
 use crate::printing::canonical_text;
 use crate::{Canonical, Options};
@@ -23,8 +23,8 @@ pub fn read_pattern(
     requires pattern { options.pattern_span_offset + max (length pattern_text.now) (stand_in_length form) < 2 ^ 32 }
     requires flags { options.flags_span_offset + flags_length flags_text < 2 ^ 32 }
 
-    // Be the flags right or wrong: Ok on valid input and on no other, with the only tree, spans aside, that reads in the mode that the flags ask for, and
-    // with that mode; else the first refusal, or out of memory. The spelling of the tree is read back.
+    // Whether the flags are right or wrong: Ok on valid input and on no other, with the only tree, spans aside, that the text reads as in the mode that the
+    // flags ask for, and with that mode; else the first refusal, or out of memory. The spelling of the tree is read back.
     ensures headline { IsAnswered read_of (input_of form pattern_text.now flags_text.entry options) result }
 {
     let input = Input {
@@ -47,8 +47,8 @@ pub fn canonical(
     requires pattern { options.pattern_span_offset + max (length pattern_text.now) (stand_in_length form) < 2 ^ 32 }
     requires flags { options.flags_span_offset + flags_length flags_text < 2 ^ 32 }
 
-    // Be the flags right or wrong: Ok on valid input and on no other, with the only tree and its canonical spelling; else the first refusal, or out of memory.
-    ensures headline { IsAnswered spelled_of (input_of form pattern_text.now flags_text.entry options) result }
+    // Whether the flags are right or wrong: Ok on valid input and on no other, with the only tree and its canonical spelling; else the first refusal, or out of memory.
+    ensures headline { IsAnswered spelling_answer (input_of form pattern_text.now flags_text.entry options) result }
 {
     let (pattern, mode) = read_pattern(alloc, form, pattern_text, flags_text, options)?;
     let text = canonical_text(alloc, &pattern, mode)?;

@@ -1,23 +1,17 @@
 ghost use Rattle.std.specs.Prelude.{◌++◌, false, map, codes};
-ghost use Rattle.rx_ast.specs.ClassTree.{members, mirror_contents, mirror_class};
 ghost use Rattle.rx_ast.specs.Forget.{bare};
 ghost use Rattle.rx_ast.specs.Tree.{nodes, alternatives as alternatives_of, mirror_term, mirror_quantifier, mirror_alternative, mirror_disjunction};
 ghost use Rattle.rx_base.specs.Writing.{Written};
-ghost use Rattle.rx_ast.specs.Texts.{operator_text as operator};
-ghost use Rattle.rx_model.specs.Spelling.ClassText.{member_text, members_text, class_text};
 ghost use Rattle.rx_model.specs.Spelling.Spelling.{alternatives_text, node_text, nodes_text, spelling};
 ghost use Rattle.rx_tools.specs.Utf8.{utf8};
 
-use crate::class::write_contents;
+use crate::class::write_class;
 use crate::leaf::{Rest, write_leaf, write_leaves};
 use crate::quantifier::write_quantifier;
 use crate::term::{refers, write_capturing, write_ignoring};
 use crate::write::write_str;
-use rx_ast::parts::{class_opener, look_text, operator_text};
-use rx_ast::{
-    Alternative, CharacterClass, CharacterClassContents, CharacterClassContentsKind, Disjunction,
-    Pattern, Quantifier, Term,
-};
+use rx_ast::parts::look_text;
+use rx_ast::{Alternative, Disjunction, Pattern, Quantifier, Term};
 use rx_base::{Failed, Sink, TextSink};
 use rx_model::Mode;
 
@@ -25,8 +19,9 @@ use rx_model::Mode;
 /// its front was written, of which at least one byte is missing.
 ///
 /// It calls itself for what nests: groups, look-arounds, quantifiers, and classes in classes. So it takes a deeper stack for a
-/// deeper tree, and is safe where few groups stand in one another; of a tree that may be deeper, `canonical_text` gives the
-/// same spelling.
+/// deeper tree, and is safe only where groups are not nested deep; of a tree that may be deeper, `canonical_text` gives the same
+/// spelling.
+// Why: docs/DECISIONS.md, 52.
 pub fn write_canonical<K: Sink>(sink: &mut K, pattern: &Pattern, mode: Mode) -> Result<(), Failed>
     ensures written { Written K.taken K.fixed K.faults sink.old sink.new result (utf8 (spelling (bare pattern.now) mode)) }
 {
@@ -130,55 +125,4 @@ fn write_group<W: TextSink>(sink: &mut W, mode: Mode, body: &Disjunction) -> Res
 {
     write_alternatives(sink, mode, body.body.as_slice())?;
     write_str(sink, ")")
-}
-
-#[cycle(class)]
-#[tactic(auto, using(rx_ast::proofs::ClassSizes::class_sizes))]
-fn write_class<W: TextSink>(sink: &mut W, mode: Mode, class: &CharacterClass) -> Result<(), Failed>
-    ensures { Written W.taken W.fixed W.faults sink.old sink.new result (utf8 (class_text mode (mirror_class class.now))) }
-{
-    write_str(sink, class_opener(class.negative))?;
-    write_all_contents(sink, mode, class.kind, class.body.as_slice())?;
-    write_str(sink, "]")
-}
-
-/// Writes contents with the operator of their kind between them.
-#[cycle(class)]
-#[tactic(auto, using(rx_ast::proofs::ClassSizes::class_sizes))]
-fn write_all_contents<W: TextSink>(
-    sink: &mut W,
-    mode: Mode,
-    kind: CharacterClassContentsKind,
-    all_contents: &[CharacterClassContents],
-) -> Result<(), Failed>
-    ensures { Written W.taken W.fixed W.faults sink.old sink.new result (utf8 (members_text mode (operator kind) (members (map mirror_contents all_contents.now)))) }
-{
-    let operator = operator_text(kind);
-    let mut before = "";
-    for contents in all_contents {
-        write_str(sink, before)?;
-        write_one_contents(sink, mode, contents)?;
-        before = operator;
-    }
-    Ok(())
-}
-
-/// Writes one of a class's contents.
-#[cycle(class)]
-#[tactic(auto, using(rx_ast::proofs::ClassSizes::class_sizes, rx_ast::proofs::ClassEquations::class_mirrors))]
-fn write_one_contents<W: TextSink>(
-    sink: &mut W,
-    mode: Mode,
-    contents: &CharacterClassContents,
-) -> Result<(), Failed>
-    ensures { Written W.taken W.fixed W.faults sink.old sink.new result (utf8 (member_text mode (mirror_contents contents.now))) }
-{
-    match contents {
-        CharacterClassContents::NestedCharacterClass(it) => write_class(sink, mode, it),
-        CharacterClassContents::CharacterClassRange(_) => write_contents(sink, mode, contents),
-        CharacterClassContents::CharacterClassEscape(_) => write_contents(sink, mode, contents),
-        CharacterClassContents::UnicodePropertyEscape(_) => write_contents(sink, mode, contents),
-        CharacterClassContents::Character(_) => write_contents(sink, mode, contents),
-        CharacterClassContents::ClassStringDisjunction(_) => write_contents(sink, mode, contents),
-    }
 }

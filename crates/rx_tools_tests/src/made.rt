@@ -85,7 +85,7 @@ fn all_agree(
 }
 
 /// The canonical spelling of these terms.
-pub fn spelled(alloc: Global, mode: Mode, body: List<Term>) -> Result<Text, OutOfMemory> {
+pub fn spelling(alloc: Global, mode: Mode, body: List<Term>) -> Result<Text, OutOfMemory> {
     let span = nowhere();
     let mut alternatives = List::new(alloc);
     alternatives.push(Alternative { span, body })?;
@@ -96,7 +96,7 @@ pub fn spelled(alloc: Global, mode: Mode, body: List<Term>) -> Result<Text, OutO
 pub fn spelled_term(alloc: Global, mode: Mode, term: Term) -> Result<Text, OutOfMemory> {
     let mut terms = List::new(alloc);
     terms.push(term)?;
-    spelled(alloc, mode, terms)
+    spelling(alloc, mode, terms)
 }
 
 pub fn disjunction_of(alloc: Global, term: Term) -> Result<Disjunction, OutOfMemory> {
@@ -156,7 +156,7 @@ pub fn reference() -> Term {
     })
 }
 
-pub fn named(alloc: Global) -> Result<Term, OutOfMemory> {
+pub fn named_group(alloc: Global) -> Result<Term, OutOfMemory> {
     let it = NamedReference {
         span: nowhere(),
         name: Text::from_str(alloc, "n")?,

@@ -1,5 +1,5 @@
 use crate::made::{
-    class_term, dot, in_class, modified, property, quantified, spelled, spelled_term, union,
+    class_term, dot, in_class, modified, property, quantified, spelled_term, spelling, union,
 };
 use crate::signs::{SpellingCall, characters_outside};
 use rx_ast::Term;
@@ -166,7 +166,7 @@ fn quantifiers_are_short(rt: HostRuntime) -> Result<(), OutOfMemory> {
     for (min, max, greedy) in rows {
         terms.push(quantified(rt.alloc(), min, max, greedy, dot())?)?;
     }
-    let text = spelled(rt.alloc(), Mode::Unicode, terms)?;
+    let text = spelling(rt.alloc(), Mode::Unicode, terms)?;
     let want = ".*.+.?.{2}.{2,3}.{2,}.{0}.{1}.{3,2}.*?.??.{10,18446744073709551615}?";
     assert_eq!(rt; text.as_str(), want);
     Ok(())

@@ -1,8 +1,8 @@
 //! Trees as texts of signs, each of which stands for a term.
 use crate::made::{
     boundary, character, class_escape, class_term, displayed_disjunction, dot, group_of, ignoring,
-    in_class, looking, modified, named, nowhere, of_kind, quantified, reference, spelled,
-    spelled_disjunction, union,
+    in_class, looking, modified, named_group, nowhere, of_kind, quantified, reference,
+    spelled_disjunction, spelling, union,
 };
 use rx_ast::{
     Alternative, BoundaryAssertionKind, CharacterClassEscapeKind, CharacterKind,
@@ -55,7 +55,7 @@ fn term_of(alloc: Global, sign: char) -> Result<Term, OutOfMemory> {
         'q' => quantified(alloc, 0, None, true, reference()),
         'm' => quantified(alloc, 0, None, true, character(0x39)),
         'c' => digit_class(alloc),
-        'n' => named(alloc),
+        'n' => named_group(alloc),
         '.' => Ok(dot()),
         _ => escape_of(alloc, sign),
     }
@@ -143,5 +143,5 @@ pub fn characters_outside(alloc: Global, mode: Mode, values: &[u32]) -> Result<T
     for value in values {
         terms.push(character(*value))?;
     }
-    spelled(alloc, mode, terms)
+    spelling(alloc, mode, terms)
 }

@@ -1,14 +1,7 @@
 use rx_ast::{Pattern, RegExpAstKind};
 use rx_base::List;
 use rx_rows::{Call, agree, short};
-use rx_tools::visit::{
-    Visit, nodes_in_order, walk_alternative, walk_boundary_assertion, walk_capturing_group,
-    walk_character, walk_character_class, walk_character_class_contents,
-    walk_character_class_escape, walk_character_class_range, walk_character_class_string,
-    walk_character_class_string_disjunction, walk_disjunction, walk_dot, walk_ignore_group,
-    walk_indexed_reference, walk_lookaround_assertion, walk_named_reference, walk_pattern,
-    walk_pattern_in, walk_quantifier, walk_term, walk_unicode_property_escape,
-};
+use rx_tools::visit::*;
 use rx_tools::{Form, Options, read_pattern};
 use std::alloc::Global;
 use std::test::Fail;

@@ -4,5 +4,5 @@ pub mod GroupNames
 pub mod Lists
 pub mod Places
 pub mod Rows
-pub mod Straights
+pub mod Straight
 pub mod Unsupported

@@ -2,7 +2,7 @@
 use Rattle.std.proofs.Common.{◌≡◌, refl, ap, sym, ◌∙◌, Option, Some, None, List, [], ◌∷◌, ◌++◌}
 use Rattle.rx_base.specs.declared.span.Span.{Span}
 use Rattle.rx_ast.specs.Kinds.{Kind}
-use Rattle.rx_trace.specs.Supported.{unsupported, or_later, first_unsupported}
+use Rattle.rx_trace.specs.Supported.{unsupported_span, or_later, first_unsupported}
 
 pub or_none : (a : Option Span) → or_later a None ≡ a
 or_none None = refl
@@ -14,4 +14,4 @@ or_assoc (Some s) b c = refl
 
 pub first-append : (ks ls : List Kind) → first_unsupported (ks ++ ls) ≡ or_later (first_unsupported ks) (first_unsupported ls)
 first-append [] ls = refl
-first-append (k ∷ ks) ls = ap (or_later (unsupported k)) (first-append ks ls) ∙ sym (or_assoc (unsupported k) (first_unsupported ks) (first_unsupported ls))
+first-append (k ∷ ks) ls = ap (or_later (unsupported_span k)) (first-append ks ls) ∙ sym (or_assoc (unsupported_span k) (first_unsupported ks) (first_unsupported ls))

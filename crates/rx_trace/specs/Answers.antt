@@ -30,12 +30,12 @@ abbrev pub place_of : Option State → ℕ → ℕ → ℕ
 place_of (Some s) p later = p
 place_of None p later = later
 
--- the place from which the first trace goes that has a state
+-- the place from which the first trace with a state begins
 abbrev pub begins_at : (ℕ → Trace) → ℕ → ℕ → ℕ
 begins_at trace_at zero p = p
 begins_at trace_at (suc more) p = place_of (first (trace_at p)) p (begins_at trace_at more (p + 1))
 
--- Spent exactly where more Ticks come before the first state than the budget has; else the first state, or none where there is none.
+-- Spent exactly where more Ticks come before the first state than the budget allows; otherwise the first state, or none where there is none.
 abbrev pub IsFirstOutcome : (ℕ → Trace) → ℕ → ℕ → ℕ → Result (Option Found) MatchFault → Type 0
 IsFirstOutcome trace_at more start budget (Ok None) = (first (each_trace trace_at more start) ≡ None) × (cost (each_trace trace_at more start) ≤ budget)
 IsFirstOutcome trace_at more start budget (Ok (Some found)) =
@@ -45,7 +45,7 @@ IsFirstOutcome trace_at more start budget (Err fault.OutOfMemory) = Unit {0}
 IsFirstOutcome trace_at more start budget (Err fault.IgnoreCase) = ⊥
 IsFirstOutcome trace_at more start budget (Err (fault.Unsupported span)) = ⊥
 
--- The answer of a match from a place, or from so many places after it too. The refusals come in this order.
+-- The answer to a match from a place, and from so many places after it. Refusals come in this order.
 abbrev pub IsAnswer : MatchFlags → Whole → List ℕ → ℕ → ℕ → ℕ → Result (Option Found) MatchFault → Type 0
 IsAnswer flags tree input more start budget (Err fault.OutOfMemory) = Unit {0}
 IsAnswer flags tree input more start budget (Err fault.IgnoreCase) = flags.ignore_case ≡ true
@@ -55,7 +55,7 @@ IsAnswer flags tree input more start budget (Err fault.Spent) =
 IsAnswer flags tree input more start budget (Ok answer) =
     (flags.ignore_case ≡ false) × (unsupported_in tree ≡ None) × IsFirstOutcome (pattern_trace flags tree input) more start budget (Ok answer)
 
--- How many Ticks come before the first state, where they are so many at most: this is the least budget that is not Spent. The refusals are those of a match.
+-- How many Ticks come before the first state, if these are at most `most`: the least budget whose answer is not Spent. The refusals are those of a match.
 abbrev pub IsTickCount : MatchFlags → Whole → List ℕ → ℕ → ℕ → ℕ → Result (Option ℕ) MatchFault → Type 0
 IsTickCount flags tree input more start most (Err fault.OutOfMemory) = Unit {0}
 IsTickCount flags tree input more start most (Err fault.IgnoreCase) = flags.ignore_case ≡ true

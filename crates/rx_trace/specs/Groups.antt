@@ -52,7 +52,7 @@ abbrev pub is_named : List ℕ → Option (List ℕ) → Bool
 is_named name None = false
 is_named name (Some other) = same_units name other
 
--- the slot of the group of a number, from 1; unset where there is none
+-- the slot of the group with a number, from 1 on; unset where there is none
 abbrev pub slot_of : List Slot → ℕ → Slot
 slot_of slots zero = Unset
 slot_of slots (suc k) = get_or slots k Unset
@@ -61,13 +61,13 @@ abbrev pub is_set : Slot → Bool
 is_set Unset = false
 is_set (Set start end) = true
 
--- the slot of the least group of a name that is set
+-- the slot of the first group of a name whose slot is set; unset where there is none
 abbrev pub slot_named : List ℕ → Names → List Slot → Slot
 slot_named name [] slots = Unset
 slot_named name (n ∷ ns) [] = Unset
 slot_named name (n ∷ ns) (s ∷ ss) = if is_named name n then (if is_set s then s else slot_named name ns ss) else slot_named name ns ss
 
--- the slots from a number on, so many, unset
+-- the slots, of which so many from a number on are unset
 abbrev pub unset_slots : ℕ → ℕ → List Slot → List Slot
 unset_slots from zero slots = slots
 unset_slots from (suc count) slots = set (unset_slots from count slots) (from + count) Unset
@@ -75,6 +75,6 @@ unset_slots from (suc count) slots = set (unset_slots from count slots) (from + 
 abbrev pub unset_in : ℕ → ℕ → State → State
 unset_in from count s = record { place = s.place; slots = unset_slots from count s.slots }
 
--- the slot of a group (its number less 1), set from one place to another
-abbrev pub captured : ℕ → ℕ → State → State
-captured k p w = record { place = w.place; slots = set w.slots k (Set (min p w.place) (max p w.place)) }
+-- The slot of a group (its number less 1) is set from one place to another.
+abbrev pub with_capture : ℕ → ℕ → State → State
+with_capture k p w = record { place = w.place; slots = set w.slots k (Set (min p w.place) (max p w.place)) }

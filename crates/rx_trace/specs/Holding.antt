@@ -40,7 +40,7 @@ negate_if true holds = not holds
 negate_if false holds = holds
 
 abbrev mutual
-  -- CompileToCharSet (22.2.2.9) of what stands in a class. Property escapes and strings are refused before (Supported.antt).
+  -- CompileToCharSet (22.2.2.9) of what stands in a class. Property escapes and strings were refused before (Supported.antt).
   pub member_holds : Member → ℕ → Bool
   member_holds (in_class.range r) c = is_within r.min.value r.max.value c
   member_holds (in_class.escape e) c = escape_holds e.kind c
@@ -77,9 +77,9 @@ abbrev pub ahead : List ℕ → ℕ → Option ℕ
 ahead input p = slice_get input p
 
 -- the unit before a place
-abbrev pub preceding : List ℕ → ℕ → Option ℕ
-preceding input zero = None
-preceding input (suc p) = slice_get input p
+abbrev pub unit_before : List ℕ → ℕ → Option ℕ
+unit_before input zero = None
+unit_before input (suc p) = slice_get input p
 
 -- At place 0 no unit stands before, and at the end none at the place.
 abbrev pub is_nothing : Option ℕ → Bool
@@ -91,9 +91,9 @@ differ a b = (a && not b) || (not a && b)
 
 -- IsWordChar (22.2.2.4.1) on both sides
 abbrev pub is_word_end : List ℕ → ℕ → Bool
-is_word_end input p = differ (holds_at is_word (preceding input p)) (holds_at is_word (ahead input p))
+is_word_end input p = differ (holds_at is_word (unit_before input p)) (holds_at is_word (ahead input p))
 
--- the rest of the input is one line terminator, or CR LF, or nothing
+-- whether the rest of the input is one line terminator, or CR LF, or nothing
 abbrev pub is_last_line : List ℕ → ℕ → Bool
 is_last_line input p = is_nothing (ahead input p)
     || ((p + 1 == length input) && holds_at is_line_terminator (ahead input p))
@@ -101,10 +101,10 @@ is_last_line input p = is_nothing (ahead input p)
 
 -- CompileAssertion (22.2.2.4), and the proposal on buffer boundaries
 abbrev pub boundary_holds : Bool → List ℕ → BoundaryAssertionKind → ℕ → Bool
-boundary_holds multiline input at.Start p = is_nothing (preceding input p) || (multiline && holds_at is_line_terminator (preceding input p))
+boundary_holds multiline input at.Start p = is_nothing (unit_before input p) || (multiline && holds_at is_line_terminator (unit_before input p))
 boundary_holds multiline input at.End p = is_nothing (ahead input p) || (multiline && holds_at is_line_terminator (ahead input p))
 boundary_holds multiline input at.Boundary p = is_word_end input p
 boundary_holds multiline input at.NegativeBoundary p = not (is_word_end input p)
-boundary_holds multiline input at.StartBuffer p = is_nothing (preceding input p)
+boundary_holds multiline input at.StartBuffer p = is_nothing (unit_before input p)
 boundary_holds multiline input at.EndBuffer p = is_nothing (ahead input p)
 boundary_holds multiline input at.EndBufferOptionalNewline p = is_last_line input p

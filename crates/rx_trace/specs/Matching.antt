@@ -2,7 +2,7 @@
 --
 -- | node | after the Tick, from a state s at a place p | section |
 -- |---|---|---|
--- | Character, Dot, class escape, class | forward over the unit at p, backward over the unit before p, where there is one and it is held; else nothing | 22.2.2.7.1, 22.2.2.9 |
+-- | Character, Dot, class escape, class | forward over the unit at p, backward over the unit before p, if there is one and the node holds it; else nothing | 22.2.2.7.1, 22.2.2.9 |
 -- | boundary | s where it holds, else nothing | 22.2.2.4; of `\A`, `\z`, `\Z` a proposal |
 -- | lookahead, lookbehind | the Ticks of the body up to its first state, and p with the slots of that state, if there is one | 22.2.2.4 |
 -- | negative look-around | the Ticks of the body up to its first state, and s where there is none | 22.2.2.4 |
@@ -22,32 +22,32 @@ use Rattle.rx_trace.specs.declared.answer.Slot.{Slot}
 use Rattle.rx_trace.specs.declared.answer.Slot.TheVariants.{Unset, Set}
 pub use Rattle.rx_trace.specs.declared.settings.Settings.{Settings}
 use Rattle.rx_trace.specs.Traces.{State, Trace, tick, reached, and_then, front, first}
-use Rattle.rx_trace.specs.Holding.{is_line_terminator, escape_holds, class_holds, boundary_holds, ahead, preceding}
+use Rattle.rx_trace.specs.Holding.{is_line_terminator, escape_holds, class_holds, boundary_holds, ahead, unit_before}
 use Rattle.rx_trace.specs.Repeats.{repeat_trace}
-use Rattle.rx_trace.specs.Groups.{Names, groups_in, groups_in_all, same_units, slot_of, slot_named, unset_in, captured}
+use Rattle.rx_trace.specs.Groups.{Names, groups_in, groups_in_all, same_units, slot_of, slot_named, unset_in, with_capture}
 
 -- the setting after a modifier on either side
-abbrev pub switched : ℕ → ℕ → Bool → Bool
-switched enabled disabled was = if disabled == 0 then (if enabled == 0 then was else true) else false
+abbrev pub switch_setting : ℕ → ℕ → Bool → Bool
+switch_setting enabled disabled was = if disabled == 0 then (if enabled == 0 then was else true) else false
 
 -- UpdateModifiers (22.2.2.7.4)
-abbrev pub changed : Option Modifiers → Settings → Settings
-changed None e = e
-changed (Some m) e = record {
+abbrev pub update_settings : Option Modifiers → Settings → Settings
+update_settings None e = e
+update_settings (Some m) e = record {
   -- the bit of `m` is 2, that of `s` is 4
-  multiline = switched (bit_and m.enabling.0 2) (bit_and m.disabling.0 2) e.multiline;
-  dot_all = switched (bit_and m.enabling.0 4) (bit_and m.disabling.0 4) e.dot_all;
+  multiline = switch_setting (bit_and m.enabling.0 2) (bit_and m.disabling.0 2) e.multiline;
+  dot_all = switch_setting (bit_and m.enabling.0 4) (bit_and m.disabling.0 4) e.dot_all;
 }
 
 -- the state moved to a place, or nothing where there is none
-abbrev pub moved_to : Option ℕ → State → Trace
-moved_to None s = []
-moved_to (Some p) s = reached (record { place = p; slots = s.slots }) ∷ []
+abbrev pub move_to : Option ℕ → State → Trace
+move_to None s = []
+move_to (Some p) s = reached (record { place = p; slots = s.slots }) ∷ []
 
 -- the place to go to, where there is a unit and it is held
-abbrev pub held_to : (ℕ → Bool) → ℕ → Option ℕ → Option ℕ
-held_to holds p None = None
-held_to holds p (Some c) = if holds c then Some p else None
+abbrev pub place_if_held : (ℕ → Bool) → ℕ → Option ℕ → Option ℕ
+place_if_held holds p None = None
+place_if_held holds p (Some c) = if holds c then Some p else None
 
 -- the state, where an assertion holds
 abbrev pub if_holds : Bool → State → Trace
@@ -81,10 +81,10 @@ look_around_trace look_around.NegativeLookbehind t s = front t ++ where_none (fi
 module _ (input : List ℕ) where
   -- CharacterSetMatcher (22.2.2.7.1): forward over the unit at the place, backward over the unit before it
   abbrev pub over_unit : Bool → (ℕ → Bool) → State → Trace
-  over_unit false holds s = moved_to (held_to holds (s.place + 1) (ahead input s.place)) s
-  over_unit true holds s = moved_to (held_to holds (s.place - 1) (preceding input s.place)) s
+  over_unit false holds s = move_to (place_if_held holds (s.place + 1) (ahead input s.place)) s
+  over_unit true holds s = move_to (place_if_held holds (s.place - 1) (unit_before input s.place)) s
 
-  -- the place after a text that stands at a place, or before one that stands before it
+  -- the place after a text that stands at a place or, backward, the place before a text that stands before it
   abbrev pub place_over : Bool → List ℕ → ℕ → Option ℕ
   place_over false text p = if same_units (take (length text) (drop p input)) text then Some (p + length text) else None
   place_over true text p = if nat_le (length text) p && same_units (take (length text) (drop (p - length text) input)) text then Some (p - length text) else None
@@ -92,7 +92,7 @@ module _ (input : List ℕ) where
   -- BackreferenceMatcher (22.2.2.7.2): an unset slot moves nothing
   abbrev pub back_reference_trace : Bool → Slot → State → Trace
   back_reference_trace back Unset s = reached s ∷ []
-  back_reference_trace back (Set start end) s = moved_to (place_over back (take (end - start) (drop start input)) s.place) s
+  back_reference_trace back (Set start end) s = move_to (place_over back (take (end - start) (drop start input)) s.place) s
 
 module _ (input : List ℕ) (names : Names) where
   -- CompileAtom (22.2.2.7) and CompileAssertion (22.2.2.4) where no term is inside. A property escape is refused before (Supported.antt).
@@ -113,8 +113,8 @@ module _ (input : List ℕ) (names : Names) where
     node_trace (quantified d min max greedy n) e back before s =
         tick ∷ repeat_trace (node_trace n e back before) (unset_in before (groups_in n)) greedy (min + length input) min max s
     node_trace (group d (capturing name) c more) e back before s =
-        tick ∷ and_then (alternatives_trace more e back (suc before) s) (λ w. reached (captured before s.place w) ∷ [])
-    node_trace (group d (ignoring m) c more) e back before s = tick ∷ alternatives_trace more (changed m e) back before s
+        tick ∷ and_then (alternatives_trace more e back (suc before) s) (λ w. reached (with_capture before s.place w) ∷ [])
+    node_trace (group d (ignoring m) c more) e back before s = tick ∷ alternatives_trace more (update_settings m e) back before s
     node_trace (group d (looking kind) c more) e back before s = tick ∷ look_around_trace kind (alternatives_trace more e (looks_back kind) before s) s
 
     -- CompileSubpattern of an Alternative (22.2.2.3): from the left when forward, from the right when backward

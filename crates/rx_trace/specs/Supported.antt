@@ -10,11 +10,11 @@ abbrev pub unsupported_modifiers : Modifiers → Option Span
 unsupported_modifiers m = if (bit_and m.enabling.0 1 == 0) && (bit_and m.disabling.0 1 == 0) then None else Some m.span
 
 -- The span of what is not supported at a node. Modifiers stand right after the node of their group.
-abbrev pub unsupported : Kind → Option Span
-unsupported (ignore_group s (Some m) d) = unsupported_modifiers m
-unsupported (property_escape p) = Some p.span
-unsupported (string_disjunction d) = Some d.span
-unsupported _ = None
+abbrev pub unsupported_span : Kind → Option Span
+unsupported_span (ignore_group s (Some m) d) = unsupported_modifiers m
+unsupported_span (property_escape p) = Some p.span
+unsupported_span (string_disjunction d) = Some d.span
+unsupported_span _ = None
 
 abbrev pub or_later : Option Span → Option Span → Option Span
 or_later None later = later
@@ -22,7 +22,7 @@ or_later (Some span) later = Some span
 
 abbrev pub first_unsupported : List Kind → Option Span
 first_unsupported [] = None
-first_unsupported (k ∷ ks) = or_later (unsupported k) (first_unsupported ks)
+first_unsupported (k ∷ ks) = or_later (unsupported_span k) (first_unsupported ks)
 
 -- the first in the order of the text
 abbrev pub unsupported_in : Whole → Option Span

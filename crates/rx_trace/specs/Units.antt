@@ -2,7 +2,7 @@
 use Rattle.std.specs.Prelude.{ℕ, Bool, ◌||◌, List, [], ◌∷◌, ◌++◌, nat_lt, if◌then◌else◌}
 use Rattle.rx_units.specs.Units.{lead_of, trail_of}
 
--- a character is one unit, or where units are not joined and it is past FFFF a lead and a trail
+-- A character is one unit; but where units are not joined, a character past FFFF is two, a lead and a trail.
 abbrev pub character_values : Bool → ℕ → List ℕ
 character_values joined c = if joined || nat_lt c 0x10000 then c ∷ [] else lead_of c ∷ trail_of c ∷ []
 

@@ -1,6 +1,6 @@
 ghost use Rattle.std.specs.Prelude.{◌≡◌, ◌==◌, None, MatchOption, bit_and, not};
 ghost use Rattle.rx_trace.specs.Answers.{settings as settings_of_flags};
-ghost use Rattle.rx_trace.specs.Matching.{changed, switched};
+ghost use Rattle.rx_trace.specs.Matching.{update_settings, switch_setting};
 ghost use Rattle.rx_trace.specs.Supported.{unsupported_modifiers as unsupported_by};
 
 use crate::answer::MatchFlags;
@@ -8,6 +8,7 @@ use rx_ast::{Modifier, Modifiers};
 use rx_base::Span;
 
 /// The settings that the modifiers of a group change: what `^`, `$` and `.` stand for.
+// Why: docs/DECISIONS.md, 103.
 #[derive(Clone, Copy, Debug)]
 pub struct Settings {
     pub multiline: bool,
@@ -32,8 +33,8 @@ fn has_bit(modifier: Modifier, bit: Modifier) -> bool
 }
 
 /// A setting after a modifier on either side.
-fn setting_after(modifiers: &Modifiers, bit: Modifier, was: bool) -> bool
-    ensures { result ≡ switched (bit_and modifiers.now.enabling.0 bit.0) (bit_and modifiers.now.disabling.0 bit.0) was }
+fn is_set_after(modifiers: &Modifiers, bit: Modifier, was: bool) -> bool
+    ensures { result ≡ switch_setting (bit_and modifiers.now.enabling.0 bit.0) (bit_and modifiers.now.disabling.0 bit.0) was }
 {
     let on = has_bit(modifiers.enabling, bit);
     let off = has_bit(modifiers.disabling, bit);
@@ -48,13 +49,13 @@ fn setting_after(modifiers: &Modifiers, bit: Modifier, was: bool) -> bool
 
 /// The settings in a group with these modifiers (UpdateModifiers, ECMA-262, 22.2.2.7.4).
 pub fn settings_after(modifiers: &Option<Modifiers>, settings: Settings) -> Settings
-    ensures { result ≡ changed modifiers.now settings }
+    ensures { result ≡ update_settings modifiers.now settings }
 {
     match modifiers {
         None => settings,
         Some(modifiers) => Settings {
-            multiline: setting_after(modifiers, Modifier::M, settings.multiline),
-            dot_all: setting_after(modifiers, Modifier::S, settings.dot_all),
+            multiline: is_set_after(modifiers, Modifier::M, settings.multiline),
+            dot_all: is_set_after(modifiers, Modifier::S, settings.dot_all),
         },
     }
 }

@@ -18,7 +18,7 @@ use Rattle.rx_units.specs.declared.string_literal_parser.StringLiteralKind.TheVa
 use Rattle.rx_units.specs.Cursor.{AreEnds}
 use Rattle.rx_units.specs.Quoted.Elements.{quote_of}
 use Rattle.rx_units.specs.Quoted.Values.{code_points, element_units, given_value, kind_of, text_units, value_units}
-use Rattle.rx_units.specs.Quoted.Texts.{IsReached, Leads, Place, next_place, byte_count, no_element, one_more, opened}
+use Rattle.rx_units.specs.Quoted.Texts.{IsReached, Leads, Place, next_place, byte_count, no_element, one_more, place_after_opening}
 use Rattle.rx_units.specs.Sources.{Decodes, plain_options}
 use Rattle.rx_units.specs.Units.{character_units, end_of}
 use Rattle.rx_units.proofs.CodePoints.{AreCodePoints, character_code_points, character_narrow}
@@ -47,7 +47,7 @@ module _ (l : Literal) (o : Options) (P : CodePoint → Type 0) (each : (start e
   value_holds start end k None small = All-nil P
   value_holds start end k (Some value) small = each start end value k small
 
-  all_units : (inner : List ℕ) (p : Place) → AreCharacters inner → Leads l o (opened o inner) p → All P p.units × AreCharacters p.rest
+  all_units : (inner : List ℕ) (p : Place) → AreCharacters inner → Leads l o (place_after_opening o inner) p → All P p.units × AreCharacters p.rest
   all_units inner _ small no_element = (All-nil P, small)
   all_units inner _ small (one_more {p} e w rest a h s k) =
       let before = all_units inner p small a in
@@ -149,7 +149,7 @@ module _ (bytes : List ℕ) where
     pub decoded_ends : AreEnds bytes 1 us
     decoded_ends =
         let o = plain_options standard joined in
-        let from : LiesAt 1 (opened o d.decoded.reached.inner) = record {
+        let from : LiesAt 1 (place_after_opening o d.decoded.reached.inner) = record {
           before = quote_of d.literal ∷ [];
           whole = quote_first;
           offset_is = refl;
@@ -158,5 +158,5 @@ module _ (bytes : List ℕ) where
           ends = tt;
         } in
         let own = d.decoded.last.units in
-        let ends = (lies 1 d.literal o (opened o d.decoded.reached.inner) d.decoded.last from d.decoded.reached.leads).ends in
+        let ends = (lies 1 d.literal o (place_after_opening o d.decoded.reached.inner) d.decoded.last from d.decoded.reached.leads).ends in
         subst (AreEnds bytes 1) (sym d.decoded.units_are) (either_way (AreEnds bytes 1) (standard && joined) (code_points own) own (ends_joined bytes 1 own ends) ends)

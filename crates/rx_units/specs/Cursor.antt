@@ -23,8 +23,8 @@ abbrev pub rest : Cursor → List CodePoint
 rest r = drop r.place r.units
 
 -- some places on, at most to the end
-abbrev pub moved : ℕ → Cursor → Cursor
-moved count r = record r { place = min (r.place + count) (length r.units) }
+abbrev pub move_on : ℕ → Cursor → Cursor
+move_on count r = record r { place = min (r.place + count) (length r.units) }
 
 -- the value of the first unit
 abbrev pub front : List CodePoint → Option ℕ

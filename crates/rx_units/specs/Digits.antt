@@ -21,6 +21,7 @@ abbrev pub hex_number : List ℕ → Option ℕ
 hex_number = hex_after 0
 
 -- The number of the first count digits after `u{` fits in 32 bits, and with the next digit it does not.
+-- Why: docs/DECISIONS.md, 97.
 pub record PassesHex (w : List ℕ) (count : ℕ) : Type 0 where
   pub digits : List ℕ
   pub next : ℕ

@@ -6,6 +6,7 @@ use Rattle.rx_tables.specs.Characters.{is_octal_digit}
 use Rattle.rx_units.specs.Digits.{front_is, octal}
 
 -- These digits, before rest, spell the value.
+-- Why: docs/DECISIONS.md, 97.
 pub data SpellsOctal : ℕ → List ℕ → List ℕ → Type 0 where
   -- `0` before 8 or 9
   octal_zero : {rest : List ℕ} → front_is (is_within ascii.eight ascii.nine) rest ≡ true → SpellsOctal 0 (codes "0") rest

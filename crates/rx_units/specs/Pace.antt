@@ -3,20 +3,20 @@ use Rattle.std.specs.Prelude.{ℕ, ◌+◌, ◌*◌, ◌≤◌, ◌≡◌, Resul
 use Rattle.rx_units.specs.Cursor.{Cursor, rest}
 
 -- how many units a reader has before it
-abbrev pub left : Cursor → ℕ
-left r = length (rest r)
+abbrev pub units_left : Cursor → ℕ
+units_left r = length (rest r)
 
 -- a step for each unit from one place to another, and none besides
 abbrev pub IsMove : ℕ → ℕ → Cursor → Cursor → Type 0
-IsMove old new from to = new + left to ≡ old + left from
+IsMove old new from to = new + units_left to ≡ old + units_left from
 
 -- at least one step for each unit from one place to another, and at most so many
 abbrev pub IsPaced : ℕ → ℕ → ℕ → Cursor → Cursor → Type 0
-IsPaced most old new from to = (old + left from ≤ new + left to) × (new + most * left to ≤ old + most * left from)
+IsPaced most old new from to = (old + units_left from ≤ new + units_left to) × (new + most * units_left to ≤ old + most * units_left from)
 
 -- at most so many steps for each unit that is left, and as many more
 abbrev pub IsBounded : ℕ → ℕ → ℕ → Cursor → Type 0
-IsBounded most old new from = new ≤ old + most * left from + most
+IsBounded most old new from = new ≤ old + most * units_left from + most
 
 -- a call that ends well keeps the pace, and one that is refused is bounded
 abbrev pub TakesSteps : {A E : Type 0} → ℕ → ℕ → ℕ → Cursor → Cursor → Result A E → Type 0

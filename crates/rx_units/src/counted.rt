@@ -1,5 +1,5 @@
 ghost use Rattle.std.specs.Prelude.{◌≡◌, ◌∷◌, [], if◌then◌else◌};
-ghost use Rattle.rx_units.specs.Cursor.{begins, moved, rest};
+ghost use Rattle.rx_units.specs.Cursor.{begins, move_on, rest};
 ghost use Rattle.rx_units.specs.Pace.{IsMove};
 
 use crate::Reader;
@@ -10,7 +10,7 @@ impl<'a> Reader<'a> {
     /// Moves one place on, or does nothing at the end.
     #[inline]
     pub fn advance_counted<C: Counter>(&mut self, steps: &mut C)
-        ensures reader { self.new ≡ moved 1 self.old }
+        ensures reader { self.new ≡ move_on 1 self.old }
         ensures steps { IsMove (C.count steps.old) (C.count steps.new) self.old self.new }
     {
         self.skip_counted(1, steps);
@@ -19,7 +19,7 @@ impl<'a> Reader<'a> {
     /// Moves n places on, or to the end where fewer are left.
     #[inline]
     pub fn skip_counted<C: Counter>(&mut self, count: usize, steps: &mut C)
-        ensures reader { self.new ≡ moved count self.old }
+        ensures reader { self.new ≡ move_on count self.old }
         ensures steps { IsMove (C.count steps.old) (C.count steps.new) self.old self.new }
     {
         steps.add(count.min(self.remaining_code_points().len()));
@@ -29,7 +29,7 @@ impl<'a> Reader<'a> {
     /// Moves over the character where it stands at the place, and says whether it does.
     pub fn eat_counted<C: Counter>(&mut self, ch: char, steps: &mut C) -> bool
         ensures value { result ≡ begins (ch ∷ []) (rest self.old) }
-        ensures reader { self.new ≡ (if result then moved 1 self.old else self.old) }
+        ensures reader { self.new ≡ (if result then move_on 1 self.old else self.old) }
         ensures steps { IsMove (C.count steps.old) (C.count steps.new) self.old self.new }
     {
         let place = self.checkpoint().0;
@@ -42,7 +42,7 @@ impl<'a> Reader<'a> {
     /// For callers: no reader of these crates needs it.
     pub fn eat2_counted<C: Counter>(&mut self, ch: char, ch2: char, steps: &mut C) -> bool
         ensures value { result ≡ begins (ch ∷ ch2 ∷ []) (rest self.old) }
-        ensures reader { self.new ≡ (if result then moved 2 self.old else self.old) }
+        ensures reader { self.new ≡ (if result then move_on 2 self.old else self.old) }
         ensures steps { IsMove (C.count steps.old) (C.count steps.new) self.old self.new }
     {
         let place = self.checkpoint().0;
@@ -61,7 +61,7 @@ impl<'a> Reader<'a> {
         steps: &mut C,
     ) -> bool
         ensures value { result ≡ begins (ch ∷ ch2 ∷ ch3 ∷ []) (rest self.old) }
-        ensures reader { self.new ≡ (if result then moved 3 self.old else self.old) }
+        ensures reader { self.new ≡ (if result then move_on 3 self.old else self.old) }
         ensures steps { IsMove (C.count steps.old) (C.count steps.new) self.old self.new }
     {
         let place = self.checkpoint().0;
@@ -81,7 +81,7 @@ impl<'a> Reader<'a> {
         steps: &mut C,
     ) -> bool
         ensures value { result ≡ begins (ch ∷ ch2 ∷ ch3 ∷ ch4 ∷ []) (rest self.old) }
-        ensures reader { self.new ≡ (if result then moved 4 self.old else self.old) }
+        ensures reader { self.new ≡ (if result then move_on 4 self.old else self.old) }
         ensures steps { IsMove (C.count steps.old) (C.count steps.new) self.old self.new }
     {
         let place = self.checkpoint().0;

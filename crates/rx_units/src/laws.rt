@@ -11,7 +11,7 @@ ghost use Rattle.rx_units.specs.declared.string_literal_parser.StringLiteralKind
 ghost use Rattle.rx_units.specs.declared.template_literal_parser.TemplateFault.{TemplateFault};
 ghost use Rattle.rx_units.specs.Quoted.Elements.{quote_of};
 ghost use Rattle.rx_units.specs.Quoted.Faults.{IsStringFault, IsTemplateFault};
-ghost use Rattle.rx_units.specs.Quoted.Texts.{IsAllowed, IsDecoded, after_elements, opened};
+ghost use Rattle.rx_units.specs.Quoted.Texts.{IsAllowed, IsDecoded, after_elements, place_after_opening};
 ghost use Rattle.rx_units.specs.Quoted.Values.{text_units};
 ghost use Rattle.rx_units.specs.Sequences.{ElementRow, ElementsGoOn};
 
@@ -40,7 +40,7 @@ pub fn sequence<S: ElementKind>()
 pub fn elements()
     ensures decoded { (l : Literal) (o : Options) (text : List ℕ) (us : List CodePoint) →
         IsDecoded l o text us ↔ ((inner : List ℕ) × (es : List Element) × (row : ElementRow (⟦<QuotedElements as ElementKind>⟧.spells l) (⟦<QuotedElements as ElementKind>⟧.following l) es tt inner tt (quote_of l ∷ [])) ×
-        ⟦<QuotedElements as ElementKind>⟧.is_stop l tt (quote_of l ∷ []) × (text ≡ quote_of l ∷ inner) × All (IsAllowed o) es × (us ≡ text_units o (after_elements l o (opened o inner) es (quote_of l ∷ []) row).units)) }
+        ⟦<QuotedElements as ElementKind>⟧.is_stop l tt (quote_of l ∷ []) × (text ≡ quote_of l ∷ inner) × All (IsAllowed o) es × (us ≡ text_units o (after_elements l o (place_after_opening o inner) es (quote_of l ∷ []) row).units)) }
 {}
 
 /// A text is decoded in one way.

@@ -13,7 +13,7 @@ const FIRST_LEAD: u32 = 0xD800;
 const FIRST_TRAIL: u32 = 0xDC00;
 
 /// Adds a code point, given by its start and its end in bytes, without the offset, its value and how it was escaped: one unit,
-/// or without joining a lead and a trail that share the span. A refusal leaves the list as before.
+/// or, where pairs are not combined, a lead and a trail that share the span. A refusal leaves the list as before.
 pub fn handle_code_point(
     body: &mut List<CodePoint>,
     code_point: ((u32, u32), u32, EscapeKind),
@@ -67,7 +67,7 @@ fn code_units_of(code_point: u32) -> (u32, u32)
     (FIRST_LEAD + past / 0x400, FIRST_TRAIL + past % 0x400)
 }
 
-/// The units of a literal: its code points, or without joining its code units (Pattern source text of ECMA-262, 22.2.3.4).
+/// The units of a literal: its code points, or, where pairs are not combined, its code units (Pattern source text of ECMA-262, 22.2.3.4).
 pub fn parse_regexp_literal(
     alloc: Global,
     source_text: &str,
@@ -78,10 +78,18 @@ pub fn parse_regexp_literal(
     ensures { IfOk result (λ body. body ≡ literal_units combine_surrogate_pair span_offset (chars source_text.now)) }
 {
     if source_text.is_ascii() {
-        ascii_units(alloc, source_text.as_bytes(), span_offset)
-    } else {
-        mixed_units(alloc, source_text, span_offset, combine_surrogate_pair)
+        return ascii_units(alloc, source_text.as_bytes(), span_offset);
     }
+    // A text has no more units than bytes.
+    let mut body = List::with_capacity(alloc, source_text.len())?;
+    let mut at = 0;
+    for c in source_text.chars() {
+        let end = at + width(c);
+        let code_point = ((at, end), c as u32, EscapeKind::None);
+        handle_code_point(&mut body, code_point, span_offset, combine_surrogate_pair)?;
+        at = end;
+    }
+    Ok(body)
 }
 
 /// The units of ASCII text, which are its bytes, joined or not.
@@ -117,25 +125,4 @@ fn width(c: char) -> u32
     ensures { result ≡ len_utf8 c }
 {
     if c.is_ascii() { 1 } else { c.len_utf8() as u32 }
-}
-
-/// The units of any text. A text has no more units than bytes.
-fn mixed_units(
-    alloc: Global,
-    source_text: &str,
-    span_offset: u32,
-    combine_surrogate_pair: bool,
-) -> Result<List<CodePoint>, OutOfMemory>
-    requires { span_offset + length source_text.now < 2 ^ 32 }
-    ensures { IfOk result (λ body. body ≡ literal_units combine_surrogate_pair span_offset (chars source_text.now)) }
-{
-    let mut body = List::with_capacity(alloc, source_text.len())?;
-    let mut at = 0;
-    for c in source_text.chars() {
-        let end = at + width(c);
-        let code_point = ((at, end), c as u32, EscapeKind::None);
-        handle_code_point(&mut body, code_point, span_offset, combine_surrogate_pair)?;
-        at = end;
-    }
-    Ok(body)
 }

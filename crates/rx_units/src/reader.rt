@@ -1,6 +1,6 @@
 ghost use Rattle.std.specs.Prelude.{◌≡◌, ℕ, ◌∷◌, [], ◌<◌, ◌≤◌, ◌^◌, ◌↔◌, false, length, true, IfErr, IfOk, IsFalse, IsTrue, All, Any, List, MatchResult, ◌⊎◌, if◌then◌else◌, slice_range};
 ghost use Rattle.std.specs.Str.{IsCharBoundary, chars};
-ghost use Rattle.rx_units.specs.Cursor.{AreEnds, IsOffset, begins, front, front_kind, moved, offset_of, rest, second};
+ghost use Rattle.rx_units.specs.Cursor.{AreEnds, IsOffset, begins, front, front_kind, move_on, offset_of, rest, second};
 ghost use Rattle.rx_units.specs.declared.code_point.CodePoint.{CodePoint as UnitValue};
 ghost use Rattle.rx_units.specs.declared.reader_fault.ReaderFault.{ReaderFault as FaultValue};
 ghost use Rattle.rx_units.specs.Quoted.Faults.{is_grave_accent};
@@ -33,6 +33,7 @@ impl<'a> Model for Reader<'a> {
 
     ghost view = { λ r. record { units = r.units; place = r.index; first = r.first; text = r.source_text.now } };
 
+    // Why: docs/DECISIONS.md, 22.
     ghost invariant = { λ r. IsSound r.units r.index r.offset r.first r.source_text.now };
 }
 
@@ -160,7 +161,7 @@ impl<'a> Reader<'a> {
     #[tactic(auto, using(crate::proofs::Offsets::end_of_take))]
     #[inline]
     pub fn advance(&mut self)
-        ensures { self.new ≡ moved 1 self.old }
+        ensures { self.new ≡ move_on 1 self.old }
     {
         if self.index < self.units.len() {
             let place = self.index + 1;
@@ -173,7 +174,7 @@ impl<'a> Reader<'a> {
     #[tactic(auto, using(crate::proofs::Offsets::end_of_take))]
     #[inline]
     pub fn skip(&mut self, count: usize)
-        ensures { self.new ≡ moved count self.old }
+        ensures { self.new ≡ move_on count self.old }
     {
         let left = self.units.len() - self.index;
         let place = self.index + count.min(left);
@@ -225,7 +226,7 @@ impl<'a> Reader<'a> {
     /// Moves over the character where it stands at the place, and says whether it does.
     pub fn eat(&mut self, ch: char) -> bool
         ensures value { result ≡ begins (ch ∷ []) (rest self.old) }
-        ensures reader { self.new ≡ (if result then moved 1 self.old else self.old) }
+        ensures reader { self.new ≡ (if result then move_on 1 self.old else self.old) }
     {
         if self.peek() != Some(ch as u32) {
             return false;
@@ -238,7 +239,7 @@ impl<'a> Reader<'a> {
     /// For callers: no reader of these crates needs it.
     pub fn eat2(&mut self, ch: char, ch2: char) -> bool
         ensures value { result ≡ begins (ch ∷ ch2 ∷ []) (rest self.old) }
-        ensures reader { self.new ≡ (if result then moved 2 self.old else self.old) }
+        ensures reader { self.new ≡ (if result then move_on 2 self.old else self.old) }
     {
         if self.peek() != Some(ch as u32) || self.peek2() != Some(ch2 as u32) {
             return false;
@@ -251,7 +252,7 @@ impl<'a> Reader<'a> {
     /// For callers: no reader of these crates needs it.
     pub fn eat3(&mut self, ch: char, ch2: char, ch3: char) -> bool
         ensures value { result ≡ begins (ch ∷ ch2 ∷ ch3 ∷ []) (rest self.old) }
-        ensures reader { self.new ≡ (if result then moved 3 self.old else self.old) }
+        ensures reader { self.new ≡ (if result then move_on 3 self.old else self.old) }
     {
         match self.remaining_code_points() {
             [first, second, third, ..]
@@ -268,7 +269,7 @@ impl<'a> Reader<'a> {
     /// For callers: no reader of these crates needs it.
     pub fn eat4(&mut self, ch: char, ch2: char, ch3: char, ch4: char) -> bool
         ensures value { result ≡ begins (ch ∷ ch2 ∷ ch3 ∷ ch4 ∷ []) (rest self.old) }
-        ensures reader { self.new ≡ (if result then moved 4 self.old else self.old) }
+        ensures reader { self.new ≡ (if result then move_on 4 self.old else self.old) }
     {
         match self.remaining_code_points() {
             [first, second, third, fourth, ..]

@@ -4,6 +4,7 @@ use rx_base::OutOfMemory;
 use thiserror::Error;
 
 /// Why a source text was not read.
+// Why: docs/DECISIONS.md, 92.
 #[derive(Clone, Copy, Debug, PartialEq, Eq, Error)]
 pub enum ReaderFault {
     /// There was not enough memory.

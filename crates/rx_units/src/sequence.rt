@@ -3,6 +3,7 @@
 ghost use Rattle.std.specs.Prelude.{◌≡◌, List, [], ◌++◌};
 
 /// A kind of elements: what they are, what each spells, and where a list of them ends. The functions do nothing: each contract is a law.
+// Why: docs/DECISIONS.md, 93.
 pub trait ElementKind {
     /// The elements.
     ghost Element: { Type 0 };

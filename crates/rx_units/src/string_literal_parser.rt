@@ -72,6 +72,7 @@ pub enum StringFault {
 }
 
 /// A width, a precision and the other options of a hole are ignored.
+// Why: docs/DECISIONS.md, 92.
 impl fmt::Display for StringFault {
     ghost output = { λ fault. Some (encode_utf8_all (string_message fault)) };
 
@@ -162,7 +163,7 @@ fn decode_text(alloc: Global, text: &[char], options: Options) -> Result<StringL
     ensures err { IfErr result (λ fault. (fault ≡ StringFault.OutOfMemory) ⊎ IsStringFault options text.now fault) }
 {
     let start = options.span_offset;
-    let Some((kind, inner)) = opening(text) else {
+    let Some((kind, inner)) = strip_opening(text) else {
         let span = Span::empty(start);
         return Err(StringFault::InvalidInput { span });
     };
@@ -176,7 +177,7 @@ fn decode_text(alloc: Global, text: &[char], options: Options) -> Result<StringL
 }
 
 /// In which quotes a string stands, and the characters after the opening one.
-fn opening(text: &[char]) -> Option<(StringLiteralKind, &[char])>
+fn strip_opening(text: &[char]) -> Option<(StringLiteralKind, &[char])>
     ensures { MatchOption result (front_is is_string_quote text.now ≡ false) (λ it. text.now ≡ quote_of (literal.String it.0) ∷ it.1.now) }
 {
     match text {

@@ -135,7 +135,7 @@ fn decode_text(
     ensures err { IfErr result (λ fault. (fault ≡ TemplateFault.OutOfMemory) ⊎ IsTemplateFault options text.now fault) }
 {
     let start = options.span_offset;
-    let Some(inner) = opening(text) else {
+    let Some(inner) = strip_opening(text) else {
         let span = Span::empty(start);
         return Err(TemplateFault::InvalidInput { span });
     };
@@ -149,7 +149,7 @@ fn decode_text(
 }
 
 /// The characters after the opening grave accent.
-fn opening(text: &[char]) -> Option<&[char]>
+fn strip_opening(text: &[char]) -> Option<&[char]>
     ensures { MatchOption result (front_is is_grave_accent text.now ≡ false) (λ inner. text.now ≡ ascii.grave_accent ∷ inner.now) }
 {
     match text {

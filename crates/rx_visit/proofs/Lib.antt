@@ -1,6 +1,6 @@
 pub mod Alone
 pub mod Children
-pub mod Findings
+pub mod Finders
 pub mod Named
 pub mod Orders
 pub mod Steps

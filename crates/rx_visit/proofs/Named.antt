@@ -15,7 +15,7 @@ use Rattle.rx_ast.specs.Kinds.{Kind, capturing_group}
 use Rattle.rx_base.proofs.Texts.{one_text}
 use Rattle.rx_visit.specs.Names.{name_of, is_name_twice, has_equal_names}
 use Rattle.rx_visit.specs.Patterns.{count_named, is_named}
-use Rattle.rx_visit.proofs.Findings.{count_both}
+use Rattle.rx_visit.proofs.Finders.{count_both}
 
 abbrev is_called : List ℕ → Option (List ℕ) → Bool
 is_called name (Some other) = are_same other name

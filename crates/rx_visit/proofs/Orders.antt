@@ -1,65 +1,27 @@
--- The nodes that are still to be listed.
-use Rattle.std.proofs.Common.{◌≡◌, refl, ap, sym, ◌∙◌, ℕ, ◌+◌, ◌*◌, ◌<◌, arith, List, [], ◌∷◌, ◌++◌, append-nil, append_assoc, length, map, reverse}
+-- The nodes that are listed with the first of some.
+use Rattle.std.proofs.Common.{◌≡◌, ap, sym, ◌∙◌, ◌+◌, arith, ◌∷◌, ◌++◌, append_assoc, length, map}
 use Rattle.std.specs.List.{flat_map}
-use Rattle.std.proofs.lemmas.List.{length-append, map-append, reverse-append}
+use Rattle.std.proofs.lemmas.List.{length-append}
 use Rattle.rx_ast.specs.Kinds.{Kind, children, order}
 use Rattle.rx_ast.specs.MirrorKinds.{mirror_kind}
-use Rattle.rx_ast.specs.declared.ast_kind.RegExpAstKind.{RegExpAstKind}
 use Rattle.rx_ast.proofs.Orders.{order_is}
+use Rattle.rx_tasks.proofs.Texts.{Composes}
+use Rattle.rx_visit.specs.Orders.{all_in_order, lists}
 use Rattle.rx_visit.specs.Siblings.{in_order}
 use Rattle.rx_visit.specs.declared.siblings.Siblings.{Siblings}
-use Rattle.rx_visit.specs.declared.siblings.Siblings.TheVariants as are
 
--- the last siblings first, each node with all that stand in it
-unfoldable pub to_come : List Siblings → List Kind
-to_come left = flat_map (λ s. flat_map order (in_order s)) (reverse left)
+pub composes : Composes lists
+composes = record { joined = λ u v w first second one two. two ∙ ap (λ ks. ks ++ second) one ∙ append_assoc (map mirror_kind u) first second }
 
-pub none_to_come : to_come [] ≡ []
-unfolding to_come
-none_to_come = refl
+module _ (s following : Siblings) (k : Kind) (first : in_order s ≡ k ∷ in_order following) where
+  cut : all_in_order s ≡ k ∷ (flat_map order (children k) ++ all_in_order following)
+  cut = ap (flat_map order) first ∙ ap (λ ks. ks ++ all_in_order following) (order_is k)
 
-to_come-last : (left : List Siblings) (s : Siblings) → to_come (left ++ (s ∷ [])) ≡ flat_map order (in_order s) ++ to_come left
-unfolding to_come
-to_come-last left s = rw (reverse-append left (s ∷ [])) refl
+  pub first_length : length (all_in_order s) ≡ 1 + (length (flat_map order (children k)) + length (all_in_order following))
+  first_length =
+      let parted = ap length cut in
+      let both = length-append (flat_map order (children k)) (all_in_order following) in
+      omega arith
 
-pub to_come-first : (none left : List Siblings) (node : RegExpAstKind) → none ≡ [] → left ≡ none ++ (are.Node node ∷ []) → to_come left ≡ order (mirror_kind node)
-to_come-first none left node empty pushed =
-    ap to_come pushed ∙ to_come-last none (are.Node node) ∙ ap (λ ks. (order (mirror_kind node) ++ []) ++ ks) (ap to_come empty ∙ none_to_come) ∙ append-nil _ ∙ append-nil _
-
--- no siblings are left of the last ones
-pub to_come-past : (before left : List Siblings) (s : Siblings) → before ≡ left ++ (s ∷ []) → in_order s ≡ [] → to_come before ≡ to_come left
-to_come-past before left s popped none = ap to_come popped ∙ to_come-last left s ∙ ap (λ ks. flat_map order ks ++ to_come left) none
-
--- the first of the last siblings is listed
-pub to_come-next : (before left one both : List Siblings) (s following within : Siblings) (k : Kind) →
-    before ≡ left ++ (s ∷ []) → in_order s ≡ k ∷ in_order following → one ≡ left ++ (following ∷ []) → both ≡ one ++ (within ∷ []) → in_order within ≡ children k →
-    to_come before ≡ k ∷ to_come both
-to_come-next before left one both s following within k popped cut pushed entered in_it =
-    let now : to_come before ≡ (order k ++ flat_map order (in_order following)) ++ to_come left =
-    ap to_come popped ∙ to_come-last left s ∙ ap (λ ks. flat_map order ks ++ to_come left) cut in
-    let later : to_come both ≡ flat_map order (children k) ++ (flat_map order (in_order following) ++ to_come left) =
-    ap to_come entered ∙ to_come-last one within ∙ ap (λ ks. flat_map order ks ++ to_come one) in_it ∙ ap (λ ks. flat_map order (children k) ++ ks) (ap to_come pushed ∙ to_come-last left following) in
-    now ∙ append_assoc (order k) (flat_map order (in_order following)) (to_come left) ∙ ap (λ ks. ks ++ (flat_map order (in_order following) ++ to_come left)) (order_is k) ∙ ap (λ ks. k ∷ ks) (sym later)
-
-pub one_listed : {T : Type 0} (f : T → Kind) (done : List T) (node : T) (ks : List Kind) → map f done ++ (f node ∷ ks) ≡ map f (done ++ (node ∷ [])) ++ ks
-one_listed f done node ks = sym (ap (λ ns. ns ++ ks) (map-append f done (node ∷ [])) ∙ append_assoc (map f done) (f node ∷ []) ks)
-
--- a number that falls with each turn
-abbrev pub turns : List Siblings → ℕ
-turns left = 2 * length (to_come left) + length left
-
-pub fewer-past : (before left : List Siblings) (s : Siblings) → before ≡ left ++ (s ∷ []) → in_order s ≡ [] → turns left < turns before
-fewer-past before left s popped none =
-    let same = ap length (to_come-past before left s popped none) in
-    let shorter = ap length popped ∙ length-append left (s ∷ []) in
-    omega arith
-
-pub fewer-next : (before left one both : List Siblings) (s following within : Siblings) (k : Kind) →
-    before ≡ left ++ (s ∷ []) → in_order s ≡ k ∷ in_order following → one ≡ left ++ (following ∷ []) → both ≡ one ++ (within ∷ []) → in_order within ≡ children k →
-    turns both < turns before
-fewer-next before left one both s following within k popped cut pushed entered in_it =
-    let listed = ap length (to_come-next before left one both s following within k popped cut pushed entered in_it) in
-    let a = ap length popped ∙ length-append left (s ∷ []) in
-    let b = ap length pushed ∙ length-append left (following ∷ []) in
-    let c = ap length entered ∙ length-append one (within ∷ []) in
-    omega arith
+  pub first_in_order : (within : Siblings) → in_order within ≡ children k → all_in_order s ≡ k ∷ (all_in_order within ++ all_in_order following)
+  first_in_order within in_it = cut ∙ ap (λ ks. k ∷ (flat_map order ks ++ all_in_order following)) (sym in_it)

@@ -1,15 +1,12 @@
 -- What the steps of a walk lead to.
-use Rattle.std.proofs.Common.{◌≡◌, ap, sym, ◌∙◌, subst, ◌+◌, arith, Bool, true, false, [], ◌∷◌, length}
-use Rattle.std.specs.List.{flat_map}
-use Rattle.std.proofs.lemmas.List.{length-append}
-use Rattle.rx_ast.specs.Kinds.{Kind, children, order}
+use Rattle.std.proofs.Common.{◌≡◌, sym, subst, Bool, true, false, [], ◌∷◌}
+use Rattle.rx_ast.specs.Kinds.{Kind, children}
 use Rattle.rx_ast.specs.MirrorKinds.{mirror_kind}
 use Rattle.rx_ast.specs.declared.ast_kind.RegExpAstKind.{RegExpAstKind}
-use Rattle.rx_ast.proofs.Orders.{order_is}
 use Rattle.rx_tasks.specs.Tasks as tasks
 use Rattle.rx_tasks.specs.Tasks.{DoesAll, Leads}
 use Rattle.rx_visit.specs.Siblings.{in_order}
-use Rattle.rx_visit.specs.Steps.{all_in_order, does_step}
+use Rattle.rx_visit.specs.Steps.{does_step}
 use Rattle.rx_visit.specs.Visits.{Visited, VisitedAll, descend, pass, none, next}
 use Rattle.rx_visit.specs.declared.siblings.Siblings.{Siblings}
 use Rattle.rx_visit.specs.declared.walk_in.Step.TheVariants as to
@@ -39,9 +36,3 @@ module _ {V : Type 0} {entered : V → Kind → Bool → V → Type 0} {left : V
   pub leads_entered : {v m : V} (s following within : Siblings) (node : RegExpAstKind) → in_order s ≡ mirror_kind node ∷ in_order following → in_order within ≡ children (mirror_kind node) → entered v (mirror_kind node) true m →
       Leads (does_step entered left) (to.Visit s) v m (to.Visit within ∷ to.Leave node ∷ to.Visit following ∷ [])
   leads_entered s following within node first in_it enters = record { on = λ w all. after_three s following within node first in_it enters all }
-
-pub within_first : (s following : Siblings) (k : Kind) → in_order s ≡ k ∷ in_order following → length (all_in_order s) ≡ 1 + length (flat_map order (children k)) + length (all_in_order following)
-within_first s following k first =
-    let parted = ap (λ ks. length (flat_map order ks)) first ∙ length-append (order k) (all_in_order following) in
-    let inside = ap length (order_is k) in
-    omega arith

@@ -1,7 +1,8 @@
 pub mod Buffers
-pub mod Finding
+pub mod Finders
 pub mod Flags
 pub mod Names
+pub mod Orders
 pub mod Patterns
 pub mod Siblings
 pub mod Steps

@@ -14,6 +14,7 @@ use std::alloc::Global;
 
 /// Whether a pattern has a boundary `\A`, `\z` or `\Z`, at any depth (regular expression buffer boundaries). It takes no memory, and
 /// a deeper stack for a deeper tree.
+// Why: docs/DECISIONS.md, 73.
 pub fn has_buffer_boundaries(pattern: &Pattern) -> bool
     ensures { result ≡ has_buffer_boundaries (order (pattern_kind (mirror pattern.now))) }
 {
@@ -38,7 +39,7 @@ struct BufferFinder {
 }
 
 impl Visit for BufferFinder {
-    ghost use Rattle.rx_visit.specs.Finding.{FindsBuffers};
+    ghost use Rattle.rx_visit.specs.Finders.{FindsBuffers};
 
     ghost entered = { λ v kind answer w. FindsBuffers v kind answer w };
 

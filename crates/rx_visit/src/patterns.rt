@@ -58,7 +58,7 @@ struct Finder<'a> {
 }
 
 impl Visit for Finder<'_> {
-    ghost use Rattle.rx_visit.specs.Finding.{Finds};
+    ghost use Rattle.rx_visit.specs.Finders.{Finds};
 
     ghost entered = { λ v kind answer w. Finds v kind answer w };
 
@@ -141,7 +141,7 @@ struct NameCounter<'a> {
 }
 
 impl Visit for NameCounter<'_> {
-    ghost use Rattle.rx_visit.specs.Finding.{Counts};
+    ghost use Rattle.rx_visit.specs.Finders.{Counts};
 
     ghost entered = { λ v kind answer w. Counts v kind answer w };
 

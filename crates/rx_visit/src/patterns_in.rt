@@ -15,6 +15,7 @@ use std::alloc::Global;
 
 /// Whether some node of a pattern, at any depth, is not supported. It takes memory, and neither a deep stack for a deep pattern nor
 /// a walk for each name.
+// Why: docs/DECISIONS.md, 55.
 pub fn has_unsupported_regular_expression_pattern_in(
     alloc: Global,
     pattern: &Pattern,

@@ -1,5 +1,6 @@
-ghost use Rattle.rx_ast.specs.Kinds.{pattern, disjunction, alternative, term, in_term};
-ghost use Rattle.rx_ast.specs.MirrorKinds.{look_kind, quantifier_kind, capturing_kind, ignore_kind};
+ghost use Rattle.std.specs.Prelude.{◌≡◌, ◌∷◌, []};
+ghost use Rattle.rx_ast.specs.Kinds.{pattern, disjunction, alternative, term, in_term, children};
+ghost use Rattle.rx_ast.specs.MirrorKinds.{mirror_kind, look_kind, quantifier_kind, capturing_kind, ignore_kind};
 ghost use Rattle.rx_ast.specs.Tree.{mirror, mirror_term, mirror_alternative, mirror_disjunction};
 ghost use Rattle.rx_visit.specs.Visits.{Visited};
 
@@ -18,9 +19,18 @@ use rx_ast::{
 pub fn walk_pattern<V: Visit>(visitor: &mut V, it: &Pattern)
     ensures { Visited V.entered V.left visitor.old (pattern (mirror it.now)) visitor.new }
 {
-    let kind = RegExpAstKind::Pattern(it);
+    visit_around(visitor, RegExpAstKind::Pattern(it), &it.body);
+}
+
+/// Visits a node in which nothing stands but a disjunction.
+#[cycle(term)]
+#[inline(always)]
+fn visit_around<V: Visit>(visitor: &mut V, kind: RegExpAstKind<'_>, body: &Disjunction)
+    requires { children (mirror_kind kind) ≡ disjunction (mirror_disjunction body.now) ∷ [] }
+    ensures { Visited V.entered V.left visitor.old (mirror_kind kind.entry) visitor.new }
+{
     if visitor.enter_node(kind) {
-        walk_disjunction(visitor, &it.body);
+        walk_disjunction(visitor, body);
     }
     visitor.leave_node(kind);
 }
@@ -91,11 +101,7 @@ fn walk_in_term<V: Visit>(visitor: &mut V, it: &Term)
 pub fn walk_lookaround_assertion<V: Visit>(visitor: &mut V, it: &LookAroundAssertion)
     ensures { Visited V.entered V.left visitor.old (look_kind it.now) visitor.new }
 {
-    let kind = RegExpAstKind::LookAroundAssertion(it);
-    if visitor.enter_node(kind) {
-        walk_disjunction(visitor, &it.body);
-    }
-    visitor.leave_node(kind);
+    visit_around(visitor, RegExpAstKind::LookAroundAssertion(it), &it.body);
 }
 
 #[cycle(term)]
@@ -113,20 +119,12 @@ pub fn walk_quantifier<V: Visit>(visitor: &mut V, it: &Quantifier)
 pub fn walk_capturing_group<V: Visit>(visitor: &mut V, it: &CapturingGroup)
     ensures { Visited V.entered V.left visitor.old (capturing_kind it.now) visitor.new }
 {
-    let kind = RegExpAstKind::CapturingGroup(it);
-    if visitor.enter_node(kind) {
-        walk_disjunction(visitor, &it.body);
-    }
-    visitor.leave_node(kind);
+    visit_around(visitor, RegExpAstKind::CapturingGroup(it), &it.body);
 }
 
 #[cycle(term)]
 pub fn walk_ignore_group<V: Visit>(visitor: &mut V, it: &IgnoreGroup)
     ensures { Visited V.entered V.left visitor.old (ignore_kind it.now) visitor.new }
 {
-    let kind = RegExpAstKind::IgnoreGroup(it);
-    if visitor.enter_node(kind) {
-        walk_disjunction(visitor, &it.body);
-    }
-    visitor.leave_node(kind);
+    visit_around(visitor, RegExpAstKind::IgnoreGroup(it), &it.body);
 }

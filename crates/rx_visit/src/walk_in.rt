@@ -50,6 +50,7 @@ impl<'a, V: Visit> Work<V> for Step<'a> {
 
 /// Visits a whole pattern, as `walk_pattern` does. What is still to be done waits on the heap: it takes memory, and no deeper stack
 /// for a deeper tree. After OutOfMemory the visitor has seen a front of the walk: some nodes were entered and not left.
+// Why: docs/DECISIONS.md, 52.
 pub fn walk_pattern_in<V: Visit>(
     alloc: Global,
     visitor: &mut V,

@@ -10,15 +10,15 @@ use rx_base::ContentEq;
 impl ContentEq for Pattern {
     ghost use Rattle.std.specs.Prelude.{◌≡◌};
     ghost use Rattle.rx_base.specs.Equivalence.{same_content};
-    ghost use Rattle.rx_ast.specs.Forget.{unspanned};
+    ghost use Rattle.rx_ast.specs.Forget.{without_spans};
 
-    ghost same = { λ a b. unspanned a ≡ unspanned b };
+    ghost same = { λ a b. without_spans a ≡ without_spans b };
 
     fn content_eq(&self, other: &Pattern) -> bool {
         self.body.content_eq(&other.body)
     }
 
-    ghost laws = { same_content unspanned };
+    ghost laws = { same_content without_spans };
 }
 
 impl ContentEq for Disjunction {

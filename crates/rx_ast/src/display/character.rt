@@ -2,7 +2,7 @@ ghost use Rattle.std.specs.Prelude.{◌≡◌, Some};
 ghost use Rattle.std.specs.Fmt.{WritesOnOk};
 ghost use Rattle.std.specs.Str.{encode_utf8_all};
 ghost use Rattle.rx_ast.specs.Kinds as kinds;
-ghost use Rattle.rx_ast.specs.Shown.{control_shown, escaped, hexadecimal_shown, kind_shown, octal_shown, shown, shows_number as by_number, single_escape_shown, unicode_shown};
+ghost use Rattle.rx_ast.specs.Shown.{control_shown, with_backslash, hexadecimal_shown, kind_shown, octal_shown, shown, shows_number as by_number, single_escape_shown, unicode_shown};
 
 use crate::leaf::{Character, CharacterKind};
 use std::fmt;
@@ -77,7 +77,7 @@ fn write_octal<W: fmt::Write>(f: &mut fmt::Formatter<W>, least: usize, value: u3
 
 /// Writes a backslash and the character.
 fn write_escaped<W: fmt::Write>(f: &mut fmt::Formatter<W>, character: char) -> fmt::Result
-    ensures { WritesOnOk W.write_str_gives f.old result (encode_utf8_all (escaped character)) f.new }
+    ensures { WritesOnOk W.write_str_gives f.old result (encode_utf8_all (with_backslash character)) f.new }
 {
     write!(f, "\\{character}")
 }
@@ -85,7 +85,7 @@ fn write_escaped<W: fmt::Write>(f: &mut fmt::Formatter<W>, character: char) -> f
 /// What stands after the backslash of a single escape: the letter of a control character, or the character.
 #[tactic(auto, unfolding(crate::specs::Shown::single_escape_shown))]
 fn single_escape_sign(character: char) -> char
-    ensures { escaped result ≡ single_escape_shown character }
+    ensures { with_backslash result ≡ single_escape_shown character }
 {
     match character {
         '\n' => 'n',

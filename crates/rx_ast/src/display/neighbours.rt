@@ -37,6 +37,7 @@ fn pair_of(lead: u32, trail: u32) -> char
 }
 
 /// The character that two neighbours in an alternative or in a class are written as, where they are characters that are joined.
+// Why: docs/DECISIONS.md, 54.
 fn joined_pair(this: Option<&Character>, next: Option<&Character>) -> Option<char>
     ensures { result ≡ pair (option_copied this.entry) (option_copied next.entry) }
 {

@@ -18,6 +18,7 @@ use std::fmt;
 use std::fmt::Display;
 
 /// A width, a precision and the other options of a hole are ignored, here and in every other node.
+// Why: docs/DECISIONS.md, 56.
 impl fmt::Display for Pattern {
     ghost output = { λ it. Some (encode_utf8_all (shown (kinds.pattern (mirror it)))) };
 

@@ -8,12 +8,12 @@ use Rattle.rx_units.specs.Digits.{front_is, hex_number, PassesHex}
 use Rattle.rx_ast.specs.declared.leaf.CharacterKind.TheVariants as kinds
 use Rattle.rx_units.proofs.Digits.{two_small}
 use Rattle.rx_units.proofs.Choices.{chosen, both}
-use Rattle.rx_model.specs.Characters.Decoding.{Decoded, value, invalid, overflow, decoded}
+use Rattle.rx_model.specs.Characters.Decoding.{Decoded, value, invalid, overflow, decoding_of}
 use Rattle.rx_model.specs.Inputs.Environment.{Environment, is_unicode}
 use Rattle.rx_model.specs.Characters.Escapes.{is_identity_escape, SpellsEscape, control, letter, null, hexadecimal, unicode, identity}
-use Rattle.rx_model.specs.Reading.Fronts.{EscapeRead, escaped, nothing, too_many, no_unicode, escaped_if, unicode_read, letter_at, two_at, escape_after, escape_at}
+use Rattle.rx_model.specs.Reading.Fronts.{EscapeRead, escaped, nothing, too_many, no_unicode, escape_if, unicode_read, letter_at, two_at, escape_after, escape_at}
 use Rattle.rx_model.specs.Characters.UnicodeEscapes.{SpellsUnicode, code_unit, alone, pair, braced, Decodes}
-use Rattle.rx_model.proofs.Characters.Decodings.{spelled_read, read_spelled, read_overflow, overflow_read, value_law, value_is_code_point, decoded_some}
+use Rattle.rx_model.proofs.Characters.Decoding.{spelled_read, read_spelled, read_overflow, overflow_read, value_law, value_is_code_point, decoded_some}
 
 -- no row above that of identity escapes begins with the character
 record Others (c : ℕ) : Type 0 where
@@ -41,7 +41,7 @@ begins_with_u (braced x xs h k) = (_, refl)
 letter_small : (c v : ℕ) → control_letter_value c ≡ Some v → v ≤ 0x10FFFF
 letter_small c v h = grind (arith, nat_tests)
 
-pub escape_u : (w : List ℕ) → escape_at true (117 ∷ w) ≡ unicode_read (decoded true (117 ∷ w))
+pub escape_u : (w : List ℕ) → escape_at true (117 ∷ w) ≡ unicode_read (decoding_of true (117 ∷ w))
 unfolding escape_at
 escape_u w = refl
 
@@ -50,13 +50,13 @@ module _ (e : Environment) where
   pub spelled_escape : (kind : CharacterKind) (v : ℕ) (w rest : List ℕ) → SpellsEscape e kind v w rest → escape_at (is_unicode e.mode) (w ++ rest) ≡ escaped kind v (length w)
   unfolding escape_at
   spelled_escape _ v _ rest (control {c} h) = ap (λ o. escape_after (is_unicode e.mode) o c rest) h
-  spelled_escape _ v _ rest (letter {c} h) = ap (escaped_if kinds.ControlLetter 2) h
+  spelled_escape _ v _ rest (letter {c} h) = ap (escape_if kinds.ControlLetter 2) h
   spelled_escape _ _ _ rest (null h) = ap (λ b. cond b nothing (escaped kinds.Null 0 1)) h
-  spelled_escape _ v _ rest (hexadecimal {a} {b} h) = ap (escaped_if kinds.HexadecimalEscape 3) h
+  spelled_escape _ v _ rest (hexadecimal {a} {b} h) = ap (escape_if kinds.HexadecimalEscape 3) h
   spelled_escape _ v w rest (unicode s) =
       let u = begins_with_u s in
       ap (λ w. escape_at (is_unicode e.mode) (w ++ rest)) u.1
-      ∙ ap (λ w. unicode_read (decoded (is_unicode e.mode) (w ++ rest))) (sym u.1)
+      ∙ ap (λ w. unicode_read (decoding_of (is_unicode e.mode) (w ++ rest))) (sym u.1)
       ∙ ap unicode_read (spelled_read (is_unicode e.mode) v w rest s)
   spelled_escape _ _ _ rest (identity {c} u h) =
       let o = others c h in
@@ -84,20 +84,20 @@ module _ (e : Environment) where
         count = l ∙ (let f : m ≡ n = cc h in f);
       }
 
-  value_there : {k kind : CharacterKind} {v m n : ℕ} (o : Option ℕ) → escaped_if k m o ≡ escaped kind v n → (x : ℕ) × (o ≡ Some x) × (escaped k x m ≡ escaped kind v n)
+  value_there : {k kind : CharacterKind} {v m n : ℕ} (o : Option ℕ) → escape_if k m o ≡ escaped kind v n → (x : ℕ) × (o ≡ Some x) × (escaped k x m ≡ escaped kind v n)
   value_there None h = absurd (let f : ⊥ = cc h in f)
   value_there (Some x) h = (x, refl, h)
 
-  letter_found : (kind : CharacterKind) (v n : ℕ) (w : List ℕ) → escaped_if kinds.ControlLetter 2 (letter_at w) ≡ escaped kind v n → EscapeFront kind v n (99 ∷ w)
+  letter_found : (kind : CharacterKind) (v n : ℕ) (w : List ℕ) → escape_if kinds.ControlLetter 2 (letter_at w) ≡ escaped kind v n → EscapeFront kind v n (99 ∷ w)
   letter_found kind v n [] h = absurd (let f : ⊥ = cc h in f)
   letter_found kind v n (c ∷ w) h = let x = value_there (control_letter_value c) h in front_of (99 ∷ c ∷ []) w (letter x.1) refl x.2
 
-  two_found : (kind : CharacterKind) (v n : ℕ) (w : List ℕ) → escaped_if kinds.HexadecimalEscape 3 (two_at w) ≡ escaped kind v n → EscapeFront kind v n (120 ∷ w)
+  two_found : (kind : CharacterKind) (v n : ℕ) (w : List ℕ) → escape_if kinds.HexadecimalEscape 3 (two_at w) ≡ escaped kind v n → EscapeFront kind v n (120 ∷ w)
   two_found kind v n [] h = absurd (let f : ⊥ = cc h in f)
   two_found kind v n (a ∷ []) h = absurd (let f : ⊥ = cc h in f)
   two_found kind v n (a ∷ b ∷ w) h = let x = value_there (hex_number (a ∷ b ∷ [])) h in front_of (120 ∷ a ∷ b ∷ []) w (hexadecimal x.1) refl x.2
 
-  unicode_found : (kind : CharacterKind) (v n : ℕ) (w : List ℕ) (d : Decoded) → decoded (is_unicode e.mode) w ≡ d → unicode_read d ≡ escaped kind v n → EscapeFront kind v n w
+  unicode_found : (kind : CharacterKind) (v n : ℕ) (w : List ℕ) (d : Decoded) → decoding_of (is_unicode e.mode) w ≡ d → unicode_read d ≡ escaped kind v n → EscapeFront kind v n w
   unicode_found kind v n w (value x m) f h =
       let d = read_spelled (is_unicode e.mode) w x m f in
       rw d.whole (front_of d.spelled d.rest (unicode d.spells) d.count h)
@@ -125,7 +125,7 @@ module _ (e : Environment) where
       | inr q ↦ elim (chosen (c == 120) q.1) [
         | inl r ↦ rw (eqb-true c 120 r.0) (two_found kind v n w r.1)
         | inr r ↦ elim (chosen (c == 117) r.1) [
-          | inl s ↦ unicode_found kind v n (c ∷ w) (decoded (is_unicode e.mode) (c ∷ w)) refl s.1
+          | inl s ↦ unicode_found kind v n (c ∷ w) (decoding_of (is_unicode e.mode) (c ∷ w)) refl s.1
           | inr s ↦ identity_found kind v n c w s.1
         ]
       ]
@@ -167,7 +167,7 @@ is_plain (escaped k v n) = true
 is_plain nothing = true
 is_plain q = false
 
-plain_if : (k : CharacterKind) (n : ℕ) (o : Option ℕ) → is_plain (escaped_if k n o) ≡ true
+plain_if : (k : CharacterKind) (n : ℕ) (o : Option ℕ) → is_plain (escape_if k n o) ≡ true
 plain_if k n None = refl
 plain_if k n (Some v) = refl
 
@@ -189,7 +189,7 @@ plain_after u c w None h =
 
 -- at `u` a unicode escape is read, and elsewhere a character or nothing
 escape_ways : (u : Bool) (w : List ℕ) →
-    ((t : List ℕ) × (w ≡ 117 ∷ t) × (escape_at u w ≡ unicode_read (decoded u w))) ⊎ ((front_is (λ c. c == 117) w ≡ false) × (is_plain (escape_at u w) ≡ true))
+    ((t : List ℕ) × (w ≡ 117 ∷ t) × (escape_at u w ≡ unicode_read (decoding_of u w))) ⊎ ((front_is (λ c. c == 117) w ≡ false) × (is_plain (escape_at u w) ≡ true))
 unfolding escape_at
 escape_ways u [] = inr (refl, refl)
 escape_ways u (c ∷ w) = elim (cases_Bool (c == 117)) [
@@ -204,7 +204,7 @@ read_something (overflow n) h = cc h
 
 pub escape_nothing : (w : List ℕ) → escape_at true w ≡ nothing → front_is (λ c. c == 117) w ≡ false
 escape_nothing w h = elim (escape_ways true w) [
-  | inl p ↦ absurd (read_something (decoded true w) (sym p.2 ∙ h))
+  | inl p ↦ absurd (read_something (decoding_of true w) (sym p.2 ∙ h))
   | inr p ↦ p.0
 ]
 
@@ -214,9 +214,9 @@ overflow_there invalid n h = absurd (let k : ⊥ = cc h in k)
 overflow_there (overflow m) n h = ap overflow (let k : m ≡ n = cc h in k)
 
 -- Only a unicode escape passes the limit.
-pub too_many_decoded : (u : Bool) (w : List ℕ) (n : ℕ) → escape_at u w ≡ too_many n → decoded u w ≡ overflow n
+pub too_many_decoded : (u : Bool) (w : List ℕ) (n : ℕ) → escape_at u w ≡ too_many n → decoding_of u w ≡ overflow n
 too_many_decoded u w n h = elim (escape_ways u w) [
-  | inl p ↦ overflow_there (decoded u w) n (sym p.2 ∙ h)
+  | inl p ↦ overflow_there (decoding_of u w) n (sym p.2 ∙ h)
   | inr p ↦ absurd (let k : ⊥ = cc (ap is_plain h, p.1) in k)
 ]
 
@@ -239,7 +239,7 @@ pub record NoUnicode (w : List ℕ) : Type 0 where
   pub no_value : (v n : ℕ) → Decodes true w v n → ⊥
   pub no_limit : (count : ℕ) → PassesHex w count → ⊥
 
-no_unicode_there : (w t : List ℕ) → w ≡ 117 ∷ t → decoded true w ≡ invalid → NoUnicode w
+no_unicode_there : (w t : List ℕ) → w ≡ 117 ∷ t → decoding_of true w ≡ invalid → NoUnicode w
 no_unicode_there w t e h = record {
   following = t;
   whole = e;
@@ -249,7 +249,7 @@ no_unicode_there w t e h = record {
 
 pub escape_no_unicode : (w : List ℕ) → escape_at true w ≡ no_unicode → NoUnicode w
 escape_no_unicode w h = elim (escape_ways true w) [
-  | inl p ↦ no_unicode_there w p.0 p.1 (invalid_there (decoded true w) (sym p.2 ∙ h))
+  | inl p ↦ no_unicode_there w p.0 p.1 (invalid_there (decoding_of true w) (sym p.2 ∙ h))
   | inr p ↦ absurd (let k : ⊥ = cc (ap is_plain h, p.1) in k)
 ]
 

@@ -16,7 +16,7 @@ use Rattle.rx_units.proofs.OctalEscapes.{octal_value_small}
 use Rattle.rx_model.specs.Characters.Decoding.{four_at, after_u}
 use Rattle.rx_model.specs.Inputs.Environment.{Environment, is_unicode}
 use Rattle.rx_model.specs.Characters.Escapes.{SpellsEscape}
-use Rattle.rx_model.specs.Characters.EscapeFronts.{EscapeRead, escaped, nothing, too_many, no_unicode, escaped_if, unicode_read, two_at, escape_after, escape_at, control_after, octal_at, digit_at, legacy_at, or_legacy, any_escape_at, class_escape_at}
+use Rattle.rx_model.specs.Characters.EscapeFronts.{EscapeRead, escaped, nothing, too_many, no_unicode, escape_if, unicode_read, two_at, escape_after, escape_at, control_after, octal_at, digit_at, legacy_at, or_legacy, any_escape_at, class_escape_at}
 use Rattle.rx_model.specs.Characters.LegacyEscapes.{is_free, two_next, four_next, is_class_control, is_control, IsIdentity, SpellsLegacy, lone, class_control, legacy_octal, identity}
 use Rattle.rx_model.proofs.Characters.Escapes.{EscapeFront, escape_no_limit, escape_spelled, spelled_escape, spelled_small}
 
@@ -204,7 +204,7 @@ Unread w = (escape_at false w ≡ nothing) ⊎ (escape_at false w ≡ no_unicode
 unread_control : (inside : Bool) (w : List ℕ) → front_is (λ c. is_some (control_letter_value c)) w ≡ false → Unread (99 ∷ w)
 unfolding escape_at
 unread_control inside [] h = inl refl
-unread_control inside (c ∷ w) h = inl (ap (escaped_if kinds.ControlLetter 2) (is_none (control_letter_value c) h))
+unread_control inside (c ∷ w) h = inl (ap (escape_if kinds.ControlLetter 2) (is_none (control_letter_value c) h))
 
 front_no_letter : (inside : Bool) (w : List ℕ) → front_is (is_control inside) w ≡ false → front_is (λ c. is_some (control_letter_value c)) w ≡ false
 front_no_letter inside [] h = refl
@@ -257,7 +257,7 @@ unread_identity inside e c w h = elim (cases_Bool (c == 117)) [
     | inl t ↦
         let is = eqb-true c 120 t in
         let none = two_none w (low_next (c == 120) (is_some (two_next w)) t h.no_x) in
-        subst (λ c. Unread (c ∷ w)) (sym is) (inl (ap (escaped_if kinds.HexadecimalEscape 3) none))
+        subst (λ c. Unread (c ∷ w)) (sym is) (inl (ap (escape_if kinds.HexadecimalEscape 3) none))
     | inr t ↦
         let no_c : (c == 99) ≡ false = (let l = h.no_letter in grind (arith, nat_tests)) in
         let no_zero : (c == 48) ≡ false = (let l = h.no_octal in grind (arith, nat_tests)) in

@@ -8,8 +8,8 @@ use Rattle.rx_ast.specs.Forget.{forget_class, no_kind}
 use Rattle.rx_units.specs.declared.code_point.CodePoint.{CodePoint}
 use Rattle.rx_units.specs.Units.{values}
 use Rattle.rx_units.proofs.Choices.{Some-inj}
-use Rattle.rx_model.specs.Classes.ClassBuilds.{class_of_tokens}
-use Rattle.rx_model.specs.Classes.ClassFronts.{AtomRead, atom_read, no_atom, escape_in_class, atom_at, TokenRead, item_where, item_of, high_of, dashed_of, item_before, bracket_at, set_token, fresh_token, operand_of, string_token, token_where, class_token_at, TokensRead, with_token, tokens_on, tokens_from, class_tokens_at, class_in, class_of, class_front}
+use Rattle.rx_model.specs.Classes.ClassFromTokens.{class_of_tokens}
+use Rattle.rx_model.specs.Classes.ClassFronts.{AtomRead, atom_read, no_atom, escape_in_class, atom_at, TokenRead, item_where, item_of, high_of, before_dash, item_before, bracket_at, set_token, fresh_token, operand_of, string_token, token_where, class_token_at, TokensRead, with_token, tokens_on, tokens_from, class_tokens_at, class_in, class_of, class_front}
 use Rattle.rx_model.specs.Classes.ClassRows.{Place, outside, fresh, at_dash, at_high, at_second, at_third, after_operator, in_strings, following_item, has_hyphen, has_threes, is_dashed, may_follow_operator, stands_raw_in_class}
 use Rattle.rx_model.specs.Classes.ClassTokens.{Atom, character, escape, property, ClassToken, closer, item, dash}
 use Rattle.rx_model.specs.Inputs.Environment.{Environment, is_sets}
@@ -111,7 +111,7 @@ module _ (e : Environment) where
       raw_same (stands_raw_in_class e.mode u.value (values us)) (unit_kind u.escape_kind) (unit_kind v.escape_kind) u.value (other_atom u.value (values us))
       ∙ ap₂ (λ c w. bare_atom_read (cond (stands_raw_in_class e.mode c w) (atom_read (character (unit_kind v.escape_kind) c) 1) (other_atom c w))) same more
 
-  dashed_bare : (a : Atom) (n : ℕ) (r : AtomRead) → bare_read (dashed_of e.mode a n r) ≡ dashed_of e.mode (bare_atom a) n (bare_atom_read r)
+  dashed_bare : (a : Atom) (n : ℕ) (r : AtomRead) → bare_read (before_dash e.mode a n r) ≡ before_dash e.mode (bare_atom a) n (bare_atom_read r)
   dashed_bare a n no_atom = where_bare (is_sets e.mode) a n
   dashed_bare (character k v) n (atom_read (character j x) m) = refl
   dashed_bare (character k v) n (atom_read (escape j) m) = where_bare (has_threes e.mode || is_sets e.mode) (character k v) n
@@ -121,7 +121,7 @@ module _ (e : Environment) where
 
   -- an atom, by whether it is dashed and what stands after the dash
   abbrev item_by : Atom → ℕ → Bool → AtomRead → TokenRead
-  item_by a n dashed r = cond dashed (dashed_of e.mode a n r) (Some (item a, n))
+  item_by a n dashed r = cond dashed (before_dash e.mode a n r) (Some (item a, n))
 
   item_by_bare : (a : Atom) (n : ℕ) (dashed : Bool) (r : AtomRead) → bare_read (item_by a n dashed r) ≡ item_by (bare_atom a) n dashed (bare_atom_read r)
   item_by_bare a n true r = dashed_bare a n r

@@ -7,10 +7,10 @@ use Rattle.rx_ast.specs.declared.class.ClassString.{ClassString}
 use Rattle.rx_ast.specs.ClassTree.{Member, Members, no_member, member, class}
 use Rattle.rx_ast.specs.ClassTree as tree
 use Rattle.rx_ast.specs.Forget.{nowhere, forget_character, forget_string, forget_member, forget_members, forget_class, no_kind}
-use Rattle.rx_model.specs.Classes.ClassBuilds.{character_of, atom_member, range_member, string_of, strings_member, with_last, kind_of, Level, level_of, class_of_level, Begun, nothing_begun, after_low, after_dash, inside_strings, Building, before_class, inside_class, whole_class, no_class, holding_member, operated, class_closed, build_in, build_step, build_class, class_built, class_of_tokens}
-use Rattle.rx_model.specs.Classes.ClassRuns.{Held, is_whole, with_operator, operand, ranged}
+use Rattle.rx_model.specs.Classes.ClassFromTokens.{character_of, atom_member, range_member, string_of, strings_member, with_last, kind_of, Level, level_of, class_of_level, Begun, nothing_begun, after_low, after_dash, inside_strings, Building, before_class, inside_class, whole_class, no_class, add_member, building_with_operator, close_class, build_in, build_step, build_class, finished_class, class_of_tokens}
+use Rattle.rx_model.specs.Classes.ClassRuns.{Held, is_whole, with_operator, operand, with_range}
 use Rattle.rx_model.specs.Classes.ClassTokens.{Atom, character, escape, property, ClassToken, bracket, closer, item, low, dash, high, operator, strings, letter, string_bar, strings_end}
-use Rattle.rx_model.proofs.Classes.ClassUnspanned.{may_forget, some_strings}
+use Rattle.rx_model.proofs.Classes.ClassWithoutSpans.{may_forget, some_strings}
 
 abbrev pub bare_atom : Atom → Atom
 bare_atom (character k v) = character Symbol v
@@ -63,11 +63,11 @@ last_bare no_member m = refl
 last_bare (member n ms) m = ap (member (forget_member no_kind n)) (last_bare ms m)
 
 holding_bare : (l : Level) (outer : List Level) (m : Member) (held : Option Held) →
-    bare_building (holding_member l outer m held) ≡ holding_member (bare_level l) (bare_levels outer) (forget_member no_kind m) held
+    bare_building (add_member l outer m held) ≡ add_member (bare_level l) (bare_levels outer) (forget_member no_kind m) held
 holding_bare l outer m None = refl
 holding_bare l outer m (Some held) = ap (λ ms. inside_class (level_of l.negative held ms) (bare_levels outer) nothing_begun) (last_bare l.members m)
 
-operated_bare : (l : Level) (outer : List Level) (held : Option Held) → bare_building (operated l outer held) ≡ operated (bare_level l) (bare_levels outer) held
+operated_bare : (l : Level) (outer : List Level) (held : Option Held) → bare_building (building_with_operator l outer held) ≡ building_with_operator (bare_level l) (bare_levels outer) held
 operated_bare l outer None = refl
 operated_bare l outer (Some held) = refl
 
@@ -76,11 +76,11 @@ level_bare l =
     ap (λ may. class nowhere l.negative may (kind_of l.held) (forget_members no_kind l.members)) (sym (may_forget no_kind (kind_of l.held) l.members))
 
 closed_bare : (whole : Bool) (l : Level) (outer : List Level) →
-    bare_building (cond whole (class_closed l outer) no_class) ≡ cond whole (class_closed (bare_level l) (bare_levels outer)) no_class
+    bare_building (cond whole (close_class l outer) no_class) ≡ cond whole (close_class (bare_level l) (bare_levels outer)) no_class
 closed_bare true l [] = ap whole_class (level_bare l)
 closed_bare true l (around ∷ outer) =
     holding_bare around outer (tree.nested (class_of_level l)) (operand around.held)
-    ∙ ap (λ c. holding_member (bare_level around) (bare_levels outer) (tree.nested c) (operand around.held)) (level_bare l)
+    ∙ ap (λ c. add_member (bare_level around) (bare_levels outer) (tree.nested c) (operand around.held)) (level_bare l)
 closed_bare false l outer = refl
 
 atom_bare : (a : Atom) → forget_member no_kind (atom_member a) ≡ atom_member (bare_atom a)
@@ -103,10 +103,10 @@ in_bare : (t : ClassToken) (begun : Begun) (l : Level) (outer : List Level) →
 in_bare (bracket negative) nothing_begun l outer = refl
 in_bare closer nothing_begun l outer = closed_bare (is_whole l.held) l outer
 in_bare (item a) nothing_begun l outer =
-    holding_bare l outer (atom_member a) (operand l.held) ∙ ap (λ m. holding_member (bare_level l) (bare_levels outer) m (operand l.held)) (atom_bare a)
+    holding_bare l outer (atom_member a) (operand l.held) ∙ ap (λ m. add_member (bare_level l) (bare_levels outer) m (operand l.held)) (atom_bare a)
 in_bare (low k v) nothing_begun l outer = refl
 in_bare dash (after_low k v) l outer = refl
-in_bare (high j x) (after_dash k v) l outer = holding_bare l outer (range_member k v j x) (ranged l.held)
+in_bare (high j x) (after_dash k v) l outer = holding_bare l outer (range_member k v j x) (with_range l.held)
 in_bare (operator o) nothing_begun l outer = operated_bare l outer (with_operator o l.held)
 in_bare strings nothing_begun l outer = refl
 in_bare (letter k v) (inside_strings ss cs) l outer =
@@ -114,7 +114,7 @@ in_bare (letter k v) (inside_strings ss cs) l outer =
 in_bare string_bar (inside_strings ss cs) l outer = ap (λ ss. inside_class (bare_level l) (bare_levels outer) (inside_strings ss [])) (strings_bare ss cs)
 in_bare strings_end (inside_strings ss cs) l outer =
     holding_bare l outer (strings_member (ss ++ (string_of cs ∷ []))) (operand l.held)
-    ∙ ap (λ m. holding_member (bare_level l) (bare_levels outer) m (operand l.held)) (strings_member_bare (ss ++ (string_of cs ∷ [])) ∙ ap strings_member (strings_bare ss cs))
+    ∙ ap (λ m. add_member (bare_level l) (bare_levels outer) m (operand l.held)) (strings_member_bare (ss ++ (string_of cs ∷ [])) ∙ ap strings_member (strings_bare ss cs))
 in_bare t begun l outer = refl
 
 step_bare : (t : ClassToken) (s : Building) → bare_building (build_step t s) ≡ build_step (bare_class_token t) (bare_building s)
@@ -126,11 +126,11 @@ build_bare : (ts : List ClassToken) (s : Building) → bare_building (build_clas
 build_bare [] s = refl
 build_bare (t ∷ ts) s = build_bare ts (build_step t s) ∙ ap (build_class (map bare_class_token ts)) (step_bare t s)
 
-built_bare : (s : Building) → option_map (forget_class no_kind) (class_built s) ≡ class_built (bare_building s)
+built_bare : (s : Building) → option_map (forget_class no_kind) (finished_class s) ≡ finished_class (bare_building s)
 built_bare before_class = refl
 built_bare (inside_class l outer begun) = refl
 built_bare (whole_class c) = refl
 built_bare no_class = refl
 
 pub class_bare : (ts : List ClassToken) → option_map (forget_class no_kind) (class_of_tokens ts) ≡ class_of_tokens (map bare_class_token ts)
-class_bare ts = built_bare (build_class ts before_class) ∙ ap class_built (build_bare ts before_class)
+class_bare ts = built_bare (build_class ts before_class) ∙ ap finished_class (build_bare ts before_class)

@@ -7,7 +7,7 @@ use Rattle.rx_units.specs.Units.{values}
 use Rattle.rx_model.specs.declared.mode.Mode.{Mode}
 use Rattle.rx_model.specs.Classes.ClassFronts.{class_front}
 use Rattle.rx_model.specs.Classes.ClassRows.{ClassTokenRow, IsClass, Place, fresh, outside}
-use Rattle.rx_model.specs.Classes.ClassRuns.{Bracket, Brackets, class_opened}
+use Rattle.rx_model.specs.Classes.ClassRuns.{Bracket, Brackets, class_run_from_start}
 use Rattle.rx_model.specs.Classes.ClassTokens.{ClassToken, bracket, class_tokens}
 use Rattle.rx_model.specs.Inputs.Environment.{Environment}
 use Rattle.rx_model.specs.declared.rules.Rules.{Rules}
@@ -31,7 +31,7 @@ abbrev opens_as : Brackets → Option Brackets
 opens_as brackets = Some brackets
 
 -- A row that leads to an open bracket begins with one.
-first_bracket : (e : Environment) (ts : List ClassToken) (us : List CodePoint) (q : Place) (rest : List CodePoint) (open_brackets : Brackets) → class_opened ts ≡ Some open_brackets → ClassTokenRow e ts outside us q rest →
+first_bracket : (e : Environment) (ts : List ClassToken) (us : List CodePoint) (q : Place) (rest : List CodePoint) (open_brackets : Brackets) → class_run_from_start ts ≡ Some open_brackets → ClassTokenRow e ts outside us q rest →
     (u : CodePoint) × (more : List CodePoint) × (us ≡ u ∷ more) × (u.value ≡ 91)
 first_bracket e [] us q rest open_brackets h r = absurd (let no : ⊥ = cc h in no)
 first_bracket e ((bracket true) ∷ ts) us q rest open_brackets h r = two r.0 r.2 r.3
@@ -71,7 +71,7 @@ module _ (mode : Mode) (us : List CodePoint) (start added from : ℕ) (at_class 
       go following [] e r = omega (arith, ap length r.1, x.is_stuck.place_is, j.place_is, following, less)
       go following (t ∷ ts) e r =
           x.is_stuck.blocked t ts j.at back (j.inner ∷ j.outer) (item_between j.at j.begins) r
-          (sym (class_opened-append x.state.tokens (t ∷ ts) (x.state.inner ∷ x.state.outer) x.is_stuck.accepted) ∙ ap class_opened (sym e) ∙ j.accepted)
+          (sym (class_opened-append x.state.tokens (t ∷ ts) (x.state.inner ∷ x.state.outer) x.is_stuck.accepted) ∙ ap class_run_from_start (sym e) ∙ j.accepted)
 
   -- No class that is free of early errors stands there.
   pub no_class : (f : ℕ) (d : Diagnostic) → Stops f d → (c : Class) (w rest : List CodePoint) → at_class ≡ w ++ rest → IsClass here c w rest → IsEarlyClass c → ⊥
@@ -80,7 +80,7 @@ module _ (mode : Mode) (us : List CodePoint) (start added from : ℕ) (at_class 
       let row = subst (λ us. ClassTokenRow here (class_tokens c) outside us fresh rest) (sym whole) is.row in
       elim (class_prefixes here s.tokens (class_tokens c) outside at_class s.at s.rest fresh rest x.is_stuck.row row) [ inl p ↦ on p.0 p.1 p.2 | inr p ↦ off p.0 p.1 ]
     where
-      closes : class_opened (class_tokens c) ≡ Some []
+      closes : class_run_from_start (class_tokens c) ≡ Some []
       closes = whole_class here c w rest is early
 
       none_open : (inner : Bracket) (outer : Brackets) → opens_as [] ≡ opens_as (inner ∷ outer) → ⊥
@@ -89,14 +89,14 @@ module _ (mode : Mode) (us : List CodePoint) (start added from : ℕ) (at_class 
       on : (xs : List ClassToken) → class_tokens c ≡ x.state.tokens ++ xs → ClassTokenRow here xs x.state.at x.state.rest fresh rest → ⊥
       on [] e r =
           none_open x.state.inner x.state.outer
-          (sym closes ∙ ap class_opened e ∙ class_opened-append x.state.tokens [] (x.state.inner ∷ x.state.outer) x.is_stuck.accepted)
+          (sym closes ∙ ap class_run_from_start e ∙ class_opened-append x.state.tokens [] (x.state.inner ∷ x.state.outer) x.is_stuck.accepted)
       on (t ∷ ts) e r =
-          x.is_stuck.blocked t ts fresh rest [] refl r (sym (class_opened-append x.state.tokens (t ∷ ts) (x.state.inner ∷ x.state.outer) x.is_stuck.accepted) ∙ ap class_opened (sym e) ∙ closes)
+          x.is_stuck.blocked t ts fresh rest [] refl r (sym (class_opened-append x.state.tokens (t ∷ ts) (x.state.inner ∷ x.state.outer) x.is_stuck.accepted) ∙ ap class_run_from_start (sym e) ∙ closes)
 
       off : (xs : List ClassToken) → x.state.tokens ≡ class_tokens c ++ xs → ⊥
-      off [] e = none_open x.state.inner x.state.outer (sym (class_opened-append (class_tokens c) [] [] closes) ∙ ap class_opened (sym e) ∙ x.is_stuck.accepted)
+      off [] e = none_open x.state.inner x.state.outer (sym (class_opened-append (class_tokens c) [] [] closes) ∙ ap class_run_from_start (sym e) ∙ x.is_stuck.accepted)
       off (t ∷ ts) e =
-          let no : None ≡ opens_as (x.state.inner ∷ x.state.outer) = sym (class_opened-append (class_tokens c) (t ∷ ts) [] closes) ∙ ap class_opened (sym e) ∙ x.is_stuck.accepted in cc no
+          let no : None ≡ opens_as (x.state.inner ∷ x.state.outer) = sym (class_opened-append (class_tokens c) (t ∷ ts) [] closes) ∙ ap class_run_from_start (sym e) ∙ x.is_stuck.accepted in cc no
 
   pub class_blocked : (rules : Rules) (f : ℕ) (d : Diagnostic) → Stops f d → IsBlocked mode rules us at_class
   class_blocked rules f d x t n h o = go (class_front here (b.0 ∷ b.1)) (sym h ∙ ap (front there) b.2 ∙ at_bracket there b.0 b.1 b.3)

@@ -12,7 +12,7 @@ use Rattle.rx_model.specs.Classes.ClassShapes.{FitsKind}
 use Rattle.rx_model.specs.Classes.ClassTokens.{bracket, closer}
 use Rattle.rx_model.specs.Inputs.Environment.{Environment}
 use Rattle.rx_model.specs.Trees.Early.{may_contain_strings}
-use Rattle.rx_model.proofs.Classes.ClassBuilt.{ArePlain, HasTokens, IsPlainMember, none_plain}
+use Rattle.rx_model.proofs.Classes.TokensOfBuilt.{ArePlain, HasTokens, IsPlainMember, none_plain}
 use Rattle.rx_model.proofs.Classes.ClassEnds.{class_row_append}
 use Rattle.rx_model.proofs.Classes.ClassShapes.{between_by, class_tokens_by, contents_tokens}
 

@@ -5,13 +5,13 @@ use Rattle.rx_base.specs.declared.diagnostic.kinds.SetOperator.{SetOperator}
 use Rattle.rx_ast.specs.ClassTree.{Class, Member, no_member}
 use Rattle.rx_units.specs.declared.code_point.CodePoint.{CodePoint}
 use Rattle.rx_units.proofs.Choices.{Some-inj}
-use Rattle.rx_model.specs.Classes.ClassBuilds.{Level, level_of, Begun, nothing_begun, after_low, after_dash, inside_strings, Building, before_class, inside_class, whole_class, no_class, holding_member, class_closed, operated, build_in, build_class, class_built}
+use Rattle.rx_model.specs.Classes.ClassFromTokens.{Level, level_of, Begun, nothing_begun, after_low, after_dash, inside_strings, Building, before_class, inside_class, whole_class, no_class, add_member, close_class, building_with_operator, build_in, build_class, finished_class}
 use Rattle.rx_model.specs.Classes.ClassRows.{Place, outside, fresh, at_dash, at_high, at_second, at_third, after_operator, in_strings, following_item, next_place, SpellsInClass, SpellsOperand, ClassTokenRow, IsClass}
-use Rattle.rx_model.specs.Classes.ClassRuns.{Held, empty, Bracket, Brackets, atom_may, atom_obeys, any_string, after_step, bracket_of, class_opened, class_run, closed, held_on, holding, in_bracket, is_whole, with_operator, may_close, operand, ranged}
+use Rattle.rx_model.specs.Classes.ClassRuns.{Held, empty, Bracket, Brackets, atom_may, atom_obeys, any_string, after_step, bracket_of, class_run_from_start, class_run, after_closer, add_operator, add_thing, in_bracket, is_whole, with_operator, may_close, operand, with_range}
 use Rattle.rx_model.specs.Classes.ClassTokens.{ClassToken, bracket, closer, item, low, dash, high, operator, strings, letter, string_bar, strings_end, class_tokens}
 use Rattle.rx_model.specs.Inputs.Environment.{Environment}
 use Rattle.rx_model.specs.Trees.Early.{IsEarlyClass}
-use Rattle.rx_model.proofs.Classes.ClassBuilt.{built_has_tokens}
+use Rattle.rx_model.proofs.Classes.TokensOfBuilt.{built_has_tokens}
 use Rattle.rx_model.proofs.Classes.ClassEnds.{row_units}
 use Rattle.rx_model.proofs.Classes.ClassFlags.{row_flagged}
 use Rattle.rx_model.proofs.Classes.ClassShapes.{closes_early}
@@ -67,29 +67,29 @@ now : (brackets after : Brackets) (q : Place) (s : Building) → brackets ≡ af
 now brackets after q s e a = subst (λ after. Agrees after q s) e a
 
 -- With a member more.
-member_agrees : (r : Bracket) (outer : Brackets) (may : Bool) (o : Option Held) (after : Brackets) (q : Place) (l : Level) (levels : List Level) (m : Member) (p : Option Held) → holding r outer may o ≡ Some after → o ≡ p → AreSame outer levels →
-    BegunAt q nothing_begun → Agrees after q (holding_member l levels m p)
+member_agrees : (r : Bracket) (outer : Brackets) (may : Bool) (o : Option Held) (after : Brackets) (q : Place) (l : Level) (levels : List Level) (m : Member) (p : Option Held) → add_thing r outer may o ≡ Some after → o ≡ p → AreSame outer levels →
+    BegunAt q nothing_begun → Agrees after q (add_member l levels m p)
 member_agrees r outer may None after q l levels m p h e s b = absurd (let no : ⊥ = cc h in no)
 member_agrees r outer may (Some held) after q l levels m None h e s b = absurd (let no : ⊥ = cc e in no)
 member_agrees r outer may (Some held) after q l levels m (Some more) h e s b =
-    subst (λ after. Agrees after q (holding_member l levels m (Some more))) (Some-inj h) ((let same : held ≡ more = cc e in same), s, b)
+    subst (λ after. Agrees after q (add_member l levels m (Some more))) (Some-inj h) ((let same : held ≡ more = cc e in same), s, b)
 
-operator_agrees : (r : Bracket) (outer : Brackets) (o : Option Held) (after : Brackets) (q : Place) (l : Level) (levels : List Level) (p : Option Held) → held_on r outer o ≡ Some after → o ≡ p → AreSame outer levels →
-    BegunAt q nothing_begun → Agrees after q (operated l levels p)
+operator_agrees : (r : Bracket) (outer : Brackets) (o : Option Held) (after : Brackets) (q : Place) (l : Level) (levels : List Level) (p : Option Held) → add_operator r outer o ≡ Some after → o ≡ p → AreSame outer levels →
+    BegunAt q nothing_begun → Agrees after q (building_with_operator l levels p)
 operator_agrees r outer None after q l levels p h e s b = absurd (let no : ⊥ = cc h in no)
 operator_agrees r outer (Some held) after q l levels None h e s b = absurd (let no : ⊥ = cc e in no)
 operator_agrees r outer (Some held) after q l levels (Some more) h e s b =
-    subst (λ after. Agrees after q (operated l levels (Some more))) (Some-inj h) ((let same : held ≡ more = cc e in same), s, b)
+    subst (λ after. Agrees after q (building_with_operator l levels (Some more))) (Some-inj h) ((let same : held ≡ more = cc e in same), s, b)
 
 -- Where a bracket closes the level does.
-closer_agrees : (r : Bracket) (outer : Brackets) (after : Brackets) (l : Level) (levels : List Level) (b : Bool) → b ≡ may_close r → closed r.may b outer ≡ Some after → r.held ≡ l.held → AreSame outer levels →
-    Agrees after fresh (cond (is_whole l.held) (class_closed l levels) no_class)
+closer_agrees : (r : Bracket) (outer : Brackets) (after : Brackets) (l : Level) (levels : List Level) (b : Bool) → b ≡ may_close r → after_closer r.may b outer ≡ Some after → r.held ≡ l.held → AreSame outer levels →
+    Agrees after fresh (cond (is_whole l.held) (close_class l levels) no_class)
 closer_agrees r outer after l levels false e h k s = absurd (let no : ⊥ = cc h in no)
 closer_agrees r outer after l levels true e h k s =
-    subst (λ b. Agrees after fresh (cond b (class_closed l levels) no_class)) (sym (and_parts (is_whole r.held) (not (r.negative && r.may)) (sym e)).0 ∙ ap is_whole k) (by outer levels h s)
+    subst (λ b. Agrees after fresh (cond b (close_class l levels) no_class)) (sym (and_parts (is_whole r.held) (not (r.negative && r.may)) (sym e)).0 ∙ ap is_whole k) (by outer levels h s)
   where
-    by : (outer : Brackets) (levels : List Level) → closed r.may true outer ≡ Some after → AreSame outer levels → Agrees after fresh (class_closed l levels)
-    by [] [] h s = subst (λ after. Agrees after fresh (class_closed l [])) (Some-inj h) tt
+    by : (outer : Brackets) (levels : List Level) → after_closer r.may true outer ≡ Some after → AreSame outer levels → Agrees after fresh (close_class l levels)
+    by [] [] h s = subst (λ after. Agrees after fresh (close_class l [])) (Some-inj h) tt
     by [] (around ∷ levels) h s = absurd s
     by (around ∷ outer) [] h s = absurd s
     by (r' ∷ outer) (l' ∷ levels) h s = member_agrees r' outer r.may (operand r'.held) after fresh l' levels _ (operand l'.held) h (ap operand s.0) s.1 tt
@@ -138,10 +138,10 @@ module _ (e : Environment) where
   step_agrees q closer w more r outer after l levels nothing_begun h k s b = closer_agrees r outer after l levels (may_close r) refl h k s
   step_agrees q (item a) w more r outer after l levels nothing_begun h k s b =
       member_agrees r outer (atom_may a) (operand r.held) after (next_place e.mode q (item a) more) l levels _ (operand l.held) (where_true_both (atom_obeys a) _ after h).1 (ap operand k) s (item_begins q _)
-  step_agrees q (low k v) w more r outer after l levels nothing_begun h same s b = now (record r { low_end = v } ∷ outer) after at_dash (inside_class l levels (after_low k v)) (where_may_is (ranged r.held) _ after h) (same, s, tt)
+  step_agrees q (low k v) w more r outer after l levels nothing_begun h same s b = now (record r { low_end = v } ∷ outer) after at_dash (inside_class l levels (after_low k v)) (where_may_is (with_range r.held) _ after h) (same, s, tt)
   step_agrees q dash w more r outer after l levels (after_low k v) h same s b = now (r ∷ outer) after at_high (inside_class l levels (after_dash k v)) (Some-inj h) (same, s, tt)
   step_agrees q (high j x) w more r outer after l levels (after_dash k v) h same s b =
-      member_agrees r outer false (ranged r.held) after fresh l levels _ (ranged l.held) (where_true_both _ _ after h).1 (ap ranged same) s tt
+      member_agrees r outer false (with_range r.held) after fresh l levels _ (with_range l.held) (where_true_both _ _ after h).1 (ap with_range same) s tt
   step_agrees q (operator o) w more r outer after l levels nothing_begun h k s b = operator_agrees r outer (with_operator o r.held) after (after_operator o) l levels (with_operator o l.held) h (ap (with_operator o) k) s tt
   step_agrees q strings w more r outer after l levels nothing_begun h k s b = now (record r { count = 0; any = false } ∷ outer) after in_strings (inside_class l levels (inside_strings [] [])) (where_may_is (operand r.held) _ after h) (k, s, tt)
   step_agrees q (letter k v) w more r outer after l levels (inside_strings ss cs) h same s b = now (record r { count = r.count + 1 } ∷ outer) after in_strings (build_in (letter k v) (inside_strings ss cs) l levels) (Some-inj (where_true_both _ _ after h).1) (same, s, tt)
@@ -181,11 +181,11 @@ module _ (e : Environment) where
     pub tokens : class_tokens it ≡ ts
 
   -- Tokens that lead from before a bracket to where all brackets have closed are those of a class.
-  pub closed_class : (ts : List ClassToken) (us rest : List CodePoint) → ClassTokenRow e ts outside us fresh rest → class_opened ts ≡ Some [] → ClosedClass ts us rest
+  pub closed_class : (ts : List ClassToken) (us rest : List CodePoint) → ClassTokenRow e ts outside us fresh rest → class_run_from_start ts ≡ Some [] → ClosedClass ts us rest
   closed_class [] us rest row h = absurd (let no : ⊥ = cc h in no)
   closed_class ((bracket negative) ∷ ts) us rest row h =
       let b = builds_class ts (bracket_of negative empty false ∷ []) fresh (inside_class (level_of negative empty no_member) [] nothing_begun) row.1 rest row.4 h (refl, tt, tt) in
-      let t = built_has_tokens (bracket negative ∷ ts) b.0 (row_flagged e (bracket negative ∷ ts) outside us fresh rest row) (ap class_built b.1) in
+      let t = built_has_tokens (bracket negative ∷ ts) b.0 (row_flagged e (bracket negative ∷ ts) outside us fresh rest row) (ap finished_class b.1) in
       let f = row_units e (bracket negative ∷ ts) outside us fresh rest row in
       record {
         it = b.0;
@@ -196,7 +196,7 @@ module _ (e : Environment) where
           shape = (t.fitting, t.flagged);
           row = subst (λ ts. ClassTokenRow e ts outside (f.0 ++ rest) fresh rest) (sym t.tokens) (subst (λ us. ClassTokenRow e (bracket negative ∷ ts) outside us fresh rest) f.1 row);
         };
-        early = closes_early b.0 t.fitting t.flagged (ap class_opened t.tokens ∙ h);
+        early = closes_early b.0 t.fitting t.flagged (ap class_run_from_start t.tokens ∙ h);
         tokens = t.tokens;
       }
   closed_class (t ∷ ts) us rest row h = absurd (let no : ⊥ = cc h in no)

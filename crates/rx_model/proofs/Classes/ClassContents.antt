@@ -3,7 +3,7 @@ use Rattle.std.proofs.Common.{◌≡◌, refl, sym, ap, ◌∙◌, subst, true, 
 use Rattle.rx_base.specs.declared.diagnostic.kinds.SetOperator.{SetOperator}
 use Rattle.rx_base.specs.declared.diagnostic.kinds.SetOperator.TheVariants.{Intersection, Subtraction}
 use Rattle.rx_model.specs.Classes.ClassContents as contents
-use Rattle.rx_model.specs.Classes.ClassContents.{Thing, one_operand, one_range, operator, IsMember, AreMembers, AreFurther, none, further, AreContents, union, with_thing, go_on, held_after}
+use Rattle.rx_model.specs.Classes.ClassContents.{Thing, one_operand, one_range, operator, IsMember, AreMembers, AreFurther, none, further, AreContents, union, with_thing, go_on, hold_after}
 use Rattle.rx_model.specs.Classes.ClassRuns.{Held, empty, single, several, pending, joined, is_whole}
 use Rattle.rx_model.proofs.Classes.ClassShapes.{operator_again}
 
@@ -51,18 +51,18 @@ module _ (s : List Thing) where
   steps (operator Subtraction) (joined Subtraction) after h e = operator_more Subtraction after h e
   steps x held after h e = nothing e
 
-stands : (things s : List Thing) (held after : Held) → Stood held s → held_after things held ≡ Some after → Stood after (s ++ things)
+stands : (things s : List Thing) (held after : Held) → Stood held s → hold_after things held ≡ Some after → Stood after (s ++ things)
 stands [] s held after h e = subst (Stood after) (sym (append-nil s)) (by s held after s h e)
 stands (x ∷ things) s held after h e = go (λ next m n. stands things (s ++ (x ∷ [])) next after m n) (with_thing x held) refl
   where
-    go : ((next : Held) → Stood next (s ++ (x ∷ [])) → held_after things next ≡ Some after → Stood after ((s ++ (x ∷ [])) ++ things)) →
+    go : ((next : Held) → Stood next (s ++ (x ∷ [])) → hold_after things next ≡ Some after → Stood after ((s ++ (x ∷ [])) ++ things)) →
         (o : Option Held) → with_thing x held ≡ o → Stood after (s ++ (x ∷ things))
-    go again None n = absurd (let no : None ≡ Some after = ap (λ o. go_on o (λ next. held_after things next)) (sym n) ∙ e in let k : ⊥ = cc no in k)
+    go again None n = absurd (let no : None ≡ Some after = ap (λ o. go_on o (λ next. hold_after things next)) (sym n) ∙ e in let k : ⊥ = cc no in k)
     go again (Some next) n =
         subst (Stood after) (append_assoc s (x ∷ []) things)
-        (again next (steps s x held next h n) (ap (λ o. go_on o (λ next. held_after things next)) (sym n) ∙ e))
+        (again next (steps s x held next h n) (ap (λ o. go_on o (λ next. hold_after things next)) (sym n) ∙ e))
 
-pub stood : (things : List Thing) (held : Held) → held_after things empty ≡ Some held → Stood held things
+pub stood : (things : List Thing) (held : Held) → hold_after things empty ≡ Some held → Stood held things
 stood things held e = stands things [] empty held refl e
 
 -- With an operand where an operator stands last, all that is held is contents.
@@ -74,7 +74,7 @@ front_of things (pending o) h =
     (one_operand ∷ [], subst AreContents (sym (operand_more things (operator o) h.0 h.1)) (contents.joined o (h.0 ++ (operator o ∷ one_operand ∷ [])) (one_further (operator o) h.2)))
 front_of things (joined o) h = ([], subst AreContents (sym (append-nil things)) (subst AreContents (sym h.1) (contents.joined o h.0 h.2)))
 
-pub is_front : (things : List Thing) (held : Held) → held_after things empty ≡ Some held → (more : List Thing) × AreContents (things ++ more)
+pub is_front : (things : List Thing) (held : Held) → hold_after things empty ≡ Some held → (more : List Thing) × AreContents (things ++ more)
 is_front things held e = front_of things held (stood things held e)
 
 whole_stood : (things : List Thing) (held : Held) → Stood held things → is_whole held ≡ true → AreContents things
@@ -84,12 +84,12 @@ whole_stood things several h w = union things h
 whole_stood things (pending o) h w = absurd (let no : ⊥ = cc w in no)
 whole_stood things (joined o) h w = subst AreContents (sym h.1) (contents.joined o h.0 h.2)
 
-pub is_contents : (things : List Thing) (held : Held) → held_after things empty ≡ Some held → is_whole held ≡ true → AreContents things
+pub is_contents : (things : List Thing) (held : Held) → hold_after things empty ≡ Some held → is_whole held ≡ true → AreContents things
 is_contents things held e w = whole_stood things held (stood things held e) w
 
 -- Whole contents are accepted.
 abbrev pub Ends : List Thing → Held → Type 0
-Ends things held = (after : Held) × (held_after things held ≡ Some after) × (is_whole after ≡ true)
+Ends things held = (after : Held) × (hold_after things held ≡ Some after) × (is_whole after ≡ true)
 
 several_on : (things : List Thing) → AreMembers things → Ends things several
 several_on [] all = (several, refl, refl)
@@ -112,7 +112,7 @@ union_on ((operator o) ∷ things) all = absurd all.0
 joined_on : (o : SetOperator) {more : List Thing} → AreFurther (operator o) more → Ends more (joined o)
 joined_on o none = (joined o, refl, refl)
 joined_on o (further more f) =
-    let after = joined_on o f in (after.0, ap (λ o. go_on o (λ held. held_after (one_operand ∷ more) held)) (operator_again o) ∙ after.1, after.2)
+    let after = joined_on o f in (after.0, ap (λ o. go_on o (λ held. hold_after (one_operand ∷ more) held)) (operator_again o) ∙ after.1, after.2)
 
 first_joined : (o : SetOperator) {more : List Thing} → AreFurther (operator o) more → Ends more single
 first_joined o none = (single, refl, refl)

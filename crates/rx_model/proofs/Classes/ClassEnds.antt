@@ -11,12 +11,12 @@ use Rattle.rx_units.specs.declared.code_point.CodePoint.{CodePoint}
 use Rattle.rx_model.specs.declared.mode.Mode.{Mode}
 use Rattle.rx_model.specs.Classes.ClassRows.{Place, outside, fresh, at_dash, at_high, at_second, at_third, after_operator, in_strings, following_item, next_place, ClassTokenRow, IsClass}
 use Rattle.rx_model.specs.Classes.ClassTokens.{ClassToken, bracket, closer, item, strings, strings_end, ClassEvents, token, class_tokens_of, within, letters_events, string_events, barred_strings_events, strings_events, operator_events, member_events, class_events, members_events, more_members_events, class_tokens}
-use Rattle.rx_model.specs.Reading.ElementKinds.{NestedPlace, SpellsOfClass, after_of_class, opened}
+use Rattle.rx_model.specs.Reading.ElementKinds.{NestedPlace, SpellsOfClass, after_of_class, depth_after_bracket}
 use Rattle.rx_model.specs.Inputs.Environment.{Environment}
 use Rattle.rx_units.specs.Sequences.{ElementRow}
 use Rattle.rx_model.proofs.Classes.ClassShapes.{between_by, class_tokens_by, contents_are, contents_tokens}
 use Rattle.rx_model.proofs.Classes.ClassTokens.{tokens_append}
-use Rattle.rx_model.proofs.Classes.ClassUnspanned.{within_tokens}
+use Rattle.rx_model.proofs.Classes.ClassWithoutSpans.{within_tokens}
 
 -- how many brackets are open after tokens, from so many on; none where a closer closes none of them
 abbrev nests : List ClassToken → ℕ → Option ℕ
@@ -111,7 +111,7 @@ next_within : (mode : Mode) (q : Place) (t : ClassToken) (rest : List CodePoint)
 next_within mode q (item a) rest = within_after_item q _
 next_within mode q t rest = tt
 
-opened_within : (depth : ℕ) (q : Place) → IsWithin q → opened depth q ≡ suc depth
+opened_within : (depth : ℕ) (q : Place) → IsWithin q → depth_after_bracket depth q ≡ suc depth
 opened_within depth outside i = absurd i
 opened_within depth q i = refl
 
@@ -183,7 +183,7 @@ module _ (e : Environment) where
   -- Tokens that lead to after the closer are a row of tokens.
   pub row_of_elements : (ts : List ClassToken) (depth : ℕ) (q : Place) (us rest : List CodePoint) → OfClass ts (Some (depth, q)) us None rest → ClassTokenRow e ts q us fresh rest
   row_of_elements [] depth q us rest row = absurd (let same = row.0 in let no : ⊥ = cc same in no)
-  row_of_elements ((bracket negative) ∷ ts) depth q us rest row = (row.0, row.1, row.2, row.3, row_of_elements ts (opened depth q) fresh row.1 rest row.4)
+  row_of_elements ((bracket negative) ∷ ts) depth q us rest row = (row.0, row.1, row.2, row.3, row_of_elements ts (depth_after_bracket depth q) fresh row.1 rest row.4)
   row_of_elements (closer ∷ ts) zero q us rest row =
       let n = none_after_end ts row.1 None rest row.4 in
       (row.0, row.1, row.2, row.3, subst (λ ts. ClassTokenRow e ts fresh row.1 fresh rest) (sym n.0) (refl, n.1))

@@ -16,7 +16,7 @@ use Rattle.rx_model.specs.Refusals.ClassCauses as class_cause
 use Rattle.rx_model.specs.Refusals.ClassCauses.{IsClassCause, IsNegativeWithStrings, NothingFollows, StandsRange, of_negative, unterminated}
 use Rattle.rx_model.specs.Refusals.ClassPlaces.{BeginsBracket, IsAtomPlace, IsInBracket, IsItemPlace, IsOfStrings, IsOperandPlace, IsSecondPlace, IsStringPlace, begins_item, nested, of_class}
 use Rattle.rx_model.specs.Classes.ClassRows.{next_place, following_item, ClassTokenRow, Place, SpellsAtom, SpellsBracket, SpellsInClass, after_operator, fresh, has_threes, in_strings, is_dashed, may_follow_operator, outside}
-use Rattle.rx_model.specs.Classes.ClassRuns.{Bracket, Brackets, Held, empty, atom_may, atom_obeys, after_step, bracket_of, class_opened, class_run, class_step, holding, is_union, is_whole, operand, operator_of, takes_operand, where_true, with_strings}
+use Rattle.rx_model.specs.Classes.ClassRuns.{Bracket, Brackets, Held, empty, atom_may, atom_obeys, after_step, bracket_of, class_run_from_start, class_run, class_step, add_thing, is_union, is_whole, operand, operator_of, takes_operand, where_true, with_strings}
 use Rattle.rx_model.specs.Classes.ClassTokens.{Atom, character, is_character, ClassToken, bracket, item, strings}
 use Rattle.rx_model.specs.Inputs.Environment.{Environment, is_sets}
 use Rattle.rx_model.specs.FirstPass.Marks.{starts}
@@ -55,7 +55,7 @@ pub record IsAfterLow (s : State) : Type 0 where
 -- The reading is stuck there.
 pub record IsStuck (e : Environment) (from : ℕ) (at_class : List CodePoint) (s : State) : Type 0 where
   pub row : ClassTokenRow e s.tokens outside at_class s.at s.rest
-  pub accepted : class_opened s.tokens ≡ Some (s.inner ∷ s.outer)
+  pub accepted : class_run_from_start s.tokens ≡ Some (s.inner ∷ s.outer)
   pub place_is : from + length at_class ≡ s.place + length s.rest
   pub between : is_between s.at ≡ true
   pub blocked : IsBlockedItem e s.at (s.inner ∷ s.outer) s.rest
@@ -77,7 +77,7 @@ module _ (mode : Mode) (us : List CodePoint) (start added from : ℕ) (at_class 
     pub all : tokens ≡ before ++ inside
     pub nested_is : is_nested ≡ is_some_token before
     pub row : ClassTokenRow here before outside at_class at at_bracket
-    pub alone : class_opened inside ≡ Some (inner ∷ [])
+    pub alone : class_run_from_start inside ≡ Some (inner ∷ [])
     pub begin_is : from + length at_class ≡ begin + length at_bracket
 
   -- Class strings opened at this place, and characters and bars stand in them.
@@ -179,7 +179,7 @@ module _ (mode : Mode) (us : List CodePoint) (start added from : ℕ) (at_class 
     tokens : List ClassToken
     outer : Brackets
     row : ClassTokenRow here tokens outside at_class at rest
-    accepted : class_opened tokens ≡ Some (inner ∷ outer)
+    accepted : class_run_from_start tokens ≡ Some (inner ∷ outer)
     place_is : from + length at_class ≡ place + length rest
     opens : Opens tokens is_nested begin
 
@@ -189,12 +189,12 @@ module _ (mode : Mode) (us : List CodePoint) (start added from : ℕ) (at_class 
   nested_bracket q negative w more begins sets s = absurd (true≢false (sym begins))
 
   -- A row from a bracket is one of a nested class too.
-  nested_row : (ts : List ClassToken) (q : Place) (us : List CodePoint) (r : Place) (rest : List CodePoint) (cs : Brackets) → begins_item q ≡ true → is_sets mode ≡ true → class_opened ts ≡ Some cs → ClassTokenRow here ts outside us r rest → ClassTokenRow here ts q us r rest
+  nested_row : (ts : List ClassToken) (q : Place) (us : List CodePoint) (r : Place) (rest : List CodePoint) (cs : Brackets) → begins_item q ≡ true → is_sets mode ≡ true → class_run_from_start ts ≡ Some cs → ClassTokenRow here ts outside us r rest → ClassTokenRow here ts q us r rest
   nested_row [] q us r rest cs begins sets h row = absurd (let no : ⊥ = cc h in no)
   nested_row ((bracket negative) ∷ ts) q us r rest cs begins sets h row = (row.0, row.1, row.2, nested_bracket q negative row.0 row.1 begins sets row.3, row.4)
   nested_row (t ∷ ts) q us r rest cs begins sets h row = absurd (let no : ⊥ = cc h in no)
 
-  some_tokens : (ts : List ClassToken) (cs : Brackets) → class_opened ts ≡ Some cs → true ≡ is_some_token ts
+  some_tokens : (ts : List ClassToken) (cs : Brackets) → class_run_from_start ts ≡ Some cs → true ≡ is_some_token ts
   some_tokens [] cs h = absurd (let no : ⊥ = cc h in no)
   some_tokens (t ∷ ts) cs h = refl
 
@@ -221,7 +221,7 @@ module _ (mode : Mode) (us : List CodePoint) (start added from : ℕ) (at_class 
   }
   in_bracket_by _ begin place at_bracket rest (nested sets o) i alone =
       let p = o.item_place in
-      let opened : class_opened i.tokens ≡ Some (i.inner ∷ []) = i.accepted ∙ ap (λ outer. Some (i.inner ∷ outer)) alone in
+      let opened : class_run_from_start i.tokens ≡ Some (i.inner ∷ []) = i.accepted ∙ ap (λ outer. Some (i.inner ∷ outer)) alone in
       record {
         tokens = p.tokens ++ i.tokens;
         outer = p.inner ∷ p.outer;
@@ -332,9 +332,9 @@ module _ (mode : Mode) (us : List CodePoint) (start added from : ℕ) (at_class 
   one_item : (a : Atom) (r : Bracket) (outer : Brackets) → atom_obeys a ≡ true → takes_operand r.held ≡ true → (c : Bracket) × (class_step (item a) (r ∷ outer) ≡ Some (c ∷ outer)) × (operand r.held ≡ Some c.held)
   one_item a r outer obeys takes =
       let g = held (operand r.held) takes in
-      (g.0, ap (λ b. where_true b (holding r outer (atom_may a) (operand r.held))) obeys ∙ g.1, g.2)
+      (g.0, ap (λ b. where_true b (add_thing r outer (atom_may a) (operand r.held))) obeys ∙ g.1, g.2)
     where
-      held : (o : Option Held) → is_some o ≡ true → (c : Bracket) × (holding r outer (atom_may a) o ≡ Some (c ∷ outer)) × (o ≡ Some c.held)
+      held : (o : Option Held) → is_some o ≡ true → (c : Bracket) × (add_thing r outer (atom_may a) o ≡ Some (c ∷ outer)) × (o ≡ Some c.held)
       held None h = absurd (true≢false (sym h))
       held (Some k) h = (bracket_of r.negative k (with_strings r.held r.may (atom_may a)), refl, refl)
 
@@ -366,7 +366,7 @@ module _ (mode : Mode) (us : List CodePoint) (start added from : ℕ) (at_class 
       at_item i.first (i.w ++ (i.hyphen ∷ rest)) (i.first + length i.w + 1) d p
       (dead_blocked here p.at (p.inner ∷ p.outer) (i.w ++ (i.hyphen ∷ rest)) (λ t v more whole s.
       let same = first_in_class here fresh t (item i.atom) v more i.w (i.hyphen ∷ rest) (sym whole) (subst (λ q. SpellsInClass here q t v more) at_fresh s) there in
-      ap (λ t. class_step t (p.inner ∷ p.outer)) same.0 ∙ ap (λ b. where_true b (holding p.inner p.outer (atom_may i.atom) (operand p.inner.held))) obeys))
+      ap (λ t. class_step t (p.inner ∷ p.outer)) same.0 ∙ ap (λ b. where_true b (add_thing p.inner p.outer (atom_may i.atom) (operand p.inner.held))) obeys))
       (said (elsewhere (after_range i.atom i.w i.hyphen rest at_fresh u.1 refl i.spelled i.dashed (λ sets. u.0) (in_escape c))))
   second_in_sets f rest d i sets c true obeys =
       let p = i.item_place in

@@ -17,7 +17,7 @@ use Rattle.rx_units.specs.Units.{values}
 use Rattle.rx_units.proofs.Choices.{chosen, both, Some-inj}
 use Rattle.rx_model.specs.declared.mode.Mode.{Mode}
 use Rattle.rx_model.specs.declared.mode.Mode.TheVariants.{Legacy, Unicode, Sets}
-use Rattle.rx_model.specs.Classes.ClassFronts.{AtomRead, atom_read, no_atom, property_atom, character_atom, escape_atom, escape_in_class, atom_at, TokenRead, item_where, item_of, low_of, high_of, dashed_of, item_before, bracket_at, are_next, begins_strings, operand_token, set_token, fresh_token, operand_of, string_token, token_where, class_token_at}
+use Rattle.rx_model.specs.Classes.ClassFronts.{AtomRead, atom_read, no_atom, property_atom, character_atom, escape_atom, escape_in_class, atom_at, TokenRead, item_where, item_of, low_of, high_of, before_dash, item_before, bracket_at, are_next, begins_strings, operand_token, set_token, fresh_token, operand_of, string_token, token_where, class_token_at}
 use Rattle.rx_model.specs.Classes.ClassRows.{stands_raw_in_class, SpellsInClassAlone, backspace, SpellsClassCharacter, raw, escaped_in_class, escaped_in_legacy, SpellsAtom, has_hyphen, has_threes, is_dashed, BeforeHigh, BeforeThird, BeginsNoRange, StandsBefore, Place, outside, fresh, at_dash, at_high, at_second, at_third, after_operator, in_strings, next_place, following_item, may_follow_operator, SpellsBracket, SpellsOperand, SpellsOfStrings, SpellsInClass}
 use Rattle.rx_model.specs.Classes.ClassRows as row
 use Rattle.rx_ast.specs.Texts.{class_escape_text}
@@ -405,7 +405,7 @@ module _ (e : Environment) where
   in_sets true a n h = refl
   in_sets false a n h = ap (λ set. item_where set a n) h
 
-  set_item : (a : Atom) (n : ℕ) (hyphen : CodePoint) (more : List CodePoint) → hyphen.value ≡ 45 → BeginsNoRange e a (hyphen ∷ more) → (r : AtomRead) → atom_at e more ≡ r → dashed_of e.mode a n r ≡ Some (item a, n)
+  set_item : (a : Atom) (n : ℕ) (hyphen : CodePoint) (more : List CodePoint) → hyphen.value ≡ 45 → BeginsNoRange e a (hyphen ∷ more) → (r : AtomRead) → atom_at e more ≡ r → before_dash e.mode a n r ≡ Some (item a, n)
   set_item a n hyphen more is b no_atom f = ap (λ set. item_where set a n) b.sets
   set_item a n hyphen more is b (atom_read c m) f = elim (cases_Bool (is_character a && is_character c)) [
     | inl h ↦
@@ -432,11 +432,11 @@ module _ (e : Environment) where
 
   -- what a `-` and an atom after an atom make of it
   dashed_is : (a b : Atom) (n : ℕ) (us : List CodePoint) (hyphen : CodePoint) (w more : List CodePoint) → is_dashed (values us) ≡ true → us ≡ hyphen ∷ (w ++ more) → SpellsAtom e b w more →
-      item_before e a n us ≡ dashed_of e.mode a n (atom_read b (length w))
+      item_before e a n us ≡ before_dash e.mode a n (atom_read b (length w))
   dashed_is a b n us hyphen w more d h s =
       cond-true (is_dashed (values us)) _ _ d
-      ∙ ap (λ us. dashed_of e.mode a n (atom_at e (drop 1 us))) h
-      ∙ ap (dashed_of e.mode a n) (atom_is_read b w more s)
+      ∙ ap (λ us. before_dash e.mode a n (atom_at e (drop 1 us))) h
+      ∙ ap (before_dash e.mode a n) (atom_is_read b w more s)
 
   item_is : (a : Atom) (n : ℕ) (rest : List CodePoint) → StandsBefore e a rest → item_before e a n rest ≡ Some (item a, n)
   item_is a n rest (inl d) = cond-false (is_dashed (values rest)) _ _ d
@@ -448,7 +448,7 @@ module _ (e : Environment) where
     | inl d ↦
         let h = hyphen_there rest d in
         cond-true (is_dashed (values rest)) _ _ d
-        ∙ ap (λ us. dashed_of e.mode a n (atom_at e (drop 1 us))) h.2
+        ∙ ap (λ us. before_dash e.mode a n (atom_at e (drop 1 us))) h.2
         ∙ set_item a n h.0 h.1 h.3 (subst (BeginsNoRange e a) h.2 b) (atom_at e h.1) refl
     | inr d ↦ cond-false (is_dashed (values rest)) _ _ d
   ]
@@ -688,7 +688,7 @@ module _ (e : Environment) where
         ]) i.1
 
     dashed_there : (a : Atom) (n : ℕ) (hyphen : CodePoint) (more : List CodePoint) → length w ≡ n → SpellsAtom e a w rest → is_dashed (values rest) ≡ true → rest ≡ hyphen ∷ more → hyphen.value ≡ 45 →
-        (r : AtomRead) → atom_at e more ≡ r → dashed_of e.mode a n r ≡ Some read → FreshFront us read
+        (r : AtomRead) → atom_at e more ≡ r → before_dash e.mode a n r ≡ Some read → FreshFront us read
     dashed_there a n hyphen more l s d is hyphen_is no_atom f h =
         let i = item_where_is (is_sets e.mode) a n read h in
         item_there a n l s (inr (inr (no_range a hyphen more is i.0 (λ c k v m g. let no = sym f ∙ g in let k : ⊥ = cc no in k)))) i.1
@@ -701,7 +701,7 @@ module _ (e : Environment) where
     before_there a n l s h = elim (chosen (is_dashed (values rest)) h) [
       | inl p ↦
           let t = hyphen_there rest p.0 in
-          dashed_there a n t.0 t.1 l s p.0 t.2 t.3 (atom_at e t.1) refl (ap (λ us. dashed_of e.mode a n (atom_at e (drop 1 us))) (sym t.2) ∙ p.1)
+          dashed_there a n t.0 t.1 l s p.0 t.2 t.3 (atom_at e t.1) refl (ap (λ us. before_dash e.mode a n (atom_at e (drop 1 us))) (sym t.2) ∙ p.1)
       | inr p ↦ item_there a n l s (inl p.0) p.1
     ]
 

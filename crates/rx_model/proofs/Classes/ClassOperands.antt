@@ -9,7 +9,7 @@ use Rattle.rx_ast.specs.declared.class.ClassString.{ClassString}
 use Rattle.rx_ast.specs.ClassTree.{Class, Member, nested}
 use Rattle.rx_units.specs.declared.code_point.CodePoint.{CodePoint}
 use Rattle.rx_units.specs.Units.{values}
-use Rattle.rx_model.specs.Classes.ClassBuilds.{atom_member, range_member, string_of, strings_member}
+use Rattle.rx_model.specs.Classes.ClassFromTokens.{atom_member, range_member, string_of, strings_member}
 use Rattle.rx_model.specs.Classes.ClassFronts.{atom_at, atom_read, no_atom}
 use Rattle.rx_model.specs.Classes.ClassOperands.{IsCharacter, IsOperandsEnd, SpellsFurtherOperand, SpellsOperator, SpellsUnionItem, SpellsWholeOperand, of_atom, of_class, of_operand, of_operator, of_range, of_strings}
 use Rattle.rx_model.specs.Classes.ClassRows.{BeforeHigh, IsClass, SpellsAtom}

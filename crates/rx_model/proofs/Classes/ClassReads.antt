@@ -4,14 +4,14 @@ use Rattle.std.proofs.Math.Seq.{drop-append_seam}
 use Rattle.rx_ast.specs.ClassTree.{Class, class}
 use Rattle.rx_units.specs.declared.code_point.CodePoint.{CodePoint}
 use Rattle.rx_units.proofs.Choices.{Some-inj}
-use Rattle.rx_model.specs.Classes.ClassBuilds.{class_of_tokens}
+use Rattle.rx_model.specs.Classes.ClassFromTokens.{class_of_tokens}
 use Rattle.rx_model.specs.Classes.ClassFronts.{TokenRead, TokensRead, class_token_at, with_token, tokens_on, tokens_from, class_tokens_at, class_in, class_of, class_front}
 use Rattle.rx_model.specs.Classes.ClassRows.{outside, fresh, SpellsBracket, SpellsInClass, ClassTokenRow, IsClass}
 use Rattle.rx_model.specs.Classes.ClassTokens.{ClassToken, class_tokens}
 use Rattle.rx_model.specs.Reading.ElementKinds.{NestedPlace, after_of_class}
 use Rattle.rx_model.specs.Inputs.Environment.{Environment}
-use Rattle.rx_model.proofs.Classes.ClassBuilds.{class_is_built}
-use Rattle.rx_model.proofs.Classes.ClassBuilt.{built_has_tokens}
+use Rattle.rx_model.proofs.Classes.ClassFromTokens.{class_is_built}
+use Rattle.rx_model.proofs.Classes.TokensOfBuilt.{built_has_tokens}
 use Rattle.rx_model.proofs.Classes.ClassEnds.{OfClass, class_ends, none_after_end, row_of_elements}
 use Rattle.rx_model.proofs.Classes.ClassFlags.{row_flagged}
 use Rattle.rx_model.proofs.Classes.ClassShapes.{class_tokens_by}

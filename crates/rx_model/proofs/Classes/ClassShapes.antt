@@ -15,7 +15,7 @@ use Rattle.rx_ast.specs.declared.class.CharacterClassContentsKind.TheVariants.{U
 use Rattle.rx_ast.specs.declared.class.ClassString.{ClassString}
 use Rattle.rx_ast.specs.ClassTree.{Class, Member, Members, no_member, member, class}
 use Rattle.rx_ast.specs.ClassTree as tree
-use Rattle.rx_model.specs.Classes.ClassRuns.{Held, empty, single, several, pending, joined, Bracket, Brackets, after_step, bracket_of, class_opened, class_run, closed, held_on, holding, is_whole, operand, ranged, where_may, where_true, with_operator, with_strings}
+use Rattle.rx_model.specs.Classes.ClassRuns.{Held, empty, single, several, pending, joined, Bracket, Brackets, after_step, bracket_of, class_run_from_start, class_run, after_closer, add_operator, add_thing, is_whole, operand, with_range, where_may, where_true, with_operator, with_strings}
 use Rattle.rx_model.specs.Classes.ClassShapes.{AreFitting, AreFlagged, AreOperands, FitsKind, IsFitting, IsFittingMember, IsFlagged, IsFlaggedMember, IsOperand}
 use Rattle.rx_model.specs.Classes.ClassTokens.{ClassToken, bracket, closer, contents_kind, dash, high, operator, strings, letter, string_bar, strings_end, ClassEvents, leave, token, class_tokens, class_tokens_of, letters_events, string_events, strings_events, barred_strings_events, member_events, members_events, more_members_events, operator_events}
 use Rattle.rx_model.specs.Trees.Early.{AreCodePoints, AreEarlyMembers, IsCodePoint, IsEarlyClass, IsEarlyMember, IsEarlyString, IsFlaggedString, all_strings, any_strings, class_strings, may_contain_strings, member_strings}
@@ -93,7 +93,7 @@ le_true a b h = grind (arith, nat_tests)
 
 -- with this thing more
 abbrev pub with_member : Member → Held → Option Held
-with_member (tree.range r) held = ranged held
+with_member (tree.range r) held = with_range held
 with_member m held = operand held
 
 abbrev on : List ClassToken → Brackets → Option Brackets
@@ -106,8 +106,8 @@ in_strings negative held may count any = record { negative = negative; held = he
 goes : (ts : List ClassToken) {step step_after : Option Brackets} → step ≡ step_after → after_step step (λ after. class_run ts after) ≡ after_step step_after (λ after. class_run ts after)
 goes ts e = ap (λ o. after_step o (λ after. class_run ts after)) e
 
-holds : (r : Bracket) (outer : Brackets) (may : Bool) (more : Option Held) (after : Held) → more ≡ Some after → holding r outer may more ≡ Some (bracket_of r.negative after (with_strings r.held r.may may) ∷ outer)
-holds r outer may more after e = ap (holding r outer may) e
+holds : (r : Bracket) (outer : Brackets) (may : Bool) (more : Option Held) (after : Held) → more ≡ Some after → add_thing r outer may more ≡ Some (bracket_of r.negative after (with_strings r.held r.may may) ∷ outer)
+holds r outer may more after e = ap (add_thing r outer may) e
 
 true_where : (b : Bool) (o : Option Brackets) → b ≡ true → where_true b o ≡ o
 true_where b o e = ap (λ b. where_true b o) e
@@ -212,8 +212,8 @@ and_all true = refl
 and_all false = refl
 
 -- with an operator
-held_by : (r : Bracket) (outer : Brackets) (o : Option Held) (after : Held) → o ≡ Some after → held_on r outer o ≡ Some (bracket_of r.negative after r.may ∷ outer)
-held_by r outer o after e = ap (held_on r outer) e
+held_by : (r : Bracket) (outer : Brackets) (o : Option Held) (after : Held) → o ≡ Some after → add_operator r outer o ≡ Some (bracket_of r.negative after r.may ∷ outer)
+held_by r outer o after e = ap (add_operator r outer) e
 
 abbrev mutual
   AllOut : Members → Type 0
@@ -299,13 +299,13 @@ may_close_now held negative may w n = and_from (is_whole held) (not (negative &&
 
 -- the tokens of a class from after its bracket on
 class_rest : (negative may : Bool) (kind : CharacterClassContentsKind) (ms : Members) (outer : Brackets) → AllOut ms → FitsKind kind ms → may ≡ may_contain_strings kind ms → (negative && may) ≡ false → (ss : List ClassToken) →
-    class_run ((contents_tokens (between_by kind) ms ++ (closer ∷ [])) ++ ss) (bracket_of negative empty false ∷ outer) ≡ after_step (closed may true outer) (λ after. class_run ss after)
+    class_run ((contents_tokens (between_by kind) ms ++ (closer ∷ [])) ++ ss) (bracket_of negative empty false ∷ outer) ≡ after_step (after_closer may true outer) (λ after. class_run ss after)
 class_rest negative may kind ms outer all fits flag free ss =
     let c = contents_on kind ms all fits negative outer in
     ap (λ ts. class_run ts (bracket_of negative empty false ∷ outer)) (append_assoc (contents_tokens (between_by kind) ms) (closer ∷ []) ss)
     ∙ c.2 (closer ∷ ss)
-    ∙ ap (λ b. after_step (closed b (is_whole c.0 && not (negative && b)) outer) (λ after. class_run ss after)) (sym flag)
-    ∙ ap (λ b. after_step (closed may b outer) (λ after. class_run ss after)) (may_close_now c.0 negative may c.1 free)
+    ∙ ap (λ b. after_step (after_closer b (is_whole c.0 && not (negative && b)) outer) (λ after. class_run ss after)) (sym flag)
+    ∙ ap (λ b. after_step (after_closer may b outer) (λ after. class_run ss after)) (may_close_now c.0 negative may c.1 free)
 
 mutual
   class_out : (c : Class) → IsFitting c → IsEarlyClass c → (negative : Bool) (held : Held) (may : Bool) (outer : Brackets) (after : Held) → operand held ≡ Some after →
@@ -320,15 +320,15 @@ mutual
       Out (operand_tokens m) negative held may outer after (member_strings m)
   member_out (tree.range r) fits early negative held may outer after e ss =
       let b : Bracket = record (bracket_of negative held may) { low_end = r.min.value } in
-      goes (dash ∷ high r.max.kind r.max.value ∷ ss) (may_where (ranged held) after (b ∷ outer) e)
-      ∙ goes ss (true_where (nat_le r.min.value r.max.value && nat_le r.max.value 0x10FFFF) (holding b outer false (ranged held))
-      (and_from (nat_le r.min.value r.max.value) (nat_le r.max.value 0x10FFFF) (le-leb r.min.value r.max.value early.2) (le-leb r.max.value 0x10FFFF early.1)) ∙ holds b outer false (ranged held) after e)
+      goes (dash ∷ high r.max.kind r.max.value ∷ ss) (may_where (with_range held) after (b ∷ outer) e)
+      ∙ goes ss (true_where (nat_le r.min.value r.max.value && nat_le r.max.value 0x10FFFF) (add_thing b outer false (with_range held))
+      (and_from (nat_le r.min.value r.max.value) (nat_le r.max.value 0x10FFFF) (le-leb r.min.value r.max.value early.2) (le-leb r.max.value 0x10FFFF early.1)) ∙ holds b outer false (with_range held) after e)
   member_out (tree.escape x) fits early negative held may outer after e ss = goes ss (holds (bracket_of negative held may) outer false (operand held) after e)
   member_out (tree.property p) fits early negative held may outer after e ss =
-      goes ss (true_where (not (p.negative && p.strings)) (holding (bracket_of negative held may) outer p.strings (operand held)) (ap not early.1)
+      goes ss (true_where (not (p.negative && p.strings)) (add_thing (bracket_of negative held may) outer p.strings (operand held)) (ap not early.1)
       ∙ holds (bracket_of negative held may) outer p.strings (operand held) after e)
   member_out (tree.character c) fits early negative held may outer after e ss =
-      goes ss (true_where (nat_le c.value 0x10FFFF) (holding (bracket_of negative held may) outer false (operand held)) (le-leb c.value 0x10FFFF early)
+      goes ss (true_where (nat_le c.value 0x10FFFF) (add_thing (bracket_of negative held may) outer false (operand held)) (le-leb c.value 0x10FFFF early)
       ∙ holds (bracket_of negative held may) outer false (operand held) after e)
   member_out (tree.nested c) fits early negative held may outer after e ss = class_out c fits early negative held may outer after e ss
   member_out (tree.strings d) fits early negative held may outer after e ss =
@@ -344,9 +344,9 @@ mutual
   members_out no_member fits early = tt
   members_out (member m ms) fits early = (λ negative held may outer after e. member_out m fits.0 early.0 negative held may outer after e, members_out ms fits.1 early.1)
 
-pub early_closes : (c : Class) → IsFitting c → IsEarlyClass c → class_opened (class_tokens c) ≡ Some []
+pub early_closes : (c : Class) → IsFitting c → IsEarlyClass c → class_run_from_start (class_tokens c) ≡ Some []
 early_closes (class s negative may kind ms) fits early =
-    ap class_opened (class_tokens_by s negative may kind ms)
+    ap class_run_from_start (class_tokens_by s negative may kind ms)
     ∙ ap (λ ts. class_run ts (bracket_of negative empty false ∷ [])) (sym (append-nil (contents_tokens (between_by kind) ms ++ (closer ∷ []))))
     ∙ class_rest negative may kind ms [] (members_out ms fits.1 early.2) fits.0 early.0 early.1 []
 
@@ -355,7 +355,7 @@ true_first : (b : Bool) (o : Option Brackets) (more : Brackets → Option Bracke
 true_first true o more end h = refl
 true_first false o more end h = absurd (let no : ⊥ = cc h in no)
 
-closed_first : (b may : Bool) (outer : Brackets) (more : Brackets → Option Brackets) (end : Brackets) → after_step (closed may b outer) more ≡ Some end → b ≡ true
+closed_first : (b may : Bool) (outer : Brackets) (more : Brackets → Option Brackets) (end : Brackets) → after_step (after_closer may b outer) more ≡ Some end → b ≡ true
 closed_first true may outer more end h = refl
 closed_first false may outer more end h = absurd (let no : ⊥ = cc h in no)
 
@@ -446,19 +446,19 @@ mutual
       (ss : List ClassToken) (end : Brackets) → class_run (operand_tokens m ++ ss) (bracket_of negative held may ∷ outer) ≡ Some end → IsEarlyMember m
   member_early (tree.range r) fits flags negative held may outer after e ss end h =
       let b : Bracket = record (bracket_of negative held may) { low_end = r.min.value } in
-      let there = sym (goes (dash ∷ high r.max.kind r.max.value ∷ ss) (may_where (ranged held) after (b ∷ outer) e)) ∙ h in
+      let there = sym (goes (dash ∷ high r.max.kind r.max.value ∷ ss) (may_where (with_range held) after (b ∷ outer) e)) ∙ h in
       let t = and_parts (nat_le r.min.value r.max.value) (nat_le r.max.value 0x10FFFF)
-      (true_first (nat_le r.min.value r.max.value && nat_le r.max.value 0x10FFFF) (holding b outer false (ranged held)) (λ after. class_run ss after) end there) in
+      (true_first (nat_le r.min.value r.max.value && nat_le r.max.value 0x10FFFF) (add_thing b outer false (with_range held)) (λ after. class_run ss after) end there) in
       let order = le_true r.min.value r.max.value t.0 in
       let small = le_true r.max.value 0x10FFFF t.1 in
       (le_trans order small, small, order)
   member_early (tree.escape x) fits flags negative held may outer after e ss end h = tt
   member_early (tree.property p) fits flags negative held may outer after e ss end h = (
     flags,
-    not-true (p.negative && p.strings) (true_first (not (p.negative && p.strings)) (holding (bracket_of negative held may) outer p.strings (operand held)) (λ after. class_run ss after) end h),
+    not-true (p.negative && p.strings) (true_first (not (p.negative && p.strings)) (add_thing (bracket_of negative held may) outer p.strings (operand held)) (λ after. class_run ss after) end h),
   )
   member_early (tree.character c) fits flags negative held may outer after e ss end h =
-      le_true c.value 0x10FFFF (true_first (nat_le c.value 0x10FFFF) (holding (bracket_of negative held may) outer false (operand held)) (λ after. class_run ss after) end h)
+      le_true c.value 0x10FFFF (true_first (nat_le c.value 0x10FFFF) (add_thing (bracket_of negative held may) outer false (operand held)) (λ after. class_run ss after) end h)
   member_early (tree.nested c) fits flags negative held may outer after e ss end h = class_early c fits flags negative held may outer after e ss end h
   member_early (tree.strings d) fits flags negative held may outer after e ss end h = (
     flags.0,
@@ -479,8 +479,8 @@ mutual
     members_early ms fits.1 flags.1,
   )
 
-pub closes_early : (c : Class) → IsFitting c → IsFlagged c → class_opened (class_tokens c) ≡ Some [] → IsEarlyClass c
+pub closes_early : (c : Class) → IsFitting c → IsFlagged c → class_run_from_start (class_tokens c) ≡ Some [] → IsEarlyClass c
 closes_early (class s negative may kind ms) fits flags h =
-    let there = ap (λ ts. class_run ts (bracket_of negative empty false ∷ [])) (append-nil (contents_tokens (between_by kind) ms ++ (closer ∷ []))) ∙ ap class_opened (sym (class_tokens_by s negative may kind ms)) ∙ h in
+    let there = ap (λ ts. class_run ts (bracket_of negative empty false ∷ [])) (append-nil (contents_tokens (between_by kind) ms ++ (closer ∷ []))) ∙ ap class_run_from_start (sym (class_tokens_by s negative may kind ms)) ∙ h in
     let r = rest_early negative may kind ms [] (members_early ms fits.1 flags.1) fits.1 fits.0 flags.0 [] [] there in
     (flags.0, r.0, r.1)

@@ -8,7 +8,7 @@ use Rattle.rx_units.specs.Units.{values}
 use Rattle.rx_units.proofs.Choices.{Some-inj, is_none}
 use Rattle.rx_model.specs.declared.mode.Mode.{Mode}
 use Rattle.rx_model.specs.Classes.ClassRows.{ClassTokenRow, Place, SpellsInClass, outside, fresh, at_dash, at_high, at_second, at_third, after_operator, in_strings, next_place, following_item, has_threes, is_dashed}
-use Rattle.rx_model.specs.Classes.ClassRuns.{Held, empty, single, several, pending, joined, Bracket, Brackets, any_string, atom_may, atom_obeys, after_step, bracket_of, class_opened, class_run, class_step, closed, held_on, holding, is_union, is_whole, may_close, may_follow, operand, ranged, takes_operand, where_may, where_true, with_operator, with_strings}
+use Rattle.rx_model.specs.Classes.ClassRuns.{Held, empty, single, several, pending, joined, Bracket, Brackets, any_string, atom_may, atom_obeys, after_step, bracket_of, class_run_from_start, class_run, class_step, after_closer, add_operator, add_thing, is_union, is_whole, may_close, may_follow, operand, with_range, takes_operand, where_may, where_true, with_operator, with_strings}
 use Rattle.rx_model.specs.Classes.ClassTokens.{ClassToken, bracket, closer, item, low, dash, high, operator, strings, letter, string_bar, strings_end}
 use Rattle.rx_model.specs.Inputs.Environment.{Environment, is_sets}
 
@@ -55,11 +55,11 @@ record Grown (o : Option Held) (outer : Brackets) (cs : Brackets) : Type 0 where
   is : o ≡ Some held
   holds : Holds held outer cs
 
-holding_is : (r : Bracket) (outer : Brackets) (may : Bool) (o : Option Held) (cs : Brackets) → holding r outer may o ≡ Some cs → Grown o outer cs
+holding_is : (r : Bracket) (outer : Brackets) (may : Bool) (o : Option Held) (cs : Brackets) → add_thing r outer may o ≡ Some cs → Grown o outer cs
 holding_is r outer may None cs h = absurd (let no : ⊥ = cc h in no)
 holding_is r outer may (Some held) cs h = record { held = held; is = refl; holds = record { it = bracket_of r.negative held (with_strings r.held r.may may); held_is = refl; are = Some-inj h } }
 
-held_on_is : (r : Bracket) (outer : Brackets) (o : Option Held) (cs : Brackets) → held_on r outer o ≡ Some cs → Grown o outer cs
+held_on_is : (r : Bracket) (outer : Brackets) (o : Option Held) (cs : Brackets) → add_operator r outer o ≡ Some cs → Grown o outer cs
 held_on_is r outer None cs h = absurd (let no : ⊥ = cc h in no)
 held_on_is r outer (Some held) cs h = record { held = held; is = refl; holds = record { it = bracket_of r.negative held r.may; held_is = refl; are = Some-inj h } }
 
@@ -82,7 +82,7 @@ operand_union single k u e = let s : several ≡ k = Some-inj e in ap is_union (
 operand_union several k u e = let s : several ≡ k = Some-inj e in ap is_union (sym s)
 operand_union held k u e = absurd (let no : ⊥ = cc u in no)
 
-ranged_several : (h k : Held) → ranged h ≡ Some k → k ≡ several
+ranged_several : (h k : Held) → with_range h ≡ Some k → k ≡ several
 ranged_several empty k e = sym (Some-inj e)
 ranged_several single k e = sym (Some-inj e)
 ranged_several several k e = sym (Some-inj e)
@@ -95,7 +95,7 @@ operator_pending Subtraction (joined Subtraction) k e = sym (Some-inj e)
 operator_pending o held k e = absurd (let no : ⊥ = cc e in no)
 
 -- Some thing more may be held.
-pub union_more : (h : Held) → is_union h ≡ true → (takes_operand h ≡ true) × ((k : Held) × (ranged h ≡ Some k))
+pub union_more : (h : Held) → is_union h ≡ true → (takes_operand h ≡ true) × ((k : Held) × (with_range h ≡ Some k))
 union_more empty u = (refl, (several, refl))
 union_more single u = (refl, (several, refl))
 union_more several u = (refl, (several, refl))
@@ -121,7 +121,7 @@ fits_after_item q first held h = h
 grown_whole : (h : Held) (outer : Brackets) (c : Bracket) (cs : Brackets) → Grown (operand h) outer (c ∷ cs) → is_whole c.held ≡ true
 grown_whole h outer c cs g = ap is_whole (inner_is g.held outer c cs g.holds) ∙ operand_whole h g.held g.is
 
-closer_whole : (may close : Bool) (outer : Brackets) (c : Bracket) (cs : Brackets) → closed may close outer ≡ Some (c ∷ cs) → is_whole c.held ≡ true
+closer_whole : (may close : Bool) (outer : Brackets) (c : Bracket) (cs : Brackets) → after_closer may close outer ≡ Some (c ∷ cs) → is_whole c.held ≡ true
 closer_whole may false outer c cs h = absurd (let no : ⊥ = cc h in no)
 closer_whole may true [] c cs h = absurd (let no : ⊥ = cc h in no)
 closer_whole may true (r ∷ outer) c cs h = grown_whole r.held outer c cs (holding_is r outer may (operand r.held) (c ∷ cs) h)
@@ -134,11 +134,11 @@ step_fits mode q (bracket negative) rest b bs c cs h =
 step_fits mode q closer rest b bs c cs h = closer_whole b.may (may_close b) bs c cs h
 step_fits mode q (item a) rest b bs c cs h =
     fits_after_item q (is_dashed (values rest) && has_threes mode) c.held
-    (grown_whole b.held bs c cs (holding_is b bs (atom_may a) (operand b.held) (c ∷ cs) (where_true_is (atom_obeys a) (holding b bs (atom_may a) (operand b.held)) (c ∷ cs) h)))
+    (grown_whole b.held bs c cs (holding_is b bs (atom_may a) (operand b.held) (c ∷ cs) (where_true_is (atom_obeys a) (add_thing b bs (atom_may a) (operand b.held)) (c ∷ cs) h)))
 step_fits mode q (low k v) rest b bs c cs h = tt
 step_fits mode q dash rest b bs c cs h = tt
 step_fits mode q (high k v) rest b bs c cs h =
-    let g = holding_is b bs false (ranged b.held) (c ∷ cs) (where_true_is (nat_le b.low_end v && nat_le v 0x10FFFF) (holding b bs false (ranged b.held)) (c ∷ cs) h) in
+    let g = holding_is b bs false (with_range b.held) (c ∷ cs) (where_true_is (nat_le b.low_end v && nat_le v 0x10FFFF) (add_thing b bs false (with_range b.held)) (c ∷ cs) h) in
     ap is_whole (inner_is g.held bs c cs g.holds ∙ ranged_several b.held g.held g.is)
 step_fits mode q (operator o) rest b bs c cs h =
     let g = held_on_is b bs (with_operator o b.held) (c ∷ cs) h in inner_is g.held bs c cs g.holds ∙ operator_pending o b.held g.held g.is
@@ -157,7 +157,7 @@ row_fits e (t ∷ ts) q us r rest b bs c cs row run f =
     let s = steps t ts (b ∷ bs) c cs run in
     row_fits e ts (next_place e.mode q t row.1) row.1 r rest s.inner s.outer c cs row.4 s.others (step_fits e.mode q t row.1 b bs s.inner s.outer s.first)
 
-pub opened_fits : (e : Environment) (ts : List ClassToken) (us : List CodePoint) (r : Place) (rest : List CodePoint) (c : Bracket) (cs : Brackets) → ClassTokenRow e ts outside us r rest → class_opened ts ≡ Some (c ∷ cs) → Fits r c.held
+pub opened_fits : (e : Environment) (ts : List ClassToken) (us : List CodePoint) (r : Place) (rest : List CodePoint) (c : Bracket) (cs : Brackets) → ClassTokenRow e ts outside us r rest → class_run_from_start ts ≡ Some (c ∷ cs) → Fits r c.held
 opened_fits e [] us r rest c cs row h = absurd (let no : ⊥ = cc h in no)
 opened_fits e ((bracket negative) ∷ ts) us r rest c cs row h = row_fits e ts fresh row.1 r rest (bracket_of negative empty false) [] c cs row.4 h refl
 opened_fits e (t ∷ ts) us r rest c cs row h = absurd (let no : ⊥ = cc h in no)
@@ -188,25 +188,25 @@ step_alone : (e : Environment) → is_sets e.mode ≡ false → (q : Place) → 
 step_alone e n outside inside t w rest b c cs s h u = absurd (inside refl)
 step_alone e n fresh inside closer w rest b c cs s h u = absurd (none (may_close b) h)
   where
-    none : (close : Bool) → closed b.may close [] ≡ Some (c ∷ cs) → ⊥
+    none : (close : Bool) → after_closer b.may close [] ≡ Some (c ∷ cs) → ⊥
     none true k = cc k
     none false k = cc k
 step_alone e n fresh inside (item a) w rest b c cs s h u =
-    alone_operand b c cs u (holding_is b [] (atom_may a) (operand b.held) (c ∷ cs) (where_true_is (atom_obeys a) (holding b [] (atom_may a) (operand b.held)) (c ∷ cs) h))
+    alone_operand b c cs u (holding_is b [] (atom_may a) (operand b.held) (c ∷ cs) (where_true_is (atom_obeys a) (add_thing b [] (atom_may a) (operand b.held)) (c ∷ cs) h))
 step_alone e n fresh inside (low k v) w rest b c cs s h u =
-    let same = where_may_is (ranged b.held) (record b { low_end = v } ∷ []) (c ∷ cs) h in
+    let same = where_may_is (with_range b.held) (record b { low_end = v } ∷ []) (c ∷ cs) h in
     alone_by b.held [] c cs refl u (record { it = record b { low_end = v }; held_is = refl; are = same })
 step_alone e n fresh inside (bracket negative) w rest b c cs s h u = absurd (true≢false (sym s.0 ∙ n))
 step_alone e n fresh inside strings w rest b c cs s h u = absurd (true≢false (sym s.0 ∙ n))
 step_alone e n fresh inside (operator o) w rest b c cs s h u = absurd (true≢false (sym s.0 ∙ n))
 step_alone e n at_dash inside dash w rest b c cs s h u = alone_by b.held [] c cs refl u (record { it = b; held_is = refl; are = Some-inj h })
 step_alone e n at_high inside (high k v) w rest b c cs s h u =
-    let g = holding_is b [] false (ranged b.held) (c ∷ cs) (where_true_is (nat_le b.low_end v && nat_le v 0x10FFFF) (holding b [] false (ranged b.held)) (c ∷ cs) h) in
+    let g = holding_is b [] false (with_range b.held) (c ∷ cs) (where_true_is (nat_le b.low_end v && nat_le v 0x10FFFF) (add_thing b [] false (with_range b.held)) (c ∷ cs) h) in
     alone_by g.held [] c cs refl (ap is_union (ranged_several b.held g.held g.is)) g.holds
 step_alone e n at_second inside (item a) w rest b c cs s h u =
-    alone_operand b c cs u (holding_is b [] (atom_may a) (operand b.held) (c ∷ cs) (where_true_is (atom_obeys a) (holding b [] (atom_may a) (operand b.held)) (c ∷ cs) h))
+    alone_operand b c cs u (holding_is b [] (atom_may a) (operand b.held) (c ∷ cs) (where_true_is (atom_obeys a) (add_thing b [] (atom_may a) (operand b.held)) (c ∷ cs) h))
 step_alone e n at_third inside (item a) w rest b c cs s h u =
-    alone_operand b c cs u (holding_is b [] (atom_may a) (operand b.held) (c ∷ cs) (where_true_is (atom_obeys a) (holding b [] (atom_may a) (operand b.held)) (c ∷ cs) h))
+    alone_operand b c cs u (holding_is b [] (atom_may a) (operand b.held) (c ∷ cs) (where_true_is (atom_obeys a) (add_thing b [] (atom_may a) (operand b.held)) (c ∷ cs) h))
 step_alone e n (after_operator o) inside t w rest b c cs s h u = absurd (true≢false (sym s.0 ∙ n))
 step_alone e n in_strings inside t w rest b c cs s h u = absurd (true≢false (sym s.0 ∙ n))
 step_alone e n q inside t w rest b c cs s h u = absurd s
@@ -220,7 +220,7 @@ row_alone e n (t ∷ ts) q inside us r rest b c cs row run u =
     row_alone e n ts (next_place e.mode q t row.1) (after_inside e.mode q t row.1) row.1 r rest s.inner c cs row.4 (ap (λ outer. class_run ts (s.inner ∷ outer)) (sym a.alone) ∙ s.others) a.union
 
 pub opened_union : (e : Environment) → is_sets e.mode ≡ false → (ts : List ClassToken) (us : List CodePoint) (r : Place) (rest : List CodePoint) (c : Bracket) (cs : Brackets) → ClassTokenRow e ts outside us r rest →
-    class_opened ts ≡ Some (c ∷ cs) → is_union c.held ≡ true
+    class_run_from_start ts ≡ Some (c ∷ cs) → is_union c.held ≡ true
 opened_union e n [] us r rest c cs row h = absurd (let no : ⊥ = cc h in no)
 opened_union e n ((bracket negative) ∷ ts) us r rest c cs row h = (row_alone e n ts fresh (λ no. cc no) row.1 r rest (bracket_of negative empty false) c cs row.4 h refl).union
 opened_union e n (t ∷ ts) us r rest c cs row h = absurd (let no : ⊥ = cc h in no)
@@ -270,15 +270,15 @@ where_true_in false o cs h p = absurd (let no : ⊥ = cc h in no)
 abbrev around : Brackets → Brackets → Option Brackets
 around bs outer = Some (bs ++ outer)
 
-holding_in : (r : Bracket) (bs outer : Brackets) (may : Bool) (o : Option Held) (cs : Brackets) → holding r bs may o ≡ Some cs → holding r (bs ++ outer) may o ≡ around cs outer
+holding_in : (r : Bracket) (bs outer : Brackets) (may : Bool) (o : Option Held) (cs : Brackets) → add_thing r bs may o ≡ Some cs → add_thing r (bs ++ outer) may o ≡ around cs outer
 holding_in r bs outer may None cs h = absurd (let no : ⊥ = cc h in no)
 holding_in r bs outer may (Some held) cs h = ap (λ cs. around cs outer) (Some-inj h)
 
-held_on_in : (r : Bracket) (bs outer : Brackets) (o : Option Held) (cs : Brackets) → held_on r bs o ≡ Some cs → held_on r (bs ++ outer) o ≡ around cs outer
+held_on_in : (r : Bracket) (bs outer : Brackets) (o : Option Held) (cs : Brackets) → add_operator r bs o ≡ Some cs → add_operator r (bs ++ outer) o ≡ around cs outer
 held_on_in r bs outer None cs h = absurd (let no : ⊥ = cc h in no)
 held_on_in r bs outer (Some held) cs h = ap (λ cs. around cs outer) (Some-inj h)
 
-closed_in : (may close : Bool) (bs outer : Brackets) (m : Bracket) (ms : Brackets) → closed may close bs ≡ Some (m ∷ ms) → closed may close (bs ++ outer) ≡ around (m ∷ ms) outer
+closed_in : (may close : Bool) (bs outer : Brackets) (m : Bracket) (ms : Brackets) → after_closer may close bs ≡ Some (m ∷ ms) → after_closer may close (bs ++ outer) ≡ around (m ∷ ms) outer
 closed_in may false bs outer m ms h = absurd (let no : ⊥ = cc h in no)
 closed_in may true [] outer m ms h = absurd (let no : ⊥ = cc h in no)
 closed_in may true (r ∷ bs) outer m ms h = holding_in r bs outer may (operand r.held) (m ∷ ms) h
@@ -289,15 +289,15 @@ step_in (bracket negative) b bs outer m ms h =
     where_may_in (operand b.held) (inner ∷ b ∷ bs) (m ∷ ms) h (inner ∷ b ∷ (bs ++ outer)) ∙ ap (λ cs. around cs outer) (where_may_is (operand b.held) (inner ∷ b ∷ bs) (m ∷ ms) h)
 step_in closer b bs outer m ms h = closed_in b.may (may_close b) bs outer m ms h
 step_in (item a) b bs outer m ms h =
-    where_true_in (atom_obeys a) (holding b bs (atom_may a) (operand b.held)) (m ∷ ms) h (holding b (bs ++ outer) (atom_may a) (operand b.held))
-    ∙ holding_in b bs outer (atom_may a) (operand b.held) (m ∷ ms) (where_true_is (atom_obeys a) (holding b bs (atom_may a) (operand b.held)) (m ∷ ms) h)
+    where_true_in (atom_obeys a) (add_thing b bs (atom_may a) (operand b.held)) (m ∷ ms) h (add_thing b (bs ++ outer) (atom_may a) (operand b.held))
+    ∙ holding_in b bs outer (atom_may a) (operand b.held) (m ∷ ms) (where_true_is (atom_obeys a) (add_thing b bs (atom_may a) (operand b.held)) (m ∷ ms) h)
 step_in (low k v) b bs outer m ms h =
-    where_may_in (ranged b.held) (record b { low_end = v } ∷ bs) (m ∷ ms) h (record b { low_end = v } ∷ (bs ++ outer))
-    ∙ ap (λ cs. around cs outer) (where_may_is (ranged b.held) (record b { low_end = v } ∷ bs) (m ∷ ms) h)
+    where_may_in (with_range b.held) (record b { low_end = v } ∷ bs) (m ∷ ms) h (record b { low_end = v } ∷ (bs ++ outer))
+    ∙ ap (λ cs. around cs outer) (where_may_is (with_range b.held) (record b { low_end = v } ∷ bs) (m ∷ ms) h)
 step_in dash b bs outer m ms h = ap (λ cs. around cs outer) (Some-inj h)
 step_in (high k v) b bs outer m ms h =
-    where_true_in (nat_le b.low_end v && nat_le v 0x10FFFF) (holding b bs false (ranged b.held)) (m ∷ ms) h (holding b (bs ++ outer) false (ranged b.held))
-    ∙ holding_in b bs outer false (ranged b.held) (m ∷ ms) (where_true_is (nat_le b.low_end v && nat_le v 0x10FFFF) (holding b bs false (ranged b.held)) (m ∷ ms) h)
+    where_true_in (nat_le b.low_end v && nat_le v 0x10FFFF) (add_thing b bs false (with_range b.held)) (m ∷ ms) h (add_thing b (bs ++ outer) false (with_range b.held))
+    ∙ holding_in b bs outer false (with_range b.held) (m ∷ ms) (where_true_is (nat_le b.low_end v && nat_le v 0x10FFFF) (add_thing b bs false (with_range b.held)) (m ∷ ms) h)
 step_in (operator o) b bs outer m ms h = held_on_in b bs outer (with_operator o b.held) (m ∷ ms) h
 step_in strings b bs outer m ms h =
     where_may_in (operand b.held) (record b { count = 0; any = false } ∷ bs) (m ∷ ms) h (record b { count = 0; any = false } ∷ (bs ++ outer))
@@ -323,16 +323,16 @@ none_true false = refl
 
 pub none_follows : (t : ClassToken) (r : Bracket) (outer : Brackets) → may_follow r.held t ≡ false → class_step t (r ∷ outer) ≡ None
 none_follows (bracket negative) r outer h = ap (λ o. where_may o (bracket_of negative empty false ∷ r ∷ outer)) (is_none (operand r.held) h)
-none_follows closer r outer h = ap (λ b. closed r.may b outer) (not_whole r h)
-none_follows (item a) r outer h = ap (λ o. where_true (atom_obeys a) (holding r outer (atom_may a) o)) (is_none (operand r.held) h) ∙ none_true (atom_obeys a)
-none_follows (low k v) r outer h = ap (λ o. where_may o (record r { low_end = v } ∷ outer)) (is_none (ranged r.held) h)
+none_follows closer r outer h = ap (λ b. after_closer r.may b outer) (not_whole r h)
+none_follows (item a) r outer h = ap (λ o. where_true (atom_obeys a) (add_thing r outer (atom_may a) o)) (is_none (operand r.held) h) ∙ none_true (atom_obeys a)
+none_follows (low k v) r outer h = ap (λ o. where_may o (record r { low_end = v } ∷ outer)) (is_none (with_range r.held) h)
 none_follows dash r outer h = absurd (true≢false h)
-none_follows (high k v) r outer h = ap (λ o. where_true (nat_le r.low_end v && nat_le v 0x10FFFF) (holding r outer false o)) (is_none (ranged r.held) h) ∙ none_true (nat_le r.low_end v && nat_le v 0x10FFFF)
-none_follows (operator o) r outer h = ap (held_on r outer) (is_none (with_operator o r.held) h)
+none_follows (high k v) r outer h = ap (λ o. where_true (nat_le r.low_end v && nat_le v 0x10FFFF) (add_thing r outer false o)) (is_none (with_range r.held) h) ∙ none_true (nat_le r.low_end v && nat_le v 0x10FFFF)
+none_follows (operator o) r outer h = ap (add_operator r outer) (is_none (with_operator o r.held) h)
 none_follows strings r outer h = ap (λ o. where_may o (record r { count = 0; any = false } ∷ outer)) (is_none (operand r.held) h)
 none_follows (letter k v) r outer h = absurd (true≢false h)
 none_follows string_bar r outer h = absurd (true≢false h)
-none_follows strings_end r outer h = ap (holding r outer (any_string r)) (is_none (operand r.held) h)
+none_follows strings_end r outer h = ap (add_thing r outer (any_string r)) (is_none (operand r.held) h)
 
 pub row_shorter : (e : Environment) (ts : List ClassToken) (q : Place) (us : List CodePoint) (r : Place) (rest : List CodePoint) → ClassTokenRow e ts q us r rest → length rest ≤ length us
 row_shorter e [] q us r rest h = omega (arith, ap length h.1)

@@ -15,7 +15,7 @@ use Rattle.rx_model.specs.Refusals.ClassCauses.{StandsRange}
 use Rattle.rx_model.specs.Refusals.ClassPlaces.{begins_item}
 use Rattle.rx_model.specs.Classes.ClassFronts.{atom_at, atom_read, no_atom}
 use Rattle.rx_model.specs.Classes.ClassRows.{next_place, ClassTokenRow, Place, SpellsAtom, SpellsBracket, SpellsClassCharacter, SpellsInClass, SpellsOperand, at_dash, at_high, at_second, at_third, after_operator, fresh, has_threes, in_strings, is_dashed, outside}
-use Rattle.rx_model.specs.Classes.ClassRuns.{Bracket, Brackets, Held, atom_may, after_step, class_run, class_step, closed, holding, is_union, may_close, operand, ranged, where_may, where_true}
+use Rattle.rx_model.specs.Classes.ClassRuns.{Bracket, Brackets, Held, atom_may, after_step, class_run, class_step, after_closer, add_thing, is_union, may_close, operand, with_range, where_may, where_true}
 use Rattle.rx_model.specs.Classes.ClassTokens.{Atom, character, escape, property, is_character, ClassToken, bracket, closer, item, low, dash, high, operator, strings, letter, string_bar, strings_end}
 use Rattle.rx_model.specs.Inputs.Environment.{Environment, is_sets, is_unicode}
 use Rattle.rx_model.specs.FirstPass.Marks.{starts}
@@ -181,7 +181,7 @@ module _ (mode : Mode) (us : List CodePoint) (start added : ℕ) where
 
       of_atom : (a : Atom) → (t ≡ item a) ⊎ (is_character a ≡ true) → IsNoItem a → class_step t (inner ∷ outer) ≡ None
       of_atom a (inl is) n =
-          ap (λ t. class_step t (inner ∷ outer)) is ∙ ap (λ b. where_true b (holding inner outer (atom_may a) (operand inner.held))) n.not_obeying
+          ap (λ t. class_step t (inner ∷ outer)) is ∙ ap (λ b. where_true b (add_thing inner outer (atom_may a) (operand inner.held))) n.not_obeying
       of_atom a (inr is) n = absurd (true≢false (sym is ∙ n.no_character))
 
       by : Spelled here t w more → class_step t (inner ∷ outer) ≡ None
@@ -196,7 +196,7 @@ module _ (mode : Mode) (us : List CodePoint) (start added : ℕ) where
   closer_dead at inner outer rest v between h close t w more whole s = by (spelled_there here at t w more between s)
     where
       by : Spelled here t w more → class_step t (inner ∷ outer) ≡ None
-      by (closes is k) = ap (λ t. class_step t (inner ∷ outer)) is ∙ ap (λ b. closed inner.may b outer) close
+      by (closes is k) = ap (λ t. class_step t (inner ∷ outer)) is ∙ ap (λ b. after_closer inner.may b outer) close
       by (by_atom a is s) = let b = atom_begins here a w more s in absurd (true≢false (ap (λ c. c == 93) (atom_unit mode rest w more 93 v h whole b) ∙ b.no_closer))
       by (by_strings sets k) = absurd (true≢false (ap (λ c. c == 93) (same_unit rest w more 93 92 v (113 ∷ 123 ∷ []) h whole k)))
       by (by_less sets k) = absurd (true≢false (ap (λ c. c == 93) (same_unit rest w more 93 45 v (45 ∷ []) h whole k)))
@@ -300,16 +300,16 @@ module _ (mode : Mode) (us : List CodePoint) (start added : ℕ) where
 
   -- A range whose end is below its start is not allowed.
   no_range : (inner : Bracket) (outer : Brackets) (k j : CharacterKind) (v x : ℕ) (ts : List ClassToken) (after : Brackets) → x < v → class_run (low k v ∷ dash ∷ high j x ∷ ts) (inner ∷ outer) ≡ Some after → ⊥
-  no_range inner outer k j v x ts after below h = by (ranged inner.held) refl
+  no_range inner outer k j v x ts after below h = by (with_range inner.held) refl
     where
-      by : (o : Option Held) → ranged inner.held ≡ o → ⊥
+      by : (o : Option Held) → with_range inner.held ≡ o → ⊥
       by None f =
           let no : None ≡ Some after = ap (λ o. after_step (where_may o (record inner { low_end = v } ∷ outer)) (λ bs. class_run (dash ∷ high j x ∷ ts) bs)) (sym f) ∙ h in cc no
       by (Some held) f =
           let low_is : class_run (dash ∷ high j x ∷ ts) (record inner { low_end = v } ∷ outer) ≡ Some after =
           ap (λ o. after_step (where_may o (record inner { low_end = v } ∷ outer)) (λ bs. class_run (dash ∷ high j x ∷ ts) bs)) (sym f) ∙ h in
           let no : None ≡ Some after =
-          ap (λ b. after_step (where_true (b && nat_le x 0x10FFFF) (holding (record inner { low_end = v }) outer false (ranged inner.held))) (λ bs. class_run ts bs)) (sym (not_below v x below)) ∙ low_is in
+          ap (λ b. after_step (where_true (b && nat_le x 0x10FFFF) (add_thing (record inner { low_end = v }) outer false (with_range inner.held))) (λ bs. class_run ts bs)) (sym (not_below v x below)) ∙ low_is in
           cc no
 
   -- The low end of a range is spelled before the others.

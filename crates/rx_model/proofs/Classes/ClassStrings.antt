@@ -4,7 +4,7 @@ use Rattle.rx_ast.specs.declared.leaf.Character.{Character}
 use Rattle.rx_ast.specs.declared.class.ClassString.{ClassString}
 use Rattle.rx_units.specs.declared.code_point.CodePoint.{CodePoint}
 use Rattle.rx_units.specs.Units.{values}
-use Rattle.rx_model.specs.Classes.ClassBuilds.{character_of, string_of}
+use Rattle.rx_model.specs.Classes.ClassFromTokens.{character_of, string_of}
 use Rattle.rx_model.specs.Classes.ClassFronts.{atom_at, atom_read, no_atom}
 use Rattle.rx_model.specs.Classes.ClassRows.{SpellsClassCharacter}
 use Rattle.rx_model.specs.Classes.ClassStrings.{IsStringEnd, IsDisjunctionEnd, StringRow, SpellsBarredString, SpellsSetCharacter, of_bar, of_character}

@@ -8,7 +8,7 @@ use Rattle.rx_model.specs.declared.mode.Mode.{Mode}
 use Rattle.rx_model.specs.declared.mode.Mode.TheVariants.{Sets}
 use Rattle.rx_model.specs.Classes.ClassRows.{IsClass}
 use Rattle.rx_base.specs.declared.diagnostic.kinds.SetOperator.TheVariants.{Intersection, Subtraction}
-use Rattle.rx_model.specs.Classes.ClassRuns.{Held, empty, single, several, pending, joined, Bracket, Brackets, atom_may, atom_obeys, after_step, bracket_of, class_opened, class_run, class_step, holding, operand, ranged, where_may, where_true, with_strings}
+use Rattle.rx_model.specs.Classes.ClassRuns.{Held, empty, single, several, pending, joined, Bracket, Brackets, atom_may, atom_obeys, after_step, bracket_of, class_run_from_start, class_run, class_step, add_thing, operand, with_range, where_may, where_true, with_strings}
 use Rattle.rx_model.specs.Classes.ClassTokens.{Atom, ClassToken, bracket, item, low, dash, high, class_tokens}
 use Rattle.rx_model.specs.Trees.Early.{IsEarlyClass}
 use Rattle.rx_model.specs.Inputs.Environment.{Environment}
@@ -35,7 +35,7 @@ one_operand single u = record { held = several; union = tt; is = refl }
 one_operand several u = record { held = several; union = tt; is = refl }
 one_operand held u = absurd u
 
-one_range : (held : Held) → IsUnion held → Grows (ranged held)
+one_range : (held : Held) → IsUnion held → Grows (with_range held)
 one_range empty u = record { held = several; union = tt; is = refl }
 one_range single u = record { held = several; union = tt; is = refl }
 one_range several u = record { held = several; union = tt; is = refl }
@@ -51,9 +51,9 @@ without_strings (joined o) = refl
 
 -- A bracket without strings, around a union, holds one thing more.
 holds_more : (negative : Bool) (held : Held) (v : ℕ) (more : Option Held) (g : Grows more) →
-    holding (record (bracket_of negative held false) { low_end = v }) [] false more ≡ Some (bracket_of negative g.held false ∷ [])
+    add_thing (record (bracket_of negative held false) { low_end = v }) [] false more ≡ Some (bracket_of negative g.held false ∷ [])
 holds_more negative held v more g =
-    ap (holding (record (bracket_of negative held false) { low_end = v }) [] false) g.is ∙ ap (λ may. Some (bracket_of negative g.held may ∷ [])) (without_strings held)
+    ap (add_thing (record (bracket_of negative held false) { low_end = v }) [] false) g.is ∙ ap (λ may. Some (bracket_of negative g.held may ∷ [])) (without_strings held)
 
 -- After these tokens the bracket is around a union still.
 abbrev pub Runs : Bool → Held → List ClassToken → List ClassToken → Type 0
@@ -67,7 +67,7 @@ atom_runs negative held a ss u obeys may =
       g.held,
       g.union,
       ap (λ after. after_step after (λ brackets. class_run ss brackets))
-          (ap (λ b. where_true b (holding r [] (atom_may a) (operand held))) obeys ∙ ap (λ may. holding r [] may (operand held)) may ∙ holds_more negative held 0 (operand held) g),
+          (ap (λ b. where_true b (add_thing r [] (atom_may a) (operand held))) obeys ∙ ap (λ may. add_thing r [] may (operand held)) may ∙ holds_more negative held 0 (operand held) g),
     )
 
 pub range_runs : (negative : Bool) (held : Held) (k : CharacterKind) (v : ℕ) (j : CharacterKind) (x : ℕ) (ss : List ClassToken) → IsUnion held → v ≤ x → x ≤ 0x10FFFF →
@@ -79,8 +79,8 @@ range_runs negative held k v j x ss u order small =
       g.union,
       ap (λ more. after_step (where_may more (r ∷ [])) (λ brackets. class_run (dash ∷ high j x ∷ ss) brackets)) g.is
           ∙ ap (λ after. after_step after (λ brackets. class_run ss brackets))
-          (ap (λ b. where_true b (holding r [] false (ranged held))) (and_from (nat_le v x) (nat_le x 0x10FFFF) (le-leb v x order) (le-leb x 0x10FFFF small))
-          ∙ holds_more negative held v (ranged held) g),
+          (ap (λ b. where_true b (add_thing r [] false (with_range held))) (and_from (nat_le v x) (nat_le x 0x10FFFF) (le-leb v x order) (le-leb x 0x10FFFF small))
+          ∙ holds_more negative held v (with_range held) g),
     )
 
 pub property_obeys : (negative may : Bool) → (negative && may) ≡ false → not (negative && may) ≡ true
@@ -97,7 +97,7 @@ class_run-append (t ∷ ts) ss bs cs h = go (λ after. class_run-append ts ss af
         ap (λ o. after_step o (λ after. class_run (ts ++ ss) after)) e
         ∙ again after (ap (λ o. after_step o (λ after. class_run ts after)) (sym e) ∙ h)
 
-pub class_opened-append : (ts ss : List ClassToken) (cs : Brackets) → class_opened ts ≡ Some cs → class_opened (ts ++ ss) ≡ class_run ss cs
+pub class_opened-append : (ts ss : List ClassToken) (cs : Brackets) → class_run_from_start ts ≡ Some cs → class_run_from_start (ts ++ ss) ≡ class_run ss cs
 class_opened-append [] ss cs h = absurd (let no : ⊥ = cc h in no)
 class_opened-append ((bracket negative) ∷ ts) ss cs h = class_run-append ts ss (bracket_of negative empty false ∷ []) cs h
 class_opened-append (t ∷ ts) ss cs h = absurd (let no : ⊥ = cc h in no)
@@ -110,5 +110,5 @@ only_sets mode no_sets _ _ _ _ (spelled.binary no_category known) = refl
 only_sets mode no_sets _ _ _ _ (spelled.of_strings sets no_category no_binary known) = absurd (no_sets sets)
 
 -- A class that is spelled and free of early errors closes.
-pub whole_class : (e : Environment) (c : Class) (w rest : List CodePoint) → IsClass e c w rest → IsEarlyClass c → class_opened (class_tokens c) ≡ Some []
+pub whole_class : (e : Environment) (c : Class) (w rest : List CodePoint) → IsClass e c w rest → IsEarlyClass c → class_run_from_start (class_tokens c) ≡ Some []
 whole_class e c w rest is early = early_closes c is.shape.0 early

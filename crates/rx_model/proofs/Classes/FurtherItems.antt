@@ -16,7 +16,7 @@ use Rattle.rx_model.specs.declared.mode.Mode.{Mode}
 use Rattle.rx_model.specs.declared.mode.Mode.TheVariants.{Legacy}
 use Rattle.rx_model.specs.Classes.ClassFronts.{TokenRead, class_token_at}
 use Rattle.rx_model.specs.Classes.ClassRows.{BeforeHigh, BeforeThird, ClassTokenRow, IsClass, Place, SpellsAtom, SpellsClassCharacter, SpellsInClass, StandsBefore, at_dash, at_high, at_second, at_third, next_place, following_item, after_operator, fresh, has_threes, in_strings, is_dashed, outside}
-use Rattle.rx_model.specs.Classes.ClassRuns.{Bracket, Brackets, Held, empty, single, several, any_string, atom_may, atom_obeys, after_step, bracket_of, class_run, class_step, closed, held_on, holding, is_union, is_whole, with_operator, may_close, may_follow, operand, ranged, takes_operand, where_may, where_true, with_strings}
+use Rattle.rx_model.specs.Classes.ClassRuns.{Bracket, Brackets, Held, empty, single, several, any_string, atom_may, atom_obeys, after_step, bracket_of, class_run, class_step, after_closer, add_operator, add_thing, is_union, is_whole, with_operator, may_close, may_follow, operand, with_range, takes_operand, where_may, where_true, with_strings}
 use Rattle.rx_model.specs.Classes.ClassTokens.{Atom, ClassToken, bracket, character, closer, dash, escape, high, item, operator, letter, low, property, string_bar, strings, strings_end}
 use Rattle.rx_model.specs.FirstPass.Marks.{starts}
 use Rattle.rx_model.specs.Inputs.Environment.{Environment, is_sets, is_unicode}
@@ -44,7 +44,7 @@ threes_legacy Legacy h = (refl, refl)
 threes_legacy mode h = absurd (true≢false (sym h))
 
 -- A range stands in a union alone; a union takes an operand and is one still.
-pub ranged_union : (h k : Held) → ranged h ≡ Some k → is_union h ≡ true
+pub ranged_union : (h k : Held) → with_range h ≡ Some k → is_union h ≡ true
 ranged_union empty k e = refl
 ranged_union single k e = refl
 ranged_union several k e = refl
@@ -61,7 +61,7 @@ abbrev item_in : Bracket → Held → Atom → Bracket
 item_in r held a = bracket_of r.negative held (with_strings r.held r.may (atom_may a))
 
 item_step : (a : Atom) (r : Bracket) (outer : Brackets) (held : Held) → atom_obeys a ≡ true → operand r.held ≡ Some held → class_step (item a) (r ∷ outer) ≡ Some (item_in r held a ∷ outer)
-item_step a r outer held obeys e = ap (λ b. where_true b (holding r outer (atom_may a) (operand r.held))) obeys ∙ ap (holding r outer (atom_may a)) e
+item_step a r outer held obeys e = ap (λ b. where_true b (add_thing r outer (atom_may a) (operand r.held))) obeys ∙ ap (add_thing r outer (atom_may a)) e
 
 abbrev on : List ClassToken → Option Brackets → Option Brackets
 on ts o = after_step o (λ bs. class_run ts bs)
@@ -75,13 +75,13 @@ three_run a b c r outer union first second third =
     let two = item_in one k.0 b in
     (item_in two l.0 c, ap (on (item b ∷ item c ∷ [])) (item_step a r outer h.0 first h.1) ∙ ap (on (item c ∷ [])) (item_step b one outer k.0 second k.1) ∙ ap (on []) (item_step c two outer l.0 third l.1))
 
-range_run : (k j : CharacterKind) (v x : ℕ) (r : Bracket) (outer : Brackets) (held : Held) → ranged r.held ≡ Some held → nat_le v x ≡ true → nat_le x 0x10FFFF ≡ true →
+range_run : (k j : CharacterKind) (v x : ℕ) (r : Bracket) (outer : Brackets) (held : Held) → with_range r.held ≡ Some held → nat_le v x ≡ true → nat_le x 0x10FFFF ≡ true →
     (m : Bracket) × (class_run (low k v ∷ dash ∷ high j x ∷ []) (r ∷ outer) ≡ Some (m ∷ outer))
 range_run k j v x r outer held e order small =
     let b : Bracket = record r { low_end = v } in (
       bracket_of r.negative held (with_strings r.held r.may false),
       ap (λ o. on (dash ∷ high j x ∷ []) (where_may o (b ∷ outer))) e
-          ∙ ap (on []) (ap (λ t. where_true t (holding b outer false (ranged r.held))) (and_from (nat_le v x) (nat_le x 0x10FFFF) order small) ∙ ap (holding b outer false) e),
+          ∙ ap (on []) (ap (λ t. where_true t (add_thing b outer false (with_range r.held))) (and_from (nat_le v x) (nat_le x 0x10FFFF) order small) ∙ ap (add_thing b outer false) e),
     )
 
 module _ (mode : Mode) (us : List CodePoint) (start added from : ℕ) (at_class : List CodePoint) where
@@ -241,7 +241,7 @@ module _ (mode : Mode) (us : List CodePoint) (start added from : ℕ) (at_class 
           (w, more, whole, s, subst (λ q. ClassTokenRow here (item middle ∷ item b.third ∷ []) q more fresh b.more) (sym second_is) others) run.1
 
       -- a range
-      range_on : (k : CharacterKind) (v : ℕ) → SpellsInClass here i.at (low k v) w more → SpellsClassCharacter here k v w more → (b : BeforeHigh here more) → (o : Option Held) → ranged i.inner.held ≡ o → StandsClass ⊎ Refused
+      range_on : (k : CharacterKind) (v : ℕ) → SpellsInClass here i.at (low k v) w more → SpellsClassCharacter here k v w more → (b : BeforeHigh here more) → (o : Option Held) → with_range i.inner.held ≡ o → StandsClass ⊎ Refused
       range_on k v s t b None e = token_stuck i small again (low k v) w more whole s (ap is_some e)
       range_on k v s t b (Some held) e = elim (cases_Bool (nat_le v b.value)) [ inl o ↦ ordered o | inr o ↦ inr (disordered o) ]
         where
@@ -308,7 +308,7 @@ module _ (mode : Mode) (us : List CodePoint) (start added from : ℕ) (at_class 
           closed_by : may_close i.inner ≡ true → (outer : Brackets) → i.outer ≡ outer → StandsClass ⊎ Refused
           closed_by close [] none =
               let row = class_row_append here i.tokens (closer ∷ []) outside at_class i.at rest fresh more i.row (w, more, whole, s, (refl, refl)) in
-              let ended : class_step closer (i.inner ∷ i.outer) ≡ Some [] = ap₂ (closed i.inner.may) close none in
+              let ended : class_step closer (i.inner ∷ i.outer) ≡ Some [] = ap₂ (after_closer i.inner.may) close none in
               let c = closed_class here (i.tokens ++ (closer ∷ [])) at_class more row (class_opened-append i.tokens (closer ∷ []) (i.inner ∷ i.outer) i.accepted ∙ ap (on []) ended) in
               inl (c.it, c.w, more, c.whole, c.spelled, c.early)
           closed_by close (r ∷ outer) some =
@@ -318,7 +318,7 @@ module _ (mode : Mode) (us : List CodePoint) (start added from : ℕ) (at_class 
               held_by : (o : Option Held) → operand r.held ≡ o → is_some (operand r.held) ≡ true → StandsClass ⊎ Refused
               held_by None e takes = absurd (true≢false (sym takes ∙ ap is_some e))
               held_by (Some held) e takes =
-                  one_on i small again closer w more whole s (bracket_of r.negative held (with_strings r.held r.may i.inner.may)) outer refl (ap₂ (closed i.inner.may) close some ∙ ap (holding r outer i.inner.may) e)
+                  one_on i small again closer w more whole s (bracket_of r.negative held (with_strings r.held r.may i.inner.may)) outer refl (ap₂ (after_closer i.inner.may) close some ∙ ap (add_thing r outer i.inner.may) e)
 
           closes_bracket : may_close i.inner ≡ true → StandsClass ⊎ Refused
           closes_bracket close = closed_by close i.outer refl
@@ -331,7 +331,7 @@ module _ (mode : Mode) (us : List CodePoint) (start added from : ℕ) (at_class 
 
       operator_on : (p : SetOperator) → SpellsInClass here i.at (operator p) w more → (o : Option Held) → with_operator p i.inner.held ≡ o → StandsClass ⊎ Refused
       operator_on p s None e = token_stuck i small again (operator p) w more whole s (ap is_some e)
-      operator_on p s (Some held) e = one_on i small again (operator p) w more whole s (bracket_of i.inner.negative held i.inner.may) i.outer refl (ap (held_on i.inner i.outer) e)
+      operator_on p s (Some held) e = one_on i small again (operator p) w more whole s (bracket_of i.inner.negative held i.inner.may) i.outer refl (ap (add_operator i.inner i.outer) e)
 
     -- A place in class strings, of a bracket that takes an operand.
     record InStrings (opener place : ℕ) (rest : List CodePoint) : Type 0 where
@@ -368,7 +368,7 @@ module _ (mode : Mode) (us : List CodePoint) (start added from : ℕ) (at_class 
           let i = q.item_place in
           let ts : List ClassToken = strings ∷ (q.inside ++ (strings_end ∷ [])) in
           let row = class_row_append here (strings ∷ q.inside) (strings_end ∷ []) i.at q.at_strings in_strings rest fresh more q.row (w, more, whole, s, (refl, refl)) in
-          let run = class_run-append (strings ∷ q.inside) (strings_end ∷ []) (i.inner ∷ i.outer) (q.inner ∷ q.outer) q.accepted ∙ ap (on []) (ap (holding q.inner q.outer (any_string q.inner)) e) in
+          let run = class_run-append (strings ∷ q.inside) (strings_end ∷ []) (i.inner ∷ i.outer) (q.inner ∷ q.outer) q.accepted ∙ ap (on []) (ap (add_thing q.inner q.outer (any_string q.inner)) e) in
           again (place + length w) more (omega (arith, token_some here in_strings strings_end w more s, ap length whole, length-append w more)) (small_back w more (subst AreSmall whole small)) (record {
             tokens = i.tokens ++ ts;
             at = fresh;
@@ -428,7 +428,7 @@ module _ (mode : Mode) (us : List CodePoint) (start added from : ℕ) (at_class 
     token_on i small again closer w more whole s (closes is) = closer_on i small again w more whole s is
     token_on i small again _ w more whole s (one a t is) = atom_on i small again w more whole a s t is (operand i.inner.held) refl
     token_on i small again _ w more whole s (first a t is b) = three_on i small again w more whole a s t is b
-    token_on i small again _ w more whole s (begins_range k v t d b) = range_on i small again w more whole k v s t b (ranged i.inner.held) refl
+    token_on i small again _ w more whole s (begins_range k v t d b) = range_on i small again w more whole k v s t b (with_range i.inner.held) refl
     token_on i small again _ w more whole s (opens negative) = bracket_on i small again w more whole negative s (operand i.inner.held) refl
     token_on i small again _ w more whole s opens_strings = strings_on i small again w more whole s (operand i.inner.held) refl
     token_on i small again _ w more whole s (joins o) = operator_on i small again w more whole o s (with_operator o i.inner.held) refl

@@ -10,7 +10,7 @@ use Rattle.rx_units.specs.declared.code_point.CodePoint.{CodePoint}
 use Rattle.rx_units.specs.Units.{values}
 use Rattle.rx_model.specs.declared.mode.Mode.{Mode}
 use Rattle.rx_model.specs.Classes.ClassRows.{ClassTokenRow, Place, SpellsAtom, SpellsInClass, outside, fresh, after_operator, in_strings}
-use Rattle.rx_model.specs.Classes.ClassRuns.{Held, class_opened, is_whole, takes_operand}
+use Rattle.rx_model.specs.Classes.ClassRuns.{Held, class_run_from_start, is_whole, takes_operand}
 use Rattle.rx_model.specs.Classes.ClassTokens.{Atom, character, closer, item, low, strings, is_character}
 use Rattle.rx_model.specs.Inputs.Environment.{Environment, is_sets}
 use Rattle.rx_model.specs.FirstPass.Marks.{starts}
@@ -115,7 +115,7 @@ module _ (mode : Mode) (us : List CodePoint) (start added from : ℕ) (at_class 
           let x = stuck mode us start added from at_class f d c in
           no_more f d (subst (λ s. Fault mode us start added from at_class s f d) (same_state mode us start added from at_class x.state s x.is_stuck is_stuck) x.fault)
 
-  pub silent_is_first : (s : State) → ClassTokenRow here s.tokens outside at_class s.at s.rest → class_opened s.tokens ≡ Some (s.inner ∷ s.outer) → from + length at_class ≡ s.place + length s.rest → is_between s.at ≡ true →
+  pub silent_is_first : (s : State) → ClassTokenRow here s.tokens outside at_class s.at s.rest → class_run_from_start s.tokens ≡ Some (s.inner ∷ s.outer) → from + length at_class ≡ s.place + length s.rest → is_between s.at ≡ true →
       IsSilent s → (f : ℕ) (d : Diagnostic) → IsClassCause mode us start added from at_class f d → IsFirstInClass mode us start added from at_class d
   silent_is_first s row accepted place_is between silent =
       first_where_none s record {

@@ -15,7 +15,7 @@ use Rattle.rx_model.specs.declared.mode.Mode.{Mode}
 use Rattle.rx_model.specs.Refusals.ClassCauses.{of_negative, unterminated}
 use Rattle.rx_model.specs.Refusals.ClassPlaces.{IsOfStrings, begins_item}
 use Rattle.rx_model.specs.Classes.ClassRows.{ClassTokenRow, Place, SpellsAtom, outside, fresh, at_dash, at_high, at_second, at_third, after_operator, in_strings}
-use Rattle.rx_model.specs.Classes.ClassRuns.{Bracket, Brackets, Held, empty, single, several, after_step, bracket_of, class_opened, class_run, class_step, is_union, operand, operator_of, where_may}
+use Rattle.rx_model.specs.Classes.ClassRuns.{Bracket, Brackets, Held, empty, single, several, after_step, bracket_of, class_run_from_start, class_run, class_step, is_union, operand, operator_of, where_may}
 use Rattle.rx_model.specs.Classes.ClassTokens.{Atom, ClassToken, bracket, strings, is_character}
 use Rattle.rx_model.specs.Inputs.Environment.{Environment, is_sets}
 use Rattle.rx_model.specs.FirstPass.Marks.{starts}
@@ -65,7 +65,7 @@ abbrev pub some_brackets : Brackets → Option Brackets
 some_brackets bs = Some bs
 
 -- A bracket that opens in others does not stand alone.
-not_alone : (ts : List ClassToken) (bs : Brackets) (b c : Bracket) → class_opened ts ≡ Some (b ∷ []) → class_run ts bs ≡ Some (c ∷ []) → ⊥
+not_alone : (ts : List ClassToken) (bs : Brackets) (b c : Bracket) → class_run_from_start ts ≡ Some (b ∷ []) → class_run ts bs ≡ Some (c ∷ []) → ⊥
 not_alone [] bs b c h run = cc h
 not_alone ((bracket negative) ∷ ts) [] b c h run = cc run
 not_alone ((bracket negative) ∷ ts) (x ∷ bs) b c h run = by (operand x.held) refl
@@ -80,14 +80,14 @@ not_alone ((bracket negative) ∷ ts) (x ∷ bs) b c h run = by (operand x.held)
 not_alone (t ∷ ts) bs b c h run = cc h
 
 -- The innermost bracket opens at one place.
-no_inner : (t : ClassToken) (ts inside all : List ClassToken) (b c : Bracket) → all ≡ (t ∷ ts) ++ inside → class_opened all ≡ Some (c ∷ []) → class_opened inside ≡ Some (b ∷ []) → ⊥
-no_inner t ts inside all b c e h k = by t (ap class_opened (sym e) ∙ h)
+no_inner : (t : ClassToken) (ts inside all : List ClassToken) (b c : Bracket) → all ≡ (t ∷ ts) ++ inside → class_run_from_start all ≡ Some (c ∷ []) → class_run_from_start inside ≡ Some (b ∷ []) → ⊥
+no_inner t ts inside all b c e h k = by t (ap class_run_from_start (sym e) ∙ h)
   where
-    by : (t : ClassToken) → class_opened ((t ∷ ts) ++ inside) ≡ Some (c ∷ []) → ⊥
+    by : (t : ClassToken) → class_run_from_start ((t ∷ ts) ++ inside) ≡ Some (c ∷ []) → ⊥
     by (bracket negative) run = let s = splits ts inside (bracket_of negative empty false ∷ []) (c ∷ []) run in not_alone inside s.middle b c k s.others
     by q run = cc run
 
-one_opening : (ts us ss vs : List ClassToken) (b c : Bracket) → ts ++ us ≡ ss ++ vs → class_opened us ≡ Some (b ∷ []) → class_opened vs ≡ Some (c ∷ []) → ts ≡ ss
+one_opening : (ts us ss vs : List ClassToken) (b c : Bracket) → ts ++ us ≡ ss ++ vs → class_run_from_start us ≡ Some (b ∷ []) → class_run_from_start vs ≡ Some (c ∷ []) → ts ≡ ss
 one_opening [] us [] vs b c e h k = refl
 one_opening [] us (s ∷ ss) vs b c e h k = absurd (no_inner s ss vs us c b e h k)
 one_opening (t ∷ ts) us [] vs b c e h k = absurd (no_inner t ts us vs b c (sym e) k h)

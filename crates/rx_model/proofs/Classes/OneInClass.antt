@@ -9,11 +9,11 @@ use Rattle.rx_units.specs.Units.{values}
 use Rattle.rx_model.specs.declared.mode.Mode.{Mode}
 use Rattle.rx_model.specs.Refusals.ClassCauses.{IsClassCause}
 use Rattle.rx_model.specs.Classes.ClassRows.{ClassTokenRow, Place, outside}
-use Rattle.rx_model.specs.Classes.ClassRuns.{Bracket, Brackets, class_opened}
+use Rattle.rx_model.specs.Classes.ClassRuns.{Bracket, Brackets, class_run_from_start}
 use Rattle.rx_model.specs.Classes.ClassTokens.{ClassToken, is_character}
 use Rattle.rx_model.specs.Inputs.Environment.{Environment, is_sets}
 use Rattle.rx_model.specs.FirstPass.Marks.{starts}
-use Rattle.rx_model.specs.Refusals.Firsts.{IsFirstInClass, no_item, yielding}
+use Rattle.rx_model.specs.Refusals.Firsts.{IsFirstInClass, no_item, yielding_of}
 use Rattle.rx_model.specs.Refusals.Reached.{span_between, class_environment}
 use Rattle.rx_model.proofs.Classes.ClassFaults.{State, IsStuck, Nothing, in_class, no_operand, no_operator, in_class_strings, RangeFault, at_atom, after_range, of_range, Said, elsewhere, after_dash, ampersand, closing, Fault, nothing, said, stuck, value_of}
 use Rattle.rx_model.proofs.Classes.ClassStates.{none_in_strings, opened_union}
@@ -65,28 +65,28 @@ module _ (mode : Mode) (us : List CodePoint) (start added from : ℕ) (at_class 
       go : (s t : State) → Stands s → Stands t → (xs : List ClassToken) → t.tokens ≡ s.tokens ++ xs → ClassTokenRow here xs s.at s.rest t.at t.rest → s ≡ t
       go s t x y [] e row =
           let tokens : s.tokens ≡ t.tokens = sym (e ∙ append-nil s.tokens) in
-          let brackets : some_brackets (s.inner ∷ s.outer) ≡ some_brackets (t.inner ∷ t.outer) = sym x.accepted ∙ ap class_opened tokens ∙ y.accepted in
+          let brackets : some_brackets (s.inner ∷ s.outer) ≡ some_brackets (t.inner ∷ t.outer) = sym x.accepted ∙ ap class_run_from_start tokens ∙ y.accepted in
           let inner : s.inner ≡ t.inner = cc brackets in
           let outer : s.outer ≡ t.outer = cc brackets in
           let place : s.place ≡ t.place = omega (arith, x.place_is, y.place_is, ap length row.1) in
           of_parts s t tokens row.0 inner outer place row.1
       go s t x y (c ∷ xs) e row =
-          absurd (x.blocked c xs t.at t.rest (t.inner ∷ t.outer) y.between row (sym (class_opened-append s.tokens (c ∷ xs) (s.inner ∷ s.outer) x.accepted) ∙ ap class_opened (sym e) ∙ y.accepted))
+          absurd (x.blocked c xs t.at t.rest (t.inner ∷ t.outer) y.between row (sym (class_opened-append s.tokens (c ∷ xs) (s.inner ∷ s.outer) x.accepted) ∙ ap class_run_from_start (sym e) ∙ y.accepted))
 
-  nothing_kind : (s : State) (d : Diagnostic) → NoItem s d → yielding d ≡ no_item
+  nothing_kind : (s : State) (d : Diagnostic) → NoItem s d → yielding_of d ≡ no_item
   nothing_kind s _ (in_class true begin opens begins union goes ends) = refl
   nothing_kind s _ (in_class false begin opens begins union goes ends) = refl
   nothing_kind s _ (no_operand begins sets empties some) = refl
   nothing_kind s _ (no_operator operator begins is third) = refl
   nothing_kind s _ (in_class_strings opener at_is inside) = refl
 
-  escape_kind : (f : ℕ) (rest : List CodePoint) (d : Diagnostic) → EscapeFault f rest d → yielding d ≢ no_item
+  escape_kind : (f : ℕ) (rest : List CodePoint) (d : Diagnostic) → EscapeFault f rest d → yielding_of d ≢ no_item
   escape_kind f rest _ (bad_escape backslash w no_sets h is none) k = cc k
   escape_kind f rest d (in_escape c) k = character_says mode us start added f rest d c k
   escape_kind f rest d (in_property c) k = property_says mode us start added f rest d c k
 
-  range_kind_of : (f : ℕ) (rest : List CodePoint) (d : Diagnostic) → RangeFault mode us start added from at_class f rest d → yielding d ≢ no_item
-  range_kind_of f rest d r k = by (is_sets mode) (is_character r.a && is_character r.b) (value_of mode us start added from at_class r.b == 45) (ap yielding (sym r.fault) ∙ k)
+  range_kind_of : (f : ℕ) (rest : List CodePoint) (d : Diagnostic) → RangeFault mode us start added from at_class f rest d → yielding_of d ≢ no_item
+  range_kind_of f rest d r k = by (is_sets mode) (is_character r.a && is_character r.b) (value_of mode us start added from at_class r.b == 45) (ap yielding_of (sym r.fault) ∙ k)
     where
       n : ℕ
       n = length r.w
@@ -95,7 +95,7 @@ module _ (mode : Mode) (us : List CodePoint) (start added from : ℕ) (at_class 
       m = length r.v
 
       by : (sets both is_dash : Bool) →
-          yielding (cond sets (CharacterClassRangeOutOfOrder (span_between us start added f (f + n + 1 + m)) range.ClassSet)
+          yielding_of (cond sets (CharacterClassRangeOutOfOrder (span_between us start added f (f + n + 1 + m)) range.ClassSet)
           (cond both
           (cond is_dash (CharacterClassRangeDashNotSubtraction (span_between us start added (f + n) (f + n + 1 + m))) (CharacterClassRangeOutOfOrder (span_between us start added (f + n) (f + n + 1 + m)) range.ClassAtom))
           (CharacterClassRangeInvalidAtom (span_between us start added f (f + n + 1 + m))))) ≡ no_item → ⊥
@@ -104,7 +104,7 @@ module _ (mode : Mode) (us : List CodePoint) (start added from : ℕ) (at_class 
       by false true false h = cc h
       by false false is_dash h = cc h
 
-  said_kind : (s : State) (f : ℕ) (d : Diagnostic) → Saying s f d → yielding d ≢ no_item
+  said_kind : (s : State) (f : ℕ) (d : Diagnostic) → Saying s f d → yielding_of d ≢ no_item
   said_kind s _ d (elsewhere (at_atom takes own c)) k = escape_kind s.place s.rest d c k
   said_kind s _ d (elsewhere (after_range a w hyphen rest at union whole spelled dashed ends c)) k = escape_kind (s.place + length w + 1) rest d c k
   said_kind s _ d (elsewhere (of_range at union r)) k = range_kind_of s.place s.rest d r k
@@ -173,7 +173,7 @@ module _ (mode : Mode) (us : List CodePoint) (start added from : ℕ) (at_class 
   class_cause_is_first no_sets f d c = only_is_first Cause f d c (λ g e k. one_in_class no_sets f g d e c k)
 
   -- A refusal that says what stands there is the first of its class, in every mode.
-  pub said_is_first : (f : ℕ) (d : Diagnostic) → Cause f d → yielding d ≢ no_item → IsFirstInClass mode us start added from at_class d
+  pub said_is_first : (f : ℕ) (d : Diagnostic) → Cause f d → yielding_of d ≢ no_item → IsFirstInClass mode us start added from at_class d
   said_is_first f d c says = most_is_first Cause f d c (λ g e k. two_in_class f g d e c k) says
 
   -- At most one refusal is the first of the class.

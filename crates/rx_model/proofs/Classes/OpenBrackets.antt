@@ -5,7 +5,7 @@ use Rattle.rx_units.specs.declared.code_point.CodePoint.{CodePoint}
 use Rattle.rx_units.proofs.Choices.{Some-inj}
 use Rattle.rx_model.specs.Refusals.ClassPlaces.{IsInBracket, IsItemPlace, begins_item, nested, of_class}
 use Rattle.rx_model.specs.Classes.ClassRows.{ClassTokenRow, Place, SpellsBracket, SpellsInClass, next_place, after_operator, fresh, in_strings, outside}
-use Rattle.rx_model.specs.Classes.ClassRuns.{Bracket, Brackets, Held, empty, any_string, atom_may, atom_obeys, after_step, bracket_of, class_opened, class_run, class_step, closed, held_on, holding, with_operator, may_close, operand, ranged, takes_operand, where_may, where_true, with_strings}
+use Rattle.rx_model.specs.Classes.ClassRuns.{Bracket, Brackets, Held, empty, any_string, atom_may, atom_obeys, after_step, bracket_of, class_run_from_start, class_run, class_step, after_closer, add_operator, add_thing, with_operator, may_close, operand, with_range, takes_operand, where_may, where_true, with_strings}
 use Rattle.rx_model.specs.Classes.ClassTokens.{ClassToken, bracket, closer, item, low, dash, high, operator, strings, letter, string_bar, strings_end}
 use Rattle.rx_model.specs.Inputs.Environment.{Environment, is_sets}
 use Rattle.rx_model.proofs.Classes.ClassEnds.{class_row_split}
@@ -14,8 +14,8 @@ use Rattle.rx_model.proofs.Classes.ClassWholes.{class_opened-append, class_run-a
 
 -- The innermost bracket that is open after some tokens is the class's own, or began where the bracket around it takes an operand.
 data Opened : List ClassToken → Brackets → Type 0 where
-  own : (inside : List ClassToken) (c : Bracket) → class_opened inside ≡ Some (c ∷ []) → Opened inside (c ∷ [])
-  within : (before inside : List ClassToken) (c d : Bracket) (ds : Brackets) → Opened before (d ∷ ds) → class_opened before ≡ Some (d ∷ ds) → takes_operand d.held ≡ true → class_opened inside ≡ Some (c ∷ [])
+  own : (inside : List ClassToken) (c : Bracket) → class_run_from_start inside ≡ Some (c ∷ []) → Opened inside (c ∷ [])
+  within : (before inside : List ClassToken) (c d : Bracket) (ds : Brackets) → Opened before (d ∷ ds) → class_run_from_start before ≡ Some (d ∷ ds) → takes_operand d.held ≡ true → class_run_from_start inside ≡ Some (c ∷ [])
       → Opened (before ++ inside) (c ∷ d ∷ ds)
 
 further : (ts ss : List ClassToken) (c m : Bracket) (cs : Brackets) → Opened ts (c ∷ cs) → class_run ss (c ∷ []) ≡ Some (m ∷ []) → Opened (ts ++ ss) (m ∷ cs)
@@ -24,7 +24,7 @@ further _ ss _ m _ (within before inside c d ds o there takes h) run =
     subst (λ ts. Opened ts (m ∷ d ∷ ds)) (sym (append_assoc before inside ss)) (within before (inside ++ ss) m d ds o there takes (class_opened-append inside ss (c ∷ []) h ∙ run))
 
 -- A nested class is an operand.
-pub nested_run : (ts : List ClassToken) (d c : Bracket) (ds : Brackets) → takes_operand d.held ≡ true → class_opened ts ≡ Some (c ∷ []) → class_run ts (d ∷ ds) ≡ Some (c ∷ d ∷ ds)
+pub nested_run : (ts : List ClassToken) (d c : Bracket) (ds : Brackets) → takes_operand d.held ≡ true → class_run_from_start ts ≡ Some (c ∷ []) → class_run ts (d ∷ ds) ≡ Some (c ∷ d ∷ ds)
 nested_run [] d c ds takes h = absurd (let no : ⊥ = cc h in no)
 nested_run ((bracket negative) ∷ ts) d c ds takes h =
     let first = bracket_of negative empty false in
@@ -43,11 +43,11 @@ record InnermostOnly (t : ClassToken) (c : Bracket) (cs : Brackets) (m : Bracket
 only_by : (t : ClassToken) (c : Bracket) (cs : Brackets) (n m : Bracket) (ms : Brackets) → class_step t (c ∷ []) ≡ Some (n ∷ []) → n ∷ cs ≡ m ∷ ms → InnermostOnly t c cs m ms
 only_by t c cs n m ms h same = record { around = sym (let k : cs ≡ ms = cc same in k); alone = h ∙ ap (λ b. Some (b ∷ [])) (let k : n ≡ m = cc same in k) }
 
-holding_only : (t : ClassToken) (c : Bracket) (cs : Brackets) (may : Bool) (o : Option Held) (m : Bracket) (ms : Brackets) → class_step t (c ∷ []) ≡ holding c [] may o → holding c cs may o ≡ Some (m ∷ ms) → InnermostOnly t c cs m ms
+holding_only : (t : ClassToken) (c : Bracket) (cs : Brackets) (may : Bool) (o : Option Held) (m : Bracket) (ms : Brackets) → class_step t (c ∷ []) ≡ add_thing c [] may o → add_thing c cs may o ≡ Some (m ∷ ms) → InnermostOnly t c cs m ms
 holding_only t c cs may None m ms step h = absurd (let no : ⊥ = cc h in no)
 holding_only t c cs may (Some held) m ms step h = only_by t c cs (bracket_of c.negative held (with_strings c.held c.may may)) m ms step (Some-inj h)
 
-operator_only : (t : ClassToken) (c : Bracket) (cs : Brackets) (o : Option Held) (m : Bracket) (ms : Brackets) → class_step t (c ∷ []) ≡ held_on c [] o → held_on c cs o ≡ Some (m ∷ ms) → InnermostOnly t c cs m ms
+operator_only : (t : ClassToken) (c : Bracket) (cs : Brackets) (o : Option Held) (m : Bracket) (ms : Brackets) → class_step t (c ∷ []) ≡ add_operator c [] o → add_operator c cs o ≡ Some (m ∷ ms) → InnermostOnly t c cs m ms
 operator_only t c cs None m ms step h = absurd (let no : ⊥ = cc h in no)
 operator_only t c cs (Some held) m ms step h = only_by t c cs (bracket_of c.negative held c.may) m ms step (Some-inj h)
 
@@ -64,13 +64,13 @@ innermost_only : (t : ClassToken) (c : Bracket) (cs : Brackets) (m : Bracket) (m
 innermost_only (bracket negative) c cs m ms other h = absurd (other tt)
 innermost_only closer c cs m ms other h = absurd (other tt)
 innermost_only (item a) c cs m ms other h =
-    let p = where_true_both (atom_obeys a) (holding c cs (atom_may a) (operand c.held)) (m ∷ ms) h in
-    holding_only (item a) c cs (atom_may a) (operand c.held) m ms (ap (λ b. where_true b (holding c [] (atom_may a) (operand c.held))) p.0) p.1
-innermost_only (low k v) c cs m ms other h = may_only (low k v) c (record c { low_end = v }) cs (ranged c.held) m ms refl h
+    let p = where_true_both (atom_obeys a) (add_thing c cs (atom_may a) (operand c.held)) (m ∷ ms) h in
+    holding_only (item a) c cs (atom_may a) (operand c.held) m ms (ap (λ b. where_true b (add_thing c [] (atom_may a) (operand c.held))) p.0) p.1
+innermost_only (low k v) c cs m ms other h = may_only (low k v) c (record c { low_end = v }) cs (with_range c.held) m ms refl h
 innermost_only dash c cs m ms other h = only_by dash c cs c m ms refl (Some-inj h)
 innermost_only (high k v) c cs m ms other h =
-    let p = where_true_both (nat_le c.low_end v && nat_le v 0x10FFFF) (holding c cs false (ranged c.held)) (m ∷ ms) h in
-    holding_only (high k v) c cs false (ranged c.held) m ms (ap (λ b. where_true b (holding c [] false (ranged c.held))) p.0) p.1
+    let p = where_true_both (nat_le c.low_end v && nat_le v 0x10FFFF) (add_thing c cs false (with_range c.held)) (m ∷ ms) h in
+    holding_only (high k v) c cs false (with_range c.held) m ms (ap (λ b. where_true b (add_thing c [] false (with_range c.held))) p.0) p.1
 innermost_only (operator o) c cs m ms other h = operator_only (operator o) c cs (with_operator o c.held) m ms refl h
 innermost_only strings c cs m ms other h = may_only strings c (record c { count = 0; any = false }) cs (operand c.held) m ms refl h
 innermost_only (letter k v) c cs m ms other h =
@@ -80,18 +80,18 @@ innermost_only string_bar c cs m ms other h = only_by string_bar c cs (record c 
 innermost_only strings_end c cs m ms other h = holding_only strings_end c cs (any_string c) (operand c.held) m ms refl h
 
 -- a bracket
-bracket_opens : (ts : List ClassToken) (negative : Bool) (c : Bracket) (cs : Brackets) (m : Bracket) (ms : Brackets) → Opened ts (c ∷ cs) → class_opened ts ≡ Some (c ∷ cs) → (o : Option Held) → operand c.held ≡ o →
+bracket_opens : (ts : List ClassToken) (negative : Bool) (c : Bracket) (cs : Brackets) (m : Bracket) (ms : Brackets) → Opened ts (c ∷ cs) → class_run_from_start ts ≡ Some (c ∷ cs) → (o : Option Held) → operand c.held ≡ o →
     where_may o (bracket_of negative empty false ∷ c ∷ cs) ≡ Some (m ∷ ms) → Opened (ts ++ (bracket negative ∷ [])) (m ∷ ms)
 bracket_opens ts negative c cs m ms opened there None e h = absurd (let no : ⊥ = cc h in no)
 bracket_opens ts negative c cs m ms opened there (Some held) e h =
     subst (Opened (ts ++ (bracket negative ∷ []))) (Some-inj h) (within ts (bracket negative ∷ []) (bracket_of negative empty false) c cs opened there (ap is_some e) refl)
 
 -- a closer
-closer_of : (c : Bracket) (close : Bool) (d : Bracket) (ds : Brackets) (m : Bracket) (ms : Brackets) → closed c.may close (d ∷ ds) ≡ Some (m ∷ ms) → (closed c.may close (d ∷ []) ≡ Some (m ∷ [])) × (ds ≡ ms)
+closer_of : (c : Bracket) (close : Bool) (d : Bracket) (ds : Brackets) (m : Bracket) (ms : Brackets) → after_closer c.may close (d ∷ ds) ≡ Some (m ∷ ms) → (after_closer c.may close (d ∷ []) ≡ Some (m ∷ [])) × (ds ≡ ms)
 closer_of c false d ds m ms h = absurd (let no : ⊥ = cc h in no)
 closer_of c true d ds m ms h = go (operand d.held) h
   where
-    go : (o : Option Held) → holding d ds c.may o ≡ Some (m ∷ ms) → (holding d [] c.may o ≡ Some (m ∷ [])) × (ds ≡ ms)
+    go : (o : Option Held) → add_thing d ds c.may o ≡ Some (m ∷ ms) → (add_thing d [] c.may o ≡ Some (m ∷ [])) × (ds ≡ ms)
     go None h = absurd (let no : ⊥ = cc h in no)
     go (Some held) h =
         let same = Some-inj h in
@@ -100,7 +100,7 @@ closer_of c true d ds m ms h = go (operand d.held) h
 closer_closes : (ts : List ClassToken) (c : Bracket) (cs : Brackets) (m : Bracket) (ms : Brackets) → Opened ts (c ∷ cs) → class_step closer (c ∷ cs) ≡ Some (m ∷ ms) → Opened (ts ++ (closer ∷ [])) (m ∷ ms)
 closer_closes _ _ _ m ms (own inside c h) step = absurd (none (may_close c) step)
   where
-    none : (close : Bool) → closed c.may close [] ≡ Some (m ∷ ms) → ⊥
+    none : (close : Bool) → after_closer c.may close [] ≡ Some (m ∷ ms) → ⊥
     none true k = cc k
     none false k = cc k
 closer_closes _ _ _ m ms (within before inside c d ds opened there takes h) step =
@@ -110,7 +110,7 @@ closer_closes _ _ _ m ms (within before inside c d ds opened there takes h) step
     subst (λ ts. Opened ts (m ∷ ms)) (sym (append_assoc before inside (closer ∷ [])))
     (subst (λ ms. Opened (before ++ (inside ++ (closer ∷ []))) (m ∷ ms)) p.1 (further before (inside ++ (closer ∷ [])) d m ds opened run))
 
-token_opens : (ts : List ClassToken) (t : ClassToken) (c : Bracket) (cs : Brackets) (m : Bracket) (ms : Brackets) → Opened ts (c ∷ cs) → class_opened ts ≡ Some (c ∷ cs) → class_step t (c ∷ cs) ≡ Some (m ∷ ms) →
+token_opens : (ts : List ClassToken) (t : ClassToken) (c : Bracket) (cs : Brackets) (m : Bracket) (ms : Brackets) → Opened ts (c ∷ cs) → class_run_from_start ts ≡ Some (c ∷ cs) → class_step t (c ∷ cs) ≡ Some (m ∷ ms) →
     Opened (ts ++ (t ∷ [])) (m ∷ ms)
 token_opens ts (bracket negative) c cs m ms opened there h = bracket_opens ts negative c cs m ms opened there (operand c.held) refl h
 token_opens ts closer c cs m ms opened there h = closer_closes ts c cs m ms opened h
@@ -118,7 +118,7 @@ token_opens ts t c cs m ms opened there h =
     let i = innermost_only t c cs m ms (λ no. no) h in
     subst (λ ms. Opened (ts ++ (t ∷ [])) (m ∷ ms)) (sym i.around) (further ts (t ∷ []) c m cs opened (ap (λ o. after_step o (λ bs. class_run [] bs)) i.alone))
 
-tokens_open : (ss ts : List ClassToken) (c : Bracket) (cs : Brackets) (m : Bracket) (ms : Brackets) → Opened ts (c ∷ cs) → class_opened ts ≡ Some (c ∷ cs) → class_run ss (c ∷ cs) ≡ Some (m ∷ ms) → Opened (ts ++ ss) (m ∷ ms)
+tokens_open : (ss ts : List ClassToken) (c : Bracket) (cs : Brackets) (m : Bracket) (ms : Brackets) → Opened ts (c ∷ cs) → class_run_from_start ts ≡ Some (c ∷ cs) → class_run ss (c ∷ cs) ≡ Some (m ∷ ms) → Opened (ts ++ ss) (m ∷ ms)
 tokens_open [] ts c cs m ms opened there run = subst (Opened (ts ++ [])) (Some-inj run) (further ts [] c c cs opened refl)
 tokens_open (t ∷ ss) ts c cs m ms opened there run =
     let s = steps t ss (c ∷ cs) m ms run in
@@ -126,7 +126,7 @@ tokens_open (t ∷ ss) ts c cs m ms opened there run =
     let here = class_opened-append ts (t ∷ []) (c ∷ cs) there ∙ ap (λ o. after_step o (λ bs. class_run [] bs)) s.first in
     subst (λ ts. Opened ts (m ∷ ms)) (append_assoc ts (t ∷ []) ss) (tokens_open ss (ts ++ (t ∷ [])) s.inner s.outer m ms next here s.others)
 
-opened : (ts : List ClassToken) (c : Bracket) (cs : Brackets) → class_opened ts ≡ Some (c ∷ cs) → Opened ts (c ∷ cs)
+opened : (ts : List ClassToken) (c : Bracket) (cs : Brackets) → class_run_from_start ts ≡ Some (c ∷ cs) → Opened ts (c ∷ cs)
 opened [] c cs h = absurd (let no : ⊥ = cc h in no)
 opened ((bracket negative) ∷ ts) c cs h =
     let first = bracket_of negative empty false in
@@ -134,7 +134,7 @@ opened ((bracket negative) ∷ ts) c cs h =
 opened (t ∷ ts) c cs h = absurd (let no : ⊥ = cc h in no)
 
 -- The bracket around the innermost takes an operand more.
-pub around_takes : (ts : List ClassToken) (c d : Bracket) (ds : Brackets) → class_opened ts ≡ Some (c ∷ d ∷ ds) → takes_operand d.held ≡ true
+pub around_takes : (ts : List ClassToken) (c d : Bracket) (ds : Brackets) → class_run_from_start ts ≡ Some (c ∷ d ∷ ds) → takes_operand d.held ≡ true
 around_takes ts c d ds h = go ts (c ∷ d ∷ ds) (opened ts c (d ∷ ds) h) refl
   where
     go : (ts : List ClassToken) (bs : Brackets) → Opened ts bs → bs ≡ c ∷ d ∷ ds → takes_operand d.held ≡ true
@@ -155,7 +155,7 @@ module _ (e : Environment) where
   bracket_alone in_strings negative w more inside s = absurd s.1
   bracket_alone q negative w more inside s = absurd s
 
-  pub row_alone : (ts : List ClassToken) (cs : Brackets) (q : Place) (us : List CodePoint) (r : Place) (rest : List CodePoint) → class_opened ts ≡ Some cs → (q ≡ outside → ⊥) → ClassTokenRow e ts q us r rest →
+  pub row_alone : (ts : List ClassToken) (cs : Brackets) (q : Place) (us : List CodePoint) (r : Place) (rest : List CodePoint) → class_run_from_start ts ≡ Some cs → (q ≡ outside → ⊥) → ClassTokenRow e ts q us r rest →
       (is_sets e.mode ≡ true) × (begins_item q ≡ true) × ClassTokenRow e ts outside us r rest
   row_alone [] cs q us r rest h inside row = absurd (let no : ⊥ = cc h in no)
   row_alone ((bracket negative) ∷ ts) cs q us r rest h inside row =
@@ -163,7 +163,7 @@ module _ (e : Environment) where
       (b.0, b.1, (row.0, row.1, row.2, b.2, row.4))
   row_alone (t ∷ ts) cs q us r rest h inside row = absurd (let no : ⊥ = cc h in no)
 
-  pub after_opened : (ts : List ClassToken) (cs : Brackets) (us : List CodePoint) (r : Place) (rest : List CodePoint) → class_opened ts ≡ Some cs → ClassTokenRow e ts outside us r rest → r ≡ outside → ⊥
+  pub after_opened : (ts : List ClassToken) (cs : Brackets) (us : List CodePoint) (r : Place) (rest : List CodePoint) → class_run_from_start ts ≡ Some cs → ClassTokenRow e ts outside us r rest → r ≡ outside → ⊥
   after_opened [] cs us r rest h row same = let no : ⊥ = cc h in no
   after_opened (t ∷ ts) cs us r rest h row same = row_inside t ts outside us r rest row same
 

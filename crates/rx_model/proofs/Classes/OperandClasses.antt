@@ -16,7 +16,7 @@ use Rattle.rx_base.specs.declared.span.Span.{Span}
 use Rattle.rx_units.specs.declared.code_point.CodePoint.{CodePoint}
 use Rattle.rx_units.specs.Units.{values}
 use Rattle.rx_model.specs.Classes.ClassBrackets.{class_of_members}
-use Rattle.rx_model.specs.Classes.ClassBuilds.{string_of, strings_member}
+use Rattle.rx_model.specs.Classes.ClassFromTokens.{string_of, strings_member}
 use Rattle.rx_model.specs.Classes.ClassOperands.{IsClassOfOperands, IsClassOfUnion, SpellsFurtherOperand, SpellsOperator, SpellsUnionItem, SpellsWholeOperand, of_atom, of_class, of_operand, of_operator, of_range, of_strings}
 use Rattle.rx_model.specs.Classes.ClassRows.{BeforeHigh, ClassTokenRow, IsClass, Place, SpellsBracket, fresh, outside}
 use Rattle.rx_model.specs.Classes.ClassShapes.{AreOperands, AreTwo, IsOperand}
@@ -27,7 +27,7 @@ use Rattle.rx_model.specs.Inputs.Environment.{Environment, is_sets}
 use Rattle.rx_units.specs.Sequences.{ElementRow}
 use Rattle.rx_model.specs.Trees.Early.{IsFlaggedString, may_contain_strings}
 use Rattle.rx_model.proofs.Classes.ClassBrackets.{class_in_brackets}
-use Rattle.rx_model.proofs.Classes.ClassBuilt.{ArePlain, IsPlainMember, atom_operand, atom_plain, fits_kind}
+use Rattle.rx_model.proofs.Classes.TokensOfBuilt.{ArePlain, IsPlainMember, atom_operand, atom_plain, fits_kind}
 use Rattle.rx_model.proofs.Classes.ClassFlags.{atom_flagged}
 use Rattle.rx_model.proofs.Classes.ClassEnds.{class_row_append, class_row_split}
 use Rattle.rx_model.proofs.Classes.ClassFronts.{no_set_atom, single, text_of}

@@ -11,15 +11,15 @@ use Rattle.rx_ast.specs.ClassTree as tree
 use Rattle.rx_ast.specs.Forget.{forget_class, forget_string, nowhere, same_kind}
 use Rattle.rx_units.specs.declared.code_point.CodePoint.{CodePoint}
 use Rattle.rx_units.specs.Units.{values}
-use Rattle.rx_model.specs.Classes.ClassBuilds.{atom_member, range_member, strings_member, string_of}
+use Rattle.rx_model.specs.Classes.ClassFromTokens.{atom_member, range_member, strings_member, string_of}
 use Rattle.rx_model.specs.Classes.ClassOperands.{IsCharacter, SpellsFurtherOperand, SpellsUnionItem, SpellsWholeOperand, of_atom, of_class, of_operand, of_operator, of_range, of_strings}
 use Rattle.rx_model.specs.Classes.ClassPieces as pieces
 use Rattle.rx_model.specs.Classes.ClassRows.{BeforeHigh, ClassTokenRow, IsClass, Place, SpellsAtom, SpellsClassCharacter, SpellsInClass, SpellsOperand, StandsBefore, next_place, following_item, after_operator, fresh, has_threes, is_dashed, may_follow_operator, outside}
 use Rattle.rx_model.specs.Classes.ClassShapes.{IsOperand}
 use Rattle.rx_model.specs.Classes.ClassTokens.{Atom, ClassToken, bracket, character, closer, dash, escape, high, is_character, item, low, operator, property, strings}
 use Rattle.rx_model.specs.Inputs.Environment.{Environment, is_sets}
-use Rattle.rx_model.proofs.Classes.ClassBuilds.{strings_member_is}
-use Rattle.rx_model.proofs.Classes.ClassBuilt.{IsPlainMember, atom_tokens}
+use Rattle.rx_model.proofs.Classes.ClassFromTokens.{strings_member_is}
+use Rattle.rx_model.proofs.Classes.TokensOfBuilt.{IsPlainMember, atom_tokens}
 use Rattle.rx_model.proofs.Classes.ClassEnds.{class_row_split, row_units}
 use Rattle.rx_model.proofs.Classes.ClassFronts.{follows_front, operand_some, sets_is, single}
 use Rattle.rx_model.proofs.Classes.ClassOperands.{one_operand}

@@ -11,7 +11,7 @@ use Rattle.rx_units.specs.declared.code_point.CodePoint.{CodePoint}
 use Rattle.rx_model.specs.declared.mode.Mode.TheVariants.{Legacy, Sets}
 use Rattle.rx_model.specs.declared.mode.Mode.{Mode}
 use Rattle.rx_model.specs.Classes.ClassBrackets.{class_of_members}
-use Rattle.rx_model.specs.Classes.ClassBuilds.{atom_member, range_member}
+use Rattle.rx_model.specs.Classes.ClassFromTokens.{atom_member, range_member}
 use Rattle.rx_model.specs.Classes.ClassPieces.{IsClassOfPieces, Piece, alone, range, three, SpellsPiece, of_atom, of_range, of_three, piece_members, pieces_members}
 use Rattle.rx_model.specs.Classes.ClassRows.{BeforeThird, ClassTokenRow, IsClass, Place, SpellsAtom, SpellsClassCharacter, at_dash, at_high, at_second, at_third, fresh, has_threes, outside}
 use Rattle.rx_model.specs.Classes.ClassTokens.{Atom, ClassToken, bracket, character, closer, dash, escape, high, is_character, item, operator, low, property, strings}
@@ -19,8 +19,8 @@ use Rattle.rx_model.specs.Inputs.Environment.{Environment, is_sets, is_unicode}
 use Rattle.rx_units.specs.Sequences.{ElementRow}
 use Rattle.rx_model.specs.Trees.Early.{any_strings, member_strings}
 use Rattle.rx_model.proofs.Classes.ClassBrackets.{class_has_tokens, class_in_brackets}
-use Rattle.rx_model.proofs.Classes.ClassBuilds.{same_tokens}
-use Rattle.rx_model.proofs.Classes.ClassBuilt.{IsPlainMember, atom_plain, atom_tokens}
+use Rattle.rx_model.proofs.Classes.ClassFromTokens.{same_tokens}
+use Rattle.rx_model.proofs.Classes.TokensOfBuilt.{IsPlainMember, atom_plain, atom_tokens}
 use Rattle.rx_model.proofs.Classes.ClassEnds.{OfClass, class_ends, class_row_append, none_after_end}
 use Rattle.rx_model.proofs.Classes.ClassFlags.{atom_flagged}
 use Rattle.rx_model.proofs.Classes.ClassFronts.{after_first, after_one, single}

@@ -12,7 +12,7 @@ use Rattle.rx_units.specs.Units.{values}
 use Rattle.rx_units.specs.Digits.{PassesHex}
 use Rattle.rx_model.specs.declared.mode.Mode.{Mode}
 use Rattle.rx_model.specs.declared.mode.Mode.TheVariants.{Legacy, Unicode, Sets}
-use Rattle.rx_model.specs.Characters.Decoding.{Decoded, decoded}
+use Rattle.rx_model.specs.Characters.Decoding.{Decoded, decoding_of}
 use Rattle.rx_model.specs.Characters.Decoding as decoding
 use Rattle.rx_model.specs.Characters.EscapeFronts.{escaped, too_many, escape_at, unicode_read}
 use Rattle.rx_model.specs.Characters.Escapes.{SpellsEscape, control, letter, null, hexadecimal, unicode, identity, is_identity_escape}
@@ -29,7 +29,7 @@ use Rattle.rx_model.specs.Refusals.EscapeCauses.{IsEscapeCause, IsPropertyCause}
 use Rattle.rx_ast.specs.Texts.{class_escape_text, property_opener}
 use Rattle.rx_model.proofs.Groups.GroupNames.{differs}
 use Rattle.rx_model.proofs.Classes.ClassFronts.{class_letter}
-use Rattle.rx_model.proofs.Characters.Decodings.{value_law}
+use Rattle.rx_model.proofs.Characters.Decoding.{value_law}
 use Rattle.rx_model.proofs.Characters.Escapes.{begins_with_u, spelled_escape, too_many_escape, escape_u}
 use Rattle.rx_model.proofs.Properties.PropertyRefusals.{cause_begins_no_property, cause_unicode, property_first}
 
@@ -150,7 +150,7 @@ module _ (e : Environment) where
 
   no_unicode_after : is_unicode e.mode ≡ true → (k : CharacterKind) (v : ℕ) (following : List ℕ) → ((v n : ℕ) → Decodes true (117 ∷ following) v n → ⊥) → Escapes k v (117 ∷ following) → ⊥
   no_unicode_after u k v following none (everywhere w rest s h) =
-      let there = value_there (decoded true (117 ∷ following)) k v (length w) (sym (escape_u following) ∙ not_escaped u k v w rest (117 ∷ following) s h) in
+      let there = value_there (decoding_of true (117 ∷ following)) k v (length w) (sym (escape_u following) ∙ not_escaped u k v w rest (117 ∷ following) s h) in
       none there.0 there.1 ((value_law true (117 ∷ following) there.0 there.1).0 there.2)
   no_unicode_after u k v following none (in_class w rest s h) = none_alone e.mode k v 117 w rest following s h refl
 

@@ -10,7 +10,7 @@ use Rattle.rx_ast.specs.ClassTree as tree
 use Rattle.rx_ast.specs.Forget.{forget_character, forget_member, forget_string, same_kind}
 use Rattle.rx_units.specs.declared.code_point.CodePoint.{CodePoint}
 use Rattle.rx_units.specs.Units.{values}
-use Rattle.rx_model.specs.Classes.ClassBuilds.{character_of, string_of}
+use Rattle.rx_model.specs.Classes.ClassFromTokens.{character_of, string_of}
 use Rattle.rx_model.specs.Classes.ClassRows.{ClassTokenRow, Place, fresh, in_strings}
 use Rattle.rx_model.specs.Classes.ClassShapes.{IsFittingMember, IsFlaggedMember}
 use Rattle.rx_model.specs.Trees.Early.{IsFlaggedString}
@@ -19,7 +19,7 @@ use Rattle.rx_model.specs.Classes.ClassTokens.{ClassToken, string_bar, strings, 
 use Rattle.rx_model.specs.FirstPass.Marks.{starts}
 use Rattle.rx_model.specs.Inputs.Environment.{Environment, is_sets}
 use Rattle.rx_units.specs.Sequences.{ElementRow}
-use Rattle.rx_model.proofs.Classes.ClassBuilds.{string_is}
+use Rattle.rx_model.proofs.Classes.ClassFromTokens.{string_is}
 use Rattle.rx_model.proofs.Classes.ClassEnds.{class_row_append}
 use Rattle.rx_model.proofs.Classes.ClassFronts.{single}
 use Rattle.rx_model.proofs.Classes.ClassShapes.{barred_tokens, letters_tokens, operand_tokens, some_strings, strings_are}

@@ -7,11 +7,11 @@ use Rattle.std.proofs.Math.Seq.{drop-append_seam}
 use Rattle.rx_base.specs.Characters.{is_lead, is_trail}
 use Rattle.rx_base.specs.SurrogatePair.{IsLeadSurrogate, IsTrailSurrogate, surrogate_pair}
 use Rattle.rx_units.proofs.Choices.{chosen, both}
-use Rattle.rx_model.specs.Characters.Decoding.{Decoded, value, invalid, overflow, decoded}
+use Rattle.rx_model.specs.Characters.Decoding.{Decoded, value, invalid, overflow, decoding_of}
 use Rattle.rx_model.specs.Groups.GroupNames.{is_in_name, is_pair_in_name, IsNameRow, no_name, some_name, SpellsNameCharacter, one_unit, by_escape, raw_pair, SpellsNameParts, no_part, part, SpellsName, whole_name, IsGroupName, BeginsWithName}
-use Rattle.rx_model.specs.Groups.GroupNameReading.{NameCharacter, character, no_character, NameRow, row, tested, escape_in_name, pair_at, name_character_at, row_following, row_from, row_after, name_at, all_of, name_of}
+use Rattle.rx_model.specs.Groups.GroupNameReading.{NameCharacter, character, no_character, NameRow, row, character_if, escape_in_name, pair_at, name_character_at, row_following, row_from, row_after, name_at, all_of, name_of}
 use Rattle.rx_model.specs.Characters.UnicodeEscapes.{SpellsUnicode, alone, pair, braced}
-use Rattle.rx_model.proofs.Characters.Decodings.{spelled_read, read_spelled}
+use Rattle.rx_model.proofs.Characters.Decoding.{spelled_read, read_spelled}
 
 -- what one set of characters holds is none of what it does not
 pub differs : (set : ℕ → Bool) (c d : ℕ) → set d ≡ false → set c ≡ true → (c == d) ≡ false
@@ -57,11 +57,11 @@ module _ (unicode_mode : Bool) where
   -- a character that is spelled is read
   pub spelled_character : (first : Bool) (c : ℕ) (w rest : List ℕ) → SpellsNameCharacter unicode_mode first c w rest → name_character_at unicode_mode first (w ++ rest) ≡ character c (length w)
   spelled_character first c _ rest (one_unit h) =
-      ap (λ b. cond b (escape_in_name first (decoded true rest)) (cond (is_in_name first c) (character c 1) (cond unicode_mode no_character (pair_at first c rest)))) (no_backslash first c h)
+      ap (λ b. cond b (escape_in_name first (decoding_of true rest)) (cond (is_in_name first c) (character c 1) (cond unicode_mode no_character (pair_at first c rest)))) (no_backslash first c h)
       ∙ ap (λ b. cond b (character c 1) (cond unicode_mode no_character (pair_at first c rest))) h
   spelled_character first c _ rest (by_escape {w} spells h) =
       ap (escape_in_name first) (spelled_read true c w rest spells)
-      ∙ ap (λ b. tested b c (suc (length w))) h
+      ∙ ap (λ b. character_if b c (suc (length w))) h
   spelled_character first _ _ rest (raw_pair {lead} {trail} legacy is_lead_of is_trail_of h) =
       rw (lead_not_backslash lead is_lead_of, no_surrogate first lead is_lead_of.0 (omega (arith, is_lead_of.1)), legacy, lead_seen lead is_lead_of, trail_seen trail is_trail_of, h) refl
 
@@ -73,11 +73,11 @@ module _ (unicode_mode : Bool) where
     pub whole : us ≡ spelled ++ rest
     pub count : length spelled ≡ n
 
-  tested_found : (b : Bool) (c d n m : ℕ) → tested b c n ≡ character d m → (b ≡ true) × (c ≡ d) × (n ≡ m)
+  tested_found : (b : Bool) (c d n m : ℕ) → character_if b c n ≡ character d m → (b ≡ true) × (c ≡ d) × (n ≡ m)
   tested_found true c d n m h = (refl, cc h, cc h)
   tested_found false c d n m h = absurd (let no : ⊥ = cc h in no)
 
-  escape_found : (first : Bool) (w : List ℕ) (c n : ℕ) (read : Decoded) → decoded true w ≡ read → escape_in_name first read ≡ character c n → NameCharacterFront first c n (92 ∷ w)
+  escape_found : (first : Bool) (w : List ℕ) (c n : ℕ) (read : Decoded) → decoding_of true w ≡ read → escape_in_name first read ≡ character c n → NameCharacterFront first c n (92 ∷ w)
   escape_found first w c n (value v m) e h =
       let t = tested_found (is_in_name first v) v c (suc m) n h in
       let d = read_spelled true w v m e in
@@ -117,7 +117,7 @@ module _ (unicode_mode : Bool) where
   pub character_spelled : (first : Bool) (us : List ℕ) (c n : ℕ) → name_character_at unicode_mode first us ≡ character c n → NameCharacterFront first c n us
   character_spelled first [] c n h = absurd (let no : ⊥ = cc h in no)
   character_spelled first (x ∷ w) c n h = elim (chosen (x == 92) h) [
-    | inl p ↦ rw (eqb-true x 92 p.0) (escape_found first w c n (decoded true w) refl p.1)
+    | inl p ↦ rw (eqb-true x 92 p.0) (escape_found first w c n (decoding_of true w) refl p.1)
     | inr p ↦ elim (chosen (is_in_name first x) p.1) [
       | inl q ↦ unit_found first x w c n (tested_found true x c 1 n q.1) q.0
       | inr q ↦ elim (chosen unicode_mode q.1) [

@@ -5,7 +5,7 @@ use Rattle.std.proofs.Math.Bool.{and-false}
 use Rattle.rx_base.specs.Characters.{is_lead, is_trail}
 use Rattle.rx_units.proofs.Choices.{both}
 use Rattle.rx_units.specs.Digits.{PassesHex}
-use Rattle.rx_model.specs.Characters.Decoding.{Decoded, value, invalid, overflow, decoded}
+use Rattle.rx_model.specs.Characters.Decoding.{Decoded, value, invalid, overflow, decoding_of}
 use Rattle.rx_model.specs.Characters.UnicodeEscapes.{Decodes}
 use Rattle.rx_model.specs.FirstPass.Marks.{starts}
 use Rattle.rx_model.specs.Groups.GroupFronts.{closed_name, name_front}
@@ -13,7 +13,7 @@ use Rattle.rx_model.specs.Groups.GroupNameReading.{NameRow, row, name_at}
 use Rattle.rx_model.specs.Groups.GroupNames.{BeginsWithName, IsNameRow, no_name, some_name, SpellsName, whole_name}
 use Rattle.rx_model.specs.Groups.NameFronts.{NameHalt, begins_pair, unterminated, misplaced_pair, misplaced, no_escape, no_escape_of_u, many_digits, NameRead, name_read, no_name_read, escape_halt, read_after_name, read_from_row, name_read_at}
 use Rattle.rx_model.specs.Refusals.Causes.{BeginsWithPair}
-use Rattle.rx_model.proofs.Characters.Decodings.{value_law, overflow_law}
+use Rattle.rx_model.proofs.Characters.Decoding.{value_law, overflow_law}
 use Rattle.rx_model.proofs.Groups.GroupNames.{lead_seen, name_read as name_row_read, name_row_law, seen_lead, seen_trail, trail_seen}
 
 -- a raw pair stands next, or none
@@ -53,7 +53,7 @@ SaysName m w (name_read name n) = BeginsWithName m w name n × (starts 62 (drop 
 SaysName m w (no_name_read it) = SaysNameHalt m w it
 
 module _ (m : Bool) (w : List ℕ) where
-  escape_said : (count : ℕ) (following : List ℕ) → EscapeAfter m w count following → (d : Decoded) → decoded true following ≡ d → SaysNameHalt m w (escape_halt m count following d)
+  escape_said : (count : ℕ) (following : List ℕ) → EscapeAfter m w count following → (d : Decoded) → decoding_of true following ≡ d → SaysNameHalt m w (escape_halt m count following d)
   escape_said count following b (value v n) e = (following, b, v, (value_law true following v n).0 e)
   escape_said count following b (overflow many) e = (following, b, ((overflow_law true following many).0 e).1)
   escape_said count following b invalid e =
@@ -74,11 +74,11 @@ module _ (m : Bool) (w : List ℕ) where
   after_said name n e (c ∷ v) f =
       let row = name_row_law m w name n e in
       let raw : NameRead = cond (not m && begins_pair (c ∷ v)) (no_name_read (misplaced_pair n)) (no_name_read (unterminated n)) in
-      let other : NameRead = cond (c == 92) (no_name_read (escape_halt m n v (decoded true v))) raw in
+      let other : NameRead = cond (c == 92) (no_name_read (escape_halt m n v (decoding_of true v))) raw in
       cond_both (nat_lt 0 n && (c == 62)) (name_read name n) other (SaysName m w)
       (λ t. let p = and_parts (nat_lt 0 n) (c == 62) t in name_said name n e (ltb-true 0 n p.0) row (ap (starts 62) f ∙ p.1))
-      (λ t. cond_both (c == 92) (no_name_read (escape_halt m n v (decoded true v))) raw (SaysName m w)
-      (λ s. escape_said n v (record { row = row; there = f ∙ ap (λ c. c ∷ v) (eqb-true c 92 s) }) (decoded true v) refl)
+      (λ t. cond_both (c == 92) (no_name_read (escape_halt m n v (decoding_of true v))) raw (SaysName m w)
+      (λ s. escape_said n v (record { row = row; there = f ∙ ap (λ c. c ∷ v) (eqb-true c 92 s) }) (decoding_of true v) refl)
       (λ s. cond_both (not m && begins_pair (c ∷ v)) (no_name_read (misplaced_pair n)) (no_name_read (unterminated n)) (SaysName m w)
       (λ p. let q = and_parts (not m) (begins_pair (c ∷ v)) p in (row, not_true_false m q.0, subst BeginsWithPair (sym f) (pair_begins (c ∷ v) q.1)))
       (λ p. (row, ap (starts 92) f ∙ s, ap (λ v. not m && begins_pair v) f ∙ p, λ closed. none n t (sym (ap (starts 62) f) ∙ closed)))))

@@ -6,7 +6,7 @@ use Rattle.rx_ast.specs.declared.term.Pattern.{Pattern}
 use Rattle.rx_ast.specs.Forget.{nowhere, forget_nodes, forget_alternatives, same_kind}
 use Rattle.rx_ast.specs.Tree as tree
 use Rattle.rx_ast.specs.Tree.{Leaf, Node, Nodes, Alternatives, leaf, quantified, group, no_node, node, no_alternative, alternative, mirror_disjunction}
-use Rattle.rx_ast.proofs.Forgetting.{forget_nodes_twice}
+use Rattle.rx_ast.proofs.Forget.{forget_nodes_twice}
 use Rattle.rx_units.specs.declared.code_point.CodePoint.{CodePoint}
 use Rattle.rx_units.specs.Sequences.{ElementRow}
 use Rattle.rx_units.specs.Units.{values}
@@ -25,10 +25,10 @@ use Rattle.rx_model.proofs.Classes.ClassFronts.{single}
 use Rattle.rx_model.proofs.Reading.OneRow.{first_token, nothing_spelled}
 use Rattle.rx_model.proofs.Reading.Prefixes.{prefixes}
 use Rattle.rx_model.proofs.Reading.Splits.{starting_unit}
-use Rattle.rx_model.proofs.Trees.Builds.{one_alternative}
+use Rattle.rx_model.proofs.Trees.TreeFromTokens.{one_alternative}
 use Rattle.rx_model.proofs.Trees.Flat.{before, before-append, before_leaf, before_quantified, before_group, before_alternative, tokens_are}
 use Rattle.rx_model.proofs.Trees.Joins.{token_row_append, token_row_split}
-use Rattle.rx_model.proofs.Trees.Unspanned.{nodes_tokens, nodes_shape}
+use Rattle.rx_model.proofs.Trees.WithoutSpans.{nodes_tokens, nodes_shape}
 
 -- How many groups are open after these tokens, where so many are before them; none, where a bar or a closer stands in no group.
 abbrev open_after : List Token → ℕ → Option ℕ

@@ -11,7 +11,7 @@ use Rattle.rx_units.specs.Digits.{front_is, PassesHex}
 use Rattle.rx_units.proofs.Choices.{both}
 use Rattle.rx_model.specs.declared.mode.Mode.{Mode}
 use Rattle.rx_model.specs.Refusals.Causes.{LeadNowhere}
-use Rattle.rx_model.specs.Characters.Decoding.{Decoded, value, decoded}
+use Rattle.rx_model.specs.Characters.Decoding.{Decoded, value, decoding_of}
 use Rattle.rx_model.specs.Inputs.Environment.{Environment, is_unicode}
 use Rattle.rx_model.specs.Characters.EscapeFronts.{EscapeRead, escaped, nothing, too_many, no_unicode, or_legacy}
 use Rattle.rx_model.specs.Reading.Fronts.{escape_at, escaped_token, unicode_read, backslash_front, named_token, opener_token, front}
@@ -25,7 +25,7 @@ use Rattle.rx_model.specs.Refusals.Reached.{text_environment, text_groups}
 use Rattle.rx_model.specs.Trees.Token.{indexed, opener, ignoring}
 use Rattle.rx_model.specs.Characters.UnicodeEscapes.{Decodes}
 use Rattle.rx_model.specs.declared.rules.Rules.{Rules}
-use Rattle.rx_model.proofs.Characters.Decodings.{value_law}
+use Rattle.rx_model.proofs.Characters.Decoding.{value_law}
 use Rattle.rx_model.proofs.Characters.Escapes.{too_many_escape, escape_u}
 use Rattle.rx_model.proofs.Reading.Fronts.{front_by_values}
 use Rattle.rx_model.proofs.Groups.GroupFronts.{angle_named, question_modified}
@@ -166,7 +166,7 @@ module _ (mode : Mode) (rules : Rules) (us : List CodePoint) where
       blocked_none mode rules us rest (front_backslash rest following e ∙ ap (backslash_front here) p.whole ∙ backslash_u u more
       ∙ ap (λ w. escaped_token (escape_at true w)) (sym p.whole) ∙ ap escaped_token (too_many_escape following count p))
 
-  no_unicode_token : (w : List ℕ) → ((v n : ℕ) → Decodes true w v n → ⊥) → ((count : ℕ) → PassesHex w count → ⊥) → (d : Decoded) → decoded true w ≡ d → escaped_token (unicode_read d) ≡ None
+  no_unicode_token : (w : List ℕ) → ((v n : ℕ) → Decodes true w v n → ⊥) → ((count : ℕ) → PassesHex w count → ⊥) → (d : Decoded) → decoding_of true w ≡ d → escaped_token (unicode_read d) ≡ None
   no_unicode_token w no_value no_limit (value v n) h = absurd (no_value v n ((value_law true w v n).0 h))
   no_unicode_token w no_value no_limit q h = refl
 
@@ -174,7 +174,7 @@ module _ (mode : Mode) (rules : Rules) (us : List CodePoint) where
       → IsBlocked mode rules us rest
   blocked_escape u rest following e no_value no_limit =
       blocked_none mode rules us rest (front_backslash rest (117 ∷ following) e ∙ backslash_u u following ∙ ap escaped_token (escape_u following)
-      ∙ no_unicode_token (117 ∷ following) no_value no_limit (decoded true (117 ∷ following)) refl)
+      ∙ no_unicode_token (117 ∷ following) no_value no_limit (decoding_of true (117 ∷ following)) refl)
 
   -- a name that does not end, or has in it what may not stand there
   pub blocked_name : (rest : List CodePoint) (w following : List ℕ) (count : ℕ) → values rest ≡ w → BeginsName here w following → IsNameRow (is_unicode mode) following count → (starts 62 (drop count following) ≡ true → count ≡ 0) → IsBlocked mode rules us rest

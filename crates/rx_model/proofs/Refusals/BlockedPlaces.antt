@@ -46,7 +46,7 @@ pub last_all : {A : Type 0} (P : A → Type 0) (xs ys : List A) → All P (xs ++
 last_all P [] ys h = h
 last_all P (x ∷ xs) ys h = last_all P xs ys (All-tail P x (xs ++ ys) h)
 
--- what the tokens of a tree that reads the text owe by themselves
+-- what the tokens of a tree that the text reads as obey by themselves
 pub tree_obeys : (mode : Mode) (rules : Rules) (us : List CodePoint) (p : Pattern) → Reads mode rules p us → AreObeying mode us (tokens p)
 tree_obeys mode rules us p r =
     let t = tells_groups mode rules p us r.spelled in

@@ -18,7 +18,7 @@ use Rattle.rx_units.specs.Digits.{front_is, PassesHex}
 use Rattle.rx_units.proofs.Digits.{nonzero_digit}
 use Rattle.rx_model.specs.declared.mode.Mode.{Mode}
 use Rattle.rx_model.specs.Refusals.Causes.{BeginsWithPair, LeadNowhere}
-use Rattle.rx_model.specs.Characters.Decoding.{Decoded, value, invalid, overflow, decoded}
+use Rattle.rx_model.specs.Characters.Decoding.{Decoded, value, invalid, overflow, decoding_of}
 use Rattle.rx_model.specs.Inputs.Environment.{Environment, is_unicode}
 use Rattle.rx_model.specs.Refusals.EscapeCauses as escape
 use Rattle.rx_model.specs.Refusals.EscapeCauses.{IsEscapeCause}
@@ -41,7 +41,7 @@ use Rattle.rx_model.specs.declared.rules.Rules.{Rules}
 use Rattle.rx_model.proofs.Quantifiers.DecimalDigits.{digit_there}
 use Rattle.rx_model.proofs.Quantifiers.BlockedCounts.{brace_first}
 use Rattle.rx_model.proofs.Refusals.BlockedFronts.{backslash_k, no_name_begins, no_name_front, sides_lead}
-use Rattle.rx_model.proofs.Characters.Decodings.{overflow_read, read_overflow, value_law}
+use Rattle.rx_model.proofs.Characters.Decoding.{overflow_read, read_overflow, value_law}
 use Rattle.rx_model.proofs.Reading.Fronts.{front_by_values, spelled_front}
 use Rattle.rx_model.proofs.Groups.GroupNames.{lead_not_backslash, lead_seen, name_read, no_name_law, trail_seen}
 use Rattle.rx_model.proofs.Groups.Modifiers.{modifiers_begin, not_mark, sides_read}
@@ -103,7 +103,7 @@ module _ (mode : Mode) (rules : Rules) (us : List CodePoint) (start added : ℕ)
   abbrev pub after_name : ℕ → ℕ → List ℕ → Option Diagnostic
   after_name f count [] = unterminated_name f count
   after_name f count (c ∷ w) =
-      cond (c == 92) (in_name f count (decoded true w) w) (cond (not (is_unicode mode) && begins_pair (c ∷ w)) (misplaced_pair f count) (unterminated_name f count))
+      cond (c == 92) (in_name f count (decoding_of true w) w) (cond (not (is_unicode mode) && begins_pair (c ∷ w)) (misplaced_pair f count) (unterminated_name f count))
 
   abbrev name_fault : ℕ → List ℕ → Option Diagnostic
   name_fault f w = after_name f (row_units (name_at (is_unicode mode) w)) (drop (row_units (name_at (is_unicode mode) w)) w)
@@ -131,7 +131,7 @@ module _ (mode : Mode) (rules : Rules) (us : List CodePoint) (start added : ℕ)
   abbrev at_backslash : ℕ → Option (Token × ℕ) → List ℕ → Answer
   at_backslash f t [] = cond (is_unicode mode) stopping (told (Some (InvalidExtendedAtomEscape (span f (f + 1)))))
   at_backslash f t (c ∷ w) =
-      cond (c == 117) (told (escape_fault f (decoded true (117 ∷ w))))
+      cond (c == 117) (told (escape_fault f (decoding_of true (117 ∷ w))))
       (cond (c == 107) (told (reference_fault f t w))
       (cond (begins_property c) by_property
       (cond (is_within 49 57 c) (told (index_fault f t)) stopping)))
@@ -150,7 +150,7 @@ module _ (mode : Mode) (rules : Rules) (us : List CodePoint) (start added : ℕ)
   abbrev pub answer : ℕ → List CodePoint → Answer
   answer f rest = answer_by f (front here rest) (values rest)
 
-  escape_told : (f : ℕ) (w : List ℕ) (d : Diagnostic) (r : Decoded) → decoded true w ≡ r → ((v n : ℕ) → Decodes true w v n → ⊥) → ((count : ℕ) → PassesHex w count → ⊥) → escape_fault f (decoded true w) ≡ Some (InvalidUnicodeEscapeSequence (span (f + 1) (f + 2)))
+  escape_told : (f : ℕ) (w : List ℕ) (d : Diagnostic) (r : Decoded) → decoding_of true w ≡ r → ((v n : ℕ) → Decodes true w v n → ⊥) → ((count : ℕ) → PassesHex w count → ⊥) → escape_fault f (decoding_of true w) ≡ Some (InvalidUnicodeEscapeSequence (span (f + 1) (f + 2)))
   escape_told f w d (value v n) h no_value no_limit = absurd (no_value v n ((value_law true w v n).0 h))
   escape_told f w d (overflow n) h no_value no_limit = absurd (no_limit n (read_overflow true w n h).1)
   escape_told f w d invalid h no_value no_limit = ap (escape_fault f) h
@@ -158,10 +158,10 @@ module _ (mode : Mode) (rules : Rules) (us : List CodePoint) (start added : ℕ)
   pub escape_is : (f : ℕ) (rest : List CodePoint) (d : Diagnostic) → IsEscapeCause mode us start added f rest d → answer f rest ≡ told (Some d)
   escape_is f rest _ (escape.too_many_hex_digits count following m h p) =
       ap (answer_by f (front here rest)) (h ∙ ap (λ w. 92 ∷ w) p.whole)
-      ∙ ap (λ w. told (escape_fault f (decoded true w))) (sym p.whole)
+      ∙ ap (λ w. told (escape_fault f (decoding_of true w))) (sym p.whole)
       ∙ ap (λ r. told (escape_fault f r)) (overflow_read following count p)
   escape_is f rest d (escape.invalid_escape following m h no_value no_limit) =
-      ap (answer_by f (front here rest)) h ∙ ap told (escape_told f (117 ∷ following) d (decoded true (117 ∷ following)) refl no_value no_limit)
+      ap (answer_by f (front here rest)) h ∙ ap told (escape_told f (117 ∷ following) d (decoding_of true (117 ∷ following)) refl no_value no_limit)
 
   -- the same of names
   name_there : (f count : ℕ) (following : List ℕ) (d : Option Diagnostic) → IsNameRow (is_unicode mode) following count → after_name f count (drop count following) ≡ d → name_fault f following ≡ d
@@ -188,7 +188,7 @@ module _ (mode : Mode) (rules : Rules) (us : List CodePoint) (start added : ℕ)
       ap (after_name f count) p.whole ∙ cond-false (p.lead == 92) _ _ (lead_not_backslash p.lead p.is_lead)
       ∙ cond-true (not (is_unicode mode) && begins_pair (p.lead ∷ p.trail ∷ p.rest)) _ _ (rw (m, lead_seen p.lead p.is_lead, trail_seen p.trail p.is_trail) refl)
 
-  pub invalid_is : (f count : ℕ) (w : List ℕ) (b : Bool) (r : Decoded) → decoded true w ≡ r → ((v n : ℕ) → Decodes true w v n → ⊥) → ((many : ℕ) → PassesHex w many → ⊥) → (is_unicode mode && starts 117 w) ≡ b →
+  pub invalid_is : (f count : ℕ) (w : List ℕ) (b : Bool) (r : Decoded) → decoding_of true w ≡ r → ((v n : ℕ) → Decodes true w v n → ⊥) → ((many : ℕ) → PassesHex w many → ⊥) → (is_unicode mode && starts 117 w) ≡ b →
       after_name f count (92 ∷ w) ≡ cond b (Some (InvalidUnicodeEscapeSequence (span (f + 4 + count) (f + 5 + count)))) (Some (InvalidUnicodeEscapeSequence (span (f + 3 + count) (f + 4 + count))))
   invalid_is f count w b (value v n) h no_value no_limit s = absurd (no_value v n ((value_law true w v n).0 h))
   invalid_is f count w b (overflow n) h no_value no_limit s = absurd (no_limit n (read_overflow true w n h).1)

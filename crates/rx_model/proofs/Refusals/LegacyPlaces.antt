@@ -15,7 +15,7 @@ use Rattle.rx_units.specs.Units.{values}
 use Rattle.rx_units.specs.Digits.{front_is}
 use Rattle.rx_units.proofs.Choices.{both, chosen}
 use Rattle.rx_model.specs.declared.mode.Mode.TheVariants.{Legacy}
-use Rattle.rx_model.specs.Characters.Decoding.{Decoded, value, invalid, overflow, decoded}
+use Rattle.rx_model.specs.Characters.Decoding.{Decoded, value, invalid, overflow, decoding_of}
 use Rattle.rx_model.specs.Characters.UnitKinds.{unit_kind}
 use Rattle.rx_model.specs.FirstPass.Marks.{starts}
 use Rattle.rx_model.specs.Groups.GroupFronts.{angle_group, closed_name, group_front, name_front, named_group, question_group, reference_front}
@@ -37,7 +37,7 @@ use Rattle.rx_model.specs.Trees.Early.{IsGreatest, Obeys, greatest_count}
 use Rattle.rx_model.specs.Trees.Shapes.{run}
 use Rattle.rx_model.specs.Trees.Token.{Token, Opener, boundary, character, dot, class_escape, property, class, indexed, named, opener, closer, bar, quantifier, capturing, ignoring, looking}
 use Rattle.rx_model.specs.declared.rules.Rules.{Rules}
-use Rattle.rx_model.proofs.Characters.Decodings.{overflow_read, read_overflow, value_law}
+use Rattle.rx_model.proofs.Characters.Decoding.{overflow_read, read_overflow, value_law}
 use Rattle.rx_model.proofs.Classes.ClassReads.{class_opens}
 use Rattle.rx_model.proofs.Classes.LegacyClasses.{class_or_refusal}
 use Rattle.rx_model.proofs.Groups.GroupNames.{name_row_law, no_name_read}
@@ -281,7 +281,7 @@ module _ (rules : Rules) (us : List CodePoint) (start added : ℕ) where
       ends_with : (n : ℕ) (back : List ℕ) → IsNameRow false following n → drop n following ≡ back → EndsName here (values rest) n back
       ends_with n back longest h = record { following = following; begins = subst (λ w. BeginsName here w following) (sym text) begins; longest = longest; rest_is = sym h }
 
-      escape_there : (n : ℕ) (v : List ℕ) (d : Decoded) → decoded true v ≡ d → EndsName here (values rest) n (92 ∷ v) → Refused
+      escape_there : (n : ℕ) (v : List ℕ) (d : Decoded) → decoding_of true v ≡ d → EndsName here (values rest) n (92 ∷ v) → Refused
       escape_there n v (value x k) h e = (place, _, cause.misplaced_in_name place n x k rest v p e ((value_law true v x k).0 h))
       escape_there n v (overflow many) h e = (place, _, cause.too_many_digits_in_name place n many rest v p e (read_overflow true v many h).1)
       escape_there n v invalid h e = (
@@ -294,7 +294,7 @@ module _ (rules : Rules) (us : List CodePoint) (start added : ℕ) where
       after_row : (n : ℕ) (back : List ℕ) → IsNameRow false following n → (starts 62 back ≡ true → n ≡ 0) → drop n following ≡ back → Refused
       after_row n [] longest closes h = (place, _, cause.unterminated_name_in_legacy place n rest [] p refl (ends_with n [] longest h) refl (λ b. let no = b.whole in cc no) closes)
       after_row n (c ∷ v) longest closes h = elim (cases_Bool (c == 92)) [
-        | inl b ↦ escape_there n v (decoded true v) refl (ends_with n (92 ∷ v) longest (h ∙ ap (λ c. c ∷ v) (eqb-true c 92 b)))
+        | inl b ↦ escape_there n v (decoding_of true v) refl (ends_with n (92 ∷ v) longest (h ∙ ap (λ c. c ∷ v) (eqb-true c 92 b)))
         | inr b ↦ elim (cases_Bool (begins_pair (c ∷ v))) [
           | inl t ↦ (place, _, cause.misplaced_pair place n rest (c ∷ v) p refl (ends_with n (c ∷ v) longest h) (pair_begins (c ∷ v) t))
           | inr t ↦ (place, _, cause.unterminated_name_in_legacy place n rest (c ∷ v) p refl (ends_with n (c ∷ v) longest h) b (no_pair (c ∷ v) t) closes)

@@ -15,7 +15,7 @@ use Rattle.rx_model.specs.Classes.ClassFronts.{AtomRead, atom_read, no_atom, cha
 use Rattle.rx_model.specs.Classes.ClassTokens.{Atom}
 use Rattle.rx_model.specs.Characters.Decoding.{four_at, after_u}
 use Rattle.rx_model.specs.Inputs.Environment.{Environment, is_sets, is_unicode}
-use Rattle.rx_model.specs.Characters.EscapeFronts.{EscapeRead, escaped, nothing, too_many, no_unicode, escaped_if, unicode_read, two_at, escape_after, escape_at, control_after, octal_at, digit_at, legacy_at, or_legacy, any_escape_at, class_escape_at}
+use Rattle.rx_model.specs.Characters.EscapeFronts.{EscapeRead, escaped, nothing, too_many, no_unicode, escape_if, unicode_read, two_at, escape_after, escape_at, control_after, octal_at, digit_at, legacy_at, or_legacy, any_escape_at, class_escape_at}
 use Rattle.rx_model.specs.Reading.Fronts.{boundary_at, backslash_token, backslash_front, escaped_token, is_reference, indexed_token, digits, digits_after, Digits}
 use Rattle.rx_model.specs.Characters.LegacyEscapes.{is_free, two_next, four_next, is_class_control}
 use Rattle.rx_model.specs.Properties.PropertyForms.{begins_property}
@@ -36,7 +36,7 @@ NotEscaped w = (k : CharacterKind) (v n : ℕ) → escape_at false w ≡ escaped
 
 letter_read : (c : ℕ) (w : List ℕ) → is_some (control_letter_value c) ≡ true → NotEscaped (99 ∷ c ∷ w) → ⊥
 unfolding escape_at
-letter_read c w h n = let v = some_there (control_letter_value c) h in n kinds.ControlLetter v.0 2 (ap (escaped_if kinds.ControlLetter 2) v.1)
+letter_read c w h n = let v = some_there (control_letter_value c) h in n kinds.ControlLetter v.0 2 (ap (escape_if kinds.ControlLetter 2) v.1)
 
 null_read : (w : List ℕ) → front_is is_decimal_digit w ≡ false → NotEscaped (48 ∷ w) → ⊥
 unfolding escape_at
@@ -60,7 +60,7 @@ four_some (a ∷ b ∷ c ∷ d ∷ w) h = let v = some_there (hex_number (a ∷ 
 
 two_read : (w : List ℕ) → is_some (two_next w) ≡ true → NotEscaped (120 ∷ w) → ⊥
 unfolding escape_at
-two_read w h n = let v = two_some w h in n kinds.HexadecimalEscape v.0 3 (ap (escaped_if kinds.HexadecimalEscape 3) v.1)
+two_read w h n = let v = two_some w h in n kinds.HexadecimalEscape v.0 3 (ap (escape_if kinds.HexadecimalEscape 3) v.1)
 
 four_read : (w : List ℕ) → is_some (four_next w) ≡ true → NotEscaped (117 ∷ w) → ⊥
 unfolding escape_at

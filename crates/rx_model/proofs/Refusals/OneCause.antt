@@ -9,7 +9,7 @@ use Rattle.rx_model.specs.Refusals.Causes as cause
 use Rattle.rx_model.specs.Refusals.Causes.{HasBraces, IsCause, IsCauseAtPlace, name_span}
 use Rattle.rx_model.specs.Refusals.ClassCauses.{IsClassCause}
 use Rattle.rx_model.specs.Inputs.Environment.{Environment, is_sets, is_unicode}
-use Rattle.rx_model.specs.Refusals.Firsts.{IsFirst, IsFirstInClass, IsFirstOf, NoneBeyond, no_item, of_groups, of_places, yielding}
+use Rattle.rx_model.specs.Refusals.Firsts.{IsFirst, IsFirstInClass, IsFirstOf, NoneBeyond, no_item, of_groups, of_places, yielding_of}
 use Rattle.rx_model.specs.Reading.Fronts.{front}
 use Rattle.rx_model.specs.FirstPass.Marks.{IsFirstClash, marks}
 use Rattle.rx_model.specs.Refusals.Reached.{AreObeying, HasNoClash, IsPlace, span_between, text_environment, text_groups}
@@ -218,7 +218,7 @@ module _ (mode : Mode) (rules : Rules) (us : List CodePoint) (start added : ℕ)
       by (in_class from at_class p x) (in_class other also q y) = laws.two (in_one_class from other f g at_class also d e p x q y) y
 
   -- A refusal that says more than that nothing stands there is the first.
-  pub said_is_first : (place : ℕ) (d : Diagnostic) → IsCauseAtPlace mode rules us start added place d → yielding d ≢ no_item → IsFirstOf (IsCauseAtPlace mode rules us start added) d
+  pub said_is_first : (place : ℕ) (d : Diagnostic) → IsCauseAtPlace mode rules us start added place d → yielding_of d ≢ no_item → IsFirstOf (IsCauseAtPlace mode rules us start added) d
   said_is_first place d c says = most_is_first (IsCauseAtPlace mode rules us start added) place d c (λ further e k. two_at_places place further d e c k) says
 
   -- So is the first of a class that begins at a place that is reached.

@@ -6,7 +6,7 @@ use Rattle.rx_model.specs.declared.mode.Mode.{Mode}
 use Rattle.rx_model.specs.declared.rules.Rules.{Rules}
 use Rattle.rx_model.specs.Refusals.EscapeCauses as escape
 use Rattle.rx_model.specs.Refusals.EscapeCauses.{IsEscapeCause, IsPropertyCause}
-use Rattle.rx_model.specs.Refusals.Firsts.{IsCauseOfEscape, IsFirstOfEscape, no_item, of_character, of_property, yielding}
+use Rattle.rx_model.specs.Refusals.Firsts.{IsCauseOfEscape, IsFirstOfEscape, no_item, of_character, of_property, yielding_of}
 use Rattle.rx_model.proofs.Refusals.Faults.{by_property, told, escape_is, property_is}
 use Rattle.rx_model.proofs.Properties.OneProperty.{one_property}
 use Rattle.rx_model.proofs.Refusals.OnlyFirst.{only_is_first}
@@ -33,11 +33,11 @@ module _ (mode : Mode) (us : List CodePoint) (start added place : ℕ) (rest : L
   one_of_escape _ _ d e (of_property c) (of_property k) = (refl, one_property mode us start added place rest d e c k)
 
   -- It says more than that nothing stands there.
-  pub character_says : (d : Diagnostic) → IsEscapeCause mode us start added place rest d → yielding d ≢ no_item
+  pub character_says : (d : Diagnostic) → IsEscapeCause mode us start added place rest d → yielding_of d ≢ no_item
   character_says _ (escape.too_many_hex_digits count following u h p) k = cc k
   character_says _ (escape.invalid_escape following u h no_value no_limit) k = cc k
 
-  pub property_says : (d : Diagnostic) → IsPropertyCause mode us start added place rest d → yielding d ≢ no_item
+  pub property_says : (d : Diagnostic) → IsPropertyCause mode us start added place rest d → yielding_of d ≢ no_item
   property_says _ (escape.no_property c following unicode whole is other) k = cc k
   property_says _ (escape.unterminated_run w run following b has short) k = cc k
   property_says _ (escape.unclosed_run w run following b has known goes other) k = cc k

@@ -2,7 +2,7 @@
 use Rattle.std.proofs.Common.{◌≡◌, ◌≢◌, ◌⊎◌, refl, ap, sym, ◌∙◌, subst, ℕ, ◌<◌, true, false, arith, inl, inr}
 use Rattle.std.proofs.lemmas.Bool.{true≢false}
 use Rattle.rx_base.specs.declared.diagnostic.Diagnostic.{Diagnostic}
-use Rattle.rx_model.specs.Refusals.Firsts.{GivesWay, IsFirstOf, Yielding, no_item, no_escape, many_digits, no_property, of_strings, any_other, yielding, yields}
+use Rattle.rx_model.specs.Refusals.Firsts.{GivesWay, IsFirstOf, Yielding, no_item, no_escape, many_digits, no_property, of_strings, any_other, yielding_of, yields}
 
 yields_to_none : (k : Yielding) → yields k k ≡ false
 yields_to_none no_item = refl
@@ -17,7 +17,7 @@ only_is_first Holds place d h only = record {
   place = place;
   holds = h;
   none_later = λ further e k less. let same = (only further e k).0 in omega (arith, same, less);
-  none_over = λ e k. ap (λ e. yields (yielding d) (yielding e)) (sym (only place e k).1) ∙ yields_to_none (yielding d);
+  none_over = λ e k. ap (λ e. yields (yielding_of d) (yielding_of e)) (sym (only place e k).1) ∙ yields_to_none (yielding_of d);
 }
 
 -- A refusal holds, and no other does.
@@ -45,15 +45,15 @@ first_by_either Holds Also over back d x = by (over x.place d x.holds)
         later further e (inl h) less = x.none_later further e h less
         later further e (inr only) less = let same = (only.0.1 x.place d holds).0 in omega (arith, same, less)
 
-        over_none : (e : Diagnostic) → Holds x.place e ⊎ (IsOnly Also x.place e × ((other : ℕ) × IsOnly Holds other e)) → yields (yielding d) (yielding e) ≡ false
+        over_none : (e : Diagnostic) → Holds x.place e ⊎ (IsOnly Also x.place e × ((other : ℕ) × IsOnly Holds other e)) → yields (yielding_of d) (yielding_of e) ≡ false
         over_none e (inl h) = x.none_over e h
-        over_none e (inr only) = ap (λ e. yields (yielding d) (yielding e)) (only.0.1 x.place d holds).1 ∙ yields_to_none (yielding d)
+        over_none e (inr only) = ap (λ e. yields (yielding_of d) (yielding_of e)) (only.0.1 x.place d holds).1 ∙ yields_to_none (yielding_of d)
 
 -- What gives way yields.
-gives_way_yields : (f g : ℕ) (d e : Diagnostic) → GivesWay f d g e → yields (yielding d) (yielding e) ≡ true
-gives_way_yields f g d e w = by (yielding e) w.says_more (λ k. ap (λ other. yields other k) w.says_less)
+gives_way_yields : (f g : ℕ) (d e : Diagnostic) → GivesWay f d g e → yields (yielding_of d) (yielding_of e) ≡ true
+gives_way_yields f g d e w = by (yielding_of e) w.says_more (λ k. ap (λ other. yields other k) w.says_less)
   where
-    by : (k : Yielding) → (k ≡ no_item → ⊥) → ((k : Yielding) → yields (yielding d) k ≡ yields no_item k) → yields (yielding d) k ≡ true
+    by : (k : Yielding) → (k ≡ no_item → ⊥) → ((k : Yielding) → yields (yielding_of d) k ≡ yields no_item k) → yields (yielding_of d) k ≡ true
     by no_item more at = absurd (more refl)
     by no_escape more at = at no_escape
     by many_digits more at = at many_digits
@@ -76,7 +76,7 @@ AreCompared f d g e = ((f ≡ g) × (d ≡ e)) ⊎ (GivesWay f d g e ⊎ GivesWa
 
 module _ (Holds : ℕ → Diagnostic → Type 0) where
   -- A refusal that says more is the first, where each other is that one or gives way.
-  pub most_is_first : (place : ℕ) (d : Diagnostic) → Holds place d → ((further : ℕ) (e : Diagnostic) → Holds further e → AreCompared place d further e) → yielding d ≢ no_item → IsFirstOf Holds d
+  pub most_is_first : (place : ℕ) (d : Diagnostic) → Holds place d → ((further : ℕ) (e : Diagnostic) → Holds further e → AreCompared place d further e) → yielding_of d ≢ no_item → IsFirstOf Holds d
   most_is_first place d h all says = record {
     place = place;
     holds = h;
@@ -89,16 +89,16 @@ module _ (Holds : ℕ → Diagnostic → Type 0) where
       later further e (inr (inl w)) less = says w.says_less
       later further e (inr (inr w)) less = omega (arith, w.no_earlier, less)
 
-      over : (e : Diagnostic) → AreCompared place d place e → yields (yielding d) (yielding e) ≡ false
-      over e (inl same) = ap (λ e. yields (yielding d) (yielding e)) (sym same.1) ∙ yields_to_none (yielding d)
+      over : (e : Diagnostic) → AreCompared place d place e → yields (yielding_of d) (yielding_of e) ≡ false
+      over e (inl same) = ap (λ e. yields (yielding_of d) (yielding_of e)) (sym same.1) ∙ yields_to_none (yielding_of d)
       over e (inr (inl w)) = absurd (says w.says_less)
-      over e (inr (inr w)) = ap (yields (yielding d)) w.says_less ∙ none_yields (yielding d)
+      over e (inr (inr w)) = ap (yields (yielding_of d)) w.says_less ∙ none_yields (yielding_of d)
 
   -- A first refusal does not give way.
   stays : (d e : Diagnostic) (x : IsFirstOf Holds d) (y : IsFirstOf Holds e) → GivesWay x.place d y.place e → ⊥
   stays d e x y w = by (λ less. x.none_later y.place e y.holds less) (λ same. x.none_over e (subst (λ place. Holds place e) (sym same) y.holds))
     where
-      by : (x.place < y.place → ⊥) → (x.place ≡ y.place → yields (yielding d) (yielding e) ≡ false) → ⊥
+      by : (x.place < y.place → ⊥) → (x.place ≡ y.place → yields (yielding_of d) (yielding_of e) ≡ false) → ⊥
       by none over =
           let same : x.place ≡ y.place = omega (arith, w.no_earlier, none) in
           true≢false (sym (gives_way_yields x.place y.place d e w) ∙ over same)

@@ -94,7 +94,7 @@ module _ (mode : Mode) (rules : Rules) (us : List CodePoint) where
           let s = same_state open_groups open_after ready ready_after (sym a.accepted ∙ ap (λ ts. run mode ts [] false) e ∙ b.accepted) in
           record { open_is = s.0; ready_is = s.1; rest_is = r; tokens_are = e }
 
-  -- Where a tree reads a text its end is reached, with no group open.
+  -- Where a text reads as a tree its end is reached, with no group open.
   pub read_to_end : (p : Pattern) → Reads mode rules p us → (ready : Bool) × IsReached mode rules us (length us) [] ready []
   read_to_end p r =
       let runs = pattern_runs mode p r.spelled.shape in (

@@ -1,4 +1,4 @@
--- No tree reads a text that is refused, and no place is reached beyond the one at which a refusal holds.
+-- A text that is refused reads as no tree, and no place is reached beyond the one at which a refusal holds.
 use Rattle.std.proofs.Common.{ap, ◌∙◌, ◌∷◌, ℕ, List, arith}
 use Rattle.rx_base.specs.declared.diagnostic.Diagnostic.{Diagnostic}
 use Rattle.rx_ast.specs.declared.term.Pattern.{Pattern}

@@ -19,7 +19,7 @@ use Rattle.rx_units.proofs.Choices.{both}
 use Rattle.rx_model.specs.declared.mode.Mode.{Mode}
 use Rattle.rx_model.specs.declared.mode.Mode.TheVariants.{Legacy, Unicode, Sets}
 use Rattle.rx_ast.specs.Texts.{boundary_text, class_escape_text, property_text, letters, dash, look_text, indexed_text, named_text, counts_text, lazy_text, quantifier_text}
-use Rattle.rx_model.specs.Spelling.CharacterText.{two_digits, four_digits, braced, outside, character_text}
+use Rattle.rx_model.specs.Spelling.CharacterText.{two_digits, four_digits, in_braces_text, outside, character_text}
 use Rattle.rx_model.specs.Spelling.ClassText.{class_text}
 use Rattle.rx_model.specs.Trees.Early.{Obeys, IsEarlyOpener, greatest_count, most_groups, IsGreatest}
 use Rattle.rx_model.specs.Inputs.Environment.{for_classes, Environment, is_unicode}
@@ -95,13 +95,13 @@ not_question c h = grind (arith, nat_tests)
 
 -- no character's text begins with a question mark
 character_no_question : (mode : Mode) (c : ℕ) (more : List ℕ) → front_is is_question (character_text mode (outside false) c ++ more) ≡ false
-unfolding two_digits four_digits braced
+unfolding two_digits four_digits in_braces_text
 character_no_question mode c more =
     by_form (λ text. front_is is_question (text ++ more) ≡ false) mode (outside false) c refl refl refl refl (λ _. refl) (λ _. refl) (λ raw. not_question c raw.unescaped)
 
 -- right after a reference no character's text begins with a digit
 character_no_digit : (mode : Mode) (c : ℕ) (more : List ℕ) → front_is is_decimal_digit (character_text mode (outside true) c ++ more) ≡ false
-unfolding two_digits four_digits braced
+unfolding two_digits four_digits in_braces_text
 character_no_digit mode c more = by_form (λ text. front_is is_decimal_digit (text ++ more) ≡ false) mode (outside true) c refl refl refl refl (λ _. refl) (λ _. refl) (λ raw. raw.alone)
 
 -- the set holds none of these: $ ( \ ^

@@ -21,7 +21,7 @@ use Rattle.rx_units.specs.Digits.{hex_after, hex_number}
 use Rattle.rx_units.proofs.Choices.{both}
 use Rattle.rx_model.specs.declared.mode.Mode.{Mode}
 use Rattle.rx_model.specs.declared.mode.Mode.TheVariants.{Legacy, Unicode, Sets}
-use Rattle.rx_model.specs.Spelling.CharacterText.{control_letter, two_digits, four_digits, hex, braced, surrogate_text, greatest_raw, outside, character_text}
+use Rattle.rx_model.specs.Spelling.CharacterText.{control_letter, two_digits, four_digits, hex, in_braces_text, surrogate_text, greatest_raw, outside, character_text}
 use Rattle.rx_model.specs.Inputs.Environment.{Environment, is_unicode}
 use Rattle.rx_model.specs.Characters.Escapes.{SpellsEscape, control, hexadecimal, unicode, identity}
 use Rattle.rx_model.specs.Characters.LegacyEscapes as legacy
@@ -212,8 +212,8 @@ module _ (e : Environment) (mode : Mode) (m : e.mode ≡ mode) where
   identity_spelled Unicode l c h at more = backslash c kinds.Identifier (c ∷ []) (λ rest. identity (ap is_unicode l) h) at more
   identity_spelled Sets l c h at more = backslash c kinds.Identifier (c ∷ []) (λ rest. identity (ap is_unicode l) h) at more
 
-  braced_spelled : {md : Mode} → mode ≡ md → is_unicode md ≡ true → (c : ℕ) → c ≤ 0x10FFFF → SpellsCharacter c kinds.UnicodeEscape (braced c)
-  unfolding braced
+  braced_spelled : {md : Mode} → mode ≡ md → is_unicode md ≡ true → (c : ℕ) → c ≤ 0x10FFFF → SpellsCharacter c kinds.UnicodeEscape (in_braces_text c)
+  unfolding in_braces_text
   braced_spelled l u c low =
       unicode_escape c (117 ∷ 123 ∷ (hex 8 c ++ (125 ∷ [])))
       (λ rest. subst (λ b. SpellsUnicode b c (117 ∷ 123 ∷ (hex 8 c ++ (125 ∷ []))) rest) (sym (ap is_unicode l ∙ u))

@@ -22,7 +22,7 @@ use Rattle.rx_model.specs.Spelling.ReadBack.{AreCodeUnits, FitIn}
 use Rattle.rx_model.specs.Reading.Rows.{Spells}
 use Rattle.rx_model.specs.Trees.Token.{character}
 use Rattle.rx_model.specs.Characters.UnicodeEscapes.{SpellsUnicode, code_unit, alone, pair, braced}
-use Rattle.rx_model.proofs.Characters.Decodings.{spelled_read, value_is_code_point}
+use Rattle.rx_model.proofs.Characters.Decoding.{spelled_read, value_is_code_point}
 
 -- a value of a mode: with neither `u` nor `v` it has 16 bits
 abbrev pub FitsIn : Mode → ℕ → Type 0

@@ -5,7 +5,7 @@ use Rattle.rx_base.specs.Characters.{is_surrogate, is_within}
 use Rattle.rx_tables.specs.Characters.{is_decimal_digit}
 use Rattle.rx_model.specs.declared.mode.Mode.{Mode}
 use Rattle.rx_model.specs.declared.mode.Mode.TheVariants.{Legacy}
-use Rattle.rx_model.specs.Spelling.CharacterText.{Place, outside, control_letter, two_digits, four_digits, braced, surrogate_text, greatest_raw, is_escaped, goes_on, character_text}
+use Rattle.rx_model.specs.Spelling.CharacterText.{Place, outside, control_letter, two_digits, four_digits, in_braces_text, surrogate_text, greatest_raw, is_escaped, goes_on, character_text}
 
 -- a character that stands for itself
 pub record IsRaw (mode : Mode) (place : Place) (c : ℕ) : Type 0 where
@@ -18,7 +18,7 @@ going_digit : (place : Place) (c : ℕ) → goes_on place c ≡ true → is_deci
 going_digit (outside true) c h = h
 going_digit q c h = absurd (let no : ⊥ = cc h in no)
 
-pub by_form : (P : List ℕ → Type 0) (mode : Mode) (place : Place) (c : ℕ) → P (92 ∷ control_letter c ∷ []) → P (two_digits c) → P (four_digits c) → P (braced c) → (is_escaped mode place c ≡ true → P (92 ∷ c ∷ []))
+pub by_form : (P : List ℕ → Type 0) (mode : Mode) (place : Place) (c : ℕ) → P (92 ∷ control_letter c ∷ []) → P (two_digits c) → P (four_digits c) → P (in_braces_text c) → (is_escaped mode place c ≡ true → P (92 ∷ c ∷ []))
     → (is_decimal_digit c ≡ true → P (92 ∷ 120 ∷ 51 ∷ c ∷ [])) → (IsRaw mode place c → P (c ∷ [])) → P (character_text mode place c)
 unfolding character_text
 by_form P mode place c control two four braces escaped digit raw =

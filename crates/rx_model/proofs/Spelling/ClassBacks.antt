@@ -25,7 +25,7 @@ use Rattle.rx_units.specs.Units.{unit, literal_units, values}
 use Rattle.rx_units.specs.Digits.{front_is}
 use Rattle.rx_model.specs.declared.mode.Mode.{Mode}
 use Rattle.rx_model.specs.declared.mode.Mode.TheVariants.{Legacy, Unicode, Sets}
-use Rattle.rx_model.specs.Spelling.CharacterText.{control_letter, two_digits, four_digits, hex, braced, surrogate_text, greatest_raw, is_escaped, in_class, character_text}
+use Rattle.rx_model.specs.Spelling.CharacterText.{control_letter, two_digits, four_digits, hex, in_braces_text, surrogate_text, greatest_raw, is_escaped, in_class, character_text}
 use Rattle.rx_model.specs.Classes.ClassRows.{BeforeHigh, ClassTokenRow, IsClass, Place, SpellsAtom, SpellsBracket, SpellsClassCharacter, SpellsInClass, StandsBefore, next_place, following_item, after_operator, fresh, has_hyphen, has_threes, in_strings, is_dashed, may_follow_operator, outside, stands_raw_in_class}
 use Rattle.rx_model.specs.Classes.ClassRows as spelled
 use Rattle.rx_model.specs.Classes.ClassShapes.{AreFitting, AreOperands, FitsKind, IsFitting, IsFittingMember, IsOperand}
@@ -126,8 +126,8 @@ module _ (e : Environment) (mode : Mode) (m : e.mode ≡ mode) where
   four_spelled c h =
       unicode_escape c (117 ∷ hex_digit (c / 4096 % 16) ∷ hex_digit (c / 256 % 16) ∷ hex_digit (c / 16 % 16) ∷ hex_digit (c % 16) ∷ []) (λ rest. four_text mode c rest h)
 
-  braced_spelled : {md : Mode} → mode ≡ md → is_unicode md ≡ true → (c : ℕ) → c ≤ 0x10FFFF → SpellsHere c kinds.UnicodeEscape (braced c)
-  unfolding braced
+  braced_spelled : {md : Mode} → mode ≡ md → is_unicode md ≡ true → (c : ℕ) → c ≤ 0x10FFFF → SpellsHere c kinds.UnicodeEscape (in_braces_text c)
+  unfolding in_braces_text
   braced_spelled l u c in_limit =
       unicode_escape c (117 ∷ 123 ∷ (hex 8 c ++ (125 ∷ [])))
       (λ rest. subst (λ b. SpellsUnicode b c (117 ∷ 123 ∷ (hex 8 c ++ (125 ∷ []))) rest) (sym (ap is_unicode l ∙ u))

@@ -10,7 +10,7 @@ use Rattle.rx_tables.specs.Characters.{is_class_set_reserved_double_punctuator, 
 use Rattle.rx_units.specs.Digits.{front_is}
 use Rattle.rx_model.specs.declared.mode.Mode.{Mode}
 use Rattle.rx_model.specs.declared.mode.Mode.TheVariants.{Legacy, Unicode, Sets}
-use Rattle.rx_model.specs.Spelling.CharacterText.{Place, two_digits, four_digits, braced, is_escaped, in_class, character_text}
+use Rattle.rx_model.specs.Spelling.CharacterText.{Place, two_digits, four_digits, in_braces_text, is_escaped, in_class, character_text}
 use Rattle.rx_model.specs.Classes.ClassRows.{is_dashed, stands_raw_in_class}
 use Rattle.rx_ast.specs.Texts.{class_escape_text, property_text}
 use Rattle.rx_model.specs.Spelling.ClassText.{class_text, in_class_text, member_text, members_text, more_members_text}
@@ -101,7 +101,7 @@ class_outside mode set h (class s false may kind ms) more = h
 -- a set that holds no backslash, and nothing that is not escaped in classes
 module _ (mode : Mode) (set : ℕ → Bool) (backslash : set 92 ≡ false) (raw : (c : ℕ) → is_escaped mode in_class c ≡ false → set c ≡ false) where
   pub in_class_outside : (c : ℕ) → BeginsOutside set (character_text mode in_class c)
-  unfolding two_digits four_digits braced
+  unfolding two_digits four_digits in_braces_text
   in_class_outside c more =
       by_form (λ text. front_is set (text ++ more) ≡ false) mode in_class c backslash backslash backslash backslash (λ _. backslash) (λ _. backslash) (λ r. raw c r.unescaped)
 
@@ -149,5 +149,5 @@ dashed (c ∷ text) more some h = rw h refl
 
 -- a character has some text
 pub some_character : (mode : Mode) (place : Place) (c : ℕ) → character_text mode place c ≢ []
-unfolding two_digits four_digits braced
+unfolding two_digits four_digits in_braces_text
 some_character mode place c = by_form (λ text. text ≢ []) mode place c (some 92 _) (some 92 _) (some 92 _) (some 92 _) (λ _. some 92 _) (λ _. some 92 _) (λ _. some c [])

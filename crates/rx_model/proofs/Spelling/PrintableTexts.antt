@@ -19,7 +19,7 @@ use Rattle.rx_ast.specs.declared.leaf.LookAroundAssertionKind.{LookAroundAsserti
 use Rattle.rx_ast.specs.declared.leaf.LookAroundAssertionKind.TheVariants as look
 use Rattle.rx_units.proofs.Choices.{both}
 use Rattle.rx_ast.specs.Texts.{boundary_text, class_escape_text, letters, dash, look_text, counts_text, lazy_text, quantifier_text}
-use Rattle.rx_model.specs.Spelling.CharacterText.{Place, control_letter, two_digits, four_digits, hex, braced, is_escaped, outside, in_class, character_text}
+use Rattle.rx_model.specs.Spelling.CharacterText.{Place, control_letter, two_digits, four_digits, hex, in_braces_text, is_escaped, outside, in_class, character_text}
 use Rattle.rx_model.specs.Trees.Early.{greatest_count, IsGreatest}
 use Rattle.rx_model.specs.Trees.Token.{ignoring}
 use Rattle.rx_model.specs.declared.mode.Mode.{Mode}
@@ -74,8 +74,8 @@ four_printable c =
     printable_cons (hex_digit (c / 4096 % 16)) (hex_digit (c / 256 % 16) ∷ hex_digit (c / 16 % 16) ∷ hex_digit (c % 16) ∷ []) (rest_printable (c / 4096)) (printable_cons (hex_digit (c / 256 % 16)) (hex_digit (c / 16 % 16) ∷ hex_digit (c % 16) ∷ []) (rest_printable (c / 256))
     (printable_cons (hex_digit (c / 16 % 16)) (hex_digit (c % 16) ∷ []) (rest_printable (c / 16)) (printable_cons (hex_digit (c % 16)) [] (rest_printable c) refl)))
 
-braced_printable : (c : ℕ) → IsPrintable (braced c)
-unfolding braced
+braced_printable : (c : ℕ) → IsPrintable (in_braces_text c)
+unfolding in_braces_text
 braced_printable c = printable-append (hex 8 c) (125 ∷ []) (hex_printable 8 c) refl
 
 decimal_digit_printable : (c : ℕ) → digit_value c < 10 → printable c ≡ true
@@ -164,5 +164,5 @@ pub character_passes : (test : ℕ → Bool) → ArePassing test → (mode : Mod
 character_passes test h mode place c raw =
     let by : (text : List ℕ) → IsPrintable text → list_all test text ≡ true = passes test h in
     by_form (λ text. list_all test text ≡ true) mode place c (by (92 ∷ control_letter c ∷ []) (printable_cons (control_letter c) [] (letter_printable c) refl)) (by (two_digits c) (two_printable c)) (by (four_digits c) (four_printable c))
-    (by (braced c) (braced_printable c)) (λ escaped. by (92 ∷ c ∷ []) (printable_cons c [] (escaped_printable mode place c escaped) refl))
+    (by (in_braces_text c) (braced_printable c)) (λ escaped. by (92 ∷ c ∷ []) (printable_cons c [] (escaped_printable mode place c escaped) refl))
     (λ digit. by (92 ∷ 120 ∷ 51 ∷ c ∷ []) (printable_cons c [] (digit_is_printable c digit) refl)) (λ is. and_from _ _ (raw is) refl)

@@ -7,7 +7,7 @@ use Rattle.std.specs.Char.{len_utf8}
 use Rattle.rx_base.specs.declared.fault.Fault.{Fault}
 use Rattle.rx_ast.specs.declared.term.Pattern.{Pattern}
 use Rattle.rx_ast.specs.Forget.{bare}
-use Rattle.rx_ast.proofs.Forgetting.{unspanned_bare}
+use Rattle.rx_ast.proofs.Forget.{unspanned_bare}
 use Rattle.rx_units.specs.declared.code_point.CodePoint.{CodePoint}
 use Rattle.rx_units.specs.declared.code_point.EscapeKind.TheVariants as escape_kind
 use Rattle.rx_units.specs.Units.{character_units, literal_units}
@@ -24,7 +24,7 @@ use Rattle.rx_model.specs.Reading.Reading.{Reads}
 use Rattle.rx_model.specs.Spelling.Spelling.{spelling}
 use Rattle.rx_model.proofs.Inputs.Asked.{alone_asks, literal_asks, one_asked}
 use Rattle.rx_model.proofs.Spelling.Bounds.{AreCodePoints}
-use Rattle.rx_model.proofs.Spelling.ReadBacks.{spelled_is_read_back}
+use Rattle.rx_model.proofs.Spelling.ReadBack.{spelled_is_read_back}
 
 -- Where an input asks to read the spelling of a tree that is read back, its answer is this tree.
 same_as : (input : Input) (mode : Mode) (tree : Pattern) → IsReadBack mode input.rules tree → Asks input mode (literal_units (is_unicode mode) 0 (literal_text (spelling (bare tree) mode)))

@@ -14,7 +14,7 @@ use Rattle.rx_model.specs.Trees.Events.{Events, within, node_events, nodes_event
 use Rattle.rx_model.specs.Spelling.Spelling.{leaf_text, leaf_refers, refers, node_text, nodes_text, alternatives_text, barred_text, spelling}
 use Rattle.rx_model.specs.Trees.Token.{Token, Opener, boundary, character, dot, class_escape, property, class, indexed, named, opener, closer, bar, quantifier, capturing, ignoring, looking, opener_of, leaf_token}
 use Rattle.rx_model.proofs.Trees.Flat.{before, before-append, before_leaf, before_quantified, before_group, before_alternative, tokens_are}
-use Rattle.rx_model.proofs.Spelling.Spellings.{letters_forget, dash_forget, class_text_forget, spelling_bare}
+use Rattle.rx_model.proofs.Spelling.Spelling.{letters_forget, dash_forget, class_text_forget, spelling_bare}
 
 -- the text of an opener
 abbrev pub opened_text : Opener → List ℕ

@@ -4,12 +4,12 @@ use Rattle.rx_ast.specs.declared.leaf.CharacterKind.TheVariants.{Symbol}
 use Rattle.rx_ast.specs.declared.term.Pattern.{Pattern}
 use Rattle.rx_ast.specs.Forget.{nowhere, forget_class, forget_opener, forget_nodes, forget_alternatives, no_kind, bare}
 use Rattle.rx_ast.specs.Tree.{Nodes, Alternatives, group, no_node, node, no_alternative, alternative}
-use Rattle.rx_ast.proofs.Forgetting.{bare_of_unspanned}
+use Rattle.rx_ast.proofs.Forget.{bare_of_unspanned}
 use Rattle.rx_model.specs.declared.mode.Mode.{Mode}
 use Rattle.rx_model.specs.Trees.Events.{tokens}
 use Rattle.rx_model.specs.Trees.Shapes.{IsWellMade}
 use Rattle.rx_model.specs.Trees.Token.{Token, Opener, boundary, character, dot, class_escape, property, class, indexed, named, opener, closer, bar, quantifier, capturing, ignoring, looking}
-use Rattle.rx_model.proofs.Trees.Builds.{onto, alternatives_onto, Waiting, State, at, ended, opener_tree, close, quantify, step, build, built, pattern_built}
+use Rattle.rx_model.proofs.Trees.TreeFromTokens.{onto, alternatives_onto, Waiting, State, at, ended, opener_tree, close, quantify, step, build, built, pattern_built}
 
 -- of modifiers the three bits that count
 abbrev pub bare_opener : Opener → Opener

@@ -5,7 +5,7 @@ use Rattle.rx_model.specs.Inputs.Environment.{Environment, for_classes}
 use Rattle.rx_model.specs.Trees.Events.{Events, enter, leave, token, inside, modified, tokens_of}
 use Rattle.rx_model.specs.Trees.Token.{Token}
 use Rattle.rx_model.specs.Reading.Rows.{TokenRow, Row}
-use Rattle.rx_model.proofs.Classes.ClassUnspanned.{class_unspanned}
+use Rattle.rx_model.proofs.Classes.ClassWithoutSpans.{class_unspanned}
 
 module _ (e : Environment) where
   pub token_row_append : (ts ss : List Token) (us more rest : List CodePoint) → TokenRow e ts us more → TokenRow e ss more rest → TokenRow e (ts ++ ss) us rest

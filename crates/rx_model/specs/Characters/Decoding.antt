@@ -36,14 +36,14 @@ abbrev pub braces_at : List ℕ → Decoded
 braces_at [] = invalid
 braces_at (x ∷ xs) = if x == ascii.left_brace then run_at 0 0 xs else invalid
 
-abbrev pub joined_at : ℕ → Option ℕ → Decoded
-joined_at v None = value v 5
-joined_at v (Some t) = value (surrogate_pair v t) 11
+abbrev pub pair_or_unit : ℕ → Option ℕ → Decoded
+pair_or_unit v None = value v 5
+pair_or_unit v (Some t) = value (surrogate_pair v t) 11
 
 abbrev pub after_u : Bool → Option (ℕ × List ℕ) → List ℕ → Decoded
-after_u unicode_mode (Some v) w = if unicode_mode && is_lead v.0 then joined_at v.0 (trail_at v.1) else value v.0 5
+after_u unicode_mode (Some v) w = if unicode_mode && is_lead v.0 then pair_or_unit v.0 (trail_at v.1) else value v.0 5
 after_u unicode_mode None w = if unicode_mode then braces_at w else invalid
 
-abbrev pub decoded : Bool → List ℕ → Decoded
-decoded unicode_mode [] = invalid
-decoded unicode_mode (x ∷ w) = if x == ascii.u then after_u unicode_mode (four_at w) w else invalid
+abbrev pub decoding_of : Bool → List ℕ → Decoded
+decoding_of unicode_mode [] = invalid
+decoding_of unicode_mode (x ∷ w) = if x == ascii.u then after_u unicode_mode (four_at w) w else invalid

@@ -9,7 +9,7 @@ use Rattle.rx_ast.specs.declared.leaf.CharacterKind.{CharacterKind}
 use Rattle.rx_units.specs.Digits.{front_is, hex_number}
 use Rattle.rx_units.specs.OctalEscapes.{octal_read}
 use Rattle.rx_ast.specs.declared.leaf.CharacterKind.TheVariants as kind
-use Rattle.rx_model.specs.Characters.Decoding.{Decoded, value, invalid, overflow, decoded}
+use Rattle.rx_model.specs.Characters.Decoding.{Decoded, value, invalid, overflow, decoding_of}
 use Rattle.rx_model.specs.Inputs.Environment.{Environment, is_unicode}
 use Rattle.rx_model.specs.Characters.Escapes.{is_identity_escape}
 use Rattle.rx_model.specs.Characters.LegacyEscapes.{four_next, is_class_control, is_free, octal_kind, two_next}
@@ -22,9 +22,9 @@ pub data EscapeRead : Type 0 where
   no_unicode : EscapeRead
 
 -- a character of a kind where there is a value
-abbrev pub escaped_if : CharacterKind → ℕ → Option ℕ → EscapeRead
-escaped_if k count None = nothing
-escaped_if k count (Some v) = escaped k v count
+abbrev pub escape_if : CharacterKind → ℕ → Option ℕ → EscapeRead
+escape_if k count None = nothing
+escape_if k count (Some v) = escaped k v count
 
 abbrev pub unicode_read : Decoded → EscapeRead
 unicode_read (value v n) = escaped kind.UnicodeEscape v n
@@ -43,10 +43,10 @@ two_at (a ∷ b ∷ rest) = hex_number (a ∷ b ∷ [])
 abbrev pub escape_after : Bool → Option ℕ → ℕ → List ℕ → EscapeRead
 escape_after unicode_mode (Some v) c w = escaped kind.SingleEscape v 1
 escape_after unicode_mode None c w =
-    if c == ascii.c then escaped_if kind.ControlLetter 2 (letter_at w)
+    if c == ascii.c then escape_if kind.ControlLetter 2 (letter_at w)
     else (if c == ascii.zero then (if front_is is_decimal_digit w then nothing else escaped kind.Null 0 1)
-    else (if c == ascii.x then escaped_if kind.HexadecimalEscape 3 (two_at w)
-    else (if c == ascii.u then unicode_read (decoded unicode_mode (c ∷ w))
+    else (if c == ascii.x then escape_if kind.HexadecimalEscape 3 (two_at w)
+    else (if c == ascii.u then unicode_read (decoding_of unicode_mode (c ∷ w))
     else (if unicode_mode && is_identity_escape c then escaped kind.Identifier c 1
     else nothing))))
 

@@ -2,7 +2,7 @@
 -- after some of them.
 use Rattle.std.specs.Prelude.{Option, Some, None, List, [], ◌∷◌}
 use Rattle.rx_base.specs.declared.diagnostic.kinds.SetOperator.{SetOperator}
-use Rattle.rx_model.specs.Classes.ClassRuns.{Held, operand, ranged, with_operator}
+use Rattle.rx_model.specs.Classes.ClassRuns.{Held, operand, with_range, with_operator}
 
 -- an operand: a character, an escape, a nested class, class strings; a range; an operator
 pub data Thing : Type 0 where
@@ -30,7 +30,7 @@ pub data AreContents : List Thing → Type 0 where
 
 abbrev pub with_thing : Thing → Held → Option Held
 with_thing one_operand held = operand held
-with_thing one_range held = ranged held
+with_thing one_range held = with_range held
 with_thing (operator o) held = with_operator o held
 
 abbrev pub go_on : Option Held → (Held → Option Held) → Option Held
@@ -38,6 +38,6 @@ go_on None more = None
 go_on (Some held) more = more held
 
 -- what a bracket holds that held this, with these things more, or none where one may not stand where it does
-abbrev pub held_after : List Thing → Held → Option Held
-held_after [] held = Some held
-held_after (thing ∷ things) held = go_on (with_thing thing held) (λ after. held_after things after)
+abbrev pub hold_after : List Thing → Held → Option Held
+hold_after [] held = Some held
+hold_after (thing ∷ things) held = go_on (with_thing thing held) (λ after. hold_after things after)

@@ -9,7 +9,7 @@ use Rattle.rx_ast.specs.ClassTree.{Class}
 use Rattle.rx_units.specs.declared.code_point.CodePoint.{CodePoint}
 use Rattle.rx_units.specs.Units.{values}
 use Rattle.rx_model.specs.declared.mode.Mode.{Mode}
-use Rattle.rx_model.specs.Classes.ClassBuilds.{class_of_tokens}
+use Rattle.rx_model.specs.Classes.ClassFromTokens.{class_of_tokens}
 use Rattle.rx_model.specs.Classes.ClassRows.{Place, outside, fresh, at_dash, at_high, at_second, at_third, after_operator, in_strings, has_hyphen, has_threes, is_dashed, may_follow_operator, stands_raw_in_class}
 use Rattle.rx_model.specs.Classes.ClassTokens.{Atom, character, escape, property, is_character, ClassToken, bracket, closer, item, low, dash, high, operator, strings, letter, string_bar, strings_end}
 use Rattle.rx_model.specs.Inputs.Environment.{Environment, is_sets, is_unicode}
@@ -85,13 +85,13 @@ high_of (atom_read (property negative may name value) n) = None
 
 -- an atom before a `-` and what stands after that: the low end of a range, or with neither `u` nor `v` the first of three items, or with `v` an item in any
 -- other case
-abbrev pub dashed_of : Mode → Atom → ℕ → AtomRead → TokenRead
-dashed_of mode a n no_atom = item_where (is_sets mode) a n
-dashed_of mode a n (atom_read b m) = if is_character a && is_character b then low_of a n else item_where (has_threes mode || is_sets mode) a n
+abbrev pub before_dash : Mode → Atom → ℕ → AtomRead → TokenRead
+before_dash mode a n no_atom = item_where (is_sets mode) a n
+before_dash mode a n (atom_read b m) = if is_character a && is_character b then low_of a n else item_where (has_threes mode || is_sets mode) a n
 
 -- an atom before these units
 abbrev pub item_before : Environment → Atom → ℕ → List CodePoint → TokenRead
-item_before e a n rest = if is_dashed (values rest) then dashed_of e.mode a n (atom_at e (drop 1 rest)) else Some (item a, n)
+item_before e a n rest = if is_dashed (values rest) then before_dash e.mode a n (atom_at e (drop 1 rest)) else Some (item a, n)
 
 abbrev pub bracket_at : List ℕ → TokenRead
 bracket_at [] = None

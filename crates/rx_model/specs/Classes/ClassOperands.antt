@@ -10,7 +10,7 @@ use Rattle.rx_ast.specs.ClassTree.{Class, Member, character, nested}
 use Rattle.rx_units.specs.declared.code_point.CodePoint.{CodePoint}
 use Rattle.rx_units.specs.Units.{values}
 use Rattle.rx_model.specs.Classes.ClassBrackets.{InBrackets, class_of_members}
-use Rattle.rx_model.specs.Classes.ClassBuilds.{atom_member, range_member, strings_member}
+use Rattle.rx_model.specs.Classes.ClassFromTokens.{atom_member, range_member, strings_member}
 use Rattle.rx_model.specs.Classes.ClassRows.{BeforeHigh, IsClass, SpellsAtom, SpellsClassCharacter, may_follow_operator}
 use Rattle.rx_model.specs.Classes.ClassStrings.{SpellsStrings}
 use Rattle.rx_model.specs.Classes.ClassTokens.{Atom, contents_kind, operator_text}

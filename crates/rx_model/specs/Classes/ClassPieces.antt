@@ -10,7 +10,7 @@ use Rattle.rx_ast.specs.Forget.{nowhere}
 use Rattle.rx_units.specs.declared.code_point.CodePoint.{CodePoint}
 use Rattle.rx_units.specs.Units.{values}
 use Rattle.rx_model.specs.Classes.ClassBrackets.{InBrackets}
-use Rattle.rx_model.specs.Classes.ClassBuilds.{atom_member, range_member}
+use Rattle.rx_model.specs.Classes.ClassFromTokens.{atom_member, range_member}
 use Rattle.rx_model.specs.Classes.ClassRows.{SpellsAtom, SpellsClassCharacter, is_dashed}
 use Rattle.rx_model.specs.Classes.ClassTokens.{Atom, character, is_character}
 use Rattle.rx_model.specs.FirstPass.Marks.{starts}
@@ -18,6 +18,7 @@ use Rattle.rx_model.specs.Inputs.Environment.{Environment, is_unicode}
 use Rattle.rx_units.specs.Sequences.{ElementRow}
 
 -- an atom alone; a range, by its two characters; an atom, a `-` and an atom that make no range
+-- Why: docs/DECISIONS.md, 94.
 pub data Piece : Type 0 where
   alone : Atom → Piece
   range : CharacterKind → ℕ → CharacterKind → ℕ → Piece

@@ -23,12 +23,12 @@ operand (pending o) = Some (joined o)
 operand (joined o) = None
 
 -- with one range more
-abbrev pub ranged : Held → Option Held
-ranged empty = Some several
-ranged single = Some several
-ranged several = Some several
-ranged (pending o) = None
-ranged (joined o) = None
+abbrev pub with_range : Held → Option Held
+with_range empty = Some several
+with_range single = Some several
+with_range several = Some several
+with_range (pending o) = None
+with_range (joined o) = None
 
 -- with an operator: it may follow one operand, or operands that it joins
 abbrev pub with_operator : SetOperator → Held → Option Held
@@ -73,9 +73,9 @@ abbrev pub may_follow : Held → ClassToken → Bool
 may_follow held (bracket negative) = takes_operand held
 may_follow held closer = is_whole held
 may_follow held (item a) = takes_operand held
-may_follow held (low k v) = is_some (ranged held)
+may_follow held (low k v) = is_some (with_range held)
 may_follow held dash = true
-may_follow held (high k v) = is_some (ranged held)
+may_follow held (high k v) = is_some (with_range held)
 may_follow held (operator o) = is_some (with_operator o held)
 may_follow held strings = takes_operand held
 may_follow held (letter k v) = true
@@ -109,13 +109,13 @@ abbrev pub Brackets : Type 0
 Brackets = List Bracket
 
 -- the bracket with one thing more, if it may
-abbrev pub holding : Bracket → Brackets → Bool → Option Held → Option Brackets
-holding r outer may None = None
-holding r outer may (Some held) = Some (bracket_of r.negative held (with_strings r.held r.may may) ∷ outer)
+abbrev pub add_thing : Bracket → Brackets → Bool → Option Held → Option Brackets
+add_thing r outer may None = None
+add_thing r outer may (Some held) = Some (bracket_of r.negative held (with_strings r.held r.may may) ∷ outer)
 
-abbrev pub held_on : Bracket → Brackets → Option Held → Option Brackets
-held_on r outer None = None
-held_on r outer (Some held) = Some (bracket_of r.negative held r.may ∷ outer)
+abbrev pub add_operator : Bracket → Brackets → Option Held → Option Brackets
+add_operator r outer None = None
+add_operator r outer (Some held) = Some (bracket_of r.negative held r.may ∷ outer)
 
 -- these, where one thing more may stand
 abbrev pub where_may : Option Held → Brackets → Option Brackets
@@ -123,10 +123,10 @@ where_may None brackets = None
 where_may (Some held) brackets = Some brackets
 
 -- after a closer: a closed bracket is an operand of the one around it
-abbrev pub closed : Bool → Bool → Brackets → Option Brackets
-closed may false outer = None
-closed may true [] = Some []
-closed may true (r ∷ outer) = holding r outer may (operand r.held)
+abbrev pub after_closer : Bool → Bool → Brackets → Option Brackets
+after_closer may false outer = None
+after_closer may true [] = Some []
+after_closer may true (r ∷ outer) = add_thing r outer may (operand r.held)
 
 -- A bracket that is whole may close, but a negative one with strings (22.2.1.1).
 abbrev pub may_close : Bracket → Bool
@@ -155,16 +155,16 @@ atom_obeys (property negative may name value) = not (negative && may)
 -- one token more in the innermost bracket
 abbrev pub in_bracket : ClassToken → Bracket → Brackets → Option Brackets
 in_bracket (bracket negative) r outer = where_may (operand r.held) (bracket_of negative empty false ∷ r ∷ outer)
-in_bracket closer r outer = closed r.may (may_close r) outer
-in_bracket (item a) r outer = where_true (atom_obeys a) (holding r outer (atom_may a) (operand r.held))
-in_bracket (low k v) r outer = where_may (ranged r.held) (record r { low_end = v } ∷ outer)
+in_bracket closer r outer = after_closer r.may (may_close r) outer
+in_bracket (item a) r outer = where_true (atom_obeys a) (add_thing r outer (atom_may a) (operand r.held))
+in_bracket (low k v) r outer = where_may (with_range r.held) (record r { low_end = v } ∷ outer)
 in_bracket dash r outer = Some (r ∷ outer)
-in_bracket (high k v) r outer = where_true (nat_le r.low_end v && nat_le v 0x10FFFF) (holding r outer false (ranged r.held))
-in_bracket (operator o) r outer = held_on r outer (with_operator o r.held)
+in_bracket (high k v) r outer = where_true (nat_le r.low_end v && nat_le v 0x10FFFF) (add_thing r outer false (with_range r.held))
+in_bracket (operator o) r outer = add_operator r outer (with_operator o r.held)
 in_bracket strings r outer = where_may (operand r.held) (record r { count = 0; any = false } ∷ outer)
 in_bracket (letter k v) r outer = where_true (nat_le v 0x10FFFF) (Some (record r { count = r.count + 1 } ∷ outer))
 in_bracket string_bar r outer = Some (record r { count = 0; any = any_string r } ∷ outer)
-in_bracket strings_end r outer = holding r outer (any_string r) (operand r.held)
+in_bracket strings_end r outer = add_thing r outer (any_string r) (operand r.held)
 
 -- one token more; with no open bracket the class has ended
 abbrev pub class_step : ClassToken → Brackets → Option Brackets
@@ -181,7 +181,7 @@ class_run [] brackets = Some brackets
 class_run (t ∷ ts) brackets = after_step (class_step t brackets) (λ after. class_run ts after)
 
 -- the same from before the class's own bracket
-abbrev pub class_opened : List ClassToken → Option Brackets
-class_opened [] = None
-class_opened ((bracket negative) ∷ ts) = class_run ts (bracket_of negative empty false ∷ [])
-class_opened (t ∷ ts) = None
+abbrev pub class_run_from_start : List ClassToken → Option Brackets
+class_run_from_start [] = None
+class_run_from_start ((bracket negative) ∷ ts) = class_run ts (bracket_of negative empty false ∷ [])
+class_run_from_start (t ∷ ts) = None

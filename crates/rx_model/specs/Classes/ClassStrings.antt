@@ -6,7 +6,7 @@ use Rattle.rx_ast.specs.declared.leaf.CharacterKind.{CharacterKind}
 use Rattle.rx_ast.specs.declared.class.ClassString.{ClassString}
 use Rattle.rx_units.specs.declared.code_point.CodePoint.{CodePoint}
 use Rattle.rx_units.specs.Units.{values}
-use Rattle.rx_model.specs.Classes.ClassBuilds.{character_of, string_of}
+use Rattle.rx_model.specs.Classes.ClassFromTokens.{character_of, string_of}
 use Rattle.rx_model.specs.Classes.ClassRows.{SpellsClassCharacter}
 use Rattle.rx_model.specs.FirstPass.Marks.{starts}
 use Rattle.rx_model.specs.Inputs.Environment.{Environment, is_sets}

@@ -26,6 +26,7 @@ is_character (escape k) = false
 is_character (property negative strings name value) = false
 
 -- A range is three tokens, so that its two characters have events of their own.
+-- Why: docs/DECISIONS.md, 29.
 pub data ClassToken : Type 0 where
   -- `[`, or `[^` where it is negative
   bracket : Bool → ClassToken
@@ -82,6 +83,7 @@ range_events r =
     enter r.max.span.start ∷ token (high r.max.kind r.max.value) ∷ leave r.max.span.end ∷ []
 
 -- what operands with the operator between them are
+-- Why: docs/DECISIONS.md, 99.
 abbrev pub contents_kind : SetOperator → CharacterClassContentsKind
 contents_kind set.Intersection = Intersection
 contents_kind set.Subtraction = Subtraction

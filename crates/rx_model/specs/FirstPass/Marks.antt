@@ -29,16 +29,16 @@ escape_rest [] = 0
 escape_rest (u ∷ us) = 1
 
 -- how many classes are open in a class after a unit that ends none, where n were: with `v` a `[` opens one (NestedClass, 22.2.1)
-abbrev pub opened : Mode → ℕ → ℕ → ℕ
-opened mode u n = if u == ascii.left_bracket && is_sets mode then suc n else n
+abbrev pub classes_open_after : Mode → ℕ → ℕ → ℕ
+classes_open_after mode u n = if u == ascii.left_bracket && is_sets mode then suc n else n
 
 -- how many units a class has after its `[`: up to and with its `]`, or all; n classes are open in it, each up to and with a `]` of its own, and `escaped`
 -- says that a backslash stands right before
 abbrev pub class_rest : Mode → Bool → ℕ → List ℕ → ℕ
 class_rest mode escaped n [] = 0
 class_rest mode true n (u ∷ us) = class_rest mode false n us + 1
-class_rest mode false zero (u ∷ us) = if u == ascii.right_bracket then 1 else class_rest mode (u == ascii.backslash) (opened mode u zero) us + 1
-class_rest mode false (suc n) (u ∷ us) = if u == ascii.right_bracket then class_rest mode false n us + 1 else class_rest mode (u == ascii.backslash) (opened mode u (suc n)) us + 1
+class_rest mode false zero (u ∷ us) = if u == ascii.right_bracket then 1 else class_rest mode (u == ascii.backslash) (classes_open_after mode u zero) us + 1
+class_rest mode false (suc n) (u ∷ us) = if u == ascii.right_bracket then class_rest mode false n us + 1 else class_rest mode (u == ascii.backslash) (classes_open_after mode u (suc n)) us + 1
 
 -- the units before the next `>`, or all
 abbrev pub before_close : List ℕ → List ℕ
@@ -86,6 +86,7 @@ marks_following mode zero (u ∷ us) = (mark_front mode u us).0 ∷ marks_follow
 marks_following mode (suc n) (u ∷ us) = marks_following mode n us
 
 -- the marks of a text, each from where the one before ends
+-- Why: docs/DECISIONS.md, 26.
 abbrev pub marks : Mode → List ℕ → List Mark
 marks mode us = marks_following mode 0 us
 
@@ -179,6 +180,7 @@ IsParted ms a b =
 
 -- Two named openings of equal names clash. Where two groups may have one name, they clash only if no bar parts them, so that both might take part
 -- (22.2.1.1, 22.2.1.4 MightBothParticipate).
+-- Why: docs/DECISIONS.md, 66.
 pub record Clash (mode : Mode) (duplicate_names : Bool) (ms : List Mark) (a : ℕ) (b : ℕ) : Type 0 where
   pub in_order : a < b
   pub name : List ℕ

@@ -3,7 +3,7 @@ use Rattle.std.specs.Prelude.{ℕ, zero, suc, ◌+◌, ◌-◌, Bool, true, fals
 use Rattle.rx_base.specs.Ascii as ascii
 use Rattle.rx_base.specs.Characters.{is_lead, is_trail}
 use Rattle.rx_base.specs.SurrogatePair.{surrogate_pair}
-use Rattle.rx_model.specs.Characters.Decoding.{Decoded, value, invalid, overflow, decoded}
+use Rattle.rx_model.specs.Characters.Decoding.{Decoded, value, invalid, overflow, decoding_of}
 use Rattle.rx_model.specs.Groups.GroupNames.{is_in_name, is_pair_in_name}
 
 -- a code point of a name in n units; none
@@ -16,12 +16,12 @@ pub data NameRow : Type 0 where
   row : List ℕ → ℕ → NameRow
 
 -- a code point that has passed the test for names, in n units
-abbrev pub tested : Bool → ℕ → ℕ → NameCharacter
-tested passes c count = if passes then character c count else no_character
+abbrev pub character_if : Bool → ℕ → ℕ → NameCharacter
+character_if passes c count = if passes then character c count else no_character
 
 -- what an escape is to a name, with its backslash
 abbrev pub escape_in_name : Bool → Decoded → NameCharacter
-escape_in_name first (value c count) = tested (is_in_name first c) c (suc count)
+escape_in_name first (value c count) = character_if (is_in_name first c) c (suc count)
 escape_in_name first invalid = no_character
 escape_in_name first (overflow digits) = no_character
 
@@ -29,7 +29,7 @@ escape_in_name first (overflow digits) = no_character
 abbrev pub pair_at : Bool → ℕ → List ℕ → NameCharacter
 pair_at first lead [] = no_character
 pair_at first lead (trail ∷ w) =
-    tested (is_lead lead && is_trail trail && is_pair_in_name first (surrogate_pair lead trail)) (surrogate_pair lead trail) 2
+    character_if (is_lead lead && is_trail trail && is_pair_in_name first (surrogate_pair lead trail)) (surrogate_pair lead trail) 2
 
 -- a unit that stands for itself in a name, by itself or with the next
 abbrev pub raw_at : Bool → Bool → ℕ → List ℕ → NameCharacter
@@ -38,7 +38,7 @@ raw_at unicode_mode first x w = if is_in_name first x then character x 1 else (i
 -- the code point of a name at the front, where it is the first of the name or not
 abbrev pub name_character_at : Bool → Bool → List ℕ → NameCharacter
 name_character_at unicode_mode first [] = no_character
-name_character_at unicode_mode first (x ∷ w) = if x == ascii.backslash then escape_in_name first (decoded true w) else raw_at unicode_mode first x w
+name_character_at unicode_mode first (x ∷ w) = if x == ascii.backslash then escape_in_name first (decoding_of true w) else raw_at unicode_mode first x w
 
 -- a row after some code points of n units
 abbrev pub row_following : List ℕ → ℕ → NameRow → NameRow

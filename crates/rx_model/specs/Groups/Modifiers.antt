@@ -37,6 +37,7 @@ pub record SpellsModifiers (enabling disabling : ℕ) (text : List ℕ) : Type 0
   pub disabled : List ℕ
   pub sides : AreSides enabled disabled text
   pub some : text ≢ []
+  -- Why: docs/DECISIONS.md, 25.
   pub once : (has_twice enabled || has_twice disabled) ≡ false
   pub enabling_is : enabling ≡ letters_bits enabled
   pub disabling_is : disabling ≡ letters_bits disabled

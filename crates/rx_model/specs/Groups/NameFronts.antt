@@ -2,7 +2,7 @@
 use Rattle.std.specs.Prelude.{ℕ, Bool, true, false, not, ◌==◌, ◌&&◌, nat_lt, List, [], ◌∷◌, drop, if◌then◌else◌}
 use Rattle.rx_base.specs.Ascii as ascii
 use Rattle.rx_base.specs.Characters.{is_lead, is_trail}
-use Rattle.rx_model.specs.Characters.Decoding.{Decoded, value, invalid, overflow, decoded}
+use Rattle.rx_model.specs.Characters.Decoding.{Decoded, value, invalid, overflow, decoding_of}
 use Rattle.rx_model.specs.FirstPass.Marks.{starts}
 use Rattle.rx_model.specs.Groups.GroupNameReading.{NameRow, row, name_at}
 
@@ -39,7 +39,7 @@ abbrev pub read_after_name : Bool → List ℕ → ℕ → List ℕ → NameRead
 read_after_name unicode_mode name count [] = no_name_read (unterminated count)
 read_after_name unicode_mode name count (c ∷ w) =
     if nat_lt 0 count && (c == ascii.greater_than) then name_read name count
-    else (if c == ascii.backslash then no_name_read (escape_halt unicode_mode count w (decoded true w))
+    else (if c == ascii.backslash then no_name_read (escape_halt unicode_mode count w (decoding_of true w))
     else (if not unicode_mode && begins_pair (c ∷ w) then no_name_read (misplaced_pair count) else no_name_read (unterminated count)))
 
 abbrev pub read_from_row : Bool → NameRow → List ℕ → NameRead

@@ -44,5 +44,6 @@ abbrev pub environment : Mode → Rules → Pattern → Environment
 environment mode rules p = environment_with mode rules.buffer_boundaries (groups p) (has_some (names p))
 
 -- The environment in which a class of the pattern is spelled. No boundary stands in a class, so it is the same whatever the rules say.
+-- Why: docs/DECISIONS.md, 65.
 abbrev pub for_classes : Environment → Environment
 for_classes e = record { mode = e.mode; groups = e.groups; named = e.named; buffer_boundaries = true }

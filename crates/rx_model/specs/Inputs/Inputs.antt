@@ -13,6 +13,7 @@ use Rattle.rx_model.specs.Inputs.Texts.{AreFlagUnits, AreUnits, some_units, stan
 
 -- A text and its flags, in characters, what is added to each offset that an answer has in the text or in the flags, the rules, and whether texts in quotes are
 -- decoded as the standard has it. The flags text may be absent. In the form of a constructor both have their quotes.
+-- Why: docs/DECISIONS.md, 11.
 pub record Input : Type 0 where
   pub form : Form
   pub text : List ℕ

@@ -22,6 +22,7 @@ quoted_text (c ∷ d ∷ []) = if is_quote c && c == d then codes "\"(?:)\"" els
 quoted_text text = text
 
 -- the text of a pattern, or what stands in for an empty one (EscapeRegExpPattern, 22.2.6.13.1)
+-- Why: docs/DECISIONS.md, 70.
 abbrev pub stand_in : Form → List ℕ → List ℕ
 stand_in Literal text = literal_text text
 stand_in Constructor text = quoted_text text
@@ -31,6 +32,7 @@ abbrev pub first_offset : Form → ℕ
 first_offset Literal = 0
 first_offset Constructor = 1
 
+-- Why: docs/DECISIONS.md, 45.
 -- The units of a text in a form, a character past FFFF being one of them or not: those of a literal, or those to which a quoted text is decoded, as the
 -- standard has it or as the Rust crate does.
 pub data AreUnits (standard joined : Bool) (text : List ℕ) : Form → List CodePoint → Type 0 where

@@ -69,6 +69,7 @@ pub record PassesDecimal (digits : List ℕ) (next : ℕ) : Type 0 where
 
 -- After a `{` the digits of the first number, or of a second after a comma, pass 64 bits, whether a `}` comes or not: the digits before the one
 -- that does so stand from `start` on, and are n. A reader's limit: there is none in the standard.
+-- Why: docs/DECISIONS.md, 18.
 pub data PassesLimit : List ℕ → ℕ → ℕ → Type 0 where
   first : (digits : List ℕ) (next : ℕ) (rest : List ℕ) → PassesDecimal digits next → PassesLimit (ascii.left_brace ∷ (digits ++ (next ∷ rest))) 1 (length digits)
   second : {n : ℕ} (ds digits : List ℕ) (next : ℕ) (rest : List ℕ) → AreDigits n ds → n < 2 ^ 64 → PassesDecimal digits next

@@ -18,20 +18,20 @@ SpellsOfClass e None t w rest = ⊥
 SpellsOfClass e (Some p) t w rest = SpellsInClass e p.1 t w rest
 
 -- how many nested classes are open after a bracket: that of the class itself opens none
-abbrev pub opened : ℕ → Place → ℕ
-opened inner outside = inner
-opened inner q = suc inner
+abbrev pub depth_after_bracket : ℕ → Place → ℕ
+depth_after_bracket inner outside = inner
+depth_after_bracket inner q = suc inner
 
 -- after a closer
-abbrev pub closed : ℕ → Option NestedPlace
-closed zero = None
-closed (suc inner) = Some (inner, fresh)
+abbrev pub place_after_closer : ℕ → Option NestedPlace
+place_after_closer zero = None
+place_after_closer (suc inner) = Some (inner, fresh)
 
 -- the place after a token
 abbrev pub after_of_class : Environment → Option NestedPlace → ClassToken → List CodePoint → Option NestedPlace
 after_of_class e None t rest = None
-after_of_class e (Some p) closer rest = closed p.0
-after_of_class e (Some p) (bracket negative) rest = Some (opened p.0 p.1, fresh)
+after_of_class e (Some p) closer rest = place_after_closer p.0
+after_of_class e (Some p) (bracket negative) rest = Some (depth_after_bracket p.0 p.1, fresh)
 after_of_class e (Some p) t rest = Some (p.0, next_place e.mode p.1 t rest)
 
 -- No character of a name stands at the front of a text.

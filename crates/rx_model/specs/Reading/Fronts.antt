@@ -12,7 +12,7 @@ use Rattle.rx_units.specs.Digits.{front_is}
 use Rattle.rx_model.specs.Reading.Boundaries.{has_buffers}
 use Rattle.rx_model.specs.Classes.ClassFronts.{class_front}
 use Rattle.rx_model.specs.Inputs.Environment.{Environment, for_classes, is_unicode}
-pub use Rattle.rx_model.specs.Characters.EscapeFronts.{EscapeRead, escaped, nothing, too_many, no_unicode, escaped_if, unicode_read, letter_at, two_at, escape_after, control_after, octal_at, digit_at, or_legacy, any_escape_at, class_escape_at}
+pub use Rattle.rx_model.specs.Characters.EscapeFronts.{EscapeRead, escaped, nothing, too_many, no_unicode, escape_if, unicode_read, letter_at, two_at, escape_after, control_after, octal_at, digit_at, or_legacy, any_escape_at, class_escape_at}
 unfoldable pub use Rattle.rx_model.specs.Characters.EscapeFronts.{escape_at, legacy_at}
 use Rattle.rx_model.specs.Groups.GroupFronts.{group_front, reference_front}
 use Rattle.rx_model.specs.Characters.LegacyEscapes.{begins_run, run_number}

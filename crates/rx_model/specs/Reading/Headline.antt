@@ -18,7 +18,7 @@ use Rattle.rx_model.specs.Inputs.Texts.{AreFlagUnits, HasNoUnits, first_offset, 
 use Rattle.rx_model.specs.Reading.Reading.{IsOnly, IsSpanned, Reads}
 use Rattle.rx_model.specs.Spelling.Spelling.{spelling}
 
--- The input is valid: it asks to read units in a mode, and some tree reads them.
+-- The input is valid: it asks to read units in a mode, and they read as some tree.
 pub record IsValid (input : Input) : Type 0 where
   pub mode : Mode
   pub units : List CodePoint
@@ -57,6 +57,7 @@ pub data IsFaultOf (input : Input) : Fault → Type 0 where
   refused : {refusal : Refusal} → IsFirstRefusal input refusal → IsFaultOf input (Diagnostic refusal)
 
 -- What a parser may answer to an input, where an Ok answer has a tree.
+-- Why: docs/DECISIONS.md, 34.
 pub record IsParsed {A : Type 0} (tree : A → Pattern) (input : Input) (answer : Result A Fault) : Type 0 where
   -- Ok comes on valid input and on no other: on valid input all that may come besides is out of memory.
   pub valid : OnOk answer (IsValid input)

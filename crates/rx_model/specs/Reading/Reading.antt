@@ -1,7 +1,7 @@
 -- What it means that a text is a pattern.
 use Rattle.std.specs.Prelude.{◌≡◌, ℕ, ◌+◌, List, [], length}
 use Rattle.rx_ast.specs.declared.term.Pattern.{Pattern}
-use Rattle.rx_ast.specs.Forget.{unspanned}
+use Rattle.rx_ast.specs.Forget.{without_spans}
 use Rattle.rx_units.specs.declared.code_point.CodePoint.{CodePoint}
 use Rattle.rx_units.specs.Units.{offset_at}
 use Rattle.rx_model.specs.declared.mode.Mode.{Mode}
@@ -32,4 +32,4 @@ pub record Reads (mode : Mode) (rules : Rules) (p : Pattern) (us : List CodePoin
 
 -- The only one but for spans.
 abbrev pub IsOnly : Mode → Rules → Pattern → List CodePoint → Type 0
-IsOnly mode rules p us = (q : Pattern) → Reads mode rules q us → unspanned q ≡ unspanned p
+IsOnly mode rules p us = (q : Pattern) → Reads mode rules q us → without_spans q ≡ without_spans p

@@ -102,6 +102,7 @@ pub data IsCauseAtPlace (mode : Mode) (rules : Rules) (us : List CodePoint) (fir
   out_of_order : (place count min : ℕ) (max : Option ℕ) (rest : List CodePoint) → IsPlace mode rules us place rest → HasBraces min max count rest → IsOutOfOrder min max
       → IsCauseAtPlace mode rules us first added place (BracedQuantifierOutOfOrder (span_between us first added place (place + count)))
   -- A number is above 2^53 - 1, and they are not out of order.
+  -- Why: docs/DECISIONS.md, 19.
   too_large : (place count min : ℕ) (max : Option ℕ) (rest : List CodePoint) → IsPlace mode rules us place rest → HasBraces min max count rest → (IsOutOfOrder min max → ⊥) → IsTooLarge min max
       → IsCauseAtPlace mode rules us first added place (TooLargeNumberInBracedQuantifier (span_between us first added place (place + count)))
   -- The digits of a number after `{` pass 64 bits; with neither `u` nor `v` this is so in a complete quantifier alone, since another brace is a character.
@@ -174,6 +175,7 @@ pub data IsCauseAtPlace (mode : Mode) (rules : Rules) (us : List CodePoint) (fir
       → IsCauseAtPlace mode rules us first added place (InvalidModifiers (span_between us first added (place + 2) (place + 2 + length text)))
 
 -- The diagnostic is a refusal of this text, whose first offset is `first`, `added` being added to each. The groups come before all else.
+-- Why: docs/DECISIONS.md, 28.
 pub data IsCause (mode : Mode) (rules : Rules) (us : List CodePoint) (first added : ℕ) : Diagnostic → Type 0 where
   -- Two names clash (22.2.1.1): the second of the two names is the first that clashes with one before it, and the first is the
   -- first with which it does.

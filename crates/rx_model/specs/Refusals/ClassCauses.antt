@@ -59,6 +59,7 @@ pub record IsNegativeWithStrings (e : Environment) (from : ℕ) (at_class : List
   pub may : (in_bracket.item_place.inner.negative && in_bracket.item_place.inner.may) ≡ true
 
 -- The diagnostic is a refusal of what stands at this place of the class: for a range that of its first atom. Spans are in a text whose first offset is `first`, `added` being added to each.
+-- Why: docs/DECISIONS.md, 30.
 pub data IsClassCause (mode : Mode) (us : List CodePoint) (first added from : ℕ) (at_class : List CodePoint) : ℕ → Diagnostic → Type 0 where
   -- Nothing stands in a bracket and the text ends, or after the items of a union stands neither an item nor `]`; without `v` the text ends there.
   unterminated_class : (nested : Bool) (begin place : ℕ) (rest : List CodePoint) (in_bracket : IsInBracket (class_environment mode us) from at_class nested begin place rest)

@@ -4,7 +4,7 @@ use Rattle.rx_base.specs.Ascii as ascii
 use Rattle.rx_units.specs.declared.code_point.CodePoint.{CodePoint}
 use Rattle.rx_units.specs.Units.{values}
 use Rattle.rx_model.specs.Classes.ClassRows.{ClassTokenRow, Place, SpellsAtom, outside, fresh, at_dash, at_high, at_second, at_third, after_operator, in_strings, is_dashed}
-use Rattle.rx_model.specs.Classes.ClassRuns.{Bracket, Brackets, class_opened, class_run, is_union, takes_operand}
+use Rattle.rx_model.specs.Classes.ClassRuns.{Bracket, Brackets, class_run_from_start, class_run, is_union, takes_operand}
 use Rattle.rx_model.specs.Classes.ClassTokens.{Atom, ClassToken, is_character, strings, letter, string_bar}
 use Rattle.rx_model.specs.Inputs.Environment.{Environment, is_sets}
 
@@ -28,7 +28,7 @@ pub record IsItemPlace (e : Environment) (from : ℕ) (at_class : List CodePoint
   pub outer : Brackets
   pub begins : begins_item at ≡ true
   pub row : ClassTokenRow e tokens outside at_class at rest
-  pub accepted : class_opened tokens ≡ Some (inner ∷ outer)
+  pub accepted : class_run_from_start tokens ≡ Some (inner ∷ outer)
   pub place_is : from + length at_class ≡ place + length rest
 
 -- The same, where an operand may stand: with `v` none may stand right after an operand of an intersection or a subtraction.

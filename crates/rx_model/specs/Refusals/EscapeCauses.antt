@@ -19,6 +19,7 @@ use Rattle.rx_model.specs.Refusals.Reached.{span_between}
 use Rattle.rx_model.specs.Characters.UnicodeEscapes.{Decodes}
 
 -- A character escape is refused here, in a text whose first offset is `first`, `added` being added to each.
+-- Why: docs/DECISIONS.md, 30.
 pub data IsEscapeCause (mode : Mode) (us : List CodePoint) (first added place : ℕ) (rest : List CodePoint) : Diagnostic → Type 0 where
   -- With `u` or `v` the digits of a unicode escape pass 32 bits.
   too_many_hex_digits : (count : ℕ) (following : List ℕ) → is_unicode mode ≡ true → values rest ≡ ascii.backslash ∷ following → PassesHex following count

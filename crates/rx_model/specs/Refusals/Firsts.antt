@@ -32,17 +32,17 @@ pub data Yielding : Type 0 where
   of_strings : Yielding
   any_other : Yielding
 
-abbrev pub yielding : Diagnostic → Yielding
-yielding (EmptyClassSetExpression span) = no_item
-yielding (ClassSetExpressionInvalidCharacter span operator) = no_item
-yielding (UnterminatedPattern span what.CharacterClass) = no_item
-yielding (UnterminatedPattern span what.NestedClass) = no_item
-yielding (UnterminatedPattern span what.ClassStringDisjunction) = no_item
-yielding (UnterminatedPattern span what.PropertyEscape) = no_property
-yielding (InvalidUnicodeEscapeSequence span) = no_escape
-yielding (TooLargeNumberDigits span kind) = many_digits
-yielding (InvalidUnicodePropertyOfStrings span name) = of_strings
-yielding d = any_other
+abbrev pub yielding_of : Diagnostic → Yielding
+yielding_of (EmptyClassSetExpression span) = no_item
+yielding_of (ClassSetExpressionInvalidCharacter span operator) = no_item
+yielding_of (UnterminatedPattern span what.CharacterClass) = no_item
+yielding_of (UnterminatedPattern span what.NestedClass) = no_item
+yielding_of (UnterminatedPattern span what.ClassStringDisjunction) = no_item
+yielding_of (UnterminatedPattern span what.PropertyEscape) = no_property
+yielding_of (InvalidUnicodeEscapeSequence span) = no_escape
+yielding_of (TooLargeNumberDigits span kind) = many_digits
+yielding_of (InvalidUnicodePropertyOfStrings span name) = of_strings
+yielding_of d = any_other
 
 -- whether the first yields to the second
 abbrev pub yields : Yielding → Yielding → Bool
@@ -55,17 +55,18 @@ yields a b = false
 -- Of two refusals the first gives way to the second: it says no more than that nothing stands at its place which may, the second says more, and holds at no
 -- earlier place.
 pub record GivesWay (place : ℕ) (diagnostic : Diagnostic) (further : ℕ) (other : Diagnostic) : Type 0 where
-  pub says_less : yielding diagnostic ≡ no_item
-  pub says_more : yielding other ≢ no_item
+  pub says_less : yielding_of diagnostic ≡ no_item
+  pub says_more : yielding_of other ≢ no_item
   pub no_earlier : place ≤ further
 
 -- Of the refusals that hold at places, as this relation says, the diagnostic is the first: none holds at a later place than it does, and it yields to none
 -- at its own.
+-- Why: docs/DECISIONS.md, 35.
 pub record IsFirstOf (Holds : ℕ → Diagnostic → Type 0) (diagnostic : Diagnostic) : Type 0 where
   pub place : ℕ
   pub holds : Holds place diagnostic
   pub none_later : (further : ℕ) (other : Diagnostic) → Holds further other → place < further → ⊥
-  pub none_over : (other : Diagnostic) → Holds place other → yields (yielding diagnostic) (yielding other) ≡ false
+  pub none_over : (other : Diagnostic) → Holds place other → yields (yielding_of diagnostic) (yielding_of other) ≡ false
 
 -- The refusal is the first of this text. Those of the groups of the whole text come before all else.
 pub data IsFirst (mode : Mode) (rules : Rules) (us : List CodePoint) (start added : ℕ) : Diagnostic → Type 0 where

@@ -21,6 +21,7 @@ unfoldable pub text_names : Mode → List CodePoint → List (List ℕ)
 text_names mode us = seen mode (marks mode (values us))
 
 -- the environment of a text: by the groups and the names that its first pass finds
+-- Why: docs/DECISIONS.md, 24.
 abbrev pub text_environment : Mode → Rules → List CodePoint → Environment
 text_environment mode rules us = environment_with mode rules.buffer_boundaries (text_groups mode us) (has_some (text_names mode us))
 

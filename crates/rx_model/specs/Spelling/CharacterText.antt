@@ -24,14 +24,14 @@ hex zero n = []
 hex (suc k) n = (if nat_lt n 16 then [] else hex k (n / 16)) ++ (hex_digit (n % 16) ∷ [])
 
 -- \u{H..}
-unfoldable pub braced : ℕ → List ℕ
-braced c = codes "\\u{" ++ (hex 8 c ++ codes "}")
+unfoldable pub in_braces_text : ℕ → List ℕ
+in_braces_text c = codes "\\u{" ++ (hex 8 c ++ codes "}")
 
 -- a surrogate alone
 abbrev pub surrogate_text : Mode → ℕ → List ℕ
 surrogate_text Legacy c = four_digits c
-surrogate_text Unicode c = braced c
-surrogate_text Sets c = braced c
+surrogate_text Unicode c = in_braces_text c
+surrogate_text Sets c = in_braces_text c
 
 -- the greatest value that the mode reads raw
 abbrev pub greatest_raw : Mode → ℕ
@@ -66,7 +66,7 @@ character_text mode place c =
     else (if nat_lt c 32 || is_within 127 159 c then two_digits c
     else (if c == 0x2028 || c == 0x2029 then four_digits c
     else (if is_surrogate c then surrogate_text mode c
-    else (if nat_lt (greatest_raw mode) c then braced c
+    else (if nat_lt (greatest_raw mode) c then in_braces_text c
     else (if is_escaped mode place c then ascii.backslash ∷ c ∷ []
     else (if goes_on place c then codes "\\x3" ++ (c ∷ [])
     else c ∷ []))))))

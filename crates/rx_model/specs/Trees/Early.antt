@@ -19,6 +19,7 @@ use Rattle.rx_model.specs.Trees.Events.{tokens}
 use Rattle.rx_model.specs.Trees.Names.{groups, names, AreNamesEarly}
 
 -- the greatest number of a braced quantifier: a limit of this project, and none of the standard
+-- Why: docs/DECISIONS.md, 18.
 abbrev pub greatest_count : ℕ
 greatest_count = 2 ^ 53 - 1
 
@@ -32,6 +33,7 @@ abbrev pub IsEarlyRange : CharacterClassRange → Type 0
 IsEarlyRange r = IsCodePoint r.min.value × IsCodePoint r.max.value × (r.min.value ≤ r.max.value)
 
 -- MayContainStrings (22.2.1.8) of the expression of a property escape: where its name is a binary property of strings. No property with a value has such a name.
+-- Why: docs/DECISIONS.md, 95.
 abbrev pub IsFlaggedProperty : Bool → List ℕ → Type 0
 IsFlaggedProperty may name = (may ≡ true) ↔ Contains properties_of_strings name
 

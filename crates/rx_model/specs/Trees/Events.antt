@@ -19,6 +19,7 @@ pub data Event : Type 0 where
   enter : ℕ → Event
   leave : ℕ → Event
   token : Token → Event
+  -- Why: docs/DECISIONS.md, 4.
   inside : Class → Event
   modified : Modifiers → Event
 

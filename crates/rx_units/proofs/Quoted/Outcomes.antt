@@ -164,23 +164,23 @@ end_there l rest (read.invalid_hex n) h e = absurd (let no : ⊥ = cc e in no)
 end_there l rest (read.invalid_unicode n) h e = absurd (let no : ⊥ = cc e in no)
 end_there l rest (read.too_large n) h e = absurd (let no : ⊥ = cc e in no)
 
--- where elements lead after an opening quote
-pub stop_reached : (l : Literal) (o : Options) (text inner : List ℕ) (stop : Stop) → text ≡ quote_of l ∷ inner → IsStop l o inner stop → IsReached l o text (place stop.units stop.offset stop.rest.now)
-stop_reached l o text inner stop h s = record {
-  inner = inner;
-  opens = h;
-  leads = s.leads;
-}
+module _ (l : Literal) (o : Options) (text inner : List ℕ) (stop : Stop) (opens : text ≡ quote_of l ∷ inner) (stops : IsStop l o inner stop) where
+  -- where elements lead after an opening quote
+  pub stop_reached : IsReached l o text (place stop.units stop.offset stop.rest.now)
+  stop_reached = record {
+    inner = inner;
+    opens = opens;
+    leads = stops.leads;
+  }
 
--- a text that ends where reading stops is decoded
-pub decoded_there : (l : Literal) (o : Options) (text inner : List ℕ) (stop : Stop) → text ≡ quote_of l ∷ inner → IsStop l o inner stop
-    → (is_closer (seen_front stop.found) && (length stop.rest.now == 1)) ≡ true → IsDecoded l o text (text_units o stop.units)
-decoded_there l o text inner stop h s end = record {
-  last = place stop.units stop.offset stop.rest.now;
-  reached = stop_reached l o text inner stop h s;
-  closes = end_there l stop.rest.now (seen_front stop.found) s.found end;
-  units_are = refl;
-}
+  -- a text that ends where reading stops is decoded
+  pub decoded_there : (is_closer (seen_front stop.found) && (length stop.rest.now == 1)) ≡ true → (units : List CodePoint) → units ≡ text_units o stop.units → IsDecoded l o text units
+  decoded_there end units units_are = record {
+    last = place stop.units stop.offset stop.rest.now;
+    reached = stop_reached;
+    closes = end_there l stop.rest.now (seen_front stop.found) stops.found end;
+    units_are = units_are;
+  }
 
 abbrev pub given : List ℕ → Options → Given
 given text o = record { text = text; options = o }

@@ -12,7 +12,7 @@ use Rattle.rx_units.specs.Quoted.Escapes.{SpellsTerminator, alone, carriage_retu
 use Rattle.rx_units.specs.Quoted.Elements.{quote_of, SpellsElement, SpellsInString, SpellsInTemplate, character, escape, legacy_octal, non_octal, dollar, terminator, zero_digit, digit}
 use Rattle.rx_units.specs.Quoted.Fronts.{element, closer, front}
 use Rattle.rx_units.specs.Quoted.Values.{text_units}
-use Rattle.rx_units.specs.Quoted.Texts.{Place, next_place, IsAllowed, Leads, no_element, one_more, opened, IsReached, IsDecoded, QuotedRow, after_elements}
+use Rattle.rx_units.specs.Quoted.Texts.{Place, next_place, IsAllowed, Leads, no_element, one_more, place_after_opening, IsReached, IsDecoded, QuotedRow, after_elements}
 use Rattle.rx_units.specs.Sequences.{ElementRow}
 use Rattle.rx_units.proofs.Quoted.Fronts.{spelled_front, quote_front}
 use Rattle.rx_units.proofs.Sequences.{row_append, one}
@@ -100,7 +100,7 @@ module _ (l : Literal) (o : Options) where
 
   pub one_reached : (text : List ℕ) (p q : Place) → IsReached l o text p → IsReached l o text q → IsStuck p → IsStuck q → p ≡ q
   one_reached text p q a b stuck ended =
-      one_stop a.leads (subst (λ inner. Leads l o (opened o inner) q) (sym (same_inner text a.inner b.inner a.opens b.opens)) b.leads) stuck ended
+      one_stop a.leads (subst (λ inner. Leads l o (place_after_opening o inner) q) (sym (same_inner text a.inner b.inner a.opens b.opens)) b.leads) stuck ended
 
   -- A text is decoded in one way.
   pub one_decoding : (text : List ℕ) (us vs : List CodePoint) → IsDecoded l o text us → IsDecoded l o text vs → us ≡ vs
@@ -123,24 +123,24 @@ module _ (l : Literal) (o : Options) where
   -- What a text that is decoded is, in elements.
   abbrev IsOfElements : List ℕ → List CodePoint → Type 0
   IsOfElements text us = (inner : List ℕ) × (es : List Element) × (row : QuotedRow l es inner (quote_of l ∷ [])) ×
-      (text ≡ quote_of l ∷ inner) × All (IsAllowed o) es × (us ≡ text_units o (after_elements l o (opened o inner) es (quote_of l ∷ []) row).units)
+      (text ≡ quote_of l ∷ inner) × All (IsAllowed o) es × (us ≡ text_units o (after_elements l o (place_after_opening o inner) es (quote_of l ∷ []) row).units)
 
   pub elements_of : (text : List ℕ) (us : List CodePoint) → IsDecoded l o text us → IsOfElements text us
   elements_of text us d = go d.last d.reached.leads d.closes d.units_are
     where
-      go : (p : Place) → Leads l o (opened o d.reached.inner) p → p.rest ≡ quote_of l ∷ [] → us ≡ text_units o p.units → IsOfElements text us
+      go : (p : Place) → Leads l o (place_after_opening o d.reached.inner) p → p.rest ≡ quote_of l ∷ [] → us ≡ text_units o p.units → IsOfElements text us
       go p a closes units_are =
           let r = leads_row a in
           let end : Place = record { units = p.units; offset = p.offset; rest = quote_of l ∷ [] } in
           let same : p ≡ end = ap (λ rest. record { units = p.units; offset = p.offset; rest = rest }) closes in
-          let x = of_allowed r.0 (opened o d.reached.inner) end (subst (AllowedRow r.0 (opened o d.reached.inner)) same r.1) in
+          let x = of_allowed r.0 (place_after_opening o d.reached.inner) end (subst (AllowedRow r.0 (place_after_opening o d.reached.inner)) same r.1) in
           (d.reached.inner, r.0, x.0, d.reached.opens, x.1, units_are ∙ ap (λ (p : Place). text_units o p.units) (same ∙ sym x.2))
 
   pub of_elements : (text : List ℕ) (us : List CodePoint) → IsOfElements text us → IsDecoded l o text us
   of_elements text us x =
-      let a = row_leads (opened o x.0) no_element x.1 (quote_of l ∷ []) x.2 x.4 in
+      let a = row_leads (place_after_opening o x.0) no_element x.1 (quote_of l ∷ []) x.2 x.4 in
       record {
-        last = after_elements l o (opened o x.0) x.1 (quote_of l ∷ []) x.2;
+        last = after_elements l o (place_after_opening o x.0) x.1 (quote_of l ∷ []) x.2;
         reached = record { inner = x.0; opens = x.3; leads = a.0 };
         closes = a.1;
         units_are = x.5;

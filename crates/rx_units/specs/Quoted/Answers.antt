@@ -17,7 +17,7 @@ use Rattle.rx_units.specs.declared.template_literal_parser.TemplateLiteral.{Temp
 use Rattle.rx_units.specs.Quoted.Faults.{empty_at, from_to}
 use Rattle.rx_units.specs.Quoted.Found.{seen_front}
 use Rattle.rx_units.specs.Quoted.Fronts.{Front, element, closer, nothing, substitution, invalid_hex, invalid_unicode, too_large, front}
-use Rattle.rx_units.specs.Quoted.Texts.{Given, byte_count, opened, is_refused, IsDecoded, Leads}
+use Rattle.rx_units.specs.Quoted.Texts.{Given, byte_count, place_after_opening, is_refused, IsDecoded, Leads}
 
 -- Each character of the text is a code point, and its spans fit in 32 bits.
 pub record IsGiven (text : List ℕ) (o : Options) : Type 0 where
@@ -26,7 +26,7 @@ pub record IsGiven (text : List ℕ) (o : Options) : Type 0 where
 
 -- Elements that are allowed lead here, and no further one stands here.
 pub record IsStop (literal : Literal) (o : Options) (inner : List ℕ) (stop : Stop) : Type 0 where
-  pub leads : Leads literal o (opened o inner) (record { units = stop.units; offset = stop.offset; rest = stop.rest.now })
+  pub leads : Leads literal o (place_after_opening o inner) (record { units = stop.units; offset = stop.offset; rest = stop.rest.now })
   pub found : seen_front stop.found ≡ front literal stop.rest.now
   pub ends : (e : Element) (n : ℕ) → front literal stop.rest.now ≡ element e n → is_refused o e.writing ≡ true
   pub bytes : stop.offset + byte_count stop.rest.now ≡ o.span_offset + 1 + byte_count inner

@@ -53,14 +53,14 @@ pub data Leads (literal : Literal) (o : Options) (from : Place) : Place → Type
       → Leads literal o from (next_place o p e w rest)
 
 -- the place after the opening quote, before some characters
-abbrev pub opened : Options → List ℕ → Place
-opened o inner = record { units = []; offset = o.span_offset + 1; rest = inner }
+abbrev pub place_after_opening : Options → List ℕ → Place
+place_after_opening o inner = record { units = []; offset = o.span_offset + 1; rest = inner }
 
 -- The opening quote and elements lead to a place.
 pub record IsReached (literal : Literal) (o : Options) (text : List ℕ) (p : Place) : Type 0 where
   pub inner : List ℕ
   pub opens : text ≡ quote_of literal ∷ inner
-  pub leads : Leads literal o (opened o inner) p
+  pub leads : Leads literal o (place_after_opening o inner) p
 
 -- A text is decoded to these units: at a place that is reached the closing quote stands, and then the text ends.
 pub record IsDecoded (literal : Literal) (o : Options) (text : List ℕ) (units : List CodePoint) : Type 0 where

@@ -24,6 +24,7 @@ kind_of LineTerminator = kind.None
 kind_of LineContinuation = kind.None
 
 -- The value that an element gives, if any. As the standard has it a LineContinuation gives nothing, and <CR> in a template gives <LF>.
+-- Why: docs/DECISIONS.md, 67.
 abbrev pub given_value : Bool → Writing → ℕ → Option ℕ
 given_value standard LineContinuation value = if standard then None else Some value
 given_value standard LineTerminator value = Some (if standard && value == ascii.carriage_return then ascii.line_feed else value)

@@ -1,5 +1,5 @@
 use Rattle.std.proofs.lemmas.List.{take_rest}
-use Rattle.rx_base.proofs.Writings.{left_write}
+use Rattle.rx_base.proofs.Writing.{left_write}
 use Rattle.rx_base.proofs.write.write_all.Goals as goal
 
 pub loop-rest-preserved : goal.loop-rest-preserved

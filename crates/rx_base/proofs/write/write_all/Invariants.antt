@@ -1,5 +1,5 @@
 use Rattle.std.proofs.Common.{length}
-use Rattle.rx_base.proofs.Writings.{Left}
+use Rattle.rx_base.proofs.Writing.{Left}
 use Rattle.rx_base.proofs.write.write_all.Given as goal
 
 abbrev pub invariant-loop-rest : goal.invariant-loop-rest

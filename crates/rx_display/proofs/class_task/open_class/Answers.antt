@@ -2,6 +2,7 @@ use Rattle.std.proofs.Common.{refl, ap, ◌∙◌, arith}
 use Rattle.std.proofs.lemmas.List.{nil_from_length}
 use Rattle.std.specs.Char.{encode_utf8}
 use Rattle.std.specs.Option.{is_some}
+use Rattle.std.proofs.lemmas.Result.{IfOk-weaker}
 use Rattle.rx_ast.specs.Size.{all_contents_size}
 use Rattle.rx_ast.specs.Texts.{class_opener}
 use Rattle.rx_ast.proofs.ClassSizes.{contents_positive}
@@ -9,7 +10,6 @@ use Rattle.rx_display.specs.ClassTasks.{class_task_text, class_task_weight}
 use Rattle.rx_display.proofs.ClassTasks.{class_cut, class_none, first_contents_size}
 use Rattle.rx_display.proofs.Writers.{composes, spelled}
 use Rattle.rx_tasks.proofs.Texts.{goes_all, goes_last, goes_then}
-use Rattle.rx_tasks.proofs.Turns.{lighter_last}
 use Rattle.rx_display.proofs.class_task.open_class.Goals as goal
 
 pub returns-clause-text : goal.returns-clause-text
@@ -23,7 +23,7 @@ returns-clause-lighter g c =
     let sized = first_contents_size c.as_slice.result.now c.in-Some.first.now c.in-Some.contents.now c.in-Some.ensures.cases.0 in
     let same = ap all_contents_size c.as_slice.ensures in
     let some = contents_positive c.in-Some.first.now in
-    lighter_last c.write_pair_or.result class_task_weight (omega arith) (c.write_pair_or.ensures.lighter class_task_weight)
+    IfOk-weaker c.write_pair_or.result _ _ (λ next within. omega arith) (c.write_pair_or.ensures.lighter class_task_weight)
 
 pub returns-in_default-clause-text : goal.returns-in_default-clause-text
 unfolding encode_utf8

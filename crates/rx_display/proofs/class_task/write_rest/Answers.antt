@@ -2,13 +2,13 @@ use Rattle.std.proofs.Common.{refl, ap, ◌∙◌, arith}
 use Rattle.std.proofs.lemmas.List.{nil_from_length}
 use Rattle.std.specs.Char.{encode_utf8}
 use Rattle.std.specs.Option.{is_some}
+use Rattle.std.proofs.lemmas.Result.{IfOk-weaker}
 use Rattle.rx_ast.specs.Texts.{operator_text}
 use Rattle.rx_ast.proofs.ClassSizes.{contents_positive}
 use Rattle.rx_display.specs.ClassTasks.{class_task_text, class_task_weight}
 use Rattle.rx_display.proofs.ClassTasks.{first_contents_size, joined_rest_cut, rest_cut, rest_of_class}
 use Rattle.rx_display.proofs.Writers.{composes, no_text, spelled}
 use Rattle.rx_tasks.proofs.Texts.{goes_all, goes_last, goes_none}
-use Rattle.rx_tasks.proofs.Turns.{lighter_last}
 use Rattle.rx_display.proofs.class_task.write_rest.Goals as goal
 
 pub returns-then-joined-clause-text : goal.returns-then-joined-clause-text
@@ -31,7 +31,7 @@ pub returns-clause-lighter : goal.returns-clause-lighter
 returns-clause-lighter g c =
     let sized = first_contents_size c.args.contents.now c.in-Some.first.now c.in-Some.following.now c.in-Some.ensures.cases.0 in
     let some = contents_positive c.in-Some.first.now in
-    lighter_last c.write_pair_or.result class_task_weight (omega arith) (c.write_pair_or.ensures.lighter class_task_weight)
+    IfOk-weaker c.write_pair_or.result _ _ (λ next within. omega arith) (c.write_pair_or.ensures.lighter class_task_weight)
 
 pub returns-in_default-clause-text : goal.returns-in_default-clause-text
 unfolding encode_utf8

@@ -1,5 +1,5 @@
 use Rattle.rx_ast.specs.Tree.{mirror}
-use Rattle.rx_visit.proofs.Orders.{turns}
+use Rattle.rx_lint.proofs.SiblingsToCome.{turns}
 use Rattle.rx_lint.proofs.Loop.{IsListed, siblings_of}
 use Rattle.rx_lint.proofs.linting.list_findings.Given as goal
 

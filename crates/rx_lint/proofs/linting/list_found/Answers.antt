@@ -1,8 +1,8 @@
 use Rattle.std.proofs.Common.{ap, ◌∙◌, ◌++◌, filter, map}
 use Rattle.rx_ast.specs.MirrorKinds.{mirror_kind}
 use Rattle.rx_lint.specs.Findings.{rules}
-use Rattle.rx_lint.specs.Found.{holds_by}
-use Rattle.rx_lint.proofs.FoundAt.{listed}
+use Rattle.rx_lint.specs.NodeFindings.{holds_by}
+use Rattle.rx_lint.proofs.PlaceFindings.{listed}
 use Rattle.rx_lint.proofs.linting.list_found.Goals as goal
 
 pub returns : goal.returns

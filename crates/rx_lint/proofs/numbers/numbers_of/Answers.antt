@@ -3,7 +3,7 @@ use Rattle.std.proofs.lemmas.List.{take_all}
 use Rattle.rx_ast.specs.MirrorKinds.{mirror_kind}
 use Rattle.rx_visit.proofs.Walks.{taken}
 use Rattle.rx_lint.specs.Rows.{AreNumbered}
-use Rattle.rx_lint.proofs.Numbering.{numbered_none, numbered_more}
+use Rattle.rx_lint.proofs.NodeNumbers.{numbered_none, numbered_more}
 use Rattle.rx_lint.proofs.numbers.numbers_of.Goals as goal
 
 pub loop-node-init : goal.loop-node-init

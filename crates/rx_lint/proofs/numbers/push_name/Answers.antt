@@ -4,7 +4,7 @@ use Rattle.std.proofs.lemmas.Iterator.Consumers.{YieldsList-turn, YieldsList-end
 use Rattle.std.proofs.lemmas.List.{at_drop_all, length_push}
 use Rattle.std.specs.Str.{chars}
 use Rattle.rx_lint.specs.Numbers.{name_numbers}
-use Rattle.rx_lint.proofs.Numbering.{name_on}
+use Rattle.rx_lint.proofs.NodeNumbers.{name_on}
 use Rattle.rx_lint.proofs.numbers.push_name.Goals as goal
 
 pub loop-c-init : goal.loop-c-init

@@ -1,4 +1,4 @@
-use Rattle.rx_lint.proofs.Numbering.{last_some, last_none}
+use Rattle.rx_lint.proofs.NodeNumbers.{last_some, last_none}
 use Rattle.rx_lint.proofs.rows.last_length.Goals as goal
 
 pub returns-in-Some : goal.returns-in-Some

@@ -1,7 +1,7 @@
 use Rattle.std.proofs.Common.{◌≡◌, sym, ◌∙◌, ◌+◌, ◌-◌, ◌++◌, ap, arith, length, map, reverse, take, Bor, List, ℕ}
 use Rattle.std.proofs.lemmas.List.{length_push}
 use Rattle.rx_lint.specs.Rows.{first_length, kind_of, rows_of}
-use Rattle.rx_lint.proofs.Numbering.{rowed_none, rowed_more, tail_is}
+use Rattle.rx_lint.proofs.NodeNumbers.{rowed_none, rowed_more, tail_is}
 use Rattle.rx_lint.proofs.rows.rows_of.Goals as goal
 
 pub loop-beginning-init : goal.loop-beginning-init

@@ -1,5 +1,5 @@
 use Rattle.std.proofs.Common.{length}
-use Rattle.rx_lint.proofs.Numbering.{AreRowed}
+use Rattle.rx_lint.proofs.NodeNumbers.{AreRowed}
 use Rattle.rx_lint.proofs.rows.rows_of.Given as goal
 
 abbrev pub invariant-loop-beginning : goal.invariant-loop-beginning

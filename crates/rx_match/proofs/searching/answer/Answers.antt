@@ -5,11 +5,11 @@ use Rattle.rx_ast.specs.Tree.{mirror, mirror_disjunction}
 use Rattle.rx_trace.specs.Answers.{pattern_trace}
 use Rattle.rx_program.specs.ClassTests.{row_tests}
 use Rattle.rx_match.specs.Programs.{trace_of}
-use Rattle.rx_program.specs.Surveyed.{IsSurvey}
+use Rattle.rx_program.specs.SurveyState.{IsSurvey}
 use Rattle.rx_trace.specs.declared.settings.Settings.{Settings}
 use Rattle.rx_program.specs.Codes.{accept}
 use Rattle.rx_program.specs.Compiled.{each_code}
-use Rattle.rx_program.proofs.Surveying.{unsupported_is}
+use Rattle.rx_program.proofs.SurveyState.{unsupported_is}
 use Rattle.rx_trace.proofs.GroupNames.{names-length-each}
 use Rattle.rx_match.proofs.Answering.{outcome_same, program_trace, outcome_answered}
 use Rattle.rx_match.proofs.searching.answer.Goals as goal

@@ -48,7 +48,7 @@ returns-in-Match c =
     (subst (IsRunFrom c.loop-machine.machine c.run_from.new.self (trace_of c.loop-machine.machine.input.now c.loop-machine.machine.program.now c.args.entry c.args.groups c.loop-machine.place)) c.in-Match.is c.in_ok-run_from.ensures) in
     let found = searched_found from c.args.attempts.start c.args.attempts.last c.args.attempts.budget c.loop-machine.place c.loop-machine.machine.budget c.loop-machine.invariant.searches _ _ ran.0 ran.1 in
     let paid = found.2 in
-    ((found.0 ∙ ap (λ (f : Found). Some (record { place = f.end; slots = f.groups })) (sym c.found_from.ensures), ap (λ (f : Found). f.start) c.found_from.ensures ∙ found.1, omega arith), omega arith)
+    ((found.0 ∙ ap (λ (f : Found). Some (record { place = f.end; slots = f.groups })) (sym c.match_from.ensures), ap (λ (f : Found). f.start) c.match_from.ensures ∙ found.1, omega arith), omega arith)
 
 pub returns-in-Spent : goal.returns-in-Spent
 returns-in-Spent c =

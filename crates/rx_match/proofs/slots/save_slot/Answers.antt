@@ -1,5 +1,5 @@
 use Rattle.std.proofs.Common.{suc, ◌≤◌, arith, rules}
-use Rattle.rx_match.specs.Restored.{once}
+use Rattle.rx_match.specs.SavedSlots.{once}
 use Rattle.rx_match.proofs.slots.save_slot.Goals as goal
 
 pub returns : goal.returns

@@ -1,5 +1,5 @@
 use Rattle.std.proofs.Common.{◌≡◌, get_or, rules}
-use Rattle.rx_match.proofs.Restoring.{restored_set}
+use Rattle.rx_match.proofs.SavedSlots.{restored_set}
 use Rattle.rx_match.proofs.slots.set_slot.Goals as goal
 
 pub returns-in_ok-save_slot-clause-restored : goal.returns-in_ok-save_slot-clause-restored

@@ -1,6 +1,6 @@
 use Rattle.std.proofs.Common.{refl, ap, ◌∙◌, ◌+◌, set, add-one}
 use Rattle.rx_trace.specs.declared.answer.Slot.TheVariants.{Unset}
-use Rattle.rx_match.proofs.Restoring.{restored_none, restored_then}
+use Rattle.rx_match.proofs.SavedSlots.{restored_none, restored_then}
 use Rattle.rx_match.proofs.slots.unset_slots.Goals as goal
 
 pub loop-k-init : goal.loop-k-init

@@ -1,6 +1,6 @@
 use Rattle.std.proofs.Common.{◌≡◌}
 use Rattle.rx_trace.specs.Groups.{unset_slots as unset_all}
-use Rattle.rx_match.specs.Restored.{IsRestored}
+use Rattle.rx_match.specs.SavedSlots.{IsRestored}
 use Rattle.rx_match.proofs.slots.unset_slots.Given as goal
 
 abbrev pub invariant-loop-k : goal.invariant-loop-k

@@ -4,7 +4,7 @@ use Rattle.std.proofs.lemmas.Result.{on_ok_weaker}
 use Rattle.rx_ast.specs.Tree.{mirror}
 use Rattle.rx_units.specs.Units.{literal_units, values}
 use Rattle.rx_trace.specs.declared.answer.MatchFlags.{MatchFlags}
-use Rattle.rx_match_reply.proofs.Replied.{ticks_replied}
+use Rattle.rx_match_reply.proofs.AnswerReplies.{ticks_replied}
 use Rattle.rx_match_reply.proofs.replies.add_ticks.Goals as goal
 
 pub returns : goal.returns

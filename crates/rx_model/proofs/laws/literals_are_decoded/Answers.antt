@@ -1,4 +1,4 @@
-use Rattle.rx_model.proofs.Refusals.Decoded.{literals_are_decoded}
+use Rattle.rx_model.proofs.Refusals.LiteralUnits.{literals_are_decoded}
 use Rattle.rx_model.proofs.laws.literals_are_decoded.Goals as goal
 
 pub returns : goal.returns

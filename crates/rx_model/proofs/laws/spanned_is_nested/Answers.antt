@@ -1,4 +1,4 @@
-use Rattle.rx_model.proofs.Reading.Spanned.{spanned_is_nested}
+use Rattle.rx_model.proofs.Reading.NestedSpans.{spanned_is_nested}
 use Rattle.rx_model.proofs.laws.spanned_is_nested.Goals as goal
 
 pub returns : goal.returns

@@ -2,7 +2,7 @@ use Rattle.std.proofs.Common.{sym, ◌∙◌, subst, []}
 use Rattle.rx_model.specs.Inputs.Environment.{environment}
 use Rattle.rx_model.specs.Trees.Events.{tokens}
 use Rattle.rx_model.specs.Reading.Rows.{TokenRow}
-use Rattle.rx_model.proofs.Trees.Builds.{one_tree}
+use Rattle.rx_model.proofs.Trees.TreeFromTokens.{one_tree}
 use Rattle.rx_model.proofs.Reading.OneRow.{one_row}
 use Rattle.rx_model.proofs.FirstPass.OwnGroups.{own_environment}
 use Rattle.rx_model.proofs.laws.unique_reading.Goals as goal

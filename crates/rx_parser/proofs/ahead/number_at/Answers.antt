@@ -1,5 +1,5 @@
 use Rattle.std.proofs.Common.{arith}
-use Rattle.std.proofs.lemmas.Grind.{common_steps}
+use Rattle.rx_parser.proofs.Common.{common_steps}
 use Rattle.rx_parser.proofs.Paces.{run_more}
 use Rattle.rx_parser.proofs.ahead.number_at.Goals as goal
 

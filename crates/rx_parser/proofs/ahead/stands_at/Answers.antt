@@ -1,8 +1,5 @@
 use Rattle.std.proofs.Common.{◌≡◌, ◌∙◌, ap, arith, drop, sym}
-use Rattle.std.proofs.lemmas.Grind.{common_steps}
-use Rattle.std.proofs.lemmas.List.{drop-map}
-use Rattle.rx_units.specs.Units.{values}
-use Rattle.rx_model.specs.FirstPass.Marks.{starts}
+use Rattle.rx_parser.proofs.Common.{common_steps, drop-map, values, starts}
 use Rattle.rx_parser.proofs.ahead.stands_at.Goals as goal
 
 pub returns-clause-there : goal.returns-clause-there

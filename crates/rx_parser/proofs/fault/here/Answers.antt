@@ -1,4 +1,4 @@
-use Rattle.rx_class.proofs.Fitting.{offset_here_fits}
+use Rattle.rx_parser.proofs.Common.{offset_here_fits}
 use Rattle.rx_parser.proofs.fault.here.Goals as goal
 
 pub create-requires : goal.create-requires

@@ -1,6 +1,5 @@
 use Rattle.std.proofs.Common.{◌+◌, ◌^◌, ◌<◌, ap, sym, ◌∙◌, subst}
-use Rattle.rx_units.specs.Cursor.{offset_of, moved}
-use Rattle.rx_class.proofs.Fitting.{offset_fits}
+use Rattle.rx_parser.proofs.Common.{offset_of, move_on, offset_fits}
 use Rattle.rx_parser.proofs.fault.span_ahead.Goals as goal
 
 pub create-requires-clause-start : goal.create-requires-clause-start
@@ -12,5 +11,5 @@ create-requires-clause-start g c =
 pub create-requires-clause-end : goal.create-requires-clause-end
 create-requires-clause-end g c =
     let r = c.args.reader.now in
-    let is = c.offset-end.ensures.value ∙ ap offset_of (c.skip_counted-2.ensures.reader ∙ ap (moved _) c.skip_counted.ensures.reader) in
+    let is = c.offset-end.ensures.value ∙ ap offset_of (c.skip_counted-2.ensures.reader ∙ ap (move_on _) c.skip_counted.ensures.reader) in
     subst (λ n. n + c.args.spans.now < 2 ^ 32) (sym is) (offset_fits c.args.spans.now r.first r.units _ c.requires.fits.first c.requires.fits.ends)

@@ -1,9 +1,6 @@
 use Rattle.std.proofs.Common.{◌∙◌, ◌+◌, arith, length, sym}
-use Rattle.std.proofs.lemmas.Grind.{common_steps}
-use Rattle.rx_base.specs.Rising.{Rises}
-use Rattle.rx_units.specs.Units.{unit}
+use Rattle.rx_parser.proofs.Common.{common_steps, Rises, unit, plain}
 use Rattle.rx_units.specs.declared.code_point.EscapeKind.TheVariants as kind
-use Rattle.rx_parser.specs.Pace.{plain}
 use Rattle.rx_parser.proofs.Looks.{escape_steps, property_run, syntax_steps}
 use Rattle.rx_parser.proofs.Paces.{run_under_plain}
 use Rattle.rx_parser.proofs.front.backslash_at.Goals as goal
@@ -14,7 +11,7 @@ returns-then-is_reference-clause-steps g c =
     let old = g.C.Counter.count c.args.steps.now in
     let mid = g.C.Counter.count c.is_reference.new.steps in
     let first : Rises old mid 0 (plain us + 1) = (omega (arith, c.is_reference.ensures.steps), omega (arith, c.is_reference.ensures.steps, run_under_plain us)) in
-    syntax_steps us old mid (g.C.Counter.count c.indexed_at.new.steps) (length us) c.indexed_at.result first (omega arith) c.indexed_at.ensures.steps
+    syntax_steps us old mid (g.C.Counter.count c.indexed_reference.new.steps) (length us) c.indexed_reference.result first (omega arith) c.indexed_reference.ensures.steps
 
 pub returns-then-is_named-clause-steps : goal.returns-then-is_named-clause-steps
 returns-then-is_named-clause-steps g c =
@@ -22,7 +19,7 @@ returns-then-is_named-clause-steps g c =
     let old = g.C.Counter.count c.args.steps.now in
     let mid = g.C.Counter.count c.is_reference.new.steps in
     let first : Rises old mid 0 (plain us + 1) = (omega (arith, c.is_reference.ensures.steps), omega (arith, c.is_reference.ensures.steps, run_under_plain us)) in
-    syntax_steps us old mid (g.C.Counter.count c.named_at.new.steps) _ c.named_at.result first (grind (arith, common_steps)) c.named_at.ensures.steps
+    syntax_steps us old mid (g.C.Counter.count c.named_reference.new.steps) _ c.named_reference.result first (grind (arith, common_steps)) c.named_reference.ensures.steps
 
 pub returns-then-is_unicode-clause-steps : goal.returns-then-is_unicode-clause-steps
 returns-then-is_unicode-clause-steps g c =

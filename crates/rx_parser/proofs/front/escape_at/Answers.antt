@@ -1,11 +1,5 @@
 use Rattle.std.proofs.Common.{◌∙◌, ap, arith, false, length, rules, subst, sym, ◌+◌, ◌<◌, ◌^◌}
-use Rattle.std.proofs.lemmas.List.{length-map}
-use Rattle.rx_units.specs.declared.code_point.CodePoint.{CodePoint}
-use Rattle.rx_units.specs.Units.{values}
-use Rattle.rx_model.proofs.Characters.LegacyEscapes.{any_within}
-use Rattle.rx_scan.specs.Environments.{seen_environment}
-use Rattle.rx_class.specs.Found.{seen_escape}
-use Rattle.rx_parser.specs.Pace.{LooksAtEscape}
+use Rattle.rx_parser.proofs.Common.{length-map, CodePoint, values, seen_environment, LooksAtEscape, any_within, seen_escape}
 use Rattle.rx_parser.proofs.Looks.{escape_looked}
 use Rattle.rx_parser.proofs.front.escape_at.Goals as goal
 

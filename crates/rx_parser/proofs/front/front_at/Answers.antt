@@ -1,11 +1,6 @@
 use Rattle.std.proofs.Common.{◌∙◌, ap, arith, drop, get_or, sym}
-use Rattle.std.proofs.lemmas.Grind.{common_steps}
-use Rattle.rx_units.specs.Units.{unit}
+use Rattle.rx_parser.proofs.Common.{common_steps, unit, seen_environment, found_front, Leaf, Character}
 use Rattle.rx_units.specs.declared.code_point.EscapeKind.TheVariants as kind
-use Rattle.rx_scan.specs.Environments.{seen_environment}
-use Rattle.rx_parser.specs.Found.{found_front}
-use Rattle.rx_parser.specs.declared.found.Found.TheVariants.{Leaf}
-use Rattle.rx_parser.specs.declared.found.Leaf.TheVariants.{Character}
 use Rattle.rx_parser.proofs.FrontFound.{backslash_alone, bracket_alone, raw_alone, syntax_alone}
 use Rattle.rx_parser.proofs.Looks.{syntax_steps}
 use Rattle.rx_parser.proofs.front.front_at.Goals as goal

@@ -1,7 +1,5 @@
 use Rattle.std.proofs.Common.{◌≡◌, ◌∙◌, ap, sym, refl, ◌+◌, ◌<◌, ◌≤◌, ◌^◌, false, [], None, arith, rules}
-use Rattle.std.proofs.lemmas.List.Elements.{All-weaker}
-use Rattle.rx_units.specs.declared.code_point.CodePoint.{CodePoint}
-use Rattle.rx_model.specs.Inputs.Texts.{some_units}
+use Rattle.rx_parser.proofs.Common.{All-weaker, CodePoint, some_units}
 use Rattle.rx_parser.proofs.StandIns.{group_read, none_left}
 use Rattle.rx_parser.proofs.input.some_reader.Goals as goal
 

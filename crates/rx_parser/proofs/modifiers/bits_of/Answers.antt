@@ -1,6 +1,5 @@
 use Rattle.std.proofs.Common.{◌∙◌, ap, sym, bit_and, bit_or, arith}
-use Rattle.std.proofs.lemmas.Bool.{iff_false}
-use Rattle.rx_units.specs.Units.{unit}
+use Rattle.rx_parser.proofs.Common.{iff_false, unit}
 use Rattle.rx_units.specs.declared.code_point.EscapeKind.TheVariants as kind
 use Rattle.rx_parser.proofs.ModifierBits.{some_bit, no_bits_twice, once_next, bits_next}
 use Rattle.rx_parser.proofs.modifiers.bits_of.Goals as goal

@@ -1,11 +1,10 @@
-use Rattle.std.proofs.Common.{◌≡◌, ◌+◌, false, take}
-use Rattle.rx_units.specs.Units.{values}
-use Rattle.rx_model.specs.Groups.Modifiers.{has_twice, letters_bits}
+use Rattle.std.proofs.Common.{◌≡◌, false, take}
+use Rattle.rx_parser.proofs.Common.{values, has_twice, letters_bits, HasStepped}
 use Rattle.rx_parser.proofs.modifiers.bits_of.Given as goal
 
 abbrev pub invariant-loop-letter : goal.invariant-loop-letter
 invariant-loop-letter g l = record {
   once : has_twice (values (take l.letter-index l.letters)) ≡ false;
   bits : l.bits.0 ≡ letters_bits (values (take l.letter-index l.letters));
-  steps : g.C.Counter.count l.steps ≡ g.C.Counter.count l.fn.steps + l.letter-index;
+  steps : HasStepped (g.C.Counter.count l.fn.steps) (g.C.Counter.count l.steps) l.letter-index;
 }

@@ -1,9 +1,5 @@
 use Rattle.std.proofs.Common.{◌≡◌, ◌∙◌, ap, ap₂, cond, drop, false, sym, true}
-use Rattle.rx_units.specs.Units.{values}
-use Rattle.rx_model.specs.FirstPass.Marks.{starts}
-use Rattle.rx_model.specs.Groups.ModifierFronts.{are_bits, no_colon, no_modifiers_read, read_bits, read_sides}
-use Rattle.rx_model.specs.Reading.FrontReading.{modified_read}
-use Rattle.rx_parser.specs.Found.{found_front}
+use Rattle.rx_parser.proofs.Common.{values, starts, are_bits, no_colon, no_modifiers_read, read_bits, read_sides, modified_read, found_front}
 use Rattle.rx_parser.proofs.ModifiersFound.{letters_there}
 use Rattle.rx_parser.proofs.modifiers.modifiers_at.Goals as goal
 

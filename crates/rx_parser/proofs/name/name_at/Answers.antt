@@ -1,9 +1,5 @@
 use Rattle.std.proofs.Common.{◌∙◌, ap, arith, length, length-drop, sym}
-use Rattle.rx_units.specs.Units.{values}
-use Rattle.rx_model.specs.FirstPass.Marks.{starts}
-use Rattle.rx_model.specs.Groups.NameFronts.{read_after_name, read_from_row}
-use Rattle.rx_scan.proofs.MarkSteps.{values_drop}
-use Rattle.rx_parser.specs.Names.{found_name}
+use Rattle.rx_parser.proofs.Common.{values, starts, read_after_name, read_from_row, values_drop, found_name}
 use Rattle.rx_parser.proofs.Looks.{name_steps}
 use Rattle.rx_parser.proofs.name.name_at.Goals as goal
 

@@ -1,20 +1,8 @@
 use Rattle.std.proofs.Common.{◌≡◌, ℕ, ◌+◌, ◌^◌, ◌-◌, ◌<◌, ◌≤◌, ap, sym, ◌∙◌, subst, arith, rules}
-use Rattle.rx_base.specs.declared.fault.Fault.TheVariants.{Diagnostic}
-use Rattle.rx_base.specs.declared.diagnostic.Diagnostic.TheVariants.{DuplicatedCapturingGroupNames, TooMayCapturingGroups}
-use Rattle.rx_units.specs.Cursor.{Cursor}
-use Rattle.rx_units.specs.Units.{values}
-use Rattle.rx_model.specs.declared.mode.Mode.{Mode}
-use Rattle.rx_model.specs.Refusals.Causes.{duplicated_names, name_span}
-use Rattle.rx_model.specs.Refusals.Firsts.{of_groups}
-use Rattle.rx_model.specs.FirstPass.Marks.{name_places}
-use Rattle.rx_scan.specs.StateFaults.{IsStateFault, mode_of_state, name_offsets}
-use Rattle.rx_class.specs.Fitting.{AreFitting}
-use Rattle.rx_class.proofs.Fitting.{offset_fits}
-use Rattle.rx_parser.specs.Parsing.{IsRefused}
+use Rattle.rx_parser.proofs.Common.{Diagnostic, DuplicatedCapturingGroupNames, TooMayCapturingGroups, Cursor, values, Mode, duplicated_names, name_span, of_groups, name_places, IsStateFault, mode_of_state, name_offsets, offset_fits, IsRefused, rules_of_state, AreFitting}
 use Rattle.rx_parser.proofs.Passes.{holds_pass, many_refused, shifted}
 use Rattle.rx_parser.proofs.Turns.{empty_at}
 use Rattle.rx_parser.proofs.pattern_parser.first_pass.Goals as goal
-use Rattle.rx_parser.specs.Parsing.{rules_of_state}
 
 -- the offsets around a name fit
 name_fits : (mode : Mode) (added : ℕ) (r : Cursor) → AreFitting added r → (k : ℕ) (span : ℕ × ℕ) → span ≡ name_offsets mode r k → (span.0 + added < 2 ^ 32) × (span.1 + added < 2 ^ 32)

@@ -1,16 +1,5 @@
 use Rattle.std.proofs.Common.{◌≡◌, ◌≤◌, ◌+◌, ◌*◌, ◌∙◌, ℕ, [], refl, ap, subst, List, length, drop, arith, length-drop, rules}
-use Rattle.rx_base.specs.declared.fault.Fault.{Fault}
-use Rattle.rx_ast.specs.declared.term.Pattern.{Pattern}
-use Rattle.rx_units.specs.Cursor.{Cursor, rest}
-use Rattle.rx_units.specs.declared.code_point.CodePoint.{CodePoint}
-use Rattle.rx_model.specs.declared.mode.Mode.{Mode}
-use Rattle.rx_model.specs.declared.rules.Rules.{Rules}
-use Rattle.rx_scan.specs.declared.state.State.{State}
-use Rattle.rx_parser.specs.Frames.{openers}
-use Rattle.rx_parser.specs.Pace.{IsTurnPaced}
-use Rattle.rx_parser.specs.Parsing.{IsRefused, IsWhole}
-use Rattle.rx_parser.specs.Turns.{RefusesText, given}
-use Rattle.rx_parser.specs.declared.turn.Parse.{Parse}
+use Rattle.rx_parser.proofs.Common.{Fault, Pattern, Cursor, rest, CodePoint, Mode, Rules, State, openers, IsTurnPaced, IsRefused, IsWhole, RefusesText, fixed_parts, Parse}
 use Rattle.rx_parser.proofs.Endings.{parsing_ended}
 use Rattle.rx_parser.proofs.Halts.{ended_refused}
 use Rattle.rx_parser.proofs.Paces.{plain_within}
@@ -18,10 +7,10 @@ use Rattle.rx_parser.proofs.TokenPaces.{turns_paced}
 use Rattle.rx_parser.proofs.pattern_parser.read_pattern.Goals as goal
 
 -- What is answered after some turns is answered to what was given before them.
-refuses_same : (p q : Parse) (fault : Fault) → given q ≡ given p → RefusesText q fault → RefusesText p fault
+refuses_same : (p q : Parse) (fault : Fault) → fixed_parts q ≡ fixed_parts p → RefusesText q fault → RefusesText p fault
 refuses_same p q fault kept h = subst (λ (k : Mode × Rules × List CodePoint × ℕ × ℕ × State). IsRefused k.0 k.1 k.2 k.3 k.4 fault) kept h
 
-whole_same : (p q : Parse) (tree : Pattern) → given q ≡ given p → IsWhole q.builder.mode q.builder.rules q.reader.units q.reader.first q.spans tree
+whole_same : (p q : Parse) (tree : Pattern) → fixed_parts q ≡ fixed_parts p → IsWhole q.builder.mode q.builder.rules q.reader.units q.reader.first q.spans tree
     → IsWhole p.builder.mode p.builder.rules p.reader.units p.reader.first p.spans tree
 whole_same p q tree kept h = subst (λ (k : Mode × Rules × List CodePoint × ℕ × ℕ × State). IsWhole k.0 k.1 k.2 k.3 k.4 tree) kept h
 
@@ -68,8 +57,8 @@ returns-then-not-is_whole-clause-refused g c =
     let on = it.under_way in
     let left : length (drop r.place r.units) ≡ 0 = search rules in
     let some : openers q.builder ≡ [] → ⊥ = search rules in
-    refuses_same c.args.parse q c.ended.result it.kept
-    (ended_refused r.units r.first q.spans q.builder r.place on.parsing on.pass.no_clash on.pass.in_limit (omega (arith, left, length-drop r.place r.units, on.parsing.within)) some c.ended.result c.ended.ensures)
+    refuses_same c.args.parse q c.fault_at_end.result it.kept
+    (ended_refused r.units r.first q.spans q.builder r.place on.parsing on.pass.no_clash on.pass.in_limit (omega (arith, left, length-drop r.place r.units, on.parsing.within)) some c.fault_at_end.result c.fault_at_end.ensures)
 
 pub returns-clause-whole : goal.returns-clause-whole
 returns-clause-whole g c =
@@ -84,19 +73,10 @@ returns-clause-whole g c =
     (omega (arith, left, length-drop r.place r.units)) c.here-end.ensures tree.ensures.events tree.ensures.good)
 
 pub returns-then-not-is_whole-clause-steps : goal.returns-then-not-is_whole-clause-steps
-returns-then-not-is_whole-clause-steps g c =
-    let r = c.loop-parse.parse.reader in
-    let none : length (drop r.place r.units) ≡ 0 = search rules in
-    end_paced c.args.parse.reader r (g.C.Counter.count c.args.steps.now) (g.C.Counter.count c.loop-parse.steps) c.loop-parse.invariant.pace none
+returns-then-not-is_whole-clause-steps g c = end_paced c.args.parse.reader c.loop-parse.parse.reader (g.C.Counter.count c.args.steps.now) (g.C.Counter.count c.loop-parse.steps) c.loop-parse.invariant.pace (search rules)
 
 pub returns-in_err-finish-clause-steps : goal.returns-in_err-finish-clause-steps
-returns-in_err-finish-clause-steps g c =
-    let r = c.loop-parse.parse.reader in
-    let none : length (drop r.place r.units) ≡ 0 = search rules in
-    end_paced c.args.parse.reader r (g.C.Counter.count c.args.steps.now) (g.C.Counter.count c.loop-parse.steps) c.loop-parse.invariant.pace none
+returns-in_err-finish-clause-steps g c = end_paced c.args.parse.reader c.loop-parse.parse.reader (g.C.Counter.count c.args.steps.now) (g.C.Counter.count c.loop-parse.steps) c.loop-parse.invariant.pace (search rules)
 
 pub returns-clause-steps : goal.returns-clause-steps
-returns-clause-steps g c =
-    let r = c.loop-parse.parse.reader in
-    let none : length (drop r.place r.units) ≡ 0 = search rules in
-    end_paced c.args.parse.reader r (g.C.Counter.count c.args.steps.now) (g.C.Counter.count c.loop-parse.steps) c.loop-parse.invariant.pace none
+returns-clause-steps g c = end_paced c.args.parse.reader c.loop-parse.parse.reader (g.C.Counter.count c.args.steps.now) (g.C.Counter.count c.loop-parse.steps) c.loop-parse.invariant.pace (search rules)

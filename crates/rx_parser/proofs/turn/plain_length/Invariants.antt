@@ -1,7 +1,5 @@
-use Rattle.std.proofs.Common.{◌≡◌, ◌+◌, ◌-◌, ◌≤◌, false, length, drop, take}
-use Rattle.std.specs.Prelude.{All}
-use Rattle.rx_tables.specs.Characters.{is_syntax_character}
-use Rattle.rx_units.specs.declared.code_point.CodePoint.{CodePoint}
+use Rattle.std.proofs.Common.{◌≡◌, ◌+◌, ◌-◌, ◌≤◌, false, length, drop, take, All}
+use Rattle.rx_parser.proofs.Common.{is_syntax_character, CodePoint, HasStepped}
 use Rattle.rx_parser.specs.Pace.{plain as plain_count}
 use Rattle.rx_parser.proofs.turn.plain_length.Given as goal
 
@@ -10,7 +8,7 @@ invariant-loop-count g l = record {
   within : l.count ≤ length l.units;
   plain : All (λ (unit : CodePoint). is_syntax_character unit.value ≡ false) (take l.count l.units);
   whole : plain_count l.units ≡ l.count + plain_count (drop l.count l.units);
-  steps : g.C.Counter.count l.steps ≡ g.C.Counter.count l.fn.steps + l.count;
+  steps : HasStepped (g.C.Counter.count l.fn.steps) (g.C.Counter.count l.steps) l.count;
 }
 
 abbrev pub decreases-loop-count : goal.decreases-loop-count

@@ -1,14 +1,9 @@
-use Rattle.std.proofs.Common.{sym, subst, ◌+◌, ◌^◌, ◌<◌, ◌≤◌, length, take, get_or, arith, rules}
-use Rattle.std.specs.Prelude.{All}
-use Rattle.rx_base.specs.declared.span.Span.{Span}
-use Rattle.rx_ast.specs.declared.leaf.CharacterKind.{CharacterKind}
-use Rattle.rx_units.specs.declared.code_point.CodePoint.{CodePoint}
+use Rattle.std.proofs.Common.{sym, subst, ◌+◌, ◌^◌, ◌<◌, ◌≤◌, length, take, get_or, arith, rules, All}
+use Rattle.rx_parser.proofs.Common.{Span, CodePoint, rest, unit, character, offset_fits, IsLeafOf, leaf_token, CharacterKind}
 use Rattle.rx_units.specs.declared.code_point.EscapeKind.TheVariants as kind
-use Rattle.rx_units.specs.Cursor.{rest}
-use Rattle.rx_units.specs.Units.{unit}
-use Rattle.rx_model.specs.Trees.Token.{character}
-use Rattle.rx_class.proofs.Fitting.{offset_fits}
-use Rattle.rx_parser.specs.Progress.{IsLeafOf}
+use Rattle.rx_parser.specs.declared.found.Leaf.{Leaf as FoundLeaf}
+use Rattle.rx_parser.specs.declared.found.Leaf.TheVariants as found
+use Rattle.rx_parser.proofs.Leaves.{leaf_term_is}
 use Rattle.rx_parser.proofs.PlainRuns.{Takes, run_on, unit_end, unit_is, unit_plain}
 use Rattle.rx_parser.proofs.turn.plain_run.Goals as goal
 
@@ -31,12 +26,14 @@ loop-unit-preserved g c =
     let some : i < length (rest r) = omega (arith, inside, c.requires.within) in
     let is = unit_is r us c.args.count i d left inside within in
     let it = c.in_ok-leaf.ensures in
-    let its = c.term.ensures in
+    let it_is : FoundLeaf = found.Character c.unit_kind.result u.value in
+    let its : IsLeafOf c.term.result (leaf_token it_is) c.create-span.result.start c.create-span.result.end =
+    subst (λ t. IsLeafOf t (leaf_token it_is) c.create-span.result.start c.create-span.result.end) (sym c.term.ensures) (leaf_term_is it_is c.create-span.result) in
     let spanned : IsLeafOf c.term.result (character c.unit_kind.result u.value) (c.loop-unit.start + c.args.spans.now) (u.span.end + c.args.spans.now) =
     subst (λ (s : Span). IsLeafOf c.term.result (character c.unit_kind.result u.value) s.start s.end) c.create-span.ensures its in
     let taken : Takes c.loop-unit.builder c.leaf.new.self u c.term.result (c.loop-unit.start + c.args.spans.now) (u.span.end + c.args.spans.now) = record {
       leaf = subst (λ (k : CharacterKind). IsLeafOf c.term.result (character k u.value) (c.loop-unit.start + c.args.spans.now) (u.span.end + c.args.spans.now)) c.unit_kind.ensures spanned;
-      grows = record { events = it.events; openers_are = it.openers; ready_is = it.ready; good = it.good (its.good c.loop-unit.builder.mode); mode = it.mode; rules = it.rules };
+      grows = record { events = it.events; openers_are = it.openers; ready_is = it.ready; good = it.good (its.good c.loop-unit.builder.mode); fixed = it.fixed };
     } in
     record {
       parsing = run_on c.requires.before i u some is c.loop-unit.builder c.leaf.new.self c.term.result c.loop-unit.start (subst (All (λ (u : CodePoint). u.value ≤ 0x10FFFF)) left c.remaining_code_points.ensures.code_points)

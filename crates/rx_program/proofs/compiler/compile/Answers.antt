@@ -12,9 +12,9 @@ use Rattle.rx_program.proofs.compiler.compile.Goals as goal
 pub loop-task-init : goal.loop-task-init
 loop-task-init c =
     let is = ap (λ d. d.1) (disjunction_is c.args.body.now) ∙ ap (λ b. alternatives (map mirror_alternative b)) (sym c.as_slice-alternatives.ensures) in
-    makes_first _ (task.Disjunction c.args.setting c.as_slice-alternatives.result) c.args.names.now c.args.setting.settings c.args.setting.back (mirror_disjunction c.args.body.now).1 refl
+    makes_first _ (task.Disjunction c.args.context c.as_slice-alternatives.result) c.args.names.now c.args.context.settings c.args.context.back (mirror_disjunction c.args.body.now).1 refl
     (c.in_ok-push.ensures.ok ∙ ap (λ (l : List Step). l ++ (step.Accept ∷ [])) c.new.ensures) (c.in_ok-push-2.ensures.ok ∙ ap (λ (l : List ℕ). l ++ (0 ∷ [])) c.new-3.ensures)
-    (c.in_ok-push-3.ensures.ok ∙ ap (λ (l : List Task). l ++ (task.Disjunction c.args.setting c.as_slice-alternatives.result ∷ [])) c.new-2.ensures) (λ n. ap (disjunction c.args.setting.settings c.args.setting.back) (sym is)) (c.len.ensures ∙ c.requires.names) c.requires.rows
+    (c.in_ok-push-3.ensures.ok ∙ ap (λ (l : List Task). l ++ (task.Disjunction c.args.context c.as_slice-alternatives.result ∷ [])) c.new-2.ensures) (λ n. ap (disjunction c.args.context.settings c.args.context.back) (sym is)) (c.len.ensures ∙ c.requires.names) c.requires.rows
 
 pub perform-requires-clause-sound : goal.perform-requires-clause-sound
 perform-requires-clause-sound c = sound_popped c.loop-task.builder c.pop.new.self c.in-Some.task _ _ c.in-Some.ensures c.loop-task.invariant

@@ -3,7 +3,7 @@ use Rattle.rx_ast.specs.Tree.{alternatives, mirror_alternative, mirror_disjuncti
 use Rattle.rx_ast.proofs.Equations.{disjunction_is}
 use Rattle.rx_program.specs.declared.survey.Rest.{Rest}
 use Rattle.rx_program.specs.declared.survey.Rest.TheVariants as rest
-use Rattle.rx_program.proofs.Surveying.{surveys_first}
+use Rattle.rx_program.proofs.SurveyState.{surveys_first}
 use Rattle.rx_program.proofs.survey.survey_tree.Goals as goal
 
 pub loop-rest-init : goal.loop-rest-init

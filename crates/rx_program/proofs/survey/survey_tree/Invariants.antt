@@ -1,6 +1,6 @@
 use Rattle.rx_ast.specs.Tree.{mirror_disjunction}
-use Rattle.rx_program.specs.Surveyed.{all_looks, rests_of}
-use Rattle.rx_program.proofs.Surveying.{Surveys}
+use Rattle.rx_program.specs.SurveyState.{all_looks, rests_of}
+use Rattle.rx_program.proofs.SurveyState.{Surveys}
 use Rattle.rx_program.proofs.survey.survey_tree.Given as goal
 
 abbrev pub invariant-loop-rest : goal.invariant-loop-rest

@@ -1,4 +1,4 @@
-use Rattle.rx_rewrite.proofs.Promised.{promised}
+use Rattle.rx_rewrite.proofs.Promises.{promised}
 use Rattle.rx_rewrite.proofs.laws.promises_are_kept.Goals as goal
 
 pub returns : goal.returns

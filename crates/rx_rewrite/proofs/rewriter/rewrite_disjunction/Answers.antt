@@ -10,8 +10,8 @@ use Rattle.rx_rewrite.proofs.rewriter.rewrite_disjunction.Goals as goal
 
 pub loop-task-init : goal.loop-task-init
 loop-task-init c =
-    makes_first _ c.args.what c.args.numbers.now c.args.reading c.as_slice-alternatives.result (mirror_disjunction c.args.body.now).1 refl refl
-    (c.in_ok-push.ensures.ok ∙ ap (λ (l : List Task). l ++ (task.Alternatives c.args.reading c.as_slice-alternatives.result ∷ [])) c.new.ensures)
+    makes_first _ c.args.what c.args.numbers.now c.args.settings c.as_slice-alternatives.result (mirror_disjunction c.args.body.now).1 refl refl
+    (c.in_ok-push.ensures.ok ∙ ap (λ (l : List Task). l ++ (task.Alternatives c.args.settings c.as_slice-alternatives.result ∷ [])) c.new.ensures)
     c.new-2.ensures c.in_ok-with_capacity.ensures
     (ap (λ b. alternatives (map mirror_alternative b)) c.as_slice-alternatives.ensures ∙ sym (ap (λ d. d.1) (disjunction_is c.args.body.now)))
 
@@ -26,8 +26,8 @@ loop-task-smaller c = fewer_on c.loop-task.rewriter c.perform.new.self c.pop.new
 
 pub returns : goal.returns
 returns c = λ names numbered.
-    let old = c.args.reading.old in
-    let new = c.args.reading.new in
+    let old = c.args.settings.old in
+    let new = c.args.settings.new in
     let all = (mirror_disjunction c.args.body.now).1 in
     disjunction_roll _
     ∙ ap (λ more. ((out-Disjunction c.args.body.now).span, more)) (makes_all c.loop-task.rewriter c.args.what c.args.numbers.now old new all names c.in_default.ensures.0 numbered c.loop-task.invariant)

@@ -3,7 +3,7 @@ use Rattle.rx_ast.specs.Tree.{mirror, mirror_disjunction}
 use Rattle.rx_trace.specs.Answers.{settings}
 use Rattle.rx_trace.specs.Groups.{names_in_each}
 use Rattle.rx_rewrite.specs.Rewriting.{alternatives_rewritten}
-use Rattle.rx_rewrite.proofs.Promised.{promised}
+use Rattle.rx_rewrite.proofs.Promises.{promised}
 use Rattle.rx_rewrite.proofs.rewriting.rewrite.Goals as goal
 
 pub rewrite_disjunction-requires : goal.rewrite_disjunction-requires

@@ -2,7 +2,7 @@ use Rattle.std.proofs.Common.{sym, ◌∙◌}
 use Rattle.std.proofs.lemmas.Result.{on_ok_weaker}
 use Rattle.rx_ast.specs.Tree.{mirror}
 use Rattle.rx_rewrite_reply.specs.Replies.{unsupported, unsupported_reply}
-use Rattle.rx_rewrite_reply.proofs.Replied.{rewrite_replied}
+use Rattle.rx_rewrite_reply.proofs.AnswerReplies.{rewrite_replied}
 use Rattle.rx_rewrite_reply.proofs.replies.add_rewritten.Goals as goal
 
 pub returns-in-Some : goal.returns-in-Some

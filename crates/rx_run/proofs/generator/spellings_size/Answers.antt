@@ -1,5 +1,5 @@
 use Rattle.std.proofs.Common.{◌≡◌, subst, ℕ, rules}
-use Rattle.rx_run.proofs.Generating.{Answered, answered_all, answered_more}
+use Rattle.rx_run.proofs.PatternsMade.{Answered, answered_all, answered_more}
 use Rattle.rx_run.proofs.generator.spellings_size.Goals as goal
 
 pub loop-preserved : goal.loop-preserved

@@ -1,5 +1,5 @@
 use Rattle.std.proofs.Common.{◌≤◌, ◌*◌}
-use Rattle.rx_run.proofs.Generating.{Answered}
+use Rattle.rx_run.proofs.PatternsMade.{Answered}
 use Rattle.rx_run.proofs.generator.spellings_size.Given as goal
 
 abbrev pub invariant-loop : goal.invariant-loop

@@ -1,6 +1,6 @@
 use Rattle.std.proofs.Common.{refl, ◌∙◌, sym, subst, ◌+◌, ◌-◌, ◌<◌, ◌^◌, true, arith, rules, length}
 use Rattle.rx_units.specs.Cursor.{Cursor}
-use Rattle.rx_class.specs.ClassAnswers.{HoldsFirstPass}
+use Rattle.rx_class.specs.ClassReading.Answers.{HoldsFirstPass}
 use Rattle.rx_class.proofs.FirstPasses.{holds_first_pass, without_err}
 use Rattle.rx_class.proofs.TextFits.{made_are_fitting}
 use Rattle.rx_scan_tests.proofs.classes.class.Goals as goal

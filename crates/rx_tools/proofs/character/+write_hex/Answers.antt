@@ -1,4 +1,4 @@
-use Rattle.rx_base.proofs.Writings.{written_none}
+use Rattle.rx_base.proofs.Writing.{written_none}
 use Rattle.rx_tools.proofs.Hexadecimal.{hex_none, hex_more, hex_one}
 use Rattle.rx_tools.proofs.Pieces.{text_then, text_stop, failed_from}
 use Rattle.rx_tools.proofs.character.+write_hex.Goals as goal

@@ -1,6 +1,6 @@
 use Rattle.std.proofs.Common.{refl, ap, ◌∙◌, codes}
 use Rattle.std.specs.Str.{chars}
-use Rattle.rx_base.proofs.Writings.{left_then, left_stop, left_none}
+use Rattle.rx_base.proofs.Writing.{left_then, left_stop, left_none}
 use Rattle.rx_model.specs.Spelling.ClassText.{characters_text}
 use Rattle.rx_tools.specs.Utf8.{utf8}
 use Rattle.rx_tools.proofs.Classes.{strings_next, strings_none}

@@ -1,5 +1,5 @@
 use Rattle.std.proofs.Common.{drop}
-use Rattle.rx_base.proofs.Writings.{Left}
+use Rattle.rx_base.proofs.Writing.{Left}
 use Rattle.rx_model.specs.Spelling.ClassText.{barred_strings_text}
 use Rattle.rx_tools.specs.Utf8.{utf8}
 use Rattle.rx_tools.proofs.class.write_barred_strings.Given as goal

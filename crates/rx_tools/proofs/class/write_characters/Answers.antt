@@ -1,5 +1,5 @@
 use Rattle.std.proofs.Common.{ap, ◌∙◌}
-use Rattle.rx_base.proofs.Writings.{left_then, left_stop, left_none}
+use Rattle.rx_base.proofs.Writing.{left_then, left_stop, left_none}
 use Rattle.rx_tools.specs.Utf8.{utf8}
 use Rattle.rx_tools.proofs.Classes.{characters_next, characters_none}
 use Rattle.rx_tools.proofs.Pieces.{utf8-nil, text_next, failed_from}

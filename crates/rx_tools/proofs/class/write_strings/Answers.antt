@@ -1,4 +1,4 @@
-use Rattle.rx_base.proofs.Writings.{written_none}
+use Rattle.rx_base.proofs.Writing.{written_none}
 use Rattle.rx_model.specs.Spelling.ClassText.{characters_text}
 use Rattle.std.proofs.lemmas.List.{nil_from_length}
 use Rattle.rx_tools.proofs.Pieces.{utf8-nil, text_then, text_stop, failed_from}

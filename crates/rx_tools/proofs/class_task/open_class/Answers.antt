@@ -1,12 +1,12 @@
 use Rattle.std.proofs.Common.{refl, ap, arith}
 use Rattle.std.proofs.lemmas.List.{nil_from_length}
+use Rattle.std.proofs.lemmas.Result.{IfOk-weaker}
 use Rattle.std.specs.Str.{chars}
 use Rattle.rx_ast.specs.Size.{all_contents_size}
 use Rattle.rx_ast.specs.Texts.{class_opener}
 use Rattle.rx_display.proofs.ClassTasks.{first_contents_size}
-use Rattle.rx_tools.specs.ClassTasks.{class_task_text, class_task_weight}
+use Rattle.rx_tools.specs.ClassTasks.{class_task_text}
 use Rattle.rx_tools.proofs.ClassTasks.{class_cut, class_none}
-use Rattle.rx_tools.proofs.Tasks.{lighter_within}
 use Rattle.rx_tools.proofs.Writes.{composes}
 use Rattle.rx_tasks.proofs.Texts.{goes_all, goes_last, goes_then}
 use Rattle.rx_tools.proofs.class_task.open_class.Goals as goal
@@ -21,7 +21,7 @@ pub returns-clause-lighter : goal.returns-clause-lighter
 returns-clause-lighter g c =
     let sized = first_contents_size c.as_slice.result.now c.in-Some.first.now c.in-Some.others.now c.in-Some.ensures.cases.0 in
     let same = ap all_contents_size c.as_slice.ensures in
-    lighter_within c.write_or_put_back.result class_task_weight (omega arith) c.write_or_put_back.ensures.lighter
+    IfOk-weaker c.write_or_put_back.result _ _ (λ next within. omega arith) c.write_or_put_back.ensures.lighter
 
 pub returns-in_default-clause-text : goal.returns-in_default-clause-text
 unfolding chars

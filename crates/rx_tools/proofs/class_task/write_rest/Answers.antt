@@ -1,11 +1,11 @@
 use Rattle.std.proofs.Common.{ap, arith}
 use Rattle.std.proofs.lemmas.List.{nil_from_length}
+use Rattle.std.proofs.lemmas.Result.{IfOk-weaker}
 use Rattle.std.specs.Str.{chars}
 use Rattle.rx_ast.specs.Texts.{operator_text}
 use Rattle.rx_display.proofs.ClassTasks.{first_contents_size}
-use Rattle.rx_tools.specs.ClassTasks.{class_task_text, class_task_weight}
+use Rattle.rx_tools.specs.ClassTasks.{class_task_text}
 use Rattle.rx_tools.proofs.ClassTasks.{rest_cut, rest_of_class}
-use Rattle.rx_tools.proofs.Tasks.{lighter_within}
 use Rattle.rx_tools.proofs.Writes.{composes}
 use Rattle.rx_tasks.proofs.Texts.{goes_all, goes_last}
 use Rattle.rx_tools.proofs.class_task.write_rest.Goals as goal
@@ -20,7 +20,7 @@ returns-clause-text g c =
 pub returns-clause-lighter : goal.returns-clause-lighter
 returns-clause-lighter g c =
     let sized = first_contents_size c.args.contents.now c.in-Some.first.now c.in-Some.others.now c.in-Some.ensures.cases.0 in
-    lighter_within c.write_or_put_back.result class_task_weight (omega arith) c.write_or_put_back.ensures.lighter
+    IfOk-weaker c.write_or_put_back.result _ _ (λ next within. omega arith) c.write_or_put_back.ensures.lighter
 
 pub returns-in_default-clause-text : goal.returns-in_default-clause-text
 unfolding chars

@@ -1,12 +1,13 @@
 use Rattle.std.proofs.Common.{ap, ◌∙◌, ◌++◌, arith, map}
 use Rattle.std.proofs.lemmas.List.{nil_from_length}
+use Rattle.std.proofs.lemmas.Result.{IfOk-weaker}
 use Rattle.rx_ast.proofs.TermShown.{terms_cons}
 use Rattle.rx_ast.specs.Size.{terms_size}
 use Rattle.rx_ast.specs.Tree.{mirror_term, nodes}
 use Rattle.rx_display.specs.Tasks.{tree_of}
 use Rattle.rx_model.specs.Spelling.Spelling.{barred_text, nodes_text}
-use Rattle.rx_tools.specs.Tasks.{task_text, task_weight}
-use Rattle.rx_tools.proofs.Tasks.{lighter_within, terms_cut}
+use Rattle.rx_tools.specs.Tasks.{task_text}
+use Rattle.rx_tools.proofs.Tasks.{terms_cut}
 use Rattle.rx_tools.proofs.Writes.{composes}
 use Rattle.rx_tasks.proofs.Texts.{goes_last, goes_to}
 use Rattle.rx_tools.proofs.printing.write_body.Goals as goal
@@ -22,7 +23,7 @@ pub returns-clause-lighter : goal.returns-clause-lighter
 returns-clause-lighter g c =
     let sized = ap terms_size c.in-Some.ensures.cases.0 ∙ terms_cons c.in-Some.first.now c.in-Some.terms.now in
     let less = c.in_ok-left.ensures.lighter in
-    lighter_within c.open.result task_weight (omega arith) c.open.ensures.lighter
+    IfOk-weaker c.open.result _ _ (λ next within. omega arith) c.open.ensures.lighter
 
 pub returns-in_default-clause-text : goal.returns-in_default-clause-text
 returns-in_default-clause-text g c =

@@ -1,4 +1,4 @@
-use Rattle.rx_base.proofs.Writings.{written_none}
+use Rattle.rx_base.proofs.Writing.{written_none}
 use Rattle.rx_tools.proofs.Pieces.{utf8-nil}
 use Rattle.rx_tools.proofs.printing.write_suffix.Goals as goal
 

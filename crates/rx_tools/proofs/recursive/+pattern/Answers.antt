@@ -6,7 +6,7 @@ use Rattle.rx_ast.specs.Tree.{nodes, mirror_term}
 use Rattle.rx_ast.proofs.Equations.{quantifier_is, disjunction_is, tree_of_capturing, tree_of_ignore, tree_of_look}
 use Rattle.rx_ast.proofs.Sizes.{alternative_within, term_positive}
 use Rattle.rx_base.specs.declared.ends.Failed.{Failed}
-use Rattle.rx_base.proofs.Writings.{left_all, left_then, left_stop, left_none}
+use Rattle.rx_base.proofs.Writing.{left_all, left_then, left_stop, left_none}
 use Rattle.rx_model.specs.Spelling.Spelling.{node_text, nodes_text, alternatives_text, refers}
 use Rattle.rx_tools.specs.declared.leaf.Rest.{Rest}
 use Rattle.rx_tools.specs.Leaves.{rest_text}

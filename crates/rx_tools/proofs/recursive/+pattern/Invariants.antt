@@ -5,7 +5,7 @@ use Rattle.std.specs.Str.{chars}
 use Rattle.rx_ast.specs.Size.{term_size, terms_size, all_alternatives_size, disjunction_size}
 use Rattle.rx_ast.specs.Tree.{nodes, alternatives, mirror_term, mirror_alternative}
 use Rattle.rx_base.specs.declared.ends.Failed.{Failed}
-use Rattle.rx_base.proofs.Writings.{Left}
+use Rattle.rx_base.proofs.Writing.{Left}
 use Rattle.rx_model.specs.Spelling.Spelling.{nodes_text, alternatives_text}
 use Rattle.rx_tools.specs.Leaves.{WritesFront, rest_text}
 use Rattle.rx_tools.specs.Utf8.{utf8}

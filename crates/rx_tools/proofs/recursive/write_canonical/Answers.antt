@@ -1,7 +1,7 @@
 use Rattle.std.proofs.Common.{◌∙◌, ap}
 use Rattle.rx_ast.proofs.Equations.{disjunction_is}
 use Rattle.rx_model.specs.Spelling.Spelling.{alternatives_text}
-use Rattle.rx_model.proofs.Spelling.Spellings.{spelling_bare}
+use Rattle.rx_model.proofs.Spelling.Spelling.{spelling_bare}
 use Rattle.rx_tools.proofs.Pieces.{same_text}
 use Rattle.rx_tools.proofs.recursive.write_canonical.Goals as goal
 

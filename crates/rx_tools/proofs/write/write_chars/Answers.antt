@@ -1,6 +1,6 @@
 use Rattle.std.proofs.Common.{◌∙◌, ap}
 use Rattle.std.proofs.lemmas.List.{drop_all}
-use Rattle.rx_base.proofs.Writings.{left_then, left_stop, left_none}
+use Rattle.rx_base.proofs.Writing.{left_then, left_stop, left_none}
 use Rattle.rx_tools.specs.Utf8.{utf8}
 use Rattle.rx_tools.proofs.Pieces.{utf8-nil, characters_next, failed_from}
 use Rattle.rx_tools.proofs.write.write_chars.Goals as goal

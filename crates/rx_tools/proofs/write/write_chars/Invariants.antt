@@ -1,6 +1,6 @@
 use Rattle.std.proofs.Common.{drop}
 use Rattle.rx_tools.specs.Utf8.{utf8}
-use Rattle.rx_base.proofs.Writings.{Left}
+use Rattle.rx_base.proofs.Writing.{Left}
 use Rattle.rx_tools.proofs.write.write_chars.Given as goal
 
 abbrev pub invariant-loop-c : goal.invariant-loop-c

@@ -1,4 +1,4 @@
-use Rattle.rx_base.proofs.Writings.{left_then, left_stop, left_none}
+use Rattle.rx_base.proofs.Writing.{left_then, left_stop, left_none}
 use Rattle.rx_tools.proofs.Pieces.{pieces_none, pieces_next, failed_from}
 use Rattle.rx_tools.proofs.write.write_pieces.Goals as goal
 

@@ -2,7 +2,7 @@ use Rattle.std.proofs.Common.{drop}
 use Rattle.std.specs.List.{flat_map}
 use Rattle.std.specs.Str.{chars}
 use Rattle.rx_tools.specs.Utf8.{utf8}
-use Rattle.rx_base.proofs.Writings.{Left}
+use Rattle.rx_base.proofs.Writing.{Left}
 use Rattle.rx_tools.proofs.write.write_pieces.Given as goal
 
 abbrev pub invariant-loop-piece : goal.invariant-loop-piece

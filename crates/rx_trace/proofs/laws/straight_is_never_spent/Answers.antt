@@ -4,7 +4,7 @@ use Rattle.rx_trace.specs.declared.answer.Slot.TheVariants.{Unset}
 use Rattle.rx_trace.specs.Groups.{groups_in_each, names_in_each}
 use Rattle.rx_trace.specs.Straight.{terms_in_each}
 use Rattle.rx_trace.specs.Answers.{settings, pattern_trace}
-use Rattle.rx_trace.proofs.Straights.{short-cost, straight-one}
+use Rattle.rx_trace.proofs.Straight.{short-cost, straight-one}
 use Rattle.rx_trace.proofs.laws.straight_is_never_spent.Goals as goal
 
 pub returns : goal.returns

@@ -1,4 +1,4 @@
-use Rattle.std.proofs.Common.{◌≡◌, ◌+◌, ◌==◌, ◌&&◌, ◌≤◌, ℕ, true, false, length, inr, sym, ap, subst, ◌∙◌, arith}
+use Rattle.std.proofs.Common.{◌+◌, ◌≤◌, ℕ, inr, sym, ap, subst, ◌∙◌, arith}
 use Rattle.std.proofs.lemmas.List.Elements.{All-tail}
 use Rattle.std.specs.Prelude.{All}
 use Rattle.rx_base.specs.declared.span.Span.{Span}
@@ -7,10 +7,7 @@ use Rattle.rx_units.specs.declared.string_literal_parser.StringFault.{StringFaul
 use Rattle.rx_units.specs.declared.string_literal_parser.StringFault.TheVariants as string_fault
 use Rattle.rx_units.specs.Quoted.Elements.{quote_of}
 use Rattle.rx_units.specs.Quoted.Faults.{IsStringFault, unopened, from_to}
-use Rattle.rx_units.specs.Quoted.Found.{is_closer, seen_front}
-use Rattle.rx_units.specs.Quoted.Texts.{IsDecoded}
 use Rattle.rx_units.proofs.Quoted.Outcomes.{string_fault_stands, stop_reached, decoded_there}
-use Rattle.rx_units.proofs.Quoted.Turns.{place}
 use Rattle.rx_units.proofs.string_literal_parser.decode_text.Goals as goal
 
 pub returns-in_default-clause-err : goal.returns-in_default-clause-err
@@ -21,20 +18,15 @@ elements-requires-clause-code_points c =
     All-tail (λ c. c ≤ 0x10FFFF) (quote_of (literals.String c.in-Some.kind)) c.in-Some.inner.now (subst (All (λ c. c ≤ 0x10FFFF)) c.in-Some.ensures c.requires.code_points)
 
 pub returns-clause-ok : goal.returns-clause-ok
-returns-clause-ok c =
-    let stop = c.in_ok-stop.stop in
-    let end : (is_closer (seen_front stop.found) && (length stop.rest.now == 1)) ≡ true = grind (arith, c.is_end.ensures, c.if-not-is_end.false) in
-    record {
-      decoded = subst (λ us. IsDecoded (literals.String c.in-Some.kind) c.args.options c.args.text.now us) (sym c.in_ok-body.ensures)
-          (decoded_there (literals.String c.in-Some.kind) c.args.options c.args.text.now c.in-Some.inner.now stop c.in-Some.ensures c.in_ok-stop.ensures end);
-      span_is = c.new-span.ensures ∙ ap (λ (n : ℕ). from_to c.args.options.span_offset (c.args.options.span_offset + n)) c.byte_count.ensures;
-    }
+returns-clause-ok c = record {
+  decoded = decoded_there (literals.String c.in-Some.kind) c.args.options c.args.text.now c.in-Some.inner.now c.in_ok-stop.stop c.in-Some.ensures c.in_ok-stop.ensures
+      (grind (arith, c.is_end.ensures, c.if-not-is_end.false)) _ c.in_ok-body.ensures;
+  span_is = c.new-span.ensures ∙ ap (λ (n : ℕ). from_to c.args.options.span_offset (c.args.options.span_offset + n)) c.byte_count.ensures;
+}
 
 pub returns-then-not-is_end-clause-err : goal.returns-then-not-is_end-clause-err
 returns-then-not-is_end-clause-err c =
-    let s = c.in_ok-stop.ensures in
-    let stop = c.in_ok-stop.stop in
-    let no_end : (is_closer (seen_front stop.found) && (length stop.rest.now == 1)) ≡ false = grind (arith, c.is_end.ensures, c.if-not-is_end.true) in
+    let stops = c.in_ok-stop.ensures in
+    let reached = stop_reached (literals.String c.in-Some.kind) c.args.options c.args.text.now c.in-Some.inner.now c.in_ok-stop.stop c.in-Some.ensures stops in
     inr (subst (λ (f : StringFault). IsStringFault c.args.options c.args.text.now f) (sym c.fault.ensures)
-    (string_fault_stands c.in-Some.kind c.args.options c.args.text.now (place stop.units stop.offset stop.rest.now) (stop_reached (literals.String c.in-Some.kind) c.args.options c.args.text.now c.in-Some.inner.now stop c.in-Some.ensures s)
-    (seen_front stop.found) s.found s.ends no_end))
+    (string_fault_stands c.in-Some.kind c.args.options c.args.text.now _ reached _ stops.found stops.ends (grind (arith, c.is_end.ensures, c.if-not-is_end.true))))

@@ -1,4 +1,4 @@
-use Rattle.std.proofs.Common.{◌≡◌, ◌+◌, ◌==◌, ◌&&◌, ◌≤◌, ℕ, true, false, length, inr, sym, ap, subst, ◌∙◌, arith}
+use Rattle.std.proofs.Common.{◌+◌, ◌≤◌, ℕ, inr, sym, ap, subst, ◌∙◌, arith}
 use Rattle.std.proofs.lemmas.List.Elements.{All-tail}
 use Rattle.std.specs.Prelude.{All}
 use Rattle.rx_base.specs.declared.span.Span.{Span}
@@ -6,11 +6,8 @@ use Rattle.rx_units.specs.declared.quoted_text.literal.Literal.TheVariants as li
 use Rattle.rx_units.specs.declared.template_literal_parser.TemplateFault.{TemplateFault}
 use Rattle.rx_units.specs.declared.template_literal_parser.TemplateFault.TheVariants as template_fault
 use Rattle.rx_units.specs.Quoted.Faults.{IsTemplateFault, unopened, from_to}
-use Rattle.rx_units.specs.Quoted.Found.{is_closer, seen_front}
-use Rattle.rx_units.specs.Quoted.Texts.{IsDecoded}
 use Rattle.rx_units.proofs.Quoted.Outcomes.{stop_reached, decoded_there}
 use Rattle.rx_units.proofs.Quoted.TemplateFaults.{template_fault_stands}
-use Rattle.rx_units.proofs.Quoted.Turns.{place}
 use Rattle.rx_units.proofs.template_literal_parser.decode_text.Goals as goal
 
 pub returns-in_default-clause-err : goal.returns-in_default-clause-err
@@ -20,20 +17,15 @@ pub elements-requires-clause-code_points : goal.elements-requires-clause-code_po
 elements-requires-clause-code_points c = All-tail (λ c. c ≤ 0x10FFFF) 96 c.in-Some.inner.now (subst (All (λ c. c ≤ 0x10FFFF)) c.in-Some.ensures c.requires.code_points)
 
 pub returns-clause-ok : goal.returns-clause-ok
-returns-clause-ok c =
-    let stop = c.in_ok-stop.stop in
-    let end : (is_closer (seen_front stop.found) && (length stop.rest.now == 1)) ≡ true = grind (arith, c.is_end.ensures, c.if-not-is_end.false) in
-    record {
-      decoded = subst (λ us. IsDecoded literals.Template c.args.options c.args.text.now us) (sym c.in_ok-body.ensures)
-          (decoded_there literals.Template c.args.options c.args.text.now c.in-Some.inner.now stop c.in-Some.ensures c.in_ok-stop.ensures end);
-      span_is = c.new-span.ensures ∙ ap (λ (n : ℕ). from_to c.args.options.span_offset (c.args.options.span_offset + n)) c.byte_count.ensures;
-    }
+returns-clause-ok c = record {
+  decoded = decoded_there literals.Template c.args.options c.args.text.now c.in-Some.inner.now c.in_ok-stop.stop c.in-Some.ensures c.in_ok-stop.ensures
+      (grind (arith, c.is_end.ensures, c.if-not-is_end.false)) _ c.in_ok-body.ensures;
+  span_is = c.new-span.ensures ∙ ap (λ (n : ℕ). from_to c.args.options.span_offset (c.args.options.span_offset + n)) c.byte_count.ensures;
+}
 
 pub returns-then-not-is_end-clause-err : goal.returns-then-not-is_end-clause-err
 returns-then-not-is_end-clause-err c =
-    let s = c.in_ok-stop.ensures in
-    let stop = c.in_ok-stop.stop in
-    let no_end : (is_closer (seen_front stop.found) && (length stop.rest.now == 1)) ≡ false = grind (arith, c.is_end.ensures, c.if-not-is_end.true) in
+    let stops = c.in_ok-stop.ensures in
+    let reached = stop_reached literals.Template c.args.options c.args.text.now c.in-Some.inner.now c.in_ok-stop.stop c.in-Some.ensures stops in
     inr (subst (λ (f : TemplateFault). IsTemplateFault c.args.options c.args.text.now f) (sym c.fault.ensures)
-    (template_fault_stands c.args.options c.args.text.now (place stop.units stop.offset stop.rest.now) (stop_reached literals.Template c.args.options c.args.text.now c.in-Some.inner.now stop c.in-Some.ensures s)
-    (seen_front stop.found) s.found s.ends no_end))
+    (template_fault_stands c.args.options c.args.text.now _ reached _ stops.found stops.ends (grind (arith, c.is_end.ensures, c.if-not-is_end.true))))

@@ -1,4 +1,4 @@
-use Rattle.rx_visit.proofs.Findings.{buffers_visit}
+use Rattle.rx_visit.proofs.Finders.{buffers_visit}
 use Rattle.rx_visit.proofs.buffers.has_buffer_boundaries.Goals as goal
 
 pub returns : goal.returns

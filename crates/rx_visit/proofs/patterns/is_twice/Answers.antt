@@ -1,4 +1,4 @@
-use Rattle.rx_visit.proofs.Findings.{counter_visit, twice_of}
+use Rattle.rx_visit.proofs.Finders.{counter_visit, twice_of}
 use Rattle.rx_visit.proofs.patterns.is_twice.Goals as goal
 
 pub returns : goal.returns

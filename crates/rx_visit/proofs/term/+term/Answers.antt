@@ -6,7 +6,13 @@ use Rattle.rx_visit.specs.Siblings.{term_kind, alternative_kind}
 use Rattle.rx_visit.proofs.Children.{in_alternative, in_disjunction}
 use Rattle.rx_visit.proofs.Walks.{descended, passed, one, turned, looped}
 use Rattle.rx_visit.proofs.term.+term.Goals as goal
-use Rattle.rx_visit.proofs.term.+term.Goals.{walk_disjunction-then-enter_node+else-loop-alternative-test, walk_disjunction-else-enter_node, walk_alternative-then-enter_node+else-loop-term-test, walk_alternative-else-enter_node, walk_term-then-enter_node, walk_term-else-enter_node, walk_lookaround_assertion-then-enter_node, walk_lookaround_assertion-else-enter_node, walk_quantifier-then-enter_node, walk_quantifier-else-enter_node, walk_capturing_group-then-enter_node, walk_capturing_group-else-enter_node, walk_ignore_group-then-enter_node, walk_ignore_group-else-enter_node}
+use Rattle.rx_visit.proofs.term.+term.Goals.{visit_around-then-enter_node, visit_around-else-enter_node, walk_disjunction-then-enter_node+else-loop-alternative-test, walk_disjunction-else-enter_node, walk_alternative-then-enter_node+else-loop-term-test, walk_alternative-else-enter_node, walk_term-then-enter_node, walk_term-else-enter_node, walk_quantifier-then-enter_node, walk_quantifier-else-enter_node}
+
+pub visit_around-returns : goal.visit_around-returns
+visit_around-returns g t c = elim c.if-enter_node.branch [
+  | visit_around-then-enter_node w ↦ descended _ c.enter_node.result _ _ _ c.requires w.if-enter_node.true c.enter_node.ensures (one w.walk_disjunction.ensures) w.visitor-is c.leave_node.ensures
+  | visit_around-else-enter_node w ↦ passed c.enter_node.result _ _ w.if-enter_node.false c.enter_node.ensures w.visitor-is c.leave_node.ensures
+]
 
 pub walk_disjunction-loop-alternative-init : goal.walk_disjunction-loop-alternative-init
 walk_disjunction-loop-alternative-init g t c = none _
@@ -48,26 +54,8 @@ walk_term-returns g t c = elim c.if-enter_node.branch [
   | walk_term-else-enter_node w ↦ passed c.enter_node.result _ _ w.if-enter_node.false c.enter_node.ensures w.visitor-is c.leave_node.ensures
 ]
 
-pub walk_lookaround_assertion-returns : goal.walk_lookaround_assertion-returns
-walk_lookaround_assertion-returns g t c = elim c.if-enter_node.branch [
-  | walk_lookaround_assertion-then-enter_node w ↦ descended _ c.enter_node.result _ _ _ refl w.if-enter_node.true c.enter_node.ensures (one w.walk_disjunction.ensures) w.visitor-is c.leave_node.ensures
-  | walk_lookaround_assertion-else-enter_node w ↦ passed c.enter_node.result _ _ w.if-enter_node.false c.enter_node.ensures w.visitor-is c.leave_node.ensures
-]
-
 pub walk_quantifier-returns : goal.walk_quantifier-returns
 walk_quantifier-returns g t c = elim c.if-enter_node.branch [
   | walk_quantifier-then-enter_node w ↦ descended _ c.enter_node.result _ _ _ refl w.if-enter_node.true c.enter_node.ensures (one w.walk_term.ensures) w.visitor-is c.leave_node.ensures
   | walk_quantifier-else-enter_node w ↦ passed c.enter_node.result _ _ w.if-enter_node.false c.enter_node.ensures w.visitor-is c.leave_node.ensures
-]
-
-pub walk_capturing_group-returns : goal.walk_capturing_group-returns
-walk_capturing_group-returns g t c = elim c.if-enter_node.branch [
-  | walk_capturing_group-then-enter_node w ↦ descended _ c.enter_node.result _ _ _ refl w.if-enter_node.true c.enter_node.ensures (one w.walk_disjunction.ensures) w.visitor-is c.leave_node.ensures
-  | walk_capturing_group-else-enter_node w ↦ passed c.enter_node.result _ _ w.if-enter_node.false c.enter_node.ensures w.visitor-is c.leave_node.ensures
-]
-
-pub walk_ignore_group-returns : goal.walk_ignore_group-returns
-walk_ignore_group-returns g t c = elim c.if-enter_node.branch [
-  | walk_ignore_group-then-enter_node w ↦ descended _ c.enter_node.result _ _ _ refl w.if-enter_node.true c.enter_node.ensures (one w.walk_disjunction.ensures) w.visitor-is c.leave_node.ensures
-  | walk_ignore_group-else-enter_node w ↦ passed c.enter_node.result _ _ w.if-enter_node.false c.enter_node.ensures w.visitor-is c.leave_node.ensures
 ]

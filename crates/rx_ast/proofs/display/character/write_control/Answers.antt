@@ -2,7 +2,7 @@ use Rattle.std.proofs.Common.{◌<◌, ◌+◌, ◌∷◌, append-nil, ◌⊎◌
 use Rattle.std.specs.Char.{encode_utf8}
 use Rattle.std.specs.Str.{encode_utf8_all}
 use Rattle.rx_ast.proofs.Characters.{control_letter, control_in_two, control_by_number}
-use Rattle.rx_ast.proofs.Shows.{other_bytes, same_shown}
+use Rattle.rx_ast.proofs.FormatterWrites.{other_bytes, same_shown}
 use Rattle.rx_ast.proofs.display.character.write_control.Goals as goal
 use Rattle.rx_ast.proofs.display.character.write_control.Goals.{else-value-ge1-via-then-value-ge1+else-value-le26, else-value-ge1-via-else-value-ge1}
 

@@ -3,7 +3,7 @@ use Rattle.std.specs.Fmt.{◌++?◌, styled_digits_output}
 use Rattle.rx_ast.specs.Shown.{octal, octal_shown}
 use Rattle.rx_ast.proofs.Characters.{bytes_of_octal}
 use Rattle.rx_ast.proofs.OwnBytes.{padded_output}
-use Rattle.rx_ast.proofs.Shows.{displayed}
+use Rattle.rx_ast.proofs.FormatterWrites.{displayed}
 use Rattle.rx_ast.proofs.display.character.write_octal.Goals as goal
 
 pub returns : goal.returns

@@ -3,7 +3,7 @@ use Rattle.std.specs.Fmt.{◌++?◌, styled_digits_output}
 use Rattle.rx_ast.specs.Shown.{hexadecimal, unicode_shown}
 use Rattle.rx_ast.proofs.Characters.{bytes_of_four, bytes_in_braces}
 use Rattle.rx_ast.proofs.OwnBytes.{padded_output}
-use Rattle.rx_ast.proofs.Shows.{displayed}
+use Rattle.rx_ast.proofs.FormatterWrites.{displayed}
 use Rattle.rx_ast.proofs.display.character.write_unicode.Goals as goal
 
 pub returns-then-value-le65535 : goal.returns-then-value-le65535

@@ -7,7 +7,7 @@ use Rattle.rx_ast.specs.Shown.{member_shown, members_shown, pair_or}
 use Rattle.rx_ast.specs.Size.{all_contents_size}
 use Rattle.rx_ast.specs.Texts.{class_opener, operator_text}
 use Rattle.rx_ast.proofs.ClassShown.{after_nothing, class_shown_is, contents_after, contents_cons, contents_next}
-use Rattle.rx_ast.proofs.Shows.{left_all, left_same, left_then, other_bytes, same_shown, shown_then, unless_joined}
+use Rattle.rx_ast.proofs.FormatterWrites.{left_all, left_same, left_then, other_bytes, same_shown, shown_then, unless_joined}
 use Rattle.rx_ast.proofs.display.class.+class.Goals as goal
 
 pub write_all_contents-loop-contents-init : goal.write_all_contents-loop-contents-init

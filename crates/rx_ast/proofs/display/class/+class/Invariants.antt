@@ -7,7 +7,7 @@ use Rattle.rx_ast.specs.Shown.{members_shown}
 use Rattle.rx_ast.specs.Size.{contents_size, all_contents_size}
 use Rattle.rx_ast.specs.Texts.{operator_text}
 use Rattle.rx_ast.proofs.ClassShown.{contents_after}
-use Rattle.rx_ast.proofs.Shows.{Left}
+use Rattle.rx_ast.proofs.FormatterWrites.{Left}
 use Rattle.rx_ast.proofs.display.class.+class.Given as goal
 
 abbrev pub decreases-write_contents : goal.decreases-write_contents

@@ -2,7 +2,7 @@ use Rattle.std.proofs.Common.{◌++◌, codes}
 use Rattle.std.specs.Char.{encode_utf8}
 use Rattle.rx_ast.specs.Shown.{characters_shown}
 use Rattle.rx_ast.proofs.ClassShown.{strings_next}
-use Rattle.rx_ast.proofs.Shows.{left_then}
+use Rattle.rx_ast.proofs.FormatterWrites.{left_then}
 use Rattle.rx_ast.proofs.display.class.write_barred_strings.Goals as goal
 
 pub loop-string-preserved : goal.loop-string-preserved

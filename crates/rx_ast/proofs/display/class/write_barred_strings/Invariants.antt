@@ -1,6 +1,6 @@
 use Rattle.std.proofs.Common.{drop}
 use Rattle.rx_ast.specs.Shown.{barred_strings_shown}
-use Rattle.rx_ast.proofs.Shows.{Left}
+use Rattle.rx_ast.proofs.FormatterWrites.{Left}
 use Rattle.rx_ast.proofs.display.class.write_barred_strings.Given as goal
 
 abbrev pub invariant-loop-string : goal.invariant-loop-string

@@ -1,5 +1,5 @@
 use Rattle.rx_ast.specs.Shown.{barred_strings_shown, characters_shown}
-use Rattle.rx_ast.proofs.Shows.{shown_then}
+use Rattle.rx_ast.proofs.FormatterWrites.{shown_then}
 use Rattle.rx_ast.proofs.display.class.write_strings.Goals as goal
 
 pub returns-in_ok-fmt-in-Some : goal.returns-in_ok-fmt-in-Some

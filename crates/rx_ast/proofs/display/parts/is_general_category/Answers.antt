@@ -4,7 +4,7 @@ use Rattle.std.specs.Str.{chars, encode_utf8_all, IsUtf8}
 use Rattle.std.proofs.lemmas.Bool.Decides.{same_from_decides}
 use Rattle.std.proofs.lemmas.Slice.Eq.{bytes_eq-Decides}
 use Rattle.rx_base.specs.Texts.{are_same}
-use Rattle.rx_ast.proofs.Shows.{encoded}
+use Rattle.rx_ast.proofs.FormatterWrites.{encoded}
 use Rattle.rx_ast.proofs.display.parts.is_general_category.Goals as goal
 
 same_texts : (bytes text plain : List ℕ) → IsUtf8 bytes → chars bytes ≡ text → encode_utf8_all plain ≡ plain → chars plain ≡ plain → are_same bytes plain ≡ are_same text plain

@@ -1,7 +1,7 @@
 use Rattle.std.proofs.Common.{◌≡◌, sym, arith, false, ◌==◌, ◌&&◌}
 use Rattle.std.proofs.lemmas.Bool.Decides.{nat_tests}
 use Rattle.rx_ast.proofs.OwnBytes.{bytes_exactly, bytes_between}
-use Rattle.rx_ast.proofs.Shows.{other_bytes}
+use Rattle.rx_ast.proofs.FormatterWrites.{other_bytes}
 use Rattle.rx_ast.proofs.display.parts.write_bounded_counts.Goals as goal
 use Rattle.rx_ast.proofs.display.parts.write_bounded_counts.Goals.{else-min-eq0-via-then-min-eq0+else-max-eq1, else-min-eq0-via-else-min-eq0}
 

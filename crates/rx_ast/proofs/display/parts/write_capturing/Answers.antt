@@ -4,7 +4,7 @@ use Rattle.std.specs.Str.{encode_utf8_all}
 use Rattle.rx_base.proofs.Messages.{named_between}
 use Rattle.rx_ast.specs.Texts.{opener_text}
 use Rattle.rx_ast.specs.Tree.{capturing}
-use Rattle.rx_ast.proofs.Shows.{other_bytes}
+use Rattle.rx_ast.proofs.FormatterWrites.{other_bytes}
 use Rattle.rx_ast.proofs.display.parts.write_capturing.Goals as goal
 
 pub returns-in-Some : goal.returns-in-Some

@@ -3,7 +3,7 @@ use Rattle.std.specs.Str.{encode_utf8_all}
 use Rattle.std.proofs.lemmas.Bool.Decides.{nat_tests}
 use Rattle.rx_ast.specs.Texts.{counts_text}
 use Rattle.rx_ast.proofs.OwnBytes.{bytes_at_least}
-use Rattle.rx_ast.proofs.Shows.{other_bytes}
+use Rattle.rx_ast.proofs.FormatterWrites.{other_bytes}
 use Rattle.rx_ast.proofs.display.parts.write_counts.Goals as goal
 
 pub returns-in-None-3 : goal.returns-in-None-3

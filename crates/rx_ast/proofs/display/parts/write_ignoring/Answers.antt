@@ -4,7 +4,7 @@ use Rattle.std.specs.Str.{encode_utf8_all}
 use Rattle.rx_base.proofs.Messages.{encoded_between}
 use Rattle.rx_ast.specs.Texts.{modifiers_text, opener_text}
 use Rattle.rx_ast.specs.Tree.{ignoring}
-use Rattle.rx_ast.proofs.Shows.{other_bytes}
+use Rattle.rx_ast.proofs.FormatterWrites.{other_bytes}
 use Rattle.rx_ast.proofs.display.parts.write_ignoring.Goals as goal
 
 pub returns-in-Some : goal.returns-in-Some

@@ -1,5 +1,5 @@
 use Rattle.rx_ast.specs.Texts.{counts_text, lazy_text}
-use Rattle.rx_ast.proofs.Shows.{shown_then}
+use Rattle.rx_ast.proofs.FormatterWrites.{shown_then}
 use Rattle.rx_ast.proofs.display.parts.write_suffix.Goals as goal
 
 pub returns : goal.returns

@@ -1,6 +1,6 @@
 use Rattle.std.proofs.Common.{refl, sym}
 use Rattle.std.specs.Str.{chars}
-use Rattle.rx_ast.proofs.Shows.{encoded, other_bytes}
+use Rattle.rx_ast.proofs.FormatterWrites.{encoded, other_bytes}
 use Rattle.rx_ast.proofs.display.parts.write_text.Goals as goal
 
 pub returns : goal.returns

@@ -8,7 +8,7 @@ use Rattle.rx_ast.specs.Texts.{look_text}
 use Rattle.rx_ast.specs.declared.term.LookAroundAssertion.{out-LookAroundAssertion}
 use Rattle.rx_ast.proofs.Equations.{capturing_is, disjunction_is, ignore_is, look_is, quantifier_is}
 use Rattle.rx_ast.proofs.Sizes.{alternative_within}
-use Rattle.rx_ast.proofs.Shows.{left_all, left_same, left_then, same_shown, shown_then}
+use Rattle.rx_ast.proofs.FormatterWrites.{left_all, left_same, left_then, same_shown, shown_then}
 use Rattle.rx_ast.proofs.TermShown.{alternatives_next, after_nothing, terms_cons, terms_next}
 use Rattle.rx_ast.proofs.display.term.+pattern.Goals as goal
 

@@ -8,7 +8,7 @@ use Rattle.rx_ast.specs.Tree.{nodes, alternatives, mirror_term, mirror_alternati
 use Rattle.rx_ast.specs.declared.term.CapturingGroup.{out-CapturingGroup}
 use Rattle.rx_ast.specs.declared.term.IgnoreGroup.{out-IgnoreGroup}
 use Rattle.rx_ast.specs.declared.term.LookAroundAssertion.{out-LookAroundAssertion}
-use Rattle.rx_ast.proofs.Shows.{Left}
+use Rattle.rx_ast.proofs.FormatterWrites.{Left}
 use Rattle.rx_ast.proofs.TermShown.{alternatives_after}
 use Rattle.rx_ast.proofs.display.term.+pattern.Given as goal
 

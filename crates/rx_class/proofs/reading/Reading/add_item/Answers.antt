@@ -5,11 +5,11 @@ use Rattle.rx_ast.proofs.ClassEquations.{character_is}
 use Rattle.rx_units.specs.Cursor.{Cursor, rest}
 use Rattle.rx_units.specs.Units.{values}
 use Rattle.rx_model.specs.Inputs.Environment.{Environment}
-use Rattle.rx_class.specs.declared.class_item.ClassItem.{ClassItem}
-use Rattle.rx_class.specs.ClassItems.{GivesItem, no_memory, some, stands_alone}
-use Rattle.rx_class.specs.EscapeAnswers.{environment_of}
+use Rattle.rx_class.specs.declared.classes.item.ClassItem.{ClassItem}
+use Rattle.rx_class.specs.ClassReading.Items.{GivesItem, no_memory, some, stands_alone}
+use Rattle.rx_class.specs.EscapeReading.Answers.{environment_of}
 use Rattle.rx_class.specs.Keeping.{KeepsUnits}
-use Rattle.rx_class.proofs.ClassRanges.{alone_begins, lone_gives}
+use Rattle.rx_class.proofs.ClassReading.Ranges.{alone_begins, lone_gives}
 use Rattle.rx_class.proofs.Keeping.{handed, moved_keeps}
 use Rattle.rx_class.proofs.ReadingSteps.{item_paced}
 use Rattle.rx_class.proofs.reading.Reading.add_item.Goals as goal

@@ -1,6 +1,6 @@
 use Rattle.std.proofs.Common.{refl}
-use Rattle.rx_class.specs.Found.{many_digits, none, some}
-use Rattle.rx_class.proofs.Gives.{invalid_answered}
+use Rattle.rx_class.specs.EscapeReading.Found.{many_digits, none, some}
+use Rattle.rx_class.proofs.EscapeReading.Gives.{invalid_answered}
 use Rattle.rx_class.proofs.Readings.{span_on, start_fits}
 use Rattle.rx_class.proofs.reading.Reading.answer.Goals as goal
 
@@ -15,8 +15,8 @@ pub returns-in-Nothing-clause-found : goal.returns-in-Nothing-clause-found
 returns-in-Nothing-clause-found g c = rw c.in-Nothing.is (none refl)
 
 pub returns-in-TooMany-clause-found : goal.returns-in-TooMany-clause-found
-returns-in-TooMany-clause-found g c = rw (c.in-TooMany.is, c.span_ahead-span.ensures.span) (many_digits c.span_ahead-span.ensures.reader)
+returns-in-TooMany-clause-found g c = rw (c.in-TooMany.is, c.read_span-span.ensures.span) (many_digits c.read_span-span.ensures.reader)
 
 pub returns-in-Invalid-clause-found : goal.returns-in-Invalid-clause-found
 returns-in-Invalid-clause-found g c =
-    rw c.in-Invalid.is (invalid_answered c.args.self.now.spans.now c.args.span_start c.args.self.now.reader.now _ _ c.span_ahead-span-in-Invalid.ensures.span c.span_ahead-span-in-Invalid.ensures.reader)
+    rw c.in-Invalid.is (invalid_answered c.args.self.now.spans.now c.args.span_start c.args.self.now.reader.now _ _ c.read_span-span-in-Invalid.ensures.span c.read_span-span-in-Invalid.ensures.reader)

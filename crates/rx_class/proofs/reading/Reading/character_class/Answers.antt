@@ -1,15 +1,8 @@
-use Rattle.std.proofs.Common.{ap, ◌∙◌, eqb, not, Some}
-use Rattle.std.specs.Option.{option_eq}
-use Rattle.rx_class.specs.EscapeAnswers.{environment_of}
-use Rattle.rx_class.proofs.ClassEnds.{none_gives, there_fits}
+use Rattle.std.proofs.Common.{refl, sym, ap, ◌∙◌}
+use Rattle.rx_units.specs.Units.{values}
+use Rattle.rx_model.specs.FirstPass.Marks.{starts}
+use Rattle.rx_class.specs.ClassReading.Answers.{none}
 use Rattle.rx_class.proofs.reading.Reading.character_class.Goals as goal
 
-pub returns-then-ne-clause-gives : goal.returns-then-ne-clause-gives
-returns-then-ne-clause-gives g c =
-    none_gives (environment_of c.args.self.now.state.now) c.args.self.now.spans.now c.args.self.now.reader.now (c.if-ne.ensures ∙ ap (λ o. not (option_eq eqb o (Some 91))) c.peek.ensures)
-
-pub invariant_of-self : goal.invariant_of-self
-invariant_of-self g c =
-    record {
-      fits = there_fits (environment_of c.args.self.now.state.now) c.args.self.now.spans.now c.args.self.now.reader.now c.set_class.new.reader c.set_class.result c.set_class.ensures.gives c.args.self.now.fits;
-    }
+pub returns-then-not-begins_with-clause-gives : goal.returns-then-not-begins_with-clause-gives
+returns-then-not-begins_with-clause-gives g c = none refl (ap (λ us. starts 91 (values us)) (sym c.units.ensures.units) ∙ sym c.begins_with.ensures ∙ c.if-not-begins_with.true)

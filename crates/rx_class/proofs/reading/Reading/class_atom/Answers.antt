@@ -1,8 +1,8 @@
 use Rattle.std.proofs.Common.{ap, sym, ◌∙◌}
 use Rattle.rx_units.specs.Units.{values}
 use Rattle.rx_model.specs.FirstPass.Marks.{starts}
-use Rattle.rx_class.specs.EscapeAnswers.{environment_of}
-use Rattle.rx_class.proofs.ClassAtoms.{begins_otherwise}
+use Rattle.rx_class.specs.EscapeReading.Answers.{environment_of}
+use Rattle.rx_class.proofs.ClassReading.Atoms.{begins_otherwise}
 use Rattle.rx_class.proofs.reading.Reading.class_atom.Goals as goal
 
 pub unit_character-requires-clause-no_backslash : goal.unit_character-requires-clause-no_backslash

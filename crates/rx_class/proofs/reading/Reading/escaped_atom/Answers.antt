@@ -1,8 +1,8 @@
 use Rattle.std.proofs.Common.{◌≡◌, sym, ap, ap₂, ◌∙◌, subst}
 use Rattle.rx_units.specs.Units.{values}
-use Rattle.rx_class.specs.EscapeAnswers.{IsAfterBackslash, environment_of}
-use Rattle.rx_class.specs.ClassItems.{GivesAtom, alone_in_class, back}
-use Rattle.rx_class.proofs.ClassAtoms.{alone_gives, class_escape_gives, nothing_so_far, property_gives, property_refused}
+use Rattle.rx_class.specs.EscapeReading.Answers.{IsAfterBackslash, environment_of}
+use Rattle.rx_class.specs.ClassReading.Items.{GivesAtom, alone_in_class, back}
+use Rattle.rx_class.proofs.ClassReading.Atoms.{alone_gives, class_escape_gives, nothing_so_far, property_gives, property_refused}
 use Rattle.rx_class.proofs.Keeping.{handed}
 use Rattle.rx_class.proofs.Readings.{span_on, start_fits}
 use Rattle.rx_class.proofs.ReadingSteps.{only_moved}

@@ -1,9 +1,9 @@
 use Rattle.std.proofs.Common.{◌-◌, length}
 use Rattle.rx_units.specs.Pace.{IsPaced}
-use Rattle.rx_class.specs.EscapeAnswers.{environment_of}
-use Rattle.rx_class.specs.ClassItems.{contents}
+use Rattle.rx_class.specs.EscapeReading.Answers.{environment_of}
+use Rattle.rx_class.specs.ClassReading.Items.{contents}
 use Rattle.rx_class.specs.Readings.{ReadsOn}
-use Rattle.rx_class.proofs.ClassEnds.{IsInClass}
+use Rattle.rx_class.proofs.ClassReading.Ends.{IsInClass}
 use Rattle.rx_class.proofs.reading.Reading.items_class.Given as goal
 
 abbrev pub invariant-loop-self : goal.invariant-loop-self

@@ -2,15 +2,13 @@ use Rattle.std.proofs.Common.{arith, inl, inr, refl, sym, ◌∙◌}
 use Rattle.std.proofs.lemmas.List.{length-map}
 use Rattle.rx_units.specs.declared.code_point.CodePoint.{CodePoint}
 use Rattle.rx_units.specs.Cursor.{rest}
-use Rattle.rx_model.specs.Inputs.Modes.{mode_by}
-use Rattle.rx_class.specs.EscapeAnswers.{environment_of}
+use Rattle.rx_class.specs.EscapeReading.Answers.{environment_of}
 use Rattle.rx_class.specs.ReadingSteps.{IsReading}
-use Rattle.rx_class.specs.PropertyAnswers.{GivesProperty, no_memory, none}
-use Rattle.rx_class.proofs.After.{stands_within}
+use Rattle.rx_class.specs.PropertyReading.Answers.{GivesProperty, no_memory, none}
+use Rattle.rx_class.proofs.EscapeReading.Gives.{stands_within}
 use Rattle.rx_class.proofs.Keeping.{handed, stays_keeps}
-use Rattle.rx_class.proofs.Modes.{state_has_properties}
-use Rattle.rx_class.proofs.PropertyGives.{halt_gives, property_gives}
-use Rattle.rx_class.proofs.PropertySteps.{property_within}
+use Rattle.rx_class.proofs.PropertyReading.Gives.{halt_gives, property_gives}
+use Rattle.rx_class.proofs.PropertyReading.Steps.{property_within}
 use Rattle.rx_class.proofs.ReadingSteps.{looked_then_moved}
 use Rattle.rx_class.proofs.Readings.{span_on, start_fits}
 use Rattle.rx_class.proofs.reading.Reading.property_escape.Goals as goal
@@ -29,26 +27,17 @@ returns-in_err-found-clause-gives g c =
 
 pub returns-in-Property-clause-gives : goal.returns-in-Property-clause-gives
 returns-in-Property-clause-gives g c =
-    let state = c.args.self.now.state.now in
-    let has = state_has_properties state.unicode_mode state.unicode_sets_mode (sym c.is_unicode.ensures ∙ c.if-not-is_unicode.false) in
-    let found = rw (c.remaining_code_points-units.ensures.units, c.in-Property.is) at c.in_ok-found.ensures.found in
-    property_gives (environment_of state) c.args.self.now.spans.now c.args.span_start c.args.self.now.reader.now c.requires.backslash has _ c.skip.new.self.reader.now c.in-Property.length
-    (found (mode_by state.unicode_mode state.unicode_sets_mode) has) (span_on c.skip.ensures.on _ c.span_from-span.ensures) c.skip.ensures.reader
+    let found = rw (c.remaining_code_points-units.ensures.units, c.in-Property.is, c.mode.ensures) at c.in_ok-found.ensures.found in
+    property_gives (environment_of c.args.self.now.state.now) c.args.self.now.spans.now c.args.span_start c.args.self.now.reader.now c.requires.backslash (sym c.is_unicode.ensures ∙ c.if-not-is_unicode.false) _
+    c.skip.new.self.reader.now c.in-Property.length found (span_on c.skip.ensures.on _ c.span_from-span.ensures) c.skip.ensures.reader
 
 pub returns-in-Nothing-clause-gives : goal.returns-in-Nothing-clause-gives
-returns-in-Nothing-clause-gives g c =
-    let state = c.args.self.now.state.now in
-    let has = state_has_properties state.unicode_mode state.unicode_sets_mode (sym c.is_unicode.ensures ∙ c.if-not-is_unicode.false) in
-    let found = rw (c.remaining_code_points-units.ensures.units, c.in-Nothing.is) at c.in_ok-found.ensures.found in
-    none refl (inr (found (mode_by state.unicode_mode state.unicode_sets_mode) has))
+returns-in-Nothing-clause-gives g c = none refl (inr (rw (c.remaining_code_points-units.ensures.units, c.in-Nothing.is) at c.in_ok-found.ensures.found))
 
 pub returns-in-Halt-clause-gives : goal.returns-in-Halt-clause-gives
 returns-in-Halt-clause-gives g c =
-    let state = c.args.self.now.state.now in
-    let has = state_has_properties state.unicode_mode state.unicode_sets_mode (sym c.is_unicode.ensures ∙ c.if-not-is_unicode.false) in
-    let found = rw (c.remaining_code_points-units.ensures.units, c.in-Halt.is) at c.in_ok-found.ensures.found in
-    halt_gives (environment_of state) c.args.self.now.spans.now c.args.span_start c.args.self.now.reader.now c.requires.backslash _ _ _ (found (mode_by state.unicode_mode state.unicode_sets_mode) has)
-    c.refusal.ensures.refusal c.refusal.ensures.reader
+    let halts = rw (c.remaining_code_points-units.ensures.units, c.in-Halt.is, c.mode.ensures) at c.in_ok-found.ensures.found in
+    halt_gives (environment_of c.args.self.now.state.now) c.args.self.now.spans.now c.args.span_start c.args.self.now.reader.now c.requires.backslash _ _ _ halts c.refusal.ensures.refusal c.refusal.ensures.reader
 
 pub returns-in_err-found-clause-steps : goal.returns-in_err-found-clause-steps
 returns-in_err-found-clause-steps g c =
@@ -58,12 +47,10 @@ returns-in_err-found-clause-steps g c =
 
 pub returns-in-Property-clause-steps : goal.returns-in-Property-clause-steps
 returns-in-Property-clause-steps g c =
-    let state = c.args.self.now.state.now in
     let old = c.args.self.now.reader.now in
-    let has = state_has_properties state.unicode_mode state.unicode_sets_mode (sym c.is_unicode.ensures ∙ c.if-not-is_unicode.false) in
     let found = rw (c.remaining_code_points-units.ensures.units, c.in-Property.is) at c.in_ok-found.ensures.found in
     let steps = rw c.in-Property.is at c.in_ok-found.ensures.steps in
-    let within = property_within (found (mode_by state.unicode_mode state.unicode_sets_mode) has) in
+    let within = property_within found in
     looked_then_moved c.in-Property.length old c.skip.new.self.reader.now (g.C.Counter.count c.args.self.now.steps.now) (g.C.Counter.count c.property_at.new.steps) (g.C.Counter.count c.skip.new.self.steps.now)
     (omega (arith, within, length-map (rest old) (λ (u : CodePoint). u.value))) c.skip.ensures.reader (omega (arith, steps.0)) (omega (arith, steps.1)) c.skip.ensures.steps
 

@@ -1,8 +1,8 @@
-use Rattle.std.proofs.Common.{◌-◌, ap}
+use Rattle.std.proofs.Common.{ap}
 use Rattle.rx_base.specs.declared.diagnostic.Diagnostic.TheVariants.{UnterminatedPattern, InvalidUnicodeProperty, InvalidUnicodePropertyOfStrings, InvalidUnicodePropertyNameNegativeStrings}
 use Rattle.rx_base.specs.declared.diagnostic.kinds.PropertyPart.TheVariants as part
 use Rattle.rx_base.specs.declared.diagnostic.kinds.Unterminated.TheVariants as what
-use Rattle.rx_class.proofs.PropertySpans.{cut_off, from_before, from_brace}
+use Rattle.rx_class.proofs.PropertyReading.Spans.{cut_off, from_before, from_brace}
 use Rattle.rx_class.proofs.Readings.{span_on, start_fits}
 use Rattle.rx_class.proofs.reading.Reading.refusal.Goals as goal
 
@@ -20,17 +20,17 @@ returns-in-Unterminated-clause-refusal g c =
 
 pub returns-in-Name-clause-refusal : goal.returns-in-Name-clause-refusal
 returns-in-Name-clause-refusal g c =
-    rw c.in-Name.is (ap (λ span. InvalidUnicodeProperty span part.Name) (from_before c.args.self.now.reader.now c.args.self.now.spans.now _ _ _ c.requires.backslash.following c.span_ahead-span.ensures.span))
+    rw c.in-Name.is (ap (λ span. InvalidUnicodeProperty span part.Name) (from_before c.args.self.now.reader.now c.args.self.now.spans.now _ _ _ c.requires.backslash.following c.read_span-span.ensures.span))
 
 pub returns-in-NameOrValue-clause-refusal : goal.returns-in-NameOrValue-clause-refusal
 returns-in-NameOrValue-clause-refusal g c =
     rw c.in-NameOrValue.is (ap (λ span. InvalidUnicodeProperty span part.NameOrValue)
-    (from_brace c.args.self.now.reader.now c.args.self.now.spans.now _ _ c.requires.backslash.following c.span_ahead-span-in-NameOrValue.ensures.span))
+    (from_brace c.args.self.now.reader.now c.args.self.now.spans.now _ _ c.requires.backslash.following c.read_span-span-in-NameOrValue.ensures.span))
 
 pub returns-in-OfStrings-clause-refusal : goal.returns-in-OfStrings-clause-refusal
 returns-in-OfStrings-clause-refusal g c =
     rw c.in-OfStrings.is (ap (λ span. InvalidUnicodePropertyOfStrings span c.in-OfStrings.name)
-    (from_brace c.args.self.now.reader.now c.args.self.now.spans.now _ _ c.requires.backslash.following c.span_ahead-span-in-OfStrings.ensures.span))
+    (from_brace c.args.self.now.reader.now c.args.self.now.spans.now _ _ c.requires.backslash.following c.read_span-span-in-OfStrings.ensures.span))
 
 pub returns-in-NegativeOfStrings-clause-refusal : goal.returns-in-NegativeOfStrings-clause-refusal
 returns-in-NegativeOfStrings-clause-refusal g c =

@@ -1,4 +1,4 @@
-use Rattle.rx_class.proofs.ClassAtoms.{unit_gives}
+use Rattle.rx_class.proofs.ClassReading.Atoms.{unit_gives}
 use Rattle.rx_class.proofs.Readings.{span_on}
 use Rattle.rx_class.proofs.reading.Reading.unit_character.Goals as goal
 

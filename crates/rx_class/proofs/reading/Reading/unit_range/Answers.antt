@@ -1,8 +1,8 @@
 use Rattle.std.proofs.Common.{ap, refl, ◌∙◌}
 use Rattle.rx_base.specs.declared.span.Span.{Span}
 use Rattle.rx_ast.specs.ClassTree.{range}
-use Rattle.rx_units.specs.Cursor.{moved, rest}
-use Rattle.rx_class.proofs.ClassRanges.{range_begins, range_front, range_goes_on, range_high_stands, range_ordered, units_range_gives}
+use Rattle.rx_units.specs.Cursor.{move_on, rest}
+use Rattle.rx_class.proofs.ClassReading.Ranges.{range_begins, range_front, range_goes_on, range_high_stands, range_ordered, units_range_gives}
 use Rattle.rx_class.proofs.Keeping.{keeps_on, moved_keeps}
 use Rattle.rx_class.proofs.Readings.{reads_on}
 use Rattle.rx_class.proofs.reading.Reading.unit_range.Goals as goal
@@ -10,7 +10,7 @@ use Rattle.rx_class.proofs.reading.Reading.unit_range.Goals as goal
 pub unit_character-min-requires-clause-no_backslash : goal.unit_character-min-requires-clause-no_backslash
 unit_character-min-requires-clause-no_backslash g c =
     let r = c.args.self.now.reader.now in
-    range_begins (range_front r (moved 1 r) (moved 1 (moved 1 r)) (rest r) refl c.requires.range refl refl)
+    range_begins (range_front r (move_on 1 r) (move_on 1 (move_on 1 r)) (rest r) refl c.requires.range refl refl)
 
 pub unit_character-max-requires-clause-stands : goal.unit_character-max-requires-clause-stands
 unit_character-max-requires-clause-stands g c =

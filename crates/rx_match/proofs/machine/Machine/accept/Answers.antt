@@ -1,5 +1,5 @@
 use Rattle.rx_program.specs.Codes.{accept}
-use Rattle.rx_match.specs.Running.{run_of}
+use Rattle.rx_match.specs.MachineSteps.{run_of}
 use Rattle.rx_match.proofs.Ends.{forgets}
 use Rattle.rx_match.proofs.machine.Machine.accept.Goals as goal
 

@@ -4,7 +4,7 @@ use Rattle.rx_match.specs.declared.machine.Action.TheVariants as action
 use Rattle.rx_match.specs.declared.entry.Backtrack.TheVariants as backtrack
 use Rattle.rx_program.specs.Codes.{accept}
 use Rattle.rx_match.specs.Sound.{ArePlaced, depth_in, entry_of, top_in}
-use Rattle.rx_match.specs.Running.{run_of, remaining, TakesMarks}
+use Rattle.rx_match.specs.MachineSteps.{run_of, run_ahead, TakesMarks}
 use Rattle.rx_match.proofs.Cuts.{placed-cut}
 use Rattle.rx_match.proofs.Entries.{IsLookAround, top_is}
 use Rattle.rx_match.proofs.Ends.{alone, arrived_alone, takes_refused, takes_granted, cuts_frames}
@@ -38,7 +38,7 @@ returns c =
     let lower : suc (m.depth - 1) ≡ m.depth = omega arith in
     let at = placed-cut (length m.input.now) (length m.frames) m.entries b.place b.kind b.next b.head b.frames b.back top c.requires.sound.placed in
     let left = c.in_ok-it.ensures.left some in
-    subst (λ x. TakesMarks m (record x { step = b.next }) (run_of m accept) (remaining (record x { step = b.next }) action.Step)) (sym c.return_to.ensures)
+    subst (λ x. TakesMarks m (record x { step = b.next }) (run_of m accept) (run_ahead (record x { step = b.next }) action.Step)) (sym c.return_to.ensures)
     (cuts_frames m (record m { entries = c.cut.new.entries; back = b.back; depth = m.depth - 1; place = b.place; step = b.next; head = b.head }) (run_of m accept) action.Step b.frames (take b.frames m.frames)
     (takes_granted m b.place b.kind b.next b.head b.frames b.back c.cut.new.entries (m.depth - 1) c.requires.sound top left lower (run_of m accept) (alone m c.requires.alone) (sym c.is_negative.ensures ∙ c.if-is_negative.false))
     at.2 at.1 (subst (ArePlaced (length m.input.now) b.frames) (sym left) at.3) refl)

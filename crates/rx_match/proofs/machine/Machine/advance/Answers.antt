@@ -1,6 +1,6 @@
 use Rattle.std.proofs.Common.{ap, sym, ◌∙◌}
 use Rattle.std.specs.Option.{option_copied}
-use Rattle.rx_match.specs.Running.{run_of}
+use Rattle.rx_match.specs.MachineSteps.{run_of}
 use Rattle.rx_match.proofs.Steps.{past_is, takes_reject}
 use Rattle.rx_match.proofs.machine.Machine.advance.Goals as goal
 

@@ -1,5 +1,5 @@
 use Rattle.std.proofs.Common.{ap, subst, length, arith}
-use Rattle.rx_match.specs.Running.{TakesUp}
+use Rattle.rx_match.specs.MachineSteps.{TakesUp}
 use Rattle.rx_trace.proofs.Lists.{length-last}
 use Rattle.rx_match.proofs.Ends.{keeps_itself, keeps_popped, nothing_left, sound_before_pop}
 use Rattle.rx_match.proofs.machine.Machine.backtrack.Goals as goal

@@ -1,5 +1,5 @@
 use Rattle.std.proofs.Common.{length}
-use Rattle.rx_match.specs.Running.{KeepsBacktracking}
+use Rattle.rx_match.specs.MachineSteps.{KeepsBacktracking}
 use Rattle.rx_match.proofs.machine.Machine.backtrack.Given as goal
 
 abbrev pub invariant-loop-entry : goal.invariant-loop-entry

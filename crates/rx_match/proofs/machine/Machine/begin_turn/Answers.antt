@@ -1,5 +1,5 @@
 use Rattle.std.proofs.Common.{length}
-use Rattle.rx_match.proofs.Repeating.{sound_restored, takes_begin}
+use Rattle.rx_match.proofs.RepetitionTurns.{sound_restored, takes_begin}
 use Rattle.rx_match.proofs.machine.Machine.begin_turn.Goals as goal
 
 pub push_frame-requires : goal.push_frame-requires

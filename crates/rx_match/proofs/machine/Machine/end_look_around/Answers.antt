@@ -1,7 +1,7 @@
 use Rattle.std.proofs.Common.{sym, ◌∙◌, subst, ◌-◌, length, refl, arith}
 use Rattle.rx_match.specs.declared.machine.Action.TheVariants as action
 use Rattle.rx_match.specs.declared.entry.Backtrack.TheVariants as backtrack
-use Rattle.rx_match.specs.Running.{Resumes, with_entry}
+use Rattle.rx_match.specs.MachineSteps.{Resumes, with_entry}
 use Rattle.rx_match.proofs.Entries.{look_around-placed}
 use Rattle.rx_match.proofs.Ends.{depth_lower, resumes_unmatched, resumes_unmatched_not}
 use Rattle.rx_match.proofs.machine.Machine.end_look_around.Goals as goal

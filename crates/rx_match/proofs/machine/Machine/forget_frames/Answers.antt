@@ -1,6 +1,6 @@
 use Rattle.std.proofs.Common.{◌≤◌, ap, sym, length, arith}
 use Rattle.std.proofs.Math.Seq.{take-length}
-use Rattle.rx_match.specs.Sound.{kept_in}
+use Rattle.rx_match.specs.Sound.{frames_below_last}
 use Rattle.rx_match.proofs.Entries.{placed-kept}
 use Rattle.rx_match.proofs.machine.Machine.forget_frames.Goals as goal
 
@@ -11,7 +11,7 @@ returns-then-kept-len c =
     let needed = c.kept_frames.ensures in
     let size = c.len.ensures in
     let few = c.if-kept-len.true in
-    let enough : kept_in m.entries ≤ c.max-kept.result = omega arith in
+    let enough : frames_below_last m.entries ≤ c.max-kept.result = omega arith in
     record {
       kept = c.max-kept.result;
       shape = ap (λ fs. record m { frames = fs }) c.cut_frames.ensures;

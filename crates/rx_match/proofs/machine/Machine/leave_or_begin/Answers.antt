@@ -1,6 +1,6 @@
 use Rattle.std.proofs.Common.{◌∙◌, ap, ◌++◌, ◌∷◌, []}
 use Rattle.rx_match.specs.declared.entry.Backtrack.TheVariants as backtrack
-use Rattle.rx_match.proofs.Repeating.{takes_lazy}
+use Rattle.rx_match.proofs.RepetitionTurns.{takes_lazy}
 use Rattle.rx_match.proofs.machine.Machine.leave_or_begin.Goals as goal
 
 pub returns : goal.returns

@@ -1,5 +1,5 @@
 use Rattle.std.proofs.Common.{◌∙◌, sym, arith}
-use Rattle.rx_match.proofs.Repeating.{takes_over, takes_owed}
+use Rattle.rx_match.proofs.RepetitionTurns.{takes_over, takes_owed}
 use Rattle.rx_match.proofs.machine.Machine.repeat.Goals as goal
 
 pub returns-then-over : goal.returns-then-over

@@ -1,7 +1,7 @@
 use Rattle.std.proofs.Common.{refl, sym, subst, length}
 use Rattle.rx_match.specs.declared.machine.Action.TheVariants as action
 use Rattle.rx_match.specs.declared.entry.Backtrack.TheVariants as backtrack
-use Rattle.rx_match.specs.Running.{IsSound, KeepsBacktracking, Resumes, with_entry}
+use Rattle.rx_match.specs.MachineSteps.{IsSound, KeepsBacktracking, Resumes, with_entry}
 use Rattle.rx_match.proofs.Entries.{turn-placed}
 use Rattle.rx_match.proofs.Ends.{keeps_itself, same_restored, resumes_turn}
 use Rattle.rx_match.proofs.machine.Machine.take_up.Goals as goal

@@ -1,11 +1,5 @@
 use Rattle.std.proofs.Common.{ap, ◌∙◌, sym, subst, ◌++◌}
-use Rattle.rx_base.specs.declared.span.Span.{Span}
-use Rattle.rx_ast.specs.Tree.{Node, group, mirror_disjunction}
-use Rattle.rx_model.specs.Trees.Events.{term_events}
-use Rattle.rx_model.specs.Trees.Token.{opener_of}
-use Rattle.rx_parser.specs.Frames.{opener_tree}
-use Rattle.rx_parser.specs.Good.{IsGoodLevel}
-use Rattle.rx_parser.specs.Levels.{level_events}
+use Rattle.rx_parser.proofs.Common.{Span, Node, group, mirror_disjunction, term_events, opener_of, opener_tree, IsGoodLevel, level_events}
 use Rattle.rx_parser.proofs.EventEquations.{last_after}
 use Rattle.rx_parser.proofs.FrameEvents.{builder_close, group_takes_is, opened_after}
 use Rattle.rx_parser.proofs.Goods.{good_close, good_group}

@@ -1,4 +1,4 @@
-use Rattle.std.proofs.lemmas.Result.{on_ok_weaker}
+use Rattle.rx_parser.proofs.Common.{on_ok_weaker}
 use Rattle.rx_parser.proofs.FrameEvents.{opened_after}
 use Rattle.rx_parser.proofs.builder.Builder.open.Goals as goal
 

@@ -1,15 +1,6 @@
 use Rattle.std.proofs.Common.{◌≡◌, ap, refl, sym, subst, true, []}
 use Rattle.std.specs.Str.{chars}
-use Rattle.rx_base.specs.declared.fault.Fault.TheVariants.{Diagnostic}
-use Rattle.rx_units.specs.Cursor.{Cursor}
-use Rattle.rx_units.specs.Units.{values}
-use Rattle.rx_model.specs.declared.mode.Mode.TheVariants.{Legacy}
-use Rattle.rx_model.specs.Inputs.Flags.{flags_ok, modes_of}
-use Rattle.rx_model.specs.Inputs.Inputs.{AsksFor}
-use Rattle.rx_model.specs.Inputs.Texts.{first_offset, no_flags}
-use Rattle.rx_model.specs.Refusals.FlagCauses.{IsFlagCause}
-use Rattle.rx_parser.specs.Inputs.{flags_chars, input_of}
-use Rattle.rx_parser.specs.Texts.{seen_input}
+use Rattle.rx_parser.proofs.Common.{Diagnostic, Cursor, values, Legacy, first_offset, no_flags, seen_input, flags_ok, modes_of, AsksFor, IsFlagCause, flags_chars, input_of}
 use Rattle.rx_parser.proofs.Inputs.{passed_fault, right_flags, unread_flags, wrong_flags}
 use Rattle.rx_parser.proofs.input.Input.mode.Goals as goal
 

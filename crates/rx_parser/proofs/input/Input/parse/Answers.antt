@@ -1,16 +1,6 @@
 use Rattle.std.proofs.Common.{◌≡◌, ◌∙◌, ap, subst, ℕ, Bool, List, Result, Ok, Err}
-use Rattle.rx_ast.specs.declared.term.Pattern.{Pattern}
-use Rattle.rx_base.specs.declared.fault.Fault.{Fault}
-use Rattle.rx_units.specs.Cursor.{Cursor}
-use Rattle.rx_units.specs.declared.code_point.CodePoint.{CodePoint}
-use Rattle.rx_scan.specs.StateFaults.{mode_of_state}
-use Rattle.rx_model.specs.declared.mode.Mode.{Mode}
-use Rattle.rx_model.specs.declared.rules.Rules.{Rules}
-use Rattle.rx_model.specs.Inputs.Modes.{mode_by}
-use Rattle.rx_model.specs.Inputs.Texts.{first_offset}
+use Rattle.rx_parser.proofs.Common.{Pattern, Fault, Cursor, CodePoint, mode_of_state, Mode, Rules, mode_by, first_offset, AnswersUnits, rules_of_state, seen_input}
 use Rattle.rx_parser.specs.declared.pattern_parser.PatternParser.{PatternParser}
-use Rattle.rx_parser.specs.Parsing.{AnswersUnits, rules_of_state}
-use Rattle.rx_parser.specs.Texts.{seen_input}
 use Rattle.rx_parser.proofs.Inputs.{passed_parsed, units_fault, units_parsed}
 use Rattle.rx_parser.proofs.input.Input.parse.Goals as goal
 
@@ -50,8 +40,8 @@ returns-in_err-parse-clause-answered c =
     let given = c.new-parser.ensures in
     let it = c.in_err-parse.field-0.0 in
     let left = c.from_residual-in_err-parse in
-    let answers = made_answers c.new-parser.result read.reader mode c.modes.result (input.rules.duplicate_names, input.rules.buffer_boundaries) (first_offset input.form) input.text_offset (Err it)
-    given.reader given.modes given.rules given.offset c.modes.ensures read.ensures.first c.in_err-parse.ensures in
+    let answers = made_answers c.new-parser.result read.reader mode c.mode_flags.result (input.rules.duplicate_names, input.rules.buffer_boundaries) (first_offset input.form) input.text_offset (Err it)
+    given.reader given.modes given.rules given.offset c.mode_flags.ensures read.ensures.first c.in_err-parse.ensures in
     passed_parsed input left.result it left.ensures.1 (units_fault input mode read.reader.units read.ensures.units it answers.refused)
 
 pub returns-clause-answered : goal.returns-clause-answered
@@ -62,5 +52,5 @@ returns-clause-answered c =
     let given = c.new-parser.ensures in
     let p = c.in_ok-parse.field-0 in
     units_parsed input mode read.reader.units read.ensures.units p mode
-    (made_answers c.new-parser.result read.reader mode c.modes.result (input.rules.duplicate_names, input.rules.buffer_boundaries) (first_offset input.form) input.text_offset (Ok p)
-    given.reader given.modes given.rules given.offset c.modes.ensures read.ensures.first c.in_ok-parse.ensures)
+    (made_answers c.new-parser.result read.reader mode c.mode_flags.result (input.rules.duplicate_names, input.rules.buffer_boundaries) (first_offset input.form) input.text_offset (Ok p)
+    given.reader given.modes given.rules given.offset c.mode_flags.ensures read.ensures.first c.in_ok-parse.ensures)

@@ -1,13 +1,6 @@
-use Rattle.std.proofs.Common.{◌≡◌, ◌∙◌, ap, sym, subst, ℕ, ◌+◌, ◌<◌, ◌^◌, length, arith}
-use Rattle.std.specs.Prelude.{max}
+use Rattle.std.proofs.Common.{◌≡◌, ◌∙◌, ap, sym, subst, ℕ, ◌+◌, ◌<◌, ◌^◌, length, arith, max}
 use Rattle.std.specs.Str.{chars}
-use Rattle.rx_base.specs.declared.fault.Fault.TheVariants.{OutOfMemory}
-use Rattle.rx_model.specs.declared.form.Form.{Form}
-use Rattle.rx_model.specs.declared.form.Form.TheVariants.{Literal, Constructor}
-use Rattle.rx_model.specs.Inputs.Texts.{AreUnits, first_offset}
-use Rattle.rx_model.specs.Reading.Headline.{no_memory}
-use Rattle.rx_parser.specs.Inputs.{stand_in_length}
-use Rattle.rx_parser.specs.Texts.{seen_input}
+use Rattle.rx_parser.proofs.Common.{OutOfMemory, Form, AreUnits, first_offset, no_memory, seen_input, Literal, Constructor, stand_in_length}
 use Rattle.rx_parser.proofs.Inputs.{passed_fault, text_asked, unread_text}
 use Rattle.rx_parser.proofs.StandIns.{none_quoted}
 use Rattle.rx_parser.proofs.input.Input.pattern_reader.Goals as goal

@@ -1,5 +1,5 @@
 use Rattle.std.proofs.Common.{refl, ap, ◌∙◌}
-use Rattle.rx_ast.specs.declared.term.Disjunction.{out-roll-Disjunction}
+use Rattle.rx_parser.proofs.Common.{out-roll-Disjunction}
 use Rattle.rx_parser.proofs.EventEquations.{level_finish}
 use Rattle.rx_parser.proofs.Goods.{good_finish}
 use Rattle.rx_parser.proofs.level.Level.finish.Goals as goal

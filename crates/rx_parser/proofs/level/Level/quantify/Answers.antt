@@ -1,8 +1,5 @@
 use Rattle.std.proofs.Common.{◌≡◌, refl, ap, sym, ◌∙◌, true, false}
-use Rattle.rx_base.specs.declared.span.Span.{Span}
-use Rattle.rx_ast.specs.declared.term.Quantifier.{Quantifier}
-use Rattle.rx_ast.specs.Tree.{mirror_term}
-use Rattle.rx_model.specs.Trees.Shapes.{takes}
+use Rattle.rx_parser.proofs.Common.{Span, Quantifier, mirror_term, takes}
 use Rattle.rx_parser.proofs.EventEquations.{level_repeat, last_after, quantifier_takes}
 use Rattle.rx_parser.proofs.Goods.{good_repeat}
 use Rattle.rx_parser.proofs.level.Level.quantify.Goals as goal
@@ -12,9 +9,9 @@ returns-clause-ready c = λ _. last_after c.args.mode c.pop.new.self c.push.new.
 
 pub returns-clause-events : goal.returns-clause-events
 returns-clause-events c =
-    let made : Span → Quantifier = λ s. record { span = s; min = c.args.min; max = c.args.max; greedy = c.args.greedy; body = c.in-Some.term } in
+    let made : Span → Quantifier = λ s. record { span = s; min = c.args.counts.0; max = c.args.counts.1; greedy = c.args.greedy; body = c.in-Some.term } in
     let until : Span → Span = λ s. record { start = s.start; end = c.args.after } in
-    λ _. level_repeat c.args.self.now c.pop.new.self c.push.new.self c.in-Some.term c.in_ok-new.field-0 c.args.min c.args.max c.args.greedy c.args.after c.in-Some.ensures c.in_ok-push.ensures.ok
+    λ _. level_repeat c.args.self.now c.pop.new.self c.push.new.self c.in-Some.term c.in_ok-new.field-0 c.args.counts.0 c.args.counts.1 c.args.greedy c.args.after c.in-Some.ensures c.in_ok-push.ensures.ok
     (c.in_ok-new.ensures.ok ∙ ap made (c.new.ensures ∙ ap until c.span.ensures))
 
 pub returns-clause-good : goal.returns-clause-good

@@ -1,12 +1,5 @@
 use Rattle.std.proofs.Common.{◌≡◌, ◌+◌, ◌∙◌, refl, ap, sym, subst, ℕ, List, IfErr, IfOk, rules}
-use Rattle.rx_units.specs.Cursor.{Cursor, offset_of}
-use Rattle.rx_units.specs.declared.code_point.CodePoint.{CodePoint}
-use Rattle.rx_class.specs.Fitting.{AreFitting}
-use Rattle.rx_scan.specs.StateFaults.{mode_of_state}
-use Rattle.rx_model.specs.declared.mode.Mode.{Mode}
-use Rattle.rx_model.specs.declared.rules.Rules.{Rules}
-use Rattle.rx_parser.specs.declared.builder.Builder.{Builder}
-use Rattle.rx_parser.specs.Parsing.{HoldsPass, IsParsing, IsRefused, IsWhole, rules_of_state}
+use Rattle.rx_parser.proofs.Common.{Cursor, offset_of, CodePoint, mode_of_state, Mode, Rules, Builder, HoldsPass, IsParsing, IsRefused, IsWhole, rules_of_state, AreFitting}
 use Rattle.rx_parser.proofs.Endings.{parsing_begun}
 use Rattle.rx_parser.proofs.Refused.{answered}
 use Rattle.rx_parser.proofs.pattern_parser.PatternParser.parse_counted.Goals as goal
@@ -45,7 +38,7 @@ read_pattern-requires-clause-under_way g c =
     let made = c.in_ok-builder.ensures in
     let reader_is = c.first_pass.ensures.reader in
     let place : r.place ≡ 0 = ap (λ (r : Cursor). r.place) reader_is ∙ c.requires.start in
-    let same = same_given b r it.reader c.of-mode.result (mode_of_state it.state) (rules_of_state it.state it.buffer_boundaries) made.mode c.of-mode.ensures made.rules reader_is in
+    let same = same_given b r it.reader c.mode-mode.result (mode_of_state it.state) (rules_of_state it.state it.buffer_boundaries) made.mode c.mode-mode.ensures made.rules reader_is in
     record {
       parsing = subst (IsParsing b.mode b.rules r.units r.first it.spans b) (sym place)
           (parsing_begun r.units r.first it.spans c.here-start.result b (c.here-start.ensures ∙ ap (λ k. offset_of (record r { place = k }) + it.spans) place) made.events made.openers made.ready made.good refl refl);
@@ -60,7 +53,7 @@ returns-clause-answer g c =
     let under = rules_of_state it.state it.buffer_boundaries in
     let made = c.in_ok-builder.ensures in
     let answer = c.read_pattern.result in
-    let same = same_given c.in_ok-builder.builder c.first_pass.new.reader it.reader c.of-mode.result mode under made.mode c.of-mode.ensures made.rules c.first_pass.ensures.reader in
+    let same = same_given c.in_ok-builder.builder c.first_pass.new.reader it.reader c.mode-mode.result mode under made.mode c.mode-mode.ensures made.rules c.first_pass.ensures.reader in
     answered mode under it.reader.units it.reader.first it.spans answer
     (subst (λ (k : Mode × Rules × List CodePoint × ℕ). IfOk answer (IsWhole k.0 k.1 k.2 k.3 it.spans)) same c.read_pattern.ensures.whole)
     (subst (λ (k : Mode × Rules × List CodePoint × ℕ). IfErr answer (IsRefused k.0 k.1 k.2 k.3 it.spans)) same c.read_pattern.ensures.refused)

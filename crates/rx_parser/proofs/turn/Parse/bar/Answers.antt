@@ -5,7 +5,8 @@ use Rattle.rx_parser.proofs.turn.Parse.bar.Goals as goal
 pub returns-clause-turned : goal.returns-clause-turned
 returns-clause-turned g c =
     let it = c.in_ok-bar.ensures in
-    has_turned c.requires.ready
-    (bar_turned (before c.requires.ready) c.bar.new.self c.advance_counted.new.self c.here-at.result c.here-after.result
-    (passed (before c.requires.ready) c.requires.found c.here-at.ensures c.here-after.ensures c.advance_counted.ensures.reader)
-    (record { events = it.events; openers_are = it.openers; ready_is = it.ready; good = it.good; mode = it.mode; rules = it.rules })) refl refl
+    let span = c.span_over-span in
+    has_turned c.requires.more
+    (bar_turned (before c.requires.more) c.bar.new.self span.new.reader span.result.start span.result.end
+    (passed (before c.requires.more) c.requires.found span.ensures.start span.ensures.end span.ensures.reader)
+    (record { events = it.events; openers_are = it.openers; ready_is = it.ready; good = it.good; fixed = it.fixed })) refl refl

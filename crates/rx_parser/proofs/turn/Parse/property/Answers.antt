@@ -1,5 +1,5 @@
 use Rattle.std.proofs.Common.{rules, refl}
-use Rattle.rx_parser.specs.Turns.{RefusesText}
+use Rattle.rx_parser.proofs.Common.{RefusesText}
 use Rattle.rx_parser.proofs.ClassTurns.{property_never_none, property_refused, property_taken}
 use Rattle.rx_parser.proofs.Turns.{before, has_turned}
 use Rattle.rx_parser.proofs.turn.Parse.property.Goals as goal
@@ -8,16 +8,16 @@ pub returns-in_err-escape-clause-refused : goal.returns-in_err-escape-clause-ref
 returns-in_err-escape-clause-refused g c =
     let r = c.args.self.now.reader in
     let refused : RefusesText c.args.self.now c.in_err-escape.field-0.0 =
-    property_refused (before c.requires.ready) c.requires.ready.under_way.pass c.advance_counted.ensures.reader c.in_err-escape.field-0.0 c.in_err-escape.ensures.gives in
+    property_refused (before c.requires.more) c.requires.more.under_way.pass c.advance_counted.ensures.reader c.in_err-escape.field-0.0 c.in_err-escape.ensures.gives in
     search rules
 
 pub unreachable-requires : goal.unreachable-requires
-unreachable-requires g c = property_never_none (before c.requires.ready) c.requires.ready.under_way.pass c.advance_counted.ensures.reader c.in_ok-escape.field-0 c.requires.found c.in-None.is c.in_ok-escape.ensures.gives
+unreachable-requires g c = property_never_none (before c.requires.more) c.requires.more.under_way.pass c.advance_counted.ensures.reader c.in_ok-escape.field-0 c.requires.found c.in-None.is c.in_ok-escape.ensures.gives
 
 pub returns-clause-turned : goal.returns-clause-turned
 returns-clause-turned g c =
     let it = c.in_ok-leaf-in-Some.ensures in
     let term = c.in_ok-property_term-in-Some in
-    has_turned c.requires.ready
-    (property_taken (before c.requires.ready) c.requires.ready.under_way.pass c.advance_counted.ensures.reader c.leaf.new.self c.in_ok-escape.field-0 c.in-Some.escape term.field-0 c.offset-start.ensures.value c.in-Some.is c.in_ok-escape.ensures.gives term.ensures
-    (record { events = it.events; openers_are = it.openers; ready_is = it.ready; good = it.good (term.ensures.good c.args.self.now.builder.mode); mode = it.mode; rules = it.rules })) refl refl
+    has_turned c.requires.more
+    (property_taken (before c.requires.more) c.requires.more.under_way.pass c.advance_counted.ensures.reader c.leaf.new.self c.in_ok-escape.field-0 c.in-Some.escape term.field-0 c.offset-start.ensures.value c.in-Some.is c.in_ok-escape.ensures.gives term.ensures
+    (record { events = it.events; openers_are = it.openers; ready_is = it.ready; good = it.good (term.ensures.good c.args.self.now.builder.mode); fixed = it.fixed })) refl refl

@@ -1,6 +1,5 @@
 use Rattle.std.proofs.Common.{refl, subst}
-use Rattle.std.proofs.lemmas.Result.{on_ok_weaker}
-use Rattle.rx_parser.specs.Faults.{IsHaltFault}
+use Rattle.rx_parser.proofs.Common.{on_ok_weaker, IsHaltFault}
 use Rattle.rx_parser.proofs.Halts.{halt_refused}
 use Rattle.rx_parser.proofs.TokenPaces.{token_taken}
 use Rattle.rx_parser.proofs.turn.Parse.take_found.Goals as goal
@@ -18,36 +17,30 @@ returns-in-Halt-clause-refused g c =
 
 pub returns-in-Leaf-clause-steps : goal.returns-in-Leaf-clause-steps
 returns-in-Leaf-clause-steps g c =
-    let it = c.take_leaf in
-    token_taken c.args.self.now.reader it.new.self.reader c.in-Leaf.length (g.C.Counter.count c.args.steps.now) (g.C.Counter.count c.found_here.new.steps) (g.C.Counter.count it.new.steps) it.result
-    (on_ok_weaker it.result (λ k. k.moved) it.ensures.turned) it.ensures.reader c.in-Leaf.ensures.found.1 c.in-Leaf.ensures.steps it.ensures.least it.ensures.steps
+    token_taken c.args.self.now.reader c.take_leaf.new.self.reader c.in-Leaf.length (g.C.Counter.count c.args.steps.now) (g.C.Counter.count c.find_here.new.steps) (g.C.Counter.count c.take_leaf.new.steps) c.take_leaf.result
+    (on_ok_weaker c.take_leaf.result (λ k. k.moved) c.take_leaf.ensures.turned) c.in-Leaf.ensures.found.1 c.in-Leaf.ensures.steps c.take_leaf.ensures.steps
 
 pub returns-in-NamedReference-clause-steps : goal.returns-in-NamedReference-clause-steps
 returns-in-NamedReference-clause-steps g c =
-    let it = c.named_reference in
-    token_taken c.args.self.now.reader it.new.self.reader c.in-NamedReference.length (g.C.Counter.count c.args.steps.now) (g.C.Counter.count c.found_here.new.steps) (g.C.Counter.count it.new.steps) it.result
-    (on_ok_weaker it.result (λ k. k.moved) it.ensures.turned) it.ensures.reader c.in-NamedReference.ensures.found.2.within c.in-NamedReference.ensures.steps it.ensures.least it.ensures.steps
+    token_taken c.args.self.now.reader c.named_reference.new.self.reader c.in-NamedReference.length (g.C.Counter.count c.args.steps.now) (g.C.Counter.count c.find_here.new.steps) (g.C.Counter.count c.named_reference.new.steps) c.named_reference.result
+    (on_ok_weaker c.named_reference.result (λ k. k.moved) c.named_reference.ensures.turned) c.in-NamedReference.ensures.found.2.within c.in-NamedReference.ensures.steps c.named_reference.ensures.steps
 
 pub returns-in-Open-clause-steps : goal.returns-in-Open-clause-steps
 returns-in-Open-clause-steps g c =
-    let it = c.open in
-    token_taken c.args.self.now.reader it.new.self.reader c.in-Open.length (g.C.Counter.count c.args.steps.now) (g.C.Counter.count c.found_here.new.steps) (g.C.Counter.count it.new.steps) it.result
-    (on_ok_weaker it.result (λ k. k.moved) it.ensures.turned) it.ensures.reader c.in-Open.ensures.found.1.1 c.in-Open.ensures.steps it.ensures.least it.ensures.steps
+    token_taken c.args.self.now.reader c.open.new.self.reader c.in-Open.length (g.C.Counter.count c.args.steps.now) (g.C.Counter.count c.find_here.new.steps) (g.C.Counter.count c.open.new.steps) c.open.result
+    (on_ok_weaker c.open.result (λ k. k.moved) c.open.ensures.turned) c.in-Open.ensures.found.1.1 c.in-Open.ensures.steps c.open.ensures.steps
 
 pub returns-in-Close-clause-steps : goal.returns-in-Close-clause-steps
 returns-in-Close-clause-steps g c =
-    let it = c.close in
-    token_taken c.args.self.now.reader it.new.self.reader 1 (g.C.Counter.count c.args.steps.now) (g.C.Counter.count c.found_here.new.steps) (g.C.Counter.count it.new.steps) it.result
-    (on_ok_weaker it.result (λ k. k.moved) it.ensures.turned) it.ensures.reader c.in-Close.ensures.found.1 c.in-Close.ensures.steps it.ensures.least it.ensures.steps
+    token_taken c.args.self.now.reader c.close.new.self.reader 1 (g.C.Counter.count c.args.steps.now) (g.C.Counter.count c.find_here.new.steps) (g.C.Counter.count c.close.new.steps) c.close.result
+    (on_ok_weaker c.close.result (λ k. k.moved) c.close.ensures.turned) c.in-Close.ensures.found.1 c.in-Close.ensures.steps c.close.ensures.steps
 
 pub returns-in-Bar-clause-steps : goal.returns-in-Bar-clause-steps
 returns-in-Bar-clause-steps g c =
-    let it = c.bar in
-    token_taken c.args.self.now.reader it.new.self.reader 1 (g.C.Counter.count c.args.steps.now) (g.C.Counter.count c.found_here.new.steps) (g.C.Counter.count it.new.steps) it.result
-    (on_ok_weaker it.result (λ k. k.moved) it.ensures.turned) it.ensures.reader c.in-Bar.ensures.found.1 c.in-Bar.ensures.steps it.ensures.least it.ensures.steps
+    token_taken c.args.self.now.reader c.bar.new.self.reader 1 (g.C.Counter.count c.args.steps.now) (g.C.Counter.count c.find_here.new.steps) (g.C.Counter.count c.bar.new.steps) c.bar.result
+    (on_ok_weaker c.bar.result (λ k. k.moved) c.bar.ensures.turned) c.in-Bar.ensures.found.1 c.in-Bar.ensures.steps c.bar.ensures.steps
 
 pub returns-in-Quantifier-clause-steps : goal.returns-in-Quantifier-clause-steps
 returns-in-Quantifier-clause-steps g c =
-    let it = c.quantify in
-    token_taken c.args.self.now.reader it.new.self.reader c.in-Quantifier.length (g.C.Counter.count c.args.steps.now) (g.C.Counter.count c.found_here.new.steps) (g.C.Counter.count it.new.steps) it.result
-    (on_ok_weaker it.result (λ k. k.moved) it.ensures.turned) it.ensures.reader c.in-Quantifier.ensures.found.1 c.in-Quantifier.ensures.steps it.ensures.least it.ensures.steps
+    token_taken c.args.self.now.reader c.quantify.new.self.reader c.in-Quantifier.length (g.C.Counter.count c.args.steps.now) (g.C.Counter.count c.find_here.new.steps) (g.C.Counter.count c.quantify.new.steps) c.quantify.result
+    (on_ok_weaker c.quantify.result (λ k. k.moved) c.quantify.ensures.turned) c.in-Quantifier.ensures.found.1 c.in-Quantifier.ensures.steps c.quantify.ensures.steps

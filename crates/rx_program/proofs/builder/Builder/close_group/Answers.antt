@@ -1,6 +1,6 @@
 use Rattle.std.proofs.Common.{refl, ◌-◌}
 use Rattle.std.proofs.lemmas.Result.{on_ok_weaker}
-use Rattle.rx_program.proofs.Builders.{builds_capturing, program_lower}
+use Rattle.rx_program.proofs.BuilderSteps.{builds_capturing, program_lower}
 use Rattle.rx_program.proofs.builder.Builder.close_group.Goals as goal
 
 pub capture-requires-clause-program : goal.capture-requires-clause-program

@@ -5,20 +5,20 @@ use Rattle.rx_ast.specs.declared.term.LookAroundAssertion.{out-LookAroundAsserti
 use Rattle.rx_ast.specs.Tree as tree
 use Rattle.rx_ast.specs.Tree.{alternatives, mirror_alternative}
 use Rattle.rx_ast.proofs.Equations.{look_is, disjunction_is}
-use Rattle.rx_program.specs.declared.builder.Setting.{Setting}
+use Rattle.rx_program.specs.declared.builder.Context.{Context}
 use Rattle.rx_program.specs.declared.builder.Task.TheVariants as task
-use Rattle.rx_program.specs.Built.{with_task}
+use Rattle.rx_program.specs.BuilderState.{with_task}
 use Rattle.rx_program.proofs.Cutting.{cuts_looking}
 use Rattle.rx_program.proofs.builder.Builder.look_around_body.Goals as goal
 
 pub returns : goal.returns
 returns c =
     let it = out-LookAroundAssertion c.args.it.now in
-    let inside : Setting = record { settings = c.args.setting.settings; back = c.looks_back.result } in
+    let inside : Context = record { settings = c.args.context.settings; back = c.looks_back.result } in
     let t = task.LookAround it.kind in
     let u = task.Disjunction inside c.as_slice-alternatives.result in
     on_ok_weaker c.push_task-2.result
-    (λ pushed. cuts_looking c.args.self.now c.push_task-2.new.self c.args.setting inside _ _ it.kind c.as_slice-alternatives.result.now _ t u
+    (λ pushed. cuts_looking c.args.self.now c.push_task-2.new.self c.args.context inside _ _ it.kind c.as_slice-alternatives.result.now _ t u
     (look_is c.args.it.now ∙ ap (λ d. tree.group it.span (tree.looking it.kind) d.0 d.1) (disjunction_is it.body) ∙ ap (λ b. tree.group it.span (tree.looking it.kind) (out-Disjunction it.body).span (alternatives (map mirror_alternative b))) (sym c.as_slice-alternatives.ensures))
     refl c.looks_back.ensures (λ n. refl) (λ n. refl)
     (pushed ∙ ap (λ y. with_task y u) (c.in_ok-push_task.ensures ∙ ap (λ y. with_task y t) c.in_ok-push_code.ensures)) c.requires.sound)

@@ -2,48 +2,48 @@ use Rattle.std.proofs.Common.{refl, sym, subst, ◌∷◌, arith}
 use Rattle.std.proofs.lemmas.Result.{on_ok_weaker}
 use Rattle.rx_program.specs.declared.builder.Task.TheVariants as task
 use Rattle.rx_program.specs.Codes as code
-use Rattle.rx_program.specs.Works.{looking, entering, choosing, swapping, sequencing, on_one, on_two, swapped}
-use Rattle.rx_program.specs.Built.{works, IsBuilding, Builds}
-use Rattle.rx_program.proofs.Builders.{builds, one_code, two_codes}
+use Rattle.rx_program.specs.Works.{looking, entering, choosing, swapping, sequencing, on_one, on_two, swap}
+use Rattle.rx_program.specs.BuilderState.{works, IsBuilding, Builds}
+use Rattle.rx_program.proofs.BuilderSteps.{builds, one_code, two_codes}
 use Rattle.rx_program.proofs.Performing.{work, about, made_about, builds_about, repeating_same}
 use Rattle.rx_program.proofs.builder.Builder.perform.Goals as goal
 
 pub disjunction-requires-clause-sound : goal.disjunction-requires-clause-sound
-disjunction-requires-clause-sound c = about c.args.self.now c.args.task (task.Disjunction c.in-Disjunction.setting c.in-Disjunction.alternatives) c.in-Disjunction.is c.requires.sound
+disjunction-requires-clause-sound c = about c.args.self.now c.args.task (task.Disjunction c.in-Disjunction.context c.in-Disjunction.alternatives) c.in-Disjunction.is c.requires.sound
 
 pub disjunction-requires-clause-codes : goal.disjunction-requires-clause-codes
-disjunction-requires-clause-codes c = one_code c.args.self.now (work c.args.self.now (task.Disjunction c.in-Disjunction.setting c.in-Disjunction.alternatives)) (made_about c.args.self.now c.args.task (task.Disjunction c.in-Disjunction.setting c.in-Disjunction.alternatives) c.in-Disjunction.is c.requires.made)
+disjunction-requires-clause-codes c = one_code c.args.self.now (work c.args.self.now (task.Disjunction c.in-Disjunction.context c.in-Disjunction.alternatives)) (made_about c.args.self.now c.args.task (task.Disjunction c.in-Disjunction.context c.in-Disjunction.alternatives) c.in-Disjunction.is c.requires.made)
 
 pub returns-in-Disjunction : goal.returns-in-Disjunction
 returns-in-Disjunction c =
-    on_ok_weaker c.disjunction.result (builds_about c.args.self.now c.disjunction.new.self c.args.task (task.Disjunction c.in-Disjunction.setting c.in-Disjunction.alternatives) c.in-Disjunction.is) c.disjunction.ensures
+    on_ok_weaker c.disjunction.result (builds_about c.args.self.now c.disjunction.new.self c.args.task (task.Disjunction c.in-Disjunction.context c.in-Disjunction.alternatives) c.in-Disjunction.is) c.disjunction.ensures
 
 pub earlier-requires-clause-sound : goal.earlier-requires-clause-sound
-earlier-requires-clause-sound c = about c.args.self.now c.args.task (task.Earlier c.in-Earlier.setting c.in-Earlier.alternatives) c.in-Earlier.is c.requires.sound
+earlier-requires-clause-sound c = about c.args.self.now c.args.task (task.Earlier c.in-Earlier.context c.in-Earlier.alternatives) c.in-Earlier.is c.requires.sound
 
 pub earlier-requires-clause-codes : goal.earlier-requires-clause-codes
-earlier-requires-clause-codes c = two_codes c.args.self.now (work c.args.self.now (task.Earlier c.in-Earlier.setting c.in-Earlier.alternatives)) (λ k d. refl) (made_about c.args.self.now c.args.task (task.Earlier c.in-Earlier.setting c.in-Earlier.alternatives) c.in-Earlier.is c.requires.made)
+earlier-requires-clause-codes c = two_codes c.args.self.now (work c.args.self.now (task.Earlier c.in-Earlier.context c.in-Earlier.alternatives)) (λ k d. refl) (made_about c.args.self.now c.args.task (task.Earlier c.in-Earlier.context c.in-Earlier.alternatives) c.in-Earlier.is c.requires.made)
 
 pub returns-in-Earlier : goal.returns-in-Earlier
 returns-in-Earlier c =
-    on_ok_weaker c.earlier.result (builds_about c.args.self.now c.earlier.new.self c.args.task (task.Earlier c.in-Earlier.setting c.in-Earlier.alternatives) c.in-Earlier.is) c.earlier.ensures
+    on_ok_weaker c.earlier.result (builds_about c.args.self.now c.earlier.new.self c.args.task (task.Earlier c.in-Earlier.context c.in-Earlier.alternatives) c.in-Earlier.is) c.earlier.ensures
 
 pub terms-requires : goal.terms-requires
-terms-requires c = record { sound = about c.args.self.now c.args.task (task.Terms c.in-Terms.setting c.in-Terms.terms) c.in-Terms.is c.requires.sound }
+terms-requires c = record { sound = about c.args.self.now c.args.task (task.Terms c.in-Terms.context c.in-Terms.terms) c.in-Terms.is c.requires.sound }
 
 pub returns-in-Terms : goal.returns-in-Terms
 returns-in-Terms c =
-    on_ok_weaker c.terms.result (builds_about c.args.self.now c.terms.new.self c.args.task (task.Terms c.in-Terms.setting c.in-Terms.terms) c.in-Terms.is) c.terms.ensures
+    on_ok_weaker c.terms.result (builds_about c.args.self.now c.terms.new.self c.args.task (task.Terms c.in-Terms.context c.in-Terms.terms) c.in-Terms.is) c.terms.ensures
 
 pub term-requires-clause-sound : goal.term-requires-clause-sound
-term-requires-clause-sound c = about c.args.self.now c.args.task (task.Term c.in-Term.setting c.in-Term.term) c.in-Term.is c.requires.sound
+term-requires-clause-sound c = about c.args.self.now c.args.task (task.Term c.in-Term.context c.in-Term.term) c.in-Term.is c.requires.sound
 
 pub term-requires-clause-codes : goal.term-requires-clause-codes
-term-requires-clause-codes c = one_code c.args.self.now (work c.args.self.now (task.Term c.in-Term.setting c.in-Term.term)) (made_about c.args.self.now c.args.task (task.Term c.in-Term.setting c.in-Term.term) c.in-Term.is c.requires.made)
+term-requires-clause-codes c = one_code c.args.self.now (work c.args.self.now (task.Term c.in-Term.context c.in-Term.term)) (made_about c.args.self.now c.args.task (task.Term c.in-Term.context c.in-Term.term) c.in-Term.is c.requires.made)
 
 pub returns-in-Term : goal.returns-in-Term
 returns-in-Term c =
-    on_ok_weaker c.term.result (builds_about c.args.self.now c.term.new.self c.args.task (task.Term c.in-Term.setting c.in-Term.term) c.in-Term.is) c.term.ensures
+    on_ok_weaker c.term.result (builds_about c.args.self.now c.term.new.self c.args.task (task.Term c.in-Term.context c.in-Term.term) c.in-Term.is) c.term.ensures
 
 pub close_group-requires-clause-sound : goal.close_group-requires-clause-sound
 close_group-requires-clause-sound c = about c.args.self.now c.args.task task.Capture c.in-Capture.is c.requires.sound
@@ -106,7 +106,7 @@ swap-requires-clause-codes c = two_codes c.args.self.now (work c.args.self.now t
 
 pub returns-in-Swap : goal.returns-in-Swap
 returns-in-Swap c =
-    on_ok_weaker c.swap.result (λ r. builds_about c.args.self.now c.swap.new.self c.args.task task.Swap c.in-Swap.is (builds c.args.self.now c.swap.new.self (swapping) (swapped) (about c.args.self.now c.args.task task.Swap c.in-Swap.is c.requires.sound) refl refl (omega arith) refl r)) c.swap.ensures
+    on_ok_weaker c.swap.result (λ r. builds_about c.args.self.now c.swap.new.self c.args.task task.Swap c.in-Swap.is (builds c.args.self.now c.swap.new.self (swapping) (swap) (about c.args.self.now c.args.task task.Swap c.in-Swap.is c.requires.sound) refl refl (omega arith) refl r)) c.swap.ensures
 
 pub sequence-requires-clause-program : goal.sequence-requires-clause-program
 sequence-requires-clause-program c = c.requires.sound.program

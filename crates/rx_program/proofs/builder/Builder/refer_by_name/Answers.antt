@@ -3,7 +3,7 @@ use Rattle.std.proofs.lemmas.Result.{on_ok_weaker}
 use Rattle.rx_program.specs.declared.step.Step.TheVariants as step
 use Rattle.rx_program.specs.Codes as code
 use Rattle.rx_trace.specs.Groups.{slot_named}
-use Rattle.rx_program.proofs.Builders.{replaces_one}
+use Rattle.rx_program.proofs.BuilderSteps.{replaces_one}
 use Rattle.rx_program.proofs.Named.{named_numbers}
 use Rattle.rx_program.proofs.builder.Builder.refer_by_name.Goals as goal
 

@@ -2,7 +2,7 @@ use Rattle.std.proofs.Common.{refl}
 use Rattle.std.proofs.lemmas.Result.{on_ok_weaker}
 use Rattle.rx_program.specs.declared.step.Step.TheVariants as step
 use Rattle.rx_program.specs.Codes as code
-use Rattle.rx_program.proofs.Builders.{replaces_two}
+use Rattle.rx_program.proofs.BuilderSteps.{replaces_two}
 use Rattle.rx_program.proofs.builder.Builder.sequence.Goals as goal
 
 pub returns : goal.returns

@@ -1,7 +1,7 @@
 use Rattle.std.proofs.Common.{ap, ◌∙◌}
 use Rattle.std.proofs.lemmas.Result.{on_ok_weaker}
-use Rattle.rx_program.specs.Built.{with_code}
-use Rattle.rx_program.proofs.Builders.{replaces_swapped}
+use Rattle.rx_program.specs.BuilderState.{with_code}
+use Rattle.rx_program.proofs.BuilderSteps.{replaces_swapped}
 use Rattle.rx_program.proofs.builder.Builder.swap.Goals as goal
 
 pub returns : goal.returns

@@ -13,41 +13,41 @@ use Rattle.rx_program.proofs.builder.Builder.term.Goals as goal
 pub returns-in-BoundaryAssertion : goal.returns-in-BoundaryAssertion
 returns-in-BoundaryAssertion c =
     on_ok_weaker c.assert.result
-    (leaf_done c.args.self.now c.assert.new.self c.args.setting (mirror_term c.args.term.now) (tree.boundary c.in-BoundaryAssertion.it) (code.assert c.in-BoundaryAssertion.it.kind c.args.setting.settings.multiline) (ap mirror_term c.in-BoundaryAssertion.is ∙ boundary_is _) (λ next. refl) (λ before. refl) c.requires.sound) c.assert.ensures
+    (leaf_done c.args.self.now c.assert.new.self c.args.context (mirror_term c.args.term.now) (tree.boundary c.in-BoundaryAssertion.it) (code.assert c.in-BoundaryAssertion.it.kind c.args.context.settings.multiline) (ap mirror_term c.in-BoundaryAssertion.is ∙ boundary_is _) (λ next. refl) (λ before. refl) c.requires.sound) c.assert.ensures
 
 pub returns-in-Character : goal.returns-in-Character
 returns-in-Character c =
     on_ok_weaker c.consume.result
-    (leaf_done c.args.self.now c.consume.new.self c.args.setting (mirror_term c.args.term.now) (tree.character c.in-Character.it) (code.consume (λ u. u == c.in-Character.it.value)) (ap mirror_term c.in-Character.is ∙ character_is _) (λ next. refl) (λ before. refl) c.requires.sound) c.consume.ensures
+    (leaf_done c.args.self.now c.consume.new.self c.args.context (mirror_term c.args.term.now) (tree.character c.in-Character.it) (code.consume (λ u. u == c.in-Character.it.value)) (ap mirror_term c.in-Character.is ∙ character_is _) (λ next. refl) (λ before. refl) c.requires.sound) c.consume.ensures
 
 pub returns-in-Dot : goal.returns-in-Dot
 returns-in-Dot c =
     on_ok_weaker c.consume-in-Dot.result
-    (leaf_done c.args.self.now c.consume-in-Dot.new.self c.args.setting (mirror_term c.args.term.now) (tree.dot c.in-Dot.field-0) (code.consume (λ u. c.args.setting.settings.dot_all || not (is_line_terminator u))) (ap mirror_term c.in-Dot.is ∙ dot_is _) (λ next. refl) (λ before. refl) c.requires.sound) c.consume-in-Dot.ensures
+    (leaf_done c.args.self.now c.consume-in-Dot.new.self c.args.context (mirror_term c.args.term.now) (tree.dot c.in-Dot.field-0) (code.consume (λ u. c.args.context.settings.dot_all || not (is_line_terminator u))) (ap mirror_term c.in-Dot.is ∙ dot_is _) (λ next. refl) (λ before. refl) c.requires.sound) c.consume-in-Dot.ensures
 
 pub returns-in-CharacterClassEscape : goal.returns-in-CharacterClassEscape
 returns-in-CharacterClassEscape c =
     on_ok_weaker c.consume-in-CharacterClassEscape.result
-    (leaf_done c.args.self.now c.consume-in-CharacterClassEscape.new.self c.args.setting (mirror_term c.args.term.now) (tree.class_escape c.in-CharacterClassEscape.it) (code.consume (escape_holds c.in-CharacterClassEscape.it.kind)) (ap mirror_term c.in-CharacterClassEscape.is ∙ escape_is _) (λ next. refl) (λ before. refl) c.requires.sound) c.consume-in-CharacterClassEscape.ensures
+    (leaf_done c.args.self.now c.consume-in-CharacterClassEscape.new.self c.args.context (mirror_term c.args.term.now) (tree.class_escape c.in-CharacterClassEscape.it) (code.consume (escape_holds c.in-CharacterClassEscape.it.kind)) (ap mirror_term c.in-CharacterClassEscape.is ∙ escape_is _) (λ next. refl) (λ before. refl) c.requires.sound) c.consume-in-CharacterClassEscape.ensures
 
 pub returns-in-UnicodePropertyEscape : goal.returns-in-UnicodePropertyEscape
 returns-in-UnicodePropertyEscape c =
     on_ok_weaker c.consume-in-UnicodePropertyEscape.result
-    (leaf_done c.args.self.now c.consume-in-UnicodePropertyEscape.new.self c.args.setting (mirror_term c.args.term.now) (tree.property c.in-UnicodePropertyEscape.field-0.value) (code.consume (λ u. false)) (ap mirror_term c.in-UnicodePropertyEscape.is ∙ property_is _) (λ next. refl) (λ before. refl) c.requires.sound) c.consume-in-UnicodePropertyEscape.ensures
+    (leaf_done c.args.self.now c.consume-in-UnicodePropertyEscape.new.self c.args.context (mirror_term c.args.term.now) (tree.property c.in-UnicodePropertyEscape.field-0.value) (code.consume (λ u. false)) (ap mirror_term c.in-UnicodePropertyEscape.is ∙ property_is _) (λ next. refl) (λ before. refl) c.requires.sound) c.consume-in-UnicodePropertyEscape.ensures
 
 pub returns-in-IndexedReference : goal.returns-in-IndexedReference
 returns-in-IndexedReference c =
     on_ok_weaker c.refer.result
-    (leaf_done c.args.self.now c.refer.new.self c.args.setting (mirror_term c.args.term.now) (tree.indexed c.in-IndexedReference.it) (code.refer (λ slots. slot_of slots c.in-IndexedReference.it.index)) (ap mirror_term c.in-IndexedReference.is ∙ indexed_is _) (λ next. refl) (λ before. refl) c.requires.sound) c.refer.ensures
+    (leaf_done c.args.self.now c.refer.new.self c.args.context (mirror_term c.args.term.now) (tree.indexed c.in-IndexedReference.it) (code.refer (λ slots. slot_of slots c.in-IndexedReference.it.index)) (ap mirror_term c.in-IndexedReference.is ∙ indexed_is _) (λ next. refl) (λ before. refl) c.requires.sound) c.refer.ensures
 
 pub pop_row-row-requires : goal.pop_row-row-requires
 pop_row-row-requires c =
-    some_row c.args.self.now c.args.setting (mirror_term c.args.term.now) (mirror_class c.in-CharacterClass.field-0.value) (ap mirror_term c.in-CharacterClass.is ∙ class_is _) c.requires.sound
+    some_row c.args.self.now c.args.context (mirror_term c.args.term.now) (mirror_class c.in-CharacterClass.field-0.value) (ap mirror_term c.in-CharacterClass.is ∙ class_is _) c.requires.sound
 
 pub returns-in-CharacterClass : goal.returns-in-CharacterClass
 returns-in-CharacterClass c =
     on_ok_weaker c.consume-in-CharacterClass.result
-    (class_done c.args.self.now c.pop_row-row.new.self c.consume-in-CharacterClass.new.self c.args.setting (mirror_term c.args.term.now) (mirror_class c.in-CharacterClass.field-0.value) c.pop_row-row.result.now
+    (class_done c.args.self.now c.pop_row-row.new.self c.consume-in-CharacterClass.new.self c.args.context (mirror_term c.args.term.now) (mirror_class c.in-CharacterClass.field-0.value) c.pop_row-row.result.now
     (ap mirror_term c.in-CharacterClass.is ∙ class_is _) c.pop_row-row.ensures c.requires.sound)
     c.consume-in-CharacterClass.ensures
 
@@ -55,5 +55,5 @@ pub returns-in-NamedReference : goal.returns-in-NamedReference
 returns-in-NamedReference c =
     let r = c.deref-in-NamedReference.result.now in
     on_ok_weaker c.refer_by_name.result
-    (leaf_done c.args.self.now c.refer_by_name.new.self c.args.setting (mirror_term c.args.term.now) (tree.named r) (code.refer (slot_named r.name c.args.self.now.names.now))
+    (leaf_done c.args.self.now c.refer_by_name.new.self c.args.context (mirror_term c.args.term.now) (tree.named r) (code.refer (slot_named r.name c.args.self.now.names.now))
     (ap mirror_term c.in-NamedReference.is ∙ named_is c.in-NamedReference.it ∙ ap (λ b. tree.leaf (tree.named b)) (sym c.deref-in-NamedReference.ensures)) (λ next. refl) (λ before. refl) c.requires.sound) c.refer_by_name.ensures

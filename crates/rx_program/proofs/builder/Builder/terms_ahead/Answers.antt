@@ -1,18 +1,18 @@
 use Rattle.std.proofs.Common.{refl, ap, ◌∙◌}
 use Rattle.std.proofs.lemmas.Result.{on_ok_weaker}
 use Rattle.rx_program.specs.declared.builder.Task.TheVariants as task
-use Rattle.rx_program.specs.Built.{with_task}
+use Rattle.rx_program.specs.BuilderState.{with_task}
 use Rattle.rx_program.proofs.Cutting.{cuts_no_terms, cuts_ahead}
 use Rattle.rx_program.proofs.builder.Builder.terms_ahead.Goals as goal
 
 pub returns-in_default : goal.returns-in_default
-returns-in_default c = cuts_no_terms c.args.self.now c.args.setting c.args.terms.now c.in_default.ensures.cases c.requires.sound
+returns-in_default c = cuts_no_terms c.args.self.now c.args.context c.args.terms.now c.in_default.ensures.cases c.requires.sound
 
 pub returns : goal.returns
 returns c =
-    let t = task.Terms c.args.setting c.in-Some.terms in
-    let u = task.Term c.args.setting c.in-Some.term in
+    let t = task.Terms c.args.context c.in-Some.terms in
+    let u = task.Term c.args.context c.in-Some.term in
     on_ok_weaker c.push_task-2.result
-    (λ pushed. cuts_ahead c.args.self.now c.push_task-2.new.self c.args.setting c.args.terms.now c.in-Some.terms.now c.in-Some.term.now t u c.requires.ahead c.in-Some.ensures.cases.0 (λ n. refl) (λ n. refl)
+    (λ pushed. cuts_ahead c.args.self.now c.push_task-2.new.self c.args.context c.args.terms.now c.in-Some.terms.now c.in-Some.term.now t u c.requires.ahead c.in-Some.ensures.cases.0 (λ n. refl) (λ n. refl)
     (pushed ∙ ap (λ y. with_task y u) c.in_ok-push_task.ensures) c.requires.sound)
     c.push_task-2.ensures

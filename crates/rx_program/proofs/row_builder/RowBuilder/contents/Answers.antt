@@ -4,7 +4,7 @@ use Rattle.rx_ast.specs.ClassTree.{class, members, mirror_contents}
 use Rattle.rx_ast.specs.Forget.{nowhere}
 use Rattle.rx_program.specs.declared.row_builder.Part.TheVariants as part
 use Rattle.rx_trace.specs.Holding.{class_holds, any_holds, all_hold, first_holds}
-use Rattle.rx_program.specs.Surveyed.{members_looks}
+use Rattle.rx_program.specs.SurveyState.{members_looks}
 use Rattle.rx_program.proofs.RowMaking.{led_union, led_intersection, led_same}
 use Rattle.rx_program.proofs.row_builder.RowBuilder.contents.Goals as goal
 

@@ -5,7 +5,7 @@ use Rattle.rx_ast.specs.ClassTree.{nested, mirror_class, mirror_contents}
 use Rattle.rx_ast.proofs.ClassEquations.{range_is, escape_is, property_is, character_is, nested_is, strings_is}
 use Rattle.rx_program.specs.declared.checks.ItemTest.TheVariants as item
 use Rattle.rx_trace.specs.Holding.{member_holds, class_holds}
-use Rattle.rx_program.specs.Surveyed.{member_looks, class_looks}
+use Rattle.rx_program.specs.SurveyState.{member_looks, class_looks}
 use Rattle.rx_program.proofs.RowMaking.{led_check, led_none, led_same}
 use Rattle.rx_program.proofs.row_builder.RowBuilder.item.Goals as goal
 

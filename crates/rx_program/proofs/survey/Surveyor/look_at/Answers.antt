@@ -3,7 +3,7 @@ use Rattle.rx_ast.specs.Tree.{nodes, mirror_term}
 use Rattle.rx_ast.proofs.Equations.{alternative_is}
 use Rattle.rx_program.specs.declared.survey.Rest.{Rest}
 use Rattle.rx_program.specs.declared.survey.Rest.TheVariants as rest
-use Rattle.rx_program.specs.Surveyed.{LookedAt, unsupported_rest, names_rest, looks, with_rest}
+use Rattle.rx_program.specs.SurveyState.{LookedAt, unsupported_rest, names_rest, looks, with_rest}
 use Rattle.rx_program.proofs.Looking.{looked_alternatives}
 use Rattle.rx_program.proofs.survey.Surveyor.look_at.Goals as goal
 

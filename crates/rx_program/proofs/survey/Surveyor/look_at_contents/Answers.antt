@@ -2,7 +2,7 @@ use Rattle.std.proofs.Common.{refl, ap, sym, ◌∙◌, ◌+◌, Some, map}
 use Rattle.rx_ast.specs.ClassTree.{nested, members, mirror_class, mirror_contents}
 use Rattle.rx_ast.proofs.ClassEquations.{range_is, escape_is, property_is, character_is, nested_is, strings_is, class_is}
 use Rattle.rx_program.specs.declared.survey.Rest.TheVariants as rest
-use Rattle.rx_program.specs.Surveyed.{unsupported_member, unsupported_members, member_looks, members_looks, with_rest}
+use Rattle.rx_program.specs.SurveyState.{unsupported_member, unsupported_members, member_looks, members_looks, with_rest}
 use Rattle.rx_program.proofs.Looking.{looked_contents, looked_nested, refused_member}
 use Rattle.rx_program.proofs.survey.Surveyor.look_at_contents.Goals as goal
 

@@ -12,7 +12,7 @@ use Rattle.rx_ast.proofs.ClassEquations as in_class
 use Rattle.rx_program.specs.declared.survey.Rest.TheVariants as rest
 use Rattle.rx_program.specs.declared.survey.Surveyor.{Surveyor}
 use Rattle.rx_trace.specs.Supported.{unsupported_modifiers}
-use Rattle.rx_program.specs.Surveyed.{unsupported_node, unsupported_members, members_looks}
+use Rattle.rx_program.specs.SurveyState.{unsupported_node, unsupported_members, members_looks}
 use Rattle.rx_program.proofs.Looking.{looked_leaf, looked_in_leaf, looked_quantified, looked_looking, looked_capturing, looked_ignoring, looked_body, ignored_refused, none_refused, is_none}
 use Rattle.rx_program.proofs.survey.Surveyor.look_at_term.Goals as goal
 
@@ -43,8 +43,8 @@ returns-in_ok-push_rest-in-CharacterClass c =
     let inside = members (map mirror_contents c.as_slice-in-CharacterClass.result.now) in
     let is = ap mirror_term c.in-CharacterClass.is ∙ class_is c.in-CharacterClass.it ∙ ap (λ b. leaf (tree.class (mirror_class b))) (sym c.deref-in-CharacterClass.ensures) in
     looked_in_leaf c.args.self.now c.push_rest-in-CharacterClass.new.self (mirror_term c.args.term.now) (tree.class (mirror_class k)) (rest.Contents c.as_slice-in-CharacterClass.result) (1 + members_looks inside) is
-    (record { refuses = ap (λ b. unsupported_members (members (map mirror_contents b))) c.as_slice-in-CharacterClass.ensures ∙ sym (ap Rattle.rx_program.specs.Surveyed.unsupported_class (in_class.class_is k)); named = refl; few = refl })
-    (ap (λ b. 1 + members_looks (members (map mirror_contents b))) c.as_slice-in-CharacterClass.ensures ∙ sym (ap (λ x. 1 + Rattle.rx_program.specs.Surveyed.class_looks x) (in_class.class_is k))) c.in_ok-push_rest-in-CharacterClass.ensures
+    (record { refuses = ap (λ b. unsupported_members (members (map mirror_contents b))) c.as_slice-in-CharacterClass.ensures ∙ sym (ap Rattle.rx_program.specs.SurveyState.unsupported_class (in_class.class_is k)); named = refl; few = refl })
+    (ap (λ b. 1 + members_looks (members (map mirror_contents b))) c.as_slice-in-CharacterClass.ensures ∙ sym (ap (λ x. 1 + Rattle.rx_program.specs.SurveyState.class_looks x) (in_class.class_is k))) c.in_ok-push_rest-in-CharacterClass.ensures
 
 pub returns-in_ok-push_rest-in-Quantifier : goal.returns-in_ok-push_rest-in-Quantifier
 returns-in_ok-push_rest-in-Quantifier c =

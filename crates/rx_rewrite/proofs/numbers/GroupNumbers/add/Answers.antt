@@ -1,5 +1,5 @@
 use Rattle.std.proofs.Common.{refl}
-use Rattle.rx_rewrite.proofs.Numbering.{numbers_named, numbers_unnamed}
+use Rattle.rx_rewrite.proofs.GroupNumbers.{numbers_named, numbers_unnamed}
 use Rattle.rx_rewrite.proofs.numbers.GroupNumbers.add.Goals as goal
 
 pub returns-in-None : goal.returns-in-None

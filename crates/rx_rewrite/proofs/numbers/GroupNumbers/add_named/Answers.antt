@@ -1,6 +1,6 @@
 use Rattle.std.proofs.Common.{◌≡◌, None, sym}
 use Rattle.std.specs.BTreeMap.{get_by_text}
-use Rattle.rx_rewrite.proofs.Numbering.{not_used, tells_named}
+use Rattle.rx_rewrite.proofs.GroupNumbers.{not_used, tells_named}
 use Rattle.rx_rewrite.proofs.numbers.GroupNumbers.add_named.Goals as goal
 
 pub returns : goal.returns

@@ -1,4 +1,4 @@
-use Rattle.rx_rewrite.proofs.Numbering.{numbers_group}
+use Rattle.rx_rewrite.proofs.GroupNumbers.{numbers_group}
 use Rattle.rx_rewrite.proofs.numbers.GroupNumbers.look_at.Goals as goal
 
 pub returns-in-CapturingGroup : goal.returns-in-CapturingGroup

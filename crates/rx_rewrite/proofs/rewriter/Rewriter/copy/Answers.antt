@@ -1,6 +1,6 @@
 use Rattle.std.proofs.Common.{subst}
 use Rattle.std.proofs.lemmas.Result.{on_ok_weaker}
-use Rattle.rx_rewrite.specs.Built.{AddsTerm}
+use Rattle.rx_rewrite.specs.RewriterState.{AddsTerm}
 use Rattle.rx_rewrite.proofs.rewriter.Rewriter.copy.Goals as goal
 
 pub returns : goal.returns

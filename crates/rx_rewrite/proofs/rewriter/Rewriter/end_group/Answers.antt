@@ -3,7 +3,7 @@ use Rattle.std.proofs.lemmas.Result.{on_ok_weaker}
 use Rattle.rx_ast.specs.Tree.{group, alternatives, mirror_alternative, mirror_term}
 use Rattle.rx_ast.proofs.Equations.{disjunction_roll}
 use Rattle.rx_rewrite.specs.declared.rewriter.Rewriter.{Rewriter}
-use Rattle.rx_rewrite.specs.Built.{AddsTerm, opener_of}
+use Rattle.rx_rewrite.specs.RewriterState.{AddsTerm, opener_of}
 use Rattle.rx_rewrite.proofs.Performing.{adds_term}
 use Rattle.rx_rewrite.proofs.Cutting.{ends_group}
 use Rattle.rx_rewrite.proofs.rewriter.Rewriter.end_group.Goals as goal

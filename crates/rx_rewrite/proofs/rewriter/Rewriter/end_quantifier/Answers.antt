@@ -4,7 +4,7 @@ use Rattle.rx_ast.specs.declared.term.Term.TheVariants as term
 use Rattle.rx_ast.specs.Tree.{quantified, mirror_term}
 use Rattle.rx_ast.proofs.Equations.{tree_of_quantifier}
 use Rattle.rx_rewrite.specs.declared.rewriter.Rewriter.{Rewriter}
-use Rattle.rx_rewrite.specs.Built.{AddsTerm}
+use Rattle.rx_rewrite.specs.RewriterState.{AddsTerm}
 use Rattle.rx_rewrite.proofs.Performing.{adds_term, performs_quantifier}
 use Rattle.rx_rewrite.proofs.rewriter.Rewriter.end_quantifier.Goals as goal
 

@@ -5,7 +5,7 @@ use Rattle.rx_ast.specs.Tree.{alternatives, mirror_alternative, mirror_disjuncti
 use Rattle.rx_ast.proofs.Equations.{disjunction_is}
 use Rattle.rx_rewrite.specs.declared.rewriter.Task.TheVariants as task
 use Rattle.rx_rewrite.specs.Works as work
-use Rattle.rx_rewrite.specs.Built.{opener_of, with_task}
+use Rattle.rx_rewrite.specs.RewriterState.{opener_of, with_task}
 use Rattle.rx_rewrite.proofs.Cutting.{cuts_opening}
 use Rattle.rx_rewrite.proofs.rewriter.Rewriter.open_group.Goals as goal
 
@@ -13,12 +13,12 @@ pub returns : goal.returns
 returns c =
     let d = mirror_disjunction c.args.body.now in
     let it = out-Disjunction c.args.body.now in
-    let old = c.args.reading.old in
-    let new = c.args.reading.new in
+    let old = c.args.settings.old in
+    let new = c.args.settings.new in
     let outer = c.replace-outer.result in
     let inner = c.replace-outer.new.dest in
     let t = task.EndGroup c.args.span c.args.opener it.span outer in
-    let u = task.Alternatives c.args.reading c.as_slice-alternatives.result in
+    let u = task.Alternatives c.args.settings c.as_slice-alternatives.result in
     on_ok_weaker c.push_task-2.result
     (λ pushed. cuts_opening c.args.self.now c.push_task-2.new.self old new c.args.span d.0 (opener_of c.args.opener) d.1 outer inner t u
     (ap (λ s. work.ending_group c.args.span (opener_of c.args.opener) s (map mirror_alternative outer)) (sym (ap (λ x. x.0) (disjunction_is c.args.body.now))))

@@ -1,6 +1,6 @@
 use Rattle.std.proofs.Common.{◌-◌, ◌∙◌, ◌++◌, ap, ℕ, List, arith}
 use Rattle.rx_run.specs.Generator.{piece}
-use Rattle.rx_run.proofs.Generating.{pieces_done, pieces_more, state_done, state_more}
+use Rattle.rx_run.proofs.PatternsMade.{pieces_done, pieces_more, state_done, state_more}
 use Rattle.rx_run.proofs.generator.Draws.add_pieces.Goals as goal
 
 pub loop-preserved : goal.loop-preserved

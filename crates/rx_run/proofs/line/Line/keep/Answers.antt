@@ -1,7 +1,7 @@
 use Rattle.std.proofs.Common.{◌≡◌, ◌∙◌, ◌≤◌, min, ◌-◌, ap, sym, subst, take, length, ◌++◌, List, ℕ, true}
 use Rattle.std.proofs.lemmas.Result.{on_ok_weaker}
 use Rattle.rx_run.specs.Lines.{lacks}
-use Rattle.rx_run.specs.Serving.{kept}
+use Rattle.rx_run.specs.Serving.{line_front}
 use Rattle.rx_run.proofs.Lacking.{lacks-append, lacks-take}
 use Rattle.rx_run.proofs.Keeping.{kept_grown, kept_grown-bound, from_both}
 use Rattle.rx_run.proofs.line.Line.keep.Goals as goal
@@ -30,5 +30,5 @@ returns-clause-ok c =
     let line = c.args.self.now.bytes in
     let piece = c.args.piece.now in
     let count : c.min-count.result ≡ min (length piece) (1048577 - length line) = rw (← c.len.ensures) c.min-count.ensures in
-    let more : line ++ take c.min-count.result piece ≡ kept (line ++ piece) = ap (λ (n : ℕ). line ++ take n piece) count ∙ kept_grown line piece c.args.self.now.in_bound in
+    let more : line ++ take c.min-count.result piece ≡ line_front (line ++ piece) = ap (λ (n : ℕ). line ++ take n piece) count ∙ kept_grown line piece c.args.self.now.in_bound in
     on_ok_weaker c.extend_from_slice.result (λ (e : c.extend_from_slice.new.self ≡ line ++ take c.min-count.result piece). e ∙ more) c.extend_from_slice.ensures.ok

@@ -1,5 +1,5 @@
 use Rattle.std.proofs.Common.{◌∙◌, sym}
-use Rattle.rx_run.proofs.Requests.{no_tab, no_form, one_tab}
+use Rattle.rx_run.proofs.NoRequests.{no_tab, no_form, one_tab}
 use Rattle.rx_run.proofs.request.Request.parse.Goals as goal
 
 pub returns-in_err-form_field-clause-asked : goal.returns-in_err-form_field-clause-asked

@@ -1,8 +1,8 @@
 use Rattle.std.proofs.Common.{◌≡◌, [], refl, sym, ◌++◌}
 use Rattle.std.proofs.lemmas.List.{append-nil}
 use Rattle.std.proofs.lemmas.Result.{on_ok_weaker}
-use Rattle.rx_run.specs.Serving.{kept}
-use Rattle.rx_run.proofs.Servings.{serves_lines_more, serves_lines_last, serves_nothing}
+use Rattle.rx_run.specs.Serving.{line_front}
+use Rattle.rx_run.proofs.Serving.{serves_lines_more, serves_lines_last, serves_nothing}
 use Rattle.rx_run.proofs.server.Server.answer_lines.Goals as goal
 
 pub lines-init : goal.lines-init
@@ -26,7 +26,7 @@ returns c =
     let old = c.args.self.now in
     let mid = c.lines.self in
     on_ok_weaker c.keep.result
-    (λ (e : c.keep.new.self.bytes ≡ kept (mid.line.bytes ++ c.lines.rest.now)).
+    (λ (e : c.keep.new.self.bytes ≡ line_front (mid.line.bytes ++ c.lines.rest.now)).
     serves_lines_last old.replies.bytes mid.replies.bytes c.args.bytes.now i.0 i.1 c.lines.rest.now
     old.line.bytes mid.line.bytes c.keep.new.self.bytes old.replies.all_ok mid.replies.all_ok mid.replies.all_ok
     i.2 i.3 i.4 mid.line.one_line c.in_default.ensures e refl)

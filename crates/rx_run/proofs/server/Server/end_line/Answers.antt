@@ -1,6 +1,6 @@
 use Rattle.std.proofs.Common.{refl}
 use Rattle.std.proofs.lemmas.Result.{on_ok_weaker}
-use Rattle.rx_run.proofs.Servings.{serves_whole, serves_end, on_ok_both}
+use Rattle.rx_run.proofs.Serving.{serves_whole, serves_end, on_ok_both}
 use Rattle.rx_run.proofs.server.Server.end_line.Goals as goal
 
 pub returns-then-is_empty : goal.returns-then-is_empty

@@ -1,7 +1,7 @@
 use Rattle.std.proofs.Common.{◌≡◌, ◌∙◌, ap, sym, [], ◌++◌, List, ℕ}
 use Rattle.std.proofs.KnownBytes.{Appends-nil}
 use Rattle.std.proofs.lemmas.Result.{err_from_is_err_and}
-use Rattle.rx_run.proofs.Servings.{halts_nothing, halts_serving}
+use Rattle.rx_run.proofs.Serving.{halts_nothing, halts_serving}
 use Rattle.rx_run.proofs.server.Server.feed.Goals as goal
 
 pub returns-in_err-answer_lines-clause-err : goal.returns-in_err-answer_lines-clause-err

@@ -4,7 +4,7 @@ use Rattle.std.proofs.lemmas.Bool.{false≢true}
 use Rattle.std.proofs.lemmas.Result.{err_from_is_err_and}
 use Rattle.std.specs.Io.KnownBytes.{Appends}
 use Rattle.rx_run.specs.Serving.{Ends}
-use Rattle.rx_run.proofs.Servings.{ends_nothing, ends_last, halts_nothing, halts_ending}
+use Rattle.rx_run.proofs.Serving.{ends_nothing, ends_last, halts_nothing, halts_ending}
 use Rattle.rx_run.proofs.server.Server.finish.Goals as goal
 
 pub returns-then-is_empty-clause-ok : goal.returns-then-is_empty-clause-ok

@@ -1,14 +1,14 @@
 use Rattle.std.proofs.Common.{◌+◌, ◌^◌, ◌<◌, ◌≤◌, length, refl, rules, sym, ap, subst, arith, length-drop}
 use Rattle.std.proofs.lemmas.List.Elements.{All-drop}
 use Rattle.std.specs.Prelude.{All}
-use Rattle.rx_units.specs.Quoted.Texts.{opened, byte_count, Leads, no_element}
+use Rattle.rx_units.specs.Quoted.Texts.{place_after_opening, byte_count, Leads, no_element}
 use Rattle.rx_units.proofs.Quoted.Turns.{place, turn}
 use Rattle.rx_units.proofs.Quoted.Widths.{byte_split, taken}
 use Rattle.rx_units.proofs.quoted_text.reading.elements.Goals as goal
 
 pub loop-element-init : goal.loop-element-init
 loop-element-init c = record {
-  leads = subst (λ us. Leads c.args.literal c.args.options (opened c.args.options c.args.inner.now) (place us (c.args.options.span_offset + 1) c.args.inner.now)) (sym c.new-units.ensures) no_element;
+  leads = subst (λ us. Leads c.args.literal c.args.options (place_after_opening c.args.options c.args.inner.now) (place us (c.args.options.span_offset + 1) c.args.inner.now)) (sym c.new-units.ensures) no_element;
   bytes = refl;
   code_points = c.requires.code_points;
 }
@@ -40,7 +40,7 @@ pub loop-element-preserved : goal.loop-element-preserved
 loop-element-preserved c =
     let part = byte_split c.in-Some.length c.loop-element.rest.now in
     record {
-      leads = turn c.args.literal c.args.options (opened c.args.options c.args.inner.now) c.loop-element.units c.loop-element.offset c.loop-element.rest.now c.in-Some.element c.in-Some.length
+      leads = turn c.args.literal c.args.options (place_after_opening c.args.options c.args.inner.now) c.loop-element.units c.loop-element.offset c.loop-element.rest.now c.in-Some.element c.in-Some.length
           c.push_element.new.units (c.loop-element.offset + c.width.result) c.rest_after-rest.result.now c.loop-element.invariant.leads c.in-Some.ensures.0 c.in-Some.ensures.1
           (omega (arith, c.width.ensures)) c.rest_after-rest.ensures c.in_ok-push_element.ensures.ok;
       bytes = omega (arith, part, c.loop-element.invariant.bytes, c.width.ensures, ap byte_count c.rest_after-rest.ensures);

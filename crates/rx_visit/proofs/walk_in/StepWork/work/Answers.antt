@@ -2,7 +2,8 @@ use Rattle.std.proofs.Common.{ap, arith, length}
 use Rattle.std.specs.List.{flat_map}
 use Rattle.rx_ast.specs.Kinds.{order}
 use Rattle.rx_tasks.proofs.Turns.{leads_done}
-use Rattle.rx_visit.proofs.Steps.{leads_entered, leads_passed, visits_none, within_first}
+use Rattle.rx_visit.proofs.Orders.{first_length}
+use Rattle.rx_visit.proofs.Steps.{leads_entered, leads_passed, visits_none}
 use Rattle.rx_visit.proofs.walk_in.StepWork.work.Goals as goal
 
 pub returns-in-Leave-clause-leads : goal.returns-in-Leave-clause-leads
@@ -16,7 +17,7 @@ returns-then-enter_node-clause-leads g c = rw c.in-Visit.is (leads_entered c.in-
 
 pub returns-then-enter_node-clause-lighter : goal.returns-then-enter_node-clause-lighter
 returns-then-enter_node-clause-lighter g c =
-    let sized = within_first c.in-Visit.siblings c.in-Some.following _ c.in-Some.ensures in
+    let sized = first_length c.in-Visit.siblings c.in-Some.following _ c.in-Some.ensures in
     let same = ap (λ ks. length (flat_map order ks)) c.children_of.ensures in
     rw c.in-Visit.is (omega arith)
 
@@ -24,4 +25,6 @@ pub returns-else-enter_node-clause-leads : goal.returns-else-enter_node-clause-l
 returns-else-enter_node-clause-leads g c = rw c.in-Visit.is (leads_passed c.enter_node.new.self c.in-Visit.siblings c.in-Some.following c.in-Some.ensures c.if-enter_node.ensures c.leave_node-in-Visit.ensures)
 
 pub returns-else-enter_node-clause-lighter : goal.returns-else-enter_node-clause-lighter
-returns-else-enter_node-clause-lighter g c = let sized = within_first c.in-Visit.siblings c.in-Some.following _ c.in-Some.ensures in rw c.in-Visit.is (omega arith)
+returns-else-enter_node-clause-lighter g c =
+    let sized = first_length c.in-Visit.siblings c.in-Some.following _ c.in-Some.ensures in
+    rw c.in-Visit.is (omega arith)

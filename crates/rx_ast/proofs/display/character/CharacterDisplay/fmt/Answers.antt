@@ -2,7 +2,7 @@ use Rattle.std.proofs.Common.{ap, sym, ◌∙◌}
 use Rattle.std.specs.Char.{encode_utf8}
 use Rattle.rx_ast.specs.Shown.{kind_shown}
 use Rattle.rx_ast.proofs.Characters.{shown_as_null, shown_by_kind, shown_by_number}
-use Rattle.rx_ast.proofs.Shows.{same_shown}
+use Rattle.rx_ast.proofs.FormatterWrites.{same_shown}
 use Rattle.rx_ast.proofs.display.character.CharacterDisplay.fmt.Goals as goal
 
 pub returns-in-Some-clause-writes : goal.returns-in-Some-clause-writes

@@ -1,7 +1,7 @@
 use Rattle.std.proofs.Common.{sym, codes}
 use Rattle.std.specs.Char.{encode_utf8}
 use Rattle.rx_ast.specs.Shown.{character_shown}
-use Rattle.rx_ast.proofs.Shows.{encoded_three, other_bytes}
+use Rattle.rx_ast.proofs.FormatterWrites.{encoded_three, other_bytes}
 use Rattle.rx_ast.proofs.display.class.CharacterClassRangeDisplay.fmt.Goals as goal
 
 pub returns-clause-writes : goal.returns-clause-writes

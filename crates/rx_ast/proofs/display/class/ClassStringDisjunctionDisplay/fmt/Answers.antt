@@ -1,7 +1,7 @@
 use Rattle.std.proofs.Common.{◌++◌, codes}
 use Rattle.std.specs.Char.{encode_utf8}
 use Rattle.rx_ast.specs.Shown.{strings_shown}
-use Rattle.rx_ast.proofs.Shows.{shown_then}
+use Rattle.rx_ast.proofs.FormatterWrites.{shown_then}
 use Rattle.rx_ast.proofs.display.class.ClassStringDisjunctionDisplay.fmt.Goals as goal
 
 pub returns-clause-writes : goal.returns-clause-writes

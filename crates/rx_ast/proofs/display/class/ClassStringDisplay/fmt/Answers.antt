@@ -1,5 +1,5 @@
 use Rattle.rx_ast.proofs.ClassShown.{characters_next}
-use Rattle.rx_ast.proofs.Shows.{left_then}
+use Rattle.rx_ast.proofs.FormatterWrites.{left_then}
 use Rattle.rx_ast.proofs.display.class.ClassStringDisplay.fmt.Goals as goal
 
 pub loop-character-preserved : goal.loop-character-preserved

@@ -1,6 +1,6 @@
 use Rattle.std.proofs.Common.{drop}
 use Rattle.rx_ast.specs.Shown.{characters_shown}
-use Rattle.rx_ast.proofs.Shows.{Left}
+use Rattle.rx_ast.proofs.FormatterWrites.{Left}
 use Rattle.rx_ast.proofs.display.class.ClassStringDisplay.fmt.Given as goal
 
 abbrev pub invariant-loop-character : goal.invariant-loop-character

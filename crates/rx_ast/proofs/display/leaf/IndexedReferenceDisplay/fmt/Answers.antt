@@ -2,7 +2,7 @@ use Rattle.std.proofs.Common.{refl, sym, arith, codes}
 use Rattle.std.specs.Char.{encode_utf8}
 use Rattle.std.specs.Fmt.{decimal}
 use Rattle.rx_ast.proofs.OwnBytes.{own_bytes_then, own_bytes_decimal}
-use Rattle.rx_ast.proofs.Shows.{other_bytes}
+use Rattle.rx_ast.proofs.FormatterWrites.{other_bytes}
 use Rattle.rx_ast.proofs.display.leaf.IndexedReferenceDisplay.fmt.Goals as goal
 
 pub returns-clause-writes : goal.returns-clause-writes

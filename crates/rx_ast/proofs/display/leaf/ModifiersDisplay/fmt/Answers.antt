@@ -1,6 +1,6 @@
 use Rattle.std.proofs.Common.{◌++◌}
 use Rattle.rx_ast.specs.Texts.{dash, letters}
-use Rattle.rx_ast.proofs.Shows.{shown_then}
+use Rattle.rx_ast.proofs.FormatterWrites.{shown_then}
 use Rattle.rx_ast.proofs.display.leaf.ModifiersDisplay.fmt.Goals as goal
 
 pub returns-clause-writes : goal.returns-clause-writes

@@ -1,7 +1,7 @@
 use Rattle.std.proofs.Common.{codes}
 use Rattle.std.specs.Char.{encode_utf8}
 use Rattle.rx_base.proofs.Messages.{named_between}
-use Rattle.rx_ast.proofs.Shows.{other_bytes}
+use Rattle.rx_ast.proofs.FormatterWrites.{other_bytes}
 use Rattle.rx_ast.proofs.display.leaf.NamedReferenceDisplay.fmt.Goals as goal
 
 pub returns-clause-writes : goal.returns-clause-writes

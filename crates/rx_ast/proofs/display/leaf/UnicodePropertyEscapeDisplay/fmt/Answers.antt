@@ -4,7 +4,7 @@ use Rattle.std.specs.Str.{chars, encode_utf8_all, IsUtf8}
 use Rattle.std.proofs.lemmas.Str.{encodes-append}
 use Rattle.rx_base.specs.Texts.{are_same}
 use Rattle.rx_ast.specs.Texts.{property_opener, property_text}
-use Rattle.rx_ast.proofs.Shows.{encoded, encoded_three, other_bytes}
+use Rattle.rx_ast.proofs.FormatterWrites.{encoded, encoded_three, other_bytes}
 use Rattle.rx_ast.proofs.display.leaf.UnicodePropertyEscapeDisplay.fmt.Goals as goal
 
 -- the opener, a name or a value and the end

@@ -1,7 +1,7 @@
 use Rattle.std.proofs.Common.{ap, false}
 use Rattle.rx_ast.specs.Shown.{nodes_shown}
 use Rattle.rx_ast.proofs.Equations.{alternative_is}
-use Rattle.rx_ast.proofs.Shows.{same_shown}
+use Rattle.rx_ast.proofs.FormatterWrites.{same_shown}
 use Rattle.rx_ast.proofs.display.term.AlternativeDisplay.fmt.Goals as goal
 
 pub returns-clause-writes : goal.returns-clause-writes

@@ -1,7 +1,7 @@
 use Rattle.std.proofs.Common.{ap, sym}
 use Rattle.rx_ast.specs.Shown.{node_shown}
 use Rattle.rx_ast.proofs.Equations.{capturing_is}
-use Rattle.rx_ast.proofs.Shows.{same_shown}
+use Rattle.rx_ast.proofs.FormatterWrites.{same_shown}
 use Rattle.rx_ast.proofs.display.term.CapturingGroupDisplay.fmt.Goals as goal
 
 pub returns-clause-writes : goal.returns-clause-writes

@@ -1,7 +1,7 @@
 use Rattle.std.proofs.Common.{ap}
 use Rattle.rx_ast.specs.Shown.{alternatives_shown}
 use Rattle.rx_ast.proofs.Equations.{disjunction_is}
-use Rattle.rx_ast.proofs.Shows.{same_shown}
+use Rattle.rx_ast.proofs.FormatterWrites.{same_shown}
 use Rattle.rx_ast.proofs.display.term.DisjunctionDisplay.fmt.Goals as goal
 
 pub returns-clause-writes : goal.returns-clause-writes

@@ -1,0 +1,454 @@
+-- An item of a class is an atom, or a range of two atoms with a `-` between them.
+use Rattle.std.proofs.Common.{◌≡◌, refl, sym, ap, ◌∙◌, subst, ℕ, ◌+◌, ◌<◌, ◌≤◌, ◌==◌, Bool, true, false, not, ◌&&◌, Some, Ok, Err, List, [], ◌∷◌, ◌++◌, length, arith, inl, inr, append_assoc, length-append}
+use Rattle.std.proofs.lemmas.Bool.{eqb-true, leb-true, true≢false, not-true}
+use Rattle.std.proofs.lemmas.Bool.Decides.{nat_tests}
+use Rattle.rx_base.specs.declared.diagnostic.Diagnostic.{Diagnostic}
+use Rattle.rx_base.specs.declared.fault.Fault.{Fault}
+use Rattle.rx_base.specs.declared.fault.Fault.TheVariants as fault
+use Rattle.rx_base.specs.declared.span.Span.{Span}
+use Rattle.rx_ast.specs.declared.leaf.Character.{Character}
+use Rattle.rx_ast.specs.declared.leaf.CharacterKind.TheVariants as kinds
+use Rattle.rx_ast.specs.declared.class.CharacterClassContents.{CharacterClassContents}
+use Rattle.rx_ast.specs.declared.class.CharacterClassRange.{CharacterClassRange}
+use Rattle.rx_ast.specs.ClassTree.{mirror_contents}
+use Rattle.rx_ast.specs.ClassTree as tree
+use Rattle.rx_units.specs.declared.code_point.CodePoint.{CodePoint}
+use Rattle.rx_units.specs.Cursor.{Cursor, front, move_on, offset_of, rest}
+use Rattle.rx_units.specs.Units.{offset_at, values}
+use Rattle.rx_model.specs.FirstPass.Marks.{starts}
+use Rattle.rx_model.specs.Refusals.ClassCauses.{StandsRange, is_character}
+use Rattle.rx_model.specs.Refusals.ClassCauses as cause
+use Rattle.rx_model.specs.Refusals.ClassPlaces.{IsItemPlace, IsSecondPlace}
+use Rattle.rx_model.specs.Classes.ClassRows.{BeforeThird, ClassRow, SpellsAtom, fresh, is_dashed}
+use Rattle.rx_model.specs.Classes.ClassRuns.{atom_obeys}
+use Rattle.rx_model.specs.Classes.ClassTokens.{Atom, character, item, leave, member_events, token, within}
+use Rattle.rx_model.specs.Trees.Early.{IsEarlyMember, member_strings}
+use Rattle.rx_model.specs.Inputs.Environment.{Environment, is_sets, is_unicode}
+use Rattle.rx_model.specs.Refusals.Reached.{span_between, class_environment}
+use Rattle.rx_units.proofs.Choices.{both}
+use Rattle.rx_model.proofs.Classes.ClassFronts.{atom_some, after_first, after_one}
+use Rattle.rx_model.proofs.Inputs.Modes.{unicode_alone}
+use Rattle.rx_model.proofs.Properties.PropertyFlags.{strings_by_name}
+use Rattle.rx_model.proofs.Classes.PieceClasses.{legacy_threes}
+use Rattle.rx_class.specs.declared.classes.atom.ClassAtom.{ClassAtom}
+use Rattle.rx_class.specs.declared.classes.atom.ClassAtom.TheVariants as atom
+use Rattle.rx_class.specs.declared.classes.item.ClassItem.{ClassItem}
+use Rattle.rx_class.specs.declared.classes.item.ClassItem.TheVariants as given_item
+use Rattle.rx_class.specs.EscapeReading.Answers.{span_to}
+use Rattle.rx_class.specs.ClassReading.Items.{GivesAtom, GivesItem, IsAtomCause, IsBetween, IsItem, IsItemCause, IsOfText, IsPlain, StandsItem, atom_member, atom_of, atom_span, between, hyphen_member, item_members, stands_alone, stands_range}
+use Rattle.rx_class.specs.ClassReading.Items as items
+use Rattle.rx_class.proofs.Keeping.{Passes, keeps_from, passes_keeps, passes_moved, passes_on, passes_over}
+use Rattle.rx_class.proofs.ClassReading.Places.{operand_place}
+use Rattle.rx_class.proofs.Modes.{no_strings}
+use Rattle.rx_class.proofs.PropertyReading.Spans.{next_span}
+
+-- Two atoms that are no range are three items but with `u`.
+unless_three : {unicode characters : Bool} → characters ≡ false → (not unicode && not characters) ≡ false → unicode ≡ true
+unless_three {unicode} {characters} apart no_three = grind (arith, apart, no_three)
+
+-- what is asked of two atoms, by the environment
+pub three_test : {mode unicode test answer : Bool} (characters : Bool) → unicode ≡ mode → test ≡ (not unicode && not characters) → test ≡ answer → (not mode && not characters) ≡ answer
+three_test characters same is_test is_answer = ap (λ unicode. not unicode && not characters) (sym same) ∙ sym is_test ∙ is_answer
+
+-- a `-` at the front, after which an item may stand
+record DashFront (us : List CodePoint) : Type 0 where
+  hyphen : CodePoint
+  following : List CodePoint
+  whole : us ≡ hyphen ∷ following
+  hyphen_is : hyphen.value ≡ 45
+  stands : StandsItem following
+
+dash_front : (us : List CodePoint) → is_dashed (values us) ≡ true → DashFront us
+dash_front (u ∷ v ∷ us) h =
+    let b = both (u.value == 45) (not (v.value == 93)) h in
+    record {
+      hyphen = u;
+      following = v ∷ us;
+      whole = refl;
+      hyphen_is = eqb-true u.value 45 b.0;
+      stands = record { some = λ e. let no : ⊥ = cc e in no; no_closer = not-true (v.value == 93) b.1 };
+    }
+dash_front us h = absurd (let no : ⊥ = cc h in no)
+
+-- Before another character than a `-` no range goes on.
+undashed : (u : CodePoint) (us : List CodePoint) → (u.value == 45) ≡ false → is_dashed (values (u ∷ us)) ≡ false
+undashed u [] h = refl
+undashed u (v ∷ us) h = ap (λ b. b && not (v.value == 93)) h
+
+-- What stands alone is no backslash.
+pub alone_begins : (w : List ℕ) → stands_alone w ≡ true → starts 92 w ≡ false
+alone_begins (c ∷ d ∷ w) h = not-true (c == 92) (both (not (c == 92)) (not (d == 45)) h).0
+alone_begins w h = absurd (let no : ⊥ = cc h in no)
+
+-- A range of two units stands next, and other readers stand after its first unit and after the `-`.
+pub record RangeFront (old to mid : Cursor) : Type 0 where
+  pub low : CodePoint
+  pub high : CodePoint
+  pub following : List CodePoint
+  pub whole : rest mid ≡ high ∷ following
+  pub first : rest old ≡ low ∷ rest to
+  pub low_begins : (low.value == 92) ≡ false
+  pub dashed : is_dashed (values (rest to)) ≡ true
+  pub high_begins : (high.value == 92) ≡ false
+  pub no_closer : (high.value == 93) ≡ false
+  pub ordered : low.value ≤ high.value
+
+-- what the test of a range says
+range_parts : (c h d : ℕ) (w : List ℕ) → stands_range (c ∷ h ∷ d ∷ w) ≡ true → ((c == 92) ≡ false) × ((h == 45 && not (d == 93)) ≡ true) × ((d == 92) ≡ false) × ((d == 93) ≡ false) × (c ≤ d)
+range_parts c h d w is = (grind (arith, nat_tests), grind (arith, nat_tests), grind (arith, nat_tests), grind (arith, nat_tests), grind (arith, nat_tests))
+
+pub range_front : (old to mid : Cursor) (us : List CodePoint) → rest old ≡ us → stands_range (values us) ≡ true → to ≡ move_on 1 old → mid ≡ move_on 1 to → RangeFront old to mid
+range_front old to mid (u ∷ h ∷ d ∷ us) whole is t m =
+    let p = passes_moved old to (u ∷ []) (h ∷ d ∷ us) whole (omega arith) t in
+    let q = passes_moved to mid (h ∷ []) (d ∷ us) p.1 (omega arith) m in
+    let parts = range_parts u.value h.value d.value (values us) is in
+    record {
+      low = u;
+      high = d;
+      following = us;
+      whole = q.1;
+      first = whole ∙ ap (λ us. u ∷ us) (sym p.1);
+      low_begins = parts.0;
+      dashed = ap (λ us. is_dashed (values us)) p.1 ∙ parts.1;
+      high_begins = parts.2;
+      no_closer = parts.3;
+      ordered = parts.4;
+    }
+range_front old to mid us whole is t m = absurd (let no : ⊥ = cc is in no)
+
+module _ {old to mid : Cursor} (f : RangeFront old to mid) where
+  pub range_begins : starts 92 (values (rest old)) ≡ false
+  range_begins = ap (λ us. starts 92 (values us)) f.first ∙ f.low_begins
+
+  pub range_goes_on : starts 92 (values (rest mid)) ≡ false
+  range_goes_on = ap (λ us. starts 92 (values us)) f.whole ∙ f.high_begins
+
+  pub range_high_stands : StandsItem (rest mid)
+  range_high_stands = record { some = λ e. let no : ⊥ = cc (f.whole, e) in no; no_closer = ap (λ us. starts 93 (values us)) f.whole ∙ f.no_closer }
+
+  pub range_ordered : (min max : ℕ) → front (rest old) ≡ Some min → front (rest mid) ≡ Some max → min ≤ max
+  range_ordered min max low high =
+      let first : Some f.low.value ≡ Some min = sym (ap front f.first) ∙ low in
+      let last : Some f.high.value ≡ Some max = sym (ap front f.whole) ∙ high in
+      let is_min : f.low.value ≡ min = cc first in
+      let is_max : f.high.value ≡ max = cc last in
+      omega (arith, f.ordered, is_min, is_max)
+
+-- An atom as a member of a class.
+pub atom_events : (a : ClassAtom) → member_events (atom_member a) ≡ within (atom_span a) (token (item (atom_of a)) ∷ [])
+atom_events (atom.Character c) = refl
+atom_events (atom.Escape c) = refl
+atom_events (atom.Property p) = refl
+
+atom_early : (e : Environment) (a : ClassAtom) (w more : List CodePoint) → SpellsAtom e (atom_of a) w more → atom_obeys (atom_of a) ≡ true → IsEarlyMember (atom_member a)
+atom_early e (atom.Character c) w more s o = leb-true c.value 0x10FFFF o
+atom_early e (atom.Escape c) w more s o = tt
+atom_early e (atom.Property p) w more s o = (strings_by_name e.mode p.strings p.name p.value s.text s.spelled, not-true (p.negative && p.strings) o)
+
+atom_plain : (a : ClassAtom) → IsPlain (atom_member a)
+atom_plain (atom.Character c) = tt
+atom_plain (atom.Escape c) = tt
+atom_plain (atom.Property p) = tt
+
+atom_no_strings : (e : Environment) (a : ClassAtom) (w more : List CodePoint) → is_sets e.mode ≡ false → SpellsAtom e (atom_of a) w more → member_strings (atom_member a) ≡ false
+atom_no_strings e (atom.Character c) w more no_sets s = refl
+atom_no_strings e (atom.Escape c) w more no_sets s = refl
+atom_no_strings e (atom.Property p) w more no_sets s = no_strings e.mode p.strings p.name p.value s.text no_sets s.spelled
+
+module _ (e : Environment) (added : ℕ) (old : Cursor) where
+  -- the reader at another place of its text
+  abbrev at : ℕ → Cursor
+  at place = record old { place = place }
+
+  -- the offset of a place
+  abbrev offset : ℕ → ℕ
+  offset i = offset_at old.first old.units i + added
+
+  -- An atom stands at a place, and the reader has moved over it.
+  pub record AtomStands (place : ℕ) (new : Cursor) (it : ClassAtom) : Type 0 where
+    pub w : List CodePoint
+    pub passes : Passes (at place) new w
+    pub spelled : SpellsAtom e (atom_of it) w (rest new)
+    pub obeys : atom_obeys (atom_of it) ≡ true
+    pub span : atom_span it ≡ between (offset place) (offset (place + length w))
+
+  pub atom_stands : (place : ℕ) (new : Cursor) (it : ClassAtom) → GivesAtom e added (at place) new (Ok it) → AtomStands place new it
+  atom_stands place new it (items.some w more whole spelled obeys span moves) =
+      let p = passes_moved (at place) new w more whole (atom_some e (atom_of it) w more spelled) moves in
+      record { w = w; passes = p.0; spelled = subst (SpellsAtom e (atom_of it) w) (sym p.1) spelled; obeys = obeys; span = span }
+
+  -- After an atom memory ran out.
+  pub out_of_memory : {new : Cursor} {it : ClassAtom} → GivesAtom e added old new (Ok it) → GivesItem e added old new (Err fault.OutOfMemory)
+  out_of_memory {new} {it} g = let f = atom_stands old.place new it g in items.no_memory (passes_keeps f.passes)
+
+  -- An atom with no range after it is an item.
+  alone_row : (a : Atom) (s : Span) (w more : List CodePoint) → SpellsAtom e a w more → is_dashed (values more) ≡ false → s ≡ between (offset old.place) (offset (old.place + length w))
+      → ClassRow e offset (within s (token (item a) ∷ [])) fresh old.place (w ++ more) fresh (old.place + length w) more
+  alone_row a s w more spells alone is = (ap (λ (s : Span). s.start) is, (w, more, refl, (spells, inl alone), (ap (λ (s : Span). s.end) is, (after_one e a more alone, refl, refl))))
+
+  alone_is : (it : ClassAtom) (w more : List CodePoint) → is_sets e.mode ≡ false → SpellsAtom e (atom_of it) w more → atom_obeys (atom_of it) ≡ true → is_dashed (values more) ≡ false
+      → atom_span it ≡ between (offset old.place) (offset (old.place + length w)) → IsItem e offset old.place (atom_member it ∷ []) w more
+  alone_is it w more no_sets s o d is = record {
+    some = atom_some e (atom_of it) w more s;
+    row = rw (atom_events it) (alone_row (atom_of it) (atom_span it) w more s d is);
+    early = (atom_early e it w more s o, tt);
+    plain = (atom_plain it, tt);
+    no_strings = rw (atom_no_strings e it w more no_sets s) refl;
+  }
+
+  pub alone_gives : {new : Cursor} {it : ClassAtom} {given : CharacterClassContents} {us : List CodePoint} {b : Bool} → is_sets e.mode ≡ false → GivesAtom e added old new (Ok it) → us ≡ rest new
+      → b ≡ is_dashed (values us) → b ≡ false → mirror_contents given ≡ atom_member it → GivesItem e added old new (Ok (given_item.One given))
+  alone_gives {new} {it} {given} {us} {b} no_sets g same is_test is_false m =
+      let f = atom_stands old.place new it g in
+      let alone = ap (λ us. is_dashed (values us)) (sym same) ∙ sym is_test ∙ is_false in
+      items.some f.w (rest new) f.passes.whole (rw m (alone_is it f.w (rest new) no_sets f.spelled f.obeys alone f.span)) (passes_over f.passes)
+
+  -- So is a unit that stands alone.
+  lone_undashed : (new : Cursor) (us : List CodePoint) → rest old ≡ us → new ≡ move_on 1 old → stands_alone (values us) ≡ true → is_dashed (values (rest new)) ≡ false
+  lone_undashed new (u ∷ v ∷ us) whole moves h =
+      ap (λ us. is_dashed (values us)) (passes_moved old new (u ∷ []) (v ∷ us) whole (omega arith) moves).1
+      ∙ undashed v us (not-true (v.value == 45) (both (not (u.value == 92)) (not (v.value == 45)) h).1)
+  lone_undashed new us whole moves h = absurd (let no : ⊥ = cc h in no)
+
+  pub lone_gives : {new : Cursor} {it : ClassAtom} {given : CharacterClassContents} → is_sets e.mode ≡ false → GivesAtom e added old new (Ok it) → new ≡ move_on 1 old → stands_alone (values (rest old)) ≡ true
+      → mirror_contents given ≡ atom_member it → GivesItem e added old new (Ok (given_item.One given))
+  lone_gives {new} no_sets g moves alone m = alone_gives no_sets g refl refl (lone_undashed new (rest old) refl moves alone) m
+
+  -- An atom and the `-` of a range stand at a reader's place, and the reader moved over both.
+  pub record DashStands (new : Cursor) (it : ClassAtom) (hyphen_at : Span) : Type 0 where
+    pub w : List CodePoint
+    pub hyphen : CodePoint
+    pub passes : Passes old new (w ++ (hyphen ∷ []))
+    pub hyphen_is : hyphen.value ≡ 45
+    pub dashed : is_dashed (values (hyphen ∷ rest new)) ≡ true
+    pub stands : StandsItem (rest new)
+    pub spelled : SpellsAtom e (atom_of it) w (hyphen ∷ rest new)
+    pub obeys : atom_obeys (atom_of it) ≡ true
+    pub span : atom_span it ≡ between (offset old.place) (offset (old.place + length w))
+    pub hyphen_span : hyphen_at ≡ between (offset (old.place + length w)) (offset (old.place + length w + 1))
+
+  pub dash_given : {to new : Cursor} {it : ClassAtom} {us : List CodePoint} {b : Bool} {start : ℕ} {hyphen : Span} → GivesAtom e added old to (Ok it) → us ≡ rest to → b ≡ is_dashed (values us) → b ≡ true
+      → start ≡ offset_of to → new ≡ move_on 1 to → hyphen ≡ span_to added start new → DashStands new it hyphen
+  dash_given {to} {new} {it} {us} {b} {start} {hyphen = hyphen_at} g same is_test is_true starts moves covers =
+      let f = atom_stands old.place to it g in
+      let d = dash_front us (sym is_test ∙ is_true) in
+      let p = passes_moved to new (d.hyphen ∷ []) d.following (sym same ∙ d.whole) (omega arith) moves in
+      let hyphen = p.0 in
+      record {
+        w = f.w;
+        hyphen = d.hyphen;
+        passes = passes_on f.passes hyphen;
+        hyphen_is = d.hyphen_is;
+        dashed = ap (λ us. is_dashed (values us)) (sym hyphen.whole ∙ sym same) ∙ sym is_test ∙ is_true;
+        stands = subst StandsItem (sym p.1) d.stands;
+        spelled = subst (SpellsAtom e (atom_of it) f.w) hyphen.whole f.spelled;
+        obeys = f.obeys;
+        span = f.span;
+        hyphen_span = next_span to new added start hyphen_at starts moves covers ∙ ap (λ (r : Cursor). span_between r.units r.first added r.place (r.place + 1)) f.passes.moves;
+      }
+
+  -- the place after the `-`
+  pub dash_at : {new : Cursor} {it : ClassAtom} {h : Span} (d : DashStands new it h) → new ≡ at (old.place + length d.w + 1)
+  dash_at d = d.passes.moves ∙ ap at (omega (arith, length-append d.w (d.hyphen ∷ [])))
+
+  pub dash_whole : {new : Cursor} {it : ClassAtom} {h : Span} (d : DashStands new it h) → rest old ≡ d.w ++ (d.hyphen ∷ rest new)
+  dash_whole {new} {it} {h} d = d.passes.whole ∙ append_assoc d.w (d.hyphen ∷ []) (rest new)
+
+  -- A fault of an atom at some place is one of the item.
+  fault_of : (place : ℕ) (new : Cursor) (given : Fault) → ((d : Diagnostic) → IsAtomCause e added (at place) d → IsItemCause e added old d)
+      → GivesAtom e added (at place) new (Err given) → GivesItem e added old new (Err given)
+  fault_of place new _ causes (items.refused {diagnostic = d} c keeps) = items.refused (causes d c) (keeps_from place old new keeps)
+  fault_of place new _ causes (items.no_memory keeps) = items.no_memory (keeps_from place old new keeps)
+
+  pub first_gives : {new : Cursor} {given : Fault} → is_sets e.mode ≡ false → GivesAtom e added old new (Err given) → GivesItem e added old new (Err given)
+  first_gives {new} {given} no_sets g = fault_of old.place new given (λ d c same from at_class p. (old.place, c same from at_class (inl (operand_place no_sets p)))) g
+
+  pub second_gives : {to new : Cursor} {low : ClassAtom} {h : Span} {given : Fault} → is_sets e.mode ≡ false → DashStands to low h → GivesAtom e added to new (Err given) → GivesItem e added old new (Err given)
+  second_gives {to} {new} {low} {h} {given} no_sets d g =
+      fault_of second new given (λ cause c same from at_class p. (
+        second,
+        c same from at_class (inr (inl (subst (IsSecondPlace e from at_class second) (ap rest (dash_at d)) record {
+          first = old.place;
+          atom = atom_of low;
+          w = d.w;
+          hyphen = d.hyphen;
+          item_place = subst (IsItemPlace e from at_class old.place) (dash_whole d) p;
+          hyphen_is = d.hyphen_is;
+          dashed = d.dashed;
+          spelled = d.spelled;
+          of_union = λ sets. absurd (true≢false (sym sets ∙ no_sets));
+          place_is = refl;
+        }))),
+      ))
+      (subst (λ r. GivesAtom e added r new (Err given)) (dash_at d) g)
+    where
+      second : ℕ
+      second = old.place + length d.w + 1
+
+  -- Two atoms with a `-` between them stand at a reader's place, and the reader moved over them.
+  pub record PairStands (new : Cursor) (low high : ClassAtom) (hyphen_at : Span) : Type 0 where
+    pub to : Cursor
+    pub dash : DashStands to low hyphen_at
+    pub second : AtomStands (old.place + length dash.w + 1) new high
+    pub passes : Passes old new (dash.w ++ (dash.hyphen ∷ second.w))
+    pub low_is : SpellsAtom e (atom_of low) dash.w (dash.hyphen ∷ (second.w ++ rest new))
+    pub dashed : is_dashed (values (dash.hyphen ∷ (second.w ++ rest new))) ≡ true
+
+  pub pair_given : {to new : Cursor} {low high : ClassAtom} {h : Span} → DashStands to low h → GivesAtom e added to new (Ok high) → PairStands new low high h
+  pair_given {to} {new} {low} {high} {h} d g =
+      let f = atom_stands (old.place + length d.w + 1) new high (subst (λ r. GivesAtom e added r new (Ok high)) (dash_at d) g) in
+      let q = subst (λ r. Passes r new f.w) (sym (dash_at d)) f.passes in
+      record {
+        to = to;
+        dash = d;
+        second = f;
+        passes = subst (Passes old new) (append_assoc d.w (d.hyphen ∷ []) f.w) (passes_on d.passes q);
+        low_is = subst (λ us. SpellsAtom e (atom_of low) d.w (d.hyphen ∷ us)) q.whole d.spelled;
+        dashed = ap (λ us. is_dashed (values (d.hyphen ∷ us))) (sym q.whole) ∙ d.dashed;
+      }
+
+  module _ (new : Cursor) where
+    pub pair_out_of_memory : {low high : ClassAtom} {h : Span} → PairStands new low high h → GivesItem e added old new (Err fault.OutOfMemory)
+    pair_out_of_memory {low} {high} {h} p = items.no_memory (passes_keeps p.passes)
+
+    -- Why two atoms are no range is why there is no item.
+    module _ (no_sets : is_sets e.mode ≡ false) where
+      abbrev text : Environment
+      text = class_environment e.mode old.units
+
+      here : IsOfText e old → {low high : ClassAtom} {h : Span} (p : PairStands new low high h) (from : ℕ) (at_class : List CodePoint) → IsItemPlace e from at_class old.place (rest old)
+          → IsItemPlace text from at_class old.place (p.dash.w ++ (p.dash.hyphen ∷ (p.second.w ++ (rest new))))
+      here same {low} {high} {h} p from at_class place =
+          subst (λ t. IsItemPlace t from at_class old.place (p.dash.w ++ (p.dash.hyphen ∷ (p.second.w ++ (rest new))))) same
+          (subst (IsItemPlace e from at_class old.place) (p.passes.whole ∙ append_assoc p.dash.w (p.dash.hyphen ∷ p.second.w) (rest new)) place)
+
+      range_stands : IsOfText e old → (min max : Character) {h : Span} (p : PairStands new (atom.Character min) (atom.Character max) h) → StandsRange text min.value p.dash.w p.dash.hyphen max.value p.second.w (rest new)
+      range_stands same min max {h} p =
+          subst (λ t. StandsRange t min.value p.dash.w p.dash.hyphen max.value p.second.w (rest new)) same record { low_kind = min.kind; low_is = p.low_is; hyphen_is = p.dash.hyphen_is; high_kind = max.kind; high_is = p.second.spelled }
+
+      pub range_refused : (low high : ClassAtom) (diagnostic : Diagnostic) {h : Span} → (not (is_unicode e.mode) && not (is_character (atom_of low) && is_character (atom_of high))) ≡ false → PairStands new low high h → IsBetween low high (Err diagnostic)
+          → GivesItem e added old new (Err (fault.Diagnostic diagnostic))
+      range_refused _ _ _ {h} no_three p (items.out_of_order {min = min} {max = max} less no_dash) =
+          items.refused (rw (p.dash.span, p.second.span) (λ same from at_class place. (
+            old.place,
+            cause.range_out_of_order old.place min.value max.value p.dash.w p.second.w (rest new) p.dash.hyphen no_sets (here same p from at_class place) (range_stands same min max p) less no_dash,
+          )))
+          (passes_keeps p.passes)
+      range_refused _ _ _ {h} no_three p (items.dash_out_of_order {min = min} {max = max} less dash) =
+          items.refused (rw (p.dash.span, p.second.span) (λ same from at_class place. (
+            old.place,
+            cause.dash_out_of_order old.place min.value p.dash.w p.second.w (rest new) p.dash.hyphen no_sets (here same p from at_class place)
+                (subst (λ x. StandsRange text min.value p.dash.w p.dash.hyphen x p.second.w (rest new)) dash (range_stands same min max p)) (subst (λ x. x < min.value) dash less),
+          )))
+          (passes_keeps p.passes)
+      range_refused low high _ {h} no_three p (items.no_character apart) =
+          items.refused (rw (p.dash.span, p.second.span) (λ same from at_class place. (
+            old.place,
+            cause.invalid_range old.place (atom_of low) (atom_of high) p.dash.w p.second.w (rest new) p.dash.hyphen (here same p from at_class place) (unicode_alone e.mode no_sets (unless_three apart no_three))
+                (subst (λ t. SpellsAtom t (atom_of low) p.dash.w (p.dash.hyphen ∷ (p.second.w ++ (rest new)))) same p.low_is) p.dash.hyphen_is (subst (λ t. SpellsAtom t (atom_of high) p.second.w (rest new)) same p.second.spelled) apart,
+          )))
+          (passes_keeps p.passes)
+
+    -- A range of two characters in order is an item.
+    pub range_is : (min max : Character) → min.value ≤ max.value → {h : Span} (p : PairStands new (atom.Character min) (atom.Character max) h)
+        → IsItem e offset old.place (tree.range (record { span = between min.span.start max.span.end; min = min; max = max }) ∷ []) (p.dash.w ++ (p.dash.hyphen ∷ p.second.w)) (rest new)
+    range_is min max ordered {h} p =
+        let start = ap (λ (s : Span). s.start) p.dash.span in
+        let end = ap (λ (s : Span). s.end) p.second.span in
+        let place : old.place + length p.dash.w + 1 + length p.second.w ≡ old.place + length (p.dash.w ++ (p.dash.hyphen ∷ p.second.w)) = omega (arith, length-append p.dash.w (p.dash.hyphen ∷ p.second.w)) in
+        let following = p.second.w ++ (rest new) in
+        record {
+          some = omega (arith, length-append p.dash.w (p.dash.hyphen ∷ p.second.w));
+          row = (
+            start,
+            (
+              start,
+              (
+                p.dash.w,
+                p.dash.hyphen ∷ following,
+                append_assoc p.dash.w (p.dash.hyphen ∷ p.second.w) (rest new),
+                (p.low_is, p.dashed, record { hyphen = p.dash.hyphen; kind = max.kind; value = max.value; w = p.second.w; more = (rest new); whole = refl; hyphen_is = p.dash.hyphen_is; spelled = p.second.spelled }),
+                (
+                  ap (λ (s : Span). s.end) p.dash.span,
+                  (
+                    p.dash.hyphen ∷ [],
+                    following,
+                    refl,
+                    ap (λ c. c ∷ []) p.dash.hyphen_is,
+                    (ap (λ (s : Span). s.start) p.second.span, (p.second.w, (rest new), refl, p.second.spelled, (end, (end, (refl, place, refl))))),
+                  ),
+                ),
+              ),
+            ),
+          );
+          early = ((leb-true min.value 0x10FFFF p.dash.obeys, leb-true max.value 0x10FFFF p.second.obeys, ordered), tt);
+          plain = (tt, tt);
+          no_strings = refl;
+        }
+
+    pub range_gives : (low high : ClassAtom) (range : CharacterClassRange) (given : CharacterClassContents) {h : Span} → PairStands new low high h → IsBetween low high (Ok range)
+        → mirror_contents given ≡ tree.range range → GivesItem e added old new (Ok (given_item.One given))
+    range_gives _ _ _ given {h} p (items.range {min = min} {max = max} ordered) m =
+        items.some (p.dash.w ++ (p.dash.hyphen ∷ p.second.w)) (rest new) p.passes.whole (rw m (range_is min max ordered p)) (passes_over p.passes)
+
+    -- So is a range of two units.
+    pub units_range_gives : {to mid : Cursor} {min max : Character} {given : CharacterClassContents} → RangeFront old to mid → GivesAtom e added old to (Ok (atom.Character min)) → mid ≡ move_on 1 to
+        → GivesAtom e added mid new (Ok (atom.Character max)) → min.value ≤ max.value → mirror_contents given ≡ tree.range (record { span = between min.span.start max.span.end; min = min; max = max })
+        → GivesItem e added old new (Ok (given_item.One given))
+    units_range_gives {min = min} {max = max} {given = given} f low moves high ordered m =
+        range_gives (atom.Character min) (atom.Character max) _ given (pair_given (dash_given low refl refl f.dashed refl moves refl) high) (items.range ordered) m
+
+    -- With neither `u` nor `v` two atoms of which one is no character are three items, with the `-` between.
+    three_row : (a b : Atom) (s h t : Span) (w v more : List CodePoint) (hyphen : CodePoint) → BeforeThird e a (hyphen ∷ (v ++ more)) → SpellsAtom e a w (hyphen ∷ (v ++ more)) → SpellsAtom e b v more → hyphen.value ≡ 45
+        → s ≡ between (offset old.place) (offset (old.place + length w)) → h ≡ between (offset (old.place + length w)) (offset (old.place + length w + 1))
+        → t ≡ between (offset (old.place + length w + 1)) (offset (old.place + length w + 1 + length v))
+        → ClassRow e offset (within s (token (item a) ∷ []) ++ (within h (token (item (character kinds.Symbol 45)) ∷ []) ++ (within t (token (item b) ∷ []) ++ []))) fresh old.place (w ++ (hyphen ∷ (v ++ more)))
+        fresh (old.place + length w + 1 + length v) more
+    three_row a b s h t w v more hyphen before low high value s_is h_is t_is = rw (s_is, h_is, t_is) (
+      refl,
+      (
+        w,
+        hyphen ∷ (v ++ more),
+        refl,
+        (low, inr (inl before)),
+        subst (λ q. ClassRow e offset (leave (offset (old.place + length w)) ∷ (within (between (offset (old.place + length w)) (offset (old.place + length w + 1))) (token (item (character kinds.Symbol 45)) ∷ [])
+            ++ within (between (offset (old.place + length w + 1)) (offset (old.place + length w + 1 + length v))) (token (item b) ∷ []))) q (old.place + length w) (hyphen ∷ (v ++ more)) fresh
+            (old.place + length w + 1 + length v) more) (sym (after_first e a (hyphen ∷ (v ++ more)) before))
+            (refl, (refl, (hyphen ∷ [], v ++ more, refl, (refl, ap (λ c. c ∷ []) value), (refl, (refl, (v, more, refl, high, (refl, (refl, refl, refl)))))))),
+      ),
+    )
+
+    pub three_gives : {low high : ClassAtom} {h : Span} (given : ClassItem) → is_sets e.mode ≡ false → (not (is_unicode e.mode) && not (is_character (atom_of low) && is_character (atom_of high))) ≡ true → PairStands new low high h
+        → item_members given ≡ atom_member low ∷ hyphen_member h ∷ atom_member high ∷ [] → GivesItem e added old new (Ok given)
+    three_gives {low} {high} {h} given no_sets three p m =
+        items.some (p.dash.w ++ (p.dash.hyphen ∷ p.second.w)) (rest new) p.passes.whole (rw m record {
+          some = omega (arith, length-append p.dash.w (p.dash.hyphen ∷ p.second.w));
+          row = rw (atom_events low, atom_events high, ← place, append_assoc p.dash.w (p.dash.hyphen ∷ p.second.w) (rest new))
+              (three_row (atom_of low) (atom_of high) (atom_span low) h (atom_span high) p.dash.w p.second.w (rest new) p.dash.hyphen before p.low_is p.second.spelled p.dash.hyphen_is p.dash.span p.dash.hyphen_span p.second.span);
+          early = (atom_early e low p.dash.w _ p.low_is p.dash.obeys, (by_computing, (atom_early e high p.second.w _ p.second.spelled p.second.obeys, tt)));
+          plain = (atom_plain low, (tt, (atom_plain high, tt)));
+          no_strings = rw (atom_no_strings e low p.dash.w _ no_sets p.low_is, atom_no_strings e high p.second.w _ no_sets p.second.spelled) refl;
+        }) (passes_over p.passes)
+      where
+        by_computing : 45 ≤ 0x10FFFF
+        by_computing = omega arith
+
+        place : old.place + length p.dash.w + 1 + length p.second.w ≡ old.place + length (p.dash.w ++ (p.dash.hyphen ∷ p.second.w))
+        place = omega (arith, length-append p.dash.w (p.dash.hyphen ∷ p.second.w))
+
+        tests : (not (is_unicode e.mode) ≡ true) × (not (is_character (atom_of low) && is_character (atom_of high)) ≡ true)
+        tests = both (not (is_unicode e.mode)) (not (is_character (atom_of low) && is_character (atom_of high))) three
+
+        before : BeforeThird e (atom_of low) (p.dash.hyphen ∷ (p.second.w ++ rest new))
+        before = record {
+          hyphen = p.dash.hyphen;
+          third = atom_of high;
+          w = p.second.w;
+          more = rest new;
+          whole = refl;
+          hyphen_is = p.dash.hyphen_is;
+          dashed = p.dashed;
+          spelled = p.second.spelled;
+          apart = not-true _ tests.1;
+          threes = legacy_threes e.mode (not-true _ tests.0);
+        }

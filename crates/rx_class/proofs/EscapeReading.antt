@@ -1,0 +1,4 @@
+pub mod Bounds
+pub mod Gives
+pub mod LegacyLooks
+pub mod Steps

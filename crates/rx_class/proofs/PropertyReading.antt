@@ -1,0 +1,6 @@
+pub mod Gives
+pub mod Halts
+pub mod Runs
+pub mod Spans
+pub mod Steps
+pub mod Tables

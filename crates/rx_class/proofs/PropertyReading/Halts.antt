@@ -1,0 +1,122 @@
+-- What is found after `\p{` and `\P{` is what stands there, in a mode that has properties.
+use Rattle.std.proofs.Common.{◌≡◌, ◌≢◌, ℕ, ◌+◌, ◌⊎◌, inl, inr, Bool, true, false, ◌&&◌, List, [], ◌∷◌, ◌++◌, Option, Some, length, refl, sym, ap, ◌∙◌, subst, arith, length-append}
+use Rattle.std.proofs.lemmas.List.{append_assoc}
+use Rattle.std.proofs.Math.Bool.{and-false}
+use Rattle.rx_tables.specs.Properties.{IsValidUnicodeProperty}
+use Rattle.rx_units.specs.declared.code_point.CodePoint.{CodePoint}
+use Rattle.rx_units.specs.Units.{values}
+use Rattle.rx_model.specs.declared.mode.Mode.{Mode}
+use Rattle.rx_ast.specs.Texts.{property_opener}
+use Rattle.rx_model.specs.Refusals.EscapeCauses.{BeginsProperty, no_property, unterminated_run, unclosed_run, unclosed_pair, unknown_pair, unknown_run, of_strings, negative_of_strings}
+use Rattle.rx_model.specs.FirstPass.Marks.{starts}
+use Rattle.rx_model.specs.Inputs.Environment.{is_sets, is_unicode}
+use Rattle.rx_model.specs.Properties.PropertyEscapes.{SpellsProperty, pair}
+use Rattle.rx_model.specs.Properties.PropertyForms.{HasPair, HasRun, IsKnownRun, begins_property}
+use Rattle.rx_class.specs.declared.properties.found.Lone.TheVariants as lone
+use Rattle.rx_class.specs.declared.properties.found.PropertyHalt.TheVariants as halt
+use Rattle.rx_class.specs.declared.properties.found.Lone.{Lone}
+use Rattle.rx_model.proofs.Classes.ClassFronts.{sets_is}
+use Rattle.rx_model.proofs.Inputs.Modes.{not_sets, unicode_alone}
+use Rattle.rx_model.proofs.Reading.Splits.{starts_there}
+use Rattle.rx_class.specs.PropertyReading.Found.{IsLone, IsPropertyAfter, IsPropertyHalt, is_known, property_letter, unknown_halt}
+use Rattle.rx_scan.proofs.MarkSteps.{values_length}
+
+letter_begins : (negative : Bool) → begins_property (property_letter negative) ≡ true
+letter_begins true = refl
+letter_begins false = refl
+
+opener_is : (negative : Bool) (w : List ℕ) → 92 ∷ property_letter negative ∷ 123 ∷ w ≡ property_opener negative ++ w
+opener_is true w = refl
+opener_is false w = refl
+
+module _ (mode : Mode) (unicode : is_unicode mode ≡ true) (negative : Bool) where
+  begins : (rest : List CodePoint) (w : List ℕ) → values rest ≡ 92 ∷ property_letter negative ∷ 123 ∷ w → BeginsProperty mode (values rest) w
+  begins rest w whole = record { letter = property_letter negative; unicode = unicode; letter_is = letter_begins negative; whole = whole }
+
+  -- no `{` follows
+  pub no_brace : (following : List ℕ) → starts 123 following ≡ false → IsPropertyHalt mode (property_letter negative ∷ following) (halt.Unterminated 1)
+  no_brace following other us rest first added place whole =
+      let e : place + 1 + 1 ≡ place + 2 = omega arith in
+      rw e (no_property (property_letter negative) following unicode whole (letter_begins negative) other)
+
+  -- a text and the `}` after it are a property
+  spelled_before : (strings : Bool) (name : List ℕ) (value : Option (List ℕ)) (text w following : List ℕ) (n : ℕ) → w ≡ text ++ following → starts 125 following ≡ true → SpellsProperty mode strings name value text
+      → n ≡ 3 + length text → (negative && strings) ≡ false → IsPropertyAfter mode (property_letter negative ∷ 123 ∷ w) negative strings name value n
+  spelled_before strings name value text w following n there closed spelled count obeys =
+      let close = starts_there 125 following closed in
+      record {
+        text = text;
+        spelled = spelled;
+        front = property_letter negative ∷ 123 ∷ (text ++ (125 ∷ []));
+        rest = close.0;
+        front_is = opener_is negative (text ++ (125 ∷ []));
+        whole = ap (λ w. property_letter negative ∷ 123 ∷ w) (there ∙ ap (λ b. text ++ b) close.1 ∙ sym (append_assoc text (125 ∷ []) close.0));
+        count_is = omega (arith, count, length-append text (125 ∷ []));
+        obeys = obeys;
+      }
+
+  module _ (w : List ℕ) (name value following : List CodePoint) (p : HasPair w (values name) (values value) (values following)) where
+    pub pair_unclosed : IsValidUnicodeProperty (values name) (values value) → starts 125 (values following) ≡ false
+        → IsPropertyHalt mode (property_letter negative ∷ 123 ∷ w) (halt.Unterminated (3 + length name + length value))
+    pair_unclosed valid unclosed us rest first added place whole =
+        let e : place + 1 + (3 + length name + length value) ≡ place + 4 + length (values name) + length (values value) = omega (arith, values_length name, values_length value) in
+        rw e (unclosed_pair w (values name) (values value) (values following) (begins rest w whole) p valid unclosed)
+
+    pub pair_unknown : (IsValidUnicodeProperty (values name) (values value) → ⊥) → IsPropertyHalt mode (property_letter negative ∷ 123 ∷ w) (halt.Name (3 + length name) (length value))
+    pair_unknown unknown us rest first added place whole =
+        let e : place + 1 + (3 + length name) ≡ place + 4 + length (values name) = omega (arith, values_length name) in
+        rw (e, sym (values_length value)) (unknown_pair w (values name) (values value) (values following) (begins rest w whole) p unknown)
+
+    pub pair_spelled : IsValidUnicodeProperty (values name) (values value) → starts 125 (values following) ≡ true
+        → IsPropertyAfter mode (property_letter negative ∷ 123 ∷ w) negative false (values name) (Some (values value)) (4 + length name + length value)
+    pair_spelled valid closed =
+        let whole = p.whole ∙ ap (λ v. values name ++ (61 ∷ v)) p.run.whole ∙ sym (append_assoc (values name) (61 ∷ values value) (values following)) in
+        spelled_before false (values name) (Some (values value)) (values name ++ (61 ∷ values value)) w (values following) (4 + length name + length value) whole closed (pair valid)
+        (omega (arith, length-append (values name) (61 ∷ values value), values_length name, values_length value)) (and-false negative)
+
+  module _ (w : List ℕ) (run following : List CodePoint) (r : HasRun w (values run) (values following)) where
+    cut_off_at : (place : ℕ) → place + 1 + (2 + length run) ≡ place + 3 + length (values run)
+    cut_off_at place = omega (arith, values_length run)
+
+    pub run_unterminated : (values run ≡ []) ⊎ (values following ≡ []) → IsPropertyHalt mode (property_letter negative ∷ 123 ∷ w) (halt.Unterminated (2 + length run))
+    run_unterminated short us rest first added place whole = rw (cut_off_at place) (unterminated_run w (values run) (values following) (begins rest w whole) r short)
+
+    pub run_unclosed : IsKnownRun mode (values run) → values following ≢ [] → starts 125 (values following) ≡ false → IsPropertyHalt mode (property_letter negative ∷ 123 ∷ w) (halt.Unterminated (2 + length run))
+    run_unclosed known some unclosed us rest first added place whole = rw (cut_off_at place) (unclosed_run w (values run) (values following) (begins rest w whole) r known some unclosed)
+
+    pub run_unknown : (lone : Lone) → IsLone (values run) lone → values run ≢ [] → values following ≢ [] → is_known lone (is_sets mode) ≡ false
+        → IsPropertyHalt mode (property_letter negative ∷ 123 ∷ w) (unknown_halt lone (values run) (length run))
+    run_unknown lone.OfStrings named some more unknown us rest first added place whole =
+        rw (sym (values_length run)) (of_strings w (values run) (values following) (unicode_alone mode unknown unicode) (begins rest w whole) r more (λ known. elim known [
+          | inl h ↦ named.0 h
+          | inr h ↦ elim h [ inl k ↦ named.1 k | inr k ↦ not_sets mode unknown k.0 ]
+        ]) named.2)
+    run_unknown lone.Nothing named some more unknown us rest first added place whole =
+        rw (sym (values_length run)) (unknown_run w (values run) (values following) (begins rest w whole) r some more (λ known. elim known [
+          | inl h ↦ named.0 h
+          | inr h ↦ elim h [ inl k ↦ named.1 k | inr k ↦ named.2 k.1 ]
+        ]) named.2)
+    run_unknown other named some more unknown us rest first added place whole = absurd (let no : ⊥ = cc unknown in no)
+
+  -- A word that names a property stands alone between the braces.
+  module _ (w word following : List ℕ) (r : HasRun w word following) (closed : starts 125 following ≡ true) (n : ℕ) (count : n ≡ length word) where
+    pub word_spelled : (strings : Bool) (name : List ℕ) (value : Option (List ℕ)) → SpellsProperty mode strings name value word → (negative && strings) ≡ false
+        → IsPropertyAfter mode (property_letter negative ∷ 123 ∷ w) negative strings name value (3 + n)
+    word_spelled strings name value spelled obeys = spelled_before strings name value word w following (3 + n) r.is_run.whole closed spelled (omega (arith, count)) obeys
+
+    pub negative_refused : negative ≡ true → is_sets mode ≡ true → IsLone word lone.OfStrings → IsPropertyHalt mode (property_letter negative ∷ 123 ∷ w) (halt.NegativeOfStrings word (3 + n))
+    negative_refused is sets_too named us rest first added place whole =
+        let close = starts_there 125 following closed in
+        let end : place + 1 + (3 + n) ≡ place + 4 + length word = omega (arith, count) in
+        rw end (negative_of_strings w word close.0 (sets_is mode sets_too) (whole ∙ ap (λ negative. 92 ∷ property_letter negative ∷ 123 ∷ w) is) (subst (HasRun w word) close.1 r)
+        named.0 named.1 named.2)
+
+-- A word that names a property is a run that is known.
+pub known_run : (mode : Mode) (word : List ℕ) (lone : Lone) → IsLone word lone → is_known lone (is_sets mode) ≡ true → IsKnownRun mode word
+known_run mode word lone.Category named known = inl named
+known_run mode word lone.Binary named known = inr (inl named.1)
+known_run mode word lone.OfStrings named known = inr (inr (sets_is mode known, named.2))
+known_run mode word lone.Nothing named known = absurd (let no : ⊥ = cc known in no)
+
+pub valid_texts : (a b x y : List ℕ) → a ≡ x → b ≡ y → IsValidUnicodeProperty a b → IsValidUnicodeProperty x y
+valid_texts a b x y e f h = subst (λ x. IsValidUnicodeProperty x y) e (subst (λ y. IsValidUnicodeProperty a y) f h)

@@ -1,0 +1,13 @@
+pub mod BuilderGrowth
+pub mod Characters
+pub mod Classes
+pub mod Fronts
+pub mod HeldSteps
+pub mod MembersPushed
+pub mod OpenBrackets
+pub mod Operands
+pub mod Paces
+pub mod Places
+pub mod Refusals
+pub mod Steps
+pub mod Strings

@@ -1,0 +1,16 @@
+use Rattle.std.proofs.Common.{◌-◌, length}
+use Rattle.rx_units.specs.Pace.{IsPaced}
+use Rattle.rx_class.specs.EscapeReading.Answers.{environment_of}
+use Rattle.rx_class.specs.Readings.{ReadsOn}
+use Rattle.rx_class.specs.SetReading.Progress.{IsInSets}
+use Rattle.rx_class.proofs.reading.Reading.sets_mode_class.Given as goal
+
+abbrev pub invariant-loop-self : goal.invariant-loop-self
+invariant-loop-self g l = record {
+  built : IsInSets (environment_of l.fn.self.state.now) l.fn.self.spans.now l.fn.self.reader.now l.self.reader.now l.builder;
+  paced : IsPaced 6 (g.C.Counter.count l.fn.self.steps.now) (g.C.Counter.count l.self.steps.now) l.fn.self.reader.now l.self.reader.now;
+  on : ReadsOn l.fn.self l.self;
+}
+
+abbrev pub decreases-loop-self : goal.decreases-loop-self
+decreases-loop-self g l = length l.self.reader.now.units - l.self.reader.now.place

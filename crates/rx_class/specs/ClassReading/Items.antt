@@ -1,0 +1,177 @@
+-- What the functions that read atoms and items of a class answer, at a place where one must stand, by the environment of the reader's whole text.
+use Rattle.std.specs.Prelude.{◌≡◌, ℕ, ◌+◌, ◌-◌, ◌<◌, ◌≤◌, ◌==◌, ◌&&◌, ◌≢◌, Bool, not, nat_le, false, true, Option, Some, None, Result, Ok, Err, List, [], ◌∷◌, ◌++◌, length, map, if◌then◌else◌}
+use Rattle.rx_base.specs.Ascii as ascii
+use Rattle.rx_base.specs.declared.diagnostic.Diagnostic.{Diagnostic}
+use Rattle.rx_base.specs.declared.diagnostic.Diagnostic.TheVariants.{CharacterClassRangeOutOfOrder, CharacterClassRangeDashNotSubtraction, CharacterClassRangeInvalidAtom}
+use Rattle.rx_base.specs.declared.diagnostic.kinds.RangeKind.TheVariants as range_kind
+use Rattle.rx_base.specs.declared.fault.Fault.{Fault}
+use Rattle.rx_base.specs.declared.fault.Fault.TheVariants as fault
+use Rattle.rx_base.specs.declared.span.Span.{Span}
+use Rattle.rx_ast.specs.declared.leaf.Character.{Character}
+use Rattle.rx_ast.specs.declared.leaf.CharacterKind.{CharacterKind}
+use Rattle.rx_ast.specs.declared.leaf.CharacterKind.TheVariants as kind
+use Rattle.rx_ast.specs.declared.class.CharacterClassContents.{CharacterClassContents}
+use Rattle.rx_ast.specs.declared.class.CharacterClassRange.{CharacterClassRange}
+use Rattle.rx_ast.specs.ClassTree.{Member, Members, members, mirror_contents}
+use Rattle.rx_ast.specs.ClassTree as tree
+use Rattle.rx_units.specs.declared.code_point.CodePoint.{CodePoint}
+use Rattle.rx_units.specs.Cursor.{Cursor, move_on, rest}
+use Rattle.rx_units.specs.Units.{offset_at, values}
+use Rattle.rx_units.specs.Digits.{front_is}
+use Rattle.rx_model.specs.Refusals.ClassCauses.{IsClassCause, is_character}
+use Rattle.rx_model.specs.Refusals.ClassPlaces.{IsAtomPlace, IsItemPlace}
+use Rattle.rx_model.specs.Classes.ClassRows.{ClassRow, SpellsAtom, fresh}
+use Rattle.rx_model.specs.Classes.ClassRuns.{atom_obeys}
+use Rattle.rx_model.specs.Classes.ClassTokens.{Atom, character, escape, property, more_members_events}
+use Rattle.rx_model.specs.Trees.Early.{AreEarlyMembers, any_strings}
+use Rattle.rx_model.specs.Inputs.Environment.{Environment, is_unicode}
+use Rattle.rx_model.specs.Properties.PropertyForms.{begins_property}
+use Rattle.rx_model.specs.FirstPass.Marks.{starts}
+use Rattle.rx_model.specs.Refusals.Reached.{span_between, class_environment}
+use Rattle.rx_model.specs.Characters.UnitKinds.{unit_kind}
+use Rattle.rx_class.specs.declared.classes.atom.ClassAtom.{ClassAtom}
+use Rattle.rx_class.specs.declared.classes.atom.ClassAtom.TheVariants as atom
+use Rattle.rx_class.specs.declared.classes.item.ClassItem.{ClassItem}
+use Rattle.rx_class.specs.declared.classes.item.ClassItem.TheVariants as item
+use Rattle.rx_class.specs.EscapeReading.Found.{class_escape_front}
+use Rattle.rx_class.specs.Keeping.{KeepsUnits}
+
+-- the atom, without its span
+abbrev pub atom_of : ClassAtom → Atom
+atom_of (atom.Character c) = character c.kind c.value
+atom_of (atom.Escape it) = escape it.kind
+atom_of (atom.Property p) = property p.negative p.strings p.name p.value
+
+abbrev pub atom_span : ClassAtom → Span
+atom_span (atom.Character c) = c.span
+atom_span (atom.Escape it) = it.span
+atom_span (atom.Property p) = p.span
+
+-- the atom as a member of a class
+abbrev pub atom_member : ClassAtom → Member
+atom_member (atom.Character c) = tree.character c
+atom_member (atom.Escape it) = tree.escape it
+atom_member (atom.Property p) = tree.property p
+
+-- the kind of a character that is one unit of a class
+abbrev pub kind_in_class : CodePoint → CharacterKind
+kind_in_class u = if u.value == ascii.hyphen then kind.Symbol else unit_kind u.escape_kind
+
+-- the character that the first of these letters spells after a backslash in classes alone, with `u` or without
+abbrev pub alone_in_class : Bool → List ℕ → Option ℕ
+alone_in_class unicode [] = None
+alone_in_class unicode (c ∷ w) = if c == ascii.b then Some ascii.backspace else (if unicode && c == ascii.hyphen then Some ascii.hyphen else None)
+
+-- What stands after a backslash is neither a character in classes alone, nor a class escape, nor the letter of a property escape.
+pub record BeginsNone (e : Environment) (us : List ℕ) : Type 0 where
+  pub no_alone : alone_in_class (is_unicode e.mode) us ≡ None
+  pub no_class : class_escape_front us ≡ None
+  pub no_letter : is_unicode e.mode ≡ true → front_is begins_property us ≡ false
+
+-- the environment is that of the text that a reader reads
+abbrev pub IsOfText : Environment → Cursor → Type 0
+IsOfText e r = e ≡ class_environment e.mode r.units
+
+-- the reader one unit before
+abbrev pub back : Cursor → Cursor
+back r = record r { place = r.place - 1 }
+
+-- Something is left, and no `]` stands first.
+pub record StandsItem (us : List CodePoint) : Type 0 where
+  pub some : us ≡ [] → ⊥
+  pub no_closer : starts ascii.right_bracket (values us) ≡ false
+
+-- Where the environment is that of the text, this is a refusal of each class in which an atom may stand at the reader's place.
+abbrev pub IsAtomCause : Environment → ℕ → Cursor → Diagnostic → Type 0
+IsAtomCause e added r diagnostic =
+    IsOfText e r → (from : ℕ) (at_class : List CodePoint) → IsAtomPlace e from at_class r.place (rest r) → IsClassCause e.mode r.units r.first added from at_class r.place diagnostic
+
+-- What stands at the reader's place is answered as an atom of a class (ClassAtom, 22.2.1).
+pub data GivesAtom (e : Environment) (added : ℕ) (old new : Cursor) : Result ClassAtom Fault → Type 0 where
+  some : {it : ClassAtom} (w more : List CodePoint) → rest old ≡ w ++ more → SpellsAtom e (atom_of it) w more → atom_obeys (atom_of it) ≡ true
+      → atom_span it ≡ span_between old.units old.first added old.place (old.place + length w) → new ≡ move_on (length w) old → GivesAtom e added old new (Ok it)
+  refused : {diagnostic : Diagnostic} → IsAtomCause e added old diagnostic → KeepsUnits old new → GivesAtom e added old new (Err (fault.Diagnostic diagnostic))
+  no_memory : KeepsUnits old new → GivesAtom e added old new (Err fault.OutOfMemory)
+
+-- the span between two offsets
+abbrev pub between : ℕ → ℕ → Span
+between start end = record { start = start; end = end }
+
+-- What comes of two atoms with a `-` between them: a range, or its refusal (22.2.1.1).
+pub data IsBetween : ClassAtom → ClassAtom → Result CharacterClassRange Diagnostic → Type 0 where
+  range : {min max : Character} → min.value ≤ max.value
+      → IsBetween (atom.Character min) (atom.Character max) (Ok (record { span = between min.span.start max.span.end; min = min; max = max }))
+  dash_out_of_order : {min max : Character} → max.value < min.value → max.value ≡ ascii.hyphen
+      → IsBetween (atom.Character min) (atom.Character max) (Err (CharacterClassRangeDashNotSubtraction (between min.span.end max.span.end)))
+  out_of_order : {min max : Character} → max.value < min.value → max.value ≢ ascii.hyphen
+      → IsBetween (atom.Character min) (atom.Character max) (Err (CharacterClassRangeOutOfOrder (between min.span.end max.span.end) range_kind.ClassAtom))
+  no_character : {low high : ClassAtom} → (is_character (atom_of low) && is_character (atom_of high)) ≡ false
+      → IsBetween low high (Err (CharacterClassRangeInvalidAtom (between (atom_span low).start (atom_span high).end)))
+
+-- The same of each class in which an item may stand there; the refusal holds at a place of the class.
+abbrev pub IsItemCause : Environment → ℕ → Cursor → Diagnostic → Type 0
+IsItemCause e added r diagnostic =
+    IsOfText e r → (from : ℕ) (at_class : List CodePoint) → IsItemPlace e from at_class r.place (rest r) → (place : ℕ) × IsClassCause e.mode r.units r.first added from at_class place diagnostic
+
+-- a member that classes without `v` may have: no class, and no class string
+abbrev pub IsPlain : Member → Type 0
+IsPlain (tree.range r) = Unit {0}
+IsPlain (tree.escape e) = Unit {0}
+IsPlain (tree.property p) = Unit {0}
+IsPlain (tree.character c) = Unit {0}
+IsPlain (tree.nested c) = ⊥
+IsPlain (tree.strings d) = ⊥
+
+abbrev pub ArePlain : List Member → Type 0
+ArePlain [] = Unit {0}
+ArePlain (m ∷ ms) = IsPlain m × ArePlain ms
+
+-- The units w, at least one, spell members from place i on, where o gives the offset of a place; they are free of early errors.
+pub record IsItem (e : Environment) (o : ℕ → ℕ) (i : ℕ) (ms : List Member) (w more : List CodePoint) : Type 0 where
+  pub some : 0 < length w
+  pub row : ClassRow e o (more_members_events [] (members ms)) fresh i (w ++ more) fresh (i + length w) more
+  pub early : AreEarlyMembers (members ms)
+  pub plain : ArePlain ms
+  pub no_strings : any_strings (members ms) ≡ false
+
+-- the item as contents of a class
+abbrev pub item_contents : ClassItem → List CharacterClassContents
+item_contents (item.One it) = it ∷ []
+item_contents (item.Three first hyphen last) = first ∷ hyphen ∷ last ∷ []
+
+abbrev pub item_members : ClassItem → List Member
+item_members it = map mirror_contents (item_contents it)
+
+-- the `-` of three items
+abbrev pub hyphen_member : Span → Member
+hyphen_member span = tree.character (record { span = span; kind = kind.Symbol; value = ascii.hyphen })
+
+-- What stands at the reader's place is answered as an item of a class: an atom, or a range (NonemptyClassRanges, 22.2.1), or three items (CharacterRangeOrUnion, B.1.2).
+pub data GivesItem (e : Environment) (added : ℕ) (old new : Cursor) : Result ClassItem Fault → Type 0 where
+  some : {it : ClassItem} (w more : List CodePoint) → rest old ≡ w ++ more
+      → IsItem e (λ i. offset_at old.first old.units i + added) old.place (item_members it) w more → new ≡ move_on (length w) old → GivesItem e added old new (Ok it)
+  refused : {diagnostic : Diagnostic} → IsItemCause e added old diagnostic → KeepsUnits old new → GivesItem e added old new (Err (fault.Diagnostic diagnostic))
+  no_memory : KeepsUnits old new → GivesItem e added old new (Err fault.OutOfMemory)
+
+-- An item is answered, and is added after the contents before it.
+pub record AddsItem (e : Environment) (added : ℕ) (old new : Cursor) (before after : List CharacterClassContents) : Type 0 where
+  pub it : ClassItem
+  pub gives : GivesItem e added old new (Ok it)
+  pub adds : after ≡ before ++ item_contents it
+
+-- The first character is an item by itself: it is no backslash, and what follows it is no `-`.
+abbrev pub stands_alone : List ℕ → Bool
+stands_alone [] = false
+stands_alone (c ∷ []) = false
+stands_alone (c ∷ d ∷ w) = not (c == ascii.backslash) && not (d == ascii.hyphen)
+
+-- The first three characters are a range whose ends stand for themselves, in order.
+abbrev pub stands_range : List ℕ → Bool
+stands_range [] = false
+stands_range (c ∷ []) = false
+stands_range (c ∷ h ∷ []) = false
+stands_range (c ∷ h ∷ d ∷ w) = h == ascii.hyphen && not (c == ascii.backslash) && not (d == ascii.backslash) && not (d == ascii.right_bracket) && nat_le c d
+
+-- the contents of a class
+abbrev pub contents : List CharacterClassContents → Members
+contents body = members (map mirror_contents body)

@@ -1,0 +1,118 @@
+ghost use Rattle.std.specs.Prelude.{◌≡◌, ◌∷◌, [], false, if◌then◌else◌, true};
+ghost use Rattle.rx_base.specs.Ascii as ascii;
+ghost use Rattle.rx_units.specs.Cursor.{begins, move_on, rest};
+ghost use Rattle.rx_units.specs.Pace.{IsPaced, TakesSteps};
+ghost use Rattle.rx_units.specs.Units.{values};
+ghost use Rattle.rx_model.specs.FirstPass.Marks.{starts};
+ghost use Rattle.rx_model.specs.Inputs.Environment.{is_sets};
+ghost use Rattle.rx_class.specs.EscapeReading.Answers.{environment_of};
+ghost use Rattle.rx_class.specs.ClassReading.Answers.{GivesClass, GivesOneClass, HoldsFirstPass};
+ghost use Rattle.rx_class.specs.ClassReading.Items.{IsOfText};
+ghost use Rattle.rx_class.specs.Fitting.{AreFitting};
+ghost use Rattle.rx_class.specs.ReadingSteps.{IsReading};
+
+use crate::reading::{Reading, is_sets};
+use crate::sets::front::begins_with;
+use rx_ast::{CharacterClass, CharacterClassContentsKind};
+use rx_base::{Counter, Diagnostic, Fault, List, Unterminated};
+use rx_scan::{SpanFactory, State};
+use rx_units::Reader;
+use std::alloc::Global;
+
+/// Reads the class (CharacterClass of ECMA-262, 22.2.1) that stands next, and moves over it. Where no `[` stands the answer is
+/// `None`, and the reader stays.
+///
+/// It is refused by `UnterminatedPattern` where the text ends in it. Without `v` it is refused by `CharacterClassRangeOutOfOrder` or,
+/// where the end is a `-`, by `CharacterClassRangeDashNotSubtraction` where a range ends below its start; with `u` by
+/// `CharacterClassRangeInvalidAtom` where an end of a range is no character; by `InvalidClassAtom` where a backslash begins no escape
+/// of a class; and as the escapes in it are. Spans are in bytes.
+///
+/// With `v` brackets nest, and it is refused too by `EmptyClassSetExpression` where a bracket begins with no operand; by
+/// `ClassIntersectionUnexpectedAmpersand` where a `&` stands after `&&`; by `ClassSetExpressionInvalidCharacter` where neither an
+/// operand nor `]` stands that may follow an operator or what is after one; by `UnterminatedPattern` where class strings or a bracket
+/// do not end; by `CharacterClassRangeOutOfOrder`; and by `InvalidCharacterClass` or, where it is nested, by
+/// `CharacterClassContentsInvalidOperands` where a negative class may contain strings.
+// Why: docs/DECISIONS.md, 44.
+pub fn parse_character_class<C: Counter>(
+    alloc: Global,
+    reader: &mut Reader<'_>,
+    state: &State,
+    spans: &SpanFactory,
+    steps: &mut C,
+) -> Result<Option<CharacterClass>, Fault>
+    requires pass { HoldsFirstPass state.now reader.old.units }
+    requires fits { AreFitting spans.now reader.old }
+    ensures gives { GivesClass (environment_of state.now) spans.now reader.old reader.new result }
+    ensures steps { IsReading 6 (C.count steps.old) (C.count steps.new) reader.old reader.new result }
+{
+    let mut reading = Reading {
+        reader,
+        state,
+        spans,
+        alloc,
+        steps,
+    };
+    reading.character_class()
+}
+
+impl<C: Counter> Reading<'_, '_, '_, '_, '_, C> {
+    ghost use Rattle.rx_class.specs.Readings.{ReadsOn};
+
+    /// Reads the class that stands next.
+    pub(crate) fn character_class(&mut self) -> Result<Option<CharacterClass>, Fault>
+        requires pass { HoldsFirstPass self.old.state.now self.old.reader.now.units }
+        ensures gives { GivesClass (environment_of self.old.state.now) self.old.spans.now self.old.reader.now self.new.reader.now result }
+        ensures steps { IsReading 6 (C.count self.old.steps.now) (C.count self.new.steps.now) self.old.reader.now self.new.reader.now result }
+        ensures on { ReadsOn self.old self.new }
+    {
+        if !begins_with(self.units(), '[') {
+            return Ok(None);
+        }
+        if is_sets(self.state.mode()) {
+            return Ok(Some(self.sets_mode_class()?));
+        }
+        Ok(Some(self.items_class()?))
+    }
+
+    /// Reads the class without `v` (CharacterClass and NonemptyClassRanges of ECMA-262, 22.2.1) whose `[` stands next, and moves
+    /// over it.
+    fn items_class(&mut self) -> Result<CharacterClass, Fault>
+        requires bracket { starts ascii.left_bracket (values (rest self.old.reader.now)) ≡ true }
+        requires no_sets { is_sets (environment_of self.old.state.now).mode ≡ false }
+        requires environment { IsOfText (environment_of self.old.state.now) self.old.reader.now }
+        ensures gives { GivesOneClass (environment_of self.old.state.now) self.old.spans.now self.old.reader.now self.new.reader.now result }
+        ensures steps { TakesSteps 6 (C.count self.old.steps.now) (C.count self.new.steps.now) self.old.reader.now self.new.reader.now result }
+        ensures on { ReadsOn self.old self.new }
+    {
+        let start = self.offset();
+        let negative = self.class_opener();
+        let mut body = List::new(self.alloc);
+        while !begins_with(self.units(), ']') {
+            if self.peek().is_none() {
+                let span = self.span_from(start);
+                let what = Unterminated::CharacterClass;
+                return Err(Fault::Diagnostic(Diagnostic::UnterminatedPattern { span, what }));
+            }
+            self.add_item(&mut body)?;
+        }
+        self.advance();
+        Ok(CharacterClass {
+            span: self.span_from(start),
+            negative,
+            strings: false,
+            kind: CharacterClassContentsKind::Union,
+            body,
+        })
+    }
+
+    /// Moves over the `[` of a class, and the `^` after it where one stands, and says whether it does.
+    pub(crate) fn class_opener(&mut self) -> bool
+        ensures value { result ≡ begins (ascii.caret ∷ []) (rest (move_on 1 self.old.reader.now)) }
+        ensures reader { self.new.reader.now ≡ (if result then move_on 1 (move_on 1 self.old.reader.now) else move_on 1 self.old.reader.now) }
+        ensures steps { IsPaced 6 (C.count self.old.steps.now) (C.count self.new.steps.now) self.old.reader.now self.new.reader.now }
+        ensures on { ReadsOn self.old self.new }
+    {
+        self.advance();
+        self.eat('^')
+    }
+}

@@ -1,0 +1,94 @@
+ghost use Rattle.std.specs.Prelude.{◌≡◌, ◌++◌, ◌∷◌, ◌&&◌, [], OnOk, Some, false};
+ghost use Rattle.rx_ast.specs.ClassTree.{mirror_class, mirror_contents};
+ghost use Rattle.rx_model.specs.Classes.ClassRuns.{bracket_of, empty, with_strings};
+ghost use Rattle.rx_model.specs.Classes.ClassTokens.{bracket, enter, member_events, token};
+ghost use Rattle.rx_model.specs.Trees.Early.{member_strings};
+ghost use Rattle.rx_class.specs.SetReading.BuilderEvents.{bracket_at, bracket_events, class_of, with_member};
+ghost use Rattle.rx_class.specs.SetReading.HeldMirror.{mirror_held};
+ghost use Rattle.rx_class.specs.SetReading.WellBuilt.{IsSound, IsWellHeld};
+
+use crate::sets::held::Held;
+use rx_ast::{CharacterClass, CharacterClassContents};
+use rx_base::{List, OutOfMemory, Span};
+use std::alloc::Global;
+
+/// A bracket of a class that has not closed yet, and what was read in it (ClassContents of ECMA-262, 22.2.1).
+#[derive(Drop)]
+pub struct OpenBracket {
+    /// The byte at which it begins.
+    pub start: u32,
+
+    /// Whether it begins with `^`.
+    pub negative: bool,
+    pub held: Held,
+
+    /// Whether what it holds may match a string that is not one character.
+    pub strings: bool,
+    pub body: List<CharacterClassContents>,
+}
+
+impl OpenBracket {
+    /// A bracket in which nothing was read.
+    pub fn new(alloc: Global, start: u32, negative: bool) -> OpenBracket
+        ensures events { bracket_events result ≡ enter start ∷ token (bracket negative) ∷ [] }
+        ensures bracket { bracket_at result ≡ bracket_of negative empty false }
+        ensures well { IsWellHeld result }
+    {
+        OpenBracket {
+            start,
+            negative,
+            held: Held::Empty,
+            strings: false,
+            body: List::new(alloc),
+        }
+    }
+
+    /// Adds an operand or a range, which may match strings or not. After it the bracket holds `held`.
+    pub fn push(
+        &mut self,
+        contents: CharacterClassContents,
+        strings: bool,
+        held: Held,
+    ) -> Result<(), OutOfMemory>
+        requires well { IsWellHeld self.old }
+        requires sound { IsSound (mirror_contents contents) }
+        requires strings { strings ≡ member_strings (mirror_contents contents) }
+        requires held { with_member (mirror_contents contents) (mirror_held self.old.held) ≡ Some (mirror_held held) }
+        ensures events { OnOk result (bracket_events self.new ≡ bracket_events self.old ++ member_events (mirror_contents contents)) }
+        ensures bracket { OnOk result (bracket_at self.new ≡ bracket_of self.old.negative (mirror_held held) (with_strings (mirror_held self.old.held) self.old.strings strings)) }
+        ensures well { OnOk result (IsWellHeld self.new) }
+    {
+        self.body.push(contents)?;
+        self.strings = self.held.with_strings(self.strings, strings);
+        self.held = held;
+        Ok(())
+    }
+
+    /// Whether it is refused where it closes: it is negative, and may match strings (22.2.1.1).
+    pub fn is_refused(&self) -> bool
+        ensures { result ≡ (self.now.negative && self.now.strings) }
+    {
+        self.negative && self.strings
+    }
+
+    /// The bracket as a class, which ends before the byte `end`.
+    #[tactic(auto, using(rx_ast::proofs::ClassEquations::class_mirrors))]
+    pub fn finish(self, end: u32) -> CharacterClass
+        ensures { mirror_class result ≡ class_of self end }
+    {
+        let OpenBracket {
+            start,
+            negative,
+            held,
+            strings,
+            body,
+        } = self;
+        CharacterClass {
+            span: Span::new(start, end),
+            negative,
+            strings,
+            kind: held.kind(),
+            body,
+        }
+    }
+}

@@ -1,0 +1,10 @@
+use Rattle.std.proofs.Common.{ap, sym}
+use Rattle.rx_parser.proofs.Common.{values, name_read_at, named, found_front}
+use Rattle.rx_parser.proofs.NameFound.{halt_answered, name_answered}
+use Rattle.rx_parser.proofs.reference.named_reference_in_brackets.Goals as goal
+
+pub returns-in-Name-clause-found : goal.returns-in-Name-clause-found
+returns-in-Name-clause-found g c = ap found_front (sym (name_answered named (name_read_at c.args.unicode_mode (values c.args.units.now)) c.in-Name.length c.in-Name.ensures.read).1)
+
+pub returns-in-Halt-clause-found : goal.returns-in-Halt-clause-found
+returns-in-Halt-clause-found g c = halt_answered named (name_read_at c.args.unicode_mode (values c.args.units.now)) c.in-Halt.halt c.in-Halt.ensures.read

@@ -1,7 +1,0 @@
-use Rattle.std.proofs.Common.{◌≡◌, drop, map}
-use Rattle.rx_ast.specs.MirrorKinds.{mirror_kind}
-use Rattle.rx_rewrite.specs.Left.{first_left}
-use Rattle.rx_rewrite.proofs.left.first_left.Given as goal
-
-abbrev pub invariant-loop-node : goal.invariant-loop-node
-invariant-loop-node l = first_left (map mirror_kind l.nodes) ≡ first_left (map mirror_kind (drop l.node-index l.nodes))
