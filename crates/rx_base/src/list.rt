@@ -117,7 +117,7 @@ impl<T: Drop> List<T> {
         Ok(())
     }
 
-    /// Adds an item at the end. A refused push leaves the list as it was.
+    /// Adds an item at the end. After an error the list is as it was.
     pub fn push(&mut self, item: T) -> Result<(), OutOfMemory>
         ensures ok { OnOk result (self.new ≡ self.old ++ item ∷ []) }
         ensures err { OnErr result (self.new ≡ self.old) }
@@ -128,7 +128,7 @@ impl<T: Drop> List<T> {
 }
 
 impl List<u8> {
-    /// Adds bytes at the end. A refused call leaves the list as it was.
+    /// Adds bytes at the end. After an error the list is as it was.
     pub fn extend_from_slice(&mut self, bytes: &[u8]) -> Result<(), OutOfMemory>
         ensures ok { OnOk result (self.new ≡ self.old ++ bytes.now) }
         ensures err { OnErr result (self.new ≡ self.old) }

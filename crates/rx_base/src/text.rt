@@ -39,7 +39,7 @@ impl Text {
         self.inner.as_str()
     }
 
-    /// Adds a character at the end. A refused push leaves the text as it was.
+    /// Adds a character at the end. After an error the text is as it was.
     pub fn push(&mut self, c: char) -> Result<(), OutOfMemory>
         ensures ok { OnOk result (self.new ≡ self.old ++ c ∷ []) }
         ensures err { OnErr result (self.new ≡ self.old) }
@@ -48,7 +48,7 @@ impl Text {
         Ok(())
     }
 
-    /// Adds a text at the end. A refused push leaves the text as it was.
+    /// Adds a text at the end. After an error the text is as it was.
     pub fn push_str(&mut self, s: &str) -> Result<(), OutOfMemory>
         ensures ok { OnOk result (self.new ≡ self.old ++ chars s.now) }
         ensures err { OnErr result (self.new ≡ self.old) }

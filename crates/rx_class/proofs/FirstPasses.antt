@@ -1,12 +1,8 @@
 -- What the first pass over a text leaves in the state.
-use Rattle.std.proofs.Common.{◌≡◌, ap₂, sym, subst, ◌-◌, ◌^◌, ◌<◌, false, List, arith, Result, Ok, Err}
-use Rattle.std.specs.Prelude.{OnOk, is_err, min}
-use Rattle.rx_units.specs.declared.code_point.CodePoint.{CodePoint}
-use Rattle.rx_model.specs.Inputs.Modes.{mode_by}
+use Rattle.std.proofs.Common.{◌≡◌, ap₂, sym, subst, ◌-◌, ◌^◌, ◌<◌, false, List, arith, Result, Ok, Err, OnOk, is_err, min}
+use Rattle.rx_class.proofs.Common.{CodePoint, mode_by, State, HoldsFirstPass}
 use Rattle.rx_model.specs.Refusals.Reached.{text_groups, text_names}
 use Rattle.rx_scan.specs.StateFaults.{mode_of_state}
-use Rattle.rx_scan.specs.declared.state.State.{State}
-use Rattle.rx_class.specs.ClassReading.Answers.{HoldsFirstPass}
 
 -- what holds of a call that did not fail
 pub without_err : {T E P : Type 0} (r : Result T E) → is_err r ≡ false → OnOk r P → P

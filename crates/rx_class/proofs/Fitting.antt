@@ -1,11 +1,6 @@
 -- The offset of each place of a reader fits its numbers.
-use Rattle.std.proofs.Common.{◌≡◌, sym, subst, ℕ, zero, suc, ◌+◌, ◌-◌, ◌^◌, ◌<◌, Bool, true, false, if◌then◌else◌, List, [], ◌∷◌}
-use Rattle.std.specs.Prelude.{All}
-use Rattle.std.proofs.lemmas.List.Elements.{All-head, All-tail}
-use Rattle.rx_units.specs.declared.code_point.CodePoint.{CodePoint}
-use Rattle.rx_units.specs.Cursor.{Cursor, move_on, offset_of}
-use Rattle.rx_units.specs.Units.{offset_at}
-use Rattle.rx_class.specs.EscapeReading.Answers.{IsAfterBackslash}
+use Rattle.std.proofs.Common.{◌≡◌, sym, subst, ℕ, zero, suc, ◌+◌, ◌-◌, ◌^◌, ◌<◌, Bool, true, false, if◌then◌else◌, List, [], ◌∷◌, All}
+use Rattle.rx_class.proofs.Common.{All-head, All-tail, CodePoint, Cursor, move_on, offset_of, offset_at, IsAfterBackslash}
 use Rattle.rx_class.specs.Fitting.{AreFitting}
 
 -- The offset of each place fits.

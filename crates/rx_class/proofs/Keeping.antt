@@ -1,10 +1,7 @@
 -- A reader that moves keeps what it reads, and a failure is handed on.
 use Rattle.std.proofs.Common.{◌≡◌, sym, ap, ap₂, ◌∙◌, subst, ℕ, ◌+◌, ◌<◌, ◌≤◌, List, ◌++◌, length, drop, min, Result, Ok, Err, IsErrAnd, arith, append_assoc, length-append, length-drop}
+use Rattle.rx_class.proofs.Common.{drop-drop, CodePoint, Cursor, move_on, rest, KeepsUnits}
 use Rattle.std.proofs.Math.Seq.{drop-append_seam}
-use Rattle.std.proofs.lemmas.List.{drop-drop}
-use Rattle.rx_units.specs.declared.code_point.CodePoint.{CodePoint}
-use Rattle.rx_units.specs.Cursor.{Cursor, move_on, rest}
-use Rattle.rx_class.specs.Keeping.{KeepsUnits}
 
 -- what holds of a failure holds where it is handed on
 pub handed : {A F : Type 0} (P : Result A F → Type 0) {r : Result A F} {f : F} → IsErrAnd r (λ g. g ≡ f) → P (Err f) → P r

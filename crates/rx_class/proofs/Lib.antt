@@ -1,4 +1,5 @@
 pub mod ClassReading
+pub mod Common
 pub mod EscapeReading
 pub mod FirstPasses
 pub mod Fitting

@@ -1,19 +1,10 @@
 -- The operators of a class with `v`: what is held before and after one, where it leads, and what may be spelled there.
-use Rattle.std.proofs.Common.{◌≡◌, refl, ◌<◌, false, true, None, Some, List, length, arith, ap, ℕ, not}
-use Rattle.std.specs.Prelude.{◌⊎◌}
-use Rattle.rx_base.specs.declared.diagnostic.kinds.SetOperator.{SetOperator}
-use Rattle.rx_base.specs.declared.diagnostic.kinds.SetOperator.TheVariants.{Intersection, Subtraction}
-use Rattle.rx_units.specs.declared.code_point.CodePoint.{CodePoint}
-use Rattle.rx_units.specs.Units.{values}
-use Rattle.rx_model.specs.declared.mode.Mode.{Mode}
+use Rattle.std.proofs.Common.{◌≡◌, refl, ◌<◌, false, true, None, Some, List, length, arith, ap, ℕ, not, ◌⊎◌}
+use Rattle.rx_class.proofs.Common.{SetOperator, Intersection, Subtraction, CodePoint, values, Mode, is_union, is_whole, operand, operator_of, with_range, joined, pending, with_operator, Atom}
+use Rattle.rx_class.proofs.Common.{ClassToken, item, operator, operator_text, starts, Environment, is_sets, begins_item, last_operator, place_of}
 use Rattle.rx_model.specs.Classes.ClassRows.{Place, SpellsInClass, SpellsOperand, fresh, may_follow_operator, next_place, after_operator}
-use Rattle.rx_model.specs.Classes.ClassRuns.{Held, single, is_union, is_whole, operand, operator_of, with_range, joined, pending, with_operator}
-use Rattle.rx_model.specs.Classes.ClassTokens.{Atom, ClassToken, is_character, item, operator, operator_text}
-use Rattle.rx_model.specs.FirstPass.Marks.{starts}
-use Rattle.rx_model.specs.Inputs.Environment.{Environment, is_sets}
-use Rattle.rx_model.specs.Refusals.ClassPlaces.{begins_item}
-use Rattle.rx_class.specs.SetReading.BuilderEvents.{last_operator}
-use Rattle.rx_class.specs.SetReading.Progress.{place_of}
+use Rattle.rx_model.specs.Classes.ClassRuns.{Held, single}
+use Rattle.rx_model.specs.Classes.ClassTokens.{is_character}
 
 -- An item may begin at the place that a bracket is at.
 pub begins_place : (held : Held) → begins_item (place_of held) ≡ true

@@ -1,20 +1,12 @@
 -- How many steps it takes to look at what stands next, and to move over it.
 use Rattle.std.proofs.Common.{◌≡◌, ℕ, ◌+◌, ◌*◌, ◌≤◌, Bool, true, false, if◌then◌else◌, Option, Result, Ok, List, length, refl, ap, ◌∙◌, arith, length-drop}
-use Rattle.rx_base.specs.declared.diagnostic.Diagnostic.{Diagnostic}
-use Rattle.rx_base.specs.Rising.{Rises}
-use Rattle.rx_ast.specs.declared.leaf.Character.{Character}
-use Rattle.rx_units.specs.declared.code_point.CodePoint.{CodePoint}
-use Rattle.rx_units.specs.Cursor.{Cursor, move_on, rest}
-use Rattle.rx_units.specs.Pace.{IsMove, IsPaced, units_left}
-use Rattle.rx_model.specs.Inputs.Environment.{Environment}
+use Rattle.rx_class.proofs.Common.{Diagnostic, Rises, Character, CodePoint, Cursor, move_on, rest, IsPaced, units_left, Environment, GivesItem, AnswersFound, IsWithin, many_digits}
+use Rattle.rx_class.proofs.Common.{no_escape_of_u, seen_escape, IsReading, ClassItem, EscapeFound}
+use Rattle.rx_units.specs.Pace.{IsMove}
 use Rattle.rx_model.specs.Reading.Fronts.{EscapeRead}
-use Rattle.rx_class.specs.ClassReading.Items.{GivesItem}
 use Rattle.rx_class.specs.ClassReading.Items as items
 use Rattle.rx_class.specs.EscapeReading.Steps.{few_looks}
-use Rattle.rx_class.specs.EscapeReading.Found.{AnswersFound, IsWithin, many_digits, no_escape_of_u, none, seen_escape, some}
-use Rattle.rx_class.specs.ReadingSteps.{IsReading}
-use Rattle.rx_class.specs.declared.classes.item.ClassItem.{ClassItem}
-use Rattle.rx_class.specs.declared.escapes.found.EscapeFound.{EscapeFound}
+use Rattle.rx_class.specs.EscapeReading.Found.{none, some}
 use Rattle.rx_class.specs.declared.escapes.found.EscapeFound.TheVariants as found
 
 -- A reader that moves on has no more before it than it had.

@@ -1,9 +1,7 @@
 -- A reading that goes on.
 use Rattle.std.proofs.Common.{◌≡◌, ℕ, ◌+◌, ◌^◌, ◌<◌, ap, ◌∙◌, subst, sym}
-use Rattle.rx_base.specs.declared.span.Span.{Span}
+use Rattle.rx_class.proofs.Common.{Span, IsAfterBackslash, span_to, ReadsOn}
 use Rattle.rx_class.specs.declared.reading.Reading.{Reading}
-use Rattle.rx_class.specs.EscapeReading.Answers.{IsAfterBackslash, span_to}
-use Rattle.rx_class.specs.Readings.{ReadsOn}
 use Rattle.rx_class.proofs.Fitting.{start_fits as fits_before}
 
 module _ {C : Type 0} {old new : Reading C} (on : ReadsOn old new) where

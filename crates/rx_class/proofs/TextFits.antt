@@ -1,8 +1,7 @@
 -- What a reader of a whole text may add to its offsets.
-use Rattle.std.proofs.Common.{◌≡◌, refl, sym, subst, ℕ, ◌+◌, ◌<◌, ◌^◌, arith, Bool, List, length}
-use Rattle.std.specs.Prelude.{All}
+use Rattle.std.proofs.Common.{◌≡◌, refl, sym, subst, ℕ, ◌+◌, ◌<◌, ◌^◌, arith, Bool, List, length, All}
+use Rattle.rx_class.proofs.Common.{Cursor, move_on}
 use Rattle.std.specs.Str.{chars, IsUtf8}
-use Rattle.rx_units.specs.Cursor.{Cursor, move_on}
 use Rattle.rx_units.specs.Units.{literal_units}
 use Rattle.rx_scan.proofs.Fits.{literal_fits}
 use Rattle.rx_class.specs.Fitting.{AreFitting}

@@ -1,4 +1,5 @@
 //! Reads lines that each hold a pattern, and writes for each line the pattern's canonical spelling, or why there is none.
+//! Words on the command line ask for other replies: docs/PROGRAM.md has them.
 #![tactic(auto)]
 
 use rx_run::run::run;

@@ -97,7 +97,7 @@ pub enum Halt {
     },
 }
 
-/// What the units begin with.
+/// What the units begin with. Lengths are in units.
 #[derive(Clone, Copy, Debug)]
 pub enum Found {
     Leaf {

@@ -50,7 +50,7 @@ impl<'a> Input<'a> {
         Ok((parser.parse()?, mode))
     }
 
-    /// The mode that the flags ask for. No flags text asks for legacy mode.
+    /// The mode that the flags ask for. No flags text asks for legacy mode. Flags are read by code points, before any mode is known.
     fn mode(&self, alloc: Global) -> Result<Mode, Fault>
         ensures asked { IfOk result (AsksFor (seen_input self.now)) }
         ensures refused { IfErr result (IsFaultOf (seen_input self.now)) }

@@ -12,6 +12,10 @@ use Rattle.rx_model.specs.FirstPass.Marks.{bar, class_rest, before_close, has_cl
 use Rattle.rx_model.proofs.FirstPass.ClassRest.{inside_begins, inside_ends}
 use Rattle.rx_scan.specs.MarkReading.{closed_part, is_plain}
 
+-- A loop has taken a step in each of so many turns.
+abbrev pub HasStepped : ℕ → ℕ → ℕ → Type 0
+HasStepped old new turns = new ≡ old + turns
+
 -- before the place no `>` stands
 pub Passed : List CodePoint → ℕ → Type 0
 Passed us i =

@@ -98,6 +98,7 @@ fn mode_of(units: &[CodePoint]) -> Mode
     }
 }
 
+/// Whether some unit has this value.
 fn holds(units: &[CodePoint], value: u32) -> bool
     ensures { result ≡ holds (values units.now) value }
 {

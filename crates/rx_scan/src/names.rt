@@ -60,7 +60,7 @@ impl Names {
         self.list.allocator()
     }
 
-    /// Adds a name that is not among them at the end. A refused call leaves them as they were.
+    /// Adds a name that is not among them at the end. After an error they are as they were.
     pub fn push(&mut self, name: Text) -> Result<(), OutOfMemory>
         requires { is_among self.old name ≡ false }
         ensures ok { OnOk result (self.new ≡ self.old ++ name ∷ []) }

@@ -77,8 +77,8 @@ impl State {
     }
 
     /// Goes over the whole pattern once, and counts its groups (CountLeftCapturingParensWithin of ECMA-262, 22.2.1.2) and lists their
-    /// names, or refuses the first two equal names that clash (22.2.1.1). The reader stays at place 0. A refusal
-    /// leaves the state as it was.
+    /// names, or refuses the first two equal names that clash (22.2.1.1). The reader stays at place 0. After an error
+    /// the state is as it was.
     pub fn initialize_with_parsing(&mut self, reader: &mut Reader<'_>) -> Result<(), StateFault>
         requires start { reader.old.place ≡ 0 }
         ensures reader { reader.new ≡ reader.old }

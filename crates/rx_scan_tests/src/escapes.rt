@@ -1,4 +1,4 @@
-ghost use Rattle.std.specs.Prelude.{◌≡◌, ◌+◌, ◌<◌, ◌^◌, length};
+ghost use Rattle.std.specs.Prelude.{◌≡◌, ◌+◌, ◌<◌, ◌^◌, IfOk, length};
 ghost use Rattle.rx_class.specs.EscapeReading.Answers.{IsAfterBackslash};
 ghost use Rattle.rx_class.specs.Fitting.{AreFitting};
 
@@ -15,18 +15,32 @@ use std::marker::Brand;
 use std::sync::ledger::{Blank, Ledger};
 use std::test::Fail;
 
+/// A reader after the backslash that the text begins with. Its spans fit.
+fn after_backslash<'a>(
+    alloc: Global,
+    text: &'a str,
+    unicode_mode: bool,
+    spans: &SpanFactory,
+) -> Result<Reader<'a>, Fail>
+    requires { spans.now + length text.now < 2 ^ 32 }
+    ensures backslash { IfOk result (λ reader. IsAfterBackslash reader 0) }
+    ensures fits { IfOk result (λ reader. AreFitting spans.now reader) }
+{
+    let mut reader = Reader::initialize(alloc, text, unicode_mode, false)?;
+    if !reader.eat('\\') {
+        return Err(Fail::from("no backslash"));
+    }
+    Ok(reader)
+}
+
 /// What stands after the backslash that the text begins with, its spans 10 bytes on.
 fn character(alloc: Global, text: &str) -> Result<Result<Option<Character>, Diagnostic>, Fail>
     requires { length text.now + 10 < 2 ^ 32 }
 {
-    let mut reader = Reader::initialize(alloc, text, true, false)?;
-    let start = reader.offset();
-    if !reader.eat('\\') {
-        return Err(Fail::from("no backslash"));
-    }
     let state = State::new(alloc, true, false, true);
     let spans = SpanFactory::new(10);
-    Ok(counted_character::<Brand>(&mut reader, &state, &spans, start, Blank::new(1)))
+    let mut reader = after_backslash(alloc, text, true, &spans)?;
+    Ok(counted_character::<Brand>(&mut reader, &state, &spans, Blank::new(1)))
 }
 
 /// Reads it with a counter that nobody reads.
@@ -34,16 +48,14 @@ fn counted_character<L: Ledger>(
     reader: &mut Reader<'_>,
     state: &State,
     spans: &SpanFactory,
-    start: u32,
     blank: Blank,
 ) -> Result<Option<Character>, Diagnostic>
-    requires backslash { IsAfterBackslash reader.old start }
-    requires fits { AreFitting spans.now reader.old }
+    requires reader { IsAfterBackslash reader.old 0 × AreFitting spans.now reader.old }
     requires name { blank.name ≡ L.name }
     requires parts { blank.parts ≡ L.parts }
     requires one { blank.parts ≡ 1 }
 {
-    parse_character_escape(reader, state, spans, start, &mut Steps::<L>::new(blank))
+    parse_character_escape(reader, state, spans, 0, &mut Steps::<L>::new(blank))
 }
 
 #[derive(Clone, Copy)]
@@ -112,28 +124,22 @@ fn refused_characters(rt: HostRuntime) -> Result<(), Fail> {
 fn class_escape(alloc: Global, text: &str) -> Result<Option<CharacterClassEscape>, Fail>
     requires { length text.now + 10 < 2 ^ 32 }
 {
-    let mut reader = Reader::initialize(alloc, text, true, false)?;
-    let start = reader.offset();
-    if !reader.eat('\\') {
-        return Err(Fail::from("no backslash"));
-    }
     let spans = SpanFactory::new(10);
-    Ok(counted_class_escape::<Brand>(&mut reader, &spans, start, Blank::new(1)))
+    let mut reader = after_backslash(alloc, text, true, &spans)?;
+    Ok(counted_class_escape::<Brand>(&mut reader, &spans, Blank::new(1)))
 }
 
 fn counted_class_escape<L: Ledger>(
     reader: &mut Reader<'_>,
     spans: &SpanFactory,
-    start: u32,
     blank: Blank,
 ) -> Option<CharacterClassEscape>
-    requires backslash { IsAfterBackslash reader.old start }
-    requires fits { AreFitting spans.now reader.old }
+    requires reader { IsAfterBackslash reader.old 0 × AreFitting spans.now reader.old }
     requires name { blank.name ≡ L.name }
     requires parts { blank.parts ≡ L.parts }
     requires one { blank.parts ≡ 1 }
 {
-    parse_character_class_escape(reader, spans, start, &mut Steps::<L>::new(blank))
+    parse_character_class_escape(reader, spans, 0, &mut Steps::<L>::new(blank))
 }
 
 #[derive(Clone, Copy)]
@@ -168,14 +174,10 @@ fn property(
 ) -> Result<Result<Option<UnicodePropertyEscape>, Fault>, Fail>
     requires { length text.now < 2 ^ 32 }
 {
-    let mut reader = Reader::initialize(alloc, text, unicode_mode, false)?;
-    let start = reader.offset();
-    if !reader.eat('\\') {
-        return Err(Fail::from("no backslash"));
-    }
     let state = State::new(alloc, unicode_mode, false, true);
     let spans = SpanFactory::new(0);
-    Ok(counted_property::<Brand>(alloc, &mut reader, &state, &spans, start, Blank::new(1)))
+    let mut reader = after_backslash(alloc, text, unicode_mode, &spans)?;
+    Ok(counted_property::<Brand>(alloc, &mut reader, &state, &spans, Blank::new(1)))
 }
 
 fn counted_property<L: Ledger>(
@@ -183,17 +185,21 @@ fn counted_property<L: Ledger>(
     reader: &mut Reader<'_>,
     state: &State,
     spans: &SpanFactory,
-    start: u32,
     blank: Blank,
 ) -> Result<Option<UnicodePropertyEscape>, Fault>
-    requires backslash { IsAfterBackslash reader.old start }
-    requires fits { AreFitting spans.now reader.old }
+    requires reader { IsAfterBackslash reader.old 0 × AreFitting spans.now reader.old }
     requires name { blank.name ≡ L.name }
     requires parts { blank.parts ≡ L.parts }
     requires one { blank.parts ≡ 1 }
 {
-    let mut steps = Steps::<L>::new(blank);
-    parse_character_class_escape_unicode(alloc, reader, state, spans, start, &mut steps)
+    parse_character_class_escape_unicode(
+        alloc,
+        reader,
+        state,
+        spans,
+        0,
+        &mut Steps::<L>::new(blank),
+    )
 }
 
 /// Property escapes with or without `u`.

@@ -53,10 +53,7 @@ pub by_itself : {A : Type 0} (spelled : A → Spelled) (form : Form) (text : Lis
     → IsAnswered spelled (record { form = form; text = text; flags = flags; text_offset = text_offset; flags_offset = flags_offset; rules = given; standard_strings = given_standard }) answer
     → IsAnswered spelled (record { form = form; text = text; flags = flags; text_offset = 0; flags_offset = 0; rules = under; standard_strings = standard }) answer
 by_itself spelled form text flags answer text_offset flags_offset given under given_standard standard text_is flags_is rules_are standard_is answered =
-    subst (λ b. IsAnswered spelled (record { form = form; text = text; flags = flags; text_offset = 0; flags_offset = 0; rules = under; standard_strings = b }) answer) standard_is
-    (subst (λ r. IsAnswered spelled (record { form = form; text = text; flags = flags; text_offset = 0; flags_offset = 0; rules = r; standard_strings = given_standard }) answer) rules_are
-    (subst (λ n. IsAnswered spelled (record { form = form; text = text; flags = flags; text_offset = 0; flags_offset = n; rules = given; standard_strings = given_standard }) answer) flags_is
-    (subst (λ n. IsAnswered spelled (record { form = form; text = text; flags = flags; text_offset = n; flags_offset = flags_offset; rules = given; standard_strings = given_standard }) answer) text_is answered)))
+    rw (text_is, flags_is, rules_are, standard_is) at answered
 
 module _ (input : Input) where
   pub memory_wants : IsAnswered spelling_answer input (Err fault.OutOfMemory)

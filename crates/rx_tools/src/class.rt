@@ -114,14 +114,14 @@ pub fn is_flat(class: &CharacterClass) -> bool
     true
 }
 
-/// Writes one of a class's contents.
-#[cycle(class)]
-#[tactic(auto, using(rx_ast::proofs::ClassSizes::class_sizes, rx_ast::proofs::ClassEquations::class_mirrors, crate::proofs::Pieces::in_pieces))]
-pub fn write_contents<W: TextSink>(
+/// Writes one of a class's contents that is no class.
+#[tactic(auto, using(crate::proofs::Pieces::in_pieces, rx_ast::proofs::ClassEquations::class_mirrors))]
+pub fn write_flat_contents<W: TextSink>(
     sink: &mut W,
     mode: Mode,
     contents: &CharacterClassContents,
 ) -> Result<(), Failed>
+    requires { is_class (mirror_contents contents.now) ≡ false }
     ensures { Written W.taken W.fixed W.faults sink.old sink.new result (utf8 (member_text mode (mirror_contents contents.now))) }
 {
     match contents {
@@ -136,7 +136,33 @@ pub fn write_contents<W: TextSink>(
         CharacterClassContents::ClassStringDisjunction(it) => {
             write_string_disjunction(sink, mode, it)
         }
+        CharacterClassContents::NestedCharacterClass(_) => unreachable!(),
+    }
+}
+
+/// Writes one of a class's contents.
+#[cycle(class)]
+#[tactic(auto, using(rx_ast::proofs::ClassSizes::class_sizes, rx_ast::proofs::ClassEquations::class_mirrors))]
+fn write_contents<W: TextSink>(
+    sink: &mut W,
+    mode: Mode,
+    contents: &CharacterClassContents,
+) -> Result<(), Failed>
+    ensures { Written W.taken W.fixed W.faults sink.old sink.new result (utf8 (member_text mode (mirror_contents contents.now))) }
+{
+    match contents {
         CharacterClassContents::NestedCharacterClass(it) => write_class(sink, mode, it),
+        CharacterClassContents::CharacterClassRange(_) => write_flat_contents(sink, mode, contents),
+        CharacterClassContents::CharacterClassEscape(_) => {
+            write_flat_contents(sink, mode, contents)
+        }
+        CharacterClassContents::UnicodePropertyEscape(_) => {
+            write_flat_contents(sink, mode, contents)
+        }
+        CharacterClassContents::Character(_) => write_flat_contents(sink, mode, contents),
+        CharacterClassContents::ClassStringDisjunction(_) => {
+            write_flat_contents(sink, mode, contents)
+        }
     }
 }
 

@@ -1,4 +1,4 @@
-ghost use Rattle.std.specs.Prelude.{◌++◌, ◌+◌, ◌*◌, ◌<◌, IfOk, OnOk, codes, map, sum_by};
+ghost use Rattle.std.specs.Prelude.{◌≡◌, ◌++◌, ◌+◌, ◌*◌, ◌<◌, IfOk, OnOk, codes, false, map, sum_by};
 ghost use Rattle.std.specs.Io.KnownBytes.{Appends};
 ghost use Rattle.rx_ast.specs.ClassTree.{members, mirror_class, mirror_contents};
 ghost use Rattle.rx_ast.specs.Size.{all_contents_size, contents_size};
@@ -7,10 +7,11 @@ ghost use Rattle.rx_model.specs.Spelling.ClassText.{class_text, member_text, mor
 ghost use Rattle.rx_tasks.specs.Tasks.{tasks_of};
 ghost use Rattle.rx_tasks.specs.Texts.{Goes, texts_of};
 ghost use Rattle.rx_tools.specs.ClassTasks.{class_task_text, class_task_weight};
+ghost use Rattle.rx_tools.specs.Leaves.{is_nested as is_class};
 ghost use Rattle.rx_tools.specs.Utf8.{utf8};
 ghost use Rattle.rx_tools.specs.Writes.{writes};
 
-use crate::class::write_contents;
+use crate::class::write_flat_contents;
 use crate::write::write_str;
 use rx_ast::parts::{class_opener, operator_text};
 use rx_ast::{CharacterClass, CharacterClassContents, CharacterClassContentsKind};
@@ -123,10 +124,32 @@ fn write_or_put_back<'a, W: TextSink>(
     ensures text { IfOk result (λ next. Goes (writes W.taken) sink.old sink.new (member_text mode (mirror_contents contents.now) ++ class_task_text rest.entry) (texts_of class_task_text next)) }
     ensures lighter { IfOk result (λ next. sum_by class_task_weight (tasks_of next) < 2 * contents_size contents.now + class_task_weight rest.entry) }
 {
-    if let CharacterClassContents::NestedCharacterClass(class) = contents {
-        return Ok(Next::Two(ClassTask::Class(mode, class), rest));
+    match contents {
+        CharacterClassContents::NestedCharacterClass(class) => {
+            Ok(Next::Two(ClassTask::Class(mode, class), rest))
+        }
+        CharacterClassContents::CharacterClassRange(_) => write_alone(sink, mode, contents, rest),
+        CharacterClassContents::CharacterClassEscape(_) => write_alone(sink, mode, contents, rest),
+        CharacterClassContents::UnicodePropertyEscape(_) => write_alone(sink, mode, contents, rest),
+        CharacterClassContents::Character(_) => write_alone(sink, mode, contents, rest),
+        CharacterClassContents::ClassStringDisjunction(_) => write_alone(
+            sink, mode, contents, rest,
+        ),
     }
-    // No class stands in the others, so this does not call itself.
-    write_contents(sink, mode, contents)?;
+}
+
+/// Writes one of a class's contents that is no class. The rest is put back.
+#[tactic(auto, using(rx_ast::proofs::ClassSizes::class_sizes))]
+fn write_alone<'a, W: TextSink>(
+    sink: &mut W,
+    mode: Mode,
+    contents: &'a CharacterClassContents,
+    rest: ClassTask<'a>,
+) -> Result<Next<ClassTask<'a>>, Failed>
+    requires { is_class (mirror_contents contents.now) ≡ false }
+    ensures text { IfOk result (λ next. Goes (writes W.taken) sink.old sink.new (member_text mode (mirror_contents contents.now) ++ class_task_text rest.entry) (texts_of class_task_text next)) }
+    ensures lighter { IfOk result (λ next. sum_by class_task_weight (tasks_of next) < 2 * contents_size contents.now + class_task_weight rest.entry) }
+{
+    write_flat_contents(sink, mode, contents)?;
     Ok(Next::One(rest))
 }

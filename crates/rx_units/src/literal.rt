@@ -13,7 +13,7 @@ const FIRST_LEAD: u32 = 0xD800;
 const FIRST_TRAIL: u32 = 0xDC00;
 
 /// Adds a code point, given by its start and its end in bytes, without the offset, its value and how it was escaped: one unit,
-/// or, where pairs are not combined, a lead and a trail that share the span. A refusal leaves the list as before.
+/// or, where pairs are not combined, a lead and a trail that share the span. After an error the list is as before.
 pub fn handle_code_point(
     body: &mut List<CodePoint>,
     code_point: ((u32, u32), u32, EscapeKind),

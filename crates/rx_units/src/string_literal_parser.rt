@@ -124,7 +124,7 @@ impl Model for Parser {
 }
 
 impl Parser {
-    /// Takes a text with its quotes. It is refused for want of memory alone.
+    /// Takes a text with its quotes. Fails only where there is not enough memory.
     pub fn new(alloc: Global, source_text: &str, options: Options) -> Result<Parser, StringFault>
         requires { options.span_offset + length source_text.now < 2 ^ 32 }
         ensures ok { IfOk result (λ parser. parser ≡ record { text = chars source_text.now; options = options }) }
@@ -157,6 +157,7 @@ fn decode(alloc: Global, text: &[char], options: Options) -> Result<StringLitera
     decode_text(alloc, text, options)
 }
 
+/// The same. That no other answer is possible follows from its two clauses, since a text is decoded in one way or has one fault.
 fn decode_text(alloc: Global, text: &[char], options: Options) -> Result<StringLiteral, StringFault>
     requires { IsGiven text.now options }
     ensures ok { IfOk result (IsStringOf (record { text = text.now; options = options })) }

@@ -92,7 +92,7 @@ impl Model for Parser {
 }
 
 impl Parser {
-    /// Takes a text with its grave accents. It is refused for want of memory alone.
+    /// Takes a text with its grave accents. Fails only where there is not enough memory.
     pub fn new(alloc: Global, source_text: &str, options: Options) -> Result<Parser, TemplateFault>
         requires { options.span_offset + length source_text.now < 2 ^ 32 }
         ensures ok { IfOk result (λ parser. parser ≡ record { text = chars source_text.now; options = options }) }
@@ -125,6 +125,7 @@ fn decode(alloc: Global, text: &[char], options: Options) -> Result<TemplateLite
     decode_text(alloc, text, options)
 }
 
+/// The same. That no other answer is possible follows from its two clauses, since a text is decoded in one way or has one fault.
 fn decode_text(
     alloc: Global,
     text: &[char],

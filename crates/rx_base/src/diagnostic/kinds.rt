@@ -50,7 +50,7 @@ impl RangeKind {
     }
 }
 
-/// The operator of a class set between whose operands a character is wrong.
+/// An operator of classes with `v`. In a refusal it is the one between whose operands a character is wrong.
 #[derive(Clone, Copy, Debug, PartialEq, Eq)]
 pub enum SetOperator {
     Intersection,

@@ -1,63 +1,37 @@
 -- What stands after a backslash in a class, and what is answered of it.
 use Rattle.std.proofs.Common.{◌≡◌, ◌≢◌, refl, sym, ap, ◌∙◌, subst, ℕ, suc, ◌+◌, ◌-◌, ◌≤◌, ◌==◌, nat_le, Bool, true, false, not, ◌&&◌, Option, Some, None, Ok, Err, All, get_or, List, [], ◌∷◌, ◌++◌, length, min, codes, arith, inl, inr}
-use Rattle.std.proofs.lemmas.Bool.{cases_Bool, eqb-true, false_from_ne_true, not-true, true≢false}
-use Rattle.std.proofs.lemmas.Bool.Decides.{nat_tests}
-use Rattle.std.proofs.lemmas.List.{length-map}
-use Rattle.std.proofs.lemmas.List.Elements.{All-head}
-use Rattle.rx_base.specs.Characters.{is_one_of}
-use Rattle.rx_base.specs.declared.diagnostic.Diagnostic.{Diagnostic}
+use Rattle.rx_class.proofs.Common.{cases_Bool, eqb-true, false_from_ne_true, not-true, true≢false, nat_tests, length-map, All-head, is_one_of, Diagnostic, Fault, Span, control_escape_value}
+use Rattle.rx_class.proofs.Common.{hex_digit_value, is_decimal_digit, Character, CharacterClassEscapeKind, CharacterKind, UnicodePropertyEscape, CodePoint, Cursor, move_on, offset_of, rest}
+use Rattle.rx_class.proofs.Common.{values, front_is, is_hex_digit, IsAtomPlace, atom_obeys, character, class_escape_text, Environment, is_sets, is_unicode, begins_property, span_between}
+use Rattle.rx_class.proofs.Common.{class_environment, both, chosen, ClassAtom, GivesClassEscape, IsAfterBackslash, from_backslash, span_to, GivesAtom, StandsItem, IsOfText, alone_in_class}
+use Rattle.rx_class.proofs.Common.{atom_of, atom_span, back, AnswersFound, class_escape_front, starts, any_there, class_letter, unicode_alone, and-false}
 use Rattle.rx_base.specs.declared.diagnostic.Diagnostic.TheVariants.{InvalidClassAtom}
-use Rattle.rx_base.specs.declared.fault.Fault.{Fault}
 use Rattle.rx_base.specs.declared.fault.Fault.TheVariants as fault
-use Rattle.rx_base.specs.declared.span.Span.{Span}
-use Rattle.rx_tables.specs.Characters.{control_escape_value, control_letter_value, hex_digit_value, is_decimal_digit}
-use Rattle.rx_ast.specs.declared.leaf.Character.{Character}
+use Rattle.rx_tables.specs.Characters.{control_letter_value}
 use Rattle.rx_ast.specs.declared.leaf.CharacterClassEscape.{CharacterClassEscape}
-use Rattle.rx_ast.specs.declared.leaf.CharacterClassEscapeKind.{CharacterClassEscapeKind}
-use Rattle.rx_ast.specs.declared.leaf.CharacterKind.{CharacterKind}
 use Rattle.rx_ast.specs.declared.leaf.CharacterKind.TheVariants as kinds
-use Rattle.rx_ast.specs.declared.leaf.UnicodePropertyEscape.{UnicodePropertyEscape}
-use Rattle.rx_units.specs.declared.code_point.CodePoint.{CodePoint}
-use Rattle.rx_units.specs.Cursor.{Cursor, move_on, offset_of, rest}
-use Rattle.rx_units.specs.Units.{values}
-use Rattle.rx_units.specs.Digits.{front_is, is_hex_digit}
 use Rattle.rx_model.specs.Refusals.ClassCauses.{escape_in_class as cause_of_escape, invalid_atom, property_in_class}
-use Rattle.rx_model.specs.Refusals.ClassPlaces.{IsAtomPlace}
 use Rattle.rx_model.specs.Classes.ClassRows.{SpellsAtom, SpellsClassCharacter, SpellsInClassAlone}
 use Rattle.rx_model.specs.Classes.ClassRows as row
-use Rattle.rx_model.specs.Classes.ClassRuns.{atom_obeys}
-use Rattle.rx_model.specs.Classes.ClassTokens.{character}
-use Rattle.rx_ast.specs.Texts.{class_escape_text}
-use Rattle.rx_model.specs.Inputs.Environment.{Environment, is_sets, is_unicode}
 use Rattle.rx_model.specs.Characters.EscapeFronts.{EscapeRead, any_escape_at, class_escape_at, escaped, nothing}
 use Rattle.rx_model.specs.Characters.EscapeFronts.{escape_at}
 use Rattle.rx_model.specs.Characters.Escapes.{SpellsEscape, control, hexadecimal, identity, is_identity_escape, letter, null}
-use Rattle.rx_model.specs.Properties.PropertyForms.{begins_property}
-use Rattle.rx_model.specs.Refusals.Reached.{span_between, class_environment}
 use Rattle.rx_model.specs.Refusals.Stops.{begins_class_escape, is_hyphen_escaped, is_letter, two_hex_digits}
-use Rattle.rx_units.proofs.Choices.{both, chosen}
-use Rattle.rx_class.specs.declared.classes.atom.ClassAtom.{ClassAtom}
 use Rattle.rx_class.specs.declared.classes.atom.ClassAtom.TheVariants as atom
-use Rattle.rx_class.specs.EscapeReading.Answers.{GivesClassEscape, IsAfterBackslash, from_backslash, span_to}
 use Rattle.rx_class.specs.EscapeReading.Answers as given
-use Rattle.rx_class.specs.ClassReading.Items.{BeginsNone, GivesAtom, StandsItem, IsOfText, alone_in_class, atom_of, atom_span, back, kind_in_class}
+use Rattle.rx_class.specs.ClassReading.Items.{BeginsNone, kind_in_class}
 use Rattle.rx_class.specs.ClassReading.Items as answer
-use Rattle.rx_class.specs.EscapeReading.Found.{AnswersFound, class_escape_front}
 use Rattle.rx_class.specs.EscapeReading.Found as found
 use Rattle.rx_class.specs.PropertyReading.Answers.{GivesProperty}
 use Rattle.rx_class.specs.PropertyReading.Answers as given_property
 use Rattle.rx_class.proofs.Keeping.{keeps_placed, stays_keeps}
 use Rattle.rx_class.proofs.PropertyReading.Spans.{cut_off, next_span}
-use Rattle.rx_model.specs.FirstPass.Marks.{starts}
 use Rattle.rx_model.proofs.Characters.Escapes.{escape_nothing}
 use Rattle.rx_model.proofs.Characters.LegacyEscapes.{IsCharacterOrNothing, any_in_unicode, any_read, any_refused, any_spelled}
-use Rattle.rx_model.proofs.Classes.ClassFronts.{any_there, class_letter}
-use Rattle.rx_model.proofs.Inputs.Modes.{unicode_alone}
 use Rattle.rx_model.proofs.Refusals.Stops.{some_there, two_number}
 use Rattle.rx_class.proofs.EscapeReading.Gives.{StandsAfter, stands, stands_within, class_gives, nothing_in_legacy, refusal_cause, refusal_keeps}
 use Rattle.rx_class.proofs.ClassReading.Places.{property_place}
 use Rattle.rx_class.proofs.Modes.{hyphen_without_sets, raw_without_sets}
-use Rattle.std.proofs.Math.Bool.{and-false}
 
 not_alone : (unicode : Bool) (c : ℕ) (w : List ℕ) → alone_in_class unicode (c ∷ w) ≡ None → ((c == 98) ≡ false) × ((unicode && c == 45) ≡ false)
 not_alone unicode c w h = (grind (arith, nat_tests), grind (arith, nat_tests))

@@ -1,51 +1,29 @@
 -- A class whose items are read one after another: where its reader stands, and what it answers.
 use Rattle.std.proofs.Common.{◌≡◌, refl, sym, ap, ap₂, ◌∙◌, subst, ℕ, ◌+◌, ◌-◌, ◌<◌, ◌==◌, Bool, true, false, Ok, Err, Some, is_some, List, [], ◌∷◌, ◌++◌, length, if◌then◌else◌, arith, append-nil, append_assoc, length-append}
-use Rattle.std.proofs.Math.Bool.{and-false, and-true}
-use Rattle.rx_base.specs.declared.diagnostic.Diagnostic.{Diagnostic}
-use Rattle.rx_base.specs.declared.diagnostic.Diagnostic.TheVariants.{UnterminatedPattern}
+use Rattle.rx_class.proofs.Common.{and-false, and-true, Diagnostic, UnterminatedPattern, Fault, Span, CharacterClass, CharacterClassContents, Members, no_member, mirror_class, CodePoint}
+use Rattle.rx_class.proofs.Common.{Cursor, front, move_on, offset_of, rest, values, Mode, IsInBracket, IsItemPlace, of_class, bracket_of, empty, bracket, closer, leave, token}
+use Rattle.rx_class.proofs.Common.{members_events, more_members_events, Environment, is_sets, mode_by, starts, span_between, class_environment, token_some, union_tokens, class_row_tokens}
+use Rattle.rx_class.proofs.Common.{State, ClassItem, environment_of, span_to, BeginsNoClass, GivesClass, HoldsFirstPass, GivesItem, IsItem, IsOfText, contents, item_members, KeepsUnits, offset_in}
 use Rattle.rx_base.specs.declared.diagnostic.kinds.Unterminated.TheVariants as what
-use Rattle.rx_base.specs.declared.fault.Fault.{Fault}
 use Rattle.rx_base.specs.declared.fault.Fault.TheVariants as fault
-use Rattle.rx_base.specs.declared.span.Span.{Span}
-use Rattle.rx_ast.specs.declared.class.CharacterClass.{CharacterClass}
-use Rattle.rx_ast.specs.declared.class.CharacterClassContents.{CharacterClassContents}
 use Rattle.rx_ast.specs.declared.class.CharacterClassContentsKind.TheVariants.{Union}
-use Rattle.rx_ast.specs.ClassTree.{Members, no_member, class, mirror_class}
-use Rattle.rx_units.specs.declared.code_point.CodePoint.{CodePoint}
-use Rattle.rx_units.specs.Cursor.{Cursor, begins, front, move_on, offset_of, rest}
-use Rattle.rx_units.specs.Units.{offset_at, values}
-use Rattle.rx_model.specs.declared.mode.Mode.{Mode}
+use Rattle.rx_ast.specs.ClassTree.{class}
+use Rattle.rx_units.specs.Cursor.{begins}
 use Rattle.rx_model.specs.Refusals.ClassCauses.{IsClassCause, NothingFollows, unterminated_class}
-use Rattle.rx_model.specs.Refusals.ClassPlaces.{IsInBracket, IsItemPlace, of_class}
 use Rattle.rx_model.specs.Classes.ClassRows.{ClassRow, ClassTokenRow, Place, SpellsInClass, fresh, outside}
-use Rattle.rx_model.specs.Classes.ClassRuns.{Held, bracket_of, empty}
-use Rattle.rx_model.specs.Classes.ClassTokens.{bracket, closer, leave, token, members_events, more_members_events}
-use Rattle.rx_model.specs.Inputs.Environment.{Environment, environment_with, has_some, is_sets}
-use Rattle.rx_model.specs.Inputs.Modes.{mode_by}
-use Rattle.rx_model.specs.FirstPass.Marks.{starts}
-use Rattle.rx_model.specs.Refusals.Reached.{span_between, class_environment}
+use Rattle.rx_model.specs.Classes.ClassRuns.{Held}
+use Rattle.rx_model.specs.Inputs.Environment.{environment_with, has_some}
 use Rattle.rx_model.proofs.Classes.ClassBeyond.{no_class}
 use Rattle.rx_model.proofs.Classes.ClassFaults.{stuck}
-use Rattle.rx_model.proofs.Classes.ClassFronts.{token_some}
 use Rattle.rx_model.proofs.Classes.ClassStates.{opened_union}
-use Rattle.rx_model.proofs.Classes.ClassTokens.{members_are, more_tokens_are, union_tokens}
-use Rattle.rx_model.proofs.Classes.ClassWithoutSpans.{class_row_tokens}
+use Rattle.rx_model.proofs.Classes.ClassTokens.{members_are, more_tokens_are}
 use Rattle.rx_model.proofs.Classes.OneInClass.{class_cause_is_first}
-use Rattle.rx_scan.specs.declared.state.State.{State}
-use Rattle.rx_class.specs.declared.classes.item.ClassItem.{ClassItem}
-use Rattle.rx_class.specs.EscapeReading.Answers.{environment_of, span_to}
-use Rattle.rx_class.specs.ClassReading.Answers.{BeginsNoClass, GivesClass, HoldsFirstPass}
 use Rattle.rx_class.specs.ClassReading.Answers as class_answer
-use Rattle.rx_class.specs.ClassReading.Items.{GivesItem, IsItem, IsOfText, contents, item_contents, item_members}
+use Rattle.rx_class.specs.ClassReading.Items.{item_contents}
 use Rattle.rx_class.specs.ClassReading.Items as item_answer
-use Rattle.rx_class.specs.Keeping.{KeepsUnits}
 use Rattle.rx_class.proofs.ClassReading.Items.{AreItems, items_push, rows_append}
 use Rattle.rx_class.proofs.Keeping.{Passes, keeps_on, passes_keeps, passes_moved, passes_on, passes_over}
 use Rattle.rx_class.proofs.SetReading.Refusals.{unit_next}
-
--- the offset of a place of a reader's text
-abbrev pub offset_in : ℕ → Cursor → ℕ → ℕ
-offset_in added r i = offset_at r.first r.units i + added
 
 -- From the bracket at a reader's old place, items lead to its new one.
 pub record IsInClass (e : Environment) (added : ℕ) (old new : Cursor) (negative : Bool) (ms : Members) : Type 0 where

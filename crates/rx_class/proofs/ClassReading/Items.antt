@@ -1,22 +1,15 @@
 -- Items that stand one after another in a class: what they spell, and what the bracket around them holds.
-use Rattle.std.proofs.Common.{◌≡◌, refl, sym, ap, ◌∙◌, subst, ℕ, ◌+◌, Bool, false, Some, List, [], ◌∷◌, ◌++◌, length, append-nil, append_assoc}
-use Rattle.std.specs.Prelude.{map}
-use Rattle.std.proofs.lemmas.Bool.{le-leb, or_parts}
-use Rattle.std.proofs.lemmas.List.{map-append}
-use Rattle.rx_ast.specs.declared.class.CharacterClassContents.{CharacterClassContents}
-use Rattle.rx_ast.specs.ClassTree.{Member, Members, members, mirror_contents}
+use Rattle.std.proofs.Common.{◌≡◌, refl, sym, ap, ◌∙◌, subst, ℕ, ◌+◌, Bool, false, Some, List, [], ◌∷◌, ◌++◌, length, append-nil, append_assoc, map}
+use Rattle.rx_class.proofs.Common.{le-leb, map-append, CharacterClassContents, Member, Members, members, mirror_contents, CodePoint, empty, bracket_of, class_run, character, property}
+use Rattle.rx_class.proofs.Common.{ClassToken, ClassEvents, token, class_tokens_of, member_events, more_members_events, AreEarlyMembers, IsEarlyMember, any_strings}
+use Rattle.rx_class.proofs.Common.{member_strings, Environment, union_tokens, IsFittingMember, IsFlaggedMember, IsItem, IsPlain, contents, AreSound, IsSound}
+use Rattle.std.proofs.lemmas.Bool.{or_parts}
 use Rattle.rx_ast.specs.ClassTree as tree
-use Rattle.rx_units.specs.declared.code_point.CodePoint.{CodePoint}
 use Rattle.rx_model.specs.Classes.ClassRows.{Place, ClassRow, next_place, fresh}
-use Rattle.rx_model.specs.Classes.ClassRuns.{Held, empty, bracket_of, class_run}
-use Rattle.rx_model.specs.Classes.ClassTokens.{character, escape, property, ClassToken, ClassEvents, enter, leave, token, class_tokens_of, member_events, more_members_events}
-use Rattle.rx_model.specs.Trees.Early.{AreEarlyMembers, IsEarlyMember, any_strings, member_strings}
-use Rattle.rx_model.specs.Inputs.Environment.{Environment}
-use Rattle.rx_model.proofs.Classes.ClassTokens.{union_tokens}
+use Rattle.rx_model.specs.Classes.ClassRuns.{Held}
+use Rattle.rx_model.specs.Classes.ClassTokens.{escape}
 use Rattle.rx_model.proofs.Classes.ClassWholes.{IsUnion, atom_runs, class_run-append, property_obeys, range_runs}
-use Rattle.rx_model.specs.Classes.ClassShapes.{IsFittingMember, IsFlaggedMember}
-use Rattle.rx_class.specs.ClassReading.Items.{ArePlain, IsItem, IsPlain, contents}
-use Rattle.rx_class.specs.SetReading.WellBuilt.{AreSound, IsSound}
+use Rattle.rx_class.specs.ClassReading.Items.{ArePlain}
 use Rattle.rx_class.proofs.SetReading.MembersPushed.{sound_pushed}
 
 -- After an item the bracket is around a union still.
@@ -34,8 +27,7 @@ member_holds negative from m u early plain none = let r = by m early plain none 
     by (tree.escape e) early plain none = atom_runs negative from (escape e.kind) [] u refl refl
     by (tree.property p) early plain none = atom_runs negative from (property p.negative p.strings p.name p.value) [] u (property_obeys p.negative p.strings early.1) none
     by (tree.character c) early plain none = atom_runs negative from (character c.kind c.value) [] u (le-leb c.value 0x10FFFF early) refl
-    by (tree.nested c) early plain none = absurd plain
-    by (tree.strings d) early plain none = absurd plain
+    by m early plain none = absurd plain
 
 members_hold : (negative : Bool) (from : Held) (ms : List Member) → IsUnion from → AreEarlyMembers (members ms) → ArePlain ms → any_strings (members ms) ≡ false → Holds negative (union_tokens (members ms)) from
 members_hold negative from [] u early plain none = record { held = from; union = u; run = refl }
@@ -75,10 +67,9 @@ module _ (e : Environment) (o : ℕ → ℕ) where
       ClassRow e o es q i us r j rest → ClassRow e o fs r j rest s k end → ClassRow e o (es ++ fs) q i us s k end
   rows_append [] fs q i us r j rest s k end h g =
       subst (λ q. ClassRow e o fs q i us s k end) (sym h.0) (subst (λ i. ClassRow e o fs r i us s k end) (sym h.1) (subst (λ us. ClassRow e o fs r j us s k end) (sym h.2) g))
-  rows_append ((enter n) ∷ es) fs q i us r j rest s k end h g = (h.0, rows_append es fs q i us r j rest s k end h.1 g)
-  rows_append ((leave n) ∷ es) fs q i us r j rest s k end h g = (h.0, rows_append es fs q i us r j rest s k end h.1 g)
   rows_append ((token t) ∷ es) fs q i us r j rest s k end h g =
       (h.0, h.1, h.2, h.3, rows_append es fs (next_place e.mode q t h.1) (i + length h.0) h.1 r j rest s k end h.4 g)
+  rows_append (edge ∷ es) fs q i us r j rest s k end h g = (h.0, rows_append es fs q i us r j rest s k end h.1 g)
 
   -- Items stand one after another from place i on to place j, where the rest is left.
   pub record AreItems (negative : Bool) (ms : Members) (i : ℕ) (us : List CodePoint) (j : ℕ) (rest : List CodePoint) : Type 0 where

@@ -1,10 +1,8 @@
 -- Places of a class without `v`.
 use Rattle.std.proofs.Common.{◌≡◌, false, ℕ, List, ◌∷◌, ◌++◌, inl, inr, refl}
-use Rattle.rx_units.specs.declared.code_point.CodePoint.{CodePoint}
-use Rattle.rx_model.specs.Refusals.ClassPlaces.{IsAtomPlace, IsItemPlace, IsOperandPlace, IsPropertyPlace}
+use Rattle.rx_class.proofs.Common.{CodePoint, IsAtomPlace, IsItemPlace, IsOperandPlace, strings, Environment, is_sets}
+use Rattle.rx_model.specs.Refusals.ClassPlaces.{IsPropertyPlace}
 use Rattle.rx_model.specs.Classes.ClassRows.{in_strings, outside}
-use Rattle.rx_model.specs.Classes.ClassTokens.{strings}
-use Rattle.rx_model.specs.Inputs.Environment.{Environment, is_sets}
 use Rattle.rx_model.proofs.Classes.ClassEnds.{class_row_append}
 use Rattle.rx_model.proofs.Classes.ClassStates.{none_in_strings, opened_union, union_more}
 

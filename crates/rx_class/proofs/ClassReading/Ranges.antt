@@ -1,41 +1,22 @@
 -- An item of a class is an atom, or a range of two atoms with a `-` between them.
 use Rattle.std.proofs.Common.{◌≡◌, refl, sym, ap, ◌∙◌, subst, ℕ, ◌+◌, ◌<◌, ◌≤◌, ◌==◌, Bool, true, false, not, ◌&&◌, Some, Ok, Err, List, [], ◌∷◌, ◌++◌, length, arith, inl, inr, append_assoc, length-append}
-use Rattle.std.proofs.lemmas.Bool.{eqb-true, leb-true, true≢false, not-true}
-use Rattle.std.proofs.lemmas.Bool.Decides.{nat_tests}
-use Rattle.rx_base.specs.declared.diagnostic.Diagnostic.{Diagnostic}
-use Rattle.rx_base.specs.declared.fault.Fault.{Fault}
+use Rattle.rx_class.proofs.Common.{eqb-true, true≢false, not-true, nat_tests, Diagnostic, Fault, Span, Character, CharacterClassContents, CharacterClassRange, mirror_contents, CodePoint}
+use Rattle.rx_class.proofs.Common.{Cursor, front, move_on, offset_of, rest, offset_at, values, starts, IsItemPlace, IsSecondPlace, atom_obeys, Atom, character, item, leave, member_events}
+use Rattle.rx_class.proofs.Common.{token, within, IsEarlyMember, member_strings, Environment, is_sets, is_unicode, span_between, class_environment, both, atom_some, unicode_alone}
+use Rattle.rx_class.proofs.Common.{strings_by_name, ClassAtom, ClassItem, span_to, GivesAtom, GivesItem, IsItem, IsOfText, IsPlain, StandsItem, atom_member, atom_of, atom_span, between}
+use Rattle.rx_class.proofs.Common.{item_members, stands_alone}
+use Rattle.std.proofs.lemmas.Bool.{leb-true}
 use Rattle.rx_base.specs.declared.fault.Fault.TheVariants as fault
-use Rattle.rx_base.specs.declared.span.Span.{Span}
-use Rattle.rx_ast.specs.declared.leaf.Character.{Character}
 use Rattle.rx_ast.specs.declared.leaf.CharacterKind.TheVariants as kinds
-use Rattle.rx_ast.specs.declared.class.CharacterClassContents.{CharacterClassContents}
-use Rattle.rx_ast.specs.declared.class.CharacterClassRange.{CharacterClassRange}
-use Rattle.rx_ast.specs.ClassTree.{mirror_contents}
 use Rattle.rx_ast.specs.ClassTree as tree
-use Rattle.rx_units.specs.declared.code_point.CodePoint.{CodePoint}
-use Rattle.rx_units.specs.Cursor.{Cursor, front, move_on, offset_of, rest}
-use Rattle.rx_units.specs.Units.{offset_at, values}
-use Rattle.rx_model.specs.FirstPass.Marks.{starts}
 use Rattle.rx_model.specs.Refusals.ClassCauses.{StandsRange, is_character}
 use Rattle.rx_model.specs.Refusals.ClassCauses as cause
-use Rattle.rx_model.specs.Refusals.ClassPlaces.{IsItemPlace, IsSecondPlace}
 use Rattle.rx_model.specs.Classes.ClassRows.{BeforeThird, ClassRow, SpellsAtom, fresh, is_dashed}
-use Rattle.rx_model.specs.Classes.ClassRuns.{atom_obeys}
-use Rattle.rx_model.specs.Classes.ClassTokens.{Atom, character, item, leave, member_events, token, within}
-use Rattle.rx_model.specs.Trees.Early.{IsEarlyMember, member_strings}
-use Rattle.rx_model.specs.Inputs.Environment.{Environment, is_sets, is_unicode}
-use Rattle.rx_model.specs.Refusals.Reached.{span_between, class_environment}
-use Rattle.rx_units.proofs.Choices.{both}
-use Rattle.rx_model.proofs.Classes.ClassFronts.{atom_some, after_first, after_one}
-use Rattle.rx_model.proofs.Inputs.Modes.{unicode_alone}
-use Rattle.rx_model.proofs.Properties.PropertyFlags.{strings_by_name}
+use Rattle.rx_model.proofs.Classes.ClassFronts.{after_first, after_one}
 use Rattle.rx_model.proofs.Classes.PieceClasses.{legacy_threes}
-use Rattle.rx_class.specs.declared.classes.atom.ClassAtom.{ClassAtom}
 use Rattle.rx_class.specs.declared.classes.atom.ClassAtom.TheVariants as atom
-use Rattle.rx_class.specs.declared.classes.item.ClassItem.{ClassItem}
 use Rattle.rx_class.specs.declared.classes.item.ClassItem.TheVariants as given_item
-use Rattle.rx_class.specs.EscapeReading.Answers.{span_to}
-use Rattle.rx_class.specs.ClassReading.Items.{GivesAtom, GivesItem, IsAtomCause, IsBetween, IsItem, IsItemCause, IsOfText, IsPlain, StandsItem, atom_member, atom_of, atom_span, between, hyphen_member, item_members, stands_alone, stands_range}
+use Rattle.rx_class.specs.ClassReading.Items.{IsAtomCause, IsBetween, IsItemCause, hyphen_member, stands_range}
 use Rattle.rx_class.specs.ClassReading.Items as items
 use Rattle.rx_class.proofs.Keeping.{Passes, keeps_from, passes_keeps, passes_moved, passes_on, passes_over}
 use Rattle.rx_class.proofs.ClassReading.Places.{operand_place}
@@ -137,8 +118,7 @@ module _ {old to mid : Cursor} (f : RangeFront old to mid) where
 -- An atom as a member of a class.
 pub atom_events : (a : ClassAtom) → member_events (atom_member a) ≡ within (atom_span a) (token (item (atom_of a)) ∷ [])
 atom_events (atom.Character c) = refl
-atom_events (atom.Escape c) = refl
-atom_events (atom.Property p) = refl
+atom_events a = refl
 
 atom_early : (e : Environment) (a : ClassAtom) (w more : List CodePoint) → SpellsAtom e (atom_of a) w more → atom_obeys (atom_of a) ≡ true → IsEarlyMember (atom_member a)
 atom_early e (atom.Character c) w more s o = leb-true c.value 0x10FFFF o
@@ -147,13 +127,11 @@ atom_early e (atom.Property p) w more s o = (strings_by_name e.mode p.strings p.
 
 atom_plain : (a : ClassAtom) → IsPlain (atom_member a)
 atom_plain (atom.Character c) = tt
-atom_plain (atom.Escape c) = tt
-atom_plain (atom.Property p) = tt
+atom_plain a = tt
 
 atom_no_strings : (e : Environment) (a : ClassAtom) (w more : List CodePoint) → is_sets e.mode ≡ false → SpellsAtom e (atom_of a) w more → member_strings (atom_member a) ≡ false
-atom_no_strings e (atom.Character c) w more no_sets s = refl
-atom_no_strings e (atom.Escape c) w more no_sets s = refl
 atom_no_strings e (atom.Property p) w more no_sets s = no_strings e.mode p.strings p.name p.value s.text no_sets s.spelled
+atom_no_strings e a w more no_sets s = refl
 
 module _ (e : Environment) (added : ℕ) (old : Cursor) where
   -- the reader at another place of its text

@@ -1,19 +1,12 @@
 -- How many units an escape takes, and which values it has.
 use Rattle.std.proofs.Common.{◌≡◌, ℕ, ◌+◌, ◌≤◌, Bool, true, false, All, List, [], ◌∷◌, ◌++◌, length, arith, sym, ap, ◌∙◌, inl, inr, length-append}
-use Rattle.std.proofs.lemmas.List.{length-map}
+use Rattle.rx_class.proofs.Common.{length-map, CharacterKind, CodePoint, values, mode_by, Environment, is_unicode, IsWithin, seen_escape, EscapeFound}
 use Rattle.std.proofs.lemmas.List.Elements.{All-map, All-same}
-use Rattle.rx_ast.specs.declared.leaf.CharacterKind.{CharacterKind}
-use Rattle.rx_units.specs.declared.code_point.CodePoint.{CodePoint}
-use Rattle.rx_units.specs.Units.{values}
-use Rattle.rx_model.specs.Inputs.Modes.{mode_by}
 use Rattle.rx_model.specs.Characters.EscapeFronts.{EscapeRead, legacy_at, or_legacy}
-use Rattle.rx_model.specs.Inputs.Environment.{Environment, is_unicode}
 use Rattle.rx_model.specs.Reading.Fronts.{any_escape_at, escape_at, escaped, no_unicode, too_many}
 use Rattle.rx_model.proofs.Characters.Decoding.{overflow_within}
 use Rattle.rx_model.proofs.Characters.Escapes.{escape_small, escape_spelled, spelled_small, too_many_decoded}
 use Rattle.rx_model.proofs.Characters.LegacyEscapes.{any_refused, any_spelled, legacy_small}
-use Rattle.rx_class.specs.EscapeReading.Found.{IsWithin, seen_escape}
-use Rattle.rx_class.specs.declared.escapes.found.EscapeFound.{EscapeFound}
 use Rattle.rx_class.specs.declared.escapes.found.EscapeFound.TheVariants as found
 use Rattle.rx_class.proofs.Modes.{unicode_by}
 

@@ -1,38 +1,18 @@
 -- What is read after a backslash is what is answered.
 use Rattle.std.proofs.Common.{◌≡◌, ℕ, ◌+◌, ◌-◌, ◌≤◌, List, [], ◌∷◌, Some, length, drop, refl, sym, ap, ◌∙◌, arith, length-drop, ◌++◌, None, ◌==◌, ◌&&◌, Bool, true, false, cond, Option, Result, Err, inl, inr, ap₂, subst}
-use Rattle.std.proofs.lemmas.List.{drop-drop, length-map}
-use Rattle.std.proofs.lemmas.Bool.{cases_Bool, cond-false, eqb-true}
-use Rattle.std.proofs.Math.Bool.{and-false}
-use Rattle.rx_base.specs.declared.diagnostic.Diagnostic.{Diagnostic}
-use Rattle.rx_base.specs.declared.diagnostic.Diagnostic.TheVariants.{TooLargeNumberDigits, InvalidUnicodeEscapeSequence}
-use Rattle.rx_base.specs.declared.diagnostic.kinds.DigitsKind.TheVariants.{Hex}
-use Rattle.rx_base.specs.declared.span.Span.{Span}
+use Rattle.rx_class.proofs.Common.{drop-drop, length-map, cases_Bool, cond-false, eqb-true, and-false, Diagnostic, TooLargeNumberDigits, InvalidUnicodeEscapeSequence, Hex, Span}
+use Rattle.rx_class.proofs.Common.{CharacterClassEscapeKind, class_escape_text, Character, CharacterKind, CodePoint, Cursor, front, rest, move_on, values, front_is, chosen, class_found}
+use Rattle.rx_class.proofs.Common.{class_letter, Environment, is_unicode, IsEscapeCause, invalid_escape, too_many_hex_digits, span_between, split_values, escape_is_first, IsAfterBackslash}
+use Rattle.rx_class.proofs.Common.{from_backslash, GivesClassEscape, span_to, class_escape_front, AnswersFound, many_digits, no_escape_of_u, KeepsUnits}
 use Rattle.rx_ast.specs.declared.leaf.CharacterClassEscape.{CharacterClassEscape}
-use Rattle.rx_ast.specs.declared.leaf.CharacterClassEscapeKind.{CharacterClassEscapeKind}
-use Rattle.rx_ast.specs.Texts.{class_escape_text}
-use Rattle.rx_ast.specs.declared.leaf.Character.{Character}
-use Rattle.rx_ast.specs.declared.leaf.CharacterKind.{CharacterKind}
-use Rattle.rx_units.specs.declared.code_point.CodePoint.{CodePoint}
-use Rattle.rx_units.specs.Cursor.{Cursor, front, rest, move_on}
-use Rattle.rx_units.specs.Units.{values}
-use Rattle.rx_units.specs.Digits.{front_is}
-use Rattle.rx_units.proofs.Choices.{chosen}
-use Rattle.rx_model.proofs.Characters.Backslashes.{class_found}
-use Rattle.rx_model.proofs.Classes.ClassFronts.{class_letter}
-use Rattle.rx_model.specs.Inputs.Environment.{Environment, is_unicode}
-use Rattle.rx_model.specs.Refusals.EscapeCauses.{IsEscapeCause, invalid_escape, too_many_hex_digits}
 use Rattle.rx_model.specs.Refusals.Firsts.{of_character}
 use Rattle.rx_model.specs.Refusals.Stops.{is_hyphen_escaped}
 use Rattle.rx_model.specs.Reading.Fronts.{EscapeRead, any_escape_at, class_escape_at, escape_at, escaped, escape_if, letter_at, nothing, no_unicode, too_many}
-use Rattle.rx_model.specs.Refusals.Reached.{span_between}
 use Rattle.rx_model.proofs.Characters.Escapes.{escape_no_unicode, escape_nothing, escape_spelled, escape_too_many, spelled_escape}
 use Rattle.rx_model.proofs.Characters.LegacyEscapes.{IsCharacterOrNothing, any_in_unicode, any_legacy_read, any_read, any_refused, any_spelled}
-use Rattle.rx_model.proofs.Reading.Splits.{split_values}
 use Rattle.rx_model.proofs.Refusals.LegacyStops.{atom_after_backslash}
-use Rattle.rx_model.proofs.Refusals.OneEscape.{escape_is_first}
-use Rattle.rx_class.specs.EscapeReading.Answers.{IsAfterBackslash, from_backslash, GivesClassEscape, span_to, BeginsNoEscape, GivesCharacter, SpellsCharacter, in_each_mode, in_legacy_mode}
-use Rattle.rx_class.specs.EscapeReading.Found.{class_escape_front, AnswersFound, many_digits, no_escape_of_u, none, shared_escape_at, some}
-use Rattle.rx_class.specs.Keeping.{KeepsUnits}
+use Rattle.rx_class.specs.EscapeReading.Answers.{BeginsNoEscape, GivesCharacter, SpellsCharacter, in_each_mode, in_legacy_mode}
+use Rattle.rx_class.specs.EscapeReading.Found.{none, shared_escape_at, some}
 use Rattle.rx_class.specs.EscapeReading.Answers as given
 
 -- the backslash before the reader's place

@@ -1,25 +1,19 @@
 -- What bounds the steps of looking at an escape.
 use Rattle.std.proofs.Common.{◌≡◌, ℕ, ◌≤◌, ◌==◌, Bool, true, false, cond, is_some, Option, Some, None, List, [], ◌∷◌, length, refl, inl, inr, arith, length-append}
-use Rattle.std.proofs.Math.Bool.{and-false, or-true}
-use Rattle.std.proofs.lemmas.Bool.{eqb-true}
-use Rattle.rx_tables.specs.Characters.{control_escape_value, is_decimal_digit}
-use Rattle.rx_ast.specs.declared.leaf.CharacterKind.{CharacterKind}
+use Rattle.rx_class.proofs.Common.{and-false, eqb-true, control_escape_value, is_decimal_digit, CharacterKind, front_is, chosen, Environment}
+use Rattle.std.proofs.Math.Bool.{or-true}
 use Rattle.rx_ast.specs.declared.leaf.CharacterKind.TheVariants as kinds
-use Rattle.rx_units.specs.Digits.{front_is, hex_number}
-use Rattle.rx_units.proofs.Choices.{chosen}
+use Rattle.rx_units.specs.Digits.{hex_number}
 use Rattle.rx_model.specs.Characters.Decoding.{four_at, after_u}
 use Rattle.rx_model.specs.Characters.EscapeFronts.{escaped, nothing, no_unicode, escape_if, unicode_read, letter_at, two_at, escape_after, escape_at, legacy_at}
 use Rattle.rx_model.specs.Characters.LegacyEscapes.{four_next, identity}
-use Rattle.rx_model.specs.Characters.UnicodeEscapes.{Decodes, SpellsUnicode, alone, braced, code_unit, pair}
-use Rattle.rx_model.specs.Inputs.Environment.{Environment}
+use Rattle.rx_model.specs.Characters.UnicodeEscapes.{Decodes, SpellsUnicode, braced}
 use Rattle.rx_model.proofs.Characters.LegacyEscapes.{spelled_legacy}
 
 -- A unicode escape takes four units at least.
 pub spelled_long : (u : Bool) (v : ℕ) (w rest : List ℕ) → SpellsUnicode u v w rest → 4 ≤ length w
-spelled_long _ _ _ _ (code_unit h) = omega arith
-spelled_long _ _ _ _ (alone h n) = omega arith
-spelled_long _ _ _ _ (pair h k l t) = omega arith
 spelled_long _ _ _ _ (braced x xs h s) = omega (arith, length-append xs (125 ∷ []))
+spelled_long _ _ _ _ it = omega arith
 
 pub long_value : (u : Bool) (w : List ℕ) (v n : ℕ) → Decodes u w v n → 4 ≤ n
 long_value u w v n d = omega (arith, d.count, spelled_long u v d.spelled d.rest d.spells)
@@ -55,11 +49,8 @@ no_number rest a b c d None e h = refl
 no_number rest a b c d (Some v) e h = absurd (let k = rw e at h in let no : ⊥ = cc k in no)
 
 no_four : (w : List ℕ) → unicode_read (after_u false (four_at w) w) ≡ no_unicode → is_some (four_next w) ≡ false
-no_four [] h = refl
-no_four (a ∷ []) h = refl
-no_four (a ∷ b ∷ []) h = refl
-no_four (a ∷ b ∷ c ∷ []) h = refl
 no_four (a ∷ b ∷ c ∷ d ∷ w) h = no_number w a b c d (hex_number (a ∷ b ∷ c ∷ d ∷ [])) refl h
+no_four w h = refl
 
 u_alone : (inside : Bool) (e : Environment) (w : List ℕ) → is_some (four_next w) ≡ false → legacy_at inside e (117 ∷ w) ≡ escaped kinds.Identifier 117 1
 u_alone inside e w h = spelled_legacy inside e kinds.Identifier 117 (117 ∷ []) w (identity record {

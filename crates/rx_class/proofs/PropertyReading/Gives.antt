@@ -1,23 +1,13 @@
 -- What is found after a backslash is what the reader of property escapes answers.
 use Rattle.std.proofs.Common.{◌≡◌, ℕ, ◌-◌, ◌∷◌, true, Some, Ok, Err, length, sym, ap, ◌∙◌, subst, arith}
-use Rattle.std.proofs.lemmas.List.{length-map}
-use Rattle.rx_base.specs.declared.diagnostic.Diagnostic.{Diagnostic}
+use Rattle.rx_class.proofs.Common.{length-map, Diagnostic, UnicodePropertyEscape, CodePoint, Cursor, move_on, rest, values, Environment, is_unicode, IsPropertyCause, escape_is_first}
+use Rattle.rx_class.proofs.Common.{IsAfterBackslash, from_backslash, span_to, KeepsUnits, IsPropertyAfter, IsPropertyHalt, split_values}
 use Rattle.rx_base.specs.declared.fault.Fault.TheVariants as fault
-use Rattle.rx_ast.specs.declared.leaf.UnicodePropertyEscape.{UnicodePropertyEscape}
-use Rattle.rx_units.specs.declared.code_point.CodePoint.{CodePoint}
-use Rattle.rx_units.specs.Cursor.{Cursor, move_on, rest}
-use Rattle.rx_units.specs.Units.{values}
-use Rattle.rx_model.specs.Inputs.Environment.{Environment, is_unicode}
-use Rattle.rx_model.specs.Refusals.EscapeCauses.{IsPropertyCause}
 use Rattle.rx_model.specs.Refusals.Firsts.{of_property}
-use Rattle.rx_model.proofs.Refusals.OneEscape.{escape_is_first}
-use Rattle.rx_class.specs.EscapeReading.Answers.{IsAfterBackslash, from_backslash, span_to}
-use Rattle.rx_class.specs.Keeping.{KeepsUnits}
 use Rattle.rx_class.specs.PropertyReading.Answers.{GivesProperty, some, refused}
-use Rattle.rx_class.specs.PropertyReading.Found.{IsPropertyAfter, IsPropertyHalt, property_refusal}
+use Rattle.rx_class.specs.PropertyReading.Found.{property_refusal}
 use Rattle.rx_class.specs.declared.properties.found.PropertyHalt.{PropertyHalt}
 use Rattle.rx_class.proofs.EscapeReading.Gives.{from_backslash_values, stands}
-use Rattle.rx_model.proofs.Reading.Splits.{split_values}
 use Rattle.rx_model.proofs.Properties.PropertyRefusals.{cause_begins_no_property}
 
 module _ (e : Environment) (added start : ℕ) (old : Cursor) (is : IsAfterBackslash old start) where

@@ -1,25 +1,17 @@
 -- What is found after `\p{` and `\P{` is what stands there, in a mode that has properties.
 use Rattle.std.proofs.Common.{◌≡◌, ◌≢◌, ℕ, ◌+◌, ◌⊎◌, inl, inr, Bool, true, false, ◌&&◌, List, [], ◌∷◌, ◌++◌, Option, Some, length, refl, sym, ap, ◌∙◌, subst, arith, length-append}
+use Rattle.rx_class.proofs.Common.{and-false, CodePoint, values, Mode, starts, is_sets, is_unicode, HasPair, HasRun, begins_property, sets_is, not_sets, unicode_alone, starts_there, IsLone}
+use Rattle.rx_class.proofs.Common.{IsPropertyAfter, IsPropertyHalt, values_length}
 use Rattle.std.proofs.lemmas.List.{append_assoc}
-use Rattle.std.proofs.Math.Bool.{and-false}
 use Rattle.rx_tables.specs.Properties.{IsValidUnicodeProperty}
-use Rattle.rx_units.specs.declared.code_point.CodePoint.{CodePoint}
-use Rattle.rx_units.specs.Units.{values}
-use Rattle.rx_model.specs.declared.mode.Mode.{Mode}
 use Rattle.rx_ast.specs.Texts.{property_opener}
 use Rattle.rx_model.specs.Refusals.EscapeCauses.{BeginsProperty, no_property, unterminated_run, unclosed_run, unclosed_pair, unknown_pair, unknown_run, of_strings, negative_of_strings}
-use Rattle.rx_model.specs.FirstPass.Marks.{starts}
-use Rattle.rx_model.specs.Inputs.Environment.{is_sets, is_unicode}
 use Rattle.rx_model.specs.Properties.PropertyEscapes.{SpellsProperty, pair}
-use Rattle.rx_model.specs.Properties.PropertyForms.{HasPair, HasRun, IsKnownRun, begins_property}
+use Rattle.rx_model.specs.Properties.PropertyForms.{IsKnownRun}
 use Rattle.rx_class.specs.declared.properties.found.Lone.TheVariants as lone
 use Rattle.rx_class.specs.declared.properties.found.PropertyHalt.TheVariants as halt
 use Rattle.rx_class.specs.declared.properties.found.Lone.{Lone}
-use Rattle.rx_model.proofs.Classes.ClassFronts.{sets_is}
-use Rattle.rx_model.proofs.Inputs.Modes.{not_sets, unicode_alone}
-use Rattle.rx_model.proofs.Reading.Splits.{starts_there}
-use Rattle.rx_class.specs.PropertyReading.Found.{IsLone, IsPropertyAfter, IsPropertyHalt, is_known, property_letter, unknown_halt}
-use Rattle.rx_scan.proofs.MarkSteps.{values_length}
+use Rattle.rx_class.specs.PropertyReading.Found.{is_known, property_letter, unknown_halt}
 
 letter_begins : (negative : Bool) → begins_property (property_letter negative) ≡ true
 letter_begins true = refl

@@ -1,19 +1,11 @@
 -- The runs of characters that stand after `\p{` and `\P{`, and the pair of a name and a value that is found there.
 use Rattle.std.proofs.Common.{◌≡◌, ℕ, ◌+◌, ◌≤◌, ◌&&◌, Bool, true, false, cond, suc, List, [], ◌∷◌, ◌++◌, length, take, drop, refl, sym, ap, ◌∙◌, subst, arith, ◌≢◌, ◌⊎◌, ◌==◌, inl, inr, length-append, length-drop}
-use Rattle.std.specs.List.{list_all, prefix_len}
+use Rattle.rx_class.proofs.Common.{list_all, prefix_len, true≢false, nat_tests, length-map, is_unicode_property_value_character, is_unicode_property_name_character, CodePoint, values}
+use Rattle.rx_class.proofs.Common.{front_is, both, HasPair, names_are_values, starts}
 use Rattle.std.proofs.lemmas.List.Sums.{prefix_len-le-length}
-use Rattle.std.proofs.lemmas.Bool.{true≢false}
-use Rattle.std.proofs.lemmas.Bool.Decides.{nat_tests}
-use Rattle.std.proofs.lemmas.List.{length-map, length-take-le}
-use Rattle.rx_tables.specs.Characters.{is_unicode_property_value_character, is_unicode_property_name_character}
-use Rattle.rx_units.specs.declared.code_point.CodePoint.{CodePoint}
-use Rattle.rx_units.specs.Units.{values}
-use Rattle.rx_units.specs.Digits.{front_is}
-use Rattle.rx_units.proofs.Choices.{both}
-use Rattle.rx_model.specs.Properties.PropertyForms.{IsValueRun, HasPair}
-use Rattle.rx_model.proofs.Properties.PropertyRefusals.{names_are_values}
+use Rattle.std.proofs.lemmas.List.{length-take-le}
+use Rattle.rx_model.specs.Properties.PropertyForms.{IsValueRun}
 use Rattle.rx_model.proofs.Properties.PropertyRuns.{one_name, one_run}
-use Rattle.rx_model.specs.FirstPass.Marks.{starts}
 
 -- The longest run of characters of a set, of n units, and what follows it.
 pub record IsRunSplit (set : ℕ → Bool) (us : List CodePoint) (n : ℕ) : Type 0 where

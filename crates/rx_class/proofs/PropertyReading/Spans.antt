@@ -1,12 +1,8 @@
 -- The spans of what a reader has moved over, by places.
 use Rattle.std.proofs.Common.{◌≡◌, ℕ, ◌+◌, ◌-◌, ◌≤◌, List, length, min, ap, ap₂, ◌∙◌, arith}
+use Rattle.rx_class.proofs.Common.{Span, CodePoint, Cursor, move_on, offset_of, offset_at, span_between, span_to}
 use Rattle.std.proofs.lemmas.List.{take_min}
-use Rattle.rx_base.specs.declared.span.Span.{Span}
-use Rattle.rx_units.specs.declared.code_point.CodePoint.{CodePoint}
-use Rattle.rx_units.specs.Cursor.{Cursor, move_on, offset_of}
-use Rattle.rx_units.specs.Units.{end_of, offset_at}
-use Rattle.rx_model.specs.Refusals.Reached.{span_between}
-use Rattle.rx_class.specs.EscapeReading.Answers.{span_to}
+use Rattle.rx_units.specs.Units.{end_of}
 
 -- past the end the offset is that of the end
 capped : (first : ℕ) (us : List CodePoint) (n : ℕ) → offset_at first us (min n (length us)) ≡ offset_at first us n

@@ -1,10 +1,7 @@
 -- What bounds the steps of looking at a property escape.
-use Rattle.std.proofs.Common.{◌≡◌, ℕ, ◌+◌, ◌*◌, ◌≤◌, true, List, length, Result, Ok, Err, IfOk, Option, Bool, ap, arith, length-append}
-use Rattle.rx_base.specs.Rising.{Rises}
+use Rattle.std.proofs.Common.{◌≡◌, ℕ, ◌+◌, ◌*◌, ◌≤◌, true, List, length, Result, Ok, IfOk, Option, Bool, ap, arith, length-append}
+use Rattle.rx_class.proofs.Common.{Rises, Mode, starts, IsPropertyAfter}
 use Rattle.rx_base.specs.declared.out_of_memory.OutOfMemory.{OutOfMemory}
-use Rattle.rx_model.specs.declared.mode.Mode.{Mode}
-use Rattle.rx_model.specs.FirstPass.Marks.{starts}
-use Rattle.rx_class.specs.PropertyReading.Found.{IsPropertyAfter}
 use Rattle.rx_class.specs.PropertyReading.Steps.{IsClosedIn, property_looks}
 use Rattle.rx_class.specs.declared.properties.found.PropertyFound.{PropertyFound}
 use Rattle.rx_class.specs.declared.properties.found.PropertyFound.TheVariants as found
@@ -14,8 +11,7 @@ pub looks : (units n a d : ℕ) (following : List ℕ) (result : Result Property
     → Rises a d 0 (property_looks units result)
 looks units n a d following (Ok (found.Property negative strings text second count)) is least most few = let within = few is.1 in (omega (arith, least), omega (arith, within, is.0))
 looks units n a d following (Ok found.Nothing) is least most few = absurd is
-looks units n a d following (Ok (found.Halt halt)) is least most few = (omega (arith, least), omega (arith, most))
-looks units n a d following (Err e) is least most few = (omega (arith, least), omega (arith, most))
+looks units n a d following result is least most few = (omega (arith, least), omega (arith, most))
 
 -- A property is within the units after its backslash.
 pub property_within : {mode : Mode} {following : List ℕ} {negative strings : Bool} {name : List ℕ} {value : Option (List ℕ)} {count : ℕ} → IsPropertyAfter mode following negative strings name value count → count ≤ length following

@@ -1,16 +1,12 @@
 -- The words of the tables of properties.
 use Rattle.std.proofs.Common.{◌≡◌, ℕ, true, List, codes, refl, sym, ◌∙◌, arith, ◌<◌, nat_lt, length, get_or}
-use Rattle.std.specs.List.{list_all}
+use Rattle.rx_class.proofs.Common.{list_all, nat_tests, CodePoint, values, All-weaker, is_unicode_property_value_character}
 use Rattle.std.specs.Str.{chars}
-use Rattle.std.proofs.lemmas.Bool.Decides.{nat_tests}
 use Rattle.std.proofs.lemmas.Str.{chars-IsAscii}
 use Rattle.std.proofs.lemmas.Str.Ascii.{IsAscii-from_all}
 use Rattle.std.proofs.lemmas.List.Folds.{list_all-map}
-use Rattle.rx_units.specs.declared.code_point.CodePoint.{CodePoint}
-use Rattle.rx_units.specs.Units.{values}
-use Rattle.std.proofs.lemmas.List.Elements.{All-get_or, All-weaker}
+use Rattle.std.proofs.lemmas.List.Elements.{All-get_or}
 use Rattle.std.proofs.lemmas.List.Sums.{AllPass-from_list_all}
-use Rattle.rx_tables.specs.Characters.{is_unicode_property_value_character}
 use Rattle.std.proofs.lemmas.Bool.{ltb-true}
 
 -- its characters as a text

@@ -1,17 +1,10 @@
 -- All that was read of a class, with one thing more.
-use Rattle.std.proofs.Common.{◌≡◌, ap, sym, ◌∙◌, subst, List, [], ◌∷◌, ◌++◌, append_assoc, append-nil, All, length}
-use Rattle.std.specs.Prelude.{IsSome}
-use Rattle.std.specs.List.{flat_map}
-use Rattle.std.proofs.lemmas.List.Elements.{All-nil, All-push, All-take}
+use Rattle.std.proofs.Common.{◌≡◌, ap, sym, ◌∙◌, subst, List, [], ◌∷◌, ◌++◌, append_assoc, append-nil, All, length, IsSome}
+use Rattle.rx_class.proofs.Common.{flat_map, All-nil, All-push, operand, ClassEvents, ClassBuilder, OpenBracket, bracket_events, builder_events, mirror_held, IsAround, IsWellBuilt}
+use Rattle.rx_class.proofs.Common.{IsWellHeld}
+use Rattle.std.proofs.lemmas.List.Elements.{All-take}
 use Rattle.std.proofs.Math.Seq.{take-append_seam}
 use Rattle.std.proofs.lemmas.Grind.{flat_map-append}
-use Rattle.rx_model.specs.Classes.ClassRuns.{operand}
-use Rattle.rx_model.specs.Classes.ClassTokens.{ClassEvents}
-use Rattle.rx_class.specs.declared.sets.builder.ClassBuilder.{ClassBuilder}
-use Rattle.rx_class.specs.declared.sets.open_bracket.OpenBracket.{OpenBracket}
-use Rattle.rx_class.specs.SetReading.BuilderEvents.{bracket_events, builder_events}
-use Rattle.rx_class.specs.SetReading.HeldMirror.{mirror_held}
-use Rattle.rx_class.specs.SetReading.WellBuilt.{IsAround, IsWellBuilt, IsWellHeld}
 
 -- a bracket after others
 outer_events : (bs cs : List OpenBracket) (b : OpenBracket) → cs ≡ bs ++ (b ∷ []) → flat_map bracket_events cs ≡ flat_map bracket_events bs ++ bracket_events b

@@ -1,44 +1,23 @@
 -- Characters and ends of ranges in a class with `v`: what is spelled is read, what is read is spelled, and what is answered.
 use Rattle.std.proofs.Common.{◌≡◌, ◌≢◌, refl, sym, ap, ◌∙◌, subst, ℕ, ◌+◌, ◌≤◌, ◌==◌, true, false, not, All, Ok, Err, List, [], ◌∷◌, ◌++◌, length, arith, inl, inr, length-append}
-use Rattle.std.proofs.lemmas.Bool.{eqb-true, cond-true, cond-false, cond_both, false_from_ne_true}
-use Rattle.std.proofs.lemmas.Bool.Decides.{nat_tests}
-use Rattle.std.proofs.lemmas.List.{length-map, map-append}
-use Rattle.std.proofs.lemmas.List.Elements.{All-head}
-use Rattle.rx_base.specs.declared.diagnostic.Diagnostic.{Diagnostic}
-use Rattle.rx_base.specs.declared.diagnostic.Diagnostic.TheVariants.{InvalidUnicodeEscapeSequence, TooLargeNumberDigits}
-use Rattle.rx_base.specs.declared.diagnostic.kinds.DigitsKind.TheVariants.{Hex}
-use Rattle.rx_base.specs.declared.span.Span.{Span}
+use Rattle.rx_class.proofs.Common.{eqb-true, cond-true, cond-false, cond_both, false_from_ne_true, nat_tests, length-map, map-append, All-head, Diagnostic, InvalidUnicodeEscapeSequence}
+use Rattle.rx_class.proofs.Common.{TooLargeNumberDigits, Hex, Span, Character, CharacterKind, CodePoint, Cursor, move_on, offset_of, rest, values, chosen, Unicode, Sets, character}
+use Rattle.rx_class.proofs.Common.{Environment, is_sets, is_unicode, IsEscapeCause, invalid_escape, too_many_hex_digits, span_between, any_there, atom_some, sets_is, escape_first, differs}
+use Rattle.rx_class.proofs.Common.{SetCharacter, span_to, KeepsUnits, GivesSetCharacter, seen_character}
 use Rattle.rx_tables.specs.Characters.{is_reserved_punctuator}
-use Rattle.rx_ast.specs.declared.leaf.Character.{Character}
-use Rattle.rx_ast.specs.declared.leaf.CharacterKind.{CharacterKind}
 use Rattle.rx_ast.specs.declared.leaf.CharacterKind.TheVariants as kinds
-use Rattle.rx_units.specs.declared.code_point.CodePoint.{CodePoint}
-use Rattle.rx_units.specs.Cursor.{Cursor, move_on, offset_of, rest}
-use Rattle.rx_units.specs.Units.{values}
 use Rattle.rx_units.specs.Digits.{PassesHex}
-use Rattle.rx_units.proofs.Choices.{chosen}
-use Rattle.rx_model.specs.declared.mode.Mode.TheVariants.{Unicode, Sets}
-use Rattle.rx_model.specs.Characters.Decoding.{Decoded, value, invalid, overflow, decoding_of}
+use Rattle.rx_model.specs.Characters.Decoding.{Decoded, value, decoding_of}
 use Rattle.rx_model.specs.Characters.EscapeFronts.{EscapeRead, escaped, nothing, too_many, no_unicode, escape_at, unicode_read}
 use Rattle.rx_model.specs.Characters.Escapes.{SpellsEscape}
 use Rattle.rx_model.specs.Classes.ClassRows.{SpellsClassCharacter, SpellsInClassAlone, has_hyphen, is_dashed, stands_raw_in_class}
 use Rattle.rx_model.specs.Classes.ClassRows as row
-use Rattle.rx_model.specs.Classes.ClassTokens.{character}
-use Rattle.rx_model.specs.Inputs.Environment.{Environment, is_sets, is_unicode}
-use Rattle.rx_model.specs.Refusals.EscapeCauses.{IsEscapeCause, invalid_escape, too_many_hex_digits}
-use Rattle.rx_model.specs.Refusals.Reached.{span_between}
 use Rattle.rx_model.proofs.Characters.Backslashes.{begins}
 use Rattle.rx_model.proofs.Characters.Escapes.{NoUnicode, escape_no_unicode, escape_too_many, escape_u, spelled_escape, spelled_small}
 use Rattle.rx_model.proofs.Characters.LegacyEscapes.{any_in_unicode, any_spelled}
-use Rattle.rx_model.proofs.Classes.ClassFronts.{AtomFront, any_there, atom_some, sets_is, punctuator_no_b}
-use Rattle.rx_model.proofs.Classes.RefusedAtoms.{escape_first}
-use Rattle.rx_model.proofs.Groups.GroupNames.{differs}
-use Rattle.rx_class.specs.declared.sets.character.SetCharacter.{SetCharacter}
+use Rattle.rx_model.proofs.Classes.ClassFronts.{AtomFront, punctuator_no_b}
 use Rattle.rx_class.specs.declared.sets.character.SetCharacter.TheVariants as found
-use Rattle.rx_class.specs.EscapeReading.Answers.{span_to}
-use Rattle.rx_class.specs.Keeping.{KeepsUnits}
-use Rattle.rx_class.specs.SetReading.Answers.{GivesSetCharacter, refused, some}
-use Rattle.rx_class.specs.SetReading.FrontSeen.{seen_character}
+use Rattle.rx_class.specs.SetReading.Answers.{refused, some}
 use Rattle.rx_class.specs.SetReading.Fronts.{after_backslash, range_end_at, set_character_at, set_escape_at}
 use Rattle.rx_class.proofs.Keeping.{moved_keeps, passes_moved}
 
@@ -60,8 +39,7 @@ u_is_read (u ∷ us) w h none =
   where
     reads : (d : Decoded) → after_backslash (unicode_read d) ≢ nothing
     reads (value v n) h = cc h
-    reads invalid h = cc h
-    reads (overflow n) h = cc h
+    reads other h = cc h
 
 module _ (e : Environment) (sets : is_sets e.mode ≡ true) where
   mode_is : e.mode ≡ Sets
@@ -167,9 +145,8 @@ module _ (e : Environment) (sets : is_sets e.mode ≡ true) where
 
   -- How many units a character takes, and which values it has.
   alone_small : (k : CharacterKind) (v : ℕ) (w : List ℕ) → SpellsInClassAlone e.mode k v w → v ≤ 0x10FFFF
-  alone_small _ _ _ row.backspace = omega arith
-  alone_small _ _ _ (row.hyphen m) = omega arith
   alone_small _ _ _ (row.reserved c m h) = grind (arith, nat_tests)
+  alone_small _ _ _ it = omega arith
 
   spelled_code_point : (k : CharacterKind) (v : ℕ) (w rest : List CodePoint) → SpellsClassCharacter e k v w rest → All (λ unit. unit.value ≤ 0x10FFFF) (w ++ rest) → v ≤ 0x10FFFF
   spelled_code_point _ _ _ rest (row.raw unit h) small = All-head (λ unit. unit.value ≤ 0x10FFFF) unit rest small
@@ -227,8 +204,7 @@ range_end_is us it h = by us (seen_character it) (is_seen it) h
   where
     is_seen : (it : SetCharacter) → seen_character it ≢ nothing
     is_seen (found.Character k v n) h = cc h
-    is_seen (found.TooMany n) h = cc h
-    is_seen found.Invalid h = cc h
+    is_seen it h = cc h
 
     by : (us : List CodePoint) (read : EscapeRead) → read ≢ nothing → range_end_at us ≡ read → EndsRange us read
     by [] read reads h = absurd (reads (sym h))

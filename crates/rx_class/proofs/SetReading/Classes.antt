@@ -1,26 +1,12 @@
 -- A class with `v`, from its bracket to its end: what its turns add up to, and what is answered.
 use Rattle.std.proofs.Common.{◌≡◌, refl, sym, ap, ◌∙◌, subst, ℕ, ◌+◌, ◌-◌, ◌<◌, Bool, true, Ok, Err, Some, List, [], ◌∷◌, ◌++◌, length, min, arith, append_assoc, if◌then◌else◌}
-use Rattle.rx_base.specs.declared.fault.Fault.{Fault}
-use Rattle.rx_ast.specs.declared.class.CharacterClass.{CharacterClass}
-use Rattle.rx_ast.specs.ClassTree.{no_member, mirror_class}
-use Rattle.rx_units.specs.declared.code_point.CodePoint.{CodePoint}
-use Rattle.rx_units.specs.Cursor.{Cursor, begins, move_on, offset_of, rest}
-use Rattle.rx_units.specs.Units.{values}
+use Rattle.rx_class.proofs.Common.{Fault, CharacterClass, no_member, mirror_class, CodePoint, Cursor, move_on, offset_of, rest, values, empty, IsFitting, IsFlagged, bracket, class_events}
+use Rattle.rx_class.proofs.Common.{class_tokens_of, closer, enter, item, leave, token, IsEarlyClass, starts, Environment, IsFirstInClass, ClassBuilder, BeginsNoClass, GivesClass}
+use Rattle.rx_class.proofs.Common.{builder_events, KeepsUnits, AddsToSets, GivesTurn, IsInSets, IsOfSets, adds, innermost_held, offset_in, place_of, IsWellBuilt}
+use Rattle.rx_units.specs.Cursor.{begins}
 use Rattle.rx_model.specs.Classes.ClassRows.{ClassRow, fresh, outside}
-use Rattle.rx_model.specs.Classes.ClassRuns.{empty}
-use Rattle.rx_model.specs.Classes.ClassShapes.{IsFitting, IsFlagged}
-use Rattle.rx_model.specs.Classes.ClassTokens.{bracket, class_events, class_tokens_of, closer, enter, item, leave, token}
-use Rattle.rx_model.specs.Trees.Early.{IsEarlyClass}
-use Rattle.rx_model.specs.FirstPass.Marks.{starts}
-use Rattle.rx_model.specs.Inputs.Environment.{Environment}
-use Rattle.rx_model.specs.Refusals.Firsts.{IsFirstInClass}
-use Rattle.rx_class.specs.declared.sets.builder.ClassBuilder.{ClassBuilder}
-use Rattle.rx_class.specs.ClassReading.Answers.{BeginsNoClass, GivesClass}
 use Rattle.rx_class.specs.ClassReading.Answers as class_answer
-use Rattle.rx_class.specs.SetReading.BuilderEvents.{builder_events}
-use Rattle.rx_class.specs.Keeping.{KeepsUnits}
-use Rattle.rx_class.specs.SetReading.Progress.{AddsToSets, EndsSets, GivesTurn, IsInSets, IsOfSets, adds, innermost_held, no_memory, offset_in, place_of, refused}
-use Rattle.rx_class.specs.SetReading.WellBuilt.{IsWellBuilt}
+use Rattle.rx_class.specs.SetReading.Progress.{EndsSets, no_memory, refused}
 use Rattle.rx_class.proofs.ClassReading.Ends.{IsInClass, begins_class, no_class_there}
 use Rattle.rx_class.proofs.ClassReading.Items.{rows_append}
 use Rattle.rx_class.proofs.Keeping.{Passes, keeps_on, passes_keeps, passes_moved}

@@ -1,31 +1,16 @@
 -- What stands next in a class with `v`: what is read is what stands there, no other token is spelled, and where it is no character no escape is refused.
 use Rattle.std.proofs.Common.{◌≡◌, ◌≢◌, refl, sym, ap, ap₂, ◌∙◌, subst, ℕ, ◌==◌, ◌&&◌, Bool, true, false, Option, Some, None, List, [], ◌∷◌, ◌++◌, inl, inr}
-use Rattle.std.proofs.lemmas.Bool.{cond_both, cond-false, cond-true, and_left, eqb-true, false_from_ne_true, true≢false}
-use Rattle.rx_base.specs.declared.diagnostic.kinds.SetOperator.TheVariants.{Intersection, Subtraction}
-use Rattle.rx_ast.specs.declared.leaf.CharacterClassEscapeKind.{CharacterClassEscapeKind}
+use Rattle.rx_class.proofs.Common.{cond_both, cond-false, cond-true, eqb-true, false_from_ne_true, true≢false, Intersection, Subtraction, CharacterClassEscapeKind, CharacterKind}
+use Rattle.rx_class.proofs.Common.{class_escape_text, CodePoint, values, front_is, both, Sets, ClassToken, character, property, bracket, closer, item, low, strings, operator, starts}
+use Rattle.rx_class.proofs.Common.{Environment, is_sets, begins_property, begins_item, class_found, escape_first, differs, split_values, starts_there, class_escape_front}
+use Rattle.std.proofs.lemmas.Bool.{and_left}
 use Rattle.rx_ast.specs.declared.leaf.CharacterClassEscapeKind.TheVariants as classes
-use Rattle.rx_ast.specs.declared.leaf.CharacterKind.{CharacterKind}
-use Rattle.rx_ast.specs.Texts.{class_escape_text}
-use Rattle.rx_units.specs.declared.code_point.CodePoint.{CodePoint}
-use Rattle.rx_units.specs.Units.{values}
-use Rattle.rx_units.specs.Digits.{front_is}
-use Rattle.rx_units.proofs.Choices.{both}
-use Rattle.rx_model.specs.declared.mode.Mode.TheVariants.{Sets}
-use Rattle.rx_model.specs.Characters.EscapeFronts.{EscapeRead, escaped, nothing, too_many, no_unicode, escape_at}
+use Rattle.rx_model.specs.Characters.EscapeFronts.{EscapeRead, nothing, escape_at}
 use Rattle.rx_model.specs.Classes.ClassFronts.{are_next}
 use Rattle.rx_model.specs.Classes.ClassRows.{Place, SpellsClassCharacter, SpellsInClass, SpellsOperand, fresh, stands_raw_in_class}
-use Rattle.rx_model.specs.Classes.ClassTokens.{ClassToken, character, escape, property, bracket, closer, item, low, strings, operator}
-use Rattle.rx_model.specs.FirstPass.Marks.{starts}
-use Rattle.rx_model.specs.Inputs.Environment.{Environment, is_sets}
-use Rattle.rx_model.specs.Properties.PropertyForms.{begins_property}
-use Rattle.rx_model.specs.Refusals.ClassPlaces.{begins_item}
-use Rattle.rx_model.proofs.Characters.Backslashes.{class_found}
+use Rattle.rx_model.specs.Classes.ClassTokens.{escape}
 use Rattle.rx_model.proofs.Classes.ClassFronts.{text_of}
-use Rattle.rx_model.proofs.Classes.RefusedAtoms.{escape_first}
-use Rattle.rx_model.proofs.Groups.GroupNames.{differs}
 use Rattle.rx_model.proofs.Properties.PropertyRefusals.{property_first}
-use Rattle.rx_model.proofs.Reading.Splits.{split_values, starts_there}
-use Rattle.rx_class.specs.EscapeReading.Found.{class_escape_front}
 use Rattle.rx_class.specs.SetReading.Fronts.{Begins, BeginsBracket, BeginsProperty, FrontRead, IsOfCharacter, IsOfFront, IsSetFront, NoneRefused, StandsFront, after_backslash, character_front, escape_front, escaped_front, front_by, may_be_refused, property_next, set_character_at, set_escape_at, set_front_at}
 use Rattle.rx_class.proofs.Operators.{begins_cases}
 use Rattle.rx_class.proofs.SetReading.Characters.{set_character_after, spelled_set_character, u_is_read}
@@ -92,10 +77,8 @@ module _ (u : CodePoint) (us : List CodePoint) where
   bracket_stands is false s = record { w = u ∷ []; rest = us; whole = refl; spelled = (ap (λ c. c ∷ []) is, s) }
 
   character_stands : (read : EscapeRead) → set_character_at (u ∷ us) ≡ read → StandsFront (u ∷ us) (character_front read)
-  character_stands (escaped k v n) h = (h, λ no. cc no)
   character_stands nothing h = tt
-  character_stands (too_many n) h = (h, λ no. cc no)
-  character_stands no_unicode h = (h, λ no. cc no)
+  character_stands read h = (h, λ no. cc no)
 
   -- after a backslash
   module _ (is : u.value ≡ 92) where
@@ -143,10 +126,8 @@ escape_read classes.W w more text = read_by _ w more 92 (119 ∷ []) text refl
 escape_read classes.NegativeW w more text = read_by _ w more 92 (87 ∷ []) text refl
 
 may_refuse : (read : EscapeRead) → read ≢ nothing → may_be_refused (character_front read) ≡ true
-may_refuse (escaped k v n) some = refl
 may_refuse nothing some = absurd (some refl)
-may_refuse (too_many n) some = refl
-may_refuse no_unicode some = refl
+may_refuse read some = refl
 
 module _ (e : Environment) (sets : is_sets e.mode ≡ true) where
   -- or as a character.

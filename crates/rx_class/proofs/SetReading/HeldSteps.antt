@@ -1,18 +1,16 @@
 -- What a bracket holds with one member or one operator more: its events, its members, and whether they may match strings.
-use Rattle.std.proofs.Common.{◌≡◌, refl, ap, sym, ◌∙◌, subst, Bool, true, Option, Some, List, [], ◌∷◌, ◌++◌, append-nil, inl, inr}
-use Rattle.std.specs.Prelude.{IfSome}
-use Rattle.std.proofs.Math.Bool.{or-false, and-true}
-use Rattle.rx_base.specs.declared.diagnostic.kinds.SetOperator.{SetOperator}
-use Rattle.rx_base.specs.declared.diagnostic.kinds.SetOperator.TheVariants.{Intersection, Subtraction}
-use Rattle.rx_ast.specs.ClassTree.{Member, Members, no_member, member, members}
+use Rattle.std.proofs.Common.{◌≡◌, refl, ap, sym, ◌∙◌, subst, Bool, true, Option, Some, List, [], ◌∷◌, ◌++◌, append-nil, inl, inr, IfSome}
+use Rattle.rx_class.proofs.Common.{or-false, and-true, SetOperator, Intersection, Subtraction, Member, Members, no_member, members, kind_of, empty, is_whole, operand, with_range}
+use Rattle.rx_class.proofs.Common.{with_strings, joined, pending, with_operator, AreTwo, IsOperand, ClassEvents, token, member_events, members_events, operator, any_strings, member_strings}
+use Rattle.rx_class.proofs.Common.{last_operator, with_member, AreHeld, AreSome}
+use Rattle.rx_ast.specs.ClassTree.{member}
 use Rattle.rx_ast.specs.ClassTree as tree
-use Rattle.rx_model.specs.Classes.ClassFromTokens.{kind_of}
-use Rattle.rx_model.specs.Classes.ClassRuns.{Held, empty, single, several, is_whole, operand, with_range, with_strings, joined, pending, with_operator}
-use Rattle.rx_model.specs.Classes.ClassShapes.{AreTwo, FitsKind, IsOperand}
-use Rattle.rx_model.specs.Classes.ClassTokens.{ClassEvents, token, member_events, members_events, operator_events, operator}
-use Rattle.rx_model.specs.Trees.Early.{any_strings, may_contain_strings, member_strings}
-use Rattle.rx_class.specs.SetReading.BuilderEvents.{end_events, last_operator, with_member}
-use Rattle.rx_class.specs.SetReading.WellBuilt.{AreHeld, AreOne, AreSome}
+use Rattle.rx_model.specs.Classes.ClassRuns.{Held, single, several}
+use Rattle.rx_model.specs.Classes.ClassShapes.{FitsKind}
+use Rattle.rx_model.specs.Classes.ClassTokens.{operator_events}
+use Rattle.rx_model.specs.Trees.Early.{may_contain_strings}
+use Rattle.rx_class.specs.SetReading.BuilderEvents.{end_events}
+use Rattle.rx_class.specs.SetReading.WellBuilt.{AreOne}
 use Rattle.rx_class.proofs.SetReading.MembersPushed.{pushed, operand_events, union_events, operands_pushed, two_pushed, any_pushed, all_pushed, first_pushed}
 use Rattle.rx_class.proofs.Operators.{operator_before, whole_end}
 
@@ -54,26 +52,20 @@ joins Subtraction ms m is all = record { events = some_events _ ms m all.0; held
 by_operand : (old : Held) (ms : List Member) (m : Member) → IsOperand m → AreHeld old (members ms) → IfSome (operand old) (λ new. GrowsByMember old new ms m)
 by_operand empty [] m is all = record { events = append-nil _ ∙ append-nil _; held = (tt, (is, tt)); strings = or-false (member_strings m) }
 by_operand empty (n ∷ ms) m is all = absurd all
-by_operand single ms m is all = union_grows single ms m (append-nil _) (sym (any_pushed ms m))
-by_operand several ms m is all = union_grows several ms m (append-nil _) (sym (any_pushed ms m))
 by_operand (pending o) ms m is all = joins o ms m is all
 by_operand (joined o) ms m is all = tt
+by_operand old ms m is all = union_grows old ms m (append-nil _) (sym (any_pushed ms m))
 
 by_range : (old : Held) (ms : List Member) (m : Member) → AreHeld old (members ms) → IfSome (with_range old) (λ new. GrowsByMember old new ms m)
 by_range empty [] m all = union_grows empty [] m refl (sym (or-false (member_strings m)))
 by_range empty (n ∷ ms) m all = absurd all
 by_range single ms m all = union_grows single ms m (append-nil _) (sym (any_pushed ms m))
 by_range several ms m all = union_grows several ms m (append-nil _) (sym (any_pushed ms m))
-by_range (pending o) ms m all = tt
-by_range (joined o) ms m all = tt
+by_range old ms m all = tt
 
 by_member : (old : Held) (ms : List Member) (m : Member) → AreHeld old (members ms) → IfSome (with_member m old) (λ new. GrowsByMember old new ms m)
 by_member old ms (tree.range r) all = by_range old ms (tree.range r) all
-by_member old ms (tree.escape it) all = by_operand old ms (tree.escape it) tt all
-by_member old ms (tree.property p) all = by_operand old ms (tree.property p) tt all
-by_member old ms (tree.character c) all = by_operand old ms (tree.character c) tt all
-by_member old ms (tree.nested c) all = by_operand old ms (tree.nested c) tt all
-by_member old ms (tree.strings d) all = by_operand old ms (tree.strings d) tt all
+by_member old ms m all = by_operand old ms m tt all
 
 pub grows_by_member : (old new : Held) (ms : List Member) (m : Member) → with_member m old ≡ Some new → AreHeld old (members ms) → GrowsByMember old new ms m
 grows_by_member old new ms m e all = subst (λ (o : Option Held). IfSome o (λ new. GrowsByMember old new ms m)) e (by_member old ms m all)
@@ -87,16 +79,14 @@ two_some no_member two = absurd two
 two_some (member m ms) two = tt
 
 one_events : (between : ClassEvents) (ms : Members) → AreOne ms → members_events between ms ≡ members_events [] ms ++ []
-one_events between no_member one = absurd one
 one_events between (member m no_member) one = sym (append-nil _)
-one_events between (member m (member n ms)) one = absurd one
+one_events between ms one = absurd one
 
 -- Of one member alone it is all one whether all, any or the first may match strings.
 one_strings : (o : SetOperator) (ms : Members) → AreOne ms → held_strings (pending o) ms ≡ any_strings ms
-one_strings o no_member one = absurd one
 one_strings Intersection (member m no_member) one = and-true (member_strings m) ∙ sym (or-false (member_strings m))
 one_strings Subtraction (member m no_member) one = sym (or-false (member_strings m))
-one_strings o (member m (member n ms)) one = absurd one
+one_strings o ms one = absurd one
 
 -- the operator after what there is
 abbrev after_all : SetOperator → ClassEvents → ClassEvents
@@ -119,12 +109,10 @@ grows_by_operator o old new ms e all =
 
 -- A bracket that is whole has what its kind asks for, and no operator stands at its end.
 held_fits : (held : Held) (ms : Members) → is_whole held ≡ true → AreHeld held ms → FitsKind (kind_of held) ms
-held_fits empty ms whole all = tt
-held_fits single ms whole all = tt
-held_fits several ms whole all = tt
 held_fits (pending o) ms whole all = cc
 held_fits (joined Intersection) ms whole all = all
 held_fits (joined Subtraction) ms whole all = all
+held_fits held ms whole all = tt
 
 pub whole_fits : (held : Held) (ms : Members) → is_whole held ≡ true → AreHeld held ms → FitsKind (kind_of held) ms × (held_events held ms ≡ members_events (operator_events (kind_of held)) ms)
 whole_fits held ms whole all = (held_fits held ms whole all, ap (λ o. members_events (operator_events (kind_of held)) ms ++ end_events o) (whole_end held whole) ∙ append-nil _)

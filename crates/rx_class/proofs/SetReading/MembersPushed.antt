@@ -1,11 +1,10 @@
 -- The members of a class with one more at the end: their events, and what holds of them.
 use Rattle.std.proofs.Common.{◌≡◌, refl, ap, sym, ◌∙◌, List, [], ◌∷◌, ◌++◌, append_assoc, append-nil, ◌&&◌, ◌||◌}
-use Rattle.std.proofs.Math.Bool.{and_assoc, or-false, or_assoc, and-true}
-use Rattle.rx_ast.specs.ClassTree.{Member, Members, members}
-use Rattle.rx_model.specs.Classes.ClassShapes.{AreFitting, AreFlagged, AreOperands, AreTwo, IsFittingMember, IsFlaggedMember, IsOperand}
-use Rattle.rx_model.specs.Classes.ClassTokens.{ClassEvents, member_events, members_events, more_members_events}
-use Rattle.rx_model.specs.Trees.Early.{AreEarlyMembers, IsEarlyMember, all_strings, any_strings, first_strings, member_strings}
-use Rattle.rx_class.specs.SetReading.WellBuilt.{AreSome, AreSound, IsSound}
+use Rattle.rx_class.proofs.Common.{or-false, and-true, Member, Members, members, AreTwo, IsFittingMember, IsFlaggedMember, IsOperand, ClassEvents, member_events, members_events}
+use Rattle.rx_class.proofs.Common.{more_members_events, AreEarlyMembers, IsEarlyMember, any_strings, member_strings, AreSome, AreSound, IsSound}
+use Rattle.std.proofs.Math.Bool.{and_assoc, or_assoc}
+use Rattle.rx_model.specs.Classes.ClassShapes.{AreFitting, AreFlagged, AreOperands}
+use Rattle.rx_model.specs.Trees.Early.{all_strings, first_strings}
 
 abbrev pub pushed : List Member → Member → Members
 pushed ms m = members (ms ++ (m ∷ []))

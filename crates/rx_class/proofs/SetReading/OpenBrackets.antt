@@ -1,34 +1,23 @@
 -- An open bracket with one thing more in it, and the class that it is.
-use Rattle.std.proofs.Common.{◌≡◌, refl, ap, ap₂, sym, ◌∙◌, subst, ℕ, Bool, true, false, Some, List, [], ◌∷◌, ◌++◌, append-nil, append_assoc, ◌&&◌}
-use Rattle.std.specs.Prelude.{map}
-use Rattle.std.proofs.lemmas.List.{map-append}
+use Rattle.std.proofs.Common.{◌≡◌, refl, ap, ap₂, sym, ◌∙◌, subst, ℕ, Bool, true, false, Some, List, [], ◌∷◌, ◌++◌, append-nil, append_assoc, ◌&&◌, map}
+use Rattle.rx_class.proofs.Common.{map-append, SetOperator, Intersection, Subtraction, CharacterClass, CharacterClassContents, Member, members, mirror_class, mirror_contents, kind_of}
+use Rattle.rx_class.proofs.Common.{Bracket, Brackets, after_step, bracket_of, class_run_from_start, class_run, is_whole, with_strings, with_operator, ClassEvents, enter, leave, token}
+use Rattle.rx_class.proofs.Common.{bracket, closer, class_events, class_tokens_of, member_events, members_events, operator, member_strings, tokens_append, OpenBracket, bracket_at}
+use Rattle.rx_class.proofs.Common.{bracket_events, class_of, with_member, contents, mirror_held, AreHeld, AreSound, IsSound, IsWellHeld}
 use Rattle.std.specs.declared.boxed.Box.{Box}
 use Rattle.std.specs.declared.alloc.Global.{Global}
-use Rattle.rx_base.specs.declared.diagnostic.kinds.SetOperator.{SetOperator}
-use Rattle.rx_base.specs.declared.diagnostic.kinds.SetOperator.TheVariants.{Intersection, Subtraction}
-use Rattle.rx_ast.specs.declared.class.CharacterClass.{CharacterClass}
-use Rattle.rx_ast.specs.declared.class.CharacterClassContents.{CharacterClassContents}
 use Rattle.rx_ast.specs.declared.class.CharacterClassContents.TheVariants.{NestedCharacterClass}
 use Rattle.rx_ast.specs.ClassTree as tree
-use Rattle.rx_ast.specs.ClassTree.{Member, members, nested, mirror_class, mirror_contents}
+use Rattle.rx_ast.specs.ClassTree.{nested}
 use Rattle.rx_ast.proofs.ClassEquations.{nested_is}
-use Rattle.rx_model.specs.Classes.ClassFromTokens.{kind_of}
 use Rattle.rx_model.specs.Classes.ClassRuns as runs
-use Rattle.rx_model.specs.Classes.ClassRuns.{Bracket, Brackets, after_step, bracket_of, class_run_from_start, class_run, class_step, add_operator, is_whole, with_strings, with_operator}
-use Rattle.rx_model.specs.Classes.ClassTokens.{ClassEvents, enter, leave, token, bracket, closer, class_events, class_tokens_of, member_events, members_events, operator}
+use Rattle.rx_model.specs.Classes.ClassRuns.{class_step, add_operator}
 use Rattle.rx_model.specs.Classes.ClassTokens as tokens
-use Rattle.rx_model.specs.Trees.Early.{member_strings}
 use Rattle.rx_model.proofs.Classes.ClassShapes as shapes
 use Rattle.rx_model.proofs.Classes.ClassShapes.{member_out}
-use Rattle.rx_model.proofs.Classes.ClassTokens.{tokens_append}
 use Rattle.rx_model.proofs.Classes.ClassWholes.{class_opened-append}
-use Rattle.rx_class.specs.declared.sets.open_bracket.OpenBracket.{OpenBracket}
 use Rattle.rx_class.specs.declared.sets.held.Held.{Held}
 use Rattle.rx_class.specs.declared.sets.held.Held.TheVariants.{Empty}
-use Rattle.rx_class.specs.SetReading.BuilderEvents.{bracket_at, bracket_events, class_of, with_member}
-use Rattle.rx_class.specs.ClassReading.Items.{contents}
-use Rattle.rx_class.specs.SetReading.HeldMirror.{mirror_held}
-use Rattle.rx_class.specs.SetReading.WellBuilt.{AreHeld, AreSound, IsSound, IsWellHeld}
 use Rattle.rx_class.proofs.SetReading.HeldSteps.{GrowsByMember, GrowsByOperator, grows_by_member, grows_by_operator, held_events, held_strings, whole_fits}
 use Rattle.rx_class.proofs.SetReading.MembersPushed.{pushed, sound_pushed}
 
@@ -52,11 +41,7 @@ contents_pushed xs ys y e = ap contents e ∙ ap members (map-append mirror_cont
 -- a member more
 member_with : (m : Member) (held : runs.Held) → shapes.with_member m held ≡ with_member m held
 member_with (tree.range r) held = refl
-member_with (tree.escape e) held = refl
-member_with (tree.property p) held = refl
-member_with (tree.character c) held = refl
-member_with (nested c) held = refl
-member_with (tree.strings d) held = refl
+member_with m held = refl
 
 member_runs : (b : Bracket) (m : Member) (after : runs.Held) → b ≡ bracket_of b.negative b.held b.may → IsSound m → with_member m b.held ≡ Some after →
     class_run (class_tokens_of (member_events m)) (b ∷ []) ≡ Some (bracket_of b.negative after (with_strings b.held b.may (member_strings m)) ∷ [])

@@ -1,63 +1,36 @@
 -- Operands of a class with `v` that are read: what they add to what was built, and how what is refused in them is refused in the class.
 use Rattle.std.proofs.Common.{◌≡◌, ◌≢◌, refl, sym, ap, ap₂, ◌∙◌, subst, ℕ, ◌+◌, ◌-◌, ◌<◌, ◌≤◌, ◌&&◌, Bool, true, false, not, is_some, Option, Some, None, Ok, Err, List, [], ◌∷◌, ◌++◌, length, drop, arith, inl, inr, append_assoc, length-append}
-use Rattle.std.proofs.lemmas.Bool.{le-leb, true≢false}
-use Rattle.std.proofs.lemmas.List.{length-map}
-use Rattle.rx_base.specs.declared.diagnostic.Diagnostic.{Diagnostic}
+use Rattle.rx_class.proofs.Common.{le-leb, true≢false, length-map, Diagnostic, Intersection, Fault, Span, Character, CharacterClassEscapeKind, UnicodePropertyEscape, CharacterClassRange}
+use Rattle.rx_class.proofs.Common.{ClassStringDisjunction, Member, CodePoint, Cursor, move_on, offset_of, rest, values, front_is, Mode, is_union, with_range, Atom, ClassEvents}
+use Rattle.rx_class.proofs.Common.{ClassToken, item, leave, token, within, class_tokens_of, member_events, strings_events, strings, strings_end, low as low_end, starts, Environment, is_sets}
+use Rattle.rx_class.proofs.Common.{begins_property, IsOperandPlace, IsSecondPlace, begins_item, IsEscapeCause, IsPropertyCause, no_item, yielding_of, class_environment, class_escape_text}
+use Rattle.rx_class.proofs.Common.{atom_some, class_letter, token_some, sets_is, tokens_append, class_row_tokens, ClassAtom, ClassBuilder, builder_events, GivesAtom, atom_member, atom_of}
+use Rattle.rx_class.proofs.Common.{atom_span, between, from_backslash, span_to, mirror_held, KeepsUnits, GivesSetCharacter, GivesStrings, AddsToSets, GivesTurn, IsInSets, IsOfSets}
+use Rattle.rx_class.proofs.Common.{IsRangeNext, RefusesNoEnd, innermost_held, offset_in, place_of, IsSound, IsWellBuilt, strings_by_name}
 use Rattle.rx_base.specs.declared.diagnostic.Diagnostic.TheVariants.{CharacterClassRangeOutOfOrder}
 use Rattle.rx_base.specs.declared.diagnostic.kinds.RangeKind.TheVariants as range_kind
-use Rattle.rx_base.specs.declared.diagnostic.kinds.SetOperator.TheVariants.{Intersection}
-use Rattle.rx_base.specs.declared.fault.Fault.{Fault}
 use Rattle.rx_base.specs.declared.fault.Fault.TheVariants as fault
-use Rattle.rx_base.specs.declared.span.Span.{Span}
-use Rattle.rx_ast.specs.declared.leaf.Character.{Character}
-use Rattle.rx_ast.specs.declared.leaf.CharacterClassEscapeKind.{CharacterClassEscapeKind}
-use Rattle.rx_ast.specs.declared.leaf.UnicodePropertyEscape.{UnicodePropertyEscape}
-use Rattle.rx_ast.specs.declared.class.CharacterClassRange.{CharacterClassRange}
-use Rattle.rx_ast.specs.declared.class.ClassStringDisjunction.{ClassStringDisjunction}
-use Rattle.rx_ast.specs.ClassTree.{Member}
 use Rattle.rx_ast.specs.ClassTree as tree
-use Rattle.rx_units.specs.declared.code_point.CodePoint.{CodePoint}
-use Rattle.rx_units.specs.Cursor.{Cursor, move_on, offset_of, rest}
-use Rattle.rx_units.specs.Units.{values}
-use Rattle.rx_units.specs.Digits.{front_is}
-use Rattle.rx_model.specs.declared.mode.Mode.{Mode}
 use Rattle.rx_model.specs.Classes.ClassRows.{BeforeHigh, ClassRow, Place, SpellsAtom, SpellsInClass, next_place, following_item, has_threes, fresh, is_dashed, after_operator}
-use Rattle.rx_model.specs.Classes.ClassRuns.{Held, is_union, operand, with_range}
-use Rattle.rx_model.specs.Classes.ClassTokens.{Atom, ClassEvents, ClassToken, is_character, item, leave, token, within, class_tokens_of, member_events, strings_events, strings, strings_end}
-use Rattle.rx_model.specs.Classes.ClassTokens.{low as low_end, dash as dash_token, high as high_end}
-use Rattle.rx_model.specs.FirstPass.Marks.{starts}
-use Rattle.rx_model.specs.Inputs.Environment.{Environment, is_sets}
-use Rattle.rx_model.specs.Properties.PropertyForms.{begins_property}
+use Rattle.rx_model.specs.Classes.ClassRuns.{Held}
+use Rattle.rx_model.specs.Classes.ClassTokens.{is_character}
+use Rattle.rx_model.specs.Classes.ClassTokens.{dash as dash_token, high as high_end}
 use Rattle.rx_model.specs.Refusals.ClassCauses as class_cause
 use Rattle.rx_model.specs.Refusals.ClassCauses.{IsClassCause}
-use Rattle.rx_model.specs.Refusals.ClassPlaces.{IsOperandPlace, IsSecondPlace, begins_item}
 use Rattle.rx_model.specs.Refusals.EscapeCauses as escape_cause
-use Rattle.rx_model.specs.Refusals.EscapeCauses.{IsEscapeCause, IsPropertyCause}
-use Rattle.rx_model.specs.Refusals.Firsts.{no_item, yielding_of}
-use Rattle.rx_model.specs.Refusals.Reached.{class_environment}
-use Rattle.rx_ast.specs.Texts.{class_escape_text}
-use Rattle.rx_model.proofs.Classes.ClassFronts.{atom_some, class_letter, token_some, sets_is}
 use Rattle.rx_model.proofs.Classes.ClassStates.{row_shorter}
-use Rattle.rx_model.proofs.Classes.ClassTokens.{tokens_append}
-use Rattle.rx_model.proofs.Classes.ClassWithoutSpans.{class_row_tokens, within_tokens}
-use Rattle.rx_class.specs.declared.classes.atom.ClassAtom.{ClassAtom}
+use Rattle.rx_model.proofs.Classes.ClassWithoutSpans.{within_tokens}
 use Rattle.rx_class.specs.declared.classes.atom.ClassAtom.TheVariants as atom
-use Rattle.rx_class.specs.declared.sets.builder.ClassBuilder.{ClassBuilder}
 use Rattle.rx_class.specs.declared.sets.held.Held.{Held as HeldState}
-use Rattle.rx_class.specs.SetReading.BuilderEvents.{builder_events}
-use Rattle.rx_class.specs.ClassReading.Items.{GivesAtom, atom_member, atom_of, atom_span, between}
 use Rattle.rx_class.specs.ClassReading.Items as items
-use Rattle.rx_class.specs.EscapeReading.Answers.{from_backslash, span_to}
-use Rattle.rx_class.specs.SetReading.HeldMirror.{mirror_held}
-use Rattle.rx_class.specs.Keeping.{KeepsUnits}
 use Rattle.rx_class.specs.PropertyReading.Answers.{GivesProperty}
 use Rattle.rx_class.specs.PropertyReading.Answers as property_answer
-use Rattle.rx_class.specs.SetReading.Answers.{GivesSetCharacter, GivesStrings, IsAfterDash}
+use Rattle.rx_class.specs.SetReading.Answers.{IsAfterDash}
 use Rattle.rx_class.specs.SetReading.Answers as given
 use Rattle.rx_class.specs.SetReading.Fronts.{Begins, BeginsProperty}
 use Rattle.rx_class.specs.SetReading.Progress as turn
-use Rattle.rx_class.specs.SetReading.Progress.{AddsToSets, GivesTurn, IsInSets, IsOfSets, IsRangeNext, IsSetRange, RefusesNoEnd, innermost_held, offset_in, place_of}
-use Rattle.rx_class.specs.SetReading.WellBuilt.{IsSound, IsWellBuilt, TakesOperand}
+use Rattle.rx_class.specs.SetReading.Progress.{IsSetRange}
+use Rattle.rx_class.specs.SetReading.WellBuilt.{TakesOperand}
 use Rattle.rx_class.proofs.ClassReading.Ranges.{DashStands, PairStands, atom_stands, dash_at, dash_given, dash_whole, pair_given, range_is, atom_events}
 use Rattle.rx_class.proofs.Keeping.{Passes, keeps_on, moved_keeps, passes_keeps, passes_moved, passes_over}
 use Rattle.rx_class.proofs.SetReading.Characters.{no_escape_refused, no_range_end, spelled_set_character, unicode_is}
@@ -67,7 +40,6 @@ use Rattle.rx_class.proofs.SetReading.Refusals.{by_text, said_gives}
 use Rattle.rx_class.proofs.SetReading.Steps.{adds_by, last_no_character}
 use Rattle.rx_class.proofs.SetReading.Strings.{escape_says_more}
 use Rattle.rx_model.proofs.Classes.FurtherItems.{ranged_union}
-use Rattle.rx_model.proofs.Properties.PropertyFlags.{strings_by_name}
 use Rattle.rx_model.proofs.Reading.Splits.{starts_front}
 
 -- With `v` an item leads to where the next may begin.
@@ -161,13 +133,7 @@ operand_here h takes = record { item_place = item_here h; takes = ap is_some tak
 
 property_says_more : {mode : Mode} {us : List CodePoint} {first added place : ℕ} {rest : List CodePoint} (d : Diagnostic) → IsPropertyCause mode us first added place rest d → yielding_of d ≢ no_item
 property_says_more _ (escape_cause.no_property c following unicode whole is other) k = cc k
-property_says_more _ (escape_cause.unterminated_run w run following b has short) k = cc k
-property_says_more _ (escape_cause.unclosed_run w run following b has known goes other) k = cc k
-property_says_more _ (escape_cause.unclosed_pair w name value following b has valid other) k = cc k
-property_says_more _ (escape_cause.unknown_pair w name value following b has unknown) k = cc k
-property_says_more _ (escape_cause.unknown_run w run following b has some goes unknown no_strings) k = cc k
-property_says_more _ (escape_cause.of_strings w run following u b has goes unknown known) k = cc k
-property_says_more _ (escape_cause.negative_of_strings w run following sets whole has no_category no_binary known) k = cc k
+property_says_more _ cause k = cc k
 
 -- a property escape, whose backslash was read
 module _ (old mid : Cursor) (front : BeginsProperty (rest old)) (moves : mid ≡ move_on 1 old) where

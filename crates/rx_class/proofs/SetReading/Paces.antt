@@ -1,24 +1,11 @@
 -- The pace of a reader in a class with `v`: how much is left where it moved, and how few steps were taken to look at what it moved over.
 use Rattle.std.proofs.Common.{◌≡◌, refl, sym, ap, ◌∙◌, subst, ℕ, ◌+◌, ◌-◌, ◌*◌, ◌≤◌, ◌==◌, true, All, Result, Ok, Err, List, [], ◌∷◌, get_or, length, drop, take, arith, length-append, length-drop, length-take}
-use Rattle.std.proofs.lemmas.Bool.{cond-true, cond_both}
-use Rattle.std.proofs.lemmas.List.Elements.{All-tail}
-use Rattle.rx_ast.specs.declared.leaf.CharacterKind.{CharacterKind}
-use Rattle.rx_base.specs.Rising.{Rises}
-use Rattle.rx_units.specs.declared.code_point.CodePoint.{CodePoint}
-use Rattle.rx_units.specs.Cursor.{Cursor, move_on, rest}
-use Rattle.rx_units.specs.Pace.{TakesSteps, units_left}
-use Rattle.rx_units.specs.Units.{values}
-use Rattle.rx_model.specs.Characters.EscapeFronts.{EscapeRead, escaped, nothing, too_many, no_unicode}
+use Rattle.rx_class.proofs.Common.{cond-true, cond_both, All-tail, CharacterKind, Rises, CodePoint, Cursor, move_on, rest, TakesSteps, units_left, values, character, Environment, atom_some}
+use Rattle.rx_class.proofs.Common.{ClassBuilder, SetCharacter, seen_character, AddsToSets, most_front_looks, most_set_looks}
+use Rattle.rx_model.specs.Characters.EscapeFronts.{EscapeRead, escaped, nothing, too_many}
 use Rattle.rx_model.specs.Classes.ClassRows.{is_dashed}
-use Rattle.rx_model.specs.Classes.ClassTokens.{character}
-use Rattle.rx_model.specs.Inputs.Environment.{Environment}
-use Rattle.rx_model.proofs.Classes.ClassFronts.{atom_some}
-use Rattle.rx_class.specs.declared.sets.builder.ClassBuilder.{ClassBuilder}
-use Rattle.rx_class.specs.declared.sets.character.SetCharacter.{SetCharacter}
-use Rattle.rx_class.specs.SetReading.Fronts.{FrontRead, StandsFront, bracket_next, character_front, character_next, closer_next, escape_next, nothing_next, operator_next, property_next, range_end_at, set_character_at, set_front_at, strings_next}
-use Rattle.rx_class.specs.SetReading.FrontSeen.{seen_character}
-use Rattle.rx_class.specs.SetReading.Progress.{AddsToSets}
-use Rattle.rx_class.specs.SetReading.Steps.{TakesStepsAfter, most_after_backslash, most_end_looks, most_front_after, most_front_looks, most_set_looks}
+use Rattle.rx_class.specs.SetReading.Fronts.{FrontRead, StandsFront, character_front, character_next, range_end_at, set_character_at, set_front_at}
+use Rattle.rx_class.specs.SetReading.Steps.{TakesStepsAfter, most_after_backslash, most_end_looks, most_front_after}
 use Rattle.rx_class.proofs.Keeping.{passes_moved}
 use Rattle.rx_class.proofs.ReadingSteps.{moved_left}
 use Rattle.rx_class.proofs.SetReading.Characters.{range_end_is, set_character_spelled, set_too_many_within, with_v}
@@ -37,9 +24,8 @@ looks_below (u ∷ us) read n h = cond_both (u.value == 92) _ _ (λ most. most �
 after_fits : (us : List CodePoint) (read : EscapeRead) → set_character_at us ≡ read → (units : ℕ) → units ≤ length us → most_after_backslash units read ≤ length us + 3
 after_fits us (escaped k v n) h units few =
     let f = set_character_spelled with_v refl k v n us h in omega (arith, f.count, ap length f.whole, length-append f.w f.rest)
-after_fits us nothing h units few = omega arith
 after_fits us (too_many n) h units few = omega (arith, set_too_many_within with_v refl us n h)
-after_fits us no_unicode h units few = omega arith
+after_fits us read h units few = omega arith
 
 -- Whatever is found, not many more steps are taken than units are left.
 pub looks_fit : (us : List CodePoint) (read : EscapeRead) → set_character_at us ≡ read → most_set_looks us read ≤ length us + 3
@@ -67,36 +53,22 @@ module _ (none : CodePoint) where
       ∙ ap (λ units. most_after_backslash units read) (let same : length us ≡ length (units_after (u ∷ us)) = omega (arith, length-take (length (u ∷ us) - 1) us) in same)
 
   pub backslash_front_looks : (us : List CodePoint) (read : FrontRead) → (get_or us 0 none).value ≡ 92 → 1 ≤ length us → most_front_looks us read ≡ most_front_after (length (units_after us)) read
-  backslash_front_looks us closer_next is first = refl
-  backslash_front_looks us (bracket_next negative) is first = refl
-  backslash_front_looks us strings_next is first = refl
-  backslash_front_looks us (operator_next o) is first = refl
   backslash_front_looks us (character_next read) is first = backslash_looks us read is first
-  backslash_front_looks us (escape_next kind) is first = refl
-  backslash_front_looks us property_next is first = refl
-  backslash_front_looks us nothing_next is first = refl
+  backslash_front_looks us read is first = refl
 
 -- What is found is a front.
 pub front_looks : (us : List CodePoint) (read : EscapeRead) → most_front_looks us (character_front read) ≡ most_set_looks us read
 front_looks us (escaped k v n) = refl
-front_looks [] nothing = refl
 front_looks (u ∷ us) nothing = cond_both (u.value == 92) _ _ (λ most. 0 ≡ most) (λ is. refl) (λ other. refl)
-front_looks us (too_many n) = refl
-front_looks us no_unicode = refl
+front_looks us read = refl
 
 -- Whatever stands at the front, not many more steps are taken than units are left.
 pub front_fits : (us : List CodePoint) (read : FrontRead) → read ≡ set_front_at us → most_front_looks us read ≤ length us + 3
 front_fits us read h = by read (subst (StandsFront us) (sym h) (stands us))
   where
     by : (read : FrontRead) → StandsFront us read → most_front_looks us read ≤ length us + 3
-    by closer_next stands = omega arith
-    by (bracket_next negative) stands = omega arith
-    by strings_next stands = omega arith
-    by (operator_next o) stands = omega arith
     by (character_next read) stands = looks_fit us read stands.0
-    by (escape_next kind) stands = omega arith
-    by property_next stands = omega arith
-    by nothing_next stands = omega arith
+    by read stands = omega arith
 
 -- The end of a range is looked at after its `-`, over which the reader moves first.
 pub record IsOverDash (us : List CodePoint) (old new : Cursor) (read : EscapeRead) : Type 0 where

@@ -1,24 +1,13 @@
 -- Where what was built of a class with `v` leads to: an item place of the class, and of the innermost bracket.
-use Rattle.std.proofs.Common.{◌≡◌, refl, sym, ap, ◌∙◌, subst, ℕ, ◌+◌, Bool, true, Option, Some, List, [], ◌∷◌, ◌++◌, length, arith, append_assoc, length-append}
-use Rattle.std.specs.Prelude.{All}
-use Rattle.std.specs.List.{flat_map}
-use Rattle.std.proofs.lemmas.List.Elements.{All-head, All-tail}
-use Rattle.rx_units.specs.declared.code_point.CodePoint.{CodePoint}
-use Rattle.rx_units.specs.Cursor.{Cursor, rest}
+use Rattle.std.proofs.Common.{◌≡◌, refl, sym, ap, ◌∙◌, subst, ℕ, ◌+◌, Bool, true, Option, Some, List, [], ◌∷◌, ◌++◌, length, arith, append_assoc, length-append, All}
+use Rattle.rx_class.proofs.Common.{flat_map, All-head, All-tail, CodePoint, Cursor, rest, Bracket, Brackets, class_run_from_start, class_run, takes_operand, ClassEvents, token}
+use Rattle.rx_class.proofs.Common.{class_tokens_of, Environment, IsInBracket, IsItemPlace, of_class, tokens_append, class_row_tokens, ClassBuilder, OpenBracket, bracket_at, bracket_events}
+use Rattle.rx_class.proofs.Common.{builder_events, IsInSets, innermost_held, is_nested, offset_in, place_of, IsAround, IsWellBuilt, IsWellHeld}
 use Rattle.rx_model.specs.Classes.ClassRows.{ClassRow, ClassTokenRow, Place, next_place, outside}
-use Rattle.rx_model.specs.Classes.ClassRuns.{Bracket, Brackets, class_run_from_start, class_run, takes_operand}
-use Rattle.rx_model.specs.Classes.ClassTokens.{ClassEvents, enter, leave, token, class_tokens_of}
-use Rattle.rx_model.specs.Inputs.Environment.{Environment}
-use Rattle.rx_model.specs.Refusals.ClassPlaces.{IsInBracket, IsItemPlace, nested, of_class}
-use Rattle.rx_model.proofs.Classes.ClassTokens.{tokens_append}
-use Rattle.rx_model.proofs.Classes.ClassWithoutSpans.{class_row_tokens}
+use Rattle.rx_model.specs.Refusals.ClassPlaces.{nested}
 use Rattle.rx_model.proofs.Classes.ClassWholes.{class_opened-append, class_run-append}
 use Rattle.rx_model.proofs.Classes.OpenBrackets.{after_opened, nested_run, row_alone}
-use Rattle.rx_class.specs.declared.sets.builder.ClassBuilder.{ClassBuilder}
-use Rattle.rx_class.specs.declared.sets.open_bracket.OpenBracket.{OpenBracket}
-use Rattle.rx_class.specs.SetReading.BuilderEvents.{bracket_at, bracket_events, builder_events}
-use Rattle.rx_class.specs.SetReading.Progress.{IsInSets, has_outer, innermost_held, is_nested, offset_in, place_of}
-use Rattle.rx_class.specs.SetReading.WellBuilt.{IsAround, IsWellBuilt, IsWellHeld}
+use Rattle.rx_class.specs.SetReading.Progress.{has_outer}
 use Rattle.rx_class.proofs.Operators.{begins_place}
 
 -- Brackets open in others, the innermost of which takes an operand more.
@@ -98,11 +87,10 @@ built_opens b well = go b.outer refl
 pub row_units : (e : Environment) (o : ℕ → ℕ) (es : ClassEvents) (q : Place) (i : ℕ) (us : List CodePoint) (r : Place) (j : ℕ) (end : List CodePoint) → ClassRow e o es q i us r j end →
     (w : List CodePoint) × (us ≡ w ++ end) × (j ≡ i + length w)
 row_units e o [] q i us r j end h = ([], h.2, omega (arith, h.1))
-row_units e o ((enter n) ∷ es) q i us r j end h = row_units e o es q i us r j end h.1
-row_units e o ((leave n) ∷ es) q i us r j end h = row_units e o es q i us r j end h.1
 row_units e o ((token t) ∷ es) q i us r j end h =
     let on = row_units e o es (next_place e.mode q t h.1) (i + length h.0) h.1 r j end h.4 in
     (h.0 ++ on.0, h.2 ∙ ap (λ us. h.0 ++ us) on.1 ∙ sym (append_assoc h.0 on.0 end), omega (arith, on.2, length-append h.0 on.0))
+row_units e o (edge ∷ es) q i us r j end h = row_units e o es q i us r j end h.1
 
 module _ (e : Environment) (o : ℕ → ℕ) where
   -- A row falls apart where its events do.
@@ -115,11 +103,10 @@ module _ (e : Environment) (o : ℕ → ℕ) where
 
   split_row : (es fs : ClassEvents) (q : Place) (i : ℕ) (us : List CodePoint) (r : Place) (j : ℕ) (end : List CodePoint) → ClassRow e o (es ++ fs) q i us r j end → SplitRow es fs q i us r j end
   split_row [] fs q i us r j end h = record { at = q; place = i; left = us; first = (refl, refl, refl); others = h }
-  split_row ((enter n) ∷ es) fs q i us r j end h = let s = split_row es fs q i us r j end h.1 in record { at = s.at; place = s.place; left = s.left; first = (h.0, s.first); others = s.others }
-  split_row ((leave n) ∷ es) fs q i us r j end h = let s = split_row es fs q i us r j end h.1 in record { at = s.at; place = s.place; left = s.left; first = (h.0, s.first); others = s.others }
   split_row ((token t) ∷ es) fs q i us r j end h =
       let s = split_row es fs (next_place e.mode q t h.1) (i + length h.0) h.1 r j end h.4 in
       record { at = s.at; place = s.place; left = s.left; first = (h.0, h.1, h.2, h.3, s.first); others = s.others }
+  split_row (edge ∷ es) fs q i us r j end h = let s = split_row es fs q i us r j end h.1 in record { at = s.at; place = s.place; left = s.left; first = (h.0, s.first); others = s.others }
 
   -- A row keeps the sum of its place and of what is left.
   pub row_place : (es : ClassEvents) (q : Place) (i : ℕ) (us : List CodePoint) (r : Place) (j : ℕ) (end : List CodePoint) → ClassRow e o es q i us r j end → i + length us ≡ j + length end

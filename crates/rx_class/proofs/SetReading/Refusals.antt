@@ -1,33 +1,18 @@
 -- What is refused where the reader of a class with `v` stands, and that it is the first refusal of the class; what stands next, as a turn of the reader needs it.
 use Rattle.std.proofs.Common.{◌≡◌, ◌≢◌, refl, sym, ap, ◌∙◌, subst, ℕ, ◌+◌, ◌≤◌, ◌==◌, ◌&&◌, Bool, true, false, is_some, None, Err, List, [], ◌∷◌, ◌++◌, length, arith}
-use Rattle.std.proofs.lemmas.Bool.{eqb-true, true≢false}
-use Rattle.rx_base.specs.declared.diagnostic.Diagnostic.{Diagnostic}
-use Rattle.rx_base.specs.declared.diagnostic.Diagnostic.TheVariants.{ClassIntersectionUnexpectedAmpersand, EmptyClassSetExpression, UnterminatedPattern}
+use Rattle.rx_class.proofs.Common.{eqb-true, true≢false, Diagnostic, UnterminatedPattern, Intersection, Span, CodePoint, Cursor, front, move_on, offset_of, rest, values, Mode, empty}
+use Rattle.rx_class.proofs.Common.{is_union, is_whole, operator_of, pending, starts, Environment, is_sets, no_item, yielding_of, span_between, class_environment, said_is_first, ClassBuilder}
+use Rattle.rx_class.proofs.Common.{between, span_to, KeepsUnits, GivesTurn, IsInSets, IsOfSets, innermost_held, is_nested, no_operator, offset_in, place_of}
+use Rattle.rx_base.specs.declared.diagnostic.Diagnostic.TheVariants.{ClassIntersectionUnexpectedAmpersand, EmptyClassSetExpression}
 use Rattle.rx_base.specs.declared.diagnostic.kinds.Unterminated.{Unterminated}
-use Rattle.rx_base.specs.declared.diagnostic.kinds.SetOperator.TheVariants.{Intersection}
 use Rattle.rx_base.specs.declared.fault.Fault.TheVariants as fault
-use Rattle.rx_base.specs.declared.span.Span.{Span}
-use Rattle.rx_units.specs.declared.code_point.CodePoint.{CodePoint}
-use Rattle.rx_units.specs.Cursor.{Cursor, front, move_on, offset_of, rest}
-use Rattle.rx_units.specs.Units.{values}
-use Rattle.rx_model.specs.declared.mode.Mode.{Mode}
-use Rattle.rx_model.specs.Classes.ClassRuns.{empty, is_union, is_whole, operator_of, pending}
-use Rattle.rx_model.specs.FirstPass.Marks.{starts}
-use Rattle.rx_model.specs.Inputs.Environment.{Environment, is_sets}
 use Rattle.rx_model.specs.Refusals.ClassCauses as class_cause
 use Rattle.rx_model.specs.Refusals.ClassCauses.{IsClassCause, of_negative, unterminated}
-use Rattle.rx_model.specs.Refusals.Firsts.{no_item, yielding_of}
-use Rattle.rx_model.specs.Refusals.Reached.{span_between, class_environment}
 use Rattle.rx_model.proofs.Classes.ClassFronts.{single as one_unit}
 use Rattle.rx_model.proofs.Classes.ClassStops.{item_between}
 use Rattle.rx_model.proofs.Classes.NothingFirst.{silent_is_first}
-use Rattle.rx_model.proofs.Classes.OneInClass.{said_is_first}
-use Rattle.rx_class.specs.declared.sets.builder.ClassBuilder.{ClassBuilder}
-use Rattle.rx_class.specs.ClassReading.Items.{between}
-use Rattle.rx_class.specs.EscapeReading.Answers.{span_to}
-use Rattle.rx_class.specs.Keeping.{KeepsUnits}
 use Rattle.rx_class.specs.SetReading.Fronts.{Begins, FrontRead, IsSetFront, StandsFront, set_front_at}
-use Rattle.rx_class.specs.SetReading.Progress.{GivesTurn, IsInSets, IsOfSets, SaysNothing, StandsNothing, innermost_held, is_nested, no_end, no_operand, no_operator, offset_in, place_of, refused}
+use Rattle.rx_class.specs.SetReading.Progress.{SaysNothing, StandsNothing, no_end, no_operand, refused}
 use Rattle.rx_class.proofs.Keeping.{passes_keeps, passes_moved, stays_keeps}
 use Rattle.rx_class.proofs.Operators.{begins_place, may_follow_here, no_operator_union, pending_there}
 use Rattle.rx_class.proofs.SetReading.Places.{innermost_here, item_before, item_here}

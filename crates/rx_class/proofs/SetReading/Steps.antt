@@ -1,24 +1,13 @@
 -- What a turn of the reader of a class with `v` adds to what was built.
 use Rattle.std.proofs.Common.{◌≡◌, refl, sym, ap, ◌∙◌, subst, ℕ, ◌+◌, ◌<◌, Bool, true, false, Some, List, [], ◌∷◌, ◌++◌, length, arith, append_assoc, length-append}
-use Rattle.std.proofs.lemmas.List.{length-map}
-use Rattle.rx_base.specs.declared.diagnostic.kinds.SetOperator.{SetOperator}
-use Rattle.rx_units.specs.declared.code_point.CodePoint.{CodePoint}
-use Rattle.rx_units.specs.Cursor.{Cursor, move_on, offset_of, rest}
-use Rattle.rx_units.specs.Units.{values}
+use Rattle.rx_class.proofs.Common.{length-map, SetOperator, CodePoint, Cursor, move_on, offset_of, rest, values, empty, is_whole, with_operator, Atom, ClassEvents, ClassToken, bracket}
+use Rattle.rx_class.proofs.Common.{closer, enter, item, leave, token, class_tokens_of, operator, operator_text, Environment, is_sets, starts, begins_item, tokens_append, ClassBuilder}
+use Rattle.rx_class.proofs.Common.{builder_events, mirror_held, AddsToSets, IsInSets, IsOfSets, RefusesNoEnd, innermost_held, offset_in, place_of, IsWellBuilt}
 use Rattle.rx_model.specs.Classes.ClassRows.{ClassRow, Place, SpellsBracket, SpellsInClass, next_place, outside, fresh}
-use Rattle.rx_model.specs.Classes.ClassRuns.{empty, is_whole, with_operator}
-use Rattle.rx_model.specs.Classes.ClassTokens.{Atom, ClassEvents, ClassToken, bracket, closer, enter, is_character, item, leave, token, class_tokens_of, operator, operator_text}
-use Rattle.rx_model.specs.Inputs.Environment.{Environment, is_sets}
-use Rattle.rx_model.specs.FirstPass.Marks.{starts}
-use Rattle.rx_model.specs.Refusals.ClassPlaces.{begins_item}
-use Rattle.rx_model.proofs.Classes.ClassTokens.{tokens_append}
-use Rattle.rx_class.specs.declared.sets.builder.ClassBuilder.{ClassBuilder}
+use Rattle.rx_model.specs.Classes.ClassTokens.{is_character}
 use Rattle.rx_class.specs.declared.sets.held.Held.{Held as HeldState}
-use Rattle.rx_class.specs.SetReading.BuilderEvents.{builder_events}
-use Rattle.rx_class.specs.SetReading.HeldMirror.{mirror_held}
 use Rattle.rx_class.specs.SetReading.Fronts.{Begins, BeginsBracket}
-use Rattle.rx_class.specs.SetReading.Progress.{AddsToSets, IsInSets, IsOfSets, RefusesNoEnd, bracket_text, innermost_held, offset_in, place_of}
-use Rattle.rx_class.specs.SetReading.WellBuilt.{IsWellBuilt}
+use Rattle.rx_class.specs.SetReading.Progress.{bracket_text}
 use Rattle.rx_class.proofs.ClassReading.Items.{rows_append}
 use Rattle.rx_class.proofs.Keeping.{keeps_on, passes_keeps, passes_moved}
 use Rattle.rx_class.proofs.Operators.{begins_cases, begins_place, operand_after, operator_leads, operator_no_item, operator_places, operator_spelled, some_operator, whole_fresh}

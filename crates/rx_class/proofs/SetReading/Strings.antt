@@ -1,51 +1,29 @@
 -- Class strings: a part more, what is refused where none stands, and from their opener on where their reader stands, and what it answers.
-use Rattle.std.proofs.Common.{◌≡◌, refl, sym, ap, ◌∙◌, subst, ℕ, ◌+◌, ◌≤◌, ◌==◌, ◌||◌, true, false, not, Result, Ok, Err, List, [], ◌∷◌, ◌++◌, length, arith, append_assoc, ◌≢◌, ◌-◌, ◌<◌, is_some, Option, Some, None, append-nil, inr, length-append}
-use Rattle.std.specs.Prelude.{IfErr, All}
+use Rattle.std.proofs.Common.{◌≡◌, refl, sym, ap, ◌∙◌, subst, ℕ, ◌+◌, ◌≤◌, ◌==◌, ◌||◌, true, false, not, Result, Ok, Err, List, [], ◌∷◌, ◌++◌, length, arith, append_assoc, ◌≢◌, ◌-◌, ◌<◌, is_some, Option, Some, None, append-nil, inr, length-append, IfErr, All}
+use Rattle.rx_class.proofs.Common.{or-false, All-nil, All-push, All-head, All-tail, All-weaker, le-leb, true≢false, length-map, Diagnostic, UnterminatedPattern, Fault, Span, Character}
+use Rattle.rx_class.proofs.Common.{ClassStringDisjunction, CodePoint, Cursor, move_on, offset_of, rest, offset_at, values, ClassEvents, ClassToken, character, enter, leave, strings_end}
+use Rattle.rx_class.proofs.Common.{token, strings, class_tokens_of, strings_events, starts, Environment, is_sets, Bracket, Brackets, after_step, class_run, operand, takes_operand}
+use Rattle.rx_class.proofs.Common.{IsOperandPlace, begins_item, IsEscapeCause, invalid_escape, too_many_hex_digits, IsFirstInClass, no_item, yielding_of, class_environment, atom_some}
+use Rattle.rx_class.proofs.Common.{class_row_tokens, said_is_first, span_to, KeepsUnits, GivesSetCharacter, GivesStrings, IsOfText, offset_in, IsSound}
 use Rattle.std.specs.List.{list_any}
-use Rattle.std.proofs.Math.Bool.{or-false}
-use Rattle.std.proofs.lemmas.List.Elements.{All-nil, All-push, All-cons, All-head, All-tail, All-weaker}
+use Rattle.std.proofs.lemmas.List.Elements.{All-cons}
 use Rattle.std.proofs.lemmas.List.Folds.{list_any-append}
-use Rattle.std.proofs.lemmas.Bool.{le-leb, true≢false}
-use Rattle.std.proofs.lemmas.List.{length-map}
-use Rattle.rx_base.specs.declared.diagnostic.Diagnostic.{Diagnostic}
-use Rattle.rx_base.specs.declared.diagnostic.Diagnostic.TheVariants.{UnterminatedPattern}
 use Rattle.rx_base.specs.declared.diagnostic.kinds.Unterminated.TheVariants as what
-use Rattle.rx_base.specs.declared.fault.Fault.{Fault}
 use Rattle.rx_base.specs.declared.fault.Fault.TheVariants as fault
-use Rattle.rx_base.specs.declared.span.Span.{Span}
-use Rattle.rx_ast.specs.declared.leaf.Character.{Character}
 use Rattle.rx_ast.specs.declared.class.ClassString.{ClassString}
-use Rattle.rx_ast.specs.declared.class.ClassStringDisjunction.{ClassStringDisjunction}
 use Rattle.rx_ast.specs.ClassTree as tree
-use Rattle.rx_units.specs.declared.code_point.CodePoint.{CodePoint}
-use Rattle.rx_units.specs.Cursor.{Cursor, move_on, offset_of, rest}
-use Rattle.rx_units.specs.Units.{offset_at, values}
 use Rattle.rx_model.specs.Characters.EscapeFronts.{escaped, nothing}
 use Rattle.rx_model.specs.Classes.ClassRows.{SpellsInClass, SpellsOfStrings, in_strings, ClassRow, Place, fresh}
-use Rattle.rx_model.specs.Classes.ClassTokens.{ClassEvent, ClassEvents, ClassToken, character, enter, leave, letter, letters_events, string_bar, string_events, strings_end, token, strings, barred_strings_events, class_tokens_of, strings_events}
-use Rattle.rx_model.specs.FirstPass.Marks.{starts}
-use Rattle.rx_model.specs.Inputs.Environment.{Environment, is_sets}
+use Rattle.rx_model.specs.Classes.ClassTokens.{ClassEvent, letter, letters_events, string_bar, string_events, barred_strings_events}
 use Rattle.rx_model.specs.Refusals.ClassCauses.{EndsStrings, escape_in_class}
 use Rattle.rx_model.specs.Trees.Early.{IsEarlyString, IsCodePoint, IsFlaggedString}
-use Rattle.rx_model.specs.Classes.ClassRuns.{Bracket, Brackets, Held, any_string, after_step, class_run, operand, takes_operand, where_may, where_true}
-use Rattle.rx_model.specs.Refusals.ClassPlaces.{IsOfStrings, IsOperandPlace, IsStringPlace, begins_item}
-use Rattle.rx_model.specs.Refusals.EscapeCauses.{IsEscapeCause, invalid_escape, too_many_hex_digits}
-use Rattle.rx_model.specs.Refusals.Firsts.{IsFirstInClass, no_item, yielding_of}
-use Rattle.rx_model.specs.Refusals.Reached.{class_environment}
-use Rattle.rx_model.proofs.Classes.ClassFronts.{atom_some}
-use Rattle.rx_model.proofs.Classes.ClassWithoutSpans.{class_row_tokens}
+use Rattle.rx_model.specs.Classes.ClassRuns.{Held, any_string, where_may, where_true}
+use Rattle.rx_model.specs.Refusals.ClassPlaces.{IsOfStrings, IsStringPlace}
 use Rattle.rx_model.proofs.Classes.NothingFirst.{unterminated_strings_first}
-use Rattle.rx_model.proofs.Classes.OneInClass.{said_is_first}
 use Rattle.rx_class.specs.declared.sets.strings.StringsBuilder.{StringsBuilder}
-use Rattle.rx_class.specs.EscapeReading.Answers.{span_to}
-use Rattle.rx_class.specs.Keeping.{KeepsUnits}
-use Rattle.rx_class.specs.SetReading.Answers.{GivesSetCharacter, GivesStrings}
 use Rattle.rx_class.specs.SetReading.Answers as given
 use Rattle.rx_class.specs.SetReading.Fronts.{set_character_at, Begins}
 use Rattle.rx_class.specs.SetReading.Strings.{AddsPart, AreSoundStrings, RefusesPart, ended_events, ends, escape, last_string, read_events, with_string, no_memory, strings_from}
-use Rattle.rx_class.specs.ClassReading.Items.{IsOfText}
-use Rattle.rx_class.specs.SetReading.Progress.{offset_in}
-use Rattle.rx_class.specs.SetReading.WellBuilt.{IsSound}
 use Rattle.rx_class.proofs.Keeping.{passes_moved, stays_keeps, Passes, keeps_on, passes_keeps, passes_on, passes_over}
 use Rattle.rx_class.proofs.SetReading.Characters.{no_escape_refused, spelled_set_character}
 use Rattle.rx_class.proofs.SetReading.Refusals.{unit_next}
@@ -202,10 +180,9 @@ AreSmall es = All IsSmallOfStrings (class_tokens_of es)
 
 small_append : (es fs : ClassEvents) → AreSmall es → AreSmall fs → AreSmall (es ++ fs)
 small_append [] fs h k = k
-small_append ((enter n) ∷ es) fs h k = small_append es fs h k
-small_append ((leave n) ∷ es) fs h k = small_append es fs h k
 small_append ((token t) ∷ es) fs h k =
     All-cons IsSmallOfStrings t (class_tokens_of (es ++ fs)) (All-head IsSmallOfStrings t (class_tokens_of es) h) (small_append es fs (All-tail IsSmallOfStrings t (class_tokens_of es) h) k)
+small_append (edge ∷ es) fs h k = small_append es fs h k
 
 letters_small : (cs : List Character) → All (λ c. IsCodePoint c.value) cs → AreSmall (letters_events cs)
 letters_small [] h = All-nil IsSmallOfStrings

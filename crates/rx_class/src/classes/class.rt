@@ -28,8 +28,8 @@ use std::alloc::Global;
 /// of a class; and as the escapes in it are. Spans are in bytes.
 ///
 /// With `v` brackets nest, and it is refused too by `EmptyClassSetExpression` where a bracket begins with no operand; by
-/// `ClassIntersectionUnexpectedAmpersand` where a `&` stands after `&&`; by `ClassSetExpressionInvalidCharacter` where neither an
-/// operand nor `]` stands that may follow an operator or what is after one; by `UnterminatedPattern` where class strings or a bracket
+/// `ClassIntersectionUnexpectedAmpersand` where a `&` stands after `&&`; by `ClassSetExpressionInvalidCharacter` where no operand
+/// stands after an operator, or neither that operator nor `]` after one of its operands; by `UnterminatedPattern` where class strings or a bracket
 /// do not end; by `CharacterClassRangeOutOfOrder`; and by `InvalidCharacterClass` or, where it is nested, by
 /// `CharacterClassContentsInvalidOperands` where a negative class may contain strings.
 // Why: docs/DECISIONS.md, 44.
@@ -106,6 +106,7 @@ impl<C: Counter> Reading<'_, '_, '_, '_, '_, C> {
     }
 
     /// Moves over the `[` of a class, and the `^` after it where one stands, and says whether it does.
+    #[tactic(auto, using(crate::proofs::ReadingSteps::eaten_paced))]
     pub(crate) fn class_opener(&mut self) -> bool
         ensures value { result ≡ begins (ascii.caret ∷ []) (rest (move_on 1 self.old.reader.now)) }
         ensures reader { self.new.reader.now ≡ (if result then move_on 1 (move_on 1 self.old.reader.now) else move_on 1 self.old.reader.now) }

@@ -143,6 +143,7 @@ fn refers<C: Counter>(units: &[CodePoint], groups: u32, steps: &mut C) -> bool
 }
 
 /// Whether the number of the decimal digits that the units begin with is at most a limit.
+#[tactic(auto, using(crate::proofs::EscapeReading::LegacyLooks::passes_limit))]
 fn is_at_most<C: Counter>(units: &[CodePoint], limit: u32, steps: &mut C) -> bool
     ensures value { result ≡ nat_le (run_number 0 (values units.now)) limit }
     ensures steps { Rises (C.count steps.old) (C.count steps.new) 0 (prefix_len (λ u. is_decimal_digit u.value) units.now + 1) }

@@ -117,6 +117,7 @@ fn unterminated(end: usize) -> PropertyFound
 }
 
 /// The same by a name and a value, in every mode.
+#[tactic(auto, using(rx_model::proofs::Properties::PropertyRefusals::names_are_values))]
 fn pair_found<C: Counter>(
     alloc: Global,
     negative: bool,

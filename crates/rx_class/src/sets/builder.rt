@@ -27,6 +27,7 @@ pub struct ClassBuilder {
 
 impl ClassBuilder {
     /// A class of which only its bracket was read.
+    #[tactic(auto, using(crate::proofs::SetReading::BuilderGrowth::new_events, crate::proofs::SetReading::BuilderGrowth::new_well))]
     pub fn new(alloc: Global, start: u32, negative: bool) -> ClassBuilder
         ensures events { builder_events result ≡ enter start ∷ token (bracket negative) ∷ [] }
         ensures held { mirror_held result.inner.held ≡ empty }
@@ -39,6 +40,7 @@ impl ClassBuilder {
     }
 
     /// Opens a bracket where an operand may stand.
+    #[tactic(auto, using(crate::proofs::SetReading::BuilderGrowth::open_events, crate::proofs::SetReading::BuilderGrowth::open_well))]
     pub fn open(&mut self, alloc: Global, start: u32, negative: bool) -> Result<(), OutOfMemory>
         requires well { IsWellBuilt self.old }
         requires operand { IsSome (operand (mirror_held self.old.inner.held)) }
@@ -51,6 +53,7 @@ impl ClassBuilder {
     }
 
     /// Adds an operand or a range, which may match strings or not. After it the innermost bracket holds `held`.
+    #[tactic(auto, using(crate::proofs::SetReading::BuilderGrowth::inner_events, crate::proofs::SetReading::BuilderGrowth::inner_well))]
     pub fn push(
         &mut self,
         contents: CharacterClassContents,

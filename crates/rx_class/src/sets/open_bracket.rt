@@ -29,6 +29,7 @@ pub struct OpenBracket {
 
 impl OpenBracket {
     /// A bracket in which nothing was read.
+    #[tactic(auto, using(crate::proofs::SetReading::OpenBrackets::new_bracket, crate::proofs::SetReading::OpenBrackets::well_new))]
     pub fn new(alloc: Global, start: u32, negative: bool) -> OpenBracket
         ensures events { bracket_events result ≡ enter start ∷ token (bracket negative) ∷ [] }
         ensures bracket { bracket_at result ≡ bracket_of negative empty false }

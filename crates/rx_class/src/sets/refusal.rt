@@ -50,6 +50,7 @@ impl<C: Counter> Reading<'_, '_, '_, '_, '_, C> {
     }
 
     /// Refuses what is at the place, since it may not follow in the innermost bracket.
+    #[tactic(auto, using(crate::proofs::SetReading::Refusals::nothing_gives))]
     pub(crate) fn nothing_follows(&self, builder: &ClassBuilder) -> Fault
         ensures { (e : Environment) → IsOfSets e self.now.reader.now → StandsNothing e self.now.reader.now builder.now → GivesTurn e self.now.spans.now self.now.reader.now self.now.reader.now builder.now builder.now (Err result) }
     {

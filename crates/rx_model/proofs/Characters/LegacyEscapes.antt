@@ -126,8 +126,8 @@ module _ (inside : Bool) (e : Environment) where
     | inr s ↦ give (c ∷ d ∷ []) w (legacy_octal (octal2_high (high_octal c o s) p) f) refl h
   ]
 
-  octal_found : (c : ℕ) (w : List ℕ) (kind : CharacterKind) (v n : ℕ) → is_octal_digit c ≡ true → is_free inside e.groups (c ∷ w) ≡ true → (c == 48 && not (front_is is_decimal_digit w)) ≡ false →
-      octal_at c w ≡ escaped kind v n → LegacyFront kind v n (c ∷ w)
+  octal_found : (c : ℕ) (w : List ℕ) (kind : CharacterKind) (v n : ℕ) → is_octal_digit c ≡ true → is_free inside e.groups (c ∷ w) ≡ true →
+      (c == 48 && not (front_is is_decimal_digit w)) ≡ false → octal_at c w ≡ escaped kind v n → LegacyFront kind v n (c ∷ w)
   octal_found c [] kind v n o f z h = zero_or_one c [] kind v n o f z refl h
   octal_found c (d ∷ []) kind v n o f z h = elim (chosen (is_octal_digit d) h) [
     | inl p ↦ two_digits c d [] kind v n o p.0 f (and-false (is_within 48 51 c)) p.1

@@ -54,8 +54,8 @@ pub data SpellsClassCharacter (e : Environment) : CharacterKind → ℕ → List
   escaped : {k : CharacterKind} {v : ℕ} {rest : List CodePoint} (backslash : CodePoint) (following : List CodePoint) → backslash.value ≡ ascii.backslash
       → SpellsEscape e k v (values following) (values rest) → SpellsClassCharacter e k v (backslash ∷ following) rest
   -- a backslash and one that is a character in classes alone
-  escaped_in_class : {k : CharacterKind} {v : ℕ} {rest : List CodePoint} (backslash : CodePoint) (following : List CodePoint) → backslash.value ≡ ascii.backslash
-      → SpellsInClassAlone e.mode k v (values following) → SpellsClassCharacter e k v (backslash ∷ following) rest
+  escaped_in_class : {k : CharacterKind} {v : ℕ} {rest : List CodePoint} (backslash : CodePoint) (following : List CodePoint)
+      → backslash.value ≡ ascii.backslash → SpellsInClassAlone e.mode k v (values following) → SpellsClassCharacter e k v (backslash ∷ following) rest
   -- a backslash and one that is a character with neither `u` nor `v` alone
   escaped_in_legacy : {k : CharacterKind} {v : ℕ} {rest : List CodePoint} (backslash : CodePoint) (following : List CodePoint) → backslash.value ≡ ascii.backslash → is_unicode e.mode ≡ false
       → SpellsLegacy true e k v (values following) (values rest) → SpellsClassCharacter e k v (backslash ∷ following) rest

@@ -130,8 +130,8 @@ pub data IsCauseAtPlace (mode : Mode) (rules : Rules) (us : List CodePoint) (fir
       → EndsName (text_environment mode rules us) (values rest) count following → starts ascii.backslash following ≡ false → (BeginsWithPair following → ⊥) → (starts ascii.greater_than following ≡ true → count ≡ 0)
       → IsCauseAtPlace mode rules us first added place (UnterminatedPattern (span_between us first added (place + 2) (place + 3 + count)) what.GroupName)
   -- With neither `u` nor `v` a raw pair stands in a name that may not stand there.
-  misplaced_pair : (place count : ℕ) (rest : List CodePoint) (following : List ℕ) → IsPlace mode rules us place rest → is_unicode mode ≡ false
-      → EndsName (text_environment mode rules us) (values rest) count following → BeginsWithPair following
+  misplaced_pair : (place count : ℕ) (rest : List CodePoint) (following : List ℕ) → IsPlace mode rules us place rest
+      → is_unicode mode ≡ false → EndsName (text_environment mode rules us) (values rest) count following → BeginsWithPair following
       → IsCauseAtPlace mode rules us first added place (InvalidSurrogatePair (span_between us first added (place + 3 + count) (place + 5 + count)))
   -- In a name the digits of a unicode escape pass 32 bits.
   too_many_digits_in_name : (place count many : ℕ) (rest : List CodePoint) (following : List ℕ) → IsPlace mode rules us place rest
@@ -170,8 +170,8 @@ pub data IsCauseAtPlace (mode : Mode) (rules : Rules) (us : List CodePoint) (fir
   empty_modifiers : (place : ℕ) (rest : List CodePoint) (following : List ℕ) → IsPlace mode rules us place rest → values rest ≡ codes "(?-:" ++ following
       → IsCauseAtPlace mode rules us first added place (EmptyModifiers (span_between us first added (place + 2) (place + 3)))
   -- A letter is on both sides of the modifiers, and none twice on one (22.2.1.1).
-  invalid_modifiers : (place : ℕ) (rest : List CodePoint) (enabled disabled text following : List ℕ) → IsPlace mode rules us place rest → values rest ≡ codes "(?" ++ (text ++ (ascii.colon ∷ following))
-      → AreSides enabled disabled text → (has_twice enabled || has_twice disabled) ≡ false → share_some enabled disabled ≡ true
+  invalid_modifiers : (place : ℕ) (rest : List CodePoint) (enabled disabled text following : List ℕ) → IsPlace mode rules us place rest
+      → values rest ≡ codes "(?" ++ (text ++ (ascii.colon ∷ following)) → AreSides enabled disabled text → (has_twice enabled || has_twice disabled) ≡ false → share_some enabled disabled ≡ true
       → IsCauseAtPlace mode rules us first added place (InvalidModifiers (span_between us first added (place + 2) (place + 2 + length text)))
 
 -- The diagnostic is a refusal of this text, whose first offset is `first`, `added` being added to each. The groups come before all else.

@@ -1,6 +1,7 @@
 -- What stands where reading stops, against what is decoded and against the faults.
 use Rattle.std.proofs.Common.{◌≡◌, ℕ, ◌+◌, ◌==◌, Bool, true, false, ◌&&◌, ◌||◌, List, [], ◌∷◌, length, take, drop, refl, sym, ap, ◌∙◌, subst, arith, inl, inr}
 use Rattle.std.proofs.lemmas.Bool.{eqb-true}
+use Rattle.rx_base.specs.declared.span.Span.{Span}
 use Rattle.rx_units.specs.declared.code_point.CodePoint.{CodePoint}
 use Rattle.rx_units.specs.declared.quoted_text.element.Element.{Element}
 use Rattle.rx_units.specs.declared.quoted_text.element.Writing.{Writing}
@@ -14,7 +15,7 @@ use Rattle.rx_units.specs.declared.quoted_text.reading.Stop.{Stop}
 use Rattle.rx_units.specs.declared.string_literal_parser.StringLiteralKind.{StringLiteralKind}
 use Rattle.rx_units.specs.declared.string_literal_parser.StringLiteralKind.TheVariants as quotes
 use Rattle.rx_units.specs.Digits.{PassesHex}
-use Rattle.rx_units.specs.Quoted.Answers.{IsStop, string_element_fault, string_fault_at}
+use Rattle.rx_units.specs.Quoted.Answers.{IsStop, string_element_fault, string_fault_at, text_span}
 use Rattle.rx_units.specs.Quoted.Elements.{quote_of, SpellsElement, SpellsInString, character, escape, legacy_octal, non_octal}
 use Rattle.rx_units.specs.Quoted.Escapes.{SpellsEscape, single, non_escape, null, hexadecimal, four_digits, braced, continuation}
 use Rattle.rx_units.specs.Quoted.Faults.{IsStringFault, nothing, followed, legacy, too_large, from_to}
@@ -184,6 +185,10 @@ module _ (l : Literal) (o : Options) (text inner : List ℕ) (stop : Stop) (open
 
 abbrev pub given : List ℕ → Options → Given
 given text o = record { text = text; options = o }
+
+-- a span that covers the text
+pub whole_span : (text : List ℕ) (o : Options) (span : Span) (count : ℕ) → span ≡ from_to o.span_offset (o.span_offset + count) → count ≡ byte_count text → span ≡ text_span (given text o)
+whole_span text o span count is counted = is ∙ ap (λ (n : ℕ). from_to o.span_offset (o.span_offset + n)) counted
 
 -- what a parser is given is what it holds
 pub given_decoded : (l : Literal) (o : Options) (text held : List ℕ) (g : Given) (us : List CodePoint) → text ≡ held → given held o ≡ g → IsDecoded l g.options g.text us → IsDecoded l o text us

@@ -9,7 +9,7 @@ use rx_base::{
 };
 use std::alloc::Global;
 
-/// Adds the units that an element gives, which stands in the bytes between the bounds. A refusal leaves the list as before.
+/// Adds the units that an element gives, which stands in the bytes between the bounds. After an error the list is as before.
 // Why: docs/DECISIONS.md, 69.
 pub(crate) fn push_element(
     units: &mut List<CodePoint>,

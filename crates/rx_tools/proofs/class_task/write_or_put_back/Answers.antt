@@ -1,4 +1,4 @@
-use Rattle.std.proofs.Common.{refl, ap, ◌∙◌, ◌++◌}
+use Rattle.std.proofs.Common.{ap, ◌∙◌, ◌++◌}
 use Rattle.rx_ast.specs.ClassTree.{mirror_contents}
 use Rattle.rx_ast.proofs.ClassEquations.{nested_is}
 use Rattle.rx_model.specs.Spelling.ClassText.{member_text}
@@ -11,6 +11,3 @@ pub returns-in-NestedCharacterClass-clause-text : goal.returns-in-NestedCharacte
 returns-in-NestedCharacterClass-clause-text g c =
     let more = class_task_text c.args.rest in
     goes_none (no_text g.W.TextSink.taken _) (rw c.deref.ensures (ap (λ m. member_text c.args.mode (mirror_contents m) ++ more) c.in-NestedCharacterClass.is ∙ ap (λ m. member_text c.args.mode m ++ more) (nested_is c.in-NestedCharacterClass.class)))
-
-pub returns-clause-text : goal.returns-clause-text
-returns-clause-text g c = record { front = member_text c.args.mode (mirror_contents c.args.contents.now); cut = refl; written = c.in_ok-write_contents.ensures.whole }

@@ -1,9 +1,6 @@
-use Rattle.std.proofs.Common.{ap, sym, ◌++◌}
-use Rattle.rx_ast.specs.Tree.{mirror_term}
-use Rattle.rx_model.specs.Spelling.Spelling.{node_text}
+use Rattle.std.proofs.Common.{refl}
+use Rattle.rx_tasks.proofs.Texts.{goes_past}
 use Rattle.rx_tools.proofs.printing.write_alone.Goals as goal
 
 pub returns-clause-text : goal.returns-clause-text
-returns-clause-text g c =
-    let own = node_text c.args.after.mode c.args.after_reference (mirror_term c.args.term.now) in
-    record { front = own; cut = ap (λ text. own ++ text) (sym c.task_of.ensures.text); written = c.in_ok-write_leaf.ensures.whole }
+returns-clause-text g c = goes_past _ refl c.task_of.ensures.text c.in_ok-write_leaf.ensures.whole

@@ -1,4 +1,4 @@
-use Rattle.std.proofs.Common.{◌+◌, ◌≤◌, ℕ, inr, sym, ap, subst, ◌∙◌, arith}
+use Rattle.std.proofs.Common.{◌≤◌, inr, sym, subst, arith}
 use Rattle.std.proofs.lemmas.List.Elements.{All-tail}
 use Rattle.std.specs.Prelude.{All}
 use Rattle.rx_base.specs.declared.span.Span.{Span}
@@ -6,8 +6,8 @@ use Rattle.rx_units.specs.declared.quoted_text.literal.Literal.TheVariants as li
 use Rattle.rx_units.specs.declared.string_literal_parser.StringFault.{StringFault}
 use Rattle.rx_units.specs.declared.string_literal_parser.StringFault.TheVariants as string_fault
 use Rattle.rx_units.specs.Quoted.Elements.{quote_of}
-use Rattle.rx_units.specs.Quoted.Faults.{IsStringFault, unopened, from_to}
-use Rattle.rx_units.proofs.Quoted.Outcomes.{string_fault_stands, stop_reached, decoded_there}
+use Rattle.rx_units.specs.Quoted.Faults.{IsStringFault, unopened}
+use Rattle.rx_units.proofs.Quoted.Outcomes.{string_fault_stands, stop_reached, decoded_there, whole_span}
 use Rattle.rx_units.proofs.string_literal_parser.decode_text.Goals as goal
 
 pub returns-in_default-clause-err : goal.returns-in_default-clause-err
@@ -21,12 +21,11 @@ pub returns-clause-ok : goal.returns-clause-ok
 returns-clause-ok c = record {
   decoded = decoded_there (literals.String c.in-Some.kind) c.args.options c.args.text.now c.in-Some.inner.now c.in_ok-stop.stop c.in-Some.ensures c.in_ok-stop.ensures
       (grind (arith, c.is_end.ensures, c.if-not-is_end.false)) _ c.in_ok-body.ensures;
-  span_is = c.new-span.ensures ∙ ap (λ (n : ℕ). from_to c.args.options.span_offset (c.args.options.span_offset + n)) c.byte_count.ensures;
+  span_is = whole_span c.args.text.now c.args.options _ _ c.new-span.ensures c.byte_count.ensures;
 }
 
 pub returns-then-not-is_end-clause-err : goal.returns-then-not-is_end-clause-err
 returns-then-not-is_end-clause-err c =
-    let stops = c.in_ok-stop.ensures in
-    let reached = stop_reached (literals.String c.in-Some.kind) c.args.options c.args.text.now c.in-Some.inner.now c.in_ok-stop.stop c.in-Some.ensures stops in
+    let reached = stop_reached (literals.String c.in-Some.kind) c.args.options c.args.text.now c.in-Some.inner.now c.in_ok-stop.stop c.in-Some.ensures c.in_ok-stop.ensures in
     inr (subst (λ (f : StringFault). IsStringFault c.args.options c.args.text.now f) (sym c.fault.ensures)
-    (string_fault_stands c.in-Some.kind c.args.options c.args.text.now _ reached _ stops.found stops.ends (grind (arith, c.is_end.ensures, c.if-not-is_end.true))))
+    (string_fault_stands c.in-Some.kind c.args.options c.args.text.now _ reached _ c.in_ok-stop.ensures.found c.in_ok-stop.ensures.ends (grind (arith, c.is_end.ensures, c.if-not-is_end.true))))

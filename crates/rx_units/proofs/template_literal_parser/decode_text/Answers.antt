@@ -1,12 +1,12 @@
-use Rattle.std.proofs.Common.{◌+◌, ◌≤◌, ℕ, inr, sym, ap, subst, ◌∙◌, arith}
+use Rattle.std.proofs.Common.{◌≤◌, inr, sym, subst, arith}
 use Rattle.std.proofs.lemmas.List.Elements.{All-tail}
 use Rattle.std.specs.Prelude.{All}
 use Rattle.rx_base.specs.declared.span.Span.{Span}
 use Rattle.rx_units.specs.declared.quoted_text.literal.Literal.TheVariants as literals
 use Rattle.rx_units.specs.declared.template_literal_parser.TemplateFault.{TemplateFault}
 use Rattle.rx_units.specs.declared.template_literal_parser.TemplateFault.TheVariants as template_fault
-use Rattle.rx_units.specs.Quoted.Faults.{IsTemplateFault, unopened, from_to}
-use Rattle.rx_units.proofs.Quoted.Outcomes.{stop_reached, decoded_there}
+use Rattle.rx_units.specs.Quoted.Faults.{IsTemplateFault, unopened}
+use Rattle.rx_units.proofs.Quoted.Outcomes.{stop_reached, decoded_there, whole_span}
 use Rattle.rx_units.proofs.Quoted.TemplateFaults.{template_fault_stands}
 use Rattle.rx_units.proofs.template_literal_parser.decode_text.Goals as goal
 
@@ -20,12 +20,11 @@ pub returns-clause-ok : goal.returns-clause-ok
 returns-clause-ok c = record {
   decoded = decoded_there literals.Template c.args.options c.args.text.now c.in-Some.inner.now c.in_ok-stop.stop c.in-Some.ensures c.in_ok-stop.ensures
       (grind (arith, c.is_end.ensures, c.if-not-is_end.false)) _ c.in_ok-body.ensures;
-  span_is = c.new-span.ensures ∙ ap (λ (n : ℕ). from_to c.args.options.span_offset (c.args.options.span_offset + n)) c.byte_count.ensures;
+  span_is = whole_span c.args.text.now c.args.options _ _ c.new-span.ensures c.byte_count.ensures;
 }
 
 pub returns-then-not-is_end-clause-err : goal.returns-then-not-is_end-clause-err
 returns-then-not-is_end-clause-err c =
-    let stops = c.in_ok-stop.ensures in
-    let reached = stop_reached literals.Template c.args.options c.args.text.now c.in-Some.inner.now c.in_ok-stop.stop c.in-Some.ensures stops in
+    let reached = stop_reached literals.Template c.args.options c.args.text.now c.in-Some.inner.now c.in_ok-stop.stop c.in-Some.ensures c.in_ok-stop.ensures in
     inr (subst (λ (f : TemplateFault). IsTemplateFault c.args.options c.args.text.now f) (sym c.fault.ensures)
-    (template_fault_stands c.args.options c.args.text.now _ reached _ stops.found stops.ends (grind (arith, c.is_end.ensures, c.if-not-is_end.true))))
+    (template_fault_stands c.args.options c.args.text.now _ reached _ c.in_ok-stop.ensures.found c.in_ok-stop.ensures.ends (grind (arith, c.is_end.ensures, c.if-not-is_end.true))))

@@ -1,10 +1,9 @@
 use Rattle.std.proofs.Common.{◌≡◌, ◌&&◌, false, refl, ap, ap₂, ◌∙◌}
-use Rattle.rx_base.specs.declared.span.Span.{Span}
-use Rattle.rx_ast.specs.declared.leaf.Character.{Character}
+use Rattle.rx_class.proofs.Common.{Span, Character, atom_of, atom_span, between}
 use Rattle.rx_model.specs.Refusals.ClassCauses.{is_character}
 use Rattle.rx_class.specs.declared.classes.atom.ClassAtom.TheVariants as atom
 use Rattle.rx_class.specs.declared.classes.atom.ClassAtom as atoms
-use Rattle.rx_class.specs.ClassReading.Items.{range, dash_out_of_order, out_of_order, no_character, atom_of, atom_span, between}
+use Rattle.rx_class.specs.ClassReading.Items.{range, dash_out_of_order, out_of_order, no_character}
 use Rattle.rx_class.proofs.classes.item.range_between.Goals.{in_default-via-in-Character+in_default, in_default-via-in_default}
 use Rattle.rx_class.proofs.classes.item.range_between.Goals as goal
 

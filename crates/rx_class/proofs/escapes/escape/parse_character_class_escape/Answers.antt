@@ -1,7 +1,5 @@
 use Rattle.std.proofs.Common.{◌∙◌, sym, ap, subst}
-use Rattle.rx_units.specs.Units.{values}
-use Rattle.rx_class.specs.EscapeReading.Answers.{GivesClassEscape}
-use Rattle.rx_class.specs.EscapeReading.Found.{class_escape_front}
+use Rattle.rx_class.proofs.Common.{values, GivesClassEscape, class_escape_front}
 use Rattle.rx_class.proofs.EscapeReading.Gives.{class_gives, no_class_gives}
 use Rattle.rx_class.proofs.Fitting.{moved_are_fitting, offset_here_fits, start_fits}
 use Rattle.rx_class.proofs.escapes.escape.parse_character_class_escape.Goals as goal

@@ -1,8 +1,7 @@
 use Rattle.std.proofs.Common.{◌≡◌, true, ap, ◌∙◌, sym, arith}
-use Rattle.rx_units.specs.Units.{values}
+use Rattle.rx_class.proofs.Common.{values, seen_escape}
 use Rattle.rx_model.specs.Reading.Fronts.{escape_at}
 use Rattle.rx_scan.specs.Environments.{seen_environment}
-use Rattle.rx_class.specs.EscapeReading.Found.{seen_escape}
 use Rattle.rx_class.proofs.EscapeReading.Bounds.{any_read_within, in_legacy}
 use Rattle.rx_class.proofs.EscapeReading.Steps.{stands_for_itself}
 use Rattle.rx_class.proofs.escapes.found.any_escape_at.Goals as goal
@@ -28,25 +27,17 @@ returns-in-Nothing-clause-few g c = λ inside.
     let after = rw yes at c.legacy_escape_at.ensures.steps in
     (omega (arith, first.0, after.0), omega (arith, first.1, after.1))
 
-pub returns-in-Invalid-clause-read : goal.returns-in-Invalid-clause-read
-returns-in-Invalid-clause-read g c =
+pub returns-in-Invalid : goal.returns-in-Invalid
+returns-in-Invalid g c =
     let e = seen_environment c.args.environment in
     let read = c.character_escape_at-found.ensures.read ∙ ap (λ u. escape_at u (values c.args.units.now)) c.if-unicode_mode.false in
     let unread = sym read ∙ ap seen_escape c.in-Invalid.is in
     let legacy = in_legacy c.args.inside e c.args.units.now (sym c.is_unicode-unicode_mode.ensures ∙ c.if-unicode_mode.false) unread in
-    rw c.character.ensures (sym (legacy ∙ stands_for_itself c.args.inside e (values c.args.units.now) unread))
-
-pub returns-in-Invalid-clause-within : goal.returns-in-Invalid-clause-within
-returns-in-Invalid-clause-within g c = λ small.
     let within = rw c.in-Invalid.is at c.character_escape_at-found.ensures.within in
-    rw c.character.ensures (within, omega arith)
-
-pub returns-in-Invalid-clause-steps : goal.returns-in-Invalid-clause-steps
-returns-in-Invalid-clause-steps g c =
     let most = rw (c.in-Invalid.is, c.if-unicode_mode.false) at c.character_escape_at-found.ensures.steps in
-    rw c.character.ensures (omega (arith, most.0), omega (arith, most.1))
-
-pub returns-in-Invalid-clause-few : goal.returns-in-Invalid-clause-few
-returns-in-Invalid-clause-few g c = λ inside.
-    let most = rw (c.in-Invalid.is, c.if-unicode_mode.false) at c.character_escape_at-found.ensures.steps in
-    rw c.character.ensures (omega (arith, most.0), omega (arith, most.1))
+    rw c.character.ensures record {
+      read = sym (legacy ∙ stands_for_itself c.args.inside e (values c.args.units.now) unread);
+      within = λ small. (within, omega arith);
+      steps = (omega (arith, most.0), omega (arith, most.1));
+      few = λ inside. (omega (arith, most.0), omega (arith, most.1));
+    }

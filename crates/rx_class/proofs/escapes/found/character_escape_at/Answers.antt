@@ -1,8 +1,7 @@
 use Rattle.std.proofs.Common.{◌≡◌, arith, rules}
+use Rattle.rx_class.proofs.Common.{values, seen_escape}
 use Rattle.std.proofs.lemmas.Grind.{common_steps}
-use Rattle.rx_units.specs.Units.{values}
 use Rattle.rx_model.specs.Characters.EscapeFronts.{escape_at}
-use Rattle.rx_class.specs.EscapeReading.Found.{seen_escape}
 use Rattle.rx_class.proofs.EscapeReading.Bounds.{read_within}
 use Rattle.rx_class.proofs.escapes.found.character_escape_at.Goals as goal
 

@@ -1,5 +1,5 @@
 use Rattle.std.proofs.Common.{refl, arith}
-use Rattle.rx_units.specs.Units.{values}
+use Rattle.rx_class.proofs.Common.{values}
 use Rattle.rx_class.proofs.EscapeReading.Steps.{long_value}
 use Rattle.rx_class.proofs.escapes.found.unicode.Goals as goal
 

@@ -1,5 +1,5 @@
 use Rattle.std.proofs.Common.{◌&&◌, is_some, length, drop, take, ◌-◌, sym, ap, ◌∙◌}
-use Rattle.rx_units.specs.Units.{values}
+use Rattle.rx_class.proofs.Common.{values}
 use Rattle.rx_model.specs.Characters.LegacyEscapes.{two_next}
 use Rattle.rx_class.proofs.EscapeReading.LegacyLooks.{four_units}
 use Rattle.rx_class.proofs.escapes.legacy.begin_with_four_hex_digits.Goals as goal

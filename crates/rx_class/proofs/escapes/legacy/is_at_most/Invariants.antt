@@ -1,6 +1,5 @@
 use Rattle.std.proofs.Common.{◌≡◌, ◌+◌, drop}
-use Rattle.std.specs.List.{prefix_len}
-use Rattle.rx_tables.specs.Characters.{is_decimal_digit}
+use Rattle.rx_class.proofs.Common.{prefix_len, is_decimal_digit}
 use Rattle.rx_class.proofs.EscapeReading.LegacyLooks.{IsWithinLimit}
 use Rattle.rx_class.proofs.escapes.legacy.is_at_most.Given as goal
 

@@ -1,5 +1,5 @@
 use Rattle.std.proofs.Common.{inl, inr, sym, ◌∙◌, arith}
-use Rattle.rx_tables.specs.Characters.{is_unicode_property_name_character}
+use Rattle.rx_class.proofs.Common.{is_unicode_property_name_character}
 use Rattle.rx_class.proofs.PropertyReading.Runs.{looked, name_count, name_inside, no_units, none_without, none_without_equals, pair_here, run_within, unclosed}
 use Rattle.rx_class.proofs.properties.form.pair_at.Goals.{then-is_empty-via-then-is_empty, then-is_empty-via-else-is_empty+then-is_empty-2, then-is_empty-via-else-is_empty+else-is_empty-2+then-is_empty-3}
 use Rattle.rx_class.proofs.properties.form.pair_at.Goals as goal
@@ -16,44 +16,38 @@ returns-in_default-clause-run g c = λ run following is closed.
     let count = name_count c.args.units.now _ _ _ c.name_length.ensures.value c.split_at.ensures.front c.split_at.ensures.back in
     omega (arith, c.name_length.ensures.steps.1, inside, count)
 
-pub returns-then-is_empty-clause-found : goal.returns-then-is_empty-clause-found
-returns-then-is_empty-clause-found g c =
-    none_without c.args.units.now _ _ _ c.name_length.ensures.value c.split_at.ensures.front c.split_at.ensures.back _ _ _ c.in-Some.ensures.found c.run_at-run.ensures.run
-    (elim c.then-is_empty.branch [
-      | then-is_empty-via-then-is_empty b ↦ inl (no_units _ (sym c.is_empty.ensures ∙ b.if-is_empty.true))
-      | then-is_empty-via-else-is_empty+then-is_empty-2 b ↦ inr (inl (no_units _ (sym b.is_empty-else-is_empty.ensures ∙ b.if-is_empty-2.true)))
-      | then-is_empty-via-else-is_empty+else-is_empty-2+then-is_empty-3 b ↦ inr (inr (no_units _ (sym b.is_empty-else-is_empty-2.ensures ∙ b.if-is_empty-3.true)))
-    ])
+pub returns-then-is_empty : goal.returns-then-is_empty
+returns-then-is_empty g c =
+    let most = looked c.args.units.now _ _ _ c.name_length.ensures.value c.split_at.ensures.front c.split_at.ensures.back _ _ _ c.in-Some.ensures.found c.run_at-run.ensures.run in
+    record {
+      found =
+          none_without c.args.units.now _ _ _ c.name_length.ensures.value c.split_at.ensures.front c.split_at.ensures.back _ _ _ c.in-Some.ensures.found c.run_at-run.ensures.run
+          (elim c.then-is_empty.branch [
+            | then-is_empty-via-then-is_empty b ↦ inl (no_units _ (sym c.is_empty.ensures ∙ b.if-is_empty.true))
+            | then-is_empty-via-else-is_empty+then-is_empty-2 b ↦ inr (inl (no_units _ (sym b.is_empty-else-is_empty.ensures ∙ b.if-is_empty-2.true)))
+            | then-is_empty-via-else-is_empty+else-is_empty-2+then-is_empty-3 b ↦ inr (inr (no_units _ (sym b.is_empty-else-is_empty-2.ensures ∙ b.if-is_empty-3.true)))
+          ]);
+      steps = (omega (arith, c.name_length.ensures.steps.0, c.run_at-run.ensures.steps.0), omega (arith, c.name_length.ensures.steps.1, c.run_at-run.ensures.steps.1, most));
+      pair = tt;
+      run = λ run following is closed.
+          absurd (unclosed c.args.units.now _ _ _ c.name_length.ensures.value c.split_at.ensures.front c.split_at.ensures.back _ _ _ c.in-Some.ensures.found c.run_at-run.ensures.run is closed);
+    }
 
-pub returns-then-is_empty-clause-run : goal.returns-then-is_empty-clause-run
-returns-then-is_empty-clause-run g c = λ run following is closed.
-    absurd (unclosed c.args.units.now _ _ _ c.name_length.ensures.value c.split_at.ensures.front c.split_at.ensures.back _ _ _ c.in-Some.ensures.found c.run_at-run.ensures.run is closed)
-
-pub returns-clause-found : goal.returns-clause-found
-returns-clause-found g c =
-    pair_here c.args.units.now _ _ _ c.name_length.ensures.value c.split_at.ensures.front c.split_at.ensures.back _ _ _ c.in-Some.ensures.found c.run_at-run.ensures.run (sym c.is_empty.ensures ∙ c.if-is_empty.false)
-    (sym c.is_empty-else-is_empty.ensures ∙ c.if-is_empty-2.false) (sym c.is_empty-else-is_empty-2.ensures ∙ c.if-is_empty-3.false)
-
-pub returns-clause-run : goal.returns-clause-run
-returns-clause-run g c = λ run following is closed.
-    absurd (unclosed c.args.units.now _ _ _ c.name_length.ensures.value c.split_at.ensures.front c.split_at.ensures.back _ _ _ c.in-Some.ensures.found c.run_at-run.ensures.run is closed)
-
-pub returns-clause-pair : goal.returns-clause-pair
-returns-clause-pair g c =
+pub returns : goal.returns
+returns g c =
     let count = name_count c.args.units.now _ _ _ c.name_length.ensures.value c.split_at.ensures.front c.split_at.ensures.back in
-    omega (arith, c.name_length.ensures.steps.1, c.run_at-run.ensures.steps.1, count)
+    let most = looked c.args.units.now _ _ _ c.name_length.ensures.value c.split_at.ensures.front c.split_at.ensures.back _ _ _ c.in-Some.ensures.found c.run_at-run.ensures.run in
+    record {
+      found =
+          pair_here c.args.units.now _ _ _ c.name_length.ensures.value c.split_at.ensures.front c.split_at.ensures.back _ _ _ c.in-Some.ensures.found c.run_at-run.ensures.run
+          (sym c.is_empty.ensures ∙ c.if-is_empty.false) (sym c.is_empty-else-is_empty.ensures ∙ c.if-is_empty-2.false) (sym c.is_empty-else-is_empty-2.ensures ∙ c.if-is_empty-3.false);
+      steps = (omega (arith, c.name_length.ensures.steps.0, c.run_at-run.ensures.steps.0), omega (arith, c.name_length.ensures.steps.1, c.run_at-run.ensures.steps.1, most));
+      pair = omega (arith, c.name_length.ensures.steps.1, c.run_at-run.ensures.steps.1, count);
+      run = λ run following is closed.
+          absurd (unclosed c.args.units.now _ _ _ c.name_length.ensures.value c.split_at.ensures.front c.split_at.ensures.back _ _ _ c.in-Some.ensures.found c.run_at-run.ensures.run is closed);
+    }
 
 pub returns-in_default-clause-steps : goal.returns-in_default-clause-steps
 returns-in_default-clause-steps g c =
     let within = run_within is_unicode_property_name_character c.args.units.now _ c.name_length.ensures.value in
     (omega (arith, c.name_length.ensures.steps.0), omega (arith, c.name_length.ensures.steps.1, within))
-
-pub returns-then-is_empty-clause-steps : goal.returns-then-is_empty-clause-steps
-returns-then-is_empty-clause-steps g c =
-    let most = looked c.args.units.now _ _ _ c.name_length.ensures.value c.split_at.ensures.front c.split_at.ensures.back _ _ _ c.in-Some.ensures.found c.run_at-run.ensures.run in
-    (omega (arith, c.name_length.ensures.steps.0, c.run_at-run.ensures.steps.0), omega (arith, c.name_length.ensures.steps.1, c.run_at-run.ensures.steps.1, most))
-
-pub returns-clause-steps : goal.returns-clause-steps
-returns-clause-steps g c =
-    let most = looked c.args.units.now _ _ _ c.name_length.ensures.value c.split_at.ensures.front c.split_at.ensures.back _ _ _ c.in-Some.ensures.found c.run_at-run.ensures.run in
-    (omega (arith, c.name_length.ensures.steps.0, c.run_at-run.ensures.steps.0), omega (arith, c.name_length.ensures.steps.1, c.run_at-run.ensures.steps.1, most))

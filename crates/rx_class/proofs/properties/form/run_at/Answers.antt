@@ -1,4 +1,4 @@
-use Rattle.rx_tables.specs.Characters.{is_unicode_property_value_character}
+use Rattle.rx_class.proofs.Common.{is_unicode_property_value_character}
 use Rattle.rx_class.proofs.PropertyReading.Runs.{run_within, value_run}
 use Rattle.rx_class.proofs.properties.form.run_at.Goals as goal
 

@@ -1,6 +1,5 @@
 use Rattle.std.proofs.Common.{◌≡◌, ◌+◌, ◌-◌, ◌≤◌, length, drop}
-use Rattle.std.specs.List.{prefix_len}
-use Rattle.rx_tables.specs.Characters.{is_unicode_property_value_character}
+use Rattle.rx_class.proofs.Common.{prefix_len, is_unicode_property_value_character}
 use Rattle.rx_class.proofs.properties.form.value_length.Given as goal
 
 abbrev pub invariant-loop-length : goal.invariant-loop-length

@@ -1,7 +1,5 @@
 use Rattle.std.proofs.Common.{◌+◌, ◌*◌, ◌≤◌, length, arith}
-use Rattle.std.proofs.lemmas.Result.{IfOk-weaker}
-use Rattle.rx_scan.proofs.MarkSteps.{values_length}
-use Rattle.rx_units.specs.Units.{values}
+use Rattle.rx_class.proofs.Common.{IfOk-weaker, values_length, values}
 use Rattle.rx_class.proofs.PropertyReading.Halts.{no_brace}
 use Rattle.rx_class.proofs.PropertyReading.Runs.{pair_inside, run_inside}
 use Rattle.rx_class.proofs.PropertyReading.Steps.{looks}

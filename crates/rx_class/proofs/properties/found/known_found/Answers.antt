@@ -1,7 +1,6 @@
 use Rattle.std.proofs.Common.{◌&&◌, codes, Some, None, true, false, ap, ◌∙◌}
-use Rattle.std.proofs.Math.Bool.{and-false}
+use Rattle.rx_class.proofs.Common.{and-false, sets_is}
 use Rattle.rx_model.specs.Properties.PropertyEscapes.{binary, category, of_strings}
-use Rattle.rx_model.proofs.Classes.ClassFronts.{sets_is}
 use Rattle.rx_class.proofs.PropertyReading.Halts.{negative_refused, word_spelled}
 use Rattle.rx_class.proofs.PropertyReading.Tables.{category_text}
 use Rattle.rx_class.proofs.properties.found.known_found.Goals as goal

@@ -1,12 +1,7 @@
 use Rattle.std.proofs.Common.{sym, ◌∙◌}
-use Rattle.std.proofs.lemmas.Bool.{true≢false}
-use Rattle.rx_units.specs.Units.{values}
-use Rattle.rx_model.proofs.Properties.PropertyRefusals.{names_are_values}
+use Rattle.rx_class.proofs.Common.{true≢false}
 use Rattle.rx_class.proofs.PropertyReading.Halts.{pair_spelled, pair_unclosed, pair_unknown, valid_texts}
 use Rattle.rx_class.proofs.properties.found.pair_found.Goals as goal
-
-pub text_of-requires : goal.text_of-requires
-text_of-requires g c = names_are_values (values c.args.pair.name.now) c.requires.1.of_names
 
 pub returns-then-not-is_valid_unicode_property-clause-found : goal.returns-then-not-is_valid_unicode_property-clause-found
 returns-then-not-is_valid_unicode_property-clause-found g c = λ mode w unicode p.

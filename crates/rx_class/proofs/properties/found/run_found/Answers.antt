@@ -1,8 +1,5 @@
 use Rattle.std.proofs.Common.{◌≡◌, [], ◌⊎◌, inl, inr, subst, sym, ◌∙◌}
-use Rattle.std.proofs.lemmas.Result.{IfOk-weaker}
-use Rattle.rx_units.specs.Units.{values}
-use Rattle.rx_model.specs.Properties.PropertyForms.{HasRun}
-use Rattle.rx_class.specs.PropertyReading.Found.{IsLone}
+use Rattle.rx_class.proofs.Common.{IfOk-weaker, values, HasRun, IsLone}
 use Rattle.rx_class.proofs.PropertyReading.Runs.{no_units, some_units}
 use Rattle.rx_class.proofs.PropertyReading.Halts.{known_run, run_unclosed, run_unknown, run_unterminated}
 use Rattle.rx_class.proofs.properties.found.run_found.Goals.{then-is_empty-via-then-is_empty, then-is_empty-via-else-is_empty+then-is_empty-2}

@@ -1,5 +1,5 @@
 use Rattle.std.proofs.Common.{◌≡◌, ◌+◌, ◌-◌, ◌≤◌, length, take}
-use Rattle.rx_units.specs.Units.{values}
+use Rattle.rx_class.proofs.Common.{values}
 use Rattle.rx_class.proofs.properties.found.text_of.Given as goal
 
 abbrev pub invariant-loop-place : goal.invariant-loop-place

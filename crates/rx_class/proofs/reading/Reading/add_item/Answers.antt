@@ -1,14 +1,6 @@
-use Rattle.std.proofs.Common.{◌≡◌, ℕ, true, Result, Ok, Err, ap, sym, ◌∙◌, length}
-use Rattle.std.specs.Prelude.{IfErr}
-use Rattle.rx_base.specs.declared.fault.Fault.{Fault}
-use Rattle.rx_ast.proofs.ClassEquations.{character_is}
-use Rattle.rx_units.specs.Cursor.{Cursor, rest}
-use Rattle.rx_units.specs.Units.{values}
-use Rattle.rx_model.specs.Inputs.Environment.{Environment}
-use Rattle.rx_class.specs.declared.classes.item.ClassItem.{ClassItem}
-use Rattle.rx_class.specs.ClassReading.Items.{GivesItem, no_memory, some, stands_alone}
-use Rattle.rx_class.specs.EscapeReading.Answers.{environment_of}
-use Rattle.rx_class.specs.Keeping.{KeepsUnits}
+use Rattle.std.proofs.Common.{◌≡◌, ℕ, true, Result, Ok, Err, ap, sym, ◌∙◌, length, IfErr}
+use Rattle.rx_class.proofs.Common.{Fault, character_is, Cursor, rest, values, Environment, ClassItem, GivesItem, stands_alone, environment_of, KeepsUnits}
+use Rattle.rx_class.specs.ClassReading.Items.{no_memory, some}
 use Rattle.rx_class.proofs.ClassReading.Ranges.{alone_begins, lone_gives}
 use Rattle.rx_class.proofs.Keeping.{handed, moved_keeps}
 use Rattle.rx_class.proofs.ReadingSteps.{item_paced}

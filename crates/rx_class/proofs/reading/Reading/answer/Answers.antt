@@ -1,5 +1,6 @@
 use Rattle.std.proofs.Common.{refl}
-use Rattle.rx_class.specs.EscapeReading.Found.{many_digits, none, some}
+use Rattle.rx_class.proofs.Common.{many_digits}
+use Rattle.rx_class.specs.EscapeReading.Found.{none, some}
 use Rattle.rx_class.proofs.EscapeReading.Gives.{invalid_answered}
 use Rattle.rx_class.proofs.Readings.{span_on, start_fits}
 use Rattle.rx_class.proofs.reading.Reading.answer.Goals as goal

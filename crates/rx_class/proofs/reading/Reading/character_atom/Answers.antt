@@ -1,6 +1,5 @@
 use Rattle.std.proofs.Common.{refl}
-use Rattle.rx_class.specs.EscapeReading.Answers.{environment_of}
-use Rattle.rx_class.specs.ClassReading.Items.{GivesAtom, back}
+use Rattle.rx_class.proofs.Common.{environment_of, GivesAtom, back}
 use Rattle.rx_class.proofs.ClassReading.Atoms.{character_gives, character_refused, nothing_refused}
 use Rattle.rx_class.proofs.Keeping.{handed}
 use Rattle.rx_class.proofs.Readings.{span_on, start_fits}

@@ -1,6 +1,5 @@
 use Rattle.std.proofs.Common.{refl, sym, ap, ◌∙◌}
-use Rattle.rx_units.specs.Units.{values}
-use Rattle.rx_model.specs.FirstPass.Marks.{starts}
+use Rattle.rx_class.proofs.Common.{values, starts}
 use Rattle.rx_class.specs.ClassReading.Answers.{none}
 use Rattle.rx_class.proofs.reading.Reading.character_class.Goals as goal
 

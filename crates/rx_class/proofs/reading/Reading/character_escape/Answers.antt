@@ -1,4 +1,4 @@
-use Rattle.rx_class.specs.EscapeReading.Answers.{environment_of}
+use Rattle.rx_class.proofs.Common.{environment_of}
 use Rattle.rx_class.proofs.EscapeReading.Gives.{character_gives}
 use Rattle.rx_class.proofs.ReadingSteps.{found_reading}
 use Rattle.rx_class.proofs.reading.Reading.character_escape.Goals as goal

@@ -1,14 +1,7 @@
 use Rattle.std.proofs.Common.{None, ap, arith, refl, subst, sym, ◌∙◌, ◌++◌}
-use Rattle.rx_ast.specs.ClassTree.{Member}
-use Rattle.rx_ast.proofs.ClassEquations.{character_is}
-use Rattle.rx_units.specs.Cursor.{rest}
-use Rattle.rx_model.specs.Classes.ClassTokens.{member_events}
-use Rattle.rx_model.specs.Trees.Early.{member_strings}
-use Rattle.rx_class.specs.SetReading.BuilderEvents.{builder_events, with_member}
-use Rattle.rx_class.specs.SetReading.FrontSeen.{seen_character}
-use Rattle.rx_class.specs.SetReading.Progress.{GivesTurn, IsRangeNext, adds, innermost_held, no_memory}
-use Rattle.rx_class.specs.SetReading.Steps.{most_set_looks}
-use Rattle.rx_class.specs.SetReading.WellBuilt.{IsSound}
+use Rattle.rx_class.proofs.Common.{Member, character_is, rest, member_events, member_strings, builder_events, with_member, seen_character, GivesTurn, IsRangeNext, adds, innermost_held}
+use Rattle.rx_class.proofs.Common.{most_set_looks, IsSound}
+use Rattle.rx_class.specs.SetReading.Progress.{no_memory}
 use Rattle.rx_class.proofs.Keeping.{handed}
 use Rattle.rx_class.proofs.SetReading.Characters.{character_keeps, with_v}
 use Rattle.rx_class.proofs.SetReading.Operands.{character_adds, character_refused, character_small}

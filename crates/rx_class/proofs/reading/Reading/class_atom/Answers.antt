@@ -1,7 +1,5 @@
 use Rattle.std.proofs.Common.{ap, sym, ◌∙◌}
-use Rattle.rx_units.specs.Units.{values}
-use Rattle.rx_model.specs.FirstPass.Marks.{starts}
-use Rattle.rx_class.specs.EscapeReading.Answers.{environment_of}
+use Rattle.rx_class.proofs.Common.{values, starts, environment_of}
 use Rattle.rx_class.proofs.ClassReading.Atoms.{begins_otherwise}
 use Rattle.rx_class.proofs.reading.Reading.class_atom.Goals as goal
 

@@ -1,5 +1,4 @@
-use Rattle.rx_class.specs.EscapeReading.Answers.{environment_of}
-use Rattle.rx_class.specs.ClassReading.Items.{GivesItem}
+use Rattle.rx_class.proofs.Common.{environment_of, GivesItem}
 use Rattle.rx_class.proofs.ClassReading.Ranges.{alone_gives, dash_given, first_gives, out_of_memory, pair_given, pair_out_of_memory, range_gives, range_refused, second_gives, three_gives, three_test}
 use Rattle.rx_class.proofs.Keeping.{handed}
 use Rattle.rx_class.proofs.Readings.{reads_on, span_on}

@@ -1,6 +1,5 @@
 use Rattle.std.proofs.Common.{ap, arith, ◌∙◌}
-use Rattle.rx_units.specs.Cursor.{rest}
-use Rattle.rx_class.specs.SetReading.FrontSeen.{seen_character}
+use Rattle.rx_class.proofs.Common.{rest, seen_character}
 use Rattle.rx_class.proofs.Readings.{span_on}
 use Rattle.rx_class.proofs.SetReading.Characters.{character_gives, no_unicode_gives, too_many_gives}
 use Rattle.rx_class.proofs.SetReading.Paces.{character_left, looks_fit}

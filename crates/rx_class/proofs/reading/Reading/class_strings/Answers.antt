@@ -1,7 +1,5 @@
 use Rattle.std.proofs.Common.{refl, sym, ap, ◌∙◌, arith}
-use Rattle.rx_units.specs.Units.{values}
-use Rattle.rx_model.specs.FirstPass.Marks.{starts}
-use Rattle.rx_class.specs.SetReading.Answers.{GivesStrings}
+use Rattle.rx_class.proofs.Common.{values, starts, GivesStrings}
 use Rattle.rx_class.proofs.Keeping.{handed}
 use Rattle.rx_class.proofs.Readings.{reads_on, span_on}
 use Rattle.rx_class.proofs.SetReading.Characters.{with_v}

@@ -1,7 +1,5 @@
 use Rattle.std.proofs.Common.{◌≡◌, ◌-◌, true, length}
-use Rattle.rx_units.specs.Pace.{IsPaced}
-use Rattle.rx_model.specs.Inputs.Environment.{Environment, is_sets}
-use Rattle.rx_class.specs.Readings.{ReadsOn}
+use Rattle.rx_class.proofs.Common.{IsPaced, Environment, is_sets, ReadsOn}
 use Rattle.rx_class.proofs.SetReading.Strings.{IsInStrings}
 use Rattle.rx_class.proofs.reading.Reading.class_strings.Given as goal
 

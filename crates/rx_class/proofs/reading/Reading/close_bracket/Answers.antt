@@ -1,7 +1,6 @@
 use Rattle.std.proofs.Common.{ap, ◌∙◌}
-use Rattle.rx_base.specs.declared.span.Span.{Span}
-use Rattle.rx_units.specs.Cursor.{move_on}
-use Rattle.rx_class.specs.SetReading.Progress.{GivesTurn, adds, no_memory}
+use Rattle.rx_class.proofs.Common.{Span, move_on, GivesTurn, adds}
+use Rattle.rx_class.specs.SetReading.Progress.{no_memory}
 use Rattle.rx_class.proofs.Keeping.{handed, moved_keeps}
 use Rattle.rx_class.proofs.Readings.{reads_on, span_on}
 use Rattle.rx_class.proofs.SetReading.Steps.{close_adds}

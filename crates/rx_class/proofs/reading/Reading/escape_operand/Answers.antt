@@ -1,11 +1,7 @@
 use Rattle.std.proofs.Common.{ap, subst, sym, ◌∙◌, ◌++◌}
+use Rattle.rx_class.proofs.Common.{Member, member_events, member_strings, builder_events, with_member, GivesTurn, adds, innermost_held, IsSound}
 use Rattle.rx_ast.proofs.ClassEquations.{escape_is}
-use Rattle.rx_ast.specs.ClassTree.{Member}
-use Rattle.rx_model.specs.Classes.ClassTokens.{member_events}
-use Rattle.rx_model.specs.Trees.Early.{member_strings}
-use Rattle.rx_class.specs.SetReading.BuilderEvents.{builder_events, with_member}
-use Rattle.rx_class.specs.SetReading.Progress.{GivesTurn, adds, innermost_held, no_memory}
-use Rattle.rx_class.specs.SetReading.WellBuilt.{IsSound}
+use Rattle.rx_class.specs.SetReading.Progress.{no_memory}
 use Rattle.rx_class.proofs.Keeping.{handed, moved_keeps}
 use Rattle.rx_class.proofs.Readings.{span_on}
 use Rattle.rx_class.proofs.SetReading.Operands.{escape_adds}

@@ -1,7 +1,5 @@
 use Rattle.std.proofs.Common.{◌≡◌, sym, ap, ap₂, ◌∙◌, subst}
-use Rattle.rx_units.specs.Units.{values}
-use Rattle.rx_class.specs.EscapeReading.Answers.{IsAfterBackslash, environment_of}
-use Rattle.rx_class.specs.ClassReading.Items.{GivesAtom, alone_in_class, back}
+use Rattle.rx_class.proofs.Common.{values, IsAfterBackslash, environment_of, GivesAtom, alone_in_class, back}
 use Rattle.rx_class.proofs.ClassReading.Atoms.{alone_gives, class_escape_gives, nothing_so_far, property_gives, property_refused}
 use Rattle.rx_class.proofs.Keeping.{handed}
 use Rattle.rx_class.proofs.Readings.{span_on, start_fits}
@@ -36,18 +34,15 @@ pub returns-in-Some-2-clause-gives : goal.returns-in-Some-2-clause-gives
 returns-in-Some-2-clause-gives g c =
     property_gives (environment_of c.args.self.now.state.now) c.requires.no_sets c.args.self.now.spans.now c.args.start c.args.self.now.reader.now c.requires.backslash _ _ (rw c.in-Some-2.is at c.in_ok-escape.ensures.gives)
 
-pub character_atom-requires-clause-backslash : goal.character_atom-requires-clause-backslash
-character_atom-requires-clause-backslash g c =
+pub character_atom-requires : goal.character_atom-requires
+character_atom-requires g c =
+    let state = c.property_escape.ensures.on.state in
     let so_far = nothing_so_far c.units.ensures.units c.units-2.ensures.units (c.in_default.ensures ∙ ap (λ u. alone_in_class u (values c.units.result.now)) c.is_unicode-unicode.ensures) c.in_default-class_escape_at.ensures c.in_ok-escape.ensures.gives c.in_default-2.is in
-    subst (λ r. IsAfterBackslash r c.args.start) (sym so_far.0) c.requires.backslash
-
-pub character_atom-requires-clause-none : goal.character_atom-requires-clause-none
-character_atom-requires-clause-none g c =
-    let so_far = nothing_so_far c.units.ensures.units c.units-2.ensures.units (c.in_default.ensures ∙ ap (λ u. alone_in_class u (values c.units.result.now)) c.is_unicode-unicode.ensures) c.in_default-class_escape_at.ensures c.in_ok-escape.ensures.gives c.in_default-2.is in
-    rw (so_far.0, c.property_escape.ensures.on.state) so_far.1
-
-pub character_atom-requires-clause-no_sets : goal.character_atom-requires-clause-no_sets
-character_atom-requires-clause-no_sets g c = rw c.property_escape.ensures.on.state c.requires.no_sets
+    record {
+      backslash = subst (λ r. IsAfterBackslash r c.args.start) (sym so_far.0) c.requires.backslash;
+      none = rw (so_far.0, state) so_far.1;
+      no_sets = rw state c.requires.no_sets;
+    }
 
 pub returns-clause-gives : goal.returns-clause-gives
 returns-clause-gives g c =

@@ -1,11 +1,6 @@
 use Rattle.std.proofs.Common.{◌≡◌, not, false, is_some, refl, sym, ap, arith, ◌∙◌, subst}
+use Rattle.rx_class.proofs.Common.{move_on, rest, values, starts, environment_of, GivesOneClass, contents}
 use Rattle.rx_ast.proofs.ClassEquations.{class_roll}
-use Rattle.rx_units.specs.Cursor.{move_on, rest}
-use Rattle.rx_units.specs.Units.{values}
-use Rattle.rx_model.specs.FirstPass.Marks.{starts}
-use Rattle.rx_class.specs.EscapeReading.Answers.{environment_of}
-use Rattle.rx_class.specs.ClassReading.Answers.{GivesOneClass}
-use Rattle.rx_class.specs.ClassReading.Items.{contents}
 use Rattle.rx_class.proofs.ClassReading.Ends.{IsInClass, begins_class, class_gives, item_gives, nothing_stands, refused_gives, unterminated_gives}
 use Rattle.rx_class.proofs.Keeping.{handed}
 use Rattle.rx_class.proofs.Readings.{reads_on, span_on}

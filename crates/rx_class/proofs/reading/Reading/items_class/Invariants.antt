@@ -1,8 +1,5 @@
 use Rattle.std.proofs.Common.{◌-◌, length}
-use Rattle.rx_units.specs.Pace.{IsPaced}
-use Rattle.rx_class.specs.EscapeReading.Answers.{environment_of}
-use Rattle.rx_class.specs.ClassReading.Items.{contents}
-use Rattle.rx_class.specs.Readings.{ReadsOn}
+use Rattle.rx_class.proofs.Common.{IsPaced, environment_of, contents, ReadsOn}
 use Rattle.rx_class.proofs.ClassReading.Ends.{IsInClass}
 use Rattle.rx_class.proofs.reading.Reading.items_class.Given as goal
 

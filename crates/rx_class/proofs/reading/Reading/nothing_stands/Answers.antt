@@ -1,8 +1,5 @@
-use Rattle.std.proofs.Common.{sym, ap, ◌∙◌}
-use Rattle.std.proofs.lemmas.Bool.{true≢false}
-use Rattle.std.specs.Prelude.{is_some}
-use Rattle.rx_units.specs.Cursor.{rest}
-use Rattle.rx_class.specs.SetReading.Progress.{no_operator}
+use Rattle.std.proofs.Common.{sym, ap, ◌∙◌, is_some}
+use Rattle.rx_class.proofs.Common.{true≢false, rest, no_operator}
 use Rattle.rx_class.proofs.ClassReading.Ends.{nothing_stands}
 use Rattle.rx_class.proofs.SetReading.Refusals.{says_no_end, says_no_operand}
 use Rattle.rx_class.proofs.reading.Reading.nothing_stands.Goals.{else-is_empty-via-then-is_empty+else-is_some, else-is_empty-via-else-is_empty}

@@ -1,6 +1,6 @@
 use Rattle.std.proofs.Common.{ap}
-use Rattle.rx_base.specs.declared.span.Span.{Span}
-use Rattle.rx_class.specs.SetReading.Progress.{GivesTurn, adds, no_memory}
+use Rattle.rx_class.proofs.Common.{Span, GivesTurn, adds}
+use Rattle.rx_class.specs.SetReading.Progress.{no_memory}
 use Rattle.rx_class.proofs.Keeping.{handed, moved_keeps}
 use Rattle.rx_class.proofs.SetReading.Steps.{open_adds}
 use Rattle.rx_class.proofs.reading.Reading.open_bracket.Goals as goal

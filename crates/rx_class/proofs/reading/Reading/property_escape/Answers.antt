@@ -1,9 +1,5 @@
 use Rattle.std.proofs.Common.{arith, inl, inr, refl, sym, ◌∙◌}
-use Rattle.std.proofs.lemmas.List.{length-map}
-use Rattle.rx_units.specs.declared.code_point.CodePoint.{CodePoint}
-use Rattle.rx_units.specs.Cursor.{rest}
-use Rattle.rx_class.specs.EscapeReading.Answers.{environment_of}
-use Rattle.rx_class.specs.ReadingSteps.{IsReading}
+use Rattle.rx_class.proofs.Common.{length-map, CodePoint, rest, environment_of, IsReading}
 use Rattle.rx_class.specs.PropertyReading.Answers.{GivesProperty, no_memory, none}
 use Rattle.rx_class.proofs.EscapeReading.Gives.{stands_within}
 use Rattle.rx_class.proofs.Keeping.{handed, stays_keeps}

@@ -1,10 +1,5 @@
 use Rattle.std.proofs.Common.{sym, ap, arith, length, ◌∙◌}
-use Rattle.std.proofs.lemmas.Bool.{true≢false}
-use Rattle.rx_units.specs.Cursor.{rest}
-use Rattle.rx_class.specs.EscapeReading.Answers.{environment_of}
-use Rattle.rx_class.specs.SetReading.FrontSeen.{seen_character, seen_front}
-use Rattle.rx_class.specs.SetReading.Progress.{adds}
-use Rattle.rx_class.specs.SetReading.Steps.{most_set_looks}
+use Rattle.rx_class.proofs.Common.{true≢false, rest, environment_of, seen_character, seen_front, adds, most_set_looks}
 use Rattle.rx_class.proofs.SetReading.Fronts.{set_front_is}
 use Rattle.rx_class.proofs.SetReading.Paces.{adds_left, front_fits, no_steps, with_looks}
 use Rattle.rx_class.proofs.SetReading.Refusals.{begins_closer, front_stands, nothing_there}

@@ -1,5 +1,6 @@
 use Rattle.std.proofs.Common.{ap}
-use Rattle.rx_base.specs.declared.diagnostic.Diagnostic.TheVariants.{UnterminatedPattern, InvalidUnicodeProperty, InvalidUnicodePropertyOfStrings, InvalidUnicodePropertyNameNegativeStrings}
+use Rattle.rx_class.proofs.Common.{UnterminatedPattern}
+use Rattle.rx_base.specs.declared.diagnostic.Diagnostic.TheVariants.{InvalidUnicodeProperty, InvalidUnicodePropertyOfStrings, InvalidUnicodePropertyNameNegativeStrings}
 use Rattle.rx_base.specs.declared.diagnostic.kinds.PropertyPart.TheVariants as part
 use Rattle.rx_base.specs.declared.diagnostic.kinds.Unterminated.TheVariants as what
 use Rattle.rx_class.proofs.PropertyReading.Spans.{cut_off, from_before, from_brace}

@@ -1,6 +1,5 @@
 use Rattle.std.proofs.Common.{sym, ap, ◌∙◌}
-use Rattle.rx_base.specs.declared.span.Span.{Span}
-use Rattle.rx_class.specs.ClassReading.Items.{between}
+use Rattle.rx_class.proofs.Common.{Span, between}
 use Rattle.rx_class.proofs.Readings.{span_on}
 use Rattle.rx_class.proofs.SetReading.Refusals.{negative_gives}
 use Rattle.rx_class.proofs.reading.Reading.refuse_negative_strings.Goals as goal

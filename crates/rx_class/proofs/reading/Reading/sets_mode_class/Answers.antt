@@ -1,8 +1,5 @@
 use Rattle.std.proofs.Common.{arith, refl, ap, ◌∙◌}
-use Rattle.rx_base.specs.declared.span.Span.{Span}
-use Rattle.rx_units.specs.Cursor.{move_on, rest}
-use Rattle.rx_class.specs.ClassReading.Answers.{GivesOneClass}
-use Rattle.rx_class.specs.EscapeReading.Answers.{environment_of}
+use Rattle.rx_class.proofs.Common.{Span, move_on, rest, GivesOneClass, environment_of}
 use Rattle.rx_class.proofs.Keeping.{handed}
 use Rattle.rx_class.proofs.Readings.{reads_on, span_on}
 use Rattle.rx_class.proofs.SetReading.Classes.{begins_sets, fewer_left, kept_sets, refuses_class, sets_give, turn_adds}

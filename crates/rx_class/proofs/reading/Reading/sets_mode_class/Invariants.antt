@@ -1,8 +1,5 @@
 use Rattle.std.proofs.Common.{◌-◌, length}
-use Rattle.rx_units.specs.Pace.{IsPaced}
-use Rattle.rx_class.specs.EscapeReading.Answers.{environment_of}
-use Rattle.rx_class.specs.Readings.{ReadsOn}
-use Rattle.rx_class.specs.SetReading.Progress.{IsInSets}
+use Rattle.rx_class.proofs.Common.{IsPaced, environment_of, ReadsOn, IsInSets}
 use Rattle.rx_class.proofs.reading.Reading.sets_mode_class.Given as goal
 
 abbrev pub invariant-loop-self : goal.invariant-loop-self

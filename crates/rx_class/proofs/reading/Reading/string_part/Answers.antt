@@ -1,8 +1,5 @@
 use Rattle.std.proofs.Common.{◌≡◌, false, sym, ap, ◌∙◌, arith, length}
-use Rattle.rx_units.specs.Pace.{TakesSteps}
-use Rattle.rx_units.specs.Units.{values}
-use Rattle.rx_model.specs.FirstPass.Marks.{starts}
-use Rattle.rx_class.specs.SetReading.FrontSeen.{seen_if_some}
+use Rattle.rx_class.proofs.Common.{TakesSteps, values, starts, seen_if_some}
 use Rattle.rx_class.specs.SetReading.Fronts.{set_character_at}
 use Rattle.rx_class.specs.SetReading.Strings.{no_memory}
 use Rattle.rx_class.proofs.Keeping.{handed}

@@ -1,8 +1,6 @@
 use Rattle.std.proofs.Common.{ap, refl, subst, sym, ◌∙◌, ◌++◌}
-use Rattle.rx_model.specs.Classes.ClassTokens.{member_events}
-use Rattle.rx_class.specs.SetReading.BuilderEvents.{builder_events}
-use Rattle.rx_class.specs.SetReading.Progress.{GivesTurn, adds, no_memory}
-use Rattle.rx_class.specs.SetReading.WellBuilt.{IsSound}
+use Rattle.rx_class.proofs.Common.{member_events, builder_events, GivesTurn, adds, IsSound}
+use Rattle.rx_class.specs.SetReading.Progress.{no_memory}
 use Rattle.rx_class.proofs.Keeping.{handed}
 use Rattle.rx_class.proofs.SetReading.Characters.{with_v}
 use Rattle.rx_class.proofs.SetReading.Operands.{strings_adds, strings_keep, strings_refused, strings_sound}

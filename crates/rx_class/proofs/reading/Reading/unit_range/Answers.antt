@@ -1,7 +1,6 @@
 use Rattle.std.proofs.Common.{ap, refl, ◌∙◌}
-use Rattle.rx_base.specs.declared.span.Span.{Span}
+use Rattle.rx_class.proofs.Common.{Span, move_on, rest}
 use Rattle.rx_ast.specs.ClassTree.{range}
-use Rattle.rx_units.specs.Cursor.{move_on, rest}
 use Rattle.rx_class.proofs.ClassReading.Ranges.{range_begins, range_front, range_goes_on, range_high_stands, range_ordered, units_range_gives}
 use Rattle.rx_class.proofs.Keeping.{keeps_on, moved_keeps}
 use Rattle.rx_class.proofs.Readings.{reads_on}

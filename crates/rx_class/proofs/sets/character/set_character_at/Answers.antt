@@ -1,4 +1,4 @@
-use Rattle.rx_class.specs.SetReading.FrontSeen.{seen_if_some}
+use Rattle.rx_class.proofs.Common.{seen_if_some}
 use Rattle.rx_class.proofs.SetReading.Paces.{backslash_looks}
 use Rattle.rx_class.proofs.sets.character.set_character_at.Goals as goal
 

@@ -1,7 +1,5 @@
 use Rattle.std.proofs.Common.{sym, ap, ◌∙◌}
-use Rattle.rx_class.specs.SetReading.FrontSeen.{seen_front}
-use Rattle.rx_class.specs.SetReading.FrontSeen.{seen_if_some}
-use Rattle.rx_class.specs.SetReading.Steps.{most_front_looks}
+use Rattle.rx_class.proofs.Common.{seen_front, seen_if_some, most_front_looks}
 use Rattle.rx_class.proofs.SetReading.Paces.{backslash_front_looks, front_looks}
 use Rattle.rx_class.proofs.sets.front.set_front_at.Goals as goal
 

@@ -1,12 +1,13 @@
-use Rattle.std.proofs.Common.{◌≡◌, ◌+◌, ◌-◌, length}
+use Rattle.std.proofs.Common.{◌-◌, length}
 use Rattle.rx_units.specs.Units.{values}
 use Rattle.rx_scan.specs.Walked.{IsAt}
+use Rattle.rx_scan.proofs.MarkSteps.{HasStepped}
 use Rattle.rx_scan.proofs.first_pass.FirstPass.over.Given as goal
 
 abbrev pub invariant-loop-place : goal.invariant-loop-place
 invariant-loop-place g l = record {
   at : IsAt l.mode l.duplicate_names (values l.units) l.place l.index l.pass;
-  units_over : g.C.Counter.count l.steps ≡ g.C.Counter.count l.fn.steps + l.place;
+  units_over : HasStepped (g.C.Counter.count l.fn.steps) (g.C.Counter.count l.steps) l.place;
 }
 
 abbrev pub decreases-loop-place : goal.decreases-loop-place

@@ -1,14 +1,7 @@
 use Rattle.std.proofs.Common.{ap, ◌∙◌, subst, sym, ◌++◌}
+use Rattle.rx_class.proofs.Common.{on_ok_weaker, Member, mirror_contents, operand, class_events, member_events, member_strings, bracket_events, class_of, with_member, mirror_held, IsSound}
 use Rattle.std.specs.Option.{option_map}
-use Rattle.std.proofs.lemmas.Result.{on_ok_weaker}
 use Rattle.rx_ast.specs.declared.class.CharacterClassContents.TheVariants.{NestedCharacterClass}
-use Rattle.rx_ast.specs.ClassTree.{Member, mirror_contents}
-use Rattle.rx_model.specs.Classes.ClassRuns.{operand}
-use Rattle.rx_model.specs.Classes.ClassTokens.{class_events, member_events}
-use Rattle.rx_model.specs.Trees.Early.{member_strings}
-use Rattle.rx_class.specs.SetReading.BuilderEvents.{bracket_events, class_of, with_member}
-use Rattle.rx_class.specs.SetReading.HeldMirror.{mirror_held}
-use Rattle.rx_class.specs.SetReading.WellBuilt.{IsSound}
 use Rattle.rx_class.proofs.SetReading.BuilderGrowth.{close_events, close_well}
 use Rattle.rx_class.proofs.SetReading.OpenBrackets.{closed_events, closed_mirror, closed_sound}
 use Rattle.rx_class.proofs.sets.builder.ClassBuilder.close.Goals as goal

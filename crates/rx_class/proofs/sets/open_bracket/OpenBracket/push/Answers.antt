@@ -1,6 +1,5 @@
 use Rattle.std.proofs.Common.{ap, ◌∙◌}
-use Rattle.rx_model.specs.Classes.ClassRuns.{with_strings}
-use Rattle.rx_class.specs.SetReading.HeldMirror.{mirror_held}
+use Rattle.rx_class.proofs.Common.{with_strings, mirror_held}
 use Rattle.rx_class.proofs.SetReading.OpenBrackets.{push_events, push_well}
 use Rattle.rx_class.proofs.sets.open_bracket.OpenBracket.push.Goals as goal
 
